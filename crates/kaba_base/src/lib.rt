@@ -1,0 +1,41 @@
+//! What every part of Kaba stands on: ids, places, names, and the world outside.
+#![tactic(auto)]
+
+mod names;
+mod words;
+
+pub use names::Name;
+pub use words::{KEYWORDS, Keyword, continues_identifier, is_identifier, keyword_of, starts_identifier};
+
+/// The number of a row of the table: a variable, a creation site or a tested type.
+#[derive(Clone, Copy, Debug, PartialEq, Eq, PartialOrd, Ord, Hash)]
+pub struct RowId(pub u32);
+
+/// The number of a column of the table: a member, or the mark of a tested type.
+#[derive(Clone, Copy, Debug, PartialEq, Eq, PartialOrd, Ord, Hash)]
+pub struct ColId(pub u32);
+
+/// The number of a creation site.
+#[derive(Clone, Copy, Debug, PartialEq, Eq, PartialOrd, Ord, Hash)]
+pub struct SiteId(pub u32);
+
+/// The number of a node of the hierarchy.
+#[derive(Clone, Copy, Debug, PartialEq, Eq, PartialOrd, Ord, Hash)]
+pub struct NodeId(pub u32);
+
+/// The number of a field or of a method of a program.
+#[derive(Clone, Copy, Debug, PartialEq, Eq, PartialOrd, Ord, Hash)]
+pub struct MemberId(pub u32);
+
+/// The number of a class or of an interface of a program; 0 is `Object`.
+#[derive(Clone, Copy, Debug, PartialEq, Eq, PartialOrd, Ord, Hash)]
+pub struct ClassId(pub u32);
+
+/// A place in a text.
+#[derive(Clone, Copy, Debug, PartialEq, Eq)]
+pub struct Place {
+    /// The number of bytes before it.
+    pub at: u32,
+    /// Its line: one more than the number of line feeds before it.
+    pub line: u32,
+}
