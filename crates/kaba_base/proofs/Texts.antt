@@ -1,6 +1,5 @@
 -- Texts as bytes and as characters, and the keywords in both.
-use Rattle.std.proofs.Common.{◌≡◌, ℕ, ◌-◌, ◌≤◌, ◌&&◌, ◌||◌, ◌==◌, Bool, true, false, not, List, [], ◌∷◌, Option, Some, None, length, get_or, take, drop, refl, ◌∙◌, sym, ap, arith, cond}
-use Rattle.std.specs.Bool.{Decides}
+use Rattle.std.proofs.Common.{◌≡◌, ℕ, ◌-◌, ◌≤◌, ◌&&◌, ◌||◌, ◌==◌, Bool, true, false, not, List, [], ◌∷◌, Option, Some, length, get_or, take, drop, refl, ◌∙◌, sym, ap, arith, cond}
 use Rattle.std.specs.List.{list_all, list_any}
 use Rattle.std.specs.Str.{chars, encode_utf8_all, IsUtf8, bytes_eq}
 use Rattle.std.proofs.Math.Utf8.{scalars}
@@ -40,10 +39,11 @@ same_test bs xs u h =
     let encoded : encode_utf8_all xs ≡ xs = (bytes_eq-Decides (encode_utf8_all xs) xs).0 told.0 in
     let by_chars = bytes_eq-Decides xs (chars bs) in
     let by_bytes = bytes_eq-Decides xs bs in
-    same_from_decides {P = xs ≡ bs} (bytes_eq xs (chars bs)) (bytes_eq xs bs)
-        ((λ t. sym encoded ∙ ap encode_utf8_all (by_chars.0 t) ∙ encodes-chars bs u),
-         (λ e. by_chars.1 (sym (chars-encodes xs told.1) ∙ ap chars (encoded ∙ e))))
-        by_bytes
+    same_from_decides {P = xs ≡ bs} (bytes_eq xs (chars bs)) (bytes_eq xs bs) (
+      (λ t. sym encoded ∙ ap encode_utf8_all (by_chars.0 t) ∙ encodes-chars bs u),
+      (λ e. by_chars.1 (sym (chars-encodes xs told.1) ∙ ap chars (encoded ∙ e))),
+    )
+    by_bytes
 
 none_after : (a : Bool) (k : Keyword) (found : Option Keyword) (any : Bool) → is_none found ≡ not any → is_none (cond a (Some k) found) ≡ not (a || any)
 none_after true k found any h = refl
@@ -78,7 +78,7 @@ pub start_is_part : (c : ℕ) → is_start c ≡ true → is_part c ≡ true
 unfolding unicode_ident
 start_is_part c h =
     by_start (is_xid_start c) (is_xid_continue c) (c == 95) (c == 36) (is_xid_start-is_xid_continue c)
-        (λ e. ap is_xid_continue ((Decides-eqb c 95).0 e)) h
+    (λ e. ap is_xid_continue ((Decides-eqb c 95).0 e)) h
 
 -- the two tests of a word
 pub word_tests : (cs : List ℕ) → (next_is is_start cs && list_all is_part cs) ≡ is_word cs

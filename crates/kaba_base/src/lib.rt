@@ -1,11 +1,21 @@
 //! What every part of Kaba stands on: ids, places, names, and the world outside.
 #![tactic(auto)]
 
+mod files;
+mod memory;
 mod names;
+mod outside;
+mod reading;
 mod words;
 
+pub use files::{FileShelf, StdSink};
+pub use memory::{MemShelf, MemSink};
 pub use names::Name;
-pub use words::{KEYWORDS, Keyword, continues_identifier, is_identifier, keyword_of, starts_identifier};
+pub use outside::{Failed, Fetch, Shelf, Sink};
+pub use reading::{ReadFault, read_file, write_all};
+pub use words::{
+    KEYWORDS, Keyword, continues_identifier, is_identifier, keyword_of, starts_identifier,
+};
 
 /// The number of a row of the table: a variable, a creation site or a tested type.
 #[derive(Clone, Copy, Debug, PartialEq, Eq, PartialOrd, Ord, Hash)]
@@ -39,3 +49,6 @@ pub struct Place {
     /// Its line: one more than the number of line feeds before it.
     pub line: u32,
 }
+
+#[cfg(test)]
+mod tests;
