@@ -1,0 +1,3 @@
+mod Numbers
+pub mod Patterns
+pub mod Replying

@@ -1,0 +1,113 @@
+-- The answers of the program, for the words and the files.
+use Rattle.std.specs.Prelude.{◌≡◌, ◌⊎◌, ℕ, ◌<◌, ◌≤◌, List, length, Option, Some, None}
+use Rattle.std.specs.Option.{IsSome}
+use Rattle.kaba_base.specs.Outside.{Files, Rose, taken_more, HoldsPrefix}
+use Rattle.kaba_top.specs.Commands.{Cmd, run, Fits, FitsNone}
+use Rattle.kaba_top.specs.Lines.{Says, usage, cannot_read, most_bytes, file_too_large}
+use Rattle.kaba_top.specs.RunAnswers.{RunAnswers}
+
+-- the words fit no pattern
+pub record IsUsage (words : List (List ℕ)) (status : ℕ) (out err : List ℕ) : Type 0 where
+  pub fits_none : FitsNone words
+  pub says : Says 64 usage status out err
+
+-- the file is not there
+pub record IsMissing (files : Files) (file : List ℕ) (status : ℕ) (out err : List ℕ) : Type 0 where
+  pub missing : files file ≡ None
+  pub says : Says 66 (cannot_read file) status out err
+
+-- the file has too many bytes
+pub record IsTooLarge (files : Files) (file : List ℕ) (status : ℕ) (out err : List ℕ) : Type 0 where
+  pub bytes : List ℕ
+  pub there : files file ≡ Some bytes
+  pub large : most_bytes < length bytes
+  pub says : Says 67 file_too_large status out err
+
+-- the file is there with bytes within the limit, for which there is this answer
+pub record IsRead (K : List ℕ → ℕ → List ℕ → List ℕ → Type 0) (files : Files) (file : List ℕ) (status : ℕ) (out err : List ℕ) : Type 0 where
+  pub bytes : List ℕ
+  pub there : files file ≡ Some bytes
+  pub small : length bytes ≤ most_bytes
+  pub answers : K bytes status out err
+
+-- the answers of a command that reads a file, where K are those for its bytes
+abbrev pub FileAnswers : (List ℕ → ℕ → List ℕ → List ℕ → Type 0) → Files → List ℕ → ℕ → List ℕ → List ℕ → Type 0
+FileAnswers K files file status out err = IsMissing files file status out err ⊎ (IsTooLarge files file status out err ⊎ IsRead K files file status out err)
+
+-- the answers of a command, where first are the files as its first file is read, and second as its second one is
+abbrev pub CommandAnswers : Cmd → Files → Files → ℕ → List ℕ → List ℕ → Type 0
+CommandAnswers (run file steps words) first second = FileAnswers (λ bytes. RunAnswers bytes steps) first file
+
+-- the names of the files that a command reads
+abbrev pub Names : Cmd → List ℕ → Type 0
+Names (run file steps words) name = name ≡ file
+
+-- the words say a command, and this is an answer of it
+pub record IsOfCommand (words : List (List ℕ)) (first second : Files) (status : ℕ) (out err : List ℕ) : Type 0 where
+  pub command : Cmd
+  pub fits : Fits words command
+  pub answers : CommandAnswers command first second status out err
+
+-- the answers of the program for the words and the files; where no file changes meanwhile, first and second are the same
+abbrev pub Answers : List (List ℕ) → Files → Files → ℕ → List ℕ → List ℕ → Type 0
+Answers words first second status out err = IsUsage words status out err ⊎ IsOfCommand words first second status out err
+
+-- the files agree with what the shelf tells; where it tells nothing, each name has a file
+abbrev pub Agrees : Option Files → Files → Type 0
+Agrees (Some told) files = files ≡ told
+Agrees None files = (name : List ℕ) → IsSome (files name)
+
+-- an answer of the command for some files that agree with what the shelf tells
+pub record IsAnswered (told : Option Files) (A : Files → Files → ℕ → List ℕ → List ℕ → Type 0) (status : ℕ) (out err : List ℕ) : Type 0 where
+  pub first : Files
+  pub second : Files
+  pub first_agrees : Agrees told first
+  pub second_agrees : Agrees told second
+  pub answers : A first second status out err
+
+-- a fault of the shelf: its count rose, and the line names this file
+pub record IsFault (before now : ℕ) (file : List ℕ) (status : ℕ) (out err : List ℕ) : Type 0 where
+  pub rose : Rose before now
+  pub says : Says 66 (cannot_read file) status out err
+
+-- a fault at a file that the command reads
+pub record IsUnread (before now : ℕ) (command : Cmd) (status : ℕ) (out err : List ℕ) : Type 0 where
+  pub file : List ℕ
+  pub names : Names command file
+  pub fault : IsFault before now file status out err
+
+-- a fault at a file that the words name
+pub record WasUnread (before now : ℕ) (words : List (List ℕ)) (status : ℕ) (out err : List ℕ) : Type 0 where
+  pub command : Cmd
+  pub fits : Fits words command
+  pub unread : IsUnread before now command status out err
+
+-- what a command may answer, before it writes: told are the shelf's files, and before and now its counts of faults
+abbrev pub CommandReplies : Option Files → ℕ → ℕ → Cmd → ℕ → List ℕ → List ℕ → Type 0
+CommandReplies told before now command status out err = IsAnswered told (CommandAnswers command) status out err ⊎ IsUnread before now command status out err
+
+-- what the program may answer, before it writes
+abbrev pub Replies : Option Files → ℕ → ℕ → List (List ℕ) → ℕ → List ℕ → List ℕ → Type 0
+Replies told before now words status out err = IsAnswered told (Answers words) status out err ⊎ WasUnread before now words status out err
+
+-- the sinks took all the bytes of a reply
+pub record Gave (told : Option Files) (before now : ℕ) (words : List (List ℕ)) (status : ℕ) (out_before out_now err_before err_now : Option (List ℕ)) : Type 0 where
+  pub out : List ℕ
+  pub err : List ℕ
+  pub replies : Replies told before now words status out err
+  pub out_taken : out_now ≡ taken_more out_before out
+  pub err_taken : err_now ≡ taken_more err_before err
+
+-- the sinks took fronts of these bytes, and of err nothing before the whole of out
+pub record Cut (out_before out_now : Option (List ℕ)) (out : List ℕ) (err_before err_now : Option (List ℕ)) (err : List ℕ) : Type 0 where
+  pub out_front : HoldsPrefix out_before out_now out
+  pub err_front : HoldsPrefix err_before err_now err
+  pub in_order : (err_now ≡ err_before) ⊎ (out_now ≡ taken_more out_before out)
+
+-- the sinks took fronts of the bytes of a reply
+pub record WasCut (told : Option Files) (before now : ℕ) (words : List (List ℕ)) (out_before out_now err_before err_now : Option (List ℕ)) : Type 0 where
+  pub status : ℕ
+  pub out : List ℕ
+  pub err : List ℕ
+  pub replies : Replies told before now words status out err
+  pub cut : Cut out_before out_now out err_before err_now err

@@ -1,0 +1,24 @@
+-- What is known once a file was asked for.
+use Rattle.std.specs.Prelude.{◌≡◌, ◌⊎◌, ℕ, ◌≤◌, List, length, Option, Some}
+use Rattle.kaba_base.specs.Outside.{Files}
+use Rattle.kaba_top.specs.declared.answer.Fetched.{Fetched}
+use Rattle.kaba_top.specs.declared.answer.Fetched.TheVariants.{Bytes, Refused}
+use Rattle.kaba_top.specs.Lines.{most_bytes}
+use Rattle.kaba_top.specs.Answers.{Agrees, IsMissing, IsTooLarge, IsFault}
+
+-- some files that agree with what is told have these bytes under the name
+pub record IsThere (told : Option Files) (name bytes : List ℕ) : Type 0 where
+  pub files : Files
+  pub agrees : Agrees told files
+  pub there : files name ≡ Some bytes
+  pub small : length bytes ≤ most_bytes
+
+-- for some files that agree with what is told, the file is missing or too large
+pub record IsRefused (told : Option Files) (name : List ℕ) (status : ℕ) (out err : List ℕ) : Type 0 where
+  pub files : Files
+  pub agrees : Agrees told files
+  pub refused : IsMissing files name status out err ⊎ IsTooLarge files name status out err
+
+abbrev pub IsFetched : Option Files → ℕ → ℕ → List ℕ → Fetched → Type 0
+IsFetched told before now name (Bytes bytes) = IsThere told name bytes.items
+IsFetched told before now name (Refused reply) = IsRefused told name reply.status reply.out.items reply.err.items ⊎ IsFault before now name reply.status reply.out.items reply.err.items

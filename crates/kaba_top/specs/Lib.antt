@@ -1,0 +1,5 @@
+pub mod Commands
+pub mod Lines
+pub mod RunAnswers
+pub mod Answers
+pub mod Fetching

@@ -1,0 +1,32 @@
+-- What an answer looks like: the status, the bytes for out and the bytes for err.
+use Rattle.std.specs.Prelude.{◌≡◌, ℕ, List, [], ◌∷◌, ◌++◌, codes}
+use Rattle.std.specs.Fmt.{decimal}
+
+-- a line for err
+abbrev pub line : List ℕ → List ℕ
+line text = codes "kaba: " ++ (text ++ 10 ∷ [])
+
+-- an answer with nothing for out and one line for err
+pub record Says (wanted : ℕ) (text : List ℕ) (status : ℕ) (out err : List ℕ) : Type 0 where
+  pub status_is : status ≡ wanted
+  pub out_is : out ≡ []
+  pub err_is : err ≡ line text
+
+-- an answer with these bytes for out and these for err
+pub record Gives (wanted : ℕ) (bytes lines : List ℕ) (status : ℕ) (out err : List ℕ) : Type 0 where
+  pub status_is : status ≡ wanted
+  pub out_is : out ≡ bytes
+  pub err_is : err ≡ lines
+
+abbrev pub usage : List ℕ
+usage = codes "usage"
+
+abbrev pub cannot_read : List ℕ → List ℕ
+cannot_read file = codes "cannot read " ++ file
+
+-- the most bytes that a file may have
+abbrev pub most_bytes : ℕ
+most_bytes = 1048576
+
+abbrev pub file_too_large : List ℕ
+file_too_large = codes "too large: file 1048576"

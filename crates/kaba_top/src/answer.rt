@@ -1,0 +1,61 @@
+//! From the words to the reply.
+#![tactic(auto)]
+
+ghost use Rattle.std.specs.Prelude.{◌≡◌, ◌≤◌, IfOk, string_bytes};
+ghost use Rattle.kaba_base.specs.Outside.{Files};
+ghost use Rattle.kaba_top.specs.Commands.{run, texts};
+ghost use Rattle.kaba_top.specs.Answers.{CommandReplies, Replies};
+ghost use Rattle.kaba_top.specs.Fetching.{IsFetched};
+
+use crate::reply::Reply;
+use crate::run::run_text;
+use crate::words::{Command, WordsFault, read_words};
+use kaba_base::{ReadFault, Shelf, read_file};
+use std::alloc::{AllocError, Global};
+
+/// A file that was asked for: its bytes, or the reply that tells why there are none.
+#[derive(Drop)]
+enum Fetched {
+    Bytes(Vec<u8>),
+    Refused(Reply),
+}
+
+/// The bytes of the file, or the reply that it cannot be read or is too large.
+fn fetch_file<F: Shelf>(alloc: Global, shelf: &mut F, name: &String) -> Result<Fetched, AllocError>
+    ensures fetched { IfOk result (λ fetched. IsFetched (F.files shelf.old) (F.faults shelf.old) (F.faults shelf.new) (string_bytes name.now) fetched) }
+    ensures same { F.files shelf.new ≡ F.files shelf.old }
+    ensures later { F.faults shelf.old ≤ F.faults shelf.new }
+{
+    match read_file(alloc, shelf, name, 1_048_576) {
+        Ok(bytes) => Ok(Fetched::Bytes(bytes)),
+        Err(ReadFault::CannotRead) => {
+            let text = format!(in alloc; "cannot read {name}")?;
+            Ok(Fetched::Refused(Reply::line(alloc, 66, text.as_bytes())?))
+        }
+        Err(ReadFault::TooLong(_)) => {
+            Ok(Fetched::Refused(Reply::line(alloc, 67, b"too large: file 1048576")?))
+        }
+        Err(ReadFault::Memory) => Err(AllocError),
+    }
+}
+
+/// The reply of `run`.
+fn run_command<F: Shelf>(alloc: Global, shelf: &mut F, file: &String, steps: u32, words: &Vec<String>) -> Result<Reply, AllocError>
+    ensures replies { IfOk result (λ reply. CommandReplies (F.files shelf.old) (F.faults shelf.old) (F.faults shelf.new) (run (string_bytes file.now) steps (texts words.now.items)) reply.status reply.out.items reply.err.items) }
+{
+    match fetch_file(alloc, shelf, file)? {
+        Fetched::Bytes(bytes) => run_text(alloc, &bytes, steps),
+        Fetched::Refused(reply) => Ok(reply),
+    }
+}
+
+/// The reply to the words, or `AllocError` where memory is short.
+pub fn answer<F: Shelf>(alloc: Global, words: &Vec<String>, shelf: &mut F) -> Result<Reply, AllocError>
+    ensures replies { IfOk result (λ reply. Replies (F.files shelf.old) (F.faults shelf.old) (F.faults shelf.new) (texts words.now.items) reply.status reply.out.items reply.err.items) }
+{
+    match read_words(alloc, words) {
+        Ok(Command::Run(file, steps, more)) => run_command(alloc, shelf, &file, steps, &more),
+        Err(WordsFault::Usage) => Reply::line(alloc, 64, b"usage"),
+        Err(WordsFault::Memory) => Err(AllocError),
+    }
+}
