@@ -35,6 +35,6 @@ pub not_number : {E : Type 0} (word written : List ℕ) (limit m n : ℕ) (r : R
 not_number word written limit m n r small parsed was wrote why number =
     let same : m ≡ n = ap (number_in m) (sym was ∙ number_parses word limit n r small number parsed) in
     elim why as (λ _. ⊥) [
-        inl above ↦ omega (arith, above, number.small, same)
-        | inr differs ↦ differs (wrote ∙ ap decimal same ∙ sym number.digits)
+      | inl above ↦ omega (arith, above, number.small, same)
+      | inr differs ↦ differs (wrote ∙ ap decimal same ∙ sym number.digits)
     ]

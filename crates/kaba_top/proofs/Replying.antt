@@ -1,14 +1,12 @@
 -- From what the shelf gave to the answers.
-use Rattle.std.proofs.Common.{◌≡◌, ◌⊎◌, inl, inr, ℕ, ◌+◌, ◌<◌, ◌≤◌, List, [], ◌∷◌, length, Option, Some, None, Result, Ok, Err, IfOk, zero, suc, refl, ◌∙◌, sym, ap, arith}
+use Rattle.std.proofs.Common.{◌≡◌, ◌⊎◌, inl, inr, ℕ, ◌<◌, ◌≤◌, List, [], ◌∷◌, length, Option, Some, None, Result, Ok, Err, IfOk, zero, suc, refl, ◌∙◌, sym, ap, arith}
 use Rattle.std.specs.declared.alloc.AllocError.{AllocError}
 use Rattle.kaba_base.specs.Outside.{Files, IsAbsent, IsFile, Rose}
 use Rattle.kaba_top.specs.declared.reply.Reply.{Reply}
-use Rattle.kaba_top.specs.declared.answer.Fetched.{Fetched}
-use Rattle.kaba_top.specs.Commands.{Cmd, run, Fits, FitsNone}
+use Rattle.kaba_top.specs.Commands.{Cmd, Fits, FitsNone}
 use Rattle.kaba_top.specs.Lines.{Says, usage, cannot_read, most_bytes, file_too_large}
-use Rattle.kaba_top.specs.RunAnswers.{RunAnswers}
-use Rattle.kaba_top.specs.Answers.{Agrees, IsMissing, IsTooLarge, IsRead, FileAnswers, CommandAnswers, IsAnswered, IsFault, IsUnread, Answers, CommandReplies, Replies}
-use Rattle.kaba_top.specs.Fetching.{IsThere, IsRefused, IsFetched}
+use Rattle.kaba_top.specs.Answers.{Agrees, IsMissing, IsTooLarge, FileAnswers, IsAnswered, IsFault, CommandReplies, Replies}
+use Rattle.kaba_top.specs.Fetching.{IsThere, IsRefused}
 
 found : (f : Files) (name bytes : List ℕ) (o : Option (List ℕ)) → f name ≡ o → ((b : List ℕ) → f name ≡ Some b → bytes ≡ b) → (f name ≡ None → ⊥) → length bytes ≤ most_bytes → IsThere (Some f) name bytes
 found f name bytes None e same present small = absurd (present e)

@@ -1,6 +1,5 @@
 -- What an answer looks like: the status, the bytes for out and the bytes for err.
 use Rattle.std.specs.Prelude.{◌≡◌, ℕ, List, [], ◌∷◌, ◌++◌, codes}
-use Rattle.std.specs.Fmt.{decimal}
 
 -- a line for err
 abbrev pub line : List ℕ → List ℕ

@@ -1,5 +1,5 @@
 -- The answers of `run`, for the bytes of its file.
-use Rattle.std.specs.Prelude.{◌≡◌, ℕ, List, codes}
+use Rattle.std.specs.Prelude.{ℕ, List, codes}
 use Rattle.kaba_top.specs.Lines.{Says}
 
 abbrev pub RunAnswers : List ℕ → ℕ → ℕ → List ℕ → List ℕ → Type 0

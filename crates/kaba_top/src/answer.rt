@@ -40,7 +40,13 @@ fn fetch_file<F: Shelf>(alloc: Global, shelf: &mut F, name: &String) -> Result<F
 }
 
 /// The reply of `run`.
-fn run_command<F: Shelf>(alloc: Global, shelf: &mut F, file: &String, steps: u32, words: &Vec<String>) -> Result<Reply, AllocError>
+fn run_command<F: Shelf>(
+    alloc: Global,
+    shelf: &mut F,
+    file: &String,
+    steps: u32,
+    words: &Vec<String>,
+) -> Result<Reply, AllocError>
     ensures replies { IfOk result (λ reply. CommandReplies (F.files shelf.old) (F.faults shelf.old) (F.faults shelf.new) (run (string_bytes file.now) steps (texts words.now.items)) reply.status reply.out.items reply.err.items) }
 {
     match fetch_file(alloc, shelf, file)? {
@@ -50,7 +56,11 @@ fn run_command<F: Shelf>(alloc: Global, shelf: &mut F, file: &String, steps: u32
 }
 
 /// The reply to the words, or `AllocError` where memory is short.
-pub fn answer<F: Shelf>(alloc: Global, words: &Vec<String>, shelf: &mut F) -> Result<Reply, AllocError>
+pub fn answer<F: Shelf>(
+    alloc: Global,
+    words: &Vec<String>,
+    shelf: &mut F,
+) -> Result<Reply, AllocError>
     ensures replies { IfOk result (λ reply. Replies (F.files shelf.old) (F.faults shelf.old) (F.faults shelf.new) (texts words.now.items) reply.status reply.out.items reply.err.items) }
 {
     match read_words(alloc, words) {

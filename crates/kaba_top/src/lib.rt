@@ -11,12 +11,11 @@ mod reply;
 mod run;
 mod words;
 
-pub use words::{Command, WordsFault, read_words};
-
 use crate::answer::answer;
 use crate::reply::deliver;
 use kaba_base::{Shelf, Sink};
 use std::alloc::Global;
+pub use words::{Command, WordsFault, read_words};
 
 /// Does what the words after the program's name ask for, and answers the exit status.
 ///
@@ -24,7 +23,13 @@ use std::alloc::Global;
 /// written first. The status is 70 where memory is short, and then nothing is written; it is 74
 /// where a write failed, and then each sink holds a front of its bytes. Any other status comes
 /// with its whole bytes.
-pub fn kaba<F: Shelf, O: Sink, E: Sink>(alloc: Global, words: &Vec<String>, shelf: &mut F, out: &mut O, err: &mut E) -> u8
+pub fn kaba<F: Shelf, O: Sink, E: Sink>(
+    alloc: Global,
+    words: &Vec<String>,
+    shelf: &mut F,
+    out: &mut O,
+    err: &mut E,
+) -> u8
     ensures gave { result ≢ 70 → result ≢ 74 → Gave (F.files shelf.old) (F.faults shelf.old) (F.faults shelf.new) (texts words.now.items) result (O.taken out.old) (O.taken out.new) (E.taken err.old) (E.taken err.new) }
     ensures cut { result ≡ 74 → WasCut (F.files shelf.old) (F.faults shelf.old) (F.faults shelf.new) (texts words.now.items) (O.taken out.old) (O.taken out.new) (E.taken err.old) (E.taken err.new) }
     ensures memory_out { result ≡ 70 → O.taken out.new ≡ O.taken out.old }
