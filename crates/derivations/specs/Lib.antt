@@ -1,0 +1,3 @@
+pub mod Derivation
+pub mod Worklist
+pub mod Laws

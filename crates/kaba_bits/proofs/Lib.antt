@@ -1,0 +1,6 @@
+pub mod SetLemmas
+pub mod RowLemmas
+pub mod StepLemmas
+pub mod ListLemmas
+pub mod FirstLemmas
+pub mod RisingLemmas

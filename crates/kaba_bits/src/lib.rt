@@ -1,0 +1,190 @@
+//! Rows of bits, seen as sets of numbers below a width, and families of such rows.
+#![tactic(auto)]
+
+ghost use Rattle.std.specs.Prelude.{◌≡◌, ℕ, ◌+◌, ◌<◌, ◌^◌, ◌↔◌, Bool, true, false, List, ◌&&◌, ◌||◌, length, IsTrue, IfOk, slice_set, not};
+ghost use Rattle.std.specs.Bool.{OnTrue, OnFalse};
+ghost use Rattle.kaba_bits.specs.Sets.{bit, size, IsSubset, IsEmpty, Meet, rising, ListsBelow};
+
+use std::alloc::{AllocError, Global};
+use std::marker::Model;
+
+mod rows;
+mod slices;
+#[cfg(test)]
+mod tests;
+
+pub use rows::{copy_rows, empty_rows, join, join_with, row_at, set_at};
+use slices::{clear_bits, join_bits, meet_bits};
+
+/// A set of numbers below a width, which is at most the greatest `u32`.
+#[derive(Drop)]
+pub struct BitRow {
+    bits: Vec<bool>,
+}
+
+impl Model for BitRow {
+    ghost use Rattle.std.specs.Prelude.{ℕ, ◌<◌, ◌^◌, Bool, List, length};
+
+    ghost Value = { List Bool };
+
+    ghost view = { λ r. r.bits.items };
+
+    ghost invariant = { λ r. length r.bits.items < 2 ^ 32 };
+}
+
+impl BitRow {
+    /// The empty set of a width. An error comes only for want of memory.
+    pub fn new(alloc: Global, width: u32) -> Result<BitRow, AllocError>
+        ensures width { IfOk result (λ r. length r ≡ width) }
+        ensures empty { IfOk result (λ r. IsEmpty r) }
+    {
+        let bits = vec![in alloc; false; width as usize]?;
+        Ok(BitRow { bits })
+    }
+
+    /// The set of all numbers below a width. An error comes only for want of memory.
+    pub fn full(alloc: Global, width: u32) -> Result<BitRow, AllocError>
+        ensures width { IfOk result (λ r. length r ≡ width) }
+        ensures full { IfOk result (λ r. (i : ℕ) → i < width → bit r i ≡ true) }
+    {
+        let bits = vec![in alloc; true; width as usize]?;
+        Ok(BitRow { bits })
+    }
+
+    /// The same set once more. An error comes only for want of memory.
+    pub fn copy(&self, alloc: Global) -> Result<BitRow, AllocError>
+        ensures { IfOk result (λ r. r ≡ self.now) }
+    {
+        let mut bits = Vec::new(alloc);
+        bits.extend_from_slice(&self.bits)?;
+        Ok(BitRow { bits })
+    }
+
+    /// The width: each number of the set is below it.
+    pub fn width(&self) -> u32
+        ensures { result ≡ length self.now }
+    {
+        self.bits.len() as u32
+    }
+
+    /// Whether a number below the width is in the set.
+    pub fn has(&self, i: u32) -> bool
+        requires { i < length self.now }
+        ensures { result ≡ bit self.now i }
+    {
+        self.bits[i as usize]
+    }
+
+    /// Adds a number below the width, and answers whether the set grew.
+    pub fn set(&mut self, i: u32) -> bool
+        requires { i < length self.old }
+        ensures after { self.new ≡ slice_set self.old i true }
+        ensures news { result ≡ not (bit self.old i) }
+        ensures grew { OnTrue result (size self.new ≡ size self.old + 1) }
+        ensures same { OnFalse result (self.new ≡ self.old) }
+    {
+        if self.bits[i as usize] {
+            return false;
+        }
+        self.bits[i as usize] = true;
+        true
+    }
+
+    /// Takes a number below the width out, if it is in.
+    pub fn remove(&mut self, i: u32)
+        requires { i < length self.old }
+        ensures { self.new ≡ slice_set self.old i false }
+    {
+        self.bits[i as usize] = false;
+    }
+
+    /// Takes out what is not in another set of the same width.
+    pub fn and_into(&mut self, other: &BitRow)
+        requires { length self.old ≡ length other.now }
+        ensures width { length self.new ≡ length self.old }
+        ensures meet { (i : ℕ) → bit self.new i ≡ (bit self.old i && bit other.now i) }
+    {
+        meet_bits(&mut self.bits, &other.bits);
+    }
+
+    /// Adds the numbers of another set of the same width, and answers whether the set grew.
+    pub fn or_into(&mut self, other: &BitRow) -> bool
+        requires { length self.old ≡ length other.now }
+        ensures width { length self.new ≡ length self.old }
+        ensures join { (i : ℕ) → bit self.new i ≡ (bit self.old i || bit other.now i) }
+        ensures grew { OnTrue result (size self.old < size self.new) }
+        ensures same { OnFalse result (self.new ≡ self.old) }
+    {
+        join_bits(&mut self.bits, &other.bits)
+    }
+
+    /// Whether each number of the set is in another of the same width.
+    pub fn is_subset(&self, other: &BitRow) -> bool
+        requires { length self.now ≡ length other.now }
+        ensures { IsTrue result ↔ IsSubset self.now other.now }
+    {
+        for i in 0..self.bits.len() {
+            if self.bits[i] && !other.bits[i] {
+                return false;
+            }
+        }
+        true
+    }
+
+    /// How many numbers are in the set.
+    pub fn count(&self) -> u32
+        ensures { result ≡ size self.now }
+    {
+        let mut n = 0;
+        for b in &self.bits {
+            if *b {
+                n += 1;
+            }
+        }
+        n
+    }
+
+    /// Whether no number is in the set.
+    pub fn is_empty(&self) -> bool
+        ensures none { IsTrue result ↔ (size self.now ≡ 0) }
+        ensures empty { IsTrue result ↔ IsEmpty self.now }
+    {
+        self.count() == 0
+    }
+
+    /// Whether some number is in both sets, which have the same width.
+    pub fn meets(&self, other: &BitRow) -> bool
+        requires { length self.now ≡ length other.now }
+        ensures { IsTrue result ↔ Meet self.now other.now }
+    {
+        for i in 0..self.bits.len() {
+            if self.bits[i] && other.bits[i] {
+                return true;
+            }
+        }
+        false
+    }
+
+    /// Takes all numbers out.
+    pub fn clear(&mut self)
+        ensures width { length self.new ≡ length self.old }
+        ensures empty { IsEmpty self.new }
+        ensures none { size self.new ≡ 0 }
+    {
+        clear_bits(&mut self.bits);
+    }
+
+    /// The numbers of the set in rising order. An error comes only for want of memory.
+    pub fn rising(&self, alloc: Global) -> Result<Vec<u32>, AllocError>
+        ensures list { IfOk result (λ v. v.items ≡ rising self.now) }
+        ensures exact { IfOk result (λ v. ListsBelow (λ i. bit self.now i ≡ true) (length self.now) v.items) }
+    {
+        let mut numbers = Vec::new(alloc);
+        for i in 0..self.width() {
+            if self.has(i) {
+                numbers.push(i)?;
+            }
+        }
+        Ok(numbers)
+    }
+}

@@ -1,0 +1,5 @@
+pub mod ListLemmas
+pub mod MergeSteps
+pub mod MergeLemmas
+pub mod StepLemmas
+pub mod UniqueLemmas

@@ -1,0 +1,88 @@
+use Rattle.std.proofs.Common.{◌≡◌, ◌⊎◌, inl, inr, ⊎_elim, ℕ, ◌==◌, Bool, true, false, ◌&&◌, not, List, length, sym, ◌∙◌, subst, arith, set}
+use Rattle.std.proofs.lemmas.Bool.{or_cases, or_left, or_right, and_parts, and_from}
+use Rattle.std.proofs.lemmas.Grind.{common_steps}
+use Rattle.kaba_bits.specs.Sets.{bit, HasWidth}
+use Rattle.kaba_order.specs.Orders.{Ordered, is_le, is_live, IsPartialOrder, IsUnder, IsLeastWith, IsDropped}
+
+-- a set that lost a number
+pub dropped_live : (old new : List Bool) (n : ℕ) → new ≡ set old n false → (a : ℕ) → bit new a ≡ (bit old a && not (a == n))
+dropped_live old new n e a = grind (arith, common_steps, e)
+
+-- what is left where a node was taken out
+module _ (old new : Ordered) (n : ℕ) (o : IsPartialOrder old) (count : length new.le ≡ length new.live) (widths : HasWidth (length new.live) new.le) (d : IsDropped old n new) where
+  left : (a b : ℕ) → is_le new a b ≡ true → (is_le old a b ≡ true) × (not (a == n) ≡ true) × (not (b == n) ≡ true)
+  left a b h =
+      let x = and_parts (is_le old a b && not (a == n)) (not (b == n)) (sym (d.le a b) ∙ h) in
+      let y = and_parts (is_le old a b) (not (a == n)) x.0 in
+      (y.0, y.1, x.1)
+
+  kept : (a b : ℕ) → is_le old a b ≡ true → not (a == n) ≡ true → not (b == n) ≡ true → is_le new a b ≡ true
+  kept a b h x y = d.le a b ∙ and_from (is_le old a b && not (a == n)) (not (b == n)) (and_from (is_le old a b) (not (a == n)) h x) y
+
+  lives_on : (a : ℕ) → is_live old a ≡ true → not (a == n) ≡ true → is_live new a ≡ true
+  lives_on a h x = d.live a ∙ and_from (is_live old a) (not (a == n)) h x
+
+  pub dropped_order : IsPartialOrder new
+  dropped_order = record {
+    count = count;
+    widths = widths;
+    lower_lives = λ a b h. let x = left a b h in lives_on a (o.lower_lives a b x.0) x.1;
+    upper_lives = λ a b h. let x = left a b h in lives_on b (o.upper_lives a b x.0) x.2;
+    reflexive = λ a h. let x = and_parts (is_live old a) (not (a == n)) (sym (d.live a) ∙ h) in kept a a (o.reflexive a x.0) x.1 x.1;
+    antisymmetric = λ a b h k. o.antisymmetric a b (left a b h).0 (left b a k).0;
+    transitive = λ a b c h k. let x = left a b h in let y = left b c k in kept a c (o.transitive a b c x.0 y.0) x.1 y.2;
+  }
+
+-- what a new pair leads to
+module _ (old new : Ordered) (n p : ℕ) (o : IsPartialOrder old) (count : length new.le ≡ length new.live) (widths : HasWidth (length new.live) new.le) (same_live : new.live ≡ old.live) (u : IsUnder old n p new) (n_lives : is_live old n ≡ true) (p_lives : is_live old p ≡ true) (apart : is_le old p n ≡ true → p ≡ n) where
+  -- each new pair is an old one, or leads through the new one
+  came : (a b : ℕ) → is_le new a b ≡ true → (is_le old a b ≡ true) ⊎ ((is_le old a n ≡ true) × (is_le old p b ≡ true))
+  came a b h = ⊎_elim inl (λ k. inr (and_parts (is_le old a n) (is_le old p b) k)) (or_cases (is_le old a b) (is_le old a n && is_le old p b) (sym (u a b) ∙ h))
+
+  from_old : (a b : ℕ) → is_le old a b ≡ true → is_le new a b ≡ true
+  from_old a b h = u a b ∙ or_left (is_le old a b) (is_le old a n && is_le old p b) h
+
+  through : (a b : ℕ) → is_le old a n ≡ true → is_le old p b ≡ true → is_le new a b ≡ true
+  through a b h k = u a b ∙ or_right (is_le old a b) (is_le old a n && is_le old p b) (and_from (is_le old a n) (is_le old p b) h k)
+
+  lives : (a : ℕ) → is_live old a ≡ true → is_live new a ≡ true
+  lives a h = subst (λ l. bit l a ≡ true) (sym same_live) h
+
+  -- p ≤ n only where they are one
+  meets_both : (a b : ℕ) → is_le old a n ≡ true → is_le old p b ≡ true → is_le old b a ≡ true → a ≡ b
+  meets_both a b an pb ba =
+      let pn = o.transitive p b n pb (o.transitive b a n ba an) in
+      let e = apart pn in
+      o.antisymmetric a b (o.transitive a n b an (subst (λ q. is_le old q b ≡ true) e pb)) ba
+
+  new_order : IsPartialOrder new
+  new_order = record {
+    count = count;
+    widths = widths;
+    lower_lives = λ a b h. lives a (⊎_elim (λ k. o.lower_lives a b k) (λ k. o.lower_lives a n k.0) (came a b h));
+    upper_lives = λ a b h. lives b (⊎_elim (λ k. o.upper_lives a b k) (λ k. o.upper_lives p b k.1) (came a b h));
+    reflexive = λ a h. from_old a a (o.reflexive a (subst (λ l. bit l a ≡ true) same_live h));
+    antisymmetric = λ a b h k.
+        ⊎_elim
+        (λ x. ⊎_elim (λ y. o.antisymmetric a b x y) (λ y. sym (meets_both b a y.0 y.1 x)) (came b a k))
+        (λ x. ⊎_elim (λ y. meets_both a b x.0 x.1 y) (λ y.
+        let pn = o.transitive p b n x.1 y.0 in
+        let e = apart pn in
+        o.antisymmetric a b (o.transitive a n b x.0 (subst (λ q. is_le old q b ≡ true) e x.1)) (o.transitive b n a y.0 (subst (λ q. is_le old q a ≡ true) e y.1))) (came b a k))
+        (came a b h);
+    transitive = λ a b c h k.
+        ⊎_elim
+        (λ x. ⊎_elim (λ y. from_old a c (o.transitive a b c x y)) (λ y. through a c (o.transitive a b n x y.0) y.1) (came b c k))
+        (λ x. ⊎_elim (λ y. through a c x.0 (o.transitive p b c x.1 y)) (λ y. through a c x.0 y.1) (came b c k))
+        (came a b h);
+  }
+
+  pub least_under : IsLeastWith old n p new
+  least_under = record {
+    order = new_order;
+    live = same_live;
+    holds = from_old;
+    pair = through n p (o.reflexive n n_lives) (o.reflexive p p_lives);
+    least = λ other q within pair a b h.
+        ⊎_elim (λ x. within a b x) (λ x. q.transitive a n b (within a n x.0) (q.transitive n p b pair (within p b x.1))) (came a b h);
+  }

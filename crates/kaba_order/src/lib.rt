@@ -1,0 +1,229 @@
+//! Finite partial orders on numbered nodes, closed at each step.
+#![tactic(auto)]
+
+ghost use Rattle.std.specs.Prelude.{◌≡◌, ℕ, ◌<◌, ◌↔◌, ◌&&◌, ◌==◌, true, length, IsTrue, IfOk, OnOk, OnErr, MatchOption, All};
+ghost use Rattle.kaba_bits.specs.Sets.{bit, row, HasWidth, ListsBelow};
+ghost use Rattle.kaba_order.specs.Orders.{is_le, is_live, IsStrictlyBelow, IsCover, numbers, IsLeastWith, IsUnder, IsDropped, IsBetween, IsFirstBetween, IsLeastOf, IsLeastMerged, IsMerged};
+
+use kaba_base::NodeId;
+use kaba_bits::{BitRow, row_at};
+use std::alloc::{AllocError, Global};
+use std::marker::Model;
+
+mod merge;
+mod rows;
+#[cfg(test)]
+mod tests;
+
+use merge::{has_some, is_among, keep_one, least_of, merge_rows, some_has};
+
+/// Why an order was not changed.
+#[derive(Clone, Copy, Debug, PartialEq, Eq)]
+pub enum OrderFault {
+    /// No partial order holds the old one and what was asked, since this node lies strictly between two
+    /// of the union, or is the one that would stand below a node that is strictly below it.
+    Cycle(NodeId),
+    /// No memory is left.
+    Memory,
+}
+
+/// A partial order on its live nodes. A node is a number below the count that the order was made with.
+#[derive(Drop)]
+pub struct Order {
+    live: BitRow,
+    le: Vec<BitRow>,
+}
+
+impl Model for Order {
+    ghost use Rattle.kaba_order.specs.Orders.{Ordered, IsPartialOrder};
+
+    ghost Value = { Ordered };
+
+    ghost view = { λ o. record { live = o.live; le = o.le.items } };
+
+    ghost invariant = { λ o. IsPartialOrder (record { live = o.live; le = o.le.items }) };
+}
+
+impl Order {
+    /// The order of `count` live nodes in which each is related to itself alone. An error comes only
+    /// for want of memory.
+    pub fn discrete(alloc: Global, count: u32) -> Result<Order, AllocError>
+        ensures count { IfOk result (λ o. length o.live ≡ count) }
+        ensures live { IfOk result (λ o. (n : ℕ) → n < count → is_live o n ≡ true) }
+        ensures le { IfOk result (λ o. (a b : ℕ) → a < count → is_le o a b ≡ (a == b)) }
+    {
+        let le = rows::diagonal(alloc, count)?;
+        let live = BitRow::full(alloc, count)?;
+        Ok(Order { live, le })
+    }
+
+    /// The same order once more. An error comes only for want of memory.
+    pub fn copy(&self, alloc: Global) -> Result<Order, AllocError>
+        ensures { IfOk result (λ o. o ≡ self.now) }
+    {
+        let live = self.live.copy(alloc)?;
+        let le = kaba_bits::copy_rows(alloc, &self.le)?;
+        Ok(Order { live, le })
+    }
+
+    /// The number of nodes that the order was made with, live or not.
+    pub fn count(&self) -> u32
+        ensures { result ≡ length self.now.live }
+    {
+        self.live.width()
+    }
+
+    /// Whether a number is that of a live node.
+    pub fn is_live(&self, n: NodeId) -> bool
+        ensures { result ≡ is_live self.now n.0 }
+    {
+        n.0 < self.live.width() && self.live.has(n.0)
+    }
+
+    /// Whether `a` is at or below `b`; both are live.
+    pub fn le(&self, a: NodeId, b: NodeId) -> bool
+        requires a { is_live self.now a.0 ≡ true }
+        requires b { is_live self.now b.0 ≡ true }
+        ensures { result ≡ is_le self.now a.0 b.0 }
+    {
+        let row = &self.le[a.0 as usize];
+        row.has(b.0)
+    }
+
+    /// The upper covers of a live node, in rising order: the nodes strictly above it with none strictly
+    /// between. An error comes only for want of memory.
+    pub fn covers(&self, alloc: Global, n: NodeId) -> Result<Vec<NodeId>, AllocError>
+        requires { is_live self.now n.0 ≡ true }
+        ensures { IfOk result (λ v. ListsBelow (IsCover self.now n.0) (length self.now.live) (numbers v.items)) }
+    {
+        let mut above = Vec::new(alloc);
+        for b in 0..self.count() {
+            if self.is_cover(n, NodeId(b)) {
+                above.push(NodeId(b))?;
+            }
+        }
+        Ok(above)
+    }
+
+    /// Makes one node, the least of a list, of all its nodes, and closes the order; the list is not empty
+    /// and its nodes are live. `Cycle(x)` comes exactly where a node outside lies strictly between two of
+    /// the list, and `x` is the least such; the order is then as it was.
+    pub fn merge_set(&mut self, alloc: Global, set: &Vec<NodeId>) -> Result<NodeId, OrderFault>
+        requires some { 0 < length set.now.items }
+        requires live { All (λ s. is_live self.old s.0 ≡ true) set.now.items }
+        ensures node { IfOk result (λ m. IsLeastOf set.now.items m.0) }
+        ensures least { IfOk result (λ m. IsLeastMerged self.old set.now.items m.0 self.new) }
+        ensures pairs { IfOk result (λ m. IsMerged self.old set.now.items m.0 self.new) }
+        ensures cycle { (x : NodeId) → ((result ≡ Err (OrderFault.Cycle x)) ↔ IsFirstBetween self.old set.now.items x.0) }
+        ensures unchanged { OnErr result (self.new ≡ self.old) }
+    {
+        self.merge(set)
+    }
+
+    /// Puts `n` below `p`, and closes the order under that; both are live. `Cycle(n)` comes exactly
+    /// where `p` is strictly below `n`, and leaves the order as it was.
+    pub fn put_under(&mut self, alloc: Global, n: NodeId, p: NodeId) -> Result<(), OrderFault>
+        requires n { is_live self.old n.0 ≡ true }
+        requires p { is_live self.old p.0 ≡ true }
+        ensures least { OnOk result (IsLeastWith self.old n.0 p.0 self.new) }
+        ensures pairs { OnOk result (IsUnder self.old n.0 p.0 self.new) }
+        ensures cycle { (x : NodeId) → ((result ≡ Err (OrderFault.Cycle x)) ↔ ((x ≡ n) × IsStrictlyBelow self.old p.0 n.0)) }
+        ensures unchanged { OnErr result (self.new ≡ self.old) }
+    {
+        if self.is_strictly_below(p, n) {
+            return Err(OrderFault::Cycle(n));
+        }
+        rows::close_under(&mut self.le, n.0, p.0);
+        Ok(())
+    }
+
+    /// Removes a live node, and keeps the order of the rest.
+    pub fn drop_node(&mut self, n: NodeId)
+        requires { is_live self.old n.0 ≡ true }
+        ensures { IsDropped self.old n.0 self.new }
+    {
+        self.live.remove(n.0);
+        rows::drop_from(&mut self.le, n.0);
+    }
+}
+
+impl Order {
+    /// Whether `a` is strictly below `b`.
+    fn is_strictly_below(&self, a: NodeId, b: NodeId) -> bool
+        requires a { a.0 < length self.now.live }
+        requires b { b.0 < length self.now.live }
+        ensures { IsTrue result ↔ IsStrictlyBelow self.now a.0 b.0 }
+    {
+        let row = &self.le[a.0 as usize];
+        a != b && row.has(b.0)
+    }
+
+    /// Whether `k` is strictly between `a` and `b`.
+    fn is_between(&self, a: NodeId, k: NodeId, b: NodeId) -> bool
+        requires a { a.0 < length self.now.live }
+        requires k { k.0 < length self.now.live }
+        requires b { b.0 < length self.now.live }
+        ensures { IsTrue result ↔ (IsStrictlyBelow self.now a.0 k.0 × IsStrictlyBelow self.now k.0 b.0) }
+    {
+        self.is_strictly_below(a, k) && self.is_strictly_below(k, b)
+    }
+
+    /// Whether `b` is an upper cover of `n`.
+    fn is_cover(&self, n: NodeId, b: NodeId) -> bool
+        requires n { n.0 < length self.now.live }
+        requires b { b.0 < length self.now.live }
+        ensures { IsTrue result ↔ IsCover self.now n.0 b.0 }
+    {
+        if !self.is_strictly_below(n, b) {
+            return false;
+        }
+        for k in 0..self.live.width() {
+            if self.is_between(n, NodeId(k), b) {
+                return false;
+            }
+        }
+        true
+    }
+
+    /// The same as `merge_set`, over a slice.
+    fn merge(&mut self, set: &[NodeId]) -> Result<NodeId, OrderFault>
+        requires some { 0 < length set.now }
+        requires live { All (λ s. is_live self.old s.0 ≡ true) set.now }
+        ensures node { IfOk result (λ m. IsLeastOf set.now m.0) }
+        ensures least { IfOk result (λ m. IsLeastMerged self.old set.now m.0 self.new) }
+        ensures pairs { IfOk result (λ m. IsMerged self.old set.now m.0 self.new) }
+        ensures cycle { (x : NodeId) → ((result ≡ Err (OrderFault.Cycle x)) ↔ IsFirstBetween self.old set.now x.0) }
+        ensures unchanged { OnErr result (self.new ≡ self.old) }
+    {
+        if let Some(x) = self.first_between(set) {
+            return Err(OrderFault::Cycle(x));
+        }
+        let m = least_of(set);
+        keep_one(&mut self.live, set, m.0);
+        merge_rows(&mut self.le, set, m.0);
+        Ok(m)
+    }
+
+    /// The least node outside a list that lies strictly between two of it.
+    fn first_between(&self, set: &[NodeId]) -> Option<NodeId>
+        requires { All (λ s. is_live self.now s.0 ≡ true) set.now }
+        ensures { MatchOption result ((x : ℕ) → IsBetween self.now set.now x → ⊥) (λ x. IsFirstBetween self.now set.now x.0) }
+    {
+        for x in 0..self.live.width() {
+            if self.lies_between(set, x) {
+                return Some(NodeId(x));
+            }
+        }
+        None
+    }
+
+    /// Whether a number is that of a node outside a list that lies strictly between two of it.
+    fn lies_between(&self, set: &[NodeId], x: u32) -> bool
+        requires set { All (λ s. is_live self.now s.0 ≡ true) set.now }
+        requires x { x < length self.now.live }
+        ensures { IsTrue result ↔ IsBetween self.now set.now x }
+    {
+        let le = self.le.as_slice();
+        !is_among(set, x) && some_has(le, set, x) && has_some(row_at(le, x as usize), set)
+    }
+}
