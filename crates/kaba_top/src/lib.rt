@@ -44,3 +44,6 @@ pub fn kaba<F: Shelf, O: Sink, E: Sink>(
         Err(_) => 70,
     }
 }
+
+#[cfg(test)]
+mod tests;

@@ -1,0 +1,7 @@
+pub mod OrderLemmas
+pub mod InsertLemmas
+pub mod PlaceLemmas
+pub mod MadeLemmas
+pub mod StepLemmas
+pub mod ExtentLemmas
+pub mod CoverLemmas

@@ -1,0 +1,39 @@
+use Rattle.std.proofs.Common.{◌≡◌, ◌<◌, ℕ, length, get_or, sym, ◌∙◌, true, arith}
+use Rattle.std.proofs.lemmas.List.{length-map}
+use Rattle.std.proofs.lemmas.List.Elements.{Contains-get_or}
+use Rattle.kaba_bits.specs.Sets.{bit, row}
+use Rattle.kaba_bits.proofs.ListLemmas.{ListsBelow-same}
+use Rattle.fact_model.specs.Concepts.{Pair, IsUpperCover}
+use Rattle.concept_build.specs.Lists.{extents_of, IsLeast}
+use Rattle.concept_build.proofs.ExtentLemmas.{extent_len, same_number}
+use Rattle.concept_build.proofs.CoverLemmas.{cover_is_least}
+use Rattle.concept_build.proofs.covers.above.Goals as goal
+
+pub least-requires-clause-widths : goal.least-requires-clause-widths
+least-requires-clause-widths c =
+    let len = extent_len c.args.table.now c.args.width c.args.items.now c.requires.all.concepts in
+    λ i j ilt jlt. len i ilt ∙ sym (len j jlt)
+
+pub least-requires-clause-numbers : goal.least-requires-clause-numbers
+least-requires-clause-numbers c =
+    let numbers = c.in_ok-numbers.numbers.items in
+    rw c.deref.ensures.value (λ k d lt.
+    let h = (c.in_ok-numbers.ensures.exact.each (get_or numbers k d)).0 (Contains-get_or numbers k d lt) in
+    omega (arith, h.0, c.in_ok-candidates.ensures.len, length-map c.args.items.now (λ (x : Pair). x.0)))
+
+pub returns : goal.returns
+returns c =
+    let T = c.args.table.now in
+    let w = c.args.width in
+    let xs = c.args.items.now in
+    let E = extents_of xs in
+    let k = c.args.k in
+    let candidates = c.in_ok-candidates.candidates in
+    let numbers = c.in_ok-numbers.numbers.items in
+    let long = length-map xs (λ (x : Pair). x.0) in
+    let len = extent_len T w xs c.requires.all.concepts in
+    let same = same_number T w xs c.requires.all.concepts in
+    let least = rw c.deref.ensures.value at c.in_ok-above.ensures in
+    ListsBelow-same (λ j. (bit candidates j ≡ true) × IsLeast E numbers j) (IsUpperCover E k) (length xs) c.in_ok-above.above.items
+    (λ j lt. cover_is_least E k (length T) candidates numbers (λ i ilt. len i (omega (arith, ilt, long))) (λ i m ilt mlt. same i m (omega (arith, ilt, long)) (omega (arith, mlt, long))) c.in_ok-candidates.ensures c.in_ok-numbers.ensures.exact j (omega (arith, lt, long)))
+    least

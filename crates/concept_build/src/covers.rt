@@ -1,0 +1,163 @@
+//! The upper covers of a concept: the least of the closures of its extent with one more row.
+
+ghost use Rattle.std.specs.Prelude.{◌≡◌, ℕ, ◌<◌, ◌^◌, ◌↔◌, true, length, All, IfOk, IsTrue, slice_index_or};
+ghost use Rattle.kaba_bits.specs.Sets.{bit, row, HasWidth, ListsBelow};
+ghost use Rattle.fact_model.specs.Concepts.{Pair, AreAllConcepts, IsExtent, IsUpperCover, IsWithin};
+ghost use Rattle.concept_build.specs.Intents.{IsMeet};
+ghost use Rattle.concept_build.specs.Lists.{extents_of, IsClosure, AreCandidates, IsLeast};
+
+use crate::intents::meet_of;
+use crate::item::{Item, item_at, place_of};
+use kaba_bits::{BitRow, row_at};
+use std::alloc::{AllocError, Global};
+
+/// The numbers of the upper covers of a concept, rising.
+pub fn above(
+    alloc: Global,
+    table: &[BitRow],
+    items: &[Item],
+    k: usize,
+    width: u32,
+) -> Result<Vec<u32>, AllocError>
+    requires rows { length table.now < 2 ^ 32 }
+    requires widths { HasWidth width table.now }
+    requires small { length items.now < 2 ^ 32 }
+    requires all { AreAllConcepts table.now width items.now }
+    requires k { k < length items.now }
+    ensures { IfOk result (λ v. ListsBelow (IsUpperCover (extents_of items.now) k) (length items.now) v.items) }
+{
+    let candidates = candidates(alloc, table, items, k, width)?;
+    let numbers = candidates.rising(alloc)?;
+    let above = least(alloc, items, &candidates, &numbers)?;
+    Ok(above)
+}
+
+/// The closures with each row that the extent lacks.
+fn candidates(
+    alloc: Global,
+    table: &[BitRow],
+    items: &[Item],
+    k: usize,
+    width: u32,
+) -> Result<BitRow, AllocError>
+    requires rows { length table.now < 2 ^ 32 }
+    requires widths { HasWidth width table.now }
+    requires small { length items.now < 2 ^ 32 }
+    requires all { AreAllConcepts table.now width items.now }
+    requires k { k < length items.now }
+    ensures { IfOk result (λ b. AreCandidates (extents_of items.now) k (length table.now) b) }
+{
+    let item = item_at(items, k);
+    let mut candidates = BitRow::new(alloc, items.len() as u32)?;
+    for q in 0..table.len() {
+        if !item.extent().has(q as u32) {
+            let at = closure_at(alloc, table, items, k, q, width)?;
+            candidates.set(at as u32);
+        }
+    }
+    Ok(candidates)
+}
+
+/// The number of the least extent with the rows of the extent at `k`, and with the row `q`.
+fn closure_at(
+    alloc: Global,
+    table: &[BitRow],
+    items: &[Item],
+    k: usize,
+    q: usize,
+    width: u32,
+) -> Result<usize, AllocError>
+    requires rows { length table.now < 2 ^ 32 }
+    requires widths { HasWidth width table.now }
+    requires all { AreAllConcepts table.now width items.now }
+    requires k { k < length items.now }
+    requires q { q < length table.now }
+    ensures { IfOk result (λ i. IsClosure (extents_of items.now) k q i) }
+{
+    let item = closure(alloc, table, items, k, q, width)?;
+    match place_of(items, &item) {
+        Ok(at) => Ok(at),
+        Err(_) => unreachable!(),
+    }
+}
+
+/// The concept of the columns that the concept at `k` and the row `q` have in common.
+fn closure(
+    alloc: Global,
+    table: &[BitRow],
+    items: &[Item],
+    k: usize,
+    q: usize,
+    width: u32,
+) -> Result<Item, AllocError>
+    requires rows { length table.now < 2 ^ 32 }
+    requires widths { HasWidth width table.now }
+    requires all { AreAllConcepts table.now width items.now }
+    requires k { k < length items.now }
+    requires q { q < length table.now }
+    ensures meet { IfOk result (λ x. (d : Pair) → IsMeet x.1 (slice_index_or items.now k d).1 (row table.now q)) }
+    ensures extent { IfOk result (λ x. IsExtent table.now x.0 x.1) }
+{
+    let intent = meet_of(alloc, item_at(items, k).intent(), row_at(table, q))?;
+    let item = Item::new(alloc, table, intent)?;
+    Ok(item)
+}
+
+/// The candidates that have no other strictly within, rising.
+fn least(
+    alloc: Global,
+    items: &[Item],
+    candidates: &BitRow,
+    numbers: &[u32],
+) -> Result<Vec<u32>, AllocError>
+    requires small { length items.now < 2 ^ 32 }
+    requires len { length candidates.now ≡ length items.now }
+    requires widths { (i j : ℕ) → i < length items.now → j < length items.now → length (row (extents_of items.now) i) ≡ length (row (extents_of items.now) j) }
+    requires numbers { All (λ i. i < length items.now) numbers.now }
+    ensures { IfOk result (λ v. ListsBelow (λ j. (bit candidates.now j ≡ true) × IsLeast (extents_of items.now) numbers.now j) (length items.now) v.items) }
+{
+    let mut above = Vec::new(alloc);
+    for j in 0..items.len() {
+        if is_least_candidate(items, candidates, numbers, j) {
+            above.push(j as u32)?;
+        }
+    }
+    Ok(above)
+}
+
+/// Whether `j` is a candidate that has no other strictly within.
+fn is_least_candidate(items: &[Item], candidates: &BitRow, numbers: &[u32], j: usize) -> bool
+    requires j { j < length items.now }
+    requires small { length items.now < 2 ^ 32 }
+    requires len { length candidates.now ≡ length items.now }
+    requires widths { (i j : ℕ) → i < length items.now → j < length items.now → length (row (extents_of items.now) i) ≡ length (row (extents_of items.now) j) }
+    requires numbers { All (λ i. i < length items.now) numbers.now }
+    ensures { IsTrue result ↔ ((bit candidates.now j ≡ true) × IsLeast (extents_of items.now) numbers.now j) }
+{
+    candidates.has(j as u32) && is_least(items, numbers, j)
+}
+
+/// Whether no extent of the list is strictly within that at `j`.
+fn is_least(items: &[Item], numbers: &[u32], j: usize) -> bool
+    requires j { j < length items.now }
+    requires widths { (i j : ℕ) → i < length items.now → j < length items.now → length (row (extents_of items.now) i) ≡ length (row (extents_of items.now) j) }
+    requires numbers { All (λ i. i < length items.now) numbers.now }
+    ensures { IsTrue result ↔ IsLeast (extents_of items.now) numbers.now j }
+{
+    for i in numbers {
+        if is_within(items, *i as usize, j) {
+            return false;
+        }
+    }
+    true
+}
+
+/// Whether one extent is strictly within another.
+fn is_within(items: &[Item], i: usize, j: usize) -> bool
+    requires i { i < length items.now }
+    requires j { j < length items.now }
+    requires widths { length (row (extents_of items.now) i) ≡ length (row (extents_of items.now) j) }
+    ensures { IsTrue result ↔ IsWithin (row (extents_of items.now) i) (row (extents_of items.now) j) }
+{
+    item_at(items, i).is_within(item_at(items, j))
+}

@@ -1,0 +1,134 @@
+//! Concepts on the way, and lists of them in their order.
+
+ghost use Rattle.std.specs.Prelude.{◌≡◌, ℕ, ◌<◌, ◌^◌, ◌↔◌, length, AllPairs, IfOk, OnOk, IsTrue, slice_index_or};
+ghost use Rattle.std.specs.List.Sorted.{IsSearchInRange};
+ghost use Rattle.kaba_bits.specs.Sets.{row, HasWidth};
+ghost use Rattle.fact_model.specs.Concepts.{Pair, concept_cmp, IsExtent, IsWithin};
+ghost use Rattle.concept_build.specs.Lists.{extents_of, IsBefore, IsPlace, IsInsertion};
+
+use kaba_bits::{BitRow, row_at};
+use std::alloc::{AllocError, Global};
+use std::cmp::Ordering;
+use std::marker::Model;
+
+/// A concept, seen as its extent and its intent, with the keys of its place: how many rows, and the
+/// numbers of the columns.
+#[derive(Drop)]
+pub struct Item {
+    extent: BitRow,
+    intent: BitRow,
+    rows: u32,
+    columns: Vec<u32>,
+}
+
+impl Model for Item {
+    ghost use Rattle.std.specs.Prelude.{◌≡◌};
+    ghost use Rattle.kaba_bits.specs.Sets.{rising};
+    ghost use Rattle.fact_model.specs.Concepts.{Pair};
+
+    ghost Value = { Pair };
+
+    ghost view = { λ k. (k.extent, k.intent) };
+
+    ghost invariant = { λ k. (k.rows ≡ Rattle.kaba_bits.specs.Sets.size k.extent) × (k.columns.items ≡ rising k.intent) };
+}
+
+impl Item {
+    /// An intent with its extent.
+    pub fn new(alloc: Global, table: &[BitRow], intent: BitRow) -> Result<Item, AllocError>
+        requires rows { length table.now < 2 ^ 32 }
+        requires widths { HasWidth (length intent) table.now }
+        ensures intent { IfOk result (λ k. k.1 ≡ intent) }
+        ensures extent { IfOk result (λ k. IsExtent table.now k.0 k.1) }
+    {
+        let extent = extent_of(alloc, table, &intent)?;
+        let rows = extent.count();
+        let columns = intent.rising(alloc)?;
+        Ok(Item {
+            extent,
+            intent,
+            rows,
+            columns,
+        })
+    }
+
+    /// The rows.
+    pub fn extent(&self) -> &BitRow
+        ensures { result.now ≡ self.now.0 }
+    {
+        &self.extent
+    }
+
+    /// The columns.
+    pub fn intent(&self) -> &BitRow
+        ensures { result.now ≡ self.now.1 }
+    {
+        &self.intent
+    }
+
+    /// By falling size of extent, then by intent.
+    pub fn compare(&self, other: &Item) -> Ordering
+        ensures { result ≡ concept_cmp self.now other.now }
+    {
+        other
+            .rows
+            .cmp(&self.rows)
+            .then(self.columns.cmp(&other.columns))
+    }
+
+    /// Whether the extent is strictly within the other's.
+    pub fn is_within(&self, other: &Item) -> bool
+        requires { length self.now.0 ≡ length other.now.0 }
+        ensures { IsTrue result ↔ IsWithin self.now.0 other.now.0 }
+    {
+        self.rows < other.rows && self.extent.is_subset(&other.extent)
+    }
+}
+
+/// The rows that have all columns of an intent.
+fn extent_of(alloc: Global, table: &[BitRow], intent: &BitRow) -> Result<BitRow, AllocError>
+    requires rows { length table.now < 2 ^ 32 }
+    requires widths { HasWidth (length intent.now) table.now }
+    ensures { IfOk result (λ a. IsExtent table.now a intent.now) }
+{
+    let mut extent = BitRow::new(alloc, table.len() as u32)?;
+    for r in 0..table.len() {
+        if intent.is_subset(row_at(table, r)) {
+            extent.set(r as u32);
+        }
+    }
+    Ok(extent)
+}
+
+/// One concept of a list.
+pub fn item_at(items: &[Item], k: usize) -> &Item
+    requires { k < length items.now }
+    ensures item { (d : Pair) → result.now ≡ slice_index_or items.now k d }
+    ensures extent { result.now.0 ≡ row (extents_of items.now) k }
+{
+    &items[k]
+}
+
+/// Where a concept stands in an ordered list, or where it belongs.
+pub fn place_of(items: &[Item], item: &Item) -> Result<usize, usize>
+    requires { AllPairs IsBefore items.now }
+    ensures within { IsSearchInRange result (length items.now) }
+    ensures place { IsPlace items.now item.now result }
+{
+    items.binary_search_by(|other| other.compare(item))
+}
+
+/// Puts a concept in its place, unless one of its intent is there.
+pub fn insert(items: &mut Vec<Item>, item: Item) -> Result<(), AllocError>
+    requires ordered { AllPairs IsBefore items.old.items }
+    requires widths { (k : ℕ) (d : Pair) → k < length items.old.items → length (slice_index_or items.old.items k d).1 ≡ length item.1 }
+    ensures { OnOk result (IsInsertion items.old.items item items.new.items) }
+{
+    match place_of(items, &item) {
+        Ok(_) => Ok(()),
+        Err(k) => {
+            items.insert(k, item)?;
+            Ok(())
+        }
+    }
+}

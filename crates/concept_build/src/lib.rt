@@ -1,0 +1,114 @@
+//! The concept lattice of a table (Ganter and Wille, 1999).
+#![tactic(auto)]
+
+ghost use Rattle.std.specs.Prelude.{◌≡◌, ℕ, ◌+◌, ◌-◌, ◌<◌, ◌≤◌, ◌^◌, length, map, take, IfOk, IfErr, slice_index_or};
+ghost use Rattle.kaba_bits.specs.Sets.{HasWidth};
+ghost use Rattle.fact_model.specs.declared.sets.Concept.{Concept};
+ghost use Rattle.fact_model.specs.Concepts.{Pair, pair_of, AreAllConcepts, IsPlaced, IsLatticeOf};
+ghost use Rattle.concept_build.specs.Lists.{IsFaultOf, extents_of};
+
+use fact_model::{Concept, Lattice, Table};
+use kaba_bits::BitRow;
+use std::alloc::{AllocError, Global};
+use thiserror::Error;
+
+mod covers;
+mod intents;
+mod item;
+mod stands;
+#[cfg(test)]
+mod tests;
+
+use covers::above;
+use intents::all_items;
+use item::{Item, item_at};
+use stands::{columns_at, rows_at};
+
+/// Why there is no lattice.
+#[derive(Clone, Copy, Debug, PartialEq, Eq, Error)]
+pub enum LatticeFault {
+    /// There are more concepts than this bound.
+    #[error("there are more than {0} concepts")]
+    TooManyConcepts(u32),
+    /// Memory is short.
+    #[error("memory is short")]
+    Memory,
+}
+
+impl From<AllocError> for LatticeFault {
+    ghost use Rattle.std.specs.Prelude.{◌≡◌};
+    ghost use Rattle.concept_build.specs.declared.LatticeFault.{LatticeFault};
+
+    ghost from_gives = { λ _ e. e ≡ LatticeFault.Memory };
+
+    fn from(_e: AllocError) -> LatticeFault {
+        LatticeFault::Memory
+    }
+}
+
+/// Every concept of a table once, by falling size of extent and then by intent, with its upper covers
+/// and with the rows and columns that stand there. `TooManyConcepts(bound)` comes exactly where there
+/// are more than `bound`. The memory is in proportion to concepts times rows.
+pub fn concepts(alloc: Global, table: &Table, bound: u32) -> Result<Lattice, LatticeFault>
+    requires rows { length table.now.rows.items < 2 ^ 32 - 1 }
+    requires widths { HasWidth table.now.width table.now.rows.items }
+    ensures lattice { IfOk result (λ l. IsLatticeOf table.now l) }
+    ensures within { IfOk result (λ l. length l.concepts.items ≤ bound) }
+    ensures cause { IfErr result (λ e. IsFaultOf table.now.rows.items table.now.width bound e) }
+{
+    let items = all_items(alloc, &table.rows, table.width, bound)?;
+    let concepts = placed_items(alloc, &table.rows, &items, table.width)?;
+    Ok(Lattice { concepts })
+}
+
+/// Each concept with what is told of it.
+fn placed_items(
+    alloc: Global,
+    table: &[BitRow],
+    items: &[Item],
+    width: u32,
+) -> Result<Vec<Concept>, AllocError>
+    requires rows { length table.now < 2 ^ 32 }
+    requires widths { HasWidth width table.now }
+    requires small { length items.now < 2 ^ 32 }
+    requires all { AreAllConcepts table.now width items.now }
+    ensures pairs { IfOk result (λ v. map pair_of v.items ≡ items.now) }
+    ensures placed { IfOk result (λ v. (k : ℕ) (d : Concept) → k < length items.now → IsPlaced table.now width (extents_of items.now) k (slice_index_or v.items k d)) }
+{
+    let mut concepts = Vec::new(alloc);
+    for k in 0..items.len() {
+        concepts.push(placed_item(alloc, table, items, k, width)?)?;
+    }
+    Ok(concepts)
+}
+
+/// One concept with what is told of it.
+fn placed_item(
+    alloc: Global,
+    table: &[BitRow],
+    items: &[Item],
+    k: usize,
+    width: u32,
+) -> Result<Concept, AllocError>
+    requires rows { length table.now < 2 ^ 32 }
+    requires widths { HasWidth width table.now }
+    requires small { length items.now < 2 ^ 32 }
+    requires all { AreAllConcepts table.now width items.now }
+    requires k { k < length items.now }
+    ensures pair { IfOk result (λ x. (d : Pair) → pair_of x ≡ slice_index_or items.now k d) }
+    ensures placed { IfOk result (λ x. IsPlaced table.now width (extents_of items.now) k x) }
+{
+    let item = item_at(items, k);
+    let extent = item.extent().copy(alloc)?;
+    let intent = item.intent().copy(alloc)?;
+    let above = above(alloc, table, items, k, width)?;
+    let rows = rows_at(alloc, table, &intent)?;
+    let columns = columns_at(alloc, table, &extent, width)?;
+    Ok(Concept {
+        extent,
+        intent,
+        above,
+        rows,
+        columns,
+    })
+}

@@ -1,0 +1,7 @@
+pub mod Items
+pub mod Classes
+pub mod InRange
+pub mod Flowing
+pub mod Entries
+pub mod InOrder
+pub mod Concepts

@@ -1,0 +1,14 @@
+//! The facts of a program, and what the analysis makes of them: points-to sets, the table and its concept lattice.
+#![tactic(auto)]
+
+mod classes;
+mod facts;
+mod sets;
+
+pub use classes::{below, class_at, finds};
+pub use facts::{
+    AccessInfo, BodyInfo, CallInfo, CastInfo, CellInfo, ClassInfo, ColKind, ColumnInfo, Facts,
+    FlowInfo, LoadInfo, MakeInfo, MakerNames, NewInfo, RowInfo, SiteInfo, Spot, SpotKind,
+    StoreInfo, SuperInfo, TestInfo, TieInfo,
+};
+pub use sets::{Concept, Lattice, PointsTo, Table};

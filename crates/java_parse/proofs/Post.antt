@@ -1,0 +1,176 @@
+-- What each part is, where it is read: the grammar's.
+use Rattle.std.proofs.Common.{rules, arith, refl, sym, ap, ◌∙◌, subst, ◌+◌, append_assoc, append-nil, ◌≡◌, ℕ, zero, suc, ℤ, pos, negsuc, ◌<◌, ◌≤◌, List, [], ◌∷◌, ◌++◌, Option, Some, None, Result, Ok, Err, Bool, true, false, if◌then◌else◌, ◌&&◌}
+use Rattle.kaba_base.specs.declared.Place.{Place}
+use Rattle.kaba_base.specs.declared.words.Keyword.{Keyword}
+use Rattle.kaba_base.specs.declared.words.Keyword.TheVariants as keys
+use Rattle.java_lex.specs.declared.Token.{Token}
+use Rattle.java_lex.specs.declared.TokenKind.{TokenKind}
+use Rattle.java_lex.specs.declared.TokenKind.TheVariants as kinds
+use Rattle.java_lex.specs.declared.Mark.{Mark}
+use Rattle.java_lex.specs.declared.Mark.TheVariants as marks
+use Rattle.java_tree.specs.declared.Id.{Id}
+use Rattle.java_tree.specs.declared.Modifier.{Modifier}
+use Rattle.java_tree.specs.declared.TypeBase.{TypeBase}
+use Rattle.java_tree.specs.declared.TypeBase.TheVariants as bases
+use Rattle.java_tree.specs.declared.TypeName.{TypeName}
+use Rattle.java_tree.specs.declared.Param.{Param}
+use Rattle.java_tree.specs.Syntax.{Expression, IntLit, CharLit, StrLit, BoolLit, NullLit, ThisRef, NameRef, FieldOf, IndexOf, CallOf, CallOn, SuperCallOf, NewOf, NewArrayOf, CastOf, InstanceOfClass, UnaryOf, BinaryOf, Expressions, no_more, and_more, Statement, LocalOf, BlockOf, AssignOf, DoOf, PrintOf, IfOf, WhileOf, ForOf, ReturnOf, BreakOf, ContinueOf, Statements, no_statements, and_then, Arms, no_arms, and_arm, Else, no_else, otherwise, OptionalStatement, absent, present, HeadTree, MemberTree, FieldTree, MethodTree, DeclTree, ClassTree, InterfaceTree}
+use Rattle.java_tree.specs.Tokens.{token, mark, key, word, level, is_sign, compound, stepping, is_modifier, casts, first_place}
+use Rattle.java_tree.specs.Statements.{as_body, printed}
+use Rattle.java_parse.specs.declared.End.{End}
+use Rattle.java_parse.specs.declared.End.TheVariants as ends
+use Rattle.java_parse.specs.Want.{Want, NExpr, NMore, NPrefixed, NPost, NAtom, NSuper, NNew, NSized, NDims, NType, NTail, NArgs, NMoreArgs, NInit, NLocal, NValue, NAct, NActRest, NTested, NItem, NItems, NStmt, NForHead, NFirst, NStep, NBranches, NMods, NIds, NParent, NList, NParam, NParams, NMoreParams, NResult, NHead, NBody, NMember, NMethod, NMembers, NHeads, NClass, NInterface, NDecl, NDecls, Val, Step, Give, Fail, Ask}
+use Rattle.java_parse.specs.Front.{after, after_key, word_next, operator, instance_next, least_next, sign_next, cast_next, base_next, literal_next, index_next, is_array, expr_snoc, stmt_snoc, arm_snoc, final_of, stepping_next, compound_next, named, is_target, is_call, stepped, done, done_by, starts_local, Start, start, SBlock, SEmpty, SIf, SWhile, SFor, SReturn, SBreak, SContinue, SOther, modifier_next, id_next, at_end}
+use Rattle.java_tree.specs.Expressions.{IsBase, named_base, IsDims, no_dims, one_dim, IsType, a_type, IsExpr, binary, instance_of, operand, IsPrefixed, signed, least, cast_named, cast_int, cast_char, bare, IsPost, field, call_on, index, name, call, super_call, round, new_object, new_array, IsArgs, no_args, some_args, IsMoreArgs, last_arg, next_arg}
+use Rattle.java_tree.specs.Statements.{is_choice, printed, IsFinal, IsValue, no_value, a_value, IsInit, no_init, an_init, IsLocal, a_local, IsTarget, to_name, to_field, to_index, IsCall, plain_call, call_upon, call_above, IsAct, assign, assign_by, step_after, step_before, do_call, print, do_new, IsFirst, no_first, first_local, first_act, IsStep, no_step, a_step, IsItem, local_item, stmt_item, IsItems, no_items, next_item, IsStmt, block, empty, acting, choice, while_loop, for_loop, return_word, break_word, continue_word, IsArms, last_arm, else_arm, more_arms}
+use Rattle.java_tree.specs.Declarations.{IsMods, no_mods, next_mod, IsIds, last_id, next_id, IsParent, no_parent, a_parent, IsList, no_list, a_list, IsParam, a_param, IsMoreParams, last_param, next_param, IsParams, no_params, some_params, IsResult, no_result, a_result, IsHead, a_head, IsBody, no_body, a_body, IsMember, a_field, a_method, IsMembers, no_members, next_member, IsHeads, no_heads, next_head, IsDecl, a_class, an_interface, IsPlaced, no_decls, next_decl}
+use Rattle.java_parse.proofs.Fronts.{option_cases, bool_cases, after_is, after_key_is, word_is, operator_is, instance_is, least_is, sign_is, cast_is, base_is, literal_is, index_is, final_is, stepping_is, compound_is, modifier_is, id_is, start_cases, Starts, start_is}
+
+-- an expression without operators, by how it ends
+pub data Ended : End → List Token → List Token → Expression → Type 0 where
+  by_name : {n : List ℕ} {p : Place} {rest : List Token} → Ended ends.Name (word n p ∷ rest) rest (NameRef n p)
+  by_target : {ts rest : List Token} {e : Expression} → IsTarget ts rest e → Ended ends.Target ts rest e
+  by_call : {ts rest : List Token} {e : Expression} → IsCall ts rest e → Ended ends.Call ts rest e
+  by_new : {n : List ℕ} {es : Expressions} {p q r : Place} {us rest : List Token} → IsArgs us rest es →
+      Ended ends.New (key keys.New p ∷ word n q ∷ mark marks.OpenRound r ∷ us) rest (NewOf (record { name = n; place = q }) es p)
+  by_array : {ts rest : List Token} {e : Expression} → IsPost false ts rest e → Ended ends.Array ts rest e
+  by_other : {ts rest : List Token} {e : Expression} → IsPost true ts rest e → Ended ends.Other ts rest e
+
+-- what was counted from `first` on
+pub record Counted (first : ℕ) (ts : List Token) (d : ℕ) (rest : List Token) : Type 0 where
+  pub more : ℕ
+  pub is : d ≡ first + more
+  pub dims : IsDims ts rest more
+
+unfoldable pub expr_append : Expressions → Expressions → Expressions
+expr_append no_more b = b
+expr_append (and_more e a) b = and_more e (expr_append a b)
+
+unfoldable pub stmt_append : Statements → Statements → Statements
+stmt_append no_statements b = b
+stmt_append (and_then e a) b = and_then e (stmt_append a b)
+
+unfoldable pub arm_append : Arms → Arms → Arms
+arm_append no_arms b = b
+arm_append (and_arm e s a) b = and_arm e s (arm_append a b)
+
+pub record MoreArgs (before : Expressions) (ts : List Token) (es : Expressions) (rest : List Token) : Type 0 where
+  pub more : Expressions
+  pub is : es ≡ expr_append before more
+  pub args : IsMoreArgs ts rest more
+
+pub record Tested (ts : List Token) (e : Expression) (rest : List Token) : Type 0 where
+  pub open_at : Place
+  pub close_at : Place
+  pub inner : List Token
+  pub starts : ts ≡ mark marks.OpenRound open_at ∷ inner
+  pub test : IsExpr 1 inner (mark marks.CloseRound close_at ∷ rest) e
+
+pub record Itemed (before : Statements) (ts : List Token) (ss : Statements) (rest : List Token) : Type 0 where
+  pub more : Statements
+  pub is : ss ≡ stmt_append before more
+  pub items : IsItems ts rest more
+
+-- a statement, and that no `else` behind it would belong to it
+pub record Stmted (ts : List Token) (s : Statement) (rest : List Token) : Type 0 where
+  pub flag : Bool
+  pub fact : IsStmt flag ts rest s
+  pub closed : flag ≡ true → after_key keys.Else rest ≡ None
+
+pub record Headed (ts : List Token) (f : OptionalStatement) (v : Option Expression) (g : OptionalStatement) (rest : List Token) : Type 0 where
+  pub open_at : Place
+  pub first_at : Place
+  pub second_at : Place
+  pub close_at : Place
+  pub inner : List Token
+  pub middle : List Token
+  pub last : List Token
+  pub starts : ts ≡ mark marks.OpenRound open_at ∷ inner
+  pub first : IsFirst inner (mark marks.Semi first_at ∷ middle) f
+  pub test : IsValue middle (mark marks.Semi second_at ∷ last) v
+  pub step : IsStep last (mark marks.CloseRound close_at ∷ rest) g
+
+pub record Branched (before : Arms) (ts : List Token) (a : Arms) (l : Else) (rest : List Token) : Type 0 where
+  pub flag : Bool
+  pub more : Arms
+  pub is : a ≡ arm_append before more
+  pub fact : IsArms flag ts rest more l
+  pub closed : flag ≡ true → after_key keys.Else rest ≡ None
+
+pub record Modded (before : List Modifier) (ts : List Token) (ms : List Modifier) (rest : List Token) : Type 0 where
+  pub more : List Modifier
+  pub is : ms ≡ before ++ more
+  pub mods : IsMods ts rest more
+
+pub record Listed (before : List Id) (ts : List Token) (names : List Id) (rest : List Token) : Type 0 where
+  pub more : List Id
+  pub is : names ≡ before ++ more
+  pub ids : IsIds ts rest more
+
+pub record MoreParams (before : List Param) (ts : List Token) (qs : List Param) (rest : List Token) : Type 0 where
+  pub more : List Param
+  pub is : qs ≡ before ++ more
+  pub params : IsMoreParams ts rest more
+
+pub record Membered (before : List MemberTree) (ts : List Token) (bs : List MemberTree) (rest : List Token) : Type 0 where
+  pub more : List MemberTree
+  pub is : bs ≡ before ++ more
+  pub members : IsMembers ts rest more
+
+pub record Heads (before : List HeadTree) (ts : List Token) (hs : List HeadTree) (rest : List Token) : Type 0 where
+  pub more : List HeadTree
+  pub is : hs ≡ before ++ more
+  pub heads : IsHeads ts rest more
+
+pub record Declared (before : List DeclTree) (ts : List Token) (ds : List DeclTree) (rest : List Token) : Type 0 where
+  pub more : List DeclTree
+  pub is : ds ≡ before ++ more
+  pub ended : rest ≡ []
+  pub decls : IsPlaced ts more
+
+-- what a part is from the first of these tokens up to the rest
+abbrev pub Post : (n : Want) → List Token → Val n → List Token → Type 0
+Post (NExpr l) ts e rest = IsExpr l ts rest e
+Post (NMore l c a) ts e rest = (us : List Token) → IsExpr l us ts a → IsExpr c us ts a → IsExpr l us rest e
+Post NPrefixed ts e rest = IsPrefixed ts rest e
+Post NPost ts x rest = Ended x.1 ts rest x.0
+Post NAtom ts x rest = Ended x.1 ts rest x.0
+Post NSuper ts x rest = (q : Place) → Ended x.1 (key keys.Super q ∷ ts) rest x.0
+Post (NNew p) ts x rest = Ended x.1 (key keys.New p ∷ ts) rest x.0
+Post (NSized p b q) ts x rest = (us : List Token) → IsBase us ts b q → Ended x.1 (key keys.New p ∷ us) rest x.0
+Post (NDims d) ts n rest = Counted d ts n rest
+Post NType ts t rest = IsType ts rest t
+Post (NTail e z) ts x rest = (us : List Token) → Ended z us ts e → Ended x.1 us rest x.0
+Post NArgs ts es rest = IsArgs ts rest es
+Post (NMoreArgs es) ts fs rest = MoreArgs es ts fs rest
+Post NInit ts v rest = IsInit ts rest v
+Post NLocal ts s rest = IsLocal ts rest s
+Post NValue ts v rest = IsValue ts rest v
+Post NAct ts s rest = IsAct ts rest s
+Post (NActRest ss e z) ts s rest = Ended z ss ts e → IsAct ss rest s
+Post NTested ts e rest = Tested ts e rest
+Post NItem ts s rest = IsItem ts rest s
+Post (NItems ss) ts x rest = Itemed ss ts x rest
+Post NStmt ts s rest = Stmted ts s rest
+Post NForHead ts x rest = Headed ts x.0 x.1 x.2 rest
+Post NFirst ts o rest = IsFirst ts rest o
+Post NStep ts o rest = IsStep ts rest o
+Post (NBranches a) ts x rest = Branched a ts x.0 x.1 rest
+Post (NMods ms) ts x rest = Modded ms ts x rest
+Post (NIds is) ts x rest = Listed is ts x rest
+Post NParent ts x rest = IsParent ts rest x
+Post (NList k) ts x rest = IsList k ts rest x
+Post NParam ts x rest = IsParam ts rest x
+Post NParams ts x rest = IsParams ts rest x
+Post (NMoreParams qs) ts x rest = MoreParams qs ts x rest
+Post NResult ts x rest = IsResult ts rest x
+Post NHead ts x rest = IsHead ts rest x
+Post NBody ts x rest = IsBody ts rest x
+Post NMember ts x rest = IsMember ts rest x
+Post (NMethod ms t n p) ts x rest = (us vs : List Token) (q : Place) → IsMods us vs ms → IsResult vs (word n p ∷ mark marks.OpenRound q ∷ ts) t → IsMember us rest x
+Post (NMembers bs) ts x rest = Membered bs ts x rest
+Post (NHeads hs) ts x rest = Heads hs ts x rest
+Post (NClass ms) ts x rest = (us : List Token) (q : Place) → IsMods us (key keys.Class q ∷ ts) ms → IsDecl us rest x
+Post (NInterface ms) ts x rest = (us : List Token) (q : Place) → IsMods us (key keys.Interface q ∷ ts) ms → IsDecl us rest x
+Post NDecl ts x rest = IsDecl ts rest x
+Post (NDecls ds) ts x rest = Declared ds ts x rest

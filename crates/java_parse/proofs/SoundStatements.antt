@@ -1,0 +1,274 @@
+-- Statements that are read are in the grammar.
+use Rattle.std.proofs.Common.{rules, arith, refl, sym, ap, ◌∙◌, subst, ◌+◌, append_assoc, append-nil, ◌≡◌, ℕ, zero, suc, ℤ, pos, negsuc, ◌<◌, ◌≤◌, List, [], ◌∷◌, ◌++◌, Option, Some, None, Result, Ok, Err, Bool, true, false, if◌then◌else◌, ◌&&◌}
+use Rattle.kaba_base.specs.declared.Place.{Place}
+use Rattle.kaba_base.specs.declared.words.Keyword.{Keyword}
+use Rattle.kaba_base.specs.declared.words.Keyword.TheVariants as keys
+use Rattle.java_lex.specs.declared.Token.{Token}
+use Rattle.java_lex.specs.declared.TokenKind.{TokenKind}
+use Rattle.java_lex.specs.declared.TokenKind.TheVariants as kinds
+use Rattle.java_lex.specs.declared.Mark.{Mark}
+use Rattle.java_lex.specs.declared.Mark.TheVariants as marks
+use Rattle.java_tree.specs.declared.Id.{Id}
+use Rattle.java_tree.specs.declared.Modifier.{Modifier}
+use Rattle.java_tree.specs.declared.TypeBase.{TypeBase}
+use Rattle.java_tree.specs.declared.TypeBase.TheVariants as bases
+use Rattle.java_tree.specs.declared.TypeName.{TypeName}
+use Rattle.java_tree.specs.declared.Param.{Param}
+use Rattle.java_tree.specs.Syntax.{Expression, IntLit, CharLit, StrLit, BoolLit, NullLit, ThisRef, NameRef, FieldOf, IndexOf, CallOf, CallOn, SuperCallOf, NewOf, NewArrayOf, CastOf, InstanceOfClass, UnaryOf, BinaryOf, Expressions, no_more, and_more, Statement, LocalOf, BlockOf, AssignOf, DoOf, PrintOf, IfOf, WhileOf, ForOf, ReturnOf, BreakOf, ContinueOf, Statements, no_statements, and_then, Arms, no_arms, and_arm, Else, no_else, otherwise, OptionalStatement, absent, present, HeadTree, MemberTree, FieldTree, MethodTree, DeclTree, ClassTree, InterfaceTree}
+use Rattle.java_tree.specs.Tokens.{token, mark, key, word, level, is_sign, compound, stepping, is_modifier, casts, first_place}
+use Rattle.java_tree.specs.Statements.{as_body, printed}
+use Rattle.java_parse.specs.declared.End.{End}
+use Rattle.java_parse.specs.declared.End.TheVariants as ends
+use Rattle.java_parse.specs.Want.{Want, NExpr, NMore, NPrefixed, NPost, NAtom, NSuper, NNew, NSized, NDims, NType, NTail, NArgs, NMoreArgs, NInit, NLocal, NValue, NAct, NActRest, NTested, NItem, NItems, NStmt, NForHead, NFirst, NStep, NBranches, NMods, NIds, NParent, NList, NParam, NParams, NMoreParams, NResult, NHead, NBody, NMember, NMethod, NMembers, NHeads, NClass, NInterface, NDecl, NDecls, Val, Step, Give, Fail, Ask}
+use Rattle.java_parse.specs.Front.{after, after_key, word_next, operator, instance_next, least_next, sign_next, cast_next, base_next, literal_next, index_next, is_array, expr_snoc, stmt_snoc, arm_snoc, final_of, stepping_next, compound_next, named, is_target, is_call, stepped, done, done_by, starts_local, Start, start, SBlock, SEmpty, SIf, SWhile, SFor, SReturn, SBreak, SContinue, SOther, modifier_next, id_next, at_end}
+use Rattle.java_tree.specs.Expressions.{IsBase, named_base, IsDims, no_dims, one_dim, IsType, a_type, IsExpr, binary, instance_of, operand, IsPrefixed, signed, least, cast_named, cast_int, cast_char, bare, IsPost, field, call_on, index, name, call, super_call, round, new_object, new_array, IsArgs, no_args, some_args, IsMoreArgs, last_arg, next_arg}
+use Rattle.java_tree.specs.Statements.{is_choice, printed, IsFinal, IsValue, no_value, a_value, IsInit, no_init, an_init, IsLocal, a_local, IsTarget, to_name, to_field, to_index, IsCall, plain_call, call_upon, call_above, IsAct, assign, assign_by, step_after, step_before, do_call, print, do_new, IsFirst, no_first, first_local, first_act, IsStep, no_step, a_step, IsItem, local_item, stmt_item, IsItems, no_items, next_item, IsStmt, block, empty, acting, choice, while_loop, for_loop, return_word, break_word, continue_word, IsArms, last_arm, else_arm, more_arms}
+use Rattle.java_tree.specs.Declarations.{IsMods, no_mods, next_mod, IsIds, last_id, next_id, IsParent, no_parent, a_parent, IsList, no_list, a_list, IsParam, a_param, IsMoreParams, last_param, next_param, IsParams, no_params, some_params, IsResult, no_result, a_result, IsHead, a_head, IsBody, no_body, a_body, IsMember, a_field, a_method, IsMembers, no_members, next_member, IsHeads, no_heads, next_head, IsDecl, a_class, an_interface, IsPlaced, no_decls, next_decl}
+use Rattle.java_parse.proofs.Fronts.{option_cases, bool_cases, after_is, after_key_is, word_is, operator_is, instance_is, least_is, sign_is, cast_is, base_is, literal_is, index_is, final_is, stepping_is, compound_is, modifier_is, id_is, start_cases, Starts, start_is}
+use Rattle.java_parse.proofs.Post.{Ended, by_name, by_target, by_call, by_new, by_array, by_other, Counted, expr_append, stmt_append, arm_append, MoreArgs, Tested, Itemed, Stmted, Headed, Branched, Modded, Listed, MoreParams, Membered, Heads, Declared, Post}
+use Rattle.java_parse.proofs.Runs.{Good}
+use Rattle.java_parse.specs.ReadStatements.{init_step, local_step, value_step, act_step, act_rest_step, tested_step, item_step, items_step, stmt_step, for_head_step, first_step, step_step, branches_step}
+use Rattle.java_parse.proofs.SoundExpressions.{post_of}
+
+never : {P : Type 0} → false ≡ true → P
+never h = absurd (let g : ⊥ = cc in g)
+
+starts_at : (ts : List Token) {s : Start} → start ts ≡ s → Starts s ts
+starts_at ts h = subst (λ s. Starts s ts) h (start_is ts)
+
+target_of : {z : End} {ts rest : List Token} {e : Expression} → Ended z ts rest e → is_target z ≡ true → IsTarget ts rest e
+target_of by_name h = to_name
+target_of (by_target d) h = d
+target_of (by_call d) h = cc
+target_of (by_new a) h = cc
+target_of (by_array d) h = cc
+target_of (by_other d) h = cc
+
+-- the name that an expression is
+named_as : {z : End} {ts rest : List Token} {e : Expression} {w : List ℕ × Place} → named z e ≡ Some w → Ended z ts rest e → ts ≡ word w.0 w.1 ∷ rest
+named_as h by_name = cc
+named_as h (by_target d) = cc
+named_as h (by_call d) = cc
+named_as h (by_new a) = cc
+named_as h (by_array d) = cc
+named_as h (by_other d) = cc
+
+compound_act : {z : End} {ss ts rest : List Token} {e v : Expression} {w : Mark × Place × List Token} {x : List ℕ × Place} →
+    (n : Mark) × (ts ≡ mark n w.1 ∷ w.2) × (compound n ≡ Some w.0) → named z e ≡ Some x → Ended z ss ts e → IsExpr 1 w.2 rest v →
+    IsAct ss rest (AssignOf (NameRef x.0 x.1) (BinaryOf w.0 (NameRef x.0 x.1) v w.1) w.1)
+compound_act {rest = rest} {v = v} {w = w} {x = x} f g h d =
+    subst (λ (ss : List Token). IsAct ss rest (AssignOf (NameRef x.0 x.1) (BinaryOf w.0 (NameRef x.0 x.1) v w.1) w.1)) (sym (named_as g h ∙ ap (λ r. word x.0 x.1 ∷ r) f.1)) (assign_by f.2 d)
+
+after_act : {z : End} {ss ts : List Token} {e : Expression} {w : Mark × Place × List Token} {x : List ℕ × Place} →
+    (n : Mark) × (ts ≡ mark n w.1 ∷ w.2) × (stepping n ≡ Some w.0) → named z e ≡ Some x → Ended z ss ts e → IsAct ss w.2 (stepped w.0 x.0 x.1 w.1)
+after_act {w = w} {x = x} f g h =
+    subst (λ (ss : List Token). IsAct ss w.2 (stepped w.0 x.0 x.1 w.1)) (sym (named_as g h ∙ ap (λ r. word x.0 x.1 ∷ r) f.1)) (step_after f.2)
+
+before_act : {ts : List Token} {w : Mark × Place × List Token} {x : List ℕ × Place × List Token} →
+    (n : Mark) × (ts ≡ mark n w.1 ∷ w.2) × (stepping n ≡ Some w.0) → w.2 ≡ word x.0 x.1 ∷ x.2 → IsAct ts x.2 (stepped w.0 x.0 x.1 w.1)
+before_act {w = w} {x = x} f g =
+    subst (λ (ss : List Token). IsAct ss x.2 (stepped w.0 x.0 x.1 w.1)) (sym (f.1 ∙ ap (λ r. mark f.0 w.1 ∷ r) g)) (step_before f.2)
+
+call_done : {ss ts : List Token} {e : Expression} → IsCall ss ts e → IsAct ss ts (done ss e)
+call_done {ss = ss} {e = e} c = option_cases (printed ss e) (λ no. rw (no, done) (do_call c no)) (λ x yes. rw (yes, done) (print c yes))
+
+call_act : {z : End} {ss ts : List Token} {e : Expression} → Ended z ss ts e → is_call z ≡ true → IsAct ss ts (done ss e)
+call_act by_name h = cc
+call_act (by_target d) h = cc
+call_act (by_call d) h = call_done d
+call_act (by_new a) h = do_new a
+call_act (by_array d) h = cc
+call_act (by_other d) h = cc
+
+pub stmt_append-none : (a : Statements) → stmt_append a no_statements ≡ a
+unfolding stmt_append
+stmt_append-none no_statements = refl
+stmt_append-none (and_then e a) = ap (and_then e) (stmt_append-none a)
+
+pub stmt_append-snoc : (a : Statements) (e : Statement) (b : Statements) → stmt_append (stmt_snoc a e) b ≡ stmt_append a (and_then e b)
+unfolding stmt_append
+stmt_append-snoc no_statements e b = refl
+stmt_append-snoc (and_then x a) e b = ap (and_then x) (stmt_append-snoc a e b)
+
+pub arm_append-none : (a : Arms) → arm_append a no_arms ≡ a
+unfolding arm_append
+arm_append-none no_arms = refl
+arm_append-none (and_arm e s a) = ap (and_arm e s) (arm_append-none a)
+
+pub arm_append-snoc : (a : Arms) (e : Expression) (s : Statements) (b : Arms) → arm_append (arm_snoc a e s) b ≡ arm_append a (and_arm e s b)
+unfolding arm_append
+arm_append-snoc no_arms e s b = refl
+arm_append-snoc (and_arm x y a) e s b = ap (and_arm x y) (arm_append-snoc a e s b)
+
+pub arm_append-one : (a : Arms) (e : Expression) (s : Statements) → arm_snoc a e s ≡ arm_append a (and_arm e s no_arms)
+arm_append-one a e s = sym (arm_append-none (arm_snoc a e s)) ∙ arm_append-snoc a e s no_arms
+
+pub items_all : {ts rest : List Token} {ss : Statements} → Itemed no_statements ts ss rest → IsItems ts rest ss
+unfolding stmt_append
+items_all {ts = ts} {rest = rest} d = subst (λ (ss : Statements). IsItems ts rest ss) (sym d.is) d.items
+
+block_good : {ts us rest : List Token} {p : Place} {ss : Statements} → ts ≡ mark marks.OpenBrace p ∷ us → Itemed no_statements us ss rest → Stmted ts (BlockOf ss p) rest
+block_good e d = rw e (record { flag = false; fact = block (items_all d); closed = never })
+
+arms_good : {ts rest : List Token} {a : Arms} {l : Else} (d : Branched no_arms ts a l rest) → IsArms d.flag ts rest a l
+unfolding arm_append
+arms_good {ts = ts} {rest = rest} {l = l} d = subst (λ (a : Arms). IsArms d.flag ts rest a l) (sym d.is) d.fact
+
+choice_good : {ts us rest : List Token} {p : Place} {a : Arms} {l : Else} → ts ≡ key keys.If p ∷ us → Branched no_arms us a l rest → Stmted ts (IfOf a l p) rest
+choice_good e d = rw e (record { flag = d.flag; fact = choice (arms_good d); closed = d.closed })
+
+while_good : {ts us vs rest : List Token} {p : Place} {e : Expression} {s : Statement} → ts ≡ key keys.While p ∷ us → Tested us e vs → Stmted vs s rest → Stmted ts (WhileOf e (as_body s) p) rest
+while_good e t d = rw (e, t.starts) (record { flag = d.flag; fact = while_loop t.test d.fact; closed = d.closed })
+
+for_good : {ts us vs rest : List Token} {p : Place} {f g : OptionalStatement} {v : Option Expression} {s : Statement} → ts ≡ key keys.For p ∷ us → Headed us f v g vs → Stmted vs s rest → Stmted ts (ForOf f v g (as_body s) p) rest
+for_good e t d = rw (e, t.starts) (record { flag = d.flag; fact = for_loop t.first t.test t.step d.fact; closed = d.closed })
+
+-- a body before an `else`
+shut : {o : Bool} {ts us : List Token} {s : Statement} {p : Place} → (o ≡ true → after_key keys.Else (key keys.Else p ∷ us) ≡ None) → IsStmt o ts (key keys.Else p ∷ us) s → IsStmt false ts (key keys.Else p ∷ us) s
+shut {o = false} c d = d
+shut {o = true} c d = let n = c refl in cc
+
+act_no_choice : {ts rest : List Token} {s : Statement} → IsAct ts rest s → is_choice s ≡ false
+act_no_choice (assign t e) = refl
+act_no_choice (assign_by h e) = refl
+act_no_choice (step_after h) = refl
+act_no_choice (step_before h) = refl
+act_no_choice (do_call c h) = refl
+act_no_choice (print c h) = refl
+act_no_choice (do_new a) = refl
+
+no_choice : {o : Bool} {ts rest : List Token} {s : Statement} → IsStmt o ts rest s → after_key keys.If ts ≡ None → is_choice s ≡ false
+no_choice (block d) h = refl
+no_choice empty h = refl
+no_choice (acting d) h = act_no_choice d
+no_choice (choice d) h = cc
+no_choice (while_loop e d) h = refl
+no_choice (for_loop a b c d) h = refl
+no_choice (return_word d) h = refl
+no_choice break_word h = refl
+no_choice continue_word h = refl
+
+end_good : {ts us vs : List Token} {e : Expression} {s : Statement} (a : Arms) → after_key keys.Else vs ≡ None → Tested ts e us → Stmted us s vs → Branched a ts (arm_snoc a e (as_body s)) no_else vs
+end_good {e = e} {s = s} a n t d = rw t.starts (record { flag = true; more = and_arm e (as_body s) no_arms; is = arm_append-one a e (as_body s); fact = last_arm t.test d.fact; closed = λ _. n })
+
+shut_at : {ts vs : List Token} {s : Statement} {w : Place × List Token} → vs ≡ key keys.Else w.0 ∷ w.1 → Stmted ts s vs → IsStmt false ts (key keys.Else w.0 ∷ w.1) s
+shut_at {ts = ts} {s = s} e d = shut (subst (λ vs. d.flag ≡ true → after_key keys.Else vs ≡ None) e d.closed) (subst (λ vs. IsStmt d.flag ts vs s) e d.fact)
+
+other_good : {ts us vs rest : List Token} {e : Expression} {s t : Statement} {w : Place × List Token} (a : Arms) → vs ≡ key keys.Else w.0 ∷ w.1 → after_key keys.If w.1 ≡ None → Tested ts e us → Stmted us s vs → Stmted w.1 t rest →
+    Branched a ts (arm_snoc a e (as_body s)) (otherwise (as_body t)) rest
+other_good {e = e} {s = s} a x n t d o =
+    rw t.starts (record { flag = o.flag; more = and_arm e (as_body s) no_arms; is = arm_append-one a e (as_body s); fact = else_arm t.test (shut_at x d) o.fact (no_choice o.fact n); closed = o.closed })
+
+again_good : {ts us vs rest : List Token} {e : Expression} {s : Statement} {w x : Place × List Token} {b : Arms} {l : Else} (a : Arms) → vs ≡ key keys.Else w.0 ∷ w.1 → w.1 ≡ key keys.If x.0 ∷ x.1 → Tested ts e us → Stmted us s vs →
+    Branched (arm_snoc a e (as_body s)) x.1 b l rest → Branched a ts b l rest
+again_good {us = us} {e = e} {s = s} {w = w} {x = x} a f g t d r =
+    let body : IsStmt false us (key keys.Else w.0 ∷ key keys.If x.0 ∷ x.1) s = subst (λ r. IsStmt false us (key keys.Else w.0 ∷ r) s) g (shut_at f d) in
+    rw t.starts (record { flag = r.flag; more = and_arm e (as_body s) r.more; is = r.is ∙ arm_append-snoc a e (as_body s) r.more; fact = more_arms t.test body r.fact; closed = r.closed })
+
+pub init_good : (ts : List Token) → Good Post (init_step ts) (Post NInit ts)
+init_good ts = option_cases (after marks.Assign ts)
+  (λ n0. rw (n0, init_step) no_init)
+  (λ w0 y0. let e0 = after_is marks.Assign ts w0 y0 in rw (y0, init_step) (λ v1 r1 d1. (rw e0 (an_init d1))))
+
+pub local_good : (ts : List Token) → Good Post (local_step ts) (Post NLocal ts)
+local_good ts = λ v0 r0 d0. (option_cases (word_next r0)
+  (λ n1. rw n1 tt)
+  (λ w1 y1. let e1 = word_is r0 w1 y1 in rw y1 (λ v2 r2 d2. (a_local (final_is ts) (rw e1 at d0) d2))))
+
+pub value_good : (ts : List Token) → Good Post (value_step ts) (Post NValue ts)
+value_good ts = option_cases (after marks.Semi ts)
+  (λ n0. rw (n0, value_step) (λ v1 r1 d1. (a_value d1)))
+  (λ w0 y0. rw (y0, value_step) no_value)
+
+pub act_good : (ts : List Token) → Good Post (act_step ts) (Post NAct ts)
+act_good ts = option_cases (stepping_next ts)
+  (λ n0. rw (n0, act_step) (λ v1 r1 d1. (λ v r d. d d1)))
+  (λ w0 y0. let e0 = stepping_is ts w0 y0 in rw (y0, act_step) (option_cases (word_next w0.2)
+    (λ n1. rw n1 tt)
+    (λ w1 y1. let e1 = word_is w0.2 w1 y1 in rw y1 (before_act e0 e1))))
+
+pub act_rest_good : (ss : List Token) (e : Expression) (z : End) (ts : List Token) → Good Post (act_rest_step ss e z ts) (Post (NActRest ss e z) ts)
+act_rest_good ss e z ts = option_cases (after marks.Assign ts)
+  (λ n0. rw (n0, act_rest_step) (option_cases (compound_next ts)
+    (λ n1. rw n1 (option_cases (stepping_next ts)
+      (λ n2. rw n2 (bool_cases (is_call z)
+        (λ y3. rw y3 (λ h. call_act h y3))
+        (λ y3. rw y3 tt)))
+      (λ w2 y2. let e2 = stepping_is ts w2 y2 in rw y2 (option_cases (named z e)
+        (λ n3. rw n3 tt)
+        (λ w3 y3. rw y3 (λ h. after_act e2 y3 h))))))
+    (λ w1 y1. let e1 = compound_is ts w1 y1 in rw y1 (option_cases (named z e)
+      (λ n2. rw n2 tt)
+      (λ w2 y2. rw y2 (λ v3 r3 d3. (λ h. compound_act e1 y2 h d3)))))))
+  (λ w0 y0. let e0 = after_is marks.Assign ts w0 y0 in rw (y0, act_rest_step) (bool_cases (is_target z)
+    (λ y1. rw y1 (λ v2 r2 d2. (λ h. assign (rw e0 at (target_of h y1)) d2)))
+    (λ y1. rw y1 tt)))
+
+pub tested_good : (ts : List Token) → Good Post (tested_step ts) (Post NTested ts)
+tested_good ts = option_cases (after marks.OpenRound ts)
+  (λ n0. rw (n0, tested_step) tt)
+  (λ w0 y0. let e0 = after_is marks.OpenRound ts w0 y0 in rw (y0, tested_step) (λ v1 r1 d1. (option_cases (after marks.CloseRound r1)
+    (λ n2. rw n2 tt)
+    (λ w2 y2. let e2 = after_is marks.CloseRound r1 w2 y2 in rw y2 (record { open_at = w0.0; close_at = w2.0; inner = w0.1; starts = e0; test = rw e2 at d1 })))))
+
+pub item_good : (ts : List Token) → Good Post (item_step ts) (Post NItem ts)
+item_good ts = bool_cases (starts_local ts)
+  (λ y0. rw (y0, item_step) (λ v1 r1 d1. (option_cases (after marks.Semi r1)
+    (λ n2. rw n2 tt)
+    (λ w2 y2. let e2 = after_is marks.Semi r1 w2 y2 in rw y2 (local_item (rw e2 at d1))))))
+  (λ y0. rw (y0, item_step) (λ v r d. stmt_item d.fact))
+
+pub items_good : (ss : Statements) (ts : List Token) → Good Post (items_step ss ts) (Post (NItems ss) ts)
+items_good ss ts = option_cases (after marks.CloseBrace ts)
+  (λ n0. rw (n0, items_step) (λ v1 r1 d1. (λ v r d. record { more = and_then v1 d.more; is = d.is ∙ stmt_append-snoc ss v1 d.more; items = next_item d1 d.items })))
+  (λ w0 y0. let e0 = after_is marks.CloseBrace ts w0 y0 in rw (y0, items_step) (record { more = no_statements; is = sym (stmt_append-none ss); items = rw e0 no_items }))
+
+pub stmt_good : (ts : List Token) → Good Post (stmt_step ts) (Post NStmt ts)
+stmt_good ts = start_cases (start ts)
+  (λ p0 us0 y0. rw (y0, stmt_step) (λ v1 r1 d1. (block_good (starts_at ts y0) d1)))
+  (λ p0 us0 y0. rw (y0, stmt_step) (rw (starts_at ts y0) (record { flag = false; fact = empty; closed = never })))
+  (λ p0 us0 y0. rw (y0, stmt_step) (λ v1 r1 d1. (choice_good (starts_at ts y0) d1)))
+  (λ p0 us0 y0. rw (y0, stmt_step) (λ v1 r1 d1. (λ v2 r2 d2. (while_good (starts_at ts y0) d1 d2))))
+  (λ p0 us0 y0. rw (y0, stmt_step) (λ v1 r1 d1. (λ v2 r2 d2. (for_good (starts_at ts y0) d1 d2))))
+  (λ p0 us0 y0. rw (y0, stmt_step) (λ v1 r1 d1. (option_cases (after marks.Semi r1)
+    (λ n2. rw n2 tt)
+    (λ w2 y2. let e2 = after_is marks.Semi r1 w2 y2 in rw y2 (rw (starts_at ts y0) (record { flag = false; fact = return_word (rw e2 at d1); closed = never }))))))
+  (λ p0 us0 y0. rw (y0, stmt_step) (option_cases (after marks.Semi us0)
+    (λ n1. rw n1 tt)
+    (λ w1 y1. let e1 = after_is marks.Semi us0 w1 y1 in rw y1 (rw (starts_at ts y0, e1) (record { flag = false; fact = break_word; closed = never })))))
+  (λ p0 us0 y0. rw (y0, stmt_step) (option_cases (after marks.Semi us0)
+    (λ n1. rw n1 tt)
+    (λ w1 y1. let e1 = after_is marks.Semi us0 w1 y1 in rw y1 (rw (starts_at ts y0, e1) (record { flag = false; fact = continue_word; closed = never })))))
+  (λ y0. rw (y0, stmt_step) (λ v1 r1 d1. (option_cases (after marks.Semi r1)
+    (λ n2. rw n2 tt)
+    (λ w2 y2. let e2 = after_is marks.Semi r1 w2 y2 in rw y2 (record { flag = false; fact = acting (rw e2 at d1); closed = never })))))
+
+pub for_head_good : (ts : List Token) → Good Post (for_head_step ts) (Post NForHead ts)
+for_head_good ts = option_cases (after marks.OpenRound ts)
+  (λ n0. rw (n0, for_head_step) tt)
+  (λ w0 y0. let e0 = after_is marks.OpenRound ts w0 y0 in rw (y0, for_head_step) (λ v1 r1 d1. (option_cases (after marks.Semi r1)
+    (λ n2. rw n2 tt)
+    (λ w2 y2. let e2 = after_is marks.Semi r1 w2 y2 in rw y2 (λ v3 r3 d3. (option_cases (after marks.Semi r3)
+      (λ n4. rw n4 tt)
+      (λ w4 y4. let e4 = after_is marks.Semi r3 w4 y4 in rw y4 (λ v5 r5 d5. (option_cases (after marks.CloseRound r5)
+        (λ n6. rw n6 tt)
+        (λ w6 y6. let e6 = after_is marks.CloseRound r5 w6 y6 in rw y6 (record { open_at = w0.0; first_at = w2.0; second_at = w4.0; close_at = w6.0; inner = w0.1; middle = w2.1; last = w4.1; starts = e0; first = rw e2 at d1; test = rw e4 at d3; step = rw e6 at d5 })))))))))))
+
+pub first_good : (ts : List Token) → Good Post (first_step ts) (Post NFirst ts)
+first_good ts = option_cases (after marks.Semi ts)
+  (λ n0. rw (n0, first_step) (bool_cases (starts_local ts)
+    (λ y1. rw y1 (λ v2 r2 d2. (first_local d2)))
+    (λ y1. rw y1 (λ v2 r2 d2. (first_act d2)))))
+  (λ w0 y0. rw (y0, first_step) no_first)
+
+pub step_good : (ts : List Token) → Good Post (step_step ts) (Post NStep ts)
+step_good ts = option_cases (after marks.CloseRound ts)
+  (λ n0. rw (n0, step_step) (λ v1 r1 d1. (a_step d1)))
+  (λ w0 y0. rw (y0, step_step) no_step)
+
+pub branches_good : (a : Arms) (ts : List Token) → Good Post (branches_step a ts) (Post (NBranches a) ts)
+branches_good a ts = λ v0 r0 d0. (λ v1 r1 d1. (option_cases (after_key keys.Else r1)
+  (λ n2. rw n2 (end_good a n2 d0 d1))
+  (λ w2 y2. let e2 = after_key_is keys.Else r1 w2 y2 in rw y2 (option_cases (after_key keys.If w2.1)
+    (λ n3. rw n3 (λ v4 r4 d4. (other_good a e2 n3 d0 d1 d4)))
+    (λ w3 y3. let e3 = after_key_is keys.If w2.1 w3 y3 in rw y3 (λ v r d. again_good a e2 e3 d0 d1 d))))))

@@ -1,0 +1,5 @@
+use Rattle.std.proofs.Common.{ℕ, length}
+use Rattle.java_parse.proofs.expr.+dims.Given as goal
+
+abbrev pub decreases-dims : goal.decreases-dims
+decreases-dims l = length l.tokens.now

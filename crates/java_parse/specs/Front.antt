@@ -1,0 +1,285 @@
+-- What stands at the front of a list of tokens.
+use Rattle.std.specs.Prelude.{◌≡◌, ℕ, zero, suc, ℤ, pos, negsuc, ◌<◌, ◌≤◌, List, [], ◌∷◌, ◌++◌, Option, Some, None, Result, Ok, Err, Bool, true, false, if◌then◌else◌, nat_le, nat_lt, ◌&&◌}
+use Rattle.kaba_base.specs.declared.Place.{Place}
+use Rattle.kaba_base.specs.declared.words.Keyword.{Keyword}
+use Rattle.kaba_base.specs.declared.words.Keyword.TheVariants as keys
+use Rattle.java_lex.specs.declared.Token.{Token}
+use Rattle.java_lex.specs.declared.TokenKind.{TokenKind}
+use Rattle.java_lex.specs.declared.TokenKind.TheVariants as kinds
+use Rattle.java_lex.specs.declared.Mark.{Mark}
+use Rattle.java_lex.specs.declared.Mark.TheVariants as marks
+use Rattle.java_tree.specs.declared.Id.{Id}
+use Rattle.java_tree.specs.declared.Modifier.{Modifier}
+use Rattle.java_tree.specs.declared.TypeBase.{TypeBase}
+use Rattle.java_tree.specs.declared.TypeBase.TheVariants as bases
+use Rattle.java_tree.specs.declared.TypeName.{TypeName}
+use Rattle.java_tree.specs.declared.Param.{Param}
+use Rattle.java_tree.specs.Syntax.{Expression, IntLit, CharLit, StrLit, BoolLit, NullLit, ThisRef, NameRef, FieldOf, IndexOf, CallOf, CallOn, SuperCallOf, NewOf, NewArrayOf, CastOf, InstanceOfClass, UnaryOf, BinaryOf, Expressions, no_more, and_more, Statement, LocalOf, BlockOf, AssignOf, DoOf, PrintOf, IfOf, WhileOf, ForOf, ReturnOf, BreakOf, ContinueOf, Statements, no_statements, and_then, Arms, no_arms, and_arm, Else, no_else, otherwise, OptionalStatement, absent, present, HeadTree, MemberTree, FieldTree, MethodTree, DeclTree, ClassTree, InterfaceTree}
+use Rattle.java_tree.specs.Tokens.{token, mark, key, word, level, is_sign, compound, stepping, is_modifier, casts, first_place}
+use Rattle.java_tree.specs.Statements.{as_body, printed}
+use Rattle.java_parse.specs.declared.End.{End}
+use Rattle.java_parse.specs.declared.End.TheVariants as ends
+use denote.Enum.Bare.{sameb}
+use Rattle.java_lex.specs.contracts.Mark.{the_type as mark_type}
+use Rattle.kaba_base.specs.contracts.words.Keyword.{the_type as key_type}
+
+-- the place of this mark and the rest, if it is next
+abbrev pub after_by : Mark → TokenKind → Place → List Token → Option (Place × List Token)
+after_by m (kinds.Mark k) p ts = if sameb mark_type k m then Some (p, ts) else None
+after_by m _ p ts = None
+
+abbrev pub after : Mark → List Token → Option (Place × List Token)
+after m [] = None
+after m (t ∷ ts) = after_by m t.kind t.place ts
+
+-- the place of this keyword and the rest
+abbrev pub after_key_by : Keyword → TokenKind → Place → List Token → Option (Place × List Token)
+after_key_by m (kinds.Key k) p ts = if sameb key_type k m then Some (p, ts) else None
+after_key_by m _ p ts = None
+
+abbrev pub after_key : Keyword → List Token → Option (Place × List Token)
+after_key m [] = None
+after_key m (t ∷ ts) = after_key_by m t.kind t.place ts
+
+-- a word, its place and the rest
+abbrev pub word_by : TokenKind → Place → List Token → Option (List ℕ × Place × List Token)
+word_by (kinds.Word n) p ts = Some (n, p, ts)
+word_by _ p ts = None
+
+abbrev pub word_next : List Token → Option (List ℕ × Place × List Token)
+word_next [] = None
+word_next (t ∷ ts) = word_by t.kind t.place ts
+
+-- a binary operator whose level is within these bounds
+abbrev pub operator_by : ℕ → ℕ → TokenKind → Place → List Token → Option (Mark × Place × List Token)
+operator_by l c (kinds.Mark m) p ts = if nat_lt 0 (level m) && (nat_le l (level m) && nat_le (level m) c) then Some (m, p, ts) else None
+operator_by l c _ p ts = None
+
+abbrev pub operator : ℕ → ℕ → List Token → Option (Mark × Place × List Token)
+operator l c [] = None
+operator l c (t ∷ ts) = operator_by l c t.kind t.place ts
+
+-- `instanceof`, where its level is within these bounds
+abbrev pub instance_next : ℕ → ℕ → List Token → Option (Place × List Token)
+instance_next l c ts = if nat_le l 7 && nat_le 7 c then after_key keys.InstanceOf ts else None
+
+-- `-` before 2147483648
+abbrev pub least_kind : TokenKind → Place → List Token → Option (Place × List Token)
+least_kind kinds.Least p ts = Some (p, ts)
+least_kind _ p ts = None
+
+abbrev pub least_by : Place → List Token → Option (Place × List Token)
+least_by p [] = None
+least_by p (t ∷ ts) = least_kind t.kind p ts
+
+abbrev pub least_next : List Token → Option (Place × List Token)
+least_next ts = elim (after marks.Minus ts) [ None ↦ None | Some a ↦ least_by a.0 a.1 ]
+
+-- a prefix operator
+abbrev pub sign_by : TokenKind → Place → List Token → Option (Mark × Place × List Token)
+sign_by (kinds.Mark m) p ts = if is_sign m then Some (m, p, ts) else None
+sign_by _ p ts = None
+
+abbrev pub sign_next : List Token → Option (Mark × Place × List Token)
+sign_next [] = None
+sign_next (t ∷ ts) = sign_by t.kind t.place ts
+
+-- a type without brackets, its place and the rest
+abbrev pub base_by : TokenKind → Place → List Token → Option (TypeBase × Place × List Token)
+base_by (kinds.Word n) p ts = Some (bases.Named n, p, ts)
+base_by (kinds.Key keys.Int) p ts = Some (bases.Int, p, ts)
+base_by (kinds.Key keys.Boolean) p ts = Some (bases.Boolean, p, ts)
+base_by (kinds.Key keys.Char) p ts = Some (bases.Char, p, ts)
+base_by _ p ts = None
+
+abbrev pub base_next : List Token → Option (TypeBase × Place × List Token)
+base_next [] = None
+base_next (t ∷ ts) = base_by t.kind t.place ts
+
+-- which types may stand in the round brackets of a cast, by what follows the bracket
+abbrev pub may_cast : TypeBase → List Token → Bool
+may_cast bases.Int ts = true
+may_cast bases.Char ts = true
+may_cast bases.Boolean ts = false
+may_cast (bases.Named n) ts = casts ts
+
+abbrev pub cast_end : TypeBase → Place → Place → Option (Place × List Token) → Option (TypeName × Place × List Token)
+cast_end b q p None = None
+cast_end b q p (Some c) = if may_cast b c.1 then Some (record { base = b; dim = 0; place = q }, p, c.1) else None
+
+abbrev pub cast_by : Place → Option (TypeBase × Place × List Token) → Option (TypeName × Place × List Token)
+cast_by p None = None
+cast_by p (Some b) = cast_end b.0 b.1 p (after marks.CloseRound b.2)
+
+-- a type in round brackets that casts what follows: the type, the place of the bracket and the rest
+abbrev pub cast_next : List Token → Option (TypeName × Place × List Token)
+cast_next ts = elim (after marks.OpenRound ts) [ None ↦ None | Some a ↦ cast_by a.0 (base_next a.1) ]
+
+-- a literal or `this`
+abbrev pub literal_by : TokenKind → Place → List Token → Option (Expression × List Token)
+literal_by (kinds.Int v) p ts = Some (IntLit v p, ts)
+literal_by (kinds.Char c) p ts = Some (CharLit c p, ts)
+literal_by (kinds.Str u) p ts = Some (StrLit u p, ts)
+literal_by (kinds.Key keys.True) p ts = Some (BoolLit true p, ts)
+literal_by (kinds.Key keys.False) p ts = Some (BoolLit false p, ts)
+literal_by (kinds.Key keys.Null) p ts = Some (NullLit p, ts)
+literal_by (kinds.Key keys.This) p ts = Some (ThisRef p, ts)
+literal_by _ p ts = None
+
+abbrev pub literal_next : List Token → Option (Expression × List Token)
+literal_next [] = None
+literal_next (t ∷ ts) = literal_by t.kind t.place ts
+
+-- an index, which no new array takes
+abbrev pub is_array : End → Bool
+is_array ends.Array = true
+is_array _ = false
+
+abbrev pub index_next : End → List Token → Option (Place × List Token)
+index_next z ts = if is_array z then None else after marks.OpenSquare ts
+
+-- one more at the end
+abbrev pub expr_snoc : Expressions → Expression → Expressions
+expr_snoc no_more e = and_more e no_more
+expr_snoc (and_more x es) e = and_more x (expr_snoc es e)
+
+abbrev pub stmt_snoc : Statements → Statement → Statements
+stmt_snoc no_statements s = and_then s no_statements
+stmt_snoc (and_then x ss) s = and_then x (stmt_snoc ss s)
+
+abbrev pub arm_snoc : Arms → Expression → Statements → Arms
+arm_snoc no_arms e ss = and_arm e ss no_arms
+arm_snoc (and_arm x b a) e ss = and_arm x b (arm_snoc a e ss)
+
+-- whether `final` is next, and what follows
+abbrev pub final_of : List Token → Bool × List Token
+final_of ts = elim (after_key keys.Final ts) [ None ↦ (false, ts) | Some a ↦ (true, a.1) ]
+
+-- the operator of a mark that `of` gives one, its place and the rest
+abbrev pub operator_of : Option Mark → Place → List Token → Option (Mark × Place × List Token)
+operator_of None p ts = None
+operator_of (Some o) p ts = Some (o, p, ts)
+
+abbrev pub stepping_by : TokenKind → Place → List Token → Option (Mark × Place × List Token)
+stepping_by (kinds.Mark m) p ts = operator_of (stepping m) p ts
+stepping_by _ p ts = None
+
+-- `++` or `--`
+abbrev pub stepping_next : List Token → Option (Mark × Place × List Token)
+stepping_next [] = None
+stepping_next (t ∷ ts) = stepping_by t.kind t.place ts
+
+abbrev pub compound_by : TokenKind → Place → List Token → Option (Mark × Place × List Token)
+compound_by (kinds.Mark m) p ts = operator_of (compound m) p ts
+compound_by _ p ts = None
+
+-- a compound assignment
+abbrev pub compound_next : List Token → Option (Mark × Place × List Token)
+compound_next [] = None
+compound_next (t ∷ ts) = compound_by t.kind t.place ts
+
+-- the name that an expression is, where it has no round brackets
+abbrev pub named : End → Expression → Option (List ℕ × Place)
+named ends.Name (NameRef n p) = Some (n, p)
+named _ _ = None
+
+abbrev pub is_target : End → Bool
+is_target ends.Name = true
+is_target ends.Target = true
+is_target _ = false
+
+abbrev pub is_call : End → Bool
+is_call ends.Call = true
+is_call ends.New = true
+is_call _ = false
+
+-- `n++`, `++n` and their like
+abbrev pub stepped : Mark → List ℕ → Place → Place → Statement
+stepped o n p q = AssignOf (NameRef n p) (BinaryOf o (NameRef n p) (IntLit (pos 1) q) q) q
+
+-- a call as a statement
+abbrev pub done_by : Place → Expression → Option (Bool × Option Expression) → Statement
+done_by p e None = DoOf e p
+done_by p e (Some x) = PrintOf x.0 x.1 p
+
+abbrev pub done : List Token → Expression → Statement
+done ts e = done_by (first_place ts) e (printed ts e)
+
+-- whether a declaration of a local begins here, rather than a statement
+abbrev pub is_close : TokenKind → Bool
+is_close (kinds.Mark marks.CloseSquare) = true
+is_close _ = false
+
+abbrev pub closes : List Token → Bool
+closes [] = false
+closes (t ∷ ts) = is_close t.kind
+
+abbrev pub behind_word : TokenKind → List Token → Bool
+behind_word (kinds.Word n) ts = true
+behind_word (kinds.Mark marks.OpenSquare) ts = closes ts
+behind_word _ ts = false
+
+abbrev pub follows_word : List Token → Bool
+follows_word [] = false
+follows_word (t ∷ ts) = behind_word t.kind ts
+
+abbrev pub local_by : TokenKind → List Token → Bool
+local_by (kinds.Word n) ts = follows_word ts
+local_by (kinds.Key keys.Final) ts = true
+local_by (kinds.Key keys.Int) ts = true
+local_by (kinds.Key keys.Boolean) ts = true
+local_by (kinds.Key keys.Char) ts = true
+local_by _ ts = false
+
+abbrev pub starts_local : List Token → Bool
+starts_local [] = false
+starts_local (t ∷ ts) = local_by t.kind ts
+
+-- how a statement begins
+pub data Start : Type 0 where
+  SBlock : Place → List Token → Start
+  SEmpty : Place → List Token → Start
+  SIf : Place → List Token → Start
+  SWhile : Place → List Token → Start
+  SFor : Place → List Token → Start
+  SReturn : Place → List Token → Start
+  SBreak : Place → List Token → Start
+  SContinue : Place → List Token → Start
+  SOther : Start
+
+abbrev pub start_by : TokenKind → Place → List Token → Start
+start_by (kinds.Mark marks.OpenBrace) p ts = SBlock p ts
+start_by (kinds.Mark marks.Semi) p ts = SEmpty p ts
+start_by (kinds.Key keys.If) p ts = SIf p ts
+start_by (kinds.Key keys.While) p ts = SWhile p ts
+start_by (kinds.Key keys.For) p ts = SFor p ts
+start_by (kinds.Key keys.Return) p ts = SReturn p ts
+start_by (kinds.Key keys.Break) p ts = SBreak p ts
+start_by (kinds.Key keys.Continue) p ts = SContinue p ts
+start_by _ p ts = SOther
+
+abbrev pub start : List Token → Start
+start [] = SOther
+start (t ∷ ts) = start_by t.kind t.place ts
+
+-- a modifier and the rest
+abbrev pub modifier_by : TokenKind → Place → List Token → Option (Modifier × List Token)
+modifier_by (kinds.Key k) p ts = if is_modifier k then Some (record { word = k; place = p }, ts) else None
+modifier_by _ p ts = None
+
+abbrev pub modifier_next : List Token → Option (Modifier × List Token)
+modifier_next [] = None
+modifier_next (t ∷ ts) = modifier_by t.kind t.place ts
+
+-- a name with its place, and the rest
+abbrev pub id_by : TokenKind → Place → List Token → Option (Id × List Token)
+id_by (kinds.Word n) p ts = Some (record { name = n; place = p }, ts)
+id_by _ p ts = None
+
+abbrev pub id_next : List Token → Option (Id × List Token)
+id_next [] = None
+id_next (t ∷ ts) = id_by t.kind t.place ts
+
+abbrev pub at_end : List Token → Bool
+at_end [] = true
+at_end (t ∷ ts) = false

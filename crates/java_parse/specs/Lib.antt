@@ -1,0 +1,10 @@
+pub mod Front
+pub mod Want
+pub mod ReadExpressions
+pub mod ReadStatements
+pub mod ReadDeclarations
+pub mod Reading
+pub mod Seen
+pub mod Prints
+pub mod Stacks
+pub mod Faults

@@ -1,0 +1,102 @@
+-- Readings: what a part comes to from a list of tokens.
+use Rattle.std.specs.Prelude.{◌≡◌, ℕ, zero, suc, ℤ, pos, negsuc, ◌<◌, ◌≤◌, List, [], ◌∷◌, ◌++◌, Option, Some, None, Result, Ok, Err, Bool, true, false, if◌then◌else◌, nat_le, nat_lt, ◌&&◌}
+use Rattle.kaba_base.specs.declared.Place.{Place}
+use Rattle.kaba_base.specs.declared.words.Keyword.{Keyword}
+use Rattle.kaba_base.specs.declared.words.Keyword.TheVariants as keys
+use Rattle.java_lex.specs.declared.Token.{Token}
+use Rattle.java_lex.specs.declared.TokenKind.{TokenKind}
+use Rattle.java_lex.specs.declared.TokenKind.TheVariants as kinds
+use Rattle.java_lex.specs.declared.Mark.{Mark}
+use Rattle.java_lex.specs.declared.Mark.TheVariants as marks
+use Rattle.java_tree.specs.declared.Id.{Id}
+use Rattle.java_tree.specs.declared.Modifier.{Modifier}
+use Rattle.java_tree.specs.declared.TypeBase.{TypeBase}
+use Rattle.java_tree.specs.declared.TypeBase.TheVariants as bases
+use Rattle.java_tree.specs.declared.TypeName.{TypeName}
+use Rattle.java_tree.specs.declared.Param.{Param}
+use Rattle.java_tree.specs.Syntax.{Expression, IntLit, CharLit, StrLit, BoolLit, NullLit, ThisRef, NameRef, FieldOf, IndexOf, CallOf, CallOn, SuperCallOf, NewOf, NewArrayOf, CastOf, InstanceOfClass, UnaryOf, BinaryOf, Expressions, no_more, and_more, Statement, LocalOf, BlockOf, AssignOf, DoOf, PrintOf, IfOf, WhileOf, ForOf, ReturnOf, BreakOf, ContinueOf, Statements, no_statements, and_then, Arms, no_arms, and_arm, Else, no_else, otherwise, OptionalStatement, absent, present, HeadTree, MemberTree, FieldTree, MethodTree, DeclTree, ClassTree, InterfaceTree}
+use Rattle.java_tree.specs.Tokens.{token, mark, key, word, level, is_sign, compound, stepping, is_modifier, casts, first_place}
+use Rattle.java_tree.specs.Statements.{as_body, printed}
+use Rattle.java_parse.specs.declared.End.{End}
+use Rattle.java_parse.specs.declared.End.TheVariants as ends
+use Rattle.java_parse.specs.Want.{Want, NExpr, NMore, NPrefixed, NPost, NAtom, NSuper, NNew, NSized, NDims, NType, NTail, NArgs, NMoreArgs, NInit, NLocal, NValue, NAct, NActRest, NTested, NItem, NItems, NStmt, NForHead, NFirst, NStep, NBranches, NMods, NIds, NParent, NList, NParam, NParams, NMoreParams, NResult, NHead, NBody, NMember, NMethod, NMembers, NHeads, NClass, NInterface, NDecl, NDecls, Val, Step, Give, Fail, Ask}
+use Rattle.java_parse.specs.Front.{after, after_key, word_next, operator, instance_next, least_next, sign_next, cast_next, base_next, literal_next, index_next, expr_snoc, stmt_snoc, arm_snoc, final_of, stepping_next, compound_next, named, is_target, is_call, stepped, done, starts_local, Start, start, SBlock, SEmpty, SIf, SWhile, SFor, SReturn, SBreak, SContinue, SOther, modifier_next, id_next, at_end}
+use Rattle.java_parse.specs.ReadExpressions.{expr_step, more_step, prefixed_step, post_step, atom_step, super_step, new_step, sized_step, dims_step, type_step, tail_step, args_step, more_args_step}
+use Rattle.java_parse.specs.ReadStatements.{init_step, local_step, value_step, act_step, act_rest_step, tested_step, item_step, items_step, stmt_step, for_head_step, first_step, step_step, branches_step}
+use Rattle.java_parse.specs.ReadDeclarations.{mods_step, ids_step, parent_step, list_step, param_step, params_step, more_params_step, result_type_step, head_step, body_step, member_step, method_step, members_step, heads_step, class_step, interface_step, decl_step, decls_step}
+
+-- how a part is read
+abbrev pub body : (n : Want) → List Token → Step (Val n)
+body (NExpr l) ts = expr_step l ts
+body (NMore l c e) ts = more_step l c e ts
+body NPrefixed ts = prefixed_step ts
+body NPost ts = post_step ts
+body NAtom ts = atom_step ts
+body NSuper ts = super_step ts
+body (NNew p) ts = new_step p ts
+body (NSized p b q) ts = sized_step p b q ts
+body (NDims d) ts = dims_step d ts
+body NType ts = type_step ts
+body (NTail e z) ts = tail_step e z ts
+body NArgs ts = args_step ts
+body (NMoreArgs es) ts = more_args_step es ts
+body NInit ts = init_step ts
+body NLocal ts = local_step ts
+body NValue ts = value_step ts
+body NAct ts = act_step ts
+body (NActRest ss e z) ts = act_rest_step ss e z ts
+body NTested ts = tested_step ts
+body NItem ts = item_step ts
+body (NItems ss) ts = items_step ss ts
+body NStmt ts = stmt_step ts
+body NForHead ts = for_head_step ts
+body NFirst ts = first_step ts
+body NStep ts = step_step ts
+body (NBranches a) ts = branches_step a ts
+body (NMods ms) ts = mods_step ms ts
+body (NIds is) ts = ids_step is ts
+body NParent ts = parent_step ts
+body (NList k) ts = list_step k ts
+body NParam ts = param_step ts
+body NParams ts = params_step ts
+body (NMoreParams qs) ts = more_params_step qs ts
+body NResult ts = result_type_step ts
+body NHead ts = head_step ts
+body NBody ts = body_step ts
+body NMember ts = member_step ts
+body (NMethod ms t n p) ts = method_step ms t n p ts
+body (NMembers bs) ts = members_step bs ts
+body (NHeads hs) ts = heads_step hs ts
+body (NClass ms) ts = class_step ms ts
+body (NInterface ms) ts = interface_step ms ts
+body NDecl ts = decl_step ts
+body (NDecls ds) ts = decls_step ds ts
+
+-- why nothing was read: the tokens from the first that cannot stand there, or no memory
+pub data Fault : Type 0 where
+  Left : List Token → Fault
+  NoMemory : Fault
+
+-- what reading comes to: a tree and the tokens behind it, or a fault
+abbrev pub Outcome : Type 0 → Type 0
+Outcome A = Result (A × List Token) Fault
+
+-- a reading comes to an outcome; want of memory may come anywhere
+pub data Runs : (m : Want) → Step (Val m) → Outcome (Val m) → Type 0 where
+  give : {m : Want} {v : Val m} {rest : List Token} → Runs m (Give v rest) (Ok (v, rest))
+  fail : {m : Want} {rest : List Token} → Runs m (Fail rest) (Err (Left rest))
+  short : {m : Want} {s : Step (Val m)} → Runs m s (Err NoMemory)
+  ask : {m n : Want} {ts rest : List Token} {v : Val n} {k : Val n → List Token → Step (Val m)} {o : Outcome (Val m)} →
+      Runs n (body n ts) (Ok (v, rest)) → Runs m (k v rest) o → Runs m (Ask n ts k) o
+  ask_fails : {m n : Want} {ts : List Token} {k : Val n → List Token → Step (Val m)} {f : Fault} →
+      Runs n (body n ts) (Err f) → Runs m (Ask n ts k) (Err f)
+
+-- the program may run out of memory anywhere
+abbrev pub Told : (n : Want) → List Token → Outcome (Val n) → Type 0
+Told n ts (Ok x) = Runs n (body n ts) (Ok x)
+Told n ts (Err (Left rest)) = Runs n (body n ts) (Err (Left rest))
+Told n ts (Err NoMemory) = Unit {0}
+
+-- a part is read from these tokens with this outcome
+pub record Reads (n : Want) (ts : List Token) (o : Outcome (Val n)) : Type 0 where
+  pub runs : Told n ts o

@@ -1,0 +1,67 @@
+-- What the parser's functions give, as plain data.
+use Rattle.std.specs.Prelude.{ℕ, List, Bool, Option, Some, None, Result, Ok, Err}
+use Rattle.std.specs.Borrow.{Bor}
+use Rattle.std.specs.declared.vec.Vec.{Vec}
+use Rattle.std.specs.declared.alloc.Global.{Global}
+use Rattle.kaba_base.specs.declared.Place.{Place}
+use Rattle.java_lex.specs.declared.Token.{Token}
+use Rattle.java_lex.specs.declared.Mark.{Mark}
+use Rattle.java_tree.specs.declared.Expr.{Expr}
+use Rattle.java_tree.specs.declared.Stmt.{Stmt}
+use Rattle.java_tree.specs.declared.Arm.{Arm}
+use Rattle.java_tree.specs.Syntax.{Expression, Expressions, Statements, Arms, Else, OptionalStatement, expr_of, exprs, stmts, arms_seen, else_seen, value_of, step_seen, body_seen}
+use Rattle.java_parse.specs.declared.End.{End}
+use Rattle.java_parse.specs.declared.Stop.{Stop}
+use Rattle.java_parse.specs.declared.Stop.TheVariants as stops
+use Rattle.java_parse.specs.declared.front.Begin.{Begin}
+use Rattle.java_parse.specs.declared.front.Begin.TheVariants as begins
+use Rattle.java_parse.specs.Front.{Start, SBlock, SEmpty, SIf, SWhile, SFor, SReturn, SBreak, SContinue, SOther}
+use Rattle.java_parse.specs.Reading.{Fault, Left, NoMemory, Outcome}
+
+abbrev pub fault_of : Stop → Fault
+fault_of stops.Memory = NoMemory
+fault_of (stops.At ts) = Left ts.now
+
+-- a result as an outcome
+abbrev pub seen : {X A : Type 0} → (X → A) → Result (X × Bor (List Token)) Stop → Outcome A
+seen view (Ok x) = Ok (view x.0, x.1.now)
+seen view (Err e) = Err (fault_of e)
+
+-- what a test of the front found, without where it lies
+abbrev pub seen_at : Place × Bor (List Token) → Place × List Token
+seen_at (p, ts) = (p, ts.now)
+
+abbrev pub seen_two : {A : Type 0} → A × Place × Bor (List Token) → A × Place × List Token
+seen_two (m, p, ts) = (m, p, ts.now)
+
+abbrev pub seen_word : Bor (List ℕ) × Place × Bor (List Token) → List ℕ × Place × List Token
+seen_word (n, p, ts) = (n.now, p, ts.now)
+
+abbrev pub seen_one : {A : Type 0} → A × Bor (List Token) → A × List Token
+seen_one (m, ts) = (m, ts.now)
+
+abbrev pub seen_literal : Expr × Bor (List Token) → Expression × List Token
+seen_literal (e, ts) = (expr_of e, ts.now)
+
+abbrev pub seen_name : Bor (List ℕ) × Place → List ℕ × Place
+seen_name (n, p) = (n.now, p)
+
+abbrev pub seen_post : Expr × End → Expression × End
+seen_post (e, z) = (expr_of e, z)
+
+abbrev pub seen_branches : Vec Arm Global × Option (Vec Stmt Global) → Arms × Else
+seen_branches (a, o) = (arms_seen a.items, else_seen o)
+
+abbrev pub seen_steps : Option Stmt × Option Expr × Option Stmt → OptionalStatement × Option Expression × OptionalStatement
+seen_steps (f, v, g) = (step_seen f, value_of v, step_seen g)
+
+abbrev pub start_seen : Begin → Start
+start_seen (begins.Block p ts) = SBlock p ts.now
+start_seen (begins.Empty p ts) = SEmpty p ts.now
+start_seen (begins.If p ts) = SIf p ts.now
+start_seen (begins.While p ts) = SWhile p ts.now
+start_seen (begins.For p ts) = SFor p ts.now
+start_seen (begins.Return p ts) = SReturn p ts.now
+start_seen (begins.Break p ts) = SBreak p ts.now
+start_seen (begins.Continue p ts) = SContinue p ts.now
+start_seen begins.Other = SOther

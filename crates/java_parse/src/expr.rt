@@ -1,0 +1,279 @@
+//! Types and expressions.
+#![tactic(auto, using(crate::proofs::ExpressionSteps::expression_steps))]
+
+ghost use Rattle.std.specs.Prelude.{◌≡◌, ◌+◌, ◌^◌, ◌<◌, ◌≤◌, length, IfOk};
+ghost use Rattle.std.specs.declared.vec.Vec.{Vec};
+ghost use Rattle.std.specs.declared.alloc.Global.{Global};
+ghost use Rattle.java_tree.specs.declared.Expr.{Expr};
+ghost use Rattle.java_tree.specs.declared.TypeName.{TypeName};
+ghost use Rattle.java_tree.specs.Syntax.{expr_of, exprs};
+ghost use Rattle.java_parse.specs.Want.{NExpr, NMore, NPrefixed, NPost, NAtom, NSuper, NNew, NSized, NDims, NType, NTail, NArgs};
+ghost use Rattle.java_parse.specs.Reading.{Reads};
+ghost use Rattle.java_parse.specs.Seen.{seen, seen_post};
+
+use crate::front::{
+    base_at, cast_at, index_at, instance_at, least_at, level_of, literal_at, key_at, mark_at, operator_at, sign_at,
+    word_at,
+};
+use crate::{End, Stop};
+use java_lex::{Mark, Token};
+use java_tree::build::{
+    binary, call, call_on, cast, field, index, instance_of, new_array, new_object, super_call, unary,
+};
+use java_tree::{Expr, Id, TypeBase, TypeName};
+use kaba_base::{Keyword, Place};
+use std::alloc::Global;
+
+// The pairs of square brackets at the front, counted from `first` on.
+#[tactic(auto, using(crate::proofs::ExpressionSteps::expression_steps))]
+#[cycle(dims)]
+fn dims(first: u32, tokens: &[Token]) -> Result<(u32, &[Token]), Stop<'_>>
+    requires { first + length tokens.now < 2 ^ 32 }
+    ensures reads { Reads (NDims first) tokens.now (seen (λ (d : _). d) result) }
+    ensures shorter { IfOk result (λ x. length x.1.now ≤ length tokens.now) }
+{
+    let Some((_, inner)) = mark_at(Mark::OpenSquare, tokens) else {
+        return Ok((first, tokens));
+    };
+    let Some((_, rest)) = mark_at(Mark::CloseSquare, inner) else {
+        return Err(Stop::At(inner));
+    };
+    dims(first + 1, rest)
+}
+
+/// The type at the front.
+pub fn type_at(alloc: Global, tokens: &[Token]) -> Result<(TypeName, &[Token]), Stop<'_>>
+    requires { length tokens.now < 2 ^ 32 }
+    ensures reads { Reads NType tokens.now (seen (λ (t : TypeName). t) result) }
+    ensures shorter { IfOk result (λ x. length x.1.now < length tokens.now) }
+{
+    let Some((base, place, rest)) = base_at(alloc, tokens)? else {
+        return Err(Stop::At(tokens));
+    };
+    let (dim, rest) = dims(0, rest)?;
+    Ok((TypeName { base, dim, place }, rest))
+}
+
+/// The expression at the front whose operators bind at least so tightly.
+#[cycle(reading)]
+pub fn expr(alloc: Global, at_least: u32, tokens: &[Token]) -> Result<(Expr, &[Token]), Stop<'_>>
+    requires level { at_least ≤ 11 }
+    requires room { length tokens.now < 2 ^ 32 }
+    ensures reads { Reads (NExpr at_least) tokens.now (seen expr_of result) }
+    ensures shorter { IfOk result (λ x. length x.1.now < length tokens.now) }
+{
+    let (first, rest) = prefixed(alloc, tokens)?;
+    more(alloc, at_least, 11, first, rest)
+}
+
+// What follows an expression whose operators bind at least so tightly: operators within these bounds.
+#[cycle(reading)]
+fn more(alloc: Global, at_least: u32, at_most: u32, left: Expr, tokens: &[Token]) -> Result<(Expr, &[Token]), Stop<'_>>
+    requires level { at_least ≤ 11 }
+    requires room { length tokens.now < 2 ^ 32 }
+    ensures reads { Reads (NMore at_least at_most (expr_of left)) tokens.now (seen expr_of result) }
+    ensures shorter { IfOk result (λ x. length x.1.now ≤ length tokens.now) }
+{
+    if let Some((mark, place, rest)) = operator_at(at_least, at_most, tokens) {
+        let level = level_of(mark);
+        let (right, rest) = expr(alloc, level + 1, rest)?;
+        let whole = binary(alloc, mark, left, right, place)?;
+        return more(alloc, at_least, level, whole, rest);
+    }
+    let Some((place, rest)) = instance_at(at_least, at_most, tokens) else {
+        return Ok((left, tokens));
+    };
+    let Some((found, at, rest)) = word_at(rest) else {
+        return Err(Stop::At(rest));
+    };
+    let name = found.copy(alloc)?;
+    let whole = instance_of(alloc, left, Id { name, place: at }, place)?;
+    more(alloc, at_least, 7, whole, rest)
+}
+
+#[cycle(reading)]
+fn prefixed(alloc: Global, tokens: &[Token]) -> Result<(Expr, &[Token]), Stop<'_>>
+    requires room { length tokens.now < 2 ^ 32 }
+    ensures reads { Reads NPrefixed tokens.now (seen expr_of result) }
+    ensures shorter { IfOk result (λ x. length x.1.now < length tokens.now) }
+{
+    if let Some((place, rest)) = least_at(tokens) {
+        return Ok((Expr::Int { value: i32::MIN, place }, rest));
+    }
+    if let Some((mark, place, rest)) = sign_at(tokens) {
+        let (value, rest) = prefixed(alloc, rest)?;
+        let whole = unary(alloc, mark, value, place)?;
+        return Ok((whole, rest));
+    }
+    if let Some((ty, place, rest)) = cast_at(alloc, tokens)? {
+        let (value, rest) = prefixed(alloc, rest)?;
+        let whole = cast(alloc, ty, value, place)?;
+        return Ok((whole, rest));
+    }
+    let ((whole, _), rest) = post(alloc, tokens)?;
+    Ok((whole, rest))
+}
+
+/// The expression without operators at the front, and how it ends.
+#[cycle(reading)]
+pub fn post(alloc: Global, tokens: &[Token]) -> Result<((Expr, End), &[Token]), Stop<'_>>
+    requires room { length tokens.now < 2 ^ 32 }
+    ensures reads { Reads NPost tokens.now (seen seen_post result) }
+    ensures shorter { IfOk result (λ x. length x.1.now < length tokens.now) }
+{
+    let ((first, end), rest) = atom(alloc, tokens)?;
+    tail(alloc, first, end, rest)
+}
+
+#[cycle(reading)]
+fn atom(alloc: Global, tokens: &[Token]) -> Result<((Expr, End), &[Token]), Stop<'_>>
+    requires room { length tokens.now < 2 ^ 32 }
+    ensures reads { Reads NAtom tokens.now (seen seen_post result) }
+    ensures shorter { IfOk result (λ x. length x.1.now < length tokens.now) }
+{
+    if let Some((whole, rest)) = literal_at(alloc, tokens)? {
+        return Ok(((whole, End::Other), rest));
+    }
+    if let Some((found, place, rest)) = word_at(tokens) {
+        let name = found.copy(alloc)?;
+        let Some((_, inner)) = mark_at(Mark::OpenRound, rest) else {
+            return Ok(((Expr::Name { name, place }, End::Name), rest));
+        };
+        let (args, rest) = args(alloc, inner)?;
+        return Ok(((call(name, args, place), End::Call), rest));
+    }
+    if let Some((_, inner)) = mark_at(Mark::OpenRound, tokens) {
+        let (whole, behind) = expr(alloc, 1, inner)?;
+        let Some((_, rest)) = mark_at(Mark::CloseRound, behind) else {
+            return Err(Stop::At(behind));
+        };
+        return Ok(((whole, End::Other), rest));
+    }
+    if let Some((place, rest)) = key_at(Keyword::New, tokens) {
+        return created(alloc, place, rest);
+    }
+    let Some((_, rest)) = key_at(Keyword::Super, tokens) else {
+        return Err(Stop::At(tokens));
+    };
+    above(alloc, rest)
+}
+
+// What follows `super`.
+#[cycle(reading)]
+fn above(alloc: Global, tokens: &[Token]) -> Result<((Expr, End), &[Token]), Stop<'_>>
+    requires room { length tokens.now < 2 ^ 32 }
+    ensures reads { Reads NSuper tokens.now (seen seen_post result) }
+    ensures shorter { IfOk result (λ x. length x.1.now < length tokens.now) }
+{
+    let Some((_, dotted)) = mark_at(Mark::Dot, tokens) else {
+        return Err(Stop::At(tokens));
+    };
+    let Some((found, place, behind)) = word_at(dotted) else {
+        return Err(Stop::At(dotted));
+    };
+    let Some((_, inner)) = mark_at(Mark::OpenRound, behind) else {
+        return Err(Stop::At(behind));
+    };
+    let (args, rest) = args(alloc, inner)?;
+    let name = found.copy(alloc)?;
+    Ok(((super_call(name, args, place), End::Call), rest))
+}
+
+// What follows `new`, which stands at this place.
+#[cycle(reading)]
+fn created(alloc: Global, place: Place, tokens: &[Token]) -> Result<((Expr, End), &[Token]), Stop<'_>>
+    requires room { length tokens.now < 2 ^ 32 }
+    ensures reads { Reads (NNew place) tokens.now (seen seen_post result) }
+    ensures shorter { IfOk result (λ x. length x.1.now < length tokens.now) }
+{
+    let Some((found, at, behind)) = word_at(tokens) else {
+        let Some((base, at, rest)) = base_at(alloc, tokens)? else {
+            return Err(Stop::At(tokens));
+        };
+        return sized(alloc, place, base, at, rest);
+    };
+    let name = found.copy(alloc)?;
+    let Some((_, inner)) = mark_at(Mark::OpenRound, behind) else {
+        return sized(alloc, place, TypeBase::Named(name), at, behind);
+    };
+    let (args, rest) = args(alloc, inner)?;
+    let class = Id { name, place: at };
+    Ok(((new_object(class, args, place), End::New), rest))
+}
+
+// The size and the further brackets of a new array.
+#[cycle(reading)]
+fn sized(alloc: Global, place: Place, base: TypeBase, at: Place, tokens: &[Token]) -> Result<((Expr, End), &[Token]), Stop<'_>>
+    requires room { length tokens.now < 2 ^ 32 }
+    ensures reads { Reads (NSized place base at) tokens.now (seen seen_post result) }
+    ensures shorter { IfOk result (λ x. length x.1.now < length tokens.now) }
+{
+    let Some((_, inner)) = mark_at(Mark::OpenSquare, tokens) else {
+        return Err(Stop::At(tokens));
+    };
+    let (size, behind) = expr(alloc, 1, inner)?;
+    let Some((_, rest)) = mark_at(Mark::CloseSquare, behind) else {
+        return Err(Stop::At(behind));
+    };
+    let (dim, rest) = dims(1, rest)?;
+    let ty = TypeName { base, dim, place: at };
+    let whole = new_array(alloc, ty, size, place)?;
+    Ok(((whole, End::Array), rest))
+}
+
+// What follows an expression without operators: fields, calls and indices.
+#[cycle(reading)]
+fn tail(alloc: Global, base: Expr, end: End, tokens: &[Token]) -> Result<((Expr, End), &[Token]), Stop<'_>>
+    requires room { length tokens.now < 2 ^ 32 }
+    ensures reads { Reads (NTail (expr_of base) end) tokens.now (seen seen_post result) }
+    ensures shorter { IfOk result (λ x. length x.1.now ≤ length tokens.now) }
+{
+    if let Some((_, dotted)) = mark_at(Mark::Dot, tokens) {
+        let Some((found, place, behind)) = word_at(dotted) else {
+            return Err(Stop::At(dotted));
+        };
+        let name = found.copy(alloc)?;
+        let Some((_, inner)) = mark_at(Mark::OpenRound, behind) else {
+            let whole = field(alloc, base, name, place)?;
+            return tail(alloc, whole, End::Target, behind);
+        };
+        let (args, rest) = args(alloc, inner)?;
+        let whole = call_on(alloc, base, name, args, place)?;
+        return tail(alloc, whole, End::Call, rest);
+    }
+    let Some((place, inner)) = index_at(end, tokens) else {
+        return Ok(((base, end), tokens));
+    };
+    let (at, behind) = expr(alloc, 1, inner)?;
+    let Some((_, rest)) = mark_at(Mark::CloseSquare, behind) else {
+        return Err(Stop::At(behind));
+    };
+    let whole = index(alloc, base, at, place)?;
+    tail(alloc, whole, End::Target, rest)
+}
+
+/// The arguments behind an opening bracket, and what follows the closing one.
+#[cycle(reading)]
+pub fn args(alloc: Global, tokens: &[Token]) -> Result<(Vec<Expr>, &[Token]), Stop<'_>>
+    requires room { length tokens.now < 2 ^ 32 }
+    ensures reads { Reads NArgs tokens.now (seen (λ (v : Vec Expr Global). exprs v.items) result) }
+    ensures shorter { IfOk result (λ x. length x.1.now < length tokens.now) }
+{
+    let mut all = Vec::new(alloc);
+    if let Some((_, rest)) = mark_at(Mark::CloseRound, tokens) {
+        return Ok((all, rest));
+    }
+    let (first, mut rest) = expr(alloc, 1, tokens)?;
+    all.push(first)?;
+    'more: loop {
+        if let Some((_, end)) = mark_at(Mark::CloseRound, rest) {
+            return Ok((all, end));
+        }
+        let Some((_, comma)) = mark_at(Mark::Comma, rest) else {
+            return Err(Stop::At(rest));
+        };
+        let (next, after) = expr(alloc, 1, comma)?;
+        all.push(next)?;
+        rest = after;
+    }
+}

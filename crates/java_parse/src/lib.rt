@@ -1,0 +1,115 @@
+//! The parser: from tokens to the tree that the grammar gives them.
+#![tactic(auto)]
+
+ghost use Rattle.std.specs.Prelude.{◌≡◌, ◌<◌, ◌≤◌, ◌*◌, ℕ, List, length, IfOk, IfErr, IsErrAnd};
+ghost use Rattle.java_lex.specs.declared.Token.{Token};
+ghost use Rattle.java_tree.specs.Syntax.{DeclTree, tree_of};
+ghost use Rattle.java_tree.specs.Places.{unplaced};
+ghost use Rattle.java_tree.specs.Size.{tree_size};
+ghost use Rattle.java_tree.specs.Declarations.{IsPlaced, Derives};
+ghost use Rattle.java_tree.specs.Nesting.{nesting_of, IsTooDeep};
+ghost use Rattle.java_parse.specs.Faults.{IsCause, IsDeepAt, IsRefusal, IsShort};
+
+mod acts;
+mod decl;
+mod expr;
+mod front;
+mod nest;
+mod stmt;
+
+use java_lex::Token;
+use decl::all_decls;
+use java_tree::Tree;
+use nest::first_deep;
+use std::alloc::{AllocError, AllocFailed, Global};
+use thiserror::Error;
+
+/// How an expression ends, where that decides what may follow it.
+#[derive(Clone, Copy, Debug, PartialEq, Eq)]
+pub enum End {
+    Name,
+    Target,
+    Call,
+    New,
+    Array,
+    Other,
+}
+
+/// Why reading stopped: no memory, or the tokens from the first that cannot stand there.
+#[derive(Drop)]
+pub enum Stop<'a> {
+    Memory,
+    At(&'a [Token]),
+}
+
+impl<'a> From<AllocError> for Stop<'a> {
+    ghost use Rattle.std.specs.Prelude.{◌≡◌};
+    ghost use Rattle.java_parse.specs.declared.Stop.TheVariants.{Memory};
+
+    ghost from_gives = { λ _ e. e ≡ Memory };
+
+    fn from(_error: AllocError) -> Stop<'a> {
+        Stop::Memory
+    }
+}
+
+impl<'a, T: Drop> From<AllocFailed<T>> for Stop<'a> {
+    ghost use Rattle.std.specs.Prelude.{◌≡◌};
+    ghost use Rattle.java_parse.specs.declared.Stop.TheVariants.{Memory};
+
+    ghost from_gives = { λ _ e. e ≡ Memory };
+
+    fn from(_error: AllocFailed<T>) -> Stop<'a> {
+        Stop::Memory
+    }
+}
+
+/// Why a list of tokens has no tree.
+#[derive(Clone, Copy, Debug, PartialEq, Eq, Error)]
+pub enum ParseFault {
+    /// The tokens are no program of the grammar. The number is one from 0 to their count.
+    #[error("not a program")]
+    NotAProgram(u32),
+    /// After this token, counted from 0, the nesting stack first holds more than 128 entries.
+    #[error("nested too deep")]
+    TooDeep(u32),
+    /// Memory is short.
+    #[error("out of memory")]
+    Memory,
+}
+
+/// The tree of a list of tokens, with its places (Java Language Specification, chapters 8 to 15,
+/// the subset's part).
+///
+/// `TooDeep(k)` comes exactly where the nesting stack holds more than 128 entries after token `k`,
+/// `k` the least; otherwise `NotAProgram` exactly where no tree derives the tokens. Only `Memory`
+/// may come at any time.
+pub fn parse(alloc: Global, tokens: &Vec<Token>) -> Result<Tree, ParseFault>
+    requires room { length tokens.now.items < 4294967295 }
+    ensures found { IfOk result (λ tree. IsPlaced tokens.now.items (tree_of tree)) }
+    ensures nested { IfOk result (λ tree. nesting_of tokens.now.items ≤ 128) }
+    ensures small { IfOk result (λ tree. tree_size (tree_of tree) ≤ 4 * length tokens.now.items) }
+    ensures refused { IfErr result (λ fault. IsCause tokens.now.items fault) }
+    ensures deep { (k : ℕ) → IsTooDeep tokens.now.items k → IsErrAnd result (IsDeepAt k) }
+    ensures none { nesting_of tokens.now.items ≤ 128 → ((tree : List DeclTree) → Derives tokens.now.items tree → ⊥) → IsErrAnd result IsRefusal }
+    ensures accepted { nesting_of tokens.now.items ≤ 128 → (tree : List DeclTree) → Derives tokens.now.items tree → IfErr result IsShort }
+{
+    let all = tokens.as_slice();
+    let Ok(deep) = first_deep(alloc, all) else {
+        return Err(ParseFault::Memory);
+    };
+    if let Some(k) = deep {
+        return Err(ParseFault::TooDeep(k));
+    }
+    match all_decls(alloc, all) {
+        Ok((decls, _)) => Ok(Tree { decls }),
+        Err(Stop::Memory) => Err(ParseFault::Memory),
+        Err(Stop::At(rest)) => Err(ParseFault::NotAProgram(all.len().saturating_sub(rest.len()) as u32)),
+    }
+}
+
+/// A list of tokens has at most one tree, places aside.
+pub fn one_tree()
+    ensures value { (tokens : List Token) (a b : List DeclTree) → Derives tokens a → Derives tokens b → unplaced a ≡ unplaced b }
+{
+}

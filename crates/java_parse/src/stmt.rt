@@ -1,0 +1,359 @@
+//! Statements.
+#![tactic(auto, using(crate::proofs::StatementSteps::statement_steps))]
+
+ghost use Rattle.std.specs.Prelude.{◌≡◌, ◌+◌, ◌^◌, ◌<◌, ◌≤◌, length, IfOk, List};
+ghost use Rattle.std.specs.declared.vec.Vec.{Vec};
+ghost use Rattle.std.specs.declared.alloc.Global.{Global};
+ghost use Rattle.java_lex.specs.declared.Token.{Token};
+ghost use Rattle.java_tree.specs.declared.Stmt.{Stmt};
+ghost use Rattle.java_tree.specs.Syntax.{expr_of, stmt_of, stmts, value_of, step_seen, no_statements, no_arms};
+ghost use Rattle.java_tree.specs.Statements.{as_body};
+ghost use Rattle.java_parse.specs.Front.{done, stepped};
+ghost use Rattle.java_parse.specs.Want.{NInit, NLocal, NValue, NAct, NActRest, NTested, NItem, NItems, NStmt, NForHead, NFirst, NStep, NBranches};
+ghost use Rattle.java_parse.specs.Reading.{Reads};
+ghost use Rattle.java_parse.specs.Seen.{seen, seen_branches, seen_steps};
+
+use crate::acts::{calls, finished, steps_of, targets};
+use crate::expr::{expr, post, type_at};
+use crate::front::{
+    Begin, begin_of, begins_local, compound_at, final_at, key_at, mark_at, named_by, stepping_at, word_at,
+};
+use crate::{End, Stop};
+use java_lex::{Mark, Token};
+use java_tree::build::{binary, block, choice, for_loop, while_loop};
+use java_tree::{Arm, Expr, Stmt};
+use kaba_base::Keyword;
+use std::alloc::{AllocError, Global};
+
+// A block gives its list, another statement is a list of one.
+fn body_of(alloc: Global, stmt: Stmt) -> Result<Vec<Stmt>, AllocError>
+    ensures value { IfOk result (λ v. stmts v.items ≡ as_body (stmt_of stmt)) }
+{
+    match stmt {
+        Stmt::Block { items, .. } => Ok(items),
+        other => {
+            let mut all = Vec::new(alloc);
+            all.push(other)?;
+            Ok(all)
+        }
+    }
+}
+
+// The value behind an `=`, if that is next.
+fn init(alloc: Global, tokens: &[Token]) -> Result<(Option<Expr>, &[Token]), Stop<'_>>
+    requires room { length tokens.now < 2 ^ 32 }
+    ensures reads { Reads NInit tokens.now (seen value_of result) }
+    ensures shorter { IfOk result (λ x. length x.1.now ≤ length tokens.now) }
+{
+    let Some((_, inner)) = mark_at(Mark::Assign, tokens) else {
+        return Ok((None, tokens));
+    };
+    let (value, rest) = expr(alloc, 1, inner)?;
+    Ok((Some(value), rest))
+}
+
+// The declaration of a local, without its semicolon.
+fn local(alloc: Global, tokens: &[Token]) -> Result<(Stmt, &[Token]), Stop<'_>>
+    requires room { length tokens.now < 2 ^ 32 }
+    ensures reads { Reads NLocal tokens.now (seen stmt_of result) }
+    ensures shorter { IfOk result (λ x. length x.1.now < length tokens.now) }
+{
+    let (is_final, rest) = final_at(tokens);
+    let (ty, rest) = type_at(alloc, rest)?;
+    let Some((found, place, behind)) = word_at(rest) else {
+        return Err(Stop::At(rest));
+    };
+    let (value, rest) = init(alloc, behind)?;
+    let name = found.copy(alloc)?;
+    Ok((
+        Stmt::Local {
+            is_final,
+            ty,
+            name,
+            value,
+            place,
+        },
+        rest,
+    ))
+}
+
+// An expression, if no semicolon is next.
+fn value(alloc: Global, tokens: &[Token]) -> Result<(Option<Expr>, &[Token]), Stop<'_>>
+    requires room { length tokens.now < 2 ^ 32 }
+    ensures reads { Reads NValue tokens.now (seen value_of result) }
+    ensures shorter { IfOk result (λ x. length x.1.now ≤ length tokens.now) }
+{
+    if let Some(_) = mark_at(Mark::Semi, tokens) {
+        return Ok((None, tokens));
+    }
+    let (value, rest) = expr(alloc, 1, tokens)?;
+    Ok((Some(value), rest))
+}
+
+// What may stand before a semicolon, or steps a `for`.
+fn act(alloc: Global, tokens: &[Token]) -> Result<(Stmt, &[Token]), Stop<'_>>
+    requires room { length tokens.now < 2 ^ 32 }
+    ensures reads { Reads NAct tokens.now (seen stmt_of result) }
+    ensures shorter { IfOk result (λ x. length x.1.now < length tokens.now) }
+{
+    if let Some((operator, at, inner)) = stepping_at(tokens) {
+        let Some((found, place, rest)) = word_at(inner) else {
+            return Err(Stop::At(inner));
+        };
+        let whole = steps_of(alloc, operator, found, place, at)?;
+        return Ok((whole, rest));
+    }
+    let ((first, end), rest) = post(alloc, tokens)?;
+    act_rest(alloc, tokens, first, end, rest)
+}
+
+// What follows the expression that an act begins with; `start` are the tokens from its first on.
+fn act_rest<'a>(
+    alloc: Global,
+    start: &[Token],
+    first: Expr,
+    end: End,
+    tokens: &'a [Token],
+) -> Result<(Stmt, &'a [Token]), Stop<'a>>
+    requires room { length tokens.now < 2 ^ 32 }
+    ensures reads { Reads (NActRest start.now (expr_of first) end) tokens.now (seen stmt_of result) }
+    ensures shorter { IfOk result (λ x. length x.1.now ≤ length tokens.now) }
+{
+    if let Some((place, inner)) = mark_at(Mark::Assign, tokens) {
+        if !targets(end) {
+            return Err(Stop::At(tokens));
+        }
+        let (value, rest) = expr(alloc, 1, inner)?;
+        return Ok((
+            Stmt::Assign {
+                target: first,
+                value,
+                place,
+            },
+            rest,
+        ));
+    }
+    if let Some((operator, at, inner)) = compound_at(tokens) {
+        let Some((found, place)) = named_by(end, &first) else {
+            return Err(Stop::At(tokens));
+        };
+        let (value, rest) = expr(alloc, 1, inner)?;
+        let left = Expr::Name {
+            name: found.copy(alloc)?,
+            place,
+        };
+        let target = Expr::Name {
+            name: found.copy(alloc)?,
+            place,
+        };
+        let value = binary(alloc, operator, left, value, at)?;
+        return Ok((
+            Stmt::Assign {
+                target,
+                value,
+                place: at,
+            },
+            rest,
+        ));
+    }
+    if let Some((operator, at, rest)) = stepping_at(tokens) {
+        let Some((found, place)) = named_by(end, &first) else {
+            return Err(Stop::At(tokens));
+        };
+        let whole = steps_of(alloc, operator, found, place, at)?;
+        return Ok((whole, rest));
+    }
+    if !calls(end) {
+        return Err(Stop::At(tokens));
+    }
+    Ok((finished(start, first), tokens))
+}
+
+// A test in round brackets.
+fn tested(alloc: Global, tokens: &[Token]) -> Result<(Expr, &[Token]), Stop<'_>>
+    requires room { length tokens.now < 2 ^ 32 }
+    ensures reads { Reads NTested tokens.now (seen expr_of result) }
+    ensures shorter { IfOk result (λ x. length x.1.now < length tokens.now) }
+{
+    let Some((_, inner)) = mark_at(Mark::OpenRound, tokens) else {
+        return Err(Stop::At(tokens));
+    };
+    let (test, behind) = expr(alloc, 1, inner)?;
+    let Some((_, rest)) = mark_at(Mark::CloseRound, behind) else {
+        return Err(Stop::At(behind));
+    };
+    Ok((test, rest))
+}
+
+// What a `for` begins with, if no semicolon is next.
+fn first_step(alloc: Global, tokens: &[Token]) -> Result<(Option<Stmt>, &[Token]), Stop<'_>>
+    requires room { length tokens.now < 2 ^ 32 }
+    ensures reads { Reads NFirst tokens.now (seen step_seen result) }
+    ensures shorter { IfOk result (λ x. length x.1.now ≤ length tokens.now) }
+{
+    if let Some(_) = mark_at(Mark::Semi, tokens) {
+        return Ok((None, tokens));
+    }
+    if begins_local(tokens) {
+        let (whole, rest) = local(alloc, tokens)?;
+        return Ok((Some(whole), rest));
+    }
+    let (whole, rest) = act(alloc, tokens)?;
+    Ok((Some(whole), rest))
+}
+
+// What a `for` goes on with, if no closing bracket is next.
+fn next_step(alloc: Global, tokens: &[Token]) -> Result<(Option<Stmt>, &[Token]), Stop<'_>>
+    requires room { length tokens.now < 2 ^ 32 }
+    ensures reads { Reads NStep tokens.now (seen step_seen result) }
+    ensures shorter { IfOk result (λ x. length x.1.now ≤ length tokens.now) }
+{
+    if let Some(_) = mark_at(Mark::CloseRound, tokens) {
+        return Ok((None, tokens));
+    }
+    let (whole, rest) = act(alloc, tokens)?;
+    Ok((Some(whole), rest))
+}
+
+// What stands in the round brackets of a `for`.
+fn for_head(alloc: Global, tokens: &[Token]) -> Result<((Option<Stmt>, Option<Expr>, Option<Stmt>), &[Token]), Stop<'_>>
+    requires room { length tokens.now < 2 ^ 32 }
+    ensures reads { Reads NForHead tokens.now (seen seen_steps result) }
+    ensures shorter { IfOk result (λ x. length x.1.now < length tokens.now) }
+{
+    let Some((_, inner)) = mark_at(Mark::OpenRound, tokens) else {
+        return Err(Stop::At(tokens));
+    };
+    let (first, rest) = first_step(alloc, inner)?;
+    let Some((_, middle)) = mark_at(Mark::Semi, rest) else {
+        return Err(Stop::At(rest));
+    };
+    let (test, rest) = value(alloc, middle)?;
+    let Some((_, last)) = mark_at(Mark::Semi, rest) else {
+        return Err(Stop::At(rest));
+    };
+    let (step, rest) = next_step(alloc, last)?;
+    let Some((_, end)) = mark_at(Mark::CloseRound, rest) else {
+        return Err(Stop::At(rest));
+    };
+    Ok(((first, test, step), end))
+}
+
+#[cycle(stmts)]
+fn item(alloc: Global, tokens: &[Token]) -> Result<(Stmt, &[Token]), Stop<'_>>
+    requires room { length tokens.now < 2 ^ 32 }
+    ensures reads { Reads NItem tokens.now (seen stmt_of result) }
+    ensures shorter { IfOk result (λ x. length x.1.now < length tokens.now) }
+{
+    if begins_local(tokens) {
+        let (whole, rest) = local(alloc, tokens)?;
+        let Some((_, end)) = mark_at(Mark::Semi, rest) else {
+            return Err(Stop::At(rest));
+        };
+        return Ok((whole, end));
+    }
+    stmt(alloc, tokens)
+}
+
+/// The items behind an opening brace, and what follows the closing one.
+#[cycle(stmts)]
+pub fn items(alloc: Global, tokens: &[Token]) -> Result<(Vec<Stmt>, &[Token]), Stop<'_>>
+    requires room { length tokens.now < 2 ^ 32 }
+    ensures reads { Reads (NItems no_statements) tokens.now (seen (λ (v : Vec Stmt Global). stmts v.items) result) }
+    ensures shorter { IfOk result (λ x. length x.1.now < length tokens.now) }
+{
+    let mut all = Vec::new(alloc);
+    let mut rest = tokens;
+    'more: loop {
+        if let Some((_, end)) = mark_at(Mark::CloseBrace, rest) {
+            return Ok((all, end));
+        }
+        let (next, after) = item(alloc, rest)?;
+        all.push(next)?;
+        rest = after;
+    }
+}
+
+#[cycle(stmts)]
+fn stmt(alloc: Global, tokens: &[Token]) -> Result<(Stmt, &[Token]), Stop<'_>>
+    requires room { length tokens.now < 2 ^ 32 }
+    ensures reads { Reads NStmt tokens.now (seen stmt_of result) }
+    ensures shorter { IfOk result (λ x. length x.1.now < length tokens.now) }
+{
+    match begin_of(tokens) {
+        Begin::Block(place, inner) => {
+            let (all, rest) = items(alloc, inner)?;
+            Ok((block(all, place), rest))
+        }
+        Begin::Empty(place, rest) => Ok((block(Vec::new(alloc), place), rest)),
+        Begin::If(place, inner) => {
+            let ((arms, other), rest) = branches(alloc, inner)?;
+            Ok((choice(arms, other, place), rest))
+        }
+        Begin::While(place, inner) => {
+            let (test, behind) = tested(alloc, inner)?;
+            let (whole, rest) = stmt(alloc, behind)?;
+            let body = body_of(alloc, whole)?;
+            Ok((while_loop(test, body, place), rest))
+        }
+        Begin::For(place, inner) => {
+            let ((first, test, step), behind) = for_head(alloc, inner)?;
+            let (whole, rest) = stmt(alloc, behind)?;
+            let body = body_of(alloc, whole)?;
+            let whole = for_loop(alloc, first, test, step, body, place)?;
+            Ok((whole, rest))
+        }
+        Begin::Return(place, inner) => {
+            let (value, rest) = value(alloc, inner)?;
+            let Some((_, end)) = mark_at(Mark::Semi, rest) else {
+                return Err(Stop::At(rest));
+            };
+            Ok((Stmt::Return { value, place }, end))
+        }
+        Begin::Break(place, rest) => {
+            let Some((_, end)) = mark_at(Mark::Semi, rest) else {
+                return Err(Stop::At(rest));
+            };
+            Ok((Stmt::Break { place }, end))
+        }
+        Begin::Continue(place, rest) => {
+            let Some((_, end)) = mark_at(Mark::Semi, rest) else {
+                return Err(Stop::At(rest));
+            };
+            Ok((Stmt::Continue { place }, end))
+        }
+        Begin::Other => {
+            let (whole, rest) = act(alloc, tokens)?;
+            let Some((_, end)) = mark_at(Mark::Semi, rest) else {
+                return Err(Stop::At(rest));
+            };
+            Ok((whole, end))
+        }
+    }
+}
+
+// What follows an `if`.
+#[cycle(stmts)]
+fn branches(alloc: Global, tokens: &[Token]) -> Result<((Vec<Arm>, Option<Vec<Stmt>>), &[Token]), Stop<'_>>
+    requires room { length tokens.now < 2 ^ 32 }
+    ensures reads { Reads (NBranches no_arms) tokens.now (seen seen_branches result) }
+    ensures shorter { IfOk result (λ x. length x.1.now < length tokens.now) }
+{
+    let mut arms = Vec::new(alloc);
+    let mut rest = tokens;
+    'arms: loop {
+        let (test, behind) = tested(alloc, rest)?;
+        let (whole, after) = stmt(alloc, behind)?;
+        let body = body_of(alloc, whole)?;
+        arms.push(Arm { test, body })?;
+        let Some((_, more)) = key_at(Keyword::Else, after) else {
+            return Ok(((arms, None), after));
+        };
+        let Some((_, again)) = key_at(Keyword::If, more) else {
+            let (whole, end) = stmt(alloc, more)?;
+            let other = body_of(alloc, whole)?;
+            return Ok(((arms, Some(other)), end));
+        };
+        rest = again;
+    }
+}

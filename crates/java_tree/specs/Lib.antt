@@ -1,0 +1,9 @@
+pub mod Syntax
+pub mod Places
+pub mod Size
+pub mod Tokens
+pub mod Expressions
+pub mod Statements
+pub mod Declarations
+pub mod Nesting
+pub mod Arms

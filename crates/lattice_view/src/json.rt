@@ -1,0 +1,129 @@
+//! The line of JSON.
+
+ghost use Rattle.std.specs.Prelude.{◌≡◌, ◌++◌, false, map, codes, IfOk, OnOk, OnErr, string_bytes};
+ghost use Rattle.serde_json.specs.Data.{array};
+ghost use Rattle.serde_json.specs.View.{view, items_of};
+ghost use Rattle.serde_json.specs.Written.{has_float, compact_text};
+ghost use Rattle.lattice_view.specs.Json.{numbers_data, names_data, concept_parts, concept_data, lattice_parts, lattice_data, lattice_json};
+
+use crate::text::{column_numbers, row_numbers};
+use fact_model::{ColumnInfo, Concept, Facts, Lattice, RowInfo};
+use serde_json::{Value, json};
+use std::alloc::{AllocError, Global};
+
+/// Appends the lattice as one line of JSON: the labels of the columns and of the rows, and for each
+/// concept the numbers of its upper covers, the columns and rows that stand there, and the size of
+/// its extent. An error comes only for want of memory, and then nothing was appended.
+pub fn show_json(
+    alloc: Global,
+    facts: &Facts,
+    lattice: &Lattice,
+    into: &mut Vec<u8>,
+) -> Result<(), AllocError>
+    ensures text { OnOk result (into.new.items ≡ into.old.items ++ lattice_json facts.now lattice.now) }
+    ensures same { OnErr result (into.new.items ≡ into.old.items) }
+{
+    let value = lattice_value(alloc, facts, lattice)?;
+    let text = line_of(alloc, &value)?;
+    into.extend_from_slice(text.as_bytes())?;
+    Ok(())
+}
+
+/// A value in one line.
+fn line_of(alloc: Global, value: &Value) -> Result<String, AllocError>
+    requires { has_float (view value.now) ≡ false }
+    ensures { IfOk result (λ s. string_bytes s ≡ compact_text (view value.now) ++ codes "\n") }
+{
+    let mut text = value.to_string(alloc)?;
+    text.push_str("\n")?;
+    Ok(text)
+}
+
+/// The lattice as a value.
+fn lattice_value(alloc: Global, facts: &Facts, lattice: &Lattice) -> Result<Value, AllocError>
+    ensures { IfOk result (λ v. view v ≡ lattice_data facts.now lattice.now) }
+{
+    let columns = column_names(alloc, &facts.columns)?;
+    let concepts = concepts_value(alloc, &lattice.concepts)?;
+    let rows = row_names(alloc, &facts.rows)?;
+    let value = lattice_object(alloc, columns, concepts, rows)?;
+    Ok(value)
+}
+
+fn lattice_object(
+    alloc: Global,
+    columns: Value,
+    concepts: Value,
+    rows: Value,
+) -> Result<Value, AllocError>
+    ensures { IfOk result (λ v. view v ≡ lattice_parts (view columns) (view concepts) (view rows)) }
+{
+    json!(in alloc; {"columns": columns, "concepts": concepts, "rows": rows})
+}
+
+/// The labels of the columns.
+fn column_names(alloc: Global, columns: &[ColumnInfo]) -> Result<Value, AllocError>
+    ensures { IfOk result (λ v. view v ≡ names_data (map (λ c. c.label) columns.now)) }
+{
+    let mut names = Vec::new(alloc);
+    for k in 0..columns.len() {
+        names.push(Value::try_from_str(alloc, columns[k].label.as_str())?)?;
+    }
+    Ok(Value::Array(names))
+}
+
+/// The labels of the rows.
+fn row_names(alloc: Global, rows: &[RowInfo]) -> Result<Value, AllocError>
+    ensures { IfOk result (λ v. view v ≡ names_data (map (λ r. r.label) rows.now)) }
+{
+    let mut names = Vec::new(alloc);
+    for k in 0..rows.len() {
+        names.push(Value::try_from_str(alloc, rows[k].label.as_str())?)?;
+    }
+    Ok(Value::Array(names))
+}
+
+/// The concepts.
+fn concepts_value(alloc: Global, concepts: &[Concept]) -> Result<Value, AllocError>
+    ensures { IfOk result (λ v. view v ≡ array (items_of (map concept_data concepts.now))) }
+{
+    let mut values = Vec::new(alloc);
+    for k in 0..concepts.len() {
+        values.push(concept_value(alloc, &concepts[k])?)?;
+    }
+    Ok(Value::Array(values))
+}
+
+/// A concept.
+fn concept_value(alloc: Global, concept: &Concept) -> Result<Value, AllocError>
+    ensures { IfOk result (λ v. view v ≡ concept_data concept.now) }
+{
+    let above = numbers_value(alloc, &concept.above)?;
+    let columns = numbers_value(alloc, &column_numbers(alloc, &concept.columns)?)?;
+    let rows = numbers_value(alloc, &row_numbers(alloc, &concept.rows)?)?;
+    let value = concept_object(alloc, above, columns, rows, concept.extent.count())?;
+    Ok(value)
+}
+
+fn concept_object(
+    alloc: Global,
+    above: Value,
+    columns: Value,
+    rows: Value,
+    size: u32,
+) -> Result<Value, AllocError>
+    ensures { IfOk result (λ v. view v ≡ concept_parts (view above) (view columns) (view rows) size) }
+{
+    json!(in alloc; {"above": above, "columns": columns, "rows": rows, "size": size})
+}
+
+/// A list of numbers.
+fn numbers_value(alloc: Global, numbers: &[u32]) -> Result<Value, AllocError>
+    ensures { IfOk result (λ v. view v ≡ numbers_data numbers.now) }
+{
+    let mut values = Vec::new(alloc);
+    for number in numbers {
+        values.push(Value::from(*number))?;
+    }
+    Ok(Value::Array(values))
+}

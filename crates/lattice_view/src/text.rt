@@ -1,0 +1,104 @@
+//! The lines.
+
+ghost use Rattle.std.specs.Prelude.{◌≡◌, ◌++◌, length, map, codes, IfOk, OnOk, OnErr, string_bytes};
+ghost use Rattle.lattice_view.specs.Text.{list_text, part_text, concept_text, concepts_text, lattice_text};
+
+use fact_model::{Concept, Lattice};
+use kaba_base::{ColId, RowId};
+use std::alloc::{AllocError, Global};
+
+/// Appends the count of the concepts, and for each a line: `kI SIZE WIDTH columns: .. rows: .. above: ..`
+/// with the sizes of extent and intent, the columns and rows that stand there, and the upper covers.
+/// An error comes only for want of memory, and then nothing was appended.
+pub fn show_text(alloc: Global, lattice: &Lattice, into: &mut Vec<u8>) -> Result<(), AllocError>
+    ensures text { OnOk result (into.new.items ≡ into.old.items ++ lattice_text lattice.now) }
+    ensures same { OnErr result (into.new.items ≡ into.old.items) }
+{
+    let text = text_of(alloc, lattice)?;
+    into.extend_from_slice(text.as_bytes())?;
+    Ok(())
+}
+
+/// The whole text.
+fn text_of(alloc: Global, lattice: &Lattice) -> Result<String, AllocError>
+    ensures { IfOk result (λ s. string_bytes s ≡ lattice_text lattice.now) }
+{
+    let count = lattice.concepts.len();
+    let mut text = String::new(alloc);
+    write!(text, "concepts {count}\n")?;
+    add_concepts(alloc, &mut text, &lattice.concepts)?;
+    Ok(text)
+}
+
+/// Adds the lines of concepts.
+fn add_concepts(alloc: Global, text: &mut String, concepts: &[Concept]) -> Result<(), AllocError>
+    ensures { OnOk result (string_bytes text.new ≡ string_bytes text.old ++ concepts_text 0 concepts.now) }
+{
+    for k in 0..concepts.len() {
+        add_concept(alloc, text, k, &concepts[k])?;
+    }
+    Ok(())
+}
+
+/// Adds the line of one concept.
+fn add_concept(
+    alloc: Global,
+    text: &mut String,
+    k: usize,
+    concept: &Concept,
+) -> Result<(), AllocError>
+    ensures { OnOk result (string_bytes text.new ≡ string_bytes text.old ++ concept_text k concept.now) }
+{
+    let columns = column_numbers(alloc, &concept.columns)?;
+    let rows = row_numbers(alloc, &concept.rows)?;
+    let size = concept.extent.count();
+    let width = concept.intent.count();
+    write!(text, "k{k} {size} {width}")?;
+    add_part(text, " columns:", "c", &columns)?;
+    add_part(text, " rows:", "r", &rows)?;
+    add_part(text, " above:", "k", &concept.above)?;
+    text.push_str("\n")?;
+    Ok(())
+}
+
+/// The numbers of columns.
+pub fn column_numbers(alloc: Global, columns: &[ColId]) -> Result<Vec<u32>, AllocError>
+    ensures { IfOk result (λ v. v.items ≡ map (λ c. c.0) columns.now) }
+{
+    columns.iter().map(|c| c.0).collect(alloc)
+}
+
+/// The numbers of rows.
+pub fn row_numbers(alloc: Global, rows: &[RowId]) -> Result<Vec<u32>, AllocError>
+    ensures { IfOk result (λ v. v.items ≡ map (λ r. r.0) rows.now) }
+{
+    rows.iter().map(|r| r.0).collect(alloc)
+}
+
+/// Adds a list after its name.
+fn add_part(
+    text: &mut String,
+    name: &str,
+    mark: &str,
+    numbers: &[u32],
+) -> Result<(), AllocError>
+    ensures { OnOk result (string_bytes text.new ≡ string_bytes text.old ++ part_text name.now mark.now numbers.now) }
+{
+    text.push_str(name)?;
+    add_list(text, mark, numbers)?;
+    Ok(())
+}
+
+/// Adds a list of numbers, each with a mark before it.
+fn add_list(text: &mut String, mark: &str, numbers: &[u32]) -> Result<(), AllocError>
+    ensures { OnOk result (string_bytes text.new ≡ string_bytes text.old ++ list_text mark.now numbers.now) }
+{
+    if numbers.is_empty() {
+        text.push_str(" -")?;
+        return Ok(());
+    }
+    for number in numbers {
+        write!(text, " {mark}{number}")?;
+    }
+    Ok(())
+}

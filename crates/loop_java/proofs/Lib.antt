@@ -1,0 +1,4 @@
+pub mod Rows
+pub mod Statements
+pub mod Frames
+pub mod Loops

@@ -1,0 +1,3 @@
+pub mod LoopLemmas
+pub mod RuleLemmas
+pub mod SolveLemmas

@@ -1,0 +1,93 @@
+-- What each rule with premises gives, and that a sound and closed table is the least one.
+use Rattle.std.proofs.Common.{◌≡◌, ℕ, ◌*◌, ◌<◌, ◌≤◌, ⊎_elim, Bool, false, List, [], ◌∷◌, length, get_or, Some, Contains, subst, arith}
+use Rattle.std.specs.List.{AllByRecursion}
+use Rattle.std.proofs.lemmas.Bool.{cases_lt, false≢true}
+use Rattle.std.proofs.lemmas.List.{get_or_past}
+use Rattle.std.proofs.lemmas.List.Elements.{All-contains, All-from_get_or}
+use Rattle.std.proofs.lemmas.List.Sums.{sum_by-le}
+use Rattle.derivations.proofs.Derivations.{derivable_by, derivable_least}
+use Rattle.kaba_bits.specs.Sets.{row, size, HasWidth, total}
+use Rattle.kaba_bits.proofs.SetLemmas.{bit-below, size-le-length}
+use Rattle.kaba_base.specs.declared.ColId.{ColId}
+use Rattle.fact_model.specs.Items.{site_row, row_this}
+use Rattle.fact_model.specs.InRange.{InRange}
+use Rattle.fact_model.specs.InOrder.{InOrder, ColumnsStandAbove, BodiesAreOwn}
+use Rattle.fact_model.specs.Flowing.{AreSets, IsInRow}
+use Rattle.fact_model.specs.Entries.{Entry, IsDeclaredBy, Hides, Entails, by_access, by_need, by_this, by_declared, by_body, by_super, by_tie, by_site, by_hiding, by_test, by_array, IsEntry, IsTable}
+use Rattle.fact_model.specs.declared.facts.Facts.{Facts}
+use Rattle.fact_model.specs.declared.facts.TieInfo.{TieInfo}
+use Rattle.fact_model.specs.declared.sets.PointsTo.{PointsTo}
+use Rattle.fact_model.specs.declared.sets.Table.{Table}
+use Rattle.fact_model.proofs.RangeLemmas.{this-below, member-below}
+use Rattle.fact_model.proofs.OrderLemmas.{column-above, body-own}
+use Rattle.table_rules.specs.Marks.{Marked, AreEntries}
+use Rattle.table_rules.specs.Closed.{RowFlows, ColumnFlows, IsTieClosed, AreClosed}
+use Rattle.table_rules.proofs.RawLemmas.{sized}
+
+pub total-le : (w : ℕ) (rows : List (List Bool)) → HasWidth w rows → total rows ≤ length rows * w
+total-le w rows h = sum_by-le size w rows (All-from_get_or (λ x. size x ≤ w) rows [] (λ i lt. omega (arith, size-le-length (get_or rows i []), h i lt)))
+
+-- an entry is in a row and in a column of the table
+pub marked-row : (rows : List (List Bool)) (r c : ℕ) → Marked rows r c → r < length rows
+marked-row rows r c h =
+    ⊎_elim (λ lt. lt) (λ past. let none : row rows r ≡ [] = get_or_past rows r [] past in absurd (false≢true (rw none at h))) (cases_lt r (length rows))
+
+pub marked-column : (w : ℕ) (rows : List (List Bool)) (r c : ℕ) → HasWidth w rows → Marked rows r c → c < w
+marked-column w rows r c widths h = omega (arith, bit-below (row rows r) c h, widths r (marked-row rows r c h))
+
+module _ (F : Facts) where
+  pub tie_flows : (x : TieInfo) → Contains F.ties.items x → RowFlows F x.upper.0 x.lower.0
+  tie_flows x is c h = derivable_by (Entails F) ((x.upper.0, c) ∷ []) (x.lower.0, c) (by_tie x c is) (h, tt)
+
+  pub site_flows : (v o : ℕ) → IsInRow F v o → RowFlows F v (site_row F o)
+  site_flows v o m c h = derivable_by (Entails F) ((v, c) ∷ []) (site_row F o, c) (by_site v o c m) (h, tt)
+
+  pub body_flows : (r v : ℕ) (d : ColId) → row_this F v ≡ Some d → IsEntry F r d.0 → RowFlows F v r
+  body_flows r v d t has c h = derivable_by (Entails F) ((r, d.0) ∷ (v, c) ∷ []) (r, c) (by_body r v c d t) (has, (h, tt))
+
+  pub declared_flows : (d c : ℕ) → c < length F.columns.items → IsDeclaredBy F d c → ColumnFlows F d c
+  declared_flows d c lt by r h = derivable_by (Entails F) ((r, d) ∷ []) (r, c) (by_declared r d c lt by) (h, tt)
+
+  pub hidden_flows : (q d c : ℕ) → Hides F d c → IsEntry F q d → IsEntry F q c → ColumnFlows F d c
+  hidden_flows q d c by one two r h = derivable_by (Entails F) ((q, d) ∷ (q, c) ∷ (r, d) ∷ []) (r, c) (by_hiding q r d c by) (one, (two, (h, tt)))
+
+module _ (F : Facts) (R : InRange F) (pt : PointsTo) (sets : AreSets F pt) (rows : List (List Bool)) (are : AreEntries F rows) (closed : AreClosed F pt.rows.items rows) where
+  in_row : (r c : ℕ) → Marked rows r c → r < length rows
+  in_row = marked-row rows
+
+  in_column : (r c : ℕ) → Marked rows r c → c < length F.columns.items
+  in_column r c = marked-column (length F.columns.items) rows r c are.widths
+
+  held : (r c : ℕ) → Marked rows r c → r < length F.rows.items
+  held r c h = subst (λ n. r < n) are.len (in_row r c h)
+
+  closed_under : (ps : List Entry) (e : Entry) → Entails F ps e → AllByRecursion (λ p. Marked rows p.0 p.1) ps → Marked rows e.0 e.1
+  closed_under ps e (by_access x is) h = are.raw x.row.0 x.column.0 (by_access x is)
+  closed_under ps e (by_need call o d is holds found) h = are.raw (site_row F o) d (by_need call o d is holds found)
+  closed_under ps e (by_this v d t) h = are.raw v d.0 (by_this v d t)
+  closed_under ps e (by_declared r d c lt by) h = closed.declared d (in_column r d h.0) c lt by r (in_row r d h.0) h.0
+  closed_under ps e (by_body r v c d t) h = closed.bodies v (this-below F v d t) d t r (in_row r d.0 h.0) h.0 c h.1.0
+  closed_under ps e (by_super x is) h = are.raw x.row.0 x.column.0 (by_super x is)
+  closed_under ps e (by_tie x c is) h = All-contains (IsTieClosed rows) F.ties.items x closed.ties is c h.0
+  closed_under ps e (by_site v o c m) h = closed.sites v (held v c h.0) o (member-below F R v o m) ((sets.rows v o).1 m) c h.0
+  closed_under ps e (by_hiding q r d c by) h =
+      closed.hidden d (in_column q d h.0) c (in_column q c h.1.0) by
+      (record { at = q; below = in_row q d h.0; first = h.0; second = h.1.0 })
+      r (in_row r d h.1.1.0) h.1.1.0
+  closed_under ps e (by_test x c is m) h = are.raw x.target.0 c (by_test x c is m)
+  closed_under ps e (by_array s c lt dim m) h = are.raw (site_row F s) c (by_array s c lt dim m)
+
+  complete : (r c : ℕ) → IsEntry F r c → Marked rows r c
+  complete r c = derivable_least (Entails F) (λ e. Marked rows e.0 e.1) closed_under (r, c)
+
+pub closed_table : (F : Facts) (R : InRange F) (pt : PointsTo) (sets : AreSets F pt) (t : Table) → t.width ≡ length F.columns.items → AreEntries F t.rows.items → AreClosed F pt.rows.items t.rows.items → IsTable F t
+closed_table F R pt sets t e are closed = record {
+  sized = sized F (IsEntry F) t e (record { len = are.len; widths = are.widths; sound = are.sound });
+  entries = λ r c. (are.sound r c, complete F R pt sets t.rows.items are closed r c);
+}
+
+pub table-above : (F : Facts) (R : InRange F) (t : Table) → IsTable F t → InOrder F → ColumnsStandAbove F t
+table-above F R t is O r c h = column-above F R O r c ((is.entries r c).0 h)
+
+pub table-own : (F : Facts) (R : InRange F) (t : Table) → IsTable F t → InOrder F → BodiesAreOwn F t
+table-own F R t is O r d h = body-own F R O r d ((is.entries r d).0 h)

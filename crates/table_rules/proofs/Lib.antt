@@ -1,0 +1,2 @@
+pub mod RawLemmas
+pub mod CloseLemmas

@@ -1,0 +1,13 @@
+use Rattle.std.proofs.Common.{ℕ, ◌<◌}
+use Rattle.std.specs.Bool.{OnFalse}
+use Rattle.kaba_bits.specs.Sets.{IsStep}
+use Rattle.table_rules.specs.Marks.{AreEntries}
+use Rattle.table_rules.specs.Closed.{IsHiddenAt}
+use Rattle.table_rules.proofs.closing.hide.Given as goal
+
+abbrev pub invariant-loop-c : goal.invariant-loop-c
+invariant-loop-c l = record {
+  rows : AreEntries l.facts l.rows;
+  step : IsStep l.fn.rows l.rows l.grew;
+  closed : OnFalse l.grew ((k : ℕ) → k < l.c → IsHiddenAt l.facts l.d l.rows k);
+}

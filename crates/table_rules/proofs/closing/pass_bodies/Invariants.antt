@@ -1,0 +1,13 @@
+use Rattle.std.proofs.Common.{ℕ, ◌<◌}
+use Rattle.std.specs.Bool.{OnFalse}
+use Rattle.kaba_bits.specs.Sets.{IsStep}
+use Rattle.table_rules.specs.Marks.{AreEntries}
+use Rattle.table_rules.specs.Closed.{IsBodyClosed}
+use Rattle.table_rules.proofs.closing.pass_bodies.Given as goal
+
+abbrev pub invariant-loop-v : goal.invariant-loop-v
+invariant-loop-v l = record {
+  rows : AreEntries l.facts l.rows;
+  step : IsStep l.fn.rows l.rows l.grew;
+  closed : OnFalse l.grew ((k : ℕ) → k < l.v → IsBodyClosed l.facts l.rows k);
+}

@@ -1,0 +1,10 @@
+use Rattle.std.specs.List.{AllWithin}
+use Rattle.table_rules.specs.Marks.{AreRaw, Grow, IsSuperMarked}
+use Rattle.table_rules.proofs.raw_table.mark_supers.Given as goal
+
+abbrev pub invariant-loop-x : goal.invariant-loop-x
+invariant-loop-x l = record {
+  rows : AreRaw l.facts l.rows;
+  grows : Grow l.fn.rows l.rows;
+  marked : AllWithin (IsSuperMarked l.rows) l.facts.supers.items 0 l.x-index;
+}

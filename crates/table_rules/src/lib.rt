@@ -1,0 +1,11 @@
+//! The table of rows against columns (after Snelting and Tip, 2000): the entries of the rules without premises, and
+//! the least table that holds them and is closed under the others.
+#![tactic(auto)]
+
+mod closing;
+mod columns;
+mod marks;
+mod raw_table;
+
+pub use closing::close;
+pub use raw_table::raw;
