@@ -1,4 +1,4 @@
-use Rattle.std.proofs.Common.{◌≡◌, ⊎_elim, ℕ, ◌<◌, ◌≤◌, Bool, true, false, List, [], length, get_or, refl, sym, ap, ◌∙◌, subst, arith, Ordering, Result, Ok, Err}
+use Rattle.std.proofs.Common.{◌≡◌, ⊎_elim, ℕ, ◌<◌, Bool, true, List, [], length, get_or, sym, ap, ◌∙◌, subst, arith}
 use Rattle.std.specs.declared.cmp.Ordering.TheVariants.{Less, Equal, Greater}
 use Rattle.std.specs.List.{HoldsAt}
 use Rattle.std.specs.List.Sorted.{IsPartitionPoint}
@@ -9,7 +9,7 @@ use Rattle.kaba_bits.specs.Sets.{bit, row, IsSubset}
 use Rattle.kaba_bits.proofs.SetLemmas.{same_bits, bit-below}
 use Rattle.fact_model.specs.Concepts.{Pair, IsExtent, IsIntent, IsConcept, concept_cmp, AreConcepts, AreAllConcepts}
 use Rattle.concept_build.specs.Intents.{IsMeet}
-use Rattle.concept_build.specs.Lists.{IsBefore, extents_of, IsClosure}
+use Rattle.concept_build.specs.Lists.{extents_of, IsClosure}
 use Rattle.concept_build.proofs.OrderLemmas.{concept_cmp-total}
 use Rattle.concept_build.proofs.PlaceLemmas.{same_intent}
 use Rattle.concept_build.proofs.MadeLemmas.{same_Bool, meet-left, meet-right, closed-meet, closed-concept, concept-closed}

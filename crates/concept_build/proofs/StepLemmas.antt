@@ -1,6 +1,6 @@
 use Rattle.std.proofs.Common.{◌≡◌, ⊎_elim, ℕ, ◌+◌, ◌<◌, List, [], ◌∷◌, Bool, false, length, get_or, sym, ◌∙◌, subst, arith, add-one}
 use Rattle.std.proofs.lemmas.List.{ext_get_or}
-use Rattle.kaba_bits.specs.Sets.{bit, row}
+use Rattle.kaba_bits.specs.Sets.{row}
 use Rattle.fact_model.specs.Concepts.{Pair, IsExtent, AreConcepts, AreAllConcepts, HasIntent}
 use Rattle.concept_build.specs.Intents.{IsFull, IsMeet, Made, IsClosed}
 use Rattle.concept_build.specs.Lists.{HasMade, IsInsertion}

@@ -1,6 +1,5 @@
 -- Lists of concepts in their order, and what the call answers.
-use Rattle.std.specs.Prelude.{◌≡◌, ℕ, ◌<◌, Bool, true, false, List, length, map, slice_index_or, All, AllPairs, Result, MatchResult}
-use Rattle.std.specs.declared.cmp.Ordering.{Ordering}
+use Rattle.std.specs.Prelude.{◌≡◌, ℕ, ◌<◌, Bool, true, false, List, length, map, All, AllPairs, Result, MatchResult}
 use Rattle.std.specs.declared.cmp.Ordering.TheVariants.{Less, Equal, Greater}
 use Rattle.std.specs.List.{HoldsAt}
 use Rattle.std.specs.List.Sorted.{IsPartitionPoint}
@@ -15,6 +14,7 @@ abbrev pub IsFaultOf : List (List Bool) → ℕ → ℕ → LatticeFault → Typ
 IsFaultOf T w bound (TooManyConcepts b) = (b ≡ bound) × AreMoreThan T w bound
 IsFaultOf T w bound Memory = Unit {0}
 
+-- one concept comes before another
 abbrev pub IsBefore : Pair → Pair → Type 0
 IsBefore k l = concept_cmp k l ≡ Less
 
@@ -33,6 +33,7 @@ pub record IsInsertion (old : List Pair) (x : Pair) (new : List Pair) : Type 0 w
 abbrev pub HasMade : List (List Bool) → ℕ → ℕ → List Pair → Type 0
 HasMade T w i xs = (B : List Bool) → Made T w i B → HasIntent xs B
 
+-- the extents of a list of concepts
 abbrev pub extents_of : List Pair → List (List Bool)
 extents_of xs = map (λ k. k.0) xs
 

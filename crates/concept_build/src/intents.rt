@@ -2,7 +2,7 @@
 
 ghost use Rattle.std.specs.Prelude.{◌≡◌, ℕ, ◌+◌, ◌<◌, ◌≤◌, ◌^◌, Bool, List, length, IfOk, OnOk, IfErr, slice_index_or};
 ghost use Rattle.kaba_bits.specs.Sets.{row, HasWidth};
-ghost use Rattle.fact_model.specs.Concepts.{Pair, AreConcepts, AreAllConcepts, AreMoreThan, HasIntent};
+ghost use Rattle.fact_model.specs.Concepts.{Pair, AreConcepts, AreAllConcepts, HasIntent};
 ghost use Rattle.concept_build.specs.Intents.{IsMeet, IsClosed};
 ghost use Rattle.concept_build.specs.Lists.{IsFaultOf, HasMade};
 
@@ -31,10 +31,10 @@ pub fn all_items(
         }
         add_row(alloc, table, &mut items, r, width)?;
     }
-    if items.len() > bound as usize {
-        return Err(LatticeFault::TooManyConcepts(bound));
+    if items.len() <= bound as usize {
+        return Ok(items);
     }
-    Ok(items)
+    Err(LatticeFault::TooManyConcepts(bound))
 }
 
 /// The concept of all columns.

@@ -70,10 +70,8 @@ impl Item {
     pub fn compare(&self, other: &Item) -> Ordering
         ensures { result ≡ concept_cmp self.now other.now }
     {
-        other
-            .rows
-            .cmp(&self.rows)
-            .then(self.columns.cmp(&other.columns))
+        let by_rows = other.rows.cmp(&self.rows);
+        by_rows.then(self.columns.cmp(&other.columns))
     }
 
     /// Whether the extent is strictly within the other's.

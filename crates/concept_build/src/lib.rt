@@ -1,7 +1,7 @@
 //! The concept lattice of a table (Ganter and Wille, 1999).
 #![tactic(auto)]
 
-ghost use Rattle.std.specs.Prelude.{◌≡◌, ℕ, ◌+◌, ◌-◌, ◌<◌, ◌≤◌, ◌^◌, length, map, take, IfOk, IfErr, slice_index_or};
+ghost use Rattle.std.specs.Prelude.{◌≡◌, ℕ, ◌-◌, ◌<◌, ◌≤◌, ◌^◌, length, map, IfOk, IfErr, slice_index_or};
 ghost use Rattle.kaba_bits.specs.Sets.{HasWidth};
 ghost use Rattle.fact_model.specs.declared.sets.Concept.{Concept};
 ghost use Rattle.fact_model.specs.Concepts.{Pair, pair_of, AreAllConcepts, IsPlaced, IsLatticeOf};

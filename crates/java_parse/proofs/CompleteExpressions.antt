@@ -1,5 +1,5 @@
 -- Expressions and types of the grammar are read.
-use Rattle.std.proofs.Common.{rules, arith, refl, sym, ap, ◌∙◌, subst, ◌+◌, append_assoc, append-nil, ◌≡◌, ℕ, zero, suc, ℤ, pos, negsuc, ◌<◌, ◌≤◌, List, [], ◌∷◌, ◌++◌, Option, Some, None, Result, Ok, Err, Bool, true, false, if◌then◌else◌, ◌&&◌}
+use Rattle.std.proofs.Common.{arith, refl, sym, ap, subst, ◌+◌, ◌≡◌, ℕ, suc, ◌<◌, ◌≤◌, List, [], ◌∷◌, Option, Some, None, Ok, Bool, true, false, if◌then◌else◌, ◌&&◌}
 use Rattle.kaba_base.specs.declared.Place.{Place}
 use Rattle.kaba_base.specs.declared.words.Keyword.{Keyword}
 use Rattle.kaba_base.specs.declared.words.Keyword.TheVariants as keys
@@ -8,31 +8,23 @@ use Rattle.java_lex.specs.declared.TokenKind.{TokenKind}
 use Rattle.java_lex.specs.declared.TokenKind.TheVariants as kinds
 use Rattle.java_lex.specs.declared.Mark.{Mark}
 use Rattle.java_lex.specs.declared.Mark.TheVariants as marks
-use Rattle.java_tree.specs.declared.Id.{Id}
-use Rattle.java_tree.specs.declared.Modifier.{Modifier}
 use Rattle.java_tree.specs.declared.TypeBase.{TypeBase}
 use Rattle.java_tree.specs.declared.TypeBase.TheVariants as bases
 use Rattle.java_tree.specs.declared.TypeName.{TypeName}
-use Rattle.java_tree.specs.declared.Param.{Param}
-use Rattle.java_tree.specs.Syntax.{Expression, IntLit, CharLit, StrLit, BoolLit, NullLit, ThisRef, NameRef, FieldOf, IndexOf, CallOf, CallOn, SuperCallOf, NewOf, NewArrayOf, CastOf, InstanceOfClass, UnaryOf, BinaryOf, Expressions, no_more, and_more, Statement, LocalOf, BlockOf, AssignOf, DoOf, PrintOf, IfOf, WhileOf, ForOf, ReturnOf, BreakOf, ContinueOf, Statements, no_statements, and_then, Arms, no_arms, and_arm, Else, no_else, otherwise, OptionalStatement, absent, present, HeadTree, MemberTree, FieldTree, MethodTree, DeclTree, ClassTree, InterfaceTree}
-use Rattle.java_tree.specs.Tokens.{token, mark, key, word, level, is_sign, compound, stepping, is_modifier, casts, first_place}
-use Rattle.java_tree.specs.Statements.{as_body, printed}
+use Rattle.java_tree.specs.Syntax.{Expression, NewArrayOf, Expressions, no_more, and_more}
+use Rattle.java_tree.specs.Tokens.{token, mark, key, word, level, is_sign, casts}
 use Rattle.java_parse.specs.declared.End.{End}
 use Rattle.java_parse.specs.declared.End.TheVariants as ends
-use Rattle.java_parse.specs.Want.{Want, NExpr, NMore, NPrefixed, NPost, NAtom, NSuper, NNew, NSized, NDims, NType, NTail, NArgs, NMoreArgs, NInit, NLocal, NValue, NAct, NActRest, NTested, NItem, NItems, NStmt, NForHead, NFirst, NStep, NBranches, NMods, NIds, NParent, NList, NParam, NParams, NMoreParams, NResult, NHead, NBody, NMember, NMethod, NMembers, NHeads, NClass, NInterface, NDecl, NDecls, Val, Step, Give, Fail, Ask}
-use Rattle.java_parse.specs.Front.{after, after_key, word_next, operator, instance_next, least_next, sign_next, cast_next, base_next, literal_next, index_next, is_array, expr_snoc, stmt_snoc, arm_snoc, final_of, stepping_next, compound_next, named, is_target, is_call, stepped, done, done_by, starts_local, Start, start, SBlock, SEmpty, SIf, SWhile, SFor, SReturn, SBreak, SContinue, SOther, modifier_next, id_next, at_end}
+use Rattle.java_parse.specs.Want.{NExpr, NMore, NPrefixed, NPost, NNew, NSized, NDims, NType, NTail, NArgs, NMoreArgs}
+use Rattle.java_parse.specs.Front.{after, word_next, operator, instance_next, least_next, sign_next, cast_next, base_next, index_next, is_array, expr_snoc, stepping_next}
 use Rattle.java_tree.specs.Expressions.{IsBase, named_base, IsDims, no_dims, one_dim, IsType, a_type, IsExpr, binary, instance_of, operand, IsPrefixed, signed, least, cast_named, cast_int, cast_char, bare, IsPost, field, call_on, index, name, call, super_call, round, new_object, new_array, IsArgs, no_args, some_args, IsMoreArgs, last_arg, next_arg}
-use Rattle.java_tree.specs.Statements.{is_choice, printed, IsFinal, IsValue, no_value, a_value, IsInit, no_init, an_init, IsLocal, a_local, IsTarget, to_name, to_field, to_index, IsCall, plain_call, call_upon, call_above, IsAct, assign, assign_by, step_after, step_before, do_call, print, do_new, IsFirst, no_first, first_local, first_act, IsStep, no_step, a_step, IsItem, local_item, stmt_item, IsItems, no_items, next_item, IsStmt, block, empty, acting, choice, while_loop, for_loop, return_word, break_word, continue_word, IsArms, last_arm, else_arm, more_arms}
-use Rattle.java_tree.specs.Declarations.{IsMods, no_mods, next_mod, IsIds, last_id, next_id, IsParent, no_parent, a_parent, IsList, no_list, a_list, IsParam, a_param, IsMoreParams, last_param, next_param, IsParams, no_params, some_params, IsResult, no_result, a_result, IsHead, a_head, IsBody, no_body, a_body, IsMember, a_field, a_method, IsMembers, no_members, next_member, IsHeads, no_heads, next_head, IsDecl, a_class, an_interface, IsPlaced, no_decls, next_decl}
-use Rattle.java_parse.proofs.Fronts.{option_cases, bool_cases, after_is, after_key_is, word_is, operator_is, instance_is, least_is, sign_is, cast_is, base_is, literal_is, index_is, final_is, stepping_is, compound_is, modifier_is, id_is, start_cases, Starts, start_is}
-use Rattle.std.proofs.lemmas.Bool.{le-leb, lt-leb, leb-true}
+use Rattle.java_parse.proofs.Fronts.{option_cases, after_is}
+use Rattle.std.proofs.lemmas.Bool.{le-leb, lt-leb}
 use Rattle.std.specs.Prelude.{nat_lt, nat_le}
 use Rattle.java_tree.specs.Nesting.{next_is}
-use Rattle.java_parse.specs.Front.{after_by, after_key_by, operator_by, least_by, least_kind, sign_by, cast_by, cast_end, may_cast, base_by, index_next, operator_of, stepping_by, compound_by, start_by, follows_word, closes, behind_word, local_by, modifier_by}
+use Rattle.java_parse.specs.Front.{after_key_by, operator_by, least_by, least_kind, cast_by, cast_end, base_by, index_next, closes}
 use Rattle.java_tree.specs.Expressions.{int_base, boolean_base, char_base, int_literal, char_literal, string_literal, true_literal, false_literal, null_literal, this_word}
-use Rattle.java_parse.specs.Reading.{Outcome, Reads, Fault, Left}
-use denote.Enum.Bare.{sameb}
-use Rattle.kaba_base.specs.contracts.words.Keyword.{the_type as key_type}
+use Rattle.java_parse.specs.Reading.{Outcome, Reads}
 use Rattle.java_parse.proofs.Post.{expr_append}
 use Rattle.java_parse.proofs.SoundExpressions.{expr_append-none, expr_append-snoc}
 use Rattle.java_parse.proofs.ExpressionSteps as x
@@ -336,9 +328,9 @@ cast_word : (n : List ℕ) (tp p q : Place) (us rest : List Token) → ((c : Pla
 cast_word n tp p q us rest alone h = option_cases (after marks.CloseRound us)
     (λ no. rw no refl)
     (λ c yes.
-      let f : rest ≡ c.1 = ap rest_of (alone c.0 c.1 (after_is marks.CloseRound us c yes)) in
-      let g : casts c.1 ≡ false = subst (λ (r : List Token). casts r ≡ false) f h in
-      rw yes (rw g refl))
+    let f : rest ≡ c.1 = ap rest_of (alone c.0 c.1 (after_is marks.CloseRound us c yes)) in
+    let g : casts c.1 ≡ false = subst (λ (r : List Token). casts r ≡ false) f h in
+    rw yes (rw g refl))
 
 cast_kind : (k : TokenKind) (tp p q : Place) (us rest : List Token) → begins k ≡ true →
     ((n : List ℕ) (r c : Place) (vs : List Token) → token k tp ∷ us ≡ word n r ∷ mark marks.CloseRound c ∷ vs → mark marks.CloseRound q ∷ rest ≡ mark marks.CloseRound c ∷ vs) → casts rest ≡ false →
@@ -414,7 +406,6 @@ array_reads {ts = ts} {rest = rest} {b = b} {e = e} {d = d} {p = p} {q = q} h a 
     let f : 1 + d ≡ suc d = omega arith in
     subst (λ (k : ℕ). Reads (NNew p) ts (Ok ((NewArrayOf (record { base = b; dim = k; place = q }) e p, ends.Array), rest))) f (based h a)
 
-
 le1 : 1 ≤ 1
 le1 = omega arith
 
@@ -430,6 +421,7 @@ stops_more {rest = rest} s c h = x.more_ends (op_none 1 c rest s.below) (inst_no
 
 mutual
   unfolding expr_append
+
   pub expr_reads : {l : ℕ} {ts rest : List Token} {e : Expression} → IsExpr l ts rest e → (k : ℕ) → k ≤ l → l ≤ 11 → Stops (suc l) rest → (o : Outcome Expression) → ((c : ℕ) → l ≤ c → Reads (NMore k c e) rest o) → Reads (NExpr k) ts o
   expr_reads (binary {l = l} {m = m} {p = p} {a = a} {b = b} {ts = ts} {us = us} {rest = rest} po le da db) k kl lb s o end =
       let small : level m ≤ 10 = level_small m in
@@ -439,7 +431,7 @@ mutual
       expr_reads da k (omega arith) (omega arith) (op_stops m p us po) o (λ c h. x.more_binary (op_here k c m p us po (omega arith) h) right (end (level m) le))
   expr_reads (instance_of {l = l} {n = n} {p = p} {q = q} {e = e} {ts = ts} {rest = rest} le d) k kl lb s o end =
       expr_reads d k (omega arith) (omega arith) (record { below = omega arith; ends_ = record { dot = refl; round = refl; square = refl; cast = refl } }) o
-        (λ c h. x.more_instance refl (inst_here k c p (word n q ∷ rest) (omega arith) h) refl (end 7 le))
+      (λ c h. x.more_instance refl (inst_here k c p (word n q ∷ rest) (omega arith) h) refl (end 7 le))
   expr_reads (operand d) k kl lb s o end = x.expr_steps (prefixed_reads d s.ends_) (end 11 lb)
 
   prefixed_reads : {ts rest : List Token} {e : Expression} → IsPrefixed ts rest e → Ends rest → Reads NPrefixed ts (Ok (e, rest))

@@ -1,29 +1,20 @@
 -- How reading steps: one rule for each path.
-use Rattle.std.proofs.Common.{rules, refl, sym, subst, add-one, ◌+◌, ◌≡◌, ℕ, zero, suc, ℤ, pos, negsuc, ◌<◌, ◌≤◌, List, [], ◌∷◌, ◌++◌, Option, Some, None, Result, Ok, Err, Bool, true, false, if◌then◌else◌, ◌&&◌}
+use Rattle.std.proofs.Common.{◌≡◌, ℕ, List, [], ◌∷◌, ◌++◌, Option, Some, None, Ok, Err, true, false}
 use Rattle.kaba_base.specs.declared.Place.{Place}
 use Rattle.kaba_base.specs.declared.words.Keyword.{Keyword}
 use Rattle.kaba_base.specs.declared.words.Keyword.TheVariants as keys
 use Rattle.java_lex.specs.declared.Token.{Token}
-use Rattle.java_lex.specs.declared.TokenKind.{TokenKind}
-use Rattle.java_lex.specs.declared.TokenKind.TheVariants as kinds
-use Rattle.java_lex.specs.declared.Mark.{Mark}
 use Rattle.java_lex.specs.declared.Mark.TheVariants as marks
 use Rattle.java_tree.specs.declared.Id.{Id}
 use Rattle.java_tree.specs.declared.Modifier.{Modifier}
-use Rattle.java_tree.specs.declared.TypeBase.{TypeBase}
-use Rattle.java_tree.specs.declared.TypeBase.TheVariants as bases
 use Rattle.java_tree.specs.declared.TypeName.{TypeName}
 use Rattle.java_tree.specs.declared.Param.{Param}
-use Rattle.java_tree.specs.Syntax.{Expression, IntLit, CharLit, StrLit, BoolLit, NullLit, ThisRef, NameRef, FieldOf, IndexOf, CallOf, CallOn, SuperCallOf, NewOf, NewArrayOf, CastOf, InstanceOfClass, UnaryOf, BinaryOf, Expressions, no_more, and_more, Statement, LocalOf, BlockOf, AssignOf, DoOf, PrintOf, IfOf, WhileOf, ForOf, ReturnOf, BreakOf, ContinueOf, Statements, no_statements, and_then, Arms, no_arms, and_arm, Else, no_else, otherwise, OptionalStatement, absent, present, HeadTree, MemberTree, FieldTree, MethodTree, DeclTree, ClassTree, InterfaceTree}
-use Rattle.java_tree.specs.Tokens.{token, mark, key, word, level, is_sign, compound, stepping, is_modifier, casts, first_place}
-use Rattle.java_tree.specs.Statements.{as_body, printed}
-use Rattle.java_parse.specs.declared.End.{End}
-use Rattle.java_parse.specs.declared.End.TheVariants as ends
-use Rattle.java_parse.specs.Want.{Want, NExpr, NMore, NPrefixed, NPost, NAtom, NSuper, NNew, NSized, NDims, NType, NTail, NArgs, NMoreArgs, NInit, NLocal, NValue, NAct, NActRest, NTested, NItem, NItems, NStmt, NForHead, NFirst, NStep, NBranches, NMods, NIds, NParent, NList, NParam, NParams, NMoreParams, NResult, NHead, NBody, NMember, NMethod, NMembers, NHeads, NClass, NInterface, NDecl, NDecls, Val, Step, Give, Fail, Ask}
-use Rattle.java_parse.specs.Front.{after, after_key, word_next, operator, instance_next, least_next, sign_next, cast_next, base_next, literal_next, index_next, expr_snoc, stmt_snoc, arm_snoc, final_of, stepping_next, compound_next, named, is_target, is_call, stepped, done, starts_local, Start, start, SBlock, SEmpty, SIf, SWhile, SFor, SReturn, SBreak, SContinue, SOther, modifier_next, id_next, at_end}
+use Rattle.java_tree.specs.Syntax.{Statements, no_statements, HeadTree, MemberTree, FieldTree, MethodTree, DeclTree, ClassTree, InterfaceTree}
+use Rattle.java_parse.specs.Want.{NType, NItems, NMods, NIds, NParent, NList, NParam, NParams, NMoreParams, NResult, NHead, NBody, NMember, NMethod, NMembers, NHeads, NClass, NInterface, NDecl, NDecls, Give, Fail, Ask}
+use Rattle.java_parse.specs.Front.{after, after_key, word_next, final_of, modifier_next, id_next, at_end}
 use Rattle.java_parse.proofs.Runs.{told, run}
-use Rattle.java_parse.specs.Reading.{Fault, Left, NoMemory, Outcome, Runs, give, fail, short, ask, ask_fails, Reads}
-use Rattle.java_parse.specs.ReadDeclarations.{mods_step, ids_step, parent_step, list_step, param_step, params_step, more_params_step, result_type_step, head_step, body_step, member_step, method_step, members_step, heads_step, class_step, interface_step, decl_step, decls_step}
+use Rattle.java_parse.specs.Reading.{Fault, Left, Outcome, give, fail, ask, ask_fails, Reads}
+use Rattle.java_parse.specs.ReadDeclarations.{mods_step, ids_step, parent_step, list_step, params_step, more_params_step, result_type_step, body_step, members_step, heads_step, class_step, interface_step, decls_step}
 
 pub mods_next : {ms : List Modifier} {ts : List Token} {m : Modifier} {us : List Token} {o : Outcome (List Modifier)} → modifier_next ts ≡ Some (m, us) → Reads (NMods (ms ++ m ∷ [])) us o → Reads (NMods ms) ts o
 mods_next {ms = ms} {ts = ts} {o = Ok given} h0 a1 = record { runs = told (NMods ms) ts (Ok given) (rw (h0, mods_step) (ask (run a1) give)) }

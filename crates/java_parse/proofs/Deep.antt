@@ -1,11 +1,9 @@
 -- The first token that goes too deep, and the greatest size of the stack.
-use Rattle.std.proofs.Common.{◌≡◌, ℕ, zero, suc, ◌+◌, ◌<◌, ◌≤◌, List, [], ◌∷◌, length, refl, sym, ap, ◌∙◌, subst, arith, add-one}
-use Rattle.std.specs.Prelude.{max}
+use Rattle.std.proofs.Common.{◌≡◌, ℕ, zero, suc, ◌+◌, ◌<◌, ◌≤◌, List, [], ◌∷◌, length, sym, ap, ◌∙◌, subst, arith, add-one}
 use Rattle.std.proofs.Common.{leb, Bool, true, false}
 use Rattle.std.proofs.lemmas.Bool.{leb-true, leb-false}
 use Rattle.java_parse.proofs.Fronts.{bool_cases}
 use Rattle.java_lex.specs.declared.Token.{Token}
-use Rattle.java_lex.specs.declared.TokenKind.{TokenKind}
 use Rattle.java_tree.specs.declared.Entry.{Entry}
 use Rattle.java_tree.specs.Nesting.{after_token, stack_after, nesting_from, nesting_of, IsTooDeep}
 
@@ -62,9 +60,9 @@ pub shallow_here : (ts rest next : List Token) (t : Token) (s u : List Entry) (k
 shallow_here ts rest next t s u k e f h shallow d i l = bool_cases (leb (suc i) k)
     (λ y. shallow i (leb-true (suc i) k y))
     (λ n. let g : k < suc i = leb-false (suc i) k n in
-          let q : k ≡ i = omega arith in
-          let r : length (stack_after [] ts (k + 1)) ≤ 128 = subst (λ (w : List Entry). length w ≤ 128) (sym (here ts next u k (goes_further ts rest next t s u k e f h))) d in
-          subst (λ (i : ℕ). length (stack_after [] ts (i + 1)) ≤ 128) q r)
+    let q : k ≡ i = omega arith in
+    let r : length (stack_after [] ts (k + 1)) ≤ 128 = subst (λ (w : List Entry). length w ≤ 128) (sym (here ts next u k (goes_further ts rest next t s u k e f h))) d in
+    subst (λ (i : ℕ). length (stack_after [] ts (i + 1)) ≤ 128) q r)
 
 pub low : (b : Bool) (n : ℕ) → (128 < n → b ≡ true) → b ≡ false → n ≤ 128
 low b n f h = bool_cases (leb n 128) (λ y. leb-true n 128 y) (λ z. let g : b ≡ true = f (leb-false n 128 z) in absurd (let x : ⊥ = cc in x))

@@ -3,7 +3,6 @@ use Rattle.std.proofs.Common.{◌≡◌, ℕ, List, Bool, Option, Some, Ok, sym,
 use Rattle.kaba_base.specs.declared.Place.{Place}
 use Rattle.java_lex.specs.declared.Token.{Token}
 use Rattle.java_tree.specs.declared.TypeName.{TypeName}
-use Rattle.java_tree.specs.declared.Param.{Param}
 use Rattle.java_tree.specs.Syntax.{Expression, LocalOf}
 use Rattle.java_parse.specs.Front.{final_of, word_next}
 use Rattle.java_parse.specs.Want.{NType, NLocal, NInit, NParam}

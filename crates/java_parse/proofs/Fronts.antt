@@ -1,5 +1,5 @@
 -- What the tests of the front say of the tokens.
-use Rattle.std.proofs.Common.{◌≡◌, ℕ, zero, suc, ◌<◌, ◌≤◌, List, [], ◌∷◌, Bool, true, false, Option, Some, None, refl, sym, ap, ◌∙◌, subst, arith}
+use Rattle.std.proofs.Common.{◌≡◌, ℕ, ◌<◌, ◌≤◌, List, [], ◌∷◌, Bool, true, false, Option, Some, None, refl, sym, ap, ◌∙◌, subst}
 use Rattle.std.proofs.lemmas.Bool.{leb-true}
 use Rattle.std.specs.Prelude.{nat_lt, nat_le, ◌&&◌, if◌then◌else◌}
 use Rattle.kaba_base.specs.declared.Place.{Place}
@@ -13,15 +13,13 @@ use Rattle.java_lex.specs.declared.Mark.TheVariants as marks
 use Rattle.java_tree.specs.declared.Id.{Id}
 use Rattle.java_tree.specs.declared.Modifier.{Modifier}
 use Rattle.java_tree.specs.declared.TypeBase.{TypeBase}
-use Rattle.java_tree.specs.declared.TypeBase.TheVariants as bases
 use Rattle.java_tree.specs.declared.TypeName.{TypeName}
-use Rattle.java_tree.specs.Syntax.{Expression, NameRef, CastOf}
-use Rattle.java_tree.specs.Tokens.{token, mark, key, word, level, is_sign, compound, stepping, is_modifier, casts}
+use Rattle.java_tree.specs.Syntax.{Expression, CastOf}
+use Rattle.java_tree.specs.Tokens.{token, mark, key, word, level, is_sign, compound, stepping, is_modifier}
 use Rattle.java_tree.specs.Expressions.{IsBase, int_base, boolean_base, char_base, named_base, IsPrefixed, cast_named, cast_int, cast_char, IsPost, int_literal, char_literal, string_literal, true_literal, false_literal, null_literal, this_word}
 use Rattle.java_tree.specs.Statements.{IsFinal, not_final, is_final}
 use Rattle.java_parse.specs.declared.End.{End}
-use Rattle.java_parse.specs.declared.End.TheVariants as ends
-use Rattle.java_parse.specs.Front.{after, after_by, after_key, after_key_by, word_next, word_by, operator, operator_by, instance_next, least_next, least_by, least_kind, sign_next, sign_by, cast_next, cast_by, cast_end, may_cast, base_next, base_by, literal_next, literal_by, index_next, is_array, final_of, stepping_next, stepping_by, compound_next, compound_by, operator_of, named, Start, SBlock, SEmpty, SIf, SWhile, SFor, SReturn, SBreak, SContinue, SOther, start, start_by, modifier_next, modifier_by, id_next, id_by}
+use Rattle.java_parse.specs.Front.{after, after_by, after_key, after_key_by, word_next, word_by, operator, operator_by, instance_next, least_next, least_by, least_kind, sign_next, sign_by, cast_next, may_cast, base_next, base_by, literal_next, literal_by, index_next, is_array, final_of, stepping_next, stepping_by, compound_next, compound_by, operator_of, Start, SBlock, SEmpty, SIf, SWhile, SFor, SReturn, SBreak, SContinue, SOther, start, start_by, modifier_next, modifier_by, id_next, id_by}
 use denote.Enum.Bare.{sameb, same_true}
 use Rattle.java_lex.specs.contracts.Mark.{the_type as mark_type}
 use Rattle.kaba_base.specs.contracts.words.Keyword.{the_type as key_type}
@@ -79,7 +77,7 @@ operator_kind l c (kinds.Mark m) p ts w h =
     let a = both_true (nat_lt 0 (level m)) (nat_le l (level m) && nat_le (level m) c) d.0 in
     let b = both_true (nat_le l (level m)) (nat_le (level m) c) a.1 in
     subst (λ (w : Mark × Place × List Token). (mark m p ∷ ts ≡ mark w.0 w.1 ∷ w.2) × (0 < level w.0) × (l ≤ level w.0) × (level w.0 ≤ c)) d.1
-      (refl, leb-true 1 (level m) a.0, leb-true l (level m) b.0, leb-true (level m) c b.1)
+    (refl, leb-true 1 (level m) a.0, leb-true l (level m) b.0, leb-true (level m) c b.1)
 operator_kind l c _ p ts w h = cc
 
 pub operator_is : (l c : ℕ) (ts : List Token) (w : Mark × Place × List Token) → operator l c ts ≡ Some w →
@@ -109,7 +107,7 @@ pub least_is : (ts : List Token) (w : Place × List Token) → least_next ts ≡
 least_is ts w h = option_cases (after marks.Minus ts)
     (λ no. let g = rw (no, least_next) at h in cc)
     (λ a yes. let g = rw (yes, least_next) at h in
-        let b = least_behind a.0 a.1 w g in (b.0, after_is marks.Minus ts a yes ∙ b.1))
+    let b = least_behind a.0 a.1 w g in (b.0, after_is marks.Minus ts a yes ∙ b.1))
 
 sign_kind : (k : TokenKind) (p : Place) (ts : List Token) (w : Mark × Place × List Token) → sign_by k p ts ≡ Some w → (token k p ∷ ts ≡ mark w.0 w.1 ∷ w.2) × (is_sign w.0 ≡ true)
 sign_kind (kinds.Mark m) p ts w h =
@@ -150,19 +148,19 @@ pub cast_is : (ts : List Token) (w : TypeName × Place × List Token) → cast_n
 cast_is ts w h rest e d = option_cases (after marks.OpenRound ts)
     (λ no. let g = rw (no, cast_next) at h in cc)
     (λ a yes. let g = rw (yes, cast_next) at h in
-      let ea = after_is marks.OpenRound ts a yes in
-      option_cases (base_next a.1)
-        (λ no1. let g1 = rw no1 at g in cc)
-        (λ b yes1. let g1 = rw yes1 at g in
-          let db = base_is a.1 b yes1 in
-          option_cases (after marks.CloseRound b.2)
-            (λ no2. let g2 = rw no2 at g1 in cc)
-            (λ c yes2. let g2 = rw yes2 at g1 in
-              let ec = after_is marks.CloseRound b.2 c yes2 in
-              let f = chosen (may_cast b.0 c.1) (record { base = b.0; dim = 0; place = b.1 }, a.0, c.1) w g2 in
-              subst (λ (ts : List Token). IsPrefixed ts rest (CastOf w.0 e w.1)) (sym ea)
-                (subst (λ (w : TypeName × Place × List Token). IsPrefixed w.2 rest e → IsPrefixed (mark marks.OpenRound a.0 ∷ a.1) rest (CastOf w.0 e w.1)) f.1
-                  (cast_made a.0 b.1 c.0 c.1 a.1 rest b.0 e (subst (λ (us : List Token). IsBase a.1 us b.0 b.1) ec db) f.0) d))))
+    let ea = after_is marks.OpenRound ts a yes in
+    option_cases (base_next a.1)
+    (λ no1. let g1 = rw no1 at g in cc)
+    (λ b yes1. let g1 = rw yes1 at g in
+    let db = base_is a.1 b yes1 in
+    option_cases (after marks.CloseRound b.2)
+    (λ no2. let g2 = rw no2 at g1 in cc)
+    (λ c yes2. let g2 = rw yes2 at g1 in
+    let ec = after_is marks.CloseRound b.2 c yes2 in
+    let f = chosen (may_cast b.0 c.1) (record { base = b.0; dim = 0; place = b.1 }, a.0, c.1) w g2 in
+    subst (λ (ts : List Token). IsPrefixed ts rest (CastOf w.0 e w.1)) (sym ea)
+    (subst (λ (w : TypeName × Place × List Token). IsPrefixed w.2 rest e → IsPrefixed (mark marks.OpenRound a.0 ∷ a.1) rest (CastOf w.0 e w.1)) f.1
+    (cast_made a.0 b.1 c.0 c.1 a.1 rest b.0 e (subst (λ (us : List Token). IsBase a.1 us b.0 b.1) ec db) f.0) d))))
 
 lit : {k : TokenKind} {p : Place} {ts : List Token} {e : Expression} (w : Expression × List Token) → IsPost true (token k p ∷ ts) ts e → Some (e, ts) ≡ Some w → IsPost true (token k p ∷ ts) w.1 w.0
 lit {k = k} {p = p} {ts = ts} {e = e} w d h = let f : (e, ts) ≡ w = cc in subst (λ (w : Expression × List Token). IsPost true (token k p ∷ ts) w.1 w.0) f d

@@ -1,5 +1,5 @@
 -- What the parser's answers say of the tokens.
-use Rattle.std.proofs.Common.{◌≡◌, ℕ, suc, ◌+◌, ◌*◌, ◌<◌, ◌≤◌, List, [], ◌∷◌, length, Option, Some, None, Ok, Err, refl, sym, ap, ◌∙◌, subst, arith}
+use Rattle.std.proofs.Common.{◌≡◌, ℕ, suc, ◌+◌, ◌*◌, ◌<◌, ◌≤◌, List, [], ◌∷◌, length, Ok, Err, refl, sym, ◌∙◌, subst, arith}
 use Rattle.java_lex.specs.declared.Token.{Token}
 use Rattle.java_tree.specs.Syntax.{DeclTree}
 use Rattle.java_tree.specs.Size.{tree_size}
@@ -7,7 +7,7 @@ use Rattle.java_tree.specs.Declarations.{IsPlaced, Derives}
 use Rattle.java_tree.specs.Nesting.{stack_after, nesting_of, IsTooDeep}
 use Rattle.std.specs.Bool.{◌==◌}
 use Rattle.std.proofs.lemmas.Bool.Decides.{nat_tests}
-use Rattle.std.proofs.Common.{Bool, true, false}
+use Rattle.std.proofs.Common.{Bool, false}
 use Rattle.java_parse.specs.Front.{at_end}
 use Rattle.java_parse.specs.Want.{NDecls}
 use Rattle.java_parse.specs.Reading.{Reads, Left}

@@ -1,14 +1,14 @@
 -- What a call prints, as the program sees it.
-use Rattle.std.proofs.Common.{◌≡◌, ℕ, zero, suc, ◌-◌, ◌<◌, ◌≤◌, List, [], ◌∷◌, length, Bool, true, false, Option, Some, None, IsSome, slice_index_or, codes, refl, sym, ap, ◌∙◌, subst, arith}
+use Rattle.std.proofs.Common.{◌≡◌, ℕ, suc, ◌-◌, ◌<◌, List, [], ◌∷◌, length, Bool, true, false, Option, Some, None, IsSome, slice_index_or, codes, refl, sym, ap, ◌∙◌, subst, arith}
 use Rattle.std.proofs.lemmas.Bool.{lt-leb}
-use Rattle.std.specs.Prelude.{if◌then◌else◌, ◌&&◌, nat_lt}
+use Rattle.std.specs.Prelude.{nat_lt}
 use Rattle.std.specs.Option.{option_map}
 use Rattle.std.specs.declared.vec.Vec.{Vec}
 use Rattle.std.specs.declared.boxed.Box.{Box}
 use Rattle.std.specs.declared.alloc.Global.{Global}
 use Rattle.kaba_base.specs.declared.Place.{Place}
 use Rattle.java_tree.specs.declared.Expr.{Expr, Call}
-use Rattle.java_tree.specs.Syntax.{Expression, Expressions, expr_of, exprs, value_of}
+use Rattle.java_tree.specs.Syntax.{Expression, expr_of, exprs, value_of}
 use Rattle.java_tree.specs.Statements.{is_called, is_out, printed_args, printed_by}
 use Rattle.java_tree.proofs.Rows.{exprs_vec}
 use Rattle.java_parse.specs.Prints.{print_kind}
@@ -40,10 +40,10 @@ list_arg n (x ∷ []) k r q h s l v p =
     let g : r ≡ Some (slice_index_or (x ∷ []) (k - 1) x) = h x (omega (arith, one)) in
     let f : r ≡ Some x = subst (λ (k : ℕ). r ≡ Some (slice_index_or (x ∷ []) (k - 1) x)) one g in
     ap value_of f ∙ bool_cases (is_called n (codes "println"))
-      (λ yes. let g = rw yes at p in let e : ◌≡◌ {A = Bool × Option Expression} (true, Some (expr_of x)) (l, v) = cc in ap (λ (x : Bool × Option Expression). x.1) e)
-      (λ no. let g = rw no at p in bool_cases (is_called n (codes "print"))
-        (λ yes. let k = rw yes at g in let e : ◌≡◌ {A = Bool × Option Expression} (false, Some (expr_of x)) (l, v) = cc in ap (λ (x : Bool × Option Expression). x.1) e)
-        (λ no2. let k = rw no2 at g in cc))
+    (λ yes. let g = rw yes at p in let e : ◌≡◌ {A = Bool × Option Expression} (true, Some (expr_of x)) (l, v) = cc in ap (λ (x : Bool × Option Expression). x.1) e)
+    (λ no. let g = rw no at p in bool_cases (is_called n (codes "print"))
+    (λ yes. let k = rw yes at g in let e : ◌≡◌ {A = Bool × Option Expression} (false, Some (expr_of x)) (l, v) = cc in ap (λ (x : Bool × Option Expression). x.1) e)
+    (λ no2. let k = rw no2 at g in cc))
 list_arg n (x ∷ (y ∷ xs)) k r q h s l v p = cc
 
 call_printed : (o : Option (Box Expr Global)) (n : List ℕ) (v : Vec Expr Global) (p : Place) (l : Bool) (a : Option Expression) → printed_by (expr_of (Call o n v p)) ≡ Some (l, a) → printed_args n (exprs v.items) ≡ Some (l, a)

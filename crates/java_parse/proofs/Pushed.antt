@@ -1,6 +1,6 @@
 -- What a vector holds after a push.
-use Rattle.std.proofs.Common.{◌≡◌, List, [], ◌∷◌, ◌++◌, refl, sym, ap, ◌∙◌}
-use Rattle.java_tree.specs.Syntax.{Expression, Statement, Statements, Arms, and_more, and_then, and_arm, HeadTree, MemberTree, DeclTree, expr_of, exprs, stmt_of, stmts, arms_seen, head_of, heads, member_of, members, decl_of, decls}
+use Rattle.std.proofs.Common.{◌≡◌, List, [], ◌∷◌, ◌++◌, refl, ap, ◌∙◌}
+use Rattle.java_tree.specs.Syntax.{Statements, and_more, and_then, and_arm, expr_of, exprs, stmt_of, stmts, arms_seen, head_of, heads, member_of, members, decl_of, decls}
 use Rattle.java_tree.specs.declared.Expr.{Expr}
 use Rattle.java_tree.specs.declared.Stmt.{Stmt}
 use Rattle.java_tree.specs.declared.Arm.{Arm}

@@ -1,5 +1,5 @@
 -- A reading has one outcome.
-use Rattle.std.proofs.Common.{◌≡◌, List, Ok, Err, refl, sym, ap, ◌∙◌}
+use Rattle.std.proofs.Common.{◌≡◌, List, Ok, Err, refl}
 use Rattle.java_lex.specs.declared.Token.{Token}
 use Rattle.java_parse.specs.Want.{Want, Val, Step, Give, Fail, Ask}
 use Rattle.java_parse.specs.Reading.{Fault, Left, NoMemory, Outcome, body, Runs, give, fail, short, ask, ask_fails, Told, Reads}

@@ -1,31 +1,22 @@
 -- Declarations that are read are in the grammar.
-use Rattle.std.proofs.Common.{rules, arith, refl, sym, ap, ◌∙◌, subst, ◌+◌, append_assoc, append-nil, ◌≡◌, ℕ, zero, suc, ℤ, pos, negsuc, ◌<◌, ◌≤◌, List, [], ◌∷◌, ◌++◌, Option, Some, None, Result, Ok, Err, Bool, true, false, if◌then◌else◌, ◌&&◌}
+use Rattle.std.proofs.Common.{refl, sym, ap, ◌∙◌, subst, append_assoc, append-nil, ◌≡◌, ℕ, List, [], ◌∷◌, Option, Some, true}
 use Rattle.kaba_base.specs.declared.Place.{Place}
 use Rattle.kaba_base.specs.declared.words.Keyword.{Keyword}
 use Rattle.kaba_base.specs.declared.words.Keyword.TheVariants as keys
 use Rattle.java_lex.specs.declared.Token.{Token}
-use Rattle.java_lex.specs.declared.TokenKind.{TokenKind}
-use Rattle.java_lex.specs.declared.TokenKind.TheVariants as kinds
-use Rattle.java_lex.specs.declared.Mark.{Mark}
 use Rattle.java_lex.specs.declared.Mark.TheVariants as marks
 use Rattle.java_tree.specs.declared.Id.{Id}
 use Rattle.java_tree.specs.declared.Modifier.{Modifier}
-use Rattle.java_tree.specs.declared.TypeBase.{TypeBase}
-use Rattle.java_tree.specs.declared.TypeBase.TheVariants as bases
 use Rattle.java_tree.specs.declared.TypeName.{TypeName}
 use Rattle.java_tree.specs.declared.Param.{Param}
-use Rattle.java_tree.specs.Syntax.{Expression, IntLit, CharLit, StrLit, BoolLit, NullLit, ThisRef, NameRef, FieldOf, IndexOf, CallOf, CallOn, SuperCallOf, NewOf, NewArrayOf, CastOf, InstanceOfClass, UnaryOf, BinaryOf, Expressions, no_more, and_more, Statement, LocalOf, BlockOf, AssignOf, DoOf, PrintOf, IfOf, WhileOf, ForOf, ReturnOf, BreakOf, ContinueOf, Statements, no_statements, and_then, Arms, no_arms, and_arm, Else, no_else, otherwise, OptionalStatement, absent, present, HeadTree, MemberTree, FieldTree, MethodTree, DeclTree, ClassTree, InterfaceTree}
-use Rattle.java_tree.specs.Tokens.{token, mark, key, word, level, is_sign, compound, stepping, is_modifier, casts, first_place}
-use Rattle.java_tree.specs.Statements.{as_body, printed}
-use Rattle.java_parse.specs.declared.End.{End}
-use Rattle.java_parse.specs.declared.End.TheVariants as ends
-use Rattle.java_parse.specs.Want.{Want, NExpr, NMore, NPrefixed, NPost, NAtom, NSuper, NNew, NSized, NDims, NType, NTail, NArgs, NMoreArgs, NInit, NLocal, NValue, NAct, NActRest, NTested, NItem, NItems, NStmt, NForHead, NFirst, NStep, NBranches, NMods, NIds, NParent, NList, NParam, NParams, NMoreParams, NResult, NHead, NBody, NMember, NMethod, NMembers, NHeads, NClass, NInterface, NDecl, NDecls, Val, Step, Give, Fail, Ask}
-use Rattle.java_parse.specs.Front.{after, after_key, word_next, operator, instance_next, least_next, sign_next, cast_next, base_next, literal_next, index_next, is_array, expr_snoc, stmt_snoc, arm_snoc, final_of, stepping_next, compound_next, named, is_target, is_call, stepped, done, done_by, starts_local, Start, start, SBlock, SEmpty, SIf, SWhile, SFor, SReturn, SBreak, SContinue, SOther, modifier_next, id_next, at_end}
-use Rattle.java_tree.specs.Expressions.{IsBase, named_base, IsDims, no_dims, one_dim, IsType, a_type, IsExpr, binary, instance_of, operand, IsPrefixed, signed, least, cast_named, cast_int, cast_char, bare, IsPost, field, call_on, index, name, call, super_call, round, new_object, new_array, IsArgs, no_args, some_args, IsMoreArgs, last_arg, next_arg}
-use Rattle.java_tree.specs.Statements.{is_choice, printed, IsFinal, IsValue, no_value, a_value, IsInit, no_init, an_init, IsLocal, a_local, IsTarget, to_name, to_field, to_index, IsCall, plain_call, call_upon, call_above, IsAct, assign, assign_by, step_after, step_before, do_call, print, do_new, IsFirst, no_first, first_local, first_act, IsStep, no_step, a_step, IsItem, local_item, stmt_item, IsItems, no_items, next_item, IsStmt, block, empty, acting, choice, while_loop, for_loop, return_word, break_word, continue_word, IsArms, last_arm, else_arm, more_arms}
-use Rattle.java_tree.specs.Declarations.{IsMods, no_mods, next_mod, IsIds, last_id, next_id, IsParent, no_parent, a_parent, IsList, no_list, a_list, IsParam, a_param, IsMoreParams, last_param, next_param, IsParams, no_params, some_params, IsResult, no_result, a_result, IsHead, a_head, IsBody, no_body, a_body, IsMember, a_field, a_method, IsMembers, no_members, next_member, IsHeads, no_heads, next_head, IsDecl, a_class, an_interface, IsPlaced, no_decls, next_decl}
-use Rattle.java_parse.proofs.Fronts.{option_cases, bool_cases, after_is, after_key_is, word_is, operator_is, instance_is, least_is, sign_is, cast_is, base_is, literal_is, index_is, final_is, stepping_is, compound_is, modifier_is, id_is, start_cases, Starts, start_is}
-use Rattle.java_parse.proofs.Post.{Ended, by_name, by_target, by_call, by_new, by_array, by_other, Counted, expr_append, stmt_append, arm_append, MoreArgs, Tested, Itemed, Stmted, Headed, Branched, Modded, Listed, MoreParams, Membered, Heads, Declared, Post}
+use Rattle.java_tree.specs.Syntax.{HeadTree, MemberTree, FieldTree, DeclTree}
+use Rattle.java_tree.specs.Tokens.{mark, word}
+use Rattle.java_parse.specs.Want.{NMods, NIds, NParent, NList, NParam, NParams, NMoreParams, NResult, NHead, NBody, NMember, NMethod, NMembers, NHeads, NClass, NInterface, NDecl, NDecls}
+use Rattle.java_parse.specs.Front.{after, after_key, word_next, modifier_next, id_next, at_end}
+use Rattle.java_tree.specs.Expressions.{IsType}
+use Rattle.java_tree.specs.Declarations.{IsMods, no_mods, next_mod, IsIds, last_id, next_id, no_parent, a_parent, no_list, a_list, IsParam, a_param, last_param, next_param, IsParams, no_params, some_params, IsResult, no_result, a_result, a_head, no_body, a_body, IsMember, a_field, a_method, IsMembers, no_members, next_member, IsHeads, no_heads, next_head, a_class, an_interface, no_decls, next_decl}
+use Rattle.java_parse.proofs.Fronts.{option_cases, bool_cases, after_is, after_key_is, word_is, final_is, modifier_is, id_is}
+use Rattle.java_parse.proofs.Post.{Modded, Listed, MoreParams, Membered, Heads, Post}
 use Rattle.java_parse.proofs.Runs.{Good}
 use Rattle.java_parse.specs.ReadDeclarations.{mods_step, ids_step, parent_step, list_step, param_step, params_step, more_params_step, result_type_step, head_step, body_step, member_step, method_step, members_step, heads_step, class_step, interface_step, decl_step, decls_step}
 use Rattle.java_parse.proofs.SoundStatements.{items_all}
@@ -58,73 +49,73 @@ at_end_is (t ∷ ts) h = cc
 
 pub mods_good : (ms : List Modifier) (ts : List Token) → Good Post (mods_step ms ts) (Post (NMods ms) ts)
 mods_good ms ts = option_cases (modifier_next ts)
-  (λ n0. rw (n0, mods_step) (record { more = []; is = sym (append-nil ms); mods = no_mods }))
-  (λ w0 y0. let e0 = modifier_is ts w0 y0 in rw (y0, mods_step) (λ v r d. record { more = w0.0 ∷ d.more; is = d.is ∙ append_assoc ms (w0.0 ∷ []) d.more; mods = rw e0.0 (next_mod e0.1 d.mods) }))
+    (λ n0. rw (n0, mods_step) (record { more = []; is = sym (append-nil ms); mods = no_mods }))
+    (λ w0 y0. let e0 = modifier_is ts w0 y0 in rw (y0, mods_step) (λ v r d. record { more = w0.0 ∷ d.more; is = d.is ∙ append_assoc ms (w0.0 ∷ []) d.more; mods = rw e0.0 (next_mod e0.1 d.mods) }))
 
 pub ids_good : (is : List Id) (ts : List Token) → Good Post (ids_step is ts) (Post (NIds is) ts)
 ids_good is ts = option_cases (id_next ts)
-  (λ n0. rw (n0, ids_step) tt)
-  (λ w0 y0. let e0 = id_is ts w0 y0 in rw (y0, ids_step) (option_cases (after marks.Comma w0.1)
+    (λ n0. rw (n0, ids_step) tt)
+    (λ w0 y0. let e0 = id_is ts w0 y0 in rw (y0, ids_step) (option_cases (after marks.Comma w0.1)
     (λ n1. rw n1 (record { more = w0.0 ∷ []; is = refl; ids = rw e0 last_id }))
     (λ w1 y1. let e1 = after_is marks.Comma w0.1 w1 y1 in rw y1 (λ v r d. record { more = w0.0 ∷ d.more; is = d.is ∙ append_assoc is (w0.0 ∷ []) d.more; ids = rw (e0, e1) (next_id d.ids) }))))
 
 pub parent_good : (ts : List Token) → Good Post (parent_step ts) (Post NParent ts)
 parent_good ts = option_cases (after_key keys.Extends ts)
-  (λ n0. rw (n0, parent_step) no_parent)
-  (λ w0 y0. let e0 = after_key_is keys.Extends ts w0 y0 in rw (y0, parent_step) (option_cases (id_next w0.1)
+    (λ n0. rw (n0, parent_step) no_parent)
+    (λ w0 y0. let e0 = after_key_is keys.Extends ts w0 y0 in rw (y0, parent_step) (option_cases (id_next w0.1)
     (λ n1. rw n1 tt)
     (λ w1 y1. let e1 = id_is w0.1 w1 y1 in rw y1 (rw (e0, e1) a_parent))))
 
 pub list_good : (k : Keyword) (ts : List Token) → Good Post (list_step k ts) (Post (NList k) ts)
 list_good k ts = option_cases (after_key k ts)
-  (λ n0. rw (n0, list_step) no_list)
-  (λ w0 y0. let e0 = after_key_is k ts w0 y0 in rw (y0, list_step) (λ v r d. rw e0 (a_list (ids_all d))))
+    (λ n0. rw (n0, list_step) no_list)
+    (λ w0 y0. let e0 = after_key_is k ts w0 y0 in rw (y0, list_step) (λ v r d. rw e0 (a_list (ids_all d))))
 
 pub param_good : (ts : List Token) → Good Post (param_step ts) (Post NParam ts)
 param_good ts = λ v0 r0 d0. (option_cases (word_next r0)
-  (λ n1. rw n1 tt)
-  (λ w1 y1. let e1 = word_is r0 w1 y1 in rw y1 (a_param (final_is ts) (rw e1 at d0))))
+    (λ n1. rw n1 tt)
+    (λ w1 y1. let e1 = word_is r0 w1 y1 in rw y1 (a_param (final_is ts) (rw e1 at d0))))
 
 pub params_good : (ts : List Token) → Good Post (params_step ts) (Post NParams ts)
 params_good ts = option_cases (after marks.CloseRound ts)
-  (λ n0. rw (n0, params_step) (λ v1 r1 d1. (λ v r d. params_all d1 d)))
-  (λ w0 y0. let e0 = after_is marks.CloseRound ts w0 y0 in rw (y0, params_step) (rw e0 no_params))
+    (λ n0. rw (n0, params_step) (λ v1 r1 d1. (λ v r d. params_all d1 d)))
+    (λ w0 y0. let e0 = after_is marks.CloseRound ts w0 y0 in rw (y0, params_step) (rw e0 no_params))
 
 pub more_params_good : (qs : List Param) (ts : List Token) → Good Post (more_params_step qs ts) (Post (NMoreParams qs) ts)
 more_params_good qs ts = option_cases (after marks.CloseRound ts)
-  (λ n0. rw (n0, more_params_step) (option_cases (after marks.Comma ts)
+    (λ n0. rw (n0, more_params_step) (option_cases (after marks.Comma ts)
     (λ n1. rw n1 tt)
     (λ w1 y1. let e1 = after_is marks.Comma ts w1 y1 in rw y1 (λ v2 r2 d2. (λ v r d. record { more = v2 ∷ d.more; is = d.is ∙ append_assoc qs (v2 ∷ []) d.more; params = rw e1 (next_param d2 d.params) })))))
-  (λ w0 y0. let e0 = after_is marks.CloseRound ts w0 y0 in rw (y0, more_params_step) (record { more = []; is = sym (append-nil qs); params = rw e0 last_param }))
+    (λ w0 y0. let e0 = after_is marks.CloseRound ts w0 y0 in rw (y0, more_params_step) (record { more = []; is = sym (append-nil qs); params = rw e0 last_param }))
 
 pub result_type_good : (ts : List Token) → Good Post (result_type_step ts) (Post NResult ts)
 result_type_good ts = option_cases (after_key keys.Void ts)
-  (λ n0. rw (n0, result_type_step) (λ v1 r1 d1. (a_result d1)))
-  (λ w0 y0. let e0 = after_key_is keys.Void ts w0 y0 in rw (y0, result_type_step) (rw e0 no_result))
+    (λ n0. rw (n0, result_type_step) (λ v1 r1 d1. (a_result d1)))
+    (λ w0 y0. let e0 = after_key_is keys.Void ts w0 y0 in rw (y0, result_type_step) (rw e0 no_result))
 
 pub head_good : (ts : List Token) → Good Post (head_step ts) (Post NHead ts)
 head_good ts = λ v0 r0 d0. (λ v1 r1 d1. (option_cases (word_next r1)
-  (λ n2. rw n2 tt)
-  (λ w2 y2. let e2 = word_is r1 w2 y2 in rw y2 (option_cases (after marks.OpenRound w2.2)
+    (λ n2. rw n2 tt)
+    (λ w2 y2. let e2 = word_is r1 w2 y2 in rw y2 (option_cases (after marks.OpenRound w2.2)
     (λ n3. rw n3 tt)
     (λ w3 y3. let e3 = after_is marks.OpenRound w2.2 w3 y3 in rw y3 (λ v4 r4 d4. (a_head (mods_all d0) (rw (e2, e3) at d1) d4)))))))
 
 pub body_good : (ts : List Token) → Good Post (body_step ts) (Post NBody ts)
 body_good ts = option_cases (after marks.Semi ts)
-  (λ n0. rw (n0, body_step) (option_cases (after marks.OpenBrace ts)
+    (λ n0. rw (n0, body_step) (option_cases (after marks.OpenBrace ts)
     (λ n1. rw n1 tt)
     (λ w1 y1. let e1 = after_is marks.OpenBrace ts w1 y1 in rw y1 (λ v2 r2 d2. (rw e1 (a_body (items_all d2)))))))
-  (λ w0 y0. let e0 = after_is marks.Semi ts w0 y0 in rw (y0, body_step) (rw e0 no_body))
+    (λ w0 y0. let e0 = after_is marks.Semi ts w0 y0 in rw (y0, body_step) (rw e0 no_body))
 
 pub member_good : (ts : List Token) → Good Post (member_step ts) (Post NMember ts)
 member_good ts = λ v0 r0 d0. (λ v1 r1 d1. (option_cases (word_next r1)
-  (λ n2. rw n2 tt)
-  (λ w2 y2. let e2 = word_is r1 w2 y2 in rw y2 (option_cases (after marks.OpenRound w2.2)
+    (λ n2. rw n2 tt)
+    (λ w2 y2. let e2 = word_is r1 w2 y2 in rw y2 (option_cases (after marks.OpenRound w2.2)
     (λ n3. rw n3 (option_cases (v1)
-      (λ n4. rw n4 tt)
-      (λ w4 y4. rw y4 (option_cases (after marks.Semi w2.2)
-        (λ n5. rw n5 tt)
-        (λ w5 y5. let e5 = after_is marks.Semi w2.2 w5 y5 in rw y5 (field_good (mods_all d0) d1 e2 y4 e5))))))
+    (λ n4. rw n4 tt)
+    (λ w4 y4. rw y4 (option_cases (after marks.Semi w2.2)
+    (λ n5. rw n5 tt)
+    (λ w5 y5. let e5 = after_is marks.Semi w2.2 w5 y5 in rw y5 (field_good (mods_all d0) d1 e2 y4 e5))))))
     (λ w3 y3. let e3 = after_is marks.OpenRound w2.2 w3 y3 in rw y3 (λ v r d. d ts r0 w3.0 (mods_all d0) (rw (e2, e3) at d1)))))))
 
 pub method_good : (ms : List Modifier) (t : Option TypeName) (n : List ℕ) (p : Place) (ts : List Token) → Good Post (method_step ms t n p ts) (Post (NMethod ms t n p) ts)
@@ -132,38 +123,38 @@ method_good ms t n p ts = λ v0 r0 d0. (λ v1 r1 d1. (λ us vs q m t. a_method (
 
 pub members_good : (bs : List MemberTree) (ts : List Token) → Good Post (members_step bs ts) (Post (NMembers bs) ts)
 members_good bs ts = option_cases (after marks.CloseBrace ts)
-  (λ n0. rw (n0, members_step) (λ v1 r1 d1. (λ v r d. record { more = v1 ∷ d.more; is = d.is ∙ append_assoc bs (v1 ∷ []) d.more; members = next_member d1 d.members })))
-  (λ w0 y0. let e0 = after_is marks.CloseBrace ts w0 y0 in rw (y0, members_step) (record { more = []; is = sym (append-nil bs); members = rw e0 no_members }))
+    (λ n0. rw (n0, members_step) (λ v1 r1 d1. (λ v r d. record { more = v1 ∷ d.more; is = d.is ∙ append_assoc bs (v1 ∷ []) d.more; members = next_member d1 d.members })))
+    (λ w0 y0. let e0 = after_is marks.CloseBrace ts w0 y0 in rw (y0, members_step) (record { more = []; is = sym (append-nil bs); members = rw e0 no_members }))
 
 pub heads_good : (hs : List HeadTree) (ts : List Token) → Good Post (heads_step hs ts) (Post (NHeads hs) ts)
 heads_good hs ts = option_cases (after marks.CloseBrace ts)
-  (λ n0. rw (n0, heads_step) (λ v1 r1 d1. (option_cases (after marks.Semi r1)
+    (λ n0. rw (n0, heads_step) (λ v1 r1 d1. (option_cases (after marks.Semi r1)
     (λ n2. rw n2 tt)
     (λ w2 y2. let e2 = after_is marks.Semi r1 w2 y2 in rw y2 (λ v r d. record { more = v1 ∷ d.more; is = d.is ∙ append_assoc hs (v1 ∷ []) d.more; heads = next_head (rw e2 at d1) d.heads })))))
-  (λ w0 y0. let e0 = after_is marks.CloseBrace ts w0 y0 in rw (y0, heads_step) (record { more = []; is = sym (append-nil hs); heads = rw e0 no_heads }))
+    (λ w0 y0. let e0 = after_is marks.CloseBrace ts w0 y0 in rw (y0, heads_step) (record { more = []; is = sym (append-nil hs); heads = rw e0 no_heads }))
 
 pub class_good : (ms : List Modifier) (ts : List Token) → Good Post (class_step ms ts) (Post (NClass ms) ts)
 class_good ms ts = option_cases (word_next ts)
-  (λ n0. rw (n0, class_step) tt)
-  (λ w0 y0. let e0 = word_is ts w0 y0 in rw (y0, class_step) (λ v1 r1 d1. (λ v2 r2 d2. (option_cases (after marks.OpenBrace r2)
+    (λ n0. rw (n0, class_step) tt)
+    (λ w0 y0. let e0 = word_is ts w0 y0 in rw (y0, class_step) (λ v1 r1 d1. (λ v2 r2 d2. (option_cases (after marks.OpenBrace r2)
     (λ n3. rw n3 tt)
     (λ w3 y3. let e3 = after_is marks.OpenBrace r2 w3 y3 in rw y3 (λ v4 r4 d4. (λ us q m. a_class (rw e0 at m) d1 (rw e3 at d2) (members_all d4))))))))
 
 pub interface_good : (ms : List Modifier) (ts : List Token) → Good Post (interface_step ms ts) (Post (NInterface ms) ts)
 interface_good ms ts = option_cases (word_next ts)
-  (λ n0. rw (n0, interface_step) tt)
-  (λ w0 y0. let e0 = word_is ts w0 y0 in rw (y0, interface_step) (λ v1 r1 d1. (option_cases (after marks.OpenBrace r1)
+    (λ n0. rw (n0, interface_step) tt)
+    (λ w0 y0. let e0 = word_is ts w0 y0 in rw (y0, interface_step) (λ v1 r1 d1. (option_cases (after marks.OpenBrace r1)
     (λ n2. rw n2 tt)
     (λ w2 y2. let e2 = after_is marks.OpenBrace r1 w2 y2 in rw y2 (λ v3 r3 d3. (λ us q m. an_interface (rw e0 at m) (rw e2 at d1) (heads_all d3)))))))
 
 pub decl_good : (ts : List Token) → Good Post (decl_step ts) (Post NDecl ts)
 decl_good ts = λ v0 r0 d0. (option_cases (after_key keys.Class r0)
-  (λ n1. rw n1 (option_cases (after_key keys.Interface r0)
+    (λ n1. rw n1 (option_cases (after_key keys.Interface r0)
     (λ n2. rw n2 tt)
     (λ w2 y2. let e2 = after_key_is keys.Interface r0 w2 y2 in rw y2 (λ v r d. d ts w2.0 (mods_all (rw e2 at d0))))))
-  (λ w1 y1. let e1 = after_key_is keys.Class r0 w1 y1 in rw y1 (λ v r d. d ts w1.0 (mods_all (rw e1 at d0)))))
+    (λ w1 y1. let e1 = after_key_is keys.Class r0 w1 y1 in rw y1 (λ v r d. d ts w1.0 (mods_all (rw e1 at d0)))))
 
 pub decls_good : (ds : List DeclTree) (ts : List Token) → Good Post (decls_step ds ts) (Post (NDecls ds) ts)
 decls_good ds ts = bool_cases (at_end ts)
-  (λ y0. rw (y0, decls_step) (record { more = []; is = sym (append-nil ds); ended = at_end_is ts y0; decls = rw (at_end_is ts y0) no_decls }))
-  (λ y0. rw (y0, decls_step) (λ v1 r1 d1. (λ v r d. record { more = v1 ∷ d.more; is = d.is ∙ append_assoc ds (v1 ∷ []) d.more; ended = d.ended; decls = next_decl d1 d.decls })))
+    (λ y0. rw (y0, decls_step) (record { more = []; is = sym (append-nil ds); ended = at_end_is ts y0; decls = rw (at_end_is ts y0) no_decls }))
+    (λ y0. rw (y0, decls_step) (λ v1 r1 d1. (λ v r d. record { more = v1 ∷ d.more; is = d.is ∙ append_assoc ds (v1 ∷ []) d.more; ended = d.ended; decls = next_decl d1 d.decls })))

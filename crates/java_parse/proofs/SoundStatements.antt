@@ -1,34 +1,22 @@
 -- Statements that are read are in the grammar.
-use Rattle.std.proofs.Common.{rules, arith, refl, sym, ap, ◌∙◌, subst, ◌+◌, append_assoc, append-nil, ◌≡◌, ℕ, zero, suc, ℤ, pos, negsuc, ◌<◌, ◌≤◌, List, [], ◌∷◌, ◌++◌, Option, Some, None, Result, Ok, Err, Bool, true, false, if◌then◌else◌, ◌&&◌}
+use Rattle.std.proofs.Common.{refl, sym, ap, ◌∙◌, subst, ◌≡◌, ℕ, List, ◌∷◌, Option, Some, None, Bool, true, false}
 use Rattle.kaba_base.specs.declared.Place.{Place}
-use Rattle.kaba_base.specs.declared.words.Keyword.{Keyword}
 use Rattle.kaba_base.specs.declared.words.Keyword.TheVariants as keys
 use Rattle.java_lex.specs.declared.Token.{Token}
-use Rattle.java_lex.specs.declared.TokenKind.{TokenKind}
-use Rattle.java_lex.specs.declared.TokenKind.TheVariants as kinds
 use Rattle.java_lex.specs.declared.Mark.{Mark}
 use Rattle.java_lex.specs.declared.Mark.TheVariants as marks
-use Rattle.java_tree.specs.declared.Id.{Id}
-use Rattle.java_tree.specs.declared.Modifier.{Modifier}
-use Rattle.java_tree.specs.declared.TypeBase.{TypeBase}
-use Rattle.java_tree.specs.declared.TypeBase.TheVariants as bases
-use Rattle.java_tree.specs.declared.TypeName.{TypeName}
-use Rattle.java_tree.specs.declared.Param.{Param}
-use Rattle.java_tree.specs.Syntax.{Expression, IntLit, CharLit, StrLit, BoolLit, NullLit, ThisRef, NameRef, FieldOf, IndexOf, CallOf, CallOn, SuperCallOf, NewOf, NewArrayOf, CastOf, InstanceOfClass, UnaryOf, BinaryOf, Expressions, no_more, and_more, Statement, LocalOf, BlockOf, AssignOf, DoOf, PrintOf, IfOf, WhileOf, ForOf, ReturnOf, BreakOf, ContinueOf, Statements, no_statements, and_then, Arms, no_arms, and_arm, Else, no_else, otherwise, OptionalStatement, absent, present, HeadTree, MemberTree, FieldTree, MethodTree, DeclTree, ClassTree, InterfaceTree}
-use Rattle.java_tree.specs.Tokens.{token, mark, key, word, level, is_sign, compound, stepping, is_modifier, casts, first_place}
+use Rattle.java_tree.specs.Syntax.{Expression, NameRef, BinaryOf, Statement, BlockOf, AssignOf, IfOf, WhileOf, ForOf, Statements, no_statements, and_then, Arms, no_arms, and_arm, Else, no_else, otherwise, OptionalStatement}
+use Rattle.java_tree.specs.Tokens.{mark, key, word, compound, stepping}
 use Rattle.java_tree.specs.Statements.{as_body, printed}
 use Rattle.java_parse.specs.declared.End.{End}
-use Rattle.java_parse.specs.declared.End.TheVariants as ends
-use Rattle.java_parse.specs.Want.{Want, NExpr, NMore, NPrefixed, NPost, NAtom, NSuper, NNew, NSized, NDims, NType, NTail, NArgs, NMoreArgs, NInit, NLocal, NValue, NAct, NActRest, NTested, NItem, NItems, NStmt, NForHead, NFirst, NStep, NBranches, NMods, NIds, NParent, NList, NParam, NParams, NMoreParams, NResult, NHead, NBody, NMember, NMethod, NMembers, NHeads, NClass, NInterface, NDecl, NDecls, Val, Step, Give, Fail, Ask}
-use Rattle.java_parse.specs.Front.{after, after_key, word_next, operator, instance_next, least_next, sign_next, cast_next, base_next, literal_next, index_next, is_array, expr_snoc, stmt_snoc, arm_snoc, final_of, stepping_next, compound_next, named, is_target, is_call, stepped, done, done_by, starts_local, Start, start, SBlock, SEmpty, SIf, SWhile, SFor, SReturn, SBreak, SContinue, SOther, modifier_next, id_next, at_end}
-use Rattle.java_tree.specs.Expressions.{IsBase, named_base, IsDims, no_dims, one_dim, IsType, a_type, IsExpr, binary, instance_of, operand, IsPrefixed, signed, least, cast_named, cast_int, cast_char, bare, IsPost, field, call_on, index, name, call, super_call, round, new_object, new_array, IsArgs, no_args, some_args, IsMoreArgs, last_arg, next_arg}
-use Rattle.java_tree.specs.Statements.{is_choice, printed, IsFinal, IsValue, no_value, a_value, IsInit, no_init, an_init, IsLocal, a_local, IsTarget, to_name, to_field, to_index, IsCall, plain_call, call_upon, call_above, IsAct, assign, assign_by, step_after, step_before, do_call, print, do_new, IsFirst, no_first, first_local, first_act, IsStep, no_step, a_step, IsItem, local_item, stmt_item, IsItems, no_items, next_item, IsStmt, block, empty, acting, choice, while_loop, for_loop, return_word, break_word, continue_word, IsArms, last_arm, else_arm, more_arms}
-use Rattle.java_tree.specs.Declarations.{IsMods, no_mods, next_mod, IsIds, last_id, next_id, IsParent, no_parent, a_parent, IsList, no_list, a_list, IsParam, a_param, IsMoreParams, last_param, next_param, IsParams, no_params, some_params, IsResult, no_result, a_result, IsHead, a_head, IsBody, no_body, a_body, IsMember, a_field, a_method, IsMembers, no_members, next_member, IsHeads, no_heads, next_head, IsDecl, a_class, an_interface, IsPlaced, no_decls, next_decl}
-use Rattle.java_parse.proofs.Fronts.{option_cases, bool_cases, after_is, after_key_is, word_is, operator_is, instance_is, least_is, sign_is, cast_is, base_is, literal_is, index_is, final_is, stepping_is, compound_is, modifier_is, id_is, start_cases, Starts, start_is}
-use Rattle.java_parse.proofs.Post.{Ended, by_name, by_target, by_call, by_new, by_array, by_other, Counted, expr_append, stmt_append, arm_append, MoreArgs, Tested, Itemed, Stmted, Headed, Branched, Modded, Listed, MoreParams, Membered, Heads, Declared, Post}
+use Rattle.java_parse.specs.Want.{NInit, NLocal, NValue, NAct, NActRest, NTested, NItem, NItems, NStmt, NForHead, NFirst, NStep, NBranches}
+use Rattle.java_parse.specs.Front.{after, after_key, word_next, stmt_snoc, arm_snoc, stepping_next, compound_next, named, is_target, is_call, stepped, done, starts_local, Start, start}
+use Rattle.java_tree.specs.Expressions.{IsExpr}
+use Rattle.java_tree.specs.Statements.{is_choice, printed, no_value, a_value, no_init, an_init, a_local, IsTarget, to_name, IsCall, IsAct, assign, assign_by, step_after, step_before, do_call, print, do_new, no_first, first_local, first_act, no_step, a_step, local_item, stmt_item, IsItems, no_items, next_item, IsStmt, block, empty, acting, choice, while_loop, for_loop, return_word, break_word, continue_word, IsArms, last_arm, else_arm, more_arms}
+use Rattle.java_parse.proofs.Fronts.{option_cases, bool_cases, after_is, after_key_is, word_is, final_is, stepping_is, compound_is, start_cases, Starts, start_is}
+use Rattle.java_parse.proofs.Post.{Ended, by_name, by_target, by_call, by_new, by_array, by_other, stmt_append, arm_append, Tested, Itemed, Stmted, Headed, Branched, Post}
 use Rattle.java_parse.proofs.Runs.{Good}
 use Rattle.java_parse.specs.ReadStatements.{init_step, local_step, value_step, act_step, act_rest_step, tested_step, item_step, items_step, stmt_step, for_head_step, first_step, step_step, branches_step}
-use Rattle.java_parse.proofs.SoundExpressions.{post_of}
 
 never : {P : Type 0} → false ≡ true → P
 never h = absurd (let g : ⊥ = cc in g)
@@ -167,108 +155,108 @@ again_good {us = us} {e = e} {s = s} {w = w} {x = x} a f g t d r =
 
 pub init_good : (ts : List Token) → Good Post (init_step ts) (Post NInit ts)
 init_good ts = option_cases (after marks.Assign ts)
-  (λ n0. rw (n0, init_step) no_init)
-  (λ w0 y0. let e0 = after_is marks.Assign ts w0 y0 in rw (y0, init_step) (λ v1 r1 d1. (rw e0 (an_init d1))))
+    (λ n0. rw (n0, init_step) no_init)
+    (λ w0 y0. let e0 = after_is marks.Assign ts w0 y0 in rw (y0, init_step) (λ v1 r1 d1. (rw e0 (an_init d1))))
 
 pub local_good : (ts : List Token) → Good Post (local_step ts) (Post NLocal ts)
 local_good ts = λ v0 r0 d0. (option_cases (word_next r0)
-  (λ n1. rw n1 tt)
-  (λ w1 y1. let e1 = word_is r0 w1 y1 in rw y1 (λ v2 r2 d2. (a_local (final_is ts) (rw e1 at d0) d2))))
+    (λ n1. rw n1 tt)
+    (λ w1 y1. let e1 = word_is r0 w1 y1 in rw y1 (λ v2 r2 d2. (a_local (final_is ts) (rw e1 at d0) d2))))
 
 pub value_good : (ts : List Token) → Good Post (value_step ts) (Post NValue ts)
 value_good ts = option_cases (after marks.Semi ts)
-  (λ n0. rw (n0, value_step) (λ v1 r1 d1. (a_value d1)))
-  (λ w0 y0. rw (y0, value_step) no_value)
+    (λ n0. rw (n0, value_step) (λ v1 r1 d1. (a_value d1)))
+    (λ w0 y0. rw (y0, value_step) no_value)
 
 pub act_good : (ts : List Token) → Good Post (act_step ts) (Post NAct ts)
 act_good ts = option_cases (stepping_next ts)
-  (λ n0. rw (n0, act_step) (λ v1 r1 d1. (λ v r d. d d1)))
-  (λ w0 y0. let e0 = stepping_is ts w0 y0 in rw (y0, act_step) (option_cases (word_next w0.2)
+    (λ n0. rw (n0, act_step) (λ v1 r1 d1. (λ v r d. d d1)))
+    (λ w0 y0. let e0 = stepping_is ts w0 y0 in rw (y0, act_step) (option_cases (word_next w0.2)
     (λ n1. rw n1 tt)
     (λ w1 y1. let e1 = word_is w0.2 w1 y1 in rw y1 (before_act e0 e1))))
 
 pub act_rest_good : (ss : List Token) (e : Expression) (z : End) (ts : List Token) → Good Post (act_rest_step ss e z ts) (Post (NActRest ss e z) ts)
 act_rest_good ss e z ts = option_cases (after marks.Assign ts)
-  (λ n0. rw (n0, act_rest_step) (option_cases (compound_next ts)
+    (λ n0. rw (n0, act_rest_step) (option_cases (compound_next ts)
     (λ n1. rw n1 (option_cases (stepping_next ts)
-      (λ n2. rw n2 (bool_cases (is_call z)
-        (λ y3. rw y3 (λ h. call_act h y3))
-        (λ y3. rw y3 tt)))
-      (λ w2 y2. let e2 = stepping_is ts w2 y2 in rw y2 (option_cases (named z e)
-        (λ n3. rw n3 tt)
-        (λ w3 y3. rw y3 (λ h. after_act e2 y3 h))))))
+    (λ n2. rw n2 (bool_cases (is_call z)
+    (λ y3. rw y3 (λ h. call_act h y3))
+    (λ y3. rw y3 tt)))
+    (λ w2 y2. let e2 = stepping_is ts w2 y2 in rw y2 (option_cases (named z e)
+    (λ n3. rw n3 tt)
+    (λ w3 y3. rw y3 (λ h. after_act e2 y3 h))))))
     (λ w1 y1. let e1 = compound_is ts w1 y1 in rw y1 (option_cases (named z e)
-      (λ n2. rw n2 tt)
-      (λ w2 y2. rw y2 (λ v3 r3 d3. (λ h. compound_act e1 y2 h d3)))))))
-  (λ w0 y0. let e0 = after_is marks.Assign ts w0 y0 in rw (y0, act_rest_step) (bool_cases (is_target z)
+    (λ n2. rw n2 tt)
+    (λ w2 y2. rw y2 (λ v3 r3 d3. (λ h. compound_act e1 y2 h d3)))))))
+    (λ w0 y0. let e0 = after_is marks.Assign ts w0 y0 in rw (y0, act_rest_step) (bool_cases (is_target z)
     (λ y1. rw y1 (λ v2 r2 d2. (λ h. assign (rw e0 at (target_of h y1)) d2)))
     (λ y1. rw y1 tt)))
 
 pub tested_good : (ts : List Token) → Good Post (tested_step ts) (Post NTested ts)
 tested_good ts = option_cases (after marks.OpenRound ts)
-  (λ n0. rw (n0, tested_step) tt)
-  (λ w0 y0. let e0 = after_is marks.OpenRound ts w0 y0 in rw (y0, tested_step) (λ v1 r1 d1. (option_cases (after marks.CloseRound r1)
+    (λ n0. rw (n0, tested_step) tt)
+    (λ w0 y0. let e0 = after_is marks.OpenRound ts w0 y0 in rw (y0, tested_step) (λ v1 r1 d1. (option_cases (after marks.CloseRound r1)
     (λ n2. rw n2 tt)
     (λ w2 y2. let e2 = after_is marks.CloseRound r1 w2 y2 in rw y2 (record { open_at = w0.0; close_at = w2.0; inner = w0.1; starts = e0; test = rw e2 at d1 })))))
 
 pub item_good : (ts : List Token) → Good Post (item_step ts) (Post NItem ts)
 item_good ts = bool_cases (starts_local ts)
-  (λ y0. rw (y0, item_step) (λ v1 r1 d1. (option_cases (after marks.Semi r1)
+    (λ y0. rw (y0, item_step) (λ v1 r1 d1. (option_cases (after marks.Semi r1)
     (λ n2. rw n2 tt)
     (λ w2 y2. let e2 = after_is marks.Semi r1 w2 y2 in rw y2 (local_item (rw e2 at d1))))))
-  (λ y0. rw (y0, item_step) (λ v r d. stmt_item d.fact))
+    (λ y0. rw (y0, item_step) (λ v r d. stmt_item d.fact))
 
 pub items_good : (ss : Statements) (ts : List Token) → Good Post (items_step ss ts) (Post (NItems ss) ts)
 items_good ss ts = option_cases (after marks.CloseBrace ts)
-  (λ n0. rw (n0, items_step) (λ v1 r1 d1. (λ v r d. record { more = and_then v1 d.more; is = d.is ∙ stmt_append-snoc ss v1 d.more; items = next_item d1 d.items })))
-  (λ w0 y0. let e0 = after_is marks.CloseBrace ts w0 y0 in rw (y0, items_step) (record { more = no_statements; is = sym (stmt_append-none ss); items = rw e0 no_items }))
+    (λ n0. rw (n0, items_step) (λ v1 r1 d1. (λ v r d. record { more = and_then v1 d.more; is = d.is ∙ stmt_append-snoc ss v1 d.more; items = next_item d1 d.items })))
+    (λ w0 y0. let e0 = after_is marks.CloseBrace ts w0 y0 in rw (y0, items_step) (record { more = no_statements; is = sym (stmt_append-none ss); items = rw e0 no_items }))
 
 pub stmt_good : (ts : List Token) → Good Post (stmt_step ts) (Post NStmt ts)
 stmt_good ts = start_cases (start ts)
-  (λ p0 us0 y0. rw (y0, stmt_step) (λ v1 r1 d1. (block_good (starts_at ts y0) d1)))
-  (λ p0 us0 y0. rw (y0, stmt_step) (rw (starts_at ts y0) (record { flag = false; fact = empty; closed = never })))
-  (λ p0 us0 y0. rw (y0, stmt_step) (λ v1 r1 d1. (choice_good (starts_at ts y0) d1)))
-  (λ p0 us0 y0. rw (y0, stmt_step) (λ v1 r1 d1. (λ v2 r2 d2. (while_good (starts_at ts y0) d1 d2))))
-  (λ p0 us0 y0. rw (y0, stmt_step) (λ v1 r1 d1. (λ v2 r2 d2. (for_good (starts_at ts y0) d1 d2))))
-  (λ p0 us0 y0. rw (y0, stmt_step) (λ v1 r1 d1. (option_cases (after marks.Semi r1)
+    (λ p0 us0 y0. rw (y0, stmt_step) (λ v1 r1 d1. (block_good (starts_at ts y0) d1)))
+    (λ p0 us0 y0. rw (y0, stmt_step) (rw (starts_at ts y0) (record { flag = false; fact = empty; closed = never })))
+    (λ p0 us0 y0. rw (y0, stmt_step) (λ v1 r1 d1. (choice_good (starts_at ts y0) d1)))
+    (λ p0 us0 y0. rw (y0, stmt_step) (λ v1 r1 d1. (λ v2 r2 d2. (while_good (starts_at ts y0) d1 d2))))
+    (λ p0 us0 y0. rw (y0, stmt_step) (λ v1 r1 d1. (λ v2 r2 d2. (for_good (starts_at ts y0) d1 d2))))
+    (λ p0 us0 y0. rw (y0, stmt_step) (λ v1 r1 d1. (option_cases (after marks.Semi r1)
     (λ n2. rw n2 tt)
     (λ w2 y2. let e2 = after_is marks.Semi r1 w2 y2 in rw y2 (rw (starts_at ts y0) (record { flag = false; fact = return_word (rw e2 at d1); closed = never }))))))
-  (λ p0 us0 y0. rw (y0, stmt_step) (option_cases (after marks.Semi us0)
+    (λ p0 us0 y0. rw (y0, stmt_step) (option_cases (after marks.Semi us0)
     (λ n1. rw n1 tt)
     (λ w1 y1. let e1 = after_is marks.Semi us0 w1 y1 in rw y1 (rw (starts_at ts y0, e1) (record { flag = false; fact = break_word; closed = never })))))
-  (λ p0 us0 y0. rw (y0, stmt_step) (option_cases (after marks.Semi us0)
+    (λ p0 us0 y0. rw (y0, stmt_step) (option_cases (after marks.Semi us0)
     (λ n1. rw n1 tt)
     (λ w1 y1. let e1 = after_is marks.Semi us0 w1 y1 in rw y1 (rw (starts_at ts y0, e1) (record { flag = false; fact = continue_word; closed = never })))))
-  (λ y0. rw (y0, stmt_step) (λ v1 r1 d1. (option_cases (after marks.Semi r1)
+    (λ y0. rw (y0, stmt_step) (λ v1 r1 d1. (option_cases (after marks.Semi r1)
     (λ n2. rw n2 tt)
     (λ w2 y2. let e2 = after_is marks.Semi r1 w2 y2 in rw y2 (record { flag = false; fact = acting (rw e2 at d1); closed = never })))))
 
 pub for_head_good : (ts : List Token) → Good Post (for_head_step ts) (Post NForHead ts)
 for_head_good ts = option_cases (after marks.OpenRound ts)
-  (λ n0. rw (n0, for_head_step) tt)
-  (λ w0 y0. let e0 = after_is marks.OpenRound ts w0 y0 in rw (y0, for_head_step) (λ v1 r1 d1. (option_cases (after marks.Semi r1)
+    (λ n0. rw (n0, for_head_step) tt)
+    (λ w0 y0. let e0 = after_is marks.OpenRound ts w0 y0 in rw (y0, for_head_step) (λ v1 r1 d1. (option_cases (after marks.Semi r1)
     (λ n2. rw n2 tt)
     (λ w2 y2. let e2 = after_is marks.Semi r1 w2 y2 in rw y2 (λ v3 r3 d3. (option_cases (after marks.Semi r3)
-      (λ n4. rw n4 tt)
-      (λ w4 y4. let e4 = after_is marks.Semi r3 w4 y4 in rw y4 (λ v5 r5 d5. (option_cases (after marks.CloseRound r5)
-        (λ n6. rw n6 tt)
-        (λ w6 y6. let e6 = after_is marks.CloseRound r5 w6 y6 in rw y6 (record { open_at = w0.0; first_at = w2.0; second_at = w4.0; close_at = w6.0; inner = w0.1; middle = w2.1; last = w4.1; starts = e0; first = rw e2 at d1; test = rw e4 at d3; step = rw e6 at d5 })))))))))))
+    (λ n4. rw n4 tt)
+    (λ w4 y4. let e4 = after_is marks.Semi r3 w4 y4 in rw y4 (λ v5 r5 d5. (option_cases (after marks.CloseRound r5)
+    (λ n6. rw n6 tt)
+    (λ w6 y6. let e6 = after_is marks.CloseRound r5 w6 y6 in rw y6 (record { open_at = w0.0; first_at = w2.0; second_at = w4.0; close_at = w6.0; inner = w0.1; middle = w2.1; last = w4.1; starts = e0; first = rw e2 at d1; test = rw e4 at d3; step = rw e6 at d5 })))))))))))
 
 pub first_good : (ts : List Token) → Good Post (first_step ts) (Post NFirst ts)
 first_good ts = option_cases (after marks.Semi ts)
-  (λ n0. rw (n0, first_step) (bool_cases (starts_local ts)
+    (λ n0. rw (n0, first_step) (bool_cases (starts_local ts)
     (λ y1. rw y1 (λ v2 r2 d2. (first_local d2)))
     (λ y1. rw y1 (λ v2 r2 d2. (first_act d2)))))
-  (λ w0 y0. rw (y0, first_step) no_first)
+    (λ w0 y0. rw (y0, first_step) no_first)
 
 pub step_good : (ts : List Token) → Good Post (step_step ts) (Post NStep ts)
 step_good ts = option_cases (after marks.CloseRound ts)
-  (λ n0. rw (n0, step_step) (λ v1 r1 d1. (a_step d1)))
-  (λ w0 y0. rw (y0, step_step) no_step)
+    (λ n0. rw (n0, step_step) (λ v1 r1 d1. (a_step d1)))
+    (λ w0 y0. rw (y0, step_step) no_step)
 
 pub branches_good : (a : Arms) (ts : List Token) → Good Post (branches_step a ts) (Post (NBranches a) ts)
 branches_good a ts = λ v0 r0 d0. (λ v1 r1 d1. (option_cases (after_key keys.Else r1)
-  (λ n2. rw n2 (end_good a n2 d0 d1))
-  (λ w2 y2. let e2 = after_key_is keys.Else r1 w2 y2 in rw y2 (option_cases (after_key keys.If w2.1)
+    (λ n2. rw n2 (end_good a n2 d0 d1))
+    (λ w2 y2. let e2 = after_key_is keys.Else r1 w2 y2 in rw y2 (option_cases (after_key keys.If w2.1)
     (λ n3. rw n3 (λ v4 r4 d4. (other_good a e2 n3 d0 d1 d4)))
     (λ w3 y3. let e3 = after_key_is keys.If w2.1 w3 y3 in rw y3 (λ v r d. again_good a e2 e3 d0 d1 d))))))

@@ -1,135 +1,155 @@
 -- How declarations are read from the left, with one token of look-ahead.
-use Rattle.std.specs.Prelude.{◌≡◌, ℕ, zero, suc, ℤ, pos, negsuc, ◌<◌, ◌≤◌, List, [], ◌∷◌, ◌++◌, Option, Some, None, Result, Ok, Err, Bool, true, false, if◌then◌else◌, nat_le, nat_lt, ◌&&◌}
+use Rattle.std.specs.Prelude.{ℕ, List, [], ◌∷◌, ◌++◌, Option, Some, None, true, false}
 use Rattle.kaba_base.specs.declared.Place.{Place}
 use Rattle.kaba_base.specs.declared.words.Keyword.{Keyword}
 use Rattle.kaba_base.specs.declared.words.Keyword.TheVariants as keys
 use Rattle.java_lex.specs.declared.Token.{Token}
-use Rattle.java_lex.specs.declared.TokenKind.{TokenKind}
-use Rattle.java_lex.specs.declared.TokenKind.TheVariants as kinds
-use Rattle.java_lex.specs.declared.Mark.{Mark}
 use Rattle.java_lex.specs.declared.Mark.TheVariants as marks
 use Rattle.java_tree.specs.declared.Id.{Id}
 use Rattle.java_tree.specs.declared.Modifier.{Modifier}
-use Rattle.java_tree.specs.declared.TypeBase.{TypeBase}
-use Rattle.java_tree.specs.declared.TypeBase.TheVariants as bases
 use Rattle.java_tree.specs.declared.TypeName.{TypeName}
 use Rattle.java_tree.specs.declared.Param.{Param}
-use Rattle.java_tree.specs.Syntax.{Expression, IntLit, CharLit, StrLit, BoolLit, NullLit, ThisRef, NameRef, FieldOf, IndexOf, CallOf, CallOn, SuperCallOf, NewOf, NewArrayOf, CastOf, InstanceOfClass, UnaryOf, BinaryOf, Expressions, no_more, and_more, Statement, LocalOf, BlockOf, AssignOf, DoOf, PrintOf, IfOf, WhileOf, ForOf, ReturnOf, BreakOf, ContinueOf, Statements, no_statements, and_then, Arms, no_arms, and_arm, Else, no_else, otherwise, OptionalStatement, absent, present, HeadTree, MemberTree, FieldTree, MethodTree, DeclTree, ClassTree, InterfaceTree}
-use Rattle.java_tree.specs.Tokens.{token, mark, key, word, level, is_sign, compound, stepping, is_modifier, casts, first_place}
-use Rattle.java_tree.specs.Statements.{as_body, printed}
-use Rattle.java_parse.specs.declared.End.{End}
-use Rattle.java_parse.specs.declared.End.TheVariants as ends
-use Rattle.java_parse.specs.Want.{Want, NExpr, NMore, NPrefixed, NPost, NAtom, NSuper, NNew, NSized, NDims, NType, NTail, NArgs, NMoreArgs, NInit, NLocal, NValue, NAct, NActRest, NTested, NItem, NItems, NStmt, NForHead, NFirst, NStep, NBranches, NMods, NIds, NParent, NList, NParam, NParams, NMoreParams, NResult, NHead, NBody, NMember, NMethod, NMembers, NHeads, NClass, NInterface, NDecl, NDecls, Val, Step, Give, Fail, Ask}
-use Rattle.java_parse.specs.Front.{after, after_key, word_next, operator, instance_next, least_next, sign_next, cast_next, base_next, literal_next, index_next, expr_snoc, stmt_snoc, arm_snoc, final_of, stepping_next, compound_next, named, is_target, is_call, stepped, done, starts_local, Start, start, SBlock, SEmpty, SIf, SWhile, SFor, SReturn, SBreak, SContinue, SOther, modifier_next, id_next, at_end}
+use Rattle.java_tree.specs.Syntax.{Statements, no_statements, HeadTree, MemberTree, FieldTree, MethodTree, DeclTree, ClassTree, InterfaceTree}
+use Rattle.java_parse.specs.Want.{NType, NItems, NMods, NIds, NParent, NList, NParam, NParams, NMoreParams, NResult, NHead, NBody, NMember, NMethod, NMembers, NHeads, NClass, NInterface, NDecl, NDecls, Step, Give, Fail, Ask}
+use Rattle.java_parse.specs.Front.{after, after_key, word_next, final_of, modifier_next, id_next, at_end}
 
 abbrev pub mods_step : List Modifier → List Token → Step (List Modifier)
 mods_step ms ts = elim (modifier_next ts) [
-    Some w1 ↦ Ask (NMods (ms ++ w1.0 ∷ [])) w1.1 Give
-  | None ↦ Give ms ts ]
+  | Some w1 ↦ Ask (NMods (ms ++ w1.0 ∷ [])) w1.1 Give
+  | None ↦ Give ms ts
+]
 
 abbrev pub ids_step : List Id → List Token → Step (List Id)
 ids_step is ts = elim (id_next ts) [
-    Some w1 ↦ elim (after marks.Comma w1.1) [
-        Some w2 ↦ Ask (NIds (is ++ w1.0 ∷ [])) w2.1 Give
-      | None ↦ Give (is ++ w1.0 ∷ []) w1.1 ]
-  | None ↦ Fail ts ]
+  | Some w1 ↦ elim (after marks.Comma w1.1) [
+    | Some w2 ↦ Ask (NIds (is ++ w1.0 ∷ [])) w2.1 Give
+    | None ↦ Give (is ++ w1.0 ∷ []) w1.1
+  ]
+  | None ↦ Fail ts
+]
 
 abbrev pub parent_step : List Token → Step (Option Id)
 parent_step ts = elim (after_key keys.Extends ts) [
-    Some w1 ↦ elim (id_next w1.1) [
-        Some w2 ↦ Give (Some w2.0) w2.1
-      | None ↦ Fail w1.1 ]
-  | None ↦ Give None ts ]
+  | Some w1 ↦ elim (id_next w1.1) [
+    | Some w2 ↦ Give (Some w2.0) w2.1
+    | None ↦ Fail w1.1
+  ]
+  | None ↦ Give None ts
+]
 
 abbrev pub list_step : Keyword → List Token → Step (List Id)
 list_step k ts = elim (after_key k ts) [
-    Some w1 ↦ Ask (NIds []) w1.1 Give
-  | None ↦ Give [] ts ]
+  | Some w1 ↦ Ask (NIds []) w1.1 Give
+  | None ↦ Give [] ts
+]
 
 abbrev pub param_step : List Token → Step Param
 param_step ts = Ask NType ((final_of ts).1) (λ x1 r2. elim (word_next r2) [
-    Some w3 ↦ Give (record { is_final = (final_of ts).0; ty = x1; name = w3.0; place = w3.1 }) w3.2
-  | None ↦ Fail r2 ])
+  | Some w3 ↦ Give (record { is_final = (final_of ts).0; ty = x1; name = w3.0; place = w3.1 }) w3.2
+  | None ↦ Fail r2
+])
 
 abbrev pub params_step : List Token → Step (List Param)
 params_step ts = elim (after marks.CloseRound ts) [
-    Some w1 ↦ Give [] w1.1
-  | None ↦ Ask NParam ts (λ x2 r3. Ask (NMoreParams (x2 ∷ [])) r3 Give) ]
+  | Some w1 ↦ Give [] w1.1
+  | None ↦ Ask NParam ts (λ x2 r3. Ask (NMoreParams (x2 ∷ [])) r3 Give)
+]
 
 abbrev pub more_params_step : List Param → List Token → Step (List Param)
 more_params_step qs ts = elim (after marks.CloseRound ts) [
-    Some w1 ↦ Give qs w1.1
+  | Some w1 ↦ Give qs w1.1
   | None ↦ elim (after marks.Comma ts) [
-        Some w2 ↦ Ask NParam w2.1 (λ x3 r4. Ask (NMoreParams (qs ++ x3 ∷ [])) r4 Give)
-      | None ↦ Fail ts ] ]
+    | Some w2 ↦ Ask NParam w2.1 (λ x3 r4. Ask (NMoreParams (qs ++ x3 ∷ [])) r4 Give)
+    | None ↦ Fail ts
+  ]
+]
 
 abbrev pub result_type_step : List Token → Step (Option TypeName)
 result_type_step ts = elim (after_key keys.Void ts) [
-    Some w1 ↦ Give None w1.1
-  | None ↦ Ask NType ts (λ x2 r3. Give (Some x2) r3) ]
+  | Some w1 ↦ Give None w1.1
+  | None ↦ Ask NType ts (λ x2 r3. Give (Some x2) r3)
+]
 
 abbrev pub head_step : List Token → Step HeadTree
 head_step ts = Ask (NMods []) ts (λ x1 r2. Ask NResult r2 (λ x3 r4. elim (word_next r4) [
-    Some w5 ↦ elim (after marks.OpenRound w5.2) [
-        Some w6 ↦ Ask NParams w6.1 (λ x7 r8. Give (record { mods = x1; type = x3; name = w5.0; params = x7; place = w5.1 }) r8)
-      | None ↦ Fail w5.2 ]
-  | None ↦ Fail r4 ]))
+  | Some w5 ↦ elim (after marks.OpenRound w5.2) [
+    | Some w6 ↦ Ask NParams w6.1 (λ x7 r8. Give (record { mods = x1; type = x3; name = w5.0; params = x7; place = w5.1 }) r8)
+    | None ↦ Fail w5.2
+  ]
+  | None ↦ Fail r4
+]))
 
 abbrev pub body_step : List Token → Step (Option Statements)
 body_step ts = elim (after marks.Semi ts) [
-    Some w1 ↦ Give None w1.1
+  | Some w1 ↦ Give None w1.1
   | None ↦ elim (after marks.OpenBrace ts) [
-        Some w2 ↦ Ask (NItems no_statements) w2.1 (λ x3 r4. Give (Some x3) r4)
-      | None ↦ Fail ts ] ]
+    | Some w2 ↦ Ask (NItems no_statements) w2.1 (λ x3 r4. Give (Some x3) r4)
+    | None ↦ Fail ts
+  ]
+]
 
 abbrev pub member_step : List Token → Step MemberTree
 member_step ts = Ask (NMods []) ts (λ x1 r2. Ask NResult r2 (λ x3 r4. elim (word_next r4) [
-    Some w5 ↦ elim (after marks.OpenRound w5.2) [
-        Some w6 ↦ Ask (NMethod x1 x3 w5.0 w5.1) w6.1 Give
-      | None ↦ elim (x3) [
-            Some w7 ↦ elim (after marks.Semi w5.2) [
-                Some w8 ↦ Give (FieldTree x1 w7 w5.0 w5.1) w8.1
-              | None ↦ Fail w5.2 ]
-          | None ↦ Fail w5.2 ] ]
-  | None ↦ Fail r4 ]))
+  | Some w5 ↦ elim (after marks.OpenRound w5.2) [
+    | Some w6 ↦ Ask (NMethod x1 x3 w5.0 w5.1) w6.1 Give
+    | None ↦ elim (x3) [
+      | Some w7 ↦ elim (after marks.Semi w5.2) [
+        | Some w8 ↦ Give (FieldTree x1 w7 w5.0 w5.1) w8.1
+        | None ↦ Fail w5.2
+      ]
+      | None ↦ Fail w5.2
+    ]
+  ]
+  | None ↦ Fail r4
+]))
 
 abbrev pub method_step : List Modifier → Option TypeName → List ℕ → Place → List Token → Step MemberTree
 method_step ms t n p ts = Ask NParams ts (λ x1 r2. Ask NBody r2 (λ x3 r4. Give (MethodTree (record { mods = ms; type = t; name = n; params = x1; place = p }) x3 p) r4))
 
 abbrev pub members_step : List MemberTree → List Token → Step (List MemberTree)
 members_step bs ts = elim (after marks.CloseBrace ts) [
-    Some w1 ↦ Give bs w1.1
-  | None ↦ Ask NMember ts (λ x2 r3. Ask (NMembers (bs ++ x2 ∷ [])) r3 Give) ]
+  | Some w1 ↦ Give bs w1.1
+  | None ↦ Ask NMember ts (λ x2 r3. Ask (NMembers (bs ++ x2 ∷ [])) r3 Give)
+]
 
 abbrev pub heads_step : List HeadTree → List Token → Step (List HeadTree)
 heads_step hs ts = elim (after marks.CloseBrace ts) [
-    Some w1 ↦ Give hs w1.1
+  | Some w1 ↦ Give hs w1.1
   | None ↦ Ask NHead ts (λ x2 r3. elim (after marks.Semi r3) [
-        Some w4 ↦ Ask (NHeads (hs ++ x2 ∷ [])) w4.1 Give
-      | None ↦ Fail r3 ]) ]
+    | Some w4 ↦ Ask (NHeads (hs ++ x2 ∷ [])) w4.1 Give
+    | None ↦ Fail r3
+  ])
+]
 
 abbrev pub class_step : List Modifier → List Token → Step DeclTree
 class_step ms ts = elim (word_next ts) [
-    Some w1 ↦ Ask NParent w1.2 (λ x2 r3. Ask (NList keys.Implements) r3 (λ x4 r5. elim (after marks.OpenBrace r5) [
-        Some w6 ↦ Ask (NMembers []) w6.1 (λ x7 r8. Give (ClassTree ms w1.0 x2 x4 x7 w1.1) r8)
-      | None ↦ Fail r5 ]))
-  | None ↦ Fail ts ]
+  | Some w1 ↦ Ask NParent w1.2 (λ x2 r3. Ask (NList keys.Implements) r3 (λ x4 r5. elim (after marks.OpenBrace r5) [
+    | Some w6 ↦ Ask (NMembers []) w6.1 (λ x7 r8. Give (ClassTree ms w1.0 x2 x4 x7 w1.1) r8)
+    | None ↦ Fail r5
+  ]))
+  | None ↦ Fail ts
+]
 
 abbrev pub interface_step : List Modifier → List Token → Step DeclTree
 interface_step ms ts = elim (word_next ts) [
-    Some w1 ↦ Ask (NList keys.Extends) w1.2 (λ x2 r3. elim (after marks.OpenBrace r3) [
-        Some w4 ↦ Ask (NHeads []) w4.1 (λ x5 r6. Give (InterfaceTree ms w1.0 x2 x5 w1.1) r6)
-      | None ↦ Fail r3 ])
-  | None ↦ Fail ts ]
+  | Some w1 ↦ Ask (NList keys.Extends) w1.2 (λ x2 r3. elim (after marks.OpenBrace r3) [
+    | Some w4 ↦ Ask (NHeads []) w4.1 (λ x5 r6. Give (InterfaceTree ms w1.0 x2 x5 w1.1) r6)
+    | None ↦ Fail r3
+  ])
+  | None ↦ Fail ts
+]
 
 abbrev pub decl_step : List Token → Step DeclTree
 decl_step ts = Ask (NMods []) ts (λ x1 r2. elim (after_key keys.Class r2) [
-    Some w3 ↦ Ask (NClass x1) w3.1 Give
+  | Some w3 ↦ Ask (NClass x1) w3.1 Give
   | None ↦ elim (after_key keys.Interface r2) [
-        Some w4 ↦ Ask (NInterface x1) w4.1 Give
-      | None ↦ Fail r2 ] ])
+    | Some w4 ↦ Ask (NInterface x1) w4.1 Give
+    | None ↦ Fail r2
+  ]
+])
 
 abbrev pub decls_step : List DeclTree → List Token → Step (List DeclTree)
 decls_step ds ts = elim (at_end ts) [
-    true ↦ Give ds ts
-  | false ↦ Ask NDecl ts (λ x1 r2. Ask (NDecls (ds ++ x1 ∷ [])) r2 Give) ]
+  | true ↦ Give ds ts
+  | false ↦ Ask NDecl ts (λ x1 r2. Ask (NDecls (ds ++ x1 ∷ [])) r2 Give)
+]

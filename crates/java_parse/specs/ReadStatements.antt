@@ -1,131 +1,149 @@
 -- How statements are read from the left, with one token of look-ahead.
-use Rattle.std.specs.Prelude.{◌≡◌, ℕ, zero, suc, ℤ, pos, negsuc, ◌<◌, ◌≤◌, List, [], ◌∷◌, ◌++◌, Option, Some, None, Result, Ok, Err, Bool, true, false, if◌then◌else◌, nat_le, nat_lt, ◌&&◌}
-use Rattle.kaba_base.specs.declared.Place.{Place}
-use Rattle.kaba_base.specs.declared.words.Keyword.{Keyword}
+use Rattle.std.specs.Prelude.{List, Option, Some, None, true, false}
 use Rattle.kaba_base.specs.declared.words.Keyword.TheVariants as keys
 use Rattle.java_lex.specs.declared.Token.{Token}
-use Rattle.java_lex.specs.declared.TokenKind.{TokenKind}
-use Rattle.java_lex.specs.declared.TokenKind.TheVariants as kinds
-use Rattle.java_lex.specs.declared.Mark.{Mark}
 use Rattle.java_lex.specs.declared.Mark.TheVariants as marks
-use Rattle.java_tree.specs.declared.Id.{Id}
-use Rattle.java_tree.specs.declared.Modifier.{Modifier}
-use Rattle.java_tree.specs.declared.TypeBase.{TypeBase}
-use Rattle.java_tree.specs.declared.TypeBase.TheVariants as bases
-use Rattle.java_tree.specs.declared.TypeName.{TypeName}
-use Rattle.java_tree.specs.declared.Param.{Param}
-use Rattle.java_tree.specs.Syntax.{Expression, IntLit, CharLit, StrLit, BoolLit, NullLit, ThisRef, NameRef, FieldOf, IndexOf, CallOf, CallOn, SuperCallOf, NewOf, NewArrayOf, CastOf, InstanceOfClass, UnaryOf, BinaryOf, Expressions, no_more, and_more, Statement, LocalOf, BlockOf, AssignOf, DoOf, PrintOf, IfOf, WhileOf, ForOf, ReturnOf, BreakOf, ContinueOf, Statements, no_statements, and_then, Arms, no_arms, and_arm, Else, no_else, otherwise, OptionalStatement, absent, present, HeadTree, MemberTree, FieldTree, MethodTree, DeclTree, ClassTree, InterfaceTree}
-use Rattle.java_tree.specs.Tokens.{token, mark, key, word, level, is_sign, compound, stepping, is_modifier, casts, first_place}
-use Rattle.java_tree.specs.Statements.{as_body, printed}
+use Rattle.java_tree.specs.Syntax.{Expression, NameRef, BinaryOf, Statement, LocalOf, BlockOf, AssignOf, IfOf, WhileOf, ForOf, ReturnOf, BreakOf, ContinueOf, Statements, no_statements, Arms, no_arms, Else, no_else, otherwise, OptionalStatement, absent, present}
+use Rattle.java_tree.specs.Statements.{as_body}
 use Rattle.java_parse.specs.declared.End.{End}
-use Rattle.java_parse.specs.declared.End.TheVariants as ends
-use Rattle.java_parse.specs.Want.{Want, NExpr, NMore, NPrefixed, NPost, NAtom, NSuper, NNew, NSized, NDims, NType, NTail, NArgs, NMoreArgs, NInit, NLocal, NValue, NAct, NActRest, NTested, NItem, NItems, NStmt, NForHead, NFirst, NStep, NBranches, NMods, NIds, NParent, NList, NParam, NParams, NMoreParams, NResult, NHead, NBody, NMember, NMethod, NMembers, NHeads, NClass, NInterface, NDecl, NDecls, Val, Step, Give, Fail, Ask}
-use Rattle.java_parse.specs.Front.{after, after_key, word_next, operator, instance_next, least_next, sign_next, cast_next, base_next, literal_next, index_next, expr_snoc, stmt_snoc, arm_snoc, final_of, stepping_next, compound_next, named, is_target, is_call, stepped, done, starts_local, Start, start, SBlock, SEmpty, SIf, SWhile, SFor, SReturn, SBreak, SContinue, SOther, modifier_next, id_next, at_end}
+use Rattle.java_parse.specs.Want.{NExpr, NPost, NType, NInit, NLocal, NValue, NAct, NActRest, NTested, NItem, NItems, NStmt, NForHead, NFirst, NStep, NBranches, Step, Give, Fail, Ask}
+use Rattle.java_parse.specs.Front.{after, after_key, word_next, stmt_snoc, arm_snoc, final_of, stepping_next, compound_next, named, is_target, is_call, stepped, done, starts_local, start, SBlock, SEmpty, SIf, SWhile, SFor, SReturn, SBreak, SContinue, SOther}
 
 abbrev pub init_step : List Token → Step (Option Expression)
 init_step ts = elim (after marks.Assign ts) [
-    Some w1 ↦ Ask (NExpr 1) w1.1 (λ x2 r3. Give (Some x2) r3)
-  | None ↦ Give None ts ]
+  | Some w1 ↦ Ask (NExpr 1) w1.1 (λ x2 r3. Give (Some x2) r3)
+  | None ↦ Give None ts
+]
 
 abbrev pub local_step : List Token → Step Statement
 local_step ts = Ask NType ((final_of ts).1) (λ x1 r2. elim (word_next r2) [
-    Some w3 ↦ Ask NInit w3.2 (λ x4 r5. Give (LocalOf (final_of ts).0 x1 w3.0 x4 w3.1) r5)
-  | None ↦ Fail r2 ])
+  | Some w3 ↦ Ask NInit w3.2 (λ x4 r5. Give (LocalOf (final_of ts).0 x1 w3.0 x4 w3.1) r5)
+  | None ↦ Fail r2
+])
 
 abbrev pub value_step : List Token → Step (Option Expression)
 value_step ts = elim (after marks.Semi ts) [
-    Some w1 ↦ Give None ts
-  | None ↦ Ask (NExpr 1) ts (λ x2 r3. Give (Some x2) r3) ]
+  | Some w1 ↦ Give None ts
+  | None ↦ Ask (NExpr 1) ts (λ x2 r3. Give (Some x2) r3)
+]
 
 abbrev pub act_step : List Token → Step Statement
 act_step ts = elim (stepping_next ts) [
-    Some w1 ↦ elim (word_next w1.2) [
-        Some w2 ↦ Give (stepped w1.0 w2.0 w2.1 w1.1) w2.2
-      | None ↦ Fail w1.2 ]
-  | None ↦ Ask NPost ts (λ x3 r4. Ask (NActRest ts x3.0 x3.1) r4 Give) ]
+  | Some w1 ↦ elim (word_next w1.2) [
+    | Some w2 ↦ Give (stepped w1.0 w2.0 w2.1 w1.1) w2.2
+    | None ↦ Fail w1.2
+  ]
+  | None ↦ Ask NPost ts (λ x3 r4. Ask (NActRest ts x3.0 x3.1) r4 Give)
+]
 
 abbrev pub act_rest_step : List Token → Expression → End → List Token → Step Statement
 act_rest_step ss e z ts = elim (after marks.Assign ts) [
-    Some w1 ↦ elim (is_target z) [
-        true ↦ Ask (NExpr 1) w1.1 (λ x2 r3. Give (AssignOf e x2 w1.0) r3)
-      | false ↦ Fail ts ]
+  | Some w1 ↦ elim (is_target z) [
+    | true ↦ Ask (NExpr 1) w1.1 (λ x2 r3. Give (AssignOf e x2 w1.0) r3)
+    | false ↦ Fail ts
+  ]
   | None ↦ elim (compound_next ts) [
-        Some w4 ↦ elim (named z e) [
-            Some w5 ↦ Ask (NExpr 1) w4.2 (λ x6 r7. Give (AssignOf (NameRef w5.0 w5.1) (BinaryOf w4.0 (NameRef w5.0 w5.1) x6 w4.1) w4.1) r7)
-          | None ↦ Fail ts ]
-      | None ↦ elim (stepping_next ts) [
-            Some w8 ↦ elim (named z e) [
-                Some w9 ↦ Give (stepped w8.0 w9.0 w9.1 w8.1) w8.2
-              | None ↦ Fail ts ]
-          | None ↦ elim (is_call z) [
-                true ↦ Give (done ss e) ts
-              | false ↦ Fail ts ] ] ] ]
+    | Some w4 ↦ elim (named z e) [
+      | Some w5 ↦ Ask (NExpr 1) w4.2 (λ x6 r7. Give (AssignOf (NameRef w5.0 w5.1) (BinaryOf w4.0 (NameRef w5.0 w5.1) x6 w4.1) w4.1) r7)
+      | None ↦ Fail ts
+    ]
+    | None ↦ elim (stepping_next ts) [
+      | Some w8 ↦ elim (named z e) [
+        | Some w9 ↦ Give (stepped w8.0 w9.0 w9.1 w8.1) w8.2
+        | None ↦ Fail ts
+      ]
+      | None ↦ elim (is_call z) [
+        | true ↦ Give (done ss e) ts
+        | false ↦ Fail ts
+      ]
+    ]
+  ]
+]
 
 abbrev pub tested_step : List Token → Step Expression
 tested_step ts = elim (after marks.OpenRound ts) [
-    Some w1 ↦ Ask (NExpr 1) w1.1 (λ x2 r3. elim (after marks.CloseRound r3) [
-        Some w4 ↦ Give x2 w4.1
-      | None ↦ Fail r3 ])
-  | None ↦ Fail ts ]
+  | Some w1 ↦ Ask (NExpr 1) w1.1 (λ x2 r3. elim (after marks.CloseRound r3) [
+    | Some w4 ↦ Give x2 w4.1
+    | None ↦ Fail r3
+  ])
+  | None ↦ Fail ts
+]
 
 abbrev pub item_step : List Token → Step Statement
 item_step ts = elim (starts_local ts) [
-    true ↦ Ask NLocal ts (λ x1 r2. elim (after marks.Semi r2) [
-        Some w3 ↦ Give x1 w3.1
-      | None ↦ Fail r2 ])
-  | false ↦ Ask NStmt ts Give ]
+  | true ↦ Ask NLocal ts (λ x1 r2. elim (after marks.Semi r2) [
+    | Some w3 ↦ Give x1 w3.1
+    | None ↦ Fail r2
+  ])
+  | false ↦ Ask NStmt ts Give
+]
 
 abbrev pub items_step : Statements → List Token → Step Statements
 items_step ss ts = elim (after marks.CloseBrace ts) [
-    Some w1 ↦ Give ss w1.1
-  | None ↦ Ask NItem ts (λ x2 r3. Ask (NItems (stmt_snoc ss x2)) r3 Give) ]
+  | Some w1 ↦ Give ss w1.1
+  | None ↦ Ask NItem ts (λ x2 r3. Ask (NItems (stmt_snoc ss x2)) r3 Give)
+]
 
 abbrev pub stmt_step : List Token → Step Statement
 stmt_step ts = elim (start ts) [
-    SBlock p us ↦ Ask (NItems no_statements) us (λ x1 r2. Give (BlockOf x1 p) r2)
+  | SBlock p us ↦ Ask (NItems no_statements) us (λ x1 r2. Give (BlockOf x1 p) r2)
   | SEmpty p us ↦ Give (BlockOf no_statements p) us
   | SIf p us ↦ Ask (NBranches no_arms) us (λ x3 r4. Give (IfOf x3.0 x3.1 p) r4)
   | SWhile p us ↦ Ask NTested us (λ x5 r6. Ask NStmt r6 (λ x7 r8. Give (WhileOf x5 (as_body x7) p) r8))
   | SFor p us ↦ Ask NForHead us (λ x9 r10. Ask NStmt r10 (λ x11 r12. Give (ForOf x9.0 x9.1 x9.2 (as_body x11) p) r12))
   | SReturn p us ↦ Ask NValue us (λ x13 r14. elim (after marks.Semi r14) [
-        Some w15 ↦ Give (ReturnOf x13 p) w15.1
-      | None ↦ Fail r14 ])
+    | Some w15 ↦ Give (ReturnOf x13 p) w15.1
+    | None ↦ Fail r14
+  ])
   | SBreak p us ↦ elim (after marks.Semi us) [
-        Some w16 ↦ Give (BreakOf p) w16.1
-      | None ↦ Fail us ]
+    | Some w16 ↦ Give (BreakOf p) w16.1
+    | None ↦ Fail us
+  ]
   | SContinue p us ↦ elim (after marks.Semi us) [
-        Some w17 ↦ Give (ContinueOf p) w17.1
-      | None ↦ Fail us ]
+    | Some w17 ↦ Give (ContinueOf p) w17.1
+    | None ↦ Fail us
+  ]
   | SOther ↦ Ask NAct ts (λ x18 r19. elim (after marks.Semi r19) [
-        Some w20 ↦ Give x18 w20.1
-      | None ↦ Fail r19 ]) ]
+    | Some w20 ↦ Give x18 w20.1
+    | None ↦ Fail r19
+  ])
+]
 
 abbrev pub for_head_step : List Token → Step (OptionalStatement × Option Expression × OptionalStatement)
 for_head_step ts = elim (after marks.OpenRound ts) [
-    Some w1 ↦ Ask NFirst w1.1 (λ x2 r3. elim (after marks.Semi r3) [
-        Some w4 ↦ Ask NValue w4.1 (λ x5 r6. elim (after marks.Semi r6) [
-            Some w7 ↦ Ask NStep w7.1 (λ x8 r9. elim (after marks.CloseRound r9) [
-                Some w10 ↦ Give (x2, x5, x8) w10.1
-              | None ↦ Fail r9 ])
-          | None ↦ Fail r6 ])
-      | None ↦ Fail r3 ])
-  | None ↦ Fail ts ]
+  | Some w1 ↦ Ask NFirst w1.1 (λ x2 r3. elim (after marks.Semi r3) [
+    | Some w4 ↦ Ask NValue w4.1 (λ x5 r6. elim (after marks.Semi r6) [
+      | Some w7 ↦ Ask NStep w7.1 (λ x8 r9. elim (after marks.CloseRound r9) [
+        | Some w10 ↦ Give (x2, x5, x8) w10.1
+        | None ↦ Fail r9
+      ])
+      | None ↦ Fail r6
+    ])
+    | None ↦ Fail r3
+  ])
+  | None ↦ Fail ts
+]
 
 abbrev pub first_step : List Token → Step OptionalStatement
 first_step ts = elim (after marks.Semi ts) [
-    Some w1 ↦ Give absent ts
+  | Some w1 ↦ Give absent ts
   | None ↦ elim (starts_local ts) [
-        true ↦ Ask NLocal ts (λ x2 r3. Give (present x2) r3)
-      | false ↦ Ask NAct ts (λ x4 r5. Give (present x4) r5) ] ]
+    | true ↦ Ask NLocal ts (λ x2 r3. Give (present x2) r3)
+    | false ↦ Ask NAct ts (λ x4 r5. Give (present x4) r5)
+  ]
+]
 
 abbrev pub step_step : List Token → Step OptionalStatement
 step_step ts = elim (after marks.CloseRound ts) [
-    Some w1 ↦ Give absent ts
-  | None ↦ Ask NAct ts (λ x2 r3. Give (present x2) r3) ]
+  | Some w1 ↦ Give absent ts
+  | None ↦ Ask NAct ts (λ x2 r3. Give (present x2) r3)
+]
 
 abbrev pub branches_step : Arms → List Token → Step (Arms × Else)
 branches_step a ts = Ask NTested ts (λ x1 r2. Ask NStmt r2 (λ x3 r4. elim (after_key keys.Else r4) [
-    Some w5 ↦ elim (after_key keys.If w5.1) [
-        Some w6 ↦ Ask (NBranches (arm_snoc a x1 (as_body x3))) w6.1 Give
-      | None ↦ Ask NStmt w5.1 (λ x7 r8. Give (arm_snoc a x1 (as_body x3), otherwise (as_body x7)) r8) ]
-  | None ↦ Give (arm_snoc a x1 (as_body x3), no_else) r4 ]))
+  | Some w5 ↦ elim (after_key keys.If w5.1) [
+    | Some w6 ↦ Ask (NBranches (arm_snoc a x1 (as_body x3))) w6.1 Give
+    | None ↦ Ask NStmt w5.1 (λ x7 r8. Give (arm_snoc a x1 (as_body x3), otherwise (as_body x7)) r8)
+  ]
+  | None ↦ Give (arm_snoc a x1 (as_body x3), no_else) r4
+]))

@@ -1,15 +1,14 @@
 -- What the parser's functions give, as plain data.
-use Rattle.std.specs.Prelude.{ℕ, List, Bool, Option, Some, None, Result, Ok, Err}
+use Rattle.std.specs.Prelude.{ℕ, List, Option, Result, Ok, Err}
 use Rattle.std.specs.Borrow.{Bor}
 use Rattle.std.specs.declared.vec.Vec.{Vec}
 use Rattle.std.specs.declared.alloc.Global.{Global}
 use Rattle.kaba_base.specs.declared.Place.{Place}
 use Rattle.java_lex.specs.declared.Token.{Token}
-use Rattle.java_lex.specs.declared.Mark.{Mark}
 use Rattle.java_tree.specs.declared.Expr.{Expr}
 use Rattle.java_tree.specs.declared.Stmt.{Stmt}
 use Rattle.java_tree.specs.declared.Arm.{Arm}
-use Rattle.java_tree.specs.Syntax.{Expression, Expressions, Statements, Arms, Else, OptionalStatement, expr_of, exprs, stmts, arms_seen, else_seen, value_of, step_seen, body_seen}
+use Rattle.java_tree.specs.Syntax.{Expression, Arms, Else, OptionalStatement, expr_of, arms_seen, else_seen, value_of, step_seen}
 use Rattle.java_parse.specs.declared.End.{End}
 use Rattle.java_parse.specs.declared.Stop.{Stop}
 use Rattle.java_parse.specs.declared.Stop.TheVariants as stops

@@ -40,7 +40,13 @@ pub fn calls(end: End) -> bool
 }
 
 /// The statement that `++` or `--` is, at a name. `AllocError` where memory is short.
-pub fn steps_of(alloc: Global, operator: Mark, found: &Name, place: Place, at: Place) -> Result<Stmt, AllocError>
+pub fn steps_of(
+    alloc: Global,
+    operator: Mark,
+    found: &Name,
+    place: Place,
+    at: Place,
+) -> Result<Stmt, AllocError>
     ensures value { IfOk result (λ s. stmt_of s ≡ stepped operator found.now place at) }
 {
     let left = Expr::Name {
@@ -101,7 +107,12 @@ fn prints(call: &Expr) -> Option<bool>
     ensures value { result ≡ option_map (λ (x : Bool × Option Expression). x.0) (printed_by (expr_of call.now)) }
 {
     match call {
-        Expr::Call { base, name, args, .. } => match base {
+        Expr::Call {
+            base,
+            name,
+            args,
+            ..
+        } => match base {
             Some(base) => {
                 if is_output(base) {
                     prints_line(name, args.len())
@@ -129,7 +140,12 @@ fn argument_of(call: Expr) -> Option<Expr>
     ensures value { (l : Bool) (v : Option Expression) → printed_by (expr_of call) ≡ Some (l, v) → value_of result ≡ v }
 {
     match call {
-        Expr::Call { base: _base, name: _name, args, .. } => last_of(args),
+        Expr::Call {
+            base: _base,
+            name: _name,
+            args,
+            ..
+        } => last_of(args),
         _ => None,
     }
 }

@@ -315,7 +315,11 @@ fn class(alloc: Global, mods: Vec<Modifier>, tokens: &[Token]) -> Result<(Decl, 
 }
 
 // What follows `interface`.
-fn interface(alloc: Global, mods: Vec<Modifier>, tokens: &[Token]) -> Result<(Decl, &[Token]), Stop<'_>>
+fn interface(
+    alloc: Global,
+    mods: Vec<Modifier>,
+    tokens: &[Token],
+) -> Result<(Decl, &[Token]), Stop<'_>>
     requires room { length tokens.now < 2 ^ 32 }
     ensures reads { Reads (NInterface mods.items) tokens.now (seen decl_of result) }
     ensures shorter { IfOk result (λ x. length x.1.now < length tokens.now) }

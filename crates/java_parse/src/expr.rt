@@ -12,13 +12,14 @@ ghost use Rattle.java_parse.specs.Reading.{Reads};
 ghost use Rattle.java_parse.specs.Seen.{seen, seen_post};
 
 use crate::front::{
-    base_at, cast_at, index_at, instance_at, least_at, level_of, literal_at, key_at, mark_at, operator_at, sign_at,
-    word_at,
+    base_at, cast_at, index_at, instance_at, key_at, least_at, level_of, literal_at, mark_at,
+    operator_at, sign_at, word_at,
 };
 use crate::{End, Stop};
 use java_lex::{Mark, Token};
 use java_tree::build::{
-    binary, call, call_on, cast, field, index, instance_of, new_array, new_object, super_call, unary,
+    binary, call, call_on, cast, field, index, instance_of, new_array, new_object, super_call,
+    unary,
 };
 use java_tree::{Expr, Id, TypeBase, TypeName};
 use kaba_base::{Keyword, Place};
@@ -68,7 +69,13 @@ pub fn expr(alloc: Global, at_least: u32, tokens: &[Token]) -> Result<(Expr, &[T
 
 // What follows an expression whose operators bind at least so tightly: operators within these bounds.
 #[cycle(reading)]
-fn more(alloc: Global, at_least: u32, at_most: u32, left: Expr, tokens: &[Token]) -> Result<(Expr, &[Token]), Stop<'_>>
+fn more(
+    alloc: Global,
+    at_least: u32,
+    at_most: u32,
+    left: Expr,
+    tokens: &[Token],
+) -> Result<(Expr, &[Token]), Stop<'_>>
     requires level { at_least ≤ 11 }
     requires room { length tokens.now < 2 ^ 32 }
     ensures reads { Reads (NMore at_least at_most (expr_of left)) tokens.now (seen expr_of result) }
@@ -98,7 +105,13 @@ fn prefixed(alloc: Global, tokens: &[Token]) -> Result<(Expr, &[Token]), Stop<'_
     ensures shorter { IfOk result (λ x. length x.1.now < length tokens.now) }
 {
     if let Some((place, rest)) = least_at(tokens) {
-        return Ok((Expr::Int { value: i32::MIN, place }, rest));
+        return Ok((
+            Expr::Int {
+                value: i32::MIN,
+                place,
+            },
+            rest,
+        ));
     }
     if let Some((mark, place, rest)) = sign_at(tokens) {
         let (value, rest) = prefixed(alloc, rest)?;
@@ -181,7 +194,11 @@ fn above(alloc: Global, tokens: &[Token]) -> Result<((Expr, End), &[Token]), Sto
 
 // What follows `new`, which stands at this place.
 #[cycle(reading)]
-fn created(alloc: Global, place: Place, tokens: &[Token]) -> Result<((Expr, End), &[Token]), Stop<'_>>
+fn created(
+    alloc: Global,
+    place: Place,
+    tokens: &[Token],
+) -> Result<((Expr, End), &[Token]), Stop<'_>>
     requires room { length tokens.now < 2 ^ 32 }
     ensures reads { Reads (NNew place) tokens.now (seen seen_post result) }
     ensures shorter { IfOk result (λ x. length x.1.now < length tokens.now) }
@@ -203,7 +220,13 @@ fn created(alloc: Global, place: Place, tokens: &[Token]) -> Result<((Expr, End)
 
 // The size and the further brackets of a new array.
 #[cycle(reading)]
-fn sized(alloc: Global, place: Place, base: TypeBase, at: Place, tokens: &[Token]) -> Result<((Expr, End), &[Token]), Stop<'_>>
+fn sized(
+    alloc: Global,
+    place: Place,
+    base: TypeBase,
+    at: Place,
+    tokens: &[Token],
+) -> Result<((Expr, End), &[Token]), Stop<'_>>
     requires room { length tokens.now < 2 ^ 32 }
     ensures reads { Reads (NSized place base at) tokens.now (seen seen_post result) }
     ensures shorter { IfOk result (λ x. length x.1.now < length tokens.now) }
@@ -216,14 +239,23 @@ fn sized(alloc: Global, place: Place, base: TypeBase, at: Place, tokens: &[Token
         return Err(Stop::At(behind));
     };
     let (dim, rest) = dims(1, rest)?;
-    let ty = TypeName { base, dim, place: at };
+    let ty = TypeName {
+        base,
+        dim,
+        place: at,
+    };
     let whole = new_array(alloc, ty, size, place)?;
     Ok(((whole, End::Array), rest))
 }
 
 // What follows an expression without operators: fields, calls and indices.
 #[cycle(reading)]
-fn tail(alloc: Global, base: Expr, end: End, tokens: &[Token]) -> Result<((Expr, End), &[Token]), Stop<'_>>
+fn tail(
+    alloc: Global,
+    base: Expr,
+    end: End,
+    tokens: &[Token],
+) -> Result<((Expr, End), &[Token]), Stop<'_>>
     requires room { length tokens.now < 2 ^ 32 }
     ensures reads { Reads (NTail (expr_of base) end) tokens.now (seen seen_post result) }
     ensures shorter { IfOk result (λ x. length x.1.now ≤ length tokens.now) }

@@ -137,7 +137,10 @@ pub fn least_at(tokens: &[Token]) -> Option<(Place, &[Token])>
 }
 
 /// A type without brackets at the front. `AllocError` where memory is short.
-pub fn base_at(alloc: Global, tokens: &[Token]) -> Result<Option<(TypeBase, Place, &[Token])>, AllocError>
+pub fn base_at(
+    alloc: Global,
+    tokens: &[Token],
+) -> Result<Option<(TypeBase, Place, &[Token])>, AllocError>
     ensures value { IfOk result (λ o. option_map seen_two o ≡ base_next tokens.now) }
     ensures shorter { IfOk result (λ o. IfSome o (λ x. length x.2.now < length tokens.now)) }
 {
@@ -166,7 +169,12 @@ pub fn makes_cast(tokens: &[Token]) -> bool
             TokenKind::Mark(mark) => matches!(mark, Mark::OpenRound | Mark::Bang | Mark::Flip),
             TokenKind::Key(key) => matches!(
                 key,
-                Keyword::This | Keyword::Super | Keyword::New | Keyword::True | Keyword::False | Keyword::Null
+                Keyword::This
+                    | Keyword::Super
+                    | Keyword::New
+                    | Keyword::True
+                    | Keyword::False
+                    | Keyword::Null
             ),
             TokenKind::Least => false,
         };
@@ -175,7 +183,10 @@ pub fn makes_cast(tokens: &[Token]) -> bool
 }
 
 /// A type in round brackets that casts what follows it. `AllocError` where memory is short.
-pub fn cast_at(alloc: Global, tokens: &[Token]) -> Result<Option<(TypeName, Place, &[Token])>, AllocError>
+pub fn cast_at(
+    alloc: Global,
+    tokens: &[Token],
+) -> Result<Option<(TypeName, Place, &[Token])>, AllocError>
     ensures value { IfOk result (λ o. option_map seen_two o ≡ cast_next tokens.now) }
     ensures shorter { IfOk result (λ o. IfSome o (λ x. length x.2.now < length tokens.now)) }
 {
@@ -194,7 +205,15 @@ pub fn cast_at(alloc: Global, tokens: &[Token]) -> Result<Option<(TypeName, Plac
         TypeBase::Named(_) => makes_cast(rest),
     };
     if casts {
-        return Ok(Some((TypeName { base, dim: 0, place }, open, rest)));
+        return Ok(Some((
+            TypeName {
+                base,
+                dim: 0,
+                place,
+            },
+            open,
+            rest,
+        )));
     }
     Ok(None)
 }
@@ -207,14 +226,32 @@ pub fn literal_at(alloc: Global, tokens: &[Token]) -> Result<Option<(Expr, &[Tok
     if let [first, rest @ ..] = tokens {
         let place = first.place;
         return match &first.kind {
-            TokenKind::Int(value) => Ok(Some((Expr::Int { value: *value, place }, rest))),
-            TokenKind::Char(value) => Ok(Some((Expr::Char { value: *value, place }, rest))),
+            TokenKind::Int(value) => Ok(Some((
+                Expr::Int {
+                    value: *value,
+                    place,
+                },
+                rest,
+            ))),
+            TokenKind::Char(value) => Ok(Some((
+                Expr::Char {
+                    value: *value,
+                    place,
+                },
+                rest,
+            ))),
             TokenKind::Str(units) => {
                 let units = units.copy(alloc)?;
                 Ok(Some((Expr::Str { units, place }, rest)))
             }
             TokenKind::Key(Keyword::True) => Ok(Some((Expr::Bool { value: true, place }, rest))),
-            TokenKind::Key(Keyword::False) => Ok(Some((Expr::Bool { value: false, place }, rest))),
+            TokenKind::Key(Keyword::False) => Ok(Some((
+                Expr::Bool {
+                    value: false,
+                    place,
+                },
+                rest,
+            ))),
             TokenKind::Key(Keyword::Null) => Ok(Some((Expr::Null { place }, rest))),
             TokenKind::Key(Keyword::This) => Ok(Some((Expr::This { place }, rest))),
             _ => Ok(None),
@@ -343,7 +380,8 @@ pub fn begins_local(tokens: &[Token]) -> bool
     if let [first, rest @ ..] = tokens {
         return match first.kind {
             TokenKind::Word(_) => names_type(rest),
-            TokenKind::Key(Keyword::Final | Keyword::Int | Keyword::Boolean | Keyword::Char) => true,
+            TokenKind::Key(Keyword::Final | Keyword::Int | Keyword::Boolean | Keyword::Char) =>
+                true,
             _ => false,
         };
     }
@@ -399,7 +437,13 @@ pub fn modifier_at(tokens: &[Token]) -> Option<(Modifier, &[Token])>
             | Keyword::Static
             | Keyword::Final = word
             {
-                return Some((Modifier { word, place: first.place }, rest));
+                return Some((
+                    Modifier {
+                        word,
+                        place: first.place,
+                    },
+                    rest,
+                ));
             }
         }
     }
@@ -414,7 +458,13 @@ pub fn id_at(alloc: Global, tokens: &[Token]) -> Result<Option<(Id, &[Token])>, 
     if let [first, rest @ ..] = tokens {
         if let TokenKind::Word(name) = &first.kind {
             let name = name.copy(alloc)?;
-            return Ok(Some((Id { name, place: first.place }, rest)));
+            return Ok(Some((
+                Id {
+                    name,
+                    place: first.place,
+                },
+                rest,
+            )));
         }
     }
     Ok(None)

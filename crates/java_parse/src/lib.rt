@@ -17,8 +17,8 @@ mod front;
 mod nest;
 mod stmt;
 
-use java_lex::Token;
 use decl::all_decls;
+use java_lex::Token;
 use java_tree::Tree;
 use nest::first_deep;
 use std::alloc::{AllocError, AllocFailed, Global};
@@ -26,7 +26,7 @@ use thiserror::Error;
 
 /// How an expression ends, where that decides what may follow it.
 #[derive(Clone, Copy, Debug, PartialEq, Eq)]
-pub enum End {
+pub(crate) enum End {
     Name,
     Target,
     Call,
@@ -37,7 +37,7 @@ pub enum End {
 
 /// Why reading stopped: no memory, or the tokens from the first that cannot stand there.
 #[derive(Drop)]
-pub enum Stop<'a> {
+pub(crate) enum Stop<'a> {
     Memory,
     At(&'a [Token]),
 }
@@ -104,12 +104,13 @@ pub fn parse(alloc: Global, tokens: &Vec<Token>) -> Result<Tree, ParseFault>
     match all_decls(alloc, all) {
         Ok((decls, _)) => Ok(Tree { decls }),
         Err(Stop::Memory) => Err(ParseFault::Memory),
-        Err(Stop::At(rest)) => Err(ParseFault::NotAProgram(all.len().saturating_sub(rest.len()) as u32)),
+        Err(Stop::At(rest)) => Err(ParseFault::NotAProgram(
+            all.len().saturating_sub(rest.len()) as u32,
+        )),
     }
 }
 
 /// A list of tokens has at most one tree, places aside.
 pub fn one_tree()
     ensures value { (tokens : List Token) (a b : List DeclTree) → Derives tokens a → Derives tokens b → unplaced a ≡ unplaced b }
-{
-}
+{}

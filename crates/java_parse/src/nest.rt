@@ -182,14 +182,23 @@ fn behind_key(alloc: Global, key: Keyword, stack: Stack) -> Result<Stack, AllocE
     ensures value { IfOk result (λ s. entries_of s ≡ after_key key (entries_of stack)) }
 {
     match key {
-        Keyword::If | Keyword::Else | Keyword::While | Keyword::For => pushed(alloc, Entry::Word, stack),
+        Keyword::If | Keyword::Else | Keyword::While | Keyword::For => pushed(
+            alloc,
+            Entry::Word,
+            stack,
+        ),
         Keyword::InstanceOf => pushed(alloc, Entry::Operator, stack),
         _ => Ok(stack),
     }
 }
 
 // The stack after a token. `AllocError` where memory is short.
-fn behind_token(alloc: Global, kind: &TokenKind, next: &[Token], stack: Stack) -> Result<Stack, AllocError>
+fn behind_token(
+    alloc: Global,
+    kind: &TokenKind,
+    next: &[Token],
+    stack: Stack,
+) -> Result<Stack, AllocError>
     ensures value { IfOk result (λ s. entries_of s ≡ after_token kind.now next.now (entries_of stack)) }
 {
     match kind {

@@ -16,7 +16,8 @@ ghost use Rattle.java_parse.specs.Seen.{seen, seen_branches, seen_steps};
 use crate::acts::{calls, finished, steps_of, targets};
 use crate::expr::{expr, post, type_at};
 use crate::front::{
-    Begin, begin_of, begins_local, compound_at, final_at, key_at, mark_at, named_by, stepping_at, word_at,
+    Begin, begin_of, begins_local, compound_at, final_at, key_at, mark_at, named_by, stepping_at,
+    word_at,
 };
 use crate::{End, Stop};
 use java_lex::{Mark, Token};
@@ -216,7 +217,10 @@ fn next_step(alloc: Global, tokens: &[Token]) -> Result<(Option<Stmt>, &[Token])
 }
 
 // What stands in the round brackets of a `for`.
-fn for_head(alloc: Global, tokens: &[Token]) -> Result<((Option<Stmt>, Option<Expr>, Option<Stmt>), &[Token]), Stop<'_>>
+fn for_head(
+    alloc: Global,
+    tokens: &[Token],
+) -> Result<((Option<Stmt>, Option<Expr>, Option<Stmt>), &[Token]), Stop<'_>>
     requires room { length tokens.now < 2 ^ 32 }
     ensures reads { Reads NForHead tokens.now (seen seen_steps result) }
     ensures shorter { IfOk result (λ x. length x.1.now < length tokens.now) }
@@ -334,7 +338,10 @@ fn stmt(alloc: Global, tokens: &[Token]) -> Result<(Stmt, &[Token]), Stop<'_>>
 
 // What follows an `if`.
 #[cycle(stmts)]
-fn branches(alloc: Global, tokens: &[Token]) -> Result<((Vec<Arm>, Option<Vec<Stmt>>), &[Token]), Stop<'_>>
+fn branches(
+    alloc: Global,
+    tokens: &[Token],
+) -> Result<((Vec<Arm>, Option<Vec<Stmt>>), &[Token]), Stop<'_>>
     requires room { length tokens.now < 2 ^ 32 }
     ensures reads { Reads (NBranches no_arms) tokens.now (seen seen_branches result) }
     ensures shorter { IfOk result (λ x. length x.1.now < length tokens.now) }

@@ -18,7 +18,7 @@ struct Case {
 const LOOP: &str =
     "class Main {\n  static void main(String[] args) {\n    int i = 0;\n    while (i < 3) {\n      System.out.println(i);\n      i = i + 1;\n    }\n  }\n}\n";
 
-const CASES: [Case; 18] = [
+const CASES: [Case; 21] = [
     Case {
         words: "run p.java 3",
         text: LOOP,
@@ -141,6 +141,27 @@ const CASES: [Case; 18] = [
     Case {
         words: "run p.java 9",
         text: "class Main { static void main(String[] a) { if (true) { } } }",
+        status: 65,
+        out: "",
+        err: "kaba: refused: NotAProgram at token 0 line 1\n",
+    },
+    Case {
+        words: "run p.java 9",
+        text: "(((((((((((((((((((((((((((((((((((((((((((((((((((((((((((((((((((((((((((((((((((((((((((((((((((((((((((((((((((((((((((((((((",
+        status: 65,
+        out: "",
+        err: "kaba: refused: TooDeep at token 128 line 1\n",
+    },
+    Case {
+        words: "run p.java 9",
+        text: "((((((((((((((((((((((((((((((((((((((((((((((((((((((((((((((((((((((((((((((((((((((((((((((((((((((((((((((((((((((((((((((((",
+        status: 65,
+        out: "",
+        err: "kaba: refused: NotAProgram at token 0 line 1\n",
+    },
+    Case {
+        words: "run p.java 9",
+        text: "class A { void f() { for (;;) { if (a) b(); else c = (A) d; } } }",
         status: 65,
         out: "",
         err: "kaba: refused: NotAProgram at token 0 line 1\n",

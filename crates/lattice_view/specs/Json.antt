@@ -9,6 +9,7 @@ use Rattle.fact_model.specs.declared.facts.Facts.{Facts}
 use Rattle.fact_model.specs.declared.sets.Concept.{Concept}
 use Rattle.fact_model.specs.declared.sets.Lattice.{Lattice}
 
+-- numbers as they are
 abbrev pub numbers_data : List ℕ → Data
 numbers_data ns = array (items_of (map (λ n. number (unsigned n)) ns))
 
@@ -33,5 +34,6 @@ lattice_parts columns concepts rows = object (member (codes "columns") columns (
 abbrev pub lattice_data : Facts → Lattice → Data
 lattice_data f l = lattice_parts (names_data (map (λ c. c.label) f.columns.items)) (array (items_of (map concept_data l.concepts.items))) (names_data (map (λ r. r.label) f.rows.items))
 
+-- the line: that object with no space between, and the end of the line
 abbrev pub lattice_json : Facts → Lattice → List ℕ
 lattice_json f l = compact_text (lattice_data f l) ++ codes "\n"

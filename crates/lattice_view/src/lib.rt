@@ -2,6 +2,8 @@
 #![tactic(auto)]
 
 mod json;
+#[cfg(test)]
+mod tests;
 mod text;
 
 pub use json::show_json;

@@ -1,6 +1,6 @@
 //! The lines.
 
-ghost use Rattle.std.specs.Prelude.{◌≡◌, ◌++◌, length, map, codes, IfOk, OnOk, OnErr, string_bytes};
+ghost use Rattle.std.specs.Prelude.{◌≡◌, ◌++◌, map, IfOk, OnOk, OnErr, string_bytes};
 ghost use Rattle.lattice_view.specs.Text.{list_text, part_text, concept_text, concepts_text, lattice_text};
 
 use fact_model::{Concept, Lattice};
@@ -76,12 +76,7 @@ pub fn row_numbers(alloc: Global, rows: &[RowId]) -> Result<Vec<u32>, AllocError
 }
 
 /// Adds a list after its name.
-fn add_part(
-    text: &mut String,
-    name: &str,
-    mark: &str,
-    numbers: &[u32],
-) -> Result<(), AllocError>
+fn add_part(text: &mut String, name: &str, mark: &str, numbers: &[u32]) -> Result<(), AllocError>
     ensures { OnOk result (string_bytes text.new ≡ string_bytes text.old ++ part_text name.now mark.now numbers.now) }
 {
     text.push_str(name)?;

@@ -1,4 +1,4 @@
-use Rattle.std.proofs.Common.{◌≡◌, length, List, [], sym, ap, ◌∙◌, subst, arith, Err}
+use Rattle.std.proofs.Common.{length, [], ap, subst, arith, Err}
 use Rattle.java_parse.specs.declared.Stop.{Stop}
 use Rattle.java_parse.specs.Want.{NDecls}
 use Rattle.java_parse.specs.Reading.{Reads}

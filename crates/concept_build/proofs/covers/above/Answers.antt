@@ -1,7 +1,7 @@
-use Rattle.std.proofs.Common.{◌≡◌, ◌<◌, ℕ, length, get_or, sym, ◌∙◌, true, arith}
+use Rattle.std.proofs.Common.{◌≡◌, length, get_or, sym, ◌∙◌, true, arith}
 use Rattle.std.proofs.lemmas.List.{length-map}
 use Rattle.std.proofs.lemmas.List.Elements.{Contains-get_or}
-use Rattle.kaba_bits.specs.Sets.{bit, row}
+use Rattle.kaba_bits.specs.Sets.{bit}
 use Rattle.kaba_bits.proofs.ListLemmas.{ListsBelow-same}
 use Rattle.fact_model.specs.Concepts.{Pair, IsUpperCover}
 use Rattle.concept_build.specs.Lists.{extents_of, IsLeast}

@@ -1,4 +1,3 @@
-use Rattle.std.proofs.Common.{◌≡◌, ◌<◌, length}
 use Rattle.concept_build.proofs.StepLemmas.{closed-sets, HasMade-step}
 use Rattle.concept_build.proofs.intents.add_row.Goals as goal
 

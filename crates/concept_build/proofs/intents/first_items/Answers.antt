@@ -1,4 +1,4 @@
-use Rattle.std.proofs.Common.{◌≡◌, sym, subst}
+use Rattle.std.proofs.Common.{sym, subst}
 use Rattle.concept_build.specs.Intents.{IsFull}
 use Rattle.concept_build.proofs.StepLemmas.{HasMade-first}
 use Rattle.concept_build.proofs.intents.first_items.Goals as goal

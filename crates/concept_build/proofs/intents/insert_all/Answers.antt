@@ -1,4 +1,4 @@
-use Rattle.std.proofs.Common.{◌≡◌, ◌<◌, length, arith, sym, ◌∙◌, subst}
+use Rattle.std.proofs.Common.{◌≡◌, arith, sym, ◌∙◌, subst}
 use Rattle.kaba_bits.specs.Sets.{row}
 use Rattle.fact_model.specs.Concepts.{HasIntent}
 use Rattle.concept_build.specs.Intents.{IsClosed}

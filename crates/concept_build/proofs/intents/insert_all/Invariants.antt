@@ -1,4 +1,4 @@
-use Rattle.std.proofs.Common.{◌≡◌, ℕ, ◌<◌, length, List, Bool}
+use Rattle.std.proofs.Common.{ℕ, ◌<◌, List, Bool}
 use Rattle.kaba_bits.specs.Sets.{row}
 use Rattle.fact_model.specs.Concepts.{AreConcepts, HasIntent}
 use Rattle.concept_build.proofs.intents.insert_all.Given as goal

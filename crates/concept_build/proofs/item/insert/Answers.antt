@@ -1,4 +1,4 @@
-use Rattle.std.proofs.Common.{◌≡◌, ◌<◌, length, get_or, arith}
+use Rattle.std.proofs.Common.{get_or}
 use Rattle.concept_build.proofs.PlaceLemmas.{same_intent, IsInsertion-same, IsInsertion-insert}
 use Rattle.concept_build.proofs.item.insert.Goals as goal
 

@@ -1,4 +1,4 @@
-use Rattle.std.proofs.Common.{◌≡◌, sym, ap, ◌∙◌}
+use Rattle.std.proofs.Common.{sym, ap, ◌∙◌}
 use Rattle.fact_model.specs.Concepts.{Pair}
 use Rattle.concept_build.proofs.ExtentLemmas.{row-extents_of}
 use Rattle.concept_build.proofs.item.item_at.Goals as goal

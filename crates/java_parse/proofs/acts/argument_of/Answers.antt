@@ -1,4 +1,4 @@
-use Rattle.std.proofs.Common.{ap, sym, ◌∙◌, rules, vec_len}
+use Rattle.std.proofs.Common.{rules, vec_len}
 use Rattle.java_parse.proofs.Printing.{argument_is}
 use Rattle.java_parse.proofs.acts.argument_of.Goals as goal
 

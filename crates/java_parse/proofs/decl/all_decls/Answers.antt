@@ -1,4 +1,4 @@
-use Rattle.std.proofs.Common.{◌≡◌, length, List, sym, subst, arith, rules, true, false}
+use Rattle.std.proofs.Common.{List, subst, arith, true, false}
 use Rattle.java_tree.specs.Syntax.{DeclTree}
 use Rattle.java_parse.specs.Want.{NDecls}
 use Rattle.java_parse.specs.Reading.{Reads}

@@ -1,4 +1,4 @@
-use Rattle.std.proofs.Common.{ℕ, ◌<◌, ◌≤◌, length, List, []}
+use Rattle.std.proofs.Common.{◌≤◌, length, List, []}
 use Rattle.java_tree.specs.Syntax.{HeadTree, heads}
 use Rattle.java_parse.specs.Want.{NHeads}
 use Rattle.java_parse.specs.Reading.{Outcome, Reads}

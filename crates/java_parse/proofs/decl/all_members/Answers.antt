@@ -1,4 +1,4 @@
-use Rattle.std.proofs.Common.{◌≡◌, length, List, sym, subst, arith, rules}
+use Rattle.std.proofs.Common.{List, sym, subst, arith, rules}
 use Rattle.java_parse.specs.Want.{NMembers}
 use Rattle.java_parse.specs.Reading.{Reads}
 use Rattle.java_tree.specs.Syntax.{MemberTree}

@@ -1,5 +1,4 @@
-use Rattle.std.proofs.Common.{sym, subst}
-use Rattle.java_tree.specs.declared.TypeName.{TypeName}
+use Rattle.std.proofs.Common.{sym}
 use Rattle.java_parse.proofs.Finals.{param_from}
 use Rattle.java_parse.proofs.decl.param.Goals as goal
 

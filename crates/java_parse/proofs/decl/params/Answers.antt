@@ -1,8 +1,5 @@
-use Rattle.std.proofs.Common.{◌≡◌, length, List, sym, subst, arith, rules}
-use Rattle.java_parse.specs.Want.{NMoreParams}
-use Rattle.java_parse.specs.Reading.{Reads}
-use Rattle.java_tree.specs.declared.Param.{Param}
-use Rattle.java_parse.proofs.DeclarationSteps.{more_params_next, more_params_end, more_params_open}
+use Rattle.std.proofs.Common.{sym, rules}
+use Rattle.java_parse.proofs.DeclarationSteps.{more_params_end, more_params_open}
 use Rattle.java_parse.proofs.decl.params.Goals as goal
 
 pub returns-in-Some-mark_at-clause-reads : goal.returns-in-Some-mark_at-clause-reads

@@ -1,4 +1,4 @@
-use Rattle.std.proofs.Common.{ℕ, length}
+use Rattle.std.proofs.Common.{length}
 use Rattle.java_parse.proofs.expr.+dims.Given as goal
 
 abbrev pub decreases-dims : goal.decreases-dims

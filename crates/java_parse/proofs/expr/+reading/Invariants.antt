@@ -1,4 +1,4 @@
-use Rattle.std.proofs.Common.{ℕ, ◌+◌, ◌*◌, ◌<◌, length}
+use Rattle.std.proofs.Common.{◌+◌, ◌*◌, ◌<◌, length}
 use Rattle.java_tree.specs.Syntax.{Expressions, exprs}
 use Rattle.java_parse.specs.Want.{NArgs, NMoreArgs}
 use Rattle.java_parse.specs.Reading.{Outcome, Reads}

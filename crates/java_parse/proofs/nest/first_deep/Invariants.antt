@@ -1,4 +1,4 @@
-use Rattle.std.proofs.Common.{◌≡◌, ℕ, suc, ◌+◌, ◌<◌, ◌≤◌, length, List, []}
+use Rattle.std.proofs.Common.{◌≡◌, ℕ, ◌+◌, ◌<◌, ◌≤◌, length, []}
 use Rattle.java_tree.specs.Nesting.{stack_after}
 use Rattle.java_parse.specs.Stacks.{entries_of}
 use Rattle.java_parse.proofs.nest.first_deep.Given as goal

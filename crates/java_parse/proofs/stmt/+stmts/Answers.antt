@@ -1,5 +1,5 @@
-use Rattle.std.proofs.Common.{◌≡◌, length, List, Ok, Err, sym, ap, ◌∙◌, subst, arith, rules}
-use Rattle.java_tree.specs.Syntax.{Arms, Statements, Else, no_else, otherwise, arms_seen, stmts, expr_of, stmt_of}
+use Rattle.std.proofs.Common.{Ok, sym, subst, arith, rules}
+use Rattle.java_tree.specs.Syntax.{Arms, Statements, no_else, otherwise, arms_seen, stmts, expr_of, stmt_of}
 use Rattle.java_tree.specs.Statements.{as_body}
 use Rattle.java_parse.specs.Front.{arm_snoc}
 use Rattle.java_parse.specs.Want.{NItems, NBranches}
@@ -20,13 +20,13 @@ items-more-preserved t c = record {
 pub branches-returns-in_default-clause-reads : goal.branches-returns-in_default-clause-reads
 branches-returns-in_default-clause-reads t c = c.arms.invariant.so_far _
     (subst (λ (a : Arms). Reads (NBranches (arms_seen c.arms.arms.items)) c.arms.rest.now (Ok ((a, no_else), c.in_ok-whole.after.now))) (sym (pushed_arm _ _ _ _ c.in_ok-push.ensures.items c.in_ok-body.ensures.value))
-      (branches_end c.in_ok-test.ensures.reads c.in_ok-whole.ensures.reads (search rules)))
+    (branches_end c.in_ok-test.ensures.reads c.in_ok-whole.ensures.reads (search rules)))
 
 pub branches-returns-in_default-key_at-clause-reads : goal.branches-returns-in_default-key_at-clause-reads
 branches-returns-in_default-key_at-clause-reads t c = c.arms.invariant.so_far _
     (subst (λ (a : Arms). Reads (NBranches (arms_seen c.arms.arms.items)) c.arms.rest.now (Ok ((a, otherwise (stmts c.in_ok-other.other.items)), c.in_ok-whole-2.end.now))) (sym (pushed_arm _ _ _ _ c.in_ok-push.ensures.items c.in_ok-body.ensures.value))
-      (subst (λ (b : Statements). Reads (NBranches (arms_seen c.arms.arms.items)) c.arms.rest.now (Ok ((arm_snoc (arms_seen c.arms.arms.items) (expr_of c.in_ok-test.test) (as_body (stmt_of c.in_ok-whole.whole)), otherwise b), c.in_ok-whole-2.end.now))) (sym c.in_ok-other.ensures.value)
-        (branches_other c.in_ok-test.ensures.reads c.in_ok-whole.ensures.reads (sym c.in-Some.ensures.value) (search rules) c.in_ok-whole-2.ensures.reads)))
+    (subst (λ (b : Statements). Reads (NBranches (arms_seen c.arms.arms.items)) c.arms.rest.now (Ok ((arm_snoc (arms_seen c.arms.arms.items) (expr_of c.in_ok-test.test) (as_body (stmt_of c.in_ok-whole.whole)), otherwise b), c.in_ok-whole-2.end.now))) (sym c.in_ok-other.ensures.value)
+    (branches_other c.in_ok-test.ensures.reads c.in_ok-whole.ensures.reads (sym c.in-Some.ensures.value) (search rules) c.in_ok-whole-2.ensures.reads)))
 
 pub branches-arms-preserved : goal.branches-arms-preserved
 branches-arms-preserved t c = record {

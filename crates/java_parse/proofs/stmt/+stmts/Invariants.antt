@@ -1,4 +1,4 @@
-use Rattle.std.proofs.Common.{ℕ, ◌+◌, ◌*◌, ◌<◌, ◌≤◌, length}
+use Rattle.std.proofs.Common.{◌+◌, ◌*◌, ◌≤◌, length}
 use Rattle.java_tree.specs.Syntax.{Statements, Arms, Else, stmts, arms_seen, no_statements, no_arms}
 use Rattle.java_parse.specs.Want.{NItems, NBranches}
 use Rattle.java_parse.specs.Reading.{Outcome, Reads}

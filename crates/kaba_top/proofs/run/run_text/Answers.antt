@@ -17,10 +17,10 @@ returns-in-Err-TooDeep c = record {
 
 pub returns-in-Err-NotAProgram : goal.returns-in-Err-NotAProgram
 returns-in-Err-NotAProgram c = record {
-    answers = no_tree c.args.bytes.now.items c.args.steps c.in-Ok.tokens.items c.in-Err-NotAProgram.token c.not_parsed-in-Err-NotAProgram.result c.in-Ok.ensures.value
-        (subst (IsCause c.in-Ok.tokens.items) c.in-Err-NotAProgram.field-0-is c.in-Err-NotAProgram.ensures.refused)
-        c.not_parsed-in-Err-NotAProgram.ensures
-    }
+  answers = no_tree c.args.bytes.now.items c.args.steps c.in-Ok.tokens.items c.in-Err-NotAProgram.token c.not_parsed-in-Err-NotAProgram.result c.in-Ok.ensures.value
+      (subst (IsCause c.in-Ok.tokens.items) c.in-Err-NotAProgram.field-0-is c.in-Err-NotAProgram.ensures.refused)
+      c.not_parsed-in-Err-NotAProgram.ensures;
+}
 
 pub returns-in-Ok-resolve : goal.returns-in-Ok-resolve
 returns-in-Ok-resolve c = record {

@@ -1,5 +1,4 @@
 use Rattle.std.proofs.Common.{◌≡◌, false, subst, sym}
-use Rattle.serde_json.specs.View.{view}
 use Rattle.serde_json.specs.Written.{has_float}
 use Rattle.lattice_view.proofs.FloatLemmas.{lattice_whole}
 use Rattle.lattice_view.proofs.json.show_json.Goals as goal
