@@ -1,0 +1,11 @@
+pub mod Lexes
+pub mod ExprLexes
+pub mod TreeLexes
+pub mod ExprParsed
+pub mod TreeParsed
+pub mod DeclParsed
+pub mod Gives
+pub mod Adding
+pub mod Opened
+pub mod StmtAdding
+pub mod DeclAdding

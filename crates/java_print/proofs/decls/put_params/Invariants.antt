@@ -1,0 +1,9 @@
+use Rattle.std.proofs.Common.{List, drop, nat_lt, false}
+use Rattle.java_print.specs.Items.{Item}
+use Rattle.java_print.specs.Layout.{params_items}
+use Rattle.java_print.specs.Adds.{Adds}
+use Rattle.java_print.proofs.decls.put_params.Given as goal
+
+-- what is left is still to add
+abbrev pub invariant-loop-i : goal.invariant-loop-i
+invariant-loop-i l = (r : List Item) → Adds l.fn.into.items l.into.items (params_items false l.params r) (params_items (nat_lt 0 l.i) (drop l.i l.params) r)

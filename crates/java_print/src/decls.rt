@@ -1,0 +1,309 @@
+//! The text of a declaration.
+#![tactic(auto)]
+
+ghost use Rattle.std.specs.Prelude.{◌≡◌, OnOk, List, ◌∷◌, Bool, false, true};
+ghost use Rattle.java_tree.specs.Syntax.{stmts, head_of, heads, member_of, members, decl_of, decls, body_seen};
+ghost use Rattle.java_print.specs.Items.{Item, Space, End};
+ghost use Rattle.java_print.specs.Layout.{mark_then, key_then, word_then, type_items, mod_items, mods_items, result_items, param_items, params_items, head_items, body_items, field_member_items, method_items, member_items, members_items, heads_items, ids_items, extends_items, parent_items, listed_items, list_items, class_items, interface_items, decl_items, decls_items, body_block};
+ghost use Rattle.java_print.specs.Adds.{Adds, Puts};
+
+use crate::exprs::{put_comma, put_space, put_type};
+use crate::put::{put_end, put_key, put_margin, put_mark, put_name};
+use crate::stmts::{put_body, put_final, put_open_body, put_stop};
+use java_lex::Mark;
+use java_tree::{Decl, Head, Id, Member, Modifier, Param, Stmt, TypeName};
+use kaba_base::{Keyword, Name};
+use std::alloc::{AllocError, Global};
+
+/// Adds a modifier and a space.
+fn put_mod(into: &mut Vec<u8>, m: &Modifier) -> Result<(), AllocError>
+    ensures value { OnOk result (Puts into.old.items into.new.items (mod_items m.now)) }
+{
+    put_key(into, m.word)?;
+    put_space(into)
+}
+
+/// Adds modifiers.
+fn put_mods(into: &mut Vec<u8>, mods: &[Modifier]) -> Result<(), AllocError>
+    ensures value { OnOk result (Puts into.old.items into.new.items (mods_items mods.now)) }
+{
+    for m in mods {
+        put_mod(into, m)?;
+    }
+    Ok(())
+}
+
+/// Adds the type of a method's result, or `void`.
+fn put_result(into: &mut Vec<u8>, result_type: &Option<TypeName>) -> Result<(), AllocError>
+    ensures value { OnOk result (Puts into.old.items into.new.items (result_items result_type.now)) }
+{
+    match result_type {
+        None => put_key(into, Keyword::Void),
+        Some(ty) => put_type(into, ty),
+    }
+}
+
+/// Adds a parameter.
+fn put_param(into: &mut Vec<u8>, param: &Param) -> Result<(), AllocError>
+    ensures value { OnOk result (Puts into.old.items into.new.items (param_items param.now)) }
+{
+    put_final(into, param.is_final)?;
+    put_type(into, &param.ty)?;
+    put_space(into)?;
+    put_name(into, &param.name)
+}
+
+/// Adds parameters and the bracket that closes them.
+fn put_params(into: &mut Vec<u8>, params: &[Param]) -> Result<(), AllocError>
+    ensures value { OnOk result (Puts into.old.items into.new.items (params_items false params.now)) }
+{
+    for (i, param) in params.iter().enumerate() {
+        put_comma(into, i > 0)?;
+        put_param(into, param)?;
+    }
+    put_mark(into, Mark::CloseRound)
+}
+
+/// Adds a method up to its body.
+fn put_head(into: &mut Vec<u8>, head: &Head) -> Result<(), AllocError>
+    ensures value { OnOk result (Puts into.old.items into.new.items (head_items (head_of head.now))) }
+{
+    put_mods(into, head.mods.as_slice())?;
+    put_result(into, &head.result)?;
+    put_space(into)?;
+    put_name(into, &head.name)?;
+    put_mark(into, Mark::OpenRound)?;
+    put_params(into, head.params.as_slice())
+}
+
+/// Adds the body of a method.
+fn put_method_block(alloc: Global, into: &mut Vec<u8>, body: &[Stmt]) -> Result<(), AllocError>
+    ensures value { OnOk result ((r : List Item) → Adds into.old.items into.new.items (body_block 2 (stmts body.now) (End ∷ r)) r) }
+{
+    put_body(alloc, into, 2, body)?;
+    put_end(into)
+}
+
+/// Adds the body of a method, or a semicolon.
+fn put_method_body(
+    alloc: Global,
+    into: &mut Vec<u8>,
+    body: &Option<Vec<Stmt>>,
+) -> Result<(), AllocError>
+    ensures value { OnOk result (Puts into.old.items into.new.items (body_items (body_seen body.now))) }
+{
+    match body {
+        None => put_stop(into),
+        Some(body) => put_method_block(alloc, into, body.as_slice()),
+    }
+}
+
+/// Adds a field of a class.
+fn put_field_member(
+    into: &mut Vec<u8>,
+    mods: &[Modifier],
+    ty: &TypeName,
+    name: &Name,
+) -> Result<(), AllocError>
+    ensures value { OnOk result (Puts into.old.items into.new.items (field_member_items mods.now ty.now name.now)) }
+{
+    put_margin(into, 2)?;
+    put_mods(into, mods)?;
+    put_type(into, ty)?;
+    put_space(into)?;
+    put_name(into, name)?;
+    put_stop(into)
+}
+
+/// Adds a method of a class.
+fn put_method(
+    alloc: Global,
+    into: &mut Vec<u8>,
+    head: &Head,
+    body: &Option<Vec<Stmt>>,
+) -> Result<(), AllocError>
+    ensures value { OnOk result (Puts into.old.items into.new.items (method_items (head_of head.now) (body_seen body.now))) }
+{
+    put_margin(into, 2)?;
+    put_head(into, head)?;
+    put_method_body(alloc, into, body)
+}
+
+/// Adds a member of a class.
+fn put_member(alloc: Global, into: &mut Vec<u8>, member: &Member) -> Result<(), AllocError>
+    ensures value { OnOk result (Puts into.old.items into.new.items (member_items (member_of member.now))) }
+{
+    match member {
+        Member::Field { mods, ty, name, .. } => put_field_member(into, mods.as_slice(), ty, name),
+        Member::Method { head, body, .. } => put_method(alloc, into, head, body),
+    }
+}
+
+/// Adds members of a class.
+fn put_members(alloc: Global, into: &mut Vec<u8>, list: &[Member]) -> Result<(), AllocError>
+    ensures value { OnOk result (Puts into.old.items into.new.items (members_items (members list.now))) }
+{
+    for member in list {
+        put_member(alloc, into, member)?;
+    }
+    Ok(())
+}
+
+/// Adds methods of an interface.
+fn put_heads(into: &mut Vec<u8>, list: &[Head]) -> Result<(), AllocError>
+    ensures value { OnOk result (Puts into.old.items into.new.items (heads_items (heads list.now))) }
+{
+    for head in list {
+        put_margin(into, 2)?;
+        put_head(into, head)?;
+        put_stop(into)?;
+    }
+    Ok(())
+}
+
+/// Adds names between commas.
+fn put_ids(into: &mut Vec<u8>, ids: &[Id]) -> Result<(), AllocError>
+    ensures value { OnOk result (Puts into.old.items into.new.items (ids_items false ids.now)) }
+{
+    for (i, id) in ids.iter().enumerate() {
+        put_comma(into, i > 0)?;
+        put_name(into, &id.name)?;
+    }
+    Ok(())
+}
+
+/// Adds ` extends ` and a name.
+fn put_extends(into: &mut Vec<u8>, name: &Name) -> Result<(), AllocError>
+    ensures value { OnOk result (Puts into.old.items into.new.items (extends_items name.now)) }
+{
+    put_space(into)?;
+    put_key(into, Keyword::Extends)?;
+    put_space(into)?;
+    put_name(into, name)
+}
+
+/// Adds the superclass, where there is one.
+fn put_parent(into: &mut Vec<u8>, parent: &Option<Id>) -> Result<(), AllocError>
+    ensures value { OnOk result (Puts into.old.items into.new.items (parent_items parent.now)) }
+{
+    match parent {
+        None => Ok(()),
+        Some(id) => put_extends(into, &id.name),
+    }
+}
+
+/// Adds a keyword and names, where there are any.
+fn put_list(into: &mut Vec<u8>, key: Keyword, ids: &[Id]) -> Result<(), AllocError>
+    ensures value { OnOk result (Puts into.old.items into.new.items (list_items key ids.now)) }
+{
+    match ids {
+        [] => Ok(()),
+        [_, ..] => put_listed(into, key, ids),
+    }
+}
+
+/// Adds a keyword and names.
+fn put_listed(into: &mut Vec<u8>, key: Keyword, ids: &[Id]) -> Result<(), AllocError>
+    ensures value { OnOk result (Puts into.old.items into.new.items (listed_items key ids.now)) }
+{
+    put_space(into)?;
+    put_key(into, key)?;
+    put_space(into)?;
+    put_ids(into, ids)
+}
+
+/// Adds a class.
+fn put_class(
+    alloc: Global,
+    into: &mut Vec<u8>,
+    mods: &[Modifier],
+    name: &Name,
+    parent: &Option<Id>,
+    faces: &[Id],
+    list: &[Member],
+) -> Result<(), AllocError>
+    ensures value { OnOk result (Puts into.old.items into.new.items (class_items mods.now name.now parent.now faces.now (members list.now))) }
+{
+    put_mods(into, mods)?;
+    put_key(into, Keyword::Class)?;
+    put_space(into)?;
+    put_name(into, name)?;
+    put_parent(into, parent)?;
+    put_list(into, Keyword::Implements, faces)?;
+    put_open_body(into)?;
+    put_members(alloc, into, list)?;
+    put_mark(into, Mark::CloseBrace)?;
+    put_end(into)
+}
+
+/// Adds an interface.
+fn put_interface(
+    into: &mut Vec<u8>,
+    mods: &[Modifier],
+    name: &Name,
+    parents: &[Id],
+    list: &[Head],
+) -> Result<(), AllocError>
+    ensures value { OnOk result (Puts into.old.items into.new.items (interface_items mods.now name.now parents.now (heads list.now))) }
+{
+    put_mods(into, mods)?;
+    put_key(into, Keyword::Interface)?;
+    put_space(into)?;
+    put_name(into, name)?;
+    put_list(into, Keyword::Extends, parents)?;
+    put_open_body(into)?;
+    put_heads(into, list)?;
+    put_mark(into, Mark::CloseBrace)?;
+    put_end(into)
+}
+
+/// Adds a class or an interface.
+fn put_decl(alloc: Global, into: &mut Vec<u8>, decl: &Decl) -> Result<(), AllocError>
+    ensures value { OnOk result (Puts into.old.items into.new.items (decl_items (decl_of decl.now))) }
+{
+    match decl {
+        Decl::Class {
+            mods,
+            name,
+            parent,
+            faces,
+            members,
+            ..
+        } => {
+            put_class(
+                alloc,
+                into,
+                mods.as_slice(),
+                name,
+                parent,
+                faces.as_slice(),
+                members.as_slice(),
+            )
+        }
+        Decl::Interface {
+            mods,
+            name,
+            parents,
+            heads,
+            ..
+        } => {
+            put_interface(
+                into,
+                mods.as_slice(),
+                name,
+                parents.as_slice(),
+                heads.as_slice(),
+            )
+        }
+    }
+}
+
+/// Adds classes and interfaces.
+pub fn put_decls(alloc: Global, into: &mut Vec<u8>, list: &[Decl]) -> Result<(), AllocError>
+    ensures value { OnOk result (Puts into.old.items into.new.items (decls_items (decls list.now))) }
+{
+    for decl in list {
+        put_decl(alloc, into, decl)?;
+    }
+    Ok(())
+}
