@@ -1,2 +1,5 @@
 pub mod Rows
 pub mod Sizes
+pub mod Sameness
+pub mod Decided
+pub mod Parts

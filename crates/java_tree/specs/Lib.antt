@@ -1,6 +1,7 @@
 pub mod Syntax
 pub mod Places
 pub mod Size
+pub mod Same
 pub mod Tokens
 pub mod Expressions
 pub mod Statements

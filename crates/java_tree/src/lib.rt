@@ -3,8 +3,10 @@
 
 /// Trees from their parts.
 pub mod build;
+mod compare;
 mod measure;
 
+pub use compare::same;
 use java_lex::{Mark, Units};
 use kaba_base::{Keyword, Name, Place};
 pub use measure::size;
