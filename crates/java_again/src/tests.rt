@@ -55,9 +55,18 @@ interface I extends K {
 const CASES: [(&str, &str); 6] = [
     (PROGRAM, PROGRAM),
     ("", ""),
-    ("class A{void f(){i+=2;++i;j--;}}", "class A {\n  void f() {\n    i = i + 2;\n    i = i + 1;\n    j = j - 1;\n  }\n}\n"),
-    ("class A { void f() { if (a) if (b) ; else c(); } }", "class A {\n  void f() {\n    if (a) {\n      if (b) {\n      } else {\n        c();\n      }\n    }\n  }\n}\n"),
-    ("class A { int f() { return (1 + 2) * (3 * 4) - (a) - (b - c); } }", "class A {\n  int f() {\n    return (1 + 2) * (3 * 4) - a - (b - c);\n  }\n}\n"),
+    (
+        "class A{void f(){i+=2;++i;j--;}}",
+        "class A {\n  void f() {\n    i = i + 2;\n    i = i + 1;\n    j = j - 1;\n  }\n}\n",
+    ),
+    (
+        "class A { void f() { if (a) if (b) ; else c(); } }",
+        "class A {\n  void f() {\n    if (a) {\n      if (b) {\n      } else {\n        c();\n      }\n    }\n  }\n}\n",
+    ),
+    (
+        "class A { int f() { return (1 + 2) * (3 * 4) - (a) - (b - c); } }",
+        "class A {\n  int f() {\n    return (1 + 2) * (3 * 4) - a - (b - c);\n  }\n}\n",
+    ),
     ("class A { int f = a /* no value there */ }", "none"),
 ];
 
