@@ -9,3 +9,4 @@ pub mod Numbers
 pub mod Pairs
 pub mod Written
 pub mod Longest
+pub mod Few
