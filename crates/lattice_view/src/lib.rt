@@ -2,9 +2,11 @@
 #![tactic(auto)]
 
 mod json;
+mod table;
 #[cfg(test)]
 mod tests;
 mod text;
 
 pub use json::show_json;
+pub use table::show_table;
 pub use text::show_text;

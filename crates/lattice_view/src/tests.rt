@@ -1,5 +1,5 @@
 use super::*;
-use fact_model::{ColKind, ColumnInfo, Concept, Facts, Lattice, RowInfo};
+use fact_model::{ColKind, ColumnInfo, Concept, Facts, Lattice, RowInfo, Table};
 use kaba_base::{ClassId, ColId, Name, RowId};
 use kaba_bits::BitRow;
 use std::alloc::{AllocError, Global};
@@ -138,6 +138,26 @@ fn facts_of(alloc: Global) -> Result<Facts, AllocError> {
         makes: Vec::new(alloc),
         spots: Vec::new(alloc),
     })
+}
+
+const TABLE: &str =
+    "> rows 4\nr0 Main.main.x: c0\nr1 new P@7: c0 c1\nr2 Main.main.y:\nr3 new P@8: c1\ncolumns 2\nc0 fld(P.a)\nc1 fld(P.b)\n";
+
+#[test]
+fn the_table(rt: HostRuntime) -> Result<(), Fail> {
+    let alloc = rt.alloc();
+    let mut rows = Vec::new(alloc);
+    for columns in [[0_u32].as_slice(), &[0, 1], &[], &[1]] {
+        rows.push(set_of(alloc, 2, columns)?)?;
+    }
+    let table = Table { width: 2, rows };
+    let facts = facts_of(alloc)?;
+    let mut text = Vec::from_slice(alloc, b"> ")?;
+    if table.rows.len() == facts.rows.len() {
+        show_table(alloc, &facts, &table, &mut text)?;
+    }
+    assert_eq!(rt; text.as_slice(), TABLE.as_bytes());
+    Ok(())
 }
 
 #[test]
