@@ -1,0 +1,5 @@
+pub mod Rows
+pub mod Subclasses
+pub mod Positions
+pub mod SearchOrder
+pub mod Offered

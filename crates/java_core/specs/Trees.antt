@@ -1,0 +1,195 @@
+-- Resolved trees as plain data: no boxes, no addresses, no capacities; and which plain tree each tree of a program is.
+use Rattle.std.specs.Prelude.{ℕ, ℤ, List, [], ◌∷◌, Option, Some, None, Bool}
+use Rattle.kaba_base.specs.declared.Place.{Place}
+use Rattle.java_core.specs.declared.Ty.{Ty}
+use Rattle.java_core.specs.declared.UnOp.{UnOp}
+use Rattle.java_core.specs.declared.BinOp.{BinOp}
+use Rattle.java_core.specs.declared.RExpr.{RExpr}
+use Rattle.java_core.specs.declared.RExpr.TheBlock as ex
+use Rattle.java_core.specs.declared.RStmt.{RStmt}
+use Rattle.java_core.specs.declared.RStmt.TheBlock as st
+use Rattle.java_core.specs.declared.RArm.{RArm}
+use Rattle.std.specs.declared.vec.Vec.{Vec}
+use Rattle.std.specs.declared.boxed.Box.{Box}
+use Rattle.std.specs.declared.alloc.Global.{Global}
+
+-- what tells a form of a body apart: its label, and its place in the text. No rule of types and no rule of a run looks at it
+pub record Tag : Type 0 where
+  pub label : ℕ
+  pub place : Place
+
+-- an expression. A call by its simple name is one on `this`
+mutual
+  pub data Ex : Type 0 where
+    number : Tag → ℤ → Ex
+    character : Tag → ℕ → Ex
+    text : Tag → List ℕ → Ex
+    truth : Tag → Bool → Ex
+    null : Tag → Ex
+    this : Tag → Ex
+    local : Tag → ℕ → Ex
+    static_field : Tag → ℕ → Ex
+    own_field : Tag → ℕ → Ex
+    field : Tag → Ex → List ℕ → Ex
+    index : Tag → Ex → Ex → Ex
+    call : Tag → Ex → List ℕ → Exs → Ex
+    static_call : Tag → ℕ → Exs → Ex
+    super_call : Tag → List ℕ → Exs → Ex
+    -- the number of the creation, and the class
+    create : Tag → ℕ → ℕ → Exs → Ex
+    -- the number of the creation, the array's own type and its size
+    create_array : Tag → ℕ → Ty → Ex → Ex
+    cast : Tag → ℕ → Ty → Ex → Ex
+    instance_of : Tag → ℕ → Ex → ℕ → Ex
+    unary : Tag → UnOp → Ex → Ex
+    binary : Tag → BinOp → Ex → Ex → Ex
+
+  pub data Exs : Type 0 where
+    no_ex : Exs
+    ex_then : Ex → Exs → Exs
+
+-- what an assignment changes
+pub data Target : Type 0 where
+  to_local : Tag → ℕ → Target
+  to_static : Tag → ℕ → Target
+  to_own : Tag → ℕ → Target
+  to_field : Tag → Ex → List ℕ → Target
+  to_element : Tag → Ex → Ex → Target
+  -- what no text gives
+  no_target : Target
+
+-- a statement. A `while` is a `for` without first and last part; the first and the last part of a `for` are lists of at most one statement
+mutual
+  pub data St : Type 0 where
+    declare : Tag → ℕ → Option Ex → St
+    block : Tag → Sts → St
+    assign : Tag → Target → Ex → St
+    act : Tag → Ex → St
+    print : Tag → Bool → Option Ex → St
+    choose : Tag → Arms → St
+    loop : Tag → Sts → Option Ex → Sts → Sts → St
+    return : Tag → Option Ex → St
+    break : Tag → St
+    continue : Tag → St
+
+  pub data Sts : Type 0 where
+    no_st : Sts
+    st_then : St → Sts → Sts
+
+  -- the arms of an `if`, the last of them its `else`; one that is not there is empty
+  pub data Arms : Type 0 where
+    otherwise : Sts → Arms
+    arm : Ex → Sts → Arms → Arms
+
+-- the tag of a form that is not numbered, at a place or without one
+abbrev pub at_place : Place → Tag
+at_place p = record { label = 0; place = p }
+
+abbrev pub no_place : Place → Tag
+no_place p = record { label = 0; place = record { at = 0; line = 0 } }
+
+-- which plain tree a tree is, with tags that its places give
+module _ (tag : Place → Tag) where
+  abbrev mutual
+    pub expr_of : RExpr → Ex
+    expr_of (ex.Int v p) = number (tag p) v
+    expr_of (ex.Char c p) = character (tag p) c
+    expr_of (ex.Str u p) = text (tag p) u
+    expr_of (ex.Bool b p) = truth (tag p) b
+    expr_of (ex.Null p) = null (tag p)
+    expr_of (ex.This p) = this (tag p)
+    expr_of (ex.Local n p) = local (tag p) n
+    expr_of (ex.Static f p) = static_field (tag p) f.0
+    expr_of (ex.Own f p) = own_field (tag p) f.0
+    expr_of (ex.Field' b e n p) = field (tag p) (expr_of e) n
+    expr_of (ex.Index' b e c i p) = index (tag p) (expr_of e) (expr_of i)
+    expr_of (ex.Call' b n s args p) = call_of b n (exprs_of args) p
+    expr_of (ex.StaticCall' m s args p) = static_call (tag p) m.0 (exprs_of args)
+    expr_of (ex.SuperCall' n s args p) = super_call (tag p) n (exprs_of args)
+    expr_of (ex.New' k c s args p) = create (tag p) k c.0 (exprs_of args)
+    expr_of (ex.NewArray' k t b e p) = create_array (tag p) k t (expr_of e)
+    expr_of (ex.Cast' k t b e p) = cast (tag p) k t (expr_of e)
+    expr_of (ex.InstanceOf' k b e c p) = instance_of (tag p) k (expr_of e) c.0
+    expr_of (ex.Unary' o b e p) = unary (tag p) o (expr_of e)
+    expr_of (ex.Binary' o b l c r p) = binary (tag p) o (expr_of l) (expr_of r)
+
+    pub call_of : ex.Held-RExpr-Call-0 → List ℕ → Exs → Place → Ex
+    call_of ex.None' n args p = call (tag p) (this (tag p)) n args
+    call_of (ex.Some' b e) n args p = call (tag p) (expr_of e) n args
+
+    pub exprs_of : {n : _} → ex.Row_of-RExpr n → Exs
+    exprs_of ex.end_of-RExpr = no_ex
+    exprs_of (ex.more_of-RExpr e rest) = ex_then (expr_of e) (exprs_of rest)
+
+  abbrev pub value_of : Option RExpr → Option Ex
+  value_of None = None
+  value_of (Some e) = Some (expr_of e)
+
+  -- what an assignment to an expression changes
+  abbrev pub target_of : RExpr → Target
+  target_of (ex.Local n p) = to_local (tag p) n
+  target_of (ex.Static f p) = to_static (tag p) f.0
+  target_of (ex.Own f p) = to_own (tag p) f.0
+  target_of (ex.Field' b e n p) = to_field (tag p) (expr_of e) n
+  target_of (ex.Index' b e c i p) = to_element (tag p) (expr_of e) (expr_of i)
+  target_of _ = no_target
+
+  abbrev mutual
+    pub stmt_of : RStmt → St
+    stmt_of (st.Local n v p) = declare (tag p) n (value_of v)
+    stmt_of (st.Block' s items p) = block (tag p) (stmts_of items)
+    stmt_of (st.Assign t v p) = assign (tag p) (target_of t) (expr_of v)
+    stmt_of (st.Do c p) = act (tag p) (expr_of c)
+    stmt_of (st.Print l v p) = print (tag p) l (value_of v)
+    stmt_of (st.If' s arms other p) = choose (tag p) (arms_of arms (else_of other))
+    stmt_of (st.While' t s body p) = loop (tag p) no_st (Some (expr_of t)) no_st (stmts_of body)
+    stmt_of (st.For' f t g s body p) = loop (tag p) (step_of f) (value_of t) (step_of g) (stmts_of body)
+    stmt_of (st.Return v p) = return (tag p) (value_of v)
+    stmt_of (st.Break p) = break (tag p)
+    stmt_of (st.Continue p) = continue (tag p)
+
+    pub else_of : st.Held-RStmt-If-1 → Sts
+    else_of st.RStmt-If-1-None' = no_st
+    else_of (st.RStmt-If-1-Some' s body) = stmts_of body
+
+    pub step_of : st.Held-RStmt-For-0 → Sts
+    step_of st.RStmt-For-0-None' = no_st
+    step_of (st.RStmt-For-0-Some' b s) = st_then (stmt_of s) no_st
+
+    pub stmts_of : {n : _} → st.Row_of-RStmt n → Sts
+    stmts_of st.end_of-RStmt = no_st
+    stmts_of (st.more_of-RStmt s rest) = st_then (stmt_of s) (stmts_of rest)
+
+    pub arms_of : {n : _} → st.Row_of-RArm n → Sts → Arms
+    arms_of st.end_of-RArm other = otherwise other
+    arms_of (st.more_of-RArm t s body rest) other = arm (expr_of t) (stmts_of body) (arms_of rest other)
+
+  -- lists of trees
+  abbrev pub exprs : List RExpr → Exs
+  exprs [] = no_ex
+  exprs (e ∷ es) = ex_then (expr_of e) (exprs es)
+
+  abbrev pub stmts : List RStmt → Sts
+  stmts [] = no_st
+  stmts (s ∷ ss) = st_then (stmt_of s) (stmts ss)
+
+  abbrev pub arms_seen : List RArm → Sts → Arms
+  arms_seen [] other = otherwise other
+  arms_seen (a ∷ more) other = arm (expr_of a.test) (stmts a.body.items) (arms_seen more other)
+
+  abbrev pub else_seen : Option (Vec RStmt Global) → Sts
+  else_seen None = no_st
+  else_seen (Some v) = stmts v.items
+
+  abbrev pub step_seen : Option (Box RStmt Global) → Sts
+  step_seen None = no_st
+  step_seen (Some b) = st_then (stmt_of b.value) no_st
+
+  abbrev pub body_seen : Option (Vec RStmt Global) → Option Sts
+  body_seen None = None
+  body_seen (Some v) = Some (stmts v.items)
+
+  -- the receiver of a call
+  abbrev pub base_seen : Option (Box RExpr Global) → Place → Ex
+  base_seen None p = this (tag p)
+  base_seen (Some b) p = expr_of b.value
