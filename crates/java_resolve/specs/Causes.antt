@@ -1,0 +1,11 @@
+-- What each answer of `resolve` that is no program comes from.
+use Rattle.std.specs.Prelude.{List}
+use Rattle.java_tree.specs.Syntax.{DeclTree}
+use Rattle.java_resolve.specs.declared.Refusal.{Refusal}
+use Rattle.java_resolve.specs.declared.Refusal.TheVariants.{Memory}
+use Rattle.java_resolve.specs.Conditions.{ConditionAt}
+
+-- want of memory is free; any other refusal comes where its condition holds
+abbrev pub IsCause : List DeclTree → Refusal → Type 0
+IsCause tree Memory = Unit {0}
+IsCause tree r = ConditionAt tree r

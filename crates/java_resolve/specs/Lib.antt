@@ -1,0 +1,14 @@
+pub mod Answers
+pub mod Names
+pub mod Tables
+pub mod Expressions
+pub mod Statements
+pub mod Classes
+pub mod Members
+pub mod Resolved
+pub mod Outline
+pub mod Meanings
+pub mod Asked
+pub mod Resolves
+pub mod Conditions
+pub mod Causes

@@ -1,0 +1,288 @@
+//! Classes and interfaces: their names, their supertypes, and which are above which.
+#![tactic(auto)]
+
+ghost use Rattle.std.specs.Prelude.{◌≡◌, ℕ, ◌+◌, List, Bool, IfOk, Ok, map};
+ghost use Rattle.std.specs.declared.vec.Vec.{Vec};
+ghost use Rattle.std.specs.declared.alloc.Global.{Global};
+ghost use Rattle.kaba_base.specs.declared.ClassId.{ClassId};
+ghost use Rattle.java_tree.specs.Syntax.{decl_of, decls};
+ghost use Rattle.java_core.specs.Trees.{at_place};
+ghost use Rattle.java_core.specs.Programs.{PlainClass, class_seen};
+ghost use Rattle.java_core.specs.declared.Class.{Class};
+ghost use Rattle.java_resolve.specs.declared.names.Known.{Known};
+ghost use Rattle.java_resolve.specs.Answers.{Gives};
+ghost use Rattle.java_resolve.specs.Classes.{know_named, object_class, known_of, is_face, parent_tree, has_id, face, faces_of, class_tree, classes_of, any_above, above_by, row_of, round, above_of, loops_of};
+
+use crate::Refusal;
+use crate::flags::{Kind, flags_of};
+use crate::names::{Known, asked, is_apart, number_of};
+use crate::tables::{Row, is_above};
+use java_core::Class;
+use java_tree::{Decl, Id};
+use kaba_base::{ClassId, Name, Place};
+use std::alloc::{AllocError, Global};
+
+/// One type more.
+fn know(
+    alloc: Global,
+    known: &mut Vec<Known>,
+    name: &Name,
+    is_interface: bool,
+    place: Place,
+) -> Result<(), Refusal>
+    ensures { Gives (λ _. known.new.items) result (know_named known.old.items name.now is_interface place) }
+{
+    let apart = is_apart(alloc, name)?;
+    if apart | number_of(known.as_slice(), name).is_some() {
+        return Err(Refusal::Twice(name.copy(alloc)?, place));
+    }
+    known.push(Known {
+        name: name.copy(alloc)?,
+        is_interface,
+    })?;
+    Ok(())
+}
+
+/// The names of all types, `Object` first; `Twice` where one stands again.
+pub fn known_of(alloc: Global, list: &[Decl]) -> Result<Vec<Known>, Refusal>
+    ensures { Gives {A = Vec Known Global} {B = List Known} (λ v. v.items) result (known_of (decls list.now)) }
+{
+    let mut known = Vec::new(alloc);
+    known.push(Known {
+        name: Name::new(alloc, "Object")?,
+        is_interface: false,
+    })?;
+    for decl in list {
+        match decl {
+            Decl::Class { name, place, .. } => know(alloc, &mut known, name, false, *place)?,
+            Decl::Interface { name, place, .. } => know(alloc, &mut known, name, true, *place)?,
+        }
+    }
+    Ok(known)
+}
+
+/// Whether the type of this number is an interface.
+fn is_face(known: &[Known], class: u32) -> bool
+    ensures { result ≡ is_face known.now class }
+{
+    match known.get(class as usize) {
+        Some(known) => known.is_interface,
+        None => false,
+    }
+}
+
+/// The superclass: `Object` where none is named.
+fn parent_tree(alloc: Global, known: &[Known], parent: &Option<Id>) -> Result<u32, Refusal>
+    ensures { Gives (λ k. k) result (parent_tree known.now parent.now) }
+{
+    match parent {
+        None => Ok(0),
+        Some(id) => {
+            let class = asked(alloc, known, &id.name, id.place)?;
+            if is_face(known, class) {
+                return Err(Refusal::TwoKinds(id.name.copy(alloc)?, id.place));
+            }
+            Ok(class)
+        }
+    }
+}
+
+/// Whether the class is in the list.
+fn has_id(list: &[ClassId], class: u32) -> bool
+    ensures { result ≡ has_id list.now class }
+{
+    for one in list {
+        if one.0 == class {
+            return true;
+        }
+    }
+    false
+}
+
+/// One interface more.
+fn face(alloc: Global, known: &[Known], faces: &mut Vec<ClassId>, id: &Id) -> Result<(), Refusal>
+    ensures { Gives (λ _. faces.new.items) result (face known.now faces.old.items id.now) }
+{
+    let class = asked(alloc, known, &id.name, id.place)?;
+    if !is_face(known, class) {
+        return Err(Refusal::TwoKinds(id.name.copy(alloc)?, id.place));
+    }
+    if has_id(faces.as_slice(), class) {
+        return Err(Refusal::Twice(id.name.copy(alloc)?, id.place));
+    }
+    faces.push(ClassId(class))?;
+    Ok(())
+}
+
+/// The interfaces of a list.
+fn faces_of(alloc: Global, known: &[Known], ids: &Vec<Id>) -> Result<Vec<ClassId>, Refusal>
+    ensures { Gives {A = Vec ClassId Global} {B = List ClassId} (λ v. v.items) result (faces_of known.now ids.now.items) }
+{
+    let mut faces = Vec::new(alloc);
+    for id in ids {
+        face(alloc, known, &mut faces, id)?;
+    }
+    Ok(faces)
+}
+
+/// The class or interface of a declaration.
+fn class_tree(alloc: Global, known: &[Known], decl: &Decl) -> Result<Class, Refusal>
+    ensures { Gives {A = Class} {B = PlainClass} (class_seen at_place) result (class_tree known.now (decl_of decl.now)) }
+{
+    match decl {
+        Decl::Class {
+            mods,
+            name,
+            parent,
+            faces,
+            place,
+            ..
+        } => {
+            let flags = flags_of(Kind::Class, mods)?;
+            let parent = parent_tree(alloc, known, parent)?;
+            let faces = faces_of(alloc, known, faces)?;
+            Ok(Class {
+                name: name.copy(alloc)?,
+                is_interface: false,
+                is_abstract: flags.is_abstract,
+                parent: Some(ClassId(parent)),
+                faces,
+                place: *place,
+            })
+        }
+        Decl::Interface {
+            mods,
+            name,
+            parents,
+            place,
+            ..
+        } => {
+            let flags = flags_of(Kind::Interface, mods)?;
+            let faces = faces_of(alloc, known, parents)?;
+            Ok(Class {
+                name: name.copy(alloc)?,
+                is_interface: true,
+                is_abstract: flags.is_abstract,
+                parent: Some(ClassId(0)),
+                faces,
+                place: *place,
+            })
+        }
+    }
+}
+
+/// `Object`.
+fn object(alloc: Global) -> Result<Class, AllocError>
+    ensures { IfOk result (λ c. class_seen at_place c ≡ object_class) }
+{
+    Ok(Class {
+        name: Name::new(alloc, "Object")?,
+        is_interface: false,
+        is_abstract: false,
+        parent: None,
+        faces: Vec::new(alloc),
+        place: Place { at: 0, line: 0 },
+    })
+}
+
+/// All classes and interfaces, `Object` first.
+pub fn classes_of(alloc: Global, known: &[Known], list: &[Decl]) -> Result<Vec<Class>, Refusal>
+    ensures { Gives {A = Vec Class Global} {B = List PlainClass} (λ v. map (class_seen at_place) v.items) result (classes_of known.now (decls list.now)) }
+{
+    let mut classes = Vec::new(alloc);
+    classes.push(object(alloc)?)?;
+    for decl in list {
+        classes.push(class_tree(alloc, known, decl)?)?;
+    }
+    Ok(classes)
+}
+
+/// Whether one of these types is at or below `b`.
+fn any_above(rows: &[Row], list: &[ClassId], b: u32) -> bool
+    ensures { result ≡ any_above rows.now list.now b }
+{
+    for class in list {
+        if is_above(rows, class.0, b) {
+            return true;
+        }
+    }
+    false
+}
+
+/// Whether something directly above the class is at or below `b`.
+fn above_by(rows: &[Row], class: &Class, b: u32) -> bool
+    ensures { result ≡ above_by rows.now (class_seen at_place class.now) b }
+{
+    let by_parent = match class.parent {
+        Some(parent) => is_above(rows, parent.0, b),
+        None => false,
+    };
+    by_parent | any_above(rows, class.faces.as_slice(), b)
+}
+
+/// The types at or above the class `a` in one step more.
+fn row_of(
+    alloc: Global,
+    rows: &[Row],
+    all: &Vec<Class>,
+    a: u32,
+    class: &Class,
+) -> Result<Row, Refusal>
+    ensures { Gives {A = List Bool} {B = List Bool} (λ r. r) result (row_of rows.now (map (class_seen at_place) all.now.items) a (class_seen at_place class.now)) }
+{
+    let mut bits = Vec::new(alloc);
+    let mut b = 0;
+    for _one in all {
+        bits.push((b == a) | above_by(rows, class, b))?;
+        b = after(b)?;
+    }
+    Ok(Row::new(bits))
+}
+
+/// The number after this one.
+pub fn after(number: u32) -> Result<u32, Refusal>
+    ensures { Gives (λ k. k) result (Ok (number + 1)) }
+{
+    if number == u32::MAX {
+        return Err(Refusal::Memory);
+    }
+    Ok(number + 1)
+}
+
+/// The types at or above each class in one step more.
+fn round(alloc: Global, all: &Vec<Class>, rows: &[Row]) -> Result<Vec<Row>, Refusal>
+    ensures { Gives {A = Vec (List Bool) Global} {B = List (List Bool)} (λ v. v.items) result (round (map (class_seen at_place) all.now.items) rows.now) }
+{
+    let mut done = Vec::new(alloc);
+    let mut a = 0;
+    for class in all {
+        done.push(row_of(alloc, rows, all, a, class)?)?;
+        a = after(a)?;
+    }
+    Ok(done)
+}
+
+/// For each type which ones are at or above it.
+pub fn above_of(alloc: Global, all: &Vec<Class>) -> Result<Vec<Row>, Refusal>
+    ensures { Gives {A = Vec (List Bool) Global} {B = List (List Bool)} (λ v. v.items) result (above_of (map (class_seen at_place) all.now.items)) }
+{
+    let mut rows = Vec::new(alloc);
+    for _step in all {
+        rows = round(alloc, all, rows.as_slice())?;
+    }
+    Ok(rows)
+}
+
+/// `Loop` where a class is its own ancestor.
+pub fn loops_of(alloc: Global, rows: &[Row], all: &Vec<Class>) -> Result<u32, Refusal>
+    ensures { Gives (λ k. k) result (loops_of rows.now (map (class_seen at_place) all.now.items)) }
+{
+    let mut a = 0;
+    for class in all {
+        if above_by(rows, class, a) {
+            return Err(Refusal::Loop(class.name.copy(alloc)?, class.place));
+        }
+        a = after(a)?;
+    }
+    Ok(a)
+}

@@ -1,0 +1,547 @@
+//! The names of expressions.
+#![tactic(auto)]
+
+ghost use Rattle.std.specs.Prelude.{◌≡◌, ℕ, IfOk, Ok, suc, option_map, is_some};
+ghost use Rattle.java_tree.specs.Syntax.{expr_of, exprs, CallOf, SuperCallOf, NewOf};
+ghost use Rattle.java_core.specs.Trees as core;
+ghost use Rattle.java_core.specs.Trees.{at_place, Ex, Exs, no_ex};
+ghost use Rattle.java_core.specs.declared.RExpr.{RExpr};
+ghost use Rattle.java_resolve.specs.declared.exprs.Callee.{Callee};
+ghost use Rattle.std.specs.declared.vec.Vec.{Vec};
+ghost use Rattle.std.specs.declared.alloc.Global.{Global};
+ghost use Rattle.java_resolve.specs.Answers.{Gives};
+ghost use Rattle.java_resolve.specs.Tables.{table_of};
+ghost use Rattle.java_resolve.specs.Expressions.{un_op, bin_op, cast_type, cast_base, name_meaning, is_variable, class_before, static_field_of, static_method_of, call_meaning, Receiver, receiver, receiver_of, called_on, after, walk, walk_all};
+ghost use Rattle.java_resolve.specs.Expressions as spec;
+
+use crate::names::{asked, type_of};
+use crate::tables::{Bound, Tables, local_of, method_met, nearest_field, own_field, own_method};
+use crate::{Form, Refusal, make};
+use java_core::{BinOp, Op, RExpr, Ty, TyBase, UnOp};
+use java_lex::Mark;
+use java_tree::{Expr, Id, TypeBase, TypeName};
+use kaba_base::{ClassId, MemberId, Name, Place};
+use std::alloc::Global;
+
+/// Where a body stands: its class, and whether its method is static.
+#[derive(Clone, Copy)]
+pub struct Here {
+    pub owner: u32,
+    pub is_static: bool,
+}
+
+/// What a call is on: an object, or nothing where it is of a static method.
+#[derive(Drop)]
+enum Callee {
+    Object(RExpr),
+    Static(u32),
+}
+
+/// The operator of a mark.
+fn un_op(mark: Mark) -> UnOp
+    ensures { result ≡ un_op mark }
+{
+    match mark {
+        Mark::Plus => UnOp::Plus,
+        Mark::Minus => UnOp::Minus,
+        Mark::Flip => UnOp::Flip,
+        _ => UnOp::Not,
+    }
+}
+
+/// The operator of a mark.
+fn bin_op(mark: Mark) -> BinOp
+    ensures { result ≡ bin_op mark }
+{
+    match mark {
+        Mark::Plus => BinOp::Int(Op::Plus),
+        Mark::Minus => BinOp::Int(Op::Minus),
+        Mark::Star => BinOp::Int(Op::Times),
+        Mark::Slash => BinOp::Int(Op::Divide),
+        Mark::Percent => BinOp::Int(Op::Remainder),
+        Mark::ShiftLeft => BinOp::Int(Op::ShiftLeft),
+        Mark::ShiftRight => BinOp::Int(Op::ShiftRight),
+        Mark::ShiftRightLogical => BinOp::Int(Op::ShiftRightUnsigned),
+        Mark::And => BinOp::Int(Op::And),
+        Mark::Or => BinOp::Int(Op::Or),
+        Mark::Xor => BinOp::Int(Op::Xor),
+        Mark::Equal => BinOp::Same,
+        Mark::NotEqual => BinOp::Differs,
+        Mark::Less => BinOp::Less,
+        Mark::Greater => BinOp::Greater,
+        Mark::AtMost => BinOp::AtMost,
+        Mark::AtLeast => BinOp::AtLeast,
+        Mark::Both => BinOp::Both,
+        _ => BinOp::Either,
+    }
+}
+
+fn cast_base(
+    alloc: Global,
+    tables: &Tables,
+    base: &TypeBase,
+    place: Place,
+) -> Result<TyBase, Refusal>
+    ensures { Gives (λ b. b) result (cast_base (table_of tables.now) base.now place) }
+{
+    match base {
+        TypeBase::Int => Ok(TyBase::Int),
+        TypeBase::Boolean => Ok(TyBase::Boolean),
+        TypeBase::Char => Ok(TyBase::Char),
+        TypeBase::Named(name) => {
+            let class = asked(alloc, tables.known.as_slice(), name, place)?;
+            Ok(TyBase::Class(ClassId(class)))
+        }
+    }
+}
+
+/// The type of a cast.
+fn cast_type(alloc: Global, tables: &Tables, ty: &TypeName) -> Result<Ty, Refusal>
+    ensures { Gives (λ t. t) result (cast_type (table_of tables.now) ty.now) }
+{
+    let base = cast_base(alloc, tables, &ty.base, ty.place)?;
+    Ok(Ty { base, dim: ty.dim })
+}
+
+/// The number of a field or method.
+fn id_of(number: usize) -> Result<u32, Refusal>
+    ensures { Gives (λ k. k) result (Ok number) }
+{
+    match u32::try_from(number) {
+        Ok(number) => Ok(number),
+        Err(_) => Err(Refusal::Memory),
+    }
+}
+
+/// A field by its simple name.
+fn field_named(
+    alloc: Global,
+    tables: &Tables,
+    here: Here,
+    name: &Name,
+    place: Place,
+    found: Option<usize>,
+) -> Result<RExpr, Refusal>
+    ensures { Gives (λ e. core.expr_of at_place e) result (spec.field_named (table_of tables.now) here name.now place found) }
+{
+    let Some(number) = found else {
+        return Err(Refusal::Unknown(name.copy(alloc)?, place));
+    };
+    let Some(field) = tables.fields.get(number) else {
+        return Err(Refusal::Unknown(name.copy(alloc)?, place));
+    };
+    let is_own = field.owner.0 == here.owner;
+    if field.is_static & !is_own {
+        return Err(Refusal::Unknown(name.copy(alloc)?, place));
+    }
+    if !field.is_static & here.is_static {
+        return Err(Refusal::NotInProfile(Form::ThisInStatic, place));
+    }
+    let number = MemberId(id_of(number)?);
+    if field.is_static {
+        Ok(RExpr::Static {
+            field: number,
+            place,
+        })
+    } else {
+        Ok(RExpr::Own {
+            field: number,
+            place,
+        })
+    }
+}
+
+/// What a simple name means.
+#[tactic(auto, unfolding(crate::specs::Expressions::name_meaning))]
+fn name_meaning(
+    alloc: Global,
+    tables: &Tables,
+    here: Here,
+    scope: &[Bound],
+    name: &Name,
+    place: Place,
+) -> Result<RExpr, Refusal>
+    ensures { Gives (λ e. core.expr_of at_place e) result (name_meaning (table_of tables.now) here scope.now name.now place) }
+{
+    match local_of(scope, name) {
+        Some(local) => Ok(RExpr::Local { local, place }),
+        None => {
+            let found = nearest_field(tables, here.owner, name);
+            field_named(alloc, tables, here, name, place, found)
+        }
+    }
+}
+
+/// Whether the name is that of a local, a parameter or a field.
+#[tactic(auto, unfolding(crate::specs::Expressions::is_variable))]
+fn is_variable(tables: &Tables, here: Here, scope: &[Bound], name: &Name) -> bool
+    ensures { result ≡ is_variable (table_of tables.now) here scope.now name.now }
+{
+    let local = local_of(scope, name).is_some();
+    let field = nearest_field(tables, here.owner, name).is_some();
+    local | field
+}
+
+/// The name before a dot that is no variable.
+fn class_before(
+    alloc: Global,
+    tables: &Tables,
+    here: Here,
+    scope: &[Bound],
+    base: &Expr,
+) -> Result<Option<Id>, Refusal>
+    ensures { Gives (λ c. c) result (Ok (class_before (table_of tables.now) here scope.now (expr_of base.now))) }
+{
+    match base {
+        Expr::Name { name, place } => {
+            if is_variable(tables, here, scope, name) {
+                Ok(None)
+            } else {
+                Ok(Some(Id {
+                    name: name.copy(alloc)?,
+                    place: *place,
+                }))
+            }
+        }
+        _ => Ok(None),
+    }
+}
+
+/// The static field of a class itself.
+fn static_field_of(
+    alloc: Global,
+    tables: &Tables,
+    class: &Id,
+    name: &Name,
+    place: Place,
+) -> Result<u32, Refusal>
+    ensures { Gives (λ k. k) result (static_field_of (table_of tables.now) class.now name.now place) }
+{
+    let owner = asked(alloc, tables.known.as_slice(), &class.name, class.place)?;
+    let Some(number) = own_field(tables, owner, name) else {
+        return Err(Refusal::Unknown(name.copy(alloc)?, place));
+    };
+    let Some(field) = tables.fields.get(number) else {
+        return Err(Refusal::Unknown(name.copy(alloc)?, place));
+    };
+    if !field.is_static {
+        return Err(Refusal::Unknown(name.copy(alloc)?, place));
+    }
+    id_of(number)
+}
+
+/// The static method of a class itself.
+fn static_method_of(
+    alloc: Global,
+    tables: &Tables,
+    class: &Id,
+    name: &Name,
+    place: Place,
+) -> Result<u32, Refusal>
+    ensures { Gives (λ k. k) result (static_method_of (table_of tables.now) class.now name.now place) }
+{
+    let owner = asked(alloc, tables.known.as_slice(), &class.name, class.place)?;
+    let Some(number) = own_method(tables, owner, name) else {
+        return Err(Refusal::Unknown(name.copy(alloc)?, place));
+    };
+    let Some(method) = tables.headings.get(number) else {
+        return Err(Refusal::Unknown(name.copy(alloc)?, place));
+    };
+    if !method.is_static {
+        return Err(Refusal::Unknown(name.copy(alloc)?, place));
+    }
+    id_of(number)
+}
+
+fn method_named(
+    alloc: Global,
+    tables: &Tables,
+    here: Here,
+    name: &Name,
+    place: Place,
+    found: Option<usize>,
+) -> Result<Option<u32>, Refusal>
+    ensures { Gives (λ m. m) result (spec.method_named (table_of tables.now) here name.now place found) }
+{
+    let Some(number) = found else {
+        return Err(Refusal::Unknown(name.copy(alloc)?, place));
+    };
+    let Some(method) = tables.headings.get(number) else {
+        return Err(Refusal::Unknown(name.copy(alloc)?, place));
+    };
+    if method.is_static {
+        if method.owner == here.owner {
+            Ok(Some(id_of(number)?))
+        } else {
+            Err(Refusal::Unknown(name.copy(alloc)?, place))
+        }
+    } else if here.is_static {
+        Err(Refusal::NotInProfile(Form::ThisInStatic, place))
+    } else {
+        Ok(None)
+    }
+}
+
+/// The static method that a call by a simple name calls; `None` is one on `this`.
+#[tactic(auto, unfolding(crate::specs::Expressions::call_meaning))]
+fn call_meaning(
+    alloc: Global,
+    tables: &Tables,
+    here: Here,
+    name: &Name,
+    place: Place,
+) -> Result<Option<u32>, Refusal>
+    ensures { Gives (λ m. m) result (call_meaning (table_of tables.now) here name.now place) }
+{
+    let found = method_met(tables, here.owner, name);
+    method_named(alloc, tables, here, name, place, found)
+}
+
+/// The next number of a creation, a cast or an `instanceof`.
+pub fn next(number: &mut u32) -> Result<u32, Refusal>
+    ensures { Gives {A = ℕ} {B = ℕ × ℕ} (λ k. (k, number.new)) result (Ok (number.old, suc number.old)) }
+{
+    let own = *number;
+    if own == u32::MAX {
+        return Err(Refusal::Memory);
+    }
+    *number = own + 1;
+    Ok(own)
+}
+
+/// An expression with its names resolved. `number` is the next free number of a creation, a cast or
+/// an `instanceof`.
+#[cycle(exprs)]
+pub fn expr(
+    alloc: Global,
+    tables: &Tables,
+    here: Here,
+    scope: &[Bound],
+    number: &mut u32,
+    tree: &Expr,
+) -> Result<RExpr, Refusal>
+    ensures given { Gives {A = RExpr} {B = Ex × ℕ} (λ e. (core.expr_of at_place e, number.new)) result (walk (table_of tables.now) here scope.now number.old (expr_of tree.now)) }
+{
+    match tree {
+        Expr::Int { value, place } => Ok(RExpr::Int {
+            value: *value,
+            place: *place,
+        }),
+        Expr::Char { value, place } => Ok(RExpr::Char {
+            value: *value,
+            place: *place,
+        }),
+        Expr::Str { units, place } => Ok(RExpr::Str {
+            units: units.copy(alloc)?,
+            place: *place,
+        }),
+        Expr::Bool { value, place } => Ok(RExpr::Bool {
+            value: *value,
+            place: *place,
+        }),
+        Expr::Null { place } => Ok(RExpr::Null { place: *place }),
+        Expr::This { place } => {
+            if here.is_static {
+                return Err(Refusal::NotInProfile(Form::ThisInStatic, *place));
+            }
+            Ok(RExpr::This { place: *place })
+        }
+        Expr::Name { name, place } => name_meaning(alloc, tables, here, scope, name, *place),
+        Expr::Field { base, name, place } => {
+            if let Some(class) = class_before(alloc, tables, here, scope, base)? {
+                let field = static_field_of(alloc, tables, &class, name, *place)?;
+                return Ok(RExpr::Static {
+                    field: MemberId(field),
+                    place: *place,
+                });
+            }
+            let base = expr(alloc, tables, here, scope, number, base)?;
+            Ok(make::field(alloc, base, name.copy(alloc)?, *place)?)
+        }
+        Expr::Index { base, at, place } => {
+            let base = expr(alloc, tables, here, scope, number, base)?;
+            let at = expr(alloc, tables, here, scope, number, at)?;
+            Ok(make::index(alloc, base, at, *place)?)
+        }
+        Expr::Call {
+            base,
+            name,
+            args,
+            place,
+        } => match base {
+            None => simple_call(alloc, tables, here, scope, number, name, args, *place),
+            Some(base) => {
+                let on = callee_of(alloc, tables, here, scope, number, base, name, *place)?;
+                applied(alloc, tables, here, scope, number, on, name, args, *place)
+            }
+        },
+        Expr::SuperCall { name, args, place } => {
+            super_call(alloc, tables, here, scope, number, name, args, *place)
+        }
+        Expr::New { class, args, place } => {
+            new_object(alloc, tables, here, scope, number, class, args, *place)
+        }
+        Expr::NewArray { ty, size, place } => {
+            let ty = type_of(alloc, tables.known.as_slice(), ty)?;
+            let own = next(number)?;
+            let size = expr(alloc, tables, here, scope, number, size)?;
+            Ok(make::create_array(alloc, own, ty, size, *place)?)
+        }
+        Expr::Cast { ty, value, place } => {
+            let ty = cast_type(alloc, tables, ty)?;
+            let own = next(number)?;
+            let value = expr(alloc, tables, here, scope, number, value)?;
+            Ok(make::cast(alloc, own, ty, value, *place)?)
+        }
+        Expr::InstanceOf {
+            value,
+            class,
+            place,
+        } => {
+            let value = expr(alloc, tables, here, scope, number, value)?;
+            let class = asked(alloc, tables.known.as_slice(), &class.name, class.place)?;
+            let own = next(number)?;
+            Ok(make::instance_of(alloc, own, value, class, *place)?)
+        }
+        Expr::Unary { mark, value, place } => {
+            let value = expr(alloc, tables, here, scope, number, value)?;
+            Ok(make::unary(alloc, un_op(*mark), value, *place)?)
+        }
+        Expr::Binary {
+            mark,
+            left,
+            right,
+            place,
+        } => {
+            let left = expr(alloc, tables, here, scope, number, left)?;
+            let right = expr(alloc, tables, here, scope, number, right)?;
+            Ok(make::binary(alloc, bin_op(*mark), left, right, *place)?)
+        }
+    }
+}
+
+/// `name(args)`
+#[cycle(exprs)]
+fn simple_call(
+    alloc: Global,
+    tables: &Tables,
+    here: Here,
+    scope: &[Bound],
+    number: &mut u32,
+    name: &Name,
+    args: &Vec<Expr>,
+    place: Place,
+) -> Result<RExpr, Refusal>
+    ensures given { Gives {A = RExpr} {B = Ex × ℕ} (λ e. (core.expr_of at_place e, number.new)) result (walk (table_of tables.now) here scope.now number.old (CallOf name.now (exprs args.now.items) place)) }
+{
+    let method = call_meaning(alloc, tables, here, name, place)?;
+    let args = all(alloc, tables, here, scope, number, args)?;
+    match method {
+        Some(method) => Ok(make::static_call(method, args, place)),
+        None => Ok(make::call(name.copy(alloc)?, args, place)),
+    }
+}
+
+/// What `base.name(..)` is called on.
+#[cycle(exprs)]
+fn callee_of(
+    alloc: Global,
+    tables: &Tables,
+    here: Here,
+    scope: &[Bound],
+    number: &mut u32,
+    base: &Expr,
+    name: &Name,
+    place: Place,
+) -> Result<Callee, Refusal>
+    ensures given { Gives {A = Callee} {B = Receiver × ℕ} (λ c. (receiver_of c, number.new)) result (receiver (table_of tables.now) number.old name.now place (class_before (table_of tables.now) here scope.now (expr_of base.now)) (walk (table_of tables.now) here scope.now number.old (expr_of base.now))) }
+{
+    match class_before(alloc, tables, here, scope, base)? {
+        Some(class) => Ok(Callee::Static(static_method_of(alloc, tables, &class, name, place)?)),
+        None => Ok(Callee::Object(expr(alloc, tables, here, scope, number, base)?)),
+    }
+}
+
+/// The call of `name` on it.
+#[cycle(exprs)]
+fn applied(
+    alloc: Global,
+    tables: &Tables,
+    here: Here,
+    scope: &[Bound],
+    number: &mut u32,
+    on: Callee,
+    name: &Name,
+    args: &Vec<Expr>,
+    place: Place,
+) -> Result<RExpr, Refusal>
+    ensures given { Gives {A = RExpr} {B = Ex × ℕ} (λ e. (core.expr_of at_place e, number.new)) result (after (walk_all (table_of tables.now) here scope.now no_ex number.old (exprs args.now.items)) (λ xs. called_on (receiver_of on) name.now xs place)) }
+{
+    let name = name.copy(alloc)?;
+    let args = all(alloc, tables, here, scope, number, args)?;
+    match on {
+        Callee::Static(method) => Ok(make::static_call(method, args, place)),
+        Callee::Object(base) => Ok(make::call_on(alloc, base, name, args, place)?),
+    }
+}
+
+/// `super.name(args)`
+#[cycle(exprs)]
+fn super_call(
+    alloc: Global,
+    tables: &Tables,
+    here: Here,
+    scope: &[Bound],
+    number: &mut u32,
+    name: &Name,
+    args: &Vec<Expr>,
+    place: Place,
+) -> Result<RExpr, Refusal>
+    ensures given { Gives {A = RExpr} {B = Ex × ℕ} (λ e. (core.expr_of at_place e, number.new)) result (walk (table_of tables.now) here scope.now number.old (SuperCallOf name.now (exprs args.now.items) place)) }
+{
+    if here.is_static {
+        return Err(Refusal::NotInProfile(Form::ThisInStatic, place));
+    }
+    let args = all(alloc, tables, here, scope, number, args)?;
+    Ok(make::super_call(name.copy(alloc)?, args, place))
+}
+
+/// `new class(args)`
+#[cycle(exprs)]
+fn new_object(
+    alloc: Global,
+    tables: &Tables,
+    here: Here,
+    scope: &[Bound],
+    number: &mut u32,
+    class: &Id,
+    args: &Vec<Expr>,
+    place: Place,
+) -> Result<RExpr, Refusal>
+    ensures given { Gives {A = RExpr} {B = Ex × ℕ} (λ e. (core.expr_of at_place e, number.new)) result (walk (table_of tables.now) here scope.now number.old (NewOf class.now (exprs args.now.items) place)) }
+{
+    let class = asked(alloc, tables.known.as_slice(), &class.name, class.place)?;
+    let own = next(number)?;
+    let args = all(alloc, tables, here, scope, number, args)?;
+    Ok(make::create(own, class, args, place))
+}
+
+/// Arguments with their names resolved.
+#[cycle(exprs)]
+#[tactic(auto, using(crate::proofs::Rows::exprs_push))]
+fn all(
+    alloc: Global,
+    tables: &Tables,
+    here: Here,
+    scope: &[Bound],
+    number: &mut u32,
+    list: &Vec<Expr>,
+) -> Result<Vec<RExpr>, Refusal>
+    ensures given { Gives {A = Vec RExpr Global} {B = Exs × ℕ} (λ v. (core.exprs at_place v.items, number.new)) result (walk_all (table_of tables.now) here scope.now no_ex number.old (exprs list.now.items)) }
+{
+    let mut done = Vec::new(alloc);
+    for one in list {
+        done.push(expr(alloc, tables, here, scope, number, one)?)?;
+    }
+    Ok(done)
+}

@@ -1,0 +1,134 @@
+//! Modifiers.
+#![tactic(auto)]
+
+ghost use Rattle.std.specs.Prelude.{◌≡◌};
+ghost use Rattle.java_resolve.specs.Answers.{Gives};
+ghost use Rattle.java_resolve.specs.Classes.{no_static, is_head, is_field, is_misplaced, noted, flag, flags_of};
+
+use crate::{Form, Refusal};
+use java_tree::Modifier;
+use kaba_base::Keyword;
+
+/// What modifiers stand before.
+#[derive(Clone, Copy)]
+pub enum Kind {
+    Class,
+    Interface,
+    Field,
+    Method,
+    /// A method of an interface.
+    Head,
+}
+
+/// Which modifiers stand before something.
+#[derive(Clone, Copy)]
+pub struct Flags {
+    pub is_public: bool,
+    pub is_protected: bool,
+    pub is_private: bool,
+    pub is_abstract: bool,
+    pub is_static: bool,
+    pub is_final: bool,
+}
+
+impl Kind {
+    /// Whether `static` cannot stand there.
+    fn no_static(self) -> bool
+        ensures { result ≡ no_static self }
+    {
+        match self {
+            Kind::Class => true,
+            Kind::Interface => true,
+            Kind::Head => true,
+            Kind::Field => false,
+            Kind::Method => false,
+        }
+    }
+
+    fn is_head(self) -> bool
+        ensures { result ≡ is_head self }
+    {
+        match self {
+            Kind::Head => true,
+            Kind::Class => false,
+            Kind::Interface => false,
+            Kind::Field => false,
+            Kind::Method => false,
+        }
+    }
+
+    fn is_field(self) -> bool
+        ensures { result ≡ is_field self }
+    {
+        match self {
+            Kind::Field => true,
+            Kind::Class => false,
+            Kind::Interface => false,
+            Kind::Head => false,
+            Kind::Method => false,
+        }
+    }
+}
+
+/// Whether the modifier stands twice or does not fit.
+fn is_misplaced(kind: Kind, flags: Flags, word: Keyword) -> bool
+    ensures { result ≡ is_misplaced kind flags word }
+{
+    let head = kind.is_head();
+    match word {
+        Keyword::Public => flags.is_public,
+        Keyword::Protected => flags.is_protected | head,
+        Keyword::Private => flags.is_private | flags.is_abstract | head,
+        Keyword::Abstract => {
+            flags.is_abstract | flags.is_private | flags.is_static | kind.is_field()
+        }
+        Keyword::Static => flags.is_static | flags.is_abstract | kind.no_static(),
+        Keyword::Final => flags.is_final | head,
+        _ => false,
+    }
+}
+
+/// The flags with one more.
+fn noted(flags: Flags, word: Keyword) -> Flags
+    ensures { result ≡ noted flags word }
+{
+    let mut new = flags;
+    match word {
+        Keyword::Public => new.is_public = true,
+        Keyword::Protected => new.is_protected = true,
+        Keyword::Private => new.is_private = true,
+        Keyword::Abstract => new.is_abstract = true,
+        Keyword::Static => new.is_static = true,
+        Keyword::Final => new.is_final = true,
+        _ => {}
+    }
+    new
+}
+
+/// One modifier more.
+fn flag(kind: Kind, flags: Flags, modifier: &Modifier) -> Result<Flags, Refusal>
+    ensures { Gives (λ f. f) result (flag kind flags modifier.now) }
+{
+    if is_misplaced(kind, flags, modifier.word) {
+        return Err(Refusal::NotInProfile(Form::Modifier, modifier.place));
+    }
+    Ok(noted(flags, modifier.word))
+}
+
+/// The modifiers before something; `NotInProfile` where one stands twice or does not fit.
+pub fn flags_of(kind: Kind, mods: &[Modifier]) -> Result<Flags, Refusal>
+    ensures { Gives (λ f. f) result (flags_of kind mods.now) }
+{
+    let mut flags = Flags {
+        is_public: false,
+        is_protected: false,
+        is_private: false,
+        is_abstract: false,
+        is_static: false,
+        is_final: false,
+    };
+    for modifier in mods {
+        flags = flag(kind, flags, modifier)?;
+    }
+    Ok(flags)
+}

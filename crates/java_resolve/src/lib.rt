@@ -1,0 +1,188 @@
+//! Names resolved: the program of a tree, or which rule of names the tree breaks and where.
+#![tactic(auto)]
+
+mod bodies;
+mod clashes;
+mod classes;
+mod exprs;
+mod flags;
+mod make;
+mod members;
+mod names;
+mod stmts;
+mod tables;
+
+ghost use Rattle.java_tree.specs.Syntax.{decls, tree_of};
+ghost use Rattle.java_core.specs.Trees.{at_place, no_place};
+ghost use Rattle.std.specs.Prelude.{◌≡◌, IfOk, IfErr, map};
+ghost use Rattle.std.specs.Bool.{OnTrue};
+ghost use Rattle.java_print.specs.Formed.{IsFormedTree};
+ghost use Rattle.java_core.specs.Formed.{AreCounted, IsFormed};
+ghost use Rattle.java_resolve.specs.Resolves.{Resolves};
+ghost use Rattle.java_resolve.specs.Causes.{IsCause};
+ghost use Rattle.java_core.specs.Programs.{Plain, program_of, class_seen};
+ghost use Rattle.java_core.specs.declared.Program.{Program};
+ghost use Rattle.java_resolve.specs.Answers.{Gives};
+ghost use Rattle.java_resolve.specs.Members.{members_seen};
+ghost use Rattle.java_resolve.specs.Resolved.{resolved, with_bodies, parents_of};
+
+use bodies::methods_of;
+use clashes::{clashes_of, main_of};
+use classes::{above_of, classes_of, known_of, loops_of};
+use java_core::{Class, Program};
+use java_tree::{Decl, Tree};
+use kaba_base::{ClassId, MemberId, Name, Place};
+use members::{Draft, members_of};
+use names::Known;
+use std::alloc::{AllocError, AllocFailed, Global};
+use tables::{Row, Tables};
+
+/// What the language leaves out.
+#[derive(Clone, Copy, Debug, PartialEq, Eq)]
+pub enum Form {
+    /// A modifier that stands twice or does not fit.
+    Modifier,
+    /// A body that is missing or not allowed.
+    Body,
+    /// `this`, `super` or an instance member by its simple name in a static method.
+    ThisInStatic,
+    /// `break` or `continue` outside a loop.
+    BreakOutside,
+}
+
+/// Why a tree is no program: the name or form, and the place at which the rule is broken.
+#[derive(Drop)]
+pub enum Refusal {
+    /// No class, variable, static member or method has the name.
+    Unknown(Name, Place),
+    /// The name is there already.
+    Twice(Name, Place),
+    /// The class is its own ancestor.
+    Loop(Name, Place),
+    /// Methods of this name that are not all of one slot, or a static one and another, meet in a class.
+    Overload(Name, Place),
+    /// The name of a type names a variable, or a class stands for an interface or the reverse.
+    TwoKinds(Name, Place),
+    /// A private method's name stands again in an ancestor or a descendant.
+    PrivateReused(Name, Place),
+    /// No class has a `static void main(String[] ..)`.
+    NoMain,
+    /// A form that the language leaves out.
+    NotInProfile(Form, Place),
+    /// Memory is short, or the numbers of a program are used up.
+    Memory,
+}
+
+impl From<AllocError> for Refusal {
+    ghost use Rattle.std.specs.Prelude.{◌≡◌};
+    ghost use Rattle.java_resolve.specs.declared.Refusal.TheVariants.{Memory};
+
+    ghost from_gives = { λ _ refusal. refusal ≡ Memory };
+
+    fn from(_error: AllocError) -> Refusal {
+        Refusal::Memory
+    }
+}
+
+impl<T: Drop> From<AllocFailed<T>> for Refusal {
+    ghost use Rattle.std.specs.Prelude.{◌≡◌};
+    ghost use Rattle.java_resolve.specs.declared.Refusal.TheVariants.{Memory};
+
+    ghost from_gives = { λ _ refusal. refusal ≡ Memory };
+
+    fn from(_error: AllocFailed<T>) -> Refusal {
+        Refusal::Memory
+    }
+}
+
+/// The superclass of each class.
+fn parents_of(alloc: Global, classes: &Vec<Class>) -> Result<Vec<Option<ClassId>>, AllocError>
+    ensures { IfOk result (λ v. v.items ≡ parents_of (map (class_seen at_place) classes.now.items)) }
+{
+    let mut parents = Vec::new(alloc);
+    for class in classes {
+        parents.push(class.parent)?;
+    }
+    Ok(parents)
+}
+
+/// The program of a tree whose types and members these are.
+fn with_bodies(
+    alloc: Global,
+    list: &[Decl],
+    known: Vec<Known>,
+    classes: Vec<Class>,
+    above: Vec<Row>,
+    draft: Draft,
+) -> Result<Program, Refusal>
+    ensures { Gives {A = Program} {B = Plain} (program_of at_place) result (with_bodies (decls list.now) known.items (map (class_seen at_place) classes.items) above.items (members_seen draft)) }
+{
+    let _count = clashes_of(alloc, above.as_slice(), &draft.headings)?;
+    let main = main_of(&draft.headings)?;
+    let tables = Tables {
+        known,
+        parents: parents_of(alloc, &classes)?,
+        above,
+        fields: draft.fields,
+        headings: draft.headings,
+    };
+    let methods = methods_of(alloc, &tables, list)?;
+    Ok(Program {
+        classes,
+        fields: tables.fields,
+        methods,
+        slots: draft.slots,
+        main: MemberId(main),
+    })
+}
+
+/// The program that the rules make of a tree, or the first refusal that they meet.
+#[tactic(auto, unfolding(crate::specs::Resolved::resolved))]
+fn resolve_tree(alloc: Global, tree: &Tree) -> Result<Program, Refusal>
+    ensures program { Gives {A = Program} {B = Plain} (program_of at_place) result (resolved (tree_of tree.now)) }
+{
+    let list = tree.decls.as_slice();
+    let known = known_of(alloc, list)?;
+    let classes = classes_of(alloc, known.as_slice(), list)?;
+    let above = above_of(alloc, &classes)?;
+    let _count = loops_of(alloc, above.as_slice(), &classes)?;
+    let draft = members_of(alloc, known.as_slice(), list)?;
+    with_bodies(alloc, list, known, classes, above, draft)
+}
+
+/// Whether each class, field, method and slot has a number of 32 bits.
+#[tactic(auto, using(crate::proofs::Final::counted))]
+fn is_counted(program: &Program) -> bool
+    ensures { OnTrue result (AreCounted (program_of no_place program.now)) }
+{
+    let most = 4_294_967_295;
+    program.classes.len() < most
+        && program.fields.len() < most
+        && program.methods.len() < most
+        && program.slots.len() < most
+}
+
+/// The program of a tree that the grammar gives, each name resolved (Java Language Specification,
+/// 6.3 to 6.5). A refusal comes only where its condition holds of the tree, at the place that it
+/// holds; where several hold, any of them may come. `Memory` comes where memory is short, or where
+/// a number of the program is none of 32 bits.
+pub fn resolve(alloc: Global, tree: &Tree) -> Result<Program, Refusal>
+    requires given { IsFormedTree (tree_of tree.now) }
+    ensures resolves { IfOk result (λ p. Resolves (tree_of tree.now) (program_of at_place p)) }
+    ensures formed { IfOk result (λ p. IsFormed (program_of no_place p)) }
+    ensures refused { IfErr result (λ refusal. IsCause (tree_of tree.now) refusal) }
+{
+    match resolve_tree(alloc, tree) {
+        Ok(program) => {
+            if is_counted(&program) {
+                Ok(program)
+            } else {
+                Err(Refusal::Memory)
+            }
+        }
+        Err(refusal) => Err(refusal),
+    }
+}
+
+#[cfg(test)]
+mod tests;

@@ -1,0 +1,452 @@
+//! The names of statements.
+#![tactic(auto)]
+
+ghost use Rattle.std.specs.Prelude.{◌≡◌, ℕ, true, IfOk, Option, List};
+ghost use Rattle.std.specs.declared.vec.Vec.{Vec};
+ghost use Rattle.std.specs.declared.boxed.Box.{Box};
+ghost use Rattle.std.specs.declared.alloc.Global.{Global};
+ghost use Rattle.java_tree.specs.Syntax.{expr_of, value_of, stmt_of, stmts, arms_seen, else_seen, boxed_step, AssignOf, BlockOf, WhileOf};
+ghost use Rattle.java_core.specs.Trees as core;
+ghost use Rattle.java_core.specs.Trees.{at_place, Ex, St, Sts, Arms, no_st, otherwise, choose, loop};
+ghost use Rattle.java_core.specs.declared.RExpr.{RExpr};
+ghost use Rattle.java_core.specs.declared.RStmt.{RStmt};
+ghost use Rattle.java_core.specs.declared.RArm.{RArm};
+ghost use Rattle.java_resolve.specs.declared.tables.Bound.{Bound};
+ghost use Rattle.java_resolve.specs.Answers.{Gives};
+ghost use Rattle.java_resolve.specs.Tables.{table_of};
+ghost use Rattle.java_resolve.specs.Statements.{State, state_of, kept, ending, clash, walk_expr, walk_value, walk_local, walk_arm, walk_st, walk_sts, walk_arms, walk_else, walk_optional};
+
+use crate::exprs::{Here, expr, next};
+use crate::names::{names_type, type_of};
+use crate::tables::{Bound, Tables, local_of};
+use crate::{Form, Refusal, make};
+use java_core::{Local, RArm, RExpr, RStmt};
+use java_tree::{Arm, Expr, Stmt, TypeName};
+use kaba_base::{Name, Place};
+use std::alloc::{AllocError, Global};
+
+/// The locals of a method so far, how many parameters and locals there are, and the next free number
+/// of a creation, a cast or an `instanceof`.
+#[derive(Drop)]
+pub struct Body {
+    pub locals: Vec<Local>,
+    pub count: u32,
+    pub number: u32,
+}
+
+/// The scope once more.
+fn copy_scope(alloc: Global, scope: &Vec<Bound>) -> Result<Vec<Bound>, AllocError>
+    ensures { IfOk result (λ v. v.items ≡ scope.now.items) }
+{
+    let mut copy = Vec::new(alloc);
+    for bound in scope {
+        copy.push(Bound {
+            name: bound.name.copy(alloc)?,
+            number: bound.number,
+        })?;
+    }
+    Ok(copy)
+}
+
+/// Why no parameter and no local can have this name.
+pub fn clash(
+    alloc: Global,
+    tables: &Tables,
+    scope: &[Bound],
+    name: &Name,
+    place: Place,
+) -> Result<Option<Refusal>, AllocError>
+    ensures { IfOk result (λ r. r ≡ clash (table_of tables.now) scope.now name.now place) }
+{
+    if names_type(alloc, tables.known.as_slice(), name)? {
+        return Ok(Some(Refusal::TwoKinds(name.copy(alloc)?, place)));
+    }
+    if local_of(scope, name).is_some() {
+        return Ok(Some(Refusal::Twice(name.copy(alloc)?, place)));
+    }
+    Ok(None)
+}
+
+/// An expression of a statement.
+fn part(
+    alloc: Global,
+    tables: &Tables,
+    here: Here,
+    scope: &Vec<Bound>,
+    body: &mut Body,
+    tree: &Expr,
+) -> Result<RExpr, Refusal>
+    ensures given { Gives {A = RExpr} {B = Ex × State} (λ e. (core.expr_of at_place e, state_of body.new)) result (walk_expr (table_of tables.now) here scope.now.items (state_of body.old) (expr_of tree.now)) }
+{
+    expr(
+        alloc,
+        tables,
+        here,
+        scope.as_slice(),
+        &mut body.number,
+        tree,
+    )
+}
+
+/// An expression that may be left out.
+fn value(
+    alloc: Global,
+    tables: &Tables,
+    here: Here,
+    scope: &Vec<Bound>,
+    body: &mut Body,
+    tree: &Option<Expr>,
+) -> Result<Option<RExpr>, Refusal>
+    ensures given { Gives {A = Option RExpr} {B = Option Ex × State} (λ e. (core.value_of at_place e, state_of body.new)) result (walk_value (table_of tables.now) here scope.now.items (state_of body.old) (value_of tree.now)) }
+{
+    match tree {
+        None => Ok(None),
+        Some(tree) => Ok(Some(part(alloc, tables, here, scope, body, tree)?)),
+    }
+}
+
+/// The declaration of a local of this type.
+fn declaration(
+    alloc: Global,
+    tables: &Tables,
+    here: Here,
+    scope: &mut Vec<Bound>,
+    body: &mut Body,
+    ty: &TypeName,
+    name: &Name,
+    first: &Option<Expr>,
+    place: Place,
+) -> Result<RStmt, Refusal>
+    ensures given { Gives {A = RStmt} {B = St × List Bound × State} (λ s. (core.stmt_of at_place s, scope.new.items, state_of body.new)) result (walk_local (table_of tables.now) here scope.old.items (state_of body.old) ty.now name.now (value_of first.now) place) }
+{
+    let ty = type_of(alloc, tables.known.as_slice(), ty)?;
+    if let Some(refusal) = clash(alloc, tables, scope.as_slice(), name, place)? {
+        return Err(refusal);
+    }
+    let number = next(&mut body.count)?;
+    scope.push(Bound {
+        name: name.copy(alloc)?,
+        number,
+    })?;
+    body.locals.push(Local {
+        name: name.copy(alloc)?,
+        ty,
+        place,
+    })?;
+    let value = value(alloc, tables, here, scope, body, first)?;
+    Ok(RStmt::Local {
+        local: number,
+        value,
+        place,
+    })
+}
+
+/// A statement. `inside` says whether a loop is about it.
+#[cycle(stmts)]
+fn stmt(
+    alloc: Global,
+    tables: &Tables,
+    here: Here,
+    inside: bool,
+    scope: &mut Vec<Bound>,
+    body: &mut Body,
+    tree: &Stmt,
+) -> Result<RStmt, Refusal>
+    ensures given { Gives {A = RStmt} {B = St × List Bound × State} (λ s. (core.stmt_of at_place s, scope.new.items, state_of body.new)) result (walk_st (table_of tables.now) here inside scope.old.items (state_of body.old) (stmt_of tree.now)) }
+{
+    match tree {
+        Stmt::Local {
+            ty,
+            name,
+            value,
+            place,
+            ..
+        } => declaration(alloc, tables, here, scope, body, ty, name, value, *place),
+        Stmt::Block { items, place } => {
+            block(alloc, tables, here, inside, scope, body, items, *place)
+        }
+        Stmt::Assign {
+            target,
+            value,
+            place,
+        } => assign(alloc, tables, here, scope, body, target, value, *place),
+        Stmt::Do { call, place } => {
+            let call = part(alloc, tables, here, scope, body, call)?;
+            Ok(RStmt::Do {
+                call,
+                place: *place,
+            })
+        }
+        Stmt::Print {
+            newline,
+            value: shown,
+            place,
+        } => {
+            let value = value(alloc, tables, here, scope, body, shown)?;
+            Ok(RStmt::Print {
+                newline: *newline,
+                value,
+                place: *place,
+            })
+        }
+        Stmt::If { arms, other, place } => {
+            match all_arms(alloc, tables, here, inside, scope, body, arms) {
+                Ok(done) => {
+                    choice(
+                        alloc, tables, here, inside, scope, body, done, other, *place,
+                    )
+                }
+                Err(refusal) => Err(refusal),
+            }
+        }
+        Stmt::While {
+            test,
+            body: run,
+            place,
+        } => while_loop(alloc, tables, here, scope, body, test, run, *place),
+        Stmt::For {
+            first,
+            test,
+            step,
+            body: run,
+            place,
+        } => {
+            let mut inner = copy_scope(alloc, scope)?;
+            let first = optional(alloc, tables, here, inside, &mut inner, body, first)?;
+            let test = value(alloc, tables, here, &inner, body, test)?;
+            match optional(alloc, tables, here, inside, &mut inner, body, step) {
+                Ok(last) => {
+                    for_body(
+                        alloc, tables, here, &inner, body, first, test, last, run, *place,
+                    )
+                }
+                Err(refusal) => Err(refusal),
+            }
+        }
+        Stmt::Return {
+            value: given,
+            place,
+        } => {
+            let value = value(alloc, tables, here, scope, body, given)?;
+            Ok(RStmt::Return {
+                value,
+                place: *place,
+            })
+        }
+        Stmt::Break { place } => {
+            if !inside {
+                return Err(Refusal::NotInProfile(Form::BreakOutside, *place));
+            }
+            Ok(RStmt::Break { place: *place })
+        }
+        Stmt::Continue { place } => {
+            if !inside {
+                return Err(Refusal::NotInProfile(Form::BreakOutside, *place));
+            }
+            Ok(RStmt::Continue { place: *place })
+        }
+    }
+}
+
+/// An assignment.
+#[tactic(auto, using(crate::proofs::StatementRows::target_shown))]
+fn assign(
+    alloc: Global,
+    tables: &Tables,
+    here: Here,
+    scope: &Vec<Bound>,
+    body: &mut Body,
+    target: &Expr,
+    value: &Expr,
+    place: Place,
+) -> Result<RStmt, Refusal>
+    ensures given { Gives {A = RStmt} {B = St × List Bound × State} (λ s. (core.stmt_of at_place s, scope.now.items, state_of body.new)) result (walk_st (table_of tables.now) here true scope.now.items (state_of body.old) (AssignOf (expr_of target.now) (expr_of value.now) place)) }
+{
+    let target = part(alloc, tables, here, scope, body, target)?;
+    let value = part(alloc, tables, here, scope, body, value)?;
+    Ok(RStmt::Assign {
+        target,
+        value,
+        place,
+    })
+}
+
+/// `{ items }`
+#[cycle(stmts)]
+fn block(
+    alloc: Global,
+    tables: &Tables,
+    here: Here,
+    inside: bool,
+    scope: &Vec<Bound>,
+    body: &mut Body,
+    items: &Vec<Stmt>,
+    place: Place,
+) -> Result<RStmt, Refusal>
+    ensures given { Gives {A = RStmt} {B = St × List Bound × State} (λ s. (core.stmt_of at_place s, scope.now.items, state_of body.new)) result (walk_st (table_of tables.now) here inside scope.now.items (state_of body.old) (BlockOf (stmts items.now.items) place)) }
+{
+    let items = statements(alloc, tables, here, inside, scope, body, items)?;
+    Ok(make::block(items, place))
+}
+
+/// An `if` with these arms.
+#[cycle(stmts)]
+#[tactic(auto, using(crate::proofs::StatementRows::arms_ending))]
+fn choice(
+    alloc: Global,
+    tables: &Tables,
+    here: Here,
+    inside: bool,
+    scope: &Vec<Bound>,
+    body: &mut Body,
+    arms: Vec<RArm>,
+    other: &Option<Vec<Stmt>>,
+    place: Place,
+) -> Result<RStmt, Refusal>
+    ensures given { Gives {A = RStmt} {B = St × List Bound × State} (λ s. (core.stmt_of at_place s, scope.now.items, state_of body.new)) result (kept (walk_else (table_of tables.now) here inside scope.now.items (state_of body.old) (else_seen other.now)) scope.now.items (λ o. choose (at_place place) (ending (core.arms_seen at_place arms.items no_st) o))) }
+{
+    let other = otherwise(alloc, tables, here, inside, scope, body, other)?;
+    Ok(make::choose(arms, other, place))
+}
+
+/// A `while`.
+#[cycle(stmts)]
+fn while_loop(
+    alloc: Global,
+    tables: &Tables,
+    here: Here,
+    scope: &Vec<Bound>,
+    body: &mut Body,
+    test: &Expr,
+    run: &Vec<Stmt>,
+    place: Place,
+) -> Result<RStmt, Refusal>
+    ensures given { Gives {A = RStmt} {B = St × List Bound × State} (λ s. (core.stmt_of at_place s, scope.now.items, state_of body.new)) result (walk_st (table_of tables.now) here true scope.now.items (state_of body.old) (WhileOf (expr_of test.now) (stmts run.now.items) place)) }
+{
+    let test = part(alloc, tables, here, scope, body, test)?;
+    let run = statements(alloc, tables, here, true, scope, body, run)?;
+    Ok(make::while_loop(test, run, place))
+}
+
+/// A `for` with this head; the scope of its first part ends with it.
+#[cycle(stmts)]
+fn for_body(
+    alloc: Global,
+    tables: &Tables,
+    here: Here,
+    inner: &Vec<Bound>,
+    body: &mut Body,
+    first: Option<Box<RStmt>>,
+    test: Option<RExpr>,
+    step: Option<Box<RStmt>>,
+    run: &Vec<Stmt>,
+    place: Place,
+) -> Result<RStmt, Refusal>
+    ensures given { (outer : List Bound) → Gives {A = RStmt} {B = St × List Bound × State} (λ s. (core.stmt_of at_place s, outer, state_of body.new)) result (kept (walk_sts (table_of tables.now) here true no_st inner.now.items (state_of body.old) (stmts run.now.items)) outer (loop (at_place place) (core.step_seen at_place first) (core.value_of at_place test) (core.step_seen at_place step))) }
+{
+    let run = statements(alloc, tables, here, true, inner, body, run)?;
+    Ok(make::for_loop(first, test, step, run, place))
+}
+
+/// The first or the last part of a `for`.
+#[cycle(stmts)]
+fn optional(
+    alloc: Global,
+    tables: &Tables,
+    here: Here,
+    inside: bool,
+    scope: &mut Vec<Bound>,
+    body: &mut Body,
+    tree: &Option<Box<Stmt>>,
+) -> Result<Option<Box<RStmt>>, Refusal>
+    ensures given { Gives {A = Option (Box RStmt Global)} {B = Sts × List Bound × State} (λ s. (core.step_seen at_place s, scope.new.items, state_of body.new)) result (walk_optional (table_of tables.now) here inside scope.old.items (state_of body.old) (boxed_step tree.now)) }
+{
+    match tree {
+        None => Ok(None),
+        Some(tree) => {
+            let stmt = stmt(alloc, tables, here, inside, scope, body, tree)?;
+            Ok(Some(Box::new(alloc, stmt)?))
+        }
+    }
+}
+
+/// An `else`.
+#[cycle(stmts)]
+fn otherwise(
+    alloc: Global,
+    tables: &Tables,
+    here: Here,
+    inside: bool,
+    scope: &Vec<Bound>,
+    body: &mut Body,
+    tree: &Option<Vec<Stmt>>,
+) -> Result<Option<Vec<RStmt>>, Refusal>
+    ensures given { Gives {A = Option (Vec RStmt Global)} {B = Sts × State} (λ o. (core.else_seen at_place o, state_of body.new)) result (walk_else (table_of tables.now) here inside scope.now.items (state_of body.old) (else_seen tree.now)) }
+{
+    match tree {
+        None => Ok(None),
+        Some(list) => Ok(Some(statements(alloc, tables, here, inside, scope, body, list)?)),
+    }
+}
+
+/// An arm of an `if`.
+#[cycle(stmts)]
+fn arm(
+    alloc: Global,
+    tables: &Tables,
+    here: Here,
+    inside: bool,
+    scope: &Vec<Bound>,
+    body: &mut Body,
+    tree: &Arm,
+) -> Result<RArm, Refusal>
+    ensures given { Gives {A = RArm} {B = Ex × Sts × State} (λ a. (core.expr_of at_place a.test, core.stmts at_place a.body.items, state_of body.new)) result (walk_arm (table_of tables.now) here inside scope.now.items (state_of body.old) (expr_of tree.now.test) (stmts tree.now.body.items)) }
+{
+    let test = part(alloc, tables, here, scope, body, &tree.test)?;
+    let run = statements(alloc, tables, here, inside, scope, body, &tree.body)?;
+    Ok(RArm { test, body: run })
+}
+
+/// The arms of an `if`.
+#[cycle(stmts)]
+fn all_arms(
+    alloc: Global,
+    tables: &Tables,
+    here: Here,
+    inside: bool,
+    scope: &Vec<Bound>,
+    body: &mut Body,
+    list: &Vec<Arm>,
+) -> Result<Vec<RArm>, Refusal>
+    ensures given { Gives {A = Vec RArm Global} {B = Arms × State} (λ v. (core.arms_seen at_place v.items no_st, state_of body.new)) result (walk_arms (table_of tables.now) here inside (otherwise no_st) scope.now.items (state_of body.old) (arms_seen list.now.items)) }
+{
+    let mut done = Vec::new(alloc);
+    for one in list {
+        match arm(alloc, tables, here, inside, scope, body, one) {
+            Ok(arm) => done.push(arm)?,
+            Err(refusal) => return Err(refusal),
+        }
+    }
+    Ok(done)
+}
+
+/// Statements one after the other: their locals leave the scope at the end.
+#[cycle(stmts)]
+pub fn statements(
+    alloc: Global,
+    tables: &Tables,
+    here: Here,
+    inside: bool,
+    scope: &Vec<Bound>,
+    body: &mut Body,
+    list: &Vec<Stmt>,
+) -> Result<Vec<RStmt>, Refusal>
+    ensures given { Gives {A = Vec RStmt Global} {B = Sts × State} (λ v. (core.stmts at_place v.items, state_of body.new)) result (walk_sts (table_of tables.now) here inside no_st scope.now.items (state_of body.old) (stmts list.now.items)) }
+{
+    let mut inner = copy_scope(alloc, scope)?;
+    let mut done = Vec::new(alloc);
+    for one in list {
+        done.push(stmt(alloc, tables, here, inside, &mut inner, body, one)?)?;
+    }
+    Ok(done)
+}
