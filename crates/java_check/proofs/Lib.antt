@@ -1,0 +1,10 @@
+pub mod Words
+pub mod Arguments
+pub mod Judged
+pub mod Refuted
+pub mod JudgedStatements
+pub mod RefutedStatements
+pub mod Places
+pub mod Forms
+pub mod JudgedClasses
+pub mod JudgedPrograms

@@ -1,0 +1,8 @@
+pub mod Given
+pub mod Outcome
+pub mod Callees
+pub mod Fails
+pub mod StatementOutcome
+pub mod Size
+pub mod ClassOutcome
+pub mod ProgramOutcome

@@ -1,0 +1,81 @@
+//! The rules of types that a class or an interface keeps as a whole.
+
+ghost use Rattle.std.specs.Prelude.{◌≡◌, Option, false, map};
+ghost use Rattle.std.specs.Option.{option_map, option_map_or};
+ghost use Rattle.java_core.specs.Trees.{no_place};
+ghost use Rattle.java_core.specs.Programs.{program_of, method_seen};
+ghost use Rattle.java_core.specs.Classes as classes;
+ghost use Rattle.java_core.specs.Typing as typing;
+ghost use Rattle.java_core.specs.Formed.{IsFormed};
+ghost use Rattle.java_check.specs.ClassOutcome.{method_rule, class_rule};
+
+use crate::Kind;
+use crate::expressions::{has_body, is_concrete};
+use java_core::{Method, Program, is_subtype, nearest_declaration};
+use kaba_base::{ClassId, MemberId};
+
+/// The rule that a class or an interface breaks for the slot of one of the methods.
+pub(crate) fn broken_rule(p: &Program, class: ClassId, methods: &[Method]) -> Option<Kind>
+    requires { IsFormed (program_of no_place p.now) }
+    ensures { result ≡ class_rule (program_of no_place p.now) class.0 (map (method_seen no_place) methods.now) }
+{
+    for method in methods {
+        if let Some(kind) = rule_for(p, class, method) {
+            return Some(kind);
+        }
+    }
+    None
+}
+
+/// The rule that a class or an interface breaks for the slot of a method that stands at or above it.
+fn rule_for(p: &Program, class: ClassId, method: &Method) -> Option<Kind>
+    requires { IsFormed (program_of no_place p.now) }
+    ensures { result ≡ method_rule (program_of no_place p.now) class.0 (method_seen no_place method.now) }
+{
+    match method.slot {
+        Some(slot) if is_subtype(p, class, method.owner) => {
+            let nearest = nearest_declaration(p, class, slot);
+            if is_concrete(p, class) && !is_bodied(p, nearest) {
+                return Some(Kind::MissingBody);
+            }
+            if !is_interface(p, class) && is_interface(p, method.owner) && !is_shown(p, nearest) {
+                return Some(Kind::NotPublic);
+            }
+            None
+        }
+        _ => None,
+    }
+}
+
+/// Whether it is an interface.
+fn is_interface(p: &Program, class: ClassId) -> bool
+    ensures { result ≡ classes.is_interface (program_of no_place p.now) class.0 }
+{
+    match p.classes.get(class.0 as usize) {
+        Some(class) => class.is_interface,
+        None => false,
+    }
+}
+
+/// Whether there is a declaration, and it has a body.
+fn is_bodied(p: &Program, declaration: Option<MemberId>) -> bool
+    ensures { result ≡ option_map_or (classes.has_body (program_of no_place p.now)) (option_map (λ d. d.0) declaration) false }
+{
+    match declaration {
+        Some(method) => has_body(p, method),
+        None => false,
+    }
+}
+
+/// Whether a declaration, where there is one, is public.
+fn is_shown(p: &Program, declaration: Option<MemberId>) -> bool
+    ensures { result ≡ typing.is_public_method (program_of no_place p.now) (option_map (λ d. d.0) declaration) }
+{
+    match declaration {
+        Some(method) => match p.methods.get(method.0 as usize) {
+            Some(method) => method.is_public,
+            None => true,
+        },
+        None => true,
+    }
+}

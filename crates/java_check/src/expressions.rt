@@ -1,0 +1,354 @@
+//! What an expression gives, or the first rule that fails in it.
+
+ghost use Rattle.std.specs.Prelude.{◌≡◌, ◌&&◌, ◌++◌, map, Some, slice_get};
+ghost use Rattle.std.specs.Option.{option_map, is_some};
+ghost use Rattle.kaba_base.specs.declared.Place.{Place};
+ghost use Rattle.java_core.specs.Trees.{at_place, no_place, expr_of, exprs, base_seen};
+ghost use Rattle.java_core.specs.Programs.{program_of, local_seen};
+ghost use Rattle.java_core.specs.Classes as classes;
+ghost use Rattle.java_core.specs.Formed.{IsFormed};
+ghost use Rattle.java_core.specs.Types as types;
+ghost use Rattle.java_core.specs.Typing as typing;
+ghost use Rattle.java_check.specs.Given.{seen, given_of};
+ghost use Rattle.java_check.specs.Callees.{signature_of};
+ghost use Rattle.java_check.specs.Outcome.{env_in, answer, args_answer, call_answer, super_answer, create_answer, member_answer, and_then, asked};
+
+use crate::callees::{
+    Callee, access_type, called, field_type, method_called, param_at, result_of, type_at,
+};
+use crate::types::{
+    are_related, binary_type, can_cast, class_of, element_of, fits, given_of, is_numeric, plain,
+    takes_one, takes_two, unary_type,
+};
+use crate::{CheckFault, Given, Kind};
+use java_core::{BinOp, Method, Program, RExpr, Ty, TyBase, UnOp, super_method};
+use kaba_base::{ClassId, MemberId, Name, Place};
+
+/// A rule that must hold.
+pub(crate) fn ask(holds: bool, kind: Kind, place: Place) -> Result<(), CheckFault>
+    ensures { result ≡ asked holds kind (at_place place) (tt {0}) }
+{
+    if holds {
+        Ok(())
+    } else {
+        Err(CheckFault::IllTyped(kind, place))
+    }
+}
+
+/// The class that holds the body.
+fn self_class(p: &Program, body: MemberId) -> ClassId
+    ensures { result.0 ≡ (env_in (program_of no_place p.now) body.0).self }
+{
+    match p.methods.get(body.0 as usize) {
+        Some(method) => method.owner,
+        None => ClassId(0),
+    }
+}
+
+/// The type of `this` in the body.
+fn self_type(p: &Program, body: MemberId) -> Ty
+    ensures { result ≡ types.class_type (env_in (program_of no_place p.now) body.0).self }
+{
+    plain(TyBase::Class(self_class(p, body)))
+}
+
+/// The type of a parameter or a local of the body.
+pub(crate) fn local_type(p: &Program, body: MemberId, local: u32) -> Option<Ty>
+    ensures { result ≡ slice_get (env_in (program_of no_place p.now) body.0).locals local }
+{
+    match p.methods.get(body.0 as usize) {
+        Some(method) => variable_type(method, local as usize),
+        None => None,
+    }
+}
+
+/// The type of a parameter or a local of a method.
+fn variable_type(method: &Method, local: usize) -> Option<Ty>
+    ensures { result ≡ slice_get (types.types_of (map (local_seen no_place) method.now.params.items ++ map (local_seen no_place) method.now.locals.items)) local }
+{
+    if local < method.params.len() {
+        type_at(&method.params, local)
+    } else {
+        type_at(&method.locals, local - method.params.len())
+    }
+}
+
+/// Whether objects of the class can be made.
+pub(crate) fn is_concrete(p: &Program, class: ClassId) -> bool
+    ensures { result ≡ classes.is_concrete (program_of no_place p.now) class.0 }
+{
+    match p.classes.get(class.0 as usize) {
+        Some(class) => !class.is_interface && !class.is_abstract,
+        None => false,
+    }
+}
+
+/// Whether a method has a body.
+pub(crate) fn has_body(p: &Program, method: MemberId) -> bool
+    ensures { result ≡ classes.has_body (program_of no_place p.now) method.0 }
+{
+    match p.methods.get(method.0 as usize) {
+        Some(method) => method.body.is_some(),
+        None => false,
+    }
+}
+
+/// What an expression gives, or the first rule that fails in it.
+#[cycle(expressions)]
+pub(crate) fn type_of(p: &Program, body: MemberId, e: &RExpr) -> Result<Given, CheckFault>
+    requires { IsFormed (program_of no_place p.now) }
+    ensures { result ≡ answer (program_of no_place p.now) (env_in (program_of no_place p.now) body.0) (expr_of at_place e.now) }
+{
+    match e {
+        RExpr::Int { .. } => Ok(Given::Value(plain(TyBase::Int))),
+        RExpr::Char { .. } => Ok(Given::Value(plain(TyBase::Char))),
+        RExpr::Str { .. } => Ok(Given::Value(plain(TyBase::Str))),
+        RExpr::Bool { .. } => Ok(Given::Value(plain(TyBase::Boolean))),
+        RExpr::Null { .. } => Ok(Given::Null),
+        RExpr::This { .. } => Ok(Given::Value(self_type(p, body))),
+        RExpr::Local { local, .. } => Ok(given_of(local_type(p, body, *local))),
+        RExpr::Static { field, .. } => Ok(given_of(field_type(p, *field))),
+        RExpr::Own { field, .. } => Ok(given_of(field_type(p, *field))),
+        RExpr::Field { base, name, place } => access(p, type_of(p, body, base)?, name, *place),
+        RExpr::Index { base, at, place } => {
+            element(type_of(p, body, base)?, type_of(p, body, at)?, *place)
+        }
+        RExpr::Call {
+            base,
+            name,
+            args,
+            place,
+        } => match type_of_base(p, body, base) {
+            Ok(given) => type_of_call(p, body, called(p, given, name), args, *place),
+            Err(fault) => Err(fault),
+        },
+        RExpr::StaticCall {
+            method,
+            args,
+            place,
+        } => { type_of_call(p, body, method_called(p, *method), args, *place) }
+        RExpr::SuperCall { name, args, place } => type_of_super(p, body, name, args, *place),
+        RExpr::New {
+            class,
+            args,
+            place,
+            ..
+        } => creation(p, *class, args, *place),
+        RExpr::NewArray {
+            ty,
+            size,
+            place,
+            ..
+        } => array(type_of(p, body, size)?, *ty, *place),
+        RExpr::Cast {
+            ty,
+            value,
+            place,
+            ..
+        } => cast(p, type_of(p, body, value)?, *ty, *place),
+        RExpr::InstanceOf {
+            value,
+            class,
+            place,
+            ..
+        } => { instance(p, type_of(p, body, value)?, *class, *place) }
+        RExpr::Unary { op, value, place } => unary(*op, type_of(p, body, value)?, *place),
+        RExpr::Binary {
+            op,
+            left,
+            right,
+            place,
+        } => {
+            binary(
+                p,
+                *op,
+                type_of(p, body, left)?,
+                type_of(p, body, right)?,
+                *place,
+            )
+        }
+    }
+}
+
+/// What the receiver of a call gives; where none is written, it is `this`.
+#[cycle(expressions)]
+fn type_of_base(p: &Program, body: MemberId, base: &Option<Box<RExpr>>) -> Result<Given, CheckFault>
+    requires { IsFormed (program_of no_place p.now) }
+    ensures { (place : Place) → result ≡ answer (program_of no_place p.now) (env_in (program_of no_place p.now) body.0) (base_seen at_place base.now place) }
+{
+    match base {
+        Some(base) => type_of(p, body, base),
+        None => Ok(Given::Value(self_type(p, body))),
+    }
+}
+
+/// What a call gives, where it calls something.
+#[cycle(expressions)]
+fn type_of_call(
+    p: &Program,
+    body: MemberId,
+    callee: Option<Callee>,
+    args: &Vec<RExpr>,
+    place: Place,
+) -> Result<Given, CheckFault>
+    requires { IsFormed (program_of no_place p.now) }
+    ensures { result ≡ call_answer (option_map (signature_of (program_of no_place p.now)) callee) (args_answer (program_of no_place p.now) (env_in (program_of no_place p.now) body.0) (exprs at_place args.now.items) (at_place place)) (at_place place) }
+{
+    match callee {
+        Some(callee) => {
+            check_args(p, body, callee, args, place)?;
+            Ok(result_of(p, callee))
+        }
+        None => Err(CheckFault::IllTyped(Kind::NoMember, place)),
+    }
+}
+
+/// What a call of the superclass's method gives.
+#[cycle(expressions)]
+fn type_of_super(
+    p: &Program,
+    body: MemberId,
+    name: &Name,
+    args: &Vec<RExpr>,
+    place: Place,
+) -> Result<Given, CheckFault>
+    requires { IsFormed (program_of no_place p.now) }
+    ensures { result ≡ super_answer (program_of no_place p.now) (classes.super_method (program_of no_place p.now) (env_in (program_of no_place p.now) body.0).self name.now) (args_answer (program_of no_place p.now) (env_in (program_of no_place p.now) body.0) (exprs at_place args.now.items) (at_place place)) (at_place place) }
+{
+    match super_method(p, self_class(p, body), name) {
+        Some(method) if has_body(p, method) => {
+            type_of_call(p, body, method_called(p, method), args, place)
+        }
+        _ => Err(CheckFault::IllTyped(Kind::MissingBody, place)),
+    }
+}
+
+/// Whether the arguments are as many as the parameters, and each fits its own.
+#[cycle(expressions)]
+fn check_args(
+    p: &Program,
+    body: MemberId,
+    callee: Callee,
+    args: &[RExpr],
+    place: Place,
+) -> Result<(), CheckFault>
+    requires { IsFormed (program_of no_place p.now) }
+    ensures { result ≡ args_answer (program_of no_place p.now) (env_in (program_of no_place p.now) body.0) (exprs at_place args.now) (at_place place) (signature_of (program_of no_place p.now) callee).params }
+{
+    for (i, arg) in args.iter().enumerate() {
+        let Some(ty) = param_at(p, callee, i) else {
+            return Err(CheckFault::IllTyped(Kind::Arguments, place));
+        };
+        if let Err(fault) = check_arg(p, body, arg, ty, place) {
+            return Err(fault);
+        }
+    }
+    match param_at(p, callee, args.len()) {
+        None => Ok(()),
+        Some(_) => Err(CheckFault::IllTyped(Kind::Arguments, place)),
+    }
+}
+
+/// Whether an argument fits its parameter.
+#[cycle(expressions)]
+fn check_arg(
+    p: &Program,
+    body: MemberId,
+    arg: &RExpr,
+    ty: Ty,
+    place: Place,
+) -> Result<(), CheckFault>
+    requires { IsFormed (program_of no_place p.now) }
+    ensures { result ≡ and_then (answer (program_of no_place p.now) (env_in (program_of no_place p.now) body.0) (expr_of at_place arg.now)) (λ s. asked (types.fits (program_of no_place p.now) (seen s) ty) Kind.Arguments (at_place place) (tt {0})) }
+{
+    ask(fits(p, type_of(p, body, arg)?, ty), Kind::Arguments, place)
+}
+
+/// What a field access gives.
+fn access(p: &Program, given: Given, name: &Name, place: Place) -> Result<Given, CheckFault>
+    requires { IsFormed (program_of no_place p.now) }
+    ensures { result ≡ member_answer (types.access_type (program_of no_place p.now) (seen given) name.now) (at_place place) }
+{
+    match access_type(p, given, name) {
+        Some(ty) => Ok(Given::Value(ty)),
+        None => Err(CheckFault::IllTyped(Kind::NoMember, place)),
+    }
+}
+
+/// What an index gives.
+pub(crate) fn element(base: Given, index: Given, place: Place) -> Result<Given, CheckFault>
+    ensures { result ≡ asked (is_some (types.element_of (seen base)) && types.is_numeric (seen index)) Kind.Operand (at_place place) (given_of (types.element_of (seen base))) }
+{
+    let element = element_of(base);
+    ask(element.is_some() && is_numeric(index), Kind::Operand, place)?;
+    Ok(given_of(element))
+}
+
+/// What a creation gives.
+fn creation(
+    p: &Program,
+    class: ClassId,
+    args: &Vec<RExpr>,
+    place: Place,
+) -> Result<Given, CheckFault>
+    ensures { result ≡ create_answer (classes.is_concrete (program_of no_place p.now) class.0) (exprs at_place args.now.items) class.0 (at_place place) }
+{
+    ask(is_concrete(p, class), Kind::AbstractNew, place)?;
+    match args.as_slice() {
+        [] => Ok(Given::Value(plain(TyBase::Class(class)))),
+        [_, ..] => Err(CheckFault::IllTyped(Kind::Arguments, place)),
+    }
+}
+
+/// What the creation of an array gives.
+fn array(size: Given, ty: Ty, place: Place) -> Result<Given, CheckFault>
+    ensures { result ≡ asked (types.is_numeric (seen size)) Kind.Operand (at_place place) (Given.Value ty) }
+{
+    ask(is_numeric(size), Kind::Operand, place)?;
+    Ok(Given::Value(ty))
+}
+
+/// What a cast gives.
+fn cast(p: &Program, given: Given, ty: Ty, place: Place) -> Result<Given, CheckFault>
+    requires { IsFormed (program_of no_place p.now) }
+    ensures { result ≡ asked (typing.can_cast (program_of no_place p.now) (seen given) ty) Kind.Cast (at_place place) (Given.Value ty) }
+{
+    ask(can_cast(p, given, ty), Kind::Cast, place)?;
+    Ok(Given::Value(ty))
+}
+
+/// What an `instanceof` gives.
+fn instance(p: &Program, given: Given, class: ClassId, place: Place) -> Result<Given, CheckFault>
+    requires { IsFormed (program_of no_place p.now) }
+    ensures { result ≡ asked (typing.are_related (program_of no_place p.now) (types.class_of (seen given)) (Some class.0)) Kind.Cast (at_place place) (Given.Value (types.plain_type TyBase.Boolean)) }
+{
+    ask(
+        are_related(p, class_of(given), Some(class)),
+        Kind::Cast,
+        place,
+    )?;
+    Ok(Given::Value(plain(TyBase::Boolean)))
+}
+
+/// What a prefix operator gives.
+fn unary(op: UnOp, given: Given, place: Place) -> Result<Given, CheckFault>
+    ensures { result ≡ asked (typing.takes_one op (seen given)) Kind.Operand (at_place place) (Given.Value (types.unary_type op)) }
+{
+    ask(takes_one(op, given), Kind::Operand, place)?;
+    Ok(Given::Value(unary_type(op)))
+}
+
+/// What a binary operator gives.
+fn binary(
+    p: &Program,
+    op: BinOp,
+    left: Given,
+    right: Given,
+    place: Place,
+) -> Result<Given, CheckFault>
+    requires { IsFormed (program_of no_place p.now) }
+    ensures { result ≡ asked (typing.takes_two (program_of no_place p.now) op (seen left) (seen right)) Kind.Operand (at_place place) (Given.Value (types.binary_type op (seen left) (seen right))) }
+{
+    ask(takes_two(p, op, left, right), Kind::Operand, place)?;
+    Ok(Given::Value(binary_type(op, left, right)))
+}

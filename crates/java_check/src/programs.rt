@@ -1,0 +1,93 @@
+//! The rules of types of a whole program.
+
+ghost use Rattle.std.specs.Prelude.{◌≡◌, ◌<◌, length, map, IfOk, IfErr};
+ghost use Rattle.java_core.specs.Trees.{at_place, no_place, body_seen};
+ghost use Rattle.java_core.specs.Programs.{program_of, class_seen, method_seen};
+ghost use Rattle.java_core.specs.Formed.{IsFormed};
+ghost use Rattle.java_core.specs.Typing.{IsTyped};
+ghost use Rattle.java_check.specs.Fails.{IsRefused};
+ghost use Rattle.java_check.specs.Outcome.{env_in, and_then};
+ghost use Rattle.java_check.specs.ProgramOutcome.{classes_answer, body_answer, methods_answer};
+
+use crate::CheckFault;
+use crate::classes::broken_rule;
+use crate::statements::check_stmts;
+use java_core::{Checked, Class, Method, Program};
+use kaba_base::{ClassId, MemberId};
+use std::alloc::Global;
+
+/// The program as one that is known to be typed; or a rule of types that fails in it, and where: exactly
+/// where the rules of types refuse the program (Java Language Specification, chapters 8, 14 and 15,
+/// the subset's part). Want of memory never comes.
+pub fn check(_alloc: Global, program: Program) -> Result<Checked, CheckFault>
+    requires { IsFormed (program_of no_place program) }
+    ensures given { IfOk result (λ checked. checked ≡ program) }
+    ensures typed { IfOk result (λ _. IsTyped (program_of no_place program)) }
+    ensures refused { IfErr result (λ fault. IsRefused program fault) }
+    ensures untyped { IfErr result (λ _. IsTyped (program_of no_place program) → ⊥) }
+{
+    match check_program(&program) {
+        Ok(()) => Ok(Checked::new(program)),
+        Err(fault) => Err(fault),
+    }
+}
+
+/// The first rule that fails in a program.
+fn check_program(p: &Program) -> Result<(), CheckFault>
+    requires { IsFormed (program_of no_place p.now) }
+    ensures typed { IfOk result (λ _. IsTyped (program_of no_place p.now)) }
+    ensures refused { IfErr result (λ fault. IsRefused p.now fault) }
+    ensures untyped { IfErr result (λ _. IsTyped (program_of no_place p.now) → ⊥) }
+{
+    first_fault(p)
+}
+
+/// The first rule that fails: in the classes, then in the bodies.
+fn first_fault(p: &Program) -> Result<(), CheckFault>
+    requires { IsFormed (program_of no_place p.now) }
+    ensures { result ≡ and_then (classes_answer (program_of no_place p.now) 0 (program_of at_place p.now).classes) (λ _. methods_answer (program_of no_place p.now) 0 (program_of at_place p.now).methods) }
+{
+    match check_classes(p, &p.classes) {
+        Ok(()) => check_methods(p, &p.methods),
+        Err(fault) => Err(fault),
+    }
+}
+
+/// The first rule that one of the classes breaks.
+fn check_classes(p: &Program, classes: &[Class]) -> Result<(), CheckFault>
+    requires formed { IsFormed (program_of no_place p.now) }
+    requires few { length classes.now < 4294967295 }
+    ensures { result ≡ classes_answer (program_of no_place p.now) 0 (map (class_seen at_place) classes.now) }
+{
+    for (i, class) in classes.iter().enumerate() {
+        if let Some(kind) = broken_rule(p, ClassId(i as u32), &p.methods) {
+            return Err(CheckFault::IllTyped(kind, class.place));
+        }
+    }
+    Ok(())
+}
+
+/// The first rule that fails in the bodies of the methods.
+fn check_methods(p: &Program, methods: &[Method]) -> Result<(), CheckFault>
+    requires formed { IsFormed (program_of no_place p.now) }
+    requires few { length methods.now < 4294967295 }
+    ensures { result ≡ methods_answer (program_of no_place p.now) 0 (map (method_seen at_place) methods.now) }
+{
+    for (i, method) in methods.iter().enumerate() {
+        if let Err(fault) = check_body(p, MemberId(i as u32), method) {
+            return Err(fault);
+        }
+    }
+    Ok(())
+}
+
+/// The first rule that fails in the body of a method.
+fn check_body(p: &Program, number: MemberId, method: &Method) -> Result<(), CheckFault>
+    requires { IsFormed (program_of no_place p.now) }
+    ensures { result ≡ body_answer (program_of no_place p.now) (env_in (program_of no_place p.now) number.0) (body_seen at_place method.now.body) }
+{
+    match &method.body {
+        Some(body) => check_stmts(p, number, body),
+        None => Ok(()),
+    }
+}
