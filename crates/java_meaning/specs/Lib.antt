@@ -1,0 +1,6 @@
+pub mod Moment
+pub mod Values
+pub mod Meaning
+pub mod Languages
+pub mod TypedLang
+pub mod Watched
