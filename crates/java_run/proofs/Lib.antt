@@ -1,0 +1,13 @@
+pub mod Moved
+pub mod Pushes
+pub mod Works
+pub mod Forms
+pub mod Loops
+pub mod Steps
+pub mod Words
+pub mod Strings
+pub mod Values
+pub mod Jumps
+pub mod Locals
+pub mod Tables
+pub mod Bodies

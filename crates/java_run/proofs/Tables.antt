@@ -1,0 +1,34 @@
+-- The types of locals, and the fields of objects in their places.
+use Rattle.std.proofs.Common.{◌≡◌, ℕ, zero, suc, ◌+◌, ◌-◌, ◌<◌, ◌≤◌, List, [], ◌∷◌, ◌++◌, map, length, Option, Some, None, refl, sym, ap, ◌∙◌, subst, arith}
+use Rattle.std.specs.Prelude.{slice_get}
+use Rattle.std.specs.Option.{option_map, option_map_or}
+use Rattle.std.proofs.lemmas.Option.{slice_get-map}
+use Rattle.kaba_base.specs.declared.ClassId.{ClassId}
+use Rattle.java_core.specs.declared.Ty.{Ty}
+use Rattle.java_core.specs.declared.Local.{Local}
+use Rattle.java_core.specs.Trees.{no_place}
+use Rattle.java_core.specs.Programs.{Plain, local_seen}
+use Rattle.java_core.specs.Classes.{parent_of}
+use Rattle.java_core.specs.Types.{types_of}
+use Rattle.java_meaning.specs.Languages.{layout_in, own_fields}
+
+seen_types : (ls : List Local) (i : ℕ) → slice_get (types_of (map (local_seen no_place) ls)) i ≡ option_map (λ l. l.ty) (slice_get ls i)
+seen_types [] i = refl
+seen_types (l ∷ ls) zero = refl
+seen_types (l ∷ ls) (suc i) = seen_types ls i
+
+pub types_low : (ps ls : List Local) (i : ℕ) (x : Local) → slice_get ps i ≡ Some x → Some x.ty ≡ slice_get (types_of (map (local_seen no_place) ps ++ map (local_seen no_place) ls)) i
+types_low [] ls i x h = absurd (cc)
+types_low (p ∷ ps) ls zero x h = let e : p ≡ x = cc in ap (λ y. Some y.ty) (sym e)
+types_low (p ∷ ps) ls (suc i) x h = types_low ps ls i x h
+
+pub types_high : (ps ls : List Local) (i j : ℕ) → length ps + j ≡ i → option_map (λ l. l.ty) (slice_get ls j) ≡ slice_get (types_of (map (local_seen no_place) ps ++ map (local_seen no_place) ls)) i
+types_high [] ls i j h = let e : j ≡ i = omega arith in sym (seen_types ls j) ∙ ap (λ k. slice_get (types_of (map (local_seen no_place) ls)) k) e
+types_high (p ∷ ps) ls zero j h = absurd (omega arith)
+types_high (p ∷ ps) ls (suc i) j h = types_high ps ls i j (omega arith)
+
+layout_up : (P : Plain) (n c : ℕ) (p : ClassId) → parent_of P c ≡ Some p → layout_in P n p.0 ++ own_fields P c ≡ layout_in P (suc n) c
+layout_up P n c p h = ap (λ o. option_map_or (λ p. layout_in P n p.0) o [] ++ own_fields P c) (sym h)
+
+pub layout_step : (P : Plain) (left k c : ℕ) (p : ClassId) (v : List ℕ) → parent_of P c ≡ Some p → left ≡ suc k → v ≡ layout_in P k p.0 → v ++ own_fields P c ≡ layout_in P left c
+layout_step P left k c p v h z e = ap (λ l. l ++ own_fields P c) e ∙ layout_up P k c p h ∙ ap (λ i. layout_in P i c) (sym z)
