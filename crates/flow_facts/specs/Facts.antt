@@ -1,0 +1,301 @@
+-- The facts of a program: each list has exactly the items that the text gives, in their order or as a set.
+use Rattle.std.specs.Prelude.{◌≡◌, ◌↔◌, ℕ, zero, suc, ◌+◌, ◌==◌, ◌&&◌, ◌||◌, if◌then◌else◌, nat_lt, Bool, List, [], ◌∷◌, ◌++◌, length, map, drop, Contains, Option, Some, None, slice_get, option_and_then, codes}
+use Rattle.std.specs.Option.{option_map, option_map_or}
+use Rattle.std.specs.List.{flat_map, list_any}
+use Rattle.std.specs.Str.{bytes_eq, chars, encode_utf8_all}
+use Rattle.std.specs.Fmt.{decimal}
+use Rattle.kaba_base.specs.declared.Place.{Place}
+use Rattle.kaba_base.specs.declared.ClassId.{ClassId}
+use Rattle.kaba_base.specs.declared.ColId.{ColId}
+use Rattle.kaba_base.specs.declared.SiteId.{SiteId}
+use Rattle.java_core.specs.Programs.{Plain, PlainClass, PlainMethod}
+use Rattle.java_core.specs.Classes.{below}
+use Rattle.fact_model.specs.declared.facts.Facts.{Facts}
+use Rattle.fact_model.specs.declared.facts.RowInfo.{RowInfo}
+use Rattle.fact_model.specs.declared.facts.ColumnInfo.{ColumnInfo}
+use Rattle.fact_model.specs.declared.facts.ColKind.{ColKind}
+use Rattle.fact_model.specs.declared.facts.ColKind.TheVariants as kind
+use Rattle.fact_model.specs.declared.facts.SiteInfo.{SiteInfo}
+use Rattle.fact_model.specs.declared.facts.ClassInfo.{ClassInfo}
+use Rattle.fact_model.specs.declared.facts.CellInfo.{CellInfo}
+use Rattle.fact_model.specs.declared.facts.BodyInfo.{BodyInfo}
+use Rattle.fact_model.specs.declared.facts.CallInfo.{CallInfo}
+use Rattle.flow_facts.specs.declared.top.Counted.{Counted}
+use Rattle.flow_facts.specs.declared.top.Counted.TheVariants as counted
+use Rattle.flow_facts.specs.declared.top.FactsFault.{FactsFault}
+use Rattle.flow_facts.specs.declared.top.FactsFault.TheVariants as fault
+use Rattle.flow_facts.specs.declared.items.RowItem.{RowItem}
+use Rattle.flow_facts.specs.declared.items.RowItem.TheVariants as row
+use Rattle.flow_facts.specs.declared.items.ColumnItem.{ColumnItem}
+use Rattle.flow_facts.specs.declared.items.ColumnItem.TheVariants as column
+use Rattle.flow_facts.specs.declared.items.PointItem.TheVariants as point
+use Rattle.flow_facts.specs.declared.items.Row.{Row}
+use Rattle.flow_facts.specs.declared.items.Column.{Column}
+use Rattle.flow_facts.specs.declared.items.Site.{Site}
+use Rattle.flow_facts.specs.Ordered.{by_place, once, each, when}
+use Rattle.flow_facts.specs.Parts.{Part}
+use Rattle.flow_facts.specs.Numbered.{Body, bodies_of, rows_of, columns_of, sites_of, points_of, row_number, column_number, site_number, point_number}
+use Rattle.flow_facts.specs.Lists.{Numbers, PlainCall, news_of, flows_of, loads_of, stores_of, calls_of, casts_of, tests_of, accesses_of, supers_of, ties_of}
+
+-- what there is too much of, and the number one past the limit
+pub record TooMany : Type 0 where
+  pub what : Counted
+  pub number : ℕ
+
+-- how rows and columns are printed, as bytes of UTF-8
+abbrev pub class_text : Plain → ℕ → List ℕ
+class_text Q c = option_map_or (λ k. encode_utf8_all k.name) (slice_get Q.classes c) []
+
+abbrev pub member_text : Plain → ℕ → List ℕ → List ℕ
+member_text Q c x = class_text Q c ++ codes "." ++ encode_utf8_all x
+
+abbrev pub field_text : Plain → ℕ → List ℕ
+field_text Q f = option_map_or (λ k. member_text Q k.owner k.name) (slice_get Q.fields f) []
+
+abbrev pub method_text : Plain → ℕ → List ℕ
+method_text Q m = option_map_or (λ k. member_text Q k.owner k.name) (slice_get Q.methods m) []
+
+abbrev pub variable_name : Plain → ℕ → ℕ → List ℕ
+variable_name Q m i = option_map_or (λ k. option_map_or (λ v. v.name) (slice_get (k.params ++ k.locals) i) []) (slice_get Q.methods m) []
+
+abbrev pub variable_text : Plain → ℕ → ℕ → List ℕ
+variable_text Q m i = method_text Q m ++ codes "." ++ encode_utf8_all (variable_name Q m i)
+
+-- the first method of a slot
+abbrev pub first_of : Plain → ℕ → ℕ
+first_of Q s = option_map_or (λ z. z.first) (slice_get Q.slots s) 0
+
+abbrev pub brackets : ℕ → List ℕ
+brackets zero = []
+brackets (suc d) = codes "[]" ++ brackets d
+
+abbrev pub at_line : Place → List ℕ
+at_line p = codes "@" ++ decimal p.line
+
+abbrev pub row_text : Plain → RowItem → List ℕ → ℕ → Place → List ℕ
+row_text Q (row.Field f) t d p = field_text Q f
+row_text Q (row.This m) t d p = method_text Q m ++ codes ".this"
+row_text Q (row.Return s) t d p = method_text Q (first_of Q s) ++ codes ".return"
+row_text Q (row.Param s i) t d p = variable_text Q (first_of Q s) i
+row_text Q (row.Result m) t d p = method_text Q m ++ codes ".return"
+row_text Q (row.Local m i) t d p = variable_text Q m i
+row_text Q (row.New n) t d p = codes "new " ++ t ++ brackets d ++ at_line p
+row_text Q (row.Cast n) t d p = codes "cast " ++ t ++ at_line p
+row_text Q (row.Test n) t d p = codes "instanceof " ++ t ++ at_line p
+
+abbrev pub row_label : Plain → Row → List ℕ
+row_label Q r = chars (row_text Q r.item (class_text Q r.ty.class.0) r.ty.dim r.place)
+
+abbrev pub column_text : Plain → ColumnItem → List ℕ
+column_text Q (column.Fld f) = codes "fld(" ++ field_text Q f ++ codes ")"
+column_text Q (column.Dcl m) = codes "dcl(" ++ method_text Q m ++ codes ")"
+column_text Q (column.Def m) = codes "def(" ++ method_text Q m ++ codes ")"
+column_text Q (column.Is c) = codes "is(" ++ class_text Q c.0 ++ codes ")"
+
+-- the class, the slot and the name of what a column stands for
+abbrev pub kind_of : ColumnItem → ColKind
+kind_of (column.Fld f) = kind.Fld
+kind_of (column.Dcl m) = kind.Dcl
+kind_of (column.Def m) = kind.Def
+kind_of (column.Is c) = kind.Is
+
+abbrev pub owner_of : Plain → ColumnItem → ℕ
+owner_of Q (column.Fld f) = option_map_or (λ k. k.owner) (slice_get Q.fields f) 0
+owner_of Q (column.Dcl m) = option_map_or (λ k. k.owner) (slice_get Q.methods m) 0
+owner_of Q (column.Def m) = option_map_or (λ k. k.owner) (slice_get Q.methods m) 0
+owner_of Q (column.Is c) = c.0
+
+abbrev pub slot_in : Plain → ColumnItem → Option ℕ
+slot_in Q (column.Fld f) = None
+slot_in Q (column.Dcl m) = option_and_then (λ k. k.slot) (slice_get Q.methods m)
+slot_in Q (column.Def m) = option_and_then (λ k. k.slot) (slice_get Q.methods m)
+slot_in Q (column.Is c) = None
+
+abbrev pub name_in : Plain → ColumnItem → List ℕ
+name_in Q (column.Fld f) = option_map_or (λ k. k.name) (slice_get Q.fields f) []
+name_in Q (column.Dcl m) = option_map_or (λ k. k.name) (slice_get Q.methods m) []
+name_in Q (column.Def m) = option_map_or (λ k. k.name) (slice_get Q.methods m) []
+name_in Q (column.Is c) = option_map_or (λ k. k.name) (slice_get Q.classes c.0) []
+
+abbrev pub column_info : Plain → ColumnItem → ColumnInfo
+column_info Q i = record { kind = kind_of i; class = record { 0 = owner_of Q i }; slot = slot_in Q i; name = name_in Q i; label = chars (column_text Q i) }
+
+-- a body by its column, and a call, as plain data
+pub record PlainBody : Type 0 where
+  pub column : ℕ
+  pub this : ℕ
+  pub params : List (Option ℕ)
+  pub result : Option ℕ
+
+abbrev pub body_seen : BodyInfo → PlainBody
+body_seen b = record { column = b.column.0; this = b.this; params = b.params.items; result = b.result }
+
+abbrev pub call_seen : CallInfo → PlainCall
+call_seen c = record { receiver = c.receiver; slot = c.slot; args = c.args.items; result = c.result }
+
+-- a field that has a row: its column, its row and its class
+pub record FieldCell : Type 0 where
+  pub column : ℕ
+  pub row : ℕ
+  pub owner : ℕ
+
+-- a class or interface, and whether it has static members
+pub record ClassFacts : Type 0 where
+  pub name : List ℕ
+  pub parent : Option ClassId
+  pub faces : List ClassId
+  pub is_interface : Bool
+  pub holder : Bool
+
+abbrev pub class_seen : ClassInfo → ClassFacts
+class_seen k = record { name = k.name; parent = k.parent; faces = k.faces.items; is_interface = k.is_interface; holder = k.holder }
+
+abbrev pub is_holder : Plain → ℕ → Bool
+is_holder Q c = list_any (λ f. f.is_static && (f.owner == c)) Q.fields || list_any (λ m. m.is_static && (m.owner == c)) Q.methods
+
+abbrev pub class_facts : Plain → ℕ → PlainClass → List ClassFacts
+class_facts Q c k = record { name = k.name; parent = k.parent; faces = k.faces; is_interface = k.is_interface; holder = is_holder Q c } ∷ []
+
+-- the names of a method, its parameters and its locals
+abbrev pub variable_names : PlainMethod → List (List ℕ)
+variable_names k = map (λ v. v.name) k.params ++ map (λ v. v.name) k.locals
+
+-- two lists have the same items
+abbrev pub IsSameSet : {A : Type 0} → List A → List A → Type 0
+IsSameSet {A} xs ys = (x : A) → Contains xs x ↔ Contains ys x
+
+module _ (N : Numbers) where
+  -- the site of a creation's row, and the body of a `this`
+  abbrev pub site_of_row : RowItem → Option SiteId
+  site_of_row (row.New n) = option_map (λ s. record { 0 = s }) (N.site n)
+  site_of_row _ = None
+
+  abbrev pub this_of_row : RowItem → Option ColId
+  this_of_row (row.This m) = option_map (λ c. record { 0 = c }) (N.column (column.Def m))
+  this_of_row _ = None
+
+module _ (N : Numbers) (Q : Plain) where
+  abbrev pub row_info : Row → RowInfo
+  row_info r = record { label = row_label Q r; class = r.ty.class; dim = r.ty.dim; site = site_of_row N r.item; this_of = this_of_row N r.item }
+
+  -- a field that has a row: its column, its row and its class
+  abbrev pub field_if : ℕ → ℕ → Option ℕ → List FieldCell
+  field_if c o None = []
+  field_if c o (Some r) = record { column = c; row = r; owner = o } ∷ []
+
+  abbrev pub field_at : ℕ → ColumnItem → List FieldCell
+  field_at c (column.Fld f) = field_if c (owner_of Q (column.Fld f)) (N.row (row.Field f))
+  field_at c (column.Dcl m) = []
+  field_at c (column.Def m) = []
+  field_at c (column.Is b) = []
+
+  abbrev pub fields_of : List Column → List FieldCell
+  fields_of cs = each (λ c k. field_at c k.item) 0 cs
+
+  abbrev pub param_points : ℕ → PlainMethod → List (Option ℕ)
+  param_points m k = each (λ i v. N.point (point.Local m i) ∷ []) 0 k.params
+
+  abbrev pub body_if : ℕ → ℕ → PlainMethod → Option ℕ → List PlainBody
+  body_if c m k None = []
+  body_if c m k (Some t) = record { column = c; this = t; params = param_points m k; result = N.point (point.Result m) } ∷ []
+
+  abbrev pub column_body : ℕ → ColumnItem → List PlainBody
+  column_body c (column.Def m) = option_map_or (λ k. body_if c m k (N.point (point.This m))) (slice_get Q.methods m) []
+  column_body c (column.Fld f) = []
+  column_body c (column.Dcl m) = []
+  column_body c (column.Is a) = []
+
+abbrev pub site_info : Site → SiteInfo
+site_info s = record { row = record { 0 = s.row }; class = s.ty.class; dim = s.ty.dim }
+
+-- the cell of the object site i of class a for a field of a class at or above a
+abbrev pub field_cell : Plain → ℕ → ℕ → FieldCell → List CellInfo
+field_cell P i a k = when (below P a k.owner) (record { site = record { 0 = i }; column = Some (record { 0 = k.column }); row = record { 0 = k.row } } ∷ [])
+
+abbrev pub array_cell : ℕ → ℕ → List CellInfo
+array_cell i r = record { site = record { 0 = i }; column = None; row = record { 0 = r } } ∷ []
+
+-- the cells of a site: one for each field of an object, in the order of the columns, and one for an array
+abbrev pub site_cells : Plain → List FieldCell → ℕ → Site → List CellInfo
+site_cells P fs i s = if s.ty.dim == 0 then flat_map (field_cell P i s.ty.class.0) fs else array_cell i s.row
+
+-- the names of the text: of the types but Object, of the fields, and of each method with its parameters and locals
+abbrev pub all_names : Plain → List (List ℕ)
+all_names Q = map (λ k. k.name) (drop 1 Q.classes) ++ map (λ f. f.name) Q.fields ++ flat_map (λ k. k.name ∷ variable_names k) Q.methods
+
+-- the names of the fields, parameters and locals
+abbrev pub all_variables : Plain → List (List ℕ)
+all_variables Q = map (λ f. f.name) Q.fields ++ flat_map variable_names Q.methods
+
+module _ (P Q : Plain) where
+  unfoldable pub numbers : Numbers
+  numbers = record { row = row_number P Q; column = column_number P Q; site = site_number P Q; point = point_number P Q }
+
+  -- the cells by site, and then by column
+  unfoldable pub cells_of : List CellInfo
+  cells_of = each (site_cells P (fields_of numbers Q (columns_of P Q))) 0 (sites_of P Q)
+
+  -- what the parts of all bodies give
+  abbrev pub gathered : {A : Type 0} → (Body → Part → List A) → List A
+  gathered f = flat_map (λ b. flat_map (f b) b.parts) (bodies_of P Q)
+
+  -- the facts of a program
+  pub record IsFactsOf (F : Facts) : Type 0 where
+    pub rows : F.rows.items ≡ map (row_info numbers Q) (rows_of P Q)
+    pub columns : F.columns.items ≡ map (λ c. column_info Q c.item) (columns_of P Q)
+    pub sites : F.sites.items ≡ map site_info (sites_of P Q)
+    pub classes : map class_seen F.classes.items ≡ each (class_facts Q) 0 Q.classes
+    pub points : F.points.items ≡ map (λ p. record { 0 = p.row }) (points_of P Q)
+    pub cells : F.cells.items ≡ cells_of
+    pub news : IsSameSet F.news.items (gathered (λ b. news_of numbers b.number))
+    pub flows : IsSameSet F.flows.items (gathered (λ b. flows_of numbers b.number))
+    pub loads : IsSameSet F.loads.items (gathered (λ b. loads_of numbers))
+    pub stores : IsSameSet F.stores.items (gathered (λ b. stores_of numbers))
+    pub bodies : map body_seen F.bodies.items ≡ each (λ c k. column_body numbers Q c k.item) 0 (columns_of P Q)
+    pub calls : map call_seen F.calls.items ≡ map (λ c. c.item) (by_place (λ c. c.place.at) (gathered (λ b. calls_of numbers)))
+    pub casts : IsSameSet F.casts.items (gathered (λ b. casts_of numbers))
+    pub accesses : IsSameSet F.accesses.items (gathered (λ b. accesses_of numbers))
+    pub supers : IsSameSet F.supers.items (gathered (λ b. supers_of numbers b.number))
+    pub ties : IsSameSet F.ties.items (gathered (λ b. ties_of numbers P b.number b.slot))
+    pub tests : F.tests.items ≡ by_place (λ t. t.place.at) (gathered (λ b. tests_of numbers))
+    -- no creation has a constructor
+    pub makers : F.makers ≡ None
+    pub makes : F.makes.items ≡ []
+
+-- the names in the facts: each of the text once, in the order of the program, and those of the variables
+pub record AreNamesOf (Q : Plain) (F : Facts) : Type 0 where
+  pub words : F.words.items ≡ once bytes_eq encode_utf8_all (all_names Q)
+  pub vars : IsSameSet F.vars.items (all_variables Q)
+
+-- how many of each kind there may be
+abbrev pub over : ℕ → ℕ → Counted → Option TooMany → Option TooMany
+over limit n what rest = if nat_lt limit n then Some (record { what = what; number = limit + 1 }) else rest
+
+-- what there is too much of, the rows first, then the columns, the sites, and the flow points with the cells
+abbrev pub too_many : Plain → Plain → Option TooMany
+too_many P Q =
+    over 16384 (length (rows_of P Q)) counted.Rows
+    (over 8192 (length (columns_of P Q)) counted.Columns
+    (over 8192 (length (sites_of P Q)) counted.Sites (over 65536 (length (points_of P Q) + length (cells_of P Q)) counted.Points None)))
+
+-- the name of the first interface
+abbrev pub first_interface : List PlainClass → Option (List ℕ)
+first_interface [] = None
+first_interface (k ∷ ks) = if k.is_interface then Some k.name else first_interface ks
+
+-- what a fault says of what there is too much of
+abbrev pub IsOver : Plain → Plain → FactsFault → Type 0
+IsOver P Q (fault.HasInterface x) = ⊥
+IsOver P Q (fault.TooMany what n) = too_many P Q ≡ Some (record { what = what; number = n })
+IsOver P Q fault.Memory = Unit {0}
+
+-- what a fault says of the program
+abbrev pub IsRefused : Plain → Plain → FactsFault → Type 0
+IsRefused P Q (fault.HasInterface x) = first_interface Q.classes ≡ Some x
+IsRefused P Q (fault.TooMany what n) = (first_interface Q.classes ≡ None) × (too_many P Q ≡ Some (record { what = what; number = n }))
+IsRefused P Q fault.Memory = Unit {0}
+
+-- a program of which the facts can be given
+pub record IsWithin (P Q : Plain) : Type 0 where
+  pub interfaces : first_interface Q.classes ≡ None
+  pub counts : too_many P Q ≡ None

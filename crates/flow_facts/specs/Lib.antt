@@ -1,0 +1,10 @@
+pub mod Labels
+pub mod Operands
+pub mod Parts
+pub mod Types
+pub mod Ordered
+pub mod Numbered
+pub mod Lists
+pub mod Facts
+pub mod Views
+pub mod Seen

@@ -1,0 +1,24 @@
+-- What the numbers, the calls and the fields of the code are, as plain data.
+use Rattle.std.specs.Prelude.{nat_eq, List, map}
+use Rattle.flow_facts.specs.declared.numbering.Numbering.{Numbering}
+use Rattle.flow_facts.specs.declared.lists.PlacedCall.{PlacedCall}
+use Rattle.flow_facts.specs.declared.cells.FieldCell.{FieldCell}
+use Rattle.flow_facts.specs.Numbered.{number_among, same_row, same_column, same_point}
+use Rattle.flow_facts.specs.Lists.{Numbers, Placed, PlainCall}
+use Rattle.flow_facts.specs.Facts as plain
+
+-- the numbers that a numbering gives
+abbrev pub numbers_seen : Numbering → Numbers
+numbers_seen n =
+    record { row = number_among same_row n.rows.keys; column = number_among same_column n.columns.keys; site = number_among nat_eq n.sites.keys; point = number_among same_point n.points.keys }
+
+-- calls at their places
+abbrev pub call_at : PlacedCall → Placed PlainCall
+call_at c = record { place = c.place; item = plain.call_seen c.call }
+
+abbrev pub calls_seen : List PlacedCall → List (Placed PlainCall)
+calls_seen cs = map call_at cs
+
+-- a field that has a row
+abbrev pub field_cell_seen : FieldCell → plain.FieldCell
+field_cell_seen f = record { column = f.column; row = f.row; owner = f.owner.0 }
