@@ -1,0 +1,81 @@
+-- The accesses of a program's facts: each names a field or a declaration.
+use Rattle.std.proofs.Common.{◌≡◌, ℕ, List, Option, Some, None, refl, sym, ap, subst, arith, inl, inr}
+use Rattle.std.specs.Prelude.{◌⊎◌, Contains, All, slice_get}
+use Rattle.kaba_base.specs.declared.Place.{Place}
+use Rattle.java_core.specs.Programs.{Plain, PlainMethod}
+use Rattle.fact_model.specs.Items.{column_kind}
+use Rattle.fact_model.specs.declared.facts.Facts.{Facts}
+use Rattle.fact_model.specs.declared.facts.AccessInfo.{AccessInfo}
+use Rattle.fact_model.specs.declared.facts.ColKind.TheVariants.{Fld, Dcl}
+use Rattle.flow_facts.specs.declared.items.Operand.{Operand}
+use Rattle.flow_facts.specs.declared.items.ColumnItem.{ColumnItem}
+use Rattle.flow_facts.specs.declared.items.ColumnItem.TheVariants as column
+use Rattle.flow_facts.specs.Parts.{Part, a_load, an_element, a_creation, a_call, a_static_call, a_super_call, a_test, a_pair, a_set, a_store, an_element_store, a_return, parts_of}
+use Rattle.flow_facts.specs.Numbered.{column_number}
+use Rattle.flow_facts.specs.Lists.{row_at, accessed, accesses_of}
+use Rattle.flow_facts.specs.Facts.{numbers, column_info, IsFactsOf}
+use Rattle.facts_order.proofs.Listed.{one_from, all_of}
+use Rattle.facts_order.proofs.Columns.{numbered_column}
+use Rattle.facts_order.proofs.Tests.{gathered_from}
+
+accessed_from : (r c : Option ℕ) (x : AccessInfo) → Contains (accessed r c) x → (r ≡ Some x.row.0) × (c ≡ Some x.column.0)
+accessed_from (Some a) (Some b) x d = let e = one_from _ x d in (ap (λ z. Some z.row.0) e, ap (λ z. Some z.column.0) e)
+accessed_from (Some a) None x d = absurd (omega (arith, d.1))
+accessed_from None c x d = absurd (omega (arith, d.1))
+
+-- the base of an access, and the member
+pub data IsAccess : Operand → ColumnItem → Part → Type 0 where
+  a_read : {p : Place} {b o : Operand} {f : ℕ} → IsAccess b (column.Fld f) (a_load p b (Some f) o)
+  a_write : {p : Place} {b o : Operand} {f : ℕ} → IsAccess b (column.Fld f) (a_store p b (Some f) o)
+  a_use : {p : Place} {b o : Operand} {s : Option ℕ} {d : ℕ} {es : List Operand} → IsAccess b (column.Dcl d) (a_call p b s (Some d) es o)
+
+module _ (P Q : Plain) where
+  pub record HasAccess (x : AccessInfo) (p : Part) : Type 0 where
+    pub base : Operand
+    pub member : ColumnItem
+    pub access : IsAccess base member p
+    pub row_is : row_at (numbers P Q) base ≡ Some x.row.0
+    pub column_is : column_number P Q member ≡ Some x.column.0
+
+  access_of : (p : Part) (x : AccessInfo) → Contains (accesses_of (numbers P Q) p) x → HasAccess x p
+  unfolding numbers
+  access_of (a_load p b (Some f) o) x c = let z = accessed_from (row_at (numbers P Q) b) (column_number P Q (column.Fld f)) x c in record { base = b; member = column.Fld f; access = a_read; row_is = z.0; column_is = z.1 }
+  access_of (a_store p b (Some f) o) x c = let z = accessed_from (row_at (numbers P Q) b) (column_number P Q (column.Fld f)) x c in record { base = b; member = column.Fld f; access = a_write; row_is = z.0; column_is = z.1 }
+  access_of (a_call p b s (Some d) es o) x c = let z = accessed_from (row_at (numbers P Q) b) (column_number P Q (column.Dcl d)) x c in record { base = b; member = column.Dcl d; access = a_use; row_is = z.0; column_is = z.1 }
+  access_of (a_load p b None o) x c = absurd (omega (arith, c.1))
+  access_of (a_store p b None o) x c = absurd (omega (arith, c.1))
+  access_of (a_call p b s None es o) x c = absurd (omega (arith, c.1))
+  access_of (an_element p b q) x c = absurd (omega (arith, c.1))
+  access_of (a_creation p u q) x c = absurd (omega (arith, c.1))
+  access_of (a_static_call p d es q) x c = absurd (omega (arith, c.1))
+  access_of (a_super_call p d es q) x c = absurd (omega (arith, c.1))
+  access_of (a_test p d q) x c = absurd (omega (arith, c.1))
+  access_of (a_pair q l r) x c = absurd (omega (arith, c.1))
+  access_of (a_set v q) x c = absurd (omega (arith, c.1))
+  access_of (an_element_store p b q) x c = absurd (omega (arith, c.1))
+  access_of (a_return q) x c = absurd (omega (arith, c.1))
+
+  module _ (F : Facts) (facts : IsFactsOf P Q F) where
+    pub record AccessPart (x : AccessInfo) : Type 0 where
+      pub number : ℕ
+      pub method : PlainMethod
+      pub stands : slice_get Q.methods number ≡ Some method
+      pub part : Part
+      pub in_body : Contains (parts_of P number method) part
+      pub has : HasAccess x part
+
+    pub access_part : (x : AccessInfo) → Contains F.accesses.items x → AccessPart x
+    access_part x c =
+        let z = gathered_from P Q (λ b. accesses_of (numbers P Q)) x ((facts.accesses x).0 c) in
+        record { number = z.0; method = z.1; stands = z.3; part = z.2; in_body = z.4; has = access_of z.2 x z.5 }
+
+    member_kind : (b : Operand) (i : ColumnItem) (p : Part) → IsAccess b i p → ((column_info Q i).kind ≡ Fld) ⊎ ((column_info Q i).kind ≡ Dcl)
+    member_kind b _ _ a_read = inl refl
+    member_kind b _ _ a_write = inl refl
+    member_kind b _ _ a_use = inr refl
+
+    pub access_kinds : All (λ x. (column_kind F x.column.0 ≡ Fld) ⊎ (column_kind F x.column.0 ≡ Dcl)) F.accesses.items
+    access_kinds = all_of (λ x. (column_kind F x.column.0 ≡ Fld) ⊎ (column_kind F x.column.0 ≡ Dcl)) F.accesses.items
+        (λ x c. let z = access_part x c in
+        let n = numbered_column P Q F facts z.has.member x.column.0 z.has.column_is in
+        subst (λ i. (i.kind ≡ Fld) ⊎ (i.kind ≡ Dcl)) (sym n.1) (member_kind z.has.base z.has.member z.part z.has.access))

@@ -1,0 +1,237 @@
+-- The numbers of a body's creations, casts and `instanceof`: each part that is one has its own, and those of a program differ.
+use Rattle.std.proofs.Common.{◌≡◌, ℕ, zero, suc, ◌+◌, List, [], ◌∷◌, ◌++◌, Option, Some, None, length, refl, sym, ap, ◌∙◌, subst, arith}
+use Rattle.std.specs.Prelude.{Bool, true, false, Contains, slice_get}
+use Rattle.std.specs.Option.{option_map}
+use Rattle.std.specs.List.{flat_map}
+use Rattle.std.proofs.lemmas.Option.{same_Some}
+use Rattle.std.proofs.lemmas.Grind.{flat_map-append}
+use Rattle.std.proofs.lemmas.List.Elements.{Contains-append_left, Contains-append_right}
+use Rattle.java_core.specs.Trees.{Tag, Ex, Exs, no_ex, ex_then, number, character, text, truth, null, this, local, static_field, own_field, field, index, call, static_call, super_call, create, create_array, cast, instance_of, unary, binary, Target, to_local, to_static, to_own, to_field, to_element, no_target, St, Sts, Arms, declare, block, assign, act, print, choose, loop, return, break, continue, no_st, st_then, otherwise, arm}
+use Rattle.java_core.specs.Programs.{Plain, PlainMethod}
+use Rattle.java_core.specs.Formed.{HasNoTwice, numbers, numbers_all, numbers_if, numbers_target, numbers_st, numbers_sts, numbers_arms, numbers_body, numbers_methods, IsFormed}
+use Rattle.java_meaning.specs.Watched.{bare, bare_all, bare_if, bare_target, bare_st, bare_sts, bare_arms}
+use Rattle.flow_facts.specs.declared.items.ObjectType.{ObjectType}
+use Rattle.flow_facts.specs.declared.items.RowItem.{RowItem}
+use Rattle.flow_facts.specs.declared.items.RowItem.TheVariants as row
+use Rattle.flow_facts.specs.Labels.{size, label, label_all, size_if, label_if, size_target, label_target, size_st, size_sts, label_st, label_sts, label_arms}
+use Rattle.flow_facts.specs.Parts.{Part, a_load, an_element, a_creation, a_call, a_static_call, a_super_call, a_test, a_pair, a_set, a_store, an_element_store, a_return, is_accessed, parts, parts_all, parts_if, parts_set, parts_return, parts_assign, parts_st, parts_sts, parts_arms, parts_body, parts_of}
+use Rattle.flow_facts.specs.Operands.{type_in}
+use Rattle.facts_order.proofs.Listed.{at_contains, at_below, flat_has}
+use Rattle.facts_order.proofs.Pairs.{IsPlaced}
+
+-- the number of what has a row of its own
+abbrev pub number_in : Option RowItem → List ℕ
+number_in None = []
+number_in (Some (row.New n)) = n ∷ []
+number_in (Some (row.Cast n)) = n ∷ []
+number_in (Some (row.Test n)) = n ∷ []
+number_in (Some (row.Field f)) = []
+number_in (Some (row.This m)) = []
+number_in (Some (row.Return s)) = []
+number_in (Some (row.Param s i)) = []
+number_in (Some (row.Result m)) = []
+number_in (Some (row.Local m i)) = []
+
+abbrev pub part_number : Part → List ℕ
+part_number (a_load p b f o) = []
+part_number (an_element p b o) = []
+part_number (a_creation p u o) = number_in o.row
+part_number (a_call p b s d es o) = []
+part_number (a_static_call p m es o) = []
+part_number (a_super_call p m es o) = []
+part_number (a_test p e o) = number_in o.row
+part_number (a_pair o l r) = []
+part_number (a_set v o) = []
+part_number (a_store p b f o) = []
+part_number (an_element_store p b o) = []
+part_number (a_return o) = []
+
+abbrev pub numbers_in : List Part → List ℕ
+numbers_in ps = flat_map part_number ps
+
+join : (ps qs : List Part) (xs ys : List ℕ) → numbers_in ps ≡ xs → numbers_in qs ≡ ys → numbers_in (ps ++ qs) ≡ xs ++ ys
+join ps qs xs ys a b = flat_map-append part_number ps qs ∙ ap (λ z. z ++ numbers_in qs) a ∙ ap (λ z. xs ++ z) b
+
+nothing_after : (xs : List ℕ) → xs ++ [] ≡ xs
+nothing_after [] = refl
+nothing_after (x ∷ xs) = ap (λ z. x ∷ z) (nothing_after xs)
+
+-- and one more part, of no number
+joined : (ps : List Part) (p : Part) (xs : List ℕ) → numbers_in ps ≡ xs → part_number p ≡ [] → numbers_in (ps ++ p ∷ []) ≡ xs
+joined ps p xs a b = join ps (p ∷ []) xs [] a (ap (λ z. z ++ []) b) ∙ nothing_after xs
+
+module _ (P : Plain) (type : Ex → Option ObjectType) (m : ℕ) (k : PlainMethod) where
+  abbrev in_ex : Bool → Ex → List Part
+  in_ex u e = parts P type m k u e
+
+  abbrev in_all : Bool → Exs → List Part
+  in_all u es = parts_all P type m k u es
+
+  mutual
+    ex_numbers : (n : ℕ) (u : Bool) (e : Ex) → numbers_in (in_ex u (label n e)) ≡ numbers (bare e)
+    ex_numbers n u (number t i) = refl
+    ex_numbers n u (character t c) = refl
+    ex_numbers n u (text t s) = refl
+    ex_numbers n u (truth t b) = refl
+    ex_numbers n u (null t) = refl
+    ex_numbers n u (this t) = refl
+    ex_numbers n u (local t i) = refl
+    ex_numbers n u (static_field t f) = refl
+    ex_numbers n u (own_field t f) = refl
+    ex_numbers n u (field t e x) = joined (in_ex (is_accessed (label n e)) (label n e)) _ (numbers (bare e)) (ex_numbers n (is_accessed (label n e)) e) refl
+    ex_numbers n u (index t e i) = join (in_ex true (label n e)) _ (numbers (bare e)) (numbers (bare i)) (ex_numbers n true e) (ex_numbers (n + size e + 1) false i)
+    ex_numbers n u (call t e x es) = join (in_ex true (label n e)) _ (numbers (bare e)) (numbers_all (bare_all es)) (ex_numbers n true e) (all_numbers (n + size e + 1) true es)
+    ex_numbers n u (static_call t d es) = all_numbers (n + 1) false es
+    ex_numbers n u (super_call t x es) = all_numbers (n + 1) false es
+    ex_numbers n u (create t i c es) = ap (λ z. i ∷ z) (all_numbers (n + 1) false es)
+    ex_numbers n u (create_array t i v e) = ap (λ z. i ∷ z) (ex_numbers (n + 1) false e)
+    ex_numbers n u (cast t i v e) = ap (λ z. i ∷ z) (ex_numbers (n + 1) true e)
+    ex_numbers n u (instance_of t i e c) = join (in_ex true (label n e)) _ (numbers (bare e)) (i ∷ []) (ex_numbers n true e) refl
+    ex_numbers n u (unary t o e) = ex_numbers n false e
+    ex_numbers n u (binary t o e d) =
+        joined (in_ex false (label n e) ++ in_ex false (label (n + size e) d)) _ (numbers (bare e) ++ numbers (bare d))
+        (join (in_ex false (label n e)) (in_ex false (label (n + size e) d)) (numbers (bare e)) (numbers (bare d)) (ex_numbers n false e) (ex_numbers (n + size e) false d)) refl
+
+    all_numbers : (n : ℕ) (u : Bool) (es : Exs) → numbers_in (in_all u (label_all n es)) ≡ numbers_all (bare_all es)
+    all_numbers n u no_ex = refl
+    all_numbers n u (ex_then e es) = join (in_ex u (label n e)) (in_all u (label_all (n + size e) es)) (numbers (bare e)) (numbers_all (bare_all es)) (ex_numbers n u e) (all_numbers (n + size e) u es)
+
+  if_numbers : (n : ℕ) (e : Option Ex) → numbers_in (parts_if P type m k (label_if n e)) ≡ numbers_if (bare_if e)
+  if_numbers n None = refl
+  if_numbers n (Some e) = ex_numbers n false e
+
+  set_numbers : (n : ℕ) (v : Ex) (e : Option Ex) → numbers_in (parts_set P type m k v (label_if n e)) ≡ numbers_if (bare_if e)
+  set_numbers n v None = refl
+  set_numbers n v (Some e) = joined (in_ex false (label n e)) _ (numbers (bare e)) (ex_numbers n false e) refl
+
+  return_numbers : (n : ℕ) (e : Option Ex) → numbers_in (parts_return P type m k (label_if n e)) ≡ numbers_if (bare_if e)
+  return_numbers n None = refl
+  return_numbers n (Some e) = joined (in_ex false (label n e)) _ (numbers (bare e)) (ex_numbers n false e) refl
+
+  assign_numbers : (n : ℕ) (t : Tag) (b : Target) (e : Ex) → numbers_in (parts_assign P type m k t.place (label_target n b) (label (n + size_target b) e)) ≡ numbers_target (bare_target b) ++ numbers (bare e)
+  assign_numbers n t (to_local s i) e = joined (in_ex false (label (n + 0) e)) _ (numbers (bare e)) (ex_numbers (n + 0) false e) refl
+  assign_numbers n t (to_static s f) e = joined (in_ex false (label (n + 0) e)) _ (numbers (bare e)) (ex_numbers (n + 0) false e) refl
+  assign_numbers n t (to_own s f) e = joined (in_ex true (label (n + 0) e)) _ (numbers (bare e)) (ex_numbers (n + 0) true e) refl
+  assign_numbers n t (to_field s b x) e =
+      let one = in_ex (is_accessed (label n b)) (label n b) in
+      let two = in_ex true (label (n + size b) e) in
+      joined (one ++ two) _ (numbers (bare b) ++ numbers (bare e)) (join one two (numbers (bare b)) (numbers (bare e)) (ex_numbers n (is_accessed (label n b)) b) (ex_numbers (n + size b) true e)) refl
+  assign_numbers n t (to_element s b i) e =
+      let one = in_ex true (label n b) in
+      let two = in_ex false (label (n + size b) i) in
+      let three = in_ex true (label (n + (size b + size i)) e) in
+      joined ((one ++ two) ++ three) _ ((numbers (bare b) ++ numbers (bare i)) ++ numbers (bare e))
+      (join (one ++ two) three (numbers (bare b) ++ numbers (bare i)) (numbers (bare e)) (join one two (numbers (bare b)) (numbers (bare i)) (ex_numbers n true b) (ex_numbers (n + size b) false i)) (ex_numbers (n + (size b + size i)) true e)) refl
+  assign_numbers n t no_target e = joined (in_ex false (label (n + 0) e)) _ (numbers (bare e)) (ex_numbers (n + 0) false e) refl
+
+  mutual
+    st_numbers : (n : ℕ) (x : St) → numbers_in (parts_st P type m k (label_st n x)) ≡ numbers_st (bare_st x)
+    st_numbers n (declare t i e) = set_numbers n (local t i) e
+    st_numbers n (block t xs) = sts_numbers n xs
+    st_numbers n (assign t b e) = assign_numbers n t b e
+    st_numbers n (act t e) = ex_numbers n false e
+    st_numbers n (print t l e) = if_numbers n e
+    st_numbers n (choose t xs) = arms_numbers n xs
+    st_numbers n (loop t first test step body) =
+        join (((parts_sts P type m k (label_sts n first)) ++ parts_if P type m k (label_if (n + size_sts first) test)) ++ parts_sts P type m k (label_sts (n + size_sts first + size_if test) step)) (parts_sts P type m k (label_sts (n + size_sts first + size_if test + size_sts step) body)) ((numbers_sts (bare_sts first) ++ numbers_if (bare_if test)) ++ numbers_sts (bare_sts step)) (numbers_sts (bare_sts body))
+        (join ((parts_sts P type m k (label_sts n first)) ++ parts_if P type m k (label_if (n + size_sts first) test)) (parts_sts P type m k (label_sts (n + size_sts first + size_if test) step)) (numbers_sts (bare_sts first) ++ numbers_if (bare_if test)) (numbers_sts (bare_sts step))
+        (join (parts_sts P type m k (label_sts n first)) (parts_if P type m k (label_if (n + size_sts first) test)) (numbers_sts (bare_sts first)) (numbers_if (bare_if test)) (sts_numbers n first) (if_numbers (n + size_sts first) test))
+        (sts_numbers (n + size_sts first + size_if test) step))
+        (sts_numbers (n + size_sts first + size_if test + size_sts step) body)
+    st_numbers n (return t e) = return_numbers n e
+    st_numbers n (break t) = refl
+    st_numbers n (continue t) = refl
+
+    sts_numbers : (n : ℕ) (xs : Sts) → numbers_in (parts_sts P type m k (label_sts n xs)) ≡ numbers_sts (bare_sts xs)
+    sts_numbers n no_st = refl
+    sts_numbers n (st_then x xs) = join (parts_st P type m k (label_st n x)) (parts_sts P type m k (label_sts (n + size_st x) xs)) (numbers_st (bare_st x)) (numbers_sts (bare_sts xs)) (st_numbers n x) (sts_numbers (n + size_st x) xs)
+
+    arms_numbers : (n : ℕ) (xs : Arms) → numbers_in (parts_arms P type m k (label_arms n xs)) ≡ numbers_arms (bare_arms xs)
+    arms_numbers n (otherwise xs) = sts_numbers n xs
+    arms_numbers n (arm e xs more) =
+        join (in_ex false (label n e) ++ parts_sts P type m k (label_sts (n + size e) xs)) (parts_arms P type m k (label_arms (n + size e + size_sts xs) more)) (numbers (bare e) ++ numbers_sts (bare_sts xs)) (numbers_arms (bare_arms more))
+        (join (in_ex false (label n e)) (parts_sts P type m k (label_sts (n + size e) xs)) (numbers (bare e)) (numbers_sts (bare_sts xs)) (ex_numbers n false e) (sts_numbers (n + size e) xs))
+        (arms_numbers (n + size e + size_sts xs) more)
+
+body_numbers : (P : Plain) (type : Ex → Option ObjectType) (m : ℕ) (k : PlainMethod) (b : Option Sts) → numbers_in (parts_body P type m k b) ≡ numbers_body (option_map bare_sts b)
+body_numbers P type m k None = refl
+body_numbers P type m k (Some xs) = sts_numbers P type m k 0 xs
+
+-- the numbers of a method's parts are those of its body
+pub method_numbers : (P : Plain) (m : ℕ) (k : PlainMethod) → numbers_in (parts_of P m k) ≡ numbers_body (option_map bare_sts k.body)
+unfolding parts_of
+method_numbers P m k = body_numbers P (type_in P m k) m k k.body
+
+-- where no two places of a joined list hold the same
+module _ {A : Type 0} where
+  pub front : (xs ys : List A) (i : ℕ) (x : A) → slice_get xs i ≡ Some x → slice_get (xs ++ ys) i ≡ Some x
+  front [] ys i x e = absurd (cc)
+  front (z ∷ zs) ys zero x e = e
+  front (z ∷ zs) ys (suc i) x e = front zs ys i x e
+
+  pub back : (xs ys : List A) (i : ℕ) (x : A) → slice_get ys i ≡ Some x → slice_get (xs ++ ys) (length xs + i) ≡ Some x
+  back [] ys i x e = subst (λ z. slice_get ys z ≡ Some x) {x = i} (omega arith) e
+  back (z ∷ zs) ys i x e = subst (λ w. slice_get (z ∷ (zs ++ ys)) w ≡ Some x) {x = suc (length zs + i)} (omega arith) (back zs ys i x e)
+
+  pub twice_front : (xs ys : List A) → HasNoTwice (xs ++ ys) → HasNoTwice xs
+  unfolding HasNoTwice
+  twice_front xs ys h i j x e d = h i j x (front xs ys i x e) (front xs ys j x d)
+
+  pub twice_back : (xs ys : List A) → HasNoTwice (xs ++ ys) → HasNoTwice ys
+  unfolding HasNoTwice
+  twice_back xs ys h i j x e d = omega (arith, h (length xs + i) (length xs + j) x (back xs ys i x e) (back xs ys j x d))
+
+  pub twice_apart : (xs ys : List A) (x : A) → HasNoTwice (xs ++ ys) → Contains xs x → Contains ys x → ⊥
+  unfolding HasNoTwice
+  twice_apart xs ys x h c d =
+      let a = at_contains xs x c in
+      let b = at_contains ys x d in
+      absurd (omega (arith, at_below xs a.0 x a.1, h a.0 (length xs + b.0) x (front xs ys a.0 x a.1) (back xs ys b.0 x b.1)))
+
+-- two parts of a list with one number are one
+one_part : (ps : List Part) (p q : Part) (n : ℕ) → HasNoTwice (numbers_in ps) → Contains ps p → Contains ps q → Contains (part_number p) n → Contains (part_number q) n → p ≡ q
+one_part [] p q n h c d e f = absurd (omega (arith, c.1))
+one_part (x ∷ ps) p q n h (zero, lt, a) (zero, mt, b) e f = sym a ∙ b
+one_part (x ∷ ps) p q n h (zero, lt, a) (suc j, mt, b) e f = absurd (twice_apart (part_number x) (numbers_in ps) n h (subst (λ z. Contains (part_number z) n) (sym a) e) (flat_has part_number ps q n (j, omega (arith, mt), b) f))
+one_part (x ∷ ps) p q n h (suc i, lt, a) (zero, mt, b) e f = absurd (twice_apart (part_number x) (numbers_in ps) n h (subst (λ z. Contains (part_number z) n) (sym b) f) (flat_has part_number ps p n (i, omega (arith, lt), a) e))
+one_part (x ∷ ps) p q n h (suc i, lt, a) (suc j, mt, b) e f = one_part ps p q n (twice_back (part_number x) (numbers_in ps) h) (i, omega (arith, lt), a) (j, omega (arith, mt), b) e f
+
+methods_has : (ks : List PlainMethod) (m : ℕ) (k : PlainMethod) (n : ℕ) → slice_get ks m ≡ Some k → Contains (numbers_body k.body) n → Contains (numbers_methods ks) n
+methods_has [] m k n e c = absurd (cc)
+methods_has (h ∷ ks) zero k n e c = Contains-append_left (numbers_body h.body) (numbers_methods ks) n (subst (λ z. Contains (numbers_body z.body) n) (sym (same_Some h k e)) c)
+methods_has (h ∷ ks) (suc m) k n e c = Contains-append_right (numbers_body h.body) (numbers_methods ks) n (methods_has ks m k n e c)
+
+pub method_twice : (ks : List PlainMethod) (m : ℕ) (k : PlainMethod) → HasNoTwice (numbers_methods ks) → slice_get ks m ≡ Some k → HasNoTwice (numbers_body k.body)
+method_twice [] m k h e = absurd (cc)
+method_twice (x ∷ ks) zero k h e = subst (λ z. HasNoTwice (numbers_body z.body)) (same_Some x k e) (twice_front (numbers_body x.body) (numbers_methods ks) h)
+method_twice (x ∷ ks) (suc m) k h e = method_twice ks m k (twice_back (numbers_body x.body) (numbers_methods ks) h) e
+
+-- two methods with one number are one
+pub one_method : (ks : List PlainMethod) (i j : ℕ) (h k : PlainMethod) (n : ℕ) → HasNoTwice (numbers_methods ks) → slice_get ks i ≡ Some h → slice_get ks j ≡ Some k → Contains (numbers_body h.body) n → Contains (numbers_body k.body) n → i ≡ j
+one_method [] i j h k n t e d a b = absurd (cc)
+one_method (x ∷ ks) zero zero h k n t e d a b = refl
+one_method (x ∷ ks) zero (suc j) h k n t e d a b = absurd (twice_apart (numbers_body x.body) (numbers_methods ks) n t (subst (λ z. Contains (numbers_body z.body) n) (sym (same_Some x h e)) a) (methods_has ks j k n d b))
+one_method (x ∷ ks) (suc i) zero h k n t e d a b = absurd (twice_apart (numbers_body x.body) (numbers_methods ks) n t (subst (λ z. Contains (numbers_body z.body) n) (sym (same_Some x k d)) b) (methods_has ks i h n e a))
+one_method (x ∷ ks) (suc i) (suc j) h k n t e d a b = ap suc (one_method ks i j h k n (twice_back (numbers_body x.body) (numbers_methods ks) t) e d a b)
+
+-- two parts of a program's bodies with one number are one
+module _ (P Q : Plain) (placed : IsPlaced P Q) (formed : IsFormed P) where
+  pub record IsPart (p : Part) : Type 0 where
+    pub number : ℕ
+    pub method : PlainMethod
+    pub stands : slice_get Q.methods number ≡ Some method
+    pub part : Contains (parts_of P number method) p
+
+  body_has : (p : Part) (n : ℕ) (a : IsPart p) → Contains (part_number p) n → Contains (numbers_body (placed.methods a.number a.method a.stands).plain.body) n
+  body_has p n a c =
+      subst (λ z. Contains z n) (method_numbers P a.number a.method ∙ ap numbers_body (placed.methods a.number a.method a.stands).body) (flat_has part_number (parts_of P a.number a.method) p n a.part c)
+
+  pub number_apart : (p q : Part) (n : ℕ) → IsPart p → IsPart q → Contains (part_number p) n → Contains (part_number q) n → p ≡ q
+  number_apart p q n a b c d =
+      let x = placed.methods a.number a.method a.stands in
+      let y = placed.methods b.number b.method b.stands in
+      let e = one_method P.methods a.number b.number x.plain y.plain n formed.numbered x.stands y.stands (body_has p n a c) (body_has q n b d) in
+      let g = same_Some a.method b.method (sym a.stands ∙ ap (slice_get Q.methods) e ∙ b.stands) in
+      one_part (parts_of P a.number a.method) p q n
+      (subst (λ z. HasNoTwice z) (sym (method_numbers P a.number a.method ∙ ap numbers_body x.body)) (method_twice P.methods a.number x.plain formed.numbered x.stands))
+      a.part (subst (λ z. Contains (parts_of P a.number z) q) (sym g) (subst (λ z. Contains (parts_of P z b.method) q) (sym e) b.part)) c d

@@ -1,0 +1,134 @@
+-- A program without places and with places: the same classes, fields, methods and slots, places aside.
+use Rattle.std.proofs.Common.{◌≡◌, ℕ, List, [], ◌∷◌, ◌++◌, Option, Some, None, refl, sym, ap, ◌∙◌}
+use Rattle.std.specs.Prelude.{slice_get, map}
+use Rattle.std.specs.Option.{option_map, is_some}
+use Rattle.std.specs.declared.vec.Vec.{Vec}
+use Rattle.std.specs.declared.alloc.Global.{Global}
+use Rattle.java_core.specs.declared.Program.{Program}
+use Rattle.java_core.specs.declared.Local.{Local}
+use Rattle.java_core.specs.declared.RStmt.{RStmt}
+use Rattle.java_core.specs.Trees.{at_place, no_place, body_seen}
+use Rattle.java_core.specs.Types.{types_of}
+use Rattle.java_core.specs.Programs.{Plain, PlainClass, PlainField, PlainMethod, local_seen, class_seen, field_seen, method_seen, program_of}
+use Rattle.java_meaning.specs.Watched.{bare_sts}
+use Rattle.java_meaning.proofs.Placed.{bare_list}
+use Rattle.facts_order.proofs.Listed.{at_map, map_at}
+
+-- a field with its place, and without
+pub record IsFieldOf (P : Plain) (f : ℕ) (k : PlainField) : Type 0 where
+  pub plain : PlainField
+  pub stands : slice_get P.fields f ≡ Some plain
+  pub owner : plain.owner ≡ k.owner
+  pub name : plain.name ≡ k.name
+  pub static : plain.is_static ≡ k.is_static
+  pub type : plain.ty ≡ k.ty
+
+-- the types of variables, place by place
+pub record IsMethodOf (P : Plain) (m : ℕ) (k : PlainMethod) : Type 0 where
+  pub plain : PlainMethod
+  pub stands : slice_get P.methods m ≡ Some plain
+  pub owner : plain.owner ≡ k.owner
+  pub name : plain.name ≡ k.name
+  pub static : plain.is_static ≡ k.is_static
+  pub slot : plain.slot ≡ k.slot
+  pub result : plain.result ≡ k.result
+  pub params : types_of plain.params ≡ types_of k.params
+  pub locals : types_of plain.locals ≡ types_of k.locals
+  pub names : map (λ v. v.name) plain.params ++ map (λ v. v.name) plain.locals ≡ map (λ v. v.name) k.params ++ map (λ v. v.name) k.locals
+  pub body : option_map bare_sts k.body ≡ plain.body
+  pub bodied : is_some plain.body ≡ is_some k.body
+
+pub record IsClassOf (P : Plain) (c : ℕ) (k : PlainClass) : Type 0 where
+  pub plain : PlainClass
+  pub stands : slice_get P.classes c ≡ Some plain
+  pub name : plain.name ≡ k.name
+  pub interface : plain.is_interface ≡ k.is_interface
+  pub parent : plain.parent ≡ k.parent
+  pub faces : plain.faces ≡ k.faces
+
+-- Q is the program P with its places
+pub record IsPlaced (P Q : Plain) : Type 0 where
+  pub fields : (f : ℕ) (k : PlainField) → slice_get Q.fields f ≡ Some k → IsFieldOf P f k
+  pub methods : (m : ℕ) (k : PlainMethod) → slice_get Q.methods m ≡ Some k → IsMethodOf P m k
+  pub classes : (c : ℕ) (k : PlainClass) → slice_get Q.classes c ≡ Some k → IsClassOf P c k
+  pub placed_method : (m : ℕ) (h : PlainMethod) → slice_get P.methods m ≡ Some h → (k : PlainMethod) × (slice_get Q.methods m ≡ Some k)
+  pub placed_field : (f : ℕ) (h : PlainField) → slice_get P.fields f ≡ Some h → (k : PlainField) × (slice_get Q.fields f ≡ Some k)
+  pub placed_class : (c : ℕ) (h : PlainClass) → slice_get P.classes c ≡ Some h → (k : PlainClass) × (slice_get Q.classes c ≡ Some k)
+  pub slots : P.slots ≡ Q.slots
+
+types_seen : (xs : List Local) → types_of (map (local_seen no_place) xs) ≡ types_of (map (local_seen at_place) xs)
+types_seen [] = refl
+types_seen (x ∷ xs) = ap (λ z. x.ty ∷ z) (types_seen xs)
+
+names_seen : (xs ys : List Local) → map (λ v. v.name) (map (local_seen no_place) xs) ++ map (λ v. v.name) (map (local_seen no_place) ys) ≡ map (λ v. v.name) (map (local_seen at_place) xs) ++ map (λ v. v.name) (map (local_seen at_place) ys)
+names_seen [] [] = refl
+names_seen [] (y ∷ ys) = ap (λ z. y.name ∷ z) (names_seen [] ys)
+names_seen (x ∷ xs) ys = ap (λ z. x.name ∷ z) (names_seen xs ys)
+
+body_bare : (b : Option (Vec RStmt Global)) → option_map bare_sts (body_seen at_place b) ≡ body_seen no_place b
+body_bare None = refl
+body_bare (Some v) = ap Some (bare_list at_place v.items)
+
+body_there : (b : Option (Vec RStmt Global)) → is_some (body_seen no_place b) ≡ is_some (body_seen at_place b)
+body_there None = refl
+body_there (Some v) = refl
+
+module _ (p : Program) where
+  abbrev P : Plain
+  P = program_of no_place p
+
+  abbrev Q : Plain
+  Q = program_of at_place p
+
+  field_pair : (f : ℕ) (k : PlainField) → slice_get Q.fields f ≡ Some k → IsFieldOf P f k
+  field_pair f k e =
+      let z = map_at (field_seen at_place) p.fields.items f k e in
+      record {
+        plain = field_seen no_place z.0;
+        stands = at_map (field_seen no_place) p.fields.items f z.0 z.1;
+        owner = ap (λ z. z.owner) z.2;
+        name = ap (λ z. z.name) z.2;
+        static = ap (λ z. z.is_static) z.2;
+        type = ap (λ z. z.ty) z.2;
+      }
+
+  method_pair : (m : ℕ) (k : PlainMethod) → slice_get Q.methods m ≡ Some k → IsMethodOf P m k
+  method_pair m k e =
+      let z = map_at (method_seen at_place) p.methods.items m k e in
+      record {
+        plain = method_seen no_place z.0;
+        stands = at_map (method_seen no_place) p.methods.items m z.0 z.1;
+        owner = ap (λ z. z.owner) z.2;
+        name = ap (λ z. z.name) z.2;
+        static = ap (λ z. z.is_static) z.2;
+        slot = ap (λ z. z.slot) z.2;
+        result = ap (λ z. z.result) z.2;
+        params = types_seen z.0.params.items ∙ ap (λ z. types_of z.params) z.2;
+        locals = types_seen z.0.locals.items ∙ ap (λ z. types_of z.locals) z.2;
+        names = names_seen z.0.params.items z.0.locals.items ∙ ap (λ z. map (λ v. v.name) z.params ++ map (λ v. v.name) z.locals) z.2;
+        body = ap (λ z. option_map bare_sts z.body) (sym z.2) ∙ body_bare z.0.body;
+        bodied = body_there z.0.body ∙ ap (λ z. is_some z.body) z.2;
+      }
+
+  class_pair : (c : ℕ) (k : PlainClass) → slice_get Q.classes c ≡ Some k → IsClassOf P c k
+  class_pair c k e =
+      let z = map_at (class_seen at_place) p.classes.items c k e in
+      record {
+        plain = class_seen no_place z.0;
+        stands = at_map (class_seen no_place) p.classes.items c z.0 z.1;
+        name = ap (λ z. z.name) z.2;
+        interface = ap (λ z. z.is_interface) z.2;
+        parent = ap (λ z. z.parent) z.2;
+        faces = ap (λ z. z.faces) z.2;
+      }
+
+  pub placed : IsPlaced P Q
+  placed = record {
+    fields = field_pair;
+    methods = method_pair;
+    classes = class_pair;
+    placed_method = λ m h e. let z = map_at (method_seen no_place) p.methods.items m h e in (method_seen at_place z.0, at_map (method_seen at_place) p.methods.items m z.0 z.1);
+    placed_field = λ f h e. let z = map_at (field_seen no_place) p.fields.items f h e in (field_seen at_place z.0, at_map (field_seen at_place) p.fields.items f z.0 z.1);
+    placed_class = λ c h e. let z = map_at (class_seen no_place) p.classes.items c h e in (class_seen at_place z.0, at_map (class_seen at_place) p.classes.items c z.0 z.1);
+    slots = refl;
+  }

@@ -1,0 +1,114 @@
+-- No run of a program under the watch of closed sets escapes.
+use Rattle.std.proofs.Common.{◌≡◌, ℕ, suc, ◌+◌, List, [], ◌∷◌, Option, Some, None, refl, sym, ◌∙◌, subst, arith}
+use Rattle.std.specs.Prelude.{◌≢◌, ◌==◌, ◌&&◌, Bool, true, false, slice_get, map}
+use Rattle.std.specs.Option.{option_map_or, option_and_then}
+use Rattle.std.specs.List.{AllByRecursion}
+use Rattle.std.proofs.lemmas.Bool.{eqb-true}
+use Rattle.std.proofs.lemmas.List.Quantifiers.{position-Some}
+use Rattle.java_core.specs.declared.Ty.{Ty}
+use Rattle.java_core.specs.Programs.{Plain}
+use Rattle.java_core.specs.Classes.{lookup, super_method}
+use Rattle.java_core.specs.Types.{field_type, types_of}
+use Rattle.java_meaning.specs.Moment.{Value, Number, Truth, CodeUnit, Nothing, Text, Object, Cell, Spot, held, bound, self_of, result_of, set_static, kept, put_in, touched, tested, ran, End, Escaped, Body}
+use Rattle.java_meaning.specs.Values.{default_of}
+use Rattle.java_meaning.specs.Languages.{layout, default_at, index_of, body_with}
+use Rattle.fact_model.specs.Flowing.{Fact, Inclusion}
+use Rattle.fact_model.specs.declared.facts.Facts.{Facts}
+use Rattle.flow_facts.specs.declared.items.Operand.{Operand}
+use Rattle.flow_facts.specs.declared.items.PointItem.TheVariants as point
+use Rattle.flow_facts.specs.Types.{field_object}
+use Rattle.flow_facts.specs.Labels.{label_sts}
+use Rattle.flow_facts.specs.Lists.{point_at, site_in}
+use Rattle.flow_facts.specs.Facts.{numbers, IsFactsOf}
+use Rattle.run_cover.specs.Families.{ArePlain, IsIncluded, AreIncluded, Begins}
+use Rattle.run_cover.specs.Watched.{Of, IsWatched}
+use Rattle.run_cover.specs.Covers.{Sets, has, IsClosed, operand_at, at_point, at_cell, field_cell, held_in, sites_at, spot_set, is_seen, are_seen, labelled_with, labelled_body, watched, CoversEachRun}
+use Rattle.run_cover.proofs.Held.{default_plain, Stays}
+use Rattle.run_cover.proofs.Cover.{run_stays}
+use Rattle.run_cover.proofs.Kinded.{IsKinded}
+use Rattle.run_cover.proofs.Flows.{when_some, looks_in}
+use Rattle.run_cover.proofs.Calls.{local_object, result_object}
+use Rattle.run_cover.proofs.Included.{passes_map, get_map, then_some, map_some, MadeAs, typed_sites, family, included_code}
+
+default_no_object : (t : Ty) (a : ℕ) → default_of t ≡ Object a → ⊥
+default_no_object t a e = default_plain t.base t.dim a e
+
+map_plain : {A : Type 0} (f : A → Value) (xs : List A) → ((x : A) (a : ℕ) → f x ≡ Object a → ⊥) → ArePlain (map f xs)
+map_plain f xs p i a e = let z = map_some f (slice_get xs i) (Object a) (sym (get_map f xs i) ∙ e) in p z.0 a z.2
+
+optional_default : (t : Option Ty) (a : ℕ) → option_map_or default_of t Nothing ≡ Object a → ⊥
+optional_default None a e = cc
+optional_default (Some t) a e = default_no_object t a e
+
+same_place : (P : Plain) (c f h i : ℕ) → index_of P c f ≡ Some i → index_of P c h ≡ Some i → f ≡ h
+same_place P c f h i e d =
+    let p = position-Some (λ g. g == f) (layout P c) i 0 e in let q = position-Some (λ g. g == h) (layout P c) i 0 d in
+    sym (eqb-true _ f p.1) ∙ eqb-true _ h q.1
+
+module _ (P Q : Plain) (F : Facts) (S : Sets) where
+  looks_held : (c : Option ℕ) (o : Operand) (s : ℕ) → looks_in P Q F S c o s ≡ true → held_in P Q F S c o s ≡ true
+  looks_held None o s h = (when_some o.ty (at_point P Q F S (point_at (numbers P Q) o)) s h).1
+  looks_held (Some n) o s h = h
+
+  -- the typed sets are in the sets of the watch
+  typed_sub : (p : Spot) (s : ℕ) → typed_sites P Q F S p s ≡ true → sites_at P Q F S p s ≡ true
+  typed_sub (held m e) s h = looks_held (operand_at P Q m e).created (operand_at P Q m e) s h
+  typed_sub (bound m i) s h = (when_some (local_object P Q F S m i) (at_point P Q F S ((numbers P Q).point (point.Local m i))) s h).1
+  typed_sub (self_of m) s h = h
+  typed_sub (result_of m) s h = (when_some (result_object P Q F S m) (at_point P Q F S ((numbers P Q).point (point.Result m))) s h).1
+  typed_sub (set_static f) s h = (when_some (field_object P f) (at_point P Q F S ((numbers P Q).point (point.Static f))) s h).1
+  typed_sub (kept o f) s h = (when_some (field_object P f) (at_cell P Q F S (option_and_then (field_cell P Q F f) (site_in (numbers P Q) o))) s h).1
+  typed_sub (put_in o) s h = h
+  typed_sub (touched m e f) s h = h
+  typed_sub (tested m d b) s h = h
+  typed_sub (ran m d b) s h = h
+
+  value_seen : (p : Spot) (v : Value) (h : List Cell) → Of h v ((family P Q F S).spot p) → is_seen P Q F S (spot_set P Q F S p) v h ≡ true
+  value_seen p (Object a) h o = subst (λ z. option_map_or (λ c. spot_set P Q F S p c.site) z false ≡ true) (sym o.there) (passes_map (typed_sites P Q F S p) (sites_at P Q F S p) (site_in (numbers P Q) o.cell.site) (typed_sub p) o.member)
+  value_seen p (Number n) h o = refl
+  value_seen p (Truth b) h o = refl
+  value_seen p (CodeUnit c) h o = refl
+  value_seen p Nothing h o = refl
+  value_seen p (Text a) h o = refl
+
+  both : (x y : Bool) → x ≡ true → y ≡ true → (x && y) ≡ true
+  both x y e d = rw e d
+
+  all_seen : (b i : ℕ) (vs : List Value) (h : List Cell) → ((x y : ℕ) (v : Value) → y ≡ i + x → slice_get vs x ≡ Some v → Of h v ((family P Q F S).spot (bound b y))) → are_seen P Q F S b i vs h ≡ true
+  all_seen b i [] h p = refl
+  all_seen b i (v ∷ vs) h p = both (is_seen P Q F S (spot_set P Q F S (bound b i)) v h) (are_seen P Q F S b (suc i) vs h) (value_seen (bound b i) v h (p 0 i v (omega arith) refl)) (all_seen b (suc i) vs h (λ x y w e d. p (suc x) y w (omega (arith, e)) d))
+
+  watches : IsWatched (watched P Q F S) (family P Q F S)
+  watches = record { sees = value_seen; sees_all = λ b vs h p. all_seen b 0 vs h (λ x y v e d. subst (λ z. Of h v ((family P Q F S).spot (bound b z))) (let z : x ≡ y = omega (arith, e) in z) (p x v d)) }
+
+  module _ (closed : (ps : List Fact) (f : Fact) → Inclusion F ps f → AllByRecursion (λ p. has S p ≡ true) ps → has S f ≡ true) (facts : IsFactsOf P Q F) (kinded : IsKinded P Q F) where
+    body_included : (c : ℕ) (b : Body) → labelled_body P Q F S c ≡ Some b → IsIncluded (watched P Q F S) (MadeAs P Q F S) (family P Q F S) b
+    unfolding labelled_body
+    body_included c b e =
+        let h = then_some (labelled_with P Q F S c) (slice_get Q.methods c) b e in
+        let y = map_some (λ xs. body_with c h.0 (label_sts 0 xs)) h.0.body b h.2 in
+        subst (λ z. IsIncluded (watched P Q F S) (MadeAs P Q F S) (family P Q F S) z) y.2 (record {
+          code = included_code P Q F S closed facts kinded c h.0 h.1 y.0 y.1;
+          rest = map_plain default_of (types_of h.0.locals) default_no_object;
+          ends = optional_default h.0.result;
+        })
+
+    all_included : AreIncluded (watched P Q F S) (MadeAs P Q F S) (family P Q F S)
+    all_included = record {
+      places = same_place P;
+      fresh = λ c. map_plain (λ f. default_at P f) (layout P c) (λ f a e. optional_default (field_type P f) a e);
+      statics = map_plain (λ f. default_of f.ty) P.fields (λ f a e. default_no_object f.ty a e);
+      bodies = λ c j b e. let z = then_some (labelled_body P Q F S) (lookup P c j) b e in body_included z.0 b z.2;
+      static_bodies = body_included;
+      super_bodies = λ c x b e. let z = then_some (labelled_body P Q F S) (super_method P c x) b e in body_included z.0 b z.2;
+    }
+
+begins : (P Q : Plain) (F : Facts) (S : Sets) (m : ℕ) → Begins (watched P Q F S) (MadeAs P Q F S) (family P Q F S) m
+begins P Q F S m = record { made = record { sited = λ t e. absurd (cc); typed = λ s e. absurd (cc) }; words = λ b e. refl }
+
+stays_not : (e : End) → Stays e → e ≢ Escaped
+stays_not e s d = subst (λ z. Stays z) d s
+
+pub kinded_covers : (P Q : Plain) (F : Facts) → IsFactsOf P Q F → IsKinded P Q F → CoversEachRun P Q F
+unfolding CoversEachRun IsClosed
+kinded_covers P Q F facts kinded = λ S closed words n. stays_not _ (run_stays (watched P Q F S) (MadeAs P Q F S) (family P Q F S) (all_included P Q F S closed facts kinded) (watches P Q F S) P.main (begins P Q F S P.main) words n)

@@ -1,0 +1,240 @@
+-- Rows, columns, sites and points that the text gives have their numbers.
+use Rattle.std.proofs.Common.{◌≡◌, ℕ, List, [], ◌∷◌, ◌++◌, Option, Some, None, length, refl, sym, ap, subst, arith, ⊎_elim}
+use Rattle.std.specs.Prelude.{◌==◌, ◌&&◌, ◌||◌, nat_lt, nat_eq, not, Bool, true, false, slice_get, Contains}
+use Rattle.std.specs.Option.{is_some}
+use Rattle.std.specs.List.{flat_map}
+use Rattle.std.proofs.lemmas.Bool.{false≢true, eqb-true, eq-eqb}
+use Rattle.std.proofs.lemmas.List.Elements.{Contains-append_left, Contains-append_right}
+use Rattle.kaba_base.specs.declared.Place.{Place}
+use Rattle.java_core.specs.Programs.{Plain, PlainField, PlainMethod, PlainLocal}
+use Rattle.flow_facts.specs.declared.items.ObjectType.{ObjectType}
+use Rattle.flow_facts.specs.declared.items.Operand.{Operand}
+use Rattle.flow_facts.specs.declared.items.RowItem.{RowItem}
+use Rattle.flow_facts.specs.declared.items.RowItem.TheVariants as row
+use Rattle.flow_facts.specs.declared.items.ColumnItem.{ColumnItem}
+use Rattle.flow_facts.specs.declared.items.ColumnItem.TheVariants as column
+use Rattle.flow_facts.specs.declared.items.PointItem.{PointItem}
+use Rattle.flow_facts.specs.declared.items.PointItem.TheVariants as point
+use Rattle.flow_facts.specs.declared.items.Row.{Row}
+use Rattle.flow_facts.specs.declared.items.Column.{Column}
+use Rattle.flow_facts.specs.declared.items.Site.{Site}
+use Rattle.flow_facts.specs.declared.items.Point.{Point}
+use Rattle.flow_facts.specs.declared.items.PointAt.{PointAt}
+use Rattle.flow_facts.specs.Ordered.{by_place, each, when}
+use Rattle.flow_facts.specs.Operands.{object_of, object_if, variable_row, result_in}
+use Rattle.flow_facts.specs.Parts.{Part, parts_of}
+use Rattle.flow_facts.specs.Numbered.{same_row, same_column, same_point, row_if, form_rows, is_first, field_rows, this_rows, result_rows, variable_rows, method_rows, rows_of, field_columns, method_columns, columns_of, row_number, column_number, number_if, form_sites, sites_of, site_number, bodies_of, listed, point_with, point_of_form, own_point, form_points, static_points, variable_points, method_points, Outline, outline_if, points_of, point_number}
+use Rattle.run_cover.proofs.Sites.{one, flat_has, each_has, two_have, place_has}
+use Rattle.run_cover.proofs.Flows.{body_of, body_there}
+use Rattle.run_cover.proofs.Listed.{number_there, when_has}
+
+both : (a b c d : ℕ) → ((a == c) && (b == d)) ≡ true → (a ≡ c) × (b ≡ d)
+both a b c d e = go (a == c) refl e
+  where
+    go : (z : Bool) → (a == c) ≡ z → (z && (b == d)) ≡ true → (a ≡ c) × (b ≡ d)
+    go true h f = (eqb-true a c h, eqb-true b d f)
+    go false h f = absurd (false≢true f)
+
+both_same : (a b : ℕ) → ((a == a) && (b == b)) ≡ true
+both_same a b = rw (eq-eqb a a refl, eq-eqb b b refl) refl
+
+row_exact : (x y : RowItem) → same_row x y ≡ true → x ≡ y
+row_exact (row.Field a) (row.Field b) e = ap (λ z. row.Field z) (eqb-true a b e)
+row_exact (row.This a) (row.This b) e = ap (λ z. row.This z) (eqb-true a b e)
+row_exact (row.Return a) (row.Return b) e = ap (λ z. row.Return z) (eqb-true a b e)
+row_exact (row.Param a i) (row.Param b j) e = let z = both a i b j e in subst (λ w. row.Param a i ≡ row.Param b w) z.1 (ap (λ w. row.Param w i) z.0)
+row_exact (row.Result a) (row.Result b) e = ap (λ z. row.Result z) (eqb-true a b e)
+row_exact (row.Local a i) (row.Local b j) e = let z = both a i b j e in subst (λ w. row.Local a i ≡ row.Local b w) z.1 (ap (λ w. row.Local w i) z.0)
+row_exact (row.New a) (row.New b) e = ap (λ z. row.New z) (eqb-true a b e)
+row_exact (row.Cast a) (row.Cast b) e = ap (λ z. row.Cast z) (eqb-true a b e)
+row_exact (row.Test a) (row.Test b) e = ap (λ z. row.Test z) (eqb-true a b e)
+row_exact _ _ e = absurd (false≢true e)
+
+row_alike : (x : RowItem) → same_row x x ≡ true
+row_alike (row.Field a) = eq-eqb a a refl
+row_alike (row.This a) = eq-eqb a a refl
+row_alike (row.Return a) = eq-eqb a a refl
+row_alike (row.Param a i) = both_same a i
+row_alike (row.Result a) = eq-eqb a a refl
+row_alike (row.Local a i) = both_same a i
+row_alike (row.New a) = eq-eqb a a refl
+row_alike (row.Cast a) = eq-eqb a a refl
+row_alike (row.Test a) = eq-eqb a a refl
+
+pub column_exact : (x y : ColumnItem) → same_column x y ≡ true → x ≡ y
+column_exact (column.Fld a) (column.Fld b) e = ap (λ z. column.Fld z) (eqb-true a b e)
+column_exact (column.Dcl a) (column.Dcl b) e = ap (λ z. column.Dcl z) (eqb-true a b e)
+column_exact (column.Def a) (column.Def b) e = ap (λ z. column.Def z) (eqb-true a b e)
+column_exact (column.Is a) (column.Is b) e = ap (λ z. column.Is (record { 0 = z })) (eqb-true a.0 b.0 e)
+column_exact _ _ e = absurd (false≢true e)
+
+pub column_alike : (x : ColumnItem) → same_column x x ≡ true
+column_alike (column.Fld a) = eq-eqb a a refl
+column_alike (column.Dcl a) = eq-eqb a a refl
+column_alike (column.Def a) = eq-eqb a a refl
+column_alike (column.Is a) = eq-eqb a.0 a.0 refl
+
+point_exact : (x y : PointItem) → same_point x y ≡ true → x ≡ y
+point_exact (point.Static a) (point.Static b) e = ap (λ z. point.Static z) (eqb-true a b e)
+point_exact (point.This a) (point.This b) e = ap (λ z. point.This z) (eqb-true a b e)
+point_exact (point.Local a i) (point.Local b j) e = let z = both a i b j e in subst (λ w. point.Local a i ≡ point.Local b w) z.1 (ap (λ w. point.Local w i) z.0)
+point_exact (point.Result a) (point.Result b) e = ap (λ z. point.Result z) (eqb-true a b e)
+point_exact (point.Expr a i) (point.Expr b j) e = let z = both a i b j e in subst (λ w. point.Expr a i ≡ point.Expr b w) z.1 (ap (λ w. point.Expr w i) z.0)
+point_exact _ _ e = absurd (false≢true e)
+
+point_alike : (x : PointItem) → same_point x x ≡ true
+point_alike (point.Static a) = eq-eqb a a refl
+point_alike (point.This a) = eq-eqb a a refl
+point_alike (point.Local a i) = both_same a i
+point_alike (point.Result a) = eq-eqb a a refl
+point_alike (point.Expr a i) = both_same a i
+
+module _ (P Q : Plain) where
+  -- rows
+  row_there : (x : Row) → Contains (each field_rows 0 Q.fields ++ each (method_rows P Q) 0 Q.methods) x → (r : ℕ) × (row_number P Q x.item ≡ Some r)
+  unfolding row_number rows_of
+  row_there x c = number_there same_row row_exact row_alike (λ r. r.item) (by_place (λ r. r.place.at) (each field_rows 0 Q.fields ++ each (method_rows P Q) 0 Q.methods)) x (place_has (λ r. r.place.at) (each field_rows 0 Q.fields ++ each (method_rows P Q) 0 Q.methods) x c)
+
+  row_typed : (i : RowItem) (p : Place) (o : Option ObjectType) (t : ObjectType) → o ≡ Some t → Contains (row_if i p o) (record { item = i; place = p; ty = t })
+  row_typed i p o t e = subst (λ z. Contains (row_if i p z) (record { item = i; place = p; ty = t })) (sym e) (one (record { item = i; place = p; ty = t }))
+
+  pub field_row : (f : ℕ) (k : PlainField) (t : ObjectType) → slice_get Q.fields f ≡ Some k → object_of k.ty ≡ Some t → (r : ℕ) × (row_number P Q (row.Field f) ≡ Some r)
+  field_row f k t e o =
+      let x : Row = record { item = row.Field f; place = k.tag.place; ty = t } in
+      row_there x (Contains-append_left (each field_rows 0 Q.fields) (each (method_rows P Q) 0 Q.methods) x (each_has field_rows 0 Q.fields f k x e f (omega arith) (row_typed (row.Field f) k.tag.place (object_of k.ty) t o)))
+
+  module _ (m : ℕ) (k : PlainMethod) (stands : slice_get Q.methods m ≡ Some k) where
+    in_method : (x : Row) → Contains (method_rows P Q m k) x → (r : ℕ) × (row_number P Q x.item ≡ Some r)
+    in_method x c = row_there x (Contains-append_right (each field_rows 0 Q.fields) (each (method_rows P Q) 0 Q.methods) x (each_has (method_rows P Q) 0 Q.methods m k x stands m (omega arith) c))
+
+    abbrev heads : List Row
+    heads = this_rows m k ++ result_rows P Q m k
+
+    abbrev parameters : List Row
+    parameters = each (variable_rows P Q m k) 0 k.params
+
+    abbrev locals : List Row
+    locals = each (variable_rows P Q m k) (length k.params) k.locals
+
+    in_heads : (x : Row) → Contains heads x → (r : ℕ) × (row_number P Q x.item ≡ Some r)
+    in_heads x c = in_method x (Contains-append_left (heads ++ parameters ++ locals) (flat_map form_rows (parts_of P m k)) x (Contains-append_left (heads ++ parameters) locals x (Contains-append_left heads parameters x c)))
+
+    pub this_row : is_some k.body ≡ true → k.is_static ≡ false → (r : ℕ) × (row_number P Q (row.This m) ≡ Some r)
+    this_row b s =
+        let x : Row = record { item = row.This m; place = k.tag.place; ty = record { class = record { 0 = k.owner }; dim = 0 } } in
+        in_heads x (Contains-append_left (this_rows m k) (result_rows P Q m k) x (when_has (is_some k.body && not k.is_static) _ x (rw (b, s) refl) (one x)))
+
+    pub result_row : is_first P m k ≡ true → (t : ObjectType) → object_if k.result ≡ Some t → (r : ℕ) × (row_number P Q (result_in k.slot m) ≡ Some r)
+    result_row f t o =
+        let x : Row = record { item = result_in k.slot m; place = k.tag.place; ty = t } in
+        in_heads x (Contains-append_right (this_rows m k) (result_rows P Q m k) x (when_has (is_first P m k) _ x f (row_typed (result_in k.slot m) k.tag.place (object_if k.result) t o)))
+
+    pub own_variable_row : (i : ℕ) (v : PlainLocal) (t : ObjectType) → slice_get (k.params ++ k.locals) i ≡ Some v → object_of v.ty ≡ Some t → (is_first P m k || not (nat_lt i (length k.params))) ≡ true → (r : ℕ) × (row_number P Q (variable_row m k i) ≡ Some r)
+    own_variable_row i v t e o f =
+        let x : Row = record { item = variable_row m k i; place = v.tag.place; ty = t } in
+        in_method x (Contains-append_left (heads ++ parameters ++ locals) (flat_map form_rows (parts_of P m k)) x (⊎_elim
+        (λ d. Contains-append_left (heads ++ parameters) locals x (Contains-append_right heads parameters x d))
+        (λ d. Contains-append_right (heads ++ parameters) locals x d)
+        (two_have (variable_rows P Q m k) 0 (length k.params) k.params k.locals i v x e (omega arith) i (omega arith) (when_has (is_first P m k || not (nat_lt i (length k.params))) _ x f (row_typed (variable_row m k i) v.tag.place (object_of v.ty) t o)))))
+
+    pub form_row : (p : Part) → Contains (parts_of P m k) p → (x : Row) → Contains (form_rows p) x → (r : ℕ) × (row_number P Q x.item ≡ Some r)
+    form_row p c x d = in_method x (Contains-append_right (heads ++ parameters ++ locals) (flat_map form_rows (parts_of P m k)) x (flat_has form_rows (parts_of P m k) p x c d))
+
+    -- sites
+    pub site_there : (p : Part) → Contains (parts_of P m k) p → (x : Site) → Contains (form_sites (row_number P Q) p) x → (s : ℕ) × (site_number P Q x.number ≡ Some s)
+    unfolding site_number sites_of
+    site_there p c x d =
+        number_there nat_eq (λ x y e. eqb-true x y e) (λ x. eq-eqb x x refl) (λ s. s.number) (by_place (λ s. s.place.at) (flat_map (λ b. flat_map (form_sites (row_number P Q)) b.parts) (bodies_of P Q))) x
+        (place_has (λ s. s.place.at) (flat_map (λ b. flat_map (form_sites (row_number P Q)) b.parts) (bodies_of P Q)) x
+        (flat_has (λ b. flat_map (form_sites (row_number P Q)) b.parts) (bodies_of P Q) (body_of P m k) x (body_there P Q m k stands) (flat_has (form_sites (row_number P Q)) (parts_of P m k) p x c d)))
+
+  -- points
+  abbrev statics : List PointAt
+  statics = by_place (λ p. p.place.at) (each static_points 0 Q.fields)
+
+  abbrev outlines : List Outline
+  outlines = by_place (λ o. o.place.at) (each (outline_if P Q) 0 Q.methods)
+
+  abbrev listed_at : PointAt → List Point
+  listed_at p = listed (row_number P Q) p
+
+  point_there : (x : Point) → Contains (flat_map listed_at statics ++ flat_map (λ o. flat_map listed_at o.points) outlines) x → (q : ℕ) × (point_number P Q x.item ≡ Some q)
+  unfolding point_number points_of
+  point_there x c = number_there same_point point_exact point_alike (λ p. p.item) (flat_map listed_at statics ++ flat_map (λ o. flat_map listed_at o.points) outlines) x c
+
+  with_row : (p : PointAt) (r : ℕ) → row_number P Q p.row ≡ Some r → Contains (listed_at p) (record { item = p.item; row = r })
+  with_row p r e = subst (λ z. Contains (point_with p z) (record { item = p.item; row = r })) (sym e) (one (record { item = p.item; row = r }))
+
+  pub static_point : (f : ℕ) (k : PlainField) → slice_get Q.fields f ≡ Some k → k.is_static ≡ true → (r : ℕ) → row_number P Q (row.Field f) ≡ Some r → (q : ℕ) × (point_number P Q (point.Static f) ≡ Some q)
+  static_point f k e s r h =
+      let p : PointAt = record { item = point.Static f; place = k.tag.place; row = row.Field f } in
+      let x : Point = record { item = point.Static f; row = r } in
+      point_there x (Contains-append_left (flat_map listed_at statics) (flat_map (λ o. flat_map listed_at o.points) outlines) x (flat_has listed_at statics p x
+      (place_has (λ p. p.place.at) (each static_points 0 Q.fields) p (each_has static_points 0 Q.fields f k p e f (omega arith) (when_has k.is_static _ p s (one p)))) (with_row p r h)))
+
+  module _ (m : ℕ) (k : PlainMethod) (stands : slice_get Q.methods m ≡ Some k) (body : is_some k.body ≡ true) where
+    in_body : (p : PointAt) (r : ℕ) → row_number P Q p.row ≡ Some r → Contains (method_points P Q m k) p → (q : ℕ) × (point_number P Q p.item ≡ Some q)
+    in_body p r h c =
+        let o : Outline = record { place = k.tag.place; points = method_points P Q m k } in
+        let x : Point = record { item = p.item; row = r } in
+        point_there x (Contains-append_right (flat_map listed_at statics) (flat_map (λ o. flat_map listed_at o.points) outlines) x (flat_has (λ o. flat_map listed_at o.points) outlines o x
+        (place_has (λ o. o.place.at) (each (outline_if P Q) 0 Q.methods) o (each_has (outline_if P Q) 0 Q.methods m k o stands m (omega arith) (when_has (is_some k.body) _ o body (one o))))
+        (flat_has listed_at (method_points P Q m k) p x c (with_row p r h))))
+
+    abbrev first_points : List PointAt
+    first_points = when (not k.is_static) (record { item = point.This m; place = k.tag.place; row = row.This m } ∷ [])
+
+    abbrev param_points : List PointAt
+    param_points = each (variable_points m k) 0 k.params
+
+    abbrev local_points : List PointAt
+    local_points = each (variable_points m k) (length k.params) k.locals
+
+    abbrev result_points : List PointAt
+    result_points = record { item = point.Result m; place = k.tag.place; row = result_in k.slot m } ∷ []
+
+    abbrev expr_points : List PointAt
+    expr_points = by_place (λ p. p.place.at) (flat_map form_points (parts_of P m k))
+
+    pub this_point : k.is_static ≡ false → (r : ℕ) → row_number P Q (row.This m) ≡ Some r → (q : ℕ) × (point_number P Q (point.This m) ≡ Some q)
+    this_point s r h =
+        let p : PointAt = record { item = point.This m; place = k.tag.place; row = row.This m } in
+        in_body p r h (Contains-append_left (first_points ++ param_points ++ local_points ++ result_points) expr_points p (Contains-append_left (first_points ++ param_points ++ local_points) result_points p
+        (Contains-append_left (first_points ++ param_points) local_points p (Contains-append_left first_points param_points p (when_has (not k.is_static) _ p (rw s refl) (one p))))))
+
+    pub variable_point : (i : ℕ) (v : PlainLocal) → slice_get (k.params ++ k.locals) i ≡ Some v → (r : ℕ) → row_number P Q (variable_row m k i) ≡ Some r → (q : ℕ) × (point_number P Q (point.Local m i) ≡ Some q)
+    variable_point i v e r h =
+        let p : PointAt = record { item = point.Local m i; place = v.tag.place; row = variable_row m k i } in
+        in_body p r h (Contains-append_left (first_points ++ param_points ++ local_points ++ result_points) expr_points p (Contains-append_left (first_points ++ param_points ++ local_points) result_points p (⊎_elim
+        (λ d. Contains-append_left (first_points ++ param_points) local_points p (Contains-append_right first_points param_points p d))
+        (λ d. Contains-append_right (first_points ++ param_points) local_points p d)
+        (two_have (variable_points m k) 0 (length k.params) k.params k.locals i v p e (omega arith) i (omega arith) (one p)))))
+
+    pub result_point : (r : ℕ) → row_number P Q (result_in k.slot m) ≡ Some r → (q : ℕ) × (point_number P Q (point.Result m) ≡ Some q)
+    result_point r h =
+        let p : PointAt = record { item = point.Result m; place = k.tag.place; row = result_in k.slot m } in
+        in_body p r h (Contains-append_left (first_points ++ param_points ++ local_points ++ result_points) expr_points p (Contains-append_right (first_points ++ param_points ++ local_points) result_points p (one p)))
+
+    -- a form that is a point, where its row stands
+    pub form_point : (p : Part) → Contains (parts_of P m k) p → (x : PointAt) → Contains (form_points p) x → (r : ℕ) → row_number P Q x.row ≡ Some r → (q : ℕ) × (point_number P Q x.item ≡ Some q)
+    form_point p c x d r h = in_body x r h (Contains-append_right (first_points ++ param_points ++ local_points ++ result_points) expr_points x (place_has (λ p. p.place.at) (flat_map form_points (parts_of P m k)) x (flat_has form_points (parts_of P m k) p x c d)))
+
+  row_in_there : (o : Option RowItem) (r : ℕ) → number_if (row_number P Q) o ≡ Some r → (i : RowItem) × (o ≡ Some i) × (row_number P Q i ≡ Some r)
+  row_in_there None r e = absurd (cc)
+  row_in_there (Some i) r e = (i, refl, e)
+
+  pub own_listed : (p : Place) (o : Operand) (i : PointItem) (t : ObjectType) (r : ℕ) → o.point ≡ Some i → o.ty ≡ Some t → number_if (row_number P Q) o.row ≡ Some r → (x : PointAt) × Contains (point_of_form p o) x × (x.item ≡ i) × (row_number P Q x.row ≡ Some r)
+  own_listed p o i t r ei et er =
+      let w = row_in_there o.row r er in
+      let x : PointAt = record { item = i; place = p; row = w.0 } in
+      (x, subst (λ z. Contains (own_point p z o.row o.ty) x) (sym ei) (subst (λ z. Contains (own_point p (Some i) z o.ty) x) (sym w.1) (subst (λ z. Contains (own_point p (Some i) (Some w.0) z) x) (sym et) (one x))), refl, w.2)
+
+  -- columns
+  pub column_there : (x : Column) → Contains (each field_columns 0 Q.fields ++ each (method_columns P Q) 0 Q.methods) x → (c : ℕ) × (column_number P Q x.item ≡ Some c)
+  unfolding column_number columns_of
+  column_there x c = number_there same_column column_exact column_alike (λ c. c.item) (by_place (λ c. c.place.at) (each field_columns 0 Q.fields ++ each (method_columns P Q) 0 Q.methods)) x (place_has (λ c. c.place.at) (each field_columns 0 Q.fields ++ each (method_columns P Q) 0 Q.methods) x c)
+
+  pub field_column : (f : ℕ) (k : PlainField) → slice_get Q.fields f ≡ Some k → k.is_static ≡ false → (c : ℕ) × (column_number P Q (column.Fld f) ≡ Some c)
+  field_column f k e s =
+      let x : Column = record { item = column.Fld f; place = k.tag.place } in
+      column_there x (Contains-append_left (each field_columns 0 Q.fields) (each (method_columns P Q) 0 Q.methods) x (each_has field_columns 0 Q.fields f k x e f (omega arith) (when_has (not k.is_static) _ x (rw s refl) (one x))))

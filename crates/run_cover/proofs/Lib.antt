@@ -1,0 +1,24 @@
+pub mod Truths
+pub mod Lists
+pub mod Held
+pub mod Cover
+pub mod Kinded
+pub mod Sites
+pub mod Flows
+pub mod Calls
+pub mod Included
+pub mod Escapes
+pub mod Listed
+pub mod HasNumbers
+pub mod Untagging
+pub mod HasRows
+pub mod Types
+pub mod TypedParts
+pub mod Found
+pub mod Bodies
+pub mod Cells
+pub mod Unique
+pub mod Covered
+pub mod Programs
+mod Example
+pub mod Solved
