@@ -9,7 +9,7 @@ use Rattle.java_resolve.specs.declared.Form.TheVariants as forms
 use Rattle.java_resolve.specs.declared.Refusal.TheVariants.{NotInProfile}
 use Rattle.java_resolve.specs.declared.flags.Kind.TheVariants as kinds
 use Rattle.java_resolve.specs.declared.flags.Flags.{Flags}
-use Rattle.java_resolve.specs.declared.names.Known.{Known}
+use Rattle.java_resolve.specs.Known.{Known}
 use Rattle.java_resolve.specs.Answers.{run}
 use Rattle.java_resolve.specs.Classes.{flags_of}
 use Rattle.java_resolve.specs.Members.{Members, head_step, is_wrong_body, field_step, member_step, interface_step, decl_step, no_members, members_of}
@@ -19,7 +19,7 @@ use Rattle.java_resolve.specs.Conditions as conditions
 use Rattle.java_resolve.proofs.Sees.{Tells, tell, turn}
 use Rattle.java_resolve.proofs.Runs.{run-tells, stands-at, member-at}
 use Rattle.java_resolve.proofs.KnownTypes.{AreKnown}
-use Rattle.java_resolve.proofs.Modifiers.{FlagsAre, NoStatic, flags-fit, flags-tells}
+use Rattle.java_resolve.proofs.Modifiers.{FlagsAre, NoStatic, AreFit, flags-fit, flags-tells}
 use Rattle.java_resolve.proofs.KnownMembers.{AreMembers, field-tells, head-tells, fields_from-append, methods_from-append}
 
 fields_of-push : (c : ℕ) (xs : List MemberTree) (x : MemberTree) (ys : List MemberTree) → fields_of c (xs ++ x ∷ ys) ≡ fields_of c xs ++ (field_member c x ++ fields_of c ys)
@@ -69,20 +69,20 @@ module _ (tree : List DeclTree) (known : List Known) (are : AreKnown tree known)
       → AreAll fs ms m → Tells (AreAll (fs ++ field_member c x) (ms ++ method_member c a x)) (ConditionAt tree) (member_step known c a m x)
   member-tells c a fs frest ms mrest (FieldTree mods u n p) m e f h =
       let x : FieldAt = record { owner = c; mods = mods; type = u; name = n; place = p } in
-      tell (AreAll (fs ++ x ∷ []) (ms ++ [])) (ConditionAt tree) (flags_of kinds.Field mods) _ (flags-tells tree kinds.Field mods (conditions.of_field {f = x} (member-at (fields_in tree) (length fs) x (stands-at fs x frest e))))
-      (λ g hg. turn (field_step known c m g u n p) (field-tells tree known are fs frest x ms m g e hg h) (λ m k. subst (λ z. AreAll (fs ++ x ∷ []) z m) (sym (append-nil ms)) k) (λ r q. q))
+      tell (AreAll (fs ++ x ∷ []) (ms ++ [])) (ConditionAt tree) (flags_of kinds.Field mods) _ (flags-fit tree kinds.Field mods (conditions.of_field {f = x} (member-at (fields_in tree) (length fs) x (stands-at fs x frest e))))
+      (λ g hg. turn (field_step known c m g u n p) (field-tells tree known are fs frest x ms m g e hg.0 hg.2 h) (λ m k. subst (λ z. AreAll (fs ++ x ∷ []) z m) (sym (append-nil ms)) k) (λ r q. q))
       (λ r q. q)
   member-tells c a fs frest ms mrest (MethodTree hd body p) m e f h =
       let x : MethodAt = record { owner = c; kind = kinds.Method; in_abstract = a; head = hd; body = body } in
       tell (AreAll (fs ++ []) (ms ++ x ∷ [])) (ConditionAt tree) (flags_of kinds.Method hd.mods) _ (flags-fit tree kinds.Method hd.mods (of_method {m = x} (member-at (methods_in tree) (length ms) x (stands-at ms x mrest f))))
-      (λ g hg. go x refl g hg.0 hg.1 (is_wrong_body a g.is_abstract (is_some body)) refl f)
+      (λ g hg. go x refl g hg.0 hg.1 hg.2 (is_wrong_body a g.is_abstract (is_some body)) refl f)
       (λ r q. q)
     where
-      go : (x : MethodAt) → x.kind ≡ kinds.Method → (g : Flags) → FlagsAre x.head.mods g → NoStatic kinds.Method g → (b : Bool) → is_wrong_body x.in_abstract g.is_abstract (is_some x.body) ≡ b → methods_in tree ≡ ms ++ x ∷ mrest
+      go : (x : MethodAt) → x.kind ≡ kinds.Method → (g : Flags) → FlagsAre x.head.mods g → NoStatic kinds.Method g → AreFit kinds.Method x.head.mods → (b : Bool) → is_wrong_body x.in_abstract g.is_abstract (is_some x.body) ≡ b → methods_in tree ≡ ms ++ x ∷ mrest
           → Tells (AreAll (fs ++ []) (ms ++ x ∷ [])) (ConditionAt tree) (if b then Err (NotInProfile forms.Body x.head.place) else head_step known x.owner m x.head g)
-      go x k g hg fit true w f = wrong_body (member-at (methods_in tree) (length ms) x (stands-at ms x mrest f)) (wrong x g.is_abstract (sym hg.abstract) k w)
-      go x k g hg fit false w f =
-          turn (head_step known x.owner m x.head g) (head-tells tree known are fs ms mrest x m g f hg (subst (λ z. NoStatic z g) (sym k) fit) (right x g.is_abstract (sym hg.abstract) w) h) (λ m k. subst (λ z. AreAll z (ms ++ x ∷ []) m) (sym (append-nil fs)) k) (λ r q. q)
+      go x k g hg static fit true w f = wrong_body (member-at (methods_in tree) (length ms) x (stands-at ms x mrest f)) (wrong x g.is_abstract (sym hg.abstract) k w)
+      go x k g hg static fit false w f =
+          turn (head_step known x.owner m x.head g) (head-tells tree known are fs ms mrest x m g f hg (subst (λ z. NoStatic z g) (sym k) static) (subst (λ z. AreFit z x.head.mods) (sym k) fit) (right x g.is_abstract (sym hg.abstract) w) h) (λ m k. subst (λ z. AreAll z (ms ++ x ∷ []) m) (sym (append-nil fs)) k) (λ r q. q)
 
   -- the members of a class
   class-tells : (c : ℕ) (a : Bool) (xs : List MemberTree) (fs frest : List FieldAt) (ms mrest : List MethodAt) (m : Members) → fields_in tree ≡ fs ++ (fields_of c xs ++ frest) → methods_in tree ≡ ms ++ (methods_of c a xs ++ mrest)
@@ -123,7 +123,7 @@ module _ (tree : List DeclTree) (known : List Known) (are : AreKnown tree known)
           inside ms (heads_of c hs) mrest (heads_of c done) (n ∷ []) (heads_of c rest) f (ap (heads_of c) at ∙ map-append (λ h. record { owner = c; kind = kinds.Head; in_abstract = true; head = h; body = None }) done (x ∷ rest)) in
           tell (AreAll fs (ms ++ heads_of c (done ++ x ∷ []))) (ConditionAt tree) (flags_of kinds.Head x.mods) _
           (flags-fit tree kinds.Head x.mods (of_method {m = n} (member-at (methods_in tree) (length (ms ++ heads_of c done)) n (stands-at (ms ++ heads_of c done) n (heads_of c rest ++ mrest) stands))))
-          (λ g hg. turn (head_step known c m x g) (head-tells tree known are fs (ms ++ heads_of c done) (heads_of c rest ++ mrest) n m g stands hg.0 hg.1 (no_wrong x) k)
+          (λ g hg. turn (head_step known c m x g) (head-tells tree known are fs (ms ++ heads_of c done) (heads_of c rest ++ mrest) n m g stands hg.0 hg.1 hg.2 (no_wrong x) k)
           (λ m q. subst (λ z. AreAll fs z m) (append_assoc ms (heads_of c done) (n ∷ []) ∙ ap (λ z. ms ++ z) (sym (map-append (λ h. record { owner = c; kind = kinds.Head; in_abstract = true; head = h; body = None }) done (x ∷ [])))) q) (λ r q. q))
           (λ r q. q)
 

@@ -13,7 +13,7 @@ use Rattle.java_tree.specs.Syntax.{DeclTree}
 use Rattle.java_core.specs.declared.TyBase.{TyBase}
 use Rattle.java_core.specs.Programs.{Plain, PlainMethod, PlainSlot, PlainClass}
 use Rattle.java_core.specs.Formed.{IsMain}
-use Rattle.java_resolve.specs.declared.names.Known.{Known}
+use Rattle.java_resolve.specs.Known.{Known}
 use Rattle.java_resolve.specs.declared.tables.Heading.{Heading}
 use Rattle.java_resolve.specs.Answers.{with}
 use Rattle.java_resolve.specs.Classes.{known_of, classes_of, above_of, loops_of}
@@ -124,32 +124,3 @@ module _ (tree : List DeclTree) (known : List Known) (are : AreKnown tree known)
           main_is = main-of w.4 (subst (λ z. IsMain (method_outline (types_in tree) z)) (same_some (sym first.stands ∙ w.3)) first.is);
           main_first = λ j k e is. let v = whole j k e in first-least (λ h. h.is_main) m.headings i j v.0 first.first v.2 ((members.heads j v.0 v.1 v.2 v.3).no_main (of-main v.4 is));
         }
-
--- the program of a tree, or the condition that holds of it
-pub resolved-tells : (tree : List DeclTree) → IsFormedTree tree → Tells (Resolves tree) (ConditionAt tree) (resolved tree)
-unfolding resolved
-resolved-tells tree formed =
-    tell (Resolves tree) (ConditionAt tree) (known_of tree) _ (known-tells tree)
-    (λ known are. tell (Resolves tree) (ConditionAt tree) (classes_of known tree) _ (classes-tells tree known are)
-    (λ cs classes. subst (λ z. Tells (Resolves tree) (ConditionAt tree) (with (above_of z) (λ rows. with (loops_of rows z) (λ _. with (members_of known tree) (λ m. with_bodies tree known z rows m)))))
-    (sym (classes-outline tree known are cs classes)) (from-classes known are cs classes))
-    (λ r q. q))
-    (λ r q. q)
-  where
-    from-classes : (known : List Known) (are : AreKnown tree known) (cs : List PlainClass) (classes : AreClasses tree known are tree cs)
-        → Tells (Resolves tree) (ConditionAt tree) (with (above_of (outline tree).classes) (λ rows. with (loops_of rows (outline tree).classes) (λ _. with (members_of known tree) (λ m. with_bodies tree known (outline tree).classes rows m))))
-    from-classes known are cs classes =
-        tell (Resolves tree) (ConditionAt tree) (above_of (outline tree).classes) _ (above-tells (outline tree) (length tree) (classes-count tree))
-        (λ rows above. tell (Resolves tree) (ConditionAt tree) (loops_of rows (outline tree).classes) _ (loops-tells tree rows above)
-        (λ l loops. tell (Resolves tree) (ConditionAt tree) (members_of known tree) _ (members-tells tree known are)
-        (λ m members. tell (Resolves tree) (ConditionAt tree) (clashes_of rows m.headings) _ (clashes-tells tree known are rows above (fields_in tree) m members)
-        (λ c clash. tell (Resolves tree) (ConditionAt tree) (main_of m.headings) _ (main-tells tree known are rows above (fields_in tree) m members)
-        (λ i main. tell (Resolves tree) (ConditionAt tree) (resolved_by.methods_of (resolved_by.table known (outline tree).classes rows m) tree) _
-        (bodies-tells tree known are (resolved_by.table known (outline tree).classes rows m) refl (sees-outline tree known are rows above m members) formed)
-        (λ ks w. program-resolves tree known are cs classes m members rows above ks w.0 w.1 i main)
-        (λ r q. q))
-        (λ r q. q))
-        (λ r q. q))
-        (λ r q. q))
-        (λ r q. q))
-        (λ r q. absurd q)

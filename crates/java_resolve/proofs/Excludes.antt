@@ -24,7 +24,7 @@ use Rattle.java_resolve.proofs.Sees.{bound-local, same_some}
 
 module _ (O : Plain) (here : Here) (scope : List Bound) where
   -- two nearest fields of a name are one
-  one-nearest : {n : List ℕ} {f g : ℕ} {h k : PlainField} → IsNearestField O here.owner n f h → IsNearestField O here.owner n g k → h ≡ k
+  pub one-nearest : {n : List ℕ} {f g : ℕ} {h k : PlainField} → IsNearestField O here.owner n f h → IsNearestField O here.owner n g k → h ≡ k
   one-nearest {n} {f} {g} {h} {k} a b = same_some (sym a.stands ∙ ap (slice_get O.fields) (same_some (sym a.nearest ∙ b.nearest)) ∙ b.stands)
 
   -- a variable is no class's name
@@ -56,7 +56,7 @@ module _ (O : Plain) (here : Here) (scope : List Bound) where
   no-some : {A : Type 0} {o : Option A} {a : A} → o ≡ Some a → o ≡ None → ⊥
   no-some e f = cc (sym f ∙ e)
 
-  type-holds : (u : TypeName) (b : TypeBase) (x : TyBase) (r : Refusal) → u.base ≡ b → MeansBase O b x → IsUnknownType O u r → ⊥
+  pub type-holds : (u : TypeName) (b : TypeBase) (x : TyBase) (r : Refusal) → u.base ≡ b → MeansBase O b x → IsUnknownType O u r → ⊥
   type-holds u bases.Int x r e an_int (no_such_type f g h) = cc (sym e ∙ f)
   type-holds u bases.Boolean x r e a_boolean (no_such_type f g h) = cc (sym e ∙ f)
   type-holds u bases.Char x r e a_char (no_such_type f g h) = cc (sym e ∙ f)

@@ -14,10 +14,10 @@ use Rattle.java_resolve.specs.Answers.{IsRefused}
 use Rattle.java_resolve.specs.Resolved.{resolved}
 use Rattle.java_resolve.specs.Resolves.{Resolves}
 use Rattle.java_resolve.specs.Conditions.{ConditionAt}
-use Rattle.java_resolve.specs.Causes.{IsCause}
+use Rattle.java_resolve.specs.Causes.{IsCause, HasNoCondition}
 use Rattle.java_resolve.proofs.Sees.{Tells}
 use Rattle.java_resolve.proofs.Bare.{bare_program, bare-program}
-use Rattle.java_resolve.proofs.FormedWhole.{ResolvesFormed, resolved-formed}
+use Rattle.java_resolve.proofs.Whole.{ResolvesFormed, resolved-formed}
 
 told : (tree : List DeclTree) (o : Result Plain Refusal) → IsFormedTree tree → resolved tree ≡ o → Tells (ResolvesFormed tree) (ConditionAt tree) o
 told tree o g e = subst (Tells (ResolvesFormed tree) (ConditionAt tree)) e (resolved-formed tree g)
@@ -27,6 +27,9 @@ resolves_ok tree p g e = (told tree (Ok (program_of at_place p)) g e).resolves
 
 pub formed_ok : (tree : List DeclTree) (p : Program) → IsFormedTree tree → resolved tree ≡ Ok (program_of at_place p) → AreCounted (program_of no_place p) → IsFormed (program_of no_place p)
 formed_ok tree p g e c = subst IsFormed (bare-program p) ((told tree (Ok (program_of at_place p)) g e).formed (subst AreCounted (sym (bare-program p)) c))
+
+pub none_ok : (tree : List DeclTree) (p : Program) → IsFormedTree tree → resolved tree ≡ Ok (program_of at_place p) → HasNoCondition tree
+none_ok tree p g e = (told tree (Ok (program_of at_place p)) g e).none
 
 pub cause : (tree : List DeclTree) (r : Refusal) → IsFormedTree tree → IsRefused r (resolved tree) → IsCause tree r
 cause tree (refusals.Unknown n p) g e = told tree (Err (refusals.Unknown n p)) g e

@@ -14,7 +14,7 @@ use Rattle.java_core.specs.Classes.{own_field_of, field_of, is_field_of}
 use Rattle.java_core.specs.Formed.{IsType, IsVariableName, variables_of, IsFormedField, numbers_below}
 use Rattle.java_core.proofs.Positions.{position-passes}
 use Rattle.java_core.proofs.Subclasses.{nearest_of-nearest}
-use Rattle.java_resolve.specs.declared.names.Known.{Known}
+use Rattle.java_resolve.specs.Known.{Known}
 use Rattle.java_resolve.specs.Tables.{local_of}
 use Rattle.java_resolve.specs.Members.{Members}
 use Rattle.java_resolve.specs.Resolved.{program}

@@ -13,7 +13,7 @@ use Rattle.java_core.specs.Trees.{Sts}
 use Rattle.java_core.specs.Programs.{Plain, PlainClass, PlainMethod, PlainLocal}
 use Rattle.java_core.specs.Types.{types_of}
 use Rattle.java_core.specs.Formed.{IsFormedLocal, IsFormedMethod, IsInSlot, HasNoTwice, numbers_below, IsKnownResult, FormedSts}
-use Rattle.java_resolve.specs.declared.names.Known.{Known}
+use Rattle.java_resolve.specs.Known.{Known}
 use Rattle.java_resolve.specs.Members.{Members}
 use Rattle.java_resolve.specs.Resolved.{program}
 use Rattle.java_resolve.specs.Resolved as resolved_by

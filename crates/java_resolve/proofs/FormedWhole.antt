@@ -9,7 +9,7 @@ use Rattle.java_core.specs.Classes.{IsSubclass}
 use Rattle.java_core.specs.Types.{types_of}
 use Rattle.java_core.specs.Formed.{HasNoTwice, IsFormedSlot, IsFormedMethod, IsMain, AreCounted, IsFormed}
 use Rattle.java_resolve.specs.declared.Refusal.TheVariants.{Overload, PrivateReused}
-use Rattle.java_resolve.specs.declared.names.Known.{Known}
+use Rattle.java_resolve.specs.Known.{Known}
 use Rattle.java_resolve.specs.declared.tables.Heading.{Heading}
 use Rattle.java_resolve.specs.Answers.{with}
 use Rattle.java_resolve.specs.Tables.{bit_in, row_in, is_above}
@@ -62,7 +62,7 @@ same-slots (Some s) None e = absurd (false≢true e)
 module _ (tree : List DeclTree) (formed : IsFormedTree tree) (known : List Known) (are : AreKnown tree known) (cs : List PlainClass) (classes : AreClasses tree known are tree cs) (number : ℕ) (loops : NoLoops tree (outline tree).classes number)
     (m : Members) (members : AreMembers tree known are (fields_in tree) (methods_in tree) m) (rows : List (List Bool)) (above : AreAbove (outline tree) rows) (ks : List PlainMethod) (n : ℕ)
     (written : BodiesAre tree known are (resolved_by.table known (outline tree).classes rows m) refl (sees-outline tree known are rows above m members) (methods_in tree) (ks, n)) (main : ℕ) where
-  abbrev PP : Plain
+  abbrev pub PP : Plain
   PP = P tree formed known are cs classes number loops m members rows above ks n written main
 
   abbrev RR : Plain
@@ -77,7 +77,7 @@ module _ (tree : List DeclTree) (formed : IsFormedTree tree) (known : List Known
     down h = classes-subclass PP (outline tree) refl (bare-subclass PP h)
 
     -- two methods of one name in a type and its ancestors, the one before the other
-    one-slot : (c i j : ℕ) (H K : PlainMethod) → slice_get ks i ≡ Some H → slice_get ks j ≡ Some K → i < j → IsSubclass (outline tree) c H.owner → IsSubclass (outline tree) c K.owner → H.name ≡ K.name → (H.is_static ≡ false) × (H.slot ≡ K.slot) × (K.is_static ≡ false)
+    pub one-slot : (c i j : ℕ) (H K : PlainMethod) → slice_get ks i ≡ Some H → slice_get ks j ≡ Some K → i < j → IsSubclass (outline tree) c H.owner → IsSubclass (outline tree) c K.owner → H.name ≡ K.name → (H.is_static ≡ false) × (H.slot ≡ K.slot) × (K.is_static ≡ false)
     one-slot c i j H K p q lt u v same = by_private ((a.is_private || b.is_private) && (is_above rows a.owner b.owner || is_above rows b.owner a.owner)) refl (same_slot a.slot b.slot) refl
       where
         wh : (h : Heading) × (x : MethodAt) × (slice_get m.headings i ≡ Some h) × (slice_get (methods_in tree) i ≡ Some x) × (heading_of H ≡ method_outline (types_in tree) x) × (H.slot ≡ h.slot)
@@ -192,37 +192,3 @@ module _ (tree : List DeclTree) (formed : IsFormedTree tree) (known : List Known
       main_first = main-first;
       counted = counted;
     }
-
--- what a tree resolves to is its program, and formed where its numbers fit; else a condition holds of it
-pub record ResolvesFormed (tree : List DeclTree) (P : Plain) : Type 0 where
-  pub resolves : Resolves tree P
-  pub formed : AreCounted (bare_program P) → IsFormed (bare_program P)
-
-pub resolved-formed : (tree : List DeclTree) → IsFormedTree tree → Tells (ResolvesFormed tree) (ConditionAt tree) (resolved tree)
-unfolding resolved
-resolved-formed tree formed =
-    tell (ResolvesFormed tree) (ConditionAt tree) (known_of tree) _ (known-tells tree)
-    (λ known are. tell (ResolvesFormed tree) (ConditionAt tree) (classes_of known tree) _ (classes-tells tree known are)
-    (λ cs classes. subst (λ z. Tells (ResolvesFormed tree) (ConditionAt tree) (with (above_of z) (λ rows. with (loops_of rows z) (λ _. with (members_of known tree) (λ m. with_bodies tree known z rows m)))))
-    (sym (classes-outline tree known are cs classes)) (from-classes known are cs classes))
-    (λ r q. q))
-    (λ r q. q)
-  where
-    from-classes : (known : List Known) (are : AreKnown tree known) (cs : List PlainClass) (classes : AreClasses tree known are tree cs)
-        → Tells (ResolvesFormed tree) (ConditionAt tree) (with (above_of (outline tree).classes) (λ rows. with (loops_of rows (outline tree).classes) (λ _. with (members_of known tree) (λ m. with_bodies tree known (outline tree).classes rows m))))
-    from-classes known are cs classes =
-        tell (ResolvesFormed tree) (ConditionAt tree) (above_of (outline tree).classes) _ (above-tells (outline tree) (length tree) (classes-count tree))
-        (λ rows above. tell (ResolvesFormed tree) (ConditionAt tree) (loops_of rows (outline tree).classes) _ (loops-tells tree rows above)
-        (λ number loops. tell (ResolvesFormed tree) (ConditionAt tree) (members_of known tree) _ (members-tells tree known are)
-        (λ m members. tell (ResolvesFormed tree) (ConditionAt tree) (clashes_of rows m.headings) _ (clashes-tells tree known are rows above (fields_in tree) m members)
-        (λ count clash. tell (ResolvesFormed tree) (ConditionAt tree) (main_of m.headings) _ (main-tells tree known are rows above (fields_in tree) m members)
-        (λ i main. tell (ResolvesFormed tree) (ConditionAt tree) (resolved_by.methods_of (resolved_by.table known (outline tree).classes rows m) tree) _
-        (bodies-tells tree known are (resolved_by.table known (outline tree).classes rows m) refl (sees-outline tree known are rows above m members) formed)
-        (λ ks w. let res = program-resolves tree known are cs classes m members rows above ks w.0 w.1 i main in
-        record { resolves = res; formed = is-formed tree formed known are cs classes number loops m members rows above ks w.0 w.1 i count clash res })
-        (λ r q. q))
-        (λ r q. q))
-        (λ r q. q))
-        (λ r q. q))
-        (λ r q. q))
-        (λ r q. absurd q)

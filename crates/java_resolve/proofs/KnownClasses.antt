@@ -12,17 +12,17 @@ use Rattle.java_core.specs.Formed.{HasNoTwice}
 use Rattle.java_resolve.specs.declared.Refusal.{Refusal}
 use Rattle.java_resolve.specs.declared.Refusal.TheVariants.{Twice, TwoKinds, Unknown}
 use Rattle.java_resolve.specs.declared.flags.Kind.TheVariants as kinds
-use Rattle.java_resolve.specs.declared.names.Known.{Known}
+use Rattle.java_resolve.specs.Known.{Known}
 use Rattle.java_resolve.specs.Names.{number_of, asked, or_unknown}
 use Rattle.java_resolve.specs.Classes.{flags_of, is_face_in, is_face, class_id, parent_tree, has_id, face, faces_of, class_tree, class_step, object_class, classes_of}
-use Rattle.java_resolve.specs.Outline.{name_of, is_interface_of, parent_named, faces_named, types_in, type_named, class_at, id_meant, parent_meant, object, class_outline, outline}
+use Rattle.java_resolve.specs.Outline.{name_of, mods_of, is_interface_of, parent_named, faces_named, types_in, type_named, class_at, id_meant, parent_meant, object, class_outline, outline}
 use Rattle.java_resolve.specs.Meanings.{type_names, class_named}
 use Rattle.java_resolve.specs.Asked.{by_super, a_parent, a_face}
-use Rattle.java_resolve.specs.Conditions.{ConditionAt, unknown, face_as_parent, class_as_face, super_twice, of_type}
+use Rattle.java_resolve.specs.Conditions.{ConditionAt, kind_of, unknown, face_as_parent, class_as_face, super_twice, of_type}
 use Rattle.java_resolve.proofs.Sees.{Tells, tell, same_some}
 use Rattle.java_resolve.proofs.Runs.{run-tells, stands-at, stands-within, earlier-stands, push-cases, member-at, map-stands, stands-map, once-push}
 use Rattle.java_resolve.proofs.KnownTypes.{AreKnown, number_of-named, named-stands}
-use Rattle.java_resolve.proofs.Modifiers.{flags-tells}
+use Rattle.java_resolve.proofs.Modifiers.{AreFit, flags-fit}
 
 -- ---- the outline's classes
 
@@ -62,6 +62,7 @@ pub record HasSupers (tree : List DeclTree) (d : DeclTree) : Type 0 where
   pub parent : (i : Id) → parent_named d ≡ Some i → StandsNamed tree i.name false
   pub faces : (j : ℕ) (i : Id) → slice_get (faces_named d) j ≡ Some i → StandsNamed tree i.name true
   pub once : HasNoTwice (map (id_meant (types_in tree)) (faces_named d))
+  pub fit : AreFit (kind_of d) (mods_of d)
 
 module _ (tree : List DeclTree) (known : List Known) (are : AreKnown tree known) where
   pub known-named : (n : List ℕ) → number_of known n ≡ class_named (outline tree) n
@@ -165,18 +166,18 @@ module _ (tree : List DeclTree) (known : List Known) (are : AreKnown tree known)
   unfolding ClassIs
   class-tells (ClassTree mods n parent faces ms p) at =
       let d = ClassTree mods n parent faces ms p in
-      tell (ClassIs d) (ConditionAt tree) (flags_of kinds.Class mods) _ (flags-tells tree kinds.Class mods (of_type at))
+      tell (ClassIs d) (ConditionAt tree) (flags_of kinds.Class mods) _ (flags-fit tree kinds.Class mods (of_type at))
       (λ f hf. tell (ClassIs d) (ConditionAt tree) (parent_tree known parent) _ (parent-tells d at parent refl)
       (λ c hc. tell (ClassIs d) (ConditionAt tree) (faces_of known faces) _ (faces-tells d at)
-      (λ fs hs. (rw (hf.abstract, hc.0, hs.same) refl, record { parent = hc.1; faces = hs.faces; once = hs.once }))
+      (λ fs hs. (rw (hf.0.abstract, hc.0, hs.same) refl, record { parent = hc.1; faces = hs.faces; once = hs.once; fit = hf.2 }))
       (λ r q. q))
       (λ r q. q))
       (λ r q. q)
   class-tells (InterfaceTree mods n parents hs p) at =
       let d = InterfaceTree mods n parents hs p in
-      tell (ClassIs d) (ConditionAt tree) (flags_of kinds.Interface mods) _ (flags-tells tree kinds.Interface mods (of_type at))
+      tell (ClassIs d) (ConditionAt tree) (flags_of kinds.Interface mods) _ (flags-fit tree kinds.Interface mods (of_type at))
       (λ f hf. tell (ClassIs d) (ConditionAt tree) (faces_of known parents) _ (faces-tells d at)
-      (λ fs hs. (rw (hf.abstract, hs.same) refl, record { parent = λ i e. absurd (cc e); faces = hs.faces; once = hs.once }))
+      (λ fs hs. (rw (hf.0.abstract, hs.same) refl, record { parent = λ i e. absurd (cc e); faces = hs.faces; once = hs.once; fit = hf.2 }))
       (λ r q. q))
       (λ r q. q)
 

@@ -21,7 +21,7 @@ use Rattle.java_core.proofs.Positions.{position-passes}
 use Rattle.java_resolve.specs.declared.Refusal.TheVariants.{Twice, TwoKinds}
 use Rattle.java_resolve.specs.declared.flags.Kind.TheVariants as kinds
 use Rattle.java_resolve.specs.declared.flags.Flags.{Flags}
-use Rattle.java_resolve.specs.declared.names.Known.{Known}
+use Rattle.java_resolve.specs.Known.{Known}
 use Rattle.java_resolve.specs.declared.tables.Heading.{Heading}
 use Rattle.java_resolve.specs.Answers.{with}
 use Rattle.java_resolve.specs.Names.{names_type, type_of}
@@ -36,7 +36,7 @@ use Rattle.java_resolve.specs.Conditions.{ConditionAt, type_as_field, field_twic
 use Rattle.java_resolve.proofs.Sees.{Tells, tell}
 use Rattle.java_resolve.proofs.Runs.{stands-at, stands-within, earlier-stands, push-cases, member-at, map-stands, stands-map, position-from, none-passes}
 use Rattle.java_resolve.proofs.KnownTypes.{AreKnown}
-use Rattle.java_resolve.proofs.Modifiers.{FlagsAre, NoStatic}
+use Rattle.java_resolve.proofs.Modifiers.{FlagsAre, NoStatic, AreFit}
 use Rattle.java_resolve.proofs.Params.{AreParams, declared-tells, type_name-known, params-tells, result-tells}
 use Rattle.java_resolve.proofs.SameTypes.{HasSignature, slot-found, slot-none}
 use Rattle.java_resolve.proofs.SlotsOf.{none_of, one_of, SlotsAre, slots-old, slots-new}
@@ -111,11 +111,13 @@ module _ (tree : List DeclTree) (known : List Known) (are : AreKnown tree known)
     pub body : HasWrongBody m → ⊥
     pub head : m.kind ≡ kinds.Head → is_static m ≡ false
     pub no_static : has_word is_abstract_word m.head.mods ≡ true → is_static m ≡ false
+    pub fit : AreFit m.kind m.head.mods
 
   pub record GoodField (f : FieldAt) : Type 0 where
     pub free : is_type_name (types_in tree) f.name ≡ false
     pub type : Ty
     pub means : Means (outline tree) f.type type
+    pub fit : AreFit kinds.Field f.mods
 
   -- the members so far
   pub record AreMembers (fs : List FieldAt) (ms : List MethodAt) (m : Members) : Type 0 where
@@ -144,9 +146,9 @@ module _ (tree : List DeclTree) (known : List Known) (are : AreKnown tree known)
 
   -- ---- fields
 
-  pub field-tells : (fs rest : List FieldAt) (f : FieldAt) (ms : List MethodAt) (m : Members) (g : Flags) → fields_in tree ≡ fs ++ f ∷ rest → FlagsAre f.mods g → AreMembers fs ms m
+  pub field-tells : (fs rest : List FieldAt) (f : FieldAt) (ms : List MethodAt) (m : Members) (g : Flags) → fields_in tree ≡ fs ++ f ∷ rest → FlagsAre f.mods g → AreFit kinds.Field f.mods → AreMembers fs ms m
       → Tells (AreMembers (fs ++ f ∷ []) ms) (ConditionAt tree) (field_step known f.owner m g f.type f.name f.place)
-  field-tells fs rest f ms m g e hg h =
+  field-tells fs rest f ms m g e hg fit h =
       tell (AreMembers (fs ++ f ∷ []) ms) (ConditionAt tree) (type_of known f.type) _ (declared-tells tree known are f.type (of_field has))
       (λ t k. go t k (names_type known f.name) (type_name-known tree known are f.name) (field_from 0 f.owner f.name m.fields) (field_from-position f.owner f.name m.fields)) (λ r q. q)
     where
@@ -184,7 +186,7 @@ module _ (tree : List DeclTree) (known : List Known) (are : AreKnown tree known)
             field_once = λ i j a b u v s w. once-more fs f (λ a b. (a.owner ≡ b.owner) × (a.name ≡ b.name)) (λ a b s. (sym s.0, sym s.1)) (λ i j a b u v s. h.field_once i j a b u v s.0 s.1)
                 (λ i a u s. let c = in_seen i a u in none-passes (λ x. (x.owner.0 == f.owner) && bytes_eq x.name f.name) m.fields (sym z) i c.0 c.1 (true-both c.0.owner.0 f.owner c.0.name f.name (c.2 ∙ s.0) (c.3 ∙ s.1)))
                 i j a b u v (s, w);
-            good_field = λ i y u. ⊎_elim (λ v. h.good_field i y v) (λ v. subst GoodField v.1 (record { free = sym q; type = t; means = k.1 })) (push-cases fs f i y u);
+            good_field = λ i y u. ⊎_elim (λ v. h.good_field i y v) (λ v. subst GoodField v.1 (record { free = sym q; type = t; means = k.1; fit = fit })) (push-cases fs f i y u);
             count = h.count;
             heads = h.heads;
             method_once = h.method_once;
@@ -212,9 +214,9 @@ module _ (tree : List DeclTree) (known : List Known) (are : AreKnown tree known)
     slots = slots;
   }
 
-  pub head-tells : (fs : List FieldAt) (ms rest : List MethodAt) (n : MethodAt) (m : Members) (f : Flags) → methods_in tree ≡ ms ++ n ∷ rest → FlagsAre n.head.mods f → NoStatic n.kind f → (HasWrongBody n → ⊥) → AreMembers fs ms m
+  pub head-tells : (fs : List FieldAt) (ms rest : List MethodAt) (n : MethodAt) (m : Members) (f : Flags) → methods_in tree ≡ ms ++ n ∷ rest → FlagsAre n.head.mods f → NoStatic n.kind f → AreFit n.kind n.head.mods → (HasWrongBody n → ⊥) → AreMembers fs ms m
       → Tells (AreMembers fs (ms ++ n ∷ [])) (ConditionAt tree) (head_step known n.owner m n.head f)
-  head-tells fs ms rest n m f e hf fit body h = go (method_from 0 n.owner n.head.name m.headings) (method_from-position n.owner n.head.name m.headings)
+  head-tells fs ms rest n m f e hf static fit body h = go (method_from 0 n.owner n.head.name m.headings) (method_from-position n.owner n.head.name m.headings)
     where
       here : slice_get (methods_in tree) (length ms) ≡ Some n
       here = stands-at ms n rest e
@@ -251,8 +253,9 @@ module _ (tree : List DeclTree) (known : List Known) (are : AreKnown tree known)
             params = p;
             result = q.1;
             body = body;
-            head = λ k. sym hf.static ∙ fit.head (ap is_head k);
-            no_static = λ a. sym hf.static ∙ fit.abstract (hf.abstract ∙ a);
+            head = λ k. sym hf.static ∙ static.head (ap is_head k);
+            no_static = λ a. sym hf.static ∙ static.abstract (hf.abstract ∙ a);
+            fit = fit;
           }
 
           map-twice : (ls : List Local) → types_of (map (local_seen at_place) ls) ≡ map (λ l. l.ty) ls

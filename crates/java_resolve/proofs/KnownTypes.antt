@@ -10,7 +10,7 @@ use Rattle.java_tree.specs.Syntax.{DeclTree}
 use Rattle.java_core.specs.Formed.{HasNoTwice}
 use Rattle.java_core.proofs.Positions.{position-passes}
 use Rattle.java_resolve.specs.declared.Refusal.TheVariants.{Twice}
-use Rattle.java_resolve.specs.declared.names.Known.{Known}
+use Rattle.java_resolve.specs.Known.{Known}
 use Rattle.java_resolve.specs.Names.{number_from, number_of}
 use Rattle.java_resolve.specs.Classes.{decl_name, object_known, know_named, know, known_of}
 use Rattle.java_resolve.specs.Outline.{name_of, place_of, is_interface_of, is_known, types_in, type_named}

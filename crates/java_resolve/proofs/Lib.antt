@@ -7,6 +7,7 @@ pub mod StatementSteps
 mod Worked
 pub mod Sees
 pub mod TypeNames
+pub mod TypeTable
 pub mod Expressions
 pub mod Statements
 pub mod Runs
@@ -33,5 +34,11 @@ pub mod FormedMembers
 pub mod FormedMethods
 pub mod BareNumbers
 pub mod FormedWhole
-pub mod Final
 pub mod Excludes
+pub mod ExcludesStatements
+pub mod ExcludesWhole
+pub mod Whole
+pub mod Final
+pub mod Only
+pub mod OnlyStatements
+pub mod OnlyWhole

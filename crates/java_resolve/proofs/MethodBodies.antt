@@ -13,7 +13,7 @@ use Rattle.java_core.specs.Programs.{Plain, PlainMethod, PlainLocal, local_seen}
 use Rattle.java_core.specs.Formed.{variables_of, numbers_body, numbers_methods}
 use Rattle.java_resolve.specs.declared.flags.Kind.TheVariants as kinds
 use Rattle.java_resolve.specs.declared.flags.Flags.{Flags}
-use Rattle.java_resolve.specs.declared.names.Known.{Known}
+use Rattle.java_resolve.specs.Known.{Known}
 use Rattle.java_resolve.specs.Answers.{run}
 use Rattle.java_resolve.specs.Tables.{Table}
 use Rattle.java_resolve.specs.Classes.{flags_of}

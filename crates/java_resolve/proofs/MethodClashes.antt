@@ -14,7 +14,7 @@ use Rattle.java_core.specs.Formed.{IsMain}
 use Rattle.java_core.proofs.Positions.{position-passes}
 use Rattle.java_resolve.specs.declared.Refusal.{Refusal}
 use Rattle.java_resolve.specs.declared.Refusal.TheVariants.{Overload, PrivateReused}
-use Rattle.java_resolve.specs.declared.names.Known.{Known}
+use Rattle.java_resolve.specs.Known.{Known}
 use Rattle.java_resolve.specs.declared.tables.Heading.{Heading}
 use Rattle.java_resolve.specs.Answers.{unless, run}
 use Rattle.java_resolve.specs.Tables.{bit_in, row_in, is_above}

@@ -1,7 +1,8 @@
 -- Modifiers: which stand there, or one that cannot stand.
-use Rattle.std.proofs.Common.{◌≡◌, ℕ, suc, ⊎_elim, Bool, true, false, ◌||◌, List, [], ◌∷◌, ◌++◌, length, Some, Ok, Err, refl, sym, ap, ◌∙◌}
+use Rattle.std.proofs.Common.{◌≡◌, ℕ, zero, suc, ◌<◌, ⊎_elim, Bool, true, false, ◌||◌, List, [], ◌∷◌, ◌++◌, length, Some, Ok, Err, refl, sym, ap, ◌∙◌, subst, arith}
 use Rattle.std.specs.Prelude.{slice_get, if◌then◌else◌}
-use Rattle.std.proofs.lemmas.Bool.{or_cases, false≢true}
+use Rattle.std.proofs.lemmas.Bool.{or_cases, or_left, or_right, false≢true}
+use Rattle.std.proofs.lemmas.List.{length-append}
 use Rattle.kaba_base.specs.declared.words.Keyword.{Keyword}
 use Rattle.kaba_base.specs.declared.words.Keyword.TheVariants as keys
 use Rattle.java_tree.specs.declared.Modifier.{Modifier}
@@ -14,8 +15,8 @@ use Rattle.java_resolve.specs.declared.flags.Flags.{Flags}
 use Rattle.java_resolve.specs.Classes.{no_flags, no_static, is_head, is_field, is_misplaced, noted, flag, flags_of}
 use Rattle.java_resolve.specs.Outline.{has_word, is_public_word, is_private_word, is_abstract_word, is_static_word}
 use Rattle.java_resolve.specs.Conditions.{ConditionAt, HasModifiers, disagree, is_unfit, modifiers_disagree, modifier_unfit}
-use Rattle.java_resolve.proofs.Sees.{Tells, turn}
-use Rattle.java_resolve.proofs.Runs.{run-tells, stands-at, stands-within, earlier-stands, member-at}
+use Rattle.java_resolve.proofs.Sees.{Tells, turn, same_some}
+use Rattle.java_resolve.proofs.Runs.{run-tells, stands-at, stands-within, earlier-stands, push-cases, member-at}
 
 abbrev pub is_protected_word : Keyword → Bool
 is_protected_word keys.Protected = true
@@ -38,6 +39,11 @@ pub record FlagsAre (mods : List Modifier) (f : Flags) : Type 0 where
 pub record NoStatic (kind : Kind) (f : Flags) : Type 0 where
   pub head : is_head kind ≡ true → f.is_static ≡ false
   pub abstract : f.is_abstract ≡ true → f.is_static ≡ false
+
+-- each modifier can stand there, and agrees with those before it
+pub record AreFit (kind : Kind) (mods : List Modifier) : Type 0 where
+  pub fit : (i : ℕ) (m : Modifier) → slice_get mods i ≡ Some m → is_unfit kind m.word ≡ false
+  pub agree : (i j : ℕ) (a b : Modifier) → slice_get mods i ≡ Some a → slice_get mods j ≡ Some b → i < j → disagree a.word b.word ≡ false
 
 -- one more
 word-push : (test : Keyword → Bool) (mods : List Modifier) (m : Modifier) → has_word test (mods ++ m ∷ []) ≡ test m.word || has_word test mods
@@ -110,6 +116,59 @@ static-push kind f keys.Protected e n = record { head = n.head; abstract = n.abs
 static-push kind f keys.Private e n = record { head = n.head; abstract = n.abstract }
 static-push kind f keys.Final e n = record { head = n.head; abstract = n.abstract }
 static-push kind f _ e n = n
+
+-- ---- what can stand
+
+stands-word : (test : Keyword → Bool) (mods : List Modifier) (i : ℕ) (m : Modifier) → slice_get mods i ≡ Some m → test m.word ≡ true → has_word test mods ≡ true
+stands-word test [] i m e t = absurd (cc e)
+stands-word test (x ∷ mods) zero m e t = or_left (test x.word) (has_word test mods) (ap (λ z. test z.word) (same_some e) ∙ t)
+stands-word test (x ∷ mods) (suc i) m e t = or_right (test x.word) (has_word test mods) (stands-word test mods i m e t)
+
+misplaced-unfit : (k : Kind) (f : Flags) (w : Keyword) → is_misplaced k f w ≡ false → is_unfit k w ≡ false
+misplaced-unfit kinds.Class f keys.Static e = (neither (f.is_static || f.is_abstract) true e).1
+misplaced-unfit kinds.Interface f keys.Static e = (neither (f.is_static || f.is_abstract) true e).1
+misplaced-unfit kinds.Field f keys.Abstract e = (neither ((f.is_abstract || f.is_private) || f.is_static) true e).1
+misplaced-unfit kinds.Head f keys.Protected e = (neither f.is_protected true e).1
+misplaced-unfit kinds.Head f keys.Private e = (neither (f.is_private || f.is_abstract) true e).1
+misplaced-unfit kinds.Head f keys.Static e = (neither (f.is_static || f.is_abstract) true e).1
+misplaced-unfit kinds.Head f keys.Final e = (neither f.is_final true e).1
+misplaced-unfit _ f _ e = refl
+
+module _ (kind : Kind) (done : List Modifier) (f : Flags) (h : FlagsAre done f) where
+  -- what stands already disagrees with nothing that fits
+  no-disagree : (v w : Keyword) → ((test : Keyword → Bool) → test v ≡ true → has_word test done ≡ true) → is_misplaced kind f w ≡ false → disagree v w ≡ true → ⊥
+  no-disagree keys.Public keys.Public has e d = false≢true (sym e ∙ h.public ∙ has is_public_word refl)
+  no-disagree keys.Protected keys.Protected has e d = false≢true (sym (neither f.is_protected (is_head kind) e).0 ∙ h.protected ∙ has is_protected_word refl)
+  no-disagree keys.Final keys.Final has e d = false≢true (sym (neither f.is_final (is_head kind) e).0 ∙ h.final ∙ has is_final_word refl)
+  no-disagree keys.Private keys.Private has e d = let a = neither (f.is_private || f.is_abstract) (is_head kind) e in false≢true (sym (neither f.is_private f.is_abstract a.0).0 ∙ h.private ∙ has is_private_word refl)
+  no-disagree keys.Abstract keys.Private has e d = let a = neither (f.is_private || f.is_abstract) (is_head kind) e in false≢true (sym (neither f.is_private f.is_abstract a.0).1 ∙ h.abstract ∙ has is_abstract_word refl)
+  no-disagree keys.Static keys.Static has e d = let a = neither (f.is_static || f.is_abstract) (no_static kind) e in false≢true (sym (neither f.is_static f.is_abstract a.0).0 ∙ h.static ∙ has is_static_word refl)
+  no-disagree keys.Abstract keys.Static has e d = let a = neither (f.is_static || f.is_abstract) (no_static kind) e in false≢true (sym (neither f.is_static f.is_abstract a.0).1 ∙ h.abstract ∙ has is_abstract_word refl)
+  no-disagree keys.Static keys.Abstract has e d =
+      let a = neither ((f.is_abstract || f.is_private) || f.is_static) (is_field kind) e in false≢true (sym (neither (f.is_abstract || f.is_private) f.is_static a.0).1 ∙ h.static ∙ has is_static_word refl)
+  no-disagree keys.Abstract keys.Abstract has e d =
+      let a = neither ((f.is_abstract || f.is_private) || f.is_static) (is_field kind) e in let b = neither (f.is_abstract || f.is_private) f.is_static a.0 in
+      false≢true (sym (neither f.is_abstract f.is_private b.0).0 ∙ h.abstract ∙ has is_abstract_word refl)
+  no-disagree keys.Private keys.Abstract has e d =
+      let a = neither ((f.is_abstract || f.is_private) || f.is_static) (is_field kind) e in let b = neither (f.is_abstract || f.is_private) f.is_static a.0 in
+      false≢true (sym (neither f.is_abstract f.is_private b.0).1 ∙ h.private ∙ has is_private_word refl)
+  no-disagree _ _ has e d = false≢true d
+
+  fit-push : (m : Modifier) → is_misplaced kind f m.word ≡ false → AreFit kind done → AreFit kind (done ++ m ∷ [])
+  fit-push m e g = record {
+    fit = λ i x u. ⊎_elim (λ v. g.fit i x v) (λ v. subst (λ z. is_unfit kind z.word ≡ false) v.1 (misplaced-unfit kind f m.word e)) (push-cases done m i x u);
+    agree = λ i j a b u v lt. ⊎_elim
+        (λ p. ⊎_elim (λ q. g.agree i j a b p q lt) (λ q. subst (λ z. disagree a.word z.word ≡ false) q.1 (last i a p)) (push-cases done m j b v))
+        (λ p. absurd (let s = p.0 in let t = stands-within (done ++ m ∷ []) j b v in let l = length-append done (m ∷ []) in omega (arith, s, t, l, lt)))
+        (push-cases done m i a u);
+  }
+    where
+      last : (i : ℕ) (a : Modifier) → slice_get done i ≡ Some a → disagree a.word m.word ≡ false
+      last i a p = go (disagree a.word m.word) refl
+        where
+          go : (b : Bool) → disagree a.word m.word ≡ b → b ≡ false
+          go true d = absurd (no-disagree a.word m.word (λ test t. stands-word test done i a p t) e d)
+          go false d = refl
 
 -- ---- what cannot stand
 
@@ -207,16 +266,17 @@ module _ (tree : List DeclTree) (kind : Kind) (mods : List Modifier) (has : HasM
         head _ t = absurd (cc t)
     misplaced f h _ e i = absurd (cc i)
 
-  pub flags-fit : Tells (λ f. FlagsAre mods f × NoStatic kind f) (ConditionAt tree) (flags_of kind mods)
-  flags-fit = run-tells (ConditionAt tree) mods (flag kind) (λ done f. FlagsAre done f × NoStatic kind f) step [] mods no_flags refl
-      (record { public = refl; protected = refl; private = refl; abstract = refl; static = refl; final = refl }, record { head = λ h. refl; abstract = λ h. refl })
+  pub flags-fit : Tells (λ f. FlagsAre mods f × NoStatic kind f × AreFit kind mods) (ConditionAt tree) (flags_of kind mods)
+  flags-fit = run-tells (ConditionAt tree) mods (flag kind) (λ done f. FlagsAre done f × NoStatic kind f × AreFit kind done) step [] mods no_flags refl
+      (record { public = refl; protected = refl; private = refl; abstract = refl; static = refl; final = refl }, record { head = λ h. refl; abstract = λ h. refl }, record { fit = λ i m e. absurd (cc e); agree = λ i j a b e f lt. absurd (cc e) })
     where
-      step : (done rest : List Modifier) (m : Modifier) (f : Flags) → mods ≡ done ++ m ∷ rest → FlagsAre done f × NoStatic kind f → Tells (λ f. FlagsAre (done ++ m ∷ []) f × NoStatic kind f) (ConditionAt tree) (flag kind f m)
+      step : (done rest : List Modifier) (m : Modifier) (f : Flags) → mods ≡ done ++ m ∷ rest → FlagsAre done f × NoStatic kind f × AreFit kind done
+          → Tells (λ f. FlagsAre (done ++ m ∷ []) f × NoStatic kind f × AreFit kind (done ++ m ∷ [])) (ConditionAt tree) (flag kind f m)
       step done rest m f at h = go (is_misplaced kind f m.word) refl
         where
-          go : (b : Bool) → is_misplaced kind f m.word ≡ b → Tells (λ f. FlagsAre (done ++ m ∷ []) f × NoStatic kind f) (ConditionAt tree) (if b then Err (NotInProfile forms.Modifier m.place) else Ok (noted f m.word))
+          go : (b : Bool) → is_misplaced kind f m.word ≡ b → Tells (λ f. FlagsAre (done ++ m ∷ []) f × NoStatic kind f × AreFit kind (done ++ m ∷ [])) (ConditionAt tree) (if b then Err (NotInProfile forms.Modifier m.place) else Ok (noted f m.word))
           go true e = misplaced done rest m at f h.0 m.word refl e
-          go false e = (noted-push done f m m.word refl h.0, static-push kind f m.word e h.1)
+          go false e = (noted-push done f m m.word refl h.0, static-push kind f m.word e h.1, fit-push kind done f h.0 m e h.2)
 
   pub flags-tells : Tells (FlagsAre mods) (ConditionAt tree) (flags_of kind mods)
   flags-tells = turn (flags_of kind mods) flags-fit (λ f h. h.0) (λ r q. q)

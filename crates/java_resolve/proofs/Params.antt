@@ -16,7 +16,7 @@ use Rattle.java_core.specs.Programs.{local_seen}
 use Rattle.java_core.specs.Formed.{HasNoTwice}
 use Rattle.java_resolve.specs.declared.Refusal.{Refusal}
 use Rattle.java_resolve.specs.declared.Refusal.TheVariants.{Twice, TwoKinds}
-use Rattle.java_resolve.specs.declared.names.Known.{Known}
+use Rattle.java_resolve.specs.Known.{Known}
 use Rattle.java_resolve.specs.Names.{names_type, type_of}
 use Rattle.java_resolve.specs.Members.{has_local, param, params_of, result_of}
 use Rattle.java_resolve.specs.Outline.{MethodAt, methods_in, types_in, type_named, is_known, is_type_name, type_meant, param_outline, outline}

@@ -17,7 +17,7 @@ use Rattle.java_core.specs.Classes.{IsSubclass, parent_of, first_or, nearest, ow
 use Rattle.java_core.specs.Found.{IsNearest, at_class, above_class}
 use Rattle.java_core.proofs.Positions.{position-map, position-passes, passes-position}
 use Rattle.java_core.proofs.Subclasses.{nearest_of-nearest}
-use Rattle.java_resolve.specs.declared.names.Known.{Known}
+use Rattle.java_resolve.specs.Known.{Known}
 use Rattle.java_resolve.specs.declared.tables.Heading.{Heading}
 use Rattle.java_resolve.specs.Tables as table
 use Rattle.java_resolve.specs.Tables.{Table, parent_in, or_above, nearest_in, nearest_field, own_field, own_method, method_from, met_from, method_met, is_above}

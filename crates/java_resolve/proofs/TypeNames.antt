@@ -9,7 +9,7 @@ use Rattle.java_core.specs.declared.Ty.{Ty}
 use Rattle.java_core.specs.declared.TyBase.{TyBase}
 use Rattle.java_core.specs.Programs.{Plain}
 use Rattle.java_resolve.specs.declared.Refusal.TheVariants.{Unknown}
-use Rattle.java_resolve.specs.declared.names.Known.{Known}
+use Rattle.java_resolve.specs.Known.{Known}
 use Rattle.java_resolve.specs.Names.{number_of, asked, or_unknown, base_of, type_of}
 use Rattle.java_resolve.specs.Outline.{is_text_type, base_meant, type_meant}
 use Rattle.java_resolve.specs.Meanings.{type_names, class_named, Means, MeansBase, an_int, a_boolean, a_char, a_text, a_class}

@@ -9,3 +9,7 @@ use Rattle.java_resolve.specs.Conditions.{ConditionAt}
 abbrev pub IsCause : List DeclTree → Refusal → Type 0
 IsCause tree Memory = Unit {0}
 IsCause tree r = ConditionAt tree r
+
+-- none of the conditions holds
+abbrev pub HasNoCondition : List DeclTree → Type 0
+HasNoCondition tree = (r : Refusal) → ConditionAt tree r → ⊥

@@ -1,3 +1,4 @@
+pub mod Known
 pub mod Answers
 pub mod Names
 pub mod Tables

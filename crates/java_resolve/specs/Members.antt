@@ -17,7 +17,7 @@ use Rattle.java_core.specs.Programs.{PlainSlot, slot_seen}
 use Rattle.java_resolve.specs.declared.Form.TheVariants as forms
 use Rattle.java_resolve.specs.declared.Refusal.{Refusal}
 use Rattle.java_resolve.specs.declared.Refusal.TheVariants.{Twice, TwoKinds, Overload, PrivateReused, NoMain, NotInProfile}
-use Rattle.java_resolve.specs.declared.names.Known.{Known}
+use Rattle.java_resolve.specs.Known.{Known}
 use Rattle.java_resolve.specs.declared.flags.Kind.{Kind}
 use Rattle.java_resolve.specs.declared.flags.Kind.TheVariants as kinds
 use Rattle.java_resolve.specs.declared.flags.Flags.{Flags}

@@ -12,7 +12,7 @@ use Rattle.java_core.specs.declared.TyBase.{TyBase}
 use Rattle.java_core.specs.declared.TyBase.TheVariants as ty
 use Rattle.java_resolve.specs.declared.Refusal.{Refusal}
 use Rattle.java_resolve.specs.declared.Refusal.TheVariants.{Unknown, Twice, TwoKinds}
-use Rattle.java_resolve.specs.declared.names.Known.{Known}
+use Rattle.java_resolve.specs.Known.{Known}
 use Rattle.java_resolve.specs.Answers.{with, unless, run}
 
 -- String and System, which name no class

@@ -8,7 +8,7 @@ use Rattle.java_core.specs.declared.Local.{Local}
 use Rattle.java_core.specs.Trees.{at_place, Sts, no_st}
 use Rattle.java_core.specs.Programs.{PlainClass, PlainLocal, PlainMethod, Plain, local_seen, field_seen, method_seen}
 use Rattle.java_resolve.specs.declared.Refusal.{Refusal}
-use Rattle.java_resolve.specs.declared.names.Known.{Known}
+use Rattle.java_resolve.specs.Known.{Known}
 use Rattle.java_resolve.specs.declared.flags.Kind.{Kind}
 use Rattle.java_resolve.specs.declared.flags.Kind.TheVariants as kinds
 use Rattle.java_resolve.specs.declared.flags.Flags.{Flags}

@@ -4,7 +4,7 @@ use Rattle.std.specs.Str.{bytes_eq, chars}
 use Rattle.kaba_base.specs.declared.Place.{Place}
 use Rattle.kaba_base.specs.declared.ClassId.{ClassId}
 use Rattle.java_core.specs.declared.Field.{Field}
-use Rattle.java_resolve.specs.declared.names.Known.{Known}
+use Rattle.java_resolve.specs.Known.{Known}
 use Rattle.java_resolve.specs.declared.tables.Heading.{Heading}
 use Rattle.java_resolve.specs.declared.tables.Tables.{Tables}
 use Rattle.java_resolve.specs.declared.tables.Bound.{Bound}
@@ -18,7 +18,7 @@ pub record Table : Type 0 where
   pub headings : List Heading
 
 abbrev pub table_of : Tables → Table
-table_of t = record { known = t.known.items; parents = t.parents.items; above = t.above.items; fields = t.fields.items; headings = t.headings.items }
+table_of t = record { known = t.known; parents = t.parents.items; above = t.above.items; fields = t.fields.items; headings = t.headings.items }
 
 -- whether b is at or above a
 abbrev pub bit_in : Option Bool → Bool

@@ -100,8 +100,8 @@ fn method_step(
     ensures { Gives (λ _. methods_seen written.new) result (method_step (table_of tables.now) owner kind (methods_seen written.old) (head_of head.now) (body_seen tree.now)) }
 {
     let flags = flags_of(kind, head.mods.as_slice())?;
-    let params = params_of(alloc, tables.known.as_slice(), head.params.as_slice())?;
-    let outcome = result_of(alloc, tables.known.as_slice(), &head.result)?;
+    let params = params_of(alloc, &tables.known, head.params.as_slice())?;
+    let outcome = result_of(alloc, &tables.known, &head.result)?;
     let here = Here {
         owner,
         is_static: flags.is_static,

@@ -9,77 +9,41 @@ ghost use Rattle.java_tree.specs.Syntax.{decl_of, decls};
 ghost use Rattle.java_core.specs.Trees.{at_place};
 ghost use Rattle.java_core.specs.Programs.{PlainClass, class_seen};
 ghost use Rattle.java_core.specs.declared.Class.{Class};
-ghost use Rattle.java_resolve.specs.declared.names.Known.{Known};
 ghost use Rattle.java_resolve.specs.Answers.{Gives};
-ghost use Rattle.java_resolve.specs.Classes.{know_named, object_class, known_of, is_face, parent_tree, has_id, face, faces_of, class_tree, classes_of, any_above, above_by, row_of, round, above_of, loops_of};
+ghost use Rattle.java_resolve.specs.Classes.{object_class, known_of, parent_tree, has_id, face, faces_of, class_tree, classes_of, any_above, above_by, row_of, round, above_of, loops_of};
 
 use crate::Refusal;
 use crate::flags::{Kind, flags_of};
-use crate::names::{Known, asked, is_apart, number_of};
+use crate::names::{Types, asked};
 use crate::tables::{Row, is_above};
 use java_core::Class;
 use java_tree::{Decl, Id};
 use kaba_base::{ClassId, Name, Place};
 use std::alloc::{AllocError, Global};
 
-/// One type more.
-fn know(
-    alloc: Global,
-    known: &mut Vec<Known>,
-    name: &Name,
-    is_interface: bool,
-    place: Place,
-) -> Result<(), Refusal>
-    ensures { Gives (λ _. known.new.items) result (know_named known.old.items name.now is_interface place) }
-{
-    let apart = is_apart(alloc, name)?;
-    if apart | number_of(known.as_slice(), name).is_some() {
-        return Err(Refusal::Twice(name.copy(alloc)?, place));
-    }
-    known.push(Known {
-        name: name.copy(alloc)?,
-        is_interface,
-    })?;
-    Ok(())
-}
-
 /// The names of all types, `Object` first; `Twice` where one stands again.
-pub fn known_of(alloc: Global, list: &[Decl]) -> Result<Vec<Known>, Refusal>
-    ensures { Gives {A = Vec Known Global} {B = List Known} (λ v. v.items) result (known_of (decls list.now)) }
+pub fn known_of(alloc: Global, list: &[Decl]) -> Result<Types, Refusal>
+    ensures { Gives (λ types. types) result (known_of (decls list.now)) }
 {
-    let mut known = Vec::new(alloc);
-    known.push(Known {
-        name: Name::new(alloc, "Object")?,
-        is_interface: false,
-    })?;
+    let mut known = Types::new(alloc)?;
     for decl in list {
         match decl {
-            Decl::Class { name, place, .. } => know(alloc, &mut known, name, false, *place)?,
-            Decl::Interface { name, place, .. } => know(alloc, &mut known, name, true, *place)?,
+            Decl::Class { name, place, .. } => known.add(alloc, name, false, *place)?,
+            Decl::Interface { name, place, .. } => known.add(alloc, name, true, *place)?,
         }
     }
     Ok(known)
 }
 
-/// Whether the type of this number is an interface.
-fn is_face(known: &[Known], class: u32) -> bool
-    ensures { result ≡ is_face known.now class }
-{
-    match known.get(class as usize) {
-        Some(known) => known.is_interface,
-        None => false,
-    }
-}
-
 /// The superclass: `Object` where none is named.
-fn parent_tree(alloc: Global, known: &[Known], parent: &Option<Id>) -> Result<u32, Refusal>
+fn parent_tree(alloc: Global, known: &Types, parent: &Option<Id>) -> Result<u32, Refusal>
     ensures { Gives (λ k. k) result (parent_tree known.now parent.now) }
 {
     match parent {
         None => Ok(0),
         Some(id) => {
             let class = asked(alloc, known, &id.name, id.place)?;
-            if is_face(known, class) {
+            if known.is_interface(class) {
                 return Err(Refusal::TwoKinds(id.name.copy(alloc)?, id.place));
             }
             Ok(class)
@@ -100,11 +64,11 @@ fn has_id(list: &[ClassId], class: u32) -> bool
 }
 
 /// One interface more.
-fn face(alloc: Global, known: &[Known], faces: &mut Vec<ClassId>, id: &Id) -> Result<(), Refusal>
+fn face(alloc: Global, known: &Types, faces: &mut Vec<ClassId>, id: &Id) -> Result<(), Refusal>
     ensures { Gives (λ _. faces.new.items) result (face known.now faces.old.items id.now) }
 {
     let class = asked(alloc, known, &id.name, id.place)?;
-    if !is_face(known, class) {
+    if !known.is_interface(class) {
         return Err(Refusal::TwoKinds(id.name.copy(alloc)?, id.place));
     }
     if has_id(faces.as_slice(), class) {
@@ -115,7 +79,7 @@ fn face(alloc: Global, known: &[Known], faces: &mut Vec<ClassId>, id: &Id) -> Re
 }
 
 /// The interfaces of a list.
-fn faces_of(alloc: Global, known: &[Known], ids: &Vec<Id>) -> Result<Vec<ClassId>, Refusal>
+fn faces_of(alloc: Global, known: &Types, ids: &Vec<Id>) -> Result<Vec<ClassId>, Refusal>
     ensures { Gives {A = Vec ClassId Global} {B = List ClassId} (λ v. v.items) result (faces_of known.now ids.now.items) }
 {
     let mut faces = Vec::new(alloc);
@@ -126,7 +90,7 @@ fn faces_of(alloc: Global, known: &[Known], ids: &Vec<Id>) -> Result<Vec<ClassId
 }
 
 /// The class or interface of a declaration.
-fn class_tree(alloc: Global, known: &[Known], decl: &Decl) -> Result<Class, Refusal>
+fn class_tree(alloc: Global, known: &Types, decl: &Decl) -> Result<Class, Refusal>
     ensures { Gives {A = Class} {B = PlainClass} (class_seen at_place) result (class_tree known.now (decl_of decl.now)) }
 {
     match decl {
@@ -186,7 +150,7 @@ fn object(alloc: Global) -> Result<Class, AllocError>
 }
 
 /// All classes and interfaces, `Object` first.
-pub fn classes_of(alloc: Global, known: &[Known], list: &[Decl]) -> Result<Vec<Class>, Refusal>
+pub fn classes_of(alloc: Global, known: &Types, list: &[Decl]) -> Result<Vec<Class>, Refusal>
     ensures { Gives {A = Vec Class Global} {B = List PlainClass} (λ v. map (class_seen at_place) v.items) result (classes_of known.now (decls list.now)) }
 {
     let mut classes = Vec::new(alloc);

@@ -89,7 +89,7 @@ fn cast_base(
         TypeBase::Boolean => Ok(TyBase::Boolean),
         TypeBase::Char => Ok(TyBase::Char),
         TypeBase::Named(name) => {
-            let class = asked(alloc, tables.known.as_slice(), name, place)?;
+            let class = asked(alloc, &tables.known, name, place)?;
             Ok(TyBase::Class(ClassId(class)))
         }
     }
@@ -217,7 +217,7 @@ fn static_field_of(
 ) -> Result<u32, Refusal>
     ensures { Gives (λ k. k) result (static_field_of (table_of tables.now) class.now name.now place) }
 {
-    let owner = asked(alloc, tables.known.as_slice(), &class.name, class.place)?;
+    let owner = asked(alloc, &tables.known, &class.name, class.place)?;
     let Some(number) = own_field(tables, owner, name) else {
         return Err(Refusal::Unknown(name.copy(alloc)?, place));
     };
@@ -240,7 +240,7 @@ fn static_method_of(
 ) -> Result<u32, Refusal>
     ensures { Gives (λ k. k) result (static_method_of (table_of tables.now) class.now name.now place) }
 {
-    let owner = asked(alloc, tables.known.as_slice(), &class.name, class.place)?;
+    let owner = asked(alloc, &tables.known, &class.name, class.place)?;
     let Some(number) = own_method(tables, owner, name) else {
         return Err(Refusal::Unknown(name.copy(alloc)?, place));
     };
@@ -382,7 +382,7 @@ pub fn expr(
             new_object(alloc, tables, here, scope, number, class, args, *place)
         }
         Expr::NewArray { ty, size, place } => {
-            let ty = type_of(alloc, tables.known.as_slice(), ty)?;
+            let ty = type_of(alloc, &tables.known, ty)?;
             let own = next(number)?;
             let size = expr(alloc, tables, here, scope, number, size)?;
             Ok(make::create_array(alloc, own, ty, size, *place)?)
@@ -399,7 +399,7 @@ pub fn expr(
             place,
         } => {
             let value = expr(alloc, tables, here, scope, number, value)?;
-            let class = asked(alloc, tables.known.as_slice(), &class.name, class.place)?;
+            let class = asked(alloc, &tables.known, &class.name, class.place)?;
             let own = next(number)?;
             Ok(make::instance_of(alloc, own, value, class, *place)?)
         }
@@ -520,7 +520,7 @@ fn new_object(
 ) -> Result<RExpr, Refusal>
     ensures given { Gives {A = RExpr} {B = Ex × ℕ} (λ e. (core.expr_of at_place e, number.new)) result (walk (table_of tables.now) here scope.now number.old (NewOf class.now (exprs args.now.items) place)) }
 {
-    let class = asked(alloc, tables.known.as_slice(), &class.name, class.place)?;
+    let class = asked(alloc, &tables.known, &class.name, class.place)?;
     let own = next(number)?;
     let args = all(alloc, tables, here, scope, number, args)?;
     Ok(make::create(own, class, args, place))

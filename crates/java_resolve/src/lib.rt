@@ -19,7 +19,7 @@ ghost use Rattle.std.specs.Bool.{OnTrue};
 ghost use Rattle.java_print.specs.Formed.{IsFormedTree};
 ghost use Rattle.java_core.specs.Formed.{AreCounted, IsFormed};
 ghost use Rattle.java_resolve.specs.Resolves.{Resolves};
-ghost use Rattle.java_resolve.specs.Causes.{IsCause};
+ghost use Rattle.java_resolve.specs.Causes.{IsCause, HasNoCondition};
 ghost use Rattle.java_core.specs.Programs.{Plain, program_of, class_seen};
 ghost use Rattle.java_core.specs.declared.Program.{Program};
 ghost use Rattle.java_resolve.specs.Answers.{Gives};
@@ -33,7 +33,7 @@ use java_core::{Class, Program};
 use java_tree::{Decl, Tree};
 use kaba_base::{ClassId, MemberId, Name, Place};
 use members::{Draft, members_of};
-use names::Known;
+use names::Types;
 use std::alloc::{AllocError, AllocFailed, Global};
 use tables::{Row, Tables};
 
@@ -110,12 +110,12 @@ fn parents_of(alloc: Global, classes: &Vec<Class>) -> Result<Vec<Option<ClassId>
 fn with_bodies(
     alloc: Global,
     list: &[Decl],
-    known: Vec<Known>,
+    known: Types,
     classes: Vec<Class>,
     above: Vec<Row>,
     draft: Draft,
 ) -> Result<Program, Refusal>
-    ensures { Gives {A = Program} {B = Plain} (program_of at_place) result (with_bodies (decls list.now) known.items (map (class_seen at_place) classes.items) above.items (members_seen draft)) }
+    ensures { Gives {A = Program} {B = Plain} (program_of at_place) result (with_bodies (decls list.now) known (map (class_seen at_place) classes.items) above.items (members_seen draft)) }
 {
     let _count = clashes_of(alloc, above.as_slice(), &draft.headings)?;
     let main = main_of(&draft.headings)?;
@@ -143,10 +143,10 @@ fn resolve_tree(alloc: Global, tree: &Tree) -> Result<Program, Refusal>
 {
     let list = tree.decls.as_slice();
     let known = known_of(alloc, list)?;
-    let classes = classes_of(alloc, known.as_slice(), list)?;
+    let classes = classes_of(alloc, &known, list)?;
     let above = above_of(alloc, &classes)?;
     let _count = loops_of(alloc, above.as_slice(), &classes)?;
-    let draft = members_of(alloc, known.as_slice(), list)?;
+    let draft = members_of(alloc, &known, list)?;
     with_bodies(alloc, list, known, classes, above, draft)
 }
 
@@ -163,13 +163,15 @@ fn is_counted(program: &Program) -> bool
 }
 
 /// The program of a tree that the grammar gives, each name resolved (Java Language Specification,
-/// 6.3 to 6.5). A refusal comes only where its condition holds of the tree, at the place that it
-/// holds; where several hold, any of them may come. `Memory` comes where memory is short, or where
-/// a number of the program is none of 32 bits.
+/// 6.3 to 6.5). A program comes exactly where no condition of a refusal holds of the tree, `Memory`
+/// aside. A refusal comes only where its condition holds, at the place that it holds; where several
+/// hold, any of them may come. `Memory` comes where memory is short, or where a number of the
+/// program is none of 32 bits.
 pub fn resolve(alloc: Global, tree: &Tree) -> Result<Program, Refusal>
     requires given { IsFormedTree (tree_of tree.now) }
     ensures resolves { IfOk result (λ p. Resolves (tree_of tree.now) (program_of at_place p)) }
     ensures formed { IfOk result (λ p. IsFormed (program_of no_place p)) }
+    ensures no_condition { IfOk result (λ _. HasNoCondition (tree_of tree.now)) }
     ensures refused { IfErr result (λ refusal. IsCause (tree_of tree.now) refusal) }
 {
     match resolve_tree(alloc, tree) {

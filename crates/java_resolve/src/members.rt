@@ -18,7 +18,7 @@ ghost use Rattle.java_resolve.specs.Members.{Members, members_seen, has_local, p
 
 use crate::classes::after;
 use crate::flags::{Flags, Kind, flags_of};
-use crate::names::{Known, is_same, is_text, names_type, type_of};
+use crate::names::{Types, is_same, is_text, names_type, type_of};
 use crate::tables::Heading;
 use crate::{Form, Refusal};
 use java_core::{Field, Local, Slot, Ty, TyBase};
@@ -46,12 +46,7 @@ fn has_local(name: &Name, list: &[Local]) -> bool
 }
 
 /// One parameter more.
-fn param(
-    alloc: Global,
-    known: &[Known],
-    locals: &mut Vec<Local>,
-    one: &Param,
-) -> Result<(), Refusal>
+fn param(alloc: Global, known: &Types, locals: &mut Vec<Local>, one: &Param) -> Result<(), Refusal>
     ensures { Gives (λ _. locals.new.items) result (param known.now locals.old.items one.now) }
 {
     let ty = type_of(alloc, known, &one.ty)?;
@@ -70,7 +65,7 @@ fn param(
 }
 
 /// The parameters of a method.
-pub fn params_of(alloc: Global, known: &[Known], list: &[Param]) -> Result<Vec<Local>, Refusal>
+pub fn params_of(alloc: Global, known: &Types, list: &[Param]) -> Result<Vec<Local>, Refusal>
     ensures { Gives {A = Vec Local Global} {B = List Local} (λ v. v.items) result (params_of known.now list.now) }
 {
     let mut locals = Vec::new(alloc);
@@ -81,11 +76,7 @@ pub fn params_of(alloc: Global, known: &[Known], list: &[Param]) -> Result<Vec<L
 }
 
 /// What a method gives back.
-pub fn result_of(
-    alloc: Global,
-    known: &[Known],
-    ty: &Option<TypeName>,
-) -> Result<Option<Ty>, Refusal>
+pub fn result_of(alloc: Global, known: &Types, ty: &Option<TypeName>) -> Result<Option<Ty>, Refusal>
     ensures { Gives (λ t. t) result (result_of known.now ty.now) }
 {
     match ty {
@@ -239,7 +230,7 @@ fn is_main(
 /// One method more of a class or interface.
 fn head_step(
     alloc: Global,
-    known: &[Known],
+    known: &Types,
     owner: u32,
     draft: &mut Draft,
     head: &Head,
@@ -320,7 +311,7 @@ fn is_wrong_body(in_abstract: bool, is_abstract: bool, body: &Option<Vec<Stmt>>)
 /// One field more of a class.
 fn field_step(
     alloc: Global,
-    known: &[Known],
+    known: &Types,
     owner: u32,
     draft: &mut Draft,
     flags: Flags,
@@ -350,7 +341,7 @@ fn field_step(
 /// One member more of a class.
 fn member_step(
     alloc: Global,
-    known: &[Known],
+    known: &Types,
     owner: u32,
     in_abstract: bool,
     draft: &mut Draft,
@@ -381,7 +372,7 @@ fn member_step(
 /// One method more of an interface.
 fn interface_step(
     alloc: Global,
-    known: &[Known],
+    known: &Types,
     owner: u32,
     draft: &mut Draft,
     head: &Head,
@@ -395,7 +386,7 @@ fn interface_step(
 /// The members of a class.
 fn class_members(
     alloc: Global,
-    known: &[Known],
+    known: &Types,
     owner: u32,
     in_abstract: bool,
     draft: &mut Draft,
@@ -412,7 +403,7 @@ fn class_members(
 /// The methods of an interface.
 fn interface_members(
     alloc: Global,
-    known: &[Known],
+    known: &Types,
     owner: u32,
     draft: &mut Draft,
     list: &Vec<Head>,
@@ -428,7 +419,7 @@ fn interface_members(
 /// The members of one type more, and the number of the next type.
 fn decl_step(
     alloc: Global,
-    known: &[Known],
+    known: &Types,
     owner: u32,
     draft: &mut Draft,
     decl: &Decl,
@@ -446,7 +437,7 @@ fn decl_step(
 }
 
 /// All members of a tree.
-pub fn members_of(alloc: Global, known: &[Known], list: &[Decl]) -> Result<Draft, Refusal>
+pub fn members_of(alloc: Global, known: &Types, list: &[Decl]) -> Result<Draft, Refusal>
     ensures { Gives {A = Draft} {B = Members} members_seen result (members_of known.now (decls list.now)) }
 {
     let mut draft = Draft {

@@ -58,7 +58,7 @@ pub fn clash(
 ) -> Result<Option<Refusal>, AllocError>
     ensures { IfOk result (λ r. r ≡ clash (table_of tables.now) scope.now name.now place) }
 {
-    if names_type(alloc, tables.known.as_slice(), name)? {
+    if names_type(alloc, &tables.known, name)? {
         return Ok(Some(Refusal::TwoKinds(name.copy(alloc)?, place)));
     }
     if local_of(scope, name).is_some() {
@@ -119,7 +119,7 @@ fn declaration(
 ) -> Result<RStmt, Refusal>
     ensures given { Gives {A = RStmt} {B = St × List Bound × State} (λ s. (core.stmt_of at_place s, scope.new.items, state_of body.new)) result (walk_local (table_of tables.now) here scope.old.items (state_of body.old) ty.now name.now (value_of first.now) place) }
 {
-    let ty = type_of(alloc, tables.known.as_slice(), ty)?;
+    let ty = type_of(alloc, &tables.known, ty)?;
     if let Some(refusal) = clash(alloc, tables, scope.as_slice(), name, place)? {
         return Err(refusal);
     }

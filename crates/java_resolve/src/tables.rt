@@ -4,7 +4,7 @@
 ghost use Rattle.std.specs.Prelude.{◌≡◌, slice_get};
 ghost use Rattle.java_resolve.specs.Tables.{table_of, bit_in, is_above, parent_of, own_field, nearest_field, own_method, method_met, local_of};
 
-use crate::names::{Known, is_same};
+use crate::names::{Types, is_same};
 use java_core::Field;
 use kaba_base::{ClassId, Name, Place};
 use std::marker::Model;
@@ -25,7 +25,7 @@ pub struct Heading {
 /// All declarations, without the bodies of methods. The number of each is its place in its list.
 #[derive(Drop)]
 pub struct Tables {
-    pub known: Vec<Known>,
+    pub known: Types,
     /// The superclass of each class; that of an interface is `Object`.
     pub parents: Vec<Option<ClassId>>,
     /// For each class which ones are at or above it.

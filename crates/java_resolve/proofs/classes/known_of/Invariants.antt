@@ -6,4 +6,4 @@ use Rattle.java_resolve.proofs.classes.known_of.Given as goal
 
 -- the types so far, and then the rest
 abbrev pub invariant-loop-decl : goal.invariant-loop-decl
-invariant-loop-decl l = run know l.known.items (decls (drop l.decl-index l.list)) ≡ known_of (decls l.list)
+invariant-loop-decl l = run know l.known (decls (drop l.decl-index l.list)) ≡ known_of (decls l.list)
