@@ -1,21 +1,28 @@
--- The accesses of a program's facts: each names a field or a declaration.
+-- The accesses of a program's facts: each names a field or a declaration, of a class at or above the row's.
 use Rattle.std.proofs.Common.{◌≡◌, ℕ, List, Option, Some, None, refl, sym, ap, subst, arith, inl, inr}
 use Rattle.std.specs.Prelude.{◌⊎◌, Contains, All, slice_get}
 use Rattle.kaba_base.specs.declared.Place.{Place}
 use Rattle.java_core.specs.Programs.{Plain, PlainMethod}
-use Rattle.fact_model.specs.Items.{column_kind}
+use Rattle.java_core.specs.Typing.{IsTyped}
+use Rattle.java_core.specs.Formed.{IsFormed}
+use Rattle.fact_model.specs.Items.{row_class, column_class, column_kind}
+use Rattle.fact_model.specs.Classes.{IsBelow}
 use Rattle.fact_model.specs.declared.facts.Facts.{Facts}
 use Rattle.fact_model.specs.declared.facts.AccessInfo.{AccessInfo}
 use Rattle.fact_model.specs.declared.facts.ColKind.TheVariants.{Fld, Dcl}
 use Rattle.flow_facts.specs.declared.items.Operand.{Operand}
 use Rattle.flow_facts.specs.declared.items.ColumnItem.{ColumnItem}
 use Rattle.flow_facts.specs.declared.items.ColumnItem.TheVariants as column
-use Rattle.flow_facts.specs.Parts.{Part, a_load, an_element, a_creation, a_call, a_static_call, a_super_call, a_test, a_pair, a_set, a_store, an_element_store, a_return, parts_of}
+use Rattle.flow_facts.specs.Parts.{Part, a_load, a_call, a_store, parts_of}
 use Rattle.flow_facts.specs.Numbered.{column_number}
 use Rattle.flow_facts.specs.Lists.{row_at, accessed, accesses_of}
 use Rattle.flow_facts.specs.Facts.{numbers, column_info, IsFactsOf}
 use Rattle.facts_order.proofs.Listed.{one_from, all_of}
 use Rattle.facts_order.proofs.Columns.{numbered_column}
+use Rattle.facts_order.proofs.Pairs.{IsPlaced}
+use Rattle.facts_order.proofs.Classes.{subclass_below}
+use Rattle.facts_order.proofs.Fitted.{IsBase, IsFitted, part_fitted}
+use Rattle.facts_order.proofs.Owners.{row_of_operand}
 use Rattle.facts_order.proofs.Tests.{gathered_from}
 
 accessed_from : (r c : Option ℕ) (x : AccessInfo) → Contains (accessed r c) x → (r ≡ Some x.row.0) × (c ≡ Some x.column.0)
@@ -42,18 +49,7 @@ module _ (P Q : Plain) where
   access_of (a_load p b (Some f) o) x c = let z = accessed_from (row_at (numbers P Q) b) (column_number P Q (column.Fld f)) x c in record { base = b; member = column.Fld f; access = a_read; row_is = z.0; column_is = z.1 }
   access_of (a_store p b (Some f) o) x c = let z = accessed_from (row_at (numbers P Q) b) (column_number P Q (column.Fld f)) x c in record { base = b; member = column.Fld f; access = a_write; row_is = z.0; column_is = z.1 }
   access_of (a_call p b s (Some d) es o) x c = let z = accessed_from (row_at (numbers P Q) b) (column_number P Q (column.Dcl d)) x c in record { base = b; member = column.Dcl d; access = a_use; row_is = z.0; column_is = z.1 }
-  access_of (a_load p b None o) x c = absurd (omega (arith, c.1))
-  access_of (a_store p b None o) x c = absurd (omega (arith, c.1))
-  access_of (a_call p b s None es o) x c = absurd (omega (arith, c.1))
-  access_of (an_element p b q) x c = absurd (omega (arith, c.1))
-  access_of (a_creation p u q) x c = absurd (omega (arith, c.1))
-  access_of (a_static_call p d es q) x c = absurd (omega (arith, c.1))
-  access_of (a_super_call p d es q) x c = absurd (omega (arith, c.1))
-  access_of (a_test p d q) x c = absurd (omega (arith, c.1))
-  access_of (a_pair q l r) x c = absurd (omega (arith, c.1))
-  access_of (a_set v q) x c = absurd (omega (arith, c.1))
-  access_of (an_element_store p b q) x c = absurd (omega (arith, c.1))
-  access_of (a_return q) x c = absurd (omega (arith, c.1))
+  access_of _ x c = absurd (omega (arith, c.1))
 
   module _ (F : Facts) (facts : IsFactsOf P Q F) where
     pub record AccessPart (x : AccessInfo) : Type 0 where
@@ -79,3 +75,17 @@ module _ (P Q : Plain) where
         (λ x c. let z = access_part x c in
         let n = numbered_column P Q F facts z.has.member x.column.0 z.has.column_is in
         subst (λ i. (i.kind ≡ Fld) ⊎ (i.kind ≡ Dcl)) (sym n.1) (member_kind z.has.base z.has.member z.part z.has.access))
+
+    -- the row of an access is at or below the member's class
+    module _ (placed : IsPlaced P Q) (formed : IsFormed P) (typed : IsTyped P) where
+      base_above : (m : ℕ) (k : PlainMethod) (e : slice_get Q.methods m ≡ Some k) (b : Operand) (i : ColumnItem) (p : Part) → IsAccess b i p → IsFitted P Q placed formed typed F facts m k e p → IsBase P Q placed formed typed F facts m k e b i
+      base_above m k e b _ _ (a_read {f = f}) h = (h.1 f refl).0
+      base_above m k e b _ _ (a_write {f = f}) h = (h f refl).0
+      base_above m k e b _ _ (a_use {d = d}) h = h.2 d refl
+
+      pub accesses_below : All (λ x. IsBelow F (row_class F x.row.0) (column_class F x.column.0)) F.accesses.items
+      accesses_below = all_of (λ x. IsBelow F (row_class F x.row.0) (column_class F x.column.0)) F.accesses.items
+          (λ x c. let z = access_part x c in
+          let b = base_above z.number z.method z.stands z.has.base z.has.member z.part z.has.access (part_fitted P Q placed formed typed F facts z.number z.method z.stands z.part z.in_body) in
+          let r = row_of_operand P Q placed formed typed F facts z.number z.method z.stands z.has.base x.row.0 b.good z.has.row_is in
+          subst (λ y. IsBelow F y (column_class F x.column.0)) (sym r.class) (subst (λ y. IsBelow F r.type.class.0 y) (sym (ap (λ i. i.class.0) (numbered_column P Q F facts z.has.member x.column.0 z.has.column_is).1)) (subclass_below P Q placed F facts (b.above r.type r.stated))))

@@ -26,7 +26,7 @@ use Rattle.flow_facts.specs.declared.items.ColumnItem.TheVariants as column
 use Rattle.flow_facts.specs.declared.items.Column.{Column}
 use Rattle.flow_facts.specs.Ordered.{each}
 use Rattle.flow_facts.specs.Labels.{label}
-use Rattle.flow_facts.specs.Operands.{class_object, variable_in, result_in, type_in}
+use Rattle.flow_facts.specs.Operands.{variable_in, result_in, type_in}
 use Rattle.flow_facts.specs.Parts.{Part, parts_of}
 use Rattle.flow_facts.specs.Numbered.{row_number, columns_of, column_number, point_number}
 use Rattle.flow_facts.specs.Facts.{this_of_row, site_of_row, column_info, PlainBody, numbers, body_seen, body_if, column_body, param_points, IsFactsOf}
@@ -111,20 +111,11 @@ module _ {B : Type 0} (key : B → ℕ) where
 
 abbrev this_number : RowItem → Option ℕ
 this_number (row.This m) = Some m
-this_number (row.Field m) = None
-this_number (row.Return m) = None
-this_number (row.Param s m) = None
-this_number (row.Result m) = None
-this_number (row.Local m i) = None
-this_number (row.New m) = None
-this_number (row.Cast m) = None
-this_number (row.Test m) = None
+this_number _ = None
 
 abbrev def_number : ColumnItem → Option ℕ
 def_number (column.Def m) = Some m
-def_number (column.Fld m) = None
-def_number (column.Dcl m) = None
-def_number (column.Is c) = None
+def_number _ = None
 
 result_thisless : (s : Option ℕ) (m : ℕ) → this_number (result_in s m) ≡ None
 result_thisless None m = refl
@@ -199,9 +190,7 @@ module _ (P Q : Plain) (placed : IsPlaced P Q) (formed : IsFormed P) (typed : Is
         go : (o : Option PlainMethod) → Contains (option_map_or (λ k. body_if (numbers P Q) Q c m k (point_number P Q (point.This m))) o []) b → (n : ℕ) × (column.Def m ≡ column.Def n) × (b.column ≡ c)
         go None h = absurd (omega (arith, h.1))
         go (Some k) h = (m, refl, inner k (point_number P Q (point.This m)) h)
-    body_part c (column.Fld f) b h = absurd (omega (arith, h.1))
-    body_part c (column.Dcl f) b h = absurd (omega (arith, h.1))
-    body_part c (column.Is f) b h = absurd (omega (arith, h.1))
+    body_part c _ b h = absurd (omega (arith, h.1))
 
     abbrev entries : List PlainBody
     entries = each (λ c k. column_body (numbers P Q) Q c k.item) 0 (columns_of P Q)
@@ -243,17 +232,27 @@ module _ (P Q : Plain) (placed : IsPlaced P Q) (formed : IsFormed P) (typed : Is
         let g = ap (λ c. c.0) (sym (ap (λ k. k.column) (index_at F.bodies.items i d a.0 a.1)) ∙ e ∙ ap (λ k. k.column) (index_at F.bodies.items j d b.0 b.1)) in
         absurd (omega (arith, z, g))
 
-    -- the type of the row of a `this`
-    pub this_type : (m : ℕ) (k : PlainMethod) (x : Row) → slice_get Q.methods m ≡ Some k → Types P Q x → x.item ≡ row.This m → x.ty ≡ record { class = record { 0 = k.owner }; dim = 0 }
-    this_type m k x e (types_this n l d b s i t) h =
+    -- the method and the type of the row of a `this`
+    pub record IsThisMethod (m : ℕ) (x : Row) : Type 0 where
+      pub method : PlainMethod
+      pub stands : slice_get Q.methods m ≡ Some method
+      pub bodied : is_some method.body ≡ true
+      pub instance : method.is_static ≡ false
+      pub type : x.ty ≡ record { class = record { 0 = method.owner }; dim = 0 }
+
+    pub this_method : (m : ℕ) (x : Row) → Types P Q x → x.item ≡ row.This m → IsThisMethod m x
+    this_method m x (types_this n l d b s i t) h =
         let g = same_Some n m (sym (ap this_number i) ∙ ap this_number h) in
-        same_Some _ _ (sym t ∙ ap (λ z. class_object z.owner) (same_Some l k (sym d ∙ ap (slice_get Q.methods) g ∙ e)))
-    this_type m k x e (types_field f l d i t) h = absurd (let g = sym (ap this_number i) ∙ ap this_number h in cc)
-    this_type m k x e (types_result n l d i t) h = absurd (let g = sym (result_thisless l.slot n) ∙ sym (ap this_number i) ∙ ap this_number h in cc)
-    this_type m k x e (types_variable n l j v d u i t) h = absurd (let g = sym (variable_thisless l.slot (nat_lt j (length l.params)) n j) ∙ sym (ap this_number i) ∙ ap this_number h in cc)
-    this_type m k x e (types_part n l p d c o) h =
+        record { method = l; stands = subst (λ z. slice_get Q.methods z ≡ Some l) g d; bodied = b; instance = s; type = same_Some _ _ (sym t) }
+    this_method m x (types_field f l d i t) h = absurd (let g = sym (ap this_number i) ∙ ap this_number h in cc)
+    this_method m x (types_result n l d i t) h = absurd (let g = sym (result_thisless l.slot n) ∙ sym (ap this_number i) ∙ ap this_number h in cc)
+    this_method m x (types_variable n l j v d u i t) h = absurd (let g = sym (variable_thisless l.slot (nat_lt j (length l.params)) n j) ∙ sym (ap this_number i) ∙ ap this_number h in cc)
+    this_method m x (types_part n l p d c o) h =
         let z = numbered_own p o.operand (part_numbered P Q placed formed typed p (record { number = n; method = l; stands = d; part = c })) o.own in
         absurd (let g : [] ≡ z.0 ∷ [] = sym (ap number_in (o.row_is ∙ ap Some h)) ∙ z.1 in cc)
+
+    pub this_type : (m : ℕ) (k : PlainMethod) (x : Row) → slice_get Q.methods m ≡ Some k → Types P Q x → x.item ≡ row.This m → x.ty ≡ record { class = record { 0 = k.owner }; dim = 0 }
+    this_type m k x e t h = let z = this_method m x t h in z.type ∙ ap (λ l. record { class = record { 0 = l.owner }; dim = 0 }) (same_Some z.method k (sym z.stands ∙ e))
 
     -- the method of a column of a body
     pub record IsBodyColumn (d : ℕ) : Type 0 where
@@ -274,7 +273,7 @@ module _ (P Q : Plain) (placed : IsPlaced P Q) (formed : IsFormed P) (typed : Is
     pub body_column_of : (d : ℕ) → d < length F.columns.items → IsDef F d → IsBodyColumn d
     body_column_of d h k = let z = item_of P Q F facts d h in body_item d z.item z.stands z.number z.info (sym (ap (λ i. i.kind) z.info) ∙ k)
 
-    this_column : (m d : ℕ) → column_number P Q (column.Def m) ≡ Some d → this_of_row (numbers P Q) (row.This m) ≡ Some (record { 0 = d })
+    pub this_column : (m d : ℕ) → column_number P Q (column.Def m) ≡ Some d → this_of_row (numbers P Q) (row.This m) ≡ Some (record { 0 = d })
     unfolding numbers
     this_column m d e = ap (option_map (λ c. record { 0 = c })) e
 

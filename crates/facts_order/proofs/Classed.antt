@@ -1,29 +1,37 @@
 -- The row that types an expression of a body has the class of its static type; only an index has a row of more brackets.
-use Rattle.std.proofs.Common.{◌≡◌, ℕ, ◌-◌, Option, Some, None, refl, sym, ap, ◌∙◌, subst, arith}
-use Rattle.std.specs.Prelude.{◌≤◌, ◌==◌, if◌then◌else◌, Bool, true, false, Contains, slice_get, option_and_then}
-use Rattle.std.specs.Option.{option_map}
+use Rattle.std.proofs.Common.{◌≡◌, ℕ, ◌+◌, ◌-◌, ◌++◌, Option, Some, None, refl, sym, ap, ◌∙◌, subst, arith}
+use Rattle.std.specs.Prelude.{◌<◌, ◌≤◌, Bool, true, Contains, slice_get, option_and_then}
+use Rattle.std.specs.Option.{option_map, is_some}
 use Rattle.std.proofs.lemmas.Option.{same_Some}
+use Rattle.std.proofs.lemmas.List.{map-append}
 use Rattle.std.proofs.lemmas.List.Elements.{Contains-append_left}
 use Rattle.java_core.specs.Trees.{Ex, number, character, text, truth, null, this, local, static_field, own_field, field, index, call, static_call, super_call, create, create_array, cast, instance_of, unary, binary}
 use Rattle.java_core.specs.Programs.{Plain, PlainMethod}
 use Rattle.java_core.specs.Classes.{super_method, slot_of_method}
-use Rattle.java_core.specs.Typing.{IsTyped}
+use Rattle.java_core.specs.Types.{Env, env_of, types_of, element_of, static}
+use Rattle.java_core.specs.Typing.{IsTyped, Typed, t_index}
 use Rattle.java_core.specs.Formed.{IsFormed}
+use Rattle.java_meaning.specs.Watched.{bare}
+use Rattle.java_meaning.proofs.WatchedPrograms.{bare_static}
 use Rattle.fact_model.specs.declared.facts.Facts.{Facts}
 use Rattle.flow_facts.specs.declared.items.ObjectType.{ObjectType}
+use Rattle.flow_facts.specs.declared.items.Operand.{Operand}
 use Rattle.flow_facts.specs.declared.items.RowItem.{RowItem}
 use Rattle.flow_facts.specs.declared.items.RowItem.TheVariants as row
 use Rattle.flow_facts.specs.declared.items.Row.{Row}
-use Rattle.flow_facts.specs.Operands.{object_field, call_slot, variable_row, row_of, operand_of, type_in}
+use Rattle.flow_facts.specs.Labels.{label}
+use Rattle.flow_facts.specs.Operands.{object_static, object_field, call_slot, variable_row, row_of, operand_of, type_in}
 use Rattle.flow_facts.specs.Types.{field_object, slot_object, method_object, variable_object, element_object, object_type}
 use Rattle.flow_facts.specs.Parts.{Part, a_creation, a_test, parts, parts_of}
 use Rattle.flow_facts.specs.Numbered.{rows_of}
 use Rattle.flow_facts.specs.Facts.{IsFactsOf}
 use Rattle.flow_facts.proofs.TypeLemmas.{types_are}
+use Rattle.run_cover.proofs.Untagging.{unlabel}
 use Rattle.facts_order.proofs.Listed.{first}
 use Rattle.facts_order.proofs.Pairs.{IsPlaced}
 use Rattle.facts_order.proofs.Rows.{own_of, row_types}
-use Rattle.facts_order.proofs.Sites.{own_type}
+use Rattle.facts_order.proofs.Sites.{own_typed}
+use Rattle.facts_order.proofs.Fits.{with_elements, element_some}
 use Rattle.facts_order.proofs.Bodies.{this_type}
 use Rattle.facts_order.proofs.Operands.{field_type, return_type, result_type, super_type, variable_type}
 
@@ -31,98 +39,125 @@ module _ (P Q : Plain) (placed : IsPlaced P Q) (formed : IsFormed P) (typed : Is
   abbrev type : Ex → Option ObjectType
   type = type_in P m k
 
-  -- the row's type has the class, and as many brackets or more
-  pub record Classes (x : Row) (t : ObjectType) : Type 0 where
-    pub class : x.ty.class ≡ t.class
-    pub dim : t.dim ≤ x.ty.dim
+  abbrev plain : PlainMethod
+  plain = (placed.methods m k stands).plain
 
-  of_type : (x : Row) (t : ObjectType) → x.ty ≡ t → Classes x t
-  of_type x t e = record { class = ap (λ z. z.class) e; dim = omega (arith, ap (λ z. z.dim) e) }
+  abbrev g : Env
+  g = env_of m plain
 
-  Typing : Option RowItem → Option ObjectType → Type 0
-  Typing i t = (j : RowItem) (u : ObjectType) (r : ℕ) (x : Row) → i ≡ Some j → t ≡ Some u → slice_get (rows_of P Q) r ≡ Some x → x.item ≡ j → Classes x u
+  -- a type, whose class is that of the row's type, which has as many brackets or more
+  pub record Classed (x : Row) (t : Option ObjectType) : Type 0 where
+    pub type : ObjectType
+    pub stated : t ≡ Some type
+    pub class : x.ty.class ≡ type.class
+    pub dim : type.dim ≤ x.ty.dim
 
-  none_item : (t : Option ObjectType) → Typing None t
+  of_type : (x : Row) (t : Option ObjectType) → t ≡ Some x.ty → Classed x t
+  of_type x t e = record { type = x.ty; stated = e; class = refl; dim = omega arith }
+
+  -- the row of an item has the class of a type
+  unfoldable pub Typing : Option RowItem → Option ObjectType → Type 0
+  Typing i t = (j : RowItem) (r : ℕ) (x : Row) → i ≡ Some j → slice_get (rows_of P Q) r ≡ Some x → x.item ≡ j → Classed x t
+
+  pub none_item : (t : Option ObjectType) → Typing None t
   unfolding Typing
-  none_item t j u r x a b c d = absurd (cc)
+  none_item t j r x a c d = absurd (cc)
 
   field_typing : (o : Option ℕ) → Typing (option_map row.Field o) (option_and_then (field_object P) o)
   unfolding Typing
-  field_typing None j u r x a b c d = absurd (cc)
-  field_typing (Some f) j u r x a b c d = of_type x u (field_type P Q placed formed typed f u r x b c (d ∙ sym (same_Some _ j a)))
+  field_typing None j r x a c d = absurd (cc)
+  field_typing (Some f) j r x a c d = of_type x (field_object P f) (field_type P Q placed formed typed f r x c (d ∙ sym (same_Some _ j a)))
 
   call_typing : (o : Option ℕ) → Typing (option_map row.Return o) (option_and_then (slot_object P) o)
   unfolding Typing
-  call_typing None j u r x a b c d = absurd (cc)
-  call_typing (Some s) j u r x a b c d = of_type x u (return_type P Q placed formed typed s u r x b c (d ∙ sym (same_Some _ j a)))
+  call_typing None j r x a c d = absurd (cc)
+  call_typing (Some s) j r x a c d = of_type x (slot_object P s) (return_type P Q placed formed typed s r x c (d ∙ sym (same_Some _ j a)))
 
   super_typing : (o : Option ℕ) → Typing (option_map row.Return (option_and_then (slot_of_method P) o)) (option_and_then (method_object P) o)
   unfolding Typing
-  super_typing None j u r x a b c d = absurd (cc)
-  super_typing (Some n) j u r x a b c d = go (slot_of_method P n) refl a
+  super_typing None j r x a c d = absurd (cc)
+  super_typing (Some n) j r x a c d = go (slot_of_method P n) refl a
     where
-      go : (o : Option ℕ) → slot_of_method P n ≡ o → option_map row.Return o ≡ Some j → Classes x u
+      go : (o : Option ℕ) → slot_of_method P n ≡ o → option_map row.Return o ≡ Some j → Classed x (method_object P n)
       go None e g = absurd (cc)
-      go (Some s) e g = of_type x u (return_type P Q placed formed typed s u r x (super_type P Q placed formed typed n s u b e) c (d ∙ sym (same_Some _ j g)))
+      go (Some s) e g = of_type x (method_object P n) (super_type P Q placed formed typed n s e ∙ return_type P Q placed formed typed s r x c (d ∙ sym (same_Some _ j g)))
 
-  element_typing : (i : Option RowItem) (t : Option ObjectType) → Typing i t → Typing i (element_object t)
+  element_typing : (i : Option RowItem) (t : Option ObjectType) → ((u : ObjectType) → t ≡ Some u → 0 < u.dim) → Typing i t → Typing i (element_object t)
   unfolding Typing
-  element_typing i None h j u r x a b c d = absurd (cc)
-  element_typing i (Some t) h j u r x a b c d = go (t.dim == 0) refl b
-    where
-      go : (z : Bool) → (t.dim == 0) ≡ z → (if z then None else Some (record { class = t.class; dim = t.dim - 1 })) ≡ Some u → Classes x u
-      go true e g = absurd (cc)
-      go false e g =
-          let w = h j t r x a refl c d in
-          let s = same_Some _ u g in
-          record { class = w.class ∙ ap (λ z. z.class) s; dim = omega (arith, w.dim, ap (λ z. z.dim) s) }
+  element_typing i t many h j r x a c d =
+      let w = h j r x a c d in
+      let n = many w.type w.stated in
+      record {
+        type = record { class = w.type.class; dim = w.type.dim - 1 };
+        stated = ap element_object w.stated ∙ element_some w.type n;
+        class = w.class;
+        dim = omega (arith, w.dim);
+      }
 
-  own_typing : (p : Part) (e : Ex) → Contains (parts_of P m k) p → own_of p ≡ Some (operand_of P type m k e) → Typing (row_of P type m k e) (type e)
+  pub own_typing : (p : Part) (o : Operand) → Contains (parts_of P m k) p → own_of p ≡ Some o → Typing o.row o.ty
   unfolding Typing
-  own_typing p e c o j u r x a b g d = of_type x u (own_type P Q placed formed typed p (operand_of P type m k e) j u r x (record { number = m; method = k; stands = stands; part = c }) o a b g d)
+  own_typing p o c e j r x a g d = of_type x o.ty (own_typed P Q placed formed typed p o j r x (record { number = m; method = k; stands = stands; part = c }) e a g d)
 
   as_type : (i : Option RowItem) (e : Ex) → Typing i (type e) → Typing i (object_type P k e)
   as_type i e h = subst (λ f. Typing i (f e)) (sym (types_are P m k)) h
 
-  as_object : (e : Ex) → object_type P k e ≡ type e
+  pub as_object : (e : Ex) → object_type P k e ≡ type e
   as_object e = ap (λ f. f e) (types_are P m k)
 
   this_typing : Typing (Some (row.This m)) (Some (record { class = record { 0 = k.owner }; dim = 0 }))
   unfolding Typing
-  this_typing j v r x a b c d = of_type x v (this_type P Q placed formed typed F facts m k x stands (row_types P Q r x c) (d ∙ sym (same_Some _ j a)) ∙ same_Some _ v b)
+  this_typing j r x a c d = of_type x (Some (record { class = record { 0 = k.owner }; dim = 0 })) (ap Some (sym (this_type P Q placed formed typed F facts m k x stands (row_types P Q r x c) (d ∙ sym (same_Some _ j a)))))
 
   local_typing : (i : ℕ) → Typing (Some (variable_row m k i)) (variable_object k i)
   unfolding Typing
-  local_typing i j v r x a b c d = of_type x v (variable_type P Q placed formed typed m i k v r x stands b c (d ∙ sym (same_Some _ j a)))
+  local_typing i j r x a c d = of_type x (variable_object k i) (variable_type P Q placed formed typed m i k r x stands c (d ∙ sym (same_Some _ j a)))
 
   static_typing : (d : ℕ) → Typing (Some (row.Result d)) (method_object P d)
   unfolding Typing
-  static_typing d j v r x a b c g = of_type x v (result_type P Q placed formed typed d v r x b c (g ∙ sym (same_Some _ j a)))
+  static_typing d j r x a c g = of_type x (method_object P d) (result_type P Q placed formed typed d r x c (g ∙ sym (same_Some _ j a)))
+
+  -- the static type of an expression without its labels, as facts see it
+  same_env : g ≡ env_of m k
+  same_env =
+      let z = placed.methods m k stands in
+      let types : types_of (z.plain.params ++ z.plain.locals) ≡ types_of (k.params ++ k.locals) = map-append (λ l. l.ty) z.plain.params z.plain.locals ∙ ap (λ w. w ++ types_of z.plain.locals) z.params ∙ ap (λ w. types_of k.params ++ w) z.locals ∙ sym (map-append (λ l. l.ty) k.params k.locals) in
+      ap (λ w. record { body = m; self = w; locals = types_of (z.plain.params ++ z.plain.locals); result = z.plain.result }) z.owner ∙ ap (λ w. record { body = m; self = k.owner; locals = w; result = z.plain.result }) types ∙ ap (λ w. record { body = m; self = k.owner; locals = types_of (k.params ++ k.locals); result = w }) z.result
+
+  same_static : (n : ℕ) (e : Ex) → static P g (bare e) ≡ static P (env_of m k) (label n e)
+  same_static n e = ap (static P g) (sym (unlabel n e)) ∙ bare_static P g (label n e) ∙ ap (λ z. static P z (label n e)) same_env
+
+  pub static_as : (n : ℕ) (e : Ex) → object_static (static P g (bare e)) ≡ type (label n e)
+  unfolding type_in
+  static_as n e = ap object_static (same_static n e)
+
+  -- an array has brackets
+  pub many_dims : (n : ℕ) (e : Ex) → is_some (element_of (static P g (bare e))) ≡ true → (u : ObjectType) → type (label n e) ≡ Some u → 0 < u.dim
+  many_dims n e h u d = with_elements (static P g (bare e)) u h (static_as n e ∙ d)
 
   -- the row of an expression whose parts stand in the body
-  typing : (u : Bool) (e : Ex) → ((q : Part) → Contains (parts P type m k u e) q → Contains (parts_of P m k) q) → Typing (row_of P type m k e) (object_type P k e)
-  typing u (number t n) w = none_item _
-  typing u (character t c) w = none_item _
-  typing u (text t s) w = none_item _
-  typing u (truth t b) w = none_item _
-  typing u (null t) w = none_item _
-  typing u (instance_of t n e c) w = none_item _
-  typing u (unary t o e) w = none_item _
-  typing u (binary t o e d) w = none_item _
-  typing u (this t) w = this_typing
-  typing u (local t i) w = local_typing i
-  typing u (static_field t f) w = field_typing (Some f)
-  typing u (own_field t f) w = field_typing (Some f)
-  typing u (field t e x) w = subst (λ o. Typing (option_map row.Field (object_field P o x)) (object_type P k (field t e x))) (as_object e) (field_typing (object_field P (object_type P k e) x))
-  typing u (index t e i) w = element_typing _ _ (typing true e (λ q c. w q (Contains-append_left (parts P type m k true e) _ q c)))
-  typing u (call t e x es) w = subst (λ o. Typing (option_map row.Return (call_slot P o x)) (object_type P k (call t e x es))) (as_object e) (call_typing (call_slot P (object_type P k e) x))
-  typing u (static_call t d es) w = static_typing d
-  typing u (super_call t x es) w = super_typing (super_method P k.owner x)
-  typing u (create t n c es) w = as_type _ (create t n c es) (own_typing (a_creation t.place u (operand_of P type m k (create t n c es))) (create t n c es) (w _ (first _ _)) refl)
-  typing u (create_array t n v e) w = as_type _ (create_array t n v e) (own_typing (a_creation t.place u (operand_of P type m k (create_array t n v e))) (create_array t n v e) (w _ (first _ _)) refl)
-  typing u (cast t n v e) w = as_type _ (cast t n v e) (own_typing (a_test t.place (operand_of P type m k e) (operand_of P type m k (cast t n v e))) (cast t n v e) (w _ (first _ _)) refl)
+  typing : (n : ℕ) (u : Bool) (e : Ex) → Typed P g (bare e) → ((q : Part) → Contains (parts P type m k u (label n e)) q → Contains (parts_of P m k) q) → Typing (row_of P type m k (label n e)) (object_type P k (label n e))
+  typing n u (number t i) a w = none_item _
+  typing n u (character t c) a w = none_item _
+  typing n u (text t s) a w = none_item _
+  typing n u (truth t b) a w = none_item _
+  typing n u (null t) a w = none_item _
+  typing n u (instance_of t i e c) a w = none_item _
+  typing n u (unary t o e) a w = none_item _
+  typing n u (binary t o e d) a w = none_item _
+  typing n u (this t) a w = this_typing
+  typing n u (local t i) a w = local_typing i
+  typing n u (static_field t f) a w = field_typing (Some f)
+  typing n u (own_field t f) a w = field_typing (Some f)
+  typing n u (field t e x) a w = subst (λ o. Typing (option_map row.Field (object_field P o x)) (object_type P k (label n (field t e x)))) (as_object (label n e)) (field_typing (object_field P (object_type P k (label n e)) x))
+  typing n u (index t e i) (t_index a b c d) w =
+      element_typing _ _ (λ u h. many_dims n e b u (sym (as_object (label n e)) ∙ h)) (typing n true e a (λ q c. w q (Contains-append_left (parts P type m k true (label n e)) _ q c)))
+  typing n u (call t e x es) a w = subst (λ o. Typing (option_map row.Return (call_slot P o x)) (object_type P k (label n (call t e x es)))) (as_object (label n e)) (call_typing (call_slot P (object_type P k (label n e)) x))
+  typing n u (static_call t d es) a w = static_typing d
+  typing n u (super_call t x es) a w = super_typing (super_method P k.owner x)
+  typing n u (create t i c es) a w = as_type _ (label n (create t i c es)) (own_typing (a_creation t.place u (operand_of P type m k (label n (create t i c es)))) _ (w _ (first _ _)) refl)
+  typing n u (create_array t i v e) a w = as_type _ (label n (create_array t i v e)) (own_typing (a_creation t.place u (operand_of P type m k (label n (create_array t i v e)))) _ (w _ (first _ _)) refl)
+  typing n u (cast t i v e) a w = as_type _ (label n (cast t i v e)) (own_typing (a_test t.place (operand_of P type m k (label (n + 1) e)) (operand_of P type m k (label n (cast t i v e)))) _ (w _ (first _ _)) refl)
 
   -- the row of an operand has the class of its type
-  pub operand_row : (u : Bool) (e : Ex) → ((q : Part) → Contains (parts P type m k u e) q → Contains (parts_of P m k) q) → (i : RowItem) (t : ObjectType) (r : ℕ) (x : Row) → row_of P type m k e ≡ Some i → type e ≡ Some t → slice_get (rows_of P Q) r ≡ Some x → x.item ≡ i → Classes x t
-  unfolding Typing
-  operand_row u e w i t r x a b c d = typing u e w i t r x a (as_object e ∙ b) c d
+  pub operand_typing : (n : ℕ) (u : Bool) (e : Ex) → Typed P g (bare e) → ((q : Part) → Contains (parts P type m k u (label n e)) q → Contains (parts_of P m k) q) → Typing (row_of P type m k (label n e)) (type (label n e))
+  operand_typing n u e a w = subst (λ t. Typing (row_of P type m k (label n e)) t) (as_object (label n e)) (typing n u e a w)

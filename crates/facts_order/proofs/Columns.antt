@@ -53,7 +53,7 @@ module _ (P Q : Plain) where
   field_stands : (f : ℕ) (k : PlainField) (x : Column) → slice_get Q.fields f ≡ Some k → Contains (field_columns f k) x → Stands Q x.item
   field_stands f k x e c = let z = when_from (not k.is_static) _ x c in stands_as _ _ (ap (λ z. z.item) (one_from _ x z.1)) (for_field f k e (no_static k.is_static z.0))
 
-  pub members : ℕ → PlainMethod → List Column
+  unfoldable pub members : ℕ → PlainMethod → List Column
   members m k = when (not k.is_static) (record { item = column.Dcl m; place = k.tag.place } ∷ when (is_some k.body) (record { item = column.Def m; place = k.tag.place } ∷ []))
 
   member_stands : (m : ℕ) (k : PlainMethod) (x : Column) → slice_get Q.methods m ≡ Some k → Contains (members m k) x → Stands Q x.item
@@ -74,6 +74,9 @@ module _ (P Q : Plain) where
   raw_stands x c =
       ⊎_elim (λ d. let z = each_from_zero field_columns Q.fields x d in field_stands z.0 z.1 x z.2 z.3) (λ d. let z = each_from_zero (method_columns P Q) Q.methods x d in method_stands z.0 z.1 x z.2 z.3)
       (Contains-append_cases (each field_columns 0 Q.fields) (each (method_columns P Q) 0 Q.methods) x c)
+
+  pub column_stands : (n : ℕ) (x : Column) → slice_get (columns_of P Q) n ≡ Some x → Stands Q x.item
+  column_stands n x e = raw_stands x (column_raw P Q n x e)
 
   -- what stands in the text has a column
   pub field_column : (f : ℕ) (k : PlainField) → slice_get Q.fields f ≡ Some k → k.is_static ≡ false → (c : ℕ) × (column_number P Q (column.Fld f) ≡ Some c)
@@ -113,7 +116,7 @@ module _ (P Q : Plain) where
       item = x.item;
       number = column_back P Q c x e;
       info = index_at F.columns.items c _ (column_info Q x.item) (subst (λ z. slice_get z c ≡ Some (column_info Q x.item)) (sym facts.columns) (at_map (λ c. column_info Q c.item) (columns_of P Q) c x e));
-      stands = raw_stands x (column_raw P Q c x e);
+      stands = column_stands c x e;
     }
 
     pub item_of : (c : ℕ) → c < length F.columns.items → HasItem c

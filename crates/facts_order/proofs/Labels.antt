@@ -8,7 +8,7 @@ use Rattle.flow_facts.specs.declared.items.ObjectType.{ObjectType}
 use Rattle.flow_facts.specs.declared.items.PointItem.{PointItem}
 use Rattle.flow_facts.specs.declared.items.PointItem.TheVariants as point
 use Rattle.flow_facts.specs.Labels.{size, sizes, label, label_all, size_if, label_if, size_put, size_target, label_target, size_st, size_sts, size_arms, label_st, label_sts, label_arms}
-use Rattle.flow_facts.specs.Parts.{Part, a_load, an_element, a_creation, a_call, a_static_call, a_super_call, a_test, a_pair, a_set, a_store, an_element_store, a_return, is_accessed, parts, parts_all, parts_if, parts_set, parts_return, parts_assign, parts_st, parts_sts, parts_arms, parts_body, parts_of}
+use Rattle.flow_facts.specs.Parts.{Part, a_load, an_element, a_creation, a_call, a_static_call, a_super_call, a_test, is_accessed, parts, parts_all, parts_if, parts_set, parts_return, parts_assign, parts_st, parts_sts, parts_arms, parts_body, parts_of}
 use Rattle.flow_facts.specs.Operands.{type_in}
 
 -- the label of what an expression gives
@@ -28,11 +28,7 @@ part_label (a_call p b s d es o) = label_in o.point
 part_label (a_static_call p m es o) = label_in o.point
 part_label (a_super_call p m es o) = label_in o.point
 part_label (a_test p e o) = label_in o.point
-part_label (a_pair o l r) = None
-part_label (a_set v o) = None
-part_label (a_store p b f o) = None
-part_label (an_element_store p b o) = None
-part_label (a_return o) = None
+part_label _ = None
 
 -- labels rise from a number on, and stay below another
 data Labelled : ℕ → List Part → ℕ → Type 0 where

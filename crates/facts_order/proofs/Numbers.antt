@@ -14,7 +14,7 @@ use Rattle.flow_facts.specs.declared.items.ObjectType.{ObjectType}
 use Rattle.flow_facts.specs.declared.items.RowItem.{RowItem}
 use Rattle.flow_facts.specs.declared.items.RowItem.TheVariants as row
 use Rattle.flow_facts.specs.Labels.{size, label, label_all, size_if, label_if, size_target, label_target, size_st, size_sts, label_st, label_sts, label_arms}
-use Rattle.flow_facts.specs.Parts.{Part, a_load, an_element, a_creation, a_call, a_static_call, a_super_call, a_test, a_pair, a_set, a_store, an_element_store, a_return, is_accessed, parts, parts_all, parts_if, parts_set, parts_return, parts_assign, parts_st, parts_sts, parts_arms, parts_body, parts_of}
+use Rattle.flow_facts.specs.Parts.{Part, a_load, an_element, a_creation, a_call, a_static_call, a_super_call, a_test, is_accessed, parts, parts_all, parts_if, parts_set, parts_return, parts_assign, parts_st, parts_sts, parts_arms, parts_body, parts_of}
 use Rattle.flow_facts.specs.Operands.{type_in}
 use Rattle.facts_order.proofs.Listed.{at_contains, at_below, flat_has}
 use Rattle.facts_order.proofs.Pairs.{IsPlaced}
@@ -40,11 +40,7 @@ part_number (a_call p b s d es o) = []
 part_number (a_static_call p m es o) = []
 part_number (a_super_call p m es o) = []
 part_number (a_test p e o) = number_in o.row
-part_number (a_pair o l r) = []
-part_number (a_set v o) = []
-part_number (a_store p b f o) = []
-part_number (an_element_store p b o) = []
-part_number (a_return o) = []
+part_number _ = []
 
 abbrev pub numbers_in : List Part → List ℕ
 numbers_in ps = flat_map part_number ps

@@ -24,37 +24,16 @@ use Rattle.facts_order.proofs.Sites.{numbered_own, part_numbered}
 
 abbrev field_number : RowItem → Option ℕ
 field_number (row.Field f) = Some f
-field_number (row.This m) = None
-field_number (row.Return m) = None
-field_number (row.Param s m) = None
-field_number (row.Result m) = None
-field_number (row.Local m i) = None
-field_number (row.New m) = None
-field_number (row.Cast m) = None
-field_number (row.Test m) = None
+field_number _ = None
 
 -- the slot of a return, and the method of a static result
 abbrev return_number : RowItem → Option ℕ
 return_number (row.Return s) = Some s
-return_number (row.Field f) = None
-return_number (row.This m) = None
-return_number (row.Param s m) = None
-return_number (row.Result m) = None
-return_number (row.Local m i) = None
-return_number (row.New m) = None
-return_number (row.Cast m) = None
-return_number (row.Test m) = None
+return_number _ = None
 
 abbrev result_number : RowItem → Option ℕ
 result_number (row.Result m) = Some m
-result_number (row.Return s) = None
-result_number (row.Field f) = None
-result_number (row.This m) = None
-result_number (row.Param s m) = None
-result_number (row.Local m i) = None
-result_number (row.New m) = None
-result_number (row.Cast m) = None
-result_number (row.Test m) = None
+result_number _ = None
 
 result_fieldless : (s : Option ℕ) (m : ℕ) → field_number (result_in s m) ≡ None
 result_fieldless None m = refl
@@ -85,36 +64,16 @@ result_result (Some r) m s e = absurd (cc)
 
 abbrev local_number : RowItem → Option (ℕ × ℕ)
 local_number (row.Local m i) = Some (m, i)
-local_number (row.Param s m) = None
-local_number (row.Result m) = None
-local_number (row.Return s) = None
-local_number (row.Field f) = None
-local_number (row.This m) = None
-local_number (row.New m) = None
-local_number (row.Cast m) = None
-local_number (row.Test m) = None
+local_number _ = None
 
 abbrev param_number : RowItem → Option (ℕ × ℕ)
 param_number (row.Param s i) = Some (s, i)
-param_number (row.Local m i) = None
-param_number (row.Result m) = None
-param_number (row.Return s) = None
-param_number (row.Field f) = None
-param_number (row.This m) = None
-param_number (row.New m) = None
-param_number (row.Cast m) = None
-param_number (row.Test m) = None
+param_number _ = None
 
 abbrev is_variable : RowItem → Bool
 is_variable (row.Param s i) = true
 is_variable (row.Local m i) = true
-is_variable (row.Result m) = false
-is_variable (row.Return s) = false
-is_variable (row.Field f) = false
-is_variable (row.This m) = false
-is_variable (row.New m) = false
-is_variable (row.Cast m) = false
-is_variable (row.Test m) = false
+is_variable _ = false
 
 result_variableless : (s : Option ℕ) (m : ℕ) → is_variable (result_in s m) ≡ false
 result_variableless None m = refl
@@ -130,6 +89,15 @@ variable_none None b m i = refl
 variable_none (Some s) true m i = refl
 variable_none (Some s) false m i = refl
 
+-- the type of a parameter of a slot
+abbrev pub param_object : Plain → ℕ → ℕ → Option ObjectType
+param_object P s i = object_if (option_and_then (λ z. slice_get z.params i) (slice_get P.slots s))
+
+pub front_type : (xs ys : List PlainLocal) (i : ℕ) → i < length xs → object_if (option_map (λ v. v.ty) (slice_get (xs ++ ys) i)) ≡ object_if (slice_get (types_of xs) i)
+front_type [] ys i h = absurd (omega (arith, h))
+front_type (x ∷ xs) ys zero h = refl
+front_type (x ∷ xs) ys (suc i) h = front_type xs ys i (omega (arith, h))
+
 module _ (P Q : Plain) (placed : IsPlaced P Q) (formed : IsFormed P) (typed : IsTyped P) where
   numberless : {R : Type 0} (x : Row) (i : RowItem) (m : ℕ) (k : PlainMethod) (p : Part) (e : slice_get Q.methods m ≡ Some k) (c : Contains (parts_of P m k) p) → IsOwn x p → x.item ≡ i → number_in (Some i) ≡ [] → R
   numberless x i m k p e c o h n =
@@ -137,76 +105,68 @@ module _ (P Q : Plain) (placed : IsPlaced P Q) (formed : IsFormed P) (typed : Is
       absurd (let g : [] ≡ z.0 ∷ [] = sym (ap number_in (o.row_is ∙ ap Some h) ∙ n) ∙ z.1 in cc)
 
   -- the row of a field has its type
-  pub field_type : (f : ℕ) (t : ObjectType) (r : ℕ) (x : Row) → field_object P f ≡ Some t → slice_get (rows_of P Q) r ≡ Some x → x.item ≡ row.Field f → x.ty ≡ t
-  field_type f t r x a e h = go (row_types P Q r x e)
+  pub field_type : (f r : ℕ) (x : Row) → slice_get (rows_of P Q) r ≡ Some x → x.item ≡ row.Field f → field_object P f ≡ Some x.ty
+  field_type f r x e h = go (row_types P Q r x e)
     where
-      go : Types P Q x → x.ty ≡ t
+      go : Types P Q x → field_object P f ≡ Some x.ty
       go (for_field g k d i u) =
           let s = same_Some g f (sym (ap field_number i) ∙ ap field_number h) in
           let z = placed.fields g k d in
-          same_Some _ _ (sym u ∙ ap object_of (sym z.type) ∙ sym (ap (λ o. object_if (option_map (λ k. k.ty) o)) z.stands) ∙ ap (field_object P) s ∙ a)
+          ap (field_object P) (sym s) ∙ ap (λ o. object_if (option_map (λ k. k.ty) o)) z.stands ∙ ap object_of z.type ∙ u
       go (for_this m k d b s i u) = absurd (let g = sym (ap field_number i) ∙ ap field_number h in cc)
       go (for_result m k d i u) = absurd (let g = sym (result_fieldless k.slot m) ∙ sym (ap field_number i) ∙ ap field_number h in cc)
       go (for_variable m k j v d b i u) = absurd (let g = sym (variable_fieldless k.slot (nat_lt j (length k.params)) m j) ∙ sym (ap field_number i) ∙ ap field_number h in cc)
       go (for_part m k p d c o) = numberless x (row.Field f) m k p d c o h refl
 
   -- the row of a slot's return has the slot's result
-  pub return_type : (s : ℕ) (t : ObjectType) (r : ℕ) (x : Row) → slot_object P s ≡ Some t → slice_get (rows_of P Q) r ≡ Some x → x.item ≡ row.Return s → x.ty ≡ t
-  return_type s t r x a e h = go (row_types P Q r x e)
+  pub return_type : (s r : ℕ) (x : Row) → slice_get (rows_of P Q) r ≡ Some x → x.item ≡ row.Return s → slot_object P s ≡ Some x.ty
+  return_type s r x e h = go (row_types P Q r x e)
     where
-      go : Types P Q x → x.ty ≡ t
+      go : Types P Q x → slot_object P s ≡ Some x.ty
       go (for_result m k d i u) =
           let z = placed.methods m k d in
           let o = result_return k.slot m s (sym (ap return_number i) ∙ ap return_number h) in
           let y = ((formed.methods m z.plain z.stands).slots s).0 (z.slot ∙ o) in
-          same_Some _ _ (sym u ∙ ap object_if (sym z.result ∙ y.result) ∙ sym (ap (λ o. object_if (option_and_then (λ k. k.result) o)) y.stands) ∙ a)
+          ap (λ o. object_if (option_and_then (λ k. k.result) o)) y.stands ∙ ap object_if (sym y.result ∙ z.result) ∙ u
       go (for_field g k d i u) = absurd (let g = sym (ap return_number i) ∙ ap return_number h in cc)
       go (for_this m k d b s i u) = absurd (let g = sym (ap return_number i) ∙ ap return_number h in cc)
       go (for_variable m k j v d b i u) = absurd (let g = sym (variable_returnless k.slot (nat_lt j (length k.params)) m j) ∙ sym (ap return_number i) ∙ ap return_number h in cc)
       go (for_part m k p d c o) = numberless x (row.Return s) m k p d c o h refl
 
   -- the row of a static method's result has its type
-  pub result_type : (m : ℕ) (t : ObjectType) (r : ℕ) (x : Row) → method_object P m ≡ Some t → slice_get (rows_of P Q) r ≡ Some x → x.item ≡ row.Result m → x.ty ≡ t
-  result_type m t r x a e h = go (row_types P Q r x e)
+  pub result_type : (m r : ℕ) (x : Row) → slice_get (rows_of P Q) r ≡ Some x → x.item ≡ row.Result m → method_object P m ≡ Some x.ty
+  result_type m r x e h = go (row_types P Q r x e)
     where
-      go : Types P Q x → x.ty ≡ t
+      go : Types P Q x → method_object P m ≡ Some x.ty
       go (for_result n k d i u) =
           let z = placed.methods n k d in
           let s = result_result k.slot n m (sym (ap result_number i) ∙ ap result_number h) in
-          same_Some _ _ (sym u ∙ ap object_if (sym z.result) ∙ sym (ap (λ o. object_if (option_and_then (λ k. k.result) o)) z.stands) ∙ ap (method_object P) s ∙ a)
+          ap (method_object P) (sym s) ∙ ap (λ o. object_if (option_and_then (λ k. k.result) o)) z.stands ∙ ap object_if z.result ∙ u
       go (for_field g k d i u) = absurd (let g = sym (ap result_number i) ∙ ap result_number h in cc)
       go (for_this n k d b s i u) = absurd (let g = sym (ap result_number i) ∙ ap result_number h in cc)
       go (for_variable n k j v d b i u) = absurd (let g = sym (variable_resultless k.slot (nat_lt j (length k.params)) n j) ∙ sym (ap result_number i) ∙ ap result_number h in cc)
       go (for_part n k p d c o) = numberless x (row.Result m) n k p d c o h refl
 
   -- a super call's result is that of its slot
-  pub super_type : (d s : ℕ) (t : ObjectType) → method_object P d ≡ Some t → slot_of_method P d ≡ Some s → slot_object P s ≡ Some t
-  super_type d s t a e = go (slice_get P.methods d) refl
+  pub super_type : (d s : ℕ) → slot_of_method P d ≡ Some s → method_object P d ≡ slot_object P s
+  super_type d s e = go (slice_get P.methods d) refl
     where
-      go : (o : Option PlainMethod) → slice_get P.methods d ≡ o → slot_object P s ≡ Some t
+      go : (o : Option PlainMethod) → slice_get P.methods d ≡ o → method_object P d ≡ slot_object P s
       go None h = absurd (let g = sym (ap (option_and_then (λ k. k.slot)) h) ∙ e in cc)
       go (Some k) h =
           let y = ((formed.methods d k h).slots s).0 (sym (ap (option_and_then (λ k. k.slot)) h) ∙ e) in
-          ap (λ o. object_if (option_and_then (λ k. k.result) o)) y.stands ∙ ap object_if (sym y.result) ∙ sym (ap (λ o. object_if (option_and_then (λ k. k.result) o)) h) ∙ a
+          ap (λ o. object_if (option_and_then (λ k. k.result) o)) h ∙ ap object_if y.result ∙ sym (ap (λ o. object_if (option_and_then (λ k. k.result) o)) y.stands)
 
   -- the row of a parameter or local has its type
   same_variable : (k l : PlainMethod) (i j : ℕ) → k ≡ l → i ≡ j → variable_object k i ≡ variable_object l j
   same_variable k l i j e d = ap (λ z. variable_object z i) e ∙ ap (variable_object l) d
 
   -- of a parameter of the slot
-  param_type : (m n i s : ℕ) (k l : PlainMethod) → slice_get Q.methods m ≡ Some k → slice_get Q.methods n ≡ Some l → k.slot ≡ Some s → l.slot ≡ Some s → i < length k.params → i < length l.params → variable_object k i ≡ variable_object l i
-  param_type m n i s k l e d a b h g =
+  pub slot_param : (m i s : ℕ) (k : PlainMethod) → slice_get Q.methods m ≡ Some k → k.slot ≡ Some s → i < length k.params → variable_object k i ≡ param_object P s i
+  slot_param m i s k e a h =
       let x = placed.methods m k e in
-      let y = placed.methods n l d in
       let u = ((formed.methods m x.plain x.stands).slots s).0 (x.slot ∙ a) in
-      let v = ((formed.methods n y.plain y.stands).slots s).0 (y.slot ∙ b) in
-      let w = sym x.params ∙ u.params ∙ ap (λ z. z.params) (same_Some _ _ (sym u.stands ∙ v.stands)) ∙ sym v.params ∙ y.params in
-      front_type k.params k.locals i h ∙ ap (λ z. object_if (slice_get z i)) w ∙ sym (front_type l.params l.locals i g)
-    where
-      front_type : (xs ys : List PlainLocal) (i : ℕ) → i < length xs → object_if (option_map (λ v. v.ty) (slice_get (xs ++ ys) i)) ≡ object_if (slice_get (types_of xs) i)
-      front_type [] ys i h = absurd (omega (arith, h))
-      front_type (x ∷ xs) ys zero h = refl
-      front_type (x ∷ xs) ys (suc i) h = front_type xs ys i (omega (arith, h))
+      front_type k.params k.locals i h ∙ ap (λ z. object_if (slice_get z i)) (sym x.params ∙ u.params) ∙ sym (ap (λ o. object_if (option_and_then (λ z. slice_get z.params i) o)) u.stands)
 
   variable_cases : (m n i j : ℕ) (k l : PlainMethod) (a b : Option ℕ) (u v : Bool) → slice_get Q.methods m ≡ Some k → slice_get Q.methods n ≡ Some l → k.slot ≡ a → l.slot ≡ b → nat_lt i (length k.params) ≡ u → nat_lt j (length l.params) ≡ v
       → variable_in a u m i ≡ variable_in b v n j → variable_object k i ≡ variable_object l j
@@ -225,19 +185,37 @@ module _ (P Q : Plain) (placed : IsPlaced P Q) (formed : IsFormed P) (typed : Is
   variable_cases m n i j k l (Some c) (Some f) true true e d a b p q h =
       let s = same_Some _ _ (ap param_number h) in
       let y : i ≡ j = ap (λ z. z.1) s in
-      param_type m n i c k l e d a (b ∙ ap Some (sym (ap (λ z. z.0) s))) (grind (arith, p)) (grind (arith, q, y)) ∙ ap (variable_object l) y
+      slot_param m i c k e a (grind (arith, p)) ∙ ap (λ z. param_object P z i) (ap (λ z. z.0) s) ∙ ap (param_object P f) y ∙ sym (slot_param n j f l d b (grind (arith, q)))
   variable_cases m n i j k l (Some c) None true v e d a b p q h = absurd (let g = ap param_number h in cc)
   variable_cases m n i j k l None (Some c) u true e d a b p q h = absurd (let g = ap local_number h in cc)
   variable_cases m n i j k l (Some c) (Some f) true false e d a b p q h = absurd (let g = ap param_number h in cc)
   variable_cases m n i j k l (Some c) (Some f) false true e d a b p q h = absurd (let g = ap local_number h in cc)
 
-  pub variable_type : (m i : ℕ) (k : PlainMethod) (t : ObjectType) (r : ℕ) (x : Row) → slice_get Q.methods m ≡ Some k → variable_object k i ≡ Some t → slice_get (rows_of P Q) r ≡ Some x → x.item ≡ variable_row m k i → x.ty ≡ t
-  variable_type m i k t r x b a e h = go (row_types P Q r x e)
+  pub variable_type : (m i : ℕ) (k : PlainMethod) (r : ℕ) (x : Row) → slice_get Q.methods m ≡ Some k → slice_get (rows_of P Q) r ≡ Some x → x.item ≡ variable_row m k i → variable_object k i ≡ Some x.ty
+  variable_type m i k r x b e h = go (row_types P Q r x e)
     where
-      go : Types P Q x → x.ty ≡ t
+      go : Types P Q x → variable_object k i ≡ Some x.ty
       go (for_variable n l j v d w y u) =
-          same_Some _ _ (sym u ∙ sym (ap (λ o. object_if (option_map (λ v. v.ty) o)) w) ∙ variable_cases n m j i l k l.slot k.slot _ _ d b refl refl refl refl (sym y ∙ h) ∙ a)
+          sym (variable_cases n m j i l k l.slot k.slot _ _ d b refl refl refl refl (sym y ∙ h)) ∙ ap (λ o. object_if (option_map (λ v. v.ty) o)) w ∙ u
       go (for_result n l d y u) = absurd (let g = sym (result_variableless l.slot n) ∙ ap is_variable (sym y ∙ h) ∙ variable_is k.slot (nat_lt i (length k.params)) m i in false≢true g)
       go (for_field g l d y u) = absurd (let g = ap is_variable (sym y ∙ h) ∙ variable_is k.slot (nat_lt i (length k.params)) m i in false≢true g)
       go (for_this n l d c s y u) = absurd (let g = ap is_variable (sym y ∙ h) ∙ variable_is k.slot (nat_lt i (length k.params)) m i in false≢true g)
       go (for_part n l p d c o) = numberless x (variable_row m k i) n l p d c o h (variable_none k.slot (nat_lt i (length k.params)) m i)
+
+  -- the row of a parameter of a slot has its type
+  variable_param : (o : Option ℕ) (b : Bool) (m i s j : ℕ) → variable_in o b m i ≡ row.Param s j → (o ≡ Some s) × (b ≡ true) × (i ≡ j)
+  variable_param (Some r) true m i s j e = let z = same_Some _ _ (ap param_number e) in (ap (λ w. Some w.0) z, refl, ap (λ w. w.1) z)
+  variable_param (Some r) false m i s j e = absurd (let z = ap param_number e in cc)
+  variable_param None b m i s j e = absurd (let z = ap param_number e in cc)
+
+  pub param_type : (s i r : ℕ) (x : Row) → slice_get (rows_of P Q) r ≡ Some x → x.item ≡ row.Param s i → param_object P s i ≡ Some x.ty
+  param_type s i r x e h = go (row_types P Q r x e)
+    where
+      go : Types P Q x → param_object P s i ≡ Some x.ty
+      go (for_variable n l j v d w y u) =
+          let z = variable_param l.slot (nat_lt j (length l.params)) n j s i (sym y ∙ h) in
+          ap (param_object P s) (sym z.2) ∙ sym (slot_param n j s l d z.0 (grind (arith, z.1))) ∙ ap (λ o. object_if (option_map (λ v. v.ty) o)) w ∙ u
+      go (for_result n l d y u) = absurd (false≢true (sym (result_variableless l.slot n) ∙ ap is_variable (sym y ∙ h)))
+      go (for_field g l d y u) = absurd (false≢true (ap is_variable (sym y ∙ h)))
+      go (for_this n l d c s y u) = absurd (false≢true (ap is_variable (sym y ∙ h)))
+      go (for_part n l p d c o) = numberless x (row.Param s i) n l p d c o h refl

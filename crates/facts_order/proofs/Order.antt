@@ -1,49 +1,55 @@
--- The facts of a formed and typed program are in order, given what ties, sets and the bodies of super calls are.
-use Rattle.std.proofs.Common.{◌≡◌, ℕ}
-use Rattle.std.specs.Prelude.{All, true, is_some}
+-- The facts of a formed and typed program are in order, and in range where there are not too many.
+use Rattle.std.proofs.Common.{◌≡◌, ℕ, ◌+◌, Option, Some, None, length, refl, ap, arith, ⊎_elim}
+use Rattle.std.specs.Prelude.{◌<◌, ◌≤◌, nat_lt, if◌then◌else◌, Bool, true, false}
+use Rattle.std.proofs.lemmas.Bool.{ltb-false, cases_lt}
+use Rattle.std.proofs.lemmas.List.{length-map}
+use Rattle.kaba_base.specs.declared.RowId.{RowId}
 use Rattle.java_core.specs.declared.Program.{Program}
 use Rattle.java_core.specs.Trees.{at_place, no_place}
 use Rattle.java_core.specs.Programs.{Plain, program_of}
 use Rattle.java_core.specs.Typing.{IsTyped}
 use Rattle.java_core.specs.Formed.{IsFormed}
-use Rattle.fact_model.specs.Items.{row_class, row_this}
-use Rattle.fact_model.specs.Classes.{IsBelow}
-use Rattle.fact_model.specs.Flowing.{IsInRow}
-use Rattle.fact_model.specs.InOrder.{InOrder, AreOwnersInOrder, IsDef, IsNearestAbove}
-use Rattle.fact_model.specs.Items.{site_class}
+use Rattle.fact_model.specs.InOrder.{InOrder}
+use Rattle.fact_model.specs.InRange.{AreCounted, InRange}
 use Rattle.fact_model.specs.declared.facts.Facts.{Facts}
-use Rattle.flow_facts.specs.Facts.{IsFactsOf, AreNamesOf}
+use Rattle.flow_facts.specs.declared.top.Counted.{Counted}
+use Rattle.flow_facts.specs.declared.top.Counted.TheVariants as counted
+use Rattle.flow_facts.specs.declared.items.Point.{Point}
+use Rattle.flow_facts.specs.Numbered.{rows_of, columns_of, sites_of, points_of}
+use Rattle.flow_facts.specs.Facts.{TooMany, row_info, column_info, site_info, numbers, cells_of, over, too_many, IsFactsOf, AreNamesOf}
+use Rattle.run_cover.proofs.Programs.{same_program}
+use Rattle.facts_order.proofs.Listed.{below_at, at_below}
 use Rattle.facts_order.proofs.Pairs.{IsPlaced, placed}
-use Rattle.facts_order.proofs.Classes.{classes_in_order}
+use Rattle.facts_order.proofs.Classes.{class_at, classes_in_order}
 use Rattle.facts_order.proofs.Members.{members_in_order}
 use Rattle.facts_order.proofs.Names.{names_in_order}
 use Rattle.facts_order.proofs.Sites.{sites_in_order, site_types}
 use Rattle.facts_order.proofs.Bodies.{one_this, listed, apart, this_body, this_site}
-use Rattle.facts_order.proofs.Accesses.{access_kinds}
-use Rattle.facts_order.proofs.Reached.{accesses_below}
-use Rattle.facts_order.proofs.Supers.{supers_below}
+use Rattle.facts_order.proofs.Accesses.{access_kinds, accesses_below}
+use Rattle.facts_order.proofs.Tied.{ties_below, ties_free}
+use Rattle.facts_order.proofs.Supers.{supers_below, super_bodies}
+use Rattle.facts_order.proofs.Contained.{members_below, arrays_free}
 use Rattle.facts_order.proofs.Tests.{tests_in_order}
+use Rattle.facts_order.proofs.Range.{in_range as all_in_range}
 
--- what ties, sets and super calls are
-pub record AreOperandsInOrder (F : Facts) : Type 0 where
-  pub ties : All (λ t. IsBelow F (row_class F t.lower.0) (row_class F t.upper.0)) F.ties.items
-  pub members : (v s : ℕ) → IsInRow F v s → IsBelow F (site_class F s) (row_class F v)
-  pub owners : AreOwnersInOrder F
-  pub super_bodies : All (λ x. (is_some (row_this F x.row.0) ≡ true) × IsDef F x.column.0 × IsNearestAbove F (row_class F x.row.0) x.column.0) F.supers.items
-
--- all others follow from the text alone
-pub in_order_with : (p : Program) → IsFormed (program_of no_place p) → IsTyped (program_of no_place p) → (F : Facts) → IsFactsOf (program_of no_place p) (program_of at_place p) F → AreNamesOf (program_of at_place p) F → AreOperandsInOrder F → InOrder F
-in_order_with p formed typed F facts named rest =
+pub in_order : (p : Program) → IsFormed (program_of no_place p) → IsTyped (program_of no_place p) → (F : Facts) → IsFactsOf (program_of no_place p) (program_of at_place p) F → AreNamesOf (program_of at_place p) F → InOrder F
+in_order p formed typed F facts named =
     let P : Plain = program_of no_place p in
     let Q : Plain = program_of at_place p in
     let pairs : IsPlaced P Q = placed p in
     record {
       classes = classes_in_order P Q pairs F facts formed;
-      types = record { ties = rest.ties; accesses = accesses_below P Q pairs formed typed F facts; supers = supers_below P Q pairs formed typed F facts; sites = site_types P Q pairs formed typed F facts; members = rest.members };
-      owners = rest.owners;
+      types = record {
+        ties = ties_below P Q pairs formed typed F facts;
+        accesses = accesses_below P Q F facts pairs formed typed;
+        supers = supers_below P Q pairs formed typed F facts;
+        sites = site_types P Q pairs formed typed F facts;
+        members = members_below P Q pairs formed typed F facts;
+      };
+      owners = record { ties = ties_free P Q pairs formed typed F facts; arrays = arrays_free P Q pairs formed typed F facts };
       bodies = record {
         accesses = access_kinds P Q F facts;
-        supers = rest.super_bodies;
+        supers = super_bodies P Q pairs formed typed F facts (same_program p);
         one_this = one_this P Q pairs formed typed F facts;
         listed = listed P Q pairs formed typed F facts;
         apart = apart P Q pairs formed typed F facts;
@@ -55,3 +61,42 @@ in_order_with p formed typed F facts named rest =
       members = members_in_order P Q pairs formed F facts;
       names = names_in_order P Q pairs formed F facts named;
     }
+
+over_none : (limit n : ℕ) (what : Counted) (rest : Option TooMany) → over limit n what rest ≡ None → (n ≤ limit) × (rest ≡ None)
+over_none limit n what rest e = go (nat_lt limit n) refl e
+  where
+    go : (b : Bool) → nat_lt limit n ≡ b → (if b then Some (record { what = what; number = limit + 1 }) else rest) ≡ None → (n ≤ limit) × (rest ≡ None)
+    go true d e = absurd (cc)
+    go false d e = (ltb-false limit n d, e)
+
+module _ (P Q : Plain) (pairs : IsPlaced P Q) (formed : IsFormed P) (F : Facts) (facts : IsFactsOf P Q F) where
+  classes_counted : length F.classes.items < 4294967295
+  classes_counted = ⊎_elim
+      (λ h. let z = below_at F.classes.items 4294967294 h in
+      let k = class_at P Q pairs F facts 4294967294 z.0 z.1 in
+      absurd (omega (arith, at_below P.classes 4294967294 k.plain k.stands, formed.counted.classes))) (λ h. omega (arith, h)) (cases_lt 4294967294 (length F.classes.items))
+
+  are_counted : too_many P Q ≡ None → length F.calls.items < 4294967295 → length F.tests.items < 4294967295 → AreCounted F
+  are_counted few calls tests =
+      let a = over_none 16384 (length (rows_of P Q)) counted.Rows _ few in
+      let b = over_none 8192 (length (columns_of P Q)) counted.Columns _ a.1 in
+      let c = over_none 8192 (length (sites_of P Q)) counted.Sites _ b.1 in
+      let d = over_none 65536 (length (points_of P Q) + length (cells_of P Q)) counted.Points None c.1 in
+      record {
+        rows = omega (arith, a.0, ap length facts.rows, length-map (rows_of P Q) (row_info (numbers P Q) Q));
+        columns = omega (arith, b.0, ap length facts.columns, length-map (columns_of P Q) (λ c. column_info Q c.item));
+        sites = omega (arith, c.0, ap length facts.sites, length-map (sites_of P Q) site_info);
+        classes = classes_counted;
+        points = omega (arith, d.0, ap length facts.points, length-map {A = Point} {B = RowId} (points_of P Q) (λ p. record { 0 = p.row }));
+        cells = omega (arith, d.0, ap length facts.cells);
+        calls = calls;
+        tests = tests;
+      }
+
+pub in_range : (p : Program) → IsFormed (program_of no_place p) → IsTyped (program_of no_place p) → (F : Facts) → IsFactsOf (program_of no_place p) (program_of at_place p) F → too_many (program_of no_place p) (program_of at_place p) ≡ None
+    → length F.calls.items < 4294967295 → length F.tests.items < 4294967295 → InRange F
+in_range p formed typed F facts few calls tests =
+    let P : Plain = program_of no_place p in
+    let Q : Plain = program_of at_place p in
+    let pairs : IsPlaced P Q = placed p in
+    all_in_range P Q pairs formed typed F facts (are_counted P Q pairs formed F facts few calls tests)

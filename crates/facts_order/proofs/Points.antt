@@ -18,7 +18,7 @@ use Rattle.flow_facts.specs.declared.items.PointAt.{PointAt}
 use Rattle.flow_facts.specs.declared.items.Point.{Point}
 use Rattle.flow_facts.specs.Ordered.{each, when, by_place}
 use Rattle.flow_facts.specs.Operands.{variable_row, result_in}
-use Rattle.flow_facts.specs.Parts.{Part, a_load, an_element, a_creation, a_call, a_static_call, a_super_call, a_test, a_pair, a_set, a_store, an_element_store, a_return, parts_of}
+use Rattle.flow_facts.specs.Parts.{Part, a_load, an_element, a_creation, a_call, a_static_call, a_super_call, a_test, parts_of}
 use Rattle.flow_facts.specs.Numbered.{Outline, own_point, point_of_form, form_points, static_points, variable_points, method_points, outline_if, point_with, listed, row_number, points_of, point_number}
 use Rattle.flow_facts.specs.Facts.{IsFactsOf}
 use Rattle.facts_order.proofs.Listed.{first, at_below, at_map, index_at, each_has, each_from, each_from_zero, flat_has, flat_from, place_has, place_from, when_has, when_from, one_from}
@@ -33,11 +33,7 @@ given_by (a_call p b s d es o) = Some o
 given_by (a_static_call p m es o) = Some o
 given_by (a_super_call p m es o) = Some o
 given_by (a_test p e o) = Some o
-given_by (a_pair o l r) = None
-given_by (a_set v o) = None
-given_by (a_store p b f o) = None
-given_by (an_element_store p b o) = None
-given_by (a_return o) = None
+given_by _ = None
 
 -- a flow point that a part gives
 pub record IsGiven (a : PointAt) (p : Part) : Type 0 where
@@ -64,11 +60,7 @@ form_from (a_call p b s d es o) a c = given_from (a_call p b s d es o) p o a ref
 form_from (a_static_call p m es o) a c = given_from (a_static_call p m es o) p o a refl c
 form_from (a_super_call p m es o) a c = given_from (a_super_call p m es o) p o a refl c
 form_from (a_test p e o) a c = given_from (a_test p e o) p o a refl c
-form_from (a_pair o l r) a c = absurd (omega (arith, c.1))
-form_from (a_set v o) a c = absurd (omega (arith, c.1))
-form_from (a_store p b f o) a c = absurd (omega (arith, c.1))
-form_from (an_element_store p b o) a c = absurd (omega (arith, c.1))
-form_from (a_return o) a c = absurd (omega (arith, c.1))
+form_from _ a c = absurd (omega (arith, c.1))
 
 module _ (P Q : Plain) where
   -- what a flow point follows

@@ -21,7 +21,7 @@ use Rattle.flow_facts.specs.declared.items.RowItem.TheVariants as row
 use Rattle.flow_facts.specs.declared.items.Row.{Row}
 use Rattle.flow_facts.specs.Ordered.{each}
 use Rattle.flow_facts.specs.Operands.{object_of, object_if, class_object, variable_row, result_in, type_in}
-use Rattle.flow_facts.specs.Parts.{Part, a_load, an_element, a_creation, a_call, a_static_call, a_super_call, a_test, a_pair, a_set, a_store, an_element_store, a_return, parts_body, parts_of}
+use Rattle.flow_facts.specs.Parts.{Part, a_creation, a_test, parts_body, parts_of}
 use Rattle.flow_facts.specs.Numbered.{row_if, own_row, form_rows, field_rows, this_rows, result_rows, variable_rows, method_rows, is_first, rows_of, row_number}
 use Rattle.flow_facts.specs.Facts.{row_info, numbers, IsFactsOf}
 use Rattle.facts_order.proofs.Listed.{first, at_below, below_at, at_map, map_at, index_at, index_past, each_has, each_from, each_from_zero, flat_from, when_has, when_from, one_from}
@@ -55,16 +55,7 @@ own_in p (Some i) t x c = let z = row_in i p t x c in (ap Some (sym z.0), z.1)
 abbrev pub own_of : Part → Option Operand
 own_of (a_creation p u o) = Some o
 own_of (a_test p e o) = Some o
-own_of (a_load p b f o) = None
-own_of (an_element p b o) = None
-own_of (a_call p b s d es o) = None
-own_of (a_static_call p m es o) = None
-own_of (a_super_call p m es o) = None
-own_of (a_pair o l r) = None
-own_of (a_set v o) = None
-own_of (a_store p b f o) = None
-own_of (an_element_store p b o) = None
-own_of (a_return o) = None
+own_of _ = None
 
 -- the row that a part is
 pub record IsOwn (x : Row) (p : Part) : Type 0 where

@@ -22,10 +22,10 @@ use Rattle.flow_facts.specs.declared.items.Site.{Site}
 use Rattle.flow_facts.specs.Labels.{label}
 use Rattle.flow_facts.specs.Operands.{result_in, variable_in, type_in}
 use Rattle.flow_facts.specs.Parts.{Part, a_load, an_element, a_creation, a_call, a_static_call, a_super_call, a_test, a_pair, a_set, a_store, an_element_store, a_return, parts_of}
-use Rattle.flow_facts.specs.Numbered.{rows_of, row_number, number_if, site_if, form_sites, bodies_of, body_at, sites_of, site_number}
+use Rattle.flow_facts.specs.Numbered.{Body, rows_of, row_number, number_if, site_if, form_sites, bodies_of, body_at, sites_of, site_number}
 use Rattle.flow_facts.specs.Facts.{site_info, site_of_row, numbers, IsFactsOf}
-use Rattle.facts_order.proofs.Listed.{below_at, at_map, map_at, index_at, each_from_zero, flat_from, one_from, first}
-use Rattle.facts_order.proofs.Items.{site_at, site_back, site_raw, row_back}
+use Rattle.facts_order.proofs.Listed.{below_at, at_map, map_at, index_at, each_has, each_from_zero, flat_has, flat_from, one_from, first}
+use Rattle.facts_order.proofs.Items.{site_at, site_back, site_raw, site_there, row_back}
 use Rattle.facts_order.proofs.Pairs.{IsPlaced}
 use Rattle.facts_order.proofs.Numbers.{number_in, part_number, IsPart, number_apart}
 use Rattle.facts_order.proofs.Forms.{own, own_assign, From, from_ex, from_assign, from_declare, from_return}
@@ -95,30 +95,12 @@ module _ (P : Plain) (type : Ex → Option ObjectType) (m : ℕ) (k h : PlainMet
 pub numbered_own : (p : Part) (o : Operand) → IsNumbered p → own_of p ≡ Some o → HasNumber o.row
 numbered_own (a_creation p u q) o a e = subst (λ z. HasNumber z.row) (same_Some q o e) a.0
 numbered_own (a_test p d q) o a e = subst (λ z. HasNumber z.row) (same_Some q o e) a
-numbered_own (a_load p b f q) o a e = absurd (cc)
-numbered_own (an_element p b q) o a e = absurd (cc)
-numbered_own (a_call p b s d es q) o a e = absurd (cc)
-numbered_own (a_static_call p m es q) o a e = absurd (cc)
-numbered_own (a_super_call p m es q) o a e = absurd (cc)
-numbered_own (a_pair q l r) o a e = absurd (cc)
-numbered_own (a_set v q) o a e = absurd (cc)
-numbered_own (a_store p b f q) o a e = absurd (cc)
-numbered_own (an_element_store p b q) o a e = absurd (cc)
-numbered_own (a_return q) o a e = absurd (cc)
+numbered_own _ o a e = absurd (cc)
 
 pub number_own : (p : Part) (o : Operand) → own_of p ≡ Some o → part_number p ≡ number_in o.row
 number_own (a_creation p u q) o e = ap (λ z. number_in z.row) (same_Some q o e)
 number_own (a_test p d q) o e = ap (λ z. number_in z.row) (same_Some q o e)
-number_own (a_load p b f q) o e = absurd (cc)
-number_own (an_element p b q) o e = absurd (cc)
-number_own (a_call p b s d es q) o e = absurd (cc)
-number_own (a_static_call p m es q) o e = absurd (cc)
-number_own (a_super_call p m es q) o e = absurd (cc)
-number_own (a_pair q l r) o e = absurd (cc)
-number_own (a_set v q) o e = absurd (cc)
-number_own (a_store p b f q) o e = absurd (cc)
-number_own (an_element_store p b q) o e = absurd (cc)
-number_own (a_return q) o e = absurd (cc)
+number_own _ o e = absurd (cc)
 
 result_numberless : (s : Option ℕ) (m : ℕ) → number_in (Some (result_in s m)) ≡ []
 result_numberless None m = refl
@@ -151,16 +133,18 @@ module _ (P Q : Plain) (placed : IsPlaced P Q) (formed : IsFormed P) (typed : Is
       go (for_part m k p a b c) = (p, record { number = m; method = k; stands = a; part = b }, c)
 
   -- the row of what a part gives has its type
-  pub own_type : (p : Part) (o : Operand) (i : RowItem) (t : ObjectType) (r : ℕ) (x : Row) → IsPart P Q placed formed p → own_of p ≡ Some o → o.row ≡ Some i → o.ty ≡ Some t → slice_get (rows_of P Q) r ≡ Some x → x.item ≡ i → x.ty ≡ t
-  own_type p o i t r x a b c d e f =
+  pub own_typed : (p : Part) (o : Operand) (i : RowItem) (r : ℕ) (x : Row) → IsPart P Q placed formed p → own_of p ≡ Some o → o.row ≡ Some i → slice_get (rows_of P Q) r ≡ Some x → x.item ≡ i → o.ty ≡ Some x.ty
+  own_typed p o i r x a b c e f =
       let n = numbered_own p o (part_numbered p a) b in
       let g = ap number_in (ap Some f ∙ sym c) ∙ n.1 in
       let z = numbered_row n.0 r x e g in
       let one = subst (λ w. Contains w n.0) (sym (number_own p o b ∙ n.1)) (first n.0 []) in
       let two = subst (λ w. Contains w n.0) (sym (number_own z.0 z.2.operand z.2.own ∙ ap number_in z.2.row_is ∙ g)) (first n.0 []) in
       let same = number_apart P Q placed formed p z.0 n.0 a z.1 one two in
-      let operand = same_Some _ _ (sym b ∙ ap own_of same ∙ z.2.own) in
-      same_Some _ _ (sym z.2.type ∙ ap (λ w. w.ty) (sym operand) ∙ d)
+      ap (λ w. w.ty) (same_Some _ _ (sym b ∙ ap own_of same ∙ z.2.own)) ∙ z.2.type
+
+  pub own_type : (p : Part) (o : Operand) (i : RowItem) (t : ObjectType) (r : ℕ) (x : Row) → IsPart P Q placed formed p → own_of p ≡ Some o → o.row ≡ Some i → o.ty ≡ Some t → slice_get (rows_of P Q) r ≡ Some x → x.item ≡ i → x.ty ≡ t
+  own_type p o i t r x a b c d e f = same_Some _ _ (sym (own_typed p o i r x a b c e f) ∙ d)
 
   -- the part of a site
   pub record IsSitePart (x : Site) : Type 0 where
@@ -184,17 +168,7 @@ module _ (P Q : Plain) (placed : IsPlaced P Q) (formed : IsFormed P) (typed : Is
       let z = site_parts p o.created o.ty (number_if (row_number P Q) o.row) x c in
       let e = (part_numbered (a_creation p u o) a).1 ∙ ap (option_map row.New) z.0 in
       record { place = p; used = u; operand = o; is_part = a; created = z.0; type = z.1; row_is = e; row_number_is = sym (ap (number_if (row_number P Q)) e) ∙ z.2 }
-  form_site (a_test p d q) x a c = absurd (omega (arith, c.1))
-  form_site (a_load p b f q) x a c = absurd (omega (arith, c.1))
-  form_site (an_element p b q) x a c = absurd (omega (arith, c.1))
-  form_site (a_call p b s d es q) x a c = absurd (omega (arith, c.1))
-  form_site (a_static_call p m es q) x a c = absurd (omega (arith, c.1))
-  form_site (a_super_call p m es q) x a c = absurd (omega (arith, c.1))
-  form_site (a_pair q l r) x a c = absurd (omega (arith, c.1))
-  form_site (a_set v q) x a c = absurd (omega (arith, c.1))
-  form_site (a_store p b f q) x a c = absurd (omega (arith, c.1))
-  form_site (an_element_store p b q) x a c = absurd (omega (arith, c.1))
-  form_site (a_return q) x a c = absurd (omega (arith, c.1))
+  form_site _ x a c = absurd (omega (arith, c.1))
 
   pub site_part : (s : ℕ) (x : Site) → slice_get (sites_of P Q) s ≡ Some x → IsSitePart x
   unfolding bodies_of
@@ -231,6 +205,26 @@ module _ (P Q : Plain) (placed : IsPlaced P Q) (formed : IsFormed P) (typed : Is
         let w = item_row P Q F facts (row.New z.site.number) z.site.row p.row_number_is in
         let t = own_type (a_creation p.place p.used p.operand) p.operand (row.New z.site.number) z.site.ty z.site.row w.0 p.is_part refl p.row_is p.type w.1 w.2 in
         ap (λ i. i.class.0) z.info ∙ sym (ap (λ i. row_class F i.row.0) z.info ∙ ap (λ i. i.class.0) w.3 ∙ ap (λ y. y.class.0) t)
+
+    -- the site of a creation's row has as many brackets
+    pub site_dim : (n r s : ℕ) (x : Row) → slice_get (rows_of P Q) r ≡ Some x → x.item ≡ row.New n → row_number P Q (row.New n) ≡ Some r → site_number P Q n ≡ Some s → (site_info_at F s).dim ≡ x.ty.dim
+    site_dim n r s x e h a b =
+        let z = site_at P Q n s b in
+        let p = site_part s z.0 z.1 in
+        let same : z.0.row ≡ r = same_Some _ _ (sym p.row_number_is ∙ ap (λ i. row_number P Q (row.New i)) z.2 ∙ a) in
+        let t = own_type (a_creation p.place p.used p.operand) p.operand (row.New z.0.number) z.0.ty z.0.row x p.is_part refl p.row_is p.type (subst (λ i. slice_get (rows_of P Q) i ≡ Some x) (sym same) e) (h ∙ ap row.New (sym z.2)) in
+        ap (λ i. i.dim) (index_at F.sites.items s _ (site_info z.0) (subst (λ y. slice_get y s ≡ Some (site_info z.0)) (sym facts.sites) (at_map (site_info) (sites_of P Q) s z.0 z.1))) ∙ sym (ap (λ y. y.dim) t)
+
+    -- a creation has a site
+    pub made_site : (m : ℕ) (k : PlainMethod) (w : Place) (u : Bool) (o : Operand) (n r : ℕ) (t : ObjectType) → slice_get Q.methods m ≡ Some k → Contains (parts_of P m k) (a_creation w u o) → o.created ≡ Some n → o.ty ≡ Some t → o.row ≡ Some (row.New n) → row_number P Q (row.New n) ≡ Some r
+        → (s : ℕ) × (site_number P Q n ≡ Some s)
+    unfolding bodies_of
+    made_site m k w u o n r t e c a b d h =
+        let x : Site = record { number = n; place = w; ty = t; row = r } in
+        let b0 : Body = record { number = m; slot = k.slot; parts = parts_of P m k } in
+        site_there P Q x (flat_has (λ b. flat_map (form_sites (row_number P Q)) b.parts) (bodies_of P Q) b0 x (each_has (body_at P Q) 0 Q.methods m k b0 e m (omega arith) (first b0 []))
+        (flat_has (form_sites (row_number P Q)) (parts_of P m k) (a_creation w u o) x c
+        (subst (λ z. Contains (site_if w z o.ty (number_if (row_number P Q) o.row)) x) (sym a) (subst (λ z. Contains (site_if w (Some n) z (number_if (row_number P Q) o.row)) x) (sym b) (subst (λ z. Contains (site_if w (Some n) (Some t) z) x) (sym (ap (number_if (row_number P Q)) d ∙ h)) (first x []))))))
 
     -- the creation of a row with a site
     created_row : (n r : ℕ) (s : SiteId) → row_number P Q (row.New n) ≡ Some r → site_number P Q n ≡ Some s.0 → site_row F s.0 ≡ r

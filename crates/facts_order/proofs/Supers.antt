@@ -1,163 +1,195 @@
--- The row of a super call is at or below the class of the body that it runs.
-use Rattle.std.proofs.Common.{◌≡◌, ℕ, List, [], ◌∷◌, Option, Some, None, refl, sym, ap, ◌∙◌, subst, arith}
-use Rattle.std.specs.Prelude.{Bool, Contains, All, slice_get, option_and_then}
-use Rattle.std.specs.Option.{option_map_or}
+-- A super call stands in a method, and runs the nearest body strictly above the class of its `this`.
+use Rattle.std.proofs.Common.{◌≡◌, ℕ, List, Option, Some, None, length, refl, sym, ap, ◌∙◌, subst, arith}
+use Rattle.std.specs.Prelude.{◌==◌, ◌&&◌, true, false, Contains, All, slice_get, option_and_then}
+use Rattle.std.specs.Option.{option_map_or, is_some}
 use Rattle.std.proofs.lemmas.Option.{same_Some}
-use Rattle.kaba_base.specs.declared.Place.{Place}
+use Rattle.std.proofs.lemmas.Bool.{false≢true, eqb-true, eq-eqb, and_parts, and_from}
 use Rattle.kaba_base.specs.declared.ClassId.{ClassId}
-use Rattle.java_core.specs.Trees.{Ex, number, character, text, truth, null, this, local, static_field, own_field, field, index, call, static_call, super_call, create, create_array, cast, instance_of, unary, binary, Target, to_local, to_static, to_own, to_field, to_element, no_target}
 use Rattle.java_core.specs.Programs.{Plain, PlainMethod}
-use Rattle.java_core.specs.Classes.{IsSubclass, through, super_method, own_method, nearest_of, parent_of}
+use Rattle.java_core.specs.Classes.{IsSubclass, through, super_method, own_method, own_body, has_slot, is_slot, has_body, nearest_of, lookup, parent_of}
+use Rattle.java_core.specs.Found.{IsNearest, at_class, above_class}
 use Rattle.java_core.specs.Typing.{IsTyped}
-use Rattle.java_core.specs.Formed.{IsFormed}
-use Rattle.java_core.proofs.Subclasses.{nearest_of-nearest, parent-super}
-use Rattle.java_core.proofs.Offered.{own_method-own}
+use Rattle.java_core.specs.Formed.{IsFormed, IsInSlot}
+use Rattle.java_core.proofs.Subclasses.{nearest_of-nearest, nearest-nearest_of, parent-super}
+use Rattle.java_core.proofs.Positions.{passes-position}
+use Rattle.java_core.proofs.Offered.{own_method-own, own-own_method}
 use Rattle.java_meaning.proofs.Layouts.{nearest_above}
-use Rattle.fact_model.specs.Items.{row_class, column_class}
-use Rattle.fact_model.specs.Classes.{IsBelow}
+use Rattle.fact_model.specs.Items.{row_class, row_this, column_class}
+use Rattle.fact_model.specs.Classes.{IsBelow, finds, finds_within}
+use Rattle.fact_model.specs.InOrder.{IsDef, IsNearestAbove}
 use Rattle.fact_model.specs.declared.facts.Facts.{Facts}
 use Rattle.fact_model.specs.declared.facts.SuperInfo.{SuperInfo}
-use Rattle.flow_facts.specs.declared.items.ObjectType.{ObjectType}
 use Rattle.flow_facts.specs.declared.items.RowItem.TheVariants as row
 use Rattle.flow_facts.specs.declared.items.ColumnItem.TheVariants as column
-use Rattle.flow_facts.specs.Labels.{label}
-use Rattle.flow_facts.specs.Operands.{type_in}
-use Rattle.flow_facts.specs.Parts.{Part, a_load, an_element, a_creation, a_call, a_static_call, a_super_call, a_test, a_pair, a_set, a_store, an_element_store, a_return, parts_of}
+use Rattle.flow_facts.specs.Parts.{Part, a_super_call, parts_of}
 use Rattle.flow_facts.specs.Numbered.{row_number, column_number}
-use Rattle.flow_facts.specs.Lists.{both, supers_of}
-use Rattle.flow_facts.specs.Facts.{numbers, owner_of, IsFactsOf}
-use Rattle.facts_order.proofs.Listed.{one_from, all_of}
+use Rattle.flow_facts.specs.Lists.{supers_of}
+use Rattle.flow_facts.specs.Facts.{numbers, this_of_row, owner_of, IsFactsOf}
+use Rattle.run_cover.specs.Untagged.{untagged}
+use Rattle.run_cover.proofs.Found.{same_length}
+use Rattle.run_cover.proofs.Bodies.{finds_some}
+use Rattle.facts_order.proofs.Listed.{all_of, position_at}
 use Rattle.facts_order.proofs.Pairs.{IsPlaced}
-use Rattle.facts_order.proofs.Columns.{numbered_column}
-use Rattle.facts_order.proofs.Classes.{subclass_below}
-use Rattle.facts_order.proofs.Forms.{own, own_assign, From, from_ex, from_assign, from_declare, from_return}
-use Rattle.facts_order.proofs.Rows.{item_row, row_types, part_from}
-use Rattle.facts_order.proofs.Bodies.{this_type}
-use Rattle.facts_order.proofs.Tests.{gathered_from}
+use Rattle.facts_order.proofs.Columns.{numbered_column, body_column}
+use Rattle.facts_order.proofs.Classes.{subclass_below, parent_same}
+use Rattle.facts_order.proofs.Rows.{item_row, row_types}
+use Rattle.facts_order.proofs.Bodies.{this_method, this_column}
+use Rattle.facts_order.proofs.Tests.{gathered_from, both_from}
+use Rattle.facts_order.proofs.Fitted.{part_fitted}
 
-abbrev super_in : Part → Option ℕ
-super_in (a_super_call p d es o) = d
-super_in (a_load p b f o) = None
-super_in (a_store p b f o) = None
-super_in (a_call p b s d es o) = None
-super_in (an_element p b o) = None
-super_in (a_creation p u o) = None
-super_in (a_static_call p m es o) = None
-super_in (a_test p e o) = None
-super_in (a_pair o l r) = None
-super_in (a_set v o) = None
-super_in (an_element_store p b o) = None
-super_in (a_return o) = None
-
-both_from : (r c : Option ℕ) (x : SuperInfo) → Contains (both r c (λ a b. record { row = record { 0 = a }; column = record { 0 = b } })) x → (r ≡ Some x.row.0) × (c ≡ Some x.column.0)
-both_from (Some a) (Some b) x d = let e = one_from _ x d in (ap (λ z. Some z.row.0) e, ap (λ z. Some z.column.0) e)
-both_from (Some a) None x d = absurd (omega (arith, d.1))
-both_from None c x d = absurd (omega (arith, d.1))
+slot_is : (o : Option ℕ) (s : ℕ) → is_slot o s ≡ true → o ≡ Some s
+slot_is None s e = absurd (false≢true e)
+slot_is (Some r) s e = ap Some (eqb-true r s e)
 
 module _ (P Q : Plain) (placed : IsPlaced P Q) (formed : IsFormed P) (typed : IsTyped P) where
-  super_above : (c d : ℕ) (x : List ℕ) → super_method P c x ≡ Some d → IsSubclass P c (owner_of Q (column.Def d))
+  -- the method that a super call finds, in the class where it stands
+  record IsFoundAbove (c d : ℕ) (x : List ℕ) : Type 0 where
+    parent : ClassId
+    above : parent_of P c ≡ Some parent
+    found : nearest_of P (λ k. own_method P k x) parent.0 ≡ Some d
+
+  found_above : (c d : ℕ) (x : List ℕ) → super_method P c x ≡ Some d → IsFoundAbove c d x
   unfolding super_method
-  super_above c d x e = go (parent_of P c) refl e
+  found_above c d x e = go (parent_of P c) refl e
     where
-      go : (o : Option ClassId) → parent_of P c ≡ o → option_and_then (λ p. nearest_of P (λ k. own_method P k x) p.0) o ≡ Some d → IsSubclass P c (owner_of Q (column.Def d))
+      go : (o : Option ClassId) → parent_of P c ≡ o → option_and_then (λ p. nearest_of P (λ k. own_method P k x) p.0) o ≡ Some d → IsFoundAbove c d x
       go None h e = absurd (cc)
-      go (Some p) h e =
-          let n = nearest_above P (λ k. own_method P k x) (nearest_of-nearest P (λ k. own_method P k x) e) in
-          let z = own_method-own P n.0 x d n.2 in
-          let q = placed.placed_method d z.method z.stands in
-          let w = placed.methods d q.0 q.1 in
-          through (parent-super P c p h) (subst (λ y. IsSubclass P p.0 y) (sym z.owner ∙ ap (λ k. k.owner) (same_Some _ _ (sym z.stands ∙ w.stands)) ∙ w.owner ∙ sym (ap (λ y. option_map_or (λ k. k.owner) y 0) q.1)) n.1)
+      go (Some p) h e = record { parent = p; above = h; found = e }
 
-  module _ (m : ℕ) (k : PlainMethod) (stands : slice_get Q.methods m ≡ Some k) where
-    abbrev type : Ex → Option ObjectType
-    type = type_in P m k
+  -- the class of the method
+  record IsHeld (c d : ℕ) (x : List ℕ) : Type 0 where
+    method : PlainMethod
+    stands : slice_get P.methods d ≡ Some method
+    above : IsSubclass P c method.owner
+    instance : method.is_static ≡ false
+    name : method.name ≡ x
 
-    abbrev plain : PlainMethod
-    plain = (placed.methods m k stands).plain
+  method_held : (c d : ℕ) (x : List ℕ) → nearest_of P (λ k. own_method P k x) c ≡ Some d → IsHeld c d x
+  method_held c d x e =
+      let n = nearest_above P (λ k. own_method P k x) (nearest_of-nearest P (λ k. own_method P k x) e) in
+      let z = own_method-own P n.0 x d n.2 in
+      record { method = z.method; stands = z.stands; above = subst (λ y. IsSubclass P c y) (sym z.owner) n.1; instance = z.instance; name = z.name }
 
-    abbrev ps : List Part
-    ps = parts_of P m k
+  owner_as : (d : ℕ) (h : PlainMethod) → slice_get P.methods d ≡ Some h → owner_of Q (column.Def d) ≡ h.owner
+  owner_as d h e =
+      let q = placed.placed_method d h e in
+      let w = placed.methods d q.0 q.1 in
+      ap (λ y. option_map_or (λ k. k.owner) y 0) q.1 ∙ sym w.owner ∙ ap (λ k. k.owner) (same_Some _ _ (sym w.stands ∙ e))
 
-    Fine : Option ℕ → Type 0
-    Fine o = (d : ℕ) → o ≡ Some d → IsSubclass P k.owner (owner_of Q (column.Def d))
+  pub super_above : (c d : ℕ) (x : List ℕ) → super_method P c x ≡ Some d → IsSubclass P c (owner_of Q (column.Def d))
+  super_above c d x e =
+      let f = found_above c d x e in
+      let h = method_held f.parent.0 d x f.found in
+      through (parent-super P c f.parent f.above) (subst (λ y. IsSubclass P f.parent.0 y) (sym (owner_as d h.method h.stands)) h.above)
 
-    no_super : Fine None
-    unfolding Fine
-    no_super d e = absurd (cc)
+  in_slot : (d s : ℕ) (k : PlainMethod) → slice_get P.methods d ≡ Some k → k.slot ≡ Some s → IsInSlot P s k
+  in_slot d s k e h = ((formed.methods d k e).slots s).0 h
 
-    super_fine : (x : List ℕ) → Fine (super_method P k.owner x)
-    unfolding Fine
-    super_fine x d e = super_above k.owner d x e
+  slot_name : (d e s : ℕ) (h k : PlainMethod) → slice_get P.methods d ≡ Some h → slice_get P.methods e ≡ Some k → h.slot ≡ Some s → k.slot ≡ Some s → h.name ≡ k.name
+  slot_name d e s h k a b u v = let x = in_slot d s h a u in let y = in_slot e s k b v in x.name ∙ ap (λ z. z.name) (same_Some _ _ (sym x.stands ∙ y.stands)) ∙ sym y.name
 
-    is : (q p : Part) → Contains (q ∷ []) p → Fine (super_in q) → Fine (super_in p)
-    is q p c n = subst (λ z. Fine (super_in z)) (one_from q p c) n
+  own_body_method : (c s e : ℕ) → own_body P c s ≡ Some e → (k : PlainMethod) × (slice_get P.methods e ≡ Some k) × (k.owner ≡ c) × (k.slot ≡ Some s)
+  own_body_method c s e h =
+      let z = position_at (λ m. has_slot c s m && is_some m.body) P.methods e h in
+      let w = and_parts (z.0.owner == c) (is_slot z.0.slot s) (and_parts (has_slot c s z.0) (is_some z.0.body) z.2).0 in
+      (z.0, z.1, eqb-true z.0.owner c w.0, slot_is z.0.slot s w.1)
 
-    form_fine : (u : Bool) (e : Ex) (p : Part) → Contains (own P type m k plain ps u e) p → Fine (super_in p)
-    form_fine u (super_call t x es) p c = is _ p c (super_fine x)
-    form_fine u (number t i) p c = absurd (omega (arith, c.1))
-    form_fine u (character t i) p c = absurd (omega (arith, c.1))
-    form_fine u (text t i) p c = absurd (omega (arith, c.1))
-    form_fine u (truth t i) p c = absurd (omega (arith, c.1))
-    form_fine u (null t) p c = absurd (omega (arith, c.1))
-    form_fine u (this t) p c = absurd (omega (arith, c.1))
-    form_fine u (local t i) p c = absurd (omega (arith, c.1))
-    form_fine u (static_field t i) p c = absurd (omega (arith, c.1))
-    form_fine u (own_field t g) p c = is _ p c no_super
-    form_fine u (field t e x) p c = is _ p c no_super
-    form_fine u (index t e i) p c = is _ p c no_super
-    form_fine u (call t e x es) p c = is _ p c no_super
-    form_fine u (static_call t d es) p c = is _ p c no_super
-    form_fine u (create t i d es) p c = is _ p c no_super
-    form_fine u (create_array t i v e) p c = is _ p c no_super
-    form_fine u (cast t i v e) p c = is _ p c no_super
-    form_fine u (instance_of t i e d) p c = is _ p c no_super
-    form_fine u (unary t o e) p c = absurd (omega (arith, c.1))
-    form_fine u (binary t o e d) p c = is _ p c no_super
+  -- the nearest method of the name is the nearest body of its slot
+  module _ (d s : ℕ) (h : PlainMethod) (stands : slice_get P.methods d ≡ Some h) (slot : h.slot ≡ Some s) (bodied : is_some h.body ≡ true) where
+    body_here : (c : ℕ) → h.owner ≡ c → own_body P c s ≡ Some d
+    body_here c o =
+        let j = passes-position (λ m. has_slot c s m && is_some m.body) P.methods d h stands (and_from (has_slot c s h) (is_some h.body) (and_from (h.owner == c) (is_slot h.slot s) (eq-eqb h.owner c o) (ap (λ z. is_slot z s) slot ∙ eq-eqb s s refl)) bodied) in
+        let z = own_body_method c s j.0 j.1 in
+        j.1 ∙ ap Some (formed.method_names j.0 d z.0 h z.1 stands (z.2 ∙ sym o) (slot_name j.0 d s z.0 h z.1 stands z.3 slot))
 
-    assign_fine : (w : Place) (t : Target) (e : Ex) (p : Part) → Contains (own_assign P type m k plain ps w t e) p → Fine (super_in p)
-    assign_fine w (to_local t i) e p c = is _ p c no_super
-    assign_fine w (to_static t f) e p c = is _ p c no_super
-    assign_fine w (to_own t f) e p c = is _ p c no_super
-    assign_fine w (to_field t b x) e p c = is _ p c no_super
-    assign_fine w (to_element t b i) e p c = is _ p c no_super
-    assign_fine w no_target e p c = is _ p c no_super
+    no_body : (c : ℕ) → own_method P c h.name ≡ None → own_body P c s ≡ None
+    no_body c e = go (own_body P c s) refl
+      where
+        go : (o : Option ℕ) → own_body P c s ≡ o → own_body P c s ≡ None
+        go None f = f
+        go (Some j) f =
+            let z = own_body_method c s j f in
+            let y = in_slot j s z.0 z.1 z.3 in
+            let t = own-own_method P c h.name j (record { method = z.0; stands = z.1; owner = z.2; instance = y.instance; name = slot_name j d s z.0 h z.1 stands z.3 slot }) in
+            absurd (let u = sym t.1 ∙ e in cc)
 
-    from_fine : (p : Part) → From P type m k plain ps p → Fine (super_in p)
-    from_fine p (from_ex z) = form_fine z.used (label z.number z.form) p z.own_part
-    from_fine p (from_assign z) = assign_fine z.place _ _ p z.own_part
-    from_fine p (from_declare z) = is _ p z.own_part no_super
-    from_fine p (from_return z) = is _ p z.own_part no_super
+    nearest_body : {c : ℕ} → IsNearest P (λ k. own_method P k h.name) c d → IsNearest P (λ k. own_body P k s) c d
+    nearest_body (at_class {c = c} e) = at_class (body_here c (let z = own_method-own P c h.name d e in ap (λ k. k.owner) (same_Some _ _ (sym stands ∙ z.stands)) ∙ z.owner))
+    nearest_body (above_class {c = c} e p r) = above_class (no_body c e) p (nearest_body r)
 
-    part_above : (p : Part) → Contains ps p → (d : ℕ) → super_in p ≡ Some d → IsSubclass P k.owner (owner_of Q (column.Def d))
-    unfolding Fine
-    part_above p c d e = from_fine p (part_from P Q placed formed typed m k stands p c) d e
+  found_body : (c d s : ℕ) (x : List ℕ) (h : IsHeld c d x) → h.method.slot ≡ Some s → has_body P d ≡ true → nearest_of P (λ k. own_method P k x) c ≡ Some d → lookup P c s ≡ Some d
+  unfolding lookup
+  found_body c d s x h e b f =
+      nearest-nearest_of P (λ k. own_body P k s) formed.acyclic
+      (nearest_body d s h.method h.stands e (sym (ap (λ o. option_map_or (λ k. is_some k.body) o false) h.stands) ∙ b) (nearest_of-nearest P (λ k. own_method P k h.method.name) (subst (λ y. nearest_of P (λ k. own_method P k y) c ≡ Some d) (sym h.name) f)))
 
   module _ (F : Facts) (facts : IsFactsOf P Q F) where
-    super_at : (m : ℕ) (k : PlainMethod) (d : ℕ) (x : SuperInfo) → slice_get Q.methods m ≡ Some k → row_number P Q (row.This m) ≡ Some x.row.0 → column_number P Q (column.Def d) ≡ Some x.column.0 → IsSubclass P k.owner (owner_of Q (column.Def d)) → IsBelow F (row_class F x.row.0) (column_class F x.column.0)
-    super_at m k d x e a b s =
-        let n = numbered_column P Q F facts (column.Def d) x.column.0 b in
-        let y = item_row P Q F facts (row.This m) x.row.0 a in
-        let t = this_type P Q placed formed typed F facts m k y.0 e (row_types P Q x.row.0 y.0 y.1) y.2 in
-        subst (λ z. IsBelow F z (column_class F x.column.0)) (sym (ap (λ i. i.class.0) y.3 ∙ ap (λ y. y.class.0) t)) (subst (λ z. IsBelow F k.owner z) (sym (ap (λ i. i.class.0) n.1)) (subclass_below P Q placed F facts s))
+    -- a super call of a method's body
+    pub record IsSuperCall (x : SuperInfo) : Type 0 where
+      pub number : ℕ
+      pub method : PlainMethod
+      pub stands : slice_get Q.methods number ≡ Some method
+      pub runs : ℕ
+      pub row_is : row_number P Q (row.This number) ≡ Some x.row.0
+      pub column_is : column_number P Q (column.Def runs) ≡ Some x.column.0
+      pub name : List ℕ
+      pub found : super_method P method.owner name ≡ Some runs
+      pub bodied : has_body P runs ≡ true
 
-    entry_below : (m : ℕ) (k : PlainMethod) (p : Part) (x : SuperInfo) → slice_get Q.methods m ≡ Some k → Contains (parts_of P m k) p → Contains (supers_of (numbers P Q) m p) x → IsBelow F (row_class F x.row.0) (column_class F x.column.0)
+    super_call_of : (m : ℕ) (k : PlainMethod) (p : Part) (x : SuperInfo) → slice_get Q.methods m ≡ Some k → Contains (parts_of P m k) p → Contains (supers_of (numbers P Q) m p) x → IsSuperCall x
     unfolding numbers
-    entry_below m k (a_super_call w (Some d) es o) x e c h =
-        let z = both_from (row_number P Q (row.This m)) (column_number P Q (column.Def d)) x h in
-        super_at m k d x e z.0 z.1 (part_above m k e (a_super_call w (Some d) es o) c d refl)
-    entry_below m k (a_super_call w None es o) x e c h = absurd (omega (arith, h.1))
-    entry_below m k (a_load p b f o) x e c h = absurd (omega (arith, h.1))
-    entry_below m k (a_store p b f o) x e c h = absurd (omega (arith, h.1))
-    entry_below m k (a_call p b s d es o) x e c h = absurd (omega (arith, h.1))
-    entry_below m k (an_element p b q) x e c h = absurd (omega (arith, h.1))
-    entry_below m k (a_creation p u q) x e c h = absurd (omega (arith, h.1))
-    entry_below m k (a_static_call p d es q) x e c h = absurd (omega (arith, h.1))
-    entry_below m k (a_test p d q) x e c h = absurd (omega (arith, h.1))
-    entry_below m k (a_pair q l r) x e c h = absurd (omega (arith, h.1))
-    entry_below m k (a_set v q) x e c h = absurd (omega (arith, h.1))
-    entry_below m k (an_element_store p b q) x e c h = absurd (omega (arith, h.1))
-    entry_below m k (a_return q) x e c h = absurd (omega (arith, h.1))
+    super_call_of m k (a_super_call w (Some d) es o) x e c h =
+        let z = both_from (row_number P Q (row.This m)) (column_number P Q (column.Def d)) (λ a b. record { row = record { 0 = a }; column = record { 0 = b } }) x h in
+        let f = ((part_fitted P Q placed formed typed F facts m k e (a_super_call w (Some d) es o) c).1 d refl).0 in
+        record { number = m; method = k; stands = e; runs = d; row_is = z.2 ∙ ap (λ y. Some y.row.0) z.4; column_is = z.3 ∙ ap (λ y. Some y.column.0) z.4; name = f.name; found = f.found; bodied = f.bodied }
+    super_call_of m k _ x e c h = absurd (omega (arith, h.1))
+
+    pub super_entry : (x : SuperInfo) → Contains F.supers.items x → IsSuperCall x
+    super_entry x c = let z = gathered_from P Q (λ b. supers_of (numbers P Q) b.number) x ((facts.supers x).0 c) in super_call_of z.0 z.1 z.2 x z.3 z.4 z.5
+
+    this_class : (x : SuperInfo) (w : IsSuperCall x) → row_class F x.row.0 ≡ w.method.owner
+    this_class x w =
+        let y = item_row P Q F facts (row.This w.number) x.row.0 w.row_is in
+        let t = this_method P Q placed formed typed F facts w.number y.0 (row_types P Q x.row.0 y.0 y.1) y.2 in
+        ap (λ i. i.class.0) y.3 ∙ ap (λ y. y.class.0) t.type ∙ ap (λ k. k.owner) (same_Some _ _ (sym t.stands ∙ w.stands))
 
     pub supers_below : All (λ x. IsBelow F (row_class F x.row.0) (column_class F x.column.0)) F.supers.items
     supers_below = all_of (λ x. IsBelow F (row_class F x.row.0) (column_class F x.column.0)) F.supers.items
-        (λ x c. let z = gathered_from P Q (λ b. supers_of (numbers P Q) b.number) x ((facts.supers x).0 c) in entry_below z.0 z.1 z.2 x z.3 z.4 z.5)
+        (λ x c. let w = super_entry x c in
+        let n = numbered_column P Q F facts (column.Def w.runs) x.column.0 w.column_is in
+        subst (λ z. IsBelow F z (column_class F x.column.0)) (sym (this_class x w)) (subst (λ z. IsBelow F w.method.owner z) (sym (ap (λ i. i.class.0) n.1)) (subclass_below P Q placed F facts (super_above w.method.owner w.runs w.name w.found))))
+
+    -- a super call stands in a method with a `this`
+    this_there : (x : SuperInfo) → IsSuperCall x → is_some (row_this F x.row.0) ≡ true
+    this_there x w =
+        let y = item_row P Q F facts (row.This w.number) x.row.0 w.row_is in
+        let t = this_method P Q placed formed typed F facts w.number y.0 (row_types P Q x.row.0 y.0 y.1) y.2 in
+        let d = body_column P Q w.number t.method t.stands t.instance t.bodied in
+        ap is_some (ap (λ i. i.this_of) y.3 ∙ ap (this_of_row (numbers P Q)) y.2 ∙ this_column P Q placed formed typed F facts w.number d.0 d.1)
+
+    module _ (same : untagged Q ≡ P) where
+      finds_column : (c j m : ℕ) → lookup P c j ≡ Some m → (d : ℕ) × (finds F c j ≡ Some d) × (column_number P Q (column.Def m) ≡ Some d)
+      unfolding lookup
+      finds_column = subst (λ Z. IsFormed Z → IsFactsOf Z Q F → (c j m : ℕ) → lookup Z c j ≡ Some m → (d : ℕ) × (finds F c j ≡ Some d) × (column_number Z Q (column.Def m) ≡ Some d)) same
+          (λ f g c j m e. let z = finds_some Q F f g (length (untagged Q).classes) c j m e in (z.0, ap (λ n. finds_within F n c j) (same_length Q F g) ∙ z.1, z.2)) formed facts
+
+      nearest_entry : (x : SuperInfo) → IsSuperCall x → IsNearestAbove F (row_class F x.row.0) x.column.0
+      nearest_entry x w =
+          let f = found_above w.method.owner w.runs w.name w.found in
+          let h = method_held f.parent.0 w.runs w.name f.found in
+          let s = (formed.methods w.runs h.method h.stands).slotted h.instance in
+          let d = finds_column f.parent.0 s.0 w.runs (found_body f.parent.0 w.runs s.0 w.name h s.1 w.bodied f.found) in
+          let n = numbered_column P Q F facts (column.Def w.runs) x.column.0 w.column_is in
+          let q = placed.placed_method w.runs h.method h.stands in
+          let y = placed.methods w.runs q.0 q.1 in
+          record {
+            parent = f.parent;
+            above = parent_same P Q placed F facts (row_class F x.row.0) ∙ ap (parent_of P) (this_class x w) ∙ f.above;
+            slot = s.0;
+            slot_is = ap (λ i. i.slot) n.1 ∙ ap (λ o. option_and_then (λ k. k.slot) o) q.1 ∙ sym y.slot ∙ ap (λ k. k.slot) (same_Some _ _ (sym y.stands ∙ h.stands)) ∙ s.1;
+            found = d.1 ∙ sym d.2 ∙ w.column_is;
+          }
+
+      pub super_bodies : All (λ x. (is_some (row_this F x.row.0) ≡ true) × IsDef F x.column.0 × IsNearestAbove F (row_class F x.row.0) x.column.0) F.supers.items
+      super_bodies = all_of (λ x. (is_some (row_this F x.row.0) ≡ true) × IsDef F x.column.0 × IsNearestAbove F (row_class F x.row.0) x.column.0) F.supers.items
+          (λ x c. let w = super_entry x c in (this_there x w, ap (λ i. i.kind) (numbered_column P Q F facts (column.Def w.runs) x.column.0 w.column_is).1, nearest_entry x w))

@@ -28,9 +28,9 @@ use Rattle.flow_facts.specs.declared.items.PointAt.{PointAt}
 use Rattle.flow_facts.specs.declared.items.Site.{Site}
 use Rattle.flow_facts.specs.Ordered.{each}
 use Rattle.flow_facts.specs.Operands.{type_in}
-use Rattle.flow_facts.specs.Parts.{Part, a_load, an_element, a_creation, a_call, a_static_call, a_super_call, a_test, a_pair, a_set, a_store, an_element_store, a_return, parts_body, parts_of}
+use Rattle.flow_facts.specs.Parts.{Part, a_load, an_element, a_creation, a_call, a_static_call, a_super_call, a_test, parts_body, parts_of}
 use Rattle.flow_facts.specs.Numbered.{Body, body_at, bodies_of, own_point, array_mark, form_columns, row_number, column_number, point_number, columns_of, sites_of}
-use Rattle.flow_facts.specs.Lists.{these, point_in, row_in, point_at, row_at, tests_of, casts_of}
+use Rattle.flow_facts.specs.Lists.{both, these, point_in, row_in, point_at, row_at, tests_of, casts_of}
 use Rattle.java_core.specs.Classes.{below}
 use Rattle.flow_facts.specs.Facts.{numbers, gathered, cells_of, FieldCell, fields_of, field_cell, array_cell, site_cells, IsFactsOf}
 use Rattle.facts_order.proofs.Listed.{first, at_below, index_at, below_at, contains_at, at_contains, each_has, each_from, each_from_zero, flat_has, flat_from, place_from, one_from, when_has, when_from, all_of}
@@ -43,7 +43,7 @@ use Rattle.facts_order.proofs.Sites.{own_type, site_of, site_part}
 use Rattle.facts_order.proofs.Points.{given_by, Follows, a_static, a_this, a_variable, a_result, a_form, point_of, part_point, item_point}
 use Rattle.facts_order.proofs.Bodies.{HasLabel, part_labelled}
 
-label_given : (p : Part) (o : Operand) → given_by p ≡ Some o → part_label p ≡ label_in o.point
+pub label_given : (p : Part) (o : Operand) → given_by p ≡ Some o → part_label p ≡ label_in o.point
 label_given (a_load p b f q) o e = ap (λ z. label_in z.point) (same_Some q o e)
 label_given (an_element p b q) o e = ap (λ z. label_in z.point) (same_Some q o e)
 label_given (a_creation p u q) o e = ap (λ z. label_in z.point) (same_Some q o e)
@@ -51,18 +51,11 @@ label_given (a_call p b s d es q) o e = ap (λ z. label_in z.point) (same_Some q
 label_given (a_static_call p m es q) o e = ap (λ z. label_in z.point) (same_Some q o e)
 label_given (a_super_call p m es q) o e = ap (λ z. label_in z.point) (same_Some q o e)
 label_given (a_test p d q) o e = ap (λ z. label_in z.point) (same_Some q o e)
-label_given (a_pair q l r) o e = absurd (cc)
-label_given (a_set v q) o e = absurd (cc)
-label_given (a_store p b f q) o e = absurd (cc)
-label_given (an_element_store p b q) o e = absurd (cc)
-label_given (a_return q) o e = absurd (cc)
+label_given _ o e = absurd (cc)
 
 abbrev expr_body : PointItem → Option ℕ
 expr_body (point.Expr m l) = Some m
-expr_body (point.Static f) = None
-expr_body (point.This m) = None
-expr_body (point.Local m i) = None
-expr_body (point.Result m) = None
+expr_body _ = None
 
 body_there : (P : Plain) (type : Ex → Option ObjectType) (m : ℕ) (k : PlainMethod) (b : Option Sts) (p : Part) → Contains (parts_body P type m k b) p → is_some b ≡ true
 body_there P type m k None p c = absurd (omega (arith, c.1))
@@ -99,7 +92,12 @@ module _ (P Q : Plain) where
   unfolding numbers
   point_item i q e = e
 
-these_from : {A B C D : Type 0} (a : Option A) (b : Option B) (c : Option C) (f : A → B → C → D) (x : D) → Contains (these a b c f) x → (y : A) × (z : B) × (w : C) × (a ≡ Some y) × (b ≡ Some z) × (c ≡ Some w) × (f y z w ≡ x)
+pub both_from : {A B C : Type 0} (a : Option A) (b : Option B) (f : A → B → C) (x : C) → Contains (both a b f) x → (y : A) × (z : B) × (a ≡ Some y) × (b ≡ Some z) × (f y z ≡ x)
+both_from (Some a) (Some b) f x d = (a, b, refl, refl, one_from _ x d)
+both_from (Some a) None f x d = absurd (omega (arith, d.1))
+both_from None b f x d = absurd (omega (arith, d.1))
+
+pub these_from : {A B C D : Type 0} (a : Option A) (b : Option B) (c : Option C) (f : A → B → C → D) (x : D) → Contains (these a b c f) x → (y : A) × (z : B) × (w : C) × (a ≡ Some y) × (b ≡ Some z) × (c ≡ Some w) × (f y z w ≡ x)
 these_from (Some a) (Some b) (Some c) f x d = (a, b, c, refl, refl, refl, one_from _ x d)
 these_from (Some a) (Some b) None f x d = absurd (omega (arith, d.1))
 these_from (Some a) None c f x d = absurd (omega (arith, d.1))
@@ -182,17 +180,7 @@ module _ (P Q : Plain) (placed : IsPlaced P Q) (formed : IsFormed P) (typed : Is
         typed_as = z.5;
         class = ap (λ y. y.class) z.6;
       }
-  test_part m k (a_load p b f q) x e c t = absurd (omega (arith, t.1))
-  test_part m k (an_element p b q) x e c t = absurd (omega (arith, t.1))
-  test_part m k (a_creation p u q) x e c t = absurd (omega (arith, t.1))
-  test_part m k (a_call p b s d es q) x e c t = absurd (omega (arith, t.1))
-  test_part m k (a_static_call p d es q) x e c t = absurd (omega (arith, t.1))
-  test_part m k (a_super_call p d es q) x e c t = absurd (omega (arith, t.1))
-  test_part m k (a_pair q l r) x e c t = absurd (omega (arith, t.1))
-  test_part m k (a_set v q) x e c t = absurd (omega (arith, t.1))
-  test_part m k (a_store p b f q) x e c t = absurd (omega (arith, t.1))
-  test_part m k (an_element_store p b q) x e c t = absurd (omega (arith, t.1))
-  test_part m k (a_return q) x e c t = absurd (omega (arith, t.1))
+  test_part m k _ x e c t = absurd (omega (arith, t.1))
 
   pub test_of : (x : TestInfo) → Contains F.tests.items x → IsTestPart x
   test_of x c =

@@ -127,7 +127,7 @@ module _ (Q : Plain) (F : Facts) (formed : IsFormed (untagged Q)) (facts : IsFac
   abbrev items : List ColumnItem
   items = map (λ c. c.item) (columns_of P Q)
 
-  abbrev def_number : ℕ → Option ℕ
+  abbrev pub def_number : ℕ → Option ℕ
   def_number m = column_number P Q (column.Def m)
 
   def_column : (m : ℕ) (k : PlainMethod) → slice_get Q.methods m ≡ Some k → is_some k.body ≡ true → k.is_static ≡ false → (c : ℕ) × (def_number m ≡ Some c)
@@ -181,7 +181,7 @@ module _ (Q : Plain) (F : Facts) (formed : IsFormed (untagged Q)) (facts : IsFac
           let n = own_java a x o.0 o.2 (ap (λ z. is_some z.body) (same_Some o.2.method b.0 (sym o.2.there ∙ b.1)) ∙ b.2) in
           absurd (let z = sym e ∙ n.1 in cc)
 
-  finds_some : (n a x m : ℕ) → nearest P (λ k. java.own_body P k x) n a ≡ Some m → (c : ℕ) × (finds_within F n a x ≡ Some c) × (def_number m ≡ Some c)
+  pub finds_some : (n a x m : ℕ) → nearest P (λ k. java.own_body P k x) n a ≡ Some m → (c : ℕ) × (finds_within F n a x ≡ Some c) × (def_number m ≡ Some c)
   finds_some zero a x m e = own_found a x m e
   finds_some (suc n) a x m e = go (java.own_body P a x) refl (java.parent_of P a) refl (λ p h. finds_some n p.0 x m h) e
     where

@@ -1,0 +1,233 @@
+-- What the operands of a typed body are: the row of each has the class of its type, and its flow point has the type itself.
+use Rattle.std.proofs.Common.{◌≡◌, ℕ, List, [], ◌∷◌, Option, Some, None, length, refl, sym, ap, ◌∙◌, arith, ⊎_elim}
+use Rattle.std.specs.Prelude.{◌<◌, ◌==◌, if◌then◌else◌, nat_lt, Bool, true, false, Contains, slice_get, option_and_then}
+use Rattle.std.specs.Option.{option_map, is_some}
+use Rattle.std.proofs.lemmas.Option.{same_Some}
+use Rattle.std.proofs.lemmas.Bool.{false≢true, eqb-true, eq-eqb}
+use Rattle.std.proofs.lemmas.List.Elements.{Contains-append_left, Contains-append_right}
+use Rattle.kaba_base.specs.declared.Place.{Place}
+use Rattle.java_core.specs.Trees.{Ex, number, character, text, truth, null, this, local, static_field, own_field, field, index, call, static_call, super_call, create, create_array, cast, instance_of, unary, binary}
+use Rattle.java_core.specs.Programs.{Plain, PlainMethod}
+use Rattle.java_core.specs.Types.{Env, env_of}
+use Rattle.java_core.specs.Typing.{IsTyped, Typed, t_index}
+use Rattle.java_core.specs.Formed.{IsFormed}
+use Rattle.java_core.proofs.Offered.{contains_cases}
+use Rattle.java_meaning.specs.Watched.{bare}
+use Rattle.fact_model.specs.declared.facts.Facts.{Facts}
+use Rattle.flow_facts.specs.declared.items.ObjectType.{ObjectType}
+use Rattle.flow_facts.specs.declared.items.Operand.{Operand}
+use Rattle.flow_facts.specs.declared.items.RowItem.{RowItem}
+use Rattle.flow_facts.specs.declared.items.RowItem.TheVariants as row
+use Rattle.flow_facts.specs.declared.items.PointItem.{PointItem}
+use Rattle.flow_facts.specs.declared.items.PointItem.TheVariants as point
+use Rattle.flow_facts.specs.declared.items.Row.{Row}
+use Rattle.flow_facts.specs.Labels.{label}
+use Rattle.flow_facts.specs.Operands.{object_if, class_object, object_field, call_slot, super_slot, variable_in, operand_of, type_in}
+use Rattle.flow_facts.specs.Types.{field_object, variable_object}
+use Rattle.flow_facts.specs.Parts.{Part, a_load, an_element, a_creation, parts, parts_of}
+use Rattle.flow_facts.specs.Lists.{is_this}
+use Rattle.flow_facts.specs.Numbered.{rows_of}
+use Rattle.flow_facts.specs.Facts.{IsFactsOf}
+use Rattle.facts_order.proofs.Listed.{first, more}
+use Rattle.facts_order.proofs.Pairs.{IsPlaced}
+use Rattle.facts_order.proofs.Labels.{label_in, part_label, label_apart}
+use Rattle.facts_order.proofs.Points.{given_by}
+use Rattle.facts_order.proofs.Rows.{own_of}
+use Rattle.facts_order.proofs.Tests.{label_given}
+use Rattle.facts_order.proofs.Classed.{Typing, own_typing, operand_typing, many_dims, as_object}
+
+abbrev pub part_type : Part → Option ObjectType
+part_type p = option_and_then (λ o. o.ty) (given_by p)
+
+abbrev is_label : Option ℕ → ℕ → Bool
+is_label None l = false
+is_label (Some n) l = n == l
+
+-- the type of the first part of a label
+abbrev pub type_among : List Part → ℕ → Option ObjectType
+type_among [] l = None
+type_among (p ∷ ps) l = if is_label (part_label p) l then part_type p else type_among ps l
+
+label_is : (o : Option ℕ) (l : ℕ) → is_label o l ≡ true → o ≡ Some l
+label_is None l e = absurd (false≢true e)
+label_is (Some n) l e = ap Some (eqb-true n l e)
+
+type_found : (ps : List Part) (p : Part) (l : ℕ) → ((q : Part) → Contains ps q → part_label q ≡ Some l → q ≡ p) → Contains ps p → part_label p ≡ Some l → type_among ps l ≡ part_type p
+type_found [] p l one c e = absurd (omega (arith, c.1))
+type_found (q ∷ ps) p l one c e = go (is_label (part_label q) l) refl (λ d. type_found ps p l (λ r z h. one r (more r q ps z) h) d e)
+  where
+    go : (b : Bool) → is_label (part_label q) l ≡ b → (Contains ps p → type_among ps l ≡ part_type p) → (if is_label (part_label q) l then part_type q else type_among ps l) ≡ part_type p
+    go true d r = ap (λ b. if b then part_type q else type_among ps l) d ∙ ap part_type (one q (first q ps) (label_is (part_label q) l d))
+    go false d r =
+        ap (λ b. if b then part_type q else type_among ps l) d
+        ∙ ⊎_elim (λ s. absurd (false≢true (sym d ∙ ap (λ o. is_label o l) (ap part_label s ∙ e) ∙ eq-eqb l l refl))) (λ z. r z) (contains_cases q ps p c)
+
+-- rows of neither a `this` nor a creation
+abbrev pub is_apart : RowItem → Bool
+is_apart (row.This m) = false
+is_apart (row.New n) = false
+is_apart (row.Field f) = true
+is_apart (row.Return s) = true
+is_apart (row.Param s i) = true
+is_apart (row.Result m) = true
+is_apart (row.Local m i) = true
+is_apart (row.Cast n) = true
+is_apart (row.Test n) = true
+
+pub variable_apart : (s : Option ℕ) (b : Bool) (m i : ℕ) → is_apart (variable_in s b m i) ≡ true
+variable_apart None b m i = refl
+variable_apart (Some s) true m i = refl
+variable_apart (Some s) false m i = refl
+
+-- why a row is not taken for that of a `this` or of an object site: it is apart, or has brackets; or it is one
+pub data Standing (o : Operand) (x : Row) : Type 0 where
+  apart : is_apart x.item ≡ true → Standing o x
+  deep : 0 < x.ty.dim → Standing o x
+  itself : is_this o.point ≡ true → Standing o x
+  made : is_some o.created ≡ true → Standing o x
+
+module _ (P Q : Plain) where
+  -- the type of what a flow point holds
+  abbrev pub item_type : PointItem → Option ObjectType
+  item_type (point.Static f) = field_object P f
+  item_type (point.This m) = option_and_then (λ k. class_object k.owner) (slice_get Q.methods m)
+  item_type (point.Local m i) = option_and_then (λ k. variable_object k i) (slice_get Q.methods m)
+  item_type (point.Result m) = option_and_then (λ k. object_if k.result) (slice_get Q.methods m)
+  item_type (point.Expr m l) = option_and_then (λ k. type_among (parts_of P m k) l) (slice_get Q.methods m)
+
+module _ (P Q : Plain) (placed : IsPlaced P Q) (formed : IsFormed P) (typed : IsTyped P) (F : Facts) (facts : IsFactsOf P Q F) (m : ℕ) (k : PlainMethod) (stands : slice_get Q.methods m ≡ Some k) where
+  abbrev type : Ex → Option ObjectType
+  type = type_in P m k
+
+  abbrev g : Env
+  g = env_of m (placed.methods m k stands).plain
+
+  abbrev IsTypingOf : Option RowItem → Option ObjectType → Type 0
+  IsTypingOf i t = Typing P Q placed formed typed F facts m k stands i t
+
+  unfoldable pub IsOwn : Operand → Type 0
+  IsOwn o = (j : RowItem) (r : ℕ) (x : Row) → o.row ≡ Some j → slice_get (rows_of P Q) r ≡ Some x → x.item ≡ j → Standing o x
+
+  -- a creation of a number
+  pub record IsMade (o : Operand) (n : ℕ) : Type 0 where
+    pub row_is : o.row ≡ Some (row.New n)
+    pub place : Place
+    pub used : Bool
+    pub part : Contains (parts_of P m k) (a_creation place used o)
+
+  pub record IsSound (o : Operand) : Type 0 where
+    pub classed : IsTypingOf o.row o.ty
+    pub pointed : (i : PointItem) → o.point ≡ Some i → item_type P Q i ≡ o.ty
+    pub own : IsOwn o
+    pub created : (n : ℕ) → o.created ≡ Some n → IsMade o n
+    pub self : is_this o.point ≡ true → o.row ≡ Some (row.This m)
+
+  -- the type at the point of a part
+  form_type : (p : Part) (o : Operand) (l : ℕ) → Contains (parts_of P m k) p → given_by p ≡ Some o → o.point ≡ Some (point.Expr m l) → item_type P Q (point.Expr m l) ≡ o.ty
+  form_type p o l c g e =
+      let h : part_label p ≡ Some l = label_given p o g ∙ ap label_in e in
+      ap (option_and_then (λ k. type_among (parts_of P m k) l)) stands ∙ type_found (parts_of P m k) p l (λ q d y. label_apart P m k q p l d c y h) c h ∙ ap (option_and_then (λ o. o.ty)) g
+
+  -- what is no row, no point and no creation
+  nothing_own : (o : Operand) → o.row ≡ None → IsOwn o
+  unfolding IsOwn
+  nothing_own o a j r x b c d = absurd (let z = sym a ∙ b in cc)
+
+  none_sound : (o : Operand) → o.row ≡ None → o.point ≡ None → o.created ≡ None → IsSound o
+  unfolding Typing
+  none_sound o a b c = record {
+    classed = λ j r x d e f. absurd (let z = sym a ∙ d in cc);
+    pointed = λ i e. absurd (let z = sym b ∙ e in cc);
+    own = nothing_own o a;
+    created = λ n e. absurd (let z = sym c ∙ e in cc);
+    self = λ e. absurd (false≢true (ap is_this (sym b) ∙ e));
+  }
+
+  apart_own : (f : ℕ → RowItem) (q : Option ℕ) (o : Operand) → o.row ≡ option_map f q → ((n : ℕ) → is_apart (f n) ≡ true) → IsOwn o
+  unfolding IsOwn
+  apart_own f None o a h j r x b c d = absurd (let z = sym a ∙ b in cc)
+  apart_own f (Some n) o a h j r x b c d = apart (ap is_apart (d ∙ same_Some j (f n) (sym b ∙ a)) ∙ h n)
+
+  no_creation : (o : Operand) → o.created ≡ None → (n : ℕ) → o.created ≡ Some n → IsMade o n
+  no_creation o c n e = absurd (let z = sym c ∙ e in cc)
+
+  made_own : (o : Operand) → is_some o.created ≡ true → IsOwn o
+  unfolding IsOwn
+  made_own o e j r x a b c = made e
+
+  self_own : (o : Operand) → is_this o.point ≡ true → IsOwn o
+  unfolding IsOwn
+  self_own o e j r x a b c = itself e
+
+  -- a form with a label
+  form_sound : (p : Part) (o : Operand) (l : ℕ) → Contains (parts_of P m k) p → given_by p ≡ Some o → o.point ≡ Some (point.Expr m l) → IsTypingOf o.row o.ty → IsOwn o → ((n : ℕ) → o.created ≡ Some n → IsMade o n) → IsSound o
+  form_sound p o l c g e t w h = record {
+    classed = t;
+    pointed = λ i d. ap (item_type P Q) (same_Some i (point.Expr m l) (sym d ∙ e)) ∙ form_type p o l c g e;
+    own = w;
+    created = h;
+    self = λ d. absurd (false≢true (ap is_this (sym e) ∙ d));
+  }
+
+  abbrev at : ℕ → Ex → Operand
+  at n e = operand_of P type m k (label n e)
+
+  abbrev Into : ℕ → Bool → Ex → Type 0
+  Into n u e = (q : Part) → Contains (parts P type m k u (label n e)) q → Contains (parts_of P m k) q
+
+  abbrev typing_at : (n : ℕ) (u : Bool) (e : Ex) → Typed P g (bare e) → Into n u e → IsTypingOf (at n e).row (at n e).ty
+  typing_at n u e a w = operand_typing P Q placed formed typed F facts m k stands n u e a w
+
+  deep_own : (n l : ℕ) (u : Bool) (e d : Ex) → Typed P g (bare e) → Into n u e → ((t : ObjectType) → type (label n e) ≡ Some t → 0 < t.dim) → (at l d).row ≡ (at n e).row → IsOwn (at l d)
+  unfolding IsOwn Typing
+  deep_own n l u e d a w h s j r x b c y = let z = typing_at n u e a w j r x (sym s ∙ b) c y in deep (omega (arith, z.dim, h z.type z.stated))
+
+  -- an operand of a typed form
+  pub sound : (n : ℕ) (u : Bool) (e : Ex) → Typed P g (bare e) → Into n u e → IsSound (at n e)
+  sound n u (number t i) a w = none_sound _ refl refl refl
+  sound n u (character t c) a w = none_sound _ refl refl refl
+  sound n u (text t s) a w = none_sound _ refl refl refl
+  sound n u (truth t b) a w = none_sound _ refl refl refl
+  sound n u (null t) a w = none_sound _ refl refl refl
+  sound n u (instance_of t i e c) a w = none_sound _ refl refl refl
+  sound n u (unary t o e) a w = none_sound _ refl refl refl
+  sound n u (binary t o e d) a w = none_sound _ refl refl refl
+  sound n u (this t) a w = record {
+    classed = typing_at n u (this t) a w;
+    pointed = λ i d. ap (item_type P Q) (same_Some i (point.This m) (sym d)) ∙ ap (option_and_then (λ k. class_object k.owner)) stands ∙ as_object P Q placed formed typed F facts m k stands (this t);
+    own = self_own (at n (this t)) refl;
+    created = no_creation (at n (this t)) refl;
+    self = λ d. refl;
+  }
+  sound n u (local t v) a w = record {
+    classed = typing_at n u (local t v) a w;
+    pointed = λ i d. ap (item_type P Q) (same_Some i (point.Local m v) (sym d)) ∙ ap (option_and_then (λ k. variable_object k v)) stands ∙ as_object P Q placed formed typed F facts m k stands (local t v);
+    own = apart_own (λ i. variable_in k.slot (nat_lt i (length k.params)) m i) (Some v) (at n (local t v)) refl (λ i. variable_apart k.slot (nat_lt i (length k.params)) m i);
+    created = no_creation (at n (local t v)) refl;
+    self = λ d. absurd (false≢true d);
+  }
+  sound n u (static_field t f) a w = record {
+    classed = typing_at n u (static_field t f) a w;
+    pointed = λ i d. ap (item_type P Q) (same_Some i (point.Static f) (sym d)) ∙ as_object P Q placed formed typed F facts m k stands (static_field t f);
+    own = apart_own row.Field (Some f) (at n (static_field t f)) refl (λ i. refl);
+    created = no_creation (at n (static_field t f)) refl;
+    self = λ d. absurd (false≢true d);
+  }
+  sound n u (own_field t f) a w = form_sound _ (at n (own_field t f)) n (w _ (first _ [])) refl refl (typing_at n u (own_field t f) a w) (apart_own row.Field (Some f) (at n (own_field t f)) refl (λ i. refl)) (no_creation (at n (own_field t f)) refl)
+  sound n u (field t e x) a w =
+      form_sound (a_load t.place (at n e) (object_field P (type (label n e)) x) (at n (field t e x))) (at n (field t e x)) _ (w _ (Contains-append_right _ (a_load t.place (at n e) (object_field P (type (label n e)) x) (at n (field t e x)) ∷ []) _ (first _ []))) refl refl
+      (typing_at n u (field t e x) a w) (apart_own row.Field (object_field P (type (label n e)) x) (at n (field t e x)) refl (λ i. refl)) (no_creation (at n (field t e x)) refl)
+  sound n u (index t e i) (t_index a b c d) w =
+      form_sound _ (at n (index t e i)) _ (w _ (Contains-append_right (parts P type m k true (label n e)) _ _ (first (an_element t.place (at n e) (at n (index t e i))) _))) refl refl (typing_at n u (index t e i) (t_index a b c d) w)
+      (deep_own n n true e (index t e i) a (λ q z. w q (Contains-append_left (parts P type m k true (label n e)) _ q z)) (many_dims P Q placed formed typed F facts m k stands n e b) refl) (no_creation (at n (index t e i)) refl)
+  sound n u (call t e x es) a w =
+      form_sound _ (at n (call t e x es)) _ (w _ (Contains-append_right (parts P type m k true (label n e)) _ _ (first _ _))) refl refl (typing_at n u (call t e x es) a w) (apart_own row.Return (call_slot P (type (label n e)) x) (at n (call t e x es)) refl (λ i. refl)) (no_creation (at n (call t e x es)) refl)
+  sound n u (static_call t d es) a w = form_sound _ (at n (static_call t d es)) n (w _ (first _ _)) refl refl (typing_at n u (static_call t d es) a w) (apart_own row.Result (Some d) (at n (static_call t d es)) refl (λ i. refl)) (no_creation (at n (static_call t d es)) refl)
+  sound n u (super_call t x es) a w = form_sound _ (at n (super_call t x es)) n (w _ (first _ _)) refl refl (typing_at n u (super_call t x es) a w) (apart_own row.Return (super_slot P k.owner x) (at n (super_call t x es)) refl (λ i. refl)) (no_creation (at n (super_call t x es)) refl)
+  sound n u (create t i c es) a w = form_sound _ (at n (create t i c es)) n (w _ (first _ _)) refl refl (typing_at n u (create t i c es) a w) (made_own _ refl) (λ j d. record { row_is = ap (λ z. Some (row.New z)) (same_Some i j d); place = t.place; used = u; part = w _ (first _ _) })
+  sound n u (create_array t i v e) a w = form_sound _ (at n (create_array t i v e)) n (w _ (first _ _)) refl refl (typing_at n u (create_array t i v e) a w) (made_own _ refl) (λ j d. record { row_is = ap (λ z. Some (row.New z)) (same_Some i j d); place = t.place; used = u; part = w _ (first _ _) })
+  sound n u (cast t i v e) a w = form_sound _ (at n (cast t i v e)) n (w _ (first _ _)) refl refl (typing_at n u (cast t i v e) a w) (apart_own row.Cast (Some i) (at n (cast t i v e)) refl (λ i. refl)) (no_creation (at n (cast t i v e)) refl)
+
+  -- what an `instanceof` gives
+  pub test_sound : (p : Part) (o : Operand) (n l : ℕ) → Contains (parts_of P m k) p → own_of p ≡ Some o → given_by p ≡ Some o → o.row ≡ Some (row.Test n) → o.point ≡ Some (point.Expr m l) → o.created ≡ None → IsSound o
+  test_sound p o n l c e g a b d = form_sound p o l c g b (own_typing P Q placed formed typed F facts m k stands p o c e) (apart_own row.Test (Some n) o a (λ i. refl)) (no_creation o d)

@@ -1,0 +1,59 @@
+//! The facts of a checked program: in range and in order, and their points-to sets cover each run.
+//!
+//! `flow_facts` reads the facts off the text. What stands above them (the sets, the table, the hierarchy)
+//! asks more of facts than that they are the text's: a program that is typed gives them with all of it.
+#![tactic(auto)]
+
+ghost use Rattle.std.specs.Prelude.{◌<◌, ◌↔◌, IfErr, IfOk, IsTrue, length};
+ghost use Rattle.java_core.specs.Trees.{at_place, no_place};
+ghost use Rattle.java_core.specs.Programs.{program_of};
+ghost use Rattle.fact_model.specs.InOrder.{InOrder};
+ghost use Rattle.fact_model.specs.InRange.{InRange};
+ghost use Rattle.flow_facts.specs.Facts.{AreNamesOf, IsFactsOf, IsRefused, IsWithin};
+ghost use Rattle.run_cover.specs.Covers.{CoversProgram};
+ghost use Rattle.program_facts.specs.Solved.{HasCoveringSets};
+
+use fact_model::Facts;
+pub use flow_facts::{Counted, FactsFault};
+use java_core::Checked;
+use std::alloc::Global;
+
+/// How many calls and tests there are less than: what a number of 32 bits and one more can tell apart.
+const MOST: usize = 4294967295;
+
+/// Whether the calls and the tests of the facts can be numbered.
+fn are_numbered(facts: &Facts) -> bool
+    ensures { IsTrue result ↔ (length facts.now.calls.items < 4294967295) × (length facts.now.tests.items < 4294967295) }
+{
+    facts.calls.len() < MOST && facts.tests.len() < MOST
+}
+
+/// The facts of a program (Andersen, 1994, for the points-to sets; Snelting and Tip, 2000, for the table).
+///
+/// They are in range and in order, and each family of sets that their inclusions close covers each run of
+/// the program, their points-to sets among them. A `HasInterface` names the first interface, and else a
+/// `TooMany` tells of what there is more than its limit: first of the rows, then of the columns, the sites,
+/// and the flow points with the cells. `Memory` comes where memory is short, and where the calls or the
+/// `instanceof`s and casts are 4,294,967,295 or more.
+pub fn facts(alloc: Global, program: &Checked) -> Result<Facts, FactsFault>
+    ensures is { IfOk result (λ f. IsFactsOf (program_of no_place program.now) (program_of at_place program.now) f) }
+    ensures names { IfOk result (λ f. AreNamesOf (program_of at_place program.now) f) }
+    ensures within { IfOk result (λ f. IsWithin (program_of no_place program.now) (program_of at_place program.now)) }
+    ensures in_range { IfOk result (λ f. InRange f) }
+    ensures in_order { IfOk result (λ f. InOrder f) }
+    ensures covers { IfOk result (λ f. CoversProgram (program_of no_place program.now) (program_of at_place program.now) f) }
+    ensures solved { IfOk result (λ f. HasCoveringSets (program_of no_place program.now) (program_of at_place program.now) f) }
+    ensures refused { IfErr result (λ e. IsRefused (program_of no_place program.now) (program_of at_place program.now) e) }
+{
+    let plain = program.program();
+    match flow_facts::facts(alloc, plain) {
+        Err(fault) => Err(fault),
+        Ok(facts) => {
+            if are_numbered(&facts) {
+                Ok(facts)
+            } else {
+                Err(FactsFault::Memory)
+            }
+        }
+    }
+}
