@@ -25,11 +25,11 @@ use Rattle.java_run.specs.declared.machine.Machine.{Machine}
 use Rattle.java_run.specs.Rest.{state_of, onward, given_at}
 
 -- the types of parameters and locals
-seen_types : (ls : List Local) → types_of (map (local_seen no_place) ls) ≡ map (λ l. l.ty) ls
+pub seen_types : (ls : List Local) → types_of (map (local_seen no_place) ls) ≡ map (λ l. l.ty) ls
 seen_types [] = refl
 seen_types (l ∷ ls) = ap (λ x. l.ty ∷ x) (seen_types ls)
 
-map_map : {A B C : Type 0} (f : B → C) (g : A → B) (xs : List A) → map f (map g xs) ≡ map (λ x. f (g x)) xs
+pub map_map : {A B C : Type 0} (f : B → C) (g : A → B) (xs : List A) → map f (map g xs) ≡ map (λ x. f (g x)) xs
 map_map f g [] = refl
 map_map f g (x ∷ xs) = ap (λ l. f (g x) ∷ l) (map_map f g xs)
 

@@ -11,3 +11,16 @@ pub mod Jumps
 pub mod Locals
 pub mod Tables
 pub mod Bodies
+pub mod Follows
+pub mod Starts
+pub mod Called
+pub mod Evals
+pub mod Turns
+pub mod Finds
+pub mod Operators
+pub mod ClassTests
+pub mod NewCells
+pub mod Members
+pub mod Taken
+pub mod Assigns
+pub mod Begins

@@ -19,7 +19,7 @@ module _ (P : Plain) where
   moves_by : (o q : ℕ → Outcome) (w v l : ℕ) (t : Turn) (m : Machine) → ((n : ℕ) → l ≤ n → o n ≡ q n) → v ≤ w → Moves P q v l t m → Moves P o w l t m
   unfolding Moves
   moves_by o q w v l On m e le h = record { turn = λ n b. e n b ∙ h.turn n b; left = h.left; less = λ b. let k = h.less b in omega (arith, k, le) }
-  moves_by o q w v l (Stopped x) m e le h = record { stop = λ n b. e n b ∙ h.stop n b }
+  moves_by o q w v l (Stopped x) m e le h = record { stop = λ n b. e n b ∙ h.stop n b; left = h.left }
 
   -- what a call promises is promised of what is the same
   pub moved : (o q : ℕ → Outcome) (w v l : ℕ) (r : Result Turn AllocError) (m : Machine) → ((n : ℕ) → l ≤ n → o n ≡ q n) → v ≤ w → IfOk r (λ t. Moves P q v l t m) → IfOk r (λ t. Moves P o w l t m)
@@ -30,16 +30,16 @@ module _ (P : Plain) where
   stepped_by : (o q : ℕ → Outcome) (w v l k : ℕ) (t : Turn) (m : Machine) → l ≡ k + 1 → ((n : ℕ) → l ≤ n → o n ≡ q n) → Moves P q v (k + 1) t m → m.left ≤ k → Moves P o w l t m
   unfolding Moves
   stepped_by o q w v l k On m z e h le = record { turn = λ n b. e n b ∙ h.turn n (omega (arith, z, b)); left = omega (arith, z, le); less = λ b. absurd (omega (arith, z, b, le)) }
-  stepped_by o q w v l k (Stopped x) m z e h le = record { stop = λ n b. e n b ∙ h.stop n (omega (arith, z, b)) }
+  stepped_by o q w v l k (Stopped x) m z e h le = record { stop = λ n b. e n b ∙ h.stop n (omega (arith, z, b)); left = omega (arith, z, le) }
 
   -- where nothing is left but to go on, and where the run stops
   pub on : (o : ℕ → Outcome) (w l : ℕ) (r : Result Turn AllocError) (m : Machine) → r ≡ Ok On → ((n : ℕ) → l ≤ n → o n ≡ run_from P n m.tasks Next m) → m.left ≤ l → (l ≤ m.left → works m.tasks < w) → IfOk r (λ t. Moves P o w l t m)
   unfolding Moves
   on o w l r m d e le less = subst (λ r. IfOk r (λ t. Moves P o w l t m)) (sym d) (record { turn = e; left = le; less = less })
 
-  pub stopped : (o : ℕ → Outcome) (w l : ℕ) (r : Result Turn AllocError) (m : Machine) (x : Ending) → r ≡ Ok (Stopped x) → ((n : ℕ) → l ≤ n → o n ≡ stop (end_of x) (state_of m)) → IfOk r (λ t. Moves P o w l t m)
+  pub stopped : (o : ℕ → Outcome) (w l : ℕ) (r : Result Turn AllocError) (m : Machine) (x : Ending) → m.left ≤ l → r ≡ Ok (Stopped x) → ((n : ℕ) → l ≤ n → o n ≡ stop (end_of x) (state_of m)) → IfOk r (λ t. Moves P o w l t m)
   unfolding Moves
-  stopped o w l r m x d e = subst (λ r. IfOk r (λ t. Moves P o w l t m)) (sym d) (record { stop = e })
+  stopped o w l r m x le d e = subst (λ r. IfOk r (λ t. Moves P o w l t m)) (sym d) (record { stop = e; left = le })
 
   -- the same, with what is promised first
   pub moved_from : (o q : ℕ → Outcome) (w v l : ℕ) (r : Result Turn AllocError) (m : Machine) → IfOk r (λ t. Moves P q v l t m) → ((n : ℕ) → l ≤ n → o n ≡ q n) → v ≤ w → IfOk r (λ t. Moves P o w l t m)

@@ -43,17 +43,26 @@ last_of_arms (a ∷ rs) xs = last_of_arms rs xs
 pub else_at : (x : RStmt) (v : Vec RArm Global) (o : Option (Vec RStmt Global)) (p : Place) → x ≡ If v o p → else_seen no_place o ≡ last_arm (arms_in (stmt_of no_place x))
 else_at x v o p h = sym (ap (λ y. last_arm (arms_in (stmt_of no_place y))) h ∙ ap (λ y. last_arm (arms_in y)) (if_as no_place v o p) ∙ last_of_arms v.items (else_seen no_place o))
 
-arms_out : (rs : List RArm) (xs : Sts) (n : ℕ) → length rs ≤ n → drop_arms n (arms_seen no_place rs xs) ≡ otherwise xs
-arms_out [] xs zero h = refl
-arms_out [] xs (suc n) h = refl
-arms_out (a ∷ rs) xs zero h = absurd (omega arith)
-arms_out (a ∷ rs) xs (suc n) h = arms_out rs xs n (omega arith)
+arms_gone : (rs : List RArm) (xs : Sts) (n : ℕ) → None ≡ slice_get rs n → drop_arms n (arms_seen no_place rs xs) ≡ otherwise (last_arm (arms_seen no_place rs xs))
+arms_gone [] xs zero h = refl
+arms_gone [] xs (suc n) h = refl
+arms_gone (a ∷ rs) xs zero h = absurd (cc)
+arms_gone (a ∷ rs) xs (suc n) h = arms_gone rs xs n h
 
-arms_at : (rs : List RArm) (xs : Sts) (n : ℕ) (a : RArm) → slice_get rs n ≡ Some a
+arms_at : (rs : List RArm) (xs : Sts) (n : ℕ) (a : RArm) → Some a ≡ slice_get rs n
     → drop_arms n (arms_seen no_place rs xs) ≡ arm (expr_of no_place a.test) (stmts no_place a.body.items) (drop_arms (suc n) (arms_seen no_place rs xs))
 arms_at [] xs n a h = absurd (cc)
 arms_at (b ∷ rs) xs zero a h = let e : b ≡ a = cc in ap (λ y. arm (expr_of no_place y.test) (stmts no_place y.body.items) (arms_seen no_place rs xs)) e
 arms_at (b ∷ rs) xs (suc n) a h = arms_at rs xs n a h
+
+arm_seen : (rs : List RArm) (xs : Sts) (n : ℕ) (r : Option (Bor RArm)) → option_map (λ a. a.now) r ≡ slice_get rs n → IsArm (arms_seen no_place rs xs) n r
+arm_seen rs xs n None h = arms_gone rs xs n h
+arm_seen rs xs n (Some a) h = arms_at rs xs n a.now h
+
+pub arm_of : (x : RStmt) (v : Vec RArm Global) (o : Option (Vec RStmt Global)) (p : Place) (n : ℕ) (r : Option (Bor RArm)) (rs : List RArm) → x ≡ If v o p → option_map (λ a. a.now) r ≡ slice_get rs n → rs ≡ v.items
+    → IsArm (arms_in (stmt_of no_place x)) n r
+arm_of x v o p n r rs h e d =
+    subst (λ y. IsArm y n r) (sym (ap (λ y. arms_in (stmt_of no_place y)) h ∙ ap arms_in (if_as no_place v o p))) (arm_seen v.items (else_seen no_place o) n r (e ∙ ap (λ l. slice_get l n) d))
 
 pub body_of_while : (x : RStmt) (t : RExpr) (v : Vec RStmt Global) (p : Place) → x ≡ While t v p → stmts no_place v.items ≡ body_in (stmt_of no_place x)
 body_of_while x t v p h = sym (stmts_vec no_place v) ∙ ap (λ y. body_in (stmt_of no_place y)) (sym h)

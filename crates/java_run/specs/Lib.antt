@@ -4,3 +4,6 @@ pub mod Work
 pub mod Moves
 pub mod Statics
 pub mod Landings
+pub mod Outcomes
+pub mod Founds
+pub mod Finds

@@ -21,6 +21,7 @@ pub record GoesOn (P : Plain) (o : ℕ → Outcome) (w l : ℕ) (m : Machine) : 
 -- or it stops as that does
 pub record Stops (o : ℕ → Outcome) (l : ℕ) (m : Machine) (e : Ending) : Type 0 where
   pub stop : (n : ℕ) → l ≤ n → o n ≡ stop (end_of e) (state_of m)
+  pub left : m.left ≤ l
 
 unfoldable pub Moves : Plain → (ℕ → Outcome) → ℕ → ℕ → Turn → Machine → Type 0
 Moves P o w l On m = GoesOn P o w l m

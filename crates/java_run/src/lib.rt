@@ -1,11 +1,26 @@
-//! The tasks of the interpreter, what is left of a run at a state of it, and the lemmas on its moves.
+//! The interpreter: runs a resolved program that the rules of types accept.
 //!
 //! What is still to do stands on a stack of tasks, so that neither deep calls nor long loops take
-//! stack of the machine that runs it. The functions that take the tasks are not built yet.
+//! stack of the machine that runs it.
 #![tactic(auto)]
 
+mod arrays;
+mod calls;
+mod casts;
+mod counts;
+mod evaluate;
+mod execute;
+mod fields;
 mod flow;
 mod machine;
+mod named;
 mod objects;
+mod operations;
+mod runs;
 mod stack;
 mod statics;
+mod string_calls;
+mod takes;
+mod texts;
+
+pub use runs::{End, Outcome, run};

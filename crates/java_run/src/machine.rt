@@ -8,6 +8,7 @@ ghost use Rattle.java_run.specs.Parts.{ex, exs};
 ghost use Rattle.java_run.specs.Rest.{state_of, onward, takes_from, evaluates, argued};
 ghost use Rattle.java_run.specs.Work.{size_ex, size_exs, work_take, works};
 ghost use Rattle.java_run.specs.Moves.{MovesOk};
+ghost use Rattle.java_run.specs.Founds.{gives};
 
 use crate::stack::Stack;
 use java_core::{BinOp, Fault, Method, RExpr, RStmt, Ty, UnOp};
@@ -157,6 +158,17 @@ pub enum Turn {
     Stopped(Ending),
 }
 
+/// What is found for an operation on values.
+#[derive(Clone, Copy)]
+pub enum Found {
+    /// A value.
+    Value(Value),
+    /// A fault.
+    Fault(Fault),
+    /// Nothing: no rule says how it goes on.
+    Stuck,
+}
+
 /// The run is stuck.
 pub fn stuck() -> Result<Turn, AllocError>
     ensures { result ≡ Ok (Turn.Stopped Ending.Stuck) }
@@ -177,6 +189,17 @@ pub fn give<'a>(m: &mut Machine<'a>, value: Value) -> Result<Turn, AllocError>
 {
     m.values.push(value)?;
     Ok(Turn::On)
+}
+
+/// What was found is there, or the run stops.
+pub fn answer<'a>(m: &mut Machine<'a>, found: Found) -> Result<Turn, AllocError>
+    ensures { (P : Plain) → MovesOk P (λ n. gives found (state_of m.old) (onward P n m.old)) (works m.old.tasks + 1) (m.old.left) result m.new }
+{
+    match found {
+        Found::Value(value) => give(m, value),
+        Found::Fault(fault) => faulty(fault),
+        Found::Stuck => stuck(),
+    }
 }
 
 /// An expression is evaluated, and its value taken.
