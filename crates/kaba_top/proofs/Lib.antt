@@ -1,5 +1,5 @@
-mod Numbers
-pub mod Patterns
 pub mod Replying
-pub mod Running
 pub mod Statuses
+pub mod Formed
+pub mod Texts
+pub mod Runs

@@ -3,7 +3,7 @@ use Rattle.std.proofs.Common.{◌≡◌, ◌⊎◌, inl, inr, ℕ, ◌<◌, ◌�
 use Rattle.std.specs.declared.alloc.AllocError.{AllocError}
 use Rattle.kaba_base.specs.Outside.{Files, IsAbsent, IsFile, Rose}
 use Rattle.kaba_top.specs.declared.reply.Reply.{Reply}
-use Rattle.kaba_top.specs.Commands.{Cmd, Fits, FitsNone}
+use Rattle.kaba_words.specs.Commands.{Cmd, Fits, FitsNone}
 use Rattle.kaba_top.specs.Lines.{Says, usage, cannot_read, most_bytes, file_too_large}
 use Rattle.kaba_top.specs.Answers.{Agrees, IsMissing, IsTooLarge, FileAnswers, IsAnswered, IsFault, CommandReplies, Replies}
 use Rattle.kaba_top.specs.Fetching.{IsThere, IsRefused}

@@ -1,39 +1,64 @@
 -- The statuses of want of memory and of a failed write are no reply's.
 use Rattle.std.proofs.Common.{◌≡◌, inl, inr, ℕ, List, Option, arith}
 use Rattle.kaba_base.specs.Outside.{Files}
-use Rattle.loop_java.specs.Meaning as meaning
-use Rattle.kaba_top.specs.Commands.{Cmd, run}
-use Rattle.kaba_top.specs.Lines.{Says}
-use Rattle.kaba_top.specs.RunAnswers.{RunAnswers, EndOf}
-use Rattle.kaba_top.specs.Answers.{CommandAnswers, Answers, Replies}
+use Rattle.java_core.specs.declared.Program.{Program}
+use Rattle.java_core.specs.Trees.{no_place}
+use Rattle.java_core.specs.Programs.{program_of}
+use Rattle.java_meaning.specs.Moment as meaning
+use Rattle.java_run.specs.Outcomes.{meant}
+use Rattle.kaba_words.specs.Commands.{Cmd, run}
+use Rattle.kaba_top.specs.Lines.{Says, Gives}
+use Rattle.kaba_top.specs.Reading.{IsRefusedText, TextAnswers}
+use Rattle.kaba_top.specs.RunAnswers.{EndGives, RunAnswers}
+use Rattle.kaba_top.specs.Answers.{FileAnswers, CommandAnswers, Answers, Replies}
 
 abbrev pub IsOther : ℕ → Type 0
 IsOther status = (status ≡ 70 → ⊥) × (status ≡ 74 → ⊥)
 
-said : (text : List ℕ) (status : ℕ) (out err : List ℕ) → Says 65 text status out err → IsOther status
-said text status out err h = ((λ e. omega (arith, e, h.status_is)), (λ e. omega (arith, e, h.status_is)))
+-- all answers of a kind have other statuses
+abbrev AreOther : (ℕ → List ℕ → List ℕ → Type 0) → Type 0
+AreOther A = (status : ℕ) (out err : List ℕ) → A status out err → IsOther status
 
-end_other : (e : meaning.End) (bytes : List ℕ) (status : ℕ) (out err : List ℕ) → EndOf e bytes status out err → IsOther status
-end_other meaning.Ended bytes status out err h = ((λ e. omega (arith, e, h.status_is)), (λ e. omega (arith, e, h.status_is)))
-end_other meaning.Going bytes status out err h = ((λ e. omega (arith, e, h.status_is)), (λ e. omega (arith, e, h.status_is)))
+said : (n : ℕ) → IsOther n → (text : List ℕ) → AreOther (Says n text)
+said n o text status out err h = ((λ e. o.0 (omega (arith, e, h.status_is))), (λ e. o.1 (omega (arith, e, h.status_is))))
 
-run_other : (bytes : List ℕ) (steps status : ℕ) (out err : List ℕ) → RunAnswers bytes steps status out err → IsOther status
-unfolding RunAnswers
-run_other bytes steps status out err (inl a) = said _ status out err a.says
-run_other bytes steps status out err (inr (inl a)) = said _ status out err a.says
-run_other bytes steps status out err (inr (inr (inl a))) = said _ status out err a.says
-run_other bytes steps status out err (inr (inr (inr (inl a)))) = said _ status out err a.says
-run_other bytes steps status out err (inr (inr (inr (inr a)))) = end_other (meaning.run a.program steps).end _ status out err a.gives
+gave : (n : ℕ) → IsOther n → (bytes lines : List ℕ) → AreOther (Gives n bytes lines)
+gave n o bytes lines status out err h = ((λ e. o.0 (omega (arith, e, h.status_is))), (λ e. o.1 (omega (arith, e, h.status_is))))
 
-command_other : (command : Cmd) (first second : Files) (status : ℕ) (out err : List ℕ) → CommandAnswers command first second status out err → IsOther status
-command_other (run file steps words) first second status out err (inl a) = ((λ e. omega (arith, e, a.says.status_is)), (λ e. omega (arith, e, a.says.status_is)))
-command_other (run file steps words) first second status out err (inr (inl a)) = ((λ e. omega (arith, e, a.says.status_is)), (λ e. omega (arith, e, a.says.status_is)))
-command_other (run file steps words) first second status out err (inr (inr a)) = run_other a.bytes steps status out err a.answers
+refused : (bytes : List ℕ) → AreOther (IsRefusedText bytes)
+unfolding IsRefusedText
+refused bytes status out err (inl a) = said 65 (omega arith, omega arith) _ status out err a.says
+refused bytes status out err (inr (inl a)) = said 65 (omega arith, omega arith) _ status out err a.says
+refused bytes status out err (inr (inr (inl a))) = said 65 (omega arith, omega arith) _ status out err a.says
+refused bytes status out err (inr (inr (inr (inl a)))) = said 65 (omega arith, omega arith) _ status out err a.says
+refused bytes status out err (inr (inr (inr (inr a)))) = said 65 (omega arith, omega arith) _ status out err a.says
 
-answer_other : (words : List (List ℕ)) (first second : Files) (status : ℕ) (out err : List ℕ) → Answers words first second status out err → IsOther status
-answer_other words first second status out err (inl a) = ((λ e. omega (arith, e, a.says.status_is)), (λ e. omega (arith, e, a.says.status_is)))
+text_other : (K : Program → ℕ → List ℕ → List ℕ → Type 0) → ((p : Program) → AreOther (K p)) → (bytes : List ℕ) → AreOther (TextAnswers K bytes)
+text_other K o bytes status out err (inl a) = refused bytes status out err a
+text_other K o bytes status out err (inr a) = o a.program status out err a.answers
+
+end_other : (e : meaning.End) (bytes : List ℕ) → AreOther (EndGives e bytes)
+end_other meaning.Ended bytes status out err h = gave 0 (omega arith, omega arith) _ _ status out err h
+end_other (meaning.Faulted kind) bytes status out err h = gave 10 (omega arith, omega arith) _ _ status out err h
+end_other meaning.Going bytes status out err h = gave 11 (omega arith, omega arith) _ _ status out err h
+end_other meaning.Wrong bytes status out err h = absurd h
+end_other meaning.Escaped bytes status out err h = absurd h
+
+run_other : (steps : ℕ) (words : List (List ℕ)) (p : Program) → AreOther (RunAnswers steps words p)
+run_other steps words p = end_other (meant (program_of no_place p) words steps).end (meant (program_of no_place p) words steps).out
+
+file_other : (K : List ℕ → ℕ → List ℕ → List ℕ → Type 0) → ((bytes : List ℕ) → AreOther (K bytes)) → (files : Files) (name : List ℕ) → AreOther (FileAnswers K files name)
+file_other K o files name status out err (inl a) = said 66 (omega arith, omega arith) _ status out err a.says
+file_other K o files name status out err (inr (inl a)) = said 67 (omega arith, omega arith) _ status out err a.says
+file_other K o files name status out err (inr (inr a)) = o a.bytes status out err a.answers
+
+command_other : (command : Cmd) (first second : Files) → AreOther (CommandAnswers command first second)
+command_other (run file steps words) first second = file_other (TextAnswers (RunAnswers steps words)) (text_other (RunAnswers steps words) (run_other steps words)) first file
+
+answer_other : (words : List (List ℕ)) (first second : Files) → AreOther (Answers words first second)
+answer_other words first second status out err (inl a) = said 64 (omega arith, omega arith) _ status out err a.says
 answer_other words first second status out err (inr a) = command_other a.command first second status out err a.answers
 
 pub reply_other : (told : Option Files) (before now : ℕ) (words : List (List ℕ)) (status : ℕ) (out err : List ℕ) → Replies told before now words status out err → IsOther status
 reply_other told before now words status out err (inl a) = answer_other words a.first a.second status out err a.answers
-reply_other told before now words status out err (inr u) = ((λ e. omega (arith, e, u.unread.fault.says.status_is)), (λ e. omega (arith, e, u.unread.fault.says.status_is)))
+reply_other told before now words status out err (inr u) = said 66 (omega arith, omega arith) _ status out err u.unread.fault.says

@@ -2,8 +2,9 @@
 use Rattle.std.specs.Prelude.{◌≡◌, ◌⊎◌, ℕ, ◌<◌, ◌≤◌, List, length, Option, Some, None}
 use Rattle.std.specs.Option.{IsSome}
 use Rattle.kaba_base.specs.Outside.{Files, Rose, taken_more, HoldsPrefix}
-use Rattle.kaba_top.specs.Commands.{Cmd, run, Fits, FitsNone}
+use Rattle.kaba_words.specs.Commands.{Cmd, run, Fits, FitsNone}
 use Rattle.kaba_top.specs.Lines.{Says, usage, cannot_read, most_bytes, file_too_large}
+use Rattle.kaba_top.specs.Reading.{TextAnswers}
 use Rattle.kaba_top.specs.RunAnswers.{RunAnswers}
 
 -- the words fit no pattern
@@ -36,7 +37,7 @@ FileAnswers K files file status out err = IsMissing files file status out err �
 
 -- the answers of a command, where first are the files as its first file is read, and second as its second one is
 abbrev pub CommandAnswers : Cmd → Files → Files → ℕ → List ℕ → List ℕ → Type 0
-CommandAnswers (run file steps words) first second = FileAnswers (λ bytes. RunAnswers bytes steps) first file
+CommandAnswers (run file steps words) first second = FileAnswers (TextAnswers (RunAnswers steps words)) first file
 
 -- the names of the files that a command reads
 abbrev pub Names : Cmd → List ℕ → Type 0

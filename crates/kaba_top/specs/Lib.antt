@@ -1,5 +1,6 @@
-pub mod Commands
 pub mod Lines
+pub mod Reading
 pub mod RunAnswers
 pub mod Answers
 pub mod Fetching
+pub mod Readings

@@ -3,14 +3,14 @@
 
 ghost use Rattle.std.specs.Prelude.{◌≡◌, ◌≤◌, IfOk, string_bytes};
 ghost use Rattle.kaba_base.specs.Outside.{Files};
-ghost use Rattle.kaba_top.specs.Commands.{run, texts};
+ghost use Rattle.kaba_words.specs.Commands.{run, texts};
 ghost use Rattle.kaba_top.specs.Answers.{CommandReplies, Replies};
 ghost use Rattle.kaba_top.specs.Fetching.{IsFetched};
 
 use crate::reply::Reply;
 use crate::run::run_text;
-use crate::words::{Command, WordsFault, read_words};
 use kaba_base::{ReadFault, Shelf, read_file};
+use kaba_words::{Command, WordsFault, read_words};
 use std::alloc::{AllocError, Global};
 
 /// A file that was asked for: its bytes, or the reply that tells why there are none.
@@ -50,7 +50,7 @@ fn run_command<F: Shelf>(
     ensures replies { IfOk result (λ reply. CommandReplies (F.files shelf.old) (F.faults shelf.old) (F.faults shelf.new) (run (string_bytes file.now) steps (texts words.now.items)) reply.status reply.out.items reply.err.items) }
 {
     match fetch_file(alloc, shelf, file)? {
-        Fetched::Bytes(bytes) => run_text(alloc, &bytes, steps),
+        Fetched::Bytes(bytes) => run_text(alloc, &bytes, steps, words),
         Fetched::Refused(reply) => Ok(reply),
     }
 }

@@ -3,19 +3,19 @@
 
 ghost use Rattle.std.specs.Prelude.{◌≡◌, ◌≢◌, ◌⊎◌};
 ghost use Rattle.kaba_base.specs.Outside.{Rose};
-ghost use Rattle.kaba_top.specs.Commands.{texts};
+ghost use Rattle.kaba_words.specs.Commands.{texts};
 ghost use Rattle.kaba_top.specs.Answers.{Gave, WasCut};
 
 mod answer;
+mod reading;
 mod reply;
 mod run;
-mod words;
 
 use crate::answer::answer;
 use crate::reply::deliver;
 use kaba_base::{Shelf, Sink};
+pub use kaba_words::{Command, WordsFault, read_words};
 use std::alloc::Global;
-pub use words::{Command, WordsFault, read_words};
 
 /// Does what the words after the program's name ask for, and answers the exit status.
 ///
@@ -45,5 +45,9 @@ pub fn kaba<F: Shelf, O: Sink, E: Sink>(
     }
 }
 
+#[cfg(test)]
+mod refused;
+#[cfg(test)]
+mod rows;
 #[cfg(test)]
 mod tests;

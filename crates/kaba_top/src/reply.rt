@@ -3,7 +3,7 @@
 
 ghost use Rattle.std.specs.Prelude.{◌≡◌, ◌⊎◌, ℕ, List, IfOk, OnErr, OnOk};
 ghost use Rattle.kaba_base.specs.Outside.{Rose, taken_more};
-ghost use Rattle.kaba_top.specs.Lines.{Says};
+ghost use Rattle.kaba_top.specs.Lines.{Says, Gives, line};
 ghost use Rattle.kaba_top.specs.Answers.{Cut};
 
 use kaba_base::{Failed, Sink, write_all};
@@ -29,6 +29,23 @@ impl Reply {
             status,
             out: Vec::new(alloc),
             err,
+        })
+    }
+
+    /// The reply with these bytes for out and one line for err.
+    pub fn with_line(
+        alloc: Global,
+        status: u8,
+        out: Vec<u8>,
+        text: &[u8],
+    ) -> Result<Reply, AllocError>
+        ensures gives { IfOk result (λ reply. Gives status out.items (line text.now) reply.status reply.out.items reply.err.items) }
+    {
+        let reply = Reply::line(alloc, status, text)?;
+        Ok(Reply {
+            status,
+            out,
+            err: reply.err,
         })
     }
 }

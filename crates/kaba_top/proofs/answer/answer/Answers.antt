@@ -1,5 +1,5 @@
 use Rattle.std.proofs.Common.{Err, ap}
-use Rattle.kaba_top.specs.Commands.{texts}
+use Rattle.kaba_words.specs.Commands.{texts}
 use Rattle.kaba_top.proofs.Replying.{usage_replies}
 use Rattle.kaba_top.proofs.answer.answer.Goals as goal
 

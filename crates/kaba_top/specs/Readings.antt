@@ -1,0 +1,63 @@
+-- What is known once a text was read.
+use Rattle.std.specs.Prelude.{◌≡◌, ◌⊎◌, ℕ, List}
+use Rattle.kaba_base.specs.declared.Place.{Place}
+use Rattle.java_tree.specs.Syntax.{DeclTree}
+use Rattle.java_core.specs.declared.Program.{Program}
+use Rattle.java_core.specs.Trees.{at_place, no_place}
+use Rattle.java_core.specs.Programs.{program_of}
+use Rattle.java_core.specs.Formed.{IsFormed}
+use Rattle.java_core.specs.Typing.{IsTyped}
+use Rattle.java_resolve.specs.declared.Refusal.{Refusal}
+use Rattle.java_resolve.specs.Conditions.{ConditionAt}
+use Rattle.java_resolve.specs.Causes.{HasNoCondition}
+use Rattle.java_resolve.specs.Resolves.{Resolves}
+use Rattle.java_check.specs.declared.Kind.{Kind}
+use Rattle.java_check.specs.Fails.{FailsIn}
+use Rattle.kaba_top.specs.declared.reading.Reading.{Reading}
+use Rattle.kaba_top.specs.declared.reading.Reading.TheVariants as readings
+use Rattle.kaba_top.specs.Lines.{Says}
+use Rattle.kaba_top.specs.Reading.{IsRefusedText, IsTypedText, refused, naming_text, typing_text}
+
+-- the bytes are those of this typed program, or a reply refuses them
+abbrev pub IsReading : List ℕ → Reading → Type 0
+IsReading bytes (readings.Typed program) = IsTypedText bytes program
+IsReading bytes (readings.Refused reply) = IsRefusedText bytes reply.status reply.out.items reply.err.items
+
+-- the program is not typed
+pub record IsIllTyped (program : Program) (status : ℕ) (out err : List ℕ) : Type 0 where
+  pub untyped : IsTyped (program_of no_place program) → ⊥
+  pub kind : Kind
+  pub place : Place
+  pub fails : FailsIn (program_of no_place program) (program_of at_place program) kind place
+  pub says : Says 65 (refused (typing_text kind place)) status out err
+
+-- the program was found typed, or a reply says why it is not
+abbrev pub IsReadingOfProgram : Program → Reading → Type 0
+IsReadingOfProgram given (readings.Typed program) = (◌≡◌ {A = Program} program given) × IsTyped (program_of no_place given)
+IsReadingOfProgram given (readings.Refused reply) = IsIllTyped given reply.status reply.out.items reply.err.items
+
+-- a tree is resolved to this program
+pub record IsResolved (tree : List DeclTree) (program : Program) : Type 0 where
+  pub resolves : Resolves tree (program_of at_place program)
+  pub none : HasNoCondition tree
+  pub formed : IsFormed (program_of no_place program)
+
+-- a tree is resolved to this typed program
+pub record IsTypedTree (tree : List DeclTree) (program : Program) : Type 0 where
+  pub resolved : IsResolved tree program
+  pub typed : IsTyped (program_of no_place program)
+
+-- a tree is refused: a condition on names holds, or its program is not typed
+pub record IsUnresolvedTree (tree : List DeclTree) (status : ℕ) (out err : List ℕ) : Type 0 where
+  pub why : Refusal
+  pub condition : ConditionAt tree why
+  pub says : Says 65 (refused (naming_text why)) status out err
+
+pub record IsUntypedTree (tree : List DeclTree) (status : ℕ) (out err : List ℕ) : Type 0 where
+  pub program : Program
+  pub resolved : IsResolved tree program
+  pub ill : IsIllTyped program status out err
+
+abbrev pub IsReadingOfTree : List DeclTree → Reading → Type 0
+IsReadingOfTree tree (readings.Typed program) = IsTypedTree tree program
+IsReadingOfTree tree (readings.Refused reply) = IsUnresolvedTree tree reply.status reply.out.items reply.err.items ⊎ IsUntypedTree tree reply.status reply.out.items reply.err.items

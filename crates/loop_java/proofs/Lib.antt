@@ -1,4 +1,0 @@
-pub mod Rows
-pub mod Statements
-pub mod Frames
-pub mod Loops

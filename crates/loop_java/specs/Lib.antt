@@ -1,6 +1,0 @@
-pub mod Programs
-pub mod Naming
-pub mod Scopes
-pub mod Meaning
-pub mod Machines
-pub mod Turns
