@@ -2,7 +2,7 @@
 
 use crate::tests::Case;
 
-pub const LOOP: &str =
+const LOOP: &str =
     "class Main {\n  static void main(String[] args) {\n    int i = 0;\n    while (i < 3) {\n      System.out.println(i);\n      i = i + 1;\n    }\n  }\n}\n";
 
 const EMPTY: &str = "";
