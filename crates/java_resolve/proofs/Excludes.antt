@@ -1,8 +1,8 @@
 -- An expression that resolves holds no condition.
-use Rattle.std.proofs.Common.{◌≡◌, ℕ, Bool, true, false, not, ◌&&◌, List, Option, Some, None, ◌⊎◌, ⊎_elim, refl, sym, ap, ◌∙◌, subst}
+use Rattle.std.proofs.Common.{◌≡◌, ℕ, ◌<◌, Bool, true, false, not, ◌&&◌, List, Option, Some, None, ◌⊎◌, inl, inr, ⊎_elim, refl, sym, ap, ◌∙◌, subst, arith}
 use Rattle.std.specs.Prelude.{slice_get}
 use Rattle.std.specs.Option.{is_none}
-use Rattle.std.proofs.lemmas.Bool.{false≢true}
+use Rattle.std.proofs.lemmas.Bool.{false≢true, cases_lt}
 use Rattle.kaba_base.specs.declared.Place.{Place}
 use Rattle.java_tree.specs.declared.TypeName.{TypeName}
 use Rattle.java_tree.specs.declared.TypeBase.{TypeBase}
@@ -11,7 +11,7 @@ use Rattle.java_core.specs.declared.TyBase.{TyBase}
 use Rattle.java_tree.specs.Syntax.{Expression, NameRef, Expressions}
 use Rattle.java_core.specs.Trees.{Ex, Exs}
 use Rattle.java_core.specs.Programs.{Plain, PlainField, PlainMethod}
-use Rattle.java_core.specs.Classes.{field_of}
+use Rattle.java_core.specs.Classes.{IsSubclass, field_of}
 use Rattle.java_resolve.specs.declared.Refusal.{Refusal}
 use Rattle.java_resolve.specs.declared.tables.Bound.{Bound}
 use Rattle.java_resolve.specs.declared.exprs.Here.{Here}
@@ -19,8 +19,27 @@ use Rattle.java_resolve.specs.Tables.{local_of}
 use Rattle.java_resolve.specs.Outline.{is_text_type}
 use Rattle.java_resolve.specs.Meanings.{class_named, MeansBase, an_int, a_boolean, a_char, a_text, a_class, MeansCastBase, to_int, to_boolean, to_char, to_class, is_bound, bound_names, is_class_name, IsStaticFieldOf, IsStaticMethodOf, IsNearestField, IsMet}
 use Rattle.java_resolve.specs.Resolves.{ResolvesTo, r_this, r_local, r_static_field, r_own_field, r_class_field, r_field, r_index, r_own_static_call, r_own_call, r_static_call, r_call, r_super_call, r_create, r_create_array, r_cast, r_instance_of, r_unary, r_binary, AllResolve, r_and_more}
-use Rattle.java_resolve.specs.Conditions.{IsUnknownType, no_such_type, IsUnknownCast, no_such_cast, FaultIn, this_in_static, no_variable, static_above, own_in_static, no_class_of_field, no_static_field, in_base, in_array, in_index, no_method, static_method_above, call_in_static, in_arguments, no_class_of_call, no_static_method, in_receiver, in_call_arguments, super_in_static, in_super_arguments, no_class_of_new, in_new_arguments, no_type_of_array, in_size, no_type_of_cast, in_cast, no_class_of_test, in_tested, in_operand, in_left, in_right, FaultInOne, in_first, in_later}
+use Rattle.java_resolve.specs.Conditions.{AreOneSlot, IsUnknownType, no_such_type, IsUnknownCast, no_such_cast, FaultIn, this_in_static, no_variable, static_above, own_in_static, no_class_of_field, no_static_field, in_base, in_array, in_index, no_method, static_method_above, call_in_static, in_arguments, no_class_of_call, no_static_method, in_receiver, in_call_arguments, super_in_static, in_super_arguments, no_class_of_new, in_new_arguments, no_type_of_array, in_size, no_type_of_cast, in_cast, no_class_of_test, in_tested, in_operand, in_left, in_right, FaultInOne, in_first, in_later}
 use Rattle.java_resolve.proofs.Sees.{bound-local, same_some}
+
+-- of two methods of a name in a class and its ancestors none is static
+abbrev pub OneMet : Plain → Type 0
+OneMet O = (c : ℕ) (n : List ℕ) (l m : ℕ) (h k : PlainMethod) → IsMet O c n l h → IsMet O c n m k → (l ≡ m) ⊎ ((h.is_static ≡ false) × (k.is_static ≡ false))
+
+pub one-met : (O : Plain) → ((c i j : ℕ) (h k : PlainMethod) → slice_get O.methods i ≡ Some h → slice_get O.methods j ≡ Some k → i < j → h.name ≡ k.name → IsSubclass O c h.owner → IsSubclass O c k.owner → (AreOneSlot h k → ⊥) → ⊥) → OneMet O
+one-met O none c x i j h k a b =
+    ⊎_elim (λ lt. two i j h k a b lt) (λ le. ⊎_elim (λ lt. ⊎_elim (λ e. inl (sym e)) (λ e. inr (e.1, e.0)) (two j i k h b a lt)) (λ ge. inl (omega (arith, le, ge))) (cases_lt j i)) (cases_lt i j)
+  where
+    two : (i j : ℕ) (h k : PlainMethod) → IsMet O c x i h → IsMet O c x j k → i < j → (i ≡ j) ⊎ ((h.is_static ≡ false) × (k.is_static ≡ false))
+    two i j h k a b lt = go h.is_static refl k.is_static refl
+      where
+        clash : (AreOneSlot h k → ⊥) → ⊥
+        clash other = none c i j h k a.stands b.stands lt (a.name ∙ sym b.name) a.above b.above other
+
+        go : (s : Bool) → h.is_static ≡ s → (t : Bool) → k.is_static ≡ t → (i ≡ j) ⊎ ((h.is_static ≡ false) × (k.is_static ≡ false))
+        go false e false f = inr (e, f)
+        go true e t f = absurd (clash (λ o. false≢true (sym o.first ∙ e)))
+        go false e true f = absurd (clash (λ o. false≢true (sym o.second ∙ f)))
 
 module _ (O : Plain) (here : Here) (scope : List Bound) where
   -- two nearest fields of a name are one
@@ -69,9 +88,9 @@ module _ (O : Plain) (here : Here) (scope : List Bound) where
   cast-holds u bases.Char x r e to_char (no_such_cast f h) = cc (sym e ∙ f)
   cast-holds u (bases.Named k) x r e (to_class c) (no_such_cast {n = n} f h) = let s : k ≡ n = cc in no-some c (ap (class_named O) s ∙ h)
 
-  module _ (one : (n : List ℕ) (l m : ℕ) (h k : PlainMethod) → IsMet O here.owner n l h → IsMet O here.owner n m k → (h ≡ k) ⊎ ((h.is_static ≡ false) × (k.is_static ≡ false))) where
+  module _ (one : OneMet O) where
     same-static : {n : List ℕ} {l m : ℕ} {h k : PlainMethod} → IsMet O here.owner n l h → IsMet O here.owner n m k → h.is_static ≡ true → h ≡ k
-    same-static {n} {l} {m} {h} {k} a b s = ⊎_elim (λ e. e) (λ e. absurd (false≢true (sym e.0 ∙ s))) (one n l m h k a b)
+    same-static {n} {l} {m} {h} {k} a b s = ⊎_elim (λ e. same_some (sym a.stands ∙ ap (slice_get O.methods) e ∙ b.stands)) (λ e. absurd (false≢true (sym e.0 ∙ s))) (one here.owner n l m h k a b)
 
     mutual
       pub holds : {e : Expression} {x : Ex} {r : Refusal} → FaultIn O here (bound_names scope) e r → ResolvesTo O here scope e x → ⊥

@@ -1,5 +1,5 @@
 -- A statement that resolves holds no condition.
-use Rattle.std.proofs.Common.{◌≡◌, ℕ, Bool, true, false, List, [], ◌∷◌, ◌++◌, Option, ◌⊎◌, refl, sym, ap, ◌∙◌, subst}
+use Rattle.std.proofs.Common.{◌≡◌, ℕ, Bool, true, List, [], ◌∷◌, ◌++◌, Option, refl, sym, ap, ◌∙◌, subst}
 use Rattle.std.proofs.lemmas.Bool.{false≢true}
 use Rattle.std.proofs.lemmas.List.{map-append}
 use Rattle.java_tree.specs.Syntax.{Expression, Statement, Statements, OptionalStatement}
@@ -9,13 +9,12 @@ use Rattle.java_core.specs.Programs.{Plain, PlainMethod}
 use Rattle.java_resolve.specs.declared.Refusal.{Refusal}
 use Rattle.java_resolve.specs.declared.tables.Bound.{Bound}
 use Rattle.java_resolve.specs.declared.exprs.Here.{Here}
-use Rattle.java_resolve.specs.Meanings.{is_bound, bound_names, IsMet}
+use Rattle.java_resolve.specs.Meanings.{is_bound, bound_names}
 use Rattle.java_resolve.specs.Resolves.{ResolvesTo, ResolvesIf, r_some, scope_after, scope_after_part, StResolves, r_declare, r_block, r_assign, r_act, r_print, r_choose, r_while, r_for, r_return, r_break, r_continue, StsResolve, r_and_then, ArmsResolve, r_else, r_arm, PartResolves, r_absent, r_present}
 use Rattle.java_resolve.specs.Conditions.{FaultIn, FaultInValue, in_value, names_after, names_after_part, StFault, no_type_of_local, type_as_local, local_twice, in_first_value, in_block, in_target, in_assigned, in_call, in_printed, in_choice, in_else, in_while_test, in_while, in_first_part, in_for_test, in_last_part, in_for, in_returned, break_outside, continue_outside, StsFault, in_statement, in_rest, ArmsFault, in_test, in_arm, in_more_arms, PartFault, in_part}
-use Rattle.java_resolve.proofs.Excludes.{type-holds, holds}
+use Rattle.java_resolve.proofs.Excludes.{OneMet, type-holds, holds}
 
-module _ (O : Plain) (here : Here) (k : PlainMethod)
-    (one : (n : List ℕ) (l m : ℕ) (h i : PlainMethod) → IsMet O here.owner n l h → IsMet O here.owner n m i → (h ≡ i) ⊎ ((h.is_static ≡ false) × (i.is_static ≡ false))) where
+module _ (O : Plain) (here : Here) (k : PlainMethod) (one : OneMet O) where
   -- ---- expressions
 
   expr-holds : {scope : List Bound} {names : List (List ℕ)} {e : Expression} {x : Ex} {r : Refusal} → names ≡ bound_names scope → FaultIn O here names e r → ResolvesTo O here scope e x → ⊥

@@ -2,7 +2,7 @@
 use Rattle.std.proofs.Common.{◌≡◌, ℕ, zero, suc, ◌<◌, ◌⊎◌, inl, inr, ⊎_elim, Bool, true, false, ◌||◌, ◌&&◌, List, [], ◌∷◌, map, length, Option, Some, None, refl, sym, ap, ◌∙◌, subst, arith}
 use Rattle.std.specs.Prelude.{slice_get, if◌then◌else◌}
 use Rattle.std.specs.Option.{is_some}
-use Rattle.std.proofs.lemmas.Bool.{false≢true, cases_lt, or_left, or_right}
+use Rattle.std.proofs.lemmas.Bool.{false≢true, or_left, or_right}
 use Rattle.std.specs.Str.{bytes_eq}
 use Rattle.std.proofs.lemmas.Slice.Eq.{bytes_eq-Decides}
 use Rattle.java_tree.specs.declared.Modifier.{Modifier}
@@ -21,7 +21,7 @@ use Rattle.java_resolve.specs.Tables.{is_above}
 use Rattle.java_resolve.specs.Members.{Members, clash_of, clash_with}
 use Rattle.java_resolve.specs.Resolved as resolved_by
 use Rattle.java_resolve.specs.Outline.{MethodAt, name_of, class_at, type_named, id_meant, faces_named, is_private, fields_in, methods_in, types_in, param_outline, method_outline, outline}
-use Rattle.java_resolve.specs.Meanings.{class_named, bound_names, IsMet}
+use Rattle.java_resolve.specs.Meanings.{class_named, bound_names}
 use Rattle.java_print.specs.Formed.{IsFormedTree}
 use Rattle.java_resolve.specs.Resolves.{HasSlot, no_slot, a_slot, StsResolve, params_from, here_of, heading_of, BodyResolves, r_no_body, r_body, Resolves}
 use Rattle.java_resolve.specs.Conditions.{ConditionAt, unknown, type_twice, known_twice, super_twice, field_twice, method_twice, param_twice, loop, overload, type_as_field, type_as_param, face_as_parent, class_as_face, private_reused, no_main, modifiers_disagree, modifier_unfit, wrong_body, in_body, AreOneSlot, StsFault, HasModifiers, of_type, of_field, of_method}
@@ -39,6 +39,7 @@ use Rattle.java_resolve.proofs.MethodBodies.{BodiesAre}
 use Rattle.java_resolve.proofs.Bridge.{of-main}
 use Rattle.java_resolve.proofs.FormedMembers.{body-at}
 use Rattle.java_resolve.proofs.FormedWhole.{PP, one-slot}
+use Rattle.java_resolve.proofs.Excludes.{one-met}
 use Rattle.java_resolve.proofs.ExcludesStatements.{sts-holds}
 
 params-names : (c : ℕ) (types : List (List ℕ)) (qs : List Param) → bound_names (params_from c (map (param_outline types) qs)) ≡ map (λ q. q.name) qs
@@ -86,16 +87,6 @@ module _ (tree : List DeclTree) (formed : IsFormedTree tree) (known : List Known
         params = sym (ap (λ z. types_of z.params) a.2) ∙ g.0 ∙ ap (λ z. types_of z.params) b.2;
         result = sym (ap (λ z. z.result) a.2) ∙ g.1 ∙ ap (λ z. z.result) b.2;
       }
-
-  one-met : (c : ℕ) (x : List ℕ) (i j : ℕ) (h k : PlainMethod) → IsMet (outline tree) c x i h → IsMet (outline tree) c x j k → (h ≡ k) ⊎ ((h.is_static ≡ false) × (k.is_static ≡ false))
-  one-met c x i j h k a b =
-      ⊎_elim
-      (λ lt. let o = are-one c i j h k a.stands b.stands lt (a.name ∙ sym b.name) a.above b.above in inr (o.first, o.second))
-      (λ le. ⊎_elim
-      (λ lt. let o = are-one c j i k h b.stands a.stands lt (b.name ∙ sym a.name) b.above a.above in inr (o.second, o.first))
-      (λ ge. inl (same_some (sym a.stands ∙ ap (slice_get (outline tree).methods) (let e : i ≡ j = omega (arith, le, ge) in e) ∙ b.stands)))
-      (cases_lt j i))
-      (cases_lt i j)
 
   fits : (kind : Kind) (mods : List Modifier) → HasModifiers tree kind mods → AreFit kind mods
   fits kind mods (of_type {d = d} at) = let s = member-stands tree d at in (classes.supers s.0 d s.1).fit
@@ -148,7 +139,7 @@ module _ (tree : List DeclTree) (formed : IsFormedTree tree) (known : List Known
       go : BodyResolves (outline tree) x k.0 → ⊥
       go (r_no_body none b l) = cc (sym none ∙ e)
       go (r_body {xs = xs} some b h c) =
-          sts-holds (outline tree) (here_of x) k.0 (λ y i j h k. one-met x.owner y i j h k) names f (subst (λ z. StsResolve (outline tree) (here_of x) k.0 false (params_from 0 k.0.params) z xs) (same_some (sym some ∙ e)) h)
+          sts-holds (outline tree) (here_of x) k.0 (one-met (outline tree) (λ c i j h k p q lt same u v other. other (are-one c i j h k p q lt same u v))) names f (subst (λ z. StsResolve (outline tree) (here_of x) k.0 false (params_from 0 k.0.params) z xs) (same_some (sym some ∙ e)) h)
 
   pub none-holds : (r : Refusal) → ConditionAt tree r → ⊥
   unfolding HasNoTwice

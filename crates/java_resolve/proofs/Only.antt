@@ -19,7 +19,7 @@ use Rattle.java_resolve.specs.Meanings.{MeansCastBase, to_int, to_boolean, to_ch
 use Rattle.java_resolve.specs.Resolves.{Counts, no_number, next_number, ResolvesTo, r_number, r_character, r_text, r_truth, r_null, r_this, r_local, r_static_field, r_own_field, r_class_field, r_field, r_index, r_own_static_call, r_own_call, r_static_call, r_call, r_super_call, r_create, r_create_array, r_cast, r_instance_of, r_unary, r_binary, AllResolve, r_no_more, r_and_more, ResolvesIf, r_none, r_some}
 use Rattle.java_resolve.proofs.Sees.{same_some}
 use Rattle.java_resolve.proofs.TypeNames.{type-meant}
-use Rattle.java_resolve.proofs.Excludes.{name-class, one-nearest}
+use Rattle.java_resolve.proofs.Excludes.{OneMet, name-class, one-nearest}
 
 -- ---- numbers
 
@@ -49,7 +49,7 @@ cast-base O (bases.Named n) x y (to_class e) (to_class f) = rw (same_some (sym e
 pub cast-only : (O : Plain) (u : TypeName) (t v : Ty) → MeansCast O u t → MeansCast O u v → t ≡ v
 cast-only O u t v a b = same-ty (cast-base O u.base t.base v.base a.base b.base) (a.dim ∙ sym b.dim)
 
-module _ (O : Plain) (one : (c : ℕ) (n : List ℕ) (l m : ℕ) (h k : PlainMethod) → IsMet O c n l h → IsMet O c n m k → (l ≡ m) ⊎ ((h.is_static ≡ false) × (k.is_static ≡ false))) where
+module _ (O : Plain) (one : OneMet O) where
   -- a static method that is met is the only one
   met-static : {c : ℕ} {n : List ℕ} {l m : ℕ} {h k : PlainMethod} → IsMet O c n l h → IsMet O c n m k → h.is_static ≡ true → l ≡ m
   met-static {c} {n} {l} {m} {h} {k} a b s = ⊎_elim (λ e. e) (λ e. absurd (false≢true (sym e.0 ∙ s))) (one c n l m h k a b)

@@ -1,5 +1,5 @@
 -- A body resolves to one tree with one list of locals, if its numbers and its locals are given out in one count each.
-use Rattle.std.proofs.Common.{◌≡◌, ℕ, suc, ◌<◌, ◌≤◌, Bool, true, false, List, [], ◌∷◌, ◌++◌, Option, Some, ◌⊎◌, ⊎_elim, refl, sym, ap, ◌∙◌, subst, arith}
+use Rattle.std.proofs.Common.{◌≡◌, ℕ, suc, ◌<◌, ◌≤◌, Bool, true, List, [], ◌∷◌, ◌++◌, Option, Some, ⊎_elim, refl, sym, ap, ◌∙◌, subst, arith}
 use Rattle.std.specs.Prelude.{slice_get}
 use Rattle.std.proofs.lemmas.Bool.{cases_lt}
 use Rattle.java_tree.specs.Syntax.{Expression, Statement, Statements, Else, OptionalStatement, absent, present}
@@ -10,11 +10,11 @@ use Rattle.java_core.specs.Formed.{variables_of, numbers, numbers_if, numbers_ta
 use Rattle.java_resolve.specs.declared.tables.Bound.{Bound}
 use Rattle.java_resolve.specs.declared.exprs.Here.{Here}
 use Rattle.java_resolve.specs.Statements.{target, bound}
-use Rattle.java_resolve.specs.Meanings.{IsMet}
 use Rattle.java_resolve.specs.Resolves.{Counts, no_number, next_number, ResolvesIf, scope_after, scope_after_part, StResolves, r_declare, r_block, r_assign, r_act, r_print, r_choose, r_while, r_for, r_return, r_break, r_continue, StsResolve, r_no_statements, r_and_then, ArmsResolve, r_no_else, r_else, r_arm, PartResolves, r_absent, r_present, declares, declares_all, declares_arms}
 use Rattle.java_print.specs.Formed.{IsFormedStmt, AreFormedStmts, AreFormedArms, IsFormedElse, IsFormedFirst, IsFormedStep}
 use Rattle.java_resolve.proofs.TypeNames.{type-meant}
 use Rattle.java_resolve.proofs.Statements.{numbers-target}
+use Rattle.java_resolve.proofs.Excludes.{OneMet}
 use Rattle.java_resolve.proofs.Only.{none-only, counts-split, counts-next, from, ex-only, if-only}
 
 counts-as : {k i : ℕ} {ms ns : List ℕ} → ms ≡ ns → Counts k ms i → Counts k ns i
@@ -47,7 +47,7 @@ agree-at k l no_number g i le lt = absurd (omega (arith, le, lt))
 agree-at k l {a} (next_number c) g i le lt =
     ⊎_elim (λ more. agree-at k l c g.1 i (omega (arith, more)) lt) (λ same. let e : a ≡ i = omega (arith, le, same) in subst (λ z. slice_get (variables_of k) z ≡ slice_get (variables_of l) z) e g.0) (cases_lt a i)
 
-module _ (O : Plain) (one : (c : ℕ) (n : List ℕ) (l m : ℕ) (h k : PlainMethod) → IsMet O c n l h → IsMet O c n m k → (l ≡ m) ⊎ ((h.is_static ≡ false) × (k.is_static ≡ false))) (here : Here) (k l : PlainMethod) where
+module _ (O : Plain) (one : OneMet O) (here : Here) (k l : PlainMethod) where
   -- one tree, with the numbers and the locals counted to the same ends, and one meaning of its locals
   abbrev pub Same : {A : Type 0} → A → A → ℕ → ℕ → ℕ → ℕ → List ℕ → Type 0
   Same x y i j m n is = (x ≡ y) × (i ≡ j) × (m ≡ n) × Agree k l is

@@ -10,9 +10,8 @@ use Rattle.java_core.specs.Types.{types_of}
 use Rattle.java_core.specs.Formed.{variables_of, numbers_sts, numbers_body, numbers_methods}
 use Rattle.java_print.specs.Formed.{IsFormedBody, IsFormedTree}
 use Rattle.java_resolve.specs.Outline.{MethodAt, methods_in, outline}
-use Rattle.java_resolve.specs.Meanings.{IsMet}
 use Rattle.java_resolve.specs.Resolves.{Counts, StsResolve, declares_all, params_from, here_of, BodyResolves, r_no_body, r_body, BodiesResolve, r_no_methods, r_method, heading_of, IsOfSlot, HasSlot, no_slot, a_slot, AreSlots, Resolves}
-use Rattle.java_resolve.specs.Conditions.{overload, AreOneSlot}
+use Rattle.java_resolve.specs.Conditions.{overload}
 use Rattle.java_resolve.specs.Causes.{HasNoCondition}
 use Rattle.java_resolve.proofs.Sees.{same_some}
 use Rattle.java_resolve.proofs.Runs.{stands-within, map-stands, stands-map}
@@ -20,6 +19,7 @@ use Rattle.java_resolve.proofs.Bridge.{main-of, of-main}
 use Rattle.java_resolve.proofs.FormedMembers.{back-stands}
 use Rattle.java_resolve.proofs.MembersOf.{method-in}
 use Rattle.java_resolve.proofs.MethodClashes.{outline-method}
+use Rattle.java_resolve.proofs.Excludes.{OneMet, one-met}
 use Rattle.java_resolve.proofs.Only.{none-only, counts-split, from}
 use Rattle.java_resolve.proofs.OnlyStatements.{Agree, agree-at, sts-only}
 
@@ -122,7 +122,7 @@ rebuilt k s ls b = record { owner = k.owner; name = k.name; is_static = k.is_sta
 method-is : (k l : PlainMethod) → heading_of k ≡ heading_of l → k.slot ≡ l.slot → k.body ≡ l.body → k.locals ≡ l.locals → k ≡ l
 method-is k l h s b ls = ap (λ z. rebuilt z k.slot k.locals k.body) h ∙ ap (λ z. rebuilt (heading_of l) z k.locals k.body) s ∙ ap (λ z. rebuilt (heading_of l) l.slot z k.body) ls ∙ ap (rebuilt (heading_of l) l.slot l.locals) b
 
-module _ (O : Plain) (one : (c : ℕ) (n : List ℕ) (l m : ℕ) (h k : PlainMethod) → IsMet O c n l h → IsMet O c n m k → (l ≡ m) ⊎ ((h.is_static ≡ false) × (k.is_static ≡ false))) where
+module _ (O : Plain) (one : OneMet O) where
   body-only : (m : MethodAt) (k l : PlainMethod) (a i j : ℕ) → IsFormedBody m.body → heading_of k ≡ heading_of l → BodyResolves O m k → BodyResolves O m l → Counts a (numbers_body k.body) i → Counts a (numbers_body l.body) j
       → (k.body ≡ l.body) × (k.locals ≡ l.locals) × (i ≡ j)
   body-only m k l a i j f h (r_no_body none b ls) (r_no_body also d ms) c e = (b ∙ sym d, ls ∙ sym ms, none-only (subst (λ z. Counts a (numbers_body z) i) b c) (subst (λ z. Counts a (numbers_body z) j) d e))
@@ -167,22 +167,6 @@ module _ (O : Plain) (one : (c : ℕ) (n : List ℕ) (l m : ℕ) (h k : PlainMet
 -- ---- the whole
 
 module _ (tree : List DeclTree) (formed : IsFormedTree tree) (none : HasNoCondition tree) where
-  -- of two methods of one name that meet, none is static
-  one-met : (c : ℕ) (x : List ℕ) (i j : ℕ) (h k : PlainMethod) → IsMet (outline tree) c x i h → IsMet (outline tree) c x j k → (i ≡ j) ⊎ ((h.is_static ≡ false) × (k.is_static ≡ false))
-  one-met c x i j h k a b =
-      ⊎_elim (λ lt. two i j h k a b lt) (λ le. ⊎_elim (λ lt. ⊎_elim (λ e. inl (sym e)) (λ e. inr (e.1, e.0)) (two j i k h b a lt)) (λ ge. inl (omega (arith, le, ge))) (cases_lt j i)) (cases_lt i j)
-    where
-      two : (i j : ℕ) (h k : PlainMethod) → IsMet (outline tree) c x i h → IsMet (outline tree) c x j k → i < j → (i ≡ j) ⊎ ((h.is_static ≡ false) × (k.is_static ≡ false))
-      two i j h k a b lt = go h.is_static refl k.is_static refl
-        where
-          clash : (AreOneSlot h k → ⊥) → ⊥
-          clash other = none _ (overload a.stands b.stands lt (a.name ∙ sym b.name) a.above b.above other)
-
-          go : (s : Bool) → h.is_static ≡ s → (t : Bool) → k.is_static ≡ t → (i ≡ j) ⊎ ((h.is_static ≡ false) × (k.is_static ≡ false))
-          go false e false f = inr (e, f)
-          go true e t f = absurd (clash (λ o. false≢true (sym o.first ∙ e)))
-          go false e true f = absurd (clash (λ o. false≢true (sym o.second ∙ f)))
-
   main-least : (P Q : Plain) → map heading_of P.methods ≡ map heading_of Q.methods → Resolves tree P → Resolves tree Q → P.main ≤ Q.main
   main-least P Q same p q = let k = other-method Q P (sym same) Q.main q.main q.main_stands in p.main_first Q.main k.0 k.1 (main-of k.2 (of-main refl q.main_is))
 
@@ -197,7 +181,7 @@ module _ (tree : List DeclTree) (formed : IsFormedTree tree) (none : HasNoCondit
 
       methods : P.methods ≡ Q.methods
       methods =
-          methods-only (outline tree) one-met 0 p.last q.last (λ n m e. (method-in 1 tree formed n m e).body) p.bodies q.bodies same
+          methods-only (outline tree) (one-met (outline tree) (λ c i j h k p q lt same u v other. none _ (overload p q lt same u v other))) 0 p.last q.last (λ n m e. (method-in 1 tree formed n m e).body) p.bodies q.bodies same
           (λ n k l e f. slot-only P Q slots p.slots k l (same_some (sym (stands-map heading_of P.methods n k e) ∙ ap (λ z. slice_get z n) same ∙ stands-map heading_of Q.methods n l f)) (p.slots.each n k e) (q.slots.each n l f))
           p.numbers q.numbers
 

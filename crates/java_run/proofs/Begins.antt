@@ -1,5 +1,5 @@
 -- A loop that begins.
-use Rattle.std.proofs.Common.{◌≡◌, ℕ, ◌+◌, ◌≤◌, List, ◌∷◌, Option, Some, sym, ap, ◌∙◌, arith}
+use Rattle.std.proofs.Common.{◌≡◌, ℕ, ◌+◌, ◌≤◌, List, ◌∷◌, Option, sym, ap, ◌∙◌, arith}
 use denote.Bor.{Bor}
 use Rattle.java_core.specs.declared.RStmt.{RStmt}
 use Rattle.java_core.specs.Trees.{Ex, Sts, loop, no_st, stmt_of, no_place}

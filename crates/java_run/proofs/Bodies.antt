@@ -1,25 +1,22 @@
 -- A body that is entered, as what is left of the run.
-use Rattle.std.proofs.Common.{◌≡◌, ℕ, suc, ◌+◌, ◌<◌, ◌≤◌, List, [], ◌∷◌, ◌++◌, map, length, Option, Some, None, refl, sym, ap, ◌∙◌, subst, arith}
+use Rattle.std.proofs.Common.{◌≡◌, ℕ, List, [], ◌∷◌, ◌++◌, map, length, Option, Some, None, refl, sym, ap, ◌∙◌, arith}
 use Rattle.std.specs.Prelude.{slice_get}
-use Rattle.std.specs.Option.{option_map, option_map_or, option_and_then}
+use Rattle.std.specs.Option.{option_map, option_and_then}
 use Rattle.std.proofs.lemmas.List.{length-map}
 use Rattle.std.proofs.lemmas.Option.{slice_get-map, same_Some}
-use Rattle.std.specs.declared.vec.Vec.{Vec}
-use Rattle.std.specs.declared.alloc.Global.{Global}
 use Rattle.java_core.specs.declared.Ty.{Ty}
 use Rattle.java_core.specs.declared.Local.{Local}
 use Rattle.java_core.specs.declared.Method.{Method}
 use Rattle.java_core.specs.declared.Program.{Program}
-use Rattle.java_core.specs.declared.RStmt.{RStmt}
-use Rattle.java_core.specs.Trees.{Sts, stmts, no_place, body_seen}
-use Rattle.java_core.specs.Programs.{Plain, PlainMethod, program_of, method_seen, local_seen}
-use Rattle.java_core.specs.Types.{env_of, types_of}
+use Rattle.java_core.specs.Trees.{Sts, no_place, body_seen}
+use Rattle.java_core.specs.Programs.{Plain, program_of, method_seen, local_seen}
+use Rattle.java_core.specs.Types.{types_of}
 use Rattle.java_heap.specs.declared.values.Value.{Value}
 use Rattle.java_heap.specs.Seen.{value_of}
 use Rattle.java_meaning.specs.Moment as moment
 use Rattle.java_meaning.specs.Moment.{Nothing, Body, Frame, State, Outcome, Wrong, stop, with_some}
 use Rattle.java_meaning.specs.Values.{default_of, arguments, and_argument, convert}
-use Rattle.java_meaning.specs.Meaning.{Flow, Next, Broke, Continued, Gave, ToValue, given, enter, meaning}
+use Rattle.java_meaning.specs.Meaning.{Flow, Next, Broke, Continued, Gave, given, enter, meaning}
 use Rattle.java_meaning.specs.Languages.{language_of, body_of, body_with}
 use Rattle.java_run.specs.declared.machine.Machine.{Machine}
 use Rattle.java_run.specs.Rest.{state_of, onward, given_at}

@@ -1,7 +1,7 @@
 -- Calls and creations, as what is left of the run.
 use Rattle.std.proofs.Common.{◌≡◌, ℕ, suc, List, [], ◌∷◌, ◌++◌, map, length, Option, Some, None, refl, sym, ap, ◌∙◌, arith}
 use Rattle.std.specs.Prelude.{slice_get}
-use Rattle.std.specs.Option.{option_map, option_and_then}
+use Rattle.std.specs.Option.{option_and_then}
 use Rattle.java_core.specs.Trees.{Ex, null}
 use Rattle.java_core.specs.Programs.{Plain}
 use Rattle.java_core.specs.Classes.{lookup, super_method}
@@ -11,7 +11,7 @@ use Rattle.java_heap.specs.Seen.{value_of}
 use Rattle.java_heap.specs.Cells.{Store}
 use Rattle.java_meaning.specs.Moment as moment
 use Rattle.java_meaning.specs.Moment.{Cell, an_object, own_class, Object, State, Outcome, Wrong, Going, stop, step, with_some}
-use Rattle.java_meaning.specs.Meaning.{ToValue, enter, call_object, call_super, call_on, make_object, meaning}
+use Rattle.java_meaning.specs.Meaning.{enter, call_object, call_super, call_on, make_object, meaning}
 use Rattle.java_meaning.specs.Languages.{language_of, body_of, slot_in, fresh_of}
 use Rattle.java_run.specs.declared.machine.Machine.{Machine}
 use Rattle.java_run.specs.Parts.{bare}

@@ -1,6 +1,6 @@
 -- Casts and tests of classes, as the meaning has them.
-use Rattle.std.proofs.Common.{◌≡◌, ℕ, List, Option, Some, None, refl, sym, ap, ◌∙◌}
-use Rattle.std.specs.Prelude.{Bool, true, false, slice_get}
+use Rattle.std.proofs.Common.{◌≡◌, ℕ, Option, Some, None, refl, sym, ap, ◌∙◌}
+use Rattle.std.specs.Prelude.{Bool, slice_get}
 use Rattle.std.specs.Option.{option_map}
 use Rattle.kaba_base.specs.declared.ClassId.{ClassId}
 use Rattle.java_core.specs.declared.Ty.{Ty}
@@ -12,12 +12,9 @@ use Rattle.java_heap.specs.declared.values.Value.{Value}
 use Rattle.java_heap.specs.declared.values.Value.TheVariants as value
 use Rattle.java_heap.specs.Seen.{value_of}
 use Rattle.java_heap.specs.Cells.{Store}
-use Rattle.java_meaning.specs.Moment as moment
 use Rattle.java_meaning.specs.Moment.{Cell, own_type, Truth, Object, State, Outcome, Faulted, Wrong, stop, with_some, on_bool}
 use Rattle.java_meaning.specs.Meaning.{ToValue, cast_object, test_class, on_fitting}
 use Rattle.java_meaning.specs.Languages.{language_of}
-use Rattle.java_run.specs.declared.machine.Machine.{Machine}
-use Rattle.java_run.specs.declared.machine.Take.TheVariants as take
 use Rattle.java_run.specs.Parts.{bare}
 use Rattle.java_run.specs.Finds.{at_heap}
 

@@ -1,5 +1,5 @@
 -- Expressions on top of the tasks, as the part of the machine that evaluates them.
-use Rattle.std.proofs.Common.{◌≡◌, ℕ, suc, ◌+◌, ◌<◌, ◌≤◌, List, [], ◌∷◌, Option, Some, None, refl, sym, ap, ◌∙◌, arith}
+use Rattle.std.proofs.Common.{◌≡◌, ℕ, ◌+◌, ◌≤◌, List, ◌∷◌, Option, Some, None, refl, ap, ◌∙◌}
 use Rattle.std.specs.Prelude.{IfOk}
 use denote.Bor.{Bor}
 use Rattle.std.specs.declared.result.Result.{Result}

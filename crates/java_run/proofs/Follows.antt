@@ -6,7 +6,7 @@ use Rattle.std.specs.declared.result.Result.{Result}
 use Rattle.std.specs.declared.result.Result.TheVariants.{Ok, Err}
 use Rattle.std.specs.declared.alloc.AllocError.{AllocError}
 use Rattle.java_core.specs.Programs.{Plain}
-use Rattle.java_meaning.specs.Moment.{Outcome, Ended, stop}
+use Rattle.java_meaning.specs.Moment.{Outcome}
 use Rattle.java_meaning.specs.Meaning.{Next}
 use Rattle.java_run.specs.declared.machine.Machine.{Machine}
 use Rattle.java_run.specs.declared.machine.Task.{Task}
@@ -14,9 +14,9 @@ use Rattle.java_run.specs.declared.machine.Ending.{Ending}
 use Rattle.java_run.specs.declared.machine.Ending.TheVariants.{Done}
 use Rattle.java_run.specs.declared.machine.Turn.{Turn}
 use Rattle.java_run.specs.declared.machine.Turn.TheVariants.{On, Stopped}
-use Rattle.java_run.specs.Rest.{rest, run_from, state_of}
+use Rattle.java_run.specs.Rest.{rest, run_from}
 use Rattle.java_run.specs.Work.{works}
-use Rattle.java_run.specs.Moves.{GoesOn, Stops, Moves}
+use Rattle.java_run.specs.Moves.{Stops, Moves}
 
 -- what is left of the run at a machine is what is left at a later one
 pub record Follows (P : Plain) (m a : Machine) : Type 0 where

@@ -1,27 +1,19 @@
 -- Each form of expression, and each thing that waits for a value, as the part of the machine that does it.
-use Rattle.std.proofs.Common.{◌≡◌, ℕ, suc, ◌+◌, ◌<◌, ◌≤◌, List, [], ◌∷◌, ◌++◌, map, length, Option, Some, None, refl, sym, ap, ◌∙◌, subst, arith}
+use Rattle.std.proofs.Common.{◌≡◌, ℕ, List, Some, None, refl}
 use denote.Bor.{Bor}
 use Rattle.java_core.specs.declared.RExpr.{RExpr}
-use Rattle.java_core.specs.declared.RStmt.{RStmt}
 use Rattle.java_core.specs.declared.Ty.{Ty}
 use Rattle.java_core.specs.declared.UnOp.{UnOp}
 use Rattle.java_core.specs.declared.BinOp.{BinOp}
 use Rattle.kaba_base.specs.declared.ClassId.{ClassId}
 use Rattle.kaba_base.specs.declared.MemberId.{MemberId}
-use Rattle.java_core.specs.Trees.{Ex, Exs, field, index, call, static_call, super_call, create, create_array, cast, instance_of, unary, binary, expr_of, no_place}
+use Rattle.java_core.specs.Trees.{field, index, call, static_call, super_call, create, create_array, cast, instance_of, unary, binary}
 use Rattle.java_core.specs.Programs.{Plain}
-use Rattle.java_heap.specs.declared.values.Value.{Value}
-use Rattle.java_heap.specs.Seen.{value_of}
-use Rattle.java_meaning.specs.Moment.{Outcome}
-use Rattle.java_meaning.specs.Meaning.{Next, write_local, write_static, call_on, with_cell, read_field}
-use Rattle.java_meaning.specs.Languages.{language_of}
 use Rattle.java_run.specs.declared.machine.Machine.{Machine}
-use Rattle.java_run.specs.declared.machine.Task.TheVariants as task
 use Rattle.java_run.specs.declared.machine.Take.TheVariants as take
 use Rattle.java_run.specs.declared.machine.Call.TheVariants as calling
 use Rattle.java_run.specs.Parts.{bare, ex, exs, receiver}
-use Rattle.java_run.specs.Rest.{calls, takes, frame_of, state_of, run_from, onward, onward_flow, passes, takes_from, evaluates, argued}
-use Rattle.java_run.proofs.Pushes.{evals}
+use Rattle.java_run.specs.Rest.{calls, takes, onward, takes_from, evaluates, argued}
 
 module _ (P : Plain) (n : ℕ) (m : Machine) where
   -- expressions
@@ -72,36 +64,3 @@ module _ (P : Plain) (n : ℕ) (m : Machine) where
   pub form_binary : (o : BinOp) (a b : Bor RExpr) → evaluates P n m (binary bare o (ex a) (ex b)) (onward P n m) ≡ evaluates P n m (ex a) (takes_from P n (take.Right o b) m)
   unfolding onward takes_from takes calls
   form_binary o a b = refl
-
-  -- values that are taken
-  pub take_place : (i : Bor RExpr) (v : Value) → takes_from P n (take.Place i) m (value_of v) (state_of m) ≡ evaluates P n m (ex i) (takes_from P n (take.Element v) m)
-  unfolding onward onward_flow passes run_from takes_from takes calls
-  take_place i v = refl
-
-  pub take_receiver : (b : Option (Bor RExpr)) (x : Bor (List ℕ)) (es : Bor (List RExpr)) (v : Value) → takes_from P n (take.Receiver b x es) m (value_of v) (state_of m) ≡ argued P n m (calling.On b x es v) (exs es)
-  unfolding onward onward_flow passes run_from takes_from takes calls
-  take_receiver b x es v = refl
-
-  pub take_base : (e : Bor RExpr) (x : Bor (List ℕ)) (d : Bor RExpr) (v : Value) → takes_from P n (take.Base e x d) m (value_of v) (state_of m) ≡ evaluates P n m (ex d) (takes_from P n (take.KeepField e x v) m)
-  unfolding onward onward_flow passes run_from takes_from takes calls
-  take_base e x d v = refl
-
-  pub take_array : (i d : Bor RExpr) (v : Value) → takes_from P n (take.Array i d) m (value_of v) (state_of m) ≡ evaluates P n m (ex i) (takes_from P n (take.At d v) m)
-  unfolding onward onward_flow passes run_from takes_from takes calls
-  take_array i d v = refl
-
-  pub take_at : (d : Bor RExpr) (a v : Value) → takes_from P n (take.At d a) m (value_of v) (state_of m) ≡ evaluates P n m (ex d) (takes_from P n (take.KeepElement a v) m)
-  unfolding onward onward_flow passes run_from takes_from takes calls
-  take_at d a v = refl
-
-  pub take_keep : (x : ℕ) (v : Value) → takes_from P n (take.Keep x) m (value_of v) (state_of m) ≡ write_local (language_of P) x (value_of v) (frame_of m.now) (state_of m) (onward_flow P n m)
-  unfolding onward onward_flow passes run_from takes_from takes calls
-  take_keep x v = refl
-
-  pub take_static : (x : MemberId) (v : Value) → takes_from P n (take.KeepStatic x) m (value_of v) (state_of m) ≡ write_static (language_of P) x.0 (value_of v) (state_of m) (passes P n m)
-  unfolding onward onward_flow passes run_from takes_from takes calls
-  take_static x v = refl
-
-  pub take_forget : (v : Value) → takes_from P n (take.Forget) m (value_of v) (state_of m) ≡ run_from P n m.tasks Next m
-  unfolding onward onward_flow passes run_from takes_from takes calls
-  take_forget v = refl

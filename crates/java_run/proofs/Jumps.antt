@@ -1,29 +1,27 @@
 -- Where a break, a continue and a return come to, and what each statement does.
-use Rattle.std.proofs.Common.{◌≡◌, ℕ, suc, ◌+◌, ◌<◌, ◌≤◌, List, [], ◌∷◌, ◌++◌, map, length, Option, Some, None, refl, sym, ap, ◌∙◌, subst, arith}
+use Rattle.std.proofs.Common.{◌≡◌, ℕ, ◌+◌, ◌<◌, ◌≤◌, List, [], ◌∷◌, Option, Some, None, refl, sym, ap, ◌∙◌, arith}
 use denote.Bor.{Bor}
 use Rattle.java_core.specs.declared.RStmt.{RStmt}
-use Rattle.java_core.specs.Trees.{Tag, Ex, St, Sts, Arms, Target, declare, block, assign, act, print, choose, loop, return, break, continue, no_st, stmt_of, no_place}
+use Rattle.java_core.specs.Trees.{Tag, St, Arms, choose, stmt_of, no_place}
 use Rattle.java_core.specs.Programs.{Plain}
 use Rattle.java_heap.specs.declared.values.Value.{Value}
 use Rattle.java_heap.specs.Seen.{value_of}
 use Rattle.java_meaning.specs.Moment as moment
 use Rattle.java_meaning.specs.Moment.{State, Frame, Ended, Outcome, stop}
-use Rattle.java_meaning.specs.Meaning.{Flow, Next, Broke, Continued, Gave, run_one, run_arms, meaning}
+use Rattle.java_meaning.specs.Meaning.{Next, Broke, Continued, Gave, run_one, run_arms, meaning}
 use Rattle.java_meaning.specs.Languages.{language_of}
 use Rattle.java_run.specs.declared.machine.Machine.{Machine}
 use Rattle.java_run.specs.declared.machine.Stage.TheVariants as stage
 use Rattle.java_run.specs.declared.machine.Task.{Task}
 use Rattle.java_run.specs.declared.machine.Task.TheVariants as task
-use Rattle.java_run.specs.declared.machine.Take.TheVariants as take
 use Rattle.java_run.specs.declared.flow.Exit.{Exit}
 use Rattle.java_run.specs.declared.flow.Exit.TheVariants as exit
 use Rattle.java_run.specs.declared.flow.Landing.{Landing}
 use Rattle.java_run.specs.declared.flow.Landing.TheVariants as landing
-use Rattle.java_run.specs.Landings.{stops, landing_or, tasks_or, landing as landing_of, landed, jump_of}
-use Rattle.java_run.specs.Parts.{ex, st, arms_in, drop_arms}
-use Rattle.java_run.specs.Rest.{acts, rest, takes, frame_of, state_of, run_from, onward, onward_flow, passes, takes_from, leave_from, leave, evaluates}
+use Rattle.java_run.specs.Landings.{stops, tasks_or, landing as landing_of, landed, jump_of}
+use Rattle.java_run.specs.Parts.{arms_in, drop_arms}
+use Rattle.java_run.specs.Rest.{acts, rest, frame_of, state_of, run_from, onward_flow, leave_from}
 use Rattle.java_run.specs.Work.{size_st, size_arms, work, works}
-use Rattle.java_run.proofs.Works.{work_some}
 use Rattle.java_run.proofs.Steps.{arm_is}
 
 module _ (P : Plain) (n : ℕ) (m : Machine) where

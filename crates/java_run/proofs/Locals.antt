@@ -1,9 +1,9 @@
 -- Locals that are set, as what is left of the run.
-use Rattle.std.proofs.Common.{◌≡◌, ℕ, ◌<◌, ◌≤◌, List, map, length, get_or, Option, Some, None, refl, sym, ap, ◌∙◌, subst}
+use Rattle.std.proofs.Common.{◌≡◌, ℕ, ◌<◌, ◌≤◌, List, map, length, get_or, Option, Some, None, sym, ap, ◌∙◌}
 use Rattle.std.specs.Prelude.{slice_get, slice_set}
 use Rattle.std.specs.Option.{option_map}
 use Rattle.std.proofs.Math.ListN.{set}
-use Rattle.std.proofs.lemmas.List.{map-set, length-map}
+use Rattle.std.proofs.lemmas.List.{map-set}
 use Rattle.std.proofs.lemmas.Option.{slice_get-map, slice_get-get_or, slice_get_past}
 use Rattle.std.specs.declared.vec.Vec.{Vec}
 use Rattle.std.specs.declared.alloc.Global.{Global}
@@ -16,7 +16,7 @@ use Rattle.java_heap.specs.Seen.{value_of}
 use Rattle.java_meaning.specs.Moment as moment
 use Rattle.java_meaning.specs.Moment.{Frame, State, Outcome, Wrong, stop, with_some}
 use Rattle.java_meaning.specs.Values.{default_of, convert}
-use Rattle.java_meaning.specs.Meaning.{Next, ToFlow, set_local, write_local, run_declare, run_initial, meaning}
+use Rattle.java_meaning.specs.Meaning.{Next, set_local, write_local, run_declare, run_initial, meaning}
 use Rattle.java_meaning.specs.Languages.{language_of}
 use Rattle.java_run.specs.declared.machine.Machine.{Machine}
 use Rattle.java_run.specs.Rest.{frame_of, state_of, run_from, onward_flow}

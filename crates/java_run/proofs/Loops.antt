@@ -1,14 +1,14 @@
 -- A turn of a loop, and a body that begins.
-use Rattle.std.proofs.Common.{◌≡◌, ℕ, suc, ◌+◌, ◌<◌, ◌≤◌, List, [], ◌∷◌, ◌++◌, map, length, Option, Some, None, refl, sym, ap, ◌∙◌, subst, arith}
+use Rattle.std.proofs.Common.{◌≡◌, ℕ, suc, ◌+◌, ◌≤◌, List, [], ◌∷◌, map, refl, sym, ap, ◌∙◌, arith}
 use denote.Bor.{Bor}
 use Rattle.java_core.specs.declared.RStmt.{RStmt}
-use Rattle.java_core.specs.Trees.{St, Sts, no_st, st_then, stmts, no_place}
+use Rattle.java_core.specs.Trees.{St, no_st, st_then, stmts, no_place}
 use Rattle.java_core.specs.Programs.{Plain}
 use Rattle.java_heap.specs.declared.values.Value.{Value}
 use Rattle.java_heap.specs.Seen.{value_of}
 use Rattle.java_meaning.specs.Moment as moment
 use Rattle.java_meaning.specs.Moment.{State, Frame, Lang, Outcome, Going, stop, step_of}
-use Rattle.java_meaning.specs.Meaning.{Flow, Next, Broke, Continued, Gave, ToFlow, Later, after_one, after_turn, run_one, run_all, meaning}
+use Rattle.java_meaning.specs.Meaning.{Next, Broke, Continued, Gave, ToFlow, Later, after_one, after_turn, run_one, run_all, meaning}
 use Rattle.java_meaning.specs.Languages.{language_of}
 use Rattle.java_meaning.proofs.Depth.{AlikeF, all_alike, one_alike, depth_alike, same_depth}
 use Rattle.java_run.specs.declared.machine.Machine.{Machine}
@@ -17,7 +17,7 @@ use Rattle.java_run.specs.declared.machine.Stage.TheVariants as stage
 use Rattle.java_run.specs.declared.machine.Task.{Task}
 use Rattle.java_run.specs.declared.machine.Task.TheVariants as task
 use Rattle.java_run.specs.Parts.{st, sts, last_in, body_in, again_of}
-use Rattle.java_run.specs.Rest.{acts, rest, frame_of, state_of, run_from, onward, onward_flow, turned, turning, given_at}
+use Rattle.java_run.specs.Rest.{acts, rest, frame_of, state_of, run_from, onward, onward_flow, turning, given_at}
 
 pub no_step : (l : ℕ) (s : State) (go : State → Outcome) → l ≡ 0 → step_of l s go ≡ stop Going s
 no_step l s go z = ap (λ x. step_of x s go) z

@@ -1,13 +1,12 @@
 -- Fields of objects, and the length of an array, as the meaning has them.
-use Rattle.std.proofs.Common.{◌≡◌, ℕ, List, length, Option, Some, None, refl, sym, ap, ◌∙◌}
-use Rattle.std.specs.Prelude.{slice_get}
+use Rattle.std.proofs.Common.{◌≡◌, ℕ, List, length, Option, Some, None, sym, ap, ◌∙◌}
 use Rattle.std.specs.Option.{option_map}
 use Rattle.java_core.specs.declared.Ty.{Ty}
 use Rattle.java_core.specs.Trees.{Ex}
 use Rattle.java_core.specs.Types.{Env, field_in, is_length, static}
 use Rattle.java_core.specs.Programs.{Plain}
 use Rattle.java_heap.specs.Cells.{Store}
-use Rattle.java_meaning.specs.Moment.{Value, Number, Cell, Kind, an_object, an_array, State, Outcome, Wrong, stop, on_bool}
+use Rattle.java_meaning.specs.Moment.{Value, Number, Cell, an_object, an_array, State, Outcome, Wrong, stop, on_bool}
 use Rattle.java_meaning.specs.Values.{int_of}
 use Rattle.java_meaning.specs.Meaning.{ToValue, with_cell, read_field, read_member, write_field}
 use Rattle.java_meaning.specs.Languages.{language_of}

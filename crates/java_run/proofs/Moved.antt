@@ -1,6 +1,6 @@
 -- How moves are made of moves.
-use Rattle.std.proofs.Common.{◌≡◌, ℕ, suc, ◌+◌, ◌<◌, ◌≤◌, List, [], ◌∷◌, ◌++◌, map, length, Option, Some, None, refl, sym, ap, ◌∙◌, subst, arith, drop, take}
-use Rattle.std.specs.Prelude.{reverse, IfOk}
+use Rattle.std.proofs.Common.{◌≡◌, ℕ, ◌<◌, ◌≤◌, sym, ◌∙◌, subst, arith}
+use Rattle.std.specs.Prelude.{IfOk}
 use Rattle.std.specs.declared.result.Result.{Result}
 use Rattle.std.specs.declared.result.Result.TheVariants.{Ok, Err}
 use Rattle.std.specs.declared.alloc.AllocError.{AllocError}
@@ -13,7 +13,7 @@ use Rattle.java_run.specs.declared.machine.Turn.{Turn}
 use Rattle.java_run.specs.declared.machine.Turn.TheVariants.{On, Stopped}
 use Rattle.java_run.specs.Rest.{run_from, state_of, end_of}
 use Rattle.java_run.specs.Work.{works}
-use Rattle.java_run.specs.Moves.{GoesOn, Stops, Moves}
+use Rattle.java_run.specs.Moves.{Moves}
 
 module _ (P : Plain) where
   moves_by : (o q : ℕ → Outcome) (w v l : ℕ) (t : Turn) (m : Machine) → ((n : ℕ) → l ≤ n → o n ≡ q n) → v ≤ w → Moves P q v l t m → Moves P o w l t m
@@ -25,12 +25,6 @@ module _ (P : Plain) where
   pub moved : (o q : ℕ → Outcome) (w v l : ℕ) (r : Result Turn AllocError) (m : Machine) → ((n : ℕ) → l ≤ n → o n ≡ q n) → v ≤ w → IfOk r (λ t. Moves P q v l t m) → IfOk r (λ t. Moves P o w l t m)
   moved o q w v l (Ok t) m e le h = moves_by o q w v l t m e le h
   moved o q w v l (Err x) m e le h = tt
-
-  -- the same behind a step
-  stepped_by : (o q : ℕ → Outcome) (w v l k : ℕ) (t : Turn) (m : Machine) → l ≡ k + 1 → ((n : ℕ) → l ≤ n → o n ≡ q n) → Moves P q v (k + 1) t m → m.left ≤ k → Moves P o w l t m
-  unfolding Moves
-  stepped_by o q w v l k On m z e h le = record { turn = λ n b. e n b ∙ h.turn n (omega (arith, z, b)); left = omega (arith, z, le); less = λ b. absurd (omega (arith, z, b, le)) }
-  stepped_by o q w v l k (Stopped x) m z e h le = record { stop = λ n b. e n b ∙ h.stop n (omega (arith, z, b)); left = omega (arith, z, le) }
 
   -- where nothing is left but to go on, and where the run stops
   pub on : (o : ℕ → Outcome) (w l : ℕ) (r : Result Turn AllocError) (m : Machine) → r ≡ Ok On → ((n : ℕ) → l ≤ n → o n ≡ run_from P n m.tasks Next m) → m.left ≤ l → (l ≤ m.left → works m.tasks < w) → IfOk r (λ t. Moves P o w l t m)

@@ -1,5 +1,5 @@
 -- A new array, as what is left of the run.
-use Rattle.std.proofs.Common.{◌≡◌, ℕ, zero, suc, ◌-◌, [], ◌∷◌, ◌++◌, map, length, Option, Some, None, refl, sym, ap, ◌∙◌, arith}
+use Rattle.std.proofs.Common.{◌≡◌, ℕ, zero, suc, ◌-◌, [], ◌∷◌, ◌++◌, map, length, Some, sym, ap, ◌∙◌, arith}
 use Rattle.java_core.specs.declared.Ty.{Ty}
 use Rattle.java_core.specs.declared.TyBase.{TyBase}
 use Rattle.java_core.specs.Trees.{null}
@@ -8,7 +8,7 @@ use Rattle.java_core.specs.Programs.{Plain}
 use Rattle.java_heap.specs.declared.values.Value.TheVariants.{Ref}
 use Rattle.java_heap.specs.Seen.{value_of}
 use Rattle.java_heap.specs.Cells.{Store}
-use Rattle.java_meaning.specs.Moment.{Cell, an_array, Object, State, step}
+use Rattle.java_meaning.specs.Moment.{an_array, Object, step}
 use Rattle.java_meaning.specs.Values.{defaults}
 use Rattle.java_meaning.specs.Meaning.{make_cell}
 use Rattle.java_meaning.specs.Languages.{language_of}

@@ -25,10 +25,8 @@ use Rattle.java_meaning.specs.Values.{number_of, truth_of, same_bool, compared, 
 use Rattle.java_meaning.specs.Meaning.{ToValue, after_left, operate, compute, join_values}
 use Rattle.java_run.specs.declared.machine.Machine.{Machine}
 use Rattle.java_run.specs.declared.machine.Take.TheVariants as take
-use Rattle.java_run.specs.declared.operations.Side.{Side}
 use Rattle.java_run.specs.Parts.{ex}
 use Rattle.java_run.specs.Rest.{takes, state_of, onward, takes_from, evaluates}
-use Rattle.java_run.specs.Finds.{sided}
 
 -- a test whose truth decides, or not
 decides_false : (b : Bool) (s : State) (g h : State → Outcome) → on_bool b s g h ≡ on_bool (same_bool b false) s h g

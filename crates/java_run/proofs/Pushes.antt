@@ -1,29 +1,28 @@
 -- What a task on top of the others does, as what is left of the run.
-use Rattle.std.proofs.Common.{◌≡◌, ℕ, zero, suc, ◌+◌, ◌<◌, ◌≤◌, List, [], ◌∷◌, ◌++◌, map, length, Option, Some, None, refl, sym, ap, ◌∙◌, subst, arith, append_assoc, append-nil, take, drop}
-use Rattle.std.specs.Prelude.{Bool, true, false, reverse}
+use Rattle.std.proofs.Common.{◌≡◌, ℕ, zero, suc, ◌≤◌, List, [], ◌∷◌, ◌++◌, map, length, refl, sym, ap, ◌∙◌, arith, append_assoc, append-nil, take, drop}
+use Rattle.std.specs.Prelude.{reverse}
 use Rattle.std.proofs.lemmas.List.{reverse-reverse, length-reverse, reverse-append, map-append, length-map}
 use denote.Bor.{Bor}
 use Rattle.java_core.specs.declared.RExpr.{RExpr}
 use Rattle.java_core.specs.declared.RStmt.{RStmt}
-use Rattle.java_core.specs.Trees.{Ex, Exs, ex_then, St, Sts, no_st, st_then, exprs, expr_of, stmts, stmt_of, no_place}
+use Rattle.java_core.specs.Trees.{Ex, exprs, expr_of, stmts, no_place}
 use Rattle.java_core.specs.Programs.{Plain}
 use Rattle.java_heap.specs.declared.values.Value.{Value}
 use Rattle.java_heap.specs.Seen.{value_of}
 use Rattle.java_meaning.specs.Moment as moment
 use Rattle.java_meaning.specs.Moment.{State, Frame, Lang, Outcome, stop, Wrong}
-use Rattle.java_meaning.specs.Meaning.{Flow, Next, Broke, Continued, Gave, ToValue, ToFlow, Later, after_one, value, values, run_one, run_all, meaning}
+use Rattle.java_meaning.specs.Meaning.{Next, Broke, Continued, Gave, ToFlow, Later, after_one, values, run_all, meaning}
 use Rattle.java_meaning.specs.Languages.{language_of}
 use Rattle.java_meaning.proofs.Depth.{AlikeF, one_alike, same_depth}
 use Rattle.java_run.specs.declared.machine.Machine.{Machine}
 use Rattle.java_run.specs.declared.machine.Active.{Active}
 use Rattle.java_run.specs.declared.machine.Call.{Call}
 use Rattle.java_run.specs.declared.machine.Take.{Take}
-use Rattle.java_run.specs.declared.machine.Stage.{Stage}
 use Rattle.java_run.specs.declared.machine.Stage.TheVariants as stage
 use Rattle.java_run.specs.declared.machine.Task.{Task}
 use Rattle.java_run.specs.declared.machine.Task.TheVariants as task
 use Rattle.java_run.specs.Parts.{ex, exs, st, sts}
-use Rattle.java_run.specs.Rest.{push_all, above, below, calls, takes, acts, rest, frame_of, state_of, run_from, onward, onward_flow, passes, takes_from, leave_from, leave, evaluates, argued, giving}
+use Rattle.java_run.specs.Rest.{push_all, above, below, calls, acts, rest, frame_of, state_of, run_from, onward, takes_from, leave_from, leave, evaluates, argued, giving}
 
 drop_at : {A : Type 0} (a b : List A) → drop (length a) (a ++ b) ≡ b
 drop_at [] b = refl
@@ -72,10 +71,6 @@ pub map_below : (n : ℕ) (vs : List Value) → below n (map value_of vs) ≡ ma
 map_below n vs = ap (λ l. reverse (take n l)) (map_reverse vs) ∙ ap reverse (map_take value_of n (reverse vs)) ∙ map_reverse (take n (reverse vs))
 
 module _ (P : Plain) (n : ℕ) (m : Machine) where
-  -- the machine with these tasks
-  With : List Task → Machine
-  With ts = record m { tasks = ts }
-
   -- an expression on top
   pub evals : (e : Bor RExpr) (x : Ex) → expr_of no_place e.now ≡ x → run_from P n (task.Eval e ∷ m.tasks) Next m ≡ evaluates P n m x (onward P n m)
   unfolding run_from rest acts onward

@@ -1,17 +1,16 @@
 -- The start of a run, and its end.
-use Rattle.std.proofs.Common.{◌≡◌, ℕ, zero, suc, ◌+◌, ◌-◌, ◌<◌, ◌≤◌, add-zero, zero-add, add-one, append_assoc, get_or, drop, drop-cons, length, List, [], ◌∷◌, ◌++◌, map, Option, Some, None, refl, sym, ap, ◌∙◌, subst, arith}
-use Rattle.std.specs.Prelude.{◌≢◌, slice_get, true, false, string_bytes}
+use Rattle.std.proofs.Common.{◌≡◌, ℕ, zero, suc, ◌+◌, ◌-◌, ◌<◌, ◌≤◌, add-zero, zero-add, add-one, append_assoc, get_or, drop, drop-cons, length, List, [], ◌∷◌, ◌++◌, map, Option, Some, None, refl, sym, ap, ◌∙◌, arith}
+use Rattle.std.specs.Prelude.{◌≢◌, slice_get, string_bytes}
 use Rattle.std.specs.declared.string.String.{String}
 use Rattle.std.specs.declared.alloc.Global.{Global}
 use Rattle.std.specs.Option.{option_map}
 use Rattle.std.proofs.lemmas.Option.{slice_get-map, same_Some}
 use denote.Bor.{Bor}
-use Rattle.java_core.specs.declared.Ty.{Ty}
 use Rattle.java_core.specs.declared.Method.{Method}
 use Rattle.java_core.specs.declared.Program.{Program}
 use Rattle.java_core.specs.declared.RStmt.{RStmt}
 use Rattle.java_core.specs.Trees.{stmts, no_place, body_seen}
-use Rattle.java_core.specs.Programs.{Plain, PlainField, PlainMethod, program_of, field_seen, method_seen, local_seen}
+use Rattle.java_core.specs.Programs.{Plain, PlainField, program_of, field_seen, method_seen, local_seen}
 use Rattle.java_core.specs.Types.{env_of, types_of}
 use Rattle.java_core.specs.Formed.{IsFormed}
 use Rattle.java_core.specs.Typing.{IsTyped}
@@ -23,7 +22,7 @@ use Rattle.java_heap.specs.Seen.{value_of}
 use Rattle.java_meaning.specs.Moment.{Value, Nothing, Text, Object, Ended, Body, Frame, State, Outcome, stop, with_some}
 use Rattle.java_meaning.specs.Values.{default_of, arguments}
 use Rattle.java_meaning.specs.Meaning.{Next, enter, meaning, run_all, words_type, words_cell, texts, start, run_in}
-use Rattle.java_meaning.specs.Languages.{language_of, statics_of, body_of, body_with, run}
+use Rattle.java_meaning.specs.Languages.{language_of, statics_of, body_with, run}
 use Rattle.java_run.specs.declared.machine.Machine.{Machine}
 use Rattle.java_run.specs.declared.machine.Task.TheVariants as task
 use Rattle.java_meaning.proofs.TypedPrograms.{never_wrong}
@@ -66,11 +65,7 @@ words_more f ws i w ss ts u lt e g t k =
     ∙ ap (λ j. ss ++ f (get_or ws i w) ∷ map f (drop j ws)) (add-one i) ∙ ap (λ l. ss ++ map f l) (sym (drop-cons ws i w lt)) ∙ k
 
 module _ (p : Program) (formed : IsFormed (program_of no_place p)) where
-  -- the method that a run begins with is there, and has code
-  pub main_there : None ≡ slice_get p.methods.items p.main.0 → ⊥
-  main_there h =
-      let q = sym (slice_get-map (method_seen no_place) p.methods.items p.main.0 ∙ ap (option_map (method_seen no_place)) (sym h)) ∙ formed.main_stands in cc
-
+  -- the method that a run begins with has code
   pub main_seen : (k : Method) → Some k ≡ slice_get p.methods.items p.main.0 → method_seen no_place k ≡ formed.main
   main_seen k h = same_Some _ _ (sym (slice_get-map (method_seen no_place) p.methods.items p.main.0 ∙ ap (option_map (method_seen no_place)) (sym h)) ∙ formed.main_stands)
 

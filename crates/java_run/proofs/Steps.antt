@@ -1,6 +1,6 @@
 -- What statements and tests do, as what is left of the run.
-use Rattle.std.proofs.Common.{◌≡◌, ℕ, zero, suc, ◌+◌, ◌<◌, ◌≤◌, List, [], ◌∷◌, ◌++◌, map, length, Option, Some, None, refl, sym, ap, ◌∙◌, subst, arith, add-one}
-use Rattle.std.specs.Prelude.{Bool, true, false, slice_get, slice_set}
+use Rattle.std.proofs.Common.{◌≡◌, ℕ, zero, suc, ◌≤◌, List, [], ◌∷◌, ◌++◌, map, length, Option, Some, None, refl, sym, ap, ◌∙◌, subst, arith}
+use Rattle.std.specs.Prelude.{Bool, slice_get}
 use Rattle.std.specs.Option.{option_map}
 use denote.Bor.{Bor}
 use Rattle.std.specs.declared.vec.Vec.{Vec}
@@ -10,15 +10,14 @@ use Rattle.java_core.specs.declared.Ty.{Ty}
 use Rattle.java_core.specs.declared.RExpr.{RExpr}
 use Rattle.java_core.specs.declared.RArm.{RArm}
 use Rattle.java_core.specs.declared.RStmt.{RStmt, If, While, For}
-use Rattle.java_core.specs.Trees.{Ex, St, Sts, Arms, no_st, st_then, otherwise, arm, choose, loop, expr_of, exprs, stmts, stmt_of, arms_seen, else_seen, value_of as initial_of, no_place}
+use Rattle.java_core.specs.Trees.{Ex, Sts, Arms, no_st, st_then, otherwise, arm, expr_of, stmts, stmt_of, arms_seen, else_seen, no_place}
 use Rattle.java_core.proofs.Rows.{stmts_vec, if_as, for_as}
 use Rattle.java_core.specs.Programs.{Plain}
-use Rattle.java_heap.specs.declared.values.Value.{Value}
 use Rattle.java_heap.specs.Seen.{value_of}
 use Rattle.java_meaning.specs.Moment as moment
 use Rattle.java_meaning.specs.Moment.{Truth, Number, CodeUnit, Nothing, Text, Object, State, Frame, Lang, Outcome, Wrong, stop, with_some, on_bool}
 use Rattle.java_meaning.specs.Values.{truth_of, bytes_of, line_end, convert}
-use Rattle.java_meaning.specs.Meaning.{Flow, Next, Broke, Continued, Gave, ToFlow, Later, on_test, after_one, run_one, run_all, run_arms, meaning, print_units, run_test}
+use Rattle.java_meaning.specs.Meaning.{Next, Broke, Continued, Gave, ToFlow, Later, on_test, after_one, run_one, run_all, run_arms, meaning, print_units, run_test}
 use Rattle.java_meaning.specs.Languages.{language_of}
 use Rattle.java_meaning.proofs.Depth.{AlikeF, one_alike, same_depth}
 use Rattle.java_run.specs.declared.machine.Machine.{Machine}
@@ -28,8 +27,8 @@ use Rattle.java_run.specs.declared.machine.Test.TheVariants as test
 use Rattle.java_run.specs.declared.machine.Task.{Task}
 use Rattle.java_run.specs.declared.machine.Task.TheVariants as task
 use Rattle.java_run.specs.declared.machine.Take.TheVariants as take
-use Rattle.java_run.specs.Parts.{bare, ex, exs, st, sts, test_in, last_in, body_in, again_of, arms_in, drop_arms, last_arm, IsArm}
-use Rattle.java_run.specs.Rest.{acts, rest, takes, frame_of, state_of, run_from, onward, onward_flow, passes, takes_from, turned, turning, after_test, evaluates}
+use Rattle.java_run.specs.Parts.{ex, st, sts, test_in, last_in, body_in, again_of, arms_in, drop_arms, last_arm, IsArm}
+use Rattle.java_run.specs.Rest.{acts, rest, takes, frame_of, state_of, run_from, onward_flow, passes, takes_from, turning, after_test, evaluates}
 
 pub nil_of : {A : Type 0} (xs : List A) → length xs ≡ 0 → xs ≡ []
 nil_of [] h = refl

@@ -1,7 +1,6 @@
 -- New strings and cells, as what is left of the run.
-use Rattle.std.proofs.Common.{◌≡◌, ℕ, List, [], ◌∷◌, ◌++◌, map, length, Option, Some, None, refl, sym, ap, ◌∙◌}
+use Rattle.std.proofs.Common.{◌≡◌, ℕ, List, [], ◌∷◌, ◌++◌, map, length, sym, ap, ◌∙◌}
 use Rattle.java_core.specs.Programs.{Plain}
-use Rattle.java_heap.specs.declared.values.Value.{Value}
 use Rattle.java_heap.specs.declared.values.Value.TheVariants.{Str}
 use Rattle.java_heap.specs.Seen.{value_of}
 use Rattle.java_heap.specs.Cells.{Store}

@@ -1,9 +1,9 @@
 -- Each task is some work.
-use Rattle.std.proofs.Common.{◌≡◌, ℕ, suc, zero, ◌+◌, ◌<◌, ◌≤◌, List, [], ◌∷◌, Option, Some, None, ap, arith}
+use Rattle.std.proofs.Common.{◌≡◌, ℕ, ◌+◌, ◌<◌, ◌≤◌, List, ◌∷◌, Option, Some, ap, arith}
 use denote.Bor.{Bor}
 use Rattle.java_core.specs.declared.RExpr.{RExpr}
 use Rattle.java_core.specs.declared.RStmt.{RStmt}
-use Rattle.java_core.specs.Trees.{Ex, Exs, no_ex, ex_then, number, character, text, truth, null, this, local, static_field, own_field, field, index, call, static_call, super_call, create, create_array, cast, instance_of, unary, binary, St, Sts, Arms, declare, block, assign, act, print, choose, loop, return, break, continue, no_st, st_then, otherwise, arm, expr_of, exprs, stmts, no_place}
+use Rattle.java_core.specs.Trees.{Ex, Exs, no_ex, ex_then, field, index, call, static_call, super_call, create, create_array, cast, instance_of, unary, binary, St, Sts, Arms, declare, block, assign, act, print, choose, loop, return, break, continue, no_st, st_then, otherwise, arm, expr_of, exprs, stmts, no_place}
 use Rattle.java_run.specs.declared.machine.Task.{Task}
 use Rattle.java_run.specs.declared.machine.Task.TheVariants as task
 use Rattle.java_run.specs.declared.machine.Take.{Take}
@@ -13,8 +13,7 @@ use Rattle.java_run.specs.declared.machine.Test.TheVariants as test
 use Rattle.java_run.specs.declared.machine.Stage.TheVariants as stage
 use Rattle.java_run.specs.declared.machine.Call.{Call}
 use Rattle.java_run.specs.Parts.{ex, exs, st, sts, test_in, last_in, arms_in, drop_arms}
-use Rattle.java_run.specs.Landings.{landed}
-use Rattle.java_run.specs.Work.{size_ex, size_exs, size_some, size_st, size_sts, size_arms, size_tested, size_again, work_take, work, works}
+use Rattle.java_run.specs.Work.{size_ex, size_exs, size_some, size_st, size_sts, size_arms, size_tested, work_take, work, works}
 
 pub ex_some : (x : Ex) → 0 < size_ex x
 ex_some (field t e x) = omega arith

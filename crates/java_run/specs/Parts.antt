@@ -1,13 +1,12 @@
 -- The trees that tasks hold, as the meaning has them, and the parts of a statement that goes on.
-use Rattle.std.specs.Prelude.{◌≡◌, ℕ, zero, suc, List, [], ◌∷◌, Option, Some, None}
+use Rattle.std.specs.Prelude.{◌≡◌, ℕ, zero, suc, List, Option, Some, None}
 use denote.Bor.{Bor}
 use Rattle.java_core.specs.declared.RExpr.{RExpr}
 use Rattle.std.specs.declared.boxed.Box.{Box}
 use Rattle.std.specs.declared.alloc.Global.{Global}
-use Rattle.kaba_base.specs.declared.Place.{Place}
 use Rattle.java_core.specs.declared.RStmt.{RStmt}
 use Rattle.java_core.specs.declared.RArm.{RArm}
-use Rattle.java_core.specs.Trees.{Tag, Ex, Exs, this, St, Sts, Arms, declare, block, assign, act, print, choose, loop, return, break, continue, no_st, st_then, otherwise, arm, no_place, expr_of, exprs, stmt_of, stmts}
+use Rattle.java_core.specs.Trees.{Tag, Ex, Exs, this, St, Sts, Arms, choose, loop, no_st, st_then, otherwise, arm, no_place, expr_of, exprs, stmt_of, stmts}
 
 -- the tag of a form without a place
 abbrev pub bare : Tag
@@ -71,9 +70,6 @@ last_arm (arm e xs more) = last_arm more
 abbrev pub IsArm : Arms → ℕ → Option (Bor RArm) → Type 0
 IsArm all n None = drop_arms n all ≡ otherwise (last_arm all)
 IsArm all n (Some a) = drop_arms n all ≡ arm (expr_of no_place a.now.test) (stmts no_place a.now.body.items) (drop_arms (suc n) all)
-
-abbrev pub no_at : Place
-no_at = record { at = 0; line = 0 }
 
 -- the receiver of a call, in a box
 abbrev pub base_in : Option (Box RExpr Global) → Ex

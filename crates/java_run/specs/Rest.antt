@@ -1,12 +1,10 @@
 -- What is left of a run at a state of the machine.
-use Rattle.std.specs.Prelude.{◌≡◌, ℕ, Bool, true, false, List, [], ◌∷◌, map, reverse, take, drop, Option, Some, None}
-use Rattle.java_core.specs.declared.Program.{Program}
+use Rattle.std.specs.Prelude.{ℕ, List, [], ◌∷◌, map, reverse, take, drop, Some}
 use denote.Bor.{Bor}
 use Rattle.java_core.specs.declared.RStmt.{RStmt}
-use Rattle.java_core.specs.Trees.{Ex, Exs, null, this, call, St, Sts, Arms, st_then, no_st, otherwise, arm, no_place}
+use Rattle.java_core.specs.Trees.{Ex, Exs, null, this, call, St, Arms, st_then, no_st, otherwise, arm, no_place}
 use Rattle.java_core.specs.Programs.{Plain, method_seen}
 use Rattle.java_core.specs.Types.{env_of}
-use Rattle.java_heap.specs.declared.values.Value.{Value}
 use Rattle.java_heap.specs.Seen.{value_of}
 use Rattle.java_meaning.specs.Moment as moment
 use Rattle.java_meaning.specs.Moment.{State, Frame, End, Ended, Faulted, Going, Wrong, Outcome, stop, step, Lang, with_some}

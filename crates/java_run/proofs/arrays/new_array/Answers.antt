@@ -1,6 +1,6 @@
-use Rattle.std.proofs.Common.{arith, sym, ap, ◌∙◌}
+use Rattle.std.proofs.Common.{arith, sym, ◌∙◌}
 use Rattle.java_meaning.specs.Values.{natural_of}
-use Rattle.java_run.specs.Rest.{state_of, onward, takes_from, takes}
+use Rattle.java_run.specs.Rest.{onward, takes_from, takes}
 use Rattle.java_run.proofs.Moved.{moved, stopped}
 use Rattle.java_run.proofs.Finds.{mapped_some, mapped_none, some_is, none_is, some_or, none_or}
 use Rattle.java_run.proofs.arrays.new_array.Goals as goal

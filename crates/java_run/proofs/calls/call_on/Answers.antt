@@ -8,7 +8,7 @@ use Rattle.java_meaning.specs.Moment.{with_some}
 use Rattle.java_meaning.specs.Meaning.{string_call}
 use Rattle.java_run.specs.Parts.{receiver}
 use Rattle.java_run.specs.Rest.{state_of, onward}
-use Rattle.java_run.proofs.Moved.{moved, moved_from, stopped}
+use Rattle.java_run.proofs.Moved.{moved_from, stopped}
 use Rattle.java_run.proofs.Called.{on_value, object_gone}
 use Rattle.java_run.proofs.calls.call_on.Goals as goal
 

@@ -1,5 +1,4 @@
-use Rattle.std.proofs.Common.{refl, arith, ap, ◌∙◌, sym, ◌-◌}
-use Rattle.std.specs.Option.{option_map}
+use Rattle.std.proofs.Common.{refl, arith, sym, ◌-◌}
 use Rattle.java_run.proofs.Moved.{stepped, stopped}
 use Rattle.java_run.proofs.Called.{super_still, super_gone, super_enters}
 use Rattle.java_core.specs.Trees.{no_place}

@@ -1,5 +1,5 @@
 use Rattle.std.proofs.Common.{◌≡◌, length}
-use Rattle.std.proofs.Common.{refl, arith, ap, ◌∙◌, sym, map, ◌++◌}
+use Rattle.std.proofs.Common.{arith, ap, ◌∙◌, sym, map, ◌++◌}
 use Rattle.java_run.proofs.Moved.{moved_from, stopped}
 use Rattle.java_run.proofs.Bodies.{body_gone, body_found, enter_gone, enter_unlike, entered_in, lengths_apart, same_arguments}
 use Rattle.std.specs.Option.{option_map}

@@ -1,4 +1,4 @@
-use Rattle.std.proofs.Common.{refl, arith}
+use Rattle.std.proofs.Common.{arith}
 use Rattle.java_run.proofs.Moved.{moved, stopped}
 use Rattle.java_run.proofs.Pushes.{leave_none, leave_some}
 use Rattle.java_heap.specs.Seen.{value_of}

@@ -1,4 +1,4 @@
-use Rattle.std.proofs.Common.{refl, arith, ap, ◌∙◌, sym, ◌-◌}
+use Rattle.std.proofs.Common.{refl, arith, ◌-◌}
 use Rattle.java_core.specs.Trees.{no_place}
 use Rattle.java_core.specs.Programs.{program_of}
 use Rattle.java_run.proofs.Moved.{stopped}

@@ -1,11 +1,10 @@
-use Rattle.std.proofs.Common.{refl, arith, ap, ◌∙◌, sym, ◌∷◌}
+use Rattle.std.proofs.Common.{arith, ap, ◌∙◌, sym}
 use Rattle.java_run.proofs.Moved.{moved}
 use Rattle.java_run.proofs.Forms.{form_call_this}
 use Rattle.java_core.specs.Trees.{call, expr_of, no_place}
-use Rattle.java_run.specs.Parts.{bare, ex, exs, base_in, receiver}
+use Rattle.java_run.specs.Parts.{bare, exs, base_in}
 use Rattle.java_run.specs.Rest.{evaluates, onward}
 use Rattle.java_run.specs.Work.{size_ex}
-use Rattle.std.specs.Prelude.{None}
 use Rattle.java_run.proofs.evaluate.call.Goals as goal
 
 pub returns-in-Some : goal.returns-in-Some

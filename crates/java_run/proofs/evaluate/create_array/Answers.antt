@@ -1,4 +1,4 @@
-use Rattle.std.proofs.Common.{refl, arith, ap, ◌∙◌, sym, ◌∷◌}
+use Rattle.std.proofs.Common.{arith}
 use Rattle.java_run.proofs.Moved.{moved}
 use Rattle.java_run.proofs.Forms.{form_create_array}
 use Rattle.java_run.specs.Work.{work_take}

@@ -7,7 +7,7 @@ use Rattle.java_run.proofs.Evals.{evaled, call_seen}
 use Rattle.java_core.specs.Programs.{program_of}
 use Rattle.java_core.specs.Trees.{expr_of, exprs, no_place, number, character, text, truth, null, this, local, static_field, own_field, field, index, call, static_call, super_call, create, create_array, cast, instance_of, unary, binary}
 use Rattle.java_core.proofs.Rows.{exprs_vec}
-use Rattle.java_run.specs.Parts.{bare, ex, exs, base_in}
+use Rattle.java_run.specs.Parts.{bare, ex, base_in}
 use Rattle.java_run.proofs.evaluate.eval.Goals as goal
 
 pub returns-in-Int : goal.returns-in-Int

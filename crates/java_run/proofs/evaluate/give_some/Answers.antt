@@ -3,7 +3,7 @@ use Rattle.java_heap.specs.Seen.{value_of}
 use Rattle.java_meaning.specs.Moment.{with_some}
 use Rattle.java_run.specs.Rest.{state_of, onward}
 use Rattle.std.proofs.Common.{ap}
-use Rattle.std.proofs.Common.{refl, arith}
+use Rattle.std.proofs.Common.{arith}
 use Rattle.java_run.proofs.Moved.{moved, stopped}
 use Rattle.java_run.proofs.evaluate.give_some.Goals as goal
 

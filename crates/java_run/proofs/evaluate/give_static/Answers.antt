@@ -1,4 +1,4 @@
-use Rattle.std.proofs.Common.{refl, arith, ap, ◌∙◌, sym, ◌∷◌}
+use Rattle.std.proofs.Common.{arith, ap, sym}
 use Rattle.java_run.proofs.Moved.{moved}
 use Rattle.java_meaning.specs.Moment.{with_some}
 use Rattle.java_run.specs.Rest.{state_of, onward}

@@ -1,4 +1,4 @@
-use Rattle.std.proofs.Common.{refl, arith, ap, ◌∙◌, sym}
+use Rattle.std.proofs.Common.{arith}
 use Rattle.java_run.proofs.Moved.{moved}
 use Rattle.java_run.proofs.Strings.{new_string}
 use Rattle.java_run.proofs.evaluate.give_string.Goals as goal

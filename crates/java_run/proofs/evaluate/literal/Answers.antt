@@ -1,8 +1,5 @@
-use Rattle.std.proofs.Common.{refl, arith, ap, ◌∙◌, sym}
+use Rattle.std.proofs.Common.{arith, ap, ◌∙◌, sym}
 use Rattle.java_run.proofs.Moved.{moved}
-use Rattle.std.specs.Option.{option_map}
-use Rattle.java_heap.specs.Seen.{value_of}
-use Rattle.java_meaning.specs.Moment.{with_some}
 use Rattle.java_run.specs.Rest.{state_of, onward}
 use Rattle.java_meaning.specs.Meaning.{give_string}
 use Rattle.java_run.proofs.evaluate.literal.Goals as goal

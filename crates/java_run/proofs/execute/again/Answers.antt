@@ -1,4 +1,4 @@
-use Rattle.std.proofs.Common.{refl, arith, ap, ◌∙◌, sym, ◌∷◌}
+use Rattle.std.proofs.Common.{arith, ap, ◌∙◌, sym}
 use Rattle.java_run.proofs.Moved.{moved}
 use Rattle.java_run.proofs.Steps.{again_none, again_some}
 use Rattle.java_run.proofs.Works.{again_work}

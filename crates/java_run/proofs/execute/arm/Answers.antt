@@ -1,4 +1,4 @@
-use Rattle.std.proofs.Common.{refl, arith, ap, ◌∙◌, sym, ◌∷◌}
+use Rattle.std.proofs.Common.{ap, ◌∙◌, sym}
 use Rattle.java_run.proofs.Moved.{moved}
 use Rattle.java_run.proofs.Steps.{arm_none, arm_some}
 use Rattle.java_run.proofs.Works.{arm_none_work, arm_some_work}

@@ -1,5 +1,5 @@
 use Rattle.std.proofs.Common.{refl, arith, ap, sym, ◌∙◌}
-use Rattle.java_core.specs.Trees.{Target, no_place, no_target, to_field, to_element, target_of, expr_of}
+use Rattle.java_core.specs.Trees.{no_place, to_field, to_element, target_of, expr_of}
 use Rattle.java_run.specs.Parts.{bare, ex}
 use Rattle.java_run.specs.Rest.{takes_from, takes, onward_flow, passes}
 use Rattle.java_run.specs.Work.{work_take}

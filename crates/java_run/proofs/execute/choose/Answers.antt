@@ -1,4 +1,4 @@
-use Rattle.std.proofs.Common.{refl, arith, ap, ◌∙◌, sym, add-one}
+use Rattle.std.proofs.Common.{arith, ap, ◌∙◌, sym, add-one}
 use Rattle.java_run.proofs.Moved.{moved, stopped}
 use Rattle.java_run.proofs.Steps.{chosen_none, chosen, arm_is}
 use Rattle.java_run.proofs.Works.{chosen_then, chosen_else}

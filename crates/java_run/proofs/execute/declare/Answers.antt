@@ -1,8 +1,7 @@
-use Rattle.std.proofs.Common.{refl, arith, ap, ◌∙◌, sym, ◌∷◌}
+use Rattle.std.proofs.Common.{arith, ◌∙◌, sym}
 use Rattle.std.proofs.Common.{◌<◌, ◌≤◌, length}
 use Rattle.java_run.proofs.Moved.{moved_from, stopped}
 use Rattle.java_run.proofs.Locals.{there_in, past_in, set_in, declare_gone, declare_past, declared}
-use Rattle.java_heap.specs.Seen.{value_of}
 use Rattle.std.specs.Vec.{with_item}
 use Rattle.java_core.specs.Trees.{no_place, value_of as initial_of}
 use Rattle.java_run.proofs.execute.declare.Goals as goal

@@ -1,10 +1,10 @@
-use Rattle.std.proofs.Common.{refl, arith, ap, ◌∙◌, sym, ◌∷◌}
+use Rattle.std.proofs.Common.{arith, ap, ◌∙◌, sym}
 use Rattle.java_run.proofs.Moved.{moved, moved_from}
 use Rattle.java_run.proofs.Jumps.{one_is, one_work, one_choose, choose_work}
 use Rattle.java_run.proofs.Steps.{breaks, continues}
 use Rattle.java_core.specs.Trees.{block, break, continue, stmts, stmt_of, no_place}
 use Rattle.java_run.specs.Rest.{takes_from, takes, onward_flow, passes}
-use Rattle.java_run.specs.Work.{work_take, work, works}
+use Rattle.java_run.specs.Work.{work_take}
 use Rattle.java_run.specs.Parts.{bare}
 use Rattle.java_core.proofs.Rows.{stmts_vec, if_as, for_as}
 use Rattle.java_run.proofs.Begins.{begins_turns, begins_first, turns_work, first_work}

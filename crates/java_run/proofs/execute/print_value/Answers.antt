@@ -1,12 +1,12 @@
-use Rattle.std.proofs.Common.{refl, arith, ap, ◌∙◌, sym, ◌∷◌}
+use Rattle.std.proofs.Common.{refl, arith, ap, ◌∙◌}
 use Rattle.java_run.proofs.Moved.{moved, on}
 use Rattle.java_run.proofs.Steps.{shown}
 use Rattle.java_run.proofs.Works.{some_work}
 use Rattle.java_core.specs.Trees.{no_place, value_of as initial_of}
-use Rattle.java_meaning.specs.Meaning.{meaning, run_initial, run_print, run_return}
+use Rattle.java_meaning.specs.Meaning.{meaning, run_print}
 use Rattle.java_meaning.specs.Languages.{language_of}
-use Rattle.java_run.specs.Rest.{frame_of, state_of, onward_flow, passes, takes_from, takes}
-use Rattle.java_run.specs.Work.{size_some, work_take}
+use Rattle.java_run.specs.Rest.{frame_of, state_of, passes, takes_from, takes}
+use Rattle.java_run.specs.Work.{work_take}
 use Rattle.std.specs.Prelude.{Some, []}
 use Rattle.java_run.proofs.execute.print_value.Goals as goal
 

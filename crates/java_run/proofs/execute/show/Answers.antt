@@ -1,7 +1,7 @@
 use Rattle.java_meaning.specs.Moment.{with_some}
 use Rattle.java_meaning.specs.Meaning.{print_units}
 use Rattle.java_run.specs.Rest.{state_of, passes}
-use Rattle.std.proofs.Common.{refl, arith, ap, ◌∙◌, sym, ◌∷◌}
+use Rattle.std.proofs.Common.{refl, arith, ap, ◌∙◌, sym}
 use Rattle.java_run.proofs.Moved.{on, stopped}
 use Rattle.java_run.proofs.Steps.{shown}
 use Rattle.std.specs.Option.{option_map}

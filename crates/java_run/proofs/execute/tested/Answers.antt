@@ -1,11 +1,10 @@
 use Rattle.java_run.proofs.Works.{take_one}
 use Rattle.java_run.specs.declared.machine.Take.TheVariants.{Tested}
-use Rattle.std.proofs.Common.{refl, arith, ap, ◌∙◌, sym}
+use Rattle.std.proofs.Common.{arith, ◌∙◌, sym}
 use Rattle.java_run.proofs.Moved.{moved, stopped}
 use Rattle.java_run.proofs.Steps.{tested_none, tested_arm, tested_loop}
 use Rattle.java_run.proofs.Works.{tested_work}
 use Rattle.java_heap.specs.Seen.{value_of}
-use Rattle.java_run.specs.Work.{work_take}
 use Rattle.java_run.proofs.execute.tested.Goals as goal
 
 pub returns-in-None : goal.returns-in-None

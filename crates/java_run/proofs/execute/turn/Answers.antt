@@ -1,10 +1,7 @@
 use Rattle.std.proofs.Common.{refl, arith, ap}
 use Rattle.java_run.proofs.Moved.{moved, on}
 use Rattle.java_run.proofs.Steps.{passed_on}
-use Rattle.std.specs.Option.{option_map}
-use Rattle.java_heap.specs.Seen.{value_of}
-use Rattle.java_meaning.specs.Moment.{with_some}
-use Rattle.java_run.specs.Rest.{state_of, onward}
+use Rattle.java_run.specs.Rest.{state_of}
 use Rattle.java_meaning.specs.Moment.{on_bool}
 use Rattle.java_meaning.specs.Meaning.{meaning}
 use Rattle.java_meaning.specs.Languages.{language_of}

@@ -1,4 +1,4 @@
-use Rattle.std.proofs.Common.{refl, arith, ap, ◌∙◌, sym, ◌∷◌, ◌-◌}
+use Rattle.std.proofs.Common.{refl, arith, ap, ◌∙◌, ◌∷◌, ◌-◌}
 use Rattle.java_run.proofs.Moved.{on, stopped}
 use Rattle.java_run.proofs.Loops.{no_turn, turn_begins}
 use Rattle.java_run.specs.Parts.{st}

@@ -1,7 +1,6 @@
-use Rattle.std.proofs.Common.{◌≡◌, ◌<◌, length, ap, sym, ◌∙◌, arith, rules}
+use Rattle.std.proofs.Common.{ap, sym, ◌∙◌, rules}
 use mir.Syntax.{w32}
 use mir.Val.{SFits}
-use Rattle.std.proofs.lemmas.Option.{slice_get_within}
 use Rattle.java_meaning.specs.Moment.{Number}
 use Rattle.java_meaning.specs.Values.{int_of}
 use Rattle.java_run.proofs.Finds.{bool_is}

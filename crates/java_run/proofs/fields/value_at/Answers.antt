@@ -1,4 +1,3 @@
-use Rattle.std.proofs.Common.{ap, sym, ◌∙◌}
 use Rattle.java_run.proofs.Values.{value_at}
 use Rattle.java_run.proofs.Finds.{some_is, none_is}
 use Rattle.java_run.proofs.fields.value_at.Goals as goal

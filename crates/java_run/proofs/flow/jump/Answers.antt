@@ -1,7 +1,6 @@
 use Rattle.std.proofs.Common.{refl, arith, sym}
 use Rattle.java_run.proofs.Moved.{moved, on, stopped}
 use Rattle.java_run.proofs.Jumps.{behind_loop, end_of_turn, end_of_body, at_nowhere, landed_next, turn_next, body_next}
-use Rattle.java_run.specs.Landings.{landing, landed}
 use Rattle.java_run.proofs.flow.jump.Goals as goal
 
 pub returns-in-BehindLoop : goal.returns-in-BehindLoop

@@ -1,5 +1,5 @@
 use Rattle.std.proofs.Common.{refl, arith, sym}
-use Rattle.java_run.proofs.Moved.{moved, on, stopped}
+use Rattle.java_run.proofs.Moved.{moved, stopped}
 use Rattle.java_run.proofs.Jumps.{returns_nowhere_else, return_body, return_nowhere, body_next}
 use Rattle.java_heap.specs.Seen.{value_of}
 use Rattle.java_run.specs.declared.flow.Exit.TheVariants.{Return}

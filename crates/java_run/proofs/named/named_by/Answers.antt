@@ -1,4 +1,3 @@
-use Rattle.std.proofs.Common.{ap, sym}
 use Rattle.java_run.proofs.Finds.{names_object, names_array, names_gone, names_null, names_other}
 use Rattle.java_run.proofs.named.named_by.Goals as goal
 

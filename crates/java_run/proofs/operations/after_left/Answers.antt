@@ -1,4 +1,4 @@
-use Rattle.std.proofs.Common.{refl, arith}
+use Rattle.std.proofs.Common.{arith}
 use Rattle.java_run.proofs.Moved.{moved, stopped}
 use Rattle.java_run.proofs.Operators.{right_next, left_decides, no_side}
 use Rattle.java_run.specs.Work.{work_take}

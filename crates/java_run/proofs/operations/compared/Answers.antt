@@ -1,4 +1,4 @@
-use Rattle.std.proofs.Common.{◌≡◌, sym, ap, ◌∙◌, rules}
+use Rattle.std.proofs.Common.{sym, ap, ◌∙◌, rules}
 use mir.Syntax.{w32}
 use mir.Val.{SFits}
 use Rattle.java_meaning.specs.Moment.{Truth, with_some}

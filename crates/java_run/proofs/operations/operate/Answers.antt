@@ -1,4 +1,4 @@
-use Rattle.std.proofs.Common.{refl, arith, ap}
+use Rattle.std.proofs.Common.{arith, ap}
 use Rattle.java_heap.specs.Seen.{value_of}
 use Rattle.java_meaning.specs.Meaning.{operate}
 use Rattle.java_run.specs.Rest.{state_of, onward}

@@ -1,4 +1,4 @@
-use Rattle.std.proofs.Common.{ap, sym, ◌∙◌}
+use Rattle.std.proofs.Common.{ap}
 use Rattle.java_meaning.specs.Moment.{Truth, with_some, on_bool}
 use Rattle.java_meaning.specs.Values.{same_bool}
 use Rattle.java_run.proofs.operations.side_unless.Goals as goal

@@ -1,4 +1,4 @@
-use Rattle.std.proofs.Common.{refl, arith}
+use Rattle.std.proofs.Common.{arith}
 use Rattle.java_run.proofs.Moved.{moved}
 use Rattle.java_run.proofs.Values.{prefixed}
 use Rattle.java_run.proofs.operations.unary.Goals as goal

@@ -1,9 +1,7 @@
-use Rattle.std.proofs.Common.{◌≡◌, ap, sym, refl, map, string_bytes}
+use Rattle.std.proofs.Common.{ap, sym, refl, map, string_bytes}
 use Rattle.java_core.specs.Trees.{no_place}
-use Rattle.java_core.specs.Programs.{Plain, program_of}
-use Rattle.java_meaning.specs.Moment.{stop}
-use Rattle.java_run.specs.Rest.{state_of, end_of}
-use Rattle.java_run.specs.Outcomes.{units_of, meant}
+use Rattle.java_core.specs.Programs.{program_of}
+use Rattle.java_run.specs.Outcomes.{units_of}
 use Rattle.java_run.proofs.Starts.{main_coded, run_begins, meant_so, never_stuck, outcome_so}
 use Rattle.java_run.proofs.runs.run_program.Goals as goal
 

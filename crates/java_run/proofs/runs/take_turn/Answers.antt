@@ -1,7 +1,6 @@
-use Rattle.std.proofs.Common.{arith, ap, sym, ◌∙◌, ◌∷◌}
+use Rattle.std.proofs.Common.{arith}
 use Rattle.java_core.specs.Trees.{no_place}
 use Rattle.java_core.specs.Programs.{program_of}
-use Rattle.java_heap.specs.Seen.{value_of}
 use Rattle.java_run.proofs.Moved.{moved_from, stopped}
 use Rattle.java_run.proofs.Turns.{take_there, take_none, call_there, leave_there, take_works}
 use Rattle.java_run.proofs.Works.{done_one}

@@ -1,4 +1,4 @@
-use Rattle.std.proofs.Common.{refl, arith, ap}
+use Rattle.std.proofs.Common.{refl, arith}
 use Rattle.java_core.specs.Trees.{no_place}
 use Rattle.java_core.specs.Programs.{program_of}
 use Rattle.java_run.proofs.Follows.{turn_on, turn_stopped, step_taken, stops_so, none_left}

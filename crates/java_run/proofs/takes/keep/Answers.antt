@@ -1,4 +1,4 @@
-use Rattle.std.proofs.Common.{refl, arith, ap, ◌∙◌, sym, ◌∷◌}
+use Rattle.std.proofs.Common.{refl, arith, ◌∙◌, sym}
 use Rattle.std.proofs.Common.{◌<◌, ◌≤◌, length}
 use Rattle.java_run.proofs.Moved.{on, stopped}
 use Rattle.java_run.proofs.Locals.{there_in, past_in, set_in, keep_gone, keep_past, kept}
