@@ -3,3 +3,4 @@ pub mod Statuses
 pub mod Formed
 pub mod Texts
 pub mod Runs
+pub mod Analysing

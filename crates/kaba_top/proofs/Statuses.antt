@@ -1,15 +1,17 @@
 -- The statuses of want of memory and of a failed write are no reply's.
-use Rattle.std.proofs.Common.{◌≡◌, inl, inr, ℕ, List, Option, arith}
+use Rattle.std.proofs.Common.{◌≡◌, inl, inr, ℕ, Bool, List, Option, arith}
 use Rattle.kaba_base.specs.Outside.{Files}
 use Rattle.java_core.specs.declared.Program.{Program}
 use Rattle.java_core.specs.Trees.{no_place}
 use Rattle.java_core.specs.Programs.{program_of}
 use Rattle.java_meaning.specs.Moment as meaning
+use Rattle.fact_model.specs.declared.facts.Facts.{Facts}
 use Rattle.java_run.specs.Outcomes.{meant}
-use Rattle.kaba_words.specs.Commands.{Cmd, run}
+use Rattle.kaba_words.specs.Commands.{Cmd, run, table, lattice}
 use Rattle.kaba_top.specs.Lines.{Says, Gives}
 use Rattle.kaba_top.specs.Reading.{IsRefusedText, TextAnswers}
 use Rattle.kaba_top.specs.RunAnswers.{EndGives, RunAnswers}
+use Rattle.kaba_top.specs.FactsAnswers.{AnalysisAnswers, TableOf, LatticeOf}
 use Rattle.kaba_top.specs.Answers.{FileAnswers, CommandAnswers, Answers, Replies}
 
 abbrev pub IsOther : ℕ → Type 0
@@ -47,6 +49,20 @@ end_other meaning.Escaped bytes status out err h = absurd h
 run_other : (steps : ℕ) (words : List (List ℕ)) (p : Program) → AreOther (RunAnswers steps words p)
 run_other steps words p = end_other (meant (program_of no_place p) words steps).end (meant (program_of no_place p) words steps).out
 
+analysis_other : (J : Facts → ℕ → List ℕ → List ℕ → Type 0) → ((f : Facts) → AreOther (J f)) → (p : Program) → AreOther (AnalysisAnswers J p)
+analysis_other J o p status out err (inl (inl a)) = said 75 (omega arith, omega arith) _ status out err a.says
+analysis_other J o p status out err (inl (inr a)) = said 67 (omega arith, omega arith) _ status out err a.says
+analysis_other J o p status out err (inr a) = o a.facts status out err a.answers
+
+table_other : (f : Facts) → AreOther (TableOf f)
+table_other f status out err a = gave 0 (omega arith, omega arith) _ _ status out err a.gives
+
+lattice_other : (json : Bool) (bound : ℕ) (f : Facts) → AreOther (LatticeOf json bound f)
+lattice_other json bound f status out err a = elim a.answers as (λ _. IsOther status) [
+  | inl many ↦ said 68 (omega arith, omega arith) _ status out err many.says
+  | inr shown ↦ gave 0 (omega arith, omega arith) _ _ status out err shown.gives
+]
+
 file_other : (K : List ℕ → ℕ → List ℕ → List ℕ → Type 0) → ((bytes : List ℕ) → AreOther (K bytes)) → (files : Files) (name : List ℕ) → AreOther (FileAnswers K files name)
 file_other K o files name status out err (inl a) = said 66 (omega arith, omega arith) _ status out err a.says
 file_other K o files name status out err (inr (inl a)) = said 67 (omega arith, omega arith) _ status out err a.says
@@ -54,6 +70,10 @@ file_other K o files name status out err (inr (inr a)) = o a.bytes status out er
 
 command_other : (command : Cmd) (first second : Files) → AreOther (CommandAnswers command first second)
 command_other (run file steps words) first second = file_other (TextAnswers (RunAnswers steps words)) (text_other (RunAnswers steps words) (run_other steps words)) first file
+command_other (table file) first second =
+    file_other (TextAnswers (AnalysisAnswers TableOf)) (text_other (AnalysisAnswers TableOf) (analysis_other TableOf table_other)) first file
+command_other (lattice json bound file) first second =
+    file_other (TextAnswers (AnalysisAnswers (LatticeOf json bound))) (text_other (AnalysisAnswers (LatticeOf json bound)) (analysis_other (LatticeOf json bound) (lattice_other json bound))) first file
 
 answer_other : (words : List (List ℕ)) (first second : Files) → AreOther (Answers words first second)
 answer_other words first second status out err (inl a) = said 64 (omega arith, omega arith) _ status out err a.says

@@ -2,10 +2,11 @@
 use Rattle.std.specs.Prelude.{◌≡◌, ◌⊎◌, ℕ, ◌<◌, ◌≤◌, List, length, Option, Some, None}
 use Rattle.std.specs.Option.{IsSome}
 use Rattle.kaba_base.specs.Outside.{Files, Rose, taken_more, HoldsPrefix}
-use Rattle.kaba_words.specs.Commands.{Cmd, run, Fits, FitsNone}
+use Rattle.kaba_words.specs.Commands.{Cmd, run, table, lattice, Fits, FitsNone}
 use Rattle.kaba_top.specs.Lines.{Says, usage, cannot_read, most_bytes, file_too_large}
 use Rattle.kaba_top.specs.Reading.{TextAnswers}
 use Rattle.kaba_top.specs.RunAnswers.{RunAnswers}
+use Rattle.kaba_top.specs.FactsAnswers.{AnalysisAnswers, TableOf, LatticeOf}
 
 -- the words fit no pattern
 pub record IsUsage (words : List (List ℕ)) (status : ℕ) (out err : List ℕ) : Type 0 where
@@ -38,10 +39,14 @@ FileAnswers K files file status out err = IsMissing files file status out err �
 -- the answers of a command, where first are the files as its first file is read, and second as its second one is
 abbrev pub CommandAnswers : Cmd → Files → Files → ℕ → List ℕ → List ℕ → Type 0
 CommandAnswers (run file steps words) first second = FileAnswers (TextAnswers (RunAnswers steps words)) first file
+CommandAnswers (table file) first second = FileAnswers (TextAnswers (AnalysisAnswers TableOf)) first file
+CommandAnswers (lattice json bound file) first second = FileAnswers (TextAnswers (AnalysisAnswers (LatticeOf json bound))) first file
 
 -- the names of the files that a command reads
 abbrev pub Names : Cmd → List ℕ → Type 0
 Names (run file steps words) name = name ≡ file
+Names (table file) name = name ≡ file
+Names (lattice json bound file) name = name ≡ file
 
 -- the words say a command, and this is an answer of it
 pub record IsOfCommand (words : List (List ℕ)) (first second : Files) (status : ℕ) (out err : List ℕ) : Type 0 where

@@ -3,10 +3,11 @@
 
 ghost use Rattle.std.specs.Prelude.{◌≡◌, ◌≤◌, IfOk, string_bytes};
 ghost use Rattle.kaba_base.specs.Outside.{Files};
-ghost use Rattle.kaba_words.specs.Commands.{run, texts};
+ghost use Rattle.kaba_words.specs.Commands.{run, table, lattice, texts};
 ghost use Rattle.kaba_top.specs.Answers.{CommandReplies, Replies};
 ghost use Rattle.kaba_top.specs.Fetching.{IsFetched};
 
+use crate::analysis::{lattice_text, table_text};
 use crate::reply::Reply;
 use crate::run::run_text;
 use kaba_base::{ReadFault, Shelf, read_file};
@@ -55,6 +56,32 @@ fn run_command<F: Shelf>(
     }
 }
 
+/// The reply of `table`.
+fn table_command<F: Shelf>(alloc: Global, shelf: &mut F, file: &String) -> Result<Reply, AllocError>
+    ensures replies { IfOk result (λ reply. CommandReplies (F.files shelf.old) (F.faults shelf.old) (F.faults shelf.new) (table (string_bytes file.now)) reply.status reply.out.items reply.err.items) }
+{
+    match fetch_file(alloc, shelf, file)? {
+        Fetched::Bytes(bytes) => table_text(alloc, &bytes),
+        Fetched::Refused(reply) => Ok(reply),
+    }
+}
+
+/// The reply of `lattice`.
+fn lattice_command<F: Shelf>(
+    alloc: Global,
+    shelf: &mut F,
+    file: &String,
+    json: bool,
+    bound: u32,
+) -> Result<Reply, AllocError>
+    ensures replies { IfOk result (λ reply. CommandReplies (F.files shelf.old) (F.faults shelf.old) (F.faults shelf.new) (lattice json bound (string_bytes file.now)) reply.status reply.out.items reply.err.items) }
+{
+    match fetch_file(alloc, shelf, file)? {
+        Fetched::Bytes(bytes) => lattice_text(alloc, &bytes, json, bound),
+        Fetched::Refused(reply) => Ok(reply),
+    }
+}
+
 /// The reply to the words, or `AllocError` where memory is short.
 pub fn answer<F: Shelf>(
     alloc: Global,
@@ -65,6 +92,10 @@ pub fn answer<F: Shelf>(
 {
     match read_words(alloc, words) {
         Ok(Command::Run(file, steps, more)) => run_command(alloc, shelf, &file, steps, &more),
+        Ok(Command::Table(file)) => table_command(alloc, shelf, &file),
+        Ok(Command::Lattice(json, bound, file)) => {
+            lattice_command(alloc, shelf, &file, json, bound)
+        }
         Err(WordsFault::Usage) => Reply::line(alloc, 64, b"usage"),
         Err(WordsFault::Memory) => Err(AllocError),
     }

@@ -2,7 +2,7 @@
 
 use crate::tests::Case;
 
-pub const REFUSED: [Case; 33] = [
+pub const REFUSED: [Case; 40] = [
     Case {
         words: "run",
         text: "class Main { static void main(String[] a) { } }",
@@ -25,7 +25,42 @@ pub const REFUSED: [Case; 33] = [
         err: "kaba: usage\n",
     },
     Case {
-        words: "table p.java",
+        words: "table",
+        text: "class Main { static void main(String[] a) { } }",
+        status: 64,
+        out: "",
+        err: "kaba: usage\n",
+    },
+    Case {
+        words: "table p.java more",
+        text: "class Main { static void main(String[] a) { } }",
+        status: 64,
+        out: "",
+        err: "kaba: usage\n",
+    },
+    Case {
+        words: "lattice -c 0 p.java",
+        text: "class Main { static void main(String[] a) { } }",
+        status: 64,
+        out: "",
+        err: "kaba: usage\n",
+    },
+    Case {
+        words: "lattice -c 16385 p.java",
+        text: "class Main { static void main(String[] a) { } }",
+        status: 64,
+        out: "",
+        err: "kaba: usage\n",
+    },
+    Case {
+        words: "lattice -c 4 -j p.java",
+        text: "class Main { static void main(String[] a) { } }",
+        status: 64,
+        out: "",
+        err: "kaba: usage\n",
+    },
+    Case {
+        words: "lattice -j",
         text: "class Main { static void main(String[] a) { } }",
         status: 64,
         out: "",
@@ -40,6 +75,20 @@ pub const REFUSED: [Case; 33] = [
     },
     Case {
         words: "run no.java 1",
+        text: "class Main { static void main(String[] a) { } }",
+        status: 66,
+        out: "",
+        err: "kaba: cannot read no.java\n",
+    },
+    Case {
+        words: "table no.java",
+        text: "class Main { static void main(String[] a) { } }",
+        status: 66,
+        out: "",
+        err: "kaba: cannot read no.java\n",
+    },
+    Case {
+        words: "lattice no.java",
         text: "class Main { static void main(String[] a) { } }",
         status: 66,
         out: "",

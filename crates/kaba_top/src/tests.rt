@@ -44,8 +44,8 @@ fn check(rt: &impl Abort, alloc: Global, cases: &[Case]) -> Result<(), Fail> {
     for case in cases {
         let words = words_of(alloc, case.words)?;
         let mut shelf = shelf_of(alloc, case.text)?;
-        let mut out = MemSink::new(alloc, 1000, 7)?;
-        let mut err = MemSink::new(alloc, 1000, 7)?;
+        let mut out = MemSink::new(alloc, 2000, 7)?;
+        let mut err = MemSink::new(alloc, 2000, 7)?;
         let status = kaba(alloc, &words, &mut shelf, &mut out, &mut err);
         assert_eq!(rt;
             status,
@@ -75,7 +75,7 @@ fn refuses(rt: HostRuntime) -> Result<(), Fail> {
 }
 
 #[test]
-fn runs(rt: HostRuntime) -> Result<(), Fail> {
+fn runs_and_analyses(rt: HostRuntime) -> Result<(), Fail> {
     check(&rt, rt.alloc(), &ROWS)
 }
 

@@ -1,10 +1,99 @@
 -- Words that fit none of the patterns.
-use Rattle.std.proofs.Common.{◌≡◌, ℕ, List, ◌∷◌, codes, subst, sym}
-use Rattle.kaba_words.specs.Commands.{Cmd, run, FitsRun, FitsNone, Fits}
+use Rattle.std.proofs.Common.{◌≡◌, ℕ, ◌<◌, List, [], ◌∷◌, codes, subst, sym, ap, ◌∙◌, refl, Bool, true, false, arith, Option, Some, MatchOption, Result, Err}
+use Rattle.std.specs.Fmt.{decimal}
+use Rattle.std.specs.Str.{bytes_eq}
+use Rattle.std.proofs.lemmas.Bool.{false≢true}
+use Rattle.std.proofs.lemmas.Slice.Eq.{bytes_eq-Decides}
+use Rattle.std.proofs.lemmas.Fmt.{decimal_injective}
+use Rattle.kaba_words.specs.Commands.{Cmd, run, table, lattice, FitsRun, FitsLattice, FitsNone, Fits, TakesFlag, TakesBound, BoundAfter, IsNumber, most_concepts}
 
 at_run : (more : List (List ℕ)) → ((file : List ℕ) (steps : ℕ) (after : List (List ℕ)) → FitsRun more file steps after → ⊥) → (command : Cmd) → Fits (codes "run" ∷ more) command → ⊥
 at_run more none (run file steps after) h = none file steps after h.1
+at_run more none (table file) h = cc
+at_run more none (lattice json bound file) h = cc
 
--- the name is that of `run`, and the words after it do not fit
+at_table : (more : List (List ℕ)) → ((file : List ℕ) → more ≡ file ∷ [] → ⊥) → (command : Cmd) → Fits (codes "table" ∷ more) command → ⊥
+at_table more none (run file steps after) h = cc
+at_table more none (table file) h = none file h.1
+at_table more none (lattice json bound file) h = cc
+
+at_lattice : (more : List (List ℕ)) → ((json : Bool) (bound : ℕ) (file : List ℕ) → FitsLattice more json bound file → ⊥) → (command : Cmd) → Fits (codes "lattice" ∷ more) command → ⊥
+at_lattice more none (run file steps after) h = cc
+at_lattice more none (table file) h = cc
+at_lattice more none (lattice json bound file) h = none json bound file h.1
+
+-- the name is that of the command, and the words after it do not fit
 pub none_of_run : (words : List (List ℕ)) (more : List (List ℕ)) → words ≡ codes "run" ∷ more → ((file : List ℕ) (steps : ℕ) (after : List (List ℕ)) → FitsRun more file steps after → ⊥) → FitsNone words
 none_of_run words more e none = subst FitsNone (sym e) (at_run more none)
+
+pub none_of_table : (words : List (List ℕ)) (more : List (List ℕ)) → words ≡ codes "table" ∷ more → ((file : List ℕ) → more ≡ file ∷ [] → ⊥) → FitsNone words
+none_of_table words more e none = subst FitsNone (sym e) (at_table more none)
+
+pub none_of_lattice : (words : List (List ℕ)) (more : List (List ℕ)) → words ≡ codes "lattice" ∷ more → ((json : Bool) (bound : ℕ) (file : List ℕ) → FitsLattice more json bound file → ⊥) → FitsNone words
+none_of_lattice words more e none = subst FitsNone (sym e) (at_lattice more none)
+
+-- the next word is the one that is wanted, or another
+pub flag_taken : (flag word : List ℕ) (words rest : List (List ℕ)) → words ≡ word ∷ rest → bytes_eq word flag ≡ true → words ≡ flag ∷ rest
+flag_taken flag word words rest e t = e ∙ ap (λ w. w ∷ rest) ((bytes_eq-Decides word flag).0 t)
+
+pub flag_absent : (flag word : List ℕ) (words rest : List (List ℕ)) → words ≡ word ∷ rest → bytes_eq word flag ≡ false → (more : List (List ℕ)) → words ≡ flag ∷ more → ⊥
+flag_absent flag word words rest e f more g =
+    let same : word ≡ flag = cc in
+    false≢true (sym f ∙ (bytes_eq-Decides word flag).1 same)
+
+-- an optional word is there or not, and leaves the same words
+flag_same : (flag : List ℕ) (words : List (List ℕ)) (a b : Bool) (r s : List (List ℕ)) → TakesFlag flag words a r → TakesFlag flag words b s → (a ≡ b) × (r ≡ s)
+flag_same flag words true true r s h k = (refl, cc)
+flag_same flag words true false r s h k = absurd (k.1 r h)
+flag_same flag words false true r s h k = absurd (h.1 s k)
+flag_same flag words false false r s h k = (refl, sym h.0 ∙ k.0)
+
+after_same : (a : Bool) (words : List (List ℕ)) (n m : ℕ) (r s : List (List ℕ)) → BoundAfter a words n r → BoundAfter a words m s → r ≡ s
+after_same true words n m r s h k = let e = h.1 in let f = k.1 in cc
+after_same false words n m r s h k = sym h.0 ∙ k.0
+
+bound_same : (words : List (List ℕ)) (n m : ℕ) (r s : List (List ℕ)) → TakesBound words n r → TakesBound words m s → r ≡ s
+bound_same words n m r s h k =
+    let e = flag_same (codes "-c") words h.asked k.asked h.after k.after h.flag k.flag in
+    after_same k.asked k.after n m r s (subst (λ a. BoundAfter a k.after n r) e.0 (subst (λ ws. BoundAfter h.asked ws n r) e.1 h.bound)) k.bound
+
+-- what stands after `-c`
+pub bound_asked : (words after : List (List ℕ)) (n : ℕ) (rest : List (List ℕ)) → TakesFlag (codes "-c") words true after → TakesBound words n rest → BoundAfter true after n rest
+bound_asked words after n rest f h =
+    let e = flag_same (codes "-c") words true h.asked after h.after f h.flag in
+    subst (λ a. BoundAfter a after n rest) (sym e.0) (subst (λ ws. BoundAfter h.asked ws n rest) (sym e.1) h.bound)
+
+pub none_asked : (words after : List (List ℕ)) (a : Bool) → a ≡ true → TakesFlag (codes "-c") words a after → ((n : ℕ) (rest : List (List ℕ)) → BoundAfter true after n rest → ⊥) → (n : ℕ) (rest : List (List ℕ)) → TakesBound words n rest → ⊥
+none_asked words after a e f none n rest h = none n rest (bound_asked words after n rest (subst (λ b. TakesFlag (codes "-c") words b after) e f) h)
+
+-- the number that was read is none that may stand there
+pub not_zero : (words : List (List ℕ)) (n : ℕ) (word : List ℕ) (rest more : List (List ℕ)) → words ≡ word ∷ more → IsNumber word most_concepts 0 → BoundAfter true words n rest → ⊥
+not_zero words n word rest more e z h =
+    let same : h.0 ≡ word = let g = h.1 in cc in
+    let same_number : n ≡ 0 = decimal_injective n 0 (omega (arith, h.2.small)) (omega arith) (sym h.2.digits ∙ same ∙ z.digits) in
+    omega (arith, h.3, same_number)
+
+pub no_number : (words : List (List ℕ)) (word : List ℕ) (more : List (List ℕ)) → words ≡ word ∷ more → ((n : ℕ) → IsNumber word most_concepts n → ⊥) → (n : ℕ) (rest : List (List ℕ)) → BoundAfter true words n rest → ⊥
+no_number words word more e none n rest h =
+    let same : h.0 ≡ word = let g = h.1 in cc in
+    none n (subst (λ w. IsNumber w most_concepts n) same h.2)
+
+-- the words after `lattice` do not fit
+pub no_bound : (words after : List (List ℕ)) (asked : Bool) → TakesFlag (codes "-j") words asked after → ((n : ℕ) (rest : List (List ℕ)) → TakesBound after n rest → ⊥) → (json : Bool) (bound : ℕ) (file : List ℕ) → FitsLattice words json bound file → ⊥
+no_bound words after asked f none json bound file h =
+    none bound h.rest (subst (λ ws. TakesBound ws bound h.rest) (sym (flag_same (codes "-j") words asked json after h.after f h.flag).1) h.takes_bound)
+
+pub no_file : (words after rest : List (List ℕ)) (asked : Bool) (n : ℕ) → TakesFlag (codes "-j") words asked after → TakesBound after n rest → ((file : List ℕ) → rest ≡ file ∷ [] → ⊥) → (json : Bool) (bound : ℕ) (file : List ℕ) → FitsLattice words json bound file → ⊥
+no_file words after rest asked n f b none json bound file h =
+    let e = (flag_same (codes "-j") words asked json after h.after f h.flag).1 in
+    none file (bound_same h.after n bound rest h.rest (subst (λ ws. TakesBound ws n rest) e b) h.takes_bound ∙ h.file_is)
+
+abbrev pub Reads : List ℕ → Option ℕ → Type 0
+Reads word read = MatchOption read ((n : ℕ) → IsNumber word most_concepts n → ⊥) (λ n. IsNumber word most_concepts n)
+
+pub zero_read : (word : List ℕ) (read : Option ℕ) (m : ℕ) → read ≡ Some m → m ≡ 0 → Reads word read → IsNumber word most_concepts 0
+zero_read word read m e z h = subst (IsNumber word most_concepts) z (subst (Reads word) e h)
+
+-- a fault is the same whatever else might have been answered
+pub same_fault : {A B E : Type 0} (x y : E) → ◌≡◌ {A = Result A E} (Err x) (Err y) → ◌≡◌ {A = Result B E} (Err x) (Err y)
+same_fault x y h = let e : x ≡ y = cc in ap Err e

@@ -1,5 +1,5 @@
 -- The words of the command line, and the commands that they say.
-use Rattle.std.specs.Prelude.{◌≡◌, ℕ, ◌≤◌, List, [], ◌∷◌, length, map, codes, string_bytes}
+use Rattle.std.specs.Prelude.{◌≡◌, ℕ, ◌<◌, ◌≤◌, Bool, true, false, List, [], ◌∷◌, length, map, codes, string_bytes}
 use Rattle.std.specs.List.{All}
 use Rattle.std.specs.Fmt.{decimal}
 use Rattle.std.specs.declared.string.String.{String}
@@ -10,12 +10,16 @@ use Rattle.kaba_words.specs.declared.words.Command.TheVariants as commands
 -- a command, its words as bytes
 pub data Cmd : Type 0 where
   run : (file : List ℕ) (steps : ℕ) (words : List (List ℕ)) → Cmd
+  table : (file : List ℕ) → Cmd
+  lattice : (json : Bool) (bound : ℕ) (file : List ℕ) → Cmd
 
 abbrev pub texts : List (String Global) → List (List ℕ)
 texts words = map string_bytes words
 
 abbrev pub command_of : Command → Cmd
 command_of (commands.Run file steps words) = run (string_bytes file) steps (texts words.items)
+command_of (commands.Table file) = table (string_bytes file)
+command_of (commands.Lattice json bound file) = lattice json bound (string_bytes file)
 
 -- the word is the number n, in decimal digits without a leading zero, and n is within the limit
 pub record IsNumber (word : List ℕ) (limit n : ℕ) : Type 0 where
@@ -37,9 +41,43 @@ pub record FitsRun (words : List (List ℕ)) (file : List ℕ) (steps : ℕ) (mo
   pub few : length more ≤ most_units
   pub short : All (λ word. length word ≤ most_units) more
 
+-- an optional word that stands in its place or not, and the words after it
+abbrev pub TakesFlag : List ℕ → List (List ℕ) → Bool → List (List ℕ) → Type 0
+TakesFlag flag words true rest = words ≡ flag ∷ rest
+TakesFlag flag words false rest = (words ≡ rest) × ((more : List (List ℕ)) → words ≡ flag ∷ more → ⊥)
+
+-- how many concepts a lattice may have: what is asked for at most, and what is allowed where nothing is asked
+abbrev pub most_concepts : ℕ
+most_concepts = 16384
+
+abbrev pub usual_concepts : ℕ
+usual_concepts = 4096
+
+-- N after `-c`
+abbrev pub BoundAfter : Bool → List (List ℕ) → ℕ → List (List ℕ) → Type 0
+BoundAfter false words n rest = (words ≡ rest) × (n ≡ usual_concepts)
+BoundAfter true words n rest = (word : List ℕ) × (words ≡ word ∷ rest) × IsNumber word most_concepts n × (0 < n)
+
+-- [-c N]
+pub record TakesBound (words : List (List ℕ)) (n : ℕ) (rest : List (List ℕ)) : Type 0 where
+  pub asked : Bool
+  pub after : List (List ℕ)
+  pub flag : TakesFlag (codes "-c") words asked after
+  pub bound : BoundAfter asked after n rest
+
+-- [-j] [-c N] FILE
+pub record FitsLattice (words : List (List ℕ)) (json : Bool) (bound : ℕ) (file : List ℕ) : Type 0 where
+  pub after : List (List ℕ)
+  pub flag : TakesFlag (codes "-j") words json after
+  pub rest : List (List ℕ)
+  pub takes_bound : TakesBound after bound rest
+  pub file_is : rest ≡ file ∷ []
+
 -- the words after the command's name
 abbrev pub FitsArguments : List ℕ → List (List ℕ) → Cmd → Type 0
 FitsArguments name words (run file steps more) = (name ≡ codes "run") × FitsRun words file steps more
+FitsArguments name words (table file) = (name ≡ codes "table") × (words ≡ file ∷ [])
+FitsArguments name words (lattice json bound file) = (name ≡ codes "lattice") × FitsLattice words json bound file
 
 -- the words say this command
 abbrev pub Fits : List (List ℕ) → Cmd → Type 0

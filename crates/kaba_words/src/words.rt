@@ -1,9 +1,9 @@
 //! The words of the command line.
 #![tactic(auto)]
 
-ghost use Rattle.std.specs.Prelude.{◌≡◌, ◌∷◌, ◌≤◌, ℕ, List, [], Err, IfOk, MatchOption, IsTrue, ◌↔◌, length, codes};
+ghost use Rattle.std.specs.Prelude.{◌≡◌, ◌∷◌, ◌≤◌, ℕ, Bool, true, List, [], Err, IfOk, MatchOption, IsTrue, ◌↔◌, length, codes};
 ghost use Rattle.std.specs.List.{All};
-ghost use Rattle.kaba_words.specs.Commands.{Cmd, texts, command_of, IsNumber, Fits, FitsNone, FitsRun, most_units};
+ghost use Rattle.kaba_words.specs.Commands.{Cmd, texts, command_of, IsNumber, Fits, FitsNone, FitsRun, TakesFlag, BoundAfter, TakesBound, FitsLattice, most_units};
 ghost use Rattle.kaba_words.specs.declared.words.WordsFault.TheVariants as WordsFault;
 
 use std::alloc::{AllocError, Global};
@@ -13,6 +13,10 @@ use std::alloc::{AllocError, Global};
 pub enum Command {
     /// `run FILE STEPS WORD..`: the output of the file's program on the words, within the steps.
     Run(String, u32, Vec<String>),
+    /// `table FILE`: the table of the file's program.
+    Table(String),
+    /// `lattice [-j] [-c N] FILE`: its lattice, as JSON or not, of at most N concepts.
+    Lattice(bool, u32, String),
 }
 
 /// Why the words say no command.
@@ -52,6 +56,32 @@ impl<'a> Arguments<'a> {
                 self.words = more;
                 Some(word.as_str())
             }
+        }
+    }
+
+    /// Takes the next word where it is this one.
+    fn flag(&mut self, wanted: &str) -> bool
+        ensures { TakesFlag wanted.now (texts self.old.words.now) result (texts self.new.words.now) }
+    {
+        let mut after = Arguments { words: self.words };
+        let Some(word) = after.next() else {
+            return false;
+        };
+        if word == wanted {
+            self.words = after.words;
+            return true;
+        }
+        false
+    }
+
+    /// The last word.
+    fn last(&mut self) -> Option<&'a str>
+        ensures { MatchOption result ((word : List ℕ) → texts self.old.words.now ≡ word ∷ [] → ⊥) (λ word. texts self.old.words.now ≡ word.now ∷ []) }
+    {
+        match self.words {
+            [] => None,
+            [word] => Some(word.as_str()),
+            [_, _, ..] => None,
         }
     }
 }
@@ -124,6 +154,59 @@ fn read_run(alloc: Global, mut arguments: Arguments<'_>) -> Result<Command, Word
     Ok(Command::Run(file, steps, words))
 }
 
+/// The command `table`, of which the words after its name are left.
+fn read_table(alloc: Global, mut arguments: Arguments<'_>) -> Result<Command, WordsFault>
+    ensures command { IfOk result (λ command. Fits (codes "table" ∷ texts arguments.entry.words.now) (command_of command)) }
+    ensures usage { result ≡ Err WordsFault.Usage → (file : List ℕ) → texts arguments.entry.words.now ≡ file ∷ [] → ⊥ }
+{
+    let Some(file) = arguments.last() else {
+        return Err(WordsFault::Usage);
+    };
+    Ok(Command::Table(String::from_str(alloc, file)?))
+}
+
+/// The number after `-c`.
+fn read_count(alloc: Global, arguments: &mut Arguments<'_>) -> Result<u32, WordsFault>
+    ensures bound { IfOk result (λ n. BoundAfter true (texts arguments.old.words.now) n (texts arguments.new.words.now)) }
+    ensures usage { result ≡ Err WordsFault.Usage → (n : ℕ) (rest : List (List ℕ)) → BoundAfter true (texts arguments.old.words.now) n rest → ⊥ }
+{
+    let Some(word) = arguments.next() else {
+        return Err(WordsFault::Usage);
+    };
+    match number(alloc, word, 16_384)? {
+        Some(0) => Err(WordsFault::Usage),
+        Some(n) => Ok(n),
+        None => Err(WordsFault::Usage),
+    }
+}
+
+/// How many concepts the words allow.
+fn read_bound(alloc: Global, arguments: &mut Arguments<'_>) -> Result<u32, WordsFault>
+    ensures bound { IfOk result (λ n. TakesBound (texts arguments.old.words.now) n (texts arguments.new.words.now)) }
+    ensures usage { result ≡ Err WordsFault.Usage → (n : ℕ) (rest : List (List ℕ)) → TakesBound (texts arguments.old.words.now) n rest → ⊥ }
+{
+    if arguments.flag("-c") {
+        return read_count(alloc, arguments);
+    }
+    Ok(4096)
+}
+
+/// The command `lattice`, of which the words after its name are left.
+fn read_lattice(alloc: Global, mut arguments: Arguments<'_>) -> Result<Command, WordsFault>
+    ensures command { IfOk result (λ command. Fits (codes "lattice" ∷ texts arguments.entry.words.now) (command_of command)) }
+    ensures usage { result ≡ Err WordsFault.Usage → (json : Bool) (bound : ℕ) (file : List ℕ) → FitsLattice (texts arguments.entry.words.now) json bound file → ⊥ }
+{
+    let json = arguments.flag("-j");
+    let bound = match read_bound(alloc, &mut arguments) {
+        Ok(bound) => bound,
+        Err(fault) => return Err(fault),
+    };
+    let Some(file) = arguments.last() else {
+        return Err(WordsFault::Usage);
+    };
+    Ok(Command::Lattice(json, bound, String::from_str(alloc, file)?))
+}
+
 /// The command that the words after the program's name say. `Usage` comes exactly where they say
 /// none, `Memory` where memory is short.
 pub fn read_words(alloc: Global, words: &Vec<String>) -> Result<Command, WordsFault>
@@ -135,6 +218,8 @@ pub fn read_words(alloc: Global, words: &Vec<String>) -> Result<Command, WordsFa
     };
     match arguments.next() {
         Some("run") => read_run(alloc, arguments),
+        Some("table") => read_table(alloc, arguments),
+        Some("lattice") => read_lattice(alloc, arguments),
         Some(_) => Err(WordsFault::Usage),
         None => Err(WordsFault::Usage),
     }

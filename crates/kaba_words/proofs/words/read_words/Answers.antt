@@ -1,9 +1,19 @@
 use Rattle.std.proofs.Common.{◌∷◌, ◌∙◌, ap, sym}
 use Rattle.kaba_words.specs.Commands.{texts}
-use Rattle.kaba_words.proofs.Patterns.{none_of_run}
+use Rattle.kaba_words.proofs.Patterns.{none_of_run, none_of_table, none_of_lattice}
 use Rattle.kaba_words.proofs.words.read_words.Goals as goal
 
 pub returns-in-Some-run-clause-usage : goal.returns-in-Some-run-clause-usage
 returns-in-Some-run-clause-usage c = λ h. none_of_run (texts c.args.words.now.items) (texts c.next.new.self.words.now)
     (ap texts (sym c.as_slice.ensures.value) ∙ c.in-Some-run.ensures ∙ ap (λ name. name ∷ texts c.next.new.self.words.now) c.in-Some-run.is-run)
     (c.read_run.ensures.usage h)
+
+pub returns-in-Some-table-clause-usage : goal.returns-in-Some-table-clause-usage
+returns-in-Some-table-clause-usage c = λ h. none_of_table (texts c.args.words.now.items) (texts c.next.new.self.words.now)
+    (ap texts (sym c.as_slice.ensures.value) ∙ c.in-Some-table.ensures ∙ ap (λ name. name ∷ texts c.next.new.self.words.now) c.in-Some-table.is-table)
+    (c.read_table.ensures.usage h)
+
+pub returns-in-Some-lattice-clause-usage : goal.returns-in-Some-lattice-clause-usage
+returns-in-Some-lattice-clause-usage c = λ h. none_of_lattice (texts c.args.words.now.items) (texts c.next.new.self.words.now)
+    (ap texts (sym c.as_slice.ensures.value) ∙ c.in-Some-lattice.ensures ∙ ap (λ name. name ∷ texts c.next.new.self.words.now) c.in-Some-lattice.is-lattice)
+    (c.read_lattice.ensures.usage h)

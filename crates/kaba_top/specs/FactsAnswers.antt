@@ -1,0 +1,86 @@
+-- The answers of `table` and `lattice`, for the program of their file.
+use Rattle.std.specs.Prelude.{◌≡◌, ◌⊎◌, ℕ, ◌≤◌, Bool, List, [], ◌++◌, length, codes, Some, None, if◌then◌else◌}
+use Rattle.std.specs.Fmt.{decimal}
+use Rattle.std.specs.Str.{encode_utf8_all}
+use Rattle.java_core.specs.declared.Program.{Program}
+use Rattle.java_core.specs.Trees.{at_place, no_place}
+use Rattle.java_core.specs.Programs.{program_of}
+use Rattle.fact_model.specs.declared.facts.Facts.{Facts}
+use Rattle.fact_model.specs.declared.sets.Table.{Table}
+use Rattle.fact_model.specs.declared.sets.Lattice.{Lattice}
+use Rattle.fact_model.specs.Entries.{IsTable}
+use Rattle.fact_model.specs.Concepts.{AreMoreThan, IsLatticeOf}
+use Rattle.flow_facts.specs.declared.top.Counted.{Counted}
+use Rattle.flow_facts.specs.declared.top.Counted.TheVariants as counted
+use Rattle.flow_facts.specs.Facts.{IsFactsOf, IsWithin, first_interface, too_many}
+use Rattle.lattice_view.specs.Table.{table_text}
+use Rattle.lattice_view.specs.Text.{lattice_text}
+use Rattle.lattice_view.specs.Json.{lattice_json}
+use Rattle.kaba_top.specs.Lines.{Says, Gives}
+
+-- what there is too much of, and the limit
+abbrev pub limit_text : Counted → List ℕ
+limit_text counted.Rows = codes "rows 16384"
+limit_text counted.Columns = codes "columns 8192"
+limit_text counted.Sites = codes "sites 8192"
+limit_text counted.Points = codes "points 65536"
+
+-- the program declares an interface, the first of which is named
+pub record IsWithInterface (program : Program) (status : ℕ) (out err : List ℕ) : Type 0 where
+  pub name : List ℕ
+  pub first : first_interface (program_of at_place program).classes ≡ Some name
+  pub says : Says 75 (codes "has interface " ++ encode_utf8_all name) status out err
+
+-- the program declares none, and there is too much of it
+pub record IsOverLimit (program : Program) (status : ℕ) (out err : List ℕ) : Type 0 where
+  pub none : first_interface (program_of at_place program).classes ≡ None
+  pub what : Counted
+  pub number : ℕ
+  pub over : too_many (program_of no_place program) (program_of at_place program) ≡ Some (record { what = what; number = number })
+  pub says : Says 67 (codes "too large: " ++ limit_text what) status out err
+
+-- no facts, and why
+abbrev pub IsNotAnalysed : Program → ℕ → List ℕ → List ℕ → Type 0
+IsNotAnalysed program status out err = IsWithInterface program status out err ⊎ IsOverLimit program status out err
+
+-- the program is within the limits and has these facts
+pub record HasFacts (program : Program) (facts : Facts) : Type 0 where
+  pub within : IsWithin (program_of no_place program) (program_of at_place program)
+  pub is : IsFactsOf (program_of no_place program) (program_of at_place program) facts
+
+-- the program has facts for which there is this answer
+pub record IsAnalysed (J : Facts → ℕ → List ℕ → List ℕ → Type 0) (program : Program) (status : ℕ) (out err : List ℕ) : Type 0 where
+  pub facts : Facts
+  pub has : HasFacts program facts
+  pub answers : J facts status out err
+
+-- the answers for a program, where J are those for its facts
+abbrev pub AnalysisAnswers : (Facts → ℕ → List ℕ → List ℕ → Type 0) → Program → ℕ → List ℕ → List ℕ → Type 0
+AnalysisAnswers J program status out err = IsNotAnalysed program status out err ⊎ IsAnalysed J program status out err
+
+-- the text of the table
+pub record TableOf (facts : Facts) (status : ℕ) (out err : List ℕ) : Type 0 where
+  pub table : Table
+  pub is : IsTable facts table
+  pub gives : Gives 0 (table_text facts table) [] status out err
+
+-- the text of the lattice, or its JSON
+abbrev pub shown : Bool → Facts → Lattice → List ℕ
+shown json facts lattice = if json then lattice_json facts lattice else lattice_text lattice
+
+-- the table has more concepts than are allowed
+pub record IsTooMany (bound : ℕ) (table : Table) (status : ℕ) (out err : List ℕ) : Type 0 where
+  pub more : AreMoreThan table.rows.items table.width bound
+  pub says : Says 68 (codes "too many concepts: more than " ++ decimal bound) status out err
+
+-- the table has this lattice, within what is allowed
+pub record IsShown (json : Bool) (bound : ℕ) (facts : Facts) (table : Table) (status : ℕ) (out err : List ℕ) : Type 0 where
+  pub lattice : Lattice
+  pub is : IsLatticeOf table lattice
+  pub within : length lattice.concepts.items ≤ bound
+  pub gives : Gives 0 (shown json facts lattice) [] status out err
+
+pub record LatticeOf (json : Bool) (bound : ℕ) (facts : Facts) (status : ℕ) (out err : List ℕ) : Type 0 where
+  pub table : Table
+  pub is : IsTable facts table
+  pub answers : IsTooMany bound table status out err ⊎ IsShown json bound facts table status out err

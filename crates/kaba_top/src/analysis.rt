@@ -1,0 +1,170 @@
+//! The commands `table` and `lattice`.
+#![tactic(auto)]
+
+ghost use Rattle.std.specs.Prelude.{◌≡◌, ◌≤◌, IfOk, length};
+ghost use Rattle.fact_model.specs.InRange.{InRange};
+ghost use Rattle.fact_model.specs.Entries.{IsTable};
+ghost use Rattle.kaba_top.specs.Lines.{most_bytes};
+ghost use Rattle.kaba_top.specs.Reading.{TextAnswers};
+ghost use Rattle.kaba_top.specs.FactsAnswers.{AnalysisAnswers, TableOf, LatticeOf, limit_text, shown};
+ghost use Rattle.kaba_top.specs.Analyses.{IsAnalysis};
+
+use crate::reading::{Reading, read_program};
+use crate::reply::Reply;
+use concept_build::{LatticeFault, concepts};
+use fact_model::{Facts, Lattice, Table};
+use java_core::Checked;
+use lattice_view::{show_json, show_table, show_text};
+use points_to::solve;
+use program_facts::{Counted, FactsFault, facts};
+use std::alloc::{AllocError, Global};
+use table_rules::{close, raw};
+
+/// What a program is to the analysis: its facts, or the reply that it has none.
+#[derive(Drop)]
+pub enum Analysed {
+    Found(Facts),
+    Refused(Reply),
+}
+
+/// What there is too much of, and the limit.
+fn limit_text(what: Counted) -> &'static str
+    ensures { result.now ≡ limit_text what }
+{
+    match what {
+        Counted::Rows => "rows 16384",
+        Counted::Columns => "columns 8192",
+        Counted::Sites => "sites 8192",
+        Counted::Points => "points 65536",
+    }
+}
+
+/// The facts of a program, or the reply that it has none.
+fn analyse(alloc: Global, program: &Checked) -> Result<Analysed, AllocError>
+    ensures { IfOk result (λ analysed. IsAnalysis program.now analysed) }
+{
+    match facts(alloc, program) {
+        Ok(facts) => Ok(Analysed::Found(facts)),
+        Err(FactsFault::HasInterface(name)) => {
+            let name = name.as_str();
+            let text = format!(in alloc; "has interface {name}")?;
+            Ok(Analysed::Refused(Reply::line(alloc, 75, text.as_bytes())?))
+        }
+        Err(FactsFault::TooMany(what, _)) => {
+            let limit = limit_text(what);
+            let text = format!(in alloc; "too large: {limit}")?;
+            Ok(Analysed::Refused(Reply::line(alloc, 67, text.as_bytes())?))
+        }
+        Err(FactsFault::Memory) => Err(AllocError),
+    }
+}
+
+/// The closed table of the facts.
+fn table_of(alloc: Global, facts: &Facts) -> Result<Table, AllocError>
+    requires facts { InRange facts.now }
+    ensures { IfOk result (λ table. IsTable facts.now table) }
+{
+    let sets = solve(alloc, facts)?;
+    let raw = raw(alloc, facts, &sets)?;
+    close(alloc, facts, &sets, raw)
+}
+
+/// The reply with the text of the table.
+fn table_reply(alloc: Global, facts: &Facts) -> Result<Reply, AllocError>
+    requires facts { InRange facts.now }
+    ensures { IfOk result (λ reply. TableOf facts.now reply.status reply.out.items reply.err.items) }
+{
+    let table = table_of(alloc, facts)?;
+    let mut out = Vec::new(alloc);
+    show_table(alloc, facts, &table, &mut out)?;
+    Ok(Reply {
+        status: 0,
+        out,
+        err: Vec::new(alloc),
+    })
+}
+
+/// The text of a lattice, or its JSON.
+fn show(alloc: Global, json: bool, facts: &Facts, lattice: &Lattice) -> Result<Vec<u8>, AllocError>
+    ensures { IfOk result (λ out. out.items ≡ shown json facts.now lattice.now) }
+{
+    let mut out = Vec::new(alloc);
+    if json {
+        show_json(alloc, facts, lattice, &mut out)?;
+    } else {
+        show_text(alloc, lattice, &mut out)?;
+    }
+    Ok(out)
+}
+
+/// The reply with the lattice, or with how many concepts are allowed.
+fn lattice_reply(alloc: Global, facts: &Facts, json: bool, bound: u32) -> Result<Reply, AllocError>
+    requires facts { InRange facts.now }
+    ensures { IfOk result (λ reply. LatticeOf json bound facts.now reply.status reply.out.items reply.err.items) }
+{
+    let table = table_of(alloc, facts)?;
+    match concepts(alloc, &table, bound) {
+        Ok(lattice) => Ok(Reply {
+            status: 0,
+            out: show(alloc, json, facts, &lattice)?,
+            err: Vec::new(alloc),
+        }),
+        Err(LatticeFault::TooManyConcepts(_)) => {
+            let text = format!(in alloc; "too many concepts: more than {bound}")?;
+            Reply::line(alloc, 68, text.as_bytes())
+        }
+        Err(LatticeFault::Memory) => Err(AllocError),
+    }
+}
+
+/// The reply of `table` for a program.
+fn table_program(alloc: Global, program: &Checked) -> Result<Reply, AllocError>
+    ensures { IfOk result (λ reply. AnalysisAnswers TableOf program.now reply.status reply.out.items reply.err.items) }
+{
+    match analyse(alloc, program)? {
+        Analysed::Found(facts) => table_reply(alloc, &facts),
+        Analysed::Refused(reply) => Ok(reply),
+    }
+}
+
+/// The reply of `lattice` for a program.
+fn lattice_program(
+    alloc: Global,
+    program: &Checked,
+    json: bool,
+    bound: u32,
+) -> Result<Reply, AllocError>
+    ensures { IfOk result (λ reply. AnalysisAnswers (LatticeOf json bound) program.now reply.status reply.out.items reply.err.items) }
+{
+    match analyse(alloc, program)? {
+        Analysed::Found(facts) => lattice_reply(alloc, &facts, json, bound),
+        Analysed::Refused(reply) => Ok(reply),
+    }
+}
+
+/// The reply of `table` for the bytes of its file.
+pub fn table_text(alloc: Global, bytes: &Vec<u8>) -> Result<Reply, AllocError>
+    requires small { length bytes.now.items ≤ most_bytes }
+    ensures answers { IfOk result (λ reply. TextAnswers (AnalysisAnswers TableOf) bytes.now.items reply.status reply.out.items reply.err.items) }
+{
+    match read_program(alloc, bytes)? {
+        Reading::Typed(program) => table_program(alloc, &program),
+        Reading::Refused(reply) => Ok(reply),
+    }
+}
+
+/// The reply of `lattice` for the bytes of its file.
+pub fn lattice_text(
+    alloc: Global,
+    bytes: &Vec<u8>,
+    json: bool,
+    bound: u32,
+) -> Result<Reply, AllocError>
+    requires small { length bytes.now.items ≤ most_bytes }
+    ensures answers { IfOk result (λ reply. TextAnswers (AnalysisAnswers (LatticeOf json bound)) bytes.now.items reply.status reply.out.items reply.err.items) }
+{
+    match read_program(alloc, bytes)? {
+        Reading::Typed(program) => lattice_program(alloc, &program, json, bound),
+        Reading::Refused(reply) => Ok(reply),
+    }
+}
