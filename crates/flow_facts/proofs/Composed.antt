@@ -7,8 +7,8 @@ use Rattle.java_core.specs.Trees.{Tag, Ex, Exs, call, Sts, no_st, loop, to_own, 
 use Rattle.java_core.specs.Programs.{Plain, PlainMethod}
 use Rattle.flow_facts.specs.declared.items.Operand.{Operand}
 use Rattle.flow_facts.specs.Labels.{size, size_if, size_sts, label, label_all, label_if, label_sts, label_st}
-use Rattle.flow_facts.specs.Operands.{operand_of, operands_of, call_slot, call_declaration}
-use Rattle.flow_facts.specs.Parts.{Part, a_call, an_element_store, parts, parts_all, parts_if, parts_sts, parts_st, parts_assign}
+use Rattle.flow_facts.specs.Operands.{operand_of, operands_of, this_operand, call_slot, call_declaration}
+use Rattle.flow_facts.specs.Parts.{Part, a_call, a_store, an_element_store, parts, parts_all, parts_if, parts_sts, parts_st, parts_assign}
 use Rattle.flow_facts.specs.Types.{object_type}
 use Rattle.flow_facts.specs.Views.{call_operand}
 
@@ -51,9 +51,14 @@ module _ (P : Plain) (m : ℕ) (k : PlainMethod) where
   while_parts t test body old b new n lb eb hb en =
       loop_parts t no_st (Some test) no_st body old old b b new n n lb lb (sym (append-nil old)) (sym (add-zero n)) eb hb (sym (append-nil b)) (sym (add-zero lb)) en
 
-  pub own_store : (t : Tag) (p : Place) (f : ℕ) (e : Ex) (old new : List Part) (n : ℕ) → new ≡ old ++ parts_assign P (object_type P k) m k p (to_own t f) (label n e)
+  pub own_store : (t : Tag) (p : Place) (f : ℕ) (e : Ex) (old mid new : List Part) (n : ℕ) (w v : Operand) → mid ≡ old ++ parts P (object_type P k) m k true (label n e)
+      → v ≡ operand_of P (object_type P k) m k (label n e) → w ≡ this_operand m k → new ≡ mid ++ a_store p w (Some f) v ∷ []
       → new ≡ old ++ parts_assign P (object_type P k) m k p (to_own t f) (label (n + 0) e)
-  own_store t p f e old new n h = h ∙ ap (λ j. old ++ parts_assign P (object_type P k) m k p (to_own t f) (label j e)) (sym (add-zero n))
+  own_store t p f e old mid new n w v ex ev ew en =
+      let last : new ≡ mid ++ a_store p (this_operand m k) (Some f) (operand_of P (object_type P k) m k (label n e)) ∷ [] =
+      en ∙ ap (λ q. mid ++ a_store p q (Some f) v ∷ []) ew ∙ ap (λ q. mid ++ a_store p (this_operand m k) (Some f) q ∷ []) ev in
+      then old mid new (parts P (object_type P k) m k true (label n e)) _ ex last
+      ∙ ap (λ j. old ++ parts_assign P (object_type P k) m k p (to_own t f) (label j e)) (sym (add-zero n))
 
   pub element_store : (t : Tag) (p : Place) (b i e : Ex) (old x y z new : List Part) (n ly lz : ℕ) (o v : Operand)
       → x ≡ old ++ parts P (object_type P k) m k true (label n b) → o ≡ operand_of P (object_type P k) m k (label n b) → ly ≡ n + size b

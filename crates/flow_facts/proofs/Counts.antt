@@ -12,6 +12,8 @@ use Rattle.flow_facts.specs.declared.lists.PlacedCall.{PlacedCall}
 use Rattle.fact_model.specs.declared.facts.CallInfo.{CallInfo}
 use Rattle.fact_model.specs.declared.facts.CellInfo.{CellInfo}
 use Rattle.flow_facts.specs.declared.items.RowItem.{RowItem}
+use Rattle.flow_facts.specs.declared.items.ColumnItem.{ColumnItem}
+use Rattle.flow_facts.specs.declared.items.PointItem.{PointItem}
 use Rattle.flow_facts.specs.declared.items.Row.{Row}
 use Rattle.flow_facts.specs.declared.items.Column.{Column}
 use Rattle.flow_facts.specs.declared.items.Site.{Site}
@@ -22,10 +24,9 @@ use Rattle.flow_facts.specs.Ordered.{by_place, once, each}
 use Rattle.flow_facts.specs.Lists.{Numbers}
 use Rattle.flow_facts.specs.Views.{outline_seen}
 use Rattle.flow_facts.proofs.Along.{map-by_place}
-use Rattle.flow_facts.specs.declared.numbering.Numbering.{Numbering}
 use Rattle.flow_facts.specs.Numbered.{Body, Outline, bodies_of, field_rows, method_rows, field_columns, method_columns, form_sites, listed, static_points, outline_if, number_among, same_row, same_column, same_point, rows_of, columns_of, sites_of, points_of, row_number, column_number, site_number, point_number}
 use Rattle.flow_facts.specs.Facts.{TooMany, over, too_many, numbers, FieldCell, fields_of, site_cells, cells_of, first_interface, IsOver, IsRefused, call_seen}
-use Rattle.flow_facts.specs.Seen.{numbers_seen, call_at, calls_seen}
+use Rattle.flow_facts.specs.Seen.{call_at, calls_seen}
 
 pub over_here : (limit n : ℕ) (what : Counted) (rest : Option TooMany) → limit < n → over limit n what rest ≡ Some (record { what = what; number = limit + 1 })
 over_here limit n what rest h = ap (λ b. cond b (Some (record { what = what; number = limit + 1 })) rest) (lt-ltb limit n h)
@@ -33,13 +34,14 @@ over_here limit n what rest h = ap (λ b. cond b (Some (record { what = what; nu
 pub over_not : (limit n : ℕ) (what : Counted) (rest : Option TooMany) → n ≤ limit → over limit n what rest ≡ rest
 over_not limit n what rest h = ap (λ b. cond b (Some (record { what = what; number = limit + 1 })) rest) (le-ltb limit n h)
 
-pub numbers_are : (P Q : Plain) (n : Numbering) → n.rows.keys ≡ map (λ r. r.item) (rows_of P Q) → n.columns.keys ≡ map (λ c. c.item) (columns_of P Q)
-    → n.sites.keys ≡ map (λ s. s.number) (sites_of P Q) → n.points.keys ≡ map (λ p. p.item) (points_of P Q) → numbers_seen n ≡ numbers P Q
+pub numbers_are : (P Q : Plain) (rs : List RowItem) (cs : List ColumnItem) (ss : List ℕ) (ps : List PointItem) → rs ≡ map (λ r. r.item) (rows_of P Q) → cs ≡ map (λ c. c.item) (columns_of P Q)
+    → ss ≡ map (λ s. s.number) (sites_of P Q) → ps ≡ map (λ p. p.item) (points_of P Q)
+    → record { row = number_among same_row rs; column = number_among same_column cs; site = number_among nat_eq ss; point = number_among same_point ps } ≡ numbers P Q
 unfolding numbers row_number column_number site_number point_number
-numbers_are P Q n r c s p =
-    ap (λ k. record { row = number_among same_row k; column = number_among same_column n.columns.keys; site = number_among nat_eq n.sites.keys; point = number_among same_point n.points.keys }) r
-    ∙ ap (λ k. record { row = number_among same_row (map (λ r. r.item) (rows_of P Q)); column = number_among same_column k; site = number_among nat_eq n.sites.keys; point = number_among same_point n.points.keys }) c
-    ∙ ap (λ k. record { row = number_among same_row (map (λ r. r.item) (rows_of P Q)); column = number_among same_column (map (λ c. c.item) (columns_of P Q)); site = number_among nat_eq k; point = number_among same_point n.points.keys }) s
+numbers_are P Q rs cs ss ps r c s p =
+    ap (λ k. record { row = number_among same_row k; column = number_among same_column cs; site = number_among nat_eq ss; point = number_among same_point ps }) r
+    ∙ ap (λ k. record { row = number_among same_row (map (λ r. r.item) (rows_of P Q)); column = number_among same_column k; site = number_among nat_eq ss; point = number_among same_point ps }) c
+    ∙ ap (λ k. record { row = number_among same_row (map (λ r. r.item) (rows_of P Q)); column = number_among same_column (map (λ c. c.item) (columns_of P Q)); site = number_among nat_eq k; point = number_among same_point ps }) s
     ∙ ap (λ k. record { row = number_among same_row (map (λ r. r.item) (rows_of P Q)); column = number_among same_column (map (λ c. c.item) (columns_of P Q)); site = number_among nat_eq (map (λ s. s.number) (sites_of P Q)); point = number_among same_point k }) p
 
 pub rows_are : (P Q : Plain) (xs : List Row) → xs ≡ each field_rows 0 Q.fields ++ each (method_rows P Q) 0 Q.methods → once same_row (λ r. r.item) (by_place (λ r. r.place.at) xs) ≡ rows_of P Q

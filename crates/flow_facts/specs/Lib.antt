@@ -8,3 +8,4 @@ pub mod Lists
 pub mod Facts
 pub mod Views
 pub mod Seen
+pub mod Stages

@@ -1,17 +1,21 @@
 //! The facts of a program: its rows, columns, sites and flow points, each numbered by its place, and what the text says of them.
 #![tactic(auto)]
 
+mod bodies;
 mod cells;
+mod infos;
 mod items;
+mod labels;
+mod listing;
 mod lists;
+mod names;
 mod numbering;
+mod ordered;
+mod survey;
+mod ties;
 mod top;
+mod types;
+mod walk;
 
-pub use cells::FieldCell;
-pub use items::{
-    Body, Column, ColumnItem, ObjectType, Operand, Outline, Part, Point, PointAt, PointItem, Row,
-    RowItem, Site,
-};
-pub use lists::PlacedCall;
-pub use numbering::Numbering;
-pub use top::{Counted, FactsFault};
+pub use items::{Column, ColumnItem, ObjectType, PointItem, Row, RowItem, Site};
+pub use top::{Counted, FactsFault, facts};

@@ -1,10 +1,564 @@
-//! Calls at their places.
-use fact_model::CallInfo;
-use kaba_base::Place;
+//! What each part of a body gives to each list of the facts.
+
+ghost use Rattle.std.specs.Prelude.{◌≡◌, ℕ, ◌+◌, ◌<◌, ◌++◌, ◌∷◌, [], List, Option, Some, None, IfOk, OnOk, length, map, position};
+ghost use Rattle.std.specs.List.{flat_map};
+ghost use Rattle.java_core.specs.Trees.{no_place};
+ghost use Rattle.java_core.specs.Programs.{program_of};
+ghost use Rattle.java_core.specs.Formed.{IsFormed};
+ghost use Rattle.flow_facts.specs.Ordered.{each};
+ghost use Rattle.flow_facts.specs.Lists.{created, moved, tied, accessed, created_args, moved_args, news_of, flows_of, loads_of, stores_of, calls_of, casts_of, tests_of, accesses_of, supers_of, ties_of, point_at, row_at, row_in};
+ghost use Rattle.flow_facts.specs.Views.{part_seen, parts_seen, body_seen};
+ghost use Rattle.flow_facts.specs.Seen.{numbers_seen, calls_seen};
+
+use crate::items::{Body, ColumnItem, Operand, Part, PointItem, RowItem};
+use crate::numbering::Numbering;
+use crate::ties::add_ties;
+use fact_model::{
+    AccessInfo, CallInfo, CastInfo, FlowInfo, LoadInfo, NewInfo, StoreInfo, SuperInfo, TestInfo,
+    TieInfo,
+};
+use java_core::Program;
+use kaba_base::{ColId, Place, RowId, SiteId};
+use std::alloc::{AllocError, Global};
 
 /// A call at its place.
 #[derive(Drop)]
 pub struct PlacedCall {
     pub place: Place,
     pub call: CallInfo,
+}
+
+/// The lists that the parts of bodies give.
+#[derive(Drop)]
+pub struct Lists {
+    pub news: Vec<NewInfo>,
+    pub flows: Vec<FlowInfo>,
+    pub loads: Vec<LoadInfo>,
+    pub stores: Vec<StoreInfo>,
+    pub calls: Vec<PlacedCall>,
+    pub casts: Vec<CastInfo>,
+    pub tests: Vec<TestInfo>,
+    pub accesses: Vec<AccessInfo>,
+    pub supers: Vec<SuperInfo>,
+    pub ties: Vec<TieInfo>,
+}
+
+/// The number of an operand's flow point.
+fn point_at(n: &Numbering, operand: &Operand) -> Option<u32>
+    ensures value { result ≡ point_at (numbers_seen n.now) operand.now }
+{
+    match operand.point {
+        Some(item) => n.point(item),
+        None => None,
+    }
+}
+
+/// The number of an operand's row.
+pub fn row_at(n: &Numbering, operand: &Operand) -> Option<u32>
+    ensures value { result ≡ row_at (numbers_seen n.now) operand.now }
+{
+    row_in(n, operand.row)
+}
+
+/// The number of a row.
+pub fn row_in(n: &Numbering, row: Option<RowItem>) -> Option<u32>
+    ensures value { result ≡ row_in (numbers_seen n.now) row }
+{
+    match row {
+        Some(item) => n.row(item),
+        None => None,
+    }
+}
+
+/// Adds a creation that flows into a point.
+fn add_created(
+    n: &Numbering,
+    operand: &Operand,
+    point: Option<u32>,
+    news: &mut Vec<NewInfo>,
+) -> Result<(), AllocError>
+    ensures value { OnOk result (news.new.items ≡ news.old.items ++ created (numbers_seen n.now) operand.now point) }
+{
+    let site = match operand.created {
+        Some(number) => n.site(number),
+        None => None,
+    };
+    if let (Some(point), Some(site)) = (point, site) {
+        news.push(NewInfo {
+            point,
+            site: SiteId(site),
+        })?;
+    }
+    Ok(())
+}
+
+/// Adds a point whose set goes into another's.
+fn add_moved(
+    from: Option<u32>,
+    to: Option<u32>,
+    flows: &mut Vec<FlowInfo>,
+) -> Result<(), AllocError>
+    ensures value { OnOk result (flows.new.items ≡ flows.old.items ++ moved from to) }
+{
+    if let (Some(from), Some(to)) = (from, to) {
+        flows.push(FlowInfo { from, to })?;
+    }
+    Ok(())
+}
+
+/// Adds a lower and an upper row.
+pub fn add_tied(
+    lower: Option<u32>,
+    upper: Option<u32>,
+    ties: &mut Vec<TieInfo>,
+) -> Result<(), AllocError>
+    ensures value { OnOk result (ties.new.items ≡ ties.old.items ++ tied lower upper) }
+{
+    if let (Some(lower), Some(upper)) = (lower, upper) {
+        ties.push(TieInfo {
+            lower: RowId(lower),
+            upper: RowId(upper),
+        })?;
+    }
+    Ok(())
+}
+
+/// Adds an access.
+fn add_accessed(
+    row: Option<u32>,
+    column: Option<u32>,
+    accesses: &mut Vec<AccessInfo>,
+) -> Result<(), AllocError>
+    ensures value { OnOk result (accesses.new.items ≡ accesses.old.items ++ accessed row column) }
+{
+    if let (Some(row), Some(column)) = (row, column) {
+        accesses.push(AccessInfo {
+            row: RowId(row),
+            column: ColId(column),
+        })?;
+    }
+    Ok(())
+}
+
+/// Adds the creations among the arguments of the one body of a call.
+fn add_created_args(
+    n: &Numbering,
+    callee: u64,
+    args: &Vec<Operand>,
+    news: &mut Vec<NewInfo>,
+) -> Result<(), AllocError>
+    ensures value { OnOk result (news.new.items ≡ news.old.items ++ created_args (numbers_seen n.now) callee args.now.items) }
+{
+    for (i, arg) in args.iter().enumerate() {
+        add_created(n, arg, n.point(PointItem::Local(callee, i as u64)), news)?;
+    }
+    Ok(())
+}
+
+/// Adds the flows of the arguments of the one body of a call.
+fn add_moved_args(
+    n: &Numbering,
+    callee: u64,
+    args: &Vec<Operand>,
+    flows: &mut Vec<FlowInfo>,
+) -> Result<(), AllocError>
+    ensures value { OnOk result (flows.new.items ≡ flows.old.items ++ moved_args (numbers_seen n.now) callee args.now.items) }
+{
+    for (i, arg) in args.iter().enumerate() {
+        add_moved(
+            point_at(n, arg),
+            n.point(PointItem::Local(callee, i as u64)),
+            flows,
+        )?;
+    }
+    Ok(())
+}
+
+/// Adds the creations that flow into points.
+fn add_news(n: &Numbering, m: u64, part: &Part, news: &mut Vec<NewInfo>) -> Result<(), AllocError>
+    ensures value { OnOk result (news.new.items ≡ news.old.items ++ news_of (numbers_seen n.now) m (part_seen part.now)) }
+{
+    match part {
+        Part::New(_, _, own) => {
+            add_created(n, own, point_at(n, own), news)?;
+            Ok(())
+        }
+        Part::Set(target, value) => {
+            add_created(n, value, point_at(n, target), news)?;
+            Ok(())
+        }
+        Part::Return(value) => {
+            add_created(n, value, n.point(PointItem::Result(m)), news)?;
+            Ok(())
+        }
+        Part::StaticCall(_, callee, args, _) => {
+            add_created_args(n, *callee as u64, args, news)?;
+            Ok(())
+        }
+        Part::SuperCall(_, Some(callee), args, _) => {
+            add_created_args(n, *callee as u64, args, news)?;
+            Ok(())
+        }
+        _ => Ok(()),
+    }
+}
+
+/// Adds the flows from point to point.
+fn add_flows(
+    n: &Numbering,
+    m: u64,
+    part: &Part,
+    flows: &mut Vec<FlowInfo>,
+) -> Result<(), AllocError>
+    ensures value { OnOk result (flows.new.items ≡ flows.old.items ++ flows_of (numbers_seen n.now) m (part_seen part.now)) }
+{
+    match part {
+        Part::Set(target, value) => {
+            add_moved(point_at(n, value), point_at(n, target), flows)?;
+            Ok(())
+        }
+        Part::Return(value) => {
+            add_moved(point_at(n, value), n.point(PointItem::Result(m)), flows)?;
+            Ok(())
+        }
+        Part::StaticCall(_, callee, args, own) => {
+            let callee = *callee as u64;
+            add_moved_args(n, callee, args, flows)?;
+            add_moved(n.point(PointItem::Result(callee)), point_at(n, own), flows)?;
+            Ok(())
+        }
+        Part::SuperCall(_, Some(callee), args, own) => {
+            let callee = *callee as u64;
+            add_moved_args(n, callee, args, flows)?;
+            add_moved(n.point(PointItem::Result(callee)), point_at(n, own), flows)?;
+            add_moved(
+                n.point(PointItem::This(m)),
+                n.point(PointItem::This(callee)),
+                flows,
+            )?;
+            Ok(())
+        }
+        _ => Ok(()),
+    }
+}
+
+/// Adds the reads of fields and elements.
+fn add_loads(n: &Numbering, part: &Part, loads: &mut Vec<LoadInfo>) -> Result<(), AllocError>
+    ensures value { OnOk result (loads.new.items ≡ loads.old.items ++ loads_of (numbers_seen n.now) (part_seen part.now)) }
+{
+    match part {
+        Part::Load(_, base, Some(field), own) => {
+            let column = n.column(ColumnItem::Fld(*field as u64));
+            if let (Some(base), Some(column), Some(into)) = (
+                point_at(n, base),
+                column,
+                point_at(n, own),
+            ) {
+                loads.push(LoadInfo {
+                    base,
+                    column: Some(ColId(column)),
+                    into,
+                })?;
+            }
+            Ok(())
+        }
+        Part::Element(_, base, own) => {
+            if let (Some(base), Some(into)) = (point_at(n, base), point_at(n, own)) {
+                loads.push(LoadInfo {
+                    base,
+                    column: None,
+                    into,
+                })?;
+            }
+            Ok(())
+        }
+        _ => Ok(()),
+    }
+}
+
+/// Adds the writes of fields and elements.
+fn add_stores(n: &Numbering, part: &Part, stores: &mut Vec<StoreInfo>) -> Result<(), AllocError>
+    ensures value { OnOk result (stores.new.items ≡ stores.old.items ++ stores_of (numbers_seen n.now) (part_seen part.now)) }
+{
+    match part {
+        Part::Store(place, base, Some(field), value) => {
+            let column = n.column(ColumnItem::Fld(*field as u64));
+            if let (Some(base), Some(column), Some(value)) = (
+                point_at(n, base),
+                column,
+                point_at(n, value),
+            ) {
+                let column = Some(ColId(column));
+                stores.push(StoreInfo {
+                    base,
+                    column,
+                    value,
+                    place: *place,
+                })?;
+            }
+            Ok(())
+        }
+        Part::ElementStore(place, base, value) => {
+            if let (Some(base), Some(value)) = (point_at(n, base), point_at(n, value)) {
+                stores.push(StoreInfo {
+                    base,
+                    column: None,
+                    value,
+                    place: *place,
+                })?;
+            }
+            Ok(())
+        }
+        _ => Ok(()),
+    }
+}
+
+/// The flow points of operands.
+fn points_at(
+    alloc: Global,
+    n: &Numbering,
+    operands: &Vec<Operand>,
+) -> Result<Vec<Option<u32>>, AllocError>
+    ensures value { IfOk result (λ v. v.items ≡ map (point_at (numbers_seen n.now)) operands.now.items) }
+{
+    let mut points = Vec::new(alloc);
+    for operand in operands {
+        points.push(point_at(n, operand))?;
+    }
+    Ok(points)
+}
+
+/// Adds the calls of instance methods.
+fn add_calls(
+    alloc: Global,
+    n: &Numbering,
+    part: &Part,
+    calls: &mut Vec<PlacedCall>,
+) -> Result<(), AllocError>
+    ensures value { OnOk result (calls_seen calls.new.items ≡ calls_seen calls.old.items ++ calls_of (numbers_seen n.now) (part_seen part.now)) }
+{
+    match part {
+        Part::Call(place, base, Some(slot), _, args, own) => {
+            if let Some(receiver) = point_at(n, base) {
+                let args = points_at(alloc, n, args)?;
+                let result = point_at(n, own);
+                let call = CallInfo {
+                    receiver,
+                    slot: *slot,
+                    args,
+                    result,
+                };
+                calls.push(PlacedCall {
+                    place: *place,
+                    call,
+                })?;
+            }
+            Ok(())
+        }
+        _ => Ok(()),
+    }
+}
+
+/// Adds the casts and `instanceof`, as what passes them.
+fn add_casts(n: &Numbering, part: &Part, casts: &mut Vec<CastInfo>) -> Result<(), AllocError>
+    ensures value { OnOk result (casts.new.items ≡ casts.old.items ++ casts_of (numbers_seen n.now) (part_seen part.now)) }
+{
+    match part {
+        Part::Test(_, operand, own) => {
+            if let (Some(from), Some(into), Some(ty)) = (
+                point_at(n, operand),
+                point_at(n, own),
+                own.ty,
+            ) {
+                casts.push(CastInfo {
+                    from,
+                    into,
+                    class: ty.class,
+                })?;
+            }
+            Ok(())
+        }
+        _ => Ok(()),
+    }
+}
+
+/// Adds the casts and `instanceof`, as tests of a row.
+fn add_tests(n: &Numbering, part: &Part, tests: &mut Vec<TestInfo>) -> Result<(), AllocError>
+    ensures value { OnOk result (tests.new.items ≡ tests.old.items ++ tests_of (numbers_seen n.now) (part_seen part.now)) }
+{
+    match part {
+        Part::Test(place, operand, own) => {
+            if let (Some(from), Some(target), Some(ty)) = (
+                point_at(n, operand),
+                row_at(n, own),
+                own.ty,
+            ) {
+                let target = RowId(target);
+                tests.push(TestInfo {
+                    from,
+                    target,
+                    class: ty.class,
+                    place: *place,
+                })?;
+            }
+            Ok(())
+        }
+        _ => Ok(()),
+    }
+}
+
+/// Adds the accesses of fields, and the calls by the declaration found statically.
+fn add_accesses(
+    n: &Numbering,
+    part: &Part,
+    accesses: &mut Vec<AccessInfo>,
+) -> Result<(), AllocError>
+    ensures value { OnOk result (accesses.new.items ≡ accesses.old.items ++ accesses_of (numbers_seen n.now) (part_seen part.now)) }
+{
+    match part {
+        Part::Load(_, base, Some(field), _) | Part::Store(_, base, Some(field), _) => {
+            let column = n.column(ColumnItem::Fld(*field as u64));
+            add_accessed(row_at(n, base), column, accesses)?;
+            Ok(())
+        }
+        Part::Call(_, base, _, Some(declaration), _, _) => {
+            let column = n.column(ColumnItem::Dcl(*declaration as u64));
+            add_accessed(row_at(n, base), column, accesses)?;
+            Ok(())
+        }
+        _ => Ok(()),
+    }
+}
+
+/// Adds the super calls, as the `this` of the caller and the body that runs.
+fn add_supers(
+    n: &Numbering,
+    m: u64,
+    part: &Part,
+    supers: &mut Vec<SuperInfo>,
+) -> Result<(), AllocError>
+    ensures value { OnOk result (supers.new.items ≡ supers.old.items ++ supers_of (numbers_seen n.now) m (part_seen part.now)) }
+{
+    match part {
+        Part::SuperCall(_, Some(callee), _, _) => {
+            let row = n.row(RowItem::This(m));
+            let column = n.column(ColumnItem::Def(*callee as u64));
+            if let (Some(row), Some(column)) = (row, column) {
+                supers.push(SuperInfo {
+                    row: RowId(row),
+                    column: ColId(column),
+                })?;
+            }
+            Ok(())
+        }
+        _ => Ok(()),
+    }
+}
+
+/// Adds what a part of a method's body gives. The slot is the method's.
+fn add_part(
+    alloc: Global,
+    program: &Program,
+    n: &Numbering,
+    m: u64,
+    slot: Option<u32>,
+    part: &Part,
+    lists: &mut Lists,
+) -> Result<(), AllocError>
+    requires { IsFormed (program_of no_place program.now) }
+    ensures news { OnOk result (lists.new.news.items ≡ lists.old.news.items ++ news_of (numbers_seen n.now) m (part_seen part.now)) }
+    ensures flows { OnOk result (lists.new.flows.items ≡ lists.old.flows.items ++ flows_of (numbers_seen n.now) m (part_seen part.now)) }
+    ensures loads { OnOk result (lists.new.loads.items ≡ lists.old.loads.items ++ loads_of (numbers_seen n.now) (part_seen part.now)) }
+    ensures stores { OnOk result (lists.new.stores.items ≡ lists.old.stores.items ++ stores_of (numbers_seen n.now) (part_seen part.now)) }
+    ensures casts { OnOk result (lists.new.casts.items ≡ lists.old.casts.items ++ casts_of (numbers_seen n.now) (part_seen part.now)) }
+    ensures tests { OnOk result (lists.new.tests.items ≡ lists.old.tests.items ++ tests_of (numbers_seen n.now) (part_seen part.now)) }
+    ensures accesses { OnOk result (lists.new.accesses.items ≡ lists.old.accesses.items ++ accesses_of (numbers_seen n.now) (part_seen part.now)) }
+    ensures supers { OnOk result (lists.new.supers.items ≡ lists.old.supers.items ++ supers_of (numbers_seen n.now) m (part_seen part.now)) }
+    ensures ties { OnOk result (lists.new.ties.items ≡ lists.old.ties.items ++ ties_of (numbers_seen n.now) (program_of no_place program.now) m slot (part_seen part.now)) }
+    ensures calls { OnOk result (calls_seen lists.new.calls.items ≡ calls_seen lists.old.calls.items ++ calls_of (numbers_seen n.now) (part_seen part.now)) }
+{
+    add_news(n, m, part, &mut lists.news)?;
+    add_flows(n, m, part, &mut lists.flows)?;
+    add_loads(n, part, &mut lists.loads)?;
+    add_stores(n, part, &mut lists.stores)?;
+    add_calls(alloc, n, part, &mut lists.calls)?;
+    add_casts(n, part, &mut lists.casts)?;
+    add_tests(n, part, &mut lists.tests)?;
+    add_accesses(n, part, &mut lists.accesses)?;
+    add_supers(n, m, part, &mut lists.supers)?;
+    add_ties(program, n, m, slot, part, &mut lists.ties)?;
+    Ok(())
+}
+
+/// Adds what the parts of a method's body give. The slot is the method's.
+fn add_parts(
+    alloc: Global,
+    program: &Program,
+    n: &Numbering,
+    m: u64,
+    slot: Option<u32>,
+    parts: &Vec<Part>,
+    lists: &mut Lists,
+) -> Result<(), AllocError>
+    requires { IsFormed (program_of no_place program.now) }
+    ensures news { OnOk result (lists.new.news.items ≡ lists.old.news.items ++ flat_map (news_of (numbers_seen n.now) m) (parts_seen parts.now.items)) }
+    ensures flows { OnOk result (lists.new.flows.items ≡ lists.old.flows.items ++ flat_map (flows_of (numbers_seen n.now) m) (parts_seen parts.now.items)) }
+    ensures loads { OnOk result (lists.new.loads.items ≡ lists.old.loads.items ++ flat_map (loads_of (numbers_seen n.now)) (parts_seen parts.now.items)) }
+    ensures stores { OnOk result (lists.new.stores.items ≡ lists.old.stores.items ++ flat_map (stores_of (numbers_seen n.now)) (parts_seen parts.now.items)) }
+    ensures casts { OnOk result (lists.new.casts.items ≡ lists.old.casts.items ++ flat_map (casts_of (numbers_seen n.now)) (parts_seen parts.now.items)) }
+    ensures tests { OnOk result (lists.new.tests.items ≡ lists.old.tests.items ++ flat_map (tests_of (numbers_seen n.now)) (parts_seen parts.now.items)) }
+    ensures accesses { OnOk result (lists.new.accesses.items ≡ lists.old.accesses.items ++ flat_map (accesses_of (numbers_seen n.now)) (parts_seen parts.now.items)) }
+    ensures supers { OnOk result (lists.new.supers.items ≡ lists.old.supers.items ++ flat_map (supers_of (numbers_seen n.now) m) (parts_seen parts.now.items)) }
+    ensures ties { OnOk result (lists.new.ties.items ≡ lists.old.ties.items ++ flat_map (ties_of (numbers_seen n.now) (program_of no_place program.now) m slot) (parts_seen parts.now.items)) }
+    ensures calls { OnOk result (calls_seen lists.new.calls.items ≡ calls_seen lists.old.calls.items ++ flat_map (calls_of (numbers_seen n.now)) (parts_seen parts.now.items)) }
+{
+    for part in parts {
+        add_part(alloc, program, n, m, slot, part, lists)?;
+    }
+    Ok(())
+}
+
+/// What the parts of all bodies give.
+pub fn gather(
+    alloc: Global,
+    program: &Program,
+    n: &Numbering,
+    bodies: &Vec<Body>,
+) -> Result<Lists, AllocError>
+    requires { IsFormed (program_of no_place program.now) }
+    ensures news { IfOk result (λ l. l.news.items ≡ flat_map (λ b. flat_map (news_of (numbers_seen n.now) b.number) b.parts) (map body_seen bodies.now.items)) }
+    ensures flows { IfOk result (λ l. l.flows.items ≡ flat_map (λ b. flat_map (flows_of (numbers_seen n.now) b.number) b.parts) (map body_seen bodies.now.items)) }
+    ensures loads { IfOk result (λ l. l.loads.items ≡ flat_map (λ b. flat_map (loads_of (numbers_seen n.now)) b.parts) (map body_seen bodies.now.items)) }
+    ensures stores { IfOk result (λ l. l.stores.items ≡ flat_map (λ b. flat_map (stores_of (numbers_seen n.now)) b.parts) (map body_seen bodies.now.items)) }
+    ensures casts { IfOk result (λ l. l.casts.items ≡ flat_map (λ b. flat_map (casts_of (numbers_seen n.now)) b.parts) (map body_seen bodies.now.items)) }
+    ensures tests { IfOk result (λ l. l.tests.items ≡ flat_map (λ b. flat_map (tests_of (numbers_seen n.now)) b.parts) (map body_seen bodies.now.items)) }
+    ensures accesses { IfOk result (λ l. l.accesses.items ≡ flat_map (λ b. flat_map (accesses_of (numbers_seen n.now)) b.parts) (map body_seen bodies.now.items)) }
+    ensures supers { IfOk result (λ l. l.supers.items ≡ flat_map (λ b. flat_map (supers_of (numbers_seen n.now) b.number) b.parts) (map body_seen bodies.now.items)) }
+    ensures ties { IfOk result (λ l. l.ties.items ≡ flat_map (λ b. flat_map (ties_of (numbers_seen n.now) (program_of no_place program.now) b.number b.slot) b.parts) (map body_seen bodies.now.items)) }
+    ensures calls { IfOk result (λ l. calls_seen l.calls.items ≡ flat_map (λ b. flat_map (calls_of (numbers_seen n.now)) b.parts) (map body_seen bodies.now.items)) }
+{
+    let mut lists = Lists {
+        news: Vec::new(alloc),
+        flows: Vec::new(alloc),
+        loads: Vec::new(alloc),
+        stores: Vec::new(alloc),
+        calls: Vec::new(alloc),
+        casts: Vec::new(alloc),
+        tests: Vec::new(alloc),
+        accesses: Vec::new(alloc),
+        supers: Vec::new(alloc),
+        ties: Vec::new(alloc),
+    };
+    for body in bodies {
+        add_parts(
+            alloc,
+            program,
+            n,
+            body.number,
+            body.slot,
+            &body.parts,
+            &mut lists,
+        )?;
+    }
+    Ok(lists)
 }

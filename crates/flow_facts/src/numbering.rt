@@ -1,8 +1,49 @@
 //! The numbers of rows, columns, sites and flow points.
-ghost use Rattle.std.specs.Prelude.{◌<◌, length};
 
-use crate::items::{ColumnItem, PointItem, RowItem};
+ghost use Rattle.std.specs.Prelude.{◌≡◌, ◌<◌, ◌++◌, true, IfOk, IfSome, OnOk, length, map, nat_eq};
+ghost use Rattle.std.specs.List.{flat_map};
+ghost use Rattle.flow_facts.specs.Numbered.{number_among, same_row, same_column, same_point, form_sites, listed};
+ghost use Rattle.flow_facts.specs.Parts as plain;
+ghost use Rattle.flow_facts.specs.Views.{part_seen, parts_seen, body_seen, outline_seen};
+
+use crate::items::{
+    Body, ColumnItem, Operand, Outline, Part, Point, PointAt, PointItem, RowItem, Site,
+};
 use indexmap::IndexSet;
+use kaba_base::Place;
+use std::alloc::{AllocError, Global};
+
+/// Where an item stands among the rows.
+fn place_of_row(rows: &IndexSet<RowItem>, item: RowItem) -> Option<usize>
+    ensures value { result ≡ number_among same_row rows.now.keys item }
+    ensures within { IfSome result (λ i. i < length rows.now.keys) }
+{
+    rows.get_index_of(&item)
+}
+
+/// Where an item stands among the columns.
+fn place_of_column(columns: &IndexSet<ColumnItem>, item: ColumnItem) -> Option<usize>
+    ensures value { result ≡ number_among same_column columns.now.keys item }
+    ensures within { IfSome result (λ i. i < length columns.now.keys) }
+{
+    columns.get_index_of(&item)
+}
+
+/// Where a creation stands among the sites.
+fn place_of_site(sites: &IndexSet<u64>, creation: u64) -> Option<usize>
+    ensures value { result ≡ number_among nat_eq sites.now.keys creation }
+    ensures within { IfSome result (λ i. i < length sites.now.keys) }
+{
+    sites.get_index_of(&creation)
+}
+
+/// Where an item stands among the flow points.
+fn place_of_point(points: &IndexSet<PointItem>, item: PointItem) -> Option<usize>
+    ensures value { result ≡ number_among same_point points.now.keys item }
+    ensures within { IfSome result (λ i. i < length points.now.keys) }
+{
+    points.get_index_of(&item)
+}
 
 /// The items of the rows, the columns and the flow points, and the numbers of the creations that are sites, each in their order.
 #[derive(Drop)]
@@ -15,4 +56,182 @@ pub struct Numbering {
     ghost few_columns: { length columns.keys < 4294967295 },
     ghost few_sites: { length sites.keys < 4294967295 },
     ghost few_points: { length points.keys < 4294967295 },
+}
+
+impl Numbering {
+    /// The number of a row.
+    pub fn row(&self, item: RowItem) -> Option<u32>
+        ensures value { result ≡ number_among same_row self.now.rows.keys item }
+    {
+        number_of_row(&self.rows, item)
+    }
+
+    /// The number of a column.
+    pub fn column(&self, item: ColumnItem) -> Option<u32>
+        ensures value { result ≡ number_among same_column self.now.columns.keys item }
+    {
+        match place_of_column(&self.columns, item) {
+            Some(number) => Some(number as u32),
+            None => None,
+        }
+    }
+
+    /// The number of the site of a creation.
+    pub fn site(&self, creation: u64) -> Option<u32>
+        ensures value { result ≡ number_among nat_eq self.now.sites.keys creation }
+    {
+        match place_of_site(&self.sites, creation) {
+            Some(number) => Some(number as u32),
+            None => None,
+        }
+    }
+
+    /// The number of a flow point.
+    pub fn point(&self, item: PointItem) -> Option<u32>
+        ensures value { result ≡ number_among same_point self.now.points.keys item }
+    {
+        match place_of_point(&self.points, item) {
+            Some(number) => Some(number as u32),
+            None => None,
+        }
+    }
+}
+
+/// The number of a row.
+pub fn number_of_row(rows: &IndexSet<RowItem>, item: RowItem) -> Option<u32>
+    requires { length rows.now.keys < 4294967295 }
+    ensures value { result ≡ number_among same_row rows.now.keys item }
+{
+    match place_of_row(rows, item) {
+        Some(number) => Some(number as u32),
+        None => None,
+    }
+}
+
+/// Adds the site of a creation.
+fn add_site(
+    rows: &IndexSet<RowItem>,
+    place: Place,
+    own: &Operand,
+    sites: &mut Vec<Site>,
+) -> Result<(), AllocError>
+    requires { length rows.now.keys < 4294967295 }
+    ensures value { OnOk result (sites.new.items ≡ sites.old.items ++ form_sites (number_among same_row rows.now.keys) (plain.a_creation place true own.now)) }
+{
+    let row = match own.row {
+        Some(item) => number_of_row(rows, item),
+        None => None,
+    };
+    if let (Some(number), Some(ty), Some(row)) = (own.created, own.ty, row) {
+        sites.push(Site {
+            number,
+            place,
+            ty,
+            row,
+        })?;
+    }
+    Ok(())
+}
+
+/// Adds the site of a part.
+fn add_part_site(
+    rows: &IndexSet<RowItem>,
+    part: &Part,
+    sites: &mut Vec<Site>,
+) -> Result<(), AllocError>
+    requires { length rows.now.keys < 4294967295 }
+    ensures value { OnOk result (sites.new.items ≡ sites.old.items ++ form_sites (number_among same_row rows.now.keys) (part_seen part.now)) }
+{
+    match part {
+        Part::New(place, _, own) => {
+            add_site(rows, *place, own, sites)?;
+            Ok(())
+        }
+        _ => Ok(()),
+    }
+}
+
+/// Adds the sites of the creations of a body.
+fn add_sites(
+    rows: &IndexSet<RowItem>,
+    parts: &Vec<Part>,
+    sites: &mut Vec<Site>,
+) -> Result<(), AllocError>
+    requires { length rows.now.keys < 4294967295 }
+    ensures value { OnOk result (sites.new.items ≡ sites.old.items ++ flat_map (form_sites (number_among same_row rows.now.keys)) (parts_seen parts.now.items)) }
+{
+    for part in parts {
+        add_part_site(rows, part, sites)?;
+    }
+    Ok(())
+}
+
+/// The sites of the creations of all bodies.
+pub fn all_sites(
+    alloc: Global,
+    rows: &IndexSet<RowItem>,
+    bodies: &Vec<Body>,
+) -> Result<Vec<Site>, AllocError>
+    requires { length rows.now.keys < 4294967295 }
+    ensures value { IfOk result (λ v. v.items ≡ flat_map (λ b. flat_map (form_sites (number_among same_row rows.now.keys)) b.parts) (map body_seen bodies.now.items)) }
+{
+    let mut sites = Vec::new(alloc);
+    for body in bodies {
+        add_sites(rows, &body.parts, &mut sites)?;
+    }
+    Ok(sites)
+}
+
+/// Adds a flow point that has a row.
+fn add_point(
+    rows: &IndexSet<RowItem>,
+    point: &PointAt,
+    into: &mut Vec<Point>,
+) -> Result<(), AllocError>
+    requires { length rows.now.keys < 4294967295 }
+    ensures value { OnOk result (into.new.items ≡ into.old.items ++ listed (number_among same_row rows.now.keys) point.now) }
+{
+    match number_of_row(rows, point.row) {
+        Some(row) => {
+            into.push(Point {
+                item: point.item,
+                row,
+            })?;
+            Ok(())
+        }
+        None => Ok(()),
+    }
+}
+
+/// Adds those that have a row.
+fn add_listed(
+    rows: &IndexSet<RowItem>,
+    points: &Vec<PointAt>,
+    into: &mut Vec<Point>,
+) -> Result<(), AllocError>
+    requires { length rows.now.keys < 4294967295 }
+    ensures value { OnOk result (into.new.items ≡ into.old.items ++ flat_map (listed (number_among same_row rows.now.keys)) points.now.items) }
+{
+    for point in points {
+        add_point(rows, point, into)?;
+    }
+    Ok(())
+}
+
+/// The flow points: those of the static fields, and then those of the bodies.
+pub fn all_points(
+    alloc: Global,
+    rows: &IndexSet<RowItem>,
+    statics: &Vec<PointAt>,
+    outlines: &Vec<Outline>,
+) -> Result<Vec<Point>, AllocError>
+    requires { length rows.now.keys < 4294967295 }
+    ensures value { IfOk result (λ v. v.items ≡ flat_map (listed (number_among same_row rows.now.keys)) statics.now.items ++ flat_map (λ o. flat_map (listed (number_among same_row rows.now.keys)) o.points) (map outline_seen outlines.now.items)) }
+{
+    let mut points = Vec::new(alloc);
+    add_listed(rows, statics, &mut points)?;
+    for outline in outlines {
+        add_listed(rows, &outline.points, &mut points)?;
+    }
+    Ok(points)
 }

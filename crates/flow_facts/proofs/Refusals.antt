@@ -1,0 +1,46 @@
+-- A list that was counted, and what there is too much of.
+use Rattle.std.proofs.Common.{◌≡◌, ℕ, ◌+◌, ◌<◌, ◌≤◌, List, length, ap, ◌∙◌, subst, arith, map, sym, Result}
+use Rattle.std.specs.Prelude.{Some, None}
+use Rattle.std.specs.Result.{IsErrAnd, IfErr}
+use Rattle.std.proofs.lemmas.List.{length-map}
+use Rattle.std.proofs.lemmas.Result.{err_from_is_err_and}
+use Rattle.java_core.specs.Programs.{Plain}
+use Rattle.fact_model.specs.declared.facts.CellInfo.{CellInfo}
+use Rattle.flow_facts.specs.declared.top.Counted.{Counted}
+use Rattle.flow_facts.specs.declared.top.Counted.TheVariants as counted_as
+use Rattle.flow_facts.specs.Numbered.{rows_of, columns_of, sites_of, points_of}
+use Rattle.flow_facts.specs.declared.top.FactsFault.{FactsFault}
+use Rattle.flow_facts.specs.declared.top.FactsFault.TheVariants as fault
+use Rattle.flow_facts.specs.Facts.{too_many, IsOver, cells_of}
+use Rattle.flow_facts.proofs.Counts.{over_as, over_points, none_over}
+
+module _ {A : Type 0} {n : ℕ} {xs ys : List A} where
+  pub counted : n ≡ length xs → xs ≡ ys → n ≡ length ys
+  counted h e = h ∙ ap length e
+
+  pub at_most : {limit : ℕ} → n ≡ length xs → xs ≡ ys → n ≤ limit → length ys ≤ limit
+  at_most {limit = limit} h e l = subst (λ k. k ≤ limit) (counted h e) l
+
+  pub refused : (P Q : Plain) (limit : ℕ) (what : Counted) (e : FactsFault) → n ≡ length xs → xs ≡ ys → (limit < n) × (e ≡ fault.TooMany what (limit + 1))
+      → (limit < length ys → too_many P Q ≡ Some (record { what = what; number = limit + 1 })) → IsOver P Q e
+  refused P Q limit what e h s o f = over_as P Q e what (limit + 1) o.1 (f (subst (λ k. limit < k) (counted h s) o.0))
+
+pub too_many_points : (P Q : Plain) → length (rows_of P Q) ≤ 16384 → length (columns_of P Q) ≤ 8192 → length (sites_of P Q) ≤ 8192 → 65536 < length (points_of P Q)
+    → too_many P Q ≡ Some (record { what = counted_as.Points; number = 65537 })
+too_many_points P Q r c s h = over_points P Q r c s (omega (arith, h))
+
+-- the cells beside the flow points
+module _ (P Q : Plain) (r : length (rows_of P Q) ≤ 16384) (c : length (columns_of P Q) ≤ 8192) (s : length (sites_of P Q) ≤ 8192) {most : ℕ} (p : length (points_of P Q) + most ≡ 65536) {xs : List CellInfo} (e : xs ≡ cells_of P Q) where
+  pub too_many_cells : most < length xs → IsOver P Q (fault.TooMany counted_as.Points 65537)
+  too_many_cells h = let k : most < length (cells_of P Q) = subst (λ l. most < length l) e h in over_points P Q r c s (omega (arith, k, p))
+
+  pub all_counted : length xs ≤ most → too_many P Q ≡ None
+  all_counted h = let k : length (cells_of P Q) ≤ most = subst (λ l. length l ≤ most) e h in none_over P Q r c s (omega (arith, k, p))
+
+-- the numbers of a list's keys fit
+pub few : {A K : Type 0} (f : A → K) (keys : List K) (xs : List A) (n : ℕ) → keys ≡ map f xs → length xs ≤ n → n ≤ 65536 → length keys < 4294967295
+few f keys xs n e h l = let k : length keys ≡ length xs = ap length e ∙ length-map xs f in omega (arith, k, h, l)
+
+-- what a failed call refuses is refused
+pub passed : {T : Type 0} (P Q : Plain) (r : Result T FactsFault) (e : FactsFault) → IsErrAnd r (λ y. y ≡ e) → IsOver P Q e → IfErr r (IsOver P Q)
+passed P Q r e h o = let q = err_from_is_err_and r h in rw q.1 (subst (IsOver P Q) (sym q.2) o)

@@ -1,0 +1,66 @@
+-- What is said of the numbered rows, columns, sites, points and bodies of a program is what its facts say.
+use Rattle.std.proofs.Common.{◌≡◌, ℕ, ◌<◌, ◌≤◌, List, length, map, sym, ap, ◌∙◌, subst, arith, Result}
+use Rattle.std.specs.Result.{IsErrAnd, IfOk}
+use Rattle.std.proofs.lemmas.Result.{err_from_is_err_and}
+use Rattle.std.specs.List.{flat_map}
+use Rattle.java_core.specs.Programs.{Plain}
+use Rattle.fact_model.specs.declared.facts.RowInfo.{RowInfo}
+use Rattle.fact_model.specs.declared.facts.ColumnInfo.{ColumnInfo}
+use Rattle.fact_model.specs.declared.facts.SiteInfo.{SiteInfo}
+use Rattle.fact_model.specs.declared.facts.BodyInfo.{BodyInfo}
+use Rattle.fact_model.specs.declared.facts.TestInfo.{TestInfo}
+use Rattle.fact_model.specs.declared.facts.CallInfo.{CallInfo}
+use Rattle.kaba_base.specs.declared.RowId.{RowId}
+use Rattle.flow_facts.specs.declared.lists.PlacedCall.{PlacedCall}
+use Rattle.flow_facts.specs.declared.top.Numbered.{Numbered}
+use Rattle.flow_facts.specs.Ordered.{by_place, each}
+use Rattle.flow_facts.specs.Parts.{Part}
+use Rattle.flow_facts.specs.Numbered as numbered
+use Rattle.flow_facts.specs.Lists.{Numbers, calls_of, tests_of}
+use Rattle.flow_facts.specs.Facts.{numbers, gathered, row_info, column_info, site_info, column_body, call_seen, IsSameSet, body_seen as plain_body}
+use Rattle.flow_facts.specs.Views.{body_seen}
+use Rattle.flow_facts.specs.Seen.{numbers_seen, calls_seen}
+use Rattle.flow_facts.specs.Stages.{IsNumbered}
+use Rattle.flow_facts.proofs.Along.{same_set}
+
+-- a failed call gives nothing
+pub none_given : {T E : Type 0} (r : Result T E) (e : E) (p : T → Type 0) → IsErrAnd r (λ y. y ≡ e) → IfOk r p
+none_given r e p h = let q = err_from_is_err_and r h in rw q.1 tt
+
+module _ (P Q : Plain) (d : Numbered) (n : IsNumbered P Q d) where
+  pub few_columns : length d.columns.items < 4294967295
+  few_columns = let k : length d.columns.items ≤ 8192 = subst (λ l. length l ≤ 8192) (sym n.columns) n.few in omega (arith, k)
+
+  pub rows_whole : (xs : List RowInfo) → xs ≡ map (row_info (numbers_seen d.numbering) Q) d.rows.items → xs ≡ map (row_info (numbers P Q) Q) (numbered.rows_of P Q)
+  rows_whole xs e = e ∙ ap (λ N. map (row_info N Q) d.rows.items) n.numbers ∙ ap (map (row_info (numbers P Q) Q)) n.rows
+
+  pub columns_whole : (xs : List ColumnInfo) → xs ≡ map (λ c. column_info Q c.item) d.columns.items → xs ≡ map (λ c. column_info Q c.item) (numbered.columns_of P Q)
+  columns_whole xs e = e ∙ ap (map (λ c. column_info Q c.item)) n.columns
+
+  pub sites_whole : (xs : List SiteInfo) → xs ≡ map site_info d.sites.items → xs ≡ map site_info (numbered.sites_of P Q)
+  sites_whole xs e = e ∙ ap (map site_info) n.sites
+
+  pub points_whole : (xs : List RowId) → xs ≡ map (λ p. record { 0 = p.row }) d.points.items → xs ≡ map (λ p. record { 0 = p.row }) (numbered.points_of P Q)
+  points_whole xs e = e ∙ ap (map (λ p. record { 0 = p.row })) n.points
+
+  pub bodies_whole : (xs : List BodyInfo) → map plain_body xs ≡ each (λ c k. column_body (numbers_seen d.numbering) Q c k.item) 0 d.columns.items
+      → map plain_body xs ≡ each (λ c k. column_body (numbers P Q) Q c k.item) 0 (numbered.columns_of P Q)
+  bodies_whole xs e = e ∙ ap (λ N. each (λ c k. column_body N Q c k.item) 0 d.columns.items) n.numbers ∙ ap (each (λ c k. column_body (numbers P Q) Q c k.item) 0) n.columns
+
+  -- what the parts of all bodies give
+  pub gathered_whole : {A : Type 0} (f : Numbers → numbered.Body → Part → List A) (xs : List A) → xs ≡ flat_map (λ b. flat_map (f (numbers_seen d.numbering) b) b.parts) (map body_seen d.bodies.items)
+      → xs ≡ gathered P Q (f (numbers P Q))
+  gathered_whole f xs e =
+      e ∙ ap (λ N. flat_map (λ b. flat_map (f N b) b.parts) (map body_seen d.bodies.items)) n.numbers ∙ ap (flat_map (λ b. flat_map (f (numbers P Q) b) b.parts)) n.bodies
+
+  pub set_whole : {A : Type 0} (f : Numbers → numbered.Body → Part → List A) (xs : List A) → xs ≡ flat_map (λ b. flat_map (f (numbers_seen d.numbering) b) b.parts) (map body_seen d.bodies.items)
+      → IsSameSet xs (gathered P Q (f (numbers P Q)))
+  set_whole f xs e = same_set (gathered_whole f xs e)
+
+  pub calls_whole : (xs : List PlacedCall) (ys : List CallInfo) → calls_seen xs ≡ flat_map (λ b. flat_map (calls_of (numbers_seen d.numbering)) b.parts) (map body_seen d.bodies.items)
+      → map call_seen ys ≡ map (λ c. c.item) (by_place (λ c. c.place.at) (calls_seen xs)) → map call_seen ys ≡ map (λ c. c.item) (by_place (λ c. c.place.at) (gathered P Q (λ b. calls_of (numbers P Q))))
+  calls_whole xs ys e h = h ∙ ap (λ l. map (λ c. c.item) (by_place (λ c. c.place.at) l)) (gathered_whole (λ N b. calls_of N) (calls_seen xs) e)
+
+  pub tests_whole : (xs ys : List TestInfo) → xs ≡ flat_map (λ b. flat_map (tests_of (numbers_seen d.numbering)) b.parts) (map body_seen d.bodies.items) → ys ≡ by_place (λ t. t.place.at) xs
+      → ys ≡ by_place (λ t. t.place.at) (gathered P Q (λ b. tests_of (numbers P Q)))
+  tests_whole xs ys e h = h ∙ ap (by_place (λ t. t.place.at)) (gathered_whole (λ N b. tests_of N) xs e)

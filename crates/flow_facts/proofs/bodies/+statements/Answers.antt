@@ -1,0 +1,76 @@
+use Rattle.std.proofs.Common.{rules, arith, ◌≡◌, ◌++◌, length, sym, ap, ◌∙◌}
+use Rattle.std.proofs.lemmas.List.{append-nil}
+use Rattle.java_core.specs.Trees.{at_place, no_place, local, expr_of, stmt_of, stmts, else_seen, step_seen, value_of}
+use Rattle.java_core.specs.Programs.{program_of, method_seen}
+use Rattle.java_core.proofs.Rows.{if_as, for_as}
+use Rattle.flow_facts.specs.Labels.{label_sts, size_sts}
+use Rattle.flow_facts.specs.Parts.{parts_sts}
+use Rattle.flow_facts.specs.Types.{object_type}
+use Rattle.flow_facts.specs.Views.{parts_seen}
+use Rattle.flow_facts.proofs.Forms.{block_form, while_form}
+use Rattle.flow_facts.proofs.Composed.{loop_parts, while_parts}
+use Rattle.flow_facts.proofs.bodies.+statements.Goals as goal
+
+pub walk_stmt-returns-in_ok-walk_local-in-Local-clause-parts : goal.walk_stmt-returns-in_ok-walk_local-in-Local-clause-parts
+walk_stmt-returns-in_ok-walk_local-in-Local-clause-parts t c = let form = ap (stmt_of at_place) c.in-Local.is in rw form (c.in_ok-walk_local-in-Local.ensures.parts (at_place c.in-Local.place))
+
+pub walk_stmt-returns-in_ok-walk_stmts-in-Block-clause-grown : goal.walk_stmt-returns-in_ok-walk_stmts-in-Block-clause-grown
+walk_stmt-returns-in_ok-walk_stmts-in-Block-clause-grown t c = let form = block_form _ _ _ c.in-Block.is in rw form c.in_ok-walk_stmts-in-Block.ensures.grown
+
+pub walk_stmt-returns-in_ok-walk_stmts-in-Block-clause-parts : goal.walk_stmt-returns-in_ok-walk_stmts-in-Block-clause-parts
+walk_stmt-returns-in_ok-walk_stmts-in-Block-clause-parts t c = let form = block_form _ _ _ c.in-Block.is in rw form c.in_ok-walk_stmts-in-Block.ensures.parts
+
+pub walk_stmt-returns-in_ok-walk_stmts-in-While-clause-grown : goal.walk_stmt-returns-in_ok-walk_stmts-in-While-clause-grown
+walk_stmt-returns-in_ok-walk_stmts-in-While-clause-grown t c =
+    let form = while_form _ _ _ _ c.in-While.is in rw form (omega (arith, c.in_ok-walk-in-While.ensures.grown, c.in_ok-walk_stmts-in-While.ensures.grown))
+
+pub walk_stmt-returns-in_ok-walk_stmts-in-While-clause-parts : goal.walk_stmt-returns-in_ok-walk_stmts-in-While-clause-parts
+walk_stmt-returns-in_ok-walk_stmts-in-While-clause-parts t c =
+    let form = while_form _ _ _ _ c.in-While.is in
+    rw form (while_parts (program_of no_place c.args.program.now) c.args.m (method_seen at_place c.args.method.now) (at_place c.in-While.place) (expr_of at_place c.in-While.test) (stmts at_place c.in-While.body.items) (parts_seen c.args.parts.now.items) _ _ (length c.args.parts.now.items) _
+    c.in_ok-walk-in-While.ensures.parts c.in_ok-walk-in-While.ensures.grown c.in_ok-walk_stmts-in-While.ensures.parts)
+
+pub walk_stmt-returns-in_ok-walk_stmts-in-For-clause-grown : goal.walk_stmt-returns-in_ok-walk_stmts-in-For-clause-grown
+walk_stmt-returns-in_ok-walk_stmts-in-For-clause-grown t c =
+    let form = ap (stmt_of at_place) c.in-For.is ∙ for_as at_place c.in-For.first c.in-For.test c.in-For.step c.in-For.body c.in-For.place in
+    rw form (omega (arith, c.in_ok-walk_step-in-For.ensures.grown, c.in_ok-walk_value-in-For.ensures.grown, c.in_ok-walk_step-in-For-2.ensures.grown, c.in_ok-walk_stmts-in-For.ensures.grown))
+
+pub walk_stmt-returns-in_ok-walk_stmts-in-For-clause-parts : goal.walk_stmt-returns-in_ok-walk_stmts-in-For-clause-parts
+walk_stmt-returns-in_ok-walk_stmts-in-For-clause-parts t c =
+    let form = ap (stmt_of at_place) c.in-For.is ∙ for_as at_place c.in-For.first c.in-For.test c.in-For.step c.in-For.body c.in-For.place in
+    rw form (loop_parts (program_of no_place c.args.program.now) c.args.m (method_seen at_place c.args.method.now) (at_place c.in-For.place) (step_seen at_place c.in-For.first) (value_of at_place c.in-For.test) (step_seen at_place c.in-For.step) (stmts at_place c.in-For.body.items)
+    (parts_seen c.args.parts.now.items) _ _ _ _ (length c.args.parts.now.items) _ _ _
+    c.in_ok-walk_step-in-For.ensures.parts c.in_ok-walk_step-in-For.ensures.grown c.in_ok-walk_value-in-For.ensures.parts c.in_ok-walk_value-in-For.ensures.grown
+    c.in_ok-walk_step-in-For-2.ensures.parts c.in_ok-walk_step-in-For-2.ensures.grown c.in_ok-walk_stmts-in-For.ensures.parts)
+
+pub walk_stmt-returns-in_ok-walk_stmts-in-Some-clause-grown : goal.walk_stmt-returns-in_ok-walk_stmts-in-Some-clause-grown
+walk_stmt-returns-in_ok-walk_stmts-in-Some-clause-grown t c =
+    let form = ap (stmt_of at_place) c.in-If.is ∙ if_as at_place c.in-If.arms c.in-If.other c.in-If.place in
+    let same = ap (λ o. size_sts (else_seen at_place o)) c.in-Some.is in
+    rw form (omega (arith, same, c.in_ok-walk_arms-in-If.ensures.grown, c.in_ok-walk_stmts-in-Some.ensures.grown))
+
+pub walk_stmt-returns-in_ok-walk_stmts-in-Some-clause-parts : goal.walk_stmt-returns-in_ok-walk_stmts-in-Some-clause-parts
+walk_stmt-returns-in_ok-walk_stmts-in-Some-clause-parts t c =
+    let P = program_of no_place c.args.program.now in
+    let K = method_seen at_place c.args.method.now in
+    let form = ap (stmt_of at_place) c.in-If.is ∙ if_as at_place c.in-If.arms c.in-If.other c.in-If.place in
+    let all = c.in_ok-walk_stmts-in-Some.ensures.parts
+    ∙ ap (λ o. parts_seen c.walk_arms.new.parts.items ++ parts_sts P (object_type P K) c.args.m K (label_sts (length c.walk_arms.new.parts.items) (else_seen at_place o))) (sym c.in-Some.is)
+    ∙ c.in_ok-walk_arms-in-If.ensures.parts in
+    rw form all
+
+pub walk_stmt-returns-in-None-clause-grown : goal.walk_stmt-returns-in-None-clause-grown
+walk_stmt-returns-in-None-clause-grown t c =
+    let form = ap (stmt_of at_place) c.in-If.is ∙ if_as at_place c.in-If.arms c.in-If.other c.in-If.place in
+    let same = ap (λ o. size_sts (else_seen at_place o)) c.in-None.is in
+    rw form (omega (arith, same, c.in_ok-walk_arms-in-If.ensures.grown))
+
+pub walk_stmt-returns-in-None-clause-parts : goal.walk_stmt-returns-in-None-clause-parts
+walk_stmt-returns-in-None-clause-parts t c =
+    let P = program_of no_place c.args.program.now in
+    let K = method_seen at_place c.args.method.now in
+    let form = ap (stmt_of at_place) c.in-If.is ∙ if_as at_place c.in-If.arms c.in-If.other c.in-If.place in
+    let all = sym (append-nil (parts_seen c.walk_arms.new.parts.items))
+    ∙ ap (λ o. parts_seen c.walk_arms.new.parts.items ++ parts_sts P (object_type P K) c.args.m K (label_sts (length c.walk_arms.new.parts.items) (else_seen at_place o))) (sym c.in-None.is)
+    ∙ c.in_ok-walk_arms-in-If.ensures.parts in
+    rw form all

@@ -1,0 +1,22 @@
+-- The parts begin with none.
+use Rattle.std.proofs.Common.{◌≡◌, ◌++◌, length, ap, ◌∙◌}
+use Rattle.java_core.specs.Trees.{at_place, no_place, body_seen, stmts}
+use Rattle.java_core.specs.Programs.{program_of, method_seen}
+use Rattle.flow_facts.specs.Labels.{label_sts}
+use Rattle.flow_facts.specs.Parts.{parts_sts}
+use Rattle.flow_facts.specs.Types.{object_type}
+use Rattle.flow_facts.specs.Views.{parts_seen}
+use Rattle.flow_facts.proofs.TypeLemmas.{parts_of_some, parts_of_none}
+use Rattle.flow_facts.proofs.bodies.parts_of.Goals as goal
+
+pub returns-in_ok-walk_stmts-in-Some : goal.returns-in_ok-walk_stmts-in-Some
+returns-in_ok-walk_stmts-in-Some c =
+    let P = program_of no_place c.args.program.now in
+    let K = method_seen at_place c.args.method.now in
+    let xs = stmts at_place c.in-Some.body.items in
+    let all = c.in_ok-walk_stmts-in-Some.ensures.parts ∙ ap (λ l. parts_seen l ++ parts_sts P (object_type P K) c.args.m K (label_sts (length l) xs)) c.new-parts.ensures.items in
+    record { value = parts_of_some P c.args.m K xs _ (ap (body_seen at_place) c.in-Some.is) all }
+
+pub returns-in-None : goal.returns-in-None
+returns-in-None c =
+    record { value = ap parts_seen c.new-parts.ensures.items ∙ parts_of_none (program_of no_place c.args.program.now) c.args.m (method_seen at_place c.args.method.now) (ap (body_seen at_place) c.in-None.is) }

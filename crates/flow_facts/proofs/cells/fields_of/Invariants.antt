@@ -1,0 +1,10 @@
+use Rattle.std.proofs.Common.{◌≡◌, ◌++◌, drop, map}
+use Rattle.flow_facts.specs.Ordered.{each}
+use Rattle.java_core.specs.Trees.{at_place}
+use Rattle.java_core.specs.Programs.{program_of}
+use Rattle.flow_facts.specs.Seen.{numbers_seen, field_cell_seen}
+use Rattle.flow_facts.specs.Facts.{field_at}
+use Rattle.flow_facts.proofs.cells.fields_of.Given as goal
+
+abbrev pub invariant-loop-c : goal.invariant-loop-c
+invariant-loop-c l = map field_cell_seen l.fields.items ++ each (λ c k. field_at (numbers_seen l.n) (program_of at_place l.program) c k.item) l.c (drop l.c l.columns.items) ≡ each (λ c k. field_at (numbers_seen l.n) (program_of at_place l.program) c k.item) 0 l.columns.items

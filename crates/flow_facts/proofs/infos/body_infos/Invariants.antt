@@ -1,0 +1,10 @@
+use Rattle.std.proofs.Common.{◌≡◌, ◌++◌, drop, map}
+use Rattle.flow_facts.specs.Ordered.{each}
+use Rattle.java_core.specs.Trees.{at_place}
+use Rattle.java_core.specs.Programs.{program_of}
+use Rattle.flow_facts.specs.Seen.{numbers_seen}
+use Rattle.flow_facts.specs.Facts.{body_seen, column_body}
+use Rattle.flow_facts.proofs.infos.body_infos.Given as goal
+
+abbrev pub invariant-loop-c : goal.invariant-loop-c
+invariant-loop-c l = map body_seen l.bodies.items ++ each (λ c k. column_body (numbers_seen l.n) (program_of at_place l.program) c k.item) l.c (drop l.c l.columns.items) ≡ each (λ c k. column_body (numbers_seen l.n) (program_of at_place l.program) c k.item) 0 l.columns.items

@@ -1,0 +1,9 @@
+use Rattle.std.proofs.Common.{◌≡◌, ◌++◌, drop}
+use Rattle.flow_facts.specs.Ordered.{each}
+use Rattle.flow_facts.specs.Seen.{numbers_seen}
+use Rattle.flow_facts.specs.Lists.{moved, point_at}
+use Rattle.flow_facts.specs.declared.items.PointItem.TheVariants as point
+use Rattle.flow_facts.proofs.lists.add_moved_args.Given as goal
+
+abbrev pub invariant-loop-i : goal.invariant-loop-i
+invariant-loop-i l = l.flows.items ++ each (λ i o. moved (point_at (numbers_seen l.n) o) ((numbers_seen l.n).point (point.Local l.callee i))) l.i (drop l.i l.args.items) ≡ l.fn.flows.items ++ each (λ i o. moved (point_at (numbers_seen l.n) o) ((numbers_seen l.n).point (point.Local l.callee i))) 0 l.args.items

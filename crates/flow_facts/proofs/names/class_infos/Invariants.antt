@@ -1,0 +1,10 @@
+use Rattle.java_core.specs.Programs.{class_seen as plain_class}
+use Rattle.std.proofs.Common.{◌≡◌, ◌++◌, drop, map}
+use Rattle.flow_facts.specs.Ordered.{each}
+use Rattle.java_core.specs.Trees.{at_place}
+use Rattle.java_core.specs.Programs.{program_of}
+use Rattle.flow_facts.specs.Facts.{class_facts, class_seen}
+use Rattle.flow_facts.proofs.names.class_infos.Given as goal
+
+abbrev pub invariant-loop-c : goal.invariant-loop-c
+invariant-loop-c l = map class_seen l.list.items ++ each (class_facts (program_of at_place l.program)) l.c (map (plain_class at_place) (drop l.c l.program.classes.items)) ≡ each (class_facts (program_of at_place l.program)) 0 (program_of at_place l.program).classes

@@ -1,0 +1,20 @@
+-- What the code numbers in a program, before the lists that stand on the numbers.
+use Rattle.std.specs.Prelude.{◌≡◌, ◌≤◌, length, map, None}
+use Rattle.java_core.specs.Programs.{Plain}
+use Rattle.flow_facts.specs.declared.top.Numbered.{Numbered}
+use Rattle.flow_facts.specs.Numbered.{rows_of, columns_of, sites_of, points_of, bodies_of}
+use Rattle.flow_facts.specs.Facts.{numbers, cells_of, too_many}
+use Rattle.flow_facts.specs.Views.{body_seen}
+use Rattle.flow_facts.specs.Seen.{numbers_seen}
+
+-- what is numbered, in order, the bodies, and the numbers; there is not too much of anything
+pub record IsNumbered (P Q : Plain) (d : Numbered) : Type 0 where
+  pub rows : d.rows.items ≡ rows_of P Q
+  pub columns : d.columns.items ≡ columns_of P Q
+  pub sites : d.sites.items ≡ sites_of P Q
+  pub points : d.points.items ≡ points_of P Q
+  pub cells : d.cells.items ≡ cells_of P Q
+  pub bodies : map body_seen d.bodies.items ≡ bodies_of P Q
+  pub numbers : numbers_seen d.numbering ≡ numbers P Q
+  pub few : length (columns_of P Q) ≤ 8192
+  pub counts : too_many P Q ≡ None

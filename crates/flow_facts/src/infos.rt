@@ -1,0 +1,278 @@
+//! The numbered lists of the facts.
+
+ghost use Rattle.std.specs.Prelude.{◌≡◌, ℕ, ◌+◌, ◌<◌, ◌++◌, ◌∷◌, [], List, Option, Some, None, IfOk, OnOk, length, map, slice_get};
+ghost use Rattle.std.specs.Option.{option_map, option_map_or};
+ghost use Rattle.java_core.specs.Trees.{at_place, no_place};
+ghost use Rattle.java_core.specs.Programs.{Plain, program_of, method_seen};
+ghost use Rattle.java_core.specs.Formed.{IsFormed};
+ghost use Rattle.flow_facts.specs.Ordered.{each};
+ghost use Rattle.flow_facts.specs.Facts.{row_info, site_of_row, this_of_row, column_info, kind_of, owner_of, slot_in, name_in, site_info, field_at, fields_of, field_cell, site_cells, param_points, body_if, column_body, body_seen, class_facts, class_seen, is_holder, variable_names, all_variables};
+ghost use Rattle.flow_facts.specs.Seen.{numbers_seen};
+
+use crate::items::{Column, ColumnItem, Point, PointItem, Row, RowItem, Site};
+use crate::labels::{column_label, row_label};
+use crate::numbering::Numbering;
+use fact_model::{BodyInfo, ColKind, ColumnInfo, RowInfo, SiteInfo};
+use java_core::{Method, Program};
+use kaba_base::{ClassId, ColId, Name, RowId, SiteId};
+use std::alloc::{AllocError, Global};
+
+/// The site of a creation's row.
+fn site_of_row(n: &Numbering, item: RowItem) -> Option<SiteId>
+    ensures value { result ≡ site_of_row (numbers_seen n.now) item }
+{
+    match item {
+        RowItem::New(creation) => match n.site(creation) {
+            Some(site) => Some(SiteId(site)),
+            None => None,
+        },
+        _ => None,
+    }
+}
+
+/// The body whose `this` a row is.
+fn this_of_row(n: &Numbering, item: RowItem) -> Option<ColId>
+    ensures value { result ≡ this_of_row (numbers_seen n.now) item }
+{
+    match item {
+        RowItem::This(method) => match n.column(ColumnItem::Def(method)) {
+            Some(column) => Some(ColId(column)),
+            None => None,
+        },
+        _ => None,
+    }
+}
+
+/// The rows.
+pub fn row_infos(
+    alloc: Global,
+    program: &Program,
+    n: &Numbering,
+    rows: &Vec<Row>,
+) -> Result<Vec<RowInfo>, AllocError>
+    ensures value { IfOk result (λ v. v.items ≡ map (row_info (numbers_seen n.now) (program_of at_place program.now)) rows.now.items) }
+{
+    let mut list = Vec::new(alloc);
+    for row in rows {
+        list.push(RowInfo {
+            label: row_label(alloc, program, row)?,
+            class: row.ty.class,
+            dim: row.ty.dim,
+            site: site_of_row(n, row.item),
+            this_of: this_of_row(n, row.item),
+        })?;
+    }
+    Ok(list)
+}
+
+/// The kind of a column.
+fn kind_of(item: ColumnItem) -> ColKind
+    ensures value { result ≡ kind_of item }
+{
+    match item {
+        ColumnItem::Fld(_) => ColKind::Fld,
+        ColumnItem::Dcl(_) => ColKind::Dcl,
+        ColumnItem::Def(_) => ColKind::Def,
+        ColumnItem::Is(_) => ColKind::Is,
+    }
+}
+
+/// The class that has what a column stands for.
+pub fn owner_of(program: &Program, item: ColumnItem) -> ClassId
+    ensures value { result.0 ≡ owner_of (program_of at_place program.now) item }
+{
+    match item {
+        ColumnItem::Fld(field) => match program.fields.get(field as usize) {
+            Some(field) => field.owner,
+            None => ClassId(0),
+        },
+        ColumnItem::Dcl(method) | ColumnItem::Def(method) => {
+            match program.methods.get(method as usize) {
+                Some(method) => method.owner,
+                None => ClassId(0),
+            }
+        }
+        ColumnItem::Is(class) => class,
+    }
+}
+
+/// The slot of a column.
+fn slot_in(program: &Program, item: ColumnItem) -> Option<u32>
+    ensures value { result ≡ slot_in (program_of at_place program.now) item }
+{
+    match item {
+        ColumnItem::Dcl(method) | ColumnItem::Def(method) => {
+            match program.methods.get(method as usize) {
+                Some(method) => method.slot,
+                None => None,
+            }
+        }
+        _ => None,
+    }
+}
+
+/// The name of what a column stands for, where it is there.
+fn named(program: &Program, item: ColumnItem) -> Option<&Name>
+    ensures value { option_map_or (λ x. x.now) result [] ≡ name_in (program_of at_place program.now) item }
+{
+    match item {
+        ColumnItem::Fld(field) => match program.fields.get(field as usize) {
+            Some(field) => Some(&field.name),
+            None => None,
+        },
+        ColumnItem::Dcl(method) | ColumnItem::Def(method) => {
+            match program.methods.get(method as usize) {
+                Some(method) => Some(&method.name),
+                None => None,
+            }
+        }
+        ColumnItem::Is(class) => match program.classes.get(class.0 as usize) {
+            Some(class) => Some(&class.name),
+            None => None,
+        },
+    }
+}
+
+/// The name of what a column stands for.
+fn name_in(alloc: Global, program: &Program, item: ColumnItem) -> Result<Name, AllocError>
+    ensures value { IfOk result (λ x. x ≡ name_in (program_of at_place program.now) item) }
+{
+    match named(program, item) {
+        Some(name) => name.copy(alloc),
+        None => Name::new(alloc, ""),
+    }
+}
+
+/// The columns.
+pub fn column_infos(
+    alloc: Global,
+    program: &Program,
+    columns: &Vec<Column>,
+) -> Result<Vec<ColumnInfo>, AllocError>
+    ensures value { IfOk result (λ v. v.items ≡ map (λ c. column_info (program_of at_place program.now) c.item) columns.now.items) }
+{
+    let mut list = Vec::new(alloc);
+    for column in columns {
+        let item = column.item;
+        list.push(ColumnInfo {
+            kind: kind_of(item),
+            class: owner_of(program, item),
+            slot: slot_in(program, item),
+            name: name_in(alloc, program, item)?,
+            label: column_label(alloc, program, item)?,
+        })?;
+    }
+    Ok(list)
+}
+
+/// The sites.
+pub fn site_infos(alloc: Global, sites: &Vec<Site>) -> Result<Vec<SiteInfo>, AllocError>
+    ensures value { IfOk result (λ v. v.items ≡ map site_info sites.now.items) }
+{
+    let mut list = Vec::new(alloc);
+    for site in sites {
+        list.push(SiteInfo {
+            row: RowId(site.row),
+            class: site.ty.class,
+            dim: site.ty.dim,
+        })?;
+    }
+    Ok(list)
+}
+
+/// The rows of the flow points.
+pub fn point_rows(alloc: Global, points: &Vec<Point>) -> Result<Vec<RowId>, AllocError>
+    ensures value { IfOk result (λ v. v.items ≡ map (λ p. record { 0 = p.row }) points.now.items) }
+{
+    let mut list = Vec::new(alloc);
+    for point in points {
+        list.push(RowId(point.row))?;
+    }
+    Ok(list)
+}
+
+/// The points of the parameters of a method.
+fn param_points(
+    alloc: Global,
+    n: &Numbering,
+    m: u64,
+    method: &Method,
+) -> Result<Vec<Option<u32>>, AllocError>
+    ensures value { (Q : Plain) → IfOk result (λ v. v.items ≡ param_points (numbers_seen n.now) Q m (method_seen at_place method.now)) }
+{
+    let mut list = Vec::new(alloc);
+    for (i, _param) in method.params.iter().enumerate() {
+        list.push(n.point(PointItem::Local(m, i as u64)))?;
+    }
+    Ok(list)
+}
+
+/// Adds the body of a method, where its `this` is a flow point.
+fn add_method_body(
+    alloc: Global,
+    n: &Numbering,
+    c: u32,
+    m: u64,
+    method: &Method,
+    bodies: &mut Vec<BodyInfo>,
+) -> Result<(), AllocError>
+    ensures value { (Q : Plain) → OnOk result (map body_seen bodies.new.items ≡ map body_seen bodies.old.items ++ body_if (numbers_seen n.now) Q c m (method_seen at_place method.now) ((numbers_seen n.now).point (PointItem.This m))) }
+{
+    match n.point(PointItem::This(m)) {
+        Some(this) => {
+            let params = param_points(alloc, n, m, method)?;
+            bodies.push(BodyInfo {
+                column: ColId(c),
+                this,
+                params,
+                result: n.point(PointItem::Result(m)),
+            })?;
+            Ok(())
+        }
+        None => Ok(()),
+    }
+}
+
+/// A method by its number.
+fn method_at(program: &Program, m: u64) -> Option<&Method>
+    ensures value { option_map (λ k. method_seen at_place k.now) result ≡ slice_get (program_of at_place program.now).methods m }
+{
+    program.methods.get(m as usize)
+}
+
+/// Adds the body of a column.
+fn add_body(
+    alloc: Global,
+    program: &Program,
+    n: &Numbering,
+    c: u32,
+    item: ColumnItem,
+    bodies: &mut Vec<BodyInfo>,
+) -> Result<(), AllocError>
+    ensures value { OnOk result (map body_seen bodies.new.items ≡ map body_seen bodies.old.items ++ column_body (numbers_seen n.now) (program_of at_place program.now) c item) }
+{
+    match item {
+        ColumnItem::Def(m) => match method_at(program, m) {
+            Some(method) => add_method_body(alloc, n, c, m, method, bodies),
+            None => Ok(()),
+        },
+        _ => Ok(()),
+    }
+}
+
+/// The bodies, in the order of their columns.
+pub fn body_infos(
+    alloc: Global,
+    program: &Program,
+    n: &Numbering,
+    columns: &Vec<Column>,
+) -> Result<Vec<BodyInfo>, AllocError>
+    requires { length columns.now.items < 4294967295 }
+    ensures value { IfOk result (λ v. map body_seen v.items ≡ each (λ c k. column_body (numbers_seen n.now) (program_of at_place program.now) c k.item) 0 columns.now.items) }
+{
+    let mut bodies = Vec::new(alloc);
+    for (c, column) in columns.iter().enumerate() {
+        add_body(alloc, program, n, c as u32, column.item, &mut bodies)?;
+    }
+    Ok(bodies)
+}

@@ -1,0 +1,153 @@
+//! Lists in the order of their places, and each item once.
+
+ghost use Rattle.std.specs.Prelude.{◌≡◌, ℕ, ◌<◌, IfOk, IfSome, Option, List, length, map, position};
+ghost use Rattle.flow_facts.specs.Ordered.{by_place, once};
+
+use crate::items::{Column, ColumnItem, Outline, Point, PointAt, PointItem, Row, RowItem, Site};
+use crate::lists::PlacedCall;
+use fact_model::TestInfo;
+use indexmap::IndexSet;
+use kaba_base::Place;
+use std::alloc::{AllocError, Global};
+use std::hash::Hash;
+
+/// What stands at a place of the text.
+pub trait HasPlace {
+    ghost at: { Self → ℕ };
+
+    /// How many bytes are before it.
+    fn at(&self) -> u32
+        ensures value { result ≡ at self.now };
+}
+
+impl HasPlace for Row {
+    ghost at = { λ r. r.place.at };
+
+    fn at(&self) -> u32 {
+        self.place.at
+    }
+}
+
+impl HasPlace for Column {
+    ghost at = { λ c. c.place.at };
+
+    fn at(&self) -> u32 {
+        self.place.at
+    }
+}
+
+impl HasPlace for Site {
+    ghost at = { λ s. s.place.at };
+
+    fn at(&self) -> u32 {
+        self.place.at
+    }
+}
+
+impl HasPlace for PointAt {
+    ghost at = { λ p. p.place.at };
+
+    fn at(&self) -> u32 {
+        self.place.at
+    }
+}
+
+impl HasPlace for Outline {
+    ghost at = { λ o. o.place.at };
+
+    fn at(&self) -> u32 {
+        self.place.at
+    }
+}
+
+impl HasPlace for PlacedCall {
+    ghost at = { λ c. c.place.at };
+
+    fn at(&self) -> u32 {
+        self.place.at
+    }
+}
+
+impl HasPlace for TestInfo {
+    ghost at = { λ t. t.place.at };
+
+    fn at(&self) -> u32 {
+        self.place.at
+    }
+}
+
+/// The list by its places; what stands at one place stays in its order.
+pub fn by_place<T: HasPlace>(mut items: Vec<T>) -> Result<Vec<T>, AllocError>
+where
+    T: Drop,
+    ensures value { IfOk result (λ v. v.items ≡ by_place T.at items.items) }
+{
+    items.sort_by_key(|item| item.at())?;
+    Ok(items)
+}
+
+/// What has a key, under which it is listed once.
+pub trait HasKey<K> {
+    ghost key: { Self → K };
+
+    /// The key.
+    fn key(&self) -> K
+        ensures value { result ≡ key self.now };
+}
+
+impl HasKey<RowItem> for Row {
+    ghost key = { λ r. r.item };
+
+    fn key(&self) -> RowItem {
+        self.item
+    }
+}
+
+impl HasKey<ColumnItem> for Column {
+    ghost key = { λ c. c.item };
+
+    fn key(&self) -> ColumnItem {
+        self.item
+    }
+}
+
+impl HasKey<u64> for Site {
+    ghost key = { λ s. s.number };
+
+    fn key(&self) -> u64 {
+        self.number
+    }
+}
+
+impl HasKey<PointItem> for Point {
+    ghost key = { λ p. p.item };
+
+    fn key(&self) -> PointItem {
+        self.item
+    }
+}
+
+/// A list without two of one key, and the numbers of its keys.
+#[derive(Drop)]
+pub struct Listed<T, K: Eq + Hash> {
+    pub items: Vec<T>,
+    pub keys: IndexSet<K>,
+}
+
+/// The first of each key.
+pub fn once<K: Eq + Hash + Copy + Drop, T: HasKey<K> + Copy>(
+    alloc: Global,
+    all: &Vec<T>,
+) -> Result<Listed<T, K>, AllocError>
+    ensures items { IfOk result (λ l. l.items.items ≡ once K.eq T.key all.now.items) }
+    ensures keys { IfOk result (λ l. l.keys.keys ≡ map T.key (once K.eq T.key all.now.items)) }
+{
+    let mut items = Vec::new(alloc);
+    let mut keys = IndexSet::new(alloc);
+    for item in all {
+        if keys.insert_full(item.key())?.1 {
+            items.push(*item)?;
+        }
+    }
+    Ok(Listed { items, keys })
+}

@@ -1,0 +1,441 @@
+//! What is numbered: the rows, the columns and what may be flow points, in the order of the program.
+
+ghost use Rattle.std.specs.Prelude.{◌≡◌, ℕ, ◌+◌, ◌<◌, ◌^◌, ◌++◌, ◌∷◌, [], List, Option, Some, None, IfOk, OnOk, length, map};
+ghost use Rattle.std.specs.List.{flat_map};
+ghost use Rattle.java_core.specs.Trees.{at_place, no_place};
+ghost use Rattle.java_core.specs.Programs.{Plain, program_of, method_seen, local_seen, field_seen};
+ghost use Rattle.java_core.specs.Formed.{IsFormed};
+ghost use Rattle.flow_facts.specs.Ordered.{by_place, each};
+ghost use Rattle.flow_facts.specs.Parts as plain;
+ghost use Rattle.flow_facts.specs.Numbered.{row_if, own_row, form_rows, mark, array_mark, form_columns, own_point, form_points, is_first, field_rows, this_rows, result_rows, variable_rows, method_rows, field_columns, method_columns, static_points, variable_points, method_points, body_at, outline_if, bodies_of};
+ghost use Rattle.flow_facts.specs.Operands.{result_in};
+ghost use Rattle.flow_facts.specs.Views.{part_seen, parts_seen, outline_seen, body_seen};
+
+use crate::bodies::parts_of;
+use crate::items::{
+    Body, Column, ColumnItem, ObjectType, Operand, Outline, Part, PointAt, PointItem, Row, RowItem,
+};
+use crate::ordered::by_place;
+use crate::types::{object_if, object_of};
+use crate::walk::{class_object, variable_row};
+use java_core::{Field, Local, Method, Program};
+use kaba_base::Place;
+use std::alloc::{AllocError, Global};
+
+/// Adds a row, where there is a type that a row can have.
+fn add_row(
+    rows: &mut Vec<Row>,
+    item: RowItem,
+    place: Place,
+    ty: Option<ObjectType>,
+) -> Result<(), AllocError>
+    ensures value { OnOk result (rows.new.items ≡ rows.old.items ++ row_if item place ty) }
+{
+    if let Some(ty) = ty {
+        rows.push(Row { item, place, ty })?;
+    }
+    Ok(())
+}
+
+/// Adds the row of a form itself.
+fn add_own_row(rows: &mut Vec<Row>, place: Place, own: Operand) -> Result<(), AllocError>
+    ensures value { OnOk result (rows.new.items ≡ rows.old.items ++ own_row place own.row own.ty) }
+{
+    if let Some(item) = own.row {
+        add_row(rows, item, place, own.ty)?;
+    }
+    Ok(())
+}
+
+/// Adds the row of a part.
+fn add_part_row(rows: &mut Vec<Row>, part: &Part) -> Result<(), AllocError>
+    ensures value { OnOk result (rows.new.items ≡ rows.old.items ++ form_rows (part_seen part.now)) }
+{
+    match part {
+        Part::New(place, _, own) | Part::Test(place, _, own) => {
+            add_own_row(rows, *place, *own)?;
+            Ok(())
+        }
+        _ => Ok(()),
+    }
+}
+
+/// Adds the rows of the creations, casts and `instanceof` of a body.
+fn add_form_rows(rows: &mut Vec<Row>, parts: &Vec<Part>) -> Result<(), AllocError>
+    ensures value { OnOk result (rows.new.items ≡ rows.old.items ++ flat_map form_rows (parts_seen parts.now.items)) }
+{
+    for part in parts {
+        add_part_row(rows, part)?;
+    }
+    Ok(())
+}
+
+/// Whether a method has the rows of its slot's return and parameters; a static method has its own.
+fn is_first(program: &Program, m: usize, method: &Method) -> bool
+    ensures value { result ≡ is_first (program_of no_place program.now) m (method_seen at_place method.now) }
+{
+    match method.slot {
+        None => true,
+        Some(slot) => match program.slots.get(slot as usize) {
+            Some(slot) => slot.first.0 as usize == m,
+            None => false,
+        },
+    }
+}
+
+/// Adds the rows of parameters or locals, the first of which has the number `first`.
+fn add_variable_rows(
+    program: &Program,
+    m: usize,
+    method: &Method,
+    locals: &Vec<Local>,
+    first: usize,
+    rows: &mut Vec<Row>,
+) -> Result<(), AllocError>
+    requires { first + length locals.now.items < 2 ^ 64 }
+    ensures value { OnOk result (rows.new.items ≡ rows.old.items ++ each (variable_rows (program_of no_place program.now) (program_of at_place program.now) m (method_seen at_place method.now)) first (map (local_seen at_place) locals.now.items)) }
+{
+    let listed = is_first(program, m, method);
+    let count = method.params.len();
+    let mut number = first;
+    for local in locals {
+        if listed || number >= count {
+            let item = variable_row(m as u64, method, number as u64);
+            add_row(rows, item, local.place, object_of(local.ty))?;
+        }
+        number += 1;
+    }
+    Ok(())
+}
+
+/// Adds the rows of a method, whose body has these parts.
+fn add_method_rows(
+    program: &Program,
+    m: usize,
+    method: &Method,
+    parts: &Vec<Part>,
+    rows: &mut Vec<Row>,
+) -> Result<(), AllocError>
+    requires { parts_seen parts.now.items ≡ plain.parts_of (program_of no_place program.now) m (method_seen at_place method.now) }
+    ensures value { OnOk result (rows.new.items ≡ rows.old.items ++ method_rows (program_of no_place program.now) (program_of at_place program.now) m (method_seen at_place method.now)) }
+{
+    if method.body.is_some() && !method.is_static {
+        add_row(
+            rows,
+            RowItem::This(m as u64),
+            method.place,
+            class_object(method.owner),
+        )?;
+    }
+    if is_first(program, m, method) {
+        add_row(
+            rows,
+            result_row(m as u64, method.slot),
+            method.place,
+            object_if(method.result),
+        )?;
+    }
+    add_variable_rows(program, m, method, &method.params, 0, rows)?;
+    add_variable_rows(
+        program,
+        m,
+        method,
+        &method.locals,
+        method.params.len(),
+        rows,
+    )?;
+    add_form_rows(rows, parts)?;
+    Ok(())
+}
+
+/// The row of what a method gives back.
+pub fn result_row(m: u64, slot: Option<u32>) -> RowItem
+    ensures value { result ≡ result_in slot m }
+{
+    match slot {
+        Some(slot) => RowItem::Return(slot as u64),
+        None => RowItem::Result(m),
+    }
+}
+
+/// Adds the mark of a type.
+fn add_mark(
+    columns: &mut Vec<Column>,
+    place: Place,
+    ty: Option<ObjectType>,
+) -> Result<(), AllocError>
+    ensures value { OnOk result (columns.new.items ≡ columns.old.items ++ mark place ty) }
+{
+    if let Some(ty) = ty {
+        columns.push(Column {
+            item: ColumnItem::Is(ty.class),
+            place,
+        })?;
+    }
+    Ok(())
+}
+
+/// Adds the column of a part.
+fn add_part_column(columns: &mut Vec<Column>, part: &Part) -> Result<(), AllocError>
+    ensures value { OnOk result (columns.new.items ≡ columns.old.items ++ form_columns (part_seen part.now)) }
+{
+    match part {
+        Part::New(place, _, own) => {
+            if let Some(ty) = own.ty {
+                if ty.dim != 0 {
+                    columns.push(Column {
+                        item: ColumnItem::Is(ty.class),
+                        place: *place,
+                    })?;
+                }
+            }
+            Ok(())
+        }
+        Part::Test(place, _, own) => {
+            add_mark(columns, *place, own.ty)?;
+            Ok(())
+        }
+        _ => Ok(()),
+    }
+}
+
+/// Adds the columns of the tests and the array creations of a body.
+fn add_form_columns(columns: &mut Vec<Column>, parts: &Vec<Part>) -> Result<(), AllocError>
+    ensures value { OnOk result (columns.new.items ≡ columns.old.items ++ flat_map form_columns (parts_seen parts.now.items)) }
+{
+    for part in parts {
+        add_part_column(columns, part)?;
+    }
+    Ok(())
+}
+
+/// Adds the columns of a method, whose body has these parts.
+fn add_method_columns(
+    m: usize,
+    method: &Method,
+    parts: &Vec<Part>,
+    columns: &mut Vec<Column>,
+) -> Result<(), AllocError>
+    ensures value { (P Q : Plain) → parts_seen parts.now.items ≡ plain.parts_of P m (method_seen at_place method.now) → OnOk result (columns.new.items ≡ columns.old.items ++ method_columns P Q m (method_seen at_place method.now)) }
+{
+    if !method.is_static {
+        columns.push(Column {
+            item: ColumnItem::Dcl(m as u64),
+            place: method.place,
+        })?;
+        if method.body.is_some() {
+            columns.push(Column {
+                item: ColumnItem::Def(m as u64),
+                place: method.place,
+            })?;
+        }
+    }
+    add_form_columns(columns, parts)?;
+    Ok(())
+}
+
+/// Adds what may be the flow point of a form itself.
+fn add_own_point(points: &mut Vec<PointAt>, place: Place, own: Operand) -> Result<(), AllocError>
+    ensures value { OnOk result (points.new.items ≡ points.old.items ++ own_point place own.point own.row own.ty) }
+{
+    if let (Some(item), Some(row), Some(_)) = (own.point, own.row, own.ty) {
+        points.push(PointAt { item, place, row })?;
+    }
+    Ok(())
+}
+
+/// Adds what may be the flow point of a part.
+fn add_part_point(points: &mut Vec<PointAt>, part: &Part) -> Result<(), AllocError>
+    ensures value { OnOk result (points.new.items ≡ points.old.items ++ form_points (part_seen part.now)) }
+{
+    match part {
+        Part::Load(place, _, _, own)
+        | Part::Element(place, _, own)
+        | Part::New(place, true, own)
+        | Part::Call(place, _, _, _, _, own)
+        | Part::StaticCall(place, _, _, own)
+        | Part::SuperCall(place, _, _, own)
+        | Part::Test(place, _, own) => {
+            add_own_point(points, *place, *own)?;
+            Ok(())
+        }
+        _ => Ok(()),
+    }
+}
+
+/// What may be flow points among the expressions of a body, by their place.
+fn form_points(alloc: Global, parts: &Vec<Part>) -> Result<Vec<PointAt>, AllocError>
+    ensures value { IfOk result (λ v. v.items ≡ by_place (λ p. p.place.at) (flat_map form_points (parts_seen parts.now.items))) }
+{
+    let mut points = Vec::new(alloc);
+    for part in parts {
+        add_part_point(&mut points, part)?;
+    }
+    let points = by_place(points)?;
+    Ok(points)
+}
+
+/// Adds what may be flow points among parameters or locals, the first of which has the number `first`.
+fn add_variable_points(
+    m: usize,
+    method: &Method,
+    locals: &Vec<Local>,
+    first: usize,
+    points: &mut Vec<PointAt>,
+) -> Result<(), AllocError>
+    requires { first + length locals.now.items < 2 ^ 64 }
+    ensures value { OnOk result (points.new.items ≡ points.old.items ++ each (variable_points m (method_seen at_place method.now)) first (map (local_seen at_place) locals.now.items)) }
+{
+    let mut number = first;
+    for local in locals {
+        let item = PointItem::Local(m as u64, number as u64);
+        let row = variable_row(m as u64, method, number as u64);
+        points.push(PointAt {
+            item,
+            place: local.place,
+            row,
+        })?;
+        number += 1;
+    }
+    Ok(())
+}
+
+/// What may be flow points of a body with these parts.
+fn method_points(
+    alloc: Global,
+    m: usize,
+    method: &Method,
+    parts: &Vec<Part>,
+) -> Result<Vec<PointAt>, AllocError>
+    ensures value { (P Q : Plain) → parts_seen parts.now.items ≡ plain.parts_of P m (method_seen at_place method.now) → IfOk result (λ v. v.items ≡ method_points P Q m (method_seen at_place method.now)) }
+{
+    let place = method.place;
+    let mut points = Vec::new(alloc);
+    if !method.is_static {
+        let item = PointItem::This(m as u64);
+        points.push(PointAt {
+            item,
+            place,
+            row: RowItem::This(m as u64),
+        })?;
+    }
+    add_variable_points(m, method, &method.params, 0, &mut points)?;
+    add_variable_points(m, method, &method.locals, method.params.len(), &mut points)?;
+    let item = PointItem::Result(m as u64);
+    points.push(PointAt {
+        item,
+        place,
+        row: result_row(m as u64, method.slot),
+    })?;
+    let mut forms = form_points(alloc, parts)?;
+    points.append(&mut forms)?;
+    Ok(points)
+}
+
+/// What is numbered, in the order of the program.
+#[derive(Drop)]
+pub struct Surveyed {
+    pub rows: Vec<Row>,
+    pub columns: Vec<Column>,
+    /// What may be flow points among the static fields.
+    pub statics: Vec<PointAt>,
+    pub outlines: Vec<Outline>,
+    pub bodies: Vec<Body>,
+}
+
+/// Adds the rows, the columns and the points of the fields.
+fn survey_fields(program: &Program, survey: &mut Surveyed) -> Result<(), AllocError>
+    ensures rows { OnOk result (survey.new.rows.items ≡ survey.old.rows.items ++ each field_rows 0 (map (field_seen at_place) program.now.fields.items)) }
+    ensures columns { OnOk result (survey.new.columns.items ≡ survey.old.columns.items ++ each field_columns 0 (map (field_seen at_place) program.now.fields.items)) }
+    ensures statics { OnOk result (survey.new.statics.items ≡ survey.old.statics.items ++ each static_points 0 (map (field_seen at_place) program.now.fields.items)) }
+    ensures outlines { OnOk result (survey.new.outlines ≡ survey.old.outlines) }
+    ensures bodies { OnOk result (survey.new.bodies ≡ survey.old.bodies) }
+{
+    for (f, field) in program.fields.iter().enumerate() {
+        survey_field(f, field, survey)?;
+    }
+    Ok(())
+}
+
+/// Adds the row, the column and the point of a field.
+fn survey_field(f: usize, field: &Field, survey: &mut Surveyed) -> Result<(), AllocError>
+    ensures rows { OnOk result (survey.new.rows.items ≡ survey.old.rows.items ++ field_rows f (field_seen at_place field.now)) }
+    ensures columns { OnOk result (survey.new.columns.items ≡ survey.old.columns.items ++ field_columns f (field_seen at_place field.now)) }
+    ensures statics { OnOk result (survey.new.statics.items ≡ survey.old.statics.items ++ static_points f (field_seen at_place field.now)) }
+    ensures outlines { OnOk result (survey.new.outlines ≡ survey.old.outlines) }
+    ensures bodies { OnOk result (survey.new.bodies ≡ survey.old.bodies) }
+{
+    let row = RowItem::Field(f as u64);
+    let place = field.place;
+    add_row(&mut survey.rows, row, place, object_of(field.ty))?;
+    if field.is_static {
+        survey.statics.push(PointAt {
+            item: PointItem::Static(f as u64),
+            place,
+            row,
+        })?;
+    } else {
+        survey.columns.push(Column {
+            item: ColumnItem::Fld(f as u64),
+            place,
+        })?;
+    }
+    Ok(())
+}
+
+/// Adds the rows, the columns, the outline and the parts of a method.
+fn survey_method(
+    alloc: Global,
+    program: &Program,
+    m: usize,
+    method: &Method,
+    survey: &mut Surveyed,
+) -> Result<(), AllocError>
+    requires { IsFormed (program_of no_place program.now) }
+    ensures rows { OnOk result (survey.new.rows.items ≡ survey.old.rows.items ++ method_rows (program_of no_place program.now) (program_of at_place program.now) m (method_seen at_place method.now)) }
+    ensures columns { OnOk result (survey.new.columns.items ≡ survey.old.columns.items ++ method_columns (program_of no_place program.now) (program_of at_place program.now) m (method_seen at_place method.now)) }
+    ensures statics { OnOk result (survey.new.statics ≡ survey.old.statics) }
+    ensures outlines { OnOk result (map outline_seen survey.new.outlines.items ≡ map outline_seen survey.old.outlines.items ++ outline_if (program_of no_place program.now) (program_of at_place program.now) m (method_seen at_place method.now)) }
+    ensures bodies { OnOk result (map body_seen survey.new.bodies.items ≡ map body_seen survey.old.bodies.items ++ body_at (program_of no_place program.now) (program_of at_place program.now) m (method_seen at_place method.now)) }
+{
+    let parts = parts_of(alloc, program, m as u64, method)?;
+    add_method_rows(program, m, method, &parts, &mut survey.rows)?;
+    add_method_columns(m, method, &parts, &mut survey.columns)?;
+    if method.body.is_some() {
+        let points = method_points(alloc, m, method, &parts)?;
+        survey.outlines.push(Outline {
+            place: method.place,
+            points,
+        })?;
+    }
+    survey.bodies.push(Body {
+        number: m as u64,
+        slot: method.slot,
+        parts,
+    })?;
+    Ok(())
+}
+
+/// What is numbered in a program, in its order.
+#[tactic(auto, unfolding(crate::specs::Numbered::bodies_of))]
+pub fn survey(alloc: Global, program: &Program) -> Result<Surveyed, AllocError>
+    requires { IsFormed (program_of no_place program.now) }
+    ensures rows { IfOk result (λ s. s.rows.items ≡ each field_rows 0 (program_of at_place program.now).fields ++ each (method_rows (program_of no_place program.now) (program_of at_place program.now)) 0 (program_of at_place program.now).methods) }
+    ensures columns { IfOk result (λ s. s.columns.items ≡ each field_columns 0 (program_of at_place program.now).fields ++ each (method_columns (program_of no_place program.now) (program_of at_place program.now)) 0 (program_of at_place program.now).methods) }
+    ensures statics { IfOk result (λ s. s.statics.items ≡ each static_points 0 (program_of at_place program.now).fields) }
+    ensures outlines { IfOk result (λ s. map outline_seen s.outlines.items ≡ each (outline_if (program_of no_place program.now) (program_of at_place program.now)) 0 (program_of at_place program.now).methods) }
+    ensures bodies { IfOk result (λ s. map body_seen s.bodies.items ≡ bodies_of (program_of no_place program.now) (program_of at_place program.now)) }
+{
+    let mut survey = Surveyed {
+        rows: Vec::new(alloc),
+        columns: Vec::new(alloc),
+        statics: Vec::new(alloc),
+        outlines: Vec::new(alloc),
+        bodies: Vec::new(alloc),
+    };
+    survey_fields(program, &mut survey)?;
+    for (m, method) in program.methods.iter().enumerate() {
+        survey_method(alloc, program, m, method, &mut survey)?;
+    }
+    Ok(survey)
+}

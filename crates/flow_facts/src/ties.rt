@@ -1,0 +1,218 @@
+//! Ties of rows: the lower gets all columns of the upper.
+
+ghost use Rattle.std.specs.Prelude.{◌≡◌, ℕ, ◌++◌, List, Option, Some, None, OnOk};
+ghost use Rattle.std.specs.Option.{is_some};
+ghost use Rattle.java_core.specs.Trees.{no_place};
+ghost use Rattle.java_core.specs.Programs.{Plain, program_of};
+ghost use Rattle.java_core.specs.Formed.{IsFormed};
+ghost use Rattle.flow_facts.specs.Lists.{left_is_lower, pair_ties, test_ties, is_left_lower, narrower, same_type, slot_ties, method_ties, param_row, ties_of, is_this, is_comparison};
+ghost use Rattle.flow_facts.specs.Views.{part_seen};
+ghost use Rattle.flow_facts.specs.Seen.{numbers_seen};
+
+use crate::items::{ObjectType, Operand, Part, PointItem, RowItem};
+use crate::lists::{add_tied, row_at, row_in};
+use crate::numbering::Numbering;
+use crate::survey::result_row;
+use fact_model::TieInfo;
+use java_core::{BinOp, Program, is_subtype};
+use std::alloc::AllocError;
+
+/// Whether it is `this`.
+fn is_this(point: Option<PointItem>) -> bool
+    ensures value { result ≡ is_this point }
+{
+    matches!(point, Some(PointItem::This(_)))
+}
+
+/// Whether a binary operator is `==` or `!=`.
+fn is_comparison(op: BinOp) -> bool
+    ensures value { result ≡ is_comparison op }
+{
+    match op {
+        BinOp::Same | BinOp::Differs => true,
+        _ => false,
+    }
+}
+
+/// Whether the types have one class and one dimension.
+fn same_type(left: ObjectType, right: ObjectType) -> bool
+    ensures value { result ≡ same_type left right }
+{
+    left.class.0 == right.class.0 && left.dim == right.dim
+}
+
+/// Whether the first type is a subtype of the second, of one dimension.
+fn narrower(program: &Program, left: ObjectType, right: ObjectType) -> bool
+    requires { IsFormed (program_of no_place program.now) }
+    ensures value { result ≡ narrower (program_of no_place program.now) left right }
+{
+    left.dim == right.dim && is_subtype(program, left.class, right.class)
+}
+
+/// Which of two rows of one type is the lower: a creation below what is none, `this` below what is neither, else the right.
+fn left_is_lower(left: &Operand, right: &Operand) -> bool
+    ensures value { result ≡ left_is_lower (is_some left.now.created) (is_this left.now.point) (is_some right.now.created) (is_this right.now.point) }
+{
+    let (made_left, made_right) = (left.created.is_some(), right.created.is_some());
+    (made_left && !made_right) || (is_this(left.point) && !(made_right || is_this(right.point)))
+}
+
+/// Whether the left side of `==` or `!=` is the lower.
+fn is_left_lower(
+    program: &Program,
+    left: &Operand,
+    right: &Operand,
+    s: ObjectType,
+    t: ObjectType,
+) -> bool
+    requires { IsFormed (program_of no_place program.now) }
+    ensures value { result ≡ is_left_lower (program_of no_place program.now) left.now right.now s t }
+{
+    if same_type(s, t) {
+        left_is_lower(left, right)
+    } else {
+        narrower(program, s, t)
+    }
+}
+
+/// Adds the tie of `==` or `!=`.
+fn add_pair(
+    program: &Program,
+    n: &Numbering,
+    left: &Operand,
+    right: &Operand,
+    ties: &mut Vec<TieInfo>,
+) -> Result<(), AllocError>
+    requires { IsFormed (program_of no_place program.now) }
+    ensures value { OnOk result (ties.new.items ≡ ties.old.items ++ pair_ties (numbers_seen n.now) (program_of no_place program.now) left.now right.now left.now.ty right.now.ty) }
+{
+    if let (Some(s), Some(t)) = (left.ty, right.ty) {
+        let (l, r) = (row_at(n, left), row_at(n, right));
+        if is_left_lower(program, left, right, s, t) {
+            add_tied(l, r, ties)?;
+        } else {
+            add_tied(r, l, ties)?;
+        }
+    }
+    Ok(())
+}
+
+/// Adds the tie of a cast or `instanceof`.
+fn add_test(
+    program: &Program,
+    n: &Numbering,
+    operand: &Operand,
+    own: &Operand,
+    ties: &mut Vec<TieInfo>,
+) -> Result<(), AllocError>
+    requires { IsFormed (program_of no_place program.now) }
+    ensures value { OnOk result (ties.new.items ≡ ties.old.items ++ test_ties (numbers_seen n.now) (program_of no_place program.now) operand.now own.now operand.now.ty own.now.ty) }
+{
+    if let (Some(s), Some(t)) = (operand.ty, own.ty) {
+        let (e, k) = (row_at(n, operand), row_at(n, own));
+        if is_subtype(program, s.class, t.class) {
+            add_tied(e, k, ties)?;
+        } else {
+            add_tied(k, e, ties)?;
+        }
+    }
+    Ok(())
+}
+
+/// The row of a parameter of a method.
+fn param_row(program: &Program, callee: u64, i: u64) -> Option<RowItem>
+    ensures value { result ≡ param_row (program_of no_place program.now) callee i }
+{
+    match program.methods.get(callee as usize) {
+        Some(method) => match method.slot {
+            Some(slot) if i < method.params.len() as u64 => { Some(RowItem::Param(slot as u64, i)) }
+            _ => Some(RowItem::Local(callee, i)),
+        },
+        None => None,
+    }
+}
+
+/// Adds the ties of the arguments of a call to the parameters of a slot.
+fn add_slot_args(
+    n: &Numbering,
+    slot: u64,
+    args: &Vec<Operand>,
+    ties: &mut Vec<TieInfo>,
+) -> Result<(), AllocError>
+    ensures value { (P : Plain) → OnOk result (ties.new.items ≡ ties.old.items ++ slot_ties (numbers_seen n.now) P slot args.now.items) }
+{
+    for (i, arg) in args.iter().enumerate() {
+        add_tied(row_at(n, arg), n.row(RowItem::Param(slot, i as u64)), ties)?;
+    }
+    Ok(())
+}
+
+/// Adds the ties of the arguments of a call to the parameters of a method.
+fn add_method_args(
+    program: &Program,
+    n: &Numbering,
+    callee: u64,
+    args: &Vec<Operand>,
+    ties: &mut Vec<TieInfo>,
+) -> Result<(), AllocError>
+    ensures value { OnOk result (ties.new.items ≡ ties.old.items ++ method_ties (numbers_seen n.now) (program_of no_place program.now) callee args.now.items) }
+{
+    for (i, arg) in args.iter().enumerate() {
+        let parameter = row_in(n, param_row(program, callee, i as u64));
+        add_tied(row_at(n, arg), parameter, ties)?;
+    }
+    Ok(())
+}
+
+/// Adds the ties that a part of a method's body gives. The slot is the method's.
+pub fn add_ties(
+    program: &Program,
+    n: &Numbering,
+    m: u64,
+    slot: Option<u32>,
+    part: &Part,
+    ties: &mut Vec<TieInfo>,
+) -> Result<(), AllocError>
+    requires { IsFormed (program_of no_place program.now) }
+    ensures value { OnOk result (ties.new.items ≡ ties.old.items ++ ties_of (numbers_seen n.now) (program_of no_place program.now) m slot (part_seen part.now)) }
+{
+    match part {
+        Part::Set(target, value) => {
+            add_tied(row_at(n, value), row_at(n, target), ties)?;
+            Ok(())
+        }
+        Part::Return(value) => {
+            add_tied(row_at(n, value), n.row(result_row(m, slot)), ties)?;
+            Ok(())
+        }
+        Part::Store(_, _, Some(field), value) => {
+            add_tied(row_at(n, value), n.row(RowItem::Field(*field as u64)), ties)?;
+            Ok(())
+        }
+        Part::ElementStore(_, base, value) => {
+            add_tied(row_at(n, value), row_at(n, base), ties)?;
+            Ok(())
+        }
+        Part::Call(_, _, Some(slot), _, args, _) => {
+            add_slot_args(n, *slot as u64, args, ties)?;
+            Ok(())
+        }
+        Part::StaticCall(_, callee, args, _) => {
+            add_method_args(program, n, *callee as u64, args, ties)?;
+            Ok(())
+        }
+        Part::SuperCall(_, Some(callee), args, _) => {
+            add_method_args(program, n, *callee as u64, args, ties)?;
+            Ok(())
+        }
+        Part::Pair(op, left, right) if is_comparison(*op) => {
+            add_pair(program, n, left, right, ties)?;
+            Ok(())
+        }
+        Part::Test(_, operand, own) => {
+            add_test(program, n, operand, own, ties)?;
+            Ok(())
+        }
+        _ => Ok(()),
+    }
+}

@@ -1,0 +1,133 @@
+//! The types that a row can have, and the look-ups of members by them.
+
+ghost use Rattle.std.specs.Prelude.{◌≡◌, Option, Some, None, slice_get, option_and_then};
+ghost use Rattle.std.specs.Option.{option_map};
+ghost use Rattle.java_core.specs.Trees.{at_place, no_place};
+ghost use Rattle.java_core.specs.Programs.{program_of, method_seen};
+ghost use Rattle.java_core.specs.Formed.{IsFormed};
+ghost use Rattle.flow_facts.specs.Operands.{object_of, object_if, object_class, object_field, call_slot, call_declaration};
+ghost use Rattle.flow_facts.specs.Types.{field_object, slot_object, method_object, variable_object, element_object};
+
+use crate::items::ObjectType;
+use java_core::{Method, Program, Ty, TyBase, declaration_of, member_field};
+use kaba_base::{ClassId, MemberId, Name};
+
+/// The type, where a row can have it.
+pub fn object_of(ty: Ty) -> Option<ObjectType>
+    ensures value { result ≡ object_of ty }
+{
+    match ty.base {
+        TyBase::Class(class) => Some(ObjectType { class, dim: ty.dim }),
+        TyBase::Int | TyBase::Boolean | TyBase::Char | TyBase::Str => None,
+    }
+}
+
+/// The same of a type that may be missing.
+pub fn object_if(ty: Option<Ty>) -> Option<ObjectType>
+    ensures value { result ≡ object_if ty }
+{
+    match ty {
+        Some(ty) => object_of(ty),
+        None => None,
+    }
+}
+
+/// The type of a field.
+pub fn field_object(program: &Program, field: u32) -> Option<ObjectType>
+    ensures value { result ≡ field_object (program_of no_place program.now) field }
+{
+    match program.fields.get(field as usize) {
+        Some(member) => object_of(member.ty),
+        None => None,
+    }
+}
+
+/// What a method of the slot gives back.
+pub fn slot_object(program: &Program, slot: u32) -> Option<ObjectType>
+    ensures value { result ≡ slot_object (program_of no_place program.now) slot }
+{
+    match program.slots.get(slot as usize) {
+        Some(slot) => object_if(slot.result),
+        None => None,
+    }
+}
+
+/// What a method gives back.
+pub fn method_object(program: &Program, method: u32) -> Option<ObjectType>
+    ensures value { result ≡ method_object (program_of no_place program.now) method }
+{
+    match program.methods.get(method as usize) {
+        Some(member) => object_if(member.result),
+        None => None,
+    }
+}
+
+/// The type of an array's elements.
+pub fn element_object(ty: Option<ObjectType>) -> Option<ObjectType>
+    ensures value { result ≡ element_object ty }
+{
+    match ty {
+        Some(ty) if ty.dim > 0 => Some(ObjectType {
+            class: ty.class,
+            dim: ty.dim - 1,
+        }),
+        _ => None,
+    }
+}
+
+/// The class of an object; an array has none.
+pub fn object_class(ty: Option<ObjectType>) -> Option<ClassId>
+    ensures value { option_map (λ c. c.0) result ≡ object_class ty }
+{
+    match ty {
+        Some(ty) if ty.dim == 0 => Some(ty.class),
+        _ => None,
+    }
+}
+
+/// The instance field that a type has under a name.
+pub fn object_field(program: &Program, ty: Option<ObjectType>, name: &Name) -> Option<u32>
+    requires { IsFormed (program_of no_place program.now) }
+    ensures value { result ≡ object_field (program_of no_place program.now) ty name.now }
+{
+    match object_class(ty) {
+        Some(class) => number_of(member_field(program, class, name)),
+        None => None,
+    }
+}
+
+/// The declaration of a method that a call of the name on the type finds.
+pub fn call_declaration(program: &Program, ty: Option<ObjectType>, name: &Name) -> Option<u32>
+    requires { IsFormed (program_of no_place program.now) }
+    ensures value { result ≡ call_declaration (program_of no_place program.now) ty name.now }
+{
+    match object_class(ty) {
+        Some(class) => number_of(declaration_of(program, class, name)),
+        None => None,
+    }
+}
+
+/// The number of a member.
+pub fn number_of(member: Option<MemberId>) -> Option<u32>
+    ensures value { result ≡ option_map (λ d. d.0) member }
+{
+    match member {
+        Some(member) => Some(member.0),
+        None => None,
+    }
+}
+
+/// The type of a parameter or a local of a method.
+pub fn variable_object(method: &Method, local: u32) -> Option<ObjectType>
+    ensures value { result ≡ variable_object (method_seen at_place method.now) local }
+{
+    let at = local as usize;
+    let count = method.params.len();
+    if at < count {
+        return object_of(method.params[at].ty);
+    }
+    match method.locals.get(at - count) {
+        Some(local) => object_of(local.ty),
+        None => None,
+    }
+}

@@ -1,0 +1,441 @@
+//! The parts of an expression.
+
+ghost use Rattle.std.specs.Prelude.{◌≡◌, ℕ, ◌+◌, ◌<◌, ◌++◌, ◌∷◌, [], Bool, true, false, List, Option, Some, None, IfOk, OnOk, length, map, option_and_then};
+ghost use Rattle.java_core.specs.Trees.{at_place, no_place, Ex, Exs, expr_of, exprs};
+ghost use Rattle.java_core.specs.Programs.{program_of, method_seen};
+ghost use Rattle.java_core.specs.Formed.{IsFormed};
+ghost use Rattle.java_core.specs.Classes.{super_method, slot_of_method};
+ghost use Rattle.flow_facts.specs.Labels.{size, sizes, label, label_all};
+ghost use Rattle.flow_facts.specs.Operands.{operand_of, operands_of, this_operand, class_object, variable_row, object_field, call_slot, call_declaration};
+ghost use Rattle.flow_facts.specs.Parts.{is_accessed};
+ghost use Rattle.flow_facts.specs.Types.{object_type};
+ghost use Rattle.flow_facts.specs.Views.{part_seen, parts_seen, load_operand, call_operand, static_operand, super_operand, variable_operand};
+ghost use Rattle.flow_facts.specs.Parts as plain;
+
+use crate::items::{ObjectType, Operand, Part, PointItem, RowItem};
+use crate::types::{
+    call_declaration, element_object, field_object, method_object, number_of, object_field,
+    object_of, slot_object, variable_object,
+};
+use java_core::{BinOp, Method, Program, RExpr, super_method};
+use kaba_base::{ClassId, Name, Place};
+use std::alloc::{AllocError, Global};
+
+/// No flow point, no row and no type that a row can have.
+pub const NOTHING: Operand = Operand {
+    point: None,
+    row: None,
+    ty: None,
+    created: None,
+};
+
+/// An object of a class.
+pub fn class_object(class: ClassId) -> Option<ObjectType>
+    ensures value { result ≡ class_object class.0 }
+{
+    Some(ObjectType { class, dim: 0 })
+}
+
+/// What `this` is.
+pub fn this_operand(m: u64, method: &Method) -> Operand
+    ensures value { result ≡ this_operand m (method_seen at_place method.now) }
+{
+    Operand {
+        point: Some(PointItem::This(m)),
+        row: Some(RowItem::This(m)),
+        ty: class_object(method.owner),
+        created: None,
+    }
+}
+
+/// The row of a parameter or a local.
+pub fn variable_row(m: u64, method: &Method, local: u64) -> RowItem
+    ensures value { result ≡ variable_row m (method_seen at_place method.now) local }
+{
+    match method.slot {
+        Some(slot) if local < method.params.len() as u64 => RowItem::Param(slot as u64, local),
+        _ => RowItem::Local(m, local),
+    }
+}
+
+/// What a parameter or a local is.
+pub fn variable_operand(m: u64, method: &Method, local: u32) -> Operand
+    ensures value { result ≡ variable_operand m (method_seen at_place method.now) local }
+{
+    Operand {
+        point: Some(PointItem::Local(m, local as u64)),
+        row: Some(variable_row(m, method, local as u64)),
+        ty: variable_object(method, local),
+        created: None,
+    }
+}
+
+/// What a form with a label is.
+fn labelled(m: u64, label: usize, row: Option<RowItem>, ty: Option<ObjectType>) -> Operand
+    ensures value { result ≡ record { point = Some (PointItem.Expr m label); row = row; ty = ty; created = None } }
+{
+    Operand {
+        point: Some(PointItem::Expr(m, label as u64)),
+        row,
+        ty,
+        created: None,
+    }
+}
+
+/// What a creation is.
+fn creation(m: u64, label: usize, number: u32, ty: Option<ObjectType>) -> Operand
+    ensures value { result ≡ record { point = Some (PointItem.Expr m label); row = Some (RowItem.New number); ty = ty; created = Some number } }
+{
+    Operand {
+        point: Some(PointItem::Expr(m, label as u64)),
+        row: Some(RowItem::New(number as u64)),
+        ty,
+        created: Some(number as u64),
+    }
+}
+
+/// The slot of a method.
+fn slot_of_method(program: &Program, method: Option<u32>) -> Option<u32>
+    ensures value { result ≡ option_and_then (slot_of_method (program_of no_place program.now)) method }
+{
+    match program.methods.get(method? as usize) {
+        Some(member) => member.slot,
+        None => None,
+    }
+}
+
+/// Whether a creation there is the base of a field access: `.length` of an array is none.
+pub fn is_accessed(e: &RExpr) -> bool
+    ensures value { (n : ℕ) → result ≡ is_accessed (label n (expr_of at_place e.now)) }
+{
+    match e {
+        RExpr::NewArray { .. } => false,
+        _ => true,
+    }
+}
+
+/// Adds a part.
+pub fn add(parts: &mut Vec<Part>, part: Part) -> Result<(), AllocError>
+    ensures grown { OnOk result (length parts.new.items ≡ length parts.old.items + 1) }
+    ensures parts { OnOk result (parts_seen parts.new.items ≡ parts_seen parts.old.items ++ part_seen part ∷ []) }
+{
+    parts.push(part)?;
+    Ok(())
+}
+
+/// Puts a part in the place of one that was kept free.
+fn fill(parts: &mut Vec<Part>, at: usize, part: Part)
+    requires { at < length parts.old.items }
+    ensures grown { length parts.new.items ≡ length parts.old.items }
+    ensures parts { (xs ys : List plain.Part) (q : plain.Part) → length xs ≡ at → parts_seen parts.old.items ≡ xs ++ q ∷ ys → parts_seen parts.new.items ≡ xs ++ part_seen part ∷ ys }
+{
+    parts[at] = part;
+}
+
+/// Adds the parts of an expression, and gives what it is. `used` says whether a creation there is a flow point.
+#[cycle(walk)]
+pub fn walk(
+    alloc: Global,
+    program: &Program,
+    m: u64,
+    method: &Method,
+    used: bool,
+    e: &RExpr,
+    parts: &mut Vec<Part>,
+) -> Result<Operand, AllocError>
+    requires { IsFormed (program_of no_place program.now) }
+    ensures grown { IfOk result (λ o. length parts.new.items ≡ length parts.old.items + size (expr_of at_place e.now)) }
+    ensures value { IfOk result (λ o. o ≡ operand_of (program_of no_place program.now) (object_type (program_of no_place program.now) (method_seen at_place method.now)) m (method_seen at_place method.now) (label (length parts.old.items) (expr_of at_place e.now))) }
+    ensures parts { IfOk result (λ o. parts_seen parts.new.items ≡ parts_seen parts.old.items ++ plain.parts (program_of no_place program.now) (object_type (program_of no_place program.now) (method_seen at_place method.now)) m (method_seen at_place method.now) used (label (length parts.old.items) (expr_of at_place e.now))) }
+{
+    match e {
+        RExpr::Int { .. }
+        | RExpr::Char { .. }
+        | RExpr::Str { .. }
+        | RExpr::Bool { .. }
+        | RExpr::Null { .. } => Ok(NOTHING),
+        RExpr::This { .. } => Ok(this_operand(m, method)),
+        RExpr::Local { local, .. } => Ok(variable_operand(m, method, *local)),
+        RExpr::Static { field, .. } => Ok(Operand {
+            point: Some(PointItem::Static(field.0 as u64)),
+            row: Some(RowItem::Field(field.0 as u64)),
+            ty: field_object(program, field.0),
+            created: None,
+        }),
+        RExpr::Own { field, place } => {
+            let row = Some(RowItem::Field(field.0 as u64));
+            let own = labelled(m, parts.len(), row, field_object(program, field.0));
+            let this = this_operand(m, method);
+            add(parts, Part::Load(*place, this, Some(field.0), own))?;
+            Ok(own)
+        }
+        RExpr::Field { base, name, place } => {
+            let accessed = is_accessed(base);
+            let base = walk(alloc, program, m, method, accessed, base, parts)?;
+            add_load(program, m, *place, base, name, parts)
+        }
+        RExpr::Index { base, at, place } => {
+            let base = walk(alloc, program, m, method, true, base, parts)?;
+            let own = labelled(m, parts.len(), base.row, element_object(base.ty));
+            add(parts, Part::Element(*place, base, own))?;
+            walk(alloc, program, m, method, false, at, parts)?;
+            Ok(own)
+        }
+        RExpr::Call {
+            base,
+            name,
+            args,
+            place,
+        } => match base {
+            None => {
+                let this = this_operand(m, method);
+                let own = add_call(alloc, program, m, method, *place, this, name, args, parts)?;
+                Ok(own)
+            }
+            Some(base) => {
+                let base = walk(alloc, program, m, method, true, base, parts)?;
+                let own = add_call(alloc, program, m, method, *place, base, name, args, parts)?;
+                Ok(own)
+            }
+        },
+        RExpr::StaticCall {
+            method: callee,
+            args,
+            place,
+        } => {
+            let own = add_static_call(alloc, program, m, method, *place, callee.0, args, parts)?;
+            Ok(own)
+        }
+        RExpr::SuperCall { name, args, place } => {
+            let own = add_super_call(alloc, program, m, method, *place, name, args, parts)?;
+            Ok(own)
+        }
+        RExpr::New {
+            number,
+            class,
+            args,
+            place,
+        } => {
+            let own = creation(m, parts.len(), *number, class_object(*class));
+            add(parts, Part::New(*place, used, own))?;
+            let _args = walk_all(alloc, program, m, method, false, args, parts)?;
+            Ok(own)
+        }
+        RExpr::NewArray {
+            number,
+            ty,
+            size,
+            place,
+        } => {
+            let own = creation(m, parts.len(), *number, object_of(*ty));
+            add(parts, Part::New(*place, used, own))?;
+            walk(alloc, program, m, method, false, size, parts)?;
+            Ok(own)
+        }
+        RExpr::Cast {
+            number,
+            ty,
+            value,
+            place,
+        } => {
+            let row = Some(RowItem::Cast(*number as u64));
+            let own = labelled(m, parts.len(), row, object_of(*ty));
+            let at = parts.len();
+            add(parts, Part::Test(*place, NOTHING, own))?;
+            let value = walk(alloc, program, m, method, true, value, parts)?;
+            fill(parts, at, Part::Test(*place, value, own));
+            Ok(own)
+        }
+        RExpr::InstanceOf {
+            number,
+            value,
+            class,
+            place,
+        } => {
+            let value = walk(alloc, program, m, method, true, value, parts)?;
+            let row = Some(RowItem::Test(*number as u64));
+            let own = labelled(m, parts.len(), row, class_object(*class));
+            add(parts, Part::Test(*place, value, own))?;
+            Ok(NOTHING)
+        }
+        RExpr::Unary { value, .. } => {
+            walk(alloc, program, m, method, false, value, parts)?;
+            Ok(NOTHING)
+        }
+        RExpr::Binary {
+            op,
+            left,
+            right,
+            ..
+        } => {
+            let left = walk(alloc, program, m, method, false, left, parts)?;
+            let right = walk(alloc, program, m, method, false, right, parts)?;
+            add(parts, Part::Pair(*op, left, right))?;
+            Ok(NOTHING)
+        }
+    }
+}
+
+/// Adds the read of a field, and gives what it is.
+fn add_load(
+    program: &Program,
+    m: u64,
+    place: Place,
+    base: Operand,
+    name: &Name,
+    parts: &mut Vec<Part>,
+) -> Result<Operand, AllocError>
+    requires { IsFormed (program_of no_place program.now) }
+    ensures grown { IfOk result (λ o. length parts.new.items ≡ length parts.old.items + 1) }
+    ensures value { IfOk result (λ o. o ≡ load_operand (program_of no_place program.now) m (length parts.old.items) base.ty name.now) }
+    ensures parts { IfOk result (λ o. parts_seen parts.new.items ≡ parts_seen parts.old.items ++ plain.a_load place base (object_field (program_of no_place program.now) base.ty name.now) (load_operand (program_of no_place program.now) m (length parts.old.items) base.ty name.now) ∷ []) }
+{
+    let field = object_field(program, base.ty, name);
+    let (row, ty) = match field {
+        Some(field) => (
+            Some(RowItem::Field(field as u64)),
+            field_object(program, field),
+        ),
+        None => (None, None),
+    };
+    let own = labelled(m, parts.len(), row, ty);
+    add(parts, Part::Load(place, base, field, own))?;
+    Ok(own)
+}
+
+/// Adds the parts of arguments, and gives what they are.
+#[cycle(walk)]
+fn walk_all(
+    alloc: Global,
+    program: &Program,
+    m: u64,
+    method: &Method,
+    used: bool,
+    args: &Vec<RExpr>,
+    parts: &mut Vec<Part>,
+) -> Result<Vec<Operand>, AllocError>
+    requires { IsFormed (program_of no_place program.now) }
+    ensures grown { IfOk result (λ o. length parts.new.items ≡ length parts.old.items + sizes (exprs at_place args.now.items)) }
+    ensures value { IfOk result (λ o. o.items ≡ operands_of (program_of no_place program.now) (object_type (program_of no_place program.now) (method_seen at_place method.now)) m (method_seen at_place method.now) (label_all (length parts.old.items) (exprs at_place args.now.items))) }
+    ensures parts { IfOk result (λ o. parts_seen parts.new.items ≡ parts_seen parts.old.items ++ plain.parts_all (program_of no_place program.now) (object_type (program_of no_place program.now) (method_seen at_place method.now)) m (method_seen at_place method.now) used (label_all (length parts.old.items) (exprs at_place args.now.items))) }
+{
+    let mut list = Vec::new(alloc);
+    for e in args {
+        list.push(walk(alloc, program, m, method, used, e, parts)?)?;
+    }
+    Ok(list)
+}
+
+/// Adds the parts of a call on a receiver, and gives what it is.
+#[cycle(walk)]
+fn add_call(
+    alloc: Global,
+    program: &Program,
+    m: u64,
+    method: &Method,
+    place: Place,
+    base: Operand,
+    name: &Name,
+    args: &Vec<RExpr>,
+    parts: &mut Vec<Part>,
+) -> Result<Operand, AllocError>
+    requires { IsFormed (program_of no_place program.now) }
+    ensures grown { IfOk result (λ o. length parts.new.items ≡ length parts.old.items + 1 + sizes (exprs at_place args.now.items)) }
+    ensures value { IfOk result (λ o. o ≡ call_operand (program_of no_place program.now) m (length parts.old.items) base.ty name.now) }
+    ensures parts { IfOk result (λ o. parts_seen parts.new.items ≡ parts_seen parts.old.items ++ plain.a_call place base (call_slot (program_of no_place program.now) base.ty name.now) (call_declaration (program_of no_place program.now) base.ty name.now) (operands_of (program_of no_place program.now) (object_type (program_of no_place program.now) (method_seen at_place method.now)) m (method_seen at_place method.now) (label_all (length parts.old.items + 1) (exprs at_place args.now.items))) (call_operand (program_of no_place program.now) m (length parts.old.items) base.ty name.now) ∷ plain.parts_all (program_of no_place program.now) (object_type (program_of no_place program.now) (method_seen at_place method.now)) m (method_seen at_place method.now) true (label_all (length parts.old.items + 1) (exprs at_place args.now.items))) }
+{
+    let at = parts.len();
+    add(parts, Part::Pair(BinOp::Both, NOTHING, NOTHING))?;
+    let args = walk_all(alloc, program, m, method, true, args, parts)?;
+    let declaration = call_declaration(program, base.ty, name);
+    let slot = slot_of_method(program, declaration);
+    let own = call_operand(program, m, at, slot);
+    fill(
+        parts,
+        at,
+        Part::Call(place, base, slot, declaration, args, own),
+    );
+    Ok(own)
+}
+
+/// What the call of a slot is.
+fn call_operand(program: &Program, m: u64, label: usize, slot: Option<u32>) -> Operand
+    ensures value { (s : Option ObjectType) (x : List ℕ) → slot ≡ call_slot (program_of no_place program.now) s x → result ≡ call_operand (program_of no_place program.now) m label s x }
+{
+    match slot {
+        Some(slot) => labelled(
+            m,
+            label,
+            Some(RowItem::Return(slot as u64)),
+            slot_object(program, slot),
+        ),
+        None => labelled(m, label, None, None),
+    }
+}
+
+/// Adds the parts of a call of a static method, and gives what it is.
+#[cycle(walk)]
+fn add_static_call(
+    alloc: Global,
+    program: &Program,
+    m: u64,
+    method: &Method,
+    place: Place,
+    callee: u32,
+    args: &Vec<RExpr>,
+    parts: &mut Vec<Part>,
+) -> Result<Operand, AllocError>
+    requires { IsFormed (program_of no_place program.now) }
+    ensures grown { IfOk result (λ o. length parts.new.items ≡ length parts.old.items + 1 + sizes (exprs at_place args.now.items)) }
+    ensures value { IfOk result (λ o. o ≡ static_operand (program_of no_place program.now) m (length parts.old.items) callee) }
+    ensures parts { IfOk result (λ o. parts_seen parts.new.items ≡ parts_seen parts.old.items ++ plain.a_static_call place callee (operands_of (program_of no_place program.now) (object_type (program_of no_place program.now) (method_seen at_place method.now)) m (method_seen at_place method.now) (label_all (length parts.old.items + 1) (exprs at_place args.now.items))) (static_operand (program_of no_place program.now) m (length parts.old.items) callee) ∷ plain.parts_all (program_of no_place program.now) (object_type (program_of no_place program.now) (method_seen at_place method.now)) m (method_seen at_place method.now) false (label_all (length parts.old.items + 1) (exprs at_place args.now.items))) }
+{
+    let at = parts.len();
+    add(parts, Part::Pair(BinOp::Both, NOTHING, NOTHING))?;
+    let args = walk_all(alloc, program, m, method, false, args, parts)?;
+    let row = Some(RowItem::Result(callee as u64));
+    let own = labelled(m, at, row, method_object(program, callee));
+    fill(parts, at, Part::StaticCall(place, callee, args, own));
+    Ok(own)
+}
+
+/// Adds the parts of a super call, and gives what it is.
+#[cycle(walk)]
+fn add_super_call(
+    alloc: Global,
+    program: &Program,
+    m: u64,
+    method: &Method,
+    place: Place,
+    name: &Name,
+    args: &Vec<RExpr>,
+    parts: &mut Vec<Part>,
+) -> Result<Operand, AllocError>
+    requires { IsFormed (program_of no_place program.now) }
+    ensures grown { IfOk result (λ o. length parts.new.items ≡ length parts.old.items + 1 + sizes (exprs at_place args.now.items)) }
+    ensures value { IfOk result (λ o. o ≡ super_operand (program_of no_place program.now) m (length parts.old.items) method.now.owner.0 name.now) }
+    ensures parts { IfOk result (λ o. parts_seen parts.new.items ≡ parts_seen parts.old.items ++ plain.a_super_call place (super_method (program_of no_place program.now) method.now.owner.0 name.now) (operands_of (program_of no_place program.now) (object_type (program_of no_place program.now) (method_seen at_place method.now)) m (method_seen at_place method.now) (label_all (length parts.old.items + 1) (exprs at_place args.now.items))) (super_operand (program_of no_place program.now) m (length parts.old.items) method.now.owner.0 name.now) ∷ plain.parts_all (program_of no_place program.now) (object_type (program_of no_place program.now) (method_seen at_place method.now)) m (method_seen at_place method.now) false (label_all (length parts.old.items + 1) (exprs at_place args.now.items))) }
+{
+    let at = parts.len();
+    add(parts, Part::Pair(BinOp::Both, NOTHING, NOTHING))?;
+    let args = walk_all(alloc, program, m, method, false, args, parts)?;
+    let callee = number_of(super_method(program, method.owner, name));
+    let own = super_operand(program, m, at, callee);
+    fill(parts, at, Part::SuperCall(place, callee, args, own));
+    Ok(own)
+}
+
+/// What a super call of a method is.
+fn super_operand(program: &Program, m: u64, label: usize, callee: Option<u32>) -> Operand
+    ensures value { (c : ℕ) (x : List ℕ) → callee ≡ super_method (program_of no_place program.now) c x → result ≡ super_operand (program_of no_place program.now) m label c x }
+{
+    let row = match slot_of_method(program, callee) {
+        Some(slot) => Some(RowItem::Return(slot as u64)),
+        None => None,
+    };
+    let ty = match callee {
+        Some(callee) => method_object(program, callee),
+        None => None,
+    };
+    labelled(m, label, row, ty)
+}
