@@ -185,6 +185,3 @@ pub fn resolve(alloc: Global, tree: &Tree) -> Result<Program, Refusal>
         Err(refusal) => Err(refusal),
     }
 }
-
-#[cfg(test)]
-mod tests;
