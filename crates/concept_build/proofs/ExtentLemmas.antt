@@ -1,24 +1,26 @@
-use Rattle.std.proofs.Common.{◌≡◌, ⊎_elim, ℕ, ◌<◌, Bool, true, List, [], length, get_or, sym, ap, ◌∙◌, subst, arith}
-use Rattle.std.specs.declared.cmp.Ordering.TheVariants.{Less, Equal, Greater}
-use Rattle.std.specs.List.{HoldsAt}
-use Rattle.std.specs.List.Sorted.{IsPartitionPoint}
-use Rattle.std.proofs.lemmas.Bool.{cases_order, cases_lt, and_from}
+use Rattle.std.proofs.Common.{◌≡◌, ⊎_elim, ℕ, ◌<◌, Bool, true, false, List, [], length, map, get_or, sym, ap, ◌∙◌, subst, arith}
+use Rattle.std.specs.Prelude.{Contains, ◌==◌}
+use Rattle.std.specs.declared.cmp.Ordering.TheVariants.{Less, Equal}
+use Rattle.std.proofs.lemmas.Bool.{cases_order, and_from, eqb-true, eq-eqb}
 use Rattle.std.proofs.lemmas.Cmp.{tied_itself}
 use Rattle.std.proofs.lemmas.List.{get_or-map, length-map}
-use Rattle.kaba_bits.specs.Sets.{bit, row, IsSubset}
-use Rattle.kaba_bits.proofs.SetLemmas.{same_bits, bit-below}
-use Rattle.fact_model.specs.Concepts.{Pair, IsExtent, IsIntent, IsConcept, concept_cmp, AreConcepts, AreAllConcepts}
+use Rattle.kaba_bits.specs.Sets.{bit, row, size, rising, IsSubset}
+use Rattle.kaba_bits.proofs.SetLemmas.{same_bits, subset-same, bit-below}
+use Rattle.kaba_bits.proofs.RisingLemmas.{rising_from-same}
+use Rattle.fact_model.specs.Concepts.{Pair, IsExtent, IsIntent, IsConcept, concept_cmp, AreConcepts, AreAllConcepts, HasIntent}
 use Rattle.concept_build.specs.Intents.{IsMeet}
-use Rattle.concept_build.specs.Lists.{extents_of, IsClosure}
+use Rattle.concept_build.specs.Lists.{extents_of, columns_of, AreDifferent, IsClosure}
 use Rattle.concept_build.proofs.OrderLemmas.{concept_cmp-total}
-use Rattle.concept_build.proofs.PlaceLemmas.{same_intent}
-use Rattle.concept_build.proofs.MadeLemmas.{same_Bool, meet-left, meet-right, closed-meet, closed-concept, concept-closed}
+use Rattle.concept_build.proofs.MadeLemmas.{same_Bool, meet, IsMeet-meet, meet-left, meet-right, closed-meet, closed-concept, concept-closed}
 
 pub nothing : Pair
 nothing = ([], [])
 
 pub row-extents_of : (xs : List Pair) (k : ℕ) (d : Pair) → k < length xs → row (extents_of xs) k ≡ (get_or xs k d).0
 row-extents_of xs k d lt = get_or-map (λ (x : Pair). x.0) xs k d [] lt
+
+pub column-columns_of : (xs : List Pair) (k : ℕ) (d : List ℕ) → k < length xs → get_or (columns_of xs) k d ≡ rising (get_or xs k nothing).1
+column-columns_of xs k d lt = get_or-map (λ (x : Pair). rising x.1) xs k nothing d lt
 
 module _ (T : List (List Bool)) (w : ℕ) where
   same_extent : (A C B : List Bool) → IsExtent T A B → IsExtent T C B → A ≡ C
@@ -55,60 +57,99 @@ module _ (T : List (List Bool)) (w : ℕ) where
     same_number i j ilt jlt e =
         ⊎_elim (λ s. s) (⊎_elim (λ lt. absurd (apart i j lt jlt e)) (λ gt. absurd (apart j i gt ilt (sym e)))) (cases_order i j)
 
-  -- the concept whose intent is that of the extent at k without what the row q lacks
-  module _ (xs : List Pair) (all : AreAllConcepts T w xs) (k q : ℕ) (klt : k < length xs) (qlt : q < length T) (x : Pair) (meet : IsMeet x.1 (get_or xs k nothing).1 (row T q)) (extent : IsExtent T x.0 x.1) where
-    concept : IsConcept T w x.0 x.1
-    concept = let y = get_or xs k nothing in concept-closed T w x.0 x.1 extent (closed-meet T w q x.1 y.1 qlt (closed-concept T w y.0 y.1 (all.concepts.each k nothing klt)) meet)
+  -- different numbers have different columns
+  pub columns-differ : (xs : List Pair) → AreConcepts T w xs → AreDifferent (columns_of xs)
+  columns-differ xs are i j d ij lt e =
+      let len = length-map xs (λ (x : Pair). rising x.1) in
+      let jlt : j < length xs = omega (arith, lt, len) in
+      let ilt : i < length xs = omega (arith, ij, jlt) in
+      let a = get_or xs i nothing in
+      let b = get_or xs j nothing in
+      let p = are.each i nothing ilt in
+      let q = are.each j nothing jlt in
+      let f : a.1 ≡ b.1 = rising_from-same 0 a.1 b.1 (p.intent.len ∙ sym q.intent.len) (sym (column-columns_of xs i d ilt) ∙ (e ∙ column-columns_of xs j d jlt)) in
+      let g : a.0 ≡ b.0 = same_extent a.0 b.0 b.1 (subst (IsExtent T a.0) f p.extent) q.extent in
+      let h : i ≡ j = same_number xs are i j ilt jlt (row-extents_of xs i nothing ilt ∙ (g ∙ sym (row-extents_of xs j nothing jlt))) in
+      omega (arith, h, ij)
 
-    at_intent : (i : ℕ) (d : Pair) → i < length xs → (get_or xs i d).1 ≡ x.1 → get_or xs i d ≡ x
-    at_intent i d lt e =
-        let y = get_or xs i d in
-        let f : y.0 ≡ x.0 = same_extent y.0 x.0 x.1 (subst (IsExtent T y.0) e (all.concepts.each i d lt).extent) extent in
-        λ n. (f n, e n)
+  -- the rows that have all columns of a set
+  abbrev extent : List Bool → List Bool
+  extent B = map (λ r. size (meet B r) == size B) T
+
+  IsExtent-extent : (B : List Bool) → IsExtent T (extent B) B
+  IsExtent-extent B = record {
+    len = length-map T (λ r. size (meet B r) == size B);
+    rows = λ r lt.
+        let R = row T r in
+        let m = IsMeet-meet B R in
+        let at : bit (extent B) r ≡ (size (meet B R) == size B) = get_or-map (λ r. size (meet B r) == size B) T r [] false lt in (
+          λ h.
+              let e : size (meet B R) ≡ size B = eqb-true (size (meet B R)) (size B) (sym at ∙ h) in
+              let f : meet B R ≡ B = subset-same (meet B R) B m.len (meet-left (meet B R) B R m) (omega (arith, e)) in
+              λ i b. meet-right (meet B R) B R m i (subst (λ s. bit s i ≡ true) (sym f) b),
+          λ s.
+              let f : meet B R ≡ B = same_bits (meet B R) B m.len (λ i ilt. same_Bool (bit (meet B R) i) (bit B i) (meet-left (meet B R) B R m i) (λ b. m.bits i ∙ and_from (bit B i) (bit R i) b (s i b))) in
+              at ∙ eq-eqb (size (meet B R)) (size B) (ap size f),
+        );
+  }
+
+  -- the concept whose intent is that of the extent at k without what the row q lacks
+  module _ (xs : List Pair) (all : AreAllConcepts T w xs) (k q : ℕ) (klt : k < length xs) (qlt : q < length T) where
+    abbrev pub y : Pair
+    y = get_or xs k nothing
+
+    c : IsConcept T w y.0 y.1
+    c = all.concepts.each k nothing klt
 
     -- it is in the list
-    pub not_missing : (i : ℕ) → IsPartitionPoint (λ y. concept_cmp y x ≡ Less) (λ y. concept_cmp y x ≡ Greater) xs i → ⊥
-    not_missing i parted =
-        let h = all.complete x.0 x.1 concept in
-        let here : get_or xs h.at nothing ≡ x = at_intent h.at nothing h.below (h.is nothing) in
-        let tie : concept_cmp (get_or xs h.at nothing) x ≡ Equal = subst (λ y. concept_cmp y x ≡ Equal) (sym here) (tied_itself concept_cmp-total x) in
-        ⊎_elim
-        (λ lt. let m : Less ≡ Equal = sym (parted.0 h.at nothing (omega arith) lt) ∙ tie in cc)
-        (λ ge. let m : Greater ≡ Equal = sym (parted.1 h.at nothing ge h.below) ∙ tie in cc)
-        (cases_lt h.at i)
+    pub meet-there : HasIntent xs (meet y.1 (row T q))
+    meet-there =
+        let B = meet y.1 (row T q) in
+        all.complete (extent B) B (concept-closed T w (extent B) B (IsExtent-extent B) (closed-meet T w q B y.1 qlt (closed-concept T w y.0 y.1 c) (IsMeet-meet y.1 (row T q))))
 
-    holds_x : IsSubset (get_or xs k nothing).0 x.0
-    holds_x r a =
-        let y = get_or xs k nothing in
-        let c = all.concepts.each k nothing klt in
-        let rlt : r < length T = omega (arith, bit-below y.0 r a, c.extent.len) in
-        (extent.rows r rlt).1 (λ i b. (c.extent.rows r rlt).0 a i (meet-left x.1 y.1 (row T q) meet i b))
+    pub columns-there : Contains (columns_of xs) (rising (meet y.1 (row T q)))
+    columns-there =
+        let h = meet-there in
+        let len = length-map xs (λ (x : Pair). rising x.1) in
+        (h.at, omega (arith, h.below, len), column-columns_of xs h.at (rising (meet y.1 (row T q))) h.below ∙ ap rising (h.is nothing))
 
-    least_x : (z : Pair) → IsConcept T w z.0 z.1 → IsSubset (get_or xs k nothing).0 z.0 → bit z.0 q ≡ true → IsSubset x.0 z.0
-    least_x z p over has r b =
-        let y = get_or xs k nothing in
-        let c = all.concepts.each k nothing klt in
-        let rlt : r < length T = omega (arith, bit-below x.0 r b, extent.len) in
-        (p.extent.rows r rlt).1 (λ i h.
-        let below : i < w = omega (arith, bit-below z.1 i h, p.intent.len) in
-        let each = (p.intent.columns i below).0 h in
-        (extent.rows r rlt).0 b i (meet.bits i ∙ and_from (bit y.1 i) (bit (row T q) i) ((c.intent.columns i below).1 (λ s slt a. each s slt (over s a))) (each q qlt has)))
+    module _ (i : ℕ) (lt : i < length xs) (same : get_or (columns_of xs) i [] ≡ rising (meet y.1 (row T q))) where
+      abbrev z : Pair
+      z = get_or xs i nothing
 
-    pub closure-found : (i : ℕ) → i < length xs → HoldsAt (λ y. concept_cmp y x ≡ Equal) xs i → IsClosure (extents_of xs) k q i
-    closure-found i lt tie =
-        let y = get_or xs k nothing in
-        let z = get_or xs i nothing in
-        let p = all.concepts.each i nothing lt in
-        let e : z ≡ x = at_intent i nothing lt (same_intent z x (p.intent.len ∙ sym concept.intent.len) (tie nothing)) in
-        let at_k = row-extents_of xs k nothing klt in
-        let at_i : row (extents_of xs) i ≡ x.0 = row-extents_of xs i nothing lt ∙ ap (λ (u : Pair). u.0) e in
-        let len = length-map xs (λ (u : Pair). u.0) in
-        record {
-          below = omega (arith, len, lt);
-          holds = rw (at_k, at_i) holds_x;
-          has = rw at_i ((extent.rows q qlt).1 (meet-right x.1 y.1 (row T q) meet));
-          least = λ j jlt over has.
-              let below : j < length xs = omega (arith, len, jlt) in
-              let at_j = row-extents_of xs j nothing below in
-              rw (at_i, at_j) (least_x (get_or xs j nothing) (all.concepts.each j nothing below) (rw (at_k, at_j) at over) (rw at_j at has));
-        }
+      p : IsConcept T w z.0 z.1
+      p = all.concepts.each i nothing lt
+
+      meet-z : IsMeet z.1 y.1 (row T q)
+      meet-z =
+          let m = IsMeet-meet y.1 (row T q) in
+          let e : z.1 ≡ meet y.1 (row T q) = rising_from-same 0 z.1 (meet y.1 (row T q)) (p.intent.len ∙ sym (m.len ∙ c.intent.len)) (sym (column-columns_of xs i [] lt) ∙ same) in
+          subst (λ B. IsMeet B y.1 (row T q)) (sym e) m
+
+      holds_z : IsSubset y.0 z.0
+      holds_z r a =
+          let rlt : r < length T = omega (arith, bit-below y.0 r a, c.extent.len) in
+          (p.extent.rows r rlt).1 (λ i b. (c.extent.rows r rlt).0 a i (meet-left z.1 y.1 (row T q) meet-z i b))
+
+      least_z : (x : Pair) → IsConcept T w x.0 x.1 → IsSubset y.0 x.0 → bit x.0 q ≡ true → IsSubset z.0 x.0
+      least_z x o over has r b =
+          let rlt : r < length T = omega (arith, bit-below z.0 r b, p.extent.len) in
+          (o.extent.rows r rlt).1 (λ i h.
+          let below : i < w = omega (arith, bit-below x.1 i h, o.intent.len) in
+          let each = (o.intent.columns i below).0 h in
+          (p.extent.rows r rlt).0 b i (meet-z.bits i ∙ and_from (bit y.1 i) (bit (row T q) i) ((c.intent.columns i below).1 (λ s slt a. each s slt (over s a))) (each q qlt has)))
+
+      pub closure-found : IsClosure (extents_of xs) k q i
+      closure-found =
+          let at_k = row-extents_of xs k nothing klt in
+          let at_i = row-extents_of xs i nothing lt in
+          let len = length-map xs (λ (u : Pair). u.0) in
+          record {
+            below = omega (arith, len, lt);
+            holds = rw (at_k, at_i) holds_z;
+            has = rw at_i ((p.extent.rows q qlt).1 (meet-right z.1 y.1 (row T q) meet-z));
+            least = λ j jlt over has.
+                let below : j < length xs = omega (arith, len, jlt) in
+                let at_j = row-extents_of xs j nothing below in
+                rw (at_i, at_j) (least_z (get_or xs j nothing) (all.concepts.each j nothing below) (rw (at_k, at_j) at over) (rw at_j at has));
+          }

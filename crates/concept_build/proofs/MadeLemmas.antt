@@ -43,7 +43,7 @@ same_Bool true b f g = sym (f refl)
 same_Bool false true f g = g refl
 same_Bool false false f g = refl
 
-abbrev meet : List Bool → List Bool → List Bool
+abbrev pub meet : List Bool → List Bool → List Bool
 meet [] ys = []
 meet (x ∷ xs) [] = false ∷ meet xs []
 meet (x ∷ xs) (y ∷ ys) = (x && y) ∷ meet xs ys
@@ -63,6 +63,9 @@ bit-meet (x ∷ xs) [] zero = and-false x
 bit-meet (x ∷ xs) [] (suc i) = bit-meet xs [] i
 bit-meet (x ∷ xs) (y ∷ ys) zero = refl
 bit-meet (x ∷ xs) (y ∷ ys) (suc i) = bit-meet xs ys i
+
+pub IsMeet-meet : (xs ys : List Bool) → IsMeet (meet xs ys) xs ys
+IsMeet-meet xs ys = record { len = length-meet xs ys; bits = bit-meet xs ys }
 
 pub same_meets : (B D C R : List Bool) → IsMeet B C R → IsMeet D C R → B ≡ D
 same_meets B D C R m n = ext_get_or false B D (m.len ∙ sym n.len) (λ i lt. m.bits i ∙ sym (n.bits i))
@@ -89,7 +92,7 @@ module _ (T : List (List Bool)) (w : ℕ) where
       ⊎_elim
       (λ has. record {
         set = meet before.set (row T i);
-        made = inr (before.set, before.made, record { len = length-meet before.set (row T i); bits = bit-meet before.set (row T i) });
+        made = inr (before.set, before.made, IsMeet-meet before.set (row T i));
         len = length-meet before.set (row T i) ∙ before.len;
         columns = λ c lt. (
           λ b r rlt a.

@@ -1,13 +1,16 @@
 -- Lists of concepts in their order, and what the call answers.
-use Rattle.std.specs.Prelude.{◌≡◌, ℕ, ◌<◌, Bool, true, false, List, length, map, All, AllPairs, Result, MatchResult}
+use Rattle.std.specs.Prelude.{◌≡◌, ℕ, ◌<◌, Bool, true, false, List, [], ◌∷◌, ◌++◌, length, map, slice_index_or, All, AllPairs, Contains, Option, Result, MatchOption, MatchResult}
+use Rattle.std.specs.Bool.{MatchBool}
+use Rattle.std.specs.declared.vec.Vec.{Vec}
+use Rattle.std.specs.declared.alloc.Global.{Global}
 use Rattle.std.specs.declared.cmp.Ordering.TheVariants.{Less, Equal, Greater}
 use Rattle.std.specs.List.{HoldsAt}
 use Rattle.std.specs.List.Sorted.{IsPartitionPoint}
-use Rattle.kaba_bits.specs.Sets.{bit, row, IsSubset}
+use Rattle.kaba_bits.specs.Sets.{bit, row, rising, IsSubset}
 use Rattle.fact_model.specs.Concepts.{Pair, concept_cmp, IsConcept, HasIntent, AreMoreThan, IsWithin}
 use Rattle.concept_build.specs.declared.LatticeFault.{LatticeFault}
 use Rattle.concept_build.specs.declared.LatticeFault.TheVariants.{TooManyConcepts, Memory}
-use Rattle.concept_build.specs.Intents.{Made}
+use Rattle.concept_build.specs.Intents.{IsMeet, Made}
 
 -- why there is no lattice: more concepts than the bound; want of memory comes at any time
 abbrev pub IsFaultOf : List (List Bool) → ℕ → ℕ → LatticeFault → Type 0
@@ -32,6 +35,38 @@ pub record IsInsertion (old : List Pair) (x : Pair) (new : List Pair) : Type 0 w
 -- each intersection of some of the first rows is an intent of the list
 abbrev pub HasMade : List (List Bool) → ℕ → ℕ → List Pair → Type 0
 HasMade T w i xs = (B : List Bool) → Made T w i B → HasIntent xs B
+
+-- the lists of columns in a set of them
+abbrev pub lists_of : List (Vec ℕ Global) → List (List ℕ)
+lists_of keys = map (λ v. v.items) keys
+
+-- the columns of each concept, rising
+abbrev pub columns_of : List Pair → List (List ℕ)
+columns_of xs = map (λ k. rising k.1) xs
+
+-- no two lists are the same
+abbrev pub AreDifferent : List (List ℕ) → Type 0
+AreDifferent xs = AllPairs (λ a b. a ≡ b → ⊥) xs
+
+-- a list was not there and is now the last, or it was there and nothing changed
+abbrev pub IsAddition : List (List ℕ) → List ℕ → List (List ℕ) → Bool → Type 0
+IsAddition old x new added = MatchBool added (new ≡ old ++ x ∷ []) ((new ≡ old) × Contains old x)
+
+-- where a list stands, if it is there
+abbrev pub IsFound : List (List ℕ) → List ℕ → Option ℕ → Type 0
+IsFound xs x r = MatchOption r (Contains xs x → ⊥) (λ i. (i < length xs) × (slice_index_or xs i [] ≡ x))
+
+-- each set of the width w whose columns are known has a property
+abbrev pub AreKnown : ℕ → List (List ℕ) → (List Bool → Type 0) → Type 0
+AreKnown w known P = (B : List Bool) → length B ≡ w → Contains known (rising B) → P B
+
+-- a set is in the family
+abbrev pub HasRow : List (List Bool) → List Bool → Type 0
+HasRow sets B = (j : ℕ) × (j < length sets) × (row sets j ≡ B)
+
+-- a set is the intersection of an intent of the list with R
+abbrev pub HasMeet : List Pair → List Bool → List Bool → Type 0
+HasMeet xs R B = (k : ℕ) × (k < length xs) × ((d : Pair) → IsMeet B (slice_index_or xs k d).1 R)
 
 -- the extents of a list of concepts
 abbrev pub extents_of : List Pair → List (List Bool)

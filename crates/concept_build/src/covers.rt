@@ -1,13 +1,13 @@
 //! The upper covers of a concept: the least of the closures of its extent with one more row.
 
-ghost use Rattle.std.specs.Prelude.{◌≡◌, ℕ, ◌<◌, ◌^◌, ◌↔◌, true, length, All, IfOk, IsTrue, slice_index_or};
+ghost use Rattle.std.specs.Prelude.{◌≡◌, ℕ, ◌<◌, ◌^◌, ◌↔◌, true, length, All, IfOk, IsTrue};
 ghost use Rattle.kaba_bits.specs.Sets.{bit, row, HasWidth, ListsBelow};
-ghost use Rattle.fact_model.specs.Concepts.{Pair, AreAllConcepts, IsExtent, IsUpperCover, IsWithin};
-ghost use Rattle.concept_build.specs.Intents.{IsMeet};
-ghost use Rattle.concept_build.specs.Lists.{extents_of, IsClosure, AreCandidates, IsLeast};
+ghost use Rattle.fact_model.specs.Concepts.{AreAllConcepts, IsUpperCover, IsWithin};
+ghost use Rattle.concept_build.specs.Lists.{extents_of, columns_of, lists_of, IsClosure, AreCandidates, IsLeast};
 
-use crate::intents::meet_of;
-use crate::item::{Item, item_at, place_of};
+use crate::item::{Item, common_columns, item_at};
+use crate::places::place_of_columns;
+use indexmap::IndexSet;
 use kaba_bits::{BitRow, row_at};
 use std::alloc::{AllocError, Global};
 
@@ -16,6 +16,7 @@ pub fn above(
     alloc: Global,
     table: &[BitRow],
     items: &[Item],
+    places: &IndexSet<Vec<u32>>,
     k: usize,
     width: u32,
 ) -> Result<Vec<u32>, AllocError>
@@ -23,10 +24,11 @@ pub fn above(
     requires widths { HasWidth width table.now }
     requires small { length items.now < 2 ^ 32 }
     requires all { AreAllConcepts table.now width items.now }
+    requires places { lists_of places.now.keys ≡ columns_of items.now }
     requires k { k < length items.now }
     ensures { IfOk result (λ v. ListsBelow (IsUpperCover (extents_of items.now) k) (length items.now) v.items) }
 {
-    let candidates = candidates(alloc, table, items, k, width)?;
+    let candidates = candidates(alloc, table, items, places, k, width)?;
     let numbers = candidates.rising(alloc)?;
     let above = least(alloc, items, &candidates, &numbers)?;
     Ok(above)
@@ -37,6 +39,7 @@ fn candidates(
     alloc: Global,
     table: &[BitRow],
     items: &[Item],
+    places: &IndexSet<Vec<u32>>,
     k: usize,
     width: u32,
 ) -> Result<BitRow, AllocError>
@@ -44,6 +47,7 @@ fn candidates(
     requires widths { HasWidth width table.now }
     requires small { length items.now < 2 ^ 32 }
     requires all { AreAllConcepts table.now width items.now }
+    requires places { lists_of places.now.keys ≡ columns_of items.now }
     requires k { k < length items.now }
     ensures { IfOk result (λ b. AreCandidates (extents_of items.now) k (length table.now) b) }
 {
@@ -51,18 +55,20 @@ fn candidates(
     let mut candidates = BitRow::new(alloc, items.len() as u32)?;
     for q in 0..table.len() {
         if !item.extent().has(q as u32) {
-            let at = closure_at(alloc, table, items, k, q, width)?;
+            let at = closure_at(alloc, table, items, places, k, q, width)?;
             candidates.set(at as u32);
         }
     }
     Ok(candidates)
 }
 
-/// The number of the least extent with the rows of the extent at `k`, and with the row `q`.
+/// The number of the least extent with the rows of the extent at `k`, and with the row `q`: that of the
+/// columns that the concept at `k` and the row have in common.
 fn closure_at(
     alloc: Global,
     table: &[BitRow],
     items: &[Item],
+    places: &IndexSet<Vec<u32>>,
     k: usize,
     q: usize,
     width: u32,
@@ -70,37 +76,16 @@ fn closure_at(
     requires rows { length table.now < 2 ^ 32 }
     requires widths { HasWidth width table.now }
     requires all { AreAllConcepts table.now width items.now }
+    requires places { lists_of places.now.keys ≡ columns_of items.now }
     requires k { k < length items.now }
     requires q { q < length table.now }
     ensures { IfOk result (λ i. IsClosure (extents_of items.now) k q i) }
 {
-    let item = closure(alloc, table, items, k, q, width)?;
-    match place_of(items, &item) {
-        Ok(at) => Ok(at),
-        Err(_) => unreachable!(),
+    let columns = common_columns(alloc, item_at(items, k), row_at(table, q))?;
+    match place_of_columns(places, &columns) {
+        Some(at) => Ok(at),
+        None => unreachable!(),
     }
-}
-
-/// The concept of the columns that the concept at `k` and the row `q` have in common.
-fn closure(
-    alloc: Global,
-    table: &[BitRow],
-    items: &[Item],
-    k: usize,
-    q: usize,
-    width: u32,
-) -> Result<Item, AllocError>
-    requires rows { length table.now < 2 ^ 32 }
-    requires widths { HasWidth width table.now }
-    requires all { AreAllConcepts table.now width items.now }
-    requires k { k < length items.now }
-    requires q { q < length table.now }
-    ensures meet { IfOk result (λ x. (d : Pair) → IsMeet x.1 (slice_index_or items.now k d).1 (row table.now q)) }
-    ensures extent { IfOk result (λ x. IsExtent table.now x.0 x.1) }
-{
-    let intent = meet_of(alloc, item_at(items, k).intent(), row_at(table, q))?;
-    let item = Item::new(alloc, table, intent)?;
-    Ok(item)
 }
 
 /// The candidates that have no other strictly within, rising.

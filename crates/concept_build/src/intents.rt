@@ -1,13 +1,15 @@
 //! All concepts: their intents are the intersections of rows.
 
-ghost use Rattle.std.specs.Prelude.{◌≡◌, ℕ, ◌+◌, ◌<◌, ◌≤◌, ◌^◌, Bool, List, length, IfOk, OnOk, IfErr, slice_index_or};
+ghost use Rattle.std.specs.Prelude.{◌≡◌, ℕ, ◌+◌, ◌<◌, ◌≤◌, ◌^◌, ◌⊎◌, Bool, List, length, IfOk, OnOk, IfErr, slice_index_or};
 ghost use Rattle.kaba_bits.specs.Sets.{row, HasWidth};
 ghost use Rattle.fact_model.specs.Concepts.{Pair, AreConcepts, AreAllConcepts, HasIntent};
 ghost use Rattle.concept_build.specs.Intents.{IsMeet, IsClosed};
-ghost use Rattle.concept_build.specs.Lists.{IsFaultOf, HasMade};
+ghost use Rattle.concept_build.specs.Lists.{IsFaultOf, HasMade, lists_of, AreKnown, HasRow, HasMeet};
 
 use crate::LatticeFault;
-use crate::item::{Item, insert};
+use crate::item::{Item, common_columns, insert};
+use crate::places::is_new;
+use indexmap::IndexSet;
 use kaba_bits::{BitRow, row_at};
 use std::alloc::{AllocError, Global};
 
@@ -25,11 +27,12 @@ pub fn all_items(
     ensures cause { IfErr result (λ e. IsFaultOf table.now width bound e) }
 {
     let mut items = first_items(alloc, table, width)?;
+    let mut known = IndexSet::new(alloc);
     for r in 0..table.len() {
         if items.len() > bound as usize {
             return Err(LatticeFault::TooManyConcepts(bound));
         }
-        add_row(alloc, table, &mut items, r, width)?;
+        add_row(alloc, table, &mut items, &mut known, r, width)?;
     }
     if items.len() <= bound as usize {
         return Ok(items);
@@ -51,11 +54,13 @@ fn first_items(alloc: Global, table: &[BitRow], width: u32) -> Result<Vec<Item>,
     Ok(items)
 }
 
-/// Adds the concepts of the intersections with one more row.
+/// Adds the concepts of the intersections with one more row. The column lists that are known are those
+/// of concepts that are there.
 fn add_row(
     alloc: Global,
     table: &[BitRow],
     items: &mut Vec<Item>,
+    known: &mut IndexSet<Vec<u32>>,
     r: usize,
     width: u32,
 ) -> Result<(), AllocError>
@@ -64,29 +69,41 @@ fn add_row(
     requires widths { HasWidth width table.now }
     requires concepts { AreConcepts table.now width items.old.items }
     requires made { HasMade table.now width r items.old.items }
+    requires known { AreKnown width (lists_of known.old.keys) (HasIntent items.old.items) }
     ensures concepts { OnOk result (AreConcepts table.now width items.new.items) }
     ensures made { OnOk result (HasMade table.now width (r + 1) items.new.items) }
+    ensures known { OnOk result (AreKnown width (lists_of known.new.keys) (HasIntent items.new.items)) }
 {
-    let sets = meets(alloc, items, row_at(table, r))?;
+    let sets = new_meets(alloc, items, known, row_at(table, r))?;
     insert_all(alloc, table, items, &sets, width)?;
     Ok(())
 }
 
-/// The intersection of each intent with a row.
-fn meets(alloc: Global, items: &[Item], with: &BitRow) -> Result<Vec<BitRow>, AllocError>
-    requires { (k : ℕ) (d : Pair) → k < length items.now → length (slice_index_or items.now k d).1 ≡ length with.now }
-    ensures len { IfOk result (λ v. length v.items ≡ length items.now) }
-    ensures meets { IfOk result (λ v. (k : ℕ) (d : Pair) → k < length items.now → IsMeet (row v.items k) (slice_index_or items.now k d).1 with.now) }
+/// The intersections of intents with a row that are not known yet. Then they are.
+fn new_meets(
+    alloc: Global,
+    items: &[Item],
+    known: &mut IndexSet<Vec<u32>>,
+    with: &BitRow,
+) -> Result<Vec<BitRow>, AllocError>
+    requires widths { (k : ℕ) (d : Pair) → k < length items.now → length (slice_index_or items.now k d).1 ≡ length with.now }
+    requires known { AreKnown (length with.now) (lists_of known.old.keys) (HasIntent items.now) }
+    ensures meets { IfOk result (λ v. (j : ℕ) → j < length v.items → HasMeet items.now with.now (row v.items j)) }
+    ensures known { IfOk result (λ v. AreKnown (length with.now) (lists_of known.new.keys) (λ B. HasIntent items.now B ⊎ HasRow v.items B)) }
+    ensures each { IfOk result (λ v. (k : ℕ) (d : Pair) (M : List Bool) → k < length items.now → IsMeet M (slice_index_or items.now k d).1 with.now → HasIntent items.now M ⊎ HasRow v.items M) }
 {
     let mut sets = Vec::new(alloc);
     for item in items {
-        sets.push(meet_of(alloc, item.intent(), with)?)?;
+        let columns = common_columns(alloc, item, with)?;
+        if is_new(known, columns)? {
+            sets.push(meet_of(alloc, item.intent(), with)?)?;
+        }
     }
     Ok(sets)
 }
 
 /// The intersection of two sets.
-pub fn meet_of(alloc: Global, set: &BitRow, with: &BitRow) -> Result<BitRow, AllocError>
+fn meet_of(alloc: Global, set: &BitRow, with: &BitRow) -> Result<BitRow, AllocError>
     requires { length set.now ≡ length with.now }
     ensures { IfOk result (λ b. IsMeet b set.now with.now) }
 {

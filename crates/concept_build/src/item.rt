@@ -1,9 +1,10 @@
 //! Concepts on the way, and lists of them in their order.
 
-ghost use Rattle.std.specs.Prelude.{◌≡◌, ℕ, ◌<◌, ◌^◌, ◌↔◌, length, AllPairs, IfOk, OnOk, IsTrue, slice_index_or};
+ghost use Rattle.std.specs.Prelude.{◌≡◌, ℕ, ◌<◌, ◌^◌, ◌↔◌, Bool, List, length, AllPairs, IfOk, OnOk, IsTrue, slice_index_or};
 ghost use Rattle.std.specs.List.Sorted.{IsSearchInRange};
-ghost use Rattle.kaba_bits.specs.Sets.{row, HasWidth};
+ghost use Rattle.kaba_bits.specs.Sets.{row, rising, HasWidth};
 ghost use Rattle.fact_model.specs.Concepts.{Pair, concept_cmp, IsExtent, IsWithin};
+ghost use Rattle.concept_build.specs.Intents.{IsMeet};
 ghost use Rattle.concept_build.specs.Lists.{extents_of, IsBefore, IsPlace, IsInsertion};
 
 use kaba_bits::{BitRow, row_at};
@@ -66,6 +67,13 @@ impl Item {
         &self.intent
     }
 
+    /// The numbers of the columns, rising.
+    pub fn columns(&self) -> &[u32]
+        ensures { result.now ≡ rising self.now.1 }
+    {
+        &self.columns
+    }
+
     /// By falling size of extent, then by intent.
     pub fn compare(&self, other: &Item) -> Ordering
         ensures { result ≡ concept_cmp self.now other.now }
@@ -96,6 +104,20 @@ fn extent_of(alloc: Global, table: &[BitRow], intent: &BitRow) -> Result<BitRow,
         }
     }
     Ok(extent)
+}
+
+/// The columns of an intent that a row has too, rising.
+pub fn common_columns(alloc: Global, item: &Item, with: &BitRow) -> Result<Vec<u32>, AllocError>
+    requires { length item.now.1 ≡ length with.now }
+    ensures { IfOk result (λ v. (M : List Bool) → IsMeet M item.now.1 with.now → v.items ≡ rising M) }
+{
+    let mut common = Vec::new(alloc);
+    for c in item.columns() {
+        if with.has(*c) {
+            common.push(*c)?;
+        }
+    }
+    Ok(common)
 }
 
 /// One concept of a list.

@@ -5,9 +5,10 @@ ghost use Rattle.std.specs.Prelude.{◌≡◌, ℕ, ◌-◌, ◌<◌, ◌≤◌,
 ghost use Rattle.kaba_bits.specs.Sets.{HasWidth};
 ghost use Rattle.fact_model.specs.declared.sets.Concept.{Concept};
 ghost use Rattle.fact_model.specs.Concepts.{Pair, pair_of, AreAllConcepts, IsPlaced, IsLatticeOf};
-ghost use Rattle.concept_build.specs.Lists.{IsFaultOf, extents_of};
+ghost use Rattle.concept_build.specs.Lists.{IsFaultOf, extents_of, columns_of, lists_of};
 
 use fact_model::{Concept, Lattice, Table};
+use indexmap::IndexSet;
 use kaba_bits::BitRow;
 use std::alloc::{AllocError, Global};
 use thiserror::Error;
@@ -15,6 +16,7 @@ use thiserror::Error;
 mod covers;
 mod intents;
 mod item;
+mod places;
 mod stands;
 #[cfg(test)]
 mod tests;
@@ -22,6 +24,7 @@ mod tests;
 use covers::above;
 use intents::all_items;
 use item::{Item, item_at};
+use places::places_of;
 use stands::{columns_at, rows_at};
 
 /// Why there is no lattice.
@@ -57,7 +60,8 @@ pub fn concepts(alloc: Global, table: &Table, bound: u32) -> Result<Lattice, Lat
     ensures cause { IfErr result (λ e. IsFaultOf table.now.rows.items table.now.width bound e) }
 {
     let items = all_items(alloc, &table.rows, table.width, bound)?;
-    let concepts = placed_items(alloc, &table.rows, &items, table.width)?;
+    let places = places_of(alloc, &items)?;
+    let concepts = placed_items(alloc, &table.rows, &items, &places, table.width)?;
     Ok(Lattice { concepts })
 }
 
@@ -66,18 +70,20 @@ fn placed_items(
     alloc: Global,
     table: &[BitRow],
     items: &[Item],
+    places: &IndexSet<Vec<u32>>,
     width: u32,
 ) -> Result<Vec<Concept>, AllocError>
     requires rows { length table.now < 2 ^ 32 }
     requires widths { HasWidth width table.now }
     requires small { length items.now < 2 ^ 32 }
     requires all { AreAllConcepts table.now width items.now }
+    requires places { lists_of places.now.keys ≡ columns_of items.now }
     ensures pairs { IfOk result (λ v. map pair_of v.items ≡ items.now) }
     ensures placed { IfOk result (λ v. (k : ℕ) (d : Concept) → k < length items.now → IsPlaced table.now width (extents_of items.now) k (slice_index_or v.items k d)) }
 {
     let mut concepts = Vec::new(alloc);
     for k in 0..items.len() {
-        concepts.push(placed_item(alloc, table, items, k, width)?)?;
+        concepts.push(placed_item(alloc, table, items, places, k, width)?)?;
     }
     Ok(concepts)
 }
@@ -87,6 +93,7 @@ fn placed_item(
     alloc: Global,
     table: &[BitRow],
     items: &[Item],
+    places: &IndexSet<Vec<u32>>,
     k: usize,
     width: u32,
 ) -> Result<Concept, AllocError>
@@ -94,6 +101,7 @@ fn placed_item(
     requires widths { HasWidth width table.now }
     requires small { length items.now < 2 ^ 32 }
     requires all { AreAllConcepts table.now width items.now }
+    requires places { lists_of places.now.keys ≡ columns_of items.now }
     requires k { k < length items.now }
     ensures pair { IfOk result (λ x. (d : Pair) → pair_of x ≡ slice_index_or items.now k d) }
     ensures placed { IfOk result (λ x. IsPlaced table.now width (extents_of items.now) k x) }
@@ -101,7 +109,7 @@ fn placed_item(
     let item = item_at(items, k);
     let extent = item.extent().copy(alloc)?;
     let intent = item.intent().copy(alloc)?;
-    let above = above(alloc, table, items, k, width)?;
+    let above = above(alloc, table, items, places, k, width)?;
     let rows = rows_at(alloc, table, &intent)?;
     let columns = columns_at(alloc, table, &extent, width)?;
     Ok(Concept {

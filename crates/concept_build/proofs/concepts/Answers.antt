@@ -4,6 +4,7 @@ use Rattle.std.proofs.lemmas.Simd.{map-map}
 use Rattle.fact_model.specs.declared.sets.Concept.{Concept}
 use Rattle.fact_model.specs.Concepts.{Pair, pair_of, AreAllConcepts, IsPlaced}
 use Rattle.concept_build.specs.Lists.{extents_of}
+use Rattle.concept_build.proofs.ExtentLemmas.{columns-differ}
 use Rattle.concept_build.proofs.concepts.Goals as goal
 
 pub returns-clause-lattice : goal.returns-clause-lattice
@@ -13,10 +14,15 @@ returns-clause-lattice c =
     let l = c.in_ok-concepts.concepts.items in
     let items = c.in_ok-items.items.items in
     let all = rw c.deref.ensures.value at c.in_ok-items.ensures.all in
-    let pairs = rw c.deref-3.ensures.value at c.in_ok-concepts.ensures.pairs in
-    let placed = rw (c.deref-2.ensures.value, c.deref-3.ensures.value) at c.in_ok-concepts.ensures.placed in
+    let pairs = rw c.deref-4.ensures.value at c.in_ok-concepts.ensures.pairs in
+    let placed = rw (c.deref-3.ensures.value, c.deref-4.ensures.value) at c.in_ok-concepts.ensures.placed in
     let e : extents_of items ≡ map (λ (x : Concept). x.extent) l = ap extents_of (sym pairs) ∙ map-map (λ (p : Pair). p.0) pair_of l in
     record {
       all = subst (AreAllConcepts T w) (sym pairs) all;
       placed = λ k d lt. subst (λ E. IsPlaced T w E k (get_or l k d)) e (placed k d (omega (arith, lt, ap length pairs, length-map l pair_of)));
     }
+
+pub places_of-requires : goal.places_of-requires
+places_of-requires c =
+    let all = rw c.deref.ensures.value at c.in_ok-items.ensures.all in
+    rw c.deref-2.ensures.value (columns-differ c.args.table.now.rows.items c.args.table.now.width c.in_ok-items.items.items all.concepts)

@@ -1,10 +1,29 @@
-use Rattle.concept_build.proofs.ExtentLemmas.{nothing, not_missing, closure-found}
+use Rattle.std.proofs.Common.{get_or, sym, ◌∙◌, arith}
+use Rattle.std.proofs.lemmas.List.{length-map}
+use Rattle.kaba_bits.specs.Sets.{row, rising}
+use Rattle.fact_model.specs.Concepts.{Pair}
+use Rattle.concept_build.proofs.MadeLemmas.{meet, IsMeet-meet}
+use Rattle.concept_build.proofs.ExtentLemmas.{nothing, columns-there, closure-found}
 use Rattle.concept_build.proofs.covers.closure_at.Goals as goal
+
+pub common_columns-requires : goal.common_columns-requires
+common_columns-requires c =
+    rw (c.item_at.ensures.item nothing, c.row_at.ensures) ((c.requires.all.concepts.each c.args.k nothing c.requires.k).intent.len ∙ sym (c.requires.widths c.args.q c.requires.q))
 
 pub unreachable-requires : goal.unreachable-requires
 unreachable-requires c =
-    not_missing c.args.table.now c.args.width c.args.items.now c.requires.all c.args.k c.args.q c.requires.k c.requires.q c.in_ok-item.item (c.in_ok-item.ensures.meet nothing) c.in_ok-item.ensures.extent c.in-Err.field-0 c.in-Err.ensures.place
+    let xs = c.args.items.now in
+    let B = (get_or xs c.args.k nothing).1 in
+    let R = row c.args.table.now c.args.q in
+    let is = rw (c.item_at.ensures.item nothing, c.row_at.ensures) at c.in_ok-columns.ensures in
+    let none = rw (c.deref.ensures.value, is (meet B R) (IsMeet-meet B R), c.requires.places) at c.in-None.ensures in
+    none (columns-there c.args.table.now c.args.width xs c.requires.all c.args.k c.args.q c.requires.k c.requires.q)
 
 pub returns : goal.returns
 returns c =
-    closure-found c.args.table.now c.args.width c.args.items.now c.requires.all c.args.k c.args.q c.requires.k c.requires.q c.in_ok-item.item (c.in_ok-item.ensures.meet nothing) c.in_ok-item.ensures.extent c.in-Ok.at c.in-Ok.ensures.within c.in-Ok.ensures.place
+    let xs = c.args.items.now in
+    let B = (get_or xs c.args.k nothing).1 in
+    let R = row c.args.table.now c.args.q in
+    let is = rw (c.item_at.ensures.item nothing, c.row_at.ensures) at c.in_ok-columns.ensures in
+    let found = rw (c.deref.ensures.value, is (meet B R) (IsMeet-meet B R), c.requires.places) at c.in-Some.ensures in
+    closure-found c.args.table.now c.args.width xs c.requires.all c.args.k c.args.q c.requires.k c.requires.q c.in-Some.at (omega (arith, found.0, length-map xs (λ (y : Pair). rising y.1))) found.1
