@@ -1,13 +1,22 @@
--- A tree that was read is one that a text gives.
-use Rattle.std.proofs.Common.{◌≡◌, ℕ, List, Ok, refl}
+-- A tree that was read is one that a text gives; a fault says that there is none.
+use Rattle.std.proofs.Common.{◌≡◌, ◌⊎◌, inl, inr, ℕ, List, Ok, Err, refl, sym, ◌∙◌}
 use Rattle.java_lex.specs.declared.Token.{Token}
+use Rattle.java_lex.specs.declared.LexFault.{LexFault}
 use Rattle.java_lex.specs.Lexing.{tokens_of}
 use Rattle.java_tree.specs.Syntax.{DeclTree}
-use Rattle.java_tree.specs.Declarations.{IsPlaced}
+use Rattle.java_tree.specs.Declarations.{IsPlaced, Derives}
+use Rattle.java_tree.specs.Nesting.{IsTooDeep}
 use Rattle.java_print.specs.Formed.{IsReadAs, IsGiven}
+use Rattle.java_again.specs.Again.{HasNoTree}
 
 pub is_read : (bytes : List ℕ) (tokens : List Token) (tree : List DeclTree) → tokens_of bytes ≡ Ok tokens → IsPlaced tokens tree → IsReadAs bytes tree
 is_read bytes tokens tree h p = record { tokens = tokens; lexed = h; derived = record { placed = tree; derived = p; same = refl } }
 
 pub given : (bytes : List ℕ) (tokens : List Token) (tree : List DeclTree) → tokens_of bytes ≡ Ok tokens → IsPlaced tokens tree → IsGiven tree
 given bytes tokens tree h p = record { bytes = bytes; read = is_read bytes tokens tree h p }
+
+pub no_tokens : (bytes : List ℕ) (fault : LexFault) → tokens_of bytes ≡ Err fault → HasNoTree bytes
+no_tokens bytes fault h = λ tokens e. let g : Err fault ≡ Ok tokens = sym h ∙ e in absurd (cc)
+
+pub no_tree : (bytes : List ℕ) (tokens : List Token) → tokens_of bytes ≡ Ok tokens → ((k : ℕ) × IsTooDeep tokens k) ⊎ ((tree : List DeclTree) → Derives tokens tree → ⊥) → HasNoTree bytes
+no_tree bytes tokens h none = λ others e. ?

@@ -1,30 +1,36 @@
 //! A text read and written again in the project's layout.
 #![tactic(auto)]
 
-ghost use Rattle.std.specs.Prelude.{◌<◌, length, vec_len, IfOk, IfSome};
+ghost use Rattle.std.specs.Prelude.{◌<◌, length, vec_len, IfOk, IfSome, IfNone};
 ghost use Rattle.java_tree.specs.Syntax.{tree_of};
-ghost use Rattle.java_again.specs.Again.{IsSameProgram};
+ghost use Rattle.java_again.specs.Again.{IsSameProgram, HasNoTree};
 
-use java_lex::lex;
-use java_parse::parse;
+use java_lex::{LexFault, lex};
+use java_parse::{ParseFault, parse};
 use java_print::print;
 use std::alloc::{AllocError, Global};
 
-/// The program of the text, written again; `None` where the text has no tokens, no tree, or nests
-/// too deep. What is written is read as the same tree, places aside.
-#[tactic(auto, using(crate::proofs::Given::given))]
+/// The program of the text, written again; `None` exactly where the text has no tokens, no tree, or
+/// nests too deep. What is written is read as the same tree, places aside. `AllocError` comes where
+/// memory is short.
+#[tactic(auto, using(crate::proofs::Given::given, crate::proofs::Given::no_tokens, crate::proofs::Given::no_tree))]
 pub fn again(alloc: Global, text: &Vec<u8>) -> Result<Option<Vec<u8>>, AllocError>
     requires small { vec_len text.now < 4294967295 }
     ensures same { IfOk result (λ written. IfSome written (λ v. IsSameProgram text.now.items v.items)) }
+    ensures none { IfOk result (λ written. IfNone written (HasNoTree text.now.items)) }
 {
-    let Ok(tokens) = lex(alloc, text) else {
-        return Ok(None);
+    let tokens = match lex(alloc, text) {
+        Ok(tokens) => tokens,
+        Err(LexFault::Memory) => return Err(AllocError),
+        Err(_) => return Ok(None),
     };
     if tokens.len() >= 4_294_967_295 {
-        return Ok(None);
+        return Err(AllocError);
     }
-    let Ok(tree) = parse(alloc, &tokens) else {
-        return Ok(None);
+    let tree = match parse(alloc, &tokens) {
+        Ok(tree) => tree,
+        Err(ParseFault::Memory) => return Err(AllocError),
+        Err(_) => return Ok(None),
     };
     let mut written = Vec::new(alloc);
     print(alloc, &tree, &mut written)?;
