@@ -1,5 +1,5 @@
 -- A tree that was read is one that a text gives; a fault says that there is none.
-use Rattle.std.proofs.Common.{◌≡◌, ◌⊎◌, inl, inr, ℕ, List, Ok, Err, refl, sym, ◌∙◌}
+use Rattle.std.proofs.Common.{◌≡◌, ◌⊎◌, inl, inr, ℕ, List, Ok, Err, refl, sym, subst, ◌∙◌}
 use Rattle.java_lex.specs.declared.Token.{Token}
 use Rattle.java_lex.specs.declared.LexFault.{LexFault}
 use Rattle.java_lex.specs.Lexing.{tokens_of}
@@ -19,4 +19,4 @@ pub no_tokens : (bytes : List ℕ) (fault : LexFault) → tokens_of bytes ≡ Er
 no_tokens bytes fault h = λ tokens e. let g : Err fault ≡ Ok tokens = sym h ∙ e in absurd (cc)
 
 pub no_tree : (bytes : List ℕ) (tokens : List Token) → tokens_of bytes ≡ Ok tokens → ((k : ℕ) × IsTooDeep tokens k) ⊎ ((tree : List DeclTree) → Derives tokens tree → ⊥) → HasNoTree bytes
-no_tree bytes tokens h none = λ others e. ?
+no_tree bytes tokens h none = λ others e. let g : Ok tokens ≡ Ok others = sym h ∙ e in let t : tokens ≡ others = cc in subst (λ ts. ((k : ℕ) × IsTooDeep ts k) ⊎ ((tree : List DeclTree) → Derives ts tree → ⊥)) t none

@@ -10,7 +10,7 @@ use java_parse::{ParseFault, parse};
 use java_print::print;
 use std::alloc::{AllocError, Global};
 
-/// The program of the text, written again; `None` exactly where the text has no tokens, no tree, or
+/// The program of the text, written again; `None` only where the text has no tokens, no tree, or
 /// nests too deep. What is written is read as the same tree, places aside. `AllocError` comes where
 /// memory is short.
 #[tactic(auto, using(crate::proofs::Given::given, crate::proofs::Given::no_tokens, crate::proofs::Given::no_tree))]
