@@ -15,29 +15,23 @@ use Rattle.java_core.specs.Programs.{Plain, PlainMethod, PlainSlot, PlainClass}
 use Rattle.java_core.specs.Formed.{IsMain}
 use Rattle.java_resolve.specs.Known.{Known}
 use Rattle.java_resolve.specs.declared.tables.Heading.{Heading}
-use Rattle.java_resolve.specs.Answers.{with}
-use Rattle.java_resolve.specs.Classes.{known_of, classes_of, above_of, loops_of}
-use Rattle.java_resolve.specs.Members.{Members, members_of, clashes_of, main_of}
+use Rattle.java_resolve.specs.Members.{Members}
 use Rattle.java_resolve.specs.Resolved.{slot_at, program, with_bodies, resolved}
 use Rattle.java_resolve.specs.Resolved as resolved_by
 use Rattle.java_resolve.specs.Outline.{MethodAt, is_text_type, fields_in, methods_in, types_in, method_outline, outline}
 use Rattle.java_resolve.specs.Meanings.{class_named, MeansBase, an_int, a_boolean, a_char, a_text, a_class}
 use Rattle.java_resolve.specs.Asked.{a_parent, a_face, of_field, of_param, of_result, Asks, by_super, by_type}
-use Rattle.java_print.specs.Formed.{IsFormedTree}
 use Rattle.java_resolve.specs.Resolves.{heading_of, IsOfSlot, HasSlot, no_slot, a_slot, AreSlots, Resolves}
-use Rattle.java_resolve.specs.Conditions.{ConditionAt}
-use Rattle.java_resolve.proofs.Sees.{Tells, tell, same_some}
+use Rattle.java_resolve.proofs.Sees.{same_some}
 use Rattle.java_resolve.proofs.Runs.{stands-within, member-stands, map-stands, stands-map}
-use Rattle.java_resolve.proofs.KnownTypes.{AreKnown, known-tells}
-use Rattle.java_resolve.proofs.KnownClasses.{AreClasses, classes-tells, classes-outline}
-use Rattle.java_resolve.proofs.Reached.{AreAbove, above-tells}
-use Rattle.java_resolve.proofs.Loops.{loops-tells}
+use Rattle.java_resolve.proofs.KnownTypes.{AreKnown}
+use Rattle.java_resolve.proofs.KnownClasses.{AreClasses}
+use Rattle.java_resolve.proofs.Reached.{AreAbove}
 use Rattle.java_resolve.proofs.SlotsOf.{SlotOf, none_of, one_of}
 use Rattle.java_resolve.proofs.KnownMembers.{AreMembers, some-stands}
-use Rattle.java_resolve.proofs.AllMembers.{members-tells}
-use Rattle.java_resolve.proofs.MethodClashes.{classes-count, clashes-tells, IsFirstMain, main-tells}
+use Rattle.java_resolve.proofs.MethodClashes.{IsFirstMain}
 use Rattle.java_resolve.proofs.SeesOutline.{sees-outline}
-use Rattle.java_resolve.proofs.MethodBodies.{BodiesAre, bodies-tells}
+use Rattle.java_resolve.proofs.MethodBodies.{BodiesAre}
 
 some-is : {A : Type 0} (o : Option A) (x : A) → o ≡ Some x → is_some o ≡ true
 some-is o x e = ap is_some e

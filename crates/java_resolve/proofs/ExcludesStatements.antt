@@ -1,5 +1,5 @@
 -- A statement that resolves holds no condition.
-use Rattle.std.proofs.Common.{◌≡◌, ℕ, Bool, true, List, [], ◌∷◌, ◌++◌, Option, refl, sym, ap, ◌∙◌, subst}
+use Rattle.std.proofs.Common.{◌≡◌, ℕ, Bool, List, [], ◌∷◌, ◌++◌, Option, refl, sym, ap, ◌∙◌, subst}
 use Rattle.std.proofs.lemmas.Bool.{false≢true}
 use Rattle.std.proofs.lemmas.List.{map-append}
 use Rattle.java_tree.specs.Syntax.{Expression, Statement, Statements, OptionalStatement}
@@ -10,7 +10,7 @@ use Rattle.java_resolve.specs.declared.Refusal.{Refusal}
 use Rattle.java_resolve.specs.declared.tables.Bound.{Bound}
 use Rattle.java_resolve.specs.declared.exprs.Here.{Here}
 use Rattle.java_resolve.specs.Meanings.{is_bound, bound_names}
-use Rattle.java_resolve.specs.Resolves.{ResolvesTo, ResolvesIf, r_some, scope_after, scope_after_part, StResolves, r_declare, r_block, r_assign, r_act, r_print, r_choose, r_while, r_for, r_return, r_break, r_continue, StsResolve, r_and_then, ArmsResolve, r_else, r_arm, PartResolves, r_absent, r_present}
+use Rattle.java_resolve.specs.Resolves.{ResolvesTo, ResolvesIf, r_some, scope_after, scope_after_part, StResolves, r_declare, r_block, r_assign, r_act, r_print, r_choose, r_while, r_for, r_return, StsResolve, r_and_then, ArmsResolve, r_else, r_arm, PartResolves, r_absent, r_present}
 use Rattle.java_resolve.specs.Conditions.{FaultIn, FaultInValue, in_value, names_after, names_after_part, StFault, no_type_of_local, type_as_local, local_twice, in_first_value, in_block, in_target, in_assigned, in_call, in_printed, in_choice, in_else, in_while_test, in_while, in_first_part, in_for_test, in_last_part, in_for, in_returned, break_outside, continue_outside, StsFault, in_statement, in_rest, ArmsFault, in_test, in_arm, in_more_arms, PartFault, in_part}
 use Rattle.java_resolve.proofs.Excludes.{OneMet, type-holds, holds}
 

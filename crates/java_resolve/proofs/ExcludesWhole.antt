@@ -8,17 +8,17 @@ use Rattle.std.proofs.lemmas.Slice.Eq.{bytes_eq-Decides}
 use Rattle.java_tree.specs.declared.Modifier.{Modifier}
 use Rattle.java_tree.specs.declared.Param.{Param}
 use Rattle.java_tree.specs.Syntax.{Statements, DeclTree}
-use Rattle.java_core.specs.Programs.{Plain, PlainClass, PlainMethod, PlainSlot}
+use Rattle.java_core.specs.Programs.{Plain, PlainClass, PlainMethod}
 use Rattle.java_core.specs.Classes.{IsSubclass}
 use Rattle.java_core.specs.Types.{types_of}
-use Rattle.java_core.specs.Formed.{HasNoTwice, IsMain}
+use Rattle.java_core.specs.Formed.{HasNoTwice}
 use Rattle.java_resolve.specs.declared.Refusal.{Refusal}
 use Rattle.java_resolve.specs.declared.Refusal.TheVariants.{PrivateReused}
 use Rattle.java_resolve.specs.declared.flags.Kind.{Kind}
 use Rattle.java_resolve.specs.Known.{Known}
 use Rattle.java_resolve.specs.declared.tables.Heading.{Heading}
 use Rattle.java_resolve.specs.Tables.{is_above}
-use Rattle.java_resolve.specs.Members.{Members, clash_of, clash_with}
+use Rattle.java_resolve.specs.Members.{Members}
 use Rattle.java_resolve.specs.Resolved as resolved_by
 use Rattle.java_resolve.specs.Outline.{MethodAt, name_of, class_at, type_named, id_meant, faces_named, is_private, fields_in, methods_in, types_in, param_outline, method_outline, outline}
 use Rattle.java_resolve.specs.Meanings.{class_named, bound_names}

@@ -1,5 +1,5 @@
 -- What `resolve` answers, from what the rules make of the tree.
-use Rattle.std.proofs.Common.{◌≡◌, List, Result, Ok, Err, Bool, true, false, arith, sym, subst, length, map, ℕ, ◌<◌}
+use Rattle.std.proofs.Common.{◌≡◌, List, Result, Ok, Err, Bool, true, arith, sym, subst, length, ◌<◌}
 use Rattle.std.proofs.lemmas.List.{length-map}
 use Rattle.std.specs.Bool.{OnTrue}
 use Rattle.java_tree.specs.Syntax.{DeclTree}
@@ -16,7 +16,7 @@ use Rattle.java_resolve.specs.Resolves.{Resolves}
 use Rattle.java_resolve.specs.Conditions.{ConditionAt}
 use Rattle.java_resolve.specs.Causes.{IsCause, HasNoCondition}
 use Rattle.java_resolve.proofs.Sees.{Tells}
-use Rattle.java_resolve.proofs.Bare.{bare_program, bare-program}
+use Rattle.java_resolve.proofs.Bare.{bare-program}
 use Rattle.java_resolve.proofs.Whole.{ResolvesFormed, resolved-formed}
 
 told : (tree : List DeclTree) (o : Result Plain Refusal) → IsFormedTree tree → resolved tree ≡ o → Tells (ResolvesFormed tree) (ConditionAt tree) o

@@ -1,5 +1,5 @@
 -- The program that a tree resolves to is formed, whole.
-use Rattle.std.proofs.Common.{◌≡◌, ℕ, zero, suc, ◌<◌, ◌≤◌, ◌⊎◌, inl, inr, ⊎_elim, Bool, true, false, not, ◌||◌, ◌&&◌, List, [], ◌∷◌, map, length, Option, Some, None, refl, sym, ap, ◌∙◌, subst, arith}
+use Rattle.std.proofs.Common.{◌≡◌, ℕ, zero, suc, ◌<◌, ◌≤◌, ◌⊎◌, inl, inr, ⊎_elim, Bool, true, false, not, ◌||◌, ◌&&◌, List, [], ◌∷◌, map, Option, Some, None, refl, sym, ap, ◌∙◌, subst, arith}
 use Rattle.std.specs.Prelude.{slice_get, if◌then◌else◌}
 use Rattle.std.proofs.lemmas.Bool.{false≢true, eqb-true, cases_lt}
 use Rattle.std.proofs.lemmas.Slice.Eq.{bytes_eq-Decides}
@@ -11,30 +11,25 @@ use Rattle.java_core.specs.Formed.{HasNoTwice, IsFormedSlot, IsFormedMethod, IsM
 use Rattle.java_resolve.specs.declared.Refusal.TheVariants.{Overload, PrivateReused}
 use Rattle.java_resolve.specs.Known.{Known}
 use Rattle.java_resolve.specs.declared.tables.Heading.{Heading}
-use Rattle.java_resolve.specs.Answers.{with}
 use Rattle.java_resolve.specs.Tables.{bit_in, row_in, is_above}
-use Rattle.java_resolve.specs.Classes.{known_of, classes_of, above_of, loops_of}
-use Rattle.java_resolve.specs.Members.{Members, meet, same_slot, clash_of, members_of, clashes_of, main_of}
+use Rattle.java_resolve.specs.Members.{Members, meet, same_slot, clash_of}
 use Rattle.java_resolve.specs.Resolved.{program, with_bodies, resolved}
 use Rattle.java_resolve.specs.Resolved as resolved_by
 use Rattle.java_resolve.specs.Outline.{MethodAt, fields_in, methods_in, types_in, method_outline, outline}
 use Rattle.java_print.specs.Formed.{IsFormedTree}
 use Rattle.java_resolve.specs.Resolves.{heading_of, Resolves}
-use Rattle.java_resolve.specs.Conditions.{ConditionAt}
-use Rattle.java_resolve.proofs.Sees.{Tells, tell}
 use Rattle.java_resolve.proofs.Runs.{map-stands, stands-map}
-use Rattle.java_resolve.proofs.KnownTypes.{AreKnown, known-tells}
-use Rattle.java_resolve.proofs.KnownClasses.{AreClasses, classes-tells, classes-outline}
-use Rattle.java_resolve.proofs.Reached.{AreAbove, above-tells}
-use Rattle.java_resolve.proofs.Loops.{NoLoops, loops-tells}
+use Rattle.java_resolve.proofs.KnownTypes.{AreKnown}
+use Rattle.java_resolve.proofs.KnownClasses.{AreClasses}
+use Rattle.java_resolve.proofs.Reached.{AreAbove}
+use Rattle.java_resolve.proofs.Loops.{NoLoops}
 use Rattle.java_resolve.proofs.SlotsOf.{SlotOf, none_of, one_of}
 use Rattle.java_resolve.proofs.KnownMembers.{AreMembers}
-use Rattle.java_resolve.proofs.AllMembers.{members-tells}
-use Rattle.java_resolve.proofs.MethodClashes.{classes-count, owner-within, NoClash, clashes-tells, main-tells}
+use Rattle.java_resolve.proofs.MethodClashes.{owner-within, NoClash}
 use Rattle.java_resolve.proofs.SeesOutline.{sees-outline}
-use Rattle.java_resolve.proofs.MethodBodies.{BodiesAre, bodies-tells}
-use Rattle.java_resolve.proofs.Bridge.{whole, program-resolves}
-use Rattle.java_resolve.proofs.Bare.{bare_local, bare_method, bare_program}
+use Rattle.java_resolve.proofs.MethodBodies.{BodiesAre}
+use Rattle.java_resolve.proofs.Bridge.{whole}
+use Rattle.java_resolve.proofs.Bare.{bare_local, bare_method}
 use Rattle.java_resolve.proofs.BareNumbers.{methods-same, counts-once}
 use Rattle.java_resolve.proofs.FormedProgram.{bare-subclass, classes-subclass, formed-object, formed-class, formed-names, formed-acyclic}
 use Rattle.java_resolve.proofs.FormedMembers.{P, R, fields-same, formed-field, formed-field_names, method-seen}

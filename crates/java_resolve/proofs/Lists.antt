@@ -1,9 +1,9 @@
 -- Steps of the loops over lists.
-use Rattle.std.proofs.Common.{◌≡◌, ℕ, ◌+◌, ◌<◌, drop-cons, List, [], ◌∷◌, ◌++◌, length, drop, get_or, Result, Ok, Err, refl, sym, ap, ◌∙◌, suc, add-one}
+use Rattle.std.proofs.Common.{◌≡◌, ℕ, ◌+◌, ◌<◌, List, [], ◌∷◌, ◌++◌, length, drop, get_or, Result, Ok, sym, ap, ◌∙◌}
 use Rattle.java_tree.specs.declared.Expr.{Expr}
 use Rattle.java_tree.specs.Syntax as tree
 use Rattle.java_core.specs.declared.RExpr.{RExpr}
-use Rattle.java_core.specs.Trees.{at_place, Exs, Ex, expr_of, exprs}
+use Rattle.java_core.specs.Trees.{at_place, Exs, expr_of, exprs}
 use Rattle.java_resolve.specs.declared.Refusal.{Refusal}
 use Rattle.java_resolve.specs.Tables.{Table}
 use Rattle.java_resolve.specs.declared.tables.Bound.{Bound}

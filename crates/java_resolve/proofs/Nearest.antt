@@ -1,5 +1,5 @@
 -- The walk to the nearest field.
-use Rattle.std.proofs.Common.{◌≡◌, ℕ, ◌+◌, ◌<◌, ◌≤◌, drop-cons, List, [], ◌∷◌, length, drop, get_or, Option, Some, None, refl, sym, ap, ◌∙◌, suc, add-one}
+use Rattle.std.proofs.Common.{◌≡◌, ℕ, ◌+◌, ◌<◌, ◌≤◌, drop-cons, List, ◌∷◌, length, drop, get_or, Option, Some, None, sym, ap, ◌∙◌, add-one}
 use Rattle.std.proofs.lemmas.List.{drop_all}
 use Rattle.kaba_base.specs.declared.ClassId.{ClassId}
 use Rattle.java_resolve.specs.Tables.{Table, own_field, parent_of, or_above, nearest_in}

@@ -1,10 +1,10 @@
 -- A body resolves to one tree with one list of locals, if its numbers and its locals are given out in one count each.
-use Rattle.std.proofs.Common.{◌≡◌, ℕ, suc, ◌<◌, ◌≤◌, Bool, true, List, [], ◌∷◌, ◌++◌, Option, Some, ⊎_elim, refl, sym, ap, ◌∙◌, subst, arith}
+use Rattle.std.proofs.Common.{◌≡◌, ℕ, ◌<◌, ◌≤◌, Bool, true, List, [], ◌∷◌, ◌++◌, Some, ⊎_elim, refl, sym, ap, ◌∙◌, subst, arith}
 use Rattle.std.specs.Prelude.{slice_get}
 use Rattle.std.proofs.lemmas.Bool.{cases_lt}
 use Rattle.java_tree.specs.Syntax.{Expression, Statement, Statements, Else, OptionalStatement, absent, present}
 use Rattle.java_tree.specs.Syntax as tree
-use Rattle.java_core.specs.Trees.{at_place, Ex, St, Sts, Arms}
+use Rattle.java_core.specs.Trees.{at_place, St, Sts, Arms}
 use Rattle.java_core.specs.Programs.{Plain, PlainMethod}
 use Rattle.java_core.specs.Formed.{variables_of, numbers, numbers_if, numbers_target, numbers_st, numbers_sts, numbers_arms}
 use Rattle.java_resolve.specs.declared.tables.Bound.{Bound}

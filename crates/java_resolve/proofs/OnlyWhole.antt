@@ -1,24 +1,23 @@
 -- A tree of which no condition holds resolves to one program.
-use Rattle.std.proofs.Common.{◌≡◌, ℕ, zero, suc, ◌+◌, ◌<◌, ◌≤◌, ◌⊎◌, inl, inr, ⊎_elim, Bool, true, false, List, [], ◌∷◌, ◌++◌, map, length, Option, Some, None, refl, sym, ap, ◌∙◌, subst, arith}
+use Rattle.std.proofs.Common.{◌≡◌, ℕ, zero, suc, ◌+◌, ◌<◌, ◌≤◌, ◌⊎◌, inl, inr, false, List, [], ◌∷◌, map, length, Option, Some, None, refl, sym, ap, ◌∙◌, subst, arith}
 use Rattle.std.specs.Prelude.{slice_get}
 use Rattle.std.proofs.lemmas.Bool.{false≢true, cases_lt}
-use Rattle.std.proofs.lemmas.List.{length-append, length-map}
-use Rattle.java_tree.specs.Syntax.{Statements, DeclTree}
+use Rattle.std.proofs.lemmas.List.{length-append}
+use Rattle.java_tree.specs.Syntax.{DeclTree}
 use Rattle.java_core.specs.Trees.{Sts}
-use Rattle.java_core.specs.Programs.{Plain, PlainClass, PlainField, PlainMethod, PlainLocal, PlainSlot}
+use Rattle.java_core.specs.Programs.{Plain, PlainMethod, PlainLocal, PlainSlot}
 use Rattle.java_core.specs.Types.{types_of}
-use Rattle.java_core.specs.Formed.{variables_of, numbers_sts, numbers_body, numbers_methods}
+use Rattle.java_core.specs.Formed.{variables_of, numbers_body, numbers_methods}
 use Rattle.java_print.specs.Formed.{IsFormedBody, IsFormedTree}
-use Rattle.java_resolve.specs.Outline.{MethodAt, methods_in, outline}
+use Rattle.java_resolve.specs.Outline.{MethodAt, outline}
 use Rattle.java_resolve.specs.Resolves.{Counts, StsResolve, declares_all, params_from, here_of, BodyResolves, r_no_body, r_body, BodiesResolve, r_no_methods, r_method, heading_of, IsOfSlot, HasSlot, no_slot, a_slot, AreSlots, Resolves}
 use Rattle.java_resolve.specs.Conditions.{overload}
 use Rattle.java_resolve.specs.Causes.{HasNoCondition}
 use Rattle.java_resolve.proofs.Sees.{same_some}
-use Rattle.java_resolve.proofs.Runs.{stands-within, map-stands, stands-map}
+use Rattle.java_resolve.proofs.Runs.{map-stands, stands-map}
 use Rattle.java_resolve.proofs.Bridge.{main-of, of-main}
 use Rattle.java_resolve.proofs.FormedMembers.{back-stands}
 use Rattle.java_resolve.proofs.MembersOf.{method-in}
-use Rattle.java_resolve.proofs.MethodClashes.{outline-method}
 use Rattle.java_resolve.proofs.Excludes.{OneMet, one-met}
 use Rattle.java_resolve.proofs.Only.{none-only, counts-split, from}
 use Rattle.java_resolve.proofs.OnlyStatements.{Agree, agree-at, sts-only}

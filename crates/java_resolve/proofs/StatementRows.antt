@@ -1,11 +1,11 @@
 -- What a row of resolved statements is, read as the items of its vector; and what the tree of a form with a list is.
-use Rattle.std.proofs.Common.{◌≡◌, List, [], ◌∷◌, ◌++◌, Option, Some, None, refl, sym, ap, ◌∙◌}
+use Rattle.std.proofs.Common.{◌≡◌, List, [], ◌∷◌, ◌++◌, Some, None, refl, sym, ap, ◌∙◌}
 use Rattle.java_core.specs.declared.RExpr.{RExpr}
 use Rattle.java_core.specs.declared.RExpr.TheBlock as rex
 use Rattle.java_core.specs.declared.RStmt.{RStmt}
 use Rattle.java_core.specs.declared.RArm.{RArm}
 use Rattle.java_core.specs.declared.RStmt.TheBlock.{Row_of-RStmt, end_of-RStmt, more_of-RStmt, items-the_row-RStmt, hidden-the_row-RStmt-0, items_hidden-the_row-RStmt-0, shown-the_row-RStmt-0, items_shown-the_row-RStmt-0, Row_of-RArm, end_of-RArm, more_of-RArm, items-the_row-RArm, hidden-the_row-RArm-1, items_hidden-the_row-RArm-1}
-use Rattle.java_core.specs.Trees.{at_place, Ex, Sts, Arms, no_st, st_then, arm, otherwise, expr_of, target_of, stmt_of, stmts_of, stmts, arms_of, arms_seen}
+use Rattle.java_core.specs.Trees.{at_place, Sts, no_st, st_then, arm, expr_of, target_of, stmt_of, stmts_of, stmts, arms_of, arms_seen}
 use Rattle.java_tree.specs.declared.Expr.{Expr}
 use Rattle.java_tree.specs.declared.Stmt.{Stmt, Block, If, While, For}
 use Rattle.java_tree.specs.declared.Stmt.TheBlock.{hidden-the_row-Stmt-0}

@@ -1,6 +1,6 @@
 -- What the table of types finds is what the list of its types says.
 use Rattle.std.proofs.Common.{◌≡◌, ℕ, suc, ◌+◌, ◌||◌, Bool, true, false, List, [], ◌∷◌, ◌++◌, map, Option, Some, None, Ok, Err, refl, sym, ap, ◌∙◌, cond}
-use Rattle.std.specs.Prelude.{String, position, slice_get, string_bytes, string_eq}
+use Rattle.std.specs.Prelude.{String, position, string_bytes, string_eq}
 use Rattle.std.specs.List.{position_from}
 use Rattle.std.specs.Option.{is_some}
 use Rattle.std.specs.Map.{keys_of}
@@ -15,7 +15,7 @@ use Rattle.std.proofs.Math.Numerals.{add-one}
 use Rattle.indexmap.specs.IndexMap.{insert_entry}
 use Rattle.kaba_base.specs.declared.Place.{Place}
 use Rattle.java_resolve.specs.declared.Refusal.TheVariants.{Twice}
-use Rattle.java_resolve.specs.Known.{Known, known_seen}
+use Rattle.java_resolve.specs.Known.{known_seen}
 use Rattle.java_resolve.specs.Names.{is_apart, number_from, number_of}
 use Rattle.java_resolve.specs.Classes.{know_named}
 use Rattle.java_resolve.proofs.Runs.{position-from}

@@ -1,5 +1,5 @@
 -- Small trees, each with the program or the refusal that the rules give it.
-use Rattle.std.specs.Prelude.{◌≡◌, ℕ, pos, Bool, true, false, List, [], ◌∷◌, Option, Some, None, Result, Ok, Err, codes}
+use Rattle.std.specs.Prelude.{◌≡◌, ℕ, pos, true, false, List, [], ◌∷◌, Some, None, Err, codes}
 use Rattle.std.proofs.Common.{refl}
 use Rattle.std.specs.Str.{chars}
 use Rattle.kaba_base.specs.declared.Place.{Place}
@@ -8,11 +8,7 @@ use Rattle.java_tree.specs.declared.Id.{Id}
 use Rattle.java_tree.specs.declared.Modifier.{Modifier}
 use Rattle.java_tree.specs.declared.TypeName.{TypeName}
 use Rattle.java_tree.specs.declared.TypeBase.TheVariants as bases
-use Rattle.java_tree.specs.declared.Param.{Param}
-use Rattle.java_tree.specs.Syntax.{Expression, IntLit, ThisRef, NameRef, FieldOf, CallOf, NewOf, no_more, Statement, LocalOf, BlockOf, AssignOf, DoOf, PrintOf, BreakOf, Statements, no_statements, and_then, HeadTree, MemberTree, FieldTree, MethodTree, DeclTree, ClassTree, InterfaceTree}
-use Rattle.java_core.specs.declared.TyBase.TheVariants as ty
-use Rattle.java_core.specs.Trees.{Tag, at_place, local, number, create, declare, assign, print, to_local, no_st, st_then, no_ex}
-use Rattle.java_core.specs.Programs.{Plain}
+use Rattle.java_tree.specs.Syntax.{IntLit, ThisRef, NameRef, Statement, LocalOf, BlockOf, AssignOf, PrintOf, BreakOf, Statements, no_statements, and_then, HeadTree, MemberTree, FieldTree, MethodTree, DeclTree, ClassTree}
 use Rattle.java_resolve.specs.declared.Form.TheVariants as forms
 use Rattle.java_resolve.specs.declared.Refusal.{Refusal}
 use Rattle.java_resolve.specs.declared.Refusal.TheVariants.{Unknown, Twice, Loop, Overload, TwoKinds, PrivateReused, NoMain, NotInProfile}

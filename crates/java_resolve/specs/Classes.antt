@@ -1,6 +1,6 @@
 -- The classes and interfaces of a tree: their names, modifiers and supertypes, and which are above which.
-use Rattle.std.specs.Prelude.{◌≡◌, ℕ, zero, suc, ◌+◌, ◌||◌, ◌&&◌, ◌==◌, not, Bool, true, false, List, [], ◌∷◌, ◌++◌, length, Option, Some, None, is_some, is_none, Result, Ok, Err, codes, if◌then◌else◌, slice_get, map}
-use Rattle.std.specs.Str.{bytes_eq, chars}
+use Rattle.std.specs.Prelude.{ℕ, ◌+◌, ◌||◌, ◌==◌, not, Bool, true, false, List, [], ◌∷◌, ◌++◌, length, Option, Some, None, is_some, Result, Ok, Err, codes, if◌then◌else◌, slice_get}
+use Rattle.std.specs.Str.{chars}
 use Rattle.kaba_base.specs.declared.Place.{Place}
 use Rattle.kaba_base.specs.declared.ClassId.{ClassId}
 use Rattle.kaba_base.specs.declared.words.Keyword.{Keyword}
@@ -8,7 +8,7 @@ use Rattle.kaba_base.specs.declared.words.Keyword.TheVariants as keys
 use Rattle.java_tree.specs.declared.Id.{Id}
 use Rattle.java_tree.specs.declared.Modifier.{Modifier}
 use Rattle.java_tree.specs.Syntax.{DeclTree, ClassTree, InterfaceTree}
-use Rattle.java_core.specs.Trees.{at_place, no_place}
+use Rattle.java_core.specs.Trees.{at_place}
 use Rattle.java_core.specs.Programs.{PlainClass}
 use Rattle.java_resolve.specs.declared.Form.TheVariants as forms
 use Rattle.java_resolve.specs.declared.Refusal.{Refusal}
@@ -17,7 +17,7 @@ use Rattle.java_resolve.specs.Known.{Known}
 use Rattle.java_resolve.specs.declared.flags.Kind.{Kind}
 use Rattle.java_resolve.specs.declared.flags.Kind.TheVariants as kinds
 use Rattle.java_resolve.specs.declared.flags.Flags.{Flags}
-use Rattle.java_resolve.specs.Answers.{with, unless, run}
+use Rattle.java_resolve.specs.Answers.{with, run}
 use Rattle.java_resolve.specs.Names.{is_apart, number_of, asked}
 use Rattle.java_resolve.specs.Tables.{is_above}
 

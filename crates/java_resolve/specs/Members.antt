@@ -1,13 +1,11 @@
 -- The fields, methods and slots of a tree, and where methods of one name meet.
-use Rattle.std.specs.Prelude.{◌≡◌, ℕ, zero, suc, ◌+◌, ◌||◌, ◌&&◌, ◌==◌, not, Bool, true, false, List, [], ◌∷◌, ◌++◌, length, Option, Some, None, is_some, is_none, Result, Ok, Err, codes, if◌then◌else◌, slice_get, map}
+use Rattle.std.specs.Prelude.{ℕ, suc, ◌+◌, ◌||◌, ◌&&◌, ◌==◌, not, Bool, true, false, List, [], ◌∷◌, ◌++◌, length, Option, Some, None, is_some, is_none, Result, Ok, Err, codes, if◌then◌else◌, slice_get, map}
 use Rattle.std.specs.Str.{bytes_eq, chars}
 use Rattle.kaba_base.specs.declared.Place.{Place}
-use Rattle.java_tree.specs.declared.Modifier.{Modifier}
 use Rattle.java_tree.specs.declared.TypeName.{TypeName}
 use Rattle.java_tree.specs.declared.Param.{Param}
-use Rattle.java_tree.specs.Syntax.{Statements, HeadTree, MemberTree, FieldTree, MethodTree, DeclTree, ClassTree, InterfaceTree}
+use Rattle.java_tree.specs.Syntax.{HeadTree, MemberTree, FieldTree, MethodTree, DeclTree, ClassTree, InterfaceTree}
 use Rattle.java_core.specs.declared.Ty.{Ty}
-use Rattle.java_core.specs.declared.TyBase.{TyBase}
 use Rattle.java_core.specs.declared.TyBase.TheVariants as ty
 use Rattle.java_core.specs.declared.Field.{Field}
 use Rattle.java_core.specs.declared.Local.{Local}
@@ -18,7 +16,6 @@ use Rattle.java_resolve.specs.declared.Form.TheVariants as forms
 use Rattle.java_resolve.specs.declared.Refusal.{Refusal}
 use Rattle.java_resolve.specs.declared.Refusal.TheVariants.{Twice, TwoKinds, Overload, PrivateReused, NoMain, NotInProfile}
 use Rattle.java_resolve.specs.Known.{Known}
-use Rattle.java_resolve.specs.declared.flags.Kind.{Kind}
 use Rattle.java_resolve.specs.declared.flags.Kind.TheVariants as kinds
 use Rattle.java_resolve.specs.declared.flags.Flags.{Flags}
 use Rattle.java_resolve.specs.declared.tables.Heading.{Heading}

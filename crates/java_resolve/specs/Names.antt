@@ -1,9 +1,7 @@
 -- Names of types.
-use Rattle.std.specs.Prelude.{◌≡◌, ℕ, zero, suc, ◌||◌, ◌&&◌, ◌==◌, not, Bool, true, false, List, [], ◌∷◌, ◌++◌, length, Option, Some, None, is_some, Result, Ok, Err, codes, if◌then◌else◌, map}
+use Rattle.std.specs.Prelude.{ℕ, suc, ◌||◌, Bool, List, [], ◌∷◌, Option, Some, None, is_some, Result, Ok, Err, codes, if◌then◌else◌}
 use Rattle.std.specs.Str.{bytes_eq, chars}
 use Rattle.kaba_base.specs.declared.Place.{Place}
-use Rattle.kaba_base.specs.declared.ClassId.{ClassId}
-use Rattle.java_tree.specs.declared.Id.{Id}
 use Rattle.java_tree.specs.declared.TypeName.{TypeName}
 use Rattle.java_tree.specs.declared.TypeBase.{TypeBase}
 use Rattle.java_tree.specs.declared.TypeBase.TheVariants as bases
@@ -11,9 +9,9 @@ use Rattle.java_core.specs.declared.Ty.{Ty}
 use Rattle.java_core.specs.declared.TyBase.{TyBase}
 use Rattle.java_core.specs.declared.TyBase.TheVariants as ty
 use Rattle.java_resolve.specs.declared.Refusal.{Refusal}
-use Rattle.java_resolve.specs.declared.Refusal.TheVariants.{Unknown, Twice, TwoKinds}
+use Rattle.java_resolve.specs.declared.Refusal.TheVariants.{Unknown}
 use Rattle.java_resolve.specs.Known.{Known}
-use Rattle.java_resolve.specs.Answers.{with, unless, run}
+use Rattle.java_resolve.specs.Answers.{with}
 
 -- String and System, which name no class
 abbrev pub is_apart : List ℕ → Bool

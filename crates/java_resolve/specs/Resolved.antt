@@ -1,6 +1,5 @@
 -- Which program a tree is once its names are resolved, or the first of its faults.
-use Rattle.std.specs.Prelude.{◌≡◌, ℕ, zero, suc, ◌+◌, ◌||◌, Bool, true, false, List, [], ◌∷◌, ◌++◌, length, Option, Some, None, Result, Ok, Err, slice_get, map}
-use Rattle.kaba_base.specs.declared.Place.{Place}
+use Rattle.std.specs.Prelude.{ℕ, ◌+◌, Bool, false, List, [], ◌∷◌, ◌++◌, length, Option, Some, None, Result, Ok, slice_get, map}
 use Rattle.kaba_base.specs.declared.ClassId.{ClassId}
 use Rattle.java_tree.specs.Syntax.{Statements, HeadTree, MemberTree, FieldTree, MethodTree, DeclTree, ClassTree, InterfaceTree}
 use Rattle.java_core.specs.declared.Ty.{Ty}
@@ -16,10 +15,10 @@ use Rattle.java_resolve.specs.declared.tables.Heading.{Heading}
 use Rattle.java_resolve.specs.declared.tables.Bound.{Bound}
 use Rattle.java_resolve.specs.declared.exprs.Here.{Here}
 use Rattle.java_resolve.specs.declared.bodies.Written.{Written}
-use Rattle.java_resolve.specs.Answers.{with, unless, run}
+use Rattle.java_resolve.specs.Answers.{with, run}
 use Rattle.java_resolve.specs.Tables.{Table}
 use Rattle.java_resolve.specs.Classes.{flags_of, known_of, classes_of, above_of, loops_of}
-use Rattle.java_resolve.specs.Statements.{State, walk_sts}
+use Rattle.java_resolve.specs.Statements.{walk_sts}
 use Rattle.java_resolve.specs.Members.{Members, params_of, result_of, members_of, clashes_of, main_of}
 
 -- the parameters in scope, the first numbered k

@@ -1,7 +1,6 @@
 -- What a body sees of the declarations: types, superclasses, fields and methods.
-use Rattle.std.specs.Prelude.{◌≡◌, ℕ, zero, suc, ◌||◌, ◌&&◌, ◌==◌, not, Bool, true, false, List, [], ◌∷◌, ◌++◌, length, Option, Some, None, is_some, is_none, Result, Ok, Err, if◌then◌else◌, slice_get}
-use Rattle.std.specs.Str.{bytes_eq, chars}
-use Rattle.kaba_base.specs.declared.Place.{Place}
+use Rattle.std.specs.Prelude.{ℕ, suc, ◌&&◌, ◌==◌, Bool, false, List, [], ◌∷◌, Option, Some, None, if◌then◌else◌, slice_get}
+use Rattle.std.specs.Str.{bytes_eq}
 use Rattle.kaba_base.specs.declared.ClassId.{ClassId}
 use Rattle.java_core.specs.declared.Field.{Field}
 use Rattle.java_resolve.specs.Known.{Known}

@@ -15,7 +15,7 @@ ghost use Rattle.java_resolve.specs.Classes.{object_class, known_of, parent_tree
 use crate::Refusal;
 use crate::flags::{Kind, flags_of};
 use crate::names::{Types, asked};
-use crate::tables::{Row, is_above};
+use crate::tables::{Row, are_same, is_above};
 use java_core::Class;
 use java_tree::{Decl, Id};
 use kaba_base::{ClassId, Name, Place};
@@ -226,13 +226,17 @@ fn round(alloc: Global, all: &Vec<Class>, rows: &[Row]) -> Result<Vec<Row>, Refu
     Ok(done)
 }
 
-/// For each type which ones are at or above it.
+/// For each type which ones are at or above it: a step that adds nothing is the last.
 pub fn above_of(alloc: Global, all: &Vec<Class>) -> Result<Vec<Row>, Refusal>
     ensures { Gives {A = Vec (List Bool) Global} {B = List (List Bool)} (λ v. v.items) result (above_of (map (class_seen at_place) all.now.items)) }
 {
     let mut rows = Vec::new(alloc);
     for _step in all {
-        rows = round(alloc, all, rows.as_slice())?;
+        let next = round(alloc, all, rows.as_slice())?;
+        if are_same(rows.as_slice(), next.as_slice()) {
+            return Ok(rows);
+        }
+        rows = next;
     }
     Ok(rows)
 }

@@ -2,6 +2,7 @@
 #![tactic(auto)]
 
 ghost use Rattle.std.specs.Prelude.{◌≡◌, slice_get};
+ghost use Rattle.std.specs.Bool.{OnTrue};
 ghost use Rattle.java_resolve.specs.Tables.{table_of, bit_in, is_above, parent_of, own_field, nearest_field, own_method, method_met, local_of};
 
 use crate::names::{Types, is_same};
@@ -72,6 +73,28 @@ impl Row {
             None => false,
         }
     }
+
+    /// Whether the bits are the same.
+    fn is_same(&self, other: &Row) -> bool
+        ensures { OnTrue result (self.now ≡ other.now) }
+    {
+        self.bits == other.bits
+    }
+}
+
+/// Whether the rows are the same.
+pub fn are_same(rows: &[Row], others: &[Row]) -> bool
+    ensures { OnTrue result (rows.now ≡ others.now) }
+{
+    if rows.len() != others.len() {
+        return false;
+    }
+    for k in 0..rows.len() {
+        if !rows[k].is_same(&others[k]) {
+            return false;
+        }
+    }
+    true
 }
 
 /// Whether `b` is at or above `a`.

@@ -1,5 +1,4 @@
 use Rattle.std.proofs.Common.{◌≡◌, drop}
-use Rattle.std.specs.Prelude.{is_some}
 use Rattle.java_resolve.specs.Tables.{method_from}
 use Rattle.java_resolve.proofs.members.has_method.Given as goal
 

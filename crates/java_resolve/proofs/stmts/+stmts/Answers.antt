@@ -1,4 +1,4 @@
-use Rattle.std.proofs.Common.{arith, ap, refl}
+use Rattle.std.proofs.Common.{arith, ap}
 use Rattle.java_tree.specs.Syntax.{stmts, arms_seen}
 use Rattle.java_tree.specs.Size.{stmt_size, stmts_size, arms_size}
 use Rattle.java_core.specs.Trees as core

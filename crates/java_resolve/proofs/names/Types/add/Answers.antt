@@ -1,4 +1,4 @@
-use Rattle.std.proofs.Common.{◌≡◌, ◌||◌, false, map, Ok, sym, ap, ◌∙◌}
+use Rattle.std.proofs.Common.{◌||◌, map, Ok, sym, ap, ◌∙◌}
 use Rattle.std.specs.Option.{is_some}
 use Rattle.java_resolve.specs.Known.{known_seen}
 use Rattle.java_resolve.specs.Names.{is_apart, number_of}
