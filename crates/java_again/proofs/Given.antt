@@ -18,5 +18,16 @@ given bytes tokens tree h p = record { bytes = bytes; read = is_read bytes token
 pub no_tokens : (bytes : List ℕ) (fault : LexFault) → tokens_of bytes ≡ Err fault → HasNoTree bytes
 no_tokens bytes fault h = λ tokens e. let g : Err fault ≡ Ok tokens = sym h ∙ e in absurd (cc)
 
-pub no_tree : (bytes : List ℕ) (tokens : List Token) → tokens_of bytes ≡ Ok tokens → ((k : ℕ) × IsTooDeep tokens k) ⊎ ((tree : List DeclTree) → Derives tokens tree → ⊥) → HasNoTree bytes
-no_tree bytes tokens h none = λ others e. let g : Ok tokens ≡ Ok others = sym h ∙ e in let t : tokens ≡ others = cc in subst (λ ts. ((k : ℕ) × IsTooDeep ts k) ⊎ ((tree : List DeclTree) → Derives ts tree → ⊥)) t none
+module _ (bytes : List ℕ) (tokens : List Token) (lexed : tokens_of bytes ≡ Ok tokens) where
+  -- the tokens of a text are no others
+  only : ((k : ℕ) × IsTooDeep tokens k) ⊎ ((tree : List DeclTree) → Derives tokens tree → ⊥) → HasNoTree bytes
+  only none = λ others e.
+      let g : Ok tokens ≡ Ok others = sym lexed ∙ e in
+      let t : tokens ≡ others = cc in
+      subst (λ ts. ((k : ℕ) × IsTooDeep ts k) ⊎ ((tree : List DeclTree) → Derives ts tree → ⊥)) t none
+
+  pub too_deep : (k : ℕ) → IsTooDeep tokens k → HasNoTree bytes
+  too_deep k deep = only (inl (k, deep))
+
+  pub no_tree : ((tree : List DeclTree) → Derives tokens tree → ⊥) → HasNoTree bytes
+  no_tree none = only (inr none)

@@ -13,7 +13,7 @@ use std::alloc::{AllocError, Global};
 /// The program of the text, written again; `None` only where the text has no tokens, no tree, or
 /// nests too deep. What is written is read as the same tree, places aside. `AllocError` comes where
 /// memory is short.
-#[tactic(auto, using(crate::proofs::Given::given, crate::proofs::Given::no_tokens, crate::proofs::Given::no_tree))]
+#[tactic(auto, using(crate::proofs::Given::given, crate::proofs::Given::no_tokens, crate::proofs::Given::too_deep))]
 pub fn again(alloc: Global, text: &Vec<u8>) -> Result<Option<Vec<u8>>, AllocError>
     requires small { vec_len text.now < 4294967295 }
     ensures same { IfOk result (λ written. IfSome written (λ v. IsSameProgram text.now.items v.items)) }
@@ -29,8 +29,9 @@ pub fn again(alloc: Global, text: &Vec<u8>) -> Result<Option<Vec<u8>>, AllocErro
     }
     let tree = match parse(alloc, &tokens) {
         Ok(tree) => tree,
+        Err(ParseFault::TooDeep(_)) => return Ok(None),
+        Err(ParseFault::NotAProgram(_)) => return Ok(None),
         Err(ParseFault::Memory) => return Err(AllocError),
-        Err(_) => return Ok(None),
     };
     let mut written = Vec::new(alloc);
     print(alloc, &tree, &mut written)?;
