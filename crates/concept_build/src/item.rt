@@ -1,8 +1,8 @@
 //! Concepts on the way, and lists of them in their order.
 
-ghost use Rattle.std.specs.Prelude.{◌≡◌, ℕ, ◌<◌, ◌^◌, ◌↔◌, Bool, List, length, AllPairs, IfOk, OnOk, IsTrue, slice_index_or};
+ghost use Rattle.std.specs.Prelude.{◌≡◌, ℕ, ◌<◌, ◌^◌, ◌↔◌, Bool, true, List, length, AllPairs, IfOk, OnOk, IsTrue, slice_index_or};
 ghost use Rattle.std.specs.List.Sorted.{IsSearchInRange};
-ghost use Rattle.kaba_bits.specs.Sets.{row, rising, HasWidth};
+ghost use Rattle.kaba_bits.specs.Sets.{bit, row, rising, IsSubset, HasWidth, ListsBelow};
 ghost use Rattle.fact_model.specs.Concepts.{Pair, concept_cmp, IsExtent, IsWithin};
 ghost use Rattle.concept_build.specs.Intents.{IsMeet};
 ghost use Rattle.concept_build.specs.Lists.{extents_of, IsBefore, IsPlace, IsInsertion};
@@ -42,9 +42,9 @@ impl Item {
         ensures intent { IfOk result (λ k. k.1 ≡ intent) }
         ensures extent { IfOk result (λ k. IsExtent table.now k.0 k.1) }
     {
-        let extent = extent_of(alloc, table, &intent)?;
-        let rows = extent.count();
         let columns = intent.rising(alloc)?;
+        let extent = extent_of(alloc, table, &intent, &columns)?;
+        let rows = extent.count();
         Ok(Item {
             extent,
             intent,
@@ -91,19 +91,39 @@ impl Item {
     }
 }
 
-/// The rows that have all columns of an intent.
-fn extent_of(alloc: Global, table: &[BitRow], intent: &BitRow) -> Result<BitRow, AllocError>
+/// The rows that have all columns of an intent, which are also listed.
+fn extent_of(
+    alloc: Global,
+    table: &[BitRow],
+    intent: &BitRow,
+    columns: &[u32],
+) -> Result<BitRow, AllocError>
     requires rows { length table.now < 2 ^ 32 }
     requires widths { HasWidth (length intent.now) table.now }
+    requires columns { ListsBelow (λ c. bit intent.now c ≡ true) (length intent.now) columns.now }
     ensures { IfOk result (λ a. IsExtent table.now a intent.now) }
 {
     let mut extent = BitRow::new(alloc, table.len() as u32)?;
     for r in 0..table.len() {
-        if intent.is_subset(row_at(table, r)) {
+        if has_all(row_at(table, r), intent, columns) {
             extent.set(r as u32);
         }
     }
     Ok(extent)
+}
+
+/// Whether a row has all columns of an intent, which are also listed.
+fn has_all(row: &BitRow, intent: &BitRow, columns: &[u32]) -> bool
+    requires width { length row.now ≡ length intent.now }
+    requires columns { ListsBelow (λ c. bit intent.now c ≡ true) (length intent.now) columns.now }
+    ensures { IsTrue result ↔ IsSubset intent.now row.now }
+{
+    for c in columns {
+        if !row.has(*c) {
+            return false;
+        }
+    }
+    true
 }
 
 /// The columns of an intent that a row has too, rising.

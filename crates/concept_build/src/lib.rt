@@ -110,8 +110,8 @@ fn placed_item(
     let extent = item.extent().copy(alloc)?;
     let intent = item.intent().copy(alloc)?;
     let above = above(alloc, table, items, places, k, width)?;
-    let rows = rows_at(alloc, table, &intent)?;
-    let columns = columns_at(alloc, table, &extent, width)?;
+    let rows = rows_at(alloc, table, &extent, &intent)?;
+    let columns = columns_at(alloc, table, &extent, &intent, width)?;
     Ok(Concept {
         extent,
         intent,

@@ -2,35 +2,42 @@
 
 ghost use Rattle.std.specs.Prelude.{◌≡◌, ℕ, ◌<◌, ◌^◌, ◌↔◌, true, length, map, IfOk, IsTrue};
 ghost use Rattle.kaba_bits.specs.Sets.{bit, row, HasWidth, ListsBelow};
-ghost use Rattle.fact_model.specs.Concepts.{RowStands, ColumnStands};
+ghost use Rattle.fact_model.specs.Concepts.{IsExtent, IsIntent, RowStands, ColumnStands};
 
 use kaba_base::{ColId, RowId};
 use kaba_bits::{BitRow, row_at};
 use std::alloc::{AllocError, Global};
 
 /// The rows whose columns are exactly the intent, rising.
-pub fn rows_at(alloc: Global, table: &[BitRow], intent: &BitRow) -> Result<Vec<RowId>, AllocError>
+pub fn rows_at(
+    alloc: Global,
+    table: &[BitRow],
+    extent: &BitRow,
+    intent: &BitRow,
+) -> Result<Vec<RowId>, AllocError>
     requires rows { length table.now < 2 ^ 32 }
     requires widths { HasWidth (length intent.now) table.now }
+    requires extent { IsExtent table.now extent.now intent.now }
     ensures { IfOk result (λ v. ListsBelow (RowStands table.now intent.now) (length table.now) (map (λ r. r.0) v.items)) }
 {
     let mut rows = Vec::new(alloc);
     for r in 0..table.len() {
-        if row_stands(table, intent, r) {
+        if row_stands(table, extent, intent, r) {
             rows.push(RowId(r as u32))?;
         }
     }
     Ok(rows)
 }
 
-/// Whether the columns of a row are exactly the intent.
-fn row_stands(table: &[BitRow], intent: &BitRow, r: usize) -> bool
+/// Whether the columns of a row are exactly the intent: it has all of them, and no more.
+fn row_stands(table: &[BitRow], extent: &BitRow, intent: &BitRow, r: usize) -> bool
     requires r { r < length table.now }
+    requires small { length table.now < 2 ^ 32 }
     requires widths { HasWidth (length intent.now) table.now }
+    requires extent { IsExtent table.now extent.now intent.now }
     ensures { IsTrue result ↔ RowStands table.now intent.now r }
 {
-    let row = row_at(table, r);
-    row.is_subset(intent) && intent.is_subset(row)
+    extent.has(r as u32) && row_at(table, r).is_subset(intent)
 }
 
 /// The columns that exactly the rows of the extent have, rising. A column that no row has is left out.
@@ -38,30 +45,34 @@ pub fn columns_at(
     alloc: Global,
     table: &[BitRow],
     extent: &BitRow,
+    intent: &BitRow,
     width: u32,
 ) -> Result<Vec<ColId>, AllocError>
     requires small { length table.now < 2 ^ 32 }
     requires rows { length table.now ≡ length extent.now }
+    requires intent { IsIntent table.now width extent.now intent.now }
     requires widths { HasWidth width table.now }
     ensures { IfOk result (λ v. ListsBelow (ColumnStands table.now extent.now) width (map (λ c. c.0) v.items)) }
 {
     let mut columns = Vec::new(alloc);
     for c in 0..width {
-        if column_stands(table, extent, c) {
+        if column_stands(table, extent, intent, c, width) {
             columns.push(ColId(c))?;
         }
     }
     Ok(columns)
 }
 
-/// Whether some row has a column, and exactly the rows of the extent do.
-fn column_stands(table: &[BitRow], extent: &BitRow, c: u32) -> bool
+/// Whether some row has a column, and exactly the rows of the extent do: it is one of the intent.
+fn column_stands(table: &[BitRow], extent: &BitRow, intent: &BitRow, c: u32, width: u32) -> bool
+    requires c { c < width }
     requires small { length table.now < 2 ^ 32 }
     requires rows { length table.now ≡ length extent.now }
+    requires intent { IsIntent table.now width extent.now intent.now }
     requires widths { (k : ℕ) → k < length table.now → c < length (row table.now k) }
     ensures { IsTrue result ↔ ColumnStands table.now extent.now c }
 {
-    is_live(table, c) && is_column(table, extent, c)
+    intent.has(c) && is_live(table, c) && is_column(table, extent, c)
 }
 
 /// Whether some row has a column.
