@@ -51,7 +51,7 @@ impl From<AllocError> for LatticeFault {
 
 /// Every concept of a table once, by falling size of extent and then by intent, with its upper covers
 /// and with the rows and columns that stand there. `TooManyConcepts(bound)` comes exactly where there
-/// are more than `bound`. The memory is in proportion to concepts times rows.
+/// are more than `bound`. The memory is in proportion to concepts times rows and columns.
 pub fn concepts(alloc: Global, table: &Table, bound: u32) -> Result<Lattice, LatticeFault>
     requires rows { length table.now.rows.items < 2 ^ 32 - 1 }
     requires widths { HasWidth table.now.width table.now.rows.items }
