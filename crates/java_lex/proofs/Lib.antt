@@ -10,3 +10,4 @@ pub mod Pairs
 pub mod Written
 pub mod Longest
 pub mod Few
+mod Alone

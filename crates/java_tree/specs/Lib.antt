@@ -8,3 +8,4 @@ pub mod Statements
 pub mod Declarations
 pub mod Nesting
 pub mod Arms
+pub mod Laws

@@ -1,6 +1,8 @@
 //! Syntax trees and the grammar that derives them.
 #![tactic(auto)]
 
+ghost use Rattle.java_tree.specs.Laws.{OneAnswer};
+
 /// Trees from their parts.
 pub mod build;
 mod compare;
@@ -303,3 +305,8 @@ pub enum Entry {
     /// `if`, `else`, `while` or `for`.
     Word,
 }
+
+/// The contract of `same` has one result: two answers that meet it for the same trees are equal.
+pub fn one_answer()
+    ensures value { OneAnswer }
+{}
