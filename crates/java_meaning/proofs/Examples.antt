@@ -3,7 +3,7 @@ use lib.Utf8.{encode}
 use Rattle.std.specs.Char.Utf16.{utf16_chars}
 use Rattle.std.specs.Fmt.{digits}
 use Rattle.std.proofs.Common.{◌≡◌, refl}
-use Rattle.std.specs.Prelude.{ℕ, ℤ, pos, negsuc, true, false, List, [], ◌∷◌, Option, Some, None, slice_get, codes}
+use Rattle.std.specs.Prelude.{ℕ, ℤ, pos, negsuc, true, false, List, [], ◌∷◌, ◌++◌, Option, Some, None, slice_get, codes}
 use Rattle.kaba_base.specs.declared.ClassId.{ClassId}
 use Rattle.java_core.specs.declared.Ty.{Ty}
 use Rattle.java_core.specs.declared.TyBase.TheVariants.{Int, Str, Class}
@@ -17,7 +17,7 @@ use Rattle.java_core.specs.Classes.{below, field_of, member_field, search_order,
 use Rattle.java_core.specs.Types.{plain_type, class_type, field_in}
 use Rattle.std.specs.Option.{option_and_then}
 use Rattle.java_meaning.specs.Watched.{Eyes, watched_run}
-use Rattle.java_meaning.specs.Moment.{Ended, Faulted, Going, Escaped}
+use Rattle.java_meaning.specs.Moment.{Object, held, bound, Ended, Faulted, Going, Escaped}
 use Rattle.java_meaning.specs.Meaning.{run_in}
 use Rattle.java_meaning.specs.Languages.{layout, run}
 
@@ -131,7 +131,7 @@ casts : run casting (codes "w" ∷ []) 10 ≡ record { end = Ended; out = codes 
 unfolding run_in layout utf16_chars digits encode field_in member_field field_of below
 casts = refl
 
-abbrev many : ℕ → Ty
+abbrev pub many : ℕ → Ty
 many c = record { base = Class (record { 0 = c }); dim = 1 }
 
 -- class A {} class B extends A {}: B[] b = new B[1]; A[] a = b; a[0] = new B(); System.out.println("ok"); a[0] = new A();
@@ -225,3 +225,21 @@ blind = record { sees = λ p v h. false; sees_all = λ b vs h. false; note = λ 
 escapes : (watched_run overriding (λ m. option_and_then (λ (k : PlainMethod). k.body) (slice_get overriding.methods m)) blind [] 10).end ≡ Escaped
 unfolding run_in layout
 escapes = refl
+
+-- a record of each look at one value
+abbrev recording : Eyes
+recording =
+    record { sees = λ p v h. true; sees_all = λ b vs h. true; note = λ p v h m. m ++ record { spot = p; value = v; site = None } ∷ []; note_all = λ b vs h m. m }
+
+abbrev keeping : Plain
+keeping = with_local (class_type 1) (st_then (declare tag 1 (Some (create tag 0 1 no_ex))) no_st)
+
+-- Main x = new Main(); the new object is looked at, then the local that is set
+notes : (watched_run keeping (λ m. option_and_then (λ (k : PlainMethod). k.body) (slice_get keeping.methods m)) recording [] 1).met
+    ≡ record { spot = held 0 (create tag 0 1 no_ex); value = Object 1; site = None } ∷ record { spot = bound 0 1; value = Object 1; site = None } ∷ []
+unfolding run_in layout
+notes = refl
+
+notes_nothing : (run keeping [] 1).met ≡ []
+unfolding run_in layout
+notes_nothing = refl
