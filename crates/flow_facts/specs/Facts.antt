@@ -261,6 +261,8 @@ module _ (P Q : Plain) where
     -- no creation has a constructor
     pub makers : F.makers ≡ None
     pub makes : F.makes.items ≡ []
+    -- and no spot is given
+    pub spots : F.spots.items ≡ []
 
 -- the names in the facts: each of the text once, in the order of the program, and those of the variables
 pub record AreNamesOf (Q : Plain) (F : Facts) : Type 0 where

@@ -3,3 +3,5 @@ pub mod Subclasses
 pub mod Positions
 pub mod SearchOrder
 pub mod Offered
+pub mod Words
+pub mod Locals

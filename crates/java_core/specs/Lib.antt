@@ -4,5 +4,6 @@ pub mod Classes
 pub mod Found
 pub mod Own
 pub mod Types
+pub mod Statics
 pub mod Typing
 pub mod Formed

@@ -201,6 +201,10 @@ field_type P f = option_map (λ k. k.ty) (slice_get P.fields f)
 unfoldable pub field_in : Plain → Static → List ℕ → Option ℕ
 field_in P s x = option_and_then (λ c. member_field P c x) (class_of s)
 
+-- and its type
+abbrev pub value_type : Plain → Static → List ℕ → Option Ty
+value_type P s x = option_and_then (field_type P) (field_in P s x)
+
 abbrev pub is_length : List ℕ → Bool
 is_length x = bytes_eq x (codes "length")
 
@@ -210,7 +214,7 @@ length_or (Some u) t x = if is_length x then Some (plain_type Int) else None
 length_or None t x = t
 
 unfoldable pub access_type : Plain → Static → List ℕ → Option Ty
-access_type P s x = length_or (element_of s) (option_and_then (field_type P) (field_in P s x)) x
+access_type P s x = length_or (element_of s) (value_type P s x) x
 
 abbrev pub unary_type : UnOp → Ty
 unary_type un.Plus = plain_type Int
@@ -259,6 +263,6 @@ module _ (P : Plain) (g : Env) where
   target_type (to_local t i) = or_nothing (slice_get g.locals i)
   target_type (to_static t f) = or_nothing (field_type P f)
   target_type (to_own t f) = or_nothing (field_type P f)
-  target_type (to_field t e x) = or_nothing (option_and_then (field_type P) (field_in P (static e) x))
+  target_type (to_field t e x) = or_nothing (value_type P (static e) x)
   target_type (to_element t e i) = or_nothing (element_of (static e))
   target_type no_target = no_value

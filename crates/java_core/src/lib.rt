@@ -3,6 +3,7 @@
 
 mod checked;
 mod classes;
+mod statics;
 
 pub use checked::Checked;
 pub use classes::{
@@ -11,6 +12,11 @@ pub use classes::{
 };
 use java_lex::Units;
 use kaba_base::{ClassId, MemberId, Name, Place};
+pub use statics::{
+    Static, StringMethod, access_type, binary_type, class_in, class_of, element_in, element_of,
+    field_in, field_type, given_of, is_length, is_string, local_type, plain_type, slot_in,
+    static_of, string_method, string_result, type_at, unary_type, value_type,
+};
 
 /// What an array's elements are, or a type that is no array.
 #[derive(Clone, Copy, Debug, PartialEq, Eq)]

@@ -3,7 +3,7 @@ use lib.Utf8.{encode}
 use Rattle.std.specs.Char.Utf16.{utf16_chars}
 use Rattle.std.specs.Fmt.{digits}
 use Rattle.std.proofs.Common.{◌≡◌, refl}
-use Rattle.std.specs.Prelude.{ℕ, ℤ, pos, negsuc, true, false, List, [], ◌∷◌, Option, Some, None, slice_get, codes}
+use Rattle.std.specs.Prelude.{ℕ, ℤ, pos, negsuc, true, false, List, [], ◌∷◌, ◌++◌, Option, Some, None, slice_get, codes}
 use Rattle.kaba_base.specs.declared.ClassId.{ClassId}
 use Rattle.java_core.specs.declared.Ty.{Ty}
 use Rattle.java_core.specs.declared.TyBase.TheVariants.{Int, Str, Class}
@@ -17,7 +17,7 @@ use Rattle.java_core.specs.Classes.{below, field_of, member_field, search_order,
 use Rattle.java_core.specs.Types.{plain_type, class_type, field_in}
 use Rattle.std.specs.Option.{option_and_then}
 use Rattle.java_meaning.specs.Watched.{Eyes, watched_run}
-use Rattle.java_meaning.specs.Moment.{Ended, Faulted, Going, Escaped}
+use Rattle.java_meaning.specs.Moment.{Object, held, bound, Ended, Faulted, Going, Escaped}
 use Rattle.java_meaning.specs.Meaning.{run_in}
 use Rattle.java_meaning.specs.Languages.{layout, run}
 
@@ -75,15 +75,15 @@ counting_main = main_of 1 (variable (codes "i") (plain_type Int) ∷ []) countin
 abbrev pub counting : Plain
 counting = record { classes = object ∷ class (codes "Main") (under 0) ∷ []; fields = []; slots = []; main = 0; methods = counting_main ∷ [] }
 
-counts_three : run counting [] 3 ≡ record { end = Ended; out = codes "0\n1\n2\n"; left = 0 }
+counts_three : run counting [] 3 ≡ record { end = Ended; out = codes "0\n1\n2\n"; left = 0; met = [] }
 unfolding run_in layout utf16_chars digits encode
 counts_three = refl
 
-counts_two : run counting [] 2 ≡ record { end = Going; out = codes "0\n1\n"; left = 0 }
+counts_two : run counting [] 2 ≡ record { end = Going; out = codes "0\n1\n"; left = 0; met = [] }
 unfolding run_in layout utf16_chars digits encode
 counts_two = refl
 
-counts_none : run counting [] 0 ≡ record { end = Going; out = []; left = 0 }
+counts_none : run counting [] 0 ≡ record { end = Going; out = []; left = 0; met = [] }
 unfolding run_in layout utf16_chars digits encode
 counts_none = refl
 
@@ -100,11 +100,11 @@ overriding =
           ∷ main_of 3 (variable (codes "x") (class_type 1) ∷ []) (two (declare tag 1 (Some (create tag 0 2 no_ex))) (print_line (call tag (local tag 1) (codes "m") no_ex))) ∷ [];
     }
 
-overrides : run overriding [] 10 ≡ record { end = Ended; out = codes "1\n"; left = 7 }
+overrides : run overriding [] 10 ≡ record { end = Ended; out = codes "1\n"; left = 7; met = [] }
 unfolding run_in layout utf16_chars digits encode field_in member_field field_of search_order declaration_of lookup super_method
 overrides = refl
 
-overrides_two : run overriding [] 2 ≡ record { end = Going; out = []; left = 0 }
+overrides_two : run overriding [] 2 ≡ record { end = Going; out = []; left = 0; met = [] }
 unfolding run_in layout utf16_chars digits encode field_in member_field field_of search_order declaration_of lookup super_method
 overrides_two = refl
 
@@ -123,15 +123,15 @@ casting =
           (two (declare tag 2 (Some (cast tag 3 (class_type 2) (local tag 1)))) (print_line (field tag (local tag 2) (codes "f"))))))) ∷ [];
     }
 
-casts_not : run casting [] 10 ≡ record { end = Faulted fault.ClassCast; out = codes "false\n"; left = 9 }
+casts_not : run casting [] 10 ≡ record { end = Faulted fault.ClassCast; out = codes "false\n"; left = 9; met = [] }
 unfolding run_in layout utf16_chars digits encode field_in member_field field_of below
 casts_not = refl
 
-casts : run casting (codes "w" ∷ []) 10 ≡ record { end = Ended; out = codes "true\n0\n"; left = 8 }
+casts : run casting (codes "w" ∷ []) 10 ≡ record { end = Ended; out = codes "true\n0\n"; left = 8; met = [] }
 unfolding run_in layout utf16_chars digits encode field_in member_field field_of below
 casts = refl
 
-abbrev many : ℕ → Ty
+abbrev pub many : ℕ → Ty
 many c = record { base = Class (record { 0 = c }); dim = 1 }
 
 -- class A {} class B extends A {}: B[] b = new B[1]; A[] a = b; a[0] = new B(); System.out.println("ok"); a[0] = new A();
@@ -148,7 +148,7 @@ storing =
           (two (print_line (text tag (codes "ok"))) (assign tag (to_element tag (local tag 2) (number tag (pos 0))) (create tag 2 1 no_ex)))))) ∷ [];
     }
 
-stores : run storing [] 10 ≡ record { end = Faulted fault.ArrayStore; out = codes "ok\n"; left = 7 }
+stores : run storing [] 10 ≡ record { end = Faulted fault.ArrayStore; out = codes "ok\n"; left = 7; met = [] }
 unfolding run_in layout utf16_chars digits encode below
 stores = refl
 
@@ -158,13 +158,13 @@ only xs = record { classes = object ∷ class (codes "Main") (under 0) ∷ []; f
 
 -- System.out.println("a" + 'b' + -7 + true + null); with an unpaired surrogate in front
 joins : run (only (st_then (print_line (plus (plus (plus (plus (text tag (0xD800 ∷ codes "a")) (character tag 98)) (number tag (negsuc 6))) (truth tag true)) (null tag))) no_st)) [] 0
-    ≡ record { end = Ended; out = codes "?ab-7truenull\n"; left = 0 }
+    ≡ record { end = Ended; out = codes "?ab-7truenull\n"; left = 0; met = [] }
 unfolding run_in layout utf16_chars digits encode
 joins = refl
 
 -- System.out.println(new int[-1]);
 negative : run (only (st_then (print_line (create_array tag 0 (record { base = Int; dim = 1 }) (number tag (negsuc 0)))) no_st)) [] 0
-    ≡ record { end = Faulted fault.NegativeSize; out = []; left = 0 }
+    ≡ record { end = Faulted fault.NegativeSize; out = []; left = 0; met = [] }
 unfolding run_in layout utf16_chars digits encode
 negative = refl
 
@@ -185,7 +185,7 @@ numbers : run (record {
       (st_then (prints (bin.Int op.Divide) (int (negsuc 6)) (int (pos 2))) (st_then (prints (bin.Int op.Remainder) (int (negsuc 6)) (int (pos 2)))
       (two (prints (bin.Int op.Plus) (character tag 97) (int (pos 1))) (prints (bin.Int op.Divide) (int (pos 1)) (local tag 2))))))))) ∷ [];
 }) [] 0
-    ≡ record { end = Faulted fault.DivZero; out = codes "-2147483648\n2\n-3\n-1\n98\n"; left = 0 }
+    ≡ record { end = Faulted fault.DivZero; out = codes "-2147483648\n2\n-3\n-1\n98\n"; left = 0; met = [] }
 unfolding run_in layout utf16_chars digits encode
 numbers = refl
 
@@ -200,21 +200,21 @@ only_if e x = choose tag (arm e (st_then x no_st) (otherwise no_st))
 leaves : run (with_local (plain_type Int) (st_then (loop tag (st_then (declare tag 1 (Some (int (pos 0)))) no_st) (Some (binary tag bin.Less (local tag 1) (int (pos 5))))
     (st_then (assign tag (to_local tag 1) (plus (local tag 1) (int (pos 1)))) no_st)
     (st_then (only_if (binary tag bin.Same (local tag 1) (int (pos 1))) (continue tag)) (two (only_if (binary tag bin.Same (local tag 1) (int (pos 3))) (break tag)) (print_line (local tag 1))))) no_st)) [] 9
-    ≡ record { end = Ended; out = codes "0\n2\n"; left = 5 }
+    ≡ record { end = Ended; out = codes "0\n2\n"; left = 5; met = [] }
 unfolding run_in layout utf16_chars digits encode
 leaves = refl
 
 -- int x = 'a'; System.out.println(x); System.out.println(false && 1 / 0 == 0); System.out.println("ab".charAt(x));
 widens : run (with_local (plain_type Int) (st_then (declare tag 1 (Some (character tag 97))) (st_then (print_line (local tag 1))
     (two (prints bin.Both (truth tag false) (binary tag bin.Same (binary tag (bin.Int op.Divide) (int (pos 1)) (int (pos 0))) (int (pos 0)))) (print_line (call tag (text tag (codes "ab")) (codes "charAt") (ex_then (local tag 1) no_ex))))))) [] 0
-    ≡ record { end = Faulted fault.Bounds; out = codes "97\nfalse\n"; left = 0 }
+    ≡ record { end = Faulted fault.Bounds; out = codes "97\nfalse\n"; left = 0; met = [] }
 unfolding run_in layout utf16_chars digits encode
 widens = refl
 
 -- String x; System.out.println(x + 1); System.out.println("a".equals(x)); x.length();
 nulls : run (with_local (plain_type Str) (st_then (declare tag 1 None) (st_then (print_line (plus (local tag 1) (int (pos 1)))) (two (print_line (call tag (text tag (codes "a")) (codes "equals") (ex_then (local tag 1) no_ex)))
     (act tag (call tag (local tag 1) (codes "length") no_ex)))))) [] 0
-    ≡ record { end = Faulted fault.Null; out = codes "null1\nfalse\n"; left = 0 }
+    ≡ record { end = Faulted fault.Null; out = codes "null1\nfalse\n"; left = 0; met = [] }
 unfolding run_in layout utf16_chars digits encode
 nulls = refl
 
@@ -225,3 +225,21 @@ blind = record { sees = λ p v h. false; sees_all = λ b vs h. false; note = λ 
 escapes : (watched_run overriding (λ m. option_and_then (λ (k : PlainMethod). k.body) (slice_get overriding.methods m)) blind [] 10).end ≡ Escaped
 unfolding run_in layout
 escapes = refl
+
+-- a record of each look at one value
+abbrev recording : Eyes
+recording =
+    record { sees = λ p v h. true; sees_all = λ b vs h. true; note = λ p v h m. m ++ record { spot = p; value = v; site = None } ∷ []; note_all = λ b vs h m. m }
+
+abbrev keeping : Plain
+keeping = with_local (class_type 1) (st_then (declare tag 1 (Some (create tag 0 1 no_ex))) no_st)
+
+-- Main x = new Main(); the new object is looked at, then the local that is set
+notes : (watched_run keeping (λ m. option_and_then (λ (k : PlainMethod). k.body) (slice_get keeping.methods m)) recording [] 1).met
+    ≡ record { spot = held 0 (create tag 0 1 no_ex); value = Object 1; site = None } ∷ record { spot = bound 0 1; value = Object 1; site = None } ∷ []
+unfolding run_in layout
+notes = refl
+
+notes_nothing : (run keeping [] 1).met ≡ []
+unfolding run_in layout
+notes_nothing = refl

@@ -16,3 +16,4 @@ pub mod TypedPrograms
 pub mod Plain
 pub mod Placed
 pub mod WatchedPrograms
+mod Looks

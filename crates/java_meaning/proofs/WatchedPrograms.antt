@@ -58,6 +58,8 @@ watched_bare P code eyes h = record {
   statics = refl;
   sees = λ p v hs. refl;
   sees_all = λ b vs hs. refl;
+  note = λ p v hs m. refl;
+  note_all = λ b vs hs m. refl;
 }
 
 -- the theorem: for all words and every bound

@@ -1,5 +1,5 @@
 -- What a run has at a moment, how it ends, and what it asks of a program.
-use Rattle.std.specs.Prelude.{ℕ, zero, suc, ℤ, Bool, true, false, List, Option, Some, None}
+use Rattle.std.specs.Prelude.{ℕ, zero, suc, ℤ, Bool, true, false, List, [], Option, Some, None}
 use Rattle.std.specs.declared.result.Result.{Result}
 use Rattle.std.specs.declared.result.Result.TheVariants.{Ok, Err}
 use Rattle.java_core.specs.declared.Ty.{Ty}
@@ -87,13 +87,19 @@ pub data End : Type 0 where
   Wrong : End
   Escaped : End
 
+-- what a run comes to: its end, what was printed, the steps that are left, and what was noted
 pub record Outcome : Type 0 where
   pub end : End
   pub out : List ℕ
   pub left : ℕ
+  pub met : List Met
 
 abbrev pub stop : End → State → Outcome
-stop e s = record { end = e; out = s.out; left = s.left }
+stop e s = record { end = e; out = s.out; left = s.left; met = s.met }
+
+-- the outcome but for what was noted
+abbrev pub unnoted : Outcome → Outcome
+unnoted o = record o { met = [] }
 
 -- a method with a body: the types of its parameters, the values that its locals begin with, the value that it gives where it falls off its end, and its code
 pub record Body : Type 0 where

@@ -6,7 +6,7 @@ use Rattle.java_core.specs.Types.{Env}
 use Rattle.java_core.specs.Trees.{Tag, Ex, Exs, no_ex, ex_then, number, character, text, truth, null, this, local, static_field, own_field, field, index, call, static_call, super_call, create, create_array, cast, instance_of, unary, binary, Target, to_local, to_static, to_own, to_field, to_element, no_target, St, Sts, Arms, declare, block, assign, act, print, choose, loop, return, break, continue, no_st, st_then, otherwise, arm}
 use Rattle.java_core.specs.Programs.{Plain}
 use Rattle.java_core.specs.Classes.{lookup, super_method}
-use Rattle.java_meaning.specs.Moment.{Value, Cell, Spot, Met, Body, Lang, Outcome, Escaped}
+use Rattle.java_meaning.specs.Moment.{Value, Cell, Spot, Met, Body, Lang, Outcome, unnoted, Escaped}
 use Rattle.java_meaning.specs.Meaning.{run_in}
 use Rattle.java_meaning.specs.Languages.{body_of, language_of}
 
@@ -78,7 +78,7 @@ abbrev mutual
 abbrev pub bare_body : Body → Body
 bare_body b = record b { code = bare_sts b.code }
 
--- the second language is the first over bare trees; where all passes in the second, it is the meaning of the first without its watch
+-- the second language is the first over bare trees, without its watch and its record: all passes in it, and nothing is noted
 pub record IsBare (L M : Lang) : Type 0 where
   pub field : (g : Env) (e : Ex) (x : List ℕ) → M.field g (bare e) x ≡ L.field g e x
   pub slot : (g : Env) (e : Ex) (x : List ℕ) → M.slot g (bare e) x ≡ L.slot g e x
@@ -92,6 +92,8 @@ pub record IsBare (L M : Lang) : Type 0 where
   pub statics : M.statics ≡ L.statics
   pub sees : (p : Spot) (v : Value) (h : List Cell) → M.sees p v h ≡ Bool.true
   pub sees_all : (b : ℕ) (vs : List Value) (h : List Cell) → M.sees_all b vs h ≡ Bool.true
+  pub note : (p : Spot) (v : Value) (h : List Cell) (m : List Met) → M.note p v h m ≡ m
+  pub note_all : (b : ℕ) (vs : List Value) (h : List Cell) (m : List Met) → M.note_all b vs h m ≡ m
 
 -- a watch and a record
 pub record Eyes : Type 0 where
@@ -128,9 +130,9 @@ watched P code eyes =
 unfoldable pub IsCodeOf : Plain → (ℕ → Option Sts) → Type 0
 IsCodeOf P code = (m : ℕ) → body_of P m ≡ option_map bare_body (coded_body P code m)
 
--- a run that does not escape is the other
+-- a run that does not escape is the other, but for what it noted: the other noted nothing
 unfoldable pub EscapesOrIs : Outcome → Outcome → Type 0
-EscapesOrIs o p = (o.end ≡ Escaped) ⊎ (o ≡ p)
+EscapesOrIs o p = (o.end ≡ Escaped) ⊎ (unnoted o ≡ p)
 
 -- the run that is watched, and the law of it
 abbrev pub watched_run : Plain → (ℕ → Option Sts) → Eyes → List (List ℕ) → ℕ → Outcome

@@ -1,1 +1,3 @@
 pub mod Solved
+pub mod Known
+pub mod Same

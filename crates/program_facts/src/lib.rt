@@ -4,14 +4,12 @@
 //! asks more of facts than that they are the text's: a program that is typed gives them with all of it.
 #![tactic(auto)]
 
-ghost use Rattle.std.specs.Prelude.{◌<◌, ◌↔◌, IfErr, IfOk, IsTrue, length};
+ghost use Rattle.std.specs.Prelude.{◌≡◌, ◌≢◌, ◌<◌, ◌↔◌, IfErr, IfOk, IsTrue, length};
 ghost use Rattle.java_core.specs.Trees.{at_place, no_place};
-ghost use Rattle.java_core.specs.Programs.{program_of};
-ghost use Rattle.fact_model.specs.InOrder.{InOrder};
-ghost use Rattle.fact_model.specs.InRange.{InRange};
-ghost use Rattle.flow_facts.specs.Facts.{AreNamesOf, IsFactsOf, IsRefused, IsWithin};
-ghost use Rattle.run_cover.specs.Covers.{CoversProgram};
-ghost use Rattle.program_facts.specs.Solved.{HasCoveringSets};
+ghost use Rattle.java_core.specs.Programs.{Plain, program_of};
+ghost use Rattle.flow_facts.specs.Facts.{IsRefused, IsWithin};
+ghost use Rattle.program_facts.specs.Known.{AreProgramFacts};
+ghost use Rattle.program_facts.specs.Same.{AreSame};
 
 use fact_model::Facts;
 pub use flow_facts::{Counted, FactsFault};
@@ -36,13 +34,7 @@ fn are_numbered(facts: &Facts) -> bool
 /// and the flow points with the cells. `Memory` comes where memory is short, and where the calls or the
 /// `instanceof`s and casts are 4,294,967,295 or more.
 pub fn facts(alloc: Global, program: &Checked) -> Result<Facts, FactsFault>
-    ensures is { IfOk result (λ f. IsFactsOf (program_of no_place program.now) (program_of at_place program.now) f) }
-    ensures names { IfOk result (λ f. AreNamesOf (program_of at_place program.now) f) }
-    ensures within { IfOk result (λ f. IsWithin (program_of no_place program.now) (program_of at_place program.now)) }
-    ensures in_range { IfOk result (λ f. InRange f) }
-    ensures in_order { IfOk result (λ f. InOrder f) }
-    ensures covers { IfOk result (λ f. CoversProgram (program_of no_place program.now) (program_of at_place program.now) f) }
-    ensures solved { IfOk result (λ f. HasCoveringSets (program_of no_place program.now) (program_of at_place program.now) f) }
+    ensures ok { IfOk result (λ f. AreProgramFacts (program_of no_place program.now) (program_of at_place program.now) f) }
     ensures refused { IfErr result (λ e. IsRefused (program_of no_place program.now) (program_of at_place program.now) e) }
 {
     let plain = program.program();
@@ -57,3 +49,11 @@ pub fn facts(alloc: Global, program: &Checked) -> Result<Facts, FactsFault>
         }
     }
 }
+
+/// A program has one answer, the order of what is read as a set and want of memory aside: two lists of facts that it
+/// may have are the same, so are two faults, and it has not both.
+pub fn one_answer()
+    ensures facts { (P Q : Plain) (F G : Facts) → AreProgramFacts P Q F → AreProgramFacts P Q G → AreSame F G }
+    ensures faults { (P Q : Plain) (e f : FactsFault) → IsRefused P Q e → IsRefused P Q f → e ≢ FactsFault.Memory → f ≢ FactsFault.Memory → e ≡ f }
+    ensures apart { (P Q : Plain) (e : FactsFault) → IsWithin P Q → IsRefused P Q e → e ≡ FactsFault.Memory }
+{}

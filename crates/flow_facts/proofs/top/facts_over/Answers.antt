@@ -70,6 +70,7 @@ returns-clause-ok c =
       tests = tests_whole P Q d n _ _ c.in_ok-lists.ensures.tests c.in_ok-tests.ensures.value;
       makers = refl;
       makes = c.new.ensures.items;
+      spots = c.new-2.ensures.items;
     }
 
 pub returns-clause-names : goal.returns-clause-names

@@ -1,0 +1,20 @@
+-- All that is known of the facts of a program.
+use Rattle.java_core.specs.Programs.{Plain}
+use Rattle.fact_model.specs.InOrder.{InOrder}
+use Rattle.fact_model.specs.InRange.{InRange}
+use Rattle.fact_model.specs.declared.facts.Facts.{Facts}
+use Rattle.flow_facts.specs.Facts.{AreNamesOf, IsFactsOf, IsWithin}
+use Rattle.run_cover.specs.Covers.{CoversProgram}
+use Rattle.program_facts.specs.Solved.{HasCoveringSets}
+
+pub record AreProgramFacts (P Q : Plain) (F : Facts) : Type 0 where
+  -- the program has no interface, and not too much of anything
+  pub within : IsWithin P Q
+  -- each list has what the text gives, in its order or as a set; there are no makers and no spots
+  pub is : IsFactsOf P Q F
+  pub names : AreNamesOf Q F
+  pub in_range : InRange F
+  pub in_order : InOrder F
+  -- sets that the inclusions close cover each run, and the points-to sets do
+  pub covers : CoversProgram P Q F
+  pub solved : HasCoveringSets P Q F
