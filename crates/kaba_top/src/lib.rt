@@ -45,10 +45,3 @@ pub fn kaba<F: Shelf, O: Sink, E: Sink>(
         Err(_) => 70,
     }
 }
-
-#[cfg(test)]
-mod refused;
-#[cfg(test)]
-mod rows;
-#[cfg(test)]
-mod tests;

@@ -1,6 +1,6 @@
-//! The words of the command line, and the commands that they say.
+//! The words of the command line, the commands that they say, and numbers in words.
 #![tactic(auto)]
 
 mod words;
 
-pub use words::{Command, WordsFault, read_words};
+pub use words::{Command, WordsFault, number, read_words};

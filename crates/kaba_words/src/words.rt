@@ -86,8 +86,9 @@ impl<'a> Arguments<'a> {
     }
 }
 
-/// The number that the word writes: decimal digits without a leading zero, at most `limit`.
-fn number(alloc: Global, word: &str, limit: u32) -> Result<Option<u32>, AllocError>
+/// The number that the word writes, in decimal digits without a leading zero, where it is at most `limit`;
+/// `AllocError` comes where memory is short.
+pub fn number(alloc: Global, word: &str, limit: u32) -> Result<Option<u32>, AllocError>
     ensures { IfOk result (λ read. MatchOption read ((n : ℕ) → IsNumber word.now limit n → ⊥) (λ n. IsNumber word.now limit n)) }
 {
     match word.parse::<u32>() {

@@ -1,0 +1,4 @@
+pub mod Hierarchies
+pub mod Names
+pub mod Start
+pub mod Edits

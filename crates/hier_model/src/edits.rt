@@ -1,0 +1,36 @@
+//! Edits, and why one makes no hierarchy.
+
+use kaba_base::{ColId, Name, NodeId};
+
+/// An edit of a hierarchy (after Streckenbach and Snelting, 2004).
+#[derive(Drop)]
+pub enum Edit {
+    /// Make one node of a list: the least of them and its name, with all columns and rows.
+    Merge(Vec<NodeId>),
+    /// Put a node below another.
+    Under(NodeId, NodeId),
+    /// Let a column stand at another node; with a body goes its `this`.
+    Move(ColId, NodeId),
+    /// Give the type of a node a name.
+    TypeName(NodeId, Name),
+    /// Give a member a name, and with a method its whole slot.
+    MemberName(ColId, Name),
+    /// Take out a node where nothing stands.
+    Drop(NodeId),
+}
+
+/// Why an edit makes no hierarchy.
+#[derive(Clone, Copy, Debug, PartialEq, Eq)]
+pub enum ChangeFault {
+    /// No live node has this number.
+    UnknownNode(NodeId),
+    /// No column of this number stands anywhere, or it is a mark, which has no name.
+    UnknownMember(ColId),
+    /// A column or a row stands at the node.
+    NotEmpty(NodeId),
+    /// The order would not be one: the node lies strictly between two of a merge, or is strictly above
+    /// the one that it is put under.
+    Cycle(NodeId),
+    /// No memory is left.
+    Memory,
+}
