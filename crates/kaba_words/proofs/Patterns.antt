@@ -1,26 +1,45 @@
 -- Words that fit none of the patterns.
-use Rattle.std.proofs.Common.{◌≡◌, ℕ, ◌<◌, List, [], ◌∷◌, codes, subst, sym, ap, ◌∙◌, refl, Bool, true, false, arith, Option, Some, MatchOption, Result, Err}
-use Rattle.std.specs.Fmt.{decimal}
+use Rattle.std.proofs.Common.{◌≡◌, ℕ, List, [], ◌∷◌, codes, subst, sym, ap, ◌∙◌, refl, Bool, true, false, arith, Option, Some, MatchOption, Result, Err}
 use Rattle.std.specs.Str.{bytes_eq}
 use Rattle.std.proofs.lemmas.Bool.{false≢true}
 use Rattle.std.proofs.lemmas.Slice.Eq.{bytes_eq-Decides}
 use Rattle.std.proofs.lemmas.Fmt.{decimal_injective}
-use Rattle.kaba_words.specs.Commands.{Cmd, run, table, lattice, FitsRun, FitsLattice, FitsNone, Fits, TakesFlag, TakesBound, BoundAfter, IsNumber, most_concepts}
+use Rattle.kaba_words.specs.Commands.{Cmd, run, table, lattice, help, version, FitsRun, FitsLattice, FitsNone, Fits, TakesFlag, TakesBound, BoundAfter, IsNumber, most_concepts}
 
 at_run : (more : List (List ℕ)) → ((file : List ℕ) (steps : ℕ) (after : List (List ℕ)) → FitsRun more file steps after → ⊥) → (command : Cmd) → Fits (codes "run" ∷ more) command → ⊥
 at_run more none (run file steps after) h = none file steps after h.1
 at_run more none (table file) h = cc
 at_run more none (lattice json bound file) h = cc
+at_run more none help h = cc
+at_run more none version h = cc
 
 at_table : (more : List (List ℕ)) → ((file : List ℕ) → more ≡ file ∷ [] → ⊥) → (command : Cmd) → Fits (codes "table" ∷ more) command → ⊥
 at_table more none (run file steps after) h = cc
 at_table more none (table file) h = none file h.1
 at_table more none (lattice json bound file) h = cc
+at_table more none help h = cc
+at_table more none version h = cc
 
 at_lattice : (more : List (List ℕ)) → ((json : Bool) (bound : ℕ) (file : List ℕ) → FitsLattice more json bound file → ⊥) → (command : Cmd) → Fits (codes "lattice" ∷ more) command → ⊥
 at_lattice more none (run file steps after) h = cc
 at_lattice more none (table file) h = cc
 at_lattice more none (lattice json bound file) h = none json bound file h.1
+at_lattice more none help h = cc
+at_lattice more none version h = cc
+
+at_help : (more : List (List ℕ)) → (more ≡ [] → ⊥) → (command : Cmd) → Fits (codes "--help" ∷ more) command → ⊥
+at_help more none (run file steps after) h = cc
+at_help more none (table file) h = cc
+at_help more none (lattice json bound file) h = cc
+at_help more none help h = none h.1
+at_help more none version h = cc
+
+at_version : (more : List (List ℕ)) → (more ≡ [] → ⊥) → (command : Cmd) → Fits (codes "--version" ∷ more) command → ⊥
+at_version more none (run file steps after) h = cc
+at_version more none (table file) h = cc
+at_version more none (lattice json bound file) h = cc
+at_version more none help h = cc
+at_version more none version h = none h.1
 
 -- the name is that of the command, and the words after it do not fit
 pub none_of_run : (words : List (List ℕ)) (more : List (List ℕ)) → words ≡ codes "run" ∷ more → ((file : List ℕ) (steps : ℕ) (after : List (List ℕ)) → FitsRun more file steps after → ⊥) → FitsNone words
@@ -31,6 +50,12 @@ none_of_table words more e none = subst FitsNone (sym e) (at_table more none)
 
 pub none_of_lattice : (words : List (List ℕ)) (more : List (List ℕ)) → words ≡ codes "lattice" ∷ more → ((json : Bool) (bound : ℕ) (file : List ℕ) → FitsLattice more json bound file → ⊥) → FitsNone words
 none_of_lattice words more e none = subst FitsNone (sym e) (at_lattice more none)
+
+pub none_of_help : (words : List (List ℕ)) (more : List (List ℕ)) → words ≡ codes "--help" ∷ more → (more ≡ [] → ⊥) → FitsNone words
+none_of_help words more e none = subst FitsNone (sym e) (at_help more none)
+
+pub none_of_version : (words : List (List ℕ)) (more : List (List ℕ)) → words ≡ codes "--version" ∷ more → (more ≡ [] → ⊥) → FitsNone words
+none_of_version words more e none = subst FitsNone (sym e) (at_version more none)
 
 -- the next word is the one that is wanted, or another
 pub flag_taken : (flag word : List ℕ) (words rest : List (List ℕ)) → words ≡ word ∷ rest → bytes_eq word flag ≡ true → words ≡ flag ∷ rest

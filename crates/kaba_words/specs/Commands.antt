@@ -12,6 +12,8 @@ pub data Cmd : Type 0 where
   run : (file : List ℕ) (steps : ℕ) (words : List (List ℕ)) → Cmd
   table : (file : List ℕ) → Cmd
   lattice : (json : Bool) (bound : ℕ) (file : List ℕ) → Cmd
+  help : Cmd
+  version : Cmd
 
 abbrev pub texts : List (String Global) → List (List ℕ)
 texts words = map string_bytes words
@@ -20,6 +22,8 @@ abbrev pub command_of : Command → Cmd
 command_of (commands.Run file steps words) = run (string_bytes file) steps (texts words.items)
 command_of (commands.Table file) = table (string_bytes file)
 command_of (commands.Lattice json bound file) = lattice json bound (string_bytes file)
+command_of commands.Help = help
+command_of commands.Version = version
 
 -- the word is the number n, in decimal digits without a leading zero, and n is within the limit
 pub record IsNumber (word : List ℕ) (limit n : ℕ) : Type 0 where
@@ -78,6 +82,8 @@ abbrev pub FitsArguments : List ℕ → List (List ℕ) → Cmd → Type 0
 FitsArguments name words (run file steps more) = (name ≡ codes "run") × FitsRun words file steps more
 FitsArguments name words (table file) = (name ≡ codes "table") × (words ≡ file ∷ [])
 FitsArguments name words (lattice json bound file) = (name ≡ codes "lattice") × FitsLattice words json bound file
+FitsArguments name words help = (name ≡ codes "--help") × (words ≡ [])
+FitsArguments name words version = (name ≡ codes "--version") × (words ≡ [])
 
 -- the words say this command
 abbrev pub Fits : List (List ℕ) → Cmd → Type 0

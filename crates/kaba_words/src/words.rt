@@ -17,6 +17,10 @@ pub enum Command {
     Table(String),
     /// `lattice [-j] [-c N] FILE`: its lattice, as JSON or not, of at most N concepts.
     Lattice(bool, u32, String),
+    /// `--help`: what the program takes and gives.
+    Help,
+    /// `--version`: which version it is.
+    Version,
 }
 
 /// Why the words say no command.
@@ -208,6 +212,28 @@ fn read_lattice(alloc: Global, mut arguments: Arguments<'_>) -> Result<Command, 
     Ok(Command::Lattice(json, bound, String::from_str(alloc, file)?))
 }
 
+/// The command `--help`, of which the words after its name are left.
+fn read_help(arguments: Arguments<'_>) -> Result<Command, WordsFault>
+    ensures command { IfOk result (λ command. Fits (codes "--help" ∷ texts arguments.entry.words.now) (command_of command)) }
+    ensures usage { result ≡ Err WordsFault.Usage → texts arguments.entry.words.now ≡ [] → ⊥ }
+{
+    match arguments.words {
+        [] => Ok(Command::Help),
+        [_, ..] => Err(WordsFault::Usage),
+    }
+}
+
+/// The command `--version`, of which the words after its name are left.
+fn read_version(arguments: Arguments<'_>) -> Result<Command, WordsFault>
+    ensures command { IfOk result (λ command. Fits (codes "--version" ∷ texts arguments.entry.words.now) (command_of command)) }
+    ensures usage { result ≡ Err WordsFault.Usage → texts arguments.entry.words.now ≡ [] → ⊥ }
+{
+    match arguments.words {
+        [] => Ok(Command::Version),
+        [_, ..] => Err(WordsFault::Usage),
+    }
+}
+
 /// The command that the words after the program's name say. `Usage` comes exactly where they say
 /// none, `Memory` where memory is short.
 pub fn read_words(alloc: Global, words: &Vec<String>) -> Result<Command, WordsFault>
@@ -221,6 +247,8 @@ pub fn read_words(alloc: Global, words: &Vec<String>) -> Result<Command, WordsFa
         Some("run") => read_run(alloc, arguments),
         Some("table") => read_table(alloc, arguments),
         Some("lattice") => read_lattice(alloc, arguments),
+        Some("--help") => read_help(arguments),
+        Some("--version") => read_version(arguments),
         Some(_) => Err(WordsFault::Usage),
         None => Err(WordsFault::Usage),
     }

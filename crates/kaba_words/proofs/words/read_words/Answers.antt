@@ -1,6 +1,6 @@
 use Rattle.std.proofs.Common.{◌∷◌, ◌∙◌, ap, sym}
 use Rattle.kaba_words.specs.Commands.{texts}
-use Rattle.kaba_words.proofs.Patterns.{none_of_run, none_of_table, none_of_lattice}
+use Rattle.kaba_words.proofs.Patterns.{none_of_run, none_of_table, none_of_lattice, none_of_help, none_of_version}
 use Rattle.kaba_words.proofs.words.read_words.Goals as goal
 
 pub returns-in-Some-run-clause-usage : goal.returns-in-Some-run-clause-usage
@@ -17,3 +17,13 @@ pub returns-in-Some-lattice-clause-usage : goal.returns-in-Some-lattice-clause-u
 returns-in-Some-lattice-clause-usage c = λ h. none_of_lattice (texts c.args.words.now.items) (texts c.next.new.self.words.now)
     (ap texts (sym c.as_slice.ensures.value) ∙ c.in-Some-lattice.ensures ∙ ap (λ name. name ∷ texts c.next.new.self.words.now) c.in-Some-lattice.is-lattice)
     (c.read_lattice.ensures.usage h)
+
+pub returns-in-Some-text-clause-usage : goal.returns-in-Some-text-clause-usage
+returns-in-Some-text-clause-usage c = λ h. none_of_help (texts c.args.words.now.items) (texts c.next.new.self.words.now)
+    (ap texts (sym c.as_slice.ensures.value) ∙ c.in-Some-text.ensures ∙ ap (λ name. name ∷ texts c.next.new.self.words.now) c.in-Some-text.is-text)
+    (c.read_help.ensures.usage h)
+
+pub returns-in-Some-text-2-clause-usage : goal.returns-in-Some-text-2-clause-usage
+returns-in-Some-text-2-clause-usage c = λ h. none_of_version (texts c.args.words.now.items) (texts c.next.new.self.words.now)
+    (ap texts (sym c.as_slice.ensures.value) ∙ c.in-Some-text-2.ensures ∙ ap (λ name. name ∷ texts c.next.new.self.words.now) c.in-Some-text-2.is-text-2)
+    (c.read_version.ensures.usage h)

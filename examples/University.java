@@ -1,20 +1,5 @@
-class Person {
-  String name;
-  String address;
-  String where() { return this.address; }
-}
-class Student extends Person {
-  Professor advisor;
-  void setAdvisor(Professor p) { this.advisor = p; }
-}
-class Professor extends Person {
-  String office;
-  Student assistant;
-  String where() { return this.office; }
-  void hire(Student s) { this.assistant = s; }
-}
-class Main {
-  static void main(String[] args) {
+public class University {
+  public static void main(String[] args) {
     Student s1 = new Student();
     Student s2 = new Student();
     Professor p1 = new Professor();
@@ -32,4 +17,19 @@ class Main {
     System.out.println(s1.advisor.name);
     System.out.println(s2.name);
   }
+}
+class Person {
+  String name;
+  String address;
+  String where() { return this.address; }
+}
+class Student extends Person {
+  Professor advisor;
+  void setAdvisor(Professor p) { this.advisor = p; }
+}
+class Professor extends Person {
+  String office;
+  Student assistant;
+  String where() { return this.office; }
+  void hire(Student s) { this.assistant = s; }
 }

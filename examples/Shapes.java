@@ -1,20 +1,5 @@
-interface Shape {
-  int area();
-}
-abstract class Named implements Shape {
-  String name;
-  String text() { return name + " of area " + this.area(); }
-}
-class Square extends Named {
-  int side;
-  public int area() { return side * side; }
-}
-class Cube extends Square {
-  public int area() { return 6 * super.area(); }
-  String text() { return "solid " + super.text(); }
-}
-class Main {
-  static void main(String[] args) {
+public class Shapes {
+  public static void main(String[] args) {
     Square square = new Square();
     square.name = "square";
     square.side = 3;
@@ -32,4 +17,19 @@ class Main {
     Cube wrong = (Cube) first;
     System.out.println("never");
   }
+}
+interface Shape {
+  int area();
+}
+abstract class Named implements Shape {
+  String name;
+  String text() { return name + " of area " + this.area(); }
+}
+class Square extends Named {
+  int side;
+  public int area() { return side * side; }
+}
+class Cube extends Square {
+  public int area() { return 6 * super.area(); }
+  String text() { return "solid " + super.text(); }
 }

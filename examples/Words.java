@@ -1,5 +1,5 @@
-class Main {
-  static void main(String[] args) {
+public class Words {
+  public static void main(String[] args) {
     String all = "";
     for (int i = 0; i < args.length; i++) {
       if (i > 0) {
