@@ -18,8 +18,6 @@ mod intents;
 mod item;
 mod places;
 mod stands;
-#[cfg(test)]
-mod tests;
 
 use covers::above;
 use intents::all_items;

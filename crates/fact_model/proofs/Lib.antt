@@ -1,3 +1,6 @@
 pub mod ClassLemmas
 pub mod RangeLemmas
 pub mod OrderLemmas
+pub mod ShownLemmas
+pub mod EntryLemmas
+pub mod ChainLemmas

@@ -1,5 +1,5 @@
 -- Facts in range: what every call that takes facts asks.
-use Rattle.std.specs.Prelude.{ℕ, ◌<◌, ◌-◌, length, All, IfSome}
+use Rattle.std.specs.Prelude.{ℕ, ◌<◌, length, All, IfSome}
 use Rattle.kaba_base.specs.declared.RowId.{RowId}
 use Rattle.kaba_base.specs.declared.ColId.{ColId}
 use Rattle.kaba_base.specs.declared.SiteId.{SiteId}

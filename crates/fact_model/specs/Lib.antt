@@ -5,3 +5,4 @@ pub mod Flowing
 pub mod Entries
 pub mod InOrder
 pub mod Concepts
+pub mod Closures

@@ -3,6 +3,7 @@
 
 mod classes;
 mod facts;
+mod laws;
 mod sets;
 
 pub use classes::{below, class_at, finds};
@@ -11,4 +12,5 @@ pub use facts::{
     FlowInfo, LoadInfo, MakeInfo, MakerNames, NewInfo, RowInfo, SiteInfo, Spot, SpotKind,
     StoreInfo, SuperInfo, TestInfo, TieInfo,
 };
+pub use laws::{classes_are_chains, sets_are_closed, table_is_closed};
 pub use sets::{Concept, Lattice, PointsTo, Table};

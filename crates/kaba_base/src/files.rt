@@ -21,7 +21,7 @@ pub struct FileShelf<R: Files + Drop> {
 impl<R: Files + Drop> FileShelf<R> {
     /// The files that this runtime reaches.
     pub fn new(files: R) -> FileShelf<R>
-        ensures count { result.count ≡ 0 }
+        ensures faults { ⟦<FileShelf<R> as Shelf>⟧.faults result ≡ 0 }
     {
         FileShelf { files, count: 0 }
     }
@@ -96,7 +96,7 @@ pub struct StdSink<W: Write + Drop> {
 impl<W: Write + Drop> StdSink<W> {
     /// The sink over this stream.
     pub fn new(stream: W) -> StdSink<W>
-        ensures count { result.count ≡ 0 }
+        ensures faults { ⟦<StdSink<W> as Sink>⟧.faults result ≡ 0 }
     {
         StdSink { stream, count: 0 }
     }

@@ -49,6 +49,3 @@ pub struct Place {
     /// Its line: one more than the number of line feeds before it.
     pub line: u32,
 }
-
-#[cfg(test)]
-mod tests;

@@ -10,8 +10,6 @@ use std::marker::Model;
 
 mod rows;
 mod slices;
-#[cfg(test)]
-mod tests;
 
 pub use rows::{copy_rows, empty_rows, join, join_with, row_at, set_at};
 use slices::{clear_bits, join_bits, meet_bits};

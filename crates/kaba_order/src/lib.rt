@@ -12,8 +12,6 @@ use std::marker::Model;
 
 mod merge;
 mod rows;
-#[cfg(test)]
-mod tests;
 
 use merge::{has_some, is_among, keep_one, least_of, merge_rows, some_has};
 

@@ -3,8 +3,6 @@
 
 mod json;
 mod table;
-#[cfg(test)]
-mod tests;
 mod text;
 
 pub use json::show_json;

@@ -1,0 +1,30 @@
+//! What only a call of a library shows: with enough memory each call answers Ok, and a shelf and a sink in memory fail
+//! at just the calls that they are told to. Each line has what was asked, and then what it gave.
+#![tactic(auto)]
+
+mod orders;
+mod outside;
+mod sets;
+
+use orders::add_orders;
+use outside::{add_reads, add_writes};
+use sets::add_sets;
+use std::alloc::{AllocError, Global};
+use std::io;
+
+fn main(rt: HostRuntime) -> io::Result<()> {
+    match lines(rt.alloc()) {
+        Ok(text) => print!(rt; "{text}"),
+        Err(_) => println!(rt; "no memory"),
+    }
+}
+
+/// All lines.
+fn lines(alloc: Global) -> Result<String, AllocError> {
+    let mut text = String::new(alloc);
+    add_reads(alloc, &mut text)?;
+    add_writes(alloc, &mut text)?;
+    add_sets(alloc, &mut text)?;
+    add_orders(alloc, &mut text)?;
+    Ok(text)
+}
