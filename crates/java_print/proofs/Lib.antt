@@ -9,3 +9,4 @@ pub mod Adding
 pub mod Opened
 pub mod StmtAdding
 pub mod DeclAdding
+pub mod Whole
