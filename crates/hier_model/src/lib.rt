@@ -17,6 +17,8 @@ use std::marker::Model;
 
 mod edits;
 mod items;
+mod orders;
+mod origins;
 
 pub use edits::{ChangeFault, Edit};
 pub use items::{column_at, site_at, this_of};

@@ -148,7 +148,8 @@ impl Order {
     /// Removes a live node, and keeps the order of the rest.
     pub fn drop_node(&mut self, n: NodeId)
         requires { is_live self.old n.0 ≡ true }
-        ensures { IsDropped self.old n.0 self.new }
+        ensures dropped { IsDropped self.old n.0 self.new }
+        ensures order { IsPartialOrder self.new }
     {
         self.live.remove(n.0);
         rows::drop_from(&mut self.le, n.0);
