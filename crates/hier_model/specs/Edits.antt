@@ -1,5 +1,5 @@
 -- What an edit makes of a hierarchy, before its obligations are asked (after Streckenbach and Snelting, 2004).
-use Rattle.std.specs.Prelude.{ℕ, ◌==◌, ◌&&◌, ◌||◌, Bool, true, false, not, if◌then◌else◌, List, [], ◌∷◌, length, map, Option, Some, None, is_some, unwrap_or, slice_index_or, slice_set, Result, Ok, Err}
+use Rattle.std.specs.Prelude.{ℕ, ◌<◌, ◌==◌, ◌&&◌, ◌||◌, Bool, true, false, not, if◌then◌else◌, List, [], ◌∷◌, length, map, Option, Some, None, is_some, unwrap_or, slice_index_or, slice_set, Result, Ok, Err}
 use Rattle.std.specs.Option.{option_map, option_and_then}
 use Rattle.std.specs.List.{list_any, range_with_len}
 use Rattle.kaba_base.specs.declared.NodeId.{NodeId}
@@ -7,6 +7,8 @@ use Rattle.kaba_base.specs.declared.ColId.{ColId}
 use Rattle.kaba_base.specs.declared.ClassId.{ClassId}
 use Rattle.kaba_bits.specs.Sets.{first_below, when}
 use Rattle.kaba_order.specs.Orders.{Ordered, is_le, is_live, is_among, is_below_some, is_above_some, stays, merged_to}
+use Rattle.kaba_order.specs.declared.OrderFault.{OrderFault}
+use Rattle.kaba_order.specs.declared.OrderFault.TheVariants as fault
 use Rattle.fact_model.specs.Items.{row_this, column_kind, column_slot}
 use Rattle.fact_model.specs.declared.facts.Facts.{Facts}
 use Rattle.fact_model.specs.declared.facts.ColKind.{ColKind}
@@ -14,7 +16,7 @@ use Rattle.fact_model.specs.declared.facts.ColKind.TheVariants.{Fld, Dcl, Def, I
 use Rattle.hier_model.specs.declared.edits.Edit.{Edit}
 use Rattle.hier_model.specs.declared.edits.Edit.TheVariants as edit
 use Rattle.hier_model.specs.declared.edits.ChangeFault.{ChangeFault}
-use Rattle.hier_model.specs.declared.edits.ChangeFault.TheVariants.{UnknownNode, UnknownMember, NotEmpty, Cycle}
+use Rattle.hier_model.specs.declared.edits.ChangeFault.TheVariants.{UnknownNode, UnknownMember, NotEmpty, Cycle, Memory}
 use Rattle.hier_model.specs.Hierarchies.{Hierarchy, node, place_of_column, origin_of, is_at}
 use Rattle.hier_model.specs.Start.{lowest}
 
@@ -71,19 +73,20 @@ merged F H set =
       origins = slice_set H.origins m (merged_origin F (map (λ n. origin_of H n.0) set));
     }
 
--- whether a row is `this` of the body c
-abbrev pub is_this_of : Facts → ColId → ℕ → Bool
-is_this_of F c r = is_body_column (row_this F r)
-  where
-    is_body_column : Option ColId → Bool
-    is_body_column None = false
-    is_body_column (Some d) = d.0 == c.0
+-- whether there is a column, and it is the one given
+abbrev pub is_column : ColId → Option ColId → Bool
+is_column c None = false
+is_column c (Some d) = d.0 == c.0
+
+-- where a row stands after a column was moved to n: there too, if it is `this` of that body
+abbrev pub moved_row : Facts → Hierarchy → ColId → NodeId → ℕ → NodeId
+moved_row F H c n r = if is_column c (row_this F r) then n else slice_index_or H.rows r (node 0)
 
 -- a column at another node, and with a body its `this`
 abbrev pub moved : Facts → Hierarchy → ColId → NodeId → Hierarchy
 moved F H c n = record H {
   columns = slice_set H.columns c.0 (Some n);
-  rows = map (λ r. if is_this_of F c r then n else slice_index_or H.rows r (node 0)) (range_with_len 0 (length H.rows));
+  rows = map (moved_row F H c n) (range_with_len 0 (length H.rows));
 }
 
 -- whether two slots are there and the same
@@ -92,16 +95,20 @@ is_one_slot None y = false
 is_one_slot (Some x) None = false
 is_one_slot (Some x) (Some y) = x == y
 
+-- the name of a column after the member c got a name: that name for c, and for each column of its slot
+abbrev pub renamed_member : Facts → Hierarchy → ColId → List ℕ → ℕ → List ℕ
+renamed_member F H c name d = if (d == c.0) || is_one_slot (column_slot F c.0) (column_slot F d) then name else slice_index_or H.members d []
+
 -- a member under another name; a method with its whole slot
 abbrev pub renamed : Facts → Hierarchy → ColId → List ℕ → Hierarchy
 renamed F H c name = record H {
-  members = map (λ d. if (d == c.0) || is_one_slot (column_slot F c.0) (column_slot F d) then name else slice_index_or H.members d []) (range_with_len 0 (length H.members));
+  members = map (renamed_member F H c name) (range_with_len 0 (length H.members));
 }
 
 -- the first of some nodes that is not live
-abbrev pub first_unknown : Hierarchy → List NodeId → Option NodeId
-first_unknown H [] = None
-first_unknown H (n ∷ ns) = if is_live H.order n.0 then first_unknown H ns else Some n
+abbrev pub first_unknown : Ordered → List NodeId → Option NodeId
+first_unknown o [] = None
+first_unknown o (n ∷ ns) = if is_live o n.0 then first_unknown o ns else Some n
 
 -- whether a column stands somewhere
 abbrev pub is_placed : Hierarchy → ColId → Bool
@@ -117,18 +124,32 @@ is_mark Def = false
 abbrev pub is_used : Hierarchy → NodeId → Bool
 is_used H n = list_any (is_at n.0) H.columns || list_any (λ p. p.0 == n.0) H.rows
 
+-- the same fault of an edit as of its order
+abbrev pub fault_of : OrderFault → ChangeFault
+fault_of (fault.Cycle x) = Cycle x
+fault_of fault.Memory = Memory
+
 -- a refusal at the first node of its kind, or what is made where there is none
 abbrev pub unless : Option NodeId → (NodeId → ChangeFault) → Result Hierarchy ChangeFault → Result Hierarchy ChangeFault
 unless None fault made = made
 unless (Some n) fault made = Err (fault n)
 
+-- a merge names some node
+abbrev pub NamesSome : Edit → Type 0
+NamesSome (edit.Merge set) = 0 < length set.items
+NamesSome (edit.Under n p) = Unit {0}
+NamesSome (edit.Move c n) = Unit {0}
+NamesSome (edit.TypeName n name) = Unit {0}
+NamesSome (edit.MemberName c name) = Unit {0}
+NamesSome (edit.Drop n) = Unit {0}
+
 -- the hierarchy after an edit, or why there is none; nodes and columns are looked at in the order of the edit's words
 abbrev pub changed : Facts → Hierarchy → Edit → Result Hierarchy ChangeFault
-changed F H (edit.Merge set) = unless (first_unknown H set.items) UnknownNode (unless (first_between H.order set.items) Cycle (Ok (merged F H set.items)))
+changed F H (edit.Merge set) = unless (first_unknown H.order set.items) UnknownNode (unless (first_between H.order set.items) Cycle (Ok (merged F H set.items)))
 changed F H (edit.Under n p) =
-    unless (first_unknown H (n ∷ p ∷ [])) UnknownNode
+    unless (first_unknown H.order (n ∷ p ∷ [])) UnknownNode
     (if is_le H.order p.0 n.0 && not (p.0 == n.0) then Err (Cycle n) else Ok (record H { order = under_order H.order n.0 p.0 }))
-changed F H (edit.Move c n) = if is_placed H c then unless (first_unknown H (n ∷ [])) UnknownNode (Ok (moved F H c n)) else Err (UnknownMember c)
-changed F H (edit.TypeName n name) = unless (first_unknown H (n ∷ [])) UnknownNode (Ok (record H { types = slice_set H.types n.0 name }))
+changed F H (edit.Move c n) = if is_placed H c then unless (first_unknown H.order (n ∷ [])) UnknownNode (Ok (moved F H c n)) else Err (UnknownMember c)
+changed F H (edit.TypeName n name) = unless (first_unknown H.order (n ∷ [])) UnknownNode (Ok (record H { types = slice_set H.types n.0 name }))
 changed F H (edit.MemberName c name) = if is_placed H c && not (is_mark (column_kind F c.0)) then Ok (renamed F H c name) else Err (UnknownMember c)
-changed F H (edit.Drop n) = unless (first_unknown H (n ∷ [])) UnknownNode (if is_used H n then Err (NotEmpty n) else Ok (record H { order = dropped_order H.order n.0 }))
+changed F H (edit.Drop n) = unless (first_unknown H.order (n ∷ [])) UnknownNode (if is_used H n then Err (NotEmpty n) else Ok (record H { order = dropped_order H.order n.0 }))

@@ -53,9 +53,13 @@ column_place T concepts c =
 abbrev pub row_place : List Pair → List Bool → NodeId
 row_place concepts columns = unwrap_or (first_below (length concepts) (λ k. when (is_same_set (concept_at concepts k).1 columns) (node k))) (node 0)
 
+-- whether a class is at or below all of some classes
+abbrev pub is_below_all : Facts → List ClassId → ClassId → Bool
+is_below_all F classes k = list_all (λ l. below F k.0 l.0) classes
+
 -- the first of some classes that is at or below them all: the lowest
 abbrev pub lowest : Facts → List ClassId → Option ClassId
-lowest F classes = first_that (λ k. list_all (λ l. below F k.0 l.0) classes) classes
+lowest F classes = first_that (is_below_all F classes) classes
 
 -- the classes of the columns of a set; interfaces are passed over
 abbrev pub owners : Facts → List Bool → List ClassId

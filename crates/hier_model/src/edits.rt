@@ -1,6 +1,7 @@
 //! Edits, and why one makes no hierarchy.
 
 use kaba_base::{ColId, Name, NodeId};
+use std::alloc::AllocError;
 
 /// An edit of a hierarchy (after Streckenbach and Snelting, 2004).
 #[derive(Drop)]
@@ -33,4 +34,15 @@ pub enum ChangeFault {
     Cycle(NodeId),
     /// No memory is left.
     Memory,
+}
+
+impl From<AllocError> for ChangeFault {
+    ghost use Rattle.std.specs.Prelude.{◌≡◌};
+    ghost use Rattle.hier_model.specs.declared.edits.ChangeFault.{ChangeFault};
+
+    ghost from_gives = { λ _ e. e ≡ ChangeFault.Memory };
+
+    fn from(_e: AllocError) -> ChangeFault {
+        ChangeFault::Memory
+    }
 }

@@ -3,7 +3,7 @@
 
 ghost use Rattle.std.specs.Prelude.{◌≡◌, ℕ, ◌<◌, ◌↔◌, ◌&&◌, ◌==◌, true, length, IsTrue, IfOk, OnOk, OnErr, MatchOption, All};
 ghost use Rattle.kaba_bits.specs.Sets.{bit, row, HasWidth, ListsBelow};
-ghost use Rattle.kaba_order.specs.Orders.{is_le, is_live, IsStrictlyBelow, IsCover, numbers, IsLeastWith, IsUnder, IsDropped, IsBetween, IsFirstBetween, IsLeastOf, IsLeastMerged, IsMerged};
+ghost use Rattle.kaba_order.specs.Orders.{Ordered, IsPartialOrder, is_le, is_live, IsStrictlyBelow, IsCover, numbers, IsLeastWith, IsUnder, IsDropped, IsBetween, IsFirstBetween, IsLeastOf, IsLeastMerged, IsMerged};
 
 use kaba_base::NodeId;
 use kaba_bits::{BitRow, row_at};
@@ -53,6 +53,14 @@ impl Order {
         let le = rows::diagonal(alloc, count)?;
         let live = BitRow::full(alloc, count)?;
         Ok(Order { live, le })
+    }
+
+    /// The order of these live nodes in which each has its row of those at or above it.
+    pub fn from_rows(live: BitRow, le: Vec<BitRow>) -> Order
+        requires { let order : Ordered = record { live = live; le = le.items } in IsPartialOrder order }
+        ensures { result ≡ record { live = live; le = le.items } }
+    {
+        Order { live, le }
     }
 
     /// The same order once more. An error comes only for want of memory.
@@ -138,7 +146,8 @@ impl Order {
     /// Removes a live node, and keeps the order of the rest.
     pub fn drop_node(&mut self, n: NodeId)
         requires { is_live self.old n.0 ≡ true }
-        ensures { IsDropped self.old n.0 self.new }
+        ensures dropped { IsDropped self.old n.0 self.new }
+        ensures order { IsPartialOrder self.new }
     {
         self.live.remove(n.0);
         rows::drop_from(&mut self.le, n.0);

@@ -1,12 +1,13 @@
-use Rattle.std.proofs.Common.{◌≡◌, length, sym, ◌∙◌, subst, List, Bool, ap, false, set}
+use Rattle.std.proofs.Common.{◌≡◌, length, sym, ◌∙◌, subst, List, Bool, ap, false, set, take, drop, ◌++◌}
 use Rattle.std.proofs.lemmas.List.{with_items_is, length-set}
 use Rattle.kaba_bits.specs.Sets.{HasWidth}
 use Rattle.kaba_order.specs.Orders.{Ordered, IsPartialOrder, IsDropped}
 use Rattle.kaba_order.proofs.StepLemmas.{dropped_order, dropped_live}
 use Rattle.kaba_order.proofs.Order.drop_node.Goals as goal
+use Rattle.kaba_order.proofs.Order.drop_node.Goals.{After-drop_from}
 
-pub invariant_of-self : goal.invariant_of-self
-invariant_of-self c =
+left : (c : After-drop_from) → IsPartialOrder (record { live = c.remove.new.self; le = take c.self.inside.le.len (c.drop_from.new.le ++ drop (length c.drop_from.new.le) c.self.inside.le.items) })
+left c =
     let old = c.args.self.now in
     let n = c.args.n.0 in
     let made : Ordered = record { live = c.remove.new.self; le = c.drop_from.new.le } in
@@ -24,3 +25,9 @@ invariant_of-self c =
     } in
     let whole = ap (λ (l : List (List Bool)). let o : Ordered = record { live = made.live; le = l } in o) (sym (with_items_is c.self.inside.le made.le (c.drop_from.ensures.len ∙ (ap length c.deref_mut.ensures.value ∙ sym c.self.inside.le.ok.0)))) in
     subst IsPartialOrder whole (dropped_order old made n order count widths dropped)
+
+pub invariant_of-self : goal.invariant_of-self
+invariant_of-self c = left (goal.at.invariant_of-self c).After-drop_from
+
+pub returns-clause-order : goal.returns-clause-order
+returns-clause-order c = left (goal.at.returns-clause-order c).After-drop_from
