@@ -3,6 +3,7 @@
 
 mod bodies;
 mod cells;
+mod expr_rows;
 mod infos;
 mod items;
 mod labels;
@@ -17,5 +18,9 @@ mod top;
 mod types;
 mod walk;
 
+pub use expr_rows::row_of;
 pub use items::{Column, ColumnItem, ObjectType, PointItem, Row, RowItem, Site};
-pub use top::{Counted, FactsFault, facts};
+pub use numbering::Numbering;
+pub use survey::result_row;
+pub use top::{Counted, FactsFault, facts, numbering_of};
+pub use walk::variable_row;
