@@ -63,7 +63,7 @@ def at_colon(text, here, front):
         return "there are no method references: write a class with a method"
     if re.search(r"\bfor\s*\([^;]*$", front):
         return FOREACH
-    if re.match(r"\s*(case\b|default\b)", text):
+    if re.search(r"(?:^|[\s{;])(?:case\b[^:]*|default\s*)$", front):
         return KEYWORDS["switch"]
     return CHOICE if "?" in front else "there are no labels: put the loops into a method that returns"
 
@@ -174,7 +174,7 @@ def in_class(spot):
     if text == "(" and spot.is_name(-1):
         return MAKER
     if text in ("class", "interface") or before in ("class", "interface"):
-        return "there are no classes within classes: declare it beside the others"
+        return "there are no classes within classes: declare it beside the others (or a `}` is missing before it)"
     if text == "{":
         return "there are no blocks outside of methods: write a static method that main calls first"
     if text == ";":
@@ -185,13 +185,18 @@ def in_class(spot):
 def in_body(spot):
     text, before, after = spot.text(), spot.text(-1), spot.text(1)
     said = spot.statement()
+    if text == "else":
+        return "no if stands directly before this else"
+    if text == "2147483648":
+        return "this number stands only directly behind a minus"
     if text in ("++", "--") or before in ("++", "--"):
         return STEP
     if text in ("+=", "-=", "*=", "/=", "%="):
         return COMPOUND
-    if text == "=" and before in ("&", "|", "^", "<<", ">>", ">>>"):
-        return f"`{before}=` is not in the language: write x = x {before} ..;"
-    if text == "=" or before == "=" and text == "=":
+    for mark, equals in ((text, after), (before, text)):
+        if mark in ("&", "|", "^", "<<", ">>", ">>>") and equals == "=":
+            return f"`{mark}=` is not in the language: write x = x {mark} ..;, and for booleans && and ||"
+    if text == "=":
         return "an assignment is a statement of its own, with a variable, a field or an element on its left"
     if text == "{" or before == "{" and "=" in said:
         return ARRAY if before in ("=", "]") else "no block stands here: there are no classes within expressions, and no array initialisers"
@@ -199,8 +204,10 @@ def in_body(spot):
         return "one variable a declaration, and one part between the `;` of a for: write a line for each"
     if text == ">" and before == "-":
         return "there are no lambdas: write a class with a method"
+    if "new" in said and (text == "[" or before == "[" and spot.text(-2) == "]"):
+        return "a new array has one size: write new T[N][] and create each part; to index a new array put it in round brackets"
     if text == "[":
-        return "a new array has one size: write new T[N][] and create each part" if "new" in said else "the brackets stand behind the type: int[] a"
+        return "the brackets stand behind the type: int[] a"
     if text == "]" and before == "[":
         return ARRAY if "new" in said else None
     if text in ("super", "this") or before in ("super", "this") and text == "(":
@@ -215,14 +222,14 @@ def in_body(spot):
         return GENERIC
     if text == "class":
         return "there are no classes within methods: declare it beside the others"
-    if text == ";" and not ({"=", "("} & set(said)):
+    if "=" not in said and (text == ";" and before != ")" or spot.tokens[spot.k].kind == "mark" and spot.tokens[spot.k - 1].kind in ("number", "string", "char")):
         return "an expression is no statement: only assignments, calls and creations are"
     return None
 
 
 NAMES = {
     "Unknown": "`{name}` is declared nowhere that can be seen from here",
-    "Twice": "`{name}` is declared twice: a local may not have the name of one in whose scope it stands, nor a class two members of one name",
+    "Twice": "`{name}` is declared twice: a local may not have the name of one in whose scope it stands, nor a class two fields or two methods of one name (there is no overloading)",
     "Loop": "`{name}` is its own ancestor",
     "Overload": "`{name}` has another parameter list, result or kind here than elsewhere in the class or its ancestors: there is no overloading; give it another name",
     "TwoKinds": "`{name}` is the name of a class where a variable is meant, or a class where an interface is, or the reverse",
@@ -242,6 +249,8 @@ def of_name(kind, name):
     """The sentence for a condition on names."""
     if kind == "Unknown" and name == "System":
         return "System stands only in System.out.println(..) and System.out.print(..), with at most one value"
+    if kind == "Unknown" and name == "String":
+        return "String stands only as the type of a variable, parameter, field, result or element; for the text of a number or boolean write \"\" + n"
     if kind == "Unknown" and name == "var":
         return "a local has its type before it: there is no var"
     if kind == "Unknown" and name[:1].isupper():
@@ -252,7 +261,7 @@ def of_name(kind, name):
 
 
 RULES = {
-    "Assign": "the value does not fit what it is stored into",
+    "Assign": "the value does not fit what it is stored into; an int becomes a char, and an object one of a class below, by a cast",
     "Arguments": "the arguments do not fit the parameters in number or type; a creation takes none",
     "Operand": "an operand has a type that the operator does not take: there are int, char and boolean, and + joins a String with them or a String; "
     "print takes these four",

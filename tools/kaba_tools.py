@@ -1,6 +1,6 @@
 """What the tools share: the program, the tokens of a text with their places, and what the text declares.
 
-The environment variable KABA names another program than the repository's own `./kaba`.
+The environment variable KABA names another program than the one that `./kaba` builds.
 """
 import argparse
 import bisect
@@ -56,11 +56,11 @@ def words_of(documentation):
 
 def kaba(*words):
     """The program's answer: its status, its output and its error."""
-    program = os.environ.get("KABA", str(HERE / "kaba"))
+    program = os.environ.get("KABA", str(HERE / "crates" / "kaba" / "out" / "kaba"))
     try:
         done = subprocess.run([program, *words], stdin=subprocess.DEVNULL, capture_output=True)
     except OSError as error:
-        fail(f"cannot run {program}: {error.strerror}")
+        fail(f"cannot run {program}: {error.strerror}; ./kaba builds the program at its first use", 127)
     return done.returncode, done.stdout, done.stderr.decode(errors="replace").strip()
 
 
