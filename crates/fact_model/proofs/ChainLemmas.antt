@@ -27,7 +27,7 @@ module _ (F : Facts) (O : InOrder F) where
   one (Some p) c h = grind (arith, h.1, h.2)
 
   -- what stands directly above is the parent or a face
-  direct_cases : (a : ℕ) (c : ClassId) → Contains (supers_of F a) c → (parent_of F a ≡ Some c) ⊎ (is_interface F c.0 ≡ true)
+  pub direct_cases : (a : ℕ) (c : ClassId) → Contains (supers_of F a) c → (parent_of F a ≡ Some c) ⊎ (is_interface F c.0 ≡ true)
   direct_cases a c h =
       ⊎_elim (λ p. inl (one (parent_of F a) c p)) (λ f. inr (O.classes.faces a c f)) (Contains-append_cases (option_to_list (parent_of F a)) (faces_of F a) c h)
 

@@ -4,3 +4,4 @@ pub mod OrderLemmas
 pub mod ShownLemmas
 pub mod EntryLemmas
 pub mod ChainLemmas
+pub mod NearestLemmas
