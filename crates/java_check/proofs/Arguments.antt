@@ -14,11 +14,11 @@ use Rattle.java_core.specs.Programs.{Plain, PlainLocal}
 use Rattle.java_core.specs.Classes.{super_method, is_concrete}
 use Rattle.java_core.specs.Types.{Env, fits, types_of, call_signature, signature_of_method}
 use Rattle.java_core.proofs.Rows.{exprs_vec, call_as}
-use Rattle.java_check.specs.declared.Given as declared
+use Rattle.java_core.specs.declared.statics.Static as declared
 use Rattle.java_check.specs.declared.Kind.{Kind}
 use Rattle.java_check.specs.declared.Kind.TheVariants.{Arguments}
 use Rattle.java_check.specs.declared.CheckFault.{CheckFault}
-use Rattle.java_check.specs.Given.{seen}
+use Rattle.java_core.specs.Statics.{static_seen as seen}
 use Rattle.java_check.specs.Outcome.{Answer, answer, args_answer, and_then, asked, refused, call_answer, super_answer, create_answer}
 
 pub drop-some : {A : Type 0} (xs : List A) (i : ℕ) (x : A) → Some x ≡ slice_get xs i → drop i xs ≡ x ∷ drop (i + 1) xs
@@ -92,7 +92,7 @@ module _ (P : Plain) (g : Env) where
   seen_as h = ap (λ e. answer P g (expr_of at_place e)) h
 
   -- a call of an instance method by its name, where its receiver gives s, or a fault
-  pub named_answer : {e : RExpr} (b : Option (Box RExpr Global)) (x : List ℕ) (v : Vec RExpr Global) (p : Place) {s : declared.Given} {r : Answer} → e ≡ Call b x v p → r ≡ answer P g (base_seen at_place b p) → r ≡ Ok s
+  pub named_answer : {e : RExpr} (b : Option (Box RExpr Global)) (x : List ℕ) (v : Vec RExpr Global) (p : Place) {s : declared.Static} {r : Answer} → e ≡ Call b x v p → r ≡ answer P g (base_seen at_place b p) → r ≡ Ok s
       → call_answer (call_signature P (seen s) x) (args_answer P g (exprs at_place v.items) (at_place p)) (at_place p) ≡ answer P g (expr_of at_place e)
   named_answer b x v p h k o = sym (seen_as h ∙ ap (answer P g) (call_as at_place b x v p) ∙ and_then-ok _ (sym k ∙ o))
 

@@ -10,12 +10,12 @@ use Rattle.java_core.specs.Classes.{super_method, has_body, is_concrete}
 use Rattle.java_core.specs.Types as types
 use Rattle.java_core.specs.Types.{Static, Env, or_nothing, class_of, element_of, is_numeric, fits, Signature, call_signature, signature_of_method, super_signature, access_type, binary_type, static}
 use Rattle.java_core.specs.Typing.{takes_one, takes_two, are_related, can_cast, Typed, TypedArgs, t_number, t_character, t_text, t_truth, t_null, t_this, t_local, t_static_field, t_own_field, t_field, t_index, t_call, t_static_call, t_super_call, t_create, t_create_array, t_cast, t_instance_of, t_unary, t_binary, t_no_ex, t_ex_then}
-use Rattle.java_check.specs.declared.Given as declared
+use Rattle.java_core.specs.declared.statics.Static as declared
 use Rattle.java_check.specs.declared.Kind.{Kind}
 use Rattle.java_check.specs.declared.Kind.TheVariants.{Operand, Arguments, Cast}
 use Rattle.java_check.specs.declared.CheckFault.{CheckFault}
 use Rattle.java_check.specs.declared.CheckFault.TheVariants.{IllTyped, Memory}
-use Rattle.java_check.specs.Given.{seen, given_of}
+use Rattle.java_core.specs.Statics.{static_seen as seen, given_of}
 use Rattle.java_check.specs.Outcome.{Answer, answer, args_answer, and_then, asked, member_answer, call_answer, super_body, super_answer, create_answer}
 use Rattle.java_check.specs.Fails.{tag_of, IsOne, first_one, later_one, IsPart, field_base, index_base, index_at, call_base, call_argument, static_argument, super_argument, array_size, cast_value, tested_value, unary_value, binary_left, binary_right, BadArguments, too_many, too_few, unfit, after, Breaks, no_field, bad_index, no_method, call_arguments, no_static_method, static_arguments, no_super_method, no_super_body, super_arguments, not_concrete, create_arguments, bad_size, bad_cast, bad_instance_of, bad_unary, bad_binary, Fails, itself, within}
 
@@ -38,12 +38,12 @@ module _ (P : Plain) (g : Env) where
   JudgedArgs t es us (Err (IllTyped k p)) = ArgsFail t es us k p
   JudgedArgs t es us (Err Memory) = ⊥
 
-  then_judged : {e d : Ex} (r : Answer) (f : declared.Given → Answer) → IsPart e d → Judged e r → ((s : declared.Given) → Typed P g e → static P g e ≡ seen s → Judged d (f s)) → Judged d (and_then r f)
+  then_judged : {e d : Ex} (r : Answer) (f : declared.Static → Answer) → IsPart e d → Judged e r → ((s : declared.Static) → Typed P g e → static P g e ≡ seen s → Judged d (f s)) → Judged d (and_then r f)
   then_judged (Ok s) f part h k = k s h.0 h.1
   then_judged (Err (IllTyped x p)) f part h k = within part h
   then_judged (Err Memory) f part h k = h
 
-  asked_judged : {d : Ex} (b : Bool) (k : Kind) (s : declared.Given) → (b ≡ true → Typed P g d) → static P g d ≡ seen s → (b ≡ false → Breaks P g d k) → Judged d (asked b k (tag_of d) s)
+  asked_judged : {d : Ex} (b : Bool) (k : Kind) (s : declared.Static) → (b ≡ true → Typed P g d) → static P g d ≡ seen s → (b ≡ false → Breaks P g d k) → Judged d (asked b k (tag_of d) s)
   asked_judged true k s typed same broken = (typed refl, same)
   asked_judged false k s typed same broken = itself (broken refl)
 
@@ -76,14 +76,14 @@ module _ (P : Plain) (g : Env) where
       failed (one is f) = within (part _ is) f
   called_judged t s (Err Memory) h typed same broken part = h
 
-  field_judged : {e : Ex} (t : Tag) (x : List ℕ) (s : declared.Given) → Typed P g e → static P g e ≡ seen s → Judged (field t e x) (member_answer (access_type P (seen s) x) t)
+  field_judged : {e : Ex} (t : Tag) (x : List ℕ) (s : declared.Static) → Typed P g e → static P g e ≡ seen s → Judged (field t e x) (member_answer (access_type P (seen s) x) t)
   field_judged {e} t x s typed same = split (access_type P (seen s) x) refl
     where
       split : (o : Option Ty) → access_type P (seen s) x ≡ o → Judged (field t e x) (member_answer o t)
       split None a = let h : access_type P (static P g e) x ≡ None = ap (λ s. access_type P s x) same ∙ a in itself (no_field typed h)
       split (Some u) a = let h : access_type P (static P g e) x ≡ Some u = ap (λ s. access_type P s x) same ∙ a in (t_field typed (rw h refl), rw h refl)
 
-  index_judged : {e i : Ex} (t : Tag) (s j : declared.Given) → Typed P g e → static P g e ≡ seen s → Typed P g i → static P g i ≡ seen j
+  index_judged : {e i : Ex} (t : Tag) (s j : declared.Static) → Typed P g e → static P g e ≡ seen s → Typed P g i → static P g i ≡ seen j
       → Judged (index t e i) (asked (is_some (element_of (seen s)) && is_numeric (seen j)) Operand t (given_of (element_of (seen s))))
   index_judged {e} {i} t s j te se ti si =
       let b = is_some (element_of (seen s)) && is_numeric (seen j) in
@@ -93,7 +93,7 @@ module _ (P : Plain) (g : Env) where
       (ap (λ s. or_nothing (element_of s)) se ∙ seen-given_of (element_of (seen s)))
       (λ h. bad_index te ti (same ∙ h))
 
-  call_judged : {e : Ex} (es : Exs) (t : Tag) (x : List ℕ) (s : declared.Given) → Typed P g e → static P g e ≡ seen s → ((us : List Ty) → JudgedArgs t es us (args_answer P g es t us)) → Judged (call t e x es) (call_answer (call_signature P (seen s) x) (args_answer P g es t) t)
+  call_judged : {e : Ex} (es : Exs) (t : Tag) (x : List ℕ) (s : declared.Static) → Typed P g e → static P g e ≡ seen s → ((us : List Ty) → JudgedArgs t es us (args_answer P g es t us)) → Judged (call t e x es) (call_answer (call_signature P (seen s) x) (args_answer P g es t) t)
   call_judged {e} es t x s typed same args = split (call_signature P (seen s) x) refl
     where
       split : (o : Option Signature) → call_signature P (seen s) x ≡ o → Judged (call t e x es) (call_answer o (args_answer P g es t) t)

@@ -8,12 +8,12 @@ use Rattle.java_core.specs.Trees.{Tag, Ex, Target, to_local, to_static, to_own, 
 use Rattle.java_core.specs.Programs.{Plain}
 use Rattle.java_core.specs.Types.{Env, or_nothing, element_of, is_numeric, is_boolean, is_printable, fits, fits_in, field_type, field_in, static, target_type}
 use Rattle.java_core.specs.Typing.{Typed, TypedTarget, t_to_local, t_to_static, t_to_own, t_to_field, t_to_element, TypedTest, t_always, t_test, TypedSt, TypedSts, TypedArms, t_declare, t_declare_as, t_block, t_assign, t_act, t_print_line, t_print, t_choose, t_loop, t_return_nothing, t_return, t_break, t_continue, t_no_st, t_st_then, t_otherwise, t_arm}
-use Rattle.java_check.specs.declared.Given as declared
+use Rattle.java_core.specs.declared.statics.Static as declared
 use Rattle.java_check.specs.declared.Kind.{Kind}
 use Rattle.java_check.specs.declared.Kind.TheVariants.{Operand, Condition, Assign, Return}
 use Rattle.java_check.specs.declared.CheckFault.{CheckFault}
 use Rattle.java_check.specs.declared.CheckFault.TheVariants.{IllTyped, Memory}
-use Rattle.java_check.specs.Given.{seen, given_of}
+use Rattle.java_core.specs.Statics.{static_seen as seen, given_of}
 use Rattle.java_check.specs.Outcome.{Answer, answer, and_then, asked}
 use Rattle.java_check.specs.Fails.{tag_of, Fails, no_own_field, bad_element, bad_initial, bad_target, no_variable, bad_assign, bad_print, bad_loop_test, value_wanted, no_value_wanted, bad_return, HasEx, initial, target_base, element_base, element_at, assigned, acted, printed, loop_test, returned, FailsSt, itself_st, in_ex, in_block, in_choose, in_first, in_step, in_body, FailsSts, here, later, FailsArms, in_else, in_test, bad_test, in_arm, in_more}
 use Rattle.java_check.specs.StatementOutcome.{field_answer, target_answer, condition_answer, test_answer, return_answer, st_answer, sts_answer, arms_answer}
@@ -37,8 +37,8 @@ asked_right F true k t h f = holds (h refl)
 asked_right F false k t h f = fails (f refl)
 
 module _ (P : Plain) (g : Env) where
-  given_right : {T : Type 0} {F : Kind → Place → Type 0} (e : Ex) (r : Answer) (f : declared.Given → Result (Unit {0}) CheckFault) → Judged P g e r → ((k : Kind) (p : Place) → Fails P g e k p → F k p)
-      → ((s : declared.Given) → Typed P g e → static P g e ≡ seen s → Right T F (f s)) → Right T F (and_then r f)
+  given_right : {T : Type 0} {F : Kind → Place → Type 0} (e : Ex) (r : Answer) (f : declared.Static → Result (Unit {0}) CheckFault) → Judged P g e r → ((k : Kind) (p : Place) → Fails P g e k p → F k p)
+      → ((s : declared.Static) → Typed P g e → static P g e ≡ seen s → Right T F (f s)) → Right T F (and_then r f)
   given_right e (Ok s) f h up more = more s h.0 h.1
   given_right e (Err (IllTyped k p)) f h up more = fails (up k p h)
   given_right e (Err Memory) f h up more = absurd h
@@ -54,7 +54,7 @@ module _ (P : Plain) (g : Env) where
   JudgedTarget a e b (Err (IllTyped k p)) = FailsSt P g (assign a b e) k p
   JudgedTarget a e b (Err Memory) = ⊥
 
-  part_target : (a : Tag) (e : Ex) (b : Target) {d : Ex} (r : Answer) (f : declared.Given → Answer) → HasEx P g (assign a b e) d → Judged P g d r → ((s : declared.Given) → Typed P g d → static P g d ≡ seen s → JudgedTarget a e b (f s)) → JudgedTarget a e b (and_then r f)
+  part_target : (a : Tag) (e : Ex) (b : Target) {d : Ex} (r : Answer) (f : declared.Static → Answer) → HasEx P g (assign a b e) d → Judged P g d r → ((s : declared.Static) → Typed P g d → static P g d ≡ seen s → JudgedTarget a e b (f s)) → JudgedTarget a e b (and_then r f)
   part_target a e b (Ok s) f has h more = more s h.0 h.1
   part_target a e b (Err (IllTyped k p)) f has h more = in_ex has h
   part_target a e b (Err Memory) f has h more = h
@@ -63,7 +63,7 @@ module _ (P : Plain) (g : Env) where
   field_target a e t d x td None h = itself_st (bad_target (no_own_field td h))
   field_target a e t d x td (Some f) h = (t_to_field td (rw h refl), rw h (seen-given_of (field_type P f)))
 
-  element_target : (a : Tag) (e : Ex) (t : Tag) (d i : Ex) (s j : declared.Given) → Typed P g d → static P g d ≡ seen s → Typed P g i → static P g i ≡ seen j
+  element_target : (a : Tag) (e : Ex) (t : Tag) (d i : Ex) (s j : declared.Static) → Typed P g d → static P g d ≡ seen s → Typed P g i → static P g i ≡ seen j
       → (b : Bool) → (is_some (element_of (seen s)) && is_numeric (seen j)) ≡ b → JudgedTarget a e (to_element t d i) (asked b Operand t (given_of (element_of (seen s))))
   element_target a e t d i s j td sd ti si true h =
       let same : (is_some (element_of (static P g d)) && is_numeric (static P g i)) ≡ true = rw (sd, si) h in
@@ -90,7 +90,7 @@ module _ (P : Plain) (g : Env) where
       (λ s te se. let same : fits_in P (static P g e) (target_type P g b) ≡ fits_in P (seen s) (seen d) = rw (se, h.1) refl in
       asked_right (FailsSt P g (assign t b e)) (fits_in P (seen s) (seen d)) Assign t (λ k. t_assign h.0 te (same ∙ k)) (λ k. itself_st (bad_assign h.0 te (same ∙ k))))
 
-  return_judged : (t : Tag) (e : Ex) (s : declared.Given) → Typed P g e → static P g e ≡ seen s → (o : Option Ty) → g.result ≡ o → Right (TypedSt P g (return t (Some e))) (FailsSt P g (return t (Some e))) (return_answer P g o s t)
+  return_judged : (t : Tag) (e : Ex) (s : declared.Static) → Typed P g e → static P g e ≡ seen s → (o : Option Ty) → g.result ≡ o → Right (TypedSt P g (return t (Some e))) (FailsSt P g (return t (Some e))) (return_answer P g o s t)
   return_judged t e s te se None r = fails (itself_st (no_value_wanted r))
   return_judged t e s te se (Some u) r = asked_right (FailsSt P g (return t (Some e))) (fits P (seen s) u) Return t (λ h. t_return te r (ap (λ s. fits P s u) se ∙ h)) (λ h. itself_st (bad_return r te (ap (λ s. fits P s u) se ∙ h)))
 

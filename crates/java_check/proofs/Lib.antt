@@ -1,4 +1,3 @@
-pub mod Words
 pub mod Arguments
 pub mod Judged
 pub mod Refuted

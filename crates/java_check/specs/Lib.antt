@@ -1,4 +1,3 @@
-pub mod Given
 pub mod Outcome
 pub mod Callees
 pub mod Fails

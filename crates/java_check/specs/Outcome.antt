@@ -8,20 +8,20 @@ use Rattle.java_core.specs.Programs.{Plain}
 use Rattle.java_core.specs.Classes.{super_method, has_body, is_concrete}
 use Rattle.java_core.specs.Types.{Env, env_of, plain_type, class_type, class_of, element_of, is_numeric, fits, Signature, call_signature, signature_of_method, field_type, access_type, unary_type, binary_type}
 use Rattle.java_core.specs.Typing.{takes_one, takes_two, are_related, can_cast}
-use Rattle.java_check.specs.declared.Given as declared
-use Rattle.java_check.specs.declared.Given.TheVariants.{Value, Null}
+use Rattle.java_core.specs.declared.statics.Static as declared
+use Rattle.java_core.specs.declared.statics.Static.TheVariants.{Value, Null}
 use Rattle.java_check.specs.declared.Kind.{Kind}
 use Rattle.java_check.specs.declared.Kind.TheVariants.{Operand, Arguments, Cast, NoMember, AbstractNew, MissingBody}
 use Rattle.java_check.specs.declared.CheckFault.{CheckFault}
 use Rattle.java_check.specs.declared.CheckFault.TheVariants.{IllTyped}
-use Rattle.java_check.specs.Given.{seen, given_of}
+use Rattle.java_core.specs.Statics.{static_seen as seen, given_of}
 
 -- the body of a method: what it sees, by the method's number
 abbrev pub env_in : Plain → ℕ → Env
 env_in P m = option_map_or (λ k. env_of m k) (slice_get P.methods m) (record { body = m; self = 0; locals = []; result = None })
 
 abbrev pub Answer : Type 0
-Answer = Result declared.Given CheckFault
+Answer = Result declared.Static CheckFault
 
 -- an answer that goes on where there is none of a fault
 abbrev pub and_then : {A B : Type 0} → Result A CheckFault → (A → Result B CheckFault) → Result B CheckFault

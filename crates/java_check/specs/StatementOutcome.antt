@@ -5,10 +5,10 @@ use Rattle.java_core.specs.declared.Ty.{Ty}
 use Rattle.java_core.specs.Trees.{Tag, Ex, Target, to_local, to_static, to_own, to_field, to_element, no_target, St, Sts, Arms, declare, block, assign, act, print, choose, loop, return, break, continue, no_st, st_then, otherwise, arm}
 use Rattle.java_core.specs.Programs.{Plain}
 use Rattle.java_core.specs.Types.{Static, Env, or_nothing, element_of, is_numeric, is_boolean, is_printable, fits, fits_in, field_type, field_in}
-use Rattle.java_check.specs.declared.Given as declared
+use Rattle.java_core.specs.declared.statics.Static as declared
 use Rattle.java_check.specs.declared.Kind.TheVariants.{Operand, Condition, Assign, Return, NoMember}
 use Rattle.java_check.specs.declared.CheckFault.{CheckFault}
-use Rattle.java_check.specs.Given.{seen, given_of}
+use Rattle.java_core.specs.Statics.{static_seen as seen, given_of}
 use Rattle.java_check.specs.Outcome.{Answer, and_then, asked, refused, answer}
 use Rattle.java_check.specs.Fails.{tag_of}
 
@@ -36,7 +36,7 @@ module _ (P : Plain) (g : Env) where
   abbrev pub assign_answer : Answer → Static → Tag → Result (Unit {0}) CheckFault
   assign_answer r d t = and_then r (λ s. asked (fits_in P (seen s) d) Assign t (tt {0}))
 
-  abbrev pub return_answer : Option Ty → declared.Given → Tag → Result (Unit {0}) CheckFault
+  abbrev pub return_answer : Option Ty → declared.Static → Tag → Result (Unit {0}) CheckFault
   return_answer None s t = refused Return t
   return_answer (Some u) s t = asked (fits P (seen s) u) Return t (tt {0})
 

@@ -9,24 +9,14 @@ ghost use Rattle.java_core.specs.Programs.{program_of, local_seen};
 ghost use Rattle.java_core.specs.Classes as classes;
 ghost use Rattle.java_core.specs.Formed.{IsFormed};
 ghost use Rattle.java_core.specs.Types as types;
-ghost use Rattle.java_check.specs.Given.{seen, given_of};
-ghost use Rattle.java_check.specs.Callees.{string_method_seen, signature_of};
+ghost use Rattle.java_core.specs.Statics.{static_seen as seen, string_seen, given_of};
+ghost use Rattle.java_check.specs.Callees.{signature_of};
 
-use crate::Given;
-use crate::types::{class_of, element_of, is_string, plain};
-use java_core::{Local, Program, Ty, TyBase, member_field, slot_of};
+use java_core::{
+    Program, Static, StringMethod, Ty, TyBase, class_of, given_of, is_string, plain_type, slot_of,
+    string_method, string_result, type_at,
+};
 use kaba_base::{ClassId, MemberId, Name};
-
-/// A method of `String`.
-#[derive(Clone, Copy)]
-pub(crate) enum StringMethod {
-    /// `length()`
-    Length,
-    /// `charAt(int)`
-    CharAt,
-    /// `equals(String)`
-    Equals,
-}
 
 /// What a call calls.
 #[derive(Clone, Copy)]
@@ -39,32 +29,9 @@ pub(crate) enum Callee {
     Method(MemberId),
 }
 
-/// Whether a name is this word.
-fn is_word(name: &Name, word: &str) -> bool
-    ensures { (w : List ℕ) → encode_utf8_all w ≡ word.now → result ≡ bytes_eq name.now w }
-{
-    name.as_str() == word
-}
-
-/// The method of `String` of a name.
-fn string_method(name: &Name) -> Option<StringMethod>
-    ensures { option_map string_method_seen result ≡ types.string_method name.now }
-{
-    if is_word(name, "length") {
-        return Some(StringMethod::Length);
-    }
-    if is_word(name, "charAt") {
-        return Some(StringMethod::CharAt);
-    }
-    if is_word(name, "equals") {
-        return Some(StringMethod::Equals);
-    }
-    None
-}
-
 /// What a call of a name on an expression calls: a method of `String`, or the slot that the class offers.
 #[tactic(auto, unfolding(java_core::specs::Types::call_signature))]
-pub(crate) fn called(p: &Program, given: Given, name: &Name) -> Option<Callee>
+pub(crate) fn called(p: &Program, given: Static, name: &Name) -> Option<Callee>
     requires { IsFormed (program_of no_place p.now) }
     ensures { option_map (signature_of (program_of no_place p.now)) result ≡ types.call_signature (program_of no_place p.now) (seen given) name.now }
 {
@@ -121,11 +88,11 @@ pub(crate) fn param_at(p: &Program, callee: Callee, at: usize) -> Option<Ty>
 
 /// The type of a parameter of a method of `String`.
 fn string_param(method: StringMethod, at: usize) -> Option<Ty>
-    ensures { result ≡ slice_get (types.string_params (string_method_seen method)) at }
+    ensures { result ≡ slice_get (types.string_params (string_seen method)) at }
 {
     match (method, at) {
-        (StringMethod::CharAt, 0) => Some(plain(TyBase::Int)),
-        (StringMethod::Equals, 0) => Some(plain(TyBase::Str)),
+        (StringMethod::CharAt, 0) => Some(plain_type(TyBase::Int)),
+        (StringMethod::Equals, 0) => Some(plain_type(TyBase::Str)),
         _ => None,
     }
 }
@@ -150,101 +117,33 @@ fn method_param(p: &Program, method: MemberId, at: usize) -> Option<Ty>
     }
 }
 
-/// The type of one of these parameters or locals.
-pub(crate) fn type_at(variables: &[Local], at: usize) -> Option<Ty>
-    ensures { result ≡ slice_get (types.types_of (map (local_seen no_place) variables.now)) at }
-{
-    match variables.get(at) {
-        Some(variable) => Some(variable.ty),
-        None => None,
-    }
-}
-
 /// What a call gives.
-pub(crate) fn result_of(p: &Program, callee: Callee) -> Given
+pub(crate) fn result_of(p: &Program, callee: Callee) -> Static
     ensures { result ≡ given_of (signature_of (program_of no_place p.now) callee).result }
 {
     match callee {
-        Callee::Text(StringMethod::Length) => Given::Value(plain(TyBase::Int)),
-        Callee::Text(StringMethod::CharAt) => Given::Value(plain(TyBase::Char)),
-        Callee::Text(StringMethod::Equals) => Given::Value(plain(TyBase::Boolean)),
+        Callee::Text(method) => Static::Value(string_result(method)),
         Callee::Slot(slot) => slot_result(p, slot),
         Callee::Method(method) => method_result(p, method),
     }
 }
 
 /// What a call of a slot gives.
-fn slot_result(p: &Program, slot: u32) -> Given
+fn slot_result(p: &Program, slot: u32) -> Static
     ensures { result ≡ given_of (signature_of (program_of no_place p.now) (Callee.Slot slot)).result }
 {
     match p.slots.get(slot as usize) {
-        Some(slot) => crate::types::given_of(slot.result),
-        None => Given::Nothing,
+        Some(slot) => given_of(slot.result),
+        None => Static::Nothing,
     }
 }
 
 /// What a call of a method gives.
-fn method_result(p: &Program, method: MemberId) -> Given
+fn method_result(p: &Program, method: MemberId) -> Static
     ensures { result ≡ given_of (signature_of (program_of no_place p.now) (Callee.Method method)).result }
 {
     match p.methods.get(method.0 as usize) {
-        Some(method) => crate::types::given_of(method.result),
-        None => Given::Nothing,
-    }
-}
-
-/// The type of a field.
-pub(crate) fn field_type(p: &Program, field: MemberId) -> Option<Ty>
-    ensures { result ≡ types.field_type (program_of no_place p.now) field.0 }
-{
-    match p.fields.get(field.0 as usize) {
-        Some(field) => Some(field.ty),
-        None => None,
-    }
-}
-
-/// The field that an expression's object has under a name.
-#[tactic(auto, unfolding(java_core::specs::Types::field_in))]
-pub(crate) fn field_in(p: &Program, given: Given, name: &Name) -> Option<MemberId>
-    requires { IsFormed (program_of no_place p.now) }
-    ensures { option_map (λ f. f.0) result ≡ types.field_in (program_of no_place p.now) (seen given) name.now }
-{
-    match class_of(given) {
-        Some(class) => member_field(p, class, name),
-        None => None,
-    }
-}
-
-/// What a field access gives: the length of an array, or a field's value.
-#[tactic(auto, unfolding(java_core::specs::Types::access_type))]
-pub(crate) fn access_type(p: &Program, given: Given, name: &Name) -> Option<Ty>
-    requires { IsFormed (program_of no_place p.now) }
-    ensures { result ≡ types.access_type (program_of no_place p.now) (seen given) name.now }
-{
-    match element_of(given) {
-        Some(_) => length_type(name),
-        None => value_type(p, given, name),
-    }
-}
-
-/// The type of the field that an expression's object has under a name.
-pub(crate) fn value_type(p: &Program, given: Given, name: &Name) -> Option<Ty>
-    requires { IsFormed (program_of no_place p.now) }
-    ensures { result ≡ option_and_then (types.field_type (program_of no_place p.now)) (types.field_in (program_of no_place p.now) (seen given) name.now) }
-{
-    match field_in(p, given, name) {
-        Some(field) => field_type(p, field),
-        None => None,
-    }
-}
-
-/// What an array has under a name.
-fn length_type(name: &Name) -> Option<Ty>
-    ensures { result ≡ (if types.is_length name.now then Some (types.plain_type TyBase.Int) else None) }
-{
-    if is_word(name, "length") {
-        Some(plain(TyBase::Int))
-    } else {
-        None
+        Some(method) => given_of(method.result),
+        None => Static::Nothing,
     }
 }

@@ -9,19 +9,17 @@ ghost use Rattle.java_core.specs.Classes as classes;
 ghost use Rattle.java_core.specs.Formed.{IsFormed};
 ghost use Rattle.java_core.specs.Types as types;
 ghost use Rattle.java_core.specs.Typing as typing;
-ghost use Rattle.java_check.specs.Given.{seen, given_of};
+ghost use Rattle.java_core.specs.Statics.{static_seen as seen, given_of};
 ghost use Rattle.java_check.specs.Callees.{signature_of};
 ghost use Rattle.java_check.specs.Outcome.{env_in, answer, args_answer, call_answer, super_answer, create_answer, member_answer, and_then, asked};
 
-use crate::callees::{
-    Callee, access_type, called, field_type, method_called, param_at, result_of, type_at,
+use crate::callees::{Callee, called, method_called, param_at, result_of};
+use crate::types::{are_related, can_cast, fits, is_numeric, takes_one, takes_two};
+use crate::{CheckFault, Kind};
+use java_core::{
+    BinOp, Program, RExpr, Static, Ty, TyBase, UnOp, access_type, binary_type, class_of,
+    element_of, field_type, given_of, plain_type, super_method, unary_type,
 };
-use crate::types::{
-    are_related, binary_type, can_cast, class_of, element_of, fits, given_of, is_numeric, plain,
-    takes_one, takes_two, unary_type,
-};
-use crate::{CheckFault, Given, Kind};
-use java_core::{BinOp, Method, Program, RExpr, Ty, TyBase, UnOp, super_method};
 use kaba_base::{ClassId, MemberId, Name, Place};
 
 /// A rule that must hold.
@@ -49,7 +47,7 @@ fn self_class(p: &Program, body: MemberId) -> ClassId
 fn self_type(p: &Program, body: MemberId) -> Ty
     ensures { result ≡ types.class_type (env_in (program_of no_place p.now) body.0).self }
 {
-    plain(TyBase::Class(self_class(p, body)))
+    plain_type(TyBase::Class(self_class(p, body)))
 }
 
 /// The type of a parameter or a local of the body.
@@ -57,19 +55,8 @@ pub(crate) fn local_type(p: &Program, body: MemberId, local: u32) -> Option<Ty>
     ensures { result ≡ slice_get (env_in (program_of no_place p.now) body.0).locals local }
 {
     match p.methods.get(body.0 as usize) {
-        Some(method) => variable_type(method, local as usize),
+        Some(method) => java_core::local_type(method, local),
         None => None,
-    }
-}
-
-/// The type of a parameter or a local of a method.
-fn variable_type(method: &Method, local: usize) -> Option<Ty>
-    ensures { result ≡ slice_get (types.types_of (map (local_seen no_place) method.now.params.items ++ map (local_seen no_place) method.now.locals.items)) local }
-{
-    if local < method.params.len() {
-        type_at(&method.params, local)
-    } else {
-        type_at(&method.locals, local - method.params.len())
     }
 }
 
@@ -95,17 +82,17 @@ pub(crate) fn has_body(p: &Program, method: MemberId) -> bool
 
 /// What an expression gives, or the first rule that fails in it.
 #[cycle(expressions)]
-pub(crate) fn type_of(p: &Program, body: MemberId, e: &RExpr) -> Result<Given, CheckFault>
+pub(crate) fn type_of(p: &Program, body: MemberId, e: &RExpr) -> Result<Static, CheckFault>
     requires { IsFormed (program_of no_place p.now) }
     ensures { result ≡ answer (program_of no_place p.now) (env_in (program_of no_place p.now) body.0) (expr_of at_place e.now) }
 {
     match e {
-        RExpr::Int { .. } => Ok(Given::Value(plain(TyBase::Int))),
-        RExpr::Char { .. } => Ok(Given::Value(plain(TyBase::Char))),
-        RExpr::Str { .. } => Ok(Given::Value(plain(TyBase::Str))),
-        RExpr::Bool { .. } => Ok(Given::Value(plain(TyBase::Boolean))),
-        RExpr::Null { .. } => Ok(Given::Null),
-        RExpr::This { .. } => Ok(Given::Value(self_type(p, body))),
+        RExpr::Int { .. } => Ok(Static::Value(plain_type(TyBase::Int))),
+        RExpr::Char { .. } => Ok(Static::Value(plain_type(TyBase::Char))),
+        RExpr::Str { .. } => Ok(Static::Value(plain_type(TyBase::Str))),
+        RExpr::Bool { .. } => Ok(Static::Value(plain_type(TyBase::Boolean))),
+        RExpr::Null { .. } => Ok(Static::Null),
+        RExpr::This { .. } => Ok(Static::Value(self_type(p, body))),
         RExpr::Local { local, .. } => Ok(given_of(local_type(p, body, *local))),
         RExpr::Static { field, .. } => Ok(given_of(field_type(p, *field))),
         RExpr::Own { field, .. } => Ok(given_of(field_type(p, *field))),
@@ -172,13 +159,17 @@ pub(crate) fn type_of(p: &Program, body: MemberId, e: &RExpr) -> Result<Given, C
 
 /// What the receiver of a call gives; where none is written, it is `this`.
 #[cycle(expressions)]
-fn type_of_base(p: &Program, body: MemberId, base: &Option<Box<RExpr>>) -> Result<Given, CheckFault>
+fn type_of_base(
+    p: &Program,
+    body: MemberId,
+    base: &Option<Box<RExpr>>,
+) -> Result<Static, CheckFault>
     requires { IsFormed (program_of no_place p.now) }
     ensures { (place : Place) → result ≡ answer (program_of no_place p.now) (env_in (program_of no_place p.now) body.0) (base_seen at_place base.now place) }
 {
     match base {
         Some(base) => type_of(p, body, base),
-        None => Ok(Given::Value(self_type(p, body))),
+        None => Ok(Static::Value(self_type(p, body))),
     }
 }
 
@@ -190,7 +181,7 @@ fn type_of_call(
     callee: Option<Callee>,
     args: &Vec<RExpr>,
     place: Place,
-) -> Result<Given, CheckFault>
+) -> Result<Static, CheckFault>
     requires { IsFormed (program_of no_place p.now) }
     ensures { result ≡ call_answer (option_map (signature_of (program_of no_place p.now)) callee) (args_answer (program_of no_place p.now) (env_in (program_of no_place p.now) body.0) (exprs at_place args.now.items) (at_place place)) (at_place place) }
 {
@@ -211,7 +202,7 @@ fn type_of_super(
     name: &Name,
     args: &Vec<RExpr>,
     place: Place,
-) -> Result<Given, CheckFault>
+) -> Result<Static, CheckFault>
     requires { IsFormed (program_of no_place p.now) }
     ensures { result ≡ super_answer (program_of no_place p.now) (classes.super_method (program_of no_place p.now) (env_in (program_of no_place p.now) body.0).self name.now) (args_answer (program_of no_place p.now) (env_in (program_of no_place p.now) body.0) (exprs at_place args.now.items) (at_place place)) (at_place place) }
 {
@@ -265,18 +256,18 @@ fn check_arg(
 }
 
 /// What a field access gives.
-fn access(p: &Program, given: Given, name: &Name, place: Place) -> Result<Given, CheckFault>
+fn access(p: &Program, given: Static, name: &Name, place: Place) -> Result<Static, CheckFault>
     requires { IsFormed (program_of no_place p.now) }
     ensures { result ≡ member_answer (types.access_type (program_of no_place p.now) (seen given) name.now) (at_place place) }
 {
     match access_type(p, given, name) {
-        Some(ty) => Ok(Given::Value(ty)),
+        Some(ty) => Ok(Static::Value(ty)),
         None => Err(CheckFault::IllTyped(Kind::NoMember, place)),
     }
 }
 
 /// What an index gives.
-pub(crate) fn element(base: Given, index: Given, place: Place) -> Result<Given, CheckFault>
+pub(crate) fn element(base: Static, index: Static, place: Place) -> Result<Static, CheckFault>
     ensures { result ≡ asked (is_some (types.element_of (seen base)) && types.is_numeric (seen index)) Kind.Operand (at_place place) (given_of (types.element_of (seen base))) }
 {
     let element = element_of(base);
@@ -290,65 +281,65 @@ fn creation(
     class: ClassId,
     args: &Vec<RExpr>,
     place: Place,
-) -> Result<Given, CheckFault>
+) -> Result<Static, CheckFault>
     ensures { result ≡ create_answer (classes.is_concrete (program_of no_place p.now) class.0) (exprs at_place args.now.items) class.0 (at_place place) }
 {
     ask(is_concrete(p, class), Kind::AbstractNew, place)?;
     match args.as_slice() {
-        [] => Ok(Given::Value(plain(TyBase::Class(class)))),
+        [] => Ok(Static::Value(plain_type(TyBase::Class(class)))),
         [_, ..] => Err(CheckFault::IllTyped(Kind::Arguments, place)),
     }
 }
 
 /// What the creation of an array gives.
-fn array(size: Given, ty: Ty, place: Place) -> Result<Given, CheckFault>
-    ensures { result ≡ asked (types.is_numeric (seen size)) Kind.Operand (at_place place) (Given.Value ty) }
+fn array(size: Static, ty: Ty, place: Place) -> Result<Static, CheckFault>
+    ensures { result ≡ asked (types.is_numeric (seen size)) Kind.Operand (at_place place) (Static.Value ty) }
 {
     ask(is_numeric(size), Kind::Operand, place)?;
-    Ok(Given::Value(ty))
+    Ok(Static::Value(ty))
 }
 
 /// What a cast gives.
-fn cast(p: &Program, given: Given, ty: Ty, place: Place) -> Result<Given, CheckFault>
+fn cast(p: &Program, given: Static, ty: Ty, place: Place) -> Result<Static, CheckFault>
     requires { IsFormed (program_of no_place p.now) }
-    ensures { result ≡ asked (typing.can_cast (program_of no_place p.now) (seen given) ty) Kind.Cast (at_place place) (Given.Value ty) }
+    ensures { result ≡ asked (typing.can_cast (program_of no_place p.now) (seen given) ty) Kind.Cast (at_place place) (Static.Value ty) }
 {
     ask(can_cast(p, given, ty), Kind::Cast, place)?;
-    Ok(Given::Value(ty))
+    Ok(Static::Value(ty))
 }
 
 /// What an `instanceof` gives.
-fn instance(p: &Program, given: Given, class: ClassId, place: Place) -> Result<Given, CheckFault>
+fn instance(p: &Program, given: Static, class: ClassId, place: Place) -> Result<Static, CheckFault>
     requires { IsFormed (program_of no_place p.now) }
-    ensures { result ≡ asked (typing.are_related (program_of no_place p.now) (types.class_of (seen given)) (Some class.0)) Kind.Cast (at_place place) (Given.Value (types.plain_type TyBase.Boolean)) }
+    ensures { result ≡ asked (typing.are_related (program_of no_place p.now) (types.class_of (seen given)) (Some class.0)) Kind.Cast (at_place place) (Static.Value (types.plain_type TyBase.Boolean)) }
 {
     ask(
         are_related(p, class_of(given), Some(class)),
         Kind::Cast,
         place,
     )?;
-    Ok(Given::Value(plain(TyBase::Boolean)))
+    Ok(Static::Value(plain_type(TyBase::Boolean)))
 }
 
 /// What a prefix operator gives.
-fn unary(op: UnOp, given: Given, place: Place) -> Result<Given, CheckFault>
-    ensures { result ≡ asked (typing.takes_one op (seen given)) Kind.Operand (at_place place) (Given.Value (types.unary_type op)) }
+fn unary(op: UnOp, given: Static, place: Place) -> Result<Static, CheckFault>
+    ensures { result ≡ asked (typing.takes_one op (seen given)) Kind.Operand (at_place place) (Static.Value (types.unary_type op)) }
 {
     ask(takes_one(op, given), Kind::Operand, place)?;
-    Ok(Given::Value(unary_type(op)))
+    Ok(Static::Value(unary_type(op)))
 }
 
 /// What a binary operator gives.
 fn binary(
     p: &Program,
     op: BinOp,
-    left: Given,
-    right: Given,
+    left: Static,
+    right: Static,
     place: Place,
-) -> Result<Given, CheckFault>
+) -> Result<Static, CheckFault>
     requires { IsFormed (program_of no_place p.now) }
-    ensures { result ≡ asked (typing.takes_two (program_of no_place p.now) op (seen left) (seen right)) Kind.Operand (at_place place) (Given.Value (types.binary_type op (seen left) (seen right))) }
+    ensures { result ≡ asked (typing.takes_two (program_of no_place p.now) op (seen left) (seen right)) Kind.Operand (at_place place) (Static.Value (types.binary_type op (seen left) (seen right))) }
 {
     ask(takes_two(p, op, left, right), Kind::Operand, place)?;
-    Ok(Given::Value(binary_type(op, left, right)))
+    Ok(Static::Value(binary_type(op, left, right)))
 }

@@ -8,7 +8,6 @@ mod programs;
 mod statements;
 mod types;
 
-use java_core::Ty;
 pub use java_core::{Checked, Program};
 pub use kaba_base::Place;
 pub use programs::check;
@@ -48,15 +47,4 @@ pub enum CheckFault {
     /// Memory is short.
     #[error("out of memory")]
     Memory,
-}
-
-/// What an expression gives.
-#[derive(Clone, Copy)]
-pub(crate) enum Given {
-    /// A value of a type.
-    Value(Ty),
-    /// `null`.
-    Null,
-    /// Nothing: a call of a void method.
-    Nothing,
 }

@@ -6,16 +6,15 @@ ghost use Rattle.java_core.specs.Trees.{at_place, no_place, expr_of, value_of, t
 ghost use Rattle.java_core.specs.Programs.{program_of};
 ghost use Rattle.java_core.specs.Formed.{IsFormed};
 ghost use Rattle.java_core.specs.Types as types;
-ghost use Rattle.java_check.specs.Given.{seen, given_of};
+ghost use Rattle.java_core.specs.Statics.{static_seen as seen, given_of};
 ghost use Rattle.java_check.specs.Fails.{tag_of};
 ghost use Rattle.java_check.specs.Outcome.{env_in, answer, and_then, asked};
 ghost use Rattle.java_check.specs.StatementOutcome.{field_answer, target_answer, condition_answer, test_answer, assign_answer, return_answer, st_answer, sts_answer, arms_answer};
 
-use crate::callees::{field_in, field_type};
 use crate::expressions::{ask, element, local_type, type_of};
-use crate::types::{fits, fits_in, given_of, is_boolean, is_printable};
-use crate::{CheckFault, Given, Kind};
-use java_core::{Program, RArm, RExpr, RStmt, Ty};
+use crate::types::{fits, fits_in, is_boolean, is_printable};
+use crate::{CheckFault, Kind};
+use java_core::{Program, RArm, RExpr, RStmt, Static, Ty, field_in, field_type, given_of};
 use kaba_base::{MemberId, Name, Place};
 
 /// The place of an expression.
@@ -52,7 +51,7 @@ fn target_type(
     body: MemberId,
     target: &RExpr,
     place: Place,
-) -> Result<Given, CheckFault>
+) -> Result<Static, CheckFault>
     requires { IsFormed (program_of no_place p.now) }
     ensures { result ≡ target_answer (program_of no_place p.now) (env_in (program_of no_place p.now) body.0) (at_place place) (target_of at_place target.now) }
 {
@@ -69,7 +68,7 @@ fn target_type(
 }
 
 /// The type of the field that an object has under a name.
-fn stored(p: &Program, given: Given, name: &Name, place: Place) -> Result<Given, CheckFault>
+fn stored(p: &Program, given: Static, name: &Name, place: Place) -> Result<Static, CheckFault>
     requires { IsFormed (program_of no_place p.now) }
     ensures { result ≡ field_answer (program_of no_place p.now) (env_in (program_of no_place p.now) 0) (types.field_in (program_of no_place p.now) (seen given) name.now) (at_place place) }
 {
@@ -84,7 +83,7 @@ fn check_value(
     p: &Program,
     body: MemberId,
     value: &RExpr,
-    target: Given,
+    target: Static,
     place: Place,
 ) -> Result<(), CheckFault>
     requires { IsFormed (program_of no_place p.now) }
@@ -131,7 +130,7 @@ fn result_type(p: &Program, body: MemberId) -> Option<Ty>
 }
 
 /// Whether a value is what the method gives back.
-fn check_result(p: &Program, body: MemberId, given: Given, place: Place) -> Result<(), CheckFault>
+fn check_result(p: &Program, body: MemberId, given: Static, place: Place) -> Result<(), CheckFault>
     requires { IsFormed (program_of no_place p.now) }
     ensures { result ≡ return_answer (program_of no_place p.now) (env_in (program_of no_place p.now) 0) (env_in (program_of no_place p.now) body.0).result given (at_place place) }
 {
