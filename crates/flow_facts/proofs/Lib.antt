@@ -8,7 +8,6 @@ pub mod Counts
 pub mod Composed
 pub mod Texts
 pub mod Examples
-pub mod Searches
 pub mod Steps
 pub mod Refusals
 pub mod Whole

@@ -4,7 +4,7 @@ use java_core::BinOp;
 use kaba_base::{ClassId, Place};
 
 /// A type that a row can have: a class or an interface, or an array of one.
-#[derive(Clone, Copy, PartialEq, Eq)]
+#[derive(Clone, Copy)]
 pub struct ObjectType {
     /// The class or interface; for an array its base.
     pub class: ClassId,

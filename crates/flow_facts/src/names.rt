@@ -26,20 +26,24 @@ fn is_holder(program: &Program, class: usize) -> bool
 fn has_static_field(program: &Program, class: usize) -> bool
     ensures value { result ≡ list_any (λ f. f.is_static && (f.owner == class)) (program_of at_place program.now).fields }
 {
-    program
-        .fields
-        .iter()
-        .any(|f| f.is_static && f.owner.0 as usize == class)
+    for field in &program.fields {
+        if field.is_static && field.owner.0 as usize == class {
+            return true;
+        }
+    }
+    false
 }
 
 /// Whether a class has a static method.
 fn has_static_method(program: &Program, class: usize) -> bool
     ensures value { result ≡ list_any (λ m. m.is_static && (m.owner == class)) (program_of at_place program.now).methods }
 {
-    program
-        .methods
-        .iter()
-        .any(|m| m.is_static && m.owner.0 as usize == class)
+    for method in &program.methods {
+        if method.is_static && method.owner.0 as usize == class {
+            return true;
+        }
+    }
+    false
 }
 
 /// A class.

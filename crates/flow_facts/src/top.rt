@@ -31,7 +31,7 @@ use kaba_base::{Name, RowId};
 use std::alloc::{AllocError, Global};
 
 /// What is counted against a limit.
-#[derive(Clone, Copy, Debug, PartialEq, Eq)]
+#[derive(Clone, Copy)]
 pub enum Counted {
     /// The rows: at most 16,384.
     Rows,

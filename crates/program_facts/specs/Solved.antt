@@ -1,7 +1,7 @@
 -- The points-to sets of the facts cover each run of the program.
 use Rattle.std.specs.Prelude.{◌≡◌, ◌≢◌, ℕ, List}
 use Rattle.java_core.specs.Programs.{Plain}
-use Rattle.java_meaning.specs.Moment.{Escaped}
+use Rattle.java_meaning.specs.Moment.{unnoted, Escaped}
 use Rattle.java_meaning.specs.Meaning.{run_in}
 use Rattle.java_meaning.specs.Languages.{run}
 use Rattle.fact_model.specs.Flowing.{AreSets}
@@ -9,10 +9,10 @@ use Rattle.fact_model.specs.declared.facts.Facts.{Facts}
 use Rattle.fact_model.specs.declared.sets.PointsTo.{PointsTo}
 use Rattle.run_cover.specs.Covers.{solved, watched}
 
--- under their watch no run of the program escapes, and each is the run without a watch
+-- under their watch no run of the program escapes, and each but for what it notes is the run without a watch
 pub record CoverRun (P Q : Plain) (F : Facts) (t : PointsTo) (words : List (List ℕ)) (n : ℕ) : Type 0 where
   pub covers : (run_in (watched P Q F (solved t)) P.main words n).end ≢ Escaped
-  pub same : run_in (watched P Q F (solved t)) P.main words n ≡ run P words n
+  pub same : unnoted (run_in (watched P Q F (solved t)) P.main words n) ≡ run P words n
 
 unfoldable pub HasCoveringSets : Plain → Plain → Facts → Type 0
 HasCoveringSets P Q F = (t : PointsTo) → AreSets F t → (words : List (List ℕ)) (n : ℕ) → CoverRun P Q F t words n

@@ -1,10 +1,11 @@
 -- A program that makes an object and keeps it in a local: sets that lack its site let the run escape, and sets that have it do not.
-use Rattle.std.proofs.Common.{◌≡◌, [], ◌∷◌, Some, None, refl}
-use Rattle.std.specs.Prelude.{true, false, codes}
+use Rattle.std.proofs.Common.{◌≡◌, ◌⊎◌, ⊎_elim, ℕ, List, [], ◌∷◌, Option, Some, None, refl, ap, ◌∙◌}
+use Rattle.std.specs.Prelude.{true, false, slice_get, codes}
+use Rattle.std.specs.Option.{option_map_or}
 use Rattle.java_core.specs.declared.TyBase.TheVariants.{Class, Str}
 use Rattle.java_core.specs.Trees.{no_ex, create, Sts, declare, no_st, st_then}
 use Rattle.java_core.specs.Programs.{Plain, PlainClass, PlainMethod, PlainLocal}
-use Rattle.java_meaning.specs.Moment.{Ended, Escaped}
+use Rattle.java_meaning.specs.Moment.{Object, Cell, Spot, held, bound, self_of, result_of, set_static, kept as kept_in, put_in, touched, tested, ran, Ended, Escaped}
 use Rattle.java_meaning.specs.Meaning.{run_in}
 use Rattle.java_meaning.specs.Watched.{bare_tag}
 use Rattle.fact_model.specs.declared.facts.Facts.{Facts}
@@ -12,7 +13,9 @@ use Rattle.flow_facts.specs.Operands.{type_in}
 use Rattle.flow_facts.specs.Parts.{parts_of}
 use Rattle.flow_facts.specs.Numbered.{rows_of, row_number, columns_of, column_number, bodies_of, sites_of, site_number, points_of, point_number}
 use Rattle.flow_facts.specs.Facts.{numbers}
-use Rattle.run_cover.specs.Covers.{Sets, operand_at, labelled_body, watched}
+use Rattle.flow_facts.specs.declared.items.Operand.{Operand}
+use Rattle.flow_facts.specs.Lists.{point_at, site_in}
+use Rattle.run_cover.specs.Covers.{Sets, operand_at, passes, at_point, at_cell, or_itself, held_in, sites_at, spot_set, is_seen, labelled_body, watched}
 use Rattle.run_cover.specs.Untagged.{untagged}
 
 object : PlainClass
@@ -50,3 +53,43 @@ escapes F = refl
 ends : (F : Facts) → (run_in (watched (untagged program) program F all) 0 [] 5).end ≡ Ended
 unfolding run_in labelled_body operand_at numbers rows_of row_number columns_of column_number bodies_of sites_of site_number points_of point_number parts_of type_in object main_class args kept code main program all
 ends F = refl
+
+-- sets without sites let no object of a creation pass at any spot; a creation that is no flow point is itself alone
+module _ (P Q : Plain) (F : Facts) where
+  at_no_point : (o : Option ℕ) (s : ℕ) → at_point P Q F none o s ≡ false
+  unfolding none
+  at_no_point None s = refl
+  at_no_point (Some p) s = refl
+
+  at_no_cell : (o : Option ℕ) (s : ℕ) → at_cell P Q F none o s ≡ false
+  unfolding none
+  at_no_cell None s = refl
+  at_no_cell (Some c) s = refl
+
+  -- what is held there is no creation, or one that is a flow point
+  Flows : Spot → Type 0
+  Flows (held m e) = ((operand_at P Q m e).created ≡ None) ⊎ ((p : ℕ) × (point_at (numbers P Q) (operand_at P Q m e) ≡ Some p))
+  Flows q = Unit {0}
+
+  held_nowhere : (c q : Option ℕ) (o : Operand) (s : ℕ) → point_at (numbers P Q) o ≡ q → (c ≡ None) ⊎ ((p : ℕ) × (q ≡ Some p)) → held_in P Q F none c o s ≡ false
+  held_nowhere None q o s e h = at_no_point (point_at (numbers P Q) o) s
+  held_nowhere (Some n) q o s e h =
+      ⊎_elim (λ d. absurd (cc)) (λ d. ap (λ z. or_itself P Q F none z ((numbers P Q).site n) s) (e ∙ d.1) ∙ at_no_point (Some d.0) s) h
+
+  nowhere : (p : Spot) (s : ℕ) → Flows p → sites_at P Q F none p s ≡ false
+  unfolding Flows
+  nowhere (held m e) s h = held_nowhere (operand_at P Q m e).created _ (operand_at P Q m e) s refl h
+  nowhere (bound m i) s h = at_no_point _ s
+  nowhere (self_of m) s h = at_no_point _ s
+  nowhere (result_of m) s h = at_no_point _ s
+  nowhere (set_static f) s h = at_no_point _ s
+  nowhere (kept_in o f) s h = at_no_cell _ s
+  nowhere (put_in o) s h = at_no_cell _ s
+  nowhere (touched m e f) s h = at_no_point _ s
+  nowhere (tested m d b) s h = at_no_point _ s
+  nowhere (ran m d b) s h = at_no_point _ s
+
+  stopped : (p : Spot) (a r : ℕ) (c : Cell) (h : List Cell) → slice_get h a ≡ Some c → site_in (numbers P Q) c.site ≡ Some r → Flows p
+      → is_seen P Q F none (spot_set P Q F none p) (Object a) h ≡ false
+  stopped p a r c h there made flows =
+      ap (λ z. option_map_or (λ k. spot_set P Q F none p k.site) z false) there ∙ ap (passes (sites_at P Q F none p)) made ∙ nowhere p r flows

@@ -11,7 +11,7 @@ use Rattle.java_core.specs.Classes.{slot_of, lookup, super_method}
 use Rattle.java_core.specs.Types.{env_of, class_of, field_in, types_of}
 use Rattle.java_core.specs.Typing.{IsTyped}
 use Rattle.java_core.specs.Formed.{IsFormed}
-use Rattle.java_meaning.specs.Moment.{Nothing, Outcome, Escaped}
+use Rattle.java_meaning.specs.Moment.{Nothing, Outcome, unnoted, Escaped}
 use Rattle.java_meaning.specs.Values.{default_of}
 use Rattle.java_meaning.specs.Meaning.{run_in}
 use Rattle.java_meaning.specs.Languages.{body_with, body_of, language_of, run}
@@ -95,9 +95,11 @@ module _ (Q : Plain) (F : Facts) (S : Sets) where
     statics = refl;
     sees = λ p v h. refl;
     sees_all = λ b vs h. refl;
+    note = λ p v h m. refl;
+    note_all = λ b vs h m. refl;
   }
 
-escapes_or : (o p : Outcome) → EscapesOrIs o p → o.end ≢ Escaped → o ≡ p
+escapes_or : (o p : Outcome) → EscapesOrIs o p → o.end ≢ Escaped → unnoted o ≡ p
 unfolding EscapesOrIs
 escapes_or o p h n = ⊎_elim (λ e. absurd (n e)) (λ e. e) h
 

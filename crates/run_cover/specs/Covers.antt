@@ -6,7 +6,7 @@ use Rattle.kaba_base.specs.declared.ColId.{ColId}
 use Rattle.java_core.specs.Trees.{Ex, call, cast, instance_of}
 use Rattle.java_core.specs.Programs.{Plain, PlainMethod}
 use Rattle.java_core.specs.Classes.{lookup, super_method}
-use Rattle.java_meaning.specs.Moment.{Value, Number, Truth, CodeUnit, Nothing, Text, Object, Cell, Spot, held, bound, self_of, result_of, set_static, kept, put_in, touched, tested, ran, Escaped, Body, Lang}
+use Rattle.java_meaning.specs.Moment.{Value, Number, Truth, CodeUnit, Nothing, Text, Object, Cell, Spot, held, bound, self_of, result_of, set_static, kept, put_in, touched, tested, ran, unnoted, Escaped, Body, Lang}
 use Rattle.java_meaning.specs.Meaning.{run_in}
 use Rattle.java_meaning.specs.Languages.{body_with, language_of, run}
 use Rattle.fact_model.specs.Flowing.{Fact, in_point, in_cell, Inclusion}
@@ -164,7 +164,7 @@ module _ (P Q : Plain) (F : Facts) (S : Sets) where
 unfoldable pub CoversEachRun : Plain → Plain → Facts → Type 0
 CoversEachRun P Q F = (S : Sets) → IsClosed F S → (words : List (List ℕ)) (n : ℕ) → (run_in (watched P Q F S) P.main words n).end ≢ Escaped
 
--- and each is the run of the program itself: it ends the same way, with the same output and as many steps left
+-- and each is the run of the program itself, but for what it notes: it ends the same way, with the same output and as many steps left
 pub record CoversProgram (P Q : Plain) (F : Facts) : Type 0 where
   pub covers : CoversEachRun P Q F
-  pub same : (S : Sets) → IsClosed F S → (words : List (List ℕ)) (n : ℕ) → run_in (watched P Q F S) P.main words n ≡ run P words n
+  pub same : (S : Sets) → IsClosed F S → (words : List (List ℕ)) (n : ℕ) → unnoted (run_in (watched P Q F S) P.main words n) ≡ run P words n
