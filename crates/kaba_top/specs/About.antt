@@ -6,8 +6,8 @@ abbrev pub help_text : List ℕ
 help_text =
     codes "kaba COMMAND: runs or analyses the Java program of a file\n"
     ++ (codes "\n"
-    ++ (codes "  run FILE STEPS WORD..      prints what the program prints on the words, within STEPS steps\n"
-    ++ (codes "  table FILE                 prints its variables, and which members each of them needs\n"
+    ++ (codes "  run FILE STEPS WORD..      runs the program on the words, for at most STEPS steps\n"
+    ++ (codes "  table FILE                 prints its variables and creations, and the members that each needs\n"
     ++ (codes "  lattice [-j] [-c N] FILE   prints the concept lattice of that table, as JSON with -j, of at most N concepts\n"
     ++ (codes "  --help                     prints this text\n"
     ++ (codes "  --version                  prints the version\n"

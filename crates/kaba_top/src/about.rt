@@ -16,8 +16,8 @@ pub fn help_reply(alloc: Global) -> Result<Reply, AllocError>
         alloc,
         b"kaba COMMAND: runs or analyses the Java program of a file\n\
         \n\
-        \x20 run FILE STEPS WORD..      prints what the program prints on the words, within STEPS steps\n\
-        \x20 table FILE                 prints its variables, and which members each of them needs\n\
+        \x20 run FILE STEPS WORD..      runs the program on the words, for at most STEPS steps\n\
+        \x20 table FILE                 prints its variables and creations, and the members that each needs\n\
         \x20 lattice [-j] [-c N] FILE   prints the concept lattice of that table, as JSON with -j, of at most N concepts\n\
         \x20 --help                     prints this text\n\
         \x20 --version                  prints the version\n\
