@@ -123,7 +123,7 @@ DECLARATIONS = [
 
 def with_statement(text, form, choice):
     """The text with a statement at the beginning of some body."""
-    heads = [found.end() for found in re.finditer(r"^  .*\) \{\n", text, re.M)]
+    heads = [found.end() for found in re.finditer(r"^  \S.*\) \{\n", text, re.M)]
     at = choice.choice(heads)
     return f"{text[:at]}    {form}\n{text[at:]}"
 

@@ -16,34 +16,37 @@ PAGE = """<!DOCTYPE html>
 body { font: 15px/1.45 sans-serif; margin: 1.2rem; color: #1c1c1c; }
 h1 { font-size: 1.25rem; } h2 { font-size: 1.05rem; margin: 1.4rem 0 .3rem; }
 pre, .mono { font: 13px/1.5 monospace; }
-#top { display: grid; grid-template-columns: minmax(0, 3fr) minmax(20rem, 2fr); gap: 1rem; }
-#picture { border: 1px solid #bbb; overflow: auto; height: 70vh; }
+#top { display: grid; grid-template-columns: minmax(0, 3fr) minmax(20rem, 2fr); gap: .8rem; height: 84vh; }
+#picture { border: 1px solid #bbb; overflow: auto; height: 84vh; box-sizing: border-box; }
 #picture svg { display: block; max-width: none; }
-#panel { border: 1px solid #bbb; padding: .6rem .8rem; height: 70vh; overflow: auto; box-sizing: border-box; }
+#picture.whole svg { width: 100%; height: 100%; }
+#side { display: grid; grid-template-rows: minmax(0, 1fr) minmax(0, 1fr); gap: .8rem; height: 84vh; }
+#panel { border: 1px solid #bbb; padding: .6rem .8rem; overflow: auto; box-sizing: border-box; }
 #panel h3 { margin: .7rem 0 .1rem; font-size: .95rem; } #panel ul { margin: 0; padding-left: 1.1rem; }
 .node { cursor: pointer; } .node polygon { fill: #fff; }
 .node.over polygon { fill: #dbe9fb; } .node.under polygon { fill: #fde8cf; } .node.here polygon { fill: #ffe45c; }
 .node text { pointer-events: none; }
-#text { border: 1px solid #bbb; overflow: auto; max-height: 70vh; padding: .5rem 0; }
+#text { border: 1px solid #bbb; overflow: auto; padding: .5rem 0; box-sizing: border-box; position: relative; }
 #text div { white-space: pre; padding: 0 .6rem; } #text div.lit { background: #ffe45c; }
 #text i { color: #777; font-style: normal; display: inline-block; width: 3rem; user-select: none; }
-.here-too { font-weight: bold; } .key span { padding: 0 .35rem; border: 1px solid #bbb; margin-right: .25rem; }
+.here-too { font-weight: bold; } .key span { white-space: nowrap; padding: 0 .35rem; border: 1px solid #bbb; margin-right: .25rem; }
 a { color: #0b50a8; cursor: pointer; }
-@media (max-width: 60rem) { #top { grid-template-columns: 1fr; } }
+@media (max-width: 60rem) { #top { grid-template-columns: 1fr; height: auto; } }
 </style>
 </head>
 <body>
 <h1>@TITLE@</h1>
 <p class="key">A box is a concept: its members stand in the upper part, its variables and creations in the lower. What needs the
 concept's members stands in it or below, and it has what stands above. <span style="background:#ffe45c">the box</span>
-<span style="background:#dbe9fb">above: it has these members too</span> <span style="background:#fde8cf">below: these need its members</span></p>
+<span style="background:#dbe9fb">above: it has these members too</span> <span style="background:#fde8cf">below: these need its members</span> <a id="size">the whole picture</a></p>
 <div id="top">
 <div id="picture">@PICTURE@</div>
+<div id="side">
 <div id="panel"><p>Move over a box to see its members, its variables and their lines; click to keep it, and once more to let it go.</p></div>
+<div id="text" class="mono">@TEXT@</div>
+</div>
 </div>
 @SECTIONS@
-<h2>@FILE@</h2>
-<div id="text" class="mono">@TEXT@</div>
 <script>
 const data = @DATA@;
 const panel = document.getElementById("panel");
@@ -73,10 +76,7 @@ function light(lines) {
   for (const line of document.querySelectorAll("#text .lit")) line.classList.remove("lit");
   const found = lines.map((n) => document.getElementById("line" + n)).filter((e) => e);
   for (const line of found) line.classList.add("lit");
-  if (found.length) {
-    const box = document.getElementById("text");
-    box.scrollTop = found[0].offsetTop - box.offsetTop - 60;
-  }
+  if (found.length) document.getElementById("text").scrollTop = found[0].offsetTop - 60;
 }
 
 function colour(k) {
@@ -105,6 +105,10 @@ function tell(k) {
   light(concept.columns.map((c) => data.columns[c].line).concat(concept.rows.map((r) => data.rows[r].line)));
 }
 
+document.getElementById("size").onclick = (event) => {
+  const whole = document.getElementById("picture").classList.toggle("whole");
+  event.target.textContent = whole ? "its full size" : "the whole picture";
+};
 for (const node of document.querySelectorAll(".node")) {
   const k = Number(node.id.slice(1));
   node.onmouseenter = () => { if (kept === null) tell(k); };
@@ -170,8 +174,7 @@ def page(analysis, title, sections, focus):
         "TITLE": html.escape(title),
         "PICTURE": picture(analysis.lattice, focus),
         "SECTIONS": "\n".join(said),
-        "FILE": html.escape(analysis.file),
         "TEXT": "".join(numbered),
         "DATA": data_of(analysis),
     }
-    return re.sub("@(TITLE|PICTURE|SECTIONS|FILE|TEXT|DATA)@", lambda found: parts[found[1]], PAGE)
+    return re.sub("@(TITLE|PICTURE|SECTIONS|TEXT|DATA)@", lambda found: parts[found[1]], PAGE)

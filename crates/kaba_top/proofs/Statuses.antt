@@ -1,5 +1,5 @@
 -- The statuses of want of memory and of a failed write are no reply's.
-use Rattle.std.proofs.Common.{◌≡◌, inl, inr, ℕ, Bool, List, Option, arith}
+use Rattle.std.proofs.Common.{◌≡◌, inl, inr, ℕ, Bool, List, [], Option, arith}
 use Rattle.kaba_base.specs.Outside.{Files}
 use Rattle.java_core.specs.declared.Program.{Program}
 use Rattle.java_core.specs.Trees.{no_place}
@@ -7,7 +7,8 @@ use Rattle.java_core.specs.Programs.{program_of}
 use Rattle.java_meaning.specs.Moment as meaning
 use Rattle.fact_model.specs.declared.facts.Facts.{Facts}
 use Rattle.java_run.specs.Outcomes.{meant}
-use Rattle.kaba_words.specs.Commands.{Cmd, run, table, lattice}
+use Rattle.kaba_words.specs.Commands.{Cmd, run, table, lattice, help, version}
+use Rattle.kaba_top.specs.About.{help_text, version_text}
 use Rattle.kaba_top.specs.Lines.{Says, Gives}
 use Rattle.kaba_top.specs.Reading.{IsRefusedText, TextAnswers}
 use Rattle.kaba_top.specs.RunAnswers.{EndGives, RunAnswers}
@@ -74,6 +75,8 @@ command_other (table file) first second =
     file_other (TextAnswers (AnalysisAnswers TableOf)) (text_other (AnalysisAnswers TableOf) (analysis_other TableOf table_other)) first file
 command_other (lattice json bound file) first second =
     file_other (TextAnswers (AnalysisAnswers (LatticeOf json bound))) (text_other (AnalysisAnswers (LatticeOf json bound)) (analysis_other (LatticeOf json bound) (lattice_other json bound))) first file
+command_other help first second = gave 0 (omega arith, omega arith) help_text []
+command_other version first second = gave 0 (omega arith, omega arith) version_text []
 
 answer_other : (words : List (List ℕ)) (first second : Files) → AreOther (Answers words first second)
 answer_other words first second status out err (inl a) = said 64 (omega arith, omega arith) _ status out err a.says

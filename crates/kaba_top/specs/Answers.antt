@@ -1,9 +1,10 @@
 -- The answers of the program, for the words and the files.
-use Rattle.std.specs.Prelude.{◌≡◌, ◌⊎◌, ℕ, ◌<◌, ◌≤◌, List, length, Option, Some, None}
+use Rattle.std.specs.Prelude.{◌≡◌, ◌⊎◌, ℕ, ◌<◌, ◌≤◌, List, [], length, Option, Some, None}
 use Rattle.std.specs.Option.{IsSome}
 use Rattle.kaba_base.specs.Outside.{Files, Rose, taken_more, HoldsPrefix}
-use Rattle.kaba_words.specs.Commands.{Cmd, run, table, lattice, Fits, FitsNone}
-use Rattle.kaba_top.specs.Lines.{Says, usage, cannot_read, most_bytes, file_too_large}
+use Rattle.kaba_words.specs.Commands.{Cmd, run, table, lattice, help, version, Fits, FitsNone}
+use Rattle.kaba_top.specs.About.{help_text, version_text}
+use Rattle.kaba_top.specs.Lines.{Says, Gives, usage, cannot_read, most_bytes, file_too_large}
 use Rattle.kaba_top.specs.Reading.{TextAnswers}
 use Rattle.kaba_top.specs.RunAnswers.{RunAnswers}
 use Rattle.kaba_top.specs.FactsAnswers.{AnalysisAnswers, TableOf, LatticeOf}
@@ -41,12 +42,16 @@ abbrev pub CommandAnswers : Cmd → Files → Files → ℕ → List ℕ → Lis
 CommandAnswers (run file steps words) first second = FileAnswers (TextAnswers (RunAnswers steps words)) first file
 CommandAnswers (table file) first second = FileAnswers (TextAnswers (AnalysisAnswers TableOf)) first file
 CommandAnswers (lattice json bound file) first second = FileAnswers (TextAnswers (AnalysisAnswers (LatticeOf json bound))) first file
+CommandAnswers help first second = Gives 0 help_text []
+CommandAnswers version first second = Gives 0 version_text []
 
 -- the names of the files that a command reads
 abbrev pub Names : Cmd → List ℕ → Type 0
 Names (run file steps words) name = name ≡ file
 Names (table file) name = name ≡ file
 Names (lattice json bound file) name = name ≡ file
+Names help name = ⊥
+Names version name = ⊥
 
 -- the words say a command, and this is an answer of it
 pub record IsOfCommand (words : List (List ℕ)) (first second : Files) (status : ℕ) (out err : List ℕ) : Type 0 where

@@ -1,4 +1,5 @@
 pub mod Lines
+pub mod About
 pub mod Reading
 pub mod RunAnswers
 pub mod FactsAnswers

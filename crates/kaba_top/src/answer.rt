@@ -7,6 +7,7 @@ ghost use Rattle.kaba_words.specs.Commands.{run, table, lattice, texts};
 ghost use Rattle.kaba_top.specs.Answers.{CommandReplies, Replies};
 ghost use Rattle.kaba_top.specs.Fetching.{IsFetched};
 
+use crate::about::{help_reply, version_reply};
 use crate::analysis::{lattice_text, table_text};
 use crate::reply::Reply;
 use crate::run::run_text;
@@ -96,6 +97,8 @@ pub fn answer<F: Shelf>(
         Ok(Command::Lattice(json, bound, file)) => {
             lattice_command(alloc, shelf, &file, json, bound)
         }
+        Ok(Command::Help) => help_reply(alloc),
+        Ok(Command::Version) => version_reply(alloc),
         Err(WordsFault::Usage) => Reply::line(alloc, 64, b"usage"),
         Err(WordsFault::Memory) => Err(AllocError),
     }

@@ -6,6 +6,7 @@ ghost use Rattle.kaba_base.specs.Outside.{Rose};
 ghost use Rattle.kaba_words.specs.Commands.{texts};
 ghost use Rattle.kaba_top.specs.Answers.{Gave, WasCut};
 
+mod about;
 mod analysis;
 mod answer;
 mod reading;

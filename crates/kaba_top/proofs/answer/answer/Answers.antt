@@ -1,9 +1,21 @@
-use Rattle.std.proofs.Common.{Err, ap}
-use Rattle.kaba_words.specs.Commands.{texts}
-use Rattle.kaba_top.proofs.Replying.{usage_replies}
+use Rattle.std.proofs.Common.{Err, ap, subst}
+use Rattle.kaba_words.specs.Commands.{texts, command_of, Fits}
+use Rattle.kaba_top.proofs.Replying.{usage_replies, help_replies, version_replies}
 use Rattle.kaba_top.proofs.answer.answer.Goals as goal
 
 pub returns-in-Err-Usage : goal.returns-in-Err-Usage
 returns-in-Err-Usage g c = record {
   replies = usage_replies (g.F.Shelf.files c.args.shelf.now) (g.F.Shelf.faults c.args.shelf.now) (g.F.Shelf.faults c.args.shelf.now) (texts c.args.words.now.items) c.line.result (c.in-Err-Usage.ensures.usage (ap Err c.in-Err-Usage.field-0-is)) c.line.ensures.says;
+}
+
+pub returns-in-Ok-Help : goal.returns-in-Ok-Help
+returns-in-Ok-Help g c = record {
+  replies = help_replies (g.F.Shelf.files c.args.shelf.now) (g.F.Shelf.faults c.args.shelf.now) (g.F.Shelf.faults c.args.shelf.now) (texts c.args.words.now.items) c.help_reply.result
+      (subst (λ command. Fits (texts c.args.words.now.items) (command_of command)) c.in-Ok-Help.field-0-is c.in-Ok-Help.ensures.command) c.help_reply.ensures.gives;
+}
+
+pub returns-in-Ok-Version : goal.returns-in-Ok-Version
+returns-in-Ok-Version g c = record {
+  replies = version_replies (g.F.Shelf.files c.args.shelf.now) (g.F.Shelf.faults c.args.shelf.now) (g.F.Shelf.faults c.args.shelf.now) (texts c.args.words.now.items) c.version_reply.result
+      (subst (λ command. Fits (texts c.args.words.now.items) (command_of command)) c.in-Ok-Version.field-0-is c.in-Ok-Version.ensures.command) c.version_reply.ensures.gives;
 }

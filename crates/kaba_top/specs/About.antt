@@ -1,0 +1,21 @@
+-- What the program says of itself.
+use Rattle.std.specs.Prelude.{ℕ, List, ◌++◌, codes}
+
+-- what `--help` prints: each command, the statuses, and where the documents are
+abbrev pub help_text : List ℕ
+help_text =
+    codes "kaba COMMAND: runs or analyses the Java program of a file\n"
+    ++ (codes "\n"
+    ++ (codes "  run FILE STEPS WORD..      runs the program on the words, for at most STEPS steps\n"
+    ++ (codes "  table FILE                 prints its variables and creations, and the members that each needs\n"
+    ++ (codes "  lattice [-j] [-c N] FILE   prints the concept lattice of that table, as JSON with -j, of at most N concepts\n"
+    ++ (codes "  --help                     prints this text\n"
+    ++ (codes "  --version                  prints the version\n"
+    ++ (codes "\n"
+    ++ (codes "status: 0 done, 10 fault of the run, 11 run not at its end, 64 usage, 65 text refused, 66 cannot read,\n"
+    ++ (codes "  67 too large, 68 too many concepts, 70 no memory, 72 no words, 74 cannot write, 75 has interface\n"
+    ++ codes "documents: README.md and docs/ of the repository; docs/COMMANDS.md says each word, line and status\n")))))))))
+
+-- what `--version` prints
+abbrev pub version_text : List ℕ
+version_text = codes "kaba 0.1\n"

@@ -1,0 +1,45 @@
+//! What the program says of itself.
+#![tactic(auto)]
+
+ghost use Rattle.std.specs.Prelude.{[], IfOk};
+ghost use Rattle.kaba_top.specs.About.{help_text, version_text};
+ghost use Rattle.kaba_top.specs.Lines.{Gives};
+
+use crate::reply::Reply;
+use std::alloc::{AllocError, Global};
+
+/// The reply of `--help`: each command, the statuses, and where the documents are.
+pub fn help_reply(alloc: Global) -> Result<Reply, AllocError>
+    ensures gives { IfOk result (λ reply. Gives 0 help_text [] reply.status reply.out.items reply.err.items) }
+{
+    let out = Vec::from_slice(
+        alloc,
+        b"kaba COMMAND: runs or analyses the Java program of a file\n\
+        \n\
+        \x20 run FILE STEPS WORD..      runs the program on the words, for at most STEPS steps\n\
+        \x20 table FILE                 prints its variables and creations, and the members that each needs\n\
+        \x20 lattice [-j] [-c N] FILE   prints the concept lattice of that table, as JSON with -j, of at most N concepts\n\
+        \x20 --help                     prints this text\n\
+        \x20 --version                  prints the version\n\
+        \n\
+        status: 0 done, 10 fault of the run, 11 run not at its end, 64 usage, 65 text refused, 66 cannot read,\n\
+        \x20 67 too large, 68 too many concepts, 70 no memory, 72 no words, 74 cannot write, 75 has interface\n\
+        documents: README.md and docs/ of the repository; docs/COMMANDS.md says each word, line and status\n",
+    )?;
+    Ok(Reply {
+        status: 0,
+        out,
+        err: Vec::new(alloc),
+    })
+}
+
+/// The reply of `--version`.
+pub fn version_reply(alloc: Global) -> Result<Reply, AllocError>
+    ensures gives { IfOk result (λ reply. Gives 0 version_text [] reply.status reply.out.items reply.err.items) }
+{
+    Ok(Reply {
+        status: 0,
+        out: Vec::from_slice(alloc, b"kaba 0.1\n")?,
+        err: Vec::new(alloc),
+    })
+}
