@@ -1,0 +1,137 @@
+//! Facts of one row and one class, with flows that are drawn.
+
+ghost use Rattle.std.specs.Prelude.{◌≡◌, ◌<◌, length, All, IfOk};
+ghost use Rattle.fact_model.specs.InRange.{InRange};
+ghost use Rattle.bench_facts.specs.Drawn.{IsRoot, IsOnlyRow, IsFirstRow, IsFirstSite, IsNew, IsFlow};
+
+use fact_model::{ClassInfo, Facts, FlowInfo, NewInfo, RowInfo, SiteInfo};
+use kaba_base::{ClassId, Name, RowId, SiteId};
+use std::alloc::{AllocError, Global};
+
+/// How many points, sites and flows.
+const POINTS: u32 = 2000;
+
+const SITES: u32 = 500;
+
+const FLOWS: u32 = 5000;
+
+/// Points and sites of one row; each site is in a point, and the flows go from points to points. An error comes only
+/// for want of memory.
+pub fn facts(alloc: Global) -> Result<Facts, AllocError>
+    ensures { IfOk result InRange }
+{
+    Ok(Facts {
+        rows: rows(alloc)?,
+        columns: Vec::new(alloc),
+        sites: sites(alloc)?,
+        classes: classes(alloc)?,
+        points: points(alloc)?,
+        cells: Vec::new(alloc),
+        news: news(alloc)?,
+        flows: flows(alloc)?,
+        loads: Vec::new(alloc),
+        stores: Vec::new(alloc),
+        bodies: Vec::new(alloc),
+        calls: Vec::new(alloc),
+        casts: Vec::new(alloc),
+        accesses: Vec::new(alloc),
+        supers: Vec::new(alloc),
+        ties: Vec::new(alloc),
+        tests: Vec::new(alloc),
+        words: Vec::new(alloc),
+        vars: Vec::new(alloc),
+        makers: None,
+        makes: Vec::new(alloc),
+        spots: Vec::new(alloc),
+    })
+}
+
+/// The one row.
+fn rows(alloc: Global) -> Result<Vec<RowInfo>, AllocError>
+    ensures one { IfOk result (λ v. length v.items ≡ 1) }
+    ensures row { IfOk result (λ v. All IsOnlyRow v.items) }
+{
+    let mut rows = Vec::new(alloc);
+    rows.push(RowInfo {
+        label: Name::new(alloc, "")?,
+        class: ClassId(0),
+        dim: 0,
+        site: None,
+        this_of: None,
+    })?;
+    Ok(rows)
+}
+
+/// The one class.
+fn classes(alloc: Global) -> Result<Vec<ClassInfo>, AllocError>
+    ensures one { IfOk result (λ v. length v.items ≡ 1) }
+    ensures root { IfOk result (λ v. All IsRoot v.items) }
+{
+    let mut classes = Vec::new(alloc);
+    classes.push(ClassInfo {
+        name: Name::new(alloc, "")?,
+        parent: None,
+        faces: Vec::new(alloc),
+        is_interface: false,
+        holder: false,
+    })?;
+    Ok(classes)
+}
+
+/// The row of each point.
+fn points(alloc: Global) -> Result<Vec<RowId>, AllocError>
+    ensures count { IfOk result (λ v. length v.items ≡ 2000) }
+    ensures row { IfOk result (λ v. All IsFirstRow v.items) }
+{
+    vec![in alloc; RowId(0); POINTS as usize]
+}
+
+/// The sites.
+fn sites(alloc: Global) -> Result<Vec<SiteInfo>, AllocError>
+    ensures count { IfOk result (λ v. length v.items ≡ 500) }
+    ensures row { IfOk result (λ v. All IsFirstSite v.items) }
+{
+    let site = SiteInfo {
+        row: RowId(0),
+        class: ClassId(0),
+        dim: 0,
+    };
+    vec![in alloc; site; SITES as usize]
+}
+
+/// The next number of the generator.
+fn next(x: u64) -> u64 {
+    ((x % 0x8000_0000) * 1_103_515_245 + 12345) % 0x8000_0000
+}
+
+/// Sites in points.
+fn news(alloc: Global) -> Result<Vec<NewInfo>, AllocError>
+    ensures { IfOk result (λ v. All IsNew v.items) }
+{
+    let mut news = Vec::new(alloc);
+    let mut x = 1;
+    for _k in 0..SITES {
+        x = next(x);
+        let point = ((x / 8) % u64::from(POINTS)) as u32;
+        x = next(x);
+        let site = SiteId(((x / 8) % u64::from(SITES)) as u32);
+        news.push(NewInfo { point, site })?;
+    }
+    Ok(news)
+}
+
+/// Flows between points.
+fn flows(alloc: Global) -> Result<Vec<FlowInfo>, AllocError>
+    ensures { IfOk result (λ v. All IsFlow v.items) }
+{
+    let mut flows = Vec::new(alloc);
+    let mut x = 2;
+    for _k in 0..FLOWS {
+        x = next(x);
+        let from = ((x / 8) % u64::from(POINTS)) as u32;
+        x = next(x);
+        let to = ((x / 8) % u64::from(POINTS)) as u32;
+        flows.push(FlowInfo { from, to })?;
+    }
+    Ok(flows)
+}
