@@ -222,16 +222,19 @@ def in_body(spot):
         return GENERIC
     if text == "class":
         return "there are no classes within methods: declare it beside the others"
-    if "=" not in said and (text == ";" and before != ")" or spot.tokens[spot.k].kind == "mark" and spot.tokens[spot.k - 1].kind in ("number", "string", "char")):
+    behind_literal = spot.tokens[spot.k].kind == "mark" and spot.tokens[spot.k - 1].kind in ("number", "string", "char")
+    if "=" not in said and (text == ";" and before != ")" or behind_literal):
         return "an expression is no statement: only assignments, calls and creations are"
     return None
 
 
 NAMES = {
     "Unknown": "`{name}` is declared nowhere that can be seen from here",
-    "Twice": "`{name}` is declared twice: a local may not have the name of one in whose scope it stands, nor a class two fields or two methods of one name (there is no overloading)",
+    "Twice": "`{name}` is declared twice: a local may not have the name of one in whose scope it stands, "
+    "nor a class two fields or two methods of one name (there is no overloading)",
     "Loop": "`{name}` is its own ancestor",
-    "Overload": "`{name}` has another parameter list, result or kind here than elsewhere in the class or its ancestors: there is no overloading; give it another name",
+    "Overload": "`{name}` has another parameter list, result or kind here than in a class above or below: "
+    "there is no overloading; give it another name",
     "TwoKinds": "`{name}` is the name of a class where a variable is meant, or a class where an interface is, or the reverse",
     "PrivateReused": "`{name}` is the name of a private method of an ancestor or a descendant: give it another name",
 }

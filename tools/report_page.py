@@ -38,7 +38,8 @@ a { color: #0b50a8; cursor: pointer; }
 <h1>@TITLE@</h1>
 <p class="key">A box is a concept: its members stand in the upper part, its variables and creations in the lower. What needs the
 concept's members stands in it or below, and it has what stands above. <span style="background:#ffe45c">the box</span>
-<span style="background:#dbe9fb">above: it has these members too</span> <span style="background:#fde8cf">below: these need its members</span> <a id="size">the whole picture</a></p>
+<span style="background:#dbe9fb">above: it has these members too</span> <span style="background:#fde8cf">below: these need its members</span>
+<a id="size">the whole picture</a></p>
 <div id="top">
 <div id="picture">@PICTURE@</div>
 <div id="side">
