@@ -79,18 +79,27 @@ module _ (F : Facts) where
     one_class : (k : ClassInfo) → IsRoot k → IfSome k.parent (IsClass F) × All (IsClass F) k.faces.items
     one_class k h = (rw h.0 tt, none (IsClass F) k.faces.items h.1)
 
+    a_site : (s : SiteInfo) → IsFirstSite s → IsRow F s.row × IsClass F s.class
+    a_site s h = (omega (arith, h.0, d.rows), omega (arith, h.1, d.classes))
+
+    a_new : (x : NewInfo) → IsNew x → IsPoint F x.point × IsSite F x.site
+    a_new x h = (omega (arith, h.0, d.points), omega (arith, h.1, d.sites))
+
+    a_flow : (x : FlowInfo) → IsFlow x → IsPoint F x.from × IsPoint F x.to
+    a_flow x h = (omega (arith, h.0, d.points), omega (arith, h.1, d.points))
+
     pub in_range : InRange F
     in_range = record {
       counts = counts;
       acyclic = acyclic;
       rows = All-weaker IsOnlyRow (λ r. IsClass F r.class × IfSome r.site (IsSite F) × IfSome r.this_of (IsCol F)) one_row F.rows.items d.row;
       columns = λ i x lt. past F.columns.items d.columns i lt;
-      sites = All-weaker IsFirstSite (λ (s : SiteInfo). IsRow F s.row × IsClass F s.class) (λ s h. (omega (arith, h.0, d.rows), omega (arith, h.1, d.classes))) F.sites.items d.site_rows;
+      sites = All-weaker IsFirstSite (λ s. IsRow F s.row × IsClass F s.class) a_site F.sites.items d.site_rows;
       classes = All-weaker IsRoot (λ k. IfSome k.parent (IsClass F) × All (IsClass F) k.faces.items) one_class F.classes.items d.root;
       points = All-weaker IsFirstRow (IsRow F) (λ r h. omega (arith, h, d.rows)) F.points.items d.point_rows;
       cells = λ i x lt. past F.cells.items d.cells i lt;
-      news = All-weaker IsNew (λ (x : NewInfo). IsPoint F x.point × IsSite F x.site) (λ x h. (omega (arith, h.0, d.points), omega (arith, h.1, d.sites))) F.news.items d.news;
-      flows = All-weaker IsFlow (λ (x : FlowInfo). IsPoint F x.from × IsPoint F x.to) (λ x h. (omega (arith, h.0, d.points), omega (arith, h.1, d.points))) F.flows.items d.flows;
+      news = All-weaker IsNew (λ x. IsPoint F x.point × IsSite F x.site) a_new F.news.items d.news;
+      flows = All-weaker IsFlow (λ x. IsPoint F x.from × IsPoint F x.to) a_flow F.flows.items d.flows;
       loads = λ i x lt. past F.loads.items d.loads i lt;
       stores = λ i x lt. past F.stores.items d.stores i lt;
       bodies = λ i x lt. past F.bodies.items d.bodies i lt;

@@ -57,20 +57,26 @@ module _ (F : Facts) (O : InOrder F) where
   pub chains : AreChains F
   chains = record { chain = chain; above_interface = above_interface }
 
-  -- of some classes at or above one type one is the lowest
+  -- a class of a list that is at or below each of it
   pub record IsLowest (m : ℕ) (xs : List ℕ) : Type 0 where
     pub among : Contains xs m
     pub least : AllByRecursion (λ b. IsBelow F m b) xs
 
   -- the lower of two, where one is
   lower : (x m : ℕ) (xs : List ℕ) → IsLowest m xs → IsBelow F x m ⊎ IsBelow F m x → (y : ℕ) × IsLowest y (x ∷ xs)
-  lower x m xs low (inl down) = (x, record { among = (0, omega arith, refl); least = (same, each_weaker (λ b. IsBelow F m b) (λ b. IsBelow F x b) (λ b h. below-then F down h) xs low.least) })
+  lower x m xs low (inl down) =
+      let rest = each_weaker (λ b. IsBelow F m b) (λ b. IsBelow F x b) (λ b h. below-then F down h) xs low.least in
+      (x, record { among = (0, omega arith, refl); least = (same, rest) })
   lower x m xs low (inr up) = (m, record { among = Contains-append_right (x ∷ []) xs m low.among; least = (up, low.least) })
 
-  -- the classes at or above a type of the list have a lowest
-  pub lowest : (a : ℕ) (x : ℕ) (xs : List ℕ) → AllByRecursion (λ b. IsPlainClass F b × IsBelow F a b) (x ∷ xs) → (m : ℕ) × IsLowest m (x ∷ xs)
+  -- a class at or above a type
+  abbrev pub IsClassAbove : ℕ → ℕ → Type 0
+  IsClassAbove a b = IsPlainClass F b × IsBelow F a b
+
+  -- of some classes at or above a type one is the lowest
+  pub lowest : (a : ℕ) (x : ℕ) (xs : List ℕ) → AllByRecursion (IsClassAbove a) (x ∷ xs) → (m : ℕ) × IsLowest m (x ∷ xs)
   lowest a x [] h = (x, record { among = (0, omega arith, refl); least = (same, tt) })
   lowest a x (y ∷ ys) h =
       let m = lowest a y ys h.1 in
-      let k = All-contains (λ b. IsPlainClass F b × IsBelow F a b) (y ∷ ys) m.0 (All-from_recursion (λ b. IsPlainClass F b × IsBelow F a b) (y ∷ ys) h.1) m.1.among in
+      let k = All-contains (IsClassAbove a) (y ∷ ys) m.0 (All-from_recursion (IsClassAbove a) (y ∷ ys) h.1) m.1.among in
       lower x m.0 (y ∷ ys) m.1 (chain a x m.0 h.0.0 k.0 h.0.1 k.1)

@@ -65,7 +65,8 @@ module _ (F : Facts) (t : Table) (T : IsTable F t) where
 
   module _ (pt : PointsTo) (S : AreSets F pt) where
     -- T3
-    pub need_entry : (call : CallInfo) (o d : ℕ) → Contains F.calls.items call → bit (row pt.points.items call.receiver) o ≡ true → finds F (site_class F o) call.slot ≡ Some d → Has (site_row F o) d
+    pub need_entry : (call : CallInfo) (o d : ℕ) → Contains F.calls.items call → bit (row pt.points.items call.receiver) o ≡ true
+        → finds F (site_class F o) call.slot ≡ Some d → Has (site_row F o) d
     need_entry call o d is h f = closed_table [] (site_row F o, d) (by_need call o d is ((S.points call.receiver o).0 h) f) tt
 
     -- T9

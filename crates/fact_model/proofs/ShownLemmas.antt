@@ -58,10 +58,12 @@ module _ (F : Facts) (t : PointsTo) (S : AreSets F t) where
   pub flow_shown : (x : FlowInfo) → Contains F.flows.items x → IsSubset (row t.points.items x.from) (row t.points.items x.to)
   flow_shown x is s h = included (in_point x.from s ∷ []) (in_point x.to s) (by_flow x s is) (h, tt)
 
-  pub load_shown : (x : LoadInfo) (c o : ℕ) → Contains F.loads.items x → IsCell F c o x.column → InPoint x.base o → IsSubset (row t.cells.items c) (row t.points.items x.into)
+  pub load_shown : (x : LoadInfo) (c o : ℕ) → Contains F.loads.items x → IsCell F c o x.column → InPoint x.base o
+      → IsSubset (row t.cells.items c) (row t.points.items x.into)
   load_shown x c o is cell base s h = included (in_point x.base o ∷ in_cell c s ∷ []) (in_point x.into s) (by_load x c o s is cell) (base, (h, tt))
 
-  pub store_shown : (x : StoreInfo) (c o s : ℕ) → Contains F.stores.items x → IsCell F c o x.column → Fits F x.column s o → InPoint x.base o → InPoint x.value s → InCell c s
+  pub store_shown : (x : StoreInfo) (c o s : ℕ) → Contains F.stores.items x → IsCell F c o x.column → Fits F x.column s o → InPoint x.base o
+      → InPoint x.value s → InCell c s
   store_shown x c o s is cell fits base h = included (in_point x.base o ∷ in_point x.value s ∷ []) (in_cell c s) (by_store x c o s is cell fits) (base, (h, tt))
 
   pub cast_shown : (x : CastInfo) (s : ℕ) → Contains F.casts.items x → IsBelow F (site_class F s) x.class.0 → InPoint x.from s → InPoint x.into s
@@ -70,11 +72,14 @@ module _ (F : Facts) (t : PointsTo) (S : AreSets F t) where
   pub this_shown : (call : CallInfo) (o : ℕ) (body : BodyInfo) → Runs F call o body → InPoint call.receiver o → InPoint body.this o
   this_shown call o body runs h = included (in_point call.receiver o ∷ []) (in_point body.this o) (by_this call o body runs) (h, tt)
 
-  pub argument_shown : (call : CallInfo) (o : ℕ) (body : BodyInfo) (k from to : ℕ) → Runs F call o body → point_at call.args.items k ≡ Some from → point_at body.params.items k ≡ Some to → InPoint call.receiver o → IsSubset (row t.points.items from) (row t.points.items to)
+  pub argument_shown : (call : CallInfo) (o : ℕ) (body : BodyInfo) (k from to : ℕ) → Runs F call o body
+      → point_at call.args.items k ≡ Some from → point_at body.params.items k ≡ Some to → InPoint call.receiver o
+      → IsSubset (row t.points.items from) (row t.points.items to)
   argument_shown call o body k from to runs a b h s k2 =
       included (in_point call.receiver o ∷ in_point from s ∷ []) (in_point to s) (by_argument call o body k from to s runs a b) (h, (k2, tt))
 
-  pub result_shown : (call : CallInfo) (o : ℕ) (body : BodyInfo) (from to : ℕ) → Runs F call o body → body.result ≡ Some from → call.result ≡ Some to → InPoint call.receiver o → IsSubset (row t.points.items from) (row t.points.items to)
+  pub result_shown : (call : CallInfo) (o : ℕ) (body : BodyInfo) (from to : ℕ) → Runs F call o body → body.result ≡ Some from
+      → call.result ≡ Some to → InPoint call.receiver o → IsSubset (row t.points.items from) (row t.points.items to)
   result_shown call o body from to runs a b h s k =
       included (in_point call.receiver o ∷ in_point from s ∷ []) (in_point to s) (by_result call o body from to s runs a b) (h, (k, tt))
 
