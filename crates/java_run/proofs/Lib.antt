@@ -4,7 +4,6 @@ pub mod Works
 pub mod Forms
 pub mod Loops
 pub mod Steps
-pub mod Words
 pub mod Strings
 pub mod Values
 pub mod Jumps

@@ -26,9 +26,12 @@ use Rattle.java_meaning.specs.Languages.{language_of, statics_of, body_with, run
 use Rattle.java_run.specs.declared.machine.Machine.{Machine}
 use Rattle.java_run.specs.declared.machine.Task.TheVariants as task
 use Rattle.java_meaning.proofs.TypedPrograms.{never_wrong}
+use Rattle.java_meaning.proofs.Depth.{going_spent}
 use Rattle.java_run.specs.declared.machine.Ending.{Ending}
 use Rattle.java_run.specs.declared.machine.Ending.TheVariants.{Stuck}
 use Rattle.java_run.specs.declared.runs.Outcome as given
+use Rattle.java_run.specs.declared.runs.End.{End}
+use Rattle.java_run.specs.declared.runs.End.TheVariants as ends
 use Rattle.java_run.specs.Rest.{acts, rest, frame_of, state_of, run_from, end_of}
 use Rattle.java_run.specs.Moves.{Stops}
 use Rattle.java_run.specs.Outcomes as outcomes
@@ -143,3 +146,32 @@ module _ (P : Plain) (words : List (String Global)) (bound : ℕ) (first last : 
     end = f ∙ sym (ap (λ y. y.end) h);
     used = ap (λ k. k + (meant P (map string_bytes words) bound).left) g ∙ ap (λ k. bound - last.left + k) (ap (λ y. y.left) h) ∙ (let z : bound - last.left + last.left ≡ bound = omega arith in z);
   }
+
+module _ (P : Plain) (words : List (List ℕ)) (bound : ℕ) where
+  -- a run that goes on used its whole bound
+  pub going_used : (o : given.Outcome) → IsOutcomeOf P words bound o → o.end ≡ ends.Going → o.used ≡ bound
+  unfolding meant
+  going_used o is e =
+      let none : (meant P words bound).left ≡ 0 = going_spent P (map units_of words) bound (sym is.end ∙ ap outcomes.end_of e) in
+      sym (add-zero o.used) ∙ ap (λ k. o.used + k) (sym none) ∙ is.used
+
+  -- two outcomes of one run are the same
+  pub same_out : (a b : given.Outcome) → IsOutcomeOf P words bound a → IsOutcomeOf P words bound b → a.out.items ≡ b.out.items
+  same_out a b x y = x.out ∙ sym y.out
+
+  same_ends : (a b : End) → outcomes.end_of a ≡ outcomes.end_of b → a ≡ b
+  same_ends ends.Ended ends.Ended e = refl
+  same_ends (ends.Fault k) (ends.Fault j) e = ap ends.Fault (cc e)
+  same_ends ends.Going ends.Going e = refl
+  same_ends ends.Ended (ends.Fault k) e = absurd (cc e)
+  same_ends ends.Ended ends.Going e = absurd (cc e)
+  same_ends (ends.Fault k) ends.Ended e = absurd (cc e)
+  same_ends (ends.Fault k) ends.Going e = absurd (cc e)
+  same_ends ends.Going ends.Ended e = absurd (cc e)
+  same_ends ends.Going (ends.Fault k) e = absurd (cc e)
+
+  pub same_end : (a b : given.Outcome) → IsOutcomeOf P words bound a → IsOutcomeOf P words bound b → a.end ≡ b.end
+  same_end a b x y = same_ends a.end b.end (x.end ∙ sym y.end)
+
+  pub same_used : (a b : given.Outcome) → IsOutcomeOf P words bound a → IsOutcomeOf P words bound b → a.used ≡ b.used
+  same_used a b x y = let e = x.used ∙ sym y.used in omega (arith, e)

@@ -1,4 +1,4 @@
--- The types of locals, and the fields of objects in their places.
+-- The fields of objects in their places.
 use Rattle.std.proofs.Common.{◌≡◌, ℕ, zero, suc, ◌+◌, ◌<◌, List, [], ◌∷◌, ◌++◌, map, length, Some, refl, sym, ap, ◌∙◌, arith}
 use Rattle.std.specs.Prelude.{slice_get}
 use Rattle.std.specs.Option.{option_map, option_map_or}
@@ -9,22 +9,6 @@ use Rattle.java_core.specs.Programs.{Plain, local_seen}
 use Rattle.java_core.specs.Classes.{parent_of}
 use Rattle.java_core.specs.Types.{types_of}
 use Rattle.java_meaning.specs.Languages.{layout_in, own_fields}
-
--- the types of locals, by their numbers
-pub type_there : (ls : List Local) (i : ℕ) → slice_get (types_of (map (local_seen no_place) ls)) i ≡ option_map (λ l. l.ty) (slice_get ls i)
-type_there [] i = refl
-type_there (l ∷ ls) zero = refl
-type_there (l ∷ ls) (suc i) = type_there ls i
-
-pub type_of_param : (ps ls : List Local) (i : ℕ) → i < length ps → slice_get (types_of (map (local_seen no_place) ps)) i ≡ slice_get (types_of (map (local_seen no_place) ps ++ map (local_seen no_place) ls)) i
-type_of_param [] ls i h = absurd (omega arith)
-type_of_param (p ∷ ps) ls zero h = refl
-type_of_param (p ∷ ps) ls (suc i) h = type_of_param ps ls i (omega arith)
-
-pub type_of_local : (ps ls : List Local) (i j : ℕ) → length ps + j ≡ i → slice_get (types_of (map (local_seen no_place) ls)) j ≡ slice_get (types_of (map (local_seen no_place) ps ++ map (local_seen no_place) ls)) i
-type_of_local [] ls i j h = let e : j ≡ i = omega arith in ap (λ k. slice_get (types_of (map (local_seen no_place) ls)) k) e
-type_of_local (p ∷ ps) ls zero j h = absurd (omega arith)
-type_of_local (p ∷ ps) ls (suc i) j h = type_of_local ps ls i j (omega arith)
 
 layout_up : (P : Plain) (n c : ℕ) (p : ClassId) → parent_of P c ≡ Some p → layout_in P n p.0 ++ own_fields P c ≡ layout_in P (suc n) c
 layout_up P n c p h = ap (λ o. option_map_or (λ p. layout_in P n p.0) o [] ++ own_fields P c) (sym h)

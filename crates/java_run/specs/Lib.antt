@@ -2,7 +2,6 @@ pub mod Parts
 pub mod Rest
 pub mod Work
 pub mod Moves
-pub mod Statics
 pub mod Landings
 pub mod Outcomes
 pub mod Founds

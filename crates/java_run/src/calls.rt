@@ -19,9 +19,11 @@ ghost use Rattle.java_run.specs.Moves.{MovesOk};
 
 use crate::machine::{Active, Call, Ending, Machine, Task, Turn, answer, faulty, give, stuck};
 use crate::objects::fresh;
-use crate::statics::slot_at;
 use crate::string_calls::call_string;
-use java_core::{Fault, Local, Method, Program, RExpr, RStmt, lookup, super_method};
+use java_core::{
+    Fault, Local, Method, Program, RExpr, RStmt, Static, TyBase, lookup, plain_type, slot_in,
+    static_of, super_method,
+};
 use java_heap::{CellKind, Heap, Value, convert, default_of};
 use kaba_base::{ClassId, MemberId, Name, SiteId};
 use std::alloc::{AllocError, Global};
@@ -106,6 +108,20 @@ fn call_object<'a>(
     match body_at(p, m.now.method, base, name, class) {
         None => stuck(),
         Some(method) => enter(p, m, method, Value::Ref(at), args),
+    }
+}
+
+/// The slot that a call of a name on an expression calls; no expression is `this`.
+fn slot_at(p: &Program, method: &Method, e: Option<&RExpr>, name: &Name) -> Option<u32>
+    requires { IsFormed (program_of no_place p.now) }
+    ensures { (b : ℕ) → result ≡ slot_in (program_of no_place p.now) (env_of b (method_seen no_place method.now)) (receiver e.entry) name.now }
+{
+    match e {
+        Some(e) => slot_in(p, static_of(p, method, e), name),
+        None => {
+            let this = Static::Value(plain_type(TyBase::Class(method.owner)));
+            slot_in(p, this, name)
+        }
     }
 }
 

@@ -16,8 +16,7 @@ ghost use Rattle.java_run.specs.Moves.{MovesOk};
 
 use crate::flow::{Exit, jump, return_value};
 use crate::machine::{Ending, Machine, Stage, Take, Task, Test, Turn, evaluate, stuck};
-use crate::statics::local_type;
-use java_core::{RArm, RExpr, RStmt};
+use java_core::{RArm, RExpr, RStmt, local_type};
 use java_heap::{Value, convert, default_of, print, text_of};
 use std::alloc::AllocError;
 

@@ -5,7 +5,8 @@ ghost use Rattle.std.specs.Option.{option_map};
 ghost use Rattle.java_core.specs.Trees.{no_place, this, null, expr_of, Ex};
 ghost use Rattle.java_core.specs.Programs.{program_of, method_seen};
 ghost use Rattle.java_core.specs.Formed.{IsFormed};
-ghost use Rattle.java_core.specs.Types.{env_of, is_length};
+ghost use Rattle.java_core.specs.Types.{env_of, field_in, is_length};
+ghost use Rattle.java_core.specs.Statics.{static_in};
 ghost use Rattle.java_heap.specs.Seen.{value_of};
 ghost use Rattle.java_meaning.specs.Moment.{State, Cell, an_object, Number, with_some, on_bool, stop, Wrong};
 ghost use Rattle.java_meaning.specs.Values.{int_of};
@@ -22,8 +23,7 @@ use crate::counts::int_of;
 use crate::machine::{Ending, Found, Machine, Take, Turn, answer};
 use crate::named::{Kept, Named, named_by};
 use crate::objects::place_of;
-use crate::statics::{field_at, field_type, is_length};
-use java_core::{Fault, Method, Program, RExpr};
+use java_core::{Fault, Method, Program, RExpr, field_in, field_type, is_length, static_of};
 use java_heap::{Heap, Value, convert};
 use kaba_base::{ClassId, MemberId, Name};
 use std::alloc::{AllocError, Global};
@@ -71,6 +71,14 @@ pub fn read_member<'a>(
 {
     let found = member_value(m.alloc, p, &m.heap, m.now.method, base, name, value)?;
     answer(m, found)
+}
+
+/// The field that the object of an expression has under a name.
+fn field_at(p: &Program, method: &Method, e: &RExpr, name: &Name) -> Option<MemberId>
+    requires { IsFormed (program_of no_place p.now) }
+    ensures { (b : ℕ) → option_map (λ d. d.0) result ≡ field_in (program_of no_place p.now) (static_in p.now b method.now (expr_of no_place e.now)) name.now }
+{
+    field_in(p, static_of(p, method, e), name)
 }
 
 /// The value of a field of an object, or the length of an array.

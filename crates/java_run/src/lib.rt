@@ -18,9 +18,8 @@ mod objects;
 mod operations;
 mod runs;
 mod stack;
-mod statics;
 mod string_calls;
 mod takes;
 mod texts;
 
-pub use runs::{End, Outcome, run};
+pub use runs::{End, Outcome, one_outcome, run};

@@ -1,8 +1,8 @@
 //! Runs.
 
-ghost use Rattle.std.specs.Prelude.{◌≡◌, ◌≢◌, [], ◌∷◌, Some, map, slice_get, string_bytes, IfOk};
+ghost use Rattle.std.specs.Prelude.{◌≡◌, ◌≢◌, ℕ, List, [], ◌∷◌, Some, map, slice_get, string_bytes, IfOk};
 ghost use Rattle.java_core.specs.Trees.{no_place, body_seen, stmts};
-ghost use Rattle.java_core.specs.Programs.{program_of, method_seen};
+ghost use Rattle.java_core.specs.Programs.{Plain, program_of, method_seen};
 ghost use Rattle.java_core.specs.Types.{env_of};
 ghost use Rattle.java_core.specs.Formed.{IsFormed};
 ghost use Rattle.java_core.specs.Typing.{IsTyped};
@@ -198,7 +198,8 @@ fn run_program(
 ) -> Result<Outcome, AllocError>
     requires formed { IsFormed (program_of no_place p.now) }
     requires typed { IsTyped (program_of no_place p.now) }
-    ensures { IfOk result (λ o. IsOutcomeOf (program_of no_place p.now) (map string_bytes words.now.items) bound o) }
+    ensures outcome { IfOk result (λ o. IsOutcomeOf (program_of no_place p.now) (map string_bytes words.now.items) bound o) }
+    ensures going { IfOk result (λ o. o.end ≡ End.Going → o.used ≡ bound) }
 {
     let method = main_of(p);
     let first = initial(alloc, p, method, code_of(method), words, bound)?;
@@ -211,8 +212,8 @@ fn run_program(
 }
 
 /// Runs a program on words with a bound on its steps: a step is a turn of a loop, a call of a method
-/// of the program, or a creation. It gives what was printed, how the run ended, and its steps; and an
-/// error where there is no memory left.
+/// of the program, or a creation. It gives what was printed, how the run ended, and its steps: all of
+/// the bound where it goes on. It gives an error where there is no memory left.
 pub fn run(
     alloc: Global,
     program: &Checked,
@@ -220,6 +221,14 @@ pub fn run(
     bound: u32,
 ) -> Result<Outcome, AllocError>
     ensures outcome { IfOk result (λ o. IsOutcomeOf (program_of no_place program.now) (map string_bytes words.now.items) bound o) }
+    ensures going { IfOk result (λ o. o.end ≡ End.Going → o.used ≡ bound) }
 {
     run_program(alloc, program.program(), words, bound)
 }
+
+/// A program has one outcome on words with a bound: two that it may have are the same.
+pub fn one_outcome()
+    ensures out { (P : Plain) (words : List (List ℕ)) (bound : ℕ) (a b : Outcome) → IsOutcomeOf P words bound a → IsOutcomeOf P words bound b → a.out.items ≡ b.out.items }
+    ensures end { (P : Plain) (words : List (List ℕ)) (bound : ℕ) (a b : Outcome) → IsOutcomeOf P words bound a → IsOutcomeOf P words bound b → a.end ≡ b.end }
+    ensures used { (P : Plain) (words : List (List ℕ)) (bound : ℕ) (a b : Outcome) → IsOutcomeOf P words bound a → IsOutcomeOf P words bound b → a.used ≡ b.used }
+{}

@@ -12,8 +12,7 @@ ghost use Rattle.java_run.specs.Founds.{gives};
 
 use crate::counts::int_of;
 use crate::machine::Found;
-use crate::statics::{StringCall, string_call};
-use java_core::Fault;
+use java_core::{Fault, StringMethod, string_method};
 use java_heap::{Heap, Value, equals};
 use kaba_base::Name;
 
@@ -72,11 +71,11 @@ pub fn call_string(heap: &Heap, name: &Name, at: usize, args: &[Value]) -> Found
 {
     match heap.text(at) {
         None => Found::Stuck,
-        Some(units) => match string_call(name) {
+        Some(units) => match string_method(name) {
             None => Found::Stuck,
-            Some(StringCall::Length) => string_length(units, args),
-            Some(StringCall::CharAt) => char_at(units, args),
-            Some(StringCall::Equals) => string_equals(heap, units, args),
+            Some(StringMethod::Length) => string_length(units, args),
+            Some(StringMethod::CharAt) => char_at(units, args),
+            Some(StringMethod::Equals) => string_equals(heap, units, args),
         },
     }
 }

@@ -18,13 +18,13 @@ pub returns-in-None-element_in : goal.returns-in-None-element_in
 returns-in-None-element_in c =
     let t = c.in-Array.ensures in
     let i = mapped_some natural_of _ _ c.in-Some.ensures in
-    λ P b s k. some_is _ _ _ _ i.1 ∙ t.1.0.1 s _ ∙ none_is _ _ _ (ap element_type t.1.1 ∙ sym c.in-None-element_in.ensures)
+    λ P b s k. some_is _ _ _ _ i.1 ∙ t.1.0.1 s _ ∙ none_is _ _ _ (ap element_type t.1.1 ∙ sym c.in-None-element_in.ensures.value)
 
 pub returns-in-Some-element_in : goal.returns-in-Some-element_in
 returns-in-Some-element_in c =
     let t = c.in-Array.ensures in
     let i = mapped_some natural_of _ _ c.in-Some.ensures in
-    λ P b s k. some_is _ _ _ _ i.1 ∙ t.1.0.1 s _ ∙ some_is _ _ _ _ (ap element_type t.1.1 ∙ sym c.in-Some-element_in.ensures) ∙ c.element_at.ensures t.0 i.0 t.1.0.0 i.2 (at_heap c.args.heap.now s) k
+    λ P b s k. some_is _ _ _ _ i.1 ∙ t.1.0.1 s _ ∙ some_is _ _ _ _ (ap element_type t.1.1 ∙ sym c.in-Some-element_in.ensures.value) ∙ c.element_at.ensures t.0 i.0 t.1.0.0 i.2 (at_heap c.args.heap.now s) k
 
 pub returns-in-Null : goal.returns-in-Null
 returns-in-Null c = let i = mapped_some natural_of _ _ c.in-Some.ensures in λ P b s k. some_is _ _ _ _ i.1 ∙ c.in-Null.ensures s _

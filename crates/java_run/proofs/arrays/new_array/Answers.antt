@@ -13,16 +13,16 @@ pub returns-in-None-element_in : goal.returns-in-None-element_in
 unfolding takes_from takes
 returns-in-None-element_in c =
     let i = mapped_some natural_of _ _ c.in-Some.ensures in
-    λ P. stopped P _ _ _ _ _ _ (omega arith) c.stuck-in-None-element_in.ensures (λ n le. some_is _ _ _ _ i.1 ∙ none_is _ _ _ (sym c.in-None-element_in.ensures))
+    λ P. stopped P _ _ _ _ _ _ (omega arith) c.stuck-in-None-element_in.ensures (λ n le. some_is _ _ _ _ i.1 ∙ none_is _ _ _ (sym c.in-None-element_in.ensures.value))
 
 pub returns-in-None-size : goal.returns-in-None-size
 unfolding takes_from takes
 returns-in-None-size c =
     let i = mapped_some natural_of _ _ c.in-Some.ensures in
-    λ P. stopped P _ _ _ _ _ _ (omega arith) c.faulty.ensures (λ n le. some_is _ _ _ _ i.1 ∙ some_is _ _ _ _ (sym c.in-Some-element_in.ensures) ∙ none_or _ _ _ _ (i.2 ∙ c.in-None-size.is))
+    λ P. stopped P _ _ _ _ _ _ (omega arith) c.faulty.ensures (λ n le. some_is _ _ _ _ i.1 ∙ some_is _ _ _ _ (sym c.in-Some-element_in.ensures.value) ∙ none_or _ _ _ _ (i.2 ∙ c.in-None-size.is))
 
 pub returns-in-Some-size : goal.returns-in-Some-size
 unfolding takes_from takes onward
 returns-in-Some-size c =
     let i = mapped_some natural_of _ _ c.in-Some.ensures in
-    λ P. moved P _ _ _ _ _ _ _ (λ n le. some_is _ _ _ _ i.1 ∙ some_is _ _ _ _ (sym c.in-Some-element_in.ensures) ∙ some_or _ _ _ _ _ (i.2 ∙ c.in-Some-size.is)) (omega arith) (c.make_array.ensures P c.in-Some-element_in.field-0 (sym c.in-Some-element_in.ensures))
+    λ P. moved P _ _ _ _ _ _ _ (λ n le. some_is _ _ _ _ i.1 ∙ some_is _ _ _ _ (sym c.in-Some-element_in.ensures.value) ∙ some_or _ _ _ _ _ (i.2 ∙ c.in-Some-size.is)) (omega arith) (c.make_array.ensures P c.in-Some-element_in.field-0 (sym c.in-Some-element_in.ensures.value))

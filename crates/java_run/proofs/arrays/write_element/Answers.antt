@@ -7,12 +7,12 @@ pub returns-in-Object : goal.returns-in-Object
 returns-in-Object c = let t = c.in-Object.ensures in λ i e s k. t.1.0.1 s _ ∙ none_is _ _ _ (ap element_type t.1.1)
 
 pub returns-in-None : goal.returns-in-None
-returns-in-None c = let t = c.in-Array.ensures in λ i e s k. t.1.0.1 s _ ∙ none_is _ _ _ (ap element_type t.1.1 ∙ sym c.in-None.ensures)
+returns-in-None c = let t = c.in-Array.ensures in λ i e s k. t.1.0.1 s _ ∙ none_is _ _ _ (ap element_type t.1.1 ∙ sym c.in-None.ensures.value)
 
 pub returns-in-Some : goal.returns-in-Some
 returns-in-Some c =
     let t = c.in-Array.ensures in
-    λ i e s k. t.1.0.1 s _ ∙ some_is _ _ _ _ (ap element_type t.1.1 ∙ sym c.in-Some.ensures) ∙ c.write_at.ensures t.0 i t.1.0.0 e s k
+    λ i e s k. t.1.0.1 s _ ∙ some_is _ _ _ _ (ap element_type t.1.1 ∙ sym c.in-Some.ensures.value) ∙ c.write_at.ensures t.0 i t.1.0.0 e s k
 
 pub returns-in-Null : goal.returns-in-Null
 returns-in-Null c = λ i e s k. c.in-Null.ensures s _
