@@ -1,18 +1,18 @@
 -- A program has one answer: two that it may have are the same.
-use Rattle.std.proofs.Common.{◌≡◌, List, Option, Some, None, refl, sym, ◌∙◌}
+use Rattle.std.proofs.Common.{◌≡◌, List, Option, Some, None, refl, sym, ap, ◌∙◌}
 use Rattle.std.specs.Prelude.{◌≢◌, Contains}
 use Rattle.std.proofs.lemmas.Option.{same_Some}
 use Rattle.java_core.specs.Programs.{Plain}
 use Rattle.fact_model.specs.declared.facts.Facts.{Facts}
 use Rattle.flow_facts.specs.declared.top.FactsFault.{FactsFault}
 use Rattle.flow_facts.specs.declared.top.FactsFault.TheVariants as fault
-use Rattle.flow_facts.specs.Facts.{IsFactsOf, AreNamesOf, IsRefused, IsSameSet, IsWithin}
+use Rattle.flow_facts.specs.Facts.{IsRefused, IsSameSet, IsWithin, TooMany}
 use Rattle.program_facts.specs.Known.{AreProgramFacts}
 use Rattle.program_facts.specs.Same.{AreSame}
 
 -- two lists that have the items of a third
-both : {A : Type 0} {xs ys zs : List A} → IsSameSet xs zs → IsSameSet ys zs → IsSameSet xs ys
-both f g x = ((λ c. (g x).1 ((f x).0 c)), (λ c. (f x).1 ((g x).0 c)))
+both : {A : Type 0} (xs ys zs : List A) → IsSameSet xs zs → IsSameSet ys zs → IsSameSet xs ys
+both xs ys zs f g x = ((λ c. (g x).1 ((f x).0 c)), (λ c. (f x).1 ((g x).0 c)))
 
 pub same_facts : (P Q : Plain) (F G : Facts) → AreProgramFacts P Q F → AreProgramFacts P Q G → AreSame F G
 same_facts P Q F G f g =
@@ -32,40 +32,34 @@ same_facts P Q F G f g =
       makes = a.makes ∙ sym b.makes;
       spots = a.spots ∙ sym b.spots;
       words = f.names.words ∙ sym g.names.words;
-      news = both a.news b.news;
-      flows = both a.flows b.flows;
-      loads = both a.loads b.loads;
-      stores = both a.stores b.stores;
-      casts = both a.casts b.casts;
-      accesses = both a.accesses b.accesses;
-      supers = both a.supers b.supers;
-      ties = both a.ties b.ties;
-      vars = both f.names.vars g.names.vars;
+      news = both _ _ _ a.news b.news;
+      flows = both _ _ _ a.flows b.flows;
+      loads = both _ _ _ a.loads b.loads;
+      stores = both _ _ _ a.stores b.stores;
+      casts = both _ _ _ a.casts b.casts;
+      accesses = both _ _ _ a.accesses b.accesses;
+      supers = both _ _ _ a.supers b.supers;
+      ties = both _ _ _ a.ties b.ties;
+      vars = both _ _ _ f.names.vars g.names.vars;
     }
+
+some_none : {A : Type 0} (x : A) → Some x ≡ None → ⊥
+some_none x e = cc
+
+same_limit : (x y : TooMany) → Some x ≡ Some y → fault.TooMany x.what x.number ≡ fault.TooMany y.what y.number
+same_limit x y e = ap (λ t. fault.TooMany t.what t.number) (same_Some x y e)
 
 pub same_faults : (P Q : Plain) (e f : FactsFault) → IsRefused P Q e → IsRefused P Q f → e ≢ fault.Memory → f ≢ fault.Memory → e ≡ f
 same_faults P Q (fault.HasInterface x) (fault.HasInterface y) a b m n = cc
-same_faults P Q (fault.HasInterface x) (fault.TooMany k i) a b m n = absurd (apart (sym a ∙ b.0))
-  where
-    apart : Some x ≡ None → ⊥
-    apart e = cc
-same_faults P Q (fault.TooMany k i) (fault.HasInterface y) a b m n = absurd (apart (sym b ∙ a.0))
-  where
-    apart : Some y ≡ None → ⊥
-    apart e = cc
-same_faults P Q (fault.TooMany k i) (fault.TooMany l j) a b m n = let e = same_Some (sym a.1 ∙ b.1) in cc
+same_faults P Q (fault.HasInterface x) (fault.TooMany k i) a b m n = absurd (some_none _ (sym a ∙ b.0))
+same_faults P Q (fault.TooMany k i) (fault.HasInterface y) a b m n = absurd (some_none _ (sym b ∙ a.0))
+same_faults P Q (fault.TooMany k i) (fault.TooMany l j) a b m n = same_limit (record { what = k; number = i }) (record { what = l; number = j }) (sym a.1 ∙ b.1)
 same_faults P Q fault.Memory f a b m n = absurd (m refl)
 same_faults P Q (fault.HasInterface x) fault.Memory a b m n = absurd (n refl)
 same_faults P Q (fault.TooMany k i) fault.Memory a b m n = absurd (n refl)
 
 -- a program that has facts is refused for want of memory alone
 pub not_refused : (P Q : Plain) (e : FactsFault) → IsWithin P Q → IsRefused P Q e → e ≡ fault.Memory
-not_refused P Q (fault.HasInterface x) w r = absurd (apart (sym r ∙ w.interfaces))
-  where
-    apart : Some x ≡ None → ⊥
-    apart e = cc
-not_refused P Q (fault.TooMany k i) w r = absurd (apart (sym r.1 ∙ w.counts))
-  where
-    apart : Some (record { what = k; number = i }) ≡ None → ⊥
-    apart e = cc
+not_refused P Q (fault.HasInterface x) w r = absurd (some_none _ (sym r ∙ w.interfaces))
+not_refused P Q (fault.TooMany k i) w r = absurd (some_none _ (sym r.1 ∙ w.counts))
 not_refused P Q fault.Memory w r = refl

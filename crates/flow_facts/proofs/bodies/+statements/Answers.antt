@@ -1,6 +1,6 @@
-use Rattle.std.proofs.Common.{rules, arith, ◌≡◌, ◌++◌, length, sym, ap, ◌∙◌}
+use Rattle.std.proofs.Common.{arith, ◌++◌, length, sym, ap, ◌∙◌}
 use Rattle.std.proofs.lemmas.List.{append-nil}
-use Rattle.java_core.specs.Trees.{at_place, no_place, local, expr_of, stmt_of, stmts, else_seen, step_seen, value_of}
+use Rattle.java_core.specs.Trees.{at_place, no_place, expr_of, stmt_of, stmts, else_seen, step_seen, value_of}
 use Rattle.java_core.specs.Programs.{program_of, method_seen}
 use Rattle.java_core.proofs.Rows.{if_as, for_as}
 use Rattle.flow_facts.specs.Labels.{label_sts, size_sts}

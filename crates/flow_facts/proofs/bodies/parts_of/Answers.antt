@@ -1,5 +1,5 @@
 -- The parts begin with none.
-use Rattle.std.proofs.Common.{◌≡◌, ◌++◌, length, ap, ◌∙◌}
+use Rattle.std.proofs.Common.{◌++◌, length, ap, ◌∙◌}
 use Rattle.java_core.specs.Trees.{at_place, no_place, body_seen, stmts}
 use Rattle.java_core.specs.Programs.{program_of, method_seen}
 use Rattle.flow_facts.specs.Labels.{label_sts}

@@ -1,5 +1,5 @@
 use Rattle.std.proofs.Common.{length, ap, sym, ◌∙◌}
-use Rattle.java_core.specs.Trees.{at_place, no_place, to_own, to_element, target_of, expr_of}
+use Rattle.java_core.specs.Trees.{at_place, no_place, to_element, target_of, expr_of}
 use Rattle.java_core.specs.Programs.{program_of, method_seen}
 use Rattle.flow_facts.specs.Views.{parts_seen}
 use Rattle.flow_facts.proofs.Composed.{own_store, element_store}

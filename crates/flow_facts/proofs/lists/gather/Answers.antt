@@ -9,7 +9,7 @@ use Rattle.flow_facts.specs.declared.items.Body.{Body}
 use Rattle.flow_facts.specs.Numbered as numbered
 use Rattle.flow_facts.specs.Lists.{news_of, flows_of, loads_of, stores_of, calls_of, casts_of, tests_of, accesses_of, supers_of, ties_of}
 use Rattle.flow_facts.specs.Views.{body_seen}
-use Rattle.flow_facts.specs.Seen.{numbers_seen, calls_seen}
+use Rattle.flow_facts.specs.Seen.{numbers_seen}
 use Rattle.flow_facts.proofs.lists.gather.Goals as goal
 
 more : {A : Type 0} (f : numbered.Body → List A) (bs : List Body) (i : ℕ) (b : Body) (old new total : List A) → i < length bs → b ≡ get_or bs i b → old ++ flat_map f (map body_seen (drop i bs)) ≡ total
