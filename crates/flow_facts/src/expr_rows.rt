@@ -29,7 +29,8 @@ fn object_static(found: Static) -> Option<ObjectType>
 #[tactic(auto, unfolding(crate::specs::Operands::type_in))]
 pub fn type_of(program: &Program, method: &Method, e: &RExpr) -> Option<ObjectType>
     requires { IsFormed (program_of no_place program.now) }
-    ensures value { (tag : Place → Tag) (m : ℕ) → result ≡ type_in (program_of no_place program.now) m (method_seen no_place method.now) (expr_of tag e.now) }
+    ensures value { (tag : Place → Tag) (m : ℕ)
+        → result ≡ type_in (program_of no_place program.now) m (method_seen no_place method.now) (expr_of tag e.now) }
 {
     object_static(static_of(program, method, e))
 }
@@ -95,7 +96,9 @@ fn super_row(program: &Program, class: ClassId, name: &Name) -> Option<RowItem>
 #[tactic(auto, unfolding(crate::specs::Operands::type_in))]
 pub fn row_of(program: &Program, m: u64, method: &Method, e: &RExpr) -> Option<RowItem>
     requires { IsFormed (program_of no_place program.now) }
-    ensures value { (tag : Place → Tag) → result ≡ row_of (program_of no_place program.now) (type_in (program_of no_place program.now) m (method_seen no_place method.now)) m (method_seen no_place method.now) (expr_of tag e.now) }
+    ensures value { (tag : Place → Tag)
+        → result ≡ row_of (program_of no_place program.now) (type_in (program_of no_place program.now) m (method_seen no_place method.now))
+        m (method_seen no_place method.now) (expr_of tag e.now) }
 {
     match e {
         RExpr::This { .. } => Some(RowItem::This(m)),

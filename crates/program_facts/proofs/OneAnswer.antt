@@ -1,6 +1,6 @@
 -- A program has one answer: two that it may have are the same.
-use Rattle.std.proofs.Common.{◌≡◌, List, Option, Some, None, refl, sym, ap, ◌∙◌}
-use Rattle.std.specs.Prelude.{◌≢◌, Contains}
+use Rattle.std.proofs.Common.{◌≡◌, List, Some, None, refl, sym, ap, ◌∙◌}
+use Rattle.std.specs.Prelude.{◌≢◌}
 use Rattle.std.proofs.lemmas.Option.{same_Some}
 use Rattle.java_core.specs.Programs.{Plain}
 use Rattle.fact_model.specs.declared.facts.Facts.{Facts}
@@ -53,7 +53,8 @@ pub same_faults : (P Q : Plain) (e f : FactsFault) → IsRefused P Q e → IsRef
 same_faults P Q (fault.HasInterface x) (fault.HasInterface y) a b m n = cc
 same_faults P Q (fault.HasInterface x) (fault.TooMany k i) a b m n = absurd (some_none _ (sym a ∙ b.0))
 same_faults P Q (fault.TooMany k i) (fault.HasInterface y) a b m n = absurd (some_none _ (sym b ∙ a.0))
-same_faults P Q (fault.TooMany k i) (fault.TooMany l j) a b m n = same_limit (record { what = k; number = i }) (record { what = l; number = j }) (sym a.1 ∙ b.1)
+same_faults P Q (fault.TooMany k i) (fault.TooMany l j) a b m n =
+    same_limit (record { what = k; number = i }) (record { what = l; number = j }) (sym a.1 ∙ b.1)
 same_faults P Q fault.Memory f a b m n = absurd (m refl)
 same_faults P Q (fault.HasInterface x) fault.Memory a b m n = absurd (n refl)
 same_faults P Q (fault.TooMany k i) fault.Memory a b m n = absurd (n refl)

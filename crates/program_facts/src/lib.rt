@@ -54,6 +54,7 @@ pub fn facts(alloc: Global, program: &Checked) -> Result<Facts, FactsFault>
 /// may have are the same, so are two faults, and it has not both.
 pub fn one_answer()
     ensures facts { (P Q : Plain) (F G : Facts) → AreProgramFacts P Q F → AreProgramFacts P Q G → AreSame F G }
-    ensures faults { (P Q : Plain) (e f : FactsFault) → IsRefused P Q e → IsRefused P Q f → e ≢ FactsFault.Memory → f ≢ FactsFault.Memory → e ≡ f }
+    ensures faults { (P Q : Plain) (e f : FactsFault) → IsRefused P Q e → IsRefused P Q f
+        → e ≢ FactsFault.Memory → f ≢ FactsFault.Memory → e ≡ f }
     ensures apart { (P Q : Plain) (e : FactsFault) → IsWithin P Q → IsRefused P Q e → e ≡ FactsFault.Memory }
 {}

@@ -14,9 +14,11 @@ returns-then-are_numbered-clause-ok c =
     let formed = c.program-plain.ensures.formed in
     let typed = c.program-plain.ensures.typed in
     let few = c.are_numbered.ensures.0 c.if-are_numbered.true in
-    let is : IsFactsOf (program_of no_place p) (program_of at_place p) F = subst (λ q. IsFactsOf (program_of no_place q) (program_of at_place q) F) e c.in-Ok.ensures.ok in
+    let is : IsFactsOf (program_of no_place p) (program_of at_place p) F =
+    subst (λ q. IsFactsOf (program_of no_place q) (program_of at_place q) F) e c.in-Ok.ensures.ok in
     let named : AreNamesOf (program_of at_place p) F = subst (λ q. AreNamesOf (program_of at_place q) F) e c.in-Ok.ensures.names in
-    let within : IsWithin (program_of no_place p) (program_of at_place p) = subst (λ q. IsWithin (program_of no_place q) (program_of at_place q)) e c.in-Ok.ensures.within in
+    let within : IsWithin (program_of no_place p) (program_of at_place p) =
+    subst (λ q. IsWithin (program_of no_place q) (program_of at_place q)) e c.in-Ok.ensures.within in
     let covers = covering p F formed typed is in
     record {
       within = within;

@@ -7,4 +7,5 @@ use Rattle.flow_facts.proofs.names.has_static_method.Given as goal
 
 abbrev pub invariant-loop-method : goal.invariant-loop-method
 invariant-loop-method l =
-    list_any (λ k. k.is_static && (k.owner == l.class)) (map (method_seen at_place) (drop l.method-index l.program.methods.items)) ≡ list_any (λ k. k.is_static && (k.owner == l.class)) (map (method_seen at_place) l.program.methods.items)
+    list_any (λ k. k.is_static && (k.owner == l.class)) (map (method_seen at_place) (drop l.method-index l.program.methods.items))
+    ≡ list_any (λ k. k.is_static && (k.owner == l.class)) (map (method_seen at_place) l.program.methods.items)
