@@ -1,13 +1,9 @@
 -- The fields of objects in their places.
-use Rattle.std.proofs.Common.{◌≡◌, ℕ, zero, suc, ◌+◌, ◌<◌, List, [], ◌∷◌, ◌++◌, map, length, Some, refl, sym, ap, ◌∙◌, arith}
-use Rattle.std.specs.Prelude.{slice_get}
-use Rattle.std.specs.Option.{option_map, option_map_or}
+use Rattle.std.proofs.Common.{◌≡◌, ℕ, suc, List, [], ◌++◌, Some, sym, ap, ◌∙◌}
+use Rattle.std.specs.Option.{option_map_or}
 use Rattle.kaba_base.specs.declared.ClassId.{ClassId}
-use Rattle.java_core.specs.declared.Local.{Local}
-use Rattle.java_core.specs.Trees.{no_place}
-use Rattle.java_core.specs.Programs.{Plain, local_seen}
+use Rattle.java_core.specs.Programs.{Plain}
 use Rattle.java_core.specs.Classes.{parent_of}
-use Rattle.java_core.specs.Types.{types_of}
 use Rattle.java_meaning.specs.Languages.{layout_in, own_fields}
 
 layout_up : (P : Plain) (n c : ℕ) (p : ClassId) → parent_of P c ≡ Some p → layout_in P n p.0 ++ own_fields P c ≡ layout_in P (suc n) c
