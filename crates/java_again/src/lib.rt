@@ -3,7 +3,7 @@
 
 ghost use Rattle.std.specs.Prelude.{◌<◌, length, vec_len, IfOk, IfSome, IfNone};
 ghost use Rattle.java_tree.specs.Syntax.{tree_of};
-ghost use Rattle.java_again.specs.Again.{IsSameProgram, HasNoTree};
+ghost use Rattle.java_again.specs.Again.{IsSameProgram, IsWrittenAgain, HasNoTree, OneText, TextsApart};
 
 use java_lex::{LexFault, lex};
 use java_parse::{ParseFault, parse};
@@ -11,12 +11,13 @@ use java_print::print;
 use std::alloc::{AllocError, Global};
 
 /// The program of the text, written again; `None` only where the text has no tokens, no tree, or
-/// nests too deep. What is written is read as the same tree, places aside. `AllocError` comes where
-/// memory is short.
+/// nests too deep. What is written is in the project's layout, and is read as the same tree, places
+/// aside. `AllocError` comes where memory is short.
 #[tactic(auto, using(crate::proofs::Given::given, crate::proofs::Given::no_tokens, crate::proofs::Given::too_deep))]
 pub fn again(alloc: Global, text: &Vec<u8>) -> Result<Option<Vec<u8>>, AllocError>
     requires small { vec_len text.now < 4294967295 }
     ensures same { IfOk result (λ written. IfSome written (λ v. IsSameProgram text.now.items v.items)) }
+    ensures layout { IfOk result (λ written. IfSome written (λ v. IsWrittenAgain text.now.items v.items)) }
     ensures none { IfOk result (λ written. IfNone written (HasNoTree text.now.items)) }
 {
     let tokens = match lex(alloc, text) {
@@ -38,5 +39,9 @@ pub fn again(alloc: Global, text: &Vec<u8>) -> Result<Option<Vec<u8>>, AllocErro
     Ok(Some(written))
 }
 
-#[cfg(test)]
-mod tests;
+/// The contract of `again` has one result: a text is written again in one way. And programs that
+/// differ in more than places are written as different texts.
+pub fn one_text()
+    ensures text { OneText }
+    ensures apart { TextsApart }
+{}

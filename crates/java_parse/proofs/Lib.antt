@@ -17,3 +17,4 @@ pub mod Deep
 pub mod Finals
 pub mod Printing
 pub mod Parsed
+pub mod Fixed

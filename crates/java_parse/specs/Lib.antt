@@ -8,3 +8,4 @@ pub mod Seen
 pub mod Prints
 pub mod Stacks
 pub mod Faults
+pub mod OneAnswer

@@ -1,14 +1,13 @@
 //! The parser: from tokens to the tree that the grammar gives them.
 #![tactic(auto)]
 
-ghost use Rattle.std.specs.Prelude.{◌≡◌, ◌<◌, ◌≤◌, ◌*◌, ℕ, List, length, IfOk, IfErr, IsErrAnd};
-ghost use Rattle.java_lex.specs.declared.Token.{Token};
+ghost use Rattle.std.specs.Prelude.{◌<◌, ◌≤◌, ◌*◌, ℕ, List, length, IfOk, IfErr, IsErrAnd};
 ghost use Rattle.java_tree.specs.Syntax.{DeclTree, tree_of};
-ghost use Rattle.java_tree.specs.Places.{unplaced};
 ghost use Rattle.java_tree.specs.Size.{tree_size};
 ghost use Rattle.java_tree.specs.Declarations.{IsPlaced, Derives};
 ghost use Rattle.java_tree.specs.Nesting.{nesting_of, IsTooDeep};
 ghost use Rattle.java_parse.specs.Faults.{IsCause, IsDeepAt, IsRefusal, IsShort};
+ghost use Rattle.java_parse.specs.OneAnswer.{OneTree, OneAnswer};
 
 mod acts;
 mod decl;
@@ -110,7 +109,10 @@ pub fn parse(alloc: Global, tokens: &Vec<Token>) -> Result<Tree, ParseFault>
     }
 }
 
-/// A list of tokens has at most one tree, places aside.
+/// The contract of `parse` has one result. A list of tokens has at most one tree, places aside. Two
+/// answers that meet the clauses `found`, `nested` and `refused` are the same tree with the same
+/// places or the same fault, want of memory and the number of `NotAProgram` aside.
 pub fn one_tree()
-    ensures value { (tokens : List Token) (a b : List DeclTree) → Derives tokens a → Derives tokens b → unplaced a ≡ unplaced b }
+    ensures tree { OneTree }
+    ensures answer { OneAnswer }
 {}

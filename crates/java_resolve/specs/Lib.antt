@@ -13,3 +13,4 @@ pub mod Asked
 pub mod Resolves
 pub mod Conditions
 pub mod Causes
+pub mod Unique

@@ -19,6 +19,7 @@ ghost use Rattle.std.specs.Bool.{OnTrue};
 ghost use Rattle.java_print.specs.Formed.{IsFormedTree};
 ghost use Rattle.java_core.specs.Formed.{AreCounted, IsFormed};
 ghost use Rattle.java_resolve.specs.Resolves.{Resolves};
+ghost use Rattle.java_resolve.specs.Unique.{OneProgram};
 ghost use Rattle.java_resolve.specs.Causes.{IsCause, HasNoCondition};
 ghost use Rattle.java_core.specs.Programs.{Plain, program_of, class_seen};
 ghost use Rattle.java_core.specs.declared.Program.{Program};
@@ -185,3 +186,8 @@ pub fn resolve(alloc: Global, tree: &Tree) -> Result<Program, Refusal>
         Err(refusal) => Err(refusal),
     }
 }
+
+/// The contract of `resolve` has one program: two that meet its clauses for a tree are equal.
+pub fn one_program()
+    ensures value { OneProgram }
+{}
