@@ -60,7 +60,7 @@ STATEMENTS = [
     ("an else without an if", BOTH, ["else { }", "while (false) { } else { }"]),
     ("a number that is too large", BOTH, ["int bad = 2147483648;", "int bad = 4294967296;"]),
     ("an open string", BOTH, ['String bad = "x;']),
-    ("a local without a value", JAVA, ["int bad; System.out.println(bad);", "NAMEOther bad; bad.part = 1;", "int bad; if (true == false) { bad = 1; } int x = bad;"]),
+    ("a local without a value", JAVA, ["int bad; System.out.println(bad);", "NAMEOther bad; bad.part = 1;", "int bad; if (1 > 2) { bad = 1; } int x = bad;"]),
     ("a final local stored again", JAVA, ["final int bad = 1; bad = 2;", "final NAMEOther bad = null; bad = new NAMEOther();"]),
     ("unreachable code", JAVA, ["while (true) { } int bad = 1;", "for (;;) { } System.out.println();", "while (true) { break; int bad = 1; }"]),
     ("a loop that is never entered", JAVA, ["while (false) { int bad = 1; }", "for (; false; ) { int bad = 1; }"]),
