@@ -2,4 +2,10 @@ pub mod AnyLemmas
 pub mod LowestLemmas
 pub mod OrderedLemmas
 pub mod MergedLemmas
+pub mod FitLemmas
+pub mod Pushed
+pub mod SetTests
+pub mod StartLemmas
+pub mod BeginLemmas
+pub mod NameLemmas
 pub mod Worked

@@ -9,6 +9,12 @@ use Rattle.fact_model.specs.Classes.{below, IsBelow, IsAcyclic}
 use Rattle.fact_model.specs.declared.facts.Facts.{Facts}
 use Rattle.fact_model.proofs.ClassLemmas.{below-exact, below-both}
 use Rattle.hier_model.specs.Start.{is_below_all, lowest}
+use Rattle.hier_model.specs.Edits.{all_there}
+use Rattle.hier_model.proofs.MergedLemmas.{cases_Option}
+use Rattle.std.specs.Option.{option_map}
+use Rattle.std.specs.Prelude.{All, IfSome}
+use Rattle.std.proofs.lemmas.Option.{same_Some}
+use Rattle.std.proofs.lemmas.List.Elements.{All-cons}
 
 module _ {X : Type 0} (p : X → Bool) where
   head : (x y : X) (ys : List X) → Contains (y ∷ ys) x → (x ≢ y) → Contains ys x
@@ -73,3 +79,17 @@ module _ (F : Facts) (acyclic : IsAcyclic F) (cs : List ClassId) where
   lowest_none low only h =
       first_that_none (is_below_all F cs) cs
       (λ k c. ⊎_elim (λ t. absurd (false≢true (sym h ∙ ap (is_below_all F cs) (only k c t) ∙ t))) (λ f. f) (cases_Bool (is_below_all F cs k)))
+
+-- the classes that are there are all within a property that each is within
+pub all_there_all : (P : ClassId → Type 0) (os : List (Option ClassId)) (ks : List ClassId) → all_there os ≡ Some ks → ((i : ℕ) (d : Option ClassId) → i < length os → IfSome (get_or os i d) P) → All P ks
+all_there_all P [] ks e all = subst (All P) (same_Some [] ks e) (λ i d lt. absurd (omega (arith, lt)))
+all_there_all P (None ∷ os) ks e all = absurd (cc e)
+all_there_all P (Some k ∷ os) ks e all =
+    ⊎_elim
+    (λ none. absurd (cc (sym (ap (λ o. option_map (λ xs. k ∷ xs) o) none) ∙ e)))
+    (λ some.
+    let rest : All P some.0 = all_there_all P os some.0 some.1 (λ i d lt. all (suc i) d (omega (arith, lt))) in
+    let here : P k = all 0 None (omega arith) in
+    let whole : Some (k ∷ some.0) ≡ Some ks = sym (ap (λ o. option_map (λ xs. k ∷ xs) o) some.1) ∙ e in
+    subst (All P) (same_Some (k ∷ some.0) ks whole) (All-cons P k some.0 here rest))
+    (cases_Option (all_there os))

@@ -82,6 +82,11 @@ module _ (o : Ordered) (set : List NodeId) (p : IsPartialOrder o) where
       })))
       (cases_Option (first_between o set))
 
+  pub none_between : first_between o set ≡ None → (x : ℕ) → IsBetween o set x → ⊥
+  none_between none x b =
+      let e = first_below_None between (length o.live) x none (between_below x b) in
+      let z : Some (node x) ≡ None = sym (when_true (not (is_among set x) && is_above_some o set x && is_below_some o set x) (node x) (is_between x b)) ∙ e in absurd (cc z)
+
 -- whether p is strictly below n
 pub strictly_true : (o : Ordered) (p n : ℕ) → IsStrictlyBelow o p n → (is_le o p n && not (p == n)) ≡ true
 strictly_true o p n h = and_from (is_le o p n) (not (p == n)) h.0 (⊎_elim (λ t. absurd (h.1 (eqb-true p n t))) (λ f. ap not f) (cases_Bool (p == n)))
@@ -94,13 +99,11 @@ strictly_false o p n none =
     (cases_Bool (is_le o p n && not (p == n)))
 
 -- what a merge of a copy has made
-pub merged_is : (o old new : Ordered) (set : List NodeId) → IsPartialOrder o → old ≡ o → All (λ s. is_live o s.0 ≡ true) set → (m : ℕ) → IsLeastOf set m → IsLeastMerged old set m new → IsMerged old set m new → new ≡ merged_order o set (least_of o set)
-merged_is o old new set p e all m l least pairs =
-    let low = least_is o set p all m l in
+pub merged_is : (o old new : Ordered) (set : List NodeId) → old ≡ o → (m : ℕ) → IsLeastMerged old set m new → IsMerged old set m new → new ≡ merged_order o set m
+merged_is o old new set e m least pairs =
     let least_o = subst (λ x. IsLeastMerged x set m new) e least in
     let pairs_o = subst (λ x. IsMerged x set m new) e pairs in
-    subst (λ k. new ≡ merged_order o set k) (sym low)
-    (made_order o (λ a. is_live o a && stays set m a) (λ a b. (is_le o a b || (is_below_some o set a && is_above_some o set b)) && stays set m a && stays set m b) new least_o.order least_o.count least_o.live pairs_o)
+    made_order o (λ a. is_live o a && stays set m a) (λ a b. (is_le o a b || (is_below_some o set a && is_above_some o set b)) && stays set m a && stays set m b) new least_o.order least_o.count least_o.live pairs_o
 
 pub merged_none : (o old : Ordered) (set : List NodeId) (m : NodeId) → IsPartialOrder o → old ≡ o → ((x : NodeId) → (◌≡◌ {A = Result NodeId OrderFault} (Ok m) (Err (fault.Cycle x)) ↔ IsFirstBetween old set x.0)) → first_between o set ≡ None
 merged_none o old set m p e cycle = between_none o set p (λ x f. let h = (cycle x).1 (subst (λ y. IsFirstBetween y set x.0) (sym e) f) in absurd (cc h))

@@ -11,8 +11,8 @@ use Rattle.kaba_order.specs.Orders.{Ordered, is_le, is_live, IsPartialOrder}
 use Rattle.hier_model.specs.Edits.{ordered_by}
 
 module _ (o : Ordered) (live : ℕ → Bool) (le : ℕ → ℕ → Bool) where
-  count : length (ordered_by o live le).live ≡ length o.live
-  count = length-map-range_with_len live 0 (length o.live)
+  pub made_count : length (ordered_by o live le).live ≡ length o.live
+  made_count = length-map-range_with_len live 0 (length o.live)
 
   live_at : (a : ℕ) → a < length o.live → is_live (ordered_by o live le) a ≡ live a
   live_at a lt = get_or-map-range_with_len live 0 (length o.live) a a false lt (omega arith)
@@ -32,7 +32,7 @@ module _ (o : Ordered) (live : ℕ → Bool) (le : ℕ → ℕ → Bool) where
   -- an order with these pairs is that one
   pub made_order : (new : Ordered) → IsPartialOrder new → length new.live ≡ length o.live → ((a : ℕ) → is_live new a ≡ live a) → ((a b : ℕ) → is_le new a b ≡ le a b) → new ≡ ordered_by o live le
   made_order new p n lives les =
-      let l : new.live ≡ (ordered_by o live le).live = same_bits new.live (ordered_by o live le).live (n ∙ sym count) (λ i lt. lives i ∙ sym (live_at i (omega (arith, lt, n)))) in
+      let l : new.live ≡ (ordered_by o live le).live = same_bits new.live (ordered_by o live le).live (n ∙ sym made_count) (λ i lt. lives i ∙ sym (live_at i (omega (arith, lt, n)))) in
       let r : new.le ≡ (ordered_by o live le).le =
           ext_get_or [] new.le (ordered_by o live le).le (p.count ∙ n ∙ sym rows)
           (λ k lt.
@@ -51,7 +51,7 @@ module _ (o : Ordered) (live : ℕ → Bool) (le : ℕ → ℕ → Bool) where
     made_live a =
         ⊎_elim (live_at a)
         (λ past.
-        let past_live : is_live (ordered_by o live le) a ≡ false = get_or-eq_default (ordered_by o live le).live false {n = a} (omega (arith, past, count)) in
+        let past_live : is_live (ordered_by o live le) a ≡ false = get_or-eq_default (ordered_by o live le).live false {n = a} (omega (arith, past, made_count)) in
         past_live ∙ sym (none_false (live a) (λ t. let lt = live_below a t in absurd (omega (arith, lt, past)))))
         (cases_lt a (length o.live))
 
@@ -69,10 +69,7 @@ module _ (o : Ordered) (live : ℕ → Bool) (le : ℕ → ℕ → Bool) where
         (cases_lt a (length o.live))
 
     pub made_widths : HasWidth (length (ordered_by o live le).live) (ordered_by o live le).le
-    made_widths k lt = row_width k (omega (arith, lt, rows)) ∙ sym count
+    made_widths k lt = row_width k (omega (arith, lt, rows)) ∙ sym made_count
 
     pub made_rows : length (ordered_by o live le).le ≡ length (ordered_by o live le).live
-    made_rows = rows ∙ sym count
-
-    pub made_count : length (ordered_by o live le).live ≡ length o.live
-    made_count = count
+    made_rows = rows ∙ sym made_count

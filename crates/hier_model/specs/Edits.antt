@@ -62,16 +62,18 @@ merged_origin F origins = option_and_then (lowest F) (all_there origins)
 abbrev pub merged_node : List NodeId → ℕ → NodeId → NodeId
 merged_node set m n = node (merged_to set m n.0)
 
--- one node of those of a list: the least of them and its name, with all columns and rows
+-- one node m of those of a list, with all columns and rows
+abbrev pub merged_as : Facts → Hierarchy → List NodeId → ℕ → Hierarchy
+merged_as F H set m = record H {
+  order = merged_order H.order set m;
+  columns = map (option_map (merged_node set m)) H.columns;
+  rows = map (merged_node set m) H.rows;
+  origins = slice_set H.origins m (merged_origin F (map (λ n. origin_of H n.0) set));
+}
+
+-- the same with the least of them, and its name
 abbrev pub merged : Facts → Hierarchy → List NodeId → Hierarchy
-merged F H set =
-    let m = least_of H.order set in
-    record H {
-      order = merged_order H.order set m;
-      columns = map (option_map (merged_node set m)) H.columns;
-      rows = map (merged_node set m) H.rows;
-      origins = slice_set H.origins m (merged_origin F (map (λ n. origin_of H n.0) set));
-    }
+merged F H set = merged_as F H set (least_of H.order set)
 
 -- whether there is a column, and it is the one given
 abbrev pub is_column : ColId → Option ColId → Bool
@@ -79,14 +81,14 @@ is_column c None = false
 is_column c (Some d) = d.0 == c.0
 
 -- where a row stands after a column was moved to n: there too, if it is `this` of that body
-abbrev pub moved_row : Facts → Hierarchy → ColId → NodeId → ℕ → NodeId
-moved_row F H c n r = if is_column c (row_this F r) then n else slice_index_or H.rows r (node 0)
+abbrev pub moved_row : Facts → List NodeId → ColId → NodeId → ℕ → NodeId
+moved_row F rows c n r = if is_column c (row_this F r) then n else slice_index_or rows r (node 0)
 
 -- a column at another node, and with a body its `this`
 abbrev pub moved : Facts → Hierarchy → ColId → NodeId → Hierarchy
 moved F H c n = record H {
   columns = slice_set H.columns c.0 (Some n);
-  rows = map (moved_row F H c n) (range_with_len 0 (length H.rows));
+  rows = map (moved_row F H.rows c n) (range_with_len 0 (length H.rows));
 }
 
 -- whether two slots are there and the same
@@ -95,14 +97,18 @@ is_one_slot None y = false
 is_one_slot (Some x) None = false
 is_one_slot (Some x) (Some y) = x == y
 
+-- whether a column is the member c, or of its slot
+abbrev pub is_renamed : Facts → ColId → ℕ → Bool
+is_renamed F c d = (d == c.0) || is_one_slot (column_slot F c.0) (column_slot F d)
+
 -- the name of a column after the member c got a name: that name for c, and for each column of its slot
-abbrev pub renamed_member : Facts → Hierarchy → ColId → List ℕ → ℕ → List ℕ
-renamed_member F H c name d = if (d == c.0) || is_one_slot (column_slot F c.0) (column_slot F d) then name else slice_index_or H.members d []
+abbrev pub renamed_member : Facts → List (List ℕ) → ColId → List ℕ → ℕ → List ℕ
+renamed_member F members c name d = if is_renamed F c d then name else slice_index_or members d []
 
 -- a member under another name; a method with its whole slot
 abbrev pub renamed : Facts → Hierarchy → ColId → List ℕ → Hierarchy
 renamed F H c name = record H {
-  members = map (renamed_member F H c name) (range_with_len 0 (length H.members));
+  members = map (renamed_member F H.members c name) (range_with_len 0 (length H.members));
 }
 
 -- the first of some nodes that is not live

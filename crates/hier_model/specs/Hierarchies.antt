@@ -106,9 +106,16 @@ pub record ArePlaced (F : Facts) (H : Hierarchy) : Type 0 where
   pub rows : (r : ℕ) → r < length F.rows.items → is_live H.order (place_of_row H r) ≡ true
   pub these : (r : ℕ) (d : ColId) → row_this F r ≡ Some d → place_of_column H d.0 ≡ Some (node (place_of_row H r))
 
+-- a column of a method: its declaration or its body
+abbrev pub is_method : ColKind → Bool
+is_method Dcl = true
+is_method Def = true
+is_method Fld = false
+is_method Is = false
+
 -- all columns of one slot have one name
 abbrev pub SlotsHaveOneName : Facts → Hierarchy → Type 0
-SlotsHaveOneName F H = (c d x : ℕ) → column_slot F c ≡ Some x → column_slot F d ≡ Some x → member_name H c ≡ member_name H d
+SlotsHaveOneName F H = (c d x : ℕ) → is_method (column_kind F c) ≡ true → is_method (column_kind F d) ≡ true → column_slot F c ≡ Some x → column_slot F d ≡ Some x → member_name H c ≡ member_name H d
 
 -- the table is the closed one of the facts
 pub record KeepsTable (F : Facts) (table : List (List Bool)) : Type 0 where

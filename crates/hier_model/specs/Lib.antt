@@ -1,4 +1,6 @@
 pub mod Hierarchies
 pub mod Names
+pub mod Taken
 pub mod Start
+pub mod Listed
 pub mod Edits

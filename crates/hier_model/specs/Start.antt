@@ -66,23 +66,24 @@ abbrev pub owners : Facts → List Bool → List ClassId
 owners F columns = filter (λ k. not (is_interface F k.0)) (map (λ c. (column_at F c).class) (rising columns))
 
 -- the origin of a node: the lowest class of the columns of its intent, or else Object
-abbrev pub start_origin : Facts → Pair → Option ClassId
-start_origin F concept = Some (unwrap_or (lowest F (owners F concept.1)) (record { 0 = 0 }))
+abbrev pub start_origin : Facts → List Bool → Option ClassId
+start_origin F intent = Some (unwrap_or (lowest F (owners F intent)) (record { 0 = 0 }))
 
 abbrev pub origins_of : Facts → List Pair → List (Option ClassId)
-origins_of F concepts = map (start_origin F) concepts
+origins_of F concepts = map (λ k. start_origin F k.1) concepts
 
 -- the hierarchy of a table and its concepts
 abbrev pub start_of : Facts → List (List Bool) → List Pair → Hierarchy
 start_of F T concepts =
     let members = member_names F (length F.columns.items) in
+    let origins = origins_of F concepts in
     record {
       order = order_of concepts;
       columns = map (column_place T concepts) (range_with_len 0 (length F.columns.items));
       rows = map (row_place concepts) T;
-      types = type_names F members (origins_of F concepts) (length concepts);
+      types = type_names F members origins (length origins);
       members = members;
-      origins = origins_of F concepts;
+      origins = origins;
       table = T;
     }
 

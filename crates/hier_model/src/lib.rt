@@ -15,13 +15,19 @@ use kaba_order::Order;
 use std::alloc::{AllocError, Global};
 use std::marker::Model;
 
+mod begin;
+mod changes;
 mod edits;
 mod items;
+mod moves;
+mod names;
 mod orders;
 mod origins;
 
+
 pub use edits::{ChangeFault, Edit};
 pub use items::{column_at, site_at, this_of};
+pub use begin::start;
 use items::is_of_class;
 
 /// A class hierarchy: nodes in a partial order, the node where each row and each live column stands, the

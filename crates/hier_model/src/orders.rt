@@ -40,7 +40,8 @@ pub fn merged_order(
     requires some { 0 < length set.now.items }
     requires live { All (λ s. is_live order.now s.0 ≡ true) set.now.items }
     ensures node { IfOk result (λ m. m.node.0 ≡ least_of order.now set.now.items) }
-    ensures order { IfOk result (λ m. m.order ≡ merged_order order.now set.now.items (least_of order.now set.now.items)) }
+    ensures live { IfOk result (λ m. is_live order.now m.node.0 ≡ true) }
+    ensures order { IfOk result (λ m. m.order ≡ merged_order order.now set.now.items m.node.0) }
     ensures none { IfOk result (λ _. first_between order.now set.now.items ≡ None) }
     ensures fault { IfErr result (λ e. (e ≡ Memory) ⊎ ((x : NodeId) × (e ≡ Cycle x) × (first_between order.now set.now.items ≡ Some x))) }
 {

@@ -1,0 +1,13 @@
+-- The names that a table of texts holds.
+use Rattle.std.specs.Prelude.{◌≡◌, ℕ, List, map, String, string_bytes}
+use Rattle.std.specs.Str.{chars}
+use Rattle.std.specs.declared.alloc.Global.{Global}
+use Rattle.hier_model.specs.Names.{is_taken}
+
+-- texts, as names
+abbrev pub texts : List (String Global) → List (List ℕ)
+texts keys = map (λ s. chars (string_bytes s)) keys
+
+-- two lists have the same names
+abbrev pub AreSame : List (List ℕ) → List (List ℕ) → Type 0
+AreSame t s = (x : List ℕ) → is_taken t x ≡ is_taken s x

@@ -1,0 +1,298 @@
+//! What an edit makes of a hierarchy.
+
+ghost use Rattle.std.specs.Prelude.{◌≡◌, ◌<◌, ◌&&◌, ◌⊎◌, not, true, length, IfOk, All, Err};
+ghost use Rattle.std.specs.Bool.{OnTrue};
+ghost use Rattle.kaba_order.specs.Orders.{is_live};
+ghost use Rattle.fact_model.specs.InRange.{InRange, IsCol};
+ghost use Rattle.fact_model.specs.Items.{column_kind};
+ghost use Rattle.hier_model.specs.Hierarchies.{IsHierarchyOf};
+ghost use Rattle.hier_model.specs.Edits.{changed, merged_as, moved, merged_order, is_placed, is_used, is_mark, NamesSome};
+
+use crate::moves::{
+    copy_names, has_column, has_row, is_mark, merged_columns, merged_rows, moved_rows,
+    renamed_members,
+};
+use crate::orders::{Merged, dropped_order, first_unknown, merged_order, under_order};
+use crate::origins::merged_origins;
+use crate::{ChangeFault, Edit, Hier, column_at};
+use fact_model::Facts;
+use kaba_base::{ColId, Name, NodeId};
+use kaba_bits::copy_rows;
+use kaba_order::Order;
+use std::alloc::{AllocError, Global};
+
+impl Hier {
+    /// What an edit makes of the hierarchy, before its obligations are asked. The nodes and columns of the
+    /// edit are looked at in the order of its words: `UnknownNode` and `UnknownMember` come exactly where one
+    /// is not there, and hold the first; then `NotEmpty` exactly where a node to drop has a column or a row,
+    /// and `Cycle` exactly where the nodes would no longer be ordered. `Memory` comes where memory is short.
+    /// The time is in proportion to the square of the number of nodes.
+    pub fn changed(&self, alloc: Global, facts: &Facts, edit: &Edit) -> Result<Hier, ChangeFault>
+        requires range { InRange facts.now }
+        requires hierarchy { IsHierarchyOf facts.now self.now }
+        requires some { NamesSome edit.now }
+        ensures value { (result ≡ Err ChangeFault.Memory) ⊎ (result ≡ changed facts.now self.now edit.now) }
+        ensures fits { IfOk result (IsHierarchyOf facts.now) }
+    {
+        match edit {
+            Edit::Merge(set) => self.merge(alloc, facts, set),
+            Edit::Under(n, p) => self.put_under(alloc, facts, *n, *p),
+            Edit::Move(c, n) => self.move_column(alloc, facts, *c, *n),
+            Edit::TypeName(n, name) => self.name_type(alloc, facts, *n, name),
+            Edit::MemberName(c, name) => self.name_member(alloc, facts, *c, name),
+            Edit::Drop(n) => self.drop_node(alloc, facts, *n),
+        }
+    }
+
+    /// One node of those of a list.
+    fn merge(&self, alloc: Global, facts: &Facts, set: &Vec<NodeId>) -> Result<Hier, ChangeFault>
+        requires range { InRange facts.now }
+        requires hierarchy { IsHierarchyOf facts.now self.now }
+        requires some { 0 < length set.now.items }
+        ensures { (result ≡ Err ChangeFault.Memory) ⊎ (result ≡ changed facts.now self.now (Edit.Merge set.now)) }
+    {
+        if let Some(n) = first_unknown(&self.order, set) {
+            return Err(ChangeFault::UnknownNode(n));
+        }
+        let made = merged_order(alloc, &self.order, set)?;
+        let hier = self.merged(alloc, facts, set, made)?;
+        Ok(hier)
+    }
+
+    /// The hierarchy in which the nodes of a list are one, in an order where they are.
+    fn merged(
+        &self,
+        alloc: Global,
+        facts: &Facts,
+        set: &[NodeId],
+        made: Merged,
+    ) -> Result<Hier, AllocError>
+        requires range { InRange facts.now }
+        requires hierarchy { IsHierarchyOf facts.now self.now }
+        requires live { All (λ s. is_live self.now.order s.0 ≡ true) set.now }
+        requires node_live { is_live self.now.order made.node.0 ≡ true }
+        requires order { made.order ≡ merged_order self.now.order set.now made.node.0 }
+        ensures { IfOk result (λ h. h ≡ merged_as facts.now self.now set.now made.node.0) }
+    {
+        let least = made.node;
+        let columns = merged_columns(alloc, &self.columns, set, least)?;
+        let rows = merged_rows(alloc, &self.rows, set, least)?;
+        let types = copy_names(alloc, &self.types)?;
+        let members = copy_names(alloc, &self.members)?;
+        let origins = merged_origins(alloc, facts, &self.origins, set, least)?;
+        let table = copy_rows(alloc, &self.table)?;
+        Ok(Hier {
+            order: made.order,
+            columns,
+            rows,
+            types,
+            members,
+            origins,
+            table,
+        })
+    }
+
+    /// One node below another.
+    fn put_under(
+        &self,
+        alloc: Global,
+        facts: &Facts,
+        n: NodeId,
+        p: NodeId,
+    ) -> Result<Hier, ChangeFault>
+        requires hierarchy { IsHierarchyOf facts.now self.now }
+        ensures { (result ≡ Err ChangeFault.Memory) ⊎ (result ≡ changed facts.now self.now (Edit.Under n p)) }
+    {
+        if !self.order.is_live(n) {
+            return Err(ChangeFault::UnknownNode(n));
+        }
+        if !self.order.is_live(p) {
+            return Err(ChangeFault::UnknownNode(p));
+        }
+        let order = under_order(alloc, &self.order, n, p)?;
+        let hier = self.with_order(alloc, order)?;
+        Ok(hier)
+    }
+
+    /// The hierarchy in another order.
+    fn with_order(&self, alloc: Global, order: Order) -> Result<Hier, AllocError>
+        ensures { IfOk result (λ h. h ≡ record self.now { order = order }) }
+    {
+        let columns = self.columns.as_slice().to_vec(alloc)?;
+        let rows = self.rows.as_slice().to_vec(alloc)?;
+        let types = copy_names(alloc, &self.types)?;
+        let members = copy_names(alloc, &self.members)?;
+        let origins = self.origins.as_slice().to_vec(alloc)?;
+        let table = copy_rows(alloc, &self.table)?;
+        Ok(Hier {
+            order,
+            columns,
+            rows,
+            types,
+            members,
+            origins,
+            table,
+        })
+    }
+
+    /// A column at another node.
+    fn move_column(
+        &self,
+        alloc: Global,
+        facts: &Facts,
+        c: ColId,
+        n: NodeId,
+    ) -> Result<Hier, ChangeFault>
+        requires range { InRange facts.now }
+        requires hierarchy { IsHierarchyOf facts.now self.now }
+        ensures { (result ≡ Err ChangeFault.Memory) ⊎ (result ≡ changed facts.now self.now (Edit.Move c n)) }
+    {
+        if !self.is_placed(c) {
+            return Err(ChangeFault::UnknownMember(c));
+        }
+        if !self.order.is_live(n) {
+            return Err(ChangeFault::UnknownNode(n));
+        }
+        let hier = self.moved(alloc, facts, c, n)?;
+        Ok(hier)
+    }
+
+    /// The hierarchy with a column at another node.
+    fn moved(
+        &self,
+        alloc: Global,
+        facts: &Facts,
+        c: ColId,
+        n: NodeId,
+    ) -> Result<Hier, AllocError>
+        requires range { InRange facts.now }
+        requires hierarchy { IsHierarchyOf facts.now self.now }
+        requires column { c.0 < length self.now.columns }
+        ensures { IfOk result (λ h. h ≡ moved facts.now self.now c n) }
+    {
+        let mut columns = self.columns.as_slice().to_vec(alloc)?;
+        columns[c.0 as usize] = Some(n);
+        let rows = moved_rows(alloc, facts, &self.rows, c, n)?;
+        let types = copy_names(alloc, &self.types)?;
+        let members = copy_names(alloc, &self.members)?;
+        let origins = self.origins.as_slice().to_vec(alloc)?;
+        let order = self.order.copy(alloc)?;
+        let table = copy_rows(alloc, &self.table)?;
+        Ok(Hier {
+            order,
+            columns,
+            rows,
+            types,
+            members,
+            origins,
+            table,
+        })
+    }
+
+    /// A type under another name.
+    fn name_type(
+        &self,
+        alloc: Global,
+        facts: &Facts,
+        n: NodeId,
+        name: &Name,
+    ) -> Result<Hier, ChangeFault>
+        requires hierarchy { IsHierarchyOf facts.now self.now }
+        ensures { (result ≡ Err ChangeFault.Memory) ⊎ (result ≡ changed facts.now self.now (Edit.TypeName n name.now)) }
+    {
+        if !self.order.is_live(n) {
+            return Err(ChangeFault::UnknownNode(n));
+        }
+        let mut types = copy_names(alloc, &self.types)?;
+        types[n.0 as usize] = name.copy(alloc)?;
+        let members = copy_names(alloc, &self.members)?;
+        let hier = self.with_names(alloc, types, members)?;
+        Ok(hier)
+    }
+
+    /// The hierarchy with other names.
+    fn with_names(
+        &self,
+        alloc: Global,
+        types: Vec<Name>,
+        members: Vec<Name>,
+    ) -> Result<Hier, AllocError>
+        ensures { IfOk result (λ h. h ≡ record self.now { types = types.items; members = members.items }) }
+    {
+        let columns = self.columns.as_slice().to_vec(alloc)?;
+        let rows = self.rows.as_slice().to_vec(alloc)?;
+        let origins = self.origins.as_slice().to_vec(alloc)?;
+        let order = self.order.copy(alloc)?;
+        let table = copy_rows(alloc, &self.table)?;
+        Ok(Hier {
+            order,
+            columns,
+            rows,
+            types,
+            members,
+            origins,
+            table,
+        })
+    }
+
+    /// A member under another name.
+    fn name_member(
+        &self,
+        alloc: Global,
+        facts: &Facts,
+        c: ColId,
+        name: &Name,
+    ) -> Result<Hier, ChangeFault>
+        requires range { InRange facts.now }
+        requires hierarchy { IsHierarchyOf facts.now self.now }
+        ensures { (result ≡ Err ChangeFault.Memory) ⊎ (result ≡ changed facts.now self.now (Edit.MemberName c name.now)) }
+    {
+        if !self.is_member(facts, c) {
+            return Err(ChangeFault::UnknownMember(c));
+        }
+        let types = copy_names(alloc, &self.types)?;
+        let members = renamed_members(alloc, facts, &self.members, c, name)?;
+        let hier = self.with_names(alloc, types, members)?;
+        Ok(hier)
+    }
+
+    /// Without a node where nothing stands.
+    fn drop_node(&self, alloc: Global, facts: &Facts, n: NodeId) -> Result<Hier, ChangeFault>
+        requires hierarchy { IsHierarchyOf facts.now self.now }
+        ensures { (result ≡ Err ChangeFault.Memory) ⊎ (result ≡ changed facts.now self.now (Edit.Drop n)) }
+    {
+        if !self.order.is_live(n) {
+            return Err(ChangeFault::UnknownNode(n));
+        }
+        if self.is_used(n) {
+            return Err(ChangeFault::NotEmpty(n));
+        }
+        let order = dropped_order(alloc, &self.order, n)?;
+        let hier = self.with_order(alloc, order)?;
+        Ok(hier)
+    }
+
+    /// Whether a column stands somewhere.
+    fn is_placed(&self, c: ColId) -> bool
+        ensures value { result ≡ is_placed self.now c }
+        ensures below { OnTrue result (c.0 < length self.now.columns) }
+    {
+        (c.0 as usize) < self.columns.len() && self.columns[c.0 as usize].is_some()
+    }
+
+    /// Whether a column is a member that stands somewhere.
+    fn is_member(&self, facts: &Facts, c: ColId) -> bool
+        requires hierarchy { IsHierarchyOf facts.now self.now }
+        ensures value { result ≡ (is_placed self.now c && not (is_mark (column_kind facts.now c.0))) }
+        ensures below { OnTrue result (IsCol facts.now c) }
+    {
+        self.is_placed(c) && !is_mark(column_at(facts, c).kind)
+    }
+
+    /// Whether a column or a row stands at a node.
+    fn is_used(&self, n: NodeId) -> bool
+        ensures { result ≡ is_used self.now n }
+    {
+        has_column(&self.columns, n) || has_row(&self.rows, n)
+    }
+}
