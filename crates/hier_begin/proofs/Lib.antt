@@ -1,0 +1,6 @@
+pub mod GivenLemmas
+pub mod ShapeLemmas
+pub mod MeetLemmas
+pub mod WordLemmas
+pub mod NamedLemmas
+pub mod StartMeets

@@ -1,0 +1,3 @@
+pub mod Shapes
+pub mod Obligations
+pub mod Starts

@@ -1,0 +1,6 @@
+pub mod AnyLemmas
+pub mod PairLemmas
+pub mod KeyLemmas
+pub mod NameLemmas
+pub mod OutcomeLemmas
+pub mod NeedLemmas

@@ -1,0 +1,7 @@
+use Rattle.std.proofs.Common.{◌≡◌, None, length}
+use Rattle.kaba_bits.specs.Sets.{first_below}
+use Rattle.hier_rules.specs.Obligations.{two_bodies}
+use Rattle.hier_rules.proofs.bodies.first_two_bodies_at.Given as goal
+
+abbrev pub invariant-loop-c : goal.invariant-loop-c
+invariant-loop-c l = first_below l.c (λ c. first_below (length l.facts.columns.items) (two_bodies l.facts l.hier l.n c)) ≡ None

@@ -1,0 +1,8 @@
+use Rattle.std.proofs.Common.{◌≡◌, None}
+use Rattle.kaba_bits.specs.Sets.{first_below}
+use Rattle.hier_rules.specs.Obligations.{wrong_need}
+use Rattle.hier_rules.specs.Asked.{slots_of}
+use Rattle.hier_rules.proofs.bodies.first_wrong_need.Given as goal
+
+abbrev pub invariant-loop-s : goal.invariant-loop-s
+invariant-loop-s l = first_below l.s (λ s. first_below (slots_of l.facts) (wrong_need l.facts l.pt l.hier s)) ≡ None

@@ -1,0 +1,7 @@
+use Rattle.std.proofs.Common.{◌≡◌, None}
+use Rattle.kaba_bits.specs.Sets.{first_below}
+use Rattle.hier_rules.specs.Obligations.{wrong_super}
+use Rattle.hier_rules.proofs.bodies.first_wrong_super_of.Given as goal
+
+abbrev pub invariant-loop-c : goal.invariant-loop-c
+invariant-loop-c l = first_below l.c (wrong_super l.facts l.hier l.r) ≡ None

@@ -1,0 +1,7 @@
+use Rattle.std.proofs.Common.{◌≡◌, None, length}
+use Rattle.kaba_bits.specs.Sets.{first_below}
+use Rattle.hier_rules.specs.Obligations.{wrong_outcome}
+use Rattle.hier_rules.proofs.outcomes.first_wrong_target.Given as goal
+
+abbrev pub invariant-loop-t : goal.invariant-loop-t
+invariant-loop-t l = first_below l.t (λ t. first_below (length l.facts.sites.items) (wrong_outcome l.facts l.pt l.hier l.p t)) ≡ None

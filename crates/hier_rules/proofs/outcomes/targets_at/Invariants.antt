@@ -1,0 +1,11 @@
+use Rattle.std.proofs.Common.{◌≡◌, ℕ, ◌||◌, length, take}
+use Rattle.std.specs.List.{list_any}
+use Rattle.kaba_bits.specs.Sets.{bit}
+use Rattle.hier_rules.specs.Asked.{is_test_at, is_store_at}
+use Rattle.hier_rules.proofs.outcomes.targets_at.Given as goal
+
+abbrev pub invariant-loop-x : goal.invariant-loop-x
+invariant-loop-x l = record {
+  width : length l.targets ≡ length l.facts.rows.items;
+  added : (t : ℕ) → bit l.targets t ≡ (list_any (is_test_at l.p t) l.facts.tests.items || list_any (is_store_at l.facts l.pt l.p t) (take l.x-index l.facts.stores.items));
+}

@@ -1,0 +1,11 @@
+use Rattle.std.proofs.Common.{◌≡◌, ℕ, ◌&&◌, length, take}
+use Rattle.std.specs.List.{list_any}
+use Rattle.kaba_bits.specs.Sets.{bit, row}
+use Rattle.hier_rules.specs.Asked.{is_test_at}
+use Rattle.hier_rules.proofs.outcomes.tested_sites.Given as goal
+
+abbrev pub invariant-loop-x : goal.invariant-loop-x
+invariant-loop-x l = record {
+  width : length l.sites ≡ length l.facts.sites.items;
+  added : (s : ℕ) → bit l.sites s ≡ (list_any (λ x. is_test_at l.p l.t x && bit (row l.pt.points.items x.from) s) (take l.x-index l.facts.tests.items));
+}

@@ -1,0 +1,7 @@
+use Rattle.std.proofs.Common.{◌≡◌, None, length}
+use Rattle.kaba_bits.specs.Sets.{first_below}
+use Rattle.hier_rules.specs.Obligations.{untied}
+use Rattle.hier_rules.proofs.rows.first_tie.Given as goal
+
+abbrev pub invariant-loop-l : goal.invariant-loop-l
+invariant-loop-l l = first_below l.l (λ k. first_below (length l.facts.rows.items) (untied l.facts l.hier k)) ≡ None

@@ -1,0 +1,7 @@
+use Rattle.std.proofs.Common.{◌≡◌, None}
+use Rattle.kaba_bits.specs.Sets.{first_below}
+use Rattle.hier_rules.specs.Obligations.{unheld}
+use Rattle.hier_rules.proofs.rows.first_unheld_of.Given as goal
+
+abbrev pub invariant-loop-v : goal.invariant-loop-v
+invariant-loop-v l = first_below l.v (unheld l.facts l.pt l.hier l.o) ≡ None

@@ -1,0 +1,7 @@
+use Rattle.std.proofs.Common.{◌≡◌, None, length}
+use Rattle.kaba_bits.specs.Sets.{first_below}
+use Rattle.hier_rules.specs.Obligations.{unoffered}
+use Rattle.hier_rules.proofs.rows.first_unoffered.Given as goal
+
+abbrev pub invariant-loop-r : goal.invariant-loop-r
+invariant-loop-r l = first_below l.r (λ r. first_below (length l.facts.columns.items) (unoffered l.facts l.hier r)) ≡ None

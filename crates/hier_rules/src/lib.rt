@@ -1,0 +1,95 @@
+//! The obligations of a class hierarchy: the first instance of the first one that is broken (after
+//! Streckenbach and Snelting, 2004).
+#![tactic(auto)]
+
+ghost use Rattle.std.specs.Prelude.{◌≡◌, IfOk};
+ghost use Rattle.fact_model.specs.InRange.{InRange};
+ghost use Rattle.fact_model.specs.Flowing.{AreSets};
+ghost use Rattle.hier_model.specs.Hierarchies.{IsHierarchyOf};
+ghost use Rattle.hier_rules.specs.First.{first_changed_run, first_of_edit, first_broken};
+
+mod bodies;
+mod broken;
+mod chains;
+mod names;
+mod outcomes;
+mod pairs;
+mod places;
+mod rows;
+
+use bodies::{first_two_bodies, first_wrong_need, first_wrong_super};
+pub use broken::{Broken, Nodes, Rule};
+use chains::first_unchained;
+use fact_model::{Facts, PointsTo};
+use hier_model::Hier;
+use names::first_misnamed;
+use outcomes::first_wrong_outcome;
+use rows::{first_unoffered, first_untied};
+use std::alloc::{AllocError, Global};
+
+/// The first instance of the first broken obligation of B2 to B9, by the numbers that each names in
+/// turn; `None` where all hold. The sets are those of the facts. An error comes only for want of memory.
+pub fn first_broken(
+    alloc: Global,
+    hier: &Hier,
+    facts: &Facts,
+    pt: &PointsTo,
+) -> Result<Option<Broken>, AllocError>
+    requires facts { InRange facts.now }
+    requires sets { AreSets facts.now pt.now }
+    requires hier { IsHierarchyOf facts.now hier.now }
+    ensures first { IfOk result (λ b. b ≡ first_broken facts.now pt.now hier.now) }
+{
+    match first_of_edit(alloc, hier, facts, pt)? {
+        Some(found) => Ok(Some(found)),
+        None => first_unchained(alloc, facts, hier),
+    }
+}
+
+/// The same of B2 to B8, which an edit is tested for.
+pub fn first_of_edit(
+    alloc: Global,
+    hier: &Hier,
+    facts: &Facts,
+    pt: &PointsTo,
+) -> Result<Option<Broken>, AllocError>
+    requires facts { InRange facts.now }
+    requires sets { AreSets facts.now pt.now }
+    requires hier { IsHierarchyOf facts.now hier.now }
+    ensures first { IfOk result (λ b. b ≡ first_of_edit facts.now pt.now hier.now) }
+{
+    if let Some(found) = first_unoffered(facts, hier) {
+        return Ok(Some(found));
+    }
+    if let Some(found) = first_untied(alloc, facts, pt, hier)? {
+        return Ok(Some(found));
+    }
+    match first_changed_run(alloc, hier, facts, pt)? {
+        Some(found) => Ok(Some(found)),
+        None => first_misnamed(alloc, facts, hier),
+    }
+}
+
+/// The first instance against B4, B5, B6 and B7: of bodies and of outcomes.
+fn first_changed_run(
+    alloc: Global,
+    hier: &Hier,
+    facts: &Facts,
+    pt: &PointsTo,
+) -> Result<Option<Broken>, AllocError>
+    requires facts { InRange facts.now }
+    requires sets { AreSets facts.now pt.now }
+    requires hier { IsHierarchyOf facts.now hier.now }
+    ensures { IfOk result (λ b. b ≡ first_changed_run facts.now pt.now hier.now) }
+{
+    if let Some(found) = first_wrong_need(alloc, facts, pt, hier)? {
+        return Ok(Some(found));
+    }
+    if let Some(found) = first_wrong_super(alloc, facts, hier)? {
+        return Ok(Some(found));
+    }
+    match first_two_bodies(facts, hier) {
+        Some(found) => Ok(Some(found)),
+        None => first_wrong_outcome(alloc, facts, pt, hier),
+    }
+}

@@ -1,0 +1,379 @@
+//! B7: the outcomes of casts, `instanceof` and stores into arrays.
+
+ghost use Rattle.std.specs.Prelude.{◌≡◌, ℕ, ◌<◌, ◌↔◌, ◌==◌, ◌&&◌, ◌||◌, ◌++◌, true, map, filter, length, IfOk, Contains};
+ghost use Rattle.std.specs.List.{list_any};
+ghost use Rattle.std.specs.List.Sorted.{IsNonDecreasing};
+ghost use Rattle.kaba_bits.specs.Sets.{bit, row, first_below};
+ghost use Rattle.fact_model.specs.Items.{row_class};
+ghost use Rattle.fact_model.specs.Classes.{below};
+ghost use Rattle.fact_model.specs.InRange.{InRange, IsClass};
+ghost use Rattle.fact_model.specs.Flowing.{AreSets};
+ghost use Rattle.hier_model.specs.Hierarchies.{IsHierarchyOf};
+ghost use Rattle.hier_rules.specs.Asked.{is_element, is_array_at, has_array, is_test_at, is_store_at, is_target, is_tested, meets, is_asked};
+ghost use Rattle.hier_rules.specs.Obligations.{row_le, differ, wrong_outcome, first_wrong_of_place, first_wrong_outcome};
+
+use crate::broken::{Broken, Rule};
+use crate::places::{place_of_row, row_le, site_at};
+use crate::rows::of_row;
+use fact_model::{Facts, PointsTo, StoreInfo, TestInfo, below};
+use hier_model::Hier;
+use kaba_base::{ClassId, ColId};
+use kaba_bits::{BitRow, row_at};
+use std::alloc::{AllocError, Global};
+
+/// Whether a store is one of an element.
+fn is_element(column: Option<ColId>) -> bool
+    ensures { result ≡ is_element column }
+{
+    column.is_none()
+}
+
+/// The places of the tests. An error comes only for want of memory.
+fn test_places(alloc: Global, facts: &Facts) -> Result<Vec<u32>, AllocError>
+    ensures { IfOk result (λ v. v.items ≡ map (λ x. x.place.at) facts.now.tests.items) }
+{
+    facts.tests.iter().map(|x| x.place.at).collect(alloc)
+}
+
+/// The places of the stores of elements. An error comes only for want of memory.
+fn store_places(alloc: Global, facts: &Facts) -> Result<Vec<u32>, AllocError>
+    ensures { IfOk result (λ v. v.items ≡ map (λ x. x.place.at) (filter (λ x. is_element x.column) facts.now.stores.items)) }
+{
+    facts
+        .stores
+        .iter()
+        .filter(|x| is_element(x.column))
+        .map(|x| x.place.at)
+        .collect(alloc)
+}
+
+/// The places of both. An error comes only for want of memory.
+fn all_places(alloc: Global, facts: &Facts) -> Result<Vec<u32>, AllocError>
+    ensures { IfOk result (λ v. v.items ≡ map (λ x. x.place.at) facts.now.tests.items ++ map (λ x. x.place.at) (filter (λ x. is_element x.column) facts.now.stores.items)) }
+{
+    let mut places = test_places(alloc, facts)?;
+    let stores = store_places(alloc, facts)?;
+    places.extend_from_slice(&stores)?;
+    Ok(places)
+}
+
+/// The same, rising. An error comes only for want of memory.
+fn asked_places(alloc: Global, facts: &Facts) -> Result<Vec<u32>, AllocError>
+    ensures sorted { IfOk result (λ v. IsNonDecreasing v.items) }
+    ensures places { IfOk result (λ v. (p : ℕ) → Contains v.items p ↔ (is_asked facts.now p ≡ true)) }
+{
+    let mut places = all_places(alloc, facts)?;
+    places.sort()?;
+    Ok(places)
+}
+
+/// Whether a site is an array site in the set of a point, of a row.
+fn is_array_at(facts: &Facts, pt: &PointsTo, base: u32, t: u32, a: u32) -> bool
+    requires facts { InRange facts.now }
+    requires sets { AreSets facts.now pt.now }
+    requires base { base < length facts.now.points.items }
+    requires site { a < length facts.now.sites.items }
+    ensures { result ≡ is_array_at facts.now pt.now base t a }
+{
+    let site = site_at(facts, a);
+    row_at(&pt.points, base as usize).has(a) && 0 < site.dim && site.row.0 == t
+}
+
+/// Whether an array site in the set of a point has a row.
+#[tactic(auto, using(hier_model::proofs::AnyLemmas::any_below_found))]
+fn has_array(facts: &Facts, pt: &PointsTo, base: u32, t: u32) -> bool
+    requires facts { InRange facts.now }
+    requires sets { AreSets facts.now pt.now }
+    requires base { base < length facts.now.points.items }
+    ensures { result ≡ has_array facts.now pt.now base t }
+{
+    for a in 0..facts.sites.len() as u32 {
+        if is_array_at(facts, pt, base, t, a) {
+            return true;
+        }
+    }
+    false
+}
+
+/// Adds the row of a site, if it is an array site in the set of a point.
+fn add_array(facts: &Facts, pt: &PointsTo, base: u32, a: u32, targets: &mut BitRow)
+    requires facts { InRange facts.now }
+    requires sets { AreSets facts.now pt.now }
+    requires base { base < length facts.now.points.items }
+    requires site { a < length facts.now.sites.items }
+    requires width { length targets.old ≡ length facts.now.rows.items }
+    ensures width { length targets.new ≡ length targets.old }
+    ensures added { (t : ℕ) → bit targets.new t ≡ (bit targets.old t || is_array_at facts.now pt.now base t a) }
+{
+    let site = site_at(facts, a);
+    if row_at(&pt.points, base as usize).has(a) && site.dim > 0 {
+        targets.set(site.row.0);
+    }
+}
+
+/// Adds the rows of the array sites in the set of a point.
+fn add_arrays(facts: &Facts, pt: &PointsTo, base: u32, targets: &mut BitRow)
+    requires facts { InRange facts.now }
+    requires sets { AreSets facts.now pt.now }
+    requires base { base < length facts.now.points.items }
+    requires width { length targets.old ≡ length facts.now.rows.items }
+    ensures width { length targets.new ≡ length targets.old }
+    ensures added { (t : ℕ) → bit targets.new t ≡ (bit targets.old t || has_array facts.now pt.now base t) }
+{
+    for a in 0..facts.sites.len() as u32 {
+        add_array(facts, pt, base, a, targets);
+    }
+}
+
+/// Adds the row of a test, if it is at a place.
+fn add_target(facts: &Facts, p: u32, x: TestInfo, targets: &mut BitRow)
+    requires facts { InRange facts.now }
+    requires test { Contains facts.now.tests.items x }
+    requires width { length targets.old ≡ length facts.now.rows.items }
+    ensures width { length targets.new ≡ length targets.old }
+    ensures added { (t : ℕ) → bit targets.new t ≡ (bit targets.old t || is_test_at p t x) }
+{
+    if x.place.at == p {
+        targets.set(x.target.0);
+    }
+}
+
+/// Adds the rows of the arrays of a store, if it is one of an element at a place.
+fn add_targets(facts: &Facts, pt: &PointsTo, p: u32, x: StoreInfo, targets: &mut BitRow)
+    requires facts { InRange facts.now }
+    requires sets { AreSets facts.now pt.now }
+    requires store { Contains facts.now.stores.items x }
+    requires width { length targets.old ≡ length facts.now.rows.items }
+    ensures width { length targets.new ≡ length targets.old }
+    ensures added { (t : ℕ) → bit targets.new t ≡ (bit targets.old t || is_store_at facts.now pt.now p t x) }
+{
+    if is_element(x.column) && x.place.at == p {
+        add_arrays(facts, pt, x.base, targets);
+    }
+}
+
+/// The rows of the tests at a place. An error comes only for want of memory.
+fn test_targets(alloc: Global, facts: &Facts, p: u32) -> Result<BitRow, AllocError>
+    requires { InRange facts.now }
+    ensures width { IfOk result (λ v. length v ≡ length facts.now.rows.items) }
+    ensures targets { IfOk result (λ v. (t : ℕ) → bit v t ≡ list_any (is_test_at p t) facts.now.tests.items) }
+{
+    let mut targets = BitRow::new(alloc, facts.rows.len() as u32)?;
+    for x in &facts.tests {
+        add_target(facts, p, *x, &mut targets);
+    }
+    Ok(targets)
+}
+
+/// The rows of the tests, and of the arrays that are stored into, at a place. An error comes only for want of memory.
+fn targets_at(alloc: Global, facts: &Facts, pt: &PointsTo, p: u32) -> Result<BitRow, AllocError>
+    requires facts { InRange facts.now }
+    requires sets { AreSets facts.now pt.now }
+    ensures width { IfOk result (λ v. length v ≡ length facts.now.rows.items) }
+    ensures targets { IfOk result (λ v. (t : ℕ) → bit v t ≡ is_target facts.now pt.now p t) }
+{
+    let mut targets = test_targets(alloc, facts, p)?;
+    for x in &facts.stores {
+        add_targets(facts, pt, p, *x, &mut targets);
+    }
+    Ok(targets)
+}
+
+/// Adds the sites in the operand of a test, if it is one of a row at a place.
+fn add_tested(facts: &Facts, pt: &PointsTo, p: u32, t: u32, x: TestInfo, sites: &mut BitRow)
+    requires facts { InRange facts.now }
+    requires sets { AreSets facts.now pt.now }
+    requires test { Contains facts.now.tests.items x }
+    requires width { length sites.old ≡ length facts.now.sites.items }
+    ensures width { length sites.new ≡ length sites.old }
+    ensures added { (s : ℕ) → bit sites.new s ≡ (bit sites.old s || (is_test_at p t x && bit (row pt.now.points.items x.from) s)) }
+{
+    if x.place.at == p && x.target.0 == t {
+        sites.or_into(row_at(&pt.points, x.from as usize));
+    }
+}
+
+/// Adds the sites in the value of a store, if it is one into an array of a row at a place.
+fn add_stored(facts: &Facts, pt: &PointsTo, p: u32, t: u32, x: StoreInfo, sites: &mut BitRow)
+    requires facts { InRange facts.now }
+    requires sets { AreSets facts.now pt.now }
+    requires store { Contains facts.now.stores.items x }
+    requires width { length sites.old ≡ length facts.now.sites.items }
+    ensures width { length sites.new ≡ length sites.old }
+    ensures added { (s : ℕ) → bit sites.new s ≡ (bit sites.old s || (is_store_at facts.now pt.now p t x && bit (row pt.now.points.items x.value) s)) }
+{
+    if is_element(x.column) && x.place.at == p && has_array(facts, pt, x.base, t) {
+        sites.or_into(row_at(&pt.points, x.value as usize));
+    }
+}
+
+/// The sites in the operands of the tests of a row at a place. An error comes only for want of memory.
+fn tested_sites(
+    alloc: Global,
+    facts: &Facts,
+    pt: &PointsTo,
+    p: u32,
+    t: u32,
+) -> Result<BitRow, AllocError>
+    requires facts { InRange facts.now }
+    requires sets { AreSets facts.now pt.now }
+    ensures width { IfOk result (λ v. length v ≡ length facts.now.sites.items) }
+    ensures sites { IfOk result (λ v. (s : ℕ) → bit v s ≡ is_tested facts.now pt.now p t s) }
+{
+    let mut sites = BitRow::new(alloc, facts.sites.len() as u32)?;
+    for x in &facts.tests {
+        add_tested(facts, pt, p, t, *x, &mut sites);
+    }
+    Ok(sites)
+}
+
+/// The sites that meet a target at a place. An error comes only for want of memory.
+fn sites_at(
+    alloc: Global,
+    facts: &Facts,
+    pt: &PointsTo,
+    p: u32,
+    t: u32,
+) -> Result<BitRow, AllocError>
+    requires facts { InRange facts.now }
+    requires sets { AreSets facts.now pt.now }
+    ensures width { IfOk result (λ v. length v ≡ length facts.now.sites.items) }
+    ensures sites { IfOk result (λ v. (s : ℕ) → bit v s ≡ meets facts.now pt.now p t s) }
+{
+    let mut sites = tested_sites(alloc, facts, pt, p, t)?;
+    for x in &facts.stores {
+        add_stored(facts, pt, p, t, *x, &mut sites);
+    }
+    Ok(sites)
+}
+
+/// Whether a site stands at or below a target's row where it should not, or does not where it should.
+fn is_wrong(facts: &Facts, hier: &Hier, r: u32, class: ClassId, t: u32) -> bool
+    requires facts { InRange facts.now }
+    requires hier { IsHierarchyOf facts.now hier.now }
+    requires row { r < length facts.now.rows.items }
+    requires class { IsClass facts.now class }
+    requires target { t < length facts.now.rows.items }
+    ensures { result ≡ differ (row_le hier.now r t) (below facts.now class.0 (row_class facts.now t)) }
+{
+    let target = &facts.rows[t as usize];
+    row_le(facts, hier, r, t) != below(facts, class, target.class)
+}
+
+/// The first site that meets a target at a place with another outcome. An error comes only for want of memory.
+#[tactic(auto, using(kaba_bits::proofs::FirstLemmas::first_below_found))]
+fn first_wrong_site(
+    alloc: Global,
+    facts: &Facts,
+    pt: &PointsTo,
+    hier: &Hier,
+    p: u32,
+    t: u32,
+) -> Result<Option<Broken>, AllocError>
+    requires facts { InRange facts.now }
+    requires sets { AreSets facts.now pt.now }
+    requires hier { IsHierarchyOf facts.now hier.now }
+    requires target { t < length facts.now.rows.items }
+    ensures { IfOk result (λ b. b ≡ first_below (length facts.now.sites.items) (wrong_outcome facts.now pt.now hier.now p t)) }
+{
+    let sites = sites_at(alloc, facts, pt, p, t)?;
+    let m = place_of_row(facts, hier, t);
+    for s in 0..facts.sites.len() as u32 {
+        let site = site_at(facts, s);
+        if sites.has(s) && is_wrong(facts, hier, site.row.0, site.class, t) {
+            return Ok(Some(of_row(
+                Rule::B7,
+                place_of_row(facts, hier, site.row.0),
+                m,
+                site.row.0,
+            )));
+        }
+    }
+    Ok(None)
+}
+
+/// The same, if the row is a target at the place.
+fn first_wrong_at(
+    alloc: Global,
+    facts: &Facts,
+    pt: &PointsTo,
+    hier: &Hier,
+    targets: &BitRow,
+    p: u32,
+    t: u32,
+) -> Result<Option<Broken>, AllocError>
+    requires facts { InRange facts.now }
+    requires sets { AreSets facts.now pt.now }
+    requires hier { IsHierarchyOf facts.now hier.now }
+    requires width { length targets.now ≡ length facts.now.rows.items }
+    requires targets { (k : ℕ) → bit targets.now k ≡ is_target facts.now pt.now p k }
+    requires target { t < length facts.now.rows.items }
+    ensures { IfOk result (λ b. b ≡ first_below (length facts.now.sites.items) (wrong_outcome facts.now pt.now hier.now p t)) }
+{
+    if !targets.has(t) {
+        return Ok(None);
+    }
+    first_wrong_site(alloc, facts, pt, hier, p, t)
+}
+
+/// The first target at a place that a site meets with another outcome. An error comes only for want of memory.
+#[tactic(auto, using(kaba_bits::proofs::FirstLemmas::first_below_found))]
+fn first_wrong_target(
+    alloc: Global,
+    facts: &Facts,
+    pt: &PointsTo,
+    hier: &Hier,
+    p: u32,
+) -> Result<Option<Broken>, AllocError>
+    requires facts { InRange facts.now }
+    requires sets { AreSets facts.now pt.now }
+    requires hier { IsHierarchyOf facts.now hier.now }
+    ensures { IfOk result (λ b. b ≡ first_wrong_of_place facts.now pt.now hier.now p) }
+{
+    let targets = targets_at(alloc, facts, pt, p)?;
+    for t in 0..facts.rows.len() as u32 {
+        if let Some(found) = first_wrong_at(alloc, facts, pt, hier, &targets, p, t)? {
+            return Ok(Some(found));
+        }
+    }
+    Ok(None)
+}
+
+/// The first instance against B7. An error comes only for want of memory.
+pub fn first_wrong_outcome(
+    alloc: Global,
+    facts: &Facts,
+    pt: &PointsTo,
+    hier: &Hier,
+) -> Result<Option<Broken>, AllocError>
+    requires facts { InRange facts.now }
+    requires sets { AreSets facts.now pt.now }
+    requires hier { IsHierarchyOf facts.now hier.now }
+    ensures { IfOk result (λ b. b ≡ first_wrong_outcome facts.now pt.now hier.now) }
+{
+    let places = asked_places(alloc, facts)?;
+    first_wrong_place(alloc, facts, pt, hier, &places)
+}
+
+/// The same, by the rising list of the places that are asked.
+fn first_wrong_place(
+    alloc: Global,
+    facts: &Facts,
+    pt: &PointsTo,
+    hier: &Hier,
+    places: &[u32],
+) -> Result<Option<Broken>, AllocError>
+    requires facts { InRange facts.now }
+    requires sets { AreSets facts.now pt.now }
+    requires hier { IsHierarchyOf facts.now hier.now }
+    requires sorted { IsNonDecreasing places.now }
+    requires places { (p : ℕ) → Contains places.now p ↔ (is_asked facts.now p ≡ true) }
+    ensures { IfOk result (λ b. b ≡ first_wrong_outcome facts.now pt.now hier.now) }
+{
+    for p in places {
+        if let Some(found) = first_wrong_target(alloc, facts, pt, hier, *p)? {
+            return Ok(Some(found));
+        }
+    }
+    Ok(None)
+}

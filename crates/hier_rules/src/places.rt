@@ -1,0 +1,152 @@
+//! Where rows and columns stand, and what is offered.
+
+ghost use Rattle.std.specs.Prelude.{◌≡◌, ◌<◌, true, length, IfSome};
+ghost use Rattle.kaba_order.specs.Orders.{is_le, is_live};
+ghost use Rattle.fact_model.specs.Items.{column_at, site_at};
+ghost use Rattle.hier_model.specs.Hierarchies.{place_of_column, place_of_row, is_offered, is_at, stands_at, IsHierarchyOf};
+ghost use Rattle.hier_rules.specs.Obligations.{is_strictly_above, is_below, row_le, column_le, is_above};
+
+use fact_model::{ColumnInfo, Facts, SiteInfo};
+use hier_model::Hier;
+use kaba_base::{ColId, NodeId, RowId};
+use kaba_order::Order;
+
+/// One column.
+pub fn column_at(facts: &Facts, c: u32) -> &ColumnInfo
+    requires { c < length facts.now.columns.items }
+    ensures { result.now ≡ column_at facts.now c }
+{
+    &facts.columns[c as usize]
+}
+
+/// One site.
+pub fn site_at(facts: &Facts, s: u32) -> SiteInfo
+    requires { s < length facts.now.sites.items }
+    ensures { result ≡ site_at facts.now s }
+{
+    facts.sites[s as usize]
+}
+
+/// The number of nodes, live or not.
+pub fn node_count(hier: &Hier) -> u32
+    ensures { result ≡ length hier.now.order.live }
+{
+    hier.order().count()
+}
+
+/// Whether a node is live.
+pub fn is_live(hier: &Hier, n: u32) -> bool
+    ensures { result ≡ is_live hier.now.order n }
+{
+    hier.order().is_live(NodeId(n))
+}
+
+/// Whether a live node is at or below another.
+pub fn is_le(hier: &Hier, a: u32, b: u32) -> bool
+    requires a { is_live hier.now.order a ≡ true }
+    requires b { is_live hier.now.order b ≡ true }
+    ensures { result ≡ is_le hier.now.order a b }
+{
+    hier.order().le(NodeId(a), NodeId(b))
+}
+
+/// The node where a row stands.
+pub fn place_of_row(facts: &Facts, hier: &Hier, r: u32) -> NodeId
+    requires hier { IsHierarchyOf facts.now hier.now }
+    requires row { r < length facts.now.rows.items }
+    ensures place { result.0 ≡ place_of_row hier.now r }
+    ensures live { is_live hier.now.order result.0 ≡ true }
+{
+    hier.place_of_row(RowId(r))
+}
+
+/// The node where a column stands, if it stands anywhere.
+pub fn place_of_column(facts: &Facts, hier: &Hier, c: u32) -> Option<NodeId>
+    requires hier { IsHierarchyOf facts.now hier.now }
+    requires column { c < length facts.now.columns.items }
+    ensures place { result ≡ place_of_column hier.now c }
+    ensures live { IfSome result (λ p. is_live hier.now.order p.0 ≡ true) }
+{
+    hier.place_of_column(ColId(c))
+}
+
+/// Whether a row stands at or below another.
+pub fn row_le(facts: &Facts, hier: &Hier, r: u32, v: u32) -> bool
+    requires hier { IsHierarchyOf facts.now hier.now }
+    requires lower { r < length facts.now.rows.items }
+    requires upper { v < length facts.now.rows.items }
+    ensures { result ≡ row_le hier.now r v }
+{
+    let lower = place_of_row(facts, hier, r);
+    let upper = place_of_row(facts, hier, v);
+    hier.order().le(lower, upper)
+}
+
+/// Whether one place is at or below another.
+fn is_below(order: &Order, place: Option<NodeId>, other: Option<NodeId>) -> bool
+    requires place { IfSome place (λ p. is_live order.now p.0 ≡ true) }
+    requires other { IfSome other (λ p. is_live order.now p.0 ≡ true) }
+    ensures { result ≡ is_below order.now place other }
+{
+    match (place, other) {
+        (Some(p), Some(q)) => order.le(p, q),
+        (_, _) => false,
+    }
+}
+
+/// Whether a column stands at or below another.
+pub fn column_le(facts: &Facts, hier: &Hier, c: u32, d: u32) -> bool
+    requires hier { IsHierarchyOf facts.now hier.now }
+    requires lower { c < length facts.now.columns.items }
+    requires upper { d < length facts.now.columns.items }
+    ensures { result ≡ column_le hier.now c d }
+{
+    let lower = place_of_column(facts, hier, c);
+    let upper = place_of_column(facts, hier, d);
+    is_below(hier.order(), lower, upper)
+}
+
+/// Whether a column stands at a live node or above it.
+pub fn is_offered(facts: &Facts, hier: &Hier, n: NodeId, c: u32) -> bool
+    requires hier { IsHierarchyOf facts.now hier.now }
+    requires node { is_live hier.now.order n.0 ≡ true }
+    requires column { c < length facts.now.columns.items }
+    ensures { result ≡ is_offered hier.now n.0 c }
+{
+    match place_of_column(facts, hier, c) {
+        Some(p) => hier.order().le(n, p),
+        None => false,
+    }
+}
+
+/// Whether a column stands strictly above a live node.
+pub fn is_above(facts: &Facts, hier: &Hier, n: NodeId, c: u32) -> bool
+    requires hier { IsHierarchyOf facts.now hier.now }
+    requires node { is_live hier.now.order n.0 ≡ true }
+    requires column { c < length facts.now.columns.items }
+    ensures { result ≡ is_above hier.now n.0 c }
+{
+    match place_of_column(facts, hier, c) {
+        Some(p) => hier.order().le(n, p) && n.0 != p.0,
+        None => false,
+    }
+}
+
+/// Whether a place is a node.
+fn is_at(n: u32, place: Option<NodeId>) -> bool
+    ensures { result ≡ is_at n place }
+{
+    match place {
+        Some(p) => p.0 == n,
+        None => false,
+    }
+}
+
+/// Whether a column stands at a node.
+pub fn stands_at(facts: &Facts, hier: &Hier, n: u32, c: u32) -> bool
+    requires hier { IsHierarchyOf facts.now hier.now }
+    requires column { c < length facts.now.columns.items }
+    ensures { result ≡ stands_at hier.now n c }
+{
+    is_at(n, place_of_column(facts, hier, c))
+}

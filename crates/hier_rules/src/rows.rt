@@ -1,0 +1,167 @@
+//! B2 and B3: rows and their columns, ties, and sites in the sets of rows.
+
+ghost use Rattle.std.specs.Prelude.{◌≡◌, ℕ, ◌<◌, length, IfOk};
+ghost use Rattle.kaba_bits.specs.Sets.{bit, row, first_below, HasWidth};
+ghost use Rattle.fact_model.specs.InRange.{InRange};
+ghost use Rattle.fact_model.specs.Flowing.{AreSets};
+ghost use Rattle.hier_model.specs.Hierarchies.{IsHierarchyOf};
+ghost use Rattle.hier_rules.specs.Asked.{is_tie};
+ghost use Rattle.hier_rules.specs.Instances.{of_both, of_row};
+ghost use Rattle.hier_rules.specs.Obligations.{unoffered, first_unoffered, untied, unheld, first_untied};
+
+use crate::broken::{Broken, Nodes, Rule};
+use crate::pairs::tie_rows;
+use crate::places::{is_offered, place_of_row, row_le, site_at};
+use fact_model::{Facts, PointsTo};
+use hier_model::Hier;
+use kaba_base::{ColId, NodeId, RowId};
+use kaba_bits::{BitRow, row_at};
+use std::alloc::{AllocError, Global};
+
+/// An instance at a node, of a row and a column.
+pub fn of_both(rule: Rule, n: NodeId, r: u32, c: u32) -> Broken
+    ensures { result ≡ of_both rule n.0 r c }
+{
+    Broken {
+        rule,
+        nodes: Nodes::One(n),
+        row: Some(RowId(r)),
+        column: Some(ColId(c)),
+    }
+}
+
+/// An instance at the nodes of two rows, of the first.
+pub fn of_row(rule: Rule, n: NodeId, m: NodeId, r: u32) -> Broken
+    ensures { result ≡ of_row rule n.0 m.0 r }
+{
+    Broken {
+        rule,
+        nodes: Nodes::Two(n, m),
+        row: Some(RowId(r)),
+        column: None,
+    }
+}
+
+/// The first instance against B2.
+#[tactic(auto, using(kaba_bits::proofs::FirstLemmas::first_below_found))]
+pub fn first_unoffered(facts: &Facts, hier: &Hier) -> Option<Broken>
+    requires facts { InRange facts.now }
+    requires hier { IsHierarchyOf facts.now hier.now }
+    ensures { result ≡ first_unoffered facts.now hier.now }
+{
+    for r in 0..facts.rows.len() as u32 {
+        if let Some(found) = first_unoffered_of(facts, hier, r) {
+            return Some(found);
+        }
+    }
+    None
+}
+
+/// The first column that a row has and is not offered.
+#[tactic(auto, using(kaba_bits::proofs::FirstLemmas::first_below_found))]
+fn first_unoffered_of(facts: &Facts, hier: &Hier, r: u32) -> Option<Broken>
+    requires facts { InRange facts.now }
+    requires hier { IsHierarchyOf facts.now hier.now }
+    requires row { r < length facts.now.rows.items }
+    ensures { result ≡ first_below (length facts.now.columns.items) (unoffered facts.now hier.now r) }
+{
+    let n = place_of_row(facts, hier, r);
+    let row = hier.table_row(RowId(r));
+    for c in 0..facts.columns.len() as u32 {
+        if row.has(c) && !is_offered(facts, hier, n, c) {
+            return Some(of_both(Rule::B2, n, r, c));
+        }
+    }
+    None
+}
+
+/// The first instance against B3. An error comes only for want of memory.
+pub fn first_untied(
+    alloc: Global,
+    facts: &Facts,
+    pt: &PointsTo,
+    hier: &Hier,
+) -> Result<Option<Broken>, AllocError>
+    requires facts { InRange facts.now }
+    requires sets { AreSets facts.now pt.now }
+    requires hier { IsHierarchyOf facts.now hier.now }
+    ensures { IfOk result (λ b. b ≡ first_untied facts.now pt.now hier.now) }
+{
+    let ties = tie_rows(alloc, facts)?;
+    match first_tie(facts, hier, &ties) {
+        Some(found) => Ok(Some(found)),
+        None => Ok(first_unheld(facts, pt, hier)),
+    }
+}
+
+/// The first tie whose lower row does not stand at or below its upper.
+#[tactic(auto, using(kaba_bits::proofs::FirstLemmas::first_below_found))]
+fn first_tie(facts: &Facts, hier: &Hier, ties: &[BitRow]) -> Option<Broken>
+    requires facts { InRange facts.now }
+    requires hier { IsHierarchyOf facts.now hier.now }
+    requires len { length ties.now ≡ length facts.now.rows.items }
+    requires widths { HasWidth (length facts.now.rows.items) ties.now }
+    requires ties { (l u : ℕ) → bit (row ties.now l) u ≡ is_tie facts.now l u }
+    ensures { result ≡ first_below (length facts.now.rows.items) (λ l. first_below (length facts.now.rows.items) (untied facts.now hier.now l)) }
+{
+    for l in 0..facts.rows.len() as u32 {
+        if let Some(found) = first_tie_of(facts, hier, row_at(ties, l as usize), l) {
+            return Some(found);
+        }
+    }
+    None
+}
+
+/// The first such tie of a lower row.
+#[tactic(auto, using(kaba_bits::proofs::FirstLemmas::first_below_found))]
+fn first_tie_of(facts: &Facts, hier: &Hier, uppers: &BitRow, l: u32) -> Option<Broken>
+    requires facts { InRange facts.now }
+    requires hier { IsHierarchyOf facts.now hier.now }
+    requires row { l < length facts.now.rows.items }
+    requires width { length uppers.now ≡ length facts.now.rows.items }
+    requires ties { (u : ℕ) → bit uppers.now u ≡ is_tie facts.now l u }
+    ensures { result ≡ first_below (length facts.now.rows.items) (untied facts.now hier.now l) }
+{
+    let n = place_of_row(facts, hier, l);
+    for u in 0..facts.rows.len() as u32 {
+        if uppers.has(u) && !row_le(facts, hier, l, u) {
+            return Some(of_row(Rule::B3, n, place_of_row(facts, hier, u), l));
+        }
+    }
+    None
+}
+
+/// The first site that does not stand at or below a row in whose set it is.
+#[tactic(auto, using(kaba_bits::proofs::FirstLemmas::first_below_found))]
+fn first_unheld(facts: &Facts, pt: &PointsTo, hier: &Hier) -> Option<Broken>
+    requires facts { InRange facts.now }
+    requires sets { AreSets facts.now pt.now }
+    requires hier { IsHierarchyOf facts.now hier.now }
+    ensures { result ≡ first_below (length facts.now.sites.items) (λ o. first_below (length facts.now.rows.items) (unheld facts.now pt.now hier.now o)) }
+{
+    for o in 0..facts.sites.len() as u32 {
+        if let Some(found) = first_unheld_of(facts, pt, hier, o) {
+            return Some(found);
+        }
+    }
+    None
+}
+
+/// The first row in whose set a site is and at or below which it does not stand.
+#[tactic(auto, using(kaba_bits::proofs::FirstLemmas::first_below_found))]
+fn first_unheld_of(facts: &Facts, pt: &PointsTo, hier: &Hier, o: u32) -> Option<Broken>
+    requires facts { InRange facts.now }
+    requires sets { AreSets facts.now pt.now }
+    requires hier { IsHierarchyOf facts.now hier.now }
+    requires site { o < length facts.now.sites.items }
+    ensures { result ≡ first_below (length facts.now.rows.items) (unheld facts.now pt.now hier.now o) }
+{
+    let r = site_at(facts, o).row.0;
+    let n = place_of_row(facts, hier, r);
+    for v in 0..facts.rows.len() as u32 {
+        if row_at(&pt.rows, v as usize).has(o) && !row_le(facts, hier, r, v) {
+            return Some(of_row(Rule::B3, n, place_of_row(facts, hier, v), r));
+        }
+    }
+    None
+}
