@@ -85,65 +85,65 @@ module _ (F : Facts) (pt : PointsTo) (t : Table) where
   roles = record { is_this = λ v d. is_slot (option_map (λ (c : ColId). c.0) (row_this F v)) d; is_object = is_object_row F }
 
   module _ (R : InRange F) (O : InOrder F) (S : AreSets F pt) (T : IsTable F t) where
-    le : (a b : ℕ) → IsBelow F a b → below F a b ≡ true
+    pub le : (a b : ℕ) → IsBelow F a b → below F a b ≡ true
     le a b h = (below-exact F O.classes.acyclic a b).1 h
 
-    is_le : (a b : ℕ) → below F a b ≡ true → IsBelow F a b
+    pub is_le : (a b : ℕ) → below F a b ≡ true → IsBelow F a b
     is_le a b h = (below-exact F O.classes.acyclic a b).0 h
 
-    is_row : (r : ℕ) → r < length F.rows.items → nat_lt r (length F.rows.items) ≡ true
+    pub is_row : (r : ℕ) → r < length F.rows.items → nat_lt r (length F.rows.items) ≡ true
     is_row r lt = lt-ltb r (length F.rows.items) lt
 
-    row_below : (r c : ℕ) → bit (row t.rows.items r) c ≡ true → r < length F.rows.items
+    pub row_below : (r c : ℕ) → bit (row t.rows.items r) c ≡ true → r < length F.rows.items
     row_below r c h = omega (arith, bit-row-below t.rows.items r c h, T.sized.rows)
 
-    site_below : (v o : ℕ) → bit (row pt.rows.items v) o ≡ true → o < length F.sites.items
+    pub site_below : (v o : ℕ) → bit (row pt.rows.items v) o ≡ true → o < length F.sites.items
     site_below v o h = member-below F R v o ((S.rows v o).0 h)
 
-    point_site : (p s : ℕ) → bit (row pt.points.items p) s ≡ true → s < length F.sites.items
+    pub point_site : (p s : ℕ) → bit (row pt.points.items p) s ≡ true → s < length F.sites.items
     point_site p s h = site-below F R (in_point p s) ((S.points p s).0 h)
 
-    site_row_below : (s : ℕ) → s < length F.sites.items → site_row F s < length F.rows.items
+    pub site_row_below : (s : ℕ) → s < length F.sites.items → site_row F s < length F.rows.items
     site_row_below s lt = (R.sites s (record { row = record { 0 = 0 }; class = record { 0 = 0 }; dim = 0 }) lt).0
 
-    tie_at : (l u : ℕ) → is_tie F l u ≡ true → (x : TieInfo) × (Contains F.ties.items x) × (x.lower.0 ≡ l) × (x.upper.0 ≡ u)
+    pub tie_at : (l u : ℕ) → is_tie F l u ≡ true → (x : TieInfo) × (Contains F.ties.items x) × (x.lower.0 ≡ l) × (x.upper.0 ≡ u)
     tie_at l u h =
         let f = Any-from_list_any (λ (x : TieInfo). is_pair x.lower.0 x.upper.0 l u) F.ties.items h in
         let p = and_parts (eqb f.1.lower.0 l) (eqb f.1.upper.0 u) f.4 in
         (f.1, (f.0, f.2, f.3), eqb-true f.1.lower.0 l p.0, eqb-true f.1.upper.0 u p.1)
 
-    super_at : (r d : ℕ) → is_super F r d ≡ true → (x : SuperInfo) × (Contains F.supers.items x) × (x.row.0 ≡ r) × (x.column.0 ≡ d)
+    pub super_at : (r d : ℕ) → is_super F r d ≡ true → (x : SuperInfo) × (Contains F.supers.items x) × (x.row.0 ≡ r) × (x.column.0 ≡ d)
     super_at r d h =
         let f = Any-from_list_any (λ (x : SuperInfo). is_pair x.row.0 x.column.0 r d) F.supers.items h in
         let p = and_parts (eqb f.1.row.0 r) (eqb f.1.column.0 d) f.4 in
         (f.1, (f.0, f.2, f.3), eqb-true f.1.row.0 r p.0, eqb-true f.1.column.0 d p.1)
 
-    called_at : (s x : ℕ) → is_called F pt s x ≡ true → (k : CallInfo) × (Contains F.calls.items k) × (bit (row pt.points.items k.receiver) s ≡ true) × (k.slot ≡ x)
+    pub called_at : (s x : ℕ) → is_called F pt s x ≡ true → (k : CallInfo) × (Contains F.calls.items k) × (bit (row pt.points.items k.receiver) s ≡ true) × (k.slot ≡ x)
     called_at s x h =
         let f = Any-from_list_any (λ (k : CallInfo). bit (row pt.points.items k.receiver) s && eqb k.slot x) F.calls.items h in
         let p = and_parts (bit (row pt.points.items f.1.receiver) s) (eqb f.1.slot x) f.4 in
         (f.1, (f.0, f.2, f.3), p.0, eqb-true f.1.slot x p.1)
 
-    found_at : (s x d : ℕ) → (is_called F pt s x && is_slot (finds F (site_class F s) x) d) ≡ true → finds F (site_class F s) x ≡ Some d
+    pub found_at : (s x d : ℕ) → (is_called F pt s x && is_slot (finds F (site_class F s) x) d) ≡ true → finds F (site_class F s) x ≡ Some d
     found_at s x d h = slot_says (finds F (site_class F s) x) d (and_parts (is_called F pt s x) (is_slot (finds F (site_class F s) x) d) h).1
 
     -- a site that meets a target: by a test, or by a store into an array
-    record IsTested (k s : ℕ) : Type 0 where
-      test : TestInfo
-      listed : Contains F.tests.items test
-      target : test.target.0 ≡ k
-      held : bit (row pt.points.items test.from) s ≡ true
+    pub record IsTested (k s : ℕ) : Type 0 where
+      pub test : TestInfo
+      pub listed : Contains F.tests.items test
+      pub target : test.target.0 ≡ k
+      pub held : bit (row pt.points.items test.from) s ≡ true
 
-    record IsStored (k s : ℕ) : Type 0 where
-      store : StoreInfo
-      listed : Contains F.stores.items store
-      element : store.column ≡ None
-      array : ℕ
-      below : array < length F.sites.items
-      base : bit (row pt.points.items store.base) array ≡ true
-      dim : 0 < (site_at F array).dim
-      target : site_row F array ≡ k
-      held : bit (row pt.points.items store.value) s ≡ true
+    pub record IsStored (k s : ℕ) : Type 0 where
+      pub store : StoreInfo
+      pub listed : Contains F.stores.items store
+      pub element : store.column ≡ None
+      pub array : ℕ
+      pub below : array < length F.sites.items
+      pub base : bit (row pt.points.items store.base) array ≡ true
+      pub dim : 0 < (site_at F array).dim
+      pub target : site_row F array ≡ k
+      pub held : bit (row pt.points.items store.value) s ≡ true
 
     no_column : (o : Option ColId) → is_element o ≡ true → o ≡ None
     no_column None e = refl
@@ -177,7 +177,7 @@ module _ (F : Facts) (pt : PointsTo) (t : Table) where
           held = a.1;
         }
 
-    met : (s k : ℕ) → any_below (places_of F) (λ p. meets F pt p k s) ≡ true → IsTested k s ⊎ IsStored k s
+    pub met : (s k : ℕ) → any_below (places_of F) (λ p. meets F pt p k s) ≡ true → IsTested k s ⊎ IsStored k s
     met s k h =
         let p = any_below_some (λ p. meets F pt p k s) (places_of F) h in
         ⊎_elim (λ a. inl (tested_at p.0 k s a)) (λ b. inr (stored_at p.0 k s b)) (or_cases (is_tested F pt p.0 k s) (is_stored F pt p.0 k s) p.2)
@@ -242,7 +242,7 @@ module _ (F : Facts) (pt : PointsTo) (t : Table) where
         (finds_nearest F R O (site_class F s) x d f e (body_of x e b (one ∙ body.body.slot))
           (subst (λ a. IsBelow F a (column_class F e)) (sym (O.types.sites s lt)) (is_le (row_class F (site_row F s)) (column_class F e) up)))
 
-    super_fact : (r d : ℕ) → is_super F r d ≡ true → (is_some (row_this F r) ≡ true) × IsDef F d × IsNearestAbove F (row_class F r) d
+    pub super_fact : (r d : ℕ) → is_super F r d ≡ true → (is_some (row_this F r) ≡ true) × IsDef F d × IsNearestAbove F (row_class F r) d
     super_fact r d h =
         let x = super_at r d h in
         let n = All-contains (λ (y : SuperInfo). (is_some (row_this F y.row.0) ≡ true) × IsDef F y.column.0 × IsNearestAbove F (row_class F y.row.0) y.column.0) F.supers.items x.0 O.bodies.supers x.1 in
@@ -300,10 +300,10 @@ module _ (F : Facts) (pt : PointsTo) (t : Table) where
         let m = O.tests.array_marks h.array h.below h.dim in
         (m.0, subst (λ r. bit (row t.rows.items r) m.0 ≡ true) h.target (array_entry F t T h.array m.0 h.below h.dim m.1), m.1.class_is ∙ O.types.sites h.array h.below ∙ ap (row_class F) h.target)
 
-    meet_site : (s k : ℕ) → IsTested k s ⊎ IsStored k s → s < length F.sites.items
+    pub meet_site : (s k : ℕ) → IsTested k s ⊎ IsStored k s → s < length F.sites.items
     meet_site s k h = ⊎_elim (λ a. point_site a.test.from s a.held) (λ b. point_site b.store.value s b.held) h
 
-    meet_target : (s k : ℕ) → IsTested k s ⊎ IsStored k s → k < length F.rows.items
+    pub meet_target : (s k : ℕ) → IsTested k s ⊎ IsStored k s → k < length F.rows.items
     meet_target s k h =
         ⊎_elim
         (λ a. subst (λ r. r < length F.rows.items) a.target (All-contains (λ (x : TestInfo). IsPoint F x.from × IsRow F x.target × IsClass F x.class) F.tests.items a.test R.tests a.listed).1)

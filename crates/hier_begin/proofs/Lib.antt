@@ -1,3 +1,6 @@
+pub mod SetTests
+pub mod ConceptLemmas
+pub mod StartLemmas
 pub mod GivenLemmas
 pub mod ShapeLemmas
 pub mod MeetLemmas

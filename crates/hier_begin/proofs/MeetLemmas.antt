@@ -52,7 +52,7 @@ module _ (F : Facts) (pt : PointsTo) (t : Table) (H : Hierarchy) (table : H.tabl
   abbrev S : Shape
   S = shape H
 
-  offers : (n c : ℕ) → Offers S n c → is_offered H n c ≡ true
+  pub offers : (n c : ℕ) → Offers S n c → is_offered H n c ≡ true
   offers n c o = rw (placed H c o.at o.stands) o.above
 
   pub offered_says : (n c : ℕ) → is_offered H n c ≡ true → Offers S n c
@@ -63,7 +63,7 @@ module _ (F : Facts) (pt : PointsTo) (t : Table) (H : Hierarchy) (table : H.tabl
       at (Some p) e k = record { at = p.0; stands = ap (option_map (λ (p : NodeId). p.0)) e; above = k }
 
   -- a column at or below another
-  le_says : (c d : ℕ) → column_le H c d ≡ true → (n : ℕ) × (S.column c ≡ Some n) × ((k : ℕ) × (S.column d ≡ Some k) × (S.le n k ≡ true))
+  pub le_says : (c d : ℕ) → column_le H c d ≡ true → (n : ℕ) × (S.column c ≡ Some n) × ((k : ℕ) × (S.column d ≡ Some k) × (S.le n k ≡ true))
   le_says c d h = at (place_of_column H c) (place_of_column H d) refl refl h
     where
       at : (o q : Option NodeId) → place_of_column H c ≡ o → place_of_column H d ≡ q → is_below H.order o q ≡ true → (n : ℕ) × (S.column c ≡ Some n) × ((k : ℕ) × (S.column d ≡ Some k) × (S.le n k ≡ true))
@@ -72,7 +72,7 @@ module _ (F : Facts) (pt : PointsTo) (t : Table) (H : Hierarchy) (table : H.tabl
       at (Some p) (Some q) e f k = (p.0, ap (option_map (λ (p : NodeId). p.0)) e, (q.0, ap (option_map (λ (p : NodeId). p.0)) f, k))
 
   -- a column strictly above a node
-  above_says : (n c : ℕ) → rule.is_above H n c ≡ true → (m : ℕ) × (S.column c ≡ Some m) × (S.le n m ≡ true) × (n ≢ m)
+  pub above_says : (n c : ℕ) → rule.is_above H n c ≡ true → (m : ℕ) × (S.column c ≡ Some m) × (S.le n m ≡ true) × (n ≢ m)
   above_says n c h = at (place_of_column H c) refl h
     where
       at : (o : Option NodeId) → place_of_column H c ≡ o → is_strictly_above H.order n o ≡ true → (m : ℕ) × (S.column c ≡ Some m) × (S.le n m ≡ true) × (n ≢ m)
@@ -81,14 +81,14 @@ module _ (F : Facts) (pt : PointsTo) (t : Table) (H : Hierarchy) (table : H.tabl
           let both = and_parts (is_le H.order n p.0) (not (eqb n p.0)) k in
           (p.0, ap (option_map (λ (p : NodeId). p.0)) e, both.0, λ x. refuted (eqb n p.0) both.1 (eq-eqb n p.0 x))
 
-  above_test : (n c m : ℕ) → S.column c ≡ Some m → S.le n m ≡ true → n ≢ m → rule.is_above H n c ≡ true
+  pub above_test : (n c m : ℕ) → S.column c ≡ Some m → S.le n m ≡ true → n ≢ m → rule.is_above H n c ≡ true
   above_test n c m e k ne = rw (placed H c m e) (and_from (is_le H.order n m) (not (eqb n m)) k (differs (eqb n m) (λ x. ne (eqb-true n m x))))
     where
       differs : (b : Bool) → (b ≡ true → ⊥) → not b ≡ true
       differs true n = absurd (n refl)
       differs false n = refl
 
-  stands_says : (n c : ℕ) → stands_at H n c ≡ true → S.column c ≡ Some n
+  pub stands_says : (n c : ℕ) → stands_at H n c ≡ true → S.column c ≡ Some n
   stands_says n c h = at (place_of_column H c) refl h
     where
       at : (o : Option NodeId) → place_of_column H c ≡ o → is_at n o ≡ true → S.column c ≡ Some n
@@ -96,7 +96,7 @@ module _ (F : Facts) (pt : PointsTo) (t : Table) (H : Hierarchy) (table : H.tabl
       at (Some p) e k = ap (option_map (λ (p : NodeId). p.0)) e ∙ ap Some (eqb-true p.0 n k)
 
   -- another body of a slot
-  other_says : (d e m : ℕ) → is_other_body F d e ≡ true → S.column e ≡ Some m → IsOther G S d e m
+  pub other_says : (d e m : ℕ) → is_other_body F d e ≡ true → S.column e ≡ Some m → IsOther G S d e m
   other_says d e m h at =
       let a = and_parts (not (eqb e d) && is_def (column_kind F e)) (is_one_slot (column_slot F d) (column_slot F e)) h in
       let b = and_parts (not (eqb e d)) (is_def (column_kind F e)) a.0 in

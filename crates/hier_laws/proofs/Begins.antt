@@ -7,11 +7,11 @@ use Rattle.hier_laws.specs.Starts.{Roles, IsClosed, AreInOrder, IsStart, AreName
 
 module _ (G : Given) (R : Roles) (T : IsClosed G R) (O : AreInOrder G R) (S : Shape) (B : IsStart G S) where
   -- all rows that have e have d
-  abbrev Under : ℕ → ℕ → Type 0
+  abbrev pub Under : ℕ → ℕ → Type 0
   Under e d = (r : ℕ) → G.has r e ≡ true → G.has r d ≡ true
 
   -- a body all of whose rows have another belongs to a class at or below the other's
-  under_class : (d e : ℕ) → G.is_body e ≡ true → Under e d → G.below (G.class_of e) (G.class_of d) ≡ true
+  pub under_class : (d e : ℕ) → G.is_body e ≡ true → Under e d → G.below (G.class_of e) (G.class_of d) ≡ true
   under_class d e b u =
       let v = O.this_there e b in
       subst (λ x. G.below x (G.class_of d) ≡ true) (O.this_body v.0 e v.1).1 (T.above v.0 d (u v.0 (T.by_this v.0 e v.1)))
@@ -22,7 +22,7 @@ module _ (G : Given) (R : Roles) (T : IsClosed G R) (O : AreInOrder G R) (S : Sh
       record { at = n.0; stands = n.1; above = (B.columns r c n.0 (T.rows r c h) n.1).1 h }
 
   -- a `this` stands where its body does
-  this_at : (v d n : ℕ) → R.is_this v d ≡ true → S.column d ≡ Some n → S.row v ≡ n
+  pub this_at : (v d n : ℕ) → R.is_this v d ≡ true → S.column d ≡ Some n → S.row v ≡ n
   this_at v d n t at =
       let row = T.rows v d (T.by_this v d t) in
       B.both (S.row v) n ((B.columns v d n row at).1 (T.by_this v d t)) ((B.column_row d n v row at).1 (λ w h c k. T.by_body w v c d h t k))

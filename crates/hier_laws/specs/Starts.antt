@@ -52,6 +52,7 @@ module _ (G : Given) (R : Roles) where
 pub record IsStart (G : Given) (S : Shape) : Type 0 where
   pub both : (a b : ℕ) → S.le a b ≡ true → S.le b a ≡ true → a ≡ b
   pub through : (a b c : ℕ) → S.le a b ≡ true → S.le b c ≡ true → S.le a c ≡ true
+  pub upper : (a b : ℕ) → S.le a b ≡ true → S.le b b ≡ true
   -- a column stands where some row has it
   pub there : (r c : ℕ) → G.has r c ≡ true → (n : ℕ) × (S.column c ≡ Some n)
   -- a row stands at or below another exactly where it has all its columns
