@@ -1,5 +1,5 @@
 -- What the code of the start makes is the start, and that is a hierarchy of the facts.
-use Rattle.std.proofs.Common.{◌≡◌, ◌↔◌, ℕ, zero, suc, ◌+◌, ◌<◌, ◌≤◌, ◌==◌, ◌&&◌, ◌||◌, not, Bool, true, false, cond, List, [], ◌∷◌, ◌++◌, length, map, get_or, Option, Some, None, Contains, refl, sym, ap, ◌∙◌, subst, arith, ⊎_elim, eq-eqb, eqb-true, All}
+use Rattle.std.proofs.Common.{◌≡◌, ℕ, zero, suc, ◌+◌, ◌<◌, ◌==◌, ◌&&◌, not, Bool, true, false, cond, List, [], ◌∷◌, ◌++◌, length, map, get_or, Option, Some, None, Contains, refl, sym, ap, ◌∙◌, subst, arith, ⊎_elim, eq-eqb, eqb-true, All}
 use Rattle.std.specs.Prelude.{IfSome, unwrap_or, slice_get, filter}
 use Rattle.std.specs.Option.{option_map_or}
 use Rattle.std.specs.List.{list_any, range_with_len}
@@ -17,16 +17,15 @@ use Rattle.kaba_base.specs.declared.NodeId.{NodeId}
 use Rattle.kaba_base.specs.declared.ColId.{ColId}
 use Rattle.kaba_base.specs.declared.RowId.{RowId}
 use Rattle.kaba_base.specs.declared.ClassId.{ClassId}
-use Rattle.kaba_base.specs.Words.{first_that}
-use Rattle.kaba_bits.specs.Sets.{bit, row, HasWidth, IsSubset, rising, first_below, when}
+use Rattle.kaba_bits.specs.Sets.{bit, row, HasWidth, rising, first_below, when}
 use Rattle.kaba_bits.proofs.SetLemmas.{same_bits, bit-below}
 use Rattle.kaba_bits.proofs.FirstLemmas.{first_below_same}
 use Rattle.kaba_order.specs.Orders.{Ordered, is_live, IsPartialOrder}
 use Rattle.kaba_order.proofs.UniqueLemmas.{same_truth}
-use Rattle.fact_model.specs.Concepts.{Pair, pair_of, AreAllConcepts, IsPlaced, RowStands, ColumnStands, IsLattice, IsLatticeOf}
+use Rattle.fact_model.specs.Concepts.{Pair, pair_of, AreAllConcepts, IsPlaced, RowStands, ColumnStands, IsLattice}
 use Rattle.fact_model.specs.Entries.{IsTable}
-use Rattle.fact_model.specs.Items.{row_at, row_class, column_at, column_kind, column_slot, column_class}
-use Rattle.fact_model.specs.InRange.{InRange, IsClass, IsRow, IsCol, IsSite}
+use Rattle.fact_model.specs.Items.{column_at, column_kind, column_slot}
+use Rattle.fact_model.specs.InRange.{InRange, IsClass, IsCol}
 use Rattle.fact_model.specs.InOrder.{InOrder, name_of}
 use Rattle.fact_model.specs.declared.facts.Facts.{Facts}
 use Rattle.fact_model.specs.declared.facts.RowInfo.{RowInfo}
@@ -35,15 +34,14 @@ use Rattle.fact_model.specs.declared.facts.ColKind.{ColKind}
 use Rattle.fact_model.specs.declared.facts.ColKind.TheVariants.{Fld, Dcl, Def, Is}
 use Rattle.fact_model.specs.declared.sets.Concept.{Concept}
 use Rattle.fact_model.specs.declared.sets.Table.{Table}
-use Rattle.fact_model.specs.declared.sets.Lattice.{Lattice}
-use Rattle.hier_model.specs.Hierarchies.{Hierarchy, node, place_of_row, member_name, origin_of, is_method, KeepsTable, IsHierarchyOf}
-use Rattle.hier_model.specs.Names.{is_field, is_shared, named_member, member_names, named_type, type_names}
-use Rattle.hier_model.specs.Start.{is_filled, is_subset, is_same_set, order_of, concept_at, rows_with, column_place, row_place, is_below_all, lowest, owners, start_origin, origins_of, start_of, start_from}
-use Rattle.hier_model.specs.Listed.{extent_of, intent_of, is_above_concept, lists_column, lists_row, listed_column, listed_row, row_node}
+use Rattle.hier_model.specs.Hierarchies.{Hierarchy, node, is_method, KeepsTable, IsHierarchyOf}
+use Rattle.hier_model.specs.Names.{is_field, named_member, member_names, named_type, type_names}
+use Rattle.hier_model.specs.Start.{is_filled, is_subset, is_same_set, order_of, concept_at, rows_with, column_place, row_place, is_below_all, lowest, owners, start_origin, origins_of, start_of}
+use Rattle.hier_model.specs.Listed.{extent_of, intent_of, is_above_concept, lists_column, lists_row, listed_column, row_node}
 use Rattle.hier_model.proofs.MergedLemmas.{cases_Option}
 use Rattle.hier_model.proofs.FitLemmas.{lowest_member}
 use Rattle.hier_model.proofs.SetTests.{filled-some, filled-has, same_set-sound, same_set-complete}
-use Rattle.hier_model.proofs.StartLemmas.{rows_with-bit, int-length, ext-length, node-le, order_partial, nodes-count, column_lives, row_lives, this_stands}
+use Rattle.hier_model.proofs.StartLemmas.{rows_with-bit, int-length, ext-length, order_partial, nodes-count, column_lives, row_lives, this_stands}
 
 -- an order of these rows is that of the concepts
 pub order_built : (xs : List Pair) (live : List Bool) (le : List (List Bool)) → length live ≡ length xs → ((k : ℕ) → k < length xs → bit live k ≡ is_filled (concept_at xs k).0) → length le ≡ length xs
@@ -54,14 +52,14 @@ order_built xs live le ll lives n widths les =
     let g = λ (k : Pair). map (λ (l : Pair). is_filled k.0 && is_subset k.0 l.0) xs in
     let same_live : live ≡ map f xs = same_bits live (map f xs) (ll ∙ sym (length-map xs f)) (λ i lt. lives i (omega (arith, lt, ll)) ∙ sym (get_or-map f xs i ([], []) false (omega (arith, lt, ll)))) in
     let same_le : le ≡ map g xs =
-        ext_get_or [] le (map g xs) (n ∙ sym (length-map xs g))
-        (λ a lt.
-        let la : a < length xs = omega (arith, lt, n) in
-        let h = λ (l : Pair). is_filled (concept_at xs a).0 && is_subset (concept_at xs a).0 l.0 in
-        let rowed : row (map g xs) a ≡ map h xs = get_or-map g xs a ([], []) [] la in
-        same_bits (row le a) (map h xs) (widths a la ∙ sym (length-map xs h))
-        (λ b bt. let lb : b < length xs = omega (arith, bt, widths a la) in les a b la lb ∙ sym (get_or-map h xs b ([], []) false lb))
-        ∙ sym rowed) in
+    ext_get_or [] le (map g xs) (n ∙ sym (length-map xs g))
+    (λ a lt.
+    let la : a < length xs = omega (arith, lt, n) in
+    let h = λ (l : Pair). is_filled (concept_at xs a).0 && is_subset (concept_at xs a).0 l.0 in
+    let rowed : row (map g xs) a ≡ map h xs = get_or-map g xs a ([], []) [] la in
+    same_bits (row le a) (map h xs) (widths a la ∙ sym (length-map xs h))
+    (λ b bt. let lb : b < length xs = omega (arith, bt, widths a la) in les a b la lb ∙ sym (get_or-map h xs b ([], []) false lb))
+    ∙ sym rowed) in
     ap (λ (l : List Bool). let o : Ordered = record { live = l; le = le } in o) same_live ∙ ap (λ (l : List (List Bool)). let o : Ordered = record { live = map f xs; le = l } in o) same_le
 
 -- the same, by the concepts
@@ -127,22 +125,25 @@ module _ (T : List (List Bool)) (w : ℕ) (cs : List Concept) (lattice : IsLatti
       let filled = is_filled (rows_with T c) in
       let same = is_same_set x.0.extent (rows_with T c) in
       let whole : list_any (λ (d : ColId). d.0 == c) x.0.columns.items ≡ (filled && same) =
-          same_truth (list_any (λ (d : ColId). d.0 == c) x.0.columns.items) (filled && same)
-          (λ h.
-          let s : ColumnStands T x.0.extent c = ((at.columns.each c).0 (any_contains (λ (d : ColId). d.0) x.0.columns.items c h)).1 in
-          and_from filled same (filled-has (rows_with T c) s.live.0 (rows_with-bit T c s.live.0 ∙ s.live.2))
-          (same_set-complete x.0.extent (rows_with T c)
-          (λ r e. let rt = ext-below k x.0 lt x.2 r e in rows_with-bit T c r ∙ (s.rows r rt).0 e)
-          (λ r e. let rt = with-below c r e in (s.rows r rt).1 (sym (rows_with-bit T c r) ∙ e))))
-          (λ h.
-          let p = and_parts filled same h in
-          let sets = same_set-sound x.0.extent (rows_with T c) p.1 in
-          let i = filled-some (rows_with T c) p.0 in
-          contains_any (λ (d : ColId). d.0) x.0.columns.items c
-          ((at.columns.each c).1 (cw, record {
-            live = (i.0, with-below c i.0 i.1, sym (rows_with-bit T c i.0) ∙ i.1);
-            rows = λ r rt. ((λ e. sym (rows_with-bit T c r) ∙ sets.0 r e), (λ e. sets.1 r (rows_with-bit T c r ∙ e)));
-          }))) in
+      same_truth (list_any (λ (d : ColId). d.0 == c) x.0.columns.items) (filled && same)
+      (λ h.
+      let s : ColumnStands T x.0.extent c = ((at.columns.each c).0 (any_contains (λ (d : ColId). d.0) x.0.columns.items c h)).1 in
+      and_from filled same (filled-has (rows_with T c) s.live.0 (rows_with-bit T c s.live.0 ∙ s.live.2))
+      (same_set-complete x.0.extent (rows_with T c)
+      (λ r e. let rt = ext-below k x.0 lt x.2 r e in rows_with-bit T c r ∙ (s.rows r rt).0 e)
+      (λ r e. let rt = with-below c r e in (s.rows r rt).1 (sym (rows_with-bit T c r) ∙ e))))
+      (λ h.
+      let p = and_parts filled same h in
+      let sets = same_set-sound x.0.extent (rows_with T c) p.1 in
+      let i = filled-some (rows_with T c) p.0 in
+      contains_any (λ (d : ColId). d.0) x.0.columns.items c
+      ((at.columns.each c).1 (
+        cw,
+        record {
+          live = (i.0, with-below c i.0 i.1, sym (rows_with-bit T c i.0) ∙ i.1);
+          rows = λ r rt. ((λ e. sym (rows_with-bit T c r) ∙ sets.0 r e), (λ e. sets.1 r (rows_with-bit T c r ∙ e)));
+        },
+      ))) in
       listed ∙ whole ∙ ap (λ s. filled && is_same_set s (rows_with T c)) (sym ext)
     where
       with-below : (c r : ℕ) → bit (rows_with T c) r ≡ true → r < length T
@@ -165,9 +166,9 @@ module _ (T : List (List Bool)) (w : ℕ) (cs : List Concept) (lattice : IsLatti
       let listed : lists_row cs k r ≡ list_any (λ (q : RowId). q.0 == r) x.0.rows.items = ap (λ o. option_map_or (λ (y : Concept). list_any (λ (q : RowId). q.0 == r) y.rows.items) o false) x.1 in
       let same = is_same_set x.0.intent (row T r) in
       let whole : list_any (λ (q : RowId). q.0 == r) x.0.rows.items ≡ same =
-          same_truth (list_any (λ (q : RowId). q.0 == r) x.0.rows.items) same
-          (λ h. let s : RowStands T x.0.intent r = ((at.rows.each r).0 (any_contains (λ (q : RowId). q.0) x.0.rows.items r h)).1 in same_set-complete x.0.intent (row T r) s.1 s.0)
-          (λ h. let sets = same_set-sound x.0.intent (row T r) h in contains_any (λ (q : RowId). q.0) x.0.rows.items r ((at.rows.each r).1 (rt, (sets.1, sets.0)))) in
+      same_truth (list_any (λ (q : RowId). q.0 == r) x.0.rows.items) same
+      (λ h. let s : RowStands T x.0.intent r = ((at.rows.each r).0 (any_contains (λ (q : RowId). q.0) x.0.rows.items r h)).1 in same_set-complete x.0.intent (row T r) s.1 s.0)
+      (λ h. let sets = same_set-sound x.0.intent (row T r) h in contains_any (λ (q : RowId). q.0) x.0.rows.items r ((at.rows.each r).1 (rt, (sets.1, sets.0)))) in
       listed ∙ whole ∙ ap (λ s. is_same_set s (row T r)) (sym int)
 
   column_listed : (c : ℕ) → c < w → listed_column cs c ≡ column_place T (map pair_of cs) c

@@ -1,8 +1,8 @@
 -- An edit makes a hierarchy of the same facts.
-use Rattle.std.proofs.Common.{◌≡◌, ◌≢◌, ◌⊎◌, ℕ, zero, suc, ◌+◌, ◌<◌, ◌≤◌, ◌==◌, ◌&&◌, ◌||◌, not, Bool, true, false, cond, List, [], ◌∷◌, length, map, get_or, set, Option, Some, None, Result, Ok, Err, All, Contains, refl, sym, ap, ◌∙◌, subst, arith, ⊎_elim, inl, inr, eq-eqb, eqb-true}
-use Rattle.std.specs.Prelude.{IfSome, is_some, if◌then◌else◌, slice_set, unwrap_or}
+use Rattle.std.proofs.Common.{◌≡◌, ◌≢◌, ◌⊎◌, ℕ, zero, suc, ◌<◌, ◌==◌, ◌&&◌, ◌||◌, not, Bool, true, false, cond, List, [], ◌∷◌, length, map, get_or, set, Option, Some, None, Result, Ok, Err, All, refl, sym, ap, ◌∙◌, subst, arith, ⊎_elim, inl, inr, eq-eqb, eqb-true}
+use Rattle.std.specs.Prelude.{IfSome, is_some, slice_set, unwrap_or}
 use Rattle.std.specs.Option.{option_map, option_and_then}
-use Rattle.std.specs.List.{list_any, range_with_len}
+use Rattle.std.specs.List.{list_any}
 use Rattle.std.proofs.lemmas.Bool.{cases_Bool, cases_lt, cases_eq, and_parts, and_from, or_cases, or_left, or_right, false≢true}
 use Rattle.std.proofs.lemmas.Option.{same_Some}
 use Rattle.std.proofs.lemmas.List.{get_or-map, get_or-set_same, get_or-set_other, length-set, length-map}
@@ -15,19 +15,19 @@ use Rattle.kaba_base.specs.Words.{first_that}
 use Rattle.kaba_bits.specs.Sets.{bit, row, first_below, when}
 use Rattle.kaba_bits.proofs.SetLemmas.{bit-below, same_bits}
 use Rattle.kaba_bits.proofs.FirstLemmas.{first_below_None, first_below_Some}
-use Rattle.kaba_order.specs.Orders.{Ordered, is_le, is_live, IsPartialOrder, is_among, is_below_some, is_above_some, stays, merged_to, IsBetween, IsMerged, IsLeastMerged, IsUnder, IsLeastWith, IsDropped}
+use Rattle.kaba_order.specs.Orders.{Ordered, is_le, is_live, IsPartialOrder, is_among, is_below_some, is_above_some, stays, merged_to, IsBetween, IsLeastMerged, IsUnder, IsLeastWith, IsDropped}
 use Rattle.kaba_order.proofs.MergeLemmas.{has_any_some, any_has_some, among-All, least_merged}
 use Rattle.kaba_order.proofs.StepLemmas as step
 use Rattle.kaba_order.proofs.UniqueLemmas.{same_truth}
 use Rattle.fact_model.specs.Items.{row_this, column_kind, column_slot, column_at}
-use Rattle.fact_model.specs.InRange.{InRange, IsClass, IsCol}
+use Rattle.fact_model.specs.InRange.{InRange, IsClass}
 use Rattle.fact_model.specs.declared.facts.Facts.{Facts}
 use Rattle.fact_model.specs.declared.facts.ColumnInfo.{ColumnInfo}
 use Rattle.fact_model.specs.declared.facts.ColKind.TheVariants.{Is}
 use Rattle.fact_model.proofs.RangeLemmas.{this-below}
-use Rattle.hier_model.specs.Hierarchies.{Hierarchy, node, place_of_column, place_of_row, member_name, origin_of, is_at, is_method, IsSized, ArePlaced, SlotsHaveOneName, KeepsTable, IsHierarchyOf}
+use Rattle.hier_model.specs.Hierarchies.{Hierarchy, node, place_of_column, place_of_row, member_name, origin_of, is_at, is_method, IsHierarchyOf}
 use Rattle.hier_model.specs.Start.{is_below_all, lowest}
-use Rattle.hier_model.specs.Edits.{ordered_by, merged_order, under_order, dropped_order, least_of, first_between, all_there, merged_origin, merged_node, merged, is_column, moved_row, moved, is_one_slot, is_renamed, renamed_member, renamed, first_unknown, is_placed, is_mark, is_used, unless, changed, NamesSome}
+use Rattle.hier_model.specs.Edits.{merged_order, under_order, dropped_order, least_of, first_between, all_there, merged_origin, merged_node, merged, is_column, moved_row, moved, is_one_slot, is_renamed, renamed_member, renamed, first_unknown, is_placed, is_mark, is_used, unless, changed, NamesSome}
 use Rattle.hier_model.specs.declared.edits.Edit.{Edit}
 use Rattle.hier_model.specs.declared.edits.Edit.TheVariants as edit
 use Rattle.hier_model.specs.declared.edits.ChangeFault.{ChangeFault}
@@ -105,10 +105,10 @@ module _ (o : Ordered) (p : IsPartialOrder o) where
         dropped_made
 
   module _ (set : List NodeId) (m : ℕ) where
-    abbrev merged_le : ℕ → ℕ → Bool
+    abbrev pub merged_le : ℕ → ℕ → Bool
     merged_le a b = (is_le o a b || (is_below_some o set a && is_above_some o set b)) && stays set m a && stays set m b
 
-    merged_below : (a b : ℕ) → merged_le a b ≡ true → (a < length o.live) × (b < length o.live)
+    pub merged_below : (a b : ℕ) → merged_le a b ≡ true → (a < length o.live) × (b < length o.live)
     merged_below a b h =
         let pair = is_le o a b || (is_below_some o set a && is_above_some o set b) in
         let x = and_parts pair (stays set m a) (and_parts (pair && stays set m a) (stays set m b) h).0 in
@@ -121,7 +121,7 @@ module _ (o : Ordered) (p : IsPartialOrder o) where
         (lower a low.0 low.2, upper high.0 b high.2))
         (or_cases (is_le o a b) (is_below_some o set a && is_above_some o set b) x.0)
 
-    merged_live : (a : ℕ) → (is_live o a && stays set m a) ≡ true → a < length o.live
+    pub merged_live : (a : ℕ) → (is_live o a && stays set m a) ≡ true → a < length o.live
     merged_live a h = bit-below o.live a (and_parts (is_live o a) (stays set m a) h).0
 
     pub merged_made : is_among set m ≡ true → ((s : ℕ) → is_among set s ≡ true → is_live o s ≡ true) → ((x : ℕ) → IsBetween o set x → ⊥) → IsLeastMerged o set m (merged_order o set m)
@@ -135,7 +135,7 @@ module _ (o : Ordered) (p : IsPartialOrder o) where
         has live none
 
 -- the least node of a list is one of it, and live
-least_among : (o : Ordered) (set : List NodeId) → 0 < length set → All (λ s. is_live o s.0 ≡ true) set → (is_among set (least_of o set) ≡ true) × (least_of o set < length o.live)
+pub least_among : (o : Ordered) (set : List NodeId) → 0 < length set → All (λ s. is_live o s.0 ≡ true) set → (is_among set (least_of o set) ≡ true) × (least_of o set < length o.live)
 least_among o [] lt all = absurd (omega (arith, lt))
 least_among o (n ∷ ns) lt all =
     let f : ℕ → Option ℕ = λ k. when (is_among (n ∷ ns) k) k in
@@ -195,7 +195,7 @@ module _ (F : Facts) (R : InRange F) (H : Hierarchy) (fit : IsHierarchyOf F H) w
   dropped_fits n unused =
       let made = dropped_made H.order fit.sized.order n.0 in
       let lives : (p : ℕ) → is_live H.order p ≡ true → p ≢ n.0 → is_live (dropped_order H.order n.0) p ≡ true =
-          λ p h ne. made.live p ∙ and_from (is_live H.order p) (not (p == n.0)) h (⊎_elim (λ t. absurd (ne (eqb-true p n.0 t))) (λ f. ap not f) (cases_Bool (p == n.0))) in
+      λ p h ne. made.live p ∙ and_from (is_live H.order p) (not (p == n.0)) h (⊎_elim (λ t. absurd (ne (eqb-true p n.0 t))) (λ f. ap not f) (cases_Bool (p == n.0))) in
       let none = or_false (list_any (is_at n.0) H.columns) (list_any (λ p. p.0 == n.0) H.rows) unused in
       order_fits (dropped_order H.order n.0) (dropped_partial H.order fit.sized.order n.0) made.count
       (λ k h. (and_parts (is_live H.order k) (not (k == n.0)) (sym (made.live k) ∙ h)).0)
@@ -238,7 +238,7 @@ module _ (F : Facts) (R : InRange F) (H : Hierarchy) (fit : IsHierarchyOf F H) w
   together : (c : ColId) (a b x : ℕ) → column_slot F a ≡ Some x → column_slot F b ≡ Some x → is_renamed F c a ≡ true → is_renamed F c b ≡ true
   together c a b x ea eb h =
       let own : column_slot F c.0 ≡ Some x =
-          ⊎_elim (λ t. ap (column_slot F) (sym (eqb-true a c.0 t)) ∙ ea) (λ t. one_slot (column_slot F c.0) (column_slot F a) x t ea) (or_cases (a == c.0) (is_one_slot (column_slot F c.0) (column_slot F a)) h) in
+      ⊎_elim (λ t. ap (column_slot F) (sym (eqb-true a c.0 t)) ∙ ea) (λ t. one_slot (column_slot F c.0) (column_slot F a) x t ea) (or_cases (a == c.0) (is_one_slot (column_slot F c.0) (column_slot F a)) h) in
       or_right (b == c.0) (is_one_slot (column_slot F c.0) (column_slot F b)) (is_slot_of (column_slot F c.0) (column_slot F b) x own eb)
 
   pub member_fits : (c : ColId) (name : List ℕ) → IsHierarchyOf F (renamed F H c name)
@@ -336,11 +336,11 @@ module _ (F : Facts) (R : InRange F) (H : Hierarchy) (fit : IsHierarchyOf F H) w
       let low = least_among o set some all in
       let made : IsLeastMerged o set m (merged_order o set m) = merged_made o p set m low.0 (λ s h. among-All (λ x. is_live o x ≡ true) set all s h) (none_between o set p none) in
       let to_live : (q : ℕ) → is_live o q ≡ true → is_live (merged_order o set m) (merged_to set m q) ≡ true =
-          λ q h. made.order.lower_lives (merged_to set m q) (merged_to set m q) (made.holds q q (p.reflexive q h)) in
+      λ q h. made.order.lower_lives (merged_to set m q) (merged_to set m q) (made.holds q q (p.reflexive q h)) in
       let g = merged_node set m in
       let column_of : (c : ℕ) → place_of_column (merged F H set) c ≡ option_map g (place_of_column H c) = λ c. get_or_map_default (option_map g) H.columns c None in
       let row_of : (r : ℕ) → r < length F.rows.items → get_or (merged F H set).rows r (node 0) ≡ g (get_or H.rows r (node 0)) =
-          λ r lt. get_or-map g H.rows r (node 0) (node 0) (omega (arith, lt, fit.sized.rows)) in
+      λ r lt. get_or-map g H.rows r (node 0) (node 0) (omega (arith, lt, fit.sized.rows)) in
       let origin = merged_origin F (map (λ s. origin_of H s.0) set) in
       record {
         sized = record {

@@ -1,5 +1,5 @@
 -- The least node of a list, and the first that lies between two of it.
-use Rattle.std.proofs.Common.{◌≡◌, ◌≢◌, ℕ, ◌<◌, ◌↔◌, ◌⊎◌, ◌||◌, ◌≤◌, ◌&&◌, ◌==◌, not, Bool, true, false, List, length, Option, Some, None, Result, Ok, Err, All, refl, sym, ap, ◌∙◌, subst, arith, ⊎_elim, inl, inr, eq-eqb, eqb-true}
+use Rattle.std.proofs.Common.{◌≡◌, ℕ, ◌<◌, ◌↔◌, ◌⊎◌, ◌||◌, ◌&&◌, ◌==◌, not, Bool, true, false, List, length, Option, Some, None, Result, Ok, Err, All, refl, sym, ap, ◌∙◌, subst, arith, ⊎_elim, inl, inr, eq-eqb, eqb-true}
 use Rattle.std.proofs.lemmas.Bool.{cases_Bool, cases_lt, and_parts, and_from, false≢true}
 use Rattle.kaba_base.specs.declared.NodeId.{NodeId}
 use Rattle.kaba_bits.specs.Sets.{bit, row, first_below, when}
@@ -11,7 +11,6 @@ use Rattle.hier_model.specs.Hierarchies.{node}
 use Rattle.kaba_order.specs.Orders.{IsMerged, IsLeastMerged, IsUnder, IsLeastWith, IsDropped, stays}
 use Rattle.kaba_order.specs.declared.OrderFault.{OrderFault}
 use Rattle.kaba_order.specs.declared.OrderFault.TheVariants as fault
-use Rattle.kaba_order.proofs.StepLemmas as step
 use Rattle.hier_model.specs.Edits.{least_of, first_between, merged_order, under_order, dropped_order, fault_of}
 use Rattle.hier_model.specs.declared.edits.ChangeFault.TheVariants.{Memory, Cycle}
 use Rattle.hier_model.proofs.OrderedLemmas.{made_order}
@@ -42,7 +41,7 @@ module _ (o : Ordered) (set : List NodeId) (p : IsPartialOrder o) where
   least_is all m l =
       let f : ℕ → Option ℕ = λ k. when (is_among set k) k in
       let none : first_below m f ≡ None =
-          first_below_clear f m (λ k lt. when_false (is_among set k) k (⊎_elim (λ t. let le = l.least k t in absurd (omega (arith, lt, le))) (λ e. e) (cases_Bool (is_among set k)))) in
+      first_below_clear f m (λ k lt. when_false (is_among set k) k (⊎_elim (λ t. let le = l.least k t in absurd (omega (arith, lt, le))) (λ e. e) (cases_Bool (is_among set k)))) in
       rw (first_below_found f m (length o.live) m (among_below all m l.among) none (when_true (is_among set m) m l.among)) refl
 
   abbrev between : ℕ → Option NodeId

@@ -1,19 +1,19 @@
 -- Names that are free.
-use Rattle.std.proofs.Common.{◌≡◌, ℕ, zero, suc, ◌+◌, ◌<◌, ◌≤◌, ◌||◌, not, Bool, true, false, List, [], ◌∷◌, ◌++◌, length, map, Option, Some, None, refl, sym, ap, ◌∙◌, subst, arith, ⊎_elim, append_assoc}
-use Rattle.std.specs.Prelude.{replicate, max, unwrap_or, string_bytes, String, cond}
+use Rattle.std.proofs.Common.{◌≡◌, ℕ, zero, suc, ◌+◌, ◌<◌, ◌≤◌, ◌||◌, not, Bool, true, false, List, [], ◌∷◌, ◌++◌, length, Option, Some, None, refl, sym, ap, ◌∙◌, subst, arith, ⊎_elim, append_assoc}
+use Rattle.std.specs.Prelude.{replicate, unwrap_or, string_bytes, String, cond}
 use Rattle.std.specs.List.{list_any}
 use Rattle.std.specs.Str.{bytes_eq, chars, encode_utf8_all, IsUtf8}
 use Rattle.std.specs.declared.alloc.Global.{Global}
-use Rattle.std.proofs.lemmas.Bool.{cases_Bool, cases_lt, or_cases, or_left, or_right, false≢true}
+use Rattle.std.proofs.lemmas.Bool.{cases_Bool, cases_lt, or_cases, false≢true}
 use Rattle.std.proofs.lemmas.Bool.Decides.{same_from_decides}
 use Rattle.std.proofs.lemmas.Slice.Eq.{bytes_eq-Decides}
-use Rattle.std.proofs.lemmas.Str.{chars_from_encodes, encodes-chars, encodes-append, IsUtf8-had, chars-append}
+use Rattle.std.proofs.lemmas.Str.{chars_from_encodes, encodes-chars, encodes-append, IsUtf8-had}
 use Rattle.std.proofs.lemmas.List.{length-append, append-nil, map-append}
 use Rattle.std.proofs.lemmas.List.Folds.{list_any-append}
 use Rattle.indexmap.specs.IndexSet.{insert_key}
 use Rattle.kaba_base.proofs.Texts.{same_chars}
 use Rattle.kaba_bits.specs.Sets.{first_below, when}
-use Rattle.kaba_bits.proofs.FirstLemmas.{first_below_found, first_below_clear, first_below_None, first_below_Some, when-Some, when-None}
+use Rattle.kaba_bits.proofs.FirstLemmas.{first_below_None, first_below_Some, when-Some}
 use Rattle.hier_model.specs.Names.{is_taken, longest, lengthened, underscores, free_name, joined, class_name, is_shared, named_member}
 use Rattle.hier_model.specs.Taken.{texts, AreSame}
 use Rattle.std.proofs.Common.{add-one, ◌^◌}
@@ -24,7 +24,7 @@ use Rattle.fact_model.specs.Items.{column_at, column_class}
 use Rattle.fact_model.specs.InOrder.{name_of}
 use Rattle.fact_model.specs.declared.facts.Facts.{Facts}
 use Rattle.fact_model.specs.declared.facts.ColumnInfo.{ColumnInfo}
-use Rattle.hier_model.proofs.MergedLemmas.{cases_Option, when_true, when_false, when_some}
+use Rattle.hier_model.proofs.MergedLemmas.{cases_Option, when_true}
 
 same_name : (x y : List ℕ) → bytes_eq x y ≡ true → x ≡ y
 same_name x y e = (bytes_eq-Decides x y).0 e
@@ -82,10 +82,10 @@ module _ (t : List (List ℕ)) (name : List ℕ) where
   free_name-at k before free =
       let j = found.0 in
       let same : j ≡ k =
-          ⊎_elim
-          (λ lt. absurd (false≢true (sym found.2 ∙ before j lt)))
-          (λ ge. ⊎_elim (λ lt. absurd (false≢true (sym free ∙ taken_before j found.3 k lt))) (λ le. omega (arith, ge, le)) (cases_lt k j))
-          (cases_lt j k) in
+      ⊎_elim
+      (λ lt. absurd (false≢true (sym found.2 ∙ before j lt)))
+      (λ ge. ⊎_elim (λ lt. absurd (false≢true (sym free ∙ taken_before j found.3 k lt))) (λ le. omega (arith, ge, le)) (cases_lt k j))
+      (cases_lt j k) in
       ap (lengthened name) (found.4 ∙ same)
 
   pub free_name-before : (j : ℕ) → j < underscores t name → is_taken t (lengthened name j) ≡ true
@@ -205,7 +205,7 @@ pub named_shared : (F : Facts) (given t : List (List ℕ)) (c : ℕ) (k : Column
     → string_bytes base ≡ encode_utf8_all k.name ++ 95 ∷ encode_utf8_all (class_name F k.class.0) → AreSame t (F.words.items ++ given) → n ≡ free_name t (chars (string_bytes base)) → n ≡ named_member F given c
 named_shared F given t c k base n e shared b same is =
     let base_is : chars (string_bytes base) ≡ joined (name_of F c) (class_name F (column_class F c)) =
-        joined_text base k.name (class_name F k.class.0) b ∙ ap (λ (x : ColumnInfo). joined x.name (class_name F x.class.0)) e in
+    joined_text base k.name (class_name F k.class.0) b ∙ ap (λ (x : ColumnInfo). joined x.name (class_name F x.class.0)) e in
     is ∙ ap (free_name t) base_is ∙ free_name-same t (F.words.items ++ given) (joined (name_of F c) (class_name F (column_class F c))) same
     ∙ ap (λ x. cond x (free_name (F.words.items ++ given) (joined (name_of F c) (class_name F (column_class F c)))) (name_of F c)) (sym shared)
 

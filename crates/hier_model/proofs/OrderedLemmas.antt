@@ -1,9 +1,9 @@
 -- Orders that are given by their pairs.
-use Rattle.std.proofs.Common.{◌≡◌, ℕ, ◌+◌, ◌<◌, ◌≤◌, Bool, true, false, List, [], length, map, get_or, refl, sym, ap, ◌∙◌, subst, arith, ⊎_elim}
+use Rattle.std.proofs.Common.{◌≡◌, ℕ, ◌<◌, Bool, true, false, List, [], length, map, sym, ap, ◌∙◌, arith, ⊎_elim}
 use Rattle.std.specs.List.{range_with_len}
-use Rattle.std.proofs.lemmas.List.{ext_get_or, get_or-map}
+use Rattle.std.proofs.lemmas.List.{ext_get_or}
 use Rattle.std.proofs.lemmas.List.FromFn.{get_or-map-range_with_len, length-map-range_with_len}
-use Rattle.std.proofs.lemmas.Bool.{cases_lt, cases_Bool, false≢true}
+use Rattle.std.proofs.lemmas.Bool.{cases_lt, cases_Bool}
 use Rattle.std.proofs.Math.ListN.{get_or-eq_default}
 use Rattle.kaba_bits.specs.Sets.{bit, row, HasWidth}
 use Rattle.kaba_bits.proofs.SetLemmas.{same_bits}
@@ -34,11 +34,11 @@ module _ (o : Ordered) (live : ℕ → Bool) (le : ℕ → ℕ → Bool) where
   made_order new p n lives les =
       let l : new.live ≡ (ordered_by o live le).live = same_bits new.live (ordered_by o live le).live (n ∙ sym made_count) (λ i lt. lives i ∙ sym (live_at i (omega (arith, lt, n)))) in
       let r : new.le ≡ (ordered_by o live le).le =
-          ext_get_or [] new.le (ordered_by o live le).le (p.count ∙ n ∙ sym rows)
-          (λ k lt.
-          let here : k < length o.live = omega (arith, lt, p.count, n) in
-          same_bits (row new.le k) (row (ordered_by o live le).le k) (p.widths k lt ∙ n ∙ sym (row_width k here))
-          (λ i il. les k i ∙ sym (le_at k i here (omega (arith, il, p.widths k lt, n))))) in
+      ext_get_or [] new.le (ordered_by o live le).le (p.count ∙ n ∙ sym rows)
+      (λ k lt.
+      let here : k < length o.live = omega (arith, lt, p.count, n) in
+      same_bits (row new.le k) (row (ordered_by o live le).le k) (p.widths k lt ∙ n ∙ sym (row_width k here))
+      (λ i il. les k i ∙ sym (le_at k i here (omega (arith, il, p.widths k lt, n))))) in
       let first : new ≡ record { live = (ordered_by o live le).live; le = new.le } = ap (λ (x : List Bool). let y : Ordered = record { live = x; le = new.le } in y) l in
       first ∙ ap (λ (x : List (List Bool)). let y : Ordered = record { live = (ordered_by o live le).live; le = x } in y) r
 

@@ -1,8 +1,7 @@
 -- Tests of sets, and what they say.
-use Rattle.std.proofs.Common.{◌≡◌, ℕ, zero, suc, ◌&&◌, ◌||◌, not, Bool, true, false, List, [], ◌∷◌, length, refl, sym, ap, ◌∙◌, ⊎_elim}
+use Rattle.std.proofs.Common.{◌≡◌, ℕ, zero, suc, ◌||◌, not, Bool, true, false, List, [], ◌∷◌, refl, sym, ap, ◌∙◌, ⊎_elim}
 use Rattle.std.proofs.lemmas.Bool.{false≢true, and_parts, and_from, or_cases, or_left, or_right, cases_Bool}
 use Rattle.kaba_bits.specs.Sets.{bit, IsSubset, IsEmpty}
-use Rattle.kaba_bits.proofs.SetLemmas.{subset-both}
 use Rattle.kaba_order.proofs.UniqueLemmas.{same_truth}
 use Rattle.hier_model.specs.Start.{is_filled, is_subset, is_same_set}
 

@@ -1,39 +1,28 @@
 -- The start is a hierarchy of the facts.
-use Rattle.std.proofs.Common.{◌≡◌, ◌≢◌, ◌⊎◌, ℕ, zero, suc, ◌+◌, ◌<◌, ◌≤◌, ◌==◌, ◌&&◌, ◌||◌, ◌↔◌, not, Bool, true, false, cond, List, [], ◌∷◌, ◌++◌, length, map, get_or, Option, Some, None, Contains, refl, sym, ap, ◌∙◌, subst, arith, rules, ⊎_elim, inl, inr, eq-eqb, eqb-true, All, AllPairs}
-use Rattle.std.specs.Prelude.{IfSome, unwrap_or, slice_get, filter}
-use Rattle.std.specs.Option.{option_map_or}
-use Rattle.std.specs.List.{list_any, range_with_len}
-use Rattle.std.specs.declared.cmp.Ordering.TheVariants.{Less, Equal}
+use Rattle.std.proofs.Common.{◌≡◌, ℕ, ◌<◌, ◌&&◌, Bool, true, false, List, [], ◌∷◌, length, map, Option, Some, None, sym, ap, ◌∙◌, subst, arith, rules, ⊎_elim}
+use Rattle.std.specs.Prelude.{unwrap_or}
+use Rattle.std.specs.declared.cmp.Ordering.TheVariants.{Equal}
 use Rattle.std.specs.Cmp.{IsTotalOrder}
 use Rattle.std.specs.Cmp.Rules.{comparing}
 use Rattle.std.proofs.lemmas.Cmp.{tied_itself}
-use Rattle.std.proofs.lemmas.Bool.{cases_Bool, cases_lt, cases_order, and_parts, and_from, false≢true}
-use Rattle.std.proofs.lemmas.Option.{same_Some}
-use Rattle.std.proofs.lemmas.List.{get_or-map, length-map, ext_get_or}
-use Rattle.std.proofs.lemmas.List.Elements.{All-contains}
-use Rattle.std.proofs.lemmas.List.FromFn.{get_or-map-range_with_len, length-map-range_with_len}
+use Rattle.std.proofs.lemmas.Bool.{cases_lt, cases_order, and_parts, and_from, false≢true}
+use Rattle.std.proofs.lemmas.List.{get_or-map, length-map}
 use Rattle.std.proofs.Math.ListN.{get_or-map as get_or_map_default, get_or-eq_default}
-use Rattle.derivations.specs.Derivation.{IsDerivable}
 use Rattle.derivations.proofs.Derivations.{derivable_by}
 use Rattle.kaba_base.specs.declared.NodeId.{NodeId}
 use Rattle.kaba_base.specs.declared.ColId.{ColId}
-use Rattle.kaba_base.specs.declared.ClassId.{ClassId}
-use Rattle.kaba_bits.specs.Sets.{bit, row, HasWidth, IsSubset, ListsBelow, first_below, when}
+use Rattle.kaba_bits.specs.Sets.{bit, row, HasWidth, IsSubset, first_below, when}
 use Rattle.kaba_bits.proofs.SetLemmas.{bit-below, same_bits, subset-both}
 use Rattle.kaba_bits.proofs.FirstLemmas.{first_below_None, first_below_Some, when-Some}
-use Rattle.kaba_order.specs.Orders.{Ordered, is_le, is_live, IsPartialOrder}
+use Rattle.kaba_order.specs.Orders.{is_le, is_live, IsPartialOrder}
 use Rattle.kaba_order.proofs.UniqueLemmas.{same_truth}
-use Rattle.fact_model.specs.Concepts.{Pair, pair_of, concept_cmp, IsExtent, IsIntent, IsConcept, AreAllConcepts, HasIntent}
-use Rattle.fact_model.specs.Entries.{Entails, by_this, by_body, IsEntry}
-use Rattle.fact_model.specs.Items.{row_this, row_at, column_at, column_kind, column_slot, column_class}
-use Rattle.fact_model.specs.InRange.{InRange, IsClass}
-use Rattle.fact_model.specs.InOrder.{InOrder, name_of}
+use Rattle.fact_model.specs.Concepts.{Pair, concept_cmp, IsConcept, AreAllConcepts, HasIntent}
+use Rattle.fact_model.specs.Entries.{Entails, by_this, by_body}
+use Rattle.fact_model.specs.Items.{row_this}
+use Rattle.fact_model.specs.InRange.{InRange}
 use Rattle.fact_model.specs.declared.facts.Facts.{Facts}
-use Rattle.fact_model.specs.declared.facts.RowInfo.{RowInfo}
-use Rattle.fact_model.specs.declared.facts.ColumnInfo.{ColumnInfo}
-use Rattle.fact_model.specs.declared.facts.ColKind.TheVariants.{Is}
 use Rattle.fact_model.proofs.RangeLemmas.{this-below}
-use Rattle.hier_model.specs.Hierarchies.{Hierarchy, node, place_of_column, place_of_row, KeepsTable}
+use Rattle.hier_model.specs.Hierarchies.{node, KeepsTable}
 use Rattle.hier_model.specs.Start.{is_filled, is_subset, is_same_set, order_of, concept_at, rows_with, column_place, row_place}
 use Rattle.hier_model.proofs.MergedLemmas.{cases_Option, when_true}
 use Rattle.hier_model.proofs.SetTests.{filled-some, filled-has, subset-sound, subset-complete, same_set-sound, same_set-complete}
@@ -188,8 +177,8 @@ module _ (T : List (List Bool)) (w : ℕ) (widths : HasWidth w T) (xs : List Pai
   pub column_stands_at : (c k : ℕ) → ColumnStands c k → column_place T xs c ≡ Some (node k)
   column_stands_at c k s =
       let here : at_column c k ≡ Some (node k) =
-          when_true (is_filled (rows_with T c) && is_same_set (ext k) (rows_with T c)) (node k)
-          (and_from (is_filled (rows_with T c)) (is_same_set (ext k) (rows_with T c)) s.filled (same_set-complete (ext k) (rows_with T c) s.within s.holds)) in
+      when_true (is_filled (rows_with T c) && is_same_set (ext k) (rows_with T c)) (node k)
+      (and_from (is_filled (rows_with T c)) (is_same_set (ext k) (rows_with T c)) s.filled (same_set-complete (ext k) (rows_with T c) s.within s.holds)) in
       ⊎_elim
       (λ none. let z : Some (node k) ≡ None = sym here ∙ first_below_None (at_column c) (length xs) k none s.below in absurd (cc z))
       (λ y.
@@ -231,7 +220,7 @@ module _ (T : List (List Bool)) (w : ℕ) (widths : HasWidth w T) (xs : List Pai
       let h = has_row r lt in
       let is : int h.at ≡ row T r = h.is ([], []) in
       let here : at_row (row T r) h.at ≡ Some (node h.at) =
-          when_true (is_same_set (int h.at) (row T r)) (node h.at) (same_set-complete (int h.at) (row T r) (λ i e. subst (λ s. bit s i ≡ true) is e) (λ i e. subst (λ s. bit s i ≡ true) (sym is) e)) in
+      when_true (is_same_set (int h.at) (row T r)) (node h.at) (same_set-complete (int h.at) (row T r) (λ i e. subst (λ s. bit s i ≡ true) is e) (λ i e. subst (λ s. bit s i ≡ true) (sym is) e)) in
       ⊎_elim
       (λ none. let z : Some (node h.at) ≡ None = sym here ∙ first_below_None (at_row (row T r)) (length xs) h.at none h.below in absurd (cc z))
       (λ y.

@@ -1,6 +1,5 @@
 -- A class hierarchy over the rows and columns of a table, its places, and what is offered at a node.
-use Rattle.std.specs.Prelude.{◌≡◌, ℕ, suc, zero, ◌<◌, ◌↔◌, ◌==◌, ◌&&◌, ◌||◌, Bool, true, false, List, [], ◌∷◌, length, Option, Some, None, is_some, slice_index_or, IfSome}
-use Rattle.std.specs.List.{list_any}
+use Rattle.std.specs.Prelude.{◌≡◌, ℕ, suc, zero, ◌<◌, ◌↔◌, ◌==◌, ◌&&◌, ◌||◌, Bool, true, false, List, [], length, Option, Some, None, slice_index_or, IfSome}
 use Rattle.kaba_base.specs.declared.NodeId.{NodeId}
 use Rattle.kaba_base.specs.declared.ColId.{ColId}
 use Rattle.kaba_base.specs.declared.ClassId.{ClassId}

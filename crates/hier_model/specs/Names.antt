@@ -6,7 +6,7 @@ use Rattle.std.specs.Str.{bytes_eq}
 use Rattle.std.specs.Fmt.{decimal}
 use Rattle.kaba_base.specs.declared.ClassId.{ClassId}
 use Rattle.kaba_bits.specs.Sets.{first_below, when}
-use Rattle.fact_model.specs.Items.{column_at, column_kind, column_class}
+use Rattle.fact_model.specs.Items.{column_kind, column_class}
 use Rattle.fact_model.specs.Classes.{below}
 use Rattle.fact_model.specs.InOrder.{name_of}
 use Rattle.fact_model.specs.declared.facts.Facts.{Facts}

@@ -1,12 +1,12 @@
 -- The hierarchy that a concept lattice proposes (Snelting and Tip, 2000).
-use Rattle.std.specs.Prelude.{ℕ, ◌&&◌, ◌||◌, Bool, true, false, not, List, [], ◌∷◌, length, map, filter, Option, Some, None, unwrap_or, slice_index_or}
+use Rattle.std.specs.Prelude.{ℕ, ◌&&◌, ◌||◌, Bool, true, not, List, [], ◌∷◌, length, map, filter, Option, Some, unwrap_or, slice_index_or}
 use Rattle.std.specs.List.{list_any, list_all, range_with_len}
 use Rattle.kaba_base.specs.declared.NodeId.{NodeId}
 use Rattle.kaba_base.specs.declared.ClassId.{ClassId}
 use Rattle.kaba_base.specs.Words.{first_that}
-use Rattle.kaba_bits.specs.Sets.{bit, row, rising, first_below, when}
+use Rattle.kaba_bits.specs.Sets.{bit, rising, first_below, when}
 use Rattle.kaba_order.specs.Orders.{Ordered}
-use Rattle.fact_model.specs.Items.{column_at, column_class}
+use Rattle.fact_model.specs.Items.{column_at}
 use Rattle.fact_model.specs.Classes.{below, is_interface}
 use Rattle.fact_model.specs.Concepts.{Pair, pair_of}
 use Rattle.fact_model.specs.declared.facts.Facts.{Facts}

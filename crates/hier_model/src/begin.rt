@@ -214,11 +214,7 @@ fn has_row(rows: &[RowId], r: RowId) -> bool
 }
 
 /// The node of each row.
-fn row_places(
-    alloc: Global,
-    concepts: &[Concept],
-    count: u32,
-) -> Result<Vec<NodeId>, AllocError>
+fn row_places(alloc: Global, concepts: &[Concept], count: u32) -> Result<Vec<NodeId>, AllocError>
     requires few { length concepts.now < 4294967295 }
     ensures { IfOk result (λ v. v.items ≡ map (row_node concepts.now) (range_with_len 0 count)) }
 {

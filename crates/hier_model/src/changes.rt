@@ -158,13 +158,7 @@ impl Hier {
     }
 
     /// The hierarchy with a column at another node.
-    fn moved(
-        &self,
-        alloc: Global,
-        facts: &Facts,
-        c: ColId,
-        n: NodeId,
-    ) -> Result<Hier, AllocError>
+    fn moved(&self, alloc: Global, facts: &Facts, c: ColId, n: NodeId) -> Result<Hier, AllocError>
         requires range { InRange facts.now }
         requires hierarchy { IsHierarchyOf facts.now self.now }
         requires column { c.0 < length self.now.columns }

@@ -24,11 +24,10 @@ mod names;
 mod orders;
 mod origins;
 
-
-pub use edits::{ChangeFault, Edit};
-pub use items::{column_at, site_at, this_of};
 pub use begin::start;
+pub use edits::{ChangeFault, Edit};
 use items::is_of_class;
+pub use items::{column_at, site_at, this_of};
 
 /// A class hierarchy: nodes in a partial order, the node where each row and each live column stands, the
 /// names of types and members, the class from which each node comes, and the table of its start.

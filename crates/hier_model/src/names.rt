@@ -132,11 +132,7 @@ fn free_name(alloc: Global, taken: &IndexSet<String>, base: String) -> Result<Na
 }
 
 /// The names of two lists.
-fn taken_names(
-    alloc: Global,
-    words: &[Name],
-    more: &[Name],
-) -> Result<IndexSet<String>, AllocError>
+fn taken_names(alloc: Global, words: &[Name], more: &[Name]) -> Result<IndexSet<String>, AllocError>
     ensures { IfOk result (λ t. AreSame (texts t.keys) (words.now ++ more.now)) }
 {
     let mut taken = IndexSet::new(alloc);
@@ -146,11 +142,7 @@ fn taken_names(
 }
 
 /// Adds names to those taken.
-fn add_names(
-    alloc: Global,
-    taken: &mut IndexSet<String>,
-    names: &[Name],
-) -> Result<(), AllocError>
+fn add_names(alloc: Global, taken: &mut IndexSet<String>, names: &[Name]) -> Result<(), AllocError>
     ensures { OnOk result ((x : List ℕ) → is_taken (texts taken.new.keys) x ≡ (is_taken (texts taken.old.keys) x || is_taken names.now x)) }
 {
     for k in 0..names.len() {

@@ -31,11 +31,7 @@ pub struct Merged {
 
 /// The order in which the nodes of a list are one, the least of them. `Cycle` comes exactly where a node
 /// outside lies strictly between two of them, and holds the least such.
-pub fn merged_order(
-    alloc: Global,
-    order: &Order,
-    set: &Vec<NodeId>,
-) -> Result<Merged, ChangeFault>
+pub fn merged_order(alloc: Global, order: &Order, set: &Vec<NodeId>) -> Result<Merged, ChangeFault>
     requires order { IsPartialOrder order.now }
     requires some { 0 < length set.now.items }
     requires live { All (λ s. is_live order.now s.0 ≡ true) set.now.items }
@@ -66,12 +62,7 @@ fn fault_of(fault: OrderFault) -> ChangeFault
 }
 
 /// The order in which a node stands below another. `Cycle` comes exactly where the other is strictly below it.
-pub fn under_order(
-    alloc: Global,
-    order: &Order,
-    n: NodeId,
-    p: NodeId,
-) -> Result<Order, ChangeFault>
+pub fn under_order(alloc: Global, order: &Order, n: NodeId, p: NodeId) -> Result<Order, ChangeFault>
     requires order { IsPartialOrder order.now }
     requires n { is_live order.now n.0 ≡ true }
     requires p { is_live order.now p.0 ≡ true }

@@ -13,7 +13,7 @@ pub merged-requires-clause-live : goal.merged-requires-clause-live
 merged-requires-clause-live c =
     let set = c.args.set.now.items in
     let none : first_unknown c.args.self.now.order set ≡ None =
-        ap (λ (h : Hierarchy). first_unknown h.order set) (sym c.self.view_is) ∙ ap (first_unknown c.self.inside.order) (sym c.deref.ensures.value) ∙ sym c.in_default.ensures in
+    ap (λ (h : Hierarchy). first_unknown h.order set) (sym c.self.view_is) ∙ ap (first_unknown c.self.inside.order) (sym c.deref.ensures.value) ∙ sym c.in_default.ensures in
     subst (All (λ (s : NodeId). is_live c.args.self.now.order s.0 ≡ true)) (sym c.deref-2.ensures.value) (all_live c.args.self.now.order set none)
 
 pub returns : goal.returns

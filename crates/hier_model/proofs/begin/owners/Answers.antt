@@ -1,4 +1,4 @@
-use Rattle.std.proofs.Common.{◌≡◌, ℕ, ◌+◌, ◌<◌, ◌++◌, ◌∷◌, [], not, true, false, None, List, length, get_or, map, drop, sym, ap, ◌∙◌, subst, arith, All, Contains}
+use Rattle.std.proofs.Common.{◌≡◌, ℕ, ◌<◌, ◌++◌, ◌∷◌, [], not, true, false, None, length, get_or, sym, ap, ◌∙◌, subst, arith, All, Contains}
 use Rattle.std.proofs.lemmas.List.Elements.{Contains-get_or, All-append, All-cons}
 use Rattle.std.specs.declared.vec.Vec.{Vec}
 use Rattle.std.specs.declared.alloc.Global.{Global}
@@ -42,17 +42,17 @@ loop-c-preserved c =
     let class = class_of (goal.at.loop-c-preserved c).After-deref-c-items i c.loop-c-test.true in
     elim c.if-is_owner.branch [
       | then-is_owner+in_ok-push w ↦
-        let new_is : c.if-is_owner.classes.items ≡ old ++ g (get_or N i 0) ∷ [] = ap (λ (v : Vec ClassId Global). v.items) w.classes-is ∙ w.in_ok-push.ensures.items ∙ ap (λ k. old ++ k ∷ []) column in
-        let owned : p (g (get_or N i 0)) ≡ true = ap p (sym column) ∙ sym w.if-is_owner.ensures in
-        record {
-          list = owned_then p g N i c.loop-c-test.true old c.if-is_owner.classes.items owned new_is ∙ c.loop-c.invariant.list;
-          classes = subst (All (IsClass F)) (sym new_is) (All-append (IsClass F) old (g (get_or N i 0) ∷ []) c.loop-c.invariant.classes (All-cons (IsClass F) (g (get_or N i 0)) [] class (λ j d lt. absurd (omega (arith, lt)))));
-        }
+          let new_is : c.if-is_owner.classes.items ≡ old ++ g (get_or N i 0) ∷ [] = ap (λ (v : Vec ClassId Global). v.items) w.classes-is ∙ w.in_ok-push.ensures.items ∙ ap (λ k. old ++ k ∷ []) column in
+          let owned : p (g (get_or N i 0)) ≡ true = ap p (sym column) ∙ sym w.if-is_owner.ensures in
+          record {
+            list = owned_then p g N i c.loop-c-test.true old c.if-is_owner.classes.items owned new_is ∙ c.loop-c.invariant.list;
+            classes = subst (All (IsClass F)) (sym new_is) (All-append (IsClass F) old (g (get_or N i 0) ∷ []) c.loop-c.invariant.classes (All-cons (IsClass F) (g (get_or N i 0)) [] class (λ j d lt. absurd (omega (arith, lt)))));
+          }
       | else-is_owner w ↦
-        let new_is : c.if-is_owner.classes.items ≡ old = ap (λ (v : Vec ClassId Global). v.items) w.classes-is in
-        let other : p (g (get_or N i 0)) ≡ false = ap p (sym column) ∙ sym w.if-is_owner.ensures in
-        record {
-          list = owned_else p g N i c.loop-c-test.true old c.if-is_owner.classes.items other new_is ∙ c.loop-c.invariant.list;
-          classes = subst (All (IsClass F)) (sym new_is) c.loop-c.invariant.classes;
-        }
+          let new_is : c.if-is_owner.classes.items ≡ old = ap (λ (v : Vec ClassId Global). v.items) w.classes-is in
+          let other : p (g (get_or N i 0)) ≡ false = ap p (sym column) ∙ sym w.if-is_owner.ensures in
+          record {
+            list = owned_else p g N i c.loop-c-test.true old c.if-is_owner.classes.items other new_is ∙ c.loop-c.invariant.list;
+            classes = subst (All (IsClass F)) (sym new_is) c.loop-c.invariant.classes;
+          }
     ]

@@ -1,4 +1,4 @@
-use Rattle.std.proofs.Common.{◌≡◌, ℕ, ◌++◌, not, drop, map, All}
+use Rattle.std.proofs.Common.{◌≡◌, ◌++◌, not, drop, map, All}
 use Rattle.std.specs.Prelude.{filter}
 use Rattle.fact_model.specs.Items.{column_at}
 use Rattle.fact_model.specs.Classes.{is_interface}

@@ -2,7 +2,7 @@ use Rattle.std.proofs.Common.{◌≡◌, ◌∷◌, [], ◌++◌, true, false, l
 use Rattle.std.specs.Str.{chars}
 use Rattle.hier_model.specs.Names.{is_taken}
 use Rattle.hier_model.specs.Taken.{texts}
-use Rattle.hier_model.proofs.NameLemmas.{taken_short, taken_by, underscored, tried_none, tried_more, tried_free}
+use Rattle.hier_model.proofs.NameLemmas.{taken_short, taken_by, underscored, tried_more, tried_free}
 use Rattle.hier_model.proofs.names.free_name.Goals as goal
 use Rattle.hier_model.proofs.names.free_name.Goals.{In_ok-push}
 
@@ -24,5 +24,5 @@ pub returns : goal.returns
 returns c =
     let t = texts c.args.taken.now.keys in
     let free : is_taken t (chars (string_bytes c.loop-text.text)) ≡ false =
-        ap (λ b. is_taken t (chars b)) (sym c.as_str.ensures.value) ∙ sym (taken_by c.as_str.result.now c.as_str.utf8 c.args.taken.now.keys) ∙ sym c.loop-text-test.ensures in
+    ap (λ b. is_taken t (chars b)) (sym c.as_str.ensures.value) ∙ sym (taken_by c.as_str.result.now c.as_str.utf8 c.args.taken.now.keys) ∙ sym c.loop-text-test.ensures in
     c.in_ok-name.ensures.value ∙ ap chars c.as_str-2.ensures.value ∙ tried_free t (chars (string_bytes c.args.base)) (chars (string_bytes c.loop-text.text)) c.loop-text.invariant free

@@ -1,4 +1,4 @@
-use Rattle.std.proofs.Common.{◌++◌, ◌∷◌, sym, ap, ◌∙◌, arith}
+use Rattle.std.proofs.Common.{◌++◌, ◌∷◌, ap, ◌∙◌, arith}
 use Rattle.std.specs.Str.{encode_utf8_all}
 use Rattle.hier_model.specs.Names.{class_name, naming_class}
 use Rattle.hier_model.specs.Taken.{texts}

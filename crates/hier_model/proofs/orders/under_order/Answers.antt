@@ -1,4 +1,4 @@
-use Rattle.hier_model.proofs.MergedLemmas.{under_is, under_none, under_fault}
+use Rattle.hier_model.proofs.MergedLemmas.{under_is, under_fault}
 use Rattle.hier_model.proofs.orders.under_order.Goals as goal
 
 pub returns-in-Ok-clause-order : goal.returns-in-Ok-clause-order

@@ -1,4 +1,4 @@
-use Rattle.std.proofs.Common.{◌+◌, get_or, sym, subst, ◌∙◌, arith, Contains}
+use Rattle.std.proofs.Common.{◌+◌, get_or, sym, subst, arith, Contains}
 use Rattle.std.proofs.lemmas.List.{get_or_default}
 use Rattle.std.proofs.lemmas.List.Elements.{Contains-get_or}
 use Rattle.kaba_base.specs.declared.ClassId.{ClassId}

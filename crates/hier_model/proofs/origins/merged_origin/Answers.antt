@@ -1,4 +1,4 @@
-use Rattle.std.proofs.Common.{◌≡◌, List, All, Option, Some, None, map, get_or, length, sym, ap, ◌∙◌, subst, arith}
+use Rattle.std.proofs.Common.{◌≡◌, All, Some, None, map, get_or, sym, ap, ◌∙◌, subst, arith}
 use Rattle.std.specs.Prelude.{IfSome}
 use Rattle.std.specs.Option.{option_map}
 use Rattle.std.specs.declared.vec.Vec.{Vec}
@@ -18,8 +18,8 @@ lowest-requires-clause-classes c =
     let f = λ (n : NodeId). get_or c.args.origins.now n.0 None in
     let there : all_there (map f set) ≡ Some c.in-Some.classes.items = sym c.in_ok-classes.ensures ∙ ap (option_map (λ (v : Vec ClassId Global). v.items)) c.in-Some.is in
     let all : All (IsClass F) c.in-Some.classes.items =
-        all_there_all (IsClass F) (map f set) c.in-Some.classes.items there
-        (λ i d lt.
-        let at : get_or (map f set) i d ≡ f (get_or set i (record { 0 = 0 })) = get_or-map f set i (record { 0 = 0 }) d (omega (arith, lt, length-map set f)) in
-        subst (λ o. IfSome o (IsClass F)) (sym at) (c.requires.classes i (record { 0 = 0 }) (omega (arith, lt, length-map set f)))) in
+    all_there_all (IsClass F) (map f set) c.in-Some.classes.items there
+    (λ i d lt.
+    let at : get_or (map f set) i d ≡ f (get_or set i (record { 0 = 0 })) = get_or-map f set i (record { 0 = 0 }) d (omega (arith, lt, length-map set f)) in
+    subst (λ o. IfSome o (IsClass F)) (sym at) (c.requires.classes i (record { 0 = 0 }) (omega (arith, lt, length-map set f)))) in
     subst (All (IsClass F)) (sym c.deref.ensures.value) all
