@@ -85,7 +85,7 @@ module _ (T : List (List Bool)) (w : ℕ) (widths : HasWidth w T) where
       columns = λ d below. (
         λ h r rlt k. sym (with_bit T d r) ∙ subset_says (rows_with T c) (rows_with T d) (sym (common_bit (rows_with T c) d below) ∙ h) r k,
         λ all. common_bit (rows_with T c) d below
-        ∙ subset_test (rows_with T c) (rows_with T d) (λ r k. with_bit T d r ∙ all r (omega (arith, bit-below (rows_with T c) r k, with_len T c)) k),
+            ∙ subset_test (rows_with T c) (rows_with T d) (λ r k. with_bit T d r ∙ all r (omega (arith, bit-below (rows_with T c) r k, with_len T c)) k),
       );
     };
   }

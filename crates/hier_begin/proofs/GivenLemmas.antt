@@ -40,7 +40,6 @@ use Rattle.hier_laws.specs.Shapes.{Given}
 use Rattle.hier_laws.specs.Starts.{Roles, IsClosed, AreInOrder}
 use Rattle.hier_rules.specs.Asked.{is_pair, is_tie, is_super, is_called, is_element, is_array_at, has_array, is_test_at, is_store_at, is_tested, is_stored, meets, places_of}
 
-
 def_is : (k : ColKind) → is_def k ≡ true → k ≡ Def
 def_is Def e = refl
 def_is Fld e = absurd (false≢true e)
@@ -186,24 +185,24 @@ module _ (F : Facts) (pt : PointsTo) (t : Table) where
     closed = record {
       rows = λ r c h. is_row r (row_below r c h);
       by_need = λ s x d h.
-        let p = and_parts (is_called F pt s x) (is_slot (finds F (site_class F s) x) d) h in
-        let k = called_at s x p.0 in
-        need_entry F t T pt S k.0 s d k.1 k.2 (ap (finds F (site_class F s)) k.3 ∙ found_at s x d h);
+          let p = and_parts (is_called F pt s x) (is_slot (finds F (site_class F s) x) d) h in
+          let k = called_at s x p.0 in
+          need_entry F t T pt S k.0 s d k.1 k.2 (ap (finds F (site_class F s)) k.3 ∙ found_at s x d h);
       by_this = λ v d h. let c = column_says (row_this F v) d h in subst (λ e. bit (row t.rows.items v) e ≡ true) c.2 (this_entry F t T v c.0 c.1);
       by_body = λ r v c d h k g.
-        let e = column_says (row_this F v) d k in
-        body_entry F t T r v e.0 e.1 (subst (λ y. bit (row t.rows.items r) y ≡ true) (sym e.2) h) c g;
+          let e = column_says (row_this F v) d k in
+          body_entry F t T r v e.0 e.1 (subst (λ y. bit (row t.rows.items r) y ≡ true) (sym e.2) h) c g;
       by_super = λ r d h.
-        let x = super_at r d h in
-        subst (λ y. bit (row t.rows.items y) d ≡ true) x.2 (subst (λ y. bit (row t.rows.items x.0.row.0) y ≡ true) x.3 (super_entry F t T x.0 x.1));
+          let x = super_at r d h in
+          subst (λ y. bit (row t.rows.items y) d ≡ true) x.2 (subst (λ y. bit (row t.rows.items x.0.row.0) y ≡ true) x.3 (super_entry F t T x.0 x.1));
       by_tie = λ l u c h k.
-        let x = tie_at l u h in
-        subst (λ y. bit (row t.rows.items y) c ≡ true) x.2 (tie_entry F t T x.0 x.1 c (subst (λ y. bit (row t.rows.items y) c ≡ true) (sym x.3) k));
+          let x = tie_at l u h in
+          subst (λ y. bit (row t.rows.items y) c ≡ true) x.2 (tie_entry F t T x.0 x.1 c (subst (λ y. bit (row t.rows.items y) c ≡ true) (sym x.3) k));
       by_site = λ o v c h k. site_entry F t T pt S v o h c k;
       above = λ r c h. le (row_class F r) (column_class F c) (column-above F R O r c ((T.entries r c).0 h));
       own = λ r d h b e o.
-        let this = body-own F R O r d ((T.entries r d).0 h) (def_is (column_kind F d) b) e o in
-        ap (λ y. is_slot (option_map (λ (c : ColId). c.0) y) d) this.row ∙ eq-eqb this.column.0 d this.body;
+          let this = body-own F R O r d ((T.entries r d).0 h) (def_is (column_kind F d) b) e o in
+          ap (λ y. is_slot (option_map (λ (c : ColId). c.0) y) d) this.row ∙ eq-eqb this.column.0 d this.body;
     }
 
     def_below : (d : ℕ) → is_def (column_kind F d) ≡ true → d < length F.columns.items
@@ -240,7 +239,7 @@ module _ (F : Facts) (pt : PointsTo) (t : Table) where
         let body = finds-found F (site_class F s) x d f in
         le (column_class F d) (column_class F e)
         (finds_nearest F R O (site_class F s) x d f e (body_of x e b (one ∙ body.body.slot))
-          (subst (λ a. IsBelow F a (column_class F e)) (sym (O.types.sites s lt)) (is_le (row_class F (site_row F s)) (column_class F e) up)))
+        (subst (λ a. IsBelow F a (column_class F e)) (sym (O.types.sites s lt)) (is_le (row_class F (site_row F s)) (column_class F e) up)))
 
     pub super_fact : (r d : ℕ) → is_super F r d ≡ true → (is_some (row_this F r) ≡ true) × IsDef F d × IsNearestAbove F (row_class F r) d
     super_fact r d h =
@@ -314,11 +313,11 @@ module _ (F : Facts) (pt : PointsTo) (t : Table) where
     in_order = record {
       both = λ a b h k. below-both F O.classes.acyclic (is_le a b h) (is_le b a k);
       tie_rows = λ l u h.
-        let x = tie_at l u h in
-        let p = All-contains (λ (y : TieInfo). IsRow F y.lower × IsRow F y.upper) F.ties.items x.0 R.ties x.1 in
-        (is_row l (subst (λ y. y < length F.rows.items) x.2 p.0), is_row u (subst (λ y. y < length F.rows.items) x.3 p.1));
+          let x = tie_at l u h in
+          let p = All-contains (λ (y : TieInfo). IsRow F y.lower × IsRow F y.upper) F.ties.items x.0 R.ties x.1 in
+          (is_row l (subst (λ y. y < length F.rows.items) x.2 p.0), is_row u (subst (λ y. y < length F.rows.items) x.3 p.1));
       site_rows = λ s v h.
-        (is_row (site_row F s) (site_row_below s (site_below v s h)), is_row v (omega (arith, bit-row-below pt.rows.items v s h, S.row_count)));
+          (is_row (site_row F s) (site_row_below s (site_below v s h)), is_row v (omega (arith, bit-row-below pt.rows.items v s h, S.row_count)));
       this_body = this_body;
       this_there = λ d b. let one = one_this d b in (one.row, is_this one.row d one.this);
       one_body = λ d e bd be s c. O.members.bodies d e (def_below d bd) (def_below e be) (def_is (column_kind F d) bd) (def_is (column_kind F e) be) c s;
@@ -328,9 +327,9 @@ module _ (F : Facts) (pt : PointsTo) (t : Table) where
       super_body = λ r d h. (def_test (column_kind F d) (super_fact r d h).1, super_other r d h);
       super_nearest = super_nearest;
       meet_rows = λ s k h.
-        let m = met s k h in
-        let lt = meet_site s k m in
-        (sym (O.types.sites s lt), is_row (site_row F s) (site_row_below s lt), is_row k (meet_target s k m));
+          let m = met s k h in
+          let lt = meet_site s k m in
+          (sym (O.types.sites s lt), is_row (site_row F s) (site_row_below s lt), is_row k (meet_target s k m));
       passes = λ s k h b. ⊎_elim (λ a. passes_test s k a b) (λ c. passes_store s k c b) (met s k h);
       marked = λ s k h. ⊎_elim (marked_test s k) (marked_store s k) (met s k h);
     }

@@ -107,25 +107,25 @@ module _ (F : Facts) (pt : PointsTo) (t : Table) (H : Hierarchy) (table : H.tabl
     unoffered_none =
         first_below_clear (λ r. first_below (length F.columns.items) (unoffered F H r)) (length F.rows.items) (λ r lr.
         first_below_clear (unoffered F H r) (length F.columns.items) (λ c lc.
-          none_by (bit (row H.table r) c && not (is_offered H (place_of_row H r) c)) (of_both B2 (place_of_row H r) r c) (λ h.
-            let p = and_parts (bit (row H.table r) c) (not (is_offered H (place_of_row H r) c)) h in
-            refuted (is_offered H (place_of_row H r) c) p.1 (offers (place_of_row H r) c (A.offered r c (subst (λ x. bit (row x r) c ≡ true) table p.0))))))
+        none_by (bit (row H.table r) c && not (is_offered H (place_of_row H r) c)) (of_both B2 (place_of_row H r) r c) (λ h.
+        let p = and_parts (bit (row H.table r) c) (not (is_offered H (place_of_row H r) c)) h in
+        refuted (is_offered H (place_of_row H r) c) p.1 (offers (place_of_row H r) c (A.offered r c (subst (λ x. bit (row x r) c ≡ true) table p.0))))))
 
     tied_none : first_below (length F.rows.items) (λ l. first_below (length F.rows.items) (untied F H l)) ≡ None
     tied_none =
         first_below_clear (λ l. first_below (length F.rows.items) (untied F H l)) (length F.rows.items) (λ l ll.
         first_below_clear (untied F H l) (length F.rows.items) (λ u lu.
-          none_by (is_tie F l u && not (row_le H l u)) (of_row B3 (place_of_row H l) (place_of_row H u) l) (λ h.
-            let p = and_parts (is_tie F l u) (not (row_le H l u)) h in
-            refuted (row_le H l u) p.1 (A.tied l u p.0))))
+        none_by (is_tie F l u && not (row_le H l u)) (of_row B3 (place_of_row H l) (place_of_row H u) l) (λ h.
+        let p = and_parts (is_tie F l u) (not (row_le H l u)) h in
+        refuted (row_le H l u) p.1 (A.tied l u p.0))))
 
     held_none : first_below (length F.sites.items) (λ o. first_below (length F.rows.items) (unheld F pt H o)) ≡ None
     held_none =
         first_below_clear (λ o. first_below (length F.rows.items) (unheld F pt H o)) (length F.sites.items) (λ o lo.
         first_below_clear (unheld F pt H o) (length F.rows.items) (λ v lv.
-          none_by (bit (row pt.rows.items v) o && not (row_le H (site_row F o) v)) (of_row B3 (place_of_site F H o) (place_of_row H v) (site_row F o)) (λ h.
-            let p = and_parts (bit (row pt.rows.items v) o) (not (row_le H (site_row F o) v)) h in
-            refuted (row_le H (site_row F o) v) p.1 (A.held o v p.0))))
+        none_by (bit (row pt.rows.items v) o && not (row_le H (site_row F o) v)) (of_row B3 (place_of_site F H o) (place_of_row H v) (site_row F o)) (λ h.
+        let p = and_parts (bit (row pt.rows.items v) o) (not (row_le H (site_row F o) v)) h in
+        refuted (row_le H (site_row F o) v) p.1 (A.held o v p.0))))
 
     untied_none : first_untied F pt H ≡ None
     untied_none = none_both (first_below (length F.rows.items) (λ l. first_below (length F.rows.items) (untied F H l))) (first_below (length F.sites.items) (λ o. first_below (length F.rows.items) (unheld F pt H o))) tied_none held_none
@@ -178,19 +178,19 @@ module _ (F : Facts) (pt : PointsTo) (t : Table) (H : Hierarchy) (table : H.tabl
     super_none =
         first_below_clear (λ r. first_below (length F.columns.items) (wrong_super F H r)) (length F.rows.items) (λ r lr.
         first_below_clear (wrong_super F H r) (length F.columns.items) (λ d ld.
-          none_by (is_super F r d && (not (rule.is_above H (place_of_row H r) d) || has_between F H r d)) (of_both B5 (place_of_row H r) r d) (λ h.
-            let p = and_parts (is_super F r d) (not (rule.is_above H (place_of_row H r) d) || has_between F H r d) h in
-            ⊎_elim
-            (λ a. refuted (rule.is_above H (place_of_row H r) d) a (super_above r d p.0))
-            (between r d p.0)
-            (or_cases (not (rule.is_above H (place_of_row H r) d)) (has_between F H r d) p.1))))
+        none_by (is_super F r d && (not (rule.is_above H (place_of_row H r) d) || has_between F H r d)) (of_both B5 (place_of_row H r) r d) (λ h.
+        let p = and_parts (is_super F r d) (not (rule.is_above H (place_of_row H r) d) || has_between F H r d) h in
+        ⊎_elim
+        (λ a. refuted (rule.is_above H (place_of_row H r) d) a (super_above r d p.0))
+        (between r d p.0)
+        (or_cases (not (rule.is_above H (place_of_row H r) d)) (has_between F H r d) p.1))))
 
     bodies_none : first_two_bodies F H ≡ None
     bodies_none =
         first_below_clear (λ n. first_below (length F.columns.items) (λ c. first_below (length F.columns.items) (two_bodies F H n c))) (length H.order.live) (λ n ln.
         first_below_clear (λ c. first_below (length F.columns.items) (two_bodies F H n c)) (length F.columns.items) (λ c lc.
-          first_below_clear (two_bodies F H n c) (length F.columns.items) (λ d ld.
-            none_by (is_body_at F H n c && (is_body_at F H n d && nat_lt c d && is_one_slot (column_slot F c) (column_slot F d))) (of_column B6 n d) (two n c d))))
+        first_below_clear (two_bodies F H n c) (length F.columns.items) (λ d ld.
+        none_by (is_body_at F H n c && (is_body_at F H n d && nat_lt c d && is_one_slot (column_slot F c) (column_slot F d))) (of_column B6 n d) (two n c d))))
       where
         two : (n c d : ℕ) → (is_body_at F H n c && (is_body_at F H n d && nat_lt c d && is_one_slot (column_slot F c) (column_slot F d))) ≡ true → ⊥
         two n c d h =
@@ -214,14 +214,14 @@ module _ (F : Facts) (pt : PointsTo) (t : Table) (H : Hierarchy) (table : H.tabl
     outcome_none =
         first_below_clear (λ p. first_below (length F.rows.items) (λ t. first_below (length F.sites.items) (wrong_outcome F pt H p t))) (places_of F) (λ p lp.
         first_below_clear (λ t. first_below (length F.sites.items) (wrong_outcome F pt H p t)) (length F.rows.items) (λ k lk.
-          first_below_clear (wrong_outcome F pt H p k) (length F.sites.items) (λ s ls.
-            none_by (meets F pt p k s && differ (row_le H (site_row F s) k) (below F (site_class F s) (row_class F k))) (of_row B7 (place_of_site F H s) (place_of_row H k) (site_row F s)) (λ h.
-              let a = and_parts (meets F pt p k s) (differ (row_le H (site_row F s) k) (below F (site_class F s) (row_class F k))) h in
-              let met = any_below_has (λ p. meets F pt p k s) (places_of F) p lp a.0 in
-              ⊎_elim
-              (λ x. false≢true (sym x.1 ∙ B.fails s k met x.0))
-              (λ x. false≢true (sym x.0 ∙ A.passes s k met x.1))
-              (differ_says (row_le H (site_row F s) k) (below F (site_class F s) (row_class F k)) a.1)))))
+        first_below_clear (wrong_outcome F pt H p k) (length F.sites.items) (λ s ls.
+        none_by (meets F pt p k s && differ (row_le H (site_row F s) k) (below F (site_class F s) (row_class F k))) (of_row B7 (place_of_site F H s) (place_of_row H k) (site_row F s)) (λ h.
+        let a = and_parts (meets F pt p k s) (differ (row_le H (site_row F s) k) (below F (site_class F s) (row_class F k))) h in
+        let met = any_below_has (λ p. meets F pt p k s) (places_of F) p lp a.0 in
+        ⊎_elim
+        (λ x. false≢true (sym x.1 ∙ B.fails s k met x.0))
+        (λ x. false≢true (sym x.0 ∙ A.passes s k met x.1))
+        (differ_says (row_le H (site_row F s) k) (below F (site_class F s) (row_class F k)) a.1)))))
 
     pub run_none : (first_unoffered F H ≡ None) × (first_untied F pt H ≡ None) × (first_wrong_need F pt H ≡ None) × (first_wrong_super F H ≡ None) × (first_two_bodies F H ≡ None) × (first_wrong_outcome F pt H ≡ None)
     run_none = (unoffered_none, untied_none, need_none, super_none, bodies_none, outcome_none)

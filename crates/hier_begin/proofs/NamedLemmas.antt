@@ -151,7 +151,7 @@ module _ (F : Facts) where
     type_name_is os n k lt small =
         ap is_name (type_at os n k lt)
         ∙ made_name (F.words.items ++ (member_names F C ++ type_names F (member_names F C) os k)) (class_name F (naming_class (get_or os k None))) (decimal k)
-          (class_word (naming_class (get_or os k None))) (decimal_parts k small) (let some = decimal_nonempty k small in omega (arith, some))
+        (class_word (naming_class (get_or os k None))) (decimal_parts k small) (let some = decimal_nonempty k small in omega (arith, some))
 
     field_below : (c : ℕ) → is_field (column_kind F c) ≡ true → c < C
     field_below c h = column-below F c Fld (field_is (column_kind F c) h) (λ x. cc x)
@@ -221,26 +221,26 @@ module _ (F : Facts) where
     fields_named pt t = record {
       kept = λ c e. ⊎_elim (λ lt. member_old c lt e) (λ past. past_name c past) (cases_lt c C);
       made = λ c d e fd k same.
-        let lc = field_below c (shared_field c e) in
-        made_no_word c (name_of F d) lc e (member_word d (field_below d fd) (fld_not_is d fd)) same;
+          let lc = field_below c (shared_field c e) in
+          made_no_word c (name_of F d) lc e (member_word d (field_below d fd) (fld_not_is d fd)) same;
       once = λ c d e k same.
-        let lc = field_below c (shared_field c e) in
-        let ld = field_below d (shared_field d k) in
-        ⊎_elim (λ x. x) (⊎_elim (λ lt. absurd (made_before d c lt ld k (sym same))) (λ gt. absurd (made_before c d gt lc e same))) (cases_order c d);
+          let lc = field_below c (shared_field c e) in
+          let ld = field_below d (shared_field d k) in
+          ⊎_elim (λ x. x) (⊎_elim (λ lt. absurd (made_before d c lt ld k (sym same))) (λ gt. absurd (made_before c d gt lc e same))) (cases_order c d);
       apart = λ c d fc fd one e.
-        O.members.fields c d (field_below c fc) (field_below d fd) (field_is (column_kind F c) fc) (field_is (column_kind F d) fd) one e;
+          O.members.fields c d (field_below c fc) (field_below d fd) (field_is (column_kind F c) fc) (field_is (column_kind F d) fd) one e;
       again = λ c d fc fd e le ne.
-        let strict : is_strictly_above F (column_class F c) (column_class F d) ≡ true =
+          let strict : is_strictly_above F (column_class F c) (column_class F d) ≡ true =
           and_from (not (eqb (column_class F c) (column_class F d))) (below F (column_class F c) (column_class F d)) (ap not (ne_eqb (column_class F c) (column_class F d) ne)) le in
-        let one : bytes_eq (name_of F c) (name_of F d) ≡ true = (bytes_eq-Decides (name_of F c) (name_of F d)).1 e in
-        let mate : is_namesake_above F c d ≡ true =
+          let one : bytes_eq (name_of F c) (name_of F d) ≡ true = (bytes_eq-Decides (name_of F c) (name_of F d)).1 e in
+          let mate : is_namesake_above F c d ≡ true =
           and_from (is_field (column_kind F d) && bytes_eq (name_of F c) (name_of F d)) (is_strictly_above F (column_class F c) (column_class F d)) (and_from (is_field (column_kind F d)) (bytes_eq (name_of F c) (name_of F d)) fd one) strict in
-        and_from (is_field (column_kind F c)) (any_below C (λ d. is_namesake_above F c d)) fc (any_below_has (λ d. is_namesake_above F c d) C d (field_below d fd) mate);
+          and_from (is_field (column_kind F c)) (any_below C (λ d. is_namesake_above F c d)) fc (any_below_has (λ d. is_namesake_above F c d) C d (field_below d fd) mate);
       chain = λ a c d fc fd ac ad.
-        ⊎_elim
-        (λ h. inl ((below-exact F O.classes.acyclic (column_class F c) (column_class F d)).1 h))
-        (λ h. inr ((below-exact F O.classes.acyclic (column_class F d) (column_class F c)).1 h))
-        (chain F O a (column_class F c) (column_class F d) (field_class c fc) (field_class d fd) (is_le a (column_class F c) ac) (is_le a (column_class F d) ad));
+          ⊎_elim
+          (λ h. inl ((below-exact F O.classes.acyclic (column_class F c) (column_class F d)).1 h))
+          (λ h. inr ((below-exact F O.classes.acyclic (column_class F d) (column_class F c)).1 h))
+          (chain F O a (column_class F c) (column_class F d) (field_class c fc) (field_class d fd) (is_le a (column_class F c) ac) (is_le a (column_class F d) ad));
     }
 
     -- a name of the text that is reserved stands in the words, or is one that the language has
@@ -252,8 +252,8 @@ module _ (F : Facts) where
     marked_free name none mark =
         or_none (list_any (λ (k : ClassInfo). k.holder && bytes_eq k.name name) F.classes.items) (list_any (λ k. bytes_eq k name) known_names)
         (no_any (λ (k : ClassInfo). k.holder && bytes_eq k.name name) F.classes.items (λ k c h.
-          let p = and_parts k.holder (bytes_eq k.name name) h in
-          none k.name (holder_word k c p.0) (sym ((bytes_eq-Decides k.name name).0 p.1))))
+        let p = and_parts k.holder (bytes_eq k.name name) h in
+        none k.name (holder_word k c p.0) (sym ((bytes_eq-Decides k.name name).0 p.1))))
         (known_unmarked name mark)
 
     pub type_unreserved : (os : List (Option ClassId)) (n k : ℕ) → k < n → is_reserved F (get_or (type_names F (member_names F C) os n) k []) ≡ false
@@ -284,8 +284,8 @@ module _ (F : Facts) where
             let others = O.names.others c (field_below c f) kind in
             or_none (list_any (λ (k : ClassInfo). k.holder && bytes_eq k.name (name_of F c)) F.classes.items) (list_any (λ k. bytes_eq k (name_of F c)) known_names)
             (no_any (λ (k : ClassInfo). k.holder && bytes_eq k.name (name_of F c)) F.classes.items (λ k has h.
-              let p = and_parts k.holder (bytes_eq k.name (name_of F c)) h in
-              All-contains (λ (k : ClassInfo). k.holder ≡ true → name_of F c ≢ k.name) F.classes.items k (O.names.fields c (field_below c f) kind) has p.0 (sym ((bytes_eq-Decides k.name (name_of F c)).0 p.1))))
+            let p = and_parts k.holder (bytes_eq k.name (name_of F c)) h in
+            All-contains (λ (k : ClassInfo). k.holder ≡ true → name_of F c ≢ k.name) F.classes.items k (O.names.fields c (field_below c f) kind) has p.0 (sym ((bytes_eq-Decides k.name (name_of F c)).0 p.1))))
             (no_any (λ k. bytes_eq k (name_of F c)) known_names (λ k has h. known c k has ((bytes_eq-Decides k (name_of F c)).0 h) others))
 
     -- a method keeps its name

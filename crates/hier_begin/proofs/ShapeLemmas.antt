@@ -90,23 +90,22 @@ module _ (F : Facts) (pt : PointsTo) (t : Table) (l : Lattice) (T : IsTable F t)
     upper = λ a b h. let o = nodes_ordered rows t.width widths ps all in o.reflexive b (o.upper_lives a b h);
     there = there;
     rows = λ r v hr hv.
-      let lr = in_rows r hr in
-      let lv = in_rows v hv in
-      let le = rows_le rows t.width widths ps all r v lr lv in
-      (
-        λ h. le.0 (subst (λ x. is_le H.order x (stands v lv).at ≡ true) (row_node r lr) (subst (λ x. is_le H.order (place_of_row H r) x ≡ true) (row_node v lv) h)),
-        λ s. subst (λ x. is_le H.order x (place_of_row H v) ≡ true) (sym (row_node r lr)) (subst (λ x. is_le H.order (stands r lr).at x ≡ true) (sym (row_node v lv)) (le.1 s)),
-      );
+        let lr = in_rows r hr in
+        let lv = in_rows v hv in
+        let le = rows_le rows t.width widths ps all r v lr lv in (
+          λ h. le.0 (subst (λ x. is_le H.order x (stands v lv).at ≡ true) (row_node r lr) (subst (λ x. is_le H.order (place_of_row H r) x ≡ true) (row_node v lv) h)),
+          λ s. subst (λ x. is_le H.order x (place_of_row H v) ≡ true) (sym (row_node r lr)) (subst (λ x. is_le H.order (stands r lr).at x ≡ true) (sym (row_node v lv)) (le.1 s)),
+        );
     columns = λ r c n hr e.
-      let lr = in_rows r hr in
-      let le = row_column_le rows t.width widths ps all r c lr (node n) (at c n e) in
-      (λ h. le.0 (subst (λ x. is_le H.order x n ≡ true) (row_node r lr) h), λ h. subst (λ x. is_le H.order x n ≡ true) (sym (row_node r lr)) (le.1 h));
+        let lr = in_rows r hr in
+        let le = row_column_le rows t.width widths ps all r c lr (node n) (at c n e) in
+        (λ h. le.0 (subst (λ x. is_le H.order x n ≡ true) (row_node r lr) h), λ h. subst (λ x. is_le H.order x n ≡ true) (sym (row_node r lr)) (le.1 h));
     under = λ c d n m e f. columns_le rows t.width widths ps all c d (node n) (node m) (at c n e) (at d m f);
     column_row = λ c n r hr e.
-      let lr = in_rows r hr in
-      let le = column_row_le rows t.width widths ps all c r (node n) lr (at c n e) in
-      (λ h. le.0 (subst (λ x. is_le H.order n x ≡ true) (row_node r lr) h), λ h. subst (λ x. is_le H.order n x ≡ true) (sym (row_node r lr)) (le.1 h));
+        let lr = in_rows r hr in
+        let le = column_row_le rows t.width widths ps all c r (node n) lr (at c n e) in
+        (λ h. le.0 (subst (λ x. is_le H.order n x ≡ true) (row_node r lr) h), λ h. subst (λ x. is_le H.order n x ≡ true) (sym (row_node r lr)) (le.1 h));
     extent = λ n m h.
-      let r = some_row rows t.width widths ps all n m h in
-      (r.0, lt-ltb r.0 (length F.rows.items) (omega (arith, r.1, T.sized.rows)), subst (λ x. is_le H.order x n ≡ true) (sym (row_node r.0 r.1)) r.2);
+        let r = some_row rows t.width widths ps all n m h in
+        (r.0, lt-ltb r.0 (length F.rows.items) (omega (arith, r.1, T.sized.rows)), subst (λ x. is_le H.order x n ≡ true) (sym (row_node r.0 r.1)) r.2);
   }

@@ -89,8 +89,8 @@ module _ (T : List (List Bool)) (w : ℕ) (widths : HasWidth w T) (ps : List Pai
       upper = (node_of v lv).below;
       filled = row_filled r lr;
       subset = λ x h.
-        let lx = in_table (node_of r lr).at x (node_of r lr).below h in
-        (in_row_extent v x lv lx).1 (λ c k. (in_row_extent r x lr lx).0 h c (s c k));
+          let lx = in_table (node_of r lr).at x (node_of r lr).below h in
+          (in_row_extent v x lv lx).1 (λ c k. (in_row_extent r x lr lx).0 h c (s c k));
     }),
   )
 
@@ -150,15 +150,18 @@ module _ (T : List (List Bool)) (w : ℕ) (widths : HasWidth w T) (ps : List Pai
       let le = le_says n m h in
       let v = filled_some (extent_at n) le.filled in
       let lv = in_table n v.0 le.lower v.1 in
-      let has = ((is n le.lower).extent.rows v.0 lv).0 v.1 in
-      (v.0, lv, le_test (node_of v.0 lv).at n (record {
-        lower = (node_of v.0 lv).below;
-        upper = le.lower;
-        filled = row_filled v.0 lv;
-        subset = λ x k.
-          let lx = in_table (node_of v.0 lv).at x (node_of v.0 lv).below k in
-          ((is n le.lower).extent.rows x lx).1 (λ c g. (in_row_extent v.0 x lv lx).0 k c (has c g));
-      }))
+      let has = ((is n le.lower).extent.rows v.0 lv).0 v.1 in (
+        v.0,
+        lv,
+        le_test (node_of v.0 lv).at n (record {
+          lower = (node_of v.0 lv).below;
+          upper = le.lower;
+          filled = row_filled v.0 lv;
+          subset = λ x k.
+              let lx = in_table (node_of v.0 lv).at x (node_of v.0 lv).below k in
+              ((is n le.lower).extent.rows x lx).1 (λ c g. (in_row_extent v.0 x lv lx).0 k c (has c g));
+        }),
+      )
 
   pub le_through : (a b c : ℕ) → is_le (order_of ps) a b ≡ true → is_le (order_of ps) b c ≡ true → is_le (order_of ps) a c ≡ true
   le_through a b c h k =
@@ -178,7 +181,7 @@ module _ (T : List (List Bool)) (w : ℕ) (widths : HasWidth w T) (ps : List Pai
   apart i j ij lt e =
       let li : i < length ps = omega (arith, ij, lt) in
       let f : (concept_at ps i).1 ≡ (concept_at ps j).1 =
-          subset-both (concept_at ps i).1 (concept_at ps j).1 ((is i li).intent.len ∙ sym (is j lt).intent.len) (intent_within i j li lt e) (intent_within j i lt li (sym e)) in
+      subset-both (concept_at ps i).1 (concept_at ps j).1 ((is i li).intent.len ∙ sym (is j lt).intent.len) (intent_within i j li lt e) (intent_within j i lt li (sym e)) in
       let h : concept_at ps i ≡ concept_at ps j = λ k. (e k, f k) in
       let k : concept_cmp (concept_at ps j) (concept_at ps j) ≡ Less = subst (λ x. concept_cmp x (concept_at ps j) ≡ Less) h (A.concepts.ordered i j ([], []) ij lt) in
       let m : Equal ≡ Less = sym (tied_itself total (concept_at ps j)) ∙ k in

@@ -90,15 +90,15 @@ module _ (F : Facts) (pt : PointsTo) (t : Table) (l : Lattice) (A : AreAnalysed 
   unwritable_none =
       first_below_clear (λ n. or_else (unwritable_type F H n) (first_below C (unwritable F H n))) N (λ n ln.
       none_both (unwritable_type F H n) (first_below C (unwritable F H n))
-        (none_by (is_live H.order n && not (is_name (type_name H n))) (of_node B8 n) (λ h.
-          let p = and_parts (is_live H.order n) (not (is_name (type_name H n))) h in
-          let lt = live_below n p.0 in
-          refuted (is_name (type_name H n)) p.1 (type_name_is F A.range A.order (origins_of F ps) W n lt (small n lt))))
-        (first_below_clear (unwritable F H n) C (λ c lc.
-          none_by (is_unwritable F H n c) (of_column B8 n c) (λ h.
-            let p = and_parts (stands_at H n c && is_member (column_kind F c)) (not (is_name (member_name H c))) h in
-            let q = and_parts (stands_at H n c) (is_member (column_kind F c)) p.0 in
-            refuted (is_name (member_name H c)) p.1 (member_name_is F A.range A.order c lc (member_kind (column_kind F c) q.1))))))
+      (none_by (is_live H.order n && not (is_name (type_name H n))) (of_node B8 n) (λ h.
+      let p = and_parts (is_live H.order n) (not (is_name (type_name H n))) h in
+      let lt = live_below n p.0 in
+      refuted (is_name (type_name H n)) p.1 (type_name_is F A.range A.order (origins_of F ps) W n lt (small n lt))))
+      (first_below_clear (unwritable F H n) C (λ c lc.
+      none_by (is_unwritable F H n c) (of_column B8 n c) (λ h.
+      let p = and_parts (stands_at H n c && is_member (column_kind F c)) (not (is_name (member_name H c))) h in
+      let q = and_parts (stands_at H n c) (is_member (column_kind F c)) p.0 in
+      refuted (is_name (member_name H c)) p.1 (member_name_is F A.range A.order c lc (member_kind (column_kind F c) q.1))))))
 
   other_types : (n : ℕ) → n < W → is_other_type F H n (type_name H n) ≡ true → ⊥
   other_types n lt h =
@@ -111,15 +111,15 @@ module _ (F : Facts) (pt : PointsTo) (t : Table) (l : Lattice) (A : AreAnalysed 
   taken_type_none =
       first_below_clear (taken_type F H) N (λ n ln.
       none_by (is_live H.order n && is_taken_type F H n) (of_node B8 n) (λ h.
-        let p = and_parts (is_live H.order n) (is_taken_type F H n) h in
-        let lt = live_below n p.0 in
-        ⊎_elim
-        (λ a. ⊎_elim
-          (λ b. other_types n lt b)
-          (λ b. false≢true (sym (type_unreserved F A.range A.order (origins_of F ps) W n lt) ∙ b))
-          (or_cases (is_other_type F H n (type_name H n)) (is_reserved F (type_name H n)) a))
-        (λ a. false≢true (sym (type_no_variable F A.range A.order (origins_of F ps) W n lt) ∙ a))
-        (or_cases (is_other_type F H n (type_name H n) || is_reserved F (type_name H n)) (is_variable F (type_name H n)) p.1)))
+      let p = and_parts (is_live H.order n) (is_taken_type F H n) h in
+      let lt = live_below n p.0 in
+      ⊎_elim
+      (λ a. ⊎_elim
+      (λ b. other_types n lt b)
+      (λ b. false≢true (sym (type_unreserved F A.range A.order (origins_of F ps) W n lt) ∙ b))
+      (or_cases (is_other_type F H n (type_name H n)) (is_reserved F (type_name H n)) a))
+      (λ a. false≢true (sym (type_no_variable F A.range A.order (origins_of F ps) W n lt) ∙ a))
+      (or_cases (is_other_type F H n (type_name H n) || is_reserved F (type_name H n)) (is_variable F (type_name H n)) p.1)))
 
   typed : (c : ℕ) → c < C → is_type F H (member_name H c) ≡ true → ⊥
   typed c lt h =
@@ -131,13 +131,13 @@ module _ (F : Facts) (pt : PointsTo) (t : Table) (l : Lattice) (A : AreAnalysed 
   taken_field_none =
       first_below_clear (λ n. first_below C (taken_field F H n)) N (λ n ln.
       first_below_clear (taken_field F H n) C (λ c lc.
-        none_by (stands_at H n c && is_field (column_kind F c) && is_taken_name F H c) (of_column B8 n c) (λ h.
-          let p = and_parts (stands_at H n c && is_field (column_kind F c)) (is_taken_name F H c) h in
-          let q = and_parts (stands_at H n c) (is_field (column_kind F c)) p.0 in
-          ⊎_elim
-          (typed c lc)
-          (λ b. false≢true (sym (field_unreserved F A.range A.order c q.1) ∙ b))
-          (or_cases (is_type F H (member_name H c)) (is_reserved F (member_name H c)) p.1))))
+      none_by (stands_at H n c && is_field (column_kind F c) && is_taken_name F H c) (of_column B8 n c) (λ h.
+      let p = and_parts (stands_at H n c && is_field (column_kind F c)) (is_taken_name F H c) h in
+      let q = and_parts (stands_at H n c) (is_field (column_kind F c)) p.0 in
+      ⊎_elim
+      (typed c lc)
+      (λ b. false≢true (sym (field_unreserved F A.range A.order c q.1) ∙ b))
+      (or_cases (is_type F H (member_name H c)) (is_reserved F (member_name H c)) p.1))))
 
   abbrev G : Given
   G = given F pt t
@@ -163,7 +163,7 @@ module _ (F : Facts) (pt : PointsTo) (t : Table) (l : Lattice) (A : AreAnalysed 
       let r = offered_row G (roles F pt t) closes ordered (shape H) shown n c d (offers n c oc) (offers n d od) in
       let up = λ (k : ℕ) (g : bit (row t.rows.items r.0) k ≡ true). (below-exact F A.order.classes.acyclic (row_class F r.0) (column_class F k)).0 (closes.above r.0 k g) in
       two.4 (A.order.members.slots (row_class F r.0) c d two.0 two.1 a.1 b.1 (up c r.1) (up d r.2)
-        (sym (method_name F A.range A.order c lc a.0) ∙ e ∙ method_name F A.range A.order d ld b.0))
+      (sym (method_name F A.range A.order c lc a.0) ∙ e ∙ method_name F A.range A.order d ld b.0))
 
   fields_apart : (n c d : ℕ) → c < d → is_offered H n c ≡ true → is_offered H n d ≡ true → member_name H c ≡ member_name H d → (is_field (column_kind F c) && is_field (column_kind F d)) ≡ true → ⊥
   fields_apart n c d lt oc od e h =
@@ -175,17 +175,17 @@ module _ (F : Facts) (pt : PointsTo) (t : Table) (l : Lattice) (A : AreAnalysed 
   confused_none =
       first_below_clear (λ n. first_below C (confused F H n)) N (λ n ln.
       first_below_clear (confused F H n) C (λ d ld.
-        none_by (is_confused F H n d) (of_column B8 n d) (λ h.
-          let p = and_parts (is_offered H n d) (any_below d (λ c. is_offered H n c && clash F H c d)) h in
-          let c = any_below_some (λ c. is_offered H n c && clash F H c d) d p.1 in
-          let q = and_parts (is_offered H n c.0) (clash F H c.0 d) c.2 in
-          let k = and_parts (bytes_eq (member_name H c.0) (member_name H d))
-            ((is_field (column_kind F c.0) && is_field (column_kind F d)) || are_two_slots (method_slot (column_kind F c.0) (column_slot F c.0)) (method_slot (column_kind F d) (column_slot F d))) q.1 in
-          let e = (bytes_eq-Decides (member_name H c.0) (member_name H d)).0 k.0 in
-          ⊎_elim
-          (fields_apart n c.0 d c.1 q.0 p.0 e)
-          (slots_apart n c.0 d (omega (arith, c.1, ld)) ld q.0 p.0 e)
-          (or_cases (is_field (column_kind F c.0) && is_field (column_kind F d)) (are_two_slots (method_slot (column_kind F c.0) (column_slot F c.0)) (method_slot (column_kind F d) (column_slot F d))) k.1))))
+      none_by (is_confused F H n d) (of_column B8 n d) (λ h.
+      let p = and_parts (is_offered H n d) (any_below d (λ c. is_offered H n c && clash F H c d)) h in
+      let c = any_below_some (λ c. is_offered H n c && clash F H c d) d p.1 in
+      let q = and_parts (is_offered H n c.0) (clash F H c.0 d) c.2 in
+      let k = and_parts (bytes_eq (member_name H c.0) (member_name H d))
+      ((is_field (column_kind F c.0) && is_field (column_kind F d)) || are_two_slots (method_slot (column_kind F c.0) (column_slot F c.0)) (method_slot (column_kind F d) (column_slot F d))) q.1 in
+      let e = (bytes_eq-Decides (member_name H c.0) (member_name H d)).0 k.0 in
+      ⊎_elim
+      (fields_apart n c.0 d c.1 q.0 p.0 e)
+      (slots_apart n c.0 d (omega (arith, c.1, ld)) ld q.0 p.0 e)
+      (or_cases (is_field (column_kind F c.0) && is_field (column_kind F d)) (are_two_slots (method_slot (column_kind F c.0) (column_slot F c.0)) (method_slot (column_kind F d) (column_slot F d))) k.1))))
 
   misnamed_none : first_misnamed F H ≡ None
   misnamed_none =
@@ -198,8 +198,8 @@ module _ (F : Facts) (pt : PointsTo) (t : Table) (l : Lattice) (A : AreAnalysed 
       let rest = start_rest G (roles F pt t) closes ordered (shape H) shown in
       let r = run_none F pt t H refl half rest in
       let run : first_changed_run F pt H ≡ None =
-        none_both (first_wrong_need F pt H) (or_else (first_wrong_super F H) (or_else (first_two_bodies F H) (first_wrong_outcome F pt H))) r.2
-        (none_both (first_wrong_super F H) (or_else (first_two_bodies F H) (first_wrong_outcome F pt H)) r.3 (none_both (first_two_bodies F H) (first_wrong_outcome F pt H) r.4 r.5)) in
+      none_both (first_wrong_need F pt H) (or_else (first_wrong_super F H) (or_else (first_two_bodies F H) (first_wrong_outcome F pt H))) r.2
+      (none_both (first_wrong_super F H) (or_else (first_two_bodies F H) (first_wrong_outcome F pt H)) r.3 (none_both (first_two_bodies F H) (first_wrong_outcome F pt H) r.4 r.5)) in
       none_both (first_unoffered F H) (or_else (first_untied F pt H) (or_else (first_changed_run F pt H) (first_misnamed F H))) r.0
       (none_both (first_untied F pt H) (or_else (first_changed_run F pt H) (first_misnamed F H)) r.1 (none_both (first_changed_run F pt H) (first_misnamed F H) run misnamed_none))
 

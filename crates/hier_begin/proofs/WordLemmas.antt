@@ -150,7 +150,7 @@ pub made_name : (taken : List (List ℕ)) (a b : List ℕ) → (a ≡ []) ⊎ (i
 made_name taken a b w parts some =
     let k = underscores taken (joined a b) in
     let word : is_word (free_name taken (joined a b)) ≡ true =
-        subst (λ y. is_word y ≡ true) (sym (append_twice a b (replicate k 95))) (joined_word a (b ++ replicate k 95) w (both_parts b (replicate k 95) parts (marks_are_parts k))) in
+    subst (λ y. is_word y ≡ true) (sym (append_twice a b (replicate k 95))) (joined_word a (b ++ replicate k 95) w (both_parts b (replicate k 95) parts (marks_are_parts k))) in
     let long : 1 < length (free_name taken (joined a b)) = omega (arith, length-append (joined a b) (replicate k 95), length-append a (95 ∷ b), some) in
     and_from (is_word (free_name taken (joined a b))) (is_none (key_of (free_name taken (joined a b)))) word (no_key KEYWORDS (free_name taken (joined a b)) short_keys (made_mark taken a b) long)
 
