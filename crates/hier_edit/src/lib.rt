@@ -1,0 +1,121 @@
+//! Edits of a hierarchy, each tested against the obligations: an edit is made whole, or nothing changes.
+#![tactic(auto)]
+
+ghost use Rattle.std.specs.Prelude.{◌≡◌, ◌≢◌, ◌⊎◌, Ok, Err, IfErr, IfOk, OnErr, OnOk};
+ghost use Rattle.fact_model.specs.InRange.{InRange};
+ghost use Rattle.fact_model.specs.Flowing.{AreSets};
+ghost use Rattle.hier_model.specs.Hierarchies.{IsHierarchyOf};
+ghost use Rattle.hier_model.specs.Edits.{NamesSome};
+ghost use Rattle.hier_rules.specs.First.{MeetsEdit};
+ghost use Rattle.hier_edit.specs.Applied.{applied, tested, fault_of};
+ghost use Rattle.hier_edit.specs.declared.ApplyFault.TheVariants as ApplyFault;
+
+use fact_model::{Facts, PointsTo};
+use hier_model::{ChangeFault, Edit, Hier};
+use hier_rules::{Broken, Nodes, Rule, first_of_edit};
+use kaba_base::{ColId, NodeId};
+use std::alloc::Global;
+
+/// Why an edit is refused.
+#[derive(Clone, Copy, Debug, PartialEq, Eq)]
+pub enum ApplyFault {
+    /// No live node has this number; it is the first such of the edit.
+    UnknownNode(NodeId),
+    /// No column of this number stands anywhere, or it is a mark, which has no name.
+    UnknownMember(ColId),
+    /// A column or a row stands at the node to drop.
+    NotEmpty(NodeId),
+    /// The hierarchy after it breaks an obligation, first at this instance.
+    Breaks(Broken),
+    /// Memory is short.
+    Memory,
+}
+
+/// Why an edit that makes no hierarchy is refused.
+fn fault_of(fault: ChangeFault) -> ApplyFault
+    ensures { result ≡ fault_of fault }
+{
+    match fault {
+        ChangeFault::UnknownNode(node) => ApplyFault::UnknownNode(node),
+        ChangeFault::UnknownMember(column) => ApplyFault::UnknownMember(column),
+        ChangeFault::NotEmpty(node) => ApplyFault::NotEmpty(node),
+        ChangeFault::Cycle(node) => ApplyFault::Breaks(Broken {
+            rule: Rule::B1,
+            nodes: Nodes::One(node),
+            row: None,
+            column: None,
+        }),
+        ChangeFault::Memory => ApplyFault::Memory,
+    }
+}
+
+/// A hierarchy where it meets its obligations.
+fn tested(alloc: Global, made: Hier, facts: &Facts, sets: &PointsTo) -> Result<Hier, ApplyFault>
+    requires range { InRange facts.now }
+    requires sets { AreSets facts.now sets.now }
+    requires hierarchy { IsHierarchyOf facts.now made }
+    ensures value { (result ≡ Err ApplyFault.Memory) ⊎ (result ≡ tested facts.now sets.now made) }
+    ensures meets { IfOk result (MeetsEdit facts.now sets.now) }
+    ensures fits { IfOk result (IsHierarchyOf facts.now) }
+{
+    match first_of_edit(alloc, &made, facts, sets) {
+        Ok(None) => Ok(made),
+        Ok(Some(broken)) => Err(ApplyFault::Breaks(broken)),
+        Err(_) => Err(ApplyFault::Memory),
+    }
+}
+
+/// What an edit makes of a hierarchy, or why it is refused.
+fn made(
+    alloc: Global,
+    hier: &Hier,
+    facts: &Facts,
+    sets: &PointsTo,
+    edit: &Edit,
+) -> Result<Hier, ApplyFault>
+    requires range { InRange facts.now }
+    requires sets { AreSets facts.now sets.now }
+    requires hierarchy { IsHierarchyOf facts.now hier.now }
+    requires some { NamesSome edit.now }
+    ensures value { (result ≡ Err ApplyFault.Memory) ⊎ (result ≡ applied facts.now sets.now hier.now edit.now) }
+    ensures meets { IfOk result (MeetsEdit facts.now sets.now) }
+    ensures fits { IfOk result (IsHierarchyOf facts.now) }
+{
+    match hier.changed(alloc, facts, edit) {
+        Ok(made) => tested(alloc, made, facts, sets),
+        Err(fault) => Err(fault_of(fault)),
+    }
+}
+
+/// Makes an edit of a hierarchy where the hierarchy after it meets the obligations B1 to B8 (after
+/// Streckenbach and Snelting, 2004).
+///
+/// The changed hierarchy is made beside the old one, and takes its place when nothing can fail any more:
+/// after a refusal, and where memory is short, the hierarchy is the one before. A refusal holds the first
+/// cause: a node or a column that is not there, a node to drop where something stands, or the first instance
+/// of the first obligation that the hierarchy after the edit breaks.
+pub fn apply(
+    alloc: Global,
+    hier: &mut Hier,
+    facts: &Facts,
+    sets: &PointsTo,
+    edit: &Edit,
+) -> Result<(), ApplyFault>
+    requires range { InRange facts.now }
+    requires sets { AreSets facts.now sets.now }
+    requires hierarchy { IsHierarchyOf facts.now hier.old }
+    requires some { NamesSome edit.now }
+    ensures accepted { OnOk result (applied facts.now sets.now hier.old edit.now ≡ Ok hier.new) }
+    ensures meets { OnOk result (MeetsEdit facts.now sets.now hier.new) }
+    ensures refused { IfErr result (λ fault. fault ≢ ApplyFault.Memory → applied facts.now sets.now hier.old edit.now ≡ Err fault) }
+    ensures kept { OnErr result (hier.new ≡ hier.old) }
+    ensures is { IsHierarchyOf facts.now hier.new }
+{
+    match made(alloc, hier, facts, sets, edit) {
+        Ok(made) => {
+            *hier = made;
+            Ok(())
+        }
+        Err(fault) => Err(fault),
+    }
+}

@@ -1,0 +1,68 @@
+//! Edits, one after the other.
+#![tactic(auto)]
+
+ghost use Rattle.std.specs.Prelude.{◌≡◌, ◌++◌, All, IfOk, OnOk};
+ghost use Rattle.fact_model.specs.InRange.{InRange};
+ghost use Rattle.fact_model.specs.Flowing.{AreSets};
+ghost use Rattle.hier_model.specs.Hierarchies.{IsHierarchyOf};
+ghost use Rattle.hier_model.specs.Edits.{NamesSome};
+ghost use Rattle.hier_script.specs.Scripts.{after_edit, refusal_of, after_edits, refusals_of};
+
+use crate::refusals::refusal_line;
+use edit_script::Line;
+use fact_model::{Facts, PointsTo};
+use hier_edit::{ApplyFault, apply};
+use hier_model::Hier;
+use std::alloc::{AllocError, Global};
+
+/// Applies one edit, and appends its line where it is refused.
+fn run_edit(
+    alloc: Global,
+    hier: &mut Hier,
+    facts: &Facts,
+    sets: &PointsTo,
+    line: &Line,
+    refusals: &mut Vec<u8>,
+) -> Result<(), AllocError>
+    requires range { InRange facts.now }
+    requires sets { AreSets facts.now sets.now }
+    requires hierarchy { IsHierarchyOf facts.now hier.old }
+    requires some { NamesSome line.now.edit }
+    ensures hierarchy { OnOk result (hier.new ≡ after_edit facts.now sets.now hier.old line.now) }
+    ensures refusals { OnOk result (refusals.new.items ≡ refusals.old.items ++ refusal_of facts.now sets.now hier.old line.now) }
+    ensures is { IsHierarchyOf facts.now hier.new }
+{
+    match apply(alloc, hier, facts, sets, &line.edit) {
+        Ok(()) => Ok(()),
+        Err(ApplyFault::Memory) => Err(AllocError),
+        Err(fault) => {
+            let text = refusal_line(alloc, line.number, fault)?;
+            refusals.extend_from_slice(text.as_bytes())
+        }
+    }
+}
+
+/// Applies the edits one after the other, and gives the lines of those that are refused.
+///
+/// `AllocError` comes where memory is short; the edits up to then are applied.
+pub fn run_edits(
+    alloc: Global,
+    hier: &mut Hier,
+    facts: &Facts,
+    sets: &PointsTo,
+    lines: &[Line],
+) -> Result<Vec<u8>, AllocError>
+    requires range { InRange facts.now }
+    requires sets { AreSets facts.now sets.now }
+    requires hierarchy { IsHierarchyOf facts.now hier.old }
+    requires some { All (λ line. NamesSome line.edit) lines.now }
+    ensures hierarchy { OnOk result (hier.new ≡ after_edits facts.now sets.now hier.old lines.now) }
+    ensures refusals { IfOk result (λ refusals. refusals.items ≡ refusals_of facts.now sets.now hier.old lines.now) }
+    ensures is { IsHierarchyOf facts.now hier.new }
+{
+    let mut refusals = Vec::new(alloc);
+    for line in lines {
+        run_edit(alloc, hier, facts, sets, line, &mut refusals)?;
+    }
+    Ok(refusals)
+}

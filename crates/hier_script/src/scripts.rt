@@ -1,0 +1,94 @@
+//! A script on the hierarchy of a program.
+#![tactic(auto)]
+
+ghost use Rattle.std.specs.Prelude.{◌≡◌, ◌<◌, All, IfOk, length};
+ghost use Rattle.fact_model.specs.InRange.{InRange};
+ghost use Rattle.fact_model.specs.InOrder.{InOrder};
+ghost use Rattle.fact_model.specs.Entries.{IsTable};
+ghost use Rattle.fact_model.specs.Concepts.{IsLatticeOf};
+ghost use Rattle.fact_model.specs.Flowing.{AreSets};
+ghost use Rattle.hier_model.specs.Start.{start_from};
+ghost use Rattle.hier_model.specs.Edits.{NamesSome};
+ghost use Rattle.hier_script.specs.Answers.{IsEdited, IsScripted};
+
+use crate::edits::run_edits;
+use edit_script::{Line, ScriptFault, read_script};
+use fact_model::{Facts, Lattice, PointsTo, Table};
+use hier_model::start;
+use hier_view::show_hierarchy;
+use std::alloc::{AllocError, Global};
+
+/// The hierarchy after a script.
+#[derive(Drop)]
+pub struct Edited {
+    /// Its text.
+    pub text: Vec<u8>,
+    /// The lines of the edits that were refused.
+    pub refusals: Vec<u8>,
+}
+
+/// What a script comes to.
+#[derive(Drop)]
+pub enum Scripted {
+    /// The line of this number is the first that is no edit.
+    BadLine(u32),
+    /// There are more edits than there may be.
+    TooManyEdits,
+    Edited(Edited),
+}
+
+/// The start, the edits one after the other, and the text of what they leave.
+fn edit_start(
+    alloc: Global,
+    facts: &Facts,
+    sets: &PointsTo,
+    table: &Table,
+    lattice: &Lattice,
+    lines: &[Line],
+) -> Result<Edited, AllocError>
+    requires range { InRange facts.now }
+    requires order { InOrder facts.now }
+    requires table { IsTable facts.now table.now }
+    requires lattice { IsLatticeOf table.now lattice.now }
+    requires sets { AreSets facts.now sets.now }
+    requires few { length lattice.now.concepts.items < 4294967295 }
+    requires some { All (λ line. NamesSome line.edit) lines.now }
+    ensures { IfOk result (IsEdited facts.now sets.now (start_from facts.now table.now lattice.now) lines.now) }
+{
+    let mut hier = start(alloc, facts, table, lattice)?;
+    let refusals = run_edits(alloc, &mut hier, facts, sets, lines)?;
+    let mut text = Vec::new(alloc);
+    show_hierarchy(alloc, facts, &hier, &mut text)?;
+    Ok(Edited { text, refusals })
+}
+
+/// Runs a script on the hierarchy at which a program starts: the one of its table's lattice.
+///
+/// The script is read whole before an edit is applied. `AllocError` comes where memory is short.
+pub fn run_script(
+    alloc: Global,
+    facts: &Facts,
+    sets: &PointsTo,
+    table: &Table,
+    lattice: &Lattice,
+    script: &Vec<u8>,
+) -> Result<Scripted, AllocError>
+    requires range { InRange facts.now }
+    requires order { InOrder facts.now }
+    requires table { IsTable facts.now table.now }
+    requires lattice { IsLatticeOf table.now lattice.now }
+    requires sets { AreSets facts.now sets.now }
+    requires few { length lattice.now.concepts.items < 4294967295 }
+    requires small { length script.now.items < 4294967295 }
+    ensures scripted { IfOk result (IsScripted facts.now sets.now (start_from facts.now table.now lattice.now) script.now.items) }
+{
+    match read_script(alloc, script) {
+        Ok(lines) => {
+            let edited = edit_start(alloc, facts, sets, table, lattice, &lines)?;
+            Ok(Scripted::Edited(edited))
+        }
+        Err(ScriptFault::BadLine(number)) => Ok(Scripted::BadLine(number)),
+        Err(ScriptFault::TooManyEdits) => Ok(Scripted::TooManyEdits),
+        Err(ScriptFault::Memory) => Err(AllocError),
+    }
+}

@@ -1,0 +1,7 @@
+//! The text of a class hierarchy.
+#![tactic(auto)]
+
+mod lines;
+mod lists;
+
+pub use lines::show_hierarchy;
