@@ -1,5 +1,5 @@
 -- The statuses of want of memory and of a failed write are no reply's.
-use Rattle.std.proofs.Common.{◌≡◌, inl, inr, ℕ, Bool, List, [], Option, arith}
+use Rattle.std.proofs.Common.{◌≡◌, inl, inr, ℕ, Bool, ◌==◌, true, false, List, [], length, Option, if◌then◌else◌, arith}
 use Rattle.kaba_base.specs.Outside.{Files}
 use Rattle.java_core.specs.declared.Program.{Program}
 use Rattle.java_core.specs.Trees.{no_place}
@@ -7,13 +7,16 @@ use Rattle.java_core.specs.Programs.{program_of}
 use Rattle.java_meaning.specs.Moment as meaning
 use Rattle.fact_model.specs.declared.facts.Facts.{Facts}
 use Rattle.java_run.specs.Outcomes.{meant}
-use Rattle.kaba_words.specs.Commands.{Cmd, run, table, lattice, help, version}
+use Rattle.kaba_words.specs.Commands.{Cmd, run, table, lattice, edit, help, version}
 use Rattle.kaba_top.specs.About.{help_text, version_text}
 use Rattle.kaba_top.specs.Lines.{Says, Gives}
 use Rattle.kaba_top.specs.Reading.{IsRefusedText, TextAnswers}
 use Rattle.kaba_top.specs.RunAnswers.{EndGives, RunAnswers}
 use Rattle.kaba_top.specs.FactsAnswers.{AnalysisAnswers, TableOf, LatticeOf}
-use Rattle.kaba_top.specs.Answers.{FileAnswers, CommandAnswers, Answers, Replies}
+use Rattle.hier_script.specs.declared.scripts.Scripted.{Scripted}
+use Rattle.hier_script.specs.declared.scripts.Scripted.TheVariants as scripted
+use Rattle.kaba_top.specs.EditAnswers.{EditOf, ScriptGives}
+use Rattle.kaba_top.specs.Answers.{FileAnswers, EditAnswers, CommandAnswers, Answers, Replies}
 
 abbrev pub IsOther : ℕ → Type 0
 IsOther status = (status ≡ 70 → ⊥) × (status ≡ 74 → ⊥)
@@ -64,6 +67,21 @@ lattice_other json bound f status out err a = elim a.answers as (λ _. IsOther s
   | inr shown ↦ gave 0 (omega arith, omega arith) _ _ status out err shown.gives
 ]
 
+after_script : (none : Bool) (bytes refusals : List ℕ) → AreOther (Gives (if none then 0 else 4) bytes refusals)
+after_script true bytes refusals status out err h = gave 0 (omega arith, omega arith) _ _ status out err h
+after_script false bytes refusals status out err h = gave 4 (omega arith, omega arith) _ _ status out err h
+
+script_other : (s : Scripted) → AreOther (ScriptGives s)
+script_other (scripted.BadLine n) status out err h = said 69 (omega arith, omega arith) _ status out err h
+script_other scripted.TooManyEdits status out err h = said 67 (omega arith, omega arith) _ status out err h
+script_other (scripted.Edited e) status out err h = after_script (length e.refusals.items == 0) e.text.items e.refusals.items status out err h
+
+edit_other : (bound : ℕ) (script : List ℕ) (f : Facts) → AreOther (EditOf bound script f)
+edit_other bound script f status out err a = elim a.answers as (λ _. IsOther status) [
+  | inl many ↦ said 68 (omega arith, omega arith) _ status out err many.says
+  | inr ran ↦ script_other ran.scripted status out err ran.gives
+]
+
 file_other : (K : List ℕ → ℕ → List ℕ → List ℕ → Type 0) → ((bytes : List ℕ) → AreOther (K bytes)) → (files : Files) (name : List ℕ) → AreOther (FileAnswers K files name)
 file_other K o files name status out err (inl a) = said 66 (omega arith, omega arith) _ status out err a.says
 file_other K o files name status out err (inr (inl a)) = said 67 (omega arith, omega arith) _ status out err a.says
@@ -75,6 +93,9 @@ command_other (table file) first second =
     file_other (TextAnswers (AnalysisAnswers TableOf)) (text_other (AnalysisAnswers TableOf) (analysis_other TableOf table_other)) first file
 command_other (lattice json bound file) first second =
     file_other (TextAnswers (AnalysisAnswers (LatticeOf json bound))) (text_other (AnalysisAnswers (LatticeOf json bound)) (analysis_other (LatticeOf json bound) (lattice_other json bound))) first file
+command_other (edit bound file script) first second =
+    let text = λ bytes lines. text_other (AnalysisAnswers (EditOf bound lines)) (analysis_other (EditOf bound lines) (edit_other bound lines)) bytes in
+    file_other (λ bytes. FileAnswers (EditAnswers bound bytes) second script) (λ bytes. file_other (EditAnswers bound bytes) (text bytes) second script) first file
 command_other help first second = gave 0 (omega arith, omega arith) help_text []
 command_other version first second = gave 0 (omega arith, omega arith) version_text []
 

@@ -1,11 +1,10 @@
 -- What is known once a program was analysed.
 use Rattle.java_core.specs.declared.Program.{Program}
-use Rattle.fact_model.specs.InRange.{InRange}
 use Rattle.kaba_top.specs.declared.analysis.Analysed.{Analysed}
 use Rattle.kaba_top.specs.declared.analysis.Analysed.TheVariants as analysed
 use Rattle.kaba_top.specs.FactsAnswers.{HasFacts, IsNotAnalysed}
 
--- the facts of the program, or a reply that it has none
+-- all that is known of the facts of the program, or a reply that it has none
 abbrev pub IsAnalysis : Program → Analysed → Type 0
-IsAnalysis program (analysed.Found facts) = HasFacts program facts × InRange facts
+IsAnalysis program (analysed.Found facts) = HasFacts program facts
 IsAnalysis program (analysed.Refused reply) = IsNotAnalysed program reply.status reply.out.items reply.err.items

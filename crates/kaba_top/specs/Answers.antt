@@ -2,12 +2,13 @@
 use Rattle.std.specs.Prelude.{◌≡◌, ◌⊎◌, ℕ, ◌<◌, ◌≤◌, List, [], length, Option, Some, None}
 use Rattle.std.specs.Option.{IsSome}
 use Rattle.kaba_base.specs.Outside.{Files, Rose, taken_more, HoldsPrefix}
-use Rattle.kaba_words.specs.Commands.{Cmd, run, table, lattice, help, version, Fits, FitsNone}
+use Rattle.kaba_words.specs.Commands.{Cmd, run, table, lattice, edit, help, version, Fits, FitsNone}
 use Rattle.kaba_top.specs.About.{help_text, version_text}
 use Rattle.kaba_top.specs.Lines.{Says, Gives, usage, cannot_read, most_bytes, file_too_large}
 use Rattle.kaba_top.specs.Reading.{TextAnswers}
 use Rattle.kaba_top.specs.RunAnswers.{RunAnswers}
 use Rattle.kaba_top.specs.FactsAnswers.{AnalysisAnswers, TableOf, LatticeOf}
+use Rattle.kaba_top.specs.EditAnswers.{EditOf}
 
 -- the words fit no pattern
 pub record IsUsage (words : List (List ℕ)) (status : ℕ) (out err : List ℕ) : Type 0 where
@@ -37,11 +38,16 @@ pub record IsRead (K : List ℕ → ℕ → List ℕ → List ℕ → Type 0) (f
 abbrev pub FileAnswers : (List ℕ → ℕ → List ℕ → List ℕ → Type 0) → Files → List ℕ → ℕ → List ℕ → List ℕ → Type 0
 FileAnswers K files file status out err = IsMissing files file status out err ⊎ (IsTooLarge files file status out err ⊎ IsRead K files file status out err)
 
+-- the answers of `edit` for the bytes of its file and of its script
+abbrev pub EditAnswers : ℕ → List ℕ → List ℕ → ℕ → List ℕ → List ℕ → Type 0
+EditAnswers bound bytes script = TextAnswers (AnalysisAnswers (EditOf bound script)) bytes
+
 -- the answers of a command, where first are the files as its first file is read, and second as its second one is
 abbrev pub CommandAnswers : Cmd → Files → Files → ℕ → List ℕ → List ℕ → Type 0
 CommandAnswers (run file steps words) first second = FileAnswers (TextAnswers (RunAnswers steps words)) first file
 CommandAnswers (table file) first second = FileAnswers (TextAnswers (AnalysisAnswers TableOf)) first file
 CommandAnswers (lattice json bound file) first second = FileAnswers (TextAnswers (AnalysisAnswers (LatticeOf json bound))) first file
+CommandAnswers (edit bound file script) first second = FileAnswers (λ bytes. FileAnswers (EditAnswers bound bytes) second script) first file
 CommandAnswers help first second = Gives 0 help_text []
 CommandAnswers version first second = Gives 0 version_text []
 
@@ -50,6 +56,7 @@ abbrev pub Names : Cmd → List ℕ → Type 0
 Names (run file steps words) name = name ≡ file
 Names (table file) name = name ≡ file
 Names (lattice json bound file) name = name ≡ file
+Names (edit bound file script) name = (name ≡ file) ⊎ (name ≡ script)
 Names help name = ⊥
 Names version name = ⊥
 

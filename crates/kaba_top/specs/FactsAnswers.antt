@@ -12,7 +12,8 @@ use Rattle.fact_model.specs.Entries.{IsTable}
 use Rattle.fact_model.specs.Concepts.{AreMoreThan, IsLatticeOf}
 use Rattle.flow_facts.specs.declared.top.Counted.{Counted}
 use Rattle.flow_facts.specs.declared.top.Counted.TheVariants as counted
-use Rattle.flow_facts.specs.Facts.{IsFactsOf, IsWithin, first_interface, too_many}
+use Rattle.flow_facts.specs.Facts.{first_interface, too_many}
+use Rattle.program_facts.specs.Known.{AreProgramFacts}
 use Rattle.lattice_view.specs.Table.{table_text}
 use Rattle.lattice_view.specs.Text.{lattice_text}
 use Rattle.lattice_view.specs.Json.{lattice_json}
@@ -43,10 +44,10 @@ pub record IsOverLimit (program : Program) (status : ℕ) (out err : List ℕ) :
 abbrev pub IsNotAnalysed : Program → ℕ → List ℕ → List ℕ → Type 0
 IsNotAnalysed program status out err = IsWithInterface program status out err ⊎ IsOverLimit program status out err
 
--- the program is within the limits and has these facts
-pub record HasFacts (program : Program) (facts : Facts) : Type 0 where
-  pub within : IsWithin (program_of no_place program) (program_of at_place program)
-  pub is : IsFactsOf (program_of no_place program) (program_of at_place program) facts
+-- the program is within the limits and has these facts: each list is that of its text, they are in range and in order, and their
+-- points-to sets cover each run
+abbrev pub HasFacts : Program → Facts → Type 0
+HasFacts program facts = AreProgramFacts (program_of no_place program) (program_of at_place program) facts
 
 -- the program has facts for which there is this answer
 pub record IsAnalysed (J : Facts → ℕ → List ℕ → List ℕ → Type 0) (program : Program) (status : ℕ) (out err : List ℕ) : Type 0 where
@@ -68,10 +69,13 @@ pub record TableOf (facts : Facts) (status : ℕ) (out err : List ℕ) : Type 0 
 abbrev pub shown : Bool → Facts → Lattice → List ℕ
 shown json facts lattice = if json then lattice_json facts lattice else lattice_text lattice
 
+abbrev pub too_many_concepts : ℕ → List ℕ
+too_many_concepts bound = codes "too many concepts: more than " ++ decimal bound
+
 -- the table has more concepts than are allowed
 pub record IsTooMany (bound : ℕ) (table : Table) (status : ℕ) (out err : List ℕ) : Type 0 where
   pub more : AreMoreThan table.rows.items table.width bound
-  pub says : Says 68 (codes "too many concepts: more than " ++ decimal bound) status out err
+  pub says : Says 68 (too_many_concepts bound) status out err
 
 -- the table has this lattice, within what is allowed
 pub record IsShown (json : Bool) (bound : ℕ) (facts : Facts) (table : Table) (status : ℕ) (out err : List ℕ) : Type 0 where

@@ -4,7 +4,7 @@ use Rattle.kaba_base.specs.Outside.{Files}
 use Rattle.kaba_top.specs.declared.answer.Fetched.{Fetched}
 use Rattle.kaba_top.specs.declared.answer.Fetched.TheVariants.{Bytes, Refused}
 use Rattle.kaba_top.specs.Lines.{most_bytes}
-use Rattle.kaba_top.specs.Answers.{Agrees, IsMissing, IsTooLarge, IsFault}
+use Rattle.kaba_top.specs.Answers.{Agrees, IsMissing, IsTooLarge, IsFault, IsAnswered, FileAnswers}
 
 -- some files that agree with what is told have these bytes under the name
 pub record IsThere (told : Option Files) (name bytes : List ℕ) : Type 0 where
@@ -22,3 +22,7 @@ pub record IsRefused (told : Option Files) (name : List ℕ) (status : ℕ) (out
 abbrev pub IsFetched : Option Files → ℕ → ℕ → List ℕ → Fetched → Type 0
 IsFetched told before now name (Bytes bytes) = IsThere told name bytes.items
 IsFetched told before now name (Refused reply) = IsRefused told name reply.status reply.out.items reply.err.items ⊎ IsFault before now name reply.status reply.out.items reply.err.items
+
+-- the reply to a file of a command, where K are the answers for its bytes
+abbrev pub FileReplies : Option Files → ℕ → ℕ → (List ℕ → ℕ → List ℕ → List ℕ → Type 0) → List ℕ → ℕ → List ℕ → List ℕ → Type 0
+FileReplies told before now K name status out err = IsAnswered told (λ first second. FileAnswers K first name) status out err ⊎ IsFault before now name status out err

@@ -3,6 +3,7 @@ pub mod About
 pub mod Reading
 pub mod RunAnswers
 pub mod FactsAnswers
+pub mod EditAnswers
 pub mod Answers
 pub mod Fetching
 pub mod Readings

@@ -4,9 +4,9 @@
 ghost use Rattle.std.specs.Prelude.{◌≡◌, ◌≤◌, IfOk, length};
 ghost use Rattle.fact_model.specs.InRange.{InRange};
 ghost use Rattle.fact_model.specs.Entries.{IsTable};
-ghost use Rattle.kaba_top.specs.Lines.{most_bytes};
+ghost use Rattle.kaba_top.specs.Lines.{Says, most_bytes};
 ghost use Rattle.kaba_top.specs.Reading.{TextAnswers};
-ghost use Rattle.kaba_top.specs.FactsAnswers.{AnalysisAnswers, TableOf, LatticeOf, limit_text, shown};
+ghost use Rattle.kaba_top.specs.FactsAnswers.{AnalysisAnswers, TableOf, LatticeOf, limit_text, shown, too_many_concepts};
 ghost use Rattle.kaba_top.specs.Analyses.{IsAnalysis};
 
 use crate::reading::{Reading, read_program};
@@ -40,7 +40,7 @@ fn limit_text(what: Counted) -> &'static str
 }
 
 /// The facts of a program, or the reply that it has none.
-fn analyse(alloc: Global, program: &Checked) -> Result<Analysed, AllocError>
+pub fn analyse(alloc: Global, program: &Checked) -> Result<Analysed, AllocError>
     ensures { IfOk result (λ analysed. IsAnalysis program.now analysed) }
 {
     match facts(alloc, program) {
@@ -97,6 +97,14 @@ fn show(alloc: Global, json: bool, facts: &Facts, lattice: &Lattice) -> Result<V
     Ok(out)
 }
 
+/// The reply that there are more concepts than are allowed.
+pub fn too_many_concepts(alloc: Global, bound: u32) -> Result<Reply, AllocError>
+    ensures { IfOk result (λ reply. Says 68 (too_many_concepts bound) reply.status reply.out.items reply.err.items) }
+{
+    let text = format!(in alloc; "too many concepts: more than {bound}")?;
+    Reply::line(alloc, 68, text.as_bytes())
+}
+
 /// The reply with the lattice, or with how many concepts are allowed.
 fn lattice_reply(alloc: Global, facts: &Facts, json: bool, bound: u32) -> Result<Reply, AllocError>
     requires facts { InRange facts.now }
@@ -109,10 +117,7 @@ fn lattice_reply(alloc: Global, facts: &Facts, json: bool, bound: u32) -> Result
             out: show(alloc, json, facts, &lattice)?,
             err: Vec::new(alloc),
         }),
-        Err(LatticeFault::TooManyConcepts(_)) => {
-            let text = format!(in alloc; "too many concepts: more than {bound}")?;
-            Reply::line(alloc, 68, text.as_bytes())
-        }
+        Err(LatticeFault::TooManyConcepts(_)) => too_many_concepts(alloc, bound),
         Err(LatticeFault::Memory) => Err(AllocError),
     }
 }

@@ -1,14 +1,16 @@
 //! From the words to the reply.
 #![tactic(auto)]
 
-ghost use Rattle.std.specs.Prelude.{◌≡◌, ◌≤◌, IfOk, string_bytes};
+ghost use Rattle.std.specs.Prelude.{◌≡◌, ◌≤◌, IfOk, length, string_bytes};
 ghost use Rattle.kaba_base.specs.Outside.{Files};
-ghost use Rattle.kaba_words.specs.Commands.{run, table, lattice, texts};
-ghost use Rattle.kaba_top.specs.Answers.{CommandReplies, Replies};
-ghost use Rattle.kaba_top.specs.Fetching.{IsFetched};
+ghost use Rattle.kaba_words.specs.Commands.{run, table, lattice, edit, texts, most_concepts};
+ghost use Rattle.kaba_top.specs.Answers.{CommandReplies, EditAnswers, Replies};
+ghost use Rattle.kaba_top.specs.Fetching.{FileReplies, IsFetched};
+ghost use Rattle.kaba_top.specs.Lines.{most_bytes};
 
 use crate::about::{help_reply, version_reply};
 use crate::analysis::{lattice_text, table_text};
+use crate::edit::edit_text;
 use crate::reply::Reply;
 use crate::run::run_text;
 use kaba_base::{ReadFault, Shelf, read_file};
@@ -83,6 +85,41 @@ fn lattice_command<F: Shelf>(
     }
 }
 
+/// The reply of `edit` once the bytes of its first file are there.
+fn script_command<F: Shelf>(
+    alloc: Global,
+    shelf: &mut F,
+    bytes: &Vec<u8>,
+    script: &String,
+    bound: u32,
+) -> Result<Reply, AllocError>
+    requires small { length bytes.now.items ≤ most_bytes }
+    requires bound { bound ≤ most_concepts }
+    ensures replies { IfOk result (λ reply. FileReplies (F.files shelf.old) (F.faults shelf.old) (F.faults shelf.new) (EditAnswers bound bytes.now.items) (string_bytes script.now) reply.status reply.out.items reply.err.items) }
+{
+    match fetch_file(alloc, shelf, script)? {
+        Fetched::Bytes(lines) => edit_text(alloc, bytes, &lines, bound),
+        Fetched::Refused(reply) => Ok(reply),
+    }
+}
+
+/// The reply of `edit`.
+fn edit_command<F: Shelf>(
+    alloc: Global,
+    shelf: &mut F,
+    file: &String,
+    script: &String,
+    bound: u32,
+) -> Result<Reply, AllocError>
+    requires bound { bound ≤ most_concepts }
+    ensures replies { IfOk result (λ reply. CommandReplies (F.files shelf.old) (F.faults shelf.old) (F.faults shelf.new) (edit bound (string_bytes file.now) (string_bytes script.now)) reply.status reply.out.items reply.err.items) }
+{
+    match fetch_file(alloc, shelf, file)? {
+        Fetched::Bytes(bytes) => script_command(alloc, shelf, &bytes, script, bound),
+        Fetched::Refused(reply) => Ok(reply),
+    }
+}
+
 /// The reply to the words, or `AllocError` where memory is short.
 pub fn answer<F: Shelf>(
     alloc: Global,
@@ -97,6 +134,7 @@ pub fn answer<F: Shelf>(
         Ok(Command::Lattice(json, bound, file)) => {
             lattice_command(alloc, shelf, &file, json, bound)
         }
+        Ok(Command::Edit(bound, file, script)) => edit_command(alloc, shelf, &file, &script, bound),
         Ok(Command::Help) => help_reply(alloc),
         Ok(Command::Version) => version_reply(alloc),
         Err(WordsFault::Usage) => Reply::line(alloc, 64, b"usage"),

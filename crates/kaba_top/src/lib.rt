@@ -9,6 +9,7 @@ ghost use Rattle.kaba_top.specs.Answers.{Gave, WasCut};
 mod about;
 mod analysis;
 mod answer;
+mod edit;
 mod reading;
 mod reply;
 mod run;

@@ -1,15 +1,16 @@
 -- Words that fit none of the patterns.
-use Rattle.std.proofs.Common.{◌≡◌, ℕ, List, [], ◌∷◌, codes, subst, sym, ap, ◌∙◌, refl, Bool, true, false, arith, Option, Some, MatchOption, Result, Err}
+use Rattle.std.proofs.Common.{◌≡◌, ℕ, ◌≤◌, List, [], ◌∷◌, codes, subst, sym, ap, ◌∙◌, refl, Bool, true, false, arith, Option, Some, MatchOption, Result, Err}
 use Rattle.std.specs.Str.{bytes_eq}
 use Rattle.std.proofs.lemmas.Bool.{false≢true}
 use Rattle.std.proofs.lemmas.Slice.Eq.{bytes_eq-Decides}
 use Rattle.std.proofs.lemmas.Fmt.{decimal_injective}
-use Rattle.kaba_words.specs.Commands.{Cmd, run, table, lattice, help, version, FitsRun, FitsLattice, FitsNone, Fits, TakesFlag, TakesBound, BoundAfter, IsNumber, most_concepts}
+use Rattle.kaba_words.specs.Commands.{Cmd, run, table, lattice, edit, help, version, FitsRun, FitsLattice, FitsEdit, NoEdit, FitsNone, Fits, TakesFlag, TakesBound, BoundAfter, IsNumber, most_concepts}
 
 at_run : (more : List (List ℕ)) → ((file : List ℕ) (steps : ℕ) (after : List (List ℕ)) → FitsRun more file steps after → ⊥) → (command : Cmd) → Fits (codes "run" ∷ more) command → ⊥
 at_run more none (run file steps after) h = none file steps after h.1
 at_run more none (table file) h = cc
 at_run more none (lattice json bound file) h = cc
+at_run more none (edit bound file script) h = cc
 at_run more none help h = cc
 at_run more none version h = cc
 
@@ -17,6 +18,7 @@ at_table : (more : List (List ℕ)) → ((file : List ℕ) → more ≡ file ∷
 at_table more none (run file steps after) h = cc
 at_table more none (table file) h = none file h.1
 at_table more none (lattice json bound file) h = cc
+at_table more none (edit bound file script) h = cc
 at_table more none help h = cc
 at_table more none version h = cc
 
@@ -24,13 +26,23 @@ at_lattice : (more : List (List ℕ)) → ((json : Bool) (bound : ℕ) (file : L
 at_lattice more none (run file steps after) h = cc
 at_lattice more none (table file) h = cc
 at_lattice more none (lattice json bound file) h = none json bound file h.1
+at_lattice more none (edit bound file script) h = cc
 at_lattice more none help h = cc
 at_lattice more none version h = cc
+
+at_edit : (more : List (List ℕ)) → NoEdit more → (command : Cmd) → Fits (codes "edit" ∷ more) command → ⊥
+at_edit more none (run file steps after) h = cc
+at_edit more none (table file) h = cc
+at_edit more none (lattice json bound file) h = cc
+at_edit more none (edit bound file script) h = none bound file script h.1
+at_edit more none help h = cc
+at_edit more none version h = cc
 
 at_help : (more : List (List ℕ)) → (more ≡ [] → ⊥) → (command : Cmd) → Fits (codes "--help" ∷ more) command → ⊥
 at_help more none (run file steps after) h = cc
 at_help more none (table file) h = cc
 at_help more none (lattice json bound file) h = cc
+at_help more none (edit bound file script) h = cc
 at_help more none help h = none h.1
 at_help more none version h = cc
 
@@ -38,6 +50,7 @@ at_version : (more : List (List ℕ)) → (more ≡ [] → ⊥) → (command : C
 at_version more none (run file steps after) h = cc
 at_version more none (table file) h = cc
 at_version more none (lattice json bound file) h = cc
+at_version more none (edit bound file script) h = cc
 at_version more none help h = cc
 at_version more none version h = none h.1
 
@@ -50,6 +63,9 @@ none_of_table words more e none = subst FitsNone (sym e) (at_table more none)
 
 pub none_of_lattice : (words : List (List ℕ)) (more : List (List ℕ)) → words ≡ codes "lattice" ∷ more → ((json : Bool) (bound : ℕ) (file : List ℕ) → FitsLattice more json bound file → ⊥) → FitsNone words
 none_of_lattice words more e none = subst FitsNone (sym e) (at_lattice more none)
+
+pub none_of_edit : (words : List (List ℕ)) (more : List (List ℕ)) → words ≡ codes "edit" ∷ more → NoEdit more → FitsNone words
+none_of_edit words more e none = subst FitsNone (sym e) (at_edit more none)
 
 pub none_of_help : (words : List (List ℕ)) (more : List (List ℕ)) → words ≡ codes "--help" ∷ more → (more ≡ [] → ⊥) → FitsNone words
 none_of_help words more e none = subst FitsNone (sym e) (at_help more none)
@@ -112,6 +128,19 @@ pub no_file : (words after rest : List (List ℕ)) (asked : Bool) (n : ℕ) → 
 no_file words after rest asked n f b none json bound file h =
     let e = (flag_same (codes "-j") words asked json after h.after f h.flag).1 in
     none file (bound_same h.after n bound rest h.rest (subst (λ ws. TakesBound ws n rest) e b) h.takes_bound ∙ h.file_is)
+
+-- the words after `edit` do not fit
+pub no_bound_for_edit : (words : List (List ℕ)) → ((n : ℕ) (rest : List (List ℕ)) → TakesBound words n rest → ⊥) → NoEdit words
+no_bound_for_edit words none bound file script h = none bound h.rest h.takes_bound
+
+-- a bound is at most what may be asked
+small_bound : (asked : Bool) (words : List (List ℕ)) (n : ℕ) (rest : List (List ℕ)) → BoundAfter asked words n rest → n ≤ most_concepts
+small_bound true words n rest h = h.2.small
+small_bound false words n rest h = omega (arith, h.1)
+
+pub edit_bound : (words : List (List ℕ)) (bound : ℕ) (file script : List ℕ) → Fits words (edit bound file script) → bound ≤ most_concepts
+edit_bound [] bound file script h = absurd h
+edit_bound (name ∷ words) bound file script h = let b = h.1.takes_bound in small_bound b.asked b.after bound h.1.rest b.bound
 
 abbrev pub Reads : List ℕ → Option ℕ → Type 0
 Reads word read = MatchOption read ((n : ℕ) → IsNumber word most_concepts n → ⊥) (λ n. IsNumber word most_concepts n)

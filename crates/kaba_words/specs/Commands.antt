@@ -12,6 +12,7 @@ pub data Cmd : Type 0 where
   run : (file : List ℕ) (steps : ℕ) (words : List (List ℕ)) → Cmd
   table : (file : List ℕ) → Cmd
   lattice : (json : Bool) (bound : ℕ) (file : List ℕ) → Cmd
+  edit : (bound : ℕ) (file script : List ℕ) → Cmd
   help : Cmd
   version : Cmd
 
@@ -22,6 +23,7 @@ abbrev pub command_of : Command → Cmd
 command_of (commands.Run file steps words) = run (string_bytes file) steps (texts words.items)
 command_of (commands.Table file) = table (string_bytes file)
 command_of (commands.Lattice json bound file) = lattice json bound (string_bytes file)
+command_of (commands.Edit bound file script) = edit bound (string_bytes file) (string_bytes script)
 command_of commands.Help = help
 command_of commands.Version = version
 
@@ -77,11 +79,22 @@ pub record FitsLattice (words : List (List ℕ)) (json : Bool) (bound : ℕ) (fi
   pub takes_bound : TakesBound after bound rest
   pub file_is : rest ≡ file ∷ []
 
+-- [-c N] FILE SCRIPT
+pub record FitsEdit (words : List (List ℕ)) (bound : ℕ) (file script : List ℕ) : Type 0 where
+  pub rest : List (List ℕ)
+  pub takes_bound : TakesBound words bound rest
+  pub files_are : rest ≡ file ∷ script ∷ []
+
+-- the words are no FILE SCRIPT with or without a bound
+abbrev pub NoEdit : List (List ℕ) → Type 0
+NoEdit words = (bound : ℕ) (file script : List ℕ) → FitsEdit words bound file script → ⊥
+
 -- the words after the command's name
 abbrev pub FitsArguments : List ℕ → List (List ℕ) → Cmd → Type 0
 FitsArguments name words (run file steps more) = (name ≡ codes "run") × FitsRun words file steps more
 FitsArguments name words (table file) = (name ≡ codes "table") × (words ≡ file ∷ [])
 FitsArguments name words (lattice json bound file) = (name ≡ codes "lattice") × FitsLattice words json bound file
+FitsArguments name words (edit bound file script) = (name ≡ codes "edit") × FitsEdit words bound file script
 FitsArguments name words help = (name ≡ codes "--help") × (words ≡ [])
 FitsArguments name words version = (name ≡ codes "--version") × (words ≡ [])
 

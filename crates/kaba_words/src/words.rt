@@ -3,7 +3,7 @@
 
 ghost use Rattle.std.specs.Prelude.{◌≡◌, ◌∷◌, ◌≤◌, ℕ, Bool, true, List, [], Err, IfOk, MatchOption, IsTrue, ◌↔◌, length, codes};
 ghost use Rattle.std.specs.List.{All};
-ghost use Rattle.kaba_words.specs.Commands.{Cmd, texts, command_of, IsNumber, Fits, FitsNone, FitsRun, TakesFlag, BoundAfter, TakesBound, FitsLattice, most_units};
+ghost use Rattle.kaba_words.specs.Commands.{Cmd, texts, command_of, IsNumber, Fits, FitsNone, FitsRun, TakesFlag, BoundAfter, TakesBound, FitsLattice, NoEdit, most_units};
 ghost use Rattle.kaba_words.specs.declared.words.WordsFault.TheVariants as WordsFault;
 
 use std::alloc::{AllocError, Global};
@@ -17,6 +17,8 @@ pub enum Command {
     Table(String),
     /// `lattice [-j] [-c N] FILE`: its lattice, as JSON or not, of at most N concepts.
     Lattice(bool, u32, String),
+    /// `edit [-c N] FILE SCRIPT`: the hierarchy of the file's program after the edits of the script.
+    Edit(u32, String, String),
     /// `--help`: what the program takes and gives.
     Help,
     /// `--version`: which version it is.
@@ -212,6 +214,26 @@ fn read_lattice(alloc: Global, mut arguments: Arguments<'_>) -> Result<Command, 
     Ok(Command::Lattice(json, bound, String::from_str(alloc, file)?))
 }
 
+/// The command `edit`, of which the words after its name are left.
+fn read_edit(alloc: Global, mut arguments: Arguments<'_>) -> Result<Command, WordsFault>
+    ensures command { IfOk result (λ command. Fits (codes "edit" ∷ texts arguments.entry.words.now) (command_of command)) }
+    ensures usage { result ≡ Err WordsFault.Usage → NoEdit (texts arguments.entry.words.now) }
+{
+    let bound = match read_bound(alloc, &mut arguments) {
+        Ok(bound) => bound,
+        Err(fault) => return Err(fault),
+    };
+    let Some(file) = arguments.next() else {
+        return Err(WordsFault::Usage);
+    };
+    let Some(script) = arguments.last() else {
+        return Err(WordsFault::Usage);
+    };
+    let file = String::from_str(alloc, file)?;
+    let script = String::from_str(alloc, script)?;
+    Ok(Command::Edit(bound, file, script))
+}
+
 /// The command `--help`, of which the words after its name are left.
 fn read_help(arguments: Arguments<'_>) -> Result<Command, WordsFault>
     ensures command { IfOk result (λ command. Fits (codes "--help" ∷ texts arguments.entry.words.now) (command_of command)) }
@@ -247,6 +269,7 @@ pub fn read_words(alloc: Global, words: &Vec<String>) -> Result<Command, WordsFa
         Some("run") => read_run(alloc, arguments),
         Some("table") => read_table(alloc, arguments),
         Some("lattice") => read_lattice(alloc, arguments),
+        Some("edit") => read_edit(alloc, arguments),
         Some("--help") => read_help(arguments),
         Some("--version") => read_version(arguments),
         Some(_) => Err(WordsFault::Usage),

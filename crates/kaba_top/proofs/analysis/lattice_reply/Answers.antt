@@ -1,6 +1,5 @@
-use Rattle.std.proofs.Common.{inr, refl, subst, ◌∙◌, IfOk}
+use Rattle.std.proofs.Common.{inr, refl, subst}
 use Rattle.concept_build.specs.Lists.{IsFaultOf}
-use Rattle.kaba_top.specs.Lines.{Says}
 use Rattle.kaba_top.proofs.Analysing.{too_many}
 use Rattle.kaba_top.proofs.analysis.lattice_reply.Goals as goal
 
@@ -19,6 +18,6 @@ returns-in-Ok c = record {
 pub returns-in-Err-TooManyConcepts : goal.returns-in-Err-TooManyConcepts
 returns-in-Err-TooManyConcepts c =
     let table = c.in_ok-table.table in
-    too_many c.args.json c.args.bound c.args.facts.now table c.line.result c.in_ok-table.ensures
+    too_many c.args.json c.args.bound c.args.facts.now table c.too_many_concepts.result c.in_ok-table.ensures
     (subst (IsFaultOf table.rows.items table.width c.args.bound) c.in-Err-TooManyConcepts.field-0-is c.in-Err-TooManyConcepts.ensures.cause).1
-    (subst (λ text. IfOk c.line.result (λ reply. Says 68 text reply.status reply.out.items reply.err.items)) (c.as_bytes.ensures.value ∙ c.in_ok-text-in-Err-TooManyConcepts.ensures.ok) c.line.ensures.says)
+    c.too_many_concepts.ensures
