@@ -5,8 +5,7 @@
 use kaba_base::{MemShelf, MemSink};
 use kaba_top::kaba;
 use std::alloc::{AllocError, Global};
-use std::io;
-use std::str;
+use std::{io, str};
 
 const PRINTS: &str =
     "class Main { static void main(String[] a) { System.out.println(\"Carl Main Street\"); System.out.println(\"Gregor Room 7\"); } }";
@@ -42,13 +41,22 @@ fn all(alloc: Global) -> Result<String, AllocError> {
     let mut text = String::new(alloc);
     let third = Plan { out: 3, ..NO_FAULT };
     text.push_str(shown(alloc, "run p.java 7", PRINTS, third)?.as_str())?;
-    let nothing = Plan { out_takes_nothing: 1, ..NO_FAULT };
+    let nothing = Plan {
+        out_takes_nothing: 1,
+        ..NO_FAULT
+    };
     text.push_str(shown(alloc, "run p.java 7", PRINTS, nothing)?.as_str())?;
     let line = Plan { err: 1, ..NO_FAULT };
     text.push_str(shown(alloc, "run p.java 7", FAULTS, line)?.as_str())?;
-    let first = Plan { fetch: 1, ..NO_FAULT };
+    let first = Plan {
+        fetch: 1,
+        ..NO_FAULT
+    };
     text.push_str(shown(alloc, "table p.java", PRINTS, first)?.as_str())?;
-    let second = Plan { fetch: 2, ..NO_FAULT };
+    let second = Plan {
+        fetch: 2,
+        ..NO_FAULT
+    };
     text.push_str(shown(alloc, "edit p.java s", PRINTS, second)?.as_str())?;
     Ok(text)
 }
@@ -90,8 +98,12 @@ fn shelf_of(alloc: Global, text: &str, fails: u64) -> Result<MemShelf, AllocErro
         count: 0,
     };
     let program = Vec::from_slice(alloc, text.as_bytes())?;
-    shelf.files.push((String::from_str(alloc, "p.java")?, program))?;
-    shelf.files.push((String::from_str(alloc, "s")?, Vec::new(alloc)))?;
+    shelf
+        .files
+        .push((String::from_str(alloc, "p.java")?, program))?;
+    shelf
+        .files
+        .push((String::from_str(alloc, "s")?, Vec::new(alloc)))?;
     shelf.fails.push(fails)?;
     Ok(shelf)
 }
