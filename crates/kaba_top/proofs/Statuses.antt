@@ -87,6 +87,9 @@ file_other K o files name status out err (inl a) = said 66 (omega arith, omega a
 file_other K o files name status out err (inr (inl a)) = said 67 (omega arith, omega arith) _ status out err a.says
 file_other K o files name status out err (inr (inr a)) = o a.bytes status out err a.answers
 
+edits_other : (bound : ℕ) (bytes script : List ℕ) → AreOther (EditAnswers bound bytes script)
+edits_other bound bytes script = text_other (AnalysisAnswers (EditOf bound script)) (analysis_other (EditOf bound script) (edit_other bound script)) bytes
+
 command_other : (command : Cmd) (first second : Files) → AreOther (CommandAnswers command first second)
 command_other (run file steps words) first second = file_other (TextAnswers (RunAnswers steps words)) (text_other (RunAnswers steps words) (run_other steps words)) first file
 command_other (table file) first second =
@@ -94,8 +97,7 @@ command_other (table file) first second =
 command_other (lattice json bound file) first second =
     file_other (TextAnswers (AnalysisAnswers (LatticeOf json bound))) (text_other (AnalysisAnswers (LatticeOf json bound)) (analysis_other (LatticeOf json bound) (lattice_other json bound))) first file
 command_other (edit bound file script) first second =
-    let text = λ bytes lines. text_other (AnalysisAnswers (EditOf bound lines)) (analysis_other (EditOf bound lines) (edit_other bound lines)) bytes in
-    file_other (λ bytes. FileAnswers (EditAnswers bound bytes) second script) (λ bytes. file_other (EditAnswers bound bytes) (text bytes) second script) first file
+    file_other (λ bytes. FileAnswers (EditAnswers bound bytes) second script) (λ bytes. file_other (EditAnswers bound bytes) (edits_other bound bytes) second script) first file
 command_other help first second = gave 0 (omega arith, omega arith) help_text []
 command_other version first second = gave 0 (omega arith, omega arith) version_text []
 
