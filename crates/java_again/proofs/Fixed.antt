@@ -1,7 +1,8 @@
 -- A text is written again in one way, and a written text is that of one program.
-use Rattle.std.proofs.Common.{◌≡◌, ℕ, List, Ok, sym, ap, subst, ◌∙◌}
+use Rattle.std.proofs.Common.{◌≡◌, ℕ, List, Result, Ok, sym, ap, subst, ◌∙◌}
 use Rattle.std.specs.Str.{encode_utf8_all}
 use Rattle.java_lex.specs.declared.Token.{Token}
+use Rattle.java_lex.specs.declared.LexFault.{LexFault}
 use Rattle.java_tree.specs.Syntax.{DeclTree}
 use Rattle.java_tree.specs.Declarations.{IsPlaced, Derives}
 use Rattle.java_parse.proofs.CompleteDeclarations.{one_placed, one_derived}
@@ -11,7 +12,7 @@ use Rattle.java_print.proofs.DeclParsed.{text_read}
 use Rattle.java_print.proofs.Gives.{given_formed}
 use Rattle.java_again.specs.Again.{OneText, TextsApart}
 
-same_ok : (ts us : List Token) → Ok ts ≡ Ok us → ts ≡ us
+same_ok : (ts us : List Token) → ◌≡◌ {A = Result (List Token) LexFault} (Ok ts) (Ok us) → ts ≡ us
 same_ok ts us h = cc
 
 pub one_text : OneText
