@@ -1,6 +1,6 @@
-use Rattle.std.proofs.Common.{Err, ap, subst}
-use Rattle.kaba_words.specs.Commands.{texts, command_of, Fits}
-use Rattle.kaba_top.proofs.Replying.{usage_replies, help_replies, version_replies}
+use Rattle.std.proofs.Common.{Err, ap, subst, string_bytes}
+use Rattle.kaba_words.specs.Commands.{edit, texts, command_of, Fits}
+use Rattle.kaba_top.proofs.Replying.{of_command, usage_replies, help_replies, version_replies}
 use Rattle.kaba_top.proofs.answer.answer.Goals as goal
 
 pub returns-in-Err-Usage : goal.returns-in-Err-Usage
@@ -18,4 +18,11 @@ pub returns-in-Ok-Version : goal.returns-in-Ok-Version
 returns-in-Ok-Version g c = record {
   replies = version_replies (g.F.Shelf.files c.args.shelf.now) (g.F.Shelf.faults c.args.shelf.now) (g.F.Shelf.faults c.args.shelf.now) (texts c.args.words.now.items) c.version_reply.result
       (subst (λ command. Fits (texts c.args.words.now.items) (command_of command)) c.in-Ok-Version.field-0-is c.in-Ok-Version.ensures.command) c.version_reply.ensures.gives;
+}
+
+pub returns-in-Ok-Edit : goal.returns-in-Ok-Edit
+returns-in-Ok-Edit g c = record {
+  replies = of_command (g.F.Shelf.files c.args.shelf.now) (g.F.Shelf.faults c.args.shelf.now) (g.F.Shelf.faults c.edit_command.new.shelf) (texts c.args.words.now.items)
+      (edit c.in-Ok-Edit.bound (string_bytes c.in-Ok-Edit.file) (string_bytes c.in-Ok-Edit.script)) c.edit_command.result
+      (subst (λ command. Fits (texts c.args.words.now.items) (command_of command)) c.in-Ok-Edit.field-0-is c.in-Ok-Edit.ensures.command) c.edit_command.ensures.replies;
 }
