@@ -140,6 +140,8 @@ module _ (F : Facts) where
     pub fields : (c d : ℕ) → c < length F.columns.items → d < length F.columns.items → column_kind F c ≡ Fld → column_kind F d ≡ Fld → column_class F c ≡ column_class F d → name_of c ≡ name_of d → c ≡ d
     -- and at most one body of a slot
     pub bodies : (c d : ℕ) → c < length F.columns.items → d < length F.columns.items → IsDef c → IsDef d → column_class F c ≡ column_class F d → column_slot F c ≡ column_slot F d → c ≡ d
+    -- a field has no slot
+    pub no_slots : (c : ℕ) → c < length F.columns.items → column_kind F c ≡ Fld → column_slot F c ≡ None
     -- the columns of a slot have one name
     pub names : (c d x : ℕ) → column_slot F c ≡ Some x → column_slot F d ≡ Some x → name_of c ≡ name_of d
 

@@ -11,10 +11,10 @@ use Rattle.java_core.specs.Formed.{IsFormed}
 use Rattle.java_core.proofs.Subclasses.{nearest_of-nearest}
 use Rattle.java_core.proofs.Offered.{declaration-above, own_method-own}
 use Rattle.java_meaning.proofs.Layouts.{nearest_above}
-use Rattle.flow_facts.specs.declared.items.ObjectType.{ObjectType}
-use Rattle.flow_facts.specs.declared.items.ColumnItem.TheVariants as column
-use Rattle.flow_facts.specs.Operands.{class_at, object_field, call_declaration}
-use Rattle.flow_facts.specs.Facts.{owner_of}
+use Rattle.flow_rules.specs.declared.items.ObjectType.{ObjectType}
+use Rattle.flow_rules.specs.declared.items.ColumnItem.TheVariants as column
+use Rattle.flow_rules.specs.Operands.{class_at, object_field, call_declaration}
+use Rattle.flow_rules.specs.Facts.{owner_of}
 use Rattle.facts_order.proofs.Listed.{position_at}
 use Rattle.facts_order.proofs.Pairs.{IsPlaced}
 

@@ -10,13 +10,13 @@ use Rattle.fact_model.specs.Classes.{IsBelow}
 use Rattle.fact_model.specs.declared.facts.Facts.{Facts}
 use Rattle.fact_model.specs.declared.facts.AccessInfo.{AccessInfo}
 use Rattle.fact_model.specs.declared.facts.ColKind.TheVariants.{Fld, Dcl}
-use Rattle.flow_facts.specs.declared.items.Operand.{Operand}
-use Rattle.flow_facts.specs.declared.items.ColumnItem.{ColumnItem}
-use Rattle.flow_facts.specs.declared.items.ColumnItem.TheVariants as column
-use Rattle.flow_facts.specs.Parts.{Part, a_load, a_call, a_store, parts_of}
-use Rattle.flow_facts.specs.Numbered.{column_number}
-use Rattle.flow_facts.specs.Lists.{row_at, accessed, accesses_of}
-use Rattle.flow_facts.specs.Facts.{numbers, column_info, IsFactsOf}
+use Rattle.flow_rules.specs.declared.items.Operand.{Operand}
+use Rattle.flow_rules.specs.declared.items.ColumnItem.{ColumnItem}
+use Rattle.flow_rules.specs.declared.items.ColumnItem.TheVariants as column
+use Rattle.flow_rules.specs.Parts.{Part, a_load, a_call, a_store, parts_of}
+use Rattle.flow_rules.specs.Numbered.{column_number}
+use Rattle.flow_rules.specs.Lists.{row_at, accessed, accesses_of}
+use Rattle.flow_rules.specs.Facts.{numbers, column_info, IsFactsOf}
 use Rattle.facts_order.proofs.Listed.{one_from, all_of}
 use Rattle.facts_order.proofs.Columns.{numbered_column}
 use Rattle.facts_order.proofs.Pairs.{IsPlaced}

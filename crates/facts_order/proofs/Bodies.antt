@@ -13,23 +13,23 @@ use Rattle.fact_model.specs.Items.{row_at as info_at, row_this, column_kind, poi
 use Rattle.fact_model.specs.InOrder.{IsDef, HasOneThis}
 use Rattle.fact_model.specs.declared.facts.Facts.{Facts}
 use Rattle.fact_model.specs.declared.facts.ColKind.TheVariants as kind
-use Rattle.flow_facts.specs.declared.items.ObjectType.{ObjectType}
-use Rattle.flow_facts.specs.declared.items.Operand.{Operand}
-use Rattle.flow_facts.specs.declared.items.RowItem.{RowItem}
-use Rattle.flow_facts.specs.declared.items.RowItem.TheVariants as row
-use Rattle.flow_facts.specs.declared.items.PointItem.{PointItem}
-use Rattle.flow_facts.specs.declared.items.PointItem.TheVariants as point
-use Rattle.flow_facts.specs.declared.items.PointAt.{PointAt}
-use Rattle.flow_facts.specs.declared.items.Row.{Row}
-use Rattle.flow_facts.specs.declared.items.ColumnItem.{ColumnItem}
-use Rattle.flow_facts.specs.declared.items.ColumnItem.TheVariants as column
-use Rattle.flow_facts.specs.declared.items.Column.{Column}
-use Rattle.flow_facts.specs.Ordered.{each}
-use Rattle.flow_facts.specs.Labels.{label}
-use Rattle.flow_facts.specs.Operands.{variable_in, result_in, type_in}
-use Rattle.flow_facts.specs.Parts.{Part, parts_of}
-use Rattle.flow_facts.specs.Numbered.{row_number, columns_of, column_number, point_number}
-use Rattle.flow_facts.specs.Facts.{this_of_row, site_of_row, column_info, PlainBody, numbers, body_seen, body_if, column_body, param_points, IsFactsOf}
+use Rattle.flow_rules.specs.declared.items.ObjectType.{ObjectType}
+use Rattle.flow_rules.specs.declared.items.Operand.{Operand}
+use Rattle.flow_rules.specs.declared.items.RowItem.{RowItem}
+use Rattle.flow_rules.specs.declared.items.RowItem.TheVariants as row
+use Rattle.flow_rules.specs.declared.items.PointItem.{PointItem}
+use Rattle.flow_rules.specs.declared.items.PointItem.TheVariants as point
+use Rattle.flow_rules.specs.declared.items.PointAt.{PointAt}
+use Rattle.flow_rules.specs.declared.items.Row.{Row}
+use Rattle.flow_rules.specs.declared.items.ColumnItem.{ColumnItem}
+use Rattle.flow_rules.specs.declared.items.ColumnItem.TheVariants as column
+use Rattle.flow_rules.specs.declared.items.Column.{Column}
+use Rattle.flow_rules.specs.Ordered.{each}
+use Rattle.flow_rules.specs.Labels.{label}
+use Rattle.flow_rules.specs.Operands.{variable_in, result_in, type_in}
+use Rattle.flow_rules.specs.Parts.{Part, parts_of}
+use Rattle.flow_rules.specs.Numbered.{row_number, columns_of, column_number, point_number}
+use Rattle.flow_rules.specs.Facts.{this_of_row, site_of_row, column_info, PlainBody, numbers, body_seen, body_if, column_body, param_points, IsFactsOf}
 use Rattle.facts_order.proofs.Listed.{first, below_at, at_map, index_at, each_has, each_from_zero, map_has, map_from, one_from, all_of}
 use Rattle.facts_order.proofs.Items.{column_at, column_back, row_back}
 use Rattle.facts_order.proofs.Pairs.{IsPlaced}
@@ -130,7 +130,7 @@ module _ (P Q : Plain) (placed : IsPlaced P Q) (formed : IsFormed P) (typed : Is
   pub part_labelled : (p : Part) → IsPart P Q placed formed p → (m : ℕ) (k : PlainMethod) (e : slice_get Q.methods m ≡ Some k) → Contains (parts_of P m k) p → HasLabel m (given_by p)
   part_labelled p a m k e c = from_labelled P (type_in P m k) m k (placed.methods m k e).plain (parts_of P m k) p (part_from P Q placed formed typed m k e p c)
 
-  given_labelled : (m : ℕ) (k : PlainMethod) (p : Part) (a : PointAt) → slice_get Q.methods m ≡ Some k → Contains (parts_of P m k) p → IsGiven a p → (l : ℕ) × (a.item ≡ point.Expr m l)
+  pub given_labelled : (m : ℕ) (k : PlainMethod) (p : Part) (a : PointAt) → slice_get Q.methods m ≡ Some k → Contains (parts_of P m k) p → IsGiven a p → (l : ℕ) × (a.item ≡ point.Expr m l)
   given_labelled m k p a e c g =
       let z = subst (λ o. HasLabel m o) g.given (part_labelled p (record { number = m; method = k; stands = e; part = c }) m k e c) in
       (z.0, same_Some _ _ (sym g.point_is ∙ z.1))

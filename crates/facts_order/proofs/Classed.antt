@@ -14,18 +14,18 @@ use Rattle.java_core.specs.Formed.{IsFormed}
 use Rattle.java_meaning.specs.Watched.{bare}
 use Rattle.java_meaning.proofs.WatchedPrograms.{bare_static}
 use Rattle.fact_model.specs.declared.facts.Facts.{Facts}
-use Rattle.flow_facts.specs.declared.items.ObjectType.{ObjectType}
-use Rattle.flow_facts.specs.declared.items.Operand.{Operand}
-use Rattle.flow_facts.specs.declared.items.RowItem.{RowItem}
-use Rattle.flow_facts.specs.declared.items.RowItem.TheVariants as row
-use Rattle.flow_facts.specs.declared.items.Row.{Row}
-use Rattle.flow_facts.specs.Labels.{label}
-use Rattle.flow_facts.specs.Operands.{object_static, object_field, call_slot, variable_row, row_of, operand_of, type_in}
-use Rattle.flow_facts.specs.Types.{field_object, slot_object, method_object, variable_object, element_object, object_type}
-use Rattle.flow_facts.specs.Parts.{Part, a_creation, a_test, parts, parts_of}
-use Rattle.flow_facts.specs.Numbered.{rows_of}
-use Rattle.flow_facts.specs.Facts.{IsFactsOf}
-use Rattle.flow_facts.proofs.TypeLemmas.{types_are}
+use Rattle.flow_rules.specs.declared.items.ObjectType.{ObjectType}
+use Rattle.flow_rules.specs.declared.items.Operand.{Operand}
+use Rattle.flow_rules.specs.declared.items.RowItem.{RowItem}
+use Rattle.flow_rules.specs.declared.items.RowItem.TheVariants as row
+use Rattle.flow_rules.specs.declared.items.Row.{Row}
+use Rattle.flow_rules.specs.Labels.{label}
+use Rattle.flow_rules.specs.Operands.{object_static, object_field, call_slot, variable_row, row_of, operand_of, type_in}
+use Rattle.flow_rules.specs.Types.{field_object, slot_object, method_object, variable_object, element_object, object_type}
+use Rattle.flow_rules.specs.Parts.{Part, a_creation, a_test, parts, parts_of}
+use Rattle.flow_rules.specs.Numbered.{rows_of}
+use Rattle.flow_rules.specs.Facts.{IsFactsOf}
+use Rattle.flow_rules.proofs.TypeLemmas.{types_are}
 use Rattle.run_cover.proofs.Untagging.{unlabel}
 use Rattle.facts_order.proofs.Listed.{first}
 use Rattle.facts_order.proofs.Pairs.{IsPlaced}

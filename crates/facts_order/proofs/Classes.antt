@@ -15,9 +15,9 @@ use Rattle.fact_model.specs.InOrder.{AreClassesInOrder}
 use Rattle.fact_model.specs.declared.facts.Facts.{Facts}
 use Rattle.fact_model.specs.declared.facts.ClassInfo.{ClassInfo}
 use Rattle.fact_model.specs.declared.facts.ColKind.TheVariants as kind
-use Rattle.flow_facts.specs.declared.items.ColumnItem.{ColumnItem}
-use Rattle.flow_facts.specs.Ordered.{each}
-use Rattle.flow_facts.specs.Facts.{ClassFacts, class_seen, is_holder, owner_of, kind_of, IsFactsOf}
+use Rattle.flow_rules.specs.declared.items.ColumnItem.{ColumnItem}
+use Rattle.flow_rules.specs.Ordered.{each}
+use Rattle.flow_rules.specs.Facts.{ClassFacts, class_seen, is_holder, owner_of, kind_of, IsFactsOf}
 use Rattle.facts_order.proofs.Listed.{below_at, at_map, map_at}
 use Rattle.facts_order.proofs.Pairs.{IsPlaced}
 use Rattle.facts_order.proofs.Columns.{Stands, for_field, for_declaration, for_body, for_mark, item_of}

@@ -11,14 +11,14 @@ use Rattle.java_core.specs.Programs.{Plain, PlainField, PlainMethod}
 use Rattle.fact_model.specs.Items.{column_at as info_at, column_slot}
 use Rattle.fact_model.specs.declared.facts.Facts.{Facts}
 use Rattle.fact_model.specs.declared.facts.ColumnInfo.{ColumnInfo}
-use Rattle.flow_facts.specs.declared.items.ObjectType.{ObjectType}
-use Rattle.flow_facts.specs.declared.items.ColumnItem.{ColumnItem}
-use Rattle.flow_facts.specs.declared.items.ColumnItem.TheVariants as column
-use Rattle.flow_facts.specs.declared.items.Column.{Column}
-use Rattle.flow_facts.specs.Ordered.{each, when}
-use Rattle.flow_facts.specs.Parts.{Part, a_creation, a_test, parts_of}
-use Rattle.flow_facts.specs.Numbered.{mark, array_mark, form_columns, field_columns, method_columns, columns_of, column_number}
-use Rattle.flow_facts.specs.Facts.{column_info, IsFactsOf}
+use Rattle.flow_rules.specs.declared.items.ObjectType.{ObjectType}
+use Rattle.flow_rules.specs.declared.items.ColumnItem.{ColumnItem}
+use Rattle.flow_rules.specs.declared.items.ColumnItem.TheVariants as column
+use Rattle.flow_rules.specs.declared.items.Column.{Column}
+use Rattle.flow_rules.specs.Ordered.{each, when}
+use Rattle.flow_rules.specs.Parts.{Part, a_creation, a_test, parts_of}
+use Rattle.flow_rules.specs.Numbered.{mark, array_mark, form_columns, field_columns, method_columns, columns_of, column_number}
+use Rattle.flow_rules.specs.Facts.{column_info, IsFactsOf}
 use Rattle.facts_order.proofs.Listed.{first, more, at_below, below_at, at_map, map_at, index_at, index_past, each_has, each_from_zero, flat_from, flat_has, when_has, when_from, one_from}
 use Rattle.facts_order.proofs.Items.{raw_columns, column_at, column_back, column_raw, column_there}
 

@@ -12,13 +12,13 @@ use Rattle.fact_model.specs.Classes.{IsBelow}
 use Rattle.fact_model.specs.Flowing.{in_point, in_cell, Holds, IsInRow, by_point, by_cell}
 use Rattle.fact_model.specs.declared.facts.Facts.{Facts}
 use Rattle.fact_model.specs.declared.facts.CellInfo.{CellInfo}
-use Rattle.flow_facts.specs.declared.items.ColumnItem.{ColumnItem}
-use Rattle.flow_facts.specs.declared.items.ColumnItem.TheVariants as column
-use Rattle.flow_facts.specs.declared.items.RowItem.TheVariants as row
-use Rattle.flow_facts.specs.declared.items.Site.{Site}
-use Rattle.flow_facts.specs.Parts.{a_creation}
-use Rattle.flow_facts.specs.Numbered.{columns_of, sites_of, row_number, column_number}
-use Rattle.flow_facts.specs.Facts.{FieldCell, numbers, field_if, field_at, fields_of, field_cell, array_cell, site_cells, site_info, cells_of, owner_of, IsFactsOf}
+use Rattle.flow_rules.specs.declared.items.ColumnItem.{ColumnItem}
+use Rattle.flow_rules.specs.declared.items.ColumnItem.TheVariants as column
+use Rattle.flow_rules.specs.declared.items.RowItem.TheVariants as row
+use Rattle.flow_rules.specs.declared.items.Site.{Site}
+use Rattle.flow_rules.specs.Parts.{a_creation}
+use Rattle.flow_rules.specs.Numbered.{columns_of, sites_of, row_number, column_number}
+use Rattle.flow_rules.specs.Facts.{FieldCell, numbers, field_if, field_at, fields_of, field_cell, array_cell, site_cells, site_info, cells_of, owner_of, IsFactsOf}
 use Rattle.facts_order.proofs.Listed.{at_map, below_at, contains_at, index_at, one_from, flat_from, when_from, each_from_zero}
 use Rattle.facts_order.proofs.Items.{column_back}
 use Rattle.facts_order.proofs.Pairs.{IsPlaced}

@@ -15,11 +15,11 @@ use Rattle.java_core.specs.Types.{Static, a_value, null_value, no_value, class_i
 use Rattle.java_core.specs.Typing.{takes_two, are_related, can_cast}
 use Rattle.java_core.specs.Formed.{IsKnownBase, IsType, IsCastType, to_int, to_char, to_class}
 use Rattle.java_core.proofs.Subclasses.{below-subclass}
-use Rattle.flow_facts.specs.declared.items.ObjectType.{ObjectType}
-use Rattle.flow_facts.specs.Operands.{object_in, object_of, object_static, object_class, class_at}
-use Rattle.flow_facts.specs.Types.{element_in as element_in_type}
-use Rattle.flow_facts.specs.Lists.{is_comparison}
-use Rattle.flow_facts.proofs.TypeLemmas.{class_is}
+use Rattle.flow_rules.specs.declared.items.ObjectType.{ObjectType}
+use Rattle.flow_rules.specs.Operands.{object_in, object_of, object_static, object_class, class_at}
+use Rattle.flow_rules.specs.Types.{element_in as element_in_type}
+use Rattle.flow_rules.specs.Lists.{is_comparison}
+use Rattle.flow_rules.proofs.TypeLemmas.{class_is}
 
 -- an element has the class, and brackets one less
 element_dim : (b : TyBase) (d : ℕ) (t : ObjectType) → is_some (element_in b d) ≡ true → object_in b d ≡ Some t → 0 < t.dim

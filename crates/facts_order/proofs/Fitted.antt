@@ -15,20 +15,20 @@ use Rattle.java_core.specs.Typing.{IsTyped, Typed, t_this, t_field, t_local, t_s
 use Rattle.java_core.specs.Formed.{IsFormed, IsOwnField, FormedSt, f_assign, f_to_own, FormedEx, f_own_field, f_create, f_create_array, f_cast, f_instance_of}
 use Rattle.java_meaning.specs.Watched.{bare, bare_all, bare_target}
 use Rattle.fact_model.specs.declared.facts.Facts.{Facts}
-use Rattle.flow_facts.specs.declared.items.ObjectType.{ObjectType}
-use Rattle.flow_facts.specs.declared.items.Operand.{Operand}
-use Rattle.flow_facts.specs.declared.items.RowItem.{RowItem}
-use Rattle.flow_facts.specs.declared.items.RowItem.TheVariants as row
-use Rattle.flow_facts.specs.declared.items.PointItem.TheVariants as point
-use Rattle.flow_facts.specs.declared.items.ColumnItem.{ColumnItem}
-use Rattle.flow_facts.specs.declared.items.ColumnItem.TheVariants as column
-use Rattle.flow_facts.specs.Labels.{size, label, label_all, size_target, label_target}
-use Rattle.flow_facts.specs.Operands.{object_of, object_if, object_static, object_field, class_at, call_slot, call_declaration, operand_of, operands_of, this_operand, test_operand, type_in}
-use Rattle.flow_facts.specs.Types.{field_object, slot_object, method_object, variable_object, element_object, object_type}
-use Rattle.flow_facts.specs.Parts.{Part, a_load, an_element, a_creation, a_call, a_static_call, a_super_call, a_test, a_pair, a_set, a_store, an_element_store, a_return, is_accessed, parts, parts_all, parts_assign, parts_of}
-use Rattle.flow_facts.specs.Lists.{is_comparison}
-use Rattle.flow_facts.specs.Facts.{owner_of, IsFactsOf}
-use Rattle.flow_facts.proofs.TypeLemmas.{class_is, object_field_is}
+use Rattle.flow_rules.specs.declared.items.ObjectType.{ObjectType}
+use Rattle.flow_rules.specs.declared.items.Operand.{Operand}
+use Rattle.flow_rules.specs.declared.items.RowItem.{RowItem}
+use Rattle.flow_rules.specs.declared.items.RowItem.TheVariants as row
+use Rattle.flow_rules.specs.declared.items.PointItem.TheVariants as point
+use Rattle.flow_rules.specs.declared.items.ColumnItem.{ColumnItem}
+use Rattle.flow_rules.specs.declared.items.ColumnItem.TheVariants as column
+use Rattle.flow_rules.specs.Labels.{size, label, label_all, size_target, label_target}
+use Rattle.flow_rules.specs.Operands.{object_of, object_if, object_static, object_field, class_at, call_slot, call_declaration, operand_of, operands_of, this_operand, test_operand, type_in}
+use Rattle.flow_rules.specs.Types.{field_object, slot_object, method_object, variable_object, element_object, object_type}
+use Rattle.flow_rules.specs.Parts.{Part, a_load, an_element, a_creation, a_call, a_static_call, a_super_call, a_test, a_pair, a_set, a_store, an_element_store, a_return, is_accessed, parts, parts_all, parts_assign, parts_of}
+use Rattle.flow_rules.specs.Lists.{is_comparison}
+use Rattle.flow_rules.specs.Facts.{owner_of, IsFactsOf}
+use Rattle.flow_rules.proofs.TypeLemmas.{class_is, object_field_is}
 use Rattle.run_cover.proofs.Types.{class_apart, slot_called}
 use Rattle.facts_order.proofs.Listed.{first, more, one_from}
 use Rattle.facts_order.proofs.Pairs.{IsPlaced}

@@ -24,19 +24,19 @@ use Rattle.fact_model.specs.declared.facts.CastInfo.{CastInfo}
 use Rattle.fact_model.specs.declared.facts.CallInfo.{CallInfo}
 use Rattle.fact_model.specs.declared.facts.BodyInfo.{BodyInfo}
 use Rattle.fact_model.proofs.ClassLemmas.{finds-found}
-use Rattle.flow_facts.specs.declared.items.ObjectType.{ObjectType}
-use Rattle.flow_facts.specs.declared.items.Operand.{Operand}
-use Rattle.flow_facts.specs.declared.items.PointItem.{PointItem}
-use Rattle.flow_facts.specs.declared.items.PointItem.TheVariants as point
-use Rattle.flow_facts.specs.declared.items.ColumnItem.{ColumnItem}
-use Rattle.flow_facts.specs.declared.items.ColumnItem.TheVariants as column
-use Rattle.flow_facts.specs.Ordered.{each, by_place}
-use Rattle.flow_facts.specs.Operands.{object_if, class_object}
-use Rattle.flow_facts.specs.Types.{field_object, slot_object, method_object, variable_object, element_object}
-use Rattle.flow_facts.specs.Parts.{Part, a_load, an_element, a_creation, a_call, a_static_call, a_super_call, a_test, a_set, a_store, an_element_store, a_return, parts_of}
-use Rattle.flow_facts.specs.Lists.{Placed, PlainCall, point_at, site_in, created, moved, news_of, flows_of, loads_of, stores_of, casts_of, calls_of}
-use Rattle.flow_facts.specs.Numbered.{column_number, columns_of, site_number, point_number}
-use Rattle.flow_facts.specs.Facts.{numbers, gathered, body_seen, call_seen, body_if, column_body, param_points, owner_of, IsFactsOf}
+use Rattle.flow_rules.specs.declared.items.ObjectType.{ObjectType}
+use Rattle.flow_rules.specs.declared.items.Operand.{Operand}
+use Rattle.flow_rules.specs.declared.items.PointItem.{PointItem}
+use Rattle.flow_rules.specs.declared.items.PointItem.TheVariants as point
+use Rattle.flow_rules.specs.declared.items.ColumnItem.{ColumnItem}
+use Rattle.flow_rules.specs.declared.items.ColumnItem.TheVariants as column
+use Rattle.flow_rules.specs.Ordered.{each, by_place}
+use Rattle.flow_rules.specs.Operands.{object_if, class_object}
+use Rattle.flow_rules.specs.Types.{field_object, slot_object, method_object, variable_object, element_object}
+use Rattle.flow_rules.specs.Parts.{Part, a_load, an_element, a_creation, a_call, a_static_call, a_super_call, a_test, a_set, a_store, an_element_store, a_return, parts_of}
+use Rattle.flow_rules.specs.Lists.{Placed, PlainCall, point_at, site_in, created, moved, news_of, flows_of, loads_of, stores_of, casts_of, calls_of}
+use Rattle.flow_rules.specs.Numbered.{column_number, columns_of, site_number, point_number}
+use Rattle.flow_rules.specs.Facts.{numbers, gathered, body_seen, call_seen, body_if, column_body, param_points, owner_of, IsFactsOf}
 use Rattle.run_cover.proofs.Kinded.{site_type}
 use Rattle.facts_order.proofs.Listed.{map_has, map_from, map_at, one_from, each_from_zero, place_from, at_below}
 use Rattle.facts_order.proofs.Items.{column_at, column_back}

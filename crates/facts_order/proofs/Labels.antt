@@ -4,12 +4,12 @@ use Rattle.std.specs.Prelude.{◌≤◌, Bool, true, false, Contains}
 use Rattle.std.proofs.lemmas.Option.{same_Some}
 use Rattle.java_core.specs.Trees.{Tag, Ex, Exs, no_ex, ex_then, number, character, text, truth, null, this, local, static_field, own_field, field, index, call, static_call, super_call, create, create_array, cast, instance_of, unary, binary, Target, to_local, to_static, to_own, to_field, to_element, no_target, St, Sts, Arms, declare, block, assign, act, print, choose, loop, return, break, continue, no_st, st_then, otherwise, arm}
 use Rattle.java_core.specs.Programs.{Plain, PlainMethod}
-use Rattle.flow_facts.specs.declared.items.ObjectType.{ObjectType}
-use Rattle.flow_facts.specs.declared.items.PointItem.{PointItem}
-use Rattle.flow_facts.specs.declared.items.PointItem.TheVariants as point
-use Rattle.flow_facts.specs.Labels.{size, sizes, label, label_all, size_if, label_if, size_put, size_target, label_target, size_st, size_sts, size_arms, label_st, label_sts, label_arms}
-use Rattle.flow_facts.specs.Parts.{Part, a_load, an_element, a_creation, a_call, a_static_call, a_super_call, a_test, is_accessed, parts, parts_all, parts_if, parts_set, parts_return, parts_assign, parts_st, parts_sts, parts_arms, parts_body, parts_of}
-use Rattle.flow_facts.specs.Operands.{type_in}
+use Rattle.flow_rules.specs.declared.items.ObjectType.{ObjectType}
+use Rattle.flow_rules.specs.declared.items.PointItem.{PointItem}
+use Rattle.flow_rules.specs.declared.items.PointItem.TheVariants as point
+use Rattle.flow_rules.specs.Labels.{size, sizes, label, label_all, size_if, label_if, size_put, size_target, label_target, size_st, size_sts, size_arms, label_st, label_sts, label_arms}
+use Rattle.flow_rules.specs.Parts.{Part, a_load, an_element, a_creation, a_call, a_static_call, a_super_call, a_test, is_accessed, parts, parts_all, parts_if, parts_set, parts_return, parts_assign, parts_st, parts_sts, parts_arms, parts_body, parts_of}
+use Rattle.flow_rules.specs.Operands.{type_in}
 
 -- the label of what an expression gives
 abbrev pub label_in : Option PointItem → Option ℕ

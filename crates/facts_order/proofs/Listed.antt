@@ -8,7 +8,7 @@ use Rattle.std.proofs.lemmas.Bool.{false≢true}
 use Rattle.std.proofs.lemmas.Option.{same_Some, slice_get-get_or}
 use Rattle.std.proofs.lemmas.List.Quantifiers.{position-Some}
 use Rattle.indexmap.specs.IndexSet.{insert_key}
-use Rattle.flow_facts.specs.Ordered.{put_in, by_place, once_after, once, each, when}
+use Rattle.flow_rules.specs.Ordered.{put_in, by_place, once_after, once, each, when}
 
 pub first : {A : Type 0} (x : A) (xs : List A) → Contains (x ∷ xs) x
 first x xs = (0, omega arith, refl)

@@ -1,5 +1,5 @@
 -- Slots, fields and bodies of a program's facts, and their names.
-use Rattle.std.proofs.Common.{◌≡◌, ℕ, [], Some, length, refl, sym, ap, ◌∙◌, subst, ⊎_elim}
+use Rattle.std.proofs.Common.{◌≡◌, ℕ, [], Some, None, length, refl, sym, ap, ◌∙◌, subst, ⊎_elim}
 use Rattle.std.specs.Prelude.{◌<◌, false, slice_get}
 use Rattle.std.specs.Option.{option_map_or, option_and_then}
 use Rattle.std.proofs.lemmas.Option.{same_Some}
@@ -11,10 +11,10 @@ use Rattle.fact_model.specs.Classes.{IsBelow}
 use Rattle.fact_model.specs.InOrder.{IsDef, name_of, AreMembersInOrder}
 use Rattle.fact_model.specs.declared.facts.Facts.{Facts}
 use Rattle.fact_model.specs.declared.facts.ColKind.TheVariants as kind
-use Rattle.flow_facts.specs.declared.items.ColumnItem.{ColumnItem}
-use Rattle.flow_facts.specs.declared.items.ColumnItem.TheVariants as column
-use Rattle.flow_facts.specs.Numbered.{column_number}
-use Rattle.flow_facts.specs.Facts.{kind_of, owner_of, slot_in, name_in, IsFactsOf}
+use Rattle.flow_rules.specs.declared.items.ColumnItem.{ColumnItem}
+use Rattle.flow_rules.specs.declared.items.ColumnItem.TheVariants as column
+use Rattle.flow_rules.specs.Numbered.{column_number}
+use Rattle.flow_rules.specs.Facts.{kind_of, owner_of, slot_in, name_in, IsFactsOf}
 use Rattle.facts_order.proofs.Pairs.{IsPlaced}
 use Rattle.facts_order.proofs.Columns.{Stands, for_field, for_declaration, for_body, for_mark, HasItem, item_of, slot_below}
 use Rattle.facts_order.proofs.Classes.{below_subclass}
@@ -66,6 +66,12 @@ module _ (P Q : Plain) (placed : IsPlaced P Q) (formed : IsFormed P) where
   two_fields _ _ (for_body m k d t c) z a b o n = absurd (cc)
   two_fields _ _ (for_mark c) z a b o n = absurd (cc)
 
+  field_slot : (i : ColumnItem) → Stands Q i → kind_of i ≡ kind.Fld → slot_in Q i ≡ None
+  field_slot _ (for_field f h e s) a = refl
+  field_slot _ (for_declaration m k d t) a = absurd (cc)
+  field_slot _ (for_body m k d t c) a = absurd (cc)
+  field_slot _ (for_mark c) a = absurd (cc)
+
   slot_has : (m : ℕ) (k : PlainMethod) → slice_get Q.methods m ≡ Some k → k.is_static ≡ false → (s : ℕ) × (slot_in Q (column.Def m) ≡ Some s)
   slot_has m k e s =
       let z = placed.methods m k e in
@@ -101,6 +107,11 @@ module _ (P Q : Plain) (placed : IsPlaced P Q) (formed : IsFormed P) where
         same_column c d a b
         (two_fields a.item b.item a.stands b.stands (sym (ap (λ i. i.kind) a.info) ∙ h) (sym (ap (λ i. i.kind) b.info) ∙ k) (sym (ap (λ i. i.class.0) a.info) ∙ o ∙ ap (λ i. i.class.0) b.info)
         (sym (ap (λ i. i.name) a.info) ∙ n ∙ ap (λ i. i.name) b.info))
+
+    no_slots : (c : ℕ) → c < length F.columns.items → column_kind F c ≡ kind.Fld → column_slot F c ≡ None
+    no_slots c p h =
+        let a = item_of P Q F facts c p in
+        ap (λ i. i.slot) a.info ∙ field_slot a.item a.stands (sym (ap (λ i. i.kind) a.info) ∙ h)
 
     bodies : (c d : ℕ) → c < length F.columns.items → d < length F.columns.items → IsDef F c → IsDef F d → column_class F c ≡ column_class F d → column_slot F c ≡ column_slot F d → c ≡ d
     bodies c d p q h k o l =
@@ -142,4 +153,4 @@ module _ (P Q : Plain) (placed : IsPlaced P Q) (formed : IsFormed P) where
         (sym p.name ∙ n ∙ q.name))
 
     pub members_in_order : AreMembersInOrder F
-    members_in_order = record { slots = slots; fields = fields; bodies = bodies; names = names }
+    members_in_order = record { slots = slots; fields = fields; bodies = bodies; no_slots = no_slots; names = names }

@@ -21,9 +21,9 @@ use Rattle.fact_model.specs.Items.{column_kind}
 use Rattle.fact_model.specs.InOrder.{IsMember as IsMemberColumn, name_of, AreNamesInOrder}
 use Rattle.fact_model.specs.declared.facts.Facts.{Facts}
 use Rattle.fact_model.specs.declared.facts.ColKind.TheVariants as kind
-use Rattle.flow_facts.specs.declared.items.ColumnItem.{ColumnItem}
-use Rattle.flow_facts.specs.Ordered.{once}
-use Rattle.flow_facts.specs.Facts.{kind_of, name_in, is_holder, all_names, all_variables, variable_names, IsFactsOf, AreNamesOf}
+use Rattle.flow_rules.specs.declared.items.ColumnItem.{ColumnItem}
+use Rattle.flow_rules.specs.Ordered.{once}
+use Rattle.flow_rules.specs.Facts.{kind_of, name_in, is_holder, all_names, all_variables, variable_names, IsFactsOf, AreNamesOf}
 use Rattle.facts_order.proofs.Listed.{more, first, contains_at, at_contains, map_has, map_from, flat_has, flat_from, all_of, once_has, once_from}
 use Rattle.facts_order.proofs.Pairs.{IsPlaced}
 use Rattle.facts_order.proofs.Columns.{Stands, for_field, for_declaration, for_body, for_mark, item_of}

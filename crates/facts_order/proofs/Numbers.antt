@@ -10,12 +10,12 @@ use Rattle.java_core.specs.Trees.{Tag, Ex, Exs, no_ex, ex_then, number, characte
 use Rattle.java_core.specs.Programs.{Plain, PlainMethod}
 use Rattle.java_core.specs.Formed.{HasNoTwice, numbers, numbers_all, numbers_if, numbers_target, numbers_st, numbers_sts, numbers_arms, numbers_body, numbers_methods, IsFormed}
 use Rattle.java_meaning.specs.Watched.{bare, bare_all, bare_if, bare_target, bare_st, bare_sts, bare_arms}
-use Rattle.flow_facts.specs.declared.items.ObjectType.{ObjectType}
-use Rattle.flow_facts.specs.declared.items.RowItem.{RowItem}
-use Rattle.flow_facts.specs.declared.items.RowItem.TheVariants as row
-use Rattle.flow_facts.specs.Labels.{size, label, label_all, size_if, label_if, size_target, label_target, size_st, size_sts, label_st, label_sts, label_arms}
-use Rattle.flow_facts.specs.Parts.{Part, a_load, an_element, a_creation, a_call, a_static_call, a_super_call, a_test, is_accessed, parts, parts_all, parts_if, parts_set, parts_return, parts_assign, parts_st, parts_sts, parts_arms, parts_body, parts_of}
-use Rattle.flow_facts.specs.Operands.{type_in}
+use Rattle.flow_rules.specs.declared.items.ObjectType.{ObjectType}
+use Rattle.flow_rules.specs.declared.items.RowItem.{RowItem}
+use Rattle.flow_rules.specs.declared.items.RowItem.TheVariants as row
+use Rattle.flow_rules.specs.Labels.{size, label, label_all, size_if, label_if, size_target, label_target, size_st, size_sts, label_st, label_sts, label_arms}
+use Rattle.flow_rules.specs.Parts.{Part, a_load, an_element, a_creation, a_call, a_static_call, a_super_call, a_test, is_accessed, parts, parts_all, parts_if, parts_set, parts_return, parts_assign, parts_st, parts_sts, parts_arms, parts_body, parts_of}
+use Rattle.flow_rules.specs.Operands.{type_in}
 use Rattle.facts_order.proofs.Listed.{at_contains, at_below, flat_has}
 use Rattle.facts_order.proofs.Pairs.{IsPlaced}
 

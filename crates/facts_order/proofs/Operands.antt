@@ -9,14 +9,14 @@ use Rattle.java_core.specs.Classes.{slot_of_method}
 use Rattle.java_core.specs.Typing.{IsTyped}
 use Rattle.java_core.specs.Formed.{IsFormed}
 use Rattle.java_core.specs.Types.{types_of}
-use Rattle.flow_facts.specs.declared.items.ObjectType.{ObjectType}
-use Rattle.flow_facts.specs.declared.items.RowItem.{RowItem}
-use Rattle.flow_facts.specs.declared.items.RowItem.TheVariants as row
-use Rattle.flow_facts.specs.declared.items.Row.{Row}
-use Rattle.flow_facts.specs.Operands.{object_of, object_if, variable_in, variable_row, result_in}
-use Rattle.flow_facts.specs.Types.{field_object, slot_object, method_object, variable_object}
-use Rattle.flow_facts.specs.Parts.{Part, parts_of}
-use Rattle.flow_facts.specs.Numbered.{rows_of}
+use Rattle.flow_rules.specs.declared.items.ObjectType.{ObjectType}
+use Rattle.flow_rules.specs.declared.items.RowItem.{RowItem}
+use Rattle.flow_rules.specs.declared.items.RowItem.TheVariants as row
+use Rattle.flow_rules.specs.declared.items.Row.{Row}
+use Rattle.flow_rules.specs.Operands.{object_of, object_if, variable_in, variable_row, result_in}
+use Rattle.flow_rules.specs.Types.{field_object, slot_object, method_object, variable_object}
+use Rattle.flow_rules.specs.Parts.{Part, parts_of}
+use Rattle.flow_rules.specs.Numbered.{rows_of}
 use Rattle.facts_order.proofs.Pairs.{IsPlaced}
 use Rattle.facts_order.proofs.Numbers.{number_in}
 use Rattle.facts_order.proofs.Rows.{IsOwn, Types, for_field, for_this, for_result, for_variable, for_part, row_types}

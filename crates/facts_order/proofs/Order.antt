@@ -12,11 +12,11 @@ use Rattle.java_core.specs.Formed.{IsFormed}
 use Rattle.fact_model.specs.InOrder.{InOrder}
 use Rattle.fact_model.specs.InRange.{AreCounted, InRange}
 use Rattle.fact_model.specs.declared.facts.Facts.{Facts}
-use Rattle.flow_facts.specs.declared.top.Counted.{Counted}
-use Rattle.flow_facts.specs.declared.top.Counted.TheVariants as counted
-use Rattle.flow_facts.specs.declared.items.Point.{Point}
-use Rattle.flow_facts.specs.Numbered.{rows_of, columns_of, sites_of, points_of}
-use Rattle.flow_facts.specs.Facts.{TooMany, row_info, column_info, site_info, numbers, cells_of, over, too_many, IsFactsOf, AreNamesOf}
+use Rattle.flow_rules.specs.declared.faults.Counted.{Counted}
+use Rattle.flow_rules.specs.declared.faults.Counted.TheVariants as counted
+use Rattle.flow_rules.specs.declared.items.Point.{Point}
+use Rattle.flow_rules.specs.Numbered.{rows_of, columns_of, sites_of, points_of}
+use Rattle.flow_rules.specs.Facts.{TooMany, row_info, column_info, site_info, numbers, cells_of, over, too_many, IsFactsOf, AreNamesOf}
 use Rattle.run_cover.proofs.Programs.{same_program}
 use Rattle.facts_order.proofs.Listed.{below_at, at_below}
 use Rattle.facts_order.proofs.Pairs.{IsPlaced, placed}

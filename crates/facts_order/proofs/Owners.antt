@@ -11,15 +11,15 @@ use Rattle.java_core.specs.Formed.{IsFormed}
 use Rattle.fact_model.specs.Items.{row_at as info_at, site_at as site_info_at, row_class, row_this, is_object_row}
 use Rattle.fact_model.specs.Classes.{IsBelow}
 use Rattle.fact_model.specs.declared.facts.Facts.{Facts}
-use Rattle.flow_facts.specs.declared.items.ObjectType.{ObjectType}
-use Rattle.flow_facts.specs.declared.items.Operand.{Operand}
-use Rattle.flow_facts.specs.declared.items.RowItem.{RowItem}
-use Rattle.flow_facts.specs.declared.items.RowItem.TheVariants as row
-use Rattle.flow_facts.specs.declared.items.Row.{Row}
-use Rattle.flow_facts.specs.Parts.{a_creation}
-use Rattle.flow_facts.specs.Lists.{row_at}
-use Rattle.flow_facts.specs.Numbered.{rows_of, row_number, site_number}
-use Rattle.flow_facts.specs.Facts.{row_info, numbers, site_of_row, this_of_row, IsFactsOf}
+use Rattle.flow_rules.specs.declared.items.ObjectType.{ObjectType}
+use Rattle.flow_rules.specs.declared.items.Operand.{Operand}
+use Rattle.flow_rules.specs.declared.items.RowItem.{RowItem}
+use Rattle.flow_rules.specs.declared.items.RowItem.TheVariants as row
+use Rattle.flow_rules.specs.declared.items.Row.{Row}
+use Rattle.flow_rules.specs.Parts.{a_creation}
+use Rattle.flow_rules.specs.Lists.{row_at}
+use Rattle.flow_rules.specs.Numbered.{rows_of, row_number, site_number}
+use Rattle.flow_rules.specs.Facts.{row_info, numbers, site_of_row, this_of_row, IsFactsOf}
 use Rattle.facts_order.proofs.Pairs.{IsPlaced}
 use Rattle.facts_order.proofs.Rows.{row_types, item_row}
 use Rattle.facts_order.proofs.Sites.{own_typed, site_dim, made_site}

@@ -9,19 +9,19 @@ use Rattle.java_core.specs.Formed.{IsFormed}
 use Rattle.java_core.proofs.Subclasses.{subclass-then}
 use Rattle.fact_model.specs.Items.{row_class, point_row}
 use Rattle.fact_model.specs.declared.facts.Facts.{Facts}
-use Rattle.flow_facts.specs.declared.items.ObjectType.{ObjectType}
-use Rattle.flow_facts.specs.declared.items.Operand.{Operand}
-use Rattle.flow_facts.specs.declared.items.RowItem.{RowItem}
-use Rattle.flow_facts.specs.declared.items.RowItem.TheVariants as row
-use Rattle.flow_facts.specs.declared.items.PointItem.{PointItem}
-use Rattle.flow_facts.specs.declared.items.PointAt.{PointAt}
-use Rattle.flow_facts.specs.declared.items.Point.{Point}
-use Rattle.flow_facts.specs.Operands.{object_if, class_object}
-use Rattle.flow_facts.specs.Types.{variable_object}
-use Rattle.flow_facts.specs.Parts.{Part, a_load, an_element, a_creation, a_call, a_static_call, a_super_call, a_test}
-use Rattle.flow_facts.specs.Lists.{point_in, point_at}
-use Rattle.flow_facts.specs.Numbered.{row_number, sites_of, site_number, points_of, point_number}
-use Rattle.flow_facts.specs.Facts.{site_info, numbers, IsFactsOf}
+use Rattle.flow_rules.specs.declared.items.ObjectType.{ObjectType}
+use Rattle.flow_rules.specs.declared.items.Operand.{Operand}
+use Rattle.flow_rules.specs.declared.items.RowItem.{RowItem}
+use Rattle.flow_rules.specs.declared.items.RowItem.TheVariants as row
+use Rattle.flow_rules.specs.declared.items.PointItem.{PointItem}
+use Rattle.flow_rules.specs.declared.items.PointAt.{PointAt}
+use Rattle.flow_rules.specs.declared.items.Point.{Point}
+use Rattle.flow_rules.specs.Operands.{object_if, class_object}
+use Rattle.flow_rules.specs.Types.{variable_object}
+use Rattle.flow_rules.specs.Parts.{Part, a_load, an_element, a_creation, a_call, a_static_call, a_super_call, a_test}
+use Rattle.flow_rules.specs.Lists.{point_in, point_at}
+use Rattle.flow_rules.specs.Numbered.{row_number, sites_of, site_number, points_of, point_number}
+use Rattle.flow_rules.specs.Facts.{site_info, numbers, IsFactsOf}
 use Rattle.run_cover.proofs.Kinded.{site_type}
 use Rattle.facts_order.proofs.Listed.{at_map, map_at, below_at, index_at}
 use Rattle.facts_order.proofs.Items.{site_at, point_at as item_at}

@@ -8,19 +8,19 @@ use Rattle.kaba_base.specs.declared.Place.{Place}
 use Rattle.java_core.specs.Programs.{Plain, PlainField, PlainMethod, PlainLocal}
 use Rattle.fact_model.specs.Items.{point_row}
 use Rattle.fact_model.specs.declared.facts.Facts.{Facts}
-use Rattle.flow_facts.specs.declared.items.ObjectType.{ObjectType}
-use Rattle.flow_facts.specs.declared.items.Operand.{Operand}
-use Rattle.flow_facts.specs.declared.items.RowItem.{RowItem}
-use Rattle.flow_facts.specs.declared.items.RowItem.TheVariants as row
-use Rattle.flow_facts.specs.declared.items.PointItem.{PointItem}
-use Rattle.flow_facts.specs.declared.items.PointItem.TheVariants as point
-use Rattle.flow_facts.specs.declared.items.PointAt.{PointAt}
-use Rattle.flow_facts.specs.declared.items.Point.{Point}
-use Rattle.flow_facts.specs.Ordered.{each, when, by_place}
-use Rattle.flow_facts.specs.Operands.{variable_row, result_in}
-use Rattle.flow_facts.specs.Parts.{Part, a_load, an_element, a_creation, a_call, a_static_call, a_super_call, a_test, parts_of}
-use Rattle.flow_facts.specs.Numbered.{Outline, own_point, point_of_form, form_points, static_points, variable_points, method_points, outline_if, point_with, listed, row_number, points_of, point_number}
-use Rattle.flow_facts.specs.Facts.{IsFactsOf}
+use Rattle.flow_rules.specs.declared.items.ObjectType.{ObjectType}
+use Rattle.flow_rules.specs.declared.items.Operand.{Operand}
+use Rattle.flow_rules.specs.declared.items.RowItem.{RowItem}
+use Rattle.flow_rules.specs.declared.items.RowItem.TheVariants as row
+use Rattle.flow_rules.specs.declared.items.PointItem.{PointItem}
+use Rattle.flow_rules.specs.declared.items.PointItem.TheVariants as point
+use Rattle.flow_rules.specs.declared.items.PointAt.{PointAt}
+use Rattle.flow_rules.specs.declared.items.Point.{Point}
+use Rattle.flow_rules.specs.Ordered.{each, when, by_place}
+use Rattle.flow_rules.specs.Operands.{variable_row, result_in}
+use Rattle.flow_rules.specs.Parts.{Part, a_load, an_element, a_creation, a_call, a_static_call, a_super_call, a_test, parts_of}
+use Rattle.flow_rules.specs.Numbered.{Outline, own_point, point_of_form, form_points, static_points, variable_points, method_points, outline_if, point_with, listed, row_number, points_of, point_number}
+use Rattle.flow_rules.specs.Facts.{IsFactsOf}
 use Rattle.facts_order.proofs.Listed.{first, at_below, at_map, index_at, each_has, each_from, each_from_zero, flat_has, flat_from, place_has, place_from, when_has, when_from, one_from}
 use Rattle.facts_order.proofs.Items.{point_at, point_raw, point_there}
 

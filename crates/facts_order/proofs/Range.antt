@@ -22,23 +22,23 @@ use Rattle.fact_model.specs.declared.facts.StoreInfo.{StoreInfo}
 use Rattle.fact_model.specs.declared.facts.CastInfo.{CastInfo}
 use Rattle.fact_model.specs.declared.facts.ClassInfo.{ClassInfo}
 use Rattle.fact_model.specs.declared.facts.CellInfo.{CellInfo}
-use Rattle.flow_facts.specs.declared.items.ObjectType.{ObjectType}
-use Rattle.flow_facts.specs.declared.items.Operand.{Operand}
-use Rattle.flow_facts.specs.declared.items.RowItem.{RowItem}
-use Rattle.flow_facts.specs.declared.items.RowItem.TheVariants as row
-use Rattle.flow_facts.specs.declared.items.PointItem.{PointItem}
-use Rattle.flow_facts.specs.declared.items.PointItem.TheVariants as point
-use Rattle.flow_facts.specs.declared.items.ColumnItem.{ColumnItem}
-use Rattle.flow_facts.specs.declared.items.ColumnItem.TheVariants as column
-use Rattle.flow_facts.specs.declared.items.Row.{Row}
-use Rattle.flow_facts.specs.declared.items.Column.{Column}
-use Rattle.flow_facts.specs.declared.items.Site.{Site}
-use Rattle.flow_facts.specs.Ordered.{each, when}
-use Rattle.flow_facts.specs.Operands.{object_of, object_if}
-use Rattle.flow_facts.specs.Parts.{Part, a_load, an_element, a_creation, a_static_call, a_super_call, a_test, a_set, a_store, an_element_store, a_return, parts_of}
-use Rattle.flow_facts.specs.Lists.{point_at, row_at, created, moved, news_of, flows_of, loads_of, stores_of, casts_of}
-use Rattle.flow_facts.specs.Numbered.{rows_of, columns_of, sites_of, points_of, row_number, column_number, site_number, point_number, field_columns, method_columns, mark, array_mark, form_columns}
-use Rattle.flow_facts.specs.Facts.{numbers, row_info, column_info, site_info, site_of_row, this_of_row, owner_of, IsFactsOf}
+use Rattle.flow_rules.specs.declared.items.ObjectType.{ObjectType}
+use Rattle.flow_rules.specs.declared.items.Operand.{Operand}
+use Rattle.flow_rules.specs.declared.items.RowItem.{RowItem}
+use Rattle.flow_rules.specs.declared.items.RowItem.TheVariants as row
+use Rattle.flow_rules.specs.declared.items.PointItem.{PointItem}
+use Rattle.flow_rules.specs.declared.items.PointItem.TheVariants as point
+use Rattle.flow_rules.specs.declared.items.ColumnItem.{ColumnItem}
+use Rattle.flow_rules.specs.declared.items.ColumnItem.TheVariants as column
+use Rattle.flow_rules.specs.declared.items.Row.{Row}
+use Rattle.flow_rules.specs.declared.items.Column.{Column}
+use Rattle.flow_rules.specs.declared.items.Site.{Site}
+use Rattle.flow_rules.specs.Ordered.{each, when}
+use Rattle.flow_rules.specs.Operands.{object_of, object_if}
+use Rattle.flow_rules.specs.Parts.{Part, a_load, an_element, a_creation, a_static_call, a_super_call, a_test, a_set, a_store, an_element_store, a_return, parts_of}
+use Rattle.flow_rules.specs.Lists.{point_at, row_at, created, moved, news_of, flows_of, loads_of, stores_of, casts_of}
+use Rattle.flow_rules.specs.Numbered.{rows_of, columns_of, sites_of, points_of, row_number, column_number, site_number, point_number, field_columns, method_columns, mark, array_mark, form_columns}
+use Rattle.flow_rules.specs.Facts.{numbers, row_info, column_info, site_info, site_of_row, this_of_row, owner_of, IsFactsOf}
 use Rattle.facts_order.proofs.Listed.{at_contains, contains_at, at_below, below_at, at_map, map_at, map_from, index_at, one_from, flat_from, when_from, each_from_zero, all_of}
 use Rattle.facts_order.proofs.Items.{site_at, column_raw}
 use Rattle.facts_order.proofs.Pairs.{IsPlaced}

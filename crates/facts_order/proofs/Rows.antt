@@ -14,16 +14,16 @@ use Rattle.java_meaning.specs.Watched.{bare_sts}
 use Rattle.fact_model.specs.Items.{row_at as info_at}
 use Rattle.fact_model.specs.declared.facts.Facts.{Facts}
 use Rattle.fact_model.specs.declared.facts.RowInfo.{RowInfo}
-use Rattle.flow_facts.specs.declared.items.ObjectType.{ObjectType}
-use Rattle.flow_facts.specs.declared.items.Operand.{Operand}
-use Rattle.flow_facts.specs.declared.items.RowItem.{RowItem}
-use Rattle.flow_facts.specs.declared.items.RowItem.TheVariants as row
-use Rattle.flow_facts.specs.declared.items.Row.{Row}
-use Rattle.flow_facts.specs.Ordered.{each}
-use Rattle.flow_facts.specs.Operands.{object_of, object_if, class_object, variable_row, result_in, type_in}
-use Rattle.flow_facts.specs.Parts.{Part, a_creation, a_test, parts_body, parts_of}
-use Rattle.flow_facts.specs.Numbered.{row_if, own_row, form_rows, field_rows, this_rows, result_rows, variable_rows, method_rows, is_first, rows_of, row_number}
-use Rattle.flow_facts.specs.Facts.{row_info, numbers, IsFactsOf}
+use Rattle.flow_rules.specs.declared.items.ObjectType.{ObjectType}
+use Rattle.flow_rules.specs.declared.items.Operand.{Operand}
+use Rattle.flow_rules.specs.declared.items.RowItem.{RowItem}
+use Rattle.flow_rules.specs.declared.items.RowItem.TheVariants as row
+use Rattle.flow_rules.specs.declared.items.Row.{Row}
+use Rattle.flow_rules.specs.Ordered.{each}
+use Rattle.flow_rules.specs.Operands.{object_of, object_if, class_object, variable_row, result_in, type_in}
+use Rattle.flow_rules.specs.Parts.{Part, a_creation, a_test, parts_body, parts_of}
+use Rattle.flow_rules.specs.Numbered.{row_if, own_row, form_rows, field_rows, this_rows, result_rows, variable_rows, method_rows, is_first, rows_of, row_number}
+use Rattle.flow_rules.specs.Facts.{row_info, numbers, IsFactsOf}
 use Rattle.facts_order.proofs.Listed.{first, at_below, below_at, at_map, map_at, index_at, index_past, each_has, each_from, each_from_zero, flat_from, when_has, when_from, one_from}
 use Rattle.facts_order.proofs.Items.{row_at, row_raw, row_there}
 use Rattle.facts_order.proofs.Pairs.{IsPlaced}

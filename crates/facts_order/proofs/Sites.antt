@@ -13,17 +13,17 @@ use Rattle.java_core.specs.Formed.{IsFormed}
 use Rattle.fact_model.specs.Items.{row_at as info_at, row_class, site_class, site_row, site_at as site_info_at}
 use Rattle.fact_model.specs.InOrder.{AreSitesInOrder}
 use Rattle.fact_model.specs.declared.facts.Facts.{Facts}
-use Rattle.flow_facts.specs.declared.items.ObjectType.{ObjectType}
-use Rattle.flow_facts.specs.declared.items.Operand.{Operand}
-use Rattle.flow_facts.specs.declared.items.RowItem.{RowItem}
-use Rattle.flow_facts.specs.declared.items.RowItem.TheVariants as row
-use Rattle.flow_facts.specs.declared.items.Row.{Row}
-use Rattle.flow_facts.specs.declared.items.Site.{Site}
-use Rattle.flow_facts.specs.Labels.{label}
-use Rattle.flow_facts.specs.Operands.{result_in, variable_in, type_in}
-use Rattle.flow_facts.specs.Parts.{Part, a_load, an_element, a_creation, a_call, a_static_call, a_super_call, a_test, a_pair, a_set, a_store, an_element_store, a_return, parts_of}
-use Rattle.flow_facts.specs.Numbered.{Body, rows_of, row_number, number_if, site_if, form_sites, bodies_of, body_at, sites_of, site_number}
-use Rattle.flow_facts.specs.Facts.{site_info, site_of_row, numbers, IsFactsOf}
+use Rattle.flow_rules.specs.declared.items.ObjectType.{ObjectType}
+use Rattle.flow_rules.specs.declared.items.Operand.{Operand}
+use Rattle.flow_rules.specs.declared.items.RowItem.{RowItem}
+use Rattle.flow_rules.specs.declared.items.RowItem.TheVariants as row
+use Rattle.flow_rules.specs.declared.items.Row.{Row}
+use Rattle.flow_rules.specs.declared.items.Site.{Site}
+use Rattle.flow_rules.specs.Labels.{label}
+use Rattle.flow_rules.specs.Operands.{result_in, variable_in, type_in}
+use Rattle.flow_rules.specs.Parts.{Part, a_load, an_element, a_creation, a_call, a_static_call, a_super_call, a_test, a_pair, a_set, a_store, an_element_store, a_return, parts_of}
+use Rattle.flow_rules.specs.Numbered.{Body, rows_of, row_number, number_if, site_if, form_sites, bodies_of, body_at, sites_of, site_number}
+use Rattle.flow_rules.specs.Facts.{site_info, site_of_row, numbers, IsFactsOf}
 use Rattle.facts_order.proofs.Listed.{below_at, at_map, map_at, index_at, each_has, each_from_zero, flat_has, flat_from, one_from, first}
 use Rattle.facts_order.proofs.Items.{site_at, site_back, site_raw, site_there, row_back}
 use Rattle.facts_order.proofs.Pairs.{IsPlaced}
@@ -227,7 +227,7 @@ module _ (P Q : Plain) (placed : IsPlaced P Q) (formed : IsFormed P) (typed : Is
         (subst (λ z. Contains (site_if w z o.ty (number_if (row_number P Q) o.row)) x) (sym a) (subst (λ z. Contains (site_if w (Some n) z (number_if (row_number P Q) o.row)) x) (sym b) (subst (λ z. Contains (site_if w (Some n) (Some t) z) x) (sym (ap (number_if (row_number P Q)) d ∙ h)) (first x []))))))
 
     -- the creation of a row with a site
-    created_row : (n r : ℕ) (s : SiteId) → row_number P Q (row.New n) ≡ Some r → site_number P Q n ≡ Some s.0 → site_row F s.0 ≡ r
+    pub created_row : (n r : ℕ) (s : SiteId) → row_number P Q (row.New n) ≡ Some r → site_number P Q n ≡ Some s.0 → site_row F s.0 ≡ r
     created_row n r s a b =
         let z = site_at P Q n s.0 b in
         let p = site_part s.0 z.0 z.1 in

@@ -14,20 +14,20 @@ use Rattle.java_core.specs.Formed.{IsFormed}
 use Rattle.java_core.proofs.Offered.{contains_cases}
 use Rattle.java_meaning.specs.Watched.{bare}
 use Rattle.fact_model.specs.declared.facts.Facts.{Facts}
-use Rattle.flow_facts.specs.declared.items.ObjectType.{ObjectType}
-use Rattle.flow_facts.specs.declared.items.Operand.{Operand}
-use Rattle.flow_facts.specs.declared.items.RowItem.{RowItem}
-use Rattle.flow_facts.specs.declared.items.RowItem.TheVariants as row
-use Rattle.flow_facts.specs.declared.items.PointItem.{PointItem}
-use Rattle.flow_facts.specs.declared.items.PointItem.TheVariants as point
-use Rattle.flow_facts.specs.declared.items.Row.{Row}
-use Rattle.flow_facts.specs.Labels.{label}
-use Rattle.flow_facts.specs.Operands.{object_if, class_object, object_field, call_slot, super_slot, variable_in, operand_of, type_in}
-use Rattle.flow_facts.specs.Types.{field_object, variable_object}
-use Rattle.flow_facts.specs.Parts.{Part, a_load, an_element, a_creation, parts, parts_of}
-use Rattle.flow_facts.specs.Lists.{is_this}
-use Rattle.flow_facts.specs.Numbered.{rows_of}
-use Rattle.flow_facts.specs.Facts.{IsFactsOf}
+use Rattle.flow_rules.specs.declared.items.ObjectType.{ObjectType}
+use Rattle.flow_rules.specs.declared.items.Operand.{Operand}
+use Rattle.flow_rules.specs.declared.items.RowItem.{RowItem}
+use Rattle.flow_rules.specs.declared.items.RowItem.TheVariants as row
+use Rattle.flow_rules.specs.declared.items.PointItem.{PointItem}
+use Rattle.flow_rules.specs.declared.items.PointItem.TheVariants as point
+use Rattle.flow_rules.specs.declared.items.Row.{Row}
+use Rattle.flow_rules.specs.Labels.{label}
+use Rattle.flow_rules.specs.Operands.{object_if, class_object, object_field, call_slot, super_slot, variable_in, operand_of, type_in}
+use Rattle.flow_rules.specs.Types.{field_object, variable_object}
+use Rattle.flow_rules.specs.Parts.{Part, a_load, an_element, a_creation, parts, parts_of}
+use Rattle.flow_rules.specs.Lists.{is_this}
+use Rattle.flow_rules.specs.Numbered.{rows_of}
+use Rattle.flow_rules.specs.Facts.{IsFactsOf}
 use Rattle.facts_order.proofs.Listed.{first, more}
 use Rattle.facts_order.proofs.Pairs.{IsPlaced}
 use Rattle.facts_order.proofs.Labels.{label_in, part_label, label_apart}

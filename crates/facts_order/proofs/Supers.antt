@@ -19,12 +19,12 @@ use Rattle.fact_model.specs.Classes.{IsBelow, finds, finds_within}
 use Rattle.fact_model.specs.InOrder.{IsDef, IsNearestAbove}
 use Rattle.fact_model.specs.declared.facts.Facts.{Facts}
 use Rattle.fact_model.specs.declared.facts.SuperInfo.{SuperInfo}
-use Rattle.flow_facts.specs.declared.items.RowItem.TheVariants as row
-use Rattle.flow_facts.specs.declared.items.ColumnItem.TheVariants as column
-use Rattle.flow_facts.specs.Parts.{Part, a_super_call, parts_of}
-use Rattle.flow_facts.specs.Numbered.{row_number, column_number}
-use Rattle.flow_facts.specs.Lists.{supers_of}
-use Rattle.flow_facts.specs.Facts.{numbers, this_of_row, owner_of, IsFactsOf}
+use Rattle.flow_rules.specs.declared.items.RowItem.TheVariants as row
+use Rattle.flow_rules.specs.declared.items.ColumnItem.TheVariants as column
+use Rattle.flow_rules.specs.Parts.{Part, a_super_call, parts_of}
+use Rattle.flow_rules.specs.Numbered.{row_number, column_number}
+use Rattle.flow_rules.specs.Lists.{supers_of}
+use Rattle.flow_rules.specs.Facts.{numbers, this_of_row, owner_of, IsFactsOf}
 use Rattle.run_cover.specs.Untagged.{untagged}
 use Rattle.run_cover.proofs.Found.{same_length}
 use Rattle.run_cover.proofs.Bodies.{finds_some}

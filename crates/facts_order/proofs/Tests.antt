@@ -17,22 +17,22 @@ use Rattle.fact_model.specs.declared.facts.Facts.{Facts}
 use Rattle.fact_model.specs.declared.facts.TestInfo.{TestInfo}
 use Rattle.fact_model.specs.declared.facts.CastInfo.{CastInfo}
 use Rattle.fact_model.specs.declared.facts.CellInfo.{CellInfo}
-use Rattle.flow_facts.specs.declared.items.ObjectType.{ObjectType}
-use Rattle.flow_facts.specs.declared.items.Operand.{Operand}
-use Rattle.flow_facts.specs.declared.items.RowItem.{RowItem}
-use Rattle.flow_facts.specs.declared.items.PointItem.{PointItem}
-use Rattle.flow_facts.specs.declared.items.PointItem.TheVariants as point
-use Rattle.flow_facts.specs.declared.items.ColumnItem.TheVariants as column
-use Rattle.flow_facts.specs.declared.items.Column.{Column}
-use Rattle.flow_facts.specs.declared.items.PointAt.{PointAt}
-use Rattle.flow_facts.specs.declared.items.Site.{Site}
-use Rattle.flow_facts.specs.Ordered.{each}
-use Rattle.flow_facts.specs.Operands.{type_in}
-use Rattle.flow_facts.specs.Parts.{Part, a_load, an_element, a_creation, a_call, a_static_call, a_super_call, a_test, parts_body, parts_of}
-use Rattle.flow_facts.specs.Numbered.{Body, body_at, bodies_of, own_point, array_mark, form_columns, row_number, column_number, point_number, columns_of, sites_of}
-use Rattle.flow_facts.specs.Lists.{both, these, point_in, row_in, point_at, row_at, tests_of, casts_of}
+use Rattle.flow_rules.specs.declared.items.ObjectType.{ObjectType}
+use Rattle.flow_rules.specs.declared.items.Operand.{Operand}
+use Rattle.flow_rules.specs.declared.items.RowItem.{RowItem}
+use Rattle.flow_rules.specs.declared.items.PointItem.{PointItem}
+use Rattle.flow_rules.specs.declared.items.PointItem.TheVariants as point
+use Rattle.flow_rules.specs.declared.items.ColumnItem.TheVariants as column
+use Rattle.flow_rules.specs.declared.items.Column.{Column}
+use Rattle.flow_rules.specs.declared.items.PointAt.{PointAt}
+use Rattle.flow_rules.specs.declared.items.Site.{Site}
+use Rattle.flow_rules.specs.Ordered.{each}
+use Rattle.flow_rules.specs.Operands.{type_in}
+use Rattle.flow_rules.specs.Parts.{Part, a_load, an_element, a_creation, a_call, a_static_call, a_super_call, a_test, parts_body, parts_of}
+use Rattle.flow_rules.specs.Numbered.{Body, body_at, bodies_of, own_point, array_mark, form_columns, row_number, column_number, point_number, columns_of, sites_of}
+use Rattle.flow_rules.specs.Lists.{both, these, point_in, row_in, point_at, row_at, tests_of, casts_of}
 use Rattle.java_core.specs.Classes.{below}
-use Rattle.flow_facts.specs.Facts.{numbers, gathered, cells_of, FieldCell, fields_of, field_cell, array_cell, site_cells, IsFactsOf}
+use Rattle.flow_rules.specs.Facts.{numbers, gathered, cells_of, FieldCell, fields_of, field_cell, array_cell, site_cells, IsFactsOf}
 use Rattle.facts_order.proofs.Listed.{first, at_below, index_at, below_at, contains_at, at_contains, each_has, each_from, each_from_zero, flat_has, flat_from, place_from, one_from, when_has, when_from, all_of}
 use Rattle.facts_order.proofs.Pairs.{IsPlaced}
 use Rattle.facts_order.proofs.Columns.{numbered_column, part_column}
@@ -209,7 +209,7 @@ module _ (P Q : Plain) (placed : IsPlaced P Q) (formed : IsFormed P) (typed : Is
       subst (λ y. HasMark F y.0) t.class (marked t.number t.method (a_test t.place t.operand t.own) col t.type.class t.stands t.part (rw t.typed_as (first col [])) refl))
 
   -- the row of the point of a part
-  part_follows : (m : ℕ) (k : PlainMethod) (p : Part) (o : Operand) (l : ℕ) (a : PointAt) → slice_get Q.methods m ≡ Some k → Contains (parts_of P m k) p → given_by p ≡ Some o → o.point ≡ Some (point.Expr m l) → Follows P Q a → a.item ≡ point.Expr m l → o.row ≡ Some a.row
+  pub part_follows : (m : ℕ) (k : PlainMethod) (p : Part) (o : Operand) (l : ℕ) (a : PointAt) → slice_get Q.methods m ≡ Some k → Contains (parts_of P m k) p → given_by p ≡ Some o → o.point ≡ Some (point.Expr m l) → Follows P Q a → a.item ≡ point.Expr m l → o.row ≡ Some a.row
   part_follows m k p o l a e c g h (a_form n j q d b v) i =
       let y = subst (λ z. HasLabel n z) v.given (part_labelled P Q placed formed typed q (record { number = n; method = j; stands = d; part = b }) n j d b) in
       let s : n ≡ m = same_Some n m (ap expr_body (same_Some _ _ (sym y.1 ∙ v.point_is ∙ ap Some i))) in

@@ -14,16 +14,16 @@ use Rattle.fact_model.specs.Items.{row_class, row_this, is_object_row}
 use Rattle.fact_model.specs.Classes.{IsBelow}
 use Rattle.fact_model.specs.declared.facts.Facts.{Facts}
 use Rattle.fact_model.specs.declared.facts.TieInfo.{TieInfo}
-use Rattle.flow_facts.specs.declared.items.ObjectType.{ObjectType}
-use Rattle.flow_facts.specs.declared.items.Operand.{Operand}
-use Rattle.flow_facts.specs.declared.items.RowItem.{RowItem}
-use Rattle.flow_facts.specs.declared.items.RowItem.TheVariants as row
-use Rattle.flow_facts.specs.Operands.{object_if, variable_in, variable_row, result_in}
-use Rattle.flow_facts.specs.Types.{field_object, variable_object, element_object}
-use Rattle.flow_facts.specs.Parts.{Part, a_call, a_static_call, a_super_call, a_test, a_pair, a_set, a_store, an_element_store, a_return}
-use Rattle.flow_facts.specs.Lists.{tied, row_at, row_in, is_this, is_comparison, same_type, left_is_lower, narrower, is_left_lower, param_row, pair_ties, test_ties, slot_ties, method_ties, ties_of}
-use Rattle.flow_facts.specs.Numbered.{row_number}
-use Rattle.flow_facts.specs.Facts.{numbers, IsFactsOf}
+use Rattle.flow_rules.specs.declared.items.ObjectType.{ObjectType}
+use Rattle.flow_rules.specs.declared.items.Operand.{Operand}
+use Rattle.flow_rules.specs.declared.items.RowItem.{RowItem}
+use Rattle.flow_rules.specs.declared.items.RowItem.TheVariants as row
+use Rattle.flow_rules.specs.Operands.{object_if, variable_in, variable_row, result_in}
+use Rattle.flow_rules.specs.Types.{field_object, variable_object, element_object}
+use Rattle.flow_rules.specs.Parts.{Part, a_call, a_static_call, a_super_call, a_test, a_pair, a_set, a_store, an_element_store, a_return}
+use Rattle.flow_rules.specs.Lists.{tied, row_at, row_in, is_this, is_comparison, same_type, left_is_lower, narrower, is_left_lower, param_row, pair_ties, test_ties, slot_ties, method_ties, ties_of}
+use Rattle.flow_rules.specs.Numbered.{row_number}
+use Rattle.flow_rules.specs.Facts.{numbers, IsFactsOf}
 use Rattle.facts_order.proofs.Listed.{all_of, when_from, each_from_zero}
 use Rattle.facts_order.proofs.Pairs.{IsPlaced}
 use Rattle.facts_order.proofs.Tests.{gathered_from, row_item, both_from}

@@ -1,8 +1,8 @@
 -- Equations of lists, carried along equations of their parts.
 use Rattle.std.proofs.Common.{◌≡◌, ℕ, Bool, true, false, List, [], ◌∷◌, refl, sym, ap, ◌∙◌, subst, map}
 use Rattle.std.specs.Prelude.{cond, nat_lt}
-use Rattle.flow_facts.specs.Ordered.{put_in, by_place, once}
-use Rattle.flow_facts.specs.Facts.{IsSameSet}
+use Rattle.flow_rules.specs.Ordered.{put_in, by_place, once}
+use Rattle.flow_rules.specs.Facts.{IsSameSet}
 
 pub once_as : {A K : Type 0} {e f : K → K → Bool} (key : A → K) {xs ys : List A} → e ≡ f → xs ≡ ys → once e key xs ≡ once f key ys
 once_as {e = e} key {ys = ys} h k = ap (once e key) k ∙ ap (λ g. once g key ys) h

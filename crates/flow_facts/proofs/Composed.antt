@@ -5,11 +5,11 @@ use Rattle.std.specs.Prelude.{Option, Some}
 use Rattle.kaba_base.specs.declared.Place.{Place}
 use Rattle.java_core.specs.Trees.{Tag, Ex, Exs, call, Sts, no_st, loop, to_own, to_element}
 use Rattle.java_core.specs.Programs.{Plain, PlainMethod}
-use Rattle.flow_facts.specs.declared.items.Operand.{Operand}
-use Rattle.flow_facts.specs.Labels.{size, size_if, size_sts, label, label_all, label_if, label_sts, label_st}
-use Rattle.flow_facts.specs.Operands.{operand_of, operands_of, this_operand, call_slot, call_declaration}
-use Rattle.flow_facts.specs.Parts.{Part, a_call, a_store, an_element_store, parts, parts_all, parts_if, parts_sts, parts_st, parts_assign}
-use Rattle.flow_facts.specs.Types.{object_type}
+use Rattle.flow_rules.specs.declared.items.Operand.{Operand}
+use Rattle.flow_rules.specs.Labels.{size, size_if, size_sts, label, label_all, label_if, label_sts, label_st}
+use Rattle.flow_rules.specs.Operands.{operand_of, operands_of, this_operand, call_slot, call_declaration}
+use Rattle.flow_rules.specs.Parts.{Part, a_call, a_store, an_element_store, parts, parts_all, parts_if, parts_sts, parts_st, parts_assign}
+use Rattle.flow_rules.specs.Types.{object_type}
 use Rattle.flow_facts.specs.Views.{call_operand}
 
 -- two steps are one

@@ -4,28 +4,28 @@ use Rattle.std.specs.List.{flat_map}
 use Rattle.std.specs.Prelude.{Option, Some, None, cond, nat_eq, map}
 use Rattle.std.proofs.lemmas.Bool.{lt-ltb, le-ltb}
 use Rattle.java_core.specs.Programs.{Plain}
-use Rattle.flow_facts.specs.declared.top.Counted.{Counted}
-use Rattle.flow_facts.specs.declared.top.Counted.TheVariants as counted
-use Rattle.flow_facts.specs.declared.top.FactsFault.{FactsFault}
-use Rattle.flow_facts.specs.declared.top.FactsFault.TheVariants as fault
+use Rattle.flow_rules.specs.declared.faults.Counted.{Counted}
+use Rattle.flow_rules.specs.declared.faults.Counted.TheVariants as counted
+use Rattle.flow_rules.specs.declared.faults.FactsFault.{FactsFault}
+use Rattle.flow_rules.specs.declared.faults.FactsFault.TheVariants as fault
 use Rattle.flow_facts.specs.declared.lists.PlacedCall.{PlacedCall}
 use Rattle.fact_model.specs.declared.facts.CallInfo.{CallInfo}
 use Rattle.fact_model.specs.declared.facts.CellInfo.{CellInfo}
-use Rattle.flow_facts.specs.declared.items.RowItem.{RowItem}
-use Rattle.flow_facts.specs.declared.items.ColumnItem.{ColumnItem}
-use Rattle.flow_facts.specs.declared.items.PointItem.{PointItem}
-use Rattle.flow_facts.specs.declared.items.Row.{Row}
-use Rattle.flow_facts.specs.declared.items.Column.{Column}
-use Rattle.flow_facts.specs.declared.items.Site.{Site}
-use Rattle.flow_facts.specs.declared.items.Point.{Point}
-use Rattle.flow_facts.specs.declared.items.PointAt.{PointAt}
-use Rattle.flow_facts.specs.declared.items.Outline as declared
-use Rattle.flow_facts.specs.Ordered.{by_place, once, each}
-use Rattle.flow_facts.specs.Lists.{Numbers}
+use Rattle.flow_rules.specs.declared.items.RowItem.{RowItem}
+use Rattle.flow_rules.specs.declared.items.ColumnItem.{ColumnItem}
+use Rattle.flow_rules.specs.declared.items.PointItem.{PointItem}
+use Rattle.flow_rules.specs.declared.items.Row.{Row}
+use Rattle.flow_rules.specs.declared.items.Column.{Column}
+use Rattle.flow_rules.specs.declared.items.Site.{Site}
+use Rattle.flow_rules.specs.declared.items.Point.{Point}
+use Rattle.flow_rules.specs.declared.items.PointAt.{PointAt}
+use Rattle.flow_rules.specs.declared.items.Outline as declared
+use Rattle.flow_rules.specs.Ordered.{by_place, once, each}
+use Rattle.flow_rules.specs.Lists.{Numbers}
 use Rattle.flow_facts.specs.Views.{outline_seen}
 use Rattle.flow_facts.proofs.Along.{map-by_place}
-use Rattle.flow_facts.specs.Numbered.{Body, Outline, bodies_of, field_rows, method_rows, field_columns, method_columns, form_sites, listed, static_points, outline_if, number_among, same_row, same_column, same_point, rows_of, columns_of, sites_of, points_of, row_number, column_number, site_number, point_number}
-use Rattle.flow_facts.specs.Facts.{TooMany, over, too_many, numbers, FieldCell, fields_of, site_cells, cells_of, first_interface, IsOver, IsRefused, call_seen}
+use Rattle.flow_rules.specs.Numbered.{Body, Outline, bodies_of, field_rows, method_rows, field_columns, method_columns, form_sites, listed, static_points, outline_if, number_among, same_row, same_column, same_point, rows_of, columns_of, sites_of, points_of, row_number, column_number, site_number, point_number}
+use Rattle.flow_rules.specs.Facts.{TooMany, over, too_many, numbers, FieldCell, fields_of, site_cells, cells_of, first_interface, IsOver, IsRefused, call_seen}
 use Rattle.flow_facts.specs.Seen.{call_at, calls_seen}
 
 pub over_here : (limit n : ℕ) (what : Counted) (rest : Option TooMany) → limit < n → over limit n what rest ≡ Some (record { what = what; number = limit + 1 })

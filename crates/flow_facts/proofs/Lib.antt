@@ -1,13 +1,10 @@
-pub mod Same
 pub mod Middle
 pub mod Forms
-pub mod TypeLemmas
 pub mod Sorting
 pub mod Along
 pub mod Counts
 pub mod Composed
 pub mod Texts
-pub mod Examples
 pub mod Steps
 pub mod Refusals
 pub mod Whole

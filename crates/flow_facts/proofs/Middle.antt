@@ -2,8 +2,8 @@
 use Rattle.std.proofs.Common.{◌≡◌, ℕ, List, ◌∷◌, ◌++◌, length, set, sym, ap, ◌∙◌}
 use Rattle.std.proofs.Math.Seq.{set-append_seam}
 use Rattle.std.proofs.lemmas.List.{map-set}
-use Rattle.flow_facts.specs.declared.items.Part.{Part}
-use Rattle.flow_facts.specs.Parts as plain
+use Rattle.flow_rules.specs.declared.items.Part.{Part}
+use Rattle.flow_rules.specs.Parts as plain
 use Rattle.flow_facts.specs.Views.{part_seen, parts_seen}
 
 pub set_seen : (ps : List Part) (at : ℕ) (p : Part) (xs ys : List plain.Part) (q : plain.Part) → length xs ≡ at → parts_seen ps ≡ xs ++ q ∷ ys → parts_seen (set ps at p) ≡ xs ++ part_seen p ∷ ys

@@ -6,12 +6,12 @@ use Rattle.std.proofs.lemmas.List.{length-map}
 use Rattle.std.proofs.lemmas.Result.{err_from_is_err_and}
 use Rattle.java_core.specs.Programs.{Plain}
 use Rattle.fact_model.specs.declared.facts.CellInfo.{CellInfo}
-use Rattle.flow_facts.specs.declared.top.Counted.{Counted}
-use Rattle.flow_facts.specs.declared.top.Counted.TheVariants as counted_as
-use Rattle.flow_facts.specs.Numbered.{rows_of, columns_of, sites_of, points_of}
-use Rattle.flow_facts.specs.declared.top.FactsFault.{FactsFault}
-use Rattle.flow_facts.specs.declared.top.FactsFault.TheVariants as fault
-use Rattle.flow_facts.specs.Facts.{too_many, IsOver, cells_of}
+use Rattle.flow_rules.specs.declared.faults.Counted.{Counted}
+use Rattle.flow_rules.specs.declared.faults.Counted.TheVariants as counted_as
+use Rattle.flow_rules.specs.Numbered.{rows_of, columns_of, sites_of, points_of}
+use Rattle.flow_rules.specs.declared.faults.FactsFault.{FactsFault}
+use Rattle.flow_rules.specs.declared.faults.FactsFault.TheVariants as fault
+use Rattle.flow_rules.specs.Facts.{too_many, IsOver, cells_of}
 use Rattle.flow_facts.proofs.Counts.{over_as, over_points, none_over}
 
 module _ {A : Type 0} {n : ℕ} {xs ys : List A} where

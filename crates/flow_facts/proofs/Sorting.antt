@@ -10,7 +10,7 @@ use Rattle.std.proofs.Common.{ltb-true, ltb-false, eqb-true, eq-eqb}
 use denote.Param.Members.{Mut}
 use denote.Ref.{Bor}
 use Rattle.std.proofs.lemmas.List.Sorted.{IsNonDecreasingBy-from_sort}
-use Rattle.flow_facts.specs.Ordered.{put_in, by_place}
+use Rattle.flow_rules.specs.Ordered.{put_in, by_place}
 
 module _ {A : Type 0} (at : A → ℕ) where
   -- no element stands before n

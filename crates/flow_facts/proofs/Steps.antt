@@ -4,7 +4,7 @@ use Rattle.std.proofs.lemmas.List.{append-nil}
 use Rattle.std.specs.Prelude.{not}
 use Rattle.std.specs.List.{list_any}
 use Rattle.indexmap.specs.IndexSet.{insert_key}
-use Rattle.flow_facts.specs.Ordered.{once_after}
+use Rattle.flow_rules.specs.Ordered.{once_after}
 
 pub front : {A : Type 0} (xs : List A) (i : ℕ) (d : A) → i < length xs → drop i xs ≡ get_or xs i d ∷ drop (i + 1) xs
 front xs i d h = drop-cons xs i d h ∙ ap (λ k. get_or xs i d ∷ drop k xs) (sym (add-one i))

@@ -13,11 +13,11 @@ use Rattle.fact_model.specs.declared.facts.CallInfo.{CallInfo}
 use Rattle.kaba_base.specs.declared.RowId.{RowId}
 use Rattle.flow_facts.specs.declared.lists.PlacedCall.{PlacedCall}
 use Rattle.flow_facts.specs.declared.top.Numbered.{Numbered}
-use Rattle.flow_facts.specs.Ordered.{by_place, each}
-use Rattle.flow_facts.specs.Parts.{Part}
-use Rattle.flow_facts.specs.Numbered as numbered
-use Rattle.flow_facts.specs.Lists.{Numbers, calls_of, tests_of}
-use Rattle.flow_facts.specs.Facts.{numbers, gathered, row_info, column_info, site_info, column_body, call_seen, IsSameSet, body_seen as plain_body}
+use Rattle.flow_rules.specs.Ordered.{by_place, each}
+use Rattle.flow_rules.specs.Parts.{Part}
+use Rattle.flow_rules.specs.Numbered as numbered
+use Rattle.flow_rules.specs.Lists.{Numbers, calls_of, tests_of}
+use Rattle.flow_rules.specs.Facts.{numbers, gathered, row_info, column_info, site_info, column_body, call_seen, IsSameSet, body_seen as plain_body}
 use Rattle.flow_facts.specs.Views.{body_seen}
 use Rattle.flow_facts.specs.Seen.{numbers_seen, calls_seen}
 use Rattle.flow_facts.specs.Stages.{IsNumbered}

@@ -1,11 +1,3 @@
-pub mod Labels
-pub mod Operands
-pub mod Parts
-pub mod Types
-pub mod Ordered
-pub mod Numbered
-pub mod Lists
-pub mod Facts
 pub mod Views
 pub mod Seen
 pub mod Stages

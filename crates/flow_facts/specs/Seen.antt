@@ -3,9 +3,9 @@ use Rattle.std.specs.Prelude.{nat_eq, List, map}
 use Rattle.flow_facts.specs.declared.numbering.Numbering.{Numbering}
 use Rattle.flow_facts.specs.declared.lists.PlacedCall.{PlacedCall}
 use Rattle.flow_facts.specs.declared.cells.FieldCell.{FieldCell}
-use Rattle.flow_facts.specs.Numbered.{number_among, same_row, same_column, same_point}
-use Rattle.flow_facts.specs.Lists.{Numbers, Placed, PlainCall}
-use Rattle.flow_facts.specs.Facts as plain
+use Rattle.flow_rules.specs.Numbered.{number_among, same_row, same_column, same_point}
+use Rattle.flow_rules.specs.Lists.{Numbers, Placed, PlainCall}
+use Rattle.flow_rules.specs.Facts as plain
 
 -- the numbers that a numbering gives
 abbrev pub numbers_seen : Numbering → Numbers

@@ -2,8 +2,8 @@
 use Rattle.std.specs.Prelude.{◌≡◌, ◌≤◌, length, map, None}
 use Rattle.java_core.specs.Programs.{Plain}
 use Rattle.flow_facts.specs.declared.top.Numbered.{Numbered}
-use Rattle.flow_facts.specs.Numbered.{rows_of, columns_of, sites_of, points_of, bodies_of}
-use Rattle.flow_facts.specs.Facts.{numbers, cells_of, too_many}
+use Rattle.flow_rules.specs.Numbered.{rows_of, columns_of, sites_of, points_of, bodies_of}
+use Rattle.flow_rules.specs.Facts.{numbers, cells_of, too_many}
 use Rattle.flow_facts.specs.Views.{body_seen}
 use Rattle.flow_facts.specs.Seen.{numbers_seen}
 

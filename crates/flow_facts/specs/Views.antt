@@ -3,19 +3,19 @@ use Rattle.std.specs.Prelude.{ℕ, List, map, Option, Some, None, option_and_the
 use Rattle.std.specs.Option.{option_map}
 use Rattle.java_core.specs.Programs.{Plain, PlainMethod}
 use Rattle.java_core.specs.Classes.{super_method}
-use Rattle.flow_facts.specs.declared.items.ObjectType.{ObjectType}
-use Rattle.flow_facts.specs.declared.items.Operand.{Operand}
-use Rattle.flow_facts.specs.declared.items.RowItem.{RowItem}
-use Rattle.flow_facts.specs.declared.items.RowItem.TheVariants as row
-use Rattle.flow_facts.specs.declared.items.PointItem.TheVariants as point
-use Rattle.flow_facts.specs.Operands.{object_field, call_slot, super_slot, variable_row}
-use Rattle.flow_facts.specs.Types.{field_object, slot_object, method_object, variable_object}
-use Rattle.flow_facts.specs.declared.items.Part.{Part}
-use Rattle.flow_facts.specs.declared.items.Part.TheVariants as the
-use Rattle.flow_facts.specs.declared.items.Body.{Body}
-use Rattle.flow_facts.specs.declared.items.Outline.{Outline}
-use Rattle.flow_facts.specs.Parts as plain
-use Rattle.flow_facts.specs.Numbered as numbered
+use Rattle.flow_rules.specs.declared.items.ObjectType.{ObjectType}
+use Rattle.flow_rules.specs.declared.items.Operand.{Operand}
+use Rattle.flow_rules.specs.declared.items.RowItem.{RowItem}
+use Rattle.flow_rules.specs.declared.items.RowItem.TheVariants as row
+use Rattle.flow_rules.specs.declared.items.PointItem.TheVariants as point
+use Rattle.flow_rules.specs.Operands.{object_field, call_slot, super_slot, variable_row}
+use Rattle.flow_rules.specs.Types.{field_object, slot_object, method_object, variable_object}
+use Rattle.flow_rules.specs.declared.items.Part.{Part}
+use Rattle.flow_rules.specs.declared.items.Part.TheVariants as the
+use Rattle.flow_rules.specs.declared.items.Body.{Body}
+use Rattle.flow_rules.specs.declared.items.Outline.{Outline}
+use Rattle.flow_rules.specs.Parts as plain
+use Rattle.flow_rules.specs.Numbered as numbered
 
 abbrev pub part_seen : Part → plain.Part
 part_seen (the.Load p b f o) = plain.a_load p b f o

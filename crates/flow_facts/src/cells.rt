@@ -5,14 +5,14 @@ ghost use Rattle.std.specs.List.{flat_map};
 ghost use Rattle.java_core.specs.Trees.{at_place, no_place};
 ghost use Rattle.java_core.specs.Programs.{program_of};
 ghost use Rattle.java_core.specs.Formed.{IsFormed};
-ghost use Rattle.flow_facts.specs.Ordered.{each};
-ghost use Rattle.flow_facts.specs.Facts.{field_at, fields_of, field_cell, site_cells};
+ghost use Rattle.flow_rules.specs.Ordered.{each};
+ghost use Rattle.flow_rules.specs.Facts.{field_at, fields_of, field_cell, site_cells};
 ghost use Rattle.flow_facts.specs.Seen.{numbers_seen, field_cell_seen};
 
 use crate::infos::owner_of;
-use crate::items::{Column, ColumnItem, RowItem, Site};
 use crate::numbering::Numbering;
 use fact_model::CellInfo;
+use flow_rules::{Column, ColumnItem, RowItem, Site};
 use java_core::{Program, is_subtype};
 use kaba_base::{ClassId, ColId, RowId, SiteId};
 use std::alloc::{AllocError, Global};

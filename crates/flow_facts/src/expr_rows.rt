@@ -7,11 +7,11 @@ ghost use Rattle.java_core.specs.Trees.{Tag, no_place, expr_of};
 ghost use Rattle.java_core.specs.Programs.{program_of, method_seen};
 ghost use Rattle.java_core.specs.Formed.{IsFormed};
 ghost use Rattle.java_core.specs.Statics.{static_seen};
-ghost use Rattle.flow_facts.specs.Operands.{object_static, object_field, call_slot, super_slot, type_in, row_of};
+ghost use Rattle.flow_rules.specs.Operands.{object_static, object_field, call_slot, super_slot, type_in, row_of};
 
-use crate::items::{ObjectType, RowItem};
 use crate::types::{object_class, object_field, object_of};
 use crate::walk::{class_object, variable_row};
+use flow_rules::{ObjectType, RowItem};
 use java_core::{Method, Program, RExpr, Static, slot_of, static_of, super_method};
 use kaba_base::{ClassId, Name};
 
@@ -26,7 +26,7 @@ fn object_static(found: Static) -> Option<ObjectType>
 }
 
 /// The static type of an expression in a method, where a row can have it.
-#[tactic(auto, unfolding(crate::specs::Operands::type_in))]
+#[tactic(auto, unfolding(flow_rules::specs::Operands::type_in))]
 pub fn type_of(program: &Program, method: &Method, e: &RExpr) -> Option<ObjectType>
     requires { IsFormed (program_of no_place program.now) }
     ensures value { (tag : Place → Tag) (m : ℕ)
@@ -93,7 +93,7 @@ fn super_row(program: &Program, class: ClassId, name: &Name) -> Option<RowItem>
 /// and `this` their own, of a field access that of the field, of a call that of the return, of an element that of
 /// the array, and of a creation or a cast its own. A literal, `null`, an operator and an `instanceof` have none.
 /// It takes a step for each form on the way to the base of the expression.
-#[tactic(auto, unfolding(crate::specs::Operands::type_in))]
+#[tactic(auto, unfolding(flow_rules::specs::Operands::type_in))]
 pub fn row_of(program: &Program, m: u64, method: &Method, e: &RExpr) -> Option<RowItem>
     requires { IsFormed (program_of no_place program.now) }
     ensures value { (tag : Place → Tag)

@@ -5,14 +5,14 @@ ghost use Rattle.std.specs.Option.{option_map, option_map_or};
 ghost use Rattle.java_core.specs.Trees.{at_place, no_place};
 ghost use Rattle.java_core.specs.Programs.{Plain, program_of, method_seen};
 ghost use Rattle.java_core.specs.Formed.{IsFormed};
-ghost use Rattle.flow_facts.specs.Ordered.{each};
-ghost use Rattle.flow_facts.specs.Facts.{row_info, site_of_row, this_of_row, column_info, kind_of, owner_of, slot_in, name_in, site_info, field_at, fields_of, field_cell, site_cells, param_points, body_if, column_body, body_seen, class_facts, class_seen, is_holder, variable_names, all_variables};
+ghost use Rattle.flow_rules.specs.Ordered.{each};
+ghost use Rattle.flow_rules.specs.Facts.{row_info, site_of_row, this_of_row, column_info, kind_of, owner_of, slot_in, name_in, site_info, field_at, fields_of, field_cell, site_cells, param_points, body_if, column_body, body_seen, class_facts, class_seen, is_holder, variable_names, all_variables};
 ghost use Rattle.flow_facts.specs.Seen.{numbers_seen};
 
-use crate::items::{Column, ColumnItem, Point, PointItem, Row, RowItem, Site};
 use crate::labels::{column_label, row_label};
 use crate::numbering::Numbering;
 use fact_model::{BodyInfo, ColKind, ColumnInfo, RowInfo, SiteInfo};
+use flow_rules::{Column, ColumnItem, Point, PointItem, Row, RowItem, Site};
 use java_core::{Method, Program};
 use kaba_base::{ClassId, ColId, Name, RowId, SiteId};
 use std::alloc::{AllocError, Global};

@@ -5,9 +5,9 @@ ghost use Rattle.std.specs.Option.{option_map, option_map_or};
 ghost use Rattle.std.specs.Str.{chars};
 ghost use Rattle.java_core.specs.Trees.{at_place};
 ghost use Rattle.java_core.specs.Programs.{program_of, method_seen, local_seen};
-ghost use Rattle.flow_facts.specs.Facts.{class_text, member_text, field_text, method_text, variable_name, variable_text, brackets, at_line, row_text, row_label, column_text, first_of};
+ghost use Rattle.flow_rules.specs.Facts.{class_text, member_text, field_text, method_text, variable_name, variable_text, brackets, at_line, row_text, row_label, column_text, first_of};
 
-use crate::items::{ColumnItem, Row, RowItem};
+use flow_rules::{ColumnItem, Row, RowItem};
 use java_core::{Local, Method, Program};
 use kaba_base::{Name, Place};
 use std::alloc::{AllocError, Global};

@@ -5,7 +5,6 @@ mod bodies;
 mod cells;
 mod expr_rows;
 mod infos;
-mod items;
 mod labels;
 mod listing;
 mod lists;
@@ -19,8 +18,10 @@ mod types;
 mod walk;
 
 pub use expr_rows::row_of;
-pub use items::{Column, ColumnItem, ObjectType, PointItem, Row, RowItem, Site};
+pub use flow_rules::{
+    Column, ColumnItem, Counted, FactsFault, ObjectType, PointItem, Row, RowItem, Site,
+};
 pub use numbering::Numbering;
 pub use survey::result_row;
-pub use top::{Counted, FactsFault, facts, numbering_of};
+pub use top::{facts, numbering_of};
 pub use walk::variable_row;

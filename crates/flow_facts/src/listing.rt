@@ -1,11 +1,11 @@
 //! Rows, columns, sites and flow points in their order, each once.
 
 ghost use Rattle.std.specs.Prelude.{◌≡◌, IfOk, map, nat_eq};
-ghost use Rattle.flow_facts.specs.Ordered.{by_place, once};
-ghost use Rattle.flow_facts.specs.Numbered.{same_row, same_column, same_point};
+ghost use Rattle.flow_rules.specs.Ordered.{by_place, once};
+ghost use Rattle.flow_rules.specs.Numbered.{same_row, same_column, same_point};
 
-use crate::items::{Column, ColumnItem, Point, PointItem, Row, RowItem, Site};
 use crate::ordered::{Listed, by_place, once};
+use flow_rules::{Column, ColumnItem, Point, PointItem, Row, RowItem, Site};
 use std::alloc::{AllocError, Global};
 
 /// The rows by their place.

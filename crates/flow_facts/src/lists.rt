@@ -5,18 +5,18 @@ ghost use Rattle.std.specs.List.{flat_map};
 ghost use Rattle.java_core.specs.Trees.{no_place};
 ghost use Rattle.java_core.specs.Programs.{program_of};
 ghost use Rattle.java_core.specs.Formed.{IsFormed};
-ghost use Rattle.flow_facts.specs.Ordered.{each};
-ghost use Rattle.flow_facts.specs.Lists.{created, moved, tied, accessed, created_args, moved_args, news_of, flows_of, loads_of, stores_of, calls_of, casts_of, tests_of, accesses_of, supers_of, ties_of, point_at, row_at, row_in};
+ghost use Rattle.flow_rules.specs.Ordered.{each};
+ghost use Rattle.flow_rules.specs.Lists.{created, moved, tied, accessed, created_args, moved_args, news_of, flows_of, loads_of, stores_of, calls_of, casts_of, tests_of, accesses_of, supers_of, ties_of, point_at, row_at, row_in};
 ghost use Rattle.flow_facts.specs.Views.{part_seen, parts_seen, body_seen};
 ghost use Rattle.flow_facts.specs.Seen.{numbers_seen, calls_seen};
 
-use crate::items::{Body, ColumnItem, Operand, Part, PointItem, RowItem};
 use crate::numbering::Numbering;
 use crate::ties::add_ties;
 use fact_model::{
     AccessInfo, CallInfo, CastInfo, FlowInfo, LoadInfo, NewInfo, StoreInfo, SuperInfo, TestInfo,
     TieInfo,
 };
+use flow_rules::{Body, ColumnItem, Operand, Part, PointItem, RowItem};
 use java_core::Program;
 use kaba_base::{ColId, Place, RowId, SiteId};
 use std::alloc::{AllocError, Global};

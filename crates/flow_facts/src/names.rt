@@ -6,8 +6,8 @@ ghost use Rattle.std.specs.List.{flat_map, list_any};
 ghost use Rattle.std.specs.Str.{bytes_eq, encode_utf8_all};
 ghost use Rattle.java_core.specs.Trees.{at_place};
 ghost use Rattle.java_core.specs.Programs.{program_of, class_seen as plain_class, method_seen, local_seen};
-ghost use Rattle.flow_facts.specs.Ordered.{each, once, once_after};
-ghost use Rattle.flow_facts.specs.Facts.{class_seen, class_facts, is_holder, all_names, all_variables, variable_names};
+ghost use Rattle.flow_rules.specs.Ordered.{each, once, once_after};
+ghost use Rattle.flow_rules.specs.Facts.{class_seen, class_facts, is_holder, all_names, all_variables, variable_names};
 
 use fact_model::ClassInfo;
 use indexmap::IndexSet;

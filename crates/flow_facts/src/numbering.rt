@@ -2,11 +2,11 @@
 
 ghost use Rattle.std.specs.Prelude.{◌≡◌, ◌<◌, ◌++◌, true, IfOk, IfSome, OnOk, length, map, nat_eq};
 ghost use Rattle.std.specs.List.{flat_map};
-ghost use Rattle.flow_facts.specs.Numbered.{number_among, same_row, same_column, same_point, form_sites, listed};
-ghost use Rattle.flow_facts.specs.Parts as plain;
+ghost use Rattle.flow_rules.specs.Numbered.{number_among, same_row, same_column, same_point, form_sites, listed};
+ghost use Rattle.flow_rules.specs.Parts as plain;
 ghost use Rattle.flow_facts.specs.Views.{part_seen, parts_seen, body_seen, outline_seen};
 
-use crate::items::{
+use flow_rules::{
     Body, ColumnItem, Operand, Outline, Part, Point, PointAt, PointItem, RowItem, Site,
 };
 use indexmap::IndexSet;

@@ -1,11 +1,11 @@
 //! Lists in the order of their places, and each item once.
 
 ghost use Rattle.std.specs.Prelude.{◌≡◌, ℕ, ◌<◌, IfOk, IfSome, Option, List, length, map, position};
-ghost use Rattle.flow_facts.specs.Ordered.{by_place, once};
+ghost use Rattle.flow_rules.specs.Ordered.{by_place, once};
 
-use crate::items::{Column, ColumnItem, Outline, Point, PointAt, PointItem, Row, RowItem, Site};
 use crate::lists::PlacedCall;
 use fact_model::TestInfo;
+use flow_rules::{Column, ColumnItem, Outline, Point, PointAt, PointItem, Row, RowItem, Site};
 use indexmap::IndexSet;
 use kaba_base::Place;
 use std::alloc::{AllocError, Global};

@@ -5,19 +5,19 @@ ghost use Rattle.std.specs.List.{flat_map};
 ghost use Rattle.java_core.specs.Trees.{at_place, no_place};
 ghost use Rattle.java_core.specs.Programs.{Plain, program_of, method_seen, local_seen, field_seen};
 ghost use Rattle.java_core.specs.Formed.{IsFormed};
-ghost use Rattle.flow_facts.specs.Ordered.{by_place, each};
-ghost use Rattle.flow_facts.specs.Parts as plain;
-ghost use Rattle.flow_facts.specs.Numbered.{row_if, own_row, form_rows, mark, array_mark, form_columns, own_point, form_points, is_first, field_rows, this_rows, result_rows, variable_rows, method_rows, field_columns, method_columns, static_points, variable_points, method_points, body_at, outline_if, bodies_of};
-ghost use Rattle.flow_facts.specs.Operands.{result_in};
+ghost use Rattle.flow_rules.specs.Ordered.{by_place, each};
+ghost use Rattle.flow_rules.specs.Parts as plain;
+ghost use Rattle.flow_rules.specs.Numbered.{row_if, own_row, form_rows, mark, array_mark, form_columns, own_point, form_points, is_first, field_rows, this_rows, result_rows, variable_rows, method_rows, field_columns, method_columns, static_points, variable_points, method_points, body_at, outline_if, bodies_of};
+ghost use Rattle.flow_rules.specs.Operands.{result_in};
 ghost use Rattle.flow_facts.specs.Views.{part_seen, parts_seen, outline_seen, body_seen};
 
 use crate::bodies::parts_of;
-use crate::items::{
-    Body, Column, ColumnItem, ObjectType, Operand, Outline, Part, PointAt, PointItem, Row, RowItem,
-};
 use crate::ordered::by_place;
 use crate::types::{object_if, object_of};
 use crate::walk::{class_object, variable_row};
+use flow_rules::{
+    Body, Column, ColumnItem, ObjectType, Operand, Outline, Part, PointAt, PointItem, Row, RowItem,
+};
 use java_core::{Field, Local, Method, Program};
 use kaba_base::Place;
 use std::alloc::{AllocError, Global};
@@ -417,7 +417,7 @@ fn survey_method(
 }
 
 /// What is numbered in a program, in its order.
-#[tactic(auto, unfolding(crate::specs::Numbered::bodies_of))]
+#[tactic(auto, unfolding(flow_rules::specs::Numbered::bodies_of))]
 pub fn survey(alloc: Global, program: &Program) -> Result<Surveyed, AllocError>
     requires { IsFormed (program_of no_place program.now) }
     ensures rows { IfOk result (λ s. s.rows.items ≡ each field_rows 0 (program_of at_place program.now).fields ++ each (method_rows (program_of no_place program.now) (program_of at_place program.now)) 0 (program_of at_place program.now).methods) }

@@ -5,15 +5,15 @@ ghost use Rattle.std.specs.Option.{is_some};
 ghost use Rattle.java_core.specs.Trees.{no_place};
 ghost use Rattle.java_core.specs.Programs.{Plain, program_of};
 ghost use Rattle.java_core.specs.Formed.{IsFormed};
-ghost use Rattle.flow_facts.specs.Lists.{left_is_lower, pair_ties, test_ties, is_left_lower, narrower, same_type, slot_ties, method_ties, param_row, ties_of, is_this, is_comparison};
+ghost use Rattle.flow_rules.specs.Lists.{left_is_lower, pair_ties, test_ties, is_left_lower, narrower, same_type, slot_ties, method_ties, param_row, ties_of, is_this, is_comparison};
 ghost use Rattle.flow_facts.specs.Views.{part_seen};
 ghost use Rattle.flow_facts.specs.Seen.{numbers_seen};
 
-use crate::items::{ObjectType, Operand, Part, PointItem, RowItem};
 use crate::lists::{add_tied, row_at, row_in};
 use crate::numbering::Numbering;
 use crate::survey::result_row;
 use fact_model::TieInfo;
+use flow_rules::{ObjectType, Operand, Part, PointItem, RowItem};
 use java_core::{BinOp, Program, is_subtype};
 use std::alloc::AllocError;
 

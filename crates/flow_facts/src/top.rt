@@ -6,18 +6,15 @@ ghost use Rattle.std.specs.Str.{bytes_eq, encode_utf8_all};
 ghost use Rattle.java_core.specs.Trees.{at_place, no_place};
 ghost use Rattle.java_core.specs.Programs.{program_of};
 ghost use Rattle.java_core.specs.Formed.{IsFormed};
-ghost use Rattle.flow_facts.specs.Numbered.{rows_of, columns_of, sites_of, points_of, bodies_of, field_rows, method_rows, field_columns, method_columns, static_points, outline_if};
-ghost use Rattle.flow_facts.specs.Facts.{AreNamesOf, IsFactsOf, IsRefused, IsWithin, first_interface, numbers, cells_of, row_info, column_info, site_info, body_seen as plain_body, column_body, class_seen, class_facts, all_names, all_variables, call_seen, too_many, IsOver};
-ghost use Rattle.flow_facts.specs.Ordered.{by_place, once, each};
+ghost use Rattle.flow_rules.specs.Numbered.{rows_of, columns_of, sites_of, points_of, bodies_of, field_rows, method_rows, field_columns, method_columns, static_points, outline_if};
+ghost use Rattle.flow_rules.specs.Facts.{AreNamesOf, IsFactsOf, IsRefused, IsWithin, first_interface, numbers, cells_of, row_info, column_info, site_info, body_seen as plain_body, column_body, class_seen, class_facts, all_names, all_variables, call_seen, too_many, IsOver};
+ghost use Rattle.flow_rules.specs.Ordered.{by_place, once, each};
 ghost use Rattle.flow_facts.specs.Stages.{IsNumbered};
 ghost use Rattle.flow_facts.specs.Seen.{numbers_seen, calls_seen};
 ghost use Rattle.flow_facts.specs.Views.{body_seen, outline_seen};
 
 use crate::cells::{cells_of, fields_of};
 use crate::infos::{body_infos, column_infos, point_rows, row_infos, site_infos};
-use crate::items::{
-    Body, Column, ColumnItem, Outline, Point, PointAt, PointItem, Row, RowItem, Site,
-};
 use crate::listing::{list_columns, list_points, list_rows, list_sites};
 use crate::lists::{PlacedCall, gather};
 use crate::names::{class_infos, variables, words};
@@ -25,45 +22,14 @@ use crate::numbering::{Numbering, all_points, all_sites};
 use crate::ordered::{Listed, by_place};
 use crate::survey::survey;
 use fact_model::{BodyInfo, CallInfo, CellInfo, ClassInfo, ColumnInfo, Facts, RowInfo, SiteInfo};
+use flow_rules::{
+    Body, Column, ColumnItem, Counted, FactsFault, Outline, Point, PointAt, PointItem, Row,
+    RowItem, Site,
+};
 use indexmap::IndexSet;
 use java_core::Program;
 use kaba_base::{Name, RowId};
 use std::alloc::{AllocError, Global};
-
-/// What is counted against a limit.
-#[derive(Clone, Copy)]
-pub enum Counted {
-    /// The rows: at most 16,384.
-    Rows,
-    /// The columns: at most 8,192.
-    Columns,
-    /// The sites: at most 8,192.
-    Sites,
-    /// The flow points and the cells together: at most 65,536.
-    Points,
-}
-
-/// Why the facts of a program are not given.
-#[derive(Drop)]
-pub enum FactsFault {
-    /// There is too much of something; the number is one past its limit.
-    TooMany(Counted, u32),
-    /// An interface is declared, the first of this name.
-    HasInterface(Name),
-    /// Memory is short.
-    Memory,
-}
-
-impl From<AllocError> for FactsFault {
-    ghost use Rattle.std.specs.Prelude.{◌≡◌};
-    ghost use Rattle.flow_facts.specs.declared.top.FactsFault.TheVariants.{Memory};
-
-    ghost from_gives = { λ _ e. e ≡ Memory };
-
-    fn from(_error: AllocError) -> FactsFault {
-        FactsFault::Memory
-    }
-}
 
 /// The first interface that is declared.
 fn first_interface(program: &Program) -> Option<&Name>

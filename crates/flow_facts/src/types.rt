@@ -5,10 +5,10 @@ ghost use Rattle.std.specs.Option.{option_map};
 ghost use Rattle.java_core.specs.Trees.{at_place, no_place};
 ghost use Rattle.java_core.specs.Programs.{program_of, method_seen};
 ghost use Rattle.java_core.specs.Formed.{IsFormed};
-ghost use Rattle.flow_facts.specs.Operands.{object_of, object_if, object_class, object_field, call_slot, call_declaration};
-ghost use Rattle.flow_facts.specs.Types.{field_object, slot_object, method_object, variable_object, element_object};
+ghost use Rattle.flow_rules.specs.Operands.{object_of, object_if, object_class, object_field, call_slot, call_declaration};
+ghost use Rattle.flow_rules.specs.Types.{field_object, slot_object, method_object, variable_object, element_object};
 
-use crate::items::ObjectType;
+use flow_rules::ObjectType;
 use java_core::{Method, Program, Ty, TyBase, declaration_of, member_field};
 use kaba_base::{ClassId, MemberId, Name};
 

@@ -5,18 +5,18 @@ ghost use Rattle.java_core.specs.Trees.{at_place, no_place, Ex, Exs, expr_of, ex
 ghost use Rattle.java_core.specs.Programs.{program_of, method_seen};
 ghost use Rattle.java_core.specs.Formed.{IsFormed};
 ghost use Rattle.java_core.specs.Classes.{super_method, slot_of_method};
-ghost use Rattle.flow_facts.specs.Labels.{size, sizes, label, label_all};
-ghost use Rattle.flow_facts.specs.Operands.{operand_of, operands_of, this_operand, class_object, variable_row, object_field, call_slot, call_declaration};
-ghost use Rattle.flow_facts.specs.Parts.{is_accessed};
-ghost use Rattle.flow_facts.specs.Types.{object_type};
+ghost use Rattle.flow_rules.specs.Labels.{size, sizes, label, label_all};
+ghost use Rattle.flow_rules.specs.Operands.{operand_of, operands_of, this_operand, class_object, variable_row, object_field, call_slot, call_declaration};
+ghost use Rattle.flow_rules.specs.Parts.{is_accessed};
+ghost use Rattle.flow_rules.specs.Types.{object_type};
 ghost use Rattle.flow_facts.specs.Views.{part_seen, parts_seen, load_operand, call_operand, static_operand, super_operand, variable_operand};
-ghost use Rattle.flow_facts.specs.Parts as plain;
+ghost use Rattle.flow_rules.specs.Parts as plain;
 
-use crate::items::{ObjectType, Operand, Part, PointItem, RowItem};
 use crate::types::{
     call_declaration, element_object, field_object, method_object, number_of, object_field,
     object_of, slot_object, variable_object,
 };
+use flow_rules::{ObjectType, Operand, Part, PointItem, RowItem};
 use java_core::{BinOp, Method, Program, RExpr, super_method};
 use kaba_base::{ClassId, Name, Place};
 use std::alloc::{AllocError, Global};

@@ -5,17 +5,17 @@ use Rattle.std.specs.Option.{is_some}
 use Rattle.std.proofs.lemmas.Bool.{false≢true}
 use Rattle.std.proofs.lemmas.List.{map-append, append-nil, append_assoc, length-append}
 use Rattle.java_tree.specs.Syntax.{Statements, HeadTree, MemberTree, FieldTree, MethodTree, DeclTree, ClassTree, InterfaceTree}
-use Rattle.java_resolve.specs.declared.Form.TheVariants as forms
-use Rattle.java_resolve.specs.declared.Refusal.TheVariants.{NotInProfile}
-use Rattle.java_resolve.specs.declared.flags.Kind.TheVariants as kinds
+use Rattle.name_rules.specs.declared.Form.TheVariants as forms
+use Rattle.name_rules.specs.declared.Refusal.TheVariants.{NotInProfile}
+use Rattle.name_rules.specs.declared.parts.Kind.TheVariants as kinds
 use Rattle.java_resolve.specs.declared.flags.Flags.{Flags}
 use Rattle.java_resolve.specs.Known.{Known}
 use Rattle.java_resolve.specs.Answers.{run}
 use Rattle.java_resolve.specs.Classes.{flags_of}
 use Rattle.java_resolve.specs.Members.{Members, head_step, is_wrong_body, field_step, member_step, interface_step, decl_step, no_members, members_of}
-use Rattle.java_resolve.specs.Outline.{FieldAt, MethodAt, field_member, method_member, fields_of, methods_of, heads_of, fields_declared, methods_declared, fields_from, methods_from, fields_in, methods_in, has_word, is_abstract_word}
-use Rattle.java_resolve.specs.Conditions.{ConditionAt, HasWrongBody, missing, superfluous, in_concrete, wrong_body, of_type, of_method}
-use Rattle.java_resolve.specs.Conditions as conditions
+use Rattle.name_rules.specs.Outline.{FieldAt, MethodAt, field_member, method_member, fields_of, methods_of, heads_of, fields_declared, methods_declared, fields_from, methods_from, fields_in, methods_in, has_word, is_abstract_word}
+use Rattle.name_rules.specs.Conditions.{ConditionAt, HasWrongBody, missing, superfluous, in_concrete, wrong_body, of_type, of_method}
+use Rattle.name_rules.specs.Conditions as conditions
 use Rattle.java_resolve.proofs.Sees.{Tells, tell, turn}
 use Rattle.java_resolve.proofs.Runs.{run-tells, stands-at, member-at}
 use Rattle.java_resolve.proofs.KnownTypes.{AreKnown}

@@ -5,7 +5,7 @@ use Rattle.std.specs.Option.{option_map}
 use Rattle.java_core.specs.Trees.{Ex, Exs, no_ex, ex_then, number, character, text, truth, null, this, local, static_field, own_field, field, index, call, static_call, super_call, create, create_array, cast, instance_of, unary, binary, Target, to_local, to_static, to_own, to_field, to_element, no_target, St, Sts, Arms, declare, block, assign, act, print, choose, loop, return, break, continue, no_st, st_then, otherwise, arm}
 use Rattle.java_core.specs.Programs.{PlainMethod}
 use Rattle.java_core.specs.Formed.{HasNoTwice, numbers, numbers_all, numbers_if, numbers_target, numbers_st, numbers_sts, numbers_arms, numbers_body, numbers_methods}
-use Rattle.java_resolve.specs.Resolves.{Counts, no_number, next_number}
+use Rattle.name_rules.specs.Resolves.{Counts, no_number, next_number}
 use Rattle.java_resolve.proofs.Sees.{same_some}
 use Rattle.java_resolve.proofs.Bare.{bare, bare_all, bare_if, bare_target, bare_st, bare_sts, bare_arms, bare_method}
 

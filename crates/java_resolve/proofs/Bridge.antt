@@ -18,10 +18,10 @@ use Rattle.java_resolve.specs.declared.tables.Heading.{Heading}
 use Rattle.java_resolve.specs.Members.{Members}
 use Rattle.java_resolve.specs.Resolved.{slot_at, program, with_bodies, resolved}
 use Rattle.java_resolve.specs.Resolved as resolved_by
-use Rattle.java_resolve.specs.Outline.{MethodAt, is_text_type, fields_in, methods_in, types_in, method_outline, outline}
-use Rattle.java_resolve.specs.Meanings.{class_named, MeansBase, an_int, a_boolean, a_char, a_text, a_class}
-use Rattle.java_resolve.specs.Asked.{a_parent, a_face, of_field, of_param, of_result, Asks, by_super, by_type}
-use Rattle.java_resolve.specs.Resolves.{heading_of, IsOfSlot, HasSlot, no_slot, a_slot, AreSlots, Resolves}
+use Rattle.name_rules.specs.Outline.{MethodAt, is_text_type, fields_in, methods_in, types_in, method_outline, outline}
+use Rattle.name_rules.specs.Meanings.{class_named, MeansBase, an_int, a_boolean, a_char, a_text, a_class}
+use Rattle.name_rules.specs.Asked.{a_parent, a_face, of_field, of_param, of_result, Asks, by_super, by_type}
+use Rattle.name_rules.specs.Resolves.{heading_of, IsOfSlot, HasSlot, no_slot, a_slot, AreSlots, Resolves}
 use Rattle.java_resolve.proofs.Sees.{same_some}
 use Rattle.java_resolve.proofs.Runs.{stands-within, member-stands, map-stands, stands-map}
 use Rattle.java_resolve.proofs.KnownTypes.{AreKnown}

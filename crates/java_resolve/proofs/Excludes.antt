@@ -12,14 +12,14 @@ use Rattle.java_tree.specs.Syntax.{Expression, NameRef, Expressions}
 use Rattle.java_core.specs.Trees.{Ex, Exs}
 use Rattle.java_core.specs.Programs.{Plain, PlainField, PlainMethod}
 use Rattle.java_core.specs.Classes.{IsSubclass, field_of}
-use Rattle.java_resolve.specs.declared.Refusal.{Refusal}
-use Rattle.java_resolve.specs.declared.tables.Bound.{Bound}
-use Rattle.java_resolve.specs.declared.exprs.Here.{Here}
-use Rattle.java_resolve.specs.Tables.{local_of}
-use Rattle.java_resolve.specs.Outline.{is_text_type}
-use Rattle.java_resolve.specs.Meanings.{class_named, MeansBase, an_int, a_boolean, a_char, a_text, a_class, MeansCastBase, to_int, to_boolean, to_char, to_class, is_bound, bound_names, is_class_name, IsStaticFieldOf, IsStaticMethodOf, IsNearestField, IsMet}
-use Rattle.java_resolve.specs.Resolves.{ResolvesTo, r_this, r_local, r_static_field, r_own_field, r_class_field, r_field, r_index, r_own_static_call, r_own_call, r_static_call, r_call, r_super_call, r_create, r_create_array, r_cast, r_instance_of, r_unary, r_binary, AllResolve, r_and_more}
-use Rattle.java_resolve.specs.Conditions.{AreOneSlot, IsUnknownType, no_such_type, IsUnknownCast, no_such_cast, FaultIn, this_in_static, no_variable, static_above, own_in_static, no_class_of_field, no_static_field, in_base, in_array, in_index, no_method, static_method_above, call_in_static, in_arguments, no_class_of_call, no_static_method, in_receiver, in_call_arguments, super_in_static, in_super_arguments, no_class_of_new, in_new_arguments, no_type_of_array, in_size, no_type_of_cast, in_cast, no_class_of_test, in_tested, in_operand, in_left, in_right, FaultInOne, in_first, in_later}
+use Rattle.name_rules.specs.declared.Refusal.{Refusal}
+use Rattle.name_rules.specs.declared.parts.Bound.{Bound}
+use Rattle.name_rules.specs.declared.parts.Here.{Here}
+use Rattle.name_rules.specs.Meanings.{local_of}
+use Rattle.name_rules.specs.Outline.{is_text_type}
+use Rattle.name_rules.specs.Meanings.{class_named, MeansBase, an_int, a_boolean, a_char, a_text, a_class, MeansCastBase, to_int, to_boolean, to_char, to_class, is_bound, bound_names, is_class_name, IsStaticFieldOf, IsStaticMethodOf, IsNearestField, IsMet}
+use Rattle.name_rules.specs.Resolves.{ResolvesTo, r_this, r_local, r_static_field, r_own_field, r_class_field, r_field, r_index, r_own_static_call, r_own_call, r_static_call, r_call, r_super_call, r_create, r_create_array, r_cast, r_instance_of, r_unary, r_binary, AllResolve, r_and_more}
+use Rattle.name_rules.specs.Conditions.{AreOneSlot, IsUnknownType, no_such_type, IsUnknownCast, no_such_cast, FaultIn, this_in_static, no_variable, static_above, own_in_static, no_class_of_field, no_static_field, in_base, in_array, in_index, no_method, static_method_above, call_in_static, in_arguments, no_class_of_call, no_static_method, in_receiver, in_call_arguments, super_in_static, in_super_arguments, no_class_of_new, in_new_arguments, no_type_of_array, in_size, no_type_of_cast, in_cast, no_class_of_test, in_tested, in_operand, in_left, in_right, FaultInOne, in_first, in_later}
 use Rattle.java_resolve.proofs.Sees.{bound-local, same_some}
 
 -- of two methods of a name in a class and its ancestors none is static

@@ -6,12 +6,12 @@ use Rattle.java_tree.specs.Syntax.{Expression, Statement, Statements, OptionalSt
 use Rattle.java_tree.specs.Syntax as tree
 use Rattle.java_core.specs.Trees.{Ex, St, Sts, Arms}
 use Rattle.java_core.specs.Programs.{Plain, PlainMethod}
-use Rattle.java_resolve.specs.declared.Refusal.{Refusal}
-use Rattle.java_resolve.specs.declared.tables.Bound.{Bound}
-use Rattle.java_resolve.specs.declared.exprs.Here.{Here}
-use Rattle.java_resolve.specs.Meanings.{is_bound, bound_names}
-use Rattle.java_resolve.specs.Resolves.{ResolvesTo, ResolvesIf, r_some, scope_after, scope_after_part, StResolves, r_declare, r_block, r_assign, r_act, r_print, r_choose, r_while, r_for, r_return, StsResolve, r_and_then, ArmsResolve, r_else, r_arm, PartResolves, r_absent, r_present}
-use Rattle.java_resolve.specs.Conditions.{FaultIn, FaultInValue, in_value, names_after, names_after_part, StFault, no_type_of_local, type_as_local, local_twice, in_first_value, in_block, in_target, in_assigned, in_call, in_printed, in_choice, in_else, in_while_test, in_while, in_first_part, in_for_test, in_last_part, in_for, in_returned, break_outside, continue_outside, StsFault, in_statement, in_rest, ArmsFault, in_test, in_arm, in_more_arms, PartFault, in_part}
+use Rattle.name_rules.specs.declared.Refusal.{Refusal}
+use Rattle.name_rules.specs.declared.parts.Bound.{Bound}
+use Rattle.name_rules.specs.declared.parts.Here.{Here}
+use Rattle.name_rules.specs.Meanings.{is_bound, bound_names}
+use Rattle.name_rules.specs.Resolves.{ResolvesTo, ResolvesIf, r_some, scope_after, scope_after_part, StResolves, r_declare, r_block, r_assign, r_act, r_print, r_choose, r_while, r_for, r_return, StsResolve, r_and_then, ArmsResolve, r_else, r_arm, PartResolves, r_absent, r_present}
+use Rattle.name_rules.specs.Conditions.{FaultIn, FaultInValue, in_value, names_after, names_after_part, StFault, no_type_of_local, type_as_local, local_twice, in_first_value, in_block, in_target, in_assigned, in_call, in_printed, in_choice, in_else, in_while_test, in_while, in_first_part, in_for_test, in_last_part, in_for, in_returned, break_outside, continue_outside, StsFault, in_statement, in_rest, ArmsFault, in_test, in_arm, in_more_arms, PartFault, in_part}
 use Rattle.java_resolve.proofs.Excludes.{OneMet, type-holds, holds}
 
 module _ (O : Plain) (here : Here) (k : PlainMethod) (one : OneMet O) where

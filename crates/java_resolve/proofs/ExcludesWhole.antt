@@ -12,19 +12,19 @@ use Rattle.java_core.specs.Programs.{Plain, PlainClass, PlainMethod}
 use Rattle.java_core.specs.Classes.{IsSubclass}
 use Rattle.java_core.specs.Types.{types_of}
 use Rattle.java_core.specs.Formed.{HasNoTwice}
-use Rattle.java_resolve.specs.declared.Refusal.{Refusal}
-use Rattle.java_resolve.specs.declared.Refusal.TheVariants.{PrivateReused}
-use Rattle.java_resolve.specs.declared.flags.Kind.{Kind}
+use Rattle.name_rules.specs.declared.Refusal.{Refusal}
+use Rattle.name_rules.specs.declared.Refusal.TheVariants.{PrivateReused}
+use Rattle.name_rules.specs.declared.parts.Kind.{Kind}
 use Rattle.java_resolve.specs.Known.{Known}
 use Rattle.java_resolve.specs.declared.tables.Heading.{Heading}
 use Rattle.java_resolve.specs.Tables.{is_above}
 use Rattle.java_resolve.specs.Members.{Members}
 use Rattle.java_resolve.specs.Resolved as resolved_by
-use Rattle.java_resolve.specs.Outline.{MethodAt, name_of, class_at, type_named, id_meant, faces_named, is_private, fields_in, methods_in, types_in, param_outline, method_outline, outline}
-use Rattle.java_resolve.specs.Meanings.{class_named, bound_names}
+use Rattle.name_rules.specs.Outline.{MethodAt, name_of, class_at, type_named, id_meant, faces_named, is_private, fields_in, methods_in, types_in, param_outline, method_outline, outline}
+use Rattle.name_rules.specs.Meanings.{class_named, bound_names}
 use Rattle.java_print.specs.Formed.{IsFormedTree}
-use Rattle.java_resolve.specs.Resolves.{HasSlot, no_slot, a_slot, StsResolve, params_from, here_of, heading_of, BodyResolves, r_no_body, r_body, Resolves}
-use Rattle.java_resolve.specs.Conditions.{ConditionAt, unknown, type_twice, known_twice, super_twice, field_twice, method_twice, param_twice, loop, overload, type_as_field, type_as_param, face_as_parent, class_as_face, private_reused, no_main, modifiers_disagree, modifier_unfit, wrong_body, in_body, AreOneSlot, StsFault, HasModifiers, of_type, of_field, of_method}
+use Rattle.name_rules.specs.Resolves.{HasSlot, no_slot, a_slot, StsResolve, params_from, here_of, heading_of, BodyResolves, r_no_body, r_body, Resolves}
+use Rattle.name_rules.specs.Conditions.{ConditionAt, unknown, type_twice, known_twice, super_twice, field_twice, method_twice, param_twice, loop, overload, type_as_field, type_as_param, face_as_parent, class_as_face, private_reused, no_main, modifiers_disagree, modifier_unfit, wrong_body, in_body, AreOneSlot, StsFault, HasModifiers, of_type, of_field, of_method}
 use Rattle.java_resolve.proofs.Sees.{same_some}
 use Rattle.java_resolve.proofs.Runs.{stands-within, member-stands, map-stands, stands-map}
 use Rattle.java_resolve.proofs.KnownTypes.{AreKnown}

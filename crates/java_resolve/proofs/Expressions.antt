@@ -14,19 +14,20 @@ use Rattle.java_core.specs.Trees.{at_place, Ex, own_field, Exs, no_ex, ex_then}
 use Rattle.java_core.specs.Programs.{Plain, PlainField, PlainMethod}
 use Rattle.java_core.specs.Classes.{field_of, own_field_of}
 use Rattle.java_core.specs.Formed.{numbers, numbers_all}
-use Rattle.java_resolve.specs.declared.Form.TheVariants as forms
-use Rattle.java_resolve.specs.declared.Refusal.{Refusal}
-use Rattle.java_resolve.specs.declared.Refusal.TheVariants.{Unknown, NotInProfile}
+use Rattle.name_rules.specs.declared.Form.TheVariants as forms
+use Rattle.name_rules.specs.declared.Refusal.{Refusal}
+use Rattle.name_rules.specs.declared.Refusal.TheVariants.{Unknown, NotInProfile}
 use Rattle.java_resolve.specs.declared.tables.Heading.{Heading}
-use Rattle.java_resolve.specs.declared.tables.Bound.{Bound}
-use Rattle.java_resolve.specs.declared.exprs.Here.{Here}
+use Rattle.name_rules.specs.declared.parts.Bound.{Bound}
+use Rattle.name_rules.specs.declared.parts.Here.{Here}
 use Rattle.java_resolve.specs.Names.{asked, type_of}
-use Rattle.java_resolve.specs.Tables.{Table, nearest_field, own_method, method_met, local_of}
+use Rattle.java_resolve.specs.Tables.{Table, nearest_field, own_method, method_met}
+use Rattle.name_rules.specs.Meanings.{local_of}
 use Rattle.java_resolve.specs.Tables as table
 use Rattle.java_resolve.specs.Expressions.{cast_base, cast_type, in_own, in_instance, field_use, field_at, field_named, local_named, name_meaning, is_variable, class_unless, class_before, static_field_at, static_field_in, static_field_of, static_method_at, static_method_in, static_method_of, called_instance, method_use, method_at, method_named, call_meaning, called, in_body, ex_last, field_walk, Receiver, receiver, called_on, walk, walk_all}
-use Rattle.java_resolve.specs.Meanings.{class_named, MeansCast, MeansCastBase, to_int, to_boolean, to_char, to_class, bound_names, is_class_name, IsStaticFieldOf, IsStaticMethodOf, IsNearestField, IsMet}
-use Rattle.java_resolve.specs.Resolves.{Counts, no_number, next_number, ResolvesTo, r_number, r_character, r_text, r_truth, r_null, r_this, r_local, r_static_field, r_own_field, r_class_field, r_field, r_index, r_own_static_call, r_own_call, r_static_call, r_call, r_super_call, r_create, r_create_array, r_cast, r_instance_of, r_unary, r_binary, AllResolve, r_no_more, r_and_more}
-use Rattle.java_resolve.specs.Conditions.{IsUnknownCast, no_such_cast, FaultIn, this_in_static, no_variable, static_above, own_in_static, no_class_of_field, no_static_field, in_base, in_array, in_index, no_method, static_method_above, call_in_static, in_arguments, no_class_of_call, no_static_method, in_receiver, in_call_arguments, super_in_static, in_super_arguments, no_class_of_new, in_new_arguments, no_type_of_array, in_size, no_type_of_cast, in_cast, no_class_of_test, in_tested, in_operand, in_left, in_right, FaultInOne, in_first, in_later}
+use Rattle.name_rules.specs.Meanings.{class_named, MeansCast, MeansCastBase, to_int, to_boolean, to_char, to_class, bound_names, is_class_name, IsStaticFieldOf, IsStaticMethodOf, IsNearestField, IsMet}
+use Rattle.name_rules.specs.Resolves.{Counts, no_number, next_number, ResolvesTo, r_number, r_character, r_text, r_truth, r_null, r_this, r_local, r_static_field, r_own_field, r_class_field, r_field, r_index, r_own_static_call, r_own_call, r_static_call, r_call, r_super_call, r_create, r_create_array, r_cast, r_instance_of, r_unary, r_binary, AllResolve, r_no_more, r_and_more}
+use Rattle.name_rules.specs.Conditions.{IsUnknownCast, no_such_cast, FaultIn, this_in_static, no_variable, static_above, own_in_static, no_class_of_field, no_static_field, in_base, in_array, in_index, no_method, static_method_above, call_in_static, in_arguments, no_class_of_call, no_static_method, in_receiver, in_call_arguments, super_in_static, in_super_arguments, no_class_of_new, in_new_arguments, no_type_of_array, in_size, no_type_of_cast, in_cast, no_class_of_test, in_tested, in_operand, in_left, in_right, FaultInOne, in_first, in_later}
 use Rattle.java_resolve.proofs.TypeNames.{asked-tells, type-tells}
 use Rattle.java_resolve.proofs.Sees.{Sees, StandsField, OwnMethod, MetMethod, Tells, tell, turn, bound-local, unbound-local, same_some}
 

@@ -8,13 +8,13 @@ use Rattle.java_core.specs.declared.Program.{Program}
 use Rattle.java_core.specs.Trees.{at_place, no_place}
 use Rattle.java_core.specs.Programs.{Plain, program_of, class_seen, field_seen, method_seen, slot_seen}
 use Rattle.java_core.specs.Formed.{AreCounted, IsFormed}
-use Rattle.java_resolve.specs.declared.Refusal.{Refusal}
-use Rattle.java_resolve.specs.declared.Refusal.TheVariants as refusals
+use Rattle.name_rules.specs.declared.Refusal.{Refusal}
+use Rattle.name_rules.specs.declared.Refusal.TheVariants as refusals
 use Rattle.java_resolve.specs.Answers.{IsRefused}
 use Rattle.java_resolve.specs.Resolved.{resolved}
-use Rattle.java_resolve.specs.Resolves.{Resolves}
-use Rattle.java_resolve.specs.Conditions.{ConditionAt}
-use Rattle.java_resolve.specs.Causes.{IsCause, HasNoCondition}
+use Rattle.name_rules.specs.Resolves.{Resolves}
+use Rattle.name_rules.specs.Conditions.{ConditionAt}
+use Rattle.name_rules.specs.Causes.{IsCause, HasNoCondition}
 use Rattle.java_resolve.proofs.Sees.{Tells}
 use Rattle.java_resolve.proofs.Bare.{bare-program}
 use Rattle.java_resolve.proofs.Whole.{ResolvesFormed, resolved-formed}

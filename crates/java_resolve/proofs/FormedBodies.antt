@@ -21,14 +21,14 @@ use Rattle.java_core.specs.Trees.{Ex, Exs, St, choose, Sts, Arms}
 use Rattle.java_core.specs.Programs.{Plain, PlainLocal, PlainField, PlainMethod}
 use Rattle.java_core.specs.Formed.{IsLiteral, small, least, IsClass, IsKnownBase, IsType, IsCastType, variables_of, IsNewLocal, IsStaticField, IsStaticMethod, IsOwnField, is_at_most_one, is_first, FormedEx, f_number, f_character, f_text, f_truth, f_null, f_this, f_local, f_static_field, f_own_field, f_field, f_index, f_call, f_static_call, f_super_call, f_create, f_create_array, f_cast, f_instance_of, f_unary, f_binary, FormedExs, f_no_ex, f_ex_then, FormedTarget, f_to_local, f_to_static, f_to_own, f_to_field, f_to_element, FormedOption, f_none, f_some, FormedSt, f_declare, f_block, f_assign, f_act, f_print, f_choose, f_loop, f_return, f_break, f_continue, FormedSts, f_no_st, f_st_then, FormedArms, f_otherwise, f_arm}
 use Rattle.java_core.specs.Formed as core
-use Rattle.java_resolve.specs.declared.tables.Bound.{Bound}
-use Rattle.java_resolve.specs.declared.exprs.Here.{Here}
-use Rattle.java_resolve.specs.Tables.{local_of}
-use Rattle.java_resolve.specs.Statements.{target, bound}
-use Rattle.java_resolve.specs.Outline.{is_type_name}
-use Rattle.java_resolve.specs.Meanings.{type_names, class_named, Means, MeansBase, an_int, a_boolean, a_char, a_text, a_class, MeansCast, MeansCastBase, to_int, to_boolean, to_char, to_class, is_bound, bound_names, IsNearestField}
+use Rattle.name_rules.specs.declared.parts.Bound.{Bound}
+use Rattle.name_rules.specs.declared.parts.Here.{Here}
+use Rattle.name_rules.specs.Meanings.{local_of}
+use Rattle.name_rules.specs.Resolves.{target, bound}
+use Rattle.name_rules.specs.Outline.{is_type_name}
+use Rattle.name_rules.specs.Meanings.{type_names, class_named, Means, MeansBase, an_int, a_boolean, a_char, a_text, a_class, MeansCast, MeansCastBase, to_int, to_boolean, to_char, to_class, is_bound, bound_names, IsNearestField}
 use Rattle.java_print.specs.Formed.{IsNumber, a_small, the_least, IsCastBase, is_target, is_call, is_act, is_simple, IsFormed, AreFormed, IsFormedValue, IsFormedStmt, AreFormedStmts, AreFormedArms, IsFormedElse, IsFormedFirst, IsFormedStep, has_arm}
-use Rattle.java_resolve.specs.Resolves.{Counts, no_number, next_number, ResolvesTo, r_number, r_character, r_text, r_truth, r_null, r_this, r_local, r_static_field, r_own_field, r_class_field, r_field, r_index, r_own_static_call, r_own_call, r_static_call, r_call, r_super_call, r_create, r_create_array, r_cast, r_instance_of, r_unary, r_binary, AllResolve, r_no_more, r_and_more, ResolvesIf, r_none, r_some, scope_after, scope_after_part, IsLocal, StResolves, r_declare, r_block, r_assign, r_act, r_print, r_choose, r_while, r_for, r_return, r_break, r_continue, StsResolve, r_no_statements, r_and_then, ArmsResolve, r_no_else, r_else, r_arm, PartResolves, r_absent, r_present, declares, declares_all, declares_arms}
+use Rattle.name_rules.specs.Resolves.{Counts, no_number, next_number, ResolvesTo, r_number, r_character, r_text, r_truth, r_null, r_this, r_local, r_static_field, r_own_field, r_class_field, r_field, r_index, r_own_static_call, r_own_call, r_static_call, r_call, r_super_call, r_create, r_create_array, r_cast, r_instance_of, r_unary, r_binary, AllResolve, r_no_more, r_and_more, ResolvesIf, r_none, r_some, scope_after, scope_after_part, IsLocal, StResolves, r_declare, r_block, r_assign, r_act, r_print, r_choose, r_while, r_for, r_return, r_break, r_continue, StsResolve, r_no_statements, r_and_then, ArmsResolve, r_no_else, r_else, r_arm, PartResolves, r_absent, r_present, declares, declares_all, declares_arms}
 use Rattle.java_resolve.proofs.Runs.{stands-within}
 use Rattle.java_resolve.proofs.Sees.{same_some}
 use Rattle.java_resolve.proofs.Bare.{bare_tag, bare, bare_all, bare_if, bare_target, bare_st, bare_sts, bare_arms}

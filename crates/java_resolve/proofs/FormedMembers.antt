@@ -15,14 +15,14 @@ use Rattle.java_core.specs.Formed.{IsType, IsVariableName, variables_of, IsForme
 use Rattle.java_core.proofs.Positions.{position-passes}
 use Rattle.java_core.proofs.Subclasses.{nearest_of-nearest}
 use Rattle.java_resolve.specs.Known.{Known}
-use Rattle.java_resolve.specs.Tables.{local_of}
+use Rattle.name_rules.specs.Meanings.{local_of}
 use Rattle.java_resolve.specs.Members.{Members}
 use Rattle.java_resolve.specs.Resolved.{program}
 use Rattle.java_resolve.specs.Resolved as resolved_by
-use Rattle.java_resolve.specs.Outline.{FieldAt, MethodAt, fields_in, methods_in, types_in, is_type_name, type_meant, class_outline, field_outline, method_outline, outline}
-use Rattle.java_resolve.specs.Meanings.{Means, is_bound, bound_names, IsNearestField}
+use Rattle.name_rules.specs.Outline.{FieldAt, MethodAt, fields_in, methods_in, types_in, is_type_name, type_meant, class_outline, field_outline, method_outline, outline}
+use Rattle.name_rules.specs.Meanings.{Means, is_bound, bound_names, IsNearestField}
 use Rattle.java_print.specs.Formed.{IsFormedTree}
-use Rattle.java_resolve.specs.Resolves.{here_of, params_from, heading_of, BodyResolves, BodiesResolve, r_no_methods, r_method}
+use Rattle.name_rules.specs.Resolves.{here_of, params_from, heading_of, BodyResolves, BodiesResolve, r_no_methods, r_method}
 use Rattle.java_resolve.proofs.Sees.{same_some}
 use Rattle.java_resolve.proofs.Runs.{stands-within, map-stands, stands-map}
 use Rattle.java_resolve.proofs.KnownTypes.{AreKnown}

@@ -17,10 +17,10 @@ use Rattle.java_resolve.specs.Known.{Known}
 use Rattle.java_resolve.specs.Members.{Members}
 use Rattle.java_resolve.specs.Resolved.{program}
 use Rattle.java_resolve.specs.Resolved as resolved_by
-use Rattle.java_resolve.specs.Outline.{MethodAt, is_static, has_word, is_abstract_word, fields_in, methods_in, types_in, is_type_name, type_meant, is_interface_of, mods_of, class_outline, param_outline, method_outline, outline}
+use Rattle.name_rules.specs.Outline.{MethodAt, is_static, has_word, is_abstract_word, fields_in, methods_in, types_in, is_type_name, type_meant, is_interface_of, mods_of, class_outline, param_outline, method_outline, outline}
 use Rattle.java_print.specs.Formed.{IsFormedTree, IsFormedParam, IsFormedBody}
-use Rattle.java_resolve.specs.Conditions.{missing, in_concrete}
-use Rattle.java_resolve.specs.Resolves.{here_of, heading_of, BodyResolves, r_no_body, r_body, HasSlot, no_slot, a_slot, AreSlots}
+use Rattle.name_rules.specs.Conditions.{missing, in_concrete}
+use Rattle.name_rules.specs.Resolves.{here_of, heading_of, BodyResolves, r_no_body, r_body, HasSlot, no_slot, a_slot, AreSlots}
 use Rattle.java_resolve.proofs.Sees.{same_some}
 use Rattle.java_resolve.proofs.Runs.{stands-within, member-stands, map-stands}
 use Rattle.java_resolve.proofs.KnownTypes.{AreKnown}

@@ -22,8 +22,8 @@ use Rattle.java_core.specs.Formed.{IsClass, IsKnownBase, IsType, IsVariableName,
 use Rattle.java_core.proofs.Positions.{position-map}
 use Rattle.java_core.proofs.Subclasses.{supers-within}
 use Rattle.java_resolve.specs.Known.{Known}
-use Rattle.java_resolve.specs.Outline.{types_in, type_named, is_known, is_type_name, id_meant, parent_named, faces_named, parent_meant, type_meant, name_of, is_interface_of, object, class_outline, outline}
-use Rattle.java_resolve.specs.Meanings.{type_names, class_named, Means, MeansBase, an_int, a_boolean, a_char, a_text, a_class}
+use Rattle.name_rules.specs.Outline.{types_in, type_named, is_known, is_type_name, id_meant, parent_named, faces_named, parent_meant, type_meant, name_of, is_interface_of, object, class_outline, outline}
+use Rattle.name_rules.specs.Meanings.{type_names, class_named, Means, MeansBase, an_int, a_boolean, a_char, a_text, a_class}
 use Rattle.java_resolve.proofs.TypeNames.{type-meant}
 use Rattle.java_print.specs.Formed.{Each, IsFormedTree, IsFormedDecl}
 use Rattle.java_resolve.proofs.Sees.{same_some}

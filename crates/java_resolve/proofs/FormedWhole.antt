@@ -8,16 +8,16 @@ use Rattle.java_core.specs.Programs.{Plain, PlainClass, PlainMethod, PlainLocal,
 use Rattle.java_core.specs.Classes.{IsSubclass}
 use Rattle.java_core.specs.Types.{types_of}
 use Rattle.java_core.specs.Formed.{HasNoTwice, IsFormedSlot, IsFormedMethod, IsMain, AreCounted, IsFormed}
-use Rattle.java_resolve.specs.declared.Refusal.TheVariants.{Overload, PrivateReused}
+use Rattle.name_rules.specs.declared.Refusal.TheVariants.{Overload, PrivateReused}
 use Rattle.java_resolve.specs.Known.{Known}
 use Rattle.java_resolve.specs.declared.tables.Heading.{Heading}
 use Rattle.java_resolve.specs.Tables.{bit_in, row_in, is_above}
 use Rattle.java_resolve.specs.Members.{Members, meet, same_slot, clash_of}
 use Rattle.java_resolve.specs.Resolved.{program, with_bodies, resolved}
 use Rattle.java_resolve.specs.Resolved as resolved_by
-use Rattle.java_resolve.specs.Outline.{MethodAt, fields_in, methods_in, types_in, method_outline, outline}
+use Rattle.name_rules.specs.Outline.{MethodAt, fields_in, methods_in, types_in, method_outline, outline}
 use Rattle.java_print.specs.Formed.{IsFormedTree}
-use Rattle.java_resolve.specs.Resolves.{heading_of, Resolves}
+use Rattle.name_rules.specs.Resolves.{heading_of, Resolves}
 use Rattle.java_resolve.proofs.Runs.{map-stands, stands-map}
 use Rattle.java_resolve.proofs.KnownTypes.{AreKnown}
 use Rattle.java_resolve.proofs.KnownClasses.{AreClasses}

@@ -9,16 +9,16 @@ use Rattle.java_tree.specs.declared.Id.{Id}
 use Rattle.java_tree.specs.Syntax.{DeclTree, ClassTree, InterfaceTree}
 use Rattle.java_core.specs.Programs.{PlainClass}
 use Rattle.java_core.specs.Formed.{HasNoTwice}
-use Rattle.java_resolve.specs.declared.Refusal.{Refusal}
-use Rattle.java_resolve.specs.declared.Refusal.TheVariants.{Twice, TwoKinds, Unknown}
-use Rattle.java_resolve.specs.declared.flags.Kind.TheVariants as kinds
+use Rattle.name_rules.specs.declared.Refusal.{Refusal}
+use Rattle.name_rules.specs.declared.Refusal.TheVariants.{Twice, TwoKinds, Unknown}
+use Rattle.name_rules.specs.declared.parts.Kind.TheVariants as kinds
 use Rattle.java_resolve.specs.Known.{Known}
 use Rattle.java_resolve.specs.Names.{number_of, asked, or_unknown}
 use Rattle.java_resolve.specs.Classes.{flags_of, is_face_in, is_face, class_id, parent_tree, has_id, face, faces_of, class_tree, class_step, object_class, classes_of}
-use Rattle.java_resolve.specs.Outline.{name_of, mods_of, is_interface_of, parent_named, faces_named, types_in, type_named, class_at, id_meant, parent_meant, object, class_outline, outline}
-use Rattle.java_resolve.specs.Meanings.{type_names, class_named}
-use Rattle.java_resolve.specs.Asked.{by_super, a_parent, a_face}
-use Rattle.java_resolve.specs.Conditions.{ConditionAt, kind_of, unknown, face_as_parent, class_as_face, super_twice, of_type}
+use Rattle.name_rules.specs.Outline.{name_of, mods_of, is_interface_of, parent_named, faces_named, types_in, type_named, class_at, id_meant, parent_meant, object, class_outline, outline}
+use Rattle.name_rules.specs.Meanings.{type_names, class_named}
+use Rattle.name_rules.specs.Asked.{by_super, a_parent, a_face}
+use Rattle.name_rules.specs.Conditions.{ConditionAt, kind_of, unknown, face_as_parent, class_as_face, super_twice, of_type}
 use Rattle.java_resolve.proofs.Sees.{Tells, tell, same_some}
 use Rattle.java_resolve.proofs.Runs.{run-tells, stands-at, stands-within, earlier-stands, push-cases, member-at, map-stands, stands-map, once-push}
 use Rattle.java_resolve.proofs.KnownTypes.{AreKnown, number_of-named, named-stands}

@@ -18,8 +18,8 @@ use Rattle.java_core.specs.Programs.{PlainSlot, field_seen, local_seen}
 use Rattle.java_core.specs.Types.{types_of}
 use Rattle.java_core.specs.Formed.{IsMain}
 use Rattle.java_core.proofs.Positions.{position-passes}
-use Rattle.java_resolve.specs.declared.Refusal.TheVariants.{Twice, TwoKinds}
-use Rattle.java_resolve.specs.declared.flags.Kind.TheVariants as kinds
+use Rattle.name_rules.specs.declared.Refusal.TheVariants.{Twice, TwoKinds}
+use Rattle.name_rules.specs.declared.parts.Kind.TheVariants as kinds
 use Rattle.java_resolve.specs.declared.flags.Flags.{Flags}
 use Rattle.java_resolve.specs.Known.{Known}
 use Rattle.java_resolve.specs.declared.tables.Heading.{Heading}
@@ -28,11 +28,11 @@ use Rattle.java_resolve.specs.Names.{names_type, type_of}
 use Rattle.java_resolve.specs.Tables.{field_from, method_from}
 use Rattle.java_resolve.specs.Classes.{is_head}
 use Rattle.java_resolve.specs.Members.{Members, params_of, result_of, slot_from, with_slot, slotted, heading, add_heading, head_step, field_step}
-use Rattle.java_resolve.specs.Outline.{FieldAt, MethodAt, field_member, method_member, fields_of, methods_of, fields_declared, methods_declared, fields_from, methods_from, fields_in, methods_in, is_static, is_private, has_word, is_abstract_word, types_in, is_type_name, type_meant, field_outline, param_outline, method_outline, outline}
-use Rattle.java_resolve.specs.Meanings.{Means}
-use Rattle.java_resolve.specs.Asked.{of_field}
-use Rattle.java_resolve.specs.Resolves.{IsOfSlot}
-use Rattle.java_resolve.specs.Conditions.{ConditionAt, type_as_field, field_twice, method_twice, HasWrongBody}
+use Rattle.name_rules.specs.Outline.{FieldAt, MethodAt, field_member, method_member, fields_of, methods_of, fields_declared, methods_declared, fields_from, methods_from, fields_in, methods_in, is_static, is_private, has_word, is_abstract_word, types_in, is_type_name, type_meant, field_outline, param_outline, method_outline, outline}
+use Rattle.name_rules.specs.Meanings.{Means}
+use Rattle.name_rules.specs.Asked.{of_field}
+use Rattle.name_rules.specs.Resolves.{IsOfSlot}
+use Rattle.name_rules.specs.Conditions.{ConditionAt, type_as_field, field_twice, method_twice, HasWrongBody}
 use Rattle.java_resolve.proofs.Sees.{Tells, tell}
 use Rattle.java_resolve.proofs.Runs.{stands-at, stands-within, earlier-stands, push-cases, member-at, map-stands, stands-map, position-from, none-passes}
 use Rattle.java_resolve.proofs.KnownTypes.{AreKnown}

@@ -9,12 +9,12 @@ use Rattle.std.proofs.Math.Numerals.{add-one}
 use Rattle.java_tree.specs.Syntax.{DeclTree}
 use Rattle.java_core.specs.Formed.{HasNoTwice}
 use Rattle.java_core.proofs.Positions.{position-passes}
-use Rattle.java_resolve.specs.declared.Refusal.TheVariants.{Twice}
+use Rattle.name_rules.specs.declared.Refusal.TheVariants.{Twice}
 use Rattle.java_resolve.specs.Known.{Known}
 use Rattle.java_resolve.specs.Names.{number_from, number_of}
 use Rattle.java_resolve.specs.Classes.{decl_name, object_known, know_named, know, known_of}
-use Rattle.java_resolve.specs.Outline.{name_of, place_of, is_interface_of, is_known, types_in, type_named}
-use Rattle.java_resolve.specs.Conditions.{ConditionAt, type_twice, known_twice}
+use Rattle.name_rules.specs.Outline.{name_of, place_of, is_interface_of, is_known, types_in, type_named}
+use Rattle.name_rules.specs.Conditions.{ConditionAt, type_twice, known_twice}
 use Rattle.java_resolve.proofs.Sees.{Tells}
 use Rattle.java_resolve.proofs.Runs.{run-tells, stands-at, stands-within, earlier-stands, push-cases, member-at, map-stands, once-push, position-from, none-passes}
 

@@ -4,10 +4,10 @@ use Rattle.java_tree.specs.declared.Expr.{Expr}
 use Rattle.java_tree.specs.Syntax as tree
 use Rattle.java_core.specs.declared.RExpr.{RExpr}
 use Rattle.java_core.specs.Trees.{at_place, Exs, expr_of, exprs}
-use Rattle.java_resolve.specs.declared.Refusal.{Refusal}
+use Rattle.name_rules.specs.declared.Refusal.{Refusal}
 use Rattle.java_resolve.specs.Tables.{Table}
-use Rattle.java_resolve.specs.declared.tables.Bound.{Bound}
-use Rattle.java_resolve.specs.declared.exprs.Here.{Here}
+use Rattle.name_rules.specs.declared.parts.Bound.{Bound}
+use Rattle.name_rules.specs.declared.parts.Here.{Here}
 use Rattle.java_resolve.specs.Answers.{with}
 use Rattle.java_resolve.specs.Expressions.{walk, walk_all, ex_last}
 use Rattle.java_resolve.proofs.Rows.{exprs_push}

@@ -6,10 +6,10 @@ use Rattle.std.proofs.lemmas.List.{length-append}
 use Rattle.java_tree.specs.Syntax.{DeclTree}
 use Rattle.java_core.specs.Programs.{PlainClass}
 use Rattle.java_core.specs.Classes.{IsProperSubclass}
-use Rattle.java_resolve.specs.declared.Refusal.TheVariants.{Loop}
+use Rattle.name_rules.specs.declared.Refusal.TheVariants.{Loop}
 use Rattle.java_resolve.specs.Classes.{above_by, loop_step, loops_of}
-use Rattle.java_resolve.specs.Outline.{types_in, class_outline, outline}
-use Rattle.java_resolve.specs.Conditions.{ConditionAt, loop}
+use Rattle.name_rules.specs.Outline.{types_in, class_outline, outline}
+use Rattle.name_rules.specs.Conditions.{ConditionAt, loop}
 use Rattle.java_resolve.proofs.Sees.{Tells}
 use Rattle.java_resolve.proofs.Runs.{run-tells, stands-at, stands-within, map-stands}
 use Rattle.java_resolve.proofs.Reached.{AreAbove}

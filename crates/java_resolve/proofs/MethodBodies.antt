@@ -11,7 +11,7 @@ use Rattle.java_core.specs.declared.Local.{Local}
 use Rattle.java_core.specs.Trees.{at_place, Sts, no_st}
 use Rattle.java_core.specs.Programs.{Plain, PlainMethod, PlainLocal, local_seen}
 use Rattle.java_core.specs.Formed.{variables_of, numbers_body, numbers_methods}
-use Rattle.java_resolve.specs.declared.flags.Kind.TheVariants as kinds
+use Rattle.name_rules.specs.declared.parts.Kind.TheVariants as kinds
 use Rattle.java_resolve.specs.declared.flags.Flags.{Flags}
 use Rattle.java_resolve.specs.Known.{Known}
 use Rattle.java_resolve.specs.Answers.{run}
@@ -21,11 +21,11 @@ use Rattle.java_resolve.specs.Members.{params_of, result_of}
 use Rattle.java_resolve.specs.Statements.{State, walk_sts}
 use Rattle.java_resolve.specs.Resolved.{bounds_from, slot_at, body_of, Methods, method_of, method_step, body_step, head_body_step, numbered, decl_bodies}
 use Rattle.java_resolve.specs.Resolved as resolved
-use Rattle.java_resolve.specs.Outline.{MethodAt, method_member, methods_of, heads_of, methods_declared, methods_from, methods_in, has_word, is_abstract_word, types_in, type_meant, method_outline, outline}
-use Rattle.java_resolve.specs.Meanings.{bound_names, Means}
+use Rattle.name_rules.specs.Outline.{MethodAt, method_member, methods_of, heads_of, methods_declared, methods_from, methods_in, has_word, is_abstract_word, types_in, type_meant, method_outline, outline}
+use Rattle.name_rules.specs.Meanings.{bound_names, Means}
 use Rattle.java_print.specs.Formed.{Each, IsFormedBody, IsFormedMember, IsFormedDecl, IsFormedTree}
-use Rattle.java_resolve.specs.Resolves.{Counts, no_number, StsResolve, declares_all, params_from, here_of, BodyResolves, r_no_body, r_body, BodiesResolve, r_no_methods, r_method, heading_of}
-use Rattle.java_resolve.specs.Conditions.{ConditionAt, StsFault, in_body, of_method}
+use Rattle.name_rules.specs.Resolves.{Counts, no_number, StsResolve, declares_all, params_from, here_of, BodyResolves, r_no_body, r_body, BodiesResolve, r_no_methods, r_method, heading_of}
+use Rattle.name_rules.specs.Conditions.{ConditionAt, StsFault, in_body, of_method}
 use Rattle.java_resolve.proofs.Sees.{Sees, Tells, tell, turn}
 use Rattle.java_resolve.proofs.Runs.{run-tells, stands-at, push-cases, member-at}
 use Rattle.java_resolve.proofs.KnownTypes.{AreKnown}

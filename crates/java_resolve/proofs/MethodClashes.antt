@@ -12,15 +12,15 @@ use Rattle.java_core.specs.Programs.{PlainMethod}
 use Rattle.java_core.specs.Classes.{IsSubclass}
 use Rattle.java_core.specs.Formed.{IsMain}
 use Rattle.java_core.proofs.Positions.{position-passes}
-use Rattle.java_resolve.specs.declared.Refusal.{Refusal}
-use Rattle.java_resolve.specs.declared.Refusal.TheVariants.{Overload, PrivateReused}
+use Rattle.name_rules.specs.declared.Refusal.{Refusal}
+use Rattle.name_rules.specs.declared.Refusal.TheVariants.{Overload, PrivateReused}
 use Rattle.java_resolve.specs.Known.{Known}
 use Rattle.java_resolve.specs.declared.tables.Heading.{Heading}
 use Rattle.java_resolve.specs.Answers.{unless, run}
 use Rattle.java_resolve.specs.Tables.{bit_in, row_in, is_above}
 use Rattle.java_resolve.specs.Members.{Members, meet, same_slot, clash_of, clash_with, earlier_step, clash_step, clashes_of, main_from, or_no_main, main_of}
-use Rattle.java_resolve.specs.Outline.{MethodAt, is_private, methods_of, heads_of, methods_declared, methods_from, methods_in, types_in, method_outline, outline}
-use Rattle.java_resolve.specs.Conditions.{ConditionAt, overload, private_reused, no_main, AreOneSlot}
+use Rattle.name_rules.specs.Outline.{MethodAt, is_private, methods_of, heads_of, methods_declared, methods_from, methods_in, types_in, method_outline, outline}
+use Rattle.name_rules.specs.Conditions.{ConditionAt, overload, private_reused, no_main, AreOneSlot}
 use Rattle.java_resolve.proofs.Sees.{Tells, tell, same_some}
 use Rattle.java_resolve.proofs.Runs.{run-tells, stands-at, stands-within, push-cases, map-stands, stands-map, position-from, none-passes}
 use Rattle.java_resolve.proofs.KnownTypes.{AreKnown}

@@ -7,14 +7,14 @@ use Rattle.kaba_base.specs.declared.words.Keyword.{Keyword}
 use Rattle.kaba_base.specs.declared.words.Keyword.TheVariants as keys
 use Rattle.java_tree.specs.declared.Modifier.{Modifier}
 use Rattle.java_tree.specs.Syntax.{DeclTree}
-use Rattle.java_resolve.specs.declared.Form.TheVariants as forms
-use Rattle.java_resolve.specs.declared.Refusal.TheVariants.{NotInProfile}
-use Rattle.java_resolve.specs.declared.flags.Kind.{Kind}
-use Rattle.java_resolve.specs.declared.flags.Kind.TheVariants as kinds
+use Rattle.name_rules.specs.declared.Form.TheVariants as forms
+use Rattle.name_rules.specs.declared.Refusal.TheVariants.{NotInProfile}
+use Rattle.name_rules.specs.declared.parts.Kind.{Kind}
+use Rattle.name_rules.specs.declared.parts.Kind.TheVariants as kinds
 use Rattle.java_resolve.specs.declared.flags.Flags.{Flags}
 use Rattle.java_resolve.specs.Classes.{no_flags, no_static, is_head, is_field, is_misplaced, noted, flag, flags_of}
-use Rattle.java_resolve.specs.Outline.{has_word, is_public_word, is_private_word, is_abstract_word, is_static_word}
-use Rattle.java_resolve.specs.Conditions.{ConditionAt, HasModifiers, disagree, is_unfit, modifiers_disagree, modifier_unfit}
+use Rattle.name_rules.specs.Outline.{has_word, is_public_word, is_private_word, is_abstract_word, is_static_word}
+use Rattle.name_rules.specs.Conditions.{ConditionAt, HasModifiers, disagree, is_unfit, modifiers_disagree, modifier_unfit}
 use Rattle.java_resolve.proofs.Sees.{Tells, turn, same_some}
 use Rattle.java_resolve.proofs.Runs.{run-tells, stands-at, stands-within, earlier-stands, push-cases, member-at}
 

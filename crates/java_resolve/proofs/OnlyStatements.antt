@@ -7,10 +7,10 @@ use Rattle.java_tree.specs.Syntax as tree
 use Rattle.java_core.specs.Trees.{at_place, St, Sts, Arms}
 use Rattle.java_core.specs.Programs.{Plain, PlainMethod}
 use Rattle.java_core.specs.Formed.{variables_of, numbers, numbers_if, numbers_target, numbers_st, numbers_sts, numbers_arms}
-use Rattle.java_resolve.specs.declared.tables.Bound.{Bound}
-use Rattle.java_resolve.specs.declared.exprs.Here.{Here}
-use Rattle.java_resolve.specs.Statements.{target, bound}
-use Rattle.java_resolve.specs.Resolves.{Counts, no_number, next_number, ResolvesIf, scope_after, scope_after_part, StResolves, r_declare, r_block, r_assign, r_act, r_print, r_choose, r_while, r_for, r_return, r_break, r_continue, StsResolve, r_no_statements, r_and_then, ArmsResolve, r_no_else, r_else, r_arm, PartResolves, r_absent, r_present, declares, declares_all, declares_arms}
+use Rattle.name_rules.specs.declared.parts.Bound.{Bound}
+use Rattle.name_rules.specs.declared.parts.Here.{Here}
+use Rattle.name_rules.specs.Resolves.{target, bound}
+use Rattle.name_rules.specs.Resolves.{Counts, no_number, next_number, ResolvesIf, scope_after, scope_after_part, StResolves, r_declare, r_block, r_assign, r_act, r_print, r_choose, r_while, r_for, r_return, r_break, r_continue, StsResolve, r_no_statements, r_and_then, ArmsResolve, r_no_else, r_else, r_arm, PartResolves, r_absent, r_present, declares, declares_all, declares_arms}
 use Rattle.java_print.specs.Formed.{IsFormedStmt, AreFormedStmts, AreFormedArms, IsFormedElse, IsFormedFirst, IsFormedStep}
 use Rattle.java_resolve.proofs.TypeNames.{type-meant}
 use Rattle.java_resolve.proofs.Statements.{numbers-target}

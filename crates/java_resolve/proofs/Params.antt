@@ -14,15 +14,15 @@ use Rattle.java_core.specs.declared.Local.{Local}
 use Rattle.java_core.specs.Trees.{at_place}
 use Rattle.java_core.specs.Programs.{local_seen}
 use Rattle.java_core.specs.Formed.{HasNoTwice}
-use Rattle.java_resolve.specs.declared.Refusal.{Refusal}
-use Rattle.java_resolve.specs.declared.Refusal.TheVariants.{Twice, TwoKinds}
+use Rattle.name_rules.specs.declared.Refusal.{Refusal}
+use Rattle.name_rules.specs.declared.Refusal.TheVariants.{Twice, TwoKinds}
 use Rattle.java_resolve.specs.Known.{Known}
 use Rattle.java_resolve.specs.Names.{names_type, type_of}
 use Rattle.java_resolve.specs.Members.{has_local, param, params_of, result_of}
-use Rattle.java_resolve.specs.Outline.{MethodAt, methods_in, types_in, type_named, is_known, is_type_name, type_meant, param_outline, outline}
-use Rattle.java_resolve.specs.Meanings.{Means}
-use Rattle.java_resolve.specs.Asked.{IsDeclared, of_param, of_result, by_type}
-use Rattle.java_resolve.specs.Conditions.{ConditionAt, unknown, type_as_param, param_twice, IsUnknownType, no_such_type}
+use Rattle.name_rules.specs.Outline.{MethodAt, methods_in, types_in, type_named, is_known, is_type_name, type_meant, param_outline, outline}
+use Rattle.name_rules.specs.Meanings.{Means}
+use Rattle.name_rules.specs.Asked.{IsDeclared, of_param, of_result, by_type}
+use Rattle.name_rules.specs.Conditions.{ConditionAt, unknown, type_as_param, param_twice, IsUnknownType, no_such_type}
 use Rattle.java_resolve.proofs.Sees.{Tells, tell, turn}
 use Rattle.java_resolve.proofs.Runs.{run-tells, stands-at, stands-within, earlier-stands, push-cases, member-at, map-stands, once-push}
 use Rattle.java_resolve.proofs.TypeNames.{type-tells, type-meant}

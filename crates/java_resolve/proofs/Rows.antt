@@ -11,9 +11,9 @@ use Rattle.std.specs.declared.vec.Vec.{Vec}
 use Rattle.kaba_base.specs.declared.Place.{Place}
 use Rattle.java_tree.specs.declared.Id.{Id}
 use Rattle.std.specs.declared.alloc.Global.{Global}
-use Rattle.java_resolve.specs.declared.Refusal.{Refusal}
-use Rattle.java_resolve.specs.declared.tables.Bound.{Bound}
-use Rattle.java_resolve.specs.declared.exprs.Here.{Here}
+use Rattle.name_rules.specs.declared.Refusal.{Refusal}
+use Rattle.name_rules.specs.declared.parts.Bound.{Bound}
+use Rattle.name_rules.specs.declared.parts.Here.{Here}
 use Rattle.java_resolve.specs.Tables.{Table}
 use Rattle.java_resolve.specs.Answers.{Gives, with}
 use Rattle.java_resolve.specs.Expressions.{ex_last, Receiver, receiver, class_before, called_on, after, walk, walk_all}

@@ -8,7 +8,7 @@ use Rattle.std.proofs.lemmas.Option.{slice_get-map}
 use Rattle.std.proofs.lemmas.Iterator.Adapters.{position_from-zero}
 use Rattle.java_core.proofs.Positions.{passes-position}
 use Rattle.java_core.specs.Formed.{HasNoTwice}
-use Rattle.java_resolve.specs.declared.Refusal.{Refusal}
+use Rattle.name_rules.specs.declared.Refusal.{Refusal}
 use Rattle.java_resolve.specs.Answers.{run}
 use Rattle.java_resolve.proofs.Sees.{Tells, tell, same_some}
 

@@ -5,13 +5,14 @@ use Rattle.std.specs.Str.{bytes_eq}
 use Rattle.java_core.specs.declared.Field.{Field}
 use Rattle.java_core.specs.Programs.{Plain, PlainField, PlainMethod}
 use Rattle.java_core.specs.Classes.{IsSubclass, own_field_of, field_of}
-use Rattle.java_resolve.specs.declared.Refusal.{Refusal}
+use Rattle.name_rules.specs.declared.Refusal.{Refusal}
 use Rattle.java_resolve.specs.declared.tables.Heading.{Heading}
-use Rattle.java_resolve.specs.declared.tables.Bound.{Bound}
+use Rattle.name_rules.specs.declared.parts.Bound.{Bound}
 use Rattle.java_resolve.specs.Answers.{with}
 use Rattle.java_resolve.specs.Names.{number_of}
-use Rattle.java_resolve.specs.Tables.{Table, nearest_field, own_field, own_method, method_met, local_of}
-use Rattle.java_resolve.specs.Meanings.{class_named, is_bound, bound_names, IsStaticMethodOf, IsMet}
+use Rattle.java_resolve.specs.Tables.{Table, nearest_field, own_field, own_method, method_met}
+use Rattle.name_rules.specs.Meanings.{local_of}
+use Rattle.name_rules.specs.Meanings.{class_named, is_bound, bound_names, IsStaticMethodOf, IsMet}
 
 -- a field as a table and as an outline have it
 pub record SameField (x : Field) (k : PlainField) : Type 0 where

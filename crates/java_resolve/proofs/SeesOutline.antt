@@ -24,8 +24,8 @@ use Rattle.java_resolve.specs.Tables.{Table, parent_in, or_above, nearest_in, ne
 use Rattle.java_resolve.specs.Members.{Members}
 use Rattle.java_resolve.specs.Resolved.{parents_of}
 use Rattle.java_resolve.specs.Resolved as resolved
-use Rattle.java_resolve.specs.Outline.{MethodAt, fields_in, methods_in, types_in, method_outline, outline}
-use Rattle.java_resolve.specs.Meanings.{IsStaticMethodOf, IsMet}
+use Rattle.name_rules.specs.Outline.{MethodAt, fields_in, methods_in, types_in, method_outline, outline}
+use Rattle.name_rules.specs.Meanings.{IsStaticMethodOf, IsMet}
 use Rattle.java_resolve.proofs.Sees.{Sees, StandsField, StandsMethod, OwnMethod, MetMethod}
 use Rattle.java_resolve.proofs.Runs.{stands-within, map-stands, position-from, none-passes}
 use Rattle.java_resolve.proofs.KnownTypes.{AreKnown}

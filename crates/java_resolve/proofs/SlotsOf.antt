@@ -3,8 +3,8 @@ use Rattle.std.proofs.Common.{◌≡◌, ℕ, zero, suc, ◌<◌, ◌≤◌, ⊎
 use Rattle.std.specs.Prelude.{slice_get}
 use Rattle.java_core.specs.Programs.{PlainSlot}
 use Rattle.java_resolve.specs.declared.tables.Heading.{Heading}
-use Rattle.java_resolve.specs.Outline.{MethodAt, is_static, method_outline}
-use Rattle.java_resolve.specs.Resolves.{IsOfSlot}
+use Rattle.name_rules.specs.Outline.{MethodAt, is_static, method_outline}
+use Rattle.name_rules.specs.Resolves.{IsOfSlot}
 use Rattle.java_resolve.proofs.Sees.{same_some}
 use Rattle.java_resolve.proofs.Runs.{push-cases, stands-front, stands-within, middle-stands}
 

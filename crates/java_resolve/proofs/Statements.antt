@@ -12,20 +12,22 @@ use Rattle.java_core.specs.declared.Ty.{Ty}
 use Rattle.java_core.specs.Trees.{at_place, Ex, St, break, continue, Sts, no_st, st_then, Arms, otherwise, arm}
 use Rattle.java_core.specs.Programs.{Plain, PlainLocal, PlainMethod}
 use Rattle.java_core.specs.Formed.{variables_of, numbers, numbers_if, numbers_target, numbers_st, numbers_sts, numbers_arms}
-use Rattle.java_resolve.specs.declared.Refusal.{Refusal}
-use Rattle.java_resolve.specs.declared.Refusal.TheVariants.{Twice, TwoKinds}
-use Rattle.java_resolve.specs.declared.tables.Bound.{Bound}
-use Rattle.java_resolve.specs.declared.exprs.Here.{Here}
+use Rattle.name_rules.specs.declared.Refusal.{Refusal}
+use Rattle.name_rules.specs.declared.Refusal.TheVariants.{Twice, TwoKinds}
+use Rattle.name_rules.specs.declared.parts.Bound.{Bound}
+use Rattle.name_rules.specs.declared.parts.Here.{Here}
 use Rattle.java_resolve.specs.Answers.{unless}
 use Rattle.java_resolve.specs.Names.{names_type, type_of}
-use Rattle.java_resolve.specs.Tables.{Table, local_of}
+use Rattle.java_resolve.specs.Tables.{Table}
+use Rattle.name_rules.specs.Meanings.{local_of}
 use Rattle.java_resolve.specs.Expressions.{walk}
-use Rattle.java_resolve.specs.Statements.{State, target, st_last, arm_last, ending, in_loop, bound, with_local, walk_expr, walk_value, declared, walk_local, walk_st, walk_sts, walk_arms, walk_else, walk_optional}
-use Rattle.java_resolve.specs.Outline.{is_type_name, is_known}
-use Rattle.java_resolve.specs.Meanings.{type_names, Means, is_bound, bound_names}
+use Rattle.java_resolve.specs.Statements.{State, st_last, arm_last, ending, in_loop, with_local, walk_expr, walk_value, declared, walk_local, walk_st, walk_sts, walk_arms, walk_else, walk_optional}
+use Rattle.name_rules.specs.Resolves.{target, bound}
+use Rattle.name_rules.specs.Outline.{is_type_name, is_known}
+use Rattle.name_rules.specs.Meanings.{type_names, Means, is_bound, bound_names}
 use Rattle.java_print.specs.Formed.{is_target, is_act, IsFormedStmt, AreFormedStmts, AreFormedArms, IsFormedElse, IsFormedFirst, IsFormedStep}
-use Rattle.java_resolve.specs.Resolves.{Counts, no_number, next_number, ResolvesTo, r_local, r_static_field, r_own_field, r_class_field, r_field, r_index, ResolvesIf, r_none, r_some, scope_after, scope_after_part, StResolves, r_declare, r_block, r_assign, r_act, r_print, r_choose, r_while, r_for, r_return, r_break, r_continue, StsResolve, r_no_statements, r_and_then, ArmsResolve, r_no_else, r_else, r_arm, PartResolves, r_absent, r_present, declares, declares_all, declares_arms}
-use Rattle.java_resolve.specs.Conditions.{FaultIn, FaultInValue, in_value, names_after, names_after_part, StFault, no_type_of_local, type_as_local, local_twice, in_first_value, in_block, in_target, in_assigned, in_call, in_printed, in_choice, in_else, in_while_test, in_while, in_first_part, in_for_test, in_last_part, in_for, in_returned, break_outside, continue_outside, StsFault, in_statement, in_rest, ArmsFault, in_test, in_arm, in_more_arms, PartFault, in_part}
+use Rattle.name_rules.specs.Resolves.{Counts, no_number, next_number, ResolvesTo, r_local, r_static_field, r_own_field, r_class_field, r_field, r_index, ResolvesIf, r_none, r_some, scope_after, scope_after_part, StResolves, r_declare, r_block, r_assign, r_act, r_print, r_choose, r_while, r_for, r_return, r_break, r_continue, StsResolve, r_no_statements, r_and_then, ArmsResolve, r_no_else, r_else, r_arm, PartResolves, r_absent, r_present, declares, declares_all, declares_arms}
+use Rattle.name_rules.specs.Conditions.{FaultIn, FaultInValue, in_value, names_after, names_after_part, StFault, no_type_of_local, type_as_local, local_twice, in_first_value, in_block, in_target, in_assigned, in_call, in_printed, in_choice, in_else, in_while_test, in_while, in_first_part, in_for_test, in_last_part, in_for, in_returned, break_outside, continue_outside, StsFault, in_statement, in_rest, ArmsFault, in_test, in_arm, in_more_arms, PartFault, in_part}
 use Rattle.java_resolve.proofs.TypeNames.{type-tells}
 use Rattle.java_resolve.proofs.Sees.{Sees, Tells, tell, turn, bound-local, unbound-local}
 use Rattle.java_resolve.proofs.Expressions.{counts_append, walk-tells}

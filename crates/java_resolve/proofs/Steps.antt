@@ -1,8 +1,8 @@
 -- Steps of the loops over lists.
 use Rattle.std.proofs.Common.{◌≡◌, ℕ, ◌+◌, ◌<◌, ◌≤◌, drop-cons, List, [], ◌∷◌, length, drop, get_or, Result, Ok, refl, sym, ap, ◌∙◌, suc, add-one, subst}
 use Rattle.std.proofs.lemmas.List.{drop_all}
-use Rattle.java_resolve.specs.declared.Refusal.{Refusal}
-use Rattle.java_resolve.specs.declared.Refusal.TheVariants as refusals
+use Rattle.name_rules.specs.declared.Refusal.{Refusal}
+use Rattle.name_rules.specs.declared.Refusal.TheVariants as refusals
 use Rattle.java_resolve.specs.Answers.{with, run, IsRefused}
 
 pub next_at : {A : Type 0} (list : List A) (n : ℕ) (s : A) → n < length list → s ≡ get_or list n s → drop n list ≡ s ∷ drop (n + 1) list

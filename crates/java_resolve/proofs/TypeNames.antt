@@ -8,12 +8,12 @@ use Rattle.java_tree.specs.declared.TypeBase.TheVariants as bases
 use Rattle.java_core.specs.declared.Ty.{Ty}
 use Rattle.java_core.specs.declared.TyBase.{TyBase}
 use Rattle.java_core.specs.Programs.{Plain}
-use Rattle.java_resolve.specs.declared.Refusal.TheVariants.{Unknown}
+use Rattle.name_rules.specs.declared.Refusal.TheVariants.{Unknown}
 use Rattle.java_resolve.specs.Known.{Known}
 use Rattle.java_resolve.specs.Names.{number_of, asked, or_unknown, base_of, type_of}
-use Rattle.java_resolve.specs.Outline.{is_text_type, base_meant, type_meant}
-use Rattle.java_resolve.specs.Meanings.{type_names, class_named, Means, MeansBase, an_int, a_boolean, a_char, a_text, a_class}
-use Rattle.java_resolve.specs.Conditions.{IsUnknownType, no_such_type}
+use Rattle.name_rules.specs.Outline.{is_text_type, base_meant, type_meant}
+use Rattle.name_rules.specs.Meanings.{type_names, class_named, Means, MeansBase, an_int, a_boolean, a_char, a_text, a_class}
+use Rattle.name_rules.specs.Conditions.{IsUnknownType, no_such_type}
 use Rattle.java_resolve.proofs.Sees.{Tells, tell}
 
 module _ (known : List Known) (O : Plain) (types : (n : List ℕ) → number_of known n ≡ class_named O n) where

@@ -14,7 +14,7 @@ use Rattle.std.proofs.lemmas.List.{map-append}
 use Rattle.std.proofs.Math.Numerals.{add-one}
 use Rattle.indexmap.specs.IndexMap.{insert_entry}
 use Rattle.kaba_base.specs.declared.Place.{Place}
-use Rattle.java_resolve.specs.declared.Refusal.TheVariants.{Twice}
+use Rattle.name_rules.specs.declared.Refusal.TheVariants.{Twice}
 use Rattle.java_resolve.specs.Known.{known_seen}
 use Rattle.java_resolve.specs.Names.{is_apart, number_from, number_of}
 use Rattle.java_resolve.specs.Classes.{know_named}

@@ -9,11 +9,11 @@ use Rattle.java_resolve.specs.Classes.{known_of, classes_of, above_of, loops_of}
 use Rattle.java_resolve.specs.Members.{members_of, clashes_of, main_of}
 use Rattle.java_resolve.specs.Resolved.{with_bodies, resolved}
 use Rattle.java_resolve.specs.Resolved as resolved_by
-use Rattle.java_resolve.specs.Outline.{fields_in, outline}
+use Rattle.name_rules.specs.Outline.{fields_in, outline}
 use Rattle.java_print.specs.Formed.{IsFormedTree}
-use Rattle.java_resolve.specs.Resolves.{Resolves}
-use Rattle.java_resolve.specs.Conditions.{ConditionAt}
-use Rattle.java_resolve.specs.Causes.{HasNoCondition}
+use Rattle.name_rules.specs.Resolves.{Resolves}
+use Rattle.name_rules.specs.Conditions.{ConditionAt}
+use Rattle.name_rules.specs.Causes.{HasNoCondition}
 use Rattle.java_resolve.proofs.Sees.{Tells, tell}
 use Rattle.java_resolve.proofs.KnownTypes.{AreKnown, known-tells}
 use Rattle.java_resolve.proofs.KnownClasses.{AreClasses, classes-tells, classes-outline}

@@ -9,9 +9,9 @@ use Rattle.java_tree.specs.declared.Modifier.{Modifier}
 use Rattle.java_tree.specs.declared.TypeName.{TypeName}
 use Rattle.java_tree.specs.declared.TypeBase.TheVariants as bases
 use Rattle.java_tree.specs.Syntax.{IntLit, ThisRef, NameRef, Statement, LocalOf, BlockOf, AssignOf, PrintOf, BreakOf, Statements, no_statements, and_then, HeadTree, MemberTree, FieldTree, MethodTree, DeclTree, ClassTree}
-use Rattle.java_resolve.specs.declared.Form.TheVariants as forms
-use Rattle.java_resolve.specs.declared.Refusal.{Refusal}
-use Rattle.java_resolve.specs.declared.Refusal.TheVariants.{Unknown, Twice, Loop, Overload, TwoKinds, PrivateReused, NoMain, NotInProfile}
+use Rattle.name_rules.specs.declared.Form.TheVariants as forms
+use Rattle.name_rules.specs.declared.Refusal.{Refusal}
+use Rattle.name_rules.specs.declared.Refusal.TheVariants.{Unknown, Twice, Loop, Overload, TwoKinds, PrivateReused, NoMain, NotInProfile}
 use Rattle.java_resolve.specs.Tables.{nearest_field}
 use Rattle.java_resolve.specs.Expressions.{name_meaning}
 use Rattle.java_resolve.specs.Resolved.{resolved}

@@ -1,7 +1,7 @@
 -- What a call answers: what it was to give, or the refusal that it was to give, or that memory is short.
 use Rattle.std.specs.Prelude.{◌≡◌, List, [], ◌∷◌, Option, Some, None, Result, Ok, Err}
-use Rattle.java_resolve.specs.declared.Refusal.{Refusal}
-use Rattle.java_resolve.specs.declared.Refusal.TheVariants as refusals
+use Rattle.name_rules.specs.declared.Refusal.{Refusal}
+use Rattle.name_rules.specs.declared.Refusal.TheVariants as refusals
 
 -- what follows where there is no fault
 abbrev pub with : {A B : Type 0} → Result A Refusal → (A → Result B Refusal) → Result B Refusal

@@ -10,12 +10,12 @@ use Rattle.java_tree.specs.declared.Modifier.{Modifier}
 use Rattle.java_tree.specs.Syntax.{DeclTree, ClassTree, InterfaceTree}
 use Rattle.java_core.specs.Trees.{at_place}
 use Rattle.java_core.specs.Programs.{PlainClass}
-use Rattle.java_resolve.specs.declared.Form.TheVariants as forms
-use Rattle.java_resolve.specs.declared.Refusal.{Refusal}
-use Rattle.java_resolve.specs.declared.Refusal.TheVariants.{Twice, TwoKinds, Loop, NotInProfile}
+use Rattle.name_rules.specs.declared.Form.TheVariants as forms
+use Rattle.name_rules.specs.declared.Refusal.{Refusal}
+use Rattle.name_rules.specs.declared.Refusal.TheVariants.{Twice, TwoKinds, Loop, NotInProfile}
 use Rattle.java_resolve.specs.Known.{Known}
-use Rattle.java_resolve.specs.declared.flags.Kind.{Kind}
-use Rattle.java_resolve.specs.declared.flags.Kind.TheVariants as kinds
+use Rattle.name_rules.specs.declared.parts.Kind.{Kind}
+use Rattle.name_rules.specs.declared.parts.Kind.TheVariants as kinds
 use Rattle.java_resolve.specs.declared.flags.Flags.{Flags}
 use Rattle.java_resolve.specs.Answers.{with, run}
 use Rattle.java_resolve.specs.Names.{is_apart, number_of, asked}

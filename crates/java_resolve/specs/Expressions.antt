@@ -18,46 +18,20 @@ use Rattle.java_core.specs.declared.BinOp.{BinOp}
 use Rattle.java_core.specs.declared.BinOp.TheVariants as bin
 use Rattle.java_core.specs.declared.Op.TheVariants as op
 use Rattle.java_core.specs.Trees.{at_place, Ex, number, character, text, truth, null, this, local, static_field, own_field, field, index, call, static_call, super_call, create, create_array, cast, instance_of, unary, binary, Exs, no_ex, ex_then, expr_of}
-use Rattle.java_resolve.specs.declared.Form.TheVariants.{ThisInStatic}
-use Rattle.java_resolve.specs.declared.Refusal.{Refusal}
-use Rattle.java_resolve.specs.declared.Refusal.TheVariants.{Unknown, NotInProfile}
+use Rattle.name_rules.specs.declared.Form.TheVariants.{ThisInStatic}
+use Rattle.name_rules.specs.declared.Refusal.{Refusal}
+use Rattle.name_rules.specs.declared.Refusal.TheVariants.{Unknown, NotInProfile}
 use Rattle.java_resolve.specs.declared.tables.Heading.{Heading}
-use Rattle.java_resolve.specs.declared.tables.Bound.{Bound}
-use Rattle.java_resolve.specs.declared.exprs.Here.{Here}
+use Rattle.name_rules.specs.declared.parts.Bound.{Bound}
+use Rattle.name_rules.specs.declared.parts.Here.{Here}
 use Rattle.java_resolve.specs.declared.exprs.Callee.{Callee}
 use Rattle.java_resolve.specs.declared.exprs.Callee.TheVariants as callee
 use Rattle.java_resolve.specs.Answers.{with}
 use Rattle.java_resolve.specs.Names.{asked, type_of}
 use Rattle.java_resolve.specs.Tables as table
-use Rattle.java_resolve.specs.Tables.{Table, nearest_field, own_method, method_met, local_of}
-
--- the operator of a mark; a mark that is none does not come from a text
-abbrev pub un_op : Mark → UnOp
-un_op marks.Plus = un.Plus
-un_op marks.Minus = un.Minus
-un_op marks.Flip = un.Flip
-un_op _ = un.Not
-
-abbrev pub bin_op : Mark → BinOp
-bin_op marks.Plus = bin.Int op.Plus
-bin_op marks.Minus = bin.Int op.Minus
-bin_op marks.Star = bin.Int op.Times
-bin_op marks.Slash = bin.Int op.Divide
-bin_op marks.Percent = bin.Int op.Remainder
-bin_op marks.ShiftLeft = bin.Int op.ShiftLeft
-bin_op marks.ShiftRight = bin.Int op.ShiftRight
-bin_op marks.ShiftRightLogical = bin.Int op.ShiftRightUnsigned
-bin_op marks.And = bin.Int op.And
-bin_op marks.Or = bin.Int op.Or
-bin_op marks.Xor = bin.Int op.Xor
-bin_op marks.Equal = bin.Same
-bin_op marks.NotEqual = bin.Differs
-bin_op marks.Less = bin.Less
-bin_op marks.Greater = bin.Greater
-bin_op marks.AtMost = bin.AtMost
-bin_op marks.AtLeast = bin.AtLeast
-bin_op marks.Both = bin.Both
-bin_op _ = bin.Either
+use Rattle.java_resolve.specs.Tables.{Table, nearest_field, own_method, method_met}
+use Rattle.name_rules.specs.Meanings.{local_of}
+use Rattle.name_rules.specs.Resolves.{un_op, bin_op}
 
 -- the type of a cast: String is no such type
 abbrev pub cast_base : Table → TypeBase → Place → Result TyBase Refusal

@@ -7,10 +7,4 @@ pub mod Statements
 pub mod Classes
 pub mod Members
 pub mod Resolved
-pub mod Outline
-pub mod Meanings
-pub mod Asked
-pub mod Resolves
-pub mod Conditions
-pub mod Causes
 pub mod Unique

@@ -12,11 +12,11 @@ use Rattle.java_core.specs.declared.Local.{Local}
 use Rattle.java_core.specs.Types.{is_base}
 use Rattle.java_core.specs.Trees.{at_place}
 use Rattle.java_core.specs.Programs.{PlainSlot, slot_seen}
-use Rattle.java_resolve.specs.declared.Form.TheVariants as forms
-use Rattle.java_resolve.specs.declared.Refusal.{Refusal}
-use Rattle.java_resolve.specs.declared.Refusal.TheVariants.{Twice, TwoKinds, Overload, PrivateReused, NoMain, NotInProfile}
+use Rattle.name_rules.specs.declared.Form.TheVariants as forms
+use Rattle.name_rules.specs.declared.Refusal.{Refusal}
+use Rattle.name_rules.specs.declared.Refusal.TheVariants.{Twice, TwoKinds, Overload, PrivateReused, NoMain, NotInProfile}
 use Rattle.java_resolve.specs.Known.{Known}
-use Rattle.java_resolve.specs.declared.flags.Kind.TheVariants as kinds
+use Rattle.name_rules.specs.declared.parts.Kind.TheVariants as kinds
 use Rattle.java_resolve.specs.declared.flags.Flags.{Flags}
 use Rattle.java_resolve.specs.declared.tables.Heading.{Heading}
 use Rattle.java_resolve.specs.declared.members.Draft.{Draft}

@@ -8,8 +8,8 @@ use Rattle.java_tree.specs.declared.TypeBase.TheVariants as bases
 use Rattle.java_core.specs.declared.Ty.{Ty}
 use Rattle.java_core.specs.declared.TyBase.{TyBase}
 use Rattle.java_core.specs.declared.TyBase.TheVariants as ty
-use Rattle.java_resolve.specs.declared.Refusal.{Refusal}
-use Rattle.java_resolve.specs.declared.Refusal.TheVariants.{Unknown}
+use Rattle.name_rules.specs.declared.Refusal.{Refusal}
+use Rattle.name_rules.specs.declared.Refusal.TheVariants.{Unknown}
 use Rattle.java_resolve.specs.Known.{Known}
 use Rattle.java_resolve.specs.Answers.{with}
 

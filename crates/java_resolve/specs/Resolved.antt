@@ -6,14 +6,14 @@ use Rattle.java_core.specs.declared.Ty.{Ty}
 use Rattle.java_core.specs.declared.Local.{Local}
 use Rattle.java_core.specs.Trees.{at_place, Sts, no_st}
 use Rattle.java_core.specs.Programs.{PlainClass, PlainLocal, PlainMethod, Plain, local_seen, field_seen, method_seen}
-use Rattle.java_resolve.specs.declared.Refusal.{Refusal}
+use Rattle.name_rules.specs.declared.Refusal.{Refusal}
 use Rattle.java_resolve.specs.Known.{Known}
-use Rattle.java_resolve.specs.declared.flags.Kind.{Kind}
-use Rattle.java_resolve.specs.declared.flags.Kind.TheVariants as kinds
+use Rattle.name_rules.specs.declared.parts.Kind.{Kind}
+use Rattle.name_rules.specs.declared.parts.Kind.TheVariants as kinds
 use Rattle.java_resolve.specs.declared.flags.Flags.{Flags}
 use Rattle.java_resolve.specs.declared.tables.Heading.{Heading}
-use Rattle.java_resolve.specs.declared.tables.Bound.{Bound}
-use Rattle.java_resolve.specs.declared.exprs.Here.{Here}
+use Rattle.name_rules.specs.declared.parts.Bound.{Bound}
+use Rattle.name_rules.specs.declared.parts.Here.{Here}
 use Rattle.java_resolve.specs.declared.bodies.Written.{Written}
 use Rattle.java_resolve.specs.Answers.{with, run}
 use Rattle.java_resolve.specs.Tables.{Table}

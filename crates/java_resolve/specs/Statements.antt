@@ -7,15 +7,17 @@ use Rattle.java_tree.specs.Syntax as tree
 use Rattle.java_core.specs.declared.Ty.{Ty}
 use Rattle.java_core.specs.Trees.{at_place, Ex, local, static_field, own_field, field, index, Target, to_local, to_static, to_own, to_field, to_element, no_target, St, declare, block, assign, act, print, choose, loop, return, break, continue, Sts, no_st, st_then, Arms, otherwise, arm}
 use Rattle.java_core.specs.Programs.{PlainLocal, local_seen}
-use Rattle.java_resolve.specs.declared.Form.TheVariants.{BreakOutside}
-use Rattle.java_resolve.specs.declared.Refusal.{Refusal}
-use Rattle.java_resolve.specs.declared.Refusal.TheVariants.{TwoKinds, Twice, NotInProfile}
-use Rattle.java_resolve.specs.declared.tables.Bound.{Bound}
-use Rattle.java_resolve.specs.declared.exprs.Here.{Here}
+use Rattle.name_rules.specs.declared.Form.TheVariants.{BreakOutside}
+use Rattle.name_rules.specs.declared.Refusal.{Refusal}
+use Rattle.name_rules.specs.declared.Refusal.TheVariants.{TwoKinds, Twice, NotInProfile}
+use Rattle.name_rules.specs.declared.parts.Bound.{Bound}
+use Rattle.name_rules.specs.declared.parts.Here.{Here}
+use Rattle.name_rules.specs.Resolves.{target, bound}
 use Rattle.java_resolve.specs.declared.stmts.Body.{Body}
 use Rattle.java_resolve.specs.Answers.{with, unless}
 use Rattle.java_resolve.specs.Names.{type_of, names_type}
-use Rattle.java_resolve.specs.Tables.{Table, local_of}
+use Rattle.java_resolve.specs.Tables.{Table}
+use Rattle.name_rules.specs.Meanings.{local_of}
 use Rattle.java_resolve.specs.Expressions.{walk}
 
 -- the locals of a method so far, how many parameters and locals there are, and the next free number
@@ -29,15 +31,6 @@ state_of b = record { locals = map (local_seen at_place) b.locals.items; count =
 
 abbrev pub at_number : State → ℕ → State
 at_number s k = record { locals = s.locals; count = s.count; number = k }
-
--- what an assignment to an expression changes
-abbrev pub target : Ex → Target
-target (local t n) = to_local t n
-target (static_field t f) = to_static t f
-target (own_field t f) = to_own t f
-target (field t e n) = to_field t e n
-target (index t e i) = to_element t e i
-target _ = no_target
 
 -- why no parameter and no local can have this name
 abbrev pub clash : Table → List Bound → List ℕ → Place → Option Refusal
@@ -67,9 +60,6 @@ in_loop false p st scope s = Err (NotInProfile BreakOutside p)
 -- a statement with what follows of its parts
 abbrev pub kept : {A : Type 0} → Result (A × State) Refusal → List Bound → (A → St) → Stepped
 kept w scope f = with w (λ x. Ok (f x.0, scope, x.1))
-
-abbrev pub bound : List Bound → List ℕ → ℕ → List Bound
-bound scope n k = scope ++ record { name = n; number = k } ∷ []
 
 abbrev pub with_local : State → List ℕ → Ty → Place → State
 with_local s n u p = record { locals = s.locals ++ record { name = n; ty = u; tag = at_place p } ∷ []; count = suc s.count; number = s.number }

@@ -6,7 +6,7 @@ use Rattle.java_core.specs.declared.Field.{Field}
 use Rattle.java_resolve.specs.Known.{Known}
 use Rattle.java_resolve.specs.declared.tables.Heading.{Heading}
 use Rattle.java_resolve.specs.declared.tables.Tables.{Tables}
-use Rattle.java_resolve.specs.declared.tables.Bound.{Bound}
+use Rattle.name_rules.specs.declared.parts.Bound.{Bound}
 
 -- the declarations: types, superclasses, which types are at or above which, fields and methods
 pub record Table : Type 0 where
@@ -77,8 +77,3 @@ met_from rows k c n (m ∷ ms) = if is_above rows c m.owner && bytes_eq m.name n
 
 unfoldable pub method_met : Table → ℕ → List ℕ → Option ℕ
 method_met t c n = met_from t.above 0 c n t.headings
-
--- the number of the local in scope under a name
-abbrev pub local_of : List ℕ → List Bound → Option ℕ
-local_of n [] = None
-local_of n (b ∷ bs) = if bytes_eq b.name n then Some b.number else local_of n bs

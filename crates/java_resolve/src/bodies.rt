@@ -10,7 +10,7 @@ ghost use Rattle.java_core.specs.Trees.{at_place, Sts};
 ghost use Rattle.java_core.specs.declared.Method.{Method};
 ghost use Rattle.java_core.specs.declared.Local.{Local};
 ghost use Rattle.java_core.specs.declared.RStmt.{RStmt};
-ghost use Rattle.java_resolve.specs.declared.tables.Bound.{Bound};
+ghost use Rattle.name_rules.specs.declared.parts.Bound.{Bound};
 ghost use Rattle.java_core.specs.Programs.{PlainLocal, PlainMethod, local_seen, method_seen};
 ghost use Rattle.java_resolve.specs.Answers.{Gives, run};
 ghost use Rattle.java_resolve.specs.Tables.{table_of};
@@ -18,14 +18,14 @@ ghost use Rattle.java_resolve.specs.Resolved.{Methods, methods_seen, bounds_from
 
 use crate::Refusal;
 use crate::classes::after;
-use crate::exprs::Here;
-use crate::flags::{Kind, flags_of};
+use crate::flags::flags_of;
 use crate::members::{number_at, params_of, result_of};
 use crate::stmts::{Body, statements};
-use crate::tables::{Bound, Heading, Tables};
+use crate::tables::{Heading, Tables};
 use java_core::{Local, Method, RStmt};
 use java_tree::{Decl, Head, Member, Stmt};
 use kaba_base::ClassId;
+use name_rules::{Bound, Here, Kind};
 use std::alloc::Global;
 
 /// The methods so far, and the next free number of a creation, a cast or an `instanceof`.

@@ -13,12 +13,13 @@ ghost use Rattle.java_resolve.specs.Answers.{Gives};
 ghost use Rattle.java_resolve.specs.Classes.{object_class, known_of, parent_tree, has_id, face, faces_of, class_tree, classes_of, any_above, above_by, row_of, round, above_of, loops_of};
 
 use crate::Refusal;
-use crate::flags::{Kind, flags_of};
+use crate::flags::flags_of;
 use crate::names::{Types, asked};
 use crate::tables::{Row, are_same, is_above};
 use java_core::Class;
 use java_tree::{Decl, Id};
 use kaba_base::{ClassId, Name, Place};
+use name_rules::Kind;
 use std::alloc::{AllocError, Global};
 
 /// The names of all types, `Object` first; `Twice` where one stands again.

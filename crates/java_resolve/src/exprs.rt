@@ -11,24 +11,19 @@ ghost use Rattle.std.specs.declared.vec.Vec.{Vec};
 ghost use Rattle.std.specs.declared.alloc.Global.{Global};
 ghost use Rattle.java_resolve.specs.Answers.{Gives};
 ghost use Rattle.java_resolve.specs.Tables.{table_of};
-ghost use Rattle.java_resolve.specs.Expressions.{un_op, bin_op, cast_type, cast_base, name_meaning, is_variable, class_before, static_field_of, static_method_of, call_meaning, Receiver, receiver, receiver_of, called_on, after, walk, walk_all};
+ghost use Rattle.java_resolve.specs.Expressions.{cast_type, cast_base, name_meaning, is_variable, class_before, static_field_of, static_method_of, call_meaning, Receiver, receiver, receiver_of, called_on, after, walk, walk_all};
+ghost use Rattle.name_rules.specs.Resolves.{un_op, bin_op};
 ghost use Rattle.java_resolve.specs.Expressions as spec;
 
 use crate::names::{asked, type_of};
-use crate::tables::{Bound, Tables, local_of, method_met, nearest_field, own_field, own_method};
+use crate::tables::{Tables, local_of, method_met, nearest_field, own_field, own_method};
 use crate::{Form, Refusal, make};
 use java_core::{BinOp, Op, RExpr, Ty, TyBase, UnOp};
 use java_lex::Mark;
 use java_tree::{Expr, Id, TypeBase, TypeName};
 use kaba_base::{ClassId, MemberId, Name, Place};
+use name_rules::{Bound, Here};
 use std::alloc::Global;
-
-/// Where a body stands: its class, and whether its method is static.
-#[derive(Clone, Copy)]
-pub struct Here {
-    pub owner: u32,
-    pub is_static: bool,
-}
 
 /// What a call is on: an object, or nothing where it is of a static method.
 #[derive(Drop)]

@@ -8,17 +8,7 @@ ghost use Rattle.java_resolve.specs.Classes.{no_static, is_head, is_field, is_mi
 use crate::{Form, Refusal};
 use java_tree::Modifier;
 use kaba_base::Keyword;
-
-/// What modifiers stand before.
-#[derive(Clone, Copy)]
-pub enum Kind {
-    Class,
-    Interface,
-    Field,
-    Method,
-    /// A method of an interface.
-    Head,
-}
+use name_rules::Kind;
 
 /// Which modifiers stand before something.
 #[derive(Clone, Copy)]
@@ -31,42 +21,40 @@ pub struct Flags {
     pub is_final: bool,
 }
 
-impl Kind {
-    /// Whether `static` cannot stand there.
-    fn no_static(self) -> bool
-        ensures { result ≡ no_static self }
-    {
-        match self {
-            Kind::Class => true,
-            Kind::Interface => true,
-            Kind::Head => true,
-            Kind::Field => false,
-            Kind::Method => false,
-        }
+/// Whether `static` cannot stand there.
+fn no_static(kind: Kind) -> bool
+    ensures { result ≡ no_static kind }
+{
+    match kind {
+        Kind::Class => true,
+        Kind::Interface => true,
+        Kind::Head => true,
+        Kind::Field => false,
+        Kind::Method => false,
     }
+}
 
-    fn is_head(self) -> bool
-        ensures { result ≡ is_head self }
-    {
-        match self {
-            Kind::Head => true,
-            Kind::Class => false,
-            Kind::Interface => false,
-            Kind::Field => false,
-            Kind::Method => false,
-        }
+fn is_head(kind: Kind) -> bool
+    ensures { result ≡ is_head kind }
+{
+    match kind {
+        Kind::Head => true,
+        Kind::Class => false,
+        Kind::Interface => false,
+        Kind::Field => false,
+        Kind::Method => false,
     }
+}
 
-    fn is_field(self) -> bool
-        ensures { result ≡ is_field self }
-    {
-        match self {
-            Kind::Field => true,
-            Kind::Class => false,
-            Kind::Interface => false,
-            Kind::Head => false,
-            Kind::Method => false,
-        }
+fn is_field(kind: Kind) -> bool
+    ensures { result ≡ is_field kind }
+{
+    match kind {
+        Kind::Field => true,
+        Kind::Class => false,
+        Kind::Interface => false,
+        Kind::Head => false,
+        Kind::Method => false,
     }
 }
 
@@ -74,15 +62,15 @@ impl Kind {
 fn is_misplaced(kind: Kind, flags: Flags, word: Keyword) -> bool
     ensures { result ≡ is_misplaced kind flags word }
 {
-    let head = kind.is_head();
+    let head = is_head(kind);
     match word {
         Keyword::Public => flags.is_public,
         Keyword::Protected => flags.is_protected | head,
         Keyword::Private => flags.is_private | flags.is_abstract | head,
         Keyword::Abstract => {
-            flags.is_abstract | flags.is_private | flags.is_static | kind.is_field()
+            flags.is_abstract | flags.is_private | flags.is_static | is_field(kind)
         }
-        Keyword::Static => flags.is_static | flags.is_abstract | kind.no_static(),
+        Keyword::Static => flags.is_static | flags.is_abstract | no_static(kind),
         Keyword::Final => flags.is_final | head,
         _ => false,
     }

@@ -18,9 +18,9 @@ ghost use Rattle.std.specs.Prelude.{◌≡◌, IfOk, IfErr, map};
 ghost use Rattle.std.specs.Bool.{OnTrue};
 ghost use Rattle.java_print.specs.Formed.{IsFormedTree};
 ghost use Rattle.java_core.specs.Formed.{AreCounted, IsFormed};
-ghost use Rattle.java_resolve.specs.Resolves.{Resolves};
+ghost use Rattle.name_rules.specs.Resolves.{Resolves};
 ghost use Rattle.java_resolve.specs.Unique.{OneProgram};
-ghost use Rattle.java_resolve.specs.Causes.{IsCause, HasNoCondition};
+ghost use Rattle.name_rules.specs.Causes.{IsCause, HasNoCondition};
 ghost use Rattle.java_core.specs.Programs.{Plain, program_of, class_seen};
 ghost use Rattle.java_core.specs.declared.Program.{Program};
 ghost use Rattle.java_resolve.specs.Answers.{Gives};
@@ -32,69 +32,12 @@ use clashes::{clashes_of, main_of};
 use classes::{above_of, classes_of, known_of, loops_of};
 use java_core::{Class, Program};
 use java_tree::{Decl, Tree};
-use kaba_base::{ClassId, MemberId, Name, Place};
+use kaba_base::{ClassId, MemberId};
 use members::{Draft, members_of};
+pub use name_rules::{Form, Refusal};
 use names::Types;
-use std::alloc::{AllocError, AllocFailed, Global};
+use std::alloc::{AllocError, Global};
 use tables::{Row, Tables};
-
-/// What the language leaves out.
-#[derive(Clone, Copy, Debug, PartialEq, Eq)]
-pub enum Form {
-    /// A modifier that stands twice or does not fit.
-    Modifier,
-    /// A body that is missing or not allowed.
-    Body,
-    /// `this`, `super` or an instance member by its simple name in a static method.
-    ThisInStatic,
-    /// `break` or `continue` outside a loop.
-    BreakOutside,
-}
-
-/// Why a tree is no program: the name or form, and the place at which the rule is broken.
-#[derive(Drop)]
-pub enum Refusal {
-    /// No class, variable, static member or method has the name.
-    Unknown(Name, Place),
-    /// The name is there already.
-    Twice(Name, Place),
-    /// The class is its own ancestor.
-    Loop(Name, Place),
-    /// Methods of this name that are not all of one slot, or a static one and another, meet in a class.
-    Overload(Name, Place),
-    /// The name of a type names a variable, or a class stands for an interface or the reverse.
-    TwoKinds(Name, Place),
-    /// A private method's name stands again in an ancestor or a descendant.
-    PrivateReused(Name, Place),
-    /// No class has a `static void main(String[] ..)`.
-    NoMain,
-    /// A form that the language leaves out.
-    NotInProfile(Form, Place),
-    /// Memory is short, or the numbers of a program are used up.
-    Memory,
-}
-
-impl From<AllocError> for Refusal {
-    ghost use Rattle.std.specs.Prelude.{◌≡◌};
-    ghost use Rattle.java_resolve.specs.declared.Refusal.TheVariants.{Memory};
-
-    ghost from_gives = { λ _ refusal. refusal ≡ Memory };
-
-    fn from(_error: AllocError) -> Refusal {
-        Refusal::Memory
-    }
-}
-
-impl<T: Drop> From<AllocFailed<T>> for Refusal {
-    ghost use Rattle.std.specs.Prelude.{◌≡◌};
-    ghost use Rattle.java_resolve.specs.declared.Refusal.TheVariants.{Memory};
-
-    ghost from_gives = { λ _ refusal. refusal ≡ Memory };
-
-    fn from(_error: AllocFailed<T>) -> Refusal {
-        Refusal::Memory
-    }
-}
 
 /// The superclass of each class.
 fn parents_of(alloc: Global, classes: &Vec<Class>) -> Result<Vec<Option<ClassId>>, AllocError>

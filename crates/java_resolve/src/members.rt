@@ -17,13 +17,14 @@ ghost use Rattle.java_resolve.specs.Tables.{field_from, method_from};
 ghost use Rattle.java_resolve.specs.Members.{Members, members_seen, has_local, param, params_of, result_of, same_type, same_result, have_types, slot_from, slotted, is_texts, takes_texts, is_main, add_heading, head_step, is_wrong_body, field_step, member_step, interface_step, decl_step, members_of, no_members};
 
 use crate::classes::after;
-use crate::flags::{Flags, Kind, flags_of};
+use crate::flags::{Flags, flags_of};
 use crate::names::{Types, is_same, is_text, names_type, type_of};
 use crate::tables::Heading;
 use crate::{Form, Refusal};
 use java_core::{Field, Local, Slot, Ty, TyBase};
 use java_tree::{Decl, Head, Member, Param, Stmt, TypeName};
 use kaba_base::{ClassId, MemberId, Name, Place};
+use name_rules::Kind;
 use std::alloc::{AllocError, Global};
 
 /// The members so far.

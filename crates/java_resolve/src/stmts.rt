@@ -11,18 +11,19 @@ ghost use Rattle.java_core.specs.Trees.{at_place, Ex, St, Sts, Arms, no_st, othe
 ghost use Rattle.java_core.specs.declared.RExpr.{RExpr};
 ghost use Rattle.java_core.specs.declared.RStmt.{RStmt};
 ghost use Rattle.java_core.specs.declared.RArm.{RArm};
-ghost use Rattle.java_resolve.specs.declared.tables.Bound.{Bound};
+ghost use Rattle.name_rules.specs.declared.parts.Bound.{Bound};
 ghost use Rattle.java_resolve.specs.Answers.{Gives};
 ghost use Rattle.java_resolve.specs.Tables.{table_of};
 ghost use Rattle.java_resolve.specs.Statements.{State, state_of, kept, ending, clash, walk_expr, walk_value, walk_local, walk_arm, walk_st, walk_sts, walk_arms, walk_else, walk_optional};
 
-use crate::exprs::{Here, expr, next};
+use crate::exprs::{expr, next};
 use crate::names::{names_type, type_of};
-use crate::tables::{Bound, Tables, local_of};
+use crate::tables::{Tables, local_of};
 use crate::{Form, Refusal, make};
 use java_core::{Local, RArm, RExpr, RStmt};
 use java_tree::{Arm, Expr, Stmt, TypeName};
 use kaba_base::{Name, Place};
+use name_rules::{Bound, Here};
 use std::alloc::{AllocError, Global};
 
 /// The locals of a method so far, how many parameters and locals there are, and the next free number

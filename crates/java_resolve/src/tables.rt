@@ -3,11 +3,13 @@
 
 ghost use Rattle.std.specs.Prelude.{◌≡◌, slice_get};
 ghost use Rattle.std.specs.Bool.{OnTrue};
-ghost use Rattle.java_resolve.specs.Tables.{table_of, bit_in, is_above, parent_of, own_field, nearest_field, own_method, method_met, local_of};
+ghost use Rattle.java_resolve.specs.Tables.{table_of, bit_in, is_above, parent_of, own_field, nearest_field, own_method, method_met};
+ghost use Rattle.name_rules.specs.Meanings.{local_of};
 
 use crate::names::{Types, is_same};
 use java_core::Field;
 use kaba_base::{ClassId, Name, Place};
+use name_rules::Bound;
 use std::marker::Model;
 
 /// A method as the bodies and the other methods know it.
@@ -33,13 +35,6 @@ pub struct Tables {
     pub above: Vec<Row>,
     pub fields: Vec<Field>,
     pub headings: Vec<Heading>,
-}
-
-/// A parameter or local in scope.
-#[derive(Drop)]
-pub struct Bound {
-    pub name: Name,
-    pub number: u32,
 }
 
 /// A row of bits.

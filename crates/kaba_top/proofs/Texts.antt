@@ -13,10 +13,10 @@ use Rattle.java_core.specs.declared.Program.{Program}
 use Rattle.java_core.specs.Trees.{no_place}
 use Rattle.java_core.specs.Programs.{program_of}
 use Rattle.java_core.specs.Typing.{IsTyped}
-use Rattle.java_resolve.specs.declared.Refusal.{Refusal}
-use Rattle.java_resolve.specs.declared.Refusal.TheVariants as naming
-use Rattle.java_resolve.specs.Conditions.{ConditionAt}
-use Rattle.java_resolve.specs.Causes.{IsCause}
+use Rattle.name_rules.specs.declared.Refusal.{Refusal}
+use Rattle.name_rules.specs.declared.Refusal.TheVariants as naming
+use Rattle.name_rules.specs.Conditions.{ConditionAt}
+use Rattle.name_rules.specs.Causes.{IsCause}
 use Rattle.java_check.specs.declared.Kind.{Kind}
 use Rattle.java_check.specs.declared.CheckFault.TheVariants.{IllTyped}
 use Rattle.java_check.specs.Fails.{IsRefused}

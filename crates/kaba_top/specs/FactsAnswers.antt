@@ -10,9 +10,9 @@ use Rattle.fact_model.specs.declared.sets.Table.{Table}
 use Rattle.fact_model.specs.declared.sets.Lattice.{Lattice}
 use Rattle.fact_model.specs.Entries.{IsTable}
 use Rattle.fact_model.specs.Concepts.{AreMoreThan, IsLatticeOf}
-use Rattle.flow_facts.specs.declared.top.Counted.{Counted}
-use Rattle.flow_facts.specs.declared.top.Counted.TheVariants as counted
-use Rattle.flow_facts.specs.Facts.{first_interface, too_many}
+use Rattle.flow_rules.specs.declared.faults.Counted.{Counted}
+use Rattle.flow_rules.specs.declared.faults.Counted.TheVariants as counted
+use Rattle.flow_rules.specs.Facts.{first_interface, too_many}
 use Rattle.program_facts.specs.Known.{AreProgramFacts}
 use Rattle.lattice_view.specs.Table.{table_text}
 use Rattle.lattice_view.specs.Text.{lattice_text}

@@ -15,13 +15,13 @@ use Rattle.java_core.specs.Trees.{at_place, no_place}
 use Rattle.java_core.specs.Programs.{program_of}
 use Rattle.java_core.specs.Formed.{IsFormed}
 use Rattle.java_core.specs.Typing.{IsTyped}
-use Rattle.java_resolve.specs.declared.Form.{Form}
-use Rattle.java_resolve.specs.declared.Form.TheVariants as forms
-use Rattle.java_resolve.specs.declared.Refusal.{Refusal}
-use Rattle.java_resolve.specs.declared.Refusal.TheVariants as naming
-use Rattle.java_resolve.specs.Conditions.{ConditionAt}
-use Rattle.java_resolve.specs.Causes.{HasNoCondition}
-use Rattle.java_resolve.specs.Resolves.{Resolves}
+use Rattle.name_rules.specs.declared.Form.{Form}
+use Rattle.name_rules.specs.declared.Form.TheVariants as forms
+use Rattle.name_rules.specs.declared.Refusal.{Refusal}
+use Rattle.name_rules.specs.declared.Refusal.TheVariants as naming
+use Rattle.name_rules.specs.Conditions.{ConditionAt}
+use Rattle.name_rules.specs.Causes.{HasNoCondition}
+use Rattle.name_rules.specs.Resolves.{Resolves}
 use Rattle.java_check.specs.declared.Kind.{Kind}
 use Rattle.java_check.specs.declared.Kind.TheVariants as kinds
 use Rattle.java_check.specs.Fails.{FailsIn}

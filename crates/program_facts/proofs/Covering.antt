@@ -5,7 +5,7 @@ use Rattle.java_core.specs.Programs.{Plain, program_of}
 use Rattle.java_core.specs.Formed.{IsFormed}
 use Rattle.java_core.specs.Typing.{IsTyped}
 use Rattle.fact_model.specs.declared.facts.Facts.{Facts}
-use Rattle.flow_facts.specs.Facts.{IsFactsOf}
+use Rattle.flow_rules.specs.Facts.{IsFactsOf}
 use Rattle.run_cover.specs.Covers.{solved, CoversProgram}
 use Rattle.run_cover.specs.Untagged.{HaveSlots}
 use Rattle.run_cover.proofs.Solved.{solved_closed, solved_covers}

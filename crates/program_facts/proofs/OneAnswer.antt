@@ -4,9 +4,9 @@ use Rattle.std.specs.Prelude.{◌≢◌}
 use Rattle.std.proofs.lemmas.Option.{same_Some}
 use Rattle.java_core.specs.Programs.{Plain}
 use Rattle.fact_model.specs.declared.facts.Facts.{Facts}
-use Rattle.flow_facts.specs.declared.top.FactsFault.{FactsFault}
-use Rattle.flow_facts.specs.declared.top.FactsFault.TheVariants as fault
-use Rattle.flow_facts.specs.Facts.{IsRefused, IsSameSet, IsWithin, TooMany}
+use Rattle.flow_rules.specs.declared.faults.FactsFault.{FactsFault}
+use Rattle.flow_rules.specs.declared.faults.FactsFault.TheVariants as fault
+use Rattle.flow_rules.specs.Facts.{IsRefused, IsSameSet, IsWithin, TooMany}
 use Rattle.program_facts.specs.Known.{AreProgramFacts}
 use Rattle.program_facts.specs.Same.{AreSame}
 

@@ -3,7 +3,7 @@ use Rattle.java_core.specs.Programs.{Plain}
 use Rattle.fact_model.specs.InOrder.{InOrder}
 use Rattle.fact_model.specs.InRange.{InRange}
 use Rattle.fact_model.specs.declared.facts.Facts.{Facts}
-use Rattle.flow_facts.specs.Facts.{AreNamesOf, IsFactsOf, IsWithin}
+use Rattle.flow_rules.specs.Facts.{AreNamesOf, IsFactsOf, IsWithin}
 use Rattle.run_cover.specs.Covers.{CoversProgram}
 use Rattle.program_facts.specs.Solved.{HasCoveringSets}
 

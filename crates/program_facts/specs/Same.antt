@@ -1,7 +1,7 @@
 -- When two answers for a program are the same: the same lists, some of which are read as sets.
 use Rattle.std.specs.Prelude.{◌≡◌, map}
 use Rattle.fact_model.specs.declared.facts.Facts.{Facts}
-use Rattle.flow_facts.specs.Facts.{IsSameSet, body_seen, call_seen, class_seen}
+use Rattle.flow_rules.specs.Facts.{IsSameSet, body_seen, call_seen, class_seen}
 
 pub record AreSame (F G : Facts) : Type 0 where
   pub rows : F.rows.items ≡ G.rows.items

@@ -7,7 +7,7 @@
 ghost use Rattle.std.specs.Prelude.{◌≡◌, ◌≢◌, ◌<◌, ◌↔◌, IfErr, IfOk, IsTrue, length};
 ghost use Rattle.java_core.specs.Trees.{at_place, no_place};
 ghost use Rattle.java_core.specs.Programs.{Plain, program_of};
-ghost use Rattle.flow_facts.specs.Facts.{IsRefused, IsWithin};
+ghost use Rattle.flow_rules.specs.Facts.{IsRefused, IsWithin};
 ghost use Rattle.program_facts.specs.Known.{AreProgramFacts};
 ghost use Rattle.program_facts.specs.Same.{AreSame};
 

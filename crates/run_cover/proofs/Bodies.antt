@@ -16,14 +16,14 @@ use Rattle.java_core.specs.Formed.{IsFormed}
 use Rattle.fact_model.specs.Classes.{parent_of, is_slot, is_body, own_body, finds_within}
 use Rattle.fact_model.specs.Flowing.{point_at as listed_at}
 use Rattle.fact_model.specs.declared.facts.Facts.{Facts}
-use Rattle.flow_facts.specs.declared.items.ColumnItem.{ColumnItem}
-use Rattle.flow_facts.specs.declared.items.ColumnItem.TheVariants as column
-use Rattle.flow_facts.specs.declared.items.PointItem.TheVariants as point
-use Rattle.flow_facts.specs.declared.items.Column.{Column}
-use Rattle.flow_facts.specs.Parts.{parts_of}
-use Rattle.flow_facts.specs.Ordered.{each, when}
-use Rattle.flow_facts.specs.Numbered.{same_column, columns_of, column_number, field_columns, method_columns, form_columns, point_number}
-use Rattle.flow_facts.specs.Facts.{PlainBody, body_seen, body_if, column_body, param_points, column_info, owner_of, slot_in, numbers, IsFactsOf}
+use Rattle.flow_rules.specs.declared.items.ColumnItem.{ColumnItem}
+use Rattle.flow_rules.specs.declared.items.ColumnItem.TheVariants as column
+use Rattle.flow_rules.specs.declared.items.PointItem.TheVariants as point
+use Rattle.flow_rules.specs.declared.items.Column.{Column}
+use Rattle.flow_rules.specs.Parts.{parts_of}
+use Rattle.flow_rules.specs.Ordered.{each, when}
+use Rattle.flow_rules.specs.Numbered.{same_column, columns_of, column_number, field_columns, method_columns, form_columns, point_number}
+use Rattle.flow_rules.specs.Facts.{PlainBody, body_seen, body_if, column_body, param_points, column_info, owner_of, slot_in, numbers, IsFactsOf}
 use Rattle.run_cover.specs.Untagged.{untag_body, untag_method, untagged}
 use Rattle.run_cover.proofs.Kinded.{FindsBody}
 use Rattle.run_cover.proofs.Sites.{one, more, each_has, map_from}

@@ -15,16 +15,16 @@ use Rattle.fact_model.specs.declared.facts.Facts.{Facts}
 use Rattle.fact_model.specs.declared.facts.NewInfo.{NewInfo}
 use Rattle.fact_model.specs.declared.facts.FlowInfo.{FlowInfo}
 use Rattle.fact_model.specs.declared.facts.CallInfo.{CallInfo}
-use Rattle.flow_facts.specs.declared.items.ObjectType.{ObjectType}
-use Rattle.flow_facts.specs.declared.items.Operand.{Operand}
-use Rattle.flow_facts.specs.declared.items.PointItem.TheVariants as point
-use Rattle.flow_facts.specs.Operands.{object_if}
-use Rattle.flow_facts.specs.Types.{variable_object}
-use Rattle.flow_facts.specs.Ordered.{by_place}
-use Rattle.flow_facts.specs.Numbered.{bodies_of}
-use Rattle.flow_facts.specs.Parts.{Part, a_call, a_static_call, a_super_call, parts_of}
-use Rattle.flow_facts.specs.Lists.{PlainCall, Placed, point_at, created, moved, created_args, moved_args, news_of, flows_of, calls_of}
-use Rattle.flow_facts.specs.Facts.{numbers, gathered, call_seen, IsFactsOf}
+use Rattle.flow_rules.specs.declared.items.ObjectType.{ObjectType}
+use Rattle.flow_rules.specs.declared.items.Operand.{Operand}
+use Rattle.flow_rules.specs.declared.items.PointItem.TheVariants as point
+use Rattle.flow_rules.specs.Operands.{object_if}
+use Rattle.flow_rules.specs.Types.{variable_object}
+use Rattle.flow_rules.specs.Ordered.{by_place}
+use Rattle.flow_rules.specs.Numbered.{bodies_of}
+use Rattle.flow_rules.specs.Parts.{Part, a_call, a_static_call, a_super_call, parts_of}
+use Rattle.flow_rules.specs.Lists.{PlainCall, Placed, point_at, created, moved, created_args, moved_args, news_of, flows_of, calls_of}
+use Rattle.flow_rules.specs.Facts.{numbers, gathered, call_seen, IsFactsOf}
 use Rattle.run_cover.specs.Covers.{Sets, has, at_point}
 use Rattle.run_cover.proofs.Kinded.{IsKindedCall, FindsBody}
 use Rattle.run_cover.proofs.Sites.{map_has, map_from, flat_has, each_has, place_has, one}

@@ -15,14 +15,14 @@ use Rattle.fact_model.specs.declared.facts.Facts.{Facts}
 use Rattle.fact_model.specs.declared.facts.SiteInfo.{SiteInfo}
 use Rattle.fact_model.specs.declared.facts.CellInfo.{CellInfo}
 use Rattle.java_core.specs.Formed.{IsFormed}
-use Rattle.flow_facts.specs.declared.items.ObjectType.{ObjectType}
-use Rattle.flow_facts.specs.declared.items.ColumnItem.TheVariants as column
-use Rattle.flow_facts.specs.declared.items.Column.{Column}
-use Rattle.flow_facts.specs.declared.items.Site.{Site}
-use Rattle.flow_facts.specs.Types.{field_object}
-use Rattle.flow_facts.specs.Numbered.{same_column, columns_of, column_number, sites_of, site_number}
-use Rattle.flow_facts.specs.Facts.{FieldCell, owner_of, site_info, field_if, field_at, fields_of, array_cell, site_cells, cells_of, numbers, IsFactsOf}
-use Rattle.flow_facts.specs.Facts.{field_cell as cell_for}
+use Rattle.flow_rules.specs.declared.items.ObjectType.{ObjectType}
+use Rattle.flow_rules.specs.declared.items.ColumnItem.TheVariants as column
+use Rattle.flow_rules.specs.declared.items.Column.{Column}
+use Rattle.flow_rules.specs.declared.items.Site.{Site}
+use Rattle.flow_rules.specs.Types.{field_object}
+use Rattle.flow_rules.specs.Numbered.{same_column, columns_of, column_number, sites_of, site_number}
+use Rattle.flow_rules.specs.Facts.{FieldCell, owner_of, site_info, field_if, field_at, fields_of, array_cell, site_cells, cells_of, numbers, IsFactsOf}
+use Rattle.flow_rules.specs.Facts.{field_cell as cell_for}
 use Rattle.run_cover.specs.Untagged.{untagged}
 use Rattle.run_cover.specs.Covers.{is_cell, cell_number, field_cell, element_cell}
 use Rattle.run_cover.proofs.Kinded.{site_type}

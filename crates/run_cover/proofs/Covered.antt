@@ -7,9 +7,9 @@ use Rattle.java_core.specs.Programs.{Plain, PlainMethod}
 use Rattle.java_core.specs.Typing.{IsTyped, IsTypedMethod, TypedSts}
 use Rattle.java_core.specs.Formed.{IsFormed}
 use Rattle.fact_model.specs.declared.facts.Facts.{Facts}
-use Rattle.flow_facts.specs.Operands.{type_in}
-use Rattle.flow_facts.specs.Parts.{Part, parts_body, parts_of}
-use Rattle.flow_facts.specs.Facts.{numbers, IsFactsOf}
+use Rattle.flow_rules.specs.Operands.{type_in}
+use Rattle.flow_rules.specs.Parts.{Part, parts_body, parts_of}
+use Rattle.flow_rules.specs.Facts.{numbers, IsFactsOf}
 use Rattle.run_cover.specs.Covers.{CoversEachRun}
 use Rattle.run_cover.specs.Untagged.{untag_body, untag_method, untagged, HaveSlots}
 use Rattle.java_meaning.specs.Watched.{bare_sts}
@@ -27,7 +27,7 @@ module _ (Q : Plain) (F : Facts) (formed : IsFormed (untagged Q)) (typed : IsTyp
   abbrev P : Plain
   P = untagged Q
 
-  method_parts : (m : ℕ) (k : PlainMethod) → slice_get Q.methods m ≡ Some k → (p : Part) → Contains (parts_of P m k) p → IsKindedPart P Q F m k p
+  pub method_parts : (m : ℕ) (k : PlainMethod) → slice_get Q.methods m ≡ Some k → (p : Part) → Contains (parts_of P m k) p → IsKindedPart P Q F m k p
   unfolding parts_of IsTypedMethod numbers
   method_parts m k e p c = go k.body refl
     where

@@ -14,12 +14,12 @@ use Rattle.java_meaning.specs.Values.{default_of}
 use Rattle.java_meaning.specs.Languages.{layout, default_at, index_of, body_with}
 use Rattle.fact_model.specs.Flowing.{Fact, Inclusion}
 use Rattle.fact_model.specs.declared.facts.Facts.{Facts}
-use Rattle.flow_facts.specs.declared.items.Operand.{Operand}
-use Rattle.flow_facts.specs.declared.items.PointItem.TheVariants as point
-use Rattle.flow_facts.specs.Types.{field_object}
-use Rattle.flow_facts.specs.Labels.{label_sts}
-use Rattle.flow_facts.specs.Lists.{point_at, site_in}
-use Rattle.flow_facts.specs.Facts.{numbers, IsFactsOf}
+use Rattle.flow_rules.specs.declared.items.Operand.{Operand}
+use Rattle.flow_rules.specs.declared.items.PointItem.TheVariants as point
+use Rattle.flow_rules.specs.Types.{field_object}
+use Rattle.flow_rules.specs.Labels.{label_sts}
+use Rattle.flow_rules.specs.Lists.{point_at, site_in}
+use Rattle.flow_rules.specs.Facts.{numbers, IsFactsOf}
 use Rattle.run_cover.specs.Families.{ArePlain, IsIncluded, AreIncluded, Begins}
 use Rattle.run_cover.specs.Watched.{Of, IsWatched}
 use Rattle.run_cover.specs.Covers.{Sets, has, IsClosed, operand_at, at_point, at_cell, field_cell, held_in, sites_at, spot_set, is_seen, are_seen, labelled_with, labelled_body, watched, CoversEachRun}

@@ -9,12 +9,12 @@ use Rattle.java_meaning.specs.Moment.{Object, Cell, Spot, held, bound, self_of, 
 use Rattle.java_meaning.specs.Meaning.{run_in}
 use Rattle.java_meaning.specs.Watched.{bare_tag}
 use Rattle.fact_model.specs.declared.facts.Facts.{Facts}
-use Rattle.flow_facts.specs.Operands.{type_in}
-use Rattle.flow_facts.specs.Parts.{parts_of}
-use Rattle.flow_facts.specs.Numbered.{rows_of, row_number, columns_of, column_number, bodies_of, sites_of, site_number, points_of, point_number}
-use Rattle.flow_facts.specs.Facts.{numbers}
-use Rattle.flow_facts.specs.declared.items.Operand.{Operand}
-use Rattle.flow_facts.specs.Lists.{point_at, site_in}
+use Rattle.flow_rules.specs.Operands.{type_in}
+use Rattle.flow_rules.specs.Parts.{parts_of}
+use Rattle.flow_rules.specs.Numbered.{rows_of, row_number, columns_of, column_number, bodies_of, sites_of, site_number, points_of, point_number}
+use Rattle.flow_rules.specs.Facts.{numbers}
+use Rattle.flow_rules.specs.declared.items.Operand.{Operand}
+use Rattle.flow_rules.specs.Lists.{point_at, site_in}
 use Rattle.run_cover.specs.Covers.{Sets, operand_at, passes, at_point, at_cell, or_itself, held_in, sites_at, spot_set, is_seen, labelled_body, watched}
 use Rattle.run_cover.specs.Untagged.{untagged}
 

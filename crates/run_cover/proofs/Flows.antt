@@ -17,14 +17,14 @@ use Rattle.fact_model.specs.declared.facts.FlowInfo.{FlowInfo}
 use Rattle.fact_model.specs.declared.facts.LoadInfo.{LoadInfo}
 use Rattle.fact_model.specs.declared.facts.StoreInfo.{StoreInfo}
 use Rattle.fact_model.specs.declared.facts.CastInfo.{CastInfo}
-use Rattle.flow_facts.specs.declared.items.ObjectType.{ObjectType}
-use Rattle.flow_facts.specs.declared.items.Operand.{Operand}
-use Rattle.flow_facts.specs.declared.items.ColumnItem.TheVariants as column
-use Rattle.flow_facts.specs.Types.{field_object}
-use Rattle.flow_facts.specs.Parts.{Part, a_load, an_element, a_creation, a_test, a_store, an_element_store, parts_of}
-use Rattle.flow_facts.specs.Numbered.{Body, body_at, bodies_of}
-use Rattle.flow_facts.specs.Lists.{both, these, point_at, site_in, created, moved, news_of, flows_of, loads_of, stores_of, casts_of}
-use Rattle.flow_facts.specs.Facts.{numbers, gathered, IsFactsOf}
+use Rattle.flow_rules.specs.declared.items.ObjectType.{ObjectType}
+use Rattle.flow_rules.specs.declared.items.Operand.{Operand}
+use Rattle.flow_rules.specs.declared.items.ColumnItem.TheVariants as column
+use Rattle.flow_rules.specs.Types.{field_object}
+use Rattle.flow_rules.specs.Parts.{Part, a_load, an_element, a_creation, a_test, a_store, an_element_store, parts_of}
+use Rattle.flow_rules.specs.Numbered.{Body, body_at, bodies_of}
+use Rattle.flow_rules.specs.Lists.{both, these, point_at, site_in, created, moved, news_of, flows_of, loads_of, stores_of, casts_of}
+use Rattle.flow_rules.specs.Facts.{numbers, gathered, IsFactsOf}
 use Rattle.run_cover.specs.Covers.{Sets, has, is_site, is_column, is_cell, passes, cell_number, field_cell, element_cell, at_point, at_cell, or_itself}
 use Rattle.run_cover.proofs.Kinded.{site_type, IsPoint, HasPoint, IsCreation, IsBase}
 use Rattle.run_cover.proofs.Sites.{one, flat_has, each_has}

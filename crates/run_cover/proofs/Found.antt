@@ -17,13 +17,13 @@ use Rattle.fact_model.specs.Classes.{same as same_below, through as through_belo
 use Rattle.fact_model.specs.declared.facts.Facts.{Facts}
 use Rattle.fact_model.specs.declared.facts.ClassInfo.{ClassInfo}
 use Rattle.kaba_base.specs.declared.Place.{Place}
-use Rattle.flow_facts.specs.declared.items.ObjectType.{ObjectType}
-use Rattle.flow_facts.specs.Parts.{Part, a_creation, a_test, parts_of}
-use Rattle.flow_facts.specs.declared.items.ColumnItem.TheVariants as column
-use Rattle.flow_facts.specs.declared.items.Column.{Column}
-use Rattle.flow_facts.specs.Ordered.{put_in, by_place, once_after, each, when}
-use Rattle.flow_facts.specs.Numbered.{same_column, columns_of, field_columns, method_columns, mark, array_mark, form_columns}
-use Rattle.flow_facts.specs.Facts.{ClassFacts, class_seen, class_facts, is_holder, IsFactsOf}
+use Rattle.flow_rules.specs.declared.items.ObjectType.{ObjectType}
+use Rattle.flow_rules.specs.Parts.{Part, a_creation, a_test, parts_of}
+use Rattle.flow_rules.specs.declared.items.ColumnItem.TheVariants as column
+use Rattle.flow_rules.specs.declared.items.Column.{Column}
+use Rattle.flow_rules.specs.Ordered.{put_in, by_place, once_after, each, when}
+use Rattle.flow_rules.specs.Numbered.{same_column, columns_of, field_columns, method_columns, mark, array_mark, form_columns}
+use Rattle.flow_rules.specs.Facts.{ClassFacts, class_seen, class_facts, is_holder, IsFactsOf}
 use Rattle.run_cover.specs.Untagged.{untag_class, untagged}
 use Rattle.run_cover.proofs.Sites.{more}
 use Rattle.run_cover.proofs.Included.{get_map, map_some}

@@ -7,23 +7,23 @@ use Rattle.std.proofs.lemmas.Bool.{false≢true, eqb-true, eq-eqb}
 use Rattle.std.proofs.lemmas.List.Elements.{Contains-append_left, Contains-append_right}
 use Rattle.kaba_base.specs.declared.Place.{Place}
 use Rattle.java_core.specs.Programs.{Plain, PlainField, PlainMethod, PlainLocal}
-use Rattle.flow_facts.specs.declared.items.ObjectType.{ObjectType}
-use Rattle.flow_facts.specs.declared.items.Operand.{Operand}
-use Rattle.flow_facts.specs.declared.items.RowItem.{RowItem}
-use Rattle.flow_facts.specs.declared.items.RowItem.TheVariants as row
-use Rattle.flow_facts.specs.declared.items.ColumnItem.{ColumnItem}
-use Rattle.flow_facts.specs.declared.items.ColumnItem.TheVariants as column
-use Rattle.flow_facts.specs.declared.items.PointItem.{PointItem}
-use Rattle.flow_facts.specs.declared.items.PointItem.TheVariants as point
-use Rattle.flow_facts.specs.declared.items.Row.{Row}
-use Rattle.flow_facts.specs.declared.items.Column.{Column}
-use Rattle.flow_facts.specs.declared.items.Site.{Site}
-use Rattle.flow_facts.specs.declared.items.Point.{Point}
-use Rattle.flow_facts.specs.declared.items.PointAt.{PointAt}
-use Rattle.flow_facts.specs.Ordered.{by_place, each, when}
-use Rattle.flow_facts.specs.Operands.{object_of, object_if, variable_row, result_in}
-use Rattle.flow_facts.specs.Parts.{Part, parts_of}
-use Rattle.flow_facts.specs.Numbered.{same_row, same_column, same_point, row_if, form_rows, is_first, field_rows, this_rows, result_rows, variable_rows, method_rows, rows_of, field_columns, method_columns, columns_of, row_number, column_number, number_if, form_sites, sites_of, site_number, bodies_of, listed, point_with, point_of_form, own_point, form_points, static_points, variable_points, method_points, Outline, outline_if, points_of, point_number}
+use Rattle.flow_rules.specs.declared.items.ObjectType.{ObjectType}
+use Rattle.flow_rules.specs.declared.items.Operand.{Operand}
+use Rattle.flow_rules.specs.declared.items.RowItem.{RowItem}
+use Rattle.flow_rules.specs.declared.items.RowItem.TheVariants as row
+use Rattle.flow_rules.specs.declared.items.ColumnItem.{ColumnItem}
+use Rattle.flow_rules.specs.declared.items.ColumnItem.TheVariants as column
+use Rattle.flow_rules.specs.declared.items.PointItem.{PointItem}
+use Rattle.flow_rules.specs.declared.items.PointItem.TheVariants as point
+use Rattle.flow_rules.specs.declared.items.Row.{Row}
+use Rattle.flow_rules.specs.declared.items.Column.{Column}
+use Rattle.flow_rules.specs.declared.items.Site.{Site}
+use Rattle.flow_rules.specs.declared.items.Point.{Point}
+use Rattle.flow_rules.specs.declared.items.PointAt.{PointAt}
+use Rattle.flow_rules.specs.Ordered.{by_place, each, when}
+use Rattle.flow_rules.specs.Operands.{object_of, object_if, variable_row, result_in}
+use Rattle.flow_rules.specs.Parts.{Part, parts_of}
+use Rattle.flow_rules.specs.Numbered.{same_row, same_column, same_point, row_if, form_rows, is_first, field_rows, this_rows, result_rows, variable_rows, method_rows, rows_of, field_columns, method_columns, columns_of, row_number, column_number, number_if, form_sites, sites_of, site_number, bodies_of, listed, point_with, point_of_form, own_point, form_points, static_points, variable_points, method_points, Outline, outline_if, points_of, point_number}
 use Rattle.run_cover.proofs.Sites.{one, flat_has, each_has, two_have, place_has}
 use Rattle.run_cover.proofs.Flows.{body_of, body_there}
 use Rattle.run_cover.proofs.Listed.{number_there, when_has}

@@ -8,12 +8,12 @@ use Rattle.java_core.specs.declared.Ty.{Ty}
 use Rattle.java_core.specs.Programs.{Plain, PlainField, PlainMethod, PlainLocal, PlainSlot}
 use Rattle.java_core.specs.Types.{types_of}
 use Rattle.java_core.specs.Formed.{IsFormed, IsInSlot}
-use Rattle.flow_facts.specs.declared.items.ObjectType.{ObjectType}
-use Rattle.flow_facts.specs.declared.items.RowItem.TheVariants as row
-use Rattle.flow_facts.specs.declared.items.PointItem.TheVariants as point
-use Rattle.flow_facts.specs.Operands.{object_of, object_if, variable_in, variable_row, result_in}
-use Rattle.flow_facts.specs.Types.{field_object, variable_object}
-use Rattle.flow_facts.specs.Numbered.{is_first_in, is_first, row_number, point_number}
+use Rattle.flow_rules.specs.declared.items.ObjectType.{ObjectType}
+use Rattle.flow_rules.specs.declared.items.RowItem.TheVariants as row
+use Rattle.flow_rules.specs.declared.items.PointItem.TheVariants as point
+use Rattle.flow_rules.specs.Operands.{object_of, object_if, variable_in, variable_row, result_in}
+use Rattle.flow_rules.specs.Types.{field_object, variable_object}
+use Rattle.flow_rules.specs.Numbered.{is_first_in, is_first, row_number, point_number}
 use Rattle.run_cover.specs.Untagged.{untag_field, untag_method, untagged}
 use Rattle.run_cover.proofs.Included.{get_map, map_some}
 use Rattle.run_cover.proofs.Untagging.{untyped_params}

@@ -20,16 +20,16 @@ use Rattle.fact_model.specs.Items.{site_class}
 use Rattle.fact_model.specs.Classes.{IsBelow}
 use Rattle.fact_model.specs.Flowing.{Fact, Inclusion}
 use Rattle.fact_model.specs.declared.facts.Facts.{Facts}
-use Rattle.flow_facts.specs.declared.items.ObjectType.{ObjectType}
-use Rattle.flow_facts.specs.declared.items.Operand.{Operand}
-use Rattle.flow_facts.specs.declared.items.PointItem.TheVariants as point
-use Rattle.flow_facts.specs.declared.items.RowItem.TheVariants as row
-use Rattle.flow_facts.specs.Operands.{object_in, object_of, object_if, object_static, object_class, object_field, call_slot, call_declaration, operand_of, operands_of, type_in}
-use Rattle.flow_facts.specs.Labels.{label_sts}
-use Rattle.flow_facts.specs.Types.{field_object}
-use Rattle.flow_facts.specs.Parts.{Part, a_load, an_element, a_creation, a_call, a_static_call, a_super_call, a_test, a_set, a_store, an_element_store, a_return, is_accessed, nothing, parts, parts_all, parts_if, parts_set, parts_return, parts_assign, parts_st, parts_sts, parts_arms, parts_body, parts_of}
-use Rattle.flow_facts.specs.Lists.{point_at, site_in}
-use Rattle.flow_facts.specs.Facts.{numbers, IsFactsOf}
+use Rattle.flow_rules.specs.declared.items.ObjectType.{ObjectType}
+use Rattle.flow_rules.specs.declared.items.Operand.{Operand}
+use Rattle.flow_rules.specs.declared.items.PointItem.TheVariants as point
+use Rattle.flow_rules.specs.declared.items.RowItem.TheVariants as row
+use Rattle.flow_rules.specs.Operands.{object_in, object_of, object_if, object_static, object_class, object_field, call_slot, call_declaration, operand_of, operands_of, type_in}
+use Rattle.flow_rules.specs.Labels.{label_sts}
+use Rattle.flow_rules.specs.Types.{field_object}
+use Rattle.flow_rules.specs.Parts.{Part, a_load, an_element, a_creation, a_call, a_static_call, a_super_call, a_test, a_set, a_store, an_element_store, a_return, is_accessed, nothing, parts, parts_all, parts_if, parts_set, parts_return, parts_assign, parts_st, parts_sts, parts_arms, parts_body, parts_of}
+use Rattle.flow_rules.specs.Lists.{point_at, site_in}
+use Rattle.flow_rules.specs.Facts.{numbers, IsFactsOf}
 use Rattle.run_cover.specs.Families.{Set, Sub, Family, Gives, Reads, Writes, ReadsElement, WritesElement, Passes, Enters, Calls, StaticCalls, SuperCalls, Makes, Tests, Casts, Included, IncludedAll, IncludedIf, Sets as SetsTo, Assigns, IncludedSt, IncludedSts, IncludedArms}
 use Rattle.run_cover.specs.Covers.{Sets, has, is_site, passes, operand_at, at_point, point_sites, watched, labelled_with, labelled_body, tested_by, called_on}
 use Rattle.run_cover.proofs.Kinded.{site_type, IsPoint, HasPoint, IsCreation, IsBase, IsKindedLoad, IsKindedStore, IsKindedCall, IsKindedReturn, IsKindedPart, FindsBody, IsKinded}

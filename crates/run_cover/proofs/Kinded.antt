@@ -10,14 +10,14 @@ use Rattle.fact_model.specs.Classes.{IsBelow, finds}
 use Rattle.fact_model.specs.Flowing.{point_at as listed_at}
 use Rattle.fact_model.specs.declared.facts.Facts.{Facts}
 use Rattle.fact_model.specs.declared.facts.BodyInfo.{BodyInfo}
-use Rattle.flow_facts.specs.declared.items.ObjectType.{ObjectType}
-use Rattle.flow_facts.specs.declared.items.Operand.{Operand}
-use Rattle.flow_facts.specs.declared.items.PointItem.TheVariants as point
-use Rattle.flow_facts.specs.Operands.{object_if}
-use Rattle.flow_facts.specs.Types.{field_object, variable_object}
-use Rattle.flow_facts.specs.Parts.{Part, a_load, an_element, a_creation, a_call, a_static_call, a_super_call, a_test, a_pair, a_set, a_store, an_element_store, a_return, parts_of}
-use Rattle.flow_facts.specs.Lists.{point_at}
-use Rattle.flow_facts.specs.Facts.{numbers}
+use Rattle.flow_rules.specs.declared.items.ObjectType.{ObjectType}
+use Rattle.flow_rules.specs.declared.items.Operand.{Operand}
+use Rattle.flow_rules.specs.declared.items.PointItem.TheVariants as point
+use Rattle.flow_rules.specs.Operands.{object_if}
+use Rattle.flow_rules.specs.Types.{field_object, variable_object}
+use Rattle.flow_rules.specs.Parts.{Part, a_load, an_element, a_creation, a_call, a_static_call, a_super_call, a_test, a_pair, a_set, a_store, an_element_store, a_return, parts_of}
+use Rattle.flow_rules.specs.Lists.{point_at}
+use Rattle.flow_rules.specs.Facts.{numbers}
 use Rattle.run_cover.specs.Covers.{field_cell, element_cell}
 
 -- the class and the brackets of a site, as a type

@@ -5,7 +5,7 @@ use Rattle.std.specs.List.{list_any, position_or_len}
 use Rattle.std.proofs.lemmas.List.Folds.{list_any-append}
 use Rattle.std.proofs.lemmas.Bool.{false≢true}
 use Rattle.indexmap.specs.IndexSet.{insert_key}
-use Rattle.flow_facts.specs.Ordered.{once_after, once, when}
+use Rattle.flow_rules.specs.Ordered.{once_after, once, when}
 use Rattle.run_cover.proofs.Sites.{first, more, map_has}
 
 if_true : {A : Type 0} (x y : A) (b : Bool) → b ≡ true → (if b then x else y) ≡ x

@@ -20,8 +20,8 @@ use Rattle.java_meaning.proofs.Plain.{run_r}
 use Rattle.java_meaning.proofs.Placed.{bare_seen}
 use Rattle.java_meaning.proofs.WatchedPrograms.{bare_static}
 use Rattle.fact_model.specs.declared.facts.Facts.{Facts}
-use Rattle.flow_facts.specs.Labels.{label_sts}
-use Rattle.flow_facts.specs.Facts.{IsFactsOf}
+use Rattle.flow_rules.specs.Labels.{label_sts}
+use Rattle.flow_rules.specs.Facts.{IsFactsOf}
 use Rattle.run_cover.specs.Covers.{Sets, labelled_with, labelled_body, watched, CoversEachRun, CoversProgram}
 use Rattle.run_cover.specs.Untagged.{untag_body, untag_local, untag_class, untag_field, untag_method, untagged, HaveSlots}
 use Rattle.run_cover.proofs.Included.{get_map}
@@ -103,7 +103,7 @@ escapes_or : (o p : Outcome) → EscapesOrIs o p → o.end ≢ Escaped → unnot
 unfolding EscapesOrIs
 escapes_or o p h n = ⊎_elim (λ e. absurd (n e)) (λ e. e) h
 
-untagged_covers : (Q : Plain) (F : Facts) → IsFormed (untagged Q) → IsTyped (untagged Q) → HaveSlots (untagged Q) → IsFactsOf (untagged Q) Q F → CoversProgram (untagged Q) Q F
+pub untagged_covers : (Q : Plain) (F : Facts) → IsFormed (untagged Q) → IsTyped (untagged Q) → HaveSlots (untagged Q) → IsFactsOf (untagged Q) Q F → CoversProgram (untagged Q) Q F
 unfolding CoversEachRun
 untagged_covers Q F formed typed slots facts =
     let c = typed_covers Q F formed typed slots facts in record {

@@ -4,7 +4,7 @@ use Rattle.std.specs.Prelude.{◌⊎◌, if◌then◌else◌, nat_lt, Bool, true
 use Rattle.std.specs.List.{flat_map}
 use Rattle.std.proofs.lemmas.Option.{same_Some}
 use Rattle.std.proofs.lemmas.List.Elements.{Contains-append_left, Contains-append_right}
-use Rattle.flow_facts.specs.Ordered.{put_in, by_place, each}
+use Rattle.flow_rules.specs.Ordered.{put_in, by_place, each}
 
 pub one : {A : Type 0} (x : A) → Contains (x ∷ []) x
 one x = (0, omega arith, refl)

@@ -17,23 +17,23 @@ use Rattle.java_core.specs.Types.{Static, a_value, null_value, no_value, or_noth
 use Rattle.java_core.specs.Typing.{Typed, TypedArgs, TypedTarget, TypedTest, TypedSt, TypedSts, TypedArms, t_field, t_index, t_call, t_static_call, t_super_call, t_create_array, t_cast, t_instance_of, t_unary, t_binary, t_ex_then, t_to_field, t_to_element, t_test, t_declare_as, t_block, t_assign, t_act, t_print, t_choose, t_loop, t_return, t_st_then, t_otherwise, t_arm}
 use Rattle.java_core.specs.Formed.{IsFormed, FormedEx, FormedExs, IsStaticField, IsStaticMethod, FormedTarget, FormedOption, FormedSt, FormedSts, FormedArms, numbers_below, f_to_static, f_to_field, f_to_element, f_some, f_declare, f_block, f_assign, f_act, f_print, f_choose, f_loop, f_return, f_st_then, f_otherwise, f_arm, f_this, f_field, f_index, f_call, f_static_call, f_super_call, f_create_array, f_cast, f_instance_of, f_unary, f_binary, f_ex_then}
 use Rattle.fact_model.specs.declared.facts.Facts.{Facts}
-use Rattle.flow_facts.specs.declared.items.ObjectType.{ObjectType}
-use Rattle.flow_facts.specs.declared.items.Operand.{Operand}
-use Rattle.flow_facts.specs.declared.items.RowItem.{RowItem}
-use Rattle.flow_facts.specs.declared.items.RowItem.TheVariants as row
-use Rattle.flow_facts.specs.declared.items.PointItem.{PointItem}
-use Rattle.flow_facts.specs.declared.items.PointItem.TheVariants as point
-use Rattle.flow_facts.specs.declared.items.Row.{Row}
-use Rattle.flow_facts.specs.declared.items.PointAt.{PointAt}
-use Rattle.flow_facts.specs.declared.items.Site.{Site}
-use Rattle.flow_facts.specs.Operands.{object_of, object_if, object_static, object_field, call_slot, call_declaration, super_slot, result_in, row_of, operand_of, operands_of, type_in}
-use Rattle.flow_facts.specs.Labels.{label_sts}
-use Rattle.flow_facts.specs.Types.{field_object, variable_object}
-use Rattle.flow_facts.specs.Parts.{Part, a_load, an_element, a_creation, a_call, a_static_call, a_super_call, a_test, a_pair, a_set, a_store, an_element_store, a_return, is_accessed, parts, parts_all, parts_if, parts_assign, parts_st, parts_sts, parts_arms, parts_body, parts_of}
+use Rattle.flow_rules.specs.declared.items.ObjectType.{ObjectType}
+use Rattle.flow_rules.specs.declared.items.Operand.{Operand}
+use Rattle.flow_rules.specs.declared.items.RowItem.{RowItem}
+use Rattle.flow_rules.specs.declared.items.RowItem.TheVariants as row
+use Rattle.flow_rules.specs.declared.items.PointItem.{PointItem}
+use Rattle.flow_rules.specs.declared.items.PointItem.TheVariants as point
+use Rattle.flow_rules.specs.declared.items.Row.{Row}
+use Rattle.flow_rules.specs.declared.items.PointAt.{PointAt}
+use Rattle.flow_rules.specs.declared.items.Site.{Site}
+use Rattle.flow_rules.specs.Operands.{object_of, object_if, object_static, object_field, call_slot, call_declaration, super_slot, result_in, row_of, operand_of, operands_of, type_in}
+use Rattle.flow_rules.specs.Labels.{label_sts}
+use Rattle.flow_rules.specs.Types.{field_object, variable_object}
+use Rattle.flow_rules.specs.Parts.{Part, a_load, an_element, a_creation, a_call, a_static_call, a_super_call, a_test, a_pair, a_set, a_store, an_element_store, a_return, is_accessed, parts, parts_all, parts_if, parts_assign, parts_st, parts_sts, parts_arms, parts_body, parts_of}
 use Rattle.java_core.specs.declared.BinOp.{BinOp}
-use Rattle.flow_facts.specs.Lists.{point_in}
-use Rattle.flow_facts.specs.Numbered.{form_rows, own_row, number_if, site_if, point_of_form, form_points, row_number, site_number, point_number}
-use Rattle.flow_facts.specs.Facts.{numbers}
+use Rattle.flow_rules.specs.Lists.{point_in}
+use Rattle.flow_rules.specs.Numbered.{form_rows, own_row, number_if, site_if, point_of_form, form_points, row_number, site_number, point_number}
+use Rattle.flow_rules.specs.Facts.{numbers}
 use Rattle.run_cover.specs.Untagged.{untag_method, untagged, HaveSlots}
 use Rattle.java_meaning.specs.Watched.{bare, bare_all, bare_if, bare_target, bare_st, bare_sts, bare_arms}
 use Rattle.run_cover.proofs.Kinded.{site_type, IsPoint, HasPoint, IsCreation, IsBase, IsKindedPart}
@@ -55,39 +55,39 @@ module _ (Q : Plain) (F : Facts) (formed : IsFormed (untagged Q)) (slots : HaveS
   abbrev g : Env
   g = env_of m k
 
-  abbrev T : Ex → Option ObjectType
+  abbrev pub T : Ex → Option ObjectType
   T e = type_in P m k e
 
-  abbrev O : Ex → Operand
+  abbrev pub O : Ex → Operand
   O e = operand_of P (type_in P m k) m k e
 
-  abbrev Stands : List Part → Type 0
+  abbrev pub Stands : List Part → Type 0
   Stands ps = (p : Part) → Contains ps p → Contains (parts_of P m k) p
 
-  abbrev IsTyped : Ex → Type 0
+  abbrev pub IsTyped : Ex → Type 0
   IsTyped e = Typed P g (bare e)
 
-  abbrev IsFormedEx : List ℕ → Ex → Type 0
+  abbrev pub IsFormedEx : List ℕ → Ex → Type 0
   IsFormedEx scope e = FormedEx P (untag_method k) scope (bare e)
 
-  left : (ps qs : List Part) → Stands (ps ++ qs) → Stands ps
+  pub left : (ps qs : List Part) → Stands (ps ++ qs) → Stands ps
   left ps qs st p c = st p (Contains-append_left ps qs p c)
 
-  right : (ps qs : List Part) → Stands (ps ++ qs) → Stands qs
+  pub right : (ps qs : List Part) → Stands (ps ++ qs) → Stands qs
   right ps qs st p c = st p (Contains-append_right ps qs p c)
 
-  past : (p : Part) (qs : List Part) → Stands (p ∷ qs) → Stands qs
+  pub past : (p : Part) (qs : List Part) → Stands (p ∷ qs) → Stands qs
   past p qs st x c = st x (more x p qs c)
 
-  here : (p : Part) (qs : List Part) → Stands (p ∷ qs) → Contains (parts_of P m k) p
+  pub here : (p : Part) (qs : List Part) → Stands (p ∷ qs) → Contains (parts_of P m k) p
   here p qs st = st p (first p qs)
 
   -- types
-  typed_of : (e : Ex) (t : ObjectType) → T e ≡ Some t → object_static (static P g (bare e)) ≡ Some t
+  pub typed_of : (e : Ex) (t : ObjectType) → T e ≡ Some t → object_static (static P g (bare e)) ≡ Some t
   unfolding type_in
   typed_of e t h = ap (λ z. object_static z) (bare_static P g e) ∙ h
 
-  of_typed : (e : Ex) (t : ObjectType) → object_static (static P g (bare e)) ≡ Some t → T e ≡ Some t
+  pub of_typed : (e : Ex) (t : ObjectType) → object_static (static P g (bare e)) ≡ Some t → T e ≡ Some t
   unfolding type_in
   of_typed e t h = ap (λ z. object_static z) (sym (bare_static P g e)) ∙ h
 
@@ -103,11 +103,11 @@ module _ (Q : Plain) (F : Facts) (formed : IsFormed (untagged Q)) (slots : HaveS
   unfolding type_in
   own_type t f = object_or (field_type P f)
 
-  field_found : (e : Ex) (x : List ℕ) → object_field P (T e) x ≡ field_in P (static P g e) x
+  pub field_found : (e : Ex) (x : List ℕ) → object_field P (T e) x ≡ field_in P (static P g e) x
   unfolding type_in field_in
   field_found e x = ap (λ z. option_and_then (λ c. member_field P c x) z) (class_object (static P g e))
 
-  field_class : (s : Static) (x : List ℕ) (f : ℕ) → field_in P s x ≡ Some f → (c : ℕ) × (class_of s ≡ Some c)
+  pub field_class : (s : Static) (x : List ℕ) (f : ℕ) → field_in P s x ≡ Some f → (c : ℕ) × (class_of s ≡ Some c)
   unfolding field_in
   field_class s x f e = let z = then_some (λ c. member_field P c x) (class_of s) f e in (z.0, z.1)
 
@@ -137,7 +137,7 @@ module _ (Q : Plain) (F : Facts) (formed : IsFormed (untagged Q)) (slots : HaveS
       go None e = some_field (field_in P s x) (ap (λ w. object_static (or_nothing (length_or w (option_and_then (field_type P) (field_in P s x)) x))) (sym e) ∙ h)
       go (Some u) e = absurd (no_int (is_length x) (ap (λ w. object_static (or_nothing (length_or w (option_and_then (field_type P) (field_in P s x)) x))) (sym e) ∙ h))
 
-  slot_found : (e : Ex) (x : List ℕ) → call_slot P (T e) x ≡ option_and_then (λ c. slot_of P c x) (class_of (static P g (bare e)))
+  pub slot_found : (e : Ex) (x : List ℕ) → call_slot P (T e) x ≡ option_and_then (λ c. slot_of P c x) (class_of (static P g (bare e)))
   unfolding type_in
   slot_found e x = ap (λ z. option_and_then (λ c. slot_of P c x) z) (class_object (static P g e) ∙ ap (λ z. class_of z) (sym (bare_static P g e)))
 
@@ -153,7 +153,7 @@ module _ (Q : Plain) (F : Facts) (formed : IsFormed (untagged Q)) (slots : HaveS
   unfolding type_in
   super_call_type t x es sig h = ap (λ z. object_static (result_of z)) h ∙ object_or sig.result
 
-  super_sig : (x : List ℕ) (c : ℕ) → super_method P k.owner x ≡ Some c → super_signature P k.owner x ≡ signature_of_method P c
+  pub super_sig : (x : List ℕ) (c : ℕ) → super_method P k.owner x ≡ Some c → super_signature P k.owner x ≡ signature_of_method P c
   unfolding super_signature
   super_sig x c h = ap (λ z. option_and_then (signature_of_method P) z) h
 
@@ -162,7 +162,7 @@ module _ (Q : Plain) (F : Facts) (formed : IsFormed (untagged Q)) (slots : HaveS
   index_type t e i = ap (λ z. object_static (or_nothing (element_of z))) (sym (bare_static P g e))
 
   -- the method of a signature
-  method_sig : (c : ℕ) (sig : Signature) → signature_of_method P c ≡ Some sig → (h : PlainMethod) × (slice_get Q.methods c ≡ Some h) × (sig.params ≡ types_of h.params) × (sig.result ≡ h.result)
+  pub method_sig : (c : ℕ) (sig : Signature) → signature_of_method P c ≡ Some sig → (h : PlainMethod) × (slice_get Q.methods c ≡ Some h) × (sig.params ≡ types_of h.params) × (sig.result ≡ h.result)
   method_sig c sig e =
       let z = map_some (λ (k : PlainMethod). record { params = types_of k.params; result = k.result }) (slice_get P.methods c) sig e in
       let h = of_method Q formed c z.0 z.1 in
@@ -178,7 +178,7 @@ module _ (Q : Plain) (F : Facts) (formed : IsFormed (untagged Q)) (slots : HaveS
   unfolding type_in
   none_typed e t h d = absurd (let z = sym h ∙ d in cc)
 
-  abbrev tree : Bool → Ex → List Part
+  abbrev pub tree : Bool → Ex → List Part
   tree u e = parts P (type_in P m k) m k u e
 
   field_listed : (t : Tag) (e : Ex) (x : List ℕ) (o : ObjectType) → T (field t e x) ≡ Some o → (r : ℕ) × (number_if (row_number P Q) (option_map row.Field (object_field P (T e) x)) ≡ Some r)
@@ -189,7 +189,7 @@ module _ (Q : Plain) (F : Facts) (formed : IsFormed (untagged Q)) (slots : HaveS
       let r = field_row_of Q formed f.0 o (sym (access_object t e x f.0 found) ∙ h) in
       (r.0, ap (λ z. number_if (row_number P Q) (option_map row.Field z)) found ∙ r.1)
 
-  static_slot : (d : ℕ) (h : PlainMethod) → slice_get Q.methods d ≡ Some h → h.is_static ≡ true → h.slot ≡ None
+  pub static_slot : (d : ℕ) (h : PlainMethod) → slice_get Q.methods d ≡ Some h → h.is_static ≡ true → h.slot ≡ None
   static_slot d h e s = go h.slot refl
     where
       go : (z : Option ℕ) → h.slot ≡ z → h.slot ≡ None
@@ -213,7 +213,7 @@ module _ (Q : Plain) (F : Facts) (formed : IsFormed (untagged Q)) (slots : HaveS
       go true false eb w = eb
       go false b eb w = absurd (false≢true w)
 
-  super_instance : (c : ℕ) (x : List ℕ) (d : ℕ) → super_method P c x ≡ Some d → (h : PlainMethod) → slice_get Q.methods d ≡ Some h → h.is_static ≡ false
+  pub super_instance : (c : ℕ) (x : List ℕ) (d : ℕ) → super_method P c x ≡ Some d → (h : PlainMethod) → slice_get Q.methods d ≡ Some h → h.is_static ≡ false
   unfolding super_method
   super_instance c x d e h eh =
       let b = then_some (λ p. nearest_of P (λ k. own_method P k x) p.0) (parent_of P c) d e in
@@ -235,7 +235,7 @@ module _ (Q : Plain) (F : Facts) (formed : IsFormed (untagged Q)) (slots : HaveS
       )
 
   -- the row of an expression of a type of a row
-  row_listed : (u : Bool) (scope : List ℕ) (e : Ex) → IsTyped e → IsFormedEx scope e → Stands (tree u e) → (t : ObjectType) → T e ≡ Some t → (r : ℕ) × (number_if (row_number P Q) (row_of P (type_in P m k) m k e) ≡ Some r)
+  pub row_listed : (u : Bool) (scope : List ℕ) (e : Ex) → IsTyped e → IsFormedEx scope e → Stands (tree u e) → (t : ObjectType) → T e ≡ Some t → (r : ℕ) × (number_if (row_number P Q) (row_of P (type_in P m k) m k e) ≡ Some r)
   row_listed u sc (number t n) ty fo st o h = none_typed (number t n) o refl h
   row_listed u sc (character t c) ty fo st o h = none_typed (character t c) o refl h
   row_listed u sc (text t x) ty fo st o h = none_typed (text t x) o refl h
@@ -344,13 +344,13 @@ module _ (Q : Plain) (F : Facts) (formed : IsFormed (untagged Q)) (slots : HaveS
       is_point (an_element t.place (O e) (O (index t e i))) t.place (O (index t e i)) (point.Expr m t.label) r.0 there (λ y d. d) refl (index_type t e i ∙ r.1) (row_listed true sc e ty fo st o ho)
 
   -- arguments
-  args_typed : (es : Exs) (us : List Ty) → TypedArgs P g (bare_all es) us → (i : ℕ) (a : Operand) (t : ObjectType) → slice_get (operands_of P (type_in P m k) m k es) i ≡ Some a → a.ty ≡ Some t → (u : Ty) × (slice_get us i ≡ Some u) × ((r : ObjectType) × (object_of u ≡ Some r))
+  pub args_typed : (es : Exs) (us : List Ty) → TypedArgs P g (bare_all es) us → (i : ℕ) (a : Operand) (t : ObjectType) → slice_get (operands_of P (type_in P m k) m k es) i ≡ Some a → a.ty ≡ Some t → (u : Ty) × (slice_get us i ≡ Some u) × ((r : ObjectType) × (object_of u ≡ Some r))
   args_typed no_ex us ty i a t e h = absurd (cc)
   args_typed (ex_then e es) [] ty i a t ea h = elim ty [ ]
   args_typed (ex_then e es) (u ∷ us) (t_ex_then te fit tes) zero a t ea h = (u, refl, fits_object P (static P g (bare e)) u t fit (typed_of e t (ap (λ z. z.ty) (same_Some (O e) a ea) ∙ h)))
   args_typed (ex_then e es) (u ∷ us) (t_ex_then te fit tes) (suc i) a t ea h = args_typed es us tes i a t ea h
 
-  param_typed : (h : PlainMethod) (i : ℕ) (u : Ty) (r : ObjectType) → slice_get (types_of h.params) i ≡ Some u → object_of u ≡ Some r → (w : ObjectType) × (variable_object h i ≡ Some w) × (i < length h.params)
+  pub param_typed : (h : PlainMethod) (i : ℕ) (u : Ty) (r : ObjectType) → slice_get (types_of h.params) i ≡ Some u → object_of u ≡ Some r → (w : ObjectType) × (variable_object h i ≡ Some w) × (i < length h.params)
   param_typed h i u r e o =
       let v = map_some (λ (v : PlainLocal). v.ty) (slice_get h.params i) u (sym (get_map (λ v. v.ty) h.params i) ∙ e) in
       (r, ap (λ z. object_if (option_map (λ v. v.ty) z)) (get_left h.params h.locals i v.0 v.1) ∙ ap (λ z. object_of z) v.2 ∙ o, slice_get_within h.params i v.0 v.1)

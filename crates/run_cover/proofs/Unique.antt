@@ -10,15 +10,15 @@ use Rattle.java_core.specs.Trees.{Ex, Exs, no_ex, ex_then, number, character, te
 use Rattle.java_core.specs.Programs.{Plain, PlainMethod}
 use Rattle.java_core.specs.Formed.{IsFormed, HasNoTwice, numbers, numbers_all, numbers_if, numbers_target, numbers_st, numbers_sts, numbers_arms, numbers_body, numbers_methods}
 use Rattle.fact_model.specs.declared.facts.Facts.{Facts}
-use Rattle.flow_facts.specs.declared.items.ObjectType.{ObjectType}
-use Rattle.flow_facts.specs.declared.items.Operand.{Operand}
-use Rattle.flow_facts.specs.declared.items.Site.{Site}
-use Rattle.flow_facts.specs.Labels.{label_sts}
-use Rattle.flow_facts.specs.Operands.{operand_of, type_in}
-use Rattle.flow_facts.specs.Ordered.{by_place, each}
-use Rattle.flow_facts.specs.Parts.{Part, a_load, an_element, a_creation, a_call, a_static_call, a_super_call, a_test, a_pair, a_set, a_store, an_element_store, a_return, is_accessed, parts, parts_all, parts_if, parts_set, parts_return, parts_assign, parts_st, parts_sts, parts_arms, parts_body, parts_of}
-use Rattle.flow_facts.specs.Numbered.{Body, body_at, bodies_of, site_if, form_sites, row_number, sites_of, site_number}
-use Rattle.flow_facts.specs.Facts.{IsFactsOf}
+use Rattle.flow_rules.specs.declared.items.ObjectType.{ObjectType}
+use Rattle.flow_rules.specs.declared.items.Operand.{Operand}
+use Rattle.flow_rules.specs.declared.items.Site.{Site}
+use Rattle.flow_rules.specs.Labels.{label_sts}
+use Rattle.flow_rules.specs.Operands.{operand_of, type_in}
+use Rattle.flow_rules.specs.Ordered.{by_place, each}
+use Rattle.flow_rules.specs.Parts.{Part, a_load, an_element, a_creation, a_call, a_static_call, a_super_call, a_test, a_pair, a_set, a_store, an_element_store, a_return, is_accessed, parts, parts_all, parts_if, parts_set, parts_return, parts_assign, parts_st, parts_sts, parts_arms, parts_body, parts_of}
+use Rattle.flow_rules.specs.Numbered.{Body, body_at, bodies_of, site_if, form_sites, row_number, sites_of, site_number}
+use Rattle.flow_rules.specs.Facts.{IsFactsOf}
 use Rattle.run_cover.specs.Untagged.{untag_body, untag_method, untagged}
 use Rattle.java_meaning.specs.Watched.{bare, bare_all, bare_if, bare_target, bare_st, bare_sts, bare_arms}
 use Rattle.run_cover.proofs.Kinded.{site_type}

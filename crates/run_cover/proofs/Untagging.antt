@@ -4,7 +4,7 @@ use Rattle.std.specs.Prelude.{map}
 use Rattle.java_core.specs.Trees.{Ex, Exs, no_ex, ex_then, number, character, text, truth, null, this, local, static_field, own_field, field, index, call, static_call, super_call, create, create_array, cast, instance_of, unary, binary, Target, to_local, to_static, to_own, to_field, to_element, no_target, St, Sts, Arms, declare, block, assign, act, print, choose, loop, return, break, continue, no_st, st_then, otherwise, arm}
 use Rattle.java_core.specs.Programs.{PlainMethod, PlainLocal}
 use Rattle.java_core.specs.Types.{env_of, types_of}
-use Rattle.flow_facts.specs.Labels.{label, label_all, label_if, label_target, label_st, label_sts, label_arms, size, size_target, size_st, size_sts, size_if}
+use Rattle.flow_rules.specs.Labels.{label, label_all, label_if, label_target, label_st, label_sts, label_arms, size, size_target, size_st, size_sts, size_if}
 use Rattle.run_cover.specs.Untagged.{untag_local, untag_method}
 use Rattle.java_meaning.specs.Watched.{bare, bare_all, bare_if, bare_target, bare_st, bare_sts, bare_arms}
 

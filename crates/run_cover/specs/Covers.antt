@@ -14,14 +14,14 @@ use Rattle.kaba_bits.specs.Sets.{bit, row}
 use Rattle.fact_model.specs.declared.sets.PointsTo.{PointsTo}
 use Rattle.fact_model.specs.declared.facts.Facts.{Facts}
 use Rattle.fact_model.specs.declared.facts.CellInfo.{CellInfo}
-use Rattle.flow_facts.specs.declared.items.Operand.{Operand}
-use Rattle.flow_facts.specs.declared.items.ColumnItem.TheVariants as column
-use Rattle.flow_facts.specs.declared.items.PointItem.TheVariants as point
-use Rattle.flow_facts.specs.Labels.{label_sts}
-use Rattle.flow_facts.specs.Operands.{operand_of, type_in}
-use Rattle.flow_facts.specs.Parts.{nothing}
-use Rattle.flow_facts.specs.Lists.{point_at, site_in}
-use Rattle.flow_facts.specs.Facts.{numbers}
+use Rattle.flow_rules.specs.declared.items.Operand.{Operand}
+use Rattle.flow_rules.specs.declared.items.ColumnItem.TheVariants as column
+use Rattle.flow_rules.specs.declared.items.PointItem.TheVariants as point
+use Rattle.flow_rules.specs.Labels.{label_sts}
+use Rattle.flow_rules.specs.Operands.{operand_of, type_in}
+use Rattle.flow_rules.specs.Parts.{nothing}
+use Rattle.flow_rules.specs.Lists.{point_at, site_in}
+use Rattle.flow_rules.specs.Facts.{numbers}
 use Rattle.run_cover.specs.Families.{Set}
 
 -- which sites each point and each cell has

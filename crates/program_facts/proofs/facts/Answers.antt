@@ -1,7 +1,7 @@
 use Rattle.std.proofs.Common.{subst}
 use Rattle.java_core.specs.Trees.{at_place, no_place}
 use Rattle.java_core.specs.Programs.{program_of}
-use Rattle.flow_facts.specs.Facts.{AreNamesOf, IsFactsOf, IsWithin}
+use Rattle.flow_rules.specs.Facts.{AreNamesOf, IsFactsOf, IsWithin}
 use Rattle.facts_order.proofs.Order.{in_range, in_order}
 use Rattle.program_facts.proofs.Covering.{covering, solved_cover}
 use Rattle.program_facts.proofs.facts.Goals as goal

@@ -3,9 +3,9 @@ use Rattle.std.proofs.lemmas.List.{append-nil}
 use Rattle.java_core.specs.Trees.{at_place, no_place, expr_of, stmt_of, stmts, else_seen, step_seen, value_of}
 use Rattle.java_core.specs.Programs.{program_of, method_seen}
 use Rattle.java_core.proofs.Rows.{if_as, for_as}
-use Rattle.flow_facts.specs.Labels.{label_sts, size_sts}
-use Rattle.flow_facts.specs.Parts.{parts_sts}
-use Rattle.flow_facts.specs.Types.{object_type}
+use Rattle.flow_rules.specs.Labels.{label_sts, size_sts}
+use Rattle.flow_rules.specs.Parts.{parts_sts}
+use Rattle.flow_rules.specs.Types.{object_type}
 use Rattle.flow_facts.specs.Views.{parts_seen}
 use Rattle.flow_facts.proofs.Forms.{block_form, while_form}
 use Rattle.flow_facts.proofs.Composed.{loop_parts, while_parts}

@@ -2,9 +2,9 @@
 use Rattle.std.proofs.Common.{◌≡◌, ◌+◌, ◌++◌, drop, length}
 use Rattle.java_core.specs.Trees.{at_place, no_place, stmts, arms_seen, else_seen}
 use Rattle.java_core.specs.Programs.{program_of, method_seen}
-use Rattle.flow_facts.specs.Labels.{size_sts, label_sts, size_arms, label_arms}
-use Rattle.flow_facts.specs.Parts.{parts_sts, parts_arms}
-use Rattle.flow_facts.specs.Types.{object_type}
+use Rattle.flow_rules.specs.Labels.{size_sts, label_sts, size_arms, label_arms}
+use Rattle.flow_rules.specs.Parts.{parts_sts, parts_arms}
+use Rattle.flow_rules.specs.Types.{object_type}
 use Rattle.flow_facts.specs.Views.{parts_seen}
 use Rattle.flow_facts.proofs.bodies.+statements.Given as goal
 

@@ -2,11 +2,11 @@
 use Rattle.std.proofs.Common.{◌++◌, length, ap, ◌∙◌}
 use Rattle.java_core.specs.Trees.{at_place, no_place, body_seen, stmts}
 use Rattle.java_core.specs.Programs.{program_of, method_seen}
-use Rattle.flow_facts.specs.Labels.{label_sts}
-use Rattle.flow_facts.specs.Parts.{parts_sts}
-use Rattle.flow_facts.specs.Types.{object_type}
+use Rattle.flow_rules.specs.Labels.{label_sts}
+use Rattle.flow_rules.specs.Parts.{parts_sts}
+use Rattle.flow_rules.specs.Types.{object_type}
 use Rattle.flow_facts.specs.Views.{parts_seen}
-use Rattle.flow_facts.proofs.TypeLemmas.{parts_of_some, parts_of_none}
+use Rattle.flow_rules.proofs.TypeLemmas.{parts_of_some, parts_of_none}
 use Rattle.flow_facts.proofs.bodies.parts_of.Goals as goal
 
 pub returns-in_ok-walk_stmts-in-Some : goal.returns-in_ok-walk_stmts-in-Some

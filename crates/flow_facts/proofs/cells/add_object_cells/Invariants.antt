@@ -3,7 +3,7 @@ use Rattle.std.specs.List.{flat_map}
 use Rattle.java_core.specs.Trees.{no_place}
 use Rattle.java_core.specs.Programs.{program_of}
 use Rattle.flow_facts.specs.Seen.{field_cell_seen}
-use Rattle.flow_facts.specs.Facts.{field_cell}
+use Rattle.flow_rules.specs.Facts.{field_cell}
 use Rattle.flow_facts.proofs.cells.add_object_cells.Given as goal
 
 abbrev pub invariant-loop-field : goal.invariant-loop-field

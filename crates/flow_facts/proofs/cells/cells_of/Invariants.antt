@@ -1,9 +1,9 @@
 use Rattle.std.proofs.Common.{◌≡◌, ◌++◌, ◌≤◌, drop, map, length}
-use Rattle.flow_facts.specs.Ordered.{each}
+use Rattle.flow_rules.specs.Ordered.{each}
 use Rattle.java_core.specs.Trees.{no_place}
 use Rattle.java_core.specs.Programs.{program_of}
 use Rattle.flow_facts.specs.Seen.{field_cell_seen}
-use Rattle.flow_facts.specs.Facts.{site_cells}
+use Rattle.flow_rules.specs.Facts.{site_cells}
 use Rattle.flow_facts.proofs.cells.cells_of.Given as goal
 
 abbrev pub invariant-loop-i : goal.invariant-loop-i

@@ -3,8 +3,8 @@ use Rattle.std.proofs.lemmas.Result.{on_ok_weaker}
 use Rattle.std.specs.Option.{option_map_or}
 use Rattle.java_core.specs.Trees.{at_place}
 use Rattle.java_core.specs.Programs.{program_of}
-use Rattle.flow_facts.specs.declared.items.PointItem.TheVariants as point
-use Rattle.flow_facts.specs.Facts.{body_seen, body_if, column_body}
+use Rattle.flow_rules.specs.declared.items.PointItem.TheVariants as point
+use Rattle.flow_rules.specs.Facts.{body_seen, body_if, column_body}
 use Rattle.flow_facts.specs.Seen.{numbers_seen}
 use Rattle.flow_facts.proofs.infos.add_body.Goals as goal
 

@@ -3,9 +3,9 @@ use Rattle.std.proofs.lemmas.List.{map-append}
 use Rattle.java_core.specs.Trees.{at_place}
 use Rattle.java_core.specs.Programs.{Plain, PlainMethod, method_seen}
 use Rattle.fact_model.specs.declared.facts.BodyInfo.{BodyInfo}
-use Rattle.flow_facts.specs.declared.items.PointItem.TheVariants as point
-use Rattle.flow_facts.specs.Lists.{Numbers}
-use Rattle.flow_facts.specs.Facts.{PlainBody, body_seen, body_if, param_points}
+use Rattle.flow_rules.specs.declared.items.PointItem.TheVariants as point
+use Rattle.flow_rules.specs.Lists.{Numbers}
+use Rattle.flow_rules.specs.Facts.{PlainBody, body_seen, body_if, param_points}
 use Rattle.flow_facts.specs.Seen.{numbers_seen}
 use Rattle.flow_facts.proofs.infos.add_method_body.Goals as goal
 

@@ -1,9 +1,9 @@
 use Rattle.std.proofs.Common.{◌≡◌, ◌++◌, drop, map}
-use Rattle.flow_facts.specs.Ordered.{each}
+use Rattle.flow_rules.specs.Ordered.{each}
 use Rattle.java_core.specs.Trees.{at_place}
 use Rattle.java_core.specs.Programs.{program_of}
 use Rattle.flow_facts.specs.Seen.{numbers_seen}
-use Rattle.flow_facts.specs.Facts.{body_seen, column_body}
+use Rattle.flow_rules.specs.Facts.{body_seen, column_body}
 use Rattle.flow_facts.proofs.infos.body_infos.Given as goal
 
 abbrev pub invariant-loop-c : goal.invariant-loop-c

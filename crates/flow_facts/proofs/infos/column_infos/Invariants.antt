@@ -1,7 +1,7 @@
 use Rattle.std.proofs.Common.{◌≡◌, ◌++◌, drop, map}
 use Rattle.java_core.specs.Trees.{at_place}
 use Rattle.java_core.specs.Programs.{program_of}
-use Rattle.flow_facts.specs.Facts.{column_info}
+use Rattle.flow_rules.specs.Facts.{column_info}
 use Rattle.flow_facts.proofs.infos.column_infos.Given as goal
 
 abbrev pub invariant-loop-column : goal.invariant-loop-column

@@ -4,7 +4,7 @@ use Rattle.std.specs.Str.{chars}
 use Rattle.std.proofs.lemmas.Str.{chars-nil}
 use Rattle.java_core.specs.Trees.{at_place}
 use Rattle.java_core.specs.Programs.{program_of}
-use Rattle.flow_facts.specs.Facts.{name_in}
+use Rattle.flow_rules.specs.Facts.{name_in}
 use Rattle.flow_facts.proofs.infos.name_in.Goals as goal
 
 pub returns-in-None : goal.returns-in-None

@@ -1,9 +1,9 @@
 use Rattle.std.proofs.Common.{◌≡◌, ◌++◌, ◌∷◌, [], drop, map}
-use Rattle.flow_facts.specs.Ordered.{each}
+use Rattle.flow_rules.specs.Ordered.{each}
 use Rattle.java_core.specs.Trees.{at_place}
 use Rattle.java_core.specs.Programs.{local_seen}
 use Rattle.flow_facts.specs.Seen.{numbers_seen}
-use Rattle.flow_facts.specs.declared.items.PointItem.TheVariants as point
+use Rattle.flow_rules.specs.declared.items.PointItem.TheVariants as point
 use Rattle.flow_facts.proofs.infos.param_points.Given as goal
 
 abbrev pub invariant-loop-i : goal.invariant-loop-i

@@ -2,7 +2,7 @@ use Rattle.std.proofs.Common.{◌≡◌, ◌++◌, drop, map}
 use Rattle.java_core.specs.Trees.{at_place}
 use Rattle.java_core.specs.Programs.{program_of}
 use Rattle.flow_facts.specs.Seen.{numbers_seen}
-use Rattle.flow_facts.specs.Facts.{row_info}
+use Rattle.flow_rules.specs.Facts.{row_info}
 use Rattle.flow_facts.proofs.infos.row_infos.Given as goal
 
 abbrev pub invariant-loop-row : goal.invariant-loop-row

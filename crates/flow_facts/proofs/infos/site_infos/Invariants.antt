@@ -1,5 +1,5 @@
 use Rattle.std.proofs.Common.{◌≡◌, ◌++◌, drop, map}
-use Rattle.flow_facts.specs.Facts.{site_info}
+use Rattle.flow_rules.specs.Facts.{site_info}
 use Rattle.flow_facts.proofs.infos.site_infos.Given as goal
 
 abbrev pub invariant-loop-site : goal.invariant-loop-site

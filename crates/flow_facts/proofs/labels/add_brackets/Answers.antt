@@ -2,7 +2,7 @@
 use Rattle.std.proofs.Common.{rules, arith, ◌≡◌, ℕ, suc, ◌+◌, ◌-◌, ◌<◌, ◌++◌, sym, ap, ◌∙◌}
 use Rattle.std.specs.Prelude.{string_bytes, codes}
 use Rattle.std.proofs.lemmas.List.{append_assoc}
-use Rattle.flow_facts.specs.Facts.{brackets}
+use Rattle.flow_rules.specs.Facts.{brackets}
 use Rattle.flow_facts.proofs.labels.add_brackets.Goals as goal
 
 one_more : (n i : ℕ) → i < n → brackets (n - i) ≡ codes "[]" ++ brackets (n - (i + 1))

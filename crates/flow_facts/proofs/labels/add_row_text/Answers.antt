@@ -3,7 +3,7 @@ use Rattle.std.proofs.Common.{◌≡◌, ◌++◌, sym, ap, ◌∙◌}
 use Rattle.std.specs.Prelude.{string_bytes, codes}
 use Rattle.java_core.specs.Trees.{at_place}
 use Rattle.java_core.specs.Programs.{program_of}
-use Rattle.flow_facts.specs.Facts.{class_text, at_line, row_text}
+use Rattle.flow_rules.specs.Facts.{class_text, at_line, row_text}
 use Rattle.flow_facts.proofs.Composed.{then}
 use Rattle.flow_facts.proofs.labels.add_row_text.Goals as goal
 

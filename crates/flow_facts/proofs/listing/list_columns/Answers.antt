@@ -1,5 +1,5 @@
 use Rattle.std.proofs.Common.{◌∙◌, ap, map}
-use Rattle.flow_facts.proofs.Same.{same_columns}
+use Rattle.flow_rules.proofs.Same.{same_columns}
 use Rattle.flow_facts.proofs.Along.{once_as}
 use Rattle.flow_facts.proofs.listing.list_columns.Goals as goal
 

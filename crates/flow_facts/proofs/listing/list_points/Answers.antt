@@ -1,5 +1,5 @@
 use Rattle.std.proofs.Common.{◌∙◌, ap, refl, map}
-use Rattle.flow_facts.proofs.Same.{same_points}
+use Rattle.flow_rules.proofs.Same.{same_points}
 use Rattle.flow_facts.proofs.Along.{once_as}
 use Rattle.flow_facts.proofs.listing.list_points.Goals as goal
 

@@ -4,7 +4,7 @@ use Rattle.java_core.specs.Trees.{no_place}
 use Rattle.java_core.specs.Programs.{program_of}
 use Rattle.flow_facts.specs.Views.{parts_seen}
 use Rattle.flow_facts.specs.Seen.{numbers_seen, calls_seen}
-use Rattle.flow_facts.specs.Lists.{news_of, flows_of, loads_of, stores_of, calls_of, casts_of, tests_of, accesses_of, supers_of, ties_of}
+use Rattle.flow_rules.specs.Lists.{news_of, flows_of, loads_of, stores_of, calls_of, casts_of, tests_of, accesses_of, supers_of, ties_of}
 use Rattle.flow_facts.proofs.lists.add_parts.Given as goal
 
 abbrev pub invariant-loop-part : goal.invariant-loop-part

@@ -5,9 +5,9 @@ use Rattle.std.proofs.lemmas.List.{append_assoc, at_drop_more}
 use Rattle.std.proofs.lemmas.List.Concat.{flat_map-cons}
 use Rattle.java_core.specs.Trees.{no_place}
 use Rattle.java_core.specs.Programs.{program_of}
-use Rattle.flow_facts.specs.declared.items.Body.{Body}
-use Rattle.flow_facts.specs.Numbered as numbered
-use Rattle.flow_facts.specs.Lists.{news_of, flows_of, loads_of, stores_of, calls_of, casts_of, tests_of, accesses_of, supers_of, ties_of}
+use Rattle.flow_rules.specs.declared.items.Body.{Body}
+use Rattle.flow_rules.specs.Numbered as numbered
+use Rattle.flow_rules.specs.Lists.{news_of, flows_of, loads_of, stores_of, calls_of, casts_of, tests_of, accesses_of, supers_of, ties_of}
 use Rattle.flow_facts.specs.Views.{body_seen}
 use Rattle.flow_facts.specs.Seen.{numbers_seen}
 use Rattle.flow_facts.proofs.lists.gather.Goals as goal

@@ -1,6 +1,6 @@
 use Rattle.std.proofs.Common.{◌≡◌, ◌++◌, drop, map}
 use Rattle.flow_facts.specs.Seen.{numbers_seen}
-use Rattle.flow_facts.specs.Lists.{point_at}
+use Rattle.flow_rules.specs.Lists.{point_at}
 use Rattle.flow_facts.proofs.lists.points_at.Given as goal
 
 abbrev pub invariant-loop-operand : goal.invariant-loop-operand

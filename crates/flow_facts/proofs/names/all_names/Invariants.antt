@@ -3,7 +3,7 @@ use Rattle.std.proofs.Common.{◌≡◌, ◌++◌, ◌∷◌, drop, map}
 use Rattle.std.specs.List.{flat_map}
 use Rattle.java_core.specs.Trees.{at_place}
 use Rattle.java_core.specs.Programs.{method_seen, field_seen}
-use Rattle.flow_facts.specs.Facts.{variable_names}
+use Rattle.flow_rules.specs.Facts.{variable_names}
 use Rattle.flow_facts.proofs.names.all_names.Given as goal
 
 abbrev pub invariant-loop-method : goal.invariant-loop-method

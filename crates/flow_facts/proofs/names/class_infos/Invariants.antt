@@ -1,9 +1,9 @@
 use Rattle.java_core.specs.Programs.{class_seen as plain_class}
 use Rattle.std.proofs.Common.{◌≡◌, ◌++◌, drop, map}
-use Rattle.flow_facts.specs.Ordered.{each}
+use Rattle.flow_rules.specs.Ordered.{each}
 use Rattle.java_core.specs.Trees.{at_place}
 use Rattle.java_core.specs.Programs.{program_of}
-use Rattle.flow_facts.specs.Facts.{class_facts, class_seen}
+use Rattle.flow_rules.specs.Facts.{class_facts, class_seen}
 use Rattle.flow_facts.proofs.names.class_infos.Given as goal
 
 abbrev pub invariant-loop-c : goal.invariant-loop-c

@@ -1,7 +1,7 @@
 use Rattle.std.proofs.Common.{◌≡◌, ◌++◌, drop, map}
 use Rattle.std.specs.Prelude.{string_bytes}
 use Rattle.std.specs.Str.{bytes_eq, encode_utf8_all}
-use Rattle.flow_facts.specs.Ordered.{once, once_after}
+use Rattle.flow_rules.specs.Ordered.{once, once_after}
 use Rattle.flow_facts.proofs.names.words.Given as goal
 
 abbrev pub invariant-loop-name : goal.invariant-loop-name

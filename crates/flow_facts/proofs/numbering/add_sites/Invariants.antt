@@ -1,6 +1,6 @@
 use Rattle.std.proofs.Common.{◌≡◌, ◌++◌, drop}
 use Rattle.std.specs.List.{flat_map}
-use Rattle.flow_facts.specs.Numbered.{number_among, same_row, form_sites}
+use Rattle.flow_rules.specs.Numbered.{number_among, same_row, form_sites}
 use Rattle.flow_facts.specs.Views.{parts_seen}
 use Rattle.flow_facts.proofs.numbering.add_sites.Given as goal
 

@@ -1,6 +1,6 @@
 use Rattle.std.proofs.Common.{◌≡◌, ◌++◌, drop, map}
 use Rattle.std.specs.List.{flat_map}
-use Rattle.flow_facts.specs.Numbered.{number_among, same_row, form_sites}
+use Rattle.flow_rules.specs.Numbered.{number_among, same_row, form_sites}
 use Rattle.flow_facts.specs.Views.{body_seen}
 use Rattle.flow_facts.proofs.numbering.all_sites.Given as goal
 

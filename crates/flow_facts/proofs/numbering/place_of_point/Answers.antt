@@ -1,6 +1,6 @@
 use Rattle.std.proofs.Common.{◌∙◌, ap}
-use Rattle.flow_facts.specs.Numbered.{number_among}
-use Rattle.flow_facts.proofs.Same.{same_points}
+use Rattle.flow_rules.specs.Numbered.{number_among}
+use Rattle.flow_rules.proofs.Same.{same_points}
 use Rattle.flow_facts.proofs.numbering.place_of_point.Goals as goal
 
 pub returns-clause-value : goal.returns-clause-value

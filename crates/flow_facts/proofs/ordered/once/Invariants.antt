@@ -1,5 +1,5 @@
 use Rattle.std.proofs.Common.{◌≡◌, ◌++◌, drop, map}
-use Rattle.flow_facts.specs.Ordered.{once, once_after}
+use Rattle.flow_rules.specs.Ordered.{once, once_after}
 use Rattle.flow_facts.proofs.ordered.once.Given as goal
 
 abbrev pub invariant-loop-item : goal.invariant-loop-item

@@ -1,6 +1,6 @@
 use Rattle.std.proofs.Common.{◌≡◌, ◌++◌, drop}
 use Rattle.std.specs.List.{flat_map}
-use Rattle.flow_facts.specs.Numbered.{form_columns}
+use Rattle.flow_rules.specs.Numbered.{form_columns}
 use Rattle.flow_facts.specs.Views.{parts_seen}
 use Rattle.flow_facts.proofs.survey.add_form_columns.Given as goal
 

@@ -1,8 +1,8 @@
 use Rattle.std.proofs.Common.{◌≡◌, ◌+◌, ◌++◌, drop, map}
 use Rattle.java_core.specs.Trees.{at_place, no_place}
 use Rattle.java_core.specs.Programs.{program_of, method_seen, local_seen}
-use Rattle.flow_facts.specs.Ordered.{each}
-use Rattle.flow_facts.specs.Numbered.{variable_rows}
+use Rattle.flow_rules.specs.Ordered.{each}
+use Rattle.flow_rules.specs.Numbered.{variable_rows}
 use Rattle.flow_facts.proofs.survey.add_variable_rows.Given as goal
 
 abbrev pub invariant-loop-local : goal.invariant-loop-local

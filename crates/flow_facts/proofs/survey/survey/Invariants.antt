@@ -1,8 +1,8 @@
 use Rattle.std.proofs.Common.{◌≡◌, ◌++◌, drop, map}
 use Rattle.java_core.specs.Trees.{at_place, no_place}
 use Rattle.java_core.specs.Programs.{program_of, method_seen}
-use Rattle.flow_facts.specs.Ordered.{each}
-use Rattle.flow_facts.specs.Numbered.{field_rows, field_columns, static_points, method_rows, method_columns, outline_if, body_at}
+use Rattle.flow_rules.specs.Ordered.{each}
+use Rattle.flow_rules.specs.Numbered.{field_rows, field_columns, static_points, method_rows, method_columns, outline_if, body_at}
 use Rattle.flow_facts.specs.Views.{outline_seen, body_seen}
 use Rattle.flow_facts.proofs.survey.survey.Given as goal
 

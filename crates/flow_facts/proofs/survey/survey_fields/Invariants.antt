@@ -1,8 +1,8 @@
 use Rattle.std.proofs.Common.{◌≡◌, ◌++◌, drop, map}
 use Rattle.java_core.specs.Trees.{at_place}
 use Rattle.java_core.specs.Programs.{field_seen}
-use Rattle.flow_facts.specs.Ordered.{each}
-use Rattle.flow_facts.specs.Numbered.{field_rows, field_columns, static_points}
+use Rattle.flow_rules.specs.Ordered.{each}
+use Rattle.flow_rules.specs.Numbered.{field_rows, field_columns, static_points}
 use Rattle.flow_facts.proofs.survey.survey_fields.Given as goal
 
 abbrev pub invariant-loop-f : goal.invariant-loop-f

@@ -1,7 +1,7 @@
 use Rattle.std.proofs.Common.{◌≡◌, ◌++◌, drop}
-use Rattle.flow_facts.specs.Ordered.{each}
+use Rattle.flow_rules.specs.Ordered.{each}
 use Rattle.flow_facts.specs.Seen.{numbers_seen}
-use Rattle.flow_facts.specs.Lists.{tied, row_at, row_in, param_row}
+use Rattle.flow_rules.specs.Lists.{tied, row_at, row_in, param_row}
 use Rattle.java_core.specs.Programs.{program_of}
 use Rattle.java_core.specs.Trees.{no_place}
 use Rattle.flow_facts.proofs.ties.add_method_args.Given as goal

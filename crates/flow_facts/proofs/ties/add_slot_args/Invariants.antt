@@ -1,8 +1,8 @@
 use Rattle.std.proofs.Common.{◌≡◌, ◌++◌, drop}
-use Rattle.flow_facts.specs.Ordered.{each}
+use Rattle.flow_rules.specs.Ordered.{each}
 use Rattle.flow_facts.specs.Seen.{numbers_seen}
-use Rattle.flow_facts.specs.Lists.{tied, row_at}
-use Rattle.flow_facts.specs.declared.items.RowItem.TheVariants as row
+use Rattle.flow_rules.specs.Lists.{tied, row_at}
+use Rattle.flow_rules.specs.declared.items.RowItem.TheVariants as row
 use Rattle.flow_facts.proofs.ties.add_slot_args.Given as goal
 
 abbrev pub invariant-loop-i : goal.invariant-loop-i

@@ -2,8 +2,8 @@
 use Rattle.std.proofs.Common.{refl}
 use Rattle.java_core.specs.Trees.{at_place, no_place}
 use Rattle.java_core.specs.Programs.{program_of}
-use Rattle.flow_facts.specs.Lists.{news_of, flows_of, loads_of, stores_of, casts_of, accesses_of, supers_of, ties_of}
-use Rattle.flow_facts.specs.Facts.{IsFactsOf, AreNamesOf}
+use Rattle.flow_rules.specs.Lists.{news_of, flows_of, loads_of, stores_of, casts_of, accesses_of, supers_of, ties_of}
+use Rattle.flow_rules.specs.Facts.{IsFactsOf, AreNamesOf}
 use Rattle.flow_facts.proofs.Along.{same_set}
 use Rattle.flow_facts.proofs.Whole.{none_given, few_columns, rows_whole, columns_whole, sites_whole, points_whole, bodies_whole, set_whole, calls_whole, tests_whole}
 use Rattle.flow_facts.proofs.top.facts_over.Goals as goal

@@ -1,7 +1,7 @@
 use Rattle.std.proofs.Common.{◌≡◌, drop, map}
 use Rattle.java_core.specs.Trees.{at_place}
 use Rattle.java_core.specs.Programs.{class_seen}
-use Rattle.flow_facts.specs.Facts.{first_interface}
+use Rattle.flow_rules.specs.Facts.{first_interface}
 use Rattle.flow_facts.proofs.top.first_interface.Given as goal
 
 abbrev pub invariant-loop-class : goal.invariant-loop-class

@@ -1,7 +1,7 @@
 use Rattle.std.proofs.Common.{◌≡◌, length, arith}
 use Rattle.java_core.specs.Trees.{at_place, no_place}
 use Rattle.java_core.specs.Programs.{program_of}
-use Rattle.flow_facts.specs.Numbered.{rows_of, columns_of, sites_of, points_of}
+use Rattle.flow_rules.specs.Numbered.{rows_of, columns_of, sites_of, points_of}
 use Rattle.flow_facts.proofs.Counts.{numbers_are}
 use Rattle.flow_facts.proofs.Refusals.{counted, few, passed}
 use Rattle.flow_facts.proofs.top.number_all.Goals as goal

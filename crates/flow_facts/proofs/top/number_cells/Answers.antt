@@ -1,8 +1,8 @@
 use Rattle.std.proofs.Common.{refl, map}
 use Rattle.java_core.specs.Trees.{at_place, no_place}
 use Rattle.java_core.specs.Programs.{program_of}
-use Rattle.flow_facts.specs.Ordered.{each}
-use Rattle.flow_facts.specs.Facts.{site_cells}
+use Rattle.flow_rules.specs.Ordered.{each}
+use Rattle.flow_rules.specs.Facts.{site_cells}
 use Rattle.flow_facts.specs.Seen.{numbers_seen, field_cell_seen}
 use Rattle.flow_facts.proofs.Counts.{cells_are}
 use Rattle.flow_facts.proofs.Refusals.{too_many_cells, all_counted}

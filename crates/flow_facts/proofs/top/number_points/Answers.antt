@@ -2,9 +2,9 @@ use Rattle.std.proofs.Common.{◌≡◌, length, ◌∙◌, ap, map, arith}
 use Rattle.std.proofs.lemmas.Result.{err_from_is_err_and}
 use Rattle.java_core.specs.Trees.{at_place, no_place}
 use Rattle.java_core.specs.Programs.{program_of}
-use Rattle.flow_facts.specs.declared.top.Counted.TheVariants as counted
+use Rattle.flow_rules.specs.declared.faults.Counted.TheVariants as counted
 use Rattle.flow_facts.proofs.Counts.{points_are, outlines_are}
-use Rattle.flow_facts.specs.Ordered.{by_place}
+use Rattle.flow_rules.specs.Ordered.{by_place}
 use Rattle.flow_facts.proofs.Refusals.{at_most, refused, too_many_points}
 use Rattle.flow_facts.proofs.top.number_points.Goals as goal
 

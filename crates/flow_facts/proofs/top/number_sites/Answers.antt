@@ -2,7 +2,7 @@ use Rattle.std.proofs.Common.{◌≡◌, length, ◌∙◌, ap, map, arith}
 use Rattle.std.proofs.lemmas.Result.{err_from_is_err_and}
 use Rattle.java_core.specs.Trees.{at_place, no_place}
 use Rattle.java_core.specs.Programs.{program_of}
-use Rattle.flow_facts.specs.declared.top.Counted.TheVariants as counted
+use Rattle.flow_rules.specs.declared.faults.Counted.TheVariants as counted
 use Rattle.flow_facts.proofs.Counts.{sites_are, over_sites}
 use Rattle.flow_facts.proofs.Refusals.{at_most, refused}
 use Rattle.flow_facts.proofs.top.number_sites.Goals as goal

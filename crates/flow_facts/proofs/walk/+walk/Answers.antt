@@ -2,10 +2,10 @@
 use Rattle.std.proofs.Common.{rules, arith, ◌≡◌, ◌+◌, ◌++◌, ◌∷◌, [], length, sym, ap, ◌∙◌}
 use Rattle.java_core.specs.Trees.{at_place, no_place, call, create, expr_of, exprs}
 use Rattle.java_core.specs.Programs.{program_of, method_seen}
-use Rattle.flow_facts.specs.Labels.{label_all}
-use Rattle.flow_facts.specs.Operands.{operand_of}
-use Rattle.flow_facts.specs.Parts.{a_creation}
-use Rattle.flow_facts.specs.Types.{object_type}
+use Rattle.flow_rules.specs.Labels.{label_all}
+use Rattle.flow_rules.specs.Operands.{operand_of}
+use Rattle.flow_rules.specs.Parts.{a_creation}
+use Rattle.flow_rules.specs.Types.{object_type}
 use Rattle.flow_facts.specs.Views.{parts_seen}
 use Rattle.flow_facts.proofs.Composed.{call_parts, creation_parts}
 use Rattle.flow_facts.proofs.Forms.{own_call, call_on, static_form, super_form, creation_form}

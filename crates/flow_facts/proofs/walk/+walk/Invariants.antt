@@ -2,10 +2,10 @@
 use Rattle.std.proofs.Common.{◌≡◌, ◌+◌, ◌++◌, drop, length}
 use Rattle.java_core.specs.Trees.{at_place, no_place, exprs}
 use Rattle.java_core.specs.Programs.{program_of, method_seen}
-use Rattle.flow_facts.specs.Labels.{sizes, label_all}
-use Rattle.flow_facts.specs.Operands.{operands_of}
-use Rattle.flow_facts.specs.Parts.{parts_all}
-use Rattle.flow_facts.specs.Types.{object_type}
+use Rattle.flow_rules.specs.Labels.{sizes, label_all}
+use Rattle.flow_rules.specs.Operands.{operands_of}
+use Rattle.flow_rules.specs.Parts.{parts_all}
+use Rattle.flow_rules.specs.Types.{object_type}
 use Rattle.flow_facts.specs.Views.{parts_seen}
 use Rattle.flow_facts.proofs.walk.+walk.Given as goal
 

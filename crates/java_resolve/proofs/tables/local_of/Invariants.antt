@@ -1,5 +1,5 @@
 use Rattle.std.proofs.Common.{◌≡◌, drop}
-use Rattle.java_resolve.specs.Tables.{local_of}
+use Rattle.name_rules.specs.Meanings.{local_of}
 use Rattle.java_resolve.proofs.tables.local_of.Given as goal
 
 -- the first of the name is among those that are left

@@ -6,7 +6,7 @@ use Rattle.java_tree.specs.declared.TypeName.{TypeName}
 use Rattle.java_tree.specs.declared.TypeBase.TheVariants as bases
 use Rattle.java_tree.specs.declared.Param.{Param}
 use Rattle.java_tree.specs.Syntax.{DeclTree}
-use Rattle.java_resolve.specs.Outline.{FieldAt, MethodAt, fields_in, methods_in, parent_named, faces_named, is_text_type}
+use Rattle.name_rules.specs.Outline.{FieldAt, MethodAt, fields_in, methods_in, parent_named, faces_named, is_text_type}
 
 -- a supertype that a declaration names
 pub data IsSuper (tree : List DeclTree) : Id → Type 0 where

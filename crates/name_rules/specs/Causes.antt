@@ -1,9 +1,9 @@
 -- What each answer of `resolve` that is no program comes from.
 use Rattle.std.specs.Prelude.{List}
 use Rattle.java_tree.specs.Syntax.{DeclTree}
-use Rattle.java_resolve.specs.declared.Refusal.{Refusal}
-use Rattle.java_resolve.specs.declared.Refusal.TheVariants.{Memory}
-use Rattle.java_resolve.specs.Conditions.{ConditionAt}
+use Rattle.name_rules.specs.declared.Refusal.{Refusal}
+use Rattle.name_rules.specs.declared.Refusal.TheVariants.{Memory}
+use Rattle.name_rules.specs.Conditions.{ConditionAt}
 
 -- want of memory is free; any other refusal comes where its condition holds
 abbrev pub IsCause : List DeclTree → Refusal → Type 0

@@ -4,22 +4,22 @@ use Rattle.std.specs.Option.{option_map_or, is_some}
 use Rattle.std.specs.List.{flat_map}
 use Rattle.kaba_base.specs.declared.Place.{Place}
 use Rattle.java_core.specs.Programs.{Plain, PlainField, PlainMethod, PlainLocal, PlainSlot}
-use Rattle.flow_facts.specs.declared.items.ObjectType.{ObjectType}
-use Rattle.flow_facts.specs.declared.items.Operand.{Operand}
-use Rattle.flow_facts.specs.declared.items.RowItem.{RowItem}
-use Rattle.flow_facts.specs.declared.items.RowItem.TheVariants as row
-use Rattle.flow_facts.specs.declared.items.ColumnItem.{ColumnItem}
-use Rattle.flow_facts.specs.declared.items.ColumnItem.TheVariants as column
-use Rattle.flow_facts.specs.declared.items.PointItem.{PointItem}
-use Rattle.flow_facts.specs.declared.items.PointItem.TheVariants as point
-use Rattle.flow_facts.specs.declared.items.Row.{Row}
-use Rattle.flow_facts.specs.declared.items.Column.{Column}
-use Rattle.flow_facts.specs.declared.items.Site.{Site}
-use Rattle.flow_facts.specs.declared.items.Point.{Point}
-use Rattle.flow_facts.specs.declared.items.PointAt.{PointAt}
-use Rattle.flow_facts.specs.Ordered.{by_place, once, each, when}
-use Rattle.flow_facts.specs.Operands.{class_object, object_of, object_if, variable_row, result_in}
-use Rattle.flow_facts.specs.Parts.{Part, a_load, an_element, a_creation, a_call, a_static_call, a_super_call, a_test, parts_of}
+use Rattle.flow_rules.specs.declared.items.ObjectType.{ObjectType}
+use Rattle.flow_rules.specs.declared.items.Operand.{Operand}
+use Rattle.flow_rules.specs.declared.items.RowItem.{RowItem}
+use Rattle.flow_rules.specs.declared.items.RowItem.TheVariants as row
+use Rattle.flow_rules.specs.declared.items.ColumnItem.{ColumnItem}
+use Rattle.flow_rules.specs.declared.items.ColumnItem.TheVariants as column
+use Rattle.flow_rules.specs.declared.items.PointItem.{PointItem}
+use Rattle.flow_rules.specs.declared.items.PointItem.TheVariants as point
+use Rattle.flow_rules.specs.declared.items.Row.{Row}
+use Rattle.flow_rules.specs.declared.items.Column.{Column}
+use Rattle.flow_rules.specs.declared.items.Site.{Site}
+use Rattle.flow_rules.specs.declared.items.Point.{Point}
+use Rattle.flow_rules.specs.declared.items.PointAt.{PointAt}
+use Rattle.flow_rules.specs.Ordered.{by_place, once, each, when}
+use Rattle.flow_rules.specs.Operands.{class_object, object_of, object_if, variable_row, result_in}
+use Rattle.flow_rules.specs.Parts.{Part, a_load, an_element, a_creation, a_call, a_static_call, a_super_call, a_test, parts_of}
 
 abbrev pub same_row : RowItem → RowItem → Bool
 same_row (row.Field f) (row.Field g) = f == g

@@ -1,5 +1,5 @@
 -- What a name means in a body: a variable, a class, a member. `O` is the outline of the program: its classes, fields and methods.
-use Rattle.std.specs.Prelude.{◌≡◌, ℕ, ◌&&◌, not, Bool, true, false, List, map, Option, Some, slice_get}
+use Rattle.std.specs.Prelude.{◌≡◌, ℕ, ◌&&◌, not, Bool, true, false, List, [], ◌∷◌, map, Option, Some, None, slice_get, if◌then◌else◌}
 use Rattle.std.specs.Option.{is_none}
 use Rattle.std.specs.List.{list_any}
 use Rattle.std.specs.Str.{bytes_eq}
@@ -12,9 +12,8 @@ use Rattle.java_core.specs.declared.TyBase.{TyBase}
 use Rattle.java_core.specs.declared.TyBase.TheVariants as ty
 use Rattle.java_core.specs.Programs.{Plain, PlainField, PlainMethod}
 use Rattle.java_core.specs.Classes.{IsSubclass, own_field_of, field_of}
-use Rattle.java_resolve.specs.declared.tables.Bound.{Bound}
-use Rattle.java_resolve.specs.Tables.{local_of}
-use Rattle.java_resolve.specs.Outline.{type_named, is_text_type, class_id}
+use Rattle.name_rules.specs.declared.parts.Bound.{Bound}
+use Rattle.name_rules.specs.Outline.{type_named, is_text_type, class_id}
 
 -- ---- types
 
@@ -50,6 +49,11 @@ pub record MeansCast (O : Plain) (u : TypeName) (t : Ty) : Type 0 where
   pub dim : t.dim ≡ u.dim
 
 -- ---- variables
+
+-- the number of the local in scope under a name
+abbrev pub local_of : List ℕ → List Bound → Option ℕ
+local_of n [] = None
+local_of n (b ∷ bs) = if bytes_eq b.name n then Some b.number else local_of n bs
 
 -- the number of the parameter or local in scope under a name
 abbrev pub in_scope : List Bound → List ℕ → Option ℕ

@@ -1,16 +1,16 @@
 -- The derived equality of items is the one of the definitions.
 use Rattle.std.proofs.Common.{◌≡◌, refl}
 use mathlib.Core.Path.{fun_ext}
-use Rattle.flow_facts.specs.declared.items.RowItem.{RowItem}
-use Rattle.flow_facts.specs.declared.items.RowItem.TheVariants as row
-use Rattle.flow_facts.specs.declared.items.ColumnItem.{ColumnItem}
-use Rattle.flow_facts.specs.declared.items.ColumnItem.TheVariants as column
-use Rattle.flow_facts.specs.declared.items.PointItem.{PointItem}
-use Rattle.flow_facts.specs.declared.items.PointItem.TheVariants as point
-use Rattle.flow_facts.specs.contracts.items.RowItemPartialEq.TheImpl as row_derived
-use Rattle.flow_facts.specs.contracts.items.ColumnItemPartialEq.TheImpl as column_derived
-use Rattle.flow_facts.specs.contracts.items.PointItemPartialEq.TheImpl as point_derived
-use Rattle.flow_facts.specs.Numbered.{same_row, same_column, same_point}
+use Rattle.flow_rules.specs.declared.items.RowItem.{RowItem}
+use Rattle.flow_rules.specs.declared.items.RowItem.TheVariants as row
+use Rattle.flow_rules.specs.declared.items.ColumnItem.{ColumnItem}
+use Rattle.flow_rules.specs.declared.items.ColumnItem.TheVariants as column
+use Rattle.flow_rules.specs.declared.items.PointItem.{PointItem}
+use Rattle.flow_rules.specs.declared.items.PointItem.TheVariants as point
+use Rattle.flow_rules.specs.contracts.items.RowItemPartialEq.TheImpl as row_derived
+use Rattle.flow_rules.specs.contracts.items.ColumnItemPartialEq.TheImpl as column_derived
+use Rattle.flow_rules.specs.contracts.items.PointItemPartialEq.TheImpl as point_derived
+use Rattle.flow_rules.specs.Numbered.{same_row, same_column, same_point}
 
 row_eq : (a b : RowItem) → row_derived.eq-value.it a b ≡ same_row a b
 row_eq (row.Field f) (row.Field g) = refl

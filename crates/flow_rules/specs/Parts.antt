@@ -5,10 +5,10 @@ use Rattle.java_core.specs.declared.BinOp.{BinOp}
 use Rattle.java_core.specs.Trees.{Ex, Exs, no_ex, ex_then, number, character, text, truth, null, this, local, static_field, own_field, field, index, call, static_call, super_call, create, create_array, cast, instance_of, unary, binary, Target, to_local, to_static, to_own, to_field, to_element, no_target, St, Sts, Arms, declare, block, assign, act, print, choose, loop, return, break, continue, no_st, st_then, otherwise, arm}
 use Rattle.java_core.specs.Programs.{Plain, PlainMethod}
 use Rattle.java_core.specs.Classes.{super_method}
-use Rattle.flow_facts.specs.declared.items.ObjectType.{ObjectType}
-use Rattle.flow_facts.specs.declared.items.Operand.{Operand}
-use Rattle.flow_facts.specs.Labels.{label_sts}
-use Rattle.flow_facts.specs.Operands.{object_field, call_slot, call_declaration, operand_of, operands_of, this_operand, test_operand, type_in}
+use Rattle.flow_rules.specs.declared.items.ObjectType.{ObjectType}
+use Rattle.flow_rules.specs.declared.items.Operand.{Operand}
+use Rattle.flow_rules.specs.Labels.{label_sts}
+use Rattle.flow_rules.specs.Operands.{object_field, call_slot, call_declaration, operand_of, operands_of, this_operand, test_operand, type_in}
 
 pub data Part : Type 0 where
   -- a read of a field (none: the length of an array): the base, the field, and the read itself

@@ -16,10 +16,10 @@ use Rattle.java_core.specs.Trees.{Ex, Sts, number, character, text, truth, null,
 use Rattle.java_core.specs.Programs.{Plain, PlainMethod, PlainSlot}
 use Rattle.java_core.specs.Classes.{super_method, member_field, slot_of}
 use Rattle.java_core.specs.Types.{Static, a_value, null_value, no_value, env_of, class_in, class_of, element_in, element_of, or_nothing, field_type, field_in, access_type, length_or, is_length, is_string, string_method, StringMethod, LengthOf, CharAt, Equals, signature_of_string, signature_of_slot, signature_of_method, object_signature, call_signature, super_signature, result_of, plain_type, sum_type, types_of, binary_type, unary_type, static}
-use Rattle.flow_facts.specs.Operands.{object_in, object_of, object_if, object_static, object_class, object_field, call_slot, type_in}
-use Rattle.flow_facts.specs.Labels.{label_sts}
-use Rattle.flow_facts.specs.Parts.{Part, parts_sts, parts_body, parts_of}
-use Rattle.flow_facts.specs.Types.{field_object, slot_object, method_object, variable_object, element_object, object_type}
+use Rattle.flow_rules.specs.Operands.{object_in, object_of, object_if, object_static, object_class, object_field, call_slot, type_in}
+use Rattle.flow_rules.specs.Labels.{label_sts}
+use Rattle.flow_rules.specs.Parts.{Part, parts_sts, parts_body, parts_of}
+use Rattle.flow_rules.specs.Types.{field_object, slot_object, method_object, variable_object, element_object, object_type}
 
 nothing_is : (o : Option Ty) → object_if o ≡ object_static (or_nothing o)
 nothing_is None = refl

@@ -3,22 +3,66 @@ use Rattle.std.specs.Prelude.{◌≡◌, ℕ, ℤ, suc, ◌<◌, ◌≤◌, Bool
 use Rattle.std.specs.Option.{is_some}
 use Rattle.kaba_base.specs.declared.Place.{Place}
 use Rattle.java_lex.specs.declared.Mark.{Mark}
+use Rattle.java_lex.specs.declared.Mark.TheVariants as marks
 use Rattle.java_tree.specs.declared.Id.{Id}
 use Rattle.java_tree.specs.declared.TypeName.{TypeName}
 use Rattle.java_tree.specs.Syntax.{Expression, IntLit, CharLit, StrLit, BoolLit, NullLit, ThisRef, NameRef, FieldOf, IndexOf, CallOf, CallOn, SuperCallOf, NewOf, NewArrayOf, CastOf, InstanceOfClass, UnaryOf, BinaryOf, Expressions, no_more, and_more, Statement, LocalOf, BlockOf, AssignOf, DoOf, PrintOf, IfOf, WhileOf, ForOf, ReturnOf, BreakOf, ContinueOf, Statements, no_statements, and_then, Else, no_else, OptionalStatement, absent, present, DeclTree}
 use Rattle.java_tree.specs.Syntax as tree
 use Rattle.java_core.specs.declared.Ty.{Ty}
-use Rattle.java_core.specs.Trees.{at_place, Ex, number, character, text, truth, null, this, local, static_field, own_field, field, index, call, static_call, super_call, create, create_array, cast, instance_of, unary, binary, Exs, no_ex, ex_then, St, declare, block, assign, act, print, choose, loop, return, break, continue, Sts, no_st, st_then, Arms, otherwise, arm}
+use Rattle.java_core.specs.declared.UnOp.{UnOp}
+use Rattle.java_core.specs.declared.UnOp.TheVariants as un
+use Rattle.java_core.specs.declared.BinOp.{BinOp}
+use Rattle.java_core.specs.declared.BinOp.TheVariants as bin
+use Rattle.java_core.specs.declared.Op.TheVariants as op
+use Rattle.java_core.specs.Trees.{at_place, Ex, number, character, text, truth, null, this, local, static_field, own_field, field, index, call, static_call, super_call, create, create_array, cast, instance_of, unary, binary, Exs, no_ex, ex_then, Target, to_local, to_static, to_own, to_field, to_element, no_target, St, declare, block, assign, act, print, choose, loop, return, break, continue, Sts, no_st, st_then, Arms, otherwise, arm}
 use Rattle.java_core.specs.Programs.{Plain, PlainLocal, PlainField, PlainMethod, PlainSlot}
 use Rattle.java_core.specs.Types.{types_of}
 use Rattle.java_core.specs.Formed.{variables_of, numbers_methods, IsMain}
-use Rattle.java_resolve.specs.declared.tables.Bound.{Bound}
-use Rattle.java_resolve.specs.declared.exprs.Here.{Here}
-use Rattle.java_resolve.specs.Outline.{MethodAt, is_static, outline, methods_in, is_type_name}
-use Rattle.java_resolve.specs.Meanings.{type_names, class_named, Means, MeansCast, in_scope, is_bound, bound_names, is_class_name, IsStaticFieldOf, IsStaticMethodOf, IsNearestField, IsMet}
-use Rattle.java_resolve.specs.Expressions.{un_op, bin_op}
-use Rattle.java_resolve.specs.Statements.{target, bound}
-use Rattle.java_resolve.specs.Asked.{Asks}
+use Rattle.name_rules.specs.declared.parts.Bound.{Bound}
+use Rattle.name_rules.specs.declared.parts.Here.{Here}
+use Rattle.name_rules.specs.Outline.{MethodAt, is_static, outline, methods_in, is_type_name}
+use Rattle.name_rules.specs.Meanings.{type_names, class_named, Means, MeansCast, in_scope, is_bound, bound_names, is_class_name, IsStaticFieldOf, IsStaticMethodOf, IsNearestField, IsMet}
+use Rattle.name_rules.specs.Asked.{Asks}
+
+-- the operator of a mark; a mark that is none does not come from a text
+abbrev pub un_op : Mark → UnOp
+un_op marks.Plus = un.Plus
+un_op marks.Minus = un.Minus
+un_op marks.Flip = un.Flip
+un_op _ = un.Not
+
+abbrev pub bin_op : Mark → BinOp
+bin_op marks.Plus = bin.Int op.Plus
+bin_op marks.Minus = bin.Int op.Minus
+bin_op marks.Star = bin.Int op.Times
+bin_op marks.Slash = bin.Int op.Divide
+bin_op marks.Percent = bin.Int op.Remainder
+bin_op marks.ShiftLeft = bin.Int op.ShiftLeft
+bin_op marks.ShiftRight = bin.Int op.ShiftRight
+bin_op marks.ShiftRightLogical = bin.Int op.ShiftRightUnsigned
+bin_op marks.And = bin.Int op.And
+bin_op marks.Or = bin.Int op.Or
+bin_op marks.Xor = bin.Int op.Xor
+bin_op marks.Equal = bin.Same
+bin_op marks.NotEqual = bin.Differs
+bin_op marks.Less = bin.Less
+bin_op marks.Greater = bin.Greater
+bin_op marks.AtMost = bin.AtMost
+bin_op marks.AtLeast = bin.AtLeast
+bin_op marks.Both = bin.Both
+bin_op _ = bin.Either
+
+-- what an assignment to an expression changes
+abbrev pub target : Ex → Target
+target (local t n) = to_local t n
+target (static_field t f) = to_static t f
+target (own_field t f) = to_own t f
+target (field t e n) = to_field t e n
+target (index t e i) = to_element t e i
+target _ = no_target
+
+abbrev pub bound : List Bound → List ℕ → ℕ → List Bound
+bound scope n k = scope ++ record { name = n; number = k } ∷ []
 
 -- numbers that count from one up to below another
 pub data Counts : ℕ → List ℕ → ℕ → Type 0 where

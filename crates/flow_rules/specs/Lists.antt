@@ -15,17 +15,17 @@ use Rattle.fact_model.specs.declared.facts.AccessInfo.{AccessInfo}
 use Rattle.fact_model.specs.declared.facts.SuperInfo.{SuperInfo}
 use Rattle.fact_model.specs.declared.facts.TieInfo.{TieInfo}
 use Rattle.fact_model.specs.declared.facts.TestInfo.{TestInfo}
-use Rattle.flow_facts.specs.declared.items.ObjectType.{ObjectType}
-use Rattle.flow_facts.specs.declared.items.Operand.{Operand}
-use Rattle.flow_facts.specs.declared.items.RowItem.{RowItem}
-use Rattle.flow_facts.specs.declared.items.RowItem.TheVariants as row
-use Rattle.flow_facts.specs.declared.items.ColumnItem.{ColumnItem}
-use Rattle.flow_facts.specs.declared.items.ColumnItem.TheVariants as column
-use Rattle.flow_facts.specs.declared.items.PointItem.{PointItem}
-use Rattle.flow_facts.specs.declared.items.PointItem.TheVariants as point
-use Rattle.flow_facts.specs.Ordered.{each, when}
-use Rattle.flow_facts.specs.Operands.{variable_row, result_in}
-use Rattle.flow_facts.specs.Parts.{Part, a_load, an_element, a_creation, a_call, a_static_call, a_super_call, a_test, a_pair, a_set, a_store, an_element_store, a_return}
+use Rattle.flow_rules.specs.declared.items.ObjectType.{ObjectType}
+use Rattle.flow_rules.specs.declared.items.Operand.{Operand}
+use Rattle.flow_rules.specs.declared.items.RowItem.{RowItem}
+use Rattle.flow_rules.specs.declared.items.RowItem.TheVariants as row
+use Rattle.flow_rules.specs.declared.items.ColumnItem.{ColumnItem}
+use Rattle.flow_rules.specs.declared.items.ColumnItem.TheVariants as column
+use Rattle.flow_rules.specs.declared.items.PointItem.{PointItem}
+use Rattle.flow_rules.specs.declared.items.PointItem.TheVariants as point
+use Rattle.flow_rules.specs.Ordered.{each, when}
+use Rattle.flow_rules.specs.Operands.{variable_row, result_in}
+use Rattle.flow_rules.specs.Parts.{Part, a_load, an_element, a_creation, a_call, a_static_call, a_super_call, a_test, a_pair, a_set, a_store, an_element_store, a_return}
 
 -- the number of each row, column and flow point, and of the site of each creation
 pub record Numbers : Type 0 where

@@ -20,22 +20,22 @@ use Rattle.fact_model.specs.declared.facts.ClassInfo.{ClassInfo}
 use Rattle.fact_model.specs.declared.facts.CellInfo.{CellInfo}
 use Rattle.fact_model.specs.declared.facts.BodyInfo.{BodyInfo}
 use Rattle.fact_model.specs.declared.facts.CallInfo.{CallInfo}
-use Rattle.flow_facts.specs.declared.top.Counted.{Counted}
-use Rattle.flow_facts.specs.declared.top.Counted.TheVariants as counted
-use Rattle.flow_facts.specs.declared.top.FactsFault.{FactsFault}
-use Rattle.flow_facts.specs.declared.top.FactsFault.TheVariants as fault
-use Rattle.flow_facts.specs.declared.items.RowItem.{RowItem}
-use Rattle.flow_facts.specs.declared.items.RowItem.TheVariants as row
-use Rattle.flow_facts.specs.declared.items.ColumnItem.{ColumnItem}
-use Rattle.flow_facts.specs.declared.items.ColumnItem.TheVariants as column
-use Rattle.flow_facts.specs.declared.items.PointItem.TheVariants as point
-use Rattle.flow_facts.specs.declared.items.Row.{Row}
-use Rattle.flow_facts.specs.declared.items.Column.{Column}
-use Rattle.flow_facts.specs.declared.items.Site.{Site}
-use Rattle.flow_facts.specs.Ordered.{by_place, once, each, when}
-use Rattle.flow_facts.specs.Parts.{Part}
-use Rattle.flow_facts.specs.Numbered.{Body, bodies_of, rows_of, columns_of, sites_of, points_of, row_number, column_number, site_number, point_number}
-use Rattle.flow_facts.specs.Lists.{Numbers, PlainCall, news_of, flows_of, loads_of, stores_of, calls_of, casts_of, tests_of, accesses_of, supers_of, ties_of}
+use Rattle.flow_rules.specs.declared.faults.Counted.{Counted}
+use Rattle.flow_rules.specs.declared.faults.Counted.TheVariants as counted
+use Rattle.flow_rules.specs.declared.faults.FactsFault.{FactsFault}
+use Rattle.flow_rules.specs.declared.faults.FactsFault.TheVariants as fault
+use Rattle.flow_rules.specs.declared.items.RowItem.{RowItem}
+use Rattle.flow_rules.specs.declared.items.RowItem.TheVariants as row
+use Rattle.flow_rules.specs.declared.items.ColumnItem.{ColumnItem}
+use Rattle.flow_rules.specs.declared.items.ColumnItem.TheVariants as column
+use Rattle.flow_rules.specs.declared.items.PointItem.TheVariants as point
+use Rattle.flow_rules.specs.declared.items.Row.{Row}
+use Rattle.flow_rules.specs.declared.items.Column.{Column}
+use Rattle.flow_rules.specs.declared.items.Site.{Site}
+use Rattle.flow_rules.specs.Ordered.{by_place, once, each, when}
+use Rattle.flow_rules.specs.Parts.{Part}
+use Rattle.flow_rules.specs.Numbered.{Body, bodies_of, rows_of, columns_of, sites_of, points_of, row_number, column_number, site_number, point_number}
+use Rattle.flow_rules.specs.Lists.{Numbers, PlainCall, news_of, flows_of, loads_of, stores_of, calls_of, casts_of, tests_of, accesses_of, supers_of, ties_of}
 
 -- what there is too much of, and the number one past the limit
 pub record TooMany : Type 0 where

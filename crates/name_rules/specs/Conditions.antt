@@ -15,16 +15,16 @@ use Rattle.java_core.specs.Programs.{Plain, PlainClass, PlainField, PlainMethod}
 use Rattle.java_core.specs.Classes.{IsSubclass, IsProperSubclass}
 use Rattle.java_core.specs.Types.{types_of}
 use Rattle.java_core.specs.Formed.{IsMain}
-use Rattle.java_resolve.specs.declared.Form.TheVariants as forms
-use Rattle.java_resolve.specs.declared.Refusal.{Refusal}
-use Rattle.java_resolve.specs.declared.Refusal.TheVariants.{Unknown, Twice, Loop, Overload, TwoKinds, PrivateReused, NoMain, NotInProfile}
-use Rattle.java_resolve.specs.declared.exprs.Here.{Here}
-use Rattle.java_resolve.specs.declared.flags.Kind.{Kind}
-use Rattle.java_resolve.specs.declared.flags.Kind.TheVariants as kinds
-use Rattle.java_resolve.specs.Outline.{FieldAt, MethodAt, is_private, has_word, is_abstract_word, outline, fields_in, methods_in, types_in, is_text_type, is_type_name, is_known, name_of, place_of, mods_of, parent_named, faces_named}
-use Rattle.java_resolve.specs.Meanings.{type_names, class_named, is_bound, is_class_name, IsStaticFieldOf, IsStaticMethodOf, IsNearestField, IsMet}
-use Rattle.java_resolve.specs.Asked.{Asks}
-use Rattle.java_resolve.specs.Resolves.{here_of}
+use Rattle.name_rules.specs.declared.Form.TheVariants as forms
+use Rattle.name_rules.specs.declared.Refusal.{Refusal}
+use Rattle.name_rules.specs.declared.Refusal.TheVariants.{Unknown, Twice, Loop, Overload, TwoKinds, PrivateReused, NoMain, NotInProfile}
+use Rattle.name_rules.specs.declared.parts.Here.{Here}
+use Rattle.name_rules.specs.declared.parts.Kind.{Kind}
+use Rattle.name_rules.specs.declared.parts.Kind.TheVariants as kinds
+use Rattle.name_rules.specs.Outline.{FieldAt, MethodAt, is_private, has_word, is_abstract_word, outline, fields_in, methods_in, types_in, is_text_type, is_type_name, is_known, name_of, place_of, mods_of, parent_named, faces_named}
+use Rattle.name_rules.specs.Meanings.{type_names, class_named, is_bound, is_class_name, IsStaticFieldOf, IsStaticMethodOf, IsNearestField, IsMet}
+use Rattle.name_rules.specs.Asked.{Asks}
+use Rattle.name_rules.specs.Resolves.{here_of}
 
 -- a type's name that no class has
 pub data IsUnknownType (O : Plain) (u : TypeName) : Refusal → Type 0 where

@@ -4,8 +4,8 @@ use Rattle.std.specs.Option.{option_map}
 use Rattle.java_core.specs.Trees.{Ex, number, character, text, truth, null, this, local, static_field, own_field, field, index, call, static_call, super_call, create, create_array, cast, instance_of, unary, binary}
 use Rattle.java_core.specs.Programs.{Plain, PlainMethod}
 use Rattle.java_core.specs.Classes.{super_method}
-use Rattle.flow_facts.specs.declared.items.ObjectType.{ObjectType}
-use Rattle.flow_facts.specs.Operands.{object_of, object_if, object_field, call_slot}
+use Rattle.flow_rules.specs.declared.items.ObjectType.{ObjectType}
+use Rattle.flow_rules.specs.Operands.{object_of, object_if, object_field, call_slot}
 
 abbrev pub field_object : Plain → ℕ → Option ObjectType
 field_object P f = object_if (option_map (λ k. k.ty) (slice_get P.fields f))

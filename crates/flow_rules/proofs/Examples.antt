@@ -6,14 +6,14 @@ use Rattle.java_core.specs.declared.TyBase.TheVariants.{Int, Str, Class}
 use Rattle.java_core.specs.Trees.{Tag, Sts, no_ex, local, create, declare, assign, to_field, no_st, st_then}
 use Rattle.java_core.specs.Programs.{Plain, PlainMethod}
 use Rattle.java_core.specs.Classes.{member_field, field_of, below}
-use Rattle.flow_facts.specs.declared.items.RowItem.TheVariants as row
-use Rattle.flow_facts.specs.declared.items.ColumnItem.TheVariants as column
-use Rattle.flow_facts.specs.declared.items.PointItem.TheVariants as point
-use Rattle.flow_facts.specs.Operands.{type_in}
-use Rattle.flow_facts.specs.Parts.{parts_of}
-use Rattle.flow_facts.specs.Numbered.{rows_of, columns_of, sites_of, points_of, bodies_of, row_number, column_number, site_number, point_number}
-use Rattle.flow_facts.specs.Lists.{news_of, ties_of}
-use Rattle.flow_facts.specs.Facts.{numbers, gathered, cells_of}
+use Rattle.flow_rules.specs.declared.items.RowItem.TheVariants as row
+use Rattle.flow_rules.specs.declared.items.ColumnItem.TheVariants as column
+use Rattle.flow_rules.specs.declared.items.PointItem.TheVariants as point
+use Rattle.flow_rules.specs.Operands.{type_in}
+use Rattle.flow_rules.specs.Parts.{parts_of}
+use Rattle.flow_rules.specs.Numbered.{rows_of, columns_of, sites_of, points_of, bodies_of, row_number, column_number, site_number, point_number}
+use Rattle.flow_rules.specs.Lists.{news_of, ties_of}
+use Rattle.flow_rules.specs.Facts.{numbers, gathered, cells_of}
 
 abbrev place : ℕ → Tag
 place n = record { label = 0; place = record { at = n; line = 1 } }
