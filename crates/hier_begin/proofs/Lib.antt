@@ -1,4 +1,3 @@
-pub mod SetTests
 pub mod ConceptLemmas
 pub mod StartLemmas
 pub mod GivenLemmas

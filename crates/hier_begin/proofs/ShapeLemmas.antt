@@ -21,7 +21,7 @@ use Rattle.hier_model.specs.Start.{order_of, column_place, row_place, start_of, 
 use Rattle.hier_laws.specs.Shapes.{Given, Shape}
 use Rattle.hier_laws.specs.Starts.{IsStart}
 use Rattle.hier_begin.proofs.ConceptLemmas.{column_below, RowStands, column_stands}
-use Rattle.hier_begin.proofs.StartLemmas.{node_of, rows_le, row_column_le, columns_le, column_row_le, some_row, le_through, le_both, nodes_ordered}
+use Rattle.hier_begin.proofs.StartLemmas.{node_of, rows_le, row_column_le, columns_le, column_row_le, some_row, nodes_ordered}
 use Rattle.hier_begin.proofs.GivenLemmas.{given}
 
 abbrev pub shape : Hierarchy → Shape
@@ -85,8 +85,8 @@ module _ (F : Facts) (pt : PointsTo) (t : Table) (l : Lattice) (T : IsTable F t)
 
   pub start_shape : IsStart (given F pt t) (shape H)
   start_shape = record {
-    both = λ a b h k. le_both rows t.width widths ps all a b h k;
-    through = λ a b c h k. le_through rows t.width widths ps all a b c h k;
+    both = λ a b h k. (nodes_ordered rows t.width widths ps all).antisymmetric a b h k;
+    through = λ a b c h k. (nodes_ordered rows t.width widths ps all).transitive a b c h k;
     upper = λ a b h. let o = nodes_ordered rows t.width widths ps all in o.reflexive b (o.upper_lives a b h);
     there = there;
     rows = λ r v hr hv.

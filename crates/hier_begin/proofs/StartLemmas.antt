@@ -19,23 +19,13 @@ use Rattle.fact_model.specs.Concepts.{Pair, IsConcept, AreAllConcepts, concept_c
 use Rattle.fact_model.specs.declared.facts.Facts.{Facts}
 use Rattle.hier_model.specs.Hierarchies.{Hierarchy, node, place_of_column, place_of_row}
 use Rattle.hier_model.specs.Start.{is_filled, is_subset, rows_with, concept_at, order_of, column_place, row_place, start_of}
-use Rattle.hier_begin.proofs.SetTests.{filled_some, some_filled, subset_says, subset_test, with_bit, with_len}
+use Rattle.hier_model.proofs.SetTests.{filled-some, filled-has, subset-sound, subset-complete}
+use Rattle.hier_model.proofs.StartLemmas.{rows_with-bit, node-le, order_partial}
 use Rattle.hier_begin.proofs.ConceptLemmas.{concept_is, RowStands, row_stands, ColumnStands, column_says, column_stands}
-
-total : IsTotalOrder concept_cmp
-total = search (comparing, rules) depth 9
 
 module _ (T : List (List Bool)) (w : ℕ) (widths : HasWidth w T) (ps : List Pair) (A : AreAllConcepts T w ps) where
   abbrev pub extent_at : ℕ → List Bool
   extent_at k = (concept_at ps k).0
-
-  le_row : Pair → List Bool
-  le_row k = map (λ (l : Pair). is_filled k.0 && is_subset k.0 l.0) ps
-
-  le_here : (a b : ℕ) → a < length ps → b < length ps → is_le (order_of ps) a b ≡ (is_filled (extent_at a) && is_subset (extent_at a) (extent_at b))
-  le_here a b la lb =
-      ap (λ (r : List Bool). bit r b) (get_or-map (λ (k : Pair). map (λ (l : Pair). is_filled k.0 && is_subset k.0 l.0) ps) ps a ([], []) [] la)
-      ∙ get_or-map (λ (l : Pair). is_filled (extent_at a) && is_subset (extent_at a) l.0) ps b ([], []) false lb
 
   -- what it says that a node is at or below another
   pub record IsLe (a b : ℕ) : Type 0 where
@@ -53,12 +43,12 @@ module _ (T : List (List Bool)) (w : ℕ) (widths : HasWidth w T) (ps : List Pai
       let la : a < length ps = omega (arith, bit-row-below (order_of ps).le a b h, rows_len) in
       let row_is = get_or-map (λ (k : Pair). map (λ (l : Pair). is_filled k.0 && is_subset k.0 l.0) ps) ps a ([], []) [] la in
       let lb : b < length ps = omega (arith, bit-below (row (order_of ps).le a) b h, ap length row_is, le_width (concept_at ps a)) in
-      let both = and_parts (is_filled (extent_at a)) (is_subset (extent_at a) (extent_at b)) (sym (le_here a b la lb) ∙ h) in
-      record { lower = la; upper = lb; filled = both.0; subset = subset_says (extent_at a) (extent_at b) both.1 }
+      let both = and_parts (is_filled (extent_at a)) (is_subset (extent_at a) (extent_at b)) (sym (node-le T w widths ps A a b la lb) ∙ h) in
+      record { lower = la; upper = lb; filled = both.0; subset = subset-sound (extent_at a) (extent_at b) both.1 }
 
   pub le_test : (a b : ℕ) → IsLe a b → is_le (order_of ps) a b ≡ true
   le_test a b h =
-      le_here a b h.lower h.upper ∙ and_from (is_filled (extent_at a)) (is_subset (extent_at a) (extent_at b)) h.filled (subset_test (extent_at a) (extent_at b) h.subset)
+      node-le T w widths ps A a b h.lower h.upper ∙ and_from (is_filled (extent_at a)) (is_subset (extent_at a) (extent_at b)) h.filled (subset-complete (extent_at a) (extent_at b) h.subset)
 
   is : (k : ℕ) → k < length ps → IsConcept T w (extent_at k) (concept_at ps k).1
   is = concept_is T w widths ps A
@@ -75,7 +65,7 @@ module _ (T : List (List Bool)) (w : ℕ) (widths : HasWidth w T) (ps : List Pai
       (λ h. subst (λ B. IsSubset B (row T v)) n.intent (e.0 h), λ s. e.1 (subst (λ B. IsSubset B (row T v)) (sym n.intent) s))
 
   pub row_filled : (r : ℕ) (lr : r < length T) → is_filled (extent_at (node_of r lr).at) ≡ true
-  row_filled r lr = some_filled (extent_at (node_of r lr).at) r ((in_row_extent r r lr lr).1 (λ i h. h))
+  row_filled r lr = filled-has (extent_at (node_of r lr).at) r ((in_row_extent r r lr lr).1 (λ i h. h))
 
   pub in_table : (k v : ℕ) → k < length ps → bit (extent_at k) v ≡ true → v < length T
   in_table k v lt h = omega (arith, bit-below (extent_at k) v h, (is k lt).extent.len)
@@ -103,7 +93,7 @@ module _ (T : List (List Bool)) (w : ℕ) (widths : HasWidth w T) (ps : List Pai
   in_column : (c v : ℕ) (p : NodeId) → At c p → (bit (extent_at p.0) v ≡ true → bit (row T v) c ≡ true) × (bit (row T v) c ≡ true → bit (extent_at p.0) v ≡ true)
   in_column c v p at =
       let e = (column c p at).extent in
-      (λ h. sym (with_bit T c v) ∙ (ap (λ (x : List Bool). bit x v) (sym e) ∙ h), λ h. ap (λ (x : List Bool). bit x v) e ∙ (with_bit T c v ∙ h))
+      (λ h. sym (rows_with-bit T c v) ∙ (ap (λ (x : List Bool). bit x v) (sym e) ∙ h), λ h. ap (λ (x : List Bool). bit x v) e ∙ (rows_with-bit T c v ∙ h))
 
   pub column_filled : (c : ℕ) (p : NodeId) → At c p → is_filled (extent_at p.0) ≡ true
   column_filled c p at = ap is_filled (column c p at).extent ∙ (column c p at).filled
@@ -148,7 +138,7 @@ module _ (T : List (List Bool)) (w : ℕ) (widths : HasWidth w T) (ps : List Pai
   pub some_row : (n m : ℕ) → is_le (order_of ps) n m ≡ true → (r : ℕ) × (lr : r < length T) × (is_le (order_of ps) (node_of r lr).at n ≡ true)
   some_row n m h =
       let le = le_says n m h in
-      let v = filled_some (extent_at n) le.filled in
+      let v = filled-some (extent_at n) le.filled in
       let lv = in_table n v.0 le.lower v.1 in
       let has = ((is n le.lower).extent.rows v.0 lv).0 v.1 in (
         v.0,
@@ -163,63 +153,6 @@ module _ (T : List (List Bool)) (w : ℕ) (widths : HasWidth w T) (ps : List Pai
         }),
       )
 
-  pub le_through : (a b c : ℕ) → is_le (order_of ps) a b ≡ true → is_le (order_of ps) b c ≡ true → is_le (order_of ps) a c ≡ true
-  le_through a b c h k =
-      let x = le_says a b h in
-      let y = le_says b c k in
-      le_test a c (record { lower = x.lower; upper = y.upper; filled = x.filled; subset = λ i g. y.subset i (x.subset i g) })
-
-  -- the columns of an intent are those that all rows of the extent have
-  intent_within : (i j : ℕ) → i < length ps → j < length ps → extent_at i ≡ extent_at j → IsSubset (concept_at ps i).1 (concept_at ps j).1
-  intent_within i j li lj e c h =
-      let a = is i li in
-      let b = is j lj in
-      let low : c < w = omega (arith, bit-below (concept_at ps i).1 c h, a.intent.len) in
-      (b.intent.columns c low).1 (λ r lt k. (a.intent.columns c low).0 h r lt (ap (λ x. bit x r) e ∙ k))
-
-  apart : (i j : ℕ) → i < j → j < length ps → extent_at i ≡ extent_at j → ⊥
-  apart i j ij lt e =
-      let li : i < length ps = omega (arith, ij, lt) in
-      let f : (concept_at ps i).1 ≡ (concept_at ps j).1 =
-      subset-both (concept_at ps i).1 (concept_at ps j).1 ((is i li).intent.len ∙ sym (is j lt).intent.len) (intent_within i j li lt e) (intent_within j i lt li (sym e)) in
-      let h : concept_at ps i ≡ concept_at ps j = λ k. (e k, f k) in
-      let k : concept_cmp (concept_at ps j) (concept_at ps j) ≡ Less = subst (λ x. concept_cmp x (concept_at ps j) ≡ Less) h (A.concepts.ordered i j ([], []) ij lt) in
-      let m : Equal ≡ Less = sym (tied_itself total (concept_at ps j)) ∙ k in
-      cc m
-
-  -- nodes with one extent have one number
-  pub same_node : (a b : ℕ) → a < length ps → b < length ps → IsSubset (extent_at a) (extent_at b) → IsSubset (extent_at b) (extent_at a) → a ≡ b
-  same_node a b la lb s t =
-      let one = subset-both (extent_at a) (extent_at b) ((is a la).extent.len ∙ sym (is b lb).extent.len) s t in
-      ⊎_elim (λ same. same) (⊎_elim (λ lt. absurd (apart a b lt lb one)) (λ gt. absurd (apart b a gt la (sym one)))) (cases_order a b)
-
-  pub le_both : (a b : ℕ) → is_le (order_of ps) a b ≡ true → is_le (order_of ps) b a ≡ true → a ≡ b
-  le_both a b h k =
-      let x = le_says a b h in
-      let y = le_says b a k in
-      same_node a b x.lower x.upper x.subset y.subset
-
-  live_len : length (order_of ps).live ≡ length ps
-  live_len = length-map ps (λ (k : Pair). is_filled k.0)
-
-  pub live_says : (a : ℕ) → is_live (order_of ps) a ≡ true → (a < length ps) × (is_filled (extent_at a) ≡ true)
-  live_says a h =
-      let lt : a < length ps = omega (arith, bit-below (order_of ps).live a h, live_len) in
-      (lt, sym (get_or-map (λ (k : Pair). is_filled k.0) ps a ([], []) false lt) ∙ h)
-
-  pub live_test : (a : ℕ) → a < length ps → is_filled (extent_at a) ≡ true → is_live (order_of ps) a ≡ true
-  live_test a lt h = get_or-map (λ (k : Pair). is_filled k.0) ps a ([], []) false lt ∙ h
-
   -- the nodes are partially ordered by their extents
   pub nodes_ordered : IsPartialOrder (order_of ps)
-  nodes_ordered = record {
-    count = length-map ps (λ (k : Pair). map (λ (l : Pair). is_filled k.0 && is_subset k.0 l.0) ps) ∙ sym live_len;
-    widths = λ k lt.
-        let lk : k < length ps = omega (arith, lt, length-map ps (λ (k : Pair). map (λ (l : Pair). is_filled k.0 && is_subset k.0 l.0) ps)) in
-        ap length (get_or-map (λ (k : Pair). map (λ (l : Pair). is_filled k.0 && is_subset k.0 l.0) ps) ps k ([], []) [] lk) ∙ le_width (concept_at ps k) ∙ sym live_len;
-    lower_lives = λ a b h. let x = le_says a b h in live_test a x.lower x.filled;
-    upper_lives = λ a b h. let x = le_says a b h in let i = filled_some (extent_at a) x.filled in live_test b x.upper (some_filled (extent_at b) i.0 (x.subset i.0 i.1));
-    reflexive = λ a h. let x = live_says a h in le_test a a (record { lower = x.0; upper = x.0; filled = x.1; subset = λ i k. k });
-    antisymmetric = le_both;
-    transitive = le_through;
-  }
+  nodes_ordered = order_partial T w widths ps A

@@ -5,6 +5,28 @@ use Rattle.hier_laws.specs.Shapes.{Given, Shape, Offers}
 use Rattle.hier_laws.specs.Obligations.{IsOther, Half, Rest}
 use Rattle.hier_laws.specs.Starts.{Roles, IsClosed, AreInOrder, IsStart, AreNamed}
 
+-- fields at or above one class have different names
+module _ (G : Given) (is_field is_made : ℕ → Bool) (old new : ℕ → List ℕ) (N : AreNamed G is_field is_made old new) where
+  kept_apart : (a c d : ℕ) → is_field c ≡ true → is_field d ≡ true → G.below a (G.class_of c) ≡ true → G.below a (G.class_of d) ≡ true → is_made c ≡ false → is_made d ≡ false → old c ≡ old d → c ≡ d
+  kept_apart a c d fc fd ac ad mc md e =
+      ⊎_elim
+      (λ one. N.apart c d fc fd one e)
+      (λ two. ⊎_elim
+      (λ le. absurd (cc (mc, N.again c d fc fd e le two)))
+      (λ le. absurd (cc (md, N.again d c fd fc (sym e) le (λ x. two (sym x)))))
+      (N.chain a c d fc fd ac ad))
+      (cases_eq (G.class_of c) (G.class_of d))
+
+  pub named_apart : (a c d : ℕ) → is_field c ≡ true → is_field d ≡ true → G.below a (G.class_of c) ≡ true → G.below a (G.class_of d) ≡ true → new c ≡ new d → c ≡ d
+  named_apart a c d fc fd ac ad e =
+      ⊎_elim
+      (λ mc. ⊎_elim (λ md. N.once c d mc md e) (λ md. absurd (N.made c d mc fd md (e ∙ N.kept d md))) (cases_Bool (is_made d)))
+      (λ mc. ⊎_elim
+      (λ md. absurd (N.made d c md fc mc (sym e ∙ N.kept c mc)))
+      (λ md. kept_apart a c d fc fd ac ad mc md (sym (N.kept c mc) ∙ e ∙ N.kept d md))
+      (cases_Bool (is_made d)))
+      (cases_Bool (is_made c))
+
 module _ (G : Given) (R : Roles) (T : IsClosed G R) (O : AreInOrder G R) (S : Shape) (B : IsStart G S) where
   -- all rows that have e have d
   abbrev pub Under : ℕ → ℕ → Type 0
@@ -104,28 +126,8 @@ module _ (G : Given) (R : Roles) (T : IsClosed G R) (O : AreInOrder G R) (S : Sh
       (r.0, has_above r.0 c f.at r.1 f.stands (B.through (S.row r.0) n f.at r.2 f.above), has_above r.0 d g.at r.1 g.stands (B.through (S.row r.0) n g.at r.2 g.above))
 
   module _ (is_field is_made : ℕ → Bool) (old new : ℕ → List ℕ) (N : AreNamed G is_field is_made old new) where
-    kept_apart : (a c d : ℕ) → is_field c ≡ true → is_field d ≡ true → G.below a (G.class_of c) ≡ true → G.below a (G.class_of d) ≡ true → is_made c ≡ false → is_made d ≡ false → old c ≡ old d → c ≡ d
-    kept_apart a c d fc fd ac ad mc md e =
-        ⊎_elim
-        (λ one. N.apart c d fc fd one e)
-        (λ two. ⊎_elim
-        (λ le. absurd (cc (mc, N.again c d fc fd e le two)))
-        (λ le. absurd (cc (md, N.again d c fd fc (sym e) le (λ x. two (sym x)))))
-        (N.chain a c d fc fd ac ad))
-        (cases_eq (G.class_of c) (G.class_of d))
-
-    named_apart : (a c d : ℕ) → is_field c ≡ true → is_field d ≡ true → G.below a (G.class_of c) ≡ true → G.below a (G.class_of d) ≡ true → new c ≡ new d → c ≡ d
-    named_apart a c d fc fd ac ad e =
-        ⊎_elim
-        (λ mc. ⊎_elim (λ md. N.once c d mc md e) (λ md. absurd (N.made c d mc fd md (e ∙ N.kept d md))) (cases_Bool (is_made d)))
-        (λ mc. ⊎_elim
-        (λ md. absurd (N.made d c md fc mc (sym e ∙ N.kept c mc)))
-        (λ md. kept_apart a c d fc fd ac ad mc md (sym (N.kept c mc) ∙ e ∙ N.kept d md))
-        (cases_Bool (is_made d)))
-        (cases_Bool (is_made c))
-
     -- no node offers two fields of one name
     pub start_fields : (n c d : ℕ) → is_field c ≡ true → is_field d ≡ true → Offers S n c → Offers S n d → new c ≡ new d → c ≡ d
     start_fields n c d fc fd oc od e =
         let r = offered_row n c d oc od in
-        named_apart (G.row_class r.0) c d fc fd (T.above r.0 c r.1) (T.above r.0 d r.2) e
+        named_apart G is_field is_made old new N (G.row_class r.0) c d fc fd (T.above r.0 c r.1) (T.above r.0 d r.2) e

@@ -1,7 +1,9 @@
 -- Tests of sets, and what they say.
-use Rattle.std.proofs.Common.{◌≡◌, ℕ, zero, suc, ◌||◌, not, Bool, true, false, List, [], ◌∷◌, refl, sym, ap, ◌∙◌, ⊎_elim}
-use Rattle.std.proofs.lemmas.Bool.{false≢true, and_parts, and_from, or_cases, or_left, or_right, cases_Bool}
-use Rattle.kaba_bits.specs.Sets.{bit, IsSubset, IsEmpty}
+use Rattle.std.proofs.Common.{◌≡◌, ℕ, zero, suc, ◌<◌, ◌||◌, not, Bool, true, false, List, [], ◌∷◌, length, get_or, All, refl, sym, ap, ◌∙◌, ⊎_elim, arith, eqb, eqb-true, eq-eqb}
+use Rattle.std.proofs.lemmas.Bool.{false≢true, and_parts, and_from, or_cases, or_left, or_right, cases_Bool, cases_lt}
+use Rattle.std.proofs.lemmas.List.Elements.{All-contains, All-from_get_or, Contains-get_or}
+use Rattle.kaba_bits.specs.Sets.{bit, IsSubset, IsEmpty, ListsBelow}
+use Rattle.kaba_bits.proofs.SetLemmas.{bit-below}
 use Rattle.kaba_order.proofs.UniqueLemmas.{same_truth}
 use Rattle.hier_model.specs.Start.{is_filled, is_subset, is_same_set}
 
@@ -56,3 +58,23 @@ same_set-sound a b h = let p = and_parts (is_subset a b) (is_subset b a) h in (s
 
 pub same_set-complete : (a b : List Bool) → IsSubset a b → IsSubset b a → is_same_set a b ≡ true
 same_set-complete a b s t = and_from (is_subset a b) (is_subset b a) (subset-complete a b s) (subset-complete b a t)
+
+-- the same tests by the list of a set's numbers
+module _ (a : List Bool) (xs : List ℕ) (L : ListsBelow (λ i. bit a i ≡ true) (length a) xs) where
+  pub listed-filled : (b : Bool) → b ≡ eqb (length xs) 0 → not b ≡ is_filled a
+  listed-filled b e =
+      filled-not a b
+      (λ t i. ⊎_elim (λ h. let c = (L.each i).1 (bit-below a i h, h) in absurd (omega (arith, eqb-true (length xs) 0 (sym e ∙ t), c.1))) (λ h. h) (cases_Bool (bit a i)))
+      (λ none. ⊎_elim
+      (λ lt. let c = (L.each (get_or xs 0 0)).0 (Contains-get_or xs 0 0 lt) in absurd (false≢true (sym (none (get_or xs 0 0)) ∙ c.1)))
+      (λ le. e ∙ eq-eqb (length xs) 0 (omega (arith, le)))
+      (cases_lt 0 (length xs)))
+
+  pub listed-below : (n : ℕ) → length a ≡ n → All (λ i. i < n) xs
+  listed-below n e = All-from_get_or (λ i. i < n) xs 0 (λ k lt. let h = (L.each (get_or xs k 0)).0 (Contains-get_or xs k 0 lt) in omega (arith, h.0, e))
+
+  pub listed-subset : (b : List Bool) (t : Bool) → (t ≡ true → All (λ i. bit b i ≡ true) xs) → (All (λ i. bit b i ≡ true) xs → t ≡ true) → t ≡ is_subset a b
+  listed-subset b t f g =
+      subset-test a b t
+      (λ h i e. All-contains (λ i. bit b i ≡ true) xs i (f h) ((L.each i).1 (bit-below a i e, e)))
+      (λ s. g (All-from_get_or (λ i. bit b i ≡ true) xs 0 (λ k lt. s (get_or xs k 0) ((L.each (get_or xs k 0)).0 (Contains-get_or xs k 0 lt)).1)))

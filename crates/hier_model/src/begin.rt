@@ -1,8 +1,8 @@
 //! The hierarchy that a concept lattice proposes (Snelting and Tip, 2000).
 
-ghost use Rattle.std.specs.Prelude.{◌≡◌, ℕ, ◌<◌, ◌==◌, not, length, map, slice_get, IfOk, All, Some};
+ghost use Rattle.std.specs.Prelude.{◌≡◌, ℕ, ◌<◌, ◌↔◌, ◌==◌, not, true, length, map, slice_get, IfOk, IsTrue, All, Some};
 ghost use Rattle.std.specs.List.{list_any, range_with_len};
-ghost use Rattle.kaba_bits.specs.Sets.{bit, row};
+ghost use Rattle.kaba_bits.specs.Sets.{bit, row, ListsBelow};
 ghost use Rattle.kaba_order.specs.Orders.{IsPartialOrder};
 ghost use Rattle.fact_model.specs.InRange.{InRange, IsClass};
 ghost use Rattle.fact_model.specs.InOrder.{InOrder};
@@ -10,7 +10,7 @@ ghost use Rattle.fact_model.specs.Entries.{IsTable};
 ghost use Rattle.fact_model.specs.Concepts.{pair_of, IsLatticeOf};
 ghost use Rattle.fact_model.specs.Classes.{is_interface};
 ghost use Rattle.hier_model.specs.Hierarchies.{IsHierarchyOf};
-ghost use Rattle.hier_model.specs.Start.{is_filled, is_subset, order_of, owners, start_origin, origins_of, start_from};
+ghost use Rattle.hier_model.specs.Start.{is_filled, order_of, owners, start_origin, origins_of, start_from};
 ghost use Rattle.hier_model.specs.Listed.{extent_of, intent_of, is_above_concept, lists_column, lists_row, listed_column, listed_row, row_node};
 
 use crate::names::{member_names, type_names};
@@ -109,25 +109,39 @@ fn row_above(alloc: Global, concepts: &[Concept], a: usize) -> Result<BitRow, Al
     ensures width { IfOk result (λ r. length r ≡ length concepts.now) }
     ensures bits { IfOk result (λ r. (b : ℕ) → b < length concepts.now → bit r b ≡ is_above_concept concepts.now a b) }
 {
+    let own = extent_at(concepts, a).rising(alloc)?;
     let count = concepts.len() as u32;
     let mut above = BitRow::new(alloc, count)?;
     for b in 0..count {
-        if is_above(concepts, a, b as usize) {
+        if is_above(concepts, &own, a, b as usize) {
             above.set(b);
         }
     }
     Ok(above)
 }
 
-/// Whether a concept is at or above one whose extent is not empty.
-fn is_above(concepts: &[Concept], a: usize, b: usize) -> bool
+/// Whether a concept is at or above one whose extent is not empty, by the numbers of that extent.
+fn is_above(concepts: &[Concept], own: &[u32], a: usize, b: usize) -> bool
     requires a { a < length concepts.now }
     requires b { b < length concepts.now }
+    requires own { ListsBelow (λ i. bit (extent_of concepts.now a) i ≡ true) (length (extent_of concepts.now a)) own.now }
     requires widths { (i j : ℕ) → i < length concepts.now → j < length concepts.now → length (extent_of concepts.now i) ≡ length (extent_of concepts.now j) }
     ensures { result ≡ is_above_concept concepts.now a b }
 {
-    let own = extent_at(concepts, a);
-    is_filled(own) && is_subset(own, extent_at(concepts, b))
+    !own.is_empty() && has_all(extent_at(concepts, b), own)
+}
+
+/// Whether a set has each number of a list.
+fn has_all(set: &BitRow, numbers: &[u32]) -> bool
+    requires { All (λ i. i < length set.now) numbers.now }
+    ensures { IsTrue result ↔ All (λ i. bit set.now i ≡ true) numbers.now }
+{
+    for i in numbers {
+        if !set.has(*i) {
+            return false;
+        }
+    }
+    true
 }
 
 /// The extent of a concept.
@@ -143,14 +157,6 @@ fn is_filled(set: &BitRow) -> bool
     ensures { result ≡ is_filled set.now }
 {
     !set.is_empty()
-}
-
-/// Whether each number of a set is in another of the same width.
-fn is_subset(a: &BitRow, b: &BitRow) -> bool
-    requires { length a.now ≡ length b.now }
-    ensures { result ≡ is_subset a.now b.now }
-{
-    a.is_subset(b)
 }
 
 /// The node of each column.

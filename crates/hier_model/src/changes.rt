@@ -92,6 +92,28 @@ impl Hier {
         })
     }
 
+    /// The same hierarchy once more.
+    fn copy(&self, alloc: Global) -> Result<Hier, AllocError>
+        ensures { IfOk result (λ h. h ≡ self.now) }
+    {
+        let order = self.order.copy(alloc)?;
+        let columns = self.columns.as_slice().to_vec(alloc)?;
+        let rows = self.rows.as_slice().to_vec(alloc)?;
+        let types = copy_names(alloc, &self.types)?;
+        let members = copy_names(alloc, &self.members)?;
+        let origins = self.origins.as_slice().to_vec(alloc)?;
+        let table = copy_rows(alloc, &self.table)?;
+        Ok(Hier {
+            order,
+            columns,
+            rows,
+            types,
+            members,
+            origins,
+            table,
+        })
+    }
+
     /// One node below another.
     fn put_under(
         &self,
@@ -118,21 +140,9 @@ impl Hier {
     fn with_order(&self, alloc: Global, order: Order) -> Result<Hier, AllocError>
         ensures { IfOk result (λ h. h ≡ record self.now { order = order }) }
     {
-        let columns = self.columns.as_slice().to_vec(alloc)?;
-        let rows = self.rows.as_slice().to_vec(alloc)?;
-        let types = copy_names(alloc, &self.types)?;
-        let members = copy_names(alloc, &self.members)?;
-        let origins = self.origins.as_slice().to_vec(alloc)?;
-        let table = copy_rows(alloc, &self.table)?;
-        Ok(Hier {
-            order,
-            columns,
-            rows,
-            types,
-            members,
-            origins,
-            table,
-        })
+        let mut hier = self.copy(alloc)?;
+        hier.order = order;
+        Ok(hier)
     }
 
     /// A column at another node.
@@ -164,23 +174,10 @@ impl Hier {
         requires column { c.0 < length self.now.columns }
         ensures { IfOk result (λ h. h ≡ moved facts.now self.now c n) }
     {
-        let mut columns = self.columns.as_slice().to_vec(alloc)?;
-        columns[c.0 as usize] = Some(n);
-        let rows = moved_rows(alloc, facts, &self.rows, c, n)?;
-        let types = copy_names(alloc, &self.types)?;
-        let members = copy_names(alloc, &self.members)?;
-        let origins = self.origins.as_slice().to_vec(alloc)?;
-        let order = self.order.copy(alloc)?;
-        let table = copy_rows(alloc, &self.table)?;
-        Ok(Hier {
-            order,
-            columns,
-            rows,
-            types,
-            members,
-            origins,
-            table,
-        })
+        let mut hier = self.copy(alloc)?;
+        hier.columns[c.0 as usize] = Some(n);
+        hier.rows = moved_rows(alloc, facts, &self.rows, c, n)?;
+        Ok(hier)
     }
 
     /// A type under another name.
@@ -197,36 +194,9 @@ impl Hier {
         if !self.order.is_live(n) {
             return Err(ChangeFault::UnknownNode(n));
         }
-        let mut types = copy_names(alloc, &self.types)?;
-        types[n.0 as usize] = name.copy(alloc)?;
-        let members = copy_names(alloc, &self.members)?;
-        let hier = self.with_names(alloc, types, members)?;
+        let mut hier = self.copy(alloc)?;
+        hier.types[n.0 as usize] = name.copy(alloc)?;
         Ok(hier)
-    }
-
-    /// The hierarchy with other names.
-    fn with_names(
-        &self,
-        alloc: Global,
-        types: Vec<Name>,
-        members: Vec<Name>,
-    ) -> Result<Hier, AllocError>
-        ensures { IfOk result (λ h. h ≡ record self.now { types = types.items; members = members.items }) }
-    {
-        let columns = self.columns.as_slice().to_vec(alloc)?;
-        let rows = self.rows.as_slice().to_vec(alloc)?;
-        let origins = self.origins.as_slice().to_vec(alloc)?;
-        let order = self.order.copy(alloc)?;
-        let table = copy_rows(alloc, &self.table)?;
-        Ok(Hier {
-            order,
-            columns,
-            rows,
-            types,
-            members,
-            origins,
-            table,
-        })
     }
 
     /// A member under another name.
@@ -244,9 +214,8 @@ impl Hier {
         if !self.is_member(facts, c) {
             return Err(ChangeFault::UnknownMember(c));
         }
-        let types = copy_names(alloc, &self.types)?;
-        let members = renamed_members(alloc, facts, &self.members, c, name)?;
-        let hier = self.with_names(alloc, types, members)?;
+        let mut hier = self.copy(alloc)?;
+        hier.members = renamed_members(alloc, facts, &self.members, c, name)?;
         Ok(hier)
     }
 

@@ -4,3 +4,5 @@ pub mod KeyLemmas
 pub mod NameLemmas
 pub mod OutcomeLemmas
 pub mod NeedLemmas
+pub mod ChainLemmas
+pub mod Worked

@@ -1,12 +1,14 @@
 -- Names by their texts, nodes that are not live, and columns that clash.
-use Rattle.std.proofs.Common.{◌≡◌, ℕ, suc, zero, ◌+◌, ◌<◌, ◌&&◌, ◌||◌, eqb, Bool, true, false, List, [], ◌∷◌, length, get_or, Option, Some, None, refl, sym, ap, ◌∙◌, subst, arith, ⊎_elim}
+use Rattle.std.proofs.Common.{◌≡◌, ℕ, suc, zero, ◌+◌, ◌<◌, ◌&&◌, ◌||◌, eqb, Bool, true, false, List, [], ◌∷◌, length, get_or, Contains, Option, Some, None, refl, sym, ap, ◌∙◌, subst, arith, ⊎_elim}
 use Rattle.std.specs.Prelude.{nat_lt}
-use Rattle.std.specs.List.{list_all}
+use Rattle.std.specs.List.{list_all, list_any}
 use Rattle.std.specs.Str.{chars, encode_utf8_all}
 use Rattle.std.proofs.lemmas.Bool.{cases_Bool, cases_order, and_parts, and_from, or_cases, or_right, eq-eqb, ne_eqb, lt-ltb, ltb-true, false≢true}
+use Rattle.std.proofs.lemmas.List.{get_or_default}
+use Rattle.std.proofs.lemmas.List.Folds.{list_any_at}
 use Rattle.std.proofs.lemmas.Str.{cons_from_encodes, chars-IsAscii}
 use Rattle.kaba_base.specs.declared.NodeId.{NodeId}
-use Rattle.kaba_bits.specs.Sets.{bit, Meet, first_below}
+use Rattle.kaba_bits.specs.Sets.{bit, Meet, first_below, ListsBelow}
 use Rattle.kaba_bits.proofs.FirstLemmas.{first_below_clear}
 use Rattle.kaba_bits.proofs.SetLemmas.{bit-below}
 use Rattle.kaba_order.specs.Orders.{is_le, is_live, IsPartialOrder}
@@ -113,3 +115,20 @@ module _ (F : Facts) (H : Hierarchy) where
         let p = and_parts (is_offered H n c.0) (clash F H c.0 d) c.2 in
         (c.0, bits c.0 (omega (arith, c.1, lt)) ∙ p.0, pairs c.0 ∙ and_from (nat_lt c.0 d) (clash F H c.0 d) (lt-ltb c.0 d c.1) p.1),
   )
+
+-- two sets meet where one has some number of the other's list
+pub listed_meet : (a b : List Bool) (xs : List ℕ) → ListsBelow (λ i. bit a i ≡ true) (length a) xs → (list_any (bit b) xs ≡ true → Meet a b) × (Meet a b → list_any (bit b) xs ≡ true)
+listed_meet a b xs l = (
+  λ h. let s = some xs h in (s.0, ((l.each s.0).0 s.1).1, s.2),
+  λ m.
+      let c = (l.each m.0).1 (bit-below a m.0 m.1, m.1) in
+      list_any_at (bit b) xs c.0 0 c.1 (subst (λ i. bit b i ≡ true) (sym (get_or_default xs c.0 0 m.0 c.1 ∙ c.2)) m.2),
+)
+  where
+    some : (ys : List ℕ) → list_any (bit b) ys ≡ true → (i : ℕ) × Contains ys i × (bit b i ≡ true)
+    some [] h = absurd (false≢true h)
+    some (y ∷ ys) h =
+        ⊎_elim
+        (λ here. (y, (0, omega arith, refl), here))
+        (λ more. let r = some ys more in (r.0, (suc r.1.0, omega (arith, r.1.1), r.1.2), r.2))
+        (or_cases (bit b y) (list_any (bit b) ys) h)

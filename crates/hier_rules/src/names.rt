@@ -1,10 +1,10 @@
 //! B8: names are identifiers, and apart from each other.
 
-ghost use Rattle.std.specs.Prelude.{◌≡◌, ℕ, ◌<◌, ◌==◌, ◌&&◌, ◌||◌, nat_lt, length, IfOk};
+ghost use Rattle.std.specs.Prelude.{◌≡◌, ℕ, ◌<◌, ◌==◌, ◌&&◌, ◌||◌, nat_lt, true, length, IfOk};
 ghost use Rattle.std.specs.List.{list_any};
 ghost use Rattle.std.specs.Str.{bytes_eq};
 ghost use Rattle.kaba_base.specs.Words.{is_name};
-ghost use Rattle.kaba_bits.specs.Sets.{bit, row, or_else, first_below, HasWidth};
+ghost use Rattle.kaba_bits.specs.Sets.{bit, row, or_else, first_below, HasWidth, ListsBelow};
 ghost use Rattle.fact_model.specs.InRange.{InRange};
 ghost use Rattle.hier_model.specs.Hierarchies.{IsHierarchyOf, is_offered};
 ghost use Rattle.hier_model.specs.Names.{is_field};
@@ -14,6 +14,7 @@ ghost use Rattle.hier_rules.specs.Names.{is_member, known_names, is_reserved, is
 
 use crate::bodies::of_column;
 use crate::broken::{Broken, Nodes, Rule};
+use crate::pairs::has_some;
 use crate::places::{column_at, is_live, node_count, stands_at};
 use fact_model::{ColKind, ColumnInfo, Facts};
 use hier_model::Hier;
@@ -362,17 +363,19 @@ fn is_confused(
     hier: &Hier,
     n: u32,
     offered: &BitRow,
+    list: &[u32],
     clashes: &BitRow,
     d: u32,
 ) -> bool
     requires offered { length offered.now ≡ length facts.now.columns.items }
+    requires list { ListsBelow (λ c. bit offered.now c ≡ true) (length offered.now) list.now }
     requires clashes { length clashes.now ≡ length facts.now.columns.items }
     requires columns { (c : ℕ) → c < length facts.now.columns.items → bit offered.now c ≡ is_offered hier.now n c }
     requires pairs { (c : ℕ) → bit clashes.now c ≡ (nat_lt c d && clash facts.now hier.now c d) }
     requires column { d < length facts.now.columns.items }
     ensures { result ≡ is_confused facts.now hier.now n d }
 {
-    offered.has(d) && offered.meets(clashes)
+    offered.has(d) && has_some(clashes, list)
 }
 
 /// The same at one node.
@@ -396,8 +399,17 @@ fn first_confused_at(
         return Ok(None);
     }
     let offered = hier.offered(alloc, NodeId(n))?;
+    let list = offered.rising(alloc)?;
     for d in 0..facts.columns.len() as u32 {
-        if is_confused(facts, hier, n, &offered, row_at(clashes, d as usize), d) {
+        if is_confused(
+            facts,
+            hier,
+            n,
+            &offered,
+            &list,
+            row_at(clashes, d as usize),
+            d,
+        ) {
             return Ok(Some(of_column(Rule::B8, n, d)));
         }
     }

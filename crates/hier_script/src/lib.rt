@@ -5,4 +5,5 @@ mod edits;
 mod refusals;
 mod scripts;
 
+pub use refusals::broken_text;
 pub use scripts::{Edited, Scripted, run_script};

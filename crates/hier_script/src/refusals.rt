@@ -73,8 +73,8 @@ fn column_text(alloc: Global, column: Option<ColId>) -> Result<String, AllocErro
     }
 }
 
-/// What is broken, and where.
-fn broken_text(alloc: Global, broken: Broken) -> Result<String, AllocError>
+/// What is broken, and where. An error comes only for want of memory.
+pub fn broken_text(alloc: Global, broken: Broken) -> Result<String, AllocError>
     ensures { IfOk result (λ text. string_bytes text ≡ broken_text broken) }
 {
     let rule = rule_text(broken.rule);

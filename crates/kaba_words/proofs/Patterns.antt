@@ -133,15 +133,6 @@ no_file words after rest asked n f b none json bound file h =
 pub no_bound_for_edit : (words : List (List ℕ)) → ((n : ℕ) (rest : List (List ℕ)) → TakesBound words n rest → ⊥) → NoEdit words
 no_bound_for_edit words none bound file script h = none bound h.rest h.takes_bound
 
--- a bound is at most what may be asked
-small_bound : (asked : Bool) (words : List (List ℕ)) (n : ℕ) (rest : List (List ℕ)) → BoundAfter asked words n rest → n ≤ most_concepts
-small_bound true words n rest h = h.2.small
-small_bound false words n rest h = omega (arith, h.1)
-
-pub edit_bound : (words : List (List ℕ)) (bound : ℕ) (file script : List ℕ) → Fits words (edit bound file script) → bound ≤ most_concepts
-edit_bound [] bound file script h = absurd h
-edit_bound (name ∷ words) bound file script h = let b = h.1.takes_bound in small_bound b.asked b.after bound h.1.rest b.bound
-
 abbrev pub Reads : List ℕ → Option ℕ → Type 0
 Reads word read = MatchOption read ((n : ℕ) → IsNumber word most_concepts n → ⊥) (λ n. IsNumber word most_concepts n)
 

@@ -1,0 +1,11 @@
+use Rattle.std.proofs.Common.{◌≡◌, ℕ, ◌&&◌, length}
+use Rattle.std.specs.Prelude.{nat_lt}
+use Rattle.kaba_bits.specs.Sets.{bit}
+use Rattle.hier_rules.specs.Chains.{is_loose}
+use Rattle.hier_rules.proofs.chains.loose_nodes.Given as goal
+
+abbrev pub invariant-loop-n : goal.invariant-loop-n
+invariant-loop-n l = record {
+  width : length l.loose ≡ length l.hier.order.live;
+  exact : (x : ℕ) → bit l.loose x ≡ (nat_lt x l.n && is_loose l.facts l.hier x);
+}
