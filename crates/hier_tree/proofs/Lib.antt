@@ -1,0 +1,2 @@
+pub mod GrowLemmas
+pub mod ConflictLemmas

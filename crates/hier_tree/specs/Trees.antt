@@ -1,5 +1,5 @@
 -- How the class nodes become a tree: step by step, each by the first of its tries that is accepted.
-use Rattle.std.specs.Prelude.{◌≡◌, ℕ, ◌==◌, ◌&&◌, not, Bool, true, false, if◌then◌else◌, List, [], ◌∷◌, length, filter, map, Option, Some, None, Result, Ok, Err}
+use Rattle.std.specs.Prelude.{◌≡◌, ◌==◌, ◌&&◌, not, Bool, false, if◌then◌else◌, List, [], ◌∷◌, ◌++◌, length, filter, map, Option, Some, None, Result, Ok, Err}
 use Rattle.std.specs.List.{range_with_len}
 use Rattle.kaba_base.specs.declared.NodeId.{NodeId}
 use Rattle.kaba_base.specs.declared.ClassId.{ClassId}
@@ -20,17 +20,12 @@ use Rattle.hier_rules.specs.Obligations.{first_unchained}
 use Rattle.hier_edit.specs.declared.ApplyFault.{ApplyFault}
 use Rattle.hier_edit.specs.declared.ApplyFault.TheVariants.{Breaks}
 use Rattle.hier_edit.specs.Applied.{outcome}
+use Rattle.hier_tree.specs.declared.Conflict.{Conflict}
 
 -- what a step tries: some nodes become one, or one is put below another
 pub data Try : Type 0 where
   MakeOne : List NodeId → Try
   PutUnder : NodeId → NodeId → Try
-
--- a class node, and two class nodes at or above it that are not ordered
-pub record Conflict : Type 0 where
-  pub lower : NodeId
-  pub first : NodeId
-  pub second : NodeId
 
 -- the nodes that an instance against B9 names
 abbrev pub conflict_at : Nodes → Conflict
@@ -96,6 +91,15 @@ IsEditOf (PutUnder l h) (edit.TypeName n name) = ⊥
 IsEditOf (PutUnder l h) (edit.MemberName c name) = ⊥
 IsEditOf (PutUnder l h) (edit.Drop n) = ⊥
 
+-- what an edit of a step tries: a merge or an under; any other tries nothing
+abbrev pub try_of : Edit → Try
+try_of (edit.Merge set) = MakeOne set.items
+try_of (edit.Under n p) = PutUnder n p
+try_of (edit.Move c n) = MakeOne []
+try_of (edit.TypeName n name) = MakeOne []
+try_of (edit.MemberName c name) = MakeOne []
+try_of (edit.Drop n) = MakeOne []
+
 -- a step: the conflict of its moment, and the try that was taken
 pub record Step : Type 0 where
   pub conflict : Conflict
@@ -132,5 +136,18 @@ module _ (F : Facts) (pt : PointsTo) where
     done : {H : Hierarchy} → first_unchained F H ≡ None → Grows H [] (Tree H)
     stuck : {H : Hierarchy} {b broken : Broken} {t : Try} → first_unchained F H ≡ Some b → first_accepted H (tries_of F H (conflict_of b)) ≡ None
         → last_try (tries_of F H (conflict_of b)) ≡ Some t → tried H t ≡ Err (Breaks broken) → Grows H [] (Stuck H (conflict_of b) broken)
-    step : {H K : Hierarchy} {b : Broken} {t : Try} {log : List Step} {end : End} → first_unchained F H ≡ Some b → first_accepted H (tries_of F H (conflict_of b)) ≡ Some (t, K)
+    step : {H K : Hierarchy} {b : Broken} {t : Try} {log : List Step} {end : End} → first_unchained F H ≡ Some b
+        → first_accepted H (tries_of F H (conflict_of b)) ≡ Some (t, K)
         → Grows K log end → Grows H (record { conflict = conflict_of b; try = t } ∷ log) end
+
+  -- the same steps without their end: from a hierarchy to the one that they leave
+  pub data Leads : Hierarchy → List Step → Hierarchy → Type 0 where
+    begun : {H : Hierarchy} → Leads H [] H
+    taken : {H K New : Hierarchy} {b : Broken} {t : Try} {log : List Step} → Leads H log K → first_unchained F K ≡ Some b
+        → first_accepted K (tries_of F K (conflict_of b)) ≡ Some (t, New)
+        → Leads H (log ++ record { conflict = conflict_of b; try = t } ∷ []) New
+
+-- two growths from one hierarchy have the same steps and the same end
+abbrev pub OneTree : Type 0
+OneTree = (F : Facts) (pt : PointsTo) (H : Hierarchy) (log others : List Step) (end other : End)
+    → Grows F pt H log end → Grows F pt H others other → (log ≡ others) × (end ≡ other)

@@ -1,18 +1,14 @@
 -- A conflict of class nodes has a try that is accepted, so that the steps end at a tree.
-use Rattle.std.proofs.Common.{◌≡◌, ◌≢◌, ℕ, zero, suc, ◌+◌, ◌<◌, ⊎_elim, ◌==◌, ◌&&◌, not, Bool, true, false, cond, List, [], ◌∷◌, length, map, get_or, Option, Some, None, Result, Ok, Err, All, Contains, refl, sym, ap, ◌∙◌, subst, arith, eq-eqb, eqb-true}
-use Rattle.std.specs.Prelude.{is_some, nat_lt, filter, IfSome}
+use Rattle.std.proofs.Common.{◌≡◌, ◌≢◌, ℕ, ⊎_elim, ◌==◌, ◌&&◌, not, true, false, cond, List, [], ◌∷◌, Option, Some, None, Result, Ok, Err, All, refl, sym, ap, ◌∙◌, subst, arith, eq-eqb, eqb-true}
+use Rattle.std.specs.Prelude.{is_some, IfSome}
 use Rattle.std.specs.Option.{option_map_or}
-use Rattle.std.specs.List.{range_with_len}
-use Rattle.std.proofs.lemmas.Bool.{cases_Bool, false≢true, and_parts, and_from, or_left, or_right}
+use Rattle.std.proofs.lemmas.Bool.{cases_Bool, false≢true}
 use Rattle.std.proofs.lemmas.Option.{same_Some}
-use Rattle.std.proofs.lemmas.List.Elements.{All-nil, All-cons, All-map, filter_passes, Contains-get_or}
-use Rattle.std.proofs.lemmas.List.FromFn.{get_or-range_with_len, length-range_with_len}
+use Rattle.std.proofs.lemmas.List.Elements.{All-nil, All-cons}
 use Rattle.kaba_base.specs.declared.NodeId.{NodeId}
 use Rattle.kaba_base.specs.declared.ClassId.{ClassId}
-use Rattle.kaba_bits.specs.Sets.{row, first_below}
-use Rattle.kaba_bits.proofs.SetLemmas.{bit-below}
-use Rattle.kaba_bits.proofs.FirstLemmas.{first_below_Some}
-use Rattle.kaba_order.specs.Orders.{Ordered, is_le, is_live, is_among}
+use Rattle.kaba_bits.specs.Sets.{row}
+use Rattle.kaba_order.specs.Orders.{is_le, is_live, is_among}
 use Rattle.kaba_order.proofs.MergeLemmas.{has_any_some, any_has_some, among-All}
 use Rattle.fact_model.specs.Classes.{below}
 use Rattle.fact_model.specs.Closures.{IsPlainClass}
@@ -24,18 +20,18 @@ use Rattle.fact_model.specs.declared.facts.Facts.{Facts}
 use Rattle.fact_model.specs.declared.sets.PointsTo.{PointsTo}
 use Rattle.fact_model.specs.declared.sets.Table.{Table}
 use Rattle.fact_model.proofs.ChainLemmas.{chain}
-use Rattle.hier_model.specs.Hierarchies.{Hierarchy, node, origin_of, is_class_node}
+use Rattle.hier_model.specs.Hierarchies.{Hierarchy, origin_of}
 use Rattle.hier_model.specs.Edits.{under_order, first_between, first_unknown, merged, unless}
 use Rattle.hier_model.specs.declared.edits.ChangeFault.TheVariants.{UnknownNode, Cycle}
-use Rattle.hier_model.proofs.MergedLemmas.{between_none, when_some, when_true}
+use Rattle.hier_model.proofs.MergedLemmas.{between_none}
 use Rattle.hier_rules.specs.declared.broken.Broken.{Broken}
-use Rattle.hier_rules.specs.declared.broken.Rule.TheVariants.{B9}
-use Rattle.hier_rules.specs.Instances.{of_three}
-use Rattle.hier_rules.specs.Obligations.{is_class_above, unchained, first_unchained}
+use Rattle.hier_rules.specs.Obligations.{first_unchained}
 use Rattle.hier_rules.specs.First.{first_of_edit}
 use Rattle.hier_edit.specs.declared.ApplyFault.{ApplyFault}
 use Rattle.hier_edit.specs.Applied.{outcome, unless_broken}
-use Rattle.hier_tree.specs.Trees.{Try, MakeOne, PutUnder, Conflict, conflict_of, is_from, nodes_from, tries_of_one, tries_of_lower, tries_of_others, tries_by, tries_of, changed_by, Step, End, accepted_or, tried, first_accepted, Grows, done, stuck, step}
+use Rattle.hier_tree.specs.declared.Conflict.{Conflict}
+use Rattle.hier_tree.proofs.ConflictLemmas.{IsConflict, conflict_says, some_among, none_unknown, from_live, from_origin, from_has}
+use Rattle.hier_tree.specs.Trees.{Try, MakeOne, PutUnder, conflict_of, nodes_from, tries_of_one, tries_of_lower, tries_of_others, tries_by, tries_of, changed_by, Step, End, accepted_or, tried, first_accepted, Grows, done, stuck, step}
 use Rattle.hier_begin.proofs.GivenLemmas as facts
 use Rattle.hier_begin.proofs.GivenLemmas.{given, roles, in_order}
 use Rattle.hier_laws.specs.Starts.{AreInOrder}
@@ -47,31 +43,6 @@ use Rattle.tree_laws.proofs.ReachedLemmas.{accepted, unless_ok, is_ok}
 some_of : (o : Option ClassId) → is_some o ≡ true → (k : ClassId) × (o ≡ Some k)
 some_of None h = absurd (false≢true h)
 some_of (Some k) h = (k, refl)
-
-from_says : (k : ClassId) (o : Option ClassId) → is_from k o ≡ true → o ≡ Some k
-from_says k None h = absurd (false≢true h)
-from_says k (Some o) h = let same : o.0 ≡ k.0 = eqb-true o.0 k.0 h in ap (λ n. Some (record { 0 = n })) same
-
-from_test : (k j : ClassId) (o : Option ClassId) → o ≡ Some j → j.0 ≡ k.0 → is_from k o ≡ true
-from_test k j o e same = ap (is_from k) e ∙ eq-eqb j.0 k.0 same
-
-among_made : (p : ℕ → Bool) (xs : List ℕ) (x : ℕ) → Contains xs x → p x ≡ true → is_among (map node (filter p xs)) x ≡ true
-among_made p [] x h t = absurd (omega (arith, h.1))
-among_made p (y ∷ ys) x h t = at (p y) refl h (λ c. among_made p ys x c t)
-  where
-    at : (b : Bool) → p y ≡ b → Contains (y ∷ ys) x → (Contains ys x → is_among (map node (filter p ys)) x ≡ true) → is_among (map node (filter p (y ∷ ys))) x ≡ true
-    at true e (zero, lt, same) rest = rw e (or_left (x == y) (is_among (map node (filter p ys)) x) (eq-eqb x y (sym same)))
-    at true e (suc i, lt, same) rest = rw e (or_right (x == y) (is_among (map node (filter p ys)) x) (rest (i, omega (arith, lt), same)))
-    at false e (zero, lt, same) rest = absurd (false≢true (sym e ∙ ap p same ∙ t))
-    at false e (suc i, lt, same) rest = rw e (rest (i, omega (arith, lt), same))
-
-some_among : (set : List NodeId) (x : ℕ) → is_among set x ≡ true → 0 < length set
-some_among [] x h = absurd (false≢true h)
-some_among (s ∷ set) x h = omega arith
-
-none_unknown : (o : Ordered) (ns : List NodeId) → All (λ s. is_live o s.0 ≡ true) ns → first_unknown o ns ≡ None
-none_unknown o [] all = refl
-none_unknown o (n ∷ ns) all = rw (all 0 n (omega arith)) (none_unknown o ns (λ i d lt. all (suc i) d (omega (arith, lt))))
 
 module _ (F : Facts) (pt : PointsTo) (t : Table) (R : InRange F) (O : InOrder F) (S : AreSets F pt) (T : IsTable F t) (N : HasNoInterface F) where
   ordered : AreInOrder (given F pt t) (roles F pt t)
@@ -104,43 +75,21 @@ module _ (F : Facts) (pt : PointsTo) (t : Table) (R : InRange F) (O : InOrder F)
 
     -- all nodes of an origin become one
     module _ (k : ClassId) where
-      abbrev has : ℕ → Bool
-      has n = is_live H.order n && is_from k (origin_of H n)
-
       abbrev set : List NodeId
       set = nodes_from H k
 
-      passes : All (λ n. has n ≡ true) (filter has (range_with_len 0 (length H.order.live)))
-      passes = filter_passes has (range_with_len 0 (length H.order.live))
-
-      abbrev get_at : ℕ → ℕ → ℕ
-      get_at i d = get_or (filter has (range_with_len 0 (length H.order.live))) i d
-
-      all : All (λ (s : NodeId). is_live H.order s.0 ≡ true) set
-      all = All-map (λ (s : NodeId). is_live H.order s.0 ≡ true) node (filter has (range_with_len 0 (length H.order.live)))
-          (λ i d lt. (and_parts (is_live H.order (get_at i d)) (is_from k (origin_of H (get_at i d))) (passes i d lt)).0)
-
-      each_of : All (λ (s : NodeId). origin_of H s.0 ≡ Some k) set
-      each_of = All-map (λ (s : NodeId). origin_of H s.0 ≡ Some k) node (filter has (range_with_len 0 (length H.order.live)))
-          (λ i d lt. from_says k (origin_of H (get_at i d)) (and_parts (is_live H.order (get_at i d)) (is_from k (origin_of H (get_at i d))) (passes i d lt)).1)
-
       whole : (x : ℕ) → is_live H.order x ≡ true → origin_at H x ≡ k.0 → is_among set x ≡ true
       whole x live same =
-          let lt = bit-below H.order.live x live in
           let o = some_of (origin_of H x) (K.there x live) in
           let number : o.0.0 ≡ k.0 = sym (ap (λ c. option_map_or (λ (j : ClassId). j.0) c 0) o.1) ∙ same in
-          let from_zero : 0 + x ≡ x = omega arith in
-          let there : Contains (range_with_len 0 (length H.order.live)) x =
-          subst (λ z. Contains (range_with_len 0 (length H.order.live)) z) (get_or-range_with_len 0 (length H.order.live) x 0 lt ∙ from_zero)
-          (Contains-get_or (range_with_len 0 (length H.order.live)) x 0 (omega (arith, lt, length-range_with_len 0 (length H.order.live)))) in
-          among_made has (range_with_len 0 (length H.order.live)) x there (and_from (is_live H.order x) (is_from k (origin_of H x)) live (from_test k o.0 (origin_of H x) o.1 number))
+          from_has H k x live (o.1 ∙ ap (λ n. Some (record { 0 = n })) number)
 
       convex : first_between H.order set ≡ None
       convex = between_none H.order set K.fits.sized.order (λ z b.
           let up = any_has_some H.order.le set z.0 b.between.above in
           let down = has_any_some (row H.order.le z.0) set b.between.below in
           let live = K.fits.sized.order.upper_lives up.0 z.0 up.2 in
-          let from : (s : ℕ) → is_among set s ≡ true → origin_at H s ≡ k.0 = λ s h. ap (λ c. option_map_or (λ (j : ClassId). j.0) c 0) (among-All (λ x. origin_of H x ≡ Some k) set each_of s h) in
+          let from : (s : ℕ) → is_among set s ≡ true → origin_at H s ≡ k.0 = λ s h. ap (λ c. option_map_or (λ (j : ClassId). j.0) c 0) (among-All (λ x. origin_of H x ≡ Some k) set (from_origin H k) s h) in
           let low = subst (λ x. below F x (origin_at H z.0) ≡ true) (from up.0 up.1) (K.origins.up up.0 z.0 up.2) in
           let high = subst (λ x. below F (origin_at H z.0) x ≡ true) (from down.0 down.1) (K.origins.up z.0 down.0 down.2) in
           false≢true (sym b.between.outside ∙ whole z.0 live (ordered.both (origin_at H z.0) k.0 high low)))
@@ -148,9 +97,9 @@ module _ (F : Facts) (pt : PointsTo) (t : Table) (R : InRange F) (O : InOrder F)
       take_whole : (x : ℕ) (us : List Try) → is_live H.order x ≡ true → origin_at H x ≡ k.0 → IsTaken H (MakeOne (nodes_from H k) ∷ us)
       take_whole x us live same =
           let some = some_among set x (whole x live same) in
-          let kept : IsKept F pt t (merged F H set) = whole_kept F pt t R O S T H K set some all k each_of convex whole in
+          let kept : IsKept F pt t (merged F H set) = whole_kept F pt t R O S T H K set some (from_live H k) k (from_origin H k) convex whole in
           let changed : changed_by F H (MakeOne set) ≡ Ok (merged F H set) =
-          ap (λ o. unless o UnknownNode (unless (first_between H.order set) Cycle (Ok (merged F H set)))) (none_unknown H.order set all)
+          ap (λ o. unless o UnknownNode (unless (first_between H.order set) Cycle (Ok (merged F H set)))) (none_unknown H.order set (from_live H k))
           ∙ ap (λ o. unless o Cycle (Ok (merged F H set))) convex in
           let is : tried F pt H (MakeOne set) ≡ Ok (merged F H set) = ap (outcome F pt) changed ∙ ap (unless_broken (merged F H set)) kept.meets in
           record { try = MakeOne set; new = merged F H set; first = accept H (MakeOne set) us (merged F H set) is; kept = kept }
@@ -183,28 +132,6 @@ module _ (F : Facts) (pt : PointsTo) (t : Table) (R : InRange F) (O : InOrder F)
               let kept = merge_kept F pt t R O S T H K (x ∷ y ∷ []) (omega arith) lives k origins c.0 (subst (λ (z : Hierarchy). first_of_edit F pt z ≡ None) (sym same) a.1) in
               record { try = MakeOne (x ∷ y ∷ []); new = h; first = accept H (MakeOne (x ∷ y ∷ [])) (MakeOne (nodes_from H k) ∷ us) h e; kept = subst (IsKept F pt t) same kept }
 
-    -- a conflict: two nodes at or above one
-    record IsConflict (c : Conflict) : Type 0 where
-      first : is_le H.order c.lower.0 c.first.0 ≡ true
-      second : is_le H.order c.lower.0 c.second.0 ≡ true
-
-    conflict_says : (b : Broken) → first_unchained F H ≡ Some b → IsConflict (conflict_of b)
-    conflict_says b h =
-        let M = length H.order.live in
-        let n = first_below_Some (λ n. first_below M (λ x. first_below M (unchained F H n x))) M b h in
-        let x = first_below_Some (λ x. first_below M (unchained F H n.0 x)) M b n.2 in
-        let y = first_below_Some (unchained F H n.0 x.0) M b x.2 in
-        let rest = is_class_above F H n.0 y.0 && nat_lt x.0 y.0 && not (is_le H.order x.0 y.0) && not (is_le H.order y.0 x.0) in
-        let test = when_some (is_class_above F H n.0 x.0 && rest) (of_three B9 n.0 x.0 y.0) b y.2 in
-        let same : of_three B9 n.0 x.0 y.0 ≡ b = same_Some (of_three B9 n.0 x.0 y.0) b (sym (when_true (is_class_above F H n.0 x.0 && rest) (of_three B9 n.0 x.0 y.0) test) ∙ y.2) in
-        let p = and_parts (is_class_above F H n.0 x.0) rest test in
-        let q = and_parts (is_class_above F H n.0 y.0 && nat_lt x.0 y.0 && not (is_le H.order x.0 y.0)) (not (is_le H.order y.0 x.0)) p.1 in
-        let r = and_parts (is_class_above F H n.0 y.0 && nat_lt x.0 y.0) (not (is_le H.order x.0 y.0)) q.0 in
-        let s = and_parts (is_class_above F H n.0 y.0) (nat_lt x.0 y.0) r.0 in
-        let up = (and_parts (is_class_node F H n.0 && is_class_node F H x.0) (is_le H.order n.0 x.0) p.0).1 in
-        let other = (and_parts (is_class_node F H n.0 && is_class_node F H y.0) (is_le H.order n.0 y.0) s.0).1 in
-        subst (λ (z : Broken). IsConflict (conflict_of z)) same (record { first = up; second = other })
-
     -- the tries of different origins
     abbrev others : ClassId → ClassId → Conflict → List Try
     others k l c = cond (below F k.0 l.0) (tries_of_lower c.first c.second) (cond (below F l.0 k.0) (tries_of_lower c.second c.first) (tries_of_others c.first c.second))
@@ -213,7 +140,7 @@ module _ (F : Facts) (pt : PointsTo) (t : Table) (R : InRange F) (O : InOrder F)
     goes : (b : Broken) → first_unchained F H ≡ Some b → IsTaken H (tries_of F H (conflict_of b))
     goes b h =
         let c = conflict_of b in
-        let says = conflict_says b h in
+        let says = conflict_says F H b h in
         let lx = K.fits.sized.order.upper_lives c.lower.0 c.first.0 says.first in
         let ly = K.fits.sized.order.upper_lives c.lower.0 c.second.0 says.second in
         let k = some_of (origin_of H c.first.0) (K.there c.first.0 lx) in
@@ -228,7 +155,7 @@ module _ (F : Facts) (pt : PointsTo) (t : Table) (R : InRange F) (O : InOrder F)
         plain : (x : ℕ) (k : ClassId) → is_live H.order x ≡ true → origin_of H x ≡ Some k → IsPlainClass F k.0
         plain x k live e = record { below = subst (λ o. IfSome o (IsClass F)) e (K.fits.origins x live); kind = N.classes k.0 }
 
-        take : (c : Conflict) (k l : ClassId) → is_live H.order c.first.0 ≡ true → is_live H.order c.second.0 ≡ true → origin_of H c.first.0 ≡ Some k → origin_of H c.second.0 ≡ Some l → IsConflict c
+        take : (c : Conflict) (k l : ClassId) → is_live H.order c.first.0 ≡ true → is_live H.order c.second.0 ≡ true → origin_of H c.first.0 ≡ Some k → origin_of H c.second.0 ≡ Some l → IsConflict H c
             → IsTaken H (tries_by F H c.first c.second (Some k) (Some l))
         take c k l lx ly ox oy says =
             ⊎_elim

@@ -11,6 +11,8 @@ use Rattle.kaba_base.specs.declared.ColId.{ColId}
 use Rattle.kaba_order.specs.Orders.{is_live}
 use Rattle.fact_model.specs.Items.{column_kind, column_slot}
 use Rattle.fact_model.specs.InRange.{InRange}
+use Rattle.fact_model.specs.InOrder.{InOrder}
+use Rattle.fact_model.proofs.RangeLemmas.{column-below}
 use Rattle.fact_model.specs.declared.facts.Facts.{Facts}
 use Rattle.fact_model.specs.declared.facts.ColKind.{ColKind}
 use Rattle.fact_model.specs.declared.facts.ColKind.TheVariants.{Fld, Dcl, Def, Is}
@@ -30,7 +32,7 @@ use Rattle.hier_rules.specs.First.{first_of_edit}
 use Rattle.hier_edit.specs.Applied.{applied, outcome, unless_broken}
 use Rattle.hier_begin.proofs.GivenLemmas.{given}
 use Rattle.hier_begin.proofs.ShapeLemmas.{shape, placed}
-use Rattle.tree_laws.specs.Kept.{field_at, slot_at, origin_at, IsKept, HasNoInterface}
+use Rattle.tree_laws.specs.Kept.{field_at, slot_at, origin_at, IsKept}
 use Rattle.tree_laws.specs.Reached.{IsFresh}
 use Rattle.tree_laws.proofs.OriginLemmas.{drop_keeps, drop_names}
 use Rattle.tree_laws.proofs.MadeLemmas.{without}
@@ -77,7 +79,17 @@ one_slot_says None b h = absurd (false≢true h)
 one_slot_says (Some x) None h = absurd (false≢true h)
 one_slot_says (Some x) (Some y) h = ap Some (eqb-true x y h)
 
-module _ (F : Facts) (pt : PointsTo) (t : Table) (R : InRange F) (N : HasNoInterface F) (H : Hierarchy) (K : IsKept F pt t H) where
+is_fld : (k : ColKind) → is_field k ≡ true → k ≡ Fld
+is_fld Fld h = refl
+is_fld Dcl h = absurd (false≢true h)
+is_fld Def h = absurd (false≢true h)
+is_fld Is h = absurd (false≢true h)
+
+-- a field has no slot
+field_slot : (F : Facts) → InOrder F → (c : ℕ) → is_field (column_kind F c) ≡ true → column_slot F c ≡ None
+field_slot F O c h = let e = is_fld (column_kind F c) h in O.members.no_slots c (column-below F c Fld e (λ x. cc x)) e
+
+module _ (F : Facts) (pt : PointsTo) (t : Table) (R : InRange F) (O : InOrder F) (H : Hierarchy) (K : IsKept F pt t H) where
   abbrev G : Given
   G = given F pt t
 
@@ -137,7 +149,7 @@ module _ (F : Facts) (pt : PointsTo) (t : Table) (R : InRange F) (N : HasNoInter
     field_named c f r =
         ⊎_elim
         (λ here. eqb-true c e.0 here)
-        (λ slot. absurd (no_slot (column_slot F e.0) (column_slot F c) slot (N.fields c f)))
+        (λ slot. absurd (no_slot (column_slot F e.0) (column_slot F c) slot (field_slot F O c f)))
         (or_cases (c == e.0) (is_one_slot (column_slot F e.0) (column_slot F c)) r)
       where
         no_slot : (a b : Option ℕ) → is_one_slot a b ≡ true → b ≡ None → ⊥

@@ -31,7 +31,7 @@ use Rattle.hier_laws.specs.Obligations.{NoneIsOwn, Half}
 use Rattle.hier_rules.specs.declared.broken.Rule.TheVariants.{B2, B3, B4, B5, B7}
 use Rattle.hier_rules.specs.Asked.{is_tie, is_super, is_called, bound_of, slots_of, is_one_slot, is_other_body, meets, places_of}
 use Rattle.hier_rules.specs.Instances.{of_both, of_row}
-use Rattle.hier_rules.specs.Obligations.{differ, row_le, column_le, place_of_site, has_nearer, wrong_body, wrong_need, first_wrong_need, is_between, has_between, wrong_super, first_wrong_super, unoffered, first_unoffered, untied, unheld, first_untied, wrong_outcome, first_wrong_outcome}
+use Rattle.hier_rules.specs.Obligations.{differ, row_le, column_le, place_of_site, has_nearer, wrong_body, wrong_need, first_wrong_need, is_between, has_between, wrong_super, first_wrong_super, first_unoffered, untied, unheld, first_untied, wrong_outcome, first_wrong_outcome}
 use Rattle.hier_rules.specs.Obligations as rule
 use Rattle.hier_begin.proofs.ShapeLemmas.{shape}
 use Rattle.hier_begin.proofs.GivenLemmas.{given, row_below, site_below, point_site, tie_at, super_at, called_at, found_at, super_fact, met, meet_site, meet_target}

@@ -2,7 +2,7 @@
 use Rattle.std.proofs.Common.{◌≡◌, ℕ, zero, suc, ◌+◌, ◌<◌, ◌⊎◌, inl, inr, ⊎_elim, not, Bool, true, false, cond, List, [], ◌∷◌, length, map, Option, Some, None, Contains, refl, sym, ap, ◌∙◌, subst, arith}
 use Rattle.std.specs.Prelude.{is_some, nat_lt, filter, unwrap_or, IfSome}
 use Rattle.std.specs.Option.{option_map_or}
-use Rattle.std.proofs.lemmas.Bool.{cases_Bool, cases_lt, cases_eq, false≢true, and_parts, and_from, ltb-true, lt-ltb}
+use Rattle.std.proofs.lemmas.Bool.{cases_Bool, cases_lt, false≢true, and_parts, and_from, ltb-true, lt-ltb}
 use Rattle.std.proofs.lemmas.Option.{same_Some}
 use Rattle.std.proofs.lemmas.List.{get_or-map, get_or_past}
 use Rattle.std.proofs.lemmas.List.FromFn.{get_or-map-range_with_len, length-map-range_with_len}
@@ -35,7 +35,8 @@ use Rattle.hier_model.proofs.SetTests.{filled-some, subset-sound, subset-complet
 use Rattle.hier_model.proofs.StartLemmas.{rows_with-bit, ext-length, int-length, node-le, nodes-count, ColumnStands, column_stands}
 use Rattle.hier_model.proofs.BeginLemmas.{keeps_table, start_fits}
 use Rattle.hier_laws.specs.Shapes.{Given}
-use Rattle.hier_laws.specs.Starts.{IsClosed, IsStart, AreNamed}
+use Rattle.hier_laws.specs.Starts.{IsClosed, IsStart}
+use Rattle.hier_laws.proofs.Begins.{named_apart}
 use Rattle.hier_rules.specs.Names.{method_slot}
 use Rattle.hier_begin.specs.Laws.{AreAnalysed}
 use Rattle.hier_begin.proofs.GivenLemmas as facts
@@ -112,28 +113,6 @@ field_not Fld slot x h = absurd (cc h)
 field_not Dcl slot x h = (refl, h)
 field_not Def slot x h = (refl, h)
 field_not Is slot x h = absurd (cc h)
-
--- fields at or above one class have different names
-module _ (G : Given) (is_field is_made : ℕ → Bool) (old new : ℕ → List ℕ) (N : AreNamed G is_field is_made old new) where
-  kept_apart : (a c d : ℕ) → is_field c ≡ true → is_field d ≡ true → G.below a (G.class_of c) ≡ true → G.below a (G.class_of d) ≡ true → is_made c ≡ false → is_made d ≡ false → old c ≡ old d → c ≡ d
-  kept_apart a c d fc fd ac ad mc md e =
-      ⊎_elim
-      (λ one. N.apart c d fc fd one e)
-      (λ two. ⊎_elim
-      (λ le. absurd (cc (mc, N.again c d fc fd e le two)))
-      (λ le. absurd (cc (md, N.again d c fd fc (sym e) le (λ x. two (sym x)))))
-      (N.chain a c d fc fd ac ad))
-      (cases_eq (G.class_of c) (G.class_of d))
-
-  named_apart : (a c d : ℕ) → is_field c ≡ true → is_field d ≡ true → G.below a (G.class_of c) ≡ true → G.below a (G.class_of d) ≡ true → new c ≡ new d → c ≡ d
-  named_apart a c d fc fd ac ad e =
-      ⊎_elim
-      (λ mc. ⊎_elim (λ md. N.once c d mc md e) (λ md. absurd (N.made c d mc fd md (e ∙ N.kept d md))) (cases_Bool (is_made d)))
-      (λ mc. ⊎_elim
-      (λ md. absurd (N.made d c md fc mc (sym e ∙ N.kept c mc)))
-      (λ md. kept_apart a c d fc fd ac ad mc md (sym (N.kept c mc) ∙ e ∙ N.kept d md))
-      (cases_Bool (is_made d)))
-      (cases_Bool (is_made c))
 
 module _ (F : Facts) (pt : PointsTo) (t : Table) (l : Lattice) (A : AreAnalysed F pt t l) (W : HasNoInterface F) where
   abbrev ps : List Pair

@@ -15,9 +15,9 @@ use Rattle.tree_laws.proofs.StartKept.{start_kept}
 module _ (F : Facts) (pt : PointsTo) (t : Table) (l : Lattice) (A : AreAnalysed F pt t l) (N : HasNoInterface F) where
   kept : {H : Hierarchy} → IsReached F pt t l H → IsKept F pt t H
   kept begun = start_kept F pt t l A N
-  kept (dropped {H = H} {New = New} n before e) = drop_kept F pt t A.range N H (kept before) n New e
-  kept (type_named {H = H} {New = New} n name before fresh e) = type_kept F pt t A.range N H (kept before) n name New e
-  kept (member_named {H = H} {New = New} c name before fresh e) = member_kept F pt t A.range N H (kept before) c name fresh New e
+  kept (dropped {H = H} {New = New} n before e) = drop_kept F pt t A.range A.order H (kept before) n New e
+  kept (type_named {H = H} {New = New} n name before fresh e) = type_kept F pt t A.range A.order H (kept before) n name New e
+  kept (member_named {H = H} {New = New} c name before fresh e) = member_kept F pt t A.range A.order H (kept before) c name fresh New e
 
 pub tree_is_found : TreeIsFound
 tree_is_found F pt t l A N H reached log end grows = found F pt t A.range A.order A.sets A.table N (kept F pt t l A N reached) grows

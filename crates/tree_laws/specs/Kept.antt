@@ -35,7 +35,6 @@ pub record IsKept (F : Facts) (pt : PointsTo) (t : Table) (H : Hierarchy) : Type
   pub names : AreNamesApart (given F pt t) (shape H) (field_at F) (slot_at F) (member_name H)
   pub meets : first_of_edit F pt H ≡ None
 
--- all types are classes, and no field has a slot
+-- all types are classes
 pub record HasNoInterface (F : Facts) : Type 0 where
   pub classes : (a : ℕ) → is_interface F a ≡ false
-  pub fields : (c : ℕ) → is_field (column_kind F c) ≡ true → column_slot F c ≡ None

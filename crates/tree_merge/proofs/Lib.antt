@@ -1,0 +1,4 @@
+pub mod CountLemmas
+pub mod TryLemmas
+pub mod AttemptLemmas
+pub mod StepLemmas

@@ -1,0 +1,31 @@
+use Rattle.std.proofs.Common.{◌≡◌, ◌+◌, ◌<◌, length, get_or, Err, sym, ◌∙◌, subst, arith}
+use Rattle.hier_model.specs.Hierarchies.{Hierarchy}
+use Rattle.hier_model.specs.declared.edits.Edit.{Edit}
+use Rattle.hier_edit.specs.declared.ApplyFault.TheVariants.{Breaks}
+use Rattle.hier_tree.specs.Trees.{tried, try_of}
+use Rattle.tree_merge.specs.Attempts.{IsAttempt}
+use Rattle.tree_merge.proofs.AttemptLemmas.{refused_at, last_more}
+use Rattle.tree_merge.proofs.attempts.first_accepted.Goals as goal
+
+pub tries-preserved : goal.tries-preserved
+tries-preserved c =
+    let F = c.args.facts.now in
+    let pt = c.args.sets.now in
+    let H = c.args.hier.now in
+    let T = c.args.tries.now in
+    let k = c.tries.k in
+    let e = c.index-tries-k.result in
+    let b = c.in-Some-2.field-0 in
+    let cur = c.tries.hier in
+    let a = subst (IsAttempt F pt cur c.attempt_one.new.hier e) c.in-Some-2.is c.in_ok-attempt_one.ensures.attempt in
+    let there : tried F pt H (try_of (get_or T k e)) ≡ Err (Breaks b) =
+    subst (λ (x : Edit). tried F pt H (try_of x) ≡ Err (Breaks b)) c.index-tries-k.is
+    (subst (λ (z : Hierarchy). tried F pt z (try_of e) ≡ Err (Breaks b)) c.tries.invariant.same a.1) in
+    let more : k + 1 < length T = omega (arith, c.tries.invariant.below, c.if-k-tries.false) in
+    record {
+      below = more;
+      same = a.0 ∙ c.tries.invariant.same;
+      first = sym (refused_at F pt H T k e (Breaks b) c.tries.invariant.below there) ∙ c.tries.invariant.first;
+      last = sym (last_more T k e more) ∙ c.tries.invariant.last;
+      is = c.attempt_one.ensures.is;
+    }

@@ -1,0 +1,16 @@
+use Rattle.std.proofs.Common.{◌≡◌, ◌<◌, ◌-◌, length, map, drop}
+use Rattle.hier_model.specs.Hierarchies.{IsHierarchyOf}
+use Rattle.hier_tree.specs.Trees.{first_accepted, last_try, try_of}
+use Rattle.tree_merge.proofs.attempts.first_accepted.Given as goal
+
+abbrev pub invariant-tries : goal.invariant-tries
+invariant-tries l = record {
+  below : l.k < length l.tries;
+  same : l.hier ≡ l.initial.hier;
+  first : first_accepted l.facts l.sets l.initial.hier (map try_of (drop l.k l.tries)) ≡ first_accepted l.facts l.sets l.initial.hier (map try_of l.tries);
+  last : last_try (map try_of (drop l.k l.tries)) ≡ last_try (map try_of l.tries);
+  is : IsHierarchyOf l.facts l.hier;
+}
+
+abbrev pub decreases-tries : goal.decreases-tries
+decreases-tries l = length l.tries - l.k

@@ -1,0 +1,65 @@
+use Rattle.std.proofs.Common.{subst, sym, [], ◌∷◌, ◌++◌}
+use Rattle.hier_tree.specs.Trees.{Leads, Stuck, begun}
+use Rattle.tree_laws.proofs.TreeIsFound.{tree_is_found}
+use Rattle.tree_merge.specs.Attempts.{IsTurn}
+use Rattle.tree_merge.specs.Logs.{step_of, steps_of}
+use Rattle.tree_merge.proofs.StepLemmas.{one_more, more_steps, ends, ends_stuck, none_yet, more_edits}
+use Rattle.tree_merge.proofs.trees.make_tree.Goals as goal
+
+pub steps-init : goal.steps-init
+steps-init c =
+    let H = c.args.hier.now in
+    record {
+      steps = subst (λ l. Leads c.args.facts.now c.args.sets.now H (steps_of l) H) (sym c.new-log.ensures.items) begun;
+      edits = none_yet c.new-log.result.items c.new-log.ensures.items;
+      meets = c.requires.meets;
+      is = c.requires.hierarchy;
+    }
+
+pub returns-in-Done-clause-tree : goal.returns-in-Done-clause-tree
+returns-in-Done-clause-tree c =
+    let F = c.args.facts.now in
+    let pt = c.args.sets.now in
+    let t = subst (IsTurn F pt c.steps.hier c.step.new.hier) c.in-Done.is c.in_ok-step.ensures.turn in
+    ends F pt c.args.hier.now c.steps.hier c.step.new.hier (steps_of c.steps.log.items) c.steps.invariant.steps t.0 t.1
+
+pub returns-in-Stuck-clause-fault : goal.returns-in-Stuck-clause-fault
+returns-in-Stuck-clause-fault c =
+    let F = c.args.facts.now in
+    let pt = c.args.sets.now in
+    let t = subst (IsTurn F pt c.steps.hier c.step.new.hier) c.in-Stuck.is c.in_ok-step.ensures.turn in
+    let log = steps_of c.steps.log.items in
+    (ends_stuck F pt c.args.hier.now c.steps.hier c.step.new.hier log c.in-Stuck.conflict c.in-Stuck.broken c.steps.invariant.steps t, c.steps.invariant.edits)
+
+pub returns-in-Stuck-clause-found : goal.returns-in-Stuck-clause-found
+returns-in-Stuck-clause-found c = λ t l A N reached.
+    let F = c.args.facts.now in
+    let pt = c.args.sets.now in
+    let H = c.args.hier.now in
+    let log = steps_of c.steps.log.items in
+    let turn = subst (IsTurn F pt c.steps.hier c.step.new.hier) c.in-Stuck.is c.in_ok-step.ensures.turn in
+    let grows = ends_stuck F pt H c.steps.hier c.step.new.hier log c.in-Stuck.conflict c.in-Stuck.broken c.steps.invariant.steps turn in
+    absurd (tree_is_found F pt t l A N H reached log (Stuck c.step.new.hier c.in-Stuck.conflict c.in-Stuck.broken) grows)
+
+pub steps-preserved : goal.steps-preserved
+steps-preserved c =
+    let F = c.args.facts.now in
+    let pt = c.args.sets.now in
+    let log = c.steps.log.items in
+    let more = c.push.new.self.items in
+    let s = c.in-Taken.step in
+    let is = subst (IsTurn F pt c.steps.hier c.step.new.hier) c.in-Taken.is c.in_ok-step.ensures.turn in
+    record {
+      steps = more_steps F pt c.args.hier.now c.steps.hier c.step.new.hier log more s c.in-Ok.ensures.items c.steps.invariant.steps is;
+      edits = more_edits log more s c.in-Ok.ensures.items c.steps.invariant.edits is.edit;
+      meets = is.meets;
+      is = c.step.ensures.is;
+    }
+
+pub returns-in-Err-clause-fault : goal.returns-in-Err-clause-fault
+returns-in-Err-clause-fault c =
+    let F = c.args.facts.now in
+    let pt = c.args.sets.now in
+    let is = subst (IsTurn F pt c.steps.hier c.step.new.hier) c.in-Taken.is c.in_ok-step.ensures.turn in
+    let next = steps_of c.steps.log.items ++ step_of c.in-Taken.step ∷ [] in
+    (next, one_more F pt c.args.hier.now c.steps.hier c.step.new.hier c.steps.log.items c.in-Taken.step c.steps.invariant.steps is)

@@ -1,0 +1,90 @@
+//! The first try of a conflict that is accepted.
+
+ghost use Rattle.std.specs.Prelude.{◌≡◌, ◌<◌, length, All, IfOk, OnErr};
+ghost use Rattle.fact_model.specs.InRange.{InRange};
+ghost use Rattle.fact_model.specs.Flowing.{AreSets};
+ghost use Rattle.hier_model.specs.Hierarchies.{IsHierarchyOf};
+ghost use Rattle.hier_edit.specs.declared.ApplyFault.TheVariants as ApplyFault;
+ghost use Rattle.tree_merge.specs.Attempts.{IsTryOf, IsOfTry, IsAttempt, IsTried};
+
+use fact_model::{Facts, PointsTo};
+use hier_edit::{ApplyFault, apply};
+use hier_model::{Edit, Hier};
+use hier_rules::Broken;
+use std::alloc::{AllocError, Global};
+
+/// What some tries come to.
+#[derive(Drop)]
+pub enum Attempt {
+    /// The try of this number is the first that is accepted, and was made.
+    Accepted(usize),
+    /// None is accepted; this is what the last breaks.
+    Refused(Broken),
+}
+
+/// What a refused try breaks. An error comes only for want of memory.
+fn broken_of(fault: ApplyFault) -> Result<Broken, AllocError>
+    requires { IsOfTry fault }
+    ensures { IfOk result (λ b. fault ≡ ApplyFault.Breaks b) }
+{
+    match fault {
+        ApplyFault::Breaks(broken) => Ok(broken),
+        ApplyFault::Memory => Err(AllocError),
+        ApplyFault::UnknownNode(_) => unreachable!(),
+        ApplyFault::UnknownMember(_) => unreachable!(),
+        ApplyFault::NotEmpty(_) => unreachable!(),
+    }
+}
+
+/// Makes an edit if it is accepted; else it answers what the edit breaks.
+fn attempt_one(
+    alloc: Global,
+    hier: &mut Hier,
+    facts: &Facts,
+    sets: &PointsTo,
+    edit: &Edit,
+) -> Result<Option<Broken>, AllocError>
+    requires range { InRange facts.now }
+    requires sets { AreSets facts.now sets.now }
+    requires hierarchy { IsHierarchyOf facts.now hier.old }
+    requires edit { IsTryOf hier.old edit.now }
+    ensures attempt { IfOk result (IsAttempt facts.now sets.now hier.old hier.new edit.now) }
+    ensures kept { OnErr result (hier.new ≡ hier.old) }
+    ensures is { IsHierarchyOf facts.now hier.new }
+{
+    match apply(alloc, hier, facts, sets, edit) {
+        Ok(()) => Ok(None),
+        Err(fault) => {
+            let broken = broken_of(fault)?;
+            Ok(Some(broken))
+        }
+    }
+}
+
+/// Makes the first of some edits that is accepted. An error comes only for want of memory, and then
+/// nothing has changed.
+pub fn first_accepted(
+    alloc: Global,
+    hier: &mut Hier,
+    facts: &Facts,
+    sets: &PointsTo,
+    tries: &[Edit],
+) -> Result<Attempt, AllocError>
+    requires range { InRange facts.now }
+    requires sets { AreSets facts.now sets.now }
+    requires hierarchy { IsHierarchyOf facts.now hier.old }
+    requires some { 0 < length tries.now }
+    requires tries { All (IsTryOf hier.old) tries.now }
+    ensures tried { IfOk result (IsTried facts.now sets.now hier.old hier.new tries.now) }
+    ensures kept { OnErr result (hier.new ≡ hier.old) }
+    ensures is { IsHierarchyOf facts.now hier.new }
+{
+    let mut k = 0;
+    'tries: loop {
+        match attempt_one(alloc, hier, facts, sets, &tries[k])? {
+            None => return Ok(Attempt::Accepted(k)),
+            Some(broken) if k + 1 == tries.len() => return Ok(Attempt::Refused(broken)),
+            Some(_) => k += 1,
+        }
+    }
+}

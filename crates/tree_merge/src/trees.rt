@@ -1,0 +1,99 @@
+//! The tree of a hierarchy's class nodes.
+
+ghost use Rattle.std.specs.Prelude.{◌≡◌, None, IfErr, IfOk, OnOk};
+ghost use Rattle.fact_model.specs.InRange.{InRange};
+ghost use Rattle.fact_model.specs.Flowing.{AreSets};
+ghost use Rattle.fact_model.specs.declared.sets.Table.{Table};
+ghost use Rattle.fact_model.specs.declared.sets.Lattice.{Lattice};
+ghost use Rattle.hier_model.specs.Hierarchies.{IsHierarchyOf};
+ghost use Rattle.hier_rules.specs.First.{MeetsEdit, first_broken};
+ghost use Rattle.hier_begin.specs.Laws.{AreAnalysed};
+ghost use Rattle.hier_tree.specs.Trees.{Grows, Tree};
+ghost use Rattle.tree_laws.specs.Kept.{HasNoInterface};
+ghost use Rattle.tree_laws.specs.Reached.{IsReached};
+ghost use Rattle.tree_merge.specs.declared.trees.TreeFault.TheVariants as TreeFault;
+ghost use Rattle.tree_merge.specs.Logs.{steps_of, AreEdits, IsFault};
+
+use crate::steps::{TreeStep, Turn, step};
+use fact_model::{Facts, PointsTo};
+use hier_model::Hier;
+use hier_rules::Broken;
+use hier_tree::Conflict;
+use std::alloc::{AllocError, Global};
+
+/// A conflict of which no try is accepted.
+#[derive(Drop)]
+pub struct NoTree {
+    /// The conflict.
+    pub conflict: Conflict,
+    /// The first instance against the hierarchy that its last try would make.
+    pub broken: Broken,
+    /// The steps before it.
+    pub log: Vec<TreeStep>,
+}
+
+/// Why there is no tree.
+#[derive(Drop)]
+pub enum TreeFault {
+    /// The steps end at a conflict.
+    NoTree(NoTree),
+    /// Memory is short.
+    Memory,
+}
+
+impl From<AllocError> for TreeFault {
+    ghost use Rattle.std.specs.Prelude.{◌≡◌};
+    ghost use Rattle.tree_merge.specs.declared.trees.TreeFault.{TreeFault};
+
+    ghost from_gives = { λ _ e. e ≡ TreeFault.Memory };
+
+    fn from(_e: AllocError) -> TreeFault {
+        TreeFault::Memory
+    }
+}
+
+/// Brings the class nodes of a hierarchy into a tree, and gives the log of the steps (after
+/// Streckenbach and Snelting, 2004).
+///
+/// Each step takes the first conflict of its moment and makes the first of its tries that is
+/// accepted, as an edit. With `Ok` the class nodes at or above each class node form a chain, and B1
+/// to B9 hold. `NoTree` comes only where the steps end at a conflict of which no try is accepted,
+/// and leaves the hierarchy as the steps of its log left it. `Memory` comes only where memory is
+/// short, and leaves what some first steps left. From facts in which all types are classes, a
+/// start that accepted drops and fresh renames changed always comes to a tree. A step tests the
+/// hierarchy once and each try that it makes once; there are fewer steps than pairs of nodes.
+pub fn make_tree(
+    alloc: Global,
+    hier: &mut Hier,
+    facts: &Facts,
+    sets: &PointsTo,
+) -> Result<Vec<TreeStep>, TreeFault>
+    requires range { InRange facts.now }
+    requires sets { AreSets facts.now sets.now }
+    requires hierarchy { IsHierarchyOf facts.now hier.old }
+    requires meets { MeetsEdit facts.now sets.now hier.old }
+    ensures tree { IfOk result (λ log. Grows facts.now sets.now hier.old (steps_of log.items) (Tree hier.new)) }
+    ensures edits { IfOk result (λ log. AreEdits log.items) }
+    ensures meets { OnOk result (first_broken facts.now sets.now hier.new ≡ None) }
+    ensures fault { IfErr result (IsFault facts.now sets.now hier.old hier.new) }
+    ensures found { IfErr result (λ fault. (t : Table) (l : Lattice) → AreAnalysed facts.now sets.now t l → HasNoInterface facts.now → IsReached facts.now sets.now t l hier.old → fault ≡ TreeFault.Memory) }
+    ensures is { IsHierarchyOf facts.now hier.new }
+{
+    let mut log = Vec::new(alloc);
+    'steps: loop {
+        match step(alloc, hier, facts, sets)? {
+            Turn::Done => return Ok(log),
+            Turn::Taken(step) => match log.push(step) {
+                Ok(()) => {}
+                Err(_) => return Err(TreeFault::Memory),
+            },
+            Turn::Stuck(conflict, broken) => {
+                return Err(TreeFault::NoTree(NoTree {
+                    conflict,
+                    broken,
+                    log,
+                }));
+            }
+        }
+    }
+}

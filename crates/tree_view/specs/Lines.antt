@@ -1,0 +1,23 @@
+-- The lines that tell the steps towards a tree.
+use Rattle.std.specs.Prelude.{ℕ, List, [], ◌∷◌, ◌++◌, codes}
+use Rattle.std.specs.List.{flat_map}
+use Rattle.hier_tree.specs.declared.Conflict.{Conflict}
+use Rattle.edit_view.specs.Lines.{edit_text}
+use Rattle.hier_script.specs.Refusals.{node_text, broken_text}
+use Rattle.tree_merge.specs.declared.steps.TreeStep.{TreeStep}
+use Rattle.tree_merge.specs.declared.trees.NoTree.{NoTree}
+
+-- nI nJ nK
+abbrev pub conflict_text : Conflict → List ℕ
+conflict_text c = node_text c.lower ++ (codes " " ++ (node_text c.first ++ (codes " " ++ node_text c.second)))
+
+-- tree nI nJ nK: EDIT
+abbrev pub log_line : TreeStep → List ℕ
+log_line s = codes "tree " ++ (conflict_text s.conflict ++ (codes ": " ++ (edit_text s.edit ++ 10 ∷ [])))
+
+abbrev pub log_text : List TreeStep → List ℕ
+log_text log = flat_map log_line log
+
+-- no tree: nI nJ nK breaks RULE nodes .. row .. column ..
+abbrev pub no_tree_text : NoTree → List ℕ
+no_tree_text n = codes "no tree: " ++ (conflict_text n.conflict ++ (codes " " ++ broken_text n.broken))
