@@ -4,16 +4,17 @@ use Rattle.std.specs.declared.cmp.Ordering.TheVariants.{Less, Equal}
 use Rattle.std.proofs.lemmas.Bool.{cases_order, and_from, eqb-true, eq-eqb}
 use Rattle.std.proofs.lemmas.Cmp.{tied_itself}
 use Rattle.std.proofs.lemmas.List.{get_or-map, length-map}
-use Rattle.kaba_bits.specs.Sets.{bit, row, size, rising, IsSubset}
-use Rattle.kaba_bits.proofs.SetLemmas.{same_bits, subset-same, bit-below}
+use Rattle.kaba_bits.specs.Sets.{bit, row, size, rising}
+use Rattle.kaba_bits.proofs.SetLemmas.{same_bits, subset-same}
 use Rattle.kaba_bits.proofs.RisingLemmas.{rising_from-same}
 use Rattle.fact_model.specs.Concepts.{Pair, IsExtent, IsIntent, IsConcept, concept_cmp, AreConcepts, AreAllConcepts, HasIntent}
-use Rattle.concept_build.specs.Intents.{IsMeet}
+use Rattle.concept_build.specs.Tables.{IsMeet}
 use Rattle.concept_build.specs.Lists.{extents_of, columns_of, AreDifferent, IsClosure}
 use Rattle.concept_build.proofs.OrderLemmas.{concept_cmp-total}
 use Rattle.concept_build.proofs.MadeLemmas.{same_Bool, meet, IsMeet-meet, meet-left, meet-right, closed-meet, closed-concept, concept-closed}
+use Rattle.concept_build.proofs.MeetLemmas.{same_extent, same_intents, meet-holds, meet-has, meet-least}
 
-pub nothing : Pair
+abbrev pub nothing : Pair
 nothing = ([], [])
 
 pub row-extents_of : (xs : List Pair) (k : ℕ) (d : Pair) → k < length xs → row (extents_of xs) k ≡ (get_or xs k d).0
@@ -23,18 +24,6 @@ pub column-columns_of : (xs : List Pair) (k : ℕ) (d : List ℕ) → k < length
 column-columns_of xs k d lt = get_or-map (λ (x : Pair). rising x.1) xs k nothing d lt
 
 module _ (T : List (List Bool)) (w : ℕ) where
-  same_extent : (A C B : List Bool) → IsExtent T A B → IsExtent T C B → A ≡ C
-  same_extent A C B e f =
-      same_bits A C (e.len ∙ sym f.len) (λ r lt.
-      let below : r < length T = omega (arith, lt, e.len) in
-      same_Bool (bit A r) (bit C r) (λ a. (f.rows r below).1 ((e.rows r below).0 a)) (λ c. (e.rows r below).1 ((f.rows r below).0 c)))
-
-  same_intents : (A B D : List Bool) → IsIntent T w A B → IsIntent T w A D → B ≡ D
-  same_intents A B D e f =
-      same_bits B D (e.len ∙ sym f.len) (λ c lt.
-      let below : c < w = omega (arith, lt, e.len) in
-      same_Bool (bit B c) (bit D c) (λ b. (f.columns c below).1 ((e.columns c below).0 b)) (λ d. (e.columns c below).1 ((f.columns c below).0 d)))
-
   module _ (xs : List Pair) (are : AreConcepts T w xs) where
     pub extent_len : (k : ℕ) → k < length xs → length (row (extents_of xs) k) ≡ length T
     extent_len k lt = ap length (row-extents_of xs k nothing lt) ∙ (are.each k nothing lt).extent.len
@@ -46,7 +35,7 @@ module _ (T : List (List Bool)) (w : ℕ) where
         let p = are.each i nothing (omega (arith, ij, lt)) in
         let q = are.each j nothing lt in
         let f : a.0 ≡ b.0 = sym (row-extents_of xs i nothing (omega (arith, ij, lt))) ∙ (e ∙ row-extents_of xs j nothing lt) in
-        let g : a.1 ≡ b.1 = same_intents b.0 a.1 b.1 (subst (λ A. IsIntent T w A a.1) f p.intent) q.intent in
+        let g : a.1 ≡ b.1 = same_intents T w b.0 a.1 b.1 (subst (λ A. IsIntent T w A a.1) f p.intent) q.intent in
         let h : a ≡ b = λ i. (f i, g i) in
         let k : concept_cmp b b ≡ Less = subst (λ x. concept_cmp x b ≡ Less) h (are.ordered i j nothing ij lt) in
         let m : Equal ≡ Less = sym (tied_itself concept_cmp-total b) ∙ k in
@@ -68,7 +57,7 @@ module _ (T : List (List Bool)) (w : ℕ) where
       let p = are.each i nothing ilt in
       let q = are.each j nothing jlt in
       let f : a.1 ≡ b.1 = rising_from-same 0 a.1 b.1 (p.intent.len ∙ sym q.intent.len) (sym (column-columns_of xs i d ilt) ∙ (e ∙ column-columns_of xs j d jlt)) in
-      let g : a.0 ≡ b.0 = same_extent a.0 b.0 b.1 (subst (IsExtent T a.0) f p.extent) q.extent in
+      let g : a.0 ≡ b.0 = same_extent T w a.0 b.0 b.1 (subst (IsExtent T a.0) f p.extent) q.extent in
       let h : i ≡ j = same_number xs are i j ilt jlt (row-extents_of xs i nothing ilt ∙ (g ∙ sym (row-extents_of xs j nothing jlt))) in
       omega (arith, h, ij)
 
@@ -126,19 +115,6 @@ module _ (T : List (List Bool)) (w : ℕ) where
           let e : z.1 ≡ meet y.1 (row T q) = rising_from-same 0 z.1 (meet y.1 (row T q)) (p.intent.len ∙ sym (m.len ∙ c.intent.len)) (sym (column-columns_of xs i [] lt) ∙ same) in
           subst (λ B. IsMeet B y.1 (row T q)) (sym e) m
 
-      holds_z : IsSubset y.0 z.0
-      holds_z r a =
-          let rlt : r < length T = omega (arith, bit-below y.0 r a, c.extent.len) in
-          (p.extent.rows r rlt).1 (λ i b. (c.extent.rows r rlt).0 a i (meet-left z.1 y.1 (row T q) meet-z i b))
-
-      least_z : (x : Pair) → IsConcept T w x.0 x.1 → IsSubset y.0 x.0 → bit x.0 q ≡ true → IsSubset z.0 x.0
-      least_z x o over has r b =
-          let rlt : r < length T = omega (arith, bit-below z.0 r b, p.extent.len) in
-          (o.extent.rows r rlt).1 (λ i h.
-          let below : i < w = omega (arith, bit-below x.1 i h, o.intent.len) in
-          let each = (o.intent.columns i below).0 h in
-          (p.extent.rows r rlt).0 b i (meet-z.bits i ∙ and_from (bit y.1 i) (bit (row T q) i) ((c.intent.columns i below).1 (λ s slt a. each s slt (over s a))) (each q qlt has)))
-
       pub closure-found : IsClosure (extents_of xs) k q i
       closure-found =
           let at_k = row-extents_of xs k nothing klt in
@@ -146,10 +122,10 @@ module _ (T : List (List Bool)) (w : ℕ) where
           let len = length-map xs (λ (u : Pair). u.0) in
           record {
             below = omega (arith, len, lt);
-            holds = rw (at_k, at_i) holds_z;
-            has = rw at_i ((p.extent.rows q qlt).1 (meet-right z.1 y.1 (row T q) meet-z));
+            holds = rw (at_k, at_i) (meet-holds T w y z q c p qlt meet-z);
+            has = rw at_i (meet-has T w y z q c p qlt meet-z);
             least = λ j jlt over has.
                 let below : j < length xs = omega (arith, len, jlt) in
                 let at_j = row-extents_of xs j nothing below in
-                rw (at_i, at_j) (least_z (get_or xs j nothing) (all.concepts.each j nothing below) (rw (at_k, at_j) at over) (rw at_j at has));
+                rw (at_i, at_j) (meet-least T w y z q c p qlt meet-z (get_or xs j nothing) (all.concepts.each j nothing below) (rw (at_k, at_j) at over) (rw at_j at has));
           }

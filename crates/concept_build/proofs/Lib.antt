@@ -1,8 +1,12 @@
 pub mod OrderLemmas
-pub mod InsertLemmas
-pub mod PlaceLemmas
 pub mod MadeLemmas
 pub mod KnownLemmas
-pub mod StepLemmas
+pub mod MeetLemmas
 pub mod ExtentLemmas
 pub mod CoverLemmas
+pub mod GrowLemmas
+pub mod ReachLemmas
+pub mod SortLemmas
+pub mod NearLemmas
+pub mod StandLemmas
+pub mod ExampleLemmas

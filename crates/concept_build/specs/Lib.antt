@@ -1,2 +1,2 @@
-pub mod Intents
+pub mod Tables
 pub mod Lists

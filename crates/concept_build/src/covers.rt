@@ -1,11 +1,13 @@
 //! The upper covers of a concept: the least of the closures of its extent with one more row.
 
-ghost use Rattle.std.specs.Prelude.{◌≡◌, ℕ, ◌<◌, ◌^◌, ◌↔◌, true, length, All, IfOk, IsTrue};
-ghost use Rattle.kaba_bits.specs.Sets.{bit, row, HasWidth, ListsBelow};
+ghost use Rattle.std.specs.Prelude.{◌≡◌, ℕ, ◌<◌, ◌^◌, ◌↔◌, length, All, Contains, IfOk, IsTrue};
+ghost use Rattle.kaba_bits.specs.Sets.{row, HasWidth, ListsBelow};
 ghost use Rattle.fact_model.specs.Concepts.{AreAllConcepts, IsUpperCover, IsWithin};
+ghost use Rattle.concept_build.specs.Tables.{AreExamples};
 ghost use Rattle.concept_build.specs.Lists.{extents_of, columns_of, lists_of, IsClosure, AreCandidates, IsLeast};
 
 use crate::item::{Item, common_columns, item_at};
+use crate::near::near_rows;
 use crate::places::place_of_columns;
 use indexmap::IndexSet;
 use kaba_bits::{BitRow, row_at};
@@ -15,6 +17,7 @@ use std::alloc::{AllocError, Global};
 pub fn above(
     alloc: Global,
     table: &[BitRow],
+    examples: &[u32],
     items: &[Item],
     places: &IndexSet<Vec<u32>>,
     k: usize,
@@ -22,44 +25,44 @@ pub fn above(
 ) -> Result<Vec<u32>, AllocError>
     requires rows { length table.now < 2 ^ 32 }
     requires widths { HasWidth width table.now }
+    requires examples { AreExamples table.now examples.now }
     requires small { length items.now < 2 ^ 32 }
     requires all { AreAllConcepts table.now width items.now }
     requires places { lists_of places.now.keys ≡ columns_of items.now }
     requires k { k < length items.now }
     ensures { IfOk result (λ v. ListsBelow (IsUpperCover (extents_of items.now) k) (length items.now) v.items) }
 {
-    let candidates = candidates(alloc, table, items, places, k, width)?;
-    let numbers = candidates.rising(alloc)?;
-    let above = least(alloc, items, &candidates, &numbers)?;
+    let numbers = candidates(alloc, table, examples, items, places, k, width)?;
+    let above = least(alloc, items, &numbers)?;
     Ok(above)
 }
 
-/// The closures with each row that the extent lacks.
+/// The closures with rows that the extent lacks: for each such row one of them is within its closure.
 fn candidates(
     alloc: Global,
     table: &[BitRow],
+    examples: &[u32],
     items: &[Item],
     places: &IndexSet<Vec<u32>>,
     k: usize,
     width: u32,
-) -> Result<BitRow, AllocError>
+) -> Result<Vec<u32>, AllocError>
     requires rows { length table.now < 2 ^ 32 }
     requires widths { HasWidth width table.now }
+    requires examples { AreExamples table.now examples.now }
     requires small { length items.now < 2 ^ 32 }
     requires all { AreAllConcepts table.now width items.now }
     requires places { lists_of places.now.keys ≡ columns_of items.now }
     requires k { k < length items.now }
-    ensures { IfOk result (λ b. AreCandidates (extents_of items.now) k (length table.now) b) }
+    ensures { IfOk result (λ v. AreCandidates (extents_of items.now) k (length table.now) v.items) }
 {
-    let item = item_at(items, k);
-    let mut candidates = BitRow::new(alloc, items.len() as u32)?;
-    for q in 0..table.len() {
-        if !item.extent().has(q as u32) {
-            let at = closure_at(alloc, table, items, places, k, q, width)?;
-            candidates.set(at as u32);
-        }
+    let near = near_rows(alloc, table, examples, item_at(items, k))?;
+    let mut numbers = Vec::new(alloc);
+    for q in &near {
+        let at = closure_at(alloc, table, items, places, k, *q as usize, width)?;
+        numbers.push(at as u32)?;
     }
-    Ok(candidates)
+    Ok(numbers)
 }
 
 /// The number of the least extent with the rows of the extent at `k`, and with the row `q`: that of the
@@ -88,38 +91,21 @@ fn closure_at(
     }
 }
 
-/// The candidates that have no other strictly within, rising.
-fn least(
-    alloc: Global,
-    items: &[Item],
-    candidates: &BitRow,
-    numbers: &[u32],
-) -> Result<Vec<u32>, AllocError>
-    requires small { length items.now < 2 ^ 32 }
-    requires len { length candidates.now ≡ length items.now }
+/// The numbers of a list that have no other strictly within, each once and rising.
+fn least(alloc: Global, items: &[Item], numbers: &[u32]) -> Result<Vec<u32>, AllocError>
     requires widths { (i j : ℕ) → i < length items.now → j < length items.now → length (row (extents_of items.now) i) ≡ length (row (extents_of items.now) j) }
     requires numbers { All (λ i. i < length items.now) numbers.now }
-    ensures { IfOk result (λ v. ListsBelow (λ j. (bit candidates.now j ≡ true) × IsLeast (extents_of items.now) numbers.now j) (length items.now) v.items) }
+    ensures { IfOk result (λ v. ListsBelow (λ j. Contains numbers.now j × IsLeast (extents_of items.now) numbers.now j) (length items.now) v.items) }
 {
     let mut above = Vec::new(alloc);
-    for j in 0..items.len() {
-        if is_least_candidate(items, candidates, numbers, j) {
-            above.push(j as u32)?;
+    for j in numbers {
+        if is_least(items, numbers, *j as usize) {
+            above.push(*j)?;
         }
     }
+    above.sort()?;
+    above.dedup();
     Ok(above)
-}
-
-/// Whether `j` is a candidate that has no other strictly within.
-fn is_least_candidate(items: &[Item], candidates: &BitRow, numbers: &[u32], j: usize) -> bool
-    requires j { j < length items.now }
-    requires small { length items.now < 2 ^ 32 }
-    requires len { length candidates.now ≡ length items.now }
-    requires widths { (i j : ℕ) → i < length items.now → j < length items.now → length (row (extents_of items.now) i) ≡ length (row (extents_of items.now) j) }
-    requires numbers { All (λ i. i < length items.now) numbers.now }
-    ensures { IsTrue result ↔ ((bit candidates.now j ≡ true) × IsLeast (extents_of items.now) numbers.now j) }
-{
-    candidates.has(j as u32) && is_least(items, numbers, j)
 }
 
 /// Whether no extent of the list is strictly within that at `j`.

@@ -1,14 +1,15 @@
-//! All concepts: their intents are the intersections of rows.
+//! All concepts: from that of all columns, each is reached by upper neighbours.
 
-ghost use Rattle.std.specs.Prelude.{◌≡◌, ℕ, ◌+◌, ◌<◌, ◌≤◌, ◌^◌, ◌⊎◌, Bool, List, length, IfOk, OnOk, IfErr, slice_index_or};
-ghost use Rattle.kaba_bits.specs.Sets.{row, HasWidth};
-ghost use Rattle.fact_model.specs.Concepts.{Pair, AreConcepts, AreAllConcepts, HasIntent};
-ghost use Rattle.concept_build.specs.Intents.{IsMeet, IsClosed};
-ghost use Rattle.concept_build.specs.Lists.{IsFaultOf, HasMade, lists_of, AreKnown, HasRow, HasMeet};
+ghost use Rattle.std.specs.Prelude.{◌≡◌, ℕ, ◌<◌, ◌≤◌, ◌^◌, Bool, false, List, length, All, IfOk, OnOk, IfErr};
+ghost use Rattle.kaba_bits.specs.Sets.{bit, row, HasWidth};
+ghost use Rattle.fact_model.specs.Concepts.{AreAllConcepts, IsConcept, HasIntent};
+ghost use Rattle.concept_build.specs.Tables.{IsFull, IsMeet, AreExamples};
+ghost use Rattle.concept_build.specs.Lists.{IsFaultOf, lists_of, columns_of, pair_at, AreFound, AreDifferent, Grows, HasMeet, AreNext};
 
 use crate::LatticeFault;
-use crate::item::{Item, common_columns, insert};
-use crate::places::is_new;
+use crate::item::{Item, common_columns, item_at, sort_items};
+use crate::near::near_rows;
+use crate::places::{is_new, places_of};
 use indexmap::IndexSet;
 use kaba_bits::{BitRow, row_at};
 use std::alloc::{AllocError, Global};
@@ -17,35 +18,59 @@ use std::alloc::{AllocError, Global};
 pub fn all_items(
     alloc: Global,
     table: &[BitRow],
+    examples: &[u32],
     width: u32,
     bound: u32,
 ) -> Result<Vec<Item>, LatticeFault>
     requires rows { length table.now < 2 ^ 32 }
     requires widths { HasWidth width table.now }
+    requires examples { AreExamples table.now examples.now }
     ensures all { IfOk result (λ v. AreAllConcepts table.now width v.items) }
     ensures within { IfOk result (λ v. length v.items ≤ bound) }
     ensures cause { IfErr result (λ e. IsFaultOf table.now width bound e) }
 {
+    let mut items = found_items(alloc, table, examples, width, bound)?;
+    sort_items(&mut items)?;
+    if items.len() > bound as usize {
+        return Err(LatticeFault::TooManyConcepts(bound));
+    }
+    Ok(items)
+}
+
+/// All concepts, or one more than `bound` of them.
+fn found_items(
+    alloc: Global,
+    table: &[BitRow],
+    examples: &[u32],
+    width: u32,
+    bound: u32,
+) -> Result<Vec<Item>, AllocError>
+    requires rows { length table.now < 2 ^ 32 }
+    requires widths { HasWidth width table.now }
+    requires examples { AreExamples table.now examples.now }
+    ensures each { IfOk result (λ v. All (λ k. IsConcept table.now width k.0 k.1) v.items) }
+    ensures differ { IfOk result (λ v. AreDifferent (columns_of v.items)) }
+    ensures all { IfOk result (λ v. length v.items ≤ bound → (A B : List Bool) → IsConcept table.now width A B → HasIntent v.items B) }
+{
     let mut items = first_items(alloc, table, width)?;
-    let mut known = IndexSet::new(alloc);
-    for r in 0..table.len() {
-        if items.len() > bound as usize {
-            return Err(LatticeFault::TooManyConcepts(bound));
-        }
-        add_row(alloc, table, &mut items, &mut known, r, width)?;
+    let mut known = places_of(alloc, &items)?;
+    let mut k = 0;
+    while k < items.len() && items.len() <= bound as usize {
+        add_next(
+            alloc, table, examples, &mut items, &mut known, k, width, bound,
+        )?;
+        k += 1;
     }
-    if items.len() <= bound as usize {
-        return Ok(items);
-    }
-    Err(LatticeFault::TooManyConcepts(bound))
+    Ok(items)
 }
 
 /// The concept of all columns.
 fn first_items(alloc: Global, table: &[BitRow], width: u32) -> Result<Vec<Item>, AllocError>
     requires rows { length table.now < 2 ^ 32 }
     requires widths { HasWidth width table.now }
-    ensures concepts { IfOk result (λ v. AreConcepts table.now width v.items) }
-    ensures made { IfOk result (λ v. HasMade table.now width 0 v.items) }
+    ensures each { IfOk result (λ v. All (λ k. IsConcept table.now width k.0 k.1) v.items) }
+    ensures one { IfOk result (λ v. length v.items ≡ 1) }
+    ensures full { IfOk result (λ v. IsFull width (pair_at v.items 0).1) }
 {
     let full = BitRow::full(alloc, width)?;
     let item = Item::new(alloc, table, full)?;
@@ -54,52 +79,62 @@ fn first_items(alloc: Global, table: &[BitRow], width: u32) -> Result<Vec<Item>,
     Ok(items)
 }
 
-/// Adds the concepts of the intersections with one more row. The column lists that are known are those
-/// of concepts that are there.
-fn add_row(
+/// Adds the upper neighbours of the concept at `k` that are new, until there are more than `bound`.
+fn add_next(
+    alloc: Global,
+    table: &[BitRow],
+    examples: &[u32],
+    items: &mut Vec<Item>,
+    known: &mut IndexSet<Vec<u32>>,
+    k: usize,
+    width: u32,
+    bound: u32,
+) -> Result<(), AllocError>
+    requires rows { length table.now < 2 ^ 32 }
+    requires widths { HasWidth width table.now }
+    requires examples { AreExamples table.now examples.now }
+    requires k { k < length items.old.items }
+    requires found { AreFound table.now width items.old.items (lists_of known.old.keys) }
+    ensures found { OnOk result (AreFound table.now width items.new.items (lists_of known.new.keys)) }
+    ensures grows { OnOk result (Grows items.old.items items.new.items) }
+    ensures next { OnOk result (length items.new.items ≤ bound → AreNext table.now items.new.items k) }
+{
+    let near = near_rows(alloc, table, examples, item_at(items, k))?;
+    for q in &near {
+        if items.len() > bound as usize {
+            return Ok(());
+        }
+        add_meet(alloc, table, items, known, k, *q as usize, width)?;
+    }
+    Ok(())
+}
+
+/// Adds the concept of the columns that the concept at `k` has in common with the row `q`, unless it is
+/// known.
+fn add_meet(
     alloc: Global,
     table: &[BitRow],
     items: &mut Vec<Item>,
     known: &mut IndexSet<Vec<u32>>,
-    r: usize,
+    k: usize,
+    q: usize,
     width: u32,
 ) -> Result<(), AllocError>
-    requires row { r < length table.now }
     requires rows { length table.now < 2 ^ 32 }
     requires widths { HasWidth width table.now }
-    requires concepts { AreConcepts table.now width items.old.items }
-    requires made { HasMade table.now width r items.old.items }
-    requires known { AreKnown width (lists_of known.old.keys) (HasIntent items.old.items) }
-    ensures concepts { OnOk result (AreConcepts table.now width items.new.items) }
-    ensures made { OnOk result (HasMade table.now width (r + 1) items.new.items) }
-    ensures known { OnOk result (AreKnown width (lists_of known.new.keys) (HasIntent items.new.items)) }
+    requires k { k < length items.old.items }
+    requires q { q < length table.now }
+    requires found { AreFound table.now width items.old.items (lists_of known.old.keys) }
+    ensures found { OnOk result (AreFound table.now width items.new.items (lists_of known.new.keys)) }
+    ensures grows { OnOk result (Grows items.old.items items.new.items) }
+    ensures has { OnOk result (HasMeet items.new.items (pair_at items.old.items k).1 (row table.now q)) }
 {
-    let sets = new_meets(alloc, items, known, row_at(table, r))?;
-    insert_all(alloc, table, items, &sets, width)?;
-    Ok(())
-}
-
-/// The intersections of intents with a row that are not known yet. Then they are.
-fn new_meets(
-    alloc: Global,
-    items: &[Item],
-    known: &mut IndexSet<Vec<u32>>,
-    with: &BitRow,
-) -> Result<Vec<BitRow>, AllocError>
-    requires widths { (k : ℕ) (d : Pair) → k < length items.now → length (slice_index_or items.now k d).1 ≡ length with.now }
-    requires known { AreKnown (length with.now) (lists_of known.old.keys) (HasIntent items.now) }
-    ensures meets { IfOk result (λ v. (j : ℕ) → j < length v.items → HasMeet items.now with.now (row v.items j)) }
-    ensures known { IfOk result (λ v. AreKnown (length with.now) (lists_of known.new.keys) (λ B. HasIntent items.now B ⊎ HasRow v.items B)) }
-    ensures each { IfOk result (λ v. (k : ℕ) (d : Pair) (M : List Bool) → k < length items.now → IsMeet M (slice_index_or items.now k d).1 with.now → HasIntent items.now M ⊎ HasRow v.items M) }
-{
-    let mut sets = Vec::new(alloc);
-    for item in items {
-        let columns = common_columns(alloc, item, with)?;
-        if is_new(known, columns)? {
-            sets.push(meet_of(alloc, item.intent(), with)?)?;
-        }
+    let columns = common_columns(alloc, item_at(items, k), row_at(table, q))?;
+    if is_new(known, columns)? {
+        let meet = meet_of(alloc, item_at(items, k).intent(), row_at(table, q))?;
+        items.push(Item::new(alloc, table, meet)?)?;
     }
-    Ok(sets)
+    Ok(())
 }
 
 /// The intersection of two sets.
@@ -110,27 +145,4 @@ fn meet_of(alloc: Global, set: &BitRow, with: &BitRow) -> Result<BitRow, AllocEr
     let mut meet = set.copy(alloc)?;
     meet.and_into(with);
     Ok(meet)
-}
-
-/// Adds the concepts of the given intents.
-fn insert_all(
-    alloc: Global,
-    table: &[BitRow],
-    items: &mut Vec<Item>,
-    sets: &[BitRow],
-    width: u32,
-) -> Result<(), AllocError>
-    requires rows { length table.now < 2 ^ 32 }
-    requires widths { HasWidth width table.now }
-    requires closed { (k : ℕ) → k < length sets.now → IsClosed table.now width (row sets.now k) }
-    requires concepts { AreConcepts table.now width items.old.items }
-    ensures concepts { OnOk result (AreConcepts table.now width items.new.items) }
-    ensures keeps { OnOk result ((B : List Bool) → HasIntent items.old.items B → HasIntent items.new.items B) }
-    ensures has { OnOk result ((k : ℕ) → k < length sets.now → HasIntent items.new.items (row sets.now k)) }
-{
-    for k in 0..sets.len() {
-        let item = Item::new(alloc, table, row_at(sets, k).copy(alloc)?)?;
-        insert(items, item)?;
-    }
-    Ok(())
 }

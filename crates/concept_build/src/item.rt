@@ -1,11 +1,11 @@
 //! Concepts on the way, and lists of them in their order.
 
 ghost use Rattle.std.specs.Prelude.{◌≡◌, ℕ, ◌<◌, ◌^◌, ◌↔◌, Bool, true, List, length, AllPairs, IfOk, OnOk, IsTrue, slice_index_or};
-ghost use Rattle.std.specs.List.Sorted.{IsSearchInRange};
-ghost use Rattle.kaba_bits.specs.Sets.{bit, row, rising, IsSubset, HasWidth, ListsBelow};
+ghost use Rattle.std.specs.List.Sorted.{IsPermutation};
+ghost use Rattle.kaba_bits.specs.Sets.{bit, row, size, rising, IsSubset, HasWidth, ListsBelow};
 ghost use Rattle.fact_model.specs.Concepts.{Pair, concept_cmp, IsExtent, IsWithin};
-ghost use Rattle.concept_build.specs.Intents.{IsMeet};
-ghost use Rattle.concept_build.specs.Lists.{extents_of, IsBefore, IsPlace, IsInsertion};
+ghost use Rattle.concept_build.specs.Tables.{IsMeet};
+ghost use Rattle.concept_build.specs.Lists.{extents_of, columns_of, AreDifferent, IsBefore};
 
 use kaba_bits::{BitRow, row_at};
 use std::alloc::{AllocError, Global};
@@ -72,6 +72,13 @@ impl Item {
         ensures { result.now ≡ rising self.now.1 }
     {
         &self.columns
+    }
+
+    /// How many rows.
+    pub fn rows(&self) -> u32
+        ensures { result ≡ size self.now.0 }
+    {
+        self.rows
     }
 
     /// By falling size of extent, then by intent.
@@ -149,26 +156,12 @@ pub fn item_at(items: &[Item], k: usize) -> &Item
     &items[k]
 }
 
-/// Where a concept stands in an ordered list, or where it belongs.
-pub fn place_of(items: &[Item], item: &Item) -> Result<usize, usize>
-    requires { AllPairs IsBefore items.now }
-    ensures within { IsSearchInRange result (length items.now) }
-    ensures place { IsPlace items.now item.now result }
+/// Puts different concepts in their order.
+pub fn sort_items(items: &mut Vec<Item>) -> Result<(), AllocError>
+    requires differ { AreDifferent (columns_of items.old.items) }
+    ensures same { IsPermutation items.old.items items.new.items }
+    ensures ordered { OnOk result (AllPairs IsBefore items.new.items) }
 {
-    items.binary_search_by(|other| other.compare(item))
-}
-
-/// Puts a concept in its place, unless one of its intent is there.
-pub fn insert(items: &mut Vec<Item>, item: Item) -> Result<(), AllocError>
-    requires ordered { AllPairs IsBefore items.old.items }
-    requires widths { (k : ℕ) (d : Pair) → k < length items.old.items → length (slice_index_or items.old.items k d).1 ≡ length item.1 }
-    ensures { OnOk result (IsInsertion items.old.items item items.new.items) }
-{
-    match place_of(items, &item) {
-        Ok(_) => Ok(()),
-        Err(k) => {
-            items.insert(k, item)?;
-            Ok(())
-        }
-    }
+    items.sort_by(|one, other| one.compare(other))?;
+    Ok(())
 }

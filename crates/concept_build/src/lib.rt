@@ -5,6 +5,7 @@ ghost use Rattle.std.specs.Prelude.{◌≡◌, ℕ, ◌-◌, ◌<◌, ◌≤◌,
 ghost use Rattle.kaba_bits.specs.Sets.{HasWidth};
 ghost use Rattle.fact_model.specs.declared.sets.Concept.{Concept};
 ghost use Rattle.fact_model.specs.Concepts.{Pair, pair_of, AreAllConcepts, IsPlaced, IsLatticeOf};
+ghost use Rattle.concept_build.specs.Tables.{IsCounted};
 ghost use Rattle.concept_build.specs.Lists.{IsFaultOf, extents_of, columns_of, lists_of};
 
 use fact_model::{Concept, Lattice, Table};
@@ -13,12 +14,15 @@ use kaba_bits::BitRow;
 use std::alloc::{AllocError, Global};
 use thiserror::Error;
 
+mod counts;
 mod covers;
 mod intents;
 mod item;
+mod near;
 mod places;
 mod stands;
 
+use counts::{Counts, counts_of};
 use covers::above;
 use intents::all_items;
 use item::{Item, item_at};
@@ -57,9 +61,10 @@ pub fn concepts(alloc: Global, table: &Table, bound: u32) -> Result<Lattice, Lat
     ensures within { IfOk result (λ l. length l.concepts.items ≤ bound) }
     ensures cause { IfErr result (λ e. IsFaultOf table.now.rows.items table.now.width bound e) }
 {
-    let items = all_items(alloc, &table.rows, table.width, bound)?;
+    let counts = counts_of(alloc, &table.rows, table.width)?;
+    let items = all_items(alloc, &table.rows, &counts.examples, table.width, bound)?;
     let places = places_of(alloc, &items)?;
-    let concepts = placed_items(alloc, &table.rows, &items, &places, table.width)?;
+    let concepts = placed_items(alloc, &table.rows, &counts, &items, &places, table.width)?;
     Ok(Lattice { concepts })
 }
 
@@ -67,12 +72,14 @@ pub fn concepts(alloc: Global, table: &Table, bound: u32) -> Result<Lattice, Lat
 fn placed_items(
     alloc: Global,
     table: &[BitRow],
+    counts: &Counts,
     items: &[Item],
     places: &IndexSet<Vec<u32>>,
     width: u32,
 ) -> Result<Vec<Concept>, AllocError>
     requires rows { length table.now < 2 ^ 32 }
     requires widths { HasWidth width table.now }
+    requires counts { IsCounted table.now width counts.now }
     requires small { length items.now < 2 ^ 32 }
     requires all { AreAllConcepts table.now width items.now }
     requires places { lists_of places.now.keys ≡ columns_of items.now }
@@ -81,7 +88,7 @@ fn placed_items(
 {
     let mut concepts = Vec::new(alloc);
     for k in 0..items.len() {
-        concepts.push(placed_item(alloc, table, items, places, k, width)?)?;
+        concepts.push(placed_item(alloc, table, counts, items, places, k, width)?)?;
     }
     Ok(concepts)
 }
@@ -90,6 +97,7 @@ fn placed_items(
 fn placed_item(
     alloc: Global,
     table: &[BitRow],
+    counts: &Counts,
     items: &[Item],
     places: &IndexSet<Vec<u32>>,
     k: usize,
@@ -97,6 +105,7 @@ fn placed_item(
 ) -> Result<Concept, AllocError>
     requires rows { length table.now < 2 ^ 32 }
     requires widths { HasWidth width table.now }
+    requires counts { IsCounted table.now width counts.now }
     requires small { length items.now < 2 ^ 32 }
     requires all { AreAllConcepts table.now width items.now }
     requires places { lists_of places.now.keys ≡ columns_of items.now }
@@ -107,9 +116,9 @@ fn placed_item(
     let item = item_at(items, k);
     let extent = item.extent().copy(alloc)?;
     let intent = item.intent().copy(alloc)?;
-    let above = above(alloc, table, items, places, k, width)?;
-    let rows = rows_at(alloc, table, &extent, &intent)?;
-    let columns = columns_at(alloc, table, &extent, &intent, width)?;
+    let above = above(alloc, table, &counts.examples, items, places, k, width)?;
+    let rows = rows_at(alloc, table, &counts.rows, item, width)?;
+    let columns = columns_at(alloc, table, &counts.columns, item, width)?;
     Ok(Concept {
         extent,
         intent,

@@ -1,3 +1,5 @@
 pub mod LoopLemmas
 pub mod RuleLemmas
 pub mod SolveLemmas
+pub mod EdgeLemmas
+pub mod ChainLemmas

@@ -1,2 +1,4 @@
 pub mod Sound
 pub mod Closed
+pub mod Work
+pub mod Chains

@@ -8,16 +8,18 @@ ghost use Rattle.fact_model.specs.Classes.{finds};
 ghost use Rattle.fact_model.specs.InRange.{InRange};
 ghost use Rattle.fact_model.specs.Flowing.{Holds, in_point, Runs, point_at};
 ghost use Rattle.points_to.specs.Sound.{ArePoints, FlowsTo, ArgumentsFlow, ArePointsOf};
+ghost use Rattle.points_to.specs.Chains.{AreBodies};
 ghost use Rattle.points_to.specs.Closed.{IsArgumentClosed, AreArgumentsClosed, IsResultClosed, IsRunClosed, IsBodyClosed, IsCallClosedAt, IsCallClosed};
 
+use crate::bodies::{Bodies, find_body};
 use crate::includes::{include, include_site};
 use crate::passes::site_at;
-use fact_model::{BodyInfo, CallInfo, Facts, finds};
+use fact_model::{BodyInfo, CallInfo, Facts};
 use kaba_base::ColId;
 use kaba_bits::{BitRow, row_at};
 
 /// The point of an argument or a parameter, if there is one.
-fn point_at(list: &[Option<u32>], k: usize) -> Option<u32>
+pub fn point_at(list: &[Option<u32>], k: usize) -> Option<u32>
     ensures { result ≡ point_at list.now k }
 {
     if k < list.len() { list[k] } else { None }
@@ -157,8 +159,9 @@ fn run_bodies(facts: &Facts, points: &mut [BitRow], call: &CallInfo, o: u32, d: 
 }
 
 /// A call, where its receiver has the site `o`.
-fn call_site(facts: &Facts, points: &mut [BitRow], call: &CallInfo, o: u32) -> bool
+fn call_site(facts: &Facts, bodies: &Bodies, points: &mut [BitRow], call: &CallInfo, o: u32) -> bool
     requires facts { InRange facts.now }
+    requires bodies { AreBodies facts.now bodies.now }
     requires points { ArePoints facts.now points.old }
     requires site { o < length facts.now.sites.items }
     requires call { Contains facts.now.calls.items call.now }
@@ -169,15 +172,16 @@ fn call_site(facts: &Facts, points: &mut [BitRow], call: &CallInfo, o: u32) -> b
     if !row_at(points, call.receiver as usize).has(o) {
         return false;
     }
-    match finds(facts, site_at(facts, o).class, call.slot) {
+    match find_body(facts, bodies, site_at(facts, o).class, call.slot) {
         Some(d) => run_bodies(facts, points, call, o, d),
         None => false,
     }
 }
 
 /// A call, for every site.
-fn call_sites(facts: &Facts, points: &mut [BitRow], call: &CallInfo) -> bool
+fn call_sites(facts: &Facts, bodies: &Bodies, points: &mut [BitRow], call: &CallInfo) -> bool
     requires facts { InRange facts.now }
+    requires bodies { AreBodies facts.now bodies.now }
     requires points { ArePoints facts.now points.old }
     requires call { Contains facts.now.calls.items call.now }
     ensures points { ArePoints facts.now points.new }
@@ -186,14 +190,15 @@ fn call_sites(facts: &Facts, points: &mut [BitRow], call: &CallInfo) -> bool
 {
     let mut grew = false;
     for o in 0..facts.sites.len() as u32 {
-        grew |= call_site(facts, points, call, o);
+        grew |= call_site(facts, bodies, points, call, o);
     }
     grew
 }
 
 /// Every call once.
-pub fn pass_calls(facts: &Facts, points: &mut [BitRow]) -> bool
+pub fn pass_calls(facts: &Facts, bodies: &Bodies, points: &mut [BitRow]) -> bool
     requires facts { InRange facts.now }
+    requires bodies { AreBodies facts.now bodies.now }
     requires points { ArePoints facts.now points.old }
     ensures points { ArePoints facts.now points.new }
     ensures step { IsStep points.old points.new result }
@@ -201,7 +206,7 @@ pub fn pass_calls(facts: &Facts, points: &mut [BitRow]) -> bool
 {
     let mut grew = false;
     for call in &facts.calls {
-        grew |= call_sites(facts, points, call);
+        grew |= call_sites(facts, bodies, points, call);
     }
     grew
 }

@@ -88,7 +88,7 @@ pub fn site_at(facts: &Facts, s: u32) -> SiteInfo
 }
 
 /// Whether two columns are one.
-fn is_same_column(a: Option<ColId>, b: Option<ColId>) -> bool
+pub fn is_same_column(a: Option<ColId>, b: Option<ColId>) -> bool
     ensures { IsTrue result ↔ (a ≡ b) }
 {
     a == b

@@ -1,2 +1,4 @@
 pub mod RawLemmas
 pub mod CloseLemmas
+pub mod PairLemmas
+pub mod EdgeLemmas

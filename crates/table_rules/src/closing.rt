@@ -1,6 +1,7 @@
-//! The least table that holds the raw one and is closed under T5, T6, T8, T9 and T10, in plain rounds.
+//! The least table that holds the raw one and is closed under T5, T6, T8, T9 and T10. A worklist passes each new entry
+//! on once; plain rounds then apply every rule until nothing changes, which shows that nothing was left out.
 
-ghost use Rattle.std.specs.Prelude.{◌≡◌, ℕ, ◌<◌, ◌↔◌, true, length, All, Contains, Some, IfOk, IsTrue};
+ghost use Rattle.std.specs.Prelude.{◌≡◌, ℕ, ◌<◌, ◌↔◌, true, length, All, Contains, Some, IfOk, IsTrue, OnOk};
 ghost use Rattle.std.specs.Bool.{OnTrue, OnFalse};
 ghost use Rattle.kaba_bits.specs.Sets.{bit, row, total, HasWidth, IsStep};
 ghost use Rattle.fact_model.specs.Items.{row_this};
@@ -9,17 +10,20 @@ ghost use Rattle.fact_model.specs.InOrder.{InOrder, ColumnsStandAbove, BodiesAre
 ghost use Rattle.fact_model.specs.Flowing.{AreSets};
 ghost use Rattle.fact_model.specs.Entries.{IsRawTable, IsTable, IsEntry, Hides, IsDeclaredBy};
 ghost use Rattle.table_rules.specs.Marks.{AreEntries};
-ghost use Rattle.table_rules.specs.Closed.{IsDeclaredAt, IsDeclaredClosed, HaveBoth, IsHiddenAt, IsHiddenClosed, IsBodyClosedAt, IsBodyClosed, IsTieClosed, IsSiteClosedAt, IsSiteClosed, AreClosed};
+ghost use Rattle.table_rules.specs.Pairs.{IsPair, AreAllPairs, IsPairCopied, IsPairHidden};
+ghost use Rattle.table_rules.specs.Closed.{IsDeclaredClosed, HaveBoth, IsHiddenClosed, IsBodyClosedAt, IsBodyClosed, IsTieClosed, IsSiteClosedAt, IsSiteClosed, AreClosed};
 
-use crate::columns::{hides, is_declared_by, site_at, this_of};
+use crate::columns::{site_at, this_of};
 use crate::marks::{copy_column, join_rows};
+use crate::pairs::{Pair, declared_pairs, hidden_pairs};
+use crate::turns::grow;
 use fact_model::{Facts, PointsTo, Table, TieInfo};
 use kaba_base::ColId;
 use kaba_bits::{BitRow, row_at};
 use std::alloc::{AllocError, Global};
 
 /// The least table that holds the raw one and is closed under T5, T6, T8, T9 and T10. The sets and the raw table are
-/// those of the facts. An error would come only for want of memory; this body takes none.
+/// those of the facts. An error comes only for want of memory.
 pub fn close(alloc: Global, facts: &Facts, pt: &PointsTo, raw: Table) -> Result<Table, AllocError>
     requires facts { InRange facts.now }
     requires sets { AreSets facts.now pt.now }
@@ -30,89 +34,106 @@ pub fn close(alloc: Global, facts: &Facts, pt: &PointsTo, raw: Table) -> Result<
     ensures above { IfOk result (λ t. InOrder facts.now → ColumnsStandAbove facts.now t) }
     ensures own { IfOk result (λ t. InOrder facts.now → BodiesAreOwn facts.now t) }
 {
-    let _ = alloc;
     let Table { width, mut rows } = raw;
-    run_rounds(facts, pt, &mut rows);
+    fill(alloc, facts, pt, &mut rows)?;
     Ok(Table { width, rows })
 }
 
-/// Rounds, until nothing changes.
-fn run_rounds(facts: &Facts, pt: &PointsTo, rows: &mut [BitRow])
+/// The pairs, what the worklist finds, and then rounds. An error comes only for want of memory.
+fn fill(alloc: Global, facts: &Facts, pt: &PointsTo, rows: &mut [BitRow]) -> Result<(), AllocError>
     requires facts { InRange facts.now }
     requires sets { AreSets facts.now pt.now }
+    requires rows { AreEntries facts.now rows.old }
+    ensures rows { OnOk result (AreEntries facts.now rows.new) }
+    ensures closed { OnOk result (AreClosed facts.now pt.now.rows.items rows.new) }
+{
+    let declared = declared_pairs(alloc, facts)?;
+    let hidden = hidden_pairs(alloc, facts)?;
+    grow(alloc, facts, pt, &declared, &hidden, rows)?;
+    run_rounds(facts, pt, &declared, &hidden, rows);
+    Ok(())
+}
+
+/// Rounds, until nothing changes.
+fn run_rounds(facts: &Facts, pt: &PointsTo, declared: &[Pair], hidden: &[Pair], rows: &mut [BitRow])
+    requires facts { InRange facts.now }
+    requires sets { AreSets facts.now pt.now }
+    requires declared { AreAllPairs (IsDeclaredBy facts.now) (length facts.now.columns.items) declared.now }
+    requires hidden { AreAllPairs (Hides facts.now) (length facts.now.columns.items) hidden.now }
     requires rows { AreEntries facts.now rows.old }
     ensures rows { AreEntries facts.now rows.new }
     ensures closed { AreClosed facts.now pt.now.rows.items rows.new }
 {
     loop {
-        if !round(facts, pt, rows) {
+        if !round(facts, pt, declared, hidden, rows) {
             return;
         }
     }
 }
 
 /// Each rule with premises once.
-fn round(facts: &Facts, pt: &PointsTo, rows: &mut [BitRow]) -> bool
+fn round(
+    facts: &Facts,
+    pt: &PointsTo,
+    declared: &[Pair],
+    hidden: &[Pair],
+    rows: &mut [BitRow],
+) -> bool
     requires facts { InRange facts.now }
     requires sets { AreSets facts.now pt.now }
+    requires declared { AreAllPairs (IsDeclaredBy facts.now) (length facts.now.columns.items) declared.now }
+    requires hidden { AreAllPairs (Hides facts.now) (length facts.now.columns.items) hidden.now }
     requires rows { AreEntries facts.now rows.old }
     ensures rows { AreEntries facts.now rows.new }
     ensures step { IsStep rows.old rows.new result }
     ensures closed { OnFalse result (AreClosed facts.now pt.now.rows.items rows.new) }
 {
-    let declared = pass_declared(facts, rows);
+    let declared = pass_declared(facts, declared, rows);
     let bodies = pass_bodies(facts, rows);
     let ties = pass_ties(facts, rows);
     let sites = pass_sites(facts, pt, rows);
-    let hidden = pass_hidden(facts, rows);
+    let hidden = pass_hidden(facts, hidden, rows);
     declared | bodies | ties | sites | hidden
 }
 
-/// T5 for one pair of columns.
-fn declare_at(facts: &Facts, rows: &mut [BitRow], d: u32, c: u32) -> bool
+/// T5 for one pair.
+fn declare_pair(facts: &Facts, rows: &mut [BitRow], x: Pair) -> bool
     requires facts { InRange facts.now }
     requires rows { AreEntries facts.now rows.old }
-    requires body { d < length facts.now.columns.items }
-    requires column { c < length facts.now.columns.items }
+    requires pair { IsPair (IsDeclaredBy facts.now) (length facts.now.columns.items) x }
     ensures rows { AreEntries facts.now rows.new }
     ensures step { IsStep rows.old rows.new result }
-    ensures closed { OnFalse result (IsDeclaredAt facts.now d rows.new c) }
+    ensures closed { OnFalse result (IsPairCopied rows.new x) }
 {
-    if !is_declared_by(facts, d, c) {
-        return false;
-    }
-    copy_column(facts, rows, d, c)
+    copy_column(facts, rows, x.from, x.to)
 }
 
-/// T5 for one body.
-fn declare(facts: &Facts, rows: &mut [BitRow], d: u32) -> bool
+/// T5 for each pair.
+fn pass_pairs(facts: &Facts, declared: &[Pair], rows: &mut [BitRow]) -> bool
     requires facts { InRange facts.now }
     requires rows { AreEntries facts.now rows.old }
-    requires body { d < length facts.now.columns.items }
+    requires declared { All (IsPair (IsDeclaredBy facts.now) (length facts.now.columns.items)) declared.now }
     ensures rows { AreEntries facts.now rows.new }
     ensures step { IsStep rows.old rows.new result }
-    ensures closed { OnFalse result (IsDeclaredClosed facts.now rows.new d) }
+    ensures closed { OnFalse result (All (IsPairCopied rows.new) declared.now) }
 {
     let mut grew = false;
-    for c in 0..facts.columns.len() as u32 {
-        grew |= declare_at(facts, rows, d, c);
+    for x in declared {
+        grew |= declare_pair(facts, rows, *x);
     }
     grew
 }
 
 /// T5: a row with a body has its declaration.
-fn pass_declared(facts: &Facts, rows: &mut [BitRow]) -> bool
+fn pass_declared(facts: &Facts, declared: &[Pair], rows: &mut [BitRow]) -> bool
     requires facts { InRange facts.now }
     requires rows { AreEntries facts.now rows.old }
+    requires declared { AreAllPairs (IsDeclaredBy facts.now) (length facts.now.columns.items) declared.now }
     ensures rows { AreEntries facts.now rows.new }
     ensures step { IsStep rows.old rows.new result }
     ensures closed { OnFalse result ((d : ℕ) → d < length facts.now.columns.items → IsDeclaredClosed facts.now rows.new d) }
 {
-    let mut grew = false;
-    for d in 0..facts.columns.len() as u32 {
-        grew |= declare(facts, rows, d);
-    }
-    grew
+    pass_pairs(facts, declared, rows)
 }
 
 /// T6 for one `this` and one row.
@@ -274,52 +295,45 @@ fn have_both(rows: &[BitRow], width: u32, d: u32, c: u32) -> bool
     false
 }
 
-/// T10 for one pair of columns.
-fn hide_at(facts: &Facts, rows: &mut [BitRow], d: u32, c: u32) -> bool
+/// T10 for one pair.
+fn hide_pair(facts: &Facts, rows: &mut [BitRow], x: Pair) -> bool
     requires facts { InRange facts.now }
     requires rows { AreEntries facts.now rows.old }
-    requires lower { d < length facts.now.columns.items }
-    requires column { c < length facts.now.columns.items }
+    requires pair { IsPair (Hides facts.now) (length facts.now.columns.items) x }
     ensures rows { AreEntries facts.now rows.new }
     ensures step { IsStep rows.old rows.new result }
-    ensures closed { OnFalse result (IsHiddenAt facts.now d rows.new c) }
+    ensures closed { OnFalse result (IsPairHidden rows.new x) }
 {
-    if !hides(facts, d, c) {
+    if !have_both(rows, facts.columns.len() as u32, x.from, x.to) {
         return false;
     }
-    if !have_both(rows, facts.columns.len() as u32, d, c) {
-        return false;
-    }
-    copy_column(facts, rows, d, c)
+    copy_column(facts, rows, x.from, x.to)
 }
 
-/// T10 for one column.
-fn hide(facts: &Facts, rows: &mut [BitRow], d: u32) -> bool
+/// T10 for each pair.
+fn hide_pairs(facts: &Facts, hidden: &[Pair], rows: &mut [BitRow]) -> bool
     requires facts { InRange facts.now }
     requires rows { AreEntries facts.now rows.old }
-    requires lower { d < length facts.now.columns.items }
+    requires hidden { All (IsPair (Hides facts.now) (length facts.now.columns.items)) hidden.now }
     ensures rows { AreEntries facts.now rows.new }
     ensures step { IsStep rows.old rows.new result }
-    ensures closed { OnFalse result (IsHiddenClosed facts.now rows.new d) }
+    ensures closed { OnFalse result (All (IsPairHidden rows.new) hidden.now) }
 {
     let mut grew = false;
-    for c in 0..facts.columns.len() as u32 {
-        grew |= hide_at(facts, rows, d, c);
+    for x in hidden {
+        grew |= hide_pair(facts, rows, *x);
     }
     grew
 }
 
 /// T10: where some row has both a member and one that it hides, each row with the first has the second.
-fn pass_hidden(facts: &Facts, rows: &mut [BitRow]) -> bool
+fn pass_hidden(facts: &Facts, hidden: &[Pair], rows: &mut [BitRow]) -> bool
     requires facts { InRange facts.now }
     requires rows { AreEntries facts.now rows.old }
+    requires hidden { AreAllPairs (Hides facts.now) (length facts.now.columns.items) hidden.now }
     ensures rows { AreEntries facts.now rows.new }
     ensures step { IsStep rows.old rows.new result }
     ensures closed { OnFalse result ((d : ℕ) → d < length facts.now.columns.items → IsHiddenClosed facts.now rows.new d) }
 {
-    let mut grew = false;
-    for d in 0..facts.columns.len() as u32 {
-        grew |= hide(facts, rows, d);
-    }
-    grew
+    hide_pairs(facts, hidden, rows)
 }

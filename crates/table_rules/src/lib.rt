@@ -4,8 +4,12 @@
 
 mod closing;
 mod columns;
+mod index;
 mod marks;
+mod pairs;
 mod raw_table;
+mod turns;
+mod work;
 
 pub use closing::close;
 pub use raw_table::raw;

@@ -7,15 +7,15 @@ ghost use Rattle.fact_model.specs.Classes.{finds};
 ghost use Rattle.fact_model.specs.InRange.{InRange};
 ghost use Rattle.fact_model.specs.Flowing.{AreSets};
 ghost use Rattle.fact_model.specs.Entries.{IsRawEntry, IsRawTable};
+ghost use Rattle.points_to.specs.Chains.{AreBodies};
 ghost use Rattle.table_rules.specs.Marks.{AreRaw, Grow, Marked, IsAccessMarked, IsSuperMarked, IsThisMarked, IsNeedMarked, IsCallMarked, IsMarkMarkedAt, IsMarkMarked, IsTestMarked, IsArrayMarked, AreMarked};
 
 use crate::columns::{is_mark, site_at, this_of};
 use crate::marks::mark;
-use fact_model::{
-    AccessInfo, CallInfo, ColKind, Facts, PointsTo, SuperInfo, Table, TestInfo, finds,
-};
+use fact_model::{AccessInfo, CallInfo, ColKind, Facts, PointsTo, SuperInfo, Table, TestInfo};
 use kaba_base::ClassId;
 use kaba_bits::{BitRow, empty_rows, row_at};
+use points_to::{Bodies, bodies_of, find_body};
 use std::alloc::{AllocError, Global};
 
 /// The table with exactly the entries of T1, T2, T3, T4, T7 and T11. The sets are those of the facts. An error comes
@@ -26,21 +26,23 @@ pub fn raw(alloc: Global, facts: &Facts, pt: &PointsTo) -> Result<Table, AllocEr
     ensures table { IfOk result (λ t. IsRawTable facts.now t) }
 {
     let width = facts.columns.len() as u32;
+    let bodies = bodies_of(alloc, facts)?;
     let mut rows = empty_rows(alloc, facts.rows.len(), width)?;
-    mark_all(facts, pt, &mut rows);
+    mark_all(facts, &bodies, pt, &mut rows);
     Ok(Table { width, rows })
 }
 
 /// Each rule for every fact of its list.
-fn mark_all(facts: &Facts, pt: &PointsTo, rows: &mut [BitRow])
+fn mark_all(facts: &Facts, bodies: &Bodies, pt: &PointsTo, rows: &mut [BitRow])
     requires facts { InRange facts.now }
+    requires bodies { AreBodies facts.now bodies.now }
     requires sets { AreSets facts.now pt.now }
     requires rows { AreRaw facts.now rows.old }
     ensures rows { AreRaw facts.now rows.new }
     ensures marked { AreMarked facts.now pt.now.points.items rows.new }
 {
     mark_accesses(facts, rows);
-    mark_calls(facts, pt, rows);
+    mark_calls(facts, bodies, pt, rows);
     mark_these(facts, rows);
     mark_supers(facts, rows);
     mark_tests(facts, rows);
@@ -73,8 +75,9 @@ fn mark_access(facts: &Facts, rows: &mut [BitRow], x: AccessInfo)
 }
 
 /// T3: the row of each site in a receiver has the body found for its class.
-fn mark_calls(facts: &Facts, pt: &PointsTo, rows: &mut [BitRow])
+fn mark_calls(facts: &Facts, bodies: &Bodies, pt: &PointsTo, rows: &mut [BitRow])
     requires facts { InRange facts.now }
+    requires bodies { AreBodies facts.now bodies.now }
     requires sets { AreSets facts.now pt.now }
     requires rows { AreRaw facts.now rows.old }
     ensures rows { AreRaw facts.now rows.new }
@@ -82,13 +85,14 @@ fn mark_calls(facts: &Facts, pt: &PointsTo, rows: &mut [BitRow])
     ensures marked { All (IsCallMarked facts.now pt.now.points.items rows.new) facts.now.calls.items }
 {
     for call in &facts.calls {
-        mark_call(facts, pt, rows, call);
+        mark_call(facts, bodies, pt, rows, call);
     }
 }
 
 /// One call, for every site.
-fn mark_call(facts: &Facts, pt: &PointsTo, rows: &mut [BitRow], call: &CallInfo)
+fn mark_call(facts: &Facts, bodies: &Bodies, pt: &PointsTo, rows: &mut [BitRow], call: &CallInfo)
     requires facts { InRange facts.now }
+    requires bodies { AreBodies facts.now bodies.now }
     requires sets { AreSets facts.now pt.now }
     requires rows { AreRaw facts.now rows.old }
     requires call { Contains facts.now.calls.items call.now }
@@ -97,13 +101,21 @@ fn mark_call(facts: &Facts, pt: &PointsTo, rows: &mut [BitRow], call: &CallInfo)
     ensures marked { IsCallMarked facts.now pt.now.points.items rows.new call.now }
 {
     for o in 0..facts.sites.len() as u32 {
-        mark_need(facts, pt, rows, call, o);
+        mark_need(facts, bodies, pt, rows, call, o);
     }
 }
 
 /// One call, for one site.
-fn mark_need(facts: &Facts, pt: &PointsTo, rows: &mut [BitRow], call: &CallInfo, o: u32)
+fn mark_need(
+    facts: &Facts,
+    bodies: &Bodies,
+    pt: &PointsTo,
+    rows: &mut [BitRow],
+    call: &CallInfo,
+    o: u32,
+)
     requires facts { InRange facts.now }
+    requires bodies { AreBodies facts.now bodies.now }
     requires sets { AreSets facts.now pt.now }
     requires rows { AreRaw facts.now rows.old }
     requires call { Contains facts.now.calls.items call.now }
@@ -116,7 +128,7 @@ fn mark_need(facts: &Facts, pt: &PointsTo, rows: &mut [BitRow], call: &CallInfo,
         return;
     }
     let site = site_at(facts, o);
-    if let Some(d) = finds(facts, site.class, call.slot) {
+    if let Some(d) = find_body(facts, bodies, site.class, call.slot) {
         mark(facts, rows, site.row.0, d.0);
     }
 }

@@ -1,7 +1,6 @@
-use Rattle.std.proofs.Common.{◌≡◌, length, get_or, sym, ◌∙◌, true, arith}
+use Rattle.std.proofs.Common.{length, sym, ◌∙◌, arith}
+use Rattle.std.specs.Prelude.{Contains}
 use Rattle.std.proofs.lemmas.List.{length-map}
-use Rattle.std.proofs.lemmas.List.Elements.{Contains-get_or}
-use Rattle.kaba_bits.specs.Sets.{bit}
 use Rattle.kaba_bits.proofs.ListLemmas.{ListsBelow-same}
 use Rattle.fact_model.specs.Concepts.{Pair, IsUpperCover}
 use Rattle.concept_build.specs.Lists.{extents_of, IsLeast}
@@ -16,10 +15,7 @@ least-requires-clause-widths c =
 
 pub least-requires-clause-numbers : goal.least-requires-clause-numbers
 least-requires-clause-numbers c =
-    let numbers = c.in_ok-numbers.numbers.items in
-    rw c.deref.ensures.value (λ k d lt.
-    let h = (c.in_ok-numbers.ensures.exact.each (get_or numbers k d)).0 (Contains-get_or numbers k d lt) in
-    omega (arith, h.0, c.in_ok-candidates.ensures.len, length-map c.args.items.now (λ (x : Pair). x.0)))
+    rw c.deref.ensures.value (λ k d lt. omega (arith, c.in_ok-numbers.ensures.below k d lt, length-map c.args.items.now (λ (x : Pair). x.0)))
 
 pub returns : goal.returns
 returns c =
@@ -28,12 +24,11 @@ returns c =
     let xs = c.args.items.now in
     let E = extents_of xs in
     let k = c.args.k in
-    let candidates = c.in_ok-candidates.candidates in
     let numbers = c.in_ok-numbers.numbers.items in
     let long = length-map xs (λ (x : Pair). x.0) in
     let len = extent_len T w xs c.requires.all.concepts in
     let same = same_number T w xs c.requires.all.concepts in
     let least = rw c.deref.ensures.value at c.in_ok-above.ensures in
-    ListsBelow-same (λ j. (bit candidates j ≡ true) × IsLeast E numbers j) (IsUpperCover E k) (length xs) c.in_ok-above.above.items
-    (λ j lt. cover_is_least E k (length T) candidates numbers (λ i ilt. len i (omega (arith, ilt, long))) (λ i m ilt mlt. same i m (omega (arith, ilt, long)) (omega (arith, mlt, long))) c.in_ok-candidates.ensures c.in_ok-numbers.ensures.exact j (omega (arith, lt, long)))
+    ListsBelow-same (λ j. Contains numbers j × IsLeast E numbers j) (IsUpperCover E k) (length xs) c.in_ok-above.above.items
+    (λ j lt. cover_is_least E k (length T) numbers (λ i ilt. len i (omega (arith, ilt, long))) (λ i m ilt mlt. same i m (omega (arith, ilt, long)) (omega (arith, mlt, long))) c.in_ok-numbers.ensures j (omega (arith, lt, long)))
     least

@@ -1,28 +1,46 @@
-use Rattle.std.proofs.Common.{◌≡◌, ◌<◌, length, sym, ap, ◌∙◌, Bool, List, arith}
-use Rattle.std.proofs.lemmas.List.{length-map}
-use Rattle.kaba_bits.specs.Sets.{bit, row}
-use Rattle.fact_model.specs.Concepts.{Pair}
-use Rattle.concept_build.specs.Lists.{extents_of}
-use Rattle.concept_build.proofs.ExtentLemmas.{extent_len}
-use Rattle.concept_build.proofs.CoverLemmas.{AreCandidates-skip, AreCandidates-set}
+use Rattle.std.proofs.Common.{◌≡◌, ⊎_elim, ◌<◌, [], ◌∷◌, length, get_or, refl, sym, ap, ◌∙◌, subst, arith, All}
+use Rattle.std.proofs.lemmas.Bool.{cases_lt}
+use Rattle.std.proofs.lemmas.List.{get_or_default, length_push, get_or_append_left, get_or_push}
+use Rattle.concept_build.specs.Lists.{extents_of, IsClosure}
+use Rattle.concept_build.proofs.ExtentLemmas.{nothing}
+use Rattle.concept_build.proofs.CoverLemmas.{AreCandidates-all}
 use Rattle.concept_build.proofs.covers.candidates.Goals as goal
-use Rattle.concept_build.proofs.covers.candidates.Goals.{then-not-has+in_ok-at, else-not-has}
+
+pub near_rows-requires-clause-widths : goal.near_rows-requires-clause-widths
+near_rows-requires-clause-widths c =
+    rw (c.item_at.ensures.item nothing, (c.requires.all.concepts.each c.args.k nothing c.requires.k).intent.len) c.requires.widths
+
+pub near_rows-requires-clause-extent : goal.near_rows-requires-clause-extent
+near_rows-requires-clause-extent c =
+    rw (c.item_at.ensures.item nothing) (c.requires.all.concepts.each c.args.k nothing c.requires.k).extent
+
+pub closure_at-requires-clause-q : goal.closure_at-requires-clause-q
+closure_at-requires-clause-q c =
+    subst (All (λ q. q < length c.args.table.now)) (sym c.deref-q-items.ensures.value) c.in_ok-near.ensures.below c.loop-q.q-index 0 c.loop-q-test.true
 
 pub loop-q-preserved : goal.loop-q-preserved
 loop-q-preserved c =
+    let E = extents_of c.args.items.now in
+    let near = c.deref-q-items.result.now in
+    let xs = c.loop-q.numbers.items in
+    let n = c.loop-q.q-index in
+    let x = c.in_ok-at.at in
+    rw c.in_ok-push.ensures.items (record {
+      len = omega (arith, length_push xs x, c.loop-q.invariant.len);
+      closures = λ i d lt.
+          ⊎_elim
+          (λ less. subst (IsClosure E c.args.k (get_or near i d)) (sym (get_or_append_left xs (x ∷ []) d i (omega (arith, less, c.loop-q.invariant.len)))) (c.loop-q.invariant.closures i d less))
+          (λ high.
+          let e : n ≡ i = omega (arith, high, lt) in
+          let at : get_or near n 0 ≡ get_or near i d = get_or_default near n 0 d c.loop-q-test.true ∙ ap (λ k. get_or near k d) e in
+          subst (IsClosure E c.args.k (get_or near i d)) (sym (get_or_push xs x d i (c.loop-q.invariant.len ∙ e))) (subst (λ q. IsClosure E c.args.k q x) at c.in_ok-at.ensures))
+          (cases_lt i n);
+    })
+
+pub returns : goal.returns
+returns c =
     let T = c.args.table.now in
-    let w = c.args.width in
     let xs = c.args.items.now in
-    let E = extents_of xs in
-    let k = c.args.k in
-    let q = c.loop-q.q in
-    let candidates = c.loop-q.candidates in
-    let is : c.has.result ≡ bit (row E k) q = c.has.ensures ∙ ap (λ (b : List Bool). bit b q) (c.extent.ensures ∙ c.item_at-item.ensures.extent) in
-    elim c.if-not-has.branch [
-      | then-not-has+in_ok-at w' ↦
-          let at = w'.in_ok-at.at in
-          let below : at < length xs = omega (arith, w'.in_ok-at.ensures.below, length-map xs (λ (x : Pair). x.0)) in
-          let same = extent_len T w xs c.requires.all.concepts k c.requires.k ∙ sym (extent_len T w xs c.requires.all.concepts at below) in
-          rw (w'.candidates-is, w'.set.ensures.after) (AreCandidates-set E k q at candidates same c.loop-q.invariant (sym is ∙ w'.if-not-has.true) w'.in_ok-at.ensures)
-      | else-not-has w' ↦ rw w'.candidates-is (AreCandidates-skip E k q candidates c.loop-q.invariant (sym is ∙ w'.if-not-has.false))
-    ]
+    let near = c.deref-q-items.result.now in
+    let o = rw (c.item_at.ensures.item nothing, ← c.deref-q-items.ensures.value) at c.in_ok-near.ensures in
+    AreCandidates-all (extents_of xs) c.args.k T c.args.width xs c.loop-q.q-index near c.loop-q.numbers.items refl c.requires.all.concepts c.requires.k o (omega arith) c.loop-q.invariant.len c.loop-q.invariant.closures

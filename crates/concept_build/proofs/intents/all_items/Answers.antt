@@ -1,7 +1,32 @@
-use Rattle.std.proofs.Common.{arith}
-use Rattle.concept_build.proofs.StepLemmas.{AreAllConcepts-made}
+use Rattle.std.proofs.Common.{refl, arith}
+use Rattle.std.proofs.lemmas.List.Sorted.{length_permutation}
+use Rattle.concept_build.proofs.SortLemmas.{AreConcepts-sorted, HasIntent-permutation}
 use Rattle.concept_build.proofs.intents.all_items.Goals as goal
 
-pub returns-then-len-bound-2-clause-all : goal.returns-then-len-bound-2-clause-all
-returns-then-len-bound-2-clause-all c =
-    AreAllConcepts-made c.args.table.now c.args.width c.loop-r.r c.loop-r.items.items (omega arith) c.loop-r.invariant.concepts c.loop-r.invariant.made
+pub returns-clause-all : goal.returns-clause-all
+returns-clause-all c =
+    let xs = c.in_ok-items.items.items in
+    let ys = c.sort_items.new.items.items in
+    let p = c.in_ok-sort_items.ensures.same in
+    let len = length_permutation xs ys p in
+    record {
+      concepts = AreConcepts-sorted c.args.table.now c.args.width xs ys p c.in_ok-items.ensures.each c.in_ok-sort_items.ensures.ordered;
+      complete = λ A B o. HasIntent-permutation xs ys B p (c.in_ok-items.ensures.all (omega (arith, len, c.if-len-bound.false, c.len.ensures)) A B o);
+    }
+
+pub returns-then-len-bound : goal.returns-then-len-bound
+returns-then-len-bound c =
+    let xs = c.in_ok-items.items.items in
+    let ys = c.sort_items.new.items.items in
+    record {
+      all = tt;
+      within = tt;
+      cause = (
+        refl,
+        record {
+          list = ys;
+          concepts = AreConcepts-sorted c.args.table.now c.args.width xs ys c.in_ok-sort_items.ensures.same c.in_ok-items.ensures.each c.in_ok-sort_items.ensures.ordered;
+          more = omega (arith, c.if-len-bound.true, c.len.ensures);
+        },
+      );
+    }

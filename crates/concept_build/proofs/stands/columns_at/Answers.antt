@@ -9,7 +9,7 @@ use Rattle.concept_build.proofs.stands.columns_at.Goals.{then-column_stands+in_o
 
 pub loop-c-preserved : goal.loop-c-preserved
 loop-c-preserved c =
-    let P = ColumnStands c.args.table.now c.args.extent.now in
+    let P = ColumnStands c.args.table.now c.args.item.now.0 in
     let xs = map (λ (x : ColId). x.0) c.loop-c.columns.items in
     let n = c.loop-c.c in
     elim c.if-column_stands.branch [

@@ -9,7 +9,7 @@ use Rattle.concept_build.proofs.stands.rows_at.Goals.{then-row_stands+in_ok-push
 
 pub loop-r-preserved : goal.loop-r-preserved
 loop-r-preserved c =
-    let P = RowStands c.args.table.now c.args.intent.now in
+    let P = RowStands c.args.table.now c.args.item.now.1 in
     let xs = map (λ (x : RowId). x.0) c.loop-r.rows.items in
     let n = c.loop-r.r in
     elim c.if-row_stands.branch [

@@ -1,15 +1,11 @@
-use Rattle.kaba_bits.proofs.StepLemmas.{IsStep-then, closed_below, closed-both}
-use Rattle.table_rules.specs.Closed.{IsHiddenClosed}
+use Rattle.std.proofs.Common.{length}
+use Rattle.fact_model.specs.Entries.{Hides}
+use Rattle.table_rules.specs.Closed.{IsCopied, HaveBoth}
+use Rattle.table_rules.proofs.PairLemmas.{over_pairs_or}
 use Rattle.table_rules.proofs.closing.pass_hidden.Goals as goal
 
-pub loop-d-preserved : goal.loop-d-preserved
-loop-d-preserved c =
-    let step = c.hide-grew in
-    let old = c.loop-d.rows in
-    let new = step.new.rows in
-    let closed = IsHiddenClosed c.args.facts.now in
-    record {
-      rows = step.ensures.rows;
-      step = IsStep-then c.args.rows.now old new c.loop-d.grew step.result c.loop-d.invariant.step step.ensures.step;
-      closed = closed_below closed old new c.loop-d.d c.loop-d.grew step.result (closed-both (closed new c.loop-d.d) old new step.result step.ensures.step step.ensures.closed) c.loop-d.invariant.closed;
-    }
+pub returns-clause-closed : goal.returns-clause-closed
+returns-clause-closed c =
+    let facts = c.args.facts.now in
+    let rows = c.hide_pairs.new.rows in
+    over_pairs_or (Hides facts) (λ d k. HaveBoth rows d k → IsCopied rows d k) (length facts.columns.items) c.args.hidden.now c.hide_pairs.result c.requires.hidden c.hide_pairs.ensures.closed

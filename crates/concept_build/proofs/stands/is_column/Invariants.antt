@@ -1,6 +1,0 @@
-use Rattle.std.proofs.Common.{◌≡◌, ℕ, ◌<◌}
-use Rattle.kaba_bits.specs.Sets.{bit, row}
-use Rattle.concept_build.proofs.stands.is_column.Given as goal
-
-abbrev pub invariant-loop-r : goal.invariant-loop-r
-invariant-loop-r l = (k : ℕ) → k < l.r → bit l.extent k ≡ bit (row l.table k) l.c

@@ -1,0 +1,13 @@
+use Rattle.std.specs.Bool.{OnFalse}
+use Rattle.std.specs.List.{AllWithin}
+use Rattle.kaba_bits.specs.Sets.{IsStep}
+use Rattle.table_rules.specs.Marks.{AreEntries}
+use Rattle.table_rules.specs.Pairs.{IsPairHidden}
+use Rattle.table_rules.proofs.closing.hide_pairs.Given as goal
+
+abbrev pub invariant-loop-x : goal.invariant-loop-x
+invariant-loop-x l = record {
+  rows : AreEntries l.facts l.rows;
+  step : IsStep l.fn.rows l.rows l.grew;
+  closed : OnFalse l.grew (AllWithin (IsPairHidden l.rows) l.hidden 0 l.x-index);
+}
