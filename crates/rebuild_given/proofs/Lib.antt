@@ -1,0 +1,4 @@
+pub mod Rest
+pub mod Apart
+pub mod Given
+pub mod Needed

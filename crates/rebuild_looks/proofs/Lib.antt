@@ -1,0 +1,13 @@
+pub mod Along
+pub mod Nodes
+pub mod Fields
+pub mod Slots
+pub mod Methods
+pub mod Declared
+pub mod Bodies
+pub mod Statics
+pub mod Concrete
+mod Small
+mod FormedOld
+mod FormedNew
+mod TryKnown

@@ -1,0 +1,5 @@
+pub mod Renaming
+pub mod Matches
+pub mod Members
+pub mod Rebuilds
+pub mod Written

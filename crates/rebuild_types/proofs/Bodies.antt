@@ -1,0 +1,180 @@
+-- Each body of a program that rebuilds a typed one is typed.
+use Rattle.std.proofs.Common.{◌≡◌, ℕ, zero, suc, ◌+◌, List, [], ◌∷◌, ◌++◌, Option, Some, None, length, refl, sym, ap, ◌∙◌, subst, arith, ⊎_elim}
+use Rattle.std.specs.Prelude.{true, false, slice_get}
+use Rattle.std.specs.Option.{option_map, is_some}
+use Rattle.std.proofs.lemmas.Bool.{false≢true, cases_Bool}
+use Rattle.std.proofs.lemmas.Option.{same_Some}
+use Rattle.java_core.specs.declared.Ty.{Ty}
+use Rattle.java_core.specs.Trees.{Sts}
+use Rattle.java_core.specs.Programs.{Plain, PlainLocal, PlainMethod}
+use Rattle.java_core.specs.Types.{Env, types_of, env_of}
+use Rattle.java_core.specs.Typing.{IsTyped, IsTypedMethod, TypedSts, t_number, t_truth, t_null, t_cast, t_return, t_no_st, t_st_then}
+use Rattle.java_meaning.specs.Watched.{bare_sts}
+use Rattle.fact_model.specs.Items.{row_this}
+use Rattle.fact_model.specs.InRange.{InRange}
+use Rattle.fact_model.specs.InOrder.{InOrder}
+use Rattle.fact_model.specs.Flowing.{AreSets}
+use Rattle.fact_model.specs.Entries.{IsTable}
+use Rattle.fact_model.specs.declared.facts.Facts.{Facts}
+use Rattle.fact_model.specs.declared.sets.PointsTo.{PointsTo}
+use Rattle.fact_model.specs.declared.sets.Table.{Table}
+use Rattle.hier_model.specs.Hierarchies.{Hierarchy, IsHierarchyOf, place_of_row, node}
+use Rattle.hier_rules.specs.First.{first_broken}
+use Rattle.flow_rules.specs.declared.items.RowItem.TheVariants as row
+use Rattle.flow_rules.specs.declared.items.ColumnItem.TheVariants as column
+use Rattle.flow_rules.specs.Ordered.{each}
+use Rattle.flow_rules.specs.Operands.{variable_row}
+use Rattle.flow_rules.specs.Facts.{numbers, this_of_row, IsFactsOf}
+use Rattle.run_cover.specs.Untagged.{untag_body, untag_method, untagged, HaveSlots}
+use Rattle.run_cover.proofs.Untagging.{same_env}
+use Rattle.run_cover.proofs.HasNumbers.{this_row}
+use Rattle.run_cover.proofs.HasRows.{method_of, of_method}
+use Rattle.facts_order.proofs.Pairs.{IsPlaced}
+use Rattle.facts_order.proofs.Owners.{row_there}
+use Rattle.rebuild_model.specs.Renaming.{Places, Renaming, renaming_of, retyped, retyped_if}
+use Rattle.rebuild_model.specs.Matches.{MatchesSts}
+use Rattle.rebuild_model.specs.Members.{new_types, HasTypes, HasCode, StandsAt, IsBody, IsHead, IsFiller}
+use Rattle.rebuild_model.specs.Written.{zero_int, no_truth, zero_char, no_object, IsFilling, fills_nothing, fills, IsWritten}
+use Rattle.rebuild_looks.specs.Known.{Known}
+use Rattle.rebuild_types.proofs.Asked.{retypes, SeesNew}
+use Rattle.rebuild_types.proofs.Statements.{again_body}
+use Rattle.rebuild_types.proofs.Served.{each_retypes, variables_after, same_variable, row_class_is, renewed, served}
+
+get_retyped : (p : ℕ → Option ℕ) (ts : List Ty) (i : ℕ) → slice_get (retypes p ts) i ≡ retyped_if (p i) (slice_get ts i)
+get_retyped p [] i = refl
+get_retyped p (t ∷ ts) zero = refl
+get_retyped p (t ∷ ts) (suc i) = get_retyped (λ i. p (suc i)) ts i
+
+types_join : (xs ys : List PlainLocal) → types_of (xs ++ ys) ≡ types_of xs ++ types_of ys
+types_join [] ys = refl
+types_join (x ∷ xs) ys = ap (λ z. x.ty ∷ z) (types_join xs ys)
+
+each_join : (p : ℕ → Option ℕ) (n : ℕ) (xs ys : List PlainLocal)
+    → each (λ i v. retyped (p i) v.ty ∷ []) n xs ++ each (λ i v. retyped (p i) v.ty ∷ []) (n + length xs) ys ≡ each
+    (λ i v. retyped (p i) v.ty ∷ []) n (xs ++ ys)
+each_join p n [] ys = ap (λ z. each (λ i v. retyped (p i) v.ty ∷ []) z ys) (no_more n)
+  where
+    no_more : (n : ℕ) → n + 0 ≡ n
+    no_more n = omega arith
+each_join p n (x ∷ xs) ys =
+    ap (λ z. retyped (p n) x.ty ∷ (each (λ i v. retyped (p i) v.ty ∷ []) (n + 1) xs ++ each (λ i v. retyped (p i) v.ty ∷ []) z ys))
+    (one_more n (length xs))
+    ∙ ap (λ z. retyped (p n) x.ty ∷ z) (each_join p (n + 1) xs ys)
+  where
+    one_more : (n m : ℕ) → n + suc m ≡ (n + 1) + m
+    one_more n m = omega arith
+
+from_nothing : (n : ℕ) → n ≡ 0 + n
+from_nothing n = omega arith
+
+pub body_some : (b : Option Sts) (code : Sts) → untag_body b ≡ Some code → (xs : Sts) × (b ≡ Some xs) × (code ≡ bare_sts xs)
+body_some None code e = absurd (cc)
+body_some (Some xs) code e = (xs, refl, sym (same_Some (bare_sts xs) code e))
+
+-- what fills in for a body is typed
+filled_typed : (W : Plain) (g : Env) (r : Option Ty) (xs : Sts) → IsFilling r xs → g.result ≡ r → TypedSts W g xs
+filled_typed W g r xs fills_nothing e = t_no_st
+filled_typed W g r xs (fills {e = d} zero_int) e = t_st_then (t_return t_number e refl) t_no_st
+filled_typed W g r xs (fills {e = d} no_truth) e = t_st_then (t_return t_truth e refl) t_no_st
+filled_typed W g r xs (fills {e = d} zero_char) e = t_st_then (t_return (t_cast t_number refl) e refl) t_no_st
+filled_typed W g r xs (fills {e = d} (no_object f)) e = t_st_then (t_return t_null e f) t_no_st
+
+module _ (Q : Plain) (F : Facts) (H : Hierarchy) (W : Plain) (K : Known (untagged Q) Q F H W) (placed : IsPlaced (untagged Q) Q)
+    (typed : IsTyped (untagged Q)) (facts : IsFactsOf (untagged Q) Q F) (pt : PointsTo) (t : Table)
+    (A : InRange F) (O : InOrder F) (S : AreSets F pt) (B : IsTable F t) (table : H.table ≡ t.rows.items) (none : first_broken F pt H ≡ None)
+    (hierarchy : IsHierarchyOf F H) where
+  abbrev P : Plain
+  P = untagged Q
+
+  abbrev T : Places
+  T = K.rebuilt.places
+
+  abbrev R : Renaming
+  R = renaming_of P Q H T
+
+  pub have_slots : HaveSlots P
+  unfolding HaveSlots
+  have_slots m k e i = (K.old.methods m k e).slotted i
+
+  -- the variables of a copy
+  pub copied_locals : (m : ℕ) (k new : PlainMethod) → HasTypes R m (untag_method k) new → (code : HasCode P W R m (untag_method k) new) → (i : ℕ)
+      → slice_get (types_of (new.params ++ new.locals)) i ≡ retyped_if (R.row_type (variable_row m k i)) (slice_get (env_of m k).locals i)
+  copied_locals m k new types code i =
+      let old : PlainMethod = untag_method k in
+      let p : ℕ → Option ℕ = λ i. R.row_type (variable_row m old i) in
+      ap (λ z. slice_get z i)
+      (types_join new.params new.locals ∙ ap (λ z. z ++ types_of new.locals) types.params ∙ ap (λ z. new_types R m old 0 old.params ++ z) code.locals
+      ∙ ap (λ z. new_types R m old 0 old.params ++ new_types R m old z old.locals) (from_nothing (length old.params)) ∙ each_join p 0 old.params old.locals
+      ∙ variables_after p 0 (old.params ++ old.locals) ∙ each_retypes p (types_of (old.params ++ old.locals)))
+      ∙ get_retyped p (types_of (old.params ++ old.locals)) i
+      ∙ ap (λ z. retyped_if (R.row_type z) (slice_get (types_of (old.params ++ old.locals)) i)) (same_variable m k i)
+      ∙ ap (λ z. retyped_if (R.row_type (variable_row m k i)) (slice_get z i)) (ap (λ g. g.locals) (same_env m k))
+
+  -- a copy of the body of an old method is typed
+  copy_typed : (m : ℕ) (k new : PlainMethod) (g : ℕ) → slice_get Q.methods m ≡ Some k → HasTypes R m (untag_method k) new
+      → HasCode P W R m (untag_method k) new → (k.is_static ≡ false → R.row_type (row.This m) ≡ Some new.owner)
+      → (ys : Sts) → new.body ≡ Some ys → TypedSts W (env_of g new) ys
+  unfolding IsTypedMethod
+  copy_typed m k new g stands types code self ys e =
+      let xs = body_some k.body code.code code.old_code in
+      let at = method_of Q K.old m k stands in
+      let written : code.written ≡ ys = same_Some code.written ys (sym code.new_code ∙ e) in
+      let sees : SeesNew P Q W R m k (env_of g new) = record { self = self; locals = copied_locals m k new types code; result = types.result } in
+      again_body Q W F K.old have_slots facts R (renewed Q F H W K) m k stands (ap is_some xs.1) (env_of g new) sees
+      (served Q F H W K placed typed facts pt t A O S B table none hierarchy m k stands new.owner self) xs.0 ys xs.1
+      (subst (λ g. TypedSts P g (bare_sts xs.0)) (same_env m k) (typed.methods m (untag_method k) at (bare_sts xs.0) (ap untag_body xs.1)))
+      ((K.old.methods m (untag_method k) at).code (bare_sts xs.0) (ap untag_body xs.1))
+      (subst (λ z. MatchesSts P W R (env_of m k) z ys) xs.2
+      (subst (λ z. MatchesSts P W R (env_of m k) code.code z) written (subst (λ z. MatchesSts P W R z code.code code.written) (same_env m k) code.matches)))
+
+  -- `this` has the class where the body stands
+  pub this_class : (m : ℕ) (k : PlainMethod) (n : ℕ) → slice_get Q.methods m ≡ Some k → is_some k.body ≡ true → k.is_static ≡ false
+      → StandsAt P Q F H W T (column.Def m) n → R.row_type (row.This m) ≡ Some (T.type_of n)
+  this_class m k n e b s st =
+      let r = this_row P Q m k e b s in
+      let x = row_there P Q placed K.old typed F facts (row.This m) r.0 r.1 in
+      let this : row_this F r.0 ≡ Some (record { 0 = st.number }) = ap (λ i. i.this_of) x.info ∙ ap (this_of_row (numbers P Q)) x.item
+      ∙ ap (option_map (λ c. record { 0 = c })) st.numbered in
+      let place = hierarchy.placed.these r.0 (record { 0 = st.number }) this in
+      let same : node (place_of_row H r.0) ≡ st.place = same_Some (node (place_of_row H r.0)) st.place (sym place ∙ st.placed) in
+      row_class_is Q F H W K (row.This m) r.0 r.1 ∙ ap (λ z. Some (T.type_of z)) (ap (λ z. z.0) same ∙ st.at)
+
+  old_of : (m : ℕ) (old : PlainMethod) → slice_get P.methods m ≡ Some old
+      → (k : PlainMethod) × (slice_get Q.methods m ≡ Some k) × (untag_method k ≡ old)
+  old_of m old e = of_method Q K.old m old e
+
+  static_typed : (g : ℕ) (new : PlainMethod) → slice_get W.methods g ≡ Some new → new.is_static ≡ true → IsTypedMethod W g new
+  unfolding IsTypedMethod
+  static_typed g new e s ys body =
+      let x = K.rebuilt.statics.methods g new e s in
+      let y = x.1.same in
+      let same : y.new ≡ new = same_Some y.new new (sym y.new_stands ∙ e) in
+      let k = old_of x.0 y.old y.old_stands in
+      copy_typed x.0 k.0 new g k.1 (subst (λ z. HasTypes R x.0 z new) (sym k.2) (subst (λ z. HasTypes R x.0 y.old z) same x.1.types))
+      (subst (λ z. HasCode P W R x.0 z new) (sym k.2) (subst (λ z. HasCode P W R x.0 y.old z) same x.1.code))
+      (λ i. absurd (false≢true (sym i ∙ ap (λ z. z.is_static) k.2 ∙ y.old_static))) ys body
+
+  body_typed : (g m : ℕ) (new : PlainMethod) → IsBody P Q F H W T m new → IsTypedMethod W g new
+  unfolding IsTypedMethod
+  body_typed g m new b ys body =
+      let k = old_of m b.old b.old_stands in
+      let code = subst (λ z. HasCode P W R m z new) (sym k.2) b.code in
+      copy_typed m k.0 new g k.1 (subst (λ z. HasTypes R m z new) (sym k.2) b.types) code
+      (λ i. this_class m k.0 b.node k.1 (ap is_some (body_some k.0.body code.code code.old_code).1) i b.stands ∙ ap Some (sym b.owner)) ys body
+
+  head_typed : (g n m : ℕ) (new : PlainMethod) → IsHead P Q F H W T n m new → IsTypedMethod W g new
+  unfolding IsTypedMethod
+  head_typed g n m new b ys body = absurd (let z = sym b.bodyless ∙ body in cc)
+
+  module _ (written : IsWritten P Q F H W K.rebuilt.places) where
+    filler_typed : (g n m : ℕ) (new : PlainMethod) → slice_get W.methods g ≡ Some new → IsFiller P Q F H W T n m new → IsTypedMethod W g new
+    unfolding IsTypedMethod
+    filler_typed g n m new e b ys body =
+        let x = written.fillers g n m new e b in
+        filled_typed W (env_of g new) new.result ys (subst (λ z. IsFilling new.result z) (same_Some x.code ys (sym x.is ∙ body)) x.fills) refl
+
+    pub methods_typed : (g : ℕ) (new : PlainMethod) → slice_get W.methods g ≡ Some new → IsTypedMethod W g new
+    methods_typed g new e = ⊎_elim (λ s. static_typed g new e s)
+        (λ i. ⊎_elim (λ b. body_typed g b.0 new b.1) (λ x. ⊎_elim (λ h. head_typed g x.0 x.1 new h) (λ f. filler_typed g x.0 x.1 new e f) x.2)
+        (K.rebuilt.members.methods g new e i))
+        (cases_Bool new.is_static)

@@ -1,0 +1,12 @@
+pub mod Retyped
+pub mod Asked
+pub mod Finding
+pub mod Walk
+pub mod Statements
+pub mod Served
+pub mod Bodies
+pub mod Typed
+pub mod Tables
+pub mod Rows
+pub mod Whole
+pub mod TryWritten

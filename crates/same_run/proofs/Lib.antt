@@ -1,0 +1,11 @@
+pub mod Ties
+pub mod Shapes
+pub mod Walk
+pub mod Statements
+pub mod Points
+pub mod Sited
+pub mod Tied
+pub mod Outcomes
+pub mod Creations
+pub mod Rebuilt
+pub mod Whole

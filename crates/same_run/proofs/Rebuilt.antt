@@ -1,0 +1,357 @@
+-- A program that rebuilds another is its twin: bodies and their copies, fields and static members and their new numbers.
+use Rattle.std.proofs.Common.{◌≡◌, ℕ, zero, suc, ◌+◌, List, [], ◌∷◌, ◌++◌, Option, Some, None, refl, sym, ap, ◌∙◌, subst, arith}
+use Rattle.std.specs.Prelude.{Bool, true, false, map, slice_get, option_and_then, Contains}
+use Rattle.std.specs.Option.{option_map, option_map_or, is_some}
+use Rattle.std.proofs.lemmas.Option.{same_Some, slice_get-map}
+use Rattle.std.proofs.lemmas.Bool.{false≢true, and_parts}
+use Rattle.java_core.specs.declared.Ty.{Ty}
+use Rattle.java_core.specs.Programs.{Plain, PlainField, PlainMethod, PlainLocal}
+use Rattle.java_core.specs.Classes.{is_static_field}
+use Rattle.java_core.specs.Types.{env_of, types_of, field_type}
+use Rattle.java_core.specs.Typing.{IsTyped, IsTypedMethod, TypedSts}
+use Rattle.java_meaning.specs.Moment.{Value, Number, Truth, CodeUnit, Nothing, Text, Object, Kind, Cell, bound, Body, Lang}
+use Rattle.java_meaning.specs.Values.{default_of}
+use Rattle.java_meaning.specs.Meaning.{run_in}
+use Rattle.java_meaning.specs.Languages.{body_with, language_of, statics_of}
+use Rattle.java_meaning.specs.Watched.{bare_sts}
+use Rattle.java_meaning.proofs.Layouts.{places}
+use Rattle.fact_model.specs.InRange.{InRange}
+use Rattle.fact_model.specs.InOrder.{InOrder}
+use Rattle.fact_model.specs.Flowing.{AreSets}
+use Rattle.fact_model.specs.Entries.{IsTable}
+use Rattle.fact_model.specs.declared.facts.Facts.{Facts}
+use Rattle.fact_model.specs.declared.sets.PointsTo.{PointsTo}
+use Rattle.fact_model.specs.declared.sets.Table.{Table}
+use Rattle.hier_model.specs.Hierarchies.{Hierarchy, IsHierarchyOf}
+use Rattle.hier_rules.specs.First.{first_broken}
+use Rattle.flow_rules.specs.declared.items.ColumnItem.TheVariants as column
+use Rattle.flow_rules.specs.declared.items.RowItem.TheVariants as row
+use Rattle.flow_rules.specs.Labels.{label_sts}
+use Rattle.flow_rules.specs.Operands.{variable_row, result_in}
+use Rattle.flow_rules.specs.Parts.{Part, a_load, an_element, a_creation, a_call, a_static_call, a_super_call, a_test, a_pair, a_set, a_store, an_element_store, a_return, parts_of}
+use Rattle.flow_rules.specs.Lists.{site_in}
+use Rattle.flow_rules.specs.Facts.{numbers, IsFactsOf}
+use Rattle.run_cover.specs.Covers.{Sets, solved, is_seen, are_seen, spot_set, labelled_with, labelled_body, watched}
+use Rattle.run_cover.specs.Families.{Set, ArePlain}
+use Rattle.run_cover.specs.Untagged.{untag_body, untag_method, untagged}
+use Rattle.run_cover.specs.Watched.{Of}
+use Rattle.run_cover.proofs.Covered.{method_parts}
+use Rattle.run_cover.proofs.HasRows.{method_of, of_method}
+use Rattle.run_cover.proofs.Held.{default_plain}
+use Rattle.run_cover.proofs.Included.{then_some}
+use Rattle.run_cover.proofs.Untagging.{same_env, untyped_params}
+use Rattle.facts_order.proofs.Pairs.{IsPlaced}
+use Rattle.rebuild_model.specs.Renaming.{Places, Renaming, renaming_of, retyped, retyped_if}
+use Rattle.rebuild_model.specs.Matches.{IsStaticField, IsStaticMethod, MatchesSts}
+use Rattle.rebuild_model.specs.Members.{HasTypes, HasCode, new_types}
+use Rattle.rebuild_looks.specs.Known.{Known, Offers}
+use Rattle.rebuild_looks.proofs.Fields as fields
+use Rattle.rebuild_looks.proofs.Fields.{one_old_field}
+use Rattle.rebuild_looks.proofs.Statics.{one_static_field, one_old_static_field, static_field_is, static_method_is}
+use Rattle.rebuild_types.proofs.Asked.{SeesNew}
+use Rattle.rebuild_types.proofs.Bodies.{have_slots, body_some, copied_locals, this_class}
+use Rattle.rebuild_types.proofs.Served.{renewed, served}
+use Rattle.rebuild_types.proofs.Walk.{again}
+use Rattle.twin_runs.specs.Twins.{shape_of, Link, BothPair, SameBody, AreTwins}
+use Rattle.twin_runs.proofs.SameRun.{same_run}
+use Rattle.twin_runs.proofs.States.{Alike}
+use Rattle.twin_runs.proofs.Shapes.{same_default, same_defaults}
+use Rattle.same_run.proofs.Ties as ties
+use Rattle.same_run.proofs.Ties.{Ties, StaticsTied}
+use Rattle.same_run.proofs.Sited.{MadeAs, has, has_in, new_field, new_field_is, node_of, has_offered, words_made, some_test}
+use Rattle.same_run.proofs.Tied.{IsCopyOf, field_tied, call_tied, super_tied, access_of}
+use Rattle.same_run.proofs.Outcomes.{test_same, store_same}
+use Rattle.same_run.proofs.Creations.{created}
+use Rattle.same_run.proofs.Points.{at_operand, at_this}
+use Rattle.same_run.proofs.Shapes.{shape_kept}
+use Rattle.same_run.proofs.Statements.{twin_body}
+
+-- what the watch of sets lets pass is of the sets
+seen_of : (P Q : Plain) (F : Facts) (S : Sets) (X : Set) (v : Value) (h : List Cell) → is_seen P Q F S X v h ≡ true → Of h v X
+seen_of P Q F S X (Object a) h e = let c = some_test (slice_get h a) (λ c. X c.site) e in record { cell = c.0; there = c.1; member = c.2 }
+seen_of P Q F S X (Number n) h e = tt
+seen_of P Q F S X (Truth n) h e = tt
+seen_of P Q F S X (CodeUnit n) h e = tt
+seen_of P Q F S X Nothing h e = tt
+seen_of P Q F S X (Text n) h e = tt
+
+all_of : (P Q : Plain) (F : Facts) (S : Sets) (b n : ℕ) (vs : List Value) (h : List Cell) → are_seen P Q F S b n vs h ≡ true → (i j : ℕ) → j ≡ n + i
+    → (v : Value) → slice_get vs i ≡ Some v → Of h v (spot_set P Q F S (bound b j))
+all_of P Q F S b n [] h e i j q v d = absurd (cc)
+all_of P Q F S b n (w ∷ vs) h e zero j q v d =
+    let z = and_parts (is_seen P Q F S (spot_set P Q F S (bound b n)) w h) (are_seen P Q F S b (suc n) vs h) e in
+    let same : n ≡ j = omega (arith, q) in
+    subst (λ x. Of h x (spot_set P Q F S (bound b j))) (same_Some w v d)
+    (subst (λ x. Of h w (spot_set P Q F S (bound b x))) same (seen_of P Q F S (spot_set P Q F S (bound b n)) w h z.0))
+all_of P Q F S b n (w ∷ vs) h e (suc i) j q v d =
+    let z = and_parts (is_seen P Q F S (spot_set P Q F S (bound b n)) w h) (are_seen P Q F S b (suc n) vs h) e in
+    all_of P Q F S b (suc n) vs h z.1 i j (omega (arith, q)) v d
+
+-- the shapes of new types are those of the old ones
+new_shapes : (R : Renaming) (m : ℕ) (k : PlainMethod) (n : ℕ) (vs : List PlainLocal) → map shape_of (new_types R m k n vs) ≡ map shape_of (types_of vs)
+new_shapes R m k n [] = refl
+new_shapes R m k n (v ∷ vs) =
+    ap (λ z. z ∷ map shape_of (new_types R m k (n + 1) vs)) (sym (shape_kept (R.row_type (variable_row m k n)) v.ty))
+    ∙ ap (λ z. shape_of v.ty ∷ z) (new_shapes R m k (n + 1) vs)
+
+result_shape : (k : Option ℕ) (t : Option Ty) → option_map shape_of t ≡ option_map shape_of (retyped_if k t)
+result_shape k None = refl
+result_shape k (Some t) = ap (λ z. Some z) (shape_kept k t)
+
+map_join : (xs ys : List PlainLocal) → map shape_of (types_of (xs ++ ys)) ≡ map shape_of (types_of xs) ++ map shape_of (types_of ys)
+map_join [] ys = refl
+map_join (x ∷ xs) ys = ap (λ z. shape_of x.ty ∷ z) (map_join xs ys)
+
+result_ends : (k : Option ℕ) (t : Option Ty) → option_map_or default_of t Nothing ≡ option_map_or default_of (retyped_if k t) Nothing
+result_ends k None = refl
+result_ends k (Some t) = same_default t (retyped k t) (shape_kept k t)
+
+defaults_plain : (ts : List Ty) → ArePlain (map default_of ts)
+defaults_plain [] i a e = absurd (cc)
+defaults_plain (t ∷ ts) zero a e = default_plain t.base t.dim a (same_Some (default_of t) (Object a) e)
+defaults_plain (t ∷ ts) (suc i) a e = defaults_plain ts i a e
+
+first_plain : (fs : List PlainField) → ArePlain (map (λ f. default_of f.ty) fs)
+first_plain [] i a e = absurd (cc)
+first_plain (f ∷ fs) zero a e = default_plain f.ty.base f.ty.dim a (same_Some (default_of f.ty) (Object a) e)
+first_plain (f ∷ fs) (suc i) a e = first_plain fs i a e
+
+module _ (Q : Plain) (F : Facts) (H : Hierarchy) (W : Plain) (K : Known (untagged Q) Q F H W) (placed : IsPlaced (untagged Q) Q) (typed : IsTyped (untagged Q))
+    (facts : IsFactsOf (untagged Q) Q F) (pt : PointsTo) (t : Table)
+    (A : InRange F) (O : InOrder F) (S : AreSets F pt) (B : IsTable F t) (table : H.table ≡ t.rows.items) (none : first_broken F pt H ≡ None)
+    (hierarchy : IsHierarchyOf F H) where
+  abbrev P : Plain
+  P = untagged Q
+
+  abbrev T : Places
+  T = K.rebuilt.places
+
+  abbrev R : Renaming
+  R = renaming_of P Q H T
+
+  abbrev Made : Option ℕ → Kind → Kind → Type 0
+  Made o a b = MadeAs Q F H W K t o a b
+
+  abbrev Pair : Body → Body → Type 0
+  Pair b c = IsCopyOf Q F H W K placed facts pt t A O S B table none b c
+
+  -- the new number of a static field
+  static_by : (f : ℕ) (k : PlainField) → slice_get P.fields f ≡ Some k → (b : Bool) → k.is_static ≡ b → ℕ
+  static_by f k e true s = (K.rebuilt.statics.each_field f k e s).0
+  static_by f k e false s = 0
+
+  static_in : (f : ℕ) (o : Option PlainField) → slice_get P.fields f ≡ o → ℕ
+  static_in f None e = 0
+  static_in f (Some k) e = static_by f k e k.is_static refl
+
+  new_static : ℕ → ℕ
+  new_static f = static_in f (slice_get P.fields f) refl
+
+  static_by_is : (f : ℕ) (k : PlainField) (e : slice_get P.fields f ≡ Some k) (b : Bool) (s : k.is_static ≡ b) → b ≡ true
+      → IsStaticField P W R f (static_by f k e b s)
+  unfolding static_by
+  static_by_is f k e true s h = (K.rebuilt.statics.each_field f k e s).1.same
+  static_by_is f k e false s h = absurd (false≢true h)
+
+  static_in_is : (f : ℕ) (o : Option PlainField) (e : slice_get P.fields f ≡ o) → option_map_or (λ (k : PlainField). k.is_static) o false ≡ true
+      → IsStaticField P W R f (static_in f o e)
+  unfolding static_in
+  static_in_is f None e h = absurd (false≢true h)
+  static_in_is f (Some k) e h = static_by_is f k e k.is_static refl h
+
+  new_static_is : (f : ℕ) → is_static_field P f ≡ true → IsStaticField P W R f (new_static f)
+  unfolding new_static
+  new_static_is f h = static_in_is f (slice_get P.fields f) refl h
+
+  static_old : (f g : ℕ) (a : IsStaticField P W R f g) → is_static_field P f ≡ true
+  static_old f g a = ap (λ z. option_map_or (λ (k : PlainField). k.is_static) z false) a.old_stands ∙ a.old_static
+
+  abbrev L : Lang
+  L = watched P Q F (solved pt)
+
+  abbrev M : Lang
+  M = language_of W
+
+  abbrev link : Link
+  link = ties.link Q W F (solved pt) R (has Q F H W K t) (new_field Q F H W K t) new_static Made Pair
+
+  -- static members
+  method_copied : (d n : ℕ) → IsStaticMethod P W R d n → BothPair L M link Made Pair (L.static_body d) (M.static_body n)
+  unfolding labelled_body
+  method_copied d n same b c eb ec =
+      let x = static_method_is P Q F H W K d n same in
+      let k = of_method Q K.old d x.same.old x.same.old_stands in
+      let body = then_some (labelled_with P Q F (solved pt) d) (slice_get Q.methods d) b eb in
+      let one : k.0 ≡ body.0 = same_Some k.0 body.0 (sym k.1 ∙ body.1) in
+      let old : x.same.old ≡ untag_method body.0 = sym k.2 ∙ ap untag_method one in
+      record {
+        number = d;
+        method = body.0;
+        stands = body.1;
+        old_body = body.2;
+        copy = n;
+        new = x.same.new;
+        new_stands = x.same.new_stands;
+        new_body = ec;
+        types = subst (λ z. HasTypes R d z x.same.new) old x.types;
+        code = subst (λ z. HasCode P W R d z x.same.new) old x.code;
+        self = λ i. absurd (false≢true (sym i ∙ sym (ap (λ z. z.is_static) old) ∙ x.same.old_static));
+      }
+
+  statics : StaticsTied Q W F (solved pt) R (has Q F H W K t) (new_field Q F H W K t) new_static Made Pair
+  statics = record {
+    fields = λ f j a. record { static = static_old f j a; new = one_static_field P Q F H W K f j (new_static f) a (new_static_is f (static_old f j a)) };
+    methods = method_copied;
+  }
+
+  -- what each part of a body gives
+  tied : (m : ℕ) (k : PlainMethod) (e : slice_get Q.methods m ≡ Some k) (c : ℕ) (p : Part) → Contains (parts_of P m k) p
+      → Ties Q W F (solved pt) R (has Q F H W K t) (new_field Q F H W K t) new_static Made Pair m c p
+  tied m k e c (a_load w b (Some f) o) i = field_tied Q F H W K placed facts pt t A O S B table none new_static b f
+      (access_of Q F H W K placed facts pt t A O S B table none new_static m k e (a_load w b (Some f) o) i)
+  tied m k e c (a_load w b None o) i = tt
+  tied m k e c (an_element w b o) i = tt
+  tied m k e c (a_creation w u o) i = created Q F H W K placed typed facts pt t A O S B table none hierarchy new_static Pair m k e
+      (have_slots Q F H W K placed typed facts pt t A O S B table none hierarchy) w u o i
+  tied m k e c (a_call w b (Some s) (Some d) es o) i = call_tied Q F H W K placed facts pt t A O S B table none new_static m k e w b s d es o i
+  tied m k e c (a_call w b (Some s) None es o) i = tt
+  tied m k e c (a_call w b None d es o) i = tt
+  tied m k e c (a_static_call w d es o) i = tt
+  tied m k e c (a_super_call w (Some d) es o) i = λ x y self instance ex ey.
+      super_tied Q F H W K placed facts pt t A O S B table none new_static m k e w d es o i c x y self instance ex ey
+  tied m k e c (a_super_call w None es o) i = tt
+  tied m k e c (a_test w x o) i = record { same = test_same Q F H W K placed typed facts pt t A O S B table none hierarchy m k e w x o i }
+  tied m k e c (a_pair b l r) i = tt
+  tied m k e c (a_set v o) i = tt
+  tied m k e c (a_store w b (Some f) o) i = field_tied Q F H W K placed facts pt t A O S B table none new_static b f
+      (access_of Q F H W K placed facts pt t A O S B table none new_static m k e (a_store w b (Some f) o) i)
+  tied m k e c (a_store w b None o) i = tt
+  tied m k e c (an_element_store w b o) i = λ pb po.
+      record { same = store_same Q F H W K placed typed facts pt t A O S B table none hierarchy m k e w b o i pb po }
+  tied m k e c (a_return o) i = tt
+
+  -- a copy is the twin of its body
+  copies_same : (b c : Body) → Pair b c → SameBody L M link Made Pair b c
+  unfolding IsTypedMethod
+  copies_same b c p =
+      let m = p.number in
+      let k = p.method in
+      let code = p.code in
+      let xs = body_some k.body code.code code.old_code in
+      let at = method_of Q K.old m k p.stands in
+      let old : body_with m k (label_sts 0 xs.0) ≡ b = same_Some (body_with m k (label_sts 0 xs.0)) b
+      (sym (ap (option_map (λ xs. body_with m k (label_sts 0 xs))) xs.1) ∙ p.old_body) in
+      let new : body_with p.copy p.new code.written ≡ c = same_Some (body_with p.copy p.new code.written) c
+      (sym (ap (option_and_then (λ (z : PlainMethod). option_map (λ xs. body_with p.copy z xs) z.body)) p.new_stands
+      ∙ ap (option_map (λ xs. body_with p.copy p.new xs)) code.new_code) ∙ p.new_body) in
+      let self : k.is_static ≡ false → R.row_type (row.This m) ≡ Some p.new.owner = λ i.
+      let n = p.self i in this_class Q F H W K placed typed facts pt t A O S B table none hierarchy m k n.0 p.stands (ap is_some xs.1) i n.1
+      ∙ ap (λ z. Some z) (sym n.2) in
+      let slots = have_slots Q F H W K placed typed facts pt t A O S B table none hierarchy in
+      let sees : SeesNew P Q W R m k (env_of p.copy p.new) = record
+      { self = self; locals = copied_locals Q F H W K placed typed facts pt t A O S B table none hierarchy m k p.new p.types code; result = p.types.result }
+      in
+      let params : map shape_of (types_of k.params) ≡ map shape_of (types_of p.new.params) =
+      ap (map shape_of) (sym (untyped_params k.params)) ∙ sym (ap (map shape_of) p.types.params ∙ new_shapes R m (untag_method k) 0 (untag_method k).params) in
+      let locals : map shape_of (types_of k.locals) ≡ map shape_of (types_of p.new.locals) =
+      ap (map shape_of) (sym (untyped_params k.locals)) ∙ sym (ap (map shape_of) code.locals ∙ new_shapes R m (untag_method k) _ (untag_method k).locals) in
+      subst (λ z. SameBody L M link Made Pair z c) old (subst (λ z. SameBody L M link Made Pair (body_with m k (label_sts 0 xs.0)) z) new (record {
+        env = record {
+          locals = map_join k.params k.locals ∙ ap (λ z. z ++ map shape_of (types_of k.locals)) params
+              ∙ ap (λ z. map shape_of (types_of p.new.params) ++ z) locals ∙ sym (map_join p.new.params p.new.locals);
+          result = result_shape (R.row_type (result_in k.slot m)) k.result ∙ ap (option_map shape_of) (sym p.types.result);
+        };
+        params = params;
+        rest = same_defaults (types_of k.locals) (types_of p.new.locals) locals;
+        plain = defaults_plain (types_of k.locals);
+        ends = result_ends (R.row_type (result_in k.slot m)) k.result ∙ ap (λ z. option_map_or default_of z Nothing) (sym p.types.result);
+        code = twin_body Q W F K.old slots facts R (solved pt) (has Q F H W K t) (new_field Q F H W K t) new_static Made Pair m k p.stands (ap is_some xs.1)
+            (env_of p.copy p.new)
+            (record {
+              numbered = λ i r e. (renewed Q F H W K).numbered i r e;
+              statics = statics;
+              self = self;
+              copied = λ u sc e d te fe st me. (again Q W F K.old slots facts R (renewed Q F H W K) m k p.stands (ap is_some xs.1) (env_of p.copy p.new) sees
+                  (served Q F H W K placed typed facts pt t A O S B table none hierarchy m k p.stands p.new.owner self) u sc e d te fe st me).type;
+              at = at_operand P Q placed K.old typed F facts m k p.stands;
+              at_this = at_this P Q placed K.old typed F facts m k p.stands;
+              kinded = method_parts Q F K.old typed slots facts m k p.stands;
+              ties = tied m k p.stands p.new.owner;
+            })
+            xs.0 code.written xs.1 (subst (λ g. TypedSts P g (bare_sts xs.0)) (same_env m k)
+            (typed.methods m (untag_method k) at (bare_sts xs.0) (ap untag_body xs.1)))
+            ((K.old.methods m (untag_method k) at).code (bare_sts xs.0) (ap untag_body xs.1))
+            (subst (λ z. MatchesSts P W R (env_of m k) z code.written) xs.2
+            (subst (λ z. MatchesSts P W R z code.code code.written) (same_env m k) code.matches));
+      }))
+
+  -- a field that objects of a creation keep is offered where they stand
+  record IsKept (o : Option ℕ) (f : ℕ) : Type 0 where
+    node : ℕ
+    offers : Offers P Q F H W K node (column.Fld f)
+
+  kept : (o : Option ℕ) (f : ℕ) → has Q F H W K t o f ≡ true → IsKept o f
+  kept o f h = let s = some_test (site_in (numbers P Q) o)
+      (λ s. has_in Q F H W K t s f) h in record { node = node_of Q F H W K t s.0; offers = has_offered Q F H W K t pt A O S B table none s.0 f s.2 }
+
+  kept_apart : (o : Option ℕ) (f g : ℕ) → has Q F H W K t o f ≡ true → has Q F H W K t o g ≡ true → new_field Q F H W K t f ≡ new_field Q F H W K t g → f ≡ g
+  kept_apart o f g hf hg e =
+      let a = kept o f hf in
+      let b = kept o g hg in
+      let x = fields.new_field P Q F H W K f a.offers.node a.offers.stands in
+      let y = fields.new_field P Q F H W K g b.offers.node b.offers.stands in
+      let same : x.0 ≡ y.0 = sym (new_field_is Q F H W K t f a.node a.offers) ∙ e ∙ new_field_is Q F H W K t g b.node b.offers in
+      one_old_field P Q F H W K f g y.0 (subst (λ z. fields.IsNewField P Q F H W K f z) same x.1) y.1
+
+  kept_shapes : (o : Option ℕ) (f : ℕ) (u v : Ty) → has Q F H W K t o f ≡ true → field_type P f ≡ Some u → field_type W (new_field Q F H W K t f) ≡ Some v
+      → shape_of u ≡ shape_of v
+  kept_shapes o f u v h eu ev =
+      let a = kept o f h in
+      let x = fields.new_field P Q F H W K f a.offers.node a.offers.stands in
+      let old : u ≡ x.1.is.old.ty = same_Some u x.1.is.old.ty (sym eu ∙ ap (option_map (λ (z : PlainField). z.ty)) x.1.is.old_stands) in
+      let new : v ≡ x.1.field.ty = same_Some v x.1.field.ty
+      (sym ev ∙ ap (field_type W) (new_field_is Q F H W K t f a.node a.offers) ∙ ap (option_map (λ (z : PlainField). z.ty)) x.1.stands) in
+      ap shape_of old ∙ shape_kept (R.row_type (row.Field f)) x.1.is.old.ty ∙ ap shape_of (sym (new ∙ x.1.is.type))
+
+  static_shapes : (f : ℕ) (u v : Ty) → is_static_field P f ≡ true → field_type P f ≡ Some u → field_type W (new_static f) ≡ Some v → shape_of u ≡ shape_of v
+  static_shapes f u v h eu ev =
+      let x = static_field_is P Q F H W K f (new_static f) (new_static_is f h) in
+      let old : u ≡ x.same.old.ty = same_Some u x.same.old.ty (sym eu ∙ ap (option_map (λ (z : PlainField). z.ty)) x.same.old_stands) in
+      let new : v ≡ x.same.new.ty = same_Some v x.same.new.ty (sym ev ∙ ap (option_map (λ (z : PlainField). z.ty)) x.same.new_stands) in
+      ap shape_of old ∙ shape_kept (R.row_type (row.Field f)) x.same.old.ty ∙ ap shape_of (sym (new ∙ x.type))
+
+  statics_begin : (f : ℕ) → is_static_field P f ≡ true → slice_get (statics_of P) f ≡ slice_get (statics_of W) (new_static f)
+  statics_begin f h =
+      let x = static_field_is P Q F H W K f (new_static f) (new_static_is f h) in
+      slice_get-map (λ (z : PlainField). default_of z.ty) P.fields f ∙ ap (option_map (λ (z : PlainField). default_of z.ty)) x.same.old_stands
+      ∙ ap (λ z. Some z) (same_default x.same.old.ty (retyped (R.row_type (row.Field f)) x.same.old.ty) (shape_kept (R.row_type (row.Field f)) x.same.old.ty))
+      ∙ ap (λ z. Some (default_of z)) (sym x.type)
+      ∙ sym (slice_get-map (λ (z : PlainField). default_of z.ty) W.fields (new_static f)
+      ∙ ap (option_map (λ (z : PlainField). default_of z.ty)) x.same.new_stands)
+
+  -- the languages of the two programs are twins
+  twins : AreTwins L M link Made Pair
+  twins = record {
+    sees = λ p v h e. seen_of P Q F (solved pt) (spot_set P Q F (solved pt) p) v h e;
+    sees_all = λ b vs h e i v d. all_of P Q F (solved pt) b 0 vs h e i i (from_nothing i) v d;
+    passes = λ p v h. refl;
+    passes_all = λ b vs h. refl;
+    words = words_made Q F H W K t;
+    old_places = places P;
+    new_places = places W;
+    fields_apart = kept_apart;
+    field_shapes = kept_shapes;
+    statics_apart = λ f g hf hg e. one_old_static_field P Q F H W K f g (new_static g) (subst (λ z. IsStaticField P W R f z) e (new_static_is f hf))
+        (new_static_is g hg);
+    static_shapes = static_shapes;
+    statics = statics_begin;
+    plain_statics = first_plain P.fields;
+    pairs = copies_same;
+  }
+    where
+      from_nothing : (i : ℕ) → i ≡ 0 + i
+      from_nothing i = omega arith
+
+  -- the watched run is the run of the new program, but for what it notes, unless one is wrong or the watched one escapes
+  pub watched_same : (words : List (List ℕ)) (n : ℕ) → Alike (run_in L P.main words n) (run_in M W.main words n)
+  watched_same words n = same_run L M link Made Pair twins P.main W.main (method_copied P.main W.main K.rebuilt.main) words n

@@ -1,0 +1,274 @@
+-- What is met at the parts of a body is met in the same way in the program that rebuilds it.
+use Rattle.std.proofs.Common.{◌≡◌, ℕ, List, [], ◌∷◌, Option, Some, None, length, refl, sym, ap, ◌∙◌, subst}
+use Rattle.std.specs.Prelude.{true, false, ◌==◌, ◌&&◌, slice_get, option_and_then, Contains, map}
+use Rattle.std.specs.Option.{option_map_or, is_some}
+use Rattle.std.proofs.lemmas.Option.{same_Some}
+use Rattle.std.proofs.lemmas.Bool.{and_from, eq-eqb}
+use Rattle.std.proofs.lemmas.List.Folds.{list_any-from_Any}
+use Rattle.kaba_base.specs.declared.Place.{Place}
+use Rattle.kaba_bits.specs.Sets.{bit, row as bits}
+use Rattle.kaba_order.specs.Orders.{is_le}
+use Rattle.java_core.specs.declared.TyBase.{TyBase}
+use Rattle.java_core.specs.declared.TyBase.TheVariants.{Int, Boolean, Char, Str, Class}
+use Rattle.java_core.specs.Programs.{Plain, PlainField, PlainMethod}
+use Rattle.java_core.specs.Classes.{member_field, slot_of, lookup, super_method}
+use Rattle.java_core.specs.Types.{class_type}
+use Rattle.java_meaning.specs.Moment.{Kind, an_object, Body}
+use Rattle.java_meaning.specs.Languages.{body_of}
+use Rattle.fact_model.specs.Items.{site_row, site_class, point_row}
+use Rattle.fact_model.specs.Classes.{finds, finds_within, is_slot}
+use Rattle.fact_model.specs.InRange.{InRange}
+use Rattle.fact_model.specs.InOrder.{InOrder}
+use Rattle.fact_model.specs.Flowing.{AreSets}
+use Rattle.fact_model.specs.Entries.{IsTable}
+use Rattle.fact_model.specs.declared.facts.Facts.{Facts}
+use Rattle.fact_model.specs.declared.facts.AccessInfo.{AccessInfo}
+use Rattle.fact_model.specs.declared.facts.CallInfo.{CallInfo}
+use Rattle.fact_model.specs.declared.facts.SuperInfo.{SuperInfo}
+use Rattle.fact_model.specs.declared.sets.PointsTo.{PointsTo}
+use Rattle.fact_model.specs.declared.sets.Table.{Table}
+use Rattle.fact_model.proofs.EntryLemmas.{access_entry}
+use Rattle.hier_model.specs.Hierarchies.{Hierarchy, place_of_row}
+use Rattle.hier_rules.specs.Asked.{is_called, is_super, is_pair}
+use Rattle.hier_rules.specs.First.{first_broken}
+use Rattle.flow_rules.specs.declared.items.ObjectType.{ObjectType}
+use Rattle.flow_rules.specs.declared.items.Operand.{Operand}
+use Rattle.flow_rules.specs.declared.items.ColumnItem.TheVariants as column
+use Rattle.flow_rules.specs.declared.items.RowItem.{RowItem}
+use Rattle.flow_rules.specs.declared.items.RowItem.TheVariants as row
+use Rattle.flow_rules.specs.Ordered.{by_place}
+use Rattle.flow_rules.specs.Parts.{Part, a_call, a_super_call, parts_of}
+use Rattle.flow_rules.specs.Lists.{Placed, PlainCall, both, accessed, point_at, row_at, site_in, accesses_of, calls_of, supers_of}
+use Rattle.flow_rules.specs.Facts.{numbers, call_seen, gathered, IsFactsOf}
+use Rattle.run_cover.specs.Covers.{solved, labelled_with, labelled_body}
+use Rattle.run_cover.specs.Untagged.{untag_method, untagged}
+use Rattle.run_cover.proofs.Bodies.{finds_some}
+use Rattle.run_cover.proofs.Found.{same_length}
+use Rattle.run_cover.proofs.HasRows.{method_of, of_field}
+use Rattle.run_cover.proofs.Included.{then_some, map_some}
+use Rattle.run_cover.proofs.Kinded.{site_type}
+use Rattle.run_cover.proofs.Sites.{one}
+use Rattle.facts_order.proofs.Columns.{field_column, body_column}
+use Rattle.facts_order.proofs.Listed.{map_has, map_from, place_has}
+use Rattle.facts_order.proofs.Pairs.{IsPlaced}
+use Rattle.facts_order.proofs.Tests.{gathered_has}
+use Rattle.rebuild_model.specs.Renaming.{Places, Renaming, renaming_of}
+use Rattle.rebuild_model.specs.Members.{HasTypes, HasCode, StandsAt}
+use Rattle.rebuild_looks.specs.Known.{Known, Offers}
+use Rattle.rebuild_looks.proofs.Declared.{new_body}
+use Rattle.rebuild_looks.proofs.Fields as fields
+use Rattle.rebuild_looks.proofs.Fields.{finds_field}
+use Rattle.rebuild_given.proofs.Rest.{half}
+use Rattle.rebuild_given.proofs.Needed as needed
+use Rattle.rebuild_given.proofs.Needed.{need_of, need_offers, needed_body, super_offers, super_slot, super_of, super_body}
+use Rattle.rebuild_types.proofs.Asked.{new_class}
+use Rattle.rebuild_types.proofs.Served.{row_of_class, row_in_is}
+use Rattle.same_run.proofs.Ties as ties
+use Rattle.same_run.proofs.Ties.{type_at, type_over, FieldTied, CallTied}
+use Rattle.same_run.proofs.Sited.{MadeAs, has, has_in, new_field, new_field_is, node_of, met_passing, below_row, row_has}
+
+abbrev class_number : TyBase → ℕ
+class_number (Class c) = c.0
+class_number Int = 0
+class_number Boolean = 0
+class_number Char = 0
+class_number Str = 0
+
+module _ (Q : Plain) (F : Facts) (H : Hierarchy) (W : Plain) (K : Known (untagged Q) Q F H W) (placed : IsPlaced (untagged Q) Q)
+    (facts : IsFactsOf (untagged Q) Q F) (pt : PointsTo) (t : Table)
+    (A : InRange F) (O : InOrder F) (S : AreSets F pt) (B : IsTable F t) (table : H.table ≡ t.rows.items) (none : first_broken F pt H ≡ None) where
+  abbrev P : Plain
+  P = untagged Q
+
+  abbrev T : Places
+  T = K.rebuilt.places
+
+  abbrev R : Renaming
+  R = renaming_of P Q H T
+
+  abbrev C : Option RowItem → Option ℕ
+  C i = new_class P Q W R i
+
+  abbrev Made : Option ℕ → Kind → Kind → Type 0
+  Made o k l = MadeAs Q F H W K t o k l
+
+  -- the copies of old bodies
+  pub record IsCopyOf (b c : Body) : Type 0 where
+    pub number : ℕ
+    pub method : PlainMethod
+    pub stands : slice_get Q.methods number ≡ Some method
+    pub old_body : labelled_with P Q F (solved pt) number method ≡ Some b
+    pub copy : ℕ
+    pub new : PlainMethod
+    pub new_stands : slice_get W.methods copy ≡ Some new
+    pub new_body : body_of W copy ≡ Some c
+    pub types : HasTypes R number (untag_method method) new
+    pub code : HasCode P W R number (untag_method method) new
+    pub self : method.is_static ≡ false → (n : ℕ) × StandsAt P Q F H W T (column.Def number) n × (new.owner ≡ T.type_of n)
+
+  -- an object has a site, and its classes are those of the site
+  record IsSited (o : Option ℕ) (c k : ℕ) : Type 0 where
+    site : ℕ
+    is : site_in (numbers P Q) o ≡ Some site
+    old : c ≡ site_class F site
+    new : k ≡ T.type_of (node_of Q F H W K t site)
+
+  sited : (o : Option ℕ) (c k : ℕ) → Made o (an_object c) (an_object k) → IsSited o c k
+  sited o c k made = go (site_in (numbers P Q) o) refl
+    where
+      class_is : (a b : ℕ) (x : ObjectType) → class_type a ≡ type_over b x → a ≡ b
+      class_is a b x e = ap (λ z. class_number z.base) e
+
+      old_is : (a : ℕ) (x : ObjectType) → class_type a ≡ type_at x → a ≡ x.class.0
+      old_is a x e = ap (λ z. class_number z.base) e
+
+      go : (z : Option ℕ) → site_in (numbers P Q) o ≡ z → IsSited o c k
+      go None e = absurd (let z = (made.free e).0 in cc)
+      go (Some s) e =
+          let z = made.sited s e in record
+          { site = s; is = e; old = old_is c (site_type F s) z.0; new = class_is k (T.type_of (node_of Q F H W K t s)) (site_type F s) z.1 }
+
+  new_is : (a b f n : ℕ) (o : Offers P Q F H W K n (column.Fld f)) → T.type_of n ≡ a → member_field W a (R.field_name f) ≡ Some b → b ≡ new_field Q F H W K t f
+  new_is a b f n o at e =
+      same_Some b (fields.new_field P Q F H W K f o.node o.stands).0
+      (sym e ∙ ap (λ z. member_field W z (R.field_name f)) (sym at) ∙ finds_field P Q F H W K f n o) ∙ sym (new_field_is Q F H W K t f n o)
+
+  module _ (new_static : ℕ → ℕ) where
+    abbrev Pair : Body → Body → Type 0
+    Pair b c = IsCopyOf b c
+
+    abbrev HasField : Operand → ℕ → Type 0
+    HasField b f = FieldTied Q W F (solved pt) R (has Q F H W K t) (new_field Q F H W K t) new_static Made Pair b f
+
+    abbrev At : Operand → Type 0
+    At b = ties.IsAt Q W F (solved pt) R (has Q F H W K t) (new_field Q F H W K t) new_static Made Pair b
+
+    pub field_tied : (b : Operand) (f : ℕ)
+        → ((x : AccessInfo) → Contains (accessed (row_at (numbers P Q) b) ((numbers P Q).column (column.Fld f))) x → Contains F.accesses.items x) → At b
+        → (w : PlainField) → slice_get P.fields f ≡ Some w → w.is_static ≡ false
+        → HasField b f
+    unfolding numbers
+    field_tied b f into here w stands instance =
+        let k = of_field Q K.old f w stands in
+        let l = field_column P Q f k.0 k.1 (ap (λ z. z.is_static) k.2 ∙ instance) in
+        let entry : (r : ℕ) → row_at (numbers P Q) b ≡ Some r → bit (bits t.rows.items r) l.0 ≡ true = λ r e.
+        let x : AccessInfo = record { row = record { 0 = r }; column = record { 0 = l.0 } } in
+        access_entry F t B x (into x (subst (λ z. Contains (accessed z ((numbers P Q).column (column.Fld f))) x) (sym e)
+        (subst (λ z. Contains (accessed (Some r) z) x) (sym l.1) (one x)))) in
+        record {
+          new = λ c j hc ej.
+              let a = row_of_class Q F H W K b.row c hc in
+              let o = needed.offers_item P Q F H W K (place_of_row H a.number) l.0 (column.Fld f) l.1
+              ((half F pt t A O S B H table none).offered a.number l.0 (entry a.number (row_in_is Q F H W K b.row c a))) in
+              new_is c j f (place_of_row H a.number) o a.class ej;
+          had = λ o c j made may.
+              let s = sited o c j made in
+              let m = met_passing Q F H W K t pt A O S B table none b o s.site s.is may in
+              let y = here m.point m.point_is in
+              let has_it = row_has Q F H W K t pt A O S B table none m.point s.site l.0 y.1 m.held (entry (point_row F m.point) y.0) in
+              ap (λ z. option_map_or (λ s. has_in Q F H W K t s f) z false) s.is
+              ∙ ap (λ z. option_map_or (λ c. bit (bits t.rows.items (site_row F s.site)) c) z false) l.1 ∙ has_it;
+        }
+
+    -- the copy of a body that stands at a node
+    copied : (d : ℕ) (method : PlainMethod) (n : ℕ) (st : StandsAt P Q F H W T (column.Def d) n) → slice_get Q.methods d ≡ Some method → (x y : Body)
+        → labelled_with P Q F (solved pt) d method ≡ Some x
+        → body_of W (new_body P Q F H W K d n st).0 ≡ Some y → Pair x y
+    copied d method n st e x y ex ey =
+        let g = (new_body P Q F H W K d n st).1 in
+        let same : g.is.old ≡ untag_method method = same_Some g.is.old (untag_method method) (sym g.is.old_stands ∙ method_of Q K.old d method e) in
+        record {
+          number = d;
+          method = method;
+          stands = e;
+          old_body = ex;
+          copy = (new_body P Q F H W K d n st).0;
+          new = g.method;
+          new_stands = g.stands;
+          new_body = ey;
+          types = subst (λ z. HasTypes R d z g.method) same g.is.types;
+          code = subst (λ z. HasCode P W R d z g.method) same g.is.code;
+          self = λ i. (g.is.node, g.is.stands, g.is.owner);
+        }
+
+    module _ (m : ℕ) (k : PlainMethod) (stands : slice_get Q.methods m ≡ Some k) where
+      abbrev InBody : Part → Type 0
+      InBody p = Contains (parts_of P m k) p
+
+      pub access_of : (p : Part) → InBody p → (x : AccessInfo) → Contains (accesses_of (numbers P Q) p) x → Contains F.accesses.items x
+      access_of p c x d = (facts.accesses x).1 (gathered_has P Q (λ b. accesses_of (numbers P Q)) x m k p stands c d)
+
+      super_of_part : (p : Part) → InBody p → (x : SuperInfo) → Contains (supers_of (numbers P Q) m p) x → Contains F.supers.items x
+      super_of_part p c x d = (facts.supers x).1 (gathered_has P Q (λ b. supers_of (numbers P Q) b.number) x m k p stands c d)
+
+      call_of : (p : Part) → InBody p → (x : Placed PlainCall) → Contains (calls_of (numbers P Q) p) x
+          → (c : CallInfo) × Contains F.calls.items c × (call_seen c ≡ x.item)
+      call_of p c x d =
+          map_from call_seen F.calls.items x.item (subst (λ z. Contains z x.item) (sym facts.calls)
+          (map_has (λ y. y.item) (by_place (λ y. y.place.at) (gathered P Q (λ b. calls_of (numbers P Q)))) x
+          (place_has (λ y. y.place.at) (gathered P Q (λ b. calls_of (numbers P Q))) x (gathered_has P Q (λ b. calls_of (numbers P Q)) x m k p stands c d))))
+
+      -- a site at the receiver of a call is called
+      called_there : (w : Place) (b : Operand) (s : ℕ) (d : Option ℕ) (es : List Operand) (o : Operand) → InBody (a_call w b (Some s) d es o) → (q i : ℕ)
+          → point_at (numbers P Q) b ≡ Some q → bit (bits pt.points.items q) i ≡ true → is_called F pt i s ≡ true
+      called_there w b s d es o c q i e held =
+          let x : Placed PlainCall = record
+          { place = w; item = record { receiver = q; slot = s; args = map (point_at (numbers P Q)) es; result = point_at (numbers P Q) o } } in
+          let y = call_of (a_call w b (Some s) d es o) c x
+          (subst (λ z. Contains (option_map_or
+          (λ r. record { place = w; item = record { receiver = r; slot = s; args = map (point_at (numbers P Q)) es; result = point_at (numbers P Q) o } } ∷
+          []) z []) x) (sym e) (one x)) in
+          list_any-from_Any (λ (z : CallInfo). bit (bits pt.points.items z.receiver) i && (z.slot == s)) F.calls.items (
+            y.1.0,
+            y.0,
+            y.1.1,
+            y.1.2,
+            and_from (bit (bits pt.points.items y.0.receiver) i) (y.0.slot == s)
+                (ap (λ z. bit (bits pt.points.items z) i) (ap (λ z. z.receiver) y.2) ∙ held) (eq-eqb y.0.slot s (ap (λ z. z.slot) y.2)),
+          )
+
+      pub call_tied : (w : Place) (b : Operand) (s d : ℕ) (es : List Operand) (o : Operand) → InBody (a_call w b (Some s) (Some d) es o) → At b
+          → CallTied Q W F (solved pt) R (has Q F H W K t) (new_field Q F H W K t) new_static Made Pair b s d
+      unfolding labelled_body lookup numbers
+      call_tied w b s d es o c here = record {
+        bodies = λ i v old new j x y of hv made ej ex ey may.
+            let at = sited i old new made in
+            let m = met_passing Q F H W K t pt A O S B table none b i at.site at.is may in
+            let row_is = here m.point m.point_is in
+            let a = row_of_class Q F H W K b.row v hv in
+            let number_is : point_row F m.point ≡ a.number = same_Some (point_row F m.point) a.number (sym row_is.0 ∙ row_in_is Q F H W K b.row v a) in
+            let le = subst (λ z. is_le H.order (node_of Q F H W K t at.site) (place_of_row H z) ≡ true) number_is
+            (below_row Q F H W K t pt A O S B table none m.point at.site row_is.1 m.held) in
+            let found = then_some (labelled_body P Q F (solved pt)) (lookup P old s) x ex in
+            let body = then_some (labelled_with P Q F (solved pt) found.0) (slice_get Q.methods found.0) x found.2 in
+            let f = finds_some Q F K.old facts (length P.classes) (site_class F at.site) s found.0 (ap (λ z. lookup P z s) (sym at.old) ∙ found.1) in
+            let finds_it : finds F (site_class F at.site) s ≡ Some f.0 = ap (λ z. finds_within F z (site_class F at.site) s) (same_length Q F facts) ∙ f.1 in
+            let need = and_from (is_called F pt at.site s) (is_slot (finds F (site_class F at.site) s) f.0)
+            (called_there w b s (Some d) es o c m.point at.site m.point_is m.held) (ap (λ z. is_slot z f.0) finds_it ∙ eq-eqb f.0 f.0 refl) in
+            let ran = needed_body P Q F H W K pt t A O S B table none at.site s f.0 found.0 need f.2 (place_of_row H a.number) d j le of
+            (ap (λ z. slot_of W z (R.method_name d)) a.class ∙ ej) in
+            let offers = need_offers P Q F H W K pt t A O S B table none at.site s f.0 found.0 need f.2 in
+            copied found.0 body.0 offers.node offers.stands body.1 x y body.2
+            (ap (λ z. option_and_then (body_of W) z) (sym ran) ∙ ap (λ z. option_and_then (body_of W) (lookup W z j)) (sym at.new) ∙ ey);
+      }
+
+      pub super_tied : (w : Place) (d : ℕ) (es : List Operand) (o : Operand) → InBody (a_super_call w (Some d) es o) → (c : ℕ) (x y : Body)
+          → R.row_type (row.This m) ≡ Some c → ((f : PlainMethod) → slice_get Q.methods d ≡ Some f → f.is_static ≡ false)
+          → labelled_body P Q F (solved pt) d ≡ Some x → option_and_then (body_of W) (super_method W c (R.method_name d)) ≡ Some y → Pair x y
+      unfolding labelled_body numbers
+      super_tied w d es o i c x y self instance ex ey =
+          let a = row_of_class Q F H W K (Some (row.This m)) c self in
+          let body = then_some (labelled_with P Q F (solved pt) d) (slice_get Q.methods d) x ex in
+          let code = map_some _ body.0.body x body.2 in
+          let l = body_column P Q d body.0 body.1 (instance body.0 body.1) (ap is_some code.1) in
+          let z : SuperInfo = record { row = record { 0 = a.number }; column = record { 0 = l.0 } } in
+          let is = subst (λ v. Contains (both v ((numbers P Q).column (column.Def d)) (λ a b. record { row = record { 0 = a }; column = record { 0 = b } })) z)
+          (sym (row_in_is Q F H W K (Some (row.This m)) c a))
+          (subst (λ v. Contains (both (Some a.number) v (λ a b. record { row = record { 0 = a }; column = record { 0 = b } })) z) (sym l.1) (one z)) in
+          let listed = super_of_part (a_super_call w (Some d) es o) i z is in
+          let run : is_super F a.number l.0 ≡ true = list_any-from_Any (λ (v : SuperInfo). is_pair v.row.0 v.column.0 a.number l.0) F.supers.items
+          (listed.0, z, listed.1, listed.2, and_from (a.number == a.number) (l.0 == l.0) (eq-eqb a.number a.number refl) (eq-eqb l.0 l.0 refl)) in
+          let offers = super_offers P Q F H W K pt t A O S B table none a.number l.0 d run l.1 in
+          let found = super_body P Q F H W K pt t A O S B table none a.number l.0 d run l.1 in
+          copied d body.0 offers.node offers.stands body.1 x y body.2
+          (ap (λ v. option_and_then (body_of W) v) (sym found) ∙ ap (λ v. option_and_then (body_of W) (super_method W v (R.method_name d))) a.class ∙ ey)

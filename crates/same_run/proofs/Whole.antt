@@ -1,0 +1,83 @@
+-- The law, of a program with its places.
+use Rattle.std.proofs.Common.{◌≡◌, ℕ, List, sym, ap, ◌∙◌, subst}
+use Rattle.std.specs.Prelude.{◌≢◌}
+use Rattle.java_core.specs.Trees.{at_place}
+use Rattle.java_core.specs.Programs.{Plain, program_of}
+use Rattle.java_core.specs.Typing.{IsTyped}
+use Rattle.java_core.specs.Formed.{IsFormed}
+use Rattle.java_meaning.specs.Moment.{Outcome, unnoted, Wrong, Escaped}
+use Rattle.java_meaning.specs.Meaning.{run_in}
+use Rattle.java_meaning.specs.Languages.{run}
+use Rattle.java_meaning.proofs.TypedPrograms.{never_wrong}
+use Rattle.fact_model.specs.declared.facts.Facts.{Facts}
+use Rattle.fact_model.specs.declared.sets.PointsTo.{PointsTo}
+use Rattle.fact_model.specs.declared.sets.Table.{Table}
+use Rattle.hier_model.specs.Hierarchies.{Hierarchy}
+use Rattle.run_cover.specs.Covers.{solved, watched, CoversProgram}
+use Rattle.run_cover.specs.Untagged.{untagged, HaveSlots}
+use Rattle.run_cover.proofs.Programs.{same_program, untagged_covers}
+use Rattle.run_cover.proofs.Solved.{solved_closed, solved_covers}
+use Rattle.facts_order.proofs.Pairs.{IsPlaced, placed}
+use Rattle.rebuild_model.specs.Rebuilds.{Rebuilds}
+use Rattle.rebuild_looks.specs.Known.{Known}
+use Rattle.rebuild_given.proofs.Given.{known}
+use Rattle.rebuild_types.specs.Laws.{IsReady}
+use Rattle.rebuild_types.proofs.Tables.{same_table}
+use Rattle.twin_runs.proofs.States.{Alike}
+use Rattle.rebuild_types.specs.Laws.{WrittenIsTyped}
+use Rattle.rebuild_types.proofs.Whole.{written_is_typed}
+use Rattle.same_run.specs.Same.{HasSameRun, RebuiltRunsTheSame, WrittenRunsTheSame}
+use Rattle.same_run.proofs.Rebuilt.{watched_same}
+
+use_alike : (o p : Outcome) → Alike o p → o.end ≢ Wrong → o.end ≢ Escaped → p.end ≢ Wrong → unnoted o ≡ unnoted p
+unfolding Alike
+use_alike o p h a b c = h a b c
+
+module _ (Q : Plain) (F : Facts) (s : PointsTo) (t : Table) (H : Hierarchy) (W : Plain) (pairs : IsPlaced (untagged Q) Q)
+    (ready : IsReady (untagged Q) Q F s t H)
+    (new : IsFormed W) (typed : IsTyped W) (b : Rebuilds (untagged Q) Q F H W) where
+  abbrev P : Plain
+  P = untagged Q
+
+  abbrev K : Known P Q F H W
+  K = known P Q pairs ready.formed F ready.facts s H W new ready.hierarchy ready.unbroken b
+
+  slots : HaveSlots P
+  unfolding HaveSlots
+  slots m k e i = (ready.formed.methods m k e).slotted i
+
+  covers : CoversProgram P Q F
+  covers = untagged_covers Q F ready.formed ready.typed slots ready.facts
+
+  abbrev watched_run : List (List ℕ) → ℕ → Outcome
+  watched_run words n = run_in (watched P Q F (solved s)) P.main words n
+
+  is_run : (words : List (List ℕ)) (n : ℕ) → unnoted (watched_run words n) ≡ run P words n
+  is_run words n = covers.same (solved s) (solved_closed F s ready.sets) words n
+
+  runs_alike : (words : List (List ℕ)) (n : ℕ) → unnoted (watched_run words n) ≡ unnoted (run W words n)
+  runs_alike words n =
+      use_alike (watched_run words n) (run W words n)
+      (watched_same Q F H W K pairs ready.typed ready.facts s t ready.in_range ready.in_order ready.sets ready.table
+      (same_table F H t ready.hierarchy.table ready.table) ready.unbroken ready.hierarchy words n)
+      (λ e. never_wrong P ready.formed ready.typed words n (sym (ap (λ o. o.end) (is_run words n)) ∙ e))
+      (solved_covers F s ready.sets P Q covers.covers words n)
+      (never_wrong W new typed words n)
+
+  untagged_same : HasSameRun P W
+  untagged_same = record {
+    end = λ words n. ap (λ o. o.end) (sym (is_run words n) ∙ runs_alike words n);
+    out = λ words n. ap (λ o. o.out) (sym (is_run words n) ∙ runs_alike words n);
+    left = λ words n. ap (λ o. o.left) (sym (is_run words n) ∙ runs_alike words n);
+  }
+
+pub rebuilt_runs_the_same : RebuiltRunsTheSame
+unfolding RebuiltRunsTheSame
+rebuilt_runs_the_same p F s t H W =
+    let Q : Plain = program_of at_place p in
+    subst (λ Z. IsPlaced Z Q → IsReady Z Q F s t H → IsFormed W → IsTyped W → Rebuilds Z Q F H W → HasSameRun Z W) (same_program p) (untagged_same Q F s t H W)
+    (placed p)
+
+pub written_runs_the_same : WrittenRunsTheSame
+unfolding WrittenRunsTheSame RebuiltRunsTheSame WrittenIsTyped
+written_runs_the_same p F s t H W ready new b written = rebuilt_runs_the_same p F s t H W ready new (written_is_typed p F s t H W ready new b written) b

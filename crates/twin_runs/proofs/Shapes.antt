@@ -1,0 +1,101 @@
+-- Types of one shape: values flow into both in the same way.
+use Rattle.std.proofs.Common.{◌≡◌, ℕ, zero, suc, List, [], ◌∷◌, Option, Some, refl, sym, ap, ◌∙◌}
+use Rattle.std.specs.Prelude.{ℤ, map, slice_get}
+use Rattle.std.specs.Option.{option_map}
+use Rattle.std.proofs.lemmas.Option.{same_Some, slice_get-map}
+use Rattle.java_core.specs.declared.Ty.{Ty}
+use Rattle.java_core.specs.declared.TyBase.{TyBase}
+use Rattle.java_core.specs.declared.TyBase.TheVariants.{Int, Boolean, Char, Str, Class}
+use Rattle.java_core.specs.Types.{element_in}
+use Rattle.java_meaning.specs.Moment.{Value, Number, Truth, CodeUnit, Nothing, Text, Object}
+use Rattle.java_meaning.specs.Values.{default_in, default_of, widened, convert, and_argument, arguments, cast_number}
+use Rattle.java_meaning.specs.Meaning.{is_number_type}
+use Rattle.twin_runs.specs.Twins.{shape_in, shape_of}
+
+-- what the shapes decide
+through_shape : {A : Type 0} (f : Ty → A) → ((t : Ty) → f (shape_of t) ≡ f t) → (t u : Ty) → shape_of t ≡ shape_of u → f t ≡ f u
+through_shape f h t u e = sym (h t) ∙ ap f e ∙ h u
+
+widened_shape : (b : TyBase) (d c : ℕ) → widened (shape_in b) d c ≡ widened b d c
+widened_shape Int d c = refl
+widened_shape Boolean d c = refl
+widened_shape Char d c = refl
+widened_shape Str d c = refl
+widened_shape (Class k) d c = refl
+
+convert_shape : (v : Value) (t : Ty) → convert (shape_of t) v ≡ convert t v
+convert_shape (CodeUnit c) t = widened_shape t.base t.dim c
+convert_shape (Number n) t = refl
+convert_shape (Truth b) t = refl
+convert_shape Nothing t = refl
+convert_shape (Text a) t = refl
+convert_shape (Object a) t = refl
+
+pub same_convert : (v : Value) (t u : Ty) → shape_of t ≡ shape_of u → convert t v ≡ convert u v
+same_convert v t u e = through_shape (λ z. convert z v) (convert_shape v) t u e
+
+default_shape : (b : TyBase) (d : ℕ) → default_in (shape_in b) d ≡ default_in b d
+default_shape Int d = refl
+default_shape Boolean d = refl
+default_shape Char d = refl
+default_shape Str d = refl
+default_shape (Class k) zero = refl
+default_shape (Class k) (suc d) = refl
+
+pub same_default : (t u : Ty) → shape_of t ≡ shape_of u → default_of t ≡ default_of u
+same_default t u e = through_shape default_of (λ z. default_shape z.base z.dim) t u e
+
+number_shape : (b : TyBase) (d : ℕ) → is_number_type (shape_in b) d ≡ is_number_type b d
+number_shape Int d = refl
+number_shape Boolean d = refl
+number_shape Char d = refl
+number_shape Str d = refl
+number_shape (Class k) d = refl
+
+pub same_number_type : (t u : Ty) → shape_of t ≡ shape_of u → is_number_type t.base t.dim ≡ is_number_type u.base u.dim
+same_number_type t u e = through_shape (λ z. is_number_type z.base z.dim) (λ z. number_shape z.base z.dim) t u e
+
+cast_shape : (n : ℤ) (b : TyBase) → cast_number (shape_in b) n ≡ cast_number b n
+cast_shape n Int = refl
+cast_shape n Boolean = refl
+cast_shape n Char = refl
+cast_shape n Str = refl
+cast_shape n (Class k) = refl
+
+pub same_cast_number : (n : ℤ) (t u : Ty) → shape_of t ≡ shape_of u → cast_number t.base n ≡ cast_number u.base n
+same_cast_number n t u e = through_shape (λ z. cast_number z.base n) (λ z. cast_shape n z.base) t u e
+
+element_shape : (b : TyBase) (d : ℕ) → option_map shape_of (element_in b d) ≡ element_in (shape_in b) d
+element_shape b zero = refl
+element_shape b (suc d) = refl
+
+-- arrays of one shape have elements of one
+pub same_element : (t u x y : Ty) → shape_of t ≡ shape_of u → element_in t.base t.dim ≡ Some x → element_in u.base u.dim ≡ Some y → shape_of x ≡ shape_of y
+same_element t u x y e p q = same_Some _ _ (sym (ap (option_map shape_of) p) ∙ element_shape t.base t.dim ∙ ap (λ z. element_in z.base z.dim) e
+    ∙ sym (element_shape u.base u.dim) ∙ ap (option_map shape_of) q)
+
+arguments_shape : (ts : List Ty) (vs : List Value) → arguments (map shape_of ts) vs ≡ arguments ts vs
+arguments_shape [] [] = refl
+arguments_shape [] (v ∷ vs) = refl
+arguments_shape (t ∷ ts) [] = refl
+arguments_shape (t ∷ ts) (v ∷ vs) =
+    ap (λ z. and_argument z (arguments (map shape_of ts) vs)) (convert_shape v t) ∙ ap (λ z. and_argument (convert t v) z) (arguments_shape ts vs)
+
+pub same_arguments : (vs : List Value) (ts us : List Ty) → map shape_of ts ≡ map shape_of us → arguments ts vs ≡ arguments us vs
+same_arguments vs ts us e = sym (arguments_shape ts vs) ∙ ap (λ z. arguments z vs) e ∙ arguments_shape us vs
+
+-- types in one place of two lists of one shape
+pub same_at : (ts us : List Ty) (i : ℕ) (t u : Ty) → map shape_of ts ≡ map shape_of us → slice_get ts i ≡ Some t → slice_get us i ≡ Some u
+    → shape_of t ≡ shape_of u
+same_at ts us i t u e p q = same_Some _ _ (sym (slice_get-map shape_of ts i ∙ ap (option_map shape_of) p) ∙ ap (λ z. slice_get z i) e
+    ∙ slice_get-map shape_of us i ∙ ap (option_map shape_of) q)
+
+pub same_some : (o p : Option Ty) (t u : Ty) → option_map shape_of o ≡ option_map shape_of p → o ≡ Some t → p ≡ Some u → shape_of t ≡ shape_of u
+same_some o p t u e f g = same_Some _ _ (sym (ap (option_map shape_of) f) ∙ e ∙ ap (option_map shape_of) g)
+
+defaults_shape : (ts : List Ty) → map default_of (map shape_of ts) ≡ map default_of ts
+defaults_shape [] = refl
+defaults_shape (t ∷ ts) = ap (λ z. z ∷ map default_of (map shape_of ts)) (default_shape t.base t.dim) ∙ ap (λ z. default_of t ∷ z) (defaults_shape ts)
+
+pub same_defaults : (ts us : List Ty) → map shape_of ts ≡ map shape_of us → map default_of ts ≡ map default_of us
+same_defaults ts us e = sym (defaults_shape ts) ∙ ap (map default_of) e ∙ defaults_shape us
