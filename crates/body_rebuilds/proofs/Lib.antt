@@ -1,0 +1,10 @@
+pub mod Scopes
+pub mod Meant
+pub mod Inverse
+pub mod Found
+pub mod Expressions
+pub mod Counted
+pub mod Statements
+pub mod Bodies
+pub mod InOrder
+pub mod Worked

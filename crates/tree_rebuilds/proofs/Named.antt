@@ -1,0 +1,124 @@
+-- What the outline of the written program tells of names: those of nodes and of holders, and the static members.
+use Rattle.std.proofs.Common.{◌≡◌, ◌≢◌, ℕ, suc, Bool, true, false, List, [], ◌∷◌, Some, refl, sym, ap, ◌∙◌}
+use Rattle.std.specs.Prelude.{map, slice_get, codes, position, ◌==◌}
+use Rattle.std.specs.Option.{option_map_or}
+use Rattle.std.specs.Str.{bytes_eq}
+use Rattle.std.proofs.lemmas.Bool.{and_parts, and_from, eqb-true, eq-eqb}
+use Rattle.std.proofs.lemmas.Option.{same_Some}
+use Rattle.std.proofs.lemmas.Slice.Eq.{bytes_eq-Decides}
+use Rattle.kaba_order.specs.Orders.{is_live}
+use Rattle.java_tree.specs.Syntax.{DeclTree}
+use Rattle.java_core.specs.Programs.{Plain, PlainClass, PlainField, PlainMethod}
+use Rattle.java_core.specs.Classes.{is_field_of, own_field_of}
+use Rattle.name_rules.specs.Outline.{name_of, is_text_type, types_in, class_outline, outline}
+use Rattle.name_rules.specs.Meanings.{type_names, class_named}
+use Rattle.name_rules.specs.Resolves.{heading_of}
+use Rattle.run_cover.specs.Untagged.{untag_class, untag_field, untag_method, untagged}
+use Rattle.fact_model.specs.declared.facts.Facts.{Facts}
+use Rattle.fact_model.specs.declared.sets.PointsTo.{PointsTo}
+use Rattle.hier_model.specs.Hierarchies.{Hierarchy, place_of_row, type_name}
+use Rattle.flow_rules.specs.declared.items.RowItem.{RowItem}
+use Rattle.flow_rules.specs.Facts.{numbers, is_holder}
+use Rattle.facts_order.proofs.Listed.{at_map, map_at, contains_at, position_at, position_there}
+use Rattle.rebuild_model.specs.Renaming.{renaming_of}
+use Rattle.rebuild_model.specs.Matches.{IsStaticField, IsStaticMethod}
+use Rattle.written_tree.specs.Names.{class_name}
+use Rattle.written_tree.specs.Written.{java_tree}
+use Rattle.tree_rebuilds.proofs.Outlined.{class_there}
+use Rattle.tree_rebuilds.proofs.Apart.{no_text, holder_class}
+use Rattle.tree_rebuilds.proofs.Nodes.{node_named, holder_named, holder_at, old_tree, tree}
+use Rattle.tree_rebuilds.proofs.Retyped.{row_live}
+use Rattle.tree_rebuilds.proofs.Given.{Given, T}
+use Rattle.tree_rebuilds.proofs.Fields.{each_static_field}
+
+names_are : (types : List (List ℕ)) (ds : List DeclTree) → map (λ (k : PlainClass). k.name) (map (class_outline types) ds) ≡ map name_of ds
+names_are types [] = refl
+names_are types (d ∷ ds) = ap (λ z. name_of d ∷ z) (names_are types ds)
+
+outline_types : (ds : List DeclTree) → type_names (outline ds) ≡ types_in ds
+unfolding outline
+outline_types ds = ap (λ z. codes "Object" ∷ z) (names_are (types_in ds) ds)
+
+module _ (P Q : Plain) (F : Facts) (pt : PointsTo) (H : Hierarchy) (V : Plain) (G : Given P Q F pt H V) where
+  abbrev U : Plain
+  U = untagged V
+
+  abbrev O : Plain
+  O = outline (java_tree P Q F H)
+
+  pub named_row : (i : RowItem) (r : ℕ) → (numbers P Q).row i ≡ Some r → is_live H.order (place_of_row H r) ≡ true
+  unfolding numbers
+  named_row i r e = row_live P Q F G.facts H G.hierarchy i r e
+
+  pub named_node : (n : ℕ) → is_live H.order n ≡ true → class_named O (type_name H n) ≡ Some ((T P Q F pt H V G).type_of n)
+  named_node n h = ap (λ z. position (λ m. bytes_eq m (type_name H n)) z) (outline_types (java_tree P Q F H)) ∙ node_named P Q F H V G.resolves G.new n h
+
+  pub node_no_text : (n : ℕ) → is_live H.order n ≡ true → is_text_type (type_name H n) ≡ false
+  node_no_text n h = no_text F pt H G.unbroken n h
+
+  pub named_holder : (c : ℕ) → is_holder P c ≡ true → class_named O (class_name P c) ≡ Some ((T P Q F pt H V G).holder_of c)
+  named_holder c h =
+      let k = holder_class P G.formed c h in
+      ap (λ z. position (λ m. bytes_eq m (class_name P c)) z) (outline_types (java_tree P Q F H)) ∙ holder_named P Q F H V G.resolves G.new c k.0 k.1 h
+
+  -- the fields of the outline are those of the program
+  field_at : (f : ℕ) (k : PlainField) → slice_get O.fields f ≡ Some k → slice_get U.fields f ≡ Some (untag_field k)
+  field_at f k e = at_map untag_field V.fields f k (ap (λ w. slice_get w f) G.resolves.fields ∙ e)
+
+  field_back : (f : ℕ) (k : PlainField) → slice_get U.fields f ≡ Some k → (h : PlainField) × (slice_get O.fields f ≡ Some h) × (untag_field h ≡ k)
+  field_back f k e = let z = map_at untag_field V.fields f k e in (z.0, sym (ap (λ w. slice_get w f) G.resolves.fields) ∙ z.1, z.2)
+
+  holder_name : (c : ℕ) (k : PlainClass) → slice_get P.classes c ≡ Some k → class_name P c ≡ k.name
+  holder_name c k e = ap (λ o. option_map_or (λ (k : PlainClass). k.name) o []) e
+
+  pub no_field_holder : (c f : ℕ) (k : PlainField) → is_holder P c ≡ true → slice_get O.fields f ≡ Some k → k.name ≢ class_name P c
+  no_field_holder c f k h e same =
+      let old = holder_class P G.formed c h in
+      let z = holder_at P Q F H c old.0 old.1 h in
+      let class = class_there (tree P Q F H) V G.resolves G.new z.0 (old_tree P Q F H c old.0) z.1 in
+      (G.new.fields f (untag_field k) (field_at f k e)).name.no_class (suc z.0)
+      (untag_class (class_outline (types_in (java_tree P Q F H)) (old_tree P Q F H c old.0))) class (sym (same ∙ holder_name c old.0 old.1))
+
+  one_static : (c g : ℕ) (new : PlainField) → slice_get U.fields g ≡ Some new → new.owner ≡ c → own_field_of O c new.name ≡ Some g
+  one_static c g new e ow =
+      let h = field_back g new e in
+      let p : PlainField → Bool = is_field_of c new.name in
+      let passes : p h.0 ≡ true = and_from (h.0.owner == c) (bytes_eq h.0.name new.name) (eq-eqb h.0.owner c (ap (λ (y : PlainField). y.owner) h.2 ∙ ow))
+      ((bytes_eq-Decides h.0.name new.name).1 (ap (λ (y : PlainField). y.name) h.2)) in
+      let z = position_there p O.fields h.0 (contains_at O.fields g h.0 h.1) passes in
+      let w = position_at p O.fields z.0 z.1 in
+      let q = and_parts (w.0.owner == c) (bytes_eq w.0.name new.name) w.2 in
+      z.1 ∙ ap Some (G.new.field_names z.0 g (untag_field w.0) new (field_at z.0 w.0 w.1) e (eqb-true w.0.owner c q.0 ∙ sym ow)
+      ((bytes_eq-Decides w.0.name new.name).0 q.1))
+
+  pub named_static_field : (f : ℕ) (old : PlainField) → slice_get P.fields f ≡ Some old → old.is_static ≡ true
+      → (g : ℕ) × (own_field_of O ((T P Q F pt H V G).holder_of old.owner) old.name ≡ Some g) × IsStaticField P U (renaming_of P Q H (T P Q F pt H V G)) f g
+  unfolding renaming_of
+  named_static_field f old e h =
+      let z = each_static_field P Q F pt H V G f old e h in
+      let s = z.1.same in
+      let same : s.old ≡ old = same_Some _ _ (sym s.old_stands ∙ e) in
+      let ow : s.new.owner ≡ (T P Q F pt H V G).holder_of old.owner = s.owner ∙ ap (λ (y : PlainField). (T P Q F pt H V G).holder_of y.owner) same in
+      let name : s.new.name ≡ old.name = s.name ∙ ap (λ (y : PlainField). y.name) same in (
+        z.0,
+        ap (own_field_of O ((T P Q F pt H V G).holder_of old.owner)) (sym name)
+            ∙ one_static ((T P Q F pt H V G).holder_of old.owner) z.0 s.new s.new_stands ow,
+        s,
+      )
+
+  pub named_static_method : (m g : ℕ) (old new : PlainMethod) → slice_get P.methods m ≡ Some old → old.is_static ≡ true → slice_get O.methods g ≡ Some new
+      → new.is_static ≡ true
+      → new.owner ≡ (T P Q F pt H V G).holder_of old.owner → new.name ≡ old.name → IsStaticMethod P U (renaming_of P Q H (T P Q F pt H V G)) m g
+  unfolding renaming_of
+  named_static_method m g old new e h d st ow name =
+      let z = map_at heading_of V.methods g new (ap (λ w. slice_get w g) G.resolves.headings ∙ d) in
+      record {
+        old = old;
+        new = untag_method z.0;
+        old_stands = e;
+        new_stands = at_map untag_method V.methods g z.0 z.1;
+        old_static = h;
+        new_static = ap (λ (y : PlainMethod). y.is_static) z.2 ∙ st;
+        owner = ap (λ (y : PlainMethod). y.owner) z.2 ∙ ow;
+        name = ap (λ (y : PlainMethod). y.name) z.2 ∙ name;
+      }

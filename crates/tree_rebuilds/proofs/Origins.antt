@@ -1,0 +1,183 @@
+-- What each method of the written program is: a body, a head or a filler of a node, or a static method of a holder.
+use Rattle.std.proofs.Common.{◌≡◌, ℕ, suc, ◌&&◌, Bool, true, false, [], ◌∷◌, Option, Some, None, Contains, refl, sym, ap, ◌∙◌, subst, arith, inl, inr, ⊎_elim}
+use Rattle.std.specs.Prelude.{◌⊎◌, ◌==◌, slice_get}
+use Rattle.std.specs.Option.{option_map_or}
+use Rattle.std.specs.List.{list_any}
+use Rattle.std.proofs.lemmas.Bool.{false≢true, and_parts, and_from, or_right, eqb-true, eq-eqb}
+use Rattle.kaba_base.specs.declared.words.Keyword.TheVariants.{Public, Static}
+use Rattle.std.proofs.lemmas.Option.{same_Some}
+use Rattle.kaba_order.specs.Orders.{is_live}
+use Rattle.java_tree.specs.Syntax.{MemberTree, MethodTree, Statements, DeclTree}
+use Rattle.java_core.specs.Trees.{Sts}
+use Rattle.java_core.specs.Programs.{Plain, PlainClass, PlainField, PlainMethod}
+use Rattle.name_rules.specs.Outline.{MethodAt, methods_declared, method_member}
+use Rattle.run_cover.specs.Untagged.{untag_method, untagged}
+use Rattle.fact_model.specs.declared.facts.Facts.{Facts}
+use Rattle.fact_model.specs.declared.sets.PointsTo.{PointsTo}
+use Rattle.hier_model.specs.Hierarchies.{Hierarchy, is_class_node}
+use Rattle.flow_rules.specs.declared.items.ColumnItem.TheVariants as column
+use Rattle.flow_rules.specs.Facts.{is_holder}
+use Rattle.facts_order.proofs.Listed.{first, one_from, map_from, when_from, when_has}
+use Rattle.rebuild_model.specs.Renaming.{Renaming, renaming_of}
+use Rattle.rebuild_model.specs.Members.{IsStaticMethodOf}
+use Rattle.written_tree.specs.Names.{nowhere, modifier}
+use Rattle.written_tree.specs.Members.{filling, head, body, static_method_member, class_members, interface_heads, holder_members}
+use Rattle.written_tree.specs.Written.{type_tree, java_tree}
+use Rattle.tree_rebuilds.proofs.Outlined.{IsResolved, method_there, method_back, member_method_from, member_method_has}
+use Rattle.tree_rebuilds.proofs.Apart.{any_there, holder_class}
+use Rattle.tree_rebuilds.proofs.Nodes.{R0, items, tree, node_tree, old_tree, holder_at, holder_number, Declares, a_node, a_holder, declares}
+use Rattle.tree_rebuilds.proofs.Members.{IsMember, a_field, a_body, a_head, a_filler, class_from, interface_from, in_class as class_mods, IsStatic, a_static_field, a_static_method, holder_from, static_method_has}
+use Rattle.tree_rebuilds.proofs.Given.{Given, T, stands_from}
+use Rattle.tree_rebuilds.proofs.Resolved.{BodiesMatch, owner_is, name_is, static_is, types_are, code_is}
+use Rattle.tree_rebuilds.proofs.Methods.{as_method, as_head, IsOldBody, IsOldHead, IsOldFiller, node_body, node_head, node_filler, is_abstract, stands_made, old_method}
+
+module _ (P Q : Plain) (F : Facts) (pt : PointsTo) (H : Hierarchy) (V : Plain) (G : Given P Q F pt H V) (match : BodiesMatch P Q F pt H V G) where
+  abbrev U : Plain
+  U = untagged V
+
+  abbrev R₀ : Renaming
+  R₀ = R0 P Q F H
+
+  abbrev Rs : MethodAt → ℕ → Type 0
+  Rs m g = IsResolved (java_tree P Q F H) V G.resolves G.new m g
+
+  abbrev pub IsOldStatic : ℕ → ℕ → Type 0
+  IsOldStatic m g = IsStaticMethodOf P Q F H U (T P Q F pt H V G) m g
+
+  -- the declaration of a static method
+  abbrev pub as_static : ℕ → ℕ → PlainMethod → MethodAt
+  as_static i m old = as_method i false (head P R₀ H (modifier Public ∷ modifier Static ∷ []) old.name m old) (body P R₀ H m old)
+
+  -- a static method in its holder
+  holder_method : (c i m g : ℕ) (k : PlainClass) (old : PlainMethod) (xs : Sts) → slice_get (tree P Q F H) i ≡ Some (old_tree P Q F H c k)
+      → slice_get P.classes c ≡ Some k
+      → slice_get P.methods m ≡ Some old → (old.is_static && (old.owner == c)) ≡ true → old.body ≡ Some xs → Rs (as_static i m old) g → IsOldStatic m g
+  unfolding renaming_of
+  holder_method c i m g k old xs e d o h b r =
+      let p = and_parts old.is_static (old.owner == c) h in
+      let at : MethodAt = as_static i m old in
+      let ow : at.owner ≡ (T P Q F pt H V G).holder_of old.owner = sym (holder_number P Q F H V G.resolves G.new c i k d e)
+      ∙ ap (λ y. (T P Q F pt H V G).holder_of y) (sym (eqb-true old.owner c p.1)) in
+      record {
+        same = record {
+          old = old;
+          new = untag_method r.method;
+          old_stands = o;
+          new_stands = stands_made P Q F pt H V G at g r;
+          old_static = p.0;
+          new_static = static_is P Q F pt H V G at g r;
+          owner = owner_is P Q F pt H V G at g r ∙ ow;
+          name = name_is P Q F pt H V G at g r;
+        };
+        types = types_are P Q F pt H V G at g r (modifier Public ∷ modifier Static ∷ []) old.name m old o refl;
+        code = code_is P Q F pt H V G at g r match (modifier Public ∷ modifier Static ∷ []) old.name m old xs o b refl refl (sym p.0) (λ s. ow);
+      }
+
+  -- a static method has a body
+  static_code : (m : ℕ) (k : PlainMethod) → slice_get P.methods m ≡ Some k → k.is_static ≡ true → (xs : Sts) × (k.body ≡ Some xs)
+  static_code m k e h = go k.body refl
+    where
+      go : (o : Option Sts) → k.body ≡ o → (xs : Sts) × (k.body ≡ Some xs)
+      go None d = absurd (false≢true (sym ((G.formed.methods m k e).bodyless d).0 ∙ h))
+      go (Some xs) d = (xs, d)
+
+  -- what a method of the new program is
+  abbrev pub Origin : ℕ → PlainMethod → Type 0
+  Origin g new = (((m : ℕ) × IsOldBody P Q F pt H V G m new) ⊎ ((n : ℕ) × (m : ℕ) ×
+      (IsOldHead P Q F pt H V G n m new ⊎ IsOldFiller P Q F pt H V G n m new))) ⊎ ((m : ℕ) × IsOldStatic m g)
+
+  abbrev Made : ℕ → MethodAt → Type 0
+  Made g x = (r : Rs x g) → Origin g (untag_method r.method)
+
+  in_class : (n i g : ℕ) (x : MethodAt) (m : MemberTree) → is_live H.order n ≡ true → slice_get (tree P Q F H) i ≡ Some (node_tree P Q F H n)
+      → IsMember P R₀ F H (items P Q F H) n m
+      → Contains (method_member (suc i) (is_abstract P Q F pt H V G n) m) x → Made g x
+  in_class n i g x _ live e (a_field c f k d at o) h = absurd (omega (arith, h.1))
+  in_class n i g x _ live e (a_body c f k d at o) h =
+      let s = stands_from P Q F pt H V G c (column.Def f) n d at in
+      let z = old_method P Q F pt H V G f n s in
+      let same : z.old ≡ k = same_Some _ _ (sym z.stands ∙ o) in
+      let y : MethodAt = as_method i (is_abstract P Q F pt H V G n) (head P R₀ H (modifier Public ∷ []) (R₀.method_name f) f k) (body P R₀ H f k) in
+      subst (Made g) (one_from y x h) (λ r. inl (inl (
+        f,
+        node_body P Q F pt H V G match n i f g (is_abstract P Q F pt H V G n) k z.code e s o
+            (ap (λ (w : PlainMethod). w.is_static) (sym same) ∙ z.instance) (ap (λ (w : PlainMethod). w.body) (sym same) ∙ z.body) r,
+      )))
+  in_class n i g x _ live e (a_head t d) h =
+      let y : MethodAt = as_method i (is_abstract P Q F pt H V G n) t None in
+      subst (Made g) (one_from y x h) (λ r. let z = node_head P Q F pt H V G n i g (class_mods P R₀ F H) y e refl refl refl d r in inl (inr (n, z.0, inl z.1)))
+  in_class n i g x _ live e (a_filler s t d o) h =
+      let ss : Statements = filling o.signature.result in
+      let y : MethodAt = as_method i (is_abstract P Q F pt H V G n) t (Some ss) in
+      subst (Made g) (one_from y x h) (λ r. inl (inr (n, o.signature.first, inr (node_filler P Q F pt H V G n i s g y ss live e refl refl d o r))))
+
+  in_node : (b : Bool) (n i g : ℕ) (x : MethodAt) → is_live H.order n ≡ true → slice_get (tree P Q F H) i ≡ Some (node_tree P Q F H n)
+      → Contains (methods_declared (suc i) (type_tree P R₀ F H (items P Q F H) b n)) x → Made g x
+  in_node true n i g x live e h =
+      let z = member_method_from (suc i) (is_abstract P Q F pt H V G n) (class_members P R₀ F H (items P Q F H) n) x h in
+      in_class n i g x z.0 live e (class_from P R₀ F H (items P Q F H) n z.0 z.1) z.2
+  in_node false n i g x live e h =
+      let z = map_from (λ h. as_head i h) (interface_heads P R₀ F H n) x h in
+      subst (Made g) z.2 (λ r. let w = node_head P Q F pt H V G n i g [] (as_head i z.0) e refl refl refl (interface_from P R₀ F H n z.0 z.1) r in inl
+      (inr (n, w.0, inl w.1)))
+
+  in_holder : (c i g : ℕ) (k : PlainClass) (x : MethodAt) (m : MemberTree) → slice_get (tree P Q F H) i ≡ Some (old_tree P Q F H c k)
+      → slice_get P.classes c ≡ Some k
+      → IsStatic P R₀ H c m → Contains (method_member (suc i) false m) x → Made g x
+  in_holder c i g k x m e d (a_static_field f old _ o h y) z =
+      let w = when_from (old.is_static && (old.owner == c)) _ m y in
+      absurd (omega (arith, (subst (λ v. Contains (method_member (suc i) false v) x) (sym (one_from _ m w.1)) z).1))
+  in_holder c i g k x m e d (a_static_method f old _ o h y) z =
+      let w = when_from (old.is_static && (old.owner == c)) _ m y in
+      let xs = static_code f old o (and_parts old.is_static (old.owner == c) h).0 in
+      subst (Made g) (one_from (as_static i f old) x (subst (λ v. Contains (method_member (suc i) false v) x) (sym (one_from _ m w.1)) z))
+      (λ r. inr (f, holder_method c i f g k old xs.0 e d o h xs.1 r))
+
+  by_declaration : (i g : ℕ) (d : DeclTree) (x : MethodAt) → slice_get (tree P Q F H) i ≡ Some d → Declares P Q F H d
+      → Contains (methods_declared (suc i) d) x → Made g x
+  by_declaration i g _ x e (a_node n live) h = in_node (is_class_node F H n) n i g x live e h
+  by_declaration i g _ x e (a_holder c k d holder) h =
+      let z = member_method_from (suc i) false (holder_members P R₀ H c) x h in
+      in_holder c i g k x z.0 e d (holder_from P R₀ H c z.0 z.1) z.2
+
+  pub origin : (g : ℕ) (new : PlainMethod) → slice_get U.methods g ≡ Some new → Origin g new
+  origin g new e =
+      let z = method_back (tree P Q F H) V G.resolves G.new g new e in
+      subst (Origin g) z.is (by_declaration z.number g z.declaration z.method z.stands (declares P Q F H z.number z.declaration z.stands) z.declared z.resolved)
+
+  instance_of : (new : PlainMethod) → ((m : ℕ) × IsOldBody P Q F pt H V G m new) ⊎
+      ((n : ℕ) × (m : ℕ) × (IsOldHead P Q F pt H V G n m new ⊎ IsOldFiller P Q F pt H V G n m new)) → new.is_static ≡ false
+  instance_of new z = ⊎_elim (λ b. b.1.instance) (λ b. ⊎_elim (λ h. h.of.instance) (λ f. f.of.instance) b.2) z
+
+  pub instance_method : (g : ℕ) (new : PlainMethod) → slice_get U.methods g ≡ Some new → new.is_static ≡ false
+      → ((m : ℕ) × IsOldBody P Q F pt H V G m new) ⊎ ((n : ℕ) × (m : ℕ) × (IsOldHead P Q F pt H V G n m new ⊎ IsOldFiller P Q F pt H V G n m new))
+  instance_method g new e h =
+      ⊎_elim (λ z. z) (λ z. let s = z.1.same in
+      absurd (false≢true (sym h ∙ ap (λ (o : Option PlainMethod). option_map_or (λ (k : PlainMethod). k.is_static) o false) (sym e ∙ s.new_stands)
+      ∙ s.new_static))) (origin g new e)
+
+  pub static_method : (g : ℕ) (new : PlainMethod) → slice_get U.methods g ≡ Some new → new.is_static ≡ true → (m : ℕ) × IsOldStatic m g
+  static_method g new e h = ⊎_elim (λ z. absurd (false≢true (sym (instance_of new z) ∙ h))) (λ z. z) (origin g new e)
+
+  pub is_holder_of : (m : ℕ) (old : PlainMethod) → slice_get P.methods m ≡ Some old → old.is_static ≡ true → is_holder P old.owner ≡ true
+  is_holder_of m old e h =
+      or_right (list_any (λ (k : PlainField). k.is_static && (k.owner == old.owner)) P.fields)
+      (list_any (λ (k : PlainMethod). k.is_static && (k.owner == old.owner)) P.methods)
+      (any_there (λ (k : PlainMethod). k.is_static && (k.owner == old.owner)) P.methods m old e
+      (and_from old.is_static (old.owner == old.owner) h (eq-eqb old.owner old.owner refl)))
+
+  pub each_static_method : (m : ℕ) (old : PlainMethod) → slice_get P.methods m ≡ Some old → old.is_static ≡ true → (g : ℕ) × IsOldStatic m g
+  each_static_method m old e h =
+      let c = old.owner in
+      let holder = is_holder_of m old e h in
+      let k = holder_class P G.formed c holder in
+      let z = holder_at P Q F H c k.0 k.1 holder in
+      let mine = and_from old.is_static (c == c) h (eq-eqb c c refl) in
+      let xs = static_code m old e h in
+      let x : MethodAt = as_static z.0 m old in
+      let t : MemberTree = MethodTree x.head x.body nowhere in
+      let y : Contains (static_method_member P R₀ H c m old) t = when_has (old.is_static && (c == c)) (t ∷ []) t mine (first t []) in
+      let d : Contains (methods_declared (suc z.0) (old_tree P Q F H c k.0)) x =
+      member_method_has (suc z.0) false (holder_members P R₀ H c) x t (static_method_has P R₀ H c m old t e y) (first x []) in
+      let r = method_there (tree P Q F H) V G.resolves G.new z.0 (old_tree P Q F H c k.0) x z.1 d in
+      (r.0, holder_method c z.0 m r.0 k.0 old xs.0 z.1 k.1 e mine xs.1 r.1)

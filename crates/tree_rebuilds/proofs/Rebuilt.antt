@@ -1,0 +1,38 @@
+-- A program to which the written tree resolves rebuilds the old one, where its bodies match.
+use Rattle.java_core.specs.Programs.{Plain}
+use Rattle.run_cover.specs.Untagged.{untagged}
+use Rattle.fact_model.specs.declared.facts.Facts.{Facts}
+use Rattle.fact_model.specs.declared.sets.PointsTo.{PointsTo}
+use Rattle.hier_model.specs.Hierarchies.{Hierarchy}
+use Rattle.rebuild_model.specs.Rebuilds.{Rebuilds}
+use Rattle.tree_rebuilds.proofs.Nodes.{are_types}
+use Rattle.tree_rebuilds.proofs.Supers.{order_is}
+use Rattle.tree_rebuilds.proofs.Given.{Given, T}
+use Rattle.tree_rebuilds.proofs.Fields.{instance_field, static_field, each_field, each_static_field}
+use Rattle.tree_rebuilds.proofs.Resolved.{BodiesMatch}
+use Rattle.tree_rebuilds.proofs.Methods.{each_body, each_head, each_filler}
+use Rattle.tree_rebuilds.proofs.Origins.{instance_method, static_method, each_static_method}
+use Rattle.tree_rebuilds.proofs.Main.{main_is}
+
+module _ (P Q : Plain) (F : Facts) (pt : PointsTo) (H : Hierarchy) (V : Plain) (G : Given P Q F pt H V) (match : BodiesMatch P Q F pt H V G) where
+  unfoldable pub rebuilt : Rebuilds P Q F H (untagged V)
+  rebuilt = record {
+    places = T P Q F pt H V G;
+    types = are_types P Q F H V G.resolves G.new G.formed G.placed G.facts pt G.unbroken;
+    order = order_is P Q F H V G.resolves G.new G.hierarchy.sized.order pt G.unbroken G.formed G.placed G.facts;
+    members = record {
+      fields = instance_field P Q F pt H V G;
+      each_field = each_field P Q F pt H V G;
+      methods = instance_method P Q F pt H V G match;
+      each_body = each_body P Q F pt H V G match;
+      each_head = each_head P Q F pt H V G;
+      each_filler = each_filler P Q F pt H V G;
+    };
+    statics = record {
+      fields = static_field P Q F pt H V G;
+      each_field = each_static_field P Q F pt H V G;
+      methods = static_method P Q F pt H V G match;
+      each_method = each_static_method P Q F pt H V G match;
+    };
+    main = main_is P Q F pt H V G match;
+  }

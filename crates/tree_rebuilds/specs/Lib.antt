@@ -1,0 +1,2 @@
+pub mod Supertypes
+pub mod Laws

@@ -1,0 +1,17 @@
+pub mod Faults
+pub mod Scopes
+pub mod Bodies
+pub mod Origins
+pub mod Modifiers
+pub mod Once
+pub mod Types
+pub mod Supers
+pub mod Variables
+pub mod Named
+pub mod Forms
+pub mod Starts
+pub mod Holders
+pub mod Whole
+pub mod Main
+pub mod Conditions
+pub mod Instances

@@ -1,0 +1,89 @@
+-- The types that a written body names are there.
+use Rattle.std.specs.Prelude.{◌≡◌, ◌≢◌, ℕ, List, Option, Some, None, slice_get}
+use Rattle.java_tree.specs.declared.TypeName.{TypeName}
+use Rattle.java_core.specs.Programs.{Plain, PlainLocal, PlainMethod}
+use Rattle.java_core.specs.Formed.{variables_of}
+use Rattle.java_core.specs.Trees.{Ex, Exs, no_ex, ex_then, number, character, text, truth, null, this, local, static_field, own_field, field, index, call, static_call, super_call, create, create_array, cast, instance_of, unary, binary, Target, to_local, to_static, to_own, to_field, to_element, no_target, St, Sts, Arms, declare, block, assign, act, print, choose, loop, return, break, continue, no_st, st_then, otherwise, arm}
+use Rattle.hier_model.specs.Hierarchies.{Hierarchy}
+use Rattle.flow_rules.specs.declared.items.RowItem.TheVariants as row
+use Rattle.flow_rules.specs.Operands.{variable_row}
+use Rattle.rebuild_model.specs.Renaming.{Renaming}
+use Rattle.name_rules.specs.declared.Refusal.{Refusal}
+use Rattle.name_rules.specs.Meanings.{class_named}
+use Rattle.name_rules.specs.Conditions.{IsUnknownType, IsUnknownCast}
+use Rattle.written_tree.specs.Names.{row_name, written_type}
+
+abbrev pub IsKnownName : Plain → List ℕ → Type 0
+IsKnownName O x = class_named O x ≢ None
+
+abbrev pub IsKnownType : Plain → TypeName → Type 0
+IsKnownType O u = (r : Refusal) → IsUnknownType O u r → ⊥
+
+abbrev pub IsKnownCast : Plain → TypeName → Type 0
+IsKnownCast O u = (r : Refusal) → IsUnknownCast O u r → ⊥
+
+-- in the method m of the program, with the outline O of the tree
+module _ (P : Plain) (R : Renaming) (H : Hierarchy) (m : ℕ) (k : PlainMethod) (O : Plain) where
+  abbrev mutual
+    pub KnownEx : Ex → Type 0
+    KnownEx (number t n) = Unit {0}
+    KnownEx (character t c) = Unit {0}
+    KnownEx (text t u) = Unit {0}
+    KnownEx (truth t b) = Unit {0}
+    KnownEx (null t) = Unit {0}
+    KnownEx (this t) = Unit {0}
+    KnownEx (local t i) = Unit {0}
+    KnownEx (static_field t f) = Unit {0}
+    KnownEx (own_field t f) = Unit {0}
+    KnownEx (field t e x) = KnownEx e
+    KnownEx (index t e i) = KnownEx e × KnownEx i
+    KnownEx (call t e x es) = KnownEx e × KnownExs es
+    KnownEx (static_call t d es) = KnownExs es
+    KnownEx (super_call t x es) = KnownExs es
+    KnownEx (create t n c es) = IsKnownName O (row_name P H (R.row_type (row.New n)) c) × KnownExs es
+    KnownEx (create_array t n v e) = IsKnownType O (written_type P H (R.row_type (row.New n)) v) × KnownEx e
+    KnownEx (cast t n v e) = IsKnownCast O (written_type P H (R.row_type (row.Cast n)) v) × KnownEx e
+    KnownEx (instance_of t n e c) = IsKnownName O (row_name P H (R.row_type (row.Test n)) c) × KnownEx e
+    KnownEx (unary t o e) = KnownEx e
+    KnownEx (binary t o e d) = KnownEx e × KnownEx d
+
+    pub KnownExs : Exs → Type 0
+    KnownExs no_ex = Unit {0}
+    KnownExs (ex_then e es) = KnownEx e × KnownExs es
+
+  abbrev pub KnownIf : Option Ex → Type 0
+  KnownIf None = Unit {0}
+  KnownIf (Some e) = KnownEx e
+
+  abbrev pub KnownTarget : Target → Type 0
+  KnownTarget (to_local t i) = Unit {0}
+  KnownTarget (to_static t f) = Unit {0}
+  KnownTarget (to_own t f) = Unit {0}
+  KnownTarget (to_field t e x) = KnownEx e
+  KnownTarget (to_element t e i) = KnownEx e × KnownEx i
+  KnownTarget no_target = Unit {0}
+
+  -- the type of a variable
+  abbrev pub KnownVariable : ℕ → Type 0
+  KnownVariable i = (v : PlainLocal) → slice_get (variables_of k) i ≡ Some v → IsKnownType O (written_type P H (R.row_type (variable_row m k i)) v.ty)
+
+  abbrev mutual
+    pub KnownSt : St → Type 0
+    KnownSt (declare t i e) = KnownVariable i × KnownIf e
+    KnownSt (block t xs) = KnownSts xs
+    KnownSt (assign t b e) = KnownTarget b × KnownEx e
+    KnownSt (act t e) = KnownEx e
+    KnownSt (print t n e) = KnownIf e
+    KnownSt (choose t a) = KnownArms a
+    KnownSt (loop t first test step body) = KnownSts first × KnownIf test × KnownSts step × KnownSts body
+    KnownSt (return t e) = KnownIf e
+    KnownSt (break t) = Unit {0}
+    KnownSt (continue t) = Unit {0}
+
+    pub KnownSts : Sts → Type 0
+    KnownSts no_st = Unit {0}
+    KnownSts (st_then x xs) = KnownSt x × KnownSts xs
+
+    pub KnownArms : Arms → Type 0
+    KnownArms (otherwise xs) = KnownSts xs
+    KnownArms (arm e xs more) = KnownEx e × KnownSts xs × KnownArms more

@@ -1,0 +1,4 @@
+pub mod Small
+mod Overriding
+mod Fillers
+mod Sites

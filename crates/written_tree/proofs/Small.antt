@@ -1,0 +1,76 @@
+-- Small programs and hierarchies from their parts.
+use Rattle.std.proofs.Common.{◌≡◌, ℕ, Bool, true, false, List, [], ◌∷◌, Option, Some, None, refl, length, ◌≤◌, lit≤, lit<}
+use Rattle.std.specs.Prelude.{map}
+use Rattle.std.specs.declared.vec.Vec.{Vec}
+use Rattle.std.specs.declared.alloc.Global.{Global}
+use Rattle.kaba_base.specs.declared.NodeId.{NodeId}
+use Rattle.kaba_base.specs.declared.ClassId.{ClassId}
+use Rattle.java_tree.specs.declared.TypeName.{TypeName}
+use Rattle.java_tree.specs.declared.TypeBase.{TypeBase}
+use Rattle.java_tree.specs.declared.Param.{Param}
+use Rattle.java_tree.specs.declared.Modifier.{Modifier}
+use Rattle.java_tree.specs.Syntax.{HeadTree}
+use Rattle.java_core.specs.declared.Ty.{Ty}
+use Rattle.java_core.specs.declared.TyBase.{TyBase}
+use Rattle.java_core.specs.Trees.{Tag, Sts}
+use Rattle.java_core.specs.Programs.{PlainClass, PlainField, PlainLocal, PlainMethod}
+use Rattle.fact_model.specs.declared.facts.ClassInfo.{ClassInfo}
+use Rattle.fact_model.specs.declared.facts.ColumnInfo.{ColumnInfo}
+use Rattle.fact_model.specs.declared.facts.ColKind.{ColKind}
+use Rattle.fact_model.specs.declared.facts.SiteInfo.{SiteInfo}
+use Rattle.hier_model.specs.Hierarchies.{Hierarchy, node}
+use Rattle.kaba_order.specs.Orders.{Ordered}
+use Rattle.written_tree.specs.Names.{nowhere}
+
+abbrev pub at : ℕ → Tag
+at n = record { label = 0; place = record { at = n; line = 1 } }
+
+abbrev pub plain : TyBase → Ty
+plain b = record { base = b; dim = 0 }
+
+-- ---- programs
+
+abbrev pub class : List ℕ → Option ClassId → ℕ → PlainClass
+class name parent p = record { name = name; is_interface = false; is_abstract = false; parent = parent; faces = []; tag = at p }
+
+abbrev pub under : ℕ → Option ClassId
+under c = Some (record { 0 = c })
+
+abbrev pub a_field : ℕ → List ℕ → Ty → ℕ → PlainField
+a_field owner name ty p = record { owner = owner; name = name; is_static = false; ty = ty; tag = at p }
+
+abbrev pub variable : List ℕ → Ty → ℕ → PlainLocal
+variable name ty p = record { name = name; ty = ty; tag = at p }
+
+abbrev pub a_method : ℕ → List ℕ → ℕ → Option Ty → ℕ → Sts → PlainMethod
+a_method owner name slot result p code =
+    record { owner = owner; name = name; is_static = false; is_public = false; slot = Some slot; params = []; locals = []; result = result; body = Some code; tag = at p }
+
+-- ---- facts
+
+abbrev pub column : ColKind → ℕ → Option ℕ → List ℕ → ColumnInfo
+column kind class slot name = record { kind = kind; class = record { 0 = class }; slot = slot; name = name; label = [] }
+
+abbrev pub site : ℕ → ℕ → SiteInfo
+site row class = record { row = record { 0 = row }; class = record { 0 = class }; dim = 0 }
+
+-- a list where one of other items stands
+abbrev pub listed : {A B : Type 0} → Vec A Global → (xs : List B) → length xs ≤ 9 → Vec B Global
+listed v xs fits = record { ptr = v.ptr; len = length xs; cap = 9; alloc = v.alloc; items = xs; ok = (refl, fits); small = lit< tt }
+
+-- ---- hierarchies
+
+abbrev pub hierarchy : List Bool → List (List Bool) → List (Option NodeId) → List NodeId → List (List ℕ) → List (List ℕ) → Hierarchy
+hierarchy live le columns rows types members =
+    record { order = record { live = live; le = le }; columns = columns; rows = rows; types = types; members = members; origins = []; table = [] }
+
+abbrev pub at_node : ℕ → Option NodeId
+at_node n = Some (node n)
+
+-- ---- trees
+
+abbrev pub type : TypeBase → TypeName
+type b = record { base = b; dim = 0; place = nowhere }
+
+abbrev pub an_head : List Modifier → Option TypeName → List ℕ → List Param → HeadTree
+an_head mods result name params = record { mods = mods; type = result; name = name; params = params; place = nowhere }

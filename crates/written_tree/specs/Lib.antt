@@ -1,0 +1,5 @@
+pub mod Names
+pub mod Bodies
+pub mod Supers
+pub mod Members
+pub mod Written
