@@ -1,0 +1,12 @@
+-- What is written so far and the rest is the whole.
+use Rattle.std.proofs.Common.{◌≡◌, drop}
+use Rattle.java_tree.specs.Syntax as tree
+use Rattle.java_core.specs.Trees.{no_place, exprs}
+use Rattle.tree_parts.specs.Renamed.{expressions}
+use Rattle.tree_parts.proofs.Appended.{append_exprs}
+use Rattle.tree_parts.proofs.exprs.+exprs.Given as goal
+
+abbrev pub invariant-all-loop-one : goal.invariant-all-loop-one
+invariant-all-loop-one l =
+    append_exprs (tree.exprs l.done.items) (expressions l.program l.numbering l.hier l.m l.method l.scope.items (exprs no_place (drop l.one-index l.one-items)))
+    ≡ expressions l.program l.numbering l.hier l.m l.method l.scope.items (exprs no_place l.list.items)

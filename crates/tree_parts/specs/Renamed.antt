@@ -1,0 +1,44 @@
+-- The renaming that a numbering of the rows and columns gives, and how it fits a hierarchy.
+use Rattle.std.specs.Prelude.{◌≡◌, ℕ, ◌<◌, List, length, Some}
+use Rattle.std.specs.Option.{option_map}
+use Rattle.java_tree.specs.Syntax.{Expression, Expressions, Statement, Statements}
+use Rattle.java_core.specs.declared.Program.{Program}
+use Rattle.java_core.specs.declared.Method.{Method}
+use Rattle.java_core.specs.Trees.{no_place, Ex, Exs, St, Sts}
+use Rattle.java_core.specs.Programs.{program_of, method_seen}
+use Rattle.hier_model.specs.Hierarchies.{Hierarchy, place_of_row}
+use Rattle.flow_rules.specs.declared.items.RowItem.{RowItem}
+use Rattle.flow_rules.specs.declared.items.ColumnItem.{ColumnItem}
+use Rattle.flow_rules.specs.declared.items.ColumnItem.TheVariants as column
+use Rattle.flow_rules.specs.Numbered.{number_among, same_row, same_column}
+use Rattle.tree_parts.specs.declared.numbers.Numbering.{Numbering}
+use Rattle.rebuild_model.specs.Renaming.{Renaming, column_name}
+use Rattle.written_tree.specs.Bodies as written
+
+-- a row's type is named by the node where the row stands, fields and methods by their columns
+abbrev pub renamed : Numbering → Hierarchy → Renaming
+renamed n H = record {
+  row_type = λ i. option_map (λ r. place_of_row H r) (number_among same_row n.rows.keys i);
+  field_name = λ f. column_name H (number_among same_column n.columns.keys (column.Fld f));
+  method_name = λ m. column_name H (number_among same_column n.columns.keys (column.Dcl m));
+  holder_of = λ c. c;
+}
+
+-- the rows and columns numbered are those of the hierarchy, and rows stand at its nodes
+pub record IsFitting (n : Numbering) (H : Hierarchy) : Type 0 where
+  pub rows : (i : RowItem) (r : ℕ) → number_among same_row n.rows.keys i ≡ Some r → r < length H.rows
+  pub columns : (i : ColumnItem) (c : ℕ) → number_among same_column n.columns.keys i ≡ Some c → c < length H.members
+  pub placed : (r : ℕ) → r < length H.rows → place_of_row H r < length H.types
+
+-- an expression and a statement of a method's body, as they are written
+abbrev pub expression : Program → Numbering → Hierarchy → ℕ → Method → List ℕ → Ex → Expression
+expression p n H m k scope e = written.written (program_of no_place p) (renamed n H) H m (method_seen no_place k) scope e
+
+abbrev pub expressions : Program → Numbering → Hierarchy → ℕ → Method → List ℕ → Exs → Expressions
+expressions p n H m k scope es = written.written_all (program_of no_place p) (renamed n H) H m (method_seen no_place k) scope es
+
+abbrev pub statement : Program → Numbering → Hierarchy → ℕ → Method → List ℕ → St → Statement
+statement p n H m k scope s = written.written_st (program_of no_place p) (renamed n H) H m (method_seen no_place k) scope s
+
+abbrev pub statements : Program → Numbering → Hierarchy → ℕ → Method → List ℕ → Sts → Statements
+statements p n H m k scope ss = written.written_sts (program_of no_place p) (renamed n H) H m (method_seen no_place k) scope ss

@@ -1,0 +1,13 @@
+//! How the bodies of a program are written for a class hierarchy (after Streckenbach and Snelting,
+//! 2004): the forms are those of the old bodies, types are named by the nodes of their rows, and
+//! members by their columns. Expressions and statements are here; declarations follow.
+#![tactic(auto)]
+
+mod exprs;
+mod names;
+mod numbers;
+mod stmts;
+
+pub use exprs::expr;
+pub use numbers::Numbering;
+pub use stmts::body;
