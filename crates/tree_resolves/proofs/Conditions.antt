@@ -1,4 +1,4 @@
--- None of the conditions that refuse a text's names holds of the written tree, but for those that the record names.
+-- None of the conditions that refuse a text's names holds of the written tree.
 use Rattle.std.proofs.Common.{◌≡◌, ℕ, false, List, Some, sym, ◌∙◌, ⊎_elim}
 use Rattle.std.specs.Prelude.{slice_get}
 use Rattle.std.proofs.lemmas.Bool.{false≢true, or_cases}
@@ -12,7 +12,6 @@ use Rattle.name_rules.specs.Outline.{MethodAt, methods_in, is_private}
 use Rattle.name_rules.specs.Conditions.{unknown, type_twice, known_twice, super_twice, field_twice, method_twice, param_twice, loop, overload, type_as_field, type_as_param, face_as_parent, class_as_face, private_reused, no_main, modifiers_disagree, modifier_unfit, wrong_body, in_body}
 use Rattle.name_rules.specs.Causes.{HasNoCondition}
 use Rattle.tree_rebuilds.proofs.Nodes.{tree}
-use Rattle.tree_resolves.specs.Apart.{AreApart}
 use Rattle.tree_resolves.proofs.Modifiers.{Given, method_sound, modifiers_fit}
 use Rattle.tree_resolves.proofs.Types.{type_once, type_is_new}
 use Rattle.tree_resolves.proofs.Supers.{super_once, no_loop, no_face_as_parent, no_class_as_face}
@@ -20,8 +19,10 @@ use Rattle.tree_resolves.proofs.Variables.{field_free, param_free, param_once}
 use Rattle.tree_resolves.proofs.Named.{all_known}
 use Rattle.tree_resolves.proofs.Whole.{body_has_none}
 use Rattle.tree_resolves.proofs.Main.{has_main}
+use Rattle.tree_resolves.proofs.Separate.{fields_are_apart, methods_are_apart}
+use Rattle.tree_resolves.proofs.Overloads.{slots_are_apart}
 
-module _ (P Q : Plain) (F : Facts) (pt : PointsTo) (H : Hierarchy) (G : Given P Q F pt H) (apart : AreApart (tree P Q F H)) where
+module _ (P Q : Plain) (F : Facts) (pt : PointsTo) (H : Hierarchy) (G : Given P Q F pt H) where
   abbrev T : List DeclTree
   T = tree P Q F H
 
@@ -34,11 +35,11 @@ module _ (P Q : Plain) (F : Facts) (pt : PointsTo) (H : Hierarchy) (G : Given P 
   no_condition _ (type_twice {i = i} {j = j} {c = c} {d = d} a b lt e) = type_once P Q F pt H G i j c d a b lt e
   no_condition _ (known_twice {d = d} c h) = type_is_new P Q F pt H G d c h
   no_condition _ (super_twice {d = d} {i = i} {j = j} {a = a} {b = b} c p q lt e) = super_once P Q F pt H G d i j a b c p q lt e
-  no_condition _ (field_twice {i = i} {j = j} {f = f} {g = g} p q lt o e) = apart.fields i j f g p q lt o e
-  no_condition _ (method_twice {i = i} {j = j} {h = h} {k = k} p q lt o e) = apart.methods i j h k p q lt o e
+  no_condition _ (field_twice {i = i} {j = j} {f = f} {g = g} p q lt o e) = fields_are_apart P Q F pt H G i j f g p q lt o e
+  no_condition _ (method_twice {i = i} {j = j} {h = h} {k = k} p q lt o e) = methods_are_apart P Q F pt H G i j h k p q lt o e
   no_condition _ (param_twice {m = m} {i = i} {j = j} {a = a} {b = b} c p q lt e) = param_once P Q F pt H G m i j a b c p q lt e
   no_condition _ (loop {c = c} {d = d} e p) = no_loop P Q F pt H G c d e p
-  no_condition _ (overload {i = i} {j = j} {c = c} {h = h} {k = k} p q lt e a b n) = n (apart.slots i j c h k p q lt e a b)
+  no_condition _ (overload {i = i} {j = j} {c = c} {h = h} {k = k} p q lt e a b n) = n (slots_are_apart P Q F pt H G i j c h k p q lt e a b)
   no_condition _ (type_as_field {f = f} c h) = false≢true (sym (field_free P Q F pt H G f c) ∙ h)
   no_condition _ (type_as_param {m = m} {q = q} c d h) = false≢true (sym (param_free P Q F pt H G m q c d) ∙ h)
   no_condition _ (face_as_parent {d = d} {i = i} {c = c} {k = k} a b e f h) = no_face_as_parent P Q F pt H G d i c k a b e f h

@@ -15,3 +15,8 @@ pub mod Whole
 pub mod Main
 pub mod Conditions
 pub mod Instances
+pub mod Declared
+pub mod AtNodes
+pub mod Separate
+pub mod Overloads
+pub mod Law

@@ -1,3 +1,3 @@
 pub mod Stages
 pub mod Known
-pub mod Apart
+pub mod Laws
