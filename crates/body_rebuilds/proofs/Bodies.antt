@@ -71,8 +71,8 @@ module _ (Q : Plain) (H : Hierarchy) (U O : Plain) (T : Places) (K : KnowsNames 
   abbrev P : Plain
   P = untagged Q
 
-  abbrev R0 : Renaming
-  R0 = renaming_of (untagged Q) Q H by_number
+  abbrev by_node : Renaming
+  by_node = renaming_of (untagged Q) Q H by_number
 
   abbrev R : Renaming
   R = renaming_of (untagged Q) Q H T
@@ -117,7 +117,7 @@ module _ (Q : Plain) (H : Hierarchy) (U O : Plain) (T : Places) (K : KnowsNames 
         ((formed.methods m old (method_of Q formed m k stands)).code xs b.body)) (inside z.0 z.1)
         (scoped_params old new.params b.names once) (subst (λ z. Counts (length old.params) (declares_all z) (length (variables_of old))) (sym same) ordered)
         (subst (λ z. Counts z (declares_all ys) (length (variables_of new))) same_length b.counts)
-        (subst (λ z. StsResolve O here new false (params_from 0 new.params) (written_sts P R0 H m old (parameters 0 old.params) z) ys)
+        (subst (λ z. StsResolve O here new false (params_from 0 new.params) (written_sts P by_node H m old (parameters 0 old.params) z) ys)
         (sym same) b.resolves) in
         (subst (λ z. MatchesSts P U R (env_of m old) z (bare_sts ys)) same w.0, w.1)
 

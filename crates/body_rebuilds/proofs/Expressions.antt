@@ -56,8 +56,8 @@ module _ (Q : Plain) (H : Hierarchy) (U O : Plain) (T : Places) (K : KnowsNames 
   abbrev g : Env
   g = env_of m (untag_method k)
 
-  abbrev R0 : Renaming
-  R0 = renaming_of (untagged Q) Q H by_number
+  abbrev by_node : Renaming
+  by_node = renaming_of (untagged Q) Q H by_number
 
   abbrev R : Renaming
   R = renaming_of (untagged Q) Q H T
@@ -81,7 +81,7 @@ module _ (Q : Plain) (H : Hierarchy) (U O : Plain) (T : Places) (K : KnowsNames 
   Copies e d = Matches P U R g (bare e) (bare d)
 
   abbrev pub text_of : List ℕ → Ex → Expression
-  text_of scope e = written P R0 H m old scope (bare e)
+  text_of scope e = written P by_node H m old scope (bare e)
 
   abbrev HasRow : RowItem → Type 0
   HasRow i = found.HasRow Q H U O T K formed i
@@ -112,12 +112,12 @@ module _ (Q : Plain) (H : Hierarchy) (U O : Plain) (T : Places) (K : KnowsNames 
       found.form_has Q H U O T K formed m k stands (a_test t.place (operand_of P (type_in P m k) m k e) (test_operand m t n c)) t.place (row.Test n)
       (Some (record { class = record { 0 = c }; dim = 0 })) (record { class = record { 0 = c }; dim = 0 }) i refl (λ x d. d)
 
-  has_node : (i : RowItem) (b : TyBase) → ((c : _) → b ≡ Class c → HasRow i) → HasNode O P H T K.type K.no_text (R0.row_type i) b
+  has_node : (i : RowItem) (b : TyBase) → ((c : _) → b ≡ Class c → HasRow i) → HasNode O P H T K.type K.no_text (by_node.row_type i) b
   has_node i b h c e = let r = h c e in (r.node, r.is, r.live)
 
   array_node : (t : Tag) (u : Bool) (n : ℕ) (v : Ty) (e : Ex) → Contains (parts_of P m k)
       (a_creation t.place u (operand_of P (type_in P m k) m k (create_array t n v e)))
-      → HasNode O P H T K.type K.no_text (R0.row_type (row.New n)) v.base
+      → HasNode O P H T K.type K.no_text (by_node.row_type (row.New n)) v.base
   unfolding type_in
   array_node t u n v e i = has_node (row.New n) v.base (λ c b.
       found.form_has Q H U O T K formed m k stands (a_creation t.place u (operand_of P (type_in P m k) m k (create_array t n v e))) t.place
@@ -126,7 +126,7 @@ module _ (Q : Plain) (H : Hierarchy) (U O : Plain) (T : Places) (K : KnowsNames 
 
   cast_node : (t : Tag) (n : ℕ) (v : Ty) (e : Ex) → Contains (parts_of P m k) (a_test t.place (operand_of P (type_in P m k) m k e)
       (operand_of P (type_in P m k) m k (cast t n v e)))
-      → HasNode O P H T K.type K.no_text (R0.row_type (row.Cast n)) v.base
+      → HasNode O P H T K.type K.no_text (by_node.row_type (row.Cast n)) v.base
   unfolding type_in
   cast_node t n v e i = has_node (row.Cast n) v.base (λ c b.
       found.form_has Q H U O T K formed m k stands (a_test t.place (operand_of P (type_in P m k) m k e)
@@ -134,12 +134,12 @@ module _ (Q : Plain) (H : Hierarchy) (U O : Plain) (T : Places) (K : KnowsNames 
       i (ap (λ z. object_of (record { base = z; dim = v.dim })) b) (λ x d. d))
 
   -- the class that a written name of a row means
-  row_class : (i : RowItem) (c a : ℕ) → HasRow i → class_named O (row_name P H (R0.row_type i) c) ≡ Some a → R.row_type i ≡ Some a
+  row_class : (i : RowItem) (c a : ℕ) → HasRow i → class_named O (row_name P H (by_node.row_type i) c) ≡ Some a → R.row_type i ≡ Some a
   row_class i c a r e = r.new ∙ sym (K.type r.node r.live) ∙ ap (λ z. class_named O (row_name P H z c)) (sym r.is) ∙ e
 
   -- a field access: a field of the base, or the length of an array
   field_copy : (e b : Ex) (x : List ℕ) → is_some (access_type P (static P g (bare e)) x) ≡ true → Copies e b
-      → Matches P U R g (field bare_tag (bare e) x) (field bare_tag (bare b) (field_name P R0 H m old (static P g (bare e)) x))
+      → Matches P U R g (field bare_tag (bare e) x) (field bare_tag (bare b) (field_name P by_node H m old (static P g (bare e)) x))
   unfolding access_type
   field_copy e b x some me = go (field_in P s x) refl
     where
@@ -151,18 +151,18 @@ module _ (Q : Plain) (H : Hierarchy) (U O : Plain) (T : Places) (K : KnowsNames 
       none h (Some u) q = refl
 
       go : (o : Option ℕ) → field_in P s x ≡ o → Matches P U R g (field bare_tag (bare e) x)
-          (field bare_tag (bare b) (option_map_or R0.field_name (field_in P s x) x))
+          (field bare_tag (bare b) (option_map_or by_node.field_name (field_in P s x) x))
       go (Some f) h =
           subst (λ z. Matches P U R g (field bare_tag (bare e) x) (field bare_tag (bare b) z))
-          (sym (ap (λ z. option_map_or R0.field_name z x) h ∙ field_name_is P Q H T f)) (m_field me h)
+          (sym (ap (λ z. option_map_or by_node.field_name z x) h ∙ field_name_is P Q H T f)) (m_field me h)
       go None h =
-          subst (λ z. Matches P U R g (field bare_tag (bare e) x) (field bare_tag (bare b) z)) (sym (ap (λ z. option_map_or R0.field_name z x) h))
+          subst (λ z. Matches P U R g (field bare_tag (bare e) x) (field bare_tag (bare b) z)) (sym (ap (λ z. option_map_or by_node.field_name z x) h))
           (m_length me (none h (element_of s) some))
 
   -- a call: of a slot, or of a method of a String
   call_copy : (e b : Ex) (x : List ℕ) (es ds : Exs) (sig : Signature) → call_signature P (static P g (bare e)) x ≡ Some sig → Copies e b
       → MatchesAll P U R g (bare_all es) (bare_all ds)
-      → Matches P U R g (call bare_tag (bare e) x (bare_all es)) (call bare_tag (bare b) (called_name P R0 H m old (static P g (bare e)) x) (bare_all ds))
+      → Matches P U R g (call bare_tag (bare e) x (bare_all es)) (call bare_tag (bare b) (called_name P by_node H m old (static P g (bare e)) x) (bare_all ds))
   call_copy e b x es ds sig called me mes = go (is_string s) refl
     where
       s : Static
@@ -174,18 +174,18 @@ module _ (Q : Plain) (H : Hierarchy) (U O : Plain) (T : Places) (K : KnowsNames 
 
       go : (c : Bool) → is_string s ≡ c
           → Matches P U R g (call bare_tag (bare e) x (bare_all es)) (call bare_tag (bare b)
-          (option_map_or R0.method_name (option_and_then (λ c. declaration_of P c x) (class_of s)) x) (bare_all ds))
+          (option_map_or by_node.method_name (option_and_then (λ c. declaration_of P c x) (class_of s)) x) (bare_all ds))
       go true h =
           subst (λ z. Matches P U R g (call bare_tag (bare e) x (bare_all es)) (call bare_tag (bare b) z (bare_all ds)))
-          (sym (ap (λ z. option_map_or R0.method_name (option_and_then (λ c. declaration_of P c x) z) x) (classless (class_of s) refl h)))
+          (sym (ap (λ z. option_map_or by_node.method_name (option_and_then (λ c. declaration_of P c x) z) x) (classless (class_of s) refl h)))
           (m_string_call me h mes)
       go false h =
           let o = slot_called P s x sig called h in
           let c = then_some (λ c. slot_of P c x) (class_of s) o.number o.found in
           let d = then_some (slot_of_method P) (declaration_of P c.0 x) o.number c.2 in
           subst (λ z. Matches P U R g (call bare_tag (bare e) x (bare_all es)) (call bare_tag (bare b) z (bare_all ds)))
-          (sym (ap (λ z. option_map_or R0.method_name (option_and_then (λ c. declaration_of P c x) z) x) c.1
-          ∙ ap (λ z. option_map_or R0.method_name z x) d.1 ∙ method_name_is P Q H T d.0)) (m_call me c.1 d.1 mes)
+          (sym (ap (λ z. option_map_or by_node.method_name (option_and_then (λ c. declaration_of P c x) z) x) c.1
+          ∙ ap (λ z. option_map_or by_node.method_name z x) d.1 ∙ method_name_is P Q H T d.0)) (m_call me c.1 d.1 mes)
 
   module _ (inner scope : List ℕ) (bs : List Bound) (s : Scoped (untag_method k) inner scope bs) where
     abbrev To : Expression → Ex → Type 0
@@ -232,9 +232,9 @@ module _ (Q : Plain) (H : Hierarchy) (U O : Plain) (T : Places) (K : KnowsNames 
         go : (o : Option PlainMethod)
             → is_class_name O here.owner (bound_names bs) (option_map_or
             (λ (g : PlainMethod). static_call_tree (is_simple old scope g.owner g.name) (class_name P g.owner) g.name
-            (written_all P R0 H m old scope (bare_all es))) o (NullLit nowhere)) ≡ false
+            (written_all P by_node H m old scope (bare_all es))) o (NullLit nowhere)) ≡ false
         go None = refl
-        go (Some g) = tree_free (is_simple old scope g.owner g.name) (class_name P g.owner) g.name (written_all P R0 H m old scope (bare_all es))
+        go (Some g) = tree_free (is_simple old scope g.owner g.name) (class_name P g.owner) g.name (written_all P by_node H m old scope (bare_all es))
     no_class (super_call t x es) fo = refl
     no_class (create t n c es) fo = refl
     no_class (create_array t n v e) fo = refl
@@ -259,36 +259,36 @@ module _ (Q : Plain) (H : Hierarchy) (U O : Plain) (T : Places) (K : KnowsNames 
       matched u (own_field t f) d ty fo st (r_field (r_this h)) =
           subst (λ z. Matches P U R g (own_field bare_tag f) (field bare_tag (this bare_tag) z)) (sym (field_name_is P Q H T f)) m_own_field
       matched u (field t e x) d (t_field te some) (f_field fe n) st r =
-          let z = at_field O here bs (text_of scope e) (field_name P R0 H m old (static P g (bare e)) x) nowhere d (no_class e fe) r in
+          let z = at_field O here bs (text_of scope e) (field_name P by_node H m old (static P g (bare e)) x) nowhere d (no_class e fe) r in
           subst (λ z. Copies (field t e x) z) (sym z.2) (field_copy e z.0 x some
           (matched (is_accessed e) e z.0 te fe (left (tree (is_accessed e) e) _ st) z.1))
       matched u (index t e i) d (t_index te some ti num) (f_index fe fi) st (r_index {x = x} {y = y} re ri) =
           m_index (matched true e x te fe (left (tree true e) _ st) re) (matched false i y ti fi (past _ _ (right (tree true e) _ st)) ri)
       matched u (call t e x es) d (t_call {s = sig} te called args) (f_call fe n fes) st r =
-          let z = at_call O here bs (text_of scope e) (called_name P R0 H m old (static P g (bare e)) x)
-          (written_all P R0 H m old scope (bare_all es)) nowhere d (no_class e fe) r in
+          let z = at_call O here bs (text_of scope e) (called_name P by_node H m old (static P g (bare e)) x)
+          (written_all P by_node H m old scope (bare_all es)) nowhere d (no_class e fe) r in
           subst (λ z. Copies (call t e x es) z) (sym z.4)
           (call_copy e z.0 x es z.1 sig called (matched true e z.0 te fe (left (tree true e) _ st) z.2)
           (matched_all true es z.1 _ args fes (past _ _ (right (tree true e) _ st)) z.3))
       matched u (static_call t f es) d (t_static_call called args) (f_static_call i fes) st r =
           let z = found.static_call_met Q H U O T K formed m k stands here static_here owner inner scope bs s f i
-          (written_all P R0 H m old scope (bare_all es)) d r in
+          (written_all P by_node H m old scope (bare_all es)) d r in
           subst (λ z. Copies (static_call t f es) z) (sym z.4) (m_static_call z.2 (matched_all false es z.1 _ args fes (past _ _ st) z.3))
       matched u (super_call t x es) d (t_super_call {m = f} there has sig args) (f_super_call inst n fes) st (r_super_call {xs = ds} h all) =
           subst (λ z. Matches P U R g (super_call bare_tag x (bare_all es)) (super_call bare_tag z (bare_all ds)))
-          (sym (ap (λ z. option_map_or R0.method_name z x) there ∙ method_name_is P Q H T f))
+          (sym (ap (λ z. option_map_or by_node.method_name z x) there ∙ method_name_is P Q H T f))
           (m_super_call there (matched_all false es ds _ args fes (past _ _ st) all))
       matched u (create t n c no_ex) d ty fo st (r_create {i = i} {k = a} named r_no_more) =
           m_create (row_class (row.New n) c a (object_row t u n c no_ex (front _ [] st)) named) m_no_ex
       matched u (create t n c (ex_then e es)) d ty fo st r = elim ty [ ]
       matched u (create_array t n v e) d (t_create_array te num) (f_create_array known deep fe) st (r_create_array {t = w} {x = x} {i = i} means re) =
           subst (λ z. Matches P U R g (create_array bare_tag n v (bare e)) (create_array bare_tag i z (bare x)))
-          (sym (means_is O P H T K.type K.no_text (R0.row_type (row.New n)) v w (array_node t u n v e (front _ _ st)) means
+          (sym (means_is O P H T K.type K.no_text (by_node.row_type (row.New n)) v w (array_node t u n v e (front _ _ st)) means
           ∙ ap (λ z. retyped z v) (sym (row_type_is P Q H T (row.New n)))))
           (m_create_array (matched false e x te fe (past _ _ st) re))
       matched u (cast t n v e) d (t_cast te can) (f_cast kind fe) st (r_cast {t = w} {x = x} {i = i} means re) =
           subst (λ z. Matches P U R g (cast bare_tag n v (bare e)) (cast bare_tag i z (bare x)))
-          (sym (cast_is O P H T K.type K.no_text P (R0.row_type (row.Cast n)) v w kind (cast_node t n v e (front _ _ st)) means
+          (sym (cast_is O P H T K.type K.no_text P (by_node.row_type (row.Cast n)) v w kind (cast_node t n v e (front _ _ st)) means
           ∙ ap (λ z. retyped z v) (sym (row_type_is P Q H T (row.Cast n)))))
           (m_cast (matched true e x te fe (past _ _ st) re))
       matched u (instance_of t n e c) d (t_instance_of te rel) (f_instance_of fe cl) st (r_instance_of {x = x} {i = i} {k = a} re named) =
@@ -304,7 +304,7 @@ module _ (Q : Plain) (H : Hierarchy) (U O : Plain) (T : Places) (K : KnowsNames 
 
       pub matched_all : (u : Bool) (es ds : Exs) (us : List Ty) → TypedArgs P g (bare_all es) us → FormedExs P old inner (bare_all es)
           → Stands (parts_all P (type_in P m k) m k u es)
-          → AllResolve O here bs (written_all P R0 H m old scope (bare_all es)) ds → MatchesAll P U R g (bare_all es) (bare_all ds)
+          → AllResolve O here bs (written_all P by_node H m old scope (bare_all es)) ds → MatchesAll P U R g (bare_all es) (bare_all ds)
       matched_all u no_ex ds us ty fo st r_no_more = m_no_ex
       matched_all u (ex_then e es) ds us (t_ex_then te fit tes) (f_ex_then fe fes) st (r_and_more {x = x} {xs = xs} re res) =
           m_ex_then (matched u e x te fe (left (tree u e) _ st) re) (matched_all u es xs _ tes fes (right (tree u e) _ st) res)

@@ -78,14 +78,14 @@ no_field_of O c x free = go (nearest O (λ k. own_field_of O k x) (length O.clas
         absurd (free f k.0 k.1 ((bytes_eq-Decides k.0.name x).0 (and_parts (eqb k.0.owner b.0) (bytes_eq k.0.name x) k.2).1))
 
 module _ (P Q : Plain) (H : Hierarchy) (T : Places) where
-  abbrev R0 : Renaming
-  R0 = renaming_of P Q H by_number
+  abbrev by_node : Renaming
+  by_node = renaming_of P Q H by_number
 
   abbrev R : Renaming
   R = renaming_of P Q H T
 
   -- the type of a row is that of its node
-  pub row_type_is : (i : RowItem) → R.row_type i ≡ option_map T.type_of (R0.row_type i)
+  pub row_type_is : (i : RowItem) → R.row_type i ≡ option_map T.type_of (by_node.row_type i)
   unfolding renaming_of
   row_type_is i = go ((numbers P Q).row i)
     where
@@ -93,15 +93,15 @@ module _ (P Q : Plain) (H : Hierarchy) (T : Places) where
       go None = refl
       go (Some r) = refl
 
-  pub row_node : (i : RowItem) (r : ℕ) → row_number P Q i ≡ Some r → R0.row_type i ≡ Some (place_of_row H r)
+  pub row_node : (i : RowItem) (r : ℕ) → row_number P Q i ≡ Some r → by_node.row_type i ≡ Some (place_of_row H r)
   unfolding renaming_of numbers
   row_node i r e = ap (option_map (λ r. place_of_row H r)) e
 
-  pub field_name_is : (f : ℕ) → R0.field_name f ≡ R.field_name f
+  pub field_name_is : (f : ℕ) → by_node.field_name f ≡ R.field_name f
   unfolding renaming_of
   field_name_is f = refl
 
-  pub method_name_is : (f : ℕ) → R0.method_name f ≡ R.method_name f
+  pub method_name_is : (f : ℕ) → by_node.method_name f ≡ R.method_name f
   unfolding renaming_of
   method_name_is f = refl
 

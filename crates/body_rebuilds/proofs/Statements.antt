@@ -48,8 +48,8 @@ module _ (Q : Plain) (H : Hierarchy) (U O : Plain) (T : Places) (K : KnowsNames 
   abbrev g : Env
   g = env_of m (untag_method k)
 
-  abbrev R0 : Renaming
-  R0 = renaming_of (untagged Q) Q H by_number
+  abbrev by_node : Renaming
+  by_node = renaming_of (untagged Q) Q H by_number
 
   abbrev R : Renaming
   R = renaming_of (untagged Q) Q H T
@@ -86,33 +86,33 @@ module _ (Q : Plain) (H : Hierarchy) (U O : Plain) (T : Places) (K : KnowsNames 
 
   module _ (inner scope : List ℕ) (bs : List Bound) (s : Scoped (untag_method k) inner scope bs) where
     matched : (u : Bool) (e d : Ex) → IsTyped e → IsFormedEx inner e → Stands (tree u e)
-        → ResolvesTo O here bs (text.written P R0 H m old scope (bare e)) d → Copies e d
+        → ResolvesTo O here bs (text.written P by_node H m old scope (bare e)) d → Copies e d
     matched u e d ty fo st r = ex.matched Q H U O T K formed m k stands here static_here owner inner scope bs s u e d ty fo st r
 
     matched_if : (e d : Option Ex) → ((x : Ex) → e ≡ Some x → IsTyped x) → FormedOption P old inner (bare_if e) → Stands (parts_if P (type_in P m k) m k e)
-        → ResolvesIf O here bs (written_if P R0 H m old scope (bare_if e)) d → MatchesIf P U R g (bare_if e) (bare_if d)
+        → ResolvesIf O here bs (written_if P by_node H m old scope (bare_if e)) d → MatchesIf P U R g (bare_if e) (bare_if d)
     matched_if None d ty fo st r_none = m_none
     matched_if (Some e) d ty (f_some fe) st (r_some {x = x} r) = m_some (matched false e x (ty e refl) fe st r)
 
     field_target : (e b : Ex) (x : List ℕ) → is_some (field_in P (static P g (bare e)) x) ≡ true → Copies e b
-        → MatchesTarget P U R g (to_field bare_tag (bare e) x) (to_field bare_tag (bare b) (field_name P R0 H m old (static P g (bare e)) x))
+        → MatchesTarget P U R g (to_field bare_tag (bare e) x) (to_field bare_tag (bare b) (field_name P by_node H m old (static P g (bare e)) x))
     field_target e b x some me = go (field_in P (static P g (bare e)) x) refl
       where
         go : (o : Option ℕ) → field_in P (static P g (bare e)) x ≡ o
             → MatchesTarget P U R g (to_field bare_tag (bare e) x) (to_field bare_tag (bare b)
-            (option_map_or R0.field_name (field_in P (static P g (bare e)) x) x))
+            (option_map_or by_node.field_name (field_in P (static P g (bare e)) x) x))
         go None h = absurd (false≢true (sym (ap is_some h) ∙ some))
         go (Some f) h =
             subst (λ z. MatchesTarget P U R g (to_field bare_tag (bare e) x) (to_field bare_tag (bare b) z))
-            (sym (ap (λ z. option_map_or R0.field_name z x) h ∙ field_name_is P Q H T f)) (m_to_field me h)
+            (sym (ap (λ z. option_map_or by_node.field_name z x) h ∙ field_name_is P Q H T f)) (m_to_field me h)
 
     abbrev IsTarget : Target → Ex → Type 0
     IsTarget b x = MatchesTarget P U R g (bare_target b) (bare_target (target x))
 
     assigned : (p : Place) (b : Target) (e x d : Ex) → TypedTarget P g (bare_target b) → IsTyped e → FormedTarget P old inner (bare_target b)
         → IsFormedEx inner e
-        → Stands (parts_assign P (type_in P m k) m k p b e) → ResolvesTo O here bs (written_target P R0 H m old scope (bare_target b)) x
-        → ResolvesTo O here bs (text.written P R0 H m old scope (bare e)) d
+        → Stands (parts_assign P (type_in P m k) m k p b e) → ResolvesTo O here bs (written_target P by_node H m old scope (bare_target b)) x
+        → ResolvesTo O here bs (text.written P by_node H m old scope (bare e)) d
         → IsTarget b x × Copies e d
     assigned p (to_local t i) e x d tb te (f_to_local c l) fe st r re = (
       subst (λ z. IsTarget (to_local t i) z) (sym (at_local O here bs (variable_name old i) nowhere i x (s.found i c) r)) m_to_local,
@@ -129,7 +129,7 @@ module _ (Q : Plain) (H : Hierarchy) (U O : Plain) (T : Places) (K : KnowsNames 
     )
     assigned p (to_field t b x) e y d (t_to_field tb some) te (f_to_field fb n) fe st r re =
         let both = left (tree (is_accessed b) b ++ tree true e) _ st in
-        let z = at_field O here bs (text.written P R0 H m old scope (bare b)) (field_name P R0 H m old (static P g (bare b)) x) nowhere y
+        let z = at_field O here bs (text.written P by_node H m old scope (bare b)) (field_name P by_node H m old (static P g (bare b)) x) nowhere y
         (ex.no_class Q H U O T K formed m k stands here static_here owner inner scope bs s b fb) r in (
           subst (λ z. IsTarget (to_field t b x) z) (sym z.2) (field_target b z.0 x some
               (matched (is_accessed b) b z.0 tb fb (left (tree (is_accessed b) b) (tree true e) both) z.1)),
@@ -193,11 +193,11 @@ module _ (Q : Plain) (H : Hierarchy) (U O : Plain) (T : Places) (K : KnowsNames 
 
   -- a local has the type of its row
   local_kept : (bs : List Bound) (i : ℕ) (v : PlainLocal) → slice_get (variables_of old) i ≡ Some v
-      → IsLocal O new bs (written_type P H (R0.row_type (variable_row m old i)) v.ty) v.name nowhere i → IsRetyped i
+      → IsLocal O new bs (written_type P H (by_node.row_type (variable_row m old i)) v.ty) v.name nowhere i → IsRetyped i
   local_kept bs i v e l = record {
     kept = λ w ew.
         let same = same_Some v w (sym e ∙ ew) in
-        let is = means_is O P H T K.type K.no_text (R0.row_type (variable_row m old i)) v.ty l.ty
+        let is = means_is O P H T K.type K.no_text (by_node.row_type (variable_row m old i)) v.ty l.ty
         (λ c b. let r = found.variable_has Q H U O T K formed m k stands i v c e b in (r.node, r.is, r.live)) l.means in (
           record { name = v.name; ty = l.ty; tag = at_place nowhere },
           l.stands,
@@ -211,10 +211,10 @@ module _ (Q : Plain) (H : Hierarchy) (U O : Plain) (T : Places) (K : KnowsNames 
       → ((x : Ex) → e ≡ Some x → IsTyped x) → FormedOption P old (i ∷ inner) (bare_if e) → Stands (parts_if P (type_in P m k) m k e)
       → Scoped old inner scope bs
       → Counts a (i ∷ []) b → Counts a (declares y) c
-      → StResolves O here new q bs (LocalOf false (written_type P H (R0.row_type (variable_row m old i)) v.ty) v.name
-      (written_if P R0 H m old (scope ++ i ∷ []) (bare_if e)) nowhere) y
-      → After inner scope bs (declare t i e) (LocalOf false (written_type P H (R0.row_type (variable_row m old i)) v.ty) v.name
-      (written_if P R0 H m old (scope ++ i ∷ []) (bare_if e)) nowhere) y a b c
+      → StResolves O here new q bs (LocalOf false (written_type P H (by_node.row_type (variable_row m old i)) v.ty) v.name
+      (written_if P by_node H m old (scope ++ i ∷ []) (bare_if e)) nowhere) y
+      → After inner scope bs (declare t i e) (LocalOf false (written_type P H (by_node.row_type (variable_row m old i)) v.ty) v.name
+      (written_if P by_node H m old (scope ++ i ∷ []) (bare_if e)) nowhere) y a b c
   declared inner scope bs q t i e v y a b c there ty fo st s cb cc1 (r_declare {x = x} {i = j} l r) =
       let one = counts_one i a b cb in
       let two = counts_one j a c cc1 in
@@ -229,16 +229,16 @@ module _ (Q : Plain) (H : Hierarchy) (U O : Plain) (T : Places) (K : KnowsNames 
       }) cc1 l r
     where
       u : TypeName
-      u = written_type P H (R0.row_type (variable_row m old i)) v.ty
+      u = written_type P H (by_node.row_type (variable_row m old i)) v.ty
 
       w : Option Expression
-      w = written_if P R0 H m old (scope ++ i ∷ []) (bare_if e)
+      w = written_if P by_node H m old (scope ++ i ∷ []) (bare_if e)
 
   -- how a local is written, where it stands
   abbrev text_local : List ℕ → ℕ → Option Ex → Option PlainLocal → Statement
   text_local scope i e o =
-      option_map_or (λ v. LocalOf false (written_type P H (R0.row_type (variable_row m old i)) v.ty) v.name
-      (written_if P R0 H m old (scope ++ i ∷ []) (bare_if e)) nowhere) o (BlockOf no_statements nowhere)
+      option_map_or (λ v. LocalOf false (written_type P H (by_node.row_type (variable_row m old i)) v.ty) v.name
+      (written_if P by_node H m old (scope ++ i ∷ []) (bare_if e)) nowhere) o (BlockOf no_statements nowhere)
 
   loop_scope : (bs : List Bound) (f : OptionalStatement) (v : Option Expression) (h : OptionalStatement) (ss : Statements) (y : St)
       → names.scope_after bs (loop_tree f v h ss) y ≡ bs
@@ -256,8 +256,8 @@ module _ (Q : Plain) (H : Hierarchy) (U O : Plain) (T : Places) (K : KnowsNames 
   mutual
     st : (l q : Bool) (inner scope : List ℕ) (bs : List Bound) (x y : St) (a b c : ℕ) → TypedSt P g (bare_st x) → FormedSt P old l inner (bare_st x)
         → Stands (parts_st P (type_in P m k) m k x) → Scoped old inner scope bs
-        → Counts a (declares (bare_st x)) b → Counts a (declares y) c → StResolves O here new q bs (written_st P R0 H m old scope (bare_st x)) y
-        → After inner scope bs x (written_st P R0 H m old scope (bare_st x)) y a b c
+        → Counts a (declares (bare_st x)) b → Counts a (declares y) c → StResolves O here new q bs (written_st P by_node H m old scope (bare_st x)) y
+        → After inner scope bs x (written_st P by_node H m old scope (bare_st x)) y a b c
     st l q inner scope bs (declare t i None) y a b c ty (f_declare n fo) ps s cb cd r =
         subst (λ z. After inner scope bs (declare t i None) (text_local scope i None z) y a b c) (sym n.declared)
         (declared inner scope bs q t i None n.variable y a b c n.declared none_typed fo ps s cb cd
@@ -283,10 +283,10 @@ module _ (Q : Plain) (H : Hierarchy) (U O : Plain) (T : Places) (K : KnowsNames 
     st l q inner scope bs (loop t head test step code) y a b c (t_loop th tt tp tb) (f_loop one two fh ft fp fb) ps s cb cd r =
         let three = left (sts_parts head ++ parts_if P (type_in P m k) m k test ++ sts_parts step) (sts_parts code) ps in
         let both = left (sts_parts head ++ parts_if P (type_in P m k) m k test) (sts_parts step) three in
-        let w = loop_parts q bs (written_part P R0 H m old scope (bare_sts head))
-        (written_if P R0 H m old (text.scope_after_part scope (bare_sts head)) (bare_if test))
-        (written_part P R0 H m old (text.scope_after_part scope (bare_sts head)) (bare_sts step))
-        (written_sts P R0 H m old (text.scope_after_part scope (bare_sts head)) (bare_sts code)) y r in
+        let w = loop_parts q bs (written_part P by_node H m old scope (bare_sts head))
+        (written_if P by_node H m old (text.scope_after_part scope (bare_sts head)) (bare_if test))
+        (written_part P by_node H m old (text.scope_after_part scope (bare_sts head)) (bare_sts step))
+        (written_sts P by_node H m old (text.scope_after_part scope (bare_sts head)) (bare_sts code)) y r in
         let o = counts_split (declares_all (bare_sts head) ++ declares_all (bare_sts step)) (declares_all (bare_sts code)) a b cb in
         let o1 = counts_split (declares_all (bare_sts head)) (declares_all (bare_sts step)) a o.0 o.1 in
         let n = counts_split (declares_all w.first ++ declares_all w.step) (declares_all w.code) a c (subst (λ z. Counts a (declares z) c) w.is cd) in
@@ -321,8 +321,8 @@ module _ (Q : Plain) (H : Hierarchy) (U O : Plain) (T : Places) (K : KnowsNames 
     part : (l q : Bool) (inner scope : List ℕ) (bs : List Bound) (xs ys : Sts) (a b c : ℕ) (p : St → Bool) → is_at_most_one p (bare_sts xs) ≡ true
         → TypedSts P g (bare_sts xs) → FormedSts P old l inner (bare_sts xs)
         → Stands (sts_parts xs) → Scoped old inner scope bs → Counts a (declares_all (bare_sts xs)) b → Counts a (declares_all ys) c
-        → PartResolves O here new q bs (written_part P R0 H m old scope (bare_sts xs)) ys
-        → AfterPart inner scope bs xs (written_part P R0 H m old scope (bare_sts xs)) ys a b c
+        → PartResolves O here new q bs (written_part P by_node H m old scope (bare_sts xs)) ys
+        → AfterPart inner scope bs xs (written_part P by_node H m old scope (bare_sts xs)) ys a b c
     part l q inner scope bs no_st ys a b c p one ty fo ps s cb cd r_absent = record { matches = m_no_st; ends = ends_none IsRetyped a b c cb cd; after = s }
     part l q inner scope bs (st_then x no_st) ys a b c p one (t_st_then tx txs) (f_st_then fx fxs) ps s cb cd (r_present {x = y} r) =
         let o = counts_split (declares (bare_st x)) [] a b cb in
@@ -339,7 +339,7 @@ module _ (Q : Plain) (H : Hierarchy) (U O : Plain) (T : Places) (K : KnowsNames 
     pub sts : (l q : Bool) (inner scope : List ℕ) (bs : List Bound) (xs ys : Sts) (a b c : ℕ) → TypedSts P g (bare_sts xs)
         → FormedSts P old l inner (bare_sts xs) → Stands (sts_parts xs) → Scoped old inner scope bs
         → Counts a (declares_all (bare_sts xs)) b → Counts a (declares_all ys) c
-        → StsResolve O here new q bs (written_sts P R0 H m old scope (bare_sts xs)) ys
+        → StsResolve O here new q bs (written_sts P by_node H m old scope (bare_sts xs)) ys
         → MatchesSts P U R g (bare_sts xs) (bare_sts ys) × Ended a b c
     sts l q inner scope bs no_st ys a b c ty fo ps s cb cd r_no_statements = (m_no_st, ends_none IsRetyped a b c cb cd)
     sts l q inner scope bs (st_then x xs) zs a b c (t_st_then tx txs) (f_st_then fx fxs) ps s cb cd (r_and_then {x = y} {xs = ys} ry rys) =
@@ -353,7 +353,7 @@ module _ (Q : Plain) (H : Hierarchy) (U O : Plain) (T : Places) (K : KnowsNames 
     arms : (l q : Bool) (inner scope : List ℕ) (bs : List Bound) (xs ys : Arms) (a b c : ℕ) → TypedArms P g (bare_arms xs)
         → FormedArms P old l inner (bare_arms xs) → Stands (arms_parts xs) → Scoped old inner scope bs
         → Counts a (declares_arms (bare_arms xs)) b → Counts a (declares_arms ys) c
-        → ArmsResolve O here new q bs (written_arms P R0 H m old scope (bare_arms xs)) (written_else P R0 H m old scope (bare_arms xs)) ys
+        → ArmsResolve O here new q bs (written_arms P by_node H m old scope (bare_arms xs)) (written_else P by_node H m old scope (bare_arms xs)) ys
         → MatchesArms P U R g (bare_arms xs) (bare_arms ys) × Ended a b c
     arms l q inner scope bs (otherwise no_st) zs a b c ty fo ps s cb cd r_no_else = (m_otherwise m_no_st, ends_none IsRetyped a b c cb cd)
     arms l q inner scope bs (otherwise (st_then x xs)) zs a b c (t_otherwise ty) (f_otherwise fo) ps s cb cd (r_else {xs = ys} r) =

@@ -26,7 +26,7 @@ use Rattle.written_tree.specs.Members.{field_member, static_field_member, class_
 use Rattle.written_tree.specs.Written.{type_tree, java_tree}
 use Rattle.tree_rebuilds.proofs.Outlined.{field_there, field_back, member_field_from, member_field_has}
 use Rattle.tree_rebuilds.proofs.Apart.{any_there, holder_class}
-use Rattle.tree_rebuilds.proofs.Nodes.{R0, items, tree, node_tree, old_tree, node_at, holder_at, node_number, holder_number, Declares, a_node, a_holder, declares}
+use Rattle.tree_rebuilds.proofs.Nodes.{by_node, items, tree, node_tree, old_tree, node_at, holder_at, node_number, holder_number, Declares, a_node, a_holder, declares}
 use Rattle.tree_rebuilds.proofs.Members.{IsMember, a_field, a_body, a_head, a_filler, class_from, field_has, IsStatic, a_static_field, a_static_method, holder_from, static_field_has}
 use Rattle.tree_rebuilds.proofs.Retyped.{field_row, type_is}
 use Rattle.tree_rebuilds.proofs.Given.{Given, T, Stands, stands_from, column_there, class_there}
@@ -39,7 +39,7 @@ module _ (P Q : Plain) (F : Facts) (pt : PointsTo) (H : Hierarchy) (V : Plain) (
   U = untagged V
 
   abbrev R₀ : Renaming
-  R₀ = R0 P Q F H
+  R₀ = by_node P Q F H
 
   abbrev IsOldField : ℕ → PlainField → Type 0
   IsOldField f k = IsField P Q F H U (T P Q F pt H V G) f k

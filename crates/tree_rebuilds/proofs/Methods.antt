@@ -34,7 +34,7 @@ use Rattle.written_tree.specs.Names.{nowhere, modifier}
 use Rattle.written_tree.specs.Members.{is_declaration, filling, head, body, class_members, interface_heads, is_first_there}
 use Rattle.written_tree.specs.Written.{class_modifiers, type_tree, java_tree}
 use Rattle.tree_rebuilds.proofs.Outlined.{IsResolved, method_there, member_method_has}
-use Rattle.tree_rebuilds.proofs.Nodes.{R0, items, tree, node_tree, node_at, node_number}
+use Rattle.tree_rebuilds.proofs.Nodes.{by_node, items, tree, node_tree, node_at, node_number}
 use Rattle.tree_rebuilds.proofs.Members.{IsHeadTree, IsHeadAt, body_has, head_has, filler_has, interface_has, in_class, as_filler}
 use Rattle.tree_rebuilds.proofs.Given.{Given, T, Stands, columns, at_from, column_there, class_there}
 use Rattle.tree_rebuilds.proofs.Resolved.{BodiesMatch, owner_is, name_is, static_is, bodyless, bodied, types_are, slot_types_are, code_is}
@@ -63,7 +63,7 @@ module _ (P Q : Plain) (F : Facts) (pt : PointsTo) (H : Hierarchy) (V : Plain) (
   U = untagged V
 
   abbrev R₀ : Renaming
-  R₀ = R0 P Q F H
+  R₀ = by_node P Q F H
 
   abbrev Rs : MethodAt → ℕ → Type 0
   Rs m g = IsResolved (java_tree P Q F H) V G.resolves G.new m g

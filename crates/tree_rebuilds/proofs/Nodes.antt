@@ -41,33 +41,33 @@ module _ (P Q : Plain) (F : Facts) (H : Hierarchy) where
   items = map (λ c. c.item) (columns_of P Q)
 
   -- the new names, with nodes in place of types
-  abbrev pub R0 : Renaming
-  R0 = renaming_of P Q H by_number
+  abbrev pub by_node : Renaming
+  by_node = renaming_of P Q H by_number
 
   abbrev pub tree : List DeclTree
   tree = java_tree P Q F H
 
   abbrev pub node_tree : ℕ → DeclTree
-  node_tree n = type_tree P R0 F H items (is_class_node F H n) n
+  node_tree n = type_tree P by_node F H items (is_class_node F H n) n
 
   abbrev pub old_tree : ℕ → PlainClass → DeclTree
-  old_tree c k = holder_tree P R0 H c k
+  old_tree c k = holder_tree P by_node H c k
 
   abbrev pub nodes : List DeclTree
-  nodes = type_trees P R0 F H items
+  nodes = type_trees P by_node F H items
 
   abbrev pub holders : List DeclTree
-  holders = holder_trees P R0 H
+  holders = holder_trees P by_node H
 
   pub tree_is : tree ≡ nodes ++ holders
   unfolding java_tree
   tree_is = refl
 
-  pub tree_name : (b : Bool) (n : ℕ) → name_of (type_tree P R0 F H items b n) ≡ type_name H n
+  pub tree_name : (b : Bool) (n : ℕ) → name_of (type_tree P by_node F H items b n) ≡ type_name H n
   tree_name true n = refl
   tree_name false n = refl
 
-  tree_kind : (b : Bool) (n : ℕ) → is_interface_of (type_tree P R0 F H items b n) ≡ not b
+  tree_kind : (b : Bool) (n : ℕ) → is_interface_of (type_tree P by_node F H items b n) ≡ not b
   tree_kind true n = refl
   tree_kind false n = refl
 
@@ -75,7 +75,7 @@ module _ (P Q : Plain) (F : Facts) (H : Hierarchy) where
   made_word true = refl
   made_word false = refl
 
-  tree_abstract : (b : Bool) (n : ℕ) → b ≡ true → has_word is_abstract_word (mods_of (type_tree P R0 F H items b n)) ≡ not (is_made_at F H n)
+  tree_abstract : (b : Bool) (n : ℕ) → b ≡ true → has_word is_abstract_word (mods_of (type_tree P by_node F H items b n)) ≡ not (is_made_at F H n)
   tree_abstract true n h = made_word (is_made_at F H n)
   tree_abstract false n h = absurd (false≢true h)
 

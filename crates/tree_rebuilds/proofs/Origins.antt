@@ -25,7 +25,7 @@ use Rattle.written_tree.specs.Members.{filling, head, body, static_method_member
 use Rattle.written_tree.specs.Written.{type_tree, java_tree}
 use Rattle.tree_rebuilds.proofs.Outlined.{IsResolved, method_there, method_back, member_method_from, member_method_has}
 use Rattle.tree_rebuilds.proofs.Apart.{any_there, holder_class}
-use Rattle.tree_rebuilds.proofs.Nodes.{R0, items, tree, node_tree, old_tree, holder_at, holder_number, Declares, a_node, a_holder, declares}
+use Rattle.tree_rebuilds.proofs.Nodes.{by_node, items, tree, node_tree, old_tree, holder_at, holder_number, Declares, a_node, a_holder, declares}
 use Rattle.tree_rebuilds.proofs.Members.{IsMember, a_field, a_body, a_head, a_filler, class_from, interface_from, in_class as class_mods, IsStatic, a_static_field, a_static_method, holder_from, static_method_has}
 use Rattle.tree_rebuilds.proofs.Given.{Given, T, stands_from}
 use Rattle.tree_rebuilds.proofs.Resolved.{BodiesMatch, owner_is, name_is, static_is, types_are, code_is}
@@ -36,7 +36,7 @@ module _ (P Q : Plain) (F : Facts) (pt : PointsTo) (H : Hierarchy) (V : Plain) (
   U = untagged V
 
   abbrev R₀ : Renaming
-  R₀ = R0 P Q F H
+  R₀ = by_node P Q F H
 
   abbrev Rs : MethodAt → ℕ → Type 0
   Rs m g = IsResolved (java_tree P Q F H) V G.resolves G.new m g

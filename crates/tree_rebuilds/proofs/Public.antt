@@ -35,7 +35,7 @@ use Rattle.written_tree.specs.Names.{modifier}
 use Rattle.written_tree.specs.Members.{filling, head, body, class_members, interface_heads, holder_members}
 use Rattle.written_tree.specs.Written.{type_tree, java_tree}
 use Rattle.tree_rebuilds.proofs.Outlined.{IsResolved, method_back, member_method_from}
-use Rattle.tree_rebuilds.proofs.Nodes.{R0, items, tree, node_tree, node_number, node_type, nodes_once, Declares, a_node, a_holder, declares}
+use Rattle.tree_rebuilds.proofs.Nodes.{by_node, items, tree, node_tree, node_number, node_type, nodes_once, Declares, a_node, a_holder, declares}
 use Rattle.tree_rebuilds.proofs.Members.{IsHeadTree, IsMember, a_field, a_body, a_head, a_filler, class_from, as_filler, IsStatic, a_static_field, a_static_method, holder_from}
 use Rattle.tree_rebuilds.proofs.Given.{Given, T, R, Stands, columns, stands_from, column_there, offered_there}
 use Rattle.tree_rebuilds.proofs.Resolved.{owner_is, name_is, static_is, public_is, bodyless, types_are}
@@ -47,7 +47,7 @@ module _ (P Q : Plain) (F : Facts) (pt : PointsTo) (H : Hierarchy) (V : Plain) (
   U = untagged V
 
   abbrev R₀ : Renaming
-  R₀ = R0 P Q F H
+  R₀ = by_node P Q F H
 
   abbrev IsOpen : MethodAt → Type 0
   IsOpen x = has_word is_public_word x.head.mods ≡ true

@@ -32,7 +32,7 @@ use Rattle.written_tree.specs.Bodies.{written_sts}
 use Rattle.written_tree.specs.Members.{param, head, body, parameters}
 use Rattle.written_tree.specs.Written.{java_tree}
 use Rattle.tree_rebuilds.proofs.Outlined.{IsResolved}
-use Rattle.tree_rebuilds.proofs.Nodes.{R0}
+use Rattle.tree_rebuilds.proofs.Nodes.{by_node}
 use Rattle.tree_rebuilds.proofs.Retyped.{HasRow, variable_has_row, result_has_row, type_is}
 use Rattle.tree_rebuilds.proofs.Given.{Given, T, R}
 
@@ -60,39 +60,39 @@ module _ (P Q : Plain) (F : Facts) (pt : PointsTo) (H : Hierarchy) (V : Plain) (
   BodiesMatch = (m : ℕ) (k : PlainMethod) (xs : Sts) (here : Here) (new : PlainMethod) (ys : Sts) → slice_get P.methods m ≡ Some k → k.body ≡ Some xs
       → here.is_static ≡ k.is_static → (k.is_static ≡ true → here.owner ≡ (T P Q F pt H V G).holder_of k.owner)
       → map (λ v. v.name) new.params ≡ map (λ v. v.name) k.params
-      → StsResolve O here new false (params_from 0 new.params) (written_sts P (R0 P Q F H) H m k (parameters 0 k.params) xs) ys
+      → StsResolve O here new false (params_from 0 new.params) (written_sts P (by_node P Q F H) H m k (parameters 0 k.params) xs) ys
       → Counts (length new.params) (declares_all ys) (length (variables_of new))
       → MatchesSts P U (R P Q F pt H V G) (env_of m k) xs (bare_sts ys) × (types_of new.locals ≡ new_types (R P Q F pt H V G) m k (length k.params) k.locals)
 
   -- ---- the types of a head
 
   param_names : (m : ℕ) (k : PlainMethod) (n : ℕ) (vs : List PlainLocal)
-      → map (λ v. v.name) (map (param_outline types) (each (λ i v. param P (R0 P Q F H) H m k i v ∷ []) n vs)) ≡ map (λ v. v.name) vs
+      → map (λ v. v.name) (map (param_outline types) (each (λ i v. param P (by_node P Q F H) H m k i v ∷ []) n vs)) ≡ map (λ v. v.name) vs
   param_names m k n [] = refl
   param_names m k n (v ∷ vs) = ap (λ z. v.name ∷ z) (param_names m k (n + 1) vs)
 
   param_types : (m : ℕ) (k : PlainMethod) (n : ℕ) (vs : List PlainLocal)
       → ((i j : ℕ) (v : PlainLocal) → j ≡ n + i → slice_get vs i ≡ Some v → (t : ObjectType) → object_of v.ty ≡ Some t → HasRow P Q (variable_row m k j))
-      → types_of (map (param_outline types) (each (λ i v. param P (R0 P Q F H) H m k i v ∷ []) n vs)) ≡ new_types (R P Q F pt H V G) m k n vs
+      → types_of (map (param_outline types) (each (λ i v. param P (by_node P Q F H) H m k i v ∷ []) n vs)) ≡ new_types (R P Q F pt H V G) m k n vs
   param_types m k n [] f = refl
   param_types m k n (v ∷ vs) f =
-      ap (λ t. t ∷ types_of (map (param_outline types) (each (λ i v. param P (R0 P Q F H) H m k i v ∷ []) (n + 1) vs)))
+      ap (λ t. t ∷ types_of (map (param_outline types) (each (λ i v. param P (by_node P Q F H) H m k i v ∷ []) (n + 1) vs)))
       (type_is P Q F G.facts H G.hierarchy V G.resolves G.new pt G.unbroken (variable_row m k n) v.ty (f 0 n v (omega arith) refl))
       ∙ ap (λ z. retyped ((R P Q F pt H V G).row_type (variable_row m k n)) v.ty ∷ z)
       (param_types m k (n + 1) vs (λ i j w e d. f (suc i) j w (omega (arith, e)) d))
 
   head_params : (m : ℕ) (k : PlainMethod) → slice_get P.methods m ≡ Some k
-      → types_of (map (param_outline types) (each (λ i v. param P (R0 P Q F H) H m k i v ∷ []) 0 k.params)) ≡ new_types (R P Q F pt H V G) m k 0 k.params
+      → types_of (map (param_outline types) (each (λ i v. param P (by_node P Q F H) H m k i v ∷ []) 0 k.params)) ≡ new_types (R P Q F pt H V G) m k 0 k.params
   head_params m k e = param_types m k 0 k.params (λ i j v d s t o.
       variable_has_row P Q G.same G.formed m k j v e (get_left k.params k.locals j v (ap (slice_get k.params) (omega (arith, d)) ∙ s)) t o)
 
   head_result : (m : ℕ) (k : PlainMethod) → slice_get P.methods m ≡ Some k
-      → option_map (type_meant types) (option_map (written_type P H ((R0 P Q F H).row_type (result_in k.slot m))) k.result) ≡ retyped_if
+      → option_map (type_meant types) (option_map (written_type P H ((by_node P Q F H).row_type (result_in k.slot m))) k.result) ≡ retyped_if
       ((R P Q F pt H V G).row_type (result_in k.slot m)) k.result
   head_result m k e = go k.result refl
     where
       go : (o : Option Ty) → k.result ≡ o → option_map (type_meant types)
-          (option_map (written_type P H ((R0 P Q F H).row_type (result_in k.slot m))) o) ≡ retyped_if ((R P Q F pt H V G).row_type (result_in k.slot m)) o
+          (option_map (written_type P H ((by_node P Q F H).row_type (result_in k.slot m))) o) ≡ retyped_if ((R P Q F pt H V G).row_type (result_in k.slot m)) o
       go None d = refl
       go (Some u) d = ap Some (type_is P Q F G.facts H G.hierarchy V G.resolves G.new pt G.unbroken (result_in k.slot m) u
           (λ t o. result_has_row P Q G.same G.formed m k e t (ap (λ z. object_if z) d ∙ o)))
@@ -153,7 +153,7 @@ module _ (P Q : Plain) (F : Facts) (pt : PointsTo) (H : Hierarchy) (V : Plain) (
         go (r_body a b c d) = ap (λ o. is_some (untag_body o)) b
 
     pub types_are : (mods : List Modifier) (name : List ℕ) (m : ℕ) (k : PlainMethod) → slice_get P.methods m ≡ Some k
-        → at.head ≡ head P (R0 P Q F H) H mods name m k
+        → at.head ≡ head P (by_node P Q F H) H mods name m k
         → HasTypes (R P Q F pt H V G) m k made
     types_are mods name m k e h = record {
       params = params_is ∙ ap (λ (z : HeadTree). types_of (map (param_outline types) z.params)) h ∙ head_params m k e;
@@ -161,7 +161,7 @@ module _ (P Q : Plain) (F : Facts) (pt : PointsTo) (H : Hierarchy) (V : Plain) (
     }
 
     pub slot_types_are : (mods : List Modifier) (name : List ℕ) (m s : ℕ) (k : PlainMethod) (slot : PlainSlot) → slice_get P.methods m ≡ Some k
-        → at.head ≡ head P (R0 P Q F H) H mods name m k
+        → at.head ≡ head P (by_node P Q F H) H mods name m k
         → k.slot ≡ Some s → types_of k.params ≡ slot.params → k.result ≡ slot.result → HasSlotTypes (R P Q F pt H V G) s slot made
     slot_types_are mods name m s k slot e h o p q =
         let t = types_are mods name m k e h in
@@ -171,26 +171,26 @@ module _ (P Q : Plain) (F : Facts) (pt : PointsTo) (H : Hierarchy) (V : Plain) (
               ∙ ap (retyped_if ((R P Q F pt H V G).row_type (row.Return s))) q;
         }
 
-    param_names_are : (mods : List Modifier) (name : List ℕ) (m : ℕ) (k : PlainMethod) → at.head ≡ head P (R0 P Q F H) H mods name m k
+    param_names_are : (mods : List Modifier) (name : List ℕ) (m : ℕ) (k : PlainMethod) → at.head ≡ head P (by_node P Q F H) H mods name m k
         → map (λ v. v.name) r.method.params ≡ map (λ v. v.name) k.params
     param_names_are mods name m k h =
         ap (λ (z : PlainMethod). map (λ v. v.name) z.params) r.heading ∙ ap (λ (z : HeadTree). map (λ v. v.name) (map (param_outline types) z.params)) h
         ∙ param_names m k 0 k.params
 
     pub code_is : BodiesMatch → (mods : List Modifier) (name : List ℕ) (m : ℕ) (k : PlainMethod) (xs : Sts) → slice_get P.methods m ≡ Some k → k.body ≡ Some xs
-        → at.head ≡ head P (R0 P Q F H) H mods name m k → at.body ≡ body P (R0 P Q F H) H m k → is_static at ≡ k.is_static
+        → at.head ≡ head P (by_node P Q F H) H mods name m k → at.body ≡ body P (by_node P Q F H) H m k → is_static at ≡ k.is_static
         → (k.is_static ≡ true → at.owner ≡ (T P Q F pt H V G).holder_of k.owner)
         → HasCode P U (R P Q F pt H V G) m k made
     unfolding BodiesMatch
     code_is match mods name m k xs e b h c st ow = go r.body
       where
-        is : at.body ≡ Some (written_sts P (R0 P Q F H) H m k (parameters 0 k.params) xs)
-        is = c ∙ ap (option_map (written_sts P (R0 P Q F H) H m k (parameters 0 k.params))) b
+        is : at.body ≡ Some (written_sts P (by_node P Q F H) H m k (parameters 0 k.params) xs)
+        is = c ∙ ap (option_map (written_sts P (by_node P Q F H) H m k (parameters 0 k.params))) b
 
         go : BodyResolves O at r.method → HasCode P U (R P Q F pt H V G) m k made
         go (r_no_body a _ _) = absurd (cc (is, a))
         go (r_body {ss = ss} {xs = ys} a d resolved counts) =
-            let same : ss ≡ written_sts P (R0 P Q F H) H m k (parameters 0 k.params) xs = same_Some _ _ (sym a ∙ is) in
+            let same : ss ≡ written_sts P (by_node P Q F H) H m k (parameters 0 k.params) xs = same_Some _ _ (sym a ∙ is) in
             let z = match m k xs (here_of at) r.method ys e b st ow (param_names_are mods name m k h)
             (subst (λ w. StsResolve O (here_of at) r.method false (params_from 0 r.method.params) w ys) same resolved) counts in
             record {

@@ -30,7 +30,7 @@ use Rattle.rebuild_model.specs.Renaming.{Places, Renaming, renaming_of, reclasse
 use Rattle.written_tree.specs.Names.{written_base, written_type}
 use Rattle.written_tree.specs.Written.{java_tree}
 use Rattle.tree_rebuilds.proofs.Apart.{no_text}
-use Rattle.tree_rebuilds.proofs.Nodes.{places, node_named, R0}
+use Rattle.tree_rebuilds.proofs.Nodes.{places, node_named, by_node}
 
 -- ---- what has a class type has a row
 
@@ -128,7 +128,7 @@ module _ (P Q : Plain) (F : Facts) (facts : IsFactsOf P Q F) (H : Hierarchy) (hi
     unfolding renaming_of numbers
     row_type i r e = ap (λ o. option_map (λ r. T.type_of (place_of_row H r)) o) e
 
-    row_node : (i : RowItem) (r : Option ℕ) → row_number P Q i ≡ r → (R0 P Q F H).row_type i ≡ option_map (place_of_row H) r
+    row_node : (i : RowItem) (r : Option ℕ) → row_number P Q i ≡ r → (by_node P Q F H).row_type i ≡ option_map (place_of_row H) r
     unfolding renaming_of numbers
     row_node i r e = ap (λ o. option_map (place_of_row H) o) e
 
@@ -147,7 +147,7 @@ module _ (P Q : Plain) (F : Facts) (facts : IsFactsOf P Q F) (H : Hierarchy) (hi
 
     -- the type of an item that has a row where it has a class type
     pub type_is : (i : RowItem) (t : Ty) → ((o : ObjectType) → object_of t ≡ Some o → HasRow P Q i)
-        → type_meant types (written_type P H ((R0 P Q F H).row_type i) t) ≡ retyped (R.row_type i) t
+        → type_meant types (written_type P H ((by_node P Q F H).row_type i) t) ≡ retyped (R.row_type i) t
     type_is i t f =
         ap (λ (o : Option ℕ). type_meant types (written_type P H o t)) (row_node i (row_number P Q i) refl)
         ∙ ap (λ (b : TyBase). record { base = b; dim = t.dim }) (base_is i t.base t.dim (row_number P Q i) refl f)

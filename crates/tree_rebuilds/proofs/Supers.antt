@@ -28,7 +28,7 @@ use Rattle.tree_rebuilds.proofs.Covers.{count, subtype_of_le, names_le}
 use Rattle.tree_rebuilds.proofs.Chains.{class_down, chained}
 use Rattle.tree_rebuilds.proofs.Order.{ordered, cover_from, cover_is, superclass_is, superclass_from, among_from, among_has}
 use Rattle.tree_rebuilds.proofs.Outlined.{class_there}
-use Rattle.tree_rebuilds.proofs.Nodes.{R0, items, node_tree, node_at, node_number, places, nodes_once}
+use Rattle.tree_rebuilds.proofs.Nodes.{by_node, items, node_tree, node_at, node_number, places, nodes_once}
 
 module _ (P Q : Plain) (F : Facts) (H : Hierarchy) (V : Plain) (resolves : Resolves (java_tree P Q F H) V) (new : IsFormed (untagged V))
     (order : IsPartialOrder H.order) (pt : PointsTo) (none : first_broken F pt H ≡ None) where
@@ -45,7 +45,7 @@ module _ (P Q : Plain) (F : Facts) (H : Hierarchy) (V : Plain) (resolves : Resol
   class = is_class_node F H
 
   abbrev shown : Bool → ℕ → DeclTree
-  shown b n = type_tree P (R0 P Q F H) F H (items P Q F H) b n
+  shown b n = type_tree P (by_node P Q F H) F H (items P Q F H) b n
 
   abbrev super_ids : Bool → ℕ → List ClassId
   super_ids b n = parent_meant types (parent_named (shown b n)) ∷ map (id_meant types) (faces_named (shown b n))

@@ -22,12 +22,12 @@ use Rattle.written_tree.specs.Names.{nowhere, modifier, written_type}
 use Rattle.written_tree.specs.Members.{head, body, filling, class_members, interface_heads, holder_members}
 use Rattle.written_tree.specs.Written.{class_modifiers, type_tree}
 use Rattle.tree_rebuilds.proofs.Outlined.{field_from, method_from, member_field_from, member_method_from}
-use Rattle.tree_rebuilds.proofs.Nodes.{items, R0, tree, node_tree, old_tree, Declares, a_node, a_holder, declares}
+use Rattle.tree_rebuilds.proofs.Nodes.{items, by_node, tree, node_tree, old_tree, Declares, a_node, a_holder, declares}
 use Rattle.tree_rebuilds.proofs.Members.{IsHeadTree, IsHeadAt, IsMember, a_field, a_body, a_head, a_filler, in_class, as_filler, class_from, interface_from, IsStatic, a_static_field, a_static_method, holder_from}
 
 module _ (P Q : Plain) (F : Facts) (H : Hierarchy) where
   abbrev pub R : Renaming
-  R = R0 P Q F H
+  R = by_node P Q F H
 
   abbrev pub old_words : List Modifier
   old_words = modifier Public ∷ modifier Static ∷ []
