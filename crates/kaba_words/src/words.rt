@@ -1,9 +1,9 @@
 //! The words of the command line.
 #![tactic(auto)]
 
-ghost use Rattle.std.specs.Prelude.{◌≡◌, ◌∷◌, ◌≤◌, ℕ, Bool, true, List, [], Err, IfOk, MatchOption, IsTrue, ◌↔◌, length, codes};
+ghost use Rattle.std.specs.Prelude.{◌≡◌, ◌∷◌, ◌≤◌, ℕ, Bool, true, List, [], Err, IfOk, MatchOption, IsTrue, ◌↔◌, length, codes, string_bytes};
 ghost use Rattle.std.specs.List.{All};
-ghost use Rattle.kaba_words.specs.Commands.{Cmd, texts, command_of, IsNumber, Fits, FitsNone, FitsRun, TakesFlag, BoundAfter, TakesBound, FitsLattice, NoEdit, most_units};
+ghost use Rattle.kaba_words.specs.Commands.{Cmd, texts, command_of, IsNumber, Fits, FitsNone, FitsRun, TakesFlag, BoundAfter, TakesBound, FitsLattice, FitsEdit, NoEdit, FitsMake, NoMake, most_units};
 ghost use Rattle.kaba_words.specs.declared.words.WordsFault.TheVariants as WordsFault;
 
 use std::alloc::{AllocError, Global};
@@ -19,6 +19,10 @@ pub enum Command {
     Lattice(bool, u32, String),
     /// `edit [-c N] FILE SCRIPT`: the hierarchy of the file's program after the edits of the script.
     Edit(u32, String, String),
+    /// `regen [-c N] FILE SCRIPT`: the program that is written of that hierarchy, once its classes are a tree.
+    Regen(u32, String, String),
+    /// `make [-p] NUMBER`: what the whole job comes to on the sample program of that size, or its text.
+    Make(bool, u32),
     /// `--help`: what the program takes and gives.
     Help,
     /// `--version`: which version it is.
@@ -214,9 +218,17 @@ fn read_lattice(alloc: Global, mut arguments: Arguments<'_>) -> Result<Command, 
     Ok(Command::Lattice(json, bound, String::from_str(alloc, file)?))
 }
 
-/// The command `edit`, of which the words after its name are left.
-fn read_edit(alloc: Global, mut arguments: Arguments<'_>) -> Result<Command, WordsFault>
-    ensures command { IfOk result (λ command. Fits (codes "edit" ∷ texts arguments.entry.words.now) (command_of command)) }
+/// The words after `edit` and `regen`.
+#[derive(Drop)]
+struct Files {
+    bound: u32,
+    file: String,
+    script: String,
+}
+
+/// How many concepts are allowed, a file and a script.
+fn read_files(alloc: Global, mut arguments: Arguments<'_>) -> Result<Files, WordsFault>
+    ensures files { IfOk result (λ files. FitsEdit (texts arguments.entry.words.now) files.bound (string_bytes files.file) (string_bytes files.script)) }
     ensures usage { result ≡ Err WordsFault.Usage → NoEdit (texts arguments.entry.words.now) }
 {
     let bound = match read_bound(alloc, &mut arguments) {
@@ -231,7 +243,49 @@ fn read_edit(alloc: Global, mut arguments: Arguments<'_>) -> Result<Command, Wor
     };
     let file = String::from_str(alloc, file)?;
     let script = String::from_str(alloc, script)?;
-    Ok(Command::Edit(bound, file, script))
+    Ok(Files {
+        bound,
+        file,
+        script,
+    })
+}
+
+/// The command `edit`, of which the words after its name are left.
+fn read_edit(alloc: Global, arguments: Arguments<'_>) -> Result<Command, WordsFault>
+    ensures command { IfOk result (λ command. Fits (codes "edit" ∷ texts arguments.entry.words.now) (command_of command)) }
+    ensures usage { result ≡ Err WordsFault.Usage → NoEdit (texts arguments.entry.words.now) }
+{
+    match read_files(alloc, arguments) {
+        Ok(files) => Ok(Command::Edit(files.bound, files.file, files.script)),
+        Err(fault) => Err(fault),
+    }
+}
+
+/// The command `regen`, of which the words after its name are left.
+fn read_regen(alloc: Global, arguments: Arguments<'_>) -> Result<Command, WordsFault>
+    ensures command { IfOk result (λ command. Fits (codes "regen" ∷ texts arguments.entry.words.now) (command_of command)) }
+    ensures usage { result ≡ Err WordsFault.Usage → NoEdit (texts arguments.entry.words.now) }
+{
+    match read_files(alloc, arguments) {
+        Ok(files) => Ok(Command::Regen(files.bound, files.file, files.script)),
+        Err(fault) => Err(fault),
+    }
+}
+
+/// The command `make`, of which the words after its name are left.
+fn read_make(alloc: Global, mut arguments: Arguments<'_>) -> Result<Command, WordsFault>
+    ensures command { IfOk result (λ command. Fits (codes "make" ∷ texts arguments.entry.words.now) (command_of command)) }
+    ensures usage { result ≡ Err WordsFault.Usage → NoMake (texts arguments.entry.words.now) }
+{
+    let prints = arguments.flag("-p");
+    let Some(word) = arguments.last() else {
+        return Err(WordsFault::Usage);
+    };
+    match number(alloc, word, 100)? {
+        Some(0) => Err(WordsFault::Usage),
+        Some(n) => Ok(Command::Make(prints, n)),
+        None => Err(WordsFault::Usage),
+    }
 }
 
 /// The command `--help`, of which the words after its name are left.
@@ -270,6 +324,8 @@ pub fn read_words(alloc: Global, words: &Vec<String>) -> Result<Command, WordsFa
         Some("table") => read_table(alloc, arguments),
         Some("lattice") => read_lattice(alloc, arguments),
         Some("edit") => read_edit(alloc, arguments),
+        Some("regen") => read_regen(alloc, arguments),
+        Some("make") => read_make(alloc, arguments),
         Some("--help") => read_help(arguments),
         Some("--version") => read_version(arguments),
         Some(_) => Err(WordsFault::Usage),
