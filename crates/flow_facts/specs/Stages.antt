@@ -16,5 +16,6 @@ pub record IsNumbered (P Q : Plain) (d : Numbered) : Type 0 where
   pub cells : d.cells.items ≡ cells_of P Q
   pub bodies : map body_seen d.bodies.items ≡ bodies_of P Q
   pub numbers : numbers_seen d.numbering ≡ numbers P Q
+  pub column_items : d.numbering.columns.keys ≡ map (λ c. c.item) (columns_of P Q)
   pub few : length (columns_of P Q) ≤ 8192
   pub counts : too_many P Q ≡ None

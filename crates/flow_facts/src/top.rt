@@ -359,11 +359,13 @@ pub fn facts(alloc: Global, program: &Program) -> Result<Facts, FactsFault>
 /// The numbers of the rows, columns, sites and flow points of a program, by their items.
 ///
 /// A row is that of a field, a `this`, a return, a parameter, a local, a creation, a cast or an `instanceof`; a column
-/// is that of a field, a declaration, a body or the mark of a type. The number of each is its place in the facts. A
+/// is that of a field, a declaration, a body or the mark of a type. The number of each is its place in the facts, and the
+/// items of the columns stand in their order. A
 /// `TooMany` comes where the facts of the program have one.
 pub fn numbering_of(alloc: Global, program: &Program) -> Result<Numbering, FactsFault>
     requires { IsFormed (program_of no_place program.now) }
     ensures ok { IfOk result (λ n. numbers_seen n ≡ numbers (program_of no_place program.now) (program_of at_place program.now)) }
+    ensures columns { IfOk result (λ n. n.columns.keys ≡ map (λ c. c.item) (columns_of (program_of no_place program.now) (program_of at_place program.now))) }
     ensures refused { IfErr result (λ e. IsOver (program_of no_place program.now) (program_of at_place program.now) e) }
 {
     let numbered = number_all(alloc, program)?;

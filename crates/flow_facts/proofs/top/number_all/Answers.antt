@@ -72,6 +72,7 @@ returns-clause-ok c =
       cells = c.in_ok-cells.ensures.items;
       bodies = c.in_ok-surveyed.ensures.bodies;
       numbers = numbers_are P Q _ _ _ _ c.in_ok-rows.ensures.keys c.in_ok-columns.ensures.keys c.in_ok-sites.ensures.keys c.in_ok-points.ensures.keys;
+      column_items = c.in_ok-columns.ensures.keys;
       few = c.in_ok-columns.ensures.most;
       counts = c.in_ok-cells.ensures.counts;
     }
