@@ -2,8 +2,8 @@
 use Rattle.std.specs.Prelude.{◌≡◌, ℕ, ◌≤◌, List, length}
 use Rattle.fact_model.specs.declared.facts.Facts.{Facts}
 use Rattle.fact_model.specs.declared.sets.PointsTo.{PointsTo}
-use Rattle.hier_model.specs.Hierarchies.{Hierarchy}
-use Rattle.hier_view.specs.Text.{hierarchy_text}
+use Rattle.hier_model.specs.Hierarchies.{Hierarchy, IsHierarchyOf}
+use Rattle.hier_rules.specs.First.{MeetsEdit}
 use Rattle.edit_script.specs.declared.lines.Line.{Line}
 use Rattle.edit_script.specs.Script.{AreEditsOf, IsFirstBadLine, HasTooManyEdits, most_edits}
 use Rattle.hier_script.specs.declared.scripts.Edited.{Edited}
@@ -11,9 +11,11 @@ use Rattle.hier_script.specs.declared.scripts.Scripted.{Scripted}
 use Rattle.hier_script.specs.declared.scripts.Scripted.TheVariants as scripted
 use Rattle.hier_script.specs.Scripts.{after_edits, refusals_of}
 
--- the text of the hierarchy after the edits, and the lines of those that are refused
+-- the hierarchy after the edits, which meets the obligations of an edit, and the lines of those that are refused
 pub record IsEdited (F : Facts) (pt : PointsTo) (H : Hierarchy) (edits : List Line) (e : Edited) : Type 0 where
-  pub text : e.text.items ≡ hierarchy_text F (after_edits F pt H edits)
+  pub hierarchy : e.hier ≡ after_edits F pt H edits
+  pub is : IsHierarchyOf F e.hier
+  pub meets : MeetsEdit F pt e.hier
   pub refusals : e.refusals.items ≡ refusals_of F pt H edits
 
 -- the edits of the script, of which there are not too many, were made

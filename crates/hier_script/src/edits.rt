@@ -6,6 +6,7 @@ ghost use Rattle.fact_model.specs.InRange.{InRange};
 ghost use Rattle.fact_model.specs.Flowing.{AreSets};
 ghost use Rattle.hier_model.specs.Hierarchies.{IsHierarchyOf};
 ghost use Rattle.hier_model.specs.Edits.{NamesSome};
+ghost use Rattle.hier_rules.specs.First.{MeetsEdit};
 ghost use Rattle.hier_script.specs.Scripts.{after_edit, refusal_of, after_edits, refusals_of};
 
 use crate::refusals::refusal_line;
@@ -27,10 +28,12 @@ fn run_edit(
     requires range { InRange facts.now }
     requires sets { AreSets facts.now sets.now }
     requires hierarchy { IsHierarchyOf facts.now hier.old }
+    requires meets { MeetsEdit facts.now sets.now hier.old }
     requires some { NamesSome line.now.edit }
     ensures hierarchy { OnOk result (hier.new ≡ after_edit facts.now sets.now hier.old line.now) }
     ensures refusals { OnOk result (refusals.new.items ≡ refusals.old.items ++ refusal_of facts.now sets.now hier.old line.now) }
     ensures is { IsHierarchyOf facts.now hier.new }
+    ensures meets { MeetsEdit facts.now sets.now hier.new }
 {
     match apply(alloc, hier, facts, sets, &line.edit) {
         Ok(()) => Ok(()),
@@ -55,10 +58,12 @@ pub fn run_edits(
     requires range { InRange facts.now }
     requires sets { AreSets facts.now sets.now }
     requires hierarchy { IsHierarchyOf facts.now hier.old }
+    requires meets { MeetsEdit facts.now sets.now hier.old }
     requires some { All (λ line. NamesSome line.edit) lines.now }
     ensures hierarchy { OnOk result (hier.new ≡ after_edits facts.now sets.now hier.old lines.now) }
     ensures refusals { IfOk result (λ refusals. refusals.items ≡ refusals_of facts.now sets.now hier.old lines.now) }
     ensures is { IsHierarchyOf facts.now hier.new }
+    ensures meets { MeetsEdit facts.now sets.now hier.new }
 {
     let mut refusals = Vec::new(alloc);
     for line in lines {

@@ -14,15 +14,14 @@ ghost use Rattle.hier_script.specs.Answers.{IsEdited, IsScripted};
 use crate::edits::run_edits;
 use edit_script::{Line, ScriptFault, read_script};
 use fact_model::{Facts, Lattice, PointsTo, Table};
-use hier_model::start;
-use hier_view::show_hierarchy;
+use hier_model::{Hier, start};
 use std::alloc::{AllocError, Global};
 
-/// The hierarchy after a script.
+/// What a script makes of a hierarchy.
 #[derive(Drop)]
 pub struct Edited {
-    /// Its text.
-    pub text: Vec<u8>,
+    /// The hierarchy after it.
+    pub hier: Hier,
     /// The lines of the edits that were refused.
     pub refusals: Vec<u8>,
 }
@@ -37,7 +36,7 @@ pub enum Scripted {
     Edited(Edited),
 }
 
-/// The start, the edits one after the other, and the text of what they leave.
+/// The start, and the edits one after the other.
 fn edit_start(
     alloc: Global,
     facts: &Facts,
@@ -57,14 +56,13 @@ fn edit_start(
 {
     let mut hier = start(alloc, facts, table, lattice)?;
     let refusals = run_edits(alloc, &mut hier, facts, sets, lines)?;
-    let mut text = Vec::new(alloc);
-    show_hierarchy(alloc, facts, &hier, &mut text)?;
-    Ok(Edited { text, refusals })
+    Ok(Edited { hier, refusals })
 }
 
 /// Runs a script on the hierarchy at which a program starts: the one of its table's lattice.
 ///
-/// The script is read whole before an edit is applied. `AllocError` comes where memory is short.
+/// The script is read whole before an edit is applied. The hierarchy after it meets the obligations B1 to B8.
+/// `AllocError` comes where memory is short.
 pub fn run_script(
     alloc: Global,
     facts: &Facts,
