@@ -1,0 +1,171 @@
+-- Trees that the grammar gives: what their parts may be.
+use Rattle.std.specs.Prelude.{◌≡◌, ℕ, ◌<◌, ◌≤◌, ℤ, negsuc, Bool, true, false, ◌||◌, List, [], ◌∷◌, Option, Some, None, is_some, Ok}
+use Rattle.java_lex.specs.declared.Token.{Token}
+use Rattle.java_lex.specs.Lexing.{tokens_of}
+use Rattle.java_lex.specs.Writable.{IsName, IsText, IsSmall, IsUnit}
+use Rattle.java_tree.specs.declared.Id.{Id}
+use Rattle.java_tree.specs.declared.Modifier.{Modifier}
+use Rattle.java_tree.specs.declared.TypeBase.{TypeBase}
+use Rattle.java_tree.specs.declared.TypeBase.TheVariants as bases
+use Rattle.java_tree.specs.declared.TypeName.{TypeName}
+use Rattle.java_tree.specs.declared.Param.{Param}
+use Rattle.java_tree.specs.Syntax.{Expression, IntLit, CharLit, StrLit, BoolLit, NullLit, ThisRef, NameRef, FieldOf, IndexOf, CallOf, CallOn, SuperCallOf, NewOf, NewArrayOf, CastOf, InstanceOfClass, UnaryOf, BinaryOf, Expressions, no_more, and_more, Statement, LocalOf, BlockOf, AssignOf, DoOf, PrintOf, IfOf, WhileOf, ForOf, ReturnOf, BreakOf, ContinueOf, Statements, no_statements, and_then, Arms, no_arms, and_arm, Else, no_else, otherwise, OptionalStatement, absent, present, HeadTree, MemberTree, FieldTree, MethodTree, DeclTree, ClassTree, InterfaceTree}
+use Rattle.java_tree.specs.Tokens.{level, is_sign, is_modifier}
+use Rattle.java_tree.specs.Declarations.{Derives}
+
+-- the bytes are lexed, and the tokens derive the tree
+pub record IsReadAs (bytes : List ℕ) (tree : List DeclTree) : Type 0 where
+  pub tokens : List Token
+  pub lexed : tokens_of bytes ≡ Ok tokens
+  pub derived : Derives tokens tree
+
+-- a tree that the tokens of some text derive
+pub record IsGiven (tree : List DeclTree) : Type 0 where
+  pub bytes : List ℕ
+  pub read : IsReadAs bytes tree
+
+-- a number of an expression: small, or the least one
+pub data IsNumber : ℤ → Type 0 where
+  a_small : {z : ℤ} → IsSmall z → IsNumber z
+  the_least : IsNumber (negsuc 2147483647)
+
+abbrev pub IsFormedBase : TypeBase → Type 0
+IsFormedBase (bases.Named n) = IsName n
+IsFormedBase _ = Unit {0}
+
+-- the type of a cast
+abbrev pub IsCastBase : TypeBase → Type 0
+IsCastBase bases.Boolean = ⊥
+IsCastBase (bases.Named n) = IsName n
+IsCastBase _ = Unit {0}
+
+abbrev pub is_target : Expression → Bool
+is_target (NameRef n p) = true
+is_target (FieldOf e n p) = true
+is_target (IndexOf e i p) = true
+is_target _ = false
+
+abbrev pub is_call : Expression → Bool
+is_call (CallOf n es p) = true
+is_call (CallOn e n es p) = true
+is_call (SuperCallOf n es p) = true
+is_call (NewOf c es p) = true
+is_call _ = false
+
+abbrev mutual
+  pub IsFormed : Expression → Type 0
+  IsFormed (IntLit z p) = IsNumber z
+  IsFormed (CharLit u p) = IsUnit u
+  IsFormed (StrLit us p) = IsText us
+  IsFormed (BoolLit b p) = Unit {0}
+  IsFormed (NullLit p) = Unit {0}
+  IsFormed (ThisRef p) = Unit {0}
+  IsFormed (NameRef n p) = IsName n
+  IsFormed (FieldOf e n p) = IsFormed e × IsName n
+  IsFormed (IndexOf e i p) = IsFormed e × IsFormed i
+  IsFormed (CallOf n es p) = IsName n × AreFormed es
+  IsFormed (CallOn e n es p) = IsFormed e × IsName n × AreFormed es
+  IsFormed (SuperCallOf n es p) = IsName n × AreFormed es
+  IsFormed (NewOf c es p) = IsName c.name × AreFormed es
+  IsFormed (NewArrayOf t e p) = IsFormedBase t.base × (1 ≤ t.dim) × IsFormed e
+  IsFormed (CastOf t e p) = IsCastBase t.base × (t.dim ≡ 0) × IsFormed e
+  IsFormed (InstanceOfClass e c p) = IsFormed e × IsName c.name
+  IsFormed (UnaryOf m e p) = (is_sign m ≡ true) × IsFormed e
+  IsFormed (BinaryOf m a b p) = (0 < level m) × IsFormed a × IsFormed b
+
+  pub AreFormed : Expressions → Type 0
+  AreFormed no_more = Unit {0}
+  AreFormed (and_more e es) = IsFormed e × AreFormed es
+
+abbrev pub IsFormedValue : Option Expression → Type 0
+IsFormedValue None = Unit {0}
+IsFormedValue (Some e) = IsFormed e
+
+abbrev pub is_act : Statement → Bool
+is_act (AssignOf t v p) = true
+is_act (DoOf c p) = true
+is_act (PrintOf l v p) = true
+is_act _ = false
+
+abbrev pub is_simple : Statement → Bool
+is_simple (LocalOf f t n v p) = true
+is_simple s = is_act s
+
+abbrev pub has_arm : Arms → Bool
+has_arm no_arms = false
+has_arm (and_arm e ss a) = true
+
+abbrev mutual
+  pub IsFormedStmt : Statement → Type 0
+  IsFormedStmt (LocalOf f t n v p) = IsFormedBase t.base × IsName n × IsFormedValue v
+  IsFormedStmt (BlockOf ss p) = AreFormedStmts ss
+  IsFormedStmt (AssignOf t v p) = (is_target t ≡ true) × IsFormed t × IsFormed v
+  IsFormedStmt (DoOf c p) = (is_call c ≡ true) × IsFormed c
+  IsFormedStmt (PrintOf l v p) = ((l || is_some v) ≡ true) × IsFormedValue v
+  IsFormedStmt (IfOf a l p) = (has_arm a ≡ true) × AreFormedArms a × IsFormedElse l
+  IsFormedStmt (WhileOf e ss p) = IsFormed e × AreFormedStmts ss
+  IsFormedStmt (ForOf f v g ss p) = IsFormedFirst f × IsFormedValue v × IsFormedStep g × AreFormedStmts ss
+  IsFormedStmt (ReturnOf v p) = IsFormedValue v
+  IsFormedStmt (BreakOf p) = Unit {0}
+  IsFormedStmt (ContinueOf p) = Unit {0}
+
+  pub AreFormedStmts : Statements → Type 0
+  AreFormedStmts no_statements = Unit {0}
+  AreFormedStmts (and_then s ss) = IsFormedStmt s × AreFormedStmts ss
+
+  pub AreFormedArms : Arms → Type 0
+  AreFormedArms no_arms = Unit {0}
+  AreFormedArms (and_arm e ss a) = IsFormed e × AreFormedStmts ss × AreFormedArms a
+
+  pub IsFormedElse : Else → Type 0
+  IsFormedElse no_else = Unit {0}
+  IsFormedElse (otherwise ss) = AreFormedStmts ss
+
+  pub IsFormedFirst : OptionalStatement → Type 0
+  IsFormedFirst absent = Unit {0}
+  IsFormedFirst (present s) = (is_simple s ≡ true) × IsFormedStmt s
+
+  pub IsFormedStep : OptionalStatement → Type 0
+  IsFormedStep absent = Unit {0}
+  IsFormedStep (present s) = (is_act s ≡ true) × IsFormedStmt s
+
+-- each of them
+abbrev pub Each : {A : Type 0} → (A → Type 0) → List A → Type 0
+Each P [] = Unit {0}
+Each P (x ∷ xs) = P x × Each P xs
+
+abbrev pub IsFormedMod : Modifier → Type 0
+IsFormedMod m = is_modifier m.word ≡ true
+
+abbrev pub IsFormedId : Id → Type 0
+IsFormedId i = IsName i.name
+
+abbrev pub IsFormedParam : Param → Type 0
+IsFormedParam q = IsFormedBase q.ty.base × IsName q.name
+
+abbrev pub IsFormedResult : Option TypeName → Type 0
+IsFormedResult None = Unit {0}
+IsFormedResult (Some t) = IsFormedBase t.base
+
+abbrev pub IsFormedHead : HeadTree → Type 0
+IsFormedHead h = Each IsFormedMod h.mods × IsFormedResult h.type × IsName h.name × Each IsFormedParam h.params
+
+abbrev pub IsFormedBody : Option Statements → Type 0
+IsFormedBody None = Unit {0}
+IsFormedBody (Some ss) = AreFormedStmts ss
+
+abbrev pub IsFormedMember : MemberTree → Type 0
+IsFormedMember (FieldTree ms t n p) = Each IsFormedMod ms × IsFormedBase t.base × IsName n
+IsFormedMember (MethodTree h b p) = IsFormedHead h × IsFormedBody b
+
+abbrev pub IsFormedParent : Option Id → Type 0
+IsFormedParent None = Unit {0}
+IsFormedParent (Some i) = IsName i.name
+
+abbrev pub IsFormedDecl : DeclTree → Type 0
+IsFormedDecl (ClassTree ms n c fs bs p) = Each IsFormedMod ms × IsName n × IsFormedParent c × Each IsFormedId fs × Each IsFormedMember bs
+IsFormedDecl (InterfaceTree ms n fs hs p) = Each IsFormedMod ms × IsName n × Each IsFormedId fs × Each IsFormedHead hs
+
+-- a program whose parts are such as the grammar gives
+abbrev pub IsFormedTree : List DeclTree → Type 0
+IsFormedTree ds = Each IsFormedDecl ds
