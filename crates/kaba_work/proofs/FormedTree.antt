@@ -1,11 +1,13 @@
 -- A sample is a tree such as the grammar gives.
-use Rattle.std.proofs.Common.{◌≡◌, ℕ, zero, suc, ◌+◌, ◌^◌, ◌<◌, ◌≤◌, List, [], ◌∷◌, ◌++◌, map, refl, ap, arith, lit<}
-use Rattle.std.specs.Prelude.{pos}
+use Rattle.std.proofs.Common.{◌≡◌, ℕ, zero, suc, ◌+◌, ◌^◌, ◌<◌, ◌≤◌, List, [], ◌∷◌, ◌++◌, map, Some, None, refl, sym, ap, ◌∙◌, subst, arith}
+use Rattle.std.specs.Prelude.{pos, codes}
 use Rattle.std.specs.List.{range_with_len, flat_map}
 use Rattle.java_lex.specs.Writable.{IsSmall}
-use Rattle.java_tree.specs.Syntax.{IntLit}
-use Rattle.kaba_work.specs.TmpFormed.{Each, IsFormed, IsNumber, a_small, IsFormedStmt, AreFormedStmts, IsFormedMember, IsFormedParent, IsFormedDecl, IsFormedTree}
-use Rattle.kaba_work.specs.Sample.{nowhere, field_name, extra_name, variable_name, class_name, own_field, extra, total, method_tree, field_tree, parent_named, class_tree, steps, creation, setting, printing, statements, main_body, main_tree, sample_tree}
+use Rattle.java_tree.specs.Syntax.{IntLit, and_then, MethodTree, ClassTree}
+use Rattle.java_tree.specs.Places.{stmts_unplaced, decl_unplaced, unplaced}
+use Rattle.java_print.specs.Formed.{Each, IsFormed, IsNumber, a_small, IsFormedStmt, AreFormedStmts, IsFormedMember, IsFormedParent, IsFormedDecl, IsFormedTree, IsGiven}
+use Rattle.java_print.proofs.DeclParsed.{formed_given}
+use Rattle.kaba_work.specs.Sample.{nowhere, field_name, extra_name, variable_name, class_name, own_field, extra, total, method_tree, field_tree, parent_named, class_tree, steps, creation, setting, printing, statements, main_head, main_body, main_tree, sample_tree}
 use Rattle.kaba_work.proofs.Words.{class_word, field_word, extra_word, variable_word, method_word, main_class_word, main_word, args_word, text_word}
 
 each_append : {A : Type 0} (P : A → Type 0) (xs ys : List A) → Each P xs → Each P ys → Each P (xs ++ ys)
@@ -57,3 +59,30 @@ pub sample_formed : (n : ℕ) → n ≤ 100 → IsFormedTree (sample_tree n)
 unfolding sample_tree
 sample_formed n h =
     each_append IsFormedDecl (map class_tree (range_with_len 0 n)) (main_tree n ∷ []) (each_mapped IsFormedDecl class_tree 0 n (λ i k. class_formed i (omega (arith, h, k)))) (main_formed n h, tt)
+
+-- ---- a sample has no places
+
+class_unplaced : (i : ℕ) → decl_unplaced (class_tree i) ≡ class_tree i
+class_unplaced zero = refl
+class_unplaced (suc i) = refl
+
+steps_unplaced : (a n : ℕ) → stmts_unplaced (statements (flat_map steps (range_with_len a n))) ≡ statements (flat_map steps (range_with_len a n))
+steps_unplaced a zero = refl
+steps_unplaced a (suc n) = ap (λ ss. and_then (creation a) (and_then (setting a) (and_then (printing a) ss))) (steps_unplaced (a + 1) n)
+
+main_unplaced : (n : ℕ) → decl_unplaced (main_tree n) ≡ main_tree n
+unfolding main_body
+main_unplaced n = ap (λ ss. ClassTree [] (codes "Main") None [] (MethodTree main_head (Some ss) nowhere ∷ []) nowhere) (steps_unplaced 0 n)
+
+rest_unplaced : (z a n : ℕ) → unplaced (map class_tree (range_with_len a n) ++ main_tree z ∷ []) ≡ map class_tree (range_with_len a n) ++ main_tree z ∷ []
+rest_unplaced z a zero = ap (λ d. d ∷ []) (main_unplaced z)
+rest_unplaced z a (suc n) =
+    ap (λ d. d ∷ unplaced (map class_tree (range_with_len (a + 1) n) ++ main_tree z ∷ [])) (class_unplaced a) ∙ ap (λ ds. class_tree a ∷ ds) (rest_unplaced z (a + 1) n)
+
+sample_unplaced : (n : ℕ) → unplaced (sample_tree n) ≡ sample_tree n
+unfolding sample_tree
+sample_unplaced n = rest_unplaced n 0 n
+
+-- so the text that is printed of it is read as it
+pub sample_given : (n : ℕ) → n ≤ 100 → IsGiven (sample_tree n)
+sample_given n h = formed_given (sample_tree n) (subst IsFormedTree (sym (sample_unplaced n)) (sample_formed n h))

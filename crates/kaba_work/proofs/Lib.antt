@@ -6,3 +6,5 @@ pub mod FormedTree
 pub mod Places
 pub mod Apart
 pub mod Outlined
+pub mod Bodies
+pub mod Whole

@@ -94,3 +94,11 @@ pub map_pairs : {A B : Type 0} (v : A → B) (f g : ℕ → A) (a n : ℕ)
     → map v (flat_map (λ i. f i ∷ g i ∷ []) (range_with_len a n)) ≡ flat_map (λ i. v (f i) ∷ v (g i) ∷ []) (range_with_len a n)
 map_pairs v f g a zero = refl
 map_pairs v f g a (suc n) = ap (λ xs. v (f a) ∷ v (g a) ∷ xs) (map_pairs v f g (a + 1) n)
+
+mapped_from : {A : Type 0} (f : ℕ → A) (a n i : ℕ) → i < n → slice_get (map f (range_with_len a n)) i ≡ Some (f (a + i))
+mapped_from f a zero i h = absurd (omega (arith, h))
+mapped_from f a (suc n) zero h = let s : a ≡ a + 0 = omega arith in ap (λ k. Some (f k)) s
+mapped_from f a (suc n) (suc i) h = let s : a + 1 + i ≡ a + suc i = omega arith in mapped_from f (a + 1) n i (omega (arith, h)) ∙ ap (λ k. Some (f k)) s
+
+pub mapped_at : {A : Type 0} (f : ℕ → A) (n i : ℕ) → i < n → slice_get (map f (range_with_len 0 n)) i ≡ Some (f i)
+mapped_at f n i h = let s : 0 + i ≡ i = omega arith in mapped_from f 0 n i h ∙ ap (λ k. Some (f k)) s

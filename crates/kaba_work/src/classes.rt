@@ -2,7 +2,7 @@
 
 ghost use Rattle.std.specs.Prelude.{◌≡◌, ◌≤◌, ◌<◌, IfOk};
 ghost use Rattle.java_tree.specs.Syntax.{expr_of, stmt_of, stmts, head_of, member_of, members, decl_of, tree_of};
-//ghost use Rattle.java_print.specs.Formed.{IsFormedTree, IsGiven};
+ghost use Rattle.java_print.specs.Formed.{IsFormedTree, IsGiven};
 ghost use Rattle.kaba_work.specs.Sample as sample;
 
 use crate::names::{class_name, extra_name, field_name, id, int_type, method_name, nowhere, word};
@@ -21,8 +21,8 @@ pub fn sample(alloc: Global, number: u32) -> Result<Tree, AllocError>
     requires one { 1 ≤ number }
     requires most { number ≤ 100 }
     ensures tree { IfOk result (λ t. tree_of t ≡ sample.sample_tree number) }
-    //ensures formed { IfOk result (λ t. IsFormedTree (tree_of t)) }
-    //ensures given { IfOk result (λ t. IsGiven (tree_of t)) }
+    ensures formed { IfOk result (λ t. IsFormedTree (tree_of t)) }
+    ensures given { IfOk result (λ t. IsGiven (tree_of t)) }
 {
     let mut decls = Vec::new(alloc);
     for i in 0..number {
