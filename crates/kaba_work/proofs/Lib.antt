@@ -8,3 +8,4 @@ pub mod Apart
 pub mod Outlined
 pub mod Bodies
 pub mod Whole
+pub mod Found
