@@ -9,3 +9,4 @@ pub mod Outlined
 pub mod Bodies
 pub mod Whole
 pub mod Found
+pub mod Typed
