@@ -1,11 +1,11 @@
 -- The names of a sample are apart: they begin with different letters, or have different numbers.
 use Rattle.std.proofs.Common.{◌≡◌, ◌≢◌, ℕ, zero, suc, ◌+◌, ◌^◌, ◌<◌, ◌≤◌, Bool, true, false, List, [], ◌∷◌, ◌++◌, map, Option, Some, None, refl, sym, ap, ◌∙◌, subst, arith}
-use Rattle.std.specs.Prelude.{◌||◌, nat_lt, codes, slice_get, position}
+use Rattle.std.specs.Prelude.{◌||◌, ◌==◌, nat_lt, codes, slice_get, position}
 use Rattle.std.specs.Option.{is_some}
 use Rattle.std.specs.List.{range_with_len}
 use Rattle.std.specs.Str.{bytes_eq}
 use Rattle.std.specs.Fmt.{decimal}
-use Rattle.std.proofs.lemmas.Bool.{false≢true}
+use Rattle.std.proofs.lemmas.Bool.{false≢true, eq-eqb}
 use Rattle.std.proofs.lemmas.Fmt.{decimal_injective}
 use Rattle.std.proofs.lemmas.Option.{same_Some}
 use Rattle.std.proofs.lemmas.Slice.Eq.{bytes_eq-Decides}
@@ -82,3 +82,7 @@ small_unnamed n x small = position_none (λ m. bytes_eq m x) (names n) none
 
 pub small_free : (n : ℕ) (x : List ℕ) → nat_lt 96 (first x) ≡ true → is_known x ≡ false → is_type_name (names n) x ≡ false
 small_free n x small known = ap (λ o. is_some o || is_known x) (small_unnamed n x small) ∙ known
+
+-- names that begin with different letters differ
+pub letters_differ : (x y : List ℕ) → (first x == first y) ≡ false → x ≡ y → ⊥
+letters_differ x y d e = false≢true (sym d ∙ eq-eqb (first x) (first y) (ap first e))

@@ -44,7 +44,7 @@ module _ (n : ℕ) (most : n ≤ 100) where
   total_resolves zero c = r_field (r_this refl)
   total_resolves (suc i) c = r_binary (r_super_call refl r_no_more) (r_field (r_this refl))
 
-  method_resolves : (i : ℕ) → BodyResolves O (method_at i) (method_made i)
+  pub method_resolves : (i : ℕ) → BodyResolves O (method_at i) (method_made i)
   method_resolves i =
       r_body refl refl
       (r_and_then (r_assign (r_field (r_this refl)) (r_binary (r_field (r_this refl)) r_number)) (r_and_then (r_return (r_some (total_resolves i i))) r_no_statements))
@@ -93,7 +93,7 @@ module _ (n : ℕ) (most : n ≤ 100) where
       next_number (subst (λ z. Counts (suc z) (declares_all (main_body_made (range_with_len (a + 1) k))) (suc (a + suc k))) s
       (subst (λ z. Counts (suc (a + 1)) (declares_all (main_body_made (range_with_len (a + 1) k))) (suc z)) t (steps_counted (a + 1) k)))
 
-  main_resolves : BodyResolves O (main_at n) (main_made n)
+  pub main_resolves : BodyResolves O (main_at n) (main_made n)
   unfolding main_body
   main_resolves =
       let count : suc (0 + n) ≡ length (variables_of (main_made n)) = let l = length-map-range_with_len local_made 0 n in omega (arith, l) in

@@ -10,3 +10,5 @@ pub mod Bodies
 pub mod Whole
 pub mod Found
 pub mod Typed
+pub mod Faults
+pub mod Conditions

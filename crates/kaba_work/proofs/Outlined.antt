@@ -89,12 +89,15 @@ module _ (n : ℕ) (most : n ≤ 100) where
   same_fields =
       sym (ap (map (field_outline (types_in (sample_tree n)))) (fields_are n) ∙ map_pairs (field_outline (types_in (sample_tree n))) sum_field extra_field 0 n)
 
-  pub same_methods : map heading_of (sample_program n).methods ≡ O.methods
-  unfolding outline sample_program
-  same_methods =
+  pub headings : O.methods ≡ map (λ i. heading_of (method_made i)) (range_with_len 0 n) ++ heading_of (main_made n) ∷ []
+  unfolding outline
+  headings =
       let outlined = method_outline (types_in (sample_tree n)) in
-      map_ends heading_of method_made (λ i. heading_of (method_made i)) (main_made n) 0 n (λ i h. refl)
-      ∙ sym (ap (map outlined) (methods_are n) ∙ map_ends outlined method_at (λ i. heading_of (method_made i)) (main_at n) 0 n (λ i h. refl))
+      ap (map outlined) (methods_are n) ∙ map_ends outlined method_at (λ i. heading_of (method_made i)) (main_at n) 0 n (λ i h. refl)
+
+  pub same_methods : map heading_of (sample_program n).methods ≡ O.methods
+  unfolding sample_program
+  same_methods = map_ends heading_of method_made (λ i. heading_of (method_made i)) (main_made n) 0 n (λ i h. refl) ∙ sym headings
 
   names_are : type_names (sample_program n) ≡ names n
   unfolding sample_program
