@@ -48,7 +48,7 @@ pub data FewMods : Kind → List Modifier → Type 0 where
   no_mods : {kind : Kind} → FewMods kind []
   of_main : FewMods kinds.Method main_head.mods
 
-module _ (n : ℕ) (one : 1 ≤ n) (most : n ≤ 100) where
+module _ (n : ℕ) (most : n ≤ 100) where
   abbrev T : List DeclTree
   T = sample_tree n
 

@@ -10,6 +10,8 @@ use Rattle.name_rules.specs.Outline.{MethodAt, outline}
 use Rattle.name_rules.specs.Meanings.{bound_names}
 use Rattle.name_rules.specs.Resolves.{StsResolve, params_from, here_of, BodyResolves, r_no_body, r_body}
 use Rattle.name_rules.specs.Conditions.{AreOneSlot, StsFault}
+use Rattle.java_resolve.proofs.Excludes.{one-met}
+use Rattle.java_resolve.proofs.ExcludesStatements.{sts-holds}
 use Rattle.kaba_work.specs.Sample.{sample_tree}
 use Rattle.kaba_work.specs.Program.{method_made, main_made}
 use Rattle.kaba_work.proofs.Places.{StandsAt, is_row, is_last}
@@ -31,7 +33,8 @@ module _ (n : ℕ) (most : n ≤ 100) where
         → HasFault m ss r → ⊥
     body_holds m k ss r (r_no_body none b l) names e f = cc (sym none ∙ e)
     body_holds m k ss r (r_body {ss = given} {xs = xs} some b h c) names e f =
-        let z = (subst (λ z. StsResolve O (here_of m) k false (params_from 0 k.params) z xs) (same_Some given ss (sym some ∙ e)) h) in ?
+        sts-holds O (here_of m) k (one-met O apart) names f
+        (subst (λ z. StsResolve O (here_of m) k false (params_from 0 k.params) z xs) (same_Some given ss (sym some ∙ e)) h)
 
     pub no_body_fault : (j : ℕ) (m : MethodAt) (ss : Statements) (r : Refusal) → StandsAt method_at (main_at n) n j m → m.body ≡ Some ss → HasFault m ss r → ⊥
     no_body_fault j m ss r (is_row lt e) b f =

@@ -12,3 +12,4 @@ pub mod Found
 pub mod Typed
 pub mod Faults
 pub mod Conditions
+pub mod Law
