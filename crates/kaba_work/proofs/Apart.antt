@@ -50,7 +50,8 @@ names n = codes "Object" ∷ map class_name (range_with_len 0 n) ++ codes "Main"
 
 pub class_found : (n i : ℕ) → n ≤ 100 → i < n → type_named (names n) (class_name i) ≡ Some (suc i)
 class_found n i most h =
-    position_is (λ m. bytes_eq m (class_name i)) (names n) (suc i) (class_name i) (row_at class_name (codes "Main") n i h) (of_same (class_name i) (class_name i) refl) only
+    position_is (λ m. bytes_eq m (class_name i)) (names n) (suc i) (class_name i) (row_at class_name (codes "Main") n i h)
+    (of_same (class_name i) (class_name i) refl) only
   where
     only : (j : ℕ) (y : List ℕ) → slice_get (names n) j ≡ Some y → bytes_eq y (class_name i) ≡ true → j ≡ suc i
     only zero y e k = absurd (false≢true (let s : codes "Object" ≡ y = same_Some (codes "Object") y e in ap (λ z. bytes_eq z (class_name i)) s ∙ k))

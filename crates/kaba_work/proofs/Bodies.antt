@@ -25,7 +25,8 @@ last_in_scope : (x : List ℕ) (k : ℕ) (bs : List Bound) → is_bound (bound_n
 last_in_scope x k [] h = rw (of_same x x refl) refl
 last_in_scope x k (b ∷ bs) h = let p = or_parts (bytes_eq b.name x) (is_bound (bound_names bs) x) h in rw (p.0) (last_in_scope x k bs p.1)
 
-unbound_more : (x y : List ℕ) (k : ℕ) (bs : List Bound) → is_bound (bound_names bs) x ≡ false → bytes_eq y x ≡ false → is_bound (bound_names (bound bs y k)) x ≡ false
+unbound_more : (x y : List ℕ) (k : ℕ) (bs : List Bound) → is_bound (bound_names bs) x ≡ false → bytes_eq y x ≡ false
+    → is_bound (bound_names (bound bs y k)) x ≡ false
 unbound_more x y k [] h d = or_from (bytes_eq y x) false d refl
 unbound_more x y k (b ∷ bs) h d =
     let p = or_parts (bytes_eq b.name x) (is_bound (bound_names bs) x) h in
@@ -47,7 +48,8 @@ module _ (n : ℕ) (most : n ≤ 100) where
   pub method_resolves : (i : ℕ) → BodyResolves O (method_at i) (method_made i)
   method_resolves i =
       r_body refl refl
-      (r_and_then (r_assign (r_field (r_this refl)) (r_binary (r_field (r_this refl)) r_number)) (r_and_then (r_return (r_some (total_resolves i i))) r_no_statements))
+      (r_and_then (r_assign (r_field (r_this refl)) (r_binary (r_field (r_this refl)) r_number))
+      (r_and_then (r_return (r_some (total_resolves i i))) r_no_statements))
       no_number
 
   -- ---- main
@@ -115,9 +117,11 @@ no_numbers : (i : ℕ) → numbers_body (method_made i).body ≡ []
 no_numbers zero = refl
 no_numbers (suc i) = refl
 
-numbers_rest : (z a k : ℕ) → numbers_methods (map method_made (range_with_len a k) ++ main_made z ∷ []) ≡ numbers_sts (main_body_made (range_with_len 0 z)) ++ []
+numbers_rest : (z a k : ℕ)
+    → numbers_methods (map method_made (range_with_len a k) ++ main_made z ∷ []) ≡ numbers_sts (main_body_made (range_with_len 0 z)) ++ []
 numbers_rest z a zero = refl
-numbers_rest z a (suc k) = ap (λ xs. xs ++ numbers_methods (map method_made (range_with_len (a + 1) k) ++ main_made z ∷ [])) (no_numbers a) ∙ numbers_rest z (a + 1) k
+numbers_rest z a (suc k) =
+    ap (λ xs. xs ++ numbers_methods (map method_made (range_with_len (a + 1) k) ++ main_made z ∷ [])) (no_numbers a) ∙ numbers_rest z (a + 1) k
 
 creations_counted : (a k : ℕ) → Counts a (numbers_sts (main_body_made (range_with_len a k)) ++ []) (a + k)
 creations_counted a zero = let s : a ≡ a + 0 = omega arith in subst (λ z. Counts a [] z) s no_number

@@ -78,11 +78,13 @@ module _ (n : ℕ) (most : n ≤ 100) where
 
   -- ---- supertypes
 
-  class_is : (c : ℕ) (k : PlainClass) → slice_get O.classes c ≡ Some k → (c ≡ 0) × (k ≡ object) ⊎ ((i : ℕ) × (c ≡ suc i) × StandsAt class_made main_class_made n i k)
+  class_is : (c : ℕ) (k : PlainClass) → slice_get O.classes c ≡ Some k
+      → (c ≡ 0) × (k ≡ object) ⊎ ((i : ℕ) × (c ≡ suc i) × StandsAt class_made main_class_made n i k)
   unfolding sample_program
   class_is c k e = at c (ap (λ xs. slice_get xs c) (same_classes n most) ∙ e)
     where
-      at : (c : ℕ) → slice_get (sample_program n).classes c ≡ Some k → (c ≡ 0) × (k ≡ object) ⊎ ((i : ℕ) × (c ≡ suc i) × StandsAt class_made main_class_made n i k)
+      at : (c : ℕ) → slice_get (sample_program n).classes c ≡ Some k
+          → (c ≡ 0) × (k ≡ object) ⊎ ((i : ℕ) × (c ≡ suc i) × StandsAt class_made main_class_made n i k)
       at zero e = inl (refl, sym (same_Some object k e))
       at (suc i) e = inr (i, refl, stands class_made main_class_made n i k e)
 
@@ -99,7 +101,9 @@ module _ (n : ℕ) (most : n ≤ 100) where
     where
       above : (o : Option PlainClass) → slice_get O.classes c ≡ o
           → Contains (option_to_list (option_and_then (λ (k : PlainClass). k.parent) o) ++ option_map_or (λ (k : PlainClass). k.faces) o []) s
-      above o e = subst (λ (z : Option PlainClass). Contains (option_to_list (option_and_then (λ (k : PlainClass). k.parent) z) ++ option_map_or (λ (k : PlainClass). k.faces) z []) s) e h
+      above o e =
+          subst (λ (z : Option PlainClass). Contains
+          (option_to_list (option_and_then (λ (k : PlainClass). k.parent) z) ++ option_map_or (λ (k : PlainClass). k.faces) z []) s) e h
 
       first : (i b : ℕ) → c ≡ suc i → b ≤ i → Contains (class_id b ∷ []) s → s.0 < c
       first i b e le k = let z = ap (λ (x : ClassId). x.0) (one_in (class_id b ∷ []) (class_id b) s refl k) in omega (arith, e, le, z)
@@ -121,7 +125,8 @@ module _ (n : ℕ) (most : n ≤ 100) where
 
   -- ---- members
 
-  fields_apart : (i j : ℕ) (f g : FieldAt) → PairAt sum_field extra_field n i f → PairAt sum_field extra_field n j g → i < j → f.owner ≡ g.owner → f.name ≡ g.name → ⊥
+  fields_apart : (i j : ℕ) (f g : FieldAt) → PairAt sum_field extra_field n i f → PairAt sum_field extra_field n j g → i < j → f.owner ≡ g.owner
+      → f.name ≡ g.name → ⊥
   fields_apart i j f g (is_first a la p e) (is_first b lb q h) lt o s =
       let z : suc a ≡ suc b = sym (ap (λ (x : FieldAt). x.owner) e) ∙ o ∙ ap (λ (x : FieldAt). x.owner) h in omega (arith, z, p, q, lt)
   fields_apart i j f g (is_second a la p e) (is_second b lb q h) lt o s =
@@ -145,13 +150,18 @@ module _ (n : ℕ) (most : n ≤ 100) where
   not_private j m (is_row lt e) = ap is_private e
   not_private j m (is_last l e) = ap is_private e
 
-  params_once : (k : ℕ) (m : MethodAt) (i j : ℕ) (a b : Param) → IsMember k m → slice_get m.head.params i ≡ Some a → slice_get m.head.params j ≡ Some b → i < j → ⊥
+  params_once : (k : ℕ) (m : MethodAt) (i j : ℕ) (a b : Param) → IsMember k m → slice_get m.head.params i ≡ Some a → slice_get m.head.params j ≡ Some b
+      → i < j → ⊥
   params_once k m i j a b (is_row lt e) p q h = none_at m.head.params i a (ap (λ (z : MethodAt). z.head.params) e) p
   params_once k m i j a b (is_last l e) p q h = let z = one_place m.head.params main_param j b (ap (λ (z : MethodAt). z.head.params) e) q in omega (arith, z, h)
 
   field_free : (j : ℕ) (f : FieldAt) → PairAt sum_field extra_field n j f → is_type_name (types_in T) f.name ≡ false
-  field_free j f (is_first i lt p e) = ap (λ (x : FieldAt). is_type_name (types_in T) x.name) e ∙ ap (λ ts. is_type_name ts (sum_field i).name) (types_are n) ∙ small_free n (sum_field i).name refl refl
-  field_free j f (is_second i lt p e) = ap (λ (x : FieldAt). is_type_name (types_in T) x.name) e ∙ ap (λ ts. is_type_name ts (extra_field i).name) (types_are n) ∙ small_free n (extra_field i).name refl refl
+  field_free j f (is_first i lt p e) =
+      ap (λ (x : FieldAt). is_type_name (types_in T) x.name) e ∙ ap (λ ts. is_type_name ts (sum_field i).name) (types_are n)
+      ∙ small_free n (sum_field i).name refl refl
+  field_free j f (is_second i lt p e) =
+      ap (λ (x : FieldAt). is_type_name (types_in T) x.name) e ∙ ap (λ ts. is_type_name ts (extra_field i).name) (types_are n)
+      ∙ small_free n (extra_field i).name refl refl
 
   param_free : is_type_name (types_in T) main_param.name ≡ false
   param_free = ap (λ ts. is_type_name ts main_param.name) (types_are n) ∙ small_free n main_param.name refl refl
@@ -163,12 +173,15 @@ module _ (n : ℕ) (most : n ≤ 100) where
   one_slot : (i j : ℕ) (h k : PlainMethod) → StandsAt (λ j. heading_of (method_made j)) (heading_of (main_made n)) n i h
       → StandsAt (λ j. heading_of (method_made j)) (heading_of (main_made n)) n j k → i < j → h.name ≡ k.name → AreOneSlot h k
   one_slot i j h k (is_row lt e) (is_row lu f) x s =
-      subst (λ z. AreOneSlot z k) (sym e) (subst (AreOneSlot (heading_of (method_made i))) (sym f) (record { first = refl; second = refl; params = refl; result = refl }))
-  one_slot i j h k (is_row lt e) (is_last l f) x s = absurd (letters_differ (codes "g") (codes "main") refl (sym (ap (λ (m : PlainMethod). m.name) e) ∙ s ∙ ap (λ (m : PlainMethod). m.name) f))
+      subst (λ z. AreOneSlot z k) (sym e)
+      (subst (AreOneSlot (heading_of (method_made i))) (sym f) (record { first = refl; second = refl; params = refl; result = refl }))
+  one_slot i j h k (is_row lt e) (is_last l f) x s =
+      absurd (letters_differ (codes "g") (codes "main") refl (sym (ap (λ (m : PlainMethod). m.name) e) ∙ s ∙ ap (λ (m : PlainMethod). m.name) f))
   one_slot i j h k (is_last l e) (is_row lu f) x s = absurd (omega (arith, l, lu, x))
   one_slot i j h k (is_last l e) (is_last m f) x s = absurd (omega (arith, l, m, x))
 
-  apart : (c i j : ℕ) (h k : PlainMethod) → slice_get O.methods i ≡ Some h → slice_get O.methods j ≡ Some k → i < j → h.name ≡ k.name → IsSubclass O c h.owner → IsSubclass O c k.owner
+  apart : (c i j : ℕ) (h k : PlainMethod) → slice_get O.methods i ≡ Some h → slice_get O.methods j ≡ Some k → i < j → h.name ≡ k.name
+      → IsSubclass O c h.owner → IsSubclass O c k.owner
       → (AreOneSlot h k → ⊥) → ⊥
   apart c i j h k p q lt s u v other = other (one_slot i j h k (heading_at i h p) (heading_at j k q) lt s)
 
@@ -197,7 +210,8 @@ module _ (n : ℕ) (most : n ≤ 100) where
   few_mods _ _ (of_field {f = f} c) = let z = field_in n f c in field_mods z.0 f z.1
   few_mods _ _ (of_method {m = m} c) = let z = method_in n m c in method_mods z.0 m z.1
 
-  mods_agree : (kind : Kind) (mods : List Modifier) (i j : ℕ) (a b : Modifier) → FewMods kind mods → slice_get mods i ≡ Some a → slice_get mods j ≡ Some b → i < j → ⊥
+  mods_agree : (kind : Kind) (mods : List Modifier) (i j : ℕ) (a b : Modifier) → FewMods kind mods → slice_get mods i ≡ Some a → slice_get mods j ≡ Some b
+      → i < j → ⊥
   mods_agree kind mods i j a b no_mods p q lt = none_at [] i a refl p
   mods_agree kind mods i j a b of_main p q lt = let z = one_place main_head.mods _ j b refl q in omega (arith, z, lt)
 
@@ -231,9 +245,11 @@ module _ (n : ℕ) (most : n ≤ 100) where
   no_condition _ (face_as_parent {c = c} {k = k} d p named e h) = no_interface c k e h
   no_condition _ (class_as_face {d = d} {i = i} c f named e h) = let z = decl_in n d c in none_in (faces_named d) i (no_faces n z.0 d z.1) f
   no_condition _ (private_reused {i = i} {j = j} {h = h} {k = k} p q lt s o v u) =
-      ⊎_elim (λ x. false≢true (sym (not_private i h (method_at_place n i h p)) ∙ x)) (λ x. false≢true (sym (not_private j k (method_at_place n j k q)) ∙ x)) (or_cases (is_private h) (is_private k) v)
+      ⊎_elim (λ x. false≢true (sym (not_private i h (method_at_place n i h p)) ∙ x)) (λ x. false≢true (sym (not_private j k (method_at_place n j k q)) ∙ x))
+      (or_cases (is_private h) (is_private k) v)
   no_condition _ (no_main none) = none n (heading_of (main_made n)) main_there main_is
-  no_condition _ (modifiers_disagree {kind = kind} {mods = mods} {i = i} {j = j} {a = a} {b = b} h p q lt d) = mods_agree kind mods i j a b (few_mods kind mods h) p q lt
+  no_condition _ (modifiers_disagree {kind = kind} {mods = mods} {i = i} {j = j} {a = a} {b = b} h p q lt d) =
+      mods_agree kind mods i j a b (few_mods kind mods h) p q lt
   no_condition _ (modifier_unfit {kind = kind} {mods = mods} {a = a} h c u) = mods_fit kind mods a (few_mods kind mods h) c u
   no_condition _ (wrong_body {m = m} c w) = let z = method_in n m c in sound_body z.0 m z.1 w
   no_condition r (in_body {m = m} {ss = ss} c b f) = let z = method_in n m c in no_body_fault n most apart z.0 m ss r z.1 b f

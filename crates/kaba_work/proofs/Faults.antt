@@ -24,12 +24,14 @@ module _ (n : ℕ) (most : n ≤ 100) where
 
   -- methods of one name that meet are of one slot
   module _
-      (apart : (c i j : ℕ) (h k : PlainMethod) → slice_get O.methods i ≡ Some h → slice_get O.methods j ≡ Some k → i < j → h.name ≡ k.name → IsSubclass O c h.owner → IsSubclass O c k.owner
-          → (AreOneSlot h k → ⊥) → ⊥) where
+      (apart : (c i j : ℕ) (h k : PlainMethod) → slice_get O.methods i ≡ Some h → slice_get O.methods j ≡ Some k → i < j → h.name ≡ k.name
+      → IsSubclass O c h.owner → IsSubclass O c k.owner
+      → (AreOneSlot h k → ⊥) → ⊥) where
     abbrev HasFault : MethodAt → Statements → Refusal → Type 0
     HasFault m ss r = StsFault O (here_of m) false (map (λ q. q.name) m.head.params) ss r
 
-    body_holds : (m : MethodAt) (k : PlainMethod) (ss : Statements) (r : Refusal) → BodyResolves O m k → map (λ q. q.name) m.head.params ≡ bound_names (params_from 0 k.params) → m.body ≡ Some ss
+    body_holds : (m : MethodAt) (k : PlainMethod) (ss : Statements) (r : Refusal) → BodyResolves O m k
+        → map (λ q. q.name) m.head.params ≡ bound_names (params_from 0 k.params) → m.body ≡ Some ss
         → HasFault m ss r → ⊥
     body_holds m k ss r (r_no_body none b l) names e f = cc (sym none ∙ e)
     body_holds m k ss r (r_body {ss = given} {xs = xs} some b h c) names e f =
@@ -38,6 +40,8 @@ module _ (n : ℕ) (most : n ≤ 100) where
 
     pub no_body_fault : (j : ℕ) (m : MethodAt) (ss : Statements) (r : Refusal) → StandsAt method_at (main_at n) n j m → m.body ≡ Some ss → HasFault m ss r → ⊥
     no_body_fault j m ss r (is_row lt e) b f =
-        body_holds (method_at j) (method_made j) ss r (method_resolves n most j) refl (sym (ap (λ (z : MethodAt). z.body) e) ∙ b) (subst (λ (z : MethodAt). HasFault z ss r) e f)
+        body_holds (method_at j) (method_made j) ss r (method_resolves n most j) refl (sym (ap (λ (z : MethodAt). z.body) e) ∙ b)
+        (subst (λ (z : MethodAt). HasFault z ss r) e f)
     no_body_fault j m ss r (is_last l e) b f =
-        body_holds (main_at n) (main_made n) ss r (main_resolves n most) refl (sym (ap (λ (z : MethodAt). z.body) e) ∙ b) (subst (λ (z : MethodAt). HasFault z ss r) e f)
+        body_holds (main_at n) (main_made n) ss r (main_resolves n most) refl (sym (ap (λ (z : MethodAt). z.body) e) ∙ b)
+        (subst (λ (z : MethodAt). HasFault z ss r) e f)

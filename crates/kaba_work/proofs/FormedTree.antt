@@ -47,8 +47,17 @@ steps_formed a (suc n) h =
     let small : a < 100 = omega (arith, h) in
     let class = class_word a (wide a small) in
     let variable = variable_word a (wide a small) in
-    let field : IsFormed (extra a) = (variable, extra_word a (wide a small)) in
-    ((class, variable, (class, tt)), ((refl, field, number a (omega (arith, h))), ((refl, (omega arith, (variable, method_word, tt), field)), steps_formed (a + 1) n (omega (arith, h)))))
+    let field : IsFormed (extra a) = (variable, extra_word a (wide a small)) in (
+      (class, variable, (class, tt)),
+      (
+        (refl, field, number a (omega (arith, h))),
+        (
+          (refl, (omega arith, (variable, method_word, tt), field)),
+          steps_formed
+              (a + 1) n (omega (arith, h)),
+        ),
+      ),
+    )
 
 main_formed : (n : ℕ) → n ≤ 100 → IsFormedDecl (main_tree n)
 unfolding main_body
@@ -58,7 +67,8 @@ main_formed n h =
 pub sample_formed : (n : ℕ) → n ≤ 100 → IsFormedTree (sample_tree n)
 unfolding sample_tree
 sample_formed n h =
-    each_append IsFormedDecl (map class_tree (range_with_len 0 n)) (main_tree n ∷ []) (each_mapped IsFormedDecl class_tree 0 n (λ i k. class_formed i (omega (arith, h, k)))) (main_formed n h, tt)
+    each_append IsFormedDecl (map class_tree (range_with_len 0 n)) (main_tree n ∷ [])
+    (each_mapped IsFormedDecl class_tree 0 n (λ i k. class_formed i (omega (arith, h, k)))) (main_formed n h, tt)
 
 -- ---- a sample has no places
 
@@ -77,7 +87,8 @@ main_unplaced n = ap (λ ss. ClassTree [] (codes "Main") None [] (MethodTree mai
 rest_unplaced : (z a n : ℕ) → unplaced (map class_tree (range_with_len a n) ++ main_tree z ∷ []) ≡ map class_tree (range_with_len a n) ++ main_tree z ∷ []
 rest_unplaced z a zero = ap (λ d. d ∷ []) (main_unplaced z)
 rest_unplaced z a (suc n) =
-    ap (λ d. d ∷ unplaced (map class_tree (range_with_len (a + 1) n) ++ main_tree z ∷ [])) (class_unplaced a) ∙ ap (λ ds. class_tree a ∷ ds) (rest_unplaced z (a + 1) n)
+    ap (λ d. d ∷ unplaced (map class_tree (range_with_len (a + 1) n) ++ main_tree z ∷ [])) (class_unplaced a)
+    ∙ ap (λ ds. class_tree a ∷ ds) (rest_unplaced z (a + 1) n)
 
 sample_unplaced : (n : ℕ) → unplaced (sample_tree n) ≡ sample_tree n
 unfolding sample_tree

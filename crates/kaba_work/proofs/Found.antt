@@ -43,7 +43,8 @@ module _ (n : ℕ) where
 
   -- the supertypes of a class
   supers_are : (a : ℕ) (k : PlainClass) → slice_get (sample_program n).classes a ≡ Some k → supers_of (sample_program n) a ≡ option_to_list k.parent ++ k.faces
-  supers_are a k e = ap (λ (o : Option PlainClass). option_to_list (option_and_then (λ (x : PlainClass). x.parent) o) ++ option_map_or (λ (x : PlainClass). x.faces) o []) e
+  supers_are a k e =
+      ap (λ (o : Option PlainClass). option_to_list (option_and_then (λ (x : PlainClass). x.parent) o) ++ option_map_or (λ (x : PlainClass). x.faces) o []) e
 
   nothing_above_object : (b : ℕ) → IsProperSubclass (sample_program n) 0 b → ⊥
   unfolding sample_program
@@ -52,7 +53,8 @@ module _ (n : ℕ) where
   only_object_above_main : (b : ℕ) → IsProperSubclass (sample_program n) (suc n) b → b ≡ 0
   unfolding sample_program
   only_object_above_main b h =
-      let c : Contains (class_id 0 ∷ []) h.by = subst (λ xs. Contains xs h.by) (supers_are (suc n) main_class_made (last_at class_made main_class_made n)) h.direct in
+      let c : Contains (class_id 0 ∷ []) h.by =
+      subst (λ xs. Contains xs h.by) (supers_are (suc n) main_class_made (last_at class_made main_class_made n)) h.direct in
       let by : class_id 0 ≡ h.by = one (at_contains (class_id 0 ∷ []) h.by c) in
       let up : IsSubclass (sample_program n) 0 b = subst (λ (z : ClassId). IsSubclass (sample_program n) z.0 b) (sym by) h.rest in
       ⊎_elim (λ e. sym e) (λ p. absurd (nothing_above_object b p)) (subclass_cases (sample_program n) up)
@@ -63,11 +65,13 @@ module _ (n : ℕ) where
 
   -- no class of the chain is above Object or the main class
   pub chain_not_above_object : (j : ℕ) → below (sample_program n) 0 (suc j) ≡ true → ⊥
-  chain_not_above_object j h = ⊎_elim (λ e. cc e) (λ p. nothing_above_object (suc j) p) (subclass_cases (sample_program n) (below-subclass (sample_program n) 0 (suc j) h))
+  chain_not_above_object j h =
+      ⊎_elim (λ e. cc e) (λ p. nothing_above_object (suc j) p) (subclass_cases (sample_program n) (below-subclass (sample_program n) 0 (suc j) h))
 
   pub chain_not_above_main : (j : ℕ) → j < n → below (sample_program n) (suc n) (suc j) ≡ true → ⊥
   chain_not_above_main j lt h =
-      ⊎_elim (λ e. omega (arith, e, lt)) (λ p. let z = only_object_above_main (suc j) p in cc z) (subclass_cases (sample_program n) (below-subclass (sample_program n) (suc n) (suc j) h))
+      ⊎_elim (λ e. omega (arith, e, lt)) (λ p. let z = only_object_above_main (suc j) p in cc z)
+      (subclass_cases (sample_program n) (below-subclass (sample_program n) (suc n) (suc j) h))
 
   -- ---- fields
 
@@ -89,7 +93,9 @@ module _ (n : ℕ) where
   found_at i j x e =
       let P = sample_program n in
       let own = λ (k : ℕ). own_field_of P k x in
-      let z = passes-position (λ f. is_field_of (suc i) x f) P.fields j (field_made i x) e (and_from (suc i == suc i) (bytes_eq x x) (eq-eqb (suc i) (suc i) refl) (of_same x x refl)) in
+      let z =
+      passes-position (λ f. is_field_of (suc i) x f) P.fields j (field_made i x) e
+      (and_from (suc i == suc i) (bytes_eq x x) (eq-eqb (suc i) (suc i) refl) (of_same x x refl)) in
       let k = position-passes (λ f. is_field_of (suc i) x f) P.fields z.0 z.1 in
       let m = made z.0 k.0 k.1 in
       let static : is_static_field P z.0 ≡ false = ap (λ o. option_map_or (λ (f : PlainField). f.is_static) o false) k.1 ∙ m.0 in
@@ -129,7 +135,8 @@ module _ (n : ℕ) where
     pub stands : slice_get (sample_program n).methods m ≡ Some (method_made number)
 
   -- one that passes a test that main does not
-  chosen : (p : PlainMethod → Bool) (m : ℕ) (k : PlainMethod) → p (main_made n) ≡ false → slice_get (sample_program n).methods m ≡ Some k → p k ≡ true → IsMade m
+  chosen : (p : PlainMethod → Bool) (m : ℕ) (k : PlainMethod) → p (main_made n) ≡ false → slice_get (sample_program n).methods m ≡ Some k → p k ≡ true
+      → IsMade m
   unfolding sample_program
   chosen p m k not_main e h = at (stands method_made (main_made n) n m k e)
     where
@@ -200,8 +207,14 @@ module _ (n : ℕ) where
       let parent : parent_of P (suc (suc i)) ≡ Some (class_id (suc i)) = ap (option_and_then (λ (k : PlainClass). k.parent)) (class_stands (suc i) h) in
       let own = λ (k : ℕ). own_method P k method_name in
       let found : super_method P (suc (suc i)) method_name ≡ Some f.number =
-          ap (option_and_then (λ (p : ClassId). nearest_of P own p.0)) parent ∙ first_nearest P own (length P.classes) (suc i) f.number f.own in
-      record { number = f.number; found = found; body = made_body f.number f.made; signature = ap (option_and_then (signature_of_method P)) found ∙ made_signature f.number f.made }
+      ap (option_and_then (λ (p : ClassId). nearest_of P own p.0)) parent ∙ first_nearest P own (length P.classes) (suc i) f.number f.own in
+      record {
+        number = f.number;
+        found = found;
+        body = made_body f.number f.made;
+        signature = ap (option_and_then (signature_of_method P)) found
+            ∙ made_signature f.number f.made;
+      }
 
   -- the declaration of the slot nearest to a class of the chain
   pub declaration_found : (i : ℕ) → i < n → (d : ℕ) × (nearest_declaration (sample_program n) (suc i) 0 ≡ Some d) × (has_body (sample_program n) d ≡ true)
@@ -210,8 +223,12 @@ module _ (n : ℕ) where
       let P = sample_program n in
       let test = λ (m : PlainMethod). has_slot (suc i) 0 m in
       let z = passes-position test P.methods i (method_made i) (method_row i h) (and_from (suc i == suc i) true (eq-eqb (suc i) (suc i) refl) refl) in
-      let k = position-passes test P.methods z.0 z.1 in
-      (z.0, first_nearest P (λ c. own_declaration P c 0) (length P.classes) (suc i) z.0 z.1, made_body z.0 (chosen test z.0 k.0 (none (suc n == suc i)) k.1 k.2))
+      let k = position-passes test P.methods z.0 z.1 in (
+        z.0,
+        first_nearest P (λ c. own_declaration P c 0) (length P.classes) (suc i) z.0 z.1,
+        made_body z.0
+            (chosen test z.0 k.0 (none (suc n == suc i)) k.1 k.2),
+      )
     where
       none : (b : Bool) → (b && false) ≡ false
       none true = refl

@@ -37,17 +37,21 @@ bare_steps (i ∷ is) =
 bare_main : (n : ℕ) → bare_method (main_made n) ≡ main_made n
 bare_main n =
     let with : List PlainLocal → Sts → PlainMethod = λ ls xs. record (main_made n) { locals = ls; body = Some xs } in
-    ap (λ ls. with ls (bare_sts (main_body_made (range_with_len 0 n)))) (bare_locals 0 n) ∙ ap (with (map local_made (range_with_len 0 n))) (bare_steps (range_with_len 0 n))
+    ap (λ ls. with ls (bare_sts (main_body_made (range_with_len 0 n)))) (bare_locals 0 n)
+    ∙ ap (with (map local_made (range_with_len 0 n))) (bare_steps (range_with_len 0 n))
 
 sample_bare : (n : ℕ) → bare_program (sample_program n) ≡ sample_program n
 unfolding sample_program
 sample_bare n =
-    let made : List PlainClass → List PlainField → List PlainMethod → Plain = λ cs fs ms. record { classes = cs; fields = fs; methods = ms; slots = slot_made ∷ []; main = n } in
+    let made : List PlainClass → List PlainField → List PlainMethod → Plain =
+    λ cs fs ms. record { classes = cs; fields = fs; methods = ms; slots = slot_made ∷ []; main = n } in
     let P = sample_program n in
-    ap (λ cs. made (object ∷ cs) (map bare_field P.fields) (map bare_method P.methods)) (map_ends bare_class class_made class_made main_class_made 0 n (λ i h. refl))
+    ap (λ cs. made (object ∷ cs) (map bare_field P.fields) (map bare_method P.methods))
+    (map_ends bare_class class_made class_made main_class_made 0 n (λ i h. refl))
     ∙ ap (λ fs. made P.classes fs (map bare_method P.methods)) (map_pairs bare_field (λ i. field_made i (field_name i)) (λ i. field_made i (extra_name i)) 0 n)
     ∙ ap (λ ms. made P.classes P.fields ms)
-    (map_ends bare_method method_made method_made (main_made n) 0 n (λ i h. bare_made i) ∙ ap (λ k. map method_made (range_with_len 0 n) ++ k ∷ []) (bare_main n))
+    (map_ends bare_method method_made method_made (main_made n) 0 n (λ i h. bare_made i)
+    ∙ ap (λ k. map method_made (range_with_len 0 n) ++ k ∷ []) (bare_main n))
 
 -- ---- the laws
 
@@ -62,6 +66,7 @@ sample_has_program n one most = resolves n most one
 pub sample_typed : SampleIsTyped
 unfolding SampleIsTyped
 sample_typed n one most p r =
-    let same : program_of at_place p ≡ sample_program n = only (sample_tree n) (sample_formed n most) (no_condition n most) (program_of at_place p) (sample_program n) r (resolves n most one) in
+    let same : program_of at_place p ≡ sample_program n =
+    only (sample_tree n) (sample_formed n most) (no_condition n most) (program_of at_place p) (sample_program n) r (resolves n most one) in
     let bare : program_of no_place p ≡ sample_program n = sym (bare-program p) ∙ ap bare_program same ∙ sample_bare n in
     subst IsTyped (sym bare) (program_typed n)

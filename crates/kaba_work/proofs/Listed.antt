@@ -19,9 +19,11 @@ pub is_main_body : (ss : List Stmt) (i n : ℕ) → map stmt_of ss ≡ flat_map 
 unfolding main_body
 is_main_body ss i n h e = stmts_mapped ss ∙ ap statements h ∙ ap (λ k. statements (flat_map steps (range_with_len 0 k))) e
 
-pub is_sample : (old new : List Decl) (d : Decl) (i n : ℕ) → map decl_of old ≡ map class_tree (range_with_len 0 i) → i ≡ n → new ≡ old ++ d ∷ [] → decl_of d ≡ main_tree n
+pub is_sample : (old new : List Decl) (d : Decl) (i n : ℕ) → map decl_of old ≡ map class_tree (range_with_len 0 i) → i ≡ n → new ≡ old ++ d ∷ []
+    → decl_of d ≡ main_tree n
     → decls new ≡ sample_tree n
 unfolding sample_tree
 is_sample old new d i n h e push given =
-    decls_mapped new ∙ ap (map decl_of) push ∙ map-append decl_of old (d ∷ []) ∙ ap (λ xs. xs ++ decl_of d ∷ []) (h ∙ ap (λ k. map class_tree (range_with_len 0 k)) e)
+    decls_mapped new ∙ ap (map decl_of) push ∙ map-append decl_of old (d ∷ [])
+    ∙ ap (λ xs. xs ++ decl_of d ∷ []) (h ∙ ap (λ k. map class_tree (range_with_len 0 k)) e)
     ∙ ap (λ x. map class_tree (range_with_len 0 n) ++ x ∷ []) given

@@ -37,7 +37,8 @@ method_at i =
 abbrev pub main_at : ℕ → MethodAt
 main_at n = record { owner = suc n; kind = kinds.Method; in_abstract = false; head = main_head; body = Some (main_body n) }
 
-fields_rest : (z a n : ℕ) → fields_from (suc a) (map class_tree (range_with_len a n) ++ main_tree z ∷ []) ≡ flat_map (λ i. sum_field i ∷ extra_field i ∷ []) (range_with_len a n)
+fields_rest : (z a n : ℕ)
+    → fields_from (suc a) (map class_tree (range_with_len a n) ++ main_tree z ∷ []) ≡ flat_map (λ i. sum_field i ∷ extra_field i ∷ []) (range_with_len a n)
 fields_rest z a zero = refl
 fields_rest z a (suc n) =
     let s : suc a ≡ a + 1 = omega arith in
@@ -52,12 +53,14 @@ fields_are n = fields_rest n 0 n
 abbrev main_of : ℕ → ℕ → MethodAt
 main_of z c = record { owner = suc c; kind = kinds.Method; in_abstract = false; head = main_head; body = Some (main_body z) }
 
-methods_rest : (z a n : ℕ) → methods_from (suc a) (map class_tree (range_with_len a n) ++ main_tree z ∷ []) ≡ map method_at (range_with_len a n) ++ main_of z (a + n) ∷ []
+methods_rest : (z a n : ℕ)
+    → methods_from (suc a) (map class_tree (range_with_len a n) ++ main_tree z ∷ []) ≡ map method_at (range_with_len a n) ++ main_of z (a + n) ∷ []
 methods_rest z a zero = let s : a ≡ a + 0 = omega arith in ap (λ k. main_of z k ∷ []) s
 methods_rest z a (suc n) =
     let s : suc a ≡ a + 1 = omega arith in
     let t : a + 1 + n ≡ a + suc n = omega arith in
-    ap (λ k. method_at a ∷ methods_from (suc k) (map class_tree (range_with_len (a + 1) n) ++ main_tree z ∷ [])) s ∙ ap (λ xs. method_at a ∷ xs) (methods_rest z (a + 1) n)
+    ap (λ k. method_at a ∷ methods_from (suc k) (map class_tree (range_with_len (a + 1) n) ++ main_tree z ∷ [])) s
+    ∙ ap (λ xs. method_at a ∷ xs) (methods_rest z (a + 1) n)
     ∙ ap (λ k. method_at a ∷ (map method_at (range_with_len (a + 1) n) ++ main_of z k ∷ [])) t
 
 pub methods_are : (n : ℕ) → methods_in (sample_tree n) ≡ map method_at (range_with_len 0 n) ++ main_at n ∷ []
@@ -71,7 +74,15 @@ types_are n = ap (λ xs. codes "Object" ∷ xs) (map_ends name_of class_tree cla
 class_is : (n : ℕ) → n ≤ 100 → (types : List (List ℕ)) → types ≡ names n → (i : ℕ) → i < n → class_outline types (class_tree i) ≡ class_made i
 class_is n most types e zero h = refl
 class_is n most types e (suc i) h =
-    ap (λ (o : Option ℕ). let k : PlainClass = record { name = class_name (suc i); is_interface = false; is_abstract = false; parent = Some (class_at o); faces = []; tag = tag } in k)
+    ap (λ (o : Option ℕ). let k : PlainClass = record {
+      name = class_name (suc i);
+      is_interface = false;
+      is_abstract = false;
+      parent = Some
+          (class_at o);
+      faces = [];
+      tag = tag;
+    } in k)
     (ap (λ ts. type_named ts (class_name i)) e ∙ class_found n i most (omega (arith, h)))
 
 -- the outline of a sample is that of its program
@@ -82,7 +93,9 @@ module _ (n : ℕ) (most : n ≤ 100) where
   pub same_classes : (sample_program n).classes ≡ O.classes
   unfolding outline sample_tree sample_program
   same_classes =
-      sym (ap (λ xs. object ∷ xs) (map_ends (class_outline (types_in (sample_tree n))) class_tree class_made (main_tree n) 0 n (λ i h. class_is n most (types_in (sample_tree n)) (types_are n) i (omega (arith, h)))))
+      sym (ap (λ xs. object ∷ xs)
+      (map_ends (class_outline (types_in (sample_tree n))) class_tree class_made (main_tree n) 0 n
+      (λ i h. class_is n most (types_in (sample_tree n)) (types_are n) i (omega (arith, h)))))
 
   pub same_fields : (sample_program n).fields ≡ O.fields
   unfolding outline sample_program

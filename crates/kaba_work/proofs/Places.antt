@@ -14,7 +14,8 @@ pub data StandsAt {A : Type 0} (f : ℕ → A) (z : A) (n i : ℕ) (x : A) : Typ
   is_row : i < n → x ≡ f i → StandsAt f z n i x
   is_last : i ≡ n → x ≡ z → StandsAt f z n i x
 
-stands_from : {A : Type 0} (f : ℕ → A) (z : A) (a n i : ℕ) (x : A) → slice_get (map f (range_with_len a n) ++ z ∷ []) i ≡ Some x → ((i < n) × (x ≡ f (a + i))) ⊎ ((i ≡ n) × (x ≡ z))
+stands_from : {A : Type 0} (f : ℕ → A) (z : A) (a n i : ℕ) (x : A) → slice_get (map f (range_with_len a n) ++ z ∷ []) i ≡ Some x
+    → ((i < n) × (x ≡ f (a + i))) ⊎ ((i ≡ n) × (x ≡ z))
 stands_from f z a zero zero x e = inr (refl, sym (same_Some z x e))
 stands_from f z a zero (suc i) x e = absurd (cc e)
 stands_from f z a (suc n) zero x e = let s : a ≡ a + 0 = omega arith in inl (omega arith, sym (same_Some (f a) x e) ∙ ap f s)
@@ -64,7 +65,8 @@ pair_stands f g n j x e =
     elim z.2 [ inl h ↦ is_first z.0 z.1 h.0 (h.1 ∙ ap f s) | inr h ↦ is_second z.0 z.1 h.0 (h.1 ∙ ap g s) ]
 
 pairs_from : {A : Type 0} (f g : ℕ → A) (a n i : ℕ) → i < n
-    → (slice_get (flat_map (λ i. f i ∷ g i ∷ []) (range_with_len a n)) (2 * i) ≡ Some (f (a + i))) × (slice_get (flat_map (λ i. f i ∷ g i ∷ []) (range_with_len a n)) (2 * i + 1) ≡ Some (g (a + i)))
+    → (slice_get (flat_map (λ i. f i ∷ g i ∷ []) (range_with_len a n)) (2 * i) ≡ Some (f (a + i)))
+    × (slice_get (flat_map (λ i. f i ∷ g i ∷ []) (range_with_len a n)) (2 * i + 1) ≡ Some (g (a + i)))
 pairs_from f g a zero i h = absurd (omega (arith, h))
 pairs_from f g a (suc n) zero h = let s : a ≡ a + 0 = omega arith in (ap (λ k. Some (f k)) s, ap (λ k. Some (g k)) s)
 pairs_from {A} f g a (suc n) (suc i) h =
@@ -88,7 +90,8 @@ pub map_ends : {A B : Type 0} (v : A → B) (f : ℕ → A) (g : ℕ → B) (z :
     → map v (map f (range_with_len a n) ++ z ∷ []) ≡ map g (range_with_len a n) ++ v z ∷ []
 map_ends v f g z a zero h = refl
 map_ends v f g z a (suc n) h =
-    ap (λ x. x ∷ map v (map f (range_with_len (a + 1) n) ++ z ∷ [])) (h a (omega arith)) ∙ ap (λ xs. g a ∷ xs) (map_ends v f g z (a + 1) n (λ i k. h i (omega (arith, k))))
+    ap (λ x. x ∷ map v (map f (range_with_len (a + 1) n) ++ z ∷ [])) (h a (omega arith))
+    ∙ ap (λ xs. g a ∷ xs) (map_ends v f g z (a + 1) n (λ i k. h i (omega (arith, k))))
 
 pub map_pairs : {A B : Type 0} (v : A → B) (f g : ℕ → A) (a n : ℕ)
     → map v (flat_map (λ i. f i ∷ g i ∷ []) (range_with_len a n)) ≡ flat_map (λ i. v (f i) ∷ v (g i) ∷ []) (range_with_len a n)

@@ -27,7 +27,9 @@ one_flat f n = ap (flat_map f) (one_more n) ∙ flat_map-append f (range_with_le
     end (x ∷ xs) = ap (λ ys. x ∷ ys) (end xs)
 
 -- one item more behind those that are there
-pub one_pushed : {A B : Type 0} (view : A → B) (f : ℕ → B) (old new : List A) (n : ℕ) (a : A) → map view old ≡ map f (range_with_len 0 n) → new ≡ old ++ a ∷ [] → view a ≡ f n
+pub one_pushed : {A B : Type 0} (view : A → B) (f : ℕ → B) (old new : List A) (n : ℕ) (a : A) → map view old ≡ map f (range_with_len 0 n)
+    → new ≡ old ++ a ∷ [] → view a ≡ f n
     → map view new ≡ map f (range_with_len 0 (n + 1))
 one_pushed view f old new n a before push given =
-    ap (map view) push ∙ map-append view old (a ∷ []) ∙ ap (λ xs. xs ++ view a ∷ []) before ∙ ap (λ b. map f (range_with_len 0 n) ++ b ∷ []) given ∙ sym (one_mapped f n)
+    ap (map view) push ∙ map-append view old (a ∷ []) ∙ ap (λ xs. xs ++ view a ∷ []) before ∙ ap (λ b. map f (range_with_len 0 n) ++ b ∷ []) given
+    ∙ sym (one_mapped f n)

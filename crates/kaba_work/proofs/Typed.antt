@@ -25,7 +25,8 @@ number_value = a_value int
 
 module _ (P : Plain) (g : Env) where
   sum_static : (e d : Ex) → static P g e ≡ number_value → static P g d ≡ number_value → static P g (sum_made e d) ≡ number_value
-  sum_static e d h k = ap (λ s. a_value (sum_type (is_string s || is_string (static P g d)))) h ∙ ap (λ s. a_value (sum_type (is_string number_value || is_string s))) k
+  sum_static e d h k =
+      ap (λ s. a_value (sum_type (is_string s || is_string (static P g d)))) h ∙ ap (λ s. a_value (sum_type (is_string number_value || is_string s))) k
 
   sum_typed : (e d : Ex) → Typed P g e → Typed P g d → static P g e ≡ number_value → static P g d ≡ number_value → Typed P g (sum_made e d)
   sum_typed e d te td h k =
@@ -71,7 +72,8 @@ module _ (n : ℕ) where
       let above = super_found n i h in
       let f = field_found n (suc i) h in
       sum_typed P g (super_call tag method_name no_ex) (own_made (field_name (suc i))) (t_super_call above.found above.body above.signature t_no_ex)
-      (access_typed g (suc i) (this tag) t_this refl (field_name (suc i)) f) (ap result_of above.signature) (access_static g (suc i) (this tag) t_this refl (field_name (suc i)) f)
+      (access_typed g (suc i) (this tag) t_this refl (field_name (suc i)) f) (ap result_of above.signature)
+      (access_static g (suc i) (this tag) t_this refl (field_name (suc i)) f)
 
   body_typed : (m i : ℕ) → i < n → TypedSts P (env_of m (method_made i)) (body_made i)
   body_typed m i h =
@@ -79,10 +81,11 @@ module _ (n : ℕ) where
       let f = field_found n i h in
       let own = access_static g i (this tag) t_this refl (field_name i) f in
       let sum : Typed P g (sum_made (own_made (field_name i)) (number tag (pos (i + 1)))) =
-          sum_typed P g (own_made (field_name i)) (number tag (pos (i + 1))) (access_typed g i (this tag) t_this refl (field_name i) f) t_number own refl in
+      sum_typed P g (own_made (field_name i)) (number tag (pos (i + 1))) (access_typed g i (this tag) t_this refl (field_name i) f) t_number own refl in
       t_st_then
       (t_assign (target_typed g i (this tag) t_this refl (field_name i) f) sum
-      (numbers_fit P g _ _ (sum_static P g (own_made (field_name i)) (number tag (pos (i + 1))) own refl) (target_static g i (this tag) t_this refl (field_name i) f)))
+      (numbers_fit P g _ _ (sum_static P g (own_made (field_name i)) (number tag (pos (i + 1))) own refl)
+      (target_static g i (this tag) t_this refl (field_name i) f)))
       (t_st_then (t_return (total_typed m i h) refl (ap (λ s. fits P s int) (total_static m i h))) t_no_st)
 
   -- ---- main
@@ -93,7 +96,8 @@ module _ (n : ℕ) where
 
     variable_type : (i : ℕ) → i < n → slice_get (env_of m (main_made n)).locals (suc i) ≡ Some (class_type (suc i))
     variable_type i h =
-        slice_get-map (λ (l : PlainLocal). l.ty) (map local_made (range_with_len 0 n)) i ∙ ap (option_map (λ (l : PlainLocal). l.ty)) (mapped_at local_made n i h)
+        slice_get-map (λ (l : PlainLocal). l.ty) (map local_made (range_with_len 0 n)) i
+        ∙ ap (option_map (λ (l : PlainLocal). l.ty)) (mapped_at local_made n i h)
 
     concrete : (i : ℕ) → i < n → is_concrete P (suc i) ≡ true
     concrete i h = ap (λ o. option_map_or (λ (k : PlainClass). not k.is_interface && not k.is_abstract) o false) (class_stands n i h)
@@ -109,19 +113,24 @@ module _ (n : ℕ) where
         let f = extra_found n a lt in
         let signature = ap (λ s. call_signature P s method_name) v ∙ call_is n a lt in
         let e = access_static G a (variable_made a) t_local v (extra_name a) f in
-        let sum = sum_typed P G (call tag (variable_made a) method_name no_ex) (extra_made a) (t_call t_local signature t_no_ex) (access_typed G a (variable_made a) t_local v (extra_name a) f)
-            (ap result_of signature) e in
+        let sum =
+        sum_typed P G (call tag (variable_made a) method_name no_ex) (extra_made a) (t_call t_local signature t_no_ex)
+        (access_typed G a (variable_made a) t_local v (extra_name a) f)
+        (ap result_of signature) e in
         let value = sum_static P G (call tag (variable_made a) method_name no_ex) (extra_made a) (ap result_of signature) e in
-        t_st_then (t_declare_as (t_create (concrete a lt)) (ap (λ o. fits_in P (a_value (class_type (suc a))) (or_nothing o)) (variable_type a lt) ∙ object_fits a))
+        t_st_then (t_declare_as (t_create (concrete a lt))
+        (ap (λ o. fits_in P (a_value (class_type (suc a))) (or_nothing o)) (variable_type a lt) ∙ object_fits a))
         (t_st_then
-        (t_assign (target_typed G a (variable_made a) t_local v (extra_name a) f) t_number (numbers_fit P G _ _ refl (target_static G a (variable_made a) t_local v (extra_name a) f)))
+        (t_assign (target_typed G a (variable_made a) t_local v (extra_name a) f) t_number
+        (numbers_fit P G _ _ refl (target_static G a (variable_made a) t_local v (extra_name a) f)))
         (t_st_then (t_print sum (ap is_printable value)) (steps_typed (a + 1) k (omega (arith, h)))))
 
   -- ---- methods
 
   method_typed : (m : ℕ) (k : PlainMethod) → StandsAt method_made (main_made n) n m k → IsTypedMethod P m k
   unfolding IsTypedMethod
-  method_typed m k (is_row lt s) = subst (IsTypedMethod P m) (sym s) (λ xs b. subst (TypedSts P (env_of m (method_made m))) (same_Some (body_made m) xs b) (body_typed m m lt))
+  method_typed m k (is_row lt s) =
+      subst (IsTypedMethod P m) (sym s) (λ xs b. subst (TypedSts P (env_of m (method_made m))) (same_Some (body_made m) xs b) (body_typed m m lt))
   method_typed m k (is_last l s) =
       subst (IsTypedMethod P m) (sym s)
       (λ xs b. subst (TypedSts P (env_of m (main_made n))) (same_Some (main_body_made (range_with_len 0 n)) xs b) (steps_typed m 0 n (omega arith)))
@@ -162,11 +171,13 @@ module _ (n : ℕ) where
       let d = declaration_found n i lt in
       (d.0, ap (nearest_declaration (sample_program n) (suc i)) z.slot ∙ d.1, d.2)
   class_bodies i k (is_last l e) s m o =
-      absurd (let z = of_chain (suc i) s m o in chain_not_above_main n z.class z.there (ap (λ c. below (sample_program n) (suc c) (suc z.class)) (sym l) ∙ above_owner (suc i) s m o z))
+      absurd (let z = of_chain (suc i) s m o in
+      chain_not_above_main n z.class z.there (ap (λ c. below (sample_program n) (suc c) (suc z.class)) (sym l) ∙ above_owner (suc i) s m o z))
 
   public_methods : (c : ℕ) → HasPublicMethods (sample_program n) c
   unfolding HasPublicMethods
-  public_methods c s m o h = absurd (let z = of_chain c s m o in false≢true (sym (ap (is_interface (sample_program n)) z.owner ∙ no_interface n z.class z.there) ∙ h))
+  public_methods c s m o h =
+      absurd (let z = of_chain c s m o in false≢true (sym (ap (is_interface (sample_program n)) z.owner ∙ no_interface n z.class z.there) ∙ h))
 
   class_typed : (c : ℕ) (k : PlainClass) → slice_get (sample_program n).classes c ≡ Some k → IsTypedClass (sample_program n) c
   unfolding sample_program

@@ -59,7 +59,8 @@ no_faces n j d (is_row lt e) = ap faces_named e
 no_faces n j d (is_last l e) = ap faces_named e
 
 -- the superclass that a declaration names is one before it
-pub parent_is : (n j : ℕ) (d : DeclTree) (i : Id) → StandsAt class_tree (main_tree n) n j d → parent_named d ≡ Some i → (k : ℕ) × (k < n) × (i ≡ id (class_name k))
+pub parent_is : (n j : ℕ) (d : DeclTree) (i : Id) → StandsAt class_tree (main_tree n) n j d → parent_named d ≡ Some i
+    → (k : ℕ) × (k < n) × (i ≡ id (class_name k))
 parent_is n zero d i (is_row lt e) p = absurd (cc (sym (ap parent_named e) ∙ p))
 parent_is n (suc j) d i (is_row lt e) p = (j, omega (arith, lt), sym (same_Some (id (class_name j)) i (sym (ap parent_named e) ∙ p)))
 parent_is n j d i (is_last l e) p = absurd (cc (sym (ap parent_named e) ∙ p))

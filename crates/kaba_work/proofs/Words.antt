@@ -30,7 +30,8 @@ not_false : (b : Bool) → not b ≡ true → b ≡ false
 not_false true h = absurd (false≢true h)
 not_false false h = refl
 
-no_key : (ks : List Keyword) (name : List ℕ) → list_all (λ k. not (has_digit (key_text k))) ks ≡ true → has_digit name ≡ true → is_none (first_that (λ k. bytes_eq (key_text k) name) ks) ≡ true
+no_key : (ks : List Keyword) (name : List ℕ) → list_all (λ k. not (has_digit (key_text k))) ks ≡ true → has_digit name ≡ true
+    → is_none (first_that (λ k. bytes_eq (key_text k) name) ks) ≡ true
 no_key [] name all digit = refl
 no_key (k ∷ ks) name all digit =
     let p = and_parts (not (has_digit (key_text k))) (list_all (λ k. not (has_digit (key_text k))) ks) all in
@@ -41,7 +42,8 @@ no_key (k ∷ ks) name all digit =
 
 parts : (ds : List ℕ) → list_all is_ascii_digit ds ≡ true → list_all is_part ds ≡ true
 parts [] h = refl
-parts (d ∷ ds) h = let p = and_parts (is_ascii_digit d) (list_all is_ascii_digit ds) h in and_from (is_part d) (list_all is_part ds) (digit_is_part d p.0) (parts ds p.1)
+parts (d ∷ ds) h =
+    let p = and_parts (is_ascii_digit d) (list_all is_ascii_digit ds) h in and_from (is_part d) (list_all is_part ds) (digit_is_part d p.0) (parts ds p.1)
 
 some_digit : (ds : List ℕ) → 0 < length ds → list_all is_ascii_digit ds ≡ true → has_digit ds ≡ true
 some_digit [] h k = absurd (omega (arith, h))
@@ -55,7 +57,8 @@ numbered c n start letter small h =
     let ascii : IsAscii (c ∷ decimal n) = IsAscii-cons c (decimal n) small (IsAscii-decimal n h) in
     record {
       named =
-          and_from (is_word (c ∷ decimal n)) (is_none (key_of (c ∷ decimal n))) (and_from (is_start c) (list_all is_part (decimal n)) start (parts (decimal n) digits))
+          and_from (is_word (c ∷ decimal n)) (is_none (key_of (c ∷ decimal n)))
+          (and_from (is_start c) (list_all is_part (decimal n)) start (parts (decimal n) digits))
           (no_key KEYWORDS (c ∷ decimal n) plain_keys digit);
       scalars = ap all_scalars (sym (chars-IsAscii (c ∷ decimal n) ascii)) ∙ scalars-chars (c ∷ decimal n) (IsUtf8-from_ascii (c ∷ decimal n) ascii);
     }

@@ -15,6 +15,7 @@ use Rattle.kaba_work.specs.Sample.{nowhere, class_name, field_name, extra_name, 
 abbrev pub tag : Tag
 tag = at_place nowhere
 
+-- the type of numbers
 abbrev pub int : Ty
 int = plain_type Int
 
@@ -22,41 +23,62 @@ int = plain_type Int
 abbrev pub class_made : ℕ → PlainClass
 class_made i = record { name = class_name i; is_interface = false; is_abstract = false; parent = Some (class_id i); faces = []; tag = tag }
 
+-- the main class has the number n + 1
 abbrev pub main_class_made : PlainClass
 main_class_made = record { name = codes "Main"; is_interface = false; is_abstract = false; parent = Some (class_id 0); faces = []; tag = tag }
 
+-- a field of the class Ki
 abbrev pub field_made : ℕ → List ℕ → PlainField
 field_made i n = record { owner = suc i; name = n; is_static = false; ty = int; tag = tag }
 
+-- its two fields, of the numbers 2 * i and 2 * i + 1
 abbrev pub fields_made : ℕ → List PlainField
 fields_made i = field_made i (field_name i) ∷ field_made i (extra_name i) ∷ []
 
+-- a field of `this`
 abbrev pub own_made : List ℕ → Ex
 own_made n = field tag (this tag) n
 
+-- the sum of two numbers
 abbrev pub sum_made : Ex → Ex → Ex
 sum_made a b = binary tag (bin.Int op.Plus) a b
 
+-- what the method of Ki gives
 abbrev pub total_made : ℕ → Ex
 total_made zero = own_made (field_name 0)
 total_made (suc i) = sum_made (super_call tag method_name no_ex) (own_made (field_name (suc i)))
 
+-- its body
 abbrev pub body_made : ℕ → Sts
 body_made i =
-    st_then (assign tag (to_field tag (this tag) (field_name i)) (sum_made (own_made (field_name i)) (number tag (pos (i + 1))))) (st_then (return tag (Some (total_made i))) no_st)
+    st_then (assign tag (to_field tag (this tag) (field_name i)) (sum_made (own_made (field_name i)) (number tag (pos (i + 1)))))
+    (st_then (return tag (Some (total_made i))) no_st)
 
 -- the method of Ki has the number i
 abbrev pub method_made : ℕ → PlainMethod
 method_made i =
-    record { owner = suc i; name = method_name; is_static = false; is_public = false; slot = Some 0; params = []; locals = []; result = Some int; body = Some (body_made i); tag = tag }
+    record {
+      owner = suc i;
+      name = method_name;
+      is_static = false;
+      is_public = false;
+      slot = Some 0;
+      params = [];
+      locals = [];
+      result = Some int;
+      body = Some (body_made i);
+      tag = tag;
+    }
 
 -- the variable of Ki has the number i + 1, since `args` has the number 0
 abbrev pub variable_made : ℕ → Ex
 variable_made i = local tag (suc i)
 
+-- its field that is set from outside
 abbrev pub extra_made : ℕ → Ex
 extra_made i = field tag (variable_made i) (extra_name i)
 
+-- what main does with the classes of these numbers; the creation of a Ki has the number i
 abbrev pub main_body_made : List ℕ → Sts
 main_body_made [] = no_st
 main_body_made (i ∷ is) =
@@ -64,12 +86,15 @@ main_body_made (i ∷ is) =
     (st_then (assign tag (to_field tag (variable_made i) (extra_name i)) (number tag (pos i)))
     (st_then (print tag true (Some (sum_made (call tag (variable_made i) method_name no_ex) (extra_made i)))) (main_body_made is)))
 
+-- the variable of Ki as main declares it
 abbrev pub local_made : ℕ → PlainLocal
 local_made i = record { name = variable_name i; ty = class_type (suc i); tag = tag }
 
+-- the parameter of main
 abbrev pub args_made : PlainLocal
 args_made = record { name = codes "args"; ty = record { base = Str; dim = 1 }; tag = tag }
 
+-- main in a sample of n classes
 abbrev pub main_made : ℕ → PlainMethod
 main_made n =
     record {

@@ -1,4 +1,4 @@
--- The sample programs: a chain of classes, each with a field that its method adds to and one that is set from outside, and a main class that makes an object of each.
+-- The sample programs: a chain of classes, each with a field that its method adds to and one that is set from outside; main makes an object of each.
 use Rattle.std.specs.Prelude.{ℕ, zero, suc, ◌+◌, pos, false, true, List, [], ◌∷◌, ◌++◌, map, Option, Some, None, codes}
 use Rattle.std.specs.List.{range_with_len, flat_map}
 use Rattle.std.specs.Fmt.{decimal}
@@ -15,19 +15,23 @@ use Rattle.java_tree.specs.Syntax.{Expression, IntLit, ThisRef, NameRef, FieldOf
 abbrev pub nowhere : Place
 nowhere = record { at = 0; line = 0 }
 
+-- a name without a place
 abbrev pub id : List ℕ → Id
 id n = record { name = n; place = nowhere }
 
--- the names: of the class i, its two fields and the variable that holds an object of it
+-- the name of the class i
 abbrev pub class_name : ℕ → List ℕ
 class_name i = codes "K" ++ decimal i
 
+-- the name of the field that its method adds to
 abbrev pub field_name : ℕ → List ℕ
 field_name i = codes "f" ++ decimal i
 
+-- the name of the field that is set from outside
 abbrev pub extra_name : ℕ → List ℕ
 extra_name i = codes "e" ++ decimal i
 
+-- the name of the variable that holds an object of it
 abbrev pub variable_name : ℕ → List ℕ
 variable_name i = codes "v" ++ decimal i
 
@@ -35,9 +39,11 @@ variable_name i = codes "v" ++ decimal i
 abbrev pub method_name : List ℕ
 method_name = codes "g"
 
+-- the type of numbers
 abbrev pub int_type : TypeName
 int_type = record { base = bases.Int; dim = 0; place = nowhere }
 
+-- the type of the objects of the class i
 abbrev pub class_type : ℕ → TypeName
 class_type i = record { base = bases.Named (class_name i); dim = 0; place = nowhere }
 
@@ -45,6 +51,7 @@ class_type i = record { base = bases.Named (class_name i); dim = 0; place = nowh
 abbrev pub own_field : List ℕ → Expression
 own_field n = FieldOf (ThisRef nowhere) n nowhere
 
+-- `a + b`
 abbrev pub sum_of : Expression → Expression → Expression
 sum_of a b = BinaryOf marks.Plus a b nowhere
 
@@ -57,6 +64,7 @@ abbrev pub total : ℕ → Expression
 total zero = own_field (field_name 0)
 total (suc i) = sum_of (SuperCallOf method_name no_more nowhere) (own_field (field_name (suc i)))
 
+-- `int g()`
 abbrev pub method_head : HeadTree
 method_head = record { mods = []; type = Some int_type; name = method_name; params = []; place = nowhere }
 
@@ -73,6 +81,7 @@ abbrev pub parent_named : ℕ → Option Id
 parent_named zero = None
 parent_named (suc i) = Some (id (class_name i))
 
+-- the members of the class i
 abbrev pub class_members : ℕ → List MemberTree
 class_members i = field_tree (field_name i) ∷ field_tree (extra_name i) ∷ method_tree i ∷ []
 
@@ -80,6 +89,7 @@ class_members i = field_tree (field_name i) ∷ field_tree (extra_name i) ∷ me
 abbrev pub class_tree : ℕ → DeclTree
 class_tree i = ClassTree [] (class_name i) (parent_named i) [] (class_members i) nowhere
 
+-- the variable that holds an object of the class i
 abbrev pub variable : ℕ → Expression
 variable i = NameRef (variable_name i) nowhere
 
