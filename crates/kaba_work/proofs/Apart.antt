@@ -1,5 +1,5 @@
 -- The names of a sample are apart: they begin with different letters, or have different numbers.
-use Rattle.std.proofs.Common.{◌≡◌, ◌≢◌, ℕ, zero, suc, ◌+◌, ◌^◌, ◌<◌, ◌≤◌, Bool, true, false, List, [], ◌∷◌, ◌++◌, map, Option, Some, None, refl, sym, ap, ◌∙◌, subst, arith}
+use Rattle.std.proofs.Common.{◌≡◌, ℕ, zero, suc, ◌<◌, ◌≤◌, Bool, true, false, List, [], ◌∷◌, ◌++◌, map, Option, Some, None, refl, sym, ap, ◌∙◌, arith}
 use Rattle.std.specs.Prelude.{◌||◌, ◌==◌, nat_lt, codes, slice_get, position}
 use Rattle.std.specs.Option.{is_some}
 use Rattle.std.specs.List.{range_with_len}
@@ -11,8 +11,8 @@ use Rattle.std.proofs.lemmas.Option.{same_Some}
 use Rattle.std.proofs.lemmas.Slice.Eq.{bytes_eq-Decides}
 use Rattle.java_core.proofs.Positions.{position-passes, passes-position}
 use Rattle.name_rules.specs.Outline.{type_named, is_known, is_type_name}
-use Rattle.kaba_work.specs.Sample.{class_name, field_name, extra_name, variable_name}
-use Rattle.kaba_work.proofs.Places.{is_row, is_last, StandsAt, stands, row_at, last_at}
+use Rattle.kaba_work.specs.Sample.{class_name, variable_name}
+use Rattle.kaba_work.proofs.Places.{is_row, is_last, StandsAt, stands, row_at}
 
 -- the first that passes, where only one does
 pub position_is : {A : Type 0} (p : A → Bool) (xs : List A) (i : ℕ) (x : A) → slice_get xs i ≡ Some x → p x ≡ true

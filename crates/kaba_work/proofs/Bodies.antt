@@ -1,20 +1,20 @@
 -- The bodies of a sample resolve to those of its program.
-use Rattle.std.proofs.Common.{◌≡◌, ℕ, zero, suc, ◌+◌, ◌<◌, ◌≤◌, ◌||◌, Bool, true, false, List, [], ◌∷◌, ◌++◌, map, length, Option, Some, None, refl, sym, ap, ◌∙◌, subst, arith}
+use Rattle.std.proofs.Common.{◌≡◌, ℕ, zero, suc, ◌+◌, ◌<◌, ◌≤◌, false, List, [], ◌∷◌, ◌++◌, map, length, Some, refl, sym, ap, ◌∙◌, subst, arith}
 use Rattle.std.specs.Prelude.{slice_get}
 use Rattle.std.specs.List.{range_with_len, flat_map}
 use Rattle.std.specs.Str.{bytes_eq}
 use Rattle.std.proofs.lemmas.Bool.{or_parts, or_from, false_from_ne_true}
 use Rattle.std.proofs.lemmas.List.FromFn.{length-map-range_with_len}
-use Rattle.java_core.specs.Programs.{Plain, PlainMethod, PlainLocal}
+use Rattle.java_core.specs.Programs.{Plain}
 use Rattle.java_core.specs.Types.{class_type}
-use Rattle.java_core.specs.Formed.{variables_of, numbers, numbers_body, numbers_sts, numbers_methods}
+use Rattle.java_core.specs.Formed.{variables_of, numbers_body, numbers_sts, numbers_methods}
 use Rattle.name_rules.specs.declared.parts.Bound.{Bound}
 use Rattle.name_rules.specs.declared.parts.Here.{Here}
 use Rattle.name_rules.specs.Outline.{outline}
-use Rattle.name_rules.specs.Meanings.{local_of, in_scope, is_bound, bound_names, a_class}
+use Rattle.name_rules.specs.Meanings.{in_scope, is_bound, bound_names, a_class}
 use Rattle.name_rules.specs.Resolves.{Counts, no_number, next_number, ResolvesTo, r_number, r_this, r_local, r_field, r_call, r_super_call, r_create, r_binary, r_no_more, r_some, bound, IsLocal, StsResolve, r_declare, r_assign, r_print, r_return, r_no_statements, r_and_then, declares_all, here_of, params_from, BodyResolves, r_body, BodiesResolve, r_no_methods, r_method}
-use Rattle.kaba_work.specs.Sample.{nowhere, class_name, variable_name, class_type as type_of, total, steps, statements, main_body, sample_tree}
-use Rattle.kaba_work.specs.Program.{total_made, body_made, method_made, main_body_made, local_made, main_made}
+use Rattle.kaba_work.specs.Sample.{nowhere, variable_name, class_type as type_of, total, steps, statements, main_body, sample_tree}
+use Rattle.kaba_work.specs.Program.{total_made, method_made, main_body_made, local_made, main_made}
 use Rattle.kaba_work.proofs.Places.{mapped_at}
 use Rattle.kaba_work.proofs.Apart.{of_same, to_same, variable_same}
 use Rattle.kaba_work.proofs.Outlined.{method_at, main_at, named, free}

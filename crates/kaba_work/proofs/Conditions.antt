@@ -1,30 +1,25 @@
 -- None of the conditions that refuse a text's names holds of a sample.
-use Rattle.std.proofs.Common.{◌≡◌, ◌≢◌, ℕ, zero, suc, ◌+◌, ◌*◌, ◌<◌, ◌≤◌, ◌⊎◌, inl, inr, ⊎_elim, Bool, true, false, ◌||◌, List, [], ◌∷◌, ◌++◌, map, Option, Some, None, Contains, refl, sym, ap, ◌∙◌, subst, arith}
+use Rattle.std.proofs.Common.{◌≡◌, ℕ, zero, suc, ◌<◌, ◌≤◌, ◌⊎◌, inl, inr, ⊎_elim, true, false, List, [], ◌∷◌, ◌++◌, Option, Some, None, Contains, refl, sym, ap, ◌∙◌, subst, arith}
 use Rattle.std.specs.Prelude.{slice_get, codes}
 use Rattle.std.specs.Option.{is_some, option_to_list, option_map_or, option_and_then}
-use Rattle.std.specs.List.{range_with_len}
 use Rattle.std.proofs.lemmas.Bool.{false≢true, or_cases}
 use Rattle.std.proofs.lemmas.Option.{same_Some}
 use Rattle.kaba_base.specs.declared.ClassId.{ClassId}
-use Rattle.kaba_base.specs.declared.Place.{Place}
-use Rattle.java_tree.specs.declared.Id.{Id}
 use Rattle.java_tree.specs.declared.Modifier.{Modifier}
 use Rattle.java_tree.specs.declared.Param.{Param}
-use Rattle.java_tree.specs.Syntax.{Statements, DeclTree}
+use Rattle.java_tree.specs.Syntax.{DeclTree}
 use Rattle.java_core.specs.Programs.{Plain, PlainClass, PlainMethod}
 use Rattle.java_core.specs.Classes.{supers_of, IsSubclass, same_class, through, IsProperSubclass}
 use Rattle.java_core.specs.Formed.{IsMain}
-use Rattle.name_rules.specs.declared.Refusal.{Refusal}
 use Rattle.name_rules.specs.declared.parts.Kind.{Kind}
 use Rattle.name_rules.specs.declared.parts.Kind.TheVariants as kinds
-use Rattle.name_rules.specs.Outline.{FieldAt, MethodAt, is_private, has_word, is_abstract_word, is_known, is_type_name, name_of, mods_of, parent_named, faces_named, types_in, fields_in, methods_in, class_id, object, outline}
-use Rattle.name_rules.specs.Meanings.{class_named}
+use Rattle.name_rules.specs.Outline.{FieldAt, MethodAt, is_private, has_word, is_abstract_word, is_known, is_type_name, name_of, mods_of, faces_named, types_in, class_id, object, outline}
 use Rattle.name_rules.specs.Resolves.{heading_of}
-use Rattle.name_rules.specs.Conditions.{ConditionAt, unknown, type_twice, known_twice, super_twice, field_twice, method_twice, param_twice, loop, overload, type_as_field, type_as_param, face_as_parent, class_as_face, private_reused, no_main, modifiers_disagree, modifier_unfit, wrong_body, in_body, AreOneSlot, HasModifiers, of_type, of_field, of_method, HasWrongBody, missing, superfluous, in_concrete, disagree, is_unfit, kind_of}
+use Rattle.name_rules.specs.Conditions.{unknown, type_twice, known_twice, super_twice, field_twice, method_twice, param_twice, loop, overload, type_as_field, type_as_param, face_as_parent, class_as_face, private_reused, no_main, modifiers_disagree, modifier_unfit, wrong_body, in_body, AreOneSlot, HasModifiers, of_type, of_field, of_method, HasWrongBody, missing, superfluous, in_concrete, is_unfit, kind_of}
 use Rattle.name_rules.specs.Causes.{HasNoCondition}
-use Rattle.kaba_work.specs.Sample.{id, class_name, main_head, main_param, class_tree, main_tree, sample_tree}
+use Rattle.kaba_work.specs.Sample.{class_name, main_head, main_param, class_tree, main_tree, sample_tree}
 use Rattle.kaba_work.specs.Program.{class_made, main_class_made, method_made, main_made, sample_program}
-use Rattle.kaba_work.proofs.Places.{at_contains, StandsAt, is_row, is_last, stands, last_at, PairAt, is_first, is_second}
+use Rattle.kaba_work.proofs.Places.{StandsAt, is_row, is_last, stands, last_at, PairAt, is_first, is_second}
 use Rattle.kaba_work.proofs.Apart.{class_same, small_free, letters_differ}
 use Rattle.kaba_work.proofs.Outlined.{sum_field, extra_field, method_at, main_at, types_are, same_classes, headings}
 use Rattle.kaba_work.proofs.Whole.{decl_at, decl_in, field_at_place, field_in, method_at_place, method_in, none_in, one_in, no_faces, params_are, asks_known}

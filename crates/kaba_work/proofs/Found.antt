@@ -1,18 +1,18 @@
 -- What is found in the program of a sample: fields, methods and supertypes.
-use Rattle.std.proofs.Common.{◌≡◌, ℕ, zero, suc, ◌+◌, ◌*◌, ◌<◌, ◌≤◌, ◌⊎◌, ⊎_elim, Bool, true, false, List, [], ◌∷◌, ◌++◌, map, length, Option, Some, None, Contains, refl, sym, ap, ◌∙◌, subst, arith}
-use Rattle.std.specs.Prelude.{◌==◌, ◌&&◌, ◌||◌, not, slice_get, option_and_then, codes}
+use Rattle.std.proofs.Common.{◌≡◌, ℕ, zero, suc, ◌+◌, ◌*◌, ◌<◌, ⊎_elim, Bool, true, false, List, [], ◌∷◌, ◌++◌, length, Option, Some, Contains, refl, sym, ap, ◌∙◌, subst, arith}
+use Rattle.std.specs.Prelude.{◌==◌, ◌&&◌, slice_get, option_and_then}
 use Rattle.std.specs.Option.{option_map, option_map_or, option_to_list, is_some}
-use Rattle.std.specs.List.{range_with_len, list_any}
+use Rattle.std.specs.List.{list_any}
 use Rattle.std.specs.Str.{bytes_eq}
-use Rattle.std.proofs.lemmas.Bool.{false≢true, and_parts, and_from, or_left, eq-eqb}
+use Rattle.std.proofs.lemmas.Bool.{false≢true, and_from, or_left, eq-eqb}
 use Rattle.std.proofs.lemmas.Option.{same_Some}
 use Rattle.kaba_base.specs.declared.ClassId.{ClassId}
 use Rattle.java_core.specs.Programs.{Plain, PlainClass, PlainField, PlainMethod}
-use Rattle.java_core.specs.Classes.{parent_of, supers_of, IsSubclass, IsProperSubclass, reaches, below, first_or, nearest, nearest_of, is_field_of, own_field_of, field_of, is_static_field, when_instance, if_instance, member_field, is_method_of, own_method, chain, search_order, first_found, declaration_of, slot_of_method, slot_of, is_slot, has_slot, own_declaration, nearest_declaration, super_method, has_body, is_interface}
+use Rattle.java_core.specs.Classes.{parent_of, supers_of, IsSubclass, IsProperSubclass, reaches, below, first_or, nearest, nearest_of, is_field_of, own_field_of, field_of, is_static_field, when_instance, if_instance, member_field, is_method_of, own_method, chain, search_order, first_found, declaration_of, slot_of_method, has_slot, own_declaration, nearest_declaration, super_method, has_body, is_interface}
 use Rattle.java_core.specs.Types.{a_value, class_type, types_of, Signature, signature_of_slot, signature_of_method, call_signature, super_signature, field_type, field_in, value_type, access_type}
 use Rattle.java_core.proofs.Positions.{position-passes, passes-position}
 use Rattle.java_core.proofs.Subclasses.{subclass_cases, below-subclass}
-use Rattle.name_rules.specs.Outline.{class_id, object}
+use Rattle.name_rules.specs.Outline.{class_id}
 use Rattle.kaba_work.specs.Sample.{field_name, extra_name, method_name}
 use Rattle.kaba_work.specs.Program.{int, class_made, main_class_made, field_made, method_made, main_made, sample_program}
 use Rattle.kaba_work.proofs.Places.{at_contains, StandsAt, is_row, is_last, stands, row_at, last_at, PairAt, is_first, is_second, pair_stands, first_at, second_at}

@@ -1,7 +1,7 @@
 -- The laws of samples.
-use Rattle.std.proofs.Common.{◌≡◌, ℕ, zero, suc, ◌+◌, ◌≤◌, List, [], ◌∷◌, ◌++◌, map, Some, refl, sym, ap, ◌∙◌, subst}
+use Rattle.std.proofs.Common.{◌≡◌, ℕ, zero, suc, ◌+◌, List, [], ◌∷◌, ◌++◌, map, Some, refl, sym, ap, ◌∙◌, subst}
 use Rattle.std.specs.Prelude.{pos, true}
-use Rattle.std.specs.List.{range_with_len, flat_map}
+use Rattle.std.specs.List.{range_with_len}
 use Rattle.java_core.specs.Trees.{at_place, no_place, number, create, no_ex, call, to_field, declare, assign, print, st_then, Sts}
 use Rattle.java_core.specs.Programs.{Plain, PlainLocal, PlainClass, PlainField, PlainMethod, program_of}
 use Rattle.java_core.specs.Typing.{IsTyped}

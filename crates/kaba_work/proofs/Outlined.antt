@@ -1,16 +1,15 @@
 -- What the declarations of a sample say.
-use Rattle.std.proofs.Common.{◌≡◌, ℕ, zero, suc, ◌+◌, ◌<◌, ◌≤◌, Bool, true, false, List, [], ◌∷◌, ◌++◌, map, Option, Some, None, refl, sym, ap, ◌∙◌, subst, arith}
+use Rattle.std.proofs.Common.{◌≡◌, ℕ, zero, suc, ◌+◌, ◌<◌, ◌≤◌, true, false, List, [], ◌∷◌, ◌++◌, map, Option, Some, refl, sym, ap, ◌∙◌, arith}
 use Rattle.std.specs.Prelude.{nat_lt, codes}
 use Rattle.std.specs.List.{range_with_len, flat_map}
-use Rattle.java_tree.specs.Syntax.{DeclTree}
 use Rattle.java_core.specs.Programs.{Plain, PlainClass}
 use Rattle.name_rules.specs.declared.parts.Kind.TheVariants as kinds
-use Rattle.name_rules.specs.Outline.{FieldAt, MethodAt, name_of, class_id, class_at, type_named, types_in, is_known, is_type_name, fields_from, methods_from, fields_in, methods_in, object, class_outline, field_outline, method_outline, outline}
+use Rattle.name_rules.specs.Outline.{FieldAt, MethodAt, name_of, class_at, type_named, types_in, is_known, is_type_name, fields_from, methods_from, fields_in, methods_in, object, class_outline, field_outline, method_outline, outline}
 use Rattle.name_rules.specs.Meanings.{type_names, class_named}
 use Rattle.name_rules.specs.Resolves.{heading_of}
-use Rattle.kaba_work.specs.Sample.{nowhere, class_name, field_name, extra_name, int_type, method_head, method_tree, addition, total, main_head, main_body, class_tree, main_tree, sample_tree}
+use Rattle.kaba_work.specs.Sample.{nowhere, class_name, field_name, extra_name, int_type, method_head, addition, total, main_head, main_body, class_tree, main_tree, sample_tree}
 use Rattle.java_tree.specs.Syntax.{and_then, no_statements, ReturnOf}
-use Rattle.kaba_work.specs.Program.{tag, class_made, main_class_made, field_made, method_made, main_made, sample_program}
+use Rattle.kaba_work.specs.Program.{tag, class_made, main_class_made, method_made, main_made, sample_program}
 use Rattle.kaba_work.proofs.Places.{map_ends, map_pairs}
 use Rattle.kaba_work.proofs.Apart.{names, first, class_found, small_free}
 

@@ -1,5 +1,5 @@
 -- The program of a sample is typed.
-use Rattle.std.proofs.Common.{◌≡◌, ℕ, zero, suc, ◌+◌, ◌<◌, ◌≤◌, true, false, List, [], ◌∷◌, ◌++◌, map, Option, Some, None, refl, sym, ap, ◌∙◌, subst, arith}
+use Rattle.std.proofs.Common.{◌≡◌, ℕ, zero, suc, ◌+◌, ◌<◌, ◌≤◌, true, false, List, map, Some, refl, sym, ap, ◌∙◌, subst, arith}
 use Rattle.std.specs.Prelude.{◌&&◌, ◌||◌, not, pos, slice_get}
 use Rattle.std.specs.Option.{option_map, option_map_or, is_some}
 use Rattle.std.specs.List.{range_with_len}
@@ -7,16 +7,15 @@ use Rattle.std.proofs.lemmas.Bool.{false≢true, or_left}
 use Rattle.std.proofs.lemmas.Option.{same_Some, slice_get-map}
 use Rattle.java_core.specs.declared.Op.TheVariants as op
 use Rattle.java_core.specs.declared.BinOp.TheVariants as bin
-use Rattle.java_core.specs.Trees.{Ex, no_ex, number, this, field, call, super_call, to_field, Sts}
+use Rattle.java_core.specs.Trees.{Ex, no_ex, number, this, field, call, super_call, to_field}
 use Rattle.java_core.specs.Programs.{Plain, PlainClass, PlainMethod, PlainLocal}
-use Rattle.java_core.specs.Classes.{below, is_interface, is_concrete, has_body, nearest_declaration}
-use Rattle.java_core.specs.Types.{Static, a_value, Env, env_of, class_type, or_nothing, is_printable, fits, fits_in, call_signature, result_of, value_type, access_type, field_in, static, target_type, is_numeric, is_string, sum_type}
+use Rattle.java_core.specs.Classes.{below, is_interface, is_concrete, nearest_declaration}
+use Rattle.java_core.specs.Types.{Static, a_value, Env, env_of, class_type, or_nothing, is_printable, fits, fits_in, call_signature, result_of, value_type, access_type, field_in, static, target_type, is_string, sum_type}
 use Rattle.java_core.specs.Typing.{Typed, TypedTarget, TypedSts, t_number, t_this, t_local, t_field, t_call, t_super_call, t_create, t_binary, t_no_ex, t_to_field, t_declare_as, t_assign, t_print, t_return, t_no_st, t_st_then, takes_two, Offers, HasBodies, HasPublicMethods, IsTypedClass, IsTypedMethod, IsTyped}
-use Rattle.name_rules.specs.Outline.{object}
 use Rattle.kaba_work.specs.Sample.{field_name, extra_name, method_name}
 use Rattle.kaba_work.specs.Program.{tag, int, class_made, main_class_made, own_made, sum_made, total_made, body_made, method_made, variable_made, extra_made, main_body_made, local_made, main_made, sample_program}
 use Rattle.kaba_work.proofs.Places.{StandsAt, is_row, is_last, stands, mapped_at}
-use Rattle.kaba_work.proofs.Found.{below_self, class_stands, chain_not_above_object, chain_not_above_main, FieldFound, field_found, extra_found, field_there, value_is, access_is, call_is, gives, super_found, declaration_found, no_interface}
+use Rattle.kaba_work.proofs.Found.{below_self, class_stands, chain_not_above_object, chain_not_above_main, FieldFound, field_found, extra_found, field_there, value_is, access_is, call_is, super_found, declaration_found, no_interface}
 
 abbrev number_value : Static
 number_value = a_value int

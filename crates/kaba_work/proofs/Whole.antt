@@ -1,8 +1,8 @@
 -- A sample resolves to its program.
-use Rattle.std.proofs.Common.{◌≡◌, ℕ, zero, suc, ◌+◌, ◌<◌, ◌≤◌, ◌⊎◌, inl, inr, ⊎_elim, true, false, List, [], ◌∷◌, ◌++◌, map, Option, Some, None, Contains, refl, sym, ap, ◌∙◌, subst, arith}
+use Rattle.std.proofs.Common.{◌≡◌, ℕ, zero, suc, ◌+◌, ◌<◌, ◌≤◌, true, false, List, [], ◌∷◌, ◌++◌, map, Some, Contains, refl, sym, ap, ◌∙◌, subst, arith}
 use Rattle.std.specs.Prelude.{slice_get, codes}
 use Rattle.std.specs.Option.{is_some}
-use Rattle.std.specs.List.{range_with_len, flat_map}
+use Rattle.std.specs.List.{range_with_len}
 use Rattle.std.proofs.lemmas.Bool.{false≢true}
 use Rattle.std.proofs.lemmas.Option.{same_Some}
 use Rattle.kaba_base.specs.declared.Place.{Place}
@@ -18,7 +18,6 @@ use Rattle.name_rules.specs.Meanings.{class_named}
 use Rattle.name_rules.specs.Asked.{Asks, by_super, by_type, IsSuper, a_parent, a_face, IsDeclared, of_field, of_param, of_result}
 use Rattle.name_rules.specs.Resolves.{BodiesResolve, HasSlot, no_slot, a_slot, AreSlots, Resolves}
 use Rattle.kaba_work.specs.Sample.{id, class_name, int_type, main_param, class_tree, main_tree, sample_tree}
-use Rattle.kaba_work.specs.Sample as sample
 use Rattle.kaba_work.specs.Program.{method_made, main_made, slot_made, sample_program}
 use Rattle.kaba_work.proofs.Places.{at_contains, StandsAt, is_row, is_last, stands, row_at, last_at, PairAt, is_first, is_second, pair_stands}
 use Rattle.kaba_work.proofs.Outlined.{sum_field, extra_field, method_at, main_at, fields_are, methods_are, same_classes, same_fields, same_methods, named}

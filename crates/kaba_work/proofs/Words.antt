@@ -1,9 +1,9 @@
 -- The names of a sample are identifiers.
-use Rattle.std.proofs.Common.{◌≡◌, ℕ, ◌+◌, ◌%◌, ◌^◌, ◌<◌, ◌&&◌, Bool, true, false, List, [], ◌∷◌, ◌++◌, length, get_or, refl, sym, ap, ◌∙◌, subst, arith, ⊎_elim}
+use Rattle.std.proofs.Common.{◌≡◌, ℕ, ◌^◌, ◌<◌, Bool, true, false, List, [], ◌∷◌, length, refl, sym, ap, ◌∙◌, arith, ⊎_elim}
 use Rattle.std.specs.Prelude.{not, codes}
 use Rattle.std.specs.List.{list_any, list_all}
-use Rattle.std.specs.Str.{bytes_eq, chars, all_scalars, IsAscii}
-use Rattle.std.specs.Char.{is_ascii, is_ascii_digit}
+use Rattle.std.specs.Str.{bytes_eq, all_scalars, IsAscii}
+use Rattle.std.specs.Char.{is_ascii_digit}
 use Rattle.std.specs.Fmt.{decimal}
 use Rattle.std.proofs.lemmas.Bool.{cases_Bool, and_parts, and_from, or_right, false≢true}
 use Rattle.std.proofs.lemmas.Fmt.{decimal_nonempty, IsAscii-decimal}
@@ -11,7 +11,7 @@ use Rattle.std.proofs.lemmas.Slice.Eq.{bytes_eq-Decides}
 use Rattle.std.proofs.lemmas.Str.{scalars-chars, chars-IsAscii, IsUtf8-from_ascii}
 use Rattle.std.proofs.lemmas.Str.Ascii.{IsAscii-cons}
 use Rattle.unicode_ident.proofs.Computing.{unicode_ident}
-use Rattle.kaba_base.specs.Words.{is_start, is_part, is_word, is_name, key_text, key_of, first_that, is_none}
+use Rattle.kaba_base.specs.Words.{is_start, is_part, is_word, key_text, key_of, first_that, is_none}
 use Rattle.kaba_base.specs.declared.words.Keyword.{Keyword}
 use Rattle.kaba_base.specs.declared.words.TheConstants.{KEYWORDS}
 use Rattle.java_lex.specs.Writable.{IsName}

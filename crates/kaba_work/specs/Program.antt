@@ -1,11 +1,11 @@
 -- The program that a sample is: its classes, fields, methods and bodies by number.
-use Rattle.std.specs.Prelude.{ℕ, zero, suc, ◌+◌, pos, false, true, List, [], ◌∷◌, ◌++◌, map, Option, Some, None, codes}
+use Rattle.std.specs.Prelude.{ℕ, zero, suc, ◌+◌, pos, false, true, List, [], ◌∷◌, ◌++◌, map, Some, None, codes}
 use Rattle.std.specs.List.{range_with_len, flat_map}
 use Rattle.java_core.specs.declared.Ty.{Ty}
 use Rattle.java_core.specs.declared.TyBase.TheVariants.{Int, Str}
 use Rattle.java_core.specs.declared.BinOp.TheVariants as bin
 use Rattle.java_core.specs.declared.Op.TheVariants as op
-use Rattle.java_core.specs.Trees.{Tag, at_place, Ex, no_ex, number, this, local, field, call, super_call, create, binary, to_field, St, declare, assign, print, return, Sts, no_st, st_then}
+use Rattle.java_core.specs.Trees.{Tag, at_place, Ex, no_ex, number, this, local, field, call, super_call, create, binary, to_field, declare, assign, print, return, Sts, no_st, st_then}
 use Rattle.java_core.specs.Programs.{Plain, PlainLocal, PlainClass, PlainField, PlainMethod, PlainSlot}
 use Rattle.java_core.specs.Types.{plain_type, class_type}
 use Rattle.name_rules.specs.Outline.{class_id, object}

@@ -1,6 +1,4 @@
-use Rattle.std.proofs.Common.{◌≡◌, ◌++◌, ap, sym, ◌∙◌, arith}
-use Rattle.std.specs.Prelude.{map}
-use Rattle.java_tree.specs.Syntax.{stmt_of}
+use Rattle.std.proofs.Common.{◌++◌, ap, sym, ◌∙◌, arith}
 use Rattle.kaba_work.specs.Sample.{steps}
 use Rattle.kaba_work.proofs.Ranges.{one_flat}
 use Rattle.kaba_work.proofs.Listed.{is_main_body}
