@@ -1,0 +1,15 @@
+pub mod Spelled
+pub mod Ranges
+pub mod Listed
+pub mod Words
+pub mod FormedTree
+pub mod Places
+pub mod Apart
+pub mod Outlined
+pub mod Bodies
+pub mod Whole
+pub mod Found
+pub mod Typed
+pub mod Faults
+pub mod Conditions
+pub mod Law

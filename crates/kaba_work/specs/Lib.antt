@@ -1,0 +1,3 @@
+pub mod Sample
+pub mod Program
+pub mod Laws

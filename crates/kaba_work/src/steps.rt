@@ -1,0 +1,96 @@
+//! What main does with each class.
+
+ghost use Rattle.std.specs.Prelude.{◌≡◌, ◌<◌, ◌++◌, map, IfOk, OnOk};
+ghost use Rattle.java_tree.specs.Syntax.{expr_of, stmt_of};
+ghost use Rattle.kaba_work.specs.Sample as sample;
+
+use crate::names::{class_name, class_type, extra_name, id, method_name, nowhere, variable_name};
+use java_lex::Mark;
+use java_tree::{Expr, Stmt, build};
+use std::alloc::{AllocError, Global};
+
+/// `a + b`
+pub fn sum_of(alloc: Global, left: Expr, right: Expr) -> Result<Expr, AllocError>
+    ensures { IfOk result (λ e. expr_of e ≡ sample.sum_of (expr_of left) (expr_of right)) }
+{
+    build::binary(alloc, Mark::Plus, left, right, nowhere())
+}
+
+/// The variable that holds an object of the class.
+fn variable(alloc: Global, number: u32) -> Result<Expr, AllocError>
+    ensures { IfOk result (λ e. expr_of e ≡ sample.variable number) }
+{
+    Ok(Expr::Name {
+        name: variable_name(alloc, number)?,
+        place: nowhere(),
+    })
+}
+
+/// The field of that object that is set from outside.
+fn extra(alloc: Global, number: u32) -> Result<Expr, AllocError>
+    ensures { IfOk result (λ e. expr_of e ≡ sample.extra number) }
+{
+    let object = variable(alloc, number)?;
+    let name = extra_name(alloc, number)?;
+    build::field(alloc, object, name, nowhere())
+}
+
+/// The variable's declaration.
+fn creation(alloc: Global, number: u32) -> Result<Stmt, AllocError>
+    ensures { IfOk result (λ s. stmt_of s ≡ sample.creation number) }
+{
+    let ty = class_type(alloc, number)?;
+    let name = variable_name(alloc, number)?;
+    let class = id(class_name(alloc, number)?);
+    let object = build::new_object(class, Vec::new(alloc), nowhere());
+    Ok(Stmt::Local {
+        is_final: false,
+        ty,
+        name,
+        value: Some(object),
+        place: nowhere(),
+    })
+}
+
+/// The field set to the class's number.
+fn setting(alloc: Global, number: u32) -> Result<Stmt, AllocError>
+    requires { number < 100 }
+    ensures { IfOk result (λ s. stmt_of s ≡ sample.setting number) }
+{
+    let target = extra(alloc, number)?;
+    let value = Expr::Int {
+        value: number as i32,
+        place: nowhere(),
+    };
+    Ok(Stmt::Assign {
+        target,
+        value,
+        place: nowhere(),
+    })
+}
+
+/// What the method gives and the field, printed.
+fn printing(alloc: Global, number: u32) -> Result<Stmt, AllocError>
+    ensures { IfOk result (λ s. stmt_of s ≡ sample.printing number) }
+{
+    let object = variable(alloc, number)?;
+    let name = method_name(alloc)?;
+    let call = build::call_on(alloc, object, name, Vec::new(alloc), nowhere())?;
+    let value = sum_of(alloc, call, extra(alloc, number)?)?;
+    Ok(Stmt::Print {
+        newline: true,
+        value: Some(value),
+        place: nowhere(),
+    })
+}
+
+/// The three statements for a class, behind those before.
+pub fn add_steps(alloc: Global, number: u32, body: &mut Vec<Stmt>) -> Result<(), AllocError>
+    requires { number < 100 }
+    ensures { OnOk result (map stmt_of body.new.items ≡ map stmt_of body.old.items ++ sample.steps number) }
+{
+    body.push(creation(alloc, number)?)?;
+    body.push(setting(alloc, number)?)?;
+    body.push(printing(alloc, number)?)?;
+    Ok(())
+}
