@@ -1,14 +1,22 @@
 -- Lists and tests over the numbers of the nodes.
-use Rattle.std.proofs.Common.{◌≡◌, ℕ, zero, suc, ◌+◌, ◌<◌, Bool, true, false, cond, ◌&&◌, not, List, [], ◌∷◌, ◌++◌, length, map, get_or, append_assoc, add-one, zero-add, arith, sym, ap, ◌∙◌, refl}
+use Rattle.std.proofs.Common.{◌≡◌, ℕ, zero, suc, ◌+◌, ◌<◌, Bool, true, false, cond, ◌&&◌, List, [], ◌∷◌, ◌++◌, length, map, get_or, add-one, zero-add, arith, sym, ap, ◌∙◌, ⊎_elim, refl}
 use Rattle.std.specs.List.{filter, range_with_len}
+use Rattle.std.proofs.lemmas.Bool.{cases_Bool, false≢true}
 use Rattle.std.proofs.lemmas.List.{map-append}
 use Rattle.std.proofs.lemmas.List.Elements.{filter-append}
 use Rattle.std.proofs.lemmas.List.FromFn.{get_or-map-range_with_len, length-map-range_with_len}
 use Rattle.kaba_bits.proofs.SetLemmas.{bit-below}
-use Rattle.kaba_order.specs.Orders.{is_live}
+use Rattle.kaba_order.specs.Orders.{Ordered, is_le, is_live, IsPartialOrder}
 use Rattle.fact_model.specs.declared.facts.Facts.{Facts}
-use Rattle.hier_model.specs.Hierarchies.{Hierarchy, is_class_node}
+use Rattle.hier_model.specs.Hierarchies.{Hierarchy, IsHierarchyOf, is_class_node}
 use Rattle.source_gen.specs.Seen.{class_tests}
+
+-- what is not live is related to nothing
+pub dead_low : (F : Facts) (H : Hierarchy) → IsHierarchyOf F H → (a b : ℕ) → is_live H.order a ≡ false → is_le H.order a b ≡ false
+dead_low F H h a b dead = ⊎_elim (λ t. absurd (false≢true (sym dead ∙ h.sized.order.lower_lives a b t))) (λ f. f) (cases_Bool (is_le H.order a b))
+
+pub dead_high : (F : Facts) (H : Hierarchy) → IsHierarchyOf F H → (a b : ℕ) → is_live H.order b ≡ false → is_le H.order a b ≡ false
+dead_high F H h a b dead = ⊎_elim (λ t. absurd (false≢true (sym dead ∙ h.sized.order.upper_lives a b t))) (λ f. f) (cases_Bool (is_le H.order a b))
 
 -- one number more
 range_more : (a n : ℕ) → range_with_len a (suc n) ≡ range_with_len a n ++ (a + n) ∷ []

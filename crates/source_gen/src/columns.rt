@@ -11,7 +11,7 @@ ghost use Rattle.fact_model.specs.InRange.{InRange};
 ghost use Rattle.fact_model.specs.Items.{column_at};
 ghost use Rattle.hier_model.specs.Hierarchies.{IsHierarchyOf, stands_at};
 ghost use Rattle.flow_rules.specs.Ordered.{each, when};
-ghost use Rattle.rebuild_model.specs.Members.{is_headed, is_filled};
+ghost use Rattle.rebuild_model.specs.Members.{is_headed, is_filled, is_made_at};
 ghost use Rattle.written_tree.specs.Names as names;
 ghost use Rattle.written_tree.specs.Members as written;
 ghost use Rattle.tree_parts.specs.Renamed.{renamed, IsFitting};
@@ -45,16 +45,16 @@ fn is_headed(classes: &Vec<bool>, facts: &Facts, hier: &Hier, n: NodeId, x: u32)
         || (!is_made_at(facts, hier, n) && !offers_body(facts, hier, n, x))
 }
 
-/// Whether the type of a live node has a filler of a slot: it has objects, and is offered the slot
-/// without a body.
-fn is_filled(facts: &Facts, hier: &Hier, n: NodeId, x: u32) -> bool
+/// Whether the type of a live node has a filler of a slot: objects are created there, as `is_made`
+/// says, and it is offered the slot without a body.
+fn is_filled(facts: &Facts, hier: &Hier, is_made: bool, n: NodeId, x: u32) -> bool
     requires range { InRange facts.now }
     requires hierarchy { IsHierarchyOf facts.now hier.now }
+    requires made { is_made ≡ is_made_at facts.now hier.now n.0 }
     requires node { is_live hier.now.order n.0 ≡ true }
     ensures { result ≡ is_filled facts.now hier.now n.0 x }
 {
-    is_made_at(facts, hier, n)
-        && (offers_slot(facts, hier, n, x) && !offers_body(facts, hier, n, x))
+    is_made && (offers_slot(facts, hier, n, x) && !offers_body(facts, hier, n, x))
 }
 
 /// The head that the declaration of a slot at a live node gives: once a slot.
@@ -267,6 +267,7 @@ fn add_filler(
     numbering: &Numbering,
     facts: &Facts,
     hier: &Hier,
+    is_made: bool,
     n: NodeId,
     x: u32,
     slot: &Slot,
@@ -275,12 +276,13 @@ fn add_filler(
     requires range { InRange facts.now }
     requires hierarchy { IsHierarchyOf facts.now hier.now }
     requires fits { IsFitting numbering.now hier.now }
+    requires made { is_made ≡ is_made_at facts.now hier.now n.0 }
     requires node { is_live hier.now.order n.0 ≡ true }
     ensures { OnOk result (tree.members into.new.items ≡ tree.members into.old.items ++
         written.filler (program_of no_place program.now) (renamed numbering.now hier.now) facts.now
         hier.now n.0 x (slot_seen no_place slot.now)) }
 {
-    if !is_filled(facts, hier, n, x) {
+    if !is_filled(facts, hier, is_made, n, x) {
         return Ok(());
     }
     let mods = one_modifier(alloc, Keyword::Public)?;
@@ -301,6 +303,7 @@ fn add_fillers(
     numbering: &Numbering,
     facts: &Facts,
     hier: &Hier,
+    is_made: bool,
     n: NodeId,
     into: &mut Vec<Member>,
 ) -> Result<(), AllocError>
@@ -308,6 +311,7 @@ fn add_fillers(
     requires range { InRange facts.now }
     requires hierarchy { IsHierarchyOf facts.now hier.now }
     requires fits { IsFitting numbering.now hier.now }
+    requires made { is_made ≡ is_made_at facts.now hier.now n.0 }
     requires node { is_live hier.now.order n.0 ≡ true }
     ensures { OnOk result (tree.members into.new.items ≡ tree.members into.old.items ++ each
         (written.filler (program_of no_place program.now) (renamed numbering.now hier.now) facts.now
@@ -315,7 +319,9 @@ fn add_fillers(
 {
     for (x, slot) in program.slots.iter().enumerate() {
         let x = x as u32;
-        add_filler(alloc, program, numbering, facts, hier, n, x, slot, into)?;
+        add_filler(
+            alloc, program, numbering, facts, hier, is_made, n, x, slot, into,
+        )?;
     }
     Ok(())
 }
@@ -344,7 +350,10 @@ pub fn class_members(
     add_columns(
         alloc, program, numbering, classes, facts, hier, n, &mut list,
     )?;
-    add_fillers(alloc, program, numbering, facts, hier, n, &mut list)?;
+    let is_made = is_made_at(facts, hier, n);
+    add_fillers(
+        alloc, program, numbering, facts, hier, is_made, n, &mut list,
+    )?;
     Ok(list)
 }
 

@@ -62,7 +62,6 @@ fn is_object_at(facts: &Facts, hier: &Hier, n: NodeId, s: u32) -> bool
 }
 
 /// Whether objects are created at a node.
-#[tactic(auto, using(hier_model::proofs::AnyLemmas::any_below_found))]
 pub fn is_made_at(facts: &Facts, hier: &Hier, n: NodeId) -> bool
     requires range { InRange facts.now }
     requires hierarchy { IsHierarchyOf facts.now hier.now }
@@ -89,7 +88,6 @@ fn is_body_offered(facts: &Facts, hier: &Hier, n: NodeId, x: u32, c: u32) -> boo
 }
 
 /// Whether a live node offers a body of a slot.
-#[tactic(auto, using(hier_model::proofs::AnyLemmas::any_below_found))]
 pub fn offers_body(facts: &Facts, hier: &Hier, n: NodeId, x: u32) -> bool
     requires range { InRange facts.now }
     requires hierarchy { IsHierarchyOf facts.now hier.now }
@@ -116,7 +114,6 @@ fn is_slot_offered(facts: &Facts, hier: &Hier, n: NodeId, x: u32, c: u32) -> boo
 }
 
 /// Whether a live node offers a slot: a declaration or a body of it.
-#[tactic(auto, using(hier_model::proofs::AnyLemmas::any_below_found))]
 pub fn offers_slot(facts: &Facts, hier: &Hier, n: NodeId, x: u32) -> bool
     requires range { InRange facts.now }
     requires hierarchy { IsHierarchyOf facts.now hier.now }
@@ -143,7 +140,6 @@ fn is_declared_at(facts: &Facts, hier: &Hier, n: NodeId, x: u32, d: u32) -> bool
 }
 
 /// Whether no column before this one declares the slot at the node.
-#[tactic(auto, using(hier_model::proofs::AnyLemmas::any_below_found))]
 pub fn is_first_there(facts: &Facts, hier: &Hier, n: NodeId, c: u32, x: u32) -> bool
     requires hierarchy { IsHierarchyOf facts.now hier.now }
     requires column { c < length facts.now.columns.items }

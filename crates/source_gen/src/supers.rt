@@ -13,7 +13,6 @@ use fact_model::Facts;
 use hier_model::Hier;
 use java_tree::Id;
 use kaba_base::NodeId;
-use kaba_order::Order;
 use std::alloc::{AllocError, Global};
 use tree_parts::id;
 
@@ -49,30 +48,55 @@ pub fn is_class(classes: &Vec<bool>, facts: &Facts, hier: &Hier, n: u32) -> bool
     classes[n as usize]
 }
 
-/// Whether `b` is strictly above `a`.
-fn is_above(order: &Order, a: u32, b: u32) -> bool
-    ensures { result ≡ supers.is_above order.now a b }
+/// Whether a live node is at or below another.
+fn is_under(facts: &Facts, hier: &Hier, a: u32, b: u32) -> bool
+    requires hierarchy { IsHierarchyOf facts.now hier.now }
+    requires node { is_live hier.now.order a ≡ true }
+    ensures { result ≡ is_le hier.now.order a b }
 {
-    let low = NodeId(a);
-    let high = NodeId(b);
-    order.is_live(low) && order.is_live(high) && order.le(low, high) && a != b
+    let order = hier.order();
+    if !order.is_live(NodeId(b)) {
+        return false;
+    }
+    order.le(NodeId(a), NodeId(b))
+}
+
+/// Whether a node is at or below another.
+fn is_le(facts: &Facts, hier: &Hier, a: u32, b: u32) -> bool
+    requires hierarchy { IsHierarchyOf facts.now hier.now }
+    ensures { result ≡ is_le hier.now.order a b }
+{
+    let order = hier.order();
+    if !order.is_live(NodeId(a)) {
+        return false;
+    }
+    is_under(facts, hier, a, b)
+}
+
+/// Whether `b` is strictly above `a`.
+fn is_above(facts: &Facts, hier: &Hier, a: u32, b: u32) -> bool
+    requires hierarchy { IsHierarchyOf facts.now hier.now }
+    ensures { result ≡ supers.is_above hier.now.order a b }
+{
+    is_le(facts, hier, a, b) && a != b
 }
 
 /// Whether a node is strictly above one and strictly below the other.
-fn is_between(order: &Order, a: u32, k: u32, b: u32) -> bool
-    ensures { result ≡ (supers.is_above order.now a k && supers.is_above order.now k b) }
+fn is_between(facts: &Facts, hier: &Hier, a: u32, k: u32, b: u32) -> bool
+    requires hierarchy { IsHierarchyOf facts.now hier.now }
+    ensures { result ≡ (supers.is_above hier.now.order a k && supers.is_above hier.now.order k b) }
 {
-    is_above(order, a, k) && is_above(order, k, b)
+    is_above(facts, hier, a, k) && is_above(facts, hier, k, b)
 }
 
 /// Whether a node is strictly between two.
-#[tactic(auto, using(hier_model::proofs::AnyLemmas::any_below_found))]
-fn has_between(order: &Order, a: u32, b: u32) -> bool
-    ensures { result ≡ any_below (length order.now.live) (λ k. supers.is_above order.now a k &&
-        supers.is_above order.now k b) }
+fn has_between(facts: &Facts, hier: &Hier, a: u32, b: u32) -> bool
+    requires hierarchy { IsHierarchyOf facts.now hier.now }
+    ensures { result ≡ any_below (length hier.now.order.live) (λ k. supers.is_above hier.now.order a
+        k && supers.is_above hier.now.order k b) }
 {
-    for k in 0..order.count() {
-        if is_between(order, a, k, b) {
+    for k in 0..hier.order().count() {
+        if is_between(facts, hier, a, k, b) {
             return true;
         }
     }
@@ -80,10 +104,11 @@ fn has_between(order: &Order, a: u32, b: u32) -> bool
 }
 
 /// Whether `b` is strictly above `a`, with none strictly between.
-fn is_cover(order: &Order, a: u32, b: u32) -> bool
-    ensures { result ≡ supers.is_cover order.now a b }
+fn is_cover(facts: &Facts, hier: &Hier, a: u32, b: u32) -> bool
+    requires hierarchy { IsHierarchyOf facts.now hier.now }
+    ensures { result ≡ supers.is_cover hier.now.order a b }
 {
-    is_above(order, a, b) && !has_between(order, a, b)
+    is_above(facts, hier, a, b) && !has_between(facts, hier, a, b)
 }
 
 /// Whether a class node is strictly above a node.
@@ -92,7 +117,7 @@ fn is_class_above(classes: &Vec<bool>, facts: &Facts, hier: &Hier, n: u32, a: u3
     requires hierarchy { IsHierarchyOf facts.now hier.now }
     ensures { result ≡ supers.is_class_above facts.now hier.now n a }
 {
-    is_above(hier.order(), n, a) && is_class(classes, facts, hier, a)
+    is_above(facts, hier, n, a) && is_class(classes, facts, hier, a)
 }
 
 /// Whether a class node is strictly above `n`, and not at or above `a`.
@@ -107,7 +132,6 @@ fn is_elsewhere(classes: &Vec<bool>, facts: &Facts, hier: &Hier, n: u32, a: u32,
 }
 
 /// Whether some class node strictly above `n` is not at or above `a`.
-#[tactic(auto, using(hier_model::proofs::AnyLemmas::any_below_found))]
 fn has_elsewhere(classes: &Vec<bool>, facts: &Facts, hier: &Hier, n: u32, a: u32) -> bool
     requires classes { classes.now.items ≡ class_tests facts.now hier.now }
     requires hierarchy { IsHierarchyOf facts.now hier.now }
@@ -198,7 +222,7 @@ fn is_face(classes: &Vec<bool>, facts: &Facts, hier: &Hier, n: u32, a: u32) -> b
     ensures { result ≡ (supers.is_cover hier.now.order n a && not (is_class_node facts.now hier.now
         a)) }
 {
-    is_cover(hier.order(), n, a) && !is_class(classes, facts, hier, a)
+    is_cover(facts, hier, n, a) && !is_class(classes, facts, hier, a)
 }
 
 /// What a class implements: the upper covers that are no class nodes, in rising number.
@@ -233,7 +257,7 @@ pub fn covering(
 {
     let mut list = Vec::new(alloc);
     for a in 0..hier.order().count() {
-        let passes = is_cover(hier.order(), n.0, a);
+        let passes = is_cover(facts, hier, n.0, a);
         add_name(alloc, hier, passes, a, &mut list)?;
     }
     Ok(list)

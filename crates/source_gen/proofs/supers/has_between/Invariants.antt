@@ -8,4 +8,4 @@ use Rattle.written_tree.specs.Supers.{is_above, is_class_above}
 use Rattle.source_gen.proofs.supers.has_between.Given as goal
 
 abbrev pub invariant-loop-k : goal.invariant-loop-k
-invariant-loop-k l = any_below l.k (λ k. is_above l.order l.a k && is_above l.order k l.b) ≡ false
+invariant-loop-k l = any_below l.k (λ k. is_above l.hier.order l.a k && is_above l.hier.order k l.b) ≡ false
