@@ -30,7 +30,8 @@ if_one t true i = refl
 if_one t false i = refl
 
 -- what the numbers that pass a test give, with one number more
-pub filtered_more : {A : Type 0} (t : ℕ → A) (p : ℕ → Bool) (i : ℕ) (old new : List A) → new ≡ old ++ cond (p i) (t i ∷ []) [] → old ≡ map t (filter p (range_with_len 0 i))
+pub filtered_more : {A : Type 0} (t : ℕ → A) (p : ℕ → Bool) (i : ℕ) (old new : List A) → new ≡ old ++ cond (p i) (t i ∷ []) []
+    → old ≡ map t (filter p (range_with_len 0 i))
     → new ≡ map t (filter p (range_with_len 0 (i + 1)))
 filtered_more t p i old new step known =
     let below = range_with_len 0 i in

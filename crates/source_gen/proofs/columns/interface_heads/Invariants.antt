@@ -1,3 +1,5 @@
+use Rattle.fact_model.specs.declared.facts.ColumnInfo.{ColumnInfo}
+use Rattle.std.proofs.Common.{ℕ}
 use Rattle.std.proofs.Common.{◌≡◌, ◌∷◌, [], ◌++◌, drop, map, length}
 use Rattle.java_tree.specs.Syntax.{members, heads, decls}
 use Rattle.java_core.specs.Trees.{no_place}
@@ -12,5 +14,6 @@ use Rattle.source_gen.proofs.columns.interface_heads.Given as goal
 
 abbrev pub invariant-loop-c : goal.invariant-loop-c
 invariant-loop-c l = 
-    let f = λ c k. when (stands_at l.hier l.n.0 c) (column_heads (program_of no_place l.program) (renamed l.numbering l.hier) l.facts l.hier [] l.n.0 c k) in
+    let f = λ (c : ℕ) (k : ColumnInfo). when (stands_at l.hier l.n.0 c)
+        (column_heads (program_of no_place l.program) (renamed l.numbering l.hier) l.facts l.hier [] l.n.0 c k) in
     heads l.list.items ++ each f l.c (drop l.c l.facts.columns.items) ≡ each f 0 l.facts.columns.items

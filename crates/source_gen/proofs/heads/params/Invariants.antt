@@ -1,3 +1,5 @@
+use Rattle.java_core.specs.Programs.{PlainLocal}
+use Rattle.std.proofs.Common.{ℕ}
 use Rattle.std.proofs.Common.{◌≡◌, ◌∷◌, [], ◌++◌, drop, map, length}
 use Rattle.java_tree.specs.Syntax.{members, heads, decls}
 use Rattle.java_core.specs.Trees.{no_place}
@@ -12,5 +14,6 @@ use Rattle.source_gen.proofs.heads.params.Given as goal
 
 abbrev pub invariant-loop-i : goal.invariant-loop-i
 invariant-loop-i l = 
-    let f = λ i k. param (program_of no_place l.program) (renamed l.numbering l.hier) l.hier l.m (method_seen no_place l.method) i k ∷ [] in
+    let f = λ (i : ℕ) (k : PlainLocal).
+        param (program_of no_place l.program) (renamed l.numbering l.hier) l.hier l.m (method_seen no_place l.method) i k ∷ [] in
     l.list.items ++ each f l.i (map (local_seen no_place) (drop l.i l.method.params.items)) ≡ each f 0 (map (local_seen no_place) l.method.params.items)

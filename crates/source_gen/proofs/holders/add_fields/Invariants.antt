@@ -13,4 +13,5 @@ use Rattle.source_gen.proofs.holders.add_fields.Given as goal
 abbrev pub invariant-loop-f : goal.invariant-loop-f
 invariant-loop-f l = 
     let f = static_field_member (program_of no_place l.program) (renamed l.numbering l.hier) l.hier l.c in
-    members l.into.items ++ each f l.f (map (field_seen no_place) (drop l.f l.program.fields.items)) ≡ members l.fn.into.items ++ each f 0 (map (field_seen no_place) l.program.fields.items)
+    members l.into.items ++ each f l.f (map (field_seen no_place) (drop l.f l.program.fields.items))
+    ≡ members l.fn.into.items ++ each f 0 (map (field_seen no_place) l.program.fields.items)

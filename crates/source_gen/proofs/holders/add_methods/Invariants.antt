@@ -13,4 +13,5 @@ use Rattle.source_gen.proofs.holders.add_methods.Given as goal
 abbrev pub invariant-loop-m : goal.invariant-loop-m
 invariant-loop-m l = 
     let f = static_method_member (program_of no_place l.program) (renamed l.numbering l.hier) l.hier l.c in
-    members l.into.items ++ each f l.m (map (method_seen no_place) (drop l.m l.program.methods.items)) ≡ members l.fn.into.items ++ each f 0 (map (method_seen no_place) l.program.methods.items)
+    members l.into.items ++ each f l.m (map (method_seen no_place) (drop l.m l.program.methods.items))
+    ≡ members l.fn.into.items ++ each f 0 (map (method_seen no_place) l.program.methods.items)

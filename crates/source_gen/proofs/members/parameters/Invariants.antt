@@ -11,4 +11,6 @@ use Rattle.written_tree.specs.Written.{holder_tree, type_tree}
 use Rattle.source_gen.proofs.members.parameters.Given as goal
 
 abbrev pub invariant-loop-i : goal.invariant-loop-i
-invariant-loop-i l = l.list.items ++ parameters l.i (map (local_seen no_place) (drop l.i l.method.params.items)) ≡ parameters 0 (map (local_seen no_place) l.method.params.items)
+invariant-loop-i l =
+    l.list.items ++ parameters l.i (map (local_seen no_place) (drop l.i l.method.params.items))
+    ≡ parameters 0 (map (local_seen no_place) l.method.params.items)

@@ -16,4 +16,5 @@ pub returns : goal.returns
 returns c =
     let F = c.args.facts.now in
     let H = c.args.hier.now in
-    c.index.ensures ∙ ap (λ (l : List Bool). get_or l c.args.n c.index.result.now) c.requires.classes ∙ class_tests-at F H c.args.n c.index.result.now c.requires.node
+    c.index.ensures ∙ ap (λ (l : List Bool). get_or l c.args.n c.index.result.now) c.requires.classes
+    ∙ class_tests-at F H c.args.n c.index.result.now c.requires.node

@@ -1,3 +1,4 @@
+use Rattle.std.proofs.Common.{ℕ, Bool}
 use Rattle.std.proofs.Common.{◌≡◌, ◌∷◌, [], ◌++◌, drop, map, length}
 use Rattle.java_tree.specs.Syntax.{members, heads, decls}
 use Rattle.java_core.specs.Trees.{no_place}
@@ -12,5 +13,7 @@ use Rattle.source_gen.proofs.types.add_types.Given as goal
 
 abbrev pub invariant-loop-n : goal.invariant-loop-n
 invariant-loop-n l = 
-    let f = λ n live. when live (type_tree (program_of no_place l.program) (renamed l.numbering l.hier) l.facts l.hier l.numbering.columns.keys (is_class_node l.facts l.hier n) n ∷ []) in
+    let f = λ (n : ℕ) (live : Bool). when live
+        (type_tree (program_of no_place l.program) (renamed l.numbering l.hier) l.facts l.hier l.numbering.columns.keys
+          (is_class_node l.facts l.hier n) n ∷ []) in
     decls l.into.items ++ each f l.n (drop l.n l.hier.order.live) ≡ decls l.fn.into.items ++ each f 0 l.hier.order.live
