@@ -18,13 +18,13 @@ ghost use Rattle.tree_parts.specs.Renamed.{renamed, IsFitting};
 ghost use Rattle.source_gen.specs.Seen.{class_tests, head_if};
 
 use crate::heads::{first_head, one_modifier, public_and, slot_head};
-use crate::members::{body_member, field_member, push_bodyless, push_head, push_member};
+use crate::members::{push_bodyless, push_head, push_member};
+use crate::own::add_own;
 use crate::places::{
     is_declaration, is_first_there, is_made_at, offers_body, offers_slot, stands_at,
 };
 use crate::supers::is_class;
 use fact_model::Facts;
-use flow_rules::ColumnItem;
 use hier_model::{Hier, column_at};
 use java_core::{Program, Slot, Ty, TyBase};
 use java_tree::{Expr, Head, Member, Modifier, Stmt, TypeBase, TypeName, build};
@@ -119,41 +119,6 @@ fn column_head(
     head_of_slot(
         alloc, program, numbering, classes, facts, hier, mods, n, c, slot,
     )
-}
-
-/// Adds the field or the public method that a column is.
-fn add_own(
-    alloc: Global,
-    program: &Program,
-    numbering: &Numbering,
-    facts: &Facts,
-    hier: &Hier,
-    item: Option<ColumnItem>,
-    into: &mut Vec<Member>,
-) -> Result<(), AllocError>
-    requires formed { IsFormed (program_of no_place program.now) }
-    requires fits { IsFitting numbering.now hier.now }
-    ensures { OnOk result (tree.members into.new.items ≡ tree.members into.old.items ++
-        written.own_member (program_of no_place program.now) (renamed numbering.now hier.now)
-        facts.now hier.now item) }
-{
-    match item {
-        Some(ColumnItem::Fld(f)) => match program.fields.get(f as usize) {
-            Some(field) => push_member(
-                into,
-                field_member(alloc, program, numbering, hier, f, field)?,
-            ),
-            None => Ok(()),
-        },
-        Some(ColumnItem::Def(m)) => match program.methods.get(m as usize) {
-            Some(method) => push_member(
-                into,
-                body_member(alloc, program, numbering, hier, m, method)?,
-            ),
-            None => Ok(()),
-        },
-        _ => Ok(()),
-    }
 }
 
 /// Adds what a column gives to the class of the live node where it stands.

@@ -13,6 +13,7 @@ ghost use Rattle.written_tree.specs.Members as members;
 ghost use Rattle.tree_parts.specs.Renamed.{renamed, IsFitting};
 ghost use Rattle.source_gen.specs.Seen.{head_if};
 
+use crate::parts::method_at;
 use hier_model::Hier;
 use java_core::{Local, Method, Program, Slot};
 use java_tree::{Head, Modifier, Param, TypeName};
@@ -151,11 +152,10 @@ pub fn first_head(
     ensures { IfOk result (λ h. head_if h ≡ members.first_head (program_of no_place program.now)
         (renamed numbering.now hier.now) hier.now mods.items (slot_seen no_place slot.now)) }
 {
-    let first = slot.first.0;
-    let Some(method) = program.methods.get(first as usize) else {
+    let m = slot.first.0 as u64;
+    let Some(method) = method_at(program, m) else {
         return Ok(None);
     };
-    let m = first as u64;
     let name = method_name(alloc, numbering, hier, m)?;
     let made = head(alloc, program, numbering, hier, mods, name, m, method)?;
     Ok(Some(made))

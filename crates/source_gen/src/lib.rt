@@ -16,6 +16,8 @@ mod columns;
 mod heads;
 mod holders;
 mod members;
+mod own;
+mod parts;
 mod places;
 mod supers;
 mod types;
