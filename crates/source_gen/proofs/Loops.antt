@@ -1,8 +1,5 @@
 -- One item more of a list that is gone through with its numbers.
-use Rattle.std.proofs.Common.{◌≡◌, ℕ, suc, ◌+◌, ◌<◌, ◌≤◌, Bool, cond, List, [], ◌∷◌, ◌++◌, length, map, drop, get_or, drop-cons, add-one, append_assoc, sym, ap, ◌∙◌, refl}
-use Rattle.std.specs.List.{filter, range_with_len}
-use Rattle.std.proofs.lemmas.List.{append-nil, drop_all, map-append}
-use Rattle.std.proofs.lemmas.List.FromFn.{filter_of_map_range_with_len_more}
+use Rattle.std.proofs.Common.{◌≡◌, ℕ, ◌+◌, ◌<◌, List, ◌∷◌, ◌++◌, length, map, drop, get_or, drop-cons, add-one, append_assoc, sym, ap, ◌∙◌}
 use Rattle.flow_rules.specs.Ordered.{each}
 
 -- the items that are left begin with the next
@@ -19,17 +16,9 @@ each_more f xs i d old new all lt step known =
 
 -- the same of items that are seen as others
 pub each_seen_more : {A B C : Type 0} (g : A → C) (f : ℕ → C → List B) (xs : List A) (i : ℕ) (x : A) (old new all : List B) → i < length xs
-    → x ≡ get_or xs i x → new ≡ old ++ f i (g x) → old ++ each f i (map g (drop i xs)) ≡ all → new ++ each f (i + 1) (map g (drop (i + 1) xs)) ≡ all
+    → x ≡ get_or xs i x → new ≡ old ++ f i (g x) → old ++ each f i (map g (drop i xs)) ≡ all
+    → new ++ each f (i + 1) (map g (drop (i + 1) xs)) ≡ all
 each_seen_more g f xs i x old new all lt is step known =
     let rest = each f (i + 1) (map g (drop (i + 1) xs)) in
     let first = front xs i x lt ∙ ap (λ y. y ∷ drop (i + 1) xs) (sym is) in
     ap (λ l. l ++ rest) step ∙ append_assoc old (f i (g x)) rest ∙ ap (λ l. old ++ l) (sym (ap (λ l. each f i (map g l)) first)) ∙ known
-
--- none is left
-pub each_end : {A B : Type 0} (f : ℕ → A → List B) (xs : List A) (i : ℕ) (done all : List B) → length xs ≤ i
-    → done ++ each f i (drop i xs) ≡ all → done ≡ all
-each_end f xs i done all h known = sym (append-nil done) ∙ ap (λ l. done ++ each f i l) (sym (drop_all i xs h)) ∙ known
-
-pub each_seen_end : {A B C : Type 0} (g : A → C) (f : ℕ → C → List B) (xs : List A) (i : ℕ) (done all : List B) → length xs ≤ i
-    → done ++ each f i (map g (drop i xs)) ≡ all → done ≡ all
-each_seen_end g f xs i done all h known = sym (append-nil done) ∙ ap (λ l. done ++ each f i (map g l)) (sym (drop_all i xs h)) ∙ known

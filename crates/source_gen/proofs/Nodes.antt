@@ -1,12 +1,12 @@
 -- Lists and tests over the numbers of the nodes.
-use Rattle.std.proofs.Common.{◌≡◌, ℕ, zero, suc, ◌+◌, ◌<◌, Bool, true, false, cond, ◌&&◌, List, [], ◌∷◌, ◌++◌, length, map, get_or, add-one, zero-add, arith, sym, ap, ◌∙◌, ⊎_elim, refl}
+use Rattle.std.proofs.Common.{◌≡◌, ℕ, zero, suc, ◌+◌, Bool, true, false, cond, ◌&&◌, List, [], ◌∷◌, ◌++◌, length, map, get_or, add-one, zero-add, arith, sym, ap, ◌∙◌, ⊎_elim, refl}
 use Rattle.std.specs.List.{filter, range_with_len}
 use Rattle.std.proofs.lemmas.Bool.{cases_Bool, false≢true}
 use Rattle.std.proofs.lemmas.List.{map-append}
 use Rattle.std.proofs.lemmas.List.Elements.{filter-append}
 use Rattle.std.proofs.lemmas.List.FromFn.{get_or-map-range_with_len, length-map-range_with_len}
 use Rattle.kaba_bits.proofs.SetLemmas.{bit-below}
-use Rattle.kaba_order.specs.Orders.{Ordered, is_le, is_live, IsPartialOrder}
+use Rattle.kaba_order.specs.Orders.{is_le, is_live}
 use Rattle.fact_model.specs.declared.facts.Facts.{Facts}
 use Rattle.hier_model.specs.Hierarchies.{Hierarchy, IsHierarchyOf, is_class_node}
 use Rattle.source_gen.specs.Seen.{class_tests}
@@ -38,7 +38,7 @@ filtered_more t p i old new step known =
     let whole = ap (λ k. range_with_len 0 k) (add-one i) ∙ range_more 0 i ∙ ap (λ k. below ++ k ∷ []) (zero-add i) in
     step ∙ ap (λ l. l ++ cond (p i) (t i ∷ []) []) known
     ∙ sym (ap (λ l. map t (filter p l)) whole ∙ ap (map t) (filter-append p below (i ∷ [])) ∙ map-append t (filter p below) (filter p (i ∷ []))
-      ∙ ap (λ l. map t (filter p below) ++ l) (if_one t (p i) i))
+    ∙ ap (λ l. map t (filter p below) ++ l) (if_one t (p i) i))
 
 pub class_tests-length : (F : Facts) (H : Hierarchy) → length (class_tests F H) ≡ length H.order.live
 unfolding class_tests

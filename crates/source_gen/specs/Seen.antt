@@ -1,5 +1,5 @@
 -- What the parts of the generator give.
-use Rattle.std.specs.Prelude.{ℕ, ◌&&◌, Bool, List, [], ◌∷◌, map, length, Option, Some, None}
+use Rattle.std.specs.Prelude.{◌&&◌, Bool, List, [], ◌∷◌, map, length, Option, Some, None}
 use Rattle.std.specs.List.{range_with_len}
 use Rattle.java_tree.specs.declared.Head.{Head}
 use Rattle.java_tree.specs.Syntax.{HeadTree, head_of}

@@ -149,9 +149,7 @@ fn add_column(
         return Ok(());
     }
     let mods = public_and(alloc, Keyword::Abstract)?;
-    let head = column_head(
-        alloc, program, numbering, classes, facts, hier, mods, n, c,
-    )?;
+    let head = column_head(alloc, program, numbering, classes, facts, hier, mods, n, c)?;
     push_bodyless(into, head)?;
     let item = numbering.item(c);
     add_own(alloc, program, numbering, facts, hier, item, into)
@@ -180,9 +178,7 @@ fn add_columns(
         facts.now.columns.items) }
 {
     for c in 0..facts.columns.len() as u32 {
-        add_column(
-            alloc, program, numbering, classes, facts, hier, n, c, into,
-        )?;
+        add_column(alloc, program, numbering, classes, facts, hier, n, c, into)?;
     }
     Ok(())
 }
@@ -348,9 +344,7 @@ fn add_head(
         return Ok(());
     }
     let mods = Vec::new(alloc);
-    let head = column_head(
-        alloc, program, numbering, classes, facts, hier, mods, n, c,
-    )?;
+    let head = column_head(alloc, program, numbering, classes, facts, hier, mods, n, c)?;
     push_head(into, head)
 }
 

@@ -84,9 +84,7 @@ fn params(
 {
     let mut list = Vec::new(alloc);
     for (i, local) in method.params.iter().enumerate() {
-        let one = param(
-            alloc, program, numbering, hier, m, method, i as u64, local,
-        )?;
+        let one = param(alloc, program, numbering, hier, m, method, i as u64, local)?;
         list.push(one)?;
     }
     Ok(list)

@@ -52,9 +52,7 @@ pub fn generate(
 {
     let classes = class_nodes(alloc, facts, hier)?;
     let mut decls = Vec::new(alloc);
-    add_types(
-        alloc, program, numbering, &classes, facts, hier, &mut decls,
-    )?;
+    add_types(alloc, program, numbering, &classes, facts, hier, &mut decls)?;
     add_holders(alloc, program, numbering, hier, &mut decls)?;
     Ok(Tree { decls })
 }

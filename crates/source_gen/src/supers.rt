@@ -246,12 +246,7 @@ pub fn implemented(
 }
 
 /// What an interface extends: the upper covers, in rising number.
-pub fn covering(
-    alloc: Global,
-    facts: &Facts,
-    hier: &Hier,
-    n: NodeId,
-) -> Result<Vec<Id>, AllocError>
+pub fn covering(alloc: Global, facts: &Facts, hier: &Hier, n: NodeId) -> Result<Vec<Id>, AllocError>
     requires hierarchy { IsHierarchyOf facts.now hier.now }
     ensures { IfOk result (λ v. v.items ≡ supers.covering facts.now hier.now n.0) }
 {

@@ -157,9 +157,7 @@ pub fn add_types(
 {
     for n in 0..hier.order().count() {
         let node = NodeId(n);
-        add_type(
-            alloc, program, numbering, classes, facts, hier, node, into,
-        )?;
+        add_type(alloc, program, numbering, classes, facts, hier, node, into)?;
     }
     Ok(())
 }

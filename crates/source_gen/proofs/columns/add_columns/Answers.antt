@@ -20,5 +20,5 @@ loop-c-preserved c =
     let below : c.loop-c.c < length F.columns.items = omega arith in
     each_more
     (λ (k : ℕ) (column : ColumnInfo). when (stands_at H c.args.n.0 k)
-      (column_members P R F H c.args.numbering.now.columns.keys c.args.n.0 k column)) F.columns.items
+    (column_members P R F H c.args.numbering.now.columns.keys c.args.n.0 k column)) F.columns.items
     c.loop-c.c none _ _ _ below c.in_ok-add_column.ensures c.loop-c.invariant

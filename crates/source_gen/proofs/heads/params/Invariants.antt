@@ -1,19 +1,15 @@
 use Rattle.java_core.specs.Programs.{PlainLocal}
 use Rattle.std.proofs.Common.{ℕ}
-use Rattle.std.proofs.Common.{◌≡◌, ◌∷◌, [], ◌++◌, drop, map, length}
-use Rattle.java_tree.specs.Syntax.{members, heads, decls}
+use Rattle.std.proofs.Common.{◌≡◌, ◌∷◌, [], ◌++◌, drop, map}
 use Rattle.java_core.specs.Trees.{no_place}
-use Rattle.java_core.specs.Programs.{program_of, method_seen, field_seen, local_seen, class_seen, slot_seen}
-use Rattle.flow_rules.specs.Ordered.{each, when}
-use Rattle.flow_rules.specs.Facts.{is_holder}
-use Rattle.hier_model.specs.Hierarchies.{stands_at, is_class_node}
+use Rattle.java_core.specs.Programs.{program_of, method_seen, local_seen}
+use Rattle.flow_rules.specs.Ordered.{each}
 use Rattle.tree_parts.specs.Renamed.{renamed}
-use Rattle.written_tree.specs.Members.{param, parameters, static_field_member, static_method_member, column_members, column_heads, filler}
-use Rattle.written_tree.specs.Written.{holder_tree, type_tree}
+use Rattle.written_tree.specs.Members.{param}
 use Rattle.source_gen.proofs.heads.params.Given as goal
 
 abbrev pub invariant-loop-i : goal.invariant-loop-i
-invariant-loop-i l = 
+invariant-loop-i l =
     let f = λ (i : ℕ) (k : PlainLocal).
-        param (program_of no_place l.program) (renamed l.numbering l.hier) l.hier l.m (method_seen no_place l.method) i k ∷ [] in
+    param (program_of no_place l.program) (renamed l.numbering l.hier) l.hier l.m (method_seen no_place l.method) i k ∷ [] in
     l.list.items ++ each f l.i (map (local_seen no_place) (drop l.i l.method.params.items)) ≡ each f 0 (map (local_seen no_place) l.method.params.items)

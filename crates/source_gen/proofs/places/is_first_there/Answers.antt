@@ -10,7 +10,7 @@ pub returns-then-is_declared_at : goal.returns-then-is_declared_at
 returns-then-is_declared_at c =
     let F = c.args.facts.now in
     let H = c.args.hier.now in
-    sym (ap not (any_below_found 
+    sym (ap not (any_below_found
     (λ d. is_declaration (column_kind F d) && (is_slot (column_slot F d) c.args.x && stands_at H c.args.n.0 d))
     c.args.c c.loop-d.d
     c.loop-d.invariant (omega arith) (sym c.is_declared_at.ensures ∙ c.if-is_declared_at.true)))

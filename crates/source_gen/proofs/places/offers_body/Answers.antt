@@ -9,7 +9,7 @@ pub returns-then-is_body_offered : goal.returns-then-is_body_offered
 returns-then-is_body_offered c =
     let F = c.args.facts.now in
     let H = c.args.hier.now in
-    sym (any_below_found 
+    sym (any_below_found
     (λ k. is_def (column_kind F k) && (is_slot (column_slot F k) c.args.x && is_offered H c.args.n.0 k))
     (length F.columns.items) c.loop-c.c
     c.loop-c.invariant (omega arith) (sym c.is_body_offered.ensures ∙ c.if-is_body_offered.true))
