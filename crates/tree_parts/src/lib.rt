@@ -9,5 +9,6 @@ mod numbers;
 mod stmts;
 
 pub use exprs::expr;
-pub use numbers::Numbering;
+pub use names::{field_name, id, method_name, modifier, node_of, nowhere, written_type};
+pub use numbers::{Numbering, result_row, variable_row};
 pub use stmts::body;

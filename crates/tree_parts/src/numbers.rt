@@ -2,7 +2,7 @@
 
 ghost use Rattle.std.specs.Prelude.{◌≡◌, ◌<◌, IfSome, length, slice_get};
 ghost use Rattle.flow_rules.specs.Numbered.{number_among, same_row, same_column};
-ghost use Rattle.flow_rules.specs.Operands.{variable_row};
+ghost use Rattle.flow_rules.specs.Operands.{variable_row, result_in};
 ghost use Rattle.java_core.specs.Trees.{no_place};
 ghost use Rattle.java_core.specs.Programs.{method_seen};
 
@@ -76,5 +76,15 @@ pub fn variable_row(m: u64, method: &Method, number: u64) -> RowItem
     match method.slot {
         Some(slot) if number < method.params.len() as u64 => RowItem::Param(slot as u64, number),
         _ => RowItem::Local(m, number),
+    }
+}
+
+/// The row of what a method gives back: that of an instance method is its slot's.
+pub fn result_row(m: u64, method: &Method) -> RowItem
+    ensures value { result ≡ result_in (method_seen no_place method.now).slot m }
+{
+    match method.slot {
+        Some(slot) => RowItem::Return(slot as u64),
+        None => RowItem::Result(m),
     }
 }

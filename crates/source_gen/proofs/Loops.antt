@@ -1,0 +1,24 @@
+-- One item more of a list that is gone through with its numbers.
+use Rattle.std.proofs.Common.{◌≡◌, ℕ, ◌+◌, ◌<◌, List, ◌∷◌, ◌++◌, length, map, drop, get_or, drop-cons, add-one, append_assoc, sym, ap, ◌∙◌}
+use Rattle.flow_rules.specs.Ordered.{each}
+
+-- the items that are left begin with the next
+front : {A : Type 0} (xs : List A) (i : ℕ) (d : A) → i < length xs → drop i xs ≡ get_or xs i d ∷ drop (i + 1) xs
+front xs i d h = drop-cons xs i d h ∙ ap (λ k. get_or xs i d ∷ drop k xs) (sym (add-one i))
+
+-- what was written so far, with what the next item gives
+pub each_more : {A B : Type 0} (f : ℕ → A → List B) (xs : List A) (i : ℕ) (d : A) (old new all : List B) → i < length xs
+    → new ≡ old ++ f i (get_or xs i d)
+    → old ++ each f i (drop i xs) ≡ all → new ++ each f (i + 1) (drop (i + 1) xs) ≡ all
+each_more f xs i d old new all lt step known =
+    let rest = each f (i + 1) (drop (i + 1) xs) in
+    ap (λ l. l ++ rest) step ∙ append_assoc old (f i (get_or xs i d)) rest ∙ ap (λ l. old ++ l) (sym (ap (each f i) (front xs i d lt))) ∙ known
+
+-- the same of items that are seen as others
+pub each_seen_more : {A B C : Type 0} (g : A → C) (f : ℕ → C → List B) (xs : List A) (i : ℕ) (x : A) (old new all : List B) → i < length xs
+    → x ≡ get_or xs i x → new ≡ old ++ f i (g x) → old ++ each f i (map g (drop i xs)) ≡ all
+    → new ++ each f (i + 1) (map g (drop (i + 1) xs)) ≡ all
+each_seen_more g f xs i x old new all lt is step known =
+    let rest = each f (i + 1) (map g (drop (i + 1) xs)) in
+    let first = front xs i x lt ∙ ap (λ y. y ∷ drop (i + 1) xs) (sym is) in
+    ap (λ l. l ++ rest) step ∙ append_assoc old (f i (g x)) rest ∙ ap (λ l. old ++ l) (sym (ap (λ l. each f i (map g l)) first)) ∙ known

@@ -1,0 +1,51 @@
+-- Lists and tests over the numbers of the nodes.
+use Rattle.std.proofs.Common.{◌≡◌, ℕ, zero, suc, ◌+◌, Bool, true, false, cond, ◌&&◌, List, [], ◌∷◌, ◌++◌, length, map, get_or, add-one, zero-add, arith, sym, ap, ◌∙◌, ⊎_elim, refl}
+use Rattle.std.specs.List.{filter, range_with_len}
+use Rattle.std.proofs.lemmas.Bool.{cases_Bool, false≢true}
+use Rattle.std.proofs.lemmas.List.{map-append}
+use Rattle.std.proofs.lemmas.List.Elements.{filter-append}
+use Rattle.std.proofs.lemmas.List.FromFn.{get_or-map-range_with_len, length-map-range_with_len}
+use Rattle.kaba_bits.proofs.SetLemmas.{bit-below}
+use Rattle.kaba_order.specs.Orders.{is_le, is_live}
+use Rattle.fact_model.specs.declared.facts.Facts.{Facts}
+use Rattle.hier_model.specs.Hierarchies.{Hierarchy, IsHierarchyOf, is_class_node}
+use Rattle.source_gen.specs.Seen.{class_tests}
+
+-- what is not live is related to nothing
+pub dead_low : (F : Facts) (H : Hierarchy) → IsHierarchyOf F H → (a b : ℕ) → is_live H.order a ≡ false → is_le H.order a b ≡ false
+dead_low F H h a b dead = ⊎_elim (λ t. absurd (false≢true (sym dead ∙ h.sized.order.lower_lives a b t))) (λ f. f) (cases_Bool (is_le H.order a b))
+
+pub dead_high : (F : Facts) (H : Hierarchy) → IsHierarchyOf F H → (a b : ℕ) → is_live H.order b ≡ false → is_le H.order a b ≡ false
+dead_high F H h a b dead = ⊎_elim (λ t. absurd (false≢true (sym dead ∙ h.sized.order.upper_lives a b t))) (λ f. f) (cases_Bool (is_le H.order a b))
+
+-- one number more
+range_more : (a n : ℕ) → range_with_len a (suc n) ≡ range_with_len a n ++ (a + n) ∷ []
+range_more a zero = let e : a ≡ a + 0 = omega arith in ap (λ k. k ∷ []) e
+range_more a (suc n) =
+    let e : (a + 1) + n ≡ a + suc n = omega arith in
+    ap (λ l. a ∷ l) (range_more (a + 1) n ∙ ap (λ k. range_with_len (a + 1) n ++ k ∷ []) e)
+
+if_one : {A : Type 0} (t : ℕ → A) (b : Bool) (i : ℕ) → map t (cond b (i ∷ []) []) ≡ cond b (t i ∷ []) []
+if_one t true i = refl
+if_one t false i = refl
+
+-- what the numbers that pass a test give, with one number more
+pub filtered_more : {A : Type 0} (t : ℕ → A) (p : ℕ → Bool) (i : ℕ) (old new : List A) → new ≡ old ++ cond (p i) (t i ∷ []) []
+    → old ≡ map t (filter p (range_with_len 0 i))
+    → new ≡ map t (filter p (range_with_len 0 (i + 1)))
+filtered_more t p i old new step known =
+    let below = range_with_len 0 i in
+    let whole = ap (λ k. range_with_len 0 k) (add-one i) ∙ range_more 0 i ∙ ap (λ k. below ++ k ∷ []) (zero-add i) in
+    step ∙ ap (λ l. l ++ cond (p i) (t i ∷ []) []) known
+    ∙ sym (ap (λ l. map t (filter p l)) whole ∙ ap (map t) (filter-append p below (i ∷ [])) ∙ map-append t (filter p below) (filter p (i ∷ []))
+    ∙ ap (λ l. map t (filter p below) ++ l) (if_one t (p i) i))
+
+pub class_tests-length : (F : Facts) (H : Hierarchy) → length (class_tests F H) ≡ length H.order.live
+unfolding class_tests
+class_tests-length F H = length-map-range_with_len (λ n. is_live H.order n && is_class_node F H n) 0 (length H.order.live)
+
+pub class_tests-at : (F : Facts) (H : Hierarchy) (n : ℕ) (d : Bool) → is_live H.order n ≡ true → get_or (class_tests F H) n d ≡ is_class_node F H n
+unfolding class_tests
+class_tests-at F H n d live =
+    get_or-map-range_with_len (λ k. is_live H.order k && is_class_node F H k) 0 (length H.order.live) n n d (bit-below H.order.live n live) (zero-add n)
+    ∙ ap (λ b. b && is_class_node F H n) live

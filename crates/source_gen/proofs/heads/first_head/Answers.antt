@@ -1,0 +1,19 @@
+use Rattle.std.proofs.Common.{List, ℕ, [], ◌∷◌, Option, ap, ◌∙◌}
+use Rattle.std.specs.Option.{option_map_or}
+use Rattle.java_tree.specs.Syntax.{HeadTree}
+use Rattle.java_core.specs.Trees.{no_place}
+use Rattle.java_core.specs.Programs.{program_of, method_seen, PlainMethod}
+use Rattle.tree_parts.specs.Renamed.{renamed}
+use Rattle.written_tree.specs.Members.{head}
+use Rattle.source_gen.proofs.heads.first_head.Goals as goal
+
+pub returns : goal.returns
+returns c =
+    let P = program_of no_place c.args.program.now in
+    let H = c.args.hier.now in
+    let R = renamed c.args.numbering.now H in
+    let mods = c.args.mods.items in
+    let m = c.args.slot.now.first.0 in
+    let named = c.in_ok-made.ensures ∙ ap (λ (x : List ℕ). head P R H mods x m (method_seen no_place c.in-Some.method.now)) c.in_ok-name.ensures in
+    ap (λ (h : HeadTree). h ∷ []) named
+    ∙ ap (λ (o : Option PlainMethod). option_map_or (λ (k : PlainMethod). head P R H mods (R.method_name m) m k ∷ []) o []) c.in-Some.ensures

@@ -1,0 +1,9 @@
+use Rattle.std.proofs.Common.{◌≡◌, ◌&&◌, false}
+use Rattle.hier_model.specs.Hierarchies.{any_below, stands_at}
+use Rattle.fact_model.specs.Items.{column_kind, column_slot}
+use Rattle.fact_model.specs.Classes.{is_slot}
+use Rattle.written_tree.specs.Members.{is_declaration}
+use Rattle.source_gen.proofs.places.is_first_there.Given as goal
+
+abbrev pub invariant-loop-d : goal.invariant-loop-d
+invariant-loop-d l = any_below l.d (λ d. is_declaration (column_kind l.facts d) && (is_slot (column_slot l.facts d) l.x && stands_at l.hier l.n.0 d)) ≡ false

@@ -1,0 +1,8 @@
+use Rattle.std.proofs.Common.{◌≡◌, ◌&&◌, not, false}
+use Rattle.hier_model.specs.Hierarchies.{any_below}
+use Rattle.kaba_order.specs.Orders.{is_le}
+use Rattle.written_tree.specs.Supers.{is_class_above}
+use Rattle.source_gen.proofs.supers.has_elsewhere.Given as goal
+
+abbrev pub invariant-loop-b : goal.invariant-loop-b
+invariant-loop-b l = any_below l.b (λ b. is_class_above l.facts l.hier l.n b && not (is_le l.hier.order l.a b)) ≡ false

@@ -1,0 +1,7 @@
+use Rattle.std.proofs.Common.{◌≡◌, None}
+use Rattle.kaba_bits.specs.Sets.{first_below, when}
+use Rattle.written_tree.specs.Supers.{is_superclass}
+use Rattle.source_gen.proofs.supers.superclass.Given as goal
+
+abbrev pub invariant-loop-a : goal.invariant-loop-a
+invariant-loop-a l = first_below l.a (λ a. when (is_superclass l.facts l.hier l.n a) a) ≡ None

@@ -1,0 +1,376 @@
+//! What the columns at a node and the slots that it offers give to its type.
+
+ghost use Rattle.std.specs.Prelude.{◌≡◌, ◌++◌, ◌∷◌, [], ◌<◌, true, length, IfOk, OnOk, Option};
+ghost use Rattle.kaba_base.specs.declared.words.Keyword.TheVariants as keyword;
+ghost use Rattle.kaba_order.specs.Orders.{is_live};
+ghost use Rattle.java_tree.specs.Syntax as tree;
+ghost use Rattle.java_core.specs.Trees.{no_place};
+ghost use Rattle.java_core.specs.Programs.{program_of, slot_seen};
+ghost use Rattle.java_core.specs.Formed.{IsFormed};
+ghost use Rattle.fact_model.specs.InRange.{InRange};
+ghost use Rattle.fact_model.specs.Items.{column_at};
+ghost use Rattle.hier_model.specs.Hierarchies.{IsHierarchyOf, stands_at};
+ghost use Rattle.flow_rules.specs.Ordered.{each, when};
+ghost use Rattle.rebuild_model.specs.Members.{is_headed, is_filled, is_made_at};
+ghost use Rattle.written_tree.specs.Names as names;
+ghost use Rattle.written_tree.specs.Members as written;
+ghost use Rattle.tree_parts.specs.Renamed.{renamed, IsFitting};
+ghost use Rattle.source_gen.specs.Seen.{class_tests, head_if};
+
+use crate::heads::{first_head, one_modifier, public_and, slot_head};
+use crate::members::{push_bodyless, push_head, push_member};
+use crate::own::add_own;
+use crate::places::{
+    is_declaration, is_first_there, is_made_at, offers_body, offers_slot, stands_at,
+};
+use crate::supers::is_class;
+use fact_model::Facts;
+use hier_model::{Hier, column_at};
+use java_core::{Program, Slot, Ty, TyBase};
+use java_tree::{Expr, Head, Member, Modifier, Stmt, TypeBase, TypeName, build};
+use kaba_base::{ColId, Keyword, NodeId};
+use std::alloc::{AllocError, Global};
+use tree_parts::{Numbering, nowhere};
+
+/// Whether a declaration of a slot at a live node is written as a head: in an interface, and in an
+/// abstract class to which no body of the slot is offered.
+fn is_headed(classes: &Vec<bool>, facts: &Facts, hier: &Hier, n: NodeId, x: u32) -> bool
+    requires range { InRange facts.now }
+    requires hierarchy { IsHierarchyOf facts.now hier.now }
+    requires classes { classes.now.items ≡ class_tests facts.now hier.now }
+    requires node { is_live hier.now.order n.0 ≡ true }
+    ensures { result ≡ is_headed facts.now hier.now n.0 x }
+{
+    !is_class(classes, facts, hier, n.0)
+        || (!is_made_at(facts, hier, n) && !offers_body(facts, hier, n, x))
+}
+
+/// Whether the type of a live node has a filler of a slot: objects are created there, as `is_made`
+/// says, and it is offered the slot without a body.
+fn is_filled(facts: &Facts, hier: &Hier, is_made: bool, n: NodeId, x: u32) -> bool
+    requires range { InRange facts.now }
+    requires hierarchy { IsHierarchyOf facts.now hier.now }
+    requires made { is_made ≡ is_made_at facts.now hier.now n.0 }
+    requires node { is_live hier.now.order n.0 ≡ true }
+    ensures { result ≡ is_filled facts.now hier.now n.0 x }
+{
+    is_made && (offers_slot(facts, hier, n, x) && !offers_body(facts, hier, n, x))
+}
+
+/// The head that the declaration of a slot at a live node gives: once a slot.
+fn head_of_slot(
+    alloc: Global,
+    program: &Program,
+    numbering: &Numbering,
+    classes: &Vec<bool>,
+    facts: &Facts,
+    hier: &Hier,
+    mods: Vec<Modifier>,
+    n: NodeId,
+    c: u32,
+    slot: Option<u32>,
+) -> Result<Option<Head>, AllocError>
+    requires range { InRange facts.now }
+    requires hierarchy { IsHierarchyOf facts.now hier.now }
+    requires fits { IsFitting numbering.now hier.now }
+    requires classes { classes.now.items ≡ class_tests facts.now hier.now }
+    requires node { is_live hier.now.order n.0 ≡ true }
+    requires column { c < length facts.now.columns.items }
+    ensures { IfOk result (λ h. head_if h ≡ written.heads_of_slot (program_of no_place program.now)
+        (renamed numbering.now hier.now) facts.now hier.now mods.items n.0 c slot) }
+{
+    let Some(x) = slot else {
+        return Ok(None);
+    };
+    if is_headed(classes, facts, hier, n, x) && is_first_there(facts, hier, n, c, x) {
+        slot_head(alloc, program, numbering, hier, mods, x)
+    } else {
+        Ok(None)
+    }
+}
+
+/// The head that a column at a live node gives.
+fn column_head(
+    alloc: Global,
+    program: &Program,
+    numbering: &Numbering,
+    classes: &Vec<bool>,
+    facts: &Facts,
+    hier: &Hier,
+    mods: Vec<Modifier>,
+    n: NodeId,
+    c: u32,
+) -> Result<Option<Head>, AllocError>
+    requires range { InRange facts.now }
+    requires hierarchy { IsHierarchyOf facts.now hier.now }
+    requires fits { IsFitting numbering.now hier.now }
+    requires classes { classes.now.items ≡ class_tests facts.now hier.now }
+    requires node { is_live hier.now.order n.0 ≡ true }
+    requires column { c < length facts.now.columns.items }
+    ensures { IfOk result (λ h. head_if h ≡ written.column_heads (program_of no_place program.now)
+        (renamed numbering.now hier.now) facts.now hier.now mods.items n.0 c (column_at facts.now
+        c)) }
+{
+    let column = column_at(facts, ColId(c));
+    if !is_declaration(column.kind) {
+        return Ok(None);
+    }
+    let slot = column.slot;
+    head_of_slot(
+        alloc, program, numbering, classes, facts, hier, mods, n, c, slot,
+    )
+}
+
+/// Adds what a column gives to the class of the live node where it stands.
+fn add_column(
+    alloc: Global,
+    program: &Program,
+    numbering: &Numbering,
+    classes: &Vec<bool>,
+    facts: &Facts,
+    hier: &Hier,
+    n: NodeId,
+    c: u32,
+    into: &mut Vec<Member>,
+) -> Result<(), AllocError>
+    requires formed { IsFormed (program_of no_place program.now) }
+    requires range { InRange facts.now }
+    requires hierarchy { IsHierarchyOf facts.now hier.now }
+    requires fits { IsFitting numbering.now hier.now }
+    requires classes { classes.now.items ≡ class_tests facts.now hier.now }
+    requires node { is_live hier.now.order n.0 ≡ true }
+    requires column { c < length facts.now.columns.items }
+    ensures { OnOk result (tree.members into.new.items ≡ tree.members into.old.items ++ when
+        (stands_at hier.now n.0 c) (written.column_members (program_of no_place program.now)
+        (renamed numbering.now hier.now) facts.now hier.now numbering.now.columns.keys n.0 c
+        (column_at facts.now c))) }
+{
+    if !stands_at(facts, hier, n, c) {
+        return Ok(());
+    }
+    let mods = public_and(alloc, Keyword::Abstract)?;
+    let head = column_head(alloc, program, numbering, classes, facts, hier, mods, n, c)?;
+    push_bodyless(into, head)?;
+    let item = numbering.item(c);
+    add_own(alloc, program, numbering, facts, hier, item, into)
+}
+
+/// Adds what the columns give to the class of a live node, in the order of their numbers.
+fn add_columns(
+    alloc: Global,
+    program: &Program,
+    numbering: &Numbering,
+    classes: &Vec<bool>,
+    facts: &Facts,
+    hier: &Hier,
+    n: NodeId,
+    into: &mut Vec<Member>,
+) -> Result<(), AllocError>
+    requires formed { IsFormed (program_of no_place program.now) }
+    requires range { InRange facts.now }
+    requires hierarchy { IsHierarchyOf facts.now hier.now }
+    requires fits { IsFitting numbering.now hier.now }
+    requires classes { classes.now.items ≡ class_tests facts.now hier.now }
+    requires node { is_live hier.now.order n.0 ≡ true }
+    ensures { OnOk result (tree.members into.new.items ≡ tree.members into.old.items ++ each (λ c k.
+        when (stands_at hier.now n.0 c) (written.column_members (program_of no_place program.now)
+        (renamed numbering.now hier.now) facts.now hier.now numbering.now.columns.keys n.0 c k)) 0
+        facts.now.columns.items) }
+{
+    for c in 0..facts.columns.len() as u32 {
+        add_column(alloc, program, numbering, classes, facts, hier, n, c, into)?;
+    }
+    Ok(())
+}
+
+/// What a filler gives back.
+fn value_of_none(alloc: Global, base: TyBase, dim: u32) -> Result<Expr, AllocError>
+    ensures { IfOk result (λ e. tree.expr_of e ≡ written.value_of_none base dim) }
+{
+    let place = nowhere();
+    match (base, dim) {
+        (TyBase::Int, 0) => Ok(Expr::Int { value: 0, place }),
+        (TyBase::Boolean, 0) => Ok(Expr::Bool {
+            value: false,
+            place,
+        }),
+        (TyBase::Char, 0) => {
+            let ty = TypeName {
+                base: TypeBase::Char,
+                dim: 0,
+                place,
+            };
+            build::cast(alloc, ty, Expr::Int { value: 0, place }, place)
+        }
+        (_, _) => Ok(Expr::Null { place }),
+    }
+}
+
+/// The statements of a filler of a slot with this result.
+fn filling(alloc: Global, given: Option<Ty>) -> Result<Vec<Stmt>, AllocError>
+    ensures { IfOk result (λ v. tree.stmts v.items ≡ written.filling given) }
+{
+    let mut list = Vec::new(alloc);
+    if let Some(ty) = given {
+        let value = value_of_none(alloc, ty.base, ty.dim)?;
+        list.push(Stmt::Return {
+            value: Some(value),
+            place: nowhere(),
+        })?;
+    }
+    Ok(list)
+}
+
+/// Adds the filler of a slot, if the class of a live node has one.
+fn add_filler(
+    alloc: Global,
+    program: &Program,
+    numbering: &Numbering,
+    facts: &Facts,
+    hier: &Hier,
+    is_made: bool,
+    n: NodeId,
+    x: u32,
+    slot: &Slot,
+    into: &mut Vec<Member>,
+) -> Result<(), AllocError>
+    requires range { InRange facts.now }
+    requires hierarchy { IsHierarchyOf facts.now hier.now }
+    requires fits { IsFitting numbering.now hier.now }
+    requires made { is_made ≡ is_made_at facts.now hier.now n.0 }
+    requires node { is_live hier.now.order n.0 ≡ true }
+    ensures { OnOk result (tree.members into.new.items ≡ tree.members into.old.items ++
+        written.filler (program_of no_place program.now) (renamed numbering.now hier.now) facts.now
+        hier.now n.0 x (slot_seen no_place slot.now)) }
+{
+    if !is_filled(facts, hier, is_made, n, x) {
+        return Ok(());
+    }
+    let mods = one_modifier(alloc, Keyword::Public)?;
+    match first_head(alloc, program, numbering, hier, mods, slot)? {
+        Some(head) => {
+            let body = Some(filling(alloc, slot.result)?);
+            let place = nowhere();
+            push_member(into, Member::Method { head, body, place })
+        }
+        None => Ok(()),
+    }
+}
+
+/// Adds the fillers of the class of a live node, in the order of the slots.
+fn add_fillers(
+    alloc: Global,
+    program: &Program,
+    numbering: &Numbering,
+    facts: &Facts,
+    hier: &Hier,
+    is_made: bool,
+    n: NodeId,
+    into: &mut Vec<Member>,
+) -> Result<(), AllocError>
+    requires formed { IsFormed (program_of no_place program.now) }
+    requires range { InRange facts.now }
+    requires hierarchy { IsHierarchyOf facts.now hier.now }
+    requires fits { IsFitting numbering.now hier.now }
+    requires made { is_made ≡ is_made_at facts.now hier.now n.0 }
+    requires node { is_live hier.now.order n.0 ≡ true }
+    ensures { OnOk result (tree.members into.new.items ≡ tree.members into.old.items ++ each
+        (written.filler (program_of no_place program.now) (renamed numbering.now hier.now) facts.now
+        hier.now n.0) 0 (program_of no_place program.now).slots) }
+{
+    for (x, slot) in program.slots.iter().enumerate() {
+        let x = x as u32;
+        add_filler(
+            alloc, program, numbering, facts, hier, is_made, n, x, slot, into,
+        )?;
+    }
+    Ok(())
+}
+
+/// The members of the class of a live node: by the columns, and then the fillers by slot.
+pub fn class_members(
+    alloc: Global,
+    program: &Program,
+    numbering: &Numbering,
+    classes: &Vec<bool>,
+    facts: &Facts,
+    hier: &Hier,
+    n: NodeId,
+) -> Result<Vec<Member>, AllocError>
+    requires formed { IsFormed (program_of no_place program.now) }
+    requires range { InRange facts.now }
+    requires hierarchy { IsHierarchyOf facts.now hier.now }
+    requires fits { IsFitting numbering.now hier.now }
+    requires classes { classes.now.items ≡ class_tests facts.now hier.now }
+    requires node { is_live hier.now.order n.0 ≡ true }
+    ensures { IfOk result (λ v. tree.members v.items ≡ written.class_members (program_of no_place
+        program.now) (renamed numbering.now hier.now) facts.now hier.now numbering.now.columns.keys
+        n.0) }
+{
+    let mut list = Vec::new(alloc);
+    add_columns(
+        alloc, program, numbering, classes, facts, hier, n, &mut list,
+    )?;
+    let is_made = is_made_at(facts, hier, n);
+    add_fillers(
+        alloc, program, numbering, facts, hier, is_made, n, &mut list,
+    )?;
+    Ok(list)
+}
+
+/// Adds the head that a column gives to the interface of the live node where it stands.
+fn add_head(
+    alloc: Global,
+    program: &Program,
+    numbering: &Numbering,
+    classes: &Vec<bool>,
+    facts: &Facts,
+    hier: &Hier,
+    n: NodeId,
+    c: u32,
+    into: &mut Vec<Head>,
+) -> Result<(), AllocError>
+    requires range { InRange facts.now }
+    requires hierarchy { IsHierarchyOf facts.now hier.now }
+    requires fits { IsFitting numbering.now hier.now }
+    requires classes { classes.now.items ≡ class_tests facts.now hier.now }
+    requires node { is_live hier.now.order n.0 ≡ true }
+    requires column { c < length facts.now.columns.items }
+    ensures { OnOk result (tree.heads into.new.items ≡ tree.heads into.old.items ++ when (stands_at
+        hier.now n.0 c) (written.column_heads (program_of no_place program.now) (renamed
+        numbering.now hier.now) facts.now hier.now [] n.0 c (column_at facts.now c))) }
+{
+    if !stands_at(facts, hier, n, c) {
+        return Ok(());
+    }
+    let mods = Vec::new(alloc);
+    let head = column_head(alloc, program, numbering, classes, facts, hier, mods, n, c)?;
+    push_head(into, head)
+}
+
+/// The heads of the interface of a live node, in the order of the columns.
+pub fn interface_heads(
+    alloc: Global,
+    program: &Program,
+    numbering: &Numbering,
+    classes: &Vec<bool>,
+    facts: &Facts,
+    hier: &Hier,
+    n: NodeId,
+) -> Result<Vec<Head>, AllocError>
+    requires range { InRange facts.now }
+    requires hierarchy { IsHierarchyOf facts.now hier.now }
+    requires fits { IsFitting numbering.now hier.now }
+    requires classes { classes.now.items ≡ class_tests facts.now hier.now }
+    requires node { is_live hier.now.order n.0 ≡ true }
+    ensures { IfOk result (λ v. tree.heads v.items ≡ written.interface_heads (program_of no_place
+        program.now) (renamed numbering.now hier.now) facts.now hier.now n.0) }
+{
+    let mut list = Vec::new(alloc);
+    for c in 0..facts.columns.len() as u32 {
+        add_head(
+            alloc, program, numbering, classes, facts, hier, n, c, &mut list,
+        )?;
+    }
+    Ok(list)
+}

@@ -1,0 +1,58 @@
+//! The program that is written of a class hierarchy (after Streckenbach and Snelting, 2004): a class
+//! or an interface for each live node, and then the holders of the static members.
+#![tactic(auto)]
+
+ghost use Rattle.std.specs.Prelude.{◌≡◌, IfOk};
+ghost use Rattle.java_tree.specs.Syntax.{tree_of};
+ghost use Rattle.java_core.specs.Trees.{no_place};
+ghost use Rattle.java_core.specs.Programs.{program_of};
+ghost use Rattle.java_core.specs.Formed.{IsFormed};
+ghost use Rattle.fact_model.specs.InRange.{InRange};
+ghost use Rattle.hier_model.specs.Hierarchies.{IsHierarchyOf};
+ghost use Rattle.written_tree.specs.Written.{written_by};
+ghost use Rattle.tree_parts.specs.Renamed.{renamed, IsFitting};
+
+mod columns;
+mod heads;
+mod holders;
+mod members;
+mod own;
+mod parts;
+mod places;
+mod supers;
+mod types;
+
+use fact_model::Facts;
+use hier_model::Hier;
+use holders::add_holders;
+use java_core::Program;
+use java_tree::Tree;
+use std::alloc::{AllocError, Global};
+use supers::class_nodes;
+use tree_parts::Numbering;
+use types::add_types;
+
+/// The tree of the program that is written of a hierarchy over the rows and columns of a program's
+/// facts: the types of the live nodes by their numbers, then the holders in the order of the program
+/// (after Streckenbach and Snelting, 2004). Each place is zero. `AllocError` where memory is short,
+/// or a method has 2 ^ 32 parameters or more.
+pub fn generate(
+    alloc: Global,
+    program: &Program,
+    numbering: &Numbering,
+    facts: &Facts,
+    hier: &Hier,
+) -> Result<Tree, AllocError>
+    requires formed { IsFormed (program_of no_place program.now) }
+    requires range { InRange facts.now }
+    requires hierarchy { IsHierarchyOf facts.now hier.now }
+    requires fits { IsFitting numbering.now hier.now }
+    ensures tree { IfOk result (λ t. tree_of t ≡ written_by (program_of no_place program.now)
+        (renamed numbering.now hier.now) facts.now hier.now numbering.now.columns.keys) }
+{
+    let classes = class_nodes(alloc, facts, hier)?;
+    let mut decls = Vec::new(alloc);
+    add_types(alloc, program, numbering, &classes, facts, hier, &mut decls)?;
+    add_holders(alloc, program, numbering, hier, &mut decls)?;
+    Ok(Tree { decls })
+}

@@ -1,0 +1,240 @@
+//! The fields and methods that the types of nodes and the holders have.
+
+ghost use Rattle.std.specs.Prelude.{◌≡◌, ◌++◌, ◌∷◌, [], IfOk, OnOk, map};
+ghost use Rattle.kaba_base.specs.declared.words.Keyword.TheVariants as keyword;
+ghost use Rattle.java_tree.specs.Syntax as tree;
+ghost use Rattle.java_core.specs.Trees.{no_place};
+ghost use Rattle.java_core.specs.Programs.{program_of, method_seen, field_seen};
+ghost use Rattle.java_core.specs.Formed.{IsFormed};
+ghost use Rattle.flow_rules.specs.declared.items.RowItem.TheVariants as row;
+ghost use Rattle.written_tree.specs.Names as names;
+ghost use Rattle.written_tree.specs.Members as written;
+ghost use Rattle.tree_parts.specs.Renamed.{renamed, IsFitting};
+ghost use Rattle.source_gen.specs.Seen.{head_if};
+
+use crate::heads::{head, one_modifier, public_and};
+use flow_rules::RowItem;
+use hier_model::Hier;
+use java_core::{Field, Method, Program};
+use java_tree::{Decl, Head, Member, Modifier, Stmt};
+use kaba_base::{Keyword, Name};
+use std::alloc::{AllocError, Global};
+use tree_parts::{Numbering, body, field_name, method_name, node_of, nowhere, written_type};
+
+/// Adds a head.
+#[tactic(auto, using(crate::proofs::Pushed::heads_push))]
+pub fn push_head(into: &mut Vec<Head>, one: Option<Head>) -> Result<(), AllocError>
+    ensures { OnOk result (tree.heads into.new.items ≡ tree.heads into.old.items ++ head_if one) }
+{
+    if let Some(one) = one {
+        into.push(one)?;
+    }
+    Ok(())
+}
+
+/// Adds a member.
+#[tactic(auto, using(crate::proofs::Pushed::members_push))]
+pub fn push_member(into: &mut Vec<Member>, one: Member) -> Result<(), AllocError>
+    ensures { OnOk result (tree.members into.new.items ≡ tree.members into.old.items ++
+        tree.member_of one ∷ []) }
+{
+    into.push(one)?;
+    Ok(())
+}
+
+/// Adds a declaration.
+#[tactic(auto, using(crate::proofs::Pushed::decls_push))]
+pub fn push_decl(into: &mut Vec<Decl>, one: Decl) -> Result<(), AllocError>
+    ensures { OnOk result (tree.decls into.new.items ≡ tree.decls into.old.items ++ tree.decl_of one
+        ∷ []) }
+{
+    into.push(one)?;
+    Ok(())
+}
+
+/// Adds a head as a member without a body.
+pub fn push_bodyless(into: &mut Vec<Member>, one: Option<Head>) -> Result<(), AllocError>
+    ensures { OnOk result (tree.members into.new.items ≡ tree.members into.old.items ++ map
+        written.bodyless (head_if one)) }
+{
+    match one {
+        Some(head) => push_member(
+            into,
+            Member::Method {
+                head,
+                body: None,
+                place: nowhere(),
+            },
+        ),
+        None => Ok(()),
+    }
+}
+
+/// The parameters of a method when its body begins, by their numbers.
+fn parameters(alloc: Global, method: &Method) -> Result<Vec<u32>, AllocError>
+    ensures { IfOk result (λ v. v.items ≡ written.parameters 0 (method_seen no_place
+        method.now).params) }
+{
+    let mut list = Vec::new(alloc);
+    for (i, _local) in method.params.iter().enumerate() {
+        let Ok(number) = u32::try_from(i) else {
+            return Err(AllocError);
+        };
+        list.push(number)?;
+    }
+    Ok(list)
+}
+
+/// The statements of a method, as they are written.
+fn code(
+    alloc: Global,
+    program: &Program,
+    numbering: &Numbering,
+    hier: &Hier,
+    m: u64,
+    method: &Method,
+) -> Result<Option<Vec<Stmt>>, AllocError>
+    requires formed { IsFormed (program_of no_place program.now) }
+    requires fits { IsFitting numbering.now hier.now }
+    ensures { IfOk result (λ b. tree.body_seen b ≡ written.body (program_of no_place program.now)
+        (renamed numbering.now hier.now) hier.now m (method_seen no_place method.now)) }
+{
+    let Some(list) = &method.body else {
+        return Ok(None);
+    };
+    let scope = parameters(alloc, method)?;
+    let made = body(alloc, program, numbering, hier, m, method, &scope, list)?;
+    Ok(Some(made))
+}
+
+/// A field under a name, with these modifiers.
+fn field(
+    alloc: Global,
+    program: &Program,
+    numbering: &Numbering,
+    hier: &Hier,
+    mods: Vec<Modifier>,
+    name: Name,
+    f: u64,
+    old: &Field,
+) -> Result<Member, AllocError>
+    requires fits { IsFitting numbering.now hier.now }
+    ensures { IfOk result (λ d. tree.member_of d ≡ tree.FieldTree mods.items (names.written_type
+        (program_of no_place program.now) hier.now ((renamed numbering.now hier.now).row_type
+        (row.Field f)) old.now.ty) name names.nowhere) }
+{
+    let node = node_of(numbering, hier, RowItem::Field(f));
+    let ty = written_type(alloc, program, hier, node, old.ty)?;
+    Ok(Member::Field {
+        mods,
+        ty,
+        name,
+        place: nowhere(),
+    })
+}
+
+/// A method under a name, with these modifiers.
+fn method(
+    alloc: Global,
+    program: &Program,
+    numbering: &Numbering,
+    hier: &Hier,
+    mods: Vec<Modifier>,
+    name: Name,
+    m: u64,
+    old: &Method,
+) -> Result<Member, AllocError>
+    requires formed { IsFormed (program_of no_place program.now) }
+    requires fits { IsFitting numbering.now hier.now }
+    ensures { IfOk result (λ d. tree.member_of d ≡ tree.MethodTree (written.head (program_of
+        no_place program.now) (renamed numbering.now hier.now) hier.now mods.items name m
+        (method_seen no_place old.now)) (written.body (program_of no_place program.now) (renamed
+        numbering.now hier.now) hier.now m (method_seen no_place old.now)) names.nowhere) }
+{
+    let head = head(alloc, program, numbering, hier, mods, name, m, old)?;
+    let body = code(alloc, program, numbering, hier, m, old)?;
+    Ok(Member::Method {
+        head,
+        body,
+        place: nowhere(),
+    })
+}
+
+/// An instance field: under the name of its column, without modifiers.
+pub fn field_member(
+    alloc: Global,
+    program: &Program,
+    numbering: &Numbering,
+    hier: &Hier,
+    f: u64,
+    old: &Field,
+) -> Result<Member, AllocError>
+    requires fits { IsFitting numbering.now hier.now }
+    ensures { IfOk result (λ d. tree.member_of d ≡ written.field_member (program_of no_place
+        program.now) (renamed numbering.now hier.now) hier.now f (field_seen no_place old.now)) }
+{
+    let name = field_name(alloc, numbering, hier, f)?;
+    let mods = Vec::new(alloc);
+    field(alloc, program, numbering, hier, mods, name, f, old)
+}
+
+/// The body of an instance method: public, under the name of its declaration's column.
+pub fn body_member(
+    alloc: Global,
+    program: &Program,
+    numbering: &Numbering,
+    hier: &Hier,
+    m: u64,
+    old: &Method,
+) -> Result<Member, AllocError>
+    requires formed { IsFormed (program_of no_place program.now) }
+    requires fits { IsFitting numbering.now hier.now }
+    ensures { IfOk result (λ d. tree.member_of d ≡ written.body_member (program_of no_place
+        program.now) (renamed numbering.now hier.now) hier.now m (method_seen no_place old.now)) }
+{
+    let name = method_name(alloc, numbering, hier, m)?;
+    let mods = one_modifier(alloc, Keyword::Public)?;
+    method(alloc, program, numbering, hier, mods, name, m, old)
+}
+
+/// A static field of a holder: it keeps its name.
+pub fn static_field(
+    alloc: Global,
+    program: &Program,
+    numbering: &Numbering,
+    hier: &Hier,
+    f: u64,
+    old: &Field,
+) -> Result<Member, AllocError>
+    requires fits { IsFitting numbering.now hier.now }
+    ensures { IfOk result (λ d. tree.member_of d ≡ tree.FieldTree (names.modifier keyword.Public ∷
+        names.modifier keyword.Static ∷ []) (names.written_type (program_of no_place program.now)
+        hier.now ((renamed numbering.now hier.now).row_type (row.Field f)) old.now.ty) old.now.name
+        names.nowhere) }
+{
+    let name = old.name.copy(alloc)?;
+    let mods = public_and(alloc, Keyword::Static)?;
+    field(alloc, program, numbering, hier, mods, name, f, old)
+}
+
+/// A static method of a holder: it keeps its name.
+pub fn static_method(
+    alloc: Global,
+    program: &Program,
+    numbering: &Numbering,
+    hier: &Hier,
+    m: u64,
+    old: &Method,
+) -> Result<Member, AllocError>
+    requires formed { IsFormed (program_of no_place program.now) }
+    requires fits { IsFitting numbering.now hier.now }
+    ensures { IfOk result (λ d. tree.member_of d ≡ tree.MethodTree (written.head (program_of
+        no_place program.now) (renamed numbering.now hier.now) hier.now (names.modifier
+        keyword.Public ∷ names.modifier keyword.Static ∷ []) old.now.name m (method_seen no_place
+        old.now)) (written.body (program_of no_place program.now) (renamed numbering.now hier.now)
+        hier.now m (method_seen no_place old.now)) names.nowhere) }
+{
+    let name = old.name.copy(alloc)?;
+    let mods = public_and(alloc, Keyword::Static)?;
+    method(alloc, program, numbering, hier, mods, name, m, old)
+}
