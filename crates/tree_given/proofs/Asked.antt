@@ -1,5 +1,5 @@
 -- The members that a body asks for stand somewhere, so that their names can be written.
-use Rattle.std.proofs.Common.{◌≡◌, ℕ, List, [], Option, Some, None, Contains, refl, sym, ap, ◌∙◌, subst}
+use Rattle.std.proofs.Common.{◌≡◌, ℕ, List, [], Option, Some, Contains, refl, sym, ap, ◌∙◌, subst}
 use Rattle.std.specs.Prelude.{◌==◌, true, false, slice_get}
 use Rattle.std.specs.Option.{is_some}
 use Rattle.std.proofs.lemmas.Bool.{and_from, eq-eqb}

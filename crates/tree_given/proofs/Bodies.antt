@@ -1,6 +1,6 @@
 -- The bodies of the written tree are made of forms that the grammar gives.
 use Rattle.std.proofs.Common.{◌≡◌, ℕ, Bool, true, false, List, [], ◌∷◌, ◌++◌, length, Option, Some, None, Contains, refl, sym, ap, ◌∙◌, subst, arith}
-use Rattle.std.specs.Prelude.{slice_get, option_and_then}
+use Rattle.std.specs.Prelude.{option_and_then}
 use Rattle.std.specs.Option.{is_some, option_map_or}
 use Rattle.std.proofs.lemmas.Bool.{false≢true}
 use Rattle.std.proofs.lemmas.List.Elements.{Contains-append_left, Contains-append_right}
@@ -193,8 +193,7 @@ module _ (C : Given) (B : Bodied C) where
       let is = tree false i in
       let vs = tree true e in
       let three = left ((bs ++ is) ++ vs) _ st in
-      let two = left (bs ++ is) vs three in
-      (
+      let two = left (bs ++ is) vs three in (
         refl,
         (ex_formed true sc wr b tb fb (left bs is two), ex_formed false sc wr i ti fi (right bs is two)),
         ex_formed true sc wr e te fe (right (bs ++ is) vs three),

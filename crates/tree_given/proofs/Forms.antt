@@ -12,7 +12,6 @@ use Rattle.java_core.specs.declared.BinOp.{BinOp}
 use Rattle.java_core.specs.declared.BinOp.TheVariants as bin
 use Rattle.java_core.specs.declared.Op.{Op}
 use Rattle.java_core.specs.declared.Op.TheVariants as op
-use Rattle.java_core.specs.Types.{static}
 use Rattle.java_core.specs.Formed.{IsLiteral, small, least}
 use Rattle.written_tree.specs.Names.{prefix_mark, operation, infix_mark}
 use Rattle.written_tree.specs.Bodies.{static_field_tree, static_call_tree, loop_tree}

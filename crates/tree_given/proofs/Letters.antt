@@ -1,9 +1,9 @@
 -- What passes for a name is made of characters.
-use Rattle.std.proofs.Common.{◌≡◌, ℕ, ◌||◌, ◌&&◌, ◌==◌, leb, ltb, cond, Bool, true, false, not, List, [], ◌∷◌, refl, sym, ap, ◌∙◌, subst, arith, ⊎_elim}
+use Rattle.std.proofs.Common.{◌≡◌, ℕ, ◌||◌, ◌==◌, leb, ltb, cond, Bool, true, false, not, List, [], ◌∷◌, refl, ap, subst, arith, ⊎_elim}
 use Rattle.std.specs.List.{list_all}
 use Rattle.std.specs.Str.{all_scalars}
 use Rattle.std.proofs.Math.Utf8.{scalar}
-use Rattle.std.proofs.lemmas.Bool.{and_from, and_parts, or_cases, eqb-true, false≢true, cases_lt}
+use Rattle.std.proofs.lemmas.Bool.{and_from, and_parts, or_cases, eqb-true, cases_lt}
 use Rattle.ucd_table.specs.Steps.{step_value}
 use Rattle.ucd_table.proofs.Stepped.{Stepped, zip_stepped}
 use Rattle.ucd_table.proofs.Facts.{Stepped-everywhere}

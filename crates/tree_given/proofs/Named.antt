@@ -1,14 +1,14 @@
 -- The names that a written body has can be written: those of variables, of static members and of the members that it asks for.
-use Rattle.std.proofs.Common.{◌≡◌, ℕ, ◌<◌, Bool, true, false, List, [], ◌∷◌, ◌++◌, length, Option, Some, None, Contains, refl, sym, ap, ◌∙◌, subst}
-use Rattle.std.specs.Prelude.{slice_get, option_and_then}
+use Rattle.std.proofs.Common.{◌≡◌, ℕ, ◌<◌, Bool, true, false, List, [], length, Option, Some, None, Contains, refl, sym, ap, ◌∙◌, subst}
+use Rattle.std.specs.Prelude.{option_and_then}
 use Rattle.std.specs.Option.{is_some, option_map_or}
 use Rattle.kaba_base.specs.declared.Place.{Place}
 use Rattle.java_lex.specs.Writable.{IsName}
-use Rattle.java_tree.specs.Syntax.{Expression, NullLit, Expressions}
+use Rattle.java_tree.specs.Syntax.{NullLit, Expressions}
 use Rattle.java_print.specs.Formed as printed
 use Rattle.java_print.specs.Formed.{is_target, IsFormed, AreFormed, IsFormedBase}
 use Rattle.java_core.specs.declared.Ty.{Ty}
-use Rattle.java_core.specs.Trees.{Tag, Ex, Exs, own_field, field, call, super_call, Sts}
+use Rattle.java_core.specs.Trees.{Tag, Ex, Exs, call, super_call, Sts}
 use Rattle.java_core.specs.Programs.{Plain, PlainLocal, PlainField, PlainMethod}
 use Rattle.java_core.specs.Classes.{slot_of, slot_of_method, declaration_of, super_method, has_body}
 use Rattle.java_core.specs.Types.{Static, Env, env_of, class_of, field_in, field_type, access_type, Signature, call_signature, super_signature, static}
@@ -25,7 +25,7 @@ use Rattle.flow_rules.specs.declared.items.ColumnItem.TheVariants as column
 use Rattle.flow_rules.specs.declared.items.RowItem.{RowItem}
 use Rattle.flow_rules.specs.declared.items.RowItem.TheVariants as row
 use Rattle.flow_rules.specs.Operands.{object_field, call_slot, call_declaration, row_of, operand_of, operands_of, this_operand, type_in}
-use Rattle.flow_rules.specs.Parts.{Part, a_creation, a_load, a_call, a_super_call, parts, parts_all, parts_of}
+use Rattle.flow_rules.specs.Parts.{Part, a_creation, a_call, a_super_call, parts, parts_all, parts_of}
 use Rattle.flow_rules.specs.Numbered.{row_number, number_if, site_number}
 use Rattle.flow_rules.specs.Lists.{Numbers, accessed, row_in, row_at, accesses_of}
 use Rattle.flow_rules.specs.Facts.{numbers}
@@ -38,12 +38,12 @@ use Rattle.run_cover.proofs.Types.{class_apart, slot_called}
 use Rattle.run_cover.proofs.TypedParts as typed_parts
 use Rattle.run_cover.proofs.Kinded.{site_type}
 use Rattle.run_cover.proofs.Unique.{creation_type}
-use Rattle.facts_order.proofs.Listed.{at_below, below_at, contains_at, first}
+use Rattle.facts_order.proofs.Listed.{at_below, below_at, contains_at}
 use Rattle.rebuild_model.specs.Renaming.{Renaming}
 use Rattle.rebuild_types.proofs.Retyped.{class_typed}
 use Rattle.rebuild_types.proofs.Finding.{access_found, found_instance}
 use Rattle.written_tree.specs.Names.{nowhere, class_name, row_name, written_base}
-use Rattle.written_tree.specs.Bodies.{static_field_tree, static_call_tree, static_field_name, static_call_name, variable_name, is_simple, written}
+use Rattle.written_tree.specs.Bodies.{static_field_tree, static_call_tree, static_field_name, static_call_name, variable_name, is_simple}
 use Rattle.tree_rebuilds.proofs.Nodes.{by_node}
 use Rattle.tree_given.proofs.Given.{Given, Bodied}
 use Rattle.tree_given.proofs.Types.{known_class_named, row_named, base_formed}
@@ -122,7 +122,7 @@ module _ (C : Given) (B : Bodied C) where
   pub variable_named : (i : ℕ) → i < length (variables_of h) → IsName (variable_name h i)
   variable_named i lt =
       let v = below_at (variables_of h) i lt in
-      subst IsName (sym (ap (λ o. option_map_or (λ (v : PlainLocal). v.name) o []) v.1)) 
+      subst IsName (sym (ap (λ o. option_map_or (λ (v : PlainLocal). v.name) o []) v.1))
       ((plain_method.variables v.0 (contains_at (variables_of h) i v.0 v.1)).name.name)
 
   pub static_field_formed : (wr : List ℕ) (f : ℕ) → IsStaticField P f

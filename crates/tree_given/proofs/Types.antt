@@ -1,5 +1,5 @@
 -- The types of the written tree have names that can be written.
-use Rattle.std.proofs.Common.{◌≡◌, ◌≢◌, ℕ, zero, suc, ◌<◌, List, [], length, Option, Some, None, refl, sym, ap, ◌∙◌, subst}
+use Rattle.std.proofs.Common.{◌≡◌, ℕ, zero, suc, [], Option, Some, None, refl, sym, ap, ◌∙◌, subst}
 use Rattle.std.specs.Prelude.{slice_get, codes}
 use Rattle.std.specs.Option.{option_map, option_map_or}
 use Rattle.std.proofs.lemmas.Option.{same_Some}
@@ -23,7 +23,7 @@ use Rattle.flow_rules.specs.Facts.{numbers}
 use Rattle.run_cover.specs.Untagged.{untagged}
 use Rattle.facts_order.proofs.Listed.{below_at}
 use Rattle.rebuild_model.specs.Renaming.{Renaming, renaming_of}
-use Rattle.written_tree.specs.Names.{class_name, row_name, written_base, written_type}
+use Rattle.written_tree.specs.Names.{class_name, row_name, written_base}
 use Rattle.tree_rebuilds.proofs.Nodes.{by_node}
 use Rattle.tree_rebuilds.proofs.Retyped.{row_live}
 use Rattle.tree_given.proofs.Given.{Given}

@@ -1,5 +1,5 @@
 -- A tree whose parts are such as the grammar gives has them without its places too.
-use Rattle.std.proofs.Common.{◌≡◌, ℕ, ◌||◌, Bool, List, [], ◌∷◌, Option, Some, None, refl, ◌∙◌, is_some}
+use Rattle.std.proofs.Common.{◌≡◌, ◌||◌, Bool, List, [], ◌∷◌, Option, Some, None, refl, ◌∙◌, is_some}
 use Rattle.java_tree.specs.declared.Id.{Id}
 use Rattle.java_tree.specs.declared.TypeName.{TypeName}
 use Rattle.java_tree.specs.Syntax.{Expression, NameRef, FieldOf, IndexOf, CallOf, CallOn, SuperCallOf, NewOf, NewArrayOf, CastOf, InstanceOfClass, UnaryOf, BinaryOf, Expressions, no_more, and_more, Statement, LocalOf, BlockOf, AssignOf, DoOf, PrintOf, IfOf, WhileOf, ForOf, ReturnOf, BreakOf, Statements, no_statements, and_then, Arms, no_arms, and_arm, Else, no_else, otherwise, OptionalStatement, absent, present, HeadTree, MemberTree, FieldTree, MethodTree, DeclTree, ClassTree, InterfaceTree}
@@ -113,9 +113,13 @@ parent None h = h
 parent (Some i) h = h
 
 decl : (d : DeclTree) → IsFormedDecl d → IsFormedDecl (decl_unplaced d)
-decl (ClassTree ms n c fs bs p) h =
-    (each IsFormedMod modifier_unplaced (λ m f. f) ms h.0, h.1, parent c h.2, each IsFormedId id_unplaced (λ i f. f) fs h.3,
-    each IsFormedMember member_unplaced member bs h.4)
+decl (ClassTree ms n c fs bs p) h = (
+  each IsFormedMod modifier_unplaced (λ m f. f) ms h.0,
+  h.1,
+  parent c h.2,
+  each IsFormedId id_unplaced (λ i f. f) fs h.3,
+  each IsFormedMember member_unplaced member bs h.4,
+)
 decl (InterfaceTree ms n fs hs p) h =
     (each IsFormedMod modifier_unplaced (λ m f. f) ms h.0, h.1, each IsFormedId id_unplaced (λ i f. f) fs h.2, each IsFormedHead head_unplaced head hs h.3)
 

@@ -1,5 +1,5 @@
 -- The declarations of the written tree have the parts that the grammar gives.
-use Rattle.std.proofs.Common.{◌≡◌, ℕ, zero, suc, ◌&&◌, Bool, true, false, List, [], ◌∷◌, Option, Some, None, Contains, refl, sym, ap, ◌∙◌, subst, arith}
+use Rattle.std.proofs.Common.{◌≡◌, ℕ, zero, ◌&&◌, Bool, true, false, List, [], ◌∷◌, Option, Some, None, Contains, refl, sym, ap, ◌∙◌, subst, arith}
 use Rattle.std.specs.Prelude.{◌==◌, not, map, slice_get, length, option_and_then}
 use Rattle.std.specs.Option.{is_some, option_map}
 use Rattle.std.proofs.lemmas.Bool.{false≢true, and_parts, eq-eqb}
@@ -8,16 +8,14 @@ use Rattle.kaba_base.specs.declared.words.Keyword.TheVariants.{Public, Abstract,
 use Rattle.kaba_base.specs.declared.NodeId.{NodeId}
 use Rattle.kaba_order.specs.Orders.{is_live, IsPartialOrder}
 use Rattle.java_lex.specs.Writable.{IsName}
-use Rattle.java_tree.specs.declared.Id.{Id}
 use Rattle.java_tree.specs.declared.Modifier.{Modifier}
-use Rattle.java_tree.specs.declared.Param.{Param}
-use Rattle.java_tree.specs.Syntax.{HeadTree, MemberTree, MethodTree, DeclTree}
+use Rattle.java_tree.specs.Syntax.{HeadTree, MemberTree, DeclTree}
 use Rattle.java_print.specs.Formed.{a_small, Each, IsFormed, AreFormedStmts, IsFormedMod, IsFormedId, IsFormedParam, IsFormedHead, IsFormedResult, IsFormedBody, IsFormedMember, IsFormedParent, IsFormedDecl, IsFormedTree}
 use Rattle.java_core.specs.declared.Ty.{Ty}
 use Rattle.java_core.specs.declared.TyBase.{TyBase}
-use Rattle.java_core.specs.declared.TyBase.TheVariants.{Int, Boolean, Char, Str, Class}
+use Rattle.java_core.specs.declared.TyBase.TheVariants.{Int, Boolean, Char}
 use Rattle.java_core.specs.Trees.{Sts}
-use Rattle.java_core.specs.Programs.{Plain, PlainField, PlainLocal, PlainMethod, PlainSlot}
+use Rattle.java_core.specs.Programs.{Plain, PlainMethod}
 use Rattle.java_core.specs.Classes.{slot_of_method}
 use Rattle.java_core.specs.Types.{env_of}
 use Rattle.java_core.specs.Typing.{IsTypedMethod, TypedSts}
@@ -46,10 +44,10 @@ use Rattle.facts_order.proofs.Listed.{first, more, at_contains, contains_at, ind
 use Rattle.facts_order.proofs.Items.{column_back}
 use Rattle.rebuild_model.specs.Renaming.{Renaming}
 use Rattle.rebuild_model.specs.Members.{is_made_at, offers_body, is_filled}
-use Rattle.written_tree.specs.Names.{nowhere, modifier, written_type}
+use Rattle.written_tree.specs.Names.{modifier, written_type}
 use Rattle.written_tree.specs.Bodies.{written_sts}
-use Rattle.written_tree.specs.Members.{is_declaration, value_of_none, filling, parameters, param, head, body, static_field_member, static_method_member, holder_members, class_members, interface_heads}
-use Rattle.written_tree.specs.Supers.{is_cover, nodes_that, superclass, type_id, extended, implemented, covering}
+use Rattle.written_tree.specs.Members.{is_declaration, value_of_none, filling, parameters, param, head, body, holder_members, class_members, interface_heads}
+use Rattle.written_tree.specs.Supers.{is_cover, nodes_that, superclass, type_id, extended}
 use Rattle.written_tree.specs.Written.{class_modifiers, type_tree}
 use Rattle.tree_rebuilds.proofs.Methods.{slot_is}
 use Rattle.tree_rebuilds.proofs.Members.{IsHeadTree, IsHeadAt, IsMember, a_field, a_body, a_head, a_filler, class_from, interface_from, IsStatic, a_static_field, a_static_method, holder_from}
