@@ -22,33 +22,15 @@ literal least = the_least
 
 pub sign : (o : UnOp) → is_sign (prefix_mark o) ≡ true
 sign un.Plus = refl
-sign un.Minus = refl
-sign un.Flip = refl
-sign un.Not = refl
+sign _ = refl
 
 level_of : (o : Op) → 0 < level (operation o)
 level_of op.Plus = omega arith
-level_of op.Minus = omega arith
-level_of op.Times = omega arith
-level_of op.Divide = omega arith
-level_of op.Remainder = omega arith
-level_of op.ShiftLeft = omega arith
-level_of op.ShiftRight = omega arith
-level_of op.ShiftRightUnsigned = omega arith
-level_of op.And = omega arith
-level_of op.Or = omega arith
-level_of op.Xor = omega arith
+level_of _ = omega arith
 
 pub infix_level : (o : BinOp) → 0 < level (infix_mark o)
 infix_level (bin.Int o) = level_of o
-infix_level bin.Same = omega arith
-infix_level bin.Differs = omega arith
-infix_level bin.Less = omega arith
-infix_level bin.Greater = omega arith
-infix_level bin.AtMost = omega arith
-infix_level bin.AtLeast = omega arith
-infix_level bin.Both = omega arith
-infix_level bin.Either = omega arith
+infix_level _ = omega arith
 
 -- a static member by its name alone, or on its holder
 pub field_tree : (b : Bool) (x y : List ℕ) → IsName x → IsName y → IsFormed (static_field_tree b x y) × (is_target (static_field_tree b x y) ≡ true)
