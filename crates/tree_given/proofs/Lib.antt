@@ -1,0 +1,11 @@
+pub mod Unplaced
+pub mod Letters
+pub mod Given
+pub mod Names
+pub mod Types
+pub mod Asked
+pub mod Forms
+pub mod Named
+pub mod Bodies
+pub mod Whole
+pub mod Law

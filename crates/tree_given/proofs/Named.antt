@@ -1,0 +1,263 @@
+-- The names that a written body has can be written: those of variables, of static members and of the members that it asks for.
+use Rattle.std.proofs.Common.{◌≡◌, ℕ, ◌<◌, Bool, true, false, List, [], length, Option, Some, None, Contains, refl, sym, ap, ◌∙◌, subst}
+use Rattle.std.specs.Prelude.{option_and_then}
+use Rattle.std.specs.Option.{is_some, option_map_or}
+use Rattle.kaba_base.specs.declared.Place.{Place}
+use Rattle.java_lex.specs.Writable.{IsName}
+use Rattle.java_tree.specs.Syntax.{NullLit, Expressions}
+use Rattle.java_print.specs.Formed as printed
+use Rattle.java_print.specs.Formed.{is_target, IsFormed, AreFormed, IsFormedBase}
+use Rattle.java_core.specs.declared.Ty.{Ty}
+use Rattle.java_core.specs.Trees.{Tag, Ex, Exs, call, super_call, Sts}
+use Rattle.java_core.specs.Programs.{Plain, PlainLocal, PlainField, PlainMethod}
+use Rattle.java_core.specs.Classes.{slot_of, slot_of_method, declaration_of, super_method, has_body}
+use Rattle.java_core.specs.Types.{Static, Env, env_of, class_of, field_in, field_type, access_type, Signature, call_signature, super_signature, static}
+use Rattle.java_core.specs.Typing.{Typed}
+use Rattle.java_core.specs.Formed.{IsClass, IsType, IsOwnField, IsFormedMethod, IsStaticField, IsStaticMethod, variables_of, FormedEx}
+use Rattle.java_meaning.specs.Watched.{bare}
+use Rattle.java_meaning.proofs.WatchedPrograms.{bare_static}
+use Rattle.fact_model.specs.declared.facts.Facts.{Facts}
+use Rattle.fact_model.specs.declared.facts.AccessInfo.{AccessInfo}
+use Rattle.hier_model.specs.Hierarchies.{Hierarchy}
+use Rattle.flow_rules.specs.declared.items.ObjectType.{ObjectType}
+use Rattle.flow_rules.specs.declared.items.Operand.{Operand}
+use Rattle.flow_rules.specs.declared.items.ColumnItem.TheVariants as column
+use Rattle.flow_rules.specs.declared.items.RowItem.{RowItem}
+use Rattle.flow_rules.specs.declared.items.RowItem.TheVariants as row
+use Rattle.flow_rules.specs.Operands.{object_field, call_slot, call_declaration, row_of, operand_of, operands_of, this_operand, type_in}
+use Rattle.flow_rules.specs.Parts.{Part, a_creation, a_call, a_super_call, parts, parts_all, parts_of}
+use Rattle.flow_rules.specs.Numbered.{row_number, number_if, site_number}
+use Rattle.flow_rules.specs.Lists.{Numbers, accessed, row_in, row_at, accesses_of}
+use Rattle.flow_rules.specs.Facts.{numbers}
+use Rattle.run_cover.specs.Untagged.{untag_body, untag_method, untagged, HaveSlots}
+use Rattle.run_cover.proofs.Included.{class_object}
+use Rattle.run_cover.proofs.Untagging.{same_env}
+use Rattle.run_cover.proofs.HasNumbers.{this_row}
+use Rattle.run_cover.proofs.HasRows.{method_of}
+use Rattle.run_cover.proofs.Types.{class_apart, slot_called}
+use Rattle.run_cover.proofs.TypedParts as typed_parts
+use Rattle.run_cover.proofs.Kinded.{site_type}
+use Rattle.run_cover.proofs.Unique.{creation_type}
+use Rattle.facts_order.proofs.Listed.{at_below, below_at, contains_at}
+use Rattle.rebuild_model.specs.Renaming.{Renaming}
+use Rattle.rebuild_types.proofs.Retyped.{class_typed}
+use Rattle.rebuild_types.proofs.Finding.{access_found, found_instance}
+use Rattle.written_tree.specs.Names.{nowhere, class_name, row_name, written_base}
+use Rattle.written_tree.specs.Bodies.{static_field_tree, static_call_tree, static_field_name, static_call_name, variable_name, is_simple}
+use Rattle.tree_rebuilds.proofs.Nodes.{by_node}
+use Rattle.tree_given.proofs.Given.{Given, Bodied}
+use Rattle.tree_given.proofs.Types.{known_class_named, row_named, base_formed}
+use Rattle.tree_given.proofs.Asked.{field_asked, call_asked, access_of, super_asked}
+use Rattle.tree_given.proofs.Forms.{field_tree, call_tree}
+
+module _ (C : Given) (B : Bodied C) where
+  abbrev Q : Plain
+  Q = C.program
+
+  abbrev P : Plain
+  P = untagged C.program
+
+  abbrev F : Facts
+  F = C.facts
+
+  abbrev H : Hierarchy
+  H = C.hierarchy
+
+  abbrev R : Renaming
+  R = by_node (untagged C.program) C.program C.facts C.hierarchy
+
+  abbrev m : ℕ
+  m = B.number
+
+  abbrev k : PlainMethod
+  k = B.method
+
+  abbrev N : Numbers
+  N = numbers P Q
+
+  -- the method without its places
+  abbrev h : PlainMethod
+  h = untag_method k
+
+  abbrev g : Env
+  g = env_of m k
+
+  pub plain_method : IsFormedMethod P h
+  plain_method = C.ready.formed.methods m h (method_of Q C.ready.formed m k B.stands)
+
+  pub slots : HaveSlots P
+  unfolding HaveSlots
+  slots d f e i = (C.ready.formed.methods d f e).slotted i
+
+  pub unique : (q : Place) (u : Bool) (o : Operand) (n s : ℕ) → Contains (parts_of P m k) (a_creation q u o) → o.created ≡ Some n
+      → site_number P Q n ≡ Some s → o.ty ≡ Some (site_type F s)
+  unique q u o n s c ec es = creation_type Q F C.ready.formed C.ready.facts m k B.stands q u o n s c ec es
+
+  abbrev type : Ex → Option ObjectType
+  type = type_in P m k
+
+  abbrev O : Ex → Operand
+  O e = operand_of P (type_in P m k) m k e
+
+  abbrev tree : Bool → Ex → List Part
+  tree u e = parts P (type_in P m k) m k u e
+
+  abbrev all : Bool → Exs → List Part
+  all u es = parts_all P (type_in P m k) m k u es
+
+  abbrev Stands : List Part → Type 0
+  Stands ps = (p : Part) → Contains ps p → Contains (parts_of P m k) p
+
+  abbrev IsTyped : Ex → Type 0
+  IsTyped e = Typed P g (bare e)
+
+  abbrev IsFormedEx : List ℕ → Ex → Type 0
+  IsFormedEx sc e = FormedEx P h sc (bare e)
+
+  abbrev old : Ex → Static
+  old e = static P g (bare e)
+
+  -- ---- names
+
+  pub variable_named : (i : ℕ) → i < length (variables_of h) → IsName (variable_name h i)
+  variable_named i lt =
+      let v = below_at (variables_of h) i lt in
+      subst IsName (sym (ap (λ o. option_map_or (λ (v : PlainLocal). v.name) o []) v.1))
+      ((plain_method.variables v.0 (contains_at (variables_of h) i v.0 v.1)).name.name)
+
+  pub static_field_formed : (wr : List ℕ) (f : ℕ) → IsStaticField P f
+      → IsFormed (static_field_name P h wr f) × (is_target (static_field_name P h wr f) ≡ true)
+  static_field_formed wr f s =
+      let w = C.ready.formed.fields f s.member s.stands in
+      let x = s.member.name in
+      let c = s.member.owner in
+      subst
+      (λ o. let e = option_map_or (λ (g : PlainField). static_field_tree (is_simple h wr g.owner g.name) (class_name P g.owner) g.name) o (NullLit nowhere) in
+      IsFormed e × (is_target e ≡ true)) (sym s.stands)
+      (field_tree (is_simple h wr c x) (class_name P c) x (known_class_named C c (at_below P.classes c w.holder w.stands)) w.name.name)
+
+  pub static_call_formed : (wr : List ℕ) (d : ℕ) (es : Expressions) → IsStaticMethod P d
+      → (AreFormed es → IsFormed (static_call_name P h wr d es)) × (printed.is_call (static_call_name P h wr d es) ≡ true)
+  static_call_formed wr d es s =
+      let w = C.ready.formed.methods d s.member s.stands in
+      let x = s.member.name in
+      let c = s.member.owner in
+      subst
+      (λ o. let e = option_map_or (λ (g : PlainMethod). static_call_tree (is_simple h wr g.owner g.name) (class_name P g.owner) g.name es) o
+      (NullLit nowhere) in (AreFormed es → IsFormed e) × (printed.is_call e ≡ true)) (sym s.stands)
+      (call_tree (is_simple h wr c x) (class_name P c) x es (known_class_named C c (at_below P.classes c w.holder w.stands)) w.name)
+
+  same_number : (i : Option RowItem) → row_in N i ≡ number_if (row_number P Q) i
+  unfolding numbers
+  same_number None = refl
+  same_number (Some i) = refl
+
+  -- the row of a receiver or a base
+  base_row : (u : Bool) (sc : List ℕ) (e : Ex) (c : ℕ) → IsTyped e → IsFormedEx sc e → Stands (tree u e) → class_of (old e) ≡ Some c
+      → (r : ℕ) × (row_at N (O e) ≡ Some r)
+  base_row u sc e c ty fo st s =
+      let r = typed_parts.row_listed Q F C.ready.formed slots m k B.stands B.bodied unique u sc e ty fo st (record { class = record { 0 = c }; dim = 0 })
+      (typed_parts.of_typed Q F C.ready.formed slots m k B.stands B.bodied unique e (record { class = record { 0 = c }; dim = 0 }) (class_typed (old e) c s)) in
+      (r.0, same_number (row_of P (type_in P m k) m k e) ∙ r.1)
+
+  self_row : k.is_static ≡ false → (r : ℕ) × (row_at N (this_operand m k) ≡ Some r)
+  self_row s = let r = this_row P Q m k B.stands B.bodied s in (r.0, same_number (Some (row.This m)) ∙ r.1)
+
+  field_seen : (e : Ex) (x : List ℕ) (f : ℕ) → field_in P (old e) x ≡ Some f → object_field P (type e) x ≡ Some f
+  field_seen e x f l =
+      typed_parts.field_found Q F C.ready.formed slots m k B.stands B.bodied unique e x ∙ ap (λ z. field_in P z x) (sym (bare_static P g e)) ∙ l
+
+  declaration_seen : (e : Ex) (x : List ℕ) (c d : ℕ) → class_of (old e) ≡ Some c → declaration_of P c x ≡ Some d
+      → call_declaration P (type e) x ≡ Some d
+  unfolding type_in
+  declaration_seen e x c d l f =
+      ap (λ z. option_and_then (λ c. declaration_of P c x) z) (class_object (static P g e) ∙ ap class_of (sym (bare_static P g e)) ∙ l) ∙ f
+
+  abbrev operands : Exs → List Operand
+  operands es = operands_of P (type_in P m k) m k es
+
+  -- the field that a part asks for; where an access finds none, as for the length of an array, the name stays
+  pub field_named : (u : Bool) (sc : List ℕ) (e : Ex) (x : List ℕ) (part : Option ℕ → Part) → IsTyped e → IsFormedEx sc e
+      → Stands (tree u e) → IsName x → ((f : ℕ) → field_in P (old e) x ≡ Some f → is_some (field_type P f) ≡ true)
+      → ((f : ℕ) (a : AccessInfo) → Contains (accessed (row_at N (O e)) (N.column (column.Fld f))) a → Contains (accesses_of N (part (Some f))) a)
+      → Contains (parts_of P m k) (part (object_field P (type e) x))
+      → IsName (option_map_or R.field_name (field_in P (static P (env_of m h) (bare e)) x) x)
+  field_named u sc e x part ty fo st n some asks there =
+      subst (λ g. IsName (option_map_or R.field_name (field_in P (static P g (bare e)) x) x)) (sym (same_env m k)) (go (field_in P (old e) x) refl)
+    where
+      go : (o : Option ℕ) → field_in P (old e) x ≡ o → IsName (option_map_or R.field_name o x)
+      go None l = n
+      go (Some f) l =
+          let c = typed_parts.field_class Q F C.ready.formed slots m k B.stands B.bodied unique (old e) x f l in
+          let r = base_row u sc e c.0 ty fo st c.1 in
+          let w = found_instance P (old e) x f l (some f l) in
+          let in_body = subst (λ z. Contains (parts_of P m k) (part z)) (field_seen e x f l) there in
+          field_asked C (O e) f r.0 w.0 w.1 w.2 r.1
+          (λ a c. access_of C m k B.stands (part (Some f)) in_body a (asks f a c))
+
+  -- a field of the method's own object
+  pub own_named : (f : ℕ) (part : Part) → k.is_static ≡ false → IsOwnField P k.owner f
+      → ((a : AccessInfo) → Contains (accessed (row_at N (this_operand m k)) (N.column (column.Fld f))) a → Contains (accesses_of N part) a)
+      → Contains (parts_of P m k) part → IsName (R.field_name f)
+  own_named f part s own asks there =
+      let r = self_row s in
+      field_asked C (this_operand m k) f r.0 own.member own.stands own.kind r.1
+      (λ a c. access_of C m k B.stands part there a (asks a c))
+
+  -- the method that a call finds; those of a String keep their names
+  pub call_named : (sc : List ℕ) (t : Tag) (e : Ex) (x : List ℕ) (es : Exs) (sig : Signature) → IsTyped e → call_signature P (old e) x ≡ Some sig
+      → IsFormedEx sc e → Stands (tree true e) → IsName x
+      → Contains (parts_of P m k) (a_call t.place (O e) (call_slot P (type e) x) (call_declaration P (type e) x) (operands es) (O (call t e x es)))
+      → IsName (option_map_or R.method_name (option_and_then (λ c. declaration_of P c x) (class_of (static P (env_of m h) (bare e)))) x)
+  call_named sc t e x es sig ty called fo st n there =
+      subst (λ g. IsName (option_map_or R.method_name (option_and_then (λ c. declaration_of P c x) (class_of (static P g (bare e)))) x)) (sym (same_env m k))
+      (of_class (class_of (old e)) refl)
+    where
+      found : (c d : ℕ) → class_of (old e) ≡ Some c → declaration_of P c x ≡ Some d → IsName (R.method_name d)
+      found c d cls dcl =
+          let s = slot_called P (old e) x sig called (class_apart (old e) c cls).1 in
+          let of = sym (ap (option_and_then (slot_of_method P)) dcl) ∙ sym (ap (option_and_then (λ c. slot_of P c x)) cls) ∙ s.found in
+          let r = base_row true sc e c ty fo st cls in
+          call_asked C (O e) d s.number r.0 of r.1
+          (access_of C m k B.stands (a_call t.place (O e) (call_slot P (type e) x) (Some d) (operands es) (O (call t e x es)))
+          (subst (λ z. Contains (parts_of P m k) (a_call t.place (O e) (call_slot P (type e) x) z (operands es) (O (call t e x es))))
+          (declaration_seen e x c d cls dcl) there))
+
+      of_declaration : (c : ℕ) → class_of (old e) ≡ Some c → (o : Option ℕ) → declaration_of P c x ≡ o
+          → IsName (option_map_or R.method_name o x)
+      of_declaration c cls None dcl = n
+      of_declaration c cls (Some d) dcl = found c d cls dcl
+
+      of_class : (o : Option ℕ) → class_of (old e) ≡ o
+          → IsName (option_map_or R.method_name (option_and_then (λ c. declaration_of P c x) o) x)
+      of_class None cls = n
+      of_class (Some c) cls = of_declaration c cls (declaration_of P c x) refl
+
+  -- the method that a super call runs
+  pub super_named : (t : Tag) (x : List ℕ) (es : Exs) (d : ℕ) (sig : Signature) → k.is_static ≡ false → super_method P k.owner x ≡ Some d
+      → has_body P d ≡ true → super_signature P k.owner x ≡ Some sig
+      → Contains (parts_of P m k) (a_super_call t.place (super_method P k.owner x) (operands es) (O (super_call t x es)))
+      → IsName (option_map_or R.method_name (super_method P k.owner x) x)
+  super_named t x es d sig instance found bodied called there =
+      let o = typed_parts.method_sig Q F C.ready.formed slots m k B.stands B.bodied unique d sig
+      (sym (typed_parts.super_sig Q F C.ready.formed slots m k B.stands B.bodied unique x d found) ∙ called) in
+      let r = self_row instance in
+      subst (λ z. IsName (option_map_or R.method_name z x)) (sym found)
+      (super_asked C m k B.stands t.place d (operands es) (O (super_call t x es))
+      (subst (λ z. Contains (parts_of P m k) (a_super_call t.place z (operands es) (O (super_call t x es)))) found there) r.0 r.1 o.0 o.1
+      (typed_parts.super_instance Q F C.ready.formed slots m k B.stands B.bodied unique k.owner x d found o.0 o.1)
+      (same_some o.0.body ∙ sym (ap (λ z. option_map_or (λ (k : PlainMethod). is_some k.body) z false) (method_of Q C.ready.formed d o.0 o.1)) ∙ bodied))
+    where
+      same_some : (o : Option Sts) → is_some o ≡ is_some (untag_body o)
+      same_some None = refl
+      same_some (Some x) = refl
+
+  pub read_type : (s : Static) (x : List ℕ) → is_some (access_type P s x) ≡ true → (f : ℕ) → field_in P s x ≡ Some f
+      → is_some (field_type P f) ≡ true
+  read_type s x some f l = ap is_some (sym (access_found P s x f l)) ∙ some
+
+  pub class_row : (i : RowItem) (c : ℕ) → IsClass P c → IsName (row_name P H (R.row_type i) c)
+  class_row i c lt = row_named C i c lt
+
+  pub base : (i : RowItem) (v : Ty) → IsType P v → IsFormedBase (written_base P H (R.row_type i) v.base)
+  base i v a = base_formed C i v.base a

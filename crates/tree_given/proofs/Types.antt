@@ -1,0 +1,89 @@
+-- The types of the written tree have names that can be written.
+use Rattle.std.proofs.Common.{◌≡◌, ℕ, zero, suc, [], Option, Some, None, refl, sym, ap, ◌∙◌, subst}
+use Rattle.std.specs.Prelude.{slice_get, codes}
+use Rattle.std.specs.Option.{option_map, option_map_or}
+use Rattle.std.proofs.lemmas.Option.{same_Some}
+use Rattle.ucd_table.specs.Rows.{in_ranges}
+use Rattle.ucd_derived.specs.XidStartRanges.{xid_start_ranges}
+use Rattle.ucd_derived.specs.XidContinueRanges.{xid_continue_ranges}
+use Rattle.ucd_derived.specs.Binary.{is_xid_start, is_xid_continue}
+use Rattle.kaba_base.specs.Words.{key_text}
+use Rattle.java_lex.specs.Writable.{IsName}
+use Rattle.java_print.specs.Formed.{IsFormedBase, IsCastBase}
+use Rattle.java_core.specs.declared.Ty.{Ty}
+use Rattle.java_core.specs.declared.TyBase.{TyBase}
+use Rattle.java_core.specs.declared.TyBase.TheVariants.{Int, Boolean, Char, Str, Class}
+use Rattle.java_core.specs.Programs.{Plain, PlainClass}
+use Rattle.java_core.specs.Formed.{IsClass, IsKnownBase, IsCastType, to_int, to_char, to_class}
+use Rattle.fact_model.specs.declared.facts.Facts.{Facts}
+use Rattle.hier_model.specs.Hierarchies.{Hierarchy, place_of_row}
+use Rattle.flow_rules.specs.declared.items.RowItem.{RowItem}
+use Rattle.flow_rules.specs.Numbered.{row_number}
+use Rattle.flow_rules.specs.Facts.{numbers}
+use Rattle.run_cover.specs.Untagged.{untagged}
+use Rattle.facts_order.proofs.Listed.{below_at}
+use Rattle.rebuild_model.specs.Renaming.{Renaming, renaming_of}
+use Rattle.written_tree.specs.Names.{class_name, row_name, written_base}
+use Rattle.tree_rebuilds.proofs.Nodes.{by_node}
+use Rattle.tree_rebuilds.proofs.Retyped.{row_live}
+use Rattle.tree_given.proofs.Given.{Given}
+use Rattle.tree_given.proofs.Names.{type_named}
+
+text_named : IsName (codes "String")
+unfolding is_xid_start is_xid_continue in_ranges xid_start_ranges xid_continue_ranges key_text
+text_named = record { named = refl; scalars = refl }
+
+object_named : IsName (codes "Object")
+unfolding is_xid_start is_xid_continue in_ranges xid_start_ranges xid_continue_ranges key_text
+object_named = record { named = refl; scalars = refl }
+
+module _ (C : Given) where
+  abbrev Q : Plain
+  Q = C.program
+
+  abbrev P : Plain
+  P = untagged C.program
+
+  abbrev F : Facts
+  F = C.facts
+
+  abbrev H : Hierarchy
+  H = C.hierarchy
+
+  abbrev R : Renaming
+  R = by_node (untagged C.program) C.program C.facts C.hierarchy
+
+  -- a class of the program
+  pub class_named : (c : ℕ) (k : PlainClass) → slice_get P.classes c ≡ Some k → IsName k.name
+  class_named zero k e =
+      let o = C.ready.formed.object in
+      subst IsName (sym (ap (λ (k : PlainClass). k.name) (same_Some _ _ (sym e ∙ o.first)) ∙ o.name)) object_named
+  class_named (suc c) k e = (C.ready.formed.classes c k e).name
+
+  pub known_class_named : (c : ℕ) → IsClass P c → IsName (class_name P c)
+  known_class_named c lt =
+      let k = below_at P.classes c lt in
+      subst IsName (sym (ap (λ o. option_map_or (λ (k : PlainClass). k.name) o []) k.1)) (class_named c k.0 k.1)
+
+  -- the name by which the class of an item is written
+  pub row_named : (i : RowItem) (c : ℕ) → IsClass P c → IsName (row_name P H (R.row_type i) c)
+  unfolding renaming_of numbers
+  row_named i c lt = go (row_number P Q i) refl
+    where
+      go : (o : Option ℕ) → row_number P Q i ≡ o → IsName (row_name P H (option_map (place_of_row H) o) c)
+      go None e = known_class_named c lt
+      go (Some r) e = type_named C (place_of_row H r) (row_live P Q F C.ready.facts H C.ready.hierarchy i r e)
+
+  pub base_formed : (i : RowItem) (b : TyBase) → IsKnownBase P b → IsFormedBase (written_base P H (R.row_type i) b)
+  base_formed i Int h = tt
+  base_formed i Boolean h = tt
+  base_formed i Char h = tt
+  base_formed i Str h = text_named
+  base_formed i (Class c) h = row_named i c.0 h
+
+  -- the type of a cast
+  pub cast_formed : (i : RowItem) (v : Ty) → IsCastType P v
+      → IsCastBase (written_base P H (R.row_type i) v.base) × (v.dim ≡ 0)
+  cast_formed i _ to_int = (tt, refl)
+  cast_formed i _ to_char = (tt, refl)
+  cast_formed i _ (to_class {c = c} lt) = (row_named i c.0 lt, refl)
