@@ -13,6 +13,7 @@ from collections import namedtuple
 from pathlib import Path
 
 HERE = Path(__file__).resolve().parent.parent
+PROGRAM = os.environ.get("KABA", str(HERE / "crates" / "kaba" / "out" / "kaba"))
 FILE_LIMIT = 1048576
 
 Token = namedtuple("Token", "kind text at")  # kind: word, number, char, string or mark; at: the place of its first byte
@@ -56,11 +57,10 @@ def words_of(documentation):
 
 def kaba(*words):
     """The program's answer: its status, its output and its error."""
-    program = os.environ.get("KABA", str(HERE / "crates" / "kaba" / "out" / "kaba"))
     try:
-        done = subprocess.run([program, *words], stdin=subprocess.DEVNULL, capture_output=True)
+        done = subprocess.run([PROGRAM, *words], stdin=subprocess.DEVNULL, capture_output=True)
     except OSError as error:
-        fail(f"cannot run {program}: {error.strerror}; ./kaba builds the program at its first use", 127)
+        fail(f"cannot run {PROGRAM}: {error.strerror}; ./kaba builds the program at its first use", 127)
     return done.returncode, done.stdout, done.stderr.decode(errors="replace").strip()
 
 
