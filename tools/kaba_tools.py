@@ -168,7 +168,7 @@ class Declarations:
         self.source = source
         self.classes = {}  # name: line, in the order of the text
         self.parents = {}  # name: the class that it extends
-        self.members = {}  # C.m: line
+        self.members = {}  # C.f or C.m(): line
         self.variables = []  # Declared, in the order of the text
         self.bodies = []  # Body, in the order of the text
         self.at = 0
@@ -213,7 +213,7 @@ class Declarations:
         self.skip_modifiers()
         result = "void" if self.text(1) == "(" else self.skip_type()
         name = f"{holder}.{self.text()}"
-        self.members.setdefault(name, self.line())
+        self.members.setdefault(name if self.text(1) != "(" else f"{name}()", self.line())
         if self.text(1) != "(":
             self.variables.append(Declared(name, result, self.line()))
             self.at += 2
