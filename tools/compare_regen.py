@@ -253,6 +253,7 @@ def compare_regen(some_text, count, seed, run):
     texts = sum(len(program.texts) for program in taken)
     edits = sum(lines for program in taken for _, lines in program.texts)
     no_tree = sum(program.no_tree for program in taken)
-    why = ", ".join(f"{n} {reason}" for reason, n in left.most_common())
-    print(f"{len(taken)} programs, {texts} texts after {edits} edits, {no_tree} scripts without a tree, {len(different)} programs different; left out: {why or 'none'}")
+    why = ", ".join(f"{n} {reason}" for reason, n in left.most_common()) or "none"
+    print(f"{len(taken)} programs, {texts} texts after {edits} edits, {no_tree} scripts without a tree, ", end="")
+    print(f"{len(different)} programs different; left out: {why}")
     return 1 if different else 0
