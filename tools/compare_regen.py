@@ -232,17 +232,30 @@ def judged_by_java(programs, folder, run):
         program.compare()
 
 
-def compare_regen(some_text, count, seed, run):
+def looking_at_words(program):
+    """The class of random programs that look at their words, made of that of those that do not."""
+
+    class Looking(program):
+        def number(self, depth):
+            return "args.length" if self.in_main and self.chance(0.08) else super().number(depth)
+
+        def string(self, depth):
+            return f"args[{self.place(0)}]" if self.in_main and self.chance(0.04) else super().string(depth)
+
+    return Looking
+
+
+def compare_regen(program, count, seed, run):
     """Judges the examples and COUNT random programs, and counts."""
     folder = Path(tempfile.mkdtemp(prefix="compare-java-"))
-    programs = []
+    programs, looking = [], looking_at_words(program)
     for path in sorted((HERE / "examples").glob("*.java")):
         text = path.read_text()
         main = re.findall(r"class (\w+)", text[: text.index("void main(")])[-1]
         programs.append(Judged(f"{path.stem}-example", text, main, folder, seed))
     for n in range(seed, seed + count):
         name = f"P{n}"
-        text = some_text(n, name).replace("static void main", "public static void main")
+        text = looking(n, name).text().replace("static void main", "public static void main")
         programs.append(Judged(name, text, name, folder, n))
     judged_by_java(programs, folder, run)
     left = collections.Counter(program.left_out for program in programs if program.left_out)

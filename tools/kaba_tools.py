@@ -13,7 +13,7 @@ from collections import namedtuple
 from pathlib import Path
 
 HERE = Path(__file__).resolve().parent.parent
-PROGRAM = os.environ.get("KABA", str(HERE / "crates" / "kaba" / "out" / "kaba"))
+PROGRAM = os.path.abspath(os.environ.get("KABA", HERE / "crates" / "kaba" / "out" / "kaba"))
 FILE_LIMIT = 1048576
 
 Token = namedtuple("Token", "kind text at")  # kind: word, number, char, string or mark; at: the place of its first byte
