@@ -13,6 +13,7 @@ from collections import namedtuple
 from pathlib import Path
 
 HERE = Path(__file__).resolve().parent.parent
+PROGRAM = os.path.abspath(os.environ.get("KABA", HERE / "crates" / "kaba" / "out" / "kaba"))
 FILE_LIMIT = 1048576
 
 Token = namedtuple("Token", "kind text at")  # kind: word, number, char, string or mark; at: the place of its first byte
@@ -56,11 +57,10 @@ def words_of(documentation):
 
 def kaba(*words):
     """The program's answer: its status, its output and its error."""
-    program = os.environ.get("KABA", str(HERE / "crates" / "kaba" / "out" / "kaba"))
     try:
-        done = subprocess.run([program, *words], stdin=subprocess.DEVNULL, capture_output=True)
+        done = subprocess.run([PROGRAM, *words], stdin=subprocess.DEVNULL, capture_output=True)
     except OSError as error:
-        fail(f"cannot run {program}: {error.strerror}; ./kaba builds the program at its first use", 127)
+        fail(f"cannot run {PROGRAM}: {error.strerror}; ./kaba builds the program at its first use", 127)
     return done.returncode, done.stdout, done.stderr.decode(errors="replace").strip()
 
 
@@ -168,7 +168,7 @@ class Declarations:
         self.source = source
         self.classes = {}  # name: line, in the order of the text
         self.parents = {}  # name: the class that it extends
-        self.members = {}  # C.m: line
+        self.members = {}  # C.f or C.m(): line
         self.variables = []  # Declared, in the order of the text
         self.bodies = []  # Body, in the order of the text
         self.at = 0
@@ -213,7 +213,7 @@ class Declarations:
         self.skip_modifiers()
         result = "void" if self.text(1) == "(" else self.skip_type()
         name = f"{holder}.{self.text()}"
-        self.members.setdefault(name, self.line())
+        self.members.setdefault(name if self.text(1) != "(" else f"{name}()", self.line())
         if self.text(1) != "(":
             self.variables.append(Declared(name, result, self.line()))
             self.at += 2
