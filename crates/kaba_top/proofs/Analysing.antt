@@ -1,22 +1,29 @@
 -- From the facts of a program and their table to the reply.
-use Rattle.std.proofs.Common.{inl, inr, ℕ, ◌≤◌, length, Bool, List, ◌++◌, Result, Ok, Err, IfOk, codes}
-use Rattle.std.specs.Fmt.{decimal}
+use Rattle.std.proofs.Common.{◌≡◌, ◌∙◌, inl, inr, ℕ, Bool, List, [], ◌++◌, Result, Ok, Err, IfOk, ap, subst, sym, append_assoc}
 use Rattle.std.specs.declared.alloc.AllocError.{AllocError}
 use Rattle.java_core.specs.declared.Program.{Program}
+use Rattle.fact_model.specs.InRange.{InRange}
+use Rattle.fact_model.specs.InOrder.{InOrder}
 use Rattle.fact_model.specs.declared.facts.Facts.{Facts}
 use Rattle.fact_model.specs.declared.sets.Table.{Table}
 use Rattle.fact_model.specs.Entries.{IsTable}
-use Rattle.fact_model.specs.Concepts.{AreMoreThan, IsLatticeOf}
-use Rattle.fact_model.specs.declared.sets.Lattice.{Lattice}
-use Rattle.fact_model.specs.declared.sets.PointsTo.{PointsTo}
-use Rattle.fact_model.specs.Flowing.{AreSets}
-use Rattle.hier_model.specs.Start.{start_from}
-use Rattle.hier_script.specs.declared.scripts.Scripted.{Scripted}
-use Rattle.hier_script.specs.Answers.{IsScripted}
-use Rattle.kaba_top.specs.EditAnswers.{EditOf, ScriptGives}
+use Rattle.fact_model.specs.Concepts.{AreMoreThan}
+use Rattle.hier_view.specs.Text.{hierarchy_text}
+use Rattle.edit_script.specs.declared.lines.Line.{Line}
+use Rattle.tree_laws.specs.Kept.{HasNoInterface}
+use Rattle.tree_laws.specs.Reached.{IsReached, begun}
+use Rattle.tree_merge.specs.declared.trees.NoTree.{NoTree}
+use Rattle.tree_view.specs.Lines.{log_text, no_tree_text}
 use Rattle.kaba_top.specs.declared.reply.Reply.{Reply}
-use Rattle.kaba_top.specs.Lines.{Says}
-use Rattle.kaba_top.specs.FactsAnswers.{HasFacts, AnalysisAnswers, LatticeOf, IsTooMany, too_many_concepts}
+use Rattle.kaba_top.specs.declared.script.Proposal.{Proposal}
+use Rattle.kaba_top.specs.declared.regen.Written.{Written}
+use Rattle.kaba_top.specs.Lines.{Says, Gives, line}
+use Rattle.kaba_top.specs.FactsAnswers.{HasFacts, AnalysisAnswers, LatticeOf, too_many_concepts}
+use Rattle.kaba_top.specs.ScriptAnswers.{HasLattice, ScriptAnswers, start_of, edited}
+use Rattle.kaba_top.specs.EditAnswers.{EditOf, ShowsHierarchy, edit_status}
+use Rattle.kaba_top.specs.RegenAnswers.{IsTreeOf, EndsAtConflict, IsWithoutTree, RegenOf}
+use Rattle.kaba_top.specs.Proposals.{IsProposal, IsStuck, IsWritten}
+use Rattle.kaba_top.proofs.Reaching.{reached}
 
 pub too_many : (json : Bool) (bound : ℕ) (facts : Facts) (table : Table) (r : Result Reply AllocError) → IsTable facts table → AreMoreThan table.rows.items table.width bound → IfOk r (λ reply. Says 68 (too_many_concepts bound) reply.status reply.out.items reply.err.items) → IfOk r (λ reply. LatticeOf json bound facts reply.status reply.out.items reply.err.items)
 too_many json bound facts table (Err e) is more h = tt
@@ -26,21 +33,86 @@ pub analysed : (J : Facts → ℕ → List ℕ → List ℕ → Type 0) (program
 analysed J program facts (Err e) has h = tt
 analysed J program facts (Ok reply) has h = inr (record { facts = facts; has = has; answers = h })
 
-pub too_many_to_edit : (bound : ℕ) (script : List ℕ) (facts : Facts) (table : Table) (r : Result Reply AllocError)
-    → IsTable facts table → AreMoreThan table.rows.items table.width bound
-    → IfOk r (λ reply. Says 68 (too_many_concepts bound) reply.status reply.out.items reply.err.items)
-    → IfOk r (λ reply. EditOf bound script facts reply.status reply.out.items reply.err.items)
-too_many_to_edit bound script facts table (Err e) is more h = tt
-too_many_to_edit bound script facts table (Ok reply) is more h = record { table = table; is = is; answers = inl (record { more = more; says = h }) }
-
-pub edited : (bound : ℕ) (script : List ℕ) (facts : Facts) (table : Table) (lattice : Lattice) (sets : PointsTo) (scripted : Scripted) (r : Result Reply AllocError)
-    → IsTable facts table → IsLatticeOf table lattice → length lattice.concepts.items ≤ bound → AreSets facts sets
-    → IsScripted facts sets (start_from facts table lattice) script scripted
-    → IfOk r (λ reply. ScriptGives scripted reply.status reply.out.items reply.err.items)
-    → IfOk r (λ reply. EditOf bound script facts reply.status reply.out.items reply.err.items)
-edited bound script facts table lattice sets scripted (Err e) is of within are ran h = tt
-edited bound script facts table lattice sets scripted (Ok reply) is of within are ran h = record {
-  table = table;
-  is = is;
-  answers = inr (record { lattice = lattice; is = of; within = within; sets = sets; are = are; scripted = scripted; ran = ran; gives = h });
+-- what the hierarchy after a script was found by
+abbrev pub has_lattice : (bound : ℕ) (script : List ℕ) (facts : Facts) (p : Proposal) → IsProposal bound script facts p → HasLattice bound facts
+has_lattice bound script facts p is = record {
+  sets = p.sets;
+  are_sets = is.are_sets;
+  table = p.table;
+  is_table = is.is_table;
+  lattice = p.lattice;
+  is_lattice = is.is_lattice;
+  within = is.within;
 }
+
+-- a script was run, and a reply follows
+pub ran : (bound : ℕ) (script : List ℕ) (facts : Facts) (A : HasLattice bound facts → List Line → ℕ → List ℕ → List ℕ → Type 0) (p : Proposal) (r : Result Reply AllocError)
+    → (is : IsProposal bound script facts p)
+    → IfOk r (λ reply. A (has_lattice bound script facts p is) is.edits reply.status reply.out.items reply.err.items)
+    → IfOk r (λ reply. ScriptAnswers bound script facts A reply.status reply.out.items reply.err.items)
+ran bound script facts A p (Err e) is h = tt
+ran bound script facts A p (Ok reply) is h = inr (record { has = has_lattice bound script facts p is; edits = is.edits; are = is.are; few = is.few; answers = h })
+
+-- the hierarchy after it is shown
+pub shows : (bound : ℕ) (script : List ℕ) (facts : Facts) (p : Proposal) (r : Result Reply AllocError) → IsProposal bound script facts p
+    → IfOk r (λ reply. Gives (edit_status p.edited.refusals.items) (hierarchy_text facts p.edited.hier) p.edited.refusals.items reply.status reply.out.items reply.err.items)
+    → IfOk r (λ reply. EditOf bound script facts reply.status reply.out.items reply.err.items)
+shows bound script facts p r is h =
+    let has = has_lattice bound script facts p is in
+    ran bound script facts (ShowsHierarchy bound facts) p r is
+    (subst (λ lines. IfOk r (λ reply. Gives (edit_status lines) (hierarchy_text facts (edited bound facts has is.edits)) lines reply.status reply.out.items reply.err.items)) is.is.refusals
+    (subst (λ H. IfOk r (λ reply. Gives (edit_status p.edited.refusals.items) (hierarchy_text facts H) p.edited.refusals.items reply.status reply.out.items reply.err.items)) is.is.hierarchy h))
+
+-- the program of a tree is written
+pub regenerated : (bound : ℕ) (script : List ℕ) (program : Program) (facts : Facts) (p : Proposal) (w : Written) (r : Result Reply AllocError) → (is : IsProposal bound script facts p)
+    → IsWritten program facts p.sets p.edited.hier w
+    → IfOk r (λ reply. Gives (edit_status p.edited.refusals.items) w.text.items (p.edited.refusals.items ++ log_text w.log.items) reply.status reply.out.items reply.err.items)
+    → IfOk r (λ reply. RegenOf bound script program facts reply.status reply.out.items reply.err.items)
+regenerated bound script program facts p w (Err e) is written h = tt
+regenerated bound script program facts p w (Ok reply) is written h = inr (record {
+  has = has_lattice bound script facts p is;
+  edits = is.edits;
+  are = is.are;
+  few = is.few;
+  answers = inl (record {
+    log = w.log.items;
+    tree = w.hier;
+    is = subst (λ H. IsTreeOf facts p.sets H w.log.items w.hier) is.is.hierarchy written.is;
+    text = w.text.items;
+    written = written.written;
+    gives = subst (λ lines. Gives (edit_status lines) w.text.items (lines ++ log_text w.log.items) reply.status reply.out.items reply.err.items) is.is.refusals h;
+  });
+})
+
+-- there is no tree, and drops and fresh names alone do not lead there
+pub without_tree : (bound : ℕ) (script : List ℕ) (program : Program) (facts : Facts) (p : Proposal) (fault : NoTree) (status : ℕ) (out err : List ℕ) → (is : IsProposal bound script facts p)
+    → InRange facts → InOrder facts → HasNoInterface facts → IsStuck facts p.sets p.edited.hier fault
+    → Gives 5 [] (p.edited.refusals.items ++ (log_text fault.log.items ++ line (no_tree_text fault))) status out err
+    → IsWithoutTree program bound facts (has_lattice bound script facts p is) is.edits status out err
+without_tree bound script program facts p fault status out err is range order none stuck h =
+    let has = has_lattice bound script facts p is in
+    record {
+      fault = fault;
+      ends = subst (λ H. EndsAtConflict facts p.sets H fault) is.is.hierarchy stuck.ends;
+      more = λ modest. stuck.unreached p.table p.lattice
+          (record { range = range; order = order; sets = is.are_sets; table = is.is_table; lattice = is.is_lattice }) none
+          (subst (IsReached facts p.sets p.table p.lattice) (sym is.is.hierarchy) (reached facts p.sets p.table p.lattice (start_of bound facts has) is.edits modest begun));
+      gives = subst (λ lines. Gives 5 [] (lines ++ (log_text fault.log.items ++ line (no_tree_text fault))) status out err) is.is.refusals h;
+    }
+
+pub stuck_answers : (bound : ℕ) (script : List ℕ) (program : Program) (facts : Facts) (p : Proposal) (fault : NoTree) (r : Result Reply AllocError) → IsProposal bound script facts p
+    → InRange facts → InOrder facts → HasNoInterface facts → IsStuck facts p.sets p.edited.hier fault
+    → IfOk r (λ reply. Gives 5 [] (p.edited.refusals.items ++ (log_text fault.log.items ++ line (no_tree_text fault))) reply.status reply.out.items reply.err.items)
+    → IfOk r (λ reply. RegenOf bound script program facts reply.status reply.out.items reply.err.items)
+stuck_answers bound script program facts p fault (Err e) is range order none stuck h = tt
+stuck_answers bound script program facts p fault (Ok reply) is range order none stuck h = inr (record {
+  has = has_lattice bound script facts p is;
+  edits = is.edits;
+  are = is.are;
+  few = is.few;
+  answers = inr (without_tree bound script program facts p fault reply.status reply.out.items reply.err.items is range order none stuck h);
+})
+
+-- and lines after those of a log
+pub lines_then : (refusals log last lines now : List ℕ) → lines ≡ refusals ++ log → now ≡ lines ++ last → now ≡ refusals ++ (log ++ last)
+lines_then refusals log last lines now e f = f ∙ ap (λ front. front ++ last) e ∙ append_assoc refusals log last

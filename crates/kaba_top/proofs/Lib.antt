@@ -4,3 +4,5 @@ pub mod Formed
 pub mod Texts
 pub mod Runs
 pub mod Analysing
+pub mod Reaching
+pub mod Promised

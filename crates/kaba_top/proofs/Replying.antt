@@ -3,10 +3,10 @@ use Rattle.std.proofs.Common.{◌≡◌, ◌⊎◌, inl, inr, ℕ, ◌<◌, ◌�
 use Rattle.std.specs.declared.alloc.AllocError.{AllocError}
 use Rattle.kaba_base.specs.Outside.{Files, IsAbsent, IsFile, Rose}
 use Rattle.kaba_top.specs.declared.reply.Reply.{Reply}
-use Rattle.kaba_words.specs.Commands.{Cmd, edit, help, version, Fits, FitsNone}
+use Rattle.kaba_words.specs.Commands.{Cmd, help, version, Fits, FitsNone}
 use Rattle.kaba_top.specs.About.{help_text, version_text}
 use Rattle.kaba_top.specs.Lines.{Says, Gives, usage, cannot_read, most_bytes, file_too_large}
-use Rattle.kaba_top.specs.Answers.{Agrees, IsMissing, IsTooLarge, FileAnswers, EditAnswers, IsAnswered, IsFault, CommandAnswers, CommandReplies, Replies}
+use Rattle.kaba_top.specs.Answers.{Agrees, IsMissing, IsTooLarge, FileAnswers, IsAnswered, IsFault, Names, CommandAnswers, CommandReplies, Replies}
 use Rattle.kaba_top.specs.Fetching.{IsThere, IsRefused, FileReplies}
 
 found : (f : Files) (name bytes : List ℕ) (o : Option (List ℕ)) → f name ≡ o → ((b : List ℕ) → f name ≡ Some b → bytes ≡ b) → (f name ≡ None → ⊥) → length bytes ≤ most_bytes → IsThere (Some f) name bytes
@@ -77,30 +77,40 @@ refused_answers K files name status out err (inr l) = inr (inl l)
 pub refused_reply : (told : Option Files) (name : List ℕ) (K : List ℕ → ℕ → List ℕ → List ℕ → Type 0) (status : ℕ) (out err : List ℕ) → IsRefused told name status out err → IsAnswered told (λ first second. FileAnswers K first name) status out err
 refused_reply told name K status out err r = record { first = r.files; second = r.files; first_agrees = r.agrees; second_agrees = r.agrees; answers = refused_answers K r.files name status out err r.refused }
 
+-- the answers of a command that reads two files, where K are those for their bytes
+abbrev pub ReadsTwo : Cmd → List ℕ → List ℕ → (List ℕ → List ℕ → ℕ → List ℕ → List ℕ → Type 0) → Type 0
+ReadsTwo command file script K = (first second : Files) (status : ℕ) (out err : List ℕ)
+    → FileAnswers (λ bytes. FileAnswers (K bytes) second script) first file status out err → CommandAnswers command first second status out err
+
+abbrev pub NamesTwo : Cmd → List ℕ → List ℕ → Type 0
+NamesTwo command file script = (name : List ℕ) → (name ≡ file) ⊎ (name ≡ script) → Names command name
+
 -- the first of two files was read, and the reply is that to the second
-pub two_files : (told told_then : Option Files) (before mid now bound : ℕ) (file script bytes : List ℕ) (r : Result Reply AllocError)
+pub two_files : (command : Cmd) (file script : List ℕ) (K : List ℕ → List ℕ → ℕ → List ℕ → List ℕ → Type 0) → ReadsTwo command file script K → NamesTwo command file script
+    → (told told_then : Option Files) (before mid now : ℕ) (bytes : List ℕ) (r : Result Reply AllocError)
     → told_then ≡ told → before ≤ mid → IsThere told file bytes
-    → IfOk r (λ reply. FileReplies told_then mid now (EditAnswers bound bytes) script reply.status reply.out.items reply.err.items)
-    → IfOk r (λ reply. CommandReplies told before now (edit bound file script) reply.status reply.out.items reply.err.items)
-two_files told told_then before mid now bound file script bytes (Err e) same later there h = tt
-two_files told told_then before mid now bound file script bytes (Ok reply) same later there (inl a) = inl (record {
+    → IfOk r (λ reply. FileReplies told_then mid now (K bytes) script reply.status reply.out.items reply.err.items)
+    → IfOk r (λ reply. CommandReplies told before now command reply.status reply.out.items reply.err.items)
+two_files command file script K reads names told told_then before mid now bytes (Err e) same later there h = tt
+two_files command file script K reads names told told_then before mid now bytes (Ok reply) same later there (inl a) = inl (record {
   first = there.files;
   second = a.first;
   first_agrees = there.agrees;
   second_agrees = subst (λ t. Agrees t a.first) same a.first_agrees;
-  answers = inr (inr (record { bytes = bytes; there = there.there; small = there.small; answers = a.answers }));
+  answers = reads there.files a.first reply.status reply.out.items reply.err.items (inr (inr (record { bytes = bytes; there = there.there; small = there.small; answers = a.answers })));
 })
-two_files told told_then before mid now bound file script bytes (Ok reply) same later there (inr f) =
-    inr (record { file = script; names = inr refl; fault = record { rose = omega (arith, later, f.rose); says = f.says } })
+two_files command file script K reads names told told_then before mid now bytes (Ok reply) same later there (inr f) =
+    inr (record { file = script; names = names script (inr refl); fault = record { rose = omega (arith, later, f.rose); says = f.says } })
 
 -- the first of two files was not read
-pub no_first_file : (told : Option Files) (before now bound : ℕ) (file script : List ℕ) (status : ℕ) (out err : List ℕ)
-    → IsRefused told file status out err ⊎ IsFault before now file status out err → CommandReplies told before now (edit bound file script) status out err
-no_first_file told before now bound file script status out err (inl r) = inl (record {
+pub no_first_file : (command : Cmd) (file script : List ℕ) (K : List ℕ → List ℕ → ℕ → List ℕ → List ℕ → Type 0) → ReadsTwo command file script K → NamesTwo command file script
+    → (told : Option Files) (before now : ℕ) (status : ℕ) (out err : List ℕ)
+    → IsRefused told file status out err ⊎ IsFault before now file status out err → CommandReplies told before now command status out err
+no_first_file command file script K reads names told before now status out err (inl r) = inl (record {
   first = r.files;
   second = r.files;
   first_agrees = r.agrees;
   second_agrees = r.agrees;
-  answers = refused_answers (λ bytes. FileAnswers (EditAnswers bound bytes) r.files script) r.files file status out err r.refused;
+  answers = reads r.files r.files status out err (refused_answers (λ bytes. FileAnswers (K bytes) r.files script) r.files file status out err r.refused);
 })
-no_first_file told before now bound file script status out err (inr f) = inr (record { file = file; names = inl refl; fault = f })
+no_first_file command file script K reads names told before now status out err (inr f) = inr (record { file = file; names = names file (inl refl); fault = f })

@@ -1,5 +1,5 @@
 -- The statuses of want of memory and of a failed write are no reply's.
-use Rattle.std.proofs.Common.{◌≡◌, inl, inr, ℕ, Bool, ◌==◌, true, false, List, [], length, Option, if◌then◌else◌, arith}
+use Rattle.std.proofs.Common.{◌≡◌, inl, inr, ℕ, ◌++◌, Bool, ◌==◌, true, false, List, [], length, Option, if◌then◌else◌, arith}
 use Rattle.kaba_base.specs.Outside.{Files}
 use Rattle.java_core.specs.declared.Program.{Program}
 use Rattle.java_core.specs.Trees.{no_place}
@@ -7,16 +7,19 @@ use Rattle.java_core.specs.Programs.{program_of}
 use Rattle.java_meaning.specs.Moment as meaning
 use Rattle.fact_model.specs.declared.facts.Facts.{Facts}
 use Rattle.java_run.specs.Outcomes.{meant}
-use Rattle.kaba_words.specs.Commands.{Cmd, run, table, lattice, edit, help, version}
+use Rattle.kaba_words.specs.Commands.{Cmd, run, table, lattice, edit, regen, help, version}
 use Rattle.kaba_top.specs.About.{help_text, version_text}
 use Rattle.kaba_top.specs.Lines.{Says, Gives}
 use Rattle.kaba_top.specs.Reading.{IsRefusedText, TextAnswers}
 use Rattle.kaba_top.specs.RunAnswers.{EndGives, RunAnswers}
 use Rattle.kaba_top.specs.FactsAnswers.{AnalysisAnswers, TableOf, LatticeOf}
-use Rattle.hier_script.specs.declared.scripts.Scripted.{Scripted}
-use Rattle.hier_script.specs.declared.scripts.Scripted.TheVariants as scripted
-use Rattle.kaba_top.specs.EditAnswers.{EditOf, ScriptGives}
-use Rattle.kaba_top.specs.Answers.{FileAnswers, EditAnswers, CommandAnswers, Answers, Replies}
+use Rattle.hier_view.specs.Text.{hierarchy_text}
+use Rattle.edit_script.specs.declared.lines.Line.{Line}
+use Rattle.tree_view.specs.Lines.{log_text}
+use Rattle.kaba_top.specs.ScriptAnswers.{HasLattice, ScriptAnswers, edited, refusals}
+use Rattle.kaba_top.specs.EditAnswers.{EditOf, ShowsHierarchy}
+use Rattle.kaba_top.specs.RegenAnswers.{IsRegeneration, IsWithoutTree, RegenOf}
+use Rattle.kaba_top.specs.Answers.{FileAnswers, EditAnswers, RegenAnswers, CommandAnswers, Answers, Replies}
 
 abbrev pub IsOther : ℕ → Type 0
 IsOther status = (status ≡ 70 → ⊥) × (status ≡ 74 → ⊥)
@@ -71,16 +74,27 @@ after_script : (none : Bool) (bytes refusals : List ℕ) → AreOther (Gives (if
 after_script true bytes refusals status out err h = gave 0 (omega arith, omega arith) _ _ status out err h
 after_script false bytes refusals status out err h = gave 4 (omega arith, omega arith) _ _ status out err h
 
-script_other : (s : Scripted) → AreOther (ScriptGives s)
-script_other (scripted.BadLine n) status out err h = said 69 (omega arith, omega arith) _ status out err h
-script_other scripted.TooManyEdits status out err h = said 67 (omega arith, omega arith) _ status out err h
-script_other (scripted.Edited e) status out err h = after_script (length e.refusals.items == 0) e.text.items e.refusals.items status out err h
+script_run_other : (bound : ℕ) (script : List ℕ) (f : Facts) (A : HasLattice bound f → List Line → ℕ → List ℕ → List ℕ → Type 0) → ((has : HasLattice bound f) (edits : List Line) → AreOther (A has edits))
+    → AreOther (ScriptAnswers bound script f A)
+script_run_other bound script f A o status out err (inl (inl a)) = said 68 (omega arith, omega arith) _ status out err a.many.says
+script_run_other bound script f A o status out err (inl (inr a)) = elim a.fault as (λ _. IsOther status) [
+  | inl bad ↦ said 69 (omega arith, omega arith) _ status out err bad.says
+  | inr long ↦ said 67 (omega arith, omega arith) _ status out err long.says
+]
+script_run_other bound script f A o status out err (inr a) = o a.has a.edits status out err a.answers
 
 edit_other : (bound : ℕ) (script : List ℕ) (f : Facts) → AreOther (EditOf bound script f)
-edit_other bound script f status out err a = elim a.answers as (λ _. IsOther status) [
-  | inl many ↦ said 68 (omega arith, omega arith) _ status out err many.says
-  | inr ran ↦ script_other ran.scripted status out err ran.gives
-]
+edit_other bound script f =
+    script_run_other bound script f (ShowsHierarchy bound f) (λ has edits. after_script (length (refusals bound f has edits) == 0) (hierarchy_text f (edited bound f has edits)) (refusals bound f has edits))
+
+no_tree_other : (program : Program) (bound : ℕ) (f : Facts) (has : HasLattice bound f) (edits : List Line) → AreOther (IsWithoutTree program bound f has edits)
+no_tree_other program bound f has edits status out err a = gave 5 (omega arith, omega arith) _ _ status out err a.gives
+
+regen_other : (bound : ℕ) (script : List ℕ) (program : Program) (f : Facts) → AreOther (RegenOf bound script program f)
+regen_other bound script program f = script_run_other bound script f (IsRegeneration program bound f) (λ has edits status out err a. elim a as (λ _. IsOther status) [
+  | inl g ↦ after_script (length (refusals bound f has edits) == 0) g.text (refusals bound f has edits ++ log_text g.log) status out err g.gives
+  | inr w ↦ no_tree_other program bound f has edits status out err w
+])
 
 file_other : (K : List ℕ → ℕ → List ℕ → List ℕ → Type 0) → ((bytes : List ℕ) → AreOther (K bytes)) → (files : Files) (name : List ℕ) → AreOther (FileAnswers K files name)
 file_other K o files name status out err (inl a) = said 66 (omega arith, omega arith) _ status out err a.says
@@ -90,6 +104,10 @@ file_other K o files name status out err (inr (inr a)) = o a.bytes status out er
 edits_other : (bound : ℕ) (bytes script : List ℕ) → AreOther (EditAnswers bound bytes script)
 edits_other bound bytes script = text_other (AnalysisAnswers (EditOf bound script)) (analysis_other (EditOf bound script) (edit_other bound script)) bytes
 
+regens_other : (bound : ℕ) (bytes script : List ℕ) → AreOther (RegenAnswers bound bytes script)
+regens_other bound bytes script =
+    text_other (λ p. AnalysisAnswers (RegenOf bound script p) p) (λ p. analysis_other (RegenOf bound script p) (regen_other bound script p) p) bytes
+
 command_other : (command : Cmd) (first second : Files) → AreOther (CommandAnswers command first second)
 command_other (run file steps words) first second = file_other (TextAnswers (RunAnswers steps words)) (text_other (RunAnswers steps words) (run_other steps words)) first file
 command_other (table file) first second =
@@ -98,6 +116,8 @@ command_other (lattice json bound file) first second =
     file_other (TextAnswers (AnalysisAnswers (LatticeOf json bound))) (text_other (AnalysisAnswers (LatticeOf json bound)) (analysis_other (LatticeOf json bound) (lattice_other json bound))) first file
 command_other (edit bound file script) first second =
     file_other (λ bytes. FileAnswers (EditAnswers bound bytes) second script) (λ bytes. file_other (EditAnswers bound bytes) (edits_other bound bytes) second script) first file
+command_other (regen bound file script) first second =
+    file_other (λ bytes. FileAnswers (RegenAnswers bound bytes) second script) (λ bytes. file_other (RegenAnswers bound bytes) (regens_other bound bytes) second script) first file
 command_other help first second = gave 0 (omega arith, omega arith) help_text []
 command_other version first second = gave 0 (omega arith, omega arith) version_text []
 

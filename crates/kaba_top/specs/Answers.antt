@@ -2,13 +2,14 @@
 use Rattle.std.specs.Prelude.{◌≡◌, ◌⊎◌, ℕ, ◌<◌, ◌≤◌, List, [], length, Option, Some, None}
 use Rattle.std.specs.Option.{IsSome}
 use Rattle.kaba_base.specs.Outside.{Files, Rose, taken_more, HoldsPrefix}
-use Rattle.kaba_words.specs.Commands.{Cmd, run, table, lattice, edit, help, version, Fits, FitsNone}
+use Rattle.kaba_words.specs.Commands.{Cmd, run, table, lattice, edit, regen, help, version, Fits, FitsNone}
 use Rattle.kaba_top.specs.About.{help_text, version_text}
 use Rattle.kaba_top.specs.Lines.{Says, Gives, usage, cannot_read, most_bytes, file_too_large}
 use Rattle.kaba_top.specs.Reading.{TextAnswers}
 use Rattle.kaba_top.specs.RunAnswers.{RunAnswers}
 use Rattle.kaba_top.specs.FactsAnswers.{AnalysisAnswers, TableOf, LatticeOf}
 use Rattle.kaba_top.specs.EditAnswers.{EditOf}
+use Rattle.kaba_top.specs.RegenAnswers.{RegenOf}
 
 -- the words fit no pattern
 pub record IsUsage (words : List (List ℕ)) (status : ℕ) (out err : List ℕ) : Type 0 where
@@ -42,12 +43,17 @@ FileAnswers K files file status out err = IsMissing files file status out err �
 abbrev pub EditAnswers : ℕ → List ℕ → List ℕ → ℕ → List ℕ → List ℕ → Type 0
 EditAnswers bound bytes script = TextAnswers (AnalysisAnswers (EditOf bound script)) bytes
 
+-- and those of `regen`
+abbrev pub RegenAnswers : ℕ → List ℕ → List ℕ → ℕ → List ℕ → List ℕ → Type 0
+RegenAnswers bound bytes script = TextAnswers (λ program. AnalysisAnswers (RegenOf bound script program) program) bytes
+
 -- the answers of a command, where first are the files as its first file is read, and second as its second one is
 abbrev pub CommandAnswers : Cmd → Files → Files → ℕ → List ℕ → List ℕ → Type 0
 CommandAnswers (run file steps words) first second = FileAnswers (TextAnswers (RunAnswers steps words)) first file
 CommandAnswers (table file) first second = FileAnswers (TextAnswers (AnalysisAnswers TableOf)) first file
 CommandAnswers (lattice json bound file) first second = FileAnswers (TextAnswers (AnalysisAnswers (LatticeOf json bound))) first file
 CommandAnswers (edit bound file script) first second = FileAnswers (λ bytes. FileAnswers (EditAnswers bound bytes) second script) first file
+CommandAnswers (regen bound file script) first second = FileAnswers (λ bytes. FileAnswers (RegenAnswers bound bytes) second script) first file
 CommandAnswers help first second = Gives 0 help_text []
 CommandAnswers version first second = Gives 0 version_text []
 
@@ -57,6 +63,7 @@ Names (run file steps words) name = name ≡ file
 Names (table file) name = name ≡ file
 Names (lattice json bound file) name = name ≡ file
 Names (edit bound file script) name = (name ≡ file) ⊎ (name ≡ script)
+Names (regen bound file script) name = (name ≡ file) ⊎ (name ≡ script)
 Names help name = ⊥
 Names version name = ⊥
 

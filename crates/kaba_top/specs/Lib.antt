@@ -3,8 +3,13 @@ pub mod About
 pub mod Reading
 pub mod RunAnswers
 pub mod FactsAnswers
+pub mod ScriptAnswers
 pub mod EditAnswers
+pub mod Fresh
+pub mod RegenAnswers
 pub mod Answers
 pub mod Fetching
 pub mod Readings
 pub mod Analyses
+pub mod Proposals
+pub mod Promise

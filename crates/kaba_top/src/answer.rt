@@ -3,14 +3,15 @@
 
 ghost use Rattle.std.specs.Prelude.{◌≡◌, ◌≤◌, IfOk, length, string_bytes};
 ghost use Rattle.kaba_base.specs.Outside.{Files};
-ghost use Rattle.kaba_words.specs.Commands.{run, table, lattice, edit, texts, most_concepts};
-ghost use Rattle.kaba_top.specs.Answers.{CommandReplies, EditAnswers, Replies};
+ghost use Rattle.kaba_words.specs.Commands.{run, table, lattice, edit, regen, texts, most_concepts};
+ghost use Rattle.kaba_top.specs.Answers.{CommandReplies, EditAnswers, RegenAnswers, Replies};
 ghost use Rattle.kaba_top.specs.Fetching.{FileReplies, IsFetched};
 ghost use Rattle.kaba_top.specs.Lines.{most_bytes};
 
 use crate::about::{help_reply, version_reply};
 use crate::analysis::{lattice_text, table_text};
 use crate::edit::edit_text;
+use crate::regen::regen_text;
 use crate::reply::Reply;
 use crate::run::run_text;
 use kaba_base::{ReadFault, Shelf, read_file};
@@ -86,7 +87,7 @@ fn lattice_command<F: Shelf>(
 }
 
 /// The reply of `edit` once the bytes of its first file are there.
-fn script_command<F: Shelf>(
+fn edit_script<F: Shelf>(
     alloc: Global,
     shelf: &mut F,
     bytes: &Vec<u8>,
@@ -115,7 +116,42 @@ fn edit_command<F: Shelf>(
     ensures replies { IfOk result (λ reply. CommandReplies (F.files shelf.old) (F.faults shelf.old) (F.faults shelf.new) (edit bound (string_bytes file.now) (string_bytes script.now)) reply.status reply.out.items reply.err.items) }
 {
     match fetch_file(alloc, shelf, file)? {
-        Fetched::Bytes(bytes) => script_command(alloc, shelf, &bytes, script, bound),
+        Fetched::Bytes(bytes) => edit_script(alloc, shelf, &bytes, script, bound),
+        Fetched::Refused(reply) => Ok(reply),
+    }
+}
+
+/// The reply of `regen` once the bytes of its first file are there.
+fn regen_script<F: Shelf>(
+    alloc: Global,
+    shelf: &mut F,
+    bytes: &Vec<u8>,
+    script: &String,
+    bound: u32,
+) -> Result<Reply, AllocError>
+    requires small { length bytes.now.items ≤ most_bytes }
+    requires bound { bound ≤ most_concepts }
+    ensures replies { IfOk result (λ reply. FileReplies (F.files shelf.old) (F.faults shelf.old) (F.faults shelf.new) (RegenAnswers bound bytes.now.items) (string_bytes script.now) reply.status reply.out.items reply.err.items) }
+{
+    match fetch_file(alloc, shelf, script)? {
+        Fetched::Bytes(lines) => regen_text(alloc, bytes, &lines, bound),
+        Fetched::Refused(reply) => Ok(reply),
+    }
+}
+
+/// The reply of `regen`.
+fn regen_command<F: Shelf>(
+    alloc: Global,
+    shelf: &mut F,
+    file: &String,
+    script: &String,
+    bound: u32,
+) -> Result<Reply, AllocError>
+    requires bound { bound ≤ most_concepts }
+    ensures replies { IfOk result (λ reply. CommandReplies (F.files shelf.old) (F.faults shelf.old) (F.faults shelf.new) (regen bound (string_bytes file.now) (string_bytes script.now)) reply.status reply.out.items reply.err.items) }
+{
+    match fetch_file(alloc, shelf, file)? {
+        Fetched::Bytes(bytes) => regen_script(alloc, shelf, &bytes, script, bound),
         Fetched::Refused(reply) => Ok(reply),
     }
 }
@@ -135,6 +171,9 @@ pub fn answer<F: Shelf>(
             lattice_command(alloc, shelf, &file, json, bound)
         }
         Ok(Command::Edit(bound, file, script)) => edit_command(alloc, shelf, &file, &script, bound),
+        Ok(Command::Regen(bound, file, script)) => {
+            regen_command(alloc, shelf, &file, &script, bound)
+        }
         Ok(Command::Help) => help_reply(alloc),
         Ok(Command::Version) => version_reply(alloc),
         Err(WordsFault::Usage) => Reply::line(alloc, 64, b"usage"),

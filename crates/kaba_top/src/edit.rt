@@ -4,49 +4,40 @@
 ghost use Rattle.std.specs.Prelude.{◌≡◌, ◌≤◌, IfOk, length};
 ghost use Rattle.fact_model.specs.InRange.{InRange};
 ghost use Rattle.fact_model.specs.InOrder.{InOrder};
+ghost use Rattle.hier_model.specs.Hierarchies.{IsHierarchyOf};
+ghost use Rattle.hier_view.specs.Text.{hierarchy_text};
 ghost use Rattle.kaba_words.specs.Commands.{most_concepts};
-ghost use Rattle.kaba_top.specs.Lines.{most_bytes};
+ghost use Rattle.kaba_top.specs.Lines.{Gives, most_bytes};
 ghost use Rattle.kaba_top.specs.Reading.{TextAnswers};
 ghost use Rattle.kaba_top.specs.FactsAnswers.{AnalysisAnswers};
-ghost use Rattle.kaba_top.specs.EditAnswers.{EditOf, ScriptGives, edit_status};
+ghost use Rattle.kaba_top.specs.EditAnswers.{EditOf, edit_status};
 
-use crate::analysis::{Analysed, analyse, too_many_concepts};
+use crate::analysis::{Analysed, analyse};
 use crate::reading::{Reading, read_program};
 use crate::reply::Reply;
-use concept_build::{LatticeFault, concepts};
+use crate::script::{Proposed, edit_status, propose};
 use fact_model::Facts;
-use hier_script::{Scripted, run_script};
+use hier_script::Edited;
+use hier_view::show_hierarchy;
 use java_core::Checked;
-use points_to::solve;
 use std::alloc::{AllocError, Global};
-use table_rules::{close, raw};
 
-/// The status of a script that was run, with these lines of refused edits.
-fn edit_status(refusals: &[u8]) -> u8
-    ensures { result ≡ edit_status refusals.now }
+/// The reply with the hierarchy after a script.
+fn show(alloc: Global, facts: &Facts, edited: Edited) -> Result<Reply, AllocError>
+    requires range { InRange facts.now }
+    requires hierarchy { IsHierarchyOf facts.now edited.hier }
+    ensures { IfOk result (λ reply. Gives (edit_status edited.refusals.items) (hierarchy_text facts.now edited.hier) edited.refusals.items reply.status reply.out.items reply.err.items) }
 {
-    if refusals.is_empty() { 0 } else { 4 }
+    let mut out = Vec::new(alloc);
+    show_hierarchy(alloc, facts, &edited.hier, &mut out)?;
+    Ok(Reply {
+        status: edit_status(&edited.refusals),
+        out,
+        err: edited.refusals,
+    })
 }
 
-/// The reply to what a script comes to.
-fn script_reply(alloc: Global, scripted: Scripted) -> Result<Reply, AllocError>
-    ensures { IfOk result (λ reply. ScriptGives scripted reply.status reply.out.items reply.err.items) }
-{
-    match scripted {
-        Scripted::BadLine(number) => {
-            let text = format!(in alloc; "bad script: line {number}")?;
-            Reply::line(alloc, 69, text.as_bytes())
-        }
-        Scripted::TooManyEdits => Reply::line(alloc, 67, b"too large: edits 4096"),
-        Scripted::Edited(edited) => Ok(Reply {
-            status: edit_status(&edited.refusals),
-            out: edited.text,
-            err: edited.refusals,
-        }),
-    }
-}
-
-/// The reply with the hierarchy after the script, or with how many concepts are allowed.
+/// The reply with the hierarchy after the script, or the reply that it was not run.
 fn edit_reply(
     alloc: Global,
     facts: &Facts,
@@ -59,16 +50,9 @@ fn edit_reply(
     requires bound { bound ≤ most_concepts }
     ensures { IfOk result (λ reply. EditOf bound script.now.items facts.now reply.status reply.out.items reply.err.items) }
 {
-    let sets = solve(alloc, facts)?;
-    let raw = raw(alloc, facts, &sets)?;
-    let table = close(alloc, facts, &sets, raw)?;
-    match concepts(alloc, &table, bound) {
-        Ok(lattice) => {
-            let scripted = run_script(alloc, facts, &sets, &table, &lattice, script)?;
-            script_reply(alloc, scripted)
-        }
-        Err(LatticeFault::TooManyConcepts(_)) => too_many_concepts(alloc, bound),
-        Err(LatticeFault::Memory) => Err(AllocError),
+    match propose(alloc, facts, script, bound)? {
+        Proposed::Edited(proposal) => show(alloc, facts, proposal.edited),
+        Proposed::Refused(reply) => Ok(reply),
     }
 }
 

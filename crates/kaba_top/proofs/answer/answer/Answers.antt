@@ -1,5 +1,5 @@
 use Rattle.std.proofs.Common.{Err, ap, subst, string_bytes}
-use Rattle.kaba_words.specs.Commands.{edit, texts, command_of, Fits}
+use Rattle.kaba_words.specs.Commands.{edit, regen, texts, command_of, Fits}
 use Rattle.kaba_top.proofs.Replying.{of_command, usage_replies, help_replies, version_replies}
 use Rattle.kaba_top.proofs.answer.answer.Goals as goal
 
@@ -25,4 +25,11 @@ returns-in-Ok-Edit g c = record {
   replies = of_command (g.F.Shelf.files c.args.shelf.now) (g.F.Shelf.faults c.args.shelf.now) (g.F.Shelf.faults c.edit_command.new.shelf) (texts c.args.words.now.items)
       (edit c.in-Ok-Edit.bound (string_bytes c.in-Ok-Edit.file) (string_bytes c.in-Ok-Edit.script)) c.edit_command.result
       (subst (λ command. Fits (texts c.args.words.now.items) (command_of command)) c.in-Ok-Edit.field-0-is c.in-Ok-Edit.ensures.command) c.edit_command.ensures.replies;
+}
+
+pub returns-in-Ok-Regen : goal.returns-in-Ok-Regen
+returns-in-Ok-Regen g c = record {
+  replies = of_command (g.F.Shelf.files c.args.shelf.now) (g.F.Shelf.faults c.args.shelf.now) (g.F.Shelf.faults c.regen_command.new.shelf) (texts c.args.words.now.items)
+      (regen c.in-Ok-Regen.bound (string_bytes c.in-Ok-Regen.file) (string_bytes c.in-Ok-Regen.script)) c.regen_command.result
+      (subst (λ command. Fits (texts c.args.words.now.items) (command_of command)) c.in-Ok-Regen.field-0-is c.in-Ok-Regen.ensures.command) c.regen_command.ensures.replies;
 }

@@ -1,0 +1,29 @@
+use Rattle.std.proofs.Common.{◌≡◌, IfOk, subst}
+use Rattle.java_tree.specs.Syntax.{tree_of}
+use Rattle.java_core.specs.Trees.{no_place}
+use Rattle.java_core.specs.Programs.{program_of}
+use Rattle.written_tree.specs.Written.{written_by}
+use Rattle.tree_parts.specs.Renamed.{renamed}
+use Rattle.java_write.specs.Numbers.{AreNumbersOf}
+use Rattle.java_write.proofs.Fitting.{fitting, same_tree}
+use Rattle.java_write.proofs.tree_of_hierarchy.Goals as goal
+
+pub generate-requires-clause-fits : goal.generate-requires-clause-fits
+generate-requires-clause-fits c =
+    fitting c.args.program.now c.in_ok-numbering.numbering c.args.facts.now c.args.hier.now
+    (subst (λ p. AreNumbersOf p c.in_ok-numbering.numbering) c.program-plain.ensures.value c.in_ok-numbering.ensures.numbers)
+    c.requires.facts.is c.requires.unbroken.hierarchy
+
+pub returns : goal.returns
+returns c =
+    let p = c.args.program.now in
+    let n = c.in_ok-numbering.numbering in
+    let F = c.args.facts.now in
+    let H = c.args.hier.now in
+    let are = subst (λ q. AreNumbersOf q n) c.program-plain.ensures.value c.in_ok-numbering.ensures.numbers in
+    record {
+      tree = subst (λ d. IfOk c.generate.result (λ t. tree_of t ≡ d)) (same_tree p n F H are)
+          (subst (λ q. IfOk c.generate.result (λ t. tree_of t ≡ written_by (program_of no_place q) (renamed n H) F H n.columns.keys)) c.program-plain.ensures.value c.generate.ensures.tree);
+      formed = c.program-plain.ensures.formed;
+      typed = c.program-plain.ensures.typed;
+    }

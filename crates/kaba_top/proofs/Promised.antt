@@ -1,0 +1,200 @@
+-- What is promised follows from the answers.
+use Rattle.std.proofs.Common.{◌≡◌, ◌⊎◌, inl, inr, ℕ, Bool, List, [], ◌∷◌, ◌++◌, Option, Some, None, Result, Ok, Err, refl, sym, ◌∙◌, subst, arith}
+use Rattle.kaba_base.specs.Outside.{Files}
+use Rattle.java_core.specs.declared.Program.{Program}
+use Rattle.fact_model.specs.declared.facts.Facts.{Facts}
+use Rattle.fact_model.specs.declared.sets.PointsTo.{PointsTo}
+use Rattle.hier_model.specs.Hierarchies.{Hierarchy}
+use Rattle.hier_model.specs.Edits.{changed}
+use Rattle.hier_model.specs.declared.edits.ChangeFault.{ChangeFault}
+use Rattle.hier_rules.specs.declared.broken.Broken.{Broken}
+use Rattle.hier_rules.specs.First.{first_of_edit}
+use Rattle.hier_edit.specs.Applied.{fault_of, unless_broken, outcome}
+use Rattle.hier_script.specs.Scripts.{kept, refusal, after_edits, refusals_of}
+use Rattle.edit_script.specs.declared.lines.Line.{Line}
+use Rattle.edit_script.specs.Script.{AreEditsOf}
+use Rattle.tree_merge.specs.Logs.{steps_of}
+use Rattle.tree_view.specs.Lines.{log_text}
+use Rattle.java_write.specs.Written.{IsWrittenText, tree_of_hierarchy}
+use Rattle.kaba_words.specs.Commands.{Cmd, run, table, lattice, edit, regen, help, version}
+use Rattle.kaba_top.specs.Reading.{IsRefusedText, IsTypedText, TextAnswers}
+use Rattle.kaba_top.specs.FactsAnswers.{HasFacts, AnalysisAnswers, LatticeOf}
+use Rattle.kaba_top.specs.ScriptAnswers.{HasLattice, IsNotRun, IsRun, ScriptAnswers, start_of, edited, refusals}
+use Rattle.kaba_top.specs.EditAnswers.{EditOf, ShowsHierarchy}
+use Rattle.kaba_top.specs.RegenAnswers.{IsRegenerated, IsRegeneration, RegenOf}
+use Rattle.kaba_top.specs.Answers.{FileAnswers, EditAnswers, RegenAnswers, CommandAnswers, Replies}
+use Rattle.kaba_top.specs.Promise.{IsAnalysis, ShowsLattice, AreJudged, none, made, breaks, unmade, JudgesEdits, IsRebuilt, TellsEdits, WritesProgram, OfFile, IsJudging, Promises, IsPromised}
+
+-- no other status than 0 and 4
+other : (n status : ℕ) → (n ≡ 0 → ⊥) → (n ≡ 4 → ⊥) → status ≡ n → IsJudging status → ⊥
+other n status no_zero no_four e (inl z) = no_zero (sym e ∙ z)
+other n status no_zero no_four e (inr f) = no_four (sym e ∙ f)
+
+refused : (bytes : List ℕ) (status : ℕ) (out err : List ℕ) → IsJudging status → IsRefusedText bytes status out err → ⊥
+unfolding IsRefusedText
+refused bytes status out err j (inl a) = other 65 status (omega arith) (omega arith) a.says.status_is j
+refused bytes status out err j (inr (inl a)) = other 65 status (omega arith) (omega arith) a.says.status_is j
+refused bytes status out err j (inr (inr (inl a))) = other 65 status (omega arith) (omega arith) a.says.status_is j
+refused bytes status out err j (inr (inr (inr (inl a)))) = other 65 status (omega arith) (omega arith) a.says.status_is j
+refused bytes status out err j (inr (inr (inr (inr a)))) = other 65 status (omega arith) (omega arith) a.says.status_is j
+
+module _ (status : ℕ) (out err : List ℕ) (j : IsJudging status) where
+  in_file : (K : List ℕ → ℕ → List ℕ → List ℕ → Type 0) (P : List ℕ → Type 0) (files : Files) (file : List ℕ) → ((bytes : List ℕ) → K bytes status out err → P bytes)
+      → FileAnswers K files file status out err → OfFile files file P
+  in_file K P files file f (inl a) = absurd (other 66 status (omega arith) (omega arith) a.says.status_is j)
+  in_file K P files file f (inr (inl a)) = absurd (other 67 status (omega arith) (omega arith) a.says.status_is j)
+  in_file K P files file f (inr (inr a)) = record { bytes = a.bytes; there = a.there; holds = f a.bytes a.answers }
+
+  in_text : (K : Program → ℕ → List ℕ → List ℕ → Type 0) (R : Type 0) (bytes : List ℕ) → ((p : Program) → IsTypedText bytes p → K p status out err → R)
+      → TextAnswers K bytes status out err → R
+  in_text K R bytes f (inl a) = absurd (refused bytes status out err j a)
+  in_text K R bytes f (inr a) = f a.program a.is a.answers
+
+  in_facts : (J : Facts → ℕ → List ℕ → List ℕ → Type 0) (R : Type 0) (p : Program) → ((F : Facts) → HasFacts p F → J F status out err → R)
+      → AnalysisAnswers J p status out err → R
+  in_facts J R p f (inl (inl a)) = absurd (other 75 status (omega arith) (omega arith) a.says.status_is j)
+  in_facts J R p f (inl (inr a)) = absurd (other 67 status (omega arith) (omega arith) a.says.status_is j)
+  in_facts J R p f (inr a) = f a.facts a.has a.answers
+
+  in_run : (bound : ℕ) (script : List ℕ) (F : Facts) (A : HasLattice bound F → List Line → ℕ → List ℕ → List ℕ → Type 0) (R : Type 0)
+      → (IsRun bound script F A status out err → R) → ScriptAnswers bound script F A status out err → R
+  in_run bound script F A R f (inl (inl a)) = absurd (other 68 status (omega arith) (omega arith) a.many.says.status_is j)
+  in_run bound script F A R f (inl (inr a)) = elim a.fault as (λ _. R) [
+    | inl bad ↦ absurd (other 69 status (omega arith) (omega arith) bad.says.status_is j)
+    | inr long ↦ absurd (other 67 status (omega arith) (omega arith) long.says.status_is j)
+  ]
+  in_run bound script F A R f (inr a) = f a
+
+  lattice_shown : (json : Bool) (bound : ℕ) (bytes : List ℕ) (p : Program) → IsTypedText bytes p → (F : Facts) → HasFacts p F → LatticeOf json bound F status out err → ShowsLattice json bytes out
+  lattice_shown json bound bytes p text F facts a = elim a.answers as (λ _. ShowsLattice json bytes out) [
+    | inl many ↦ absurd (other 68 status (omega arith) (omega arith) many.says.status_is j)
+    | inr shown ↦ record {
+      program = p;
+      facts = F;
+      table = a.table;
+      lattice = shown.lattice;
+      is = record { text = text; facts_are = facts; least = a.is; concepts = shown.is };
+      shown_is = shown.gives.out_is;
+    }
+  ]
+
+-- each edit is made or refused as the hierarchy after it meets its obligations
+module _ (F : Facts) (pt : PointsTo) where
+  by_tested : (H K : Hierarchy) (line : Line) (lines : List Line) (o : Option Broken) → changed F H line.edit ≡ Ok K → first_of_edit F pt K ≡ o
+      → ((L : Hierarchy) → AreJudged F pt L lines (after_edits F pt L lines) (refusals_of F pt L lines))
+      → AreJudged F pt H (line ∷ lines) (after_edits F pt (kept H (unless_broken K o)) lines) (refusal line.number (unless_broken K o) ++ refusals_of F pt (kept H (unless_broken K o)) lines)
+  by_tested H K line lines None e t rest = made e t (rest K)
+  by_tested H K line lines (Some b) e t rest = breaks e t (rest H)
+
+  by_changed : (H : Hierarchy) (line : Line) (lines : List Line) (r : Result Hierarchy ChangeFault) → changed F H line.edit ≡ r
+      → ((L : Hierarchy) → AreJudged F pt L lines (after_edits F pt L lines) (refusals_of F pt L lines))
+      → AreJudged F pt H (line ∷ lines) (after_edits F pt (kept H (outcome F pt r)) lines) (refusal line.number (outcome F pt r) ++ refusals_of F pt (kept H (outcome F pt r)) lines)
+  by_changed H line lines (Ok K) e rest = by_tested H K line lines (first_of_edit F pt K) e refl rest
+  by_changed H line lines (Err fault) e rest = unmade e (rest H)
+
+  judged : (lines : List Line) (H : Hierarchy) → AreJudged F pt H lines (after_edits F pt H lines) (refusals_of F pt H lines)
+  judged [] H = none
+  judged (line ∷ lines) H = by_changed H line lines (changed F H line.edit) refl (judged lines)
+
+-- the edits of a run
+judges : (bound : ℕ) (bytes script : List ℕ) (p : Program) (F : Facts) → IsTypedText bytes p → HasFacts p F → (has : HasLattice bound F) (edits : List Line)
+    → AreEditsOf script edits → JudgesEdits bytes script p F has.sets (edited bound F has edits) (refusals bound F has edits)
+judges bound bytes script p F text facts has edits are = record {
+  table = has.table;
+  lattice = has.lattice;
+  is = record { text = text; facts_are = facts; least = has.is_table; concepts = has.is_lattice };
+  sets_are = has.are_sets;
+  edits = edits;
+  are = are;
+  judged = judged F has.sets edits (start_of bound F has);
+}
+
+rebuilt : (p : Program) (F : Facts) (H : Hierarchy) (text out : List ℕ) → out ≡ text → IsWrittenText p F H text → IsRebuilt p F H out
+rebuilt p F H text out e w = subst (IsRebuilt p F H) (sym e) (record {
+  tree = tree_of_hierarchy p F H;
+  read = w.read;
+  new = w.new;
+  resolves = w.resolves;
+  typed = w.keeps.typed;
+  rebuilds = w.keeps.rebuilds;
+  offers = w.keeps.rows;
+  same = w.keeps.run;
+})
+
+module _ (status : ℕ) (out err : List ℕ) (j : IsJudging status) where
+  edits_told : (bound : ℕ) (bytes script : List ℕ) (p : Program) → IsTypedText bytes p → (F : Facts) → HasFacts p F → IsRun bound script F (ShowsHierarchy bound F) status out err
+      → TellsEdits bytes script err
+  edits_told bound bytes script p text F facts a =
+      let J = judges bound bytes script p F text facts a.has a.edits a.are in
+      record { program = p; facts = F; sets = a.has.sets; after = edited bound F a.has a.edits; judges = subst (JudgesEdits bytes script p F a.has.sets (edited bound F a.has a.edits)) (sym a.answers.err_is) J }
+
+  text_written : (bound : ℕ) (bytes script : List ℕ) (p : Program) → IsTypedText bytes p → (F : Facts) → HasFacts p F → IsRun bound script F (IsRegeneration p bound F) status out err
+      → WritesProgram bytes script out err
+  text_written bound bytes script p text F facts a = elim a.answers as (λ _. WritesProgram bytes script out err) [
+    | inr w ↦ absurd (other 5 status (omega arith) (omega arith) w.gives.status_is j)
+    | inl g ↦ record {
+      program = p;
+      facts = F;
+      sets = a.has.sets;
+      after = edited bound F a.has a.edits;
+      told = refusals bound F a.has a.edits;
+      judges = judges bound bytes script p F text facts a.has a.edits a.are;
+      steps = steps_of g.log;
+      tree = g.tree;
+      grows = g.is.grows;
+      unbroken = g.is.unbroken;
+      rebuilt = rebuilt p F g.tree g.text out g.gives.out_is g.written;
+      log = log_text g.log;
+      tells = g.gives.err_is;
+    }
+  ]
+
+  edit_promised : (bound : ℕ) (bytes script : List ℕ) → EditAnswers bound bytes script status out err → TellsEdits bytes script err
+  edit_promised bound bytes script a =
+      in_text status out err j (AnalysisAnswers (EditOf bound script)) (TellsEdits bytes script err) bytes
+      (λ p text. in_facts status out err j (EditOf bound script) (TellsEdits bytes script err) p
+      (λ F facts. in_run status out err j bound script F (ShowsHierarchy bound F) (TellsEdits bytes script err) (edits_told bound bytes script p text F facts)))
+      a
+
+  regen_promised : (bound : ℕ) (bytes script : List ℕ) → RegenAnswers bound bytes script status out err → WritesProgram bytes script out err
+  regen_promised bound bytes script a =
+      in_text status out err j (λ p. AnalysisAnswers (RegenOf bound script p) p) (WritesProgram bytes script out err) bytes
+      (λ p text. in_facts status out err j (RegenOf bound script p) (WritesProgram bytes script out err) p
+      (λ F facts. in_run status out err j bound script F (IsRegeneration p bound F) (WritesProgram bytes script out err) (text_written bound bytes script p text F facts)))
+      a
+
+-- what is promised of a command
+command_promised : (c : Cmd) (first second : Files) (status : ℕ) (out err : List ℕ) → CommandAnswers c first second status out err → Promises c first second status out err
+command_promised (lattice json bound file) first second status out err a = λ z.
+    in_file status out err (inl z) (TextAnswers (AnalysisAnswers (LatticeOf json bound))) (λ bytes. ShowsLattice json bytes out) first file
+    (λ bytes. in_text status out err (inl z) (AnalysisAnswers (LatticeOf json bound)) (ShowsLattice json bytes out) bytes
+    (λ p text. in_facts status out err (inl z) (LatticeOf json bound) (ShowsLattice json bytes out) p (lattice_shown status out err (inl z) json bound bytes p text)))
+    a
+command_promised (edit bound file script) first second status out err a = λ j.
+    in_file status out err j (λ bytes. FileAnswers (EditAnswers bound bytes) second script) (λ bytes. OfFile second script (λ lines. TellsEdits bytes lines err)) first file
+    (λ bytes. in_file status out err j (EditAnswers bound bytes) (λ lines. TellsEdits bytes lines err) second script (edit_promised status out err j bound bytes))
+    a
+command_promised (regen bound file script) first second status out err a = λ j.
+    in_file status out err j (λ bytes. FileAnswers (RegenAnswers bound bytes) second script) (λ bytes. OfFile second script (λ lines. WritesProgram bytes lines out err)) first file
+    (λ bytes. in_file status out err j (RegenAnswers bound bytes) (λ lines. WritesProgram bytes lines out err) second script (regen_promised status out err j bound bytes))
+    a
+command_promised (run file steps words) first second status out err a = tt
+command_promised (table file) first second status out err a = tt
+command_promised help first second status out err a = tt
+command_promised version first second status out err a = tt
+
+pub promised : (told : Option Files) (before now : ℕ) (words : List (List ℕ)) (status : ℕ) (out err : List ℕ) → IsJudging status → Replies told before now words status out err
+    → IsPromised told words status out err
+promised told before now words status out err j (inl a) = elim a.answers as (λ _. IsPromised told words status out err) [
+  | inl usage ↦ absurd (other 64 status (omega arith) (omega arith) usage.says.status_is j)
+  | inr c ↦ record {
+    command = c.command;
+    fits = c.fits;
+    first = a.first;
+    second = a.second;
+    first_agrees = a.first_agrees;
+    second_agrees = a.second_agrees;
+    promise = command_promised c.command a.first a.second status out err c.answers;
+  }
+]
+promised told before now words status out err j (inr u) = absurd (other 66 status (omega arith) (omega arith) u.unread.fault.says.status_is j)

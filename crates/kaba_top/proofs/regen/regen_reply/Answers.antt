@@ -1,0 +1,32 @@
+use Rattle.std.proofs.Common.{subst}
+use Rattle.java_core.specs.Trees.{at_place, no_place}
+use Rattle.java_core.specs.Programs.{program_of}
+use Rattle.kaba_top.specs.Proposals.{IsProposed, IsWrittenOver}
+use Rattle.kaba_top.proofs.Analysing.{regenerated, stuck_answers}
+use Rattle.kaba_top.proofs.Reaching.{no_interface}
+use Rattle.kaba_top.proofs.regen.regen_reply.Goals as goal
+
+pub regenerate-requires-clause-table : goal.regenerate-requires-clause-table
+regenerate-requires-clause-table c =
+    let is = subst (IsProposed c.args.bound c.args.script.now.items c.args.facts.now) c.in-Edited.is c.in_ok-proposal.ensures.proposed in
+    (c.in-Edited.proposal.table, is.is_table)
+
+pub returns-in-Written : goal.returns-in-Written
+returns-in-Written c =
+    let F = c.args.facts.now in
+    let p = c.in-Edited.proposal in
+    regenerated c.args.bound c.args.script.now.items c.args.program.now F p c.in-Written.written c.written_reply.result
+    (subst (IsProposed c.args.bound c.args.script.now.items F) c.in-Edited.is c.in_ok-proposal.ensures.proposed)
+    (subst (IsWrittenOver c.args.program.now F p.sets p.edited.hier) c.in-Written.is c.in_ok-written.ensures.regenerated)
+    c.written_reply.ensures
+
+pub returns : goal.returns
+returns c =
+    let F = c.args.facts.now in
+    let p = c.in-Edited.proposal in
+    stuck_answers c.args.bound c.args.script.now.items c.args.program.now F p c.in-Stuck.fault c.stuck.result
+    (subst (IsProposed c.args.bound c.args.script.now.items F) c.in-Edited.is c.in_ok-proposal.ensures.proposed)
+    c.requires.facts.in_range c.requires.facts.in_order
+    (no_interface (program_of no_place c.args.program.now) (program_of at_place c.args.program.now) F c.requires.facts)
+    (subst (IsWrittenOver c.args.program.now F p.sets p.edited.hier) c.in-Stuck.is c.in_ok-written.ensures.regenerated)
+    c.stuck.ensures

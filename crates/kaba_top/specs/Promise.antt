@@ -1,0 +1,150 @@
+-- What Kaba promises of its analysis and of the programs that it writes, said once more without the answers around it.
+use Rattle.std.specs.Prelude.{◌≡◌, ◌⊎◌, ℕ, ◌≤◌, Bool, List, [], ◌∷◌, ◌++◌, length, Option, Some, None, Ok, Err}
+use Rattle.kaba_base.specs.Outside.{Files, taken_more}
+use Rattle.java_tree.specs.Syntax.{DeclTree}
+use Rattle.java_print.specs.Formed.{IsReadAs}
+use Rattle.java_core.specs.declared.Program.{Program}
+use Rattle.java_core.specs.Trees.{at_place, no_place}
+use Rattle.java_core.specs.Programs.{program_of}
+use Rattle.java_core.specs.Typing.{IsTyped}
+use Rattle.name_rules.specs.Resolves.{Resolves}
+use Rattle.fact_model.specs.declared.facts.Facts.{Facts}
+use Rattle.fact_model.specs.declared.sets.Table.{Table}
+use Rattle.fact_model.specs.declared.sets.Lattice.{Lattice}
+use Rattle.fact_model.specs.declared.sets.PointsTo.{PointsTo}
+use Rattle.fact_model.specs.Entries.{IsTable}
+use Rattle.fact_model.specs.Concepts.{IsLatticeOf}
+use Rattle.fact_model.specs.Flowing.{AreSets}
+use Rattle.hier_model.specs.Hierarchies.{Hierarchy}
+use Rattle.hier_model.specs.Edits.{changed}
+use Rattle.hier_model.specs.Start.{start_from}
+use Rattle.hier_model.specs.declared.edits.ChangeFault.{ChangeFault}
+use Rattle.hier_rules.specs.declared.broken.Broken.{Broken}
+use Rattle.hier_rules.specs.First.{first_of_edit, first_broken}
+use Rattle.hier_edit.specs.Applied.{fault_of}
+use Rattle.hier_edit.specs.declared.ApplyFault.TheVariants.{Breaks}
+use Rattle.hier_script.specs.Refusals.{refusal_line}
+use Rattle.hier_tree.specs.Trees.{Step, Tree, Grows}
+use Rattle.edit_script.specs.declared.lines.Line.{Line}
+use Rattle.edit_script.specs.Script.{AreEditsOf}
+use Rattle.rebuild_model.specs.Rebuilds.{Rebuilds}
+use Rattle.rebuild_types.specs.Rows.{OffersRows}
+use Rattle.same_run.specs.Same.{HasSameRun}
+use Rattle.kaba_words.specs.Commands.{Cmd, run, table, lattice, edit, regen, help, version, Fits}
+use Rattle.kaba_top.specs.Reading.{IsTypedText}
+use Rattle.kaba_top.specs.FactsAnswers.{HasFacts, shown}
+use Rattle.kaba_top.specs.Answers.{Agrees}
+
+-- the facts of the program of a text, the least table closed under the rules, and its concept lattice
+pub record IsAnalysis (bytes : List ℕ) (program : Program) (facts : Facts) (table : Table) (lattice : Lattice) : Type 0 where
+  pub text : IsTypedText bytes program
+  pub facts_are : HasFacts program facts
+  pub least : IsTable facts table
+  pub concepts : IsLatticeOf table lattice
+
+-- the lattice shown is that one
+pub record ShowsLattice (json : Bool) (bytes out : List ℕ) : Type 0 where
+  pub program : Program
+  pub facts : Facts
+  pub table : Table
+  pub lattice : Lattice
+  pub is : IsAnalysis bytes program facts table lattice
+  pub shown_is : out ≡ shown json facts lattice
+
+module _ (F : Facts) (pt : PointsTo) where
+  -- edits one after the other, from a hierarchy to the one that they leave, with what is told of those that are refused
+  pub data AreJudged : Hierarchy → List Line → Hierarchy → List ℕ → Type 0 where
+    none : {H : Hierarchy} → AreJudged H [] H []
+    -- an edit is made where the edited hierarchy breaks none of the obligations
+    made : {H K New : Hierarchy} {line : Line} {lines : List Line} {told : List ℕ} → changed F H line.edit ≡ Ok K → first_of_edit F pt K ≡ None
+        → AreJudged K lines New told → AreJudged H (line ∷ lines) New told
+    -- and refused where it breaks one, of which the first instance is told; then nothing changes
+    breaks : {H K New : Hierarchy} {line : Line} {lines : List Line} {b : Broken} {told : List ℕ} → changed F H line.edit ≡ Ok K → first_of_edit F pt K ≡ Some b
+        → AreJudged H lines New told → AreJudged H (line ∷ lines) New (refusal_line line.number (Breaks b) ++ told)
+    -- or where it names what is not there, drops what is used, or leaves no order
+    unmade : {H New : Hierarchy} {line : Line} {lines : List Line} {fault : ChangeFault} {told : List ℕ} → changed F H line.edit ≡ Err fault
+        → AreJudged H lines New told → AreJudged H (line ∷ lines) New (refusal_line line.number (fault_of fault) ++ told)
+
+-- the edits of the script, each so judged, from the hierarchy that the lattice proposes
+pub record JudgesEdits (bytes script : List ℕ) (program : Program) (facts : Facts) (sets : PointsTo) (after : Hierarchy) (told : List ℕ) : Type 0 where
+  pub table : Table
+  pub lattice : Lattice
+  pub is : IsAnalysis bytes program facts table lattice
+  pub sets_are : AreSets facts sets
+  pub edits : List Line
+  pub are : AreEditsOf script edits
+  pub judged : AreJudged facts sets (start_from facts table lattice) edits after told
+
+-- what is written is read as a tree that resolves to a typed program; it rebuilds the old one over the hierarchy, offers each row its
+-- columns, and has for all words and every bound on the steps the same output, end and steps
+pub record IsRebuilt (program : Program) (facts : Facts) (H : Hierarchy) (text : List ℕ) : Type 0 where
+  pub tree : List DeclTree
+  pub read : IsReadAs text tree
+  pub new : Program
+  pub resolves : Resolves tree (program_of at_place new)
+  pub typed : IsTyped (program_of no_place new)
+  pub rebuilds : Rebuilds (program_of no_place program) (program_of at_place program) facts H (program_of no_place new)
+  pub offers : OffersRows (program_of no_place program) (program_of at_place program) facts H (program_of no_place new) rebuilds.places
+  pub same : HasSameRun (program_of no_place program) (program_of no_place new)
+
+-- the script's edits are judged
+pub record TellsEdits (bytes script err : List ℕ) : Type 0 where
+  pub program : Program
+  pub facts : Facts
+  pub sets : PointsTo
+  pub after : Hierarchy
+  pub judges : JudgesEdits bytes script program facts sets after err
+
+-- and the text written is that of a program over the tree of the hierarchy that they leave
+pub record WritesProgram (bytes script out err : List ℕ) : Type 0 where
+  pub program : Program
+  pub facts : Facts
+  pub sets : PointsTo
+  pub after : Hierarchy
+  pub told : List ℕ
+  pub judges : JudgesEdits bytes script program facts sets after told
+  pub steps : List Step
+  pub tree : Hierarchy
+  pub grows : Grows facts sets after steps (Tree tree)
+  pub unbroken : first_broken facts sets tree ≡ None
+  pub rebuilt : IsRebuilt program facts tree out
+  pub log : List ℕ
+  pub tells : err ≡ told ++ log
+
+-- a file's bytes, of which this holds
+pub record OfFile (files : Files) (file : List ℕ) (K : List ℕ → Type 0) : Type 0 where
+  pub bytes : List ℕ
+  pub there : files file ≡ Some bytes
+  pub holds : K bytes
+
+-- an edit was made of each line, or refused
+abbrev pub IsJudging : ℕ → Type 0
+IsJudging status = (status ≡ 0) ⊎ (status ≡ 4)
+
+-- what is promised of each command
+abbrev pub Promises : Cmd → Files → Files → ℕ → List ℕ → List ℕ → Type 0
+Promises (lattice json bound file) first second status out err = status ≡ 0 → OfFile first file (λ bytes. ShowsLattice json bytes out)
+Promises (edit bound file script) first second status out err = IsJudging status → OfFile first file (λ bytes. OfFile second script (λ lines. TellsEdits bytes lines err))
+Promises (regen bound file script) first second status out err = IsJudging status → OfFile first file (λ bytes. OfFile second script (λ lines. WritesProgram bytes lines out err))
+Promises (run file steps words) first second status out err = Unit {0}
+Promises (table file) first second status out err = Unit {0}
+Promises help first second status out err = Unit {0}
+Promises version first second status out err = Unit {0}
+
+-- the words say a command, of which what is promised holds, for files that agree with what the shelf tells
+pub record IsPromised (told : Option Files) (words : List (List ℕ)) (status : ℕ) (out err : List ℕ) : Type 0 where
+  pub command : Cmd
+  pub fits : Fits words command
+  pub first : Files
+  pub second : Files
+  pub first_agrees : Agrees told first
+  pub second_agrees : Agrees told second
+  pub promise : Promises command first second status out err
+
+-- the sinks took the whole bytes for out and for err, and what is promised of them holds
+pub record Kept (told : Option Files) (words : List (List ℕ)) (status : ℕ) (out_before out_now err_before err_now : Option (List ℕ)) : Type 0 where
+  pub out : List ℕ
+  pub err : List ℕ
+  pub promised : IsPromised told words status out err
+  pub out_taken : out_now ≡ taken_more out_before out
+  pub err_taken : err_now ≡ taken_more err_before err

@@ -1,0 +1,183 @@
+//! The command `regen`.
+#![tactic(auto)]
+
+ghost use Rattle.std.specs.Prelude.{◌≡◌, ◌≤◌, ◌++◌, [], IfOk, OnOk, length};
+ghost use Rattle.java_core.specs.Trees.{at_place, no_place};
+ghost use Rattle.java_core.specs.Programs.{program_of};
+ghost use Rattle.fact_model.specs.declared.sets.Table.{Table};
+ghost use Rattle.fact_model.specs.Entries.{IsTable};
+ghost use Rattle.fact_model.specs.Flowing.{AreSets};
+ghost use Rattle.hier_model.specs.Hierarchies.{IsHierarchyOf};
+ghost use Rattle.hier_rules.specs.First.{MeetsEdit};
+ghost use Rattle.program_facts.specs.Known.{AreProgramFacts};
+ghost use Rattle.tree_view.specs.Lines.{log_text, no_tree_text};
+ghost use Rattle.java_write.specs.Written.{HasText};
+ghost use Rattle.kaba_words.specs.Commands.{most_concepts};
+ghost use Rattle.kaba_top.specs.Lines.{Gives, line, most_bytes};
+ghost use Rattle.kaba_top.specs.Reading.{TextAnswers};
+ghost use Rattle.kaba_top.specs.FactsAnswers.{AnalysisAnswers};
+ghost use Rattle.kaba_top.specs.EditAnswers.{edit_status};
+ghost use Rattle.kaba_top.specs.RegenAnswers.{RegenOf};
+ghost use Rattle.kaba_top.specs.Answers.{RegenAnswers};
+ghost use Rattle.kaba_top.specs.Proposals.{IsWrittenOver};
+
+use crate::analysis::{Analysed, analyse};
+use crate::reading::{Reading, read_program};
+use crate::reply::Reply;
+use crate::script::{Proposed, edit_status, propose};
+use fact_model::{Facts, PointsTo};
+use hier_model::Hier;
+use java_core::Checked;
+use java_write::write_java;
+use std::alloc::{AllocError, Global};
+use tree_merge::{NoTree, TreeFault, TreeStep, make_tree};
+use tree_view::{log_text, no_tree_text};
+
+/// The program of a hierarchy whose class nodes are a tree.
+#[derive(Drop)]
+pub struct Written {
+    /// The hierarchy.
+    pub hier: Hier,
+    /// The steps that led to it.
+    pub log: Vec<TreeStep>,
+    /// The text of the program.
+    pub text: Vec<u8>,
+}
+
+/// What a hierarchy comes to: a program over a tree of classes, or a conflict where there is no tree.
+#[derive(Drop)]
+pub enum Regenerated {
+    Written(Written),
+    Stuck(NoTree),
+}
+
+/// Brings the class nodes of a hierarchy into a tree, and writes the program of it.
+pub fn regenerate(
+    alloc: Global,
+    program: &Checked,
+    facts: &Facts,
+    sets: &PointsTo,
+    hier: Hier,
+) -> Result<Regenerated, AllocError>
+    requires text { HasText program.now }
+    requires facts { AreProgramFacts (program_of no_place program.now) (program_of at_place program.now) facts.now }
+    requires sets { AreSets facts.now sets.now }
+    requires table { (t : Table) × IsTable facts.now t }
+    requires hierarchy { IsHierarchyOf facts.now hier }
+    requires meets { MeetsEdit facts.now sets.now hier }
+    ensures regenerated { IfOk result (IsWrittenOver program.now facts.now sets.now hier) }
+{
+    let mut made = hier;
+    match make_tree(alloc, &mut made, facts, sets) {
+        Ok(log) => {
+            let mut text = Vec::new(alloc);
+            write_java(alloc, program, facts, &made, &mut text)?;
+            Ok(Regenerated::Written(Written {
+                hier: made,
+                log,
+                text,
+            }))
+        }
+        Err(TreeFault::NoTree(fault)) => Ok(Regenerated::Stuck(fault)),
+        Err(TreeFault::Memory) => Err(AllocError),
+    }
+}
+
+/// The lines of the refused edits, and then those of a log.
+fn told(alloc: Global, refusals: Vec<u8>, log: &[TreeStep]) -> Result<Vec<u8>, AllocError>
+    ensures { IfOk result (λ lines. lines.items ≡ refusals.items ++ log_text log.now) }
+{
+    let mut lines = refusals;
+    let text = log_text(alloc, log)?;
+    lines.extend_from_slice(text.as_bytes())?;
+    Ok(lines)
+}
+
+/// The reply with a program that was written, and the lines of the refused edits and of the log.
+fn written_reply(alloc: Global, refusals: Vec<u8>, written: Written) -> Result<Reply, AllocError>
+    ensures { IfOk result (λ reply. Gives (edit_status refusals.items) written.text.items (refusals.items ++ log_text written.log.items) reply.status reply.out.items reply.err.items) }
+{
+    let status = edit_status(&refusals);
+    let err = told(alloc, refusals, &written.log)?;
+    Ok(Reply {
+        status,
+        out: written.text,
+        err,
+    })
+}
+
+/// The reply that there is no tree.
+pub fn stuck(alloc: Global, refusals: Vec<u8>, fault: &NoTree) -> Result<Reply, AllocError>
+    ensures { IfOk result (λ reply. Gives 5 [] (refusals.items ++ (log_text fault.now.log.items ++ line (no_tree_text fault.now))) reply.status reply.out.items reply.err.items) }
+{
+    let mut err = told(alloc, refusals, &fault.log)?;
+    let text = no_tree_text(alloc, fault)?;
+    let last = Reply::line(alloc, 5, text.as_bytes())?;
+    err.extend_from_slice(&last.err)?;
+    Ok(Reply {
+        status: 5,
+        out: Vec::new(alloc),
+        err,
+    })
+}
+
+/// The reply with the program that is written of the hierarchy after the script, or the reply that there is none.
+fn regen_reply(
+    alloc: Global,
+    program: &Checked,
+    facts: &Facts,
+    script: &Vec<u8>,
+    bound: u32,
+) -> Result<Reply, AllocError>
+    requires text { HasText program.now }
+    requires facts { AreProgramFacts (program_of no_place program.now) (program_of at_place program.now) facts.now }
+    requires small { length script.now.items ≤ most_bytes }
+    requires bound { bound ≤ most_concepts }
+    ensures { IfOk result (λ reply. RegenOf bound script.now.items program.now facts.now reply.status reply.out.items reply.err.items) }
+{
+    let proposal = match propose(alloc, facts, script, bound)? {
+        Proposed::Edited(proposal) => proposal,
+        Proposed::Refused(reply) => return Ok(reply),
+    };
+    let edited = proposal.edited;
+    match regenerate(alloc, program, facts, &proposal.sets, edited.hier)? {
+        Regenerated::Written(written) => written_reply(alloc, edited.refusals, written),
+        Regenerated::Stuck(fault) => stuck(alloc, edited.refusals, &fault),
+    }
+}
+
+/// The reply of `regen` for a program of a text.
+fn regen_program(
+    alloc: Global,
+    program: &Checked,
+    script: &Vec<u8>,
+    bound: u32,
+) -> Result<Reply, AllocError>
+    requires text { HasText program.now }
+    requires small { length script.now.items ≤ most_bytes }
+    requires bound { bound ≤ most_concepts }
+    ensures { IfOk result (λ reply. AnalysisAnswers (RegenOf bound script.now.items program.now) program.now reply.status reply.out.items reply.err.items) }
+{
+    match analyse(alloc, program)? {
+        Analysed::Found(facts) => regen_reply(alloc, program, &facts, script, bound),
+        Analysed::Refused(reply) => Ok(reply),
+    }
+}
+
+/// The reply of `regen` for the bytes of its file and of its script.
+pub fn regen_text(
+    alloc: Global,
+    bytes: &Vec<u8>,
+    script: &Vec<u8>,
+    bound: u32,
+) -> Result<Reply, AllocError>
+    requires small { length bytes.now.items ≤ most_bytes }
+    requires script_small { length script.now.items ≤ most_bytes }
+    requires bound { bound ≤ most_concepts }
+    ensures answers { IfOk result (λ reply. RegenAnswers bound bytes.now.items script.now.items reply.status reply.out.items reply.err.items) }
+{
+    match read_program(alloc, bytes)? {
+        Reading::Typed(program) => regen_program(alloc, &program, script, bound),
+        Reading::Refused(reply) => Ok(reply),
+    }
+}
