@@ -8,7 +8,7 @@ use Rattle.java_tree.specs.Arms.{arm_size}
 use Rattle.java_core.specs.declared.RStmt.{RStmt}
 use Rattle.java_core.specs.declared.RArm.{RArm}
 use Rattle.kaba_base.specs.declared.Place.{Place}
-use Rattle.java_core.specs.Trees.{at_place, Ex, St, otherwise, choose, loop, Sts, Arms, no_st, expr_of, stmt_of, stmts, arms_seen}
+use Rattle.java_core.specs.Trees.{at_place, Ex, St, no_other, otherwise, choose, loop, Sts, Arms, no_st, expr_of, stmt_of, stmts, arms_seen}
 use Rattle.name_rules.specs.declared.Refusal.{Refusal}
 use Rattle.java_resolve.specs.Tables.{Table}
 use Rattle.name_rules.specs.declared.parts.Bound.{Bound}

@@ -9,7 +9,7 @@ use Rattle.java_tree.specs.declared.TypeName.{TypeName}
 use Rattle.java_tree.specs.Syntax.{Expression, NameRef, FieldOf, IndexOf, Statement, LocalOf, BlockOf, AssignOf, DoOf, PrintOf, IfOf, WhileOf, ForOf, ReturnOf, BreakOf, ContinueOf, Statements, no_statements, and_then, Else, no_else, OptionalStatement, absent, present}
 use Rattle.java_tree.specs.Syntax as tree
 use Rattle.java_core.specs.declared.Ty.{Ty}
-use Rattle.java_core.specs.Trees.{at_place, Ex, St, break, continue, Sts, no_st, st_then, Arms, otherwise, arm}
+use Rattle.java_core.specs.Trees.{at_place, Ex, St, break, continue, Sts, no_st, st_then, Arms, no_other, otherwise, arm}
 use Rattle.java_core.specs.Programs.{Plain, PlainLocal, PlainMethod}
 use Rattle.java_core.specs.Formed.{variables_of, numbers, numbers_if, numbers_target, numbers_st, numbers_sts, numbers_arms}
 use Rattle.name_rules.specs.declared.Refusal.{Refusal}
