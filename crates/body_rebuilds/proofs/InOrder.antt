@@ -4,7 +4,7 @@ use Rattle.std.specs.Prelude.{map, slice_get}
 use Rattle.std.proofs.lemmas.Option.{same_Some}
 use Rattle.std.proofs.lemmas.List.{length-map, length-append}
 use Rattle.java_tree.specs.Syntax.{DeclTree}
-use Rattle.java_core.specs.Trees.{St, Sts, Arms, declare, block, assign, act, print, choose, loop, return, break, continue, no_st, st_then, otherwise, arm}
+use Rattle.java_core.specs.Trees.{St, Sts, Arms, declare, block, assign, act, print, choose, loop, return, break, continue, no_st, st_then, no_other, otherwise, arm}
 use Rattle.java_core.specs.Programs.{Plain, PlainLocal, PlainMethod}
 use Rattle.java_core.specs.Formed.{variables_of}
 use Rattle.java_meaning.specs.Watched.{bare_st, bare_sts, bare_arms}
@@ -23,7 +23,7 @@ mutual
   bare_declares (act t e) = refl
   bare_declares (print t n e) = refl
   bare_declares (choose t xs) = bare_declares_arms xs
-  bare_declares (loop t first test step body) = rw (bare_declares_all first, bare_declares_all step, bare_declares_all body) refl
+  bare_declares (loop t is_while first test step body) = rw (bare_declares_all first, bare_declares_all step, bare_declares_all body) refl
   bare_declares (return t e) = refl
   bare_declares (break t) = refl
   bare_declares (continue t) = refl
@@ -33,6 +33,7 @@ mutual
   bare_declares_all (st_then x xs) = rw (bare_declares x, bare_declares_all xs) refl
 
   bare_declares_arms : (xs : Arms) → declares_arms (bare_arms xs) ≡ declares_arms xs
+  bare_declares_arms no_other = refl
   bare_declares_arms (otherwise xs) = bare_declares_all xs
   bare_declares_arms (arm e xs more) = rw (bare_declares_all xs, bare_declares_arms more) refl
 

@@ -7,12 +7,12 @@ use Rattle.std.proofs.lemmas.Option.{same_Some}
 use Rattle.kaba_base.specs.declared.Place.{Place}
 use Rattle.java_tree.specs.declared.TypeName.{TypeName}
 use Rattle.java_tree.specs.Syntax.{Expression, Statement, LocalOf, BlockOf, ForOf, Statements, no_statements, OptionalStatement, absent, present}
-use Rattle.java_core.specs.Trees.{Tag, at_place, Ex, Target, to_local, to_static, to_own, to_field, to_element, no_target, this, St, Sts, Arms, declare, block, assign, act, print, choose, loop, return, break, continue, no_st, st_then, otherwise, arm}
+use Rattle.java_core.specs.Trees.{Tag, at_place, Ex, Target, to_local, to_static, to_own, to_field, to_element, no_target, this, St, Sts, Arms, declare, block, assign, act, print, choose, loop, return, break, continue, no_st, st_then, no_other, otherwise, arm}
 use Rattle.java_core.specs.Programs.{Plain, PlainLocal, PlainMethod}
 use Rattle.java_core.specs.Types.{Env, env_of, field_in, static}
-use Rattle.java_core.specs.Typing.{TypedTarget, TypedTest, TypedSt, TypedSts, TypedArms, t_to_field, t_to_element, t_test, t_declare_as, t_block, t_assign, t_act, t_print, t_choose, t_loop, t_return, t_st_then, t_otherwise, t_arm}
+use Rattle.java_core.specs.Typing.{TypedTarget, TypedTest, TypedSt, TypedSts, TypedArms, t_to_field, t_to_element, t_test, t_declare_as, t_block, t_assign, t_act, t_print, t_choose, t_loop, t_return, t_st_then, t_no_other, t_otherwise, t_arm}
 use Rattle.java_core.specs.Formed as formed_names
-use Rattle.java_core.specs.Formed.{IsFormed, FormedTarget, FormedOption, FormedSt, FormedSts, FormedArms, variables_of, scope_after_all, is_at_most_one, f_to_local, f_to_static, f_to_field, f_to_element, f_some, f_declare, f_block, f_assign, f_act, f_print, f_choose, f_loop, f_return, f_st_then, f_otherwise, f_arm}
+use Rattle.java_core.specs.Formed.{IsHead, of_while, of_for, IsFormed, FormedTarget, FormedOption, FormedSt, FormedSts, FormedArms, variables_of, scope_after_all, is_at_most_one, f_to_local, f_to_static, f_to_field, f_to_element, f_some, f_declare, f_block, f_assign, f_act, f_print, f_choose, f_loop, f_return, f_st_then, f_otherwise, f_arm}
 use Rattle.java_meaning.specs.Watched.{bare_tag, bare, bare_if, bare_target, bare_st, bare_sts, bare_arms}
 use Rattle.hier_model.specs.Hierarchies.{Hierarchy}
 use Rattle.flow_rules.specs.Operands.{variable_row, type_in}
@@ -26,7 +26,7 @@ use Rattle.written_tree.specs.Names.{nowhere, by_number, written_type}
 use Rattle.written_tree.specs.Bodies as text
 use Rattle.written_tree.specs.Bodies.{variable_name, loop_tree, field_name, written_if, written_target, written_st, written_sts, written_part, written_arms, written_else}
 use Rattle.rebuild_model.specs.Renaming.{Places, Renaming, renaming_of, retyped}
-use Rattle.rebuild_model.specs.Matches.{Matches, MatchesIf, MatchesTarget, MatchesSt, MatchesSts, MatchesArms, m_none, m_some, m_to_local, m_to_static, m_to_own, m_to_field, m_to_element, m_declare, m_block, m_assign, m_act, m_print, m_choose, m_loop, m_return, m_break, m_continue, m_no_st, m_st_then, m_otherwise, m_arm}
+use Rattle.rebuild_model.specs.Matches.{Matches, MatchesIf, MatchesTarget, MatchesSt, MatchesSts, MatchesArms, m_none, m_some, m_to_local, m_to_static, m_to_own, m_to_field, m_to_element, m_declare, m_block, m_assign, m_act, m_print, m_choose, m_loop, m_return, m_break, m_continue, m_no_st, m_st_then, m_no_other, m_otherwise, m_arm}
 use Rattle.body_rebuilds.specs.Known.{KnowsNames}
 use Rattle.body_rebuilds.proofs.Scopes.{Scoped, scoped_more}
 use Rattle.body_rebuilds.proofs.Counted.{counts_split, counts_one, Ends, ends_none, ends_one, ends_join, goes_on}
@@ -156,30 +156,31 @@ module _ (Q : Plain) (H : Hierarchy) (U O : Plain) (T : Places) (K : KnowsNames 
     pub after : Scoped (untag_method k) (scope_after_all inner (bare_sts xs)) (text.scope_after_part scope (bare_sts xs)) (names.scope_after_part bs D ys)
 
   -- what a written loop resolves to
-  record LoopParts (q : Bool) (bs : List Bound) (f : OptionalStatement) (v : Option Expression) (h : OptionalStatement) (ss : Statements)
+  record LoopParts (is_while q : Bool) (bs : List Bound) (f : OptionalStatement) (v : Option Expression) (h : OptionalStatement) (ss : Statements)
       (y : St) : Type 0 where
     first : Sts
     test : Option Ex
     step : Sts
     code : Sts
-    is : y ≡ loop (at_place nowhere) first test step code
+    is : y ≡ loop (at_place nowhere) is_while first test step code
     first_is : PartResolves O here new q bs f first
     test_is : ResolvesIf O here (names.scope_after_part bs f first) v test
     step_is : PartResolves O here new q (names.scope_after_part bs f first) h step
     code_is : StsResolve O here new true (names.scope_after_part bs f first) ss code
 
   for_parts : (q : Bool) (bs : List Bound) (f : OptionalStatement) (v : Option Expression) (h : OptionalStatement) (ss : Statements) (y : St)
-      → StResolves O here new q bs (ForOf f v h ss nowhere) y → LoopParts q bs f v h ss y
+      → StResolves O here new q bs (ForOf f v h ss nowhere) y → LoopParts false q bs f v h ss y
   for_parts q bs f v h ss y (r_for {x = x} {first = first} {step = step} {xs = xs} rf rv rh rs) =
       record { first = first; test = x; step = step; code = xs; is = refl; first_is = rf; test_is = rv; step_is = rh; code_is = rs }
 
-  loop_parts : (q : Bool) (bs : List Bound) (f : OptionalStatement) (v : Option Expression) (h : OptionalStatement) (ss : Statements) (y : St)
-      → StResolves O here new q bs (loop_tree f v h ss) y → LoopParts q bs f v h ss y
-  loop_parts q bs absent (Some e) absent ss y (r_while {x = x} {xs = xs} re rs) =
+  loop_parts : (is_while q : Bool) (scope : List ℕ) (bs : List Bound) (f : Sts) (v : Option Ex) (h : Sts) (ss : Statements) (y : St) → IsHead is_while f v h
+      → StResolves O here new q bs (loop_tree is_while (written_part P by_node H m old scope f)
+      (written_if P by_node H m old (text.scope_after_part scope f) v) (written_part P by_node H m old (text.scope_after_part scope f) h) ss) y
+      → LoopParts is_while q bs (written_part P by_node H m old scope f) (written_if P by_node H m old (text.scope_after_part scope f) v)
+      (written_part P by_node H m old (text.scope_after_part scope f) h) ss y
+  loop_parts is_while q scope bs f v h ss y of_while (r_while {x = x} {xs = xs} re rs) =
       record { first = no_st; test = Some x; step = no_st; code = xs; is = refl; first_is = r_absent; test_is = r_some re; step_is = r_absent; code_is = rs }
-  loop_parts q bs absent (Some e) (present s) ss y r = for_parts q bs absent (Some e) (present s) ss y r
-  loop_parts q bs absent None h ss y r = for_parts q bs absent None h ss y r
-  loop_parts q bs (present s) v h ss y r = for_parts q bs (present s) v h ss y r
+  loop_parts is_while q scope bs f v h ss y of_for r = for_parts q bs _ _ _ ss y r
 
   test_typed : (e : Option Ex) → TypedTest P g (bare_if e) → (x : Ex) → e ≡ Some x → IsTyped x
   test_typed None ty x q = absurd (cc)
@@ -240,12 +241,13 @@ module _ (Q : Plain) (H : Hierarchy) (U O : Plain) (T : Places) (K : KnowsNames 
       option_map_or (λ v. LocalOf false (written_type P H (by_node.row_type (variable_row m old i)) v.ty) v.name
       (written_if P by_node H m old (scope ++ i ∷ []) (bare_if e)) nowhere) o (BlockOf no_statements nowhere)
 
-  loop_scope : (bs : List Bound) (f : OptionalStatement) (v : Option Expression) (h : OptionalStatement) (ss : Statements) (y : St)
-      → names.scope_after bs (loop_tree f v h ss) y ≡ bs
-  loop_scope bs absent (Some e) absent ss y = refl
-  loop_scope bs absent (Some e) (present s) ss y = refl
-  loop_scope bs absent None h ss y = refl
-  loop_scope bs (present s) v h ss y = refl
+  loop_scope : (is_while : Bool) (bs : List Bound) (f : OptionalStatement) (v : Option Expression) (h : OptionalStatement) (ss : Statements) (y : St)
+      → names.scope_after bs (loop_tree is_while f v h ss) y ≡ bs
+  loop_scope true bs absent (Some e) absent ss y = refl
+  loop_scope true bs absent (Some e) (present s) ss y = refl
+  loop_scope true bs absent None h ss y = refl
+  loop_scope true bs (present s) v h ss y = refl
+  loop_scope false bs f v h ss y = refl
 
   abbrev sts_parts : Sts → List Part
   sts_parts xs = parts_sts P (type_in P m k) m k xs
@@ -277,16 +279,15 @@ module _ (Q : Plain) (H : Hierarchy) (U O : Plain) (T : Places) (K : KnowsNames 
         record { matches = m_print (matched_if inner scope bs s None d none_typed fo ps r); ends = ends_none IsRetyped a b c cb cd; after = s }
     st l q inner scope bs (print t n (Some e)) y a b c (t_print te pr) (f_print or fo) ps s cb cd (r_print {x = d} r) =
         record { matches = m_print (matched_if inner scope bs s (Some e) d (one_typed e te) fo ps r); ends = ends_none IsRetyped a b c cb cd; after = s }
+    st l q inner scope bs (choose t no_other) y a b c ty fo ps s cb cd r = elim fo [ ]
     st l q inner scope bs (choose t (otherwise xs)) y a b c ty fo ps s cb cd r = elim fo [ ]
     st l q inner scope bs (choose t (arm e xs rest)) y a b c (t_choose ty) (f_choose fo) ps s cb cd (r_choose {xs = ys} r) =
         let z = arms l q inner scope bs (arm e xs rest) ys a b c ty fo ps s cb cd r in record { matches = m_choose z.0; ends = z.1; after = s }
-    st l q inner scope bs (loop t head test step code) y a b c (t_loop th tt tp tb) (f_loop one two fh ft fp fb) ps s cb cd r =
+    st l q inner scope bs (loop t is_while head test step code) y a b c (t_loop th tt tp tb) (f_loop of one two fh ft fp fb) ps s cb cd r =
         let three = left (sts_parts head ++ parts_if P (type_in P m k) m k test ++ sts_parts step) (sts_parts code) ps in
         let both = left (sts_parts head ++ parts_if P (type_in P m k) m k test) (sts_parts step) three in
-        let w = loop_parts q bs (written_part P by_node H m old scope (bare_sts head))
-        (written_if P by_node H m old (text.scope_after_part scope (bare_sts head)) (bare_if test))
-        (written_part P by_node H m old (text.scope_after_part scope (bare_sts head)) (bare_sts step))
-        (written_sts P by_node H m old (text.scope_after_part scope (bare_sts head)) (bare_sts code)) y r in
+        let w = loop_parts is_while q scope bs (bare_sts head) (bare_if test) (bare_sts step)
+        (written_sts P by_node H m old (text.scope_after_part scope (bare_sts head)) (bare_sts code)) y of r in
         let o = counts_split (declares_all (bare_sts head) ++ declares_all (bare_sts step)) (declares_all (bare_sts code)) a b cb in
         let o1 = counts_split (declares_all (bare_sts head)) (declares_all (bare_sts step)) a o.0 o.1 in
         let n = counts_split (declares_all w.first ++ declares_all w.step) (declares_all w.code) a c (subst (λ z. Counts a (declares z) c) w.is cd) in
@@ -301,9 +302,9 @@ module _ (Q : Plain) (H : Hierarchy) (U O : Plain) (T : Places) (K : KnowsNames 
         (goes_on IsRetyped o.0 n.0 c (declares_all w.code) p.ends.same n.2) w.code_is in
         let v = matched_if _ _ _ h.after test w.test (test_typed test tt) ft (right (sts_parts head) (parts_if P (type_in P m k) m k test) both) w.test_is in
         record {
-          matches = subst (λ z. MatchesSt P U R g (bare_st (loop t head test step code)) (bare_st z)) (sym w.is) (m_loop h.matches v p.matches d.0);
+          matches = subst (λ z. MatchesSt P U R g (bare_st (loop t is_while head test step code)) (bare_st z)) (sym w.is) (m_loop h.matches v p.matches d.0);
           ends = ends_join IsRetyped a o.0 n.0 b c (ends_join IsRetyped a o1.0 n1.0 o.0 n.0 h.ends p.ends) d.1;
-          after = subst (λ z. Scoped old inner scope z) (sym (loop_scope bs _ _ _ _ y)) s;
+          after = subst (λ z. Scoped old inner scope z) (sym (loop_scope is_while bs _ _ _ _ y)) s;
         }
     st l q inner scope bs (return t None) y a b c ty (f_return fo) ps s cb cd (r_return {x = d} r) =
         record { matches = m_return (matched_if inner scope bs s None d none_typed fo ps r); ends = ends_none IsRetyped a b c cb cd; after = s }
@@ -355,9 +356,9 @@ module _ (Q : Plain) (H : Hierarchy) (U O : Plain) (T : Places) (K : KnowsNames 
         → Counts a (declares_arms (bare_arms xs)) b → Counts a (declares_arms ys) c
         → ArmsResolve O here new q bs (written_arms P by_node H m old scope (bare_arms xs)) (written_else P by_node H m old scope (bare_arms xs)) ys
         → MatchesArms P U R g (bare_arms xs) (bare_arms ys) × Ended a b c
-    arms l q inner scope bs (otherwise no_st) zs a b c ty fo ps s cb cd r_no_else = (m_otherwise m_no_st, ends_none IsRetyped a b c cb cd)
-    arms l q inner scope bs (otherwise (st_then x xs)) zs a b c (t_otherwise ty) (f_otherwise fo) ps s cb cd (r_else {xs = ys} r) =
-        let z = sts l q inner scope bs (st_then x xs) ys a b c ty fo ps s cb cd r in (m_otherwise z.0, z.1)
+    arms l q inner scope bs no_other zs a b c ty fo ps s cb cd r_no_else = (m_no_other, ends_none IsRetyped a b c cb cd)
+    arms l q inner scope bs (otherwise xs) zs a b c (t_otherwise ty) (f_otherwise fo) ps s cb cd (r_else {xs = ys} r) =
+        let z = sts l q inner scope bs xs ys a b c ty fo ps s cb cd r in (m_otherwise z.0, z.1)
     arms l q inner scope bs (arm e xs rest) zs a b c (t_arm te is txs tm) (f_arm fe fxs fm) ps s cb cd (r_arm {x = d} {xs = ys} {more = others} re rs rm) =
         let both = left (tree false e ++ sts_parts xs) (arms_parts rest) ps in
         let o = counts_split (declares_all (bare_sts xs)) (declares_arms (bare_arms rest)) a b cb in

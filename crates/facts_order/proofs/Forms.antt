@@ -3,12 +3,12 @@ use Rattle.std.proofs.Common.{ℕ, ◌+◌, List, [], ◌∷◌, ◌++◌, Optio
 use Rattle.std.specs.Prelude.{Bool, true, false, Contains}
 use Rattle.std.proofs.lemmas.List.Elements.{Contains-append_cases, Contains-append_left, Contains-append_right}
 use Rattle.kaba_base.specs.declared.Place.{Place}
-use Rattle.java_core.specs.Trees.{Tag, Ex, Exs, no_ex, ex_then, number, character, text, truth, null, this, local, static_field, own_field, field, index, call, static_call, super_call, create, create_array, cast, instance_of, unary, binary, Target, to_local, to_static, to_own, to_field, to_element, no_target, St, Sts, Arms, declare, block, assign, act, print, choose, loop, return, break, continue, no_st, st_then, otherwise, arm}
+use Rattle.java_core.specs.Trees.{Tag, Ex, Exs, no_ex, ex_then, number, character, text, truth, null, this, local, static_field, own_field, field, index, call, static_call, super_call, create, create_array, cast, instance_of, unary, binary, Target, to_local, to_static, to_own, to_field, to_element, no_target, St, Sts, Arms, declare, block, assign, act, print, choose, loop, return, break, continue, no_st, st_then, no_other, otherwise, arm}
 use Rattle.java_core.specs.Programs.{Plain, PlainMethod}
 use Rattle.java_core.specs.Classes.{super_method}
 use Rattle.java_core.specs.Types.{Env, env_of}
-use Rattle.java_core.specs.Typing.{Typed, t_field, t_index, t_call, t_static_call, t_super_call, t_create, t_create_array, t_cast, t_instance_of, t_unary, t_binary, TypedArgs, t_ex_then, t_to_field, t_to_element, TypedTest, t_test, TypedSt, t_declare_as, t_block, t_assign, t_act, t_print, t_choose, t_loop, t_return, TypedSts, t_st_then, TypedArms, t_otherwise, t_arm}
-use Rattle.java_core.specs.Formed.{FormedEx, f_field, f_index, f_call, f_static_call, f_super_call, f_create, f_create_array, f_cast, f_instance_of, f_unary, f_binary, FormedExs, f_ex_then, f_to_field, f_to_element, FormedOption, f_some, FormedSt, f_declare, f_block, f_assign, f_act, f_print, f_choose, f_loop, f_return, FormedSts, f_st_then, FormedArms, f_otherwise, f_arm}
+use Rattle.java_core.specs.Typing.{Typed, t_field, t_index, t_call, t_static_call, t_super_call, t_create, t_create_array, t_cast, t_instance_of, t_unary, t_binary, TypedArgs, t_ex_then, t_to_field, t_to_element, TypedTest, t_test, TypedSt, t_declare_as, t_block, t_assign, t_act, t_print, t_choose, t_loop, t_return, TypedSts, t_st_then, TypedArms, t_no_other, t_otherwise, t_arm}
+use Rattle.java_core.specs.Formed.{FormedEx, f_field, f_index, f_call, f_static_call, f_super_call, f_create, f_create_array, f_cast, f_instance_of, f_unary, f_binary, FormedExs, f_ex_then, f_to_field, f_to_element, FormedOption, f_some, FormedSt, f_declare, f_block, f_assign, f_act, f_print, f_choose, f_loop, f_return, FormedSts, f_st_then, FormedArms, f_no_other, f_otherwise, f_arm}
 use Rattle.java_meaning.specs.Watched.{bare, bare_all, bare_if, bare_target, bare_st, bare_sts, bare_arms}
 use Rattle.flow_rules.specs.declared.items.ObjectType.{ObjectType}
 use Rattle.flow_rules.specs.declared.items.Operand.{Operand}
@@ -204,8 +204,9 @@ module _ (P : Plain) (type : Ex → Option ObjectType) (m : ℕ) (k h : PlainMet
     st_from n (print t l None) a f into c = unless c
     st_from n (print t l (Some e)) (t_print a b) (f_print d (f_some f)) into c = from_ex (ex_from n false e a f into c)
     st_from n (choose t (arm e xs more)) (t_choose a) (f_choose f) into c = arms_from n (arm e xs more) a f into c
+    st_from n (choose t no_other) a f into c = elim f [ ]
     st_from n (choose t (otherwise xs)) a f into c = elim f [ ]
-    st_from n (loop t first test step body) (t_loop a b v w) (f_loop i j d f q r) into c =
+    st_from n (loop t is_while first test step body) (t_loop a b v w) (f_loop head i j d f q r) into c =
         split ((parts_sts P type m k (label_sts n first) ++ parts_if P type m k (label_if (n + size_sts first) test)) ++ parts_sts P type m k (label_sts (n + size_sts first + size_if test) step)) (parts_sts P type m k (label_sts (n + size_sts first + size_if test + size_sts step) body)) into c
         (λ way z. split (parts_sts P type m k (label_sts n first) ++ parts_if P type m k (label_if (n + size_sts first) test)) (parts_sts P type m k (label_sts (n + size_sts first + size_if test) step)) way z
         (λ way z. split (parts_sts P type m k (label_sts n first)) (parts_if P type m k (label_if (n + size_sts first) test)) way z (λ way z. sts_from n first a d way z) (λ way z. from_ex (test_from (n + size_sts first) test b f way z)))
@@ -222,6 +223,7 @@ module _ (P : Plain) (type : Ex → Option ObjectType) (m : ℕ) (k h : PlainMet
     sts_from n (st_then x xs) (t_st_then a b) (f_st_then d f) into c = split (parts_st P type m k (label_st n x)) (parts_sts P type m k (label_sts (n + size_st x) xs)) into c (λ way z. st_from n x a d way z) (λ way z. sts_from (n + size_st x) xs b f way z)
 
     arms_from : {p : Part} {in_loop : Bool} {scope : List ℕ} (n : ℕ) (xs : Arms) → TypedArms P g (bare_arms xs) → FormedArms P h in_loop scope (bare_arms xs) → Into (parts_arms P type m k (label_arms n xs)) ps → Contains (parts_arms P type m k (label_arms n xs)) p → From p
+    arms_from n no_other a f into c = unless c
     arms_from n (otherwise xs) (t_otherwise a) (f_otherwise f) into c = sts_from n xs a f into c
     arms_from n (arm e xs more) (t_arm a b v w) (f_arm d f q) into c =
         split (parts P type m k false (label n e) ++ parts_sts P type m k (label_sts (n + size e) xs)) (parts_arms P type m k (label_arms (n + size e + size_sts xs) more)) into c

@@ -2,7 +2,7 @@
 use Rattle.std.proofs.Common.{◌≡◌, ℕ, zero, suc, ◌+◌, List, [], ◌∷◌, ◌++◌, Option, Some, None, refl, sym, ◌∙◌, subst, arith}
 use Rattle.std.specs.Prelude.{◌≤◌, Bool, true, false, Contains}
 use Rattle.std.proofs.lemmas.Option.{same_Some}
-use Rattle.java_core.specs.Trees.{Tag, Ex, Exs, no_ex, ex_then, number, character, text, truth, null, this, local, static_field, own_field, field, index, call, static_call, super_call, create, create_array, cast, instance_of, unary, binary, Target, to_local, to_static, to_own, to_field, to_element, no_target, St, Sts, Arms, declare, block, assign, act, print, choose, loop, return, break, continue, no_st, st_then, otherwise, arm}
+use Rattle.java_core.specs.Trees.{Tag, Ex, Exs, no_ex, ex_then, number, character, text, truth, null, this, local, static_field, own_field, field, index, call, static_call, super_call, create, create_array, cast, instance_of, unary, binary, Target, to_local, to_static, to_own, to_field, to_element, no_target, St, Sts, Arms, declare, block, assign, act, print, choose, loop, return, break, continue, no_st, st_then, no_other, otherwise, arm}
 use Rattle.java_core.specs.Programs.{Plain, PlainMethod}
 use Rattle.flow_rules.specs.declared.items.ObjectType.{ObjectType}
 use Rattle.flow_rules.specs.declared.items.PointItem.{PointItem}
@@ -144,7 +144,7 @@ module _ (P : Plain) (type : Ex → Option ObjectType) (m : ℕ) (k : PlainMetho
     st_labels n (act t e) = ex_labels n false e
     st_labels n (print t l e) = if_labels n e
     st_labels n (choose t xs) = arms_labels n xs
-    st_labels n (loop t first test step body) =
+    st_labels n (loop t is_while first test step body) =
         upto (omega arith) (join (join (join (sts_labels n first) (if_labels (n + size_sts first) test)) (sts_labels (n + size_sts first + size_if test) step)) (sts_labels (n + size_sts first + size_if test + size_sts step) body))
     st_labels n (return t e) = return_labels n e
     st_labels n (break t) = none (omega arith)
@@ -155,6 +155,7 @@ module _ (P : Plain) (type : Ex → Option ObjectType) (m : ℕ) (k : PlainMetho
     sts_labels n (st_then x xs) = upto (omega arith) (join (st_labels n x) (sts_labels (n + size_st x) xs))
 
     arms_labels : (n : ℕ) (xs : Arms) → Labelled n (parts_arms P type m k (label_arms n xs)) (n + size_arms xs)
+    arms_labels n no_other = none (omega arith)
     arms_labels n (otherwise xs) = sts_labels n xs
     arms_labels n (arm e xs more) = upto (omega arith) (join (join (ex_labels n false e) (sts_labels (n + size e) xs)) (arms_labels (n + size e + size_sts xs) more))
 

@@ -6,7 +6,7 @@ use Rattle.std.specs.List.{flat_map}
 use Rattle.std.proofs.lemmas.Option.{same_Some}
 use Rattle.std.proofs.lemmas.Grind.{flat_map-append}
 use Rattle.std.proofs.lemmas.List.Elements.{Contains-append_left, Contains-append_right}
-use Rattle.java_core.specs.Trees.{Tag, Ex, Exs, no_ex, ex_then, number, character, text, truth, null, this, local, static_field, own_field, field, index, call, static_call, super_call, create, create_array, cast, instance_of, unary, binary, Target, to_local, to_static, to_own, to_field, to_element, no_target, St, Sts, Arms, declare, block, assign, act, print, choose, loop, return, break, continue, no_st, st_then, otherwise, arm}
+use Rattle.java_core.specs.Trees.{Tag, Ex, Exs, no_ex, ex_then, number, character, text, truth, null, this, local, static_field, own_field, field, index, call, static_call, super_call, create, create_array, cast, instance_of, unary, binary, Target, to_local, to_static, to_own, to_field, to_element, no_target, St, Sts, Arms, declare, block, assign, act, print, choose, loop, return, break, continue, no_st, st_then, no_other, otherwise, arm}
 use Rattle.java_core.specs.Programs.{Plain, PlainMethod}
 use Rattle.java_core.specs.Formed.{HasNoTwice, numbers, numbers_all, numbers_if, numbers_target, numbers_st, numbers_sts, numbers_arms, numbers_body, numbers_methods, IsFormed}
 use Rattle.java_meaning.specs.Watched.{bare, bare_all, bare_if, bare_target, bare_st, bare_sts, bare_arms}
@@ -128,7 +128,7 @@ module _ (P : Plain) (type : Ex → Option ObjectType) (m : ℕ) (k : PlainMetho
     st_numbers n (act t e) = ex_numbers n false e
     st_numbers n (print t l e) = if_numbers n e
     st_numbers n (choose t xs) = arms_numbers n xs
-    st_numbers n (loop t first test step body) =
+    st_numbers n (loop t is_while first test step body) =
         join (((parts_sts P type m k (label_sts n first)) ++ parts_if P type m k (label_if (n + size_sts first) test)) ++ parts_sts P type m k (label_sts (n + size_sts first + size_if test) step)) (parts_sts P type m k (label_sts (n + size_sts first + size_if test + size_sts step) body)) ((numbers_sts (bare_sts first) ++ numbers_if (bare_if test)) ++ numbers_sts (bare_sts step)) (numbers_sts (bare_sts body))
         (join ((parts_sts P type m k (label_sts n first)) ++ parts_if P type m k (label_if (n + size_sts first) test)) (parts_sts P type m k (label_sts (n + size_sts first + size_if test) step)) (numbers_sts (bare_sts first) ++ numbers_if (bare_if test)) (numbers_sts (bare_sts step))
         (join (parts_sts P type m k (label_sts n first)) (parts_if P type m k (label_if (n + size_sts first) test)) (numbers_sts (bare_sts first)) (numbers_if (bare_if test)) (sts_numbers n first) (if_numbers (n + size_sts first) test))
@@ -143,6 +143,7 @@ module _ (P : Plain) (type : Ex → Option ObjectType) (m : ℕ) (k : PlainMetho
     sts_numbers n (st_then x xs) = join (parts_st P type m k (label_st n x)) (parts_sts P type m k (label_sts (n + size_st x) xs)) (numbers_st (bare_st x)) (numbers_sts (bare_sts xs)) (st_numbers n x) (sts_numbers (n + size_st x) xs)
 
     arms_numbers : (n : ℕ) (xs : Arms) → numbers_in (parts_arms P type m k (label_arms n xs)) ≡ numbers_arms (bare_arms xs)
+    arms_numbers n no_other = refl
     arms_numbers n (otherwise xs) = sts_numbers n xs
     arms_numbers n (arm e xs more) =
         join (in_ex false (label n e) ++ parts_sts P type m k (label_sts (n + size e) xs)) (parts_arms P type m k (label_arms (n + size e + size_sts xs) more)) (numbers (bare e) ++ numbers_sts (bare_sts xs)) (numbers_arms (bare_arms more))

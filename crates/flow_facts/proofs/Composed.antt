@@ -35,11 +35,11 @@ module _ (P : Plain) (m : ℕ) (k : PlainMethod) where
       → new ≡ old ++ a ∷ parts_all P (object_type P k) m k false (label_all (n + 1) es)
   creation_parts a es old mid new n l e h d = then_at old mid new (a ∷ []) (λ j. parts_all P (object_type P k) m k false (label_all j es)) l (n + 1) e h d
 
-  pub loop_parts : (t : Tag) (first : Sts) (test : Option Ex) (step body : Sts) (old a b c new : List Part) (n la lb lc : ℕ)
+  pub loop_parts : (t : Tag) (is_while : Bool) (first : Sts) (test : Option Ex) (step body : Sts) (old a b c new : List Part) (n la lb lc : ℕ)
       → a ≡ old ++ parts_sts P (object_type P k) m k (label_sts n first) → la ≡ n + size_sts first → b ≡ a ++ parts_if P (object_type P k) m k (label_if la test) → lb ≡ la + size_if test
       → c ≡ b ++ parts_sts P (object_type P k) m k (label_sts lb step) → lc ≡ lb + size_sts step → new ≡ c ++ parts_sts P (object_type P k) m k (label_sts lc body)
-      → new ≡ old ++ parts_st P (object_type P k) m k (label_st n (loop t first test step body))
-  loop_parts t first test step body old a b c new n la lb lc ea ha eb hb ec hc en =
+      → new ≡ old ++ parts_st P (object_type P k) m k (label_st n (loop t is_while first test step body))
+  loop_parts t is_while first test step body old a b c new n la lb lc ea ha eb hb ec hc en =
       let kb = hb ∙ ap (λ j. j + size_if test) ha in
       let kc = hc ∙ ap (λ j. j + size_sts step) kb in
       then_at old c new _ (λ j. parts_sts P (object_type P k) m k (label_sts j body)) lc (n + size_sts first + size_if test + size_sts step)
@@ -47,9 +47,9 @@ module _ (P : Plain) (m : ℕ) (k : PlainMethod) where
       (then_at old a b (parts_sts P (object_type P k) m k (label_sts n first)) (λ j. parts_if P (object_type P k) m k (label_if j test)) la (n + size_sts first) ea ha eb) kb ec) kc en
 
   pub while_parts : (t : Tag) (test : Ex) (body : Sts) (old b new : List Part) (n lb : ℕ) → b ≡ old ++ parts P (object_type P k) m k false (label n test) → lb ≡ n + size test
-      → new ≡ b ++ parts_sts P (object_type P k) m k (label_sts lb body) → new ≡ old ++ parts_st P (object_type P k) m k (label_st n (loop t no_st (Some test) no_st body))
+      → new ≡ b ++ parts_sts P (object_type P k) m k (label_sts lb body) → new ≡ old ++ parts_st P (object_type P k) m k (label_st n (loop t true no_st (Some test) no_st body))
   while_parts t test body old b new n lb eb hb en =
-      loop_parts t no_st (Some test) no_st body old old b b new n n lb lb (sym (append-nil old)) (sym (add-zero n)) eb hb (sym (append-nil b)) (sym (add-zero lb)) en
+      loop_parts t true no_st (Some test) no_st body old old b b new n n lb lb (sym (append-nil old)) (sym (add-zero n)) eb hb (sym (append-nil b)) (sym (add-zero lb)) en
 
   pub own_store : (t : Tag) (p : Place) (f : ℕ) (e : Ex) (old mid new : List Part) (n : ℕ) (w v : Operand) → mid ≡ old ++ parts P (object_type P k) m k true (label n e)
       → v ≡ operand_of P (object_type P k) m k (label n e) → w ≡ this_operand m k → new ≡ mid ++ a_store p w (Some f) v ∷ []

@@ -1,6 +1,6 @@
 -- The plain trees of the forms that hold lists.
 use Rattle.std.proofs.Common.{◌≡◌, ℕ, List, ap, ◌∙◌}
-use Rattle.std.specs.Prelude.{Option, Some, None}
+use Rattle.std.specs.Prelude.{true, Option, Some, None}
 use Rattle.std.specs.declared.vec.Vec.{Vec}
 use Rattle.std.specs.declared.boxed.Box.{Box}
 use Rattle.std.specs.declared.alloc.Global.{Global}
@@ -32,5 +32,5 @@ creation_form e n c v p is = ap (expr_of at_place) is ∙ ap (create (at_place p
 pub block_form : (s : RStmt) (v : Vec RStmt Global) (p : Place) → s ≡ Block v p → stmt_of at_place s ≡ block (at_place p) (stmts at_place v.items)
 block_form s v p is = ap (stmt_of at_place) is ∙ ap (block (at_place p)) (stmts_vec at_place v)
 
-pub while_form : (s : RStmt) (t : RExpr) (v : Vec RStmt Global) (p : Place) → s ≡ While t v p → stmt_of at_place s ≡ loop (at_place p) no_st (Some (expr_of at_place t)) no_st (stmts at_place v.items)
-while_form s t v p is = ap (stmt_of at_place) is ∙ ap (loop (at_place p) no_st (Some (expr_of at_place t)) no_st) (stmts_vec at_place v)
+pub while_form : (s : RStmt) (t : RExpr) (v : Vec RStmt Global) (p : Place) → s ≡ While t v p → stmt_of at_place s ≡ loop (at_place p) true no_st (Some (expr_of at_place t)) no_st (stmts at_place v.items)
+while_form s t v p is = ap (stmt_of at_place) is ∙ ap (loop (at_place p) true no_st (Some (expr_of at_place t)) no_st) (stmts_vec at_place v)

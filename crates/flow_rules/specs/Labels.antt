@@ -1,6 +1,6 @@
 -- Labels: each part of a body that facts come from takes the next number, in the order of the text. A call stands before its arguments, a cast before its operand, an `instanceof` and an index after their left sides.
 use Rattle.std.specs.Prelude.{ℕ, ◌+◌, Option, Some, None}
-use Rattle.java_core.specs.Trees.{Tag, Ex, Exs, no_ex, ex_then, number, character, text, truth, null, this, local, static_field, own_field, field, index, call, static_call, super_call, create, create_array, cast, instance_of, unary, binary, Target, to_local, to_static, to_own, to_field, to_element, no_target, St, Sts, Arms, declare, block, assign, act, print, choose, loop, return, break, continue, no_st, st_then, otherwise, arm}
+use Rattle.java_core.specs.Trees.{Tag, Ex, Exs, no_ex, ex_then, number, character, text, truth, null, this, local, static_field, own_field, field, index, call, static_call, super_call, create, create_array, cast, instance_of, unary, binary, Target, to_local, to_static, to_own, to_field, to_element, no_target, St, Sts, Arms, declare, block, assign, act, print, choose, loop, return, break, continue, no_st, st_then, no_other, otherwise, arm}
 
 -- how many labels an expression takes
 abbrev mutual
@@ -98,7 +98,7 @@ abbrev mutual
   size_st (act t e) = size e
   size_st (print t n e) = size_if e
   size_st (choose t xs) = size_arms xs
-  size_st (loop t first test step body) = size_sts first + size_if test + size_sts step + size_sts body
+  size_st (loop t is_while first test step body) = size_sts first + size_if test + size_sts step + size_sts body
   size_st (return t e) = size_put e
   size_st (break t) = 0
   size_st (continue t) = 0
@@ -108,6 +108,7 @@ abbrev mutual
   size_sts (st_then x xs) = size_st x + size_sts xs
 
   pub size_arms : Arms → ℕ
+  size_arms no_other = 0
   size_arms (otherwise xs) = size_sts xs
   size_arms (arm e xs more) = size e + size_sts xs + size_arms more
 
@@ -119,8 +120,8 @@ abbrev mutual
   label_st n (act t e) = act t (label n e)
   label_st n (print t l e) = print t l (label_if n e)
   label_st n (choose t xs) = choose t (label_arms n xs)
-  label_st n (loop t first test step body) =
-      loop t (label_sts n first) (label_if (n + size_sts first) test) (label_sts (n + size_sts first + size_if test) step) (label_sts (n + size_sts first + size_if test + size_sts step) body)
+  label_st n (loop t is_while first test step body) =
+      loop t is_while (label_sts n first) (label_if (n + size_sts first) test) (label_sts (n + size_sts first + size_if test) step) (label_sts (n + size_sts first + size_if test + size_sts step) body)
   label_st n (return t e) = return t (label_if n e)
   label_st n (break t) = break t
   label_st n (continue t) = continue t
@@ -130,5 +131,6 @@ abbrev mutual
   label_sts n (st_then x xs) = st_then (label_st n x) (label_sts (n + size_st x) xs)
 
   pub label_arms : ℕ → Arms → Arms
+  label_arms n no_other = no_other
   label_arms n (otherwise xs) = otherwise (label_sts n xs)
   label_arms n (arm e xs more) = arm (label n e) (label_sts (n + size e) xs) (label_arms (n + size e + size_sts xs) more)

@@ -1,5 +1,5 @@
 -- Statements with lists, as their plain trees, and their sizes.
-use Rattle.std.proofs.Common.{◌≡◌, ℕ, zero, suc, ◌<◌, ◌≤◌, List, [], ◌∷◌, length, get_or, Option, Some, Result, Ok, sym, ap, ◌∙◌, subst, arith}
+use Rattle.std.proofs.Common.{◌≡◌, ℕ, zero, suc, ◌<◌, ◌≤◌, List, [], ◌∷◌, length, get_or, true, false, Option, Some, Result, Ok, sym, ap, ◌∙◌, subst, arith}
 use Rattle.std.specs.declared.vec.Vec.{Vec}
 use Rattle.std.specs.declared.boxed.Box.{Box}
 use Rattle.std.specs.declared.alloc.Global.{Global}
@@ -7,7 +7,7 @@ use Rattle.kaba_base.specs.declared.Place.{Place}
 use Rattle.java_core.specs.declared.RExpr.{RExpr}
 use Rattle.java_core.specs.declared.RStmt.{RStmt, Block, If, While, For}
 use Rattle.java_core.specs.declared.RArm.{RArm}
-use Rattle.java_core.specs.Trees.{Sts, no_st, block, choose, loop, at_place, expr_of, value_of, stmt_of, stmts, arms_seen, else_seen, step_seen}
+use Rattle.java_core.specs.Trees.{Arms, no_st, block, choose, loop, at_place, expr_of, value_of, stmt_of, stmts, arms_seen, else_seen, step_seen}
 use Rattle.java_core.specs.Programs.{Plain}
 use Rattle.java_core.specs.Types.{Env}
 use Rattle.java_core.proofs.Rows.{stmts_vec, if_as, for_as}
@@ -22,11 +22,11 @@ block_seen v p h = ap (stmt_of at_place) h ∙ ap (block (at_place p)) (stmts_ve
 pub if_seen : {s : RStmt} (v : Vec RArm Global) (o : Option (Vec RStmt Global)) (p : Place) → s ≡ If v o p → stmt_of at_place s ≡ choose (at_place p) (arms_seen at_place v.items (else_seen at_place o))
 if_seen v o p h = ap (stmt_of at_place) h ∙ if_as at_place v o p
 
-pub while_seen : {s : RStmt} (t : RExpr) (v : Vec RStmt Global) (p : Place) → s ≡ While t v p → stmt_of at_place s ≡ loop (at_place p) no_st (Some (expr_of at_place t)) no_st (stmts at_place v.items)
-while_seen t v p h = ap (stmt_of at_place) h ∙ ap (loop (at_place p) no_st (Some (expr_of at_place t)) no_st) (stmts_vec at_place v)
+pub while_seen : {s : RStmt} (t : RExpr) (v : Vec RStmt Global) (p : Place) → s ≡ While t v p → stmt_of at_place s ≡ loop (at_place p) true no_st (Some (expr_of at_place t)) no_st (stmts at_place v.items)
+while_seen t v p h = ap (stmt_of at_place) h ∙ ap (loop (at_place p) true no_st (Some (expr_of at_place t)) no_st) (stmts_vec at_place v)
 
 pub for_seen : {s : RStmt} (f : Option (Box RStmt Global)) (t : Option RExpr) (g : Option (Box RStmt Global)) (v : Vec RStmt Global) (p : Place) → s ≡ For f t g v p
-    → stmt_of at_place s ≡ loop (at_place p) (step_seen at_place f) (value_of at_place t) (step_seen at_place g) (stmts at_place v.items)
+    → stmt_of at_place s ≡ loop (at_place p) false (step_seen at_place f) (value_of at_place t) (step_seen at_place g) (stmts at_place v.items)
 for_seen f t g v p h = ap (stmt_of at_place) h ∙ for_as at_place f t g v p
 
 -- the body of a `while` decides where its test is typed; that of a `for` where its head is
@@ -47,14 +47,14 @@ at_smaller (x ∷ xs) (suc i) d h = omega (arith, at_smaller xs i d (omega (arit
 pub stmt_smaller : (xs : List RStmt) (i : ℕ) (d : RStmt) → i < length xs → d ≡ get_or xs i d → st_size (stmt_of at_place d) < sts_size (stmts at_place xs)
 stmt_smaller xs i d h e = subst (λ x. st_size (stmt_of at_place x) < sts_size (stmts at_place xs)) (sym e) (at_smaller xs i d h)
 
-pub else_smaller : (xs : List RArm) (other : Sts) → sts_size other ≤ arms_size (arms_seen at_place xs other)
+pub else_smaller : (xs : List RArm) (other : Arms) → arms_size other ≤ arms_size (arms_seen at_place xs other)
 else_smaller [] other = omega arith
 else_smaller (x ∷ xs) other = omega (arith, else_smaller xs other)
 
-body_smaller : (xs : List RArm) (other : Sts) (i : ℕ) (d : RArm) → i < length xs → sts_size (stmts at_place (get_or xs i d).body.items) ≤ arms_size (arms_seen at_place xs other)
+body_smaller : (xs : List RArm) (other : Arms) (i : ℕ) (d : RArm) → i < length xs → sts_size (stmts at_place (get_or xs i d).body.items) ≤ arms_size (arms_seen at_place xs other)
 body_smaller [] other i d h = absurd (omega (arith, h))
 body_smaller (x ∷ xs) other zero d h = omega arith
 body_smaller (x ∷ xs) other (suc i) d h = omega (arith, body_smaller xs other i d (omega (arith, h)))
 
-pub arm_smaller : (xs : List RArm) (other : Sts) (i : ℕ) (d : RArm) → i < length xs → d ≡ get_or xs i d → sts_size (stmts at_place d.body.items) ≤ arms_size (arms_seen at_place xs other)
+pub arm_smaller : (xs : List RArm) (other : Arms) (i : ℕ) (d : RArm) → i < length xs → d ≡ get_or xs i d → sts_size (stmts at_place d.body.items) ≤ arms_size (arms_seen at_place xs other)
 arm_smaller xs other i d h e = subst (λ (x : RArm). sts_size (stmts at_place x.body.items) ≤ arms_size (arms_seen at_place xs other)) (sym e) (body_smaller xs other i d h)

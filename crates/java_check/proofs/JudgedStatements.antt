@@ -4,10 +4,10 @@ use Rattle.std.specs.Option.{is_some, is_none}
 use Rattle.std.proofs.lemmas.Bool.{and_parts}
 use Rattle.kaba_base.specs.declared.Place.{Place}
 use Rattle.java_core.specs.declared.Ty.{Ty}
-use Rattle.java_core.specs.Trees.{Tag, Ex, Target, to_local, to_static, to_own, to_field, to_element, no_target, St, Sts, Arms, declare, block, assign, act, print, choose, loop, return, break, continue, no_st, st_then, otherwise, arm}
+use Rattle.java_core.specs.Trees.{Tag, Ex, Target, to_local, to_static, to_own, to_field, to_element, no_target, St, Sts, Arms, declare, block, assign, act, print, choose, loop, return, break, continue, no_st, st_then, no_other, otherwise, arm}
 use Rattle.java_core.specs.Programs.{Plain}
 use Rattle.java_core.specs.Types.{Env, or_nothing, element_of, is_numeric, is_boolean, is_printable, fits, fits_in, field_type, field_in, static, target_type}
-use Rattle.java_core.specs.Typing.{Typed, TypedTarget, t_to_local, t_to_static, t_to_own, t_to_field, t_to_element, TypedTest, t_always, t_test, TypedSt, TypedSts, TypedArms, t_declare, t_declare_as, t_block, t_assign, t_act, t_print_line, t_print, t_choose, t_loop, t_return_nothing, t_return, t_break, t_continue, t_no_st, t_st_then, t_otherwise, t_arm}
+use Rattle.java_core.specs.Typing.{Typed, TypedTarget, t_to_local, t_to_static, t_to_own, t_to_field, t_to_element, TypedTest, t_always, t_test, TypedSt, TypedSts, TypedArms, t_declare, t_declare_as, t_block, t_assign, t_act, t_print_line, t_print, t_choose, t_loop, t_return_nothing, t_return, t_break, t_continue, t_no_st, t_st_then, t_no_other, t_otherwise, t_arm}
 use Rattle.java_core.specs.declared.statics.Static as declared
 use Rattle.java_check.specs.declared.Kind.{Kind}
 use Rattle.java_check.specs.declared.Kind.TheVariants.{Operand, Condition, Assign, Return}
@@ -102,9 +102,9 @@ module _ (P : Plain) (g : Env) where
   none-some None h = cc h
   none-some (Some u) h = refl
 
-  test_judged : (t : Tag) (first step body : Sts) (test : Option Ex) → Right (TypedTest P g test) (FailsSt P g (loop t first test step body)) (test_answer P g test)
-  test_judged t first step body None = holds t_always
-  test_judged t first step body (Some e) = condition_right (FailsSt P g (loop t first (Some e) step body)) e (λ k p f. in_ex loop_test f) (λ te h. t_test te h) (λ te h. itself_st (bad_loop_test te h))
+  test_judged : (t : Tag) (is_while : Bool) (first step body : Sts) (test : Option Ex) → Right (TypedTest P g test) (FailsSt P g (loop t is_while first test step body)) (test_answer P g test)
+  test_judged t is_while first step body None = holds t_always
+  test_judged t is_while first step body (Some e) = condition_right (FailsSt P g (loop t is_while first (Some e) step body)) e (λ k p f. in_ex loop_test f) (λ te h. t_test te h) (λ te h. itself_st (bad_loop_test te h))
 
   mutual
     pub judged_st : (x : St) → Right (TypedSt P g x) (FailsSt P g x) (st_answer P g x)
@@ -119,9 +119,9 @@ module _ (P : Plain) (g : Env) where
     judged_st (print t n (Some e)) = given_right e (answer P g e) _ (judged P g e) (λ k p f. in_ex printed f)
         (λ s te se. asked_right (FailsSt P g (print t n (Some e))) (is_printable (seen s)) Operand t (λ h. t_print te (ap is_printable se ∙ h)) (λ h. itself_st (bad_print te (ap is_printable se ∙ h))))
     judged_st (choose t xs) = mapped (judged_arms xs) (λ k p f. in_choose f) (λ h. t_choose h)
-    judged_st (loop t first test step body) =
+    judged_st (loop t is_while first test step body) =
         then_right _ (judged_sts first) (λ k p f. in_first f)
-        (λ hf. then_right _ (test_judged t first step body test) (λ k p f. f)
+        (λ hf. then_right _ (test_judged t is_while first step body test) (λ k p f. f)
         (λ ht. then_right _ (judged_sts step) (λ k p f. in_step f)
         (λ hs. mapped (judged_sts body) (λ k p f. in_body f) (λ hb. t_loop hf ht hs hb))))
     judged_st (return t None) = asked_right (FailsSt P g (return t None)) (is_none g.result) Return t (λ h. t_return_nothing (none-is g.result h)) (λ h. itself_st (value_wanted (none-some g.result h)))
@@ -134,6 +134,7 @@ module _ (P : Plain) (g : Env) where
     judged_sts (st_then x xs) = then_right _ (judged_st x) (λ k p f. here f) (λ h. mapped (judged_sts xs) (λ k p f. later f) (λ k. t_st_then h k))
 
     pub judged_arms : (xs : Arms) → Right (TypedArms P g xs) (FailsArms P g xs) (arms_answer P g xs)
+    judged_arms no_other = holds t_no_other
     judged_arms (otherwise xs) = mapped (judged_sts xs) (λ k p f. in_else f) (λ h. t_otherwise h)
     judged_arms (arm e xs more) =
         then_right _

@@ -105,7 +105,7 @@ module _ (P : Plain) (g : Env) where
     no_variable : {t : Tag} {e : Ex} → BreaksSt (assign t no_target e) Assign t.place
     bad_assign : {t : Tag} {b : Target} {e : Ex} → TypedTarget P g b → Typed P g e → fits_in P (static P g e) (target_type P g b) ≡ false → BreaksSt (assign t b e) Assign t.place
     bad_print : {t : Tag} {n : Bool} {e : Ex} → Typed P g e → is_printable (static P g e) ≡ false → BreaksSt (print t n (Some e)) Operand t.place
-    bad_loop_test : {t : Tag} {first step body : Sts} {e : Ex} → Typed P g e → is_boolean (static P g e) ≡ false → BreaksSt (loop t first (Some e) step body) Condition (tag_of e).place
+    bad_loop_test : {t : Tag} {is_while : Bool} {first step body : Sts} {e : Ex} → Typed P g e → is_boolean (static P g e) ≡ false → BreaksSt (loop t is_while first (Some e) step body) Condition (tag_of e).place
     value_wanted : {t : Tag} → is_some g.result ≡ true → BreaksSt (return t None) Return t.place
     no_value_wanted : {t : Tag} {e : Ex} → g.result ≡ None → BreaksSt (return t (Some e)) Return t.place
     bad_return : {t : Tag} {e : Ex} {u : Ty} → g.result ≡ Some u → Typed P g e → fits P (static P g e) u ≡ false → BreaksSt (return t (Some e)) Return t.place
@@ -119,7 +119,7 @@ module _ (P : Plain) (g : Env) where
     assigned : {t : Tag} {b : Target} {e : Ex} → HasEx (assign t b e) e
     acted : {t : Tag} {e : Ex} → HasEx (act t e) e
     printed : {t : Tag} {n : Bool} {e : Ex} → HasEx (print t n (Some e)) e
-    loop_test : {t : Tag} {first step body : Sts} {e : Ex} → HasEx (loop t first (Some e) step body) e
+    loop_test : {t : Tag} {is_while : Bool} {first step body : Sts} {e : Ex} → HasEx (loop t is_while first (Some e) step body) e
     returned : {t : Tag} {e : Ex} → HasEx (return t (Some e)) e
 
   -- a rule fails in a statement, a list of statements or the arms of an `if`
@@ -129,9 +129,9 @@ module _ (P : Plain) (g : Env) where
       in_ex : {x : St} {e : Ex} {k : Kind} {p : Place} → HasEx x e → Fails e k p → FailsSt x k p
       in_block : {t : Tag} {xs : Sts} {k : Kind} {p : Place} → FailsSts xs k p → FailsSt (block t xs) k p
       in_choose : {t : Tag} {xs : Arms} {k : Kind} {p : Place} → FailsArms xs k p → FailsSt (choose t xs) k p
-      in_first : {t : Tag} {first step body : Sts} {test : Option Ex} {k : Kind} {p : Place} → FailsSts first k p → FailsSt (loop t first test step body) k p
-      in_step : {t : Tag} {first step body : Sts} {test : Option Ex} {k : Kind} {p : Place} → FailsSts step k p → FailsSt (loop t first test step body) k p
-      in_body : {t : Tag} {first step body : Sts} {test : Option Ex} {k : Kind} {p : Place} → FailsSts body k p → FailsSt (loop t first test step body) k p
+      in_first : {t : Tag} {is_while : Bool} {first step body : Sts} {test : Option Ex} {k : Kind} {p : Place} → FailsSts first k p → FailsSt (loop t is_while first test step body) k p
+      in_step : {t : Tag} {is_while : Bool} {first step body : Sts} {test : Option Ex} {k : Kind} {p : Place} → FailsSts step k p → FailsSt (loop t is_while first test step body) k p
+      in_body : {t : Tag} {is_while : Bool} {first step body : Sts} {test : Option Ex} {k : Kind} {p : Place} → FailsSts body k p → FailsSt (loop t is_while first test step body) k p
 
     pub data FailsSts : Sts → Kind → Place → Type 0 where
       here : {x : St} {xs : Sts} {k : Kind} {p : Place} → FailsSt x k p → FailsSts (st_then x xs) k p

@@ -2,7 +2,7 @@
 use Rattle.std.specs.Prelude.{ℕ, ◌&&◌, Option, Some, None, Result, Ok, slice_get}
 use Rattle.std.specs.Option.{is_some, is_none}
 use Rattle.java_core.specs.declared.Ty.{Ty}
-use Rattle.java_core.specs.Trees.{Tag, Ex, Target, to_local, to_static, to_own, to_field, to_element, no_target, St, Sts, Arms, declare, block, assign, act, print, choose, loop, return, break, continue, no_st, st_then, otherwise, arm}
+use Rattle.java_core.specs.Trees.{Tag, Ex, Target, to_local, to_static, to_own, to_field, to_element, no_target, St, Sts, Arms, declare, block, assign, act, print, choose, loop, return, break, continue, no_st, st_then, no_other, otherwise, arm}
 use Rattle.java_core.specs.Programs.{Plain}
 use Rattle.java_core.specs.Types.{Static, Env, or_nothing, element_of, is_numeric, is_boolean, is_printable, fits, fits_in, field_type, field_in}
 use Rattle.java_core.specs.declared.statics.Static as declared
@@ -50,7 +50,7 @@ module _ (P : Plain) (g : Env) where
     st_answer (print t n None) = Ok (tt {0})
     st_answer (print t n (Some e)) = and_then (answer P g e) (λ s. asked (is_printable (seen s)) Operand t (tt {0}))
     st_answer (choose t xs) = arms_answer xs
-    st_answer (loop t first test step body) = and_then (sts_answer first) (λ _. and_then (test_answer test) (λ _. and_then (sts_answer step) (λ _. sts_answer body)))
+    st_answer (loop t is_while first test step body) = and_then (sts_answer first) (λ _. and_then (test_answer test) (λ _. and_then (sts_answer step) (λ _. sts_answer body)))
     st_answer (return t None) = asked (is_none g.result) Return t (tt {0})
     st_answer (return t (Some e)) = and_then (answer P g e) (λ s. return_answer g.result s t)
     st_answer (break t) = Ok (tt {0})
@@ -61,5 +61,6 @@ module _ (P : Plain) (g : Env) where
     sts_answer (st_then x xs) = and_then (st_answer x) (λ _. sts_answer xs)
 
     pub arms_answer : Arms → Result (Unit {0}) CheckFault
+    arms_answer no_other = Ok tt
     arms_answer (otherwise xs) = sts_answer xs
     arms_answer (arm e xs more) = and_then (condition_answer e) (λ _. and_then (sts_answer xs) (λ _. arms_answer more))

@@ -1,6 +1,6 @@
 -- What a row of trees is, read as the items of its vector; and each form of a tree that holds a row, as its plain tree.
 use Rattle.std.proofs.Common.{◌≡◌, ℕ, List, refl, sym, ap, ◌∙◌}
-use Rattle.std.specs.Prelude.{Option, Some, None}
+use Rattle.std.specs.Prelude.{Option, Some, None, false}
 use Rattle.std.specs.declared.vec.Vec.{Vec}
 use Rattle.std.specs.declared.boxed.Box.{Box}
 use Rattle.std.specs.declared.alloc.Global.{Global}
@@ -10,7 +10,7 @@ use Rattle.java_core.specs.declared.RStmt.{RStmt, If, For}
 use Rattle.java_core.specs.declared.RArm.{RArm}
 use Rattle.java_core.specs.declared.RExpr.TheBlock.{Row_of-RExpr, end_of-RExpr, more_of-RExpr, items-the_row-RExpr, hidden-the_row-RExpr-0, items_hidden-the_row-RExpr-0}
 use Rattle.java_core.specs.declared.RStmt.TheBlock.{Row_of-RStmt, end_of-RStmt, more_of-RStmt, items-the_row-RStmt, hidden-the_row-RStmt-0, items_hidden-the_row-RStmt-0, shown-the_row-RStmt-0, items_shown-the_row-RStmt-0, Row_of-RArm, end_of-RArm, more_of-RArm, items-the_row-RArm, hidden-the_row-RArm-1, items_hidden-the_row-RArm-1}
-use Rattle.java_core.specs.Trees.{Tag, ex_then, this, call, Sts, no_st, st_then, arm, choose, loop, expr_of, exprs_of, exprs, value_of, stmt_of, stmts_of, stmts, arms_of, arms_seen, else_seen, step_seen, base_seen}
+use Rattle.java_core.specs.Trees.{Tag, ex_then, this, call, Sts, no_st, st_then, Arms, no_other, otherwise, arm, choose, loop, expr_of, exprs_of, exprs, value_of, stmt_of, stmts_of, stmts, arms_of, arms_seen, else_seen, step_seen, base_seen}
 
 module _ (tag : Place → Tag) where
   pub exprs-items : {n : _} (k : Row_of-RExpr n) → exprs_of tag k ≡ exprs tag (items-the_row-RExpr _ k)
@@ -30,12 +30,12 @@ module _ (tag : Place → Tag) where
   stmts_shown : (s : _) (k : _) → stmts_of tag k ≡ stmts tag (shown-the_row-RStmt-0 s k).items
   stmts_shown s k = stmts-items k ∙ sym (ap (stmts tag) (items_shown-the_row-RStmt-0 s k))
 
-  pub arms-items : {n : _} (k : Row_of-RArm n) (other : Sts) → arms_of tag k other ≡ arms_seen tag (items-the_row-RArm _ k) other
+  pub arms-items : {n : _} (k : Row_of-RArm n) (other : Arms) → arms_of tag k other ≡ arms_seen tag (items-the_row-RArm _ k) other
   arms-items end_of-RArm other = refl
   arms-items (more_of-RArm t s body rest) other =
       ap (λ b. arm (expr_of tag t) b (arms_of tag rest other)) (stmts_shown s body) ∙ ap (arm (expr_of tag t) (stmts tag (shown-the_row-RStmt-0 s body).items)) (arms-items rest other)
 
-  pub arms_vec : (v : Vec RArm Global) (other : Sts) → arms_of tag (hidden-the_row-RArm-1 v) other ≡ arms_seen tag v.items other
+  pub arms_vec : (v : Vec RArm Global) (other : Arms) → arms_of tag (hidden-the_row-RArm-1 v) other ≡ arms_seen tag v.items other
   arms_vec v other = arms-items (hidden-the_row-RArm-1 v) other ∙ ap (λ xs. arms_seen tag xs other) (items_hidden-the_row-RArm-1 v)
 
   pub call_as : (b : Option (Box RExpr Global)) (x : List ℕ) (v : Vec RExpr Global) (p : Place) → expr_of tag (Call b x v p) ≡ call (tag p) (base_seen tag b p) x (exprs tag v.items)
@@ -43,11 +43,11 @@ module _ (tag : Place → Tag) where
   call_as (Some b) x v p = ap (call (tag p) (expr_of tag b.value) x) (exprs_vec v)
 
   pub if_as : (v : Vec RArm Global) (o : Option (Vec RStmt Global)) (p : Place) → stmt_of tag (If v o p) ≡ choose (tag p) (arms_seen tag v.items (else_seen tag o))
-  if_as v None p = ap (choose (tag p)) (arms_vec v no_st)
-  if_as v (Some w) p = ap (λ s. choose (tag p) (arms_of tag (hidden-the_row-RArm-1 v) s)) (stmts_vec w) ∙ ap (choose (tag p)) (arms_vec v (stmts tag w.items))
+  if_as v None p = ap (choose (tag p)) (arms_vec v no_other)
+  if_as v (Some w) p = ap (λ s. choose (tag p) (arms_of tag (hidden-the_row-RArm-1 v) (otherwise s))) (stmts_vec w) ∙ ap (choose (tag p)) (arms_vec v (otherwise (stmts tag w.items)))
 
-  pub for_as : (f : Option (Box RStmt Global)) (t : Option RExpr) (g : Option (Box RStmt Global)) (v : Vec RStmt Global) (p : Place) → stmt_of tag (For f t g v p) ≡ loop (tag p) (step_seen tag f) (value_of tag t) (step_seen tag g) (stmts tag v.items)
-  for_as None t None v p = ap (loop (tag p) no_st (value_of tag t) no_st) (stmts_vec v)
-  for_as None t (Some g) v p = ap (loop (tag p) no_st (value_of tag t) (step_seen tag (Some g))) (stmts_vec v)
-  for_as (Some f) t None v p = ap (loop (tag p) (step_seen tag (Some f)) (value_of tag t) no_st) (stmts_vec v)
-  for_as (Some f) t (Some g) v p = ap (loop (tag p) (step_seen tag (Some f)) (value_of tag t) (step_seen tag (Some g))) (stmts_vec v)
+  pub for_as : (f : Option (Box RStmt Global)) (t : Option RExpr) (g : Option (Box RStmt Global)) (v : Vec RStmt Global) (p : Place) → stmt_of tag (For f t g v p) ≡ loop (tag p) false (step_seen tag f) (value_of tag t) (step_seen tag g) (stmts tag v.items)
+  for_as None t None v p = ap (loop (tag p) false no_st (value_of tag t) no_st) (stmts_vec v)
+  for_as None t (Some g) v p = ap (loop (tag p) false no_st (value_of tag t) (step_seen tag (Some g))) (stmts_vec v)
+  for_as (Some f) t None v p = ap (loop (tag p) false (step_seen tag (Some f)) (value_of tag t) no_st) (stmts_vec v)
+  for_as (Some f) t (Some g) v p = ap (loop (tag p) false (step_seen tag (Some f)) (value_of tag t) (step_seen tag (Some g))) (stmts_vec v)

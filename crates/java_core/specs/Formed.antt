@@ -8,7 +8,7 @@ use Rattle.java_core.specs.declared.TyBase.{TyBase}
 use Rattle.java_core.specs.declared.TyBase.TheVariants.{Int, Char, Str, Class}
 use Rattle.java_core.specs.declared.UnOp.{UnOp}
 use Rattle.java_core.specs.declared.BinOp.{BinOp}
-use Rattle.java_core.specs.Trees.{Tag, Ex, Exs, no_ex, ex_then, number, character, text, truth, null, this, local, static_field, own_field, field, index, call, static_call, super_call, create, create_array, cast, instance_of, unary, binary, Target, to_local, to_static, to_own, to_field, to_element, no_target, St, Sts, Arms, declare, block, assign, act, print, choose, loop, return, break, continue, no_st, st_then, otherwise, arm}
+use Rattle.java_core.specs.Trees.{Tag, Ex, Exs, no_ex, ex_then, number, character, text, truth, null, this, local, static_field, own_field, field, index, call, static_call, super_call, create, create_array, cast, instance_of, unary, binary, Target, to_local, to_static, to_own, to_field, to_element, no_target, St, Sts, Arms, declare, block, assign, act, print, choose, loop, return, break, continue, no_st, st_then, no_other, otherwise, arm}
 use Rattle.java_core.specs.Programs.{Plain, PlainClass, PlainField, PlainMethod, PlainLocal, PlainSlot}
 use Rattle.java_core.specs.Classes.{IsSubclass, IsProperSubclass, field_of}
 use Rattle.java_core.specs.Types.{types_of}
@@ -91,6 +91,11 @@ is_at_most_one p no_st = true
 is_at_most_one p (st_then x no_st) = p x
 is_at_most_one p (st_then x (st_then y ys)) = false
 
+-- what a loop may have before its body: a `while` has a test and neither first nor last part, a `for` may have each of them
+pub data IsHead : Bool → Sts → Option Ex → Sts → Type 0 where
+  of_while : {e : Ex} → IsHead true no_st (Some e) no_st
+  of_for : {first step : Sts} {test : Option Ex} → IsHead false first test step
+
 -- what is a statement by itself: a call or a creation
 abbrev pub is_call : Ex → Bool
 is_call (call t e x es) = true
@@ -147,9 +152,10 @@ module _ (P : Plain) (k : PlainMethod) where
       f_act : {in_loop : Bool} {scope : List ℕ} {t : Tag} {e : Ex} → is_call e ≡ true → FormedEx scope e → FormedSt in_loop scope (act t e)
       f_print : {in_loop : Bool} {scope : List ℕ} {t : Tag} {n : Bool} {e : Option Ex} → n || is_some e ≡ true → FormedOption scope e → FormedSt in_loop scope (print t n e)
       f_choose : {in_loop : Bool} {scope : List ℕ} {t : Tag} {e : Ex} {xs : Sts} {more : Arms} → FormedArms in_loop scope (arm e xs more) → FormedSt in_loop scope (choose t (arm e xs more))
-      f_loop : {in_loop : Bool} {scope : List ℕ} {t : Tag} {first step body : Sts} {test : Option Ex} → is_at_most_one is_first first ≡ true → is_at_most_one is_act step ≡ true
+      f_loop : {in_loop is_while : Bool} {scope : List ℕ} {t : Tag} {first step body : Sts} {test : Option Ex} → IsHead is_while first test step
+          → is_at_most_one is_first first ≡ true → is_at_most_one is_act step ≡ true
           → FormedSts in_loop scope first → FormedOption (scope_after_all scope first) test → FormedSts in_loop (scope_after_all scope first) step
-          → FormedSts true (scope_after_all scope first) body → FormedSt in_loop scope (loop t first test step body)
+          → FormedSts true (scope_after_all scope first) body → FormedSt in_loop scope (loop t is_while first test step body)
       f_return : {in_loop : Bool} {scope : List ℕ} {t : Tag} {e : Option Ex} → FormedOption scope e → FormedSt in_loop scope (return t e)
       f_break : {in_loop : Bool} {scope : List ℕ} {t : Tag} → in_loop ≡ true → FormedSt in_loop scope (break t)
       f_continue : {in_loop : Bool} {scope : List ℕ} {t : Tag} → in_loop ≡ true → FormedSt in_loop scope (continue t)
@@ -159,6 +165,7 @@ module _ (P : Plain) (k : PlainMethod) where
       f_st_then : {in_loop : Bool} {scope : List ℕ} {x : St} {xs : Sts} → FormedSt in_loop scope x → FormedSts in_loop (scope_after scope x) xs → FormedSts in_loop scope (st_then x xs)
 
     pub data FormedArms : Bool → List ℕ → Arms → Type 0 where
+      f_no_other : {in_loop : Bool} {scope : List ℕ} → FormedArms in_loop scope no_other
       f_otherwise : {in_loop : Bool} {scope : List ℕ} {xs : Sts} → FormedSts in_loop scope xs → FormedArms in_loop scope (otherwise xs)
       f_arm : {in_loop : Bool} {scope : List ℕ} {e : Ex} {xs : Sts} {more : Arms} → FormedEx scope e → FormedSts in_loop scope xs → FormedArms in_loop scope more → FormedArms in_loop scope (arm e xs more)
 
@@ -210,7 +217,7 @@ abbrev mutual
   numbers_st (act t e) = numbers e
   numbers_st (print t n e) = numbers_if e
   numbers_st (choose t xs) = numbers_arms xs
-  numbers_st (loop t first test step body) = numbers_sts first ++ numbers_if test ++ numbers_sts step ++ numbers_sts body
+  numbers_st (loop t w first test step body) = numbers_sts first ++ numbers_if test ++ numbers_sts step ++ numbers_sts body
   numbers_st (return t e) = numbers_if e
   numbers_st (break t) = []
   numbers_st (continue t) = []
@@ -220,6 +227,7 @@ abbrev mutual
   numbers_sts (st_then x xs) = numbers_st x ++ numbers_sts xs
 
   pub numbers_arms : Arms → List ℕ
+  numbers_arms no_other = []
   numbers_arms (otherwise xs) = numbers_sts xs
   numbers_arms (arm e xs more) = numbers e ++ numbers_sts xs ++ numbers_arms more
 

@@ -1,5 +1,5 @@
 -- Resolved trees as plain data: no boxes, no addresses, no capacities; and which plain tree each tree of a program is.
-use Rattle.std.specs.Prelude.{ℕ, ℤ, List, [], ◌∷◌, Option, Some, None, Bool}
+use Rattle.std.specs.Prelude.{ℕ, ℤ, List, [], ◌∷◌, Option, Some, None, Bool, true, false}
 use Rattle.kaba_base.specs.declared.Place.{Place}
 use Rattle.java_core.specs.declared.Ty.{Ty}
 use Rattle.java_core.specs.declared.UnOp.{UnOp}
@@ -58,7 +58,7 @@ pub data Target : Type 0 where
   -- what no text gives
   no_target : Target
 
--- a statement. A `while` is a `for` without first and last part; the first and the last part of a `for` are lists of at most one statement
+-- a statement. A `while` and a `for` are a loop, which says whether it is a `while`; its first and its last part are lists of at most one statement
 mutual
   pub data St : Type 0 where
     declare : Tag → ℕ → Option Ex → St
@@ -67,7 +67,7 @@ mutual
     act : Tag → Ex → St
     print : Tag → Bool → Option Ex → St
     choose : Tag → Arms → St
-    loop : Tag → Sts → Option Ex → Sts → Sts → St
+    loop : Tag → Bool → Sts → Option Ex → Sts → Sts → St
     return : Tag → Option Ex → St
     break : Tag → St
     continue : Tag → St
@@ -76,8 +76,9 @@ mutual
     no_st : Sts
     st_then : St → Sts → Sts
 
-  -- the arms of an `if`, the last of them its `else`; one that is not there is empty
+  -- the arms of an `if`, and behind them its `else`, which may have no statement, or none
   pub data Arms : Type 0 where
+    no_other : Arms
     otherwise : Sts → Arms
     arm : Ex → Sts → Arms → Arms
 
@@ -142,15 +143,15 @@ module _ (tag : Place → Tag) where
     stmt_of (st.Do c p) = act (tag p) (expr_of c)
     stmt_of (st.Print l v p) = print (tag p) l (value_of v)
     stmt_of (st.If' s arms other p) = choose (tag p) (arms_of arms (else_of other))
-    stmt_of (st.While' t s body p) = loop (tag p) no_st (Some (expr_of t)) no_st (stmts_of body)
-    stmt_of (st.For' f t g s body p) = loop (tag p) (step_of f) (value_of t) (step_of g) (stmts_of body)
+    stmt_of (st.While' t s body p) = loop (tag p) true no_st (Some (expr_of t)) no_st (stmts_of body)
+    stmt_of (st.For' f t g s body p) = loop (tag p) false (step_of f) (value_of t) (step_of g) (stmts_of body)
     stmt_of (st.Return v p) = return (tag p) (value_of v)
     stmt_of (st.Break p) = break (tag p)
     stmt_of (st.Continue p) = continue (tag p)
 
-    pub else_of : st.Held-RStmt-If-1 → Sts
-    else_of st.RStmt-If-1-None' = no_st
-    else_of (st.RStmt-If-1-Some' s body) = stmts_of body
+    pub else_of : st.Held-RStmt-If-1 → Arms
+    else_of st.RStmt-If-1-None' = no_other
+    else_of (st.RStmt-If-1-Some' s body) = otherwise (stmts_of body)
 
     pub step_of : st.Held-RStmt-For-0 → Sts
     step_of st.RStmt-For-0-None' = no_st
@@ -160,8 +161,8 @@ module _ (tag : Place → Tag) where
     stmts_of st.end_of-RStmt = no_st
     stmts_of (st.more_of-RStmt s rest) = st_then (stmt_of s) (stmts_of rest)
 
-    pub arms_of : {n : _} → st.Row_of-RArm n → Sts → Arms
-    arms_of st.end_of-RArm other = otherwise other
+    pub arms_of : {n : _} → st.Row_of-RArm n → Arms → Arms
+    arms_of st.end_of-RArm other = other
     arms_of (st.more_of-RArm t s body rest) other = arm (expr_of t) (stmts_of body) (arms_of rest other)
 
   -- lists of trees
@@ -173,13 +174,14 @@ module _ (tag : Place → Tag) where
   stmts [] = no_st
   stmts (s ∷ ss) = st_then (stmt_of s) (stmts ss)
 
-  abbrev pub arms_seen : List RArm → Sts → Arms
-  arms_seen [] other = otherwise other
+  abbrev pub arms_seen : List RArm → Arms → Arms
+  arms_seen [] other = other
   arms_seen (a ∷ more) other = arm (expr_of a.test) (stmts a.body.items) (arms_seen more other)
 
-  abbrev pub else_seen : Option (Vec RStmt Global) → Sts
-  else_seen None = no_st
-  else_seen (Some v) = stmts v.items
+  -- the `else` of an `if`
+  abbrev pub else_seen : Option (Vec RStmt Global) → Arms
+  else_seen None = no_other
+  else_seen (Some v) = otherwise (stmts v.items)
 
   abbrev pub step_seen : Option (Box RStmt Global) → Sts
   step_seen None = no_st

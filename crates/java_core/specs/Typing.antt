@@ -6,7 +6,7 @@ use Rattle.java_core.specs.declared.UnOp.{UnOp}
 use Rattle.java_core.specs.declared.UnOp.TheVariants as un
 use Rattle.java_core.specs.declared.BinOp.{BinOp}
 use Rattle.java_core.specs.declared.BinOp.TheVariants as bin
-use Rattle.java_core.specs.Trees.{Tag, Ex, Exs, no_ex, ex_then, number, character, text, truth, null, this, local, static_field, own_field, field, index, call, static_call, super_call, create, create_array, cast, instance_of, unary, binary, Target, to_local, to_static, to_own, to_field, to_element, St, Sts, Arms, declare, block, assign, act, print, choose, loop, return, break, continue, no_st, st_then, otherwise, arm}
+use Rattle.java_core.specs.Trees.{Tag, Ex, Exs, no_ex, ex_then, number, character, text, truth, null, this, local, static_field, own_field, field, index, call, static_call, super_call, create, create_array, cast, instance_of, unary, binary, Target, to_local, to_static, to_own, to_field, to_element, St, Sts, Arms, declare, block, assign, act, print, choose, loop, return, break, continue, no_st, st_then, no_other, otherwise, arm}
 use Rattle.java_core.specs.Programs.{Plain, PlainClass, PlainMethod}
 use Rattle.java_core.specs.Classes.{below, is_interface, is_concrete, super_method, has_body, nearest_declaration}
 use Rattle.java_core.specs.Types.{Static, a_value, Env, env_of, class_in, class_of, element_of, is_numeric, is_boolean, is_string, is_printable, fits, fits_in, are_comparable, Signature, call_signature, super_signature, signature_of_method, access_type, field_in, is_plus, static, target_type}
@@ -92,7 +92,7 @@ module _ (P : Plain) (g : Env) where
       t_print_line : {t : Tag} {n : Bool} → TypedSt (print t n None)
       t_print : {t : Tag} {n : Bool} {e : Ex} → Typed e → is_printable (static P g e) ≡ true → TypedSt (print t n (Some e))
       t_choose : {t : Tag} {xs : Arms} → TypedArms xs → TypedSt (choose t xs)
-      t_loop : {t : Tag} {first step body : Sts} {test : Option Ex} → TypedSts first → TypedTest test → TypedSts step → TypedSts body → TypedSt (loop t first test step body)
+      t_loop : {t : Tag} {is_while : Bool} {first step body : Sts} {test : Option Ex} → TypedSts first → TypedTest test → TypedSts step → TypedSts body → TypedSt (loop t is_while first test step body)
       t_return_nothing : {t : Tag} → g.result ≡ None → TypedSt (return t None)
       t_return : {t : Tag} {e : Ex} {u : Ty} → Typed e → g.result ≡ Some u → fits P (static P g e) u ≡ true → TypedSt (return t (Some e))
       t_break : {t : Tag} → TypedSt (break t)
@@ -103,6 +103,7 @@ module _ (P : Plain) (g : Env) where
       t_st_then : {x : St} {xs : Sts} → TypedSt x → TypedSts xs → TypedSts (st_then x xs)
 
     pub data TypedArms : Arms → Type 0 where
+      t_no_other : TypedArms no_other
       t_otherwise : {xs : Sts} → TypedSts xs → TypedArms (otherwise xs)
       t_arm : {e : Ex} {xs : Sts} {more : Arms} → Typed e → is_boolean (static P g e) ≡ true → TypedSts xs → TypedArms more → TypedArms (arm e xs more)
 

@@ -10,7 +10,7 @@ use Rattle.java_core.specs.declared.BinOp.TheVariants as bin
 use Rattle.java_core.specs.declared.Op.{Op}
 use Rattle.java_core.specs.declared.Fault.{Fault}
 use Rattle.java_core.specs.declared.Fault.TheVariants as fault
-use Rattle.java_core.specs.Trees.{Ex, Exs, no_ex, ex_then, number, character, text, truth, null, this, local, static_field, own_field, field, index, call, static_call, super_call, create, create_array, cast, instance_of, unary, binary, Target, to_local, to_static, to_own, to_field, to_element, no_target, St, Sts, Arms, declare, block, assign, act, print, choose, loop, return, break, continue, no_st, st_then, otherwise, arm}
+use Rattle.java_core.specs.Trees.{Ex, Exs, no_ex, ex_then, number, character, text, truth, null, this, local, static_field, own_field, field, index, call, static_call, super_call, create, create_array, cast, instance_of, unary, binary, Target, to_local, to_static, to_own, to_field, to_element, no_target, St, Sts, Arms, declare, block, assign, act, print, choose, loop, return, break, continue, no_st, st_then, otherwise, arm, no_other}
 use Rattle.java_core.specs.Types.{Env, element_in, StringMethod, LengthOf, CharAt, Equals, is_plus}
 use Rattle.java_meaning.specs.Moment.{End, Ended, Going, Value, Number, Truth, CodeUnit, Nothing, Text, Object, Kind, an_object, an_array, Cell, own_type, own_class, Spot, held, State, Frame, Faulted, Wrong, Escaped, Outcome, stop, Body, Lang, step, step_of, with_some, or_fault, with_result, on_bool, look, look_all}
 use Rattle.java_meaning.specs.Values.{arguments, number_of, truth_of, natural_of, text_of, arith as op_arith, unary_value, same_value, compared, join, is_text, equals_value}
@@ -320,12 +320,12 @@ module _ (R : Outcome → Outcome → Type 0) (ends : (e : End) (s : State) → 
       one_like (act t e) m l f s k k' le h = value_like e m l f s _ _ le (λ v s1 l1. h Next f s1 l1)
       one_like (print t n e) m l f s k k' le h = print_like n e m l f s _ _ le (λ s1 l1. h Next f s1 l1)
       one_like (choose t xs) m l f s k k' le h = arms_like xs m l f s k k' le h
-      one_like (loop t first test last body) m l f s k k' le h =
+      one_like (loop t is_while first test last body) m l f s k k' le h =
           all_like first m l f s _ _ le (λ w f1 s1 l1. after_one_like m w f1 s1 _ _ k k' l1
           (test_like test m l f1 s1 _ _ _ _ l1
           (λ s3 l3. step_like m s3 _ _ l3 (λ s4 l4. all_like body s4.left (narrow m s4.left (omega arith) l) f1 s4 _ _ (omega arith) (λ w3 f3 s5 l5. after_turn_like s4.left w3 f3 s5 _ _ k k' l5
           (all_like last s4.left (narrow m s4.left (omega arith) l) f3 s5 _ _ l5 (λ w5 f5 s7 l7. after_one_like s4.left w5 f5 s7 _ _ k k' l7
-          (l s4.left l4 (st_then (loop t no_st test last body) no_st) f5 s7 k k' l7 (λ w6 f6 s8 l8. h w6 f6 s8 (omega arith))) (λ w6 f6 s8 l8. h w6 f6 s8 (omega arith)))) (λ w6 f6 s8 l8. h w6 f6 s8 (omega arith)))))
+          (l s4.left l4 (st_then (loop t is_while no_st test last body) no_st) f5 s7 k k' l7 (λ w6 f6 s8 l8. h w6 f6 s8 (omega arith))) (λ w6 f6 s8 l8. h w6 f6 s8 (omega arith)))) (λ w6 f6 s8 l8. h w6 f6 s8 (omega arith)))))
           (λ s3 l3. h Next f1 s3 l3)) h)
       one_like (return t e) m l f s k k' le h = return_like e m l f s k k' le h
       one_like (break t) m l f s k k' le h = h Broke f s le
@@ -336,6 +336,7 @@ module _ (R : Outcome → Outcome → Type 0) (ends : (e : End) (s : State) → 
       all_like (st_then x xs) m l f s k k' le h = one_like x m l f s _ _ le (λ w f1 s1 l1. after_one_like m w f1 s1 _ _ k k' l1 (all_like xs m l f1 s1 k k' l1 h) h)
 
       pub arms_like : (xs : Arms) (m : ℕ) → LaterAlike m b c → (f : Frame) (s : State) (k k' : ToFlow) → s.left ≤ m → AlikeF m k k' → R (run_arms L b xs f s k) (run_arms L c xs f s k')
+      arms_like no_other m l f s k k' le h = h Next f s le
       arms_like (otherwise xs) m l f s k k' le h = all_like xs m l f s k k' le h
       arms_like (arm e xs more) m l f s k k' le h =
           value_like e m l f s _ _ le (λ v s1 l1. on_test_like m v s1 _ _ _ _ l1 (λ s2 l2. all_like xs m l f s2 k k' l2 h) (λ s2 l2. arms_like more m l f s2 k k' l2 h))

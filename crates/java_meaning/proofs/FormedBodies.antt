@@ -9,7 +9,7 @@ use Rattle.java_core.specs.Programs.{Plain, PlainMethod, PlainLocal}
 use Rattle.java_core.specs.Classes.{member_field, has_body}
 use Rattle.java_core.specs.Types.{Env, env_of, types_of, field_type, element_in}
 use Rattle.java_core.specs.Formed.{variables_of, IsOwnField, IsStaticField, IsStaticMethod, FormedEx, FormedExs, FormedTarget, FormedOption, FormedSt, FormedSts, FormedArms, IsFormed}
-use Rattle.java_core.specs.Formed.{f_number, f_character, f_text, f_truth, f_null, f_this, f_local, f_static_field, f_own_field, f_field, f_index, f_call, f_static_call, f_super_call, f_create, f_create_array, f_cast, f_instance_of, f_unary, f_binary, f_no_ex, f_ex_then, f_to_local, f_to_static, f_to_own, f_to_field, f_to_element, f_none, f_some, f_declare, f_block, f_assign, f_act, f_print, f_choose, f_loop, f_return, f_break, f_continue, f_no_st, f_st_then, f_otherwise, f_arm}
+use Rattle.java_core.specs.Formed.{f_number, f_character, f_text, f_truth, f_null, f_this, f_local, f_static_field, f_own_field, f_field, f_index, f_call, f_static_call, f_super_call, f_create, f_create_array, f_cast, f_instance_of, f_unary, f_binary, f_no_ex, f_ex_then, f_to_local, f_to_static, f_to_own, f_to_field, f_to_element, f_none, f_some, f_declare, f_block, f_assign, f_act, f_print, f_choose, f_loop, f_return, f_break, f_continue, f_no_st, f_st_then, f_no_other, f_otherwise, f_arm}
 use Rattle.java_meaning.specs.TypedLang.{Stands, StandAll, StandsIf, StandsTarget, StandsSt, StandsSts, StandsArms}
 
 typed_within : (ls : List PlainLocal) (i : ℕ) → i < length ls → is_some (slice_get (types_of ls) i) ≡ true
@@ -92,7 +92,7 @@ module _ (P : Plain) (formed : IsFormed P) where
       stands_st (f_act {scope = scope} n h) = stands_ex scope h
       stands_st (f_print {scope = scope} n h) = stands_if scope h
       stands_st (f_choose h) = stands_arms h
-      stands_st (f_loop n d first test last body) = (stands_sts first, stands_if _ test, stands_sts last, stands_sts body)
+      stands_st (f_loop head n d first test last body) = (stands_sts first, stands_if _ test, stands_sts last, stands_sts body)
       stands_st (f_return {scope = scope} h) = stands_if scope h
       stands_st (f_break h) = tt
       stands_st (f_continue h) = tt
@@ -102,5 +102,6 @@ module _ (P : Plain) (formed : IsFormed P) where
       stands_sts (f_st_then h hs) = (stands_st h, stands_sts hs)
 
       stands_arms : {l : Bool} {scope : List ℕ} {xs : Arms} → FormedArms P k l scope xs → StandsArms P g xs
+      stands_arms f_no_other = tt
       stands_arms (f_otherwise h) = stands_sts h
       stands_arms (f_arm {scope = scope} e h hs) = (stands_ex scope e, stands_sts h, stands_arms hs)

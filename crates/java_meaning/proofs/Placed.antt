@@ -1,5 +1,5 @@
 -- A tree of a program with places, without them, is that tree of the program without places.
-use Rattle.std.proofs.Common.{◌≡◌, ℕ, List, [], ◌∷◌, Option, Some, None, refl, ap, ◌∙◌}
+use Rattle.std.proofs.Common.{◌≡◌, ℕ, true, false, List, [], ◌∷◌, Option, Some, None, refl, ap, ◌∙◌}
 use Rattle.std.specs.Option.{option_map}
 use Rattle.kaba_base.specs.declared.Place.{Place}
 use Rattle.java_core.specs.declared.RExpr.{RExpr}
@@ -8,7 +8,7 @@ use Rattle.java_core.specs.declared.RStmt.{RStmt}
 use Rattle.java_core.specs.declared.RStmt.TheBlock as st
 use Rattle.std.specs.declared.vec.Vec.{Vec}
 use Rattle.std.specs.declared.alloc.Global.{Global}
-use Rattle.java_core.specs.Trees.{Tag, Ex, Exs, ex_then, field, index, call, static_call, super_call, create, create_array, cast, instance_of, unary, binary, to_field, to_element, Sts, declare, block, assign, act, print, choose, loop, return, st_then, otherwise, arm, no_place, expr_of, call_of, exprs_of, value_of, target_of, stmt_of, else_of, step_of, stmts_of, arms_of, stmts, body_seen, no_st}
+use Rattle.java_core.specs.Trees.{Tag, Ex, Exs, ex_then, field, index, call, static_call, super_call, create, create_array, cast, instance_of, unary, binary, to_field, to_element, Sts, declare, block, assign, act, print, choose, loop, return, st_then, Arms, no_other, otherwise, arm, no_place, expr_of, call_of, exprs_of, value_of, target_of, stmt_of, else_of, step_of, stmts_of, arms_of, stmts, body_seen, no_st}
 use Rattle.java_meaning.specs.Watched.{bare_tag, bare, bare_all, bare_if, bare_target, bare_st, bare_sts, bare_arms}
 
 -- pairs and longer, part by part
@@ -64,17 +64,17 @@ module _ (tag : Place → Tag) where
     bare_stmt (st.Do c p) = ap (λ z. act bare_tag z) (bare_expr c)
     bare_stmt (st.Print l v p) = ap (λ z. print bare_tag l z) (bare_value v)
     bare_stmt (st.If' s arms other p) = ap (λ z. choose bare_tag z) (bare_ifs arms (else_of tag other) (else_of no_place other) (bare_else other))
-    bare_stmt (st.While' t s body p) = ap2 (λ y z. loop bare_tag no_st (Some y) no_st z) (bare_expr t) (bare_stmts body)
+    bare_stmt (st.While' t s body p) = ap2 (λ y z. loop bare_tag true no_st (Some y) no_st z) (bare_expr t) (bare_stmts body)
     bare_stmt (st.For' f t g s body p) =
-        ap2 (λ y z. loop bare_tag y z (bare_sts (step_of tag g)) (bare_sts (stmts_of tag body))) (bare_step f) (bare_value t)
-        ∙ ap2 (λ y z. loop bare_tag (step_of no_place f) (value_of no_place t) y z) (bare_step g) (bare_stmts body)
+        ap2 (λ y z. loop bare_tag false y z (bare_sts (step_of tag g)) (bare_sts (stmts_of tag body))) (bare_step f) (bare_value t)
+        ∙ ap2 (λ y z. loop bare_tag false (step_of no_place f) (value_of no_place t) y z) (bare_step g) (bare_stmts body)
     bare_stmt (st.Return v p) = ap (λ z. return bare_tag z) (bare_value v)
     bare_stmt (st.Break p) = refl
     bare_stmt (st.Continue p) = refl
 
-    bare_else : (h : st.Held-RStmt-If-1) → bare_sts (else_of tag h) ≡ else_of no_place h
+    bare_else : (h : st.Held-RStmt-If-1) → bare_arms (else_of tag h) ≡ else_of no_place h
     bare_else st.RStmt-If-1-None' = refl
-    bare_else (st.RStmt-If-1-Some' s body) = bare_stmts body
+    bare_else (st.RStmt-If-1-Some' s body) = ap otherwise (bare_stmts body)
 
     bare_step : (h : st.Held-RStmt-For-0) → bare_sts (step_of tag h) ≡ step_of no_place h
     bare_step st.RStmt-For-0-None' = refl
@@ -84,8 +84,8 @@ module _ (tag : Place → Tag) where
     bare_stmts st.end_of-RStmt = refl
     bare_stmts (st.more_of-RStmt s rest) = ap2 st_then (bare_stmt s) (bare_stmts rest)
 
-    bare_ifs : {n : _} (xs : st.Row_of-RArm n) (a b : Sts) → bare_sts a ≡ b → bare_arms (arms_of tag xs a) ≡ arms_of no_place xs b
-    bare_ifs st.end_of-RArm a b q = ap otherwise q
+    bare_ifs : {n : _} (xs : st.Row_of-RArm n) (a b : Arms) → bare_arms a ≡ b → bare_arms (arms_of tag xs a) ≡ arms_of no_place xs b
+    bare_ifs st.end_of-RArm a b q = q
     bare_ifs (st.more_of-RArm t s body rest) a b q = ap2 (λ y z. arm y z (bare_arms (arms_of tag rest a))) (bare_expr t) (bare_stmts body) ∙ ap (λ z. arm (expr_of no_place t) (stmts_of no_place body) z) (bare_ifs rest a b q)
 
   -- a list of statements

@@ -11,7 +11,7 @@ use Rattle.java_core.specs.declared.BinOp.TheVariants as bin
 use Rattle.java_core.specs.declared.Op.{Op}
 use Rattle.java_core.specs.declared.Fault.{Fault}
 use Rattle.java_core.specs.declared.Fault.TheVariants as fault
-use Rattle.java_core.specs.Trees.{Ex, Exs, no_ex, ex_then, number, character, text, truth, null, this, local, static_field, own_field, field, index, call, static_call, super_call, create, create_array, cast, instance_of, unary, binary, Target, to_local, to_static, to_own, to_field, to_element, no_target, St, Sts, Arms, declare, block, assign, act, print, choose, loop, return, break, continue, no_st, st_then, otherwise, arm}
+use Rattle.java_core.specs.Trees.{Ex, Exs, no_ex, ex_then, number, character, text, truth, null, this, local, static_field, own_field, field, index, call, static_call, super_call, create, create_array, cast, instance_of, unary, binary, Target, to_local, to_static, to_own, to_field, to_element, no_target, St, Sts, Arms, declare, block, assign, act, print, choose, loop, return, break, continue, no_st, st_then, otherwise, arm, no_other}
 use Rattle.java_core.specs.Types.{Env, class_type, element_in, StringMethod, LengthOf, CharAt, Equals, is_plus}
 use Rattle.java_meaning.specs.Moment.{Value, Number, Truth, CodeUnit, Nothing, Text, Object, Kind, an_object, an_array, Cell, own_type, own_class, Spot, held, bound, self_of, result_of, set_static, kept, put_in, touched, tested, ran, Met, State, Frame, End, Ended, Faulted, Going, Wrong, Escaped, Outcome, stop, Body, Lang, step, step_of, with_some, or_fault, with_result, on_bool, look, look_all}
 use Rattle.java_meaning.specs.Values.{int_of, default_of, convert, arguments, number_of, truth_of, natural_of, text_of, arith as op_arith, unary_value, cast_number, same_value, compared, join, is_text, defaults, equals_value}
@@ -376,12 +376,12 @@ module _ (L M : Lang) (like : IsBare L M) where
         st_r (act t e) f s m k j r = value_r e f s m _ _ (λ v s1 m1. r Next f s1 m1)
         st_r (print t n e) f s m k j r = print_r n e f s m (λ s1. k Next f s1) (λ s1. j Next f s1) (r Next f)
         st_r (choose t xs) f s m k j r = arms_r xs f s m k j r
-        st_r (loop t first test last body) f s m k j r =
+        st_r (loop t is_while first test last body) f s m k j r =
             sts_r first f s m _ _ (λ w f1 s1 m1. one_r w f1 s1 m1 k j _ _ r
             (loop_test_r test f1 s1 m1 _ _ (λ s3. k Next f1 s3) (λ s3. j Next f1 s3)
             (λ s3 m3. step_r s3 m3 _ _ (λ s4 m4. sts_r body f1 s4 m4 _ _ (λ w3 f3 s5 m5. turn_r w3 f3 s5 m5 k j _ _ r
-            (sts_r last f3 s5 m5 _ _ (λ w5 f5 s7 m7. one_r w5 f5 s7 m7 k j (λ f6 s8. later (st_then (loop t no_st test last body) no_st) f6 s8 k) (λ f6 s8. later2 (bare_sts (st_then (loop t no_st test last body) no_st)) f6 s8 j) r
-            (next.runs (st_then (loop t no_st test last body) no_st) f5 s7 m7 k j r))))))
+            (sts_r last f3 s5 m5 _ _ (λ w5 f5 s7 m7. one_r w5 f5 s7 m7 k j (λ f6 s8. later (st_then (loop t is_while no_st test last body) no_st) f6 s8 k) (λ f6 s8. later2 (bare_sts (st_then (loop t is_while no_st test last body) no_st)) f6 s8 j) r
+            (next.runs (st_then (loop t is_while no_st test last body) no_st) f5 s7 m7 k j r))))))
             (r Next f1)))
         st_r (return t e) f s m k j r = return_r e f s m k j r
         st_r (break t) f s m k j r = r Broke f s m
@@ -392,6 +392,7 @@ module _ (L M : Lang) (like : IsBare L M) where
         sts_r (st_then x xs) f s m k j r = st_r x f s m _ _ (λ w f1 s1 m1. one_r w f1 s1 m1 k j (λ f2 s2. run_all L later xs f2 s2 k) (λ f2 s2. run_all M later2 (bare_sts xs) f2 s2 j) r (sts_r xs f1 s1 m1 k j r))
 
         arms_r : (xs : Arms) (f : Frame) (s : State) (m : List Met) (k j : ToFlow) → KF k j → OrIs m (run_arms L later xs f s k) (run_arms M later2 (bare_arms xs) f (re s m) j)
+        arms_r no_other f s m k j r = r Next f s m
         arms_r (otherwise xs) f s m k j r = sts_r xs f s m k j r
         arms_r (arm e xs more) f s m k j r = value_r e f s m _ _ (λ v s1 m1. test_r v s1 m1 (λ s2. run_all L later xs f s2 k) (λ s2. run_all M later2 (bare_sts xs) f s2 j) (λ s2. run_arms L later more f s2 k) (λ s2. run_arms M later2 (bare_arms more) f s2 j)
             (λ s2 m2. sts_r xs f s2 m2 k j r) (λ s2 m2. arms_r more f s2 m2 k j r))

@@ -11,7 +11,7 @@ use Rattle.std.proofs.lemmas.Option.{same_Some}
 use Rattle.java_core.specs.Classes.{below, member_field}
 use Rattle.java_core.specs.Types.{Env, Static, a_value, or_nothing, class_of, element_in, element_of, is_printable, fits, fits_in, field_in, field_type, result_of, static, target_type}
 use Rattle.java_core.specs.Typing.{Typed, TypedArgs, TypedTarget, TypedTest, TypedSt, TypedSts, TypedArms}
-use Rattle.java_core.specs.Typing.{t_number, t_character, t_text, t_truth, t_null, t_this, t_local, t_static_field, t_own_field, t_field, t_index, t_call, t_static_call, t_super_call, t_create, t_create_array, t_cast, t_instance_of, t_unary, t_binary, t_no_ex, t_ex_then, t_to_local, t_to_static, t_to_own, t_to_field, t_to_element, t_always, t_test, t_declare, t_declare_as, t_block, t_assign, t_act, t_print_line, t_print, t_choose, t_loop, t_return_nothing, t_return, t_break, t_continue, t_no_st, t_st_then, t_otherwise, t_arm}
+use Rattle.java_core.specs.Typing.{t_number, t_character, t_text, t_truth, t_null, t_this, t_local, t_static_field, t_own_field, t_field, t_index, t_call, t_static_call, t_super_call, t_create, t_create_array, t_cast, t_instance_of, t_unary, t_binary, t_no_ex, t_ex_then, t_to_local, t_to_static, t_to_own, t_to_field, t_to_element, t_always, t_test, t_declare, t_declare_as, t_block, t_assign, t_act, t_print_line, t_print, t_choose, t_loop, t_return_nothing, t_return, t_break, t_continue, t_no_st, t_st_then, t_no_other, t_otherwise, t_arm}
 use Rattle.java_meaning.specs.Moment.{Value, Number, Truth, CodeUnit, Nothing, bound, result_of as result_spot, State, Frame, Outcome, Lang}
 use Rattle.java_meaning.specs.Values.{default_of, convert, number_of, text_of}
 use Rattle.java_meaning.specs.Meaning.{Flow, Next, Broke, Continued, Gave, ToValue, ToFlow, Later, set_local, write_local, after_one, after_turn, value, values, run_test, run_print, run_initial, run_declare, run_return, run_assign, run_one, run_all, run_arms}
@@ -235,13 +235,13 @@ module _ (P : Plain) (L : Lang) (tl : TypedLang P L) (later : Later) (next : Lat
       one_sound (t_print_line {n = n}) p f s k ok ef fi h = print_sound g n f s _ print_nothing p ok ef fi (kept_frame g f s s k (from_same P L tl s ok) ef fi h)
       one_sound (t_print {n = n} q m) p f s k ok ef fi h = print_sound g n f s _ (print_value q m) p ok ef fi (kept_frame g f s s k (from_same P L tl s ok) ef fi h)
       one_sound (t_choose q) p f s k ok ef fi h = arms_sound q p f s k ok ef fi h
-      one_sound (t_loop {t = t} {step = last} {body = body} {test = test} q qt ql qb) p f s k ok ef fi h =
+      one_sound (t_loop {t = t} {is_while = is_while} {step = last} {body = body} {test = test} q qt ql qb) p f s k ok ef fi h =
           all_sound q p.0 f s _ ok ef fi (λ w1 f1 s1 r1 e1 i1 o1. let h1 = later_f g s s1 k r1 h in next_sound g w1 f1 s1 k _ r1.ok e1 i1 o1 h1
           (test_of g f1 s1 _ _ qt p.1 r1.ok e1 i1
           (λ s3 r3. step_sound P L tl s3 _ r3.ok (λ s4 r4. let to4 = onto s1 s3 s4 r3 r4 in let h4 = later_f g s1 s4 k to4 h1 in
           all_sound qb p.3 f1 s4 _ r4.ok e1 (frame_grown P to4.grows i1) (λ w3 f3 s5 r5 e3 i3 o3. let h5 = later_f g s4 s5 k r5 h4 in turn_sound g w3 f3 s5 k _ r5.ok e3 i3 o3 h5
           (all_sound ql p.2 f3 s5 _ r5.ok e3 i3 (λ w5 f5 s7 r7 e5 i5 o5. let h7 = later_f g s5 s7 k r7 h5 in next_sound g w5 f5 s7 k _ r7.ok e5 i5 o5 h7
-          (next.runs g (st_then (loop t no_st test last body) no_st) (t_st_then (t_loop t_no_st qt ql qb) t_no_st) ((tt, p.1, p.2, p.3), tt) f5 s7 k r7.ok e5 i5 h7))))))
+          (next.runs g (st_then (loop t is_while no_st test last body) no_st) (t_st_then (t_loop t_no_st qt ql qb) t_no_st) ((tt, p.1, p.2, p.3), tt) f5 s7 k r7.ok e5 i5 h7))))))
           (λ s3 r3. let to3 = onto s s1 s3 r1 r3 in h Next f1 s3 to3 e1 (frame_grown P r3.grows i1) tt)))
       one_sound (t_return_nothing n) p f s k ok ef fi h = return_sound g f s k (gives_nothing n) p ok ef fi h
       one_sound (t_return q m n) p f s k ok ef fi h = return_sound g f s k (gives_value q m n) p ok ef fi h
@@ -254,6 +254,7 @@ module _ (P : Plain) (L : Lang) (tl : TypedLang P L) (later : Later) (next : Lat
           one_sound q p.0 f s _ ok ef fi (λ w f1 s1 r e1 i1 wo. let h1 = later_f g s s1 k r h in next_sound g w f1 s1 k _ r.ok e1 i1 wo h1 (all_sound qs p.1 f1 s1 k r.ok e1 i1 h1))
 
       arms_sound : {xs : Arms} → TypedArms P g xs → StandsArms P g xs → (f : Frame) (s : State) (k : ToFlow) → Ok s → f.env ≡ g → FrameIn P (heap_of s) f → F g (heap_of s) k → Sound (run_arms L later xs f s k)
+      arms_sound t_no_other p f s k ok ef fi h = h Next f s (from_same P L tl s ok) ef fi tt
       arms_sound (t_otherwise q) p f s k ok ef fi h = all_sound q p f s k ok ef fi h
       arms_sound (t_arm q m qs more) p f s k ok ef fi h =
           value_at q p.0 f s _ ok ef fi (λ v s1 r hv. let b = truth_held P hv m in let h1 = later_f g s s1 k r h in let fi1 = frame_grown P r.grows fi in

@@ -8,7 +8,7 @@ use Rattle.java_core.specs.declared.BinOp.{BinOp}
 use Rattle.java_core.specs.declared.BinOp.TheVariants as bin
 use Rattle.java_core.specs.declared.Op.{Op}
 use Rattle.java_core.specs.declared.Fault.TheVariants as fault
-use Rattle.java_core.specs.Trees.{Ex, Exs, no_ex, ex_then, number, character, text, truth, null, this, local, static_field, own_field, field, index, call, static_call, super_call, create, create_array, cast, instance_of, unary, binary, Target, to_local, to_static, to_own, to_field, to_element, no_target, St, Sts, Arms, declare, block, assign, act, print, choose, loop, return, break, continue, no_st, st_then, otherwise, arm}
+use Rattle.java_core.specs.Trees.{Ex, Exs, no_ex, ex_then, number, character, text, truth, null, this, local, static_field, own_field, field, index, call, static_call, super_call, create, create_array, cast, instance_of, unary, binary, Target, to_local, to_static, to_own, to_field, to_element, no_target, St, Sts, Arms, declare, block, assign, act, print, choose, loop, return, break, continue, no_st, st_then, no_other, otherwise, arm}
 use Rattle.java_core.specs.Types.{Env, class_type, element_in, is_length, StringMethod, LengthOf, CharAt, Equals, string_method, is_plus}
 use Rattle.java_meaning.specs.Moment.{Value, Number, Truth, CodeUnit, Nothing, Text, Object, Kind, an_object, an_array, Cell, own_type, own_class, held, bound, self_of, result_of, set_static, kept, put_in, touched, tested, ran, State, Frame, Ended, Faulted, Going, Wrong, Outcome, stop, Body, Lang, step, with_some, or_fault, with_result, on_bool, look, look_all}
 use Rattle.java_meaning.specs.Values.{default_of, convert, arguments, number_of, truth_of, natural_of, int_of, text_of, bytes_of, line_end, arith, unary_value, cast_number, same_value, compared, join, is_text, defaults, equals_value}
@@ -339,10 +339,10 @@ module _ (L : Lang) (later : Later) where
     run_one (act t e) f s k = value e f s (λ v s1. k Next f s1)
     run_one (print t newline e) f s k = run_print newline e f s (λ s1. k Next f s1)
     run_one (choose t arms) f s k = run_arms arms f s k
-    run_one (loop t first test last body) f s k = run_all first f s (λ w f1 s1. after_one w f1 s1 (λ f2 s2.
+    run_one (loop t is_while first test last body) f s k = run_all first f s (λ w f1 s1. after_one w f1 s1 (λ f2 s2.
         run_test test f2 s2
         (λ s3. step s3 (λ s4. run_all body f2 s4 (λ w3 f3 s5. after_turn w3 f3 s5 (λ f4 s6.
-        run_all last f4 s6 (λ w5 f5 s7. after_one w5 f5 s7 (λ f6 s8. later (st_then (loop t no_st test last body) no_st) f6 s8 k) k)) k)))
+        run_all last f4 s6 (λ w5 f5 s7. after_one w5 f5 s7 (λ f6 s8. later (st_then (loop t is_while no_st test last body) no_st) f6 s8 k) k)) k)))
         (λ s3. k Next f2 s3)) k)
     run_one (return t e) f s k = run_return e f s k
     run_one (break t) f s k = k Broke f s
@@ -353,6 +353,7 @@ module _ (L : Lang) (later : Later) where
     run_all (st_then x xs) f s k = run_one x f s (λ w f1 s1. after_one w f1 s1 (λ f2 s2. run_all xs f2 s2 k) k)
 
     pub run_arms : Arms → Frame → State → ToFlow → Outcome
+    run_arms no_other f s k = k Next f s
     run_arms (otherwise xs) f s k = run_all xs f s k
     run_arms (arm e xs more) f s k = value e f s (λ v s1. on_test v s1 (λ s2. run_all xs f s2 k) (λ s2. run_arms more f s2 k))
 

@@ -3,7 +3,7 @@ use Rattle.std.specs.Prelude.{◌≡◌, ◌⊎◌, ℕ, Bool, List, Option, Som
 use Rattle.std.specs.Option.{option_map, option_and_then}
 use Rattle.java_core.specs.declared.Ty.{Ty}
 use Rattle.java_core.specs.Types.{Env}
-use Rattle.java_core.specs.Trees.{Tag, Ex, Exs, no_ex, ex_then, number, character, text, truth, null, this, local, static_field, own_field, field, index, call, static_call, super_call, create, create_array, cast, instance_of, unary, binary, Target, to_local, to_static, to_own, to_field, to_element, no_target, St, Sts, Arms, declare, block, assign, act, print, choose, loop, return, break, continue, no_st, st_then, otherwise, arm}
+use Rattle.java_core.specs.Trees.{Tag, Ex, Exs, no_ex, ex_then, number, character, text, truth, null, this, local, static_field, own_field, field, index, call, static_call, super_call, create, create_array, cast, instance_of, unary, binary, Target, to_local, to_static, to_own, to_field, to_element, no_target, St, Sts, Arms, declare, block, assign, act, print, choose, loop, return, break, continue, no_st, st_then, no_other, otherwise, arm}
 use Rattle.java_core.specs.Programs.{Plain}
 use Rattle.java_core.specs.Classes.{lookup, super_method}
 use Rattle.java_meaning.specs.Moment.{Value, Cell, Spot, Met, Body, Lang, Outcome, unnoted, Escaped}
@@ -62,7 +62,7 @@ abbrev mutual
   bare_st (act t e) = act bare_tag (bare e)
   bare_st (print t n e) = print bare_tag n (bare_if e)
   bare_st (choose t xs) = choose bare_tag (bare_arms xs)
-  bare_st (loop t first test step body) = loop bare_tag (bare_sts first) (bare_if test) (bare_sts step) (bare_sts body)
+  bare_st (loop t is_while first test step body) = loop bare_tag is_while (bare_sts first) (bare_if test) (bare_sts step) (bare_sts body)
   bare_st (return t e) = return bare_tag (bare_if e)
   bare_st (break t) = break bare_tag
   bare_st (continue t) = continue bare_tag
@@ -72,6 +72,7 @@ abbrev mutual
   bare_sts (st_then x xs) = st_then (bare_st x) (bare_sts xs)
 
   pub bare_arms : Arms → Arms
+  bare_arms no_other = no_other
   bare_arms (otherwise xs) = otherwise (bare_sts xs)
   bare_arms (arm e xs more) = arm (bare e) (bare_sts xs) (bare_arms more)
 

@@ -1,5 +1,5 @@
 -- Programs without places: what a program with places is without them.
-use Rattle.std.proofs.Common.{◌≡◌, ℕ, List, [], ◌∷◌, Option, Some, None, refl, ap, ◌∙◌}
+use Rattle.std.proofs.Common.{◌≡◌, ℕ, true, false, List, [], ◌∷◌, Option, Some, None, refl, ap, ◌∙◌}
 use Rattle.std.specs.Option.{option_map}
 use Rattle.kaba_base.specs.declared.Place.{Place}
 use Rattle.java_core.specs.declared.RExpr.{RExpr}
@@ -8,7 +8,7 @@ use Rattle.java_core.specs.declared.RStmt.{RStmt}
 use Rattle.java_core.specs.declared.RStmt.TheBlock as st
 use Rattle.std.specs.declared.vec.Vec.{Vec}
 use Rattle.std.specs.declared.alloc.Global.{Global}
-use Rattle.java_core.specs.Trees.{Tag, Ex, Exs, no_ex, ex_then, number, character, text, truth, null, this, local, static_field, own_field, field, index, call, static_call, super_call, create, create_array, cast, instance_of, unary, binary, Target, to_local, to_static, to_own, to_field, to_element, no_target, St, Sts, Arms, declare, block, assign, act, print, choose, loop, return, break, continue, no_st, st_then, otherwise, arm, at_place, no_place, expr_of, call_of, exprs_of, value_of, target_of, stmt_of, else_of, step_of, stmts_of, arms_of, stmts, body_seen}
+use Rattle.java_core.specs.Trees.{Tag, Ex, Exs, no_ex, ex_then, number, character, text, truth, null, this, local, static_field, own_field, field, index, call, static_call, super_call, create, create_array, cast, instance_of, unary, binary, Target, to_local, to_static, to_own, to_field, to_element, no_target, St, Sts, Arms, declare, block, assign, act, print, choose, loop, return, break, continue, no_st, st_then, no_other, otherwise, arm, at_place, no_place, expr_of, call_of, exprs_of, value_of, target_of, stmt_of, else_of, step_of, stmts_of, arms_of, stmts, body_seen}
 use Rattle.std.specs.Prelude.{map}
 use Rattle.java_core.specs.declared.Method.{Method}
 use Rattle.java_core.specs.declared.Program.{Program}
@@ -66,7 +66,7 @@ abbrev mutual
   bare_st (act t e) = act bare_tag (bare e)
   bare_st (print t n e) = print bare_tag n (bare_if e)
   bare_st (choose t xs) = choose bare_tag (bare_arms xs)
-  bare_st (loop t first test step body) = loop bare_tag (bare_sts first) (bare_if test) (bare_sts step) (bare_sts body)
+  bare_st (loop t is_while first test step body) = loop bare_tag is_while (bare_sts first) (bare_if test) (bare_sts step) (bare_sts body)
   bare_st (return t e) = return bare_tag (bare_if e)
   bare_st (break t) = break bare_tag
   bare_st (continue t) = continue bare_tag
@@ -76,6 +76,7 @@ abbrev mutual
   bare_sts (st_then x xs) = st_then (bare_st x) (bare_sts xs)
 
   pub bare_arms : Arms → Arms
+  bare_arms no_other = no_other
   bare_arms (otherwise xs) = otherwise (bare_sts xs)
   bare_arms (arm e xs more) = arm (bare e) (bare_sts xs) (bare_arms more)
 
@@ -148,17 +149,17 @@ module _ (tag : Place → Tag) where
     bare_stmt (st.Do c p) = ap (λ z. act bare_tag z) (bare_expr c)
     bare_stmt (st.Print l v p) = ap (λ z. print bare_tag l z) (bare_value v)
     bare_stmt (st.If' s arms other p) = ap (λ z. choose bare_tag z) (bare_ifs arms (else_of tag other) (else_of no_place other) (bare_else other))
-    bare_stmt (st.While' t s body p) = ap2 (λ y z. loop bare_tag no_st (Some y) no_st z) (bare_expr t) (bare_stmts body)
+    bare_stmt (st.While' t s body p) = ap2 (λ y z. loop bare_tag true no_st (Some y) no_st z) (bare_expr t) (bare_stmts body)
     bare_stmt (st.For' f t g s body p) =
-        ap2 (λ y z. loop bare_tag y z (bare_sts (step_of tag g)) (bare_sts (stmts_of tag body))) (bare_step f) (bare_value t)
-        ∙ ap2 (λ y z. loop bare_tag (step_of no_place f) (value_of no_place t) y z) (bare_step g) (bare_stmts body)
+        ap2 (λ y z. loop bare_tag false y z (bare_sts (step_of tag g)) (bare_sts (stmts_of tag body))) (bare_step f) (bare_value t)
+        ∙ ap2 (λ y z. loop bare_tag false (step_of no_place f) (value_of no_place t) y z) (bare_step g) (bare_stmts body)
     bare_stmt (st.Return v p) = ap (λ z. return bare_tag z) (bare_value v)
     bare_stmt (st.Break p) = refl
     bare_stmt (st.Continue p) = refl
 
-    bare_else : (h : st.Held-RStmt-If-1) → bare_sts (else_of tag h) ≡ else_of no_place h
+    bare_else : (h : st.Held-RStmt-If-1) → bare_arms (else_of tag h) ≡ else_of no_place h
     bare_else st.RStmt-If-1-None' = refl
-    bare_else (st.RStmt-If-1-Some' s body) = bare_stmts body
+    bare_else (st.RStmt-If-1-Some' s body) = ap otherwise (bare_stmts body)
 
     bare_step : (h : st.Held-RStmt-For-0) → bare_sts (step_of tag h) ≡ step_of no_place h
     bare_step st.RStmt-For-0-None' = refl
@@ -168,8 +169,8 @@ module _ (tag : Place → Tag) where
     bare_stmts st.end_of-RStmt = refl
     bare_stmts (st.more_of-RStmt s rest) = ap2 st_then (bare_stmt s) (bare_stmts rest)
 
-    bare_ifs : {n : _} (xs : st.Row_of-RArm n) (a b : Sts) → bare_sts a ≡ b → bare_arms (arms_of tag xs a) ≡ arms_of no_place xs b
-    bare_ifs st.end_of-RArm a b q = ap otherwise q
+    bare_ifs : {n : _} (xs : st.Row_of-RArm n) (a b : Arms) → bare_arms a ≡ b → bare_arms (arms_of tag xs a) ≡ arms_of no_place xs b
+    bare_ifs st.end_of-RArm a b q = q
     bare_ifs (st.more_of-RArm t s body rest) a b q = ap2 (λ y z. arm y z (bare_arms (arms_of tag rest a))) (bare_expr t) (bare_stmts body) ∙ ap (λ z. arm (expr_of no_place t) (stmts_of no_place body) z) (bare_ifs rest a b q)
 
   -- a list of statements

@@ -2,7 +2,7 @@
 use Rattle.std.proofs.Common.{◌≡◌, ℕ, zero, suc, ◌+◌, List, [], ◌∷◌, ◌++◌, map, Option, Some, None, refl, ap, ◌∙◌, arith}
 use Rattle.std.specs.Prelude.{slice_get}
 use Rattle.std.specs.Option.{option_map}
-use Rattle.java_core.specs.Trees.{Ex, Exs, no_ex, ex_then, number, character, text, truth, null, this, local, static_field, own_field, field, index, call, static_call, super_call, create, create_array, cast, instance_of, unary, binary, Target, to_local, to_static, to_own, to_field, to_element, no_target, St, Sts, Arms, declare, block, assign, act, print, choose, loop, return, break, continue, no_st, st_then, otherwise, arm}
+use Rattle.java_core.specs.Trees.{Ex, Exs, no_ex, ex_then, number, character, text, truth, null, this, local, static_field, own_field, field, index, call, static_call, super_call, create, create_array, cast, instance_of, unary, binary, Target, to_local, to_static, to_own, to_field, to_element, no_target, St, Sts, Arms, declare, block, assign, act, print, choose, loop, return, break, continue, no_st, st_then, no_other, otherwise, arm}
 use Rattle.java_core.specs.Programs.{PlainMethod}
 use Rattle.java_core.specs.Formed.{HasNoTwice, numbers, numbers_all, numbers_if, numbers_target, numbers_st, numbers_sts, numbers_arms, numbers_body, numbers_methods}
 use Rattle.name_rules.specs.Resolves.{Counts, no_number, next_number}
@@ -59,7 +59,7 @@ mutual
   st-same (act t e) = ex-same e
   st-same (print t n e) = if-same e
   st-same (choose t xs) = arms-same xs
-  st-same (loop t first test step body) = both (both (both (sts-same first) (if-same test)) (sts-same step)) (sts-same body)
+  st-same (loop t is_while first test step body) = both (both (both (sts-same first) (if-same test)) (sts-same step)) (sts-same body)
   st-same (return t e) = if-same e
   st-same (break t) = refl
   st-same (continue t) = refl
@@ -69,6 +69,7 @@ mutual
   sts-same (st_then x xs) = both (st-same x) (sts-same xs)
 
   arms-same : (xs : Arms) → numbers_arms (bare_arms xs) ≡ numbers_arms xs
+  arms-same no_other = refl
   arms-same (otherwise xs) = sts-same xs
   arms-same (arm e xs more) = both (both (ex-same e) (sts-same xs)) (arms-same more)
 

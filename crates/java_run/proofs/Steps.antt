@@ -10,7 +10,7 @@ use Rattle.java_core.specs.declared.Ty.{Ty}
 use Rattle.java_core.specs.declared.RExpr.{RExpr}
 use Rattle.java_core.specs.declared.RArm.{RArm}
 use Rattle.java_core.specs.declared.RStmt.{RStmt, If, While, For}
-use Rattle.java_core.specs.Trees.{Ex, Sts, Arms, no_st, st_then, otherwise, arm, expr_of, stmts, stmt_of, arms_seen, else_seen, no_place}
+use Rattle.java_core.specs.Trees.{Ex, Sts, Arms, no_st, st_then, no_other, otherwise, arm, expr_of, stmts, stmt_of, arms_seen, else_seen, no_place}
 use Rattle.java_core.proofs.Rows.{stmts_vec, if_as, for_as}
 use Rattle.java_core.specs.Programs.{Plain}
 use Rattle.java_heap.specs.Seen.{value_of}
@@ -27,7 +27,7 @@ use Rattle.java_run.specs.declared.machine.Test.TheVariants as test
 use Rattle.java_run.specs.declared.machine.Task.{Task}
 use Rattle.java_run.specs.declared.machine.Task.TheVariants as task
 use Rattle.java_run.specs.declared.machine.Take.TheVariants as take
-use Rattle.java_run.specs.Parts.{ex, st, sts, test_in, last_in, body_in, again_of, arms_in, drop_arms, last_arm, IsArm}
+use Rattle.java_run.specs.Parts.{ex, st, sts, test_in, last_in, body_in, again_of, arms_in, drop_arms, last_arm, IsElse, without, with_these, IsArm}
 use Rattle.java_run.specs.Rest.{acts, rest, takes, frame_of, state_of, run_from, onward_flow, passes, takes_from, turning, after_test, evaluates}
 
 pub nil_of : {A : Type 0} (xs : List A) → length xs ≡ 0 → xs ≡ []
@@ -35,33 +35,39 @@ nil_of [] h = refl
 nil_of (x ∷ xs) h = absurd (omega arith)
 
 -- the arms of an `if`, and its `else`
-last_of_arms : (rs : List RArm) (xs : Sts) → last_arm (arms_seen no_place rs xs) ≡ xs
-last_of_arms [] xs = refl
-last_of_arms (a ∷ rs) xs = last_of_arms rs xs
+last_of_arms : (rs : List RArm) (other : Arms) → last_arm (arms_seen no_place rs other) ≡ last_arm other
+last_of_arms [] other = refl
+last_of_arms (a ∷ rs) other = last_of_arms rs other
 
-pub else_at : (x : RStmt) (v : Vec RArm Global) (o : Option (Vec RStmt Global)) (p : Place) → x ≡ If v o p → else_seen no_place o ≡ last_arm (arms_in (stmt_of no_place x))
+pub else_at : (x : RStmt) (v : Vec RArm Global) (o : Option (Vec RStmt Global)) (p : Place) → x ≡ If v o p → last_arm (else_seen no_place o) ≡ last_arm (arms_in (stmt_of no_place x))
 else_at x v o p h = sym (ap (λ y. last_arm (arms_in (stmt_of no_place y))) h ∙ ap (λ y. last_arm (arms_in y)) (if_as no_place v o p) ∙ last_of_arms v.items (else_seen no_place o))
 
-arms_gone : (rs : List RArm) (xs : Sts) (n : ℕ) → None ≡ slice_get rs n → drop_arms n (arms_seen no_place rs xs) ≡ otherwise (last_arm (arms_seen no_place rs xs))
-arms_gone [] xs zero h = refl
-arms_gone [] xs (suc n) h = refl
-arms_gone (a ∷ rs) xs zero h = absurd (cc)
-arms_gone (a ∷ rs) xs (suc n) h = arms_gone rs xs n h
+no_arm : (o : Option (Vec RStmt Global)) (n : ℕ) → IsElse (drop_arms n (else_seen no_place o)) (last_arm (else_seen no_place o))
+no_arm None zero = without
+no_arm None (suc n) = without
+no_arm (Some v) zero = with_these
+no_arm (Some v) (suc n) = with_these
 
-arms_at : (rs : List RArm) (xs : Sts) (n : ℕ) (a : RArm) → Some a ≡ slice_get rs n
+arms_gone : (rs : List RArm) (o : Option (Vec RStmt Global)) (n : ℕ) → None ≡ slice_get rs n
+    → IsElse (drop_arms n (arms_seen no_place rs (else_seen no_place o))) (last_arm (arms_seen no_place rs (else_seen no_place o)))
+arms_gone [] o n h = no_arm o n
+arms_gone (a ∷ rs) o zero h = absurd (cc)
+arms_gone (a ∷ rs) o (suc n) h = arms_gone rs o n h
+
+arms_at : (rs : List RArm) (xs : Arms) (n : ℕ) (a : RArm) → Some a ≡ slice_get rs n
     → drop_arms n (arms_seen no_place rs xs) ≡ arm (expr_of no_place a.test) (stmts no_place a.body.items) (drop_arms (suc n) (arms_seen no_place rs xs))
 arms_at [] xs n a h = absurd (cc)
 arms_at (b ∷ rs) xs zero a h = let e : b ≡ a = cc in ap (λ y. arm (expr_of no_place y.test) (stmts no_place y.body.items) (arms_seen no_place rs xs)) e
 arms_at (b ∷ rs) xs (suc n) a h = arms_at rs xs n a h
 
-arm_seen : (rs : List RArm) (xs : Sts) (n : ℕ) (r : Option (Bor RArm)) → option_map (λ a. a.now) r ≡ slice_get rs n → IsArm (arms_seen no_place rs xs) n r
-arm_seen rs xs n None h = arms_gone rs xs n h
-arm_seen rs xs n (Some a) h = arms_at rs xs n a.now h
+arm_seen : (rs : List RArm) (o : Option (Vec RStmt Global)) (n : ℕ) (r : Option (Bor RArm)) → option_map (λ a. a.now) r ≡ slice_get rs n → IsArm (arms_seen no_place rs (else_seen no_place o)) n r
+arm_seen rs o n None h = arms_gone rs o n h
+arm_seen rs o n (Some a) h = arms_at rs (else_seen no_place o) n a.now h
 
 pub arm_of : (x : RStmt) (v : Vec RArm Global) (o : Option (Vec RStmt Global)) (p : Place) (n : ℕ) (r : Option (Bor RArm)) (rs : List RArm) → x ≡ If v o p → option_map (λ a. a.now) r ≡ slice_get rs n → rs ≡ v.items
     → IsArm (arms_in (stmt_of no_place x)) n r
 arm_of x v o p n r rs h e d =
-    subst (λ y. IsArm y n r) (sym (ap (λ y. arms_in (stmt_of no_place y)) h ∙ ap arms_in (if_as no_place v o p))) (arm_seen v.items (else_seen no_place o) n r (e ∙ ap (λ l. slice_get l n) d))
+    subst (λ y. IsArm y n r) (sym (ap (λ y. arms_in (stmt_of no_place y)) h ∙ ap arms_in (if_as no_place v o p))) (arm_seen v.items o n r (e ∙ ap (λ l. slice_get l n) d))
 
 pub body_of_while : (x : RStmt) (t : RExpr) (v : Vec RStmt Global) (p : Place) → x ≡ While t v p → stmts no_place v.items ≡ body_in (stmt_of no_place x)
 body_of_while x t v p h = sym (stmts_vec no_place v) ∙ ap (λ y. body_in (stmt_of no_place y)) (sym h)
@@ -152,12 +158,14 @@ module _ (P : Plain) (n : ℕ) (m : Machine) where
   test_some (Object a) b g h e = absurd (cc)
 
   after_test_none : (a : Arms) (v : moment.Value) → truth_of v ≡ None → after_test (language_of P) (meaning (language_of P) n) a v (frame_of m.now) (state_of m) (onward_flow P n m) ≡ stop Wrong (state_of m)
+  after_test_none no_other v e = refl
   after_test_none (otherwise xs) v e = refl
   after_test_none (arm x xs more) v e = test_none v _ _ e
 
   after_test_some : (a : Arms) (v : moment.Value) (b : Bool) → truth_of v ≡ Some b
       → after_test (language_of P) (meaning (language_of P) n) a v (frame_of m.now) (state_of m) (onward_flow P n m)
       ≡ after_test (language_of P) (meaning (language_of P) n) a (Truth b) (frame_of m.now) (state_of m) (onward_flow P n m)
+  after_test_some no_other v b e = refl
   after_test_some (otherwise xs) v b e = refl
   after_test_some (arm x xs more) v b e = test_some v b _ _ e
 
@@ -176,8 +184,9 @@ module _ (P : Plain) (n : ℕ) (m : Machine) where
   unfolding takes_from takes onward_flow passes
   tested_loop t x v b h e = ap (λ y. takes_from P n (take.Tested y x) m v (state_of m)) h ∙ test_some v b _ _ e
 
-  pub chosen_none : (a : Arms) (xs : Sts) (v : moment.Value) → a ≡ otherwise xs → after_test (language_of P) (meaning (language_of P) n) a v (frame_of m.now) (state_of m) (onward_flow P n m) ≡ stop Wrong (state_of m)
-  chosen_none a xs v h = ap (λ y. after_test (language_of P) (meaning (language_of P) n) y v (frame_of m.now) (state_of m) (onward_flow P n m)) h
+  pub chosen_none : {a : Arms} {xs : Sts} (v : moment.Value) → IsElse a xs → after_test (language_of P) (meaning (language_of P) n) a v (frame_of m.now) (state_of m) (onward_flow P n m) ≡ stop Wrong (state_of m)
+  chosen_none v without = refl
+  chosen_none v with_these = refl
 
   pub chosen : (a : Arms) (e : Ex) (xs : Sts) (more : Arms) (b : Bool) → a ≡ arm e xs more → after_test (language_of P) (meaning (language_of P) n) a (Truth b) (frame_of m.now) (state_of m) (onward_flow P n m)
       ≡ on_bool b (state_of m) (λ s. run_all (language_of P) (meaning (language_of P) n) xs (frame_of m.now) s (onward_flow P n m)) (λ s. run_arms (language_of P) (meaning (language_of P) n) more (frame_of m.now) s (onward_flow P n m))
@@ -188,9 +197,14 @@ module _ (P : Plain) (n : ℕ) (m : Machine) where
   unfolding run_from rest acts onward_flow
   arm_is k x = refl
 
-  pub arm_none : (k : ℕ) (x : Bor RStmt) (xs : Sts) → drop_arms k (arms_in (st x)) ≡ otherwise xs
+  else_is : {a : Arms} {xs : Sts} → IsElse a xs
+      → run_arms (language_of P) (meaning (language_of P) n) a (frame_of m.now) (state_of m) (onward_flow P n m) ≡ run_all (language_of P) (meaning (language_of P) n) xs (frame_of m.now) (state_of m) (onward_flow P n m)
+  else_is without = refl
+  else_is with_these = refl
+
+  pub arm_none : (k : ℕ) (x : Bor RStmt) (xs : Sts) → IsElse (drop_arms k (arms_in (st x))) xs
       → run_from P n (task.Statement (stage.Arm k) x ∷ m.tasks) Next m ≡ run_all (language_of P) (meaning (language_of P) n) xs (frame_of m.now) (state_of m) (onward_flow P n m)
-  arm_none k x xs h = arm_is k x ∙ ap (λ y. run_arms (language_of P) (meaning (language_of P) n) y (frame_of m.now) (state_of m) (onward_flow P n m)) h
+  arm_none k x xs h = arm_is k x ∙ else_is h
 
   pub arm_some : (k : ℕ) (x : Bor RStmt) (e : Ex) (xs : Sts) (more : Arms) → drop_arms k (arms_in (st x)) ≡ arm e xs more
       → run_from P n (task.Statement (stage.Arm k) x ∷ m.tasks) Next m ≡ evaluates P n m e (takes_from P n (take.Tested (test.Arm k) x) m)

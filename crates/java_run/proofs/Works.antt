@@ -1,9 +1,9 @@
 -- Each task is some work.
-use Rattle.std.proofs.Common.{◌≡◌, ℕ, ◌+◌, ◌<◌, ◌≤◌, List, ◌∷◌, Option, Some, ap, arith}
+use Rattle.std.proofs.Common.{◌≡◌, ℕ, ◌+◌, ◌<◌, ◌≤◌, List, ◌∷◌, Option, Some, refl, ap, arith}
 use denote.Bor.{Bor}
 use Rattle.java_core.specs.declared.RExpr.{RExpr}
 use Rattle.java_core.specs.declared.RStmt.{RStmt}
-use Rattle.java_core.specs.Trees.{Ex, Exs, no_ex, ex_then, field, index, call, static_call, super_call, create, create_array, cast, instance_of, unary, binary, St, Sts, Arms, declare, block, assign, act, print, choose, loop, return, break, continue, no_st, st_then, otherwise, arm, expr_of, exprs, stmts, no_place}
+use Rattle.java_core.specs.Trees.{Ex, Exs, no_ex, ex_then, field, index, call, static_call, super_call, create, create_array, cast, instance_of, unary, binary, St, Sts, Arms, declare, block, assign, act, print, choose, loop, return, break, continue, no_st, st_then, no_other, otherwise, arm, expr_of, exprs, stmts, no_place}
 use Rattle.java_run.specs.declared.machine.Task.{Task}
 use Rattle.java_run.specs.declared.machine.Task.TheVariants as task
 use Rattle.java_run.specs.declared.machine.Take.{Take}
@@ -12,7 +12,7 @@ use Rattle.java_run.specs.declared.machine.Test.{Test}
 use Rattle.java_run.specs.declared.machine.Test.TheVariants as test
 use Rattle.java_run.specs.declared.machine.Stage.TheVariants as stage
 use Rattle.java_run.specs.declared.machine.Call.{Call}
-use Rattle.java_run.specs.Parts.{ex, exs, st, sts, test_in, last_in, arms_in, drop_arms}
+use Rattle.java_run.specs.Parts.{ex, exs, st, sts, test_in, last_in, arms_in, drop_arms, IsElse, without, with_these}
 use Rattle.java_run.specs.Work.{size_ex, size_exs, size_some, size_st, size_sts, size_arms, size_tested, work_take, work, works}
 
 pub ex_some : (x : Ex) → 0 < size_ex x
@@ -40,7 +40,7 @@ st_some (assign t b e) = omega arith
 st_some (act t e) = omega arith
 st_some (print t n e) = omega arith
 st_some (choose t arms) = omega arith
-st_some (loop t first test last body) = omega arith
+st_some (loop t is_while first test last body) = omega arith
 st_some (return t e) = omega arith
 st_some (break t) = omega arith
 st_some (continue t) = omega arith
@@ -50,10 +50,12 @@ sts_some no_st = omega arith
 sts_some (st_then x xs) = omega arith
 
 arms_some : (x : Arms) → 0 < size_arms x
+arms_some no_other = omega arith
 arms_some (otherwise xs) = omega arith
 arms_some (arm e xs more) = omega arith
 
 tested_some : (x : Arms) → 0 < size_tested x
+tested_some no_other = omega arith
 tested_some (otherwise xs) = omega arith
 tested_some (arm e xs more) = omega arith
 
@@ -147,9 +149,13 @@ pub again_work : (x : Bor RStmt) (e : Ex) (us : List Task) → Some e ≡ test_i
 unfolding work works work_take
 again_work x e us h = let q = ap size_some h in omega (arith, q)
 
-pub arm_none_work : (k : ℕ) (x : Bor RStmt) (xs : Sts) (us : List Task) → drop_arms k (arms_in (st x)) ≡ otherwise xs → size_sts xs + works us + 1 ≤ works (task.Statement (stage.Arm k) x ∷ us)
+else_size : {a : Arms} {xs : Sts} → IsElse a xs → size_arms a ≡ size_sts xs + 1
+else_size without = refl
+else_size with_these = refl
+
+pub arm_none_work : (k : ℕ) (x : Bor RStmt) (xs : Sts) (us : List Task) → IsElse (drop_arms k (arms_in (st x))) xs → size_sts xs + works us + 1 ≤ works (task.Statement (stage.Arm k) x ∷ us)
 unfolding work works
-arm_none_work k x xs us h = let q = ap size_arms h in omega (arith, q)
+arm_none_work k x xs us h = let q = else_size h in omega (arith, q)
 
 pub arm_some_work : (k : ℕ) (x : Bor RStmt) (e : Ex) (xs : Sts) (more : Arms) (us : List Task) → drop_arms k (arms_in (st x)) ≡ arm e xs more
     → size_ex e + work_take (Tested (test.Arm k) x) + works us + 1 ≤ works (task.Statement (stage.Arm k) x ∷ us)

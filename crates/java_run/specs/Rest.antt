@@ -2,7 +2,7 @@
 use Rattle.std.specs.Prelude.{ℕ, List, [], ◌∷◌, map, reverse, take, drop, Some}
 use denote.Bor.{Bor}
 use Rattle.java_core.specs.declared.RStmt.{RStmt}
-use Rattle.java_core.specs.Trees.{Ex, Exs, null, this, call, St, Arms, st_then, no_st, otherwise, arm, no_place}
+use Rattle.java_core.specs.Trees.{Ex, Exs, null, this, call, St, Arms, st_then, no_st, no_other, otherwise, arm, no_place}
 use Rattle.java_core.specs.Programs.{Plain, method_seen}
 use Rattle.java_core.specs.Types.{env_of}
 use Rattle.java_heap.specs.Seen.{value_of}
@@ -77,6 +77,7 @@ module _ (L : Lang) (later : Later) where
 
   -- an `if` whose next arm has been tested
   abbrev pub after_test : Arms → moment.Value → Frame → State → ToFlow → Outcome
+  after_test no_other v f s k = stop Wrong s
   after_test (otherwise xs) v f s k = stop Wrong s
   after_test (arm e xs more) v f s k = on_test v s (λ s2. run_all L later xs f s2 k) (λ s2. run_arms L later more f s2 k)
 

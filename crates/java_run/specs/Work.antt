@@ -1,6 +1,6 @@
 -- How much the machine has to do before its next step.
 use Rattle.std.specs.Prelude.{ℕ, ◌+◌, List, [], ◌∷◌, Option, Some, None}
-use Rattle.java_core.specs.Trees.{Ex, Exs, no_ex, ex_then, number, character, text, truth, null, this, local, static_field, own_field, field, index, call, static_call, super_call, create, create_array, cast, instance_of, unary, binary, Target, to_local, to_static, to_own, to_field, to_element, no_target, St, Sts, Arms, declare, block, assign, act, print, choose, loop, return, break, continue, no_st, st_then, otherwise, arm}
+use Rattle.java_core.specs.Trees.{Ex, Exs, no_ex, ex_then, number, character, text, truth, null, this, local, static_field, own_field, field, index, call, static_call, super_call, create, create_array, cast, instance_of, unary, binary, Target, to_local, to_static, to_own, to_field, to_element, no_target, St, Sts, Arms, declare, block, assign, act, print, choose, loop, return, break, continue, no_st, st_then, no_other, otherwise, arm}
 use Rattle.java_run.specs.declared.machine.Task.{Task}
 use Rattle.java_run.specs.declared.machine.Task.TheVariants as task
 use Rattle.java_run.specs.declared.machine.Take.{Take}
@@ -56,7 +56,7 @@ abbrev mutual
   size_st (act t e) = size_ex e + 3
   size_st (print t n e) = size_some e + 3
   size_st (choose t arms) = size_arms arms + 2
-  size_st (loop t first test last body) = size_sts first + size_some test + 6
+  size_st (loop t is_while first test last body) = size_sts first + size_some test + 6
   size_st (return t e) = size_some e + 3
   size_st (break t) = 2
   size_st (continue t) = 2
@@ -66,11 +66,13 @@ abbrev mutual
   size_sts (st_then x xs) = size_st x + size_sts xs + 1
 
   pub size_arms : Arms → ℕ
+  size_arms no_other = 2
   size_arms (otherwise xs) = size_sts xs + 1
   size_arms (arm e xs more) = size_ex e + size_sts xs + size_arms more + 4
 
 -- an `if` whose next arm has been tested
 abbrev pub size_tested : Arms → ℕ
+size_tested no_other = 1
 size_tested (otherwise xs) = 1
 size_tested (arm e xs more) = size_sts xs + size_arms more + 1
 

@@ -14,7 +14,7 @@ use Rattle.java_core.specs.declared.UnOp.TheVariants as un
 use Rattle.java_core.specs.declared.BinOp.{BinOp}
 use Rattle.java_core.specs.declared.BinOp.TheVariants as bin
 use Rattle.java_core.specs.declared.Op.TheVariants as op
-use Rattle.java_core.specs.Trees.{at_place, Ex, number, character, text, truth, null, this, local, static_field, own_field, field, index, call, static_call, super_call, create, create_array, cast, instance_of, unary, binary, Exs, no_ex, ex_then, Target, to_local, to_static, to_own, to_field, to_element, no_target, St, declare, block, assign, act, print, choose, loop, return, break, continue, Sts, no_st, st_then, Arms, otherwise, arm}
+use Rattle.java_core.specs.Trees.{at_place, Ex, number, character, text, truth, null, this, local, static_field, own_field, field, index, call, static_call, super_call, create, create_array, cast, instance_of, unary, binary, Exs, no_ex, ex_then, Target, to_local, to_static, to_own, to_field, to_element, no_target, St, declare, block, assign, act, print, choose, loop, return, break, continue, Sts, no_st, st_then, Arms, no_other, otherwise, arm}
 use Rattle.java_core.specs.Programs.{Plain, PlainLocal, PlainField, PlainMethod, PlainSlot}
 use Rattle.java_core.specs.Types.{types_of}
 use Rattle.java_core.specs.Formed.{variables_of, numbers_methods, IsMain}
@@ -148,10 +148,10 @@ module _ (O : Plain) (here : Here) (k : PlainMethod) where
       r_print : {in_loop line : Bool} {scope : List Bound} {v : Option Expression} {x : Option Ex} {p : Place} → ResolvesIf O here scope v x → StResolves in_loop scope (PrintOf line v p) (print (at_place p) line x)
       r_choose : {in_loop : Bool} {scope : List Bound} {a : tree.Arms} {other : Else} {xs : Arms} {p : Place} → ArmsResolve in_loop scope a other xs → StResolves in_loop scope (IfOf a other p) (choose (at_place p) xs)
       r_while : {in_loop : Bool} {scope : List Bound} {e : Expression} {x : Ex} {ss : Statements} {xs : Sts} {p : Place} → ResolvesTo O here scope e x → StsResolve true scope ss xs
-          → StResolves in_loop scope (WhileOf e ss p) (loop (at_place p) no_st (Some x) no_st xs)
+          → StResolves in_loop scope (WhileOf e ss p) (loop (at_place p) true no_st (Some x) no_st xs)
       r_for : {in_loop : Bool} {scope : List Bound} {f g : OptionalStatement} {v : Option Expression} {x : Option Ex} {ss : Statements} {first step xs : Sts} {p : Place} → PartResolves in_loop scope f first
           → ResolvesIf O here (scope_after_part scope f first) v x → PartResolves in_loop (scope_after_part scope f first) g step → StsResolve true (scope_after_part scope f first) ss xs
-          → StResolves in_loop scope (ForOf f v g ss p) (loop (at_place p) first x step xs)
+          → StResolves in_loop scope (ForOf f v g ss p) (loop (at_place p) false first x step xs)
       r_return : {in_loop : Bool} {scope : List Bound} {v : Option Expression} {x : Option Ex} {p : Place} → ResolvesIf O here scope v x → StResolves in_loop scope (ReturnOf v p) (return (at_place p) x)
       r_break : {scope : List Bound} {p : Place} → StResolves true scope (BreakOf p) (break (at_place p))
       r_continue : {scope : List Bound} {p : Place} → StResolves true scope (ContinueOf p) (continue (at_place p))
@@ -162,9 +162,9 @@ module _ (O : Plain) (here : Here) (k : PlainMethod) where
       r_and_then : {in_loop : Bool} {scope : List Bound} {s : Statement} {x : St} {ss : Statements} {xs : Sts} → StResolves in_loop scope s x → StsResolve in_loop (scope_after scope s x) ss xs
           → StsResolve in_loop scope (and_then s ss) (st_then x xs)
 
-    -- the arms of an `if`, the last of them its `else`; one that is not there is empty
+    -- the arms of an `if`, and behind them its `else` or none
     pub data ArmsResolve : Bool → List Bound → tree.Arms → Else → Arms → Type 0 where
-      r_no_else : {in_loop : Bool} {scope : List Bound} → ArmsResolve in_loop scope tree.no_arms no_else (otherwise no_st)
+      r_no_else : {in_loop : Bool} {scope : List Bound} → ArmsResolve in_loop scope tree.no_arms no_else no_other
       r_else : {in_loop : Bool} {scope : List Bound} {ss : Statements} {xs : Sts} → StsResolve in_loop scope ss xs → ArmsResolve in_loop scope tree.no_arms (tree.otherwise ss) (otherwise xs)
       r_arm : {in_loop : Bool} {scope : List Bound} {e : Expression} {x : Ex} {ss : Statements} {xs : Sts} {a : tree.Arms} {other : Else} {more : Arms} → ResolvesTo O here scope e x → StsResolve in_loop scope ss xs
           → ArmsResolve in_loop scope a other more → ArmsResolve in_loop scope (tree.and_arm e ss a) other (arm x xs more)
@@ -180,7 +180,7 @@ abbrev mutual
   declares (declare t i e) = i ∷ []
   declares (block t xs) = declares_all xs
   declares (choose t xs) = declares_arms xs
-  declares (loop t first test step body) = declares_all first ++ declares_all step ++ declares_all body
+  declares (loop t is_while first test step body) = declares_all first ++ declares_all step ++ declares_all body
   declares (assign t b e) = []
   declares (act t e) = []
   declares (print t n e) = []
@@ -193,6 +193,7 @@ abbrev mutual
   declares_all (st_then x xs) = declares x ++ declares_all xs
 
   pub declares_arms : Arms → List ℕ
+  declares_arms no_other = []
   declares_arms (otherwise xs) = declares_all xs
   declares_arms (arm e xs more) = declares_all xs ++ declares_arms more
 

@@ -4,7 +4,7 @@ use Rattle.std.specs.Option.{is_some}
 use Rattle.java_core.specs.declared.Ty.{Ty}
 use Rattle.java_core.specs.declared.UnOp.{UnOp}
 use Rattle.java_core.specs.declared.BinOp.{BinOp}
-use Rattle.java_core.specs.Trees.{Tag, Ex, Exs, no_ex, ex_then, number, character, text, truth, null, this, local, static_field, own_field, field, index, call, static_call, super_call, create, create_array, cast, instance_of, unary, binary, Target, to_local, to_static, to_own, to_field, to_element, St, Sts, Arms, declare, block, assign, act, print, choose, loop, return, break, continue, no_st, st_then, otherwise, arm}
+use Rattle.java_core.specs.Trees.{Tag, Ex, Exs, no_ex, ex_then, number, character, text, truth, null, this, local, static_field, own_field, field, index, call, static_call, super_call, create, create_array, cast, instance_of, unary, binary, Target, to_local, to_static, to_own, to_field, to_element, St, Sts, Arms, declare, block, assign, act, print, choose, loop, return, break, continue, no_st, st_then, no_other, otherwise, arm}
 use Rattle.java_core.specs.Programs.{Plain, PlainField, PlainMethod}
 use Rattle.java_core.specs.Classes.{declaration_of, super_method}
 use Rattle.java_core.specs.Types.{Env, class_of, element_of, is_string, field_in, static}
@@ -88,8 +88,8 @@ module _ (P W : Plain) (R : Renaming) where
         m_act : {t u : Tag} {e d : Ex} → Matches e d → MatchesSt (act t e) (act u d)
         m_print : {t u : Tag} {n : Bool} {e d : Option Ex} → MatchesIf e d → MatchesSt (print t n e) (print u n d)
         m_choose : {t u : Tag} {a b : Arms} → MatchesArms a b → MatchesSt (choose t a) (choose u b)
-        m_loop : {t u : Tag} {first step body other last code : Sts} {e d : Option Ex} → MatchesSts first other → MatchesIf e d → MatchesSts step last → MatchesSts body code
-            → MatchesSt (loop t first e step body) (loop u other d last code)
+        m_loop : {t u : Tag} {is_while : Bool} {first step body other last code : Sts} {e d : Option Ex} → MatchesSts first other → MatchesIf e d → MatchesSts step last → MatchesSts body code
+            → MatchesSt (loop t is_while first e step body) (loop u is_while other d last code)
         m_return : {t u : Tag} {e d : Option Ex} → MatchesIf e d → MatchesSt (return t e) (return u d)
         m_break : {t u : Tag} → MatchesSt (break t) (break u)
         m_continue : {t u : Tag} → MatchesSt (continue t) (continue u)
@@ -99,5 +99,6 @@ module _ (P W : Plain) (R : Renaming) where
         m_st_then : {x y : St} {xs ys : Sts} → MatchesSt x y → MatchesSts xs ys → MatchesSts (st_then x xs) (st_then y ys)
 
       pub data MatchesArms : Arms → Arms → Type 0 where
+        m_no_other : MatchesArms no_other no_other
         m_otherwise : {xs ys : Sts} → MatchesSts xs ys → MatchesArms (otherwise xs) (otherwise ys)
         m_arm : {e d : Ex} {xs ys : Sts} {a b : Arms} → Matches e d → MatchesSts xs ys → MatchesArms a b → MatchesArms (arm e xs a) (arm d ys b)

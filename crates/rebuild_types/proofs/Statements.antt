@@ -5,11 +5,11 @@ use Rattle.std.specs.Option.{is_some}
 use Rattle.std.proofs.lemmas.Bool.{false≢true}
 use Rattle.kaba_base.specs.declared.Place.{Place}
 use Rattle.java_core.specs.declared.Ty.{Ty}
-use Rattle.java_core.specs.Trees.{Tag, Ex, this, local, static_field, Target, to_local, to_static, to_own, to_field, to_element, no_target, St, Sts, Arms, declare, block, assign, act, print, choose, loop, return, break, continue, no_st, st_then, otherwise, arm}
+use Rattle.java_core.specs.Trees.{Tag, Ex, this, local, static_field, Target, to_local, to_static, to_own, to_field, to_element, no_target, St, Sts, Arms, declare, block, assign, act, print, choose, loop, return, break, continue, no_st, st_then, no_other, otherwise, arm}
 use Rattle.java_core.specs.Programs.{Plain, PlainMethod}
 use Rattle.java_core.specs.Types.{Static, or_nothing, Env, env_of, element_of, is_numeric, is_boolean, is_printable, field_type, value_type, fits, fits_in, static, target_type}
-use Rattle.java_core.specs.Typing.{Typed, TypedTarget, TypedTest, TypedSt, TypedSts, TypedArms, t_this, t_to_local, t_to_static, t_to_field, t_to_element, t_always, t_test, t_declare, t_declare_as, t_block, t_assign, t_act, t_print_line, t_print, t_choose, t_loop, t_return_nothing, t_return, t_break, t_continue, t_no_st, t_st_then, t_otherwise, t_arm}
-use Rattle.java_core.specs.Formed.{IsFormed, FormedEx, FormedTarget, FormedOption, FormedSt, FormedSts, FormedArms, numbers_below, f_to_own, f_to_field, f_to_element, f_some, f_declare, f_block, f_assign, f_act, f_print, f_choose, f_loop, f_return, f_st_then, f_otherwise, f_arm}
+use Rattle.java_core.specs.Typing.{Typed, TypedTarget, TypedTest, TypedSt, TypedSts, TypedArms, t_this, t_to_local, t_to_static, t_to_field, t_to_element, t_always, t_test, t_declare, t_declare_as, t_block, t_assign, t_act, t_print_line, t_print, t_choose, t_loop, t_return_nothing, t_return, t_break, t_continue, t_no_st, t_st_then, t_no_other, t_otherwise, t_arm}
+use Rattle.java_core.specs.Formed.{IsFormed, FormedEx, FormedTarget, FormedOption, FormedSt, FormedSts, FormedArms, numbers_below, f_to_own, f_to_field, f_to_element, f_some, f_declare, f_block, f_assign, f_act, f_print, f_choose, f_loop, f_return, f_st_then, f_no_other, f_otherwise, f_arm}
 use Rattle.java_meaning.specs.Watched.{bare, bare_if, bare_target, bare_st, bare_sts, bare_arms}
 use Rattle.fact_model.specs.declared.facts.Facts.{Facts}
 use Rattle.flow_rules.specs.declared.items.ObjectType.{ObjectType}
@@ -26,7 +26,7 @@ use Rattle.run_cover.proofs.Untagging.{unlabel_sts}
 use Rattle.run_cover.proofs.HasRows.{field_row_of, result_row_of, variable_row_of}
 use Rattle.run_cover.proofs.Types.{of_element}
 use Rattle.rebuild_model.specs.Renaming.{Renaming, retyped, retyped_if}
-use Rattle.rebuild_model.specs.Matches.{Matches, MatchesIf, MatchesTarget, MatchesSt, MatchesSts, MatchesArms, m_none, m_some, m_to_local, m_to_static, m_to_own, m_to_field, m_to_element, m_declare, m_block, m_assign, m_act, m_print, m_choose, m_loop, m_return, m_break, m_continue, m_no_st, m_st_then, m_otherwise, m_arm}
+use Rattle.rebuild_model.specs.Matches.{Matches, MatchesIf, MatchesTarget, MatchesSt, MatchesSts, MatchesArms, m_none, m_some, m_to_local, m_to_static, m_to_own, m_to_field, m_to_element, m_declare, m_block, m_assign, m_act, m_print, m_choose, m_loop, m_return, m_break, m_continue, m_no_st, m_st_then, m_no_other, m_otherwise, m_arm}
 use Rattle.rebuild_types.proofs.Retyped.{retyped_static, HasClass, IsUnder, retyped_or, numeric_kept, boolean_kept, printable_kept, element_kept, some_kept, fits_kept, fits_in_kept}
 use Rattle.rebuild_types.proofs.Asked.{Serves, AreRenewed, SeesNew}
 use Rattle.rebuild_types.proofs.Walk as walk
@@ -230,9 +230,10 @@ module _ (Q W : Plain) (F : Facts) (formed : IsFormed (untagged Q)) (slots : Hav
     again_st l sc (print t n None) y ty fo st (m_print m_none) = t_print_line
     again_st l sc (print t n (Some e)) y (t_print te pr) (f_print or (f_some fe)) st (m_print (m_some {d = d} me)) =
         let a = same false sc e d te fe st me in t_print a.typed (ap is_printable a.type ∙ printable_kept (C (row_at e)) (old e) ∙ pr)
+    again_st l sc (choose t no_other) y ty fo st mx = elim fo [ ]
     again_st l sc (choose t (otherwise xs)) y ty fo st mx = elim fo [ ]
     again_st l sc (choose t (arm e xs more)) y (t_choose ty) (f_choose fo) st (m_choose {b = b} ma) = t_choose (again_arms l sc (arm e xs more) b ty fo st ma)
-    again_st l sc (loop t head test step code) y (t_loop th tt1 ts tb) (f_loop one two fh ft fs fb) st
+    again_st l sc (loop t is_while head test step code) y (t_loop th tt1 ts tb) (f_loop of one two fh ft fs fb) st
         (m_loop {other = other} {last = last} {code = written} {d = d} mh me ms mb) =
         let three = left (sts head ++ if_there test ++ sts step) (sts code) st in
         let both = left (sts head ++ if_there test) (sts step) three in
@@ -260,6 +261,7 @@ module _ (Q W : Plain) (F : Facts) (formed : IsFormed (untagged Q)) (slots : Hav
 
     again_arms : (l : Bool) (sc : List ℕ) (xs ys : Arms) → TypedArms P g (bare_arms xs) → FormedArms P (untag_method k) l sc (bare_arms xs)
         → Stands (parts_arms P (type_in P m k) m k xs) → MatchesArms P W R g (bare_arms xs) ys → TypedArms W h ys
+    again_arms l sc no_other ys ty fo st m_no_other = t_no_other
     again_arms l sc (otherwise xs) ys (t_otherwise ty) (f_otherwise fo) st (m_otherwise {ys = zs} mx) = t_otherwise (again_sts l sc xs zs ty fo st mx)
     again_arms l sc (arm e xs more) ys (t_arm te b txs tm) (f_arm fe fxs fm) st (m_arm {d = d} {ys = zs} {b = rest} me mx mm) =
         let both = left (tree false e ++ sts xs) (parts_arms P (type_in P m k) m k more) st in

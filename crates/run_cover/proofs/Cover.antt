@@ -12,7 +12,7 @@ use Rattle.java_core.specs.declared.BinOp.{BinOp}
 use Rattle.java_core.specs.declared.BinOp.TheVariants as bin
 use Rattle.java_core.specs.declared.Op.{Op}
 use Rattle.java_core.specs.declared.Fault.TheVariants as fault
-use Rattle.java_core.specs.Trees.{Ex, Exs, no_ex, ex_then, number, character, text, truth, null, this, local, static_field, own_field, field, index, call, static_call, super_call, create, create_array, cast, instance_of, unary, binary, Target, to_local, to_static, to_own, to_field, to_element, no_target, St, Sts, Arms, declare, block, assign, act, print, choose, loop, return, break, continue, no_st, st_then, otherwise, arm}
+use Rattle.java_core.specs.Trees.{Ex, Exs, no_ex, ex_then, number, character, text, truth, null, this, local, static_field, own_field, field, index, call, static_call, super_call, create, create_array, cast, instance_of, unary, binary, Target, to_local, to_static, to_own, to_field, to_element, no_target, St, Sts, Arms, declare, block, assign, act, print, choose, loop, return, break, continue, no_st, st_then, otherwise, arm, no_other}
 use Rattle.java_core.specs.Types.{Env, class_type, element_in, StringMethod, LengthOf, CharAt, Equals}
 use Rattle.java_meaning.specs.Moment.{Value, Number, Truth, CodeUnit, Nothing, Text, Object, Kind, an_object, an_array, Cell, own_type, own_class, Spot, held, bound, self_of, result_of, set_static, kept, put_in, touched, tested, ran, Met, State, Frame, Ended, Faulted, Going, Wrong, Escaped, Outcome, stop, Body, Lang, with_some, on_bool, look, look_all}
 use Rattle.java_meaning.specs.Values.{default_of, convert, arguments, number_of, truth_of, natural_of, text_of, arith, unary_value, cast_number, same_value, compared, join, defaults, equals_value}
@@ -534,22 +534,22 @@ module _ (L : Lang) (Made : Option ℕ → Kind → Type 0) (V : Family) (inc : 
         one_fine (act t e) f s k i ok fo h = value_fine e f s _ i ok fo (λ v s1 r iv. h Next f s1 r refl (frame_kept s.cells s1.cells f r.keeps fo) tt)
         one_fine (print t l e) f s k i ok fo h = print_fine l e f s _ i ok fo (λ s1 r. h Next f s1 r refl (frame_kept s.cells s1.cells f r.keeps fo) tt)
         one_fine (choose t xs) f s k i ok fo h = arms_fine xs f s k i ok fo h
-        one_fine (loop t first test last body) f s k i ok fo h =
+        one_fine (loop t is_while first test last body) f s k i ok fo h =
             all_fine first f s _ i.0 ok fo (λ w f1 s1 r e1 fo1 wo.
             let h1 = kf_on f.env f1.env s.cells s1.cells k e1 r.keeps h in
-            let again : IncludedSts L Made V f1.env (st_then (loop t no_st test last body) no_st) = subst (λ g. IncludedSts L Made V g (st_then (loop t no_st test last body) no_st)) (sym e1) ((tt, i.1, i.2, i.3), tt) in
+            let again : IncludedSts L Made V f1.env (st_then (loop t is_while no_st test last body) no_st) = subst (λ g. IncludedSts L Made V g (st_then (loop t is_while no_st test last body) no_st)) (sym e1) ((tt, i.1, i.2, i.3), tt) in
             after_one_fine f1.env w f1 s1 k _ r.good refl fo1 (subst (λ g. FlowIn g s1.cells w) (sym e1) wo) h1
             (run_test_fine test f1 s1 _ _ again.0.1 r.good fo1
             (λ s3 r3. step_fine s3 _ (λ n. let s4 = record s3 { left = n } in
             all_fine body f1 s4 _ again.0.3 r3.good (frame_kept s1.cells s3.cells f1 r3.keeps fo1) (λ w3 f3 s5 r5 e3 fo3 wo3.
             let k5 = keeps_on s1.cells s3.cells s5.cells r3.keeps r5.keeps in
             let h3 = kf_on f1.env f3.env s1.cells s5.cells k e3 k5 h1 in
-            let again3 : IncludedSts L Made V f3.env (st_then (loop t no_st test last body) no_st) = subst (λ g. IncludedSts L Made V g (st_then (loop t no_st test last body) no_st)) (sym e3) again in
+            let again3 : IncludedSts L Made V f3.env (st_then (loop t is_while no_st test last body) no_st) = subst (λ g. IncludedSts L Made V g (st_then (loop t is_while no_st test last body) no_st)) (sym e3) again in
             after_turn_fine f3.env w3 f3 s5 k _ r5.good refl fo3 (subst (λ g. FlowIn g s5.cells w3) (sym e3) wo3) h3
             (all_fine last f3 s5 _ again3.0.2 r5.good fo3 (λ w5 f5 s7 r7 e5 fo5 wo5.
             let h5 = kf_on f3.env f5.env s5.cells s7.cells k e5 r7.keeps h3 in
             after_one_fine f5.env w5 f5 s7 k _ r7.good refl fo5 (subst (λ g. FlowIn g s7.cells w5) (sym e5) wo5) h5
-            (next.runs (st_then (loop t no_st test last body) no_st) f5 s7 k (subst (λ g. IncludedSts L Made V g (st_then (loop t no_st test last body) no_st)) (sym e5) again3) r7.good fo5 h5))))))
+            (next.runs (st_then (loop t is_while no_st test last body) no_st) f5 s7 k (subst (λ g. IncludedSts L Made V g (st_then (loop t is_while no_st test last body) no_st)) (sym e5) again3) r7.good fo5 h5))))))
             (λ s3 r3. h1 Next f1 s3 r3 refl (frame_kept s1.cells s3.cells f1 r3.keeps fo1) tt)))
         one_fine (return t e) f s k i ok fo h = return_fine e f s k i ok fo h
         one_fine (break t) f s k i ok fo h = h Broke f s (here s.cells s.statics ok) refl fo tt
@@ -563,6 +563,7 @@ module _ (L : Lang) (Made : Option ℕ → Kind → Type 0) (V : Family) (inc : 
             after_one_fine f1.env w f1 s1 k _ r.good refl fo1 (subst (λ g. FlowIn g s1.cells w) (sym e1) wo) h1 (all_fine xs f1 s1 k (subst (λ g. IncludedSts L Made V g xs) (sym e1) i.1) r.good fo1 h1))
 
         arms_fine : (xs : Arms) (f : Frame) (s : State) (k : ToFlow) → IncludedArms L Made V f.env xs → Good s.cells s.statics → FrameIn s.cells f → KF f.env s.cells k → Fine (run_arms L later xs f s k)
+        arms_fine no_other f s k i ok fo h = h Next f s (here s.cells s.statics ok) refl fo tt
         arms_fine (otherwise xs) f s k i ok fo h = all_fine xs f s k i ok fo h
         arms_fine (arm e xs more) f s k i ok fo h =
             value_fine e f s _ i.0 ok fo (λ v s1 r iv.

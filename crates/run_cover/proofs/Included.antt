@@ -10,7 +10,7 @@ use Rattle.kaba_base.specs.declared.Place.{Place}
 use Rattle.java_core.specs.declared.Ty.{Ty}
 use Rattle.java_core.specs.declared.TyBase.{TyBase}
 use Rattle.java_core.specs.declared.TyBase.TheVariants.{Int, Boolean, Char, Str, Class}
-use Rattle.java_core.specs.Trees.{Tag, Ex, Exs, no_ex, ex_then, number, character, text, truth, null, this, local, static_field, own_field, field, index, call, static_call, super_call, create, create_array, cast, instance_of, unary, binary, Target, to_local, to_static, to_own, to_field, to_element, no_target, St, Sts, Arms, declare, block, assign, act, print, choose, loop, return, break, continue, no_st, st_then, otherwise, arm}
+use Rattle.java_core.specs.Trees.{Tag, Ex, Exs, no_ex, ex_then, number, character, text, truth, null, this, local, static_field, own_field, field, index, call, static_call, super_call, create, create_array, cast, instance_of, unary, binary, Target, to_local, to_static, to_own, to_field, to_element, no_target, St, Sts, Arms, declare, block, assign, act, print, choose, loop, return, break, continue, no_st, st_then, no_other, otherwise, arm}
 use Rattle.java_core.specs.Programs.{Plain, PlainMethod}
 use Rattle.java_core.specs.Classes.{below, lookup, super_method, member_field, slot_of}
 use Rattle.java_core.specs.Types.{Static, a_value, null_value, no_value, or_nothing, Env, env_of, types_of, class_type, class_in, class_of, element_in, field_type, field_in, is_subtype, is_sub_base, static}
@@ -666,7 +666,7 @@ module _ (P Q : Plain) (F : Facts) (S : Sets) where
       included_st (act t e) st = included false e st
       included_st (print t n e) st = included_if e st
       included_st (choose t xs) st = included_arms xs st
-      included_st (loop t first test step body) st =
+      included_st (loop t is_while first test step body) st =
           let first3 = stands_left (sts first ++ if_there test ++ sts step) (sts body) st in
           let first2 = stands_left (sts first ++ if_there test) (sts step) first3 in (
             included_sts first (stands_left (sts first) (if_there test) first2),
@@ -683,6 +683,7 @@ module _ (P Q : Plain) (F : Facts) (S : Sets) where
       included_sts (st_then x xs) st = (included_st x (stands_left (parts_st P (type_in P m k) m k x) (sts xs) st), included_sts xs (stands_right (parts_st P (type_in P m k) m k x) (sts xs) st))
 
       included_arms : (xs : Arms) → Stands (parts_arms P (type_in P m k) m k xs) → IncludedArms L MadeAs V g xs
+      included_arms no_other st = tt
       included_arms (otherwise xs) st = included_sts xs st
       included_arms (arm e xs more) st =
           let first2 = stands_left (tree false e ++ sts xs) (parts_arms P (type_in P m k) m k more) st in (

@@ -10,12 +10,12 @@ use Rattle.kaba_base.specs.declared.Place.{Place}
 use Rattle.java_core.specs.declared.Ty.{Ty}
 use Rattle.java_core.specs.declared.TyBase.TheVariants.{Int}
 use Rattle.std.proofs.lemmas.Bool.{false≢true}
-use Rattle.java_core.specs.Trees.{Tag, Ex, Exs, no_ex, ex_then, number, character, text, truth, null, this, local, static_field, own_field, field, index, call, static_call, super_call, create, create_array, cast, instance_of, unary, binary, Target, to_local, to_static, to_own, to_field, to_element, no_target, St, Sts, Arms, declare, block, assign, act, print, choose, loop, return, break, continue, no_st, st_then, otherwise, arm}
+use Rattle.java_core.specs.Trees.{Tag, Ex, Exs, no_ex, ex_then, number, character, text, truth, null, this, local, static_field, own_field, field, index, call, static_call, super_call, create, create_array, cast, instance_of, unary, binary, Target, to_local, to_static, to_own, to_field, to_element, no_target, St, Sts, Arms, declare, block, assign, act, print, choose, loop, return, break, continue, no_st, st_then, no_other, otherwise, arm}
 use Rattle.java_core.specs.Programs.{Plain, PlainMethod, PlainLocal}
 use Rattle.java_core.specs.Classes.{super_method, nearest_of, parent_of, own_method, is_method_of, member_field, slot_of, slot_of_method}
 use Rattle.java_core.specs.Types.{Static, a_value, null_value, no_value, or_nothing, Env, env_of, types_of, plain_type, is_length, class_of, element_of, length_or, field_type, field_in, access_type, fits, fits_in, Signature, signature_of_method, call_signature, super_signature, result_of, static, target_type}
-use Rattle.java_core.specs.Typing.{Typed, TypedArgs, TypedTarget, TypedTest, TypedSt, TypedSts, TypedArms, t_field, t_index, t_call, t_static_call, t_super_call, t_create_array, t_cast, t_instance_of, t_unary, t_binary, t_ex_then, t_to_field, t_to_element, t_test, t_declare_as, t_block, t_assign, t_act, t_print, t_choose, t_loop, t_return, t_st_then, t_otherwise, t_arm}
-use Rattle.java_core.specs.Formed.{IsFormed, FormedEx, FormedExs, IsStaticField, IsStaticMethod, FormedTarget, FormedOption, FormedSt, FormedSts, FormedArms, numbers_below, f_to_static, f_to_field, f_to_element, f_some, f_declare, f_block, f_assign, f_act, f_print, f_choose, f_loop, f_return, f_st_then, f_otherwise, f_arm, f_this, f_field, f_index, f_call, f_static_call, f_super_call, f_create_array, f_cast, f_instance_of, f_unary, f_binary, f_ex_then}
+use Rattle.java_core.specs.Typing.{Typed, TypedArgs, TypedTarget, TypedTest, TypedSt, TypedSts, TypedArms, t_field, t_index, t_call, t_static_call, t_super_call, t_create_array, t_cast, t_instance_of, t_unary, t_binary, t_ex_then, t_to_field, t_to_element, t_test, t_declare_as, t_block, t_assign, t_act, t_print, t_choose, t_loop, t_return, t_st_then, t_no_other, t_otherwise, t_arm}
+use Rattle.java_core.specs.Formed.{IsFormed, FormedEx, FormedExs, IsStaticField, IsStaticMethod, FormedTarget, FormedOption, FormedSt, FormedSts, FormedArms, numbers_below, f_to_static, f_to_field, f_to_element, f_some, f_declare, f_block, f_assign, f_act, f_print, f_choose, f_loop, f_return, f_st_then, f_no_other, f_otherwise, f_arm, f_this, f_field, f_index, f_call, f_static_call, f_super_call, f_create_array, f_cast, f_instance_of, f_unary, f_binary, f_ex_then}
 use Rattle.fact_model.specs.declared.facts.Facts.{Facts}
 use Rattle.flow_rules.specs.declared.items.ObjectType.{ObjectType}
 use Rattle.flow_rules.specs.declared.items.Operand.{Operand}
@@ -559,9 +559,10 @@ module _ (Q : Plain) (F : Facts) (formed : IsFormed (untagged Q)) (slots : HaveS
     st_kinds l sc (act t e) (t_act te) (f_act c fe) st = kinds false sc e te fe st
     st_kinds l sc (print t n None) ty fo st = k_nil
     st_kinds l sc (print t n (Some e)) (t_print te pr) (f_print or (f_some fe)) st = kinds false sc e te fe st
+    st_kinds l sc (choose t no_other) ty fo st = elim fo [ ]
     st_kinds l sc (choose t (otherwise xs)) ty fo st = elim fo [ ]
     st_kinds l sc (choose t (arm e xs more)) (t_choose ty) (f_choose fo) st = arms_kinds l sc (arm e xs more) ty fo st
-    st_kinds l sc (loop t head test step body) (t_loop th tt1 ts tb) (f_loop one two fh ft fs fb) st =
+    st_kinds l sc (loop t is_while head test step body) (t_loop th tt1 ts tb) (f_loop of one two fh ft fs fb) st =
         let three = left (sts head ++ if_there test ++ sts step) (sts body) st in
         let both = left (sts head ++ if_there test) (sts step) three in
         k_append (sts head ++ if_there test ++ sts step) (sts body)
@@ -580,6 +581,7 @@ module _ (Q : Plain) (F : Facts) (formed : IsFormed (untagged Q)) (slots : HaveS
         k_append (parts_st P (type_in P m k) m k x) (sts xs) (st_kinds l sc x tx fx (left (parts_st P (type_in P m k) m k x) (sts xs) st)) (sts_kinds l _ xs txs fxs (right (parts_st P (type_in P m k) m k x) (sts xs) st))
 
     arms_kinds : (l : Bool) (sc : List ℕ) (xs : Arms) → TypedArms P g (bare_arms xs) → FormedArms P (untag_method k) l sc (bare_arms xs) → Stands (parts_arms P (type_in P m k) m k xs) → K (parts_arms P (type_in P m k) m k xs)
+    arms_kinds l sc no_other ty fo st = k_nil
     arms_kinds l sc (otherwise xs) (t_otherwise ty) (f_otherwise fo) st = sts_kinds l sc xs ty fo st
     arms_kinds l sc (arm e xs more) (t_arm te b txs tm) (f_arm fe fxs fm) st =
         let both = left (tree false e ++ sts xs) (parts_arms P (type_in P m k) m k more) st in

@@ -6,7 +6,7 @@ use Rattle.std.specs.List.{flat_map}
 use Rattle.std.proofs.lemmas.Option.{same_Some, slice_get_within, get_or_from_slice_get, slice_get-get_or}
 use Rattle.std.proofs.lemmas.List.Elements.{Contains-append_left, Contains-append_right, Contains-append_cases}
 use Rattle.kaba_base.specs.declared.Place.{Place}
-use Rattle.java_core.specs.Trees.{Ex, Exs, no_ex, ex_then, number, character, text, truth, null, this, local, static_field, own_field, field, index, call, static_call, super_call, create, create_array, cast, instance_of, unary, binary, Target, to_local, to_static, to_own, to_field, to_element, no_target, St, Sts, Arms, declare, block, assign, act, print, choose, loop, return, break, continue, no_st, st_then, otherwise, arm}
+use Rattle.java_core.specs.Trees.{Ex, Exs, no_ex, ex_then, number, character, text, truth, null, this, local, static_field, own_field, field, index, call, static_call, super_call, create, create_array, cast, instance_of, unary, binary, Target, to_local, to_static, to_own, to_field, to_element, no_target, St, Sts, Arms, declare, block, assign, act, print, choose, loop, return, break, continue, no_st, st_then, no_other, otherwise, arm}
 use Rattle.java_core.specs.Programs.{Plain, PlainMethod}
 use Rattle.java_core.specs.Formed.{IsFormed, HasNoTwice, numbers, numbers_all, numbers_if, numbers_target, numbers_st, numbers_sts, numbers_arms, numbers_body, numbers_methods}
 use Rattle.fact_model.specs.declared.facts.Facts.{Facts}
@@ -85,7 +85,7 @@ module _ (T : Ex → Option ObjectType) where
     made_st (act t e) = made e
     made_st (print t n e) = made_if e
     made_st (choose t xs) = made_arms xs
-    made_st (loop t first test step body) = made_sts first ++ made_if test ++ made_sts step ++ made_sts body
+    made_st (loop t is_while first test step body) = made_sts first ++ made_if test ++ made_sts step ++ made_sts body
     made_st (return t e) = made_if e
     made_st (break t) = []
     made_st (continue t) = []
@@ -95,6 +95,7 @@ module _ (T : Ex → Option ObjectType) where
     made_sts (st_then x xs) = made_st x ++ made_sts xs
 
     made_arms : Arms → List Made
+    made_arms no_other = []
     made_arms (otherwise xs) = made_sts xs
     made_arms (arm e xs more) = made e ++ made_sts xs ++ made_arms more
 
@@ -153,7 +154,7 @@ module _ (T : Ex → Option ObjectType) where
     st_numbers (act t e) = made_numbers e
     st_numbers (print t n e) = if_numbers e
     st_numbers (choose t xs) = arms_numbers xs
-    st_numbers (loop t first test step body) =
+    st_numbers (loop t is_while first test step body) =
         joined (made_sts first ++ made_if test ++ made_sts step) (made_sts body) _ _
         (joined (made_sts first ++ made_if test) (made_sts step) _ _ (joined (made_sts first) (made_if test) _ _ (sts_numbers first) (if_numbers test)) (sts_numbers step)) (sts_numbers body)
     st_numbers (return t e) = if_numbers e
@@ -165,6 +166,7 @@ module _ (T : Ex → Option ObjectType) where
     sts_numbers (st_then x xs) = joined (made_st x) (made_sts xs) _ _ (st_numbers x) (sts_numbers xs)
 
     arms_numbers : (xs : Arms) → N (made_arms xs) ≡ numbers_arms (bare_arms xs)
+    arms_numbers no_other = refl
     arms_numbers (otherwise xs) = sts_numbers xs
     arms_numbers (arm e xs more) = joined (made e ++ made_sts xs) (made_arms more) _ _ (joined (made e) (made_sts xs) _ _ (made_numbers e) (sts_numbers xs)) (arms_numbers more)
 
@@ -286,7 +288,7 @@ module _ (P : Plain) (m : ℕ) (k : PlainMethod) where
     st_among (act t e) = tree_among false e
     st_among (print t n e) = if_among e
     st_among (choose t xs) = arms_among xs
-    st_among (loop t head test step body) =
+    st_among (loop t is_while head test step body) =
         m_append T (sts head ++ parts_if P (type_in P m k) m k test ++ sts step) (sts body) (made_sts T head ++ made_if T test ++ made_sts T step) (made_sts T body)
         (m_append T (sts head ++ parts_if P (type_in P m k) m k test) (sts step) (made_sts T head ++ made_if T test) (made_sts T step)
         (m_append T (sts head) (parts_if P (type_in P m k) m k test) (made_sts T head) (made_if T test) (sts_among head) (if_among test)) (sts_among step)) (sts_among body)
@@ -299,6 +301,7 @@ module _ (P : Plain) (m : ℕ) (k : PlainMethod) where
     sts_among (st_then x xs) = m_append T (parts_st P (type_in P m k) m k x) (sts xs) (made_st T x) (made_sts T xs) (st_among x) (sts_among xs)
 
     arms_among : (xs : Arms) → M T (parts_arms P (type_in P m k) m k xs) (made_arms T xs)
+    arms_among no_other = m_nil T []
     arms_among (otherwise xs) = sts_among xs
     arms_among (arm e xs more) =
         m_append T (tree false e ++ sts xs) (parts_arms P (type_in P m k) m k more) (made T e ++ made_sts T xs) (made_arms T more) (m_append T (tree false e) (sts xs) (made T e) (made_sts T xs) (tree_among false e) (sts_among xs)) (arms_among more)

@@ -1,7 +1,7 @@
 -- Tags do not matter to types.
 use Rattle.std.proofs.Common.{◌≡◌, ℕ, ◌+◌, List, [], ◌∷◌, ◌++◌, Option, Some, None, refl, ap}
 use Rattle.std.specs.Prelude.{map}
-use Rattle.java_core.specs.Trees.{Ex, Exs, no_ex, ex_then, number, character, text, truth, null, this, local, static_field, own_field, field, index, call, static_call, super_call, create, create_array, cast, instance_of, unary, binary, Target, to_local, to_static, to_own, to_field, to_element, no_target, St, Sts, Arms, declare, block, assign, act, print, choose, loop, return, break, continue, no_st, st_then, otherwise, arm}
+use Rattle.java_core.specs.Trees.{Ex, Exs, no_ex, ex_then, number, character, text, truth, null, this, local, static_field, own_field, field, index, call, static_call, super_call, create, create_array, cast, instance_of, unary, binary, Target, to_local, to_static, to_own, to_field, to_element, no_target, St, Sts, Arms, declare, block, assign, act, print, choose, loop, return, break, continue, no_st, st_then, no_other, otherwise, arm}
 use Rattle.java_core.specs.Programs.{PlainMethod, PlainLocal}
 use Rattle.java_core.specs.Types.{env_of, types_of}
 use Rattle.flow_rules.specs.Labels.{label, label_all, label_if, label_target, label_st, label_sts, label_arms, size, size_target, size_st, size_sts, size_if}
@@ -55,7 +55,7 @@ mutual
   unlabel_st n (act t e) = rw (unlabel n e) refl
   unlabel_st n (print t l e) = rw (unlabel_if n e) refl
   unlabel_st n (choose t xs) = rw (unlabel_arms n xs) refl
-  unlabel_st n (loop t first test step body) = rw (unlabel_sts n first, unlabel_if (n + size_sts first) test, unlabel_sts (n + size_sts first + size_if test) step, unlabel_sts (n + size_sts first + size_if test + size_sts step) body) refl
+  unlabel_st n (loop t is_while first test step body) = rw (unlabel_sts n first, unlabel_if (n + size_sts first) test, unlabel_sts (n + size_sts first + size_if test) step, unlabel_sts (n + size_sts first + size_if test + size_sts step) body) refl
   unlabel_st n (return t e) = rw (unlabel_if n e) refl
   unlabel_st n (break t) = refl
   unlabel_st n (continue t) = refl
@@ -65,6 +65,7 @@ mutual
   unlabel_sts n (st_then x xs) = rw (unlabel_st n x, unlabel_sts (n + size_st x) xs) refl
 
   unlabel_arms : (n : ℕ) (xs : Arms) → bare_arms (label_arms n xs) ≡ bare_arms xs
+  unlabel_arms n no_other = refl
   unlabel_arms n (otherwise xs) = rw (unlabel_sts n xs) refl
   unlabel_arms n (arm e xs more) = rw (unlabel n e, unlabel_sts (n + size e) xs, unlabel_arms (n + size e + size_sts xs) more) refl
 

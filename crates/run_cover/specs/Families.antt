@@ -1,7 +1,7 @@
 -- Families of sets: which creations what a run holds may come from, and when all that a body does stays in the sets.
 use Rattle.std.specs.Prelude.{◌≡◌, ℕ, suc, Bool, true, List, Option, Some, None, slice_get}
 use Rattle.java_core.specs.declared.Ty.{Ty}
-use Rattle.java_core.specs.Trees.{Ex, Exs, no_ex, ex_then, number, character, text, truth, null, this, local, static_field, own_field, field, index, call, static_call, super_call, create, create_array, cast, instance_of, unary, binary, Target, to_local, to_static, to_own, to_field, to_element, no_target, St, Sts, Arms, declare, block, assign, act, print, choose, loop, return, break, continue, no_st, st_then, otherwise, arm}
+use Rattle.java_core.specs.Trees.{Ex, Exs, no_ex, ex_then, number, character, text, truth, null, this, local, static_field, own_field, field, index, call, static_call, super_call, create, create_array, cast, instance_of, unary, binary, Target, to_local, to_static, to_own, to_field, to_element, no_target, St, Sts, Arms, declare, block, assign, act, print, choose, loop, return, break, continue, no_st, st_then, no_other, otherwise, arm}
 use Rattle.java_core.specs.Types.{Env, class_type, element_in}
 use Rattle.java_meaning.specs.Moment.{Value, Object, Kind, an_object, an_array, own_type, Spot, held, bound, self_of, result_of, set_static, kept, put_in, touched, tested, ran, Body, Lang}
 use Rattle.java_meaning.specs.Meaning.{words_type}
@@ -155,7 +155,7 @@ module _ (L : Lang) (Made : Option ℕ → Kind → Type 0) (V : Family) where
       IncludedSt (act t e) = Included e
       IncludedSt (print t n e) = IncludedIf e
       IncludedSt (choose t xs) = IncludedArms xs
-      IncludedSt (loop t first test step body) = IncludedSts first × IncludedIf test × IncludedSts step × IncludedSts body
+      IncludedSt (loop t is_while first test step body) = IncludedSts first × IncludedIf test × IncludedSts step × IncludedSts body
       IncludedSt (return t e) = Sets e (result_of g.body)
       IncludedSt (break t) = Unit {0}
       IncludedSt (continue t) = Unit {0}
@@ -165,6 +165,7 @@ module _ (L : Lang) (Made : Option ℕ → Kind → Type 0) (V : Family) where
       IncludedSts (st_then x xs) = IncludedSt x × IncludedSts xs
 
       pub IncludedArms : Arms → Type 0
+      IncludedArms no_other = Unit {0}
       IncludedArms (otherwise xs) = IncludedSts xs
       IncludedArms (arm e xs more) = Included e × IncludedSts xs × IncludedArms more
 

@@ -4,11 +4,11 @@ use Rattle.std.specs.Prelude.{Bool, true, false, slice_get, Contains}
 use Rattle.std.specs.Option.{is_some}
 use Rattle.std.proofs.lemmas.Option.{same_Some}
 use Rattle.kaba_base.specs.declared.Place.{Place}
-use Rattle.java_core.specs.Trees.{Ex, Exs, Target, to_local, to_static, to_own, to_field, to_element, no_target, St, Sts, Arms, declare, block, assign, act, print, choose, loop, return, break, continue, no_st, st_then, otherwise, arm}
+use Rattle.java_core.specs.Trees.{Ex, Exs, Target, to_local, to_static, to_own, to_field, to_element, no_target, St, Sts, Arms, declare, block, assign, act, print, choose, loop, return, break, continue, no_st, st_then, no_other, otherwise, arm}
 use Rattle.java_core.specs.Programs.{Plain, PlainMethod}
 use Rattle.java_core.specs.Types.{Static, Env, env_of, field_type, fits_in, target_type, static}
-use Rattle.java_core.specs.Typing.{Typed, TypedTarget, TypedTest, TypedSt, TypedSts, TypedArms, t_to_field, t_to_element, t_test, t_declare_as, t_block, t_assign, t_act, t_print, t_choose, t_loop, t_return, t_st_then, t_otherwise, t_arm}
-use Rattle.java_core.specs.Formed.{IsFormed, FormedEx, FormedTarget, FormedOption, FormedSt, FormedSts, FormedArms, numbers_below, f_to_own, f_to_field, f_to_element, f_some, f_declare, f_block, f_assign, f_act, f_print, f_choose, f_loop, f_return, f_st_then, f_otherwise, f_arm}
+use Rattle.java_core.specs.Typing.{Typed, TypedTarget, TypedTest, TypedSt, TypedSts, TypedArms, t_to_field, t_to_element, t_test, t_declare_as, t_block, t_assign, t_act, t_print, t_choose, t_loop, t_return, t_st_then, t_no_other, t_otherwise, t_arm}
+use Rattle.java_core.specs.Formed.{IsFormed, FormedEx, FormedTarget, FormedOption, FormedSt, FormedSts, FormedArms, numbers_below, f_to_own, f_to_field, f_to_element, f_some, f_declare, f_block, f_assign, f_act, f_print, f_choose, f_loop, f_return, f_st_then, f_no_other, f_otherwise, f_arm}
 use Rattle.java_meaning.specs.Moment.{Kind, Body, Lang}
 use Rattle.java_meaning.specs.Watched.{bare, bare_if, bare_target, bare_st, bare_sts, bare_arms}
 use Rattle.fact_model.specs.declared.facts.Facts.{Facts}
@@ -23,10 +23,10 @@ use Rattle.run_cover.specs.Covers.{Sets}
 use Rattle.run_cover.specs.Untagged.{untag_method, untagged, HaveSlots}
 use Rattle.run_cover.proofs.Untagging.{unlabel_sts}
 use Rattle.rebuild_model.specs.Renaming.{Renaming}
-use Rattle.rebuild_model.specs.Matches.{Matches, MatchesIf, MatchesTarget, MatchesSt, MatchesSts, MatchesArms, m_none, m_some, m_to_local, m_to_static, m_to_own, m_to_field, m_to_element, m_declare, m_block, m_assign, m_act, m_print, m_choose, m_loop, m_return, m_break, m_continue, m_no_st, m_st_then, m_otherwise, m_arm}
+use Rattle.rebuild_model.specs.Matches.{Matches, MatchesIf, MatchesTarget, MatchesSt, MatchesSts, MatchesArms, m_none, m_some, m_to_local, m_to_static, m_to_own, m_to_field, m_to_element, m_declare, m_block, m_assign, m_act, m_print, m_choose, m_loop, m_return, m_break, m_continue, m_no_st, m_st_then, m_no_other, m_otherwise, m_arm}
 use Rattle.rebuild_types.proofs.Asked.{new_class}
 use Rattle.twin_runs.specs.Twins.{Link, SameIf, same_none, same_some, Same, SameTarget, SameSt, SameSts, SameArms}
-use Rattle.twin_runs.specs.Twins.{same_to_local, same_to_static, same_to_own, same_to_field, same_to_element, same_declare, same_block, same_assign, same_act, same_print, same_choose, same_loop, same_return, same_break, same_continue, same_no_st, same_st_then, same_otherwise, same_arm}
+use Rattle.twin_runs.specs.Twins.{same_to_local, same_to_static, same_to_own, same_to_field, same_to_element, same_declare, same_block, same_assign, same_act, same_print, same_choose, same_loop, same_return, same_break, same_continue, same_no_st, same_st_then, same_no_other, same_otherwise, same_arm}
 use Rattle.rebuild_types.proofs.Statements.{fits_some}
 use Rattle.same_run.proofs.Ties as tied
 use Rattle.same_run.proofs.Ties.{type_at, type_over, FieldTied, CallTied, CreationTied, TestTied, Ties, BodyTied}
@@ -181,9 +181,10 @@ module _ (Q W : Plain) (F : Facts) (formed : IsFormed (untagged Q)) (slots : Hav
     twin_st l sc (print t n None) y ty fo st (m_print m_none) = same_print same_none
     twin_st l sc (print t n (Some e)) y (t_print te pr) (f_print or (f_some fe)) st (m_print (m_some {d = d} me)) = same_print
         (same_some (twin false sc e d te fe st me))
+    twin_st l sc (choose t no_other) y ty fo st mx = elim fo [ ]
     twin_st l sc (choose t (otherwise xs)) y ty fo st mx = elim fo [ ]
     twin_st l sc (choose t (arm e xs more)) y (t_choose ty) (f_choose fo) st (m_choose {b = b} ma) = same_choose (twin_arms l sc (arm e xs more) b ty fo st ma)
-    twin_st l sc (loop t head test step code) y (t_loop th tt1 ts tb) (f_loop one two fh ft fs fb) st
+    twin_st l sc (loop t is_while head test step code) y (t_loop th tt1 ts tb) (f_loop of one two fh ft fs fb) st
         (m_loop {other = other} {last = last} {code = written} {d = d} mh me ms mb) =
         let three = left (sts head ++ if_there test ++ sts step) (sts code) st in
         let both = left (sts head ++ if_there test) (sts step) three in
@@ -207,6 +208,7 @@ module _ (Q W : Plain) (F : Facts) (formed : IsFormed (untagged Q)) (slots : Hav
     twin_arms : (l : Bool) (sc : List ℕ) (xs ys : Arms) → TypedArms P g (bare_arms xs) → FormedArms P (untag_method k) l sc (bare_arms xs)
         → Stands (parts_arms P (type_in P m k) m k xs) → MatchesArms P W R g (bare_arms xs) ys
         → SameArms L M K Made Pair g h xs ys
+    twin_arms l sc no_other ys ty fo st m_no_other = same_no_other
     twin_arms l sc (otherwise xs) ys (t_otherwise ty) (f_otherwise fo) st (m_otherwise {ys = zs} mx) = same_otherwise (twin_sts l sc xs zs ty fo st mx)
     twin_arms l sc (arm e xs more) ys (t_arm te b txs tm) (f_arm fe fxs fm) st (m_arm {d = d} {ys = zs} {b = rest} me mx mm) =
         let both = left (tree false e ++ sts xs) (parts_arms P (type_in P m k) m k more) st in

@@ -9,12 +9,12 @@ use Rattle.java_tree.specs.Syntax.{Expression, Statement, LocalOf, BlockOf, Stat
 use Rattle.java_print.specs.Formed as printed
 use Rattle.java_print.specs.Formed.{is_target, IsFormed, AreFormed, IsFormedValue, IsFormedStmt, AreFormedStmts, AreFormedArms, IsFormedElse, IsFormedFirst, IsFormedStep}
 use Rattle.java_core.specs.declared.Ty.{Ty}
-use Rattle.java_core.specs.Trees.{Ex, Exs, no_ex, ex_then, number, character, text, truth, null, this, local, static_field, own_field, field, index, call, static_call, super_call, create, create_array, cast, instance_of, unary, binary, Target, to_local, to_static, to_own, to_field, to_element, no_target, St, Sts, Arms, declare, block, assign, act, print, choose, loop, return, break, continue, no_st, st_then, otherwise, arm}
+use Rattle.java_core.specs.Trees.{Ex, Exs, no_ex, ex_then, number, character, text, truth, null, this, local, static_field, own_field, field, index, call, static_call, super_call, create, create_array, cast, instance_of, unary, binary, Target, to_local, to_static, to_own, to_field, to_element, no_target, St, Sts, Arms, declare, block, assign, act, print, choose, loop, return, break, continue, no_st, st_then, no_other, otherwise, arm}
 use Rattle.java_core.specs.Programs.{Plain, PlainLocal, PlainMethod}
 use Rattle.java_core.specs.Types.{Static, Env, env_of, field_type, value_type, static, fits_in, target_type}
-use Rattle.java_core.specs.Typing.{Typed, TypedArgs, TypedTarget, TypedTest, TypedSt, TypedSts, TypedArms, t_field, t_index, t_call, t_static_call, t_super_call, t_create_array, t_cast, t_instance_of, t_unary, t_binary, t_ex_then, t_to_field, t_to_element, t_test, t_declare_as, t_block, t_assign, t_act, t_print, t_choose, t_loop, t_return, t_st_then, t_otherwise, t_arm}
+use Rattle.java_core.specs.Typing.{Typed, TypedArgs, TypedTarget, TypedTest, TypedSt, TypedSts, TypedArms, t_field, t_index, t_call, t_static_call, t_super_call, t_create_array, t_cast, t_instance_of, t_unary, t_binary, t_ex_then, t_to_field, t_to_element, t_test, t_declare_as, t_block, t_assign, t_act, t_print, t_choose, t_loop, t_return, t_st_then, t_no_other, t_otherwise, t_arm}
 use Rattle.java_core.specs.Formed as core
-use Rattle.java_core.specs.Formed.{IsNewLocal, variables_of, numbers_below, is_at_most_one, is_first, FormedEx, FormedExs, FormedTarget, FormedOption, FormedSt, FormedSts, FormedArms, f_number, f_character, f_text, f_local, f_static_field, f_own_field, f_field, f_index, f_call, f_static_call, f_super_call, f_create, f_create_array, f_cast, f_instance_of, f_unary, f_binary, f_ex_then, f_to_local, f_to_static, f_to_own, f_to_field, f_to_element, f_some, f_declare, f_block, f_assign, f_act, f_print, f_choose, f_loop, f_return, f_st_then, f_otherwise, f_arm}
+use Rattle.java_core.specs.Formed.{IsNewLocal, variables_of, numbers_below, is_at_most_one, is_first, FormedEx, FormedExs, FormedTarget, FormedOption, FormedSt, FormedSts, FormedArms, f_number, f_character, f_text, f_local, f_static_field, f_own_field, f_field, f_index, f_call, f_static_call, f_super_call, f_create, f_create_array, f_cast, f_instance_of, f_unary, f_binary, f_ex_then, f_to_local, f_to_static, f_to_own, f_to_field, f_to_element, f_some, f_declare, f_block, f_assign, f_act, f_print, f_choose, f_loop, f_return, f_st_then, f_no_other, f_otherwise, f_arm}
 use Rattle.java_meaning.specs.Watched.{bare, bare_all, bare_if, bare_target, bare_st, bare_sts, bare_arms}
 use Rattle.fact_model.specs.declared.facts.Facts.{Facts}
 use Rattle.hier_model.specs.Hierarchies.{Hierarchy}
@@ -268,14 +268,15 @@ module _ (C : Given) (B : Bodied C) where
     st_formed l sc wr (act t e) (t_act te) (f_act c fe) st = (call_written wr sc (bare e) c fe, ex_formed false sc wr e te fe st)
     st_formed l sc wr (print t n None) ty (f_print some fo) st = (some, tt)
     st_formed l sc wr (print t n (Some e)) (t_print te pr) (f_print some (f_some fe)) st = (some, ex_formed false sc wr e te fe st)
+    st_formed l sc wr (choose t no_other) ty fo st = elim fo [ ]
     st_formed l sc wr (choose t (otherwise xs)) ty fo st = elim fo [ ]
     st_formed l sc wr (choose t (arm e xs more)) (t_choose ty) (f_choose fo) st =
         let z = arms_formed l sc wr (arm e xs more) ty fo st in (refl, z.0, z.1)
-    st_formed l sc wr (loop t head test step body) (t_loop th tt1 ts tb) (f_loop one two fh ft fs fb) st =
+    st_formed l sc wr (loop t is_while head test step body) (t_loop th tt1 ts tb) (f_loop of one two fh ft fs fb) st =
         let three = left (sts head ++ if_there test ++ sts step) (sts body) st in
         let both = left (sts head ++ if_there test) (sts step) three in
         let inner = scope_after_part wr (bare_sts head) in
-        loop_formed (written_part P R H m h wr (bare_sts head)) (written_if P R H m h inner (bare_if test)) (written_part P R H m h inner (bare_sts step))
+        loop_formed is_while (written_part P R H m h wr (bare_sts head)) (written_if P R H m h inner (bare_if test)) (written_part P R H m h inner (bare_sts step))
         (Ss inner (bare_sts body))
         (first_formed _ _ wr (bare_sts head) one fh (sts_formed _ _ wr head th fh (left (sts head) (if_there test) both)))
         (test_formed _ inner test tt1 ft (right (sts head) (if_there test) both))
@@ -297,8 +298,8 @@ module _ (C : Given) (B : Bodied C) where
     arms_formed : (l : Bool) (sc wr : List ℕ) (xs : Arms) → TypedArms P g (bare_arms xs) → FormedArms P h l sc (bare_arms xs)
         → Stands (parts_arms P (type_in P m k) m k xs)
         → AreFormedArms (written_arms P R H m h wr (bare_arms xs)) × IsFormedElse (written_else P R H m h wr (bare_arms xs))
-    arms_formed l sc wr (otherwise no_st) ty fo st = (tt, tt)
-    arms_formed l sc wr (otherwise (st_then x xs)) (t_otherwise ty) (f_otherwise fo) st = (tt, sts_formed l sc wr (st_then x xs) ty fo st)
+    arms_formed l sc wr no_other ty fo st = (tt, tt)
+    arms_formed l sc wr (otherwise xs) (t_otherwise ty) (f_otherwise fo) st = (tt, sts_formed l sc wr xs ty fo st)
     arms_formed l sc wr (arm e xs more) (t_arm te b txs tm) (f_arm fe fxs fm) st =
         let both = left (tree false e ++ sts xs) (parts_arms P (type_in P m k) m k more) st in
         let z = arms_formed l sc wr more tm fm (right (tree false e ++ sts xs) (parts_arms P (type_in P m k) m k more) st) in (

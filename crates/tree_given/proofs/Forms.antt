@@ -42,9 +42,10 @@ pub call_tree : (b : Bool) (x y : List ℕ) (es : Expressions) → IsName x → 
 call_tree true x y es a c = (λ f. (c, f), refl)
 call_tree false x y es a c = (λ f. (a, c, f), refl)
 
-pub loop_formed : (a : OptionalStatement) (v : Option Expression) (s : OptionalStatement) (ss : Statements) → IsFormedFirst a → IsFormedValue v
-    → IsFormedStep s → AreFormedStmts ss → IsFormedStmt (loop_tree a v s ss)
-loop_formed absent None s ss f w g h = (f, w, g, h)
-loop_formed absent (Some e) absent ss f w g h = (w, h)
-loop_formed absent (Some e) (present s) ss f w g h = (f, w, g, h)
-loop_formed (present a) v s ss f w g h = (f, w, g, h)
+pub loop_formed : (is_while : Bool) (a : OptionalStatement) (v : Option Expression) (s : OptionalStatement) (ss : Statements) → IsFormedFirst a → IsFormedValue v
+    → IsFormedStep s → AreFormedStmts ss → IsFormedStmt (loop_tree is_while a v s ss)
+loop_formed true absent None s ss f w g h = (f, w, g, h)
+loop_formed true absent (Some e) absent ss f w g h = (w, h)
+loop_formed true absent (Some e) (present s) ss f w g h = (f, w, g, h)
+loop_formed true (present a) v s ss f w g h = (f, w, g, h)
+loop_formed false a v s ss f w g h = (f, w, g, h)

@@ -50,7 +50,7 @@ module _ (P : Plain) (R : Renaming) (H : Hierarchy) (m : ℕ) (k : PlainMethod) 
       (e : Option Ex) (g body : Sts)
       → from ≡ scope → inner ≡ scope_after_part from f → first ≡ written_part P R H m k from f → test ≡ written_if P R H m k inner e
       → step ≡ written_part P R H m k inner g → run ≡ written_sts P R H m k inner body → loop_tree first test step run
-      ≡ written_st P R H m k scope (loop t f e g body)
+      ≡ written_st P R H m k scope (loop t is_while f e g body)
   loop_is {first = first} {step = step} {test = test} {run = run} scope from inner t f e g body a b c d h j =
       let before = written_part P R H m k from f in
       let shape = λ (y : List ℕ). loop_tree before (written_if P R H m k y e) (written_part P R H m k y g) (written_sts P R H m k y body) in
@@ -59,4 +59,4 @@ module _ (P : Plain) (R : Renaming) (H : Hierarchy) (m : ℕ) (k : PlainMethod) 
       ∙ ap (λ y. loop_tree before (written_if P R H m k inner e) y run) h
       ∙ ap (λ y. loop_tree before (written_if P R H m k inner e) (written_part P R H m k inner g) y) j
       ∙ ap shape b
-      ∙ ap (λ (s : List ℕ). written_st P R H m k s (loop t f e g body)) a
+      ∙ ap (λ (s : List ℕ). written_st P R H m k s (loop t is_while f e g body)) a

@@ -10,7 +10,7 @@ use Rattle.java_core.specs.Trees.{Ex, Exs, Target, St, Sts, Arms, no_st, st_then
 use Rattle.java_core.specs.Classes.{field_of}
 use Rattle.java_core.specs.Types.{static, env_of}
 use Rattle.flow_rules.specs.Operands.{variable_row}
-use Rattle.java_core.specs.Formed.{variables_of, IsNewLocal, IsStaticField, IsStaticMethod, is_at_most_one, FormedEx, f_number, f_character, f_text, f_truth, f_null, f_this, f_local, f_static_field, f_own_field, f_field, f_index, f_call, f_static_call, f_super_call, f_create, f_create_array, f_cast, f_instance_of, f_unary, f_binary, FormedExs, f_no_ex, f_ex_then, FormedTarget, f_to_local, f_to_static, f_to_own, f_to_field, f_to_element, FormedOption, f_none, f_some, FormedSt, f_declare, f_block, f_assign, f_act, f_print, f_choose, f_loop, f_return, f_break, f_continue, FormedSts, f_no_st, f_st_then, FormedArms, f_otherwise, f_arm}
+use Rattle.java_core.specs.Formed.{variables_of, IsNewLocal, IsStaticField, IsStaticMethod, is_at_most_one, FormedEx, f_number, f_character, f_text, f_truth, f_null, f_this, f_local, f_static_field, f_own_field, f_field, f_index, f_call, f_static_call, f_super_call, f_create, f_create_array, f_cast, f_instance_of, f_unary, f_binary, FormedExs, f_no_ex, f_ex_then, FormedTarget, f_to_local, f_to_static, f_to_own, f_to_field, f_to_element, FormedOption, f_none, f_some, FormedSt, f_declare, f_block, f_assign, f_act, f_print, f_choose, f_loop, f_return, f_break, f_continue, FormedSts, f_no_st, f_st_then, FormedArms, f_no_other, f_otherwise, f_arm}
 use Rattle.java_core.specs.Formed as core
 use Rattle.hier_model.specs.Hierarchies.{Hierarchy}
 use Rattle.rebuild_model.specs.Renaming.{Renaming}
@@ -194,12 +194,13 @@ module _ (P : Plain) (R : Renaming) (H : Hierarchy) (m : ℕ) (k : PlainMethod) 
       (BlockOf no_statements nowhere)))
       at
 
-  loop_names : (names : List (List ℕ)) (f : OptionalStatement) (v : Option Expression) (g : OptionalStatement) (ss : Statements)
-      → names_after names (loop_tree f v g ss) ≡ names
-  loop_names names absent (Some e) absent ss = refl
-  loop_names names absent (Some e) (present g) ss = refl
-  loop_names names absent None g ss = refl
-  loop_names names (present f) v g ss = refl
+  loop_names : (is_while : Bool) (names : List (List ℕ)) (f : OptionalStatement) (v : Option Expression) (g : OptionalStatement) (ss : Statements)
+      → names_after names (loop_tree is_while f v g ss) ≡ names
+  loop_names true names absent (Some e) absent ss = refl
+  loop_names true names absent (Some e) (present g) ss = refl
+  loop_names true names absent None g ss = refl
+  loop_names true names (present f) v g ss = refl
+  loop_names false names f v g ss = refl
 
   -- the scope after a statement, and after the first part of a `for`
   after : {l : Bool} {formed scope : List ℕ} {names : List (List ℕ)} {x : St} → IsScope k formed scope names → FormedSt P k l formed x
@@ -213,10 +214,10 @@ module _ (P : Plain) (R : Renaming) (H : Hierarchy) (m : ℕ) (k : PlainMethod) 
   after s (f_act a b) = s
   after s (f_print a b) = s
   after s (f_choose a) = s
-  after {formed = formed} {scope = scope} {names = names} s (f_loop {first = first} {step = step} {body = body} {test = test} a b c d e f) =
+  after {formed = formed} {scope = scope} {names = names} s (f_loop {is_while = is_while} {first = first} {step = step} {body = body} {test = test} of a b c d e f) =
       let inner = scope_after_part scope first in
       subst (λ z. IsScope k formed scope z)
-      (sym (loop_names names (written_part P R H m k scope first) (written_if P R H m k inner test) (written_part P R H m k inner step)
+      (sym (loop_names is_while names (written_part P R H m k scope first) (written_if P R H m k inner test) (written_part P R H m k inner step)
       (written_sts P R H m k inner body)))
       s
   after s (f_return a) = s
@@ -259,10 +260,10 @@ module _ (P : Plain) (R : Renaming) (H : Hierarchy) (m : ℕ) (k : PlainMethod) 
     st_ok {l = l} {scope = scope} {names = names} s (f_choose {e = e} {xs = xs} {more = more} a) g r x =
         if_fault O here l names (written_arms P R H m k scope (arm e xs more)) (written_else P R H m k scope (arm e xs more)) nowhere r (arms_ok s a g r)
         (else_ok s a g r) x
-    st_ok {l = l} {scope = scope} {names = names} s (f_loop {first = first} {step = step} {body = body} {test = test} p q a b c d) g r x =
+    st_ok {l = l} {scope = scope} {names = names} s (f_loop {is_while = is_while} {first = first} {step = step} {body = body} {test = test} of p q a b c d) g r x =
         let inner = scope_after_part scope first in
         let t = after_part core.is_first p s a in
-        loop_fault O here l names (written_part P R H m k scope first) (written_if P R H m k inner test) (written_part P R H m k inner step)
+        loop_fault O here l is_while names (written_part P R H m k scope first) (written_if P R H m k inner test) (written_part P R H m k inner step)
         (written_sts P R H m k inner body) r
         (part_ok s a g.0 r) (if_ok t b g.1 r) (part_ok t c g.2 r) (sts_ok t d g.3 r) x
     st_ok s (f_return a) g r (in_returned x) = if_ok s a g r x
@@ -285,6 +286,7 @@ module _ (P : Plain) (R : Renaming) (H : Hierarchy) (m : ℕ) (k : PlainMethod) 
     arms_ok : {l : Bool} {formed scope : List ℕ} {names : List (List ℕ)} {a : Arms} → IsScope k formed scope names → FormedArms P k l formed a
         → KnownArms P R H m k O a
         → (r : Refusal) → ArmsFault O here l names (written_arms P R H m k scope a) r → ⊥
+    arms_ok s f_no_other g r x = elim x [ ]
     arms_ok s (f_otherwise a) g r x = elim x [ ]
     arms_ok s (f_arm a b c) g r (in_test x) = ex_ok s a g.0 r x
     arms_ok s (f_arm a b c) g r (in_arm x) = sts_ok s b g.1 r x
@@ -293,9 +295,9 @@ module _ (P : Plain) (R : Renaming) (H : Hierarchy) (m : ℕ) (k : PlainMethod) 
     else_ok : {l : Bool} {formed scope : List ℕ} {names : List (List ℕ)} {a : Arms} → IsScope k formed scope names → FormedArms P k l formed a
         → KnownArms P R H m k O a
         → (r : Refusal) (ss : Statements) → written_else P R H m k scope a ≡ tree.otherwise ss → StsFault O here l names ss r → ⊥
-    else_ok s (f_otherwise {xs = no_st} a) g r ss e x = absurd (cc e)
-    else_ok {l = l} {scope = scope} {names = names} s (f_otherwise {xs = st_then y ys} a) g r ss e x =
-        sts_ok s a g r (subst (λ z. StsFault O here l names z r) (sym (same (written_sts P R H m k scope (st_then y ys)) ss e)) x)
+    else_ok s f_no_other g r ss e x = absurd (cc e)
+    else_ok {l = l} {scope = scope} {names = names} s (f_otherwise {xs = xs} a) g r ss e x =
+        sts_ok s a g r (subst (λ z. StsFault O here l names z r) (sym (same (written_sts P R H m k scope xs) ss e)) x)
       where
         same : (a b : Statements) → tree.otherwise a ≡ tree.otherwise b → a ≡ b
         same a b h = cc

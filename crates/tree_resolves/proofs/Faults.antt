@@ -121,12 +121,13 @@ module _ (O : Plain) (here : Here) where
   while_fault l s e ss p r b d (in_while_test x) = b (in_value x)
   while_fault l s e ss p r b d (in_while x) = d x
 
-  pub loop_fault : (in_loop : Bool) (scope : List (List ℕ)) (f : OptionalStatement) (v : Option Expression) (g : OptionalStatement) (ss : Statements)
+  pub loop_fault : (in_loop is_while : Bool) (scope : List (List ℕ)) (f : OptionalStatement) (v : Option Expression) (g : OptionalStatement) (ss : Statements)
       (r : Refusal)
       → (PartFault O here in_loop scope f r → ⊥) → (FaultInValue O here (names_after_part scope f) v r → ⊥)
       → (PartFault O here in_loop (names_after_part scope f) g r → ⊥)
-      → (StsFault O here true (names_after_part scope f) ss r → ⊥) → StFault O here in_loop scope (loop_tree f v g ss) r → ⊥
-  loop_fault l s absent (Some e) absent ss r a b c d x = while_fault l s e ss nowhere r b d x
-  loop_fault l s absent (Some e) (present g) ss r a b c d x = for_fault l s absent (Some e) (present g) ss nowhere r a b c d x
-  loop_fault l s absent None g ss r a b c d x = for_fault l s absent None g ss nowhere r a b c d x
-  loop_fault l s (present f) v g ss r a b c d x = for_fault l s (present f) v g ss nowhere r a b c d x
+      → (StsFault O here true (names_after_part scope f) ss r → ⊥) → StFault O here in_loop scope (loop_tree is_while f v g ss) r → ⊥
+  loop_fault l true s absent (Some e) absent ss r a b c d x = while_fault l s e ss nowhere r b d x
+  loop_fault l true s absent (Some e) (present g) ss r a b c d x = for_fault l s absent (Some e) (present g) ss nowhere r a b c d x
+  loop_fault l true s absent None g ss r a b c d x = for_fault l s absent None g ss nowhere r a b c d x
+  loop_fault l true s (present f) v g ss r a b c d x = for_fault l s (present f) v g ss nowhere r a b c d x
+  loop_fault l false s f v g ss r a b c d x = for_fault l s f v g ss nowhere r a b c d x

@@ -6,8 +6,8 @@ use Rattle.kaba_base.specs.declared.Place.{Place}
 use Rattle.java_tree.specs.declared.TypeBase.TheVariants as base
 use Rattle.java_core.specs.declared.Ty.{Ty}
 use Rattle.java_core.specs.Programs.{Plain, PlainMethod}
-use Rattle.java_core.specs.Trees.{Ex, Exs, no_ex, ex_then, number, character, text, truth, null, this, local, static_field, own_field, field, index, call, static_call, super_call, create, create_array, cast, instance_of, unary, binary, Target, to_local, to_static, to_own, to_field, to_element, no_target, St, Sts, Arms, declare, block, assign, act, print, choose, loop, return, break, continue, no_st, st_then, otherwise, arm}
-use Rattle.java_core.specs.Formed.{IsCastType, to_int, to_char, to_class, FormedEx, f_field, f_index, f_call, f_static_call, f_super_call, f_create, f_create_array, f_cast, f_instance_of, f_unary, f_binary, FormedExs, f_ex_then, FormedTarget, f_to_field, f_to_element, FormedOption, f_some, FormedSt, f_declare, f_block, f_assign, f_act, f_print, f_choose, f_loop, f_return, FormedSts, f_st_then, FormedArms, f_otherwise, f_arm, numbers_below}
+use Rattle.java_core.specs.Trees.{Ex, Exs, no_ex, ex_then, number, character, text, truth, null, this, local, static_field, own_field, field, index, call, static_call, super_call, create, create_array, cast, instance_of, unary, binary, Target, to_local, to_static, to_own, to_field, to_element, no_target, St, Sts, Arms, declare, block, assign, act, print, choose, loop, return, break, continue, no_st, st_then, no_other, otherwise, arm}
+use Rattle.java_core.specs.Formed.{IsCastType, to_int, to_char, to_class, FormedEx, f_field, f_index, f_call, f_static_call, f_super_call, f_create, f_create_array, f_cast, f_instance_of, f_unary, f_binary, FormedExs, f_ex_then, FormedTarget, f_to_field, f_to_element, FormedOption, f_some, FormedSt, f_declare, f_block, f_assign, f_act, f_print, f_choose, f_loop, f_return, FormedSts, f_st_then, FormedArms, f_no_other, f_otherwise, f_arm, numbers_below}
 use Rattle.java_meaning.specs.Watched.{bare, bare_all, bare_if, bare_target, bare_st, bare_sts, bare_arms}
 use Rattle.fact_model.specs.declared.facts.Facts.{Facts}
 use Rattle.fact_model.specs.declared.sets.PointsTo.{PointsTo}
@@ -177,8 +177,9 @@ module _ (P Q : Plain) (F : Facts) (pt : PointsTo) (H : Hierarchy) (G : Given P 
     st_known (act t e) (f_act a b) r = ex_known false e b r
     st_known (print t n e) (f_print a b) r = if_known e b r
     st_known (choose t (arm e xs more)) (f_choose a) r = arms_known (arm e xs more) a r
+    st_known (choose t no_other) f r = elim f [ ]
     st_known (choose t (otherwise xs)) f r = elim f [ ]
-    st_known (loop t x e y xs) (f_loop p q a b c d) r =
+    st_known (loop t is_while x e y xs) (f_loop of p q a b c d) r =
         let X = parts_sts P type m h x in
         let E = parts_if P type m h e in
         let Y = parts_sts P type m h y in
@@ -196,6 +197,7 @@ module _ (P Q : Plain) (F : Facts) (pt : PointsTo) (H : Hierarchy) (G : Given P 
     sts_known (st_then x xs) (f_st_then a b) r = (st_known x a (left (parts_st P type m h x) _ r), sts_known xs b (right (parts_st P type m h x) _ r))
 
     arms_known : {l : Bool} {s : List ℕ} (a : Arms) → FormedArms P k l s (bare_arms a) → Rows (parts_arms P type m h a) → KnownArms P R₀ H m k O (bare_arms a)
+    arms_known no_other f r = tt
     arms_known (otherwise xs) (f_otherwise a) r = sts_known xs a r
     arms_known (arm e xs more) (f_arm a b c) r =
         let X = parts_sts P type m h xs in

@@ -3,7 +3,7 @@ use Rattle.std.specs.Prelude.{◌≡◌, ◌≢◌, ℕ, List, Option, Some, Non
 use Rattle.java_tree.specs.declared.TypeName.{TypeName}
 use Rattle.java_core.specs.Programs.{Plain, PlainLocal, PlainMethod}
 use Rattle.java_core.specs.Formed.{variables_of}
-use Rattle.java_core.specs.Trees.{Ex, Exs, no_ex, ex_then, number, character, text, truth, null, this, local, static_field, own_field, field, index, call, static_call, super_call, create, create_array, cast, instance_of, unary, binary, Target, to_local, to_static, to_own, to_field, to_element, no_target, St, Sts, Arms, declare, block, assign, act, print, choose, loop, return, break, continue, no_st, st_then, otherwise, arm}
+use Rattle.java_core.specs.Trees.{Ex, Exs, no_ex, ex_then, number, character, text, truth, null, this, local, static_field, own_field, field, index, call, static_call, super_call, create, create_array, cast, instance_of, unary, binary, Target, to_local, to_static, to_own, to_field, to_element, no_target, St, Sts, Arms, declare, block, assign, act, print, choose, loop, return, break, continue, no_st, st_then, no_other, otherwise, arm}
 use Rattle.hier_model.specs.Hierarchies.{Hierarchy}
 use Rattle.flow_rules.specs.declared.items.RowItem.TheVariants as row
 use Rattle.flow_rules.specs.Operands.{variable_row}
@@ -75,7 +75,7 @@ module _ (P : Plain) (R : Renaming) (H : Hierarchy) (m : ℕ) (k : PlainMethod) 
     KnownSt (act t e) = KnownEx e
     KnownSt (print t n e) = KnownIf e
     KnownSt (choose t a) = KnownArms a
-    KnownSt (loop t first test step body) = KnownSts first × KnownIf test × KnownSts step × KnownSts body
+    KnownSt (loop t is_while first test step body) = KnownSts first × KnownIf test × KnownSts step × KnownSts body
     KnownSt (return t e) = KnownIf e
     KnownSt (break t) = Unit {0}
     KnownSt (continue t) = Unit {0}
@@ -85,5 +85,6 @@ module _ (P : Plain) (R : Renaming) (H : Hierarchy) (m : ℕ) (k : PlainMethod) 
     KnownSts (st_then x xs) = KnownSt x × KnownSts xs
 
     pub KnownArms : Arms → Type 0
+    KnownArms no_other = Unit {0}
     KnownArms (otherwise xs) = KnownSts xs
     KnownArms (arm e xs more) = KnownEx e × KnownSts xs × KnownArms more

@@ -11,7 +11,7 @@ use Rattle.run_cover.specs.Families.{Set}
 use Rattle.run_cover.specs.Watched.{Of}
 use Rattle.run_cover.proofs.Held.{Keeps, of_kept, keeps_same, keeps_on, member_of, plain_of, default_plain}
 use Rattle.twin_runs.specs.Twins.{Link, spot_of, BothPair, SameCall, SameIf, same_none, same_some, Same, SameAll, SameTarget, SameSt, SameSts, SameArms, SameEnv, AreTwins}
-use Rattle.twin_runs.specs.Twins.{same_number, same_character, same_text, same_truth, same_null, same_this, same_local, same_static_field, same_own_field, same_field, same_index, same_call, same_static_call, same_super_call, same_create, same_create_array, same_cast, same_instance_of, same_unary, same_binary, same_no_ex, same_ex_then, same_to_local, same_to_static, same_to_own, same_to_field, same_to_element, same_declare, same_block, same_assign, same_act, same_print, same_choose, same_loop, same_return, same_break, same_continue, same_no_st, same_st_then, same_otherwise, same_arm}
+use Rattle.twin_runs.specs.Twins.{same_number, same_character, same_text, same_truth, same_null, same_this, same_local, same_static_field, same_own_field, same_field, same_index, same_call, same_static_call, same_super_call, same_create, same_create_array, same_cast, same_instance_of, same_unary, same_binary, same_no_ex, same_ex_then, same_to_local, same_to_static, same_to_own, same_to_field, same_to_element, same_declare, same_block, same_assign, same_act, same_print, same_choose, same_loop, same_return, same_break, same_continue, same_no_st, same_st_then, same_otherwise, same_arm, same_no_other}
 use Rattle.twin_runs.proofs.Shapes.{same_convert, same_default, same_arguments, same_at}
 use Rattle.twin_runs.proofs.States.{Alike, wrong_first, first_some, second_some, equals_at, equals, shapes, tests, frame, SameValues, same_fields, same_elements, no_cells, more_cells, SameState, HeldIn, held_kept, held_set, KV, KS, KL, KF, kv_on, kf_on, printed, ended, steps, with_cells, cells_at}
 use Rattle.twin_runs.proofs.Moves.{looks, looks_first, looks_all, given_on, static_set, member_read, own_read, field_write, element_read, element_write, object_made, array_made, cast_done, class_tested}
@@ -323,7 +323,7 @@ module _ (L M : Lang) (K : Link) (Made : Option ℕ → Kind → Kind → Type 0
           st_same (same_act p) v ls s t k j r i q = value_same p v ls s t _ _ r i (λ u s1 t1 r1 k1 o1. q Next v ls s1 t1 r1 k1 (kept_in s s1 v ls k1 i))
           st_same (same_print {n = n} p) v ls s t k j r i q = print_same n p v ls s t _ _ r i (λ s1 t1 r1 k1. q Next v ls s1 t1 r1 k1 (kept_in s s1 v ls k1 i))
           st_same (same_choose a) v ls s t k j r i q = arms_same a v ls s t k j r i q
-          st_same (same_loop {t = a} {u = b} {first = first} {step = step} {body = body} {other = other} {last = last} {code = code} {e = e} {d = d} p1 p2 p3
+          st_same (same_loop {t = a} {u = b} {is_while = is_while} {first = first} {step = step} {body = body} {other = other} {last = last} {code = code} {e = e} {d = d} p1 p2 p3
               p4) v ls s t k j r i q =
               sts_same p1 v ls s t _ _ r i (λ w v1 ls1 s1 t1 r1 k1 i1.
               let q1 = on_flow s s1 k j k1 q in
@@ -337,7 +337,7 @@ module _ (L M : Lang) (K : Link) (Made : Option ℕ → Kind → Kind → Type 0
               (sts_same p3 v5 ls5 s5 t5 _ _ r5 i5 (λ w6 v6 ls6 s6 t6 r6 k6 i6.
               let q6 = on_flow s5 s6 k j k6 q5 in
               one_done g h w6 v6 ls6 s6 t6 k j _ _ r6 i6 q6
-              (more.runs g h env (st_then (loop a no_st e step body) no_st) (st_then (loop b no_st d last code) no_st)
+              (more.runs g h env (st_then (loop a is_while no_st e step body) no_st) (st_then (loop b is_while no_st d last code) no_st)
               (same_st_then (same_loop same_no_st p2 p3 p4) same_no_st) v6 ls6 s6 t6 k j r6 i6 q6))))))
               (λ s3 t3 r3 k3. q1 Next v1 ls1 s3 t3 r3 k3 (kept_in s1 s3 v1 ls1 k3 i1))))
           st_same (same_return p) v ls s t k j r i q = return_same p v ls s t k j r i q
@@ -355,6 +355,7 @@ module _ (L M : Lang) (K : Link) (Made : Option ℕ → Kind → Kind → Type 0
           arms_same : {a b : Arms} → SameArms L M K Made Pair g h a b → (v : Value) (ls : List Value) (s t : State) (k j : ToFlow) → R s t → In g s v ls
               → F g h s k j
               → Alike (run_arms L later a (frame g v ls) s k) (run_arms M next b (frame h v ls) t j)
+          arms_same same_no_other v ls s t k j r i q = q Next v ls s t r (keeps_same s.cells) i
           arms_same (same_otherwise ps) v ls s t k j r i q = sts_same ps v ls s t k j r i q
           arms_same (same_arm p ps a) v ls s t k j r i q =
               value_same p v ls s t _ _ r i (λ u s1 t1 r1 k1 o1.

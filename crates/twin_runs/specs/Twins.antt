@@ -6,7 +6,7 @@ use Rattle.java_core.specs.declared.TyBase.{TyBase}
 use Rattle.java_core.specs.declared.TyBase.TheVariants.{Int, Boolean, Char, Str, Class}
 use Rattle.java_core.specs.declared.UnOp.{UnOp}
 use Rattle.java_core.specs.declared.BinOp.{BinOp}
-use Rattle.java_core.specs.Trees.{Tag, Ex, Exs, no_ex, ex_then, number, character, text, truth, null, this, local, static_field, own_field, field, index, call, static_call, super_call, create, create_array, cast, instance_of, unary, binary, Target, to_local, to_static, to_own, to_field, to_element, St, Sts, Arms, declare, block, assign, act, print, choose, loop, return, break, continue, no_st, st_then, otherwise, arm}
+use Rattle.java_core.specs.Trees.{Tag, Ex, Exs, no_ex, ex_then, number, character, text, truth, null, this, local, static_field, own_field, field, index, call, static_call, super_call, create, create_array, cast, instance_of, unary, binary, Target, to_local, to_static, to_own, to_field, to_element, St, Sts, Arms, declare, block, assign, act, print, choose, loop, return, break, continue, no_st, st_then, otherwise, arm, no_other}
 use Rattle.java_core.specs.Types.{Env, class_type, StringMethod}
 use Rattle.java_meaning.specs.Moment.{Value, Kind, an_object, an_array, Cell, own_type, Spot, held, bound, self_of, set_static, touched, tested, ran, Body, Lang}
 use Rattle.java_meaning.specs.Meaning.{words_type, element_type, is_number_type, names_length, text_method}
@@ -162,9 +162,9 @@ module _ (L M : Lang) (K : Link) (Made : Option ℕ → Kind → Kind → Type 0
         same_act : {t u : Tag} {e d : Ex} → Same e d → SameSt (act t e) (act u d)
         same_print : {t u : Tag} {n : Bool} {e d : Option Ex} → SameIf e d → SameSt (print t n e) (print u n d)
         same_choose : {t u : Tag} {a b : Arms} → SameArms a b → SameSt (choose t a) (choose u b)
-        same_loop : {t u : Tag} {first step body other last code : Sts} {e d : Option Ex} → SameSts first other → SameIf e d → SameSts step last
+        same_loop : {t u : Tag} {is_while : Bool} {first step body other last code : Sts} {e d : Option Ex} → SameSts first other → SameIf e d → SameSts step last
             → SameSts body code
-            → SameSt (loop t first e step body) (loop u other d last code)
+            → SameSt (loop t is_while first e step body) (loop u is_while other d last code)
         same_return : {t u : Tag} {e d : Option Ex} → SameIf e d → SameSt (return t e) (return u d)
         same_break : {t u : Tag} → SameSt (break t) (break u)
         same_continue : {t u : Tag} → SameSt (continue t) (continue u)
@@ -174,6 +174,7 @@ module _ (L M : Lang) (K : Link) (Made : Option ℕ → Kind → Kind → Type 0
         same_st_then : {x y : St} {xs ys : Sts} → SameSt x y → SameSts xs ys → SameSts (st_then x xs) (st_then y ys)
 
       pub data SameArms : Arms → Arms → Type 0 where
+        same_no_other : SameArms no_other no_other
         same_otherwise : {xs ys : Sts} → SameSts xs ys → SameArms (otherwise xs) (otherwise ys)
         same_arm : {e d : Ex} {xs ys : Sts} {a b : Arms} → Same e d → SameSts xs ys → SameArms a b → SameArms (arm e xs a) (arm d ys b)
 

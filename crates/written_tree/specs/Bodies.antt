@@ -6,7 +6,7 @@ use Rattle.std.specs.Str.{bytes_eq}
 use Rattle.java_tree.specs.Syntax as tree
 use Rattle.java_tree.specs.Syntax.{Expression, IntLit, CharLit, StrLit, BoolLit, NullLit, ThisRef, NameRef, FieldOf, IndexOf, CallOf, CallOn, SuperCallOf, NewOf, NewArrayOf, CastOf, InstanceOfClass, UnaryOf, BinaryOf, Expressions, no_more, and_more, Statement, LocalOf, BlockOf, AssignOf, DoOf, PrintOf, IfOf, WhileOf, ForOf, ReturnOf, BreakOf, ContinueOf, Statements, no_statements, and_then, Else, no_else, OptionalStatement, absent, present}
 use Rattle.java_tree.specs.declared.TypeName.{TypeName}
-use Rattle.java_core.specs.Trees.{Ex, Exs, no_ex, ex_then, number, character, text, truth, null, this, local, static_field, own_field, field, index, call, static_call, super_call, create, create_array, cast, instance_of, unary, binary, Target, to_local, to_static, to_own, to_field, to_element, no_target, St, Sts, Arms, declare, block, assign, act, print, choose, loop, return, break, continue, no_st, st_then, otherwise, arm}
+use Rattle.java_core.specs.Trees.{Ex, Exs, no_ex, ex_then, number, character, text, truth, null, this, local, static_field, own_field, field, index, call, static_call, super_call, create, create_array, cast, instance_of, unary, binary, Target, to_local, to_static, to_own, to_field, to_element, no_target, St, Sts, Arms, declare, block, assign, act, print, choose, loop, return, break, continue, no_st, st_then, no_other, otherwise, arm}
 use Rattle.java_core.specs.Programs.{Plain, PlainLocal, PlainMethod}
 use Rattle.java_core.specs.Formed.{variables_of}
 use Rattle.java_core.specs.Classes.{declaration_of, super_method}
@@ -26,10 +26,10 @@ abbrev pub static_call_tree : Bool → List ℕ → List ℕ → Expressions →
 static_call_tree true holder x es = CallOf x es nowhere
 static_call_tree false holder x es = CallOn (NameRef holder nowhere) x es nowhere
 
--- what has neither a first nor a last part, but a test, is a `while`
-abbrev pub loop_tree : OptionalStatement → Option Expression → OptionalStatement → Statements → Statement
-loop_tree absent (Some e) absent body = WhileOf e body nowhere
-loop_tree first test step body = ForOf first test step body nowhere
+-- a loop is written with its own word: a `while`, which has a test and neither first nor last part, as a `while`
+abbrev pub loop_tree : Bool → OptionalStatement → Option Expression → OptionalStatement → Statements → Statement
+loop_tree true absent (Some e) absent body = WhileOf e body nowhere
+loop_tree is_while first test step body = ForOf first test step body nowhere
 
 -- the parameters and locals in scope after a statement, and after the first part of a `for`
 abbrev pub scope_after : List ℕ → St → List ℕ
@@ -127,8 +127,8 @@ module _ (P : Plain) (R : Renaming) (H : Hierarchy) (m : ℕ) (k : PlainMethod) 
     written_st scope (act t e) = DoOf (written scope e) nowhere
     written_st scope (print t line e) = PrintOf line (written_if scope e) nowhere
     written_st scope (choose t a) = IfOf (written_arms scope a) (written_else scope a) nowhere
-    written_st scope (loop t first e step body) =
-        let inner = scope_after_part scope first in loop_tree (written_part scope first) (written_if inner e) (written_part inner step) (written_sts inner body)
+    written_st scope (loop t is_while first e step body) =
+        let inner = scope_after_part scope first in loop_tree is_while (written_part scope first) (written_if inner e) (written_part inner step) (written_sts inner body)
     written_st scope (return t e) = ReturnOf (written_if scope e) nowhere
     written_st scope (break t) = BreakOf nowhere
     written_st scope (continue t) = ContinueOf nowhere
@@ -143,11 +143,11 @@ module _ (P : Plain) (R : Renaming) (H : Hierarchy) (m : ℕ) (k : PlainMethod) 
     written_part scope (st_then x xs) = present (written_st scope x)
 
     pub written_arms : List ℕ → Arms → tree.Arms
+    written_arms scope no_other = tree.no_arms
     written_arms scope (otherwise xs) = tree.no_arms
     written_arms scope (arm e xs more) = tree.and_arm (written scope e) (written_sts scope xs) (written_arms scope more)
 
-    -- an `else` without statements is left away
     pub written_else : List ℕ → Arms → Else
-    written_else scope (otherwise no_st) = no_else
-    written_else scope (otherwise (st_then x xs)) = tree.otherwise (and_then (written_st scope x) (written_sts (scope_after scope x) xs))
+    written_else scope no_other = no_else
+    written_else scope (otherwise xs) = tree.otherwise (written_sts scope xs)
     written_else scope (arm e xs more) = written_else scope more

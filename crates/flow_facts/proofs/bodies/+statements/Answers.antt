@@ -1,10 +1,10 @@
-use Rattle.std.proofs.Common.{arith, ◌++◌, length, sym, ap, ◌∙◌}
+use Rattle.std.proofs.Common.{arith, false, ◌++◌, length, sym, ap, ◌∙◌}
 use Rattle.std.proofs.lemmas.List.{append-nil}
 use Rattle.java_core.specs.Trees.{at_place, no_place, expr_of, stmt_of, stmts, else_seen, step_seen, value_of}
 use Rattle.java_core.specs.Programs.{program_of, method_seen}
 use Rattle.java_core.proofs.Rows.{if_as, for_as}
-use Rattle.flow_rules.specs.Labels.{label_sts, size_sts}
-use Rattle.flow_rules.specs.Parts.{parts_sts}
+use Rattle.flow_rules.specs.Labels.{label_arms, size_arms}
+use Rattle.flow_rules.specs.Parts.{parts_arms}
 use Rattle.flow_rules.specs.Types.{object_type}
 use Rattle.flow_facts.specs.Views.{parts_seen}
 use Rattle.flow_facts.proofs.Forms.{block_form, while_form}
@@ -38,7 +38,7 @@ walk_stmt-returns-in_ok-walk_stmts-in-For-clause-grown t c =
 pub walk_stmt-returns-in_ok-walk_stmts-in-For-clause-parts : goal.walk_stmt-returns-in_ok-walk_stmts-in-For-clause-parts
 walk_stmt-returns-in_ok-walk_stmts-in-For-clause-parts t c =
     let form = ap (stmt_of at_place) c.in-For.is ∙ for_as at_place c.in-For.first c.in-For.test c.in-For.step c.in-For.body c.in-For.place in
-    rw form (loop_parts (program_of no_place c.args.program.now) c.args.m (method_seen at_place c.args.method.now) (at_place c.in-For.place) (step_seen at_place c.in-For.first) (value_of at_place c.in-For.test) (step_seen at_place c.in-For.step) (stmts at_place c.in-For.body.items)
+    rw form (loop_parts (program_of no_place c.args.program.now) c.args.m (method_seen at_place c.args.method.now) (at_place c.in-For.place) false (step_seen at_place c.in-For.first) (value_of at_place c.in-For.test) (step_seen at_place c.in-For.step) (stmts at_place c.in-For.body.items)
     (parts_seen c.args.parts.now.items) _ _ _ _ (length c.args.parts.now.items) _ _ _
     c.in_ok-walk_step-in-For.ensures.parts c.in_ok-walk_step-in-For.ensures.grown c.in_ok-walk_value-in-For.ensures.parts c.in_ok-walk_value-in-For.ensures.grown
     c.in_ok-walk_step-in-For-2.ensures.parts c.in_ok-walk_step-in-For-2.ensures.grown c.in_ok-walk_stmts-in-For.ensures.parts)
@@ -46,7 +46,7 @@ walk_stmt-returns-in_ok-walk_stmts-in-For-clause-parts t c =
 pub walk_stmt-returns-in_ok-walk_stmts-in-Some-clause-grown : goal.walk_stmt-returns-in_ok-walk_stmts-in-Some-clause-grown
 walk_stmt-returns-in_ok-walk_stmts-in-Some-clause-grown t c =
     let form = ap (stmt_of at_place) c.in-If.is ∙ if_as at_place c.in-If.arms c.in-If.other c.in-If.place in
-    let same = ap (λ o. size_sts (else_seen at_place o)) c.in-Some.is in
+    let same = ap (λ o. size_arms (else_seen at_place o)) c.in-Some.is in
     rw form (omega (arith, same, c.in_ok-walk_arms-in-If.ensures.grown, c.in_ok-walk_stmts-in-Some.ensures.grown))
 
 pub walk_stmt-returns-in_ok-walk_stmts-in-Some-clause-parts : goal.walk_stmt-returns-in_ok-walk_stmts-in-Some-clause-parts
@@ -55,14 +55,14 @@ walk_stmt-returns-in_ok-walk_stmts-in-Some-clause-parts t c =
     let K = method_seen at_place c.args.method.now in
     let form = ap (stmt_of at_place) c.in-If.is ∙ if_as at_place c.in-If.arms c.in-If.other c.in-If.place in
     let all = c.in_ok-walk_stmts-in-Some.ensures.parts
-    ∙ ap (λ o. parts_seen c.walk_arms.new.parts.items ++ parts_sts P (object_type P K) c.args.m K (label_sts (length c.walk_arms.new.parts.items) (else_seen at_place o))) (sym c.in-Some.is)
+    ∙ ap (λ o. parts_seen c.walk_arms.new.parts.items ++ parts_arms P (object_type P K) c.args.m K (label_arms (length c.walk_arms.new.parts.items) (else_seen at_place o))) (sym c.in-Some.is)
     ∙ c.in_ok-walk_arms-in-If.ensures.parts in
     rw form all
 
 pub walk_stmt-returns-in-None-clause-grown : goal.walk_stmt-returns-in-None-clause-grown
 walk_stmt-returns-in-None-clause-grown t c =
     let form = ap (stmt_of at_place) c.in-If.is ∙ if_as at_place c.in-If.arms c.in-If.other c.in-If.place in
-    let same = ap (λ o. size_sts (else_seen at_place o)) c.in-None.is in
+    let same = ap (λ o. size_arms (else_seen at_place o)) c.in-None.is in
     rw form (omega (arith, same, c.in_ok-walk_arms-in-If.ensures.grown))
 
 pub walk_stmt-returns-in-None-clause-parts : goal.walk_stmt-returns-in-None-clause-parts
@@ -71,6 +71,6 @@ walk_stmt-returns-in-None-clause-parts t c =
     let K = method_seen at_place c.args.method.now in
     let form = ap (stmt_of at_place) c.in-If.is ∙ if_as at_place c.in-If.arms c.in-If.other c.in-If.place in
     let all = sym (append-nil (parts_seen c.walk_arms.new.parts.items))
-    ∙ ap (λ o. parts_seen c.walk_arms.new.parts.items ++ parts_sts P (object_type P K) c.args.m K (label_sts (length c.walk_arms.new.parts.items) (else_seen at_place o))) (sym c.in-None.is)
+    ∙ ap (λ o. parts_seen c.walk_arms.new.parts.items ++ parts_arms P (object_type P K) c.args.m K (label_arms (length c.walk_arms.new.parts.items) (else_seen at_place o))) (sym c.in-None.is)
     ∙ c.in_ok-walk_arms-in-If.ensures.parts in
     rw form all

@@ -60,7 +60,7 @@ check_stmt-check_stmts-requires-in-For t c =
 
 pub check_arms-check_stmts-requires-in-Some : goal.check_arms-check_stmts-requires-in-Some
 check_arms-check_stmts-requires-in-Some t c =
-    (omega (arith, c.decreases, else_smaller c.args.arms.now (else_seen at_place c.args.other.now), ap (λ o. sts_size (else_seen at_place o)) c.in-Some.is, ap (λ xs. sts_size (stmts at_place xs)) c.deref-in-Some.ensures.value), c.requires)
+    (omega (arith, c.decreases, else_smaller c.args.arms.now (else_seen at_place c.args.other.now), ap (λ o. arms_size (else_seen at_place o)) c.in-Some.is, ap (λ xs. sts_size (stmts at_place xs)) c.deref-in-Some.ensures.value), c.requires)
 
 pub check_arms-check_stmts-requires : goal.check_arms-check_stmts-requires
 check_arms-check_stmts-requires t c =
