@@ -15,5 +15,5 @@ ghost use Rattle.same_run.specs.Same.{RebuiltRunsTheSame};
 /// as many steps left (after Snelting and Tip, 2000, who ask of a changed hierarchy that the
 /// program behaves as before). That it is typed is not asked: no run of it comes where no rule is.
 pub fn same_run()
-    ensures rebuilt { RebuiltRunsTheSame }
+    ensures { RebuiltRunsTheSame }
 {}
