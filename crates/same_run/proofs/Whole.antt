@@ -73,4 +73,3 @@ rebuilt_runs_the_same p F s t H W =
     let Q : Plain = program_of at_place p in
     subst (λ Z. IsPlaced Z Q → IsReady Z Q F s t H → IsFormed W → Rebuilds Z Q F H W → HasSameRun Z W) (same_program p) (untagged_same Q F s t H W)
     (placed p)
-
