@@ -62,10 +62,13 @@ fn call_on<'a>(
 {
     match target {
         Value::Null => faulty(Fault::Null),
-        Value::Str(at) => {
-            let found = call_string(&m.heap, name, at, &args);
-            answer(m, found)
-        }
+        Value::Str(at) => match slot_at(p, m.now.method, base, name) {
+            None => {
+                let found = call_string(&m.heap, name, at, &args);
+                answer(m, found)
+            }
+            Some(_) => stuck(),
+        },
         Value::Ref(at) => match class_at(&m.heap, at) {
             Some(class) => call_object(p, m, base, name, at, class, args),
             None => stuck(),
