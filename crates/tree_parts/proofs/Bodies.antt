@@ -1,5 +1,5 @@
 -- The arms and the `else` of an `if` apart, a declaration, and a loop.
-use Rattle.std.proofs.Common.{◌≡◌, ℕ, List, [], ◌∷◌, length, refl, sym, ap, ◌∙◌}
+use Rattle.std.proofs.Common.{◌≡◌, ℕ, List, [], ◌∷◌, refl, ap, ◌∙◌}
 use Rattle.std.specs.Prelude.{Option, Some, None, slice_get, false}
 use Rattle.std.specs.Option.{option_map_or}
 use Rattle.std.specs.declared.vec.Vec.{Vec}
@@ -7,7 +7,7 @@ use Rattle.std.specs.declared.alloc.Global.{Global}
 use Rattle.kaba_base.specs.declared.Place.{Place}
 use Rattle.java_tree.specs.declared.TypeName.{TypeName}
 use Rattle.java_tree.specs.Syntax as tree
-use Rattle.java_tree.specs.Syntax.{Expression, Statement, Statements, OptionalStatement, LocalOf, BlockOf, ForOf, no_statements, and_arm}
+use Rattle.java_tree.specs.Syntax.{Expression, Statements, OptionalStatement, LocalOf, BlockOf, ForOf, no_statements, and_arm}
 use Rattle.java_core.specs.declared.RStmt.{RStmt}
 use Rattle.java_core.specs.declared.RArm.{RArm}
 use Rattle.java_core.specs.Trees.{Tag, Ex, Sts, Arms, no_other, no_place, loop, expr_of, stmts, arms_seen, else_seen}
@@ -43,15 +43,17 @@ module _ (P : Plain) (R : Renaming) (H : Hierarchy) (m : ℕ) (k : PlainMethod) 
       ∙ ap (λ y. LocalOf false (written_type P H (R.row_type (variable_row m k i)) v.ty) y e nowhere) f
       ∙ ap (λ o. option_map_or kind o (BlockOf no_statements nowhere)) found
 
-  pub for_is : {first step : OptionalStatement} {test : Option Expression} {run : Statements} (scope from inner : List ℕ) (t : Tag) (f : Sts)
+  pub for_is : {first step : OptionalStatement} {test : Option Expression} {run : Statements} {place : Place} (scope from inner : List ℕ) (t : Tag) (f : Sts)
       (e : Option Ex) (g body : Sts)
       → from ≡ scope → inner ≡ scope_after_part from f → first ≡ written_part P R H m k from f → test ≡ written_if P R H m k inner e
-      → step ≡ written_part P R H m k inner g → run ≡ written_sts P R H m k inner body → ForOf first test step run nowhere
+      → step ≡ written_part P R H m k inner g → run ≡ written_sts P R H m k inner body → place ≡ nowhere
+      → ForOf first test step run place
       ≡ written_st P R H m k scope (loop t false f e g body)
-  for_is {first = first} {step = step} {test = test} {run = run} scope from inner t f e g body a b c d h j =
+  for_is {first = first} {step = step} {test = test} {run = run} scope from inner t f e g body a b c d h j l =
       let before = written_part P R H m k from f in
       let shape = λ (y : List ℕ). ForOf before (written_if P R H m k y e) (written_part P R H m k y g) (written_sts P R H m k y body) nowhere in
-      ap (λ y. ForOf y test step run nowhere) c
+      ap (λ y. ForOf first test step run y) l
+      ∙ ap (λ y. ForOf y test step run nowhere) c
       ∙ ap (λ y. ForOf before y step run nowhere) d
       ∙ ap (λ y. ForOf before (written_if P R H m k inner e) y run nowhere) h
       ∙ ap (λ y. ForOf before (written_if P R H m k inner e) (written_part P R H m k inner g) y nowhere) j

@@ -139,6 +139,15 @@ stmt-returns-in_ok-run-in-For-clause-value t c =
     let is = for_is P R c.args.hier.now c.args.m k scope c.in_ok-inner-in-For.inner.items c.part.new.scope.items (no_place a.place)
     (step_seen no_place a.first) (value_of no_place a.test)
     (step_seen no_place a.step) (stmts no_place a.run'.items) c.in_ok-inner-in-For.ensures c.in_ok-first-in-For.ensures.scope c.in_ok-first-in-For.ensures.value
-    c.in_ok-test-in-For.ensures.value c.in_ok-step-in-For.ensures.value c.in_ok-run-in-For.ensures.value in
+    c.in_ok-test-in-For.ensures.value c.in_ok-step-in-For.ensures.value c.in_ok-run-in-For.ensures.value c.nowhere-in-For.ensures in
     let form = for_form a.first a.test a.step a.run' a.is in
     IfOk-weaker c.for_loop.result _ _ (λ s h. h ∙ is ∙ sym (ap (written_st P R c.args.hier.now c.args.m k scope) form)) c.for_loop.ensures.value
+
+pub otherwise-returns-in_ok-other-in-Some : goal.otherwise-returns-in_ok-other-in-Some
+otherwise-returns-in_ok-other-in-Some t c =
+    let P = program_of no_place c.args.program.now in
+    let R = renamed c.args.numbering.now c.args.hier.now in
+    let k = method_seen no_place c.args.method.now in
+    let some = ap (λ (o : Option (Vec RStmt Global)). written_else P R c.args.hier.now c.args.m k c.args.scope.now.items (else_seen
+    no_place o)) c.in-Some.is in
+    record { value = ap tree.otherwise c.in_ok-other-in-Some.ensures.value ∙ sym some }
