@@ -119,8 +119,24 @@ fn extent_of(
     Ok(extent)
 }
 
+/// From how many columns on a row is compared whole, and not column by column.
+const MANY: usize = 64;
+
 /// Whether a row has all columns of an intent, which are also listed.
 fn has_all(row: &BitRow, intent: &BitRow, columns: &[u32]) -> bool
+    requires width { length row.now ≡ length intent.now }
+    requires columns { ListsBelow (λ c. bit intent.now c ≡ true) (length intent.now) columns.now }
+    ensures { IsTrue result ↔ IsSubset intent.now row.now }
+{
+    if columns.len() < MANY {
+        has_listed(row, intent, columns)
+    } else {
+        intent.is_subset(row)
+    }
+}
+
+/// Whether a row has all columns of an intent, one by one.
+fn has_listed(row: &BitRow, intent: &BitRow, columns: &[u32]) -> bool
     requires width { length row.now ≡ length intent.now }
     requires columns { ListsBelow (λ c. bit intent.now c ≡ true) (length intent.now) columns.now }
     ensures { IsTrue result ↔ IsSubset intent.now row.now }

@@ -4,7 +4,7 @@ use Rattle.std.proofs.lemmas.List.{get_or_default}
 use Rattle.std.proofs.lemmas.List.Elements.{Contains-get_or}
 use Rattle.kaba_bits.specs.Sets.{bit}
 use Rattle.kaba_bits.proofs.SetLemmas.{bit-below}
-use Rattle.concept_build.proofs.item.has_all.Goals as goal
+use Rattle.concept_build.proofs.item.has_listed.Goals as goal
 
 pub has-requires : goal.has-requires
 has-requires c = omega (arith, ((c.requires.columns.each (get_or c.args.columns.now c.loop-c.c-index 0)).0 (Contains-get_or c.args.columns.now c.loop-c.c-index 0 c.loop-c-test.true)).0, c.requires.width)
