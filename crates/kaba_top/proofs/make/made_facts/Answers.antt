@@ -19,8 +19,8 @@ returns-in-Refused c =
     inl (not_run c.args.facts.now script reply.status reply.out.items reply.err.items c.new-script.ensures.items
     (subst (IsProposed usual_concepts script c.args.facts.now) c.in-Refused.is c.in_ok-proposal.ensures.proposed))
 
-pub returns-in-Written : goal.returns-in-Written
-returns-in-Written c =
+pub returns : goal.returns
+returns c =
     let F = c.args.facts.now in
     let p = c.in-Edited.proposal in
     let script = c.new-script.result.items in
