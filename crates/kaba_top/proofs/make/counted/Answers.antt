@@ -12,6 +12,7 @@ returns-in_ok-from_slice-in-Ended c =
     subst (λ end. RunGives counts (end_of end) steps c.args.outcome.out.items 0 text.items c.new.result.items) (sym c.in-Ended.is)
     (record {
       status_is = refl;
-      out_is = c.in_ok-from_slice-in-Ended.ensures.items ∙ c.as_bytes.ensures.value ∙ c.in_ok-text-in-Ended.ensures ∙ ap (summary counts steps) printed;
+      out_is = c.in_ok-from_slice-in-Ended.ensures.items ∙ c.as_bytes.ensures.value ∙ c.in_ok-text-in-Ended.ensures
+          ∙ ap (summary counts steps) (c.len.ensures ∙ printed);
       err_is = c.new.ensures.items;
     })
