@@ -29,8 +29,10 @@ use Rattle.kaba_top.specs.Proposals.{IsProposal, IsStuck, IsWritten}
 use Rattle.kaba_top.proofs.Analysing.{has_lattice}
 
 -- the answers for a text of a typed program
-pub made_answers : (K : Program → ℕ → List ℕ → List ℕ → Type 0) (bytes : List ℕ) (program : Program) (r : Result Reply AllocError) → IsMadeReading bytes (readings.Typed program)
-    → IfOk r (λ reply. K program reply.status reply.out.items reply.err.items) → IfOk r (λ reply. MadeTextAnswers K bytes reply.status reply.out.items reply.err.items)
+pub made_answers : (K : Program → ℕ → List ℕ → List ℕ → Type 0) (bytes : List ℕ) (program : Program) (r : Result Reply AllocError)
+    → IsMadeReading bytes (readings.Typed program)
+    → IfOk r (λ reply. K program reply.status reply.out.items reply.err.items)
+    → IfOk r (λ reply. MadeTextAnswers K bytes reply.status reply.out.items reply.err.items)
 made_answers K bytes program (Err e) h k = tt
 made_answers K bytes program (Ok reply) h k = inr (record { small = h.0; answers = inr (record { program = program; is = h.1; answers = k }) })
 
@@ -63,7 +65,8 @@ few : HasTooManyEdits [] → ⊥
 few many = omega (arith, many.many, ap length (no_edits many.edits many.are))
 
 -- so it is run where the concepts are within what is allowed
-pub not_run : (facts : Facts) (script : List ℕ) (status : ℕ) (out err : List ℕ) → script ≡ [] → IsNotRun usual_concepts script facts status out err → IsOverBound usual_concepts facts status out err
+pub not_run : (facts : Facts) (script : List ℕ) (status : ℕ) (out err : List ℕ) → script ≡ []
+    → IsNotRun usual_concepts script facts status out err → IsOverBound usual_concepts facts status out err
 not_run facts script status out err none (inl over) = over
 not_run facts script status out err none (inr a) = elim a.fault as (λ _. IsOverBound usual_concepts facts status out err) [
   | inl bad ↦ absurd (well_written bad.line (subst (λ s. IsFirstBadLine s bad.line) none bad.first))
@@ -75,7 +78,8 @@ pub unedited : (facts : Facts) (script : List ℕ) (p : Proposal) → script ≡
     → p.edited.hier ≡ start_of usual_concepts facts (has_lattice usual_concepts script facts p is)
 unedited facts script p none is =
     let start = start_of usual_concepts facts (has_lattice usual_concepts script facts p is) in
-    subst (λ edits. ◌≡◌ {A = Hierarchy} p.edited.hier (after_edits facts p.sets start edits)) (no_edits is.edits (subst (λ s. AreEditsOf s is.edits) none is.are)) is.is.hierarchy
+    let none_made = no_edits is.edits (subst (λ s. AreEditsOf s is.edits) none is.are) in
+    subst (λ edits. ◌≡◌ {A = Hierarchy} p.edited.hier (after_edits facts p.sets start edits)) none_made is.is.hierarchy
 
 -- there is a tree
 pub never_stuck : (facts : Facts) (script : List ℕ) (p : Proposal) (fault : NoTree) → script ≡ [] → IsProposal usual_concepts script facts p

@@ -129,7 +129,8 @@ written_other counts p =
 made_other : (program : Program) (f : Facts) → AreOther (MadeOf program f)
 made_other program f status out err (inl a) = said 68 (omega arith, omega arith) _ status out err a.many.says
 made_other program f status out err (inr a) =
-    made_text_other (WrittenGives (counts_of f a.has.lattice a.tree a.log)) (written_other (counts_of f a.has.lattice a.tree a.log)) a.text status out err a.answers
+    let counts = counts_of f a.has.lattice a.tree a.log in
+    made_text_other (WrittenGives counts) (written_other counts) a.text status out err a.answers
 
 make_other : (prints : Bool) (number : ℕ) → AreOther (MakeAnswers prints number)
 make_other true number = gave 0 (omega arith, omega arith) (sample_text number) []

@@ -96,7 +96,11 @@ pub record IsMade (program : Program) (facts : Facts) (status : ℕ) (out err : 
 abbrev pub MadeOf : Program → Facts → ℕ → List ℕ → List ℕ → Type 0
 MadeOf program facts status out err = IsOverBound usual_concepts facts status out err ⊎ IsMade program facts status out err
 
+-- what comes of the text of a sample
+abbrev pub SampleAnswers : List ℕ → ℕ → List ℕ → List ℕ → Type 0
+SampleAnswers text = MadeTextAnswers (λ program. AnalysisAnswers (MadeOf program) program) text
+
 -- the text of the sample, or what comes of it
 abbrev pub MakeAnswers : Bool → ℕ → ℕ → List ℕ → List ℕ → Type 0
 MakeAnswers true number = Gives 0 (sample_text number) []
-MakeAnswers false number = MadeTextAnswers (λ program. AnalysisAnswers (MadeOf program) program) (sample_text number)
+MakeAnswers false number = SampleAnswers (sample_text number)

@@ -66,4 +66,5 @@ IsReadingOfTree tree (readings.Refused reply) = IsUnresolvedTree tree reply.stat
 -- the bytes of a text that no file holds are those of this typed program, or a reply refuses them
 abbrev pub IsMadeReading : List ℕ → Reading → Type 0
 IsMadeReading bytes (readings.Typed program) = (length bytes ≤ most_bytes) × IsTypedText bytes program
-IsMadeReading bytes (readings.Refused reply) = IsLongText bytes reply.status reply.out.items reply.err.items ⊎ ((length bytes ≤ most_bytes) × IsRefusedText bytes reply.status reply.out.items reply.err.items)
+IsMadeReading bytes (readings.Refused reply) =
+    IsLongText bytes reply.status reply.out.items reply.err.items ⊎ ((length bytes ≤ most_bytes) × IsRefusedText bytes reply.status reply.out.items reply.err.items)

@@ -9,7 +9,7 @@ ghost use Rattle.java_write.specs.Written.{HasText};
 ghost use Rattle.program_facts.specs.Known.{AreProgramFacts};
 ghost use Rattle.kaba_words.specs.Commands.{most_samples};
 ghost use Rattle.kaba_top.specs.FactsAnswers.{AnalysisAnswers};
-ghost use Rattle.kaba_top.specs.MakeAnswers.{MakeAnswers, MadeOf, MadeTextAnswers, RunGives, WrittenGives, count_line, counts_of, sample_text, summary};
+ghost use Rattle.kaba_top.specs.MakeAnswers.{MakeAnswers, MadeOf, MadeTextAnswers, RunGives, SampleAnswers, WrittenGives, count_line, counts_of, sample_text, summary};
 ghost use Rattle.kaba_top.specs.Readings.{IsMadeReading};
 
 use crate::analysis::{Analysed, analyse};
@@ -177,7 +177,7 @@ fn made_program(alloc: Global, program: &Checked) -> Result<Reply, AllocError>
 
 /// The reply of `make` for the text of its sample.
 fn made_sample(alloc: Global, text: &Vec<u8>) -> Result<Reply, AllocError>
-    ensures { IfOk result (λ reply. MadeTextAnswers (λ program. AnalysisAnswers (MadeOf program) program) text.now.items reply.status reply.out.items reply.err.items) }
+    ensures { IfOk result (λ reply. SampleAnswers text.now.items reply.status reply.out.items reply.err.items) }
 {
     match read_made(alloc, text)? {
         Reading::Typed(program) => made_program(alloc, &program),

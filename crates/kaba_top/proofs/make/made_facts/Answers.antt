@@ -19,15 +19,15 @@ returns-in-Refused c =
     inl (not_run c.args.facts.now script reply.status reply.out.items reply.err.items c.new-script.ensures.items
     (subst (IsProposed usual_concepts script c.args.facts.now) c.in-Refused.is c.in_ok-proposal.ensures.proposed))
 
-pub returns-in-Written : goal.returns-in-Written
-returns-in-Written c =
+pub returns : goal.returns
+returns c =
     let F = c.args.facts.now in
     let p = c.in-Edited.proposal in
     let script = c.new-script.result.items in
-    made c.args.program.now F script p c.in-Written.written c.in_ok-counts.counts c.made_text.result c.new-script.ensures.items
+    made c.args.program.now F script p c.in-Written.written c.in_ok-counts-in-Written.counts c.made_text.result c.new-script.ensures.items
     (subst (IsProposed usual_concepts script F) c.in-Edited.is c.in_ok-proposal.ensures.proposed)
     (subst (IsWrittenOver c.args.program.now F p.sets p.edited.hier) c.in-Written.is c.in_ok-written.ensures.regenerated)
-    c.in_ok-counts.ensures c.made_text.ensures
+    c.in_ok-counts-in-Written.ensures c.made_text.ensures
 
 pub unreachable-requires : goal.unreachable-requires
 unreachable-requires c =
