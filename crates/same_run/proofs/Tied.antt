@@ -57,7 +57,6 @@ use Rattle.rebuild_model.specs.Renaming.{Places, Renaming, renaming_of}
 use Rattle.rebuild_model.specs.Members.{HasTypes, HasCode, StandsAt}
 use Rattle.rebuild_looks.specs.Known.{Known, Offers}
 use Rattle.rebuild_looks.proofs.Declared.{new_body}
-use Rattle.rebuild_looks.proofs.Fields as fields
 use Rattle.rebuild_looks.proofs.Fields.{finds_field}
 use Rattle.rebuild_given.proofs.Rest.{half}
 use Rattle.rebuild_given.proofs.Needed as needed

@@ -282,7 +282,8 @@ module _ (Q W : Plain) (F : Facts) (formed : IsFormed (untagged Q)) (slots : Hav
   unfolding call_signature
   called_slot e x c sig cls q =
       let a : object_signature P (class_of (old e)) x ≡ Some sig =
-      sym (ap (λ b. if b then option_map signature_of_string (string_method x) else object_signature P (class_of (old e)) x) (class_apart (old e) c cls).1) ∙ q in
+      sym (ap (λ b. if b then option_map signature_of_string (string_method x) else object_signature P (class_of (old e)) x)
+      (class_apart (old e) c cls).1) ∙ q in
       let j = then_some (signature_of_slot P) (slot_of P c x) sig (ap (λ z. object_signature P z x) (sym cls) ∙ a) in (
         j.0,
         ap (λ z. option_and_then (λ c. slot_of P c x) (class_of z)) (sym (bare_static P g e)) ∙ ap (λ z. option_and_then (λ c. slot_of P c x) z) cls ∙ j.1,

@@ -122,8 +122,8 @@ module _ (L M : Lang) (K : Link) (Made : Option ℕ → Kind → Kind → Type 0
         (looks (touched g.body e i) (touched h.body a j) (Object at) (Object at) s t _ _ r (λ m1 n1 r1 ot.
         given_on g.body h.body d b u u (record s { met = m1 }) (record t { met = n1 }) go on refl r1 q))))))))
 
-    pub member_read : (d b dd : Ex) (z w : List ℕ) → L.field g e z ≡ x → M.field h b w ≡ y → SameLength L M K Made Pair g h e b z w → (at : ℕ) (o p : Option ℕ) (k l : Kind) (xs ys : List Value)
-        → Made o k l → SameValues L M K Made o k l xs ys
+    pub member_read : (d b dd : Ex) (z w : List ℕ) → L.field g e z ≡ x → M.field h b w ≡ y → SameLength L M K Made Pair g h e b z w
+        → (at : ℕ) (o p : Option ℕ) (k l : Kind) (xs ys : List Value) → Made o k l → SameValues L M K Made o k l xs ys
         → (s t : State) (go on : ToValue) → R s t → slice_get s.cells at ≡ Some (cell o k xs) → KV L M K Made s.cells (K.may (held g.body d)) go on
         → Alike (read_member L g e d z k at (cell o k xs) s go) (read_member M h b dd w l at (cell p l ys) t on)
     member_read d b dd z w ex ey len at o p k l xs ys made (same_fields {c = c} {k = c2} same) s t go on r there q =
@@ -151,8 +151,8 @@ module _ (L M : Lang) (K : Link) (Made : Option ℕ → Kind → Kind → Type 0
         → (s t : State) (go on : State → Outcome) → R s t → slice_get s.cells at ≡ Some (cell o k xs) → KS L M K Made s.cells go on
         → Alike (write_field L g.body e x v at (cell o k xs) s go) (write_field M h.body b y v at (cell p l ys) t on)
     field_write b v at o p k l xs ys made (same_fields {c = c} {k = c2} same) s t go on r there q =
-        first_some x s _ _ (λ i ei. first_some (L.field_type i) s _ _ (λ a ea. first_some (L.index c i) s _ _ (λ n en. first_some (slice_get xs n) s _ _ (λ old eo.
-        looks_first (touched g.body e i) (Object at) s _ _ (λ seen.
+        first_some x s _ _ (λ i ei. first_some (L.field_type i) s _ _ (λ a ea. first_some (L.index c i) s _ _ (λ n en.
+        first_some (slice_get xs n) s _ _ (λ old eo. looks_first (touched g.body e i) (Object at) s _ _ (λ seen.
         let j = K.new_field i in
         let had = f.had i ei o c c2 made (had_there at o c xs i s there seen) in
         let w = shape_there (L.field_type i) (M.field_type j) a (twins.field_shapes o i had) ea in

@@ -9,7 +9,7 @@ use Rattle.java_core.specs.declared.BinOp.TheVariants as bin
 use Rattle.java_core.specs.declared.Op.{Op}
 use Rattle.java_core.specs.declared.Fault.TheVariants as fault
 use Rattle.java_core.specs.Types.{StringMethod, LengthOf, CharAt, Equals, is_plus}
-use Rattle.java_meaning.specs.Moment.{Value, Number, Truth, CodeUnit, Nothing, Text, Object, Kind, State, Wrong, Outcome, stop, Lang, with_some}
+use Rattle.java_meaning.specs.Moment.{Value, Number, Truth, CodeUnit, Text, Kind, State, Wrong, Outcome, stop, Lang, with_some}
 use Rattle.java_meaning.specs.Values.{int_of, number_of, truth_of, natural_of, text_of, arith, negated, unary_value, same_value, compared, join, is_text, equals_value}
 use Rattle.java_meaning.specs.Meaning.{ToValue, add_string, give_string, string_call, after_left, join_values, compute, operate}
 use Rattle.run_cover.specs.Families.{Set}

@@ -125,7 +125,8 @@ module _ (L M : Lang) (K : Link) (Made : Option ℕ → Kind → Kind → Type 0
           looks L M K Made Pair twins (self_of b.env.body) (self_of b2.env.body) (Object at) (Object at) (record s1 { met = m2 })
           (record t1 { met = n2 }) _ _ r2 (λ m3 n3 r3 o3.
           entered b b2 found.runs.pair (Object at) vs (record s1 { met = m3 }) (record t1 { met = n3 }) _ _ r3 o3 (λ u s4 t4 r4 k4.
-          given_on L M K Made Pair twins g.body h.body a a2 u u s4 t4 go on refl r4 (kv_on L M K Made s.cells s4.cells (K.may (held g.body a)) go on k4 q))))))))))
+          given_on L M K Made Pair twins g.body h.body a a2 u u s4 t4 go on refl r4
+          (kv_on L M K Made s.cells s4.cells (K.may (held g.body a)) go on k4 q))))))))))
       object_called g h a e d a2 x y f at o p k l xs ys vs made (same_elements {t = w} {u = w2} shape) s t go on r there q =
           wrong_first s (call_object M next h d a2 y at (record { site = p; kind = an_array w2; values = xs }) vs t on)
 

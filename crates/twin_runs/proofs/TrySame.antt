@@ -9,7 +9,7 @@ use Rattle.java_core.specs.declared.Ty.{Ty}
 use Rattle.java_core.specs.declared.TyBase.TheVariants.{Int, Str, Class}
 use Rattle.java_core.specs.declared.BinOp.TheVariants as bin
 use Rattle.java_core.specs.declared.Op.TheVariants as op
-use Rattle.java_core.specs.Trees.{Tag, no_ex, number, this, local, own_field, field, index, call, super_call, create, create_array, cast, binary, to_field, to_element, Sts, declare, assign, print, return, no_st, st_then}
+use Rattle.java_core.specs.Trees.{Tag, no_ex, number, text, this, local, own_field, field, index, call, super_call, create, create_array, cast, binary, to_field, to_element, Sts, declare, assign, print, return, no_st, st_then}
 use Rattle.java_core.specs.Programs.{Plain, PlainClass, PlainMethod, PlainLocal}
 use Rattle.java_core.specs.Classes.{below, field_of, member_field, search_order, declaration_of, lookup, super_method}
 use Rattle.java_core.specs.Types.{plain_type, class_type, field_in}
@@ -18,7 +18,7 @@ use Rattle.java_meaning.specs.Meaning.{words_type, element_type, run_in}
 use Rattle.java_meaning.specs.Languages.{layout, body_with, language_of}
 use Rattle.java_meaning.proofs.Layouts.{places}
 use Rattle.run_cover.specs.Watched.{Of}
-use Rattle.twin_runs.specs.Twins.{shape_of, Link, value_at, same_number, same_local, same_own_field, same_index, same_call, same_super_call, same_create, same_create_array, same_cast, same_binary, same_no_ex, same_some, same_to_field, same_to_element, same_declare, same_assign, same_print, same_return, same_no_st, same_st_then, HasPair, SameBody, AreTwins}
+use Rattle.twin_runs.specs.Twins.{shape_of, Link, value_at, same_number, same_text, same_local, same_own_field, same_field, same_index, same_call, same_super_call, same_create, same_create_array, same_cast, same_binary, same_no_ex, same_some, same_to_field, same_to_element, same_declare, same_assign, same_print, same_return, same_no_st, same_st_then, HasPair, SameBody, AreTwins}
 use Rattle.twin_runs.proofs.States.{Alike}
 use Rattle.twin_runs.proofs.SameRun.{same_run}
 
@@ -69,7 +69,7 @@ main_of c ls xs =
     }
 
 -- the code of `main`, over the classes a and b and the names f and m: b x = new b(); a[] y = new a[1]; x.f = 5; y[0] = x; b z = (b) y[0];
--- System.out.println(z.m());
+-- System.out.println(z.m()); System.out.println(y.length); System.out.println("ab".length());
 abbrev main_code : ℕ → ℕ → List ℕ → List ℕ → Sts
 main_code a b f m =
     st_then (declare tag 1 (Some (create tag 0 b no_ex)))
@@ -77,7 +77,9 @@ main_code a b f m =
     (st_then (assign tag (to_field tag (local tag 1) f) (number tag (pos 5)))
     (st_then (assign tag (to_element tag (local tag 2) (number tag (pos 0))) (local tag 1))
     (st_then (declare tag 3 (Some (cast tag 2 (class_type b) (index tag (local tag 2) (number tag (pos 0))))))
-    (st_then (print tag true (Some (call tag (local tag 3) m no_ex))) no_st)))))
+    (st_then (print tag true (Some (call tag (local tag 3) m no_ex)))
+    (st_then (print tag true (Some (field tag (local tag 2) (codes "length"))))
+    (st_then (print tag true (Some (call tag (text tag (codes "ab")) (codes "length") no_ex))) no_st)))))))
 
 abbrev locals_of : ℕ → ℕ → List PlainLocal
 locals_of a b = variable (codes "x") (class_type b) ∷ variable (codes "y") (many a) ∷ variable (codes "z") (class_type b) ∷ []
@@ -325,7 +327,11 @@ bodies_same b c pair_main = record {
       (record {
         bodies = λ o c k i b made ei eb m. record { slot = 0; called = refl; runs = call_pair o c k i b made.old made.new ei eb };
         texts = λ m e. absurd (cc);
-      })))) same_no_st)))));
+      }))))
+      (same_st_then (same_print (same_some (same_field same_local
+      (record { new = λ f e. absurd (cc); had = λ f e o c k made m. absurd (cc) }) (λ e. e))))
+      (same_st_then (same_print (same_some (same_call same_text same_no_ex
+      (record { bodies = λ o c k i b made ei eb m. absurd (cc); texts = λ m e. e })))) same_no_st)))))));
 }
   where
     main_plain : (i a : ℕ) → slice_get (Nothing ∷ Nothing ∷ Nothing ∷ []) i ≡ Some (Object a) → ⊥
