@@ -325,8 +325,8 @@ fn walk_arms(
     parts: &mut Vec<Part>,
 ) -> Result<(), AllocError>
     requires { IsFormed (program_of no_place program.now) }
-    ensures grown { OnOk result (length parts.new.items + size_sts (else_seen at_place other.now) ≡ length parts.old.items + size_arms (arms_seen at_place arms.now.items (else_seen at_place other.now))) }
-    ensures parts { OnOk result (parts_seen parts.new.items ++ plain.parts_sts (program_of no_place program.now) (object_type (program_of no_place program.now) (method_seen at_place method.now)) m (method_seen at_place method.now) (label_sts (length parts.new.items) (else_seen at_place other.now)) ≡ parts_seen parts.old.items ++ plain.parts_arms (program_of no_place program.now) (object_type (program_of no_place program.now) (method_seen at_place method.now)) m (method_seen at_place method.now) (label_arms (length parts.old.items) (arms_seen at_place arms.now.items (else_seen at_place other.now)))) }
+    ensures grown { OnOk result (length parts.new.items + size_arms (else_seen at_place other.now) ≡ length parts.old.items + size_arms (arms_seen at_place arms.now.items (else_seen at_place other.now))) }
+    ensures parts { OnOk result (parts_seen parts.new.items ++ plain.parts_arms (program_of no_place program.now) (object_type (program_of no_place program.now) (method_seen at_place method.now)) m (method_seen at_place method.now) (label_arms (length parts.new.items) (else_seen at_place other.now)) ≡ parts_seen parts.old.items ++ plain.parts_arms (program_of no_place program.now) (object_type (program_of no_place program.now) (method_seen at_place method.now)) m (method_seen at_place method.now) (label_arms (length parts.old.items) (arms_seen at_place arms.now.items (else_seen at_place other.now)))) }
 {
     let _ = other;
     for arm in arms {

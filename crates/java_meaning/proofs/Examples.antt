@@ -11,7 +11,7 @@ use Rattle.java_core.specs.declared.BinOp.TheVariants as bin
 use Rattle.java_core.specs.declared.BinOp.{BinOp}
 use Rattle.java_core.specs.declared.Op.TheVariants as op
 use Rattle.java_core.specs.declared.Fault.TheVariants as fault
-use Rattle.java_core.specs.Trees.{Tag, Ex, no_ex, ex_then, number, character, text, truth, null, this, local, field, call, super_call, create, create_array, cast, instance_of, binary, to_local, to_element, St, Sts, declare, assign, act, break, continue, print, choose, loop, return, no_st, st_then, otherwise, arm}
+use Rattle.java_core.specs.Trees.{Tag, Ex, no_ex, ex_then, number, character, text, truth, null, this, local, field, call, super_call, create, create_array, cast, instance_of, binary, to_local, to_element, St, Sts, declare, assign, act, break, continue, print, choose, loop, return, no_st, st_then, no_other, arm}
 use Rattle.java_core.specs.Programs.{Plain, PlainClass, PlainMethod, PlainLocal}
 use Rattle.java_core.specs.Classes.{below, field_of, member_field, search_order, declaration_of, lookup, super_method}
 use Rattle.java_core.specs.Types.{plain_type, class_type, field_in}
@@ -67,7 +67,7 @@ plus a b = binary tag (bin.Int op.Plus) a b
 abbrev pub counting_code : Sts
 counting_code =
     two (declare tag 1 (Some (number tag (pos 0))))
-    (loop tag no_st (Some (binary tag bin.Less (local tag 1) (number tag (pos 3)))) no_st (two (print_line (local tag 1)) (assign tag (to_local tag 1) (plus (local tag 1) (number tag (pos 1))))))
+    (loop tag true no_st (Some (binary tag bin.Less (local tag 1) (number tag (pos 3)))) no_st (two (print_line (local tag 1)) (assign tag (to_local tag 1) (plus (local tag 1) (number tag (pos 1))))))
 
 abbrev pub counting_main : PlainMethod
 counting_main = main_of 1 (variable (codes "i") (plain_type Int) ∷ []) counting_code
@@ -118,7 +118,7 @@ casting =
       main = 0;
       methods = main_of 3 (variable (codes "x") (class_type 1) ∷ variable (codes "y") (class_type 2) ∷ []) (st_then (declare tag 1 (Some (create tag 0 1 no_ex)))
           (st_then (choose tag (arm (binary tag bin.Greater (field tag (local tag 0) (codes "length")) (number tag (pos 0)))
-          (st_then (assign tag (to_local tag 1) (create tag 1 2 no_ex)) no_st) (otherwise no_st)))
+          (st_then (assign tag (to_local tag 1) (create tag 1 2 no_ex)) no_st) no_other))
           (st_then (print_line (instance_of tag 2 (local tag 1) 2))
           (two (declare tag 2 (Some (cast tag 3 (class_type 2) (local tag 1)))) (print_line (field tag (local tag 2) (codes "f"))))))) ∷ [];
     }
@@ -194,10 +194,10 @@ abbrev with_local : Ty → Sts → Plain
 with_local t xs = record { classes = object ∷ class (codes "Main") (under 0) ∷ []; fields = []; slots = []; main = 0; methods = main_of 1 (variable (codes "x") t ∷ []) xs ∷ [] }
 
 abbrev only_if : Ex → St → St
-only_if e x = choose tag (arm e (st_then x no_st) (otherwise no_st))
+only_if e x = choose tag (arm e (st_then x no_st) no_other)
 
 -- for (int x = 0; x < 5; x = x + 1) { if (x == 1) { continue; } if (x == 3) { break; } System.out.println(x); }
-leaves : run (with_local (plain_type Int) (st_then (loop tag (st_then (declare tag 1 (Some (int (pos 0)))) no_st) (Some (binary tag bin.Less (local tag 1) (int (pos 5))))
+leaves : run (with_local (plain_type Int) (st_then (loop tag false (st_then (declare tag 1 (Some (int (pos 0)))) no_st) (Some (binary tag bin.Less (local tag 1) (int (pos 5))))
     (st_then (assign tag (to_local tag 1) (plus (local tag 1) (int (pos 1)))) no_st)
     (st_then (only_if (binary tag bin.Same (local tag 1) (int (pos 1))) (continue tag)) (two (only_if (binary tag bin.Same (local tag 1) (int (pos 3))) (break tag)) (print_line (local tag 1))))) no_st)) [] 9
     ≡ record { end = Ended; out = codes "0\n2\n"; left = 5; met = [] }

@@ -19,7 +19,7 @@ use Rattle.java_core.specs.declared.TyBase.TheVariants.{Int, Str}
 use Rattle.java_core.specs.declared.Ty.{Ty}
 use Rattle.java_core.specs.Types.{env_of, plain_type}
 use Rattle.java_core.specs.Typing.{Offers, HasBodies, HasPublicMethods, IsTypedMethod, TypedSts, IsTyped, t_number, t_local, t_binary, t_to_local, t_assign, t_declare_as, t_print, t_loop, t_test, t_no_st, t_st_then}
-use Rattle.java_core.specs.Formed.{HasNoTwice, IsType, IsVariableName, IsFormedClass, IsFormedLocal, IsFormedMethod, FormedSts, IsFormed, small, f_number, f_local, f_binary, f_to_local, f_some, f_assign, f_declare, f_print, f_loop, f_no_st, f_st_then, variables_of, numbers_below}
+use Rattle.java_core.specs.Formed.{HasNoTwice, IsType, IsVariableName, IsFormedClass, IsFormedLocal, IsFormedMethod, FormedSts, of_while, IsFormed, small, f_number, f_local, f_binary, f_to_local, f_some, f_assign, f_declare, f_print, f_loop, f_no_st, f_st_then, variables_of, numbers_below}
 use Rattle.java_meaning.specs.Moment.{Wrong}
 use Rattle.java_meaning.specs.Languages.{run}
 use Rattle.java_meaning.proofs.Examples.{object, class, under, variable, counting_code, counting_main, counting}
@@ -123,7 +123,7 @@ in_two a b x Q q r (suc (suc i), lt, e) = absurd (omega (arith, lt))
 formed_code : FormedSts P counting_main false (numbers_below 1) counting_code
 formed_code =
     f_st_then (f_declare (record { variable = variable (codes "i") (plain_type Int); declared = refl; no_parameter = omega arith; other = λ j v h e. apart j v h e }) (f_some (f_number (small (record { value = 0; is = refl; small = omega arith })))))
-    (f_st_then (f_loop refl refl f_no_st (f_some (f_binary (f_local (0, omega arith, refl) (omega arith)) (f_number (small (record { value = 3; is = refl; small = omega arith }))))) f_no_st
+    (f_st_then (f_loop of_while refl refl f_no_st (f_some (f_binary (f_local (0, omega arith, refl) (omega arith)) (f_number (small (record { value = 3; is = refl; small = omega arith }))))) f_no_st
     (f_st_then (f_print refl (f_some (f_local (0, omega arith, refl) (omega arith))))
     (f_st_then (f_assign (f_to_local (0, omega arith, refl) (omega arith)) (f_binary (f_local (0, omega arith, refl) (omega arith)) (f_number (small (record { value = 1; is = refl; small = omega arith }))))) f_no_st)))
     f_no_st)

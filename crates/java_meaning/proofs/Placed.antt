@@ -1,5 +1,5 @@
 -- A tree of a program with places, without them, is that tree of the program without places.
-use Rattle.std.proofs.Common.{◌≡◌, ℕ, List, [], ◌∷◌, Option, Some, None, refl, ap, ◌∙◌}
+use Rattle.std.proofs.Common.{◌≡◌, ℕ, true, false, List, [], ◌∷◌, Option, Some, None, refl, ap, ◌∙◌}
 use Rattle.std.specs.Option.{option_map}
 use Rattle.kaba_base.specs.declared.Place.{Place}
 use Rattle.java_core.specs.declared.RExpr.{RExpr}
@@ -8,7 +8,7 @@ use Rattle.java_core.specs.declared.RStmt.{RStmt}
 use Rattle.java_core.specs.declared.RStmt.TheBlock as st
 use Rattle.std.specs.declared.vec.Vec.{Vec}
 use Rattle.std.specs.declared.alloc.Global.{Global}
-use Rattle.java_core.specs.Trees.{Tag, Ex, Exs, ex_then, field, index, call, static_call, super_call, create, create_array, cast, instance_of, unary, binary, to_field, to_element, Sts, declare, block, assign, act, print, choose, loop, return, st_then, no_other, otherwise, arm, no_place, expr_of, call_of, exprs_of, value_of, target_of, stmt_of, else_of, step_of, stmts_of, arms_of, stmts, body_seen, no_st}
+use Rattle.java_core.specs.Trees.{Tag, Ex, Exs, ex_then, field, index, call, static_call, super_call, create, create_array, cast, instance_of, unary, binary, to_field, to_element, Sts, declare, block, assign, act, print, choose, loop, return, st_then, Arms, no_other, otherwise, arm, no_place, expr_of, call_of, exprs_of, value_of, target_of, stmt_of, else_of, step_of, stmts_of, arms_of, stmts, body_seen, no_st}
 use Rattle.java_meaning.specs.Watched.{bare_tag, bare, bare_all, bare_if, bare_target, bare_st, bare_sts, bare_arms}
 
 -- pairs and longer, part by part

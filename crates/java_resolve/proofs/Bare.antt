@@ -1,5 +1,5 @@
 -- Programs without places: what a program with places is without them.
-use Rattle.std.proofs.Common.{◌≡◌, ℕ, List, [], ◌∷◌, Option, Some, None, refl, ap, ◌∙◌}
+use Rattle.std.proofs.Common.{◌≡◌, ℕ, true, false, List, [], ◌∷◌, Option, Some, None, refl, ap, ◌∙◌}
 use Rattle.std.specs.Option.{option_map}
 use Rattle.kaba_base.specs.declared.Place.{Place}
 use Rattle.java_core.specs.declared.RExpr.{RExpr}
@@ -76,6 +76,7 @@ abbrev mutual
   bare_sts (st_then x xs) = st_then (bare_st x) (bare_sts xs)
 
   pub bare_arms : Arms → Arms
+  bare_arms no_other = no_other
   bare_arms (otherwise xs) = otherwise (bare_sts xs)
   bare_arms (arm e xs more) = arm (bare e) (bare_sts xs) (bare_arms more)
 
@@ -156,9 +157,9 @@ module _ (tag : Place → Tag) where
     bare_stmt (st.Break p) = refl
     bare_stmt (st.Continue p) = refl
 
-    bare_else : (h : st.Held-RStmt-If-1) → bare_sts (else_of tag h) ≡ else_of no_place h
+    bare_else : (h : st.Held-RStmt-If-1) → bare_arms (else_of tag h) ≡ else_of no_place h
     bare_else st.RStmt-If-1-None' = refl
-    bare_else (st.RStmt-If-1-Some' s body) = bare_stmts body
+    bare_else (st.RStmt-If-1-Some' s body) = ap otherwise (bare_stmts body)
 
     bare_step : (h : st.Held-RStmt-For-0) → bare_sts (step_of tag h) ≡ step_of no_place h
     bare_step st.RStmt-For-0-None' = refl
@@ -168,8 +169,8 @@ module _ (tag : Place → Tag) where
     bare_stmts st.end_of-RStmt = refl
     bare_stmts (st.more_of-RStmt s rest) = ap2 st_then (bare_stmt s) (bare_stmts rest)
 
-    bare_ifs : {n : _} (xs : st.Row_of-RArm n) (a b : Sts) → bare_sts a ≡ b → bare_arms (arms_of tag xs a) ≡ arms_of no_place xs b
-    bare_ifs st.end_of-RArm a b q = ap otherwise q
+    bare_ifs : {n : _} (xs : st.Row_of-RArm n) (a b : Arms) → bare_arms a ≡ b → bare_arms (arms_of tag xs a) ≡ arms_of no_place xs b
+    bare_ifs st.end_of-RArm a b q = q
     bare_ifs (st.more_of-RArm t s body rest) a b q = ap2 (λ y z. arm y z (bare_arms (arms_of tag rest a))) (bare_expr t) (bare_stmts body) ∙ ap (λ z. arm (expr_of no_place t) (stmts_of no_place body) z) (bare_ifs rest a b q)
 
   -- a list of statements

@@ -69,6 +69,7 @@ mutual
   sts-same (st_then x xs) = both (st-same x) (sts-same xs)
 
   arms-same : (xs : Arms) → numbers_arms (bare_arms xs) ≡ numbers_arms xs
+  arms-same no_other = refl
   arms-same (otherwise xs) = sts-same xs
   arms-same (arm e xs more) = both (both (ex-same e) (sts-same xs)) (arms-same more)
 

@@ -19,7 +19,7 @@ use Rattle.java_core.specs.declared.Ty.{Ty}
 use Rattle.java_core.specs.declared.TyBase.{TyBase}
 use Rattle.java_core.specs.Trees.{Ex, Exs, St, choose, Sts, Arms}
 use Rattle.java_core.specs.Programs.{Plain, PlainLocal, PlainField, PlainMethod}
-use Rattle.java_core.specs.Formed.{IsLiteral, small, least, IsClass, IsKnownBase, IsType, IsCastType, variables_of, IsNewLocal, IsStaticField, IsStaticMethod, IsOwnField, is_at_most_one, is_first, FormedEx, f_number, f_character, f_text, f_truth, f_null, f_this, f_local, f_static_field, f_own_field, f_field, f_index, f_call, f_static_call, f_super_call, f_create, f_create_array, f_cast, f_instance_of, f_unary, f_binary, FormedExs, f_no_ex, f_ex_then, FormedTarget, f_to_local, f_to_static, f_to_own, f_to_field, f_to_element, FormedOption, f_none, f_some, FormedSt, f_declare, f_block, f_assign, f_act, f_print, f_choose, f_loop, f_return, f_break, f_continue, FormedSts, f_no_st, f_st_then, FormedArms, f_otherwise, f_arm}
+use Rattle.java_core.specs.Formed.{IsLiteral, small, least, IsClass, IsKnownBase, IsType, IsCastType, variables_of, IsNewLocal, IsStaticField, IsStaticMethod, IsOwnField, is_at_most_one, is_first, of_while, of_for, FormedEx, f_number, f_character, f_text, f_truth, f_null, f_this, f_local, f_static_field, f_own_field, f_field, f_index, f_call, f_static_call, f_super_call, f_create, f_create_array, f_cast, f_instance_of, f_unary, f_binary, FormedExs, f_no_ex, f_ex_then, FormedTarget, f_to_local, f_to_static, f_to_own, f_to_field, f_to_element, FormedOption, f_none, f_some, FormedSt, f_declare, f_block, f_assign, f_act, f_print, f_choose, f_loop, f_return, f_break, f_continue, FormedSts, f_no_st, f_st_then, FormedArms, f_no_other, f_otherwise, f_arm}
 use Rattle.java_core.specs.Formed as core
 use Rattle.name_rules.specs.declared.parts.Bound.{Bound}
 use Rattle.name_rules.specs.declared.parts.Here.{Here}
@@ -243,10 +243,10 @@ module _ (O : Plain) (here : Here) (K : PlainMethod) (Q : Plain) (k : PlainMetho
     formed-st (r_act {e = e} {x = x} h) s g b = f_act (formed-call _ _ s e x g.0 h) (formed _ _ s h g.1)
     formed-st (r_print {line = line} h) s g b = f_print (printed line h g.0) (formed-if _ _ s h g.1)
     formed-st (r_choose h) s g b = some-arm h s g b
-    formed-st (r_while {x = x} h i) s g b = f_loop refl refl f_no_st (f_some (formed _ _ s h g.0)) f_no_st (formed-sts i s g.1 b)
+    formed-st (r_while {x = x} h i) s g b = f_loop of_while refl refl f_no_st (f_some (formed _ _ s h g.0)) f_no_st (formed-sts i s g.1 b)
     formed-st (r_for {first = first} {step = step} {xs = xs} f v t h) s g b =
         let u = part-scope f s in
-        f_loop (first-part f g.0) (last-part t g.2) (formed-first f s g.0 (behind-left (declares_all first) (declares_all step) (behind-left (declares_all first ++ declares_all step) (declares_all xs) b)))
+        f_loop of_for (first-part f g.0) (last-part t g.2) (formed-first f s g.0 (behind-left (declares_all first) (declares_all step) (behind-left (declares_all first ++ declares_all step) (declares_all xs) b)))
         (formed-if _ _ u v g.1) (formed-step t u g.2 (behind-right (declares_all first) (declares_all step) (behind-left (declares_all first ++ declares_all step) (declares_all xs) b)))
         (formed-sts h u g.3 (behind-right (declares_all first ++ declares_all step) (declares_all xs) b))
     formed-st (r_return h) s g b = f_return (formed-if _ _ s h g)
@@ -258,7 +258,7 @@ module _ (O : Plain) (here : Here) (K : PlainMethod) (Q : Plain) (k : PlainMetho
     formed-sts (r_and_then {x = x} {xs = xs} h hs) s g b = f_st_then (formed-st h s g.0 (behind-left (declares x) (declares_all xs) b)) (formed-sts hs (after-scope h s) g.1 (behind-right (declares x) (declares_all xs) b))
 
     formed-arms : {in_loop : Bool} {scope : List Bound} {nums : List ℕ} {a : tree.Arms} {other : Else} {ys : Arms} → ArmsResolve O here K in_loop scope a other ys → ScopeIs k scope nums → AreFormedArms a → IsFormedElse other → Behind (declares_arms ys) → FormedArms Q k in_loop nums (bare_arms ys)
-    formed-arms r_no_else s g e b = f_otherwise f_no_st
+    formed-arms r_no_else s g e b = f_no_other
     formed-arms (r_else h) s g e b = f_otherwise (formed-sts h s e b)
     formed-arms (r_arm {xs = xs} {more = more} h i hs) s g e b = f_arm (formed _ _ s h g.0) (formed-sts i s g.1 (behind-left (declares_all xs) (declares_arms more) b)) (formed-arms hs s g.2 e (behind-right (declares_all xs) (declares_arms more) b))
 

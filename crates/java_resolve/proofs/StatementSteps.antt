@@ -1,5 +1,5 @@
 -- Steps of the loops over statements and over arms.
-use Rattle.std.proofs.Common.{◌≡◌, ℕ, zero, suc, ◌+◌, ◌<◌, ◌≤◌, arith, List, [], ◌∷◌, ◌++◌, length, drop, get_or, Bool, true, Option, Result, Ok, Err, refl, sym, ap, ◌∙◌}
+use Rattle.std.proofs.Common.{◌≡◌, ℕ, zero, suc, ◌+◌, ◌<◌, ◌≤◌, arith, List, [], ◌∷◌, ◌++◌, length, drop, get_or, Bool, true, false, Option, Result, Ok, Err, refl, sym, ap, ◌∙◌}
 use Rattle.java_tree.specs.declared.Stmt.{Stmt}
 use Rattle.java_tree.specs.declared.Arm.{Arm}
 use Rattle.java_tree.specs.Syntax as tree
@@ -8,7 +8,7 @@ use Rattle.java_tree.specs.Arms.{arm_size}
 use Rattle.java_core.specs.declared.RStmt.{RStmt}
 use Rattle.java_core.specs.declared.RArm.{RArm}
 use Rattle.kaba_base.specs.declared.Place.{Place}
-use Rattle.java_core.specs.Trees.{at_place, Ex, St, no_other, otherwise, choose, loop, Sts, Arms, no_st, expr_of, stmt_of, stmts, arms_seen}
+use Rattle.java_core.specs.Trees.{at_place, Ex, St, no_other, choose, loop, Sts, Arms, no_st, expr_of, stmt_of, stmts, arms_seen}
 use Rattle.name_rules.specs.declared.Refusal.{Refusal}
 use Rattle.java_resolve.specs.Tables.{Table}
 use Rattle.name_rules.specs.declared.parts.Bound.{Bound}
@@ -49,20 +49,20 @@ module _ (t : Table) (h : Here) (inside : Bool) where
   -- one arm more
   pub arms_next : (scope : List Bound) (k j : State) (done pushed : List RArm) (list : List Arm) (n : ℕ) (s : Arm) (e : RArm) (o : Result (Arms × State) Refusal) → n < length list → s ≡ get_or list n s →
       walk_arm t h inside scope k (tree.expr_of s.test) (tree.stmts s.body.items) ≡ Ok (expr_of at_place e.test, stmts at_place e.body.items, j) → pushed ≡ done ++ e ∷ [] →
-      walk_arms t h inside (arms_seen at_place done no_st) scope k (tree.arms_seen (drop n list)) ≡ o → walk_arms t h inside (arms_seen at_place pushed no_st) scope j (tree.arms_seen (drop (n + 1) list)) ≡ o
+      walk_arms t h inside (arms_seen at_place done no_other) scope k (tree.arms_seen (drop n list)) ≡ o → walk_arms t h inside (arms_seen at_place pushed no_other) scope j (tree.arms_seen (drop (n + 1) list)) ≡ o
   arms_next scope k j done pushed list n s e o below at given push before =
       let rest = drop (n + 1) list in
-      ap (λ x. walk_arms t h inside x scope j (tree.arms_seen rest)) (ap (λ x. arms_seen at_place x no_st) push ∙ arms_push done e)
-      ∙ ap (λ x. with x (λ a. walk_arms t h inside (arm_last (arms_seen at_place done no_st) a.0 a.1) scope a.2 (tree.arms_seen rest))) (sym given)
-      ∙ arm_split scope k (arms_seen at_place done no_st) list n s below at
+      ap (λ x. walk_arms t h inside x scope j (tree.arms_seen rest)) (ap (λ x. arms_seen at_place x no_other) push ∙ arms_push done e)
+      ∙ ap (λ x. with x (λ a. walk_arms t h inside (arm_last (arms_seen at_place done no_other) a.0 a.1) scope a.2 (tree.arms_seen rest))) (sym given)
+      ∙ arm_split scope k (arms_seen at_place done no_other) list n s below at
       ∙ before
 
   -- an arm with a fault
   pub arms_fault : (r : Refusal) (scope : List Bound) (k : State) (done : List RArm) (list : List Arm) (n : ℕ) (s : Arm) (o : Result (Arms × State) Refusal) → n < length list → s ≡ get_or list n s →
-      IsRefused r (walk_arm t h inside scope k (tree.expr_of s.test) (tree.stmts s.body.items)) → walk_arms t h inside (arms_seen at_place done no_st) scope k (tree.arms_seen (drop n list)) ≡ o → IsRefused r o
+      IsRefused r (walk_arm t h inside scope k (tree.expr_of s.test) (tree.stmts s.body.items)) → walk_arms t h inside (arms_seen at_place done no_other) scope k (tree.arms_seen (drop n list)) ≡ o → IsRefused r o
   arms_fault r scope k done list n s o below at given before =
-      subst (IsRefused r) (arm_split scope k (arms_seen at_place done no_st) list n s below at ∙ before)
-      (passes r (walk_arm t h inside scope k (tree.expr_of s.test) (tree.stmts s.body.items)) (λ a. walk_arms t h inside (arm_last (arms_seen at_place done no_st) a.0 a.1) scope a.2 (tree.arms_seen (drop (n + 1) list))) given)
+      subst (IsRefused r) (arm_split scope k (arms_seen at_place done no_other) list n s below at ∙ before)
+      (passes r (walk_arm t h inside scope k (tree.expr_of s.test) (tree.stmts s.body.items)) (λ a. walk_arms t h inside (arm_last (arms_seen at_place done no_other) a.0 a.1) scope a.2 (tree.arms_seen (drop (n + 1) list))) given)
 
 -- what is given of a tree is given of what it is
 pub carry_st : {A : Type 0} (f : A → St × List Bound × State) (r : Result A Refusal) (t : Table) (h : Here) (inside : Bool) (scope : List Bound) (k : State) {x y : tree.Statement} → x ≡ y → Gives f r (walk_st t h inside scope k y) → Gives f r (walk_st t h inside scope k x)
@@ -70,9 +70,9 @@ carry_st f r t h inside scope k e g = subst (λ z. Gives f r (walk_st t h inside
 
 -- a fault of the arms of an `if`
 pub if_fault : (r : Refusal) (t : Table) (h : Here) (inside : Bool) (scope : List Bound) (k : State) {x : tree.Statement} {arms : tree.Arms} {other : tree.Else} {p : Place} → x ≡ tree.IfOf arms other p →
-    IsRefused r (walk_arms t h inside (otherwise no_st) scope k arms) → IsRefused r (walk_st t h inside scope k x)
+    IsRefused r (walk_arms t h inside no_other scope k arms) → IsRefused r (walk_st t h inside scope k x)
 if_fault r t h inside scope k {arms = arms} {other = other} {p = p} e g =
-    subst (λ z. IsRefused r (walk_st t h inside scope k z)) (sym e) (passes r (walk_arms t h inside (otherwise no_st) scope k arms) (λ a. kept (walk_else t h inside scope a.1 other) scope (λ o. choose (at_place p) (ending a.0 o))) g)
+    subst (λ z. IsRefused r (walk_st t h inside scope k z)) (sym e) (passes r (walk_arms t h inside no_other scope k arms) (λ a. kept (walk_else t h inside scope a.1 other) scope (λ o. choose (at_place p) (ending a.0 o))) g)
 
 -- an item is no larger than the list
 pub stmt_within : (xs : List Stmt) (i : ℕ) (s : Stmt) → i < length xs → s ≡ get_or xs i s → stmt_size (tree.stmt_of s) ≤ stmts_size (tree.stmts xs)
@@ -87,7 +87,7 @@ arm_within (x ∷ xs) (suc i) a h e = let k = arm_within xs i a (omega (arith, h
 
 -- an `if`: its arms, and then the rest
 pub if_given : {A : Type 0} (f : A → St × List Bound × State) (r : Result A Refusal) (t : Table) (h : Here) (inside : Bool) (scope : List Bound) (k j : State) (a : Arms) {x : tree.Statement} {arms : tree.Arms} {other : tree.Else} {p : Place} → x ≡ tree.IfOf arms other p →
-    walk_arms t h inside (otherwise no_st) scope k arms ≡ Ok (a, j) → Gives f r (kept (walk_else t h inside scope j other) scope (λ o. choose (at_place p) (ending a o))) → Gives f r (walk_st t h inside scope k x)
+    walk_arms t h inside no_other scope k arms ≡ Ok (a, j) → Gives f r (kept (walk_else t h inside scope j other) scope (λ o. choose (at_place p) (ending a o))) → Gives f r (walk_st t h inside scope k x)
 if_given f r t h inside scope k j a {other = other} {p = p} shown given g =
     carry_st f r t h inside scope k shown
     (subst (λ w. Gives f r (with w (λ a. kept (walk_else t h inside scope a.1 other) scope (λ o. choose (at_place p) (ending a.0 o))))) (sym given) g)
@@ -96,9 +96,9 @@ if_given f r t h inside scope k j a {other = other} {p = p} shown given g =
 pub for_given : {A : Type 0} (f : A → St × List Bound × State) (r : Result A Refusal) (t : Table) (h : Here) (inside : Bool) (scope inner : List Bound) (k : State) (a : Sts × List Bound × State) (b : Option Ex × State) (c : Sts × List Bound × State)
     {x : tree.Statement} {u w : tree.OptionalStatement} {v : Option tree.Expression} {ss : tree.Statements} {p : Place} → x ≡ tree.ForOf u v w ss p → inner ≡ scope →
     walk_optional t h inside inner k u ≡ Ok a → walk_value t h a.1 a.2 v ≡ Ok b → walk_optional t h inside a.1 b.1 w ≡ Ok c →
-    Gives f r (kept (walk_sts t h true no_st c.1 c.2 ss) scope (loop (at_place p) a.0 b.0 c.0)) → Gives f r (walk_st t h inside scope k x)
+    Gives f r (kept (walk_sts t h true no_st c.1 c.2 ss) scope (loop (at_place p) false a.0 b.0 c.0)) → Gives f r (walk_st t h inside scope k x)
 for_given f r t h inside scope inner k a b c {u = u} {w = w} {v = v} {ss = ss} {p = p} shown same first test last g =
     carry_st f r t h inside scope k shown
-    (subst (λ o. Gives f r (with o (λ a. with (walk_value t h a.1 a.2 v) (λ b. with (walk_optional t h inside a.1 b.1 w) (λ c. kept (walk_sts t h true no_st c.1 c.2 ss) scope (loop (at_place p) a.0 b.0 c.0)))))) (sym first ∙ ap (λ i. walk_optional t h inside i k u) same)
-    (subst (λ o. Gives f r (with o (λ b. with (walk_optional t h inside a.1 b.1 w) (λ c. kept (walk_sts t h true no_st c.1 c.2 ss) scope (loop (at_place p) a.0 b.0 c.0))))) (sym test)
-    (subst (λ o. Gives f r (with o (λ c. kept (walk_sts t h true no_st c.1 c.2 ss) scope (loop (at_place p) a.0 b.0 c.0)))) (sym last) g)))
+    (subst (λ o. Gives f r (with o (λ a. with (walk_value t h a.1 a.2 v) (λ b. with (walk_optional t h inside a.1 b.1 w) (λ c. kept (walk_sts t h true no_st c.1 c.2 ss) scope (loop (at_place p) false a.0 b.0 c.0)))))) (sym first ∙ ap (λ i. walk_optional t h inside i k u) same)
+    (subst (λ o. Gives f r (with o (λ b. with (walk_optional t h inside a.1 b.1 w) (λ c. kept (walk_sts t h true no_st c.1 c.2 ss) scope (loop (at_place p) false a.0 b.0 c.0))))) (sym test)
+    (subst (λ o. Gives f r (with o (λ c. kept (walk_sts t h true no_st c.1 c.2 ss) scope (loop (at_place p) false a.0 b.0 c.0)))) (sym last) g)))

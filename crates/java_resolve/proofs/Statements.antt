@@ -83,19 +83,10 @@ unfolding st_append
 st_append-none no_st = refl
 st_append-none (st_then x xs) = ap (st_then x) (st_append-none xs)
 
-pub arms_append : Arms → Arms → Arms
-arms_append (otherwise old) ys = ys
-arms_append (arm e ss more) ys = arm e ss (arms_append more ys)
-
-pub arms_append-last : (xs : Arms) (e : Ex) (ss : Sts) (ys : Arms) → arms_append (arm_last xs e ss) ys ≡ arms_append xs (arm e ss ys)
-unfolding arms_append
+pub arms_append-last : (xs : Arms) (e : Ex) (ss : Sts) (ys : Arms) → ending (arm_last xs e ss) ys ≡ ending xs (arm e ss ys)
+arms_append-last no_other e ss ys = refl
 arms_append-last (otherwise old) e ss ys = refl
 arms_append-last (arm d us more) e ss ys = ap (arm d us) (arms_append-last more e ss ys)
-
-pub arms_append-none : (xs : Arms) (o : Sts) → ending xs o ≡ arms_append xs (otherwise o)
-unfolding arms_append
-arms_append-none (otherwise old) o = refl
-arms_append-none (arm d us more) o = ap (arm d us) (arms_append-none more o)
 
 -- ---- what an assignment changes
 
@@ -167,16 +158,16 @@ module _ (t : Table) (O : Plain) (sees : Sees t O) (here : Here) where
     pub names_then : bound_names r.1 ≡ names_after_part (bound_names scope) x
     pub to : (k : PlainMethod) → Within k r.2 → PartResolves O here k inside scope x r.0
 
-  pub record ElseWalks (inside : Bool) (scope : List Bound) (s : State) (other : Else) (r : Sts × State) : Type 0 where
-    pub grown : Grown s r.1 (declares_all r.0) (numbers_sts r.0)
-    pub to : (k : PlainMethod) → Within k r.1 → ArmsResolve O here k inside scope tree.no_arms other (otherwise r.0)
+  pub record ElseWalks (inside : Bool) (scope : List Bound) (s : State) (other : Else) (r : Arms × State) : Type 0 where
+    pub grown : Grown s r.1 (declares_arms r.0) (numbers_arms r.0)
+    pub to : (k : PlainMethod) → Within k r.1 → ArmsResolve O here k inside scope tree.no_arms other r.0
 
   pub record ArmsWalk (inside : Bool) (done : Arms) (scope : List Bound) (s : State) (xs : tree.Arms) (r : Arms × State) : Type 0 where
     pub more : Arms
-    pub joined : (o : Sts) → ending r.0 o ≡ arms_append done (ending more o)
-    pub grown : (o : Sts) (c : State) → Grown r.1 c (declares_all o) (numbers_sts o) → Grown s c (declares_arms (ending more o)) (numbers_arms (ending more o))
+    pub joined : (o : Arms) → ending r.0 o ≡ ending done (ending more o)
+    pub grown : (o : Arms) (c : State) → Grown r.1 c (declares_arms o) (numbers_arms o) → Grown s c (declares_arms (ending more o)) (numbers_arms (ending more o))
     pub before : (k : PlainMethod) → Within k r.1 → Within k s
-    pub to : (k : PlainMethod) → Within k r.1 → (other : Else) (o : Sts) → ArmsResolve O here k inside scope tree.no_arms other (otherwise o) → ArmsResolve O here k inside scope xs other (ending more o)
+    pub to : (k : PlainMethod) → Within k r.1 → (other : Else) (o : Arms) → ArmsResolve O here k inside scope tree.no_arms other o → ArmsResolve O here k inside scope xs other (ending more o)
 
   local-tells : (inside final : Bool) (scope : List Bound) (s : State) (u : TypeName) (n : List ℕ) (v : Option Expression) (p : Place) →
       Tells (StWalks inside scope s (LocalOf final u n v p)) (StFault O here inside (bound_names scope) (LocalOf final u n v p)) (walk_local t here scope s u n v p)
@@ -246,8 +237,6 @@ module _ (t : Table) (O : Plain) (sees : Sees t O) (here : Here) where
   else-bad inside names a (tree.otherwise ss) p r f = in_else f
 
   mutual
-    unfolding arms_append
-
     pub st-tells : (inside : Bool) (scope : List Bound) (s : State) (x : Statement) → IsFormedStmt x → Tells (StWalks inside scope s x) (StFault O here inside (bound_names scope) x) (walk_st t here inside scope s x)
     st-tells inside scope s (LocalOf final u n v p) g = local-tells inside final scope s u n v p
     st-tells inside scope s (BlockOf ss p) g =
@@ -269,7 +258,7 @@ module _ (t : Table) (O : Plain) (sees : Sees t O) (here : Here) where
         (λ x h. record { grown = h.grown; scope_then = refl; names_then = refl; to = λ k w. r_print h.to })
         (λ r f. in_printed f)
     st-tells inside scope s (IfOf arms other p) g =
-        tell (StWalks inside scope s (IfOf arms other p)) (StFault O here inside (bound_names scope) (IfOf arms other p)) (walk_arms t here inside (otherwise no_st) scope s arms) _ (arms-tells inside (otherwise no_st) scope s arms g.1)
+        tell (StWalks inside scope s (IfOf arms other p)) (StFault O here inside (bound_names scope) (IfOf arms other p)) (walk_arms t here inside no_other scope s arms) _ (arms-tells inside no_other scope s arms g.1)
         (λ a h. tell (StWalks inside scope s (IfOf arms other p)) (StFault O here inside (bound_names scope) (IfOf arms other p)) (walk_else t here inside scope a.1 other) _ (else-tells inside scope a.1 other g.2)
         (λ o u. record {
           grown = rw (h.joined o.0) (h.grown o.0 o.1 u.grown);
@@ -327,7 +316,7 @@ module _ (t : Table) (O : Plain) (sees : Sees t O) (here : Here) where
 
     arms-tells : (inside : Bool) (done : Arms) (scope : List Bound) (s : State) (xs : tree.Arms) → AreFormedArms xs → Tells (ArmsWalk inside done scope s xs) (ArmsFault O here inside (bound_names scope) xs) (walk_arms t here inside done scope s xs)
     arms-tells inside done scope s tree.no_arms g =
-        record { more = otherwise no_st; joined = λ o. arms_append-none done o; grown = λ o c h. h; before = λ k w. w; to = λ k w other o h. h }
+        record { more = no_other; joined = λ o. refl; grown = λ o c h. h; before = λ k w. w; to = λ k w other o h. h }
     arms-tells inside done scope s (tree.and_arm e ss more) g =
         tell (ArmsWalk inside done scope s (tree.and_arm e ss more)) (ArmsFault O here inside (bound_names scope) (tree.and_arm e ss more)) (walk_expr t here scope s e) _ (expr-tells scope s e)
         (λ x h. tell (ArmsWalk inside done scope s (tree.and_arm e ss more)) (ArmsFault O here inside (bound_names scope) (tree.and_arm e ss more)) (walk_sts t here inside no_st scope x.1 ss) _ (sts-tells inside no_st scope x.1 ss g.1)
@@ -346,7 +335,8 @@ module _ (t : Table) (O : Plain) (sees : Sees t O) (here : Here) where
     else-tells : (inside : Bool) (scope : List Bound) (s : State) (other : Else) → IsFormedElse other → Tells (ElseWalks inside scope s other) (ElseBad inside (bound_names scope) other) (walk_else t here inside scope s other)
     else-tells inside scope s no_else g = record { grown = grown-same s; to = λ k w. r_no_else }
     else-tells inside scope s (tree.otherwise ss) g =
-        turn (walk_sts t here inside no_st scope s ss) (sts-tells inside no_st scope s ss g) (λ x h. record { grown = whole-grown h; to = λ k w. r_else (whole-to h k w) }) (λ r f. f)
+        tell (ElseWalks inside scope s (tree.otherwise ss)) (ElseBad inside (bound_names scope) (tree.otherwise ss)) (walk_sts t here inside no_st scope s ss) _ (sts-tells inside no_st scope s ss g)
+        (λ x h. record { grown = whole-grown h; to = λ k w. r_else (whole-to h k w) }) (λ r f. f)
 
     first-tells : (inside : Bool) (scope : List Bound) (s : State) (x : OptionalStatement) → IsFormedFirst x → Tells (PartWalks inside scope s x) (PartFault O here inside (bound_names scope) x) (walk_optional t here inside scope s x)
     first-tells inside scope s absent g = record { grown = grown-same s; scope_then = refl; names_then = refl; to = λ k w. r_absent }

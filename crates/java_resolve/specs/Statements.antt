@@ -43,11 +43,13 @@ st_last (st_then x xs) s = st_then x (st_last xs s)
 
 -- the arms so far, and one more; and their end
 abbrev pub arm_last : Arms → Ex → Sts → Arms
+arm_last no_other e ss = arm e ss no_other
 arm_last (otherwise other) e ss = arm e ss (otherwise other)
 arm_last (arm x xs more) e ss = arm x xs (arm_last more e ss)
 
-abbrev pub ending : Arms → Sts → Arms
-ending (otherwise old) other = otherwise other
+abbrev pub ending : Arms → Arms → Arms
+ending no_other other = other
+ending (otherwise old) other = other
 ending (arm e ss more) other = arm e ss (ending more other)
 
 abbrev pub Stepped : Type 0
@@ -86,10 +88,10 @@ module _ (t : Table) (here : Here) where
     walk_st inside scope s (AssignOf e v p) = with (walk_expr scope s e) (λ x. kept (walk_expr scope x.1 v) scope (assign (at_place p) (target x.0)))
     walk_st inside scope s (DoOf e p) = kept (walk_expr scope s e) scope (act (at_place p))
     walk_st inside scope s (PrintOf l v p) = kept (walk_value scope s v) scope (print (at_place p) l)
-    walk_st inside scope s (IfOf arms other p) = with (walk_arms inside (otherwise no_st) scope s arms) (λ a. kept (walk_else inside scope a.1 other) scope (λ o. choose (at_place p) (ending a.0 o)))
-    walk_st inside scope s (WhileOf e ss p) = with (walk_expr scope s e) (λ x. kept (walk_sts true no_st scope x.1 ss) scope (loop (at_place p) no_st (Some x.0) no_st))
+    walk_st inside scope s (IfOf arms other p) = with (walk_arms inside no_other scope s arms) (λ a. kept (walk_else inside scope a.1 other) scope (λ o. choose (at_place p) (ending a.0 o)))
+    walk_st inside scope s (WhileOf e ss p) = with (walk_expr scope s e) (λ x. kept (walk_sts true no_st scope x.1 ss) scope (loop (at_place p) true no_st (Some x.0) no_st))
     walk_st inside scope s (ForOf f v g ss p) =
-        with (walk_optional inside scope s f) (λ a. with (walk_value a.1 a.2 v) (λ b. with (walk_optional inside a.1 b.1 g) (λ c. kept (walk_sts true no_st c.1 c.2 ss) scope (loop (at_place p) a.0 b.0 c.0))))
+        with (walk_optional inside scope s f) (λ a. with (walk_value a.1 a.2 v) (λ b. with (walk_optional inside a.1 b.1 g) (λ c. kept (walk_sts true no_st c.1 c.2 ss) scope (loop (at_place p) false a.0 b.0 c.0))))
     walk_st inside scope s (ReturnOf v p) = kept (walk_value scope s v) scope (return (at_place p))
     walk_st inside scope s (BreakOf p) = in_loop inside p (break (at_place p)) scope s
     walk_st inside scope s (ContinueOf p) = in_loop inside p (continue (at_place p)) scope s
@@ -104,9 +106,9 @@ module _ (t : Table) (here : Here) where
     walk_arms inside done scope s (tree.and_arm e ss more) =
         with (walk_expr scope s e) (λ x. with (walk_sts inside no_st scope x.1 ss) (λ b. walk_arms inside (arm_last done x.0 b.0) scope b.1 more))
 
-    pub walk_else : Bool → List Bound → State → Else → Result (Sts × State) Refusal
-    walk_else inside scope s no_else = Ok (no_st, s)
-    walk_else inside scope s (tree.otherwise ss) = walk_sts inside no_st scope s ss
+    pub walk_else : Bool → List Bound → State → Else → Result (Arms × State) Refusal
+    walk_else inside scope s no_else = Ok (no_other, s)
+    walk_else inside scope s (tree.otherwise ss) = with (walk_sts inside no_st scope s ss) (λ x. Ok (otherwise x.0, x.1))
 
     -- the first or last part of a `for`
     pub walk_optional : Bool → List Bound → State → OptionalStatement → Result (Sts × List Bound × State) Refusal

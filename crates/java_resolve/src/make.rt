@@ -1,7 +1,7 @@
 //! Resolved trees from their parts.
 #![tactic(auto, using(crate::proofs::Rows::exprs_vec, crate::proofs::StatementRows::stmts_vec, crate::proofs::StatementRows::arms_vec))]
 
-ghost use Rattle.std.specs.Prelude.{◌≡◌, IfOk, Some};
+ghost use Rattle.std.specs.Prelude.{◌≡◌, IfOk, Some, true, false};
 ghost use Rattle.java_core.specs.Trees.{at_place, expr_of, exprs, stmt_of, stmts, arms_seen, else_seen, step_seen, value_of, no_st, block, choose, loop, field, index, call, this, static_call, super_call, create, create_array, cast, instance_of, unary, binary};
 
 use java_core::{BinOp, RArm, RExpr, RStmt, Ty, UnOp};
@@ -187,7 +187,7 @@ pub fn choose(arms: Vec<RArm>, other: Option<Vec<RStmt>>, place: Place) -> RStmt
 
 /// A `while`.
 pub fn while_loop(test: RExpr, body: Vec<RStmt>, place: Place) -> RStmt
-    ensures { stmt_of at_place result ≡ loop (at_place place) no_st (Some (expr_of at_place test)) no_st (stmts at_place body.items) }
+    ensures { stmt_of at_place result ≡ loop (at_place place) true no_st (Some (expr_of at_place test)) no_st (stmts at_place body.items) }
 {
     RStmt::While { test, body, place }
 }
@@ -200,7 +200,7 @@ pub fn for_loop(
     body: Vec<RStmt>,
     place: Place,
 ) -> RStmt
-    ensures { stmt_of at_place result ≡ loop (at_place place) (step_seen at_place first) (value_of at_place test) (step_seen at_place step) (stmts at_place body.items) }
+    ensures { stmt_of at_place result ≡ loop (at_place place) false (step_seen at_place first) (value_of at_place test) (step_seen at_place step) (stmts at_place body.items) }
 {
     RStmt::For {
         first,

@@ -1,13 +1,13 @@
 //! The names of statements.
 #![tactic(auto)]
 
-ghost use Rattle.std.specs.Prelude.{◌≡◌, ℕ, true, IfOk, Option, List};
+ghost use Rattle.std.specs.Prelude.{◌≡◌, ℕ, true, false, IfOk, Option, List};
 ghost use Rattle.std.specs.declared.vec.Vec.{Vec};
 ghost use Rattle.std.specs.declared.boxed.Box.{Box};
 ghost use Rattle.std.specs.declared.alloc.Global.{Global};
 ghost use Rattle.java_tree.specs.Syntax.{expr_of, value_of, stmt_of, stmts, arms_seen, else_seen, boxed_step, AssignOf, BlockOf, WhileOf};
 ghost use Rattle.java_core.specs.Trees as core;
-ghost use Rattle.java_core.specs.Trees.{at_place, Ex, St, Sts, Arms, no_st, otherwise, choose, loop};
+ghost use Rattle.java_core.specs.Trees.{at_place, Ex, St, Sts, Arms, no_st, no_other, choose, loop};
 ghost use Rattle.java_core.specs.declared.RExpr.{RExpr};
 ghost use Rattle.java_core.specs.declared.RStmt.{RStmt};
 ghost use Rattle.java_core.specs.declared.RArm.{RArm};
@@ -304,7 +304,7 @@ fn choice(
     other: &Option<Vec<Stmt>>,
     place: Place,
 ) -> Result<RStmt, Refusal>
-    ensures given { Gives {A = RStmt} {B = St × List Bound × State} (λ s. (core.stmt_of at_place s, scope.now.items, state_of body.new)) result (kept (walk_else (table_of tables.now) here inside scope.now.items (state_of body.old) (else_seen other.now)) scope.now.items (λ o. choose (at_place place) (ending (core.arms_seen at_place arms.items no_st) o))) }
+    ensures given { Gives {A = RStmt} {B = St × List Bound × State} (λ s. (core.stmt_of at_place s, scope.now.items, state_of body.new)) result (kept (walk_else (table_of tables.now) here inside scope.now.items (state_of body.old) (else_seen other.now)) scope.now.items (λ o. choose (at_place place) (ending (core.arms_seen at_place arms.items no_other) o))) }
 {
     let other = otherwise(alloc, tables, here, inside, scope, body, other)?;
     Ok(make::choose(arms, other, place))
@@ -343,7 +343,7 @@ fn for_body(
     run: &Vec<Stmt>,
     place: Place,
 ) -> Result<RStmt, Refusal>
-    ensures given { (outer : List Bound) → Gives {A = RStmt} {B = St × List Bound × State} (λ s. (core.stmt_of at_place s, outer, state_of body.new)) result (kept (walk_sts (table_of tables.now) here true no_st inner.now.items (state_of body.old) (stmts run.now.items)) outer (loop (at_place place) (core.step_seen at_place first) (core.value_of at_place test) (core.step_seen at_place step))) }
+    ensures given { (outer : List Bound) → Gives {A = RStmt} {B = St × List Bound × State} (λ s. (core.stmt_of at_place s, outer, state_of body.new)) result (kept (walk_sts (table_of tables.now) here true no_st inner.now.items (state_of body.old) (stmts run.now.items)) outer (loop (at_place place) false (core.step_seen at_place first) (core.value_of at_place test) (core.step_seen at_place step))) }
 {
     let run = statements(alloc, tables, here, true, inner, body, run)?;
     Ok(make::for_loop(first, test, step, run, place))
@@ -382,7 +382,7 @@ fn otherwise(
     body: &mut Body,
     tree: &Option<Vec<Stmt>>,
 ) -> Result<Option<Vec<RStmt>>, Refusal>
-    ensures given { Gives {A = Option (Vec RStmt Global)} {B = Sts × State} (λ o. (core.else_seen at_place o, state_of body.new)) result (walk_else (table_of tables.now) here inside scope.now.items (state_of body.old) (else_seen tree.now)) }
+    ensures given { Gives {A = Option (Vec RStmt Global)} {B = Arms × State} (λ o. (core.else_seen at_place o, state_of body.new)) result (walk_else (table_of tables.now) here inside scope.now.items (state_of body.old) (else_seen tree.now)) }
 {
     match tree {
         None => Ok(None),
@@ -419,7 +419,7 @@ fn all_arms(
     body: &mut Body,
     list: &Vec<Arm>,
 ) -> Result<Vec<RArm>, Refusal>
-    ensures given { Gives {A = Vec RArm Global} {B = Arms × State} (λ v. (core.arms_seen at_place v.items no_st, state_of body.new)) result (walk_arms (table_of tables.now) here inside (otherwise no_st) scope.now.items (state_of body.old) (arms_seen list.now.items)) }
+    ensures given { Gives {A = Vec RArm Global} {B = Arms × State} (λ v. (core.arms_seen at_place v.items no_other, state_of body.new)) result (walk_arms (table_of tables.now) here inside no_other scope.now.items (state_of body.old) (arms_seen list.now.items)) }
 {
     let mut done = Vec::new(alloc);
     for one in list {

@@ -2,7 +2,7 @@ use Rattle.std.proofs.Common.{arith, ap}
 use Rattle.java_tree.specs.Syntax.{stmts, arms_seen}
 use Rattle.java_tree.specs.Size.{stmt_size, stmts_size, arms_size}
 use Rattle.java_core.specs.Trees as core
-use Rattle.java_core.specs.Trees.{at_place, no_st}
+use Rattle.java_core.specs.Trees.{at_place, no_other}
 use Rattle.java_tree.proofs.Sizes.{test_positive}
 use Rattle.java_resolve.specs.Tables.{table_of}
 use Rattle.java_resolve.specs.Statements.{state_of}
@@ -25,7 +25,7 @@ stmt-returns-in-While t c =
 pub stmt-returns-in-Ok : goal.stmt-returns-in-Ok
 stmt-returns-in-Ok t c =
     record {
-      given = if_given (λ s. (core.stmt_of at_place s, c.args.scope.now.items, state_of c.choice.new.body)) c.choice.result (table_of c.args.tables.now) c.args.here c.args.inside c.args.scope.now.items (state_of c.args.body.now) (state_of c.all_arms.new.body) (core.arms_seen at_place c.in-Ok.done.items no_st)
+      given = if_given (λ s. (core.stmt_of at_place s, c.args.scope.now.items, state_of c.choice.new.body)) c.choice.result (table_of c.args.tables.now) c.args.here c.args.inside c.args.scope.now.items (state_of c.args.body.now) (state_of c.all_arms.new.body) (core.arms_seen at_place c.in-Ok.done.items no_other)
           (if_shown _ _ _ _ c.in-If.is) c.in-Ok.ensures.given c.choice.ensures.given;
     }
 

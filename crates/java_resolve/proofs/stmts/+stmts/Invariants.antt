@@ -3,7 +3,7 @@ use Rattle.java_tree.specs.Syntax.{stmt_of, stmts, arms_seen, else_seen, boxed_s
 use Rattle.java_tree.specs.Size.{stmt_size, stmts_size, arms_size, else_size, step_size}
 use Rattle.java_tree.specs.Arms.{arm_size}
 use Rattle.java_core.specs.Trees as core
-use Rattle.java_core.specs.Trees.{at_place, no_st, otherwise}
+use Rattle.java_core.specs.Trees.{at_place, no_st, no_other}
 use Rattle.java_resolve.specs.Tables.{table_of}
 use Rattle.java_resolve.specs.Statements.{state_of, walk_sts, walk_arms}
 use Rattle.java_resolve.proofs.stmts.+stmts.Given as goal
@@ -11,8 +11,8 @@ use Rattle.java_resolve.proofs.stmts.+stmts.Given as goal
 -- what the arms so far and the rest resolve to is what all resolve to
 abbrev pub invariant-all_arms-loop-one : goal.invariant-all_arms-loop-one
 invariant-all_arms-loop-one l =
-    walk_arms (table_of l.tables) l.here l.inside (core.arms_seen at_place l.done.items no_st) l.scope.items (state_of l.body) (arms_seen (drop l.one-index l.one-items))
-    ≡ walk_arms (table_of l.tables) l.here l.inside (otherwise no_st) l.scope.items (state_of l.fn.body) (arms_seen l.list.items)
+    walk_arms (table_of l.tables) l.here l.inside (core.arms_seen at_place l.done.items no_other) l.scope.items (state_of l.body) (arms_seen (drop l.one-index l.one-items))
+    ≡ walk_arms (table_of l.tables) l.here l.inside no_other l.scope.items (state_of l.fn.body) (arms_seen l.list.items)
 
 -- what the statements so far and the rest resolve to is what all resolve to
 abbrev pub invariant-statements-loop-one : goal.invariant-statements-loop-one
