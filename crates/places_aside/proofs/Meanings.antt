@@ -18,9 +18,10 @@ use Rattle.java_core.specs.Formed.{variables_of}
 use Rattle.java_core.proofs.Positions.{position-map}
 use Rattle.name_rules.specs.Outline.{type_named}
 use Rattle.name_rules.specs.Meanings.{type_names, class_named, MeansBase, an_int, a_boolean, a_char, a_text, a_class, Means, MeansCastBase, to_int, to_boolean, to_char, to_class, MeansCast, is_bound, is_class_name, IsStaticFieldOf, IsStaticMethodOf, IsNearestField, IsMet}
-use Rattle.places_aside.proofs.Bare.{bare_local, bare_class, bare_field, bare_method, bare_program}
-use Rattle.places_aside.proofs.Runs.{map-stands, stands-map}
-use Rattle.places_aside.proofs.Sees.{same_some}
+use Rattle.java_resolve.proofs.Bare.{bare_local, bare_class, bare_field, bare_method, bare_program}
+use Rattle.java_resolve.proofs.Excludes.{OneMet}
+use Rattle.java_resolve.proofs.Runs.{map-stands, stands-map}
+use Rattle.java_resolve.proofs.Sees.{same_some}
 use Rattle.places_aside.proofs.Outlines.{ap2}
 
 -- what is looked for in each item is found in its image
@@ -31,10 +32,6 @@ maps u f g e (x ∷ xs) = ap2 (λ y ys. y ∷ ys) (e x) (maps u f g e xs)
 -- the variables of a method without their tags
 pub variables-same : (k : PlainMethod) → variables_of (bare_method k) ≡ map bare_local (variables_of k)
 variables-same k = sym (map-append bare_local k.params k.locals)
-
--- at most one method is met under a name, unless all are instance methods
-abbrev pub OneMet : Plain → Type 0
-OneMet O = (c : ℕ) (n : List ℕ) (l m : ℕ) (h k : PlainMethod) → IsMet O c n l h → IsMet O c n m k → (l ≡ m) ⊎ ((h.is_static ≡ false) × (k.is_static ≡ false))
 
 module _ (O : Plain) where
   abbrev bare-outline : Plain
