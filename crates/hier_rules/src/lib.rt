@@ -19,7 +19,7 @@ mod rows;
 
 use bodies::{first_two_bodies, first_wrong_need, first_wrong_super};
 pub use broken::{Broken, Nodes, Rule};
-use chains::first_unchained;
+pub use chains::first_unchained;
 use fact_model::{Facts, PointsTo};
 use hier_model::Hier;
 use names::first_misnamed;

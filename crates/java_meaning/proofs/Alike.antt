@@ -10,11 +10,11 @@ use Rattle.java_core.specs.declared.BinOp.TheVariants as bin
 use Rattle.java_core.specs.declared.Op.{Op}
 use Rattle.java_core.specs.declared.Fault.{Fault}
 use Rattle.java_core.specs.declared.Fault.TheVariants as fault
-use Rattle.java_core.specs.Trees.{Ex, Exs, no_ex, ex_then, number, character, text, truth, null, this, local, static_field, own_field, field, index, call, static_call, super_call, create, create_array, cast, instance_of, unary, binary, Target, to_local, to_static, to_own, to_field, to_element, no_target, St, Sts, Arms, declare, block, assign, act, print, choose, loop, return, break, continue, no_st, st_then, no_other, otherwise, arm}
-use Rattle.java_core.specs.Types.{Env, element_in, is_length, StringMethod, LengthOf, CharAt, Equals, string_method, is_plus}
+use Rattle.java_core.specs.Trees.{Ex, Exs, no_ex, ex_then, number, character, text, truth, null, this, local, static_field, own_field, field, index, call, static_call, super_call, create, create_array, cast, instance_of, unary, binary, Target, to_local, to_static, to_own, to_field, to_element, no_target, St, Sts, Arms, declare, block, assign, act, print, choose, loop, return, break, continue, no_st, st_then, otherwise, arm, no_other}
+use Rattle.java_core.specs.Types.{Env, element_in, StringMethod, LengthOf, CharAt, Equals, is_plus}
 use Rattle.java_meaning.specs.Moment.{End, Ended, Going, Value, Number, Truth, CodeUnit, Nothing, Text, Object, Kind, an_object, an_array, Cell, own_type, own_class, Spot, held, State, Frame, Faulted, Wrong, Escaped, Outcome, stop, Body, Lang, step, step_of, with_some, or_fault, with_result, on_bool, look, look_all}
 use Rattle.java_meaning.specs.Values.{arguments, number_of, truth_of, natural_of, text_of, arith as op_arith, unary_value, same_value, compared, join, is_text, equals_value}
-use Rattle.java_meaning.specs.Meaning.{Flow, Next, Broke, Continued, Gave, ToValue, ToFlow, Later, on_test, with_cell, read_static, write_static, read_field, write_field, read_member, element_type, place_in, read_element, on_fitting, write_element, enter, call_object, string_call, call_on, call_static, call_super, make_cell, make_object, make_array, is_number_type, cast_object, cast_to, test_class, after_left, join_values, compute, operate, write_local, after_one, after_turn, value, values, run_test, run_print, run_initial, run_return, run_assign, run_one, run_all, run_arms, meaning, start, run_in}
+use Rattle.java_meaning.specs.Meaning.{Flow, Next, Broke, Continued, Gave, ToValue, ToFlow, Later, on_test, with_cell, read_static, write_static, read_field, write_field, names_length, read_member, element_type, place_in, read_element, on_fitting, write_element, enter, call_object, string_call, text_method, call_on, call_static, call_super, make_cell, make_object, make_array, is_number_type, cast_object, cast_to, test_class, after_left, join_values, compute, operate, write_local, after_one, after_turn, value, values, run_test, run_print, run_initial, run_return, run_assign, run_one, run_all, run_arms, meaning, start, run_in}
 
 -- an end that is no Going
 abbrev pub IsEnd : End → Type 0
@@ -108,7 +108,7 @@ module _ (R : Outcome → Outcome → Type 0) (ends : (e : End) (s : State) → 
 
     read_member_like : (L : Lang) (g : Env) (e d : Ex) (x : List ℕ) (t : Kind) (a : ℕ) (c : Cell) (s : State) (k k' : ToValue) → s.left ≤ m → AlikeV k k' → R (read_member L g e d x t a c s k) (read_member L g e d x t a c s k')
     read_member_like L g e d x (an_object t) a c s k k' le h = read_field_like L g.body e d (L.field g e x) a c s k k' le h
-    read_member_like L g e d x (an_array t) a c s k k' le h = on_bool_like (is_length x) s _ _ _ _ le (λ s1 l1. h _ s1 l1) (stop_like Wrong tt)
+    read_member_like L g e d x (an_array t) a c s k k' le h = on_bool_like (names_length (L.field g e x) x) s _ _ _ _ le (λ s1 l1. h _ s1 l1) (stop_like Wrong tt)
 
     read_element_like : (L : Lang) (b : ℕ) (d : Ex) (v : Value) (i : ℤ) (s : State) (k k' : ToValue) → s.left ≤ m → AlikeV k k' → R (read_element L b d v i s k) (read_element L b d v i s k')
     read_element_like L b d v i s k k' le h =
@@ -231,7 +231,7 @@ module _ (R : Outcome → Outcome → Type 0) (ends : (e : End) (s : State) → 
     call_like : (m : ℕ) → LaterAlike m b c → (g : Env) (e d : Ex) (x : List ℕ) (v : Value) (vs : List Value) (s : State) (k k' : ToValue) → s.left ≤ m → AlikeV m k k'
         → R (call_on L b g e d x v vs s k) (call_on L c g e d x v vs s k')
     call_like m l g e d x Nothing vs s k k' le h = ends (Faulted fault.Null) s tt
-    call_like m l g e d x (Text a) vs s k k' le h = with_some_like (slice_get s.strings a) s _ _ (λ u. with_some_like (string_method x) s _ _ (λ y. string_call_like m y u vs s k k' le h))
+    call_like m l g e d x (Text a) vs s k k' le h = with_some_like (slice_get s.strings a) s _ _ (λ u. with_some_like (text_method (L.slot g e x) x) s _ _ (λ y. string_call_like m y u vs s k k' le h))
     call_like m l g e d x (Object a) vs s k k' le h = with_some_like (slice_get s.cells a) s _ _ (λ o. call_object_like m l g e d x a o vs s k k' le h)
     call_like m l g e d x (Number n) vs s k k' le h = ends Wrong s tt
     call_like m l g e d x (Truth n) vs s k k' le h = ends Wrong s tt

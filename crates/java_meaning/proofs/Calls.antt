@@ -14,11 +14,11 @@ use Rattle.java_core.specs.Types.{Env, Static, a_value, or_nothing, plain_type, 
 use Rattle.java_core.specs.Typing.{TypedSts}
 use Rattle.java_meaning.specs.Moment.{Value, Number, Truth, CodeUnit, Nothing, Text, Object, an_object, Cell, own_type, own_class, held, self_of, ran, State, Frame, Faulted, Body, Lang, look}
 use Rattle.java_meaning.specs.Values.{int_of, default_of, convert, arguments, and_argument, number_of, natural_of, equals_value}
-use Rattle.java_meaning.specs.Meaning.{Flow, Next, Broke, Continued, Gave, ToValue, ToFlow, Later, with_cell, given, enter, call_object, string_call, call_on, call_static, call_super}
+use Rattle.java_meaning.specs.Meaning.{Flow, Next, Broke, Continued, Gave, ToValue, ToFlow, Later, with_cell, given, enter, call_object, string_call, text_method, call_on, call_static, call_super}
 use Rattle.java_meaning.specs.TypedLang.{StandsSts, TypedBody, HasBody, TypedLang}
 use Rattle.java_meaning.proofs.Holds.{Heap, heap_of, Holds, holds_number, holds_truth, holds_unit, holds_text, holds_null, holds_object, holds_nothing, holds_any, Grows, grown, number_held, IsText, text_null, text_there, text_held, default_held, flows, sub_held, of_parts}
 use Rattle.java_meaning.proofs.Sound.{Sound, sound_stop, some_sound, fault_sound, Good, From, from_on, KV, step_sound, look_sound, look_all_sound, class_sound}
-use Rattle.java_meaning.proofs.Moves.{then_some, here}
+use Rattle.java_meaning.proofs.Moves.{then_some, here, string_class}
 
 pub mapped_some : {A B : Type 0} (f : A → B) (o : Option A) (y : B) → option_map f o ≡ Some y → (x : A) × (o ≡ Some x) × (f x ≡ y)
 mapped_some f None y e = absurd (cc)
@@ -193,13 +193,13 @@ module _ (P : Plain) where
       unfolding call_signature
       call_sound g e d x v vs sig s k ok hv p fit h = go (is_string (static P g e)) refl p
         where
-          text : (v : Value) → IsText P (heap_of s) v → (m : StringMethod) → string_method x ≡ Some m → signature_of_string m ≡ sig → Sound (call_on L later g e d x v vs s k)
+          text : (v : Value) → IsText P (heap_of s) v → (m : StringMethod) → text_method (L.slot g e x) x ≡ Some m → signature_of_string m ≡ sig → Sound (call_on L later g e d x v vs s k)
           text v text_null m y z = sound_stop (Faulted fault.Null) s tt
           text v (text_there {a = a} {u = u} there) m y z =
-              some_sound (slice_get s.strings a) u s _ there (some_sound (string_method x) m s _ y (string_call_sound m u vs s k ok (subst (λ q. FitAll (heap_of s) vs q.params) (sym z) fit) (subst (λ q. V (heap_of s) (or_nothing q.result) k) (sym z) h)))
+              some_sound (slice_get s.strings a) u s _ there (some_sound (text_method (L.slot g e x) x) m s _ y (string_call_sound m u vs s k ok (subst (λ q. FitAll (heap_of s) vs q.params) (sym z) fit) (subst (λ q. V (heap_of s) (or_nothing q.result) k) (sym z) h)))
 
           go : (b : Bool) → is_string (static P g e) ≡ b → (if b then option_map signature_of_string (string_method x) else object_signature P (class_of (static P g e)) x) ≡ Some sig → Sound (call_on L later g e d x v vs s k)
-          go true is_text q = let m = mapped_some signature_of_string (string_method x) sig q in text v (text_held P hv is_text) m.0 m.1 m.2
+          go true is_text q = let m = mapped_some signature_of_string (string_method x) sig q in text v (text_held P hv is_text) m.0 (ap (λ z. text_method z x) (tl.no_slot g e x (string_class (static P g e) is_text)) ∙ m.1) m.2
           go false other q = let c = object_parts (class_of (static P g e)) x sig q in
               call_cells g e d x v vs c.0 s k hv c.1 (class_sound P L tl s c.0 _ ok hv c.1 (λ a o y at kd bel oo ho.
               call_object_sound g e d x a o y c.2.0 sig vs s k ok at kd (tl.slot g e x c.0 c.2.0 c.1 c.2.1) (tl.bodies y c.0 c.2.0 x sig oo.made bel c.2.1 c.2.2) fit h))

@@ -13,13 +13,13 @@ use Rattle.java_core.specs.declared.Fault.TheVariants as fault
 use Rattle.java_core.specs.Trees.{Ex}
 use Rattle.java_core.specs.Programs.{Plain}
 use Rattle.java_core.specs.Classes.{is_concrete, member_field}
-use Rattle.java_core.specs.Types.{Env, Static, a_value, or_nothing, plain_type, class_type, class_of, element_in, element_of, is_object, is_sub_base, is_subtype, fits, field_type, field_in, is_length, length_or, access_type, unary_type, static}
+use Rattle.java_core.specs.Types.{Env, Static, a_value, null_value, no_value, or_nothing, plain_type, class_type, class_in, class_of, element_in, element_of, is_object, is_string, is_sub_base, is_subtype, fits, field_type, field_in, is_length, length_or, access_type, unary_type, static}
 use Rattle.java_core.specs.Typing.{takes_one}
-use Rattle.java_meaning.specs.Moment.{Value, Number, Truth, Object, Kind, an_object, an_array, Cell, own_type, held, State, Faulted, Outcome, stop, Lang, with_some, on_bool}
+use Rattle.java_meaning.specs.Moment.{Value, Number, Truth, Object, Kind, an_object, an_array, Cell, own_type, held, State, Faulted, Wrong, Outcome, stop, Lang, with_some, on_bool}
 use Rattle.java_meaning.specs.Values.{int_of, default_of, convert, natural_of, negated, unary_value, defaults}
-use Rattle.java_meaning.specs.Meaning.{ToValue, with_cell, add_cell, set_value, read_member, element_type, place_in, read_element, on_fitting, write_element, make_cell, make_object, make_array}
+use Rattle.java_meaning.specs.Meaning.{ToValue, with_cell, add_cell, set_value, names_length, read_member, element_type, place_in, read_element, on_fitting, write_element, make_cell, make_object, make_array}
 use Rattle.java_meaning.specs.TypedLang.{TypedLang}
-use Rattle.java_meaning.proofs.Holds.{Heap, heap_of, some_there, Holds, holds_number, holds_truth, holds_unit, holds_text, holds_null, holds_object, holds_nothing, holds_any, grown, number_held, truth_held, default_held, sub_held, sub_object, stored, of_parts}
+use Rattle.java_meaning.proofs.Holds.{Heap, heap_of, some_there, Holds, holds_number, holds_truth, holds_unit, holds_text, holds_null, holds_object, holds_nothing, holds_any, grown, number_held, truth_held, default_held, sub_held, sub_object, stored, of_parts, only_type}
 use Rattle.java_meaning.proofs.Sound.{get_last, Sound, sound_stop, some_sound, fault_sound, ObjectOk, ArrayOk, KindOk, Good, From, from_same, from_on, KV, KS, put_from, array_put, add_from, step_sound, look_exact, look_sound, class_sound, array_sound, read_field_sound}
 
 pub then_some : {A B : Type 0} (f : A → Option B) (o : Option A) (y : B) → option_and_then f o ≡ Some y → (x : A) × (o ≡ Some x) × (f x ≡ Some y)
@@ -30,6 +30,25 @@ all_same : {A : Type 0} (n i : ℕ) (x v : A) → slice_get (replicate n x) i �
 all_same zero i x v e = absurd (cc)
 all_same (suc n) zero x v e = same_Some _ _ e
 all_same (suc n) (suc i) x v e = all_same n i x v e
+
+-- an array has no class, and a string none
+element_class : (s : Static) (u : Ty) → element_of s ≡ Some u → class_of s ≡ None
+element_class null_value u e = refl
+element_class no_value u e = refl
+element_class (a_value t) u e = go t.base t.dim e
+  where
+    go : (b : TyBase) (d : ℕ) → element_in b d ≡ Some u → class_in b d ≡ None
+    go b zero e = absurd (cc)
+    go Int (suc d) e = refl
+    go Boolean (suc d) e = refl
+    go Char (suc d) e = refl
+    go Str (suc d) e = refl
+    go (Class c) (suc d) e = refl
+
+pub string_class : (s : Static) → is_string s ≡ true → class_of s ≡ None
+string_class null_value e = refl
+string_class no_value e = refl
+string_class (a_value t) e = subst (λ z. class_in z.base z.dim ≡ None) (only_type Str t refl e) refl
 
 module _ (P : Plain) (L : Lang) (tl : TypedLang P L) where
   abbrev Ok : State → Type 0
@@ -60,8 +79,9 @@ module _ (P : Plain) (L : Lang) (tl : TypedLang P L) where
     where
       array : (u : Ty) → element_of (static P g e) ≡ Some u → is_length x ≡ true → Sound (with_cell v s (λ a c. read_member L g e d x c.kind a c s k))
       array u eq len =
+          let none : L.field g e x ≡ None = tl.field g e x ∙ ap (option_and_then (λ c. member_field P c x)) (element_class (static P g e) u eq) in
           array_sound P L tl s u _ ok hv eq (λ a c y at kd o sub. subst (λ z. Sound (read_member L g e d x z a c s k)) (sym kd)
-          (rw len (here (Number (int_of (length c.values))) s k ok holds_number (subst (λ z. V (heap_of s) (or_nothing z) k) (ap (λ z. length_or z (option_and_then (field_type P) (field_in P (static P g e) x)) x) eq ∙ ap (λ z. if z then Some (plain_type Int) else None) len) h))))
+          (subst (λ z. Sound (on_bool z s (λ s1. k (Number (int_of (length c.values))) s1) (stop Wrong))) (sym (ap (λ z. names_length z x) none ∙ len)) (here (Number (int_of (length c.values))) s k ok holds_number (subst (λ z. V (heap_of s) (or_nothing z) k) (ap (λ z. length_or z (option_and_then (field_type P) (field_in P (static P g e) x)) x) eq ∙ ap (λ z. if z then Some (plain_type Int) else None) len) h))))
 
       object : element_of (static P g e) ≡ None → Sound (with_cell v s (λ a c. read_member L g e d x c.kind a c s k))
       object eq =

@@ -11,11 +11,11 @@ use Rattle.java_core.specs.declared.BinOp.TheVariants as bin
 use Rattle.java_core.specs.declared.Op.{Op}
 use Rattle.java_core.specs.declared.Fault.{Fault}
 use Rattle.java_core.specs.declared.Fault.TheVariants as fault
-use Rattle.java_core.specs.Trees.{Ex, Exs, no_ex, ex_then, number, character, text, truth, null, this, local, static_field, own_field, field, index, call, static_call, super_call, create, create_array, cast, instance_of, unary, binary, Target, to_local, to_static, to_own, to_field, to_element, no_target, St, Sts, Arms, declare, block, assign, act, print, choose, loop, return, break, continue, no_st, st_then, no_other, otherwise, arm}
-use Rattle.java_core.specs.Types.{Env, class_type, element_in, is_length, StringMethod, LengthOf, CharAt, Equals, string_method, is_plus}
+use Rattle.java_core.specs.Trees.{Ex, Exs, no_ex, ex_then, number, character, text, truth, null, this, local, static_field, own_field, field, index, call, static_call, super_call, create, create_array, cast, instance_of, unary, binary, Target, to_local, to_static, to_own, to_field, to_element, no_target, St, Sts, Arms, declare, block, assign, act, print, choose, loop, return, break, continue, no_st, st_then, otherwise, arm, no_other}
+use Rattle.java_core.specs.Types.{Env, class_type, element_in, StringMethod, LengthOf, CharAt, Equals, is_plus}
 use Rattle.java_meaning.specs.Moment.{Value, Number, Truth, CodeUnit, Nothing, Text, Object, Kind, an_object, an_array, Cell, own_type, own_class, Spot, held, bound, self_of, result_of, set_static, kept, put_in, touched, tested, ran, Met, State, Frame, End, Ended, Faulted, Going, Wrong, Escaped, Outcome, stop, Body, Lang, step, step_of, with_some, or_fault, with_result, on_bool, look, look_all}
 use Rattle.java_meaning.specs.Values.{int_of, default_of, convert, arguments, number_of, truth_of, natural_of, text_of, arith as op_arith, unary_value, cast_number, same_value, compared, join, is_text, defaults, equals_value}
-use Rattle.java_meaning.specs.Meaning.{Flow, Next, Broke, Continued, Gave, ToValue, ToFlow, Later, on_test, with_cell, add_cell, add_string, set_value, set_local, give_string, write_static, read_field, write_field, read_member, element_type, place_in, read_element, on_fitting, write_element, given, enter, call_object, string_call, call_on, call_static, call_super, make_cell, make_object, make_array, is_number_type, cast_object, cast_to, test_class, after_left, join_values, compute, operate, write_local, after_one, after_turn, value, values, run_test, run_print, run_initial, run_return, run_assign, run_one, run_all, run_arms, meaning, words_cell, start, run_in}
+use Rattle.java_meaning.specs.Meaning.{Flow, Next, Broke, Continued, Gave, ToValue, ToFlow, Later, on_test, with_cell, add_cell, add_string, set_value, set_local, give_string, write_static, read_field, write_field, names_length, read_member, element_type, place_in, read_element, on_fitting, write_element, given, enter, call_object, string_call, text_method, call_on, call_static, call_super, make_cell, make_object, make_array, is_number_type, cast_object, cast_to, test_class, after_left, join_values, compute, operate, write_local, after_one, after_turn, value, values, run_test, run_print, run_initial, run_return, run_assign, run_one, run_all, run_arms, meaning, words_cell, start, run_in}
 use Rattle.java_meaning.specs.Watched.{bare_tag, bare, bare_all, bare_if, bare_target, bare_st, bare_sts, bare_arms, bare_body, IsBare, EscapesOrIs}
 
 -- the state with another record
@@ -182,7 +182,9 @@ module _ (L M : Lang) (like : IsBare L M) where
 
   read_member_r : (g : Env) (e d d2 : Ex) (x : List ℕ) (t : Kind) (a : ℕ) (c : Cell) (s : State) (m : List Met) (k j : ToValue) → KV k j → OrIs m (read_member L g e d x t a c s k) (read_member M g (bare e) d2 x t a c (re s m) j)
   read_member_r g e d d2 x (an_object t) a c s m k j r = read_field_r g.body e d (bare e) d2 (L.field g e x) (M.field g (bare e) x) a c s m k j (like.field g e x) r
-  read_member_r g e d d2 x (an_array t) a c s m k j r = bool_r (is_length x) s m (λ s1. k (Number (int_of (length c.values))) s1) (λ s1. j (Number (int_of (length c.values))) s1) (stop Wrong) (stop Wrong) (r (Number (int_of (length c.values)))) (is_stop Wrong)
+  read_member_r g e d d2 x (an_array t) a c s m k j r =
+      subst (λ z. OrIs m (read_member L g e d x (an_array t) a c s k) (on_bool (names_length z x) (re s m) (λ s1. j (Number (int_of (length c.values))) s1) (stop Wrong))) (sym (like.field g e x))
+      (bool_r (names_length (L.field g e x) x) s m (λ s1. k (Number (int_of (length c.values))) s1) (λ s1. j (Number (int_of (length c.values))) s1) (stop Wrong) (stop Wrong) (r (Number (int_of (length c.values)))) (is_stop Wrong))
 
   read_element_r : (b : ℕ) (d d2 : Ex) (v : Value) (i : ℤ) (s : State) (m : List Met) (k j : ToValue) → KV k j → OrIs m (read_element L b d v i s k) (read_element M b d2 v i (re s m) j)
   read_element_r b d d2 v i s m k j r =
@@ -289,7 +291,7 @@ module _ (L M : Lang) (like : IsBare L M) where
 
       call_r : (g : Env) (e d d2 : Ex) (x : List ℕ) (v : Value) (vs : List Value) (s : State) (m : List Met) (k j : ToValue) → KV k j → OrIs m (call_on L later g e d x v vs s k) (call_on M later2 g (bare e) d2 x v vs (re s m) j)
       call_r g e d d2 x Nothing vs s m k j r = is_stop (Faulted fault.Null) s m
-      call_r g e d d2 x (Text a) vs s m k j r = some_r (slice_get s.strings a) s m _ _ (λ u. some_r (string_method x) s m _ _ (λ y. string_r y u vs s m k j r))
+      call_r g e d d2 x (Text a) vs s m k j r = some_r (slice_get s.strings a) s m _ _ (λ u. some_as (text_method (L.slot g e x) x) (text_method (M.slot g (bare e) x) x) s m _ _ (ap (λ z. text_method z x) (like.slot g e x)) (λ y. string_r y u vs s m k j r))
       call_r g e d d2 x (Object a) vs s m k j r = some_r (slice_get s.cells a) s m _ _ (λ c. call_object_r g e d d2 x a c vs s m k j r)
       call_r g e d d2 x (Number n) vs s m k j r = is_stop Wrong s m
       call_r g e d d2 x (Truth n) vs s m k j r = is_stop Wrong s m

@@ -25,6 +25,7 @@ typed_language P formed typed = record {
   field = λ g e x. refl;
   typed_field = λ f. refl;
   slot = λ g e x c j p q. ap (option_and_then (λ c. slot_of P c x)) p ∙ q;
+  no_slot = λ g e x p. ap (option_and_then (λ c. slot_of P c x)) p;
   members = λ c d x f made bel p. members P formed c d x f bel p;
   places = places P;
   fresh = fresh P;

@@ -86,10 +86,15 @@ write_field L b e x v a c s k =
     with_some (own_class c.kind) s (λ t. with_some x s (λ j. with_some (L.field_type j) s (λ u. with_some (L.index t j) s (λ i. with_some (slice_get c.values i) s (λ old.
     look L (touched b e j) (Object a) s (λ s1. look L (kept c.site j) (convert u v) s1 (λ s2. k (set_value a c i (convert u v) s2))))))))
 
--- a field of an object, or the length of an array
+-- whether a name is that of an array's length: no field is found under it
+abbrev pub names_length : Option ℕ → List ℕ → Bool
+names_length None x = is_length x
+names_length (Some f) x = false
+
+-- a field of an object, or the length of an array; a name under which the static type of the base has a field is that of no length
 abbrev pub read_member : Lang → Env → Ex → Ex → List ℕ → Kind → ℕ → Cell → State → ToValue → Outcome
 read_member L g e d x (an_object t) a c s k = read_field L g.body e d (L.field g e x) a c s k
-read_member L g e d x (an_array t) a c s k = on_bool (is_length x) s (λ s1. k (Number (int_of (length c.values))) s1) (stop Wrong)
+read_member L g e d x (an_array t) a c s k = on_bool (names_length (L.field g e x) x) s (λ s1. k (Number (int_of (length c.values))) s1) (stop Wrong)
 
 -- an element of an array is read, and set: null, bounds and the store's type are tested in this order
 abbrev pub element_type : Kind → Option Ty
@@ -145,10 +150,15 @@ string_call CharAt u (v ∷ []) s k =
 string_call Equals u (v ∷ []) s k = with_some (equals_value s.strings u v) s (λ b. k (Truth b) s)
 string_call m u vs s k = stop Wrong s
 
--- a call on a value: arguments are there before the receiver is tested
+-- the method of a string that a name calls: no slot is found under it
+abbrev pub text_method : Option ℕ → List ℕ → Option StringMethod
+text_method None x = string_method x
+text_method (Some j) x = None
+
+-- a call on a value: arguments are there before the receiver is tested; a name under which the static type of the receiver has a slot calls no method of a string
 abbrev pub call_on : Lang → Later → Env → Ex → Ex → List ℕ → Value → List Value → State → ToValue → Outcome
 call_on L later g e d x Nothing vs s k = stop (Faulted fault.Null) s
-call_on L later g e d x (Text a) vs s k = with_some (slice_get s.strings a) s (λ u. with_some (string_method x) s (λ m. string_call m u vs s k))
+call_on L later g e d x (Text a) vs s k = with_some (slice_get s.strings a) s (λ u. with_some (text_method (L.slot g e x) x) s (λ m. string_call m u vs s k))
 call_on L later g e d x (Object a) vs s k = with_some (slice_get s.cells a) s (λ c. call_object L later g e d x a c vs s k)
 call_on L later g e d x (Number n) vs s k = stop Wrong s
 call_on L later g e d x (Truth b) vs s k = stop Wrong s

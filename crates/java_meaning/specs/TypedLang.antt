@@ -104,6 +104,7 @@ pub record TypedLang (P : Plain) (L : Lang) : Type 0 where
   pub field : (g : Env) (e : Ex) (x : List ℕ) → L.field g e x ≡ field_in P (static P g e) x
   pub typed_field : (f : ℕ) → L.field_type f ≡ field_type P f
   pub slot : (g : Env) (e : Ex) (x : List ℕ) (c j : ℕ) → class_of (static P g e) ≡ Some c → slot_of P c x ≡ Some j → L.slot g e x ≡ Some j
+  pub no_slot : (g : Env) (e : Ex) (x : List ℕ) → class_of (static P g e) ≡ None → L.slot g e x ≡ None
   -- an object of a class has each field that a class at or above it offers, each in a place of its own, and a new object holds the fields' defaults
   pub members : (c d : ℕ) (x : List ℕ) (f : ℕ) → is_concrete P c ≡ true → below P c d ≡ true → member_field P d x ≡ Some f → is_some (L.index c f) ≡ true
   pub places : (c f h i : ℕ) → L.index c f ≡ Some i → L.index c h ≡ Some i → f ≡ h

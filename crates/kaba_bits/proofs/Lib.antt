@@ -4,3 +4,5 @@ pub mod StepLemmas
 pub mod ListLemmas
 pub mod FirstLemmas
 pub mod RisingLemmas
+pub mod BitLemmas
+pub mod WordLemmas

@@ -1,33 +1,46 @@
 //! Rows of bits, seen as sets of numbers below a width, and families of such rows.
 #![tactic(auto)]
 
-ghost use Rattle.std.specs.Prelude.{◌≡◌, ℕ, ◌+◌, ◌<◌, ◌^◌, ◌↔◌, Bool, true, false, List, ◌&&◌, ◌||◌, length, IsTrue, IfOk, slice_set, not};
+ghost use Rattle.std.specs.Prelude.{◌≡◌, ℕ, ◌+◌, ◌/◌, ◌<◌, ◌^◌, ◌↔◌, Bool, true, false, List, ◌&&◌, ◌||◌, length, IsTrue, IfOk, slice_set, not};
 ghost use Rattle.std.specs.Bool.{OnTrue, OnFalse};
 ghost use Rattle.kaba_bits.specs.Sets.{bit, size, IsSubset, IsEmpty, Meet, rising, ListsBelow};
 
 use std::alloc::{AllocError, Global};
 use std::marker::Model;
 
+mod lanes;
 mod rows;
-mod slices;
+mod words;
 
 pub use rows::{copy_rows, empty_rows, join, join_with, row_at, set_at};
-use slices::{clear_bits, join_bits, meet_bits};
+use words::{
+    clear_bit, clear_words, count_words, is_apart, is_within, join_words, meet_words, set_bit,
+    test_bit,
+};
 
 /// A set of numbers below a width, which is at most the greatest `u32`.
 #[derive(Drop)]
 pub struct BitRow {
-    bits: Vec<bool>,
+    width: u32,
+    words: Vec<u64>,
 }
 
 impl Model for BitRow {
-    ghost use Rattle.std.specs.Prelude.{ℕ, ◌<◌, ◌^◌, Bool, List, length};
+    ghost use Rattle.std.specs.Prelude.{Bool, List};
+    ghost use Rattle.kaba_bits.specs.Words.{row_of, HoldWidth};
 
     ghost Value = { List Bool };
 
-    ghost view = { λ r. r.bits.items };
+    ghost view = { λ r. row_of r.width r.words.items };
 
-    ghost invariant = { λ r. length r.bits.items < 2 ^ 32 };
+    ghost invariant = { λ r. HoldWidth r.width r.words.items };
+}
+
+/// How many words a width needs.
+fn words_for(width: u32) -> usize
+    ensures { result ≡ (width + 63) / 64 }
+{
+    (width as usize + 63) / 64
 }
 
 impl BitRow {
@@ -36,8 +49,8 @@ impl BitRow {
         ensures width { IfOk result (λ r. length r ≡ width) }
         ensures empty { IfOk result (λ r. IsEmpty r) }
     {
-        let bits = vec![in alloc; false; width as usize]?;
-        Ok(BitRow { bits })
+        let words = vec![in alloc; 0u64; words_for(width)]?;
+        Ok(BitRow { width, words })
     }
 
     /// The set of all numbers below a width. An error comes only for want of memory.
@@ -45,24 +58,30 @@ impl BitRow {
         ensures width { IfOk result (λ r. length r ≡ width) }
         ensures full { IfOk result (λ r. (i : ℕ) → i < width → bit r i ≡ true) }
     {
-        let bits = vec![in alloc; true; width as usize]?;
-        Ok(BitRow { bits })
+        let mut row = BitRow::new(alloc, width)?;
+        for i in 0..width {
+            row.set(i);
+        }
+        Ok(row)
     }
 
     /// The same set once more. An error comes only for want of memory.
     pub fn copy(&self, alloc: Global) -> Result<BitRow, AllocError>
         ensures { IfOk result (λ r. r ≡ self.now) }
     {
-        let mut bits = Vec::new(alloc);
-        bits.extend_from_slice(&self.bits)?;
-        Ok(BitRow { bits })
+        let mut words = Vec::new(alloc);
+        words.extend_from_slice(&self.words)?;
+        Ok(BitRow {
+            width: self.width,
+            words,
+        })
     }
 
     /// The width: each number of the set is below it.
     pub fn width(&self) -> u32
         ensures { result ≡ length self.now }
     {
-        self.bits.len() as u32
+        self.width
     }
 
     /// Whether a number below the width is in the set.
@@ -70,7 +89,7 @@ impl BitRow {
         requires { i < length self.now }
         ensures { result ≡ bit self.now i }
     {
-        self.bits[i as usize]
+        test_bit(&self.words, i)
     }
 
     /// Adds a number below the width, and answers whether the set grew.
@@ -81,10 +100,10 @@ impl BitRow {
         ensures grew { OnTrue result (size self.new ≡ size self.old + 1) }
         ensures same { OnFalse result (self.new ≡ self.old) }
     {
-        if self.bits[i as usize] {
+        if test_bit(&self.words, i) {
             return false;
         }
-        self.bits[i as usize] = true;
+        set_bit(&mut self.words, i);
         true
     }
 
@@ -93,7 +112,7 @@ impl BitRow {
         requires { i < length self.old }
         ensures { self.new ≡ slice_set self.old i false }
     {
-        self.bits[i as usize] = false;
+        clear_bit(&mut self.words, i);
     }
 
     /// Takes out what is not in another set of the same width.
@@ -102,7 +121,7 @@ impl BitRow {
         ensures width { length self.new ≡ length self.old }
         ensures meet { (i : ℕ) → bit self.new i ≡ (bit self.old i && bit other.now i) }
     {
-        meet_bits(&mut self.bits, &other.bits);
+        meet_words(&mut self.words, &other.words);
     }
 
     /// Adds the numbers of another set of the same width, and answers whether the set grew.
@@ -113,7 +132,11 @@ impl BitRow {
         ensures grew { OnTrue result (size self.old < size self.new) }
         ensures same { OnFalse result (self.new ≡ self.old) }
     {
-        join_bits(&mut self.bits, &other.bits)
+        if is_within(&other.words, &self.words) {
+            return false;
+        }
+        join_words(&mut self.words, &other.words);
+        true
     }
 
     /// Whether each number of the set is in another of the same width.
@@ -121,25 +144,14 @@ impl BitRow {
         requires { length self.now ≡ length other.now }
         ensures { IsTrue result ↔ IsSubset self.now other.now }
     {
-        for i in 0..self.bits.len() {
-            if self.bits[i] && !other.bits[i] {
-                return false;
-            }
-        }
-        true
+        is_within(&self.words, &other.words)
     }
 
     /// How many numbers are in the set.
     pub fn count(&self) -> u32
         ensures { result ≡ size self.now }
     {
-        let mut n = 0;
-        for b in &self.bits {
-            if *b {
-                n += 1;
-            }
-        }
-        n
+        count_words(&self.words)
     }
 
     /// Whether no number is in the set.
@@ -147,7 +159,7 @@ impl BitRow {
         ensures none { IsTrue result ↔ (size self.now ≡ 0) }
         ensures empty { IsTrue result ↔ IsEmpty self.now }
     {
-        self.count() == 0
+        is_apart(&self.words, &self.words)
     }
 
     /// Whether some number is in both sets, which have the same width.
@@ -155,12 +167,7 @@ impl BitRow {
         requires { length self.now ≡ length other.now }
         ensures { IsTrue result ↔ Meet self.now other.now }
     {
-        for i in 0..self.bits.len() {
-            if self.bits[i] && other.bits[i] {
-                return true;
-            }
-        }
-        false
+        !is_apart(&self.words, &other.words)
     }
 
     /// Takes all numbers out.
@@ -169,7 +176,7 @@ impl BitRow {
         ensures empty { IsEmpty self.new }
         ensures none { size self.new ≡ 0 }
     {
-        clear_bits(&mut self.bits);
+        clear_words(&mut self.words);
     }
 
     /// The numbers of the set in rising order. An error comes only for want of memory.

@@ -12,11 +12,11 @@ use Rattle.java_core.specs.declared.BinOp.{BinOp}
 use Rattle.java_core.specs.declared.BinOp.TheVariants as bin
 use Rattle.java_core.specs.declared.Op.{Op}
 use Rattle.java_core.specs.declared.Fault.TheVariants as fault
-use Rattle.java_core.specs.Trees.{Ex, Exs, no_ex, ex_then, number, character, text, truth, null, this, local, static_field, own_field, field, index, call, static_call, super_call, create, create_array, cast, instance_of, unary, binary, Target, to_local, to_static, to_own, to_field, to_element, no_target, St, Sts, Arms, declare, block, assign, act, print, choose, loop, return, break, continue, no_st, st_then, no_other, otherwise, arm}
-use Rattle.java_core.specs.Types.{Env, class_type, element_in, is_length, StringMethod, LengthOf, CharAt, Equals, string_method}
+use Rattle.java_core.specs.Trees.{Ex, Exs, no_ex, ex_then, number, character, text, truth, null, this, local, static_field, own_field, field, index, call, static_call, super_call, create, create_array, cast, instance_of, unary, binary, Target, to_local, to_static, to_own, to_field, to_element, no_target, St, Sts, Arms, declare, block, assign, act, print, choose, loop, return, break, continue, no_st, st_then, otherwise, arm, no_other}
+use Rattle.java_core.specs.Types.{Env, class_type, element_in, StringMethod, LengthOf, CharAt, Equals}
 use Rattle.java_meaning.specs.Moment.{Value, Number, Truth, CodeUnit, Nothing, Text, Object, Kind, an_object, an_array, Cell, own_type, own_class, Spot, held, bound, self_of, result_of, set_static, kept, put_in, touched, tested, ran, Met, State, Frame, Ended, Faulted, Going, Wrong, Escaped, Outcome, stop, Body, Lang, with_some, on_bool, look, look_all}
 use Rattle.java_meaning.specs.Values.{default_of, convert, arguments, number_of, truth_of, natural_of, text_of, arith, unary_value, cast_number, same_value, compared, join, defaults, equals_value}
-use Rattle.java_meaning.specs.Meaning.{Flow, Next, Broke, Continued, Gave, ToValue, ToFlow, Later, add_cell, set_value, set_local, give_string, write_static, read_field, write_field, read_member, element_type, place_in, read_element, on_fitting, write_element, given, enter, call_object, string_call, call_on, call_static, call_super, make_cell, make_object, make_array, is_number_type, cast_object, cast_to, test_class, after_left, join_values, compute, operate, write_local, after_one, after_turn, value, values, run_test, run_print, run_initial, run_declare, run_return, run_assign, run_one, run_all, run_arms, meaning, texts, words_type, words_cell, start, run_in}
+use Rattle.java_meaning.specs.Meaning.{Flow, Next, Broke, Continued, Gave, ToValue, ToFlow, Later, add_cell, set_value, set_local, give_string, write_static, read_field, write_field, names_length, read_member, element_type, place_in, read_element, on_fitting, write_element, given, enter, call_object, string_call, text_method, call_on, call_static, call_super, make_cell, make_object, make_array, is_number_type, cast_object, cast_to, test_class, after_left, join_values, compute, operate, write_local, after_one, after_turn, value, values, run_test, run_print, run_initial, run_declare, run_return, run_assign, run_one, run_all, run_arms, meaning, texts, words_type, words_cell, start, run_in}
 use Rattle.run_cover.specs.Families.{Set, Family, ArePlain, Reads, Writes, ReadsElement, WritesElement, Passes, Calls, StaticCalls, SuperCalls, Makes, Tests, Casts, Included, IncludedAll, IncludedIf, Sets, Assigns, IncludedSt, IncludedSts, IncludedArms, IsIncluded, AreIncluded, Begins}
 use Rattle.run_cover.specs.Watched.{Of, IsWatched}
 use Rattle.run_cover.proofs.Lists.{set_cases, get_last, get_added}
@@ -145,7 +145,7 @@ module _ (L : Lang) (Made : Option ℕ → Kind → Type 0) (V : Family) (inc : 
   member_fine : (g : Env) (e d : Ex) (x : List ℕ) → Reads L Made V g e d (L.field g e x) → (t : Kind) (a : ℕ) (c : Cell) (s : State) (k : ToValue) → Good s.cells s.statics → slice_get s.cells a ≡ Some c → V.value g.body e c.site ≡ true → KV s.cells (V.value g.body d) k
       → Fine (read_member L g e d x t a c s k)
   member_fine g e d x rd (an_object t) a c s k ok at mem h = read_field_fine g e d (L.field g e x) rd a c s k ok at mem h
-  member_fine g e d x rd (an_array t) a c s k ok at mem h = bool_fine (is_length x) s _ (stop Wrong) (λ z. h _ s (here s.cells s.statics ok) tt) (fine_stop Wrong s tt)
+  member_fine g e d x rd (an_array t) a c s k ok at mem h = bool_fine (names_length (L.field g e x) x) s _ (stop Wrong) (λ z. h _ s (here s.cells s.statics ok) tt) (fine_stop Wrong s tt)
 
   -- an element of an array
   read_element_fine : (g : Env) (e d : Ex) → ReadsElement L Made V g e d → (v : Value) (i : ℤ) (s : State) (k : ToValue) → Good s.cells s.statics → Of s.cells v (V.value g.body e) → KV s.cells (V.value g.body d) k → Fine (read_element L g.body d v i s k)
@@ -389,7 +389,7 @@ module _ (L : Lang) (Made : Option ℕ → Kind → Type 0) (V : Family) (inc : 
       call_fine : (g : Env) (e d : Ex) (x : List ℕ) (es : Exs) → Calls L Made V g d e x es → (v : Value) (vs : List Value) (s : State) (k : ToValue) → Good s.cells s.statics → Of s.cells v (V.value g.body e) → Ins s.cells g vs es
           → KV s.cells (V.value g.body d) k → Fine (call_on L later g e d x v vs s k)
       call_fine g e d x es cl Nothing vs s k ok iv ivs h = fine_stop (Faulted fault.Null) s tt
-      call_fine g e d x es cl (Text a) vs s k ok iv ivs h = some_fine (slice_get s.strings a) s _ (λ u eu. some_fine (string_method x) s _ (λ m em. string_call_fine m u vs s (V.value g.body d) k ok h))
+      call_fine g e d x es cl (Text a) vs s k ok iv ivs h = some_fine (slice_get s.strings a) s _ (λ u eu. some_fine (text_method (L.slot g e x) x) s _ (λ m em. string_call_fine m u vs s (V.value g.body d) k ok h))
       call_fine g e d x es cl (Object a) vs s k ok iv ivs h = some_fine (slice_get s.cells a) s _ (λ c ec. call_object_fine g e d x es cl a c vs s k ok ec (member_of s.cells a c (V.value g.body e) iv ec) ivs h)
       call_fine g e d x es cl (Number n) vs s k ok iv ivs h = fine_stop Wrong s tt
       call_fine g e d x es cl (Truth n) vs s k ok iv ivs h = fine_stop Wrong s tt

@@ -4,7 +4,6 @@ ghost use Rattle.std.specs.Prelude.{◌≡◌, IfOk, OnErr, Some};
 ghost use Rattle.fact_model.specs.InRange.{InRange};
 ghost use Rattle.fact_model.specs.Flowing.{AreSets};
 ghost use Rattle.hier_model.specs.Hierarchies.{IsHierarchyOf};
-ghost use Rattle.hier_rules.specs.First.{MeetsEdit};
 ghost use Rattle.hier_rules.specs.Obligations.{first_unchained};
 ghost use Rattle.tree_merge.specs.Attempts.{IsTurn};
 
@@ -13,7 +12,7 @@ use crate::conflicts::conflict_of;
 use crate::tries::tries_of;
 use fact_model::{Facts, PointsTo};
 use hier_model::{Edit, Hier};
-use hier_rules::{Broken, first_broken};
+use hier_rules::{Broken, first_unchained};
 use hier_tree::Conflict;
 use std::alloc::{AllocError, Global};
 
@@ -75,12 +74,11 @@ pub fn step(
     requires range { InRange facts.now }
     requires sets { AreSets facts.now sets.now }
     requires hierarchy { IsHierarchyOf facts.now hier.old }
-    requires meets { MeetsEdit facts.now sets.now hier.old }
     ensures turn { IfOk result (IsTurn facts.now sets.now hier.old hier.new) }
     ensures kept { OnErr result (hier.new ≡ hier.old) }
     ensures is { IsHierarchyOf facts.now hier.new }
 {
-    match first_broken(alloc, hier, facts, sets)? {
+    match first_unchained(alloc, facts, hier)? {
         None => Ok(Turn::Done),
         Some(broken) => step_at(alloc, hier, facts, sets, broken),
     }

@@ -15,7 +15,7 @@ use Rattle.java_meaning.specs.Meaning.{ToValue, add_string, give_string, string_
 use Rattle.run_cover.specs.Families.{Set}
 use Rattle.run_cover.proofs.Held.{keeps_same}
 use Rattle.twin_runs.specs.Twins.{Link}
-use Rattle.twin_runs.proofs.States.{Alike, wrong_first, wrong_second, somes, equals, bools, tests, SameState, KV, with_string, faults, results}
+use Rattle.twin_runs.proofs.States.{Alike, wrong_first, equals, bools, tests, SameState, KV, with_string, faults, results}
 
 module _ (L M : Lang) (K : Link) (Made : Option ℕ → Kind → Kind → Type 0) where
   abbrev R : State → State → Type 0
@@ -88,34 +88,17 @@ module _ (L M : Lang) (K : Link) (Made : Option ℕ → Kind → Kind → Type 0
   unary_done un.Minus v s t X k j r q = number_given (negated un.Minus) (number_of v) s t X k j r q
   unary_done un.Flip v s t X k j r q = number_given (negated un.Flip) (number_of v) s t X k j r q
 
-  -- a number is no string and not null
-  no_text : (v : Value) (i : ℤ) (strings : List (List ℕ)) (u : List ℕ) (b : Bool) → number_of v ≡ Some i → equals_value strings u v ≡ Some b → ⊥
-  no_text (Number n) i strings u b e d = cc
-  no_text (CodeUnit n) i strings u b e d = cc
-  no_text (Truth n) i strings u b e d = cc
-  no_text Nothing i strings u b e d = cc
-  no_text (Text n) i strings u b e d = cc
-  no_text (Object n) i strings u b e d = cc
-
-  -- two methods of a string, unless one of the two calls is wrong
-  pub string_called : (x y : StringMethod) (u : List ℕ) (vs : List Value) (s t : State) (X : Set) (k j : ToValue) → R s t → V s X k j
-      → Alike (string_call x u vs s k) (string_call y u vs t j)
-  string_called LengthOf LengthOf u [] s t X k j r q = q (Number (int_of (length u))) s t r (keeps_same s.cells) tt
-  string_called LengthOf CharAt u [] s t X k j r q = wrong_second (k (Number (int_of (length u))) s) t
-  string_called LengthOf Equals u [] s t X k j r q = wrong_second (k (Number (int_of (length u))) s) t
-  string_called LengthOf y u (v ∷ vs) s t X k j r q = wrong_first s (string_call y u (v ∷ vs) t j)
-  string_called CharAt y u [] s t X k j r q = wrong_first s (string_call y u [] t j)
-  string_called CharAt LengthOf u (v ∷ []) s t X k j r q = wrong_second (string_call CharAt u (v ∷ []) s k) t
-  string_called CharAt CharAt u (v ∷ []) s t X k j r q = equals (number_of v) (number_of v) s t _ _ refl (λ i.
+  -- a method of a string
+  pub string_called : (x : StringMethod) (u : List ℕ) (vs : List Value) (s t : State) (X : Set) (k j : ToValue) → R s t → V s X k j
+      → Alike (string_call x u vs s k) (string_call x u vs t j)
+  string_called LengthOf u [] s t X k j r q = q (Number (int_of (length u))) s t r (keeps_same s.cells) tt
+  string_called LengthOf u (v ∷ vs) s t X k j r q = wrong_first s (stop Wrong t)
+  string_called CharAt u [] s t X k j r q = wrong_first s (stop Wrong t)
+  string_called CharAt u (v ∷ []) s t X k j r q = equals (number_of v) (number_of v) s t _ _ refl (λ i.
       faults L M K Made fault.Bounds (option_and_then (λ n. slice_get u n) (natural_of i)) s t _ _ r (λ c e. q (CodeUnit c) s t r (keeps_same s.cells) tt))
-  string_called CharAt Equals u (v ∷ []) s t X k j r q = somes (number_of v) (equals_value t.strings u v) s t _ _
-      (λ i b e d. absurd (no_text v i t.strings u b e d))
-  string_called CharAt y u (v ∷ w ∷ vs) s t X k j r q = wrong_first s (string_call y u (v ∷ w ∷ vs) t j)
-  string_called Equals y u [] s t X k j r q = wrong_first s (string_call y u [] t j)
-  string_called Equals LengthOf u (v ∷ []) s t X k j r q = wrong_second (string_call Equals u (v ∷ []) s k) t
-  string_called Equals CharAt u (v ∷ []) s t X k j r q = somes (equals_value s.strings u v) (number_of v) s t _ _
-      (λ b i d e. absurd (no_text v i s.strings u b e d))
-  string_called Equals Equals u (v ∷ []) s t X k j r q =
+  string_called CharAt u (v ∷ w ∷ vs) s t X k j r q = wrong_first s (stop Wrong t)
+  string_called Equals u [] s t X k j r q = wrong_first s (stop Wrong t)
+  string_called Equals u (v ∷ []) s t X k j r q =
       equals (equals_value s.strings u v) (equals_value t.strings u v) s t _ _ (ap (λ z. equals_value z u v) r.strings)
       (λ b. q (Truth b) s t r (keeps_same s.cells) tt)
-  string_called Equals y u (v ∷ w ∷ vs) s t X k j r q = wrong_first s (string_call y u (v ∷ w ∷ vs) t j)
+  string_called Equals u (v ∷ w ∷ vs) s t X k j r q = wrong_first s (stop Wrong t)

@@ -1,21 +1,20 @@
 -- Two languages that are twins have the same runs: by induction on the steps that are left and on the trees.
 use Rattle.std.proofs.Common.{◌≡◌, ℕ, zero, suc, List, [], ◌∷◌, ◌++◌, Option, Some, refl, sym, ap, ◌∙◌, subst}
 use Rattle.std.specs.Prelude.{Bool, slice_get, slice_set}
-use Rattle.std.proofs.lemmas.Option.{same_Some}
 use Rattle.java_core.specs.Trees.{Ex, Exs, this, call, Target, St, Sts, Arms, st_then, no_st, loop}
-use Rattle.java_core.specs.Types.{Env, string_method}
+use Rattle.java_core.specs.Types.{Env}
 use Rattle.java_meaning.specs.Moment.{Value, Number, Truth, CodeUnit, Nothing, Text, Object, Kind, an_object, an_array, Cell, held, bound, self_of, result_of, ran, State, Frame, Ended, Faulted, Going, Wrong, Outcome, stop, Body, Lang}
 use Rattle.java_core.specs.declared.Fault.TheVariants as fault
 use Rattle.java_meaning.specs.Values.{default_of, convert, arguments, number_of, text_of, bytes_of, line_end}
-use Rattle.java_meaning.specs.Meaning.{Flow, Next, Broke, Continued, Gave, ToValue, ToFlow, Later, write_local, given, enter, call_object, call_on, call_static, call_super, after_one, after_turn, value, values, run_test, run_print, run_initial, run_declare, run_return, run_assign, run_one, run_all, run_arms, meaning, words_cell, start, run_in}
+use Rattle.java_meaning.specs.Meaning.{Flow, Next, Broke, Continued, Gave, ToValue, ToFlow, Later, write_local, given, enter, call_object, text_method, call_on, call_static, call_super, after_one, after_turn, value, values, run_test, run_print, run_initial, run_declare, run_return, run_assign, run_one, run_all, run_arms, meaning, words_cell, start, run_in}
 use Rattle.run_cover.specs.Families.{Set}
 use Rattle.run_cover.specs.Watched.{Of}
 use Rattle.run_cover.proofs.Held.{Keeps, of_kept, keeps_same, keeps_on, member_of, plain_of, default_plain}
 use Rattle.twin_runs.specs.Twins.{Link, spot_of, BothPair, SameCall, SameIf, same_none, same_some, Same, SameAll, SameTarget, SameSt, SameSts, SameArms, SameEnv, AreTwins}
-use Rattle.twin_runs.specs.Twins.{same_number, same_character, same_text, same_truth, same_null, same_this, same_local, same_static_field, same_own_field, same_field, same_index, same_call, same_static_call, same_super_call, same_create, same_create_array, same_cast, same_instance_of, same_unary, same_binary, same_no_ex, same_ex_then, same_to_local, same_to_static, same_to_own, same_to_field, same_to_element, same_declare, same_block, same_assign, same_act, same_print, same_choose, same_loop, same_return, same_break, same_continue, same_no_st, same_st_then, same_no_other, same_otherwise, same_arm}
-use Rattle.twin_runs.proofs.Shapes.{same_convert, same_default, same_arguments, same_at, same_some as shapes_some}
-use Rattle.twin_runs.proofs.States.{Alike, wrong_first, somes, equals, tests, frame, SameValues, same_fields, same_elements, no_cells, more_cells, SameState, HeldIn, held_kept, held_set, KV, KS, KL, KF, kv_on, kf_on, printed, ended, steps, with_cells, cells_at}
-use Rattle.twin_runs.proofs.Moves.{looks, looks_all, given_on, static_set, member_read, own_read, field_write, element_read, element_write, object_made, array_made, cast_done, class_tested}
+use Rattle.twin_runs.specs.Twins.{same_number, same_character, same_text, same_truth, same_null, same_this, same_local, same_static_field, same_own_field, same_field, same_index, same_call, same_static_call, same_super_call, same_create, same_create_array, same_cast, same_instance_of, same_unary, same_binary, same_no_ex, same_ex_then, same_to_local, same_to_static, same_to_own, same_to_field, same_to_element, same_declare, same_block, same_assign, same_act, same_print, same_choose, same_loop, same_return, same_break, same_continue, same_no_st, same_st_then, same_otherwise, same_arm, same_no_other}
+use Rattle.twin_runs.proofs.Shapes.{same_convert, same_default, same_arguments, same_at}
+use Rattle.twin_runs.proofs.States.{Alike, wrong_first, first_some, second_some, equals_at, equals, shapes, tests, frame, SameValues, same_fields, same_elements, no_cells, more_cells, SameState, HeldIn, held_kept, held_set, KV, KS, KL, KF, kv_on, kf_on, printed, ended, steps, with_cells, cells_at}
+use Rattle.twin_runs.proofs.Moves.{looks, looks_first, looks_all, given_on, static_set, member_read, own_read, field_write, element_read, element_write, object_made, array_made, cast_done, class_tested}
 use Rattle.twin_runs.proofs.Operators.{string_given, operated, left_done, unary_done, string_called}
 
 module _ (L M : Lang) (K : Link) (Made : Option ℕ → Kind → Kind → Type 0) (Pair : Body → Body → Type 0) (twins : AreTwins L M K Made Pair) where
@@ -39,11 +38,12 @@ module _ (L M : Lang) (K : Link) (Made : Option ℕ → Kind → Kind → Type 0
       → F g h s k j
       → Alike (write_local L x u (frame g v ls) s k) (write_local M x u (frame h v ls) t j)
   local_written g h env x u v ls s t k j r i q =
-      somes (slice_get g.locals x) (slice_get h.locals x) s t _ _ (λ a b ea eb. somes (slice_get ls x) (slice_get ls x) s t _ _ (λ old new eo en.
+      shapes (slice_get g.locals x) (slice_get h.locals x) s t _ _ (same_at g.locals h.locals x env.locals) (λ a b ea eb shape.
+      equals (slice_get ls x) (slice_get ls x) s t _ _ refl (λ old.
       looks L M K Made Pair twins (bound g.body x) (bound h.body x) (convert a u) (convert b u) s t _ _ r (λ m n r1 o.
       subst (λ z. Alike (k Next (frame g v (slice_set ls x (convert a u))) (record s { met = m }))
       (j Next (frame h v (slice_set ls x z)) (record t { met = n })))
-      (same_convert u a b (same_at g.locals h.locals x a b env.locals ea eb))
+      (same_convert u a b shape)
       (q Next v (slice_set ls x (convert a u)) _ _ r1 (keeps_same s.cells) (held_set L M K Made g s.cells v ls x (convert a u) i o)))))
 
   same_given : (b c : Body) → b.ends ≡ c.ends → (w : Flow) → given b w ≡ given c w
@@ -92,12 +92,11 @@ module _ (L M : Lang) (K : Link) (Made : Option ℕ → Kind → Kind → Type 0
           → Alike (enter L later b v vs s k) (enter M next c v vs t j)
       entered b c p v vs s t k j r o q =
           let z = twins.pairs b c p in
-          somes (arguments b.params vs) (arguments c.params vs) s t _ _ (λ ws us ew eu.
-          let one : ws ≡ us = same_Some ws us (sym ew ∙ same_arguments vs b.params c.params z.params ∙ eu) in
-          looks_all L M K Made Pair twins b.env.body c.env.body ws us s t _ _ r (λ m n r1 seen.
+          equals (arguments b.params vs) (arguments c.params vs) s t _ _ (same_arguments vs b.params c.params z.params) (λ ws.
+          looks_all L M K Made Pair twins b.env.body c.env.body ws ws s t _ _ r (λ m n r1 seen.
           subst (λ l. Alike (later b.code (frame b.env v (ws ++ b.rest)) (record s { met = m }) (λ w f s2. k (given b w) s2))
           (next c.code (frame c.env v l) (record t { met = n }) (λ w f t2. j (given c w) t2)))
-          (ap (λ l. l ++ b.rest) one ∙ ap (λ l. us ++ l) z.rest)
+          (ap (λ l. ws ++ l) z.rest)
           (more.runs b.env c.env z.env b.code c.code z.code v (ws ++ b.rest) (record s { met = m }) (record t { met = n }) _ _ r1
           (record {
             self = o;
@@ -115,14 +114,18 @@ module _ (L M : Lang) (K : Link) (Made : Option ℕ → Kind → Kind → Type 0
       object_called g h a e d a2 x y f at o p k l xs ys vs made (same_fields {c = c} {k = c2} same) s t go on r there q =
           steps L M K Made s t _ _ r (λ n r0.
           let s1 = record s { left = n } in let t1 = record t { left = n } in
-          somes (L.slot g e x) (M.slot h d y) s1 t1 _ _ (λ i j ei ej. somes (L.body c i) (M.body c2 j) s1 t1 _ _ (λ b b2 eb eb2.
-          looks L M K Made Pair twins (ran g.body a b.env.body) (ran h.body a2 b2.env.body) (Object at) (Object at) s1 t1 _ _ r0 (λ m2 n2 r2 o2.
-          let pair = f.bodies o c c2 i j b b2 made ei ej eb eb2
-          (member_of s.cells at (record { site = o; kind = an_object c; values = xs }) (K.may (ran g.body a b.env.body)) o2 there) in
+          first_some (L.slot g e x) s1 _ _ (λ i ei. first_some (L.body c i) s1 _ _ (λ b eb.
+          looks_first L M K Made Pair twins (ran g.body a b.env.body) (Object at) s1 _ _ (λ seen.
+          let found = f.bodies o c c2 i b made ei eb
+          (member_of s.cells at (record { site = o; kind = an_object c; values = xs }) (K.may (ran g.body a b.env.body))
+          (twins.sees (ran g.body a b.env.body) (Object at) s.cells seen) there) in
+          let b2 = found.runs.body in
+          second_some (M.slot h d y) found.slot t1 _ _ found.called (second_some (M.body c2 found.slot) b2 t1 _ _ found.runs.found
+          (looks L M K Made Pair twins (ran g.body a b.env.body) (ran h.body a2 b2.env.body) (Object at) (Object at) s1 t1 _ _ r0 (λ m2 n2 r2 o2.
           looks L M K Made Pair twins (self_of b.env.body) (self_of b2.env.body) (Object at) (Object at) (record s1 { met = m2 })
           (record t1 { met = n2 }) _ _ r2 (λ m3 n3 r3 o3.
-          entered b b2 pair (Object at) vs (record s1 { met = m3 }) (record t1 { met = n3 }) _ _ r3 o3 (λ u s4 t4 r4 k4.
-          given_on L M K Made Pair twins g.body h.body a a2 u u s4 t4 go on refl r4 (kv_on L M K Made s.cells s4.cells (K.may (held g.body a)) go on k4 q)))))))
+          entered b b2 found.runs.pair (Object at) vs (record s1 { met = m3 }) (record t1 { met = n3 }) _ _ r3 o3 (λ u s4 t4 r4 k4.
+          given_on L M K Made Pair twins g.body h.body a a2 u u s4 t4 go on refl r4 (kv_on L M K Made s.cells s4.cells (K.may (held g.body a)) go on k4 q))))))))))
       object_called g h a e d a2 x y f at o p k l xs ys vs made (same_elements {t = w} {u = w2} shape) s t go on r there q =
           wrong_first s (call_object M next h d a2 y at (record { site = p; kind = an_array w2; values = xs }) vs t on)
 
@@ -132,10 +135,10 @@ module _ (L M : Lang) (K : Link) (Made : Option ℕ → Kind → Kind → Type 0
       called g h a e d a2 x y f Nothing vs s t k j r q = ended L M K Made (Faulted fault.Null) s t r
       called g h a e d a2 x y f (Text at) vs s t k j r q =
           equals (slice_get s.strings at) (slice_get t.strings at) s t _ _ (ap (λ z. slice_get z at) r.strings) (λ u.
-          somes (string_method x) (string_method y) s t _ _ (λ m n em en. string_called L M K Made m n u vs s t (K.may (held g.body a)) k j r q))
+          first_some (text_method (L.slot g e x) x) s _ _ (λ m em. second_some (text_method (M.slot h d y) y) m t _ _ (f.texts m em)
+          (string_called L M K Made m u vs s t (K.may (held g.body a)) k j r q)))
       called g h a e d a2 x y f (Object at) vs s t k j r q =
-          somes (slice_get s.cells at) (slice_get t.cells at) s t _ _ (λ c c2 ec ec2.
-          let same = cells_at L M K Made s t r at c c2 ec ec2 in
+          cells_at L M K Made at s t _ _ r (λ c c2 ec same.
           object_called g h a e d a2 x y f at c.site c2.site c.kind c2.kind c.values c2.values vs same.made same.values s t k j r ec q)
       called g h a e d a2 x y f (Number n) vs s t k j r q = wrong_first s (stop Wrong t)
       called g h a e d a2 x y f (Truth n) vs s t k j r q = wrong_first s (stop Wrong t)
@@ -145,19 +148,22 @@ module _ (L M : Lang) (K : Link) (Made : Option ℕ → Kind → Kind → Type 0
           → (vs : List Value) (s t : State) (k j : ToValue) → R s t → V s (K.may (held g.body a)) k j
           → Alike (call_static L later g a m vs s k) (call_static M next h a2 n vs t j)
       static_called g h a a2 m n f vs s t k j r q =
-          steps L M K Made s t _ _ r (λ l r1. somes (L.static_body m) (M.static_body n) (record s { left = l }) (record t { left = l }) _ _ (λ b c eb ec.
-          entered b c (f b c eb ec) Nothing vs (record s { left = l }) (record t { left = l }) _ _ r1 tt (λ u s2 t2 r2 k2.
-          given_on L M K Made Pair twins g.body h.body a a2 u u s2 t2 k j refl r2 (kv_on L M K Made s.cells s2.cells (K.may (held g.body a)) k j k2 q))))
+          steps L M K Made s t _ _ r (λ l r1. first_some (L.static_body m) (record s { left = l }) _ _ (λ b eb.
+          let p = f b eb in let c = p.body in
+          second_some (M.static_body n) c (record t { left = l }) _ _ p.found
+          (entered b c p.pair Nothing vs (record s { left = l }) (record t { left = l }) _ _ r1 tt (λ u s2 t2 r2 k2.
+          given_on L M K Made Pair twins g.body h.body a a2 u u s2 t2 k j refl r2 (kv_on L M K Made s.cells s2.cells (K.may (held g.body a)) k j k2 q)))))
 
       super_called : (g h : Env) (a a2 : Ex) (x y : List ℕ) → BothPair L M K Made Pair (L.super_body g.self x) (M.super_body h.self y)
           → (v : Value) (vs : List Value) (s t : State) (k j : ToValue) → R s t → V s (K.may (held g.body a)) k j
           → Alike (call_super L later g a x v vs s k) (call_super M next h a2 y v vs t j)
       super_called g h a a2 x y f v vs s t k j r q =
-          steps L M K Made s t _ _ r (λ l r1. somes (L.super_body g.self x) (M.super_body h.self y) (record s { left = l }) (record t { left = l }) _ _
-          (λ b c eb ec.
-          looks L M K Made Pair twins (self_of b.env.body) (self_of c.env.body) v v (record s { left = l }) (record t { left = l }) _ _ r1 (λ m2 n2 r2 o2.
-          entered b c (f b c eb ec) v vs (record s { left = l; met = m2 }) (record t { left = l; met = n2 }) _ _ r2 o2 (λ u s3 t3 r3 k3.
-          given_on L M K Made Pair twins g.body h.body a a2 u u s3 t3 k j refl r3 (kv_on L M K Made s.cells s3.cells (K.may (held g.body a)) k j k3 q)))))
+          steps L M K Made s t _ _ r (λ l r1. first_some (L.super_body g.self x) (record s { left = l }) _ _ (λ b eb.
+          let p = f b eb in let c = p.body in
+          second_some (M.super_body h.self y) c (record t { left = l }) _ _ p.found
+          (looks L M K Made Pair twins (self_of b.env.body) (self_of c.env.body) v v (record s { left = l }) (record t { left = l }) _ _ r1 (λ m2 n2 r2 o2.
+          entered b c p.pair v vs (record s { left = l; met = m2 }) (record t { left = l; met = n2 }) _ _ r2 o2 (λ u s3 t3 r3 k3.
+          given_on L M K Made Pair twins g.body h.body a a2 u u s3 t3 k j refl r3 (kv_on L M K Made s.cells s3.cells (K.may (held g.body a)) k j k3 q))))))
 
       module _ (g h : Env) (env : SameEnv L M K Made Pair g h) where
         kept_in : (s s1 : State) (v : Value) (ls : List Value) → Keeps s.cells s1.cells → In g s v ls → In g s1 v ls
@@ -180,20 +186,18 @@ module _ (L M : Lang) (K : Link) (Made : Option ℕ → Kind → Kind → Type 0
           value_same same_null v ls s t k j r i q = q Nothing s t r (keeps_same s.cells) tt
           value_same same_this v ls s t k j r i q = q v s t r (keeps_same s.cells) i.self
           value_same (same_local {i = x}) v ls s t k j r i q =
-              somes (slice_get ls x) (slice_get ls x) s t _ _
-              (λ u w eu ew. subst (λ z. Alike (k u s) (j z t)) (same_Some u w (sym eu ∙ ew)) (q u s t r (keeps_same s.cells) (i.locals x u eu)))
+              equals_at (slice_get ls x) (slice_get ls x) s t _ _ refl (λ u eu. q u s t r (keeps_same s.cells) (i.locals x u eu))
           value_same (same_static_field {f = x} {j = y} f) v ls s t k j r i q =
-              somes (slice_get s.statics x) (slice_get t.statics y) s t _ _ (λ u w eu ew.
-              subst (λ z. Alike (k u s) (j z t)) (same_Some u w (sym eu ∙ r.statics x f.static ∙ ap (slice_get t.statics) (sym f.new) ∙ ew))
-              (q u s t r (keeps_same s.cells) (r.held x u eu)))
+              equals_at (slice_get s.statics x) (slice_get t.statics y) s t _ _ (r.statics x f.static ∙ ap (slice_get t.statics) (sym f.new))
+              (λ u eu. q u s t r (keeps_same s.cells) (r.held x u eu))
           value_same (same_own_field {t = a} {u = b} {v = c} {f = x} {y = y} f) v ls s t k j r i q =
               with_cells L M K Made v s t _ _ r (λ at z w ev there same.
               own_read L M K Made Pair twins g h (this a) (Some x) (M.field h (this c) y) f _
               (this c) _ y refl at z.site w.site z.kind w.kind z.values w.values same.made same.values s t k j r there q)
-          value_same (same_field {t = a} {u = b} {e = e} {d = d} {x = x} {y = y} p f) v ls s t k j r i q =
+          value_same (same_field {t = a} {u = b} {e = e} {d = d} {x = x} {y = y} p f len) v ls s t k j r i q =
               value_same p v ls s t _ _ r i (λ u s1 t1 r1 k1 o1. with_cells L M K Made u s1 t1 _ _ r1 (λ at z w ev there same.
               member_read L M K Made Pair twins g h e (L.field g e x)
-              (M.field h d y) f _ d _ x y refl refl at z.site w.site z.kind w.kind z.values w.values same.made same.values s1 t1 k j r1 there
+              (M.field h d y) f _ d _ x y refl refl len at z.site w.site z.kind w.kind z.values w.values same.made same.values s1 t1 k j r1 there
               (on_value s s1 _ k j k1 q)))
           value_same (same_index {t = a} {u = b} {e = e} {d = d} {i = x} {j = y} p p2) v ls s t k j r i q =
               value_same p v ls s t _ _ r i (λ u s1 t1 r1 k1 o1. value_same p2 v ls s1 t1 _ _ r1 (kept_in s s1 v ls k1 i) (λ w s2 t2 r2 k2 o2.
@@ -260,10 +264,11 @@ module _ (L M : Lang) (K : Link) (Made : Option ℕ → Kind → Kind → Type 0
             → In g s v ls → F g h s k j
             → Alike (run_declare L later x e (frame g v ls) s k) (run_declare M next x d (frame h v ls) t j)
         declare_same x {e = e} {d = d} p v ls s t k j r i q =
-            somes (slice_get g.locals x) (slice_get h.locals x) s t _ _ (λ a b ea eb. somes (slice_get ls x) (slice_get ls x) s t _ _ (λ old new eo en.
+            shapes (slice_get g.locals x) (slice_get h.locals x) s t _ _ (same_at g.locals h.locals x env.locals) (λ a b ea eb shape.
+            equals (slice_get ls x) (slice_get ls x) s t _ _ refl (λ old.
             subst (λ z. Alike (run_initial L later x e (frame g v (slice_set ls x (default_of a))) s k)
             (run_initial M next x d (frame h v (slice_set ls x z)) t j))
-            (same_default a b (same_at g.locals h.locals x a b env.locals ea eb))
+            (same_default a b shape)
             (initial_same x p v (slice_set ls x (default_of a)) s t k j r
             (held_set L M K Made g s.cells v ls x (default_of a) i
             (plain_of s.cells (default_of a) (K.may (bound g.body x)) (λ n c. default_plain a.base a.dim n c))) q)))
@@ -273,10 +278,10 @@ module _ (L M : Lang) (K : Link) (Made : Option ℕ → Kind → Kind → Type 0
             → Alike (run_return L later e (frame g v ls) s k) (run_return M next d (frame h v ls) t j)
         return_same same_none v ls s t k j r i q = q (Gave Nothing) v ls s t r (keeps_same s.cells) i
         return_same (same_some p) v ls s t k j r i q =
-            value_same p v ls s t _ _ r i (λ u s1 t1 r1 k1 o1. somes g.result h.result s1 t1 _ _ (λ a b ea eb.
+            value_same p v ls s t _ _ r i (λ u s1 t1 r1 k1 o1. shapes g.result h.result s1 t1 _ _ env.result (λ a b ea eb shape.
             looks L M K Made Pair twins (result_of g.body) (result_of h.body) (convert a u) (convert b u) s1 t1 _ _ r1 (λ m n r2 o2.
             subst (λ z. Alike (k (Gave (convert a u)) (frame g v ls) (record s1 { met = m })) (j (Gave z) (frame h v ls) (record t1 { met = n })))
-            (same_convert u a b (shapes_some g.result h.result a b env.result ea eb))
+            (same_convert u a b shape)
             (q (Gave (convert a u)) v ls _ _ r2 k1 (kept_in s s1 v ls k1 i)))))
 
         flow_on : (s s1 : State) (v : Value) (ls : List Value) (k j : ToFlow) → Keeps s.cells s1.cells → In g s v ls → F g h s k j
@@ -379,7 +384,9 @@ module _ (L M : Lang) (K : Link) (Made : Option ℕ → Kind → Kind → Type 0
       → Alike (run_in L m words n) (run_in M p words n)
   unfolding run_in
   same_run m p f words n =
-      somes (L.static_body m) (M.static_body p) (start L words n) (start M words n) _ _ (λ b c eb ec.
-      entered (meaning L (suc n)) (meaning M (suc n)) (meaning_same (suc n)) b c (f b c eb ec) Nothing (Object 0 ∷ []) (start L words n) (start M words n) _ _
+      first_some (L.static_body m) (start L words n) _ _ (λ b eb.
+      let z = f b eb in let c = z.body in
+      second_some (M.static_body p) c (start M words n) _ _ z.found
+      (entered (meaning L (suc n)) (meaning M (suc n)) (meaning_same (suc n)) b c z.pair Nothing (Object 0 ∷ []) (start L words n) (start M words n) _ _
       (start_same words n) tt
-      (λ v s t r k. ended L M K Made Ended s t r))
+      (λ v s t r k. ended L M K Made Ended s t r)))

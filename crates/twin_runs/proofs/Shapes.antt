@@ -1,5 +1,5 @@
 -- Types of one shape: values flow into both in the same way.
-use Rattle.std.proofs.Common.{◌≡◌, ℕ, zero, suc, List, [], ◌∷◌, Option, Some, refl, sym, ap, ◌∙◌}
+use Rattle.std.proofs.Common.{◌≡◌, ℕ, zero, suc, List, [], ◌∷◌, Option, Some, None, refl, sym, ap, ◌∙◌}
 use Rattle.std.specs.Prelude.{ℤ, map, slice_get}
 use Rattle.std.specs.Option.{option_map}
 use Rattle.std.proofs.lemmas.Option.{same_Some, slice_get-map}
@@ -70,9 +70,8 @@ element_shape b zero = refl
 element_shape b (suc d) = refl
 
 -- arrays of one shape have elements of one
-pub same_element : (t u x y : Ty) → shape_of t ≡ shape_of u → element_in t.base t.dim ≡ Some x → element_in u.base u.dim ≡ Some y → shape_of x ≡ shape_of y
-same_element t u x y e p q = same_Some _ _ (sym (ap (option_map shape_of) p) ∙ element_shape t.base t.dim ∙ ap (λ z. element_in z.base z.dim) e
-    ∙ sym (element_shape u.base u.dim) ∙ ap (option_map shape_of) q)
+pub same_element : (t u : Ty) → shape_of t ≡ shape_of u → option_map shape_of (element_in t.base t.dim) ≡ option_map shape_of (element_in u.base u.dim)
+same_element t u e = element_shape t.base t.dim ∙ ap (λ z. element_in z.base z.dim) e ∙ sym (element_shape u.base u.dim)
 
 arguments_shape : (ts : List Ty) (vs : List Value) → arguments (map shape_of ts) vs ≡ arguments ts vs
 arguments_shape [] [] = refl
@@ -85,13 +84,13 @@ pub same_arguments : (vs : List Value) (ts us : List Ty) → map shape_of ts ≡
 same_arguments vs ts us e = sym (arguments_shape ts vs) ∙ ap (λ z. arguments z vs) e ∙ arguments_shape us vs
 
 -- types in one place of two lists of one shape
-pub same_at : (ts us : List Ty) (i : ℕ) (t u : Ty) → map shape_of ts ≡ map shape_of us → slice_get ts i ≡ Some t → slice_get us i ≡ Some u
-    → shape_of t ≡ shape_of u
-same_at ts us i t u e p q = same_Some _ _ (sym (slice_get-map shape_of ts i ∙ ap (option_map shape_of) p) ∙ ap (λ z. slice_get z i) e
-    ∙ slice_get-map shape_of us i ∙ ap (option_map shape_of) q)
+pub same_at : (ts us : List Ty) (i : ℕ) → map shape_of ts ≡ map shape_of us → option_map shape_of (slice_get ts i) ≡ option_map shape_of (slice_get us i)
+same_at ts us i e = sym (slice_get-map shape_of ts i) ∙ ap (λ z. slice_get z i) e ∙ slice_get-map shape_of us i
 
-pub same_some : (o p : Option Ty) (t u : Ty) → option_map shape_of o ≡ option_map shape_of p → o ≡ Some t → p ≡ Some u → shape_of t ≡ shape_of u
-same_some o p t u e f g = same_Some _ _ (sym (ap (option_map shape_of) f) ∙ e ∙ ap (option_map shape_of) g)
+-- a type of the shape is there where one is
+pub shape_there : (o p : Option Ty) (t : Ty) → option_map shape_of o ≡ option_map shape_of p → o ≡ Some t → (u : Ty) × (p ≡ Some u) × (shape_of t ≡ shape_of u)
+shape_there o None t e f = absurd (let z = sym (ap (option_map shape_of) f) ∙ e in cc)
+shape_there o (Some u) t e f = (u, refl, same_Some (shape_of t) (shape_of u) (sym (ap (option_map shape_of) f) ∙ e))
 
 defaults_shape : (ts : List Ty) → map default_of (map shape_of ts) ≡ map default_of ts
 defaults_shape [] = refl

@@ -1,7 +1,7 @@
 -- Two states that are the same but for classes and places, and ends that agree.
 use Rattle.std.proofs.Common.{◌≡◌, ℕ, zero, suc, List, [], ◌∷◌, ◌++◌, Option, Some, None, length, refl, sym, ap, ◌∙◌, subst, ⊎_elim}
 use Rattle.std.specs.Prelude.{◌≢◌, Bool, true, false, slice_get, slice_set}
-use Rattle.std.specs.Option.{option_and_then}
+use Rattle.std.specs.Option.{option_map, option_and_then}
 use Rattle.std.specs.declared.result.Result.{Result}
 use Rattle.std.specs.declared.result.Result.TheVariants.{Ok, Err}
 use Rattle.std.proofs.lemmas.Bool.{cases_eq}
@@ -18,38 +18,50 @@ use Rattle.run_cover.specs.Watched.{Of}
 use Rattle.run_cover.proofs.Lists.{set_cases}
 use Rattle.run_cover.proofs.Held.{Keeps, of_kept, keeps_on, keeps_set, keeps_add}
 use Rattle.twin_runs.specs.Twins.{shape_of, Link, value_at}
+use Rattle.twin_runs.proofs.Shapes.{shape_there}
 
--- the outcomes are one but for what they noted, unless the first is wrong or escapes, or the second is wrong
+-- the outcomes are one but for what they noted, unless the first is wrong or escapes
 unfoldable pub Alike : Outcome → Outcome → Type 0
-Alike o p = o.end ≢ Wrong → o.end ≢ Escaped → p.end ≢ Wrong → unnoted o ≡ unnoted p
+Alike o p = o.end ≢ Wrong → o.end ≢ Escaped → unnoted o ≡ unnoted p
 
 pub wrong_first : (s : State) (p : Outcome) → Alike (stop Wrong s) p
 unfolding Alike
-wrong_first s p a b c = absurd (a refl)
+wrong_first s p a b = absurd (a refl)
 
 pub escaped_first : (s : State) (p : Outcome) → Alike (stop Escaped s) p
 unfolding Alike
-escaped_first s p a b c = absurd (b refl)
-
-pub wrong_second : (o : Outcome) (t : State) → Alike o (stop Wrong t)
-unfolding Alike
-wrong_second o t a b c = absurd (c refl)
+escaped_first s p a b = absurd (b refl)
 
 ends_alike : (e : End) (s t : State) → s.out ≡ t.out → s.left ≡ t.left → Alike (stop e s) (stop e t)
 unfolding Alike
-ends_alike e s t o l a b c = λ i. record { end = e; out = o i; left = l i; met = [] }
+ends_alike e s t o l a b = λ i. record { end = e; out = o i; left = l i; met = [] }
 
--- what is there in both
-pub somes : {A B : Type 0} (o : Option A) (p : Option B) (s t : State) (k : A → Outcome) (j : B → Outcome)
-    → ((a : A) (b : B) → o ≡ Some a → p ≡ Some b → Alike (k a) (j b))
+-- what is there in the first, and in the second
+pub first_some : {A : Type 0} (o : Option A) (s : State) (k : A → Outcome) (q : Outcome) → ((a : A) → o ≡ Some a → Alike (k a) q) → Alike (with_some o s k) q
+first_some None s k q h = wrong_first s q
+first_some (Some a) s k q h = h a refl
+
+pub second_some : {A : Type 0} (o : Option A) (a : A) (t : State) (q : Outcome) (j : A → Outcome) → o ≡ Some a → Alike q (j a) → Alike q (with_some o t j)
+second_some o a t q j e h = subst (λ z. Alike q (with_some z t j)) (sym e) h
+
+-- what is one in both
+pub equals_at : {A : Type 0} (o p : Option A) (s t : State) (k j : A → Outcome) → o ≡ p → ((a : A) → o ≡ Some a → Alike (k a) (j a))
     → Alike (with_some o s k) (with_some p t j)
-somes None p s t k j h = wrong_first s (with_some p t j)
-somes (Some a) None s t k j h = wrong_second (k a) t
-somes (Some a) (Some b) s t k j h = h a b refl refl
+equals_at o p s t k j e h = first_some o s k (with_some p t j) (λ a f. second_some p a t (k a) j (sym e ∙ f) (h a f))
 
 pub equals : {A : Type 0} (o p : Option A) (s t : State) (k j : A → Outcome) → o ≡ p → ((a : A) → Alike (k a) (j a)) → Alike (with_some o s k) (with_some p t j)
-equals o p s t k j e h = subst (λ z. Alike (with_some o s k) (with_some z t j)) e
-    (somes o o s t k j (λ a b f d. subst (λ z. Alike (k a) (j z)) (same_Some a b (sym f ∙ d)) (h a)))
+equals o p s t k j e h = equals_at o p s t k j e (λ a f. h a)
+
+-- types of one shape
+pub shapes : (o p : Option Ty) (s t : State) (k j : Ty → Outcome) → option_map shape_of o ≡ option_map shape_of p
+    → ((a b : Ty) → o ≡ Some a → p ≡ Some b → shape_of a ≡ shape_of b → Alike (k a) (j b)) → Alike (with_some o s k) (with_some p t j)
+shapes o p s t k j e h = first_some o s k (with_some p t j) (λ a f. let b = shape_there o p a e f in second_some p b.0 t (k a) j b.1 (h a b.0 f b.1 b.2))
+
+-- a test that the first passes
+pub passed : (b c : Bool) (s t : State) (x z : State → Outcome) → (b ≡ true → c ≡ true) → Alike (x s) (z t)
+    → Alike (on_bool b s x (stop Wrong)) (on_bool c t z (stop Wrong))
+passed false c s t x z h d = wrong_first s (on_bool c t z (stop Wrong))
+passed true c s t x z h d = subst (λ w. Alike (x s) (on_bool w t z (stop Wrong))) (sym (h refl)) d
 
 pub bools : (b c : Bool) (s t : State) (x y z w : State → Outcome) → b ≡ c → (b ≡ true → Alike (x s) (z t)) → (b ≡ false → Alike (y s) (w t))
     → Alike (on_bool b s x y) (on_bool c t z w)
@@ -96,10 +108,16 @@ module _ (L M : Lang) (K : Link) (Made : Option ℕ → Kind → Kind → Type 0
     no_cells : Cells [] []
     more_cells : {c d : Cell} {h k : List Cell} → SameCell c d → Cells h k → Cells (c ∷ h) (d ∷ k)
 
-  cells_get : {h k : List Cell} → Cells h k → (a : ℕ) (c d : Cell) → slice_get h a ≡ Some c → slice_get k a ≡ Some d → SameCell c d
-  cells_get no_cells a c d e f = absurd (cc)
-  cells_get (more_cells {c = x} {d = y} r rs) zero c d e f = subst (λ z. SameCell z d) (same_Some x c e) (subst (λ z. SameCell x z) (same_Some y d f) r)
-  cells_get (more_cells r rs) (suc a) c d e f = cells_get rs a c d e f
+  -- a cell of the second in one place with one of the first
+  pub record HasCell (k : List Cell) (a : ℕ) (c : Cell) : Type 0 where
+    pub cell : Cell
+    pub there : slice_get k a ≡ Some cell
+    pub same : SameCell c cell
+
+  cells_get : {h k : List Cell} → Cells h k → (a : ℕ) (c : Cell) → slice_get h a ≡ Some c → HasCell k a c
+  cells_get no_cells a c e = absurd (cc)
+  cells_get (more_cells {c = x} {d = y} r rs) zero c e = record { cell = y; there = refl; same = subst (λ z. SameCell z y) (same_Some x c e) r }
+  cells_get (more_cells r rs) (suc a) c e = let d = cells_get rs a c e in record { cell = d.cell; there = d.there; same = d.same }
 
   cells_set : {h k : List Cell} (c d : Cell) → Cells h k → (a : ℕ) → SameCell c d → Cells (slice_set h a c) (slice_set k a d)
   cells_set c d no_cells a r = no_cells
@@ -199,8 +217,11 @@ module _ (L M : Lang) (K : Link) (Made : Option ℕ → Kind → Kind → Type 0
     left = r.left;
   }
 
-  pub cells_at : (s t : State) → SameState s t → (a : ℕ) (c d : Cell) → slice_get s.cells a ≡ Some c → slice_get t.cells a ≡ Some d → SameCell c d
-  cells_at s t r a c d e f = cells_get r.cells a c d e f
+  pub cells_at : (a : ℕ) (s t : State) (k j : Cell → Outcome) → SameState s t → ((c d : Cell) → slice_get s.cells a ≡ Some c → SameCell c d → Alike (k c) (j d))
+      → Alike (with_some (slice_get s.cells a) s k) (with_some (slice_get t.cells a) t j)
+  cells_at a s t k j r h =
+      first_some (slice_get s.cells a) s k (with_some (slice_get t.cells a) t j)
+      (λ c e. let d = cells_get r.cells a c e in second_some (slice_get t.cells a) d.cell t (k c) j d.there (h c d.cell e d.same))
 
   pub same_length : (s t : State) → SameState s t → length s.cells ≡ length t.cells
   same_length s t r = cells_length r.cells
@@ -278,7 +299,7 @@ module _ (L M : Lang) (K : Link) (Made : Option ℕ → Kind → Kind → Type 0
       → ((a : ℕ) (c d : Cell) → v ≡ Object a → slice_get s.cells a ≡ Some c → SameCell c d → Alike (k a c) (j a d))
       → Alike (with_cell v s k) (with_cell v t j)
   with_cells Nothing s t k j r h = ended (Faulted fault.Null) s t r
-  with_cells (Object a) s t k j r h = somes (slice_get s.cells a) (slice_get t.cells a) s t _ _ (λ c d e f. h a c d refl e (cells_get r.cells a c d e f))
+  with_cells (Object a) s t k j r h = cells_at a s t (k a) (j a) r (λ c d e same. h a c d refl e same)
   with_cells (Number n) s t k j r h = wrong_first s (stop Wrong t)
   with_cells (Truth b) s t k j r h = wrong_first s (stop Wrong t)
   with_cells (CodeUnit c) s t k j r h = wrong_first s (stop Wrong t)

@@ -1,7 +1,7 @@
 -- Two small programs that are twins: the second has other names, numbers of classes and fields. Their runs are the same.
 use Rattle.std.proofs.Common.{◌≡◌, ℕ, zero, suc, List, [], ◌∷◌, Option, Some, None, refl, sym, ap, ◌∙◌, subst}
 use Rattle.std.specs.Prelude.{pos, Bool, true, false, ◌==◌, ◌&&◌, slice_get, codes}
-use Rattle.std.specs.Option.{option_map_or}
+use Rattle.std.specs.Option.{option_map, option_map_or}
 use Rattle.std.proofs.lemmas.Bool.{false≢true, and_parts, eqb-true}
 use Rattle.std.proofs.lemmas.Option.{same_Some}
 use Rattle.kaba_base.specs.declared.ClassId.{ClassId}
@@ -18,7 +18,7 @@ use Rattle.java_meaning.specs.Meaning.{words_type, element_type, run_in}
 use Rattle.java_meaning.specs.Languages.{layout, body_with, language_of}
 use Rattle.java_meaning.proofs.Layouts.{places}
 use Rattle.run_cover.specs.Watched.{Of}
-use Rattle.twin_runs.specs.Twins.{shape_of, Link, value_at, same_number, same_local, same_own_field, same_index, same_call, same_super_call, same_create, same_create_array, same_cast, same_binary, same_no_ex, same_some, same_to_field, same_to_element, same_declare, same_assign, same_print, same_return, same_no_st, same_st_then, SameBody, AreTwins}
+use Rattle.twin_runs.specs.Twins.{shape_of, Link, value_at, same_number, same_local, same_own_field, same_index, same_call, same_super_call, same_create, same_create_array, same_cast, same_binary, same_no_ex, same_some, same_to_field, same_to_element, same_declare, same_assign, same_print, same_return, same_no_st, same_st_then, HasPair, SameBody, AreTwins}
 use Rattle.twin_runs.proofs.States.{Alike}
 use Rattle.twin_runs.proofs.SameRun.{same_run}
 
@@ -200,8 +200,11 @@ all_of (w ∷ vs) h e (suc i) v d = all_of vs h (and_parts (passes_at (λ o. tru
 only : (f : ℕ) (o : Option ℕ) → ((f == 0) && is_first o) ≡ true → f ≡ 0
 only f o e = eqb-true f 0 (and_parts (f == 0) (is_first o) e).0
 
-paired : (x y b p : Body) → Pair x y → Some x ≡ Some b → Some y ≡ Some p → Pair b p
-paired x y b p r e d = subst (λ z. Pair z p) (same_Some x b e) (subst (λ z. Pair x z) (same_Some y p d) r)
+paired : (x y b : Body) → Pair x y → Some x ≡ Some b → Pair b y
+paired x y b r e = subst (λ z. Pair z y) (same_Some x b e) r
+
+has_pair : (x y b : Body) (q : Option Body) → Pair x y → Some x ≡ Some b → q ≡ Some y → HasPair old_language new_language link Made Pair b q
+has_pair x y b q r e f = record { body = y; found = f; pair = paired x y b r e }
 
 abbrev old_second_body : Body
 old_second_body = body_with 1 old_second (super_sum (codes "m"))
@@ -225,19 +228,17 @@ same_class : (k : Kind) (c d : ℕ) → k ≡ an_object c → an_object d ≡ k 
 same_class k c d e f = same_Some d c (ap own_class (f ∙ e))
 
 -- the call runs the second bodies
-call_pair : (o : Option ℕ) (c k i j : ℕ) (b p : Body) → kind_in 1 2 o ≡ an_object c → kind_in 2 3 o ≡ an_object k → Some 0 ≡ Some i → Some 0 ≡ Some j
-    → old_language.body c i ≡ Some b → new_language.body k j ≡ Some p → Pair b p
+call_pair : (o : Option ℕ) (c k i : ℕ) (b : Body) → kind_in 1 2 o ≡ an_object c → kind_in 2 3 o ≡ an_object k → Some 0 ≡ Some i
+    → old_language.body c i ≡ Some b → HasPair old_language new_language link Made Pair b (new_language.body k 0)
 unfolding lookup
-call_pair None c k i j b p ek el ei ej eb ep = absurd (let z = ap own_class ek in cc)
-call_pair (Some (suc n)) c k i j b p ek el ei ej eb ep = absurd (let z = ap own_class ek in cc)
-call_pair (Some zero) c k i j b p ek el ei ej eb ep =
+call_pair None c k i b ek el ei eb = absurd (let z = ap own_class ek in cc)
+call_pair (Some (suc n)) c k i b ek el ei eb = absurd (let z = ap own_class ek in cc)
+call_pair (Some zero) c k i b ek el ei eb =
     let one : old_language.body 2 0 ≡ Some b =
     subst (λ z. old_language.body z 0 ≡ Some b) (sym (same_class (an_object 2) c 2 ek refl))
     (subst (λ z. old_language.body c z ≡ Some b) (sym (same_Some 0 i ei)) eb) in
-    let two : new_language.body 3 0 ≡ Some p =
-    subst (λ z. new_language.body z 0 ≡ Some p) (sym (same_class (an_object 3) k 3 el refl))
-    (subst (λ z. new_language.body k z ≡ Some p) (sym (same_Some 0 j ej)) ep) in
-    paired old_second_body new_second_body b p pair_second one two
+    has_pair old_second_body new_second_body b (new_language.body k 0) pair_second one
+    (subst (λ z. new_language.body z 0 ≡ Some new_second_body) (same_class (an_object 3) k 3 el refl) refl)
 
 cast_same : (o : Option ℕ) → old_language.is_sub (own_type (kind_in 1 2 o)) (class_type 2) ≡ new_language.is_sub (own_type (kind_in 2 3 o)) (class_type 3)
 unfolding below
@@ -292,7 +293,7 @@ bodies_same b c pair_first = record {
   plain = λ i a e. absurd (cc);
   ends = refl;
   code = same_st_then (same_return (same_some (same_own_field
-      (record { new = λ f j e d. sym (same_Some 1 j d); had = λ f e o c k made m. subst (λ z. ((z == 0) && is_first o) ≡ true) (same_Some 0 f e) m }))))
+      (record { new = λ f e. refl; had = λ f e o c k made m. subst (λ z. ((z == 0) && is_first o) ≡ true) (same_Some 0 f e) m }))))
       same_no_st;
 }
 bodies_same b c pair_second = record {
@@ -302,7 +303,7 @@ bodies_same b c pair_second = record {
   plain = λ i a e. absurd (cc);
   ends = refl;
   code = same_st_then (same_return (same_some (same_binary
-      (same_super_call same_no_ex (λ b c e d. paired old_first_body new_first_body b c pair_first e d)) same_number))) same_no_st;
+      (same_super_call same_no_ex (λ b e. has_pair old_first_body new_first_body b _ pair_first e refl)) same_number))) same_no_st;
 }
 bodies_same b c pair_main = record {
   env = record { locals = refl; result = refl };
@@ -315,13 +316,16 @@ bodies_same b c pair_main = record {
       (same_create same_no_ex (record { made = record { old = refl; new = refl }; values = λ f h. first_values f (only f (Some 0) h) }))))
       (same_st_then (same_declare (same_some (same_create_array same_number (record { made = record { old = refl; new = refl }; shape = refl }))))
       (same_st_then (same_assign (same_to_field same_local
-      (record { new = λ f j e d. sym (same_Some 1 j d); had = λ f e o c k made m. subst (λ z. ((z == 0) && is_first o) ≡ true) (same_Some 0 f e) m }))
+      (record { new = λ f e. refl; had = λ f e o c k made m. subst (λ z. ((z == 0) && is_first o) ≡ true) (same_Some 0 f e) m }))
       same_number)
       (same_st_then (same_assign (same_to_element same_local same_number (λ o q a b k l t u made held e d mo mq. store_made o q a b k l t u made held e d))
       same_local)
       (same_st_then (same_declare (same_some (same_cast (same_index same_local same_number) refl (λ e o k l made m. cast_made o k l made))))
       (same_st_then (same_print (same_some (same_call same_local same_no_ex
-      (record { bodies = λ o c k i j b p made ei ej eb ep m. call_pair o c k i j b p made.old made.new ei ej eb ep })))) same_no_st)))));
+      (record {
+        bodies = λ o c k i b made ei eb m. record { slot = 0; called = refl; runs = call_pair o c k i b made.old made.new ei eb };
+        texts = λ m e. absurd (cc);
+      })))) same_no_st)))));
 }
   where
     main_plain : (i a : ℕ) → slice_get (Nothing ∷ Nothing ∷ Nothing ∷ []) i ≡ Some (Object a) → ⊥
@@ -343,10 +347,9 @@ twins = record {
   old_places = places old_program;
   new_places = places new_program;
   fields_apart = λ o f k hf hk e. only f o hf ∙ sym (only k o hk);
-  field_shapes = λ o f t u h e d. ap shape_of
-      (sym (same_Some (plain_type Int) t (subst (λ z. old_language.field_type z ≡ Some t) (only f o h) e)) ∙ same_Some (plain_type Int) u d);
+  field_shapes = λ o f h. ap (λ z. option_map shape_of (old_language.field_type z)) (only f o h);
   statics_apart = λ f k hf hk e. absurd (false≢true hf);
-  static_shapes = λ f t u h e d. absurd (false≢true h);
+  static_shapes = λ f h. absurd (false≢true h);
   statics = λ f h. absurd (false≢true h);
   plain_statics = no_objects;
   pairs = bodies_same;
@@ -365,5 +368,5 @@ ends = (refl, refl)
 same : unnoted (run_in old_language 2 [] 9) ≡ unnoted (run_in new_language 0 [] 9)
 unfolding Alike
 same =
-    same_run old_language new_language link Made Pair twins 2 0 (λ b c e d. paired old_main_body new_main_body b c pair_main e d) [] 9
-    (λ w. let z = sym ends.0 ∙ w in cc) (λ w. let z = sym ends.0 ∙ w in cc) (λ w. let z = sym ends.1 ∙ w in cc)
+    same_run old_language new_language link Made Pair twins 2 0 (λ b e. has_pair old_main_body new_main_body b _ pair_main e refl) [] 9
+    (λ w. let z = sym ends.0 ∙ w in cc) (λ w. let z = sym ends.0 ∙ w in cc)

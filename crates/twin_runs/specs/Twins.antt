@@ -6,10 +6,10 @@ use Rattle.java_core.specs.declared.TyBase.{TyBase}
 use Rattle.java_core.specs.declared.TyBase.TheVariants.{Int, Boolean, Char, Str, Class}
 use Rattle.java_core.specs.declared.UnOp.{UnOp}
 use Rattle.java_core.specs.declared.BinOp.{BinOp}
-use Rattle.java_core.specs.Trees.{Tag, Ex, Exs, no_ex, ex_then, number, character, text, truth, null, this, local, static_field, own_field, field, index, call, static_call, super_call, create, create_array, cast, instance_of, unary, binary, Target, to_local, to_static, to_own, to_field, to_element, St, Sts, Arms, declare, block, assign, act, print, choose, loop, return, break, continue, no_st, st_then, no_other, otherwise, arm}
-use Rattle.java_core.specs.Types.{Env, class_type}
+use Rattle.java_core.specs.Trees.{Tag, Ex, Exs, no_ex, ex_then, number, character, text, truth, null, this, local, static_field, own_field, field, index, call, static_call, super_call, create, create_array, cast, instance_of, unary, binary, Target, to_local, to_static, to_own, to_field, to_element, St, Sts, Arms, declare, block, assign, act, print, choose, loop, return, break, continue, no_st, st_then, otherwise, arm, no_other}
+use Rattle.java_core.specs.Types.{Env, class_type, StringMethod}
 use Rattle.java_meaning.specs.Moment.{Value, Kind, an_object, an_array, Cell, own_type, Spot, held, bound, self_of, set_static, touched, tested, ran, Body, Lang}
-use Rattle.java_meaning.specs.Meaning.{words_type, element_type, is_number_type}
+use Rattle.java_meaning.specs.Meaning.{words_type, element_type, is_number_type, names_length, text_method}
 use Rattle.run_cover.specs.Families.{ArePlain}
 use Rattle.run_cover.specs.Watched.{Of}
 
@@ -49,9 +49,15 @@ value_at L c f vs = option_and_then (λ i. slice_get vs i) (L.index c f)
 
 -- Made tells what each creation makes, in the first and in the second; Pair which bodies are twins
 module _ (L M : Lang) (K : Link) (Made : Option ℕ → Kind → Kind → Type 0) (Pair : Body → Body → Type 0) where
-  -- bodies that are found in both are of a pair
+  -- a body of the second is found, and is of a pair with one of the first
+  pub record HasPair (b : Body) (q : Option Body) : Type 0 where
+    pub body : Body
+    pub found : q ≡ Some body
+    pub pair : Pair b body
+
+  -- where a body is found in the first, one of a pair with it is found in the second
   abbrev pub BothPair : Option Body → Option Body → Type 0
-  BothPair p q = (b c : Body) → p ≡ Some b → q ≡ Some c → Pair b c
+  BothPair p q = (b : Body) → p ≡ Some b → HasPair b q
 
   -- a creation makes objects of these classes, with the same values in the fields that they keep
   pub record SameNew (n c k : ℕ) : Type 0 where
@@ -70,15 +76,26 @@ module _ (L M : Lang) (K : Link) (Made : Option ℕ → Kind → Kind → Type 0
 
   -- in bodies that see these types
   module _ (g h : Env) where
-    -- what e has under a name is one field in both, which each object there keeps
+    -- what e has under a name is one field in both, found in the second where it is in the first, and each object there keeps it
     pub record SameField (e : Ex) (x y : Option ℕ) : Type 0 where
-      pub new : (f j : ℕ) → x ≡ Some f → y ≡ Some j → j ≡ K.new_field f
+      pub new : (f : ℕ) → x ≡ Some f → y ≡ Some (K.new_field f)
       pub had : (f : ℕ) → x ≡ Some f → (o : Option ℕ) (c k : ℕ) → Made o (an_object c) (an_object k) → K.may (touched g.body e f) o ≡ true → K.has o f ≡ true
 
-    -- a call of the form a on what e gives, of d in the second: each object there runs bodies of a pair
+    -- a name under which e has no field in the first is that of an array's length in the second where it is in the first
+    abbrev pub SameLength : Ex → Ex → List ℕ → List ℕ → Type 0
+    SameLength e d x y = names_length (L.field g e x) x ≡ true → names_length (M.field h d y) y ≡ true
+
+    -- a call of d in the second finds a slot, and an object of the class k runs a body of a pair with b for it
+    pub record HasCalled (d : Ex) (y : List ℕ) (k : ℕ) (b : Body) : Type 0 where
+      pub slot : ℕ
+      pub called : M.slot h d y ≡ Some slot
+      pub runs : HasPair b (M.body k slot)
+
+    -- a call of the form a on what e gives, of d in the second: each object there runs bodies of a pair, and a string the same method
     pub record SameCall (a e d : Ex) (x y : List ℕ) : Type 0 where
-      pub bodies : (o : Option ℕ) (c k i j : ℕ) (b p : Body) → Made o (an_object c) (an_object k) → L.slot g e x ≡ Some i → M.slot h d y ≡ Some j
-          → L.body c i ≡ Some b → M.body k j ≡ Some p → K.may (ran g.body a b.env.body) o ≡ true → Pair b p
+      pub bodies : (o : Option ℕ) (c k i : ℕ) (b : Body) → Made o (an_object c) (an_object k) → L.slot g e x ≡ Some i → L.body c i ≡ Some b
+          → K.may (ran g.body a b.env.body) o ≡ true → HasCalled d y k b
+      pub texts : (m : StringMethod) → text_method (L.slot g e x) x ≡ Some m → text_method (M.slot h d y) y ≡ Some m
 
     -- the test of the form a has one outcome for each object there
     abbrev pub SameTest : Ex → Ty → Ty → Type 0
@@ -102,7 +119,8 @@ module _ (L M : Lang) (K : Link) (Made : Option ℕ → Kind → Kind → Type 0
         same_static_field : {t u : Tag} {f j : ℕ} → SameStatic f j → Same (static_field t f) (static_field u j)
         -- a field of `this` by its simple name is one on a written `this`
         same_own_field : {t u v : Tag} {f : ℕ} {y : List ℕ} → SameField (this t) (Some f) (M.field h (this v) y) → Same (own_field t f) (field u (this v) y)
-        same_field : {t u : Tag} {e d : Ex} {x y : List ℕ} → Same e d → SameField e (L.field g e x) (M.field h d y) → Same (field t e x) (field u d y)
+        same_field : {t u : Tag} {e d : Ex} {x y : List ℕ} → Same e d → SameField e (L.field g e x) (M.field h d y) → SameLength e d x y
+            → Same (field t e x) (field u d y)
         same_index : {t u : Tag} {e d i j : Ex} → Same e d → Same i j → Same (index t e i) (index u d j)
         same_call : {t u : Tag} {e d : Ex} {x y : List ℕ} {es ds : Exs} → Same e d → SameAll es ds → SameCall (call t e x es) e d x y
             → Same (call t e x es) (call u d y ds)
@@ -186,10 +204,9 @@ module _ (L M : Lang) (K : Link) (Made : Option ℕ → Kind → Kind → Type 0
     pub old_places : (c f k i : ℕ) → L.index c f ≡ Some i → L.index c k ≡ Some i → f ≡ k
     pub new_places : (c f k i : ℕ) → M.index c f ≡ Some i → M.index c k ≡ Some i → f ≡ k
     pub fields_apart : (o : Option ℕ) (f k : ℕ) → K.has o f ≡ true → K.has o k ≡ true → K.new_field f ≡ K.new_field k → f ≡ k
-    pub field_shapes : (o : Option ℕ) (f : ℕ) (t u : Ty) → K.has o f ≡ true → L.field_type f ≡ Some t → M.field_type (K.new_field f) ≡ Some u
-        → shape_of t ≡ shape_of u
+    pub field_shapes : (o : Option ℕ) (f : ℕ) → K.has o f ≡ true → option_map shape_of (L.field_type f) ≡ option_map shape_of (M.field_type (K.new_field f))
     pub statics_apart : (f k : ℕ) → K.is_static f ≡ true → K.is_static k ≡ true → K.new_static f ≡ K.new_static k → f ≡ k
-    pub static_shapes : (f : ℕ) (t u : Ty) → K.is_static f ≡ true → L.field_type f ≡ Some t → M.field_type (K.new_static f) ≡ Some u → shape_of t ≡ shape_of u
+    pub static_shapes : (f : ℕ) → K.is_static f ≡ true → option_map shape_of (L.field_type f) ≡ option_map shape_of (M.field_type (K.new_static f))
     pub statics : (f : ℕ) → K.is_static f ≡ true → slice_get L.statics f ≡ slice_get M.statics (K.new_static f)
     pub plain_statics : ArePlain L.statics
     pub pairs : (b c : Body) → Pair b c → SameBody b c

@@ -1,0 +1,132 @@
+//! The loops over words: eight at a time, and then one at a time.
+
+ghost use Rattle.std.specs.Prelude.{◌≡◌, ◌≢◌, ℕ, ◌+◌, ◌*◌, ◌/◌, ◌%◌, ◌^◌, ◌<◌, ◌≤◌, Bool, true, false, List, length, slice_set, slice_index, bit_or, bit_and};
+ghost use Rattle.std.specs.Bool.{OnTrue, OnFalse};
+ghost use Rattle.kaba_bits.specs.Sets.{size};
+ghost use Rattle.kaba_bits.specs.Words.{word_bit, row_of, AreJoined, AreMet, IsApartAt, IsWithinAt, HaveCommon, HasStray};
+
+use crate::lanes::{is_apart_chunk, is_within_chunk, join_chunk, meet_chunk};
+
+/// Whether the bit `i` is set.
+pub fn test_bit(words: &[u64], i: u32) -> bool
+    requires { i / 64 < length words.now }
+    ensures { result ≡ word_bit words.now i }
+{
+    (words[(i / 64) as usize] >> (i % 64)) & 1 == 1
+}
+
+/// Sets the bit `i`.
+pub fn set_bit(words: &mut [u64], i: u32)
+    requires { i / 64 < length words.old }
+    ensures len { length words.new ≡ length words.old }
+    ensures same { word_bit words.new i ≡ true }
+    ensures others { (j : ℕ) → j ≢ i → word_bit words.new j ≡ word_bit words.old j }
+{
+    let k = (i / 64) as usize;
+    words[k] = words[k] | (1 << (i % 64));
+}
+
+/// Clears the bit `i`.
+pub fn clear_bit(words: &mut [u64], i: u32)
+    requires { i / 64 < length words.old }
+    ensures len { length words.new ≡ length words.old }
+    ensures same { word_bit words.new i ≡ false }
+    ensures others { (j : ℕ) → j ≢ i → word_bit words.new j ≡ word_bit words.old j }
+{
+    let k = (i / 64) as usize;
+    words[k] = words[k] & !(1 << (i % 64));
+}
+
+/// Adds the bits of another list of as many words.
+pub fn join_words(words: &mut [u64], other: &[u64])
+    requires { length words.old ≡ length other.now }
+    ensures { AreJoined words.old other.now words.new }
+{
+    let mut at = 0;
+    'chunks: while words.len() - at >= 8 {
+        join_chunk(words, other, at);
+        at += 8;
+    }
+    for k in at..words.len() {
+        words[k] |= other[k];
+    }
+}
+
+/// Keeps the bits that are in another list of as many words.
+pub fn meet_words(words: &mut [u64], other: &[u64])
+    requires { length words.old ≡ length other.now }
+    ensures { AreMet words.old other.now words.new }
+{
+    let mut at = 0;
+    'chunks: while words.len() - at >= 8 {
+        meet_chunk(words, other, at);
+        at += 8;
+    }
+    for k in at..words.len() {
+        words[k] &= other[k];
+    }
+}
+
+/// Whether no bit is in both lists, which have as many words.
+pub fn is_apart(words: &[u64], other: &[u64]) -> bool
+    requires { length words.now ≡ length other.now }
+    ensures apart { OnTrue result ((k : ℕ) → IsApartAt words.now other.now k) }
+    ensures met { OnFalse result (HaveCommon words.now other.now) }
+{
+    let mut at = 0;
+    'chunks: while words.len() - at >= 8 {
+        if !is_apart_chunk(words, other, at) {
+            return false;
+        }
+        at += 8;
+    }
+    for k in at..words.len() {
+        if words[k] & other[k] != 0 {
+            return false;
+        }
+    }
+    true
+}
+
+/// Whether each bit is in the other list too, which has as many words.
+pub fn is_within(words: &[u64], other: &[u64]) -> bool
+    requires { length words.now ≡ length other.now }
+    ensures within { OnTrue result ((k : ℕ) → IsWithinAt words.now other.now k) }
+    ensures strays { OnFalse result (HasStray words.now other.now) }
+{
+    let mut at = 0;
+    'chunks: while words.len() - at >= 8 {
+        if !is_within_chunk(words, other, at) {
+            return false;
+        }
+        at += 8;
+    }
+    for k in at..words.len() {
+        if (words[k] & other[k]) ^ words[k] != 0 {
+            return false;
+        }
+    }
+    true
+}
+
+/// How many bits are set.
+pub fn count_words(words: &[u64]) -> u32
+    requires { size (row_of (64 * length words.now) words.now) < 2 ^ 32 }
+    ensures { result ≡ size (row_of (64 * length words.now) words.now) }
+{
+    let mut n = 0;
+    for k in 0..words.len() {
+        n += words[k].count_ones();
+    }
+    n
+}
+
+/// Clears all bits.
+pub fn clear_words(words: &mut [u64])
+    ensures len { length words.new ≡ length words.old }
+    ensures empty { (k : ℕ) → slice_index words.new k ≡ 0 }
+{
+    for k in 0..words.len() {
+        words[k] = 0;
+    }
+}
