@@ -1,4 +1,4 @@
--- A tree in which a name meets one method resolves to one program.
+-- A tree of which no condition holds resolves to one program.
 use Rattle.std.proofs.Common.{◌≡◌, ℕ, zero, suc, ◌+◌, ◌<◌, ◌≤◌, ◌⊎◌, inl, inr, false, List, [], ◌∷◌, map, length, Option, Some, None, refl, sym, ap, ◌∙◌, subst, arith}
 use Rattle.std.specs.Prelude.{slice_get}
 use Rattle.std.proofs.lemmas.Bool.{false≢true, cases_lt}
@@ -165,11 +165,7 @@ module _ (O : Plain) (one : OneMet O) where
 
 -- ---- the whole
 
--- where no two methods overload each other, a name meets one
-pub none-overload : (tree : List DeclTree) → HasNoCondition tree → OneMet (outline tree)
-none-overload tree none = one-met (outline tree) (λ c i j h k p q lt same u v other. none _ (overload p q lt same u v other))
-
-module _ (tree : List DeclTree) (formed : IsFormedTree tree) (one : OneMet (outline tree)) where
+module _ (tree : List DeclTree) (formed : IsFormedTree tree) (none : HasNoCondition tree) where
   main-least : (P Q : Plain) → map heading_of P.methods ≡ map heading_of Q.methods → Resolves tree P → Resolves tree Q → P.main ≤ Q.main
   main-least P Q same p q = let k = other-method Q P (sym same) Q.main q.main q.main_stands in p.main_first Q.main k.0 k.1 (main-of k.2 (of-main refl q.main_is))
 
@@ -184,7 +180,7 @@ module _ (tree : List DeclTree) (formed : IsFormedTree tree) (one : OneMet (outl
 
       methods : P.methods ≡ Q.methods
       methods =
-          methods-only (outline tree) one 0 p.last q.last (λ n m e. (method-in 1 tree formed n m e).body) p.bodies q.bodies same
+          methods-only (outline tree) (one-met (outline tree) (λ c i j h k p q lt same u v other. none _ (overload p q lt same u v other))) 0 p.last q.last (λ n m e. (method-in 1 tree formed n m e).body) p.bodies q.bodies same
           (λ n k l e f. slot-only P Q slots p.slots k l (same_some (sym (stands-map heading_of P.methods n k e) ∙ ap (λ z. slice_get z n) same ∙ stands-map heading_of Q.methods n l f)) (p.slots.each n k e) (q.slots.each n l f))
           p.numbers q.numbers
 

@@ -1,4 +1,6 @@
 pub mod Bodies
+pub mod Conditions
+pub mod Faults
 pub mod Meanings
 pub mod Outlines
 pub mod Resolved

@@ -19,7 +19,6 @@ use Rattle.java_core.proofs.Positions.{position-map}
 use Rattle.name_rules.specs.Outline.{type_named}
 use Rattle.name_rules.specs.Meanings.{type_names, class_named, MeansBase, an_int, a_boolean, a_char, a_text, a_class, Means, MeansCastBase, to_int, to_boolean, to_char, to_class, MeansCast, is_bound, is_class_name, IsStaticFieldOf, IsStaticMethodOf, IsNearestField, IsMet}
 use Rattle.java_resolve.proofs.Bare.{bare_local, bare_class, bare_field, bare_method, bare_program}
-use Rattle.java_resolve.proofs.Excludes.{OneMet}
 use Rattle.java_resolve.proofs.Runs.{map-stands, stands-map}
 use Rattle.java_resolve.proofs.Sees.{same_some}
 use Rattle.places_aside.proofs.Outlines.{ap2}
@@ -78,14 +77,14 @@ module _ (O : Plain) where
       go None = refl
       go (Some k) = refl
 
-  supers-same : (a : ℕ) → supers_of bare-outline a ≡ supers_of O a
+  pub supers-same : (a : ℕ) → supers_of bare-outline a ≡ supers_of O a
   supers-same a = ap2 (λ p fs. option_to_list p ++ fs) (parent-same a) (faces-same a)
 
   below : {a b : ℕ} → IsSubclass O a b → IsSubclass bare-outline a b
   below same_class = same_class
   below (through {a = a} {c = c} h r) = through (subst (λ z. Contains z c) (sym (supers-same a)) h) (below r)
 
-  below-back : {a b : ℕ} → IsSubclass bare-outline a b → IsSubclass O a b
+  pub below-back : {a b : ℕ} → IsSubclass bare-outline a b → IsSubclass O a b
   below-back same_class = same_class
   below-back (through {a = a} {c = c} h r) = through (subst (λ z. Contains z c) (supers-same a) h) (below-back r)
 
@@ -120,15 +119,15 @@ module _ (O : Plain) where
   pub nearest-field : {c f : ℕ} {n : List ℕ} {k : PlainField} → IsNearestField O c n f k → IsNearestField bare-outline c n f (bare_field k)
   nearest-field {c} {f} {n} {k} s = record { nearest = field-same c n ∙ s.nearest; stands = stands-map bare_field O.fields f k s.stands }
 
+  pub nearest-back : {c f : ℕ} {n : List ℕ} {k : PlainField} → IsNearestField bare-outline c n f k → (h : PlainField) × IsNearestField O c n f h × (bare_field h ≡ k)
+  nearest-back {c} {f} {n} {k} s =
+      let a = map-stands bare_field O.fields f k s.stands in
+      (a.0, record { nearest = sym (field-same c n) ∙ s.nearest; stands = a.1 }, a.2)
+
   pub met : {c m : ℕ} {n : List ℕ} {k : PlainMethod} → IsMet O c n m k → IsMet bare-outline c n m (bare_method k)
   met {c} {m} {n} {k} s = record { stands = stands-map bare_method O.methods m k s.stands; name = s.name; above = below s.above }
 
-  met-back : {c m : ℕ} {n : List ℕ} {k : PlainMethod} → IsMet bare-outline c n m k → (h : PlainMethod) × IsMet O c n m h × (bare_method h ≡ k)
+  pub met-back : {c m : ℕ} {n : List ℕ} {k : PlainMethod} → IsMet bare-outline c n m k → (h : PlainMethod) × IsMet O c n m h × (bare_method h ≡ k)
   met-back {c} {m} {n} {k} s =
       let a = map-stands bare_method O.methods m k s.stands in
       (a.0, record { stands = a.1; name = ap (λ z. z.name) a.2 ∙ s.name; above = subst (λ z. IsSubclass O c z) (ap (λ z. z.owner) (sym a.2)) (below-back s.above) }, a.2)
-
-  pub one-met-bare : OneMet O → OneMet bare-outline
-  one-met-bare one c n l m h k a b =
-      let x = met-back a in let y = met-back b in
-      subst (λ z. (l ≡ m) ⊎ ((h.is_static ≡ false) × (z.is_static ≡ false))) y.2 (subst (λ z. (l ≡ m) ⊎ ((z.is_static ≡ false) × (y.0.is_static ≡ false))) x.2 (one c n l m x.0 y.0 x.1 y.1))

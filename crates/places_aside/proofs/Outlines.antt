@@ -40,11 +40,11 @@ pub word-same : (test : Keyword → Bool) (ms : List Modifier) → has_word test
 word-same test [] = refl
 word-same test (m ∷ ms) = ap (λ z. test m.word || z) (word-same test ms)
 
-name-same : (d : DeclTree) → name_of (decl_unplaced d) ≡ name_of d
+pub name-same : (d : DeclTree) → name_of (decl_unplaced d) ≡ name_of d
 name-same (ClassTree ms n c fs bs p) = refl
 name-same (InterfaceTree ms n fs hs p) = refl
 
-types-same : (tree : List DeclTree) → types_in (unplaced tree) ≡ types_in tree
+pub types-same : (tree : List DeclTree) → types_in (unplaced tree) ≡ types_in tree
 types-same tree = ap (λ z. codes "Object" ∷ z) (same-all decl_unplaced name_of name-same tree)
 
 parent-same : (types : List (List ℕ)) (c : Option Id) → parent_meant types (may_unplaced id_unplaced c) ≡ parent_meant types c

@@ -25,28 +25,28 @@ use Rattle.places_aside.proofs.Bodies.{bodies}
 
 -- ---- the types that are asked for
 
-all-mapped : {A : Type 0} (u : A → A) (xs : List A) → all_unplaced u xs ≡ map u xs
+pub all-mapped : {A : Type 0} (u : A → A) (xs : List A) → all_unplaced u xs ≡ map u xs
 all-mapped u [] = refl
 all-mapped u (x ∷ xs) = ap (λ z. u x ∷ z) (all-mapped u xs)
 
 -- an item of a mapped list is the image of one
-from-map : {A : Type 0} (u : A → A) (xs : List A) (y : A) → Contains (map u xs) y → (x : A) × Contains xs x × (u x ≡ y)
+pub from-map : {A : Type 0} (u : A → A) (xs : List A) (y : A) → Contains (map u xs) y → (x : A) × Contains xs x × (u x ≡ y)
 from-map u xs y h =
     let a = member-stands (map u xs) y h in let b = map-stands u xs a.0 y a.1 in
     (b.0, member-at xs a.0 b.0 b.1, b.2)
 
-from-all : {A : Type 0} (u : A → A) (xs : List A) (y : A) → Contains (all_unplaced u xs) y → (x : A) × Contains xs x × (u x ≡ y)
+pub from-all : {A : Type 0} (u : A → A) (xs : List A) (y : A) → Contains (all_unplaced u xs) y → (x : A) × Contains xs x × (u x ≡ y)
 from-all u xs y h = from-map u xs y (subst (λ z. Contains z y) (all-mapped u xs) h)
 
-from-maybe : {A : Type 0} (u : A → A) (x : Option A) (y : A) → may_unplaced u x ≡ Some y → (z : A) × (x ≡ Some z) × (u z ≡ y)
+pub from-maybe : {A : Type 0} (u : A → A) (x : Option A) (y : A) → may_unplaced u x ≡ Some y → (z : A) × (x ≡ Some z) × (u z ≡ y)
 from-maybe u None y e = absurd (cc e)
 from-maybe u (Some x) y e = (x, refl, same_some e)
 
-parent-unplaced : (d : DeclTree) → parent_named (decl_unplaced d) ≡ may_unplaced id_unplaced (parent_named d)
+pub parent-unplaced : (d : DeclTree) → parent_named (decl_unplaced d) ≡ may_unplaced id_unplaced (parent_named d)
 parent-unplaced (ClassTree ms n c fs bs p) = refl
 parent-unplaced (InterfaceTree ms n fs hs p) = refl
 
-faces-unplaced : (d : DeclTree) → faces_named (decl_unplaced d) ≡ all_unplaced id_unplaced (faces_named d)
+pub faces-unplaced : (d : DeclTree) → faces_named (decl_unplaced d) ≡ all_unplaced id_unplaced (faces_named d)
 faces-unplaced (ClassTree ms n c fs bs p) = refl
 faces-unplaced (InterfaceTree ms n fs hs p) = refl
 
@@ -61,7 +61,7 @@ module _ (tree : List DeclTree) where
       let b = from-all id_unplaced (faces_named a.0) i (subst (λ z. Contains z i) (ap faces_named (sym a.2) ∙ faces-unplaced a.0) h) in
       (b.0, a_face a.1 b.1, ap (λ z. z.name) b.2)
 
-  method-back : (m : MethodAt) → Contains (methods_in (unplaced tree)) m → (k : MethodAt) × Contains (methods_in tree) k × (method_at_unplaced k ≡ m)
+  pub method-back : (m : MethodAt) → Contains (methods_in (unplaced tree)) m → (k : MethodAt) × Contains (methods_in tree) k × (method_at_unplaced k ≡ m)
   method-back m c = from-map method_at_unplaced (methods_in tree) m (subst (λ z. Contains z m) (methods-same tree) c)
 
   declared-back : (u : TypeName) → IsDeclared (unplaced tree) u → (v : TypeName) × IsDeclared tree v × (v.base ≡ u.base)
@@ -78,7 +78,7 @@ module _ (tree : List DeclTree) where
       (b.0, of_result a.1 b.1, ap (λ z. z.base) b.2)
 
   -- a name that is asked for without places is asked for at a place
-  asked-back : (n : List ℕ) (p : Place) → Asks (unplaced tree) n p → (q : Place) × Asks tree n q
+  pub asked-back : (n : List ℕ) (p : Place) → Asks (unplaced tree) n p → (q : Place) × Asks tree n q
   asked-back n p (by_super {i = i} s) =
       let a = super-back i s in
       (a.0.place, subst (λ z. Asks tree z a.0.place) a.2 (by_super a.1))
@@ -88,13 +88,13 @@ module _ (tree : List DeclTree) where
 
 -- ---- slots
 
-types-same : (vs : List PlainLocal) → types_of (map bare_local vs) ≡ types_of vs
-types-same vs = maps bare_local (λ v. v.ty) (λ v. v.ty) (λ v. refl) vs
+pub param-types-same : (vs : List PlainLocal) → types_of (map bare_local vs) ≡ types_of vs
+param-types-same vs = maps bare_local (λ v. v.ty) (λ v. v.ty) (λ v. refl) vs
 
 module _ (P : Plain) where
   has-slot : {k : PlainMethod} → HasSlot P k → HasSlot (bare_program P) (bare_method k)
   has-slot (no_slot s n) = no_slot s n
-  has-slot {k} (a_slot s n at of) = a_slot s n at (record { name = of.name; params = types-same k.params ∙ of.params; result = of.result })
+  has-slot {k} (a_slot s n at of) = a_slot s n at (record { name = of.name; params = param-types-same k.params ∙ of.params; result = of.result })
 
   slots : AreSlots P → AreSlots (bare_program P)
   slots p = record {
@@ -105,11 +105,11 @@ module _ (P : Plain) where
     order = p.order;
   }
 
-  main-bare : {k : PlainMethod} → IsMain k → IsMain (bare_method k)
-  main-bare {k} m = record { static = m.static; name = m.name; params = types-same k.params ∙ m.params; result = m.result }
+  pub main-bare : {k : PlainMethod} → IsMain k → IsMain (bare_method k)
+  main-bare {k} m = record { static = m.static; name = m.name; params = param-types-same k.params ∙ m.params; result = m.result }
 
   main-back : (k : PlainMethod) → IsMain (bare_method k) → IsMain k
-  main-back k m = record { static = m.static; name = m.name; params = sym (types-same k.params) ∙ m.params; result = m.result }
+  main-back k m = record { static = m.static; name = m.name; params = sym (param-types-same k.params) ∙ m.params; result = m.result }
 
 -- ---- the whole
 
@@ -121,7 +121,7 @@ resolves-bare tree P r =
       fields = ap (map bare_field) r.fields ∙ sym (ap (λ z. z.fields) same);
       headings = headings P.methods ∙ ap (map bare_method) r.headings ∙ sym (ap (λ z. z.methods) same);
       bodies = subst (λ z. BodiesResolve z (methods_in (unplaced tree)) (map bare_method P.methods)) (sym same)
-      (subst (λ z. BodiesResolve (bare_program (outline tree)) z (map bare_method P.methods)) (sym (methods-same tree)) (bodies (outline tree) r.bodies));
+          (subst (λ z. BodiesResolve (bare_program (outline tree)) z (map bare_method P.methods)) (sym (methods-same tree)) (bodies (outline tree) r.bodies));
       slots = slots P r.slots;
       last = r.last;
       numbers = subst (λ z. Counts 0 z r.last) (sym (numbers.methods-same P.methods)) r.numbers;

@@ -9,6 +9,10 @@ use Rattle.java_core.specs.Programs.{program_of}
 use Rattle.name_rules.specs.Resolves.{Resolves}
 use Rattle.name_rules.specs.Causes.{HasNoCondition}
 
+-- where no condition that refuses names holds of a tree, none holds of it without its places
+unfoldable pub NoConditionAside : Type 0
+NoConditionAside = (tree : List DeclTree) → HasNoCondition tree → HasNoCondition (unplaced tree)
+
 -- two trees that are one, places aside, resolve to programs that are one, places aside; one of them is of a text, and no condition of a refusal holds of it
 unfoldable pub PlacesAside : Type 0
 PlacesAside = (tree other : List DeclTree) (p q : Program) → unplaced tree ≡ unplaced other → IsGiven other → HasNoCondition other

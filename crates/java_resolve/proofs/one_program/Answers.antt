@@ -1,5 +1,5 @@
-use Rattle.java_resolve.proofs.OnlyWhole.{none-overload, only}
+use Rattle.java_resolve.proofs.OnlyWhole.{only}
 use Rattle.java_resolve.proofs.one_program.Goals as goal
 
 pub returns : goal.returns
-returns c = record { value = λ tree P Q f n p q. only tree f (none-overload tree n) P Q p q }
+returns c = record { value = λ tree P Q f n p q. only tree f n P Q p q }
