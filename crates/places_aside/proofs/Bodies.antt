@@ -31,7 +31,8 @@ mutual
   declares-same : (x : St) → declares (bare_st x) ≡ declares x
   declares-same (block t xs) = all-declare-same xs
   declares-same (choose t xs) = arms-declare-same xs
-  declares-same (loop t is_while first test step body) = ap2 (λ x y. x ++ y) (ap2 (λ x y. x ++ y) (all-declare-same first) (all-declare-same step)) (all-declare-same body)
+  declares-same (loop t is_while first test step body) =
+      ap2 (λ x y. x ++ y) (ap2 (λ x y. x ++ y) (all-declare-same first) (all-declare-same step)) (all-declare-same body)
   declares-same _ = refl
 
   all-declare-same : (xs : Sts) → declares_all (bare_sts xs) ≡ declares_all xs
@@ -63,12 +64,14 @@ module _ (O : Plain) (here : Here) where
       ex (r_local e) = r_local e
       ex (r_static_field e near s o) = r_static_field e (nearest-field O near) s o
       ex (r_own_field e near s o) = r_own_field e (nearest-field O near) s o
-      ex (r_class_field {c = c} {q = q} a e s) = r_class_field (class-name-same O here.owner (bound_names scope) c nowhere q ∙ a) (named-same O c ∙ e) (static-field O s)
+      ex (r_class_field {c = c} {q = q} a e s) =
+          r_class_field (class-name-same O here.owner (bound_names scope) c nowhere q ∙ a) (named-same O c ∙ e) (static-field O s)
       ex (r_field h) = r_field (ex h)
       ex (r_index h g) = r_index (ex h) (ex g)
       ex (r_own_static_call m s o es) = r_own_static_call (met O m) s o (exs es)
       ex (r_own_call m s o es) = r_own_call (met O m) s o (exs es)
-      ex (r_static_call {c = c} {q = q} a e s es) = r_static_call (class-name-same O here.owner (bound_names scope) c nowhere q ∙ a) (named-same O c ∙ e) (static-method O s) (exs es)
+      ex (r_static_call {c = c} {q = q} a e s es) =
+          r_static_call (class-name-same O here.owner (bound_names scope) c nowhere q ∙ a) (named-same O c ∙ e) (static-method O s) (exs es)
       ex (r_call h es) = r_call (ex h) (exs es)
       ex (r_super_call s es) = r_super_call s (exs es)
       ex (r_create {c = c} e es) = r_create (named-same O c.name ∙ e) (exs es)
@@ -87,7 +90,8 @@ module _ (O : Plain) (here : Here) where
     maybe (r_some h) = r_some (ex h)
 
   module _ (k : PlainMethod) where
-    local-same : {scope : List Bound} {u : TypeName} {n : List ℕ} {p : Place} {i : ℕ} → IsLocal O k scope u n p i → IsLocal bare-outline (bare_method k) scope (type_unplaced u) n nowhere i
+    local-same : {scope : List Bound} {u : TypeName} {n : List ℕ} {p : Place} {i : ℕ} → IsLocal O k scope u n p i
+        → IsLocal bare-outline (bare_method k) scope (type_unplaced u) n nowhere i
     local-same {n = n} {i = i} l = record {
       ty = l.ty;
       means = means O l.means;
@@ -97,20 +101,24 @@ module _ (O : Plain) (here : Here) where
     }
 
     -- what is in scope after a statement
-    after : {in_loop : Bool} {scope : List Bound} {s : Statement} {x : St} → StResolves O here k in_loop scope s x → scope_after scope (stmt_unplaced s) (bare_st x) ≡ scope_after scope s x
+    after : {in_loop : Bool} {scope : List Bound} {s : Statement} {x : St} → StResolves O here k in_loop scope s x
+        → scope_after scope (stmt_unplaced s) (bare_st x) ≡ scope_after scope s x
     after (r_declare l h) = refl
     after _ = refl
 
-    after-part : {in_loop : Bool} {scope : List Bound} {s : OptionalStatement} {xs : Sts} → PartResolves O here k in_loop scope s xs → scope_after_part scope (step_unplaced s) (bare_sts xs) ≡ scope_after_part scope s xs
+    after-part : {in_loop : Bool} {scope : List Bound} {s : OptionalStatement} {xs : Sts} → PartResolves O here k in_loop scope s xs
+        → scope_after_part scope (step_unplaced s) (bare_sts xs) ≡ scope_after_part scope s xs
     after-part r_absent = refl
     after-part (r_present h) = after h
 
     mutual
-      pub st : {in_loop : Bool} {scope : List Bound} {s : Statement} {x : St} → StResolves O here k in_loop scope s x → StResolves bare-outline here (bare_method k) in_loop scope (stmt_unplaced s) (bare_st x)
+      pub st : {in_loop : Bool} {scope : List Bound} {s : Statement} {x : St} → StResolves O here k in_loop scope s x
+          → StResolves bare-outline here (bare_method k) in_loop scope (stmt_unplaced s) (bare_st x)
       st (r_declare {scope = scope} {n = n} {i = i} l h) = r_declare (local-same l) (maybe (bound scope n i) h)
       st (r_block h) = r_block (sts h)
       st (r_assign {in_loop = in_loop} {scope = scope} {e = e} {v = v} {x = x} {y = y} h g) =
-          subst (λ z. StResolves bare-outline here (bare_method k) in_loop scope (stmt_unplaced (tree.AssignOf e v nowhere)) (assign bare_tag z (bare y))) (target-same x) (r_assign (ex scope h) (ex scope g))
+          subst (λ z. StResolves bare-outline here (bare_method k) in_loop scope (stmt_unplaced (tree.AssignOf e v nowhere)) (assign bare_tag z (bare y)))
+          (target-same x) (r_assign (ex scope h) (ex scope g))
       st (r_act {scope = scope} h) = r_act (ex scope h)
       st (r_print {scope = scope} h) = r_print (maybe scope h)
       st (r_choose h) = r_choose (arms h)
@@ -118,21 +126,26 @@ module _ (O : Plain) (here : Here) where
       st (r_for {in_loop = in_loop} {scope = scope} {f = f} {g = g} {v = v} {x = x} {ss = ss} {first = first} {step = step} {xs = xs} h t w hs) =
           let e = sym (after-part h) in
           r_for (part h) (subst (λ z. ResolvesIf bare-outline here z (value_unplaced v) (bare_if x)) e (maybe (scope_after_part scope f first) t))
-          (subst (λ z. PartResolves bare-outline here (bare_method k) in_loop z (step_unplaced g) (bare_sts step)) e (part w)) (subst (λ z. StsResolve bare-outline here (bare_method k) true z (stmts_unplaced ss) (bare_sts xs)) e (sts hs))
+          (subst (λ z. PartResolves bare-outline here (bare_method k) in_loop z (step_unplaced g) (bare_sts step)) e (part w))
+          (subst (λ z. StsResolve bare-outline here (bare_method k) true z (stmts_unplaced ss) (bare_sts xs)) e (sts hs))
       st (r_return {scope = scope} h) = r_return (maybe scope h)
       st r_break = r_break
       st r_continue = r_continue
 
-      pub sts : {in_loop : Bool} {scope : List Bound} {ss : Statements} {xs : Sts} → StsResolve O here k in_loop scope ss xs → StsResolve bare-outline here (bare_method k) in_loop scope (stmts_unplaced ss) (bare_sts xs)
+      pub sts : {in_loop : Bool} {scope : List Bound} {ss : Statements} {xs : Sts} → StsResolve O here k in_loop scope ss xs
+          → StsResolve bare-outline here (bare_method k) in_loop scope (stmts_unplaced ss) (bare_sts xs)
       sts r_no_statements = r_no_statements
-      sts (r_and_then {in_loop = in_loop} {ss = ss} {xs = xs} h hs) = r_and_then (st h) (subst (λ z. StsResolve bare-outline here (bare_method k) in_loop z (stmts_unplaced ss) (bare_sts xs)) (sym (after h)) (sts hs))
+      sts (r_and_then {in_loop = in_loop} {ss = ss} {xs = xs} h hs) =
+          r_and_then (st h) (subst (λ z. StsResolve bare-outline here (bare_method k) in_loop z (stmts_unplaced ss) (bare_sts xs)) (sym (after h)) (sts hs))
 
-      arms : {in_loop : Bool} {scope : List Bound} {a : tree.Arms} {other : Else} {xs : Arms} → ArmsResolve O here k in_loop scope a other xs → ArmsResolve bare-outline here (bare_method k) in_loop scope (arms_unplaced a) (else_unplaced other) (bare_arms xs)
+      arms : {in_loop : Bool} {scope : List Bound} {a : tree.Arms} {other : Else} {xs : Arms} → ArmsResolve O here k in_loop scope a other xs
+          → ArmsResolve bare-outline here (bare_method k) in_loop scope (arms_unplaced a) (else_unplaced other) (bare_arms xs)
       arms r_no_else = r_no_else
       arms (r_else h) = r_else (sts h)
       arms (r_arm {scope = scope} h hs more) = r_arm (ex scope h) (sts hs) (arms more)
 
-      part : {in_loop : Bool} {scope : List Bound} {s : OptionalStatement} {xs : Sts} → PartResolves O here k in_loop scope s xs → PartResolves bare-outline here (bare_method k) in_loop scope (step_unplaced s) (bare_sts xs)
+      part : {in_loop : Bool} {scope : List Bound} {s : OptionalStatement} {xs : Sts} → PartResolves O here k in_loop scope s xs
+          → PartResolves bare-outline here (bare_method k) in_loop scope (step_unplaced s) (bare_sts xs)
       part r_absent = r_absent
       part (r_present h) = r_present (st h)
 
@@ -143,14 +156,17 @@ module _ (O : Plain) where
   body (r_no_body none b ls) = r_no_body (ap (may_unplaced stmts_unplaced) none) (ap (option_map bare_sts) b) (ap (map bare_local) ls)
   body {m} {k} (r_body {ss = ss} {xs = xs} some b h c) =
       let scope = sym (params-same 0 k.params) in
-      let where_it_stands : here_of m ≡ here_of (method_at_unplaced m) = ap (λ z. record { owner = m.owner; is_static = z }) (sym (word-same is_static_word m.head.mods)) in
+      let where_it_stands : here_of m ≡ here_of (method_at_unplaced m) = ap (λ z. record { owner = m.owner; is_static = z })
+      (sym (word-same is_static_word m.head.mods)) in
       r_body (ap (may_unplaced stmts_unplaced) some) (ap (option_map bare_sts) b)
-      (subst (λ z. StsResolve (bare_program O) z (bare_method k) false (params_from 0 (map bare_local k.params)) (stmts_unplaced ss) (bare_sts xs)) where_it_stands
+      (subst (λ z. StsResolve (bare_program O) z (bare_method k) false (params_from 0 (map bare_local k.params)) (stmts_unplaced ss)
+      (bare_sts xs)) where_it_stands
       (subst (λ z. StsResolve (bare_program O) (here_of m) (bare_method k) false z (stmts_unplaced ss) (bare_sts xs)) scope (sts O (here_of m) k h)))
       (subst (λ z. Counts (length (map bare_local k.params)) z (length (variables_of (bare_method k)))) (sym (all-declare-same xs))
       (subst (λ z. Counts z (declares_all xs) (length (variables_of (bare_method k)))) (sym (length-map k.params bare_local))
       (subst (Counts (length k.params) (declares_all xs)) (sym (ap length (variables-same k) ∙ length-map (variables_of k) bare_local)) c)))
 
-  pub bodies : {ms : List MethodAt} {ks : List PlainMethod} → BodiesResolve O ms ks → BodiesResolve (bare_program O) (map method_at_unplaced ms) (map bare_method ks)
+  pub bodies : {ms : List MethodAt} {ks : List PlainMethod} → BodiesResolve O ms ks
+      → BodiesResolve (bare_program O) (map method_at_unplaced ms) (map bare_method ks)
   bodies r_no_methods = r_no_methods
   bodies (r_method h hs) = r_method (body h) (bodies hs)

@@ -26,7 +26,8 @@ use Rattle.places_aside.proofs.Resolved.{all-mapped, from-map, from-all, from-ma
 use Rattle.places_aside.proofs.Faults.{sts}
 
 -- an item of a list without places stands where it stood
-stands-back : {A : Type 0} (u : A → A) (xs : List A) (i : ℕ) (y : A) → slice_get (all_unplaced u xs) i ≡ Some y → (x : A) × (slice_get xs i ≡ Some x) × (u x ≡ y)
+stands-back : {A : Type 0} (u : A → A) (xs : List A) (i : ℕ) (y : A) → slice_get (all_unplaced u xs) i ≡ Some y
+    → (x : A) × (slice_get xs i ≡ Some x) × (u x ≡ y)
 stands-back u xs i y e = map-stands u xs i y (ap (λ z. slice_get z i) (sym (all-mapped u xs)) ∙ e)
 
 kind-same : (d : DeclTree) → kind_of (decl_unplaced d) ≡ kind_of d
@@ -59,24 +60,31 @@ module _ (tree : List DeclTree) where
   below-in {a} {b} h = below-back O (subst (λ z. IsSubclass z a b) same h)
 
   above-itself : {a : ℕ} → IsProperSubclass (outline (unplaced tree)) a a → IsProperSubclass O a a
-  above-itself {a} h = let g = subst (λ z. IsProperSubclass z a a) same h in record { by = g.by; direct = subst (λ z. Contains z g.by) (supers-same O a) g.direct; rest = below-back O g.rest }
+  above-itself {a} h =
+      let g = subst (λ z. IsProperSubclass z a a) same h in
+      record { by = g.by; direct = subst (λ z. Contains z g.by) (supers-same O a) g.direct; rest = below-back O g.rest }
 
-  method-in : (i : ℕ) (k : PlainMethod) → slice_get (outline (unplaced tree)).methods i ≡ Some k → (h : PlainMethod) × (slice_get O.methods i ≡ Some h) × (bare_method h ≡ k)
+  method-in : (i : ℕ) (k : PlainMethod) → slice_get (outline (unplaced tree)).methods i ≡ Some k
+      → (h : PlainMethod) × (slice_get O.methods i ≡ Some h) × (bare_method h ≡ k)
   method-in i k e = map-stands bare_method O.methods i k (ap (λ (z : Plain). slice_get z.methods i) (sym same) ∙ e)
 
-  class-in : (i : ℕ) (k : PlainClass) → slice_get (outline (unplaced tree)).classes i ≡ Some k → (h : PlainClass) × (slice_get O.classes i ≡ Some h) × (bare_class h ≡ k)
+  class-in : (i : ℕ) (k : PlainClass) → slice_get (outline (unplaced tree)).classes i ≡ Some k
+      → (h : PlainClass) × (slice_get O.classes i ≡ Some h) × (bare_class h ≡ k)
   class-in i k e = map-stands bare_class O.classes i k (ap (λ (z : Plain). slice_get z.classes i) (sym same) ∙ e)
 
-  field-at : (i : ℕ) (f : FieldAt) → slice_get (fields_in (unplaced tree)) i ≡ Some f → (g : FieldAt) × (slice_get (fields_in tree) i ≡ Some g) × (field_at_unplaced g ≡ f)
+  field-at : (i : ℕ) (f : FieldAt) → slice_get (fields_in (unplaced tree)) i ≡ Some f
+      → (g : FieldAt) × (slice_get (fields_in tree) i ≡ Some g) × (field_at_unplaced g ≡ f)
   field-at i f e = map-stands field_at_unplaced (fields_in tree) i f (ap (λ z. slice_get z i) (sym (fields-same tree)) ∙ e)
 
-  method-at : (i : ℕ) (m : MethodAt) → slice_get (methods_in (unplaced tree)) i ≡ Some m → (k : MethodAt) × (slice_get (methods_in tree) i ≡ Some k) × (method_at_unplaced k ≡ m)
+  method-at : (i : ℕ) (m : MethodAt) → slice_get (methods_in (unplaced tree)) i ≡ Some m
+      → (k : MethodAt) × (slice_get (methods_in tree) i ≡ Some k) × (method_at_unplaced k ≡ m)
   method-at i m e = map-stands method_at_unplaced (methods_in tree) i m (ap (λ z. slice_get z i) (sym (methods-same tree)) ∙ e)
 
   field-back : (f : FieldAt) → Contains (fields_in (unplaced tree)) f → (g : FieldAt) × Contains (fields_in tree) g × (field_at_unplaced g ≡ f)
   field-back f c = from-map field_at_unplaced (fields_in tree) f (subst (λ z. Contains z f) (fields-same tree) c)
 
-  mods-back : (kind : Kind) (ms : List Modifier) → HasModifiers (unplaced tree) kind ms → (ks : List Modifier) × HasModifiers tree kind ks × (all_unplaced modifier_unplaced ks ≡ ms)
+  mods-back : (kind : Kind) (ms : List Modifier) → HasModifiers (unplaced tree) kind ms
+      → (ks : List Modifier) × HasModifiers tree kind ks × (all_unplaced modifier_unplaced ks ≡ ms)
   mods-back kind ms (of_type {d = d} c) =
       let a = from-all decl_unplaced tree d c in
       (mods_of a.0, subst (λ z. HasModifiers tree z (mods_of a.0)) (sym (kind-same a.0) ∙ ap kind_of a.2) (of_type a.1), sym (mods-same a.0) ∙ ap mods_of a.2)
@@ -103,8 +111,10 @@ module _ (tree : List DeclTree) where
         sts O (here_of m) ss (λ t g. none t (in_body c b g))
         (subst (λ z. StsFault (bare_program O) (here_of m) false z (stmts_unplaced ss) r) (names-same m)
         (subst (λ z. StsFault (bare_program O) z false (map (λ q. q.name) (all_unplaced param_unplaced m.head.params)) (stmts_unplaced ss) r) (here-same m)
-        (subst (λ z. StsFault z (here_of (method_at_unplaced m)) false (map (λ q. q.name) (all_unplaced param_unplaced m.head.params)) (stmts_unplaced ss) r) same
-        (subst (λ z. StsFault (outline (unplaced tree)) (here_of (method_at_unplaced m)) false (map (λ q. q.name) (all_unplaced param_unplaced m.head.params)) z r) (sym e) h))))
+        (subst (λ z. StsFault z (here_of (method_at_unplaced m)) false (map (λ q. q.name) (all_unplaced param_unplaced m.head.params))
+        (stmts_unplaced ss) r) same
+        (subst (λ z. StsFault (outline (unplaced tree)) (here_of (method_at_unplaced m)) false
+        (map (λ q. q.name) (all_unplaced param_unplaced m.head.params)) z r) (sym e) h))))
 
     pub no_condition : HasNoCondition (unplaced tree)
     no_condition r (unknown {n = n} {p = p} a e) = let b = asked-back tree n p a in none _ (unknown b.1 (named-in n e))
@@ -125,7 +135,8 @@ module _ (tree : List DeclTree) where
         none _ (field_twice a.1 b.1 lt (ap (λ z. z.owner) a.2 ∙ o ∙ ap (λ z. z.owner) (sym b.2)) (ap (λ z. z.name) a.2 ∙ n ∙ ap (λ z. z.name) (sym b.2)))
     no_condition r (method_twice {i = i} {j = j} {h = h} {k = k} x y lt o n) =
         let a = method-at i h x in let b = method-at j k y in
-        none _ (method_twice a.1 b.1 lt (ap (λ z. z.owner) a.2 ∙ o ∙ ap (λ z. z.owner) (sym b.2)) (ap (λ z. z.head.name) a.2 ∙ n ∙ ap (λ z. z.head.name) (sym b.2)))
+        none _ (method_twice a.1 b.1 lt (ap (λ z. z.owner) a.2 ∙ o ∙ ap (λ z. z.owner) (sym b.2))
+        (ap (λ z. z.head.name) a.2 ∙ n ∙ ap (λ z. z.head.name) (sym b.2)))
     no_condition r (param_twice {m = m} {i = i} {j = j} {a = x} {b = y} c e f lt n) =
         let a = method-back tree m c in
         let params = ap (λ (z : MethodAt). z.head.params) a.2 in
@@ -137,7 +148,14 @@ module _ (tree : List DeclTree) where
         let a = method-in i h x in let b = method-in j k y in
         none _ (overload a.1 b.1 lt (ap (λ z. z.name) a.2 ∙ n ∙ ap (λ z. z.name) (sym b.2))
         (subst (λ z. IsSubclass O c z) (ap (λ z. z.owner) (sym a.2)) (below-in s)) (subst (λ z. IsSubclass O c z) (ap (λ z. z.owner) (sym b.2)) (below-in t))
-        (λ o. other (subst (λ z. AreOneSlot z k) a.2 (subst (λ z. AreOneSlot (bare_method a.0) z) b.2 (record { first = o.first; second = o.second; params = param-types-same a.0.params ∙ o.params ∙ sym (param-types-same b.0.params); result = o.result })))))
+        (λ o. other (subst (λ z. AreOneSlot z k) a.2
+        (subst (λ z. AreOneSlot (bare_method a.0) z) b.2
+        (record {
+          first = o.first;
+          second = o.second;
+          params = param-types-same a.0.params ∙ o.params ∙ sym (param-types-same b.0.params);
+          result = o.result;
+        })))))
     no_condition r (type_as_field {f = f} c e) =
         let a = field-back f c in none _ (type_as_field a.1 (ap2 is_type_name (sym (types-same tree)) (ap (λ z. z.name) a.2) ∙ e))
     no_condition r (type_as_param {m = m} {q = q} c d e) =
@@ -158,11 +176,13 @@ module _ (tree : List DeclTree) where
         let a = method-at i h x in let b = method-at j k y in
         let first = ap (λ (z : MethodAt). z.owner) a.2 in let second = ap (λ (z : MethodAt). z.owner) b.2 in
         none _ (private_reused a.1 b.1 lt (ap (λ z. z.head.name) a.2 ∙ n ∙ ap (λ z. z.head.name) (sym b.2)) (λ e. o (sym first ∙ e ∙ second))
-        (ap2 (λ v w. v || w) (sym (word-same is_private_word a.0.head.mods) ∙ ap is_private a.2) (sym (word-same is_private_word b.0.head.mods) ∙ ap is_private b.2) ∙ p)
+        (ap2 (λ v w. v || w) (sym (word-same is_private_word a.0.head.mods) ∙ ap is_private a.2)
+        (sym (word-same is_private_word b.0.head.mods) ∙ ap is_private b.2) ∙ p)
         (⊎_elim (λ u. inl (subst (λ z. IsSubclass O z b.0.owner) (sym first) (subst (λ z. IsSubclass O h.owner z) (sym second) (below-in u))))
         (λ u. inr (subst (λ z. IsSubclass O z a.0.owner) (sym second) (subst (λ z. IsSubclass O k.owner z) (sym first) (below-in u)))) s))
     no_condition r (no_main f) =
-        none _ (no_main (λ m k e h. f m (bare_method k) (ap (λ (z : Plain). slice_get z.methods m) same ∙ stands-map bare_method O.methods m k e) (main-bare O h)))
+        none _ (no_main (λ m k e h. f m (bare_method k) (ap (λ (z : Plain). slice_get z.methods m) same ∙ stands-map bare_method O.methods m k e)
+        (main-bare O h)))
     no_condition r (modifiers_disagree {kind = kind} {mods = ms} {i = i} {j = j} {a = x} {b = y} c e f lt d) =
         let a = mods-back kind ms c in
         let u = stands-back modifier_unplaced a.0 i x (ap (λ z. slice_get z i) a.2 ∙ e) in

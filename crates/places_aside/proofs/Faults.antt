@@ -40,7 +40,8 @@ module _ (O : Plain) where
   type-name-back : (n : List ℕ) {b : Bool} → is_type_name (type_names bare-outline) n ≡ b → is_type_name (type_names O) n ≡ b
   type-name-back n h = ap (λ z. is_type_name z n) (sym (names-same O)) ∙ h
 
-  class-back : (c : ℕ) (names : List (List ℕ)) (e : Expression) {b : Bool} → is_class_name bare-outline c names (expr_unplaced e) ≡ b → is_class_name O c names e ≡ b
+  class-back : (c : ℕ) (names : List (List ℕ)) (e : Expression) {b : Bool} → is_class_name bare-outline c names (expr_unplaced e) ≡ b
+      → is_class_name O c names e ≡ b
   class-back c names (NameRef n p) h = sym (class-name-same O c names n nowhere p) ∙ h
   class-back c names _ h = h
 
@@ -57,28 +58,34 @@ module _ (O : Plain) (here : Here) where
     DeepAll es = (r : Refusal) → None-of (FaultInOne O here scope es) → FaultInOne bare-one here scope (exprs_unplaced es) r → ⊥
 
     -- what stands before a dot may be the name of a class
-    before-field : (e x : Expression) (n : List ℕ) (p : Place) {r : Refusal} → expr_unplaced e ≡ x → Deep e → None-of (FaultIn O here scope (FieldOf e n p)) → FaultIn bare-one here scope (FieldOf x n nowhere) r → ⊥
+    before-field : (e x : Expression) (n : List ℕ) (p : Place) {r : Refusal} → expr_unplaced e ≡ x → Deep e → None-of (FaultIn O here scope (FieldOf e n p))
+        → FaultIn bare-one here scope (FieldOf x n nowhere) r → ⊥
     before-field e x n p same deep free (no_class_of_field {c = c} {q = q} a f) =
         let s = name-back e c q same in
-        free _ (subst (λ z. FaultIn O here scope (FieldOf z n p) (Unknown c s.0)) (sym s.1) (no_class_of_field {q = s.0} (class-back O here.owner scope (NameRef c s.0) a) (named-back O c f)))
+        free _ (subst (λ z. FaultIn O here scope (FieldOf z n p) (Unknown c s.0)) (sym s.1)
+        (no_class_of_field {q = s.0} (class-back O here.owner scope (NameRef c s.0) a) (named-back O c f)))
     before-field e x n p same deep free (no_static_field {c = c} {q = q} a f g) =
         let s = name-back e c q same in
         free _ (subst (λ z. FaultIn O here scope (FieldOf z n p) (Unknown n p)) (sym s.1)
         (no_static_field {q = s.0} (class-back O here.owner scope (NameRef c s.0) a) (named-back O c f) (λ i h. g i (static-field O h))))
     before-field e x n p {r = r} same deep free (in_base a h) =
-        deep _ (λ r g. free r (in_base (class-back O here.owner scope e (ap (is_class_name bare-one here.owner scope) same ∙ a)) g)) (subst (λ z. FaultIn bare-one here scope z r) (sym same) h)
+        deep _ (λ r g. free r (in_base (class-back O here.owner scope e (ap (is_class_name bare-one here.owner scope) same ∙ a)) g))
+        (subst (λ z. FaultIn bare-one here scope z r) (sym same) h)
 
-    before-call : (e x : Expression) (n : List ℕ) (es : Expressions) (p : Place) {r : Refusal} → expr_unplaced e ≡ x → Deep e → DeepAll es → None-of (FaultIn O here scope (CallOn e n es p))
+    before-call : (e x : Expression) (n : List ℕ) (es : Expressions) (p : Place) {r : Refusal} → expr_unplaced e ≡ x → Deep e → DeepAll es
+        → None-of (FaultIn O here scope (CallOn e n es p))
         → FaultIn bare-one here scope (CallOn x n (exprs_unplaced es) nowhere) r → ⊥
     before-call e x n es p same deep all free (no_class_of_call {c = c} {q = q} a f) =
         let s = name-back e c q same in
-        free _ (subst (λ z. FaultIn O here scope (CallOn z n es p) (Unknown c s.0)) (sym s.1) (no_class_of_call {q = s.0} (class-back O here.owner scope (NameRef c s.0) a) (named-back O c f)))
+        free _ (subst (λ z. FaultIn O here scope (CallOn z n es p) (Unknown c s.0)) (sym s.1)
+        (no_class_of_call {q = s.0} (class-back O here.owner scope (NameRef c s.0) a) (named-back O c f)))
     before-call e x n es p same deep all free (no_static_method {c = c} {q = q} a f g) =
         let s = name-back e c q same in
         free _ (subst (λ z. FaultIn O here scope (CallOn z n es p) (Unknown n p)) (sym s.1)
         (no_static_method {q = s.0} (class-back O here.owner scope (NameRef c s.0) a) (named-back O c f) (λ m h. g m (static-method O h))))
     before-call e x n es p {r = r} same deep all free (in_receiver a h) =
-        deep _ (λ r g. free r (in_receiver (class-back O here.owner scope e (ap (is_class_name bare-one here.owner scope) same ∙ a)) g)) (subst (λ z. FaultIn bare-one here scope z r) (sym same) h)
+        deep _ (λ r g. free r (in_receiver (class-back O here.owner scope e (ap (is_class_name bare-one here.owner scope) same ∙ a)) g))
+        (subst (λ z. FaultIn bare-one here scope z r) (sym same) h)
     before-call e x n es p same deep all free (in_call_arguments h) = all _ (λ r g. free r (in_call_arguments g)) h
 
     mutual
@@ -90,13 +97,15 @@ module _ (O : Plain) (here : Here) where
       fault (NullLit _) _ h = elim h [ ]
       fault (ThisRef p) free (this_in_static s) = free _ (this_in_static s)
       fault (NameRef n p) free (no_variable a) = free _ (no_variable (class-back O here.owner scope (NameRef n p) a))
-      fault (NameRef n p) free (static_above b near s o) = let a = nearest-back O near in free _ (static_above b a.1 (ap (λ z. z.is_static) a.2 ∙ s) (λ e. o (ap (λ z. z.owner) (sym a.2) ∙ e)))
+      fault (NameRef n p) free (static_above b near s o) =
+          let a = nearest-back O near in free _ (static_above b a.1 (ap (λ z. z.is_static) a.2 ∙ s) (λ e. o (ap (λ z. z.owner) (sym a.2) ∙ e)))
       fault (NameRef n p) free (own_in_static b near s t) = let a = nearest-back O near in free _ (own_in_static b a.1 (ap (λ z. z.is_static) a.2 ∙ s) t)
       fault (FieldOf e n p) free h = before-field e (expr_unplaced e) n p refl (λ r g i. fault e g i) free h
       fault (IndexOf e i p) free (in_array h) = fault e (λ r g. free r (in_array g)) h
       fault (IndexOf e i p) free (in_index h) = fault i (λ r g. free r (in_index g)) h
       fault (CallOf n es p) free (no_method f) = free _ (no_method (λ m k h. f m (bare_method k) (met O h)))
-      fault (CallOf n es p) free (static_method_above m s o) = let a = met-back O m in free _ (static_method_above a.1 (ap (λ z. z.is_static) a.2 ∙ s) (λ e. o (ap (λ z. z.owner) (sym a.2) ∙ e)))
+      fault (CallOf n es p) free (static_method_above m s o) =
+          let a = met-back O m in free _ (static_method_above a.1 (ap (λ z. z.is_static) a.2 ∙ s) (λ e. o (ap (λ z. z.owner) (sym a.2) ∙ e)))
       fault (CallOf n es p) free (call_in_static m s t) = let a = met-back O m in free _ (call_in_static a.1 (ap (λ z. z.is_static) a.2 ∙ s) t)
       fault (CallOf n es p) free (in_arguments h) = faults es (λ r g. free r (in_arguments g)) h
       fault (CallOn e n es p) free h = before-call e (expr_unplaced e) n es p refl (λ r g i. fault e g i) (λ r g i. faults es g i) free h
@@ -133,7 +142,8 @@ module _ (O : Plain) (here : Here) where
   after-part scope (present s) = after scope s
 
   mutual
-    st : (s : Statement) {in_loop : Bool} {scope : List (List ℕ)} {r : Refusal} → None-of (StFault O here in_loop scope s) → StFault bare-one here in_loop scope (stmt_unplaced s) r → ⊥
+    st : (s : Statement) {in_loop : Bool} {scope : List (List ℕ)} {r : Refusal} → None-of (StFault O here in_loop scope s)
+        → StFault bare-one here in_loop scope (stmt_unplaced s) r → ⊥
     st (LocalOf f u n v p) free (no_type_of_local h) = unknown-type O (λ r g. free r (no_type_of_local g)) h
     st (LocalOf f u n v p) free (type_as_local e) = free _ (type_as_local (type-name-back O n e))
     st (LocalOf f u n v p) free (local_twice e) = free _ (local_twice e)
@@ -150,25 +160,31 @@ module _ (O : Plain) (here : Here) where
     st (WhileOf e ss p) free (in_while h) = sts ss (λ r g. free r (in_while g)) h
     st (ForOf f v g ss p) free (in_first_part h) = part f (λ r i. free r (in_first_part i)) h
     st (ForOf f v g ss p) {scope = scope} {r = r} free (in_for_test h) =
-        value-fault (names_after_part scope f) v (λ r i. free r (in_for_test i)) (subst (λ z. FaultInValue bare-one here z (value_unplaced v) r) (after-part scope f) h)
+        value-fault (names_after_part scope f) v (λ r i. free r (in_for_test i))
+        (subst (λ z. FaultInValue bare-one here z (value_unplaced v) r) (after-part scope f) h)
     st (ForOf f v g ss p) {in_loop = in_loop} {scope = scope} {r = r} free (in_last_part h) =
         part g (λ r i. free r (in_last_part i)) (subst (λ z. PartFault bare-one here in_loop z (step_unplaced g) r) (after-part scope f) h)
-    st (ForOf f v g ss p) {scope = scope} {r = r} free (in_for h) = sts ss (λ r i. free r (in_for i)) (subst (λ z. StsFault bare-one here true z (stmts_unplaced ss) r) (after-part scope f) h)
+    st (ForOf f v g ss p) {scope = scope} {r = r} free (in_for h) =
+        sts ss (λ r i. free r (in_for i)) (subst (λ z. StsFault bare-one here true z (stmts_unplaced ss) r) (after-part scope f) h)
     st (ReturnOf v p) {scope = scope} free (in_returned h) = value-fault scope v (λ r g. free r (in_returned g)) h
     st (BreakOf p) free break_outside = free _ break_outside
     st (ContinueOf p) free continue_outside = free _ continue_outside
 
-    pub sts : (ss : Statements) {in_loop : Bool} {scope : List (List ℕ)} {r : Refusal} → None-of (StsFault O here in_loop scope ss) → StsFault bare-one here in_loop scope (stmts_unplaced ss) r → ⊥
+    pub sts : (ss : Statements) {in_loop : Bool} {scope : List (List ℕ)} {r : Refusal} → None-of (StsFault O here in_loop scope ss)
+        → StsFault bare-one here in_loop scope (stmts_unplaced ss) r → ⊥
     sts no_statements _ h = elim h [ ]
     sts (and_then s ss) free (in_statement h) = st s (λ r g. free r (in_statement g)) h
-    sts (and_then s ss) {in_loop = in_loop} {scope = scope} {r = r} free (in_rest h) = sts ss (λ r g. free r (in_rest g)) (subst (λ z. StsFault bare-one here in_loop z (stmts_unplaced ss) r) (after scope s) h)
+    sts (and_then s ss) {in_loop = in_loop} {scope = scope} {r = r} free (in_rest h) =
+        sts ss (λ r g. free r (in_rest g)) (subst (λ z. StsFault bare-one here in_loop z (stmts_unplaced ss) r) (after scope s) h)
 
-    arms : (a : tree.Arms) {in_loop : Bool} {scope : List (List ℕ)} {r : Refusal} → None-of (ArmsFault O here in_loop scope a) → ArmsFault bare-one here in_loop scope (arms_unplaced a) r → ⊥
+    arms : (a : tree.Arms) {in_loop : Bool} {scope : List (List ℕ)} {r : Refusal} → None-of (ArmsFault O here in_loop scope a)
+        → ArmsFault bare-one here in_loop scope (arms_unplaced a) r → ⊥
     arms tree.no_arms _ h = elim h [ ]
     arms (tree.and_arm e ss a) {scope = scope} free (in_test h) = fault scope e (λ r g. free r (in_test g)) h
     arms (tree.and_arm e ss a) free (in_arm h) = sts ss (λ r g. free r (in_arm g)) h
     arms (tree.and_arm e ss a) free (in_more_arms h) = arms a (λ r g. free r (in_more_arms g)) h
 
-    part : (s : OptionalStatement) {in_loop : Bool} {scope : List (List ℕ)} {r : Refusal} → None-of (PartFault O here in_loop scope s) → PartFault bare-one here in_loop scope (step_unplaced s) r → ⊥
+    part : (s : OptionalStatement) {in_loop : Bool} {scope : List (List ℕ)} {r : Refusal} → None-of (PartFault O here in_loop scope s)
+        → PartFault bare-one here in_loop scope (step_unplaced s) r → ⊥
     part absent _ h = elim h [ ]
     part (present s) free (in_part h) = st s (λ r g. free r (in_part g)) h

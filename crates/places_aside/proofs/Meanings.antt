@@ -95,9 +95,11 @@ module _ (O : Plain) where
 
   nearest-same : (f g : ℕ → Option ℕ) → ((k : ℕ) → f k ≡ g k) → (n c : ℕ) → nearest bare-outline f n c ≡ nearest O g n c
   nearest-same f g e zero c = e c
-  nearest-same f g e (suc n) c = ap2 first_or (e c) (ap (option_and_then (λ p. nearest bare-outline f n p.0)) (parent-same c) ∙ go (λ k. nearest-same f g e n k) (parent_of O c))
+  nearest-same f g e (suc n) c =
+      ap2 first_or (e c) (ap (option_and_then (λ p. nearest bare-outline f n p.0)) (parent-same c) ∙ go (λ k. nearest-same f g e n k) (parent_of O c))
     where
-      go : ((k : ℕ) → nearest bare-outline f n k ≡ nearest O g n k) → (p : Option ClassId) → option_and_then (λ p. nearest bare-outline f n p.0) p ≡ option_and_then (λ p. nearest O g n p.0) p
+      go : ((k : ℕ) → nearest bare-outline f n k ≡ nearest O g n k) → (p : Option ClassId)
+          → option_and_then (λ p. nearest bare-outline f n p.0) p ≡ option_and_then (λ p. nearest O g n p.0) p
       go h None = refl
       go h (Some p) = h p.0
 
@@ -107,19 +109,23 @@ module _ (O : Plain) where
       ap (λ z. nearest bare-outline (λ k. own_field_of bare-outline k n) z c) (length-map O.classes bare_class)
       ∙ nearest-same (λ k. own_field_of bare-outline k n) (λ k. own_field_of O k n) (λ k. own-field-same k n) (length O.classes) c
 
-  pub class-name-same : (c : ℕ) (names : List (List ℕ)) (n : List ℕ) (p q : Place) → is_class_name bare-outline c names (NameRef n p) ≡ is_class_name O c names (NameRef n q)
+  pub class-name-same : (c : ℕ) (names : List (List ℕ)) (n : List ℕ) (p q : Place)
+      → is_class_name bare-outline c names (NameRef n p) ≡ is_class_name O c names (NameRef n q)
   class-name-same c names n p q = ap (λ z. not (is_bound names n) && is_none z) (field-same c n)
 
   pub static-field : {c f : ℕ} {n : List ℕ} → IsStaticFieldOf O c n f → IsStaticFieldOf bare-outline c n f
-  static-field {c} {f} {n} s = record { member = bare_field s.member; own = own-field-same c n ∙ s.own; stands = stands-map bare_field O.fields f s.member s.stands; static = s.static }
+  static-field {c} {f} {n} s =
+      record { member = bare_field s.member; own = own-field-same c n ∙ s.own; stands = stands-map bare_field O.fields f s.member s.stands; static = s.static }
 
   pub static-method : {c m : ℕ} {n : List ℕ} → IsStaticMethodOf O c n m → IsStaticMethodOf bare-outline c n m
-  static-method {c} {m} {n} s = record { member = bare_method s.member; stands = stands-map bare_method O.methods m s.member s.stands; owner = s.owner; name = s.name; static = s.static }
+  static-method {c} {m} {n} s =
+      record { member = bare_method s.member; stands = stands-map bare_method O.methods m s.member s.stands; owner = s.owner; name = s.name; static = s.static }
 
   pub nearest-field : {c f : ℕ} {n : List ℕ} {k : PlainField} → IsNearestField O c n f k → IsNearestField bare-outline c n f (bare_field k)
   nearest-field {c} {f} {n} {k} s = record { nearest = field-same c n ∙ s.nearest; stands = stands-map bare_field O.fields f k s.stands }
 
-  pub nearest-back : {c f : ℕ} {n : List ℕ} {k : PlainField} → IsNearestField bare-outline c n f k → (h : PlainField) × IsNearestField O c n f h × (bare_field h ≡ k)
+  pub nearest-back : {c f : ℕ} {n : List ℕ} {k : PlainField} → IsNearestField bare-outline c n f k
+      → (h : PlainField) × IsNearestField O c n f h × (bare_field h ≡ k)
   nearest-back {c} {f} {n} {k} s =
       let a = map-stands bare_field O.fields f k s.stands in
       (a.0, record { nearest = sym (field-same c n) ∙ s.nearest; stands = a.1 }, a.2)
@@ -129,5 +135,13 @@ module _ (O : Plain) where
 
   pub met-back : {c m : ℕ} {n : List ℕ} {k : PlainMethod} → IsMet bare-outline c n m k → (h : PlainMethod) × IsMet O c n m h × (bare_method h ≡ k)
   met-back {c} {m} {n} {k} s =
-      let a = map-stands bare_method O.methods m k s.stands in
-      (a.0, record { stands = a.1; name = ap (λ z. z.name) a.2 ∙ s.name; above = subst (λ z. IsSubclass O c z) (ap (λ z. z.owner) (sym a.2)) (below-back s.above) }, a.2)
+      let a = map-stands bare_method O.methods m k s.stands in (
+        a.0,
+        record {
+          stands = a.1;
+          name = ap (λ z. z.name) a.2 ∙ s.name;
+          above = subst (λ z. IsSubclass O c z) (ap (λ z. z.owner) (sym a.2))
+              (below-back s.above);
+        },
+        a.2,
+      )

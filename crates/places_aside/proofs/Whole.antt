@@ -22,9 +22,11 @@ unfolding NoConditionAside
 no_condition_aside tree none = no_condition tree none
 
 -- two programs of one tree are one, tags aside: without places the tree resolves to both without tags
-bare_only : (tree other : List DeclTree) (P Q : Plain) → unplaced tree ≡ unplaced other → IsFormedTree (unplaced other) → HasNoCondition other → Resolves tree P → Resolves other Q → bare_program P ≡ bare_program Q
+bare_only : (tree other : List DeclTree) (P Q : Plain) → unplaced tree ≡ unplaced other → IsFormedTree (unplaced other) → HasNoCondition other
+    → Resolves tree P → Resolves other Q → bare_program P ≡ bare_program Q
 bare_only tree other P Q same formed none p q =
-    only (unplaced other) formed (no_condition other none) (bare_program P) (bare_program Q) (subst (λ z. Resolves z (bare_program P)) same (resolves-bare tree P p)) (resolves-bare other Q q)
+    only (unplaced other) formed (no_condition other none) (bare_program P) (bare_program Q)
+    (subst (λ z. Resolves z (bare_program P)) same (resolves-bare tree P p)) (resolves-bare other Q q)
 
 pub places_aside : PlacesAside
 unfolding PlacesAside
@@ -35,4 +37,5 @@ pub has_one_program : HasOneProgram
 unfolding HasOneProgram PlacesAside
 has_one_program bytes tree other p q read again none a b =
     let e : read.tokens ≡ again.tokens = cc (sym read.lexed ∙ again.lexed) in
-    places_aside tree other p q (one_derived again.tokens tree other (subst (λ z. Derives z tree) e read.derived) again.derived) (record { bytes = bytes; read = again }) none a b
+    places_aside tree other p q (one_derived again.tokens tree other (subst (λ z. Derives z tree) e read.derived) again.derived)
+    (record { bytes = bytes; read = again }) none a b
