@@ -1,7 +1,7 @@
 -- Lists of concepts that grow.
 use Rattle.std.proofs.Common.{◌≡◌, ℕ, ◌<◌, Bool, false, List, [], ◌∷◌, ◌++◌, length, get_or, refl, sym, ap, ◌∙◌, subst, arith}
 use Rattle.std.specs.Prelude.{Contains}
-use Rattle.std.proofs.lemmas.List.{map-append, length-map, length_push, get_or_append_left, get_or_default}
+use Rattle.std.proofs.lemmas.List.{map-append, length-map, length_push, get_or_append_left, get_or_push, get_or_default}
 use Rattle.std.proofs.lemmas.List.Elements.{All-push}
 use Rattle.std.proofs.lemmas.List.Quantifiers.{all_pairs_push}
 use Rattle.kaba_bits.specs.Sets.{bit, row, rising}
@@ -17,6 +17,10 @@ Grows-refl xs = record { len = omega arith; same = λ k lt. refl }
 
 pub Grows-push : (xs : List Pair) (y : Pair) → Grows xs (xs ++ y ∷ [])
 Grows-push xs y = record { len = omega (arith, length_push xs y); same = λ k lt. get_or_append_left xs (y ∷ []) nothing k lt }
+
+-- the last concept has the columns of an intersection
+pub HasMeet-push : (xs : List Pair) (y : Pair) (B R : List Bool) → IsMeet y.1 B R → HasMeet (xs ++ y ∷ []) B R
+HasMeet-push xs y B R m = (length xs, omega (arith, length_push xs y), subst (λ p. IsMeet p.1 B R) (sym (get_or_push xs y nothing (length xs) refl)) m)
 
 pub Grows-trans : (a b c : List Pair) → Grows a b → Grows b c → Grows a c
 Grows-trans a b c g h = record { len = omega (arith, g.len, h.len); same = λ k lt. h.same k (omega (arith, lt, g.len)) ∙ g.same k lt }

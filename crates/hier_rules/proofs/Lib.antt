@@ -2,6 +2,9 @@ pub mod AnyLemmas
 pub mod PairLemmas
 pub mod KeyLemmas
 pub mod NameLemmas
+pub mod TakenLemmas
+pub mod ClashLemmas
+pub mod StandingLemmas
 pub mod OutcomeLemmas
 pub mod NeedLemmas
 pub mod ChainLemmas

@@ -98,37 +98,3 @@ module _ (F : Facts) (H : Hierarchy) (P : IsPartialOrder H.order) where
     where
       none : (d : ℕ) → is_offered H n d ≡ false → confused F H n d ≡ None
       none d e = rw e refl
-
-module _ (F : Facts) (H : Hierarchy) where
-  -- a set of offered columns meets the set of those that clash exactly where one does
-  pub meets_confused : (n d : ℕ) (offered clashes : List Bool) → length offered ≡ length F.columns.items → ((c : ℕ) → c < length F.columns.items → bit offered c ≡ is_offered H n c)
-      → ((c : ℕ) → bit clashes c ≡ (nat_lt c d && clash F H c d)) → d < length F.columns.items
-      → (Meet offered clashes → any_below d (λ c. is_offered H n c && clash F H c d) ≡ true) × (any_below d (λ c. is_offered H n c && clash F H c d) ≡ true → Meet offered clashes)
-  meets_confused n d offered clashes len bits pairs lt = (
-    λ m.
-        let below = bit-below offered m.0 m.1 in
-        let p = and_parts (nat_lt m.0 d) (clash F H m.0 d) (sym (pairs m.0) ∙ m.2) in
-        any_below_has (λ c. is_offered H n c && clash F H c d) d m.0 (ltb-true m.0 d p.0)
-        (and_from (is_offered H n m.0) (clash F H m.0 d) (sym (bits m.0 (omega (arith, below, len))) ∙ m.1) p.1),
-    λ h.
-        let c = any_below_some (λ c. is_offered H n c && clash F H c d) d h in
-        let p = and_parts (is_offered H n c.0) (clash F H c.0 d) c.2 in
-        (c.0, bits c.0 (omega (arith, c.1, lt)) ∙ p.0, pairs c.0 ∙ and_from (nat_lt c.0 d) (clash F H c.0 d) (lt-ltb c.0 d c.1) p.1),
-  )
-
--- two sets meet where one has some number of the other's list
-pub listed_meet : (a b : List Bool) (xs : List ℕ) → ListsBelow (λ i. bit a i ≡ true) (length a) xs → (list_any (bit b) xs ≡ true → Meet a b) × (Meet a b → list_any (bit b) xs ≡ true)
-listed_meet a b xs l = (
-  λ h. let s = some xs h in (s.0, ((l.each s.0).0 s.1).1, s.2),
-  λ m.
-      let c = (l.each m.0).1 (bit-below a m.0 m.1, m.1) in
-      list_any_at (bit b) xs c.0 0 c.1 (subst (λ i. bit b i ≡ true) (sym (get_or_default xs c.0 0 m.0 c.1 ∙ c.2)) m.2),
-)
-  where
-    some : (ys : List ℕ) → list_any (bit b) ys ≡ true → (i : ℕ) × Contains ys i × (bit b i ≡ true)
-    some [] h = absurd (false≢true h)
-    some (y ∷ ys) h =
-        ⊎_elim
-        (λ here. (y, (0, omega arith, refl), here))
-        (λ more. let r = some ys more in (r.0, (suc r.1.0, omega (arith, r.1.1), r.1.2), r.2))
-        (or_cases (bit b y) (list_any (bit b) ys) h)

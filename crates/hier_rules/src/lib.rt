@@ -11,11 +11,13 @@ ghost use Rattle.hier_rules.specs.First.{first_changed_run, first_of_edit, first
 mod bodies;
 mod broken;
 mod chains;
+mod clashes;
 mod names;
 mod outcomes;
 mod pairs;
 mod places;
 mod rows;
+mod taken;
 
 use bodies::{first_two_bodies, first_wrong_need, first_wrong_super};
 pub use broken::{Broken, Nodes, Rule};

@@ -1,7 +1,6 @@
-//! The ties and the super calls of the facts as rows of bits, each made once; and a row against a list.
+//! The ties and the super calls of the facts as rows of bits, each made once.
 
-ghost use Rattle.std.specs.Prelude.{◌≡◌, ℕ, ◌<◌, ◌||◌, length, All, Contains, IfOk};
-ghost use Rattle.std.specs.List.{list_any};
+ghost use Rattle.std.specs.Prelude.{◌≡◌, ℕ, ◌<◌, ◌||◌, length, Contains, IfOk};
 ghost use Rattle.kaba_bits.specs.Sets.{bit, row, HasWidth};
 ghost use Rattle.fact_model.specs.InRange.{InRange};
 ghost use Rattle.hier_rules.specs.Asked.{is_pair, is_tie, is_super};
@@ -62,17 +61,4 @@ fn add_super(facts: &Facts, rows: &mut [BitRow], x: SuperInfo)
     ensures added { (r c : ℕ) → bit (row rows.new r) c ≡ (bit (row rows.old r) c || is_pair x.row.0 x.column.0 r c) }
 {
     set_at(rows, x.row.0 as usize, x.column.0);
-}
-
-/// Whether a set has some number of a list.
-pub fn has_some(set: &BitRow, numbers: &[u32]) -> bool
-    requires { All (λ i. i < length set.now) numbers.now }
-    ensures { result ≡ list_any (bit set.now) numbers.now }
-{
-    for i in numbers {
-        if set.has(*i) {
-            return true;
-        }
-    }
-    false
 }

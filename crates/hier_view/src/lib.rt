@@ -5,3 +5,4 @@ mod lines;
 mod lists;
 
 pub use lines::show_hierarchy;
+pub use lists::live_nodes;

@@ -135,8 +135,8 @@ module _ (P : Plain) (g : Env) (a b : Place → Tag) where
     step_at (st.RStmt-For-0-Some' c s) (t_st_then h k) = t_st_then (st_at s h) t_no_st
 
     else_at : (o : st.Held-RStmt-If-1) → TypedArms P g (else_of a o) → TypedArms P g (else_of b o)
-    else_at st.RStmt-If-1-None' h = t_no_st
-    else_at (st.RStmt-If-1-Some' s body) h = sts_at body h
+    else_at st.RStmt-If-1-None' h = t_no_other
+    else_at (st.RStmt-If-1-Some' s body) (t_otherwise h) = t_otherwise (sts_at body h)
 
     arms_at : {n : _} (arms : st.Row_of-RArm n) (xs ys : Arms) → (TypedArms P g xs → TypedArms P g ys) → TypedArms P g (arms_of a arms xs) → TypedArms P g (arms_of b arms ys)
     arms_at st.end_of-RArm xs ys other h = other h

@@ -32,7 +32,7 @@ all_same (suc n) zero x v e = same_Some _ _ e
 all_same (suc n) (suc i) x v e = all_same n i x v e
 
 -- an array has no class, and a string none
-element_class : (s : Static) (u : Ty) → element_of s ≡ Some u → class_of s ≡ None
+pub element_class : (s : Static) (u : Ty) → element_of s ≡ Some u → class_of s ≡ None
 element_class null_value u e = refl
 element_class no_value u e = refl
 element_class (a_value t) u e = go t.base t.dim e

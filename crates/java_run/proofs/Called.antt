@@ -10,14 +10,19 @@ use Rattle.java_heap.specs.declared.values.Value.TheVariants.{Ref}
 use Rattle.java_heap.specs.Seen.{value_of}
 use Rattle.java_heap.specs.Cells.{Store}
 use Rattle.java_meaning.specs.Moment as moment
-use Rattle.java_meaning.specs.Moment.{Cell, an_object, own_class, Object, State, Outcome, Wrong, Going, stop, step, with_some}
-use Rattle.java_meaning.specs.Meaning.{enter, call_object, call_super, call_on, make_object, meaning}
+use Rattle.java_meaning.specs.Moment.{Cell, an_object, own_class, Text, Object, State, Outcome, Wrong, Going, stop, step, with_some}
+use Rattle.java_meaning.specs.Meaning.{enter, call_object, call_super, string_call, text_method, call_on, make_object, meaning}
 use Rattle.java_meaning.specs.Languages.{language_of, body_of, slot_in, fresh_of}
 use Rattle.java_run.specs.declared.machine.Machine.{Machine}
 use Rattle.java_run.specs.Parts.{bare}
 use Rattle.java_run.specs.declared.machine.Call.{Call}
 use Rattle.java_run.specs.Rest.{above, below, calls, frame_of, state_of, onward}
 use Rattle.java_run.proofs.Loops.{no_step, one_step}
+
+-- no string has a method that is not there
+pub no_text : (o : Option (List ℕ)) (s : State) → with_some o s (λ u. stop Wrong s) ≡ stop Wrong s
+no_text None s = refl
+no_text (Some u) s = refl
 
 module _ (P : Plain) (n : ℕ) (m : Machine) where
   -- the body of a number, where there is one
@@ -100,6 +105,12 @@ module _ (P : Plain) (n : ℕ) (m : Machine) where
       ≡ with_some (body_of P k) (state_of (record m { left = i })) (λ b. enter (language_of P) (meaning (language_of P) n) b (value_of (Ref a)) vs (state_of (record m { left = i })) (onward P n (record m { left = i })))
   unfolding Enters onward
   object_enters i t k e x a vs h z q = bodies i t e x a vs h z ∙ ap (λ o. Enters i o (Object a) vs) q
+
+  -- a call on a string
+  pub on_text : (e : Ex) (x : List ℕ) (a : ℕ) (us vs : List moment.Value) → us ≡ vs
+      → call_on (language_of P) (meaning (language_of P) n) (frame_of m.now).env e (null bare) x (Text a) us (state_of m) (onward P n m)
+      ≡ with_some (slice_get m.heap.strings a) (state_of m) (λ u. with_some (text_method (slot_in P (frame_of m.now).env e x) x) (state_of m) (λ y. string_call y u vs (state_of m) (onward P n m)))
+  on_text e x a us vs h = ap (λ l. call_on (language_of P) (meaning (language_of P) n) (frame_of m.now).env e (null bare) x (Text a) l (state_of m) (onward P n m)) h
 
   -- a call on a value
   pub on_value : (e : Ex) (x : List ℕ) (v w : Value) (vs : List moment.Value) → v ≡ w

@@ -8,16 +8,19 @@ ghost use Rattle.java_core.specs.Classes.{lookup};
 ghost use Rattle.java_core.specs.Formed.{IsFormed};
 ghost use Rattle.java_core.specs.Types.{env_of};
 ghost use Rattle.java_heap.specs.Seen.{value_of};
-ghost use Rattle.java_meaning.specs.Moment.{Nothing, Object, own_class, with_some};
+ghost use Rattle.java_meaning.specs.Moment.{Nothing, Object, State, own_class, with_some};
 ghost use Rattle.java_meaning.specs.Values.{default_of, arguments};
-ghost use Rattle.java_meaning.specs.Meaning.{enter, call_on, call_static, call_super, make_object, meaning};
+ghost use Rattle.java_meaning.specs.Meaning.{ToValue, enter, string_call, text_method, call_on, call_static, call_super, make_object, meaning};
 ghost use Rattle.java_meaning.specs.Languages.{language_of, body_of, slot_in};
 ghost use Rattle.java_run.specs.Parts.{bare, receiver};
 ghost use Rattle.java_run.specs.Rest.{above, below, calls, given_at, frame_of, state_of, onward, leave_from};
+ghost use Rattle.java_run.specs.Founds.{gives};
 ghost use Rattle.java_run.specs.Work.{works};
 ghost use Rattle.java_run.specs.Moves.{MovesOk};
 
-use crate::machine::{Active, Call, Ending, Machine, Task, Turn, answer, faulty, give, stuck};
+use crate::machine::{
+    Active, Call, Ending, Found, Machine, Task, Turn, answer, faulty, give, stuck,
+};
 use crate::objects::fresh;
 use crate::string_calls::call_string;
 use java_core::{
@@ -63,7 +66,7 @@ fn call_on<'a>(
     match target {
         Value::Null => faulty(Fault::Null),
         Value::Str(at) => {
-            let found = call_string(&m.heap, name, at, &args);
+            let found = on_string(p, &m.heap, m.now.method, base, name, at, &args);
             answer(m, found)
         }
         Value::Ref(at) => match class_at(&m.heap, at) {
@@ -73,6 +76,25 @@ fn call_on<'a>(
         Value::Int(_) => stuck(),
         Value::Bool(_) => stuck(),
         Value::Char(_) => stuck(),
+    }
+}
+
+/// A call on a string: of a method of String, where its static type has no slot of the name.
+fn on_string(
+    p: &Program,
+    heap: &Heap,
+    method: &Method,
+    base: Option<&RExpr>,
+    name: &Name,
+    at: usize,
+    args: &[Value],
+) -> Found
+    requires { IsFormed (program_of no_place p.now) }
+    ensures { (b : ℕ) (s : State) (k : ToValue) → s.strings ≡ heap.now.strings → with_some (slice_get s.strings at) s (λ u. with_some (text_method (slot_in (program_of no_place p.now) (env_of b (method_seen no_place method.now)) (receiver base.entry) name.now) name.now) s (λ m. string_call m u (map value_of args.now) s k)) ≡ gives result s k }
+{
+    match slot_at(p, method, base, name) {
+        None => call_string(heap, name, at, args),
+        Some(_) => Found::Stuck,
     }
 }
 

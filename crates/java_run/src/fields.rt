@@ -99,7 +99,10 @@ fn member_value(
             let field = field_at(p, method, base, name);
             Ok(field_value(alloc, p, heap, field, at, class)?)
         }
-        Named::Array(at, _) => Ok(length_of(heap, name, at)),
+        Named::Array(at, _) => match field_at(p, method, base, name) {
+            None => Ok(length_of(heap, name, at)),
+            Some(_) => Ok(Found::Stuck),
+        },
         Named::Null => Ok(Found::Fault(Fault::Null)),
         Named::Nothing => Ok(Found::Stuck),
     }

@@ -1,7 +1,8 @@
-use Rattle.std.proofs.Common.{◌≡◌, ◌⊎◌, inl, inr, ⊎_elim, ℕ, ◌==◌, Bool, true, false, ◌&&◌, not, List, length, sym, ◌∙◌, subst, arith, set}
-use Rattle.std.proofs.lemmas.Bool.{or_cases, or_left, or_right, and_parts, and_from}
+use Rattle.std.proofs.Common.{◌≡◌, ◌⊎◌, inl, inr, ⊎_elim, ℕ, ◌==◌, ◌<◌, Bool, true, false, ◌&&◌, not, List, length, refl, sym, ◌∙◌, subst, arith, set}
+use Rattle.std.proofs.lemmas.Bool.{eqb-true, eq-eqb, or_cases, or_left, or_right, and_parts, and_from}
 use Rattle.std.proofs.lemmas.Grind.{common_steps}
-use Rattle.kaba_bits.specs.Sets.{bit, HasWidth}
+use Rattle.kaba_bits.specs.Sets.{bit, row, HasWidth}
+use Rattle.kaba_bits.proofs.SetLemmas.{bit-below}
 use Rattle.kaba_order.specs.Orders.{Ordered, is_le, is_live, IsPartialOrder, IsUnder, IsLeastWith, IsDropped}
 
 -- a set that lost a number
@@ -85,4 +86,27 @@ module _ (old new : Ordered) (n p : ℕ) (o : IsPartialOrder old) (count : lengt
     pair = through n p (o.reflexive n n_lives) (o.reflexive p p_lives);
     least = λ other q within pair a b h.
         ⊎_elim (λ x. within a b x) (λ x. q.transitive a n b (within a n x.0) (q.transitive n p b pair (within p b x.1))) (came a b h);
+  }
+
+-- a family has a row that has a number
+row_below : (rows : List (List Bool)) (a b : ℕ) → bit (row rows a) b ≡ true → a < length rows
+row_below rows a b h = grind (arith, common_steps, h)
+
+-- each node is related to itself alone
+module _ (o : Ordered) (count : length o.le ≡ length o.live) (widths : HasWidth (length o.live) o.le) (pairs : (a b : ℕ) → a < length o.live → is_le o a b ≡ (a == b)) (full : (a : ℕ) → a < length o.live → is_live o a ≡ true) where
+  within : (a b : ℕ) → is_le o a b ≡ true → a < length o.live
+  within a b h = subst (λ n. a < n) count (row_below o.le a b h)
+
+  one : (a b : ℕ) → is_le o a b ≡ true → a ≡ b
+  one a b h = eqb-true a b (sym (pairs a b (within a b h)) ∙ h)
+
+  pub discrete_order : IsPartialOrder o
+  discrete_order = record {
+    count = count;
+    widths = widths;
+    lower_lives = λ a b h. full a (within a b h);
+    upper_lives = λ a b h. subst (λ x. is_live o x ≡ true) (one a b h) (full a (within a b h));
+    reflexive = λ a h. pairs a a (bit-below o.live a h) ∙ eq-eqb a a refl;
+    antisymmetric = λ a b h k. one a b h;
+    transitive = λ a b c h k. subst (λ x. is_le o a x ≡ true) (one b c k) h;
   }

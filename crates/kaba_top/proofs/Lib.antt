@@ -6,3 +6,4 @@ pub mod Runs
 pub mod Analysing
 pub mod Reaching
 pub mod Promised
+pub mod Making

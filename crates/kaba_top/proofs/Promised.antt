@@ -16,7 +16,7 @@ use Rattle.edit_script.specs.Script.{AreEditsOf}
 use Rattle.tree_merge.specs.Logs.{steps_of}
 use Rattle.tree_view.specs.Lines.{log_text}
 use Rattle.java_write.specs.Written.{IsWrittenText, tree_of_hierarchy}
-use Rattle.kaba_words.specs.Commands.{Cmd, run, table, lattice, edit, regen, help, version}
+use Rattle.kaba_words.specs.Commands.{Cmd, run, table, lattice, edit, regen, make, help, version}
 use Rattle.kaba_top.specs.Reading.{IsRefusedText, IsTypedText, TextAnswers}
 use Rattle.kaba_top.specs.FactsAnswers.{HasFacts, AnalysisAnswers, LatticeOf}
 use Rattle.kaba_top.specs.ScriptAnswers.{HasLattice, IsNotRun, IsRun, ScriptAnswers, start_of, edited, refusals}
@@ -180,6 +180,7 @@ command_promised (regen bound file script) first second status out err a = λ j.
     a
 command_promised (run file steps words) first second status out err a = tt
 command_promised (table file) first second status out err a = tt
+command_promised (make prints number) first second status out err a = tt
 command_promised help first second status out err a = tt
 command_promised version first second status out err a = tt
 

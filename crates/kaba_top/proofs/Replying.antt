@@ -3,9 +3,8 @@ use Rattle.std.proofs.Common.{◌≡◌, ◌⊎◌, inl, inr, ℕ, ◌<◌, ◌�
 use Rattle.std.specs.declared.alloc.AllocError.{AllocError}
 use Rattle.kaba_base.specs.Outside.{Files, IsAbsent, IsFile, Rose}
 use Rattle.kaba_top.specs.declared.reply.Reply.{Reply}
-use Rattle.kaba_words.specs.Commands.{Cmd, help, version, Fits, FitsNone}
-use Rattle.kaba_top.specs.About.{help_text, version_text}
-use Rattle.kaba_top.specs.Lines.{Says, Gives, usage, cannot_read, most_bytes, file_too_large}
+use Rattle.kaba_words.specs.Commands.{Cmd, Fits, FitsNone}
+use Rattle.kaba_top.specs.Lines.{Says, usage, cannot_read, most_bytes, file_too_large}
 use Rattle.kaba_top.specs.Answers.{Agrees, IsMissing, IsTooLarge, FileAnswers, IsAnswered, IsFault, Names, CommandAnswers, CommandReplies, Replies}
 use Rattle.kaba_top.specs.Fetching.{IsThere, IsRefused, FileReplies}
 
@@ -53,18 +52,13 @@ of_command told before now words command (Ok reply) fits (inl a) = inl (record {
 of_command told before now words command (Ok reply) fits (inr u) = inr (record { command = command; fits = fits; unread = u })
 
 -- an answer of a command that reads no file is one for any files
-without_files : (told : Option Files) (before now : ℕ) (words : List (List ℕ)) (command : Cmd) (status : ℕ) (out err : List ℕ) → Fits words command → ((first second : Files) → CommandAnswers command first second status out err) → Replies told before now words status out err
-without_files told before now words command status out err fits a =
+pub without_files : (told : Option Files) (before now : ℕ) (words : List (List ℕ)) (command : Cmd) (r : Result Reply AllocError) → Fits words command
+    → ((first second : Files) → IfOk r (λ reply. CommandAnswers command first second reply.status reply.out.items reply.err.items))
+    → IfOk r (λ reply. Replies told before now words reply.status reply.out.items reply.err.items)
+without_files told before now words command (Err e) fits a = tt
+without_files told before now words command (Ok reply) fits a =
     let files = any_files told in
     inl (record { first = files.0; second = files.0; first_agrees = files.1; second_agrees = files.1; answers = inr (record { command = command; fits = fits; answers = a files.0 files.0 }) })
-
-pub help_replies : (told : Option Files) (before now : ℕ) (words : List (List ℕ)) (r : Result Reply AllocError) → Fits words help → IfOk r (λ reply. Gives 0 help_text [] reply.status reply.out.items reply.err.items) → IfOk r (λ reply. Replies told before now words reply.status reply.out.items reply.err.items)
-help_replies told before now words (Err e) fits h = tt
-help_replies told before now words (Ok reply) fits h = without_files told before now words help reply.status reply.out.items reply.err.items fits (λ first second. h)
-
-pub version_replies : (told : Option Files) (before now : ℕ) (words : List (List ℕ)) (r : Result Reply AllocError) → Fits words version → IfOk r (λ reply. Gives 0 version_text [] reply.status reply.out.items reply.err.items) → IfOk r (λ reply. Replies told before now words reply.status reply.out.items reply.err.items)
-version_replies told before now words (Err e) fits h = tt
-version_replies told before now words (Ok reply) fits h = without_files told before now words version reply.status reply.out.items reply.err.items fits (λ first second. h)
 
 -- the one file of a command was read, and K are the answers for its bytes
 pub read_reply : (told : Option Files) (name bytes : List ℕ) (K : List ℕ → ℕ → List ℕ → List ℕ → Type 0) (status : ℕ) (out err : List ℕ) → IsThere told name bytes → K bytes status out err → IsAnswered told (λ first second. FileAnswers K first name) status out err

@@ -1,5 +1,5 @@
 -- The statuses of want of memory and of a failed write are no reply's.
-use Rattle.std.proofs.Common.{◌≡◌, inl, inr, ℕ, ◌++◌, Bool, ◌==◌, true, false, List, [], length, Option, if◌then◌else◌, arith}
+use Rattle.std.proofs.Common.{◌≡◌, inl, inr, ℕ, ◌-◌, ◌++◌, Bool, ◌==◌, true, false, List, [], length, Option, if◌then◌else◌, arith}
 use Rattle.kaba_base.specs.Outside.{Files}
 use Rattle.java_core.specs.declared.Program.{Program}
 use Rattle.java_core.specs.Trees.{no_place}
@@ -7,7 +7,7 @@ use Rattle.java_core.specs.Programs.{program_of}
 use Rattle.java_meaning.specs.Moment as meaning
 use Rattle.fact_model.specs.declared.facts.Facts.{Facts}
 use Rattle.java_run.specs.Outcomes.{meant}
-use Rattle.kaba_words.specs.Commands.{Cmd, run, table, lattice, edit, regen, help, version}
+use Rattle.kaba_words.specs.Commands.{Cmd, run, table, lattice, edit, regen, make, help, version}
 use Rattle.kaba_top.specs.About.{help_text, version_text}
 use Rattle.kaba_top.specs.Lines.{Says, Gives}
 use Rattle.kaba_top.specs.Reading.{IsRefusedText, TextAnswers}
@@ -19,6 +19,8 @@ use Rattle.tree_view.specs.Lines.{log_text}
 use Rattle.kaba_top.specs.ScriptAnswers.{HasLattice, ScriptAnswers, edited, refusals}
 use Rattle.kaba_top.specs.EditAnswers.{EditOf, ShowsHierarchy}
 use Rattle.kaba_top.specs.RegenAnswers.{IsRegeneration, IsWithoutTree, RegenOf}
+use Rattle.kaba_top.specs.MakeAnswers.{sample_text, MadeTextAnswers, RunGives, WrittenGives, MadeOf, MakeAnswers, counts_of, made_steps, summary}
+use Rattle.kaba_top.specs.declared.make.Counts.{Counts}
 use Rattle.kaba_top.specs.Answers.{FileAnswers, EditAnswers, RegenAnswers, CommandAnswers, Answers, Replies}
 
 abbrev pub IsOther : ℕ → Type 0
@@ -108,6 +110,32 @@ regens_other : (bound : ℕ) (bytes script : List ℕ) → AreOther (RegenAnswer
 regens_other bound bytes script =
     text_other (λ p. AnalysisAnswers (RegenOf bound script p) p) (λ p. analysis_other (RegenOf bound script p) (regen_other bound script p) p) bytes
 
+made_text_other : (K : Program → ℕ → List ℕ → List ℕ → Type 0) → ((p : Program) → AreOther (K p)) → (text : List ℕ) → AreOther (MadeTextAnswers K text)
+made_text_other K o text status out err (inl a) = said 67 (omega arith, omega arith) _ status out err a.says
+made_text_other K o text status out err (inr a) = text_other K o text status out err a.answers
+
+counts_other : (counts : Counts) (e : meaning.End) (steps : ℕ) (bytes : List ℕ) → AreOther (RunGives counts e steps bytes)
+counts_other counts meaning.Ended steps bytes status out err h = gave 0 (omega arith, omega arith) _ _ status out err h
+counts_other counts (meaning.Faulted kind) steps bytes status out err h = end_other (meaning.Faulted kind) bytes status out err h
+counts_other counts meaning.Going steps bytes status out err h = end_other meaning.Going bytes status out err h
+counts_other counts meaning.Wrong steps bytes status out err h = absurd h
+counts_other counts meaning.Escaped steps bytes status out err h = absurd h
+
+written_other : (counts : Counts) (p : Program) → AreOther (WrittenGives counts p)
+written_other counts p =
+    let o = meant (program_of no_place p) [] made_steps in
+    counts_other counts o.end (made_steps - o.left) o.out
+
+made_other : (program : Program) (f : Facts) → AreOther (MadeOf program f)
+made_other program f status out err (inl a) = said 68 (omega arith, omega arith) _ status out err a.many.says
+made_other program f status out err (inr a) =
+    made_text_other (WrittenGives (counts_of f a.has.lattice a.tree a.log)) (written_other (counts_of f a.has.lattice a.tree a.log)) a.text status out err a.answers
+
+make_other : (prints : Bool) (number : ℕ) → AreOther (MakeAnswers prints number)
+make_other true number = gave 0 (omega arith, omega arith) (sample_text number) []
+make_other false number =
+    made_text_other (λ p. AnalysisAnswers (MadeOf p) p) (λ p. analysis_other (MadeOf p) (made_other p) p) (sample_text number)
+
 command_other : (command : Cmd) (first second : Files) → AreOther (CommandAnswers command first second)
 command_other (run file steps words) first second = file_other (TextAnswers (RunAnswers steps words)) (text_other (RunAnswers steps words) (run_other steps words)) first file
 command_other (table file) first second =
@@ -118,6 +146,7 @@ command_other (edit bound file script) first second =
     file_other (λ bytes. FileAnswers (EditAnswers bound bytes) second script) (λ bytes. file_other (EditAnswers bound bytes) (edits_other bound bytes) second script) first file
 command_other (regen bound file script) first second =
     file_other (λ bytes. FileAnswers (RegenAnswers bound bytes) second script) (λ bytes. file_other (RegenAnswers bound bytes) (regens_other bound bytes) second script) first file
+command_other (make prints number) first second = make_other prints number
 command_other help first second = gave 0 (omega arith, omega arith) help_text []
 command_other version first second = gave 0 (omega arith, omega arith) version_text []
 

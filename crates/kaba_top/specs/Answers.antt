@@ -2,7 +2,7 @@
 use Rattle.std.specs.Prelude.{◌≡◌, ◌⊎◌, ℕ, ◌<◌, ◌≤◌, List, [], length, Option, Some, None}
 use Rattle.std.specs.Option.{IsSome}
 use Rattle.kaba_base.specs.Outside.{Files, Rose, taken_more, HoldsPrefix}
-use Rattle.kaba_words.specs.Commands.{Cmd, run, table, lattice, edit, regen, help, version, Fits, FitsNone}
+use Rattle.kaba_words.specs.Commands.{Cmd, run, table, lattice, edit, regen, make, help, version, Fits, FitsNone}
 use Rattle.kaba_top.specs.About.{help_text, version_text}
 use Rattle.kaba_top.specs.Lines.{Says, Gives, usage, cannot_read, most_bytes, file_too_large}
 use Rattle.kaba_top.specs.Reading.{TextAnswers}
@@ -10,6 +10,7 @@ use Rattle.kaba_top.specs.RunAnswers.{RunAnswers}
 use Rattle.kaba_top.specs.FactsAnswers.{AnalysisAnswers, TableOf, LatticeOf}
 use Rattle.kaba_top.specs.EditAnswers.{EditOf}
 use Rattle.kaba_top.specs.RegenAnswers.{RegenOf}
+use Rattle.kaba_top.specs.MakeAnswers.{MakeAnswers}
 
 -- the words fit no pattern
 pub record IsUsage (words : List (List ℕ)) (status : ℕ) (out err : List ℕ) : Type 0 where
@@ -54,6 +55,7 @@ CommandAnswers (table file) first second = FileAnswers (TextAnswers (AnalysisAns
 CommandAnswers (lattice json bound file) first second = FileAnswers (TextAnswers (AnalysisAnswers (LatticeOf json bound))) first file
 CommandAnswers (edit bound file script) first second = FileAnswers (λ bytes. FileAnswers (EditAnswers bound bytes) second script) first file
 CommandAnswers (regen bound file script) first second = FileAnswers (λ bytes. FileAnswers (RegenAnswers bound bytes) second script) first file
+CommandAnswers (make prints number) first second = MakeAnswers prints number
 CommandAnswers help first second = Gives 0 help_text []
 CommandAnswers version first second = Gives 0 version_text []
 
@@ -64,6 +66,7 @@ Names (table file) name = name ≡ file
 Names (lattice json bound file) name = name ≡ file
 Names (edit bound file script) name = (name ≡ file) ⊎ (name ≡ script)
 Names (regen bound file script) name = (name ≡ file) ⊎ (name ≡ script)
+Names (make prints number) name = ⊥
 Names help name = ⊥
 Names version name = ⊥
 

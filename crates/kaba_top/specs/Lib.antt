@@ -7,6 +7,7 @@ pub mod ScriptAnswers
 pub mod EditAnswers
 pub mod Fresh
 pub mod RegenAnswers
+pub mod MakeAnswers
 pub mod Answers
 pub mod Fetching
 pub mod Readings

@@ -30,7 +30,7 @@ use Rattle.edit_script.specs.Script.{AreEditsOf}
 use Rattle.rebuild_model.specs.Rebuilds.{Rebuilds}
 use Rattle.rebuild_types.specs.Rows.{OffersRows}
 use Rattle.same_run.specs.Same.{HasSameRun}
-use Rattle.kaba_words.specs.Commands.{Cmd, run, table, lattice, edit, regen, help, version, Fits}
+use Rattle.kaba_words.specs.Commands.{Cmd, run, table, lattice, edit, regen, make, help, version, Fits}
 use Rattle.kaba_top.specs.Reading.{IsTypedText}
 use Rattle.kaba_top.specs.FactsAnswers.{HasFacts, shown}
 use Rattle.kaba_top.specs.Answers.{Agrees}
@@ -128,6 +128,7 @@ Promises (edit bound file script) first second status out err = IsJudging status
 Promises (regen bound file script) first second status out err = IsJudging status → OfFile first file (λ bytes. OfFile second script (λ lines. WritesProgram bytes lines out err))
 Promises (run file steps words) first second status out err = Unit {0}
 Promises (table file) first second status out err = Unit {0}
+Promises (make prints number) first second status out err = Unit {0}
 Promises help first second status out err = Unit {0}
 Promises version first second status out err = Unit {0}
 

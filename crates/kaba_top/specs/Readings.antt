@@ -1,5 +1,5 @@
 -- What is known once a text was read.
-use Rattle.std.specs.Prelude.{◌≡◌, ◌⊎◌, ℕ, List}
+use Rattle.std.specs.Prelude.{◌≡◌, ◌⊎◌, ℕ, ◌≤◌, List, length}
 use Rattle.kaba_base.specs.declared.Place.{Place}
 use Rattle.java_tree.specs.Syntax.{DeclTree}
 use Rattle.java_core.specs.declared.Program.{Program}
@@ -15,8 +15,9 @@ use Rattle.java_check.specs.declared.Kind.{Kind}
 use Rattle.java_check.specs.Fails.{FailsIn}
 use Rattle.kaba_top.specs.declared.reading.Reading.{Reading}
 use Rattle.kaba_top.specs.declared.reading.Reading.TheVariants as readings
-use Rattle.kaba_top.specs.Lines.{Says}
+use Rattle.kaba_top.specs.Lines.{Says, most_bytes}
 use Rattle.kaba_top.specs.Reading.{IsRefusedText, IsTypedText, refused, naming_text, typing_text}
+use Rattle.kaba_top.specs.MakeAnswers.{IsLongText}
 
 -- the bytes are those of this typed program, or a reply refuses them
 abbrev pub IsReading : List ℕ → Reading → Type 0
@@ -61,3 +62,8 @@ pub record IsUntypedTree (tree : List DeclTree) (status : ℕ) (out err : List �
 abbrev pub IsReadingOfTree : List DeclTree → Reading → Type 0
 IsReadingOfTree tree (readings.Typed program) = IsTypedTree tree program
 IsReadingOfTree tree (readings.Refused reply) = IsUnresolvedTree tree reply.status reply.out.items reply.err.items ⊎ IsUntypedTree tree reply.status reply.out.items reply.err.items
+
+-- the bytes of a text that no file holds are those of this typed program, or a reply refuses them
+abbrev pub IsMadeReading : List ℕ → Reading → Type 0
+IsMadeReading bytes (readings.Typed program) = (length bytes ≤ most_bytes) × IsTypedText bytes program
+IsMadeReading bytes (readings.Refused reply) = IsLongText bytes reply.status reply.out.items reply.err.items ⊎ ((length bytes ≤ most_bytes) × IsRefusedText bytes reply.status reply.out.items reply.err.items)

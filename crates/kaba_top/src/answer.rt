@@ -11,6 +11,7 @@ ghost use Rattle.kaba_top.specs.Lines.{most_bytes};
 use crate::about::{help_reply, version_reply};
 use crate::analysis::{lattice_text, table_text};
 use crate::edit::edit_text;
+use crate::make::make_reply;
 use crate::regen::regen_text;
 use crate::reply::Reply;
 use crate::run::run_text;
@@ -174,6 +175,7 @@ pub fn answer<F: Shelf>(
         Ok(Command::Regen(bound, file, script)) => {
             regen_command(alloc, shelf, &file, &script, bound)
         }
+        Ok(Command::Make(prints, number)) => make_reply(alloc, prints, number),
         Ok(Command::Help) => help_reply(alloc),
         Ok(Command::Version) => version_reply(alloc),
         Err(WordsFault::Usage) => Reply::line(alloc, 64, b"usage"),

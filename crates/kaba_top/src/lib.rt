@@ -11,6 +11,7 @@ mod about;
 mod analysis;
 mod answer;
 mod edit;
+mod make;
 mod reading;
 mod regen;
 mod reply;

@@ -32,7 +32,7 @@ fn fault_word(fault: Fault) -> &'static str
 }
 
 /// The reply to a run.
-fn ran(alloc: Global, outcome: Outcome) -> Result<Reply, AllocError>
+pub fn ran(alloc: Global, outcome: Outcome) -> Result<Reply, AllocError>
     ensures { IfOk result (λ reply. EndGives (end_of outcome.end) outcome.out.items reply.status reply.out.items reply.err.items) }
 {
     match outcome.end {

@@ -4,7 +4,7 @@ use Rattle.std.specs.Str.{bytes_eq}
 use Rattle.std.proofs.lemmas.Bool.{false≢true}
 use Rattle.std.proofs.lemmas.Slice.Eq.{bytes_eq-Decides}
 use Rattle.std.proofs.lemmas.Fmt.{decimal_injective}
-use Rattle.kaba_words.specs.Commands.{Cmd, run, table, lattice, edit, regen, help, version, FitsRun, FitsLattice, FitsEdit, NoEdit, FitsNone, Fits, TakesFlag, TakesBound, BoundAfter, IsNumber, most_concepts}
+use Rattle.kaba_words.specs.Commands.{Cmd, run, table, lattice, edit, regen, make, help, version, FitsRun, FitsLattice, FitsEdit, NoEdit, FitsMake, NoMake, FitsNone, Fits, TakesFlag, TakesBound, BoundAfter, IsNumber, most_concepts, most_samples}
 
 -- two words that differ
 apart : (a b : List ℕ) → bytes_eq a b ≡ false → a ≡ b → ⊥
@@ -16,6 +16,7 @@ at_run more none (table file) h = apart (codes "run") (codes "table") refl h.0
 at_run more none (lattice json bound file) h = apart (codes "run") (codes "lattice") refl h.0
 at_run more none (edit bound file script) h = apart (codes "run") (codes "edit") refl h.0
 at_run more none (regen bound file script) h = apart (codes "run") (codes "regen") refl h.0
+at_run more none (make prints n) h = apart (codes "run") (codes "make") refl h.0
 at_run more none help h = apart (codes "run") (codes "--help") refl h.0
 at_run more none version h = apart (codes "run") (codes "--version") refl h.0
 
@@ -25,6 +26,7 @@ at_table more none (table file) h = none file h.1
 at_table more none (lattice json bound file) h = apart (codes "table") (codes "lattice") refl h.0
 at_table more none (edit bound file script) h = apart (codes "table") (codes "edit") refl h.0
 at_table more none (regen bound file script) h = apart (codes "table") (codes "regen") refl h.0
+at_table more none (make prints n) h = apart (codes "table") (codes "make") refl h.0
 at_table more none help h = apart (codes "table") (codes "--help") refl h.0
 at_table more none version h = apart (codes "table") (codes "--version") refl h.0
 
@@ -34,6 +36,7 @@ at_lattice more none (table file) h = apart (codes "lattice") (codes "table") re
 at_lattice more none (lattice json bound file) h = none json bound file h.1
 at_lattice more none (edit bound file script) h = apart (codes "lattice") (codes "edit") refl h.0
 at_lattice more none (regen bound file script) h = apart (codes "lattice") (codes "regen") refl h.0
+at_lattice more none (make prints n) h = apart (codes "lattice") (codes "make") refl h.0
 at_lattice more none help h = apart (codes "lattice") (codes "--help") refl h.0
 at_lattice more none version h = apart (codes "lattice") (codes "--version") refl h.0
 
@@ -43,6 +46,7 @@ at_edit more none (table file) h = apart (codes "edit") (codes "table") refl h.0
 at_edit more none (lattice json bound file) h = apart (codes "edit") (codes "lattice") refl h.0
 at_edit more none (edit bound file script) h = none bound file script h.1
 at_edit more none (regen bound file script) h = apart (codes "edit") (codes "regen") refl h.0
+at_edit more none (make prints n) h = apart (codes "edit") (codes "make") refl h.0
 at_edit more none help h = apart (codes "edit") (codes "--help") refl h.0
 at_edit more none version h = apart (codes "edit") (codes "--version") refl h.0
 
@@ -52,8 +56,19 @@ at_regen more none (table file) h = apart (codes "regen") (codes "table") refl h
 at_regen more none (lattice json bound file) h = apart (codes "regen") (codes "lattice") refl h.0
 at_regen more none (edit bound file script) h = apart (codes "regen") (codes "edit") refl h.0
 at_regen more none (regen bound file script) h = none bound file script h.1
+at_regen more none (make prints n) h = apart (codes "regen") (codes "make") refl h.0
 at_regen more none help h = apart (codes "regen") (codes "--help") refl h.0
 at_regen more none version h = apart (codes "regen") (codes "--version") refl h.0
+
+at_make : (more : List (List ℕ)) → NoMake more → (command : Cmd) → Fits (codes "make" ∷ more) command → ⊥
+at_make more none (run file steps after) h = apart (codes "make") (codes "run") refl h.0
+at_make more none (table file) h = apart (codes "make") (codes "table") refl h.0
+at_make more none (lattice json bound file) h = apart (codes "make") (codes "lattice") refl h.0
+at_make more none (edit bound file script) h = apart (codes "make") (codes "edit") refl h.0
+at_make more none (regen bound file script) h = apart (codes "make") (codes "regen") refl h.0
+at_make more none (make prints n) h = none prints n h.1
+at_make more none help h = apart (codes "make") (codes "--help") refl h.0
+at_make more none version h = apart (codes "make") (codes "--version") refl h.0
 
 at_help : (more : List (List ℕ)) → (more ≡ [] → ⊥) → (command : Cmd) → Fits (codes "--help" ∷ more) command → ⊥
 at_help more none (run file steps after) h = apart (codes "--help") (codes "run") refl h.0
@@ -61,6 +76,7 @@ at_help more none (table file) h = apart (codes "--help") (codes "table") refl h
 at_help more none (lattice json bound file) h = apart (codes "--help") (codes "lattice") refl h.0
 at_help more none (edit bound file script) h = apart (codes "--help") (codes "edit") refl h.0
 at_help more none (regen bound file script) h = apart (codes "--help") (codes "regen") refl h.0
+at_help more none (make prints n) h = apart (codes "--help") (codes "make") refl h.0
 at_help more none help h = none h.1
 at_help more none version h = apart (codes "--help") (codes "--version") refl h.0
 
@@ -70,6 +86,7 @@ at_version more none (table file) h = apart (codes "--version") (codes "table") 
 at_version more none (lattice json bound file) h = apart (codes "--version") (codes "lattice") refl h.0
 at_version more none (edit bound file script) h = apart (codes "--version") (codes "edit") refl h.0
 at_version more none (regen bound file script) h = apart (codes "--version") (codes "regen") refl h.0
+at_version more none (make prints n) h = apart (codes "--version") (codes "make") refl h.0
 at_version more none help h = apart (codes "--version") (codes "--help") refl h.0
 at_version more none version h = none h.1
 
@@ -88,6 +105,9 @@ none_of_edit words more e none = subst FitsNone (sym e) (at_edit more none)
 
 pub none_of_regen : (words : List (List ℕ)) (more : List (List ℕ)) → words ≡ codes "regen" ∷ more → NoEdit more → FitsNone words
 none_of_regen words more e none = subst FitsNone (sym e) (at_regen more none)
+
+pub none_of_make : (words : List (List ℕ)) (more : List (List ℕ)) → words ≡ codes "make" ∷ more → NoMake more → FitsNone words
+none_of_make words more e none = subst FitsNone (sym e) (at_make more none)
 
 pub none_of_help : (words : List (List ℕ)) (more : List (List ℕ)) → words ≡ codes "--help" ∷ more → (more ≡ [] → ⊥) → FitsNone words
 none_of_help words more e none = subst FitsNone (sym e) (at_help more none)
@@ -164,3 +184,24 @@ zero_read word read m e z h = subst (IsNumber word most_concepts) z (subst (Read
 -- a fault is the same whatever else might have been answered
 pub same_fault : {A B E : Type 0} (x y : E) → ◌≡◌ {A = Result A E} (Err x) (Err y) → ◌≡◌ {A = Result B E} (Err x) (Err y)
 same_fault x y h = let e : x ≡ y = cc in ap Err e
+
+-- the words after `make` do not fit
+pub no_number_to_make : (words after : List (List ℕ)) (asked : Bool) → TakesFlag (codes "-p") words asked after → ((word : List ℕ) → after ≡ word ∷ [] → ⊥) → NoMake words
+no_number_to_make words after asked f none prints n h =
+    none h.word ((flag_same (codes "-p") words asked prints after h.after f h.flag).1 ∙ h.word_is)
+
+pub none_to_make : (words after : List (List ℕ)) (asked : Bool) (word : List ℕ) → TakesFlag (codes "-p") words asked after → after ≡ word ∷ []
+    → ((n : ℕ) → IsNumber word most_samples n → 0 < n → ⊥) → NoMake words
+none_to_make words after asked word f e none prints n h =
+    let same : h.word ≡ word = let g = (flag_same (codes "-p") words asked prints after h.after f h.flag).1 in let k = h.word_is in cc in
+    none n (subst (λ w. IsNumber w most_samples n) same h.number) h.some
+
+-- a word that is read as 0 writes no number above
+pub only_zero : (word : List ℕ) (n : ℕ) → IsNumber word most_samples 0 → IsNumber word most_samples n → 0 < n → ⊥
+only_zero word n z h some = omega (arith, some, decimal_injective n 0 (omega (arith, h.small)) (omega arith) (sym h.digits ∙ z.digits))
+
+abbrev pub ReadsSample : List ℕ → Option ℕ → Type 0
+ReadsSample word read = MatchOption read ((n : ℕ) → IsNumber word most_samples n → ⊥) (λ n. IsNumber word most_samples n)
+
+pub zero_to_make : (word : List ℕ) (read : Option ℕ) (m : ℕ) → read ≡ Some m → m ≡ 0 → ReadsSample word read → IsNumber word most_samples 0
+zero_to_make word read m e z h = subst (IsNumber word most_samples) z (subst (ReadsSample word) e h)

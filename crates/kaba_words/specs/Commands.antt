@@ -14,6 +14,7 @@ pub data Cmd : Type 0 where
   lattice : (json : Bool) (bound : ℕ) (file : List ℕ) → Cmd
   edit : (bound : ℕ) (file script : List ℕ) → Cmd
   regen : (bound : ℕ) (file script : List ℕ) → Cmd
+  make : (prints : Bool) (number : ℕ) → Cmd
   help : Cmd
   version : Cmd
 
@@ -26,6 +27,7 @@ command_of (commands.Table file) = table (string_bytes file)
 command_of (commands.Lattice json bound file) = lattice json bound (string_bytes file)
 command_of (commands.Edit bound file script) = edit bound (string_bytes file) (string_bytes script)
 command_of (commands.Regen bound file script) = regen bound (string_bytes file) (string_bytes script)
+command_of (commands.Make prints number) = make prints number
 command_of commands.Help = help
 command_of commands.Version = version
 
@@ -91,6 +93,23 @@ pub record FitsEdit (words : List (List ℕ)) (bound : ℕ) (file script : List 
 abbrev pub NoEdit : List (List ℕ) → Type 0
 NoEdit words = (bound : ℕ) (file script : List ℕ) → FitsEdit words bound file script → ⊥
 
+-- the greatest number of a sample
+abbrev pub most_samples : ℕ
+most_samples = 100
+
+-- [-p] NUMBER
+pub record FitsMake (words : List (List ℕ)) (prints : Bool) (n : ℕ) : Type 0 where
+  pub after : List (List ℕ)
+  pub flag : TakesFlag (codes "-p") words prints after
+  pub word : List ℕ
+  pub word_is : after ≡ word ∷ []
+  pub number : IsNumber word most_samples n
+  pub some : 0 < n
+
+-- the words are no NUMBER with or without a flag
+abbrev pub NoMake : List (List ℕ) → Type 0
+NoMake words = (prints : Bool) (n : ℕ) → FitsMake words prints n → ⊥
+
 -- the words after the command's name
 abbrev pub FitsArguments : List ℕ → List (List ℕ) → Cmd → Type 0
 FitsArguments name words (run file steps more) = (name ≡ codes "run") × FitsRun words file steps more
@@ -98,6 +117,7 @@ FitsArguments name words (table file) = (name ≡ codes "table") × (words ≡ f
 FitsArguments name words (lattice json bound file) = (name ≡ codes "lattice") × FitsLattice words json bound file
 FitsArguments name words (edit bound file script) = (name ≡ codes "edit") × FitsEdit words bound file script
 FitsArguments name words (regen bound file script) = (name ≡ codes "regen") × FitsEdit words bound file script
+FitsArguments name words (make prints n) = (name ≡ codes "make") × FitsMake words prints n
 FitsArguments name words help = (name ≡ codes "--help") × (words ≡ [])
 FitsArguments name words version = (name ≡ codes "--version") × (words ≡ [])
 

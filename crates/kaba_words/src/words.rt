@@ -3,7 +3,7 @@
 
 ghost use Rattle.std.specs.Prelude.{◌≡◌, ◌∷◌, ◌≤◌, ℕ, Bool, true, List, [], Err, IfOk, MatchOption, IsTrue, ◌↔◌, length, codes, string_bytes};
 ghost use Rattle.std.specs.List.{All};
-ghost use Rattle.kaba_words.specs.Commands.{Cmd, texts, command_of, IsNumber, Fits, FitsNone, FitsRun, TakesFlag, BoundAfter, TakesBound, FitsLattice, FitsEdit, NoEdit, most_units};
+ghost use Rattle.kaba_words.specs.Commands.{Cmd, texts, command_of, IsNumber, Fits, FitsNone, FitsRun, TakesFlag, BoundAfter, TakesBound, FitsLattice, FitsEdit, NoEdit, FitsMake, NoMake, most_units};
 ghost use Rattle.kaba_words.specs.declared.words.WordsFault.TheVariants as WordsFault;
 
 use std::alloc::{AllocError, Global};
@@ -21,6 +21,8 @@ pub enum Command {
     Edit(u32, String, String),
     /// `regen [-c N] FILE SCRIPT`: the program that is written of that hierarchy, once its classes are a tree.
     Regen(u32, String, String),
+    /// `make [-p] NUMBER`: what the whole job comes to on the sample program of that size, or its text.
+    Make(bool, u32),
     /// `--help`: what the program takes and gives.
     Help,
     /// `--version`: which version it is.
@@ -270,6 +272,22 @@ fn read_regen(alloc: Global, arguments: Arguments<'_>) -> Result<Command, WordsF
     }
 }
 
+/// The command `make`, of which the words after its name are left.
+fn read_make(alloc: Global, mut arguments: Arguments<'_>) -> Result<Command, WordsFault>
+    ensures command { IfOk result (λ command. Fits (codes "make" ∷ texts arguments.entry.words.now) (command_of command)) }
+    ensures usage { result ≡ Err WordsFault.Usage → NoMake (texts arguments.entry.words.now) }
+{
+    let prints = arguments.flag("-p");
+    let Some(word) = arguments.last() else {
+        return Err(WordsFault::Usage);
+    };
+    match number(alloc, word, 100)? {
+        Some(0) => Err(WordsFault::Usage),
+        Some(n) => Ok(Command::Make(prints, n)),
+        None => Err(WordsFault::Usage),
+    }
+}
+
 /// The command `--help`, of which the words after its name are left.
 fn read_help(arguments: Arguments<'_>) -> Result<Command, WordsFault>
     ensures command { IfOk result (λ command. Fits (codes "--help" ∷ texts arguments.entry.words.now) (command_of command)) }
@@ -307,6 +325,7 @@ pub fn read_words(alloc: Global, words: &Vec<String>) -> Result<Command, WordsFa
         Some("lattice") => read_lattice(alloc, arguments),
         Some("edit") => read_edit(alloc, arguments),
         Some("regen") => read_regen(alloc, arguments),
+        Some("make") => read_make(alloc, arguments),
         Some("--help") => read_help(arguments),
         Some("--version") => read_version(arguments),
         Some(_) => Err(WordsFault::Usage),

@@ -244,7 +244,7 @@ module _ (Q : Plain) (F : Facts) (H : Hierarchy) (W : Plain) (K : Known (untagge
         let o = accessed_at b.row (column.Fld f) l.0 l.1 into c hc in
         subst (λ z. FindsField P Q W R z f) o.class (field_found o.node f o.offers)
 
-    has_slot : (b : Operand) (s d : ℕ) → ((x : AccessInfo) → Contains (accessed (row_at (numbers P Q) b) ((numbers P Q).column (column.Dcl d))) x
+    pub has_slot : (b : Operand) (s d : ℕ) → ((x : AccessInfo) → Contains (accessed (row_at (numbers P Q) b) ((numbers P Q).column (column.Dcl d))) x
         → Contains F.accesses.items x) → HasSlotAt P Q W R b s d
     has_slot b s d into e c hc =
         let l = K.columns.declared d s e in

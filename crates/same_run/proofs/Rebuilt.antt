@@ -50,7 +50,7 @@ use Rattle.rebuild_looks.proofs.Fields.{one_old_field}
 use Rattle.rebuild_looks.proofs.Statics.{one_static_field, one_old_static_field, static_field_is, static_method_is}
 use Rattle.rebuild_types.proofs.Asked.{SeesNew}
 use Rattle.rebuild_types.proofs.Bodies.{have_slots, body_some, copied_locals, this_class}
-use Rattle.rebuild_types.proofs.Served.{renewed, served}
+use Rattle.rebuild_types.proofs.Served.{renewed, served, has_slot}
 use Rattle.rebuild_types.proofs.Walk.{again}
 use Rattle.twin_runs.specs.Twins.{shape_of, Link, BothPair, SameBody, AreTwins}
 use Rattle.twin_runs.proofs.SameRun.{same_run}
@@ -59,7 +59,7 @@ use Rattle.twin_runs.proofs.Shapes.{same_default, same_defaults}
 use Rattle.same_run.proofs.Ties as ties
 use Rattle.same_run.proofs.Ties.{Ties, StaticsTied}
 use Rattle.same_run.proofs.Sited.{MadeAs, has, has_in, new_field, new_field_is, node_of, has_offered, words_made, some_test}
-use Rattle.same_run.proofs.Tied.{IsCopyOf, field_tied, call_tied, super_tied, access_of}
+use Rattle.same_run.proofs.Tied.{IsCopyOf, body_is, field_tied, call_tied, super_tied, access_of}
 use Rattle.same_run.proofs.Outcomes.{test_same, store_same}
 use Rattle.same_run.proofs.Creations.{created}
 use Rattle.same_run.proofs.Points.{at_operand, at_this}
@@ -178,24 +178,29 @@ module _ (Q : Plain) (F : Facts) (H : Hierarchy) (W : Plain) (K : Known (untagge
   -- static members
   method_copied : (d n : ℕ) → IsStaticMethod P W R d n → BothPair L M link Made Pair (L.static_body d) (M.static_body n)
   unfolding labelled_body
-  method_copied d n same b c eb ec =
+  method_copied d n same b eb =
       let x = static_method_is P Q F H W K d n same in
       let k = of_method Q K.old d x.same.old x.same.old_stands in
       let body = then_some (labelled_with P Q F (solved pt) d) (slice_get Q.methods d) b eb in
       let one : k.0 ≡ body.0 = same_Some k.0 body.0 (sym k.1 ∙ body.1) in
       let old : x.same.old ≡ untag_method body.0 = sym k.2 ∙ ap untag_method one in
+      let is = body_is Q F H W K placed facts pt t A O S B table none n x.same.new x.code.written x.same.new_stands x.code.new_code in
       record {
-        number = d;
-        method = body.0;
-        stands = body.1;
-        old_body = body.2;
-        copy = n;
-        new = x.same.new;
-        new_stands = x.same.new_stands;
-        new_body = ec;
-        types = subst (λ z. HasTypes R d z x.same.new) old x.types;
-        code = subst (λ z. HasCode P W R d z x.same.new) old x.code;
-        self = λ i. absurd (false≢true (sym i ∙ sym (ap (λ z. z.is_static) old) ∙ x.same.old_static));
+        body = body_with n x.same.new x.code.written;
+        found = is;
+        pair = record {
+          number = d;
+          method = body.0;
+          stands = body.1;
+          old_body = body.2;
+          copy = n;
+          new = x.same.new;
+          new_stands = x.same.new_stands;
+          new_body = is;
+          types = subst (λ z. HasTypes R d z x.same.new) old x.types;
+          code = subst (λ z. HasCode P W R d z x.same.new) old x.code;
+          self = λ i. absurd (false≢true (sym i ∙ sym (ap (λ z. z.is_static) old) ∙ x.same.old_static));
+        };
       }
 
   statics : StaticsTied Q W F (solved pt) R (has Q F H W K t) (new_field Q F H W K t) new_static Made Pair
@@ -214,11 +219,13 @@ module _ (Q : Plain) (F : Facts) (H : Hierarchy) (W : Plain) (K : Known (untagge
   tied m k e c (a_creation w u o) i = created Q F H W K placed typed facts pt t A O S B table none hierarchy new_static Pair m k e
       (have_slots Q F H W K placed typed facts pt t A O S B table none hierarchy) w u o i
   tied m k e c (a_call w b (Some s) (Some d) es o) i = call_tied Q F H W K placed facts pt t A O S B table none new_static m k e w b s d es o i
+      (has_slot Q F H W K placed typed facts pt t A O S B table none hierarchy b s d
+      (access_of Q F H W K placed facts pt t A O S B table none new_static m k e (a_call w b (Some s) (Some d) es o) i))
   tied m k e c (a_call w b (Some s) None es o) i = tt
   tied m k e c (a_call w b None d es o) i = tt
   tied m k e c (a_static_call w d es o) i = tt
-  tied m k e c (a_super_call w (Some d) es o) i = λ x y self instance ex ey.
-      super_tied Q F H W K placed facts pt t A O S B table none new_static m k e w d es o i c x y self instance ex ey
+  tied m k e c (a_super_call w (Some d) es o) i = λ x self instance ex.
+      super_tied Q F H W K placed facts pt t A O S B table none new_static m k e w d es o i c x self instance ex
   tied m k e c (a_super_call w None es o) i = tt
   tied m k e c (a_test w x o) i = record { same = test_same Q F H W K placed typed facts pt t A O S B table none hierarchy m k e w x o i }
   tied m k e c (a_pair b l r) i = tt
@@ -303,22 +310,25 @@ module _ (Q : Plain) (F : Facts) (H : Hierarchy) (W : Plain) (K : Known (untagge
       let same : x.0 ≡ y.0 = sym (new_field_is Q F H W K t f a.node a.offers) ∙ e ∙ new_field_is Q F H W K t g b.node b.offers in
       one_old_field P Q F H W K f g y.0 (subst (λ z. fields.IsNewField P Q F H W K f z) same x.1) y.1
 
-  kept_shapes : (o : Option ℕ) (f : ℕ) (u v : Ty) → has Q F H W K t o f ≡ true → field_type P f ≡ Some u → field_type W (new_field Q F H W K t f) ≡ Some v
-      → shape_of u ≡ shape_of v
-  kept_shapes o f u v h eu ev =
+  -- a field of the type of another over another class has the shape of its type
+  field_shape : (f g : ℕ) (old new : PlainField) (k : Option ℕ) → slice_get P.fields f ≡ Some old → slice_get W.fields g ≡ Some new
+      → new.ty ≡ retyped k old.ty → option_map shape_of (field_type P f) ≡ option_map shape_of (field_type W g)
+  field_shape f g old new k eo en ty =
+      ap (λ z. option_map shape_of (option_map (λ (z : PlainField). z.ty) z)) eo ∙ ap (λ z. Some z) (shape_kept k old.ty)
+      ∙ ap (λ z. Some (shape_of z)) (sym ty) ∙ sym (ap (λ z. option_map shape_of (option_map (λ (z : PlainField). z.ty) z)) en)
+
+  kept_shapes : (o : Option ℕ) (f : ℕ) → has Q F H W K t o f ≡ true
+      → option_map shape_of (field_type P f) ≡ option_map shape_of (field_type W (new_field Q F H W K t f))
+  kept_shapes o f h =
       let a = kept o f h in
       let x = fields.new_field P Q F H W K f a.offers.node a.offers.stands in
-      let old : u ≡ x.1.is.old.ty = same_Some u x.1.is.old.ty (sym eu ∙ ap (option_map (λ (z : PlainField). z.ty)) x.1.is.old_stands) in
-      let new : v ≡ x.1.field.ty = same_Some v x.1.field.ty
-      (sym ev ∙ ap (field_type W) (new_field_is Q F H W K t f a.node a.offers) ∙ ap (option_map (λ (z : PlainField). z.ty)) x.1.stands) in
-      ap shape_of old ∙ shape_kept (R.row_type (row.Field f)) x.1.is.old.ty ∙ ap shape_of (sym (new ∙ x.1.is.type))
+      field_shape f x.0 x.1.is.old x.1.field (R.row_type (row.Field f)) x.1.is.old_stands x.1.stands x.1.is.type
+      ∙ ap (λ z. option_map shape_of (field_type W z)) (sym (new_field_is Q F H W K t f a.node a.offers))
 
-  static_shapes : (f : ℕ) (u v : Ty) → is_static_field P f ≡ true → field_type P f ≡ Some u → field_type W (new_static f) ≡ Some v → shape_of u ≡ shape_of v
-  static_shapes f u v h eu ev =
+  static_shapes : (f : ℕ) → is_static_field P f ≡ true → option_map shape_of (field_type P f) ≡ option_map shape_of (field_type W (new_static f))
+  static_shapes f h =
       let x = static_field_is P Q F H W K f (new_static f) (new_static_is f h) in
-      let old : u ≡ x.same.old.ty = same_Some u x.same.old.ty (sym eu ∙ ap (option_map (λ (z : PlainField). z.ty)) x.same.old_stands) in
-      let new : v ≡ x.same.new.ty = same_Some v x.same.new.ty (sym ev ∙ ap (option_map (λ (z : PlainField). z.ty)) x.same.new_stands) in
-      ap shape_of old ∙ shape_kept (R.row_type (row.Field f)) x.same.old.ty ∙ ap shape_of (sym (new ∙ x.type))
+      field_shape f (new_static f) x.same.old x.same.new (R.row_type (row.Field f)) x.same.old_stands x.same.new_stands x.type
 
   statics_begin : (f : ℕ) → is_static_field P f ≡ true → slice_get (statics_of P) f ≡ slice_get (statics_of W) (new_static f)
   statics_begin f h =
@@ -352,6 +362,6 @@ module _ (Q : Plain) (F : Facts) (H : Hierarchy) (W : Plain) (K : Known (untagge
       from_nothing : (i : ℕ) → i ≡ 0 + i
       from_nothing i = omega arith
 
-  -- the watched run is the run of the new program, but for what it notes, unless one is wrong or the watched one escapes
+  -- the watched run is the run of the new program, but for what it notes, unless it is wrong or escapes
   pub watched_same : (words : List (List ℕ)) (n : ℕ) → Alike (run_in L P.main words n) (run_in M W.main words n)
   watched_same words n = same_run L M link Made Pair twins P.main W.main (method_copied P.main W.main K.rebuilt.main) words n

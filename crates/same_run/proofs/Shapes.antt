@@ -1,16 +1,17 @@
--- A type over another class has its shape, and what is cast, but for numbers, has a class.
-use Rattle.std.proofs.Common.{◌≡◌, ℕ, Option, Some, None, refl, sym, ◌∙◌, subst, ⊎_elim}
+-- A type over another class has its shape, one without a class has none, and what is cast, but for numbers, has a class.
+use Rattle.std.proofs.Common.{◌≡◌, ℕ, zero, suc, Option, Some, None, refl, sym, ◌∙◌, subst, ⊎_elim}
 use Rattle.std.specs.Prelude.{◌&&◌, true, false}
 use Rattle.std.proofs.lemmas.Bool.{false≢true, or_cases, and_parts}
 use Rattle.java_core.specs.declared.Ty.{Ty}
 use Rattle.java_core.specs.declared.TyBase.{TyBase}
 use Rattle.java_core.specs.declared.TyBase.TheVariants.{Int, Boolean, Char, Str, Class}
 use Rattle.java_core.specs.Programs.{Plain}
-use Rattle.java_core.specs.Types.{Static, a_value, class_in, class_of, is_numeric, is_only}
+use Rattle.java_core.specs.Types.{Static, a_value, null_value, no_value, class_in, class_of, is_numeric, is_only}
 use Rattle.java_core.specs.Typing.{are_related, can_cast}
 use Rattle.java_meaning.specs.Meaning.{is_number_type}
 use Rattle.java_meaning.proofs.Holds.{only_type}
-use Rattle.rebuild_model.specs.Renaming.{retyped}
+use Rattle.rebuild_model.specs.Renaming.{retyped, reclassed}
+use Rattle.rebuild_types.proofs.Retyped.{retyped_static}
 use Rattle.twin_runs.specs.Twins.{shape_of}
 
 -- a type over another class has its shape
@@ -24,6 +25,21 @@ shape_kept (Some w) t = go t.base
     go Char = refl
     go Str = refl
     go (Class c) = refl
+
+-- nor has a type without a class one over another class
+pub classless : (k : Option ℕ) (s : Static) → class_of s ≡ None → class_of (retyped_static k s) ≡ None
+classless k null_value e = e
+classless k no_value e = e
+classless None (a_value t) e = e
+classless (Some w) (a_value t) e = go t.base t.dim e
+  where
+    go : (b : TyBase) (d : ℕ) → class_in b d ≡ None → class_in (reclassed (Some w) b) d ≡ None
+    go Int d e = refl
+    go Boolean d e = refl
+    go Char d e = refl
+    go Str d e = refl
+    go (Class c) zero e = absurd (cc)
+    go (Class c) (suc d) e = refl
 
 numeric_type : (t : Ty) → is_numeric (a_value t) ≡ true → is_number_type t.base t.dim ≡ true
 numeric_type t e = ⊎_elim

@@ -1,7 +1,7 @@
 -- What is met at the parts of a body is met in the same way in the program that rebuilds it.
 use Rattle.std.proofs.Common.{◌≡◌, ℕ, List, [], ◌∷◌, Option, Some, None, length, refl, sym, ap, ◌∙◌, subst}
 use Rattle.std.specs.Prelude.{true, false, ◌==◌, ◌&&◌, slice_get, option_and_then, Contains, map}
-use Rattle.std.specs.Option.{option_map_or, is_some}
+use Rattle.std.specs.Option.{option_map, option_map_or, is_some}
 use Rattle.std.proofs.lemmas.Option.{same_Some}
 use Rattle.std.proofs.lemmas.Bool.{and_from, eq-eqb}
 use Rattle.std.proofs.lemmas.List.Folds.{list_any-from_Any}
@@ -11,10 +11,11 @@ use Rattle.kaba_order.specs.Orders.{is_le}
 use Rattle.java_core.specs.declared.TyBase.{TyBase}
 use Rattle.java_core.specs.declared.TyBase.TheVariants.{Int, Boolean, Char, Str, Class}
 use Rattle.java_core.specs.Programs.{Plain, PlainField, PlainMethod}
+use Rattle.java_core.specs.Trees.{Sts}
 use Rattle.java_core.specs.Classes.{member_field, slot_of, lookup, super_method}
 use Rattle.java_core.specs.Types.{class_type}
 use Rattle.java_meaning.specs.Moment.{Kind, an_object, Body}
-use Rattle.java_meaning.specs.Languages.{body_of}
+use Rattle.java_meaning.specs.Languages.{body_of, body_with}
 use Rattle.fact_model.specs.Items.{site_row, site_class, point_row}
 use Rattle.fact_model.specs.Classes.{finds, finds_within, is_slot}
 use Rattle.fact_model.specs.InRange.{InRange}
@@ -61,7 +62,7 @@ use Rattle.rebuild_looks.proofs.Fields.{finds_field}
 use Rattle.rebuild_given.proofs.Rest.{half}
 use Rattle.rebuild_given.proofs.Needed as needed
 use Rattle.rebuild_given.proofs.Needed.{need_of, need_offers, needed_body, super_offers, super_slot, super_of, super_body}
-use Rattle.rebuild_types.proofs.Asked.{new_class}
+use Rattle.rebuild_types.proofs.Asked.{new_class, HasSlot}
 use Rattle.rebuild_types.proofs.Served.{row_of_class, row_in_is}
 use Rattle.same_run.proofs.Ties as ties
 use Rattle.same_run.proofs.Ties.{type_at, type_over, FieldTied, CallTied}
@@ -128,10 +129,14 @@ module _ (Q : Plain) (F : Facts) (H : Hierarchy) (W : Plain) (K : Known (untagge
           let z = made.sited s e in record
           { site = s; is = e; old = old_is c (site_type F s) z.0; new = class_is k (T.type_of (node_of Q F H W K t s)) (site_type F s) z.1 }
 
-  new_is : (a b f n : ℕ) (o : Offers P Q F H W K n (column.Fld f)) → T.type_of n ≡ a → member_field W a (R.field_name f) ≡ Some b → b ≡ new_field Q F H W K t f
-  new_is a b f n o at e =
-      same_Some b (fields.new_field P Q F H W K f o.node o.stands).0
-      (sym e ∙ ap (λ z. member_field W z (R.field_name f)) (sym at) ∙ finds_field P Q F H W K f n o) ∙ sym (new_field_is Q F H W K t f n o)
+  new_is : (a f n : ℕ) (o : Offers P Q F H W K n (column.Fld f)) → T.type_of n ≡ a → member_field W a (R.field_name f) ≡ Some (new_field Q F H W K t f)
+  new_is a f n o at =
+      ap (λ z. member_field W z (R.field_name f)) (sym at) ∙ finds_field P Q F H W K f n o ∙ ap (λ z. Some z) (sym (new_field_is Q F H W K t f n o))
+
+  -- the body of a method with code
+  pub body_is : (g : ℕ) (k : PlainMethod) (xs : Sts) → slice_get W.methods g ≡ Some k → k.body ≡ Some xs → body_of W g ≡ Some (body_with g k xs)
+  body_is g k xs e b =
+      ap (option_and_then (λ (z : PlainMethod). option_map (λ xs. body_with g z xs) z.body)) e ∙ ap (option_map (λ xs. body_with g k xs)) b
 
   module _ (new_static : ℕ → ℕ) where
     abbrev Pair : Body → Body → Type 0
@@ -156,11 +161,11 @@ module _ (Q : Plain) (F : Facts) (H : Hierarchy) (W : Plain) (K : Known (untagge
         access_entry F t B x (into x (subst (λ z. Contains (accessed z ((numbers P Q).column (column.Fld f))) x) (sym e)
         (subst (λ z. Contains (accessed (Some r) z) x) (sym l.1) (one x)))) in
         record {
-          new = λ c j hc ej.
+          new = λ c hc.
               let a = row_of_class Q F H W K b.row c hc in
               let o = needed.offers_item P Q F H W K (place_of_row H a.number) l.0 (column.Fld f) l.1
               ((half F pt t A O S B H table none).offered a.number l.0 (entry a.number (row_in_is Q F H W K b.row c a))) in
-              new_is c j f (place_of_row H a.number) o a.class ej;
+              new_is c f (place_of_row H a.number) o a.class;
           had = λ o c j made may.
               let s = sited o c j made in
               let m = met_passing Q F H W K t pt A O S B table none b o s.site s.is may in
@@ -170,25 +175,33 @@ module _ (Q : Plain) (F : Facts) (H : Hierarchy) (W : Plain) (K : Known (untagge
               ∙ ap (λ z. option_map_or (λ c. bit (bits t.rows.items (site_row F s.site)) c) z false) l.1 ∙ has_it;
         }
 
+    abbrev HasCopy : Body → Option Body → Type 0
+    HasCopy b q = ties.Paired Q W F (solved pt) R (has Q F H W K t) (new_field Q F H W K t) new_static Made Pair b q
+
     -- the copy of a body that stands at a node
-    copied : (d : ℕ) (method : PlainMethod) (n : ℕ) (st : StandsAt P Q F H W T (column.Def d) n) → slice_get Q.methods d ≡ Some method → (x y : Body)
+    copied : (d : ℕ) (method : PlainMethod) (n : ℕ) (st : StandsAt P Q F H W T (column.Def d) n) → slice_get Q.methods d ≡ Some method → (x : Body)
         → labelled_with P Q F (solved pt) d method ≡ Some x
-        → body_of W (new_body P Q F H W K d n st).0 ≡ Some y → Pair x y
-    copied d method n st e x y ex ey =
+        → (q : Option Body) → q ≡ body_of W (new_body P Q F H W K d n st).0 → HasCopy x q
+    copied d method n st e x ex q eq =
         let g = (new_body P Q F H W K d n st).1 in
+        let is = body_is (new_body P Q F H W K d n st).0 g.method g.is.code.written g.stands g.is.code.new_code in
         let same : g.is.old ≡ untag_method method = same_Some g.is.old (untag_method method) (sym g.is.old_stands ∙ method_of Q K.old d method e) in
         record {
-          number = d;
-          method = method;
-          stands = e;
-          old_body = ex;
-          copy = (new_body P Q F H W K d n st).0;
-          new = g.method;
-          new_stands = g.stands;
-          new_body = ey;
-          types = subst (λ z. HasTypes R d z g.method) same g.is.types;
-          code = subst (λ z. HasCode P W R d z g.method) same g.is.code;
-          self = λ i. (g.is.node, g.is.stands, g.is.owner);
+          body = body_with (new_body P Q F H W K d n st).0 g.method g.is.code.written;
+          found = eq ∙ is;
+          pair = record {
+            number = d;
+            method = method;
+            stands = e;
+            old_body = ex;
+            copy = (new_body P Q F H W K d n st).0;
+            new = g.method;
+            new_stands = g.stands;
+            new_body = is;
+            types = subst (λ z. HasTypes R d z g.method) same g.is.types;
+            code = subst (λ z. HasCode P W R d z g.method) same g.is.code;
+            self = λ i. (g.is.node, g.is.stands, g.is.owner);
+          };
         }
 
     module _ (m : ℕ) (k : PlainMethod) (stands : slice_get Q.methods m ≡ Some k) where
@@ -227,11 +240,14 @@ module _ (Q : Plain) (F : Facts) (H : Hierarchy) (W : Plain) (K : Known (untagge
                 (ap (λ z. bit (bits pt.points.items z) i) (ap (λ z. z.receiver) y.2) ∙ held) (eq-eqb y.0.slot s (ap (λ z. z.slot) y.2)),
           )
 
-      pub call_tied : (w : Place) (b : Operand) (s d : ℕ) (es : List Operand) (o : Operand) → InBody (a_call w b (Some s) (Some d) es o) → At b
+      pub call_tied : (w : Place) (b : Operand) (s d : ℕ) (es : List Operand) (o : Operand) → InBody (a_call w b (Some s) (Some d) es o)
+          → HasSlot P Q W R b s d → At b
           → CallTied Q W F (solved pt) R (has Q F H W K t) (new_field Q F H W K t) new_static Made Pair b s d
       unfolding labelled_body lookup numbers
-      call_tied w b s d es o c here = record {
-        bodies = λ i v old new j x y of hv made ej ex ey may.
+      call_tied w b s d es o c slot here = record {
+        bodies = λ i v old new x of hv made ex may.
+            let q = slot of v hv in
+            let j = q.number in
             let at = sited i old new made in
             let m = met_passing Q F H W K t pt A O S B table none b i at.site at.is may in
             let row_is = here m.point m.point_is in
@@ -246,17 +262,21 @@ module _ (Q : Plain) (F : Facts) (H : Hierarchy) (W : Plain) (K : Known (untagge
             let need = and_from (is_called F pt at.site s) (is_slot (finds F (site_class F at.site) s) f.0)
             (called_there w b s (Some d) es o c m.point at.site m.point_is m.held) (ap (λ z. is_slot z f.0) finds_it ∙ eq-eqb f.0 f.0 refl) in
             let ran = needed_body P Q F H W K pt t A O S B table none at.site s f.0 found.0 need f.2 (place_of_row H a.number) d j le of
-            (ap (λ z. slot_of W z (R.method_name d)) a.class ∙ ej) in
+            (ap (λ z. slot_of W z (R.method_name d)) a.class ∙ q.found) in
             let offers = need_offers P Q F H W K pt t A O S B table none at.site s f.0 found.0 need f.2 in
-            copied found.0 body.0 offers.node offers.stands body.1 x y body.2
-            (ap (λ z. option_and_then (body_of W) z) (sym ran) ∙ ap (λ z. option_and_then (body_of W) (lookup W z j)) (sym at.new) ∙ ey);
+            record {
+              slot = j;
+              found = q.found;
+              runs = copied found.0 body.0 offers.node offers.stands body.1 x body.2 (option_and_then (body_of W) (lookup W new j))
+                  (ap (λ z. option_and_then (body_of W) (lookup W z j)) at.new ∙ ap (λ z. option_and_then (body_of W) z) ran);
+            };
       }
 
-      pub super_tied : (w : Place) (d : ℕ) (es : List Operand) (o : Operand) → InBody (a_super_call w (Some d) es o) → (c : ℕ) (x y : Body)
+      pub super_tied : (w : Place) (d : ℕ) (es : List Operand) (o : Operand) → InBody (a_super_call w (Some d) es o) → (c : ℕ) (x : Body)
           → R.row_type (row.This m) ≡ Some c → ((f : PlainMethod) → slice_get Q.methods d ≡ Some f → f.is_static ≡ false)
-          → labelled_body P Q F (solved pt) d ≡ Some x → option_and_then (body_of W) (super_method W c (R.method_name d)) ≡ Some y → Pair x y
+          → labelled_body P Q F (solved pt) d ≡ Some x → HasCopy x (option_and_then (body_of W) (super_method W c (R.method_name d)))
       unfolding labelled_body numbers
-      super_tied w d es o i c x y self instance ex ey =
+      super_tied w d es o i c x self instance ex =
           let a = row_of_class Q F H W K (Some (row.This m)) c self in
           let body = then_some (labelled_with P Q F (solved pt) d) (slice_get Q.methods d) x ex in
           let code = map_some _ body.0.body x body.2 in
@@ -270,5 +290,5 @@ module _ (Q : Plain) (F : Facts) (H : Hierarchy) (W : Plain) (K : Known (untagge
           (listed.0, z, listed.1, listed.2, and_from (a.number == a.number) (l.0 == l.0) (eq-eqb a.number a.number refl) (eq-eqb l.0 l.0 refl)) in
           let offers = super_offers P Q F H W K pt t A O S B table none a.number l.0 d run l.1 in
           let found = super_body P Q F H W K pt t A O S B table none a.number l.0 d run l.1 in
-          copied d body.0 offers.node offers.stands body.1 x y body.2
-          (ap (λ v. option_and_then (body_of W) v) (sym found) ∙ ap (λ v. option_and_then (body_of W) (super_method W v (R.method_name d))) a.class ∙ ey)
+          copied d body.0 offers.node offers.stands body.1 x body.2 (option_and_then (body_of W) (super_method W c (R.method_name d)))
+          (ap (λ v. option_and_then (body_of W) (super_method W v (R.method_name d))) (sym a.class) ∙ ap (λ v. option_and_then (body_of W) v) found)

@@ -30,7 +30,7 @@ use Rattle.rebuild_model.specs.Renaming.{Renaming, retyped}
 use Rattle.rebuild_model.specs.Matches.{IsStaticField, IsStaticMethod, Matches}
 use Rattle.rebuild_types.proofs.Retyped.{retyped_static}
 use Rattle.rebuild_types.proofs.Asked.{new_class}
-use Rattle.twin_runs.specs.Twins.{Link, SameNew, SameArray, SameStatic, BothPair}
+use Rattle.twin_runs.specs.Twins.{Link, HasPair, SameNew, SameArray, SameStatic, BothPair}
 
 -- a type of a row, and that over a class
 abbrev pub type_at : ObjectType → Ty
@@ -70,17 +70,26 @@ module _ (Q W : Plain) (F : Facts) (S : Sets) (R : Renaming) (has : Option ℕ �
 
   -- a field that is read or written of an operand
   pub record FieldTied (b : Operand) (f : ℕ) : Type 0 where
-    pub new : (c j : ℕ) → class_at b ≡ Some c → member_field W c (R.field_name f) ≡ Some j → j ≡ new_field f
+    pub new : (c : ℕ) → class_at b ≡ Some c → member_field W c (R.field_name f) ≡ Some (new_field f)
     pub had : (o : Option ℕ) (c k : ℕ) → Made o (an_object c) (an_object k) → may_at b o ≡ true → has o f ≡ true
 
   abbrev pub FieldTiedIf : Operand → ℕ → Type 0
   FieldTiedIf b f = IsAt b → (w : PlainField) → slice_get P.fields f ≡ Some w → w.is_static ≡ false → FieldTied b f
 
+  -- a body of the new program that is found, and is of a pair with x
+  abbrev pub Paired : Body → Option Body → Type 0
+  Paired x q = HasPair L M link Made Pair x q
+
+  -- a call on the class v by the name of the method d finds a slot, and an object of the class k a body for it that is of a pair with x
+  pub record CallFound (v d k : ℕ) (x : Body) : Type 0 where
+    pub slot : ℕ
+    pub found : slot_of W v (R.method_name d) ≡ Some slot
+    pub runs : Paired x (M.body k slot)
+
   -- a call of a slot on an operand, by the name of the method d
   pub record CallTied (b : Operand) (s d : ℕ) : Type 0 where
-    pub bodies : (o : Option ℕ) (v c k j : ℕ) (x y : Body) → slot_of_method P d ≡ Some s → class_at b ≡ Some v → Made o (an_object c) (an_object k)
-        → slot_of W v (R.method_name d) ≡ Some j
-        → L.body c s ≡ Some x → M.body k j ≡ Some y → may_at b o ≡ true → Pair x y
+    pub bodies : (o : Option ℕ) (v c k : ℕ) (x : Body) → slot_of_method P d ≡ Some s → class_at b ≡ Some v → Made o (an_object c) (an_object k)
+        → L.body c s ≡ Some x → may_at b o ≡ true → CallFound v d k x
 
   -- a creation of an object, and of an array
   abbrev pub SameNewAt : ℕ → ℕ → ℕ → Type 0
@@ -118,9 +127,9 @@ module _ (Q W : Plain) (F : Facts) (S : Sets) (R : Renaming) (has : Option ℕ �
   Ties m c (a_call p b (Some s) None es o) = Unit {0}
   Ties m c (a_call p b None d es o) = Unit {0}
   Ties m c (a_static_call p d es o) = Unit {0}
-  Ties m c (a_super_call p (Some d) es o) = (x y : Body) → R.row_type (row.This m) ≡ Some c
+  Ties m c (a_super_call p (Some d) es o) = (x : Body) → R.row_type (row.This m) ≡ Some c
       → ((f : PlainMethod) → slice_get Q.methods d ≡ Some f → f.is_static ≡ false) → labelled_body P Q F S d ≡ Some x
-      → option_and_then (body_of W) (super_method W c (R.method_name d)) ≡ Some y → Pair x y
+      → Paired x (option_and_then (body_of W) (super_method W c (R.method_name d)))
   Ties m c (a_super_call p None es o) = Unit {0}
   Ties m c (a_test p e o) = TestTied e o
   Ties m c (a_pair o l r) = Unit {0}

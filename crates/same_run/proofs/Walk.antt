@@ -1,7 +1,7 @@
 -- A copy of a typed expression over new classes is its twin, where the parts of the body are tied: by induction on the expression.
 use Rattle.std.proofs.Common.{◌≡◌, ℕ, zero, suc, ◌<◌, List, [], ◌∷◌, ◌++◌, Option, Some, None, refl, sym, ap, ◌∙◌, subst}
-use Rattle.std.specs.Prelude.{Bool, true, false, slice_get, Contains, option_and_then}
-use Rattle.std.specs.Option.{option_map_or, is_some}
+use Rattle.std.specs.Prelude.{Bool, true, false, if◌then◌else◌, slice_get, Contains, option_and_then}
+use Rattle.std.specs.Option.{option_map, option_map_or, is_some}
 use Rattle.std.proofs.lemmas.Option.{same_Some}
 use Rattle.std.proofs.lemmas.Bool.{false≢true}
 use Rattle.kaba_base.specs.declared.Place.{Place}
@@ -11,12 +11,14 @@ use Rattle.java_core.specs.declared.TyBase.TheVariants.{Int, Boolean, Char, Str,
 use Rattle.java_core.specs.Trees.{Tag, Ex, Exs, no_ex, ex_then, number, character, text, truth, null, this, local, static_field, own_field, field, index, call, static_call, super_call, create, create_array, cast, instance_of, unary, binary}
 use Rattle.java_core.specs.Programs.{Plain, PlainMethod}
 use Rattle.java_core.specs.Classes.{member_field, slot_of, slot_of_method, declaration_of, super_method}
-use Rattle.java_core.specs.Types.{Static, Env, env_of, class_in, class_of, element_of, is_string, is_subtype, field_in, field_type, value_type, or_nothing, static}
+use Rattle.java_core.specs.Types.{Static, Env, env_of, class_in, class_of, element_of, is_string, is_length, is_subtype, field_in, field_type, value_type, or_nothing, StringMethod, string_method, Signature, signature_of_slot, signature_of_string, object_signature, call_signature, static}
 use Rattle.java_core.specs.Typing.{Typed, TypedArgs, t_field, t_index, t_call, t_static_call, t_super_call, t_create_array, t_cast, t_instance_of, t_unary, t_binary, t_ex_then, can_cast}
 use Rattle.java_core.specs.Formed.{IsFormed, FormedEx, FormedExs, f_own_field, f_field, f_index, f_call, f_static_call, f_super_call, f_create_array, f_cast, f_instance_of, f_unary, f_binary, f_ex_then}
 use Rattle.java_meaning.specs.Moment.{Kind, own_type, Body, Lang}
-use Rattle.java_meaning.specs.Meaning.{is_number_type}
+use Rattle.java_meaning.specs.Meaning.{is_number_type, names_length, text_method}
 use Rattle.java_meaning.specs.Watched.{bare, bare_all}
+use Rattle.java_meaning.proofs.Holds.{some_there}
+use Rattle.java_meaning.proofs.Moves.{then_some, element_class, string_class}
 use Rattle.java_meaning.proofs.WatchedPrograms.{bare_static}
 use Rattle.fact_model.specs.declared.facts.Facts.{Facts}
 use Rattle.flow_rules.specs.declared.items.ObjectType.{ObjectType}
@@ -40,11 +42,11 @@ use Rattle.rebuild_model.specs.Matches.{Matches, MatchesAll, m_number, m_charact
 use Rattle.rebuild_types.proofs.Retyped.{retyped_static, class_new, class_typed}
 use Rattle.rebuild_types.proofs.Asked.{new_class}
 use Rattle.rebuild_types.proofs.Finding.{access_found, found_instance}
-use Rattle.twin_runs.specs.Twins.{Link, spot_of, SameField, SameCall, SameTest, Same, SameAll}
+use Rattle.twin_runs.specs.Twins.{Link, spot_of, SameField, SameLength, SameCall, SameTest, Same, SameAll}
 use Rattle.twin_runs.specs.Twins.{same_number, same_character, same_text, same_truth, same_null, same_this, same_local, same_static_field, same_own_field, same_field, same_index, same_call, same_static_call, same_super_call, same_create, same_create_array, same_cast, same_instance_of, same_unary, same_binary, same_no_ex, same_ex_then}
 use Rattle.same_run.proofs.Ties as tied
 use Rattle.same_run.proofs.Ties.{type_at, type_over, FieldTied, CallTied, CreationTied, TestTied, Ties, BodyTied}
-use Rattle.same_run.proofs.Shapes.{shape_kept, cast_class}
+use Rattle.same_run.proofs.Shapes.{shape_kept, cast_class, classless}
 
 module _ (Q W : Plain) (F : Facts) (formed : IsFormed (untagged Q)) (slots : HaveSlots (untagged Q)) (facts : IsFactsOf (untagged Q) Q F) (R : Renaming)
     (S : Sets) (has : Option ℕ → ℕ → Bool) (new_field new_static : ℕ → ℕ) (Made : Option ℕ → Kind → Kind → Type 0) (Pair : Body → Body → Type 0)
@@ -199,7 +201,7 @@ module _ (Q W : Plain) (F : Facts) (formed : IsFormed (untagged Q)) (slots : Hav
       let same : (y : ℕ) → L.field g e x ≡ Some y
       → f ≡ y = λ y ey. same_Some f y (sym l ∙ ap (λ z. option_and_then (λ c. member_field P c x) (class_of z)) (bare_static P g e) ∙ ey) in
       record {
-        new = λ y j ey ej. tie.new c j r (ap (λ z. option_and_then (λ c. member_field W c (R.field_name f)) z) (sym n) ∙ ej) ∙ ap new_field (same y ey);
+        new = λ y ey. ap (λ z. option_and_then (λ c. member_field W c (R.field_name f)) z) n ∙ tie.new c r ∙ ap (λ z. Some (new_field z)) (same y ey);
         had = λ y ey o c k made may. subst (λ z. has o z ≡ true) (same y ey) (tie.had o c k made (at_operand e o may));
       }
 
@@ -207,18 +209,34 @@ module _ (Q W : Plain) (F : Facts) (formed : IsFormed (untagged Q)) (slots : Hav
       → SameField L M K Made Pair g h (this t) (Some f) (M.field h (this v) (R.field_name f))
   unfolding field_in
   own_twin t v f r tie = record {
-    new = λ y j ey ej. tie.new h.self j r ej ∙ ap new_field (same_Some f y ey);
+    new = λ y ey. tie.new h.self r ∙ ap (λ z. Some (new_field z)) (same_Some f y ey);
     had = λ y ey o c k made may. subst (λ z. has o z ≡ true) (same_Some f y ey) (tie.had o c k made (at_operand (this t) o may));
   }
 
   -- an array has no field
   no_twin : (e b : Ex) (x y : List ℕ) → is_some (element_of (old e)) ≡ true → SameField L M K Made Pair g h e (L.field g e x) (M.field h b y)
-  no_twin e b x y array = record { new = λ f j ef ej. absurd (none f ef); had = λ f ef o c k made may. absurd (none f ef) }
+  no_twin e b x y array = record { new = λ f ef. absurd (none f ef); had = λ f ef o c k made may. absurd (none f ef) }
     where
       none : (f : ℕ) → L.field g e x ≡ Some f → ⊥
       none f ef =
           let c = typed_parts.field_class Q F formed slots m k stands body unique (old e) x f (ap (λ z. field_in P z x) (bare_static P g e) ∙ ef) in
           false≢true (sym (ap is_some (class_apart (old e) c.0 c.1).0) ∙ array)
+
+  -- a field is no length, and the length of an array is one in both
+  no_length : (e b : Ex) (x y : List ℕ) (f : ℕ) → field_in P (old e) x ≡ Some f → SameLength L M K Made Pair g h e b x y
+  no_length e b x y f l q = absurd (false≢true (sym (ap (λ z. names_length z x) (ap (λ z. field_in P z x) (sym (bare_static P g e)) ∙ l)) ∙ q))
+
+  new_classless : (u : Bool) (sc : List ℕ) (e b : Ex) → IsTyped e → IsFormedEx sc e → Stands (tree u e) → IsCopy e b → class_of (old e) ≡ None
+      → class_of (static W h b) ≡ None
+  new_classless u sc e b ty fo st me none = ap class_of (tie.copied u sc e b ty fo st me) ∙ classless (C (row_at e)) (old e) none
+
+  length_twin : (e b : Ex) (x : List ℕ) → class_of (static W h b) ≡ None → SameLength L M K Made Pair g h e b x x
+  unfolding field_in
+  length_twin e b x none q = ap (λ z. names_length (option_and_then (λ c. member_field W c x) z) x) none ∙ named (L.field g e x) q
+    where
+      named : (o : Option ℕ) → names_length o x ≡ true → is_length x ≡ true
+      named None q = q
+      named (Some f) q = absurd (false≢true q)
 
   field_tie : (p : Place) (e d : Ex) (x : List ℕ) (f : ℕ) → field_in P (old e) x ≡ Some f → is_some (field_type P f) ≡ true
       → tied.IsAt Q W F S R has new_field new_static Made Pair (O e) → Tied (a_load p (O e) (object_field P (type e) x) (O d)) → Field (O e) f
@@ -258,18 +276,40 @@ module _ (Q W : Plain) (F : Facts) (formed : IsFormed (untagged Q)) (slots : Hav
       ap (λ z. option_and_then (slot_of_method P) z) (sym dcl) ∙ ap (λ z. option_and_then (λ c. slot_of P c x) z) (sym cls)
       ∙ ap (λ z. option_and_then (λ c. slot_of P c x) (class_of z)) (bare_static P g e) ∙ q
 
+  -- a call that is typed on a class finds a slot
+  called_slot : (e : Ex) (x : List ℕ) (c : ℕ) (sig : Signature) → class_of (old e) ≡ Some c → call_signature P (old e) x ≡ Some sig
+      → (j : ℕ) × (L.slot g e x ≡ Some j)
+  unfolding call_signature
+  called_slot e x c sig cls q =
+      let a : object_signature P (class_of (old e)) x ≡ Some sig =
+      sym (ap (λ b. if b then option_map signature_of_string (string_method x) else object_signature P (class_of (old e)) x) (class_apart (old e) c cls).1) ∙ q in
+      let j = then_some (signature_of_slot P) (slot_of P c x) sig (ap (λ z. object_signature P z x) (sym cls) ∙ a) in (
+        j.0,
+        ap (λ z. option_and_then (λ c. slot_of P c x) (class_of z)) (sym (bare_static P g e)) ∙ ap (λ z. option_and_then (λ c. slot_of P c x) z) cls ∙ j.1,
+      )
+
   call_twin : (t : Tag) (e b : Ex) (x : List ℕ) (es : Exs) (f v c : ℕ) → class_of (old e) ≡ Some c → declaration_of P c x ≡ Some f
+      → (sig : Signature) → call_signature P (old e) x ≡ Some sig
       → ((i : ℕ) → call_slot P (type e) x ≡ Some i → CallTied Q W F S R has new_field new_static Made Pair (O e) i f) → C (row_at e) ≡ Some v
       → class_of (static W h b) ≡ Some v → SameCall L M K Made Pair g h (call t e x es) e b x (R.method_name f)
-  call_twin t e b x es f v c0 cls dcl tie r n = record {
-    bodies = λ o c k i j y p made ei ej ey ep may. (tie i (slot_seen e x i ei)).bodies o v c k j y p (slot_is e x c0 f i cls dcl ei) r made
-        (ap (λ z. option_and_then (λ c. slot_of W c (R.method_name f)) z) (sym n) ∙ ej) ey ep (at_operand e o may);
+  call_twin t e b x es f v c0 cls dcl sig called tie r n = record {
+    bodies = λ o c k i y made ei ey may.
+        let z = (tie i (slot_seen e x i ei)).bodies o v c k y (slot_is e x c0 f i cls dcl ei) r made ey (at_operand e o may) in
+        record { slot = z.slot; called = ap (λ z. option_and_then (λ c. slot_of W c (R.method_name f)) z) n ∙ z.found; runs = z.runs };
+    texts = λ m q. absurd (let j = called_slot e x c0 sig cls called in let z = sym (ap (λ z. text_method z x) j.1) ∙ q in cc);
   }
 
-  string_twin : (t : Tag) (e b : Ex) (x y : List ℕ) (es : Exs) → is_string (old e) ≡ true → SameCall L M K Made Pair g h (call t e x es) e b x y
-  string_twin t e b x y es str = record
-      { bodies = λ o c k i j z p made ei ej ez ep may. absurd (none i (ap (λ z. option_and_then (λ c. slot_of P c x) (class_of z)) (bare_static P g e) ∙ ei)) }
+  string_twin : (t : Tag) (e b : Ex) (x : List ℕ) (es : Exs) → is_string (old e) ≡ true → class_of (static W h b) ≡ None
+      → SameCall L M K Made Pair g h (call t e x es) e b x x
+  string_twin t e b x es str classless = record {
+    bodies = λ o c k i z made ei ez may. absurd (none i (ap (λ z. option_and_then (λ c. slot_of P c x) (class_of z)) (bare_static P g e) ∙ ei));
+    texts = λ m q. ap (λ z. text_method (option_and_then (λ c. slot_of W c x) z) x) classless ∙ named (L.slot g e x) m q;
+  }
     where
+      named : (o : Option ℕ) (m : StringMethod) → text_method o x ≡ Some m → string_method x ≡ Some m
+      named None m q = q
+      named (Some f) m q = absurd (cc)
+
       none : (i : ℕ) → option_and_then (λ c. slot_of P c x) (class_of (old e)) ≡ Some i → ⊥
       none i q = go (class_of (old e)) refl q
         where
@@ -334,31 +374,36 @@ module _ (Q W : Plain) (F : Facts) (formed : IsFormed (untagged Q)) (slots : Hav
         (field_twin e b x f base.class l base.row_is base.new
         (field_tie t.place e (field t e x) x f l (ap is_some (sym (access_found P (old e) x f l)) ∙ some) (tie.at (is_accessed e) e inner)
         (asked (a_load t.place (O e) (object_field P (type e) x) (O (field t e x))) [] (right (tree (is_accessed e) e) _ st))))
+        (no_length e b x (R.field_name f) f l)
     twin u sc (field t e x) d (t_field te some) (f_field fe n) st (m_length {d = b} me array) =
-        same_field (twin (is_accessed e) sc e b te fe (left (tree (is_accessed e) e) _ st) me) (no_twin e b x x array)
+        let inner = left (tree (is_accessed e) e) _ st in
+        let element = some_there (element_of (old e)) array in
+        same_field (twin (is_accessed e) sc e b te fe inner me) (no_twin e b x x array)
+        (length_twin e b x (new_classless (is_accessed e) sc e b te fe inner me (element_class (old e) element.0 element.1)))
     twin u sc (index t e i) d (t_index te some ti num) (f_index fe fi) st (m_index {d = b} {j = j} me mi) =
         same_index (twin true sc e b te fe (left (tree true e) _ st) me) (twin false sc i j ti fi (past _ _ (right (tree true e) _ st)) mi)
-    twin u sc (call t e x es) d (t_call te called args) (f_call fe n fes) st (m_call {d = b} {c = c} {m = f} {ds = ds} me cls dcl mes) =
+    twin u sc (call t e x es) d (t_call {s = sig} te called args) (f_call fe n fes) st (m_call {d = b} {c = c} {m = f} {ds = ds} me cls dcl mes) =
         let inner = left (tree true e) _ st in
         let base = based true sc e b c te fe inner me cls in
         let q = asked (a_call t.place (O e) (call_slot P (type e) x) (call_declaration P (type e) x) (operands es) (O (call t e x es))) _
         (right (tree true e) _ st) in
         same_call (twin true sc e b te fe inner me) (twins true sc es ds _ args fes (past _ _ (right (tree true e) _ st)) mes)
-        (call_twin t e b x es f base.class c cls dcl
+        (call_twin t e b x es f base.class c cls dcl sig called
         (λ i ei. subst (λ z. Tied (a_call t.place (O e) z (Some f) (operands es) (O (call t e x es)))) ei
         (subst (λ z. Tied (a_call t.place (O e) (call_slot P (type e) x) z (operands es) (O (call t e x es)))) (declaration_seen e x c f cls dcl) q)
         (tie.at true e inner)) base.row_is base.new)
     twin u sc (call t e x es) d (t_call te called args) (f_call fe n fes) st (m_string_call {d = b} {ds = ds} me str mes) =
-        same_call (twin true sc e b te fe (left (tree true e) _ st) me) (twins true sc es ds _ args fes (past _ _ (right (tree true e) _ st)) mes)
-        (string_twin t e b x x es str)
+        let inner = left (tree true e) _ st in
+        same_call (twin true sc e b te fe inner me) (twins true sc es ds _ args fes (past _ _ (right (tree true e) _ st)) mes)
+        (string_twin t e b x es str (new_classless true sc e b te fe inner me (string_class (old e) str)))
     twin u sc (static_call t f es) d (t_static_call called args) (f_static_call s fes) st (m_static_call {n = n} {ds = ds} same mes) =
         same_static_call (twins false sc es ds _ args fes (past _ _ st) mes) (tie.statics.methods f n same)
     twin u sc (super_call t x es) d (t_super_call found bodied called args) (f_super_call inst n fes) st (m_super_call {m = f} {ds = ds} here mes) =
         let q = subst (λ z. Tied (a_super_call t.place z (operands es) (O (super_call t x es)))) here
         (asked (a_super_call t.place (super_method P k.owner x) (operands es) (O (super_call t x es))) _ st) in
         same_super_call (twins false sc es ds _ args fes (past _ _ st) mes)
-        (λ y p ey ep. q y p (tie.self inst) (typed_parts.super_instance Q F formed slots m k stands body unique k.owner x f here)
-        (ap (λ z. option_and_then (labelled_body P Q F S) z) (sym here) ∙ ey) ep)
+        (λ y ey. q y (tie.self inst) (typed_parts.super_instance Q F formed slots m k stands body unique k.owner x f here)
+        (ap (λ z. option_and_then (labelled_body P Q F S) z) (sym here) ∙ ey))
     twin u sc (create t n c no_ex) d ty fo st (m_create {k = a} at m_no_ex) =
         same_create same_no_ex (object_made t n c no_ex a (asked (a_creation t.place u (O (create t n c no_ex))) [] st) at)
     twin u sc (create t n c (ex_then e es)) d ty fo st me = elim ty [ ]

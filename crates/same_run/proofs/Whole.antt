@@ -3,7 +3,6 @@ use Rattle.std.proofs.Common.{◌≡◌, ℕ, List, sym, ap, ◌∙◌, subst}
 use Rattle.std.specs.Prelude.{◌≢◌}
 use Rattle.java_core.specs.Trees.{at_place}
 use Rattle.java_core.specs.Programs.{Plain, program_of}
-use Rattle.java_core.specs.Typing.{IsTyped}
 use Rattle.java_core.specs.Formed.{IsFormed}
 use Rattle.java_meaning.specs.Moment.{Outcome, unnoted, Wrong, Escaped}
 use Rattle.java_meaning.specs.Meaning.{run_in}
@@ -24,18 +23,16 @@ use Rattle.rebuild_given.proofs.Given.{known}
 use Rattle.rebuild_types.specs.Laws.{IsReady}
 use Rattle.rebuild_types.proofs.Tables.{same_table}
 use Rattle.twin_runs.proofs.States.{Alike}
-use Rattle.rebuild_types.specs.Laws.{WrittenIsTyped}
-use Rattle.rebuild_types.proofs.Whole.{written_is_typed}
-use Rattle.same_run.specs.Same.{HasSameRun, RebuiltRunsTheSame, WrittenRunsTheSame}
+use Rattle.same_run.specs.Same.{HasSameRun, RebuiltRunsTheSame}
 use Rattle.same_run.proofs.Rebuilt.{watched_same}
 
-use_alike : (o p : Outcome) → Alike o p → o.end ≢ Wrong → o.end ≢ Escaped → p.end ≢ Wrong → unnoted o ≡ unnoted p
+use_alike : (o p : Outcome) → Alike o p → o.end ≢ Wrong → o.end ≢ Escaped → unnoted o ≡ unnoted p
 unfolding Alike
-use_alike o p h a b c = h a b c
+use_alike o p h a b = h a b
 
 module _ (Q : Plain) (F : Facts) (s : PointsTo) (t : Table) (H : Hierarchy) (W : Plain) (pairs : IsPlaced (untagged Q) Q)
     (ready : IsReady (untagged Q) Q F s t H)
-    (new : IsFormed W) (typed : IsTyped W) (b : Rebuilds (untagged Q) Q F H W) where
+    (new : IsFormed W) (b : Rebuilds (untagged Q) Q F H W) where
   abbrev P : Plain
   P = untagged Q
 
@@ -62,7 +59,6 @@ module _ (Q : Plain) (F : Facts) (s : PointsTo) (t : Table) (H : Hierarchy) (W :
       (same_table F H t ready.hierarchy.table ready.table) ready.unbroken ready.hierarchy words n)
       (λ e. never_wrong P ready.formed ready.typed words n (sym (ap (λ o. o.end) (is_run words n)) ∙ e))
       (solved_covers F s ready.sets P Q covers.covers words n)
-      (never_wrong W new typed words n)
 
   untagged_same : HasSameRun P W
   untagged_same = record {
@@ -75,9 +71,5 @@ pub rebuilt_runs_the_same : RebuiltRunsTheSame
 unfolding RebuiltRunsTheSame
 rebuilt_runs_the_same p F s t H W =
     let Q : Plain = program_of at_place p in
-    subst (λ Z. IsPlaced Z Q → IsReady Z Q F s t H → IsFormed W → IsTyped W → Rebuilds Z Q F H W → HasSameRun Z W) (same_program p) (untagged_same Q F s t H W)
+    subst (λ Z. IsPlaced Z Q → IsReady Z Q F s t H → IsFormed W → Rebuilds Z Q F H W → HasSameRun Z W) (same_program p) (untagged_same Q F s t H W)
     (placed p)
-
-pub written_runs_the_same : WrittenRunsTheSame
-unfolding WrittenRunsTheSame RebuiltRunsTheSame WrittenIsTyped
-written_runs_the_same p F s t H W ready new b written = rebuilt_runs_the_same p F s t H W ready new (written_is_typed p F s t H W ready new b written) b

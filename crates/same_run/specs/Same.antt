@@ -3,7 +3,6 @@ use Rattle.std.specs.Prelude.{◌≡◌, ℕ, List}
 use Rattle.java_core.specs.declared.Program.{Program}
 use Rattle.java_core.specs.Trees.{at_place, no_place}
 use Rattle.java_core.specs.Programs.{Plain, program_of}
-use Rattle.java_core.specs.Typing.{IsTyped}
 use Rattle.java_core.specs.Formed.{IsFormed}
 use Rattle.java_meaning.specs.Languages.{run}
 use Rattle.fact_model.specs.declared.facts.Facts.{Facts}
@@ -11,7 +10,6 @@ use Rattle.fact_model.specs.declared.sets.PointsTo.{PointsTo}
 use Rattle.fact_model.specs.declared.sets.Table.{Table}
 use Rattle.hier_model.specs.Hierarchies.{Hierarchy}
 use Rattle.rebuild_model.specs.Rebuilds.{Rebuilds}
-use Rattle.rebuild_model.specs.Written.{IsWritten}
 use Rattle.rebuild_types.specs.Laws.{IsReady}
 
 -- for all words and every bound on the steps they end the same way, have printed the same, and have as many steps left
@@ -20,15 +18,8 @@ pub record HasSameRun (P W : Plain) : Type 0 where
   pub out : (words : List (List ℕ)) (n : ℕ) → (run P words n).out ≡ (run W words n).out
   pub left : (words : List (List ℕ)) (n : ℕ) → (run P words n).left ≡ (run W words n).left
 
--- any formed and typed program that rebuilds a typed one over a hierarchy that breaks no obligation has its run
+-- any formed program that rebuilds a typed one over a hierarchy that breaks no obligation has its run; that it is typed is not asked
 unfoldable pub RebuiltRunsTheSame : Type 0
 RebuiltRunsTheSame = (p : Program) (F : Facts) (s : PointsTo) (t : Table) (H : Hierarchy) (W : Plain)
-    → IsReady (program_of no_place p) (program_of at_place p) F s t H → IsFormed W → IsTyped W
-    → Rebuilds (program_of no_place p) (program_of at_place p) F H W → HasSameRun (program_of no_place p) W
-
--- so has any formed one whose methods are public, and whose fillers give the default of their result
-unfoldable pub WrittenRunsTheSame : Type 0
-WrittenRunsTheSame = (p : Program) (F : Facts) (s : PointsTo) (t : Table) (H : Hierarchy) (W : Plain)
     → IsReady (program_of no_place p) (program_of at_place p) F s t H → IsFormed W
-    → (b : Rebuilds (program_of no_place p) (program_of at_place p) F H W) → IsWritten (program_of no_place p) (program_of at_place p) F H W b.places
-    → HasSameRun (program_of no_place p) W
+    → Rebuilds (program_of no_place p) (program_of at_place p) F H W → HasSameRun (program_of no_place p) W

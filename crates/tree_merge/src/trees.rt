@@ -60,8 +60,8 @@ impl From<AllocError> for TreeFault {
 /// to B9 hold. `NoTree` comes only where the steps end at a conflict of which no try is accepted,
 /// and leaves the hierarchy as the steps of its log left it. `Memory` comes only where memory is
 /// short, and leaves what some first steps left. From facts in which all types are classes, a
-/// start that accepted drops and fresh renames changed always comes to a tree. A step tests the
-/// hierarchy once and each try that it makes once; there are fewer steps than pairs of nodes.
+/// start that accepted drops and fresh renames changed always comes to a tree. A step looks for its
+/// conflict once and tests each try that it makes once; there are fewer steps than pairs of nodes.
 pub fn make_tree(
     alloc: Global,
     hier: &mut Hier,

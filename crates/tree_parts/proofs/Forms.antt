@@ -1,6 +1,6 @@
 -- The plain trees of the forms that hold lists.
 use Rattle.std.proofs.Common.{◌≡◌, ℕ, List, ap, ◌∙◌}
-use Rattle.std.specs.Prelude.{Option, Some, None}
+use Rattle.std.specs.Prelude.{true, false, Option, Some, None}
 use Rattle.std.specs.declared.vec.Vec.{Vec}
 use Rattle.std.specs.declared.boxed.Box.{Box}
 use Rattle.std.specs.declared.alloc.Global.{Global}
@@ -41,10 +41,10 @@ pub if_form : {s : RStmt} {p : Place} (v : Vec RArm Global) (o : Option (Vec RSt
 if_form {p = p} v o is = ap (stmt_of no_place) is ∙ if_as no_place v o p
 
 pub while_form : {s : RStmt} {t : RExpr} {p : Place} (v : Vec RStmt Global) → s ≡ While t v p → stmt_of no_place s
-    ≡ loop (no_place p) no_st (Some (expr_of no_place t)) no_st (stmts no_place v.items)
-while_form {t = t} {p = p} v is = ap (stmt_of no_place) is ∙ ap (loop (no_place p) no_st (Some (expr_of no_place t)) no_st) (stmts_vec no_place v)
+    ≡ loop (no_place p) true no_st (Some (expr_of no_place t)) no_st (stmts no_place v.items)
+while_form {t = t} {p = p} v is = ap (stmt_of no_place) is ∙ ap (loop (no_place p) true no_st (Some (expr_of no_place t)) no_st) (stmts_vec no_place v)
 
 pub for_form : {s : RStmt} {p : Place} (f : Option (Box RStmt Global)) (t : Option RExpr) (g : Option (Box RStmt Global)) (v : Vec RStmt Global) → s
     ≡ For f t g v p
-    → stmt_of no_place s ≡ loop (no_place p) (step_seen no_place f) (value_of no_place t) (step_seen no_place g) (stmts no_place v.items)
+    → stmt_of no_place s ≡ loop (no_place p) false (step_seen no_place f) (value_of no_place t) (step_seen no_place g) (stmts no_place v.items)
 for_form {p = p} f t g v is = ap (stmt_of no_place) is ∙ for_as no_place f t g v p

@@ -20,5 +20,6 @@ abbrev mutual
   sts_size (st_then x xs) = 1 + (st_size x + sts_size xs)
 
   pub arms_size : Arms → ℕ
+  arms_size no_other = 0
   arms_size (otherwise xs) = sts_size xs
   arms_size (arm e xs more) = sts_size xs + arms_size more

@@ -4,7 +4,7 @@ ghost use Rattle.std.specs.Prelude.{◌≡◌, IfOk, OnOk};
 ghost use Rattle.java_tree.specs.Syntax.{stmt_of, stmts, value_of, arms_seen, else_seen};
 ghost use Rattle.java_tree.specs.Syntax.{step_seen, expr_of};
 ghost use Rattle.java_core.specs.Trees as core;
-ghost use Rattle.java_core.specs.Trees.{no_place, no_st};
+ghost use Rattle.java_core.specs.Trees.{no_place, no_other};
 ghost use Rattle.java_core.specs.Programs.{program_of, method_seen};
 ghost use Rattle.java_core.specs.Formed.{IsFormed};
 ghost use Rattle.written_tree.specs.Bodies as written;
@@ -191,7 +191,7 @@ fn stmt(
             let test = value(alloc, program, numbering, hier, m, method, &inner, test)?;
             let step = last(alloc, program, numbering, hier, m, method, &inner, step)?;
             let run = body(alloc, program, numbering, hier, m, method, &inner, run)?;
-            looped(alloc, first, test, step, run)
+            build::for_loop(alloc, first, test, step, run, nowhere())
         }
         RStmt::Return { value: given, .. } => Ok(Stmt::Return {
             value: value(alloc, program, numbering, hier, m, method, scope, given)?,
@@ -199,23 +199,6 @@ fn stmt(
         }),
         RStmt::Break { .. } => Ok(Stmt::Break { place: nowhere() }),
         RStmt::Continue { .. } => Ok(Stmt::Continue { place: nowhere() }),
-    }
-}
-
-/// A `for` with these parts; one with neither a first nor a last part, but a test, is a `while`.
-fn looped(
-    alloc: Global,
-    first: Option<Stmt>,
-    test: Option<Expr>,
-    step: Option<Stmt>,
-    run: Vec<Stmt>,
-) -> Result<Stmt, AllocError>
-    ensures { IfOk result (λ s. stmt_of s ≡ written.loop_tree (step_seen first) (value_of test)
-        (step_seen step) (stmts run.items)) }
-{
-    match (first, test, step) {
-        (None, Some(test), None) => Ok(build::while_loop(test, run, nowhere())),
-        (first, test, step) => build::for_loop(alloc, first, test, step, run, nowhere()),
     }
 }
 
@@ -270,7 +253,7 @@ fn last(
     part(alloc, program, numbering, hier, m, method, &mut inner, tree)
 }
 
-/// An `else`; one without statements is left away.
+/// An `else`, which may have no statements; none where there is none.
 #[cycle(stmts)]
 fn otherwise(
     alloc: Global,
@@ -286,14 +269,14 @@ fn otherwise(
     requires fits { IsFitting numbering.now hier.now }
     ensures value { IfOk result (λ o. else_seen o ≡ written.written_else (program_of no_place
         program.now) (renamed numbering.now hier.now) hier.now m (method_seen no_place method.now)
-        scope.now.items (core.otherwise (core.else_seen no_place tree.now))) }
+        scope.now.items (core.else_seen no_place tree.now)) }
 {
     match tree {
-        Some(list) if !list.is_empty() => {
+        Some(list) => {
             let other = body(alloc, program, numbering, hier, m, method, scope, list)?;
             Ok(Some(other))
         }
-        _ => Ok(None),
+        None => Ok(None),
     }
 }
 
@@ -313,7 +296,7 @@ fn all_arms(
     requires fits { IsFitting numbering.now hier.now }
     ensures value { IfOk result (λ v. arms_seen v.items ≡ written.written_arms (program_of no_place
         program.now) (renamed numbering.now hier.now) hier.now m (method_seen no_place method.now)
-        scope.now.items (core.arms_seen no_place list.now.items no_st)) }
+        scope.now.items (core.arms_seen no_place list.now.items no_other)) }
 {
     let mut done = Vec::new(alloc);
     for one in list {

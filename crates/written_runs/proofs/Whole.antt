@@ -11,12 +11,12 @@ use Rattle.tree_rebuilds.specs.Laws.{TreeRebuilds, IsRebuilt}
 use Rattle.tree_rebuilds.proofs.Whole.{tree_rebuilds}
 use Rattle.rebuild_types.specs.Laws.{WrittenIsTyped, RowsAreOffered}
 use Rattle.rebuild_types.proofs.Whole.{written_is_typed, rows_are_offered}
-use Rattle.same_run.specs.Same.{WrittenRunsTheSame}
-use Rattle.same_run.proofs.Whole.{written_runs_the_same}
+use Rattle.same_run.specs.Same.{RebuiltRunsTheSame}
+use Rattle.same_run.proofs.Whole.{rebuilt_runs_the_same}
 use Rattle.written_runs.specs.Laws.{WrittenRuns}
 
 pub written_runs : WrittenRuns
-unfolding WrittenRuns TreeRebuilds WrittenIsTyped RowsAreOffered WrittenRunsTheSame
+unfolding WrittenRuns TreeRebuilds WrittenIsTyped RowsAreOffered RebuiltRunsTheSame
 written_runs declarations p w F s t H resolved ready again formed =
     let locals : HasLocalsInOrder (program_of no_place p) = subst HasLocalsInOrder (same_program p) (resolved_in_order declarations (program_of at_place p) resolved) in
     let made : IsRebuilt (program_of no_place p) (program_of at_place p) F H (program_of no_place w) =
@@ -28,5 +28,5 @@ written_runs declarations p w F s t H resolved ready again formed =
       rebuilds = made.rebuilds;
       typed = written_is_typed p F s t H (program_of no_place w) ready formed made.rebuilds made.written;
       rows = rows_are_offered p F s t H (program_of no_place w) ready formed made.rebuilds;
-      run = written_runs_the_same p F s t H (program_of no_place w) ready formed made.rebuilds made.written;
+      run = rebuilt_runs_the_same p F s t H (program_of no_place w) ready formed made.rebuilds;
     }

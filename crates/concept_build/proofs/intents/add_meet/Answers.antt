@@ -4,7 +4,7 @@ use Rattle.concept_build.specs.Tables.{IsMeet}
 use Rattle.concept_build.specs.Lists.{lists_of, pair_at}
 use Rattle.concept_build.proofs.ExtentLemmas.{nothing}
 use Rattle.concept_build.proofs.MadeLemmas.{meet, IsMeet-meet, closed-meet, closed-concept, concept-closed}
-use Rattle.concept_build.proofs.GrowLemmas.{AreFound-push, meet-known}
+use Rattle.concept_build.proofs.GrowLemmas.{AreFound-push, HasMeet-push, meet-known}
 use Rattle.concept_build.proofs.intents.add_meet.Goals as goal
 
 pub meet_of-requires : goal.meet_of-requires
@@ -31,6 +31,16 @@ returns-in_ok-push-clause-found c =
     let is = rw (c.item_at.ensures.item nothing, c.deref.ensures.value, c.row_at.ensures) at c.in_ok-columns.ensures in
     let news = rw (c.if-branch.true, is y.1 mine) at c.in_ok-is_new.ensures in
     rw c.in_ok-push.ensures.items (AreFound-push T w xs (lists_of c.args.known.now.keys) c.requires.found y (lists_of c.is_new.new.known.keys) (concept-closed T w y.0 y.1 o.extent closed) news.0 news.1)
+
+pub returns-in_ok-push-clause-has : goal.returns-in_ok-push-clause-has
+returns-in_ok-push-clause-has c =
+    let R = row c.args.table.now c.args.q in
+    let xs = c.args.items.now.items in
+    let x = pair_at xs c.args.k in
+    let y = c.in_ok-new.field-0 in
+    let m = rw (c.intent.ensures, c.item_at-then-branch.ensures.item nothing, c.deref-then-branch.ensures.value, c.row_at-then-branch.ensures) at c.in_ok-meet.ensures in
+    let mine = subst (λ s. IsMeet s x.1 R) (sym c.in_ok-new.ensures.intent) m in
+    rw c.in_ok-push.ensures.items (HasMeet-push xs y x.1 R mine)
 
 pub returns-else-branch-clause-has : goal.returns-else-branch-clause-has
 returns-else-branch-clause-has c =

@@ -1,15 +1,11 @@
 use Rattle.std.proofs.Common.{arith, ap, ◌∙◌, sym, map}
-use Rattle.std.specs.Prelude.{slice_get}
-use Rattle.java_core.specs.Types.{string_method}
 use Rattle.java_core.specs.Trees.{no_place}
 use Rattle.java_core.specs.Programs.{program_of}
 use Rattle.java_heap.specs.Seen.{value_of}
-use Rattle.java_meaning.specs.Moment.{with_some}
-use Rattle.java_meaning.specs.Meaning.{string_call}
 use Rattle.java_run.specs.Parts.{receiver}
 use Rattle.java_run.specs.Rest.{state_of, onward}
 use Rattle.java_run.proofs.Moved.{moved_from, stopped}
-use Rattle.java_run.proofs.Called.{on_value, object_gone}
+use Rattle.java_run.proofs.Called.{on_value, on_text, object_gone}
 use Rattle.java_run.proofs.calls.call_on.Goals as goal
 
 pub returns-in-Null : goal.returns-in-Null
@@ -28,8 +24,8 @@ pub returns-in-Str : goal.returns-in-Str
 returns-in-Str c =
     let P = program_of no_place c.args.p.now in
     moved_from P _ _ _ _ _ _ _ (c.answer.ensures P) (λ n le. on_value P n c.args.m.now (receiver c.args.base) c.args.name.now _ _ (map value_of c.args.args.items) c.in-Str.is
-    ∙ ap (λ l. with_some (slice_get c.args.m.now.heap.strings c.in-Str.at) (state_of c.args.m.now) (λ u. with_some (string_method c.args.name.now) (state_of c.args.m.now) (λ y. string_call y u (map value_of l) (state_of c.args.m.now) (onward P n c.args.m.now)))) (sym c.deref.ensures.value)
-    ∙ c.call_string-found.ensures (state_of c.args.m.now) (onward P n c.args.m.now) (λ i. c.args.m.now.heap.strings)) (omega arith)
+    ∙ on_text P n c.args.m.now (receiver c.args.base) c.args.name.now c.in-Str.at _ _ (ap (map value_of) (sym c.deref.ensures.value))
+    ∙ c.on_string-found.ensures c.args.m.now.now.number.0 (state_of c.args.m.now) (onward P n c.args.m.now) (λ i. c.args.m.now.heap.strings)) (omega arith)
 
 pub returns-in-None : goal.returns-in-None
 returns-in-None c = let P = program_of no_place c.args.p.now in stopped P _ _ _ _ _ _ (omega arith) c.stuck.ensures (λ n le. on_value P n c.args.m.now (receiver c.args.base) c.args.name.now _ _ (map value_of c.args.args.items) c.in-Ref.is ∙ object_gone P n c.args.m.now (receiver c.args.base) c.args.name.now c.in-Ref.at (map value_of c.args.args.items) (sym c.in-None.ensures))

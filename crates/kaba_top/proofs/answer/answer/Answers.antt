@@ -1,6 +1,7 @@
 use Rattle.std.proofs.Common.{Err, ap, subst, string_bytes}
-use Rattle.kaba_words.specs.Commands.{edit, regen, texts, command_of, Fits}
-use Rattle.kaba_top.proofs.Replying.{of_command, usage_replies, help_replies, version_replies}
+use Rattle.kaba_words.specs.Commands.{edit, regen, make, help, version, texts, command_of, Fits}
+use Rattle.kaba_top.proofs.Replying.{of_command, usage_replies, without_files}
+use Rattle.kaba_top.proofs.Making.{make_number}
 use Rattle.kaba_top.proofs.answer.answer.Goals as goal
 
 pub returns-in-Err-Usage : goal.returns-in-Err-Usage
@@ -10,14 +11,14 @@ returns-in-Err-Usage g c = record {
 
 pub returns-in-Ok-Help : goal.returns-in-Ok-Help
 returns-in-Ok-Help g c = record {
-  replies = help_replies (g.F.Shelf.files c.args.shelf.now) (g.F.Shelf.faults c.args.shelf.now) (g.F.Shelf.faults c.args.shelf.now) (texts c.args.words.now.items) c.help_reply.result
-      (subst (λ command. Fits (texts c.args.words.now.items) (command_of command)) c.in-Ok-Help.field-0-is c.in-Ok-Help.ensures.command) c.help_reply.ensures.gives;
+  replies = without_files (g.F.Shelf.files c.args.shelf.now) (g.F.Shelf.faults c.args.shelf.now) (g.F.Shelf.faults c.args.shelf.now) (texts c.args.words.now.items) help c.help_reply.result
+      (subst (λ command. Fits (texts c.args.words.now.items) (command_of command)) c.in-Ok-Help.field-0-is c.in-Ok-Help.ensures.command) (λ first second. c.help_reply.ensures.gives);
 }
 
 pub returns-in-Ok-Version : goal.returns-in-Ok-Version
 returns-in-Ok-Version g c = record {
-  replies = version_replies (g.F.Shelf.files c.args.shelf.now) (g.F.Shelf.faults c.args.shelf.now) (g.F.Shelf.faults c.args.shelf.now) (texts c.args.words.now.items) c.version_reply.result
-      (subst (λ command. Fits (texts c.args.words.now.items) (command_of command)) c.in-Ok-Version.field-0-is c.in-Ok-Version.ensures.command) c.version_reply.ensures.gives;
+  replies = without_files (g.F.Shelf.files c.args.shelf.now) (g.F.Shelf.faults c.args.shelf.now) (g.F.Shelf.faults c.args.shelf.now) (texts c.args.words.now.items) version c.version_reply.result
+      (subst (λ command. Fits (texts c.args.words.now.items) (command_of command)) c.in-Ok-Version.field-0-is c.in-Ok-Version.ensures.command) (λ first second. c.version_reply.ensures.gives);
 }
 
 pub returns-in-Ok-Edit : goal.returns-in-Ok-Edit
@@ -32,4 +33,17 @@ returns-in-Ok-Regen g c = record {
   replies = of_command (g.F.Shelf.files c.args.shelf.now) (g.F.Shelf.faults c.args.shelf.now) (g.F.Shelf.faults c.regen_command.new.shelf) (texts c.args.words.now.items)
       (regen c.in-Ok-Regen.bound (string_bytes c.in-Ok-Regen.file) (string_bytes c.in-Ok-Regen.script)) c.regen_command.result
       (subst (λ command. Fits (texts c.args.words.now.items) (command_of command)) c.in-Ok-Regen.field-0-is c.in-Ok-Regen.ensures.command) c.regen_command.ensures.replies;
+}
+
+pub make_reply-requires : goal.make_reply-requires
+make_reply-requires g c =
+    let given = make_number (texts c.args.words.now.items) c.in-Ok-Make.prints c.in-Ok-Make.number
+    (subst (λ command. Fits (texts c.args.words.now.items) (command_of command)) c.in-Ok-Make.field-0-is c.in-Ok-Make.ensures.command) in
+    record { some = given.0; most = given.1 }
+
+pub returns-in-Ok-Make : goal.returns-in-Ok-Make
+returns-in-Ok-Make g c = record {
+  replies = without_files (g.F.Shelf.files c.args.shelf.now) (g.F.Shelf.faults c.args.shelf.now) (g.F.Shelf.faults c.args.shelf.now) (texts c.args.words.now.items)
+      (make c.in-Ok-Make.prints c.in-Ok-Make.number) c.make_reply.result
+      (subst (λ command. Fits (texts c.args.words.now.items) (command_of command)) c.in-Ok-Make.field-0-is c.in-Ok-Make.ensures.command) (λ first second. c.make_reply.ensures.answers);
 }

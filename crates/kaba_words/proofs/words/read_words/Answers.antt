@@ -1,6 +1,6 @@
 use Rattle.std.proofs.Common.{◌∷◌, ◌∙◌, ap, sym}
 use Rattle.kaba_words.specs.Commands.{texts}
-use Rattle.kaba_words.proofs.Patterns.{none_of_run, none_of_table, none_of_lattice, none_of_edit, none_of_regen, none_of_help, none_of_version}
+use Rattle.kaba_words.proofs.Patterns.{none_of_run, none_of_table, none_of_lattice, none_of_edit, none_of_regen, none_of_make, none_of_help, none_of_version}
 use Rattle.kaba_words.proofs.words.read_words.Goals as goal
 
 pub returns-in-Some-run-clause-usage : goal.returns-in-Some-run-clause-usage
@@ -37,3 +37,8 @@ pub returns-in-Some-regen-clause-usage : goal.returns-in-Some-regen-clause-usage
 returns-in-Some-regen-clause-usage c = λ h. none_of_regen (texts c.args.words.now.items) (texts c.next.new.self.words.now)
     (ap texts (sym c.as_slice.ensures.value) ∙ c.in-Some-regen.ensures ∙ ap (λ name. name ∷ texts c.next.new.self.words.now) c.in-Some-regen.is-regen)
     (c.read_regen.ensures.usage h)
+
+pub returns-in-Some-make-clause-usage : goal.returns-in-Some-make-clause-usage
+returns-in-Some-make-clause-usage c = λ h. none_of_make (texts c.args.words.now.items) (texts c.next.new.self.words.now)
+    (ap texts (sym c.as_slice.ensures.value) ∙ c.in-Some-make.ensures ∙ ap (λ name. name ∷ texts c.next.new.self.words.now) c.in-Some-make.is-make)
+    (c.read_make.ensures.usage h)

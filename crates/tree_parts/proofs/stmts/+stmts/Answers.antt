@@ -1,7 +1,7 @@
 -- The recursion goes down; a form that holds a list is the tree over the items of the list.
 use Rattle.std.proofs.Common.{rules, arith, ◌≤◌, length, sym, ap, ◌∙◌}
 use Rattle.std.proofs.lemmas.Result.{IfOk-weaker}
-use Rattle.java_core.specs.Trees.{no_place, no_st, otherwise, value_of, stmts, arms_seen, else_seen, step_seen}
+use Rattle.java_core.specs.Trees.{no_place, no_other, value_of, stmts, arms_seen, else_seen, step_seen}
 use Rattle.java_core.specs.Programs.{program_of, method_seen}
 use Rattle.std.specs.Prelude.{Option}
 use Rattle.std.specs.declared.vec.Vec.{Vec}
@@ -13,7 +13,7 @@ use Rattle.tree_parts.specs.Renamed.{renamed}
 use Rattle.tree_parts.proofs.Size.{st_size, sts_size, arms_size}
 use Rattle.tree_parts.proofs.Smaller.{stmt_smaller, arm_smaller, else_smaller, arms_within}
 use Rattle.tree_parts.proofs.Forms.{block_form, if_form, while_form, for_form}
-use Rattle.tree_parts.proofs.Bodies.{arms_alike, else_alike, else_is, loop_is}
+use Rattle.tree_parts.proofs.Bodies.{arms_alike, else_alike, for_is}
 use Rattle.tree_parts.proofs.Steps.{sts_next, sts_end, arms_next, arms_end_at}
 use Rattle.tree_parts.proofs.stmts.+stmts.Goals as goal
 
@@ -89,9 +89,9 @@ all_arms-body-requires t c = (
   omega (
     arith,
     c.decreases,
-    arm_smaller c.deref-one-items.result.now no_st c.loop-one.one-index c.one-item.result c.loop-one-test.true
+    arm_smaller c.deref-one-items.result.now no_other c.loop-one.one-index c.one-item.result c.loop-one-test.true
         c.one-item.is,
-    ap (λ xs. arms_size (arms_seen no_place xs no_st)) c.deref-one-items.ensures.value,
+    ap (λ xs. arms_size (arms_seen no_place xs no_other)) c.deref-one-items.ensures.value,
   ),
   (c.requires.formed, c.requires.fits),
 )
@@ -99,7 +99,7 @@ all_arms-body-requires t c = (
 pub all_arms-loop-one-preserved : goal.all_arms-loop-one-preserved
 all_arms-loop-one-preserved t c =
     arms_next (program_of no_place c.args.program.now) (renamed c.args.numbering.now c.args.hier.now) c.args.hier.now c.args.m
-    (method_seen no_place c.args.method.now) c.args.scope.now.items no_st
+    (method_seen no_place c.args.method.now) c.args.scope.now.items no_other
     c.loop-one.done.items c.push.new.self.items c.deref-one-items.result.now c.loop-one.one-index c.one-item.result
     (record { test = c.in_ok-test.test; body = c.in_ok-run.run' }) c.loop-one-test.true
     c.one-item.is c.in_ok-test.ensures.value c.in_ok-run.ensures.value c.in_ok-push.ensures.items c.loop-one.invariant
@@ -110,7 +110,7 @@ all_arms-returns t c =
     record {
       value = arms_end_at (program_of no_place c.args.program.now) (renamed c.args.numbering.now c.args.hier.now) c.args.hier.now c.args.m
           (method_seen no_place c.args.method.now)
-          c.args.scope.now.items no_st c.loop-one.done.items c.deref-one-items.result.now c.loop-one.one-index h c.loop-one.invariant;
+          c.args.scope.now.items no_other c.loop-one.done.items c.deref-one-items.result.now c.loop-one.one-index h c.loop-one.invariant;
     }
 
 pub stmt-returns-in_ok-items-in-Block-clause-value : goal.stmt-returns-in_ok-items-in-Block-clause-value
@@ -125,7 +125,7 @@ stmt-returns-in_ok-other-in-If-clause-value t c =
     let R = renamed c.args.numbering.now c.args.hier.now in
     let k = method_seen no_place c.args.method.now in
     let form = if_form c.in-If.arms c.in-If.other c.in-If.is in
-    let arms = arms_alike P R c.args.hier.now c.args.m k c.args.scope.now.items c.in-If.arms.items (else_seen no_place c.in-If.other) in
+    let arms = arms_alike P R c.args.hier.now c.args.m k c.args.scope.now.items c.in-If.arms.items c.in-If.other in
     let last = else_alike P R c.args.hier.now c.args.m k c.args.scope.now.items c.in-If.arms.items (else_seen no_place c.in-If.other) in
     rw (form, arms, last) (search rules)
 
@@ -136,23 +136,9 @@ stmt-returns-in_ok-run-in-For-clause-value t c =
     let k = method_seen no_place c.args.method.now in
     let scope = c.args.scope.now.items in
     let a = c.in-For in
-    let is = loop_is P R c.args.hier.now c.args.m k scope c.in_ok-inner-in-For.inner.items c.part.new.scope.items (no_place a.place)
+    let is = for_is P R c.args.hier.now c.args.m k scope c.in_ok-inner-in-For.inner.items c.part.new.scope.items (no_place a.place)
     (step_seen no_place a.first) (value_of no_place a.test)
     (step_seen no_place a.step) (stmts no_place a.run'.items) c.in_ok-inner-in-For.ensures c.in_ok-first-in-For.ensures.scope c.in_ok-first-in-For.ensures.value
     c.in_ok-test-in-For.ensures.value c.in_ok-step-in-For.ensures.value c.in_ok-run-in-For.ensures.value in
     let form = for_form a.first a.test a.step a.run' a.is in
-    IfOk-weaker c.looped.result _ _ (λ s h. h ∙ is ∙ sym (ap (written_st P R c.args.hier.now c.args.m k scope) form)) c.looped.ensures
-
-pub otherwise-returns-in_ok-other-in-Some : goal.otherwise-returns-in_ok-other-in-Some
-otherwise-returns-in_ok-other-in-Some t c =
-    let P = program_of no_place c.args.program.now in
-    let R = renamed c.args.numbering.now c.args.hier.now in
-    let k = method_seen no_place c.args.method.now in
-    let some = ap (λ (o : Option (Vec RStmt Global)). written_else P R c.args.hier.now c.args.m k c.args.scope.now.items (otherwise (else_seen
-    no_place o))) c.in-Some.is in
-    record {
-      value = ap tree.otherwise c.in_ok-other-in-Some.ensures.value
-          ∙ else_is P R c.args.hier.now c.args.m k c.args.scope.now.items c.in-Some.list.items c.in-Some.list.len c.is_empty.result c.is_empty.ensures
-          c.if-not-is_empty.true
-          c.in-Some.list.ok.0 ∙ sym some;
-    }
+    IfOk-weaker c.for_loop.result _ _ (λ s h. h ∙ is ∙ sym (ap (written_st P R c.args.hier.now c.args.m k scope) form)) c.for_loop.ensures.value

@@ -1,7 +1,7 @@
 -- What is written so far and the rest is the whole; each call has a smaller statement, or the same by a function below.
 use Rattle.std.proofs.Common.{◌≡◌, ◌+◌, ◌*◌, drop}
 use Rattle.java_tree.specs.Syntax as tree
-use Rattle.java_core.specs.Trees.{no_place, no_st, stmt_of, stmts, arms_seen, else_seen, step_seen}
+use Rattle.java_core.specs.Trees.{no_place, no_other, stmt_of, stmts, arms_seen, else_seen, step_seen}
 use Rattle.java_core.specs.Programs.{program_of, method_seen}
 use Rattle.written_tree.specs.Bodies.{written_sts, written_arms}
 use Rattle.tree_parts.specs.Renamed.{renamed}
@@ -19,10 +19,10 @@ abbrev pub decreases-last : goal.decreases-last
 decreases-last l = 4 * sts_size (step_seen no_place l.tree.now) + 2
 
 abbrev pub decreases-otherwise : goal.decreases-otherwise
-decreases-otherwise l = 4 * sts_size (else_seen no_place l.tree.now) + 2
+decreases-otherwise l = 4 * arms_size (else_seen no_place l.tree.now) + 2
 
 abbrev pub decreases-all_arms : goal.decreases-all_arms
-decreases-all_arms l = 4 * arms_size (arms_seen no_place l.list.now.items no_st) + 2
+decreases-all_arms l = 4 * arms_size (arms_seen no_place l.list.now.items no_other) + 2
 
 abbrev pub decreases-body : goal.decreases-body
 decreases-body l = 4 * sts_size (stmts no_place l.list.now.items) + 1
@@ -32,8 +32,8 @@ invariant-all_arms-loop-one l =
     let P = program_of no_place l.program in
     let R = renamed l.numbering l.hier in
     let k = method_seen no_place l.method in
-    append_arms (tree.arms_seen l.done.items) (written_arms P R l.hier l.m k l.scope.items (arms_seen no_place (drop l.one-index l.one-items) no_st))
-    ≡ written_arms P R l.hier l.m k l.scope.items (arms_seen no_place l.list.items no_st)
+    append_arms (tree.arms_seen l.done.items) (written_arms P R l.hier l.m k l.scope.items (arms_seen no_place (drop l.one-index l.one-items) no_other))
+    ≡ written_arms P R l.hier l.m k l.scope.items (arms_seen no_place l.list.items no_other)
 
 abbrev pub invariant-body-loop-one : goal.invariant-body-loop-one
 invariant-body-loop-one l =

@@ -1,0 +1,16 @@
+use Rattle.std.proofs.Common.{◌≡◌, ℕ, ◌<◌, Some, true}
+use Rattle.std.specs.Str.{bytes_eq}
+use Rattle.hier_model.specs.Hierarchies.{member_name}
+use Rattle.hier_rules.specs.Namesakes.{AreClashes}
+use Rattle.hier_rules.proofs.ClashLemmas.{limit}
+use Rattle.hier_rules.proofs.clashes.add_clashes.Given as goal
+
+abbrev pub invariant-namesakes : goal.invariant-namesakes
+invariant-namesakes l = record {
+  below : (c : ℕ) → l.earlier ≡ Some c → c < l.d;
+  named : (c : ℕ) → l.earlier ≡ Some c → bytes_eq (member_name l.hier c) (member_name l.hier l.d) ≡ true;
+  found : AreClashes l.facts l.hier l.d (limit l.earlier) l.clashes.items;
+}
+
+abbrev pub decreases-namesakes : goal.decreases-namesakes
+decreases-namesakes l = limit l.earlier

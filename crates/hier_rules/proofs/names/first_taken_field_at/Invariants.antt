@@ -1,7 +1,0 @@
-use Rattle.std.proofs.Common.{◌≡◌, None}
-use Rattle.kaba_bits.specs.Sets.{first_below}
-use Rattle.hier_rules.specs.Names.{taken_field}
-use Rattle.hier_rules.proofs.names.first_taken_field_at.Given as goal
-
-abbrev pub invariant-loop-c : goal.invariant-loop-c
-invariant-loop-c l = first_below l.c (taken_field l.facts l.hier l.n) ≡ None

@@ -1,0 +1,7 @@
+use Rattle.std.proofs.Common.{◌≡◌, true}
+use Rattle.kaba_bits.specs.Sets.{ListsBelow}
+use Rattle.hier_rules.specs.Namesakes.{is_taken_field}
+use Rattle.hier_rules.proofs.names.taken_fields.Given as goal
+
+abbrev pub invariant-loop-c : goal.invariant-loop-c
+invariant-loop-c l = ListsBelow (λ c. is_taken_field l.facts l.hier c ≡ true) l.c l.list.items

@@ -1,0 +1,158 @@
+//! The names that types and fields cannot have, as sets.
+
+ghost use Rattle.std.specs.Prelude.{◌≡◌, ℕ, ◌<◌, ◌&&◌, ◌||◌, List, length, IfOk, OnOk};
+ghost use Rattle.std.specs.List.{list_any};
+ghost use Rattle.std.specs.Str.{bytes_eq};
+ghost use Rattle.fact_model.specs.declared.facts.ClassInfo.{ClassInfo};
+ghost use Rattle.hier_model.specs.Hierarchies.{IsHierarchyOf};
+ghost use Rattle.hier_model.specs.Names.{is_taken};
+ghost use Rattle.hier_model.specs.Taken.{texts};
+ghost use Rattle.hier_rules.specs.Names.{known_names, is_reserved, is_variable, is_named, is_type};
+ghost use Rattle.hier_rules.specs.Namesakes.{is_twice};
+ghost use Rattle.hier_rules.specs.Takens.{AreTaken};
+
+use crate::places::{is_live, node_count};
+use fact_model::{ClassInfo, Facts};
+use hier_model::Hier;
+use indexmap::IndexSet;
+use kaba_base::{Name, NodeId};
+use std::alloc::{AllocError, Global};
+
+/// Names of a hierarchy and its facts.
+#[derive(Drop)]
+pub struct TakenNames {
+    /// Those of the types of live nodes.
+    pub types: IndexSet<String>,
+    /// Those that two such types have.
+    pub twice: IndexSet<String>,
+    /// Those of classes with static members, and those that the language has.
+    pub reserved: IndexSet<String>,
+    /// Those of variables, parameters and fields of the text.
+    pub variables: IndexSet<String>,
+}
+
+/// Adds a name to a set.
+fn add_name(alloc: Global, set: &mut IndexSet<String>, name: &Name) -> Result<(), AllocError>
+    ensures { OnOk result ((x : List ℕ) → is_taken (texts set.new.keys) x ≡ (is_taken (texts set.old.keys) x || bytes_eq name.now x)) }
+{
+    let text = String::from_str(alloc, name.as_str())?;
+    set.insert_full(text)?;
+    Ok(())
+}
+
+/// Whether a name is in a set.
+pub fn has_name(set: &IndexSet<String>, name: &Name) -> bool
+    ensures { result ≡ is_taken (texts set.now.keys) name.now }
+{
+    set.contains(name.as_str())
+}
+
+/// Adds the names of a list to a set.
+fn add_names(alloc: Global, set: &mut IndexSet<String>, names: &[Name]) -> Result<(), AllocError>
+    ensures { OnOk result ((x : List ℕ) → is_taken (texts set.new.keys) x ≡ (is_taken (texts set.old.keys) x || list_any (λ v. bytes_eq v x) names.now)) }
+{
+    for name in names {
+        add_name(alloc, set, name)?;
+    }
+    Ok(())
+}
+
+/// Adds the name of a class, if it has static members.
+fn add_holder(
+    alloc: Global,
+    set: &mut IndexSet<String>,
+    class: &ClassInfo,
+) -> Result<(), AllocError>
+    ensures { OnOk result ((x : List ℕ) → is_taken (texts set.new.keys) x ≡ (is_taken (texts set.old.keys) x || (class.now.holder && bytes_eq class.now.name x))) }
+{
+    if class.holder {
+        add_name(alloc, set, &class.name)?;
+    }
+    Ok(())
+}
+
+/// The names of classes with static members. An error comes only for want of memory.
+fn holder_names(alloc: Global, facts: &Facts) -> Result<IndexSet<String>, AllocError>
+    ensures { IfOk result (λ s. (x : List ℕ) → is_taken (texts s.keys) x ≡ list_any (λ k. k.holder && bytes_eq k.name x) facts.now.classes.items) }
+{
+    let mut names = IndexSet::new(alloc);
+    for class in &facts.classes {
+        add_holder(alloc, &mut names, class)?;
+    }
+    Ok(names)
+}
+
+/// The names that the language has. An error comes only for want of memory.
+fn known_names(alloc: Global) -> Result<Vec<Name>, AllocError>
+    ensures { IfOk result (λ v. v.items ≡ known_names) }
+{
+    let mut names = Vec::new(alloc);
+    names.push(Name::new(alloc, "Object")?)?;
+    names.push(Name::new(alloc, "String")?)?;
+    names.push(Name::new(alloc, "System")?)?;
+    Ok(names)
+}
+
+/// The names of classes with static members and those that the language has. An error comes only for want of memory.
+fn reserved_names(alloc: Global, facts: &Facts) -> Result<IndexSet<String>, AllocError>
+    ensures { IfOk result (λ s. (x : List ℕ) → is_taken (texts s.keys) x ≡ is_reserved facts.now x) }
+{
+    let mut names = holder_names(alloc, facts)?;
+    let known = known_names(alloc)?;
+    add_names(alloc, &mut names, &known)?;
+    Ok(names)
+}
+
+/// The names of variables, parameters and fields of the text. An error comes only for want of memory.
+fn variable_names(alloc: Global, facts: &Facts) -> Result<IndexSet<String>, AllocError>
+    ensures { IfOk result (λ s. (x : List ℕ) → is_taken (texts s.keys) x ≡ is_variable facts.now x) }
+{
+    let mut names = IndexSet::new(alloc);
+    add_names(alloc, &mut names, &facts.vars)?;
+    Ok(names)
+}
+
+/// Adds the name of a node's type, if the node is live, and to the second set if it was in the first.
+fn add_type(
+    alloc: Global,
+    facts: &Facts,
+    hier: &Hier,
+    n: u32,
+    types: &mut IndexSet<String>,
+    twice: &mut IndexSet<String>,
+) -> Result<(), AllocError>
+    requires hier { IsHierarchyOf facts.now hier.now }
+    requires node { n < length hier.now.order.live }
+    ensures types { OnOk result ((x : List ℕ) → is_taken (texts types.new.keys) x ≡ (is_taken (texts types.old.keys) x || is_named hier.now x n)) }
+    ensures twice { OnOk result ((x : List ℕ) → is_taken (texts twice.new.keys) x ≡ (is_taken (texts twice.old.keys) x || (is_named hier.now x n && is_taken (texts types.old.keys) x))) }
+{
+    if !is_live(hier, n) {
+        return Ok(());
+    }
+    let name = hier.type_name(NodeId(n));
+    if has_name(types, name) {
+        add_name(alloc, twice, name)?;
+    }
+    add_name(alloc, types, name)?;
+    Ok(())
+}
+
+/// The names that types and fields cannot have. An error comes only for want of memory.
+pub fn taken_names(alloc: Global, facts: &Facts, hier: &Hier) -> Result<TakenNames, AllocError>
+    requires hier { IsHierarchyOf facts.now hier.now }
+    ensures { IfOk result (AreTaken facts.now hier.now) }
+{
+    let reserved = reserved_names(alloc, facts)?;
+    let variables = variable_names(alloc, facts)?;
+    let mut types = IndexSet::new(alloc);
+    let mut twice = IndexSet::new(alloc);
+    for n in 0..node_count(hier) {
+        add_type(alloc, facts, hier, n, &mut types, &mut twice)?;
+    }
+    Ok(TakenNames {
+        types,
+        twice,
+        reserved,
+        variables,
+    })
+}
