@@ -1,5 +1,5 @@
 -- What a body resolves to without its places is what it resolves to, its tags taken off.
-use Rattle.std.proofs.Common.{◌≡◌, ℕ, suc, Bool, true, false, List, [], ◌∷◌, ◌++◌, map, length, Option, Some, None, refl, sym, ap, ◌∙◌, subst}
+use Rattle.std.proofs.Common.{◌≡◌, ℕ, suc, Bool, true, false, List, [], ◌∷◌, ◌++◌, map, length, Option, refl, sym, ap, ◌∙◌, subst}
 use Rattle.std.specs.Prelude.{slice_get}
 use Rattle.std.specs.Option.{option_map}
 use Rattle.std.proofs.lemmas.List.{length-map}
@@ -8,7 +8,7 @@ use Rattle.java_tree.specs.declared.TypeName.{TypeName}
 use Rattle.java_tree.specs.Syntax.{Expression, Expressions, Statement, Statements, Else, OptionalStatement}
 use Rattle.java_tree.specs.Syntax as tree
 use Rattle.java_tree.specs.Places.{nowhere, type_unplaced, expr_unplaced, exprs_unplaced, value_unplaced, stmt_unplaced, stmts_unplaced, arms_unplaced, else_unplaced, step_unplaced, may_unplaced}
-use Rattle.java_core.specs.Trees.{Ex, Exs, Target, local, static_field, own_field, field, index, St, declare, block, assign, act, print, choose, loop, return, break, continue, Sts, no_st, st_then, Arms, no_other, otherwise, arm}
+use Rattle.java_core.specs.Trees.{Ex, Exs, local, St, block, assign, choose, loop, Sts, no_st, st_then, Arms, no_other, otherwise, arm}
 use Rattle.java_core.specs.Programs.{Plain, PlainLocal, PlainMethod}
 use Rattle.java_core.specs.Formed.{variables_of}
 use Rattle.name_rules.specs.declared.parts.Bound.{Bound}
@@ -16,7 +16,7 @@ use Rattle.name_rules.specs.declared.parts.Here.{Here}
 use Rattle.name_rules.specs.Outline.{MethodAt, is_static_word, is_type_name}
 use Rattle.name_rules.specs.Meanings.{bound_names}
 use Rattle.name_rules.specs.Resolves.{target, bound, Counts, ResolvesTo, r_number, r_character, r_text, r_truth, r_null, r_this, r_local, r_static_field, r_own_field, r_class_field, r_field, r_index, r_own_static_call, r_own_call, r_static_call, r_call, r_super_call, r_create, r_create_array, r_cast, r_instance_of, r_unary, r_binary, AllResolve, r_no_more, r_and_more, ResolvesIf, r_none, r_some, scope_after, scope_after_part, IsLocal, StResolves, r_declare, r_block, r_assign, r_act, r_print, r_choose, r_while, r_for, r_return, r_break, r_continue, StsResolve, r_no_statements, r_and_then, ArmsResolve, r_no_else, r_else, r_arm, PartResolves, r_absent, r_present, declares, declares_all, declares_arms, params_from, here_of, BodyResolves, r_no_body, r_body, BodiesResolve, r_no_methods, r_method}
-use Rattle.java_resolve.proofs.Bare.{bare_tag, bare, bare_all, bare_if, bare_target, bare_st, bare_sts, bare_arms, bare_local, bare_field, bare_method, bare_program}
+use Rattle.java_resolve.proofs.Bare.{bare_tag, bare, bare_all, bare_if, bare_target, bare_st, bare_sts, bare_arms, bare_local, bare_method, bare_program}
 use Rattle.java_resolve.proofs.Runs.{stands-map}
 use Rattle.places_aside.proofs.Outlines.{ap2, word-same, method_at_unplaced}
 use Rattle.places_aside.proofs.Meanings.{variables-same, names-same, named-same, means, means-cast, class-name-same, static-field, static-method, nearest-field, met}

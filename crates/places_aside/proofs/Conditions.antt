@@ -1,22 +1,17 @@
 -- No condition that refuses names holds of a tree without its places where none holds of it.
-use Rattle.std.proofs.Common.{◌≡◌, ◌≢◌, ◌⊎◌, inl, inr, ⊎_elim, ℕ, suc, ◌<◌, ◌||◌, Bool, true, false, List, [], ◌∷◌, map, Option, Some, None, Contains, is_some, refl, sym, ap, ◌∙◌, subst}
+use Rattle.std.proofs.Common.{◌≡◌, ◌⊎◌, inl, inr, ⊎_elim, ℕ, ◌||◌, true, false, List, map, Option, Some, None, Contains, is_some, refl, sym, ap, ◌∙◌, subst}
 use Rattle.std.specs.Prelude.{slice_get, codes}
-use Rattle.kaba_base.specs.declared.words.Keyword.{Keyword}
-use Rattle.java_tree.specs.declared.Id.{Id}
 use Rattle.java_tree.specs.declared.Modifier.{Modifier}
-use Rattle.java_tree.specs.declared.Param.{Param}
 use Rattle.java_tree.specs.Syntax.{Statements, DeclTree, ClassTree, InterfaceTree}
 use Rattle.java_tree.specs.Places.{all_unplaced, may_unplaced, id_unplaced, modifier_unplaced, param_unplaced, stmts_unplaced, decl_unplaced, unplaced}
 use Rattle.java_core.specs.Programs.{Plain, PlainClass, PlainMethod}
 use Rattle.java_core.specs.Classes.{IsSubclass, IsProperSubclass}
-use Rattle.java_core.specs.Formed.{IsMain}
 use Rattle.name_rules.specs.declared.Refusal.{Refusal}
-use Rattle.name_rules.specs.declared.parts.Here.{Here}
 use Rattle.name_rules.specs.declared.parts.Kind.{Kind}
-use Rattle.name_rules.specs.Outline.{FieldAt, MethodAt, is_private, is_private_word, has_word, is_abstract_word, is_static_word, outline, fields_in, methods_in, types_in, is_type_name, is_known, name_of, mods_of, parent_named, faces_named}
+use Rattle.name_rules.specs.Outline.{FieldAt, MethodAt, is_private, is_private_word, is_abstract_word, is_static_word, outline, fields_in, methods_in, is_type_name, is_known, name_of, mods_of, parent_named, faces_named}
 use Rattle.name_rules.specs.Meanings.{class_named}
 use Rattle.name_rules.specs.Resolves.{here_of}
-use Rattle.name_rules.specs.Conditions.{StsFault, disagree, is_unfit, kind_of, HasModifiers, of_type, of_field, of_method, HasWrongBody, missing, superfluous, in_concrete, AreOneSlot, ConditionAt, unknown, type_twice, known_twice, super_twice, field_twice, method_twice, param_twice, loop, overload, type_as_field, type_as_param, face_as_parent, class_as_face, private_reused, no_main, modifiers_disagree, modifier_unfit, wrong_body, in_body}
+use Rattle.name_rules.specs.Conditions.{StsFault, disagree, is_unfit, kind_of, HasModifiers, of_type, of_field, of_method, HasWrongBody, missing, superfluous, in_concrete, AreOneSlot, unknown, type_twice, known_twice, super_twice, field_twice, method_twice, param_twice, loop, overload, type_as_field, type_as_param, face_as_parent, class_as_face, private_reused, no_main, modifiers_disagree, modifier_unfit, wrong_body, in_body}
 use Rattle.name_rules.specs.Causes.{HasNoCondition}
 use Rattle.java_resolve.proofs.Bare.{bare_class, bare_method, bare_program}
 use Rattle.java_resolve.proofs.Runs.{map-stands, stands-map}

@@ -1,5 +1,5 @@
 -- What a name means in an outline does not depend on the tags.
-use Rattle.std.proofs.Common.{◌≡◌, ◌⊎◌, ℕ, zero, suc, ◌&&◌, ◌++◌, not, Bool, false, List, [], ◌∷◌, map, length, Option, Some, None, Contains, refl, sym, ap, ◌∙◌, subst}
+use Rattle.std.proofs.Common.{◌≡◌, ℕ, zero, suc, ◌&&◌, ◌++◌, not, List, [], ◌∷◌, map, length, Option, Some, None, Contains, refl, sym, ap, ◌∙◌, subst}
 use Rattle.std.specs.Prelude.{slice_get, option_and_then}
 use Rattle.std.specs.Option.{option_map, option_map_or, option_to_list, is_none}
 use Rattle.std.proofs.lemmas.List.{map-append, length-map}
@@ -20,7 +20,6 @@ use Rattle.name_rules.specs.Outline.{type_named}
 use Rattle.name_rules.specs.Meanings.{type_names, class_named, MeansBase, an_int, a_boolean, a_char, a_text, a_class, Means, MeansCastBase, to_int, to_boolean, to_char, to_class, MeansCast, is_bound, is_class_name, IsStaticFieldOf, IsStaticMethodOf, IsNearestField, IsMet}
 use Rattle.java_resolve.proofs.Bare.{bare_local, bare_class, bare_field, bare_method, bare_program}
 use Rattle.java_resolve.proofs.Runs.{map-stands, stands-map}
-use Rattle.java_resolve.proofs.Sees.{same_some}
 use Rattle.places_aside.proofs.Outlines.{ap2}
 
 -- what is looked for in each item is found in its image

@@ -1,20 +1,18 @@
 -- A tree without places resolves to what it resolves to, its tags taken off.
-use Rattle.std.proofs.Common.{◌≡◌, ℕ, ◌<◌, ◌≤◌, List, [], ◌∷◌, map, Option, Some, None, Contains, refl, sym, ap, ◌∙◌, subst}
-use Rattle.std.specs.Prelude.{slice_get}
+use Rattle.std.proofs.Common.{◌≡◌, ℕ, List, [], ◌∷◌, map, Option, Some, None, Contains, refl, sym, ap, ◌∙◌, subst}
 use Rattle.std.specs.Option.{is_some}
 use Rattle.kaba_base.specs.declared.Place.{Place}
 use Rattle.java_tree.specs.declared.Id.{Id}
 use Rattle.java_tree.specs.declared.TypeName.{TypeName}
 use Rattle.java_tree.specs.Syntax.{DeclTree, ClassTree, InterfaceTree}
 use Rattle.java_tree.specs.Places.{all_unplaced, may_unplaced, id_unplaced, type_unplaced, param_unplaced, decl_unplaced, unplaced}
-use Rattle.java_core.specs.declared.Ty.{Ty}
-use Rattle.java_core.specs.Programs.{Plain, PlainLocal, PlainMethod, PlainSlot}
+use Rattle.java_core.specs.Programs.{Plain, PlainLocal, PlainMethod}
 use Rattle.java_core.specs.Types.{types_of}
-use Rattle.java_core.specs.Formed.{numbers_methods, IsMain}
-use Rattle.name_rules.specs.Outline.{FieldAt, MethodAt, parent_named, faces_named, fields_in, methods_in, outline}
+use Rattle.java_core.specs.Formed.{IsMain}
+use Rattle.name_rules.specs.Outline.{MethodAt, parent_named, faces_named, fields_in, methods_in, outline}
 use Rattle.name_rules.specs.Meanings.{class_named}
 use Rattle.name_rules.specs.Asked.{IsSuper, a_parent, a_face, IsDeclared, of_field, of_param, of_result, Asks, by_super, by_type}
-use Rattle.name_rules.specs.Resolves.{Counts, BodiesResolve, heading_of, IsOfSlot, HasSlot, no_slot, a_slot, AreSlots, Resolves}
+use Rattle.name_rules.specs.Resolves.{Counts, BodiesResolve, heading_of, HasSlot, no_slot, a_slot, AreSlots, Resolves}
 use Rattle.java_resolve.proofs.Bare.{bare_local, bare_class, bare_field, bare_method, bare_program}
 use Rattle.java_resolve.proofs.BareNumbers as numbers
 use Rattle.java_resolve.proofs.Runs.{member-at, member-stands, map-stands, stands-map}

@@ -1,6 +1,5 @@
 -- The laws: programs of one tree are one, places aside.
-use Rattle.std.proofs.Common.{◌≡◌, List, Ok, sym, ◌∙◌, subst}
-use Rattle.java_lex.specs.declared.Token.{Token}
+use Rattle.std.proofs.Common.{◌≡◌, List, sym, ◌∙◌, subst}
 use Rattle.java_tree.specs.Syntax.{DeclTree}
 use Rattle.java_tree.specs.Places.{unplaced}
 use Rattle.java_tree.specs.Declarations.{Derives}
