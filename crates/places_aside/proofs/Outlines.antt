@@ -1,0 +1,203 @@
+-- The outline of a tree without places is that of the tree, its tags taken off.
+use Rattle.std.proofs.Common.{◌≡◌, ℕ, suc, ◌||◌, Bool, false, true, List, [], ◌∷◌, ◌++◌, map, Option, Some, None, refl, sym, ap, ◌∙◌}
+use Rattle.std.specs.Prelude.{codes}
+use Rattle.std.specs.Option.{option_map}
+use Rattle.std.proofs.lemmas.List.{map-append}
+use Rattle.kaba_base.specs.declared.words.Keyword.{Keyword}
+use Rattle.java_tree.specs.declared.Id.{Id}
+use Rattle.java_tree.specs.declared.Modifier.{Modifier}
+use Rattle.java_tree.specs.declared.TypeName.{TypeName}
+use Rattle.java_tree.specs.Syntax.{MemberTree, FieldTree, MethodTree, DeclTree, ClassTree, InterfaceTree}
+use Rattle.java_tree.specs.Places.{nowhere, all_unplaced, may_unplaced, id_unplaced, modifier_unplaced, type_unplaced, param_unplaced, stmts_unplaced, head_unplaced, member_unplaced, decl_unplaced, unplaced}
+use Rattle.name_rules.specs.declared.parts.Kind.TheVariants as kinds
+use Rattle.name_rules.specs.Outline.{FieldAt, MethodAt, name_of, has_word, is_abstract_word, is_static_word, is_public_word, types_in, type_meant, id_meant, class_id, fields_of, methods_of, fields_declared, methods_declared, fields_from, methods_from, fields_in, methods_in, object, parent_meant, class_outline, field_outline, param_outline, method_outline, outline}
+use Rattle.java_resolve.proofs.Bare.{bare_tag, bare_local, bare_class, bare_field, bare_method, bare_program}
+
+pub ap2 : {A B C : Type 0} (f : A → B → C) {a b : A} {c d : B} → a ≡ b → c ≡ d → f a c ≡ f b d
+ap2 f {b = b} {c = c} p q = ap (λ z. f z c) p ∙ ap (λ z. f b z) q
+
+-- ---- lists
+
+-- items that are seen the same without their places
+pub same-all : {A B : Type 0} (u : A → A) (f : A → B) → ((x : A) → f (u x) ≡ f x) → (xs : List A) → map f (all_unplaced u xs) ≡ map f xs
+same-all u f e [] = refl
+same-all u f e (x ∷ xs) = ap2 (λ y ys. y ∷ ys) (e x) (same-all u f e xs)
+
+-- items that are seen without their tags where they have no places
+seen-all : {A B C : Type 0} (u : A → A) (f : A → C) (g : A → B) (h : B → C) → ((x : A) → f (u x) ≡ h (g x)) → (xs : List A)
+    → map f (all_unplaced u xs) ≡ map h (map g xs)
+seen-all u f g h e [] = refl
+seen-all u f g h e (x ∷ xs) = ap2 (λ y ys. y ∷ ys) (e x) (seen-all u f g h e xs)
+
+-- mapped in either order
+both-ways : {A B C D : Type 0} (f : A → B) (u : B → D) (g : A → C) (h : C → D) → ((x : A) → u (f x) ≡ h (g x)) → (xs : List A)
+    → map u (map f xs) ≡ map h (map g xs)
+both-ways f u g h e [] = refl
+both-ways f u g h e (x ∷ xs) = ap2 (λ y ys. y ∷ ys) (e x) (both-ways f u g h e xs)
+
+-- ---- parts of declarations
+
+pub word-same : (test : Keyword → Bool) (ms : List Modifier) → has_word test (all_unplaced modifier_unplaced ms) ≡ has_word test ms
+word-same test [] = refl
+word-same test (m ∷ ms) = ap (λ z. test m.word || z) (word-same test ms)
+
+pub name-same : (d : DeclTree) → name_of (decl_unplaced d) ≡ name_of d
+name-same (ClassTree ms n c fs bs p) = refl
+name-same (InterfaceTree ms n fs hs p) = refl
+
+pub types-same : (tree : List DeclTree) → types_in (unplaced tree) ≡ types_in tree
+types-same tree = ap (λ z. codes "Object" ∷ z) (same-all decl_unplaced name_of name-same tree)
+
+parent-same : (types : List (List ℕ)) (c : Option Id) → parent_meant types (may_unplaced id_unplaced c) ≡ parent_meant types c
+parent-same types None = refl
+parent-same types (Some i) = refl
+
+class-same : (types : List (List ℕ)) (d : DeclTree) → class_outline types (decl_unplaced d) ≡ bare_class (class_outline types d)
+class-same types (ClassTree ms n c fs bs p) =
+    ap (λ z. record {
+      name = n;
+      is_interface = false;
+      is_abstract = z;
+      parent = Some (parent_meant types (may_unplaced id_unplaced c));
+      faces = map (id_meant types) (all_unplaced id_unplaced fs);
+      tag = bare_tag;
+    }) (word-same is_abstract_word ms)
+    ∙ ap (λ z. record {
+      name = n;
+      is_interface = false;
+      is_abstract = has_word is_abstract_word ms;
+      parent = Some z;
+      faces = map (id_meant types) (all_unplaced id_unplaced fs);
+      tag = bare_tag;
+    }) (parent-same types c)
+    ∙ ap (λ z. record {
+      name = n;
+      is_interface = false;
+      is_abstract = has_word is_abstract_word ms;
+      parent = Some (parent_meant types c);
+      faces = z;
+      tag = bare_tag;
+    }) (same-all id_unplaced (id_meant types) (λ i. refl) fs)
+class-same types (InterfaceTree ms n fs hs p) =
+    ap (λ z. record {
+      name = n;
+      is_interface = true;
+      is_abstract = z;
+      parent = Some (class_id 0);
+      faces = map (id_meant types) (all_unplaced id_unplaced fs);
+      tag = bare_tag;
+    }) (word-same is_abstract_word ms)
+    ∙ ap (λ z. record { name = n; is_interface = true; is_abstract = has_word is_abstract_word ms; parent = Some (class_id 0); faces = z; tag = bare_tag })
+    (same-all id_unplaced (id_meant types) (λ i. refl) fs)
+
+-- ---- members
+
+abbrev pub field_at_unplaced : FieldAt → FieldAt
+field_at_unplaced f = record { owner = f.owner; mods = all_unplaced modifier_unplaced f.mods; type = type_unplaced f.type; name = f.name; place = nowhere }
+
+abbrev pub method_at_unplaced : MethodAt → MethodAt
+method_at_unplaced m =
+    record { owner = m.owner; kind = m.kind; in_abstract = m.in_abstract; head = head_unplaced m.head; body = may_unplaced stmts_unplaced m.body }
+
+field-members : (c : ℕ) (ms : List MemberTree) → fields_of c (all_unplaced member_unplaced ms) ≡ map field_at_unplaced (fields_of c ms)
+field-members c [] = refl
+field-members c (FieldTree ks t n p ∷ ms) =
+    ap (λ z. field_at_unplaced (record { owner = c; mods = ks; type = t; name = n; place = p }) ∷ z) (field-members c ms)
+field-members c (MethodTree h b p ∷ ms) = field-members c ms
+
+method-members : (c : ℕ) (abstract : Bool) (ms : List MemberTree)
+    → methods_of c abstract (all_unplaced member_unplaced ms) ≡ map method_at_unplaced (methods_of c abstract ms)
+method-members c abstract [] = refl
+method-members c abstract (FieldTree ks t n p ∷ ms) = method-members c abstract ms
+method-members c abstract (MethodTree h b p ∷ ms) =
+    ap (λ z. method_at_unplaced (record { owner = c; kind = kinds.Method; in_abstract = abstract; head = h; body = b }) ∷ z) (method-members c abstract ms)
+
+field-decl : (c : ℕ) (d : DeclTree) → fields_declared c (decl_unplaced d) ≡ map field_at_unplaced (fields_declared c d)
+field-decl c (ClassTree ms n e fs bs p) = field-members c bs
+field-decl c (InterfaceTree ms n fs hs p) = refl
+
+method-decl : (c : ℕ) (d : DeclTree) → methods_declared c (decl_unplaced d) ≡ map method_at_unplaced (methods_declared c d)
+method-decl c (ClassTree ms n e fs bs p) =
+    ap (λ z. methods_of c z (all_unplaced member_unplaced bs)) (word-same is_abstract_word ms) ∙ method-members c (has_word is_abstract_word ms) bs
+method-decl c (InterfaceTree ms n fs hs p) = seen-all head_unplaced _ _ method_at_unplaced (λ h. refl) hs
+
+fields-from : (c : ℕ) (ds : List DeclTree) → fields_from c (unplaced ds) ≡ map field_at_unplaced (fields_from c ds)
+fields-from c [] = refl
+fields-from c (d ∷ ds) =
+    ap2 (λ x y. x ++ y) (field-decl c d) (fields-from (suc c) ds) ∙ sym (map-append field_at_unplaced (fields_declared c d) (fields_from (suc c) ds))
+
+methods-from : (c : ℕ) (ds : List DeclTree) → methods_from c (unplaced ds) ≡ map method_at_unplaced (methods_from c ds)
+methods-from c [] = refl
+methods-from c (d ∷ ds) =
+    ap2 (λ x y. x ++ y) (method-decl c d) (methods-from (suc c) ds) ∙ sym (map-append method_at_unplaced (methods_declared c d) (methods_from (suc c) ds))
+
+pub fields-same : (tree : List DeclTree) → fields_in (unplaced tree) ≡ map field_at_unplaced (fields_in tree)
+fields-same tree = fields-from 1 tree
+
+pub methods-same : (tree : List DeclTree) → methods_in (unplaced tree) ≡ map method_at_unplaced (methods_in tree)
+methods-same tree = methods-from 1 tree
+
+-- ---- the whole
+
+field-seen : (types : List (List ℕ)) (f : FieldAt) → field_outline types (field_at_unplaced f) ≡ bare_field (field_outline types f)
+field-seen types f =
+    ap (λ z. record { owner = f.owner; name = f.name; is_static = z; ty = type_meant types f.type; tag = bare_tag }) (word-same is_static_word f.mods)
+
+result-same : (types : List (List ℕ)) (t : Option TypeName) → option_map (type_meant types) (may_unplaced type_unplaced t) ≡ option_map (type_meant types) t
+result-same types None = refl
+result-same types (Some t) = refl
+
+method-seen : (types : List (List ℕ)) (m : MethodAt) → method_outline types (method_at_unplaced m) ≡ bare_method (method_outline types m)
+method-seen types m =
+    ap2 (λ s u. record {
+      owner = m.owner;
+      name = m.head.name;
+      is_static = s;
+      is_public = u;
+      slot = None;
+      params = map (param_outline types) (all_unplaced param_unplaced m.head.params);
+      locals = [];
+      result = option_map (type_meant types) (may_unplaced type_unplaced m.head.type);
+      body = None;
+      tag = bare_tag;
+    })
+    (word-same is_static_word m.head.mods) (word-same is_public_word m.head.mods)
+    ∙ ap2 (λ ps r. record {
+      owner = m.owner;
+      name = m.head.name;
+      is_static = has_word is_static_word m.head.mods;
+      is_public = has_word is_public_word m.head.mods;
+      slot = None;
+      params = ps;
+      locals = [];
+      result = r;
+      body = None;
+      tag = bare_tag;
+    })
+    (seen-all param_unplaced (param_outline types) (param_outline types) bare_local (λ q. refl) m.head.params) (result-same types m.head.type)
+
+pub outline-same : (tree : List DeclTree) → outline (unplaced tree) ≡ bare_program (outline tree)
+unfolding outline
+outline-same tree =
+    ap (λ t. record {
+      classes = object ∷ map (class_outline t) (unplaced tree);
+      fields = map (field_outline t) (fields_in (unplaced tree));
+      methods = map (method_outline t) (methods_in (unplaced tree));
+      slots = [];
+      main = 0;
+    }) (types-same tree)
+    ∙ ap2 (λ cs fs. record { classes = object ∷ cs; fields = fs; methods = map (method_outline t) (methods_in (unplaced tree)); slots = []; main = 0 })
+    (seen-all decl_unplaced (class_outline t) (class_outline t) bare_class (class-same t) tree)
+    (ap (map (field_outline t)) (fields-same tree) ∙ both-ways field_at_unplaced (field_outline t) (field_outline t) bare_field (field-seen t) (fields_in tree))
+    ∙ ap (λ ms. record {
+      classes = object ∷ map bare_class (map (class_outline t) tree);
+      fields = map bare_field (map (field_outline t) (fields_in tree));
+      methods = ms;
+      slots = [];
+      main = 0;
+    })
+    (ap (map (method_outline t)) (methods-same tree) ∙ both-ways method_at_unplaced (method_outline t) (method_outline t) bare_method (method-seen t)
+    (methods_in tree))
+  where
+    t : List (List ℕ)
+    t = types_in tree
