@@ -1,4 +1,5 @@
 pub mod Moved
+pub mod Else
 pub mod Pushes
 pub mod Works
 pub mod Forms

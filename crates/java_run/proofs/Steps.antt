@@ -27,7 +27,8 @@ use Rattle.java_run.specs.declared.machine.Test.TheVariants as test
 use Rattle.java_run.specs.declared.machine.Task.{Task}
 use Rattle.java_run.specs.declared.machine.Task.TheVariants as task
 use Rattle.java_run.specs.declared.machine.Take.TheVariants as take
-use Rattle.java_run.specs.Parts.{ex, st, sts, test_in, last_in, body_in, again_of, arms_in, drop_arms, last_arm, IsElse, without, with_these, IsArm}
+use Rattle.java_run.specs.Parts.{ex, st, sts, test_in, last_in, body_in, again_of, arms_in, drop_arms, last_arm, end_of, IsArm}
+use Rattle.java_run.proofs.Else.{IsElse, without, with_these}
 use Rattle.java_run.specs.Rest.{acts, rest, takes, frame_of, state_of, run_from, onward_flow, passes, takes_from, turning, after_test, evaluates}
 
 pub nil_of : {A : Type 0} (xs : List A) → length xs ≡ 0 → xs ≡ []
@@ -42,14 +43,14 @@ last_of_arms (a ∷ rs) other = last_of_arms rs other
 pub else_at : (x : RStmt) (v : Vec RArm Global) (o : Option (Vec RStmt Global)) (p : Place) → x ≡ If v o p → last_arm (else_seen no_place o) ≡ last_arm (arms_in (stmt_of no_place x))
 else_at x v o p h = sym (ap (λ y. last_arm (arms_in (stmt_of no_place y))) h ∙ ap (λ y. last_arm (arms_in y)) (if_as no_place v o p) ∙ last_of_arms v.items (else_seen no_place o))
 
-no_arm : (o : Option (Vec RStmt Global)) (n : ℕ) → IsElse (drop_arms n (else_seen no_place o)) (last_arm (else_seen no_place o))
-no_arm None zero = without
-no_arm None (suc n) = without
-no_arm (Some v) zero = with_these
-no_arm (Some v) (suc n) = with_these
+no_arm : (o : Option (Vec RStmt Global)) (n : ℕ) → drop_arms n (else_seen no_place o) ≡ end_of (else_seen no_place o)
+no_arm None zero = refl
+no_arm None (suc n) = refl
+no_arm (Some v) zero = refl
+no_arm (Some v) (suc n) = refl
 
 arms_gone : (rs : List RArm) (o : Option (Vec RStmt Global)) (n : ℕ) → None ≡ slice_get rs n
-    → IsElse (drop_arms n (arms_seen no_place rs (else_seen no_place o))) (last_arm (arms_seen no_place rs (else_seen no_place o)))
+    → drop_arms n (arms_seen no_place rs (else_seen no_place o)) ≡ end_of (arms_seen no_place rs (else_seen no_place o))
 arms_gone [] o n h = no_arm o n
 arms_gone (a ∷ rs) o zero h = absurd (cc)
 arms_gone (a ∷ rs) o (suc n) h = arms_gone rs o n h

@@ -12,7 +12,8 @@ use Rattle.java_run.specs.declared.machine.Test.{Test}
 use Rattle.java_run.specs.declared.machine.Test.TheVariants as test
 use Rattle.java_run.specs.declared.machine.Stage.TheVariants as stage
 use Rattle.java_run.specs.declared.machine.Call.{Call}
-use Rattle.java_run.specs.Parts.{ex, exs, st, sts, test_in, last_in, arms_in, drop_arms, IsElse, without, with_these}
+use Rattle.java_run.specs.Parts.{ex, exs, st, sts, test_in, last_in, arms_in, drop_arms}
+use Rattle.java_run.proofs.Else.{IsElse, without, with_these}
 use Rattle.java_run.specs.Work.{size_ex, size_exs, size_some, size_st, size_sts, size_arms, size_tested, work_take, work, works}
 
 pub ex_some : (x : Ex) → 0 < size_ex x

@@ -72,14 +72,15 @@ last_arm no_other = no_st
 last_arm (otherwise xs) = xs
 last_arm (arm e xs more) = last_arm more
 
--- no arm is left; these are the statements of the `else`
-pub data IsElse : Arms → Sts → Type 0 where
-  without : IsElse no_other no_st
-  with_these : {xs : Sts} → IsElse (otherwise xs) xs
+-- what is left of an `if` behind all of its arms: its `else`, or none
+abbrev pub end_of : Arms → Arms
+end_of no_other = no_other
+end_of (otherwise xs) = otherwise xs
+end_of (arm e xs more) = end_of more
 
 -- the arm of a number, if there is one; else only the `else` is left
 abbrev pub IsArm : Arms → ℕ → Option (Bor RArm) → Type 0
-IsArm all n None = IsElse (drop_arms n all) (last_arm all)
+IsArm all n None = drop_arms n all ≡ end_of all
 IsArm all n (Some a) = drop_arms n all ≡ arm (expr_of no_place a.now.test) (stmts no_place a.now.body.items) (drop_arms (suc n) all)
 
 -- the receiver of a call, in a box
