@@ -5,5 +5,6 @@ pub mod Texts
 pub mod Runs
 pub mod Analysing
 pub mod Reaching
+pub mod ReadsOne
 pub mod Promised
 pub mod Making

@@ -2,6 +2,8 @@
 use Rattle.std.proofs.Common.{◌≡◌, ◌⊎◌, inl, inr, ℕ, Bool, List, [], ◌∷◌, ◌++◌, Option, Some, None, Result, Ok, Err, refl, sym, ◌∙◌, subst, arith}
 use Rattle.kaba_base.specs.Outside.{Files}
 use Rattle.java_core.specs.declared.Program.{Program}
+use Rattle.java_core.specs.Trees.{no_place}
+use Rattle.java_core.specs.Programs.{program_of}
 use Rattle.fact_model.specs.declared.facts.Facts.{Facts}
 use Rattle.fact_model.specs.declared.sets.PointsTo.{PointsTo}
 use Rattle.hier_model.specs.Hierarchies.{Hierarchy}
@@ -13,10 +15,10 @@ use Rattle.hier_edit.specs.Applied.{fault_of, unless_broken, outcome}
 use Rattle.hier_script.specs.Scripts.{kept, refusal, after_edits, refusals_of}
 use Rattle.edit_script.specs.declared.lines.Line.{Line}
 use Rattle.edit_script.specs.Script.{AreEditsOf}
-use Rattle.tree_merge.specs.Logs.{steps_of}
-use Rattle.tree_view.specs.Lines.{log_text}
 use Rattle.java_write.specs.Written.{IsWrittenText, tree_of_hierarchy}
 use Rattle.kaba_words.specs.Commands.{Cmd, run, table, lattice, edit, regen, make, help, version}
+use Rattle.same_run.specs.Same.{HasSameRun}
+use Rattle.kaba_top.proofs.ReadsOne.{reads_one}
 use Rattle.kaba_top.specs.Reading.{IsRefusedText, IsTypedText, TextAnswers}
 use Rattle.kaba_top.specs.FactsAnswers.{HasFacts, AnalysisAnswers, LatticeOf}
 use Rattle.kaba_top.specs.ScriptAnswers.{HasLattice, IsNotRun, IsRun, ScriptAnswers, start_of, edited, refusals}
@@ -119,6 +121,8 @@ rebuilt p F H text out e w = subst (IsRebuilt p F H) (sym e) (record {
   rebuilds = w.keeps.rebuilds;
   offers = w.keeps.rows;
   same = w.keeps.run;
+  one = λ q is. reads_one text (tree_of_hierarchy p F H) w.new q w.read w.resolves is;
+  same_again = λ q is. subst (λ z. HasSameRun (program_of no_place p) z) (reads_one text (tree_of_hierarchy p F H) w.new q w.read w.resolves is) w.keeps.run;
 })
 
 module _ (status : ℕ) (out err : List ℕ) (j : IsJudging status) where
@@ -139,12 +143,11 @@ module _ (status : ℕ) (out err : List ℕ) (j : IsJudging status) where
       after = edited bound F a.has a.edits;
       told = refusals bound F a.has a.edits;
       judges = judges bound bytes script p F text facts a.has a.edits a.are;
-      steps = steps_of g.log;
+      log = g.log;
       tree = g.tree;
       grows = g.is.grows;
       unbroken = g.is.unbroken;
       rebuilt = rebuilt p F g.tree g.text out g.gives.out_is g.written;
-      log = log_text g.log;
       tells = g.gives.err_is;
     }
   ]

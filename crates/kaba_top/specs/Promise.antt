@@ -24,7 +24,10 @@ use Rattle.hier_rules.specs.First.{first_of_edit, first_broken}
 use Rattle.hier_edit.specs.Applied.{fault_of}
 use Rattle.hier_edit.specs.declared.ApplyFault.TheVariants.{Breaks}
 use Rattle.hier_script.specs.Refusals.{refusal_line}
-use Rattle.hier_tree.specs.Trees.{Step, Tree, Grows}
+use Rattle.hier_tree.specs.Trees.{Tree, Grows}
+use Rattle.tree_merge.specs.declared.steps.TreeStep.{TreeStep}
+use Rattle.tree_merge.specs.Logs.{steps_of}
+use Rattle.tree_view.specs.Lines.{log_text}
 use Rattle.edit_script.specs.declared.lines.Line.{Line}
 use Rattle.edit_script.specs.Script.{AreEditsOf}
 use Rattle.rebuild_model.specs.Rebuilds.{Rebuilds}
@@ -86,6 +89,9 @@ pub record IsRebuilt (program : Program) (facts : Facts) (H : Hierarchy) (text :
   pub rebuilds : Rebuilds (program_of no_place program) (program_of at_place program) facts H (program_of no_place new)
   pub offers : OffersRows (program_of no_place program) (program_of at_place program) facts H (program_of no_place new) rebuilds.places
   pub same : HasSameRun (program_of no_place program) (program_of no_place new)
+  -- whatever program the text is read as, again from a file, is that one, places aside, and has the same run
+  pub one : (again : Program) → IsTypedText text again → program_of no_place new ≡ program_of no_place again
+  pub same_again : (again : Program) → IsTypedText text again → HasSameRun (program_of no_place program) (program_of no_place again)
 
 -- the script's edits are judged
 pub record TellsEdits (bytes script err : List ℕ) : Type 0 where
@@ -95,7 +101,7 @@ pub record TellsEdits (bytes script err : List ℕ) : Type 0 where
   pub after : Hierarchy
   pub judges : JudgesEdits bytes script program facts sets after err
 
--- and the text written is that of a program over the tree of the hierarchy that they leave
+-- the text written is that of a program over the tree of the hierarchy that they leave, and the steps to the tree are told behind the refusals
 pub record WritesProgram (bytes script out err : List ℕ) : Type 0 where
   pub program : Program
   pub facts : Facts
@@ -103,13 +109,12 @@ pub record WritesProgram (bytes script out err : List ℕ) : Type 0 where
   pub after : Hierarchy
   pub told : List ℕ
   pub judges : JudgesEdits bytes script program facts sets after told
-  pub steps : List Step
+  pub log : List TreeStep
   pub tree : Hierarchy
-  pub grows : Grows facts sets after steps (Tree tree)
+  pub grows : Grows facts sets after (steps_of log) (Tree tree)
   pub unbroken : first_broken facts sets tree ≡ None
   pub rebuilt : IsRebuilt program facts tree out
-  pub log : List ℕ
-  pub tells : err ≡ told ++ log
+  pub tells : err ≡ told ++ log_text log
 
 -- a file's bytes, of which this holds
 pub record OfFile (files : Files) (file : List ℕ) (K : List ℕ → Type 0) : Type 0 where
