@@ -107,12 +107,19 @@ old_program =
       main = 2;
     }
 
--- class Main { .. } class A_1 { int g; int h; int n() { return this.h; } } class B_2 extends A_1 { int n() { return super.n() + 1; } }
+-- class Main { .. } abstract class A_1 { int g; int h; int n() { return this.h; } abstract int k(); }
+-- class B_2 extends A_1 { int n() { return super.n() + 1; } int k() { return 0; } }, in which k fills in for a body that no run needs
 abbrev new_first : PlainMethod
 new_first = method 2 (codes "n") (st_then (return tag (Some (field tag (this tag) (codes "h")))) no_st)
 
 abbrev new_second : PlainMethod
 new_second = method 3 (codes "n") (super_sum (codes "n"))
+
+abbrev new_head : PlainMethod
+new_head = record (method 2 (codes "k") no_st) { slot = Some 1; body = None }
+
+abbrev new_filler : PlainMethod
+new_filler = record (method 3 (codes "k") (st_then (return tag (Some (number tag (pos 0)))) no_st)) { slot = Some 1 }
 
 abbrev new_main : PlainMethod
 new_main = main_of 1 (locals_of 2 3) (main_code 2 3 (codes "h") (codes "n"))
@@ -120,11 +127,12 @@ new_main = main_of 1 (locals_of 2 3) (main_code 2 3 (codes "h") (codes "n"))
 abbrev new_program : Plain
 new_program =
     record {
-      classes = class (codes "Object") None ∷ class (codes "Main") (under 0) ∷ class (codes "A_1") (under 0) ∷ class (codes "B_2") (under 2) ∷ [];
+      classes = class (codes "Object") None ∷ class (codes "Main") (under 0) ∷ record (class (codes "A_1") (under 0)) { is_abstract = true } ∷ class (codes "B_2") (under 2) ∷ [];
       fields = record { owner = 2; name = codes "g"; is_static = false; ty = plain_type Int; tag = tag }
           ∷ record { owner = 2; name = codes "h"; is_static = false; ty = plain_type Int; tag = tag } ∷ [];
-      methods = new_main ∷ new_second ∷ new_first ∷ [];
-      slots = record { name = codes "n"; params = []; result = Some (plain_type Int); first = 1 } ∷ [];
+      methods = new_main ∷ new_second ∷ new_first ∷ new_head ∷ new_filler ∷ [];
+      slots = record { name = codes "n"; params = []; result = Some (plain_type Int); first = 1 }
+          ∷ record { name = codes "k"; params = []; result = Some (plain_type Int); first = 3 } ∷ [];
       main = 0;
     }
 
