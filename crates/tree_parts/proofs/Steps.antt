@@ -9,7 +9,7 @@ use Rattle.java_tree.specs.Syntax.{Expressions, and_more, Statements, and_then, 
 use Rattle.java_core.specs.declared.RExpr.{RExpr}
 use Rattle.java_core.specs.declared.RStmt.{RStmt}
 use Rattle.java_core.specs.declared.RArm.{RArm}
-use Rattle.java_core.specs.Trees.{Arms, no_place, expr_of, exprs, stmt_of, stmts, arms_seen}
+use Rattle.java_core.specs.Trees.{Arms, no_other, no_place, expr_of, exprs, stmt_of, stmts, arms_seen}
 use Rattle.java_core.specs.Programs.{Plain, PlainMethod}
 use Rattle.hier_model.specs.Hierarchies.{Hierarchy}
 use Rattle.rebuild_model.specs.Renaming.{Renaming}
@@ -44,11 +44,11 @@ module _ (P : Plain) (R : Renaming) (H : Hierarchy) (m : ℕ) (k : PlainMethod) 
       ∙ ap (λ x. append_stmts (tree.stmts done) (written_sts P R H m k scope (stmts no_place x))) (sym (drop_all n list h))
       ∙ before
 
-  pub arms_end_at : {o : tree.Arms} (scope : List ℕ) (other : Arms) (done : List Arm) (list : List RArm) (n : ℕ) → length list ≤ n
-      → append_arms (tree.arms_seen done) (written_arms P R H m k scope (arms_seen no_place (drop n list) other)) ≡ o → tree.arms_seen done ≡ o
-  arms_end_at scope other done list n h before =
+  pub arms_end_at : {o : tree.Arms} (scope : List ℕ) (done : List Arm) (list : List RArm) (n : ℕ) → length list ≤ n
+      → append_arms (tree.arms_seen done) (written_arms P R H m k scope (arms_seen no_place (drop n list) no_other)) ≡ o → tree.arms_seen done ≡ o
+  arms_end_at scope done list n h before =
       sym (arms_end (tree.arms_seen done))
-      ∙ ap (λ x. append_arms (tree.arms_seen done) (written_arms P R H m k scope (arms_seen no_place x other))) (sym (drop_all n list h))
+      ∙ ap (λ x. append_arms (tree.arms_seen done) (written_arms P R H m k scope (arms_seen no_place x no_other))) (sym (drop_all n list h))
       ∙ before
 
   pub sts_next : {o : Statements} (scope inner : List ℕ) (done pushed : List Stmt) (list : List RStmt) (n : ℕ) (s : RStmt) (e : Stmt)

@@ -110,7 +110,7 @@ all_arms-returns t c =
     record {
       value = arms_end_at (program_of no_place c.args.program.now) (renamed c.args.numbering.now c.args.hier.now) c.args.hier.now c.args.m
           (method_seen no_place c.args.method.now)
-          c.args.scope.now.items no_other c.loop-one.done.items c.deref-one-items.result.now c.loop-one.one-index h c.loop-one.invariant;
+          c.args.scope.now.items c.loop-one.done.items c.deref-one-items.result.now c.loop-one.one-index h c.loop-one.invariant;
     }
 
 pub stmt-returns-in_ok-items-in-Block-clause-value : goal.stmt-returns-in_ok-items-in-Block-clause-value
