@@ -8,3 +8,4 @@ pub mod Reaching
 pub mod ReadsOne
 pub mod Promised
 pub mod Making
+pub mod Stuck
