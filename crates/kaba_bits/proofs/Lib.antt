@@ -6,3 +6,4 @@ pub mod FirstLemmas
 pub mod RisingLemmas
 pub mod BitLemmas
 pub mod WordLemmas
+pub mod NextLemmas

@@ -1,4 +1,4 @@
-use Rattle.std.proofs.Common.{◌≡◌, ⊎_elim, ℕ, ◌+◌, ◌<◌, ◌↔◌, Bool, true, false, cond, List, [], ◌∷◌, ◌++◌, length, get_or, Contains, refl, subst, arith}
+use Rattle.std.proofs.Common.{◌≡◌, ⊎_elim, ℕ, ◌+◌, ◌<◌, ◌≤◌, ◌↔◌, Bool, true, false, cond, List, [], ◌∷◌, ◌++◌, length, get_or, Contains, refl, subst, arith}
 use Rattle.std.proofs.lemmas.List.{get_or_append_left, get_or_push, length_push, append-nil}
 use Rattle.std.proofs.lemmas.Bool.{cases_lt, false≢true}
 use Rattle.std.proofs.lemmas.List.Elements.{Contains-append_left, Contains-push, Contains-push_cases, Contains-get_or}
@@ -26,6 +26,16 @@ module _ (P : ℕ → Type 0) (n : ℕ) (xs : List ℕ) (l : ListsBelow P n xs) 
     each = λ k. (
       λ c. let h = (l.each k).0 c in (omega (arith, h.0), h.1),
       λ h. ⊎_elim (λ lt. (l.each k).1 (lt, h.1)) (λ ge. let e : k ≡ n = omega (arith, ge, h.0) in absurd (lacks (subst P e h.1))) (cases_lt k n),
+    );
+    rising = l.rising;
+  }
+
+  -- the same where none of some further numbers has the property
+  pub ListsBelow-rest : (m : ℕ) → n ≤ m → ((k : ℕ) → n ≤ k → k < m → P k → ⊥) → ListsBelow P m xs
+  ListsBelow-rest m le none = record {
+    each = λ k. (
+      λ c. let h = (l.each k).0 c in (omega (arith, h.0, le), h.1),
+      λ h. ⊎_elim (λ lt. (l.each k).1 (lt, h.1)) (λ ge. absurd (none k ge h.0 h.1)) (cases_lt k n),
     );
     rising = l.rising;
   }

@@ -1,6 +1,7 @@
-use Rattle.std.proofs.Common.{◌≡◌, ℕ, ◌+◌, ◌<◌, ◌≤◌, Bool, true, false, cond, List, [], ◌∷◌, ◌++◌, length, take, refl, sym, ap, ◌∙◌, add-zero, zero-add, arith}
-use Rattle.std.proofs.lemmas.List.{take_more, length-take-le}
-use Rattle.kaba_bits.specs.Sets.{bit}
+use Rattle.std.proofs.Common.{◌≡◌, ℕ, suc, zero, ◌+◌, ◌<◌, ◌≤◌, Bool, true, false, cond, List, [], ◌∷◌, ◌++◌, length, take, refl, sym, ap, ◌∙◌, add-zero, zero-add, arith, ⊎_elim}
+use Rattle.std.proofs.lemmas.Bool.{cases_lt}
+use Rattle.std.proofs.lemmas.List.{take_more, length-take-le, append-nil}
+use Rattle.kaba_bits.specs.Sets.{bit, IsNoneFrom}
 use Rattle.kaba_bits.specs.Sets.{rising_from, rising}
 
 rising_from-push : (k : ℕ) (xs : List Bool) (b : Bool) → rising_from k (xs ++ b ∷ []) ≡ rising_from k xs ++ cond b ((k + length xs) ∷ []) []
@@ -13,6 +14,19 @@ pub rising_more : (xs : List Bool) (i : ℕ) (b : Bool) → i < length xs → b 
 rising_more xs i b lt is =
     ap rising (take_more xs i false lt ∙ ap (λ x. take i xs ++ x ∷ []) (sym is)) ∙ rising_from-push 0 (take i xs) b
     ∙ ap (λ n. rising (take i xs) ++ cond b (n ∷ []) []) (zero-add (length (take i xs)) ∙ length-take-le i xs (omega arith))
+
+-- numbers that are not in the set add nothing
+pub rising_past : (xs : List Bool) (at n : ℕ) → at ≤ n → n ≤ length xs → IsNoneFrom (bit xs) at n → rising (take n xs) ≡ rising (take at xs)
+rising_past xs at zero le l none = let e : zero ≡ at = omega (arith, le) in ap (λ n. rising (take n xs)) e
+rising_past xs at (suc n) le l none =
+    ⊎_elim
+    (λ lt.
+    let e : suc n ≡ n + 1 = omega arith in
+    ap (λ m. rising (take m xs)) e
+    ∙ (rising_more xs n false (omega (arith, l)) (sym (none n (omega (arith, lt)) (omega arith)))
+    ∙ (append-nil (rising (take n xs)) ∙ rising_past xs at n (omega (arith, lt)) (omega (arith, l)) (λ k low below. none k low (omega (arith, below))))))
+    (λ ge. let e : suc n ≡ at = omega (arith, le, ge) in ap (λ m. rising (take m xs)) e)
+    (cases_lt at (suc n))
 
 -- every number is at least the first
 rising_from-high : (k n : ℕ) (xs : List Bool) (rest : List ℕ) → rising_from k xs ≡ n ∷ rest → k ≤ n

@@ -1,5 +1,5 @@
 -- A set as 64-bit words: the number i is bit i % 64 of word i / 64.
-use Rattle.std.specs.Prelude.{◌≡◌, ℕ, ◌+◌, ◌/◌, ◌%◌, ◌^◌, ◌<◌, ◌≤◌, Bool, true, false, List, length, map, slice_index, ◌==◌, bit_or, bit_and, bit_xor}
+use Rattle.std.specs.Prelude.{◌≡◌, ℕ, ◌+◌, ◌/◌, ◌%◌, ◌^◌, ◌<◌, ◌≤◌, Bool, true, false, List, length, map, slice_index, ◌==◌, ◌&&◌, not, bit_or, bit_and, bit_xor}
 use Rattle.std.specs.List.{range_with_len}
 use Rattle.std.specs.Int.{bit_at}
 
@@ -40,3 +40,7 @@ HaveCommon a b = (i : ℕ) × (word_bit a i ≡ true) × (word_bit b i ≡ true)
 -- some bit of the first list is not in the second
 abbrev pub HasStray : List ℕ → List ℕ → Type 0
 HasStray a b = (i : ℕ) × (word_bit a i ≡ true) × (word_bit b i ≡ false)
+
+-- bit i of the first list is set, and that of the second is not
+abbrev pub is_news : List ℕ → List ℕ → ℕ → Bool
+is_news words other i = word_bit words i && not (word_bit other i)

@@ -1,9 +1,9 @@
 //! Rows of bits, seen as sets of numbers below a width, and families of such rows.
 #![tactic(auto)]
 
-ghost use Rattle.std.specs.Prelude.{◌≡◌, ℕ, ◌+◌, ◌/◌, ◌<◌, ◌^◌, ◌↔◌, Bool, true, false, List, ◌&&◌, ◌||◌, length, IsTrue, IfOk, slice_set, not};
+ghost use Rattle.std.specs.Prelude.{◌≡◌, ℕ, ◌+◌, ◌/◌, ◌<◌, ◌^◌, ◌↔◌, Bool, true, false, List, ◌&&◌, ◌||◌, length, IsTrue, IfOk, MatchOption, slice_set, not};
 ghost use Rattle.std.specs.Bool.{OnTrue, OnFalse};
-ghost use Rattle.kaba_bits.specs.Sets.{bit, size, IsSubset, IsEmpty, Meet, rising, ListsBelow};
+ghost use Rattle.kaba_bits.specs.Sets.{bit, size, IsSubset, IsEmpty, Meet, IsNoneFrom, IsLeastFrom, rising, ListsBelow};
 
 use std::alloc::{AllocError, Global};
 use std::marker::Model;
@@ -14,8 +14,8 @@ mod words;
 
 pub use rows::{copy_rows, empty_rows, join, join_with, row_at, set_at};
 use words::{
-    clear_bit, clear_words, count_words, is_apart, is_within, join_words, meet_words, set_bit,
-    test_bit,
+    clear_bit, clear_words, count_words, is_apart, is_within, join_words, meet_words, next_news,
+    set_bit, test_bit,
 };
 
 /// A set of numbers below a width, which is at most the greatest `u32`.
@@ -179,16 +179,32 @@ impl BitRow {
         clear_words(&mut self.words);
     }
 
+    /// The least number of the set at or after `from`.
+    pub fn next(&self, from: u32) -> Option<u32>
+        ensures { MatchOption result (IsNoneFrom (bit self.now) from (length self.now)) (IsLeastFrom (bit self.now) from) }
+    {
+        next_news(&self.words, &[], from)
+    }
+
+    /// The least number at or after `from` that is in the set and not in another of the same width.
+    pub fn next_beyond(&self, other: &BitRow, from: u32) -> Option<u32>
+        requires { length self.now ≡ length other.now }
+        ensures { MatchOption result (IsNoneFrom (λ i. bit self.now i && not (bit other.now i)) from (length self.now)) (IsLeastFrom (λ i. bit self.now i && not (bit other.now i)) from) }
+    {
+        next_news(&self.words, &other.words, from)
+    }
+
     /// The numbers of the set in rising order. An error comes only for want of memory.
     pub fn rising(&self, alloc: Global) -> Result<Vec<u32>, AllocError>
         ensures list { IfOk result (λ v. v.items ≡ rising self.now) }
         ensures exact { IfOk result (λ v. ListsBelow (λ i. bit self.now i ≡ true) (length self.now) v.items) }
     {
+        let _width = self.width();
         let mut numbers = Vec::new(alloc);
-        for i in 0..self.width() {
-            if self.has(i) {
-                numbers.push(i)?;
-            }
+        let mut at = 0;
+        'scan: while let Some(i) = self.next(at) {
+            numbers.push(i)?;
+            at = i + 1;
         }
         Ok(numbers)
     }

@@ -1,9 +1,10 @@
 //! The loops over words: eight at a time, and then one at a time.
 
-ghost use Rattle.std.specs.Prelude.{◌≡◌, ◌≢◌, ℕ, ◌+◌, ◌*◌, ◌/◌, ◌%◌, ◌^◌, ◌<◌, ◌≤◌, Bool, true, false, List, length, slice_set, slice_index, bit_or, bit_and};
+ghost use Rattle.std.specs.Prelude.{◌≡◌, ◌≢◌, ℕ, ◌+◌, ◌*◌, ◌/◌, ◌%◌, ◌^◌, ◌<◌, ◌≤◌, ◌&&◌, ◌==◌, Bool, true, false, not, List, length, slice_set, slice_index, bit_or, bit_and, MatchOption};
 ghost use Rattle.std.specs.Bool.{OnTrue, OnFalse};
-ghost use Rattle.kaba_bits.specs.Sets.{size};
-ghost use Rattle.kaba_bits.specs.Words.{word_bit, row_of, AreJoined, AreMet, IsApartAt, IsWithinAt, HaveCommon, HasStray};
+ghost use Rattle.std.specs.Int.{bit_at};
+ghost use Rattle.kaba_bits.specs.Sets.{size, IsNoneFrom, IsLeastFrom};
+ghost use Rattle.kaba_bits.specs.Words.{word_bit, row_of, AreJoined, AreMet, IsApartAt, IsWithinAt, HaveCommon, HasStray, is_news};
 
 use crate::lanes::{is_apart_chunk, is_within_chunk, join_chunk, meet_chunk};
 
@@ -129,4 +130,44 @@ pub fn clear_words(words: &mut [u64])
     for k in 0..words.len() {
         words[k] = 0;
     }
+}
+
+/// Of one word the bits that are not in the word of the same number of another list; past the end of that list all.
+fn news_at(words: &[u64], other: &[u64], k: usize) -> u64
+    requires { k < length words.now }
+    ensures { (j : ℕ) → j < 64 → (bit_at result j == 1) ≡ ((bit_at (slice_index words.now k) j == 1) && not (bit_at (slice_index other.now k) j == 1)) }
+{
+    if k < other.len() {
+        words[k] & !other[k]
+    } else {
+        words[k]
+    }
+}
+
+/// The least bit of a word at or after `from`.
+fn next_in(word: u64, from: u32) -> Option<u32>
+    requires { from < 64 }
+    ensures { MatchOption result (IsNoneFrom (λ j. bit_at word j == 1) from 64) (λ i. (i < 64) × IsLeastFrom (λ j. bit_at word j == 1) from i) }
+{
+    let rest = word >> from;
+    if rest == 0 {
+        return None;
+    }
+    Some(from + rest.trailing_zeros())
+}
+
+/// The least bit at or after `from` that is not in another list.
+pub fn next_news(words: &[u64], other: &[u64], from: u32) -> Option<u32>
+    requires { 64 * length words.now ≤ 2 ^ 32 }
+    ensures { MatchOption result (IsNoneFrom (is_news words.now other.now) from (64 * length words.now)) (λ i. IsLeastFrom (is_news words.now other.now) from i) }
+{
+    let mut at = from as usize;
+    'scan: while at / 64 < words.len() {
+        let k = at / 64;
+        if let Some(j) = next_in(news_at(words, other, k), (at % 64) as u32) {
+            return Some((k * 64) as u32 + j);
+        }
+        at = (k + 1) * 64;
+    }
+    None
 }
