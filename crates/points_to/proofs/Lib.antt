@@ -1,5 +1,8 @@
+pub mod NodeLemmas
 pub mod LoopLemmas
 pub mod RuleLemmas
-pub mod SolveLemmas
 pub mod EdgeLemmas
+pub mod IndexLemmas
+pub mod BegunLemmas
+pub mod SolveLemmas
 pub mod ChainLemmas

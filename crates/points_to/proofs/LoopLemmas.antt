@@ -1,7 +1,23 @@
--- Loops at their end.
-use Rattle.std.proofs.Common.{ℕ, ◌<◌, ◌≤◌, Bool, true, false, List, length, arith}
+-- Loops: one element on, and at their end.
+use Rattle.std.proofs.Common.{◌≡◌, ℕ, ◌+◌, ◌<◌, ◌≤◌, Bool, true, false, List, length, get_or, Option, Some, None, MatchOption, Contains, arith, subst, ⊎_elim}
 use Rattle.std.specs.Bool.{OnFalse}
 use Rattle.std.specs.List.{All, AllWithin}
+use Rattle.std.specs.Option.{IfSome}
+use Rattle.std.proofs.lemmas.Bool.{cases_lt}
+use Rattle.std.proofs.lemmas.List.{get_or_default, get_or_past}
+use Rattle.std.proofs.lemmas.List.Elements.{AllWithin-more}
+use Rattle.kaba_bits.specs.Sets.{bit, IsNoneFrom, IsLeastFrom}
+use Rattle.kaba_bits.proofs.SetLemmas.{bit-below}
+use Rattle.points_to.specs.Work.{IsMore}
+use Rattle.points_to.specs.declared.found.Found.{Found}
+
+-- a loop over a list, one element on, where what held still holds
+pub within_more : {X : Type 0} (P Q : X → Type 0) (xs : List X) (k : ℕ) (d : X) → k < length xs → ((x : X) → P x → Q x) → AllWithin P xs 0 k → Q (get_or xs k d) → AllWithin Q xs 0 (k + 1)
+within_more P Q xs k d lt f before here =
+    AllWithin-more Q xs 0 k (λ i e low below. f (get_or xs i e) (before i e low below)) (λ e. subst Q (get_or_default xs k d e lt) here)
+
+pub within_all : {X : Type 0} (P : X → Type 0) (xs : List X) (i : ℕ) → length xs ≤ i → AllWithin P xs 0 i → All P xs
+within_all P xs i le h = λ k d lt. h k d (omega arith) (omega arith)
 
 -- a loop over the numbers below a count, at its end
 pub closed_end : (P : ℕ → Type 0) (n i : ℕ) (g : Bool) → n ≤ i → OnFalse g ((k : ℕ) → k < i → P k) → OnFalse g ((k : ℕ) → k < n → P k)
@@ -11,4 +27,41 @@ closed_end P n i false le h = λ k lt. h k (omega arith)
 -- a loop over a list, at its end
 pub all_end : {X : Type 0} (P : X → Type 0) (xs : List X) (i : ℕ) (g : Bool) → length xs ≤ i → OnFalse g (AllWithin P xs 0 i) → OnFalse g (All P xs)
 all_end P xs i true le h = tt
-all_end P xs i false le h = λ k d lt. h k d (omega arith) (omega arith)
+all_end P xs i false le h = within_all P xs i le h
+
+pub more_same : (a : Found) → IsMore a a
+more_same a = record { edges = λ x h. h; told = λ x h. h }
+
+pub more_then : (a b c : Found) → IsMore a b → IsMore b c → IsMore a c
+more_then a b c p q = record { edges = λ x h. q.edges x (p.edges x h); told = λ x h. q.told x (p.told x h) }
+
+-- the least number from one on, by what is asked of it
+module _ (set : List Bool) (w at : ℕ) (len : length set ≡ w) where
+  pub next_low : (found : Option ℕ) → MatchOption found (IsNoneFrom (bit set) at (length set)) (IsLeastFrom (bit set) at) → IfSome found (λ s. at ≤ s)
+  next_low None x = tt
+  next_low (Some s) x = x.low
+
+  pub next_below : (found : Option ℕ) → MatchOption found (IsNoneFrom (bit set) at (length set)) (IsLeastFrom (bit set) at) → IfSome found (λ s. s < w)
+  next_below None x = tt
+  next_below (Some s) x = omega (arith, bit-below set s x.holds, len)
+
+  pub next_holds : (P : ℕ → Type 0) → ((s : ℕ) → bit set s ≡ true → P s) → (found : Option ℕ) → MatchOption found (IsNoneFrom (bit set) at (length set)) (IsLeastFrom (bit set) at) → IfSome found P
+  next_holds P f None x = tt
+  next_holds P f (Some s) x = f s x.holds
+
+  pub next_least : (found : Option ℕ) → MatchOption found (IsNoneFrom (bit set) at (length set)) (IsLeastFrom (bit set) at) → MatchOption found (IsNoneFrom (bit set) at w) (λ s. IsNoneFrom (bit set) at s)
+  next_least None x = λ k low lt. x k low (omega (arith, lt, len))
+  next_least (Some s) x = x.least
+
+-- a pass over a set by the least number from each on
+module _ (P : ℕ → Type 0) (set : List Bool) (at : ℕ) (out : (k : ℕ) → bit set k ≡ false → P k) where
+  pub skip_to : (s : ℕ) (g : Bool) → IsNoneFrom (bit set) at s → OnFalse g ((k : ℕ) → k < at → P k) → OnFalse g ((k : ℕ) → k < s → P k)
+  skip_to s true none before = tt
+  skip_to s false none before = λ k lt. ⊎_elim (λ b. before k b) (λ past. out k (none k past lt)) (cases_lt k at)
+
+  pub skip_all : (w : ℕ) (g : Bool) → length set ≡ w → IsNoneFrom (bit set) at w → OnFalse g ((k : ℕ) → k < at → P k) → OnFalse g ((k : ℕ) → P k)
+  skip_all w true len none before = tt
+  skip_all w false len none before = λ k.
+      ⊎_elim (λ b. before k b)
+      (λ past. out k (⊎_elim (λ lt. none k past lt) (λ ge. get_or_past set k false (omega (arith, len, ge))) (cases_lt k w)))
+      (cases_lt k at)

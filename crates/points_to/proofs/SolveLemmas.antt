@@ -1,84 +1,127 @@
 -- Sound and closed sets are the least ones.
-use Rattle.std.proofs.Common.{◌≡◌, ℕ, ◌*◌, ◌<◌, ◌≤◌, Bool, true, List, [], length, get_or, Option, Some, None, refl, sym, subst, arith, ⊎_elim}
-use Rattle.std.specs.List.{AllByRecursion}
-use Rattle.std.proofs.lemmas.Bool.{cases_lt, false≢true}
-use Rattle.std.proofs.lemmas.List.{get_or_past}
-use Rattle.std.proofs.lemmas.List.Elements.{All-contains, All-from_get_or}
-use Rattle.std.proofs.lemmas.List.Sums.{sum_by-le}
+use Rattle.std.proofs.Common.{◌≡◌, ℕ, ◌+◌, ◌<◌, ◌≤◌, Bool, true, List, [], length, get_or, take, drop, Some, Contains, refl, sym, ap, ◌∙◌, subst, arith, get_or-take, get_or-drop, length-take-le, length-drop}
+use Rattle.std.specs.List.{AllByRecursion, All}
+use Rattle.std.specs.Option.{IfSome}
+use Rattle.std.proofs.lemmas.List.Elements.{All-contains}
 use Rattle.derivations.proofs.Derivations.{derivable_least}
-use Rattle.kaba_bits.specs.Sets.{bit, row, size, HasWidth, total}
-use Rattle.kaba_bits.proofs.SetLemmas.{bit-below, size-le-length}
-use Rattle.fact_model.specs.Flowing.{Fact, in_point, in_cell, Runs, point_at, Inclusion, by_new, by_flow, by_load, by_store, by_this, by_argument, by_result, by_cast, Holds, IsInRow, by_point, by_cell, AreSets}
+use Rattle.kaba_bits.specs.Sets.{bit, row}
+use Rattle.kaba_bits.proofs.RowLemmas.{bit-row-below}
+use Rattle.fact_model.specs.Items.{site_class}
+use Rattle.fact_model.specs.InRange.{InRange, IsPoint, IsSite, IsClass, IsCol}
+use Rattle.fact_model.specs.Flowing.{Fact, in_point, in_cell, IsCell, Fits, Runs, Inclusion, by_new, by_flow, by_load, by_store, by_this, by_argument, by_result, by_cast, Holds, IsInRow, by_point, by_cell, AreSets}
 use Rattle.fact_model.specs.declared.facts.Facts.{Facts}
 use Rattle.fact_model.specs.declared.facts.CallInfo.{CallInfo}
 use Rattle.fact_model.specs.declared.facts.BodyInfo.{BodyInfo}
 use Rattle.fact_model.specs.declared.sets.PointsTo.{PointsTo}
-use Rattle.points_to.specs.Sound.{ArePoints, AreCells, AreUnions}
-use Rattle.points_to.specs.Closed.{IsNewClosed, IsFlowClosed, IsLoadClosed, IsStoreClosed, IsCastClosed, IsCallClosed, IsBodyClosed, IsRunClosed, AreClosed, PointsJoined, CellsJoined}
+use Rattle.points_to.specs.Sound.{AreSound, ArePoints, AreCells, AreUnions}
+use Rattle.points_to.specs.Work.{IsEdgeClosed, IsShown}
+use Rattle.points_to.specs.Begun.{IsIndex, IsRun}
+use Rattle.points_to.specs.Closed.{IsNewAsked, IsFlowAsked, IsCastAsked, AreClosed, AreSolved, PointsJoined, CellsJoined}
+use Rattle.points_to.specs.declared.index.Begin.TheVariants.{Load, Store, Call}
+use Rattle.points_to.specs.declared.index.Index.{Index}
+use Rattle.points_to.proofs.NodeLemmas.{node_point, node_cell}
+use Rattle.points_to.proofs.RuleLemmas.{point_below, points_of}
+use Rattle.points_to.proofs.EdgeLemmas.{wanted_of}
 
-pub total-le : (w : ℕ) (rows : List (List Bool)) → HasWidth w rows → total rows ≤ length rows * w
-total-le w rows h = sum_by-le size w rows (All-from_get_or (λ x. size x ≤ w) rows [] (λ i lt. omega (arith, size-le-length (get_or rows i []), h i lt)))
+-- a fact in range that the sets show
+abbrev pub IsSeen : Facts → List (List Bool) → Fact → Type 0
+IsSeen F sets (in_point p s) = (p < length F.points.items) × (bit (row sets p) s ≡ true)
+IsSeen F sets (in_cell c s) = (c < length F.cells.items) × (bit (row sets (length F.points.items + c)) s ≡ true)
 
--- a number that is shown in a row of a family is below its width
-pub shown-below : (w k s : ℕ) (rows : List (List Bool)) → HasWidth w rows → bit (row rows k) s ≡ true → s < w
-shown-below w k s rows widths h =
-    ⊎_elim
-    (λ lt. omega (arith, bit-below (row rows k) s h, widths k lt))
-    (λ past. let none : row rows k ≡ [] = get_or_past rows k [] past in absurd (false≢true (rw none at h)))
-    (cases_lt k (length rows))
-
-abbrev pub shown : List (List Bool) → List (List Bool) → Fact → Bool
-shown points cells (in_point p s) = bit (row points p) s
-shown points cells (in_cell c s) = bit (row cells c) s
-
-module _ (F : Facts) (points cells : List (List Bool)) (are : ArePoints F points) (closed : AreClosed F points cells) where
-  below : (p s : ℕ) → bit (row points p) s ≡ true → s < length F.sites.items
-  below p s h = shown-below (length F.sites.items) p s points are.widths h
-
+module _ (F : Facts) (R : InRange F) (index : Index) (is : IsIndex F index) (sets : List (List Bool)) (closed : AreClosed F index sets) where
   -- the call of a body for an object of the site o
-  run : (call : CallInfo) (o : ℕ) (body : BodyInfo) → Runs F call o body → bit (row points call.receiver) o ≡ true → IsRunClosed call o points body
+  run : (call : CallInfo) (o : ℕ) (body : BodyInfo) → Runs F call o body → IsSeen F sets (in_point call.receiver o) → IsRun (IsEdgeClosed F sets) (IsShown sets) call o body
   run call o body runs h =
-      All-contains (IsBodyClosed call o body.column.0 points) F.bodies.items body
-      (All-contains (IsCallClosed F points) F.calls.items call closed.calls runs.called o (below call.receiver o h) h body.column.0 runs.found)
-      runs.listed refl
+      let at = runs.called in
+      closed.points call.receiver h.0 o h.1 (Call at.0) (is.calls at.0 at.1 call (at.1, at.2)) call (at.1, at.2) refl body runs
 
-  argument_below : (ps : List (Option ℕ)) (k p : ℕ) → point_at ps k ≡ Some p → k < length ps
-  argument_below ps k p e = ⊎_elim (λ lt. lt) (λ past. let none : get_or ps k None ≡ None = get_or_past ps k None past in absurd (cc (none, e))) (cases_lt k (length ps))
+  this_below : (body : BodyInfo) → Contains F.bodies.items body → body.this < length F.points.items
+  this_below body c =
+      (All-contains (λ x. IsCol F x.column × IsPoint F x.this × All (λ p. IfSome p (IsPoint F)) x.params.items × IfSome x.result (IsPoint F)) F.bodies.items body R.bodies c).1
 
-  closed_under : (ps : List Fact) (f : Fact) → Inclusion F ps f → AllByRecursion (λ p. shown points cells p ≡ true) ps → shown points cells f ≡ true
-  closed_under ps f (by_new x is) h = All-contains (IsNewClosed points) F.news.items x closed.news is
-  closed_under ps f (by_flow x s is) h = All-contains (IsFlowClosed points) F.flows.items x closed.flows is s h.0
-  closed_under ps f (by_load x c o s is cell) h =
-      All-contains (IsLoadClosed F cells points) F.loads.items x closed.loads is c cell.below cell.column_is
-      (subst (λ i. bit (row points x.base) i ≡ true) (sym cell.site_is) h.0) s h.1.0
-  closed_under ps f (by_store x c o s is cell fits) h =
-      All-contains (IsStoreClosed F points cells) F.stores.items x closed.stores is c cell.below cell.column_is
-      (subst (λ i. bit (row points x.base) i ≡ true) (sym cell.site_is) h.0) s (below x.value s h.1.0) h.1.0 (rw cell.site_is fits)
-  closed_under ps f (by_this call o body runs) h = (run call o body runs h.0).this
-  closed_under ps f (by_argument call o body k from to s runs a b) h = (run call o body runs h.0).arguments k (argument_below call.args.items k from a) from to a b s h.1.0
-  closed_under ps f (by_result call o body from to s runs a b) h = (run call o body runs h.0).result from to a b s h.1.0
-  closed_under ps f (by_cast x s is b) h = All-contains (IsCastClosed F points) F.casts.items x closed.casts is s (below x.from s h.0) h.0 b
+  closed_under : (ps : List Fact) (f : Fact) → Inclusion F ps f → AllByRecursion (IsSeen F sets) ps → IsSeen F sets f
+  closed_under ps f (by_new x c) h =
+      ((All-contains (λ x. IsPoint F x.point × IsSite F x.site) F.news.items x R.news c).0, All-contains (IsNewAsked (IsShown sets)) F.news.items x closed.fixed.news c)
+  closed_under ps f (by_flow x s c) h =
+      ((All-contains (λ x. IsPoint F x.from × IsPoint F x.to) F.flows.items x R.flows c).1, All-contains (IsFlowAsked (IsEdgeClosed F sets)) F.flows.items x closed.fixed.flows c s tt h.0.1)
+  closed_under ps f (by_load x c o s at cell) h = (
+    (All-contains (λ x. IsPoint F x.base × IfSome x.column (IsCol F) × IsPoint F x.into) F.loads.items x R.loads at).2,
+    closed.points x.base h.0.0 o h.0.1 (Load at.0) (is.loads at.0 at.1 x (at.1, at.2)) x (at.1, at.2) refl c cell s tt h.1.0.1,
+  )
+  closed_under ps f (by_store x c o s at cell fits) h = (
+    cell.below,
+    closed.points x.base h.0.0 o h.0.1 (Store at.0) (is.stores at.0 at.1 x (at.1, at.2)) x (at.1, at.2) refl c cell s (wanted_of F x.column s o fits) h.1.0.1,
+  )
+  closed_under ps f (by_this call o body runs) h = (this_below body runs.listed, (run call o body runs h.0).this)
+  closed_under ps f (by_argument call o body k from to s runs a b) h = (
+    points_of F body.params.items
+        (All-contains (λ x. IsCol F x.column × IsPoint F x.this × All (λ p. IfSome p (IsPoint F)) x.params.items × IfSome x.result (IsPoint F)) F.bodies.items body R.bodies runs.listed).2 k to b,
+    (run call o body runs h.0).arguments k (point_below call.args.items k from a) from to a b s tt h.1.0.1,
+  )
+  closed_under ps f (by_result call o body from to s runs a b) h = (
+    subst (λ r. IfSome r (IsPoint F)) b (All-contains (λ x. IsPoint F x.receiver × All (λ p. IfSome p (IsPoint F)) x.args.items × IfSome x.result (IsPoint F)) F.calls.items call R.calls runs.called).2,
+    (run call o body runs h.0).result from to a b s tt h.1.0.1,
+  )
+  closed_under ps f (by_cast x s c b) h =
+      ((All-contains (λ x. IsPoint F x.from × IsPoint F x.into × IsClass F x.class) F.casts.items x R.casts c).1, All-contains (IsCastAsked (IsEdgeClosed F sets)) F.casts.items x closed.fixed.casts c s b h.0.1)
 
-  pub complete : (f : Fact) → Holds F f → shown points cells f ≡ true
-  complete = derivable_least (Inclusion F) (λ f. shown points cells f ≡ true) closed_under
+  complete : (f : Fact) → Holds F f → IsSeen F sets f
+  complete = derivable_least (Inclusion F) (IsSeen F sets) closed_under
 
-module _ (F : Facts) (t : PointsTo) (points : ArePoints F t.points.items) (cells : AreCells F t.cells.items) (closed : AreClosed F t.points.items t.cells.items) where
-  all : (f : Fact) → Holds F f → shown t.points.items t.cells.items f ≡ true
-  all = complete F t.points.items t.cells.items points closed
+  pub solved : AreSound F sets → AreSolved F sets
+  solved sound = record { sound = sound; points = λ p s. complete (in_point p s); cells = λ c s. complete (in_cell c s) }
 
+-- the sets of the points and those of the cells
+module _ (F : Facts) (sets points cells : List (List Bool)) (a : AreSolved F sets) (first : points ≡ take (length F.points.items) sets) (rest : cells ≡ drop (length F.points.items) sets) where
+  point_row : (p : ℕ) → p < length F.points.items → row points p ≡ row sets p
+  point_row p lt = ap (λ xs. row xs p) first ∙ get_or-take (length F.points.items) sets p [] lt
+
+  cell_row : (c : ℕ) → row cells c ≡ row sets (length F.points.items + c)
+  cell_row c = ap (λ xs. row xs c) rest ∙ get_or-drop (length F.points.items) sets c []
+
+  count : length points ≡ length F.points.items
+  count = ap length first ∙ length-take-le (length F.points.items) sets (omega (arith, a.sound.len))
+
+  cell_count : length cells ≡ length F.cells.items
+  cell_count = ap length rest ∙ (length-drop (length F.points.items) sets ∙ omega (arith, a.sound.len))
+
+  in_points : (p s : ℕ) → bit (row points p) s ≡ true → p < length F.points.items
+  in_points p s h = subst (λ n. p < n) count (bit-row-below points p s h)
+
+  pub points_are : ArePoints F points
+  points_are = record {
+    len = count;
+    widths = λ p lt. let below : p < length F.points.items = omega (arith, lt, count) in rw (point_row p below) (a.sound.widths p (omega (arith, below, a.sound.len)));
+    sound = λ p s h. let below = in_points p s h in node_point F p s below (a.sound.sound p s (rw (point_row p below) at h));
+  }
+
+  pub cells_are : AreCells F cells
+  cells_are = record {
+    len = cell_count;
+    widths = λ c lt. rw (cell_row c) (a.sound.widths (length F.points.items + c) (omega (arith, lt, cell_count, a.sound.len)));
+    sound = λ c s h. node_cell F c s (a.sound.sound (length F.points.items + c) s (rw (cell_row c) at h));
+  }
+
+  pub points_all : (p s : ℕ) → Holds F (in_point p s) → bit (row points p) s ≡ true
+  points_all p s h = let x = a.points p s h in rw (point_row p x.0) x.1
+
+  pub cells_all : (c s : ℕ) → Holds F (in_cell c s) → bit (row cells c) s ≡ true
+  cells_all c s h = rw (cell_row c) (a.cells c s h).1
+
+module _ (F : Facts) (t : PointsTo) (points : ArePoints F t.points.items) (cells : AreCells F t.cells.items) (all : (p s : ℕ) → Holds F (in_point p s) → bit (row t.points.items p) s ≡ true) (held : (c s : ℕ) → Holds F (in_cell c s) → bit (row t.cells.items c) s ≡ true) where
   in_row : PointsJoined F t.points.items t.rows.items (length F.points.items) → CellsJoined F t.cells.items t.rows.items (length F.cells.items) → (r s : ℕ) → IsInRow F r s → bit (row t.rows.items r) s ≡ true
-  in_row joined held r s (by_point p i lt h) = joined p lt i (all (in_point p i) h)
-  in_row joined held r s (by_cell c i lt h) = held c lt i (all (in_cell c i) h)
+  in_row joined more r s (by_point p i lt h) = joined p lt i (all p i h)
+  in_row joined more r s (by_cell c i lt h) = more c lt i (held c i h)
 
-  pub solved : AreUnions F t.rows.items → PointsJoined F t.points.items t.rows.items (length F.points.items) → CellsJoined F t.cells.items t.rows.items (length F.cells.items) → AreSets F t
-  solved unions joined held = record {
+  pub are_sets : AreUnions F t.rows.items → PointsJoined F t.points.items t.rows.items (length F.points.items) → CellsJoined F t.cells.items t.rows.items (length F.cells.items) → AreSets F t
+  are_sets unions joined more = record {
     point_count = points.len;
     cell_count = cells.len;
     row_count = unions.len;
     point_widths = points.widths;
     cell_widths = cells.widths;
     row_widths = unions.widths;
-    points = λ p s. (points.sound p s, all (in_point p s));
-    cells = λ c s. (cells.sound c s, all (in_cell c s));
-    rows = λ r s. (unions.sound r s, in_row joined held r s);
+    points = λ p s. (points.sound p s, all p s);
+    cells = λ c s. (cells.sound c s, held c s);
+    rows = λ r s. (unions.sound r s, in_row joined more r s);
   }

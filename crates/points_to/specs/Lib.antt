@@ -1,4 +1,5 @@
 pub mod Sound
 pub mod Closed
 pub mod Work
+pub mod Begun
 pub mod Chains

@@ -1,221 +1,149 @@
-//! What a site that is new in a point begins: each load and store from it and each call on it, by their numbers.
+//! What a site in a point begins: each load and store from it, and each call on it.
 
-ghost use Rattle.std.specs.Prelude.{◌≡◌, ℕ, ◌<◌, length, Contains, Some, IfSome, OnOk};
+ghost use Rattle.std.specs.Prelude.{◌≡◌, ℕ, ◌<◌, true, length, All, Contains, Some, OnOk, Option};
+ghost use Rattle.kaba_bits.specs.Sets.{bit, row};
 ghost use Rattle.fact_model.specs.Items.{site_class};
 ghost use Rattle.fact_model.specs.Classes.{finds};
 ghost use Rattle.fact_model.specs.InRange.{InRange};
-ghost use Rattle.fact_model.specs.Flowing.{Holds, in_point, Runs};
-ghost use Rattle.points_to.specs.Sound.{ArePoints, AreCells};
+ghost use Rattle.fact_model.specs.Flowing.{Holds, in_point, Runs, point_at};
+ghost use Rattle.points_to.specs.declared.index.Begin.TheVariants.{Load, Store, Call};
+ghost use Rattle.points_to.specs.Sound.{InNode, AreSound};
 ghost use Rattle.points_to.specs.Chains.{AreBodies};
-ghost use Rattle.points_to.specs.Work.{AreListed};
+ghost use Rattle.points_to.specs.Work.{AreFound, IsMore, IsEdge, between};
+ghost use Rattle.points_to.specs.Begun.{begins_at, IsIndex, IsRun, IsRunAt, AreRun, IsBegun, AreBegun, IsBegunAt, HasArgument};
 
 use crate::bodies::{Bodies, find_body};
-use crate::index::Index;
-use crate::passes::site_at;
-use crate::rules::{add_this, link_body, load_from, store_into};
-use crate::work::{Lists, is_noted, list_at, note_run};
-use fact_model::{BodyInfo, CallInfo, Facts, LoadInfo, StoreInfo};
+use crate::found::{Found, Use, ask, ask_cells, tell};
+use crate::index::{Begin, Index, begins_at, body_at, call_at, load_at, numbers_at, store_at};
+use crate::work::{Edge, Told, site_at};
+use fact_model::{BodyInfo, CallInfo, Facts};
 use kaba_base::ColId;
-use kaba_bits::BitRow;
+use kaba_bits::{BitRow, row_at};
 use std::alloc::{AllocError, Global};
 
-/// A load by its number.
-fn load_at(facts: &Facts, i: usize) -> Option<LoadInfo>
-    ensures { IfSome result (λ x. Contains facts.now.loads.items x) }
-{
-    if i < facts.loads.len() {
-        Some(facts.loads[i])
-    } else {
-        None
-    }
-}
-
-/// A store by its number.
-fn store_at(facts: &Facts, i: usize) -> Option<StoreInfo>
-    ensures { IfSome result (λ x. Contains facts.now.stores.items x) }
-{
-    if i < facts.stores.len() {
-        Some(facts.stores[i])
-    } else {
-        None
-    }
-}
-
-/// A call by its number.
-fn call_at(facts: &Facts, i: usize) -> &CallInfo
-    requires { i < length facts.now.calls.items }
-    ensures { Contains facts.now.calls.items result.now }
-{
-    &facts.calls[i]
-}
-
-/// A body by its number.
-fn body_at(facts: &Facts, b: usize) -> &BodyInfo
-    requires { b < length facts.now.bodies.items }
-    ensures { Contains facts.now.bodies.items result.now }
-{
-    &facts.bodies[b]
-}
-
-/// A load, for a site that is new in its base. An error comes only for want of memory.
-fn load_here(
+/// The load of a number, for a site in its base. An error comes only for want of memory.
+fn begin_load(
     facts: &Facts,
     index: &Index,
-    points: &mut [BitRow],
-    cells: &mut [BitRow],
-    lists: &mut Lists,
-    x: LoadInfo,
-    o: u32,
-) -> Result<(), AllocError>
-    requires facts { InRange facts.now }
-    requires points { ArePoints facts.now points.old }
-    requires cells { AreCells facts.now cells.old }
-    requires lists { AreListed facts.now lists.old }
-    requires load { Contains facts.now.loads.items x }
-    requires base { Holds facts.now (in_point x.base o) }
-    ensures points { OnOk result (ArePoints facts.now points.new) }
-    ensures cells { OnOk result (AreCells facts.now cells.new) }
-    ensures lists { OnOk result (AreListed facts.now lists.new) }
-{
-    for c in list_at(&index.cells, o as usize) {
-        load_from(facts, points, cells, lists, x, o, *c)?;
-    }
-    Ok(())
-}
-
-/// The load of a number, for a site that is new in a point. An error comes only for want of memory.
-fn load_if_here(
-    facts: &Facts,
-    index: &Index,
-    points: &mut [BitRow],
-    cells: &mut [BitRow],
-    lists: &mut Lists,
+    found: &mut Found,
     i: usize,
     p: u32,
     o: u32,
 ) -> Result<(), AllocError>
     requires facts { InRange facts.now }
-    requires points { ArePoints facts.now points.old }
-    requires cells { AreCells facts.now cells.old }
-    requires lists { AreListed facts.now lists.old }
+    requires index { IsIndex facts.now index.now }
+    requires found { AreFound facts.now found.old }
     requires site { o < length facts.now.sites.items }
     requires holds { Holds facts.now (in_point p o) }
-    ensures points { OnOk result (ArePoints facts.now points.new) }
-    ensures cells { OnOk result (AreCells facts.now cells.new) }
-    ensures lists { OnOk result (AreListed facts.now lists.new) }
+    ensures found { OnOk result (AreFound facts.now found.new) }
+    ensures kept { OnOk result (IsMore found.old found.new) }
+    ensures begun { OnOk result (IsBegun facts.now (Contains found.new.edges.items) (Contains found.new.told.items) p o (Load i)) }
 {
-    if let Some(x) = load_at(facts, i) {
-        if x.base == p {
-            load_here(facts, index, points, cells, lists, x, o)?;
-        }
+    if i >= facts.loads.len() {
+        return Ok(());
     }
+    let x = load_at(facts, i);
+    if x.base != p {
+        return Ok(());
+    }
+    let cells = numbers_at(&index.cells, o as usize);
+    ask_cells(facts, found, Use::Read(x.into), x.column, o, cells)?;
     Ok(())
 }
 
-/// Each load from a point, for a site that is new there. An error comes only for want of memory.
-fn loads_at(
+/// The store of a number, for a site in its base. An error comes only for want of memory.
+fn begin_store(
     facts: &Facts,
     index: &Index,
-    points: &mut [BitRow],
-    cells: &mut [BitRow],
-    lists: &mut Lists,
-    p: u32,
-    o: u32,
-) -> Result<(), AllocError>
-    requires facts { InRange facts.now }
-    requires points { ArePoints facts.now points.old }
-    requires cells { AreCells facts.now cells.old }
-    requires lists { AreListed facts.now lists.old }
-    requires site { o < length facts.now.sites.items }
-    requires holds { Holds facts.now (in_point p o) }
-    ensures points { OnOk result (ArePoints facts.now points.new) }
-    ensures cells { OnOk result (AreCells facts.now cells.new) }
-    ensures lists { OnOk result (AreListed facts.now lists.new) }
-{
-    for i in list_at(&index.loads, p as usize) {
-        load_if_here(facts, index, points, cells, lists, *i, p, o)?;
-    }
-    Ok(())
-}
-
-/// A store, for a site that is new in its base. An error comes only for want of memory.
-fn store_here(
-    facts: &Facts,
-    index: &Index,
-    points: &mut [BitRow],
-    cells: &mut [BitRow],
-    lists: &mut Lists,
-    x: StoreInfo,
-    o: u32,
-) -> Result<(), AllocError>
-    requires facts { InRange facts.now }
-    requires points { ArePoints facts.now points.old }
-    requires cells { AreCells facts.now cells.old }
-    requires lists { AreListed facts.now lists.old }
-    requires store { Contains facts.now.stores.items x }
-    requires site { o < length facts.now.sites.items }
-    requires base { Holds facts.now (in_point x.base o) }
-    ensures points { OnOk result (ArePoints facts.now points.new) }
-    ensures cells { OnOk result (AreCells facts.now cells.new) }
-    ensures lists { OnOk result (AreListed facts.now lists.new) }
-{
-    for c in list_at(&index.cells, o as usize) {
-        store_into(facts, points, cells, lists, x, o, *c)?;
-    }
-    Ok(())
-}
-
-/// The store of a number, for a site that is new in a point. An error comes only for want of memory.
-fn store_if_here(
-    facts: &Facts,
-    index: &Index,
-    points: &mut [BitRow],
-    cells: &mut [BitRow],
-    lists: &mut Lists,
+    found: &mut Found,
     i: usize,
     p: u32,
     o: u32,
 ) -> Result<(), AllocError>
     requires facts { InRange facts.now }
-    requires points { ArePoints facts.now points.old }
-    requires cells { AreCells facts.now cells.old }
-    requires lists { AreListed facts.now lists.old }
+    requires index { IsIndex facts.now index.now }
+    requires found { AreFound facts.now found.old }
     requires site { o < length facts.now.sites.items }
     requires holds { Holds facts.now (in_point p o) }
-    ensures points { OnOk result (ArePoints facts.now points.new) }
-    ensures cells { OnOk result (AreCells facts.now cells.new) }
-    ensures lists { OnOk result (AreListed facts.now lists.new) }
+    ensures found { OnOk result (AreFound facts.now found.new) }
+    ensures kept { OnOk result (IsMore found.old found.new) }
+    ensures begun { OnOk result (IsBegun facts.now (Contains found.new.edges.items) (Contains found.new.told.items) p o (Store i)) }
 {
-    if let Some(x) = store_at(facts, i) {
-        if x.base == p {
-            store_here(facts, index, points, cells, lists, x, o)?;
-        }
+    if i >= facts.stores.len() {
+        return Ok(());
     }
+    let x = store_at(facts, i);
+    if x.base != p {
+        return Ok(());
+    }
+    let cells = numbers_at(&index.cells, o as usize);
+    ask_cells(facts, found, Use::Write(x.value), x.column, o, cells)?;
     Ok(())
 }
 
-/// Each store from a point, for a site that is new there. An error comes only for want of memory.
-fn stores_at(
-    facts: &Facts,
-    index: &Index,
-    points: &mut [BitRow],
-    cells: &mut [BitRow],
-    lists: &mut Lists,
-    p: u32,
-    o: u32,
-) -> Result<(), AllocError>
-    requires facts { InRange facts.now }
-    requires points { ArePoints facts.now points.old }
-    requires cells { AreCells facts.now cells.old }
-    requires lists { AreListed facts.now lists.old }
-    requires site { o < length facts.now.sites.items }
-    requires holds { Holds facts.now (in_point p o) }
-    ensures points { OnOk result (ArePoints facts.now points.new) }
-    ensures cells { OnOk result (AreCells facts.now cells.new) }
-    ensures lists { OnOk result (AreListed facts.now lists.new) }
+/// The point of an argument or a parameter, if there is one.
+fn point_at(list: &[Option<u32>], k: usize) -> Option<u32>
+    ensures { result ≡ point_at list.now k }
 {
-    for i in list_at(&index.stores, p as usize) {
-        store_if_here(facts, index, points, cells, lists, *i, p, o)?;
+    if k < list.len() { list[k] } else { None }
+}
+
+/// From a point into another, where that is there. An error comes only for want of memory.
+fn ask_from(facts: &Facts, found: &mut Found, p: u32, to: Option<u32>) -> Result<(), AllocError>
+    requires found { AreFound facts.now found.old }
+    requires edges { (q : ℕ) → to ≡ Some q → IsEdge facts.now (between p q) }
+    ensures found { OnOk result (AreFound facts.now found.new) }
+    ensures kept { OnOk result (IsMore found.old found.new) }
+    ensures here { OnOk result ((q : ℕ) → to ≡ Some q → Contains found.new.edges.items (between p q)) }
+{
+    match to {
+        Some(q) => ask(
+            facts,
+            found,
+            Edge {
+                from: p as usize,
+                to: q as usize,
+                class: None,
+            },
+        ),
+        None => Ok(()),
+    }
+}
+
+/// From one point into another, where both are there. An error comes only for want of memory.
+fn ask_points(
+    facts: &Facts,
+    found: &mut Found,
+    from: Option<u32>,
+    to: Option<u32>,
+) -> Result<(), AllocError>
+    requires found { AreFound facts.now found.old }
+    requires edges { (p q : ℕ) → from ≡ Some p → to ≡ Some q → IsEdge facts.now (between p q) }
+    ensures found { OnOk result (AreFound facts.now found.new) }
+    ensures kept { OnOk result (IsMore found.old found.new) }
+    ensures here { OnOk result ((p q : ℕ) → from ≡ Some p → to ≡ Some q → Contains found.new.edges.items (between p q)) }
+{
+    match from {
+        Some(p) => ask_from(facts, found, p, to),
+        None => Ok(()),
+    }
+}
+
+/// Each argument into its parameter. An error comes only for want of memory.
+fn ask_arguments(
+    facts: &Facts,
+    found: &mut Found,
+    args: &[Option<u32>],
+    params: &[Option<u32>],
+) -> Result<(), AllocError>
+    requires found { AreFound facts.now found.old }
+    requires edges { (k p q : ℕ) → point_at args.now k ≡ Some p → point_at params.now k ≡ Some q → IsEdge facts.now (between p q) }
+    ensures found { OnOk result (AreFound facts.now found.new) }
+    ensures kept { OnOk result (IsMore found.old found.new) }
+    ensures here { OnOk result ((k : ℕ) → k < length args.now → HasArgument (Contains found.new.edges.items) args.now params.now k) }
+{
+    for k in 0..args.len() {
+        ask_points(facts, found, point_at(args, k), point_at(params, k))?;
     }
     Ok(())
 }
@@ -223,211 +151,253 @@ fn stores_at(
 /// A call of a body, for an object of the site `o`. An error comes only for want of memory.
 fn run_body(
     facts: &Facts,
-    points: &mut [BitRow],
-    cells: &mut [BitRow],
-    lists: &mut Lists,
-    i: usize,
+    found: &mut Found,
     call: &CallInfo,
     o: u32,
-    b: usize,
     body: &BodyInfo,
 ) -> Result<(), AllocError>
     requires facts { InRange facts.now }
-    requires points { ArePoints facts.now points.old }
-    requires cells { AreCells facts.now cells.old }
-    requires lists { AreListed facts.now lists.old }
+    requires found { AreFound facts.now found.old }
     requires site { o < length facts.now.sites.items }
     requires runs { Runs facts.now call.now o body.now }
     requires receiver { Holds facts.now (in_point call.now.receiver o) }
-    ensures points { OnOk result (ArePoints facts.now points.new) }
-    ensures cells { OnOk result (AreCells facts.now cells.new) }
-    ensures lists { OnOk result (AreListed facts.now lists.new) }
+    ensures found { OnOk result (AreFound facts.now found.new) }
+    ensures kept { OnOk result (IsMore found.old found.new) }
+    ensures run { OnOk result (IsRun (Contains found.new.edges.items) (Contains found.new.told.items) call.now o body.now) }
 {
-    add_this(facts, points, cells, lists, call, o, body)?;
-    if !is_noted(list_at(&lists.ran, i), b) {
-        note_run(lists, i, b)?;
-        link_body(facts, points, cells, lists, call, o, body)?;
-    }
+    let this = Told {
+        node: body.this as usize,
+        site: o,
+    };
+    tell(facts, found, this)?;
+    ask_arguments(facts, found, &call.args, &body.params)?;
+    ask_points(facts, found, body.result, call.result)?;
     Ok(())
 }
 
 /// A call for an object of the site `o`, at the body of a number, where that is of the column found. An error comes only for want of memory.
 fn run_if_found(
     facts: &Facts,
-    points: &mut [BitRow],
-    cells: &mut [BitRow],
-    lists: &mut Lists,
-    i: usize,
+    found: &mut Found,
     call: &CallInfo,
     o: u32,
     d: ColId,
     b: usize,
 ) -> Result<(), AllocError>
     requires facts { InRange facts.now }
-    requires points { ArePoints facts.now points.old }
-    requires cells { AreCells facts.now cells.old }
-    requires lists { AreListed facts.now lists.old }
+    requires found { AreFound facts.now found.old }
     requires site { o < length facts.now.sites.items }
     requires call { Contains facts.now.calls.items call.now }
-    requires found { finds facts.now (site_class facts.now o) call.now.slot ≡ Some d.0 }
+    requires finds { finds facts.now (site_class facts.now o) call.now.slot ≡ Some d.0 }
     requires receiver { Holds facts.now (in_point call.now.receiver o) }
-    ensures points { OnOk result (ArePoints facts.now points.new) }
-    ensures cells { OnOk result (AreCells facts.now cells.new) }
-    ensures lists { OnOk result (AreListed facts.now lists.new) }
+    ensures found { OnOk result (AreFound facts.now found.new) }
+    ensures kept { OnOk result (IsMore found.old found.new) }
+    ensures run { OnOk result (IsRunAt facts.now (Contains found.new.edges.items) (Contains found.new.told.items) call.now o d.0 b) }
 {
-    if b < facts.bodies.len() {
-        let body = body_at(facts, b);
-        if body.column == d {
-            run_body(facts, points, cells, lists, i, call, o, b, body)?;
-        }
+    if b >= facts.bodies.len() {
+        return Ok(());
     }
+    let body = body_at(facts, b);
+    if body.column.0 != d.0 {
+        return Ok(());
+    }
+    run_body(facts, found, call, o, body)?;
     Ok(())
 }
 
 /// A call for an object of the site `o`, at each body of the column found. An error comes only for want of memory.
 fn run_column(
     facts: &Facts,
-    index: &Index,
-    points: &mut [BitRow],
-    cells: &mut [BitRow],
-    lists: &mut Lists,
-    i: usize,
+    found: &mut Found,
     call: &CallInfo,
     o: u32,
     d: ColId,
+    list: &[usize],
 ) -> Result<(), AllocError>
     requires facts { InRange facts.now }
-    requires points { ArePoints facts.now points.old }
-    requires cells { AreCells facts.now cells.old }
-    requires lists { AreListed facts.now lists.old }
+    requires found { AreFound facts.now found.old }
     requires site { o < length facts.now.sites.items }
     requires call { Contains facts.now.calls.items call.now }
-    requires found { finds facts.now (site_class facts.now o) call.now.slot ≡ Some d.0 }
+    requires finds { finds facts.now (site_class facts.now o) call.now.slot ≡ Some d.0 }
     requires receiver { Holds facts.now (in_point call.now.receiver o) }
-    ensures points { OnOk result (ArePoints facts.now points.new) }
-    ensures cells { OnOk result (AreCells facts.now cells.new) }
-    ensures lists { OnOk result (AreListed facts.now lists.new) }
+    ensures found { OnOk result (AreFound facts.now found.new) }
+    ensures kept { OnOk result (IsMore found.old found.new) }
+    ensures run { OnOk result (All (IsRunAt facts.now (Contains found.new.edges.items) (Contains found.new.told.items) call.now o d.0) list.now) }
 {
-    for b in list_at(&index.bodies, d.0 as usize) {
-        run_if_found(facts, points, cells, lists, i, call, o, d, *b)?;
+    for b in list {
+        run_if_found(facts, found, call, o, d, *b)?;
     }
     Ok(())
 }
 
-/// A call, for a site that is new in its receiver. An error comes only for want of memory.
-fn call_here(
+/// A call, for a site in its receiver. An error comes only for want of memory.
+fn call_site(
     facts: &Facts,
     index: &Index,
     bodies: &Bodies,
-    points: &mut [BitRow],
-    cells: &mut [BitRow],
-    lists: &mut Lists,
-    i: usize,
+    found: &mut Found,
     call: &CallInfo,
     o: u32,
 ) -> Result<(), AllocError>
     requires facts { InRange facts.now }
+    requires index { IsIndex facts.now index.now }
     requires bodies { AreBodies facts.now bodies.now }
-    requires points { ArePoints facts.now points.old }
-    requires cells { AreCells facts.now cells.old }
-    requires lists { AreListed facts.now lists.old }
+    requires found { AreFound facts.now found.old }
     requires site { o < length facts.now.sites.items }
     requires call { Contains facts.now.calls.items call.now }
     requires receiver { Holds facts.now (in_point call.now.receiver o) }
-    ensures points { OnOk result (ArePoints facts.now points.new) }
-    ensures cells { OnOk result (AreCells facts.now cells.new) }
-    ensures lists { OnOk result (AreListed facts.now lists.new) }
+    ensures found { OnOk result (AreFound facts.now found.new) }
+    ensures kept { OnOk result (IsMore found.old found.new) }
+    ensures run { OnOk result (AreRun facts.now (Contains found.new.edges.items) (Contains found.new.told.items) call.now o) }
 {
-    if let Some(d) = find_body(facts, bodies, site_at(facts, o).class, call.slot) {
-        run_column(facts, index, points, cells, lists, i, call, o, d)?;
+    match find_body(facts, bodies, site_at(facts, o).class, call.slot) {
+        Some(d) => run_column(
+            facts,
+            found,
+            call,
+            o,
+            d,
+            numbers_at(&index.bodies, d.0 as usize),
+        ),
+        None => Ok(()),
     }
-    Ok(())
 }
 
-/// The call of a number, for a site that is new in a point. An error comes only for want of memory.
-fn call_if_here(
+/// The call of a number, for a site in its receiver. An error comes only for want of memory.
+fn begin_call(
     facts: &Facts,
     index: &Index,
     bodies: &Bodies,
-    points: &mut [BitRow],
-    cells: &mut [BitRow],
-    lists: &mut Lists,
+    found: &mut Found,
     i: usize,
     p: u32,
     o: u32,
 ) -> Result<(), AllocError>
     requires facts { InRange facts.now }
+    requires index { IsIndex facts.now index.now }
     requires bodies { AreBodies facts.now bodies.now }
-    requires points { ArePoints facts.now points.old }
-    requires cells { AreCells facts.now cells.old }
-    requires lists { AreListed facts.now lists.old }
+    requires found { AreFound facts.now found.old }
     requires site { o < length facts.now.sites.items }
     requires holds { Holds facts.now (in_point p o) }
-    ensures points { OnOk result (ArePoints facts.now points.new) }
-    ensures cells { OnOk result (AreCells facts.now cells.new) }
-    ensures lists { OnOk result (AreListed facts.now lists.new) }
+    ensures found { OnOk result (AreFound facts.now found.new) }
+    ensures kept { OnOk result (IsMore found.old found.new) }
+    ensures begun { OnOk result (IsBegun facts.now (Contains found.new.edges.items) (Contains found.new.told.items) p o (Call i)) }
 {
-    if i < facts.calls.len() {
-        let call = call_at(facts, i);
-        if call.receiver == p {
-            call_here(facts, index, bodies, points, cells, lists, i, call, o)?;
-        }
+    if i >= facts.calls.len() {
+        return Ok(());
     }
+    let call = call_at(facts, i);
+    if call.receiver != p {
+        return Ok(());
+    }
+    call_site(facts, index, bodies, found, call, o)?;
     Ok(())
 }
 
-/// Each call on a point, for a site that is new there. An error comes only for want of memory.
-fn calls_at(
+/// One load, store or call, for a site in its base or receiver. An error comes only for want of memory.
+fn begin(
     facts: &Facts,
     index: &Index,
     bodies: &Bodies,
-    points: &mut [BitRow],
-    cells: &mut [BitRow],
-    lists: &mut Lists,
+    found: &mut Found,
+    b: Begin,
     p: u32,
     o: u32,
 ) -> Result<(), AllocError>
     requires facts { InRange facts.now }
+    requires index { IsIndex facts.now index.now }
     requires bodies { AreBodies facts.now bodies.now }
-    requires points { ArePoints facts.now points.old }
-    requires cells { AreCells facts.now cells.old }
-    requires lists { AreListed facts.now lists.old }
+    requires found { AreFound facts.now found.old }
     requires site { o < length facts.now.sites.items }
     requires holds { Holds facts.now (in_point p o) }
-    ensures points { OnOk result (ArePoints facts.now points.new) }
-    ensures cells { OnOk result (AreCells facts.now cells.new) }
-    ensures lists { OnOk result (AreListed facts.now lists.new) }
+    ensures found { OnOk result (AreFound facts.now found.new) }
+    ensures kept { OnOk result (IsMore found.old found.new) }
+    ensures begun { OnOk result (IsBegun facts.now (Contains found.new.edges.items) (Contains found.new.told.items) p o b) }
 {
-    for i in list_at(&index.calls, p as usize) {
-        call_if_here(facts, index, bodies, points, cells, lists, *i, p, o)?;
+    match b {
+        Begin::Load(i) => begin_load(facts, index, found, i, p, o),
+        Begin::Store(i) => begin_store(facts, index, found, i, p, o),
+        Begin::Call(i) => begin_call(facts, index, bodies, found, i, p, o),
     }
-    Ok(())
 }
 
-/// What a site that is new in a point begins. An error comes only for want of memory.
-pub fn begin_at(
+/// What a site in a point begins. An error comes only for want of memory.
+fn begin_site(
     facts: &Facts,
     index: &Index,
     bodies: &Bodies,
-    points: &mut [BitRow],
-    cells: &mut [BitRow],
-    lists: &mut Lists,
+    found: &mut Found,
     p: u32,
     o: u32,
 ) -> Result<(), AllocError>
     requires facts { InRange facts.now }
+    requires index { IsIndex facts.now index.now }
     requires bodies { AreBodies facts.now bodies.now }
-    requires points { ArePoints facts.now points.old }
-    requires cells { AreCells facts.now cells.old }
-    requires lists { AreListed facts.now lists.old }
+    requires found { AreFound facts.now found.old }
     requires site { o < length facts.now.sites.items }
     requires holds { Holds facts.now (in_point p o) }
-    ensures points { OnOk result (ArePoints facts.now points.new) }
-    ensures cells { OnOk result (AreCells facts.now cells.new) }
-    ensures lists { OnOk result (AreListed facts.now lists.new) }
+    ensures found { OnOk result (AreFound facts.now found.new) }
+    ensures kept { OnOk result (IsMore found.old found.new) }
+    ensures begun { OnOk result (AreBegun facts.now index.now (Contains found.new.edges.items) (Contains found.new.told.items) p o) }
 {
-    loads_at(facts, index, points, cells, lists, p, o)?;
-    stores_at(facts, index, points, cells, lists, p, o)?;
-    calls_at(facts, index, bodies, points, cells, lists, p, o)?;
+    let list = begins_at(&index.begins, p as usize);
+    for b in list {
+        begin(facts, index, bodies, found, *b, p, o)?;
+    }
+    Ok(())
+}
+
+/// The same, where the point has the site. An error comes only for want of memory.
+fn begin_if_there(
+    facts: &Facts,
+    index: &Index,
+    bodies: &Bodies,
+    sets: &[BitRow],
+    found: &mut Found,
+    p: u32,
+    o: u32,
+) -> Result<(), AllocError>
+    requires facts { InRange facts.now }
+    requires index { IsIndex facts.now index.now }
+    requires bodies { AreBodies facts.now bodies.now }
+    requires sets { AreSound facts.now sets.now }
+    requires found { AreFound facts.now found.old }
+    requires point { p < length facts.now.points.items }
+    ensures found { OnOk result (AreFound facts.now found.new) }
+    ensures kept { OnOk result (IsMore found.old found.new) }
+    ensures begun { OnOk result (IsBegunAt facts.now index.now sets.now (Contains found.new.edges.items) (Contains found.new.told.items) p o) }
+{
+    if o as usize >= facts.sites.len() {
+        return Ok(());
+    }
+    if !row_at(sets, p as usize).has(o) {
+        return Ok(());
+    }
+    begin_site(facts, index, bodies, found, p, o)?;
+    Ok(())
+}
+
+/// What those of a list of sites begin that a point has. An error comes only for want of memory.
+pub fn begin_sites(
+    facts: &Facts,
+    index: &Index,
+    bodies: &Bodies,
+    sets: &[BitRow],
+    found: &mut Found,
+    p: u32,
+    list: &[u32],
+) -> Result<(), AllocError>
+    requires facts { InRange facts.now }
+    requires index { IsIndex facts.now index.now }
+    requires bodies { AreBodies facts.now bodies.now }
+    requires sets { AreSound facts.now sets.now }
+    requires found { AreFound facts.now found.old }
+    requires point { p < length facts.now.points.items }
+    ensures found { OnOk result (AreFound facts.now found.new) }
+    ensures begun { OnOk result (All (IsBegunAt facts.now index.now sets.now (Contains found.new.edges.items) (Contains found.new.told.items) p) list.now) }
+{
+    for o in list {
+        begin_if_there(facts, index, bodies, sets, found, p, *o)?;
+    }
     Ok(())
 }

@@ -1,15 +1,15 @@
-//! Points-to sets by Andersen's inclusions (1994). A worklist passes each site that is new in a point or a cell on
-//! once; plain rounds then go over every inclusion until nothing changes, which shows that nothing was left out.
+//! Points-to sets by Andersen's inclusions (1994). A worklist passes what is in a set on where the set grew; one turn
+//! over everything that the facts ask for then shows that nothing was left out.
 #![tactic(auto)]
 
-ghost use Rattle.std.specs.Prelude.{◌≡◌, ℕ, ◌+◌, ◌<◌, length, IfOk, OnOk};
-ghost use Rattle.std.specs.Bool.{OnTrue, OnFalse};
-ghost use Rattle.kaba_bits.specs.Sets.{total};
+ghost use Rattle.std.specs.Prelude.{◌≡◌, ℕ, ◌+◌, ◌<◌, length, Contains, IfOk, OnOk};
 ghost use Rattle.fact_model.specs.InRange.{InRange};
 ghost use Rattle.fact_model.specs.Flowing.{AreSets};
-ghost use Rattle.points_to.specs.Sound.{ArePoints, AreCells};
+ghost use Rattle.points_to.specs.Sound.{AreSound};
 ghost use Rattle.points_to.specs.Chains.{AreBodies};
-ghost use Rattle.points_to.specs.Closed.{AreClosed};
+ghost use Rattle.points_to.specs.Work.{AreFound};
+ghost use Rattle.points_to.specs.Begun.{IsIndex};
+ghost use Rattle.points_to.specs.Closed.{AreFixed, AreClosed, AreSolved};
 
 use fact_model::{Facts, PointsTo};
 use kaba_bits::{BitRow, empty_rows};
@@ -17,19 +17,20 @@ use std::alloc::{AllocError, Global};
 
 mod begins;
 mod bodies;
-mod calls;
-mod includes;
+mod closing;
+mod fixed;
+mod found;
 mod index;
-mod passes;
-mod rules;
 mod turns;
 mod unions;
 mod work;
 
 pub use bodies::{Bodies, bodies_of, find_body};
-use calls::pass_calls;
-use index::index_of;
-use passes::{pass_casts, pass_flows, pass_loads, pass_news, pass_stores};
+use closing::close_all;
+use fixed::fixed;
+use found::Found;
+pub use index::{empty, note, numbers_at};
+use index::{Index, index_of};
 use turns::grow;
 use unions::unions;
 
@@ -39,10 +40,8 @@ pub fn solve(alloc: Global, facts: &Facts) -> Result<PointsTo, AllocError>
     requires { InRange facts.now }
     ensures sets { IfOk result (λ t. AreSets facts.now t) }
 {
-    let width = facts.sites.len() as u32;
-    let mut points = empty_rows(alloc, facts.points.len(), width)?;
-    let mut cells = empty_rows(alloc, facts.cells.len(), width)?;
-    fill(alloc, facts, &mut points, &mut cells)?;
+    let mut points = all_sets(alloc, facts)?;
+    let cells = points.split_off(point_count(facts))?;
     let rows = unions(alloc, facts, &points, &cells)?;
     Ok(PointsTo {
         points,
@@ -51,60 +50,60 @@ pub fn solve(alloc: Global, facts: &Facts) -> Result<PointsTo, AllocError>
     })
 }
 
-/// What the worklist finds, and then rounds. An error comes only for want of memory.
-fn fill(
-    alloc: Global,
-    facts: &Facts,
-    points: &mut [BitRow],
-    cells: &mut [BitRow],
-) -> Result<(), AllocError>
+/// How many points there are.
+fn point_count(facts: &Facts) -> usize
+    ensures { result ≡ length facts.now.points.items }
+{
+    facts.points.len()
+}
+
+/// The sets of the points, and then those of the cells. An error comes only for want of memory.
+fn all_sets(alloc: Global, facts: &Facts) -> Result<Vec<BitRow>, AllocError>
+    requires { InRange facts.now }
+    ensures { IfOk result (λ v. AreSolved facts.now v.items) }
+{
+    let count = facts.points.len() + facts.cells.len();
+    let mut sets = empty_rows(alloc, count, facts.sites.len() as u32)?;
+    fill(alloc, facts, &mut sets)?;
+    Ok(sets)
+}
+
+/// What the worklist finds, and then turns over everything. An error comes only for want of memory.
+fn fill(alloc: Global, facts: &Facts, sets: &mut [BitRow]) -> Result<(), AllocError>
     requires facts { InRange facts.now }
-    requires points { ArePoints facts.now points.old }
-    requires cells { AreCells facts.now cells.old }
-    ensures points { OnOk result (ArePoints facts.now points.new) }
-    ensures cells { OnOk result (AreCells facts.now cells.new) }
-    ensures closed { OnOk result (AreClosed facts.now points.new cells.new) }
+    requires sets { AreSound facts.now sets.old }
+    ensures { OnOk result (AreSolved facts.now sets.new) }
 {
     let index = index_of(alloc, facts)?;
     let bodies = bodies_of(alloc, facts)?;
-    grow(alloc, facts, &index, &bodies, points, cells)?;
-    run_rounds(facts, &bodies, points, cells);
+    let fixed = fixed(alloc, facts)?;
+    grow(alloc, facts, &index, &bodies, &fixed, sets)?;
+    run_rounds(alloc, facts, &index, &bodies, &fixed, sets)?;
     Ok(())
 }
 
-/// Rounds, until nothing changes.
-fn run_rounds(facts: &Facts, bodies: &Bodies, points: &mut [BitRow], cells: &mut [BitRow])
+/// Turns over everything, until nothing is new. An error comes only for want of memory.
+fn run_rounds(
+    alloc: Global,
+    facts: &Facts,
+    index: &Index,
+    bodies: &Bodies,
+    fixed: &Found,
+    sets: &mut [BitRow],
+) -> Result<(), AllocError>
     requires facts { InRange facts.now }
+    requires index { IsIndex facts.now index.now }
     requires bodies { AreBodies facts.now bodies.now }
-    requires points { ArePoints facts.now points.old }
-    requires cells { AreCells facts.now cells.old }
-    ensures points { ArePoints facts.now points.new }
-    ensures cells { AreCells facts.now cells.new }
-    ensures closed { AreClosed facts.now points.new cells.new }
+    requires found { AreFound facts.now fixed.now }
+    requires fixed { AreFixed facts.now (Contains fixed.now.edges.items) (Contains fixed.now.told.items) }
+    requires sets { AreSound facts.now sets.old }
+    ensures sets { OnOk result (AreSound facts.now sets.new) }
+    ensures closed { OnOk result (AreClosed facts.now index.now sets.new) }
 {
     loop {
-        if !round(facts, bodies, points, cells) {
-            return;
+        let more = close_all(alloc, facts, index, bodies, fixed, sets)?;
+        if !more {
+            return Ok(());
         }
     }
-}
-
-/// Each inclusion once.
-fn round(facts: &Facts, bodies: &Bodies, points: &mut [BitRow], cells: &mut [BitRow]) -> bool
-    requires facts { InRange facts.now }
-    requires bodies { AreBodies facts.now bodies.now }
-    requires points { ArePoints facts.now points.old }
-    requires cells { AreCells facts.now cells.old }
-    ensures points { ArePoints facts.now points.new }
-    ensures cells { AreCells facts.now cells.new }
-    ensures grew { OnTrue result (total points.old + total cells.old < total points.new + total cells.new) }
-    ensures closed { OnFalse result (AreClosed facts.now points.new cells.new) }
-{
-    let news = pass_news(facts, points);
-    let flows = pass_flows(facts, points);
-    let loads = pass_loads(facts, cells, points);
-    let casts = pass_casts(facts, points);
-    let calls = pass_calls(facts, bodies, points);
-    let stores = pass_stores(facts, points, cells);
-    news | flows | loads | casts | calls | stores
 }

@@ -1,213 +1,421 @@
-//! Sets by a worklist: what is new in a point or a cell is passed on once.
+//! Sets by a worklist: what grew is passed on, and a site that is new in a point begins what it can.
 
-ghost use Rattle.std.specs.Prelude.{◌≡◌, ℕ, ◌<◌, length, Contains, IfSome, IfOk, OnOk};
+ghost use Rattle.std.specs.Prelude.{◌≡◌, ℕ, ◌<◌, [], length, All, Some, IfSome, IfOk, OnOk};
 ghost use Rattle.fact_model.specs.InRange.{InRange};
-ghost use Rattle.points_to.specs.Sound.{ArePoints, AreCells};
+ghost use Rattle.points_to.specs.Sound.{AreSound};
 ghost use Rattle.points_to.specs.Chains.{AreBodies};
-ghost use Rattle.points_to.specs.Work.{IsWaiting, AreListed};
+ghost use Rattle.points_to.specs.Work.{AreFound, IsEdge, IsTold};
+ghost use Rattle.points_to.specs.Begun.{IsIndex};
 
-use crate::begins::begin_at;
+use crate::begins::begin_sites;
 use crate::bodies::Bodies;
-use crate::index::{Index, empty};
-use crate::work::{Edge, Lists, Node, Waiting, add, keep, pass_on};
-use fact_model::{CastInfo, Facts, FlowInfo, NewInfo};
-use kaba_bits::BitRow;
+use crate::found::{Found, nothing};
+use crate::index::{Index, begins_at, empty, note, numbers_at};
+use crate::work::{Edge, Told, pass, pass_site, show};
+use fact_model::Facts;
+use kaba_base::ClassId;
+use kaba_bits::{BitRow, empty_rows, row_at};
 use std::alloc::{AllocError, Global};
+use std::collections::VecDeque;
 
-/// One turn: a site that waited is passed on, and begins what it can. An error comes only for want of memory.
-fn turn(
-    facts: &Facts,
-    index: &Index,
-    bodies: &Bodies,
-    points: &mut [BitRow],
-    cells: &mut [BitRow],
-    lists: &mut Lists,
-    x: Waiting,
-) -> Result<(), AllocError>
-    requires facts { InRange facts.now }
-    requires bodies { AreBodies facts.now bodies.now }
-    requires points { ArePoints facts.now points.old }
-    requires cells { AreCells facts.now cells.old }
-    requires lists { AreListed facts.now lists.old }
-    requires waited { IsWaiting facts.now x }
-    ensures points { OnOk result (ArePoints facts.now points.new) }
-    ensures cells { OnOk result (AreCells facts.now cells.new) }
-    ensures lists { OnOk result (AreListed facts.now lists.new) }
+/// The sets that grew and were not gone over since, each once; the inclusions found, their numbers by the set that they
+/// begin in and by that and the set that they end in; the points in which one begins that asks for a class; and of each
+/// point the sites that were gone over.
+#[derive(Drop)]
+struct Lists {
+    waiting: VecDeque<usize>,
+    waits: Vec<bool>,
+    edges: Vec<Edge>,
+    of_sets: Vec<Vec<usize>>,
+    of_pairs: Vec<Vec<usize>>,
+    asks: Vec<bool>,
+    begun: Vec<BitRow>,
+}
+
+/// A set waits, unless it does already. An error comes only for want of memory.
+fn wake(lists: &mut Lists, n: usize) -> Result<(), AllocError>
+    ensures { lists.new.edges ≡ lists.old.edges }
 {
-    pass_on(facts, points, cells, lists, x)?;
-    if let Node::Point(p) = x.node {
-        begin_at(facts, index, bodies, points, cells, lists, p, x.site)?;
+    if n < lists.waits.len() && !lists.waits[n] {
+        lists.waits[n] = true;
+        lists.waiting.push_back(n)?;
     }
     Ok(())
 }
 
-/// Takes out what began to wait last.
-fn next(facts: &Facts, lists: &mut Lists) -> Option<Waiting>
-    requires { AreListed facts.now lists.old }
-    ensures lists { AreListed facts.now lists.new }
-    ensures waited { IfSome result (IsWaiting facts.now) }
+/// The inclusion of a number.
+fn edge_at(facts: &Facts, lists: &Lists, i: usize) -> Option<Edge>
+    requires { All (IsEdge facts.now) lists.now.edges.items }
+    ensures { IfSome result (IsEdge facts.now) }
 {
-    lists.waiting.pop()
+    let _ = facts;
+    if i < lists.edges.len() {
+        Some(lists.edges[i])
+    } else {
+        None
+    }
 }
 
-/// Turns, until nothing waits. An error comes only for want of memory.
-fn run(
+/// Whether two inclusions are one.
+fn is_same_edge(a: Edge, b: Edge) -> bool {
+    a.from == b.from && a.to == b.to && a.class == b.class
+}
+
+/// Where the inclusions from a set into another are listed.
+fn place_of(lists: &Lists, x: Edge) -> usize {
+    let count = lists.of_pairs.len();
+    if count == 0 {
+        return 0;
+    }
+    x.from.wrapping_mul(31).wrapping_add(x.to) % count
+}
+
+/// Whether an inclusion was found before.
+fn is_known(lists: &Lists, x: Edge) -> bool {
+    for i in numbers_at(&lists.of_pairs, place_of(lists, x)) {
+        if *i < lists.edges.len() && is_same_edge(lists.edges[*i], x) {
+            return true;
+        }
+    }
+    false
+}
+
+/// Notes the number of an inclusion. An error comes only for want of memory.
+fn note_edge(lists: &mut Lists, x: Edge, at: usize) -> Result<(), AllocError>
+    ensures { lists.new.edges ≡ lists.old.edges }
+{
+    let place = place_of(lists, x);
+    note(&mut lists.of_sets, x.from, at)?;
+    note(&mut lists.of_pairs, place, at)?;
+    if x.class.is_some() && x.from < lists.asks.len() {
+        lists.asks[x.from] = true;
+    }
+    Ok(())
+}
+
+/// Keeps an inclusion for what comes later. An error comes only for want of memory.
+fn keep(facts: &Facts, lists: &mut Lists, x: Edge) -> Result<(), AllocError>
+    requires edges { All (IsEdge facts.now) lists.old.edges.items }
+    requires edge { IsEdge facts.now x }
+    ensures { OnOk result (All (IsEdge facts.now) lists.new.edges.items) }
+{
+    let at = lists.edges.len();
+    lists.edges.push(x)?;
+    note_edge(lists, x, at)?;
+    Ok(())
+}
+
+/// An inclusion that was found: what is there is passed on, and it is kept. An error comes only for want of memory.
+fn take_edge(
     facts: &Facts,
-    index: &Index,
-    bodies: &Bodies,
-    points: &mut [BitRow],
-    cells: &mut [BitRow],
+    sets: &mut [BitRow],
     lists: &mut Lists,
+    x: Edge,
 ) -> Result<(), AllocError>
     requires facts { InRange facts.now }
-    requires bodies { AreBodies facts.now bodies.now }
-    requires points { ArePoints facts.now points.old }
-    requires cells { AreCells facts.now cells.old }
-    requires lists { AreListed facts.now lists.old }
-    ensures points { OnOk result (ArePoints facts.now points.new) }
-    ensures cells { OnOk result (AreCells facts.now cells.new) }
-    ensures lists { OnOk result (AreListed facts.now lists.new) }
+    requires sets { AreSound facts.now sets.old }
+    requires edges { All (IsEdge facts.now) lists.old.edges.items }
+    requires edge { IsEdge facts.now x }
+    ensures sets { OnOk result (AreSound facts.now sets.new) }
+    ensures edges { OnOk result (All (IsEdge facts.now) lists.new.edges.items) }
 {
-    for _turn in 0..u64::MAX {
-        match next(facts, lists) {
-            Some(x) => turn(facts, index, bodies, points, cells, lists, x)?,
+    if is_known(lists, x) {
+        return Ok(());
+    }
+    keep(facts, lists, x)?;
+    if pass(facts, sets, x) {
+        wake(lists, x.to)?;
+    }
+    Ok(())
+}
+
+/// Each inclusion of a list. An error comes only for want of memory.
+fn take_edges(
+    facts: &Facts,
+    sets: &mut [BitRow],
+    lists: &mut Lists,
+    list: &[Edge],
+) -> Result<(), AllocError>
+    requires facts { InRange facts.now }
+    requires sets { AreSound facts.now sets.old }
+    requires edges { All (IsEdge facts.now) lists.old.edges.items }
+    requires list { All (IsEdge facts.now) list.now }
+    ensures sets { OnOk result (AreSound facts.now sets.new) }
+    ensures edges { OnOk result (All (IsEdge facts.now) lists.new.edges.items) }
+{
+    for x in list {
+        take_edge(facts, sets, lists, *x)?;
+    }
+    Ok(())
+}
+
+/// Each site of a list. An error comes only for want of memory.
+fn take_told(
+    facts: &Facts,
+    sets: &mut [BitRow],
+    lists: &mut Lists,
+    list: &[Told],
+) -> Result<(), AllocError>
+    requires facts { InRange facts.now }
+    requires sets { AreSound facts.now sets.old }
+    requires edges { All (IsEdge facts.now) lists.old.edges.items }
+    requires list { All (IsTold facts.now) list.now }
+    ensures sets { OnOk result (AreSound facts.now sets.new) }
+    ensures edges { OnOk result (All (IsEdge facts.now) lists.new.edges.items) }
+{
+    for x in list {
+        if show(facts, sets, *x) {
+            wake(lists, x.node)?;
+        }
+    }
+    Ok(())
+}
+
+/// What was found. An error comes only for want of memory.
+fn take(
+    facts: &Facts,
+    sets: &mut [BitRow],
+    lists: &mut Lists,
+    found: &Found,
+) -> Result<(), AllocError>
+    requires facts { InRange facts.now }
+    requires sets { AreSound facts.now sets.old }
+    requires edges { All (IsEdge facts.now) lists.old.edges.items }
+    requires found { AreFound facts.now found.now }
+    ensures sets { OnOk result (AreSound facts.now sets.new) }
+    ensures edges { OnOk result (All (IsEdge facts.now) lists.new.edges.items) }
+{
+    take_edges(facts, sets, lists, &found.edges)?;
+    take_told(facts, sets, lists, &found.told)?;
+    Ok(())
+}
+
+/// Whether sites that are new in a set are gone over one by one.
+fn has_use(index: &Index, lists: &Lists, n: usize) -> bool {
+    begins_at(&index.begins, n).len() > 0 || (n < lists.asks.len() && lists.asks[n])
+}
+
+/// The sites of a point that were not gone over, where some use is made of them. From then on they were. An error comes only for want of memory.
+fn take_news(
+    alloc: Global,
+    index: &Index,
+    sets: &[BitRow],
+    lists: &mut Lists,
+    p: usize,
+) -> Result<Vec<u32>, AllocError>
+    ensures { lists.new.edges ≡ lists.old.edges }
+{
+    let mut news = Vec::new(alloc);
+    if has_use(index, lists, p) && p < lists.begun.len() && p < sets.len() {
+        let begun = &mut lists.begun[p];
+        let set = row_at(sets, p);
+        if begun.width() == set.width() {
+            list_news(set, begun, &mut news)?;
+            begun.or_into(set);
+        }
+    }
+    Ok(news)
+}
+
+/// The numbers of a set that are not in another, at the end of a list. An error comes only for want of memory.
+fn list_news(set: &BitRow, begun: &BitRow, news: &mut Vec<u32>) -> Result<(), AllocError>
+    requires { length set.now ≡ length begun.now }
+{
+    let width = set.width();
+    let mut at = 0;
+    'scan: while at < width {
+        match set.next_beyond(begun, at) {
+            Some(s) => {
+                news.push(s)?;
+                at = s + 1;
+            }
             None => return Ok(()),
         }
     }
     Ok(())
 }
 
-/// One creation into its point. An error comes only for want of memory.
-fn add_new(
-    facts: &Facts,
-    points: &mut [BitRow],
-    cells: &mut [BitRow],
-    lists: &mut Lists,
-    x: NewInfo,
-) -> Result<(), AllocError>
+/// Sites that are new in a set along an inclusion that asks for a class, and whether one is new where it ends.
+fn pass_news(facts: &Facts, sets: &mut [BitRow], edge: Edge, class: ClassId, news: &[u32]) -> bool
     requires facts { InRange facts.now }
-    requires points { ArePoints facts.now points.old }
-    requires cells { AreCells facts.now cells.old }
-    requires lists { AreListed facts.now lists.old }
-    requires creation { Contains facts.now.news.items x }
-    ensures points { OnOk result (ArePoints facts.now points.new) }
-    ensures cells { OnOk result (AreCells facts.now cells.new) }
-    ensures lists { OnOk result (AreListed facts.now lists.new) }
+    requires sets { AreSound facts.now sets.old }
+    requires edge { IsEdge facts.now edge }
+    requires class { edge.class ≡ Some class }
+    ensures { AreSound facts.now sets.new }
 {
-    add(facts, points, cells, lists, Node::Point(x.point), x.site.0)?;
-    Ok(())
+    let mut grew = false;
+    for s in news {
+        grew |= pass_site(facts, sets, edge, class, *s);
+    }
+    grew
 }
 
-/// Each creation into its point. An error comes only for want of memory.
-fn add_news(
+/// What is in a set along one of its inclusions, or where that asks for a class what is new, and whether it is new where it ends.
+fn pass_on(facts: &Facts, sets: &mut [BitRow], edge: Edge, news: &[u32]) -> bool
+    requires facts { InRange facts.now }
+    requires sets { AreSound facts.now sets.old }
+    requires edge { IsEdge facts.now edge }
+    ensures { AreSound facts.now sets.new }
+{
+    match edge.class {
+        Some(class) => pass_news(facts, sets, edge, class, news),
+        None => pass(facts, sets, edge),
+    }
+}
+
+/// The number of the inclusion that was noted at the place `k` of a set.
+fn noted_at(lists: &Lists, n: usize, k: usize) -> usize {
+    let list = numbers_at(&lists.of_sets, n);
+    if k < list.len() { list[k] } else { usize::MAX }
+}
+
+/// What is in a set along each inclusion that begins there. An error comes only for want of memory.
+fn pass_all(
     facts: &Facts,
-    points: &mut [BitRow],
-    cells: &mut [BitRow],
+    sets: &mut [BitRow],
     lists: &mut Lists,
+    n: usize,
+    news: &[u32],
 ) -> Result<(), AllocError>
     requires facts { InRange facts.now }
-    requires points { ArePoints facts.now points.old }
-    requires cells { AreCells facts.now cells.old }
-    requires lists { AreListed facts.now lists.old }
-    ensures points { OnOk result (ArePoints facts.now points.new) }
-    ensures cells { OnOk result (AreCells facts.now cells.new) }
-    ensures lists { OnOk result (AreListed facts.now lists.new) }
+    requires sets { AreSound facts.now sets.old }
+    requires edges { All (IsEdge facts.now) lists.old.edges.items }
+    ensures sets { OnOk result (AreSound facts.now sets.new) }
+    ensures edges { OnOk result (All (IsEdge facts.now) lists.new.edges.items) }
 {
-    for x in &facts.news {
-        add_new(facts, points, cells, lists, *x)?;
+    for k in 0..numbers_at(&lists.of_sets, n).len() {
+        let at = noted_at(lists, n, k);
+        if let Some(edge) = edge_at(facts, lists, at) {
+            if pass_on(facts, sets, edge, news) {
+                wake(lists, edge.to)?;
+            }
+        }
     }
     Ok(())
 }
 
-/// One flow. An error comes only for want of memory.
-fn keep_flow(facts: &Facts, lists: &mut Lists, x: FlowInfo) -> Result<(), AllocError>
+/// What sites that are new in a point begin. An error comes only for want of memory.
+fn begin_news(
+    alloc: Global,
+    facts: &Facts,
+    index: &Index,
+    bodies: &Bodies,
+    sets: &mut [BitRow],
+    lists: &mut Lists,
+    p: usize,
+    news: &[u32],
+) -> Result<(), AllocError>
     requires facts { InRange facts.now }
-    requires lists { AreListed facts.now lists.old }
-    requires flow { Contains facts.now.flows.items x }
-    ensures { OnOk result (AreListed facts.now lists.new) }
+    requires index { IsIndex facts.now index.now }
+    requires bodies { AreBodies facts.now bodies.now }
+    requires sets { AreSound facts.now sets.old }
+    requires edges { All (IsEdge facts.now) lists.old.edges.items }
+    ensures sets { OnOk result (AreSound facts.now sets.new) }
+    ensures edges { OnOk result (All (IsEdge facts.now) lists.new.edges.items) }
 {
-    let edge = Edge {
-        from: Node::Point(x.from),
-        to: Node::Point(x.to),
-        class: None,
-    };
-    keep(facts, lists, edge)?;
-    Ok(())
-}
-
-/// Each flow. An error comes only for want of memory.
-fn keep_flows(facts: &Facts, lists: &mut Lists) -> Result<(), AllocError>
-    requires facts { InRange facts.now }
-    requires lists { AreListed facts.now lists.old }
-    ensures { OnOk result (AreListed facts.now lists.new) }
-{
-    for x in &facts.flows {
-        keep_flow(facts, lists, *x)?;
+    if p < facts.points.len() && begins_at(&index.begins, p).len() > 0 {
+        let mut found = nothing(alloc);
+        begin_sites(facts, index, bodies, sets, &mut found, p as u32, news)?;
+        take(facts, sets, lists, &found)?;
     }
     Ok(())
 }
 
-/// One cast. An error comes only for want of memory.
-fn keep_cast(facts: &Facts, lists: &mut Lists, x: CastInfo) -> Result<(), AllocError>
+/// One turn: what is in a set is passed on, and what is new in a point begins what it can. An error comes only for want of memory.
+fn turn(
+    alloc: Global,
+    facts: &Facts,
+    index: &Index,
+    bodies: &Bodies,
+    sets: &mut [BitRow],
+    lists: &mut Lists,
+    n: usize,
+) -> Result<(), AllocError>
     requires facts { InRange facts.now }
-    requires lists { AreListed facts.now lists.old }
-    requires cast { Contains facts.now.casts.items x }
-    ensures { OnOk result (AreListed facts.now lists.new) }
+    requires index { IsIndex facts.now index.now }
+    requires bodies { AreBodies facts.now bodies.now }
+    requires sets { AreSound facts.now sets.old }
+    requires edges { All (IsEdge facts.now) lists.old.edges.items }
+    ensures sets { OnOk result (AreSound facts.now sets.new) }
+    ensures edges { OnOk result (All (IsEdge facts.now) lists.new.edges.items) }
 {
-    let edge = Edge {
-        from: Node::Point(x.from),
-        to: Node::Point(x.into),
-        class: Some(x.class),
-    };
-    keep(facts, lists, edge)?;
+    let news = take_news(alloc, index, sets, lists, n)?;
+    pass_all(facts, sets, lists, n, &news)?;
+    begin_news(alloc, facts, index, bodies, sets, lists, n, &news)?;
     Ok(())
 }
 
-/// Each cast. An error comes only for want of memory.
-fn keep_casts(facts: &Facts, lists: &mut Lists) -> Result<(), AllocError>
-    requires facts { InRange facts.now }
-    requires lists { AreListed facts.now lists.old }
-    ensures { OnOk result (AreListed facts.now lists.new) }
+/// Takes out the set that began to wait first.
+fn next(lists: &mut Lists) -> Option<usize>
+    ensures { lists.new.edges ≡ lists.old.edges }
 {
-    for x in &facts.casts {
-        keep_cast(facts, lists, *x)?;
+    let n = lists.waiting.pop_front()?;
+    if n < lists.waits.len() {
+        lists.waits[n] = false;
+    }
+    Some(n)
+}
+
+/// Turns, until nothing waits. An error comes only for want of memory.
+fn run(
+    alloc: Global,
+    facts: &Facts,
+    index: &Index,
+    bodies: &Bodies,
+    sets: &mut [BitRow],
+    lists: &mut Lists,
+) -> Result<(), AllocError>
+    requires facts { InRange facts.now }
+    requires index { IsIndex facts.now index.now }
+    requires bodies { AreBodies facts.now bodies.now }
+    requires sets { AreSound facts.now sets.old }
+    requires edges { All (IsEdge facts.now) lists.old.edges.items }
+    ensures { OnOk result (AreSound facts.now sets.new) }
+{
+    for _turn in 0..u64::MAX {
+        match next(lists) {
+            Some(n) => turn(alloc, facts, index, bodies, sets, lists, n)?,
+            None => return Ok(()),
+        }
     }
     Ok(())
 }
 
 /// Nothing found so far. An error comes only for want of memory.
 fn empty_lists(alloc: Global, facts: &Facts) -> Result<Lists, AllocError>
-    ensures { IfOk result (AreListed facts.now) }
+    requires { InRange facts.now }
+    ensures { IfOk result (λ x. x.edges.items ≡ []) }
 {
+    let count = facts.points.len() + facts.cells.len();
     Ok(Lists {
-        waiting: Vec::new(alloc),
+        waiting: VecDeque::new(alloc),
+        waits: vec![in alloc; false; count]?,
         edges: Vec::new(alloc),
-        of_points: empty(alloc, facts.points.len())?,
-        of_cells: empty(alloc, facts.cells.len())?,
-        ran: empty(alloc, facts.calls.len())?,
+        of_sets: empty(alloc, count)?,
+        of_pairs: empty(alloc, count)?,
+        asks: vec![in alloc; false; count]?,
+        begun: empty_rows(alloc, facts.points.len(), facts.sites.len() as u32)?,
     })
 }
 
-/// The sites of each point and cell, as far as the worklist finds them. An error comes only for want of memory.
+/// The sets, as far as the worklist finds them. An error comes only for want of memory.
 pub fn grow(
     alloc: Global,
     facts: &Facts,
     index: &Index,
     bodies: &Bodies,
-    points: &mut [BitRow],
-    cells: &mut [BitRow],
+    fixed: &Found,
+    sets: &mut [BitRow],
 ) -> Result<(), AllocError>
     requires facts { InRange facts.now }
+    requires index { IsIndex facts.now index.now }
     requires bodies { AreBodies facts.now bodies.now }
-    requires points { ArePoints facts.now points.old }
-    requires cells { AreCells facts.now cells.old }
-    ensures points { OnOk result (ArePoints facts.now points.new) }
-    ensures cells { OnOk result (AreCells facts.now cells.new) }
+    requires fixed { AreFound facts.now fixed.now }
+    requires sets { AreSound facts.now sets.old }
+    ensures { OnOk result (AreSound facts.now sets.new) }
 {
     let mut lists = empty_lists(alloc, facts)?;
-    keep_flows(facts, &mut lists)?;
-    keep_casts(facts, &mut lists)?;
-    add_news(facts, points, cells, &mut lists)?;
-    run(facts, index, bodies, points, cells, &mut lists)?;
+    take(facts, sets, &mut lists, fixed)?;
+    run(alloc, facts, index, bodies, sets, &mut lists)?;
     Ok(())
 }

@@ -8,7 +8,7 @@ ghost use Rattle.fact_model.specs.Flowing.{IsInRow};
 ghost use Rattle.points_to.specs.Sound.{ArePoints, AreCells, AreUnions};
 ghost use Rattle.points_to.specs.Closed.{PointsJoined, CellsJoined, Grow};
 
-use crate::passes::cell_at;
+use crate::index::cell_at;
 use fact_model::Facts;
 use kaba_bits::{BitRow, empty_rows, join_with, row_at};
 use std::alloc::{AllocError, Global};

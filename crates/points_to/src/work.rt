@@ -1,313 +1,155 @@
-//! What a worklist keeps, and the two ways in which it grows: a site that is new in a set waits, and an inclusion that
-//! was found stays.
+//! The inclusions that the rules ask for, and what passes along one.
 
-ghost use Rattle.std.specs.Prelude.{◌≡◌, ℕ, ◌<◌, ◌↔◌, length, IfSome, IsTrue, OnOk};
+ghost use Rattle.std.specs.Prelude.{◌≡◌, ℕ, ◌+◌, ◌<◌, ◌≤◌, ◌↔◌, true, length, Some, IsTrue, IfSome, MatchOption};
+ghost use Rattle.std.specs.Bool.{OnFalse};
+ghost use Rattle.kaba_bits.specs.Sets.{bit, row, IsSubset, IsStep, IsNoneFrom};
+ghost use Rattle.fact_model.specs.Items.{site_at, site_class};
+ghost use Rattle.fact_model.specs.Classes.{IsBelow};
 ghost use Rattle.fact_model.specs.InRange.{InRange};
-ghost use Rattle.fact_model.specs.Flowing.{Holds};
-ghost use Rattle.points_to.specs.Sound.{ArePoints, AreCells};
-ghost use Rattle.points_to.specs.Work.{in_node, IsNode, Passes, IsEdge, IsWaiting, AreListed};
+ghost use Rattle.points_to.specs.Sound.{node_count, AreSound, InNode};
+ghost use Rattle.points_to.specs.Work.{Passes, IsEdge, IsPassed, IsEdgeClosed, IsTold, IsShown};
 
-use crate::includes::{include_site, put_site};
-use crate::passes::site_at;
-use fact_model::{Facts, below};
+use fact_model::{Facts, SiteInfo, below};
 use kaba_base::ClassId;
-use kaba_bits::{BitRow, row_at};
-use std::alloc::{AllocError, Global};
+use kaba_bits::{BitRow, join, row_at, set_at};
 
-/// A point or a cell.
-#[derive(Clone, Copy, PartialEq, Eq)]
-pub enum Node {
-    Point(u32),
-    Cell(u32),
-}
-
-/// What is in the one set, and has a class at or below the one named, is in the other.
+/// What is in the one set, and has a class at or below the one named, is in the other. Sets are numbered: first those
+/// of the points, and then those of the cells.
 #[derive(Clone, Copy)]
 pub struct Edge {
-    pub from: Node,
-    pub to: Node,
+    pub from: usize,
+    pub to: usize,
     pub class: Option<ClassId>,
 }
 
-/// A site that is new in a set, and was not passed on yet.
+/// A site that is in a set.
 #[derive(Clone, Copy)]
-pub struct Waiting {
-    pub node: Node,
+pub struct Told {
+    pub node: usize,
     pub site: u32,
 }
 
-/// The sites that wait, the inclusions found, and for each point and cell the numbers of those that begin there.
-#[derive(Drop)]
-pub struct Lists {
-    pub waiting: Vec<Waiting>,
-    pub edges: Vec<Edge>,
-    pub of_points: Vec<Vec<usize>>,
-    pub of_cells: Vec<Vec<usize>>,
-    /// For each call the numbers of the bodies that it was found to run.
-    pub ran: Vec<Vec<usize>>,
-}
-
-/// Whether two are one.
-pub fn is_same_node(a: Node, b: Node) -> bool
-    ensures { IsTrue result ↔ (a ≡ b) }
+/// One site.
+pub fn site_at(facts: &Facts, s: u32) -> SiteInfo
+    requires { s < length facts.now.sites.items }
+    ensures { result ≡ site_at facts.now s }
 {
-    a == b
+    facts.sites[s as usize]
 }
 
-/// One site into a point or a cell.
-fn show(facts: &Facts, points: &mut [BitRow], cells: &mut [BitRow], to: Node, s: u32) -> bool
-    requires points { ArePoints facts.now points.old }
-    requires cells { AreCells facts.now cells.old }
-    requires to { IsNode facts.now to }
-    requires site { s < length facts.now.sites.items }
-    requires holds { Holds facts.now (in_node to s) }
-    ensures points { ArePoints facts.now points.new }
-    ensures cells { AreCells facts.now cells.new }
-{
-    match to {
-        Node::Point(p) => include_site(facts, points, p, s),
-        Node::Cell(c) => put_site(facts, cells, c as usize, s),
-    }
-}
-
-/// One site into a point or a cell; where it is new there it waits. An error comes only for want of memory.
-pub fn add(
-    facts: &Facts,
-    points: &mut [BitRow],
-    cells: &mut [BitRow],
-    lists: &mut Lists,
-    to: Node,
-    s: u32,
-) -> Result<(), AllocError>
-    requires points { ArePoints facts.now points.old }
-    requires cells { AreCells facts.now cells.old }
-    requires lists { AreListed facts.now lists.old }
-    requires to { IsNode facts.now to }
-    requires site { s < length facts.now.sites.items }
-    requires holds { Holds facts.now (in_node to s) }
-    ensures points { ArePoints facts.now points.new }
-    ensures cells { AreCells facts.now cells.new }
-    ensures lists { OnOk result (AreListed facts.now lists.new) }
-{
-    if show(facts, points, cells, to, s) {
-        lists.waiting.push(Waiting { node: to, site: s })?;
-    }
-    Ok(())
-}
-
-/// Whether a site passes an inclusion.
-fn passes_edge(facts: &Facts, class: Option<ClassId>, s: u32) -> bool
+/// Whether a site is in a set, and its class is at or below another.
+fn passes(facts: &Facts, set: &BitRow, s: u32, class: ClassId) -> bool
     requires facts { InRange facts.now }
-    requires site { s < length facts.now.sites.items }
-    ensures { IsTrue result → Passes facts.now class s }
+    requires width { length set.now ≡ length facts.now.sites.items }
+    ensures { IsTrue result ↔ ((bit set.now s ≡ true) × IsBelow facts.now (site_class facts.now s) class.0) }
 {
-    match class {
-        Some(class) => below(facts, site_at(facts, s).class, class),
-        None => true,
+    if (s as usize) >= facts.sites.len() || !set.has(s) {
+        return false;
     }
+    below(facts, site_at(facts, s).class, class)
 }
 
-/// One site along an inclusion. An error comes only for want of memory.
-pub fn pass(
-    facts: &Facts,
-    points: &mut [BitRow],
-    cells: &mut [BitRow],
-    lists: &mut Lists,
-    edge: Edge,
-    s: u32,
-) -> Result<(), AllocError>
+/// One site into a set, and whether it is new there.
+fn put(facts: &Facts, sets: &mut [BitRow], n: usize, s: u32) -> bool
+    requires sets { AreSound facts.now sets.old }
+    requires node { n < node_count facts.now }
+    requires site { s < length facts.now.sites.items }
+    requires holds { InNode facts.now n s }
+    ensures sets { AreSound facts.now sets.new }
+    ensures step { IsStep sets.old sets.new result }
+    ensures has { bit (row sets.new n) s ≡ true }
+{
+    set_at(sets, n, s)
+}
+
+/// One set into another, and whether that grew.
+fn include(facts: &Facts, sets: &mut [BitRow], from: usize, to: usize) -> bool
+    requires sets { AreSound facts.now sets.old }
+    requires from { from < node_count facts.now }
+    requires to { to < node_count facts.now }
+    requires flows { (s : ℕ) → InNode facts.now from s → InNode facts.now to s }
+    ensures sets { AreSound facts.now sets.new }
+    ensures step { IsStep sets.old sets.new result }
+    ensures closed { OnFalse result (IsSubset (row sets.new from) (row sets.new to)) }
+{
+    join(sets, from, to)
+}
+
+/// The least site of a set from one on.
+fn next_site(facts: &Facts, sets: &[BitRow], n: usize, at: u32) -> Option<u32>
+    requires sets { AreSound facts.now sets.now }
+    requires node { n < node_count facts.now }
+    ensures low { IfSome result (λ s. at ≤ s) }
+    ensures site { IfSome result (λ s. s < length facts.now.sites.items) }
+    ensures least { MatchOption result (IsNoneFrom (bit (row sets.now n)) at (length facts.now.sites.items)) (λ s. IsNoneFrom (bit (row sets.now n)) at s) }
+{
+    let _ = facts;
+    row_at(sets, n).next(at)
+}
+
+/// One site along an inclusion that asks for a class.
+pub fn pass_site(facts: &Facts, sets: &mut [BitRow], edge: Edge, class: ClassId, s: u32) -> bool
     requires facts { InRange facts.now }
-    requires points { ArePoints facts.now points.old }
-    requires cells { AreCells facts.now cells.old }
-    requires lists { AreListed facts.now lists.old }
+    requires sets { AreSound facts.now sets.old }
     requires edge { IsEdge facts.now edge }
-    requires site { s < length facts.now.sites.items }
-    requires holds { Holds facts.now (in_node edge.from s) }
-    ensures points { ArePoints facts.now points.new }
-    ensures cells { AreCells facts.now cells.new }
-    ensures lists { OnOk result (AreListed facts.now lists.new) }
+    requires class { edge.class ≡ Some class }
+    ensures sets { AreSound facts.now sets.new }
+    ensures step { IsStep sets.old sets.new result }
+    ensures closed { OnFalse result (IsPassed facts.now edge sets.new s) }
 {
-    if passes_edge(facts, edge.class, s) {
-        add(facts, points, cells, lists, edge.to, s)?;
+    if !passes(facts, row_at(sets, edge.from), s, class) {
+        return false;
     }
-    Ok(())
+    put(facts, sets, edge.to, s)
 }
 
-/// Whether a site is in a point or a cell.
-fn has(facts: &Facts, points: &[BitRow], cells: &[BitRow], node: Node, s: u32) -> bool
-    requires points { ArePoints facts.now points.now }
-    requires cells { AreCells facts.now cells.now }
-    requires node { IsNode facts.now node }
-    requires site { s < length facts.now.sites.items }
-    ensures { IsTrue result → Holds facts.now (in_node node s) }
-{
-    match node {
-        Node::Point(p) => row_at(points, p as usize).has(s),
-        Node::Cell(c) => row_at(cells, c as usize).has(s),
-    }
-}
-
-/// What is in the set so far along an inclusion. An error comes only for want of memory.
-fn pass_all(
-    facts: &Facts,
-    points: &mut [BitRow],
-    cells: &mut [BitRow],
-    lists: &mut Lists,
-    edge: Edge,
-) -> Result<(), AllocError>
+/// Each site of a set along an inclusion that asks for a class.
+fn pass_fitting(facts: &Facts, sets: &mut [BitRow], edge: Edge, class: ClassId) -> bool
     requires facts { InRange facts.now }
-    requires points { ArePoints facts.now points.old }
-    requires cells { AreCells facts.now cells.old }
-    requires lists { AreListed facts.now lists.old }
+    requires sets { AreSound facts.now sets.old }
     requires edge { IsEdge facts.now edge }
-    ensures points { OnOk result (ArePoints facts.now points.new) }
-    ensures cells { OnOk result (AreCells facts.now cells.new) }
-    ensures lists { OnOk result (AreListed facts.now lists.new) }
+    requires class { edge.class ≡ Some class }
+    ensures sets { AreSound facts.now sets.new }
+    ensures step { IsStep sets.old sets.new result }
+    ensures closed { OnFalse result (IsEdgeClosed facts.now sets.new edge) }
 {
-    for s in 0..facts.sites.len() as u32 {
-        if has(facts, points, cells, edge.from, s) {
-            pass(facts, points, cells, lists, edge, s)?;
+    let width = facts.sites.len() as u32;
+    let mut grew = false;
+    let mut at = 0;
+    'scan: while at < width {
+        match next_site(facts, sets, edge.from, at) {
+            Some(s) => {
+                grew |= pass_site(facts, sets, edge, class, s);
+                at = s + 1;
+            }
+            None => return grew,
         }
     }
-    Ok(())
+    grew
 }
 
-/// Notes the number of an inclusion at a point or a cell. An error comes only for want of memory.
-pub fn note(lists: &mut [Vec<usize>], k: usize, at: usize) -> Result<(), AllocError> {
-    if k < lists.len() {
-        let list = &mut lists[k];
-        list.push(at)?;
-    }
-    Ok(())
-}
-
-/// Notes the number of an inclusion where it begins. An error comes only for want of memory.
-fn note_edge(lists: &mut Lists, from: Node, at: usize) -> Result<(), AllocError>
-    ensures waiting { lists.new.waiting ≡ lists.old.waiting }
-    ensures edges { lists.new.edges ≡ lists.old.edges }
-{
-    match from {
-        Node::Point(p) => note(&mut lists.of_points, p as usize, at),
-        Node::Cell(c) => note(&mut lists.of_cells, c as usize, at),
-    }
-}
-
-/// An inclusion, kept for what comes later. An error comes only for want of memory.
-pub fn keep(facts: &Facts, lists: &mut Lists, edge: Edge) -> Result<(), AllocError>
-    requires lists { AreListed facts.now lists.old }
-    requires edge { IsEdge facts.now edge }
-    ensures { OnOk result (AreListed facts.now lists.new) }
-{
-    let at = lists.edges.len();
-    lists.edges.push(edge)?;
-    note_edge(lists, edge.from, at)?;
-    Ok(())
-}
-
-/// Whether a number is in a list.
-pub fn is_noted(list: &[usize], n: usize) -> bool {
-    for x in list {
-        if *x == n {
-            return true;
-        }
-    }
-    false
-}
-
-/// Notes that a call runs a body. An error comes only for want of memory.
-pub fn note_run(lists: &mut Lists, call: usize, body: usize) -> Result<(), AllocError>
-    ensures waiting { lists.new.waiting ≡ lists.old.waiting }
-    ensures edges { lists.new.edges ≡ lists.old.edges }
-{
-    note(&mut lists.ran, call, body)
-}
-
-/// An inclusion that was found: what is there is passed on, and it is kept. An error comes only for want of memory.
-pub fn link(
-    facts: &Facts,
-    points: &mut [BitRow],
-    cells: &mut [BitRow],
-    lists: &mut Lists,
-    edge: Edge,
-) -> Result<(), AllocError>
+/// What is in the set so far along an inclusion, and whether it is new there.
+pub fn pass(facts: &Facts, sets: &mut [BitRow], edge: Edge) -> bool
     requires facts { InRange facts.now }
-    requires points { ArePoints facts.now points.old }
-    requires cells { AreCells facts.now cells.old }
-    requires lists { AreListed facts.now lists.old }
+    requires sets { AreSound facts.now sets.old }
     requires edge { IsEdge facts.now edge }
-    ensures points { OnOk result (ArePoints facts.now points.new) }
-    ensures cells { OnOk result (AreCells facts.now cells.new) }
-    ensures lists { OnOk result (AreListed facts.now lists.new) }
+    ensures sets { AreSound facts.now sets.new }
+    ensures step { IsStep sets.old sets.new result }
+    ensures closed { OnFalse result (IsEdgeClosed facts.now sets.new edge) }
 {
-    keep(facts, lists, edge)?;
-    pass_all(facts, points, cells, lists, edge)?;
-    Ok(())
-}
-
-/// How many inclusions begin at a point or a cell.
-fn count_at(lists: &Lists, node: Node) -> usize {
-    match node {
-        Node::Point(p) => list_at(&lists.of_points, p as usize).len(),
-        Node::Cell(c) => list_at(&lists.of_cells, c as usize).len(),
+    match edge.class {
+        Some(class) => pass_fitting(facts, sets, edge, class),
+        None => include(facts, sets, edge.from, edge.to),
     }
 }
 
-/// A list of lists at a place; past its end the empty one.
-pub fn list_at(lists: &[Vec<usize>], k: usize) -> &[usize] {
-    if k < lists.len() { &lists[k] } else { &[] }
-}
-
-/// A number of a list.
-fn number_at(list: &[usize], k: usize) -> Option<usize> {
-    if k < list.len() { Some(list[k]) } else { None }
-}
-
-/// The number of the inclusion that was noted at the place `k` of a point or a cell.
-fn noted_at(lists: &Lists, node: Node, k: usize) -> Option<usize> {
-    match node {
-        Node::Point(p) => number_at(list_at(&lists.of_points, p as usize), k),
-        Node::Cell(c) => number_at(list_at(&lists.of_cells, c as usize), k),
-    }
-}
-
-/// The inclusion that was noted at the place `k` of a point or a cell.
-fn edge_at(facts: &Facts, lists: &Lists, node: Node, k: usize) -> Option<Edge>
-    requires { AreListed facts.now lists.now }
-    ensures { IfSome result (λ e. IsEdge facts.now e × (e.from ≡ node)) }
+/// One site into its set, and whether it is new there.
+pub fn show(facts: &Facts, sets: &mut [BitRow], x: Told) -> bool
+    requires sets { AreSound facts.now sets.old }
+    requires told { IsTold facts.now x }
+    ensures sets { AreSound facts.now sets.new }
+    ensures step { IsStep sets.old sets.new result }
+    ensures shown { OnFalse result (IsShown sets.new x) }
 {
-    let at = noted_at(lists, node, k)?;
-    if at >= lists.edges.len() {
-        return None;
-    }
-    let edge = lists.edges[at];
-    if is_same_node(edge.from, node) {
-        Some(edge)
-    } else {
-        None
-    }
-}
-
-/// What waited, along each inclusion that begins there. An error comes only for want of memory.
-pub fn pass_on(
-    facts: &Facts,
-    points: &mut [BitRow],
-    cells: &mut [BitRow],
-    lists: &mut Lists,
-    x: Waiting,
-) -> Result<(), AllocError>
-    requires facts { InRange facts.now }
-    requires points { ArePoints facts.now points.old }
-    requires cells { AreCells facts.now cells.old }
-    requires lists { AreListed facts.now lists.old }
-    requires waited { IsWaiting facts.now x }
-    ensures points { OnOk result (ArePoints facts.now points.new) }
-    ensures cells { OnOk result (AreCells facts.now cells.new) }
-    ensures lists { OnOk result (AreListed facts.now lists.new) }
-{
-    for k in 0..count_at(lists, x.node) {
-        if let Some(edge) = edge_at(facts, lists, x.node, k) {
-            pass(facts, points, cells, lists, edge, x.site)?;
-        }
-    }
-    Ok(())
+    put(facts, sets, x.node, x.site)
 }

@@ -1,13 +1,13 @@
 use Rattle.std.proofs.Common.{◌≡◌, ◌*◌, length, arith, ap, ◌∙◌, sym}
-use Rattle.points_to.proofs.SolveLemmas.{total-le}
+use Rattle.kaba_bits.proofs.RowLemmas.{total-le}
 use Rattle.points_to.proofs.run_rounds.Goals as goal
 
-pub loop-smaller : goal.loop-smaller
-loop-smaller c =
+pub loop-more-smaller : goal.loop-more-smaller
+loop-more-smaller c =
     let sites = length c.args.facts.now.sites.items in
-    let grew = c.if-not-round.ensures.grew in
-    let p = total-le sites c.round.new.points c.round.ensures.points.widths in
-    let q = total-le sites c.round.new.cells c.round.ensures.cells.widths in
-    let lp : length c.round.new.points * sites ≡ length c.loop.points * sites = ap (λ n. n * sites) (c.round.ensures.points.len ∙ sym c.loop.invariant.points.len) in
-    let lc : length c.round.new.cells * sites ≡ length c.loop.cells * sites = ap (λ n. n * sites) (c.round.ensures.cells.len ∙ sym c.loop.invariant.cells.len) in
-    omega (arith, grew, p, q, lp, lc)
+    let step = c.in_ok-more.ensures in
+    let grew = rw c.if-not-more.false at step.step in
+    let new = c.close_all.new.sets in
+    let bound = total-le sites new step.sets.widths in
+    let len : length new * sites ≡ length c.loop-more.sets * sites = ap (λ n. n * sites) (step.sets.len ∙ sym c.loop-more.invariant.len) in
+    omega (arith, grew, bound, len)

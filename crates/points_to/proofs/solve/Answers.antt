@@ -1,20 +1,30 @@
-use Rattle.std.proofs.Common.{arith}
-use Rattle.std.specs.Vec.{with_items}
-use Rattle.std.proofs.lemmas.List.{with_items_is}
+use Rattle.std.proofs.Common.{◌≡◌, length, take, drop, arith}
 use Rattle.fact_model.specs.declared.sets.PointsTo.{PointsTo}
-use Rattle.points_to.proofs.SolveLemmas.{solved}
+use Rattle.points_to.proofs.SolveLemmas.{points_are, cells_are, points_all, cells_all, are_sets}
 use Rattle.points_to.proofs.solve.Goals as goal
 
 pub returns : goal.returns
 returns c =
-    let p = with_items_is c.in_ok-points.points c.fill.new.points (omega arith) in
-    let q = with_items_is c.in_ok-cells.cells c.fill.new.cells (omega arith) in
-    let t : PointsTo = record {
-      points = with_items c.in_ok-points.points c.fill.new.points;
-      cells = with_items c.in_ok-cells.cells c.fill.new.cells;
-      rows = c.in_ok-rows.rows;
-    } in
+    let F = c.args.facts.now in
+    let all = c.in_ok-points.points.items in
+    let points = c.split_off.new.self in
+    let cells = c.in_ok-cells.cells in
+    let a = c.in_ok-points.ensures in
+    let first = rw c.point_count.ensures at c.in_ok-cells.ensures.items in
+    let rest = rw c.point_count.ensures at c.in_ok-cells.ensures.tail in
+    let t : PointsTo = record { points = points; cells = cells; rows = c.in_ok-rows.rows } in
     record {
-      sets = solved c.args.facts.now t (rw p c.in_ok-fill.ensures.points) (rw q c.in_ok-fill.ensures.cells) (rw (p, q) c.in_ok-fill.ensures.closed)
+      sets = are_sets F t (points_are F all points.items cells.items a first rest) (cells_are F all points.items cells.items a first rest)
+          (points_all F all points.items cells.items a first rest) (cells_all F all points.items cells.items a first rest)
           c.in_ok-rows.ensures.unions (rw c.deref.ensures.value at c.in_ok-rows.ensures.points) (rw c.deref-2.ensures.value at c.in_ok-rows.ensures.cells);
     }
+
+pub unions-requires-clause-points : goal.unions-requires-clause-points
+unions-requires-clause-points c =
+    let e = c.in_ok-cells.ensures in
+    rw c.deref.ensures.value (points_are c.args.facts.now c.in_ok-points.points.items _ c.in_ok-cells.cells.items c.in_ok-points.ensures (rw c.point_count.ensures at e.items) (rw c.point_count.ensures at e.tail))
+
+pub unions-requires-clause-cells : goal.unions-requires-clause-cells
+unions-requires-clause-cells c =
+    let e = c.in_ok-cells.ensures in
+    rw c.deref-2.ensures.value (cells_are c.args.facts.now c.in_ok-points.points.items _ c.in_ok-cells.cells.items c.in_ok-points.ensures (rw c.point_count.ensures at e.items) (rw c.point_count.ensures at e.tail))

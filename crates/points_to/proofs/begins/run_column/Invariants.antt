@@ -1,10 +1,12 @@
-use Rattle.points_to.specs.Sound.{ArePoints, AreCells}
-use Rattle.points_to.specs.Work.{AreListed}
+use Rattle.std.proofs.Common.{Contains}
+use Rattle.std.specs.List.{AllWithin}
+use Rattle.points_to.specs.Work.{AreFound, IsMore}
+use Rattle.points_to.specs.Begun.{IsRunAt}
 use Rattle.points_to.proofs.begins.run_column.Given as goal
 
 abbrev pub invariant-loop-b : goal.invariant-loop-b
 invariant-loop-b l = record {
-  points : ArePoints l.facts l.points;
-  cells : AreCells l.facts l.cells;
-  lists : AreListed l.facts l.lists;
+  found : AreFound l.facts l.found;
+  kept : IsMore l.fn.found l.found;
+  run : AllWithin (IsRunAt l.facts (Contains l.found.edges.items) (Contains l.found.told.items) l.call l.o l.d.0) l.list 0 l.b-index;
 }

@@ -1,10 +1,10 @@
-use Rattle.points_to.specs.Sound.{ArePoints, AreCells}
-use Rattle.points_to.specs.Work.{AreListed}
+use Rattle.std.specs.List.{All}
+use Rattle.points_to.specs.Sound.{AreSound}
+use Rattle.points_to.specs.Work.{IsEdge}
 use Rattle.points_to.proofs.turns.run.Given as goal
 
 abbrev pub invariant-loop-turn : goal.invariant-loop-turn
 invariant-loop-turn l = record {
-  points : ArePoints l.facts l.points;
-  cells : AreCells l.facts l.cells;
-  lists : AreListed l.facts l.lists;
+  sets : AreSound l.facts l.sets;
+  edges : All (IsEdge l.facts) l.lists.edges.items;
 }

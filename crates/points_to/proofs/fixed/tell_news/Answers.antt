@@ -1,0 +1,22 @@
+use Rattle.std.proofs.Common.{◌<◌, length, Contains, arith}
+use Rattle.std.proofs.lemmas.Grind.{common_steps}
+use Rattle.fact_model.specs.declared.facts.NewInfo.{NewInfo}
+use Rattle.points_to.specs.Closed.{IsNewAsked}
+use Rattle.points_to.proofs.LoopLemmas.{within_more, more_then}
+use Rattle.points_to.proofs.fixed.tell_news.Goals as goal
+
+pub loop-x-preserved : goal.loop-x-preserved
+loop-x-preserved c =
+    let xs = c.args.facts.now.news.items in
+    let k = c.loop-x.x-index in
+    let old = c.loop-x.found in
+    let new = c.tell_new.new.found in
+    let step = c.in_ok-tell_new.ensures in
+    let lt : k < length xs = grind (arith, common_steps) in
+    let none : NewInfo = record { point = 0; site = record { 0 = 0 } } in
+    let here = rw c.deref-x-items.ensures.value at step.here in
+    record {
+      found = step.found;
+      kept = more_then c.args.found.now old new c.loop-x.invariant.kept step.kept;
+      here = within_more (IsNewAsked (Contains old.told.items)) (IsNewAsked (Contains new.told.items)) xs k none lt (λ x h. step.kept.told _ h) c.loop-x.invariant.here here;
+    }

@@ -1,0 +1,15 @@
+use Rattle.std.proofs.Common.{◌∷◌, []}
+use Rattle.std.proofs.lemmas.List.Elements.{All-push, Contains-push, Contains-append_left}
+use Rattle.points_to.specs.Work.{IsTold}
+use Rattle.points_to.proofs.found.tell.Goals as goal
+
+pub returns : goal.returns
+returns c =
+    let xs = c.args.found.now.told.items in
+    let x = c.args.x in
+    let e = c.in_ok-push.ensures.items in
+    record {
+      found = record { edges = c.requires.found.edges; told = rw e (All-push (IsTold c.args.facts.now) xs x c.requires.found.told c.requires.told) };
+      kept = record { edges = λ y h. h; told = λ y h. rw e (Contains-append_left xs (x ∷ []) y h) };
+      here = rw e (Contains-push xs x);
+    }
