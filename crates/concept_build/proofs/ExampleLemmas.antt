@@ -1,9 +1,9 @@
 -- One row of each set of columns.
-use Rattle.std.proofs.Common.{◌≡◌, ⊎_elim, ℕ, ◌+◌, ◌<◌, Bool, List, [], ◌∷◌, ◌++◌, length, map, get_or, refl, sym, ap, ◌∙◌, arith, All}
+use Rattle.std.proofs.Common.{◌≡◌, ⊎_elim, ℕ, ◌+◌, ◌<◌, ◌≤◌, Bool, List, [], ◌∷◌, ◌++◌, length, map, get_or, refl, sym, ap, ◌∙◌, arith, All}
 use Rattle.std.specs.Prelude.{Contains}
 use Rattle.std.specs.List.Sorted.{IsPermutation}
 use Rattle.std.proofs.lemmas.Bool.{cases_lt}
-use Rattle.std.proofs.lemmas.List.{map-append, get_or-map, length-map}
+use Rattle.std.proofs.lemmas.List.{map-append, get_or-map, length-map, length_push}
 use Rattle.std.proofs.lemmas.List.Elements.{All-push, Contains-push, Contains-append_left, Contains-get_or}
 use Rattle.std.proofs.lemmas.List.Sorted.{All-permutation, Contains-permutation}
 use Rattle.kaba_bits.specs.Sets.{row, rising, HasWidth}
@@ -17,12 +17,14 @@ module _ (T : List (List Bool)) where
   -- what holds after the first n rows
   pub record Listed (n : ℕ) (xs : List ℕ) (keys : List (List ℕ)) : Type 0 where
     pub listed : keys ≡ map columns_at xs
+    pub few : length xs ≤ n
     pub below : All (λ q. q < length T) xs
     pub each : (r : ℕ) → r < n → (q : ℕ) × Contains xs q × (row T q ≡ row T r)
 
   pub Listed-empty : Listed 0 [] []
   Listed-empty = record {
     listed = refl;
+    few = omega arith;
     below = λ k d lt. absurd (omega (arith, lt));
     each = λ r lt. absurd (omega (arith, lt));
   }
@@ -31,6 +33,7 @@ module _ (T : List (List Bool)) where
     pub Listed-push : new ≡ keys ++ columns_at n ∷ [] → Listed (n + 1) (xs ++ n ∷ []) new
     Listed-push e = record {
       listed = e ∙ (ap (λ l. l ++ columns_at n ∷ []) s.listed ∙ sym (map-append columns_at xs (n ∷ [])));
+      few = omega (arith, length_push xs n, s.few);
       below = All-push (λ q. q < length T) xs n s.below lt;
       each = λ r rlt.
           ⊎_elim
@@ -42,6 +45,7 @@ module _ (T : List (List Bool)) where
     pub Listed-skip : (w : ℕ) → HasWidth w T → new ≡ keys → Contains keys (columns_at n) → Listed (n + 1) xs new
     Listed-skip w widths e c = record {
       listed = e ∙ s.listed;
+      few = omega (arith, s.few);
       below = s.below;
       each = λ r rlt.
           ⊎_elim

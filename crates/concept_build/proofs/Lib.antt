@@ -10,3 +10,4 @@ pub mod SortLemmas
 pub mod NearLemmas
 pub mod StandLemmas
 pub mod ExampleLemmas
+pub mod ColumnLemmas

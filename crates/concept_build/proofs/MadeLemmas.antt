@@ -1,8 +1,9 @@
 use Rattle.std.proofs.Common.{◌≡◌, ℕ, suc, zero, ◌<◌, Bool, true, false, ◌&&◌, List, [], ◌∷◌, length, refl, sym, ap, ◌∙◌}
 use Rattle.std.proofs.lemmas.Bool.{and_parts, and_from}
 use Rattle.kaba_bits.specs.Sets.{bit, row, IsSubset}
+use Rattle.kaba_bits.proofs.SetLemmas.{same_bits}
 use Rattle.fact_model.specs.Concepts.{IsExtent, IsConcept}
-use Rattle.concept_build.specs.Tables.{IsMeet, IsClosed}
+use Rattle.concept_build.specs.Tables.{IsMeet, IsClosed, IsFull}
 
 pub meet-left : (B C R : List Bool) → IsMeet B C R → IsSubset B C
 meet-left B C R m = λ i h. (and_parts (bit C i) (bit R i) (sym (m.bits i) ∙ h)).0
@@ -39,6 +40,9 @@ same_Bool true b f g = sym (f refl)
 same_Bool false true f g = g refl
 same_Bool false false f g = refl
 
+pub IsMeet-same : (M N B R : List Bool) → IsMeet M B R → IsMeet N B R → M ≡ N
+IsMeet-same M N B R m n = same_bits M N (m.len ∙ sym n.len) (λ i lt. m.bits i ∙ sym (n.bits i))
+
 abbrev pub meet : List Bool → List Bool → List Bool
 meet [] ys = []
 meet (x ∷ xs) [] = false ∷ meet xs []
@@ -62,3 +66,7 @@ bit-meet (x ∷ xs) (y ∷ ys) (suc i) = bit-meet xs ys i
 
 pub IsMeet-meet : (xs ys : List Bool) → IsMeet (meet xs ys) xs ys
 IsMeet-meet xs ys = record { len = length-meet xs ys; bits = bit-meet xs ys }
+
+-- the concept of all columns
+pub full-concept : (T : List (List Bool)) (w : ℕ) (A B : List Bool) → IsExtent T A B → IsFull w B → IsConcept T w A B
+full-concept T w A B e full = concept-closed T w A B e (record { len = full.len; columns = λ c lt h. full.bits c lt })

@@ -1,7 +1,8 @@
 -- What stands at a concept, seen by sizes.
-use Rattle.std.proofs.Common.{◌≡◌, ◌↔◌, ℕ, suc, zero, ◌+◌, ◌<◌, Bool, true, false, List, [], ◌∷◌, length, refl, sym, ap, ◌∙◌, subst, arith}
+use Rattle.std.proofs.Common.{◌≡◌, ◌↔◌, ℕ, suc, zero, ◌+◌, ◌<◌, ◌≤◌, Bool, true, false, List, [], ◌∷◌, length, refl, sym, ap, ◌∙◌, subst, arith}
+use Rattle.std.proofs.lemmas.Bool.{false≢true}
 use Rattle.std.proofs.lemmas.List.{get_or-map, length-map}
-use Rattle.kaba_bits.specs.Sets.{bit, row, size, rising_from, rising, IsSubset}
+use Rattle.kaba_bits.specs.Sets.{bit, row, size, rising_from, rising, IsSubset, IsNoneFrom}
 use Rattle.kaba_bits.proofs.SetLemmas.{bit-below, same_bits, size-true, size-false, subset-same, subset-both}
 use Rattle.fact_model.specs.Concepts.{IsConcept, RowStands, ColumnStands}
 use Rattle.concept_build.specs.Tables.{column}
@@ -67,3 +68,12 @@ module _ (T : List (List Bool)) (w : ℕ) (A B : List Bool) (o : IsConcept T w A
             ap size (sym e),
           ),
     )
+
+-- a row that an extent lacks does not stand at its concept, and a column that an intent lacks does not either
+module _ (T : List (List Bool)) (w : ℕ) (A B : List Bool) (o : IsConcept T w A B) where
+  pub none_rows : (m n : ℕ) → n ≤ length T → IsNoneFrom (bit A) m n → (r : ℕ) → m ≤ r → r < n → RowStands T B r → ⊥
+  none_rows m n le none r low high s = false≢true (sym (none r low high) ∙ (o.extent.rows r (omega (arith, high, le))).1 s.1)
+
+  pub none_columns : (m n : ℕ) → n ≤ w → IsNoneFrom (bit B) m n → (c : ℕ) → m ≤ c → c < n → ColumnStands T A c → ⊥
+  none_columns m n le none c low high s =
+      false≢true (sym (none c low high) ∙ ((column_stands-is T w A B o c (omega (arith, high, le))).1 s).0)

@@ -1,6 +1,7 @@
 -- Intersections of rows of a table, and what is counted of its rows and columns.
-use Rattle.std.specs.Prelude.{◌≡◌, ℕ, ◌<◌, Bool, true, false, List, ◌&&◌, length, map, slice_index_or, All, Contains}
-use Rattle.kaba_bits.specs.Sets.{bit, row, size, IsSubset}
+use Rattle.std.specs.Prelude.{◌≡◌, ℕ, ◌<◌, ◌^◌, ◌↔◌, Bool, true, false, List, ◌&&◌, length, map, slice_index_or, All, Contains}
+use Rattle.kaba_bits.specs.Sets.{bit, row, size, IsSubset, HasWidth}
+use Rattle.concept_build.specs.declared.columns.Columns.{Columns}
 use Rattle.concept_build.specs.declared.counts.Counts.{Counts}
 
 -- all numbers below w
@@ -27,12 +28,31 @@ pub record AreExamples (T : List (List Bool)) (xs : List ℕ) : Type 0 where
   pub below : All (λ q. q < length T) xs
   pub each : (r : ℕ) → r < length T → (q : ℕ) × Contains xs q × (row T q ≡ row T r)
 
--- how many columns each row has, how many rows each column, and examples of the rows
+-- the rows of a table with the numbers of a list
+abbrev pub listed_rows : List (List Bool) → List ℕ → List (List Bool)
+listed_rows T xs = map (row T) xs
+
+-- for each column the set of the places in a list of rows that have it, and the set of all places
+pub record AreColumns (R : List (List Bool)) (w : ℕ) (cs : Columns) : Type 0 where
+  pub small : length R < 2 ^ 32
+  pub len : length cs.sets.items ≡ w
+  pub widths : HasWidth (length R) cs.sets.items
+  pub bits : (c p : ℕ) → bit (row cs.sets.items c) p ≡ bit (row R p) c
+  pub all : IsFull (length R) cs.all
+
+-- exactly the places that have all columns of B
+pub record HaveAll (cs : Columns) (A B : List Bool) : Type 0 where
+  pub len : length A ≡ length cs.all
+  pub places : (p : ℕ) → ((bit A p ≡ true) ↔ ((bit cs.all p ≡ true) × ((c : ℕ) → bit B c ≡ true → bit (row cs.sets.items c) p ≡ true)))
+
+-- how many columns each row has, the rows of each column and how many they are, and examples of the rows with their columns
 pub record IsCounted (T : List (List Bool)) (w : ℕ) (c : Counts) : Type 0 where
   pub rows : c.rows.items ≡ map size T
   pub len : length c.columns.items ≡ w
   pub columns : (k d : ℕ) → k < w → slice_index_or c.columns.items k d ≡ size (column T k)
+  pub extents : AreColumns T w c.extents
   pub examples : AreExamples T c.examples.items
+  pub shares : AreColumns (listed_rows T c.examples.items) w c.shares
 
 -- a row has no more columns of B than another
 abbrev pub IsNoMore : List Bool → List Bool → List Bool → Type 0
@@ -51,7 +71,3 @@ pub record AreNear (T : List (List Bool)) (A B : List Bool) (near : List ℕ) : 
 -- each column of B that the row R lacks is in a list
 abbrev pub IsMissed : List Bool → List Bool → List ℕ → Type 0
 IsMissed B R xs = (c : ℕ) → bit B c ≡ true → bit R c ≡ false → Contains xs c
-
--- a row has no column of a list
-abbrev pub LacksAll : List Bool → List ℕ → Type 0
-LacksAll R xs = All (λ c. bit R c ≡ false) xs

@@ -1,23 +1,27 @@
-//! What is counted of a table once: how many columns each row has, how many rows each column, and one row
-//! of each set of columns.
+//! What is told of a table once: how many columns each row has, the rows of each column and how many they are,
+//! and one row of each set of columns, with the columns of those.
 
-ghost use Rattle.std.specs.Prelude.{◌≡◌, ℕ, ◌<◌, ◌^◌, length, map, IfOk, slice_index_or};
+ghost use Rattle.std.specs.Prelude.{◌≡◌, ℕ, ◌<◌, ◌≤◌, ◌^◌, length, map, All, IfOk};
 ghost use Rattle.std.specs.List.Sorted.{IsPermutation};
-ghost use Rattle.kaba_bits.specs.Sets.{bit, row, size, rising, HasWidth};
-ghost use Rattle.concept_build.specs.Tables.{column, AreExamples, IsCounted};
+ghost use Rattle.kaba_bits.specs.Sets.{row, size, rising, HasWidth};
+ghost use Rattle.concept_build.specs.Tables.{AreColumns, AreExamples, IsCounted, listed_rows};
 ghost use Rattle.concept_build.specs.Lists.{lists_of};
 
+use crate::columns::{Columns, columns_in};
 use crate::places::is_new;
 use indexmap::IndexSet;
 use kaba_bits::{BitRow, row_at};
 use std::alloc::{AllocError, Global};
 
-/// The sizes of the rows, the sizes of the columns, and one row of each set of columns.
+/// The sizes of the rows, the rows of each column and how many they are, one row of each set of columns,
+/// and the columns of those.
 #[derive(Drop)]
 pub struct Counts {
     pub rows: Vec<u32>,
     pub columns: Vec<u32>,
+    pub extents: Columns,
     pub examples: Vec<u32>,
+    pub shares: Columns,
 }
 
 /// Counts a table.
@@ -26,54 +30,53 @@ pub fn counts_of(alloc: Global, table: &[BitRow], width: u32) -> Result<Counts, 
     requires widths { HasWidth width table.now }
     ensures { IfOk result (λ c. IsCounted table.now width c) }
 {
-    let rows = row_sizes(alloc, table)?;
-    let columns = column_sizes(alloc, table, width)?;
+    let rows = sizes_of(alloc, table)?;
+    let extents = extents_of(alloc, table, width)?;
+    let columns = sizes_of(alloc, &extents.sets)?;
     let examples = examples_of(alloc, table, &rows, width)?;
+    let shares = columns_in(alloc, table, &examples, width)?;
     Ok(Counts {
         rows,
         columns,
+        extents,
         examples,
+        shares,
     })
 }
 
-/// How many columns each row has.
-fn row_sizes(alloc: Global, table: &[BitRow]) -> Result<Vec<u32>, AllocError>
-    ensures { IfOk result (λ v. v.items ≡ map size table.now) }
+/// How many numbers each set has.
+fn sizes_of(alloc: Global, sets: &[BitRow]) -> Result<Vec<u32>, AllocError>
+    ensures { IfOk result (λ v. v.items ≡ map size sets.now) }
 {
     let mut sizes = Vec::new(alloc);
-    for r in 0..table.len() {
-        sizes.push(row_at(table, r).count())?;
+    for r in 0..sets.len() {
+        sizes.push(row_at(sets, r).count())?;
     }
     Ok(sizes)
 }
 
-/// How many rows have each column.
-fn column_sizes(alloc: Global, table: &[BitRow], width: u32) -> Result<Vec<u32>, AllocError>
+/// The columns of all rows.
+fn extents_of(alloc: Global, table: &[BitRow], width: u32) -> Result<Columns, AllocError>
     requires rows { length table.now < 2 ^ 32 }
     requires widths { HasWidth width table.now }
-    ensures len { IfOk result (λ v. length v.items ≡ width) }
-    ensures sizes { IfOk result (λ v. (c d : ℕ) → c < width → slice_index_or v.items c d ≡ size (column table.now c)) }
+    ensures { IfOk result (AreColumns table.now width) }
 {
-    let mut sizes = Vec::new(alloc);
-    for c in 0..width {
-        sizes.push(column_size(table, c))?;
-    }
-    Ok(sizes)
+    let rows = every_row(alloc, table)?;
+    let extents = columns_in(alloc, table, &rows, width)?;
+    Ok(extents)
 }
 
-/// How many rows have a column.
-fn column_size(table: &[BitRow], c: u32) -> u32
-    requires rows { length table.now < 2 ^ 32 }
-    requires widths { (k : ℕ) → k < length table.now → c < length (row table.now k) }
-    ensures { result ≡ size (column table.now c) }
+/// The numbers of all rows, rising.
+fn every_row(alloc: Global, table: &[BitRow]) -> Result<Vec<u32>, AllocError>
+    requires { length table.now < 2 ^ 32 }
+    ensures below { IfOk result (λ v. All (λ q. q < length table.now) v.items) }
+    ensures all { IfOk result (λ v. listed_rows table.now v.items ≡ table.now) }
 {
-    let mut n = 0;
+    let mut rows = Vec::new(alloc);
     for r in 0..table.len() {
-        if row_at(table, r).has(c) {
-            n += 1;
-        }
+        rows.push(r as u32)?;
     }
-    n
+    Ok(rows)
 }
 
 /// One row of each set of columns, those of most columns first, since with those the covers are found
@@ -86,7 +89,8 @@ fn examples_of(
 ) -> Result<Vec<u32>, AllocError>
     requires rows { length table.now < 2 ^ 32 }
     requires widths { HasWidth width table.now }
-    ensures { IfOk result (λ v. AreExamples table.now v.items) }
+    ensures examples { IfOk result (λ v. AreExamples table.now v.items) }
+    ensures few { IfOk result (λ v. length v.items ≤ length table.now) }
 {
     let mut examples = distinct_rows(alloc, table, width)?;
     examples.sort_by_key(|r| u32::MAX - sizes.get(*r as usize).copied().unwrap_or(0))?;
@@ -97,7 +101,8 @@ fn examples_of(
 fn distinct_rows(alloc: Global, table: &[BitRow], width: u32) -> Result<Vec<u32>, AllocError>
     requires rows { length table.now < 2 ^ 32 }
     requires widths { HasWidth width table.now }
-    ensures { IfOk result (λ v. AreExamples table.now v.items) }
+    ensures examples { IfOk result (λ v. AreExamples table.now v.items) }
+    ensures few { IfOk result (λ v. length v.items ≤ length table.now) }
 {
     let mut known = IndexSet::new(alloc);
     let mut examples = Vec::new(alloc);

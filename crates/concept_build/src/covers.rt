@@ -3,9 +3,10 @@
 ghost use Rattle.std.specs.Prelude.{◌≡◌, ℕ, ◌<◌, ◌^◌, ◌↔◌, length, All, Contains, IfOk, IsTrue};
 ghost use Rattle.kaba_bits.specs.Sets.{row, HasWidth, ListsBelow};
 ghost use Rattle.fact_model.specs.Concepts.{AreAllConcepts, IsUpperCover, IsWithin};
-ghost use Rattle.concept_build.specs.Tables.{AreExamples};
+ghost use Rattle.concept_build.specs.Tables.{IsCounted};
 ghost use Rattle.concept_build.specs.Lists.{extents_of, columns_of, lists_of, IsClosure, AreCandidates, IsLeast};
 
+use crate::counts::Counts;
 use crate::item::{Item, common_columns, item_at};
 use crate::near::near_rows;
 use crate::places::place_of_columns;
@@ -17,7 +18,7 @@ use std::alloc::{AllocError, Global};
 pub fn above(
     alloc: Global,
     table: &[BitRow],
-    examples: &[u32],
+    counts: &Counts,
     items: &[Item],
     places: &IndexSet<Vec<u32>>,
     k: usize,
@@ -25,14 +26,14 @@ pub fn above(
 ) -> Result<Vec<u32>, AllocError>
     requires rows { length table.now < 2 ^ 32 }
     requires widths { HasWidth width table.now }
-    requires examples { AreExamples table.now examples.now }
+    requires counts { IsCounted table.now width counts.now }
     requires small { length items.now < 2 ^ 32 }
     requires all { AreAllConcepts table.now width items.now }
     requires places { lists_of places.now.keys ≡ columns_of items.now }
     requires k { k < length items.now }
     ensures { IfOk result (λ v. ListsBelow (IsUpperCover (extents_of items.now) k) (length items.now) v.items) }
 {
-    let numbers = candidates(alloc, table, examples, items, places, k, width)?;
+    let numbers = candidates(alloc, table, counts, items, places, k, width)?;
     let above = least(alloc, items, &numbers)?;
     Ok(above)
 }
@@ -41,7 +42,7 @@ pub fn above(
 fn candidates(
     alloc: Global,
     table: &[BitRow],
-    examples: &[u32],
+    counts: &Counts,
     items: &[Item],
     places: &IndexSet<Vec<u32>>,
     k: usize,
@@ -49,14 +50,14 @@ fn candidates(
 ) -> Result<Vec<u32>, AllocError>
     requires rows { length table.now < 2 ^ 32 }
     requires widths { HasWidth width table.now }
-    requires examples { AreExamples table.now examples.now }
+    requires counts { IsCounted table.now width counts.now }
     requires small { length items.now < 2 ^ 32 }
     requires all { AreAllConcepts table.now width items.now }
     requires places { lists_of places.now.keys ≡ columns_of items.now }
     requires k { k < length items.now }
     ensures { IfOk result (λ v. AreCandidates (extents_of items.now) k (length table.now) v.items) }
 {
-    let near = near_rows(alloc, table, examples, item_at(items, k))?;
+    let near = near_rows(alloc, table, counts, item_at(items, k))?;
     let mut numbers = Vec::new(alloc);
     for q in &near {
         let at = closure_at(alloc, table, items, places, k, *q as usize, width)?;

@@ -3,11 +3,12 @@
 ghost use Rattle.std.specs.Prelude.{◌≡◌, ℕ, ◌<◌, ◌≤◌, ◌^◌, Bool, false, List, length, All, IfOk, OnOk, IfErr};
 ghost use Rattle.kaba_bits.specs.Sets.{bit, row, HasWidth};
 ghost use Rattle.fact_model.specs.Concepts.{AreAllConcepts, IsConcept, HasIntent};
-ghost use Rattle.concept_build.specs.Tables.{IsFull, IsMeet, AreExamples};
+ghost use Rattle.concept_build.specs.Tables.{IsFull, IsCounted};
 ghost use Rattle.concept_build.specs.Lists.{IsFaultOf, lists_of, columns_of, pair_at, AreFound, AreDifferent, Grows, HasMeet, AreNext};
 
 use crate::LatticeFault;
-use crate::item::{Item, common_columns, item_at, sort_items};
+use crate::counts::Counts;
+use crate::item::{Item, common_columns, item_at, meet_of, sort_items};
 use crate::near::near_rows;
 use crate::places::{is_new, places_of};
 use indexmap::IndexSet;
@@ -18,18 +19,18 @@ use std::alloc::{AllocError, Global};
 pub fn all_items(
     alloc: Global,
     table: &[BitRow],
-    examples: &[u32],
+    counts: &Counts,
     width: u32,
     bound: u32,
 ) -> Result<Vec<Item>, LatticeFault>
     requires rows { length table.now < 2 ^ 32 }
     requires widths { HasWidth width table.now }
-    requires examples { AreExamples table.now examples.now }
+    requires counts { IsCounted table.now width counts.now }
     ensures all { IfOk result (λ v. AreAllConcepts table.now width v.items) }
     ensures within { IfOk result (λ v. length v.items ≤ bound) }
     ensures cause { IfErr result (λ e. IsFaultOf table.now width bound e) }
 {
-    let mut items = found_items(alloc, table, examples, width, bound)?;
+    let mut items = found_items(alloc, table, counts, width, bound)?;
     sort_items(&mut items)?;
     if items.len() > bound as usize {
         return Err(LatticeFault::TooManyConcepts(bound));
@@ -41,23 +42,23 @@ pub fn all_items(
 fn found_items(
     alloc: Global,
     table: &[BitRow],
-    examples: &[u32],
+    counts: &Counts,
     width: u32,
     bound: u32,
 ) -> Result<Vec<Item>, AllocError>
     requires rows { length table.now < 2 ^ 32 }
     requires widths { HasWidth width table.now }
-    requires examples { AreExamples table.now examples.now }
+    requires counts { IsCounted table.now width counts.now }
     ensures each { IfOk result (λ v. All (λ k. IsConcept table.now width k.0 k.1) v.items) }
     ensures differ { IfOk result (λ v. AreDifferent (columns_of v.items)) }
     ensures all { IfOk result (λ v. length v.items ≤ bound → (A B : List Bool) → IsConcept table.now width A B → HasIntent v.items B) }
 {
-    let mut items = first_items(alloc, table, width)?;
+    let mut items = first_items(alloc, table, counts, width)?;
     let mut known = places_of(alloc, &items)?;
     let mut k = 0;
     while k < items.len() && items.len() <= bound as usize {
         add_next(
-            alloc, table, examples, &mut items, &mut known, k, width, bound,
+            alloc, table, counts, &mut items, &mut known, k, width, bound,
         )?;
         k += 1;
     }
@@ -65,7 +66,13 @@ fn found_items(
 }
 
 /// The concept of all columns.
-fn first_items(alloc: Global, table: &[BitRow], width: u32) -> Result<Vec<Item>, AllocError>
+fn first_items(
+    alloc: Global,
+    table: &[BitRow],
+    counts: &Counts,
+    width: u32,
+) -> Result<Vec<Item>, AllocError>
+    requires counts { IsCounted table.now width counts.now }
     requires rows { length table.now < 2 ^ 32 }
     requires widths { HasWidth width table.now }
     ensures each { IfOk result (λ v. All (λ k. IsConcept table.now width k.0 k.1) v.items) }
@@ -73,7 +80,7 @@ fn first_items(alloc: Global, table: &[BitRow], width: u32) -> Result<Vec<Item>,
     ensures full { IfOk result (λ v. IsFull width (pair_at v.items 0).1) }
 {
     let full = BitRow::full(alloc, width)?;
-    let item = Item::new(alloc, table, full)?;
+    let item = Item::new(alloc, &counts.extents, full)?;
     let mut items = Vec::new(alloc);
     items.push(item)?;
     Ok(items)
@@ -83,7 +90,7 @@ fn first_items(alloc: Global, table: &[BitRow], width: u32) -> Result<Vec<Item>,
 fn add_next(
     alloc: Global,
     table: &[BitRow],
-    examples: &[u32],
+    counts: &Counts,
     items: &mut Vec<Item>,
     known: &mut IndexSet<Vec<u32>>,
     k: usize,
@@ -92,19 +99,19 @@ fn add_next(
 ) -> Result<(), AllocError>
     requires rows { length table.now < 2 ^ 32 }
     requires widths { HasWidth width table.now }
-    requires examples { AreExamples table.now examples.now }
+    requires counts { IsCounted table.now width counts.now }
     requires k { k < length items.old.items }
     requires found { AreFound table.now width items.old.items (lists_of known.old.keys) }
     ensures found { OnOk result (AreFound table.now width items.new.items (lists_of known.new.keys)) }
     ensures grows { OnOk result (Grows items.old.items items.new.items) }
     ensures next { OnOk result (length items.new.items ≤ bound → AreNext table.now items.new.items k) }
 {
-    let near = near_rows(alloc, table, examples, item_at(items, k))?;
+    let near = near_rows(alloc, table, counts, item_at(items, k))?;
     for q in &near {
         if items.len() > bound as usize {
             return Ok(());
         }
-        add_meet(alloc, table, items, known, k, *q as usize, width)?;
+        add_meet(alloc, table, counts, items, known, k, *q as usize, width)?;
     }
     Ok(())
 }
@@ -114,6 +121,7 @@ fn add_next(
 fn add_meet(
     alloc: Global,
     table: &[BitRow],
+    counts: &Counts,
     items: &mut Vec<Item>,
     known: &mut IndexSet<Vec<u32>>,
     k: usize,
@@ -122,6 +130,7 @@ fn add_meet(
 ) -> Result<(), AllocError>
     requires rows { length table.now < 2 ^ 32 }
     requires widths { HasWidth width table.now }
+    requires counts { IsCounted table.now width counts.now }
     requires k { k < length items.old.items }
     requires q { q < length table.now }
     requires found { AreFound table.now width items.old.items (lists_of known.old.keys) }
@@ -132,17 +141,7 @@ fn add_meet(
     let columns = common_columns(alloc, item_at(items, k), row_at(table, q))?;
     if is_new(known, columns)? {
         let meet = meet_of(alloc, item_at(items, k).intent(), row_at(table, q))?;
-        items.push(Item::new(alloc, table, meet)?)?;
+        items.push(Item::new(alloc, &counts.extents, meet)?)?;
     }
     Ok(())
-}
-
-/// The intersection of two sets.
-fn meet_of(alloc: Global, set: &BitRow, with: &BitRow) -> Result<BitRow, AllocError>
-    requires { length set.now ≡ length with.now }
-    ensures { IfOk result (λ b. IsMeet b set.now with.now) }
-{
-    let mut meet = set.copy(alloc)?;
-    meet.and_into(with);
-    Ok(meet)
 }

@@ -1,12 +1,14 @@
 //! Concepts on the way, and lists of them in their order.
 
-ghost use Rattle.std.specs.Prelude.{◌≡◌, ℕ, ◌<◌, ◌^◌, ◌↔◌, Bool, true, List, length, AllPairs, IfOk, OnOk, IsTrue, slice_index_or};
+ghost use Rattle.std.specs.Prelude.{◌≡◌, ℕ, ◌<◌, ◌↔◌, Bool, true, List, length, All, AllPairs, IfOk, OnOk, IsTrue, slice_index_or};
 ghost use Rattle.std.specs.List.Sorted.{IsPermutation};
-ghost use Rattle.kaba_bits.specs.Sets.{bit, row, size, rising, IsSubset, HasWidth, ListsBelow};
-ghost use Rattle.fact_model.specs.Concepts.{Pair, concept_cmp, IsExtent, IsWithin};
-ghost use Rattle.concept_build.specs.Tables.{IsMeet};
+ghost use Rattle.kaba_bits.specs.Sets.{bit, row, size, rising, HasWidth};
+ghost use Rattle.fact_model.specs.Concepts.{Pair, concept_cmp, IsWithin};
+ghost use Rattle.concept_build.specs.Tables.{IsMeet, HaveAll};
+ghost use Rattle.concept_build.specs.Places.{AreInAll};
 ghost use Rattle.concept_build.specs.Lists.{extents_of, columns_of, AreDifferent, IsBefore};
 
+use crate::columns::Columns;
 use kaba_bits::{BitRow, row_at};
 use std::alloc::{AllocError, Global};
 use std::cmp::Ordering;
@@ -35,15 +37,15 @@ impl Model for Item {
 }
 
 impl Item {
-    /// An intent with its extent.
-    pub fn new(alloc: Global, table: &[BitRow], intent: BitRow) -> Result<Item, AllocError>
-        requires rows { length table.now < 2 ^ 32 }
-        requires widths { HasWidth (length intent) table.now }
+    /// An intent with its extent: the rows that have all columns of the intent.
+    pub fn new(alloc: Global, extents: &Columns, intent: BitRow) -> Result<Item, AllocError>
+        requires len { length intent ≡ length extents.now.sets.items }
+        requires widths { HasWidth (length extents.now.all) extents.now.sets.items }
         ensures intent { IfOk result (λ k. k.1 ≡ intent) }
-        ensures extent { IfOk result (λ k. IsExtent table.now k.0 k.1) }
+        ensures extent { IfOk result (λ k. HaveAll extents.now k.0 k.1) }
     {
         let columns = intent.rising(alloc)?;
-        let extent = extent_of(alloc, table, &intent, &columns)?;
+        let extent = extent_of(alloc, extents, &columns)?;
         let rows = extent.count();
         Ok(Item {
             extent,
@@ -98,59 +100,48 @@ impl Item {
     }
 }
 
-/// The rows that have all columns of an intent, which are also listed.
-fn extent_of(
-    alloc: Global,
-    table: &[BitRow],
-    intent: &BitRow,
-    columns: &[u32],
-) -> Result<BitRow, AllocError>
-    requires rows { length table.now < 2 ^ 32 }
-    requires widths { HasWidth (length intent.now) table.now }
-    requires columns { ListsBelow (λ c. bit intent.now c ≡ true) (length intent.now) columns.now }
-    ensures { IfOk result (λ a. IsExtent table.now a intent.now) }
+/// The places that are in all sets of a list.
+fn extent_of(alloc: Global, extents: &Columns, columns: &[u32]) -> Result<BitRow, AllocError>
+    requires widths { HasWidth (length extents.now.all) extents.now.sets.items }
+    requires columns { All (λ c. c < length extents.now.sets.items) columns.now }
+    ensures len { IfOk result (λ a. length a ≡ length extents.now.all) }
+    ensures bits { IfOk result (AreInAll extents.now columns.now) }
 {
-    let mut extent = BitRow::new(alloc, table.len() as u32)?;
-    for r in 0..table.len() {
-        if has_all(row_at(table, r), intent, columns) {
-            extent.set(r as u32);
-        }
+    let mut extent = extents.all.copy(alloc)?;
+    for c in columns {
+        extent.and_into(row_at(&extents.sets, *c as usize));
     }
     Ok(extent)
 }
 
-/// From how many columns on a row is compared whole, and not column by column.
+/// From how many columns on an intent is compared whole, and not column by column.
 const MANY: usize = 64;
-
-/// Whether a row has all columns of an intent, which are also listed.
-fn has_all(row: &BitRow, intent: &BitRow, columns: &[u32]) -> bool
-    requires width { length row.now ≡ length intent.now }
-    requires columns { ListsBelow (λ c. bit intent.now c ≡ true) (length intent.now) columns.now }
-    ensures { IsTrue result ↔ IsSubset intent.now row.now }
-{
-    if columns.len() < MANY {
-        has_listed(row, intent, columns)
-    } else {
-        intent.is_subset(row)
-    }
-}
-
-/// Whether a row has all columns of an intent, one by one.
-fn has_listed(row: &BitRow, intent: &BitRow, columns: &[u32]) -> bool
-    requires width { length row.now ≡ length intent.now }
-    requires columns { ListsBelow (λ c. bit intent.now c ≡ true) (length intent.now) columns.now }
-    ensures { IsTrue result ↔ IsSubset intent.now row.now }
-{
-    for c in columns {
-        if !row.has(*c) {
-            return false;
-        }
-    }
-    true
-}
 
 /// The columns of an intent that a row has too, rising.
 pub fn common_columns(alloc: Global, item: &Item, with: &BitRow) -> Result<Vec<u32>, AllocError>
+    requires { length item.now.1 ≡ length with.now }
+    ensures { IfOk result (λ v. (M : List Bool) → IsMeet M item.now.1 with.now → v.items ≡ rising M) }
+{
+    if item.columns().len() < MANY {
+        return listed_columns(alloc, item, with);
+    }
+    let meet = meet_of(alloc, item.intent(), with)?;
+    let columns = meet.rising(alloc)?;
+    Ok(columns)
+}
+
+/// The intersection of two sets.
+pub fn meet_of(alloc: Global, set: &BitRow, with: &BitRow) -> Result<BitRow, AllocError>
+    requires { length set.now ≡ length with.now }
+    ensures { IfOk result (λ b. IsMeet b set.now with.now) }
+{
+    let mut meet = set.copy(alloc)?;
+    meet.and_into(with);
+    Ok(meet)
+}
+
+/// The columns of an intent that a row has too, found one by one.
+fn listed_columns(alloc: Global, item: &Item, with: &BitRow) -> Result<Vec<u32>, AllocError>
     requires { length item.now.1 ≡ length with.now }
     ensures { IfOk result (λ v. (M : List Bool) → IsMeet M item.now.1 with.now → v.items ≡ rising M) }
 {

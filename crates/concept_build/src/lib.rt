@@ -14,6 +14,7 @@ use kaba_bits::BitRow;
 use std::alloc::{AllocError, Global};
 use thiserror::Error;
 
+mod columns;
 mod counts;
 mod covers;
 mod intents;
@@ -62,7 +63,7 @@ pub fn concepts(alloc: Global, table: &Table, bound: u32) -> Result<Lattice, Lat
     ensures cause { IfErr result (λ e. IsFaultOf table.now.rows.items table.now.width bound e) }
 {
     let counts = counts_of(alloc, &table.rows, table.width)?;
-    let items = all_items(alloc, &table.rows, &counts.examples, table.width, bound)?;
+    let items = all_items(alloc, &table.rows, &counts, table.width, bound)?;
     let places = places_of(alloc, &items)?;
     let concepts = placed_items(alloc, &table.rows, &counts, &items, &places, table.width)?;
     Ok(Lattice { concepts })
@@ -116,7 +117,7 @@ fn placed_item(
     let item = item_at(items, k);
     let extent = item.extent().copy(alloc)?;
     let intent = item.intent().copy(alloc)?;
-    let above = above(alloc, table, &counts.examples, items, places, k, width)?;
+    let above = above(alloc, table, counts, items, places, k, width)?;
     let rows = rows_at(alloc, table, &counts.rows, item, width)?;
     let columns = columns_at(alloc, table, &counts.columns, item, width)?;
     Ok(Concept {

@@ -25,10 +25,13 @@ pub fn rows_at(
     ensures { IfOk result (λ v. ListsBelow (RowStands table.now item.now.1) (length table.now) (map (λ r. r.0) v.items)) }
 {
     let mut rows = Vec::new(alloc);
-    for r in 0..table.len() {
-        if row_stands(table, sizes, item, r, width) {
-            rows.push(RowId(r as u32))?;
+    let extent = item.extent();
+    let mut at = 0;
+    while let Some(r) = extent.next(at) {
+        if row_stands(table, sizes, item, r as usize, width) {
+            rows.push(RowId(r))?;
         }
+        at = r + 1;
     }
     Ok(rows)
 }
@@ -59,10 +62,13 @@ pub fn columns_at(
     ensures { IfOk result (λ v. ListsBelow (ColumnStands table.now item.now.0) width (map (λ c. c.0) v.items)) }
 {
     let mut columns = Vec::new(alloc);
-    for c in 0..width {
+    let intent = item.intent();
+    let mut at = 0;
+    while let Some(c) = intent.next(at) {
         if column_stands(table, sizes, item, c, width) {
             columns.push(ColId(c))?;
         }
+        at = c + 1;
     }
     Ok(columns)
 }

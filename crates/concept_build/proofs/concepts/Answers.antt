@@ -14,8 +14,8 @@ returns-clause-lattice c =
     let l = c.in_ok-concepts.concepts.items in
     let items = c.in_ok-items.items.items in
     let all = rw c.deref-2.ensures.value at c.in_ok-items.ensures.all in
-    let pairs = rw c.deref-6.ensures.value at c.in_ok-concepts.ensures.pairs in
-    let placed = rw (c.deref-5.ensures.value, c.deref-6.ensures.value) at c.in_ok-concepts.ensures.placed in
+    let pairs = rw c.deref-5.ensures.value at c.in_ok-concepts.ensures.pairs in
+    let placed = rw (c.deref-4.ensures.value, c.deref-5.ensures.value) at c.in_ok-concepts.ensures.placed in
     let e : extents_of items ≡ map (λ (x : Concept). x.extent) l = ap extents_of (sym pairs) ∙ map-map (λ (p : Pair). p.0) pair_of l in
     record {
       all = subst (AreAllConcepts T w) (sym pairs) all;
@@ -25,4 +25,4 @@ returns-clause-lattice c =
 pub places_of-requires : goal.places_of-requires
 places_of-requires c =
     let all = rw c.deref-2.ensures.value at c.in_ok-items.ensures.all in
-    rw c.deref-4.ensures.value (columns-differ c.args.table.now.rows.items c.args.table.now.width c.in_ok-items.items.items all.concepts)
+    rw c.deref-3.ensures.value (columns-differ c.args.table.now.rows.items c.args.table.now.width c.in_ok-items.items.items all.concepts)

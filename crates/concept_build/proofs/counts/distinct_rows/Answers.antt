@@ -22,5 +22,8 @@ loop-r-preserved c =
           rw w.examples-is (Listed-skip T r xs keys new c.loop-r.invariant (omega arith) c.args.width c.requires.widths o.0 o.1)
     ]
 
-pub returns : goal.returns
-returns c = AreExamples-listed c.args.table.now c.loop-r.r c.loop-r.examples.items (lists_of c.loop-r.known.keys) (omega arith) c.loop-r.invariant
+pub returns-clause-few : goal.returns-clause-few
+returns-clause-few c = omega (arith, c.loop-r.invariant.few)
+
+pub returns-clause-examples : goal.returns-clause-examples
+returns-clause-examples c = AreExamples-listed c.args.table.now c.loop-r.r c.loop-r.examples.items (lists_of c.loop-r.known.keys) (omega arith) c.loop-r.invariant

@@ -14,6 +14,10 @@ pub near_rows-requires-clause-extent : goal.near_rows-requires-clause-extent
 near_rows-requires-clause-extent c =
     rw (c.item_at.ensures.item nothing) (c.requires.all.concepts.each c.args.k nothing c.requires.k).extent
 
+pub near_rows-requires-clause-counts : goal.near_rows-requires-clause-counts
+near_rows-requires-clause-counts c =
+    rw (c.item_at.ensures.item nothing, (c.requires.all.concepts.each c.args.k nothing c.requires.k).intent.len) c.requires.counts
+
 pub closure_at-requires-clause-q : goal.closure_at-requires-clause-q
 closure_at-requires-clause-q c =
     subst (All (λ q. q < length c.args.table.now)) (sym c.deref-q-items.ensures.value) c.in_ok-near.ensures.below c.loop-q.q-index 0 c.loop-q-test.true

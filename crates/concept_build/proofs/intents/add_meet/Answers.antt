@@ -4,6 +4,7 @@ use Rattle.concept_build.specs.Tables.{IsMeet}
 use Rattle.concept_build.specs.Lists.{lists_of, pair_at}
 use Rattle.concept_build.proofs.ExtentLemmas.{nothing}
 use Rattle.concept_build.proofs.MadeLemmas.{meet, IsMeet-meet, closed-meet, closed-concept, concept-closed}
+use Rattle.concept_build.proofs.ColumnLemmas.{IsExtent-all}
 use Rattle.concept_build.proofs.GrowLemmas.{AreFound-push, HasMeet-push, meet-known}
 use Rattle.concept_build.proofs.intents.add_meet.Goals as goal
 
@@ -11,10 +12,15 @@ pub meet_of-requires : goal.meet_of-requires
 meet_of-requires c =
     rw (c.intent.ensures, c.item_at-then-branch.ensures.item nothing, c.deref-then-branch.ensures.value, c.row_at-then-branch.ensures) ((c.requires.found.each c.args.k nothing c.requires.k).intent.len ∙ sym (c.requires.widths c.args.q c.requires.q))
 
+pub new-requires-clause-len : goal.new-requires-clause-len
+new-requires-clause-len c =
+    let m = rw (c.intent.ensures, c.item_at-then-branch.ensures.item nothing, c.deref-then-branch.ensures.value, c.row_at-then-branch.ensures) at c.in_ok-meet.ensures in
+    m.len ∙ ((c.requires.found.each c.args.k nothing c.requires.k).intent.len ∙ sym c.requires.counts.extents.len)
+
 pub new-requires-clause-widths : goal.new-requires-clause-widths
 new-requires-clause-widths c =
-    let m = rw (c.intent.ensures, c.item_at-then-branch.ensures.item nothing, c.deref-then-branch.ensures.value, c.row_at-then-branch.ensures) at c.in_ok-meet.ensures in
-    λ j lt. c.requires.widths j lt ∙ sym (m.len ∙ (c.requires.found.each c.args.k nothing c.requires.k).intent.len)
+    let extents = c.requires.counts.extents in
+    λ j lt. extents.widths j lt ∙ sym extents.all.len
 
 pub returns-in_ok-push-clause-found : goal.returns-in_ok-push-clause-found
 returns-in_ok-push-clause-found c =
@@ -30,7 +36,7 @@ returns-in_ok-push-clause-found c =
     let closed = closed-meet T w q y.1 x.1 c.requires.q (closed-concept T w x.0 x.1 (c.requires.found.each c.args.k nothing c.requires.k)) mine in
     let is = rw (c.item_at.ensures.item nothing, c.deref.ensures.value, c.row_at.ensures) at c.in_ok-columns.ensures in
     let news = rw (c.if-branch.true, is y.1 mine) at c.in_ok-is_new.ensures in
-    rw c.in_ok-push.ensures.items (AreFound-push T w xs (lists_of c.args.known.now.keys) c.requires.found y (lists_of c.is_new.new.known.keys) (concept-closed T w y.0 y.1 o.extent closed) news.0 news.1)
+    rw c.in_ok-push.ensures.items (AreFound-push T w xs (lists_of c.args.known.now.keys) c.requires.found y (lists_of c.is_new.new.known.keys) (concept-closed T w y.0 y.1 (IsExtent-all T w c.args.counts.now.extents y.0 y.1 c.requires.counts.extents o.extent) closed) news.0 news.1)
 
 pub returns-in_ok-push-clause-has : goal.returns-in_ok-push-clause-has
 returns-in_ok-push-clause-has c =

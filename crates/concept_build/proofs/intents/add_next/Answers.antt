@@ -17,6 +17,10 @@ pub near_rows-requires-clause-extent : goal.near_rows-requires-clause-extent
 near_rows-requires-clause-extent c =
     rw (c.item_at.ensures.item nothing, c.deref.ensures.value) (c.requires.found.each c.args.k nothing c.requires.k).extent
 
+pub near_rows-requires-clause-counts : goal.near_rows-requires-clause-counts
+near_rows-requires-clause-counts c =
+    rw (c.item_at.ensures.item nothing, c.deref.ensures.value, (c.requires.found.each c.args.k nothing c.requires.k).intent.len) c.requires.counts
+
 pub loop-q-init : goal.loop-q-init
 loop-q-init c = record {
   found = c.requires.found;

@@ -1,10 +1,9 @@
-use Rattle.std.proofs.Common.{◌≡◌, ℕ, ◌<◌, ◌≤◌, ◌↔◌, true, false, length}
-use Rattle.kaba_bits.specs.Sets.{bit, row, IsSubset}
+use Rattle.std.proofs.Common.{◌≡◌, ℕ, ◌<◌, ◌↔◌, true, length, slice_index_or}
+use Rattle.kaba_bits.specs.Sets.{bit, row}
 use Rattle.concept_build.proofs.item.extent_of.Given as goal
 
-abbrev pub invariant-loop-r : goal.invariant-loop-r
-invariant-loop-r l = record {
-  len : length l.extent ≡ length l.table;
-  done : (k : ℕ) → k < l.r → ((bit l.extent k ≡ true) ↔ IsSubset l.intent (row l.table k));
-  rest : (k : ℕ) → l.r ≤ k → bit l.extent k ≡ false;
+abbrev pub invariant-loop-c : goal.invariant-loop-c
+invariant-loop-c l = record {
+  len : length l.extent ≡ length l.extents.all;
+  bits : (r : ℕ) → ((bit l.extent r ≡ true) ↔ ((bit l.extents.all r ≡ true) × ((k d : ℕ) → k < l.c-index → bit (row l.extents.sets.items (slice_index_or l.columns k d)) r ≡ true)));
 }
