@@ -8,3 +8,7 @@ pub mod Texts
 pub mod Steps
 pub mod Refusals
 pub mod Whole
+pub mod Owned
+pub mod Ranged
+pub mod Gathers
+pub mod Walks

@@ -1,5 +1,5 @@
 -- What is said of the numbered rows, columns, sites, points and bodies of a program is what its facts say.
-use Rattle.std.proofs.Common.{◌≡◌, ◌<◌, ◌≤◌, List, length, map, sym, ap, ◌∙◌, subst, arith, Result}
+use Rattle.std.proofs.Common.{◌≡◌, ◌<◌, ◌≤◌, List, length, map, refl, sym, ap, ◌∙◌, subst, arith, Result}
 use Rattle.std.specs.Result.{IsErrAnd, IfOk}
 use Rattle.std.proofs.lemmas.Result.{err_from_is_err_and}
 use Rattle.std.specs.List.{flat_map}
@@ -11,7 +11,6 @@ use Rattle.fact_model.specs.declared.facts.BodyInfo.{BodyInfo}
 use Rattle.fact_model.specs.declared.facts.TestInfo.{TestInfo}
 use Rattle.fact_model.specs.declared.facts.CallInfo.{CallInfo}
 use Rattle.kaba_base.specs.declared.RowId.{RowId}
-use Rattle.flow_facts.specs.declared.lists.PlacedCall.{PlacedCall}
 use Rattle.flow_facts.specs.declared.top.Numbered.{Numbered}
 use Rattle.flow_rules.specs.Ordered.{by_place, each}
 use Rattle.flow_rules.specs.Parts.{Part}
@@ -19,7 +18,7 @@ use Rattle.flow_rules.specs.Numbered as numbered
 use Rattle.flow_rules.specs.Lists.{Numbers, calls_of, tests_of}
 use Rattle.flow_rules.specs.Facts.{numbers, gathered, row_info, column_info, site_info, column_body, call_seen, IsSameSet, body_seen as plain_body}
 use Rattle.flow_facts.specs.Views.{body_seen}
-use Rattle.flow_facts.specs.Seen.{numbers_seen, calls_seen}
+use Rattle.flow_facts.specs.Seen.{numbers_seen}
 use Rattle.flow_facts.specs.Stages.{IsNumbered}
 use Rattle.flow_facts.proofs.Along.{same_set}
 
@@ -57,10 +56,10 @@ module _ (P Q : Plain) (d : Numbered) (n : IsNumbered P Q d) where
       → IsSameSet xs (gathered P Q (f (numbers P Q)))
   set_whole f xs e = same_set (gathered_whole f xs e)
 
-  pub calls_whole : (xs : List PlacedCall) (ys : List CallInfo) → calls_seen xs ≡ flat_map (λ b. flat_map (calls_of (numbers_seen d.numbering)) b.parts) (map body_seen d.bodies.items)
-      → map call_seen ys ≡ map (λ c. c.item) (by_place (λ c. c.place.at) (calls_seen xs)) → map call_seen ys ≡ map (λ c. c.item) (by_place (λ c. c.place.at) (gathered P Q (λ b. calls_of (numbers P Q))))
-  calls_whole xs ys e h = h ∙ ap (λ l. map (λ c. c.item) (by_place (λ c. c.place.at) l)) (gathered_whole (λ N b. calls_of N) (calls_seen xs) e)
+  pub calls_whole : (ys : List CallInfo) → map call_seen ys ≡ map (λ c. c.item) (by_place (λ c. c.place.at) (flat_map (λ b. flat_map (calls_of (numbers_seen d.numbering)) b.parts) (map body_seen d.bodies.items)))
+      → map call_seen ys ≡ map (λ c. c.item) (by_place (λ c. c.place.at) (gathered P Q (λ b. calls_of (numbers P Q))))
+  calls_whole ys h = h ∙ ap (λ l. map (λ c. c.item) (by_place (λ c. c.place.at) l)) (gathered_whole (λ N b. calls_of N) _ refl)
 
-  pub tests_whole : (xs ys : List TestInfo) → xs ≡ flat_map (λ b. flat_map (tests_of (numbers_seen d.numbering)) b.parts) (map body_seen d.bodies.items) → ys ≡ by_place (λ t. t.place.at) xs
+  pub tests_whole : (ys : List TestInfo) → ys ≡ by_place (λ t. t.place.at) (flat_map (λ b. flat_map (tests_of (numbers_seen d.numbering)) b.parts) (map body_seen d.bodies.items))
       → ys ≡ by_place (λ t. t.place.at) (gathered P Q (λ b. tests_of (numbers P Q)))
-  tests_whole xs ys e h = h ∙ ap (by_place (λ t. t.place.at)) (gathered_whole (λ N b. tests_of N) xs e)
+  tests_whole ys h = h ∙ ap (by_place (λ t. t.place.at)) (gathered_whole (λ N b. tests_of N) _ refl)

@@ -1,19 +1,21 @@
 //! The cells: the fields of the objects of each site, and the elements of its arrays.
 
-ghost use Rattle.std.specs.Prelude.{◌≡◌, ◌<◌, ◌≤◌, ◌++◌, IfOk, IfSome, MatchOption, OnOk, length, map};
+ghost use Rattle.std.specs.Prelude.{◌≡◌, ℕ, suc, ◌==◌, ◌<◌, ◌≤◌, ◌++◌, ◌∷◌, [], Some, IfOk, IfSome, MatchOption, OnOk, length, map};
 ghost use Rattle.std.specs.List.{flat_map};
 ghost use Rattle.java_core.specs.Trees.{at_place, no_place};
 ghost use Rattle.java_core.specs.Programs.{program_of};
 ghost use Rattle.java_core.specs.Formed.{IsFormed};
-ghost use Rattle.flow_rules.specs.Ordered.{each};
+ghost use Rattle.flow_rules.specs.Ordered.{each, when};
 ghost use Rattle.flow_rules.specs.Facts.{field_at, fields_of, field_cell, site_cells};
+ghost use Rattle.flow_facts.specs.Owned.{AreListed, own_of, own_at, upwards, cell_of};
 ghost use Rattle.flow_facts.specs.Seen.{numbers_seen, field_cell_seen};
 
 use crate::infos::owner_of;
 use crate::numbering::Numbering;
+use crate::ordered::by_place;
 use fact_model::CellInfo;
 use flow_rules::{Column, ColumnItem, RowItem, Site};
-use java_core::{Program, is_subtype};
+use java_core::{Program, parent_of};
 use kaba_base::{ClassId, ColId, RowId, SiteId};
 use std::alloc::{AllocError, Global};
 
@@ -65,42 +67,157 @@ pub fn fields_of(
     Ok(fields)
 }
 
-/// Adds the cells of the objects of a site.
-fn add_object_cells(
+/// Empty lists, one for each class.
+fn no_fields(alloc: Global, count: usize) -> Result<Vec<Vec<FieldCell>>, AllocError>
+    ensures count { IfOk result (λ v. length v.items ≡ count) }
+    ensures empty { IfOk result (λ v. (c : ℕ) → own_at v.items c ≡ []) }
+{
+    let mut own = Vec::new(alloc);
+    for class in 0..count {
+        let _ = class;
+        own.push(Vec::new(alloc))?;
+    }
+    Ok(own)
+}
+
+/// Adds a field to those of its class.
+fn add_own(own: &mut Vec<Vec<FieldCell>>, field: FieldCell) -> Result<(), AllocError>
+    requires { field.owner.0 < length own.old.items }
+    ensures count { OnOk result (length own.new.items ≡ length own.old.items) }
+    ensures value { OnOk result ((c : ℕ) → own_at own.new.items c ≡ own_at own.old.items c ++ when (c == field.owner.0) (field_cell_seen field ∷ [])) }
+{
+    own[field.owner.0 as usize].push(field)?;
+    Ok(())
+}
+
+/// The fields of each class itself, in the order of their columns.
+fn fields_by_class(
+    alloc: Global,
     program: &Program,
     fields: &Vec<FieldCell>,
+) -> Result<Vec<Vec<FieldCell>>, AllocError>
+    requires { AreListed (program_of no_place program.now) 0 (map field_cell_seen fields.now.items) }
+    ensures { IfOk result (λ v. (c : ℕ) → own_at v.items c ≡ own_of (map field_cell_seen fields.now.items) c) }
+{
+    let mut own = no_fields(alloc, program.classes.len())?;
+    for field in fields {
+        add_own(&mut own, *field)?;
+    }
+    Ok(own)
+}
+
+/// The fields of one class itself.
+fn fields_in(own: &Vec<Vec<FieldCell>>, class: ClassId) -> &[FieldCell]
+    ensures value { map field_cell_seen result.now ≡ own_at own.now.items class.0 }
+{
+    match own.get(class.0 as usize) {
+        Some(fields) => fields,
+        None => &[],
+    }
+}
+
+/// Adds fields.
+fn add_all(fields: &[FieldCell], found: &mut Vec<FieldCell>) -> Result<(), AllocError>
+    ensures value { OnOk result (map field_cell_seen found.new.items ≡ map field_cell_seen found.old.items ++ map field_cell_seen fields.now) }
+{
+    for field in fields {
+        found.push(*field)?;
+    }
+    Ok(())
+}
+
+/// Adds the fields of one class itself.
+fn add_fields_of(
+    own: &Vec<Vec<FieldCell>>,
+    class: ClassId,
+    found: &mut Vec<FieldCell>,
+) -> Result<(), AllocError>
+    ensures value { OnOk result (map field_cell_seen found.new.items ≡ map field_cell_seen found.old.items ++ own_at own.now.items class.0) }
+{
+    let fields = fields_in(own, class);
+    add_all(fields, found)?;
+    Ok(())
+}
+
+/// The fields of a class and of those above it, the nearest first.
+fn fields_above(
+    alloc: Global,
+    program: &Program,
+    own: &Vec<Vec<FieldCell>>,
+    class: ClassId,
+) -> Result<Vec<FieldCell>, AllocError>
+    ensures { IfOk result (λ v. map field_cell_seen v.items ≡ upwards (program_of no_place program.now) (own_at own.now.items) (suc (length (program_of no_place program.now).classes)) (Some class)) }
+{
+    let mut found = Vec::new(alloc);
+    add_fields_of(own, class, &mut found)?;
+    let mut above = parent_of(program, class);
+    for step in 0..program.classes.len() {
+        let _ = step;
+        match above {
+            Some(class) => {
+                add_fields_of(own, class, &mut found)?;
+                let next = parent_of(program, class);
+                above = next;
+            }
+            None => return Ok(found),
+        }
+    }
+    Ok(found)
+}
+
+/// Adds a cell of an object for each field.
+fn add_cells(i: u32, fields: &Vec<FieldCell>, cells: &mut Vec<CellInfo>) -> Result<(), AllocError>
+    ensures { OnOk result (cells.new.items ≡ cells.old.items ++ flat_map (cell_of i) (map field_cell_seen fields.now.items)) }
+{
+    for field in fields {
+        cells.push(CellInfo {
+            site: SiteId(i),
+            column: Some(ColId(field.column)),
+            row: RowId(field.row),
+        })?;
+    }
+    Ok(())
+}
+
+/// Adds the cells of the objects of a site.
+fn add_object_cells(
+    alloc: Global,
+    program: &Program,
+    fields: &Vec<FieldCell>,
+    own: &Vec<Vec<FieldCell>>,
     i: u32,
     class: ClassId,
     cells: &mut Vec<CellInfo>,
 ) -> Result<(), AllocError>
-    requires { IsFormed (program_of no_place program.now) }
+    requires formed { IsFormed (program_of no_place program.now) }
+    requires listed { AreListed (program_of no_place program.now) 0 (map field_cell_seen fields.now.items) }
+    requires own { (c : ℕ) → own_at own.now.items c ≡ own_of (map field_cell_seen fields.now.items) c }
     ensures value { OnOk result (cells.new.items ≡ cells.old.items ++ flat_map (field_cell (program_of no_place program.now) i class.0) (map field_cell_seen fields.now.items)) }
 {
-    for field in fields {
-        if is_subtype(program, class, field.owner) {
-            cells.push(CellInfo {
-                site: SiteId(i),
-                column: Some(ColId(field.column)),
-                row: RowId(field.row),
-            })?;
-        }
-    }
+    let _ = fields;
+    let above = fields_above(alloc, program, own, class)?;
+    let sorted = by_place(above)?;
+    add_cells(i, &sorted, cells)?;
     Ok(())
 }
 
 /// Adds the cells of a site.
 fn add_site_cells(
+    alloc: Global,
     program: &Program,
     fields: &Vec<FieldCell>,
+    own: &Vec<Vec<FieldCell>>,
     i: u32,
     site: &Site,
     cells: &mut Vec<CellInfo>,
 ) -> Result<(), AllocError>
-    requires { IsFormed (program_of no_place program.now) }
+    requires formed { IsFormed (program_of no_place program.now) }
+    requires listed { AreListed (program_of no_place program.now) 0 (map field_cell_seen fields.now.items) }
+    requires own { (c : ℕ) → own_at own.now.items c ≡ own_of (map field_cell_seen fields.now.items) c }
     ensures value { OnOk result (cells.new.items ≡ cells.old.items ++ site_cells (program_of no_place program.now) (map field_cell_seen fields.now.items) i site.now) }
 {
     if site.ty.dim == 0 {
-        add_object_cells(program, fields, i, site.ty.class, cells)?;
+        add_object_cells(alloc, program, fields, own, i, site.ty.class, cells)?;
     } else {
         cells.push(CellInfo {
             site: SiteId(i),
@@ -120,13 +237,15 @@ pub fn cells_of(
     most: usize,
 ) -> Result<Option<Vec<CellInfo>>, AllocError>
     requires formed { IsFormed (program_of no_place program.now) }
+    requires listed { AreListed (program_of no_place program.now) 0 (map field_cell_seen fields.now.items) }
     requires few { length sites.now.items < 4294967295 }
     ensures over { IfOk result (λ o. MatchOption o (most < length (each (site_cells (program_of no_place program.now) (map field_cell_seen fields.now.items)) 0 sites.now.items)) (λ v. length v.items ≤ most)) }
     ensures value { IfOk result (λ o. IfSome o (λ v. v.items ≡ each (site_cells (program_of no_place program.now) (map field_cell_seen fields.now.items)) 0 sites.now.items)) }
 {
+    let own = fields_by_class(alloc, program, fields)?;
     let mut cells = Vec::new(alloc);
     for (i, site) in sites.iter().enumerate() {
-        add_site_cells(program, fields, i as u32, site, &mut cells)?;
+        add_site_cells(alloc, program, fields, &own, i as u32, site, &mut cells)?;
         if cells.len() > most {
             return Ok(None);
         }

@@ -1,9 +1,11 @@
 //! The facts of a program: its rows, columns, sites and flow points, each numbered by its place, and what the text says of them.
 #![tactic(auto)]
 
+mod assembled;
 mod bodies;
 mod cells;
 mod expr_rows;
+mod gathering;
 mod infos;
 mod labels;
 mod listing;

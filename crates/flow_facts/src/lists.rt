@@ -11,7 +11,6 @@ ghost use Rattle.flow_facts.specs.Views.{part_seen, parts_seen, body_seen};
 ghost use Rattle.flow_facts.specs.Seen.{numbers_seen, calls_seen};
 
 use crate::numbering::Numbering;
-use crate::ties::add_ties;
 use fact_model::{
     AccessInfo, CallInfo, CastInfo, FlowInfo, LoadInfo, NewInfo, StoreInfo, SuperInfo, TestInfo,
     TieInfo,
@@ -26,21 +25,6 @@ use std::alloc::{AllocError, Global};
 pub struct PlacedCall {
     pub place: Place,
     pub call: CallInfo,
-}
-
-/// The lists that the parts of bodies give.
-#[derive(Drop)]
-pub struct Lists {
-    pub news: Vec<NewInfo>,
-    pub flows: Vec<FlowInfo>,
-    pub loads: Vec<LoadInfo>,
-    pub stores: Vec<StoreInfo>,
-    pub calls: Vec<PlacedCall>,
-    pub casts: Vec<CastInfo>,
-    pub tests: Vec<TestInfo>,
-    pub accesses: Vec<AccessInfo>,
-    pub supers: Vec<SuperInfo>,
-    pub ties: Vec<TieInfo>,
 }
 
 /// The number of an operand's flow point.
@@ -175,7 +159,12 @@ fn add_moved_args(
 }
 
 /// Adds the creations that flow into points.
-fn add_news(n: &Numbering, m: u64, part: &Part, news: &mut Vec<NewInfo>) -> Result<(), AllocError>
+pub fn add_news(
+    n: &Numbering,
+    m: u64,
+    part: &Part,
+    news: &mut Vec<NewInfo>,
+) -> Result<(), AllocError>
     ensures value { OnOk result (news.new.items ≡ news.old.items ++ news_of (numbers_seen n.now) m (part_seen part.now)) }
 {
     match part {
@@ -204,7 +193,7 @@ fn add_news(n: &Numbering, m: u64, part: &Part, news: &mut Vec<NewInfo>) -> Resu
 }
 
 /// Adds the flows from point to point.
-fn add_flows(
+pub fn add_flows(
     n: &Numbering,
     m: u64,
     part: &Part,
@@ -243,7 +232,7 @@ fn add_flows(
 }
 
 /// Adds the reads of fields and elements.
-fn add_loads(n: &Numbering, part: &Part, loads: &mut Vec<LoadInfo>) -> Result<(), AllocError>
+pub fn add_loads(n: &Numbering, part: &Part, loads: &mut Vec<LoadInfo>) -> Result<(), AllocError>
     ensures value { OnOk result (loads.new.items ≡ loads.old.items ++ loads_of (numbers_seen n.now) (part_seen part.now)) }
 {
     match part {
@@ -277,7 +266,7 @@ fn add_loads(n: &Numbering, part: &Part, loads: &mut Vec<LoadInfo>) -> Result<()
 }
 
 /// Adds the writes of fields and elements.
-fn add_stores(n: &Numbering, part: &Part, stores: &mut Vec<StoreInfo>) -> Result<(), AllocError>
+pub fn add_stores(n: &Numbering, part: &Part, stores: &mut Vec<StoreInfo>) -> Result<(), AllocError>
     ensures value { OnOk result (stores.new.items ≡ stores.old.items ++ stores_of (numbers_seen n.now) (part_seen part.now)) }
 {
     match part {
@@ -329,7 +318,7 @@ fn points_at(
 }
 
 /// Adds the calls of instance methods.
-fn add_calls(
+pub fn add_calls(
     alloc: Global,
     n: &Numbering,
     part: &Part,
@@ -360,7 +349,7 @@ fn add_calls(
 }
 
 /// Adds the casts and `instanceof`, as what passes them.
-fn add_casts(n: &Numbering, part: &Part, casts: &mut Vec<CastInfo>) -> Result<(), AllocError>
+pub fn add_casts(n: &Numbering, part: &Part, casts: &mut Vec<CastInfo>) -> Result<(), AllocError>
     ensures value { OnOk result (casts.new.items ≡ casts.old.items ++ casts_of (numbers_seen n.now) (part_seen part.now)) }
 {
     match part {
@@ -383,7 +372,7 @@ fn add_casts(n: &Numbering, part: &Part, casts: &mut Vec<CastInfo>) -> Result<()
 }
 
 /// Adds the casts and `instanceof`, as tests of a row.
-fn add_tests(n: &Numbering, part: &Part, tests: &mut Vec<TestInfo>) -> Result<(), AllocError>
+pub fn add_tests(n: &Numbering, part: &Part, tests: &mut Vec<TestInfo>) -> Result<(), AllocError>
     ensures value { OnOk result (tests.new.items ≡ tests.old.items ++ tests_of (numbers_seen n.now) (part_seen part.now)) }
 {
     match part {
@@ -408,7 +397,7 @@ fn add_tests(n: &Numbering, part: &Part, tests: &mut Vec<TestInfo>) -> Result<()
 }
 
 /// Adds the accesses of fields, and the calls by the declaration found statically.
-fn add_accesses(
+pub fn add_accesses(
     n: &Numbering,
     part: &Part,
     accesses: &mut Vec<AccessInfo>,
@@ -431,7 +420,7 @@ fn add_accesses(
 }
 
 /// Adds the super calls, as the `this` of the caller and the body that runs.
-fn add_supers(
+pub fn add_supers(
     n: &Numbering,
     m: u64,
     part: &Part,
@@ -453,112 +442,4 @@ fn add_supers(
         }
         _ => Ok(()),
     }
-}
-
-/// Adds what a part of a method's body gives. The slot is the method's.
-fn add_part(
-    alloc: Global,
-    program: &Program,
-    n: &Numbering,
-    m: u64,
-    slot: Option<u32>,
-    part: &Part,
-    lists: &mut Lists,
-) -> Result<(), AllocError>
-    requires { IsFormed (program_of no_place program.now) }
-    ensures news { OnOk result (lists.new.news.items ≡ lists.old.news.items ++ news_of (numbers_seen n.now) m (part_seen part.now)) }
-    ensures flows { OnOk result (lists.new.flows.items ≡ lists.old.flows.items ++ flows_of (numbers_seen n.now) m (part_seen part.now)) }
-    ensures loads { OnOk result (lists.new.loads.items ≡ lists.old.loads.items ++ loads_of (numbers_seen n.now) (part_seen part.now)) }
-    ensures stores { OnOk result (lists.new.stores.items ≡ lists.old.stores.items ++ stores_of (numbers_seen n.now) (part_seen part.now)) }
-    ensures casts { OnOk result (lists.new.casts.items ≡ lists.old.casts.items ++ casts_of (numbers_seen n.now) (part_seen part.now)) }
-    ensures tests { OnOk result (lists.new.tests.items ≡ lists.old.tests.items ++ tests_of (numbers_seen n.now) (part_seen part.now)) }
-    ensures accesses { OnOk result (lists.new.accesses.items ≡ lists.old.accesses.items ++ accesses_of (numbers_seen n.now) (part_seen part.now)) }
-    ensures supers { OnOk result (lists.new.supers.items ≡ lists.old.supers.items ++ supers_of (numbers_seen n.now) m (part_seen part.now)) }
-    ensures ties { OnOk result (lists.new.ties.items ≡ lists.old.ties.items ++ ties_of (numbers_seen n.now) (program_of no_place program.now) m slot (part_seen part.now)) }
-    ensures calls { OnOk result (calls_seen lists.new.calls.items ≡ calls_seen lists.old.calls.items ++ calls_of (numbers_seen n.now) (part_seen part.now)) }
-{
-    add_news(n, m, part, &mut lists.news)?;
-    add_flows(n, m, part, &mut lists.flows)?;
-    add_loads(n, part, &mut lists.loads)?;
-    add_stores(n, part, &mut lists.stores)?;
-    add_calls(alloc, n, part, &mut lists.calls)?;
-    add_casts(n, part, &mut lists.casts)?;
-    add_tests(n, part, &mut lists.tests)?;
-    add_accesses(n, part, &mut lists.accesses)?;
-    add_supers(n, m, part, &mut lists.supers)?;
-    add_ties(program, n, m, slot, part, &mut lists.ties)?;
-    Ok(())
-}
-
-/// Adds what the parts of a method's body give. The slot is the method's.
-fn add_parts(
-    alloc: Global,
-    program: &Program,
-    n: &Numbering,
-    m: u64,
-    slot: Option<u32>,
-    parts: &Vec<Part>,
-    lists: &mut Lists,
-) -> Result<(), AllocError>
-    requires { IsFormed (program_of no_place program.now) }
-    ensures news { OnOk result (lists.new.news.items ≡ lists.old.news.items ++ flat_map (news_of (numbers_seen n.now) m) (parts_seen parts.now.items)) }
-    ensures flows { OnOk result (lists.new.flows.items ≡ lists.old.flows.items ++ flat_map (flows_of (numbers_seen n.now) m) (parts_seen parts.now.items)) }
-    ensures loads { OnOk result (lists.new.loads.items ≡ lists.old.loads.items ++ flat_map (loads_of (numbers_seen n.now)) (parts_seen parts.now.items)) }
-    ensures stores { OnOk result (lists.new.stores.items ≡ lists.old.stores.items ++ flat_map (stores_of (numbers_seen n.now)) (parts_seen parts.now.items)) }
-    ensures casts { OnOk result (lists.new.casts.items ≡ lists.old.casts.items ++ flat_map (casts_of (numbers_seen n.now)) (parts_seen parts.now.items)) }
-    ensures tests { OnOk result (lists.new.tests.items ≡ lists.old.tests.items ++ flat_map (tests_of (numbers_seen n.now)) (parts_seen parts.now.items)) }
-    ensures accesses { OnOk result (lists.new.accesses.items ≡ lists.old.accesses.items ++ flat_map (accesses_of (numbers_seen n.now)) (parts_seen parts.now.items)) }
-    ensures supers { OnOk result (lists.new.supers.items ≡ lists.old.supers.items ++ flat_map (supers_of (numbers_seen n.now) m) (parts_seen parts.now.items)) }
-    ensures ties { OnOk result (lists.new.ties.items ≡ lists.old.ties.items ++ flat_map (ties_of (numbers_seen n.now) (program_of no_place program.now) m slot) (parts_seen parts.now.items)) }
-    ensures calls { OnOk result (calls_seen lists.new.calls.items ≡ calls_seen lists.old.calls.items ++ flat_map (calls_of (numbers_seen n.now)) (parts_seen parts.now.items)) }
-{
-    for part in parts {
-        add_part(alloc, program, n, m, slot, part, lists)?;
-    }
-    Ok(())
-}
-
-/// What the parts of all bodies give.
-pub fn gather(
-    alloc: Global,
-    program: &Program,
-    n: &Numbering,
-    bodies: &Vec<Body>,
-) -> Result<Lists, AllocError>
-    requires { IsFormed (program_of no_place program.now) }
-    ensures news { IfOk result (λ l. l.news.items ≡ flat_map (λ b. flat_map (news_of (numbers_seen n.now) b.number) b.parts) (map body_seen bodies.now.items)) }
-    ensures flows { IfOk result (λ l. l.flows.items ≡ flat_map (λ b. flat_map (flows_of (numbers_seen n.now) b.number) b.parts) (map body_seen bodies.now.items)) }
-    ensures loads { IfOk result (λ l. l.loads.items ≡ flat_map (λ b. flat_map (loads_of (numbers_seen n.now)) b.parts) (map body_seen bodies.now.items)) }
-    ensures stores { IfOk result (λ l. l.stores.items ≡ flat_map (λ b. flat_map (stores_of (numbers_seen n.now)) b.parts) (map body_seen bodies.now.items)) }
-    ensures casts { IfOk result (λ l. l.casts.items ≡ flat_map (λ b. flat_map (casts_of (numbers_seen n.now)) b.parts) (map body_seen bodies.now.items)) }
-    ensures tests { IfOk result (λ l. l.tests.items ≡ flat_map (λ b. flat_map (tests_of (numbers_seen n.now)) b.parts) (map body_seen bodies.now.items)) }
-    ensures accesses { IfOk result (λ l. l.accesses.items ≡ flat_map (λ b. flat_map (accesses_of (numbers_seen n.now)) b.parts) (map body_seen bodies.now.items)) }
-    ensures supers { IfOk result (λ l. l.supers.items ≡ flat_map (λ b. flat_map (supers_of (numbers_seen n.now) b.number) b.parts) (map body_seen bodies.now.items)) }
-    ensures ties { IfOk result (λ l. l.ties.items ≡ flat_map (λ b. flat_map (ties_of (numbers_seen n.now) (program_of no_place program.now) b.number b.slot) b.parts) (map body_seen bodies.now.items)) }
-    ensures calls { IfOk result (λ l. calls_seen l.calls.items ≡ flat_map (λ b. flat_map (calls_of (numbers_seen n.now)) b.parts) (map body_seen bodies.now.items)) }
-{
-    let mut lists = Lists {
-        news: Vec::new(alloc),
-        flows: Vec::new(alloc),
-        loads: Vec::new(alloc),
-        stores: Vec::new(alloc),
-        calls: Vec::new(alloc),
-        casts: Vec::new(alloc),
-        tests: Vec::new(alloc),
-        accesses: Vec::new(alloc),
-        supers: Vec::new(alloc),
-        ties: Vec::new(alloc),
-    };
-    for body in bodies {
-        add_parts(
-            alloc,
-            program,
-            n,
-            body.number,
-            body.slot,
-            &body.parts,
-            &mut lists,
-        )?;
-    }
-    Ok(lists)
 }

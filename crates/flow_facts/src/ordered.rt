@@ -3,6 +3,7 @@
 ghost use Rattle.std.specs.Prelude.{◌≡◌, ℕ, ◌<◌, IfOk, IfSome, Option, List, length, map, position};
 ghost use Rattle.flow_rules.specs.Ordered.{by_place, once};
 
+use crate::cells::FieldCell;
 use crate::lists::PlacedCall;
 use fact_model::TestInfo;
 use flow_rules::{Column, ColumnItem, Outline, Point, PointAt, PointItem, Row, RowItem, Site};
@@ -11,11 +12,11 @@ use kaba_base::Place;
 use std::alloc::{AllocError, Global};
 use std::hash::Hash;
 
-/// What stands at a place of the text.
+/// What stands at a place: of the text, or of a list.
 pub trait HasPlace {
     ghost at: { Self → ℕ };
 
-    /// How many bytes are before it.
+    /// How many bytes of the text, or items of the list, are before it.
     fn at(&self) -> u32
         ensures value { result ≡ at self.now };
 }
@@ -73,6 +74,14 @@ impl HasPlace for TestInfo {
 
     fn at(&self) -> u32 {
         self.place.at
+    }
+}
+
+impl HasPlace for FieldCell {
+    ghost at = { λ f. f.column };
+
+    fn at(&self) -> u32 {
+        self.column
     }
 }
 

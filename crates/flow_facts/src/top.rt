@@ -2,34 +2,31 @@
 
 ghost use Rattle.std.specs.Prelude.{◌≡◌, ◌+◌, ◌++◌, ◌<◌, ◌≤◌, None, IfOk, IfErr, OnOk, length, map};
 ghost use Rattle.std.specs.Option.{option_map};
-ghost use Rattle.std.specs.Str.{bytes_eq, encode_utf8_all};
 ghost use Rattle.java_core.specs.Trees.{at_place, no_place};
 ghost use Rattle.java_core.specs.Programs.{program_of};
 ghost use Rattle.java_core.specs.Formed.{IsFormed};
 ghost use Rattle.flow_rules.specs.Numbered.{rows_of, columns_of, sites_of, points_of, bodies_of, field_rows, method_rows, field_columns, method_columns, static_points, outline_if};
-ghost use Rattle.flow_rules.specs.Facts.{AreNamesOf, IsFactsOf, IsRefused, IsWithin, first_interface, numbers, cells_of, row_info, column_info, site_info, body_seen as plain_body, column_body, class_seen, class_facts, all_names, all_variables, call_seen, too_many, IsOver};
-ghost use Rattle.flow_rules.specs.Ordered.{by_place, once, each};
-ghost use Rattle.flow_facts.specs.Stages.{IsNumbered};
-ghost use Rattle.flow_facts.specs.Seen.{numbers_seen, calls_seen};
+ghost use Rattle.flow_rules.specs.Facts.{AreNamesOf, IsFactsOf, IsRefused, IsWithin, first_interface, numbers, cells_of, too_many, IsOver};
+ghost use Rattle.flow_rules.specs.Ordered.{each};
+ghost use Rattle.flow_facts.specs.Stages.{IsTable, IsFlow, IsNumbered};
+ghost use Rattle.flow_facts.specs.Seen.{numbers_seen};
 ghost use Rattle.flow_facts.specs.Views.{body_seen, outline_seen};
 
+use crate::assembled::facts_over;
 use crate::cells::{cells_of, fields_of};
-use crate::infos::{body_infos, column_infos, point_rows, row_infos, site_infos};
 use crate::listing::{list_columns, list_points, list_rows, list_sites};
-use crate::lists::{PlacedCall, gather};
-use crate::names::{class_infos, variables, words};
 use crate::numbering::{Numbering, all_points, all_sites};
 use crate::ordered::{Listed, by_place};
 use crate::survey::survey;
-use fact_model::{BodyInfo, CallInfo, CellInfo, ClassInfo, ColumnInfo, Facts, RowInfo, SiteInfo};
+use fact_model::{CellInfo, Facts};
 use flow_rules::{
     Body, Column, ColumnItem, Counted, FactsFault, Outline, Point, PointAt, PointItem, Row,
     RowItem, Site,
 };
 use indexmap::IndexSet;
 use java_core::Program;
-use kaba_base::{Name, RowId};
-use std::alloc::{AllocError, Global};
+use kaba_base::Name;
+use std::alloc::Global;
 
 /// The first interface that is declared.
 fn first_interface(program: &Program) -> Option<&Name>
@@ -169,34 +166,85 @@ fn number_cells(
 
 /// What is numbered, in order, and the numbers.
 #[derive(Drop)]
-struct Numbered {
-    rows: Vec<Row>,
-    columns: Vec<Column>,
-    sites: Vec<Site>,
-    points: Vec<Point>,
-    cells: Vec<CellInfo>,
-    bodies: Vec<Body>,
-    numbering: Numbering,
+pub struct Numbered {
+    pub rows: Vec<Row>,
+    pub columns: Vec<Column>,
+    pub sites: Vec<Site>,
+    pub points: Vec<Point>,
+    pub cells: Vec<CellInfo>,
+    pub bodies: Vec<Body>,
+    pub numbering: Numbering,
 }
 
-/// Numbers the rows, the columns, the sites, the flow points and the cells.
-fn number_all(alloc: Global, program: &Program) -> Result<Numbered, FactsFault>
-    requires { IsFormed (program_of no_place program.now) }
+/// The rows and the columns by their place, and their numbers.
+#[derive(Drop)]
+pub struct Table {
+    pub rows: Listed<Row, RowItem>,
+    pub columns: Listed<Column, ColumnItem>,
+}
+
+/// The sites by their place and the flow points in their order, and their numbers.
+#[derive(Drop)]
+pub struct Flow {
+    pub sites: Listed<Site, u64>,
+    pub points: Listed<Point, PointItem>,
+}
+
+/// Numbers the rows and the columns.
+fn number_table(
+    alloc: Global,
+    program: &Program,
+    rows: Vec<Row>,
+    columns: Vec<Column>,
+) -> Result<Table, FactsFault>
+    requires rows { rows.items ≡ each field_rows 0 (program_of at_place program.now).fields ++ each (method_rows (program_of no_place program.now) (program_of at_place program.now)) 0 (program_of at_place program.now).methods }
+    requires columns { columns.items ≡ each field_columns 0 (program_of at_place program.now).fields ++ each (method_columns (program_of no_place program.now) (program_of at_place program.now)) 0 (program_of at_place program.now).methods }
+    ensures ok { IfOk result (λ t. IsTable (program_of no_place program.now) (program_of at_place program.now) t) }
+    ensures refused { IfErr result (λ e. IsOver (program_of no_place program.now) (program_of at_place program.now) e) }
+{
+    let rows = number_rows(alloc, program, rows)?;
+    let columns = number_columns(alloc, program, columns)?;
+    Ok(Table { rows, columns })
+}
+
+/// Numbers the sites and the flow points.
+fn number_flow(
+    alloc: Global,
+    program: &Program,
+    table: &Table,
+    bodies: &Vec<Body>,
+    statics: Vec<PointAt>,
+    outlines: Vec<Outline>,
+) -> Result<Flow, FactsFault>
+    requires table { IsTable (program_of no_place program.now) (program_of at_place program.now) table.now }
+    requires bodies { map body_seen bodies.now.items ≡ bodies_of (program_of no_place program.now) (program_of at_place program.now) }
+    requires statics { statics.items ≡ each static_points 0 (program_of at_place program.now).fields }
+    requires outlines { map outline_seen outlines.items ≡ each (outline_if (program_of no_place program.now) (program_of at_place program.now)) 0 (program_of at_place program.now).methods }
+    ensures ok { IfOk result (λ f. IsFlow (program_of no_place program.now) (program_of at_place program.now) f) }
+    ensures refused { IfErr result (λ e. IsOver (program_of no_place program.now) (program_of at_place program.now) e) }
+{
+    let sites = number_sites(alloc, program, &table.rows.keys, bodies)?;
+    let points = number_points(alloc, program, &table.rows.keys, statics, outlines)?;
+    Ok(Flow { sites, points })
+}
+
+/// Numbers the cells too.
+fn number_whole(
+    alloc: Global,
+    program: &Program,
+    table: Table,
+    flow: Flow,
+    bodies: Vec<Body>,
+) -> Result<Numbered, FactsFault>
+    requires formed { IsFormed (program_of no_place program.now) }
+    requires table { IsTable (program_of no_place program.now) (program_of at_place program.now) table }
+    requires flow { IsFlow (program_of no_place program.now) (program_of at_place program.now) flow }
+    requires bodies { map body_seen bodies.items ≡ bodies_of (program_of no_place program.now) (program_of at_place program.now) }
     ensures ok { IfOk result (λ d. IsNumbered (program_of no_place program.now) (program_of at_place program.now) d) }
     ensures refused { IfErr result (λ e. IsOver (program_of no_place program.now) (program_of at_place program.now) e) }
 {
-    let surveyed = survey(alloc, program)?;
-    let rows = number_rows(alloc, program, surveyed.rows)?;
-    let columns = number_columns(alloc, program, surveyed.columns)?;
-    let bodies = surveyed.bodies;
-    let sites = number_sites(alloc, program, &rows.keys, &bodies)?;
-    let points = number_points(
-        alloc,
-        program,
-        &rows.keys,
-        surveyed.statics,
-        surveyed.outlines,
-    )?;
+    let (rows, columns) = (table.rows, table.columns);
+    let (sites, points) = (flow.sites, flow.points);
     let numbering = Numbering {
         rows: rows.keys,
         columns: columns.keys,
@@ -223,116 +271,18 @@ fn number_all(alloc: Global, program: &Program) -> Result<Numbered, FactsFault>
     })
 }
 
-/// The calls without their places.
-fn without_places(alloc: Global, calls: Vec<PlacedCall>) -> Result<Vec<CallInfo>, AllocError>
-    ensures value { IfOk result (λ v. v.items ≡ map (λ c. c.call) calls.items) }
+/// Numbers the rows, the columns, the sites, the flow points and the cells.
+fn number_all(alloc: Global, program: &Program) -> Result<Numbered, FactsFault>
+    requires { IsFormed (program_of no_place program.now) }
+    ensures ok { IfOk result (λ d. IsNumbered (program_of no_place program.now) (program_of at_place program.now) d) }
+    ensures refused { IfErr result (λ e. IsOver (program_of no_place program.now) (program_of at_place program.now) e) }
 {
-    calls.into_iter().map(|placed| placed.call).collect(alloc)
-}
-
-/// The calls by their place.
-fn calls_in_order(alloc: Global, calls: Vec<PlacedCall>) -> Result<Vec<CallInfo>, AllocError>
-    ensures value { IfOk result (λ v. map call_seen v.items ≡ map (λ c. c.item) (by_place (λ c. c.place.at) (calls_seen calls.items))) }
-{
-    let placed = by_place(calls)?;
-    let list = without_places(alloc, placed)?;
-    Ok(list)
-}
-
-/// What is said of each row, column, site and flow point, and of each body.
-#[derive(Drop)]
-struct Tables {
-    rows: Vec<RowInfo>,
-    columns: Vec<ColumnInfo>,
-    sites: Vec<SiteInfo>,
-    points: Vec<RowId>,
-    bodies: Vec<BodyInfo>,
-}
-
-/// Says what each row, column, site and flow point is, and each body.
-fn list_tables(alloc: Global, program: &Program, numbered: &Numbered) -> Result<Tables, AllocError>
-    requires { length numbered.now.columns.items < 4294967295 }
-    ensures rows { IfOk result (λ t. t.rows.items ≡ map (row_info (numbers_seen numbered.now.numbering) (program_of at_place program.now)) numbered.now.rows.items) }
-    ensures columns { IfOk result (λ t. t.columns.items ≡ map (λ c. column_info (program_of at_place program.now) c.item) numbered.now.columns.items) }
-    ensures sites { IfOk result (λ t. t.sites.items ≡ map site_info numbered.now.sites.items) }
-    ensures points { IfOk result (λ t. t.points.items ≡ map (λ p. record { 0 = p.row }) numbered.now.points.items) }
-    ensures bodies { IfOk result (λ t. map plain_body t.bodies.items ≡ each (λ c k. column_body (numbers_seen numbered.now.numbering) (program_of at_place program.now) c k.item) 0 numbered.now.columns.items) }
-{
-    let rows = row_infos(alloc, program, &numbered.numbering, &numbered.rows)?;
-    let columns = column_infos(alloc, program, &numbered.columns)?;
-    let sites = site_infos(alloc, &numbered.sites)?;
-    let points = point_rows(alloc, &numbered.points)?;
-    let bodies = body_infos(alloc, program, &numbered.numbering, &numbered.columns)?;
-    Ok(Tables {
-        rows,
-        columns,
-        sites,
-        points,
-        bodies,
-    })
-}
-
-/// The classes, and the names of the text.
-#[derive(Drop)]
-struct Texts {
-    classes: Vec<ClassInfo>,
-    words: Vec<Name>,
-    variables: Vec<Name>,
-}
-
-/// Lists the classes, and the names of the text.
-fn list_texts(alloc: Global, program: &Program) -> Result<Texts, AllocError>
-    ensures classes { IfOk result (λ t. map class_seen t.classes.items ≡ each (class_facts (program_of at_place program.now)) 0 (program_of at_place program.now).classes) }
-    ensures words { IfOk result (λ t. t.words.items ≡ once bytes_eq encode_utf8_all (all_names (program_of at_place program.now))) }
-    ensures variables { IfOk result (λ t. t.variables.items ≡ all_variables (program_of at_place program.now)) }
-{
-    let classes = class_infos(alloc, program)?;
-    let words = words(alloc, program)?;
-    let variables = variables(alloc, program)?;
-    Ok(Texts {
-        classes,
-        words,
-        variables,
-    })
-}
-
-/// The facts over what is numbered in a program.
-#[tactic(none)]
-fn facts_over(alloc: Global, program: &Program, numbered: Numbered) -> Result<Facts, AllocError>
-    requires formed { IsFormed (program_of no_place program.now) }
-    requires numbered { IsNumbered (program_of no_place program.now) (program_of at_place program.now) numbered }
-    ensures ok { IfOk result (λ f. IsFactsOf (program_of no_place program.now) (program_of at_place program.now) f) }
-    ensures names { IfOk result (λ f. AreNamesOf (program_of at_place program.now) f) }
-{
-    let tables = list_tables(alloc, program, &numbered)?;
-    let texts = list_texts(alloc, program)?;
-    let lists = gather(alloc, program, &numbered.numbering, &numbered.bodies)?;
-    let calls = calls_in_order(alloc, lists.calls)?;
-    let tests = by_place(lists.tests)?;
-    Ok(Facts {
-        rows: tables.rows,
-        columns: tables.columns,
-        sites: tables.sites,
-        classes: texts.classes,
-        points: tables.points,
-        cells: numbered.cells,
-        news: lists.news,
-        flows: lists.flows,
-        loads: lists.loads,
-        stores: lists.stores,
-        bodies: tables.bodies,
-        calls,
-        casts: lists.casts,
-        accesses: lists.accesses,
-        supers: lists.supers,
-        ties: lists.ties,
-        tests,
-        words: texts.words,
-        vars: texts.variables,
-        makers: None,
-        makes: Vec::new(alloc),
-        spots: Vec::new(alloc),
-    })
+    let surveyed = survey(alloc, program)?;
+    let bodies = surveyed.bodies;
+    let table = number_table(alloc, program, surveyed.rows, surveyed.columns)?;
+    let (statics, outlines) = (surveyed.statics, surveyed.outlines);
+    let flow = number_flow(alloc, program, &table, &bodies, statics, outlines)?;
+    number_whole(alloc, program, table, flow, bodies)
 }
 
 /// The facts of a program (Andersen, 1994, for the points-to sets; Snelting and Tip, 2000, for the table).

@@ -10,6 +10,7 @@ ghost use Rattle.flow_rules.specs.Operands.{operand_of, operands_of, this_operan
 ghost use Rattle.flow_rules.specs.Parts.{is_accessed};
 ghost use Rattle.flow_rules.specs.Types.{object_type};
 ghost use Rattle.flow_facts.specs.Views.{part_seen, parts_seen, load_operand, call_operand, static_operand, super_operand, variable_operand};
+ghost use Rattle.flow_facts.specs.Walked.{IsWalked};
 ghost use Rattle.flow_rules.specs.Parts as plain;
 
 use crate::types::{
@@ -144,9 +145,7 @@ pub fn walk(
     parts: &mut Vec<Part>,
 ) -> Result<Operand, AllocError>
     requires { IsFormed (program_of no_place program.now) }
-    ensures grown { IfOk result (λ o. length parts.new.items ≡ length parts.old.items + size (expr_of at_place e.now)) }
-    ensures value { IfOk result (λ o. o ≡ operand_of (program_of no_place program.now) (object_type (program_of no_place program.now) (method_seen at_place method.now)) m (method_seen at_place method.now) (label (length parts.old.items) (expr_of at_place e.now))) }
-    ensures parts { IfOk result (λ o. parts_seen parts.new.items ≡ parts_seen parts.old.items ++ plain.parts (program_of no_place program.now) (object_type (program_of no_place program.now) (method_seen at_place method.now)) m (method_seen at_place method.now) used (label (length parts.old.items) (expr_of at_place e.now))) }
+    ensures { IfOk result (λ o. IsWalked (program_of no_place program.now) m (method_seen at_place method.now) used (expr_of at_place e.now) parts.old.items parts.new.items o) }
 {
     match e {
         RExpr::Int { .. }
@@ -172,7 +171,8 @@ pub fn walk(
         RExpr::Field { base, name, place } => {
             let accessed = is_accessed(base);
             let base = walk(alloc, program, m, method, accessed, base, parts)?;
-            add_load(program, m, *place, base, name, parts)
+            let own = add_load(program, m, *place, base, name, parts)?;
+            Ok(own)
         }
         RExpr::Index { base, at, place } => {
             let base = walk(alloc, program, m, method, true, base, parts)?;

@@ -5,6 +5,7 @@ use Rattle.flow_rules.specs.Ordered.{each}
 use Rattle.flow_rules.specs.Facts.{site_cells}
 use Rattle.flow_facts.specs.Seen.{numbers_seen, field_cell_seen}
 use Rattle.flow_facts.proofs.Counts.{cells_are}
+use Rattle.flow_facts.proofs.Ranged.{fields_listed}
 use Rattle.flow_facts.proofs.Refusals.{too_many_cells, all_counted}
 use Rattle.flow_facts.proofs.top.number_cells.Goals as goal
 
@@ -33,3 +34,6 @@ returns-clause-counts c =
     let Q = program_of at_place c.args.program.now in
     let r = c.requires in
     all_counted P Q r.rows r.columns r.sites {most = c.args.most} r.points {xs = c.in-Some.cells.items} (returns-clause-items c) (rw c.in-Some.is at c.in_ok-cells_of.ensures.over)
+
+pub cells_of-requires-clause-listed : goal.cells_of-requires-clause-listed
+cells_of-requires-clause-listed c = fields_listed c.args.program.now c.requires.formed (numbers_seen c.args.n.now) c.args.columns.now.items (map field_cell_seen c.in_ok-fields.fields.items) c.requires.of_columns c.in_ok-fields.ensures.value

@@ -1,63 +1,107 @@
--- A form that holds a list is the tree over the items of the list.
-use Rattle.std.proofs.Common.{rules, arith, ◌≡◌, ◌+◌, ◌++◌, ◌∷◌, [], length, sym, ap, ◌∙◌}
-use Rattle.java_core.specs.Trees.{at_place, no_place, call, create, expr_of, exprs}
+-- Each form by what stands in it.
+use Rattle.std.proofs.Common.{rules, arith, ◌≡◌, length, sym, ap, ◌∙◌, refl}
+use Rattle.std.specs.Prelude.{Some}
+use Rattle.java_core.specs.Trees.{at_place, no_place, call, field, index, create_array, cast, instance_of, unary, binary, this, expr_of, exprs}
 use Rattle.java_core.specs.Programs.{program_of, method_seen}
-use Rattle.flow_rules.specs.Labels.{label_all}
-use Rattle.flow_rules.specs.Operands.{operand_of}
-use Rattle.flow_rules.specs.Parts.{a_creation}
-use Rattle.flow_rules.specs.Types.{object_type}
-use Rattle.flow_facts.specs.Views.{parts_seen}
-use Rattle.flow_facts.proofs.Composed.{call_parts, creation_parts}
+use Rattle.flow_rules.specs.declared.items.RowItem.TheVariants as row
+use Rattle.flow_rules.specs.declared.items.PointItem.TheVariants as point
+use Rattle.flow_rules.specs.Labels.{label}
+use Rattle.flow_rules.specs.Operands.{object_of, class_object}
+use Rattle.flow_rules.specs.Parts.{is_accessed}
+use Rattle.flow_rules.specs.Types.{field_object, element_object}
+use Rattle.flow_facts.specs.Views.{labelled_operand}
 use Rattle.flow_facts.proofs.Forms.{own_call, call_on, static_form, super_form, creation_form}
+use Rattle.flow_facts.proofs.Walks.{own_walked, field_walked, index_walked, this_walked, call_walked, static_walked, super_walked, creation_walked, array_walked, cast_walked, test_walked, unary_walked, binary_walked}
 use Rattle.flow_facts.proofs.walk.+walk.Goals as goal
 
-pub walk-returns-in_ok-own-in-None-clause-grown : goal.walk-returns-in_ok-own-in-None-clause-grown
-walk-returns-in_ok-own-in-None-clause-grown t c = let form = own_call _ _ _ _ _ c.in-Call.is c.in-None.is in rw form (omega (arith, c.in_ok-own-in-None.ensures.grown))
-
-pub walk-returns-in_ok-own-in-None-clause-parts : goal.walk-returns-in_ok-own-in-None-clause-parts
-walk-returns-in_ok-own-in-None-clause-parts t c = let form = own_call _ _ _ _ _ c.in-Call.is c.in-None.is in rw form (search rules)
-
-pub walk-returns-in_ok-own-in-Some-clause-grown : goal.walk-returns-in_ok-own-in-Some-clause-grown
-walk-returns-in_ok-own-in-Some-clause-grown t c = let form = call_on _ _ _ _ _ _ c.in-Call.is c.in-Some.is in rw form (search rules)
-
-pub walk-returns-in_ok-own-in-Some-clause-parts : goal.walk-returns-in_ok-own-in-Some-clause-parts
-walk-returns-in_ok-own-in-Some-clause-parts t c =
+pub walk-returns-in_ok-add-in-Own : goal.walk-returns-in_ok-add-in-Own
+walk-returns-in_ok-add-in-Own t c =
     let P = program_of no_place c.args.program.now in
-    let K = method_seen at_place c.args.method.now in
-    let B = expr_of at_place c.deref-in-Some.result.now in
-    let es = exprs at_place c.in-Call.args.items in
-    let form = call_on c.args.e.now c.in-Call.base c.in-Some.base c.in-Call.name c.in-Call.args c.in-Call.place c.in-Call.is c.in-Some.is
-    ∙ ap (λ y. call (at_place c.in-Call.place) (expr_of at_place y) c.in-Call.name es) (sym c.deref-in-Some.ensures) in
-    let all = call_parts P c.args.m K (at_place c.in-Call.place) c.in-Call.name es B c.args.used (parts_seen c.args.parts.now.items) (parts_seen c.walk-in-Some.new.parts.items)
-    (parts_seen c.add_call-in-Some.new.parts.items) (length c.args.parts.now.items) (length c.walk-in-Some.new.parts.items) c.in_ok-base-in-Some.base
-    c.in_ok-base-in-Some.ensures.parts c.in_ok-base-in-Some.ensures.value c.in_ok-base-in-Some.ensures.grown c.in_ok-own-in-Some.ensures.parts in
-    rw form all
+    let f = c.in-Own.field.0 in
+    let value : c.labelled-own.result ≡ labelled_operand c.args.m (length c.args.parts.now.items) (Some (row.Field f)) (field_object P f) = search rules in
+    own_walked P c.args.m (method_seen at_place c.args.method.now) (ap (expr_of at_place) c.in-Own.is)
+    (record { grown = c.in_ok-add-in-Own.ensures.grown; parts = c.in_ok-add-in-Own.ensures.parts }) c.this_operand-this.ensures.value value
 
-pub walk-returns-in_ok-own-in-StaticCall-clause-grown : goal.walk-returns-in_ok-own-in-StaticCall-clause-grown
-walk-returns-in_ok-own-in-StaticCall-clause-grown t c = let form = static_form _ _ _ _ c.in-StaticCall.is in rw form (omega (arith, c.in_ok-own-in-StaticCall.ensures.grown))
-
-pub walk-returns-in_ok-own-in-StaticCall-clause-parts : goal.walk-returns-in_ok-own-in-StaticCall-clause-parts
-walk-returns-in_ok-own-in-StaticCall-clause-parts t c = let form = static_form _ _ _ _ c.in-StaticCall.is in rw form c.in_ok-own-in-StaticCall.ensures.parts
-
-pub walk-returns-in_ok-own-in-SuperCall-clause-grown : goal.walk-returns-in_ok-own-in-SuperCall-clause-grown
-walk-returns-in_ok-own-in-SuperCall-clause-grown t c = let form = super_form _ _ _ _ c.in-SuperCall.is in rw form (omega (arith, c.in_ok-own-in-SuperCall.ensures.grown))
-
-pub walk-returns-in_ok-own-in-SuperCall-clause-parts : goal.walk-returns-in_ok-own-in-SuperCall-clause-parts
-walk-returns-in_ok-own-in-SuperCall-clause-parts t c = let form = super_form _ _ _ _ c.in-SuperCall.is in rw form c.in_ok-own-in-SuperCall.ensures.parts
-
-pub walk-returns-in_ok-_args-in-New-clause-grown : goal.walk-returns-in_ok-_args-in-New-clause-grown
-walk-returns-in_ok-_args-in-New-clause-grown t c =
-    let form = creation_form _ _ _ _ _ c.in-New.is in rw form (omega (arith, c.in_ok-_args-in-New.ensures.grown, c.in_ok-add-in-New.ensures.grown))
-
-pub walk-returns-in_ok-_args-in-New-clause-parts : goal.walk-returns-in_ok-_args-in-New-clause-parts
-walk-returns-in_ok-_args-in-New-clause-parts t c =
-    let P = program_of no_place c.args.program.now in
-    let K = method_seen at_place c.args.method.now in
+pub walk-returns-in_ok-own-in-Field : goal.walk-returns-in_ok-own-in-Field
+walk-returns-in_ok-own-in-Field t c =
+    let form = ap (expr_of at_place) c.in-Field.is ∙ ap (λ y. field (at_place c.in-Field.place) (expr_of at_place y) c.in-Field.name) (sym c.deref-in-Field.ensures) in
     let n = length c.args.parts.now.items in
-    let es = exprs at_place c.in-New.args.items in
-    let made = operand_of P (object_type P K) c.args.m K (create (record { label = n; place = c.in-New.place }) c.in-New.number c.in-New.class.0 (label_all (n + 1) es)) in
-    let first : parts_seen c.add-in-New.new.parts.items ≡ parts_seen c.args.parts.now.items ++ a_creation c.in-New.place c.args.used made ∷ [] = search rules in
-    let form = creation_form c.args.e.now c.in-New.number c.in-New.class c.in-New.args c.in-New.place c.in-New.is in
-    let all = creation_parts P c.args.m K (a_creation c.in-New.place c.args.used made) es (parts_seen c.args.parts.now.items) (parts_seen c.add-in-New.new.parts.items) (parts_seen c.walk_all.new.parts.items)
-    n (length c.add-in-New.new.parts.items) first c.in_ok-add-in-New.ensures.grown c.in_ok-_args-in-New.ensures.parts in
-    rw form all
+    let accessed = c.is_accessed-accessed.ensures.value n ∙ ap (λ y. is_accessed (label n (expr_of at_place y))) (c.deref.ensures ∙ sym c.deref-in-Field.ensures) in
+    let h = c.in_ok-own-in-Field.ensures in
+    field_walked (program_of no_place c.args.program.now) c.args.m (method_seen at_place c.args.method.now) form accessed c.in_ok-base-in-Field.ensures (record { grown = h.grown; value = h.value; parts = h.parts })
+
+pub walk-returns-in_ok-walk-in-Index : goal.walk-returns-in_ok-walk-in-Index
+walk-returns-in_ok-walk-in-Index t c =
+    let form = ap (expr_of at_place) c.in-Index.is ∙ ap (λ y. index (at_place c.in-Index.place) (expr_of at_place y) (expr_of at_place c.in-Index.at.value)) (sym c.deref-in-Index.ensures)
+    ∙ ap (λ y. index (at_place c.in-Index.place) (expr_of at_place c.deref-in-Index.result.now) (expr_of at_place y)) (sym c.deref-in-Index-2.ensures) in
+    let b = c.in_ok-base-in-Index.base in
+    let value : c.labelled-own-in-Index.result ≡ labelled_operand c.args.m (length c.walk-in-Index.new.parts.items) b.row (element_object b.ty) = search rules in
+    let h = c.in_ok-add-in-Index.ensures in
+    index_walked (program_of no_place c.args.program.now) c.args.m (method_seen at_place c.args.method.now) form c.in_ok-base-in-Index.ensures (record { grown = h.grown; parts = h.parts }) value c.in_ok-walk-in-Index.ensures
+
+pub walk-returns-in_ok-own-in-None : goal.walk-returns-in_ok-own-in-None
+walk-returns-in_ok-own-in-None t c =
+    let P = program_of no_place c.args.program.now in
+    let K = method_seen at_place c.args.method.now in
+    let h = c.in_ok-own-in-None.ensures in
+    call_walked P c.args.m K (own_call _ _ _ _ _ c.in-Call.is c.in-None.is) (this_walked P c.args.m K refl c.this_operand-this-in-None.ensures.value) (record { grown = omega (arith, h.grown); value = h.value; parts = h.parts })
+
+pub walk-returns-in_ok-own-in-Some : goal.walk-returns-in_ok-own-in-Some
+walk-returns-in_ok-own-in-Some t c =
+    let form = call_on c.args.e.now c.in-Call.base c.in-Some.base c.in-Call.name c.in-Call.args c.in-Call.place c.in-Call.is c.in-Some.is
+    ∙ ap (λ y. call (at_place c.in-Call.place) (expr_of at_place y) c.in-Call.name (exprs at_place c.in-Call.args.items)) (sym c.deref-in-Some.ensures) in
+    let h = c.in_ok-own-in-Some.ensures in
+    call_walked (program_of no_place c.args.program.now) c.args.m (method_seen at_place c.args.method.now) form c.in_ok-base-in-Some.ensures (record { grown = omega (arith, h.grown); value = h.value; parts = h.parts })
+
+pub walk-returns-in_ok-own-in-StaticCall : goal.walk-returns-in_ok-own-in-StaticCall
+walk-returns-in_ok-own-in-StaticCall t c =
+    let h = c.in_ok-own-in-StaticCall.ensures in
+    static_walked (program_of no_place c.args.program.now) c.args.m (method_seen at_place c.args.method.now) (static_form _ _ _ _ c.in-StaticCall.is) (record { grown = omega (arith, h.grown); value = h.value; parts = h.parts })
+
+pub walk-returns-in_ok-own-in-SuperCall : goal.walk-returns-in_ok-own-in-SuperCall
+walk-returns-in_ok-own-in-SuperCall t c =
+    let h = c.in_ok-own-in-SuperCall.ensures in
+    super_walked (program_of no_place c.args.program.now) c.args.m (method_seen at_place c.args.method.now) (super_form _ _ _ _ c.in-SuperCall.is) (record { grown = omega (arith, h.grown); value = h.value; parts = h.parts })
+
+pub walk-returns-in_ok-_args-in-New : goal.walk-returns-in_ok-_args-in-New
+walk-returns-in_ok-_args-in-New t c =
+    let value : c.creation-own.result ≡ record { point = Some (point.Expr c.args.m (length c.args.parts.now.items)); row = Some (row.New c.in-New.number); ty = class_object c.in-New.class.0; created = Some c.in-New.number } = search rules in
+    let h = c.in_ok-add-in-New.ensures in
+    let g = c.in_ok-_args-in-New.ensures in
+    creation_walked (program_of no_place c.args.program.now) c.args.m (method_seen at_place c.args.method.now) (creation_form _ _ _ _ _ c.in-New.is) (record { grown = h.grown; parts = h.parts }) value (record { grown = g.grown; value = g.value; parts = g.parts })
+
+pub walk-returns-in_ok-walk-in-NewArray : goal.walk-returns-in_ok-walk-in-NewArray
+walk-returns-in_ok-walk-in-NewArray t c =
+    let form = ap (expr_of at_place) c.in-NewArray.is ∙ ap (λ y. create_array (at_place c.in-NewArray.place) c.in-NewArray.number c.in-NewArray.ty (expr_of at_place y)) (sym c.deref-in-NewArray.ensures) in
+    let value : c.creation-own-in-NewArray.result ≡ record { point = Some (point.Expr c.args.m (length c.args.parts.now.items)); row = Some (row.New c.in-NewArray.number); ty = object_of c.in-NewArray.ty; created = Some c.in-NewArray.number } = search rules in
+    let h = c.in_ok-add-in-NewArray.ensures in
+    array_walked (program_of no_place c.args.program.now) c.args.m (method_seen at_place c.args.method.now) form (record { grown = h.grown; parts = h.parts }) value c.in_ok-walk-in-NewArray.ensures
+
+pub walk-returns-in_ok-value-in-Cast : goal.walk-returns-in_ok-value-in-Cast
+walk-returns-in_ok-value-in-Cast t c =
+    let form = ap (expr_of at_place) c.in-Cast.is ∙ ap (λ y. cast (at_place c.in-Cast.place) c.in-Cast.number c.in-Cast.ty (expr_of at_place y)) (sym c.deref-in-Cast.ensures) in
+    let n = length c.args.parts.now.items in
+    let value : c.labelled-own-in-Cast.result ≡ labelled_operand c.args.m n (Some (row.Cast c.in-Cast.number)) (object_of c.in-Cast.ty) = search rules in
+    let at : c.len-at.result ≡ n = search rules in
+    let h = c.in_ok-add-in-Cast.ensures in
+    cast_walked (program_of no_place c.args.program.now) c.args.m (method_seen at_place c.args.method.now) form (record { grown = h.grown; parts = h.parts }) c.in_ok-value-in-Cast.ensures value c.fill.ensures.grown
+    (λ xs ys q e. c.fill.ensures.parts xs ys q (e ∙ sym at))
+
+pub walk-returns-in_ok-add-in-InstanceOf : goal.walk-returns-in_ok-add-in-InstanceOf
+walk-returns-in_ok-add-in-InstanceOf t c =
+    let form = ap (expr_of at_place) c.in-InstanceOf.is ∙ ap (λ y. instance_of (at_place c.in-InstanceOf.place) c.in-InstanceOf.number (expr_of at_place y) c.in-InstanceOf.class.0) (sym c.deref-in-InstanceOf.ensures) in
+    let value : c.labelled-own-in-InstanceOf.result ≡ labelled_operand c.args.m (length c.walk-in-InstanceOf.new.parts.items) (Some (row.Test c.in-InstanceOf.number)) (class_object c.in-InstanceOf.class.0) = search rules in
+    let h = c.in_ok-add-in-InstanceOf.ensures in
+    test_walked (program_of no_place c.args.program.now) c.args.m (method_seen at_place c.args.method.now) form c.in_ok-value-in-InstanceOf.ensures (record { grown = h.grown; parts = h.parts }) value refl
+
+pub walk-returns-in_ok-walk-in-Unary : goal.walk-returns-in_ok-walk-in-Unary
+walk-returns-in_ok-walk-in-Unary t c =
+    let form = ap (expr_of at_place) c.in-Unary.is ∙ ap (λ y. unary (at_place c.in-Unary.place) c.in-Unary.op (expr_of at_place y)) (sym c.deref-in-Unary.ensures) in
+    unary_walked (program_of no_place c.args.program.now) c.args.m (method_seen at_place c.args.method.now) form c.in_ok-walk-in-Unary.ensures refl
+
+pub walk-returns-in_ok-add-in-Binary : goal.walk-returns-in_ok-add-in-Binary
+walk-returns-in_ok-add-in-Binary t c =
+    let form = ap (expr_of at_place) c.in-Binary.is ∙ ap (λ y. binary (at_place c.in-Binary.place) c.in-Binary.op (expr_of at_place y) (expr_of at_place c.in-Binary.right.value)) (sym c.deref-in-Binary.ensures)
+    ∙ ap (λ y. binary (at_place c.in-Binary.place) c.in-Binary.op (expr_of at_place c.deref-in-Binary.result.now) (expr_of at_place y)) (sym c.deref-in-Binary-2.ensures) in
+    let h = c.in_ok-add-in-Binary.ensures in
+    binary_walked (program_of no_place c.args.program.now) c.args.m (method_seen at_place c.args.method.now) form c.in_ok-left-in-Binary.ensures c.in_ok-right-in-Binary.ensures (record { grown = h.grown; parts = h.parts }) refl

@@ -1,0 +1,36 @@
+-- The lists of the facts, each by what is said of it.
+use Rattle.std.proofs.Common.{refl}
+use Rattle.flow_rules.specs.Lists.{news_of, flows_of, loads_of, stores_of, casts_of, accesses_of, supers_of, ties_of}
+use Rattle.flow_facts.proofs.Along.{same_set}
+use Rattle.flow_facts.proofs.Whole.{rows_whole, columns_whole, sites_whole, points_whole, bodies_whole, set_whole, calls_whole, tests_whole}
+use Rattle.flow_facts.proofs.assembled.assemble.Goals as goal
+
+pub returns : goal.returns
+returns c = λ P Q n s.
+    let d = c.args.numbered in
+    let t = s.tables in
+    let l = s.lists in (
+      record {
+        rows = rows_whole P Q d n _ t.rows;
+        columns = columns_whole P Q d n _ t.columns;
+        sites = sites_whole P Q d n _ t.sites;
+        classes = s.texts.classes;
+        points = points_whole P Q d n _ t.points;
+        cells = n.cells;
+        news = set_whole P Q d n (λ N b. news_of N b.number) _ l.news;
+        flows = set_whole P Q d n (λ N b. flows_of N b.number) _ l.flows;
+        loads = set_whole P Q d n (λ N b. loads_of N) _ l.loads;
+        stores = set_whole P Q d n (λ N b. stores_of N) _ l.stores;
+        bodies = bodies_whole P Q d n _ t.bodies;
+        calls = calls_whole P Q d n _ l.calls;
+        casts = set_whole P Q d n (λ N b. casts_of N) _ l.casts;
+        accesses = set_whole P Q d n (λ N b. accesses_of N) _ l.accesses;
+        supers = set_whole P Q d n (λ N b. supers_of N b.number) _ l.supers;
+        ties = set_whole P Q d n (λ N b. ties_of N P b.number b.slot) _ l.ties;
+        tests = tests_whole P Q d n _ l.tests;
+        makers = refl;
+        makes = c.new.ensures.items;
+        spots = c.new-2.ensures.items;
+      },
+      record { words = s.texts.words; vars = same_set s.texts.variables },
+    )

@@ -1,0 +1,18 @@
+-- The calls and the tests by their place, and the rest as it was.
+use Rattle.std.proofs.Common.{ap, ◌∙◌, map}
+use Rattle.flow_rules.specs.Ordered.{by_place}
+use Rattle.flow_facts.proofs.assembled.in_order.Goals as goal
+
+pub returns : goal.returns
+returns c = λ N P bs g. record {
+  news = g.news;
+  flows = g.flows;
+  loads = g.loads;
+  stores = g.stores;
+  casts = g.casts;
+  accesses = g.accesses;
+  supers = g.supers;
+  ties = g.ties;
+  calls = c.in_ok-calls.ensures.value ∙ ap (λ l. map (λ c. c.item) (by_place (λ c. c.place.at) l)) g.calls;
+  tests = c.in_ok-tests.ensures.value ∙ ap (by_place (λ t. t.place.at)) g.tests;
+}

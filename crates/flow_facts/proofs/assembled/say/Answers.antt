@@ -1,0 +1,11 @@
+-- What each step says.
+use Rattle.java_core.specs.Trees.{at_place, no_place}
+use Rattle.java_core.specs.Programs.{program_of}
+use Rattle.flow_facts.proofs.Whole.{few_columns}
+use Rattle.flow_facts.proofs.assembled.say.Goals as goal
+
+pub list_tables-requires : goal.list_tables-requires
+list_tables-requires c = few_columns (program_of no_place c.args.program.now) (program_of at_place c.args.program.now) c.args.numbered.now c.requires.numbered
+
+pub returns : goal.returns
+returns c = record { tables = c.in_ok-tables.ensures; texts = c.in_ok-texts.ensures; lists = c.in_ok-lists-2.ensures _ _ _ c.in_ok-lists.ensures }

@@ -1,0 +1,32 @@
+-- One body more.
+use Rattle.std.proofs.Common.{◌≡◌, ◌<◌, length, get_or, sym, ap, subst}
+use Rattle.java_core.specs.Trees.{no_place}
+use Rattle.java_core.specs.Programs.{program_of}
+use Rattle.flow_facts.specs.Views.{body_seen}
+use Rattle.flow_facts.specs.Seen.{numbers_seen, calls_seen}
+use Rattle.flow_facts.proofs.Gathers.{body_more, so_far}
+use Rattle.flow_facts.proofs.gathering.gather.Goals as goal
+
+pub loop-body-init : goal.loop-body-init
+loop-body-init c = record {
+  news = c.new.ensures.items;
+  flows = c.new-2.ensures.items;
+  loads = c.new-3.ensures.items;
+  stores = c.new-4.ensures.items;
+  calls = ap calls_seen c.new-5.ensures.items;
+  casts = c.new-6.ensures.items;
+  tests = c.new-7.ensures.items;
+  accesses = c.new-8.ensures.items;
+  supers = c.new-9.ensures.items;
+  ties = c.new-10.ensures.items;
+}
+
+pub loop-body-preserved : goal.loop-body-preserved
+loop-body-preserved c =
+    let bs = c.args.bodies.now.items in
+    let i = c.loop-body.body-index in
+    let b = c.body-item.result in
+    let lt : i < length bs = subst (λ l. i < length l) c.deref-body-items.ensures.value c.loop-body-test.true in
+    let is : b ≡ get_or bs i b = subst (λ l. b ≡ get_or l i b) c.deref-body-items.ensures.value c.body-item.is in
+    let all = body_more (numbers_seen c.args.n.now) (program_of no_place c.args.program.now) {b = body_seen b} c.loop-body.invariant c.in_ok-add_parts.ensures in
+    rw (so_far body_seen bs i b lt is) all

@@ -1,0 +1,49 @@
+-- What is said of what is numbered, before the facts stand whole.
+use Rattle.std.specs.Prelude.{◌≡◌, List, map}
+use Rattle.std.specs.List.{flat_map}
+use Rattle.std.specs.Str.{bytes_eq, encode_utf8_all}
+use Rattle.java_core.specs.Programs.{Plain}
+use Rattle.flow_rules.specs.Lists.{Numbers, news_of, flows_of, loads_of, stores_of, calls_of, casts_of, tests_of, accesses_of, supers_of, ties_of}
+use Rattle.flow_rules.specs.Numbered.{Body}
+use Rattle.flow_rules.specs.Ordered.{by_place, once, each}
+use Rattle.flow_rules.specs.Facts.{row_info, column_info, site_info, column_body, class_seen, class_facts, all_names, all_variables, call_seen, body_seen as plain_body}
+use Rattle.flow_facts.specs.declared.assembled.Tables.{Tables}
+use Rattle.flow_facts.specs.declared.assembled.Texts.{Texts}
+use Rattle.flow_facts.specs.declared.assembled.Ordered.{Ordered}
+use Rattle.flow_facts.specs.declared.assembled.Said.{Said}
+use Rattle.flow_facts.specs.declared.top.Numbered.{Numbered}
+use Rattle.flow_facts.specs.Seen.{numbers_seen}
+use Rattle.flow_facts.specs.Views.{body_seen}
+
+-- what each row, column, site and flow point is, and each body
+pub record AreTables (Q : Plain) (d : Numbered) (t : Tables) : Type 0 where
+  pub rows : t.rows.items ≡ map (row_info (numbers_seen d.numbering) Q) d.rows.items
+  pub columns : t.columns.items ≡ map (λ c. column_info Q c.item) d.columns.items
+  pub sites : t.sites.items ≡ map site_info d.sites.items
+  pub points : t.points.items ≡ map (λ p. record { 0 = p.row }) d.points.items
+  pub bodies : map plain_body t.bodies.items ≡ each (λ c k. column_body (numbers_seen d.numbering) Q c k.item) 0 d.columns.items
+
+-- the classes, and the names of the text
+pub record AreTexts (Q : Plain) (t : Texts) : Type 0 where
+  pub classes : map class_seen t.classes.items ≡ each (class_facts Q) 0 Q.classes
+  pub words : t.words.items ≡ once bytes_eq encode_utf8_all (all_names Q)
+  pub variables : t.variables.items ≡ all_variables Q
+
+-- what the parts of the bodies give to each list, the calls and the tests by their place
+pub record AreOrdered (N : Numbers) (P : Plain) (bs : List Body) (o : Ordered) : Type 0 where
+  pub news : o.news.items ≡ flat_map (λ b. flat_map (news_of N b.number) b.parts) bs
+  pub flows : o.flows.items ≡ flat_map (λ b. flat_map (flows_of N b.number) b.parts) bs
+  pub loads : o.loads.items ≡ flat_map (λ b. flat_map (loads_of N) b.parts) bs
+  pub stores : o.stores.items ≡ flat_map (λ b. flat_map (stores_of N) b.parts) bs
+  pub casts : o.casts.items ≡ flat_map (λ b. flat_map (casts_of N) b.parts) bs
+  pub accesses : o.accesses.items ≡ flat_map (λ b. flat_map (accesses_of N) b.parts) bs
+  pub supers : o.supers.items ≡ flat_map (λ b. flat_map (supers_of N b.number) b.parts) bs
+  pub ties : o.ties.items ≡ flat_map (λ b. flat_map (ties_of N P b.number b.slot) b.parts) bs
+  pub calls : map call_seen o.calls.items ≡ map (λ c. c.item) (by_place (λ c. c.place.at) (flat_map (λ b. flat_map (calls_of N) b.parts) bs))
+  pub tests : o.tests.items ≡ by_place (λ t. t.place.at) (flat_map (λ b. flat_map (tests_of N) b.parts) bs)
+
+-- all of it
+pub record IsSaid (P Q : Plain) (d : Numbered) (s : Said) : Type 0 where
+  pub tables : AreTables Q d s.tables
+  pub texts : AreTexts Q s.texts
+  pub lists : AreOrdered (numbers_seen d.numbering) P (map body_seen d.bodies.items) s.lists

@@ -1,0 +1,49 @@
+-- What a walk over a tree adds to the parts of a body.
+use Rattle.std.specs.Prelude.{◌≡◌, ℕ, ◌+◌, ◌++◌, ◌∷◌, Bool, true, List, Option, length}
+use Rattle.kaba_base.specs.declared.Place.{Place}
+use Rattle.java_core.specs.Trees.{Ex, Exs}
+use Rattle.java_core.specs.Programs.{Plain, PlainMethod}
+use Rattle.flow_rules.specs.declared.items.ObjectType.{ObjectType}
+use Rattle.flow_rules.specs.declared.items.Operand.{Operand}
+use Rattle.flow_rules.specs.declared.items.Part.{Part}
+use Rattle.flow_rules.specs.Labels.{size, sizes, label, label_all}
+use Rattle.flow_rules.specs.Operands.{operand_of, operands_of, call_slot, call_declaration}
+use Rattle.flow_rules.specs.Types.{object_type}
+use Rattle.flow_rules.specs.Parts as plain
+use Rattle.flow_facts.specs.Views.{parts_seen, call_operand}
+
+-- so many parts more, which are these
+pub record IsAdded (old new : List Part) (n : ℕ) (ps : List plain.Part) : Type 0 where
+  pub grown : length new ≡ length old + n
+  pub parts : parts_seen new ≡ parts_seen old ++ ps
+
+-- the same, and the operand that is given is the one that is wanted
+pub record IsMade (old new : List Part) (n : ℕ) (ps : List plain.Part) (given wanted : Operand) : Type 0 where
+  pub grown : length new ≡ length old + n
+  pub value : given ≡ wanted
+  pub parts : parts_seen new ≡ parts_seen old ++ ps
+
+-- in the body of a method
+module _ (P : Plain) (m : ℕ) (k : PlainMethod) where
+  -- the parts of an expression more, which is labelled from the length of the list on, and what it is
+  pub record IsWalked (u : Bool) (e : Ex) (old new : List Part) (o : Operand) : Type 0 where
+    pub grown : length new ≡ length old + size e
+    pub value : o ≡ operand_of P (object_type P k) m k (label (length old) e)
+    pub parts : parts_seen new ≡ parts_seen old ++ plain.parts P (object_type P k) m k u (label (length old) e)
+
+  -- the same of arguments
+  pub record AreWalked (u : Bool) (es : Exs) (old new : List Part) (os : List Operand) : Type 0 where
+    pub grown : length new ≡ length old + sizes es
+    pub value : os ≡ operands_of P (object_type P k) m k (label_all (length old) es)
+    pub parts : parts_seen new ≡ parts_seen old ++ plain.parts_all P (object_type P k) m k u (label_all (length old) es)
+
+  -- the operands and the parts of arguments from a label on
+  abbrev pub args_from : ℕ → Exs → List Operand
+  args_from n es = operands_of P (object_type P k) m k (label_all n es)
+
+  abbrev pub parts_from : Bool → ℕ → Exs → List plain.Part
+  parts_from u n es = plain.parts_all P (object_type P k) m k u (label_all n es)
+
+  -- the parts of a call of an instance method on an operand, labelled from a number on
+  abbrev pub call_from : Place → Operand → List ℕ → ℕ → Exs → List plain.Part
+  call_from p o x n es = plain.a_call p o (call_slot P o.ty x) (call_declaration P o.ty x) (args_from (n + 1) es) (call_operand P m n o.ty x) ∷ parts_from true (n + 1) es

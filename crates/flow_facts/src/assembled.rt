@@ -1,0 +1,200 @@
+//! The facts over what is numbered.
+
+ghost use Rattle.std.specs.Prelude.{◌≡◌, ◌<◌, List, IfOk, length, map};
+ghost use Rattle.java_core.specs.Trees.{at_place, no_place};
+ghost use Rattle.java_core.specs.Programs.{Plain, program_of};
+ghost use Rattle.java_core.specs.Formed.{IsFormed};
+ghost use Rattle.flow_rules.specs.Facts.{AreNamesOf, IsFactsOf, call_seen};
+ghost use Rattle.flow_rules.specs.Lists.{Numbers};
+ghost use Rattle.flow_rules.specs.Numbered as numbered;
+ghost use Rattle.flow_rules.specs.Ordered.{by_place};
+ghost use Rattle.flow_facts.specs.Gathered.{AreGathered};
+ghost use Rattle.flow_facts.specs.Said.{AreTables, AreTexts, AreOrdered, IsSaid};
+ghost use Rattle.flow_facts.specs.Seen.{numbers_seen, calls_seen};
+ghost use Rattle.flow_facts.specs.Stages.{IsNumbered};
+ghost use Rattle.flow_facts.specs.Views.{body_seen};
+
+use crate::gathering::{Lists, gather};
+use crate::infos::{body_infos, column_infos, point_rows, row_infos, site_infos};
+use crate::lists::PlacedCall;
+use crate::names::{class_infos, variables, words};
+use crate::ordered::by_place;
+use crate::top::Numbered;
+use fact_model::{
+    AccessInfo, BodyInfo, CallInfo, CastInfo, ClassInfo, ColumnInfo, Facts, FlowInfo, LoadInfo,
+    NewInfo, RowInfo, SiteInfo, StoreInfo, SuperInfo, TestInfo, TieInfo,
+};
+use java_core::Program;
+use kaba_base::{Name, RowId};
+use std::alloc::{AllocError, Global};
+
+/// The calls without their places.
+fn without_places(alloc: Global, calls: Vec<PlacedCall>) -> Result<Vec<CallInfo>, AllocError>
+    ensures value { IfOk result (λ v. v.items ≡ map (λ c. c.call) calls.items) }
+{
+    calls.into_iter().map(|placed| placed.call).collect(alloc)
+}
+
+/// The calls by their place.
+fn calls_in_order(alloc: Global, calls: Vec<PlacedCall>) -> Result<Vec<CallInfo>, AllocError>
+    ensures value { IfOk result (λ v. map call_seen v.items ≡ map (λ c. c.item) (by_place (λ c. c.place.at) (calls_seen calls.items))) }
+{
+    let placed = by_place(calls)?;
+    let list = without_places(alloc, placed)?;
+    Ok(list)
+}
+
+/// What is said of each row, column, site and flow point, and of each body.
+#[derive(Drop)]
+pub struct Tables {
+    pub rows: Vec<RowInfo>,
+    pub columns: Vec<ColumnInfo>,
+    pub sites: Vec<SiteInfo>,
+    pub points: Vec<RowId>,
+    pub bodies: Vec<BodyInfo>,
+}
+
+/// Says what each row, column, site and flow point is, and each body.
+fn list_tables(alloc: Global, program: &Program, numbered: &Numbered) -> Result<Tables, AllocError>
+    requires { length numbered.now.columns.items < 4294967295 }
+    ensures { IfOk result (λ t. AreTables (program_of at_place program.now) numbered.now t) }
+{
+    let rows = row_infos(alloc, program, &numbered.numbering, &numbered.rows)?;
+    let columns = column_infos(alloc, program, &numbered.columns)?;
+    let sites = site_infos(alloc, &numbered.sites)?;
+    let points = point_rows(alloc, &numbered.points)?;
+    let bodies = body_infos(alloc, program, &numbered.numbering, &numbered.columns)?;
+    Ok(Tables {
+        rows,
+        columns,
+        sites,
+        points,
+        bodies,
+    })
+}
+
+/// The classes, and the names of the text.
+#[derive(Drop)]
+pub struct Texts {
+    pub classes: Vec<ClassInfo>,
+    pub words: Vec<Name>,
+    pub variables: Vec<Name>,
+}
+
+/// Lists the classes, and the names of the text.
+fn list_texts(alloc: Global, program: &Program) -> Result<Texts, AllocError>
+    ensures { IfOk result (λ t. AreTexts (program_of at_place program.now) t) }
+{
+    let classes = class_infos(alloc, program)?;
+    let words = words(alloc, program)?;
+    let variables = variables(alloc, program)?;
+    Ok(Texts {
+        classes,
+        words,
+        variables,
+    })
+}
+
+/// The lists that the bodies give, in their order.
+#[derive(Drop)]
+pub struct Ordered {
+    pub news: Vec<NewInfo>,
+    pub flows: Vec<FlowInfo>,
+    pub loads: Vec<LoadInfo>,
+    pub stores: Vec<StoreInfo>,
+    pub calls: Vec<CallInfo>,
+    pub casts: Vec<CastInfo>,
+    pub tests: Vec<TestInfo>,
+    pub accesses: Vec<AccessInfo>,
+    pub supers: Vec<SuperInfo>,
+    pub ties: Vec<TieInfo>,
+}
+
+/// The lists with their calls and tests by place.
+fn in_order(alloc: Global, lists: Lists) -> Result<Ordered, AllocError>
+    ensures { (N : Numbers) (P : Plain) (bs : List numbered.Body) → AreGathered N P bs lists → IfOk result (λ o. AreOrdered N P bs o) }
+{
+    let calls = calls_in_order(alloc, lists.calls)?;
+    let tests = by_place(lists.tests)?;
+    Ok(Ordered {
+        news: lists.news,
+        flows: lists.flows,
+        loads: lists.loads,
+        stores: lists.stores,
+        calls,
+        casts: lists.casts,
+        tests,
+        accesses: lists.accesses,
+        supers: lists.supers,
+        ties: lists.ties,
+    })
+}
+
+/// What is said of what is numbered, the names of the text, and the lists that the bodies give.
+#[derive(Drop)]
+pub struct Said {
+    pub tables: Tables,
+    pub texts: Texts,
+    pub lists: Ordered,
+}
+
+/// Says all of what is numbered.
+fn say(alloc: Global, program: &Program, numbered: &Numbered) -> Result<Said, AllocError>
+    requires formed { IsFormed (program_of no_place program.now) }
+    requires numbered { IsNumbered (program_of no_place program.now) (program_of at_place program.now) numbered.now }
+    ensures { IfOk result (λ s. IsSaid (program_of no_place program.now) (program_of at_place program.now) numbered.now s) }
+{
+    let tables = list_tables(alloc, program, numbered)?;
+    let texts = list_texts(alloc, program)?;
+    let lists = gather(alloc, program, &numbered.numbering, &numbered.bodies)?;
+    let lists = in_order(alloc, lists)?;
+    Ok(Said {
+        tables,
+        texts,
+        lists,
+    })
+}
+
+/// The facts of what is numbered and said.
+#[tactic(none)]
+fn assemble(alloc: Global, numbered: Numbered, said: Said) -> Facts
+    ensures { (P Q : Plain) → IsNumbered P Q numbered → IsSaid P Q numbered said → IsFactsOf P Q result × AreNamesOf Q result }
+{
+    let (tables, texts, lists) = (said.tables, said.texts, said.lists);
+    Facts {
+        rows: tables.rows,
+        columns: tables.columns,
+        sites: tables.sites,
+        classes: texts.classes,
+        points: tables.points,
+        cells: numbered.cells,
+        news: lists.news,
+        flows: lists.flows,
+        loads: lists.loads,
+        stores: lists.stores,
+        bodies: tables.bodies,
+        calls: lists.calls,
+        casts: lists.casts,
+        accesses: lists.accesses,
+        supers: lists.supers,
+        ties: lists.ties,
+        tests: lists.tests,
+        words: texts.words,
+        vars: texts.variables,
+        makers: None,
+        makes: Vec::new(alloc),
+        spots: Vec::new(alloc),
+    }
+}
+
+/// The facts over what is numbered in a program.
+#[tactic(none)]
+pub fn facts_over(alloc: Global, program: &Program, numbered: Numbered) -> Result<Facts, AllocError>
+    requires formed { IsFormed (program_of no_place program.now) }
+    requires numbered { IsNumbered (program_of no_place program.now) (program_of at_place program.now) numbered }
+    ensures ok { IfOk result (λ f. IsFactsOf (program_of no_place program.now) (program_of at_place program.now) f) }
+    ensures names { IfOk result (λ f. AreNamesOf (program_of at_place program.now) f) }
+{
+    let said = say(alloc, program, &numbered)?;
+    Ok(assemble(alloc, numbered, said))
+}

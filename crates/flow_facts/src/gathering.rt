@@ -1,0 +1,118 @@
+//! What the parts of all bodies give to the lists of the facts.
+
+ghost use Rattle.std.specs.Prelude.{IfOk, OnOk, map};
+ghost use Rattle.java_core.specs.Trees.{no_place};
+ghost use Rattle.java_core.specs.Programs.{program_of};
+ghost use Rattle.java_core.specs.Formed.{IsFormed};
+ghost use Rattle.flow_facts.specs.Views.{part_seen, parts_seen, body_seen};
+ghost use Rattle.flow_facts.specs.Seen.{numbers_seen};
+ghost use Rattle.flow_facts.specs.Gathered.{IsPartAdded, ArePartsAdded, AreGathered};
+
+use crate::lists::{
+    PlacedCall, add_accesses, add_calls, add_casts, add_flows, add_loads, add_news, add_stores,
+    add_supers, add_tests,
+};
+use crate::numbering::Numbering;
+use crate::ties::add_ties;
+use fact_model::{
+    AccessInfo, CastInfo, FlowInfo, LoadInfo, NewInfo, StoreInfo, SuperInfo, TestInfo, TieInfo,
+};
+use flow_rules::{Body, Part};
+use java_core::Program;
+use std::alloc::{AllocError, Global};
+
+/// The lists that the parts of bodies give.
+#[derive(Drop)]
+pub struct Lists {
+    pub news: Vec<NewInfo>,
+    pub flows: Vec<FlowInfo>,
+    pub loads: Vec<LoadInfo>,
+    pub stores: Vec<StoreInfo>,
+    pub calls: Vec<PlacedCall>,
+    pub casts: Vec<CastInfo>,
+    pub tests: Vec<TestInfo>,
+    pub accesses: Vec<AccessInfo>,
+    pub supers: Vec<SuperInfo>,
+    pub ties: Vec<TieInfo>,
+}
+
+/// Adds what a part of a method's body gives. The slot is the method's.
+fn add_part(
+    alloc: Global,
+    program: &Program,
+    n: &Numbering,
+    m: u64,
+    slot: Option<u32>,
+    part: &Part,
+    lists: &mut Lists,
+) -> Result<(), AllocError>
+    requires { IsFormed (program_of no_place program.now) }
+    ensures { OnOk result (IsPartAdded (numbers_seen n.now) (program_of no_place program.now) m slot (part_seen part.now) lists.old lists.new) }
+{
+    add_news(n, m, part, &mut lists.news)?;
+    add_flows(n, m, part, &mut lists.flows)?;
+    add_loads(n, part, &mut lists.loads)?;
+    add_stores(n, part, &mut lists.stores)?;
+    add_calls(alloc, n, part, &mut lists.calls)?;
+    add_casts(n, part, &mut lists.casts)?;
+    add_tests(n, part, &mut lists.tests)?;
+    add_accesses(n, part, &mut lists.accesses)?;
+    add_supers(n, m, part, &mut lists.supers)?;
+    add_ties(program, n, m, slot, part, &mut lists.ties)?;
+    Ok(())
+}
+
+/// Adds what the parts of a method's body give. The slot is the method's.
+fn add_parts(
+    alloc: Global,
+    program: &Program,
+    n: &Numbering,
+    m: u64,
+    slot: Option<u32>,
+    parts: &Vec<Part>,
+    lists: &mut Lists,
+) -> Result<(), AllocError>
+    requires { IsFormed (program_of no_place program.now) }
+    ensures { OnOk result (ArePartsAdded (numbers_seen n.now) (program_of no_place program.now) m slot (parts_seen parts.now.items) lists.old lists.new) }
+{
+    for part in parts {
+        add_part(alloc, program, n, m, slot, part, lists)?;
+    }
+    Ok(())
+}
+
+/// What the parts of all bodies give.
+pub fn gather(
+    alloc: Global,
+    program: &Program,
+    n: &Numbering,
+    bodies: &Vec<Body>,
+) -> Result<Lists, AllocError>
+    requires { IsFormed (program_of no_place program.now) }
+    ensures { IfOk result (λ l. AreGathered (numbers_seen n.now) (program_of no_place program.now) (map body_seen bodies.now.items) l) }
+{
+    let mut lists = Lists {
+        news: Vec::new(alloc),
+        flows: Vec::new(alloc),
+        loads: Vec::new(alloc),
+        stores: Vec::new(alloc),
+        calls: Vec::new(alloc),
+        casts: Vec::new(alloc),
+        tests: Vec::new(alloc),
+        accesses: Vec::new(alloc),
+        supers: Vec::new(alloc),
+        ties: Vec::new(alloc),
+    };
+    for body in bodies {
+        add_parts(
+            alloc,
+            program,
+            n,
+            body.number,
+            body.slot,
+            &body.parts,
+            &mut lists,
+        )?;
+    }
+    Ok(lists)
+}
