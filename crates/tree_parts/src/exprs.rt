@@ -11,14 +11,11 @@ ghost use Rattle.java_core.specs.Formed.{IsFormed, variables_of};
 ghost use Rattle.written_tree.specs.Bodies as written;
 ghost use Rattle.tree_parts.specs.Renamed.{IsFitting, expression, expressions};
 
-use crate::names::{
-    accessed_name, called_name, class_name, field_name, id, infix_mark, is_same, no_name, node_of,
-    nowhere, prefix_mark, row_name, super_name, written_type,
-};
+use crate::names::{class_name, infix_mark, is_same, no_name, nowhere, prefix_mark};
 use crate::numbers::Numbering;
-use flow_rules::RowItem;
+use crate::shapes;
 use hier_model::Hier;
-use java_core::{Local, Method, Program, RExpr, class_of, static_of};
+use java_core::{Local, Method, Program, RExpr, static_of};
 use java_tree::{Expr, build};
 use kaba_base::{ClassId, MemberId, Name};
 use std::alloc::{AllocError, Global};
@@ -182,15 +179,11 @@ pub fn expr(
             place: nowhere(),
         }),
         RExpr::Static { field, .. } => static_field(alloc, program, method, scope, *field),
-        RExpr::Own { field, .. } => {
-            let name = field_name(alloc, numbering, hier, field.0 as u64)?;
-            build::field(alloc, Expr::This { place: nowhere() }, name, nowhere())
-        }
+        RExpr::Own { field, .. } => shapes::own_field(alloc, numbering, hier, *field),
         RExpr::Field { base, name, .. } => {
             let found = static_of(program, method, base);
-            let name = accessed_name(alloc, program, numbering, hier, found, name)?;
             let base = expr(alloc, program, numbering, hier, m, method, scope, base)?;
-            build::field(alloc, base, name, nowhere())
+            shapes::field(alloc, program, numbering, hier, found, name, base)
         }
         RExpr::Index { base, at, .. } => {
             let base = expr(alloc, program, numbering, hier, m, method, scope, base)?;
@@ -204,18 +197,14 @@ pub fn expr(
             ..
         } => match base {
             None => {
-                let class = Some(method.owner);
-                let name = called_name(alloc, program, numbering, hier, class, name)?;
-                let on = Expr::This { place: nowhere() };
                 let args = all(alloc, program, numbering, hier, m, method, scope, args)?;
-                build::call_on(alloc, on, name, args, nowhere())
+                shapes::own_call(alloc, program, numbering, hier, method.owner, name, args)
             }
             Some(base) => {
-                let class = class_of(static_of(program, method, base));
-                let name = called_name(alloc, program, numbering, hier, class, name)?;
+                let found = static_of(program, method, base);
                 let on = expr(alloc, program, numbering, hier, m, method, scope, base)?;
                 let args = all(alloc, program, numbering, hier, m, method, scope, args)?;
-                build::call_on(alloc, on, name, args, nowhere())
+                shapes::call(alloc, program, numbering, hier, found, name, on, args)
             }
         },
         RExpr::StaticCall {
@@ -227,9 +216,8 @@ pub fn expr(
             static_call(alloc, program, method, scope, *called, args)
         }
         RExpr::SuperCall { name, args, .. } => {
-            let name = super_name(alloc, program, numbering, hier, method.owner, name)?;
             let args = all(alloc, program, numbering, hier, m, method, scope, args)?;
-            Ok(build::super_call(name, args, nowhere()))
+            shapes::super_call(alloc, program, numbering, hier, method.owner, name, args)
         }
         RExpr::New {
             number,
@@ -237,10 +225,8 @@ pub fn expr(
             args,
             ..
         } => {
-            let node = node_of(numbering, hier, RowItem::New(*number as u64));
-            let name = row_name(alloc, program, hier, node, *class)?;
             let args = all(alloc, program, numbering, hier, m, method, scope, args)?;
-            Ok(build::new_object(id(name), args, nowhere()))
+            shapes::creation(alloc, program, numbering, hier, *number, *class, args)
         }
         RExpr::NewArray {
             number,
@@ -248,10 +234,8 @@ pub fn expr(
             size,
             ..
         } => {
-            let node = node_of(numbering, hier, RowItem::New(*number as u64));
-            let ty = written_type(alloc, program, hier, node, *ty)?;
             let size = expr(alloc, program, numbering, hier, m, method, scope, size)?;
-            build::new_array(alloc, ty, size, nowhere())
+            shapes::array(alloc, program, numbering, hier, *number, *ty, size)
         }
         RExpr::Cast {
             number,
@@ -259,10 +243,8 @@ pub fn expr(
             value,
             ..
         } => {
-            let node = node_of(numbering, hier, RowItem::Cast(*number as u64));
-            let ty = written_type(alloc, program, hier, node, *ty)?;
             let value = expr(alloc, program, numbering, hier, m, method, scope, value)?;
-            build::cast(alloc, ty, value, nowhere())
+            shapes::cast(alloc, program, numbering, hier, *number, *ty, value)
         }
         RExpr::InstanceOf {
             number,
@@ -270,10 +252,8 @@ pub fn expr(
             class,
             ..
         } => {
-            let node = node_of(numbering, hier, RowItem::Test(*number as u64));
-            let name = row_name(alloc, program, hier, node, *class)?;
             let value = expr(alloc, program, numbering, hier, m, method, scope, value)?;
-            build::instance_of(alloc, value, id(name), nowhere())
+            shapes::test(alloc, program, numbering, hier, *number, *class, value)
         }
         RExpr::Unary { op, value, .. } => {
             let value = expr(alloc, program, numbering, hier, m, method, scope, value)?;

@@ -6,6 +6,7 @@
 mod exprs;
 mod names;
 mod numbers;
+mod shapes;
 mod stmts;
 
 pub use exprs::expr;

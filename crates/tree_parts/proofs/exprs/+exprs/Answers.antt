@@ -1,15 +1,17 @@
 -- A form that holds a list is the tree over the items of the list.
 use Rattle.std.proofs.Common.{rules, arith, ◌≡◌, ◌≤◌, length, sym, ap, ◌∙◌}
-use Rattle.std.specs.Option.{option_map}
 use Rattle.std.proofs.lemmas.Result.{IfOk-weaker}
 use Rattle.java_core.specs.Trees.{no_place, expr_of, exprs}
 use Rattle.java_core.specs.Types.{class_of, static, env_of}
 use Rattle.written_tree.specs.Bodies.{written}
 use Rattle.java_core.specs.Programs.{program_of, method_seen}
-use Rattle.tree_parts.specs.Renamed.{renamed}
+use Rattle.java_tree.specs.Syntax.{NewArrayOf, CastOf}
+use Rattle.flow_rules.specs.declared.items.RowItem.TheVariants as row
+use Rattle.written_tree.specs.Names.{nowhere}
+use Rattle.tree_parts.specs.Renamed.{renamed, row_typed}
 use Rattle.tree_parts.proofs.Forms.{own_call, call_on, static_form, super_form, creation_form}
 use Rattle.tree_parts.proofs.Steps.{all_next, all_end}
-use Rattle.tree_parts.proofs.Parts.{array_is, cast_is, call_is}
+use Rattle.tree_parts.proofs.Parts.{call_is}
 use Rattle.tree_parts.proofs.exprs.+exprs.Goals as goal
 
 pub all-loop-one-preserved : goal.all-loop-one-preserved
@@ -36,19 +38,18 @@ pub expr-returns-in_ok-args-in-Some : goal.expr-returns-in_ok-args-in-Some
 expr-returns-in_ok-args-in-Some t c =
     let P = program_of no_place c.args.program.now in
     let R = renamed c.args.numbering.now c.args.hier.now in
+    let H = c.args.hier.now in
     let k = method_seen no_place c.args.method.now in
     let scope = c.args.scope.now.items in
     let b = c.in-Some.base.value in
-    let class : option_map (λ d. d.0) c.class_of-class.result ≡ class_of (static P (env_of c.args.m k) (expr_of no_place b)) =
-    c.class_of-class.ensures.value ∙ ap class_of (c.static_of.ensures.value no_place c.args.m
+    let class = ap class_of (c.static_of-found-in-Some.ensures.value no_place c.args.m
     ∙ ap (λ y. static P (env_of c.args.m k) (expr_of no_place y)) c.deref-in-Some.ensures) in
-    let on = c.in_ok-on-in-Some.ensures.value ∙ ap (λ y. written P R c.args.hier.now c.args.m k scope (expr_of no_place y)) c.deref-in-Some-2.ensures in
-    let is = call_is P R c.args.hier.now c.args.m k scope (no_place c.in-Call.place) (expr_of no_place b) c.in-Call.name (exprs no_place c.in-Call.args.items)
-    (option_map (λ d. d.0) c.class_of-class.result) c.nowhere-in-Some.ensures on c.in_ok-name-in-Some.ensures class c.in_ok-args-in-Some.ensures.value in
+    let on = c.in_ok-on-in-Some.ensures.value ∙ ap (λ y. written P R H c.args.m k scope (expr_of no_place y)) c.deref-in-Some-2.ensures in
+    let is = call_is P R H c.args.m k scope (no_place c.in-Call.place) (expr_of no_place b) c.in-Call.name (exprs no_place c.in-Call.args.items)
+    on class c.in_ok-args-in-Some.ensures.value in
     let form = call_on c.in-Call.args c.in-Call.is c.in-Some.is in
     record {
-      value = IfOk-weaker c.call_on-in-Some.result _ _ (λ e h. h ∙ is
-          ∙ sym (ap (written P R c.args.hier.now c.args.m k scope) form)) c.call_on-in-Some.ensures.value;
+      value = IfOk-weaker c.call.result _ _ (λ e h. h ∙ is ∙ sym (ap (written P R H c.args.m k scope) form)) c.call.ensures;
     }
 
 pub expr-returns-in_ok-args-in-StaticCall : goal.expr-returns-in_ok-args-in-StaticCall
@@ -64,31 +65,28 @@ pub expr-returns-in_ok-size-in-NewArray : goal.expr-returns-in_ok-size-in-NewArr
 expr-returns-in_ok-size-in-NewArray t c =
     let P = program_of no_place c.args.program.now in
     let R = renamed c.args.numbering.now c.args.hier.now in
+    let H = c.args.hier.now in
     let k = method_seen no_place c.args.method.now in
     let scope = c.args.scope.now.items in
     let a = c.in-NewArray in
-    let size = c.in_ok-size-in-NewArray.ensures.value ∙ ap (λ y. written P R c.args.hier.now c.args.m k scope (expr_of no_place y))
-    c.deref-in-NewArray.ensures in
-    let is = array_is P R c.args.hier.now c.args.m k scope (no_place a.place) a.number a.ty (expr_of no_place a.size.value)
-    (option_map (λ d. d.0) c.node_of-node-in-NewArray.result)
-    c.nowhere-in-NewArray.ensures c.in_ok-ty-in-NewArray.ensures c.node_of-node-in-NewArray.ensures.node size in
+    let size = c.in_ok-size-in-NewArray.ensures.value ∙ ap (λ y. written P R H c.args.m k scope (expr_of no_place y)) c.deref-in-NewArray.ensures in
     record {
-      value = IfOk-weaker c.new_array.result _ _ (λ e h. h ∙ is
-          ∙ sym (ap (λ y. written P R c.args.hier.now c.args.m k scope (expr_of no_place y)) a.is)) c.new_array.ensures.value;
+      value = IfOk-weaker c.array.result _ _ (λ e h. h
+          ∙ ap (λ y. NewArrayOf (row_typed c.args.program.now c.args.numbering.now H (row.New a.number) a.ty) y nowhere) size
+          ∙ sym (ap (λ y. written P R H c.args.m k scope (expr_of no_place y)) a.is)) c.array.ensures;
     }
 
 pub expr-returns-in_ok-value-in-Cast : goal.expr-returns-in_ok-value-in-Cast
 expr-returns-in_ok-value-in-Cast t c =
     let P = program_of no_place c.args.program.now in
     let R = renamed c.args.numbering.now c.args.hier.now in
+    let H = c.args.hier.now in
     let k = method_seen no_place c.args.method.now in
     let scope = c.args.scope.now.items in
     let a = c.in-Cast in
-    let value = c.in_ok-value-in-Cast.ensures.value ∙ ap (λ y. written P R c.args.hier.now c.args.m k scope (expr_of no_place y)) c.deref-in-Cast.ensures in
-    let is = cast_is P R c.args.hier.now c.args.m k scope (no_place a.place) a.number a.ty (expr_of no_place a.value.value)
-    (option_map (λ d. d.0) c.node_of-node-in-Cast.result)
-    c.nowhere-in-Cast.ensures c.in_ok-ty-in-Cast.ensures c.node_of-node-in-Cast.ensures.node value in
+    let value = c.in_ok-value-in-Cast.ensures.value ∙ ap (λ y. written P R H c.args.m k scope (expr_of no_place y)) c.deref-in-Cast.ensures in
     record {
-      value = IfOk-weaker c.cast.result _ _ (λ e h. h ∙ is
-          ∙ sym (ap (λ y. written P R c.args.hier.now c.args.m k scope (expr_of no_place y)) a.is)) c.cast.ensures.value;
+      value = IfOk-weaker c.cast.result _ _ (λ e h. h
+          ∙ ap (λ y. CastOf (row_typed c.args.program.now c.args.numbering.now H (row.Cast a.number) a.ty) y nowhere) value
+          ∙ sym (ap (λ y. written P R H c.args.m k scope (expr_of no_place y)) a.is)) c.cast.ensures;
     }
