@@ -1,3 +1,5 @@
 pub mod Copies
-pub mod Lists
+pub mod Lying
+pub mod Paired
+pub mod Stored
 pub mod Units

@@ -49,7 +49,7 @@ fn word_text(alloc: Global, truth: bool) -> Result<Vec<u16>, AllocError>
 }
 
 /// The units of a string.
-fn string_text(alloc: Global, heap: &Heap, at: usize) -> Result<Option<Vec<u16>>, AllocError>
+fn string_text(alloc: Global, heap: &Heap, at: u32) -> Result<Option<Vec<u16>>, AllocError>
     ensures { IfOk result (λ r. option_map (λ u. u.items) r ≡ slice_get heap.now.strings at) }
 {
     match heap.text(at) {

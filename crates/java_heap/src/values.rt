@@ -20,10 +20,12 @@ pub enum Value {
     /// `null`
     Null,
     /// A string.
-    Str(usize),
+    Str(u32),
     /// An object or an array.
-    Ref(usize),
+    Ref(u32),
 }
+
+const _: () = prove!(size_of::<Value>() == 8);
 
 /// The value that a field, an element or a local of the type has by itself: 0, `false`, the
 /// character 0 or `null` (Java Language Specification, 4.12.5).

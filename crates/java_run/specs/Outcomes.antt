@@ -1,17 +1,12 @@
 -- The outcome of a run, as the meaning gives it.
-use Rattle.std.specs.Prelude.{◌≡◌, ℕ, ◌+◌, List, map, flat_map}
-use Rattle.std.specs.Str.{chars}
-use Rattle.std.specs.Char.Escape.{encode_utf16}
+use Rattle.std.specs.Prelude.{◌≡◌, ℕ, ◌+◌, List, map}
 use Rattle.java_core.specs.Programs.{Plain}
 use Rattle.java_meaning.specs.Moment as meaning
 use Rattle.java_meaning.specs.Languages as languages
+use Rattle.linear_machine.specs.Words.{units_of}
 use Rattle.java_run.specs.declared.runs.End.{End}
 use Rattle.java_run.specs.declared.runs.End.TheVariants as ends
 use Rattle.java_run.specs.declared.runs.Outcome.{Outcome}
-
--- the units of a word, of which these are the bytes
-abbrev pub units_of : List ℕ → List ℕ
-units_of word = flat_map encode_utf16 (chars word)
 
 -- what the meaning gives for a program on words, of which these are the bytes, with so many steps
 unfoldable pub meant : Plain → List (List ℕ) → ℕ → meaning.Outcome

@@ -1,25 +1,33 @@
-use Rattle.std.proofs.Common.{ap, sym, refl, map, string_bytes}
+use Rattle.std.proofs.Common.{◌≡◌, ◌≤◌, ap, ◌∙◌, refl, arith, string_bytes, map}
 use Rattle.java_core.specs.Trees.{no_place}
 use Rattle.java_core.specs.Programs.{program_of}
-use Rattle.java_run.specs.Outcomes.{units_of}
-use Rattle.java_run.proofs.Starts.{main_coded, run_begins, meant_so, never_stuck, outcome_so, going_used}
+use Rattle.linear_code.specs.Seen.{entry_of, tables_of}
+use Rattle.linear_machine.specs.Run.{config_of}
+use Rattle.java_run.proofs.Starts.{same_program, meant_so, never_stuck, outcome_so, going_used}
 use Rattle.java_run.proofs.runs.run_program.Goals as goal
-
-pub code_of-requires : goal.code_of-requires
-code_of-requires c = main_coded c.args.p.now c.requires.formed c.main_of-method.result.now (sym c.main_of-method.ensures)
 
 pub end_seen-requires : goal.end_seen-requires
 end_seen-requires c =
     let P = program_of no_place c.args.p.now in
-    let b = run_begins c.args.p.now c.requires.formed c.main_of-method.result.now c.code_of.result (map (λ w. units_of (string_bytes w)) c.args.words.now.items) c.args.bound c.in_ok-first.first (sym c.main_of-method.ensures) c.code_of.ensures c.in_ok-first.ensures.tasks c.in_ok-first.ensures.frame c.in_ok-first.ensures.state in
-    let h = meant_so P c.args.words.now.items c.args.bound c.in_ok-first.first c.in_ok-ending.last c.in_ok-ending.ending b (ap (λ s. s.left) c.in_ok-first.ensures.state) c.in_ok-ending.ensures in
-    never_stuck P c.args.words.now.items c.args.bound c.in_ok-first.first c.in_ok-ending.last c.in_ok-ending.ending c.requires.formed c.requires.typed h
+    let same = ap (program_of no_place) (c.in_ok-first.ensures.same ∙ c.in_ok-classes.ensures.value) in
+    let is = meant_so P c.args.words.now.items c.args.bound c.in_ok-ending.last c.in_ok-ending.ending c.requires.formed c.requires.typed (tables_of
+    c.in_ok-image.image)
+    c.in_ok-image.ensures.fits (entry_of c.main_entry-entry.result.now) (config_of c.in_ok-first.first) c.main_entry-entry.ensures c.in_ok-first.ensures.config
+    (same_program P _ _ _ _ same c.in_ok-ending.ensures.run) in
+    never_stuck P c.args.words.now.items c.args.bound c.in_ok-ending.last c.in_ok-ending.ending c.requires.formed c.requires.typed is
 
-pub returns : goal.returns
-returns c =
+pub returns-clause-outcome : goal.returns-clause-outcome
+returns-clause-outcome c =
     let P = program_of no_place c.args.p.now in
-    let b = run_begins c.args.p.now c.requires.formed c.main_of-method.result.now c.code_of.result (map (λ w. units_of (string_bytes w)) c.args.words.now.items) c.args.bound c.in_ok-first.first (sym c.main_of-method.ensures) c.code_of.ensures c.in_ok-first.ensures.tasks c.in_ok-first.ensures.frame c.in_ok-first.ensures.state in
-    let z = ap (λ s. s.left) c.in_ok-first.ensures.state in
-    let h = meant_so P c.args.words.now.items c.args.bound c.in_ok-first.first c.in_ok-ending.last c.in_ok-ending.ending b z c.in_ok-ending.ensures in
-    let o = outcome_so P c.args.words.now.items c.args.bound c.in_ok-first.first c.in_ok-ending.last c.in_ok-ending.ending _ h z c.in_ok-ending.ensures.left refl c.end_seen.ensures refl in
-    record { outcome = o; going = going_used P (map string_bytes c.args.words.now.items) c.args.bound _ o }
+    let same = ap (program_of no_place) (c.in_ok-first.ensures.same ∙ c.in_ok-classes.ensures.value) in
+    let is = meant_so P c.args.words.now.items c.args.bound c.in_ok-ending.last c.in_ok-ending.ending c.requires.formed c.requires.typed (tables_of
+    c.in_ok-image.image)
+    c.in_ok-image.ensures.fits (entry_of c.main_entry-entry.result.now) (config_of c.in_ok-first.first) c.main_entry-entry.ensures c.in_ok-first.ensures.config
+    (same_program P _ _ _ _ same c.in_ok-ending.ensures.run) in
+    let begun = ap (λ k. k.state.left) c.in_ok-first.ensures.config in
+    let fewer = c.in_ok-ending.ensures.left in
+    let low : c.in_ok-ending.last.left ≤ c.args.bound = omega (arith, begun, fewer) in
+    outcome_so P c.args.words.now.items c.args.bound c.in_ok-ending.last c.in_ok-ending.ending _ is low refl c.end_seen.ensures refl
+
+pub returns-clause-going : goal.returns-clause-going
+returns-clause-going c = going_used (program_of no_place c.args.p.now) (map string_bytes c.args.words.now.items) c.args.bound _ (returns-clause-outcome c)

@@ -1,0 +1,5 @@
+pub mod Ops
+pub mod Code
+pub mod Machine
+pub mod Fits
+pub mod Seen

@@ -1,0 +1,4 @@
+pub mod Scopes
+pub mod Sides
+pub mod Exits
+pub mod Bodies

@@ -1,0 +1,202 @@
+//! The code of what sets a variable.
+
+ghost use Rattle.std.specs.Prelude.{◌≡◌, ◌+◌, ◌++◌, ◌∷◌, Option, Some, None, Bool, OnOk, slice_get};
+ghost use Rattle.std.specs.Option.{option_map, option_map_or};
+ghost use Rattle.java_core.specs.Trees.{no_place, expr_of, value_of, target_of, to_field, to_element};
+ghost use Rattle.java_core.specs.Types.{field_in, static};
+ghost use Rattle.java_meaning.specs.Moment.{Nothing};
+ghost use Rattle.java_meaning.specs.Values.{default_of};
+ghost use Rattle.linear_code.specs.Ops.{slot, constant};
+ghost use Rattle.linear_code.specs.Seen.{operand_of};
+ghost use Rattle.linear_code.specs.Code.{operand, code_local, code_initial, code_assign, default_op, store_op};
+ghost use Rattle.linear_compile.specs.Scopes.{plain, env, IsReady, bare};
+
+use crate::code::{Code, further};
+use crate::expressions::{compile, compile_to};
+use crate::operands::operand;
+use crate::scope::{Scope, field_of, is_int_field, is_int_local, local_type, place_of};
+use java_core::{RExpr, Ty, TyBase};
+use kaba_base::{MemberId, Name};
+use linear_code::{Calc, Effect, Instr, Operand};
+use std::alloc::AllocError;
+
+/// A local is set.
+fn compile_local(
+    code: &mut Code,
+    scope: &Scope,
+    local: u32,
+    value: &RExpr,
+    at: u32,
+) -> Result<(), AllocError>
+    requires { IsReady scope.now }
+    ensures { OnOk result (code.new ≡ code_local (plain scope.now) (env scope.now) local (expr_of no_place value.now) at ++ code.old) }
+{
+    let slot = further(1, local)?;
+    compile_to(code, scope, value, is_int_local(scope, local), slot, at)
+}
+
+/// The value that something of a type has by itself.
+pub fn default_operand(ty: Option<Ty>) -> Operand
+    ensures { operand_of result ≡ constant (option_map_or default_of ty Nothing) }
+{
+    match ty {
+        Some(ty) => default_in(ty),
+        None => Operand::Null,
+    }
+}
+
+/// The value that something of the type has by itself.
+fn default_in(ty: Ty) -> Operand
+    ensures { operand_of result ≡ constant (default_of ty) }
+{
+    if ty.dim != 0 {
+        return Operand::Null;
+    }
+    match ty.base {
+        TyBase::Int => Operand::Int(0),
+        TyBase::Boolean => Operand::Bool(false),
+        TyBase::Char => Operand::Char(0),
+        TyBase::Str => Operand::Null,
+        TyBase::Class(_) => Operand::Null,
+    }
+}
+
+/// The declaration of a local.
+pub fn compile_declaration(
+    code: &mut Code,
+    scope: &Scope,
+    local: u32,
+    value: &Option<RExpr>,
+    at: u32,
+) -> Result<(), AllocError>
+    requires { IsReady scope.now }
+    ensures { OnOk result (code.new ≡ default_op (plain scope.now) (env scope.now) local ∷ (code_initial (plain scope.now) (env scope.now) local
+        (value_of no_place value.now) at ++ code.old)) }
+{
+    compile_initial(code, scope, local, value, at)?;
+    let slot = further(1, local)?;
+    let value = default_operand(local_type(scope, local));
+    code.set(false, slot, Calc::Copy(value))
+}
+
+/// The value that a local begins with, where it has one.
+fn compile_initial(
+    code: &mut Code,
+    scope: &Scope,
+    local: u32,
+    value: &Option<RExpr>,
+    at: u32,
+) -> Result<(), AllocError>
+    requires { IsReady scope.now }
+    ensures { OnOk result (code.new ≡ code_initial (plain scope.now) (env scope.now) local (value_of no_place value.now) at ++ code.old) }
+{
+    match value {
+        Some(value) => compile_local(code, scope, local, value, at),
+        None => Ok(()),
+    }
+}
+
+/// An assignment.
+pub fn compile_assignment(
+    code: &mut Code,
+    scope: &Scope,
+    target: &RExpr,
+    value: &RExpr,
+    at: u32,
+) -> Result<(), AllocError>
+    requires { IsReady scope.now }
+    ensures { OnOk result (code.new ≡ code_assign (plain scope.now) (env scope.now) (target_of no_place target.now) (expr_of no_place value.now) at ++
+        code.old) }
+{
+    match target {
+        RExpr::Local { local, .. } => compile_local(code, scope, *local, value, at),
+        RExpr::Static { field, .. } => {
+            let effect = Effect::KeepStatic(field.0, operand(value, at)?);
+            code.put(Instr::Act(effect))?;
+            compile(code, scope, value, at)
+        }
+        RExpr::Own { field, .. } => {
+            let value_at = operand(value, at)?;
+            store(code, scope, Some(*field), Operand::Slot(0), value_at)?;
+            compile(code, scope, value, at)
+        }
+        RExpr::Field { base, name, .. } => { store_field(code, scope, base, name, value, at) }
+        RExpr::Index {
+            base,
+            at: index,
+            ..
+        } => { store_element(code, scope, base, index, value, at) }
+        _ => Ok(()),
+    }
+}
+
+/// A field of an object is set.
+fn store(
+    code: &mut Code,
+    scope: &Scope,
+    field: Option<MemberId>,
+    object: Operand,
+    value: Operand,
+) -> Result<(), AllocError>
+    requires { IsReady scope.now }
+    ensures { OnOk result (code.new ≡ store_op (plain scope.now) (env scope.now) (option_map (λ f. f.0) field) (operand_of object) (operand_of value) ∷
+        code.old) }
+{
+    match field {
+        Some(field) => {
+            let place = place_of(scope, field);
+            let widens = is_int_field(scope, field);
+            code.put(Instr::Act(Effect::Save(object, place, widens, value)))
+        }
+        None => code.put(Instr::Act(Effect::Lacks(object))),
+    }
+}
+
+/// A field of what an expression gives is set.
+fn store_field(
+    code: &mut Code,
+    scope: &Scope,
+    base: &RExpr,
+    name: &Name,
+    value: &RExpr,
+    at: u32,
+) -> Result<(), AllocError>
+    requires { IsReady scope.now }
+    ensures { OnOk result (code.new ≡ code_assign (plain scope.now) (env scope.now) (to_field bare (expr_of no_place base.now) name.now)
+        (expr_of no_place value.now) at ++ code.old) }
+{
+    let next = further(at, 1)?;
+    let field = field_of(scope, base, name);
+    store(
+        code,
+        scope,
+        field,
+        operand(base, at)?,
+        operand(value, next)?,
+    )?;
+    compile(code, scope, value, next)?;
+    compile(code, scope, base, at)
+}
+
+/// An element of an array is set.
+fn store_element(
+    code: &mut Code,
+    scope: &Scope,
+    base: &RExpr,
+    index: &RExpr,
+    value: &RExpr,
+    at: u32,
+) -> Result<(), AllocError>
+    requires { IsReady scope.now }
+    ensures { OnOk result (code.new ≡ code_assign (plain scope.now) (env scope.now) (to_element bare (expr_of no_place base.now) (expr_of no_place index.now))
+        (expr_of no_place value.now) at ++ code.old) }
+{
+    let next = further(at, 1)?;
+    let last = further(at, 2)?;
+    let array = operand(base, at)?;
+    let effect = Effect::KeepElement(array, operand(index, next)?, operand(value, last)?);
+    code.put(Instr::Act(effect))?;
+    compile(code, scope, value, last)?;
+    compile(code, scope, index, next)?;
+    compile(code, scope, base, at)
+}

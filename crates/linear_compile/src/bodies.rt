@@ -1,0 +1,112 @@
+//! The code of bodies.
+
+ghost use Rattle.std.specs.Prelude.{◌≡◌, ◌+◌, ◌++◌, [], List, map, length, IfOk, OnOk};
+ghost use Rattle.std.specs.Option.{option_map};
+ghost use Rattle.java_core.specs.declared.Ty.{Ty};
+ghost use Rattle.java_core.specs.Trees.{no_place, Sts, stmts, body_seen};
+ghost use Rattle.java_core.specs.Programs.{Plain, method_seen, local_seen};
+ghost use Rattle.java_core.specs.Types.{types_of};
+ghost use Rattle.java_heap.specs.Seen.{value_of};
+ghost use Rattle.java_meaning.specs.Values.{default_of};
+ghost use Rattle.java_meaning.specs.Languages.{body_with};
+ghost use Rattle.linear_code.specs.Ops.{Op};
+ghost use Rattle.linear_code.specs.Seen.{op_of, entry_of};
+ghost use Rattle.linear_code.specs.Code.{is_int, body_slots, body_code};
+ghost use Rattle.linear_compile.specs.Scopes.{plain, IsReady};
+ghost use Rattle.linear_compile.specs.Bodies.{IsBody, IsMethod};
+
+use crate::assignments::default_operand;
+use crate::code::{Code, further, small};
+use crate::scope::{Scope, is_int};
+use crate::statements::{Exits, compile_stmts};
+use java_core::{Local, Method, RStmt};
+use java_heap::{Value, default_of};
+use linear_code::{Entry, Instr};
+use std::alloc::{AllocError, Global};
+
+/// How many slots a body has for itself, its parameters and its locals.
+fn slots(method: &Method) -> Result<u32, AllocError>
+    ensures { IfOk result (λ n. (xs : Sts) → n ≡ body_slots (body_with 0 (method_seen no_place method.now) xs)) }
+{
+    let params = small(method.params.len())?;
+    let locals = small(method.locals.len())?;
+    further(1, further(params, locals)?)
+}
+
+/// The code of a body.
+#[tactic(auto, unfolding(crate::specs::Scopes::env))]
+fn compile_body(code: &mut Code, scope: &Scope, body: &Vec<RStmt>) -> Result<(), AllocError>
+    requires { IsReady scope.now }
+    ensures { OnOk result (code.new ≡ body_code (plain scope.now) (body_with scope.now.number.0 (method_seen no_place scope.now.method.now)
+        (stmts no_place body.now.items)) ++ code.old) }
+{
+    code.put(Instr::Give(false, default_operand(scope.method.result)))?;
+    let end = code.len();
+    let exits = Exits {
+        broke: end,
+        next: end,
+    };
+    compile_stmts(code, scope, body, slots(scope.method)?, exits)?;
+    Ok(())
+}
+
+/// Which of some parameters are an `int`.
+fn ints(alloc: Global, params: &Vec<Local>) -> Result<Vec<bool>, AllocError>
+    ensures { IfOk result (λ v. v.items ≡ map (λ t. is_int (Some t)) (types_of (map (local_seen no_place) params.now.items))) }
+{
+    let mut ints = Vec::new(alloc);
+    for param in params {
+        ints.push(is_int(Some(param.ty)))?;
+    }
+    Ok(ints)
+}
+
+/// The values that some locals begin with.
+fn defaults(alloc: Global, locals: &Vec<Local>) -> Result<Vec<Value>, AllocError>
+    ensures { IfOk result (λ v. map value_of v.items ≡ map default_of (types_of (map (local_seen no_place) locals.now.items))) }
+{
+    let mut values = Vec::new(alloc);
+    for local in locals {
+        values.push(default_of(local.ty))?;
+    }
+    Ok(values)
+}
+
+/// Code that stands behind what stands already.
+fn append(code: &mut Vec<Instr>, part: &mut Code) -> Result<(), AllocError>
+    ensures { OnOk result (map op_of code.new.items ≡ map op_of code.old.items ++ part.old) }
+{
+    while let Some(instr) = part.take() {
+        code.push(instr)?;
+    }
+    Ok(())
+}
+
+/// A body is put behind the code that stands already; and where it begins.
+fn add_body(code: &mut Vec<Instr>, scope: &Scope, body: &Vec<RStmt>) -> Result<Entry, AllocError>
+    requires { IsReady scope.now }
+    ensures { IfOk result (λ e. IsBody (plain scope.now) (body_with scope.now.number.0 (method_seen no_place scope.now.method.now)
+        (stmts no_place body.now.items)) (map op_of code.old.items) (map op_of code.new.items) (entry_of e)) }
+{
+    let mut part = Code::new(scope.alloc);
+    compile_body(&mut part, scope, body)?;
+    let entry = Entry {
+        pc: small(code.len())?,
+        ints: ints(scope.alloc, &scope.method.params)?,
+        rest: defaults(scope.alloc, &scope.method.locals)?,
+    };
+    append(code, &mut part)?;
+    Ok(entry)
+}
+
+/// The body of a method, where it has one, is put behind the code that stands already.
+pub fn add_method(code: &mut Vec<Instr>, scope: &Scope) -> Result<Option<Entry>, AllocError>
+    requires { IsReady scope.now }
+    ensures { IfOk result (λ o. IsMethod (plain scope.now) scope.now.number.0 (method_seen no_place scope.now.method.now) (map op_of code.old.items)
+        (map op_of code.new.items) (option_map entry_of o)) }
+{
+    match &scope.method.body {
+        Some(body) => Ok(Some(add_body(code, scope, body)?)),
+        None => Ok(None),
+    }
+}

@@ -1,0 +1,124 @@
+//! Code that is made from its end to its beginning, so that what a jump passes stands before the jump is made.
+
+ghost use Rattle.std.specs.Prelude.{◌≡◌, ◌≤◌, ◌<◌, ◌+◌, ◌++◌, ℕ, List, [], ◌∷◌, map, reverse, length, MatchOption, OnOk, IfOk};
+ghost use Rattle.linear_code.specs.Ops as ops;
+ghost use Rattle.linear_code.specs.Ops.{Op};
+ghost use Rattle.linear_code.specs.Seen.{op_of, calc_of};
+ghost use Rattle.linear_code.specs.Code.{moved};
+
+use linear_code::{Calc, Instr, Operand};
+use std::alloc::{AllocError, Global};
+use std::marker::Model;
+
+/// Code to which more is put in front, seen as the list of what it does, the first thing first.
+#[derive(Drop)]
+pub struct Code {
+    items: Vec<Instr>,
+}
+
+impl Model for Code {
+    ghost use Rattle.std.specs.Prelude.{List, map, reverse};
+    ghost use Rattle.linear_code.specs.Ops.{Op};
+    ghost use Rattle.linear_code.specs.Seen.{op_of};
+
+    ghost Value = { List Op };
+
+    ghost view = { λ c. reverse (map op_of c.items.items) };
+}
+
+impl Code {
+    /// No code.
+    pub fn new(alloc: Global) -> Code
+        ensures { result ≡ [] }
+    {
+        Code {
+            items: Vec::new(alloc),
+        }
+    }
+
+    /// One thing more in front.
+    pub fn put(&mut self, instr: Instr) -> Result<(), AllocError>
+        ensures { OnOk result (self.new ≡ op_of instr ∷ self.old) }
+    {
+        match self.items.push(instr) {
+            Ok(()) => Ok(()),
+            Err(_) => Err(AllocError),
+        }
+    }
+
+    /// A slot is set, to an `int` where so it is said.
+    pub fn set(&mut self, widens: bool, slot: u32, calc: Calc) -> Result<(), AllocError>
+        ensures { OnOk result (self.new ≡ ops.set widens slot (calc_of calc) ∷ self.old) }
+    {
+        self.put(Instr::Set(widens, slot, calc))
+    }
+
+    /// The value of a call, which stands in its slot, is brought to another.
+    pub fn bring(&mut self, widens: bool, slot: u32, from: u32) -> Result<(), AllocError>
+        ensures { OnOk result (self.new ≡ moved widens slot from ++ self.old) }
+    {
+        if slot == from && !widens {
+            return Ok(());
+        }
+        self.set(widens, slot, Calc::Copy(Operand::Slot(from)))
+    }
+
+    /// The first thing, taken off.
+    pub fn take(&mut self) -> Option<Instr>
+        ensures { MatchOption result ((self.old ≡ []) × (self.new ≡ [])) (λ i. self.old ≡ op_of i ∷ self.new) }
+    {
+        self.items.pop()
+    }
+
+    /// How many things there are.
+    pub fn len(&self) -> usize
+        ensures { result ≡ length self.now }
+    {
+        self.items.len()
+    }
+
+    /// How many things stand before these last ones.
+    pub fn before(&self, last: usize) -> Result<u32, AllocError>
+        requires { last ≤ length self.now }
+        ensures { IfOk result (λ n. n + last ≡ length self.now) }
+    {
+        small(self.items.len() - last)
+    }
+
+    /// How many things stand before the one behind which these last ones stand.
+    pub fn before_one(&self, last: usize) -> Result<u32, AllocError>
+        requires { last < length self.now }
+        ensures { IfOk result (λ n. n + last + 1 ≡ length self.now) }
+    {
+        small(self.items.len() - last - 1)
+    }
+
+    /// What stands before so many last things does something else.
+    pub fn replace(&mut self, last: usize, instr: Instr)
+        requires { last < length self.old }
+        ensures grown { length self.new ≡ length self.old }
+        ensures code { (xs ys : List Op) (x : Op) → length ys ≡ last → self.old ≡ xs ++ x ∷ ys → self.new ≡ xs ++ op_of instr ∷ ys }
+    {
+        self.items[last] = instr;
+    }
+}
+
+/// A number of 32 bits.
+pub fn small(n: usize) -> Result<u32, AllocError>
+    ensures { IfOk result (λ m. m ≡ n) }
+{
+    match u32::try_from(n) {
+        Ok(m) => Ok(m),
+        Err(_) => Err(AllocError),
+    }
+}
+
+/// The slot so many further on.
+pub fn further(slot: u32, n: u32) -> Result<u32, AllocError>
+    ensures { IfOk result (λ m. m ≡ slot + n) }
+{
+    match slot.checked_add(n) {
+        Some(m) => Ok(m),
+        None => Err(AllocError),
+    }
+}

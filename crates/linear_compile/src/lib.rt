@@ -1,0 +1,52 @@
+//! The compiler of the bodies of a program to linear code.
+#![tactic(auto)]
+
+ghost use Rattle.std.specs.Prelude.{◌≡◌, map, IfOk};
+ghost use Rattle.java_core.specs.Trees.{no_place};
+ghost use Rattle.java_core.specs.Programs.{program_of};
+ghost use Rattle.java_core.specs.Formed.{IsFormed};
+ghost use Rattle.linear_code.specs.Seen.{op_of, tables_of};
+ghost use Rattle.linear_code.specs.Fits.{Fits};
+ghost use Rattle.linear_compile.specs.Scopes.{IsReady};
+
+mod assignments;
+mod bodies;
+mod code;
+mod conditions;
+mod expressions;
+mod jumps;
+mod operands;
+mod places;
+mod scope;
+mod statements;
+
+use crate::bodies::add_method;
+use crate::code::small;
+use crate::places::places;
+use crate::scope::Scope;
+use java_core::Program;
+use kaba_base::MemberId;
+use linear_code::Image;
+use std::alloc::{AllocError, Global};
+
+/// The code of all bodies of a program. `AllocError` comes where memory is short, and where a slot, a
+/// place of the code or a jump passes 32 bits.
+pub fn compile(alloc: Global, p: &Program) -> Result<Image, AllocError>
+    requires formed { IsFormed (program_of no_place p.now) }
+    ensures fits { IfOk result (λ i. Fits (program_of no_place p.now) (tables_of i)) }
+{
+    let places = places(alloc, p)?;
+    let mut code = Vec::new(alloc);
+    let mut entries = Vec::new(alloc);
+    for (i, method) in p.methods.iter().enumerate() {
+        let scope = Scope {
+            alloc,
+            program: p,
+            places: &places,
+            number: MemberId(small(i)?),
+            method,
+        };
+        entries.push(add_method(&mut code, &scope)?)?;
+    }
+    Ok(Image { code, entries })
+}

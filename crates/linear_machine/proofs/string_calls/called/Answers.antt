@@ -1,0 +1,21 @@
+use Rattle.std.proofs.Common.{◌+◌, sym, ◌∙◌}
+use Rattle.java_core.specs.Statics.{string_seen}
+use Rattle.java_heap.specs.Seen.{value_of}
+use Rattle.linear_machine.specs.Run.{state_of}
+use Rattle.linear_machine.proofs.Branches.{some_is}
+use Rattle.linear_machine.proofs.Lists.{taken_one, too_many}
+use Rattle.linear_machine.proofs.string_calls.called.Goals as goal
+
+pub returns-in-Some-get : goal.returns-in-Some-get
+returns-in-Some-get c =
+    let m = c.args.m.now in
+    λ k. some_is _ _ _ _ (sym c.in-Some.ensures.value)
+    ∙ some_is _ _ _ _ (taken_one m.slots (m.base + c.args.slot + 1) c.args.many (value_of c.in-Some-get.argument) c.if-many-eq1.true c.in-Some-get.ensures)
+    ∙ c.call_with.ensures (state_of m) k
+
+pub returns-else-many-eq1 : goal.returns-else-many-eq1
+returns-else-many-eq1 c =
+    let m = c.args.m.now in
+    λ k. some_is _ _ _ _ (sym c.in-Some.ensures.value)
+    ∙ too_many (string_seen c.args.method) c.in-Some.units.now.items m.slots (m.base + c.args.slot + 1) c.args.many
+    (state_of m) k c.if-many-eq0.false c.if-many-eq1.false

@@ -1,0 +1,5 @@
+pub mod Work
+pub mod Run
+pub mod Founds
+pub mod Turns
+pub mod Words
