@@ -17,8 +17,8 @@ use Rattle.flow_rules.specs.Numbered.{number_among, same_row, same_column, rows_
 use Rattle.rebuild_model.specs.Renaming.{Renaming, renaming_of, column_name}
 use Rattle.written_tree.specs.Names.{by_number}
 use Rattle.written_tree.specs.Written.{written_by, java_tree}
-use Rattle.tree_parts.specs.declared.numbers.Numbering.{Numbering}
-use Rattle.tree_parts.specs.Renamed.{renamed, IsFitting}
+use Rattle.tree_forms.specs.declared.numbers.Numbering.{Numbering}
+use Rattle.tree_forms.specs.Renamed.{renamed, IsFitting}
 use Rattle.java_write.specs.Numbers.{AreNumbersOf}
 use Rattle.java_write.specs.Written.{tree_of_hierarchy}
 

@@ -5,7 +5,7 @@ use Rattle.java_core.specs.Trees.{at_place, no_place}
 use Rattle.java_core.specs.Programs.{program_of}
 use Rattle.flow_rules.specs.Facts.{numbers}
 use Rattle.flow_rules.specs.Numbered.{number_among, same_row, same_column, columns_of}
-use Rattle.tree_parts.specs.declared.numbers.Numbering.{Numbering}
+use Rattle.tree_forms.specs.declared.numbers.Numbering.{Numbering}
 
 -- it gives the numbers of the program's rows and columns, and has the items of the columns in their order
 pub record AreNumbersOf (program : Program) (n : Numbering) : Type 0 where

@@ -24,7 +24,7 @@ use java_resolve::{Refusal, resolve};
 use java_tree::Tree;
 use source_gen::generate;
 use std::alloc::{AllocError, Global};
-use tree_parts::Numbering;
+use tree_forms::Numbering;
 
 /// The numbers of the rows and columns of a program that has facts.
 fn numbers_of(alloc: Global, program: &Program) -> Result<Numbering, AllocError>

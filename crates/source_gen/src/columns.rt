@@ -14,7 +14,7 @@ ghost use Rattle.flow_rules.specs.Ordered.{each, when};
 ghost use Rattle.rebuild_model.specs.Members.{is_headed, is_filled, is_made_at};
 ghost use Rattle.written_tree.specs.Names as names;
 ghost use Rattle.written_tree.specs.Members as written;
-ghost use Rattle.tree_parts.specs.Renamed.{renamed, IsFitting};
+ghost use Rattle.tree_forms.specs.Renamed.{renamed, IsFitting};
 ghost use Rattle.source_gen.specs.Seen.{class_tests, head_if};
 
 use crate::heads::{first_head, one_modifier, public_and, slot_head};
@@ -30,7 +30,7 @@ use java_core::{Program, Slot, Ty, TyBase};
 use java_tree::{Expr, Head, Member, Modifier, Stmt, TypeBase, TypeName, build};
 use kaba_base::{ColId, Keyword, NodeId};
 use std::alloc::{AllocError, Global};
-use tree_parts::{Numbering, nowhere};
+use tree_forms::{Numbering, nowhere};
 
 /// Whether a declaration of a slot at a live node is written as a head: in an interface, and in an
 /// abstract class to which no body of the slot is offered.

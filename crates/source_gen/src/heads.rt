@@ -10,7 +10,7 @@ ghost use Rattle.flow_rules.specs.Ordered.{each};
 ghost use Rattle.flow_rules.specs.Operands.{result_in};
 ghost use Rattle.written_tree.specs.Names as names;
 ghost use Rattle.written_tree.specs.Members as members;
-ghost use Rattle.tree_parts.specs.Renamed.{renamed, IsFitting};
+ghost use Rattle.tree_forms.specs.Renamed.{renamed, IsFitting};
 ghost use Rattle.source_gen.specs.Seen.{head_if};
 
 use crate::parts::method_at;
@@ -19,7 +19,7 @@ use java_core::{Local, Method, Program, Slot};
 use java_tree::{Head, Modifier, Param, TypeName};
 use kaba_base::{Keyword, Name};
 use std::alloc::{AllocError, Global};
-use tree_parts::{
+use tree_forms::{
     Numbering, method_name, modifier, node_of, nowhere, result_row, variable_row, written_type,
 };
 

@@ -10,7 +10,7 @@ ghost use Rattle.flow_rules.specs.Ordered.{each, when};
 ghost use Rattle.flow_rules.specs.Facts.{is_holder};
 ghost use Rattle.written_tree.specs.Members as written;
 ghost use Rattle.written_tree.specs.Written as types;
-ghost use Rattle.tree_parts.specs.Renamed.{renamed, IsFitting};
+ghost use Rattle.tree_forms.specs.Renamed.{renamed, IsFitting};
 
 use crate::members::{push_decl, push_member, static_field, static_method};
 use hier_model::Hier;
@@ -18,7 +18,7 @@ use java_core::{Class, Field, Method, Program};
 use java_tree::{Decl, Member};
 use kaba_base::ClassId;
 use std::alloc::{AllocError, Global};
-use tree_parts::{Numbering, nowhere};
+use tree_forms::{Numbering, nowhere};
 
 /// Whether a member is static and of the class with this number.
 fn is_of(is_static: bool, owner: ClassId, c: usize) -> bool

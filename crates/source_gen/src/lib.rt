@@ -10,7 +10,7 @@ ghost use Rattle.java_core.specs.Formed.{IsFormed};
 ghost use Rattle.fact_model.specs.InRange.{InRange};
 ghost use Rattle.hier_model.specs.Hierarchies.{IsHierarchyOf};
 ghost use Rattle.written_tree.specs.Written.{written_by};
-ghost use Rattle.tree_parts.specs.Renamed.{renamed, IsFitting};
+ghost use Rattle.tree_forms.specs.Renamed.{renamed, IsFitting};
 
 mod columns;
 mod heads;
@@ -29,7 +29,7 @@ use java_core::Program;
 use java_tree::Tree;
 use std::alloc::{AllocError, Global};
 use supers::class_nodes;
-use tree_parts::Numbering;
+use tree_forms::Numbering;
 use types::add_types;
 
 /// The tree of the program that is written of a hierarchy over the rows and columns of a program's

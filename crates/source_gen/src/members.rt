@@ -9,7 +9,7 @@ ghost use Rattle.java_core.specs.Formed.{IsFormed};
 ghost use Rattle.flow_rules.specs.declared.items.RowItem.TheVariants as row;
 ghost use Rattle.written_tree.specs.Names as names;
 ghost use Rattle.written_tree.specs.Members as written;
-ghost use Rattle.tree_parts.specs.Renamed.{renamed, IsFitting};
+ghost use Rattle.tree_forms.specs.Renamed.{renamed, IsFitting};
 ghost use Rattle.source_gen.specs.Seen.{head_if};
 
 use crate::heads::{head, one_modifier, public_and};
@@ -19,7 +19,8 @@ use java_core::{Field, Method, Program};
 use java_tree::{Decl, Head, Member, Modifier, Stmt};
 use kaba_base::{Keyword, Name};
 use std::alloc::{AllocError, Global};
-use tree_parts::{Numbering, body, field_name, method_name, node_of, nowhere, written_type};
+use tree_forms::{Numbering, field_name, method_name, node_of, nowhere, written_type};
+use tree_parts::body;
 
 /// Adds a head.
 #[tactic(auto, using(crate::proofs::Pushed::heads_push))]

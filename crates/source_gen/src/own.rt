@@ -7,7 +7,7 @@ ghost use Rattle.java_core.specs.Trees.{no_place};
 ghost use Rattle.java_core.specs.Programs.{program_of};
 ghost use Rattle.java_core.specs.Formed.{IsFormed};
 ghost use Rattle.written_tree.specs.Members as written;
-ghost use Rattle.tree_parts.specs.Renamed.{renamed, IsFitting};
+ghost use Rattle.tree_forms.specs.Renamed.{renamed, IsFitting};
 ghost use Rattle.source_gen.specs.Members.{member_if};
 
 use crate::members::{body_member, field_member};
@@ -18,7 +18,7 @@ use hier_model::Hier;
 use java_core::Program;
 use java_tree::Member;
 use std::alloc::{AllocError, Global};
-use tree_parts::Numbering;
+use tree_forms::Numbering;
 
 /// Adds a member, if there is one.
 #[tactic(auto, using(crate::proofs::Pushed::members_push))]

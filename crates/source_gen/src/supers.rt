@@ -14,7 +14,7 @@ use hier_model::Hier;
 use java_tree::Id;
 use kaba_base::NodeId;
 use std::alloc::{AllocError, Global};
-use tree_parts::id;
+use tree_forms::id;
 
 /// Whether a number is that of a live class node.
 fn is_live_class(facts: &Facts, hier: &Hier, n: u32) -> bool

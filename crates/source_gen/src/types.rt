@@ -10,7 +10,7 @@ ghost use Rattle.fact_model.specs.InRange.{InRange};
 ghost use Rattle.hier_model.specs.Hierarchies.{IsHierarchyOf, is_class_node};
 ghost use Rattle.flow_rules.specs.Ordered.{when};
 ghost use Rattle.written_tree.specs.Written as written;
-ghost use Rattle.tree_parts.specs.Renamed.{renamed, IsFitting};
+ghost use Rattle.tree_forms.specs.Renamed.{renamed, IsFitting};
 ghost use Rattle.source_gen.specs.Seen.{class_tests};
 
 use crate::columns::{class_members, interface_heads};
@@ -24,7 +24,7 @@ use java_core::Program;
 use java_tree::{Decl, Modifier};
 use kaba_base::{Keyword, NodeId};
 use std::alloc::{AllocError, Global};
-use tree_parts::{Numbering, nowhere};
+use tree_forms::{Numbering, nowhere};
 
 /// The modifiers of a class: one where no object is created is abstract.
 fn class_modifiers(alloc: Global, is_made: bool) -> Result<Vec<Modifier>, AllocError>

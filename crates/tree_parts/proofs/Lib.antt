@@ -1,6 +1,5 @@
 pub mod Forms
 pub mod Appended
-pub mod Spelled
 pub mod Steps
 pub mod Parts
 pub mod Size

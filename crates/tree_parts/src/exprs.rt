@@ -1,138 +1,21 @@
 //! Expressions as they are written.
 
-ghost use Rattle.std.specs.Prelude.{◌≡◌, IfOk, slice_get};
-ghost use Rattle.std.specs.Option.{option_map};
-ghost use Rattle.std.specs.Str.{bytes_eq};
+ghost use Rattle.std.specs.Prelude.{◌≡◌, IfOk};
 ghost use Rattle.java_tree.specs.Syntax.{expr_of, exprs};
 ghost use Rattle.java_core.specs.Trees as core;
 ghost use Rattle.java_core.specs.Trees.{no_place};
-ghost use Rattle.java_core.specs.Programs.{program_of, method_seen, local_seen};
-ghost use Rattle.java_core.specs.Formed.{IsFormed, variables_of};
-ghost use Rattle.written_tree.specs.Bodies as written;
-ghost use Rattle.tree_parts.specs.Renamed.{IsFitting, expression, expressions};
+ghost use Rattle.java_core.specs.Programs.{program_of};
+ghost use Rattle.java_core.specs.Formed.{IsFormed};
+ghost use Rattle.tree_forms.specs.Renamed.{IsFitting};
+ghost use Rattle.tree_parts.specs.Written.{expression, expressions};
 
-use crate::names::{class_name, infix_mark, is_same, no_name, nowhere, prefix_mark};
-use crate::numbers::Numbering;
-use crate::shapes;
 use hier_model::Hier;
-use java_core::{Local, Method, Program, RExpr, static_of};
+use java_core::{Method, Program, RExpr, static_of};
 use java_tree::{Expr, build};
-use kaba_base::{ClassId, MemberId, Name};
 use std::alloc::{AllocError, Global};
-
-/// A parameter or a local of a method, by its number.
-pub fn variable(method: &Method, number: u32) -> Option<&Local>
-    ensures { option_map (λ v. local_seen no_place v.now) result ≡ slice_get (variables_of
-        (method_seen no_place method.now)) number }
-{
-    let at = number as usize;
-    let count = method.params.len();
-    if at < count {
-        method.params.get(at)
-    } else {
-        method.locals.get(at - count)
-    }
-}
-
-/// Its name.
-fn variable_name(alloc: Global, method: &Method, number: u32) -> Result<Name, AllocError>
-    ensures { IfOk result (λ n. n ≡ written.variable_name (method_seen no_place method.now)
-        number) }
-{
-    match variable(method, number) {
-        Some(variable) => variable.name.copy(alloc),
-        None => no_name(alloc),
-    }
-}
-
-/// Whether a parameter or local has the name.
-fn is_named(method: &Method, number: u32, name: &Name) -> bool
-    ensures { result ≡ written.is_named (method_seen no_place method.now) name.now number }
-{
-    match variable(method, number) {
-        Some(variable) => is_same(&variable.name, name),
-        None => false,
-    }
-}
-
-/// Whether one of the parameters and locals in scope has the name.
-fn is_in_scope(method: &Method, scope: &Vec<u32>, name: &Name) -> bool
-    ensures { result ≡ written.is_in_scope (method_seen no_place method.now) scope.now.items
-        name.now }
-{
-    for number in scope {
-        if is_named(method, *number, name) {
-            return true;
-        }
-    }
-    false
-}
-
-/// Whether a static member is written by its simple name: inside its own holder, where no parameter
-/// or local in scope has that name.
-fn is_simple(method: &Method, scope: &Vec<u32>, owner: ClassId, name: &Name) -> bool
-    ensures { result ≡ written.is_simple (method_seen no_place method.now) scope.now.items owner.0
-        name.now }
-{
-    method.is_static && method.owner == owner && !is_in_scope(method, scope, name)
-}
-
-/// A static field.
-fn static_field(
-    alloc: Global,
-    program: &Program,
-    method: &Method,
-    scope: &Vec<u32>,
-    field: MemberId,
-) -> Result<Expr, AllocError>
-    ensures { IfOk result (λ e. expr_of e ≡ written.static_field_name (program_of no_place
-        program.now) (method_seen no_place method.now) scope.now.items field.0) }
-{
-    let Some(field) = program.fields.get(field.0 as usize) else {
-        return Ok(Expr::Null { place: nowhere() });
-    };
-    let name = field.name.copy(alloc)?;
-    if is_simple(method, scope, field.owner, &name) {
-        return Ok(Expr::Name {
-            name,
-            place: nowhere(),
-        });
-    }
-    let holder = class_name(alloc, program, field.owner)?;
-    let holder = Expr::Name {
-        name: holder,
-        place: nowhere(),
-    };
-    build::field(alloc, holder, name, nowhere())
-}
-
-/// A call of a static method.
-fn static_call(
-    alloc: Global,
-    program: &Program,
-    method: &Method,
-    scope: &Vec<u32>,
-    called: MemberId,
-    args: Vec<Expr>,
-) -> Result<Expr, AllocError>
-    ensures { IfOk result (λ e. expr_of e ≡ written.static_call_name (program_of no_place
-        program.now) (method_seen no_place method.now) scope.now.items called.0
-        (exprs args.items)) }
-{
-    let Some(called) = program.methods.get(called.0 as usize) else {
-        return Ok(Expr::Null { place: nowhere() });
-    };
-    let name = called.name.copy(alloc)?;
-    if is_simple(method, scope, called.owner, &name) {
-        return Ok(build::call(name, args, nowhere()));
-    }
-    let holder = class_name(alloc, program, called.owner)?;
-    let holder = Expr::Name {
-        name: holder,
-        place: nowhere(),
-    };
-    build::call_on(alloc, holder, name, args, nowhere())
-}
+use tree_forms::{
+    Numbering, forms, infix_mark, nowhere, prefix_mark, static_call, static_field, variable_name,
+};
 
 /// An expression of the method of the number `m`, `method`, as it is written for the hierarchy: the
 /// form of the old one, with the types of the rows' nodes and the columns' names (after
@@ -179,11 +62,11 @@ pub fn expr(
             place: nowhere(),
         }),
         RExpr::Static { field, .. } => static_field(alloc, program, method, scope, *field),
-        RExpr::Own { field, .. } => shapes::own_field(alloc, numbering, hier, *field),
+        RExpr::Own { field, .. } => forms::own_field(alloc, numbering, hier, *field),
         RExpr::Field { base, name, .. } => {
             let found = static_of(program, method, base);
             let base = expr(alloc, program, numbering, hier, m, method, scope, base)?;
-            shapes::field(alloc, program, numbering, hier, found, name, base)
+            forms::field(alloc, program, numbering, hier, found, name, base)
         }
         RExpr::Index { base, at, .. } => {
             let base = expr(alloc, program, numbering, hier, m, method, scope, base)?;
@@ -198,13 +81,13 @@ pub fn expr(
         } => match base {
             None => {
                 let args = all(alloc, program, numbering, hier, m, method, scope, args)?;
-                shapes::own_call(alloc, program, numbering, hier, method.owner, name, args)
+                forms::own_call(alloc, program, numbering, hier, method.owner, name, args)
             }
             Some(base) => {
                 let found = static_of(program, method, base);
                 let on = expr(alloc, program, numbering, hier, m, method, scope, base)?;
                 let args = all(alloc, program, numbering, hier, m, method, scope, args)?;
-                shapes::call(alloc, program, numbering, hier, found, name, on, args)
+                forms::call(alloc, program, numbering, hier, found, name, on, args)
             }
         },
         RExpr::StaticCall {
@@ -217,7 +100,7 @@ pub fn expr(
         }
         RExpr::SuperCall { name, args, .. } => {
             let args = all(alloc, program, numbering, hier, m, method, scope, args)?;
-            shapes::super_call(alloc, program, numbering, hier, method.owner, name, args)
+            forms::super_call(alloc, program, numbering, hier, method.owner, name, args)
         }
         RExpr::New {
             number,
@@ -226,7 +109,7 @@ pub fn expr(
             ..
         } => {
             let args = all(alloc, program, numbering, hier, m, method, scope, args)?;
-            shapes::creation(alloc, program, numbering, hier, *number, *class, args)
+            forms::creation(alloc, program, numbering, hier, *number, *class, args)
         }
         RExpr::NewArray {
             number,
@@ -235,7 +118,7 @@ pub fn expr(
             ..
         } => {
             let size = expr(alloc, program, numbering, hier, m, method, scope, size)?;
-            shapes::array(alloc, program, numbering, hier, *number, *ty, size)
+            forms::array(alloc, program, numbering, hier, *number, *ty, size)
         }
         RExpr::Cast {
             number,
@@ -244,7 +127,7 @@ pub fn expr(
             ..
         } => {
             let value = expr(alloc, program, numbering, hier, m, method, scope, value)?;
-            shapes::cast(alloc, program, numbering, hier, *number, *ty, value)
+            forms::cast(alloc, program, numbering, hier, *number, *ty, value)
         }
         RExpr::InstanceOf {
             number,
@@ -253,7 +136,7 @@ pub fn expr(
             ..
         } => {
             let value = expr(alloc, program, numbering, hier, m, method, scope, value)?;
-            shapes::test(alloc, program, numbering, hier, *number, *class, value)
+            forms::test(alloc, program, numbering, hier, *number, *class, value)
         }
         RExpr::Unary { op, value, .. } => {
             let value = expr(alloc, program, numbering, hier, m, method, scope, value)?;

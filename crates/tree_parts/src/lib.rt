@@ -4,12 +4,7 @@
 #![tactic(auto)]
 
 mod exprs;
-mod names;
-mod numbers;
-mod shapes;
 mod stmts;
 
 pub use exprs::expr;
-pub use names::{field_name, id, method_name, modifier, node_of, nowhere, written_type};
-pub use numbers::{Numbering, result_row, variable_row};
 pub use stmts::body;

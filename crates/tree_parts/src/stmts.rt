@@ -8,15 +8,15 @@ ghost use Rattle.java_core.specs.Trees.{no_place, no_other};
 ghost use Rattle.java_core.specs.Programs.{program_of, method_seen};
 ghost use Rattle.java_core.specs.Formed.{IsFormed};
 ghost use Rattle.written_tree.specs.Bodies as written;
-ghost use Rattle.tree_parts.specs.Renamed.{renamed, IsFitting, expression, statement, statements};
+ghost use Rattle.tree_forms.specs.Renamed.{renamed, IsFitting};
+ghost use Rattle.tree_parts.specs.Written.{expression, statement, statements};
 
-use crate::exprs::{expr, variable};
-use crate::names::{node_of, nowhere, written_type};
-use crate::numbers::{Numbering, variable_row};
+use crate::exprs::expr;
 use hier_model::Hier;
 use java_core::{Method, Program, RArm, RExpr, RStmt};
 use java_tree::{Arm, Expr, Stmt, build};
 use std::alloc::{AllocError, Global};
+use tree_forms::{Numbering, node_of, nowhere, variable, variable_row, written_type};
 
 /// The locals in scope once more.
 fn copy_scope(alloc: Global, scope: &Vec<u32>) -> Result<Vec<u32>, AllocError>

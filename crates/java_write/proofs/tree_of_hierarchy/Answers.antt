@@ -3,7 +3,7 @@ use Rattle.java_tree.specs.Syntax.{tree_of}
 use Rattle.java_core.specs.Trees.{no_place}
 use Rattle.java_core.specs.Programs.{program_of}
 use Rattle.written_tree.specs.Written.{written_by}
-use Rattle.tree_parts.specs.Renamed.{renamed}
+use Rattle.tree_forms.specs.Renamed.{renamed}
 use Rattle.java_write.specs.Numbers.{AreNumbersOf}
 use Rattle.java_write.proofs.Fitting.{fitting, same_tree}
 use Rattle.java_write.proofs.tree_of_hierarchy.Goals as goal

@@ -5,7 +5,7 @@ use Rattle.fact_model.specs.declared.facts.ColumnInfo.{ColumnInfo}
 use Rattle.fact_model.specs.declared.facts.ColKind.TheVariants.{Is}
 use Rattle.flow_rules.specs.Ordered.{when}
 use Rattle.hier_model.specs.Hierarchies.{stands_at}
-use Rattle.tree_parts.specs.Renamed.{renamed}
+use Rattle.tree_forms.specs.Renamed.{renamed}
 use Rattle.written_tree.specs.Members.{column_members}
 use Rattle.source_gen.proofs.Loops.{each_more}
 use Rattle.source_gen.proofs.columns.add_columns.Goals as goal

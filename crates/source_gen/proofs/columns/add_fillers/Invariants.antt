@@ -3,7 +3,7 @@ use Rattle.java_tree.specs.Syntax.{members}
 use Rattle.java_core.specs.Trees.{no_place}
 use Rattle.java_core.specs.Programs.{program_of, slot_seen}
 use Rattle.flow_rules.specs.Ordered.{each}
-use Rattle.tree_parts.specs.Renamed.{renamed}
+use Rattle.tree_forms.specs.Renamed.{renamed}
 use Rattle.written_tree.specs.Members.{filler}
 use Rattle.source_gen.proofs.columns.add_fillers.Given as goal
 

@@ -4,7 +4,7 @@ use Rattle.std.proofs.Common.{◌≡◌, ◌∷◌, [], ◌++◌, drop, map}
 use Rattle.java_core.specs.Trees.{no_place}
 use Rattle.java_core.specs.Programs.{program_of, method_seen, local_seen}
 use Rattle.flow_rules.specs.Ordered.{each}
-use Rattle.tree_parts.specs.Renamed.{renamed}
+use Rattle.tree_forms.specs.Renamed.{renamed}
 use Rattle.written_tree.specs.Members.{param}
 use Rattle.source_gen.proofs.heads.params.Given as goal
 

@@ -3,7 +3,7 @@ use Rattle.java_tree.specs.Syntax.{members}
 use Rattle.java_core.specs.Trees.{no_place}
 use Rattle.java_core.specs.Programs.{program_of, field_seen}
 use Rattle.flow_rules.specs.Ordered.{each}
-use Rattle.tree_parts.specs.Renamed.{renamed}
+use Rattle.tree_forms.specs.Renamed.{renamed}
 use Rattle.written_tree.specs.Members.{static_field_member}
 use Rattle.source_gen.proofs.holders.add_fields.Given as goal
 

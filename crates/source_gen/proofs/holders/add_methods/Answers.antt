@@ -2,7 +2,7 @@ use Rattle.std.proofs.Common.{◌≡◌, ◌<◌, List, length, get_or, subst}
 use Rattle.java_core.specs.declared.Method.{Method}
 use Rattle.java_core.specs.Trees.{no_place}
 use Rattle.java_core.specs.Programs.{program_of, method_seen}
-use Rattle.tree_parts.specs.Renamed.{renamed}
+use Rattle.tree_forms.specs.Renamed.{renamed}
 use Rattle.written_tree.specs.Members.{static_method_member}
 use Rattle.source_gen.proofs.Loops.{each_seen_more}
 use Rattle.source_gen.proofs.holders.add_methods.Goals as goal

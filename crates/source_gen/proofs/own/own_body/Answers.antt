@@ -3,7 +3,7 @@ use Rattle.std.specs.Option.{option_map_or}
 use Rattle.java_tree.specs.Syntax.{MemberTree}
 use Rattle.java_core.specs.Trees.{no_place}
 use Rattle.java_core.specs.Programs.{program_of, PlainMethod}
-use Rattle.tree_parts.specs.Renamed.{renamed}
+use Rattle.tree_forms.specs.Renamed.{renamed}
 use Rattle.written_tree.specs.Members.{body_member}
 use Rattle.source_gen.proofs.own.own_body.Goals as goal
 

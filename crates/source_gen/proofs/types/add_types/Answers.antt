@@ -4,7 +4,7 @@ use Rattle.java_core.specs.Programs.{program_of}
 use Rattle.kaba_order.specs.Orders.{Ordered}
 use Rattle.flow_rules.specs.Ordered.{when}
 use Rattle.hier_model.specs.Hierarchies.{is_class_node}
-use Rattle.tree_parts.specs.Renamed.{renamed}
+use Rattle.tree_forms.specs.Renamed.{renamed}
 use Rattle.written_tree.specs.Written.{type_tree}
 use Rattle.source_gen.proofs.Loops.{each_more}
 use Rattle.source_gen.proofs.types.add_types.Goals as goal

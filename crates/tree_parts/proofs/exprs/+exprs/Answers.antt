@@ -8,7 +8,7 @@ use Rattle.java_core.specs.Programs.{program_of, method_seen}
 use Rattle.java_tree.specs.Syntax.{NewArrayOf, CastOf}
 use Rattle.flow_rules.specs.declared.items.RowItem.TheVariants as row
 use Rattle.written_tree.specs.Names.{nowhere}
-use Rattle.tree_parts.specs.Renamed.{renamed, row_typed}
+use Rattle.tree_forms.specs.Renamed.{renamed, row_typed}
 use Rattle.tree_parts.proofs.Forms.{own_call, call_on, static_form, super_form, creation_form}
 use Rattle.tree_parts.proofs.Steps.{all_next, all_end}
 use Rattle.tree_parts.proofs.Parts.{call_is}

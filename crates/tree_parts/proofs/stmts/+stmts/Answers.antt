@@ -9,7 +9,7 @@ use Rattle.std.specs.declared.alloc.Global.{Global}
 use Rattle.java_core.specs.declared.RStmt.{RStmt}
 use Rattle.java_tree.specs.Syntax as tree
 use Rattle.written_tree.specs.Bodies.{written_else, written_st}
-use Rattle.tree_parts.specs.Renamed.{renamed}
+use Rattle.tree_forms.specs.Renamed.{renamed}
 use Rattle.tree_parts.proofs.Size.{st_size, sts_size, arms_size}
 use Rattle.tree_parts.proofs.Smaller.{stmt_smaller, arm_smaller, else_smaller, arms_within}
 use Rattle.tree_parts.proofs.Forms.{block_form, if_form, while_form, for_form}

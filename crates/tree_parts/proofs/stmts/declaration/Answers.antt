@@ -1,7 +1,7 @@
 use Rattle.std.specs.Option.{option_map}
 use Rattle.java_core.specs.Trees.{no_place}
 use Rattle.java_core.specs.Programs.{program_of, method_seen, local_seen}
-use Rattle.tree_parts.specs.Renamed.{renamed}
+use Rattle.tree_forms.specs.Renamed.{renamed}
 use Rattle.tree_parts.proofs.Bodies.{declared_is}
 use Rattle.tree_parts.proofs.stmts.declaration.Goals as goal
 

@@ -1,13 +1,11 @@
 -- The renaming that a numbering of the rows and columns gives, and how it fits a hierarchy.
 use Rattle.std.specs.Prelude.{◌≡◌, ℕ, ◌<◌, List, length, Option, Some, option_and_then}
 use Rattle.std.specs.Option.{option_map, option_map_or}
-use Rattle.java_tree.specs.Syntax.{Expression, Expressions, Statement, Statements}
 use Rattle.java_tree.specs.declared.TypeName.{TypeName}
 use Rattle.java_core.specs.declared.Ty.{Ty}
 use Rattle.java_core.specs.declared.Program.{Program}
-use Rattle.java_core.specs.declared.Method.{Method}
-use Rattle.java_core.specs.Trees.{no_place, Ex, Exs, St, Sts}
-use Rattle.java_core.specs.Programs.{program_of, method_seen}
+use Rattle.java_core.specs.Trees.{no_place}
+use Rattle.java_core.specs.Programs.{program_of}
 use Rattle.java_core.specs.Classes.{declaration_of, super_method}
 use Rattle.java_core.specs.Types.{Static, field_in}
 use Rattle.hier_model.specs.Hierarchies.{Hierarchy, place_of_row}
@@ -15,10 +13,9 @@ use Rattle.flow_rules.specs.declared.items.RowItem.{RowItem}
 use Rattle.flow_rules.specs.declared.items.ColumnItem.{ColumnItem}
 use Rattle.flow_rules.specs.declared.items.ColumnItem.TheVariants as column
 use Rattle.flow_rules.specs.Numbered.{number_among, same_row, same_column}
-use Rattle.tree_parts.specs.declared.numbers.Numbering.{Numbering}
+use Rattle.tree_forms.specs.declared.numbers.Numbering.{Numbering}
 use Rattle.rebuild_model.specs.Renaming.{Renaming, column_name}
 use Rattle.written_tree.specs.Names as names
-use Rattle.written_tree.specs.Bodies as written
 
 -- a row's type is named by the node where the row stands, fields and methods by their columns
 abbrev pub renamed : Numbering → Hierarchy → Renaming
@@ -51,16 +48,3 @@ row_named p n H i c = names.row_name (program_of no_place p) H ((renamed n H).ro
 
 abbrev pub row_typed : Program → Numbering → Hierarchy → RowItem → Ty → TypeName
 row_typed p n H i v = names.written_type (program_of no_place p) H ((renamed n H).row_type i) v
-
--- an expression and a statement of a method's body, as they are written
-abbrev pub expression : Program → Numbering → Hierarchy → ℕ → Method → List ℕ → Ex → Expression
-expression p n H m k scope e = written.written (program_of no_place p) (renamed n H) H m (method_seen no_place k) scope e
-
-abbrev pub expressions : Program → Numbering → Hierarchy → ℕ → Method → List ℕ → Exs → Expressions
-expressions p n H m k scope es = written.written_all (program_of no_place p) (renamed n H) H m (method_seen no_place k) scope es
-
-abbrev pub statement : Program → Numbering → Hierarchy → ℕ → Method → List ℕ → St → Statement
-statement p n H m k scope s = written.written_st (program_of no_place p) (renamed n H) H m (method_seen no_place k) scope s
-
-abbrev pub statements : Program → Numbering → Hierarchy → ℕ → Method → List ℕ → Sts → Statements
-statements p n H m k scope ss = written.written_sts (program_of no_place p) (renamed n H) H m (method_seen no_place k) scope ss

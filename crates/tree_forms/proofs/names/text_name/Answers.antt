@@ -3,7 +3,7 @@ use Rattle.std.specs.Prelude.{codes}
 use Rattle.std.specs.Str.{chars, encode_utf8_all}
 use Rattle.std.proofs.lemmas.Result.{IfOk-weaker}
 use Rattle.std.proofs.lemmas.Str.{chars-encodes, encode_ascii}
-use Rattle.tree_parts.proofs.names.text_name.Goals as goal
+use Rattle.tree_forms.proofs.names.text_name.Goals as goal
 
 spelled : encode_utf8_all (codes "String") ≡ codes "String"
 spelled =

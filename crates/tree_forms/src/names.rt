@@ -12,7 +12,7 @@ ghost use Rattle.java_core.specs.Types as types;
 ghost use Rattle.flow_rules.specs.Numbered.{number_among, same_column};
 ghost use Rattle.rebuild_model.specs.Renaming as renaming;
 ghost use Rattle.written_tree.specs.Names as written;
-ghost use Rattle.tree_parts.specs.Renamed.{renamed, IsFitting};
+ghost use Rattle.tree_forms.specs.Renamed.{renamed, IsFitting};
 
 use crate::numbers::Numbering;
 use flow_rules::{ColumnItem, RowItem};

@@ -2,7 +2,7 @@ use Rattle.std.proofs.Common.{◌≡◌, drop}
 use Rattle.java_core.specs.Trees.{no_place}
 use Rattle.java_core.specs.Programs.{method_seen}
 use Rattle.written_tree.specs.Bodies.{is_in_scope}
-use Rattle.tree_parts.proofs.exprs.is_in_scope.Given as goal
+use Rattle.tree_forms.proofs.holders.is_in_scope.Given as goal
 
 -- the name is that of one of those that are left, if at all
 abbrev pub invariant-loop-number : goal.invariant-loop-number

@@ -20,7 +20,7 @@ ghost use Rattle.java_core.specs.Statics.{static_seen};
 ghost use Rattle.java_core.specs.Types as types;
 ghost use Rattle.flow_rules.specs.declared.items.RowItem.TheVariants as row;
 ghost use Rattle.written_tree.specs.Names as written;
-ghost use Rattle.tree_parts.specs.Renamed.{renamed, IsFitting, accessed, called, above, row_named, row_typed};
+ghost use Rattle.tree_forms.specs.Renamed.{renamed, IsFitting, accessed, called, above, row_named, row_typed};
 
 use crate::names::{
     accessed_name, called_name, field_name, id, node_of, nowhere, row_name, super_name,

@@ -1,0 +1,129 @@
+//! Variables by their names, and static members by their simple name or by that of their holder.
+
+ghost use Rattle.std.specs.Prelude.{◌≡◌, IfOk, slice_get};
+ghost use Rattle.std.specs.Option.{option_map};
+ghost use Rattle.java_tree.specs.Syntax.{expr_of, exprs};
+ghost use Rattle.java_core.specs.Trees.{no_place};
+ghost use Rattle.java_core.specs.Programs.{program_of, method_seen, local_seen};
+ghost use Rattle.java_core.specs.Formed.{variables_of};
+ghost use Rattle.written_tree.specs.Bodies as written;
+
+use crate::names::{class_name, is_same, no_name, nowhere};
+use java_core::{Local, Method, Program};
+use java_tree::{Expr, build};
+use kaba_base::{ClassId, MemberId, Name};
+use std::alloc::{AllocError, Global};
+
+/// A parameter or a local of a method, by its number.
+pub fn variable(method: &Method, number: u32) -> Option<&Local>
+    ensures { option_map (λ v. local_seen no_place v.now) result ≡ slice_get (variables_of
+        (method_seen no_place method.now)) number }
+{
+    let at = number as usize;
+    let count = method.params.len();
+    if at < count {
+        method.params.get(at)
+    } else {
+        method.locals.get(at - count)
+    }
+}
+
+/// Its name.
+pub fn variable_name(alloc: Global, method: &Method, number: u32) -> Result<Name, AllocError>
+    ensures { IfOk result (λ n. n ≡ written.variable_name (method_seen no_place method.now)
+        number) }
+{
+    match variable(method, number) {
+        Some(variable) => variable.name.copy(alloc),
+        None => no_name(alloc),
+    }
+}
+
+/// Whether a parameter or local has the name.
+fn is_named(method: &Method, number: u32, name: &Name) -> bool
+    ensures { result ≡ written.is_named (method_seen no_place method.now) name.now number }
+{
+    match variable(method, number) {
+        Some(variable) => is_same(&variable.name, name),
+        None => false,
+    }
+}
+
+/// Whether one of the parameters and locals in scope has the name.
+fn is_in_scope(method: &Method, scope: &Vec<u32>, name: &Name) -> bool
+    ensures { result ≡ written.is_in_scope (method_seen no_place method.now) scope.now.items
+        name.now }
+{
+    for number in scope {
+        if is_named(method, *number, name) {
+            return true;
+        }
+    }
+    false
+}
+
+/// Whether a static member is written by its simple name: inside its own holder, where no parameter
+/// or local in scope has that name.
+fn is_simple(method: &Method, scope: &Vec<u32>, owner: ClassId, name: &Name) -> bool
+    ensures { result ≡ written.is_simple (method_seen no_place method.now) scope.now.items owner.0
+        name.now }
+{
+    method.is_static && method.owner == owner && !is_in_scope(method, scope, name)
+}
+
+/// A static field.
+pub fn static_field(
+    alloc: Global,
+    program: &Program,
+    method: &Method,
+    scope: &Vec<u32>,
+    field: MemberId,
+) -> Result<Expr, AllocError>
+    ensures { IfOk result (λ e. expr_of e ≡ written.static_field_name (program_of no_place
+        program.now) (method_seen no_place method.now) scope.now.items field.0) }
+{
+    let Some(field) = program.fields.get(field.0 as usize) else {
+        return Ok(Expr::Null { place: nowhere() });
+    };
+    let name = field.name.copy(alloc)?;
+    if is_simple(method, scope, field.owner, &name) {
+        return Ok(Expr::Name {
+            name,
+            place: nowhere(),
+        });
+    }
+    let holder = class_name(alloc, program, field.owner)?;
+    let holder = Expr::Name {
+        name: holder,
+        place: nowhere(),
+    };
+    build::field(alloc, holder, name, nowhere())
+}
+
+/// A call of a static method.
+pub fn static_call(
+    alloc: Global,
+    program: &Program,
+    method: &Method,
+    scope: &Vec<u32>,
+    called: MemberId,
+    args: Vec<Expr>,
+) -> Result<Expr, AllocError>
+    ensures { IfOk result (λ e. expr_of e ≡ written.static_call_name (program_of no_place
+        program.now) (method_seen no_place method.now) scope.now.items called.0
+        (exprs args.items)) }
+{
+    let Some(called) = program.methods.get(called.0 as usize) else {
+        return Ok(Expr::Null { place: nowhere() });
+    };
+    let name = called.name.copy(alloc)?;
+    if is_simple(method, scope, called.owner, &name) {
+        return Ok(build::call(name, args, nowhere()));
+    }
+    let holder = class_name(alloc, program, called.owner)?;
+    let holder = Expr::Name {
+        name: holder,
+        place: nowhere(),
+    };
+    build::call_on(alloc, holder, name, args, nowhere())
+}
