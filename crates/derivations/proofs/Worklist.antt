@@ -5,7 +5,8 @@ use Rattle.std.proofs.lemmas.Bool.{cases_Bool, false≢true}
 use Rattle.derivations.specs.Worklist.{IsSettled, SomeOf, here, later}
 
 -- where nothing waits, what is shown is closed under the rules
-pub closed-settled : {A : Type 0} (R : List A → A → Type 0) (shown waits : A → Bool) → IsSettled R shown waits → ((a : A) → waits a ≡ false) → (ps : List A) (a : A) → R ps a → AllByRecursion (λ p. shown p ≡ true) ps → shown a ≡ true
+pub closed-settled : {A : Type 0} (R : List A → A → Type 0) (shown waits : A → Bool) → IsSettled R shown waits → ((a : A) → waits a ≡ false)
+    → (ps : List A) (a : A) → R ps a → AllByRecursion (λ p. shown p ≡ true) ps → shown a ≡ true
 closed-settled {A} R shown waits settled none ps a r h = settled ps a r (both ps h)
   where
     both : (ps : List A) → AllByRecursion (λ p. shown p ≡ true) ps → AllByRecursion (λ p. (shown p ≡ true) × (waits p ≡ false)) ps
@@ -14,7 +15,9 @@ closed-settled {A} R shown waits settled none ps a r h = settled ps a r (both ps
 
 module _ {A : Type 0} (R : List A → A → Type 0) (shown waits taken shown' waits' : A → Bool) where
   -- a premise was taken in this turn, or all were shown and none waited before it
-  split : (ps : List A) → ((a : A) → shown' a ≡ true → waits' a ≡ false → shown a ≡ true) → ((a : A) → waits a ≡ true → taken a ≡ false → waits' a ≡ true) → AllByRecursion (λ p. (shown' p ≡ true) × (waits' p ≡ false)) ps → SomeOf (λ p. taken p ≡ true) ps ⊎ AllByRecursion (λ p. (shown p ≡ true) × (waits p ≡ false)) ps
+  split : (ps : List A) → ((a : A) → shown' a ≡ true → waits' a ≡ false → shown a ≡ true) → ((a : A) → waits a ≡ true → taken a ≡ false
+      → waits' a ≡ true) → AllByRecursion (λ p. (shown' p ≡ true) × (waits' p ≡ false)) ps → SomeOf (λ p. taken p ≡ true) ps
+      ⊎ AllByRecursion (λ p. (shown p ≡ true) × (waits p ≡ false)) ps
   split [] fresh kept h = inr tt
   split (p ∷ ps) fresh kept h =
       ⊎_elim

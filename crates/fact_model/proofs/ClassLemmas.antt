@@ -63,11 +63,13 @@ module _ (F : Facts) where
     distinct : IsDistinct eqb seen
     each : AllByRecursion (λ q. (q < length F.classes.items) × IsStrictlyBelow F q a) seen
 
-  up : (a : ℕ) (c : ClassId) (seen : List ℕ) → Contains (supers_of F a) c → AllByRecursion (λ q. (q < length F.classes.items) × IsStrictlyBelow F q a) seen → AllByRecursion (λ q. (q < length F.classes.items) × IsStrictlyBelow F q c.0) seen
+  up : (a : ℕ) (c : ClassId) (seen : List ℕ) → Contains (supers_of F a) c → AllByRecursion (λ q. (q < length F.classes.items) × IsStrictlyBelow F q a)
+      seen → AllByRecursion (λ q. (q < length F.classes.items) × IsStrictlyBelow F q c.0) seen
   up a c [] direct h = tt
   up a c (q ∷ seen) direct h = ((h.0.0, strictly-then h.0.1 (through direct same)), up a c seen direct h.1)
 
-  apart : IsAcyclic F → (a : ℕ) (seen : List ℕ) → AllByRecursion (λ q. (q < length F.classes.items) × IsStrictlyBelow F q a) seen → AllByRecursion (λ y. eqb a y ≡ false) seen
+  apart : IsAcyclic F → (a : ℕ) (seen : List ℕ) → AllByRecursion (λ q. (q < length F.classes.items) × IsStrictlyBelow F q a) seen
+      → AllByRecursion (λ y. eqb a y ≡ false) seen
   apart acyclic a [] h = tt
   apart acyclic a (q ∷ seen) h = (ne_eqb a q (λ e. acyclic a (subst (λ x. IsStrictlyBelow F x a) (sym e) h.0.1)), apart acyclic a seen h.1)
 
@@ -77,9 +79,11 @@ module _ (F : Facts) where
     each = ((supers-within a c direct, record { by = c; direct = direct; rest = same }), up a c seen direct h.each);
   }
 
-  within : (a : ℕ) (seen : List ℕ) → AllByRecursion (λ q. (q < length F.classes.items) × IsStrictlyBelow F q a) seen → (q : ℕ) → list_any (eqb q) seen ≡ true → q < length F.classes.items
+  within : (a : ℕ) (seen : List ℕ) → AllByRecursion (λ q. (q < length F.classes.items) × IsStrictlyBelow F q a) seen → (q : ℕ)
+      → list_any (eqb q) seen ≡ true → q < length F.classes.items
   within a [] h q e = absurd (false≢true e)
-  within a (x ∷ seen) h q e = ⊎_elim (λ one. subst (λ y. y < length F.classes.items) (sym (eqb-true q x one)) h.0.0) (λ more. within a seen h.1 q more) (or_cases (eqb q x) (list_any (eqb q) seen) e)
+  within a (x ∷ seen) h q e = ⊎_elim (λ one. subst (λ y. y < length F.classes.items) (sym (eqb-true q x one)) h.0.0)
+      (λ more. within a seen h.1 q more) (or_cases (eqb q x) (list_any (eqb q) seen) e)
 
   passed-le : {a : ℕ} (seen : List ℕ) → ArePassed seen a → length seen ≤ length F.classes.items
   passed-le {a} seen h = length-le_from_distinct_below seen (length F.classes.items) h.distinct (within a seen h.each)
@@ -88,7 +92,8 @@ module _ (F : Facts) where
   unfolding IsDistinct
   start a = record { distinct = tt; each = tt }
 
-  reaches-all : IsAcyclic F → (n : ℕ) (seen : List ℕ) {a b : ℕ} → IsBelow F a b → n + length seen ≡ length F.classes.items → ArePassed seen a → reaches F n a b ≡ true
+  reaches-all : IsAcyclic F → (n : ℕ) (seen : List ℕ) {a b : ℕ} → IsBelow F a b → n + length seen ≡ length F.classes.items → ArePassed seen a
+      → reaches F n a b ≡ true
   reaches-all acyclic zero seen {a} same e h = eq-eqb a a refl
   reaches-all acyclic (suc n) seen {a} same e h = or_left (eqb a a) (list_any (λ c. reaches F n c.0 a) (supers_of F a)) (eq-eqb a a refl)
   reaches-all acyclic zero seen (through direct rest) e h = absurd (omega (arith, passed-le (_ ∷ seen) (passed_more acyclic seen direct h)))
@@ -104,7 +109,9 @@ module _ (F : Facts) where
     λ h. reaches-all acyclic (length F.classes.items) [] h (omega arith) (start a),
   )
 
-  found_up : (n a x d : ℕ) (o : Option ℕ) (p : Option ClassId) → own_body F a x ≡ o → parent_of F a ≡ p → ((p : ClassId) → finds_within F n p.0 x ≡ Some d → Finds F p.0 x d) → or_else o (option_and_then (λ p. finds_within F n p.0 x) p) ≡ Some d → Finds F a x d
+  found_up : (n a x d : ℕ) (o : Option ℕ) (p : Option ClassId) → own_body F a x ≡ o → parent_of F a ≡ p
+      → ((p : ClassId) → finds_within F n p.0 x ≡ Some d → Finds F p.0 x d) → or_else o (option_and_then (λ p. finds_within F n p.0 x) p)
+      ≡ Some d → Finds F a x d
   found_up n a x d (Some y) p e f up h = own (e ∙ h)
   found_up n a x d None None e f up h = absurd (cc h)
   found_up n a x d None (Some p) e f up h = inherited e f (up p h)
@@ -114,14 +121,17 @@ module _ (F : Facts) where
   finds-sound (suc n) a x d h = found_up n a x d (own_body F a x) (parent_of F a) refl refl (λ p. finds-sound n p.0 x d) h
 
   -- where a class has no body of its own, that of its superclass
-  pub finds_within-up : (n a x : ℕ) (k : ClassInfo) (p : ClassId) → 0 < n → own_body F a x ≡ None → slice_get F.classes.items a ≡ Some k → k.parent ≡ Some p → finds_within F n a x ≡ finds_within F (n - 1) p.0 x
+  pub finds_within-up : (n a x : ℕ) (k : ClassInfo) (p : ClassId) → 0 < n → own_body F a x ≡ None → slice_get F.classes.items a ≡ Some k
+      → k.parent ≡ Some p → finds_within F n a x ≡ finds_within F (n - 1) p.0 x
   finds_within-up zero a x k p lt none at e = absurd (omega (arith, lt))
   finds_within-up (suc n) a x k p lt none at e = let one : suc n - 1 ≡ n = omega arith in rw (none, at, e, one) refl
 
-  finds-all : IsAcyclic F → (n : ℕ) (seen : List ℕ) {a x d : ℕ} → Finds F a x d → n + length seen ≡ length F.classes.items → ArePassed seen a → finds_within F n a x ≡ Some d
+  finds-all : IsAcyclic F → (n : ℕ) (seen : List ℕ) {a x d : ℕ} → Finds F a x d → n + length seen ≡ length F.classes.items → ArePassed seen a
+      → finds_within F n a x ≡ Some d
   finds-all acyclic zero seen (own e) k h = e
   finds-all acyclic (suc n) seen (own e) k h = rw e
-  finds-all acyclic zero seen {a} (inherited {p = p} none e up) k h = absurd (omega (arith, passed-le (a ∷ seen) (passed_more acyclic seen (parent-super a p e) h)))
+  finds-all acyclic zero seen {a} (inherited {p = p} none e up) k h =
+      absurd (omega (arith, passed-le (a ∷ seen) (passed_more acyclic seen (parent-super a p e) h)))
   finds-all acyclic (suc n) seen {a} (inherited {p = p} none e up) k h =
       rw (none, e) (finds-all acyclic n (a ∷ seen) up (omega arith) (passed_more acyclic seen (parent-super a p e) h))
 

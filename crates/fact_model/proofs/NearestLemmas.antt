@@ -39,12 +39,14 @@ module _ (F : Facts) (R : InRange F) (O : InOrder F) where
   -- a class with a body of the slot finds one of its own
   own_there : (x e : ℕ) → IsBodyOf F (column_class F e) x e → own_body F (column_class F e) x ≡ None → ⊥
   own_there x e b none =
-      passes_somewhere (λ k. is_body (column_class F e) x k) F.columns.items e (record { kind = Is; class = record { 0 = 0 }; slot = None; name = []; label = [] }) b.below
+      passes_somewhere (λ k. is_body (column_class F e) x k) F.columns.items e
+          (record { kind = Is; class = record { 0 = 0 }; slot = None; name = []; label = [] }) b.below
       (rw (b.kind, b.slot, eq-eqb (column_class F e) (column_class F e) refl, eq-eqb x x refl) refl)
       none
 
   -- what is strictly above a class is at or above its superclass, where it is a class
-  pub above_parent : (a b : ℕ) (p : ClassId) → IsPlainClass F b → is_interface F p.0 ≡ false → p.0 < length F.classes.items → parent_of F a ≡ Some p → IsStrictlyBelow F a b → IsBelow F p.0 b
+  pub above_parent : (a b : ℕ) (p : ClassId) → IsPlainClass F b → is_interface F p.0 ≡ false → p.0 < length F.classes.items → parent_of F a ≡ Some p
+      → IsStrictlyBelow F a b → IsBelow F p.0 b
   above_parent a b p k plain lt up s =
       ⊎_elim
       (λ e. let same : s.by ≡ p = cc (e, up) in subst (λ y. IsBelow F y.0 b) same s.rest)
@@ -55,7 +57,8 @@ module _ (F : Facts) (R : InRange F) (O : InOrder F) where
   plain_body {d = d} b = subst (λ k. is_interface F k ≡ false) b.class (O.classes.fields d b.below (inr b.kind))
 
   class_below : (e : ℕ) → e < length F.columns.items → column_class F e < length F.classes.items
-  class_below e lt = All-get_or (λ c. IsClass F c.class) F.columns.items e (record { kind = Is; class = record { 0 = 0 }; slot = None; name = []; label = [] }) lt R.columns
+  class_below e lt = All-get_or (λ c. IsClass F c.class) F.columns.items e
+      (record { kind = Is; class = record { 0 = 0 }; slot = None; name = []; label = [] }) lt R.columns
 
   -- the class of a body is a class
   pub plain_class : (x e : ℕ) → IsBodyOf F (column_class F e) x e → IsPlainClass F (column_class F e)
@@ -68,10 +71,12 @@ module _ (F : Facts) (R : InRange F) (O : InOrder F) where
       from : (o : Option ClassInfo) → slice_get F.classes.items a ≡ o → option_and_then (λ (k : ClassInfo). k.parent) o ≡ Some p → p.0 < length F.classes.items
       from None at e = absurd (cc e)
       from (Some k) at e =
-          let all = All-contains (λ k. IfSome k.parent (IsClass F) × All (IsClass F) k.faces.items) F.classes.items k R.classes (a, slice_get_within F.classes.items a k at, get_or_from_slice_get F.classes.items a k k at) in
+          let all = All-contains (λ k. IfSome k.parent (IsClass F) × All (IsClass F) k.faces.items) F.classes.items k R.classes
+              (a, slice_get_within F.classes.items a k at, get_or_from_slice_get F.classes.items a k k at) in
           subst (λ o. IfSome o (IsClass F)) e all.0
 
-  nearest : {a x d : ℕ} → Finds F a x d → is_interface F a ≡ false → (e : ℕ) → IsBodyOf F (column_class F e) x e → IsBelow F a (column_class F e) → IsBelow F (column_class F d) (column_class F e)
+  nearest : {a x d : ℕ} → Finds F a x d → is_interface F a ≡ false → (e : ℕ) → IsBodyOf F (column_class F e) x e → IsBelow F a (column_class F e)
+      → IsBelow F (column_class F d) (column_class F e)
   nearest {a} {x} {d} (own h) plain e b up = subst (λ k. IsBelow F k (column_class F e)) (sym (own_body-Some F a x d h).class) up
   nearest {a} {x} {d} (inherited {p = p} none above rest) plain e b up =
       ⊎_elim
@@ -82,7 +87,8 @@ module _ (F : Facts) (R : InRange F) (O : InOrder F) where
       (below_cases F up)
 
   -- above an interface there is only class 0
-  at_interface : {a x d : ℕ} → Finds F a x d → is_interface F a ≡ true → (e : ℕ) → IsBodyOf F (column_class F e) x e → IsBelow F a (column_class F e) → IsBelow F (column_class F d) (column_class F e)
+  at_interface : {a x d : ℕ} → Finds F a x d → is_interface F a ≡ true → (e : ℕ) → IsBodyOf F (column_class F e) x e → IsBelow F a (column_class F e)
+      → IsBelow F (column_class F d) (column_class F e)
   at_interface {a} {x} {d} f face e b up =
       let found = Finds-found F f in
       let d_class : IsBodyOf F (column_class F d) x d = subst (λ k. IsBodyOf F k x d) (sym found.body.class) found.body in
@@ -91,13 +97,15 @@ module _ (F : Facts) (R : InRange F) (O : InOrder F) where
       let zero_e = above_interface F O a (column_class F e) face (plain_class x e b) up in
       subst (λ k. IsBelow F (column_class F d) k) (zero_d ∙ sym zero_e) same
 
-  pub finds_nearest : (a x d : ℕ) → finds F a x ≡ Some d → (e : ℕ) → IsBodyOf F (column_class F e) x e → IsBelow F a (column_class F e) → IsBelow F (column_class F d) (column_class F e)
+  pub finds_nearest : (a x d : ℕ) → finds F a x ≡ Some d → (e : ℕ) → IsBodyOf F (column_class F e) x e → IsBelow F a (column_class F e)
+      → IsBelow F (column_class F d) (column_class F e)
   finds_nearest a x d h e b up =
       let f = (finds-exact F O.classes.acyclic a x d).0 h in
       ⊎_elim (λ face. at_interface f face e b up) (λ plain. nearest f plain e b up) (cases_Bool (is_interface F a))
 
   -- the same of the body found strictly above
-  pub found_above : (a x d : ℕ) (p : ClassId) → parent_of F a ≡ Some p → finds F p.0 x ≡ Some d → (e : ℕ) → IsBodyOf F (column_class F e) x e → IsBelow F a (column_class F e) → column_class F e ≢ a
+  pub found_above : (a x d : ℕ) (p : ClassId) → parent_of F a ≡ Some p → finds F p.0 x ≡ Some d → (e : ℕ) → IsBodyOf F (column_class F e) x e
+      → IsBelow F a (column_class F e) → column_class F e ≢ a
       → IsBelow F (column_class F d) (column_class F e)
   found_above a x d p above h e b up ne =
       ⊎_elim
@@ -111,7 +119,8 @@ module _ (F : Facts) (R : InRange F) (O : InOrder F) where
       let zero_d = above_interface F O a (column_class F d) face (plain_class x d d_class) d_up in
       let zero_e = above_interface F O a (column_class F e) face (plain_class x e b) up in
       subst (λ k. IsBelow F (column_class F d) k) (zero_d ∙ sym zero_e) same)
-      (λ plain. finds_nearest p.0 x d h e b (above_parent a (column_class F e) p (plain_class x e b) (O.classes.parents a p plain above) (parent_below a p above) above s))
+      (λ plain. finds_nearest p.0 x d h e b (above_parent a (column_class F e) p (plain_class x e b) (O.classes.parents a p plain above)
+          (parent_below a p above) above s))
       (cases_Bool (is_interface F a)))
       (below_cases F up)
 

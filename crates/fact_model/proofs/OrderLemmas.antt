@@ -79,15 +79,18 @@ module _ (F : Facts) (R : InRange F) (O : InOrder F) where
   above ps e (by_tie x c is) h = below-then F (All-contains (λ y. IsBelow F (row_class F y.lower.0) (row_class F y.upper.0)) F.ties.items x O.types.ties is) h.0
   above ps e (by_site v o c m) h = from (site_row_class o (member-below F R v o m)) (below-then F (O.types.members v o m) h.0)
   above ps e (by_hiding q r d c k) h = below-then F h.1.1.0 (strictly-below F k.class)
-  above ps e (by_test x c is m) h = from (All-contains (λ y. row_class F y.target.0 ≡ y.class.0) F.tests.items x O.tests.targets is) (along same (sym m.class_is))
+  above ps e (by_test x c is m) h = from (All-contains (λ y. row_class F y.target.0 ≡ y.class.0) F.tests.items x O.tests.targets is)
+      (along same (sym m.class_is))
   above ps e (by_array s c lt dim m) h = from (site_row_class s lt) (along same (sym m.class_is))
 
   -- the site of a call of a body is in the set of the body's `this`
-  needed : (call : CallInfo) (o d : ℕ) → Contains F.calls.items call → Holds F (in_point call.receiver o) → finds F (site_class F o) call.slot ≡ Some d → (one : HasOneThis F d) → IsInRow F one.row o
+  needed : (call : CallInfo) (o d : ℕ) → Contains F.calls.items call → Holds F (in_point call.receiver o) → finds F (site_class F o) call.slot
+      ≡ Some d → (one : HasOneThis F d) → IsInRow F one.row o
   needed call o d is holds f one =
       let runs : Runs F call o one.body = record { called = is; listed = one.listed; found = f ∙ ap Some (sym one.column) } in
       subst (λ v. IsInRow F v o) one.point_is
-      (by_point one.body.this o one.point (derivable_by (Inclusion F) (in_point call.receiver o ∷ []) (in_point one.body.this o) (flow_this call o one.body runs) (holds, tt)))
+      (by_point one.body.this o one.point (derivable_by (Inclusion F) (in_point call.receiver o ∷ []) (in_point one.body.this o)
+          (flow_this call o one.body runs) (holds, tt)))
 
   super_above : (a d : ℕ) → IsNearestAbove F a d → IsStrictlyBelow F a (column_class F d)
   super_above a d n =
@@ -115,8 +118,10 @@ module _ (F : Facts) (R : InRange F) (O : InOrder F) where
       let vr : v ≡ r = this.one_row v (record { column = b; row = t; body = refl }) ∙ sym (this.one_row r mine) in
       subst (λ w. IsThisOf F w k) vr (h.1.0.1 d (c ∙ ap (row_class F) (sym vr)) (subst (λ w. is_object_row F w ≡ false) (sym vr) o))
   own ps e (by_super x is) h d c o =
-      let n = All-contains (λ y. (is_some (row_this F y.row.0) ≡ true) × IsDef F y.column.0 × IsNearestAbove F (row_class F y.row.0) y.column.0) F.supers.items x O.bodies.supers is in
-      absurd (O.classes.acyclic (row_class F x.row.0) (subst (λ a. IsStrictlyBelow F (row_class F x.row.0) a) c (super_above (row_class F x.row.0) x.column.0 n.2)))
+      let n = All-contains (λ y. (is_some (row_this F y.row.0) ≡ true) × IsDef F y.column.0 × IsNearestAbove F (row_class F y.row.0) y.column.0)
+          F.supers.items x O.bodies.supers is in
+      absurd (O.classes.acyclic (row_class F x.row.0) (subst (λ a. IsStrictlyBelow F (row_class F x.row.0) a) c
+          (super_above (row_class F x.row.0) x.column.0 n.2)))
   own ps e (by_tie x k is) h d c o =
       let tie = All-contains (λ y. IsBelow F (row_class F y.lower.0) (row_class F y.upper.0)) F.ties.items x O.types.ties is in
       let one : row_class F x.lower.0 ≡ row_class F x.upper.0 = both tie (along h.0.0 c) in

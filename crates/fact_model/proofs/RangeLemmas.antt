@@ -21,7 +21,8 @@ site_of (in_point p s) = s
 site_of (in_cell c s) = s
 
 module _ (F : Facts) where
-  site_closed : InRange F → (ps : List Fact) (f : Fact) → Inclusion F ps f → AllByRecursion (λ p. site_of p < length F.sites.items) ps → site_of f < length F.sites.items
+  site_closed : InRange F → (ps : List Fact) (f : Fact) → Inclusion F ps f → AllByRecursion (λ p. site_of p < length F.sites.items) ps
+      → site_of f < length F.sites.items
   site_closed R ps f (by_new x is) h = (All-contains (λ y. IsPoint F y.point × IsSite F y.site) F.news.items x R.news is).1
   site_closed R ps f (by_flow x s is) h = h.0
   site_closed R ps f (by_load x c o s is cell) h = h.1.0
@@ -43,7 +44,8 @@ module _ (F : Facts) where
   column-below c k e ne =
       ⊎_elim
       (λ lt. lt)
-      (λ past. absurd (ne (sym e ∙ ap (λ (k : ColumnInfo). k.kind) (get_or_past F.columns.items c (record { kind = Is; class = record { 0 = 0 }; slot = None; name = []; label = [] }) past))))
+      (λ past. absurd (ne (sym e ∙ ap (λ (k : ColumnInfo). k.kind)
+          (get_or_past F.columns.items c (record { kind = Is; class = record { 0 = 0 }; slot = None; name = []; label = [] }) past))))
       (cases_lt c (length F.columns.items))
 
   -- only a row of the list is a `this`
@@ -51,5 +53,6 @@ module _ (F : Facts) where
   this-below v d e =
       ⊎_elim
       (λ lt. lt)
-      (λ past. absurd (cc (e, ap (λ (r : RowInfo). r.this_of) (get_or_past F.rows.items v (record { label = []; class = record { 0 = 0 }; dim = 0; site = None; this_of = None }) past))))
+      (λ past. absurd (cc (e, ap (λ (r : RowInfo). r.this_of)
+          (get_or_past F.rows.items v (record { label = []; class = record { 0 = 0 }; dim = 0; site = None; this_of = None }) past))))
       (cases_lt v (length F.rows.items))

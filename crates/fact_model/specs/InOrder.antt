@@ -135,11 +135,14 @@ module _ (F : Facts) where
   -- slots, fields and their names
   pub record AreMembersInOrder : Type 0 where
     -- what stands at a type and above it has no two slots of one name
-    pub slots : (a c d x y : ℕ) → column_slot F c ≡ Some x → column_slot F d ≡ Some y → IsBelow F a (column_class F c) → IsBelow F a (column_class F d) → name_of c ≡ name_of d → x ≡ y
+    pub slots : (a c d x y : ℕ) → column_slot F c ≡ Some x → column_slot F d ≡ Some y → IsBelow F a (column_class F c)
+        → IsBelow F a (column_class F d) → name_of c ≡ name_of d → x ≡ y
     -- a class has no two fields of one name
-    pub fields : (c d : ℕ) → c < length F.columns.items → d < length F.columns.items → column_kind F c ≡ Fld → column_kind F d ≡ Fld → column_class F c ≡ column_class F d → name_of c ≡ name_of d → c ≡ d
+    pub fields : (c d : ℕ) → c < length F.columns.items → d < length F.columns.items → column_kind F c ≡ Fld → column_kind F d ≡ Fld
+        → column_class F c ≡ column_class F d → name_of c ≡ name_of d → c ≡ d
     -- and at most one body of a slot
-    pub bodies : (c d : ℕ) → c < length F.columns.items → d < length F.columns.items → IsDef c → IsDef d → column_class F c ≡ column_class F d → column_slot F c ≡ column_slot F d → c ≡ d
+    pub bodies : (c d : ℕ) → c < length F.columns.items → d < length F.columns.items → IsDef c → IsDef d → column_class F c ≡ column_class F d
+        → column_slot F c ≡ column_slot F d → c ≡ d
     -- a field has no slot
     pub no_slots : (c : ℕ) → c < length F.columns.items → column_kind F c ≡ Fld → column_slot F c ≡ None
     -- the columns of a slot have one name
@@ -154,7 +157,8 @@ module _ (F : Facts) where
     pub words : All (λ w. is_name w ≡ true) F.words.items
     -- no field has the name of a holder, Object, String or System
     pub fields : (c : ℕ) → c < length F.columns.items → column_kind F c ≡ Fld → All (λ k. k.holder ≡ true → name_of c ≢ k.name) F.classes.items
-    pub others : (c : ℕ) → c < length F.columns.items → column_kind F c ≡ Fld → (name_of c ≢ codes "Object") × (name_of c ≢ codes "String") × (name_of c ≢ codes "System")
+    pub others : (c : ℕ) → c < length F.columns.items → column_kind F c ≡ Fld → (name_of c ≢ codes "Object") × (name_of c ≢ codes "String")
+        × (name_of c ≢ codes "System")
 
 pub record InOrder (F : Facts) : Type 0 where
   pub classes : AreClassesInOrder F
@@ -172,4 +176,5 @@ ColumnsStandAbove F t = (r c : ℕ) → bit (row t.rows.items r) c ≡ true → 
 
 -- a row that is that of no object site has a body of its own class only where it is the body's `this`
 abbrev pub BodiesAreOwn : Facts → Table → Type 0
-BodiesAreOwn F t = (r d : ℕ) → bit (row t.rows.items r) d ≡ true → column_kind F d ≡ Def → column_class F d ≡ row_class F r → is_object_row F r ≡ false → IsThisOf F r d
+BodiesAreOwn F t = (r d : ℕ) → bit (row t.rows.items r) d ≡ true → column_kind F d ≡ Def → column_class F d ≡ row_class F r
+    → is_object_row F r ≡ false → IsThisOf F r d

@@ -46,9 +46,12 @@ module _ (P Q : Plain) where
 
   access_of : (p : Part) (x : AccessInfo) → Contains (accesses_of (numbers P Q) p) x → HasAccess x p
   unfolding numbers
-  access_of (a_load p b (Some f) o) x c = let z = accessed_from (row_at (numbers P Q) b) (column_number P Q (column.Fld f)) x c in record { base = b; member = column.Fld f; access = a_read; row_is = z.0; column_is = z.1 }
-  access_of (a_store p b (Some f) o) x c = let z = accessed_from (row_at (numbers P Q) b) (column_number P Q (column.Fld f)) x c in record { base = b; member = column.Fld f; access = a_write; row_is = z.0; column_is = z.1 }
-  access_of (a_call p b s (Some d) es o) x c = let z = accessed_from (row_at (numbers P Q) b) (column_number P Q (column.Dcl d)) x c in record { base = b; member = column.Dcl d; access = a_use; row_is = z.0; column_is = z.1 }
+  access_of (a_load p b (Some f) o) x c = let z = accessed_from (row_at (numbers P Q) b) (column_number P Q (column.Fld f)) x c in record
+      { base = b; member = column.Fld f; access = a_read; row_is = z.0; column_is = z.1 }
+  access_of (a_store p b (Some f) o) x c = let z = accessed_from (row_at (numbers P Q) b) (column_number P Q (column.Fld f)) x c in record
+      { base = b; member = column.Fld f; access = a_write; row_is = z.0; column_is = z.1 }
+  access_of (a_call p b s (Some d) es o) x c = let z = accessed_from (row_at (numbers P Q) b) (column_number P Q (column.Dcl d)) x c in record
+      { base = b; member = column.Dcl d; access = a_use; row_is = z.0; column_is = z.1 }
   access_of _ x c = absurd (omega (arith, c.1))
 
   module _ (F : Facts) (facts : IsFactsOf P Q F) where
@@ -78,7 +81,8 @@ module _ (P Q : Plain) where
 
     -- the row of an access is at or below the member's class
     module _ (placed : IsPlaced P Q) (formed : IsFormed P) (typed : IsTyped P) where
-      base_above : (m : ℕ) (k : PlainMethod) (e : slice_get Q.methods m ≡ Some k) (b : Operand) (i : ColumnItem) (p : Part) → IsAccess b i p → IsFitted P Q placed formed typed F facts m k e p → IsBase P Q placed formed typed F facts m k e b i
+      base_above : (m : ℕ) (k : PlainMethod) (e : slice_get Q.methods m ≡ Some k) (b : Operand) (i : ColumnItem) (p : Part) → IsAccess b i p
+          → IsFitted P Q placed formed typed F facts m k e p → IsBase P Q placed formed typed F facts m k e b i
       base_above m k e b _ _ (a_read {f = f}) h = (h.1 f refl).0
       base_above m k e b _ _ (a_write {f = f}) h = (h f refl).0
       base_above m k e b _ _ (a_use {d = d}) h = h.2 d refl
@@ -86,6 +90,9 @@ module _ (P Q : Plain) where
       pub accesses_below : All (λ x. IsBelow F (row_class F x.row.0) (column_class F x.column.0)) F.accesses.items
       accesses_below = all_of (λ x. IsBelow F (row_class F x.row.0) (column_class F x.column.0)) F.accesses.items
           (λ x c. let z = access_part x c in
-          let b = base_above z.number z.method z.stands z.has.base z.has.member z.part z.has.access (part_fitted P Q placed formed typed F facts z.number z.method z.stands z.part z.in_body) in
+          let b = base_above z.number z.method z.stands z.has.base z.has.member z.part z.has.access
+              (part_fitted P Q placed formed typed F facts z.number z.method z.stands z.part z.in_body) in
           let r = row_of_operand P Q placed formed typed F facts z.number z.method z.stands z.has.base x.row.0 b.good z.has.row_is in
-          subst (λ y. IsBelow F y (column_class F x.column.0)) (sym r.class) (subst (λ y. IsBelow F r.type.class.0 y) (sym (ap (λ i. i.class.0) (numbered_column P Q F facts z.has.member x.column.0 z.has.column_is).1)) (subclass_below P Q placed F facts (b.above r.type r.stated))))
+          subst (λ y. IsBelow F y (column_class F x.column.0)) (sym r.class) (subst (λ y. IsBelow F r.type.class.0 y)
+              (sym (ap (λ i. i.class.0) (numbered_column P Q F facts z.has.member x.column.0 z.has.column_is).1))
+              (subclass_below P Q placed F facts (b.above r.type r.stated))))

@@ -127,10 +127,12 @@ variable_thisless (Some s) true m i = refl
 variable_thisless (Some s) false m i = refl
 
 module _ (P Q : Plain) (placed : IsPlaced P Q) (formed : IsFormed P) (typed : IsTyped P) where
-  pub part_labelled : (p : Part) → IsPart P Q placed formed p → (m : ℕ) (k : PlainMethod) (e : slice_get Q.methods m ≡ Some k) → Contains (parts_of P m k) p → HasLabel m (given_by p)
+  pub part_labelled : (p : Part) → IsPart P Q placed formed p → (m : ℕ) (k : PlainMethod) (e : slice_get Q.methods m ≡ Some k)
+      → Contains (parts_of P m k) p → HasLabel m (given_by p)
   part_labelled p a m k e c = from_labelled P (type_in P m k) m k (placed.methods m k e).plain (parts_of P m k) p (part_from P Q placed formed typed m k e p c)
 
-  pub given_labelled : (m : ℕ) (k : PlainMethod) (p : Part) (a : PointAt) → slice_get Q.methods m ≡ Some k → Contains (parts_of P m k) p → IsGiven a p → (l : ℕ) × (a.item ≡ point.Expr m l)
+  pub given_labelled : (m : ℕ) (k : PlainMethod) (p : Part) (a : PointAt) → slice_get Q.methods m ≡ Some k → Contains (parts_of P m k) p → IsGiven a p
+      → (l : ℕ) × (a.item ≡ point.Expr m l)
   given_labelled m k p a e c g =
       let z = subst (λ o. HasLabel m o) g.given (part_labelled p (record { number = m; method = k; stands = e; part = c }) m k e c) in
       (z.0, same_Some _ _ (sym g.point_is ∙ z.1))
@@ -158,7 +160,8 @@ module _ (P Q : Plain) (placed : IsPlaced P Q) (formed : IsFormed P) (typed : Is
       pub column_is : column_number P Q (column.Def method) ≡ Some d.0
       pub no_site : (info_at F v).site ≡ None
 
-    this_item : (v : ℕ) (d : ColId) (i : RowItem) → row_number P Q i ≡ Some v → (info_at F v).site ≡ site_of_row (numbers P Q) i → this_of_row (numbers P Q) i ≡ Some d → IsThisRow v d
+    this_item : (v : ℕ) (d : ColId) (i : RowItem) → row_number P Q i ≡ Some v → (info_at F v).site ≡ site_of_row (numbers P Q) i
+        → this_of_row (numbers P Q) i ≡ Some d → IsThisRow v d
     unfolding numbers
     this_item v d (row.This m) a b e = record { method = m; row_is = a; column_is = go (column_number P Q (column.Def m)) refl e; no_site = b }
       where
@@ -187,7 +190,8 @@ module _ (P Q : Plain) (placed : IsPlaced P Q) (formed : IsFormed P) (typed : Is
         inner k None h = absurd (omega (arith, h.1))
         inner k (Some t) h = sym (ap (λ z. z.column) (one_from _ b h))
 
-        go : (o : Option PlainMethod) → Contains (option_map_or (λ k. body_if (numbers P Q) Q c m k (point_number P Q (point.This m))) o []) b → (n : ℕ) × (column.Def m ≡ column.Def n) × (b.column ≡ c)
+        go : (o : Option PlainMethod) → Contains (option_map_or (λ k. body_if (numbers P Q) Q c m k (point_number P Q (point.This m))) o []) b
+            → (n : ℕ) × (column.Def m ≡ column.Def n) × (b.column ≡ c)
         go None h = absurd (omega (arith, h.1))
         go (Some k) h = (m, refl, inner k (point_number P Q (point.This m)) h)
     body_part c _ b h = absurd (omega (arith, h.1))
@@ -197,13 +201,15 @@ module _ (P Q : Plain) (placed : IsPlaced P Q) (formed : IsFormed P) (typed : Is
 
     pub listed : All (λ b. IsDef F b.column.0) F.bodies.items
     listed = all_of (λ b. IsDef F b.column.0) F.bodies.items
-        (λ b c. let z = each_from_zero (λ c k. column_body (numbers P Q) Q c k.item) (columns_of P Q) (body_seen b) (subst (λ w. Contains w (body_seen b)) facts.bodies (map_has body_seen F.bodies.items b c)) in
+        (λ b c. let z = each_from_zero (λ c k. column_body (numbers P Q) Q c k.item) (columns_of P Q) (body_seen b)
+            (subst (λ w. Contains w (body_seen b)) facts.bodies (map_has body_seen F.bodies.items b c)) in
         let p = body_part z.0 z.1.item (body_seen b) z.3 in
         let n = numbered_column P Q F facts z.1.item z.0 (column_back P Q z.0 z.1 z.2) in
         ap (λ w. column_kind F w) p.2 ∙ ap (λ i. i.kind) n.1 ∙ ap (λ i. (column_info Q i).kind) p.1)
 
     -- the entries rise by column
-    rise_entry : (c : ℕ) (i : ColumnItem) (bs : List PlainBody) → Rises (λ b. b.column) (c + 1) bs → Rises (λ b. b.column) c (column_body (numbers P Q) Q c i ++ bs)
+    rise_entry : (c : ℕ) (i : ColumnItem) (bs : List PlainBody) → Rises (λ b. b.column) (c + 1) bs
+        → Rises (λ b. b.column) c (column_body (numbers P Q) Q c i ++ bs)
     unfolding numbers
     rise_entry c (column.Def m) bs r = go (slice_get Q.methods m)
       where
@@ -211,7 +217,8 @@ module _ (P Q : Plain) (placed : IsPlaced P Q) (formed : IsFormed P) (typed : Is
         inner k None = later (λ b. b.column) (omega arith) r
         inner k (Some t) = then (omega arith) r
 
-        go : (o : Option PlainMethod) → Rises (λ b. b.column) c (option_map_or (λ k. body_if (numbers P Q) Q c m k (point_number P Q (point.This m))) o [] ++ bs)
+        go : (o : Option PlainMethod)
+            → Rises (λ b. b.column) c (option_map_or (λ k. body_if (numbers P Q) Q c m k (point_number P Q (point.This m))) o [] ++ bs)
         go None = later (λ b. b.column) (omega arith) r
         go (Some k) = inner k (point_number P Q (point.This m))
     rise_entry c (column.Fld f) bs r = later (λ b. b.column) (omega arith) r
@@ -246,13 +253,16 @@ module _ (P Q : Plain) (placed : IsPlaced P Q) (formed : IsFormed P) (typed : Is
         record { method = l; stands = subst (λ z. slice_get Q.methods z ≡ Some l) g d; bodied = b; instance = s; type = same_Some _ _ (sym t) }
     this_method m x (types_field f l d i t) h = absurd (let g = sym (ap this_number i) ∙ ap this_number h in cc)
     this_method m x (types_result n l d i t) h = absurd (let g = sym (result_thisless l.slot n) ∙ sym (ap this_number i) ∙ ap this_number h in cc)
-    this_method m x (types_variable n l j v d u i t) h = absurd (let g = sym (variable_thisless l.slot (nat_lt j (length l.params)) n j) ∙ sym (ap this_number i) ∙ ap this_number h in cc)
+    this_method m x (types_variable n l j v d u i t) h =
+        absurd (let g = sym (variable_thisless l.slot (nat_lt j (length l.params)) n j) ∙ sym (ap this_number i) ∙ ap this_number h in cc)
     this_method m x (types_part n l p d c o) h =
         let z = numbered_own p o.operand (part_numbered P Q placed formed typed p (record { number = n; method = l; stands = d; part = c })) o.own in
         absurd (let g : [] ≡ z.0 ∷ [] = sym (ap number_in (o.row_is ∙ ap Some h)) ∙ z.1 in cc)
 
-    pub this_type : (m : ℕ) (k : PlainMethod) (x : Row) → slice_get Q.methods m ≡ Some k → Types P Q x → x.item ≡ row.This m → x.ty ≡ record { class = record { 0 = k.owner }; dim = 0 }
-    this_type m k x e t h = let z = this_method m x t h in z.type ∙ ap (λ l. record { class = record { 0 = l.owner }; dim = 0 }) (same_Some z.method k (sym z.stands ∙ e))
+    pub this_type : (m : ℕ) (k : PlainMethod) (x : Row) → slice_get Q.methods m ≡ Some k → Types P Q x → x.item ≡ row.This m
+        → x.ty ≡ record { class = record { 0 = k.owner }; dim = 0 }
+    this_type m k x e t h = let z = this_method m x t h in z.type ∙ ap (λ l. record { class = record { 0 = l.owner }; dim = 0 })
+        (same_Some z.method k (sym z.stands ∙ e))
 
     -- the method of a column of a body
     pub record IsBodyColumn (d : ℕ) : Type 0 where
@@ -264,7 +274,8 @@ module _ (P Q : Plain) (placed : IsPlaced P Q) (formed : IsFormed P) (typed : Is
       pub number : column_number P Q (column.Def method) ≡ Some d
       pub info : column_info_at F d ≡ column_info Q (column.Def method)
 
-    body_item : (d : ℕ) (i : ColumnItem) → Stands Q i → column_number P Q i ≡ Some d → column_info_at F d ≡ column_info Q i → (column_info Q i).kind ≡ kind.Def → IsBodyColumn d
+    body_item : (d : ℕ) (i : ColumnItem) → Stands Q i → column_number P Q i ≡ Some d → column_info_at F d ≡ column_info Q i → (column_info Q i).kind
+        ≡ kind.Def → IsBodyColumn d
     body_item d _ (for_body m k e s b) n f g = record { method = m; plain = k; stands = e; instance = s; bodied = b; number = n; info = f }
     body_item d _ (for_field m k e s) n f g = absurd (cc)
     body_item d _ (for_declaration m k e s) n f g = absurd (cc)
@@ -294,19 +305,26 @@ module _ (P Q : Plain) (placed : IsPlaced P Q) (formed : IsFormed P) (typed : Is
         let x = item_point P Q F facts (point.This m) q.0 q.1 in
         let f = point_of P Q q.0 x.0 x.1 in
         let col = column_at P Q (column.Def m) d b.number in
-        let entry : PlainBody = record { column = d; this = q.0; params = param_points (numbers P Q) Q m b.plain; result = point_number P Q (point.Result m) } in
+        let entry : PlainBody = record { column = d; this = q.0; params = param_points (numbers P Q) Q m b.plain; result = point_number P Q
+            (point.Result m) } in
         let there : Contains entries entry =
         each_has (λ c k. column_body (numbers P Q) Q c k.item) 0 (columns_of P Q) d col.0 entry col.1 d (omega arith)
-        (subst (λ i. Contains (column_body (numbers P Q) Q d i) entry) (sym col.2) (subst (λ o. Contains (option_map_or (λ k. body_if (numbers P Q) Q d m k (point_number P Q (point.This m))) o []) entry) (sym b.stands) (subst (λ o. Contains (body_if (numbers P Q) Q d m b.plain o) entry) (sym q.1) (first entry [])))) in
+        (subst (λ i. Contains (column_body (numbers P Q) Q d i) entry) (sym col.2)
+            (subst (λ o. Contains (option_map_or (λ k. body_if (numbers P Q) Q d m k (point_number P Q (point.This m))) o []) entry) (sym b.stands)
+            (subst (λ o. Contains (body_if (numbers P Q) Q d m b.plain o) entry) (sym q.1) (first entry [])))) in
         let own = map_from body_seen F.bodies.items entry (subst (λ z. Contains z entry) (sym facts.bodies) there) in
         record {
           row = r.0;
-          this = record { column = record { 0 = d }; row = ap (λ i. i.this_of) w.3 ∙ ap (this_of_row (numbers P Q)) w.2 ∙ this_column m d b.number; body = refl };
-          class = ap (λ i. i.class.0) w.3 ∙ ap (λ t. t.class.0) (this_type m b.plain w.0 b.stands (row_types P Q r.0 w.0 w.1) w.2) ∙ sym (ap (λ i. i.class.0) b.info ∙ ap (λ o. option_map_or (λ k. k.owner) o 0) b.stands);
-          one_row = λ v t. let z = this_row_of v t.column t.row in same_Some v r.0 (sym z.row_is ∙ ap (λ n. row_number P Q (row.This n)) (same_def z.method m d (z.column_is ∙ ap Some t.body) b.number) ∙ r.1);
+          this = record { column = record { 0 = d }; row = ap (λ i. i.this_of) w.3 ∙ ap (this_of_row (numbers P Q)) w.2
+              ∙ this_column m d b.number; body = refl };
+          class = ap (λ i. i.class.0) w.3 ∙ ap (λ t. t.class.0) (this_type m b.plain w.0 b.stands (row_types P Q r.0 w.0 w.1) w.2)
+              ∙ sym (ap (λ i. i.class.0) b.info ∙ ap (λ o. option_map_or (λ k. k.owner) o 0) b.stands);
+          one_row = λ v t. let z = this_row_of v t.column t.row in same_Some v r.0 (sym z.row_is
+              ∙ ap (λ n. row_number P Q (row.This n)) (same_def z.method m d (z.column_is ∙ ap Some t.body) b.number) ∙ r.1);
           body = own.0;
           listed = own.1;
           column = ap (λ z. z.column) own.2;
           point = subst (λ z. z < length F.points.items) (sym (ap (λ z. z.this) own.2)) x.4;
-          point_is = ap (point_row F) (ap (λ z. z.this) own.2) ∙ x.3 ∙ same_Some _ _ (sym f.number ∙ ap (row_number P Q) (this_follows m f.at f.follows (f.item ∙ x.2)) ∙ r.1);
+          point_is = ap (point_row F) (ap (λ z. z.this) own.2) ∙ x.3
+              ∙ same_Some _ _ (sym f.number ∙ ap (row_number P Q) (this_follows m f.at f.follows (f.item ∙ x.2)) ∙ r.1);
         }

@@ -35,7 +35,8 @@ use Rattle.facts_order.proofs.Fits.{with_elements, element_some}
 use Rattle.facts_order.proofs.Bodies.{this_type}
 use Rattle.facts_order.proofs.Operands.{field_type, return_type, result_type, super_type, variable_type}
 
-module _ (P Q : Plain) (placed : IsPlaced P Q) (formed : IsFormed P) (typed : IsTyped P) (F : Facts) (facts : IsFactsOf P Q F) (m : ℕ) (k : PlainMethod) (stands : slice_get Q.methods m ≡ Some k) where
+module _ (P Q : Plain) (placed : IsPlaced P Q) (formed : IsFormed P) (typed : IsTyped P) (F : Facts) (facts : IsFactsOf P Q F) (m : ℕ)
+    (k : PlainMethod) (stands : slice_get Q.methods m ≡ Some k) where
   abbrev type : Ex → Option ObjectType
   type = type_in P m k
 
@@ -80,7 +81,8 @@ module _ (P Q : Plain) (placed : IsPlaced P Q) (formed : IsFormed P) (typed : Is
     where
       go : (o : Option ℕ) → slot_of_method P n ≡ o → option_map row.Return o ≡ Some j → Classed x (method_object P n)
       go None e g = absurd (cc)
-      go (Some s) e g = of_type x (method_object P n) (super_type P Q placed formed typed n s e ∙ return_type P Q placed formed typed s r x c (d ∙ sym (same_Some _ j g)))
+      go (Some s) e g = of_type x (method_object P n) (super_type P Q placed formed typed n s e ∙ return_type P Q placed formed typed s r x c (d
+          ∙ sym (same_Some _ j g)))
 
   element_typing : (i : Option RowItem) (t : Option ObjectType) → ((u : ObjectType) → t ≡ Some u → 0 < u.dim) → Typing i t → Typing i (element_object t)
   unfolding Typing
@@ -96,7 +98,8 @@ module _ (P Q : Plain) (placed : IsPlaced P Q) (formed : IsFormed P) (typed : Is
 
   pub own_typing : (p : Part) (o : Operand) → Contains (parts_of P m k) p → own_of p ≡ Some o → Typing o.row o.ty
   unfolding Typing
-  own_typing p o c e j r x a g d = of_type x o.ty (own_typed P Q placed formed typed p o j r x (record { number = m; method = k; stands = stands; part = c }) e a g d)
+  own_typing p o c e j r x a g d =
+      of_type x o.ty (own_typed P Q placed formed typed p o j r x (record { number = m; method = k; stands = stands; part = c }) e a g d)
 
   as_type : (i : Option RowItem) (e : Ex) → Typing i (type e) → Typing i (object_type P k e)
   as_type i e h = subst (λ f. Typing i (f e)) (sym (types_are P m k)) h
@@ -106,7 +109,8 @@ module _ (P Q : Plain) (placed : IsPlaced P Q) (formed : IsFormed P) (typed : Is
 
   this_typing : Typing (Some (row.This m)) (Some (record { class = record { 0 = k.owner }; dim = 0 }))
   unfolding Typing
-  this_typing j r x a c d = of_type x (Some (record { class = record { 0 = k.owner }; dim = 0 })) (ap Some (sym (this_type P Q placed formed typed F facts m k x stands (row_types P Q r x c) (d ∙ sym (same_Some _ j a)))))
+  this_typing j r x a c d = of_type x (Some (record { class = record { 0 = k.owner }; dim = 0 }))
+      (ap Some (sym (this_type P Q placed formed typed F facts m k x stands (row_types P Q r x c) (d ∙ sym (same_Some _ j a)))))
 
   local_typing : (i : ℕ) → Typing (Some (variable_row m k i)) (variable_object k i)
   unfolding Typing
@@ -120,8 +124,12 @@ module _ (P Q : Plain) (placed : IsPlaced P Q) (formed : IsFormed P) (typed : Is
   same_env : g ≡ env_of m k
   same_env =
       let z = placed.methods m k stands in
-      let types : types_of (z.plain.params ++ z.plain.locals) ≡ types_of (k.params ++ k.locals) = map-append (λ l. l.ty) z.plain.params z.plain.locals ∙ ap (λ w. w ++ types_of z.plain.locals) z.params ∙ ap (λ w. types_of k.params ++ w) z.locals ∙ sym (map-append (λ l. l.ty) k.params k.locals) in
-      ap (λ w. record { body = m; self = w; locals = types_of (z.plain.params ++ z.plain.locals); result = z.plain.result }) z.owner ∙ ap (λ w. record { body = m; self = k.owner; locals = w; result = z.plain.result }) types ∙ ap (λ w. record { body = m; self = k.owner; locals = types_of (k.params ++ k.locals); result = w }) z.result
+      let types : types_of (z.plain.params ++ z.plain.locals) ≡ types_of (k.params ++ k.locals) = map-append (λ l. l.ty) z.plain.params z.plain.locals
+          ∙ ap (λ w. w ++ types_of z.plain.locals) z.params ∙ ap (λ w. types_of k.params ++ w) z.locals
+          ∙ sym (map-append (λ l. l.ty) k.params k.locals) in
+      ap (λ w. record { body = m; self = w; locals = types_of (z.plain.params ++ z.plain.locals); result = z.plain.result }) z.owner
+          ∙ ap (λ w. record { body = m; self = k.owner; locals = w; result = z.plain.result }) types
+          ∙ ap (λ w. record { body = m; self = k.owner; locals = types_of (k.params ++ k.locals); result = w }) z.result
 
   same_static : (n : ℕ) (e : Ex) → static P g (bare e) ≡ static P (env_of m k) (label n e)
   same_static n e = ap (static P g) (sym (unlabel n e)) ∙ bare_static P g (label n e) ∙ ap (λ z. static P z (label n e)) same_env
@@ -135,7 +143,8 @@ module _ (P Q : Plain) (placed : IsPlaced P Q) (formed : IsFormed P) (typed : Is
   many_dims n e h u d = with_elements (static P g (bare e)) u h (static_as n e ∙ d)
 
   -- the row of an expression whose parts stand in the body
-  typing : (n : ℕ) (u : Bool) (e : Ex) → Typed P g (bare e) → ((q : Part) → Contains (parts P type m k u (label n e)) q → Contains (parts_of P m k) q) → Typing (row_of P type m k (label n e)) (object_type P k (label n e))
+  typing : (n : ℕ) (u : Bool) (e : Ex) → Typed P g (bare e) → ((q : Part) → Contains (parts P type m k u (label n e)) q → Contains (parts_of P m k) q)
+      → Typing (row_of P type m k (label n e)) (object_type P k (label n e))
   typing n u (number t i) a w = none_item _
   typing n u (character t c) a w = none_item _
   typing n u (text t s) a w = none_item _
@@ -148,16 +157,27 @@ module _ (P Q : Plain) (placed : IsPlaced P Q) (formed : IsFormed P) (typed : Is
   typing n u (local t i) a w = local_typing i
   typing n u (static_field t f) a w = field_typing (Some f)
   typing n u (own_field t f) a w = field_typing (Some f)
-  typing n u (field t e x) a w = subst (λ o. Typing (option_map row.Field (object_field P o x)) (object_type P k (label n (field t e x)))) (as_object (label n e)) (field_typing (object_field P (object_type P k (label n e)) x))
+  typing n u (field t e x) a w = subst (λ o. Typing (option_map row.Field (object_field P o x)) (object_type P k (label n (field t e x))))
+      (as_object (label n e)) (field_typing (object_field P (object_type P k (label n e)) x))
   typing n u (index t e i) (t_index a b c d) w =
-      element_typing _ _ (λ u h. many_dims n e b u (sym (as_object (label n e)) ∙ h)) (typing n true e a (λ q c. w q (Contains-append_left (parts P type m k true (label n e)) _ q c)))
-  typing n u (call t e x es) a w = subst (λ o. Typing (option_map row.Return (call_slot P o x)) (object_type P k (label n (call t e x es)))) (as_object (label n e)) (call_typing (call_slot P (object_type P k (label n e)) x))
+      element_typing _ _ (λ u h. many_dims n e b u (sym (as_object (label n e)) ∙ h))
+          (typing n true e a (λ q c. w q (Contains-append_left (parts P type m k true (label n e)) _ q c)))
+  typing n u (call t e x es) a w = subst (λ o. Typing (option_map row.Return (call_slot P o x)) (object_type P k (label n (call t e x es))))
+      (as_object (label n e)) (call_typing (call_slot P (object_type P k (label n e)) x))
   typing n u (static_call t d es) a w = static_typing d
   typing n u (super_call t x es) a w = super_typing (super_method P k.owner x)
-  typing n u (create t i c es) a w = as_type _ (label n (create t i c es)) (own_typing (a_creation t.place u (operand_of P type m k (label n (create t i c es)))) _ (w _ (first _ _)) refl)
-  typing n u (create_array t i v e) a w = as_type _ (label n (create_array t i v e)) (own_typing (a_creation t.place u (operand_of P type m k (label n (create_array t i v e)))) _ (w _ (first _ _)) refl)
-  typing n u (cast t i v e) a w = as_type _ (label n (cast t i v e)) (own_typing (a_test t.place (operand_of P type m k (label (n + 1) e)) (operand_of P type m k (label n (cast t i v e)))) _ (w _ (first _ _)) refl)
+  typing n u (create t i c es) a w =
+      as_type _ (label n (create t i c es)) (own_typing (a_creation t.place u (operand_of P type m k (label n (create t i c es)))) _
+      (w _ (first _ _)) refl)
+  typing n u (create_array t i v e) a w =
+      as_type _ (label n (create_array t i v e)) (own_typing (a_creation t.place u (operand_of P type m k (label n (create_array t i v e)))) _
+      (w _ (first _ _)) refl)
+  typing n u (cast t i v e) a w =
+      as_type _ (label n (cast t i v e))
+      (own_typing (a_test t.place (operand_of P type m k (label (n + 1) e)) (operand_of P type m k (label n (cast t i v e)))) _
+      (w _ (first _ _)) refl)
 
   -- the row of an operand has the class of its type
-  pub operand_typing : (n : ℕ) (u : Bool) (e : Ex) → Typed P g (bare e) → ((q : Part) → Contains (parts P type m k u (label n e)) q → Contains (parts_of P m k) q) → Typing (row_of P type m k (label n e)) (type (label n e))
+  pub operand_typing : (n : ℕ) (u : Bool) (e : Ex) → Typed P g (bare e) → ((q : Part) → Contains (parts P type m k u (label n e)) q
+      → Contains (parts_of P m k) q) → Typing (row_of P type m k (label n e)) (type (label n e))
   operand_typing n u e a w = subst (λ t. Typing (row_of P type m k (label n e)) t) (as_object (label n e)) (typing n u e a w)

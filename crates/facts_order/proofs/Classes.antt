@@ -22,12 +22,14 @@ use Rattle.facts_order.proofs.Listed.{below_at, at_map, map_at}
 use Rattle.facts_order.proofs.Pairs.{IsPlaced}
 use Rattle.facts_order.proofs.Columns.{Stands, for_field, for_declaration, for_body, for_mark, item_of}
 
-pub each_at : {A B : Type 0} (g : ℕ → A → B) (n : ℕ) (xs : List A) (i : ℕ) (x : A) → slice_get xs i ≡ Some x → slice_get (each (λ j y. g j y ∷ []) n xs) i ≡ Some (g (n + i) x)
+pub each_at : {A B : Type 0} (g : ℕ → A → B) (n : ℕ) (xs : List A) (i : ℕ) (x : A) → slice_get xs i ≡ Some x
+    → slice_get (each (λ j y. g j y ∷ []) n xs) i ≡ Some (g (n + i) x)
 each_at g n [] i x e = absurd (cc)
 each_at g n (y ∷ ys) zero x e = ap (λ z. Some (g n z)) (same_Some y x e) ∙ ap (λ z. Some (g z x)) (omega arith)
 each_at g n (y ∷ ys) (suc i) x e = each_at g (n + 1) ys i x e ∙ ap (λ z. Some (g z x)) (omega arith)
 
-pub at_each : {A B : Type 0} (g : ℕ → A → B) (n : ℕ) (xs : List A) (i : ℕ) (z : B) → slice_get (each (λ j y. g j y ∷ []) n xs) i ≡ Some z → (x : A) × (slice_get xs i ≡ Some x) × (g (n + i) x ≡ z)
+pub at_each : {A B : Type 0} (g : ℕ → A → B) (n : ℕ) (xs : List A) (i : ℕ) (z : B) → slice_get (each (λ j y. g j y ∷ []) n xs) i ≡ Some z
+    → (x : A) × (slice_get xs i ≡ Some x) × (g (n + i) x ≡ z)
 at_each g n [] i z e = absurd (cc)
 at_each g n (y ∷ ys) zero z e = (y, refl, ap (λ w. g w y) (omega arith) ∙ same_Some (g n y) z e)
 at_each g n (y ∷ ys) (suc i) z e = let w = at_each g (n + 1) ys i z e in (w.0, w.1, ap (λ v. g v w.0) (omega arith) ∙ w.2)
@@ -48,7 +50,8 @@ module _ (P Q : Plain) (placed : IsPlaced P Q) (F : Facts) (facts : IsFactsOf P 
 
   pub class_at : (c : ℕ) (i : ClassInfo) → slice_get F.classes.items c ≡ Some i → IsClassAt c i
   class_at c i e =
-      let z = at_each facts_at 0 Q.classes c (class_seen i) (subst (λ w. slice_get w c ≡ Some (class_seen i)) facts.classes (at_map class_seen F.classes.items c i e)) in
+      let z = at_each facts_at 0 Q.classes c (class_seen i) (subst (λ w. slice_get w c ≡ Some (class_seen i)) facts.classes
+          (at_map class_seen F.classes.items c i e)) in
       let k = placed.classes c z.0 z.1 in
       record {
         plain = k.plain;
@@ -63,25 +66,29 @@ module _ (P Q : Plain) (placed : IsPlaced P Q) (F : Facts) (facts : IsFactsOf P 
   pub class_there : (c : ℕ) (h : PlainClass) → slice_get P.classes c ≡ Some h → (i : ClassInfo) × (slice_get F.classes.items c ≡ Some i)
   class_there c h e =
       let z = placed.placed_class c h e in
-      let w = map_at class_seen F.classes.items c _ (subst (λ w. slice_get w c ≡ Some (facts_at (0 + c) z.0)) (sym facts.classes) (each_at facts_at 0 Q.classes c z.0 z.1)) in
+      let w = map_at class_seen F.classes.items c _ (subst (λ w. slice_get w c ≡ Some (facts_at (0 + c) z.0)) (sym facts.classes)
+          (each_at facts_at 0 Q.classes c z.0 z.1)) in
       (w.0, w.1)
 
   cases : (c : ℕ) → ((i : ClassInfo) × (slice_get F.classes.items c ≡ Some i)) ⊎ ((slice_get F.classes.items c ≡ None) × (slice_get P.classes c ≡ None))
   cases c = go (slice_get F.classes.items c) (slice_get P.classes c) refl refl
     where
-      go : (o : Option ClassInfo) (q : Option PlainClass) → slice_get F.classes.items c ≡ o → slice_get P.classes c ≡ q → ((i : ClassInfo) × (slice_get F.classes.items c ≡ Some i)) ⊎ ((slice_get F.classes.items c ≡ None) × (slice_get P.classes c ≡ None))
+      go : (o : Option ClassInfo) (q : Option PlainClass) → slice_get F.classes.items c ≡ o → slice_get P.classes c ≡ q
+          → ((i : ClassInfo) × (slice_get F.classes.items c ≡ Some i)) ⊎ ((slice_get F.classes.items c ≡ None) × (slice_get P.classes c ≡ None))
       go (Some i) q e d = inl (i, e)
       go None None e d = inr (e, d)
       go None (Some h) e d = inl (class_there c h d)
 
   pub parent_same : (c : ℕ) → parent_in F c ≡ parent_of P c
   parent_same c =
-      ⊎_elim (λ z. let k = class_at c z.0 z.1 in ap (λ o. option_and_then (λ k. k.parent) o) z.1 ∙ k.parent ∙ sym (ap (λ o. option_and_then (λ k. k.parent) o) k.stands))
+      ⊎_elim (λ z. let k = class_at c z.0 z.1 in ap (λ o. option_and_then (λ k. k.parent) o) z.1 ∙ k.parent
+          ∙ sym (ap (λ o. option_and_then (λ k. k.parent) o) k.stands))
       (λ z. ap (λ o. option_and_then (λ k. k.parent) o) z.0 ∙ sym (ap (λ o. option_and_then (λ k. k.parent) o) z.1)) (cases c)
 
   pub faces_same : (c : ℕ) → faces_in F c ≡ faces_of P c
   faces_same c =
-      ⊎_elim (λ z. let k = class_at c z.0 z.1 in ap (λ o. option_map_or (λ k. k.faces.items) o []) z.1 ∙ k.faces ∙ sym (ap (λ o. option_map_or (λ k. k.faces) o []) k.stands))
+      ⊎_elim (λ z. let k = class_at c z.0 z.1 in ap (λ o. option_map_or (λ k. k.faces.items) o []) z.1 ∙ k.faces
+          ∙ sym (ap (λ o. option_map_or (λ k. k.faces) o []) k.stands))
       (λ z. ap (λ o. option_map_or (λ k. k.faces.items) o []) z.0 ∙ sym (ap (λ o. option_map_or (λ k. k.faces) o []) z.1)) (cases c)
 
   pub supers_same : (c : ℕ) → supers_in F c ≡ supers_of P c
@@ -105,9 +112,12 @@ module _ (P Q : Plain) (placed : IsPlaced P Q) (F : Facts) (facts : IsFactsOf P 
     acyclic : IsAcyclic F
     acyclic a s = formed.acyclic a (record { by = s.by; direct = subst (λ z. Contains z s.by) (supers_same a) s.direct; rest = below_subclass s.rest })
 
-    to_object : (n a : ℕ) (k : PlainClass) (seen : List ℕ) → slice_get P.classes a ≡ Some k → ArePassed P seen a → n + length seen ≡ length P.classes → IsSubclass P a 0
+    to_object : (n a : ℕ) (k : PlainClass) (seen : List ℕ) → slice_get P.classes a ≡ Some k → ArePassed P seen a → n + length seen ≡ length P.classes
+        → IsSubclass P a 0
     to_object n zero k seen e p h = same_class
-    to_object zero (suc a) k seen e p h = let f = formed.classes a k e in absurd (one_left P formed.acyclic seen (parent-super P (suc a) f.parent (ap (λ o. option_and_then (λ k. k.parent) o) e ∙ f.has_parent)) p h)
+    to_object zero (suc a) k seen e p h =
+        let f = formed.classes a k e in absurd
+        (one_left P formed.acyclic seen (parent-super P (suc a) f.parent (ap (λ o. option_and_then (λ k. k.parent) o) e ∙ f.has_parent)) p h)
     to_object (suc n) (suc a) k seen e p h =
         let f = formed.classes a k e in
         let s = parent-super P (suc a) f.parent (ap (λ o. option_and_then (λ k. k.parent) o) e ∙ f.has_parent) in
@@ -135,7 +145,8 @@ module _ (P Q : Plain) (placed : IsPlaced P Q) (F : Facts) (facts : IsFactsOf P 
     class_with : (a : ℕ) (p : ClassId) → parent_of P a ≡ Some p → (k : PlainClass) × (slice_get P.classes a ≡ Some k) × (k.parent ≡ Some p)
     class_with a p h = go (slice_get P.classes a) refl h
       where
-        go : (o : Option PlainClass) → slice_get P.classes a ≡ o → option_and_then (λ k. k.parent) o ≡ Some p → (k : PlainClass) × (slice_get P.classes a ≡ Some k) × (k.parent ≡ Some p)
+        go : (o : Option PlainClass) → slice_get P.classes a ≡ o → option_and_then (λ k. k.parent) o ≡ Some p → (k : PlainClass)
+            × (slice_get P.classes a ≡ Some k) × (k.parent ≡ Some p)
         go None e d = absurd (cc)
         go (Some k) e d = (k, e, d)
 
@@ -144,7 +155,8 @@ module _ (P Q : Plain) (placed : IsPlaced P Q) (F : Facts) (facts : IsFactsOf P 
         let z = class_with a p (sym (parent_same a) ∙ h) in
         let u = under_at a z.0 p z.1 z.2 in
         let q = same_Some _ _ (sym u.as_formed.has_parent ∙ ap (λ k. k.parent) (same_Some _ _ (sym u.stands ∙ z.1)) ∙ z.2) in
-        interface_same p.0 u.as_formed.above (subst (λ c. slice_get P.classes c.0 ≡ Some u.as_formed.above) q u.as_formed.parent_stands) ∙ u.as_formed.parent_class
+        interface_same p.0 u.as_formed.above (subst (λ c. slice_get P.classes c.0 ≡ Some u.as_formed.above) q u.as_formed.parent_stands)
+            ∙ u.as_formed.parent_class
 
     roots : (a : ℕ) (p : ClassId) → is_interface F a ≡ true → parent_in F a ≡ Some p → p.0 ≡ 0
     roots a p i h =
@@ -154,13 +166,15 @@ module _ (P Q : Plain) (placed : IsPlaced P Q) (F : Facts) (facts : IsFactsOf P 
         sym (ap (λ c. c.0) q) ∙ u.as_formed.interface_parent (sym (interface_same a u.class u.stands) ∙ i)
 
     face_at : (a : ℕ) (k : PlainClass) (f : ClassId) → slice_get P.classes a ≡ Some k → Contains k.faces f → IsUnder a
-    face_at zero k f e c = absurd (omega (arith, (subst (λ z. Contains z f) (ap (λ k. k.faces) (same_Some _ _ (sym e ∙ formed.object.first)) ∙ formed.object.faces) c).1))
+    face_at zero k f e c = absurd
+        (omega (arith, (subst (λ z. Contains z f) (ap (λ k. k.faces) (same_Some _ _ (sym e ∙ formed.object.first)) ∙ formed.object.faces) c).1))
     face_at (suc a) k f e c = record { class = k; stands = e; as_formed = formed.classes a k e }
 
     class_facing : (a : ℕ) (f : ClassId) → Contains (faces_of P a) f → (k : PlainClass) × (slice_get P.classes a ≡ Some k) × Contains k.faces f
     class_facing a f h = go (slice_get P.classes a) refl h
       where
-        go : (o : Option PlainClass) → slice_get P.classes a ≡ o → Contains (option_map_or (λ k. k.faces) o []) f → (k : PlainClass) × (slice_get P.classes a ≡ Some k) × Contains k.faces f
+        go : (o : Option PlainClass) → slice_get P.classes a ≡ o → Contains (option_map_or (λ k. k.faces) o []) f → (k : PlainClass)
+            × (slice_get P.classes a ≡ Some k) × Contains k.faces f
         go None e d = absurd (omega (arith, d.1))
         go (Some k) e d = (k, e, d)
 
@@ -175,11 +189,14 @@ module _ (P Q : Plain) (placed : IsPlaced P Q) (F : Facts) (facts : IsFactsOf P 
     holder_class _ (for_field f k e s) h =
         let z = placed.fields f k e in
         let y = formed.fields f z.plain z.stands in
-        ap (λ o. is_interface F (option_map_or (λ k. k.owner) o 0)) e ∙ ap (is_interface F) (sym z.owner) ∙ interface_same z.plain.owner y.holder y.stands ∙ y.class
+        ap (λ o. is_interface F (option_map_or (λ k. k.owner) o 0)) e ∙ ap (is_interface F) (sym z.owner)
+            ∙ interface_same z.plain.owner y.holder y.stands ∙ y.class
     holder_class _ (for_body m k e s b) h =
         let z = placed.methods m k e in
         let y = formed.methods m z.plain z.stands in
-        ap (λ o. is_interface F (option_map_or (λ k. k.owner) o 0)) e ∙ ap (is_interface F) (sym z.owner) ∙ interface_same z.plain.owner y.holder y.stands ∙ no_interface y.holder.is_interface (λ i. bodied z.plain.body (z.bodied ∙ b) (y.in_interface i).1)
+        ap (λ o. is_interface F (option_map_or (λ k. k.owner) o 0)) e ∙ ap (is_interface F) (sym z.owner)
+            ∙ interface_same z.plain.owner y.holder y.stands
+            ∙ no_interface y.holder.is_interface (λ i. bodied z.plain.body (z.bodied ∙ b) (y.in_interface i).1)
       where
         bodied : {A : Type 0} (o : Option A) → is_some o ≡ true → o ≡ None → ⊥
         bodied None p q = false≢true p

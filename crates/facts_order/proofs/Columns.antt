@@ -51,18 +51,22 @@ module _ (P Q : Plain) where
   form_stands _ x c = absurd (omega (arith, c.1))
 
   field_stands : (f : ℕ) (k : PlainField) (x : Column) → slice_get Q.fields f ≡ Some k → Contains (field_columns f k) x → Stands Q x.item
-  field_stands f k x e c = let z = when_from (not k.is_static) _ x c in stands_as _ _ (ap (λ z. z.item) (one_from _ x z.1)) (for_field f k e (no_static k.is_static z.0))
+  field_stands f k x e c = let z = when_from (not k.is_static) _ x c in stands_as _ _ (ap (λ z. z.item) (one_from _ x z.1))
+      (for_field f k e (no_static k.is_static z.0))
 
   unfoldable pub members : ℕ → PlainMethod → List Column
-  members m k = when (not k.is_static) (record { item = column.Dcl m; place = k.tag.place } ∷ when (is_some k.body) (record { item = column.Def m; place = k.tag.place } ∷ []))
+  members m k = when (not k.is_static) (record { item = column.Dcl m; place = k.tag.place } ∷ when (is_some k.body)
+      (record { item = column.Def m; place = k.tag.place } ∷ []))
 
   member_stands : (m : ℕ) (k : PlainMethod) (x : Column) → slice_get Q.methods m ≡ Some k → Contains (members m k) x → Stands Q x.item
   unfolding members
   member_stands m k x e c =
       let z = when_from (not k.is_static) _ x c in
       let s = no_static k.is_static z.0 in
-      ⊎_elim (λ d. stands_as _ _ (ap (λ z. z.item) (one_from _ x d)) (for_declaration m k e s)) (λ d. let w = when_from (is_some k.body) _ x d in stands_as _ _ (ap (λ z. z.item) (one_from _ x w.1)) (for_body m k e s w.0))
-      (Contains-append_cases (record { item = column.Dcl m; place = k.tag.place } ∷ []) (when (is_some k.body) (record { item = column.Def m; place = k.tag.place } ∷ [])) x z.1)
+      ⊎_elim (λ d. stands_as _ _ (ap (λ z. z.item) (one_from _ x d)) (for_declaration m k e s))
+          (λ d. let w = when_from (is_some k.body) _ x d in stands_as _ _ (ap (λ z. z.item) (one_from _ x w.1)) (for_body m k e s w.0))
+      (Contains-append_cases (record { item = column.Dcl m; place = k.tag.place } ∷ [])
+          (when (is_some k.body) (record { item = column.Def m; place = k.tag.place } ∷ [])) x z.1)
 
   method_stands : (m : ℕ) (k : PlainMethod) (x : Column) → slice_get Q.methods m ≡ Some k → Contains (method_columns P Q m k) x → Stands Q x.item
   unfolding members
@@ -72,7 +76,8 @@ module _ (P Q : Plain) where
 
   raw_stands : (x : Column) → Contains (raw_columns P Q) x → Stands Q x.item
   raw_stands x c =
-      ⊎_elim (λ d. let z = each_from_zero field_columns Q.fields x d in field_stands z.0 z.1 x z.2 z.3) (λ d. let z = each_from_zero (method_columns P Q) Q.methods x d in method_stands z.0 z.1 x z.2 z.3)
+      ⊎_elim (λ d. let z = each_from_zero field_columns Q.fields x d in field_stands z.0 z.1 x z.2 z.3)
+          (λ d. let z = each_from_zero (method_columns P Q) Q.methods x d in method_stands z.0 z.1 x z.2 z.3)
       (Contains-append_cases (each field_columns 0 Q.fields) (each (method_columns P Q) 0 Q.methods) x c)
 
   pub column_stands : (n : ℕ) (x : Column) → slice_get (columns_of P Q) n ≡ Some x → Stands Q x.item
@@ -82,26 +87,34 @@ module _ (P Q : Plain) where
   pub field_column : (f : ℕ) (k : PlainField) → slice_get Q.fields f ≡ Some k → k.is_static ≡ false → (c : ℕ) × (column_number P Q (column.Fld f) ≡ Some c)
   field_column f k e s =
       let x : Column = record { item = column.Fld f; place = k.tag.place } in
-      column_there P Q x (Contains-append_left (each field_columns 0 Q.fields) (each (method_columns P Q) 0 Q.methods) x (each_has field_columns 0 Q.fields f k x e f (omega arith) (when_has (not k.is_static) _ x (rw s refl) (first x []))))
+      column_there P Q x (Contains-append_left (each field_columns 0 Q.fields) (each (method_columns P Q) 0 Q.methods) x
+          (each_has field_columns 0 Q.fields f k x e f (omega arith) (when_has (not k.is_static) _ x (rw s refl) (first x []))))
 
-  pub in_method : (m : ℕ) (k : PlainMethod) (x : Column) → slice_get Q.methods m ≡ Some k → Contains (method_columns P Q m k) x → (c : ℕ) × (column_number P Q x.item ≡ Some c)
-  in_method m k x e d = column_there P Q x (Contains-append_right (each field_columns 0 Q.fields) (each (method_columns P Q) 0 Q.methods) x (each_has (method_columns P Q) 0 Q.methods m k x e m (omega arith) d))
+  pub in_method : (m : ℕ) (k : PlainMethod) (x : Column) → slice_get Q.methods m ≡ Some k → Contains (method_columns P Q m k) x
+      → (c : ℕ) × (column_number P Q x.item ≡ Some c)
+  in_method m k x e d = column_there P Q x (Contains-append_right (each field_columns 0 Q.fields) (each (method_columns P Q) 0 Q.methods) x
+      (each_has (method_columns P Q) 0 Q.methods m k x e m (omega arith) d))
 
-  pub declaration_column : (m : ℕ) (k : PlainMethod) → slice_get Q.methods m ≡ Some k → k.is_static ≡ false → (c : ℕ) × (column_number P Q (column.Dcl m) ≡ Some c)
+  pub declaration_column : (m : ℕ) (k : PlainMethod) → slice_get Q.methods m ≡ Some k → k.is_static ≡ false
+      → (c : ℕ) × (column_number P Q (column.Dcl m) ≡ Some c)
   unfolding members
   declaration_column m k e s =
       let x : Column = record { item = column.Dcl m; place = k.tag.place } in
       in_method m k x e (Contains-append_left (members m k) (flat_map form_columns (parts_of P m k)) x (when_has (not k.is_static) _ x (rw s refl) (first x _)))
 
-  pub body_column : (m : ℕ) (k : PlainMethod) → slice_get Q.methods m ≡ Some k → k.is_static ≡ false → is_some k.body ≡ true → (c : ℕ) × (column_number P Q (column.Def m) ≡ Some c)
+  pub body_column : (m : ℕ) (k : PlainMethod) → slice_get Q.methods m ≡ Some k → k.is_static ≡ false → is_some k.body ≡ true
+      → (c : ℕ) × (column_number P Q (column.Def m) ≡ Some c)
   unfolding members
   body_column m k e s b =
       let x : Column = record { item = column.Def m; place = k.tag.place } in
-      in_method m k x e (Contains-append_left (members m k) (flat_map form_columns (parts_of P m k)) x (when_has (not k.is_static) _ x (rw s refl) (more x _ _ (when_has (is_some k.body) _ x b (first x [])))))
+      in_method m k x e (Contains-append_left (members m k) (flat_map form_columns (parts_of P m k)) x (when_has (not k.is_static) _ x (rw s refl)
+          (more x _ _ (when_has (is_some k.body) _ x b (first x [])))))
 
-  pub part_column : (m : ℕ) (k : PlainMethod) (p : Part) (x : Column) → slice_get Q.methods m ≡ Some k → Contains (parts_of P m k) p → Contains (form_columns p) x → (c : ℕ) × (column_number P Q x.item ≡ Some c)
+  pub part_column : (m : ℕ) (k : PlainMethod) (p : Part) (x : Column) → slice_get Q.methods m ≡ Some k → Contains (parts_of P m k) p
+      → Contains (form_columns p) x → (c : ℕ) × (column_number P Q x.item ≡ Some c)
   unfolding members
-  part_column m k p x e c d = in_method m k x e (Contains-append_right (members m k) (flat_map form_columns (parts_of P m k)) x (flat_has form_columns (parts_of P m k) p x c d))
+  part_column m k p x e c d = in_method m k x e (Contains-append_right (members m k) (flat_map form_columns (parts_of P m k)) x
+      (flat_has form_columns (parts_of P m k) p x c d))
 
   module _ (F : Facts) (facts : IsFactsOf P Q F) where
     -- the item of a column
@@ -115,7 +128,8 @@ module _ (P Q : Plain) where
     item_at c x e = record {
       item = x.item;
       number = column_back P Q c x e;
-      info = index_at F.columns.items c _ (column_info Q x.item) (subst (λ z. slice_get z c ≡ Some (column_info Q x.item)) (sym facts.columns) (at_map (λ c. column_info Q c.item) (columns_of P Q) c x e));
+      info = index_at F.columns.items c _ (column_info Q x.item) (subst (λ z. slice_get z c ≡ Some (column_info Q x.item)) (sym facts.columns)
+          (at_map (λ c. column_info Q c.item) (columns_of P Q) c x e));
       stands = column_stands c x e;
     }
 
@@ -129,7 +143,8 @@ module _ (P Q : Plain) where
     pub numbered_column : (i : ColumnItem) (c : ℕ) → column_number P Q i ≡ Some c → (c < length F.columns.items) × (info_at F c ≡ column_info Q i)
     numbered_column i c e =
         let x = column_at P Q i c e in
-        let a = subst (λ z. slice_get z c ≡ Some (column_info Q x.0.item)) (sym facts.columns) (at_map (λ c. column_info Q c.item) (columns_of P Q) c x.0 x.1) in
+        let a = subst (λ z. slice_get z c ≡ Some (column_info Q x.0.item)) (sym facts.columns)
+            (at_map (λ c. column_info Q c.item) (columns_of P Q) c x.0 x.1) in
         (at_below F.columns.items c _ a, index_at F.columns.items c _ _ a ∙ ap (column_info Q) x.2)
 
     -- a column of a slot stands in the list

@@ -33,7 +33,8 @@ use Rattle.facts_order.proofs.Held.{held}
 module _ (P Q : Plain) (placed : IsPlaced P Q) (formed : IsFormed P) (typed : IsTyped P) (F : Facts) (facts : IsFactsOf P Q F) where
   -- the cell of a field, and that of an array's elements
   pub data IsCellOf (z : CellInfo) : Type 0 where
-    of_field : (x : Site) (f c r : ℕ) → slice_get (sites_of P Q) z.site.0 ≡ Some x → z.column ≡ Some (record { 0 = c }) → column_number P Q (column.Fld f) ≡ Some c → row_number P Q (row.Field f) ≡ Some r → r ≡ z.row.0 → IsCellOf z
+    of_field : (x : Site) (f c r : ℕ) → slice_get (sites_of P Q) z.site.0 ≡ Some x → z.column ≡ Some (record { 0 = c })
+        → column_number P Q (column.Fld f) ≡ Some c → row_number P Q (row.Field f) ≡ Some r → r ≡ z.row.0 → IsCellOf z
     of_array : (x : Site) → z.column ≡ None → slice_get (sites_of P Q) z.site.0 ≡ Some x → (x.ty.dim ≡ 0 → ⊥) → x.row ≡ z.row.0 → IsCellOf z
 
   -- the fields that have rows
@@ -55,16 +56,20 @@ module _ (P Q : Plain) (placed : IsPlaced P Q) (formed : IsFormed P) (typed : Is
   all_fields = fields_of (numbers P Q) Q (columns_of P Q)
 
   fields_are : (k : FieldCell) → Contains all_fields k → IsFieldCell k
-  fields_are k c = let z = each_from_zero (λ c k. field_at (numbers P Q) Q c k.item) (columns_of P Q) k c in field_cell_at z.0 z.1.item k (column_back P Q z.0 z.1 z.2) z.3
+  fields_are k c = let z = each_from_zero (λ c k. field_at (numbers P Q) Q c k.item) (columns_of P Q) k c in field_cell_at z.0 z.1.item k
+      (column_back P Q z.0 z.1 z.2) z.3
 
-  site_cell : (i : ℕ) (x : Site) (z : CellInfo) (b : Bool) → slice_get (sites_of P Q) i ≡ Some x → (x.ty.dim == 0) ≡ b → Contains (if b then flat_map (field_cell P i x.ty.class.0) all_fields else array_cell i x.row) z → IsCellOf z
+  site_cell : (i : ℕ) (x : Site) (z : CellInfo) (b : Bool) → slice_get (sites_of P Q) i ≡ Some x → (x.ty.dim == 0) ≡ b
+      → Contains (if b then flat_map (field_cell P i x.ty.class.0) all_fields else array_cell i x.row) z → IsCellOf z
   site_cell i x z true e d c =
       let k = flat_from (field_cell P i x.ty.class.0) all_fields z c in
       let f = fields_are k.0 k.1 in
       let y = one_from _ z (when_from (below P x.ty.class.0 k.0.owner) _ z k.2).1 in
-      of_field x f.number k.0.column k.0.row (subst (λ n. slice_get (sites_of P Q) n ≡ Some x) (ap (λ y. y.site.0) y) e) (sym (ap (λ y. y.column) y)) f.column_is f.row_is (ap (λ y. y.row.0) y)
+      of_field x f.number k.0.column k.0.row (subst (λ n. slice_get (sites_of P Q) n ≡ Some x) (ap (λ y. y.site.0) y) e) (sym (ap (λ y. y.column) y))
+          f.column_is f.row_is (ap (λ y. y.row.0) y)
   site_cell i x z false e d c =
-      let y = one_from _ z c in of_array x (sym (ap (λ y. y.column) y)) (subst (λ n. slice_get (sites_of P Q) n ≡ Some x) (ap (λ y. y.site.0) y) e) (λ h. eqb-false x.ty.dim 0 d h) (ap (λ y. y.row.0) y)
+      let y = one_from _ z c in of_array x (sym (ap (λ y. y.column) y)) (subst (λ n. slice_get (sites_of P Q) n ≡ Some x) (ap (λ y. y.site.0) y) e)
+          (λ h. eqb-false x.ty.dim 0 d h) (ap (λ y. y.row.0) y)
 
   pub cell_is : (c : ℕ) → c < length F.cells.items → IsCellOf (cell_at F c)
   unfolding cells_of
@@ -94,7 +99,8 @@ module _ (P Q : Plain) (placed : IsPlaced P Q) (formed : IsFormed P) (typed : Is
   cell_contains : (c s : ℕ) → IsCellOf (cell_at F c) → Holds F (in_cell c s) → IsContained (cell_at F c).row.0 s
   cell_contains c s (of_field x f d r g i n e q) w =
       let y = row_there P Q placed formed typed F facts (row.Field f) r e in
-      let u = (held P Q placed formed typed F facts (in_cell c s) w).field f (record { 0 = d }) y.here.ty i n (field_type P Q placed formed typed f r y.here y.stands y.item) in
+      let u = (held P Q placed formed typed F facts (in_cell c s) w).field f (record { 0 = d }) y.here.ty i n
+          (field_type P Q placed formed typed f r y.here y.stands y.item) in
       subst (λ v. IsContained v s) q (record {
         below = class_below r s y.here.ty.class.0 u.class (class_of_row P Q placed formed typed F facts r (row.Field f) y);
         free = λ n. apart_free P Q placed formed typed F facts r (row.Field f) y refl;
@@ -102,12 +108,16 @@ module _ (P Q : Plain) (placed : IsPlaced P Q) (formed : IsFormed P) (typed : Is
   cell_contains c s (of_array x i e n q) w =
       let p = site_part P Q placed formed typed (cell_at F c).site.0 x e in
       let y = row_there P Q placed formed typed F facts (row.New x.number) x.row p.row_number_is in
-      let t = own_type P Q placed formed typed (a_creation p.place p.used p.operand) p.operand (row.New x.number) x.ty x.row y.here p.is_part refl p.row_is p.type y.stands y.item in
-      let z = index_at F.sites.items (cell_at F c).site.0 _ (site_info x) (subst (λ w. slice_get w (cell_at F c).site.0 ≡ Some (site_info x)) (sym facts.sites) (at_map site_info (sites_of P Q) (cell_at F c).site.0 x e)) in
+      let t = own_type P Q placed formed typed (a_creation p.place p.used p.operand) p.operand (row.New x.number) x.ty x.row y.here p.is_part refl
+          p.row_is p.type y.stands y.item in
+      let z = index_at F.sites.items (cell_at F c).site.0 _ (site_info x) (subst (λ w. slice_get w (cell_at F c).site.0 ≡ Some (site_info x))
+          (sym facts.sites) (at_map site_info (sites_of P Q) (cell_at F c).site.0 x e)) in
       let u = held P Q placed formed typed F facts (in_cell c s) w in
       subst (λ v. IsContained v s) q (record {
-        below = class_below x.row s (site_class F (cell_at F c).site.0) (u.class i) (class_of_row P Q placed formed typed F facts x.row (row.New x.number) y ∙ ap (λ w. w.class.0) t ∙ sym (ap (λ w. w.class.0) z));
-        free = λ h. deep_free P Q placed formed typed F facts x.row (row.New x.number) y p.row_number_is (positive y.here.ty.dim (λ d. n (sym (ap (λ w. w.dim) t) ∙ d)));
+        below = class_below x.row s (site_class F (cell_at F c).site.0) (u.class i) (class_of_row P Q placed formed typed F facts x.row
+            (row.New x.number) y ∙ ap (λ w. w.class.0) t ∙ sym (ap (λ w. w.class.0) z));
+        free = λ h. deep_free P Q placed formed typed F facts x.row (row.New x.number) y p.row_number_is
+            (positive y.here.ty.dim (λ d. n (sym (ap (λ w. w.dim) t) ∙ d)));
       })
     where
       positive : (d : ℕ) → (d ≡ 0 → ⊥) → 0 < d

@@ -43,7 +43,8 @@ element_some t n = ap (λ b. if b then None else Some (record { class = t.class;
 pub element_parts : (t u : ObjectType) → element_in_type t ≡ Some u → (t.class ≡ u.class) × (u.dim + 1 ≡ t.dim)
 element_parts t u e = go (t.dim == 0) refl e
   where
-    go : (b : Bool) → (t.dim == 0) ≡ b → (if b then None else Some (record { class = t.class; dim = t.dim - 1 })) ≡ Some u → (t.class ≡ u.class) × (u.dim + 1 ≡ t.dim)
+    go : (b : Bool) → (t.dim == 0) ≡ b → (if b then None else Some (record { class = t.class; dim = t.dim - 1 })) ≡ Some u → (t.class ≡ u.class)
+        × (u.dim + 1 ≡ t.dim)
     go true d h = absurd (cc)
     go false d h = let z = same_Some _ u h in let n = eqb-false t.dim 0 d in (ap (λ z. z.class) z, dims t.dim u.dim (λ e. n e) (ap (λ z. z.dim) z))
       where
@@ -80,12 +81,14 @@ module _ (P : Plain) where
     pub class : IsSubclass P s.class.0 t.class.0
     pub dim : s.dim ≡ t.dim
 
-  sub_under : (a b : TyBase) (c d : ℕ) (s t : ObjectType) → ((c == d) && is_sub_base P a b) ≡ true → object_in a c ≡ Some s → object_in b d ≡ Some t → IsUnder s t
+  sub_under : (a b : TyBase) (c d : ℕ) (s t : ObjectType) → ((c == d) && is_sub_base P a b) ≡ true → object_in a c ≡ Some s
+      → object_in b d ≡ Some t → IsUnder s t
   sub_under (Class a) (Class b) c d s t e h g =
       let w = and_parts (c == d) (below P a.0 b.0) e in
       let x = same_Some _ s h in
       let y = same_Some _ t g in
-      record { class = rw (sym (ap (λ z. z.class) x), sym (ap (λ z. z.class) y)) (below-subclass P a.0 b.0 w.1); dim = sym (ap (λ z. z.dim) x) ∙ eqb-true c d w.0 ∙ ap (λ z. z.dim) y }
+      record { class = rw (sym (ap (λ z. z.class) x), sym (ap (λ z. z.class) y)) (below-subclass P a.0 b.0 w.1); dim = sym (ap (λ z. z.dim) x)
+          ∙ eqb-true c d w.0 ∙ ap (λ z. z.dim) y }
   sub_under (Class a) Int c d s t e h g = absurd (cc)
   sub_under (Class a) Boolean c d s t e h g = absurd (cc)
   sub_under (Class a) Char c d s t e h g = absurd (cc)
@@ -105,7 +108,8 @@ module _ (P : Plain) where
   -- what fits a type is under it
   pub fits_under : (s : Static) (u : Ty) (b t : ObjectType) → fits P s u ≡ true → object_static s ≡ Some b → object_of u ≡ Some t → IsUnder b t
   fits_under (a_value a) u b t e h g =
-      ⊎_elim (λ w. sub_under a.base u.base a.dim u.dim b t w h g) (λ w. absurd (no_number u.base u.dim t (and_parts (is_only Char (a_value a)) (is_only Int (a_value u)) w).1 g))
+      ⊎_elim (λ w. sub_under a.base u.base a.dim u.dim b t w h g)
+          (λ w. absurd (no_number u.base u.dim t (and_parts (is_only Char (a_value a)) (is_only Int (a_value u)) w).1 g))
       (or_cases (is_subtype P a u) (is_only Char (a_value a) && is_only Int (a_value u)) e)
   fits_under null_value u b t e h g = absurd (cc)
   fits_under no_value u b t e h g = absurd (cc)
@@ -119,7 +123,8 @@ module _ (P : Plain) where
   abbrev pub ArePaired : ObjectType → ObjectType → Type 0
   ArePaired s t = (IsUnder s t) ⊎ (IsUnder t s)
 
-  no_plain : (b : TyBase) (d : ℕ) (t : ObjectType) → object_in b d ≡ Some t → (is_numeric (a_value (record { base = b; dim = d })) ≡ false) × (is_boolean (a_value (record { base = b; dim = d })) ≡ false)
+  no_plain : (b : TyBase) (d : ℕ) (t : ObjectType) → object_in b d ≡ Some t → (is_numeric (a_value (record { base = b; dim = d })) ≡ false)
+      × (is_boolean (a_value (record { base = b; dim = d })) ≡ false)
   no_plain (Class c) d t h = (refl, refl)
   no_plain Int d t h = absurd (cc)
   no_plain Boolean d t h = absurd (cc)
@@ -134,7 +139,8 @@ module _ (P : Plain) where
       (λ w. ⊎_elim (λ w. inl (sub_under a.base u.base a.dim u.dim s t w h g)) (λ w. inr (sub_under u.base a.base u.dim a.dim t s w g h))
       (or_cases (is_subtype P a u) (is_subtype P u a) (and_parts (is_object a && is_object u) (is_subtype P a u || is_subtype P u a) w).1))
       (or_cases (is_boolean (a_value a) && is_boolean (a_value u)) ((is_object a && is_object u) && (is_subtype P a u || is_subtype P u a)) w))
-      (or_cases (is_numeric (a_value a) && is_numeric (a_value u)) ((is_boolean (a_value a) && is_boolean (a_value u)) || ((is_object a && is_object u) && (is_subtype P a u || is_subtype P u a))) e)
+      (or_cases (is_numeric (a_value a) && is_numeric (a_value u)) ((is_boolean (a_value a) && is_boolean (a_value u)) ||
+          ((is_object a && is_object u) && (is_subtype P a u || is_subtype P u a))) e)
 
   comparable : (s d : Static) (b t : ObjectType) → are_comparable P s d ≡ true → object_static s ≡ Some b → object_static d ≡ Some t → ArePaired b t
   comparable (a_value a) (a_value u) b t e h g = compared a u b t e h g
@@ -143,7 +149,8 @@ module _ (P : Plain) where
   comparable null_value d b t e h g = absurd (cc)
   comparable no_value d b t e h g = absurd (cc)
 
-  pub takes_paired : (o : BinOp) (s d : Static) (b t : ObjectType) → takes_two P o s d ≡ true → is_comparison o ≡ true → object_static s ≡ Some b → object_static d ≡ Some t → ArePaired b t
+  pub takes_paired : (o : BinOp) (s d : Static) (b t : ObjectType) → takes_two P o s d ≡ true → is_comparison o ≡ true → object_static s ≡ Some b
+      → object_static d ≡ Some t → ArePaired b t
   takes_paired bin.Same s d b t e c h g = comparable s d b t e h g
   takes_paired bin.Differs s d b t e c h g = comparable s d b t e h g
   takes_paired _ s d b t e c h g = absurd (false≢true c)
@@ -158,10 +165,12 @@ module _ (P : Plain) where
       go (Some c) (Some d) a b e =
           let x = class_dim s c a in
           let y = class_dim t d b in
-          ⊎_elim (λ w. inl (record { class = rw (x.0, y.0) (below-subclass P c d w); dim = x.1 ∙ sym y.1 })) (λ w. inr (record { class = rw (x.0, y.0) (below-subclass P d c w); dim = y.1 ∙ sym x.1 }))
+          ⊎_elim (λ w. inl (record { class = rw (x.0, y.0) (below-subclass P c d w); dim = x.1 ∙ sym y.1 }))
+              (λ w. inr (record { class = rw (x.0, y.0) (below-subclass P d c w); dim = y.1 ∙ sym x.1 }))
           (or_cases (below P c d) (below P d c) e)
 
-  pub related_paired : (s d : Static) (b t : ObjectType) → are_related P (class_of s) (class_of d) ≡ true → object_static s ≡ Some b → object_static d ≡ Some t → ArePaired b t
+  pub related_paired : (s d : Static) (b t : ObjectType) → are_related P (class_of s) (class_of d) ≡ true → object_static s ≡ Some b
+      → object_static d ≡ Some t → ArePaired b t
   related_paired s d b t e h g = related_at b t (rw (class_as s b h, class_as d t g) e)
     where
       class_as : (s : Static) (b : ObjectType) → object_static s ≡ Some b → class_at b ≡ class_of s
@@ -169,5 +178,6 @@ module _ (P : Plain) where
 
   pub cast_paired : (s : Static) (u : Ty) (b t : ObjectType) → can_cast P s u ≡ true → object_static s ≡ Some b → object_of u ≡ Some t → ArePaired b t
   cast_paired s u b t e h g =
-      ⊎_elim (λ w. absurd (false≢true (sym (no_plain u.base u.dim t g).0 ∙ (and_parts (is_numeric (a_value u)) (is_numeric s) w).0))) (λ w. related_paired s (a_value u) b t w h g)
+      ⊎_elim (λ w. absurd (false≢true (sym (no_plain u.base u.dim t g).0 ∙ (and_parts (is_numeric (a_value u)) (is_numeric s) w).0)))
+          (λ w. related_paired s (a_value u) b t w h g)
       (or_cases (is_numeric (a_value u) && is_numeric s) (are_related P (class_of s) (class_in u.base u.dim)) e)

@@ -68,7 +68,8 @@ module _ (P Q : Plain) (placed : IsPlaced P Q) (formed : IsFormed P) (typed : Is
 
   -- what a cell holds: of a field, sites at or below its type; of an array, elements
   pub record InCell (c s : ℕ) : Type 0 where
-    pub field : (f : ℕ) (d : ColId) (t : ObjectType) → (cell_at F c).column ≡ Some d → column_number P Q (column.Fld f) ≡ Some d.0 → field_object P f ≡ Some t → Under s t
+    pub field : (f : ℕ) (d : ColId) (t : ObjectType) → (cell_at F c).column ≡ Some d → column_number P Q (column.Fld f) ≡ Some d.0
+        → field_object P f ≡ Some t → Under s t
     pub class : (cell_at F c).column ≡ None → IsSubclass P (site_class F s) (site_class F (cell_at F c).site.0)
     pub dim : (cell_at F c).column ≡ None → (site_info_at F s).dim + 1 ≡ (site_info_at F (cell_at F c).site.0).dim
 
@@ -92,7 +93,8 @@ module _ (P Q : Plain) (placed : IsPlaced P Q) (formed : IsFormed P) (typed : Is
   typed_item : (i : PointItem) (q : ℕ) → point_number P Q i ≡ Some q → (t : ObjectType) × (types_at q ≡ Some t) × (item_type P Q i ≡ Some t)
   typed_item i q e = let z = has_type P Q placed formed typed F facts i q e in (z.0, z.1, sym (number_types i q e) ∙ z.1)
 
-  pub created_from : (o : Operand) (q : Option ℕ) (x : NewInfo) → Contains (created (numbers P Q) o q) x → (n : ℕ) × (q ≡ Some x.point) × (o.created ≡ Some n) × (site_number P Q n ≡ Some x.site.0)
+  pub created_from : (o : Operand) (q : Option ℕ) (x : NewInfo) → Contains (created (numbers P Q) o q) x → (n : ℕ) × (q ≡ Some x.point)
+      × (o.created ≡ Some n) × (site_number P Q n ≡ Some x.site.0)
   unfolding numbers
   created_from o q x c =
       let z = both_from q (site_in (numbers P Q) o.created) (λ p s. record { point = p; site = record { 0 = s } }) x c in
@@ -142,7 +144,8 @@ module _ (P Q : Plain) (placed : IsPlaced P Q) (formed : IsFormed P) (typed : Is
         (z.0, z.1, sym (operand_types o q g e) ∙ z.1)
 
     -- what a value holds goes where the value goes
-    value_goes : (o : Operand) (t : Option ObjectType) (q s : ℕ) → Value o t → point_at (numbers P Q) o ≡ Some q → IsHeld (in_point q s) → (u : ObjectType) → t ≡ Some u → Under s u
+    value_goes : (o : Operand) (t : Option ObjectType) (q s : ℕ) → Value o t → point_at (numbers P Q) o ≡ Some q → IsHeld (in_point q s)
+        → (u : ObjectType) → t ≡ Some u → Under s u
     value_goes o t q s v e h u d = let z = typed_operand o q v.good e in then_under (h z.0 z.1) (v.under z.0 u z.2 d)
 
     -- what a point takes is what a type takes
@@ -161,16 +164,22 @@ module _ (P Q : Plain) (placed : IsPlaced P Q) (formed : IsFormed P) (typed : Is
     takes_as q s t e h = subst (λ z. Takes q z) e h
 
     takes_result : Takes (point_number P Q (point.Result m)) (object_if k.result)
-    takes_result = takes_as (point_number P Q (point.Result m)) (item_type P Q (point.Result m)) (object_if k.result) (ap (option_and_then (λ k. object_if k.result)) stands) (takes_item (point.Result m))
+    takes_result = takes_as (point_number P Q (point.Result m)) (item_type P Q (point.Result m)) (object_if k.result)
+        (ap (option_and_then (λ k. object_if k.result)) stands) (takes_item (point.Result m))
 
-    new_goes : (o : Operand) (t : Option ObjectType) (q : Option ℕ) (x : NewInfo) → Value o t → Takes q t → Contains (created (numbers P Q) o q) x → IsHeld (in_point x.point x.site.0)
+    new_goes : (o : Operand) (t : Option ObjectType) (q : Option ℕ) (x : NewInfo) → Value o t → Takes q t → Contains (created (numbers P Q) o q) x
+        → IsHeld (in_point x.point x.site.0)
     unfolding Takes
-    new_goes o t q x v f c u d = let z = created_from o q x c in v.under (site_type F x.site.0) u (made_type P Q placed formed typed F facts m k stands o z.0 x.site.0 v.good z.2 z.3) (f x.point z.1 u d)
+    new_goes o t q x v f c u d = let z = created_from o q x c in v.under (site_type F x.site.0) u
+        (made_type P Q placed formed typed F facts m k stands o z.0 x.site.0 v.good z.2 z.3) (f x.point z.1 u d)
 
     self_value : (o : Operand) → IsGood o → Value o o.ty
-    self_value o g = record { good = g; under = λ b u x y. under_as P Q placed formed typed F facts (under_same P Q placed formed typed F facts b) (same_Some b u (sym x ∙ y)) }
+    self_value o g = record { good = g; under = λ b u x y. under_as P Q placed formed typed F facts (under_same P Q placed formed typed F facts b)
+        (same_Some b u (sym x ∙ y)) }
 
-    args_new : (d : ℕ) (es : List Operand) (x : NewInfo) → ((i : ℕ) (a : Operand) → slice_get es i ≡ Some a → Value a (item_type P Q (point.Local d i))) → Contains (each (λ i o. created (numbers P Q) o (point_number P Q (point.Local d i))) 0 es) x → IsHeld (in_point x.point x.site.0)
+    args_new : (d : ℕ) (es : List Operand) (x : NewInfo) → ((i : ℕ) (a : Operand) → slice_get es i ≡ Some a
+        → Value a (item_type P Q (point.Local d i))) → Contains (each (λ i o. created (numbers P Q) o (point_number P Q (point.Local d i))) 0 es) x
+        → IsHeld (in_point x.point x.site.0)
     args_new d es x v c =
         let z = each_from_zero (λ i o. created (numbers P Q) o (point_number P Q (point.Local d i))) es x c in
         new_goes z.1 (item_type P Q (point.Local d z.0)) (point_number P Q (point.Local d z.0)) x (v z.0 z.1 z.2) (takes_item (point.Local d z.0)) z.3
@@ -184,30 +193,41 @@ module _ (P Q : Plain) (placed : IsPlaced P Q) (formed : IsFormed P) (typed : Is
     part_new (a_super_call w (Some d) es o) x h c = args_new d es x (h.1 d refl).1.args c
     part_new _ x h c = absurd (omega (arith, c.1))
 
-    flow_goes : (o : Operand) (t : Option ObjectType) (q : Option ℕ) (x : FlowInfo) (s : ℕ) → Value o t → Takes q t → Contains (moved (point_at (numbers P Q) o) q) x → IsHeld (in_point x.from s) → IsHeld (in_point x.to s)
+    flow_goes : (o : Operand) (t : Option ObjectType) (q : Option ℕ) (x : FlowInfo) (s : ℕ) → Value o t → Takes q t
+        → Contains (moved (point_at (numbers P Q) o) q) x → IsHeld (in_point x.from s) → IsHeld (in_point x.to s)
     unfolding Takes
     flow_goes o t q x s v f c h u d = let z = moved_from (point_at (numbers P Q) o) q x c in value_goes o t x.from s v z.0 h u (f x.to z.1 u d)
 
-    args_flow : (d : ℕ) (es : List Operand) (x : FlowInfo) (s : ℕ) → ((i : ℕ) (a : Operand) → slice_get es i ≡ Some a → Value a (item_type P Q (point.Local d i))) → Contains (each (λ i o. moved (point_at (numbers P Q) o) (point_number P Q (point.Local d i))) 0 es) x → IsHeld (in_point x.from s) → IsHeld (in_point x.to s)
+    args_flow : (d : ℕ) (es : List Operand) (x : FlowInfo) (s : ℕ) → ((i : ℕ) (a : Operand) → slice_get es i ≡ Some a
+        → Value a (item_type P Q (point.Local d i)))
+        → Contains (each (λ i o. moved (point_at (numbers P Q) o) (point_number P Q (point.Local d i))) 0 es) x → IsHeld (in_point x.from s)
+        → IsHeld (in_point x.to s)
     args_flow d es x s v c =
         let z = each_from_zero (λ i o. moved (point_at (numbers P Q) o) (point_number P Q (point.Local d i))) es x c in
         flow_goes z.1 (item_type P Q (point.Local d z.0)) (point_number P Q (point.Local d z.0)) x s (v z.0 z.1 z.2) (takes_item (point.Local d z.0)) z.3
 
-    result_flow : (d : ℕ) (o : Operand) (x : FlowInfo) (s : ℕ) → IsGood o → o.ty ≡ method_object P d → Contains (moved (point_number P Q (point.Result d)) (point_at (numbers P Q) o)) x → IsHeld (in_point x.from s) → IsHeld (in_point x.to s)
+    result_flow : (d : ℕ) (o : Operand) (x : FlowInfo) (s : ℕ) → IsGood o → o.ty ≡ method_object P d
+        → Contains (moved (point_number P Q (point.Result d)) (point_at (numbers P Q) o)) x → IsHeld (in_point x.from s) → IsHeld (in_point x.to s)
     result_flow d o x s g e c h u y =
         let z = moved_from (point_number P Q (point.Result d)) (point_at (numbers P Q) o) x c in
         let t = typed_item (point.Result d) x.from z.0 in
         as_under (h t.0 t.1) (same_Some _ _ (sym (result_same d t.0 t.2) ∙ sym e ∙ sym (operand_types o x.to g z.1) ∙ y))
 
-    this_flow : (d : ℕ) (x : FlowInfo) (s : ℕ) → IsSubclass P k.owner (owner_of Q (column.Def d)) → Contains (moved (point_number P Q (point.This m)) (point_number P Q (point.This d))) x → IsHeld (in_point x.from s) → IsHeld (in_point x.to s)
+    this_flow : (d : ℕ) (x : FlowInfo) (s : ℕ) → IsSubclass P k.owner (owner_of Q (column.Def d))
+        → Contains (moved (point_number P Q (point.This m)) (point_number P Q (point.This d))) x → IsHeld (in_point x.from s)
+        → IsHeld (in_point x.to s)
     this_flow d x s b c h u y =
         let z = moved_from (point_number P Q (point.This m)) (point_number P Q (point.This d)) x c in
         let w = this_parts (slice_get Q.methods d) refl (sym (number_types (point.This d) x.to z.1) ∙ y) in
-        then_under (h (record { class = record { 0 = k.owner }; dim = 0 }) (number_types (point.This m) x.from z.0 ∙ ap (option_and_then (λ k. class_object k.owner)) stands)) (subst (λ v. IsUnder P (record { class = record { 0 = k.owner }; dim = 0 }) v) w (record { class = b; dim = refl }))
+        then_under (h (record { class = record { 0 = k.owner }; dim = 0 }) (number_types (point.This m) x.from z.0
+            ∙ ap (option_and_then (λ k. class_object k.owner)) stands)) (subst (λ v. IsUnder P (record { class = record { 0 = k.owner }; dim = 0 }) v)
+            w (record { class = b; dim = refl }))
       where
-        this_parts : (o : Option PlainMethod) → slice_get Q.methods d ≡ o → option_and_then (λ k. class_object k.owner) (slice_get Q.methods d) ≡ Some u → record { class = record { 0 = owner_of Q (column.Def d) }; dim = 0 } ≡ u
+        this_parts : (o : Option PlainMethod) → slice_get Q.methods d ≡ o → option_and_then (λ k. class_object k.owner) (slice_get Q.methods d)
+            ≡ Some u → record { class = record { 0 = owner_of Q (column.Def d) }; dim = 0 } ≡ u
         this_parts None e i = absurd (let z = ap (option_and_then (λ k. class_object k.owner)) (sym e) ∙ i in cc)
-        this_parts (Some l) e i = ap (λ o. record { class = record { 0 = option_map_or (λ k. k.owner) o 0 }; dim = 0 }) e ∙ same_Some _ u (ap (option_and_then (λ k. class_object k.owner)) (sym e) ∙ i)
+        this_parts (Some l) e i = ap (λ o. record { class = record { 0 = option_map_or (λ k. k.owner) o 0 }; dim = 0 }) e
+            ∙ same_Some _ u (ap (option_and_then (λ k. class_object k.owner)) (sym e) ∙ i)
 
     part_flow : (p : Part) (x : FlowInfo) (s : ℕ) → Fitted p → Contains (flows_of (numbers P Q) m p) x → IsHeld (in_point x.from s) → IsHeld (in_point x.to s)
     unfolding numbers
@@ -215,70 +235,86 @@ module _ (P Q : Plain) (placed : IsPlaced P Q) (formed : IsFormed P) (typed : Is
     part_flow (a_return o) x s h c = flow_goes o (object_if k.result) (point_number P Q (point.Result m)) x s h takes_result c
     part_flow (a_static_call w d es o) x s h c =
         let one = each (λ i o. moved (point_at (numbers P Q) o) (point_number P Q (point.Local d i))) 0 es in
-        ⊎_elim (λ y. args_flow d es x s h.1.args y) (λ y. result_flow d o x s h.0 h.1.result y) (Contains-append_cases one (moved (point_number P Q (point.Result d)) (point_at (numbers P Q) o)) x c)
+        ⊎_elim (λ y. args_flow d es x s h.1.args y) (λ y. result_flow d o x s h.0 h.1.result y)
+            (Contains-append_cases one (moved (point_number P Q (point.Result d)) (point_at (numbers P Q) o)) x c)
     part_flow (a_super_call w (Some d) es o) x s h c =
         let one = each (λ i o. moved (point_at (numbers P Q) o) (point_number P Q (point.Local d i))) 0 es in
         let two = moved (point_number P Q (point.Result d)) (point_at (numbers P Q) o) in
         let z = h.1 d refl in
         ⊎_elim (λ y. ⊎_elim (λ y. args_flow d es x s z.1.args y) (λ y. result_flow d o x s h.0 z.1.result y) (Contains-append_cases one two x y))
-        (λ y. this_flow d x s (super_above P Q placed formed typed k.owner d z.0.name z.0.found) y) (Contains-append_cases (one ++ two) (moved (point_number P Q (point.This m)) (point_number P Q (point.This d))) x c)
+        (λ y. this_flow d x s (super_above P Q placed formed typed k.owner d z.0.name z.0.found) y)
+            (Contains-append_cases (one ++ two) (moved (point_number P Q (point.This m)) (point_number P Q (point.This d))) x c)
     part_flow _ x s h c = absurd (omega (arith, c.1))
 
     -- an element of what a base holds
-    element_held : (b : Operand) (a c o s : ℕ) → IsGood b → point_at (numbers P Q) b ≡ Some a → IsCell F c o None → IsHeld (in_point a o) → InCell c s → (u : ObjectType) → element_object b.ty ≡ Some u → Under s u
+    element_held : (b : Operand) (a c o s : ℕ) → IsGood b → point_at (numbers P Q) b ≡ Some a → IsCell F c o None → IsHeld (in_point a o) → InCell c s
+        → (u : ObjectType) → element_object b.ty ≡ Some u → Under s u
     element_held b a c o s g e i h w u d =
         let z = typed_operand b a g e in
         let y = element_parts z.0 u (ap element_object (sym z.2) ∙ d) in
         let v = h z.0 z.1 in
         record {
-          class = subst (λ n. IsSubclass P (site_class F s) n) (ap (λ n. n.0) y.0) (subclass-then P (subst (λ n. IsSubclass P (site_class F s) (site_class F n)) i.site_is (w.class i.column_is)) v.class);
+          class = subst (λ n. IsSubclass P (site_class F s) n) (ap (λ n. n.0) y.0)
+              (subclass-then P (subst (λ n. IsSubclass P (site_class F s) (site_class F n)) i.site_is (w.class i.column_is)) v.class);
           dim = omega (arith, w.dim i.column_is, ap (λ n. (site_info_at F n).dim) i.site_is, v.dim, y.1);
         }
 
-    part_load : (p : Part) (x : LoadInfo) (c o s : ℕ) → Fitted p → Contains (loads_of (numbers P Q) p) x → IsCell F c o x.column → IsHeld (in_point x.base o) → InCell c s → IsHeld (in_point x.into s)
+    part_load : (p : Part) (x : LoadInfo) (c o s : ℕ) → Fitted p → Contains (loads_of (numbers P Q) p) x → IsCell F c o x.column
+        → IsHeld (in_point x.base o) → InCell c s → IsHeld (in_point x.into s)
     unfolding numbers
     part_load (a_load w b (Some f) q) x c o s g e i h v u d =
-        let z = these_from (point_at (numbers P Q) b) (column_number P Q (column.Fld f)) (point_at (numbers P Q) q) (λ a c q. record { base = a; column = Some (record { 0 = c }); into = q }) x e in
+        let z = these_from (point_at (numbers P Q) b) (column_number P Q (column.Fld f)) (point_at (numbers P Q) q)
+            (λ a c q. record { base = a; column = Some (record { 0 = c }); into = q }) x e in
         let ty = sym (g.1 f refl).1 ∙ sym (operand_types q x.into g.0 (z.5 ∙ ap (λ y. Some y.into) z.6)) ∙ d in
         v.field f (record { 0 = z.1 }) u (i.column_is ∙ sym (ap (λ y. y.column) z.6)) z.4 ty
     part_load (an_element w b q) x c o s g e i h v u d =
         let z = both_from (point_at (numbers P Q) b) (point_at (numbers P Q) q) (λ a q. record { base = a; column = None; into = q }) x e in
-        element_held b x.base c o s g.0 (z.2 ∙ ap (λ y. Some y.base) z.4) (subst (λ y. IsCell F c o y) (sym (ap (λ y. y.column) z.4)) i) h v u (sym g.2 ∙ sym (operand_types q x.into g.1 (z.3 ∙ ap (λ y. Some y.into) z.4)) ∙ d)
+        element_held b x.base c o s g.0 (z.2 ∙ ap (λ y. Some y.base) z.4) (subst (λ y. IsCell F c o y) (sym (ap (λ y. y.column) z.4)) i) h v u
+            (sym g.2 ∙ sym (operand_types q x.into g.1 (z.3 ∙ ap (λ y. Some y.into) z.4)) ∙ d)
     part_load _ x c o s g e i h v u d = absurd (omega (arith, e.1))
 
     -- what is put in an element
-    element_put : (b q : Operand) (a n c o s : ℕ) → IsGood b → ((t : ObjectType) → b.ty ≡ Some t → 0 < t.dim) → Value q (element_object b.ty) → point_at (numbers P Q) b ≡ Some a → point_at (numbers P Q) q ≡ Some n → IsCell F c o None → Fits F None s o → IsHeld (in_point a o) → IsHeld (in_point n s) → InCell c s
+    element_put : (b q : Operand) (a n c o s : ℕ) → IsGood b → ((t : ObjectType) → b.ty ≡ Some t → 0 < t.dim) → Value q (element_object b.ty)
+        → point_at (numbers P Q) b ≡ Some a → point_at (numbers P Q) q ≡ Some n → IsCell F c o None → Fits F None s o → IsHeld (in_point a o)
+        → IsHeld (in_point n s) → InCell c s
     element_put b q a n c o s g deep v e d i f h w =
         let z = typed_operand b a g e in
         let r = h z.0 z.1 in
-        let y = value_goes q (element_object b.ty) n s v d w (record { class = z.0.class; dim = z.0.dim - 1 }) (ap element_object z.2 ∙ element_some z.0 (deep z.0 z.2)) in
+        let y = value_goes q (element_object b.ty) n s v d w (record { class = z.0.class; dim = z.0.dim - 1 }) (ap element_object z.2
+            ∙ element_some z.0 (deep z.0 z.2)) in
         record {
           field = λ f p t x. absurd (let y = sym x ∙ i.column_is in cc);
           class = λ x. subst (λ n. IsSubclass P (site_class F s) (site_class F n)) (sym i.site_is) (below_subclass P Q placed F facts f);
           dim = λ x. omega (arith, y.dim, r.dim, deep z.0 z.2, ap (λ n. (site_info_at F n).dim) i.site_is);
         }
 
-    field_put : (f : ℕ) (q : Operand) (j n c o s : ℕ) → Value q (field_object P f) → column_number P Q (column.Fld f) ≡ Some j → point_at (numbers P Q) q ≡ Some n → IsCell F c o (Some (record { 0 = j })) → IsHeld (in_point n s) → InCell c s
+    field_put : (f : ℕ) (q : Operand) (j n c o s : ℕ) → Value q (field_object P f) → column_number P Q (column.Fld f) ≡ Some j
+        → point_at (numbers P Q) q ≡ Some n → IsCell F c o (Some (record { 0 = j })) → IsHeld (in_point n s) → InCell c s
     field_put f q j n c o s v e d i w = record {
-      field = λ g p t x y r. let same = same_field f g j e (y ∙ ap (λ z. Some z.0) (same_Some p (record { 0 = j }) (sym x ∙ i.column_is))) in value_goes q (field_object P f) n s v d w t (ap (field_object P) same ∙ r);
+      field = λ g p t x y r. let same = same_field f g j e (y ∙ ap (λ z. Some z.0) (same_Some p (record { 0 = j }) (sym x ∙ i.column_is))) in
+          value_goes q (field_object P f) n s v d w t (ap (field_object P) same ∙ r);
       class = λ x. absurd (let y = sym x ∙ i.column_is in cc);
       dim = λ x. absurd (let y = sym x ∙ i.column_is in cc);
     }
 
-    part_store : (p : Part) (x : StoreInfo) (c o s : ℕ) → Fitted p → Contains (stores_of (numbers P Q) p) x → IsCell F c o x.column → Fits F x.column s o → IsHeld (in_point x.base o) → IsHeld (in_point x.value s) → InCell c s
+    part_store : (p : Part) (x : StoreInfo) (c o s : ℕ) → Fitted p → Contains (stores_of (numbers P Q) p) x → IsCell F c o x.column
+        → Fits F x.column s o → IsHeld (in_point x.base o) → IsHeld (in_point x.value s) → InCell c s
     unfolding numbers
     part_store (a_store w b (Some f) q) x c o s g e i r h v =
-        let z = these_from (point_at (numbers P Q) b) (column_number P Q (column.Fld f)) (point_at (numbers P Q) q) (λ a c q. record { base = a; column = Some (record { 0 = c }); value = q; place = w }) x e in
+        let z = these_from (point_at (numbers P Q) b) (column_number P Q (column.Fld f)) (point_at (numbers P Q) q)
+            (λ a c q. record { base = a; column = Some (record { 0 = c }); value = q; place = w }) x e in
         field_put f q z.1 x.value c o s (g f refl).1 z.4 (z.5 ∙ ap (λ y. Some y.value) z.6) (subst (λ y. IsCell F c o y) (sym (ap (λ y. y.column) z.6)) i) v
     part_store (an_element_store w b q) x c o s g e i r h v =
         let z = both_from (point_at (numbers P Q) b) (point_at (numbers P Q) q) (λ a q. record { base = a; column = None; value = q; place = w }) x e in
-        element_put b q x.base x.value c o s g.0 g.1 g.2 (z.2 ∙ ap (λ y. Some y.base) z.4) (z.3 ∙ ap (λ y. Some y.value) z.4) (subst (λ y. IsCell F c o y) (sym (ap (λ y. y.column) z.4)) i) (subst (λ y. Fits F y s o) (sym (ap (λ y. y.column) z.4)) r) h v
+        element_put b q x.base x.value c o s g.0 g.1 g.2 (z.2 ∙ ap (λ y. Some y.base) z.4) (z.3 ∙ ap (λ y. Some y.value) z.4)
+            (subst (λ y. IsCell F c o y) (sym (ap (λ y. y.column) z.4)) i) (subst (λ y. Fits F y s o) (sym (ap (λ y. y.column) z.4)) r) h v
     part_store _ x c o s g e i r h v = absurd (omega (arith, e.1))
 
     paired_dims : (s t : ObjectType) → ArePaired P s t → s.dim ≡ t.dim
     paired_dims s t p = ⊎_elim (λ u. u.dim) (λ u. sym u.dim) p
 
-    part_cast : (p : Part) (x : CastInfo) (s : ℕ) → Fitted p → Contains (casts_of (numbers P Q) p) x → IsBelow F (site_class F s) x.class.0 → IsHeld (in_point x.from s) → IsHeld (in_point x.into s)
+    part_cast : (p : Part) (x : CastInfo) (s : ℕ) → Fitted p → Contains (casts_of (numbers P Q) p) x → IsBelow F (site_class F s) x.class.0
+        → IsHeld (in_point x.from s) → IsHeld (in_point x.into s)
     part_cast (a_test w e q) x s g c b h u d =
         let z = these_from (point_at (numbers P Q) e) (point_at (numbers P Q) q) q.ty (λ a q t. record { from = a; into = q; class = t.class }) x c in
         let y = typed_operand e x.from g.0 (z.3 ∙ ap (λ y. Some y.from) z.6) in
@@ -306,10 +342,13 @@ module _ (P Q : Plain) (placed : IsPlaced P Q) (formed : IsFormed P) (typed : Is
     pub values : AreValues P Q placed formed typed F facts number method stands args (param_object P call.slot)
     pub gives : own.ty ≡ slot_object P call.slot
 
-  call_part : (m : ℕ) (k : PlainMethod) (e : slice_get Q.methods m ≡ Some k) (p : Part) (y : Placed PlainCall) (call : CallInfo) → IsFitted P Q placed formed typed F facts m k e p → Contains (calls_of (numbers P Q) p) y → y.item ≡ call_seen call → IsCall call
+  call_part : (m : ℕ) (k : PlainMethod) (e : slice_get Q.methods m ≡ Some k) (p : Part) (y : Placed PlainCall) (call : CallInfo)
+      → IsFitted P Q placed formed typed F facts m k e p → Contains (calls_of (numbers P Q) p) y → y.item ≡ call_seen call → IsCall call
   call_part m k e (a_call w b (Some s) d es o) y call f c i = go (point_at (numbers P Q) b) refl c
     where
-      go : (r : Option ℕ) → point_at (numbers P Q) b ≡ r → Contains (option_map_or (λ r. record { place = w; item = record { receiver = r; slot = s; args = map (point_at (numbers P Q)) es; result = point_at (numbers P Q) o } } ∷ []) r []) y → IsCall call
+      go : (r : Option ℕ) → point_at (numbers P Q) b ≡ r
+          → Contains (option_map_or (λ r. record { place = w; item = record { receiver = r; slot = s; args = map (point_at (numbers P Q)) es; result =
+          point_at (numbers P Q) o } } ∷ []) r []) y → IsCall call
       go None a c = absurd (omega (arith, c.1))
       go (Some r) a c =
           let z = ap (λ y. y.item) (one_from _ y c) ∙ i in
@@ -333,12 +372,14 @@ module _ (P Q : Plain) (placed : IsPlaced P Q) (formed : IsFormed P) (typed : Is
           }
   call_part m k e _ y call f c i = absurd (omega (arith, c.1))
 
-  fitted_at : (m : ℕ) (k : PlainMethod) (e : slice_get Q.methods m ≡ Some k) (p : Part) → Contains (parts_of P m k) p → IsFitted P Q placed formed typed F facts m k e p
+  fitted_at : (m : ℕ) (k : PlainMethod) (e : slice_get Q.methods m ≡ Some k) (p : Part) → Contains (parts_of P m k) p
+      → IsFitted P Q placed formed typed F facts m k e p
   fitted_at m k e p c = part_fitted P Q placed formed typed F facts m k e p c
 
   pub call_of : (call : CallInfo) → Contains F.calls.items call → IsCall call
   call_of call c =
-      let y = map_from (λ c. c.item) (by_place (λ c. c.place.at) (gathered P Q (λ b. calls_of (numbers P Q)))) (call_seen call) (subst (λ w. Contains w (call_seen call)) facts.calls (map_has call_seen F.calls.items call c)) in
+      let y = map_from (λ c. c.item) (by_place (λ c. c.place.at) (gathered P Q (λ b. calls_of (numbers P Q)))) (call_seen call)
+          (subst (λ w. Contains w (call_seen call)) facts.calls (map_has call_seen F.calls.items call c)) in
       let z = gathered_from P Q (λ b. calls_of (numbers P Q)) y.0 (place_from (λ c. c.place.at) (gathered P Q (λ b. calls_of (numbers P Q))) y.0 y.1) in
       call_part z.0 z.1 z.3 z.2 y.0 call (fitted_at z.0 z.1 z.3 z.2 z.4) z.5 y.2
 
@@ -352,24 +393,29 @@ module _ (P Q : Plain) (placed : IsPlaced P Q) (formed : IsFormed P) (typed : Is
     pub params : body.params.items ≡ param_points (numbers P Q) Q number method
     pub result : body.result ≡ point_number P Q (point.Result number)
 
-  item_entry : (c : ℕ) (i : ColumnItem) (body : BodyInfo) → column_number P Q i ≡ Some c → Contains (column_body (numbers P Q) Q c i) (body_seen body) → IsEntry body
+  item_entry : (c : ℕ) (i : ColumnItem) (body : BodyInfo) → column_number P Q i ≡ Some c → Contains (column_body (numbers P Q) Q c i) (body_seen body)
+      → IsEntry body
   unfolding numbers
   item_entry c (column.Def m) body n h = go (slice_get Q.methods m) refl h
     where
-      inner : (k : PlainMethod) (t : Option ℕ) → slice_get Q.methods m ≡ Some k → point_number P Q (point.This m) ≡ t → Contains (body_if (numbers P Q) Q c m k t) (body_seen body) → IsEntry body
+      inner : (k : PlainMethod) (t : Option ℕ) → slice_get Q.methods m ≡ Some k → point_number P Q (point.This m) ≡ t
+          → Contains (body_if (numbers P Q) Q c m k t) (body_seen body) → IsEntry body
       inner k None e d h = absurd (omega (arith, h.1))
       inner k (Some t) e d h =
           let z = one_from _ (body_seen body) h in
-          record { number = m; method = k; stands = e; column_is = n ∙ ap (λ y. Some y.column) z; this = d ∙ ap (λ y. Some y.this) z; params = sym (ap (λ y. y.params) z); result = sym (ap (λ y. y.result) z) }
+          record { number = m; method = k; stands = e; column_is = n ∙ ap (λ y. Some y.column) z; this = d
+              ∙ ap (λ y. Some y.this) z; params = sym (ap (λ y. y.params) z); result = sym (ap (λ y. y.result) z) }
 
-      go : (o : Option PlainMethod) → slice_get Q.methods m ≡ o → Contains (option_map_or (λ k. body_if (numbers P Q) Q c m k (point_number P Q (point.This m))) o []) (body_seen body) → IsEntry body
+      go : (o : Option PlainMethod) → slice_get Q.methods m ≡ o
+          → Contains (option_map_or (λ k. body_if (numbers P Q) Q c m k (point_number P Q (point.This m))) o []) (body_seen body) → IsEntry body
       go None e h = absurd (omega (arith, h.1))
       go (Some k) e h = inner k (point_number P Q (point.This m)) e refl h
   item_entry c _ body n h = absurd (omega (arith, h.1))
 
   pub entry_of : (body : BodyInfo) → Contains F.bodies.items body → IsEntry body
   entry_of body c =
-      let z = each_from_zero (λ c k. column_body (numbers P Q) Q c k.item) (columns_of P Q) (body_seen body) (subst (λ w. Contains w (body_seen body)) facts.bodies (map_has body_seen F.bodies.items body c)) in
+      let z = each_from_zero (λ c k. column_body (numbers P Q) Q c k.item) (columns_of P Q) (body_seen body)
+          (subst (λ w. Contains w (body_seen body)) facts.bodies (map_has body_seen F.bodies.items body c)) in
       item_entry z.0 z.1.item body (column_back P Q z.0 z.1 z.2) z.3
 
   -- the body that a call runs for an object
@@ -388,7 +434,8 @@ module _ (P Q : Plain) (placed : IsPlaced P Q) (formed : IsFormed P) (typed : Is
       record {
         call_is = c;
         entry = e;
-        above = subst (λ z. IsSubclass P (site_class F o) z) (sym f.body.class ∙ ap (λ i. i.class.0) n.1 ∙ ap (λ o. option_map_or (λ k. k.owner) o 0) e.stands) (below_subclass P Q placed F facts f.above);
+        above = subst (λ z. IsSubclass P (site_class F o) z) (sym f.body.class ∙ ap (λ i. i.class.0) n.1
+            ∙ ap (λ o. option_map_or (λ k. k.owner) o 0) e.stands) (below_subclass P Q placed F facts f.above);
         slot = sym (ap (λ o. option_and_then (λ k. k.slot) o) e.stands) ∙ sym (ap (λ i. i.slot) n.1) ∙ f.body.slot;
       }
 
@@ -398,19 +445,23 @@ module _ (P Q : Plain) (placed : IsPlaced P Q) (formed : IsFormed P) (typed : Is
       let e = w.entry in
       let c = w.call_is in
       let t = typed_operand c.number c.method c.stands c.base call.receiver c.base_good c.receiver in
-      let s : record { class = record { 0 = e.method.owner }; dim = 0 } ≡ u = same_Some _ u (sym (number_types (point.This e.number) body.this e.this ∙ ap (option_and_then (λ k. class_object k.owner)) e.stands) ∙ d) in
+      let s : record { class = record { 0 = e.method.owner }; dim = 0 } ≡ u = same_Some _ u (sym (number_types (point.This e.number) body.this e.this
+          ∙ ap (option_and_then (λ k. class_object k.owner)) e.stands) ∙ d) in
       as_under (record { class = w.above; dim = (h t.0 t.1).dim ∙ c.object t.0 t.2 }) s
 
-  arg_at : (es : List Operand) (xs : List (Option ℕ)) (i n : ℕ) → xs ≡ map (point_at (numbers P Q)) es → listed_at xs i ≡ Some n → (a : Operand) × (slice_get es i ≡ Some a) × (point_at (numbers P Q) a ≡ Some n)
+  arg_at : (es : List Operand) (xs : List (Option ℕ)) (i n : ℕ) → xs ≡ map (point_at (numbers P Q)) es → listed_at xs i ≡ Some n → (a : Operand)
+      × (slice_get es i ≡ Some a) × (point_at (numbers P Q) a ≡ Some n)
   arg_at es xs i n e d = map_at (point_at (numbers P Q)) es i (Some n) (subst (λ y. slice_get y i ≡ Some (Some n)) e (index_some xs i n d))
 
-  param_at : (m : ℕ) (k : PlainMethod) (xs : List (Option ℕ)) (i n : ℕ) → xs ≡ param_points (numbers P Q) Q m k → listed_at xs i ≡ Some n → (i < length k.params) × (point_number P Q (point.Local m i) ≡ Some n)
+  param_at : (m : ℕ) (k : PlainMethod) (xs : List (Option ℕ)) (i n : ℕ) → xs ≡ param_points (numbers P Q) Q m k → listed_at xs i ≡ Some n
+      → (i < length k.params) × (point_number P Q (point.Local m i) ≡ Some n)
   unfolding numbers
   param_at m k xs i n e d =
       let z = at_each (λ i v. point_number P Q (point.Local m i)) 0 k.params i (Some n) (subst (λ y. slice_get y i ≡ Some (Some n)) e (index_some xs i n d)) in
       (at_below k.params i z.0 z.1, ap (λ j. point_number P Q (point.Local m j)) (omega arith) ∙ z.2)
 
-  argument_held : (call : CallInfo) (o : ℕ) (body : BodyInfo) (i from to s : ℕ) → Runs F call o body → listed_at call.args.items i ≡ Some from → listed_at body.params.items i ≡ Some to → IsHeld (in_point from s) → IsHeld (in_point to s)
+  argument_held : (call : CallInfo) (o : ℕ) (body : BodyInfo) (i from to s : ℕ) → Runs F call o body → listed_at call.args.items i ≡ Some from
+      → listed_at body.params.items i ≡ Some to → IsHeld (in_point from s) → IsHeld (in_point to s)
   argument_held call o body i from to s r a p h u d =
       let w = runs_body call o body r in
       let e = w.entry in
@@ -418,9 +469,11 @@ module _ (P Q : Plain) (placed : IsPlaced P Q) (formed : IsFormed P) (typed : Is
       let x = arg_at c.args call.args.items i from c.args_are a in
       let y = param_at e.number e.method body.params.items i to e.params p in
       value_goes c.number c.method c.stands x.0 (param_object P call.slot i) from s (c.values i x.0 x.1) x.2 h u
-      (sym (slot_param P Q placed formed typed e.number i call.slot e.method e.stands w.slot y.0) ∙ sym (number_types (point.Local e.number i) to y.1 ∙ ap (option_and_then (λ k. variable_object k i)) e.stands) ∙ d)
+      (sym (slot_param P Q placed formed typed e.number i call.slot e.method e.stands w.slot y.0) ∙ sym (number_types (point.Local e.number i) to y.1
+          ∙ ap (option_and_then (λ k. variable_object k i)) e.stands) ∙ d)
 
-  result_held : (call : CallInfo) (o : ℕ) (body : BodyInfo) (from to s : ℕ) → Runs F call o body → body.result ≡ Some from → call.result ≡ Some to → IsHeld (in_point from s) → IsHeld (in_point to s)
+  result_held : (call : CallInfo) (o : ℕ) (body : BodyInfo) (from to s : ℕ) → Runs F call o body → body.result ≡ Some from → call.result ≡ Some to
+      → IsHeld (in_point from s) → IsHeld (in_point to s)
   result_held call o body from to s r a p h u d =
       let w = runs_body call o body r in
       let e = w.entry in
@@ -428,18 +481,25 @@ module _ (P Q : Plain) (placed : IsPlaced P Q) (formed : IsFormed P) (typed : Is
       let z = placed.methods e.number e.method e.stands in
       let y = ((formed.methods e.number z.plain z.stands).slots call.slot).0 (z.slot ∙ w.slot) in
       let t = typed_item (point.Result e.number) from (sym e.result ∙ a) in
-      let same : object_if e.method.result ≡ slot_object P call.slot = ap object_if (sym z.result ∙ y.result) ∙ sym (ap (λ o. object_if (option_and_then (λ k. k.result) o)) y.stands) in
-      as_under (h t.0 t.1) (same_Some _ _ (sym t.2 ∙ ap (option_and_then (λ k. object_if k.result)) e.stands ∙ same ∙ sym c.gives ∙ sym (operand_types c.number c.method c.stands c.own to c.own_good (sym c.result ∙ p)) ∙ d))
+      let same : object_if e.method.result ≡ slot_object P call.slot = ap object_if (sym z.result ∙ y.result)
+          ∙ sym (ap (λ o. object_if (option_and_then (λ k. k.result) o)) y.stands) in
+      as_under (h t.0 t.1) (same_Some _ _ (sym t.2 ∙ ap (option_and_then (λ k. object_if k.result)) e.stands ∙ same ∙ sym c.gives
+          ∙ sym (operand_types c.number c.method c.stands c.own to c.own_good (sym c.result ∙ p)) ∙ d))
 
   closed : (ps : List Fact) (f : Fact) → Inclusion F ps f → AllByRecursion IsHeld ps → IsHeld f
-  closed ps f (by_new x c) h = let z = gathered_from P Q (λ b. news_of (numbers P Q) b.number) x ((facts.news x).0 c) in part_new z.0 z.1 z.3 z.2 x (fitted_at z.0 z.1 z.3 z.2 z.4) z.5
-  closed ps f (by_flow x s c) h = let z = gathered_from P Q (λ b. flows_of (numbers P Q) b.number) x ((facts.flows x).0 c) in part_flow z.0 z.1 z.3 z.2 x s (fitted_at z.0 z.1 z.3 z.2 z.4) z.5 h.0
-  closed ps f (by_load x c o s n i) h = let z = gathered_from P Q (λ b. loads_of (numbers P Q)) x ((facts.loads x).0 n) in part_load z.0 z.1 z.3 z.2 x c o s (fitted_at z.0 z.1 z.3 z.2 z.4) z.5 i h.0 h.1.0
-  closed ps f (by_store x c o s n i r) h = let z = gathered_from P Q (λ b. stores_of (numbers P Q)) x ((facts.stores x).0 n) in part_store z.0 z.1 z.3 z.2 x c o s (fitted_at z.0 z.1 z.3 z.2 z.4) z.5 i r h.0 h.1.0
+  closed ps f (by_new x c) h = let z = gathered_from P Q (λ b. news_of (numbers P Q) b.number) x ((facts.news x).0 c) in part_new z.0 z.1 z.3 z.2 x
+      (fitted_at z.0 z.1 z.3 z.2 z.4) z.5
+  closed ps f (by_flow x s c) h = let z = gathered_from P Q (λ b. flows_of (numbers P Q) b.number) x ((facts.flows x).0 c) in part_flow z.0 z.1 z.3
+      z.2 x s (fitted_at z.0 z.1 z.3 z.2 z.4) z.5 h.0
+  closed ps f (by_load x c o s n i) h = let z = gathered_from P Q (λ b. loads_of (numbers P Q)) x ((facts.loads x).0 n) in part_load z.0 z.1 z.3 z.2 x
+      c o s (fitted_at z.0 z.1 z.3 z.2 z.4) z.5 i h.0 h.1.0
+  closed ps f (by_store x c o s n i r) h = let z = gathered_from P Q (λ b. stores_of (numbers P Q)) x ((facts.stores x).0 n) in part_store z.0 z.1 z.3
+      z.2 x c o s (fitted_at z.0 z.1 z.3 z.2 z.4) z.5 i r h.0 h.1.0
   closed ps f (by_this call o body r) h = this_held call o body r h.0
   closed ps f (by_argument call o body i from to s r a p) h = argument_held call o body i from to s r a p h.1.0
   closed ps f (by_result call o body from to s r a p) h = result_held call o body from to s r a p h.1.0
-  closed ps f (by_cast x s c b) h = let z = gathered_from P Q (λ b. casts_of (numbers P Q)) x ((facts.casts x).0 c) in part_cast z.0 z.1 z.3 z.2 x s (fitted_at z.0 z.1 z.3 z.2 z.4) z.5 b h.0
+  closed ps f (by_cast x s c b) h = let z = gathered_from P Q (λ b. casts_of (numbers P Q)) x ((facts.casts x).0 c) in part_cast z.0 z.1 z.3 z.2 x s
+      (fitted_at z.0 z.1 z.3 z.2 z.4) z.5 b h.0
 
   -- each fact that holds
   pub held : (f : Fact) → Holds F f → IsHeld f

@@ -157,7 +157,8 @@ module _ (P Q : Plain) where
 
   -- flow points
   abbrev pub raw_points : List Point
-  raw_points = flat_map (listed (row_number P Q)) (by_place (λ p. p.place.at) (each static_points 0 Q.fields)) ++ flat_map (λ o. flat_map (listed (row_number P Q)) o.points) (by_place (λ o. o.place.at) (each (outline_if P Q) 0 Q.methods))
+  raw_points = flat_map (listed (row_number P Q)) (by_place (λ p. p.place.at) (each static_points 0 Q.fields))
+      ++ flat_map (λ o. flat_map (listed (row_number P Q)) o.points) (by_place (λ o. o.place.at) (each (outline_if P Q) 0 Q.methods))
 
   pub point_at : (i : PointItem) (n : ℕ) → point_number P Q i ≡ Some n → (x : Point) × (slice_get (points_of P Q) n ≡ Some x) × (x.item ≡ i)
   unfolding point_number points_of

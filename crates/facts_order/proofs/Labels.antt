@@ -62,7 +62,8 @@ above p l (with {a = a} {l = n} d h r) (zero, lt, q) e = subst (λ z. a ≤ z) (
 above p l (with d h r) (suc k, lt, q) e = omega (arith, h, above p l r (k, omega (arith, lt), q) e)
 
 -- two parts of one label are one
-one_label : {a b : ℕ} {ps : List Part} (p q : Part) (l : ℕ) → Labelled a ps b → Contains ps p → Contains ps q → part_label p ≡ Some l → part_label q ≡ Some l → p ≡ q
+one_label : {a b : ℕ} {ps : List Part} (p q : Part) (l : ℕ) → Labelled a ps b → Contains ps p → Contains ps q → part_label p ≡ Some l
+    → part_label q ≡ Some l → p ≡ q
 one_label p q l (none h) c d e f = absurd (omega (arith, c.1))
 one_label p q l (plain g r) (zero, lt, x) d e f = absurd (none_some (sym (subst (λ z. part_label z ≡ None) x g) ∙ e))
   where
@@ -102,7 +103,8 @@ module _ (P : Plain) (type : Ex → Option ObjectType) (m : ℕ) (k : PlainMetho
     ex_labels n u (own_field t f) = with {l = n} refl (omega arith) (none (omega arith))
     ex_labels n u (field t e x) = join (ex_labels n (is_accessed (label n e)) e) (with {l = n + size e} refl (omega arith) (none (omega arith)))
     ex_labels n u (index t e i) = join (ex_labels n true e) (with {l = n + size e} refl (omega arith) (upto (omega arith) (ex_labels (n + size e + 1) false i)))
-    ex_labels n u (call t e x es) = join (ex_labels n true e) (with {l = n + size e} refl (omega arith) (upto (omega arith) (all_labels (n + size e + 1) true es)))
+    ex_labels n u (call t e x es) =
+        join (ex_labels n true e) (with {l = n + size e} refl (omega arith) (upto (omega arith) (all_labels (n + size e + 1) true es)))
     ex_labels n u (static_call t d es) = with {l = n} refl (omega arith) (upto (omega arith) (all_labels (n + 1) false es))
     ex_labels n u (super_call t x es) = with {l = n} refl (omega arith) (upto (omega arith) (all_labels (n + 1) false es))
     ex_labels n u (create t i c es) = with {l = n} refl (omega arith) (upto (omega arith) (all_labels (n + 1) false es))
@@ -128,12 +130,15 @@ module _ (P : Plain) (type : Ex → Option ObjectType) (m : ℕ) (k : PlainMetho
   return_labels n None = none (omega arith)
   return_labels n (Some e) = join (ex_labels n false e) (plain refl (none (omega arith)))
 
-  assign_labels : (n : ℕ) (t : Tag) (b : Target) (e : Ex) → Labelled n (parts_assign P type m k t.place (label_target n b) (label (n + size_target b) e)) (n + (size_target b + size e + 1))
+  assign_labels : (n : ℕ) (t : Tag) (b : Target) (e : Ex)
+      → Labelled n (parts_assign P type m k t.place (label_target n b) (label (n + size_target b) e)) (n + (size_target b + size e + 1))
   assign_labels n t (to_local s i) e = from {b = n + 0} (omega arith) (join (ex_labels (n + 0) false e) (plain refl (none (omega arith))))
   assign_labels n t (to_static s f) e = from {b = n + 0} (omega arith) (join (ex_labels (n + 0) false e) (plain refl (none (omega arith))))
   assign_labels n t (to_own s f) e = from {b = n + 0} (omega arith) (join (ex_labels (n + 0) true e) (plain refl (none (omega arith))))
   assign_labels n t (to_field s b x) e = join (join (ex_labels n (is_accessed (label n b)) b) (ex_labels (n + size b) true e)) (plain refl (none (omega arith)))
-  assign_labels n t (to_element s b i) e = join (join (join (ex_labels n true b) (ex_labels (n + size b) false i)) (from {b = n + (size b + size i)} (omega arith) (ex_labels (n + (size b + size i)) true e))) (plain refl (none (omega arith)))
+  assign_labels n t (to_element s b i) e =
+      join (join (join (ex_labels n true b) (ex_labels (n + size b) false i)) (from {b = n + (size b + size i)} (omega arith)
+      (ex_labels (n + (size b + size i)) true e))) (plain refl (none (omega arith)))
   assign_labels n t no_target e = from {b = n + 0} (omega arith) (join (ex_labels (n + 0) false e) (plain refl (none (omega arith))))
 
   mutual
@@ -145,7 +150,8 @@ module _ (P : Plain) (type : Ex → Option ObjectType) (m : ℕ) (k : PlainMetho
     st_labels n (print t l e) = if_labels n e
     st_labels n (choose t xs) = arms_labels n xs
     st_labels n (loop t is_while first test step body) =
-        upto (omega arith) (join (join (join (sts_labels n first) (if_labels (n + size_sts first) test)) (sts_labels (n + size_sts first + size_if test) step)) (sts_labels (n + size_sts first + size_if test + size_sts step) body))
+        upto (omega arith) (join (join (join (sts_labels n first) (if_labels (n + size_sts first) test))
+            (sts_labels (n + size_sts first + size_if test) step)) (sts_labels (n + size_sts first + size_if test + size_sts step) body))
     st_labels n (return t e) = return_labels n e
     st_labels n (break t) = none (omega arith)
     st_labels n (continue t) = none (omega arith)
@@ -157,13 +163,16 @@ module _ (P : Plain) (type : Ex → Option ObjectType) (m : ℕ) (k : PlainMetho
     arms_labels : (n : ℕ) (xs : Arms) → Labelled n (parts_arms P type m k (label_arms n xs)) (n + size_arms xs)
     arms_labels n no_other = none (omega arith)
     arms_labels n (otherwise xs) = sts_labels n xs
-    arms_labels n (arm e xs more) = upto (omega arith) (join (join (ex_labels n false e) (sts_labels (n + size e) xs)) (arms_labels (n + size e + size_sts xs) more))
+    arms_labels n (arm e xs more) =
+        upto (omega arith) (join (join (ex_labels n false e) (sts_labels (n + size e) xs)) (arms_labels (n + size e + size_sts xs) more))
 
-body_labels : (P : Plain) (type : Ex → Option ObjectType) (m : ℕ) (k : PlainMethod) (b : Option Sts) (p q : Part) (l : ℕ) → Contains (parts_body P type m k b) p → Contains (parts_body P type m k b) q → part_label p ≡ Some l → part_label q ≡ Some l → p ≡ q
+body_labels : (P : Plain) (type : Ex → Option ObjectType) (m : ℕ) (k : PlainMethod) (b : Option Sts) (p q : Part) (l : ℕ)
+    → Contains (parts_body P type m k b) p → Contains (parts_body P type m k b) q → part_label p ≡ Some l → part_label q ≡ Some l → p ≡ q
 body_labels P type m k None p q l c d e f = absurd (omega (arith, c.1))
 body_labels P type m k (Some xs) p q l c d e f = one_label p q l (sts_labels P type m k 0 xs) c d e f
 
 -- two parts of a body with one label are one
-pub label_apart : (P : Plain) (m : ℕ) (k : PlainMethod) (p q : Part) (l : ℕ) → Contains (parts_of P m k) p → Contains (parts_of P m k) q → part_label p ≡ Some l → part_label q ≡ Some l → p ≡ q
+pub label_apart : (P : Plain) (m : ℕ) (k : PlainMethod) (p q : Part) (l : ℕ) → Contains (parts_of P m k) p → Contains (parts_of P m k) q
+    → part_label p ≡ Some l → part_label q ≡ Some l → p ≡ q
 unfolding parts_of
 label_apart P m k p q l c d e f = body_labels P (type_in P m k) m k k.body p q l c d e f

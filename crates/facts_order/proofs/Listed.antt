@@ -69,19 +69,25 @@ flat_has f (z ∷ zs) x y (suc k, lt, e) d = Contains-append_right (f z) (flat_m
 
 pub flat_from : {A B : Type 0} (f : A → List B) (xs : List A) (y : B) → Contains (flat_map f xs) y → (x : A) × Contains xs x × Contains (f x) y
 flat_from f [] y c = absurd (omega (arith, c.1))
-flat_from f (x ∷ xs) y c = ⊎_elim (λ d. (x, first x xs, d)) (λ d. let z = flat_from f xs y d in (z.0, more z.0 x xs z.1, z.2)) (Contains-append_cases (f x) (flat_map f xs) y c)
+flat_from f (x ∷ xs) y c = ⊎_elim (λ d. (x, first x xs, d)) (λ d. let z = flat_from f xs y d in (z.0, more z.0 x xs z.1, z.2))
+    (Contains-append_cases (f x) (flat_map f xs) y c)
 
-pub each_has : {A B : Type 0} (f : ℕ → A → List B) (n : ℕ) (xs : List A) (i : ℕ) (x : A) (y : B) → slice_get xs i ≡ Some x → (j : ℕ) → j ≡ n + i → Contains (f j x) y → Contains (each f n xs) y
+pub each_has : {A B : Type 0} (f : ℕ → A → List B) (n : ℕ) (xs : List A) (i : ℕ) (x : A) (y : B) → slice_get xs i ≡ Some x → (j : ℕ) → j ≡ n + i
+    → Contains (f j x) y → Contains (each f n xs) y
 each_has f n [] i x y e j d c = absurd (cc)
-each_has f n (z ∷ zs) zero x y e j d c = Contains-append_left (f n z) (each f (n + 1) zs) y (subst (λ w. Contains (f n w) y) (sym (same_Some z x e)) (subst (λ w. Contains (f w x) y) (omega (arith, d)) c))
+each_has f n (z ∷ zs) zero x y e j d c = Contains-append_left (f n z) (each f (n + 1) zs) y (subst (λ w. Contains (f n w) y) (sym (same_Some z x e))
+    (subst (λ w. Contains (f w x) y) (omega (arith, d)) c))
 each_has f n (z ∷ zs) (suc i) x y e j d c = Contains-append_right (f n z) (each f (n + 1) zs) y (each_has f (n + 1) zs i x y e j (omega (arith, d)) c)
 
-pub each_from : {A B : Type 0} (f : ℕ → A → List B) (n : ℕ) (xs : List A) (y : B) → Contains (each f n xs) y → (i : ℕ) × (j : ℕ) × (x : A) × (slice_get xs i ≡ Some x) × (j ≡ n + i) × Contains (f j x) y
+pub each_from : {A B : Type 0} (f : ℕ → A → List B) (n : ℕ) (xs : List A) (y : B) → Contains (each f n xs) y → (i : ℕ) × (j : ℕ) × (x : A)
+    × (slice_get xs i ≡ Some x) × (j ≡ n + i) × Contains (f j x) y
 each_from f n [] y c = absurd (omega (arith, c.1))
 each_from f n (x ∷ xs) y c =
-    ⊎_elim (λ d. (0, n, x, refl, omega arith, d)) (λ d. let z = each_from f (n + 1) xs y d in (suc z.0, z.1, z.2, z.3, omega (arith, z.4), z.5)) (Contains-append_cases (f n x) (each f (n + 1) xs) y c)
+    ⊎_elim (λ d. (0, n, x, refl, omega arith, d)) (λ d. let z = each_from f (n + 1) xs y d in (suc z.0, z.1, z.2, z.3, omega (arith, z.4), z.5))
+        (Contains-append_cases (f n x) (each f (n + 1) xs) y c)
 
-pub each_from_zero : {A B : Type 0} (f : ℕ → A → List B) (xs : List A) (y : B) → Contains (each f 0 xs) y → (i : ℕ) × (x : A) × (slice_get xs i ≡ Some x) × Contains (f i x) y
+pub each_from_zero : {A B : Type 0} (f : ℕ → A → List B) (xs : List A) (y : B) → Contains (each f 0 xs) y → (i : ℕ) × (x : A)
+    × (slice_get xs i ≡ Some x) × Contains (f i x) y
 each_from_zero f xs y c = let z = each_from f 0 xs y c in (z.0, z.2, z.3, subst (λ j. Contains (f j z.2) y) (omega (arith, z.4)) z.5)
 
 pub when_has : {A : Type 0} (b : Bool) (xs : List A) (x : A) → b ≡ true → Contains xs x → Contains (when b xs) x
@@ -116,12 +122,14 @@ put_rest : {A : Type 0} (at : A → ℕ) (x : A) (xs : List A) (y : A) → Conta
 put_rest at x [] y c = absurd (omega (arith, c.1))
 put_rest at x (z ∷ zs) y (zero, lt, e) = choose_has _ _ _ (nat_lt (at z) (at x)) (0, omega arith, e) (more y x (z ∷ zs) (0, omega arith, e))
 put_rest at x (z ∷ zs) y (suc k, lt, e) =
-    let c : Contains zs y = (k, omega (arith, lt), e) in choose_has _ _ _ (nat_lt (at z) (at x)) (more y z (put_in at x zs) (put_rest at x zs y c)) (more y x (z ∷ zs) (more y z zs c))
+    let c : Contains zs y = (k, omega (arith, lt), e) in choose_has _ _ _ (nat_lt (at z) (at x)) (more y z (put_in at x zs) (put_rest at x zs y c))
+        (more y x (z ∷ zs) (more y z zs c))
 
 put_from : {A : Type 0} (at : A → ℕ) (x : A) (xs : List A) (y : A) → Contains (put_in at x xs) y → (x ≡ y) ⊎ Contains xs y
 put_from at x [] y c = tail_from x y [] c
 put_from at x (z ∷ zs) y c =
-    ⊎_elim (λ d. ⊎_elim (λ e. inr (0, omega arith, e)) (λ d. ⊎_elim (λ e. inl e) (λ d. inr (more y z zs d)) (put_from at x zs y d)) (tail_from z y (put_in at x zs) d)) (λ d. tail_from x y (z ∷ zs) d)
+    ⊎_elim (λ d. ⊎_elim (λ e. inr (0, omega arith, e)) (λ d. ⊎_elim (λ e. inl e) (λ d. inr (more y z zs d)) (put_from at x zs y d))
+        (tail_from z y (put_in at x zs) d)) (λ d. tail_from x y (z ∷ zs) d)
     (choose_from (z ∷ put_in at x zs) (x ∷ (z ∷ zs)) y (nat_lt (at z) (at x)) c)
 
 pub place_has : {A : Type 0} (at : A → ℕ) (xs : List A) (y : A) → Contains xs y → Contains (by_place at xs) y
@@ -183,7 +191,8 @@ module _ {A K : Type 0} (eq : K → K → Bool) (exact : (x y : K) → eq x y �
   once_after_from : (seen : List K) (xs : List A) (x : A) → Contains (once_after eq key seen xs) x → Contains xs x
   once_after_from seen [] x c = c
   once_after_from seen (y ∷ ys) x c =
-      ⊎_elim (λ d. more x y ys (once_after_from (insert_key eq seen (key y)) ys x d)) (λ p. (0, omega arith, p.1)) (head_cases (list_any (eq (key y)) seen) (once_after eq key (insert_key eq seen (key y)) ys) y x c)
+      ⊎_elim (λ d. more x y ys (once_after_from (insert_key eq seen (key y)) ys x d)) (λ p. (0, omega arith, p.1))
+          (head_cases (list_any (eq (key y)) seen) (once_after eq key (insert_key eq seen (key y)) ys) y x c)
 
   pub once_from : (xs : List A) (x : A) → Contains (once eq key xs) x → Contains xs x
   once_from xs x c = once_after_from [] xs x c
@@ -191,7 +200,8 @@ module _ {A K : Type 0} (eq : K → K → Bool) (exact : (x y : K) → eq x y �
   unseen : (seen : List K) (xs : List A) (x : A) → Contains (once_after eq key seen xs) x → list_any (eq (key x)) seen ≡ true → ⊥
   unseen seen [] x c h = absurd (omega (arith, c.1))
   unseen seen (y ∷ ys) x c h =
-      ⊎_elim (λ d. unseen (insert_key eq seen (key y)) ys x d (still_in seen (key y) (key x) h)) (λ p. false≢true (sym p.0 ∙ subst (λ z. list_any (eq (key z)) seen ≡ true) (sym p.1) h))
+      ⊎_elim (λ d. unseen (insert_key eq seen (key y)) ys x d (still_in seen (key y) (key x) h))
+          (λ p. false≢true (sym p.0 ∙ subst (λ z. list_any (eq (key z)) seen ≡ true) (sym p.1) h))
       (head_cases (list_any (eq (key y)) seen) (once_after eq key (insert_key eq seen (key y)) ys) y x c)
 
   AreApart : List A → Type 0
@@ -229,13 +239,15 @@ module _ {A K : Type 0} (eq : K → K → Bool) (exact : (x y : K) → eq x y �
   insert_cases ks k q e = go (list_any (eq k) ks) e
     where
       last : list_any (eq q) (ks ++ k ∷ []) ≡ true → (list_any (eq q) ks ≡ true) ⊎ (q ≡ k)
-      last h = ⊎_elim (λ h. inl h) (λ h. ⊎_elim (λ g. inr (exact q k g)) (λ g. absurd (false≢true g)) (or_cases (eq q k) false h)) (or_cases (list_any (eq q) ks) (list_any (eq q) (k ∷ [])) (sym (list_any-append (eq q) ks (k ∷ [])) ∙ h))
+      last h = ⊎_elim (λ h. inl h) (λ h. ⊎_elim (λ g. inr (exact q k g)) (λ g. absurd (false≢true g)) (or_cases (eq q k) false h))
+          (or_cases (list_any (eq q) ks) (list_any (eq q) (k ∷ [])) (sym (list_any-append (eq q) ks (k ∷ [])) ∙ h))
 
       go : (b : Bool) → list_any (eq q) (if b then ks else ks ++ k ∷ []) ≡ true → (list_any (eq q) ks ≡ true) ⊎ (q ≡ k)
       go true h = inl h
       go false h = last h
 
-  kept_there : (b : Bool) (xs : List A) (y x : A) → (z : A) × Contains xs z × (key z ≡ key x) → (z : A) × Contains (if b then xs else y ∷ xs) z × (key z ≡ key x)
+  kept_there : (b : Bool) (xs : List A) (y x : A) → (z : A) × Contains xs z × (key z ≡ key x) → (z : A) × Contains (if b then xs else y ∷ xs) z
+      × (key z ≡ key x)
   kept_there true xs y x c = c
   kept_there false xs y x c = (c.0, more c.0 y xs c.1, c.2)
 
@@ -252,7 +264,8 @@ module _ {A K : Type 0} (eq : K → K → Bool) (exact : (x y : K) → eq x y �
   once_kept : (seen : List K) (xs : List A) (x : A) → Contains xs x → Kept seen (once_after eq key seen xs) x
   unfolding Kept
   once_kept seen [] x c = absurd (omega (arith, c.1))
-  once_kept seen (y ∷ ys) x (zero, lt, d) = kept_as seen _ x y (ap key d) (kept_head seen (list_any (eq (key y)) seen) (once_after eq key (insert_key eq seen (key y)) ys) y refl)
+  once_kept seen (y ∷ ys) x (zero, lt, d) =
+      kept_as seen _ x y (ap key d) (kept_head seen (list_any (eq (key y)) seen) (once_after eq key (insert_key eq seen (key y)) ys) y refl)
   once_kept seen (y ∷ ys) x (suc k, lt, d) =
       let rest = once_after eq key (insert_key eq seen (key y)) ys in
       let b = list_any (eq (key y)) seen in
@@ -288,7 +301,8 @@ module _ {A K : Type 0} (eq : K → K → Bool) (exact : (x y : K) → eq x y �
   pub number_there : (x : A) → Contains xs x → (n : ℕ) × (position (eq (key x)) (map key (once eq key xs)) ≡ Some n)
   number_there x c =
       let z = once_has eq exact alike key xs x c in
-      position_there (eq (key x)) (map key (once eq key xs)) (key z.0) (map_has key (once eq key xs) z.0 z.1) (subst (λ w. eq (key x) w ≡ true) (sym z.2) (alike (key x)))
+      position_there (eq (key x)) (map key (once eq key xs)) (key z.0) (map_has key (once eq key xs) z.0 z.1)
+          (subst (λ w. eq (key x) w ≡ true) (sym z.2) (alike (key x)))
 
   pub number_back : (n : ℕ) (x : A) → slice_get (once eq key xs) n ≡ Some x → position (eq (key x)) (map key (once eq key xs)) ≡ Some n
   number_back n x e =

@@ -30,7 +30,8 @@ module _ (P Q : Plain) (placed : IsPlaced P Q) (formed : IsFormed P) where
     pub owner : owner_of Q i ≡ method.owner
     pub name : name_in Q i ≡ method.name
 
-  method_member : (i : ColumnItem) (m x : ℕ) (k : PlainMethod) → slice_get Q.methods m ≡ Some k → slot_in Q i ≡ option_and_then (λ k. k.slot) (slice_get Q.methods m) → owner_of Q i ≡ option_map_or (λ k. k.owner) (slice_get Q.methods m) 0
+  method_member : (i : ColumnItem) (m x : ℕ) (k : PlainMethod) → slice_get Q.methods m ≡ Some k
+      → slot_in Q i ≡ option_and_then (λ k. k.slot) (slice_get Q.methods m) → owner_of Q i ≡ option_map_or (λ k. k.owner) (slice_get Q.methods m) 0
       → name_in Q i ≡ option_map_or (λ k. k.name) (slice_get Q.methods m) [] → slot_in Q i ≡ Some x → IsMember i x
   method_member i m x k e s o n h =
       let z = placed.methods m k e in
@@ -51,7 +52,8 @@ module _ (P Q : Plain) (placed : IsPlaced P Q) (formed : IsFormed P) where
   member_of _ x (for_field f k e s) h = absurd (cc)
   member_of _ x (for_mark c) h = absurd (cc)
 
-  two_fields : (i j : ColumnItem) → Stands Q i → Stands Q j → kind_of i ≡ kind.Fld → kind_of j ≡ kind.Fld → owner_of Q i ≡ owner_of Q j → name_in Q i ≡ name_in Q j → i ≡ j
+  two_fields : (i j : ColumnItem) → Stands Q i → Stands Q j → kind_of i ≡ kind.Fld → kind_of j ≡ kind.Fld → owner_of Q i ≡ owner_of Q j
+      → name_in Q i ≡ name_in Q j → i ≡ j
   two_fields _ _ (for_field f h e s) (for_field g k d t) a b o n =
       let x = placed.fields f h e in
       let y = placed.fields g k d in
@@ -83,12 +85,14 @@ module _ (P Q : Plain) (placed : IsPlaced P Q) (formed : IsFormed P) where
       formed.method_names a.number b.number a.method b.method a.stands b.stands (sym a.owner ∙ o ∙ b.owner)
       (a.in_slot.name ∙ ap (λ z. z.name) (same_Some _ _ (sym a.in_slot.stands ∙ b.in_slot.stands)) ∙ sym b.in_slot.name)
 
-  two_bodies : (i j : ColumnItem) → Stands Q i → Stands Q j → kind_of i ≡ kind.Def → kind_of j ≡ kind.Def → owner_of Q i ≡ owner_of Q j → slot_in Q i ≡ slot_in Q j → i ≡ j
+  two_bodies : (i j : ColumnItem) → Stands Q i → Stands Q j → kind_of i ≡ kind.Def → kind_of j ≡ kind.Def → owner_of Q i ≡ owner_of Q j
+      → slot_in Q i ≡ slot_in Q j → i ≡ j
   unfolding method_member
   two_bodies _ _ (for_body m h e s p) (for_body n k d t q) a b o l =
       let w = slot_has m h e s in
       ap (λ z. column.Def z)
-      (same_method (column.Def m) (column.Def n) w.0 (method_member (column.Def m) m w.0 h e refl refl refl w.1) (method_member (column.Def n) n w.0 k d refl refl refl (sym l ∙ w.1)) o)
+      (same_method (column.Def m) (column.Def n) w.0 (method_member (column.Def m) m w.0 h e refl refl refl w.1)
+          (method_member (column.Def n) n w.0 k d refl refl refl (sym l ∙ w.1)) o)
   two_bodies _ _ (for_body m h e s p) (for_declaration n k d t) a b o l = absurd (cc)
   two_bodies _ _ (for_body m h e s p) (for_field f k d t) a b o l = absurd (cc)
   two_bodies _ _ (for_body m h e s p) (for_mark c) a b o l = absurd (cc)
@@ -100,12 +104,14 @@ module _ (P Q : Plain) (placed : IsPlaced P Q) (formed : IsFormed P) where
     pub same_column : (c d : ℕ) (a : HasItem P Q F facts c) (b : HasItem P Q F facts d) → a.item ≡ b.item → c ≡ d
     same_column c d a b e = same_Some c d (sym a.number ∙ ap (column_number P Q) e ∙ b.number)
 
-    fields : (c d : ℕ) → c < length F.columns.items → d < length F.columns.items → column_kind F c ≡ kind.Fld → column_kind F d ≡ kind.Fld → column_class F c ≡ column_class F d → name_of F c ≡ name_of F d → c ≡ d
+    fields : (c d : ℕ) → c < length F.columns.items → d < length F.columns.items → column_kind F c ≡ kind.Fld → column_kind F d ≡ kind.Fld
+        → column_class F c ≡ column_class F d → name_of F c ≡ name_of F d → c ≡ d
     fields c d p q h k o n =
         let a = item_of P Q F facts c p in
         let b = item_of P Q F facts d q in
         same_column c d a b
-        (two_fields a.item b.item a.stands b.stands (sym (ap (λ i. i.kind) a.info) ∙ h) (sym (ap (λ i. i.kind) b.info) ∙ k) (sym (ap (λ i. i.class.0) a.info) ∙ o ∙ ap (λ i. i.class.0) b.info)
+        (two_fields a.item b.item a.stands b.stands (sym (ap (λ i. i.kind) a.info) ∙ h) (sym (ap (λ i. i.kind) b.info)
+            ∙ k) (sym (ap (λ i. i.class.0) a.info) ∙ o ∙ ap (λ i. i.class.0) b.info)
         (sym (ap (λ i. i.name) a.info) ∙ n ∙ ap (λ i. i.name) b.info))
 
     no_slots : (c : ℕ) → c < length F.columns.items → column_kind F c ≡ kind.Fld → column_slot F c ≡ None
@@ -113,12 +119,14 @@ module _ (P Q : Plain) (placed : IsPlaced P Q) (formed : IsFormed P) where
         let a = item_of P Q F facts c p in
         ap (λ i. i.slot) a.info ∙ field_slot a.item a.stands (sym (ap (λ i. i.kind) a.info) ∙ h)
 
-    bodies : (c d : ℕ) → c < length F.columns.items → d < length F.columns.items → IsDef F c → IsDef F d → column_class F c ≡ column_class F d → column_slot F c ≡ column_slot F d → c ≡ d
+    bodies : (c d : ℕ) → c < length F.columns.items → d < length F.columns.items → IsDef F c → IsDef F d → column_class F c ≡ column_class F d
+        → column_slot F c ≡ column_slot F d → c ≡ d
     bodies c d p q h k o l =
         let a = item_of P Q F facts c p in
         let b = item_of P Q F facts d q in
         same_column c d a b
-        (two_bodies a.item b.item a.stands b.stands (sym (ap (λ i. i.kind) a.info) ∙ h) (sym (ap (λ i. i.kind) b.info) ∙ k) (sym (ap (λ i. i.class.0) a.info) ∙ o ∙ ap (λ i. i.class.0) b.info)
+        (two_bodies a.item b.item a.stands b.stands (sym (ap (λ i. i.kind) a.info) ∙ h) (sym (ap (λ i. i.kind) b.info)
+            ∙ k) (sym (ap (λ i. i.class.0) a.info) ∙ o ∙ ap (λ i. i.class.0) b.info)
         (sym (ap (λ i. i.slot) a.info) ∙ l ∙ ap (λ i. i.slot) b.info))
 
     -- the member of a column of a slot
@@ -138,18 +146,23 @@ module _ (P Q : Plain) (placed : IsPlaced P Q) (formed : IsFormed P) where
     names c d x h k =
         let a = slot_member c x h in
         let b = slot_member d x k in
-        a.name ∙ a.member.in_slot.name ∙ ap (λ z. z.name) (same_Some _ _ (sym a.member.in_slot.stands ∙ b.member.in_slot.stands)) ∙ sym b.member.in_slot.name ∙ sym b.name
+        a.name ∙ a.member.in_slot.name ∙ ap (λ z. z.name) (same_Some _ _ (sym a.member.in_slot.stands ∙ b.member.in_slot.stands))
+            ∙ sym b.member.in_slot.name ∙ sym b.name
 
-    slots : (a c d x y : ℕ) → column_slot F c ≡ Some x → column_slot F d ≡ Some y → IsBelow F a (column_class F c) → IsBelow F a (column_class F d) → name_of F c ≡ name_of F d → x ≡ y
+    slots : (a c d x y : ℕ) → column_slot F c ≡ Some x → column_slot F d ≡ Some y → IsBelow F a (column_class F c) → IsBelow F a (column_class F d)
+        → name_of F c ≡ name_of F d → x ≡ y
     slots a c d x y h k s t n =
         let p = slot_member c x h in
         let q = slot_member d y k in
         let u = p.member.method in
         let v = q.member.method in
         ⊎_elim
-        (λ e. same_Some x y (sym p.member.slot ∙ ap (λ z. z.slot) (same_Some u v (sym p.member.stands ∙ ap (slice_get P.methods) e ∙ q.member.stands)) ∙ q.member.slot))
+        (λ e. same_Some x y (sym p.member.slot ∙ ap (λ z. z.slot) (same_Some u v (sym p.member.stands ∙ ap (slice_get P.methods) e ∙ q.member.stands))
+            ∙ q.member.slot))
         (λ e. same_Some x y (sym p.member.slot ∙ e.1 ∙ q.member.slot))
-        (formed.one_slot a p.member.number q.member.number u v p.member.stands q.member.stands (subst (λ z. IsSubclass P a z) p.owner (below_subclass P Q placed F facts s)) (subst (λ z. IsSubclass P a z) q.owner (below_subclass P Q placed F facts t))
+        (formed.one_slot a p.member.number q.member.number u v p.member.stands q.member.stands
+            (subst (λ z. IsSubclass P a z) p.owner (below_subclass P Q placed F facts s))
+            (subst (λ z. IsSubclass P a z) q.owner (below_subclass P Q placed F facts t))
         (sym p.name ∙ n ∙ q.name))
 
     pub members_in_order : AreMembersInOrder F

@@ -63,18 +63,23 @@ module _ (P Q : Plain) (placed : IsPlaced P Q) (formed : IsFormed P) where
 
   -- each name is one of a class, a field or a method, or of a variable
   class_name : (c : ℕ) (k : PlainClass) → slice_get Q.classes (suc c) ≡ Some k → Contains (all_names Q) k.name
-  class_name c k e = Contains-append_left (class_names ++ field_names) (flat_map own_names Q.methods) k.name (Contains-append_left class_names field_names k.name (map_has (λ k. k.name) (drop 1 Q.classes) k (contains_at (drop 1 Q.classes) c k (at_drop Q.classes c k e))))
+  class_name c k e = Contains-append_left (class_names ++ field_names) (flat_map own_names Q.methods) k.name
+      (Contains-append_left class_names field_names k.name (map_has (λ k. k.name) (drop 1 Q.classes) k
+      (contains_at (drop 1 Q.classes) c k (at_drop Q.classes c k e))))
 
   field_name : (f : ℕ) (k : PlainField) → slice_get Q.fields f ≡ Some k → Contains (all_names Q) k.name
-  field_name f k e = Contains-append_left (class_names ++ field_names) (flat_map own_names Q.methods) k.name (Contains-append_right class_names field_names k.name (map_has (λ f. f.name) Q.fields k (contains_at Q.fields f k e)))
+  field_name f k e = Contains-append_left (class_names ++ field_names) (flat_map own_names Q.methods) k.name
+      (Contains-append_right class_names field_names k.name (map_has (λ f. f.name) Q.fields k (contains_at Q.fields f k e)))
 
   method_name : (m : ℕ) (k : PlainMethod) → slice_get Q.methods m ≡ Some k → Contains (all_names Q) k.name
-  method_name m k e = Contains-append_right (class_names ++ field_names) (flat_map own_names Q.methods) k.name (flat_has own_names Q.methods k k.name (contains_at Q.methods m k e) (first k.name (variable_names k)))
+  method_name m k e = Contains-append_right (class_names ++ field_names) (flat_map own_names Q.methods) k.name
+      (flat_has own_names Q.methods k k.name (contains_at Q.methods m k e) (first k.name (variable_names k)))
 
   variable : (x : List ℕ) → Contains (all_variables Q) x → Contains (all_names Q) x
   variable x c =
       ⊎_elim (λ d. Contains-append_left (class_names ++ field_names) (flat_map own_names Q.methods) x (Contains-append_right class_names field_names x d))
-      (λ d. let z = flat_from variable_names Q.methods x d in Contains-append_right (class_names ++ field_names) (flat_map own_names Q.methods) x (flat_has own_names Q.methods z.0 x z.1 (more x z.0.name (variable_names z.0) z.2)))
+      (λ d. let z = flat_from variable_names Q.methods x d in Contains-append_right (class_names ++ field_names) (flat_map own_names Q.methods) x
+          (flat_has own_names Q.methods z.0 x z.1 (more x z.0.name (variable_names z.0) z.2)))
       (Contains-append_cases field_names (flat_map variable_names Q.methods) x c)
 
   -- and an identifier
@@ -90,15 +95,18 @@ module _ (P Q : Plain) (placed : IsPlaced P Q) (formed : IsFormed P) where
       let z = placed.methods m k e in
       let c = subst (λ w. Contains w x) (sym z.names) (i, omega (arith, lt), d) in
       let each = (formed.methods m z.plain z.stands).variables in
-      ⊎_elim (λ c. let v = map_from (λ v. v.name) z.plain.params x c in subst (λ x. IsName x) v.2 (each v.0 (Contains-append_left z.plain.params z.plain.locals v.0 v.1)).name.name)
-      (λ c. let v = map_from (λ v. v.name) z.plain.locals x c in subst (λ x. IsName x) v.2 (each v.0 (Contains-append_right z.plain.params z.plain.locals v.0 v.1)).name.name)
+      ⊎_elim (λ c. let v = map_from (λ v. v.name) z.plain.params x c in subst (λ x. IsName x) v.2
+          (each v.0 (Contains-append_left z.plain.params z.plain.locals v.0 v.1)).name.name)
+      (λ c. let v = map_from (λ v. v.name) z.plain.locals x c in subst (λ x. IsName x) v.2
+          (each v.0 (Contains-append_right z.plain.params z.plain.locals v.0 v.1)).name.name)
       (Contains-append_cases (map (λ v. v.name) z.plain.params) (map (λ v. v.name) z.plain.locals) x c)
 
   named : (x : List ℕ) → Contains (all_names Q) x → IsName x
   named x c =
       ⊎_elim
       (λ d. ⊎_elim
-      (λ d. let z = map_from (λ k. k.name) (drop 1 Q.classes) x d in let w = at_contains (drop 1 Q.classes) z.0 z.1 in subst (λ x. IsName x) z.2 (class_named w.0 z.0 (drop_at Q.classes w.0 z.0 w.1)))
+      (λ d. let z = map_from (λ k. k.name) (drop 1 Q.classes) x d in let w = at_contains (drop 1 Q.classes) z.0 z.1 in subst (λ x. IsName x) z.2
+          (class_named w.0 z.0 (drop_at Q.classes w.0 z.0 w.1)))
       (λ d. let z = map_from (λ f. f.name) Q.fields x d in let w = at_contains Q.fields z.0 z.1 in subst (λ x. IsName x) z.2 (field_named w.0 z.0 w.1).name)
       (Contains-append_cases class_names field_names x d))
       (λ d. let z = flat_from own_names Q.methods x d in let w = at_contains Q.methods z.0 z.1 in method_named w.0 z.0 x w.1 z.2)
@@ -131,7 +139,8 @@ module _ (P Q : Plain) (placed : IsPlaced P Q) (formed : IsFormed P) where
 
     classes : All (λ k. is_name k.name ≡ true) F.classes.items
     classes = all_of (λ k. is_name k.name ≡ true) F.classes.items
-        (λ k c. let z = at_contains F.classes.items k c in let w = class_at P Q placed F facts z.0 k z.1 in subst (λ x. is_name x ≡ true) (sym w.name) (name_at z.0 w.plain w.stands))
+        (λ k c. let z = at_contains F.classes.items k c in let w = class_at P Q placed F facts z.0 k z.1 in subst (λ x. is_name x ≡ true) (sym w.name)
+            (name_at z.0 w.plain w.stands))
 
     -- a class with static members is not Object
     holding : (c : ℕ) → is_holder Q c ≡ true → c ≢ 0
@@ -163,7 +172,8 @@ module _ (P Q : Plain) (placed : IsPlaced P Q) (formed : IsFormed P) where
     members : (c : ℕ) → IsMemberColumn F c → Contains F.words.items (name_of F c)
     members c h =
         let z = item_of P Q F facts c h.0 in
-        subst (λ x. Contains F.words.items x) (sym (ap (λ i. i.name) z.info)) (word (name_in Q z.item) (item_name z.item z.stands (λ e. h.1 (ap (λ i. i.kind) z.info ∙ e))))
+        subst (λ x. Contains F.words.items x) (sym (ap (λ i. i.name) z.info))
+            (word (name_in Q z.item) (item_name z.item z.stands (λ e. h.1 (ap (λ i. i.kind) z.info ∙ e))))
 
     field_item : (i : ColumnItem) → Stands Q i → kind_of i ≡ kind.Fld → IsVariableName P (name_in Q i)
     field_item _ (for_field f k e s) h = subst (λ x. IsVariableName P x) (sym (ap (λ o. option_map_or (λ k. k.name) o []) e)) (field_named f k e)
@@ -181,7 +191,8 @@ module _ (P Q : Plain) (placed : IsPlaced P Q) (formed : IsFormed P) where
         (λ i d g e. let z = at_contains F.classes.items i d in let w = class_at P Q placed F facts z.0 i z.1 in
         (variable_name c h k).no_class z.0 w.plain w.stands (sym w.name ∙ sym e))
 
-    others : (c : ℕ) → c < length F.columns.items → column_kind F c ≡ kind.Fld → (name_of F c ≢ codes "Object") × (name_of F c ≢ codes "String") × (name_of F c ≢ codes "System")
+    others : (c : ℕ) → c < length F.columns.items → column_kind F c ≡ kind.Fld → (name_of F c ≢ codes "Object") × (name_of F c ≢ codes "String")
+        × (name_of F c ≢ codes "System")
     others c h k =
         let z = variable_name c h k in
         (λ e. z.no_class 0 formed.object.object formed.object.first (formed.object.name ∙ sym e), z.no_string, z.no_system)

@@ -75,8 +75,10 @@ module _ (P : Plain) (type : Ex → Option ObjectType) (m : ℕ) (k : PlainMetho
     ex_numbers n u (static_field t f) = refl
     ex_numbers n u (own_field t f) = refl
     ex_numbers n u (field t e x) = joined (in_ex (is_accessed (label n e)) (label n e)) _ (numbers (bare e)) (ex_numbers n (is_accessed (label n e)) e) refl
-    ex_numbers n u (index t e i) = join (in_ex true (label n e)) _ (numbers (bare e)) (numbers (bare i)) (ex_numbers n true e) (ex_numbers (n + size e + 1) false i)
-    ex_numbers n u (call t e x es) = join (in_ex true (label n e)) _ (numbers (bare e)) (numbers_all (bare_all es)) (ex_numbers n true e) (all_numbers (n + size e + 1) true es)
+    ex_numbers n u (index t e i) = join (in_ex true (label n e)) _ (numbers (bare e)) (numbers (bare i)) (ex_numbers n true e)
+        (ex_numbers (n + size e + 1) false i)
+    ex_numbers n u (call t e x es) = join (in_ex true (label n e)) _ (numbers (bare e)) (numbers_all (bare_all es)) (ex_numbers n true e)
+        (all_numbers (n + size e + 1) true es)
     ex_numbers n u (static_call t d es) = all_numbers (n + 1) false es
     ex_numbers n u (super_call t x es) = all_numbers (n + 1) false es
     ex_numbers n u (create t i c es) = ap (λ z. i ∷ z) (all_numbers (n + 1) false es)
@@ -86,11 +88,13 @@ module _ (P : Plain) (type : Ex → Option ObjectType) (m : ℕ) (k : PlainMetho
     ex_numbers n u (unary t o e) = ex_numbers n false e
     ex_numbers n u (binary t o e d) =
         joined (in_ex false (label n e) ++ in_ex false (label (n + size e) d)) _ (numbers (bare e) ++ numbers (bare d))
-        (join (in_ex false (label n e)) (in_ex false (label (n + size e) d)) (numbers (bare e)) (numbers (bare d)) (ex_numbers n false e) (ex_numbers (n + size e) false d)) refl
+        (join (in_ex false (label n e)) (in_ex false (label (n + size e) d)) (numbers (bare e)) (numbers (bare d)) (ex_numbers n false e)
+            (ex_numbers (n + size e) false d)) refl
 
     all_numbers : (n : ℕ) (u : Bool) (es : Exs) → numbers_in (in_all u (label_all n es)) ≡ numbers_all (bare_all es)
     all_numbers n u no_ex = refl
-    all_numbers n u (ex_then e es) = join (in_ex u (label n e)) (in_all u (label_all (n + size e) es)) (numbers (bare e)) (numbers_all (bare_all es)) (ex_numbers n u e) (all_numbers (n + size e) u es)
+    all_numbers n u (ex_then e es) = join (in_ex u (label n e)) (in_all u (label_all (n + size e) es)) (numbers (bare e)) (numbers_all (bare_all es))
+        (ex_numbers n u e) (all_numbers (n + size e) u es)
 
   if_numbers : (n : ℕ) (e : Option Ex) → numbers_in (parts_if P type m k (label_if n e)) ≡ numbers_if (bare_if e)
   if_numbers n None = refl
@@ -104,20 +108,24 @@ module _ (P : Plain) (type : Ex → Option ObjectType) (m : ℕ) (k : PlainMetho
   return_numbers n None = refl
   return_numbers n (Some e) = joined (in_ex false (label n e)) _ (numbers (bare e)) (ex_numbers n false e) refl
 
-  assign_numbers : (n : ℕ) (t : Tag) (b : Target) (e : Ex) → numbers_in (parts_assign P type m k t.place (label_target n b) (label (n + size_target b) e)) ≡ numbers_target (bare_target b) ++ numbers (bare e)
+  assign_numbers : (n : ℕ) (t : Tag) (b : Target) (e : Ex)
+      → numbers_in (parts_assign P type m k t.place (label_target n b) (label (n + size_target b) e)) ≡ numbers_target (bare_target b)
+      ++ numbers (bare e)
   assign_numbers n t (to_local s i) e = joined (in_ex false (label (n + 0) e)) _ (numbers (bare e)) (ex_numbers (n + 0) false e) refl
   assign_numbers n t (to_static s f) e = joined (in_ex false (label (n + 0) e)) _ (numbers (bare e)) (ex_numbers (n + 0) false e) refl
   assign_numbers n t (to_own s f) e = joined (in_ex true (label (n + 0) e)) _ (numbers (bare e)) (ex_numbers (n + 0) true e) refl
   assign_numbers n t (to_field s b x) e =
       let one = in_ex (is_accessed (label n b)) (label n b) in
       let two = in_ex true (label (n + size b) e) in
-      joined (one ++ two) _ (numbers (bare b) ++ numbers (bare e)) (join one two (numbers (bare b)) (numbers (bare e)) (ex_numbers n (is_accessed (label n b)) b) (ex_numbers (n + size b) true e)) refl
+      joined (one ++ two) _ (numbers (bare b) ++ numbers (bare e)) (join one two (numbers (bare b)) (numbers (bare e))
+          (ex_numbers n (is_accessed (label n b)) b) (ex_numbers (n + size b) true e)) refl
   assign_numbers n t (to_element s b i) e =
       let one = in_ex true (label n b) in
       let two = in_ex false (label (n + size b) i) in
       let three = in_ex true (label (n + (size b + size i)) e) in
       joined ((one ++ two) ++ three) _ ((numbers (bare b) ++ numbers (bare i)) ++ numbers (bare e))
-      (join (one ++ two) three (numbers (bare b) ++ numbers (bare i)) (numbers (bare e)) (join one two (numbers (bare b)) (numbers (bare i)) (ex_numbers n true b) (ex_numbers (n + size b) false i)) (ex_numbers (n + (size b + size i)) true e)) refl
+      (join (one ++ two) three (numbers (bare b) ++ numbers (bare i)) (numbers (bare e)) (join one two (numbers (bare b)) (numbers (bare i))
+          (ex_numbers n true b) (ex_numbers (n + size b) false i)) (ex_numbers (n + (size b + size i)) true e)) refl
   assign_numbers n t no_target e = joined (in_ex false (label (n + 0) e)) _ (numbers (bare e)) (ex_numbers (n + 0) false e) refl
 
   mutual
@@ -129,9 +137,15 @@ module _ (P : Plain) (type : Ex → Option ObjectType) (m : ℕ) (k : PlainMetho
     st_numbers n (print t l e) = if_numbers n e
     st_numbers n (choose t xs) = arms_numbers n xs
     st_numbers n (loop t is_while first test step body) =
-        join (((parts_sts P type m k (label_sts n first)) ++ parts_if P type m k (label_if (n + size_sts first) test)) ++ parts_sts P type m k (label_sts (n + size_sts first + size_if test) step)) (parts_sts P type m k (label_sts (n + size_sts first + size_if test + size_sts step) body)) ((numbers_sts (bare_sts first) ++ numbers_if (bare_if test)) ++ numbers_sts (bare_sts step)) (numbers_sts (bare_sts body))
-        (join ((parts_sts P type m k (label_sts n first)) ++ parts_if P type m k (label_if (n + size_sts first) test)) (parts_sts P type m k (label_sts (n + size_sts first + size_if test) step)) (numbers_sts (bare_sts first) ++ numbers_if (bare_if test)) (numbers_sts (bare_sts step))
-        (join (parts_sts P type m k (label_sts n first)) (parts_if P type m k (label_if (n + size_sts first) test)) (numbers_sts (bare_sts first)) (numbers_if (bare_if test)) (sts_numbers n first) (if_numbers (n + size_sts first) test))
+        join (((parts_sts P type m k (label_sts n first)) ++ parts_if P type m k (label_if (n + size_sts first) test)) ++ parts_sts P type m k
+            (label_sts (n + size_sts first + size_if test) step))
+            (parts_sts P type m k (label_sts (n + size_sts first + size_if test + size_sts step) body))
+            ((numbers_sts (bare_sts first) ++ numbers_if (bare_if test)) ++ numbers_sts (bare_sts step)) (numbers_sts (bare_sts body))
+        (join ((parts_sts P type m k (label_sts n first)) ++ parts_if P type m k (label_if (n + size_sts first) test))
+            (parts_sts P type m k (label_sts (n + size_sts first + size_if test) step)) (numbers_sts (bare_sts first) ++ numbers_if (bare_if test))
+            (numbers_sts (bare_sts step))
+        (join (parts_sts P type m k (label_sts n first)) (parts_if P type m k (label_if (n + size_sts first) test)) (numbers_sts (bare_sts first))
+            (numbers_if (bare_if test)) (sts_numbers n first) (if_numbers (n + size_sts first) test))
         (sts_numbers (n + size_sts first + size_if test) step))
         (sts_numbers (n + size_sts first + size_if test + size_sts step) body)
     st_numbers n (return t e) = return_numbers n e
@@ -140,17 +154,22 @@ module _ (P : Plain) (type : Ex → Option ObjectType) (m : ℕ) (k : PlainMetho
 
     sts_numbers : (n : ℕ) (xs : Sts) → numbers_in (parts_sts P type m k (label_sts n xs)) ≡ numbers_sts (bare_sts xs)
     sts_numbers n no_st = refl
-    sts_numbers n (st_then x xs) = join (parts_st P type m k (label_st n x)) (parts_sts P type m k (label_sts (n + size_st x) xs)) (numbers_st (bare_st x)) (numbers_sts (bare_sts xs)) (st_numbers n x) (sts_numbers (n + size_st x) xs)
+    sts_numbers n (st_then x xs) = join (parts_st P type m k (label_st n x)) (parts_sts P type m k (label_sts (n + size_st x) xs))
+        (numbers_st (bare_st x)) (numbers_sts (bare_sts xs)) (st_numbers n x) (sts_numbers (n + size_st x) xs)
 
     arms_numbers : (n : ℕ) (xs : Arms) → numbers_in (parts_arms P type m k (label_arms n xs)) ≡ numbers_arms (bare_arms xs)
     arms_numbers n no_other = refl
     arms_numbers n (otherwise xs) = sts_numbers n xs
     arms_numbers n (arm e xs more) =
-        join (in_ex false (label n e) ++ parts_sts P type m k (label_sts (n + size e) xs)) (parts_arms P type m k (label_arms (n + size e + size_sts xs) more)) (numbers (bare e) ++ numbers_sts (bare_sts xs)) (numbers_arms (bare_arms more))
-        (join (in_ex false (label n e)) (parts_sts P type m k (label_sts (n + size e) xs)) (numbers (bare e)) (numbers_sts (bare_sts xs)) (ex_numbers n false e) (sts_numbers (n + size e) xs))
+        join (in_ex false (label n e) ++ parts_sts P type m k (label_sts (n + size e) xs))
+            (parts_arms P type m k (label_arms (n + size e + size_sts xs) more)) (numbers (bare e) ++ numbers_sts (bare_sts xs))
+            (numbers_arms (bare_arms more))
+        (join (in_ex false (label n e)) (parts_sts P type m k (label_sts (n + size e) xs)) (numbers (bare e)) (numbers_sts (bare_sts xs))
+            (ex_numbers n false e) (sts_numbers (n + size e) xs))
         (arms_numbers (n + size e + size_sts xs) more)
 
-body_numbers : (P : Plain) (type : Ex → Option ObjectType) (m : ℕ) (k : PlainMethod) (b : Option Sts) → numbers_in (parts_body P type m k b) ≡ numbers_body (option_map bare_sts b)
+body_numbers : (P : Plain) (type : Ex → Option ObjectType) (m : ℕ) (k : PlainMethod) (b : Option Sts) → numbers_in (parts_body P type m k b)
+    ≡ numbers_body (option_map bare_sts b)
 body_numbers P type m k None = refl
 body_numbers P type m k (Some xs) = sts_numbers P type m k 0 xs
 
@@ -186,29 +205,43 @@ module _ {A : Type 0} where
       absurd (omega (arith, at_below xs a.0 x a.1, h a.0 (length xs + b.0) x (front xs ys a.0 x a.1) (back xs ys b.0 x b.1)))
 
 -- two parts of a list with one number are one
-one_part : (ps : List Part) (p q : Part) (n : ℕ) → HasNoTwice (numbers_in ps) → Contains ps p → Contains ps q → Contains (part_number p) n → Contains (part_number q) n → p ≡ q
+one_part : (ps : List Part) (p q : Part) (n : ℕ) → HasNoTwice (numbers_in ps) → Contains ps p → Contains ps q → Contains (part_number p) n
+    → Contains (part_number q) n → p ≡ q
 one_part [] p q n h c d e f = absurd (omega (arith, c.1))
 one_part (x ∷ ps) p q n h (zero, lt, a) (zero, mt, b) e f = sym a ∙ b
-one_part (x ∷ ps) p q n h (zero, lt, a) (suc j, mt, b) e f = absurd (twice_apart (part_number x) (numbers_in ps) n h (subst (λ z. Contains (part_number z) n) (sym a) e) (flat_has part_number ps q n (j, omega (arith, mt), b) f))
-one_part (x ∷ ps) p q n h (suc i, lt, a) (zero, mt, b) e f = absurd (twice_apart (part_number x) (numbers_in ps) n h (subst (λ z. Contains (part_number z) n) (sym b) f) (flat_has part_number ps p n (i, omega (arith, lt), a) e))
-one_part (x ∷ ps) p q n h (suc i, lt, a) (suc j, mt, b) e f = one_part ps p q n (twice_back (part_number x) (numbers_in ps) h) (i, omega (arith, lt), a) (j, omega (arith, mt), b) e f
+one_part (x ∷ ps) p q n h (zero, lt, a) (suc j, mt, b) e f =
+    absurd (twice_apart (part_number x) (numbers_in ps) n h (subst (λ z. Contains (part_number z) n) (sym a) e)
+    (flat_has part_number ps q n (j, omega (arith, mt), b) f))
+one_part (x ∷ ps) p q n h (suc i, lt, a) (zero, mt, b) e f =
+    absurd (twice_apart (part_number x) (numbers_in ps) n h (subst (λ z. Contains (part_number z) n) (sym b) f)
+    (flat_has part_number ps p n (i, omega (arith, lt), a) e))
+one_part (x ∷ ps) p q n h (suc i, lt, a) (suc j, mt, b) e f = one_part ps p q n (twice_back (part_number x) (numbers_in ps) h)
+    (i, omega (arith, lt), a) (j, omega (arith, mt), b) e f
 
-methods_has : (ks : List PlainMethod) (m : ℕ) (k : PlainMethod) (n : ℕ) → slice_get ks m ≡ Some k → Contains (numbers_body k.body) n → Contains (numbers_methods ks) n
+methods_has : (ks : List PlainMethod) (m : ℕ) (k : PlainMethod) (n : ℕ) → slice_get ks m ≡ Some k → Contains (numbers_body k.body) n
+    → Contains (numbers_methods ks) n
 methods_has [] m k n e c = absurd (cc)
-methods_has (h ∷ ks) zero k n e c = Contains-append_left (numbers_body h.body) (numbers_methods ks) n (subst (λ z. Contains (numbers_body z.body) n) (sym (same_Some h k e)) c)
+methods_has (h ∷ ks) zero k n e c = Contains-append_left (numbers_body h.body) (numbers_methods ks) n (subst (λ z. Contains (numbers_body z.body) n)
+    (sym (same_Some h k e)) c)
 methods_has (h ∷ ks) (suc m) k n e c = Contains-append_right (numbers_body h.body) (numbers_methods ks) n (methods_has ks m k n e c)
 
-pub method_twice : (ks : List PlainMethod) (m : ℕ) (k : PlainMethod) → HasNoTwice (numbers_methods ks) → slice_get ks m ≡ Some k → HasNoTwice (numbers_body k.body)
+pub method_twice : (ks : List PlainMethod) (m : ℕ) (k : PlainMethod) → HasNoTwice (numbers_methods ks) → slice_get ks m ≡ Some k
+    → HasNoTwice (numbers_body k.body)
 method_twice [] m k h e = absurd (cc)
 method_twice (x ∷ ks) zero k h e = subst (λ z. HasNoTwice (numbers_body z.body)) (same_Some x k e) (twice_front (numbers_body x.body) (numbers_methods ks) h)
 method_twice (x ∷ ks) (suc m) k h e = method_twice ks m k (twice_back (numbers_body x.body) (numbers_methods ks) h) e
 
 -- two methods with one number are one
-pub one_method : (ks : List PlainMethod) (i j : ℕ) (h k : PlainMethod) (n : ℕ) → HasNoTwice (numbers_methods ks) → slice_get ks i ≡ Some h → slice_get ks j ≡ Some k → Contains (numbers_body h.body) n → Contains (numbers_body k.body) n → i ≡ j
+pub one_method : (ks : List PlainMethod) (i j : ℕ) (h k : PlainMethod) (n : ℕ) → HasNoTwice (numbers_methods ks) → slice_get ks i ≡ Some h
+    → slice_get ks j ≡ Some k → Contains (numbers_body h.body) n → Contains (numbers_body k.body) n → i ≡ j
 one_method [] i j h k n t e d a b = absurd (cc)
 one_method (x ∷ ks) zero zero h k n t e d a b = refl
-one_method (x ∷ ks) zero (suc j) h k n t e d a b = absurd (twice_apart (numbers_body x.body) (numbers_methods ks) n t (subst (λ z. Contains (numbers_body z.body) n) (sym (same_Some x h e)) a) (methods_has ks j k n d b))
-one_method (x ∷ ks) (suc i) zero h k n t e d a b = absurd (twice_apart (numbers_body x.body) (numbers_methods ks) n t (subst (λ z. Contains (numbers_body z.body) n) (sym (same_Some x k d)) b) (methods_has ks i h n e a))
+one_method (x ∷ ks) zero (suc j) h k n t e d a b =
+    absurd (twice_apart (numbers_body x.body) (numbers_methods ks) n t (subst (λ z. Contains (numbers_body z.body) n) (sym (same_Some x h e)) a)
+    (methods_has ks j k n d b))
+one_method (x ∷ ks) (suc i) zero h k n t e d a b =
+    absurd (twice_apart (numbers_body x.body) (numbers_methods ks) n t (subst (λ z. Contains (numbers_body z.body) n) (sym (same_Some x k d)) b)
+    (methods_has ks i h n e a))
 one_method (x ∷ ks) (suc i) (suc j) h k n t e d a b = ap suc (one_method ks i j h k n (twice_back (numbers_body x.body) (numbers_methods ks) t) e d a b)
 
 -- two parts of a program's bodies with one number are one
@@ -221,7 +254,8 @@ module _ (P Q : Plain) (placed : IsPlaced P Q) (formed : IsFormed P) where
 
   body_has : (p : Part) (n : ℕ) (a : IsPart p) → Contains (part_number p) n → Contains (numbers_body (placed.methods a.number a.method a.stands).plain.body) n
   body_has p n a c =
-      subst (λ z. Contains z n) (method_numbers P a.number a.method ∙ ap numbers_body (placed.methods a.number a.method a.stands).body) (flat_has part_number (parts_of P a.number a.method) p n a.part c)
+      subst (λ z. Contains z n) (method_numbers P a.number a.method ∙ ap numbers_body (placed.methods a.number a.method a.stands).body)
+          (flat_has part_number (parts_of P a.number a.method) p n a.part c)
 
   pub number_apart : (p q : Part) (n : ℕ) → IsPart p → IsPart q → Contains (part_number p) n → Contains (part_number q) n → p ≡ q
   number_apart p q n a b c d =
@@ -230,5 +264,6 @@ module _ (P Q : Plain) (placed : IsPlaced P Q) (formed : IsFormed P) where
       let e = one_method P.methods a.number b.number x.plain y.plain n formed.numbered x.stands y.stands (body_has p n a c) (body_has q n b d) in
       let g = same_Some a.method b.method (sym a.stands ∙ ap (slice_get Q.methods) e ∙ b.stands) in
       one_part (parts_of P a.number a.method) p q n
-      (subst (λ z. HasNoTwice z) (sym (method_numbers P a.number a.method ∙ ap numbers_body x.body)) (method_twice P.methods a.number x.plain formed.numbered x.stands))
+      (subst (λ z. HasNoTwice z) (sym (method_numbers P a.number a.method ∙ ap numbers_body x.body))
+          (method_twice P.methods a.number x.plain formed.numbered x.stands))
       a.part (subst (λ z. Contains (parts_of P a.number z) q) (sym g) (subst (λ z. Contains (parts_of P z b.method) q) (sym e) b.part)) c d

@@ -93,13 +93,15 @@ variable_none (Some s) false m i = refl
 abbrev pub param_object : Plain → ℕ → ℕ → Option ObjectType
 param_object P s i = object_if (option_and_then (λ z. slice_get z.params i) (slice_get P.slots s))
 
-pub front_type : (xs ys : List PlainLocal) (i : ℕ) → i < length xs → object_if (option_map (λ v. v.ty) (slice_get (xs ++ ys) i)) ≡ object_if (slice_get (types_of xs) i)
+pub front_type : (xs ys : List PlainLocal) (i : ℕ) → i < length xs → object_if (option_map (λ v. v.ty) (slice_get (xs ++ ys) i))
+    ≡ object_if (slice_get (types_of xs) i)
 front_type [] ys i h = absurd (omega (arith, h))
 front_type (x ∷ xs) ys zero h = refl
 front_type (x ∷ xs) ys (suc i) h = front_type xs ys i (omega (arith, h))
 
 module _ (P Q : Plain) (placed : IsPlaced P Q) (formed : IsFormed P) (typed : IsTyped P) where
-  numberless : {R : Type 0} (x : Row) (i : RowItem) (m : ℕ) (k : PlainMethod) (p : Part) (e : slice_get Q.methods m ≡ Some k) (c : Contains (parts_of P m k) p) → IsOwn x p → x.item ≡ i → number_in (Some i) ≡ [] → R
+  numberless : {R : Type 0} (x : Row) (i : RowItem) (m : ℕ) (k : PlainMethod) (p : Part) (e : slice_get Q.methods m ≡ Some k)
+      (c : Contains (parts_of P m k) p) → IsOwn x p → x.item ≡ i → number_in (Some i) ≡ [] → R
   numberless x i m k p e c o h n =
       let z = numbered_own p o.operand (part_numbered P Q placed formed typed p (record { number = m; method = k; stands = e; part = c })) o.own in
       absurd (let g : [] ≡ z.0 ∷ [] = sym (ap number_in (o.row_is ∙ ap Some h) ∙ n) ∙ z.1 in cc)
@@ -115,7 +117,8 @@ module _ (P Q : Plain) (placed : IsPlaced P Q) (formed : IsFormed P) (typed : Is
           ap (field_object P) (sym s) ∙ ap (λ o. object_if (option_map (λ k. k.ty) o)) z.stands ∙ ap object_of z.type ∙ u
       go (for_this m k d b s i u) = absurd (let g = sym (ap field_number i) ∙ ap field_number h in cc)
       go (for_result m k d i u) = absurd (let g = sym (result_fieldless k.slot m) ∙ sym (ap field_number i) ∙ ap field_number h in cc)
-      go (for_variable m k j v d b i u) = absurd (let g = sym (variable_fieldless k.slot (nat_lt j (length k.params)) m j) ∙ sym (ap field_number i) ∙ ap field_number h in cc)
+      go (for_variable m k j v d b i u) = absurd (let g = sym (variable_fieldless k.slot (nat_lt j (length k.params)) m j) ∙ sym (ap field_number i)
+          ∙ ap field_number h in cc)
       go (for_part m k p d c o) = numberless x (row.Field f) m k p d c o h refl
 
   -- the row of a slot's return has the slot's result
@@ -130,7 +133,8 @@ module _ (P Q : Plain) (placed : IsPlaced P Q) (formed : IsFormed P) (typed : Is
           ap (λ o. object_if (option_and_then (λ k. k.result) o)) y.stands ∙ ap object_if (sym y.result ∙ z.result) ∙ u
       go (for_field g k d i u) = absurd (let g = sym (ap return_number i) ∙ ap return_number h in cc)
       go (for_this m k d b s i u) = absurd (let g = sym (ap return_number i) ∙ ap return_number h in cc)
-      go (for_variable m k j v d b i u) = absurd (let g = sym (variable_returnless k.slot (nat_lt j (length k.params)) m j) ∙ sym (ap return_number i) ∙ ap return_number h in cc)
+      go (for_variable m k j v d b i u) = absurd (let g = sym (variable_returnless k.slot (nat_lt j (length k.params)) m j) ∙ sym (ap return_number i)
+          ∙ ap return_number h in cc)
       go (for_part m k p d c o) = numberless x (row.Return s) m k p d c o h refl
 
   -- the row of a static method's result has its type
@@ -144,7 +148,8 @@ module _ (P Q : Plain) (placed : IsPlaced P Q) (formed : IsFormed P) (typed : Is
           ap (method_object P) (sym s) ∙ ap (λ o. object_if (option_and_then (λ k. k.result) o)) z.stands ∙ ap object_if z.result ∙ u
       go (for_field g k d i u) = absurd (let g = sym (ap result_number i) ∙ ap result_number h in cc)
       go (for_this n k d b s i u) = absurd (let g = sym (ap result_number i) ∙ ap result_number h in cc)
-      go (for_variable n k j v d b i u) = absurd (let g = sym (variable_resultless k.slot (nat_lt j (length k.params)) n j) ∙ sym (ap result_number i) ∙ ap result_number h in cc)
+      go (for_variable n k j v d b i u) = absurd (let g = sym (variable_resultless k.slot (nat_lt j (length k.params)) n j) ∙ sym (ap result_number i)
+          ∙ ap result_number h in cc)
       go (for_part n k p d c o) = numberless x (row.Result m) n k p d c o h refl
 
   -- a super call's result is that of its slot
@@ -155,20 +160,24 @@ module _ (P Q : Plain) (placed : IsPlaced P Q) (formed : IsFormed P) (typed : Is
       go None h = absurd (let g = sym (ap (option_and_then (λ k. k.slot)) h) ∙ e in cc)
       go (Some k) h =
           let y = ((formed.methods d k h).slots s).0 (sym (ap (option_and_then (λ k. k.slot)) h) ∙ e) in
-          ap (λ o. object_if (option_and_then (λ k. k.result) o)) h ∙ ap object_if y.result ∙ sym (ap (λ o. object_if (option_and_then (λ k. k.result) o)) y.stands)
+          ap (λ o. object_if (option_and_then (λ k. k.result) o)) h ∙ ap object_if y.result
+              ∙ sym (ap (λ o. object_if (option_and_then (λ k. k.result) o)) y.stands)
 
   -- the row of a parameter or local has its type
   same_variable : (k l : PlainMethod) (i j : ℕ) → k ≡ l → i ≡ j → variable_object k i ≡ variable_object l j
   same_variable k l i j e d = ap (λ z. variable_object z i) e ∙ ap (variable_object l) d
 
   -- of a parameter of the slot
-  pub slot_param : (m i s : ℕ) (k : PlainMethod) → slice_get Q.methods m ≡ Some k → k.slot ≡ Some s → i < length k.params → variable_object k i ≡ param_object P s i
+  pub slot_param : (m i s : ℕ) (k : PlainMethod) → slice_get Q.methods m ≡ Some k → k.slot ≡ Some s → i < length k.params
+      → variable_object k i ≡ param_object P s i
   slot_param m i s k e a h =
       let x = placed.methods m k e in
       let u = ((formed.methods m x.plain x.stands).slots s).0 (x.slot ∙ a) in
-      front_type k.params k.locals i h ∙ ap (λ z. object_if (slice_get z i)) (sym x.params ∙ u.params) ∙ sym (ap (λ o. object_if (option_and_then (λ z. slice_get z.params i) o)) u.stands)
+      front_type k.params k.locals i h ∙ ap (λ z. object_if (slice_get z i)) (sym x.params ∙ u.params)
+          ∙ sym (ap (λ o. object_if (option_and_then (λ z. slice_get z.params i) o)) u.stands)
 
-  variable_cases : (m n i j : ℕ) (k l : PlainMethod) (a b : Option ℕ) (u v : Bool) → slice_get Q.methods m ≡ Some k → slice_get Q.methods n ≡ Some l → k.slot ≡ a → l.slot ≡ b → nat_lt i (length k.params) ≡ u → nat_lt j (length l.params) ≡ v
+  variable_cases : (m n i j : ℕ) (k l : PlainMethod) (a b : Option ℕ) (u v : Bool) → slice_get Q.methods m ≡ Some k → slice_get Q.methods n ≡ Some l
+      → k.slot ≡ a → l.slot ≡ b → nat_lt i (length k.params) ≡ u → nat_lt j (length l.params) ≡ v
       → variable_in a u m i ≡ variable_in b v n j → variable_object k i ≡ variable_object l j
   variable_cases m n i j k l None None u v e d a b p q h =
       let s = same_Some _ _ (ap local_number h) in
@@ -185,19 +194,22 @@ module _ (P Q : Plain) (placed : IsPlaced P Q) (formed : IsFormed P) (typed : Is
   variable_cases m n i j k l (Some c) (Some f) true true e d a b p q h =
       let s = same_Some _ _ (ap param_number h) in
       let y : i ≡ j = ap (λ z. z.1) s in
-      slot_param m i c k e a (grind (arith, p)) ∙ ap (λ z. param_object P z i) (ap (λ z. z.0) s) ∙ ap (param_object P f) y ∙ sym (slot_param n j f l d b (grind (arith, q)))
+      slot_param m i c k e a (grind (arith, p)) ∙ ap (λ z. param_object P z i) (ap (λ z. z.0) s) ∙ ap (param_object P f) y
+          ∙ sym (slot_param n j f l d b (grind (arith, q)))
   variable_cases m n i j k l (Some c) None true v e d a b p q h = absurd (let g = ap param_number h in cc)
   variable_cases m n i j k l None (Some c) u true e d a b p q h = absurd (let g = ap local_number h in cc)
   variable_cases m n i j k l (Some c) (Some f) true false e d a b p q h = absurd (let g = ap param_number h in cc)
   variable_cases m n i j k l (Some c) (Some f) false true e d a b p q h = absurd (let g = ap local_number h in cc)
 
-  pub variable_type : (m i : ℕ) (k : PlainMethod) (r : ℕ) (x : Row) → slice_get Q.methods m ≡ Some k → slice_get (rows_of P Q) r ≡ Some x → x.item ≡ variable_row m k i → variable_object k i ≡ Some x.ty
+  pub variable_type : (m i : ℕ) (k : PlainMethod) (r : ℕ) (x : Row) → slice_get Q.methods m ≡ Some k → slice_get (rows_of P Q) r ≡ Some x
+      → x.item ≡ variable_row m k i → variable_object k i ≡ Some x.ty
   variable_type m i k r x b e h = go (row_types P Q r x e)
     where
       go : Types P Q x → variable_object k i ≡ Some x.ty
       go (for_variable n l j v d w y u) =
           sym (variable_cases n m j i l k l.slot k.slot _ _ d b refl refl refl refl (sym y ∙ h)) ∙ ap (λ o. object_if (option_map (λ v. v.ty) o)) w ∙ u
-      go (for_result n l d y u) = absurd (let g = sym (result_variableless l.slot n) ∙ ap is_variable (sym y ∙ h) ∙ variable_is k.slot (nat_lt i (length k.params)) m i in false≢true g)
+      go (for_result n l d y u) = absurd (let g = sym (result_variableless l.slot n) ∙ ap is_variable (sym y ∙ h)
+          ∙ variable_is k.slot (nat_lt i (length k.params)) m i in false≢true g)
       go (for_field g l d y u) = absurd (let g = ap is_variable (sym y ∙ h) ∙ variable_is k.slot (nat_lt i (length k.params)) m i in false≢true g)
       go (for_this n l d c s y u) = absurd (let g = ap is_variable (sym y ∙ h) ∙ variable_is k.slot (nat_lt i (length k.params)) m i in false≢true g)
       go (for_part n l p d c o) = numberless x (variable_row m k i) n l p d c o h (variable_none k.slot (nat_lt i (length k.params)) m i)

@@ -32,7 +32,8 @@ use Rattle.facts_order.proofs.Contained.{members_below, arrays_free}
 use Rattle.facts_order.proofs.Tests.{tests_in_order}
 use Rattle.facts_order.proofs.Range.{in_range as all_in_range}
 
-pub in_order : (p : Program) → IsFormed (program_of no_place p) → IsTyped (program_of no_place p) → (F : Facts) → IsFactsOf (program_of no_place p) (program_of at_place p) F → AreNamesOf (program_of at_place p) F → InOrder F
+pub in_order : (p : Program) → IsFormed (program_of no_place p) → IsTyped (program_of no_place p) → (F : Facts)
+    → IsFactsOf (program_of no_place p) (program_of at_place p) F → AreNamesOf (program_of at_place p) F → InOrder F
 in_order p formed typed F facts named =
     let P : Plain = program_of no_place p in
     let Q : Plain = program_of at_place p in
@@ -74,7 +75,8 @@ module _ (P Q : Plain) (pairs : IsPlaced P Q) (formed : IsFormed P) (F : Facts) 
   classes_counted = ⊎_elim
       (λ h. let z = below_at F.classes.items 4294967294 h in
       let k = class_at P Q pairs F facts 4294967294 z.0 z.1 in
-      absurd (omega (arith, at_below P.classes 4294967294 k.plain k.stands, formed.counted.classes))) (λ h. omega (arith, h)) (cases_lt 4294967294 (length F.classes.items))
+      absurd (omega (arith, at_below P.classes 4294967294 k.plain k.stands, formed.counted.classes))) (λ h. omega (arith, h))
+          (cases_lt 4294967294 (length F.classes.items))
 
   are_counted : too_many P Q ≡ None → length F.calls.items < 4294967295 → length F.tests.items < 4294967295 → AreCounted F
   are_counted few calls tests =
@@ -93,7 +95,8 @@ module _ (P Q : Plain) (pairs : IsPlaced P Q) (formed : IsFormed P) (F : Facts) 
         tests = tests;
       }
 
-pub in_range : (p : Program) → IsFormed (program_of no_place p) → IsTyped (program_of no_place p) → (F : Facts) → IsFactsOf (program_of no_place p) (program_of at_place p) F → too_many (program_of no_place p) (program_of at_place p) ≡ None
+pub in_range : (p : Program) → IsFormed (program_of no_place p) → IsTyped (program_of no_place p) → (F : Facts)
+    → IsFactsOf (program_of no_place p) (program_of at_place p) F → too_many (program_of no_place p) (program_of at_place p) ≡ None
     → length F.calls.items < 4294967295 → length F.tests.items < 4294967295 → InRange F
 in_range p formed typed F facts few calls tests =
     let P : Plain = program_of no_place p in

@@ -69,7 +69,8 @@ module _ (P Q : Plain) (placed : IsPlaced P Q) (formed : IsFormed P) (typed : Is
   pub apart_free : (r : ℕ) (i : RowItem) → IsRowAt r i → is_apart i ≡ true → IsFree r
   apart_free r i x e = let z = item_free i e in (this_as r i x ∙ z.0, object_as r i x ∙ z.1)
 
-  made_object : (n r : ℕ) (o : Option ℕ) (x : IsRowAt r (row.New n)) → row_number P Q (row.New n) ≡ Some r → site_number P Q n ≡ o → 0 < x.here.ty.dim → is_object_site (option_map (λ s. record { 0 = s }) o) ≡ false
+  made_object : (n r : ℕ) (o : Option ℕ) (x : IsRowAt r (row.New n)) → row_number P Q (row.New n) ≡ Some r → site_number P Q n ≡ o → 0 < x.here.ty.dim
+      → is_object_site (option_map (λ s. record { 0 = s }) o) ≡ false
   made_object n r None x e d h = refl
   made_object n r (Some s) x e d h =
       ne_eqb (site_info_at F s).dim 0 (λ z. absurd (omega (arith, h, z, site_dim P Q placed formed typed F facts n r s x.here x.stands x.item e d)))
@@ -77,7 +78,8 @@ module _ (P Q : Plain) (placed : IsPlaced P Q) (formed : IsFormed P) (typed : Is
   -- so is one of brackets
   pub deep_free : (r : ℕ) (i : RowItem) (x : IsRowAt r i) → row_number P Q i ≡ Some r → 0 < x.here.ty.dim → IsFree r
   unfolding numbers
-  deep_free r (row.This m) x e h = absurd (omega (arith, h, ap (λ t. t.dim) (this_method P Q placed formed typed F facts m x.here (row_types P Q r x.here x.stands) x.item).type))
+  deep_free r (row.This m) x e h =
+      absurd (omega (arith, h, ap (λ t. t.dim) (this_method P Q placed formed typed F facts m x.here (row_types P Q r x.here x.stands) x.item).type))
   deep_free r (row.New n) x e h = (this_as r (row.New n) x, object_as r (row.New n) x ∙ made_object n r (site_number P Q n) x e refl h)
   deep_free r i x e h = apart_free r i x refl
 
@@ -102,7 +104,8 @@ module _ (P Q : Plain) (placed : IsPlaced P Q) (formed : IsFormed P) (typed : Is
         let j = row_item P Q o.row r e in
         let x = row_there j.0 r j.2 in
         let c = g.classed j.0 r x.here j.1 x.stands x.item in
-        record { item = j.0; row_is = j.1; number = j.2; at = x; type = c.type; stated = c.stated; class = class_of_row r j.0 x ∙ ap (λ z. z.0) c.class; dim = c.dim }
+        record { item = j.0; row_is = j.1; number = j.2; at = x; type = c.type; stated = c.stated; class = class_of_row r j.0 x
+            ∙ ap (λ z. z.0) c.class; dim = c.dim }
 
     -- how the row of an operand stands
     pub row_standing : (o : Operand) (r : ℕ) → IsGood o → (h : HasRow o r) → Standing o h.at.here
@@ -110,19 +113,23 @@ module _ (P Q : Plain) (placed : IsPlaced P Q) (formed : IsFormed P) (typed : Is
     row_standing o r g h = g.own h.item r h.at.here h.row_is h.at.stands h.at.item
 
     -- what goes into a type has a row at or below it
-    pub value_below : (o : Operand) (t : Option ObjectType) (u : ObjectType) (r q : ℕ) → IsValue P Q placed formed typed F facts m k stands o t → row_at (numbers P Q) o ≡ Some r → t ≡ Some u → row_class F q ≡ u.class.0 → IsBelow F (row_class F r) (row_class F q)
+    pub value_below : (o : Operand) (t : Option ObjectType) (u : ObjectType) (r q : ℕ) → IsValue P Q placed formed typed F facts m k stands o t
+        → row_at (numbers P Q) o ≡ Some r → t ≡ Some u → row_class F q ≡ u.class.0 → IsBelow F (row_class F r) (row_class F q)
     value_below o t u r q v e d c =
         let h = row_of_operand o r v.good e in
-        subst (λ z. IsBelow F z (row_class F q)) (sym h.class) (subst (λ z. IsBelow F h.type.class.0 z) (sym c) (subclass_below P Q placed F facts (v.under h.type u h.stated d).class))
+        subst (λ z. IsBelow F z (row_class F q)) (sym h.class) (subst (λ z. IsBelow F h.type.class.0 z) (sym c)
+            (subclass_below P Q placed F facts (v.under h.type u h.stated d).class))
 
     -- a creation of an object has the row of an object site
     pub creation_object : (o : Operand) (r n : ℕ) → IsGood o → (h : HasRow o r) → o.created ≡ Some n → h.type.dim ≡ 0 → is_object_row F r ≡ true
     unfolding numbers
     creation_object o r n g h c d =
         let w = g.created n c in
-        let t = own_typed P Q placed formed typed (a_creation w.place w.used o) o h.item r h.at.here (record { number = m; method = k; stands = stands; part = w.part }) refl h.row_is h.at.stands h.at.item in
+        let t = own_typed P Q placed formed typed (a_creation w.place w.used o) o h.item r h.at.here
+            (record { number = m; method = k; stands = stands; part = w.part }) refl h.row_is h.at.stands h.at.item in
         let i : h.item ≡ row.New n = same_Some _ _ (sym h.row_is ∙ w.row_is) in
         let a = ap (row_number P Q) (sym i) ∙ h.number in
         let s = made_site P Q placed formed typed F facts m k w.place w.used o n r h.type stands w.part c h.stated w.row_is a in
         object_as r h.item h.at ∙ ap is_object_item i ∙ ap (λ q. is_object_site (option_map (λ s. record { 0 = s }) q)) s.1
-        ∙ eq-eqb (site_info_at F s.0).dim 0 (site_dim P Q placed formed typed F facts n r s.0 h.at.here h.at.stands (h.at.item ∙ i) a s.1 ∙ ap (λ y. y.dim) (same_Some _ _ (sym t ∙ h.stated)) ∙ d)
+        ∙ eq-eqb (site_info_at F s.0).dim 0 (site_dim P Q placed formed typed F facts n r s.0 h.at.here h.at.stands (h.at.item ∙ i) a s.1
+            ∙ ap (λ y. y.dim) (same_Some _ _ (sym t ∙ h.stated)) ∙ d)

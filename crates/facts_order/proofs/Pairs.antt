@@ -60,7 +60,8 @@ types_seen : (xs : List Local) → types_of (map (local_seen no_place) xs) ≡ t
 types_seen [] = refl
 types_seen (x ∷ xs) = ap (λ z. x.ty ∷ z) (types_seen xs)
 
-names_seen : (xs ys : List Local) → map (λ v. v.name) (map (local_seen no_place) xs) ++ map (λ v. v.name) (map (local_seen no_place) ys) ≡ map (λ v. v.name) (map (local_seen at_place) xs) ++ map (λ v. v.name) (map (local_seen at_place) ys)
+names_seen : (xs ys : List Local) → map (λ v. v.name) (map (local_seen no_place) xs) ++ map (λ v. v.name) (map (local_seen no_place) ys)
+    ≡ map (λ v. v.name) (map (local_seen at_place) xs) ++ map (λ v. v.name) (map (local_seen at_place) ys)
 names_seen [] [] = refl
 names_seen [] (y ∷ ys) = ap (λ z. y.name ∷ z) (names_seen [] ys)
 names_seen (x ∷ xs) ys = ap (λ z. x.name ∷ z) (names_seen xs ys)
@@ -127,8 +128,11 @@ module _ (p : Program) where
     fields = field_pair;
     methods = method_pair;
     classes = class_pair;
-    placed_method = λ m h e. let z = map_at (method_seen no_place) p.methods.items m h e in (method_seen at_place z.0, at_map (method_seen at_place) p.methods.items m z.0 z.1);
-    placed_field = λ f h e. let z = map_at (field_seen no_place) p.fields.items f h e in (field_seen at_place z.0, at_map (field_seen at_place) p.fields.items f z.0 z.1);
-    placed_class = λ c h e. let z = map_at (class_seen no_place) p.classes.items c h e in (class_seen at_place z.0, at_map (class_seen at_place) p.classes.items c z.0 z.1);
+    placed_method = λ m h e. let z = map_at (method_seen no_place) p.methods.items m h e in (method_seen at_place z.0, at_map (method_seen at_place)
+        p.methods.items m z.0 z.1);
+    placed_field = λ f h e. let z = map_at (field_seen no_place) p.fields.items f h e in (field_seen at_place z.0, at_map (field_seen at_place)
+        p.fields.items f z.0 z.1);
+    placed_class = λ c h e. let z = map_at (class_seen no_place) p.classes.items c h e in (class_seen at_place z.0, at_map (class_seen at_place)
+        p.classes.items c z.0 z.1);
     slots = refl;
   }

@@ -43,7 +43,8 @@ pub record IsGiven (a : PointAt) (p : Part) : Type 0 where
   pub row_is : operand.row ≡ Some a.row
   pub type : (t : ObjectType) × (operand.ty ≡ Some t)
 
-own_from : (p : Place) (i : Option PointItem) (r : Option RowItem) (t : Option ObjectType) (a : PointAt) → Contains (own_point p i r t) a → (i ≡ Some a.item) × (r ≡ Some a.row) × ((y : ObjectType) × (t ≡ Some y))
+own_from : (p : Place) (i : Option PointItem) (r : Option RowItem) (t : Option ObjectType) (a : PointAt) → Contains (own_point p i r t) a
+    → (i ≡ Some a.item) × (r ≡ Some a.row) × ((y : ObjectType) × (t ≡ Some y))
 own_from p (Some i) (Some r) (Some t) a c = let e = one_from _ a c in (ap (λ z. Some z.item) e, ap (λ z. Some z.row) e, (t, refl))
 own_from p (Some i) (Some r) None a c = absurd (omega (arith, c.1))
 own_from p (Some i) None t a c = absurd (omega (arith, c.1))
@@ -99,22 +100,28 @@ module _ (P Q : Plain) where
         ⊎_elim
         (λ c. ⊎_elim
         (λ c. ⊎_elim
-        (λ c. ⊎_elim (λ c. let d = one_from _ a (when_from (not k.is_static) _ a c).1 in a_this m k e (sym (ap (λ z. z.item) d)) (sym (ap (λ z. z.row) d))) (λ c. let z = each_from_zero (variable_points m k) k.params a c in variable_follows z.0 z.1 a z.3) (Contains-append_cases this_points param_points a c))
+        (λ c. ⊎_elim (λ c. let d = one_from _ a (when_from (not k.is_static) _ a c).1 in a_this m k e (sym (ap (λ z. z.item) d))
+            (sym (ap (λ z. z.row) d))) (λ c. let z = each_from_zero (variable_points m k) k.params a c in variable_follows z.0 z.1 a z.3)
+            (Contains-append_cases this_points param_points a c))
         (λ c. let z = each_from (variable_points m k) (length k.params) k.locals a c in variable_follows z.1 z.2 a z.5)
         (Contains-append_cases (this_points ++ param_points) local_points a c))
         (λ c. let d = one_from _ a c in a_result m k e (sym (ap (λ z. z.item) d)) (sym (ap (λ z. z.row) d)))
         (Contains-append_cases ((this_points ++ param_points) ++ local_points) result_points a c))
-        (λ c. let z = flat_from form_points (parts_of P m k) a (place_from (λ p. p.place.at) (flat_map form_points (parts_of P m k)) a c) in a_form m k z.0 e z.1 (form_from z.0 a z.2))
+        (λ c. let z = flat_from form_points (parts_of P m k) a (place_from (λ p. p.place.at) (flat_map form_points (parts_of P m k)) a c) in a_form m
+            k z.0 e z.1 (form_from z.0 a z.2))
         (Contains-append_cases (((this_points ++ param_points) ++ local_points) ++ result_points) part_points a c)
 
     this_at : k.is_static ≡ false → Contains (method_points P Q m k) (record { item = point.This m; place = k.tag.place; row = row.This m })
     this_at s =
         let a : PointAt = record { item = point.This m; place = k.tag.place; row = row.This m } in
-        Contains-append_left (((this_points ++ param_points) ++ local_points) ++ result_points) part_points a (Contains-append_left ((this_points ++ param_points) ++ local_points) result_points a (Contains-append_left (this_points ++ param_points) local_points a (Contains-append_left this_points param_points a
+        Contains-append_left (((this_points ++ param_points) ++ local_points) ++ result_points) part_points a
+            (Contains-append_left ((this_points ++ param_points) ++ local_points) result_points a
+            (Contains-append_left (this_points ++ param_points) local_points a (Contains-append_left this_points param_points a
         (when_has (not k.is_static) _ a (rw s refl) (first a [])))))
 
     part_at : (p : Part) (a : PointAt) → Contains (parts_of P m k) p → Contains (form_points p) a → Contains (method_points P Q m k) a
-    part_at p a c d = Contains-append_right (((this_points ++ param_points) ++ local_points) ++ result_points) part_points a (place_has (λ p. p.place.at) (flat_map form_points (parts_of P m k)) a (flat_has form_points (parts_of P m k) p a c d))
+    part_at p a c d = Contains-append_right (((this_points ++ param_points) ++ local_points) ++ result_points) part_points a
+        (place_has (λ p. p.place.at) (flat_map form_points (parts_of P m k)) a (flat_has form_points (parts_of P m k) p a c d))
 
   point_in : (a : PointAt) (r : Option ℕ) (x : Point) → Contains (point_with a r) x → (a.item ≡ x.item) × (r ≡ Some x.row)
   point_in a (Some r) x c = let e = one_from _ x c in (ap (λ z. z.item) e, ap (λ z. Some z.row) e)
@@ -152,22 +159,28 @@ module _ (P Q : Plain) where
       (Contains-append_cases (flat_map (listed (row_number P Q)) statics) (flat_map in_outline outlines) x (point_raw P Q q x e))
 
   -- what a body's outline has is a point, where it has a row
-  in_body : (m : ℕ) (k : PlainMethod) → slice_get Q.methods m ≡ Some k → is_some k.body ≡ true → (a : PointAt) → Contains (method_points P Q m k) a → (r : ℕ) → row_number P Q a.row ≡ Some r → (q : ℕ) × (point_number P Q a.item ≡ Some q)
+  in_body : (m : ℕ) (k : PlainMethod) → slice_get Q.methods m ≡ Some k → is_some k.body ≡ true → (a : PointAt) → Contains (method_points P Q m k) a
+      → (r : ℕ) → row_number P Q a.row ≡ Some r → (q : ℕ) × (point_number P Q a.item ≡ Some q)
   in_body m k e b a c r n =
       let x : Point = record { item = a.item; row = r } in
       let o : Outline = record { place = k.tag.place; points = method_points P Q m k } in
       point_there P Q x (Contains-append_right (flat_map (listed (row_number P Q)) statics) (flat_map in_outline outlines) x
-      (flat_has in_outline outlines o x (place_has (λ o. o.place.at) (each (outline_if P Q) 0 Q.methods) o (each_has (outline_if P Q) 0 Q.methods m k o e m (omega arith) (when_has (is_some k.body) _ o b (first o []))))
+      (flat_has in_outline outlines o x (place_has (λ o. o.place.at) (each (outline_if P Q) 0 Q.methods) o
+          (each_has (outline_if P Q) 0 Q.methods m k o e m (omega arith) (when_has (is_some k.body) _ o b (first o []))))
       (flat_has (listed (row_number P Q)) (method_points P Q m k) a x c (subst (λ v. Contains (point_with a v) x) (sym n) (first x [])))))
 
-  pub this_point : (m : ℕ) (k : PlainMethod) → slice_get Q.methods m ≡ Some k → is_some k.body ≡ true → k.is_static ≡ false → (r : ℕ) → row_number P Q (row.This m) ≡ Some r → (q : ℕ) × (point_number P Q (point.This m) ≡ Some q)
+  pub this_point : (m : ℕ) (k : PlainMethod) → slice_get Q.methods m ≡ Some k → is_some k.body ≡ true → k.is_static ≡ false → (r : ℕ)
+      → row_number P Q (row.This m) ≡ Some r → (q : ℕ) × (point_number P Q (point.This m) ≡ Some q)
   this_point m k e b s r n = in_body m k e b (record { item = point.This m; place = k.tag.place; row = row.This m }) (this_at m k e s) r n
 
-  pub part_point : (m : ℕ) (k : PlainMethod) → slice_get Q.methods m ≡ Some k → is_some k.body ≡ true → (p : Part) (a : PointAt) → Contains (parts_of P m k) p → Contains (form_points p) a → (r : ℕ) → row_number P Q a.row ≡ Some r → (q : ℕ) × (point_number P Q a.item ≡ Some q)
+  pub part_point : (m : ℕ) (k : PlainMethod) → slice_get Q.methods m ≡ Some k → is_some k.body ≡ true → (p : Part) (a : PointAt)
+      → Contains (parts_of P m k) p → Contains (form_points p) a → (r : ℕ) → row_number P Q a.row ≡ Some r
+      → (q : ℕ) × (point_number P Q a.item ≡ Some q)
   part_point m k e b p a c d r n = in_body m k e b a (part_at m k e p a c d) r n
 
   module _ (F : Facts) (facts : IsFactsOf P Q F) where
-    pub item_point : (i : PointItem) (q : ℕ) → point_number P Q i ≡ Some q → (x : Point) × (slice_get (points_of P Q) q ≡ Some x) × (x.item ≡ i) × (point_row F q ≡ x.row) × (q < length F.points.items)
+    pub item_point : (i : PointItem) (q : ℕ) → point_number P Q i ≡ Some q → (x : Point) × (slice_get (points_of P Q) q ≡ Some x) × (x.item ≡ i)
+        × (point_row F q ≡ x.row) × (q < length F.points.items)
     item_point i q e =
         let z = point_at P Q i q e in
         let a = subst (λ y. slice_get y q ≡ Some (record { 0 = z.0.row })) (sym facts.points) (at_map (λ p. record { 0 = p.row }) (points_of P Q) q z.0 z.1) in

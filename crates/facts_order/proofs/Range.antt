@@ -92,19 +92,23 @@ module _ (P Q : Plain) (placed : IsPlaced P Q) (formed : IsFormed P) (typed : Is
   owner_bound c k e = class_bound c (at_below P.classes c k e)
 
   field_owner : (f : ℕ) (k : PlainField) → slice_get Q.fields f ≡ Some k → k.owner < length F.classes.items
-  field_owner f k e = let z = placed.fields f k e in let y = formed.fields f z.plain z.stands in subst (λ c. c < length F.classes.items) z.owner (owner_bound z.plain.owner y.holder y.stands)
+  field_owner f k e = let z = placed.fields f k e in let y = formed.fields f z.plain z.stands in subst (λ c. c < length F.classes.items) z.owner
+      (owner_bound z.plain.owner y.holder y.stands)
 
   method_owner : (m : ℕ) (k : PlainMethod) → slice_get Q.methods m ≡ Some k → k.owner < length F.classes.items
-  method_owner m k e = let z = placed.methods m k e in let y = formed.methods m z.plain z.stands in subst (λ c. c < length F.classes.items) z.owner (owner_bound z.plain.owner y.holder y.stands)
+  method_owner m k e = let z = placed.methods m k e in let y = formed.methods m z.plain z.stands in subst (λ c. c < length F.classes.items) z.owner
+      (owner_bound z.plain.owner y.holder y.stands)
 
   known_bound : (t : ObjectType) → t.class.0 < length P.classes → t.class.0 < length F.classes.items
   known_bound t h = class_bound t.class.0 h
 
-  fitted_at : (m : ℕ) (k : PlainMethod) (e : slice_get Q.methods m ≡ Some k) (p : Part) → Contains (parts_of P m k) p → IsFitted P Q placed formed typed F facts m k e p
+  fitted_at : (m : ℕ) (k : PlainMethod) (e : slice_get Q.methods m ≡ Some k) (p : Part) → Contains (parts_of P m k) p
+      → IsFitted P Q placed formed typed F facts m k e p
   fitted_at m k e p c = part_fitted P Q placed formed typed F facts m k e p c
 
   -- what a creation, a cast or an `instanceof` gives has a class of the program
-  own_known : (m : ℕ) (k : PlainMethod) (e : slice_get Q.methods m ≡ Some k) (p : Part) (o : Operand) (t : ObjectType) → IsFitted P Q placed formed typed F facts m k e p → own_of p ≡ Some o → o.ty ≡ Some t → t.class.0 < length F.classes.items
+  own_known : (m : ℕ) (k : PlainMethod) (e : slice_get Q.methods m ≡ Some k) (p : Part) (o : Operand) (t : ObjectType)
+      → IsFitted P Q placed formed typed F facts m k e p → own_of p ≡ Some o → o.ty ≡ Some t → t.class.0 < length F.classes.items
   own_known m k e (a_creation w u q) o t f h y = known_bound t (f.1 t (ap (λ z. z.ty) (same_Some q o h) ∙ y))
   own_known m k e (a_test w d q) o t f h y = known_bound t (f.4 t (ap (λ z. z.ty) (same_Some q o h) ∙ y))
   own_known m k e _ o t f h y = absurd (cc)
@@ -114,17 +118,24 @@ module _ (P Q : Plain) (placed : IsPlaced P Q) (formed : IsFormed P) (typed : Is
   result_known (Some v) t k e = known_bound t (known_type P v t k e)
 
   -- the class of a row
-  variable_known : (m : ℕ) (k : PlainMethod) (i : ℕ) (v : PlainLocal) (t : ObjectType) → slice_get Q.methods m ≡ Some k → slice_get (k.params ++ k.locals) i ≡ Some v → object_of v.ty ≡ Some t → t.class.0 < length F.classes.items
+  variable_known : (m : ℕ) (k : PlainMethod) (i : ℕ) (v : PlainLocal) (t : ObjectType) → slice_get Q.methods m ≡ Some k
+      → slice_get (k.params ++ k.locals) i ≡ Some v → object_of v.ty ≡ Some t → t.class.0 < length F.classes.items
   variable_known m k i v t e d h =
       let z = placed.methods m k e in
-      let types : types_of (z.plain.params ++ z.plain.locals) ≡ types_of (k.params ++ k.locals) = map-append (λ l. l.ty) z.plain.params z.plain.locals ∙ ap (λ w. w ++ types_of z.plain.locals) z.params ∙ ap (λ w. types_of k.params ++ w) z.locals ∙ sym (map-append (λ l. l.ty) k.params k.locals) in
-      let w = map_at (λ l. l.ty) (variables_of z.plain) i v.ty (subst (λ y. slice_get y i ≡ Some v.ty) (sym types) (at_map (λ l. l.ty) (k.params ++ k.locals) i v d)) in
-      known_bound t (known_type P w.0.ty t ((formed.methods m z.plain z.stands).variables w.0 (contains_at (variables_of z.plain) i w.0 w.1)).type (ap object_of w.2 ∙ h))
+      let types : types_of (z.plain.params ++ z.plain.locals) ≡ types_of (k.params ++ k.locals) = map-append (λ l. l.ty) z.plain.params z.plain.locals
+          ∙ ap (λ w. w ++ types_of z.plain.locals) z.params ∙ ap (λ w. types_of k.params ++ w) z.locals
+          ∙ sym (map-append (λ l. l.ty) k.params k.locals) in
+      let w = map_at (λ l. l.ty) (variables_of z.plain) i v.ty (subst (λ y. slice_get y i ≡ Some v.ty) (sym types)
+          (at_map (λ l. l.ty) (k.params ++ k.locals) i v d)) in
+      known_bound t (known_type P w.0.ty t ((formed.methods m z.plain z.stands).variables w.0 (contains_at (variables_of z.plain) i w.0 w.1)).type
+          (ap object_of w.2 ∙ h))
 
   row_known : (x : Row) → Types P Q x → x.ty.class.0 < length F.classes.items
-  row_known x (types_field f k e i t) = let z = placed.fields f k e in known_bound x.ty (known_type P z.plain.ty x.ty (formed.fields f z.plain z.stands).type (ap object_of z.type ∙ t))
+  row_known x (types_field f k e i t) =
+      let z = placed.fields f k e in known_bound x.ty (known_type P z.plain.ty x.ty (formed.fields f z.plain z.stands).type (ap object_of z.type ∙ t))
   row_known x (types_this m k e b s i t) = subst (λ y. y.class.0 < length F.classes.items) (same_Some _ x.ty t) (method_owner m k e)
-  row_known x (types_result m k e i t) = let z = placed.methods m k e in result_known z.plain.result x.ty (formed.methods m z.plain z.stands).result (ap object_if z.result ∙ t)
+  row_known x (types_result m k e i t) = let z = placed.methods m k e in result_known z.plain.result x.ty (formed.methods m z.plain z.stands).result
+      (ap object_if z.result ∙ t)
   row_known x (types_variable m k j v e d i t) = variable_known m k j v x.ty e d t
   row_known x (types_part m k p e c o) = own_known m k e p o.operand x.ty (fitted_at m k e p c) o.own o.type
 
@@ -150,7 +161,8 @@ module _ (P Q : Plain) (placed : IsPlaced P Q) (formed : IsFormed P) (typed : Is
   rows = all_of (λ r. IsClass F r.class × IfSome r.site (IsSite F) × IfSome r.this_of (IsCol F)) F.rows.items
       (λ x c. let z = at_contains F.rows.items x c in
       let w = map_at (row_info (numbers P Q) Q) (rows_of P Q) z.0 x (subst (λ y. slice_get y z.0 ≡ Some x) facts.rows z.1) in
-      subst (λ r. IsClass F r.class × IfSome r.site (IsSite F) × IfSome r.this_of (IsCol F)) w.2 (row_known w.0 (row_types P Q z.0 w.0 w.1), row_site_bound w.0.item, row_this_bound w.0.item))
+      subst (λ r. IsClass F r.class × IfSome r.site (IsSite F) × IfSome r.this_of (IsCol F)) w.2
+          (row_known w.0 (row_types P Q z.0 w.0 w.1), row_site_bound w.0.item, row_this_bound w.0.item))
 
   -- the class of a mark
   Marks : Column → Type 0
@@ -160,16 +172,20 @@ module _ (P Q : Plain) (placed : IsPlaced P Q) (formed : IsFormed P) (typed : Is
   mark_of (column.Is c) = Some c
   mark_of _ = None
 
-  as_mark : (p : Place) (t : Option ObjectType) (x : Column) → ((u : ObjectType) → t ≡ Some u → u.class.0 < length F.classes.items) → Contains (mark p t) x → Marks x
+  as_mark : (p : Place) (t : Option ObjectType) (x : Column) → ((u : ObjectType) → t ≡ Some u → u.class.0 < length F.classes.items)
+      → Contains (mark p t) x → Marks x
   unfolding Marks mark_of
   as_mark p None x h c d e = absurd (omega (arith, c.1))
-  as_mark p (Some t) x h c d e = subst (λ z. z.0 < length F.classes.items) (same_Some t.class d (ap (λ z. mark_of z.item) (one_from _ x c) ∙ ap mark_of e)) (h t refl)
+  as_mark p (Some t) x h c d e = subst (λ z. z.0 < length F.classes.items) (same_Some t.class d (ap (λ z. mark_of z.item) (one_from _ x c)
+      ∙ ap mark_of e)) (h t refl)
 
-  as_array_mark : (p : Place) (t : Option ObjectType) (x : Column) → ((u : ObjectType) → t ≡ Some u → u.class.0 < length F.classes.items) → Contains (array_mark p t) x → Marks x
+  as_array_mark : (p : Place) (t : Option ObjectType) (x : Column) → ((u : ObjectType) → t ≡ Some u → u.class.0 < length F.classes.items)
+      → Contains (array_mark p t) x → Marks x
   as_array_mark p None x h c = absurd (omega (arith, c.1))
   as_array_mark p (Some t) x h c = as_mark p (Some t) x h (when_from (not (t.dim == 0)) (mark p (Some t)) x c).1
 
-  part_marks : (m : ℕ) (k : PlainMethod) (e : slice_get Q.methods m ≡ Some k) (p : Part) (x : Column) → IsFitted P Q placed formed typed F facts m k e p → Contains (form_columns p) x → Marks x
+  part_marks : (m : ℕ) (k : PlainMethod) (e : slice_get Q.methods m ≡ Some k) (p : Part) (x : Column)
+      → IsFitted P Q placed formed typed F facts m k e p → Contains (form_columns p) x → Marks x
   part_marks m k e (a_creation w u o) x f c = as_array_mark w o.ty x (λ t h. known_bound t (f.1 t h)) c
   part_marks m k e (a_test w d o) x f c = as_mark w o.ty x (λ t h. known_bound t (f.4 t h)) c
   part_marks m k e _ x f c = absurd (omega (arith, c.1))
@@ -177,9 +193,13 @@ module _ (P Q : Plain) (placed : IsPlaced P Q) (formed : IsFormed P) (typed : Is
   member_marks : (m : ℕ) (k : PlainMethod) (x : Column) → Contains (members P Q m k) x → Marks x
   unfolding Marks mark_of members
   member_marks m k x c d e =
-      let z = (when_from (not k.is_static) (record { item = column.Dcl m; place = k.tag.place } ∷ when (is_some k.body) (record { item = column.Def m; place = k.tag.place } ∷ [])) x c).1 in
-      ⊎_elim (λ y. absurd (let g = ap (λ z. mark_of z.item) (one_from _ x y) ∙ ap mark_of e in cc)) (λ y. absurd (let g = ap (λ z. mark_of z.item) (one_from (record { item = column.Def m; place = k.tag.place }) x (when_from (is_some k.body) (record { item = column.Def m; place = k.tag.place } ∷ []) x y).1) ∙ ap mark_of e in cc))
-      (Contains-append_cases (record { item = column.Dcl m; place = k.tag.place } ∷ []) (when (is_some k.body) (record { item = column.Def m; place = k.tag.place } ∷ [])) x z)
+      let z = (when_from (not k.is_static) (record { item = column.Dcl m; place = k.tag.place } ∷ when (is_some k.body)
+          (record { item = column.Def m; place = k.tag.place } ∷ [])) x c).1 in
+      ⊎_elim (λ y. absurd (let g = ap (λ z. mark_of z.item) (one_from _ x y) ∙ ap mark_of e in cc))
+          (λ y. absurd (let g = ap (λ z. mark_of z.item) (one_from (record { item = column.Def m; place = k.tag.place }) x
+          (when_from (is_some k.body) (record { item = column.Def m; place = k.tag.place } ∷ []) x y).1) ∙ ap mark_of e in cc))
+      (Contains-append_cases (record { item = column.Dcl m; place = k.tag.place } ∷ [])
+          (when (is_some k.body) (record { item = column.Def m; place = k.tag.place } ∷ [])) x z)
 
   method_marks : (m : ℕ) (k : PlainMethod) (x : Column) → slice_get Q.methods m ≡ Some k → Contains (method_columns P Q m k) x → Marks x
   unfolding members
@@ -189,11 +209,14 @@ module _ (P Q : Plain) (placed : IsPlaced P Q) (formed : IsFormed P) (typed : Is
 
   field_marks : (f : ℕ) (k : PlainField) (x : Column) → Contains (field_columns f k) x → Marks x
   unfolding Marks mark_of
-  field_marks f k x c d e = absurd (let g = ap (λ z. mark_of z.item) (one_from (record { item = column.Fld f; place = k.tag.place }) x (when_from (not k.is_static) (record { item = column.Fld f; place = k.tag.place } ∷ []) x c).1) ∙ ap mark_of e in cc)
+  field_marks f k x c d e = absurd
+      (let g = ap (λ z. mark_of z.item) (one_from (record { item = column.Fld f; place = k.tag.place }) x
+      (when_from (not k.is_static) (record { item = column.Fld f; place = k.tag.place } ∷ []) x c).1) ∙ ap mark_of e in cc)
 
   column_marks : (n : ℕ) (x : Column) → slice_get (columns_of P Q) n ≡ Some x → Marks x
   column_marks n x e =
-      ⊎_elim (λ d. let z = each_from_zero field_columns Q.fields x d in field_marks z.0 z.1 x z.3) (λ d. let z = each_from_zero (method_columns P Q) Q.methods x d in method_marks z.0 z.1 x z.2 z.3)
+      ⊎_elim (λ d. let z = each_from_zero field_columns Q.fields x d in field_marks z.0 z.1 x z.3)
+          (λ d. let z = each_from_zero (method_columns P Q) Q.methods x d in method_marks z.0 z.1 x z.2 z.3)
       (Contains-append_cases (each field_columns 0 Q.fields) (each (method_columns P Q) 0 Q.methods) x (column_raw P Q n x e))
 
   item_owner : (i : ColumnItem) → Stands Q i → ((c : ClassId) → i ≡ column.Is c → c.0 < length F.classes.items) → owner_of Q i < length F.classes.items
@@ -215,20 +238,25 @@ module _ (P Q : Plain) (placed : IsPlaced P Q) (formed : IsFormed P) (typed : Is
       let w = map_at site_info (sites_of P Q) z.0 x (subst (λ y. slice_get y z.0 ≡ Some x) facts.sites z.1) in
       let p = site_part P Q placed formed typed z.0 w.0 w.1 in
       let a = p.is_part in
-      subst (λ s. IsRow F s.row × IsClass F s.class) w.2 (row_bound (row.New w.0.number) w.0.row p.row_number_is, own_known a.number a.method a.stands (a_creation p.place p.used p.operand) p.operand w.0.ty (fitted_at a.number a.method a.stands (a_creation p.place p.used p.operand) a.part) refl p.type))
+      subst (λ s. IsRow F s.row × IsClass F s.class) w.2 (row_bound (row.New w.0.number) w.0.row p.row_number_is, own_known a.number a.method a.stands
+          (a_creation p.place p.used p.operand) p.operand w.0.ty (fitted_at a.number a.method a.stands (a_creation p.place p.used p.operand) a.part)
+          refl p.type))
 
   class_known : (c : ℕ) (x : ClassInfo) → slice_get F.classes.items c ≡ Some x → IfSome x.parent (IsClass F) × All (IsClass F) x.faces.items
   class_known zero x e =
       let k = class_at P Q placed F facts 0 x e in
       let o = same_Some _ _ (sym k.stands ∙ formed.object.first) in
-      (subst (λ p. IfSome p (IsClass F)) (sym (k.parent ∙ ap (λ y. y.parent) o ∙ formed.object.parent)) tt, all_of (IsClass F) x.faces.items (λ f h. absurd (omega (arith, (subst (λ y. Contains y f) (k.faces ∙ ap (λ y. y.faces) o ∙ formed.object.faces) h).1))))
+      (subst (λ p. IfSome p (IsClass F)) (sym (k.parent ∙ ap (λ y. y.parent) o ∙ formed.object.parent)) tt, all_of (IsClass F) x.faces.items
+          (λ f h. absurd (omega (arith, (subst (λ y. Contains y f) (k.faces ∙ ap (λ y. y.faces) o ∙ formed.object.faces) h).1))))
   class_known (suc c) x e =
       let k = class_at P Q placed F facts (suc c) x e in
       let f = formed.classes c k.plain k.stands in
-      (subst (λ p. IfSome p (IsClass F)) (sym (k.parent ∙ f.has_parent)) (owner_bound f.parent.0 f.above f.parent_stands), all_of (IsClass F) x.faces.items (λ y h. let i = f.faces y (subst (λ z. Contains z y) k.faces h) in owner_bound y.0 i.0 i.1))
+      (subst (λ p. IfSome p (IsClass F)) (sym (k.parent ∙ f.has_parent)) (owner_bound f.parent.0 f.above f.parent_stands), all_of
+          (IsClass F) x.faces.items (λ y h. let i = f.faces y (subst (λ z. Contains z y) k.faces h) in owner_bound y.0 i.0 i.1))
 
   classes : All (λ k. IfSome k.parent (IsClass F) × All (IsClass F) k.faces.items) F.classes.items
-  classes = all_of (λ k. IfSome k.parent (IsClass F) × All (IsClass F) k.faces.items) F.classes.items (λ x c. let z = at_contains F.classes.items x c in class_known z.0 x z.1)
+  classes = all_of (λ k. IfSome k.parent (IsClass F) × All (IsClass F) k.faces.items) F.classes.items
+      (λ x c. let z = at_contains F.classes.items x c in class_known z.0 x z.1)
 
   points : All (IsRow F) F.points.items
   points = all_of (IsRow F) F.points.items
@@ -238,15 +266,20 @@ module _ (P Q : Plain) (placed : IsPlaced P Q) (formed : IsFormed P) (typed : Is
       subst (IsRow F) w.2 (row_bound p.at.row w.0.row p.number))
 
   cell_bound : (z : CellInfo) → IsCellOf P Q placed formed typed F facts z → IsSite F z.site × IfSome z.column (IsCol F) × IsRow F z.row
-  cell_bound z (of_field x f c r s n e d q) = (site_index z.site.0 x s, subst (λ o. IfSome o (IsCol F)) (sym n) (column_bound (column.Fld f) c e), subst (λ r. r < length F.rows.items) q (row_bound (row.Field f) r d))
-  cell_bound z (of_array x n s h q) = (site_index z.site.0 x s, subst (λ o. IfSome o (IsCol F)) (sym n) tt, subst (λ r. r < length F.rows.items) q (row_bound (row.New x.number) x.row (site_part P Q placed formed typed z.site.0 x s).row_number_is))
+  cell_bound z (of_field x f c r s n e d q) =
+      (site_index z.site.0 x s, subst (λ o. IfSome o (IsCol F)) (sym n) (column_bound (column.Fld f) c e), subst (λ r. r < length F.rows.items) q
+      (row_bound (row.Field f) r d))
+  cell_bound z (of_array x n s h q) = (site_index z.site.0 x s, subst (λ o. IfSome o (IsCol F)) (sym n) tt, subst (λ r. r < length F.rows.items) q
+      (row_bound (row.New x.number) x.row (site_part P Q placed formed typed z.site.0 x s).row_number_is))
 
   cells : All (λ c. IsSite F c.site × IfSome c.column (IsCol F) × IsRow F c.row) F.cells.items
   cells = all_of (λ c. IsSite F c.site × IfSome c.column (IsCol F) × IsRow F c.row) F.cells.items
       (λ x c. let z = at_contains F.cells.items x c in
-      cell_bound x (subst (IsCellOf P Q placed formed typed F facts) (index_at F.cells.items z.0 _ x z.1) (cell_is P Q placed formed typed F facts z.0 (at_below F.cells.items z.0 x z.1))))
+      cell_bound x (subst (IsCellOf P Q placed formed typed F facts) (index_at F.cells.items z.0 _ x z.1) (cell_is P Q placed formed typed F facts z.0
+          (at_below F.cells.items z.0 x z.1))))
 
-  new_bound : (o : Operand) (q : Option ℕ) (x : NewInfo) → ((p : ℕ) → q ≡ Some p → p < length F.points.items) → Contains (created (numbers P Q) o q) x → IsPoint F x.point × IsSite F x.site
+  new_bound : (o : Operand) (q : Option ℕ) (x : NewInfo) → ((p : ℕ) → q ≡ Some p → p < length F.points.items) → Contains (created (numbers P Q) o q) x
+      → IsPoint F x.point × IsSite F x.site
   new_bound o q x h c = let z = created_from P Q placed formed typed F facts o q x c in (h x.point z.1, site_bound z.0 x.site.0 z.3)
 
   part_news : (m : ℕ) (p : Part) (x : NewInfo) → Contains (news_of (numbers P Q) m p) x → IsPoint F x.point × IsSite F x.site
@@ -254,34 +287,45 @@ module _ (P Q : Plain) (placed : IsPlaced P Q) (formed : IsFormed P) (typed : Is
   part_news m (a_creation w u o) x c = new_bound o (point_at (numbers P Q) o) x (operand_bound o) c
   part_news m (a_set v o) x c = new_bound o (point_at (numbers P Q) v) x (operand_bound v) c
   part_news m (a_return o) x c = new_bound o (point_number P Q (point.Result m)) x (point_bound (point.Result m)) c
-  part_news m (a_static_call w d es o) x c = let z = each_from_zero (λ i o. created (numbers P Q) o (point_number P Q (point.Local d i))) es x c in new_bound z.1 (point_number P Q (point.Local d z.0)) x (point_bound (point.Local d z.0)) z.3
-  part_news m (a_super_call w (Some d) es o) x c = let z = each_from_zero (λ i o. created (numbers P Q) o (point_number P Q (point.Local d i))) es x c in new_bound z.1 (point_number P Q (point.Local d z.0)) x (point_bound (point.Local d z.0)) z.3
+  part_news m (a_static_call w d es o) x c = let z = each_from_zero (λ i o. created (numbers P Q) o (point_number P Q (point.Local d i))) es x c in
+      new_bound z.1 (point_number P Q (point.Local d z.0)) x (point_bound (point.Local d z.0)) z.3
+  part_news m (a_super_call w (Some d) es o) x c =
+      let z = each_from_zero (λ i o. created (numbers P Q) o (point_number P Q (point.Local d i))) es x c in new_bound z.1
+      (point_number P Q (point.Local d z.0)) x (point_bound (point.Local d z.0)) z.3
   part_news m _ x c = absurd (omega (arith, c.1))
 
-  flow_bound : (p q : Option ℕ) (x : FlowInfo) → ((a : ℕ) → p ≡ Some a → a < length F.points.items) → ((a : ℕ) → q ≡ Some a → a < length F.points.items) → Contains (moved p q) x → IsPoint F x.from × IsPoint F x.to
+  flow_bound : (p q : Option ℕ) (x : FlowInfo) → ((a : ℕ) → p ≡ Some a → a < length F.points.items)
+      → ((a : ℕ) → q ≡ Some a → a < length F.points.items) → Contains (moved p q) x → IsPoint F x.from × IsPoint F x.to
   flow_bound p q x f g c = let z = moved_from P Q placed formed typed F facts p q x c in (f x.from z.0, g x.to z.1)
 
-  args_flows : (d : ℕ) (es : List Operand) (x : FlowInfo) → Contains (each (λ i o. moved (point_at (numbers P Q) o) (point_number P Q (point.Local d i))) 0 es) x → IsPoint F x.from × IsPoint F x.to
-  args_flows d es x c = let z = each_from_zero (λ i o. moved (point_at (numbers P Q) o) (point_number P Q (point.Local d i))) es x c in flow_bound _ _ x (operand_bound z.1) (point_bound (point.Local d z.0)) z.3
+  args_flows : (d : ℕ) (es : List Operand) (x : FlowInfo)
+      → Contains (each (λ i o. moved (point_at (numbers P Q) o) (point_number P Q (point.Local d i))) 0 es) x → IsPoint F x.from × IsPoint F x.to
+  args_flows d es x c = let z = each_from_zero (λ i o. moved (point_at (numbers P Q) o) (point_number P Q (point.Local d i))) es x c in flow_bound _ _
+      x (operand_bound z.1) (point_bound (point.Local d z.0)) z.3
 
   part_flows : (m : ℕ) (p : Part) (x : FlowInfo) → Contains (flows_of (numbers P Q) m p) x → IsPoint F x.from × IsPoint F x.to
   unfolding numbers
   part_flows m (a_set v o) x c = flow_bound _ _ x (operand_bound o) (operand_bound v) c
   part_flows m (a_return o) x c = flow_bound _ _ x (operand_bound o) (point_bound (point.Result m)) c
   part_flows m (a_static_call w d es o) x c =
-      ⊎_elim (args_flows d es x) (flow_bound _ _ x (point_bound (point.Result d)) (operand_bound o)) (Contains-append_cases (each (λ i o. moved (point_at (numbers P Q) o) (point_number P Q (point.Local d i))) 0 es) (moved (point_number P Q (point.Result d)) (point_at (numbers P Q) o)) x c)
+      ⊎_elim (args_flows d es x) (flow_bound _ _ x (point_bound (point.Result d)) (operand_bound o))
+          (Contains-append_cases (each (λ i o. moved (point_at (numbers P Q) o) (point_number P Q (point.Local d i))) 0 es)
+          (moved (point_number P Q (point.Result d)) (point_at (numbers P Q) o)) x c)
   part_flows m (a_super_call w (Some d) es o) x c =
       let one = each (λ i o. moved (point_at (numbers P Q) o) (point_number P Q (point.Local d i))) 0 es in
       let two = moved (point_number P Q (point.Result d)) (point_at (numbers P Q) o) in
-      ⊎_elim (λ y. ⊎_elim (args_flows d es x) (flow_bound _ _ x (point_bound (point.Result d)) (operand_bound o)) (Contains-append_cases one two x y)) (flow_bound _ _ x (point_bound (point.This m)) (point_bound (point.This d)))
+      ⊎_elim (λ y. ⊎_elim (args_flows d es x) (flow_bound _ _ x (point_bound (point.Result d)) (operand_bound o)) (Contains-append_cases one two x y))
+          (flow_bound _ _ x (point_bound (point.This m)) (point_bound (point.This d)))
       (Contains-append_cases (one ++ two) (moved (point_number P Q (point.This m)) (point_number P Q (point.This d))) x c)
   part_flows m _ x c = absurd (omega (arith, c.1))
 
   part_loads : (p : Part) (x : LoadInfo) → Contains (loads_of (numbers P Q) p) x → IsPoint F x.base × IfSome x.column (IsCol F) × IsPoint F x.into
   unfolding numbers
   part_loads (a_load w b (Some f) o) x c =
-      let z = these_from (point_at (numbers P Q) b) (column_number P Q (column.Fld f)) (point_at (numbers P Q) o) (λ a c q. record { base = a; column = Some (record { 0 = c }); into = q }) x c in
-      subst (λ y. IsPoint F y.base × IfSome y.column (IsCol F) × IsPoint F y.into) z.6 (operand_bound b z.0 z.3, column_bound (column.Fld f) z.1 z.4, operand_bound o z.2 z.5)
+      let z = these_from (point_at (numbers P Q) b) (column_number P Q (column.Fld f)) (point_at (numbers P Q) o)
+          (λ a c q. record { base = a; column = Some (record { 0 = c }); into = q }) x c in
+      subst (λ y. IsPoint F y.base × IfSome y.column (IsCol F) × IsPoint F y.into) z.6 (operand_bound b z.0 z.3, column_bound (column.Fld f) z.1 z.4,
+          operand_bound o z.2 z.5)
   part_loads (an_element w b o) x c =
       let z = both_from (point_at (numbers P Q) b) (point_at (numbers P Q) o) (λ a q. record { base = a; column = None; into = q }) x c in
       subst (λ y. IsPoint F y.base × IfSome y.column (IsCol F) × IsPoint F y.into) z.4 (operand_bound b z.0 z.2, tt, operand_bound o z.1 z.3)
@@ -290,8 +334,10 @@ module _ (P Q : Plain) (placed : IsPlaced P Q) (formed : IsFormed P) (typed : Is
   part_stores : (p : Part) (x : StoreInfo) → Contains (stores_of (numbers P Q) p) x → IsPoint F x.base × IfSome x.column (IsCol F) × IsPoint F x.value
   unfolding numbers
   part_stores (a_store w b (Some f) o) x c =
-      let z = these_from (point_at (numbers P Q) b) (column_number P Q (column.Fld f)) (point_at (numbers P Q) o) (λ a c q. record { base = a; column = Some (record { 0 = c }); value = q; place = w }) x c in
-      subst (λ y. IsPoint F y.base × IfSome y.column (IsCol F) × IsPoint F y.value) z.6 (operand_bound b z.0 z.3, column_bound (column.Fld f) z.1 z.4, operand_bound o z.2 z.5)
+      let z = these_from (point_at (numbers P Q) b) (column_number P Q (column.Fld f)) (point_at (numbers P Q) o)
+          (λ a c q. record { base = a; column = Some (record { 0 = c }); value = q; place = w }) x c in
+      subst (λ y. IsPoint F y.base × IfSome y.column (IsCol F) × IsPoint F y.value) z.6 (operand_bound b z.0 z.3, column_bound (column.Fld f) z.1 z.4,
+          operand_bound o z.2 z.5)
   part_stores (an_element_store w b o) x c =
       let z = both_from (point_at (numbers P Q) b) (point_at (numbers P Q) o) (λ a q. record { base = a; column = None; value = q; place = w }) x c in
       subst (λ y. IsPoint F y.base × IfSome y.column (IsCol F) × IsPoint F y.value) z.4 (operand_bound b z.0 z.2, tt, operand_bound o z.1 z.3)
@@ -305,7 +351,8 @@ module _ (P Q : Plain) (placed : IsPlaced P Q) (formed : IsFormed P) (typed : Is
         point_bound (point.This e.number) x.this e.this,
         all_of (λ p. IfSome p (IsPoint F)) x.params.items
             (λ p d. let z = each_from_zero (λ i v. point_number P Q (point.Local e.number i) ∷ []) e.method.params p (subst (λ y. Contains y p) e.params d) in
-            subst (λ q. IfSome q (IsPoint F)) (one_from _ p z.3) (some_point (point_number P Q (point.Local e.number z.0)) (point_bound (point.Local e.number z.0)))),
+            subst (λ q. IfSome q (IsPoint F)) (one_from _ p z.3) (some_point (point_number P Q (point.Local e.number z.0))
+                (point_bound (point.Local e.number z.0)))),
         subst (λ q. IfSome q (IsPoint F)) (sym e.result) (some_point (point_number P Q (point.Result e.number)) (point_bound (point.Result e.number))),
       ))
 
@@ -313,11 +360,15 @@ module _ (P Q : Plain) (placed : IsPlaced P Q) (formed : IsFormed P) (typed : Is
   calls = all_of (λ x. IsPoint F x.receiver × All (λ p. IfSome p (IsPoint F)) x.args.items × IfSome x.result (IsPoint F)) F.calls.items
       (λ x c. let e = call_of P Q placed formed typed F facts x c in (
         operand_bound e.base x.receiver e.receiver,
-        all_of (λ p. IfSome p (IsPoint F)) x.args.items (λ p d. let z = map_from (point_at (numbers P Q)) e.args p (subst (λ y. Contains y p) e.args_are d) in subst (λ q. IfSome q (IsPoint F)) z.2 (some_point (point_at (numbers P Q) z.0) (operand_bound z.0))),
+        all_of (λ p. IfSome p (IsPoint F)) x.args.items
+            (λ p d. let z = map_from (point_at (numbers P Q)) e.args p (subst (λ y. Contains y p) e.args_are d) in subst (λ q. IfSome q (IsPoint F))
+            z.2 (some_point (point_at (numbers P Q) z.0) (operand_bound z.0))),
         subst (λ q. IfSome q (IsPoint F)) (sym e.result) (some_point (point_at (numbers P Q) e.own) (operand_bound e.own)),
       ))
 
-  part_casts : (m : ℕ) (k : PlainMethod) (s : slice_get Q.methods m ≡ Some k) (p : Part) (x : CastInfo) → IsFitted P Q placed formed typed F facts m k s p → Contains (casts_of (numbers P Q) p) x → IsPoint F x.from × IsPoint F x.into × IsClass F x.class
+  part_casts : (m : ℕ) (k : PlainMethod) (s : slice_get Q.methods m ≡ Some k) (p : Part) (x : CastInfo)
+      → IsFitted P Q placed formed typed F facts m k s p → Contains (casts_of (numbers P Q) p) x → IsPoint F x.from × IsPoint F x.into
+      × IsClass F x.class
   part_casts m k s (a_test w e o) x f c =
       let z = these_from (point_at (numbers P Q) e) (point_at (numbers P Q) o) o.ty (λ a q t. record { from = a; into = q; class = t.class }) x c in
       subst (λ y. IsPoint F y.from × IsPoint F y.into × IsClass F y.class) z.6 (operand_bound e z.0 z.3, operand_bound o z.1 z.4, known_bound z.2 (f.4 z.2 z.5))
@@ -328,7 +379,8 @@ module _ (P Q : Plain) (placed : IsPlaced P Q) (formed : IsFormed P) (typed : Is
       (λ x c. let t = test_of P Q placed formed typed F facts x c in (
         operand_bound t.operand x.from t.from,
         row_bound t.item x.target.0 t.target,
-        subst (λ y. y.0 < length F.classes.items) t.class (known_bound t.type ((fitted_at t.number t.method t.stands (a_test t.place t.operand t.own) t.part).4 t.type t.typed_as)),
+        subst (λ y. y.0 < length F.classes.items) t.class
+            (known_bound t.type ((fitted_at t.number t.method t.stands (a_test t.place t.operand t.own) t.part).4 t.type t.typed_as)),
       ))
 
   -- all but the counts
@@ -342,15 +394,23 @@ module _ (P Q : Plain) (placed : IsPlaced P Q) (formed : IsFormed P) (typed : Is
     classes = classes;
     points = points;
     cells = cells;
-    news = all_of (λ x. IsPoint F x.point × IsSite F x.site) F.news.items (λ x c. let z = gathered_from P Q (λ b. news_of (numbers P Q) b.number) x ((facts.news x).0 c) in part_news z.0 z.2 x z.5);
-    flows = all_of (λ x. IsPoint F x.from × IsPoint F x.to) F.flows.items (λ x c. let z = gathered_from P Q (λ b. flows_of (numbers P Q) b.number) x ((facts.flows x).0 c) in part_flows z.0 z.2 x z.5);
-    loads = all_of (λ x. IsPoint F x.base × IfSome x.column (IsCol F) × IsPoint F x.into) F.loads.items (λ x c. let z = gathered_from P Q (λ b. loads_of (numbers P Q)) x ((facts.loads x).0 c) in part_loads z.2 x z.5);
-    stores = all_of (λ x. IsPoint F x.base × IfSome x.column (IsCol F) × IsPoint F x.value) F.stores.items (λ x c. let z = gathered_from P Q (λ b. stores_of (numbers P Q)) x ((facts.stores x).0 c) in part_stores z.2 x z.5);
+    news = all_of (λ x. IsPoint F x.point × IsSite F x.site) F.news.items
+        (λ x c. let z = gathered_from P Q (λ b. news_of (numbers P Q) b.number) x ((facts.news x).0 c) in part_news z.0 z.2 x z.5);
+    flows = all_of (λ x. IsPoint F x.from × IsPoint F x.to) F.flows.items
+        (λ x c. let z = gathered_from P Q (λ b. flows_of (numbers P Q) b.number) x ((facts.flows x).0 c) in part_flows z.0 z.2 x z.5);
+    loads = all_of (λ x. IsPoint F x.base × IfSome x.column (IsCol F) × IsPoint F x.into) F.loads.items
+        (λ x c. let z = gathered_from P Q (λ b. loads_of (numbers P Q)) x ((facts.loads x).0 c) in part_loads z.2 x z.5);
+    stores = all_of (λ x. IsPoint F x.base × IfSome x.column (IsCol F) × IsPoint F x.value) F.stores.items
+        (λ x c. let z = gathered_from P Q (λ b. stores_of (numbers P Q)) x ((facts.stores x).0 c) in part_stores z.2 x z.5);
     bodies = bodies;
     calls = calls;
-    casts = all_of (λ x. IsPoint F x.from × IsPoint F x.into × IsClass F x.class) F.casts.items (λ x c. let z = gathered_from P Q (λ b. casts_of (numbers P Q)) x ((facts.casts x).0 c) in part_casts z.0 z.1 z.3 z.2 x (fitted_at z.0 z.1 z.3 z.2 z.4) z.5);
-    accesses = all_of (λ x. IsRow F x.row × IsCol F x.column) F.accesses.items (λ x c. let z = access_part P Q F facts x c in (row_at_bound z.has.base x.row.0 z.has.row_is, column_bound z.has.member x.column.0 z.has.column_is));
-    supers = all_of (λ x. IsRow F x.row × IsCol F x.column) F.supers.items (λ x c. let z = super_entry P Q placed formed typed F facts x c in (row_bound (row.This z.number) x.row.0 z.row_is, column_bound (column.Def z.runs) x.column.0 z.column_is));
+    casts = all_of (λ x. IsPoint F x.from × IsPoint F x.into × IsClass F x.class) F.casts.items
+        (λ x c. let z = gathered_from P Q (λ b. casts_of (numbers P Q)) x ((facts.casts x).0 c) in part_casts z.0 z.1 z.3 z.2 x
+        (fitted_at z.0 z.1 z.3 z.2 z.4) z.5);
+    accesses = all_of (λ x. IsRow F x.row × IsCol F x.column) F.accesses.items (λ x c. let z = access_part P Q F facts x c in
+        (row_at_bound z.has.base x.row.0 z.has.row_is, column_bound z.has.member x.column.0 z.has.column_is));
+    supers = all_of (λ x. IsRow F x.row × IsCol F x.column) F.supers.items (λ x c. let z = super_entry P Q placed formed typed F facts x c in
+        (row_bound (row.This z.number) x.row.0 z.row_is, column_bound (column.Def z.runs) x.column.0 z.column_is));
     ties = all_of (λ x. IsRow F x.lower × IsRow F x.upper) F.ties.items (λ x c. let t = tie_fits P Q placed formed typed F facts x c in (t.lower, t.upper));
     tests = tests;
     makes = all_of (λ x. IsSite F x.site) F.makes.items (λ x c. absurd (omega (arith, (subst (λ y. Contains y x) facts.makes c).1)));

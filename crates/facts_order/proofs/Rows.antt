@@ -73,9 +73,11 @@ module _ (P Q : Plain) where
   -- what a row types, and its type
   pub data Types (x : Row) : Type 0 where
     for_field : (f : ℕ) (k : PlainField) → slice_get Q.fields f ≡ Some k → x.item ≡ row.Field f → object_of k.ty ≡ Some x.ty → Types x
-    for_this : (m : ℕ) (k : PlainMethod) → slice_get Q.methods m ≡ Some k → is_some k.body ≡ true → k.is_static ≡ false → x.item ≡ row.This m → class_object k.owner ≡ Some x.ty → Types x
+    for_this : (m : ℕ) (k : PlainMethod) → slice_get Q.methods m ≡ Some k → is_some k.body ≡ true → k.is_static ≡ false → x.item ≡ row.This m
+        → class_object k.owner ≡ Some x.ty → Types x
     for_result : (m : ℕ) (k : PlainMethod) → slice_get Q.methods m ≡ Some k → x.item ≡ result_in k.slot m → object_if k.result ≡ Some x.ty → Types x
-    for_variable : (m : ℕ) (k : PlainMethod) (i : ℕ) (v : PlainLocal) → slice_get Q.methods m ≡ Some k → slice_get (k.params ++ k.locals) i ≡ Some v → x.item ≡ variable_row m k i → object_of v.ty ≡ Some x.ty → Types x
+    for_variable : (m : ℕ) (k : PlainMethod) (i : ℕ) (v : PlainLocal) → slice_get Q.methods m ≡ Some k → slice_get (k.params ++ k.locals) i ≡ Some v
+        → x.item ≡ variable_row m k i → object_of v.ty ≡ Some x.ty → Types x
     for_part : (m : ℕ) (k : PlainMethod) (p : Part) → slice_get Q.methods m ≡ Some k → Contains (parts_of P m k) p → IsOwn x p → Types x
 
   field_types : (f : ℕ) (k : PlainField) (x : Row) → slice_get Q.fields f ≡ Some k → Contains (field_rows f k) x → Types x
@@ -117,24 +119,29 @@ module _ (P Q : Plain) where
         let two = result_rows P Q m k in
         let three = each (variable_rows P Q m k) 0 k.params in
         let four = each (variable_rows P Q m k) (length k.params) k.locals in
-        ⊎_elim (λ d. ⊎_elim (λ d. ⊎_elim (λ d. ⊎_elim this_types result_types (Contains-append_cases one two x d)) param_types (Contains-append_cases (one ++ two) three x d)) local_types (Contains-append_cases ((one ++ two) ++ three) four x d)) part_types
+        ⊎_elim (λ d. ⊎_elim (λ d. ⊎_elim (λ d. ⊎_elim this_types result_types (Contains-append_cases one two x d)) param_types
+            (Contains-append_cases (one ++ two) three x d)) local_types (Contains-append_cases ((one ++ two) ++ three) four x d)) part_types
         (Contains-append_cases (((one ++ two) ++ three) ++ four) (flat_map form_rows (parts_of P m k)) x c)
 
   pub row_types : (r : ℕ) (x : Row) → slice_get (rows_of P Q) r ≡ Some x → Types x
   row_types r x e =
-      ⊎_elim (λ d. let z = each_from_zero field_rows Q.fields x d in field_types z.0 z.1 x z.2 z.3) (λ d. let z = each_from_zero (method_rows P Q) Q.methods x d in method_types z.0 z.1 x z.2 z.3)
+      ⊎_elim (λ d. let z = each_from_zero field_rows Q.fields x d in field_types z.0 z.1 x z.2 z.3)
+          (λ d. let z = each_from_zero (method_rows P Q) Q.methods x d in method_types z.0 z.1 x z.2 z.3)
       (Contains-append_cases (each field_rows 0 Q.fields) (each (method_rows P Q) 0 Q.methods) x (row_raw P Q r x e))
 
   -- the row of a `this`
-  pub this_row : (m : ℕ) (k : PlainMethod) → slice_get Q.methods m ≡ Some k → is_some k.body ≡ true → k.is_static ≡ false → (r : ℕ) × (row_number P Q (row.This m) ≡ Some r)
+  pub this_row : (m : ℕ) (k : PlainMethod) → slice_get Q.methods m ≡ Some k → is_some k.body ≡ true → k.is_static ≡ false
+      → (r : ℕ) × (row_number P Q (row.This m) ≡ Some r)
   this_row m k e b s =
       let x : Row = record { item = row.This m; place = k.tag.place; ty = record { class = record { 0 = k.owner }; dim = 0 } } in
       let one = this_rows m k in
       let two = result_rows P Q m k in
       let three = each (variable_rows P Q m k) 0 k.params in
       let four = each (variable_rows P Q m k) (length k.params) k.locals in
-      row_there P Q x (Contains-append_right (each field_rows 0 Q.fields) (each (method_rows P Q) 0 Q.methods) x (each_has (method_rows P Q) 0 Q.methods m k x e m (omega arith)
-      (Contains-append_left (((one ++ two) ++ three) ++ four) (flat_map form_rows (parts_of P m k)) x (Contains-append_left ((one ++ two) ++ three) four x (Contains-append_left (one ++ two) three x (Contains-append_left one two x
+      row_there P Q x (Contains-append_right (each field_rows 0 Q.fields) (each (method_rows P Q) 0 Q.methods) x
+          (each_has (method_rows P Q) 0 Q.methods m k x e m (omega arith)
+      (Contains-append_left (((one ++ two) ++ three) ++ four) (flat_map form_rows (parts_of P m k)) x
+          (Contains-append_left ((one ++ two) ++ three) four x (Contains-append_left (one ++ two) three x (Contains-append_left one two x
       (when_has (is_some k.body && not k.is_static) _ x (rw (b, s) refl) (first x []))))))))
 
   module _ (F : Facts) (facts : IsFactsOf P Q F) where
@@ -153,7 +160,8 @@ module _ (P Q : Plain) where
         record { row_is = w.0; stands = w.1; info = index_at F.rows.items r _ _ (info_is r w.0 w.1) }
 
     -- the row of an item
-    pub item_row : (i : RowItem) (r : ℕ) → row_number P Q i ≡ Some r → (x : Row) × (slice_get (rows_of P Q) r ≡ Some x) × (x.item ≡ i) × (info_at F r ≡ row_info (numbers P Q) Q x) × (r < length F.rows.items)
+    pub item_row : (i : RowItem) (r : ℕ) → row_number P Q i ≡ Some r → (x : Row) × (slice_get (rows_of P Q) r ≡ Some x) × (x.item ≡ i)
+        × (info_at F r ≡ row_info (numbers P Q) Q x) × (r < length F.rows.items)
     item_row i r e =
         let z = row_at P Q i r e in
         (z.0, z.1, z.2, index_at F.rows.items r _ _ (info_is r z.0 z.1), at_below F.rows.items r _ (info_is r z.0 z.1))
@@ -162,7 +170,8 @@ module _ (P Q : Plain) where
     pub row_cases : (r : ℕ) → HasRow r ⊎ (info_at F r ≡ record { label = []; class = record { 0 = 0 }; dim = 0; site = None; this_of = None })
     row_cases r = go (slice_get F.rows.items r) refl
       where
-        go : (o : Option RowInfo) → slice_get F.rows.items r ≡ o → HasRow r ⊎ (info_at F r ≡ record { label = []; class = record { 0 = 0 }; dim = 0; site = None; this_of = None })
+        go : (o : Option RowInfo) → slice_get F.rows.items r ≡ o
+            → HasRow r ⊎ (info_at F r ≡ record { label = []; class = record { 0 = 0 }; dim = 0; site = None; this_of = None })
         go None h = inr (index_past F.rows.items r _ h)
         go (Some k) h = inl (row_of r (at_below F.rows.items r k h))
 
@@ -171,12 +180,14 @@ module _ (P Q : Plain) (placed : IsPlaced P Q) (formed : IsFormed P) (typed : Is
   abbrev plain : PlainMethod
   plain = (placed.methods m k e).plain
 
-  body_from : (b : Option Sts) (p : Part) → option_map bare_sts b ≡ plain.body → Contains (parts_body P (type_in P m k) m k b) p → From P (type_in P m k) m k plain (parts_body P (type_in P m k) m k b) p
+  body_from : (b : Option Sts) (p : Part) → option_map bare_sts b ≡ plain.body → Contains (parts_body P (type_in P m k) m k b) p
+      → From P (type_in P m k) m k plain (parts_body P (type_in P m k) m k b) p
   unfolding IsTypedMethod
   body_from None p h c = absurd (omega (arith, c.1))
   body_from (Some xs) p h c =
       let z = placed.methods m k e in
-      sts_from P (type_in P m k) m k plain (parts_body P (type_in P m k) m k (Some xs)) 0 xs (typed.methods m z.plain z.stands (bare_sts xs) (sym h)) ((formed.methods m z.plain z.stands).code (bare_sts xs) (sym h)) (λ q z. z) c
+      sts_from P (type_in P m k) m k plain (parts_body P (type_in P m k) m k (Some xs)) 0 xs (typed.methods m z.plain z.stands (bare_sts xs) (sym h))
+          ((formed.methods m z.plain z.stands).code (bare_sts xs) (sym h)) (λ q z. z) c
 
   pub part_from : (p : Part) → Contains (parts_of P m k) p → From P (type_in P m k) m k plain (parts_of P m k) p
   unfolding parts_of

@@ -113,7 +113,8 @@ variable_numberless (Some s) false m i = refl
 
 module _ (P Q : Plain) (placed : IsPlaced P Q) (formed : IsFormed P) (typed : IsTyped P) where
   pub part_numbered : (p : Part) → IsPart P Q placed formed p → IsNumbered p
-  part_numbered p a = from_numbered P (type_in P a.number a.method) a.number a.method (placed.methods a.number a.method a.stands).plain (parts_of P a.number a.method) p (part_from P Q placed formed typed a.number a.method a.stands p a.part)
+  part_numbered p a = from_numbered P (type_in P a.number a.method) a.number a.method (placed.methods a.number a.method a.stands).plain
+      (parts_of P a.number a.method) p (part_from P Q placed formed typed a.number a.method a.stands p a.part)
 
   nothing_numbered : {R : Type 0} (n : ℕ) (i : RowItem) (x : Row) → number_in (Some x.item) ≡ n ∷ [] → x.item ≡ i → number_in (Some i) ≡ [] → R
   nothing_numbered n i x a e d = absurd (cons_nil (sym a ∙ ap (λ z. number_in (Some z)) e ∙ d))
@@ -122,18 +123,21 @@ module _ (P Q : Plain) (placed : IsPlaced P Q) (formed : IsFormed P) (typed : Is
       cons_nil z = cc
 
   -- the part of a row with a number
-  pub numbered_row : (n r : ℕ) (x : Row) → slice_get (rows_of P Q) r ≡ Some x → number_in (Some x.item) ≡ n ∷ [] → (q : Part) × IsPart P Q placed formed q × IsOwn x q
+  pub numbered_row : (n r : ℕ) (x : Row) → slice_get (rows_of P Q) r ≡ Some x → number_in (Some x.item) ≡ n ∷ [] → (q : Part)
+      × IsPart P Q placed formed q × IsOwn x q
   numbered_row n r x e h = go (row_types P Q r x e)
     where
       go : Types P Q x → (q : Part) × IsPart P Q placed formed q × IsOwn x q
       go (for_field f k a b c) = nothing_numbered n (row.Field f) x h b refl
       go (for_this m k a b c d t) = nothing_numbered n (row.This m) x h d refl
       go (for_result m k a b c) = nothing_numbered n (result_in k.slot m) x h b (result_numberless k.slot m)
-      go (for_variable m k i v a b c d) = nothing_numbered n (variable_in k.slot (nat_lt i (length k.params)) m i) x h c (variable_numberless k.slot (nat_lt i (length k.params)) m i)
+      go (for_variable m k i v a b c d) = nothing_numbered n (variable_in k.slot (nat_lt i (length k.params)) m i) x h c
+          (variable_numberless k.slot (nat_lt i (length k.params)) m i)
       go (for_part m k p a b c) = (p, record { number = m; method = k; stands = a; part = b }, c)
 
   -- the row of what a part gives has its type
-  pub own_typed : (p : Part) (o : Operand) (i : RowItem) (r : ℕ) (x : Row) → IsPart P Q placed formed p → own_of p ≡ Some o → o.row ≡ Some i → slice_get (rows_of P Q) r ≡ Some x → x.item ≡ i → o.ty ≡ Some x.ty
+  pub own_typed : (p : Part) (o : Operand) (i : RowItem) (r : ℕ) (x : Row) → IsPart P Q placed formed p → own_of p ≡ Some o → o.row ≡ Some i
+      → slice_get (rows_of P Q) r ≡ Some x → x.item ≡ i → o.ty ≡ Some x.ty
   own_typed p o i r x a b c e f =
       let n = numbered_own p o (part_numbered p a) b in
       let g = ap number_in (ap Some f ∙ sym c) ∙ n.1 in
@@ -143,7 +147,8 @@ module _ (P Q : Plain) (placed : IsPlaced P Q) (formed : IsFormed P) (typed : Is
       let same = number_apart P Q placed formed p z.0 n.0 a z.1 one two in
       ap (λ w. w.ty) (same_Some _ _ (sym b ∙ ap own_of same ∙ z.2.own)) ∙ z.2.type
 
-  pub own_type : (p : Part) (o : Operand) (i : RowItem) (t : ObjectType) (r : ℕ) (x : Row) → IsPart P Q placed formed p → own_of p ≡ Some o → o.row ≡ Some i → o.ty ≡ Some t → slice_get (rows_of P Q) r ≡ Some x → x.item ≡ i → x.ty ≡ t
+  pub own_type : (p : Part) (o : Operand) (i : RowItem) (t : ObjectType) (r : ℕ) (x : Row) → IsPart P Q placed formed p → own_of p ≡ Some o
+      → o.row ≡ Some i → o.ty ≡ Some t → slice_get (rows_of P Q) r ≡ Some x → x.item ≡ i → x.ty ≡ t
   own_type p o i t r x a b c d e f = same_Some _ _ (sym (own_typed p o i r x a b c e f) ∙ d)
 
   -- the part of a site
@@ -157,7 +162,8 @@ module _ (P Q : Plain) (placed : IsPlaced P Q) (formed : IsFormed P) (typed : Is
     pub row_is : operand.row ≡ Some (row.New x.number)
     pub row_number_is : row_number P Q (row.New x.number) ≡ Some x.row
 
-  site_parts : (p : Place) (n : Option ℕ) (t : Option ObjectType) (r : Option ℕ) (x : Site) → Contains (site_if p n t r) x → (n ≡ Some x.number) × (t ≡ Some x.ty) × (r ≡ Some x.row)
+  site_parts : (p : Place) (n : Option ℕ) (t : Option ObjectType) (r : Option ℕ) (x : Site) → Contains (site_if p n t r) x → (n ≡ Some x.number)
+      × (t ≡ Some x.ty) × (r ≡ Some x.row)
   site_parts p (Some n) (Some t) (Some r) x c = let e = one_from _ x c in (ap (λ z. Some z.number) e, ap (λ z. Some z.ty) e, ap (λ z. Some z.row) e)
   site_parts p (Some n) (Some t) None x c = absurd (omega (arith, c.1))
   site_parts p (Some n) None r x c = absurd (omega (arith, c.1))
@@ -167,7 +173,8 @@ module _ (P Q : Plain) (placed : IsPlaced P Q) (formed : IsFormed P) (typed : Is
   form_site (a_creation p u o) x a c =
       let z = site_parts p o.created o.ty (number_if (row_number P Q) o.row) x c in
       let e = (part_numbered (a_creation p u o) a).1 ∙ ap (option_map row.New) z.0 in
-      record { place = p; used = u; operand = o; is_part = a; created = z.0; type = z.1; row_is = e; row_number_is = sym (ap (number_if (row_number P Q)) e) ∙ z.2 }
+      record { place = p; used = u; operand = o; is_part = a; created = z.0; type = z.1; row_is = e; row_number_is = sym
+          (ap (number_if (row_number P Q)) e) ∙ z.2 }
   form_site _ x a c = absurd (omega (arith, c.1))
 
   pub site_part : (s : ℕ) (x : Site) → slice_get (sites_of P Q) s ≡ Some x → IsSitePart x
@@ -196,42 +203,53 @@ module _ (P Q : Plain) (placed : IsPlaced P Q) (formed : IsFormed P) (typed : Is
         let z = site_of s h in
         let p = site_part s z.site z.stands in
         let w = item_row P Q F facts (row.New z.site.number) z.site.row p.row_number_is in
-        ap (λ i. (info_at F i.row.0).site) z.info ∙ ap (λ i. i.site) w.3 ∙ ap (site_of_row (numbers P Q)) w.2 ∙ ap (λ n. option_map (λ i. record { 0 = i }) n) (site_back P Q s z.site z.stands)
+        ap (λ i. (info_at F i.row.0).site) z.info ∙ ap (λ i. i.site) w.3 ∙ ap (site_of_row (numbers P Q)) w.2
+            ∙ ap (λ n. option_map (λ i. record { 0 = i }) n) (site_back P Q s z.site z.stands)
 
     pub site_types : (s : ℕ) → s < length F.sites.items → site_class F s ≡ row_class F (site_row F s)
     site_types s h =
         let z = site_of s h in
         let p = site_part s z.site z.stands in
         let w = item_row P Q F facts (row.New z.site.number) z.site.row p.row_number_is in
-        let t = own_type (a_creation p.place p.used p.operand) p.operand (row.New z.site.number) z.site.ty z.site.row w.0 p.is_part refl p.row_is p.type w.1 w.2 in
+        let t = own_type (a_creation p.place p.used p.operand) p.operand (row.New z.site.number) z.site.ty z.site.row w.0 p.is_part refl p.row_is
+            p.type w.1 w.2 in
         ap (λ i. i.class.0) z.info ∙ sym (ap (λ i. row_class F i.row.0) z.info ∙ ap (λ i. i.class.0) w.3 ∙ ap (λ y. y.class.0) t)
 
     -- the site of a creation's row has as many brackets
-    pub site_dim : (n r s : ℕ) (x : Row) → slice_get (rows_of P Q) r ≡ Some x → x.item ≡ row.New n → row_number P Q (row.New n) ≡ Some r → site_number P Q n ≡ Some s → (site_info_at F s).dim ≡ x.ty.dim
+    pub site_dim : (n r s : ℕ) (x : Row) → slice_get (rows_of P Q) r ≡ Some x → x.item ≡ row.New n → row_number P Q (row.New n) ≡ Some r
+        → site_number P Q n ≡ Some s → (site_info_at F s).dim ≡ x.ty.dim
     site_dim n r s x e h a b =
         let z = site_at P Q n s b in
         let p = site_part s z.0 z.1 in
         let same : z.0.row ≡ r = same_Some _ _ (sym p.row_number_is ∙ ap (λ i. row_number P Q (row.New i)) z.2 ∙ a) in
-        let t = own_type (a_creation p.place p.used p.operand) p.operand (row.New z.0.number) z.0.ty z.0.row x p.is_part refl p.row_is p.type (subst (λ i. slice_get (rows_of P Q) i ≡ Some x) (sym same) e) (h ∙ ap row.New (sym z.2)) in
-        ap (λ i. i.dim) (index_at F.sites.items s _ (site_info z.0) (subst (λ y. slice_get y s ≡ Some (site_info z.0)) (sym facts.sites) (at_map (site_info) (sites_of P Q) s z.0 z.1))) ∙ sym (ap (λ y. y.dim) t)
+        let t = own_type (a_creation p.place p.used p.operand) p.operand (row.New z.0.number) z.0.ty z.0.row x p.is_part refl p.row_is p.type
+            (subst (λ i. slice_get (rows_of P Q) i ≡ Some x) (sym same) e) (h ∙ ap row.New (sym z.2)) in
+        ap (λ i. i.dim) (index_at F.sites.items s _ (site_info z.0) (subst (λ y. slice_get y s ≡ Some (site_info z.0)) (sym facts.sites)
+            (at_map (site_info) (sites_of P Q) s z.0 z.1))) ∙ sym (ap (λ y. y.dim) t)
 
     -- a creation has a site
-    pub made_site : (m : ℕ) (k : PlainMethod) (w : Place) (u : Bool) (o : Operand) (n r : ℕ) (t : ObjectType) → slice_get Q.methods m ≡ Some k → Contains (parts_of P m k) (a_creation w u o) → o.created ≡ Some n → o.ty ≡ Some t → o.row ≡ Some (row.New n) → row_number P Q (row.New n) ≡ Some r
+    pub made_site : (m : ℕ) (k : PlainMethod) (w : Place) (u : Bool) (o : Operand) (n r : ℕ) (t : ObjectType) → slice_get Q.methods m ≡ Some k
+        → Contains (parts_of P m k) (a_creation w u o) → o.created ≡ Some n → o.ty ≡ Some t → o.row ≡ Some (row.New n)
+        → row_number P Q (row.New n) ≡ Some r
         → (s : ℕ) × (site_number P Q n ≡ Some s)
     unfolding bodies_of
     made_site m k w u o n r t e c a b d h =
         let x : Site = record { number = n; place = w; ty = t; row = r } in
         let b0 : Body = record { number = m; slot = k.slot; parts = parts_of P m k } in
-        site_there P Q x (flat_has (λ b. flat_map (form_sites (row_number P Q)) b.parts) (bodies_of P Q) b0 x (each_has (body_at P Q) 0 Q.methods m k b0 e m (omega arith) (first b0 []))
+        site_there P Q x (flat_has (λ b. flat_map (form_sites (row_number P Q)) b.parts) (bodies_of P Q) b0 x
+            (each_has (body_at P Q) 0 Q.methods m k b0 e m (omega arith) (first b0 []))
         (flat_has (form_sites (row_number P Q)) (parts_of P m k) (a_creation w u o) x c
-        (subst (λ z. Contains (site_if w z o.ty (number_if (row_number P Q) o.row)) x) (sym a) (subst (λ z. Contains (site_if w (Some n) z (number_if (row_number P Q) o.row)) x) (sym b) (subst (λ z. Contains (site_if w (Some n) (Some t) z) x) (sym (ap (number_if (row_number P Q)) d ∙ h)) (first x []))))))
+        (subst (λ z. Contains (site_if w z o.ty (number_if (row_number P Q) o.row)) x) (sym a)
+            (subst (λ z. Contains (site_if w (Some n) z (number_if (row_number P Q) o.row)) x) (sym b)
+            (subst (λ z. Contains (site_if w (Some n) (Some t) z) x) (sym (ap (number_if (row_number P Q)) d ∙ h)) (first x []))))))
 
     -- the creation of a row with a site
     pub created_row : (n r : ℕ) (s : SiteId) → row_number P Q (row.New n) ≡ Some r → site_number P Q n ≡ Some s.0 → site_row F s.0 ≡ r
     created_row n r s a b =
         let z = site_at P Q n s.0 b in
         let p = site_part s.0 z.0 z.1 in
-        let i = index_at F.sites.items s.0 _ (site_info z.0) (subst (λ y. slice_get y s.0 ≡ Some (site_info z.0)) (sym facts.sites) (at_map (site_info) (sites_of P Q) s.0 z.0 z.1)) in
+        let i = index_at F.sites.items s.0 _ (site_info z.0) (subst (λ y. slice_get y s.0 ≡ Some (site_info z.0)) (sym facts.sites)
+            (at_map (site_info) (sites_of P Q) s.0 z.0 z.1)) in
         ap (λ i. i.row.0) i ∙ same_Some z.0.row r (sym p.row_number_is ∙ ap (λ n. row_number P Q (row.New n)) z.2 ∙ a)
 
     item_site : (r : ℕ) (i : RowItem) (s : SiteId) → row_number P Q i ≡ Some r → site_of_row (numbers P Q) i ≡ Some s → site_row F s.0 ≡ r

@@ -52,11 +52,13 @@ label_is : (o : Option ℕ) (l : ℕ) → is_label o l ≡ true → o ≡ Some l
 label_is None l e = absurd (false≢true e)
 label_is (Some n) l e = ap Some (eqb-true n l e)
 
-type_found : (ps : List Part) (p : Part) (l : ℕ) → ((q : Part) → Contains ps q → part_label q ≡ Some l → q ≡ p) → Contains ps p → part_label p ≡ Some l → type_among ps l ≡ part_type p
+type_found : (ps : List Part) (p : Part) (l : ℕ) → ((q : Part) → Contains ps q → part_label q ≡ Some l → q ≡ p) → Contains ps p
+    → part_label p ≡ Some l → type_among ps l ≡ part_type p
 type_found [] p l one c e = absurd (omega (arith, c.1))
 type_found (q ∷ ps) p l one c e = go (is_label (part_label q) l) refl (λ d. type_found ps p l (λ r z h. one r (more r q ps z) h) d e)
   where
-    go : (b : Bool) → is_label (part_label q) l ≡ b → (Contains ps p → type_among ps l ≡ part_type p) → (if is_label (part_label q) l then part_type q else type_among ps l) ≡ part_type p
+    go : (b : Bool) → is_label (part_label q) l ≡ b → (Contains ps p → type_among ps l ≡ part_type p)
+        → (if is_label (part_label q) l then part_type q else type_among ps l) ≡ part_type p
     go true d r = ap (λ b. if b then part_type q else type_among ps l) d ∙ ap part_type (one q (first q ps) (label_is (part_label q) l d))
     go false d r =
         ap (λ b. if b then part_type q else type_among ps l) d
@@ -95,7 +97,8 @@ module _ (P Q : Plain) where
   item_type (point.Result m) = option_and_then (λ k. object_if k.result) (slice_get Q.methods m)
   item_type (point.Expr m l) = option_and_then (λ k. type_among (parts_of P m k) l) (slice_get Q.methods m)
 
-module _ (P Q : Plain) (placed : IsPlaced P Q) (formed : IsFormed P) (typed : IsTyped P) (F : Facts) (facts : IsFactsOf P Q F) (m : ℕ) (k : PlainMethod) (stands : slice_get Q.methods m ≡ Some k) where
+module _ (P Q : Plain) (placed : IsPlaced P Q) (formed : IsFormed P) (typed : IsTyped P) (F : Facts) (facts : IsFactsOf P Q F) (m : ℕ)
+    (k : PlainMethod) (stands : slice_get Q.methods m ≡ Some k) where
   abbrev type : Ex → Option ObjectType
   type = type_in P m k
 
@@ -123,10 +126,12 @@ module _ (P Q : Plain) (placed : IsPlaced P Q) (formed : IsFormed P) (typed : Is
     pub self : is_this o.point ≡ true → o.row ≡ Some (row.This m)
 
   -- the type at the point of a part
-  form_type : (p : Part) (o : Operand) (l : ℕ) → Contains (parts_of P m k) p → given_by p ≡ Some o → o.point ≡ Some (point.Expr m l) → item_type P Q (point.Expr m l) ≡ o.ty
+  form_type : (p : Part) (o : Operand) (l : ℕ) → Contains (parts_of P m k) p → given_by p ≡ Some o → o.point ≡ Some (point.Expr m l)
+      → item_type P Q (point.Expr m l) ≡ o.ty
   form_type p o l c g e =
       let h : part_label p ≡ Some l = label_given p o g ∙ ap label_in e in
-      ap (option_and_then (λ k. type_among (parts_of P m k) l)) stands ∙ type_found (parts_of P m k) p l (λ q d y. label_apart P m k q p l d c y h) c h ∙ ap (option_and_then (λ o. o.ty)) g
+      ap (option_and_then (λ k. type_among (parts_of P m k) l)) stands ∙ type_found (parts_of P m k) p l (λ q d y. label_apart P m k q p l d c y h) c
+          h ∙ ap (option_and_then (λ o. o.ty)) g
 
   -- what is no row, no point and no creation
   nothing_own : (o : Operand) → o.row ≡ None → IsOwn o
@@ -160,7 +165,8 @@ module _ (P Q : Plain) (placed : IsPlaced P Q) (formed : IsFormed P) (typed : Is
   self_own o e j r x a b c = itself e
 
   -- a form with a label
-  form_sound : (p : Part) (o : Operand) (l : ℕ) → Contains (parts_of P m k) p → given_by p ≡ Some o → o.point ≡ Some (point.Expr m l) → IsTypingOf o.row o.ty → IsOwn o → ((n : ℕ) → o.created ≡ Some n → IsMade o n) → IsSound o
+  form_sound : (p : Part) (o : Operand) (l : ℕ) → Contains (parts_of P m k) p → given_by p ≡ Some o → o.point ≡ Some (point.Expr m l)
+      → IsTypingOf o.row o.ty → IsOwn o → ((n : ℕ) → o.created ≡ Some n → IsMade o n) → IsSound o
   form_sound p o l c g e t w h = record {
     classed = t;
     pointed = λ i d. ap (item_type P Q) (same_Some i (point.Expr m l) (sym d ∙ e)) ∙ form_type p o l c g e;
@@ -178,7 +184,8 @@ module _ (P Q : Plain) (placed : IsPlaced P Q) (formed : IsFormed P) (typed : Is
   abbrev typing_at : (n : ℕ) (u : Bool) (e : Ex) → Typed P g (bare e) → Into n u e → IsTypingOf (at n e).row (at n e).ty
   typing_at n u e a w = operand_typing P Q placed formed typed F facts m k stands n u e a w
 
-  deep_own : (n l : ℕ) (u : Bool) (e d : Ex) → Typed P g (bare e) → Into n u e → ((t : ObjectType) → type (label n e) ≡ Some t → 0 < t.dim) → (at l d).row ≡ (at n e).row → IsOwn (at l d)
+  deep_own : (n l : ℕ) (u : Bool) (e d : Ex) → Typed P g (bare e) → Into n u e → ((t : ObjectType) → type (label n e) ≡ Some t → 0 < t.dim)
+      → (at l d).row ≡ (at n e).row → IsOwn (at l d)
   unfolding IsOwn Typing
   deep_own n l u e d a w h s j r x b c y = let z = typing_at n u e a w j r x (sym s ∙ b) c y in deep (omega (arith, z.dim, h z.type z.stated))
 
@@ -194,15 +201,18 @@ module _ (P Q : Plain) (placed : IsPlaced P Q) (formed : IsFormed P) (typed : Is
   sound n u (binary t o e d) a w = none_sound _ refl refl refl
   sound n u (this t) a w = record {
     classed = typing_at n u (this t) a w;
-    pointed = λ i d. ap (item_type P Q) (same_Some i (point.This m) (sym d)) ∙ ap (option_and_then (λ k. class_object k.owner)) stands ∙ as_object P Q placed formed typed F facts m k stands (this t);
+    pointed = λ i d. ap (item_type P Q) (same_Some i (point.This m) (sym d)) ∙ ap (option_and_then (λ k. class_object k.owner)) stands
+        ∙ as_object P Q placed formed typed F facts m k stands (this t);
     own = self_own (at n (this t)) refl;
     created = no_creation (at n (this t)) refl;
     self = λ d. refl;
   }
   sound n u (local t v) a w = record {
     classed = typing_at n u (local t v) a w;
-    pointed = λ i d. ap (item_type P Q) (same_Some i (point.Local m v) (sym d)) ∙ ap (option_and_then (λ k. variable_object k v)) stands ∙ as_object P Q placed formed typed F facts m k stands (local t v);
-    own = apart_own (λ i. variable_in k.slot (nat_lt i (length k.params)) m i) (Some v) (at n (local t v)) refl (λ i. variable_apart k.slot (nat_lt i (length k.params)) m i);
+    pointed = λ i d. ap (item_type P Q) (same_Some i (point.Local m v) (sym d)) ∙ ap (option_and_then (λ k. variable_object k v)) stands
+        ∙ as_object P Q placed formed typed F facts m k stands (local t v);
+    own = apart_own (λ i. variable_in k.slot (nat_lt i (length k.params)) m i) (Some v) (at n (local t v)) refl
+        (λ i. variable_apart k.slot (nat_lt i (length k.params)) m i);
     created = no_creation (at n (local t v)) refl;
     self = λ d. absurd (false≢true d);
   }
@@ -213,21 +223,38 @@ module _ (P Q : Plain) (placed : IsPlaced P Q) (formed : IsFormed P) (typed : Is
     created = no_creation (at n (static_field t f)) refl;
     self = λ d. absurd (false≢true d);
   }
-  sound n u (own_field t f) a w = form_sound _ (at n (own_field t f)) n (w _ (first _ [])) refl refl (typing_at n u (own_field t f) a w) (apart_own row.Field (Some f) (at n (own_field t f)) refl (λ i. refl)) (no_creation (at n (own_field t f)) refl)
+  sound n u (own_field t f) a w = form_sound _ (at n (own_field t f)) n (w _ (first _ [])) refl refl (typing_at n u (own_field t f) a w)
+      (apart_own row.Field (Some f) (at n (own_field t f)) refl (λ i. refl)) (no_creation (at n (own_field t f)) refl)
   sound n u (field t e x) a w =
-      form_sound (a_load t.place (at n e) (object_field P (type (label n e)) x) (at n (field t e x))) (at n (field t e x)) _ (w _ (Contains-append_right _ (a_load t.place (at n e) (object_field P (type (label n e)) x) (at n (field t e x)) ∷ []) _ (first _ []))) refl refl
-      (typing_at n u (field t e x) a w) (apart_own row.Field (object_field P (type (label n e)) x) (at n (field t e x)) refl (λ i. refl)) (no_creation (at n (field t e x)) refl)
+      form_sound (a_load t.place (at n e) (object_field P (type (label n e)) x) (at n (field t e x))) (at n (field t e x)) _
+          (w _ (Contains-append_right _ (a_load t.place (at n e) (object_field P (type (label n e)) x) (at n (field t e x)) ∷ []) _ (first _ [])))
+          refl refl
+      (typing_at n u (field t e x) a w) (apart_own row.Field (object_field P (type (label n e)) x) (at n (field t e x)) refl (λ i. refl))
+          (no_creation (at n (field t e x)) refl)
   sound n u (index t e i) (t_index a b c d) w =
-      form_sound _ (at n (index t e i)) _ (w _ (Contains-append_right (parts P type m k true (label n e)) _ _ (first (an_element t.place (at n e) (at n (index t e i))) _))) refl refl (typing_at n u (index t e i) (t_index a b c d) w)
-      (deep_own n n true e (index t e i) a (λ q z. w q (Contains-append_left (parts P type m k true (label n e)) _ q z)) (many_dims P Q placed formed typed F facts m k stands n e b) refl) (no_creation (at n (index t e i)) refl)
+      form_sound _ (at n (index t e i)) _
+          (w _ (Contains-append_right (parts P type m k true (label n e)) _ _ (first (an_element t.place (at n e) (at n (index t e i))) _))) refl refl
+          (typing_at n u (index t e i) (t_index a b c d) w)
+      (deep_own n n true e (index t e i) a (λ q z. w q (Contains-append_left (parts P type m k true (label n e)) _ q z))
+          (many_dims P Q placed formed typed F facts m k stands n e b) refl) (no_creation (at n (index t e i)) refl)
   sound n u (call t e x es) a w =
-      form_sound _ (at n (call t e x es)) _ (w _ (Contains-append_right (parts P type m k true (label n e)) _ _ (first _ _))) refl refl (typing_at n u (call t e x es) a w) (apart_own row.Return (call_slot P (type (label n e)) x) (at n (call t e x es)) refl (λ i. refl)) (no_creation (at n (call t e x es)) refl)
-  sound n u (static_call t d es) a w = form_sound _ (at n (static_call t d es)) n (w _ (first _ _)) refl refl (typing_at n u (static_call t d es) a w) (apart_own row.Result (Some d) (at n (static_call t d es)) refl (λ i. refl)) (no_creation (at n (static_call t d es)) refl)
-  sound n u (super_call t x es) a w = form_sound _ (at n (super_call t x es)) n (w _ (first _ _)) refl refl (typing_at n u (super_call t x es) a w) (apart_own row.Return (super_slot P k.owner x) (at n (super_call t x es)) refl (λ i. refl)) (no_creation (at n (super_call t x es)) refl)
-  sound n u (create t i c es) a w = form_sound _ (at n (create t i c es)) n (w _ (first _ _)) refl refl (typing_at n u (create t i c es) a w) (made_own _ refl) (λ j d. record { row_is = ap (λ z. Some (row.New z)) (same_Some i j d); place = t.place; used = u; part = w _ (first _ _) })
-  sound n u (create_array t i v e) a w = form_sound _ (at n (create_array t i v e)) n (w _ (first _ _)) refl refl (typing_at n u (create_array t i v e) a w) (made_own _ refl) (λ j d. record { row_is = ap (λ z. Some (row.New z)) (same_Some i j d); place = t.place; used = u; part = w _ (first _ _) })
-  sound n u (cast t i v e) a w = form_sound _ (at n (cast t i v e)) n (w _ (first _ _)) refl refl (typing_at n u (cast t i v e) a w) (apart_own row.Cast (Some i) (at n (cast t i v e)) refl (λ i. refl)) (no_creation (at n (cast t i v e)) refl)
+      form_sound _ (at n (call t e x es)) _ (w _ (Contains-append_right (parts P type m k true (label n e)) _ _ (first _ _))) refl refl
+          (typing_at n u (call t e x es) a w) (apart_own row.Return (call_slot P (type (label n e)) x) (at n (call t e x es)) refl (λ i. refl))
+          (no_creation (at n (call t e x es)) refl)
+  sound n u (static_call t d es) a w = form_sound _ (at n (static_call t d es)) n (w _ (first _ _)) refl refl (typing_at n u (static_call t d es) a w)
+      (apart_own row.Result (Some d) (at n (static_call t d es)) refl (λ i. refl)) (no_creation (at n (static_call t d es)) refl)
+  sound n u (super_call t x es) a w = form_sound _ (at n (super_call t x es)) n (w _ (first _ _)) refl refl (typing_at n u (super_call t x es) a w)
+      (apart_own row.Return (super_slot P k.owner x) (at n (super_call t x es)) refl (λ i. refl)) (no_creation (at n (super_call t x es)) refl)
+  sound n u (create t i c es) a w = form_sound _ (at n (create t i c es)) n (w _ (first _ _)) refl refl (typing_at n u (create t i c es) a w)
+      (made_own _ refl) (λ j d. record { row_is = ap (λ z. Some (row.New z)) (same_Some i j d); place = t.place; used = u; part = w _ (first _ _) })
+  sound n u (create_array t i v e) a w = form_sound _ (at n (create_array t i v e)) n (w _ (first _ _)) refl refl
+      (typing_at n u (create_array t i v e) a w) (made_own _ refl)
+      (λ j d. record { row_is = ap (λ z. Some (row.New z)) (same_Some i j d); place = t.place; used = u; part = w _ (first _ _) })
+  sound n u (cast t i v e) a w = form_sound _ (at n (cast t i v e)) n (w _ (first _ _)) refl refl (typing_at n u (cast t i v e) a w)
+      (apart_own row.Cast (Some i) (at n (cast t i v e)) refl (λ i. refl)) (no_creation (at n (cast t i v e)) refl)
 
   -- what an `instanceof` gives
-  pub test_sound : (p : Part) (o : Operand) (n l : ℕ) → Contains (parts_of P m k) p → own_of p ≡ Some o → given_by p ≡ Some o → o.row ≡ Some (row.Test n) → o.point ≡ Some (point.Expr m l) → o.created ≡ None → IsSound o
-  test_sound p o n l c e g a b d = form_sound p o l c g b (own_typing P Q placed formed typed F facts m k stands p o c e) (apart_own row.Test (Some n) o a (λ i. refl)) (no_creation o d)
+  pub test_sound : (p : Part) (o : Operand) (n l : ℕ) → Contains (parts_of P m k) p → own_of p ≡ Some o → given_by p ≡ Some o
+      → o.row ≡ Some (row.Test n) → o.point ≡ Some (point.Expr m l) → o.created ≡ None → IsSound o
+  test_sound p o n l c e g a b d = form_sound p o l c g b (own_typing P Q placed formed typed F facts m k stands p o c e)
+      (apart_own row.Test (Some n) o a (λ i. refl)) (no_creation o d)

@@ -85,8 +85,10 @@ module _ (P Q : Plain) (placed : IsPlaced P Q) (formed : IsFormed P) (typed : Is
   in_slot : (d s : ℕ) (k : PlainMethod) → slice_get P.methods d ≡ Some k → k.slot ≡ Some s → IsInSlot P s k
   in_slot d s k e h = ((formed.methods d k e).slots s).0 h
 
-  slot_name : (d e s : ℕ) (h k : PlainMethod) → slice_get P.methods d ≡ Some h → slice_get P.methods e ≡ Some k → h.slot ≡ Some s → k.slot ≡ Some s → h.name ≡ k.name
-  slot_name d e s h k a b u v = let x = in_slot d s h a u in let y = in_slot e s k b v in x.name ∙ ap (λ z. z.name) (same_Some _ _ (sym x.stands ∙ y.stands)) ∙ sym y.name
+  slot_name : (d e s : ℕ) (h k : PlainMethod) → slice_get P.methods d ≡ Some h → slice_get P.methods e ≡ Some k → h.slot ≡ Some s → k.slot ≡ Some s
+      → h.name ≡ k.name
+  slot_name d e s h k a b u v = let x = in_slot d s h a u in let y = in_slot e s k b v in x.name
+      ∙ ap (λ z. z.name) (same_Some _ _ (sym x.stands ∙ y.stands)) ∙ sym y.name
 
   own_body_method : (c s e : ℕ) → own_body P c s ≡ Some e → (k : PlainMethod) × (slice_get P.methods e ≡ Some k) × (k.owner ≡ c) × (k.slot ≡ Some s)
   own_body_method c s e h =
@@ -98,7 +100,8 @@ module _ (P Q : Plain) (placed : IsPlaced P Q) (formed : IsFormed P) (typed : Is
   module _ (d s : ℕ) (h : PlainMethod) (stands : slice_get P.methods d ≡ Some h) (slot : h.slot ≡ Some s) (bodied : is_some h.body ≡ true) where
     body_here : (c : ℕ) → h.owner ≡ c → own_body P c s ≡ Some d
     body_here c o =
-        let j = passes-position (λ m. has_slot c s m && is_some m.body) P.methods d h stands (and_from (has_slot c s h) (is_some h.body) (and_from (h.owner == c) (is_slot h.slot s) (eq-eqb h.owner c o) (ap (λ z. is_slot z s) slot ∙ eq-eqb s s refl)) bodied) in
+        let j = passes-position (λ m. has_slot c s m && is_some m.body) P.methods d h stands (and_from (has_slot c s h) (is_some h.body)
+            (and_from (h.owner == c) (is_slot h.slot s) (eq-eqb h.owner c o) (ap (λ z. is_slot z s) slot ∙ eq-eqb s s refl)) bodied) in
         let z = own_body_method c s j.0 j.1 in
         j.1 ∙ ap Some (formed.method_names j.0 d z.0 h z.1 stands (z.2 ∙ sym o) (slot_name j.0 d s z.0 h z.1 stands z.3 slot))
 
@@ -110,18 +113,23 @@ module _ (P Q : Plain) (placed : IsPlaced P Q) (formed : IsFormed P) (typed : Is
         go (Some j) f =
             let z = own_body_method c s j f in
             let y = in_slot j s z.0 z.1 z.3 in
-            let t = own-own_method P c h.name j (record { method = z.0; stands = z.1; owner = z.2; instance = y.instance; name = slot_name j d s z.0 h z.1 stands z.3 slot }) in
+            let t = own-own_method P c h.name j (record { method = z.0; stands = z.1; owner = z.2; instance = y.instance; name = slot_name j d s z.0 h
+                z.1 stands z.3 slot }) in
             absurd (let u = sym t.1 ∙ e in cc)
 
     nearest_body : {c : ℕ} → IsNearest P (λ k. own_method P k h.name) c d → IsNearest P (λ k. own_body P k s) c d
-    nearest_body (at_class {c = c} e) = at_class (body_here c (let z = own_method-own P c h.name d e in ap (λ k. k.owner) (same_Some _ _ (sym stands ∙ z.stands)) ∙ z.owner))
+    nearest_body (at_class {c = c} e) =
+        at_class (body_here c (let z = own_method-own P c h.name d e in ap (λ k. k.owner) (same_Some _ _ (sym stands ∙ z.stands)) ∙ z.owner))
     nearest_body (above_class {c = c} e p r) = above_class (no_body c e) p (nearest_body r)
 
-  found_body : (c d s : ℕ) (x : List ℕ) (h : IsHeld c d x) → h.method.slot ≡ Some s → has_body P d ≡ true → nearest_of P (λ k. own_method P k x) c ≡ Some d → lookup P c s ≡ Some d
+  found_body : (c d s : ℕ) (x : List ℕ) (h : IsHeld c d x) → h.method.slot ≡ Some s → has_body P d ≡ true → nearest_of P (λ k. own_method P k x) c
+      ≡ Some d → lookup P c s ≡ Some d
   unfolding lookup
   found_body c d s x h e b f =
       nearest-nearest_of P (λ k. own_body P k s) formed.acyclic
-      (nearest_body d s h.method h.stands e (sym (ap (λ o. option_map_or (λ k. is_some k.body) o false) h.stands) ∙ b) (nearest_of-nearest P (λ k. own_method P k h.method.name) (subst (λ y. nearest_of P (λ k. own_method P k y) c ≡ Some d) (sym h.name) f)))
+      (nearest_body d s h.method h.stands e (sym (ap (λ o. option_map_or (λ k. is_some k.body) o false) h.stands)
+          ∙ b) (nearest_of-nearest P (λ k. own_method P k h.method.name) (subst (λ y. nearest_of P (λ k. own_method P k y) c ≡ Some d)
+          (sym h.name) f)))
 
   module _ (F : Facts) (facts : IsFactsOf P Q F) where
     -- a super call of a method's body
@@ -136,12 +144,15 @@ module _ (P Q : Plain) (placed : IsPlaced P Q) (formed : IsFormed P) (typed : Is
       pub found : super_method P method.owner name ≡ Some runs
       pub bodied : has_body P runs ≡ true
 
-    super_call_of : (m : ℕ) (k : PlainMethod) (p : Part) (x : SuperInfo) → slice_get Q.methods m ≡ Some k → Contains (parts_of P m k) p → Contains (supers_of (numbers P Q) m p) x → IsSuperCall x
+    super_call_of : (m : ℕ) (k : PlainMethod) (p : Part) (x : SuperInfo) → slice_get Q.methods m ≡ Some k → Contains (parts_of P m k) p
+        → Contains (supers_of (numbers P Q) m p) x → IsSuperCall x
     unfolding numbers
     super_call_of m k (a_super_call w (Some d) es o) x e c h =
-        let z = both_from (row_number P Q (row.This m)) (column_number P Q (column.Def d)) (λ a b. record { row = record { 0 = a }; column = record { 0 = b } }) x h in
+        let z = both_from (row_number P Q (row.This m)) (column_number P Q (column.Def d))
+            (λ a b. record { row = record { 0 = a }; column = record { 0 = b } }) x h in
         let f = ((part_fitted P Q placed formed typed F facts m k e (a_super_call w (Some d) es o) c).1 d refl).0 in
-        record { number = m; method = k; stands = e; runs = d; row_is = z.2 ∙ ap (λ y. Some y.row.0) z.4; column_is = z.3 ∙ ap (λ y. Some y.column.0) z.4; name = f.name; found = f.found; bodied = f.bodied }
+        record { number = m; method = k; stands = e; runs = d; row_is = z.2 ∙ ap (λ y. Some y.row.0) z.4; column_is = z.3
+            ∙ ap (λ y. Some y.column.0) z.4; name = f.name; found = f.found; bodied = f.bodied }
     super_call_of m k _ x e c h = absurd (omega (arith, h.1))
 
     pub super_entry : (x : SuperInfo) → Contains F.supers.items x → IsSuperCall x
@@ -157,7 +168,8 @@ module _ (P Q : Plain) (placed : IsPlaced P Q) (formed : IsFormed P) (typed : Is
     supers_below = all_of (λ x. IsBelow F (row_class F x.row.0) (column_class F x.column.0)) F.supers.items
         (λ x c. let w = super_entry x c in
         let n = numbered_column P Q F facts (column.Def w.runs) x.column.0 w.column_is in
-        subst (λ z. IsBelow F z (column_class F x.column.0)) (sym (this_class x w)) (subst (λ z. IsBelow F w.method.owner z) (sym (ap (λ i. i.class.0) n.1)) (subclass_below P Q placed F facts (super_above w.method.owner w.runs w.name w.found))))
+        subst (λ z. IsBelow F z (column_class F x.column.0)) (sym (this_class x w)) (subst (λ z. IsBelow F w.method.owner z)
+            (sym (ap (λ i. i.class.0) n.1)) (subclass_below P Q placed F facts (super_above w.method.owner w.runs w.name w.found))))
 
     -- a super call stands in a method with a `this`
     this_there : (x : SuperInfo) → IsSuperCall x → is_some (row_this F x.row.0) ≡ true
@@ -170,8 +182,10 @@ module _ (P Q : Plain) (placed : IsPlaced P Q) (formed : IsFormed P) (typed : Is
     module _ (same : untagged Q ≡ P) where
       finds_column : (c j m : ℕ) → lookup P c j ≡ Some m → (d : ℕ) × (finds F c j ≡ Some d) × (column_number P Q (column.Def m) ≡ Some d)
       unfolding lookup
-      finds_column = subst (λ Z. IsFormed Z → IsFactsOf Z Q F → (c j m : ℕ) → lookup Z c j ≡ Some m → (d : ℕ) × (finds F c j ≡ Some d) × (column_number Z Q (column.Def m) ≡ Some d)) same
-          (λ f g c j m e. let z = finds_some Q F f g (length (untagged Q).classes) c j m e in (z.0, ap (λ n. finds_within F n c j) (same_length Q F g) ∙ z.1, z.2)) formed facts
+      finds_column = subst (λ Z. IsFormed Z → IsFactsOf Z Q F → (c j m : ℕ) → lookup Z c j ≡ Some m → (d : ℕ) × (finds F c j ≡ Some d)
+          × (column_number Z Q (column.Def m) ≡ Some d)) same
+          (λ f g c j m e. let z = finds_some Q F f g (length (untagged Q).classes) c j m e in (z.0, ap (λ n. finds_within F n c j) (same_length Q F g)
+              ∙ z.1, z.2)) formed facts
 
       nearest_entry : (x : SuperInfo) → IsSuperCall x → IsNearestAbove F (row_class F x.row.0) x.column.0
       nearest_entry x w =
@@ -186,10 +200,13 @@ module _ (P Q : Plain) (placed : IsPlaced P Q) (formed : IsFormed P) (typed : Is
             parent = f.parent;
             above = parent_same P Q placed F facts (row_class F x.row.0) ∙ ap (parent_of P) (this_class x w) ∙ f.above;
             slot = s.0;
-            slot_is = ap (λ i. i.slot) n.1 ∙ ap (λ o. option_and_then (λ k. k.slot) o) q.1 ∙ sym y.slot ∙ ap (λ k. k.slot) (same_Some _ _ (sym y.stands ∙ h.stands)) ∙ s.1;
+            slot_is = ap (λ i. i.slot) n.1 ∙ ap (λ o. option_and_then (λ k. k.slot) o) q.1 ∙ sym y.slot
+                ∙ ap (λ k. k.slot) (same_Some _ _ (sym y.stands ∙ h.stands)) ∙ s.1;
             found = d.1 ∙ sym d.2 ∙ w.column_is;
           }
 
-      pub super_bodies : All (λ x. (is_some (row_this F x.row.0) ≡ true) × IsDef F x.column.0 × IsNearestAbove F (row_class F x.row.0) x.column.0) F.supers.items
+      pub super_bodies : All (λ x. (is_some (row_this F x.row.0) ≡ true) × IsDef F x.column.0 × IsNearestAbove F (row_class F x.row.0) x.column.0)
+          F.supers.items
       super_bodies = all_of (λ x. (is_some (row_this F x.row.0) ≡ true) × IsDef F x.column.0 × IsNearestAbove F (row_class F x.row.0) x.column.0) F.supers.items
-          (λ x c. let w = super_entry x c in (this_there x w, ap (λ i. i.kind) (numbered_column P Q F facts (column.Def w.runs) x.column.0 w.column_is).1, nearest_entry x w))
+          (λ x c. let w = super_entry x c in (this_there x w, ap (λ i. i.kind) (numbered_column P Q F facts (column.Def w.runs) x.column.0
+              w.column_is).1, nearest_entry x w))

@@ -57,7 +57,8 @@ abbrev expr_body : PointItem → Option ℕ
 expr_body (point.Expr m l) = Some m
 expr_body _ = None
 
-body_there : (P : Plain) (type : Ex → Option ObjectType) (m : ℕ) (k : PlainMethod) (b : Option Sts) (p : Part) → Contains (parts_body P type m k b) p → is_some b ≡ true
+body_there : (P : Plain) (type : Ex → Option ObjectType) (m : ℕ) (k : PlainMethod) (b : Option Sts) (p : Part) → Contains (parts_body P type m k b) p
+    → is_some b ≡ true
 body_there P type m k None p c = absurd (omega (arith, c.1))
 body_there P type m k (Some xs) p c = refl
 
@@ -67,7 +68,9 @@ has_body P m k p c = body_there P (type_in P m k) m k k.body p c
 
 -- what the parts of all bodies give
 module _ (P Q : Plain) where
-  pub gathered_from : {A : Type 0} (f : Body → Part → List A) (x : A) → Contains (gathered P Q f) x → (m : ℕ) × (k : PlainMethod) × (p : Part) × (slice_get Q.methods m ≡ Some k) × Contains (parts_of P m k) p × Contains (f (record { number = m; slot = k.slot; parts = parts_of P m k }) p) x
+  pub gathered_from : {A : Type 0} (f : Body → Part → List A) (x : A) → Contains (gathered P Q f) x → (m : ℕ) × (k : PlainMethod) × (p : Part)
+      × (slice_get Q.methods m ≡ Some k) × Contains (parts_of P m k) p
+      × Contains (f (record { number = m; slot = k.slot; parts = parts_of P m k }) p) x
   unfolding bodies_of
   gathered_from f x c =
       let z = flat_from (λ b. flat_map (f b) b.parts) (bodies_of P Q) x c in
@@ -76,11 +79,13 @@ module _ (P Q : Plain) where
       let w = flat_from (f z.0) z.0.parts x z.2 in
       (y.0, y.1, w.0, y.2, subst (λ b. Contains b.parts w.0) (sym e) w.1, subst (λ b. Contains (f b w.0) x) (sym e) w.2)
 
-  pub gathered_has : {A : Type 0} (f : Body → Part → List A) (x : A) (m : ℕ) (k : PlainMethod) (p : Part) → slice_get Q.methods m ≡ Some k → Contains (parts_of P m k) p → Contains (f (record { number = m; slot = k.slot; parts = parts_of P m k }) p) x → Contains (gathered P Q f) x
+  pub gathered_has : {A : Type 0} (f : Body → Part → List A) (x : A) (m : ℕ) (k : PlainMethod) (p : Part) → slice_get Q.methods m ≡ Some k
+      → Contains (parts_of P m k) p → Contains (f (record { number = m; slot = k.slot; parts = parts_of P m k }) p) x → Contains (gathered P Q f) x
   unfolding bodies_of
   gathered_has f x m k p e c d =
       let b : Body = record { number = m; slot = k.slot; parts = parts_of P m k } in
-      flat_has (λ b. flat_map (f b) b.parts) (bodies_of P Q) b x (each_has (body_at P Q) 0 Q.methods m k b e m (omega arith) (first b [])) (flat_has (f b) b.parts p x c d)
+      flat_has (λ b. flat_map (f b) b.parts) (bodies_of P Q) b x (each_has (body_at P Q) 0 Q.methods m k b e m (omega arith) (first b []))
+          (flat_has (f b) b.parts p x c d)
 
   -- the item of a numbered row, and of a numbered point
   pub row_item : (i : Option RowItem) (r : ℕ) → row_in (numbers P Q) i ≡ Some r → (j : RowItem) × (i ≡ Some j) × (row_number P Q j ≡ Some r)
@@ -92,25 +97,30 @@ module _ (P Q : Plain) where
   unfolding numbers
   point_item i q e = e
 
-pub both_from : {A B C : Type 0} (a : Option A) (b : Option B) (f : A → B → C) (x : C) → Contains (both a b f) x → (y : A) × (z : B) × (a ≡ Some y) × (b ≡ Some z) × (f y z ≡ x)
+pub both_from : {A B C : Type 0} (a : Option A) (b : Option B) (f : A → B → C) (x : C) → Contains (both a b f) x → (y : A) × (z : B) × (a ≡ Some y)
+    × (b ≡ Some z) × (f y z ≡ x)
 both_from (Some a) (Some b) f x d = (a, b, refl, refl, one_from _ x d)
 both_from (Some a) None f x d = absurd (omega (arith, d.1))
 both_from None b f x d = absurd (omega (arith, d.1))
 
-pub these_from : {A B C D : Type 0} (a : Option A) (b : Option B) (c : Option C) (f : A → B → C → D) (x : D) → Contains (these a b c f) x → (y : A) × (z : B) × (w : C) × (a ≡ Some y) × (b ≡ Some z) × (c ≡ Some w) × (f y z w ≡ x)
+pub these_from : {A B C D : Type 0} (a : Option A) (b : Option B) (c : Option C) (f : A → B → C → D) (x : D) → Contains (these a b c f) x
+    → (y : A) × (z : B) × (w : C) × (a ≡ Some y) × (b ≡ Some z) × (c ≡ Some w) × (f y z w ≡ x)
 these_from (Some a) (Some b) (Some c) f x d = (a, b, c, refl, refl, refl, one_from _ x d)
 these_from (Some a) (Some b) None f x d = absurd (omega (arith, d.1))
 these_from (Some a) None c f x d = absurd (omega (arith, d.1))
 these_from None b c f x d = absurd (omega (arith, d.1))
 
-these_has : {A B C D : Type 0} (a : Option A) (b : Option B) (c : Option C) (f : A → B → C → D) (y : A) (z : B) (w : C) → a ≡ Some y → b ≡ Some z → c ≡ Some w → Contains (these a b c f) (f y z w)
+these_has : {A B C D : Type 0} (a : Option A) (b : Option B) (c : Option C) (f : A → B → C → D) (y : A) (z : B) (w : C) → a ≡ Some y → b ≡ Some z
+    → c ≡ Some w → Contains (these a b c f) (f y z w)
 these_has a b c f y z w d e g = rw (d, e, g) (first (f y z w) [])
 
-own_point_has : (w : Place) (i : Option PointItem) (r : Option RowItem) (t : Option ObjectType) (j : PointItem) (s : RowItem) (u : ObjectType) → i ≡ Some j → r ≡ Some s → t ≡ Some u → Contains (own_point w i r t) (record { item = j; place = w; row = s })
+own_point_has : (w : Place) (i : Option PointItem) (r : Option RowItem) (t : Option ObjectType) (j : PointItem) (s : RowItem) (u : ObjectType)
+    → i ≡ Some j → r ≡ Some s → t ≡ Some u → Contains (own_point w i r t) (record { item = j; place = w; row = s })
 own_point_has w i r t j s u a b c = rw (a, b, c) (first (record { item = j; place = w; row = s }) [])
 
 -- what stands where in two lists, one after the other
-append_cases : {A : Type 0} (xs ys : List A) (i : ℕ) (a : A) → slice_get (xs ++ ys) i ≡ Some a → (slice_get xs i ≡ Some a) ⊎ ((j : ℕ) × (i ≡ length xs + j) × (slice_get ys j ≡ Some a))
+append_cases : {A : Type 0} (xs ys : List A) (i : ℕ) (a : A) → slice_get (xs ++ ys) i ≡ Some a → (slice_get xs i ≡ Some a)
+    ⊎ ((j : ℕ) × (i ≡ length xs + j) × (slice_get ys j ≡ Some a))
 append_cases [] ys i a e = inr (i, omega arith, e)
 append_cases (x ∷ xs) ys zero a e = inl e
 append_cases (x ∷ xs) ys (suc i) a e = ⊎_elim (λ c. inl c) (λ z. inr (z.0, omega (arith, z.1), z.2)) (append_cases xs ys i a e)
@@ -126,7 +136,8 @@ module _ {A B : Type 0} (f : ℕ → A → List B) (key : B → ℕ) (keyed : (n
   IsAlone : ℕ → List A → ℕ → Type 0
   IsAlone n xs s = (x : A) (i : ℕ) → slice_get xs i ≡ Some x → s ≡ n + i → (c : B) × (f s x ≡ c ∷ [])
 
-  one_place : (n : ℕ) (xs : List A) (s : ℕ) → IsAlone n xs s → (i j : ℕ) (a b : B) → slice_get (each f n xs) i ≡ Some a → slice_get (each f n xs) j ≡ Some b → key a ≡ s → key b ≡ s → i ≡ j
+  one_place : (n : ℕ) (xs : List A) (s : ℕ) → IsAlone n xs s → (i j : ℕ) (a b : B) → slice_get (each f n xs) i ≡ Some a → slice_get (each f n xs) j
+      ≡ Some b → key a ≡ s → key b ≡ s → i ≡ j
   unfolding IsAlone
   one_place n [] s one i j a b d e g h = absurd (cc)
   one_place n (x ∷ xs) s one i j a b d e g h =
@@ -135,11 +146,13 @@ module _ {A B : Type 0} (f : ℕ → A → List B) (key : B → ℕ) (keyed : (n
       ⊎_elim
       (λ p. let same : s ≡ n = sym g ∙ keyed n x a (contains_at front i a p) in
       ⊎_elim
-      (λ q. let c = one x 0 refl (omega (arith, same)) in let w : front ≡ c.0 ∷ [] = ap (λ z. f z x) (sym same) ∙ c.1 in at_one front c.0 i a w p ∙ sym (at_one front c.0 j b w q))
+      (λ q. let c = one x 0 refl (omega (arith, same)) in let w : front ≡ c.0 ∷ [] = ap (λ z. f z x) (sym same) ∙ c.1 in at_one front c.0 i a w p
+          ∙ sym (at_one front c.0 j b w q))
       (λ q. absurd (after n xs q.0 b q.2 (h ∙ same))) (append_cases front rest j b e))
       (λ p. ⊎_elim
       (λ q. absurd (after n xs p.0 a p.2 (g ∙ sym h ∙ keyed n x b (contains_at front j b q))))
-      (λ q. let r = one_place (n + 1) xs s (λ y k u v. one y (suc k) u (omega (arith, v))) p.0 q.0 a b p.2 q.2 g h in omega (arith, p.1, q.1, r)) (append_cases front rest j b e))
+      (λ q. let r = one_place (n + 1) xs s (λ y k u v. one y (suc k) u (omega (arith, v))) p.0 q.0 a b p.2 q.2 g h in omega (arith, p.1, q.1, r))
+          (append_cases front rest j b e))
       (append_cases front rest i a d)
 
 module _ (P Q : Plain) (placed : IsPlaced P Q) (formed : IsFormed P) (typed : IsTyped P) (F : Facts) (facts : IsFactsOf P Q F) where
@@ -160,9 +173,11 @@ module _ (P Q : Plain) (placed : IsPlaced P Q) (formed : IsFormed P) (typed : Is
     pub typed_as : own.ty ≡ Some type
     pub class : type.class ≡ x.class
 
-  test_part : (m : ℕ) (k : PlainMethod) (p : Part) (x : TestInfo) → slice_get Q.methods m ≡ Some k → Contains (parts_of P m k) p → Contains (tests_of (numbers P Q) p) x → IsTestPart x
+  test_part : (m : ℕ) (k : PlainMethod) (p : Part) (x : TestInfo) → slice_get Q.methods m ≡ Some k → Contains (parts_of P m k) p
+      → Contains (tests_of (numbers P Q) p) x → IsTestPart x
   test_part m k (a_test w d o) x e c t =
-      let z = these_from (point_at (numbers P Q) d) (row_at (numbers P Q) o) o.ty (λ a r t. record { from = a; target = record { 0 = r }; class = t.class; place = w }) x t in
+      let z = these_from (point_at (numbers P Q) d) (row_at (numbers P Q) o) o.ty
+          (λ a r t. record { from = a; target = record { 0 = r }; class = t.class; place = w }) x t in
       let i = row_item P Q o.row z.1 z.4 in
       record {
         number = m;
@@ -184,7 +199,8 @@ module _ (P Q : Plain) (placed : IsPlaced P Q) (formed : IsFormed P) (typed : Is
 
   pub test_of : (x : TestInfo) → Contains F.tests.items x → IsTestPart x
   test_of x c =
-      let z = gathered_from P Q (λ b. tests_of (numbers P Q)) x (place_from (λ t. t.place.at) (gathered P Q (λ b. tests_of (numbers P Q))) x (subst (λ w. Contains w x) facts.tests c)) in
+      let z = gathered_from P Q (λ b. tests_of (numbers P Q)) x (place_from (λ t. t.place.at) (gathered P Q (λ b. tests_of (numbers P Q))) x
+          (subst (λ w. Contains w x) facts.tests c)) in
       test_part z.0 z.1 z.2 x z.3 z.4 z.5
 
   part_is : (x : TestInfo) (t : IsTestPart x) → IsPart P Q placed formed (a_test t.place t.operand t.own)
@@ -194,9 +210,11 @@ module _ (P Q : Plain) (placed : IsPlaced P Q) (formed : IsFormed P) (typed : Is
   targets = all_of (λ x. row_class F x.target.0 ≡ x.class.0) F.tests.items
       (λ x c. let t = test_of x c in
       let w = item_row P Q F facts t.item x.target.0 t.target in
-      ap (λ i. i.class.0) w.3 ∙ ap (λ y. y.class.0) (own_type P Q placed formed typed (a_test t.place t.operand t.own) t.own t.item t.type x.target.0 w.0 (part_is x t) refl t.row_is t.typed_as w.1 w.2) ∙ ap (λ y. y.0) t.class)
+      ap (λ i. i.class.0) w.3 ∙ ap (λ y. y.class.0) (own_type P Q placed formed typed (a_test t.place t.operand t.own) t.own t.item t.type x.target.0
+          w.0 (part_is x t) refl t.row_is t.typed_as w.1 w.2) ∙ ap (λ y. y.0) t.class)
 
-  marked : (m : ℕ) (k : PlainMethod) (p : Part) (x : Column) (c : ClassId) → slice_get Q.methods m ≡ Some k → Contains (parts_of P m k) p → Contains (form_columns p) x → x.item ≡ column.Is c → HasMark F c.0
+  marked : (m : ℕ) (k : PlainMethod) (p : Part) (x : Column) (c : ClassId) → slice_get Q.methods m ≡ Some k → Contains (parts_of P m k) p
+      → Contains (form_columns p) x → x.item ≡ column.Is c → HasMark F c.0
   marked m k p x c e d f h =
       let z = part_column P Q m k p x e d f in
       let w = numbered_column P Q F facts (column.Is c) z.0 (ap (column_number P Q) (sym h) ∙ z.1) in
@@ -206,10 +224,13 @@ module _ (P Q : Plain) (placed : IsPlaced P Q) (formed : IsFormed P) (typed : Is
   marks = all_of (λ x. HasMark F x.class.0) F.tests.items
       (λ x c. let t = test_of x c in
       let col : Column = record { item = column.Is t.type.class; place = t.place } in
-      subst (λ y. HasMark F y.0) t.class (marked t.number t.method (a_test t.place t.operand t.own) col t.type.class t.stands t.part (rw t.typed_as (first col [])) refl))
+      subst (λ y. HasMark F y.0) t.class (marked t.number t.method (a_test t.place t.operand t.own) col t.type.class t.stands t.part
+          (rw t.typed_as (first col [])) refl))
 
   -- the row of the point of a part
-  pub part_follows : (m : ℕ) (k : PlainMethod) (p : Part) (o : Operand) (l : ℕ) (a : PointAt) → slice_get Q.methods m ≡ Some k → Contains (parts_of P m k) p → given_by p ≡ Some o → o.point ≡ Some (point.Expr m l) → Follows P Q a → a.item ≡ point.Expr m l → o.row ≡ Some a.row
+  pub part_follows : (m : ℕ) (k : PlainMethod) (p : Part) (o : Operand) (l : ℕ) (a : PointAt) → slice_get Q.methods m ≡ Some k
+      → Contains (parts_of P m k) p → given_by p ≡ Some o → o.point ≡ Some (point.Expr m l) → Follows P Q a → a.item ≡ point.Expr m l
+      → o.row ≡ Some a.row
   part_follows m k p o l a e c g h (a_form n j q d b v) i =
       let y = subst (λ z. HasLabel n z) v.given (part_labelled P Q placed formed typed q (record { number = n; method = j; stands = d; part = b }) n j d b) in
       let s : n ≡ m = same_Some n m (ap expr_body (same_Some _ _ (sym y.1 ∙ v.point_is ∙ ap Some i))) in
@@ -227,25 +248,34 @@ module _ (P Q : Plain) (placed : IsPlaced P Q) (formed : IsFormed P) (typed : Is
       let p = a_test t.place t.operand t.own in
       let y = part_labelled P Q placed formed typed p (part_is x t) t.number t.method t.stands t.part in
       let a : PointAt = record { item = point.Expr t.number y.0; place = t.place; row = t.item } in
-      let q = part_point P Q t.number t.method t.stands (has_body P t.number t.method p t.part) p a t.part (own_point_has t.place t.own.point t.own.row t.own.ty (point.Expr t.number y.0) t.item t.type y.1 t.row_is t.typed_as) x.target.0 t.target in
+      let q = part_point P Q t.number t.method t.stands (has_body P t.number t.method p t.part) p a t.part
+          (own_point_has t.place t.own.point t.own.row t.own.ty (point.Expr t.number y.0) t.item t.type y.1 t.row_is t.typed_as)
+          x.target.0 t.target in
       let z = item_point P Q F facts (point.Expr t.number y.0) q.0 q.1 in
       let f = point_of P Q q.0 z.0 z.1 in
       let at = ap (λ i. point_in (numbers P Q) i) y.1 ∙ point_item P Q (point.Expr t.number y.0) q.0 q.1 in
       let one : CastInfo = record { from = x.from; into = q.0; class = t.type.class } in
       record {
         cast = one;
-        listed = (facts.casts one).1 (gathered_has P Q (λ b. casts_of (numbers P Q)) one t.number t.method p t.stands t.part (these_has (point_at (numbers P Q) t.operand) (point_at (numbers P Q) t.own) t.own.ty (λ a q t. record { from = a; into = q; class = t.class }) x.from q.0 t.type t.from at t.typed_as));
+        listed = (facts.casts one).1 (gathered_has P Q (λ b. casts_of (numbers P Q)) one t.number t.method p t.stands t.part
+            (these_has (point_at (numbers P Q) t.operand) (point_at (numbers P Q) t.own) t.own.ty
+            (λ a q t. record { from = a; into = q; class = t.class }) x.from q.0 t.type t.from at t.typed_as));
         from = refl;
         class = t.class;
         point = z.4;
-        row = z.3 ∙ same_Some _ _ (sym f.number ∙ ap (row_number P Q) (same_Some _ _ (sym (part_follows t.number t.method p t.own y.0 f.at t.stands t.part refl y.1 f.follows (f.item ∙ z.2)) ∙ t.row_is)) ∙ t.target);
+        row = z.3 ∙ same_Some _ _ (sym f.number
+            ∙ ap (row_number P Q) (same_Some _ _ (sym (part_follows t.number t.method p t.own y.0 f.at t.stands t.part refl y.1 f.follows (f.item
+            ∙ z.2)) ∙ t.row_is)) ∙ t.target);
       }
 
   casts : All (HasCast F) F.tests.items
   casts = all_of (HasCast F) F.tests.items (λ x c. cast_of x (test_of x c))
 
-  array_part : (w : Place) (u : Bool) (o : Operand) (t : ObjectType) (x : Column) → o.ty ≡ Some t → 0 < t.dim → x ≡ record { item = column.Is t.class; place = w } → Contains (form_columns (a_creation w u o)) x
-  array_part w u o t x e h d = subst (λ z. Contains (array_mark w z) x) (sym e) (when_has (not (t.dim == 0)) _ x (rw (ne_eqb t.dim 0 (λ z. absurd (omega (arith, h, z)))) refl) (subst (λ z. Contains (record { item = column.Is t.class; place = w } ∷ []) z) (sym d) (first _ [])))
+  array_part : (w : Place) (u : Bool) (o : Operand) (t : ObjectType) (x : Column) → o.ty ≡ Some t → 0 < t.dim
+      → x ≡ record { item = column.Is t.class; place = w } → Contains (form_columns (a_creation w u o)) x
+  array_part w u o t x e h d = subst (λ z. Contains (array_mark w z) x) (sym e)
+      (when_has (not (t.dim == 0)) _ x (rw (ne_eqb t.dim 0 (λ z. absurd (omega (arith, h, z)))) refl)
+      (subst (λ z. Contains (record { item = column.Is t.class; place = w } ∷ []) z) (sym d) (first _ [])))
 
   array_marks : (s : ℕ) → s < length F.sites.items → 0 < (site_info_at F s).dim → HasMark F (site_class F s)
   array_marks s h d =
@@ -260,15 +290,19 @@ module _ (P Q : Plain) (placed : IsPlaced P Q) (formed : IsFormed P) (typed : Is
   abbrev all_fields : List FieldCell
   all_fields = fields_of (numbers P Q) Q (columns_of P Q)
 
-  keyed_by : (t : Bool) (n : ℕ) (x : Site) (b : CellInfo) → Contains (if t then flat_map (field_cell P n x.ty.class.0) all_fields else array_cell n x.row) b → b.site.0 ≡ n
-  keyed_by true n x b c = let z = flat_from (field_cell P n x.ty.class.0) all_fields b c in sym (ap (λ z. z.site.0) (one_from _ b (when_from (below P x.ty.class.0 z.0.owner) _ b z.2).1))
+  keyed_by : (t : Bool) (n : ℕ) (x : Site) (b : CellInfo)
+      → Contains (if t then flat_map (field_cell P n x.ty.class.0) all_fields else array_cell n x.row) b → b.site.0 ≡ n
+  keyed_by true n x b c = let z = flat_from (field_cell P n x.ty.class.0) all_fields b c in sym
+      (ap (λ z. z.site.0) (one_from _ b (when_from (below P x.ty.class.0 z.0.owner) _ b z.2).1))
   keyed_by false n x b c = sym (ap (λ z. z.site.0) (one_from _ b c))
 
   keyed_site : (n : ℕ) (x : Site) (b : CellInfo) → Contains (site_cells P all_fields n x) b → b.site.0 ≡ n
   keyed_site n x b c = keyed_by (x.ty.dim == 0) n x b c
 
-  array_cells : (s : ℕ) (x : Site) → 0 < x.ty.dim → site_cells P all_fields s x ≡ record { site = record { 0 = s }; column = None; row = record { 0 = x.row } } ∷ []
-  array_cells s x h = ap (λ t. if t then flat_map (field_cell P s x.ty.class.0) all_fields else array_cell s x.row) (ne_eqb x.ty.dim 0 (λ z. absurd (omega (arith, h, z))))
+  array_cells : (s : ℕ) (x : Site) → 0 < x.ty.dim → site_cells P all_fields s x
+      ≡ record { site = record { 0 = s }; column = None; row = record { 0 = x.row } } ∷ []
+  array_cells s x h = ap (λ t. if t then flat_map (field_cell P s x.ty.class.0) all_fields else array_cell s x.row)
+      (ne_eqb x.ty.dim 0 (λ z. absurd (omega (arith, h, z))))
 
   cells : (s : ℕ) → s < length F.sites.items → 0 < (site_info_at F s).dim → HasOneCell F s
   unfolding cells_of IsAlone
@@ -277,7 +311,8 @@ module _ (P Q : Plain) (placed : IsPlaced P Q) (formed : IsFormed P) (typed : Is
       let x = z.site in
       let w = array_cells s x (subst (λ n. 0 < n) (ap (λ i. i.dim) z.info) d) in
       let c : CellInfo = record { site = record { 0 = s }; column = None; row = record { 0 = x.row } } in
-      let at = at_contains (each (site_cells P all_fields) 0 (sites_of P Q)) c (each_has (site_cells P all_fields) 0 (sites_of P Q) s x c z.stands s (omega arith) (subst (λ y. Contains y c) (sym w) (first c []))) in
+      let at = at_contains (each (site_cells P all_fields) 0 (sites_of P Q)) c (each_has (site_cells P all_fields) 0 (sites_of P Q) s x c z.stands s
+          (omega arith) (subst (λ y. Contains y c) (sym w) (first c []))) in
       let e : slice_get F.cells.items at.0 ≡ Some c = subst (λ y. slice_get y at.0 ≡ Some c) (sym facts.cells) at.1 in
       let i = index_at F.cells.items at.0 _ c e in
       record {
@@ -287,7 +322,9 @@ module _ (P Q : Plain) (placed : IsPlaced P Q) (formed : IsFormed P) (typed : Is
         column = ap (λ k. k.column) i;
         row = ap (λ k. k.row.0) i ∙ sym (ap (λ k. k.row.0) z.info);
         one = λ j below q. let k = below_at F.cells.items j below in
-            one_place (site_cells P all_fields) (λ k. k.site.0) keyed_site 0 (sites_of P Q) s (λ y n u v. (c, ap (site_cells P all_fields s) (same_Some y x (sym u ∙ ap (slice_get (sites_of P Q)) (omega (arith, v)) ∙ z.stands)) ∙ w)) j at.0 k.0 c
+            one_place (site_cells P all_fields) (λ k. k.site.0) keyed_site 0 (sites_of P Q) s
+                (λ y n u v. (c, ap (site_cells P all_fields s) (same_Some y x (sym u ∙ ap (slice_get (sites_of P Q)) (omega (arith, v)) ∙ z.stands))
+                ∙ w)) j at.0 k.0 c
             (subst (λ y. slice_get y j ≡ Some k.0) facts.cells k.1) at.1 (ap (λ k. k.site.0) (sym (index_at F.cells.items j _ k.0 k.1)) ∙ q) refl;
       }
 

@@ -1,4 +1,5 @@
--- A program whose rows, columns, sites, points and lists are computed: class P { int a; P b; }, and a main that makes a P, puts it in a local x and stores it in its own field.
+-- A program whose rows, columns, sites, points and lists are computed: class P { int a; P b; }, and a main that makes a P, puts it in a local x and
+-- stores it in its own field.
 use Rattle.std.proofs.Common.{◌≡◌, ℕ, true, false, [], ◌∷◌, refl}
 use Rattle.std.specs.Prelude.{Some, None, map, codes}
 use Rattle.java_core.specs.declared.Ty.{Ty}
@@ -22,7 +23,8 @@ abbrev of_p : Ty
 of_p = record { base = Class (record { 0 = 1 }); dim = 0 }
 
 abbrev code : Sts
-code = st_then (declare (place 50) 1 (Some (create (place 54) 0 1 no_ex))) (st_then (assign (place 62) (to_field (place 61) (local (place 60) 1) (codes "b")) (local (place 64) 1)) no_st)
+code = st_then (declare (place 50) 1 (Some (create (place 54) 0 1 no_ex)))
+    (st_then (assign (place 62) (to_field (place 61) (local (place 60) 1) (codes "b")) (local (place 64) 1)) no_st)
 
 abbrev main_method : PlainMethod
 main_method =
@@ -77,5 +79,6 @@ ties = refl
 
 -- the one object has a cell for b, and none for the int a
 cells : cells_of program program ≡ record { site = record { 0 = 0 }; column = Some (record { 0 = 1 }); row = record { 0 = 0 } } ∷ []
-unfolding cells_of numbers bodies_of points_of point_number sites_of site_number rows_of row_number columns_of column_number parts_of type_in field_of member_field below
+unfolding cells_of numbers bodies_of points_of point_number sites_of site_number rows_of row_number columns_of column_number parts_of type_in field_of
+    member_field below
 cells = refl

@@ -43,7 +43,8 @@ less d = omega arith
 
 element_in_is : (b : TyBase) (d : ℕ) → element_object (object_in b d) ≡ object_static (or_nothing (element_in b d))
 element_in_is (Class c) zero = refl
-element_in_is (Class c) (suc d) = ap (λ b. cond b None (Some (record { class = c; dim = suc d - 1 }))) (eqb-suc-zero d) ∙ ap (λ n. Some (record { class = c; dim = n })) (less d)
+element_in_is (Class c) (suc d) = ap (λ b. cond b None (Some (record { class = c; dim = suc d - 1 }))) (eqb-suc-zero d)
+    ∙ ap (λ n. Some (record { class = c; dim = n })) (less d)
 element_in_is Int zero = refl
 element_in_is Boolean zero = refl
 element_in_is Char zero = refl
@@ -86,11 +87,13 @@ module _ (P : Plain) where
 
   access_is : (s : Static) (x : List ℕ) → option_and_then (field_object P) (object_field P (object_static s) x) ≡ object_static (or_nothing (access_type P s x))
   unfolding access_type field_in
-  access_is (a_value t) x = ap (λ c. option_and_then (field_object P) (option_and_then (λ d. member_field P d x) c)) (class_in_is t.base t.dim) ∙ access_in t.base t.dim x
+  access_is (a_value t) x = ap (λ c. option_and_then (field_object P) (option_and_then (λ d. member_field P d x) c)) (class_in_is t.base t.dim)
+      ∙ access_in t.base t.dim x
   access_is null_value x = refl
   access_is no_value x = refl
 
-  slot_found : (o : Option PlainSlot) → object_if (option_and_then (λ k. k.result) o) ≡ object_static (result_of (option_map (λ k. record { params = k.params; result = k.result }) o))
+  slot_found : (o : Option PlainSlot) → object_if (option_and_then (λ k. k.result) o)
+      ≡ object_static (result_of (option_map (λ k. record { params = k.params; result = k.result }) o))
   slot_found None = refl
   slot_found (Some k) = nothing_is k.result
 
@@ -98,7 +101,8 @@ module _ (P : Plain) where
   slot_is None = refl
   slot_is (Some s) = slot_found (slice_get P.slots s)
 
-  method_found : (o : Option PlainMethod) → object_if (option_and_then (λ k. k.result) o) ≡ object_static (result_of (option_map (λ k. record { params = types_of k.params; result = k.result }) o))
+  method_found : (o : Option PlainMethod) → object_if (option_and_then (λ k. k.result) o)
+      ≡ object_static (result_of (option_map (λ k. record { params = types_of k.params; result = k.result }) o))
   method_found None = refl
   method_found (Some k) = nothing_is k.result
 
@@ -120,7 +124,8 @@ module _ (P : Plain) where
   no_object false x = refl
 
   call_in : (b : TyBase) (d : ℕ) (x : List ℕ) → option_and_then (slot_object P) (option_and_then (λ c. slot_of P c x) (class_in b d))
-      ≡ object_static (result_of (if is_string (a_value (record { base = b; dim = d })) then option_map signature_of_string (string_method x) else object_signature P (class_in b d) x))
+      ≡ object_static (result_of (if is_string (a_value (record { base = b; dim = d })) then option_map signature_of_string (string_method x) else
+          object_signature P (class_in b d) x))
   call_in (Class c) zero x = slot_is (slot_of P c.0 x)
   call_in (Class c) (suc d) x = refl
   call_in Int d x = refl

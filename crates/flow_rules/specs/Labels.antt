@@ -1,4 +1,5 @@
--- Labels: each part of a body that facts come from takes the next number, in the order of the text. A call stands before its arguments, a cast before its operand, an `instanceof` and an index after their left sides.
+-- Labels: each part of a body that facts come from takes the next number, in the order of the text. A call stands before its arguments, a cast before
+-- its operand, an `instanceof` and an index after their left sides.
 use Rattle.std.specs.Prelude.{ℕ, ◌+◌, Option, Some, None}
 use Rattle.java_core.specs.Trees.{Tag, Ex, Exs, no_ex, ex_then, number, character, text, truth, null, this, local, static_field, own_field, field, index, call, static_call, super_call, create, create_array, cast, instance_of, unary, binary, Target, to_local, to_static, to_own, to_field, to_element, no_target, St, Sts, Arms, declare, block, assign, act, print, choose, loop, return, break, continue, no_st, st_then, no_other, otherwise, arm}
 
@@ -121,7 +122,8 @@ abbrev mutual
   label_st n (print t l e) = print t l (label_if n e)
   label_st n (choose t xs) = choose t (label_arms n xs)
   label_st n (loop t is_while first test step body) =
-      loop t is_while (label_sts n first) (label_if (n + size_sts first) test) (label_sts (n + size_sts first + size_if test) step) (label_sts (n + size_sts first + size_if test + size_sts step) body)
+      loop t is_while (label_sts n first) (label_if (n + size_sts first) test) (label_sts (n + size_sts first + size_if test) step)
+          (label_sts (n + size_sts first + size_if test + size_sts step) body)
   label_st n (return t e) = return t (label_if n e)
   label_st n (break t) = break t
   label_st n (continue t) = continue t

@@ -83,7 +83,8 @@ tied r q = both r q (λ a b. record { lower = record { 0 = a }; upper = record {
 abbrev pub accessed : Option ℕ → Option ℕ → List AccessInfo
 accessed r c = both r c (λ a b. record { row = record { 0 = a }; column = record { 0 = b } })
 
--- T8 for `==` and `!=`: the narrower of two types below the wider; of equal types the right below the left, but a creation below what is none, and `this` below what is neither a creation nor `this`
+-- T8 for `==` and `!=`: the narrower of two types below the wider; of equal types the right below the left, but a creation below what is none, and
+-- `this` below what is neither a creation nor `this`
 abbrev pub left_is_lower : Bool → Bool → Bool → Bool → Bool
 left_is_lower created_left this_left created_right this_right = (created_left && not created_right) || (this_left && not (created_right || this_right))
 
@@ -129,7 +130,8 @@ module _ (N : Numbers) where
   abbrev pub moved_args : ℕ → List Operand → List FlowInfo
   moved_args d es = each (λ i o. moved (point_at o) (N.point (point.Local d i))) 0 es
 
-  -- a creation flows into its own point, into the variable that it is assigned to, into the result of a body, and as an argument of a static or a super call into the parameter
+  -- a creation flows into its own point, into the variable that it is assigned to, into the result of a body, and as an argument of a static or a
+  -- super call into the parameter
   abbrev pub news_of : ℕ → Part → List NewInfo
   news_of m (a_creation p u o) = created o (point_at o)
   news_of m (a_set v o) = created o (point_at v)
@@ -143,21 +145,26 @@ module _ (N : Numbers) where
   flows_of m (a_set v o) = moved (point_at o) (point_at v)
   flows_of m (a_return o) = moved (point_at o) (N.point (point.Result m))
   flows_of m (a_static_call p d es o) = moved_args d es ++ moved (N.point (point.Result d)) (point_at o)
-  flows_of m (a_super_call p (Some d) es o) = moved_args d es ++ moved (N.point (point.Result d)) (point_at o) ++ moved (N.point (point.This m)) (N.point (point.This d))
+  flows_of m (a_super_call p (Some d) es o) = moved_args d es ++ moved (N.point (point.Result d)) (point_at o) ++ moved (N.point (point.This m))
+      (N.point (point.This d))
   flows_of m _ = []
 
   abbrev pub loads_of : Part → List LoadInfo
-  loads_of (a_load p b (Some f) o) = these (point_at b) (N.column (column.Fld f)) (point_at o) (λ a c q. record { base = a; column = Some (record { 0 = c }); into = q })
+  loads_of (a_load p b (Some f) o) =
+      these (point_at b) (N.column (column.Fld f)) (point_at o) (λ a c q. record { base = a; column = Some (record { 0 = c }); into = q })
   loads_of (an_element p b o) = both (point_at b) (point_at o) (λ a q. record { base = a; column = None; into = q })
   loads_of _ = []
 
   abbrev pub stores_of : Part → List StoreInfo
-  stores_of (a_store p b (Some f) o) = these (point_at b) (N.column (column.Fld f)) (point_at o) (λ a c q. record { base = a; column = Some (record { 0 = c }); value = q; place = p })
+  stores_of (a_store p b (Some f) o) =
+      these (point_at b) (N.column (column.Fld f)) (point_at o) (λ a c q. record { base = a; column = Some (record { 0 = c }); value = q; place = p })
   stores_of (an_element_store p b o) = both (point_at b) (point_at o) (λ a q. record { base = a; column = None; value = q; place = p })
   stores_of _ = []
 
   abbrev pub calls_of : Part → List (Placed PlainCall)
-  calls_of (a_call p b (Some s) d es o) = option_map_or (λ r. record { place = p; item = record { receiver = r; slot = s; args = map point_at es; result = point_at o } } ∷ []) (point_at b) []
+  calls_of (a_call p b (Some s) d es o) =
+      option_map_or (λ r. record { place = p; item = record { receiver = r; slot = s; args = map point_at es; result = point_at o } }
+      ∷ []) (point_at b) []
   calls_of _ = []
 
   abbrev pub casts_of : Part → List CastInfo
@@ -177,7 +184,8 @@ module _ (N : Numbers) where
 
   -- T7: the `this` of the caller, and the body that a super call runs
   abbrev pub supers_of : ℕ → Part → List SuperInfo
-  supers_of m (a_super_call p (Some d) es o) = both (N.row (row.This m)) (N.column (column.Def d)) (λ a b. record { row = record { 0 = a }; column = record { 0 = b } })
+  supers_of m (a_super_call p (Some d) es o) =
+      both (N.row (row.This m)) (N.column (column.Def d)) (λ a b. record { row = record { 0 = a }; column = record { 0 = b } })
   supers_of m _ = []
 
   module _ (P : Plain) where

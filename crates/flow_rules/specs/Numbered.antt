@@ -166,7 +166,8 @@ module _ (P Q : Plain) where
   variable_rows m k i v = when (is_first P m k || not (nat_lt i (length k.params))) (row_if (variable_row m k i) v.tag.place (object_of v.ty))
 
   abbrev pub method_rows : ℕ → PlainMethod → List Row
-  method_rows m k = this_rows m k ++ result_rows m k ++ each (variable_rows m k) 0 k.params ++ each (variable_rows m k) (length k.params) k.locals ++ flat_map form_rows (parts_of P m k)
+  method_rows m k = this_rows m k ++ result_rows m k ++ each (variable_rows m k) 0 k.params ++ each (variable_rows m k) (length k.params) k.locals
+      ++ flat_map form_rows (parts_of P m k)
 
   -- the rows by their place
   unfoldable pub rows_of : List Row
@@ -174,7 +175,8 @@ module _ (P Q : Plain) where
 
   abbrev pub method_columns : ℕ → PlainMethod → List Column
   method_columns m k =
-      when (not k.is_static) (record { item = column.Dcl m; place = k.tag.place } ∷ when (is_some k.body) (record { item = column.Def m; place = k.tag.place } ∷ []))
+      when (not k.is_static) (record { item = column.Dcl m; place = k.tag.place } ∷ when (is_some k.body)
+          (record { item = column.Def m; place = k.tag.place } ∷ []))
       ++ flat_map form_columns (parts_of P m k)
 
   -- the columns by their place; a mark stands where it is first met
@@ -218,7 +220,8 @@ module _ (P Q : Plain) where
   -- the flow points: the static fields by their place, and then the bodies' by the place of the body
   unfoldable pub points_of : List Point
   points_of = once same_point (λ p. p.item)
-      (flat_map (listed row_number) (by_place (λ p. p.place.at) (each static_points 0 Q.fields)) ++ flat_map (λ o. flat_map (listed row_number) o.points) (by_place (λ o. o.place.at) (each outline_if 0 Q.methods)))
+      (flat_map (listed row_number) (by_place (λ p. p.place.at) (each static_points 0 Q.fields))
+          ++ flat_map (λ o. flat_map (listed row_number) o.points) (by_place (λ o. o.place.at) (each outline_if 0 Q.methods)))
 
   unfoldable pub point_number : PointItem → Option ℕ
   point_number i = number_among same_point (map (λ p. p.item) points_of) i

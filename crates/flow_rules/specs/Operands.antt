@@ -85,7 +85,8 @@ test_operand m t n c = record { point = Some (point.Expr m t.label); row = Some 
 
 -- in the body of a method, where each expression has a type that a row can have, or none
 module _ (P : Plain) (type : Ex → Option ObjectType) (m : ℕ) (k : PlainMethod) where
-  -- the row that types an expression: a variable's, for an access the field's, for a call the return's, for an element the array's, for a creation or a cast its own
+  -- the row that types an expression: a variable's, for an access the field's, for a call the return's, for an element the array's, for a creation or
+  -- a cast its own
   abbrev pub row_of : Ex → Option RowItem
   row_of (number t n) = None
   row_of (character t c) = None

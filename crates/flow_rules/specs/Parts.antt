@@ -46,7 +46,8 @@ nothing = record { point = None; row = None; ty = None; created = None }
 
 -- in the body of a method, where each expression has a type that a row can have, or none
 module _ (P : Plain) (type : Ex → Option ObjectType) (m : ℕ) (k : PlainMethod) where
-  -- the parts of an expression, and whether a creation there is a flow point: the receiver or an argument of an instance call, the base of an access, the operand of a cast or `instanceof`, and what is stored in a field or an element
+  -- the parts of an expression, and whether a creation there is a flow point: the receiver or an argument of an instance call, the base of an access,
+  -- the operand of a cast or `instanceof`, and what is stored in a field or an element
   abbrev mutual
     pub parts : Bool → Ex → List Part
     parts u (number t n) = []
@@ -58,12 +59,15 @@ module _ (P : Plain) (type : Ex → Option ObjectType) (m : ℕ) (k : PlainMetho
     parts u (local t i) = []
     parts u (static_field t f) = []
     parts u (own_field t f) = a_load t.place (this_operand m k) (Some f) (operand_of P type m k (own_field t f)) ∷ []
-    parts u (field t e x) = parts (is_accessed e) e ++ a_load t.place (operand_of P type m k e) (object_field P (type e) x) (operand_of P type m k (field t e x)) ∷ []
+    parts u (field t e x) = parts (is_accessed e) e ++ a_load t.place (operand_of P type m k e) (object_field P (type e) x)
+        (operand_of P type m k (field t e x)) ∷ []
     parts u (index t e i) = parts true e ++ an_element t.place (operand_of P type m k e) (operand_of P type m k (index t e i)) ∷ parts false i
     parts u (call t e x es) = parts true e
-        ++ a_call t.place (operand_of P type m k e) (call_slot P (type e) x) (call_declaration P (type e) x) (operands_of P type m k es) (operand_of P type m k (call t e x es)) ∷ parts_all true es
+        ++ a_call t.place (operand_of P type m k e) (call_slot P (type e) x) (call_declaration P (type e) x) (operands_of P type m k es)
+            (operand_of P type m k (call t e x es)) ∷ parts_all true es
     parts u (static_call t d es) = a_static_call t.place d (operands_of P type m k es) (operand_of P type m k (static_call t d es)) ∷ parts_all false es
-    parts u (super_call t x es) = a_super_call t.place (super_method P k.owner x) (operands_of P type m k es) (operand_of P type m k (super_call t x es)) ∷ parts_all false es
+    parts u (super_call t x es) = a_super_call t.place (super_method P k.owner x) (operands_of P type m k es)
+        (operand_of P type m k (super_call t x es)) ∷ parts_all false es
     parts u (create t n c es) = a_creation t.place u (operand_of P type m k (create t n c es)) ∷ parts_all false es
     parts u (create_array t n v e) = a_creation t.place u (operand_of P type m k (create_array t n v e)) ∷ parts false e
     parts u (cast t n v e) = a_test t.place (operand_of P type m k e) (operand_of P type m k (cast t n v e)) ∷ parts true e
@@ -91,8 +95,10 @@ module _ (P : Plain) (type : Ex → Option ObjectType) (m : ℕ) (k : PlainMetho
   parts_assign p (to_local t i) e = parts false e ++ a_set (operand_of P type m k (local t i)) (operand_of P type m k e) ∷ []
   parts_assign p (to_static t f) e = parts false e ++ a_set (operand_of P type m k (static_field t f)) (operand_of P type m k e) ∷ []
   parts_assign p (to_own t f) e = parts true e ++ a_store p (this_operand m k) (Some f) (operand_of P type m k e) ∷ []
-  parts_assign p (to_field t b x) e = parts (is_accessed b) b ++ parts true e ++ a_store p (operand_of P type m k b) (object_field P (type b) x) (operand_of P type m k e) ∷ []
-  parts_assign p (to_element t b i) e = parts true b ++ parts false i ++ parts true e ++ an_element_store p (operand_of P type m k b) (operand_of P type m k e) ∷ []
+  parts_assign p (to_field t b x) e = parts (is_accessed b) b ++ parts true e ++ a_store p (operand_of P type m k b) (object_field P (type b) x)
+      (operand_of P type m k e) ∷ []
+  parts_assign p (to_element t b i) e = parts true b ++ parts false i ++ parts true e ++ an_element_store p (operand_of P type m k b)
+      (operand_of P type m k e) ∷ []
   parts_assign p no_target e = parts false e ++ a_set nothing (operand_of P type m k e) ∷ []
 
   abbrev mutual

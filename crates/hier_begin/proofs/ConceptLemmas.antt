@@ -19,7 +19,8 @@ use Rattle.hier_model.proofs.StartLemmas.{rows_with-bit}
 use Rattle.kaba_order.proofs.UniqueLemmas.{same_truth}
 
 same_test : (a b : List Bool) → a ≡ b → is_same_set a b ≡ true
-same_test a b e = subst (λ x. is_same_set a x ≡ true) e (and_from (is_subset a a) (is_subset a a) (subset-complete a a (λ i h. h)) (subset-complete a a (λ i h. h)))
+same_test a b e = subst (λ x. is_same_set a x ≡ true) e (and_from (is_subset a a) (is_subset a a) (subset-complete a a (λ i h. h))
+    (subset-complete a a (λ i h. h)))
 
 -- the rows that have a column
 with_len : (T : List (List Bool)) (c : ℕ) → length (rows_with T c) ≡ length T
@@ -52,7 +53,9 @@ module _ (T : List (List Bool)) (w : ℕ) (widths : HasWidth w T) where
     extent = record {
       len = with_len T c;
       rows = λ r rlt. (
-        λ h d k. sym (rows_with-bit T d r) ∙ subset-sound (rows_with T c) (rows_with T d) (sym (common_bit (rows_with T c) d (omega (arith, bit-below (common (rows_with T c)) d k, common_len (rows_with T c)))) ∙ k) r h,
+        λ h d k. sym (rows_with-bit T d r)
+            ∙ subset-sound (rows_with T c) (rows_with T d)
+            (sym (common_bit (rows_with T c) d (omega (arith, bit-below (common (rows_with T c)) d k, common_len (rows_with T c)))) ∙ k) r h,
         λ s. rows_with-bit T c r ∙ s c (common_bit (rows_with T c) c lt ∙ subset-complete (rows_with T c) (rows_with T c) (λ i h. h)),
       );
     };
@@ -61,7 +64,8 @@ module _ (T : List (List Bool)) (w : ℕ) (widths : HasWidth w T) where
       columns = λ d below. (
         λ h r rlt k. sym (rows_with-bit T d r) ∙ subset-sound (rows_with T c) (rows_with T d) (sym (common_bit (rows_with T c) d below) ∙ h) r k,
         λ all. common_bit (rows_with T c) d below
-            ∙ subset-complete (rows_with T c) (rows_with T d) (λ r k. rows_with-bit T d r ∙ all r (omega (arith, bit-below (rows_with T c) r k, with_len T c)) k),
+            ∙ subset-complete (rows_with T c) (rows_with T d) (λ r k. rows_with-bit T d r
+                ∙ all r (omega (arith, bit-below (rows_with T c) r k, with_len T c)) k),
       );
     };
   }
@@ -119,5 +123,6 @@ module _ (T : List (List Bool)) (w : ℕ) (widths : HasWidth w T) where
             let ext : IsExtent T (concept_at ps k.at).0 (common (rows_with T c)) = subst (IsExtent T (concept_at ps k.at).0) (k.is ([], [])) is.extent in
             let one = same_extent (concept_at ps k.at).0 (rows_with T c) (common (rows_with T c)) ext (column_concept c lt).extent in
             let filled = filled-has (rows_with T c) r (rows_with-bit T c r ∙ h) in
-            let both = and_from (is_filled (rows_with T c)) (is_same_set (concept_at ps k.at).0 (rows_with T c)) filled (same_test (concept_at ps k.at).0 (rows_with T c) one) in
+            let both = and_from (is_filled (rows_with T c)) (is_same_set (concept_at ps k.at).0 (rows_with T c)) filled
+                (same_test (concept_at ps k.at).0 (rows_with T c) one) in
             absurd (cc (none, ap (λ b. when b (node k.at)) both))

@@ -117,7 +117,8 @@ module _ (F : Facts) (pt : PointsTo) (t : Table) where
         let p = and_parts (eqb f.1.row.0 r) (eqb f.1.column.0 d) f.4 in
         (f.1, (f.0, f.2, f.3), eqb-true f.1.row.0 r p.0, eqb-true f.1.column.0 d p.1)
 
-    pub called_at : (s x : ℕ) → is_called F pt s x ≡ true → (k : CallInfo) × (Contains F.calls.items k) × (bit (row pt.points.items k.receiver) s ≡ true) × (k.slot ≡ x)
+    pub called_at : (s x : ℕ) → is_called F pt s x ≡ true → (k : CallInfo) × (Contains F.calls.items k)
+        × (bit (row pt.points.items k.receiver) s ≡ true) × (k.slot ≡ x)
     called_at s x h =
         let f = Any-from_list_any (λ (k : CallInfo). bit (row pt.points.items k.receiver) s && eqb k.slot x) F.calls.items h in
         let p = and_parts (bit (row pt.points.items f.1.receiver) s) (eqb f.1.slot x) f.4 in
@@ -214,7 +215,8 @@ module _ (F : Facts) (pt : PointsTo) (t : Table) where
     is_this : (v d : ℕ) → IsThisOf F v d → is_slot (option_map (λ (c : ColId). c.0) (row_this F v)) d ≡ true
     is_this v d h = ap (λ y. is_slot (option_map (λ (c : ColId). c.0) y) d) h.row ∙ eq-eqb h.column.0 d h.body
 
-    this_body : (v d : ℕ) → is_slot (option_map (λ (c : ColId). c.0) (row_this F v)) d ≡ true → (is_def (column_kind F d) ≡ true) × (row_class F v ≡ column_class F d) × (is_object_row F v ≡ false)
+    this_body : (v d : ℕ) → is_slot (option_map (λ (c : ColId). c.0) (row_this F v)) d ≡ true → (is_def (column_kind F d) ≡ true)
+        × (row_class F v ≡ column_class F d) × (is_object_row F v ≡ false)
     this_body v d h =
         let c = column_says (row_this F v) d h in
         let kind = subst (λ y. column_kind F y ≡ Def) c.2 (O.bodies.this_body v c.0 c.1) in
@@ -229,7 +231,8 @@ module _ (F : Facts) (pt : PointsTo) (t : Table) where
     body_of : (x e : ℕ) → is_def (column_kind F e) ≡ true → column_slot F e ≡ Some x → IsBodyOf F (column_class F e) x e
     body_of x e b slot = record { below = def_below e b; kind = def_is (column_kind F e) b; class = refl; slot = slot }
 
-    need_nearest : (s x d e : ℕ) → (is_called F pt s x && is_slot (finds F (site_class F s) x) d) ≡ true → is_def (column_kind F e) ≡ true → column_slot F e ≡ column_slot F d
+    need_nearest : (s x d e : ℕ) → (is_called F pt s x && is_slot (finds F (site_class F s) x) d) ≡ true → is_def (column_kind F e) ≡ true
+        → column_slot F e ≡ column_slot F d
         → below F (row_class F (site_row F s)) (column_class F e) ≡ true → below F (column_class F d) (column_class F e) ≡ true
     need_nearest s x d e h b one up =
         let p = and_parts (is_called F pt s x) (is_slot (finds F (site_class F s) x) d) h in
@@ -244,7 +247,8 @@ module _ (F : Facts) (pt : PointsTo) (t : Table) where
     pub super_fact : (r d : ℕ) → is_super F r d ≡ true → (is_some (row_this F r) ≡ true) × IsDef F d × IsNearestAbove F (row_class F r) d
     super_fact r d h =
         let x = super_at r d h in
-        let n = All-contains (λ (y : SuperInfo). (is_some (row_this F y.row.0) ≡ true) × IsDef F y.column.0 × IsNearestAbove F (row_class F y.row.0) y.column.0) F.supers.items x.0 O.bodies.supers x.1 in
+        let n = All-contains (λ (y : SuperInfo). (is_some (row_this F y.row.0) ≡ true) × IsDef F y.column.0
+            × IsNearestAbove F (row_class F y.row.0) y.column.0) F.supers.items x.0 O.bodies.supers x.1 in
         subst (λ y. (is_some (row_this F y) ≡ true) × IsDef F d × IsNearestAbove F (row_class F y) d) x.2
         (subst (λ y. (is_some (row_this F x.0.row.0) ≡ true) × IsDef F y × IsNearestAbove F (row_class F x.0.row.0) y) x.3 n)
 
@@ -253,7 +257,8 @@ module _ (F : Facts) (pt : PointsTo) (t : Table) where
     super_nearest r d e h b one up ne =
         let n = (super_fact r d h).2 in
         le (column_class F d) (column_class F e)
-        (found_above F R O (row_class F r) n.slot d n.parent n.above n.found e (body_of n.slot e b (one ∙ n.slot_is)) (is_le (row_class F r) (column_class F e) up) ne)
+        (found_above F R O (row_class F r) n.slot d n.parent n.above n.found e (body_of n.slot e b (one ∙ n.slot_is))
+            (is_le (row_class F r) (column_class F e) up) ne)
 
     super_other : (r d : ℕ) → is_super F r d ≡ true → column_class F d ≢ row_class F r
     super_other r d h = let n = (super_fact r d h).2 in found_other F R O (row_class F r) n.slot d n.parent n.above n.found
@@ -272,7 +277,8 @@ module _ (F : Facts) (pt : PointsTo) (t : Table) where
     passes_test s k h b =
         let x = h.test in
         let cast = All-contains (HasCast F) F.tests.items x O.tests.casts h.listed in
-        let class : row_class F k ≡ cast.cast.class.0 = ap (row_class F) (sym h.target) ∙ target_class x h.listed ∙ sym (ap (λ (c : ClassId). c.0) cast.class) in
+        let class : row_class F k ≡ cast.cast.class.0 = ap (row_class F) (sym h.target) ∙ target_class x h.listed
+            ∙ sym (ap (λ (c : ClassId). c.0) cast.class) in
         let fits = subst (λ a. IsBelow F (site_class F s) a) class (is_le (site_class F s) (row_class F k) b) in
         let into = cast_shown F pt S cast.cast s cast.listed fits (subst (λ p. bit (row pt.points.items p) s ≡ true) (sym cast.from) h.held) in
         subst (λ r. bit (row pt.rows.items r) s ≡ true) (cast.row ∙ h.target) (point_row_shown F pt S cast.cast.into cast.point s into)
@@ -292,12 +298,14 @@ module _ (F : Facts) (pt : PointsTo) (t : Table) where
     marked_test : (s k : ℕ) → IsTested k s → (c : ℕ) × (bit (row t.rows.items k) c ≡ true) × (column_class F c ≡ row_class F k)
     marked_test s k h =
         let m = All-contains (λ (y : TestInfo). HasMark F y.class.0) F.tests.items h.test O.tests.marks h.listed in
-        (m.0, subst (λ r. bit (row t.rows.items r) m.0 ≡ true) h.target (test_entry F t T h.test m.0 h.listed m.1), m.1.class_is ∙ sym (target_class h.test h.listed) ∙ ap (row_class F) h.target)
+        (m.0, subst (λ r. bit (row t.rows.items r) m.0 ≡ true) h.target (test_entry F t T h.test m.0 h.listed m.1), m.1.class_is
+            ∙ sym (target_class h.test h.listed) ∙ ap (row_class F) h.target)
 
     marked_store : (s k : ℕ) → IsStored k s → (c : ℕ) × (bit (row t.rows.items k) c ≡ true) × (column_class F c ≡ row_class F k)
     marked_store s k h =
         let m = O.tests.array_marks h.array h.below h.dim in
-        (m.0, subst (λ r. bit (row t.rows.items r) m.0 ≡ true) h.target (array_entry F t T h.array m.0 h.below h.dim m.1), m.1.class_is ∙ O.types.sites h.array h.below ∙ ap (row_class F) h.target)
+        (m.0, subst (λ r. bit (row t.rows.items r) m.0 ≡ true) h.target (array_entry F t T h.array m.0 h.below h.dim m.1), m.1.class_is
+            ∙ O.types.sites h.array h.below ∙ ap (row_class F) h.target)
 
     pub meet_site : (s k : ℕ) → IsTested k s ⊎ IsStored k s → s < length F.sites.items
     meet_site s k h = ⊎_elim (λ a. point_site a.test.from s a.held) (λ b. point_site b.store.value s b.held) h
@@ -305,7 +313,8 @@ module _ (F : Facts) (pt : PointsTo) (t : Table) where
     pub meet_target : (s k : ℕ) → IsTested k s ⊎ IsStored k s → k < length F.rows.items
     meet_target s k h =
         ⊎_elim
-        (λ a. subst (λ r. r < length F.rows.items) a.target (All-contains (λ (x : TestInfo). IsPoint F x.from × IsRow F x.target × IsClass F x.class) F.tests.items a.test R.tests a.listed).1)
+        (λ a. subst (λ r. r < length F.rows.items) a.target (All-contains (λ (x : TestInfo). IsPoint F x.from × IsRow F x.target × IsClass F x.class)
+            F.tests.items a.test R.tests a.listed).1)
         (λ b. subst (λ r. r < length F.rows.items) b.target (site_row_below b.array b.below))
         h
 

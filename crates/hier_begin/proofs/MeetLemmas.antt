@@ -66,7 +66,8 @@ module _ (F : Facts) (pt : PointsTo) (t : Table) (H : Hierarchy) (table : H.tabl
   pub le_says : (c d : ℕ) → column_le H c d ≡ true → (n : ℕ) × (S.column c ≡ Some n) × ((k : ℕ) × (S.column d ≡ Some k) × (S.le n k ≡ true))
   le_says c d h = at (place_of_column H c) (place_of_column H d) refl refl h
     where
-      at : (o q : Option NodeId) → place_of_column H c ≡ o → place_of_column H d ≡ q → is_below H.order o q ≡ true → (n : ℕ) × (S.column c ≡ Some n) × ((k : ℕ) × (S.column d ≡ Some k) × (S.le n k ≡ true))
+      at : (o q : Option NodeId) → place_of_column H c ≡ o → place_of_column H d ≡ q → is_below H.order o q ≡ true → (n : ℕ) × (S.column c ≡ Some n)
+          × ((k : ℕ) × (S.column d ≡ Some k) × (S.le n k ≡ true))
       at None q e f k = absurd (false≢true k)
       at (Some p) None e f k = absurd (false≢true k)
       at (Some p) (Some q) e f k = (p.0, ap (option_map (λ (p : NodeId). p.0)) e, (q.0, ap (option_map (λ (p : NodeId). p.0)) f, k))
@@ -128,7 +129,8 @@ module _ (F : Facts) (pt : PointsTo) (t : Table) (H : Hierarchy) (table : H.tabl
         refuted (row_le H (site_row F o) v) p.1 (A.held o v p.0))))
 
     untied_none : first_untied F pt H ≡ None
-    untied_none = none_both (first_below (length F.rows.items) (λ l. first_below (length F.rows.items) (untied F H l))) (first_below (length F.sites.items) (λ o. first_below (length F.rows.items) (unheld F pt H o))) tied_none held_none
+    untied_none = none_both (first_below (length F.rows.items) (λ l. first_below (length F.rows.items) (untied F H l)))
+        (first_below (length F.sites.items) (λ o. first_below (length F.rows.items) (unheld F pt H o))) tied_none held_none
 
     nearer : (s x d : ℕ) → G.needs s x d ≡ true → has_nearer F H (place_of_site F H s) d ≡ true → ⊥
     nearer s x d need h =
@@ -140,11 +142,13 @@ module _ (F : Facts) (pt : PointsTo) (t : Table) (H : Hierarchy) (table : H.tabl
         let same : o.at ≡ le.0 = cc (o.stands, le.1) in
         B.nearest s x d e.0 o.at need (other_says d e.0 o.at b.0 o.stands) o.above (le.2.0, le.2.1, subst (λ n. S.le n le.2.0 ≡ true) (sym same) le.2.2)
 
-    needed_none : (s x : ℕ) (b : Bool) (f : Option ℕ) → is_called F pt s x ≡ b → finds F (site_class F s) x ≡ f → cond b (option_and_then (wrong_body F H s) f) None ≡ None
+    needed_none : (s x : ℕ) (b : Bool) (f : Option ℕ) → is_called F pt s x ≡ b → finds F (site_class F s) x ≡ f
+        → cond b (option_and_then (wrong_body F H s) f) None ≡ None
     needed_none s x false f called found = refl
     needed_none s x true None called found = refl
     needed_none s x true (Some d) called found =
-        let need : G.needs s x d ≡ true = and_from (is_called F pt s x) (is_slot (finds F (site_class F s) x) d) called (ap (λ o. is_slot o d) found ∙ eq-eqb d d refl) in
+        let need : G.needs s x d ≡ true = and_from (is_called F pt s x) (is_slot (finds F (site_class F s) x) d) called (ap (λ o. is_slot o d) found
+            ∙ eq-eqb d d refl) in
         none_by (not (is_offered H (place_of_site F H s) d) || has_nearer F H (place_of_site F H s) d) (of_both B4 (place_of_site F H s) (site_row F s) d) (λ h.
         ⊎_elim
         (λ a. refuted (is_offered H (place_of_site F H s) d) a (offers (place_of_site F H s) d (A.needed s x d need)))
@@ -159,7 +163,8 @@ module _ (F : Facts) (pt : PointsTo) (t : Table) (H : Hierarchy) (table : H.tabl
     between : (r d : ℕ) → is_super F r d ≡ true → has_between F H r d ≡ true → ⊥
     between r d run h =
         let e = any_below_some (is_between F H r d) (length F.columns.items) h in
-        let a = and_parts (is_other_body F d e.0 && rule.is_above H (place_of_row H r) e.0) (column_le H e.0 d || eqb (column_class F e.0) (row_class F r)) e.2 in
+        let a = and_parts (is_other_body F d e.0 && rule.is_above H (place_of_row H r) e.0) (column_le H e.0 d || eqb (column_class F e.0)
+            (row_class F r)) e.2 in
         let b = and_parts (is_other_body F d e.0) (rule.is_above H (place_of_row H r) e.0) a.0 in
         let up = above_says (place_of_row H r) e.0 b.1 in
         let other = other_says d e.0 up.0 b.0 up.1 in
@@ -187,7 +192,8 @@ module _ (F : Facts) (pt : PointsTo) (t : Table) (H : Hierarchy) (table : H.tabl
 
     bodies_none : first_two_bodies F H ≡ None
     bodies_none =
-        first_below_clear (λ n. first_below (length F.columns.items) (λ c. first_below (length F.columns.items) (two_bodies F H n c))) (length H.order.live) (λ n ln.
+        first_below_clear (λ n. first_below (length F.columns.items) (λ c. first_below (length F.columns.items) (two_bodies F H n c)))
+            (length H.order.live) (λ n ln.
         first_below_clear (λ c. first_below (length F.columns.items) (two_bodies F H n c)) (length F.columns.items) (λ c lc.
         first_below_clear (two_bodies F H n c) (length F.columns.items) (λ d ld.
         none_by (is_body_at F H n c && (is_body_at F H n d && nat_lt c d && is_one_slot (column_slot F c) (column_slot F d))) (of_column B6 n d) (two n c d))))
@@ -201,7 +207,8 @@ module _ (F : Facts) (pt : PointsTo) (t : Table) (H : Hierarchy) (table : H.tabl
             let other = and_parts (stands_at H n d) (is_def (column_kind F d)) r.0 in
             let lt = ltb-true c d r.1 in
             B.apart c d n one.1
-            (record { body = other.1; slot = one_slot_says (column_slot F c) (column_slot F d) q.1; other = λ x. omega (arith, x, lt); stands = stands_says n d other.0 })
+            (record { body = other.1; slot = one_slot_says (column_slot F c) (column_slot F d) q.1; other = λ x. omega (arith, x, lt); stands =
+                stands_says n d other.0 })
             (stands_says n c one.0)
 
     differ_says : (x y : Bool) → differ x y ≡ true → ((x ≡ true) × (y ≡ false)) ⊎ ((x ≡ false) × (y ≡ true))
@@ -215,7 +222,8 @@ module _ (F : Facts) (pt : PointsTo) (t : Table) (H : Hierarchy) (table : H.tabl
         first_below_clear (λ p. first_below (length F.rows.items) (λ t. first_below (length F.sites.items) (wrong_outcome F pt H p t))) (places_of F) (λ p lp.
         first_below_clear (λ t. first_below (length F.sites.items) (wrong_outcome F pt H p t)) (length F.rows.items) (λ k lk.
         first_below_clear (wrong_outcome F pt H p k) (length F.sites.items) (λ s ls.
-        none_by (meets F pt p k s && differ (row_le H (site_row F s) k) (below F (site_class F s) (row_class F k))) (of_row B7 (place_of_site F H s) (place_of_row H k) (site_row F s)) (λ h.
+        none_by (meets F pt p k s && differ (row_le H (site_row F s) k) (below F (site_class F s) (row_class F k)))
+            (of_row B7 (place_of_site F H s) (place_of_row H k) (site_row F s)) (λ h.
         let a = and_parts (meets F pt p k s) (differ (row_le H (site_row F s) k) (below F (site_class F s) (row_class F k))) h in
         let met = any_below_has (λ p. meets F pt p k s) (places_of F) p lp a.0 in
         ⊎_elim
@@ -223,5 +231,6 @@ module _ (F : Facts) (pt : PointsTo) (t : Table) (H : Hierarchy) (table : H.tabl
         (λ x. false≢true (sym x.0 ∙ A.passes s k met x.1))
         (differ_says (row_le H (site_row F s) k) (below F (site_class F s) (row_class F k)) a.1)))))
 
-    pub run_none : (first_unoffered F H ≡ None) × (first_untied F pt H ≡ None) × (first_wrong_need F pt H ≡ None) × (first_wrong_super F H ≡ None) × (first_two_bodies F H ≡ None) × (first_wrong_outcome F pt H ≡ None)
+    pub run_none : (first_unoffered F H ≡ None) × (first_untied F pt H ≡ None) × (first_wrong_need F pt H ≡ None) × (first_wrong_super F H ≡ None)
+        × (first_two_bodies F H ≡ None) × (first_wrong_outcome F pt H ≡ None)
     run_none = (unoffered_none, untied_none, need_none, super_none, bodies_none, outcome_none)

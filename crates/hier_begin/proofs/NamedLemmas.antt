@@ -66,17 +66,20 @@ module _ (F : Facts) where
   member_at zero c lt = absurd (omega (arith, lt))
   member_at (suc n) c lt =
       ⊎_elim
-      (λ before. get_or_append_left (member_names F n) (named_member F (member_names F n) n ∷ []) [] c (omega (arith, before, members_len n)) ∙ member_at n c before)
+      (λ before. get_or_append_left (member_names F n) (named_member F (member_names F n) n ∷ []) [] c (omega (arith, before, members_len n))
+          ∙ member_at n c before)
       (λ last.
       let e : c ≡ n = omega (arith, lt, last) in
-      get_or_push (member_names F n) (named_member F (member_names F n) n) [] c (omega (arith, e, members_len n)) ∙ ap (λ k. named_member F (member_names F k) k) (sym e))
+      get_or_push (member_names F n) (named_member F (member_names F n) n) [] c (omega (arith, e, members_len n))
+          ∙ ap (λ k. named_member F (member_names F k) k) (sym e))
       (cases_lt c n)
 
   -- what is named by itself keeps its name
   kept_name : (given : List (List ℕ)) (c : ℕ) → is_shared F c ≡ false → named_member F given c ≡ name_of F c
   kept_name given c e = rw e refl
 
-  made_member : (given : List (List ℕ)) (c : ℕ) → is_shared F c ≡ true → named_member F given c ≡ free_name (F.words.items ++ given) (joined (name_of F c) (class_name F (column_class F c)))
+  made_member : (given : List (List ℕ)) (c : ℕ) → is_shared F c ≡ true → named_member F given c ≡ free_name (F.words.items ++ given)
+      (joined (name_of F c) (class_name F (column_class F c)))
   made_member given c e = rw e refl
 
   -- the types' names
@@ -105,7 +108,8 @@ module _ (F : Facts) where
     type_word k = joined (class_name F (naming_class (get_or os k None))) (decimal k)
 
     -- the name of a type is none of the words, of the members' names and of those of the types before it
-    type_free : (k : ℕ) → (is_taken F.words.items (named_type F os (ms ++ ts k) k) ≡ false) × (is_taken ms (named_type F os (ms ++ ts k) k) ≡ false) × (is_taken (ts k) (named_type F os (ms ++ ts k) k) ≡ false)
+    type_free : (k : ℕ) → (is_taken F.words.items (named_type F os (ms ++ ts k) k) ≡ false) × (is_taken ms (named_type F os (ms ++ ts k) k) ≡ false)
+        × (is_taken (ts k) (named_type F os (ms ++ ts k) k) ≡ false)
     type_free k =
         let a = taken_left F.words.items (ms ++ ts k) (named_type F os (ms ++ ts k) k) (free (F.words.items ++ (ms ++ ts k)) (type_word k)) in
         let b = taken_left ms (ts k) (named_type F os (ms ++ ts k) k) a.1 in
@@ -116,7 +120,8 @@ module _ (F : Facts) where
 
     pub type_no_member : (n k c : ℕ) → k < n → c < C → get_or (ts n) k [] ≢ get_or ms c []
     type_no_member n k c lt cl e =
-        not_taken ms (named_type F os (ms ++ ts k) k) (get_or ms c []) (type_free k).1 (Contains-get_or ms c [] (omega (arith, cl, members_len C))) (sym (type_at n k lt) ∙ e)
+        not_taken ms (named_type F os (ms ++ ts k) k) (get_or ms c []) (type_free k).1 (Contains-get_or ms c [] (omega (arith, cl, members_len C)))
+            (sym (type_at n k lt) ∙ e)
 
     earlier : (n j k : ℕ) → j < k → k < n → get_or (ts n) k [] ≢ get_or (ts n) j []
     earlier n j k jk kn e =
@@ -138,7 +143,8 @@ module _ (F : Facts) where
     class_word : (a : ℕ) → (class_name F a ≡ []) ⊎ (is_word (class_name F a) ≡ true)
     class_word a = at (slice_get F.classes.items a) refl
       where
-        at : (o : Option ClassInfo) → slice_get F.classes.items a ≡ o → (option_map_or (λ (k : ClassInfo). k.name) o [] ≡ []) ⊎ (is_word (option_map_or (λ (k : ClassInfo). k.name) o []) ≡ true)
+        at : (o : Option ClassInfo) → slice_get F.classes.items a ≡ o → (option_map_or (λ (k : ClassInfo). k.name) o [] ≡ [])
+            ⊎ (is_word (option_map_or (λ (k : ClassInfo). k.name) o []) ≡ true)
         at None e = inl refl
         at (Some k) e =
             let is = get_or_from_slice_get F.classes.items a k k e in
@@ -168,20 +174,26 @@ module _ (F : Facts) where
     member_old : (c : ℕ) → c < C → is_shared F c ≡ false → get_or (member_names F C) c [] ≡ name_of F c
     member_old c lt e = member_at C c lt ∙ kept_name (member_names F c) c e
 
-    member_new : (c : ℕ) → c < C → is_shared F c ≡ true → get_or (member_names F C) c [] ≡ free_name (F.words.items ++ member_names F c) (joined (name_of F c) (class_name F (column_class F c)))
+    member_new : (c : ℕ) → c < C → is_shared F c ≡ true → get_or (member_names F C) c [] ≡ free_name (F.words.items ++ member_names F c)
+        (joined (name_of F c) (class_name F (column_class F c)))
     member_new c lt e = member_at C c lt ∙ made_member (member_names F c) c e
 
-    made_free : (c : ℕ) → (is_taken F.words.items (free_name (F.words.items ++ member_names F c) (joined (name_of F c) (class_name F (column_class F c)))) ≡ false)
+    made_free : (c : ℕ) → (is_taken F.words.items (free_name (F.words.items ++ member_names F c)
+        (joined (name_of F c) (class_name F (column_class F c)))) ≡ false)
         × (is_taken (member_names F c) (free_name (F.words.items ++ member_names F c) (joined (name_of F c) (class_name F (column_class F c)))) ≡ false)
-    made_free c = taken_left F.words.items (member_names F c) (free_name (F.words.items ++ member_names F c) (joined (name_of F c) (class_name F (column_class F c)))) (free (F.words.items ++ member_names F c) (joined (name_of F c) (class_name F (column_class F c))))
+    made_free c = taken_left F.words.items (member_names F c) (free_name (F.words.items ++ member_names F c)
+        (joined (name_of F c) (class_name F (column_class F c)))) (free (F.words.items ++ member_names F c)
+        (joined (name_of F c) (class_name F (column_class F c))))
 
     made_no_word : (c : ℕ) (x : List ℕ) → c < C → is_shared F c ≡ true → Contains F.words.items x → get_or (member_names F C) c [] ≢ x
     made_no_word c x lt e has same =
-        not_taken F.words.items (free_name (F.words.items ++ member_names F c) (joined (name_of F c) (class_name F (column_class F c)))) x (made_free c).0 has (sym (member_new c lt e) ∙ same)
+        not_taken F.words.items (free_name (F.words.items ++ member_names F c) (joined (name_of F c) (class_name F (column_class F c)))) x
+            (made_free c).0 has (sym (member_new c lt e) ∙ same)
 
     made_before : (c d : ℕ) → d < c → c < C → is_shared F c ≡ true → get_or (member_names F C) c [] ≢ get_or (member_names F C) d []
     made_before c d dc lt e same =
-        not_taken (member_names F c) (free_name (F.words.items ++ member_names F c) (joined (name_of F c) (class_name F (column_class F c)))) (get_or (member_names F c) d []) (made_free c).1
+        not_taken (member_names F c) (free_name (F.words.items ++ member_names F c) (joined (name_of F c) (class_name F (column_class F c))))
+            (get_or (member_names F c) d []) (made_free c).1
         (Contains-get_or (member_names F c) d [] (omega (arith, dc, members_len c)))
         (sym (member_new c lt e) ∙ same ∙ member_at C d (omega (arith, dc, lt)) ∙ sym (member_at c d dc))
 
@@ -192,7 +204,8 @@ module _ (F : Facts) where
         ⊎_elim
         (λ e.
         let w = name_word (name_of F c) word in
-        ap is_name (member_new c lt e) ∙ made_name (F.words.items ++ member_names F c) (name_of F c) (class_name F (column_class F c)) (inr w) (class_parts (column_class F c)) (let some = word_long (name_of F c) w in omega (arith, some)))
+        ap is_name (member_new c lt e) ∙ made_name (F.words.items ++ member_names F c) (name_of F c) (class_name F (column_class F c)) (inr w)
+            (class_parts (column_class F c)) (let some = word_long (name_of F c) w in omega (arith, some)))
         (λ e. ap is_name (member_old c lt e) ∙ word)
         (cases_Bool (is_shared F c))
       where
@@ -215,7 +228,9 @@ module _ (F : Facts) where
 
     past_name : (c : ℕ) → C ≤ c → new_name c ≡ name_of F c
     past_name c past =
-        get_or_past (member_names F C) c [] (omega (arith, past, members_len C)) ∙ sym (ap (λ (k : ColumnInfo). k.name) (get_or_past F.columns.items c (record { kind = Is; class = record { 0 = 0 }; slot = None; name = []; label = [] }) past))
+        get_or_past (member_names F C) c [] (omega (arith, past, members_len C))
+            ∙ sym (ap (λ (k : ColumnInfo). k.name)
+            (get_or_past F.columns.items c (record { kind = Is; class = record { 0 = 0 }; slot = None; name = []; label = [] }) past))
 
     pub fields_named : (pt : PointsTo) (t : Table) → AreNamed (given F pt t) (λ c. is_field (column_kind F c)) (is_shared F) (name_of F) new_name
     fields_named pt t = record {
@@ -231,16 +246,20 @@ module _ (F : Facts) where
           O.members.fields c d (field_below c fc) (field_below d fd) (field_is (column_kind F c) fc) (field_is (column_kind F d) fd) one e;
       again = λ c d fc fd e le ne.
           let strict : is_strictly_above F (column_class F c) (column_class F d) ≡ true =
-          and_from (not (eqb (column_class F c) (column_class F d))) (below F (column_class F c) (column_class F d)) (ap not (ne_eqb (column_class F c) (column_class F d) ne)) le in
+          and_from (not (eqb (column_class F c) (column_class F d))) (below F (column_class F c) (column_class F d))
+              (ap not (ne_eqb (column_class F c) (column_class F d) ne)) le in
           let one : bytes_eq (name_of F c) (name_of F d) ≡ true = (bytes_eq-Decides (name_of F c) (name_of F d)).1 e in
           let mate : is_namesake_above F c d ≡ true =
-          and_from (is_field (column_kind F d) && bytes_eq (name_of F c) (name_of F d)) (is_strictly_above F (column_class F c) (column_class F d)) (and_from (is_field (column_kind F d)) (bytes_eq (name_of F c) (name_of F d)) fd one) strict in
-          and_from (is_field (column_kind F c)) (any_below C (λ d. is_namesake_above F c d)) fc (any_below_has (λ d. is_namesake_above F c d) C d (field_below d fd) mate);
+          and_from (is_field (column_kind F d) && bytes_eq (name_of F c) (name_of F d)) (is_strictly_above F (column_class F c) (column_class F d))
+              (and_from (is_field (column_kind F d)) (bytes_eq (name_of F c) (name_of F d)) fd one) strict in
+          and_from (is_field (column_kind F c)) (any_below C (λ d. is_namesake_above F c d)) fc (any_below_has (λ d. is_namesake_above F c d) C d
+              (field_below d fd) mate);
       chain = λ a c d fc fd ac ad.
           ⊎_elim
           (λ h. inl ((below-exact F O.classes.acyclic (column_class F c) (column_class F d)).1 h))
           (λ h. inr ((below-exact F O.classes.acyclic (column_class F d) (column_class F c)).1 h))
-          (chain F O a (column_class F c) (column_class F d) (field_class c fc) (field_class d fd) (is_le a (column_class F c) ac) (is_le a (column_class F d) ad));
+          (chain F O a (column_class F c) (column_class F d) (field_class c fc) (field_class d fd) (is_le a (column_class F c) ac)
+              (is_le a (column_class F d) ad));
     }
 
     -- a name of the text that is reserved stands in the words, or is one that the language has
@@ -262,17 +281,20 @@ module _ (F : Facts) where
     pub type_no_variable : (os : List (Option ClassId)) (n k : ℕ) → k < n → is_variable F (get_or (type_names F (member_names F C) os n) k []) ≡ false
     type_no_variable os n k lt =
         no_any (λ v. bytes_eq v (get_or (type_names F (member_names F C) os n) k [])) F.vars.items (λ v c h.
-        type_no_word os n k v lt (All-contains (Contains F.words.items) F.vars.items v O.names.vars c) (sym ((bytes_eq-Decides v (get_or (type_names F (member_names F C) os n) k [])).0 h)))
+        type_no_word os n k v lt (All-contains (Contains F.words.items) F.vars.items v O.names.vars c)
+            (sym ((bytes_eq-Decides v (get_or (type_names F (member_names F C) os n) k [])).0 h)))
 
     -- a field's name is not reserved
     pub field_unreserved : (c : ℕ) → is_field (column_kind F c) ≡ true → is_reserved F (new_name c) ≡ false
     field_unreserved c f =
         ⊎_elim
-        (λ e. marked_free (new_name c) (λ x has. made_no_word c x (field_below c f) e has) (ap has_mark (member_new c (field_below c f) e) ∙ made_mark (F.words.items ++ member_names F c) (name_of F c) (class_name F (column_class F c))))
+        (λ e. marked_free (new_name c) (λ x has. made_no_word c x (field_below c f) e has) (ap has_mark (member_new c (field_below c f) e)
+            ∙ made_mark (F.words.items ++ member_names F c) (name_of F c) (class_name F (column_class F c))))
         (λ e. ap (is_reserved F) (member_old c (field_below c f) e) ∙ old c f)
         (cases_Bool (is_shared F c))
       where
-        known : (c : ℕ) (k : List ℕ) → Contains known_names k → k ≡ name_of F c → (name_of F c ≢ codes "Object") × (name_of F c ≢ codes "String") × (name_of F c ≢ codes "System") → ⊥
+        known : (c : ℕ) (k : List ℕ) → Contains known_names k → k ≡ name_of F c → (name_of F c ≢ codes "Object") × (name_of F c ≢ codes "String")
+            × (name_of F c ≢ codes "System") → ⊥
         known c k (zero, lt, e) same others = others.0 (sym same ∙ sym e)
         known c k (suc zero, lt, e) same others = others.1 (sym same ∙ sym e)
         known c k (suc (suc zero), lt, e) same others = others.2 (sym same ∙ sym e)
@@ -282,10 +304,12 @@ module _ (F : Facts) where
         old c f =
             let kind = field_is (column_kind F c) f in
             let others = O.names.others c (field_below c f) kind in
-            or_none (list_any (λ (k : ClassInfo). k.holder && bytes_eq k.name (name_of F c)) F.classes.items) (list_any (λ k. bytes_eq k (name_of F c)) known_names)
+            or_none (list_any (λ (k : ClassInfo). k.holder && bytes_eq k.name (name_of F c)) F.classes.items)
+                (list_any (λ k. bytes_eq k (name_of F c)) known_names)
             (no_any (λ (k : ClassInfo). k.holder && bytes_eq k.name (name_of F c)) F.classes.items (λ k has h.
             let p = and_parts k.holder (bytes_eq k.name (name_of F c)) h in
-            All-contains (λ (k : ClassInfo). k.holder ≡ true → name_of F c ≢ k.name) F.classes.items k (O.names.fields c (field_below c f) kind) has p.0 (sym ((bytes_eq-Decides k.name (name_of F c)).0 p.1))))
+            All-contains (λ (k : ClassInfo). k.holder ≡ true → name_of F c ≢ k.name) F.classes.items k (O.names.fields c (field_below c f) kind) has
+                p.0 (sym ((bytes_eq-Decides k.name (name_of F c)).0 p.1))))
             (no_any (λ k. bytes_eq k (name_of F c)) known_names (λ k has h. known c k has ((bytes_eq-Decides k (name_of F c)).0 h) others))
 
     -- a method keeps its name

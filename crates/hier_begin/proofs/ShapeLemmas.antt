@@ -81,7 +81,8 @@ module _ (F : Facts) (pt : PointsTo) (t : Table) (l : Lattice) (T : IsTable F t)
   there r c h =
       let p = column_stands rows t.width widths ps all r c h in
       let lt : c < length F.columns.items = omega (arith, column_below rows t.width widths r c h, T.sized.columns) in
-      (p.0.0, ap (option_map (λ (p : NodeId). p.0)) (get_or-map-range_with_len (column_place rows ps) 0 (length F.columns.items) c c None lt (omega arith) ∙ p.1))
+      (p.0.0, ap (option_map (λ (p : NodeId). p.0)) (get_or-map-range_with_len (column_place rows ps) 0 (length F.columns.items) c c None lt
+          (omega arith) ∙ p.1))
 
   pub start_shape : IsStart (given F pt t) (shape H)
   start_shape = record {
@@ -93,8 +94,10 @@ module _ (F : Facts) (pt : PointsTo) (t : Table) (l : Lattice) (T : IsTable F t)
         let lr = in_rows r hr in
         let lv = in_rows v hv in
         let le = rows_le rows t.width widths ps all r v lr lv in (
-          λ h. le.0 (subst (λ x. is_le H.order x (stands v lv).at ≡ true) (row_node r lr) (subst (λ x. is_le H.order (place_of_row H r) x ≡ true) (row_node v lv) h)),
-          λ s. subst (λ x. is_le H.order x (place_of_row H v) ≡ true) (sym (row_node r lr)) (subst (λ x. is_le H.order (stands r lr).at x ≡ true) (sym (row_node v lv)) (le.1 s)),
+          λ h. le.0 (subst (λ x. is_le H.order x (stands v lv).at ≡ true) (row_node r lr) (subst (λ x. is_le H.order (place_of_row H r) x ≡ true)
+              (row_node v lv) h)),
+          λ s. subst (λ x. is_le H.order x (place_of_row H v) ≡ true) (sym (row_node r lr)) (subst (λ x. is_le H.order (stands r lr).at x ≡ true)
+              (sym (row_node v lv)) (le.1 s)),
         );
     columns = λ r c n hr e.
         let lr = in_rows r hr in

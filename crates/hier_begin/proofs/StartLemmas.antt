@@ -48,7 +48,8 @@ module _ (T : List (List Bool)) (w : ℕ) (widths : HasWidth w T) (ps : List Pai
 
   pub le_test : (a b : ℕ) → IsLe a b → is_le (order_of ps) a b ≡ true
   le_test a b h =
-      node-le T w widths ps A a b h.lower h.upper ∙ and_from (is_filled (extent_at a)) (is_subset (extent_at a) (extent_at b)) h.filled (subset-complete (extent_at a) (extent_at b) h.subset)
+      node-le T w widths ps A a b h.lower h.upper ∙ and_from (is_filled (extent_at a)) (is_subset (extent_at a) (extent_at b)) h.filled
+          (subset-complete (extent_at a) (extent_at b) h.subset)
 
   is : (k : ℕ) → k < length ps → IsConcept T w (extent_at k) (concept_at ps k).1
   is = concept_is T w widths ps A
@@ -58,7 +59,8 @@ module _ (T : List (List Bool)) (w : ℕ) (widths : HasWidth w T) (ps : List Pai
   node_of = row_stands T w widths ps A
 
   -- a row is in the extent of a node exactly where it has all of the node's row
-  pub in_row_extent : (r v : ℕ) (lr : r < length T) → v < length T → ((bit (extent_at (node_of r lr).at) v ≡ true) → IsSubset (row T r) (row T v)) × (IsSubset (row T r) (row T v) → bit (extent_at (node_of r lr).at) v ≡ true)
+  pub in_row_extent : (r v : ℕ) (lr : r < length T) → v < length T → ((bit (extent_at (node_of r lr).at) v ≡ true) → IsSubset (row T r) (row T v))
+      × (IsSubset (row T r) (row T v) → bit (extent_at (node_of r lr).at) v ≡ true)
   in_row_extent r v lr lv =
       let n = node_of r lr in
       let e = (is n.at n.below).extent.rows v lv in
@@ -71,7 +73,8 @@ module _ (T : List (List Bool)) (w : ℕ) (widths : HasWidth w T) (ps : List Pai
   in_table k v lt h = omega (arith, bit-below (extent_at k) v h, (is k lt).extent.len)
 
   pub rows_le : (r v : ℕ) (lr : r < length T) (lv : v < length T)
-      → (is_le (order_of ps) (node_of r lr).at (node_of v lv).at ≡ true → IsSubset (row T v) (row T r)) × (IsSubset (row T v) (row T r) → is_le (order_of ps) (node_of r lr).at (node_of v lv).at ≡ true)
+      → (is_le (order_of ps) (node_of r lr).at (node_of v lv).at ≡ true → IsSubset (row T v) (row T r)) × (IsSubset (row T v) (row T r)
+          → is_le (order_of ps) (node_of r lr).at (node_of v lv).at ≡ true)
   rows_le r v lr lv = (
     λ h. (in_row_extent v r lv lr).0 ((le_says (node_of r lr).at (node_of v lv).at h).subset r ((in_row_extent r r lr lr).1 (λ i k. k))),
     λ s. le_test (node_of r lr).at (node_of v lv).at (record {
@@ -90,7 +93,8 @@ module _ (T : List (List Bool)) (w : ℕ) (widths : HasWidth w T) (ps : List Pai
   column : (c : ℕ) (p : NodeId) → At c p → ColumnStands T w widths ps A c p
   column = column_says T w widths ps A
 
-  in_column : (c v : ℕ) (p : NodeId) → At c p → (bit (extent_at p.0) v ≡ true → bit (row T v) c ≡ true) × (bit (row T v) c ≡ true → bit (extent_at p.0) v ≡ true)
+  in_column : (c v : ℕ) (p : NodeId) → At c p → (bit (extent_at p.0) v ≡ true → bit (row T v) c ≡ true)
+      × (bit (row T v) c ≡ true → bit (extent_at p.0) v ≡ true)
   in_column c v p at =
       let e = (column c p at).extent in
       (λ h. sym (rows_with-bit T c v) ∙ (ap (λ (x : List Bool). bit x v) (sym e) ∙ h), λ h. ap (λ (x : List Bool). bit x v) e ∙ (rows_with-bit T c v ∙ h))
@@ -99,7 +103,8 @@ module _ (T : List (List Bool)) (w : ℕ) (widths : HasWidth w T) (ps : List Pai
   column_filled c p at = ap is_filled (column c p at).extent ∙ (column c p at).filled
 
   pub row_column_le : (r c : ℕ) (lr : r < length T) (p : NodeId) → At c p
-      → (is_le (order_of ps) (node_of r lr).at p.0 ≡ true → bit (row T r) c ≡ true) × (bit (row T r) c ≡ true → is_le (order_of ps) (node_of r lr).at p.0 ≡ true)
+      → (is_le (order_of ps) (node_of r lr).at p.0 ≡ true → bit (row T r) c ≡ true)
+          × (bit (row T r) c ≡ true → is_le (order_of ps) (node_of r lr).at p.0 ≡ true)
   row_column_le r c lr p at = (
     λ h. (in_column c r p at).0 ((le_says (node_of r lr).at p.0 h).subset r ((in_row_extent r r lr lr).1 (λ i k. k))),
     λ h. le_test (node_of r lr).at p.0 (record {
@@ -111,7 +116,8 @@ module _ (T : List (List Bool)) (w : ℕ) (widths : HasWidth w T) (ps : List Pai
   )
 
   pub columns_le : (c d : ℕ) (p q : NodeId) → At c p → At d q
-      → (is_le (order_of ps) p.0 q.0 ≡ true → (r : ℕ) → bit (row T r) c ≡ true → bit (row T r) d ≡ true) × (((r : ℕ) → bit (row T r) c ≡ true → bit (row T r) d ≡ true) → is_le (order_of ps) p.0 q.0 ≡ true)
+      → (is_le (order_of ps) p.0 q.0 ≡ true → (r : ℕ) → bit (row T r) c ≡ true → bit (row T r) d ≡ true)
+          × (((r : ℕ) → bit (row T r) c ≡ true → bit (row T r) d ≡ true) → is_le (order_of ps) p.0 q.0 ≡ true)
   columns_le c d p q ac ad = (
     λ h r k. (in_column d r q ad).0 ((le_says p.0 q.0 h).subset r ((in_column c r p ac).1 k)),
     λ all. le_test p.0 q.0 (record {
@@ -123,7 +129,8 @@ module _ (T : List (List Bool)) (w : ℕ) (widths : HasWidth w T) (ps : List Pai
   )
 
   pub column_row_le : (c r : ℕ) (p : NodeId) (lr : r < length T) → At c p
-      → (is_le (order_of ps) p.0 (node_of r lr).at ≡ true → (v : ℕ) → bit (row T v) c ≡ true → IsSubset (row T r) (row T v)) × (((v : ℕ) → bit (row T v) c ≡ true → IsSubset (row T r) (row T v)) → is_le (order_of ps) p.0 (node_of r lr).at ≡ true)
+      → (is_le (order_of ps) p.0 (node_of r lr).at ≡ true → (v : ℕ) → bit (row T v) c ≡ true → IsSubset (row T r) (row T v))
+          × (((v : ℕ) → bit (row T v) c ≡ true → IsSubset (row T r) (row T v)) → is_le (order_of ps) p.0 (node_of r lr).at ≡ true)
   column_row_le c r p lr at = (
     λ h v k. (in_row_extent r v lr (bit-row-below T v c k)).0 ((le_says p.0 (node_of r lr).at h).subset v ((in_column c v p at).1 k)),
     λ all. le_test p.0 (node_of r lr).at (record {

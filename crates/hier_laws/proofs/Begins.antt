@@ -7,7 +7,8 @@ use Rattle.hier_laws.specs.Starts.{Roles, IsClosed, AreInOrder, IsStart, AreName
 
 -- fields at or above one class have different names
 module _ (G : Given) (is_field is_made : ℕ → Bool) (old new : ℕ → List ℕ) (N : AreNamed G is_field is_made old new) where
-  kept_apart : (a c d : ℕ) → is_field c ≡ true → is_field d ≡ true → G.below a (G.class_of c) ≡ true → G.below a (G.class_of d) ≡ true → is_made c ≡ false → is_made d ≡ false → old c ≡ old d → c ≡ d
+  kept_apart : (a c d : ℕ) → is_field c ≡ true → is_field d ≡ true → G.below a (G.class_of c) ≡ true → G.below a (G.class_of d) ≡ true
+      → is_made c ≡ false → is_made d ≡ false → old c ≡ old d → c ≡ d
   kept_apart a c d fc fd ac ad mc md e =
       ⊎_elim
       (λ one. N.apart c d fc fd one e)
@@ -17,7 +18,8 @@ module _ (G : Given) (is_field is_made : ℕ → Bool) (old new : ℕ → List �
       (N.chain a c d fc fd ac ad))
       (cases_eq (G.class_of c) (G.class_of d))
 
-  pub named_apart : (a c d : ℕ) → is_field c ≡ true → is_field d ≡ true → G.below a (G.class_of c) ≡ true → G.below a (G.class_of d) ≡ true → new c ≡ new d → c ≡ d
+  pub named_apart : (a c d : ℕ) → is_field c ≡ true → is_field d ≡ true → G.below a (G.class_of c) ≡ true → G.below a (G.class_of d) ≡ true
+      → new c ≡ new d → c ≡ d
   named_apart a c d fc fd ac ad e =
       ⊎_elim
       (λ mc. ⊎_elim (λ md. N.once c d mc md e) (λ md. absurd (N.made c d mc fd md (e ∙ N.kept d md))) (cases_Bool (is_made d)))
@@ -65,7 +67,8 @@ module _ (G : Given) (R : Roles) (T : IsClosed G R) (O : AreInOrder G R) (S : Sh
   has_above : (r c n : ℕ) → G.is_row r ≡ true → S.column c ≡ Some n → S.le (S.row r) n ≡ true → G.has r c ≡ true
   has_above r c n row at le = (B.columns r c n row at).0 le
 
-  nearest : (s x d e m : ℕ) → G.needs s x d ≡ true → IsOther G S d e m → S.le (S.row (G.site_row s)) m ≡ true → (k : ℕ) × (S.column d ≡ Some k) × (S.le m k ≡ true) → ⊥
+  nearest : (s x d e m : ℕ) → G.needs s x d ≡ true → IsOther G S d e m → S.le (S.row (G.site_row s)) m ≡ true → (k : ℕ) × (S.column d ≡ Some k)
+      × (S.le m k ≡ true) → ⊥
   nearest s x d e m need is le below =
       let u = (B.under e d m below.0 is.stands below.1).0 below.2 in
       let has = has_above (G.site_row s) e m (T.rows (G.site_row s) d (T.by_need s x d need)) is.stands le in
@@ -79,12 +82,14 @@ module _ (G : Given) (R : Roles) (T : IsClosed G R) (O : AreInOrder G R) (S : Sh
       let has = has_above r e m (T.rows r d (T.by_super r d k)) is.stands le in
       strict (this_at r e m (T.own r e has is.body same (O.this_body r t.0 t.1).2) is.stands)
 
-  between : (r d e m : ℕ) → G.runs r d ≡ true → IsOther G S d e m → S.le (S.row r) m ≡ true → S.row r ≢ m → (k : ℕ) × (S.column d ≡ Some k) × (S.le m k ≡ true) → ⊥
+  between : (r d e m : ℕ) → G.runs r d ≡ true → IsOther G S d e m → S.le (S.row r) m ≡ true → S.row r ≢ m → (k : ℕ) × (S.column d ≡ Some k)
+      × (S.le m k ≡ true) → ⊥
   between r d e m k is le strict below =
       let u = (B.under e d m below.0 is.stands below.1).0 below.2 in
       let has = has_above r e m (T.rows r d (T.by_super r d k)) is.stands le in
       is.other (O.one_body e d is.body (O.super_body r d k).0 is.slot
-      (O.both (G.class_of e) (G.class_of d) (under_class d e is.body u) (O.super_nearest r d e k is.body is.slot (T.above r e has) (own r d e m k is le strict))))
+      (O.both (G.class_of e) (G.class_of d) (under_class d e is.body u) (O.super_nearest r d e k is.body is.slot (T.above r e has)
+          (own r d e m k is le strict))))
 
   above : (r d : ℕ) → G.runs r d ≡ true → S.column d ≢ Some (S.row r)
   above r d k at =
@@ -97,7 +102,8 @@ module _ (G : Given) (R : Roles) (T : IsClosed G R) (O : AreInOrder G R) (S : Sh
       let le : S.le (S.row r) place.0 ≡ true = (B.columns r mine.0 place.0 (T.rows r d (T.by_super r d k)) place.1).1 (T.by_this r mine.0 mine.1) in
       let u = (B.under d mine.0 (S.row r) place.0 at place.1).0 le in
       let up = under_class mine.0 d body.0 u in
-      body.1 (O.both (G.class_of d) (G.row_class r) (subst (λ x. G.below (G.class_of d) x ≡ true) (sym (O.this_body r mine.0 mine.1).1) up) (T.above r d (T.by_super r d k)))
+      body.1 (O.both (G.class_of d) (G.row_class r) (subst (λ x. G.below (G.class_of d) x ≡ true) (sym (O.this_body r mine.0 mine.1).1) up)
+          (T.above r d (T.by_super r d k)))
 
   apart : (d e n : ℕ) → G.is_body d ≡ true → IsOther G S d e n → S.column d ≢ Some n
   apart d e n bd is at =
@@ -123,7 +129,8 @@ module _ (G : Given) (R : Roles) (T : IsClosed G R) (O : AreInOrder G R) (S : Sh
   pub offered_row : (n c d : ℕ) → Offers S n c → Offers S n d → (r : ℕ) × (G.has r c ≡ true) × (G.has r d ≡ true)
   offered_row n c d f g =
       let r = B.extent n f.at f.above in
-      (r.0, has_above r.0 c f.at r.1 f.stands (B.through (S.row r.0) n f.at r.2 f.above), has_above r.0 d g.at r.1 g.stands (B.through (S.row r.0) n g.at r.2 g.above))
+      (r.0, has_above r.0 c f.at r.1 f.stands (B.through (S.row r.0) n f.at r.2 f.above), has_above r.0 d g.at r.1 g.stands
+          (B.through (S.row r.0) n g.at r.2 g.above))
 
   module _ (is_field is_made : ℕ → Bool) (old new : ℕ → List ℕ) (N : AreNamed G is_field is_made old new) where
     -- no node offers two fields of one name

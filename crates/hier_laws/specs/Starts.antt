@@ -62,7 +62,8 @@ pub record IsStart (G : Given) (S : Shape) : Type 0 where
   -- a column at or below another exactly where all rows that have the one have the other
   pub under : (c d n m : ℕ) → S.column c ≡ Some n → S.column d ≡ Some m → ((S.le n m ≡ true) ↔ ((r : ℕ) → G.has r c ≡ true → G.has r d ≡ true))
   -- a column at or below a row exactly where all rows that have it have all that the row has
-  pub column_row : (c n r : ℕ) → G.is_row r ≡ true → S.column c ≡ Some n → ((S.le n (S.row r) ≡ true) ↔ ((v : ℕ) → G.has v c ≡ true → (d : ℕ) → G.has r d ≡ true → G.has v d ≡ true))
+  pub column_row : (c n r : ℕ) → G.is_row r ≡ true → S.column c ≡ Some n
+      → ((S.le n (S.row r) ≡ true) ↔ ((v : ℕ) → G.has v c ≡ true → (d : ℕ) → G.has r d ≡ true → G.has v d ≡ true))
   -- each node has a row at or below it
   pub extent : (n m : ℕ) → S.le n m ≡ true → (r : ℕ) × (G.is_row r ≡ true) × (S.le (S.row r) n ≡ true)
 
@@ -74,7 +75,8 @@ pub record AreNamed (G : Given) (is_field is_made : ℕ → Bool) (old new : ℕ
   -- a class has no two fields of one name
   pub apart : (c d : ℕ) → is_field c ≡ true → is_field d ≡ true → G.class_of c ≡ G.class_of d → old c ≡ old d → c ≡ d
   -- a field with the name of one of a class strictly above is named anew
-  pub again : (c d : ℕ) → is_field c ≡ true → is_field d ≡ true → old c ≡ old d → G.below (G.class_of c) (G.class_of d) ≡ true → G.class_of c ≢ G.class_of d → is_made c ≡ true
+  pub again : (c d : ℕ) → is_field c ≡ true → is_field d ≡ true → old c ≡ old d → G.below (G.class_of c) (G.class_of d) ≡ true
+      → G.class_of c ≢ G.class_of d → is_made c ≡ true
   -- the classes of fields at or above one type are a chain
   pub chain : (a c d : ℕ) → is_field c ≡ true → is_field d ≡ true → G.below a (G.class_of c) ≡ true → G.below a (G.class_of d) ≡ true
       → (G.below (G.class_of c) (G.class_of d) ≡ true) ⊎ (G.below (G.class_of d) (G.class_of c) ≡ true)

@@ -44,7 +44,8 @@ module _ {X : Type 0} (p : X → Bool) where
 
 module _ (F : Facts) (acyclic : IsAcyclic F) (cs : List ClassId) where
   same_class : (a b : ClassId) → below F a.0 b.0 ≡ true → below F b.0 a.0 ≡ true → a ≡ b
-  same_class a b h k = ap (λ n. let c : ClassId = record { 0 = n } in c) (below-both F acyclic ((below-exact F acyclic a.0 b.0).0 h) ((below-exact F acyclic b.0 a.0).0 k))
+  same_class a b h k = ap (λ n. let c : ClassId = record { 0 = n } in c) (below-both F acyclic ((below-exact F acyclic a.0 b.0).0 h)
+      ((below-exact F acyclic b.0 a.0).0 k))
 
   -- of the first i classes, only this one can be at or below all
   abbrev pub Only : ℕ → ClassId → Type 0
@@ -72,16 +73,19 @@ module _ (F : Facts) (acyclic : IsAcyclic F) (cs : List ClassId) where
       (cases_lt j i)
 
   -- the one that is left where it is at or below all, and where it is not
-  pub lowest_is : (low : ClassId) → Contains cs low → ((k : ClassId) → Contains cs k → is_below_all F cs k ≡ true → low ≡ k) → is_below_all F cs low ≡ true → lowest F cs ≡ Some low
+  pub lowest_is : (low : ClassId) → Contains cs low → ((k : ClassId) → Contains cs k → is_below_all F cs k ≡ true → low ≡ k)
+      → is_below_all F cs low ≡ true → lowest F cs ≡ Some low
   lowest_is low has only h = first_that_only (is_below_all F cs) cs low has h only
 
-  pub lowest_none : (low : ClassId) → ((k : ClassId) → Contains cs k → is_below_all F cs k ≡ true → low ≡ k) → is_below_all F cs low ≡ false → lowest F cs ≡ None
+  pub lowest_none : (low : ClassId) → ((k : ClassId) → Contains cs k → is_below_all F cs k ≡ true → low ≡ k) → is_below_all F cs low ≡ false
+      → lowest F cs ≡ None
   lowest_none low only h =
       first_that_none (is_below_all F cs) cs
       (λ k c. ⊎_elim (λ t. absurd (false≢true (sym h ∙ ap (is_below_all F cs) (only k c t) ∙ t))) (λ f. f) (cases_Bool (is_below_all F cs k)))
 
 -- the classes that are there are all within a property that each is within
-pub all_there_all : (P : ClassId → Type 0) (os : List (Option ClassId)) (ks : List ClassId) → all_there os ≡ Some ks → ((i : ℕ) (d : Option ClassId) → i < length os → IfSome (get_or os i d) P) → All P ks
+pub all_there_all : (P : ClassId → Type 0) (os : List (Option ClassId)) (ks : List ClassId) → all_there os ≡ Some ks
+    → ((i : ℕ) (d : Option ClassId) → i < length os → IfSome (get_or os i d) P) → All P ks
 all_there_all P [] ks e all = subst (All P) (same_Some [] ks e) (λ i d lt. absurd (omega (arith, lt)))
 all_there_all P (None ∷ os) ks e all = absurd (cc e)
 all_there_all P (Some k ∷ os) ks e all =

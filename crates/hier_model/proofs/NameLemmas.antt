@@ -75,10 +75,12 @@ module _ (t : List (List ℕ)) (name : List ℕ) where
   free_name-free = subst (λ k. is_taken t (lengthened name k) ≡ false) (sym found.4) found.2
 
   taken_before : (k : ℕ) → first_below k free_at ≡ None → (j : ℕ) → j < k → is_taken t (lengthened name j) ≡ true
-  taken_before k none j lt = ⊎_elim (λ h. h) (λ f. let z : Some j ≡ None = sym (when_true (not (is_taken t (lengthened name j))) j (ap not f)) ∙ first_below_None free_at k j none lt in absurd (cc z)) (cases_Bool (is_taken t (lengthened name j)))
+  taken_before k none j lt = ⊎_elim (λ h. h) (λ f. let z : Some j ≡ None = sym (when_true (not (is_taken t (lengthened name j))) j (ap not f))
+      ∙ first_below_None free_at k j none lt in absurd (cc z)) (cases_Bool (is_taken t (lengthened name j)))
 
   -- where fewer do not do, a number that does is the one
-  pub free_name-at : (k : ℕ) → ((j : ℕ) → j < k → is_taken t (lengthened name j) ≡ true) → is_taken t (lengthened name k) ≡ false → free_name t name ≡ lengthened name k
+  pub free_name-at : (k : ℕ) → ((j : ℕ) → j < k → is_taken t (lengthened name j) ≡ true) → is_taken t (lengthened name k) ≡ false
+      → free_name t name ≡ lengthened name k
   free_name-at k before free =
       let j = found.0 in
       let same : j ≡ k =
@@ -94,7 +96,8 @@ module _ (t : List (List ℕ)) (name : List ℕ) where
 -- two lists of the same names have the same free names
 pub free_name-same : (t s : List (List ℕ)) (name : List ℕ) → AreSame t s → free_name t name ≡ free_name s name
 free_name-same t s name same =
-    sym (free_name-at s name (underscores t name) (λ j lt. sym (same (lengthened name j)) ∙ free_name-before t name j lt) (sym (same (free_name t name)) ∙ free_name-free t name))
+    sym (free_name-at s name (underscores t name) (λ j lt. sym (same (lengthened name j)) ∙ free_name-before t name j lt)
+        (sym (same (free_name t name)) ∙ free_name-free t name))
 
 -- one underscore more
 pub lengthened-more : (name : List ℕ) (k : ℕ) → lengthened name k ++ 95 ∷ [] ≡ lengthened name (k + 1)
@@ -102,16 +105,19 @@ lengthened-more name k = append_assoc name (replicate k 95) (95 ∷ []) ∙ ap (
   where
     more : (n : ℕ) → ◌≡◌ {A = List ℕ} (replicate n 95 ++ 95 ∷ []) (replicate (n + 1) 95)
     more zero = refl
-    more (suc n) = let e : suc (n + 1) ≡ suc n + 1 = omega arith in ap (λ (l : List ℕ). 95 ∷ l) (more n) ∙ ap (λ (i : ℕ). let l : List ℕ = replicate i 95 in l) e
+    more (suc n) = let e : suc (n + 1) ≡ suc n + 1 = omega arith in ap (λ (l : List ℕ). 95 ∷ l) (more n)
+        ∙ ap (λ (i : ℕ). let l : List ℕ = replicate i 95 in l) e
 
 pub lengthened-none : (name : List ℕ) → lengthened name 0 ≡ name
 lengthened-none name = append-nil name
 
 -- names added to a list
-pub AreSame-more : (t u w g : List (List ℕ)) (name : List ℕ) → AreSame t (w ++ g) → ((x : List ℕ) → is_taken u x ≡ (is_taken t x || bytes_eq x name)) → AreSame u (w ++ (g ++ name ∷ []))
+pub AreSame-more : (t u w g : List (List ℕ)) (name : List ℕ) → AreSame t (w ++ g) → ((x : List ℕ) → is_taken u x ≡ (is_taken t x || bytes_eq x name))
+    → AreSame u (w ++ (g ++ name ∷ []))
 AreSame-more t u w g name same more x =
     more x ∙ ap (λ b. b || bytes_eq x name) (same x ∙ list_any-append (bytes_eq x) w g)
-    ∙ sym (list_any-append (bytes_eq x) w (g ++ name ∷ []) ∙ ap (λ b. is_taken w x || b) (list_any-append (bytes_eq x) g (name ∷ [])) ∙ either (is_taken w x) (is_taken g x) (bytes_eq x name))
+    ∙ sym (list_any-append (bytes_eq x) w (g ++ name ∷ []) ∙ ap (λ b. is_taken w x || b) (list_any-append (bytes_eq x) g (name ∷ []))
+        ∙ either (is_taken w x) (is_taken g x) (bytes_eq x name))
   where
     either : (a b c : Bool) → (a || (b || (c || false))) ≡ (a || b || c)
     either true b c = refl
@@ -134,10 +140,12 @@ same_key bs s u =
 -- a look-up by bytes is one by characters
 pub taken_by : (bs : List ℕ) → IsUtf8 bs → (ks : List (String Global)) → list_any (λ k. bytes_eq bs (string_bytes k)) ks ≡ is_taken (texts ks) (chars bs)
 taken_by bs u [] = refl
-taken_by bs u (k ∷ ks) = ap (λ b. b || list_any (λ x. bytes_eq bs (string_bytes x)) ks) (same_key bs k u) ∙ ap (λ b. bytes_eq (chars bs) (chars (string_bytes k)) || b) (taken_by bs u ks)
+taken_by bs u (k ∷ ks) = ap (λ b. b || list_any (λ x. bytes_eq bs (string_bytes x)) ks) (same_key bs k u)
+    ∙ ap (λ b. bytes_eq (chars bs) (chars (string_bytes k)) || b) (taken_by bs u ks)
 
 -- a table that has one more text, or had it
-pub key_added : (ks : List (String Global)) (s : String Global) (n x : List ℕ) → string_bytes s ≡ encode_utf8_all n → is_taken (texts (insert_key (λ a b. bytes_eq (string_bytes a) (string_bytes b)) ks s)) x ≡ (is_taken (texts ks) x || bytes_eq x n)
+pub key_added : (ks : List (String Global)) (s : String Global) (n x : List ℕ) → string_bytes s ≡ encode_utf8_all n
+    → is_taken (texts (insert_key (λ a b. bytes_eq (string_bytes a) (string_bytes b)) ks s)) x ≡ (is_taken (texts ks) x || bytes_eq x n)
 key_added ks s n x e =
     let told = taken_by (string_bytes s) (IsUtf8-had (string_bytes s) s.ok) ks in
     let is : chars (string_bytes s) ≡ n = text_is n s (sym e) in
@@ -198,11 +206,13 @@ tried_free t name text i h = i.text_is ∙ sym (free_name-at t name i.count i.be
 -- a text with one underscore more
 pub underscored : (s t : String Global) → string_bytes t ≡ string_bytes s ++ 95 ∷ [] → chars (string_bytes t) ≡ chars (string_bytes s) ++ 95 ∷ []
 unfolding lib.Utf8.encode
-underscored s t e = text_is (chars (string_bytes s) ++ 95 ∷ []) t (encodes-append (chars (string_bytes s)) (95 ∷ []) ∙ ap (λ (b : List ℕ). b ++ 95 ∷ []) (encodes-chars (string_bytes s) (IsUtf8-had (string_bytes s) s.ok)) ∙ sym e)
+underscored s t e = text_is (chars (string_bytes s) ++ 95 ∷ []) t (encodes-append (chars (string_bytes s)) (95 ∷ [])
+    ∙ ap (λ (b : List ℕ). b ++ 95 ∷ []) (encodes-chars (string_bytes s) (IsUtf8-had (string_bytes s) s.ok)) ∙ sym e)
 
 -- the name of a field that shares its own with one above
 pub named_shared : (F : Facts) (given t : List (List ℕ)) (c : ℕ) (k : ColumnInfo) (base : String Global) (n : List ℕ) → k ≡ column_at F c → is_shared F c ≡ true
-    → string_bytes base ≡ encode_utf8_all k.name ++ 95 ∷ encode_utf8_all (class_name F k.class.0) → AreSame t (F.words.items ++ given) → n ≡ free_name t (chars (string_bytes base)) → n ≡ named_member F given c
+    → string_bytes base ≡ encode_utf8_all k.name ++ 95 ∷ encode_utf8_all (class_name F k.class.0) → AreSame t (F.words.items ++ given)
+        → n ≡ free_name t (chars (string_bytes base)) → n ≡ named_member F given c
 named_shared F given t c k base n e shared b same is =
     let base_is : chars (string_bytes base) ≡ joined (name_of F c) (class_name F (column_class F c)) =
     joined_text base k.name (class_name F k.class.0) b ∙ ap (λ (x : ColumnInfo). joined x.name (class_name F x.class.0)) e in
@@ -211,11 +221,14 @@ named_shared F given t c k base n e shared b same is =
 
 -- the name of a type
 pub typed_name : (F : Facts) (given t : List (List ℕ)) (class : List ℕ) (k : ℕ) (base : String Global) (n : List ℕ) → k < 2 ^ 64
-    → string_bytes base ≡ encode_utf8_all class ++ 95 ∷ decimal k → AreSame t (F.words.items ++ given) → n ≡ free_name t (chars (string_bytes base)) → n ≡ free_name (F.words.items ++ given) (joined class (decimal k))
+    → string_bytes base ≡ encode_utf8_all class ++ 95 ∷ decimal k → AreSame t (F.words.items ++ given) → n ≡ free_name t (chars (string_bytes base))
+        → n ≡ free_name (F.words.items ++ given) (joined class (decimal k))
 typed_name F given t class k base n fits b same is =
-    let base_is : chars (string_bytes base) ≡ joined class (decimal k) = joined_text base class (decimal k) (b ∙ ap (λ (d : List ℕ). encode_utf8_all class ++ 95 ∷ d) (sym (encodes-IsAscii (decimal k) (IsAscii-decimal k fits)))) in
+    let base_is : chars (string_bytes base) ≡ joined class (decimal k) = joined_text base class (decimal k) (b
+        ∙ ap (λ (d : List ℕ). encode_utf8_all class ++ 95 ∷ d) (sym (encodes-IsAscii (decimal k) (IsAscii-decimal k fits)))) in
     is ∙ ap (free_name t) base_is ∙ free_name-same t (F.words.items ++ given) (joined class (decimal k)) same
 
 -- one name more of a list where each is given after those before it
-pub grown : (f : ℕ → List (List ℕ)) (n : ℕ) (x : List ℕ) (old new : List (List ℕ)) → new ≡ old ++ x ∷ [] → old ≡ f n → f (suc n) ≡ f n ++ x ∷ [] → new ≡ f (n + 1)
+pub grown : (f : ℕ → List (List ℕ)) (n : ℕ) (x : List ℕ) (old new : List (List ℕ)) → new ≡ old ++ x ∷ [] → old ≡ f n → f (suc n) ≡ f n ++ x ∷ []
+    → new ≡ f (n + 1)
 grown f n x old new e before step = e ∙ ap (λ l. l ++ x ∷ []) before ∙ sym step ∙ ap f (sym (add-one n))

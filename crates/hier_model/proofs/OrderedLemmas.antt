@@ -30,16 +30,19 @@ module _ (o : Ordered) (live : ℕ → Bool) (le : ℕ → ℕ → Bool) where
   row_width a lt = ap length (row_at a lt) ∙ length-map-range_with_len (le a) 0 (length o.live)
 
   -- an order with these pairs is that one
-  pub made_order : (new : Ordered) → IsPartialOrder new → length new.live ≡ length o.live → ((a : ℕ) → is_live new a ≡ live a) → ((a b : ℕ) → is_le new a b ≡ le a b) → new ≡ ordered_by o live le
+  pub made_order : (new : Ordered) → IsPartialOrder new → length new.live ≡ length o.live → ((a : ℕ) → is_live new a ≡ live a)
+      → ((a b : ℕ) → is_le new a b ≡ le a b) → new ≡ ordered_by o live le
   made_order new p n lives les =
-      let l : new.live ≡ (ordered_by o live le).live = same_bits new.live (ordered_by o live le).live (n ∙ sym made_count) (λ i lt. lives i ∙ sym (live_at i (omega (arith, lt, n)))) in
+      let l : new.live ≡ (ordered_by o live le).live = same_bits new.live (ordered_by o live le).live (n ∙ sym made_count) (λ i lt. lives i
+          ∙ sym (live_at i (omega (arith, lt, n)))) in
       let r : new.le ≡ (ordered_by o live le).le =
       ext_get_or [] new.le (ordered_by o live le).le (p.count ∙ n ∙ sym rows)
       (λ k lt.
       let here : k < length o.live = omega (arith, lt, p.count, n) in
       same_bits (row new.le k) (row (ordered_by o live le).le k) (p.widths k lt ∙ n ∙ sym (row_width k here))
       (λ i il. les k i ∙ sym (le_at k i here (omega (arith, il, p.widths k lt, n))))) in
-      let first : new ≡ record { live = (ordered_by o live le).live; le = new.le } = ap (λ (x : List Bool). let y : Ordered = record { live = x; le = new.le } in y) l in
+      let first : new ≡ record { live = (ordered_by o live le).live; le = new.le } = ap
+          (λ (x : List Bool). let y : Ordered = record { live = x; le = new.le } in y) l in
       first ∙ ap (λ (x : List (List Bool)). let y : Ordered = record { live = (ordered_by o live le).live; le = x } in y) r
 
   -- its pairs, where no others are given
@@ -51,7 +54,8 @@ module _ (o : Ordered) (live : ℕ → Bool) (le : ℕ → ℕ → Bool) where
     made_live a =
         ⊎_elim (live_at a)
         (λ past.
-        let past_live : is_live (ordered_by o live le) a ≡ false = get_or-eq_default (ordered_by o live le).live false {n = a} (omega (arith, past, made_count)) in
+        let past_live : is_live (ordered_by o live le) a ≡ false = get_or-eq_default (ordered_by o live le).live false {n = a}
+            (omega (arith, past, made_count)) in
         past_live ∙ sym (none_false (live a) (λ t. let lt = live_below a t in absurd (omega (arith, lt, past)))))
         (cases_lt a (length o.live))
 
@@ -60,7 +64,8 @@ module _ (o : Ordered) (live : ℕ → Bool) (le : ℕ → ℕ → Bool) where
         ⊎_elim
         (λ la. ⊎_elim (le_at a b la)
         (λ past.
-        let gone : is_le (ordered_by o live le) a b ≡ false = get_or-eq_default (row (ordered_by o live le).le a) false {n = b} (omega (arith, past, row_width a la)) in
+        let gone : is_le (ordered_by o live le) a b ≡ false = get_or-eq_default (row (ordered_by o live le).le a) false {n = b}
+            (omega (arith, past, row_width a la)) in
         gone ∙ sym (none_false (le a b) (λ t. let lt = (le_below a b t).1 in absurd (omega (arith, lt, past)))))
         (cases_lt b (length o.live)))
         (λ past.

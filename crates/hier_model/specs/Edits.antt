@@ -158,4 +158,5 @@ changed F H (edit.Under n p) =
 changed F H (edit.Move c n) = if is_placed H c then unless (first_unknown H.order (n ∷ [])) UnknownNode (Ok (moved F H c n)) else Err (UnknownMember c)
 changed F H (edit.TypeName n name) = unless (first_unknown H.order (n ∷ [])) UnknownNode (Ok (record H { types = slice_set H.types n.0 name }))
 changed F H (edit.MemberName c name) = if is_placed H c && not (is_mark (column_kind F c.0)) then Ok (renamed F H c name) else Err (UnknownMember c)
-changed F H (edit.Drop n) = unless (first_unknown H.order (n ∷ [])) UnknownNode (if is_used H n then Err (NotEmpty n) else Ok (record H { order = dropped_order H.order n.0 }))
+changed F H (edit.Drop n) = unless (first_unknown H.order (n ∷ [])) UnknownNode (if is_used H n then Err (NotEmpty n) else Ok
+    (record H { order = dropped_order H.order n.0 }))

@@ -114,7 +114,8 @@ is_method Is = false
 
 -- all columns of one slot have one name
 abbrev pub SlotsHaveOneName : Facts → Hierarchy → Type 0
-SlotsHaveOneName F H = (c d x : ℕ) → is_method (column_kind F c) ≡ true → is_method (column_kind F d) ≡ true → column_slot F c ≡ Some x → column_slot F d ≡ Some x → member_name H c ≡ member_name H d
+SlotsHaveOneName F H = (c d x : ℕ) → is_method (column_kind F c) ≡ true → is_method (column_kind F d) ≡ true → column_slot F c ≡ Some x
+    → column_slot F d ≡ Some x → member_name H c ≡ member_name H d
 
 -- the table is the closed one of the facts
 pub record KeepsTable (F : Facts) (table : List (List Bool)) : Type 0 where

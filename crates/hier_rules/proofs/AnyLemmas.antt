@@ -28,4 +28,5 @@ none_where t q v n e = first_below_clear (λ k. when (t && q k) (v k)) n (λ k l
 -- what passes a test passes a weaker one
 pub any_weaker : {X : Type 0} (p q : X → Bool) → ((x : X) → q x ≡ true → p x ≡ true) → (xs : List X) → list_any q xs ≡ true → list_any p xs ≡ true
 any_weaker p q f [] h = h
-any_weaker p q f (x ∷ xs) h = ⊎_elim (λ a. or_left (p x) (list_any p xs) (f x a)) (λ b. or_right (p x) (list_any p xs) (any_weaker p q f xs b)) (or_cases (q x) (list_any q xs) h)
+any_weaker p q f (x ∷ xs) h = ⊎_elim (λ a. or_left (p x) (list_any p xs) (f x a)) (λ b. or_right (p x) (list_any p xs) (any_weaker p q f xs b))
+    (or_cases (q x) (list_any q xs) h)

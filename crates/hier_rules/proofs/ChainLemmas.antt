@@ -43,15 +43,18 @@ count_more p q sub w (suc n) lt h k =
     (cases_eq w n)
 
 -- and two more where two do
-count_two : (p q : ℕ → Bool) → ((k : ℕ) → p k ≡ true → q k ≡ true) → (w v n : ℕ) → w < n → v < n → w ≢ v → q w ≡ true → q v ≡ true → p w ≡ false → p v ≡ false → count_below n p + 1 < count_below n q
+count_two : (p q : ℕ → Bool) → ((k : ℕ) → p k ≡ true → q k ≡ true) → (w v n : ℕ) → w < n → v < n → w ≢ v → q w ≡ true → q v ≡ true → p w ≡ false
+    → p v ≡ false → count_below n p + 1 < count_below n q
 count_two p q sub w v n wn vn ne qw qv pw pv =
     let mid : ℕ → Bool = λ k. p k || eqb k w in
     let one = count_more p mid (λ k h. or_left (p k) (eqb k w) h) w n wn (or_right (p w) (eqb w w) (eq-eqb w w refl)) pw in
-    let two = count_more mid q (λ k h. ⊎_elim (sub k) (λ e. subst (λ j. q j ≡ true) (sym (eqb-true k w e)) qw) (or_cases (p k) (eqb k w) h)) v n vn qv (rw (pv, ne_eqb v w (λ e. ne (sym e))) refl) in
+    let two = count_more mid q (λ k h. ⊎_elim (sub k) (λ e. subst (λ j. q j ≡ true) (sym (eqb-true k w e)) qw) (or_cases (p k) (eqb k w) h)) v n vn qv
+        (rw (pv, ne_eqb v w (λ e. ne (sym e))) refl) in
     omega (arith, one, two)
 
 module _
-    (n : ℕ) (up : ℕ → ℕ → Bool) (within : (a b : ℕ) → up a b ≡ true → b < n) (lower : (a b : ℕ) → up a b ≡ true → up a a ≡ true) (upper : (a b : ℕ) → up a b ≡ true → up b b ≡ true)
+    (n : ℕ) (up : ℕ → ℕ → Bool) (within : (a b : ℕ) → up a b ≡ true → b < n) (lower : (a b : ℕ) → up a b ≡ true → up a a ≡ true) (upper : (a b : ℕ)
+        → up a b ≡ true → up b b ≡ true)
     (through : (a b c : ℕ) → up a b ≡ true → up b c ≡ true → up a c ≡ true) (both : (a b : ℕ) → up a b ≡ true → up b a ≡ true → a ≡ b) where
   abbrev over : ℕ → ℕ → Bool
   over a x = up a x && not (eqb x a)
@@ -73,7 +76,8 @@ module _
 
   -- what is strictly above a node is one of those that have one fewer above them, or above that
   covered : (a z w : ℕ) → over a z ≡ true → count z + 1 ≡ count a → over a w ≡ true → up z w ≡ true
-  covered a z w oz e ow = ⊎_elim (λ same. subst (λ j. up z j ≡ true) (sym same) (upper a z (over_is a z oz).0)) (λ ne. ⊎_elim (λ h. (over_is z w h).0) (apart ne) (cases_Bool (over z w))) (cases_eq w z)
+  covered a z w oz e ow = ⊎_elim (λ same. subst (λ j. up z j ≡ true) (sym same) (upper a z (over_is a z oz).0))
+      (λ ne. ⊎_elim (λ h. (over_is z w h).0) (apart ne) (cases_Bool (over z w))) (cases_eq w z)
     where
       inner : (k : ℕ) → over z k ≡ true → over a k ≡ true
       inner k h =
@@ -181,11 +185,13 @@ module _ (F : Facts) (H : Hierarchy) (P : IsPartialOrder H.order) where
   second_false false b h e = absurd (false≢true e)
 
   -- no two class nodes at or above a node are unordered where no loose one is at or above it
-  pub no_loose : (n : ℕ) → any_below (length H.order.live) (is_loose_above F H n) ≡ false → first_below (length H.order.live) (λ x. first_below (length H.order.live) (unchained F H n x)) ≡ None
+  pub no_loose : (n : ℕ) → any_below (length H.order.live) (is_loose_above F H n) ≡ false
+      → first_below (length H.order.live) (λ x. first_below (length H.order.live) (unchained F H n x)) ≡ None
   no_loose n none =
       first_below_clear (λ x. first_below (length H.order.live) (unchained F H n x)) (length H.order.live) (λ x xn.
       first_below_clear (unchained F H n x) (length H.order.live) (λ y yn.
       none_of (up n x) (up n y) (nat_lt x y) (is_le H.order x y) (is_le H.order y x) (of_three B9 n x y) (λ hx hy.
       ⊎_elim (λ h. inl (says x y h).le) (λ h. inr (says y x h).le)
       (chain (length H.order.live) up within lower upper through both (class_count F H n + 1) n (omega arith)
-      (λ m h. tight m (second_false (up n m) (is_loose F H m) (any_below_none (is_loose_above F H n) (length H.order.live) m none (within n m h)) h)) x y hx hy))))
+      (λ m h. tight m (second_false (up n m) (is_loose F H m) (any_below_none (is_loose_above F H n) (length H.order.live) m none (within n m h)) h))
+          x y hx hy))))

@@ -73,7 +73,8 @@ module _ (F : Facts) (H : Hierarchy) where
   same_name x h = (and_parts (bytes_eq (member_name H x.first) (member_name H x.second)) _ h).0
 
   -- no column from k on before d clashes with d
-  pub fewer : (d j k : ℕ) (xs : List ClashPair) → j ≤ k → ((c : ℕ) → j ≤ c → c < k → bytes_eq (member_name H c) (member_name H d) ≡ false) → AreClashes F H d k xs → AreClashes F H d j xs
+  pub fewer : (d j k : ℕ) (xs : List ClashPair) → j ≤ k → ((c : ℕ) → j ≤ c → c < k → bytes_eq (member_name H c) (member_name H d) ≡ false)
+      → AreClashes F H d k xs → AreClashes F H d j xs
   fewer d j k xs le none A = record {
     order = A.order;
     within = A.within;
@@ -82,7 +83,8 @@ module _ (F : Facts) (H : Hierarchy) where
     all = λ x lt w here h.
         A.all x lt w
         (λ e. ⊎_elim
-        (λ less. absurd (false≢true (sym (none x.first (here e) less) ∙ subst (λ y. bytes_eq (member_name H x.first) (member_name H y) ≡ true) e (same_name x h))))
+        (λ less. absurd (false≢true (sym (none x.first (here e) less) ∙ subst (λ y. bytes_eq (member_name H x.first) (member_name H y) ≡ true) e
+            (same_name x h))))
         (λ ge. ge)
         (cases_lt x.first k)) h;
     rising = A.rising;
@@ -153,12 +155,14 @@ module _ (F : Facts) (H : Hierarchy) where
     pushed lt t A = record {
       order = λ x m. ⊎_elim (A.order x) (λ e. subst (λ (y : ClashPair). y.first < y.second) e lt) (Contains-push_cases xs new x m);
       within = λ x m. ⊎_elim (A.within x) (λ e. subst (λ (y : ClashPair). y.second ≤ d) e (omega arith)) (Contains-push_cases xs new x m);
-      last = λ x m k. ⊎_elim (λ a. let l = A.last x a k in omega (arith, l)) (λ e. subst (λ (y : ClashPair). c ≤ y.first) e (omega arith)) (Contains-push_cases xs new x m);
+      last = λ x m k. ⊎_elim (λ a. let l = A.last x a k in omega (arith, l)) (λ e. subst (λ (y : ClashPair). c ≤ y.first) e (omega arith))
+          (Contains-push_cases xs new x m);
       is = λ x m. ⊎_elim (A.is x) (λ e. subst (λ (y : ClashPair). clash F H y.first y.second ≡ true) e t) (Contains-push_cases xs new x m);
       all = λ x less w here h.
           ⊎_elim
           (λ both. subst (Contains longer) (made x both.0 both.1) (Contains-push xs new))
-          (λ apart. Contains-append_left xs (new ∷ []) x (A.all x less w (λ e. ⊎_elim (λ same. absurd (apart same e)) (λ ne. let l = here e in omega (arith, l, ne)) (cases_eq x.first c)) h))
+          (λ apart. Contains-append_left xs (new ∷ []) x
+              (A.all x less w (λ e. ⊎_elim (λ same. absurd (apart same e)) (λ ne. let l = here e in omega (arith, l, ne)) (cases_eq x.first c)) h))
           (is_new x);
       rising = still_rising A;
     }
@@ -168,12 +172,14 @@ module _ (F : Facts) (H : Hierarchy) where
     with_one lt A =
         ⊎_elim
         (λ t. subst (λ b. AreClashes F H d c (xs ++ cond b (new ∷ []) [])) (sym t) (pushed lt t A))
-        (λ f. subst (λ b. AreClashes F H d c (xs ++ cond b (new ∷ []) [])) (sym f) (subst (λ l. AreClashes F H d c l) (sym (append-nil xs)) (skipped d c xs f A)))
+        (λ f. subst (λ b. AreClashes F H d c (xs ++ cond b (new ∷ []) [])) (sym f) (subst (λ l. AreClashes F H d c l) (sym (append-nil xs))
+            (skipped d c xs f A)))
         (cases_Bool (clash F H c d))
 
   module _ (C : ℕ) (xs : List ClashPair) (A : AreClashes F H C C xs) where
     pub second_below : (x : ClashPair) → Contains xs x → x.second < C
-    second_below x m = ⊎_elim (λ lt. lt) (λ ge. let w = A.within x m in let e : x.second ≡ C = omega (arith, w, ge) in let l = A.last x m e in let o = A.order x m in absurd (omega (arith, l, o, e))) (cases_lt x.second C)
+    second_below x m = ⊎_elim (λ lt. lt) (λ ge. let w = A.within x m in let e : x.second ≡ C = omega (arith, w, ge) in let l = A.last x m e in
+        let o = A.order x m in absurd (omega (arith, l, o, e))) (cases_lt x.second C)
 
     pub first_below_all : (x : ClashPair) → Contains xs x → x.first < C
     first_below_all x m = let s = second_below x m in let o = A.order x m in omega (arith, s, o)
@@ -200,7 +206,8 @@ module _ (F : Facts) (H : Hierarchy) where
       pub none_confused : i ≡ length xs → first_below C (confused F H n) ≡ None
       none_confused end = first_below_clear (confused F H n) C (λ d lt. clear d lt (λ j x less e. omega (arith, less, end)))
 
-      pub one_confused : (x : ClashPair) → i < length xs → x ≡ get_or xs i x → offers_both H n x ≡ true → first_below C (confused F H n) ≡ Some (of_column B8 n x.second)
+      pub one_confused : (x : ClashPair) → i < length xs → x ≡ get_or xs i x → offers_both H n x ≡ true → first_below C (confused F H n)
+          ≡ Some (of_column B8 n x.second)
       one_confused x lt at h =
           let m : Contains xs x = subst (Contains xs) (sym at) (Contains-get_or xs i x lt) in
           let p = and_parts (is_offered H n x.second) (is_offered H n x.first) h in
@@ -213,10 +220,12 @@ module _ (F : Facts) (H : Hierarchy) where
           (cases_lt j i))))
           (ap (λ b. when b (of_column B8 n x.second))
           (and_from (is_offered H n x.second) (any_below x.second (λ c. is_offered H n c && clash F H c x.second)) p.0
-          (any_below_has (λ c. is_offered H n c && clash F H c x.second) x.second x.first (A.order x m) (and_from (is_offered H n x.first) (clash F H x.first x.second) p.1 (A.is x m)))))
+          (any_below_has (λ c. is_offered H n c && clash F H c x.second) x.second x.first (A.order x m)
+              (and_from (is_offered H n x.first) (clash F H x.first x.second) p.1 (A.is x m)))))
 
 -- one link more
-pub link_more : (H : Hierarchy) (n : ℕ) (links more : List (Option ℕ)) (o : Option ℕ) → more ≡ links ++ o ∷ [] → AreLinks H n links → o ≡ last_of H (member_name H n) n → AreLinks H (n + 1) more
+pub link_more : (H : Hierarchy) (n : ℕ) (links more : List (Option ℕ)) (o : Option ℕ) → more ≡ links ++ o ∷ [] → AreLinks H n links
+    → o ≡ last_of H (member_name H n) n → AreLinks H (n + 1) more
 link_more H n links more o e A h =
     subst (λ l. AreLinks H (n + 1) l) (sym e) (record {
       width = length_push links o ∙ ap (λ k. k + 1) A.width;

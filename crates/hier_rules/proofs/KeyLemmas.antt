@@ -49,7 +49,8 @@ or_false false = refl
 abbrev pub Collects : {X : Type 0} → (X → ℕ) → (X → Bool) → (ℕ → Bool) → List ℕ → List X → ℕ → Type 0
 Collects f p base out xs i = (x : ℕ) → Contains out x ↔ ((base x || list_any (λ k. p k && eqb (f k) x) (take i xs)) ≡ true)
 
-module _ {X : Type 0} (f : X → ℕ) (p : X → Bool) (base : ℕ → Bool) (out : List ℕ) (xs : List X) (i : ℕ) (k d : X) (lt : i < length xs) (e : k ≡ get_or xs i d) (h : Collects f p base out xs i) where
+module _ {X : Type 0} (f : X → ℕ) (p : X → Bool) (base : ℕ → Bool) (out : List ℕ) (xs : List X) (i : ℕ) (k d : X) (lt : i < length xs)
+    (e : k ≡ get_or xs i d) (h : Collects f p base out xs i) where
   abbrev any : ℕ → X → Bool
   any x y = p y && eqb (f y) x
 
@@ -100,7 +101,8 @@ module _ {X : Type 0} (f : X → ℕ) (p : X → Bool) (base : ℕ → Bool) (ou
   collect_more =
       ⊎_elim
       (λ passes. subst (λ b. Collects f p base (out ++ cond b (f k ∷ []) []) xs (i + 1)) (sym passes) (collect_push passes))
-      (λ fails. subst (λ b. Collects f p base (out ++ cond b (f k ∷ []) []) xs (i + 1)) (sym fails) (subst (λ o. Collects f p base o xs (i + 1)) (sym (append-nil out)) (collect_skip fails)))
+      (λ fails. subst (λ b. Collects f p base (out ++ cond b (f k ∷ []) []) xs (i + 1)) (sym fails) (subst (λ o. Collects f p base o xs (i + 1))
+          (sym (append-nil out)) (collect_skip fails)))
       (cases_Bool (p k))
 
 -- the keys of those of a list that pass a test
@@ -112,7 +114,8 @@ keys_of f p (k ∷ xs) x = split (cases_Bool (p k)) (cases_Bool (eqb (f k) x)) (
     later y x ys ne (zero, lt, e) = absurd (ne e)
     later y x ys ne (suc j, lt, e) = (j, omega (arith, lt), e)
 
-    split : (p k ≡ true) ⊎ (p k ≡ false) → (eqb (f k) x ≡ true) ⊎ (eqb (f k) x ≡ false) → Contains (map f (filter p xs)) x ↔ (list_any (λ k. p k && eqb (f k) x) xs ≡ true)
+    split : (p k ≡ true) ⊎ (p k ≡ false) → (eqb (f k) x ≡ true) ⊎ (eqb (f k) x ≡ false)
+        → Contains (map f (filter p xs)) x ↔ (list_any (λ k. p k && eqb (f k) x) xs ≡ true)
         → Contains (map f (filter p (k ∷ xs))) x ↔ ((p k && eqb (f k) x) || list_any (λ k. p k && eqb (f k) x) xs ≡ true)
     split (inr n) e rest = rw n rest
     split (inl y) (inl e) rest = rw y ((λ c. rw e refl), (λ h. (0, omega arith, eqb-true (f k) x e)))

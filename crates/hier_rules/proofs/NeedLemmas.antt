@@ -35,8 +35,10 @@ module _ (F : Facts) (pt : PointsTo) (H : Hierarchy) where
     valued : (j : ℕ) → j < length slots → wrong_need F pt H s (get_or slots j 0) ≡ value (get_or slots j 0)
     valued j lt = ap (λ b. cond b (value (get_or slots j 0)) None) ((has (get_or slots j 0)).0 (Contains-get_or slots j 0 lt))
 
-    pub call_found : (i : ℕ) (x : Broken) → i < length slots → ((j : ℕ) → j < i → value (get_or slots j 0) ≡ None) → value (get_or slots i 0) ≡ Some x → first_below (slots_of F) (wrong_need F pt H s) ≡ Some x
-    call_found i x lt none h = key_found (wrong_need F pt H s) (slots_of F) slots call_keys i x lt (λ j l. valued j (omega (arith, l, lt)) ∙ none j l) (valued i lt ∙ h)
+    pub call_found : (i : ℕ) (x : Broken) → i < length slots → ((j : ℕ) → j < i → value (get_or slots j 0) ≡ None) → value (get_or slots i 0) ≡ Some x
+        → first_below (slots_of F) (wrong_need F pt H s) ≡ Some x
+    call_found i x lt none h = key_found (wrong_need F pt H s) (slots_of F) slots call_keys i x lt (λ j l. valued j (omega (arith, l, lt)) ∙ none j l)
+        (valued i lt ∙ h)
 
     pub call_none : ((j : ℕ) → j < length slots → value (get_or slots j 0) ≡ None) → first_below (slots_of F) (wrong_need F pt H s) ≡ None
     call_none none = key_none (wrong_need F pt H s) (slots_of F) slots call_keys (λ j l. valued j l ∙ none j l)
@@ -47,7 +49,8 @@ module _ (F : Facts) (pt : PointsTo) (H : Hierarchy) where
         ⊎_elim
         (λ a. let lt = bound_above (λ (x : TestInfo). x.place.at) (λ x. true) F.tests.items p a in omega (arith, lt))
         (λ b. let lt = bound_above (λ (x : StoreInfo). x.place.at) (λ x. is_element x.column) F.stores.items p b in omega (arith, lt))
-        (or_cases (list_any (λ (x : TestInfo). eqb x.place.at p) F.tests.items) (list_any (λ (x : StoreInfo). is_element x.column && eqb x.place.at p) F.stores.items) h)
+        (or_cases (list_any (λ (x : TestInfo). eqb x.place.at p) F.tests.items) (list_any (λ (x : StoreInfo). is_element x.column && eqb x.place.at p)
+            F.stores.items) h)
 
     place_keys : AreKeys (first_wrong_of_place F pt H) (places_of F) places
     place_keys = record {
@@ -56,9 +59,11 @@ module _ (F : Facts) (pt : PointsTo) (H : Hierarchy) where
       all = λ p. ⊎_elim (λ h. inl ((has p).1 h)) (λ h. inr (not_asked F pt H p h)) (cases_Bool (is_asked F p));
     }
 
-    pub place_found : (i : ℕ) (x : Broken) → i < length places → ((j : ℕ) → j < i → first_wrong_of_place F pt H (get_or places j 0) ≡ None) → first_wrong_of_place F pt H (get_or places i 0) ≡ Some x
+    pub place_found : (i : ℕ) (x : Broken) → i < length places → ((j : ℕ) → j < i → first_wrong_of_place F pt H (get_or places j 0) ≡ None)
+        → first_wrong_of_place F pt H (get_or places i 0) ≡ Some x
         → first_below (places_of F) (first_wrong_of_place F pt H) ≡ Some x
     place_found i x lt none h = key_found (first_wrong_of_place F pt H) (places_of F) places place_keys i x lt none h
 
-    pub place_none : ((j : ℕ) → j < length places → first_wrong_of_place F pt H (get_or places j 0) ≡ None) → first_below (places_of F) (first_wrong_of_place F pt H) ≡ None
+    pub place_none : ((j : ℕ) → j < length places → first_wrong_of_place F pt H (get_or places j 0) ≡ None)
+        → first_below (places_of F) (first_wrong_of_place F pt H) ≡ None
     place_none none = key_none (first_wrong_of_place F pt H) (places_of F) places place_keys none

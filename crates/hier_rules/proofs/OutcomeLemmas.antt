@@ -25,22 +25,28 @@ module _ (F : Facts) (pt : PointsTo) where
   meets_target p t s h =
       ⊎_elim
       (λ a. or_left (list_any (is_test_at p t) F.tests.items) (list_any (is_store_at F pt p t) F.stores.items)
-      (any_weaker (is_test_at p t) (λ (x : TestInfo). is_test_at p t x && bit (row pt.points.items x.from) s) (λ x k. (and_parts (is_test_at p t x) (bit (row pt.points.items x.from) s) k).0) F.tests.items a))
+      (any_weaker (is_test_at p t) (λ (x : TestInfo). is_test_at p t x && bit (row pt.points.items x.from) s)
+          (λ x k. (and_parts (is_test_at p t x) (bit (row pt.points.items x.from) s) k).0) F.tests.items a))
       (λ b. or_right (list_any (is_test_at p t) F.tests.items) (list_any (is_store_at F pt p t) F.stores.items)
-      (any_weaker (is_store_at F pt p t) (λ (x : StoreInfo). is_store_at F pt p t x && bit (row pt.points.items x.value) s) (λ x k. (and_parts (is_store_at F pt p t x) (bit (row pt.points.items x.value) s) k).0) F.stores.items b))
+      (any_weaker (is_store_at F pt p t) (λ (x : StoreInfo). is_store_at F pt p t x && bit (row pt.points.items x.value) s)
+          (λ x k. (and_parts (is_store_at F pt p t x) (bit (row pt.points.items x.value) s) k).0) F.stores.items b))
       (or_cases (is_tested F pt p t s) (is_stored F pt p t s) h)
 
   target_asked : (p t : ℕ) → is_target F pt p t ≡ true → is_asked F p ≡ true
   target_asked p t h =
       ⊎_elim
-      (λ a. or_left (list_any (λ (x : TestInfo). x.place.at == p) F.tests.items) (list_any (λ (x : StoreInfo). is_element x.column && (x.place.at == p)) F.stores.items)
+      (λ a. or_left (list_any (λ (x : TestInfo). x.place.at == p) F.tests.items)
+          (list_any (λ (x : StoreInfo). is_element x.column && (x.place.at == p)) F.stores.items)
       (any_weaker (λ (x : TestInfo). x.place.at == p) (is_test_at p t) (λ x k. (and_parts (x.place.at == p) (x.target.0 == t) k).0) F.tests.items a))
-      (λ b. or_right (list_any (λ (x : TestInfo). x.place.at == p) F.tests.items) (list_any (λ (x : StoreInfo). is_element x.column && (x.place.at == p)) F.stores.items)
-      (any_weaker (λ (x : StoreInfo). is_element x.column && (x.place.at == p)) (is_store_at F pt p t) (λ x k. (and_parts (is_element x.column && (x.place.at == p)) (has_array F pt x.base t) k).0) F.stores.items b))
+      (λ b. or_right (list_any (λ (x : TestInfo). x.place.at == p) F.tests.items)
+          (list_any (λ (x : StoreInfo). is_element x.column && (x.place.at == p)) F.stores.items)
+      (any_weaker (λ (x : StoreInfo). is_element x.column && (x.place.at == p)) (is_store_at F pt p t)
+          (λ x k. (and_parts (is_element x.column && (x.place.at == p)) (has_array F pt x.base t) k).0) F.stores.items b))
       (or_cases (list_any (is_test_at p t) F.tests.items) (list_any (is_store_at F pt p t) F.stores.items) h)
 
   unmet : (H : Hierarchy) (p t s : ℕ) → is_target F pt p t ≡ false → wrong_outcome F pt H p t s ≡ None
-  unmet H p t s free = none (of_row B7 (place_of_site F H s) (place_of_row H t) (site_row F s)) (meets F pt p t s) (differ (row_le H (site_row F s) t) (below F (site_class F s) (row_class F t))) (λ h. false≢true (sym free ∙ meets_target p t s h))
+  unmet H p t s free = none (of_row B7 (place_of_site F H s) (place_of_row H t) (site_row F s)) (meets F pt p t s)
+      (differ (row_le H (site_row F s) t) (below F (site_class F s) (row_class F t))) (λ h. false≢true (sym free ∙ meets_target p t s h))
     where
       none : {B : Type 0} (v : B) (a b : Bool) → (a ≡ true → ⊥) → when (a && b) v ≡ None
       none v true b n = absurd (n refl)
@@ -57,7 +63,8 @@ module _ (F : Facts) (pt : PointsTo) where
       no_target H p t (⊎_elim (λ h. absurd (false≢true (sym free ∙ target_asked p t h))) (λ f. f) (cases_Bool (is_target F pt p t))))
 
 -- the places of tests and of stores of elements are those that are asked
-pub places_asked : (F : Facts) (p : ℕ) → Contains (map (λ (x : TestInfo). x.place.at) F.tests.items ++ map (λ (x : StoreInfo). x.place.at) (filter (λ (x : StoreInfo). is_element x.column) F.stores.items)) p ↔ (is_asked F p ≡ true)
+pub places_asked : (F : Facts) (p : ℕ) → Contains (map (λ (x : TestInfo). x.place.at) F.tests.items ++ map (λ (x : StoreInfo). x.place.at)
+    (filter (λ (x : StoreInfo). is_element x.column) F.stores.items)) p ↔ (is_asked F p ≡ true)
 places_asked F p =
     let ts = map (λ (x : TestInfo). x.place.at) F.tests.items in
     let ss = map (λ (x : StoreInfo). x.place.at) (filter (λ (x : StoreInfo). is_element x.column) F.stores.items) in

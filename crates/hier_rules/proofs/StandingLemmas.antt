@@ -35,7 +35,8 @@ module _ (F : Facts) (H : Hierarchy) (n : ℕ) (p : ℕ → Bool) (xs : List ℕ
 
   pub none_stands : i ≡ length xs → first_standing F H n p ≡ None
   none_stands end =
-      first_below_clear (λ c. when (stands_at H n c && p c) (of_column B8 n c)) (length F.columns.items) (λ k lt. clear k lt (λ j less e. omega (arith, less, end)))
+      first_below_clear (λ c. when (stands_at H n c && p c) (of_column B8 n c)) (length F.columns.items)
+          (λ k lt. clear k lt (λ j less e. omega (arith, less, end)))
 
   pub one_stands : i < length xs → stands_at H n (get_or xs i 0) ≡ true → first_standing F H n p ≡ Some (of_column B8 n (get_or xs i 0))
   one_stands lt h =
@@ -61,7 +62,8 @@ regroup true b c = refl
 regroup false b c = refl
 
 -- the first at a node, by the parts of its test
-pub standing_unwritable : (F : Facts) (H : Hierarchy) (n : ℕ) → first_standing F H n (is_unwritable_member F H) ≡ first_below (length F.columns.items) (unwritable F H n)
+pub standing_unwritable : (F : Facts) (H : Hierarchy) (n : ℕ) → first_standing F H n (is_unwritable_member F H) ≡ first_below (length F.columns.items)
+    (unwritable F H n)
 standing_unwritable F H n =
     first_below_same (λ c. when (stands_at H n c && is_unwritable_member F H c) (of_column B8 n c)) (unwritable F H n) (length F.columns.items)
     (λ c lt. ap (λ b. when b (of_column B8 n c)) (sym (regroup (stands_at H n c) _ _)))

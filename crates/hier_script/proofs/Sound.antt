@@ -21,4 +21,5 @@ all_named k [] [] h = All-nil (λ line. NamesSome line.edit)
 all_named k [] (e ∷ edits) h = absurd h
 all_named k (line ∷ lines) edits (inl h) = all_named (k + 1) lines edits h.1
 all_named k (line ∷ lines) [] (inr h) = absurd h
-all_named k (line ∷ lines) (e ∷ edits) (inr h) = All-cons (λ line. NamesSome line.edit) e edits (some_named e.edit h.1.writes.sound) (all_named (k + 1) lines edits h.2)
+all_named k (line ∷ lines) (e ∷ edits) (inr h) = All-cons (λ line. NamesSome line.edit) e edits (some_named e.edit h.1.writes.sound)
+    (all_named (k + 1) lines edits h.2)

@@ -47,7 +47,8 @@ some_column_text (Some c) = column_text c
 -- breaks RULE nodes nI nJ row rI column cI
 abbrev pub broken_text : Broken → List ℕ
 broken_text b =
-    codes "breaks " ++ (rule_text b.rule ++ (codes " nodes " ++ (nodes_text b.nodes ++ (codes " row " ++ (some_row_text b.row ++ (codes " column " ++ some_column_text b.column))))))
+    codes "breaks " ++ (rule_text b.rule
+        ++ (codes " nodes " ++ (nodes_text b.nodes ++ (codes " row " ++ (some_row_text b.row ++ (codes " column " ++ some_column_text b.column))))))
 
 -- why an edit is refused
 abbrev pub fault_text : ApplyFault → List ℕ

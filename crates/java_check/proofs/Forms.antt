@@ -19,25 +19,32 @@ use Rattle.java_check.proofs.Arguments.{and_then-ok}
 pub block_seen : {s : RStmt} (v : Vec RStmt Global) (p : Place) → s ≡ Block v p → stmt_of at_place s ≡ block (at_place p) (stmts at_place v.items)
 block_seen v p h = ap (stmt_of at_place) h ∙ ap (block (at_place p)) (stmts_vec at_place v)
 
-pub if_seen : {s : RStmt} (v : Vec RArm Global) (o : Option (Vec RStmt Global)) (p : Place) → s ≡ If v o p → stmt_of at_place s ≡ choose (at_place p) (arms_seen at_place v.items (else_seen at_place o))
+pub if_seen : {s : RStmt} (v : Vec RArm Global) (o : Option (Vec RStmt Global)) (p : Place) → s ≡ If v o p
+    → stmt_of at_place s ≡ choose (at_place p) (arms_seen at_place v.items (else_seen at_place o))
 if_seen v o p h = ap (stmt_of at_place) h ∙ if_as at_place v o p
 
-pub while_seen : {s : RStmt} (t : RExpr) (v : Vec RStmt Global) (p : Place) → s ≡ While t v p → stmt_of at_place s ≡ loop (at_place p) true no_st (Some (expr_of at_place t)) no_st (stmts at_place v.items)
+pub while_seen : {s : RStmt} (t : RExpr) (v : Vec RStmt Global) (p : Place) → s ≡ While t v p → stmt_of at_place s ≡ loop (at_place p) true no_st
+    (Some (expr_of at_place t)) no_st (stmts at_place v.items)
 while_seen t v p h = ap (stmt_of at_place) h ∙ ap (loop (at_place p) true no_st (Some (expr_of at_place t)) no_st) (stmts_vec at_place v)
 
-pub for_seen : {s : RStmt} (f : Option (Box RStmt Global)) (t : Option RExpr) (g : Option (Box RStmt Global)) (v : Vec RStmt Global) (p : Place) → s ≡ For f t g v p
+pub for_seen : {s : RStmt} (f : Option (Box RStmt Global)) (t : Option RExpr) (g : Option (Box RStmt Global)) (v : Vec RStmt Global) (p : Place)
+    → s ≡ For f t g v p
     → stmt_of at_place s ≡ loop (at_place p) false (step_seen at_place f) (value_of at_place t) (step_seen at_place g) (stmts at_place v.items)
 for_seen f t g v p h = ap (stmt_of at_place) h ∙ for_as at_place f t g v p
 
 -- the body of a `while` decides where its test is typed; that of a `for` where its head is
-pub while_body : (P : Plain) (g : Env) {s : RStmt} (t : RExpr) (v : Vec RStmt Global) (p : Place) {r : Result (Unit {0}) CheckFault} {x : Unit {0}} → s ≡ While t v p → r ≡ condition_answer P g (expr_of at_place t) → r ≡ Ok x
+pub while_body : (P : Plain) (g : Env) {s : RStmt} (t : RExpr) (v : Vec RStmt Global) (p : Place) {r : Result (Unit {0}) CheckFault} {x : Unit {0}}
+    → s ≡ While t v p → r ≡ condition_answer P g (expr_of at_place t) → r ≡ Ok x
     → sts_answer P g (stmts at_place v.items) ≡ st_answer P g (stmt_of at_place s)
 while_body P g t v p h k o = sym (ap (st_answer P g) (while_seen t v p h) ∙ and_then-ok _ (sym k ∙ o))
 
-pub for_body : (P : Plain) (g : Env) {s : RStmt} (f : Option (Box RStmt Global)) (t : Option RExpr) (j : Option (Box RStmt Global)) (v : Vec RStmt Global) (p : Place) {a b c : Result (Unit {0}) CheckFault} {x y z : Unit {0}} → s ≡ For f t j v p
-    → a ≡ sts_answer P g (step_seen at_place f) → a ≡ Ok x → b ≡ test_answer P g (value_of at_place t) → b ≡ Ok y → c ≡ sts_answer P g (step_seen at_place j) → c ≡ Ok z
+pub for_body : (P : Plain) (g : Env) {s : RStmt} (f : Option (Box RStmt Global)) (t : Option RExpr) (j : Option (Box RStmt Global))
+    (v : Vec RStmt Global) (p : Place) {a b c : Result (Unit {0}) CheckFault} {x y z : Unit {0}} → s ≡ For f t j v p
+    → a ≡ sts_answer P g (step_seen at_place f) → a ≡ Ok x → b ≡ test_answer P g (value_of at_place t) → b ≡ Ok y
+        → c ≡ sts_answer P g (step_seen at_place j) → c ≡ Ok z
     → sts_answer P g (stmts at_place v.items) ≡ st_answer P g (stmt_of at_place s)
-for_body P g f t j v p h a x b y c z = sym (ap (st_answer P g) (for_seen f t j v p h) ∙ and_then-ok _ (sym a ∙ x) ∙ and_then-ok _ (sym b ∙ y) ∙ and_then-ok _ (sym c ∙ z))
+for_body P g f t j v p h a x b y c z = sym (ap (st_answer P g) (for_seen f t j v p h) ∙ and_then-ok _ (sym a ∙ x) ∙ and_then-ok _ (sym b ∙ y)
+    ∙ and_then-ok _ (sym c ∙ z))
 
 at_smaller : (xs : List RStmt) (i : ℕ) (d : RStmt) → i < length xs → st_size (stmt_of at_place (get_or xs i d)) < sts_size (stmts at_place xs)
 at_smaller [] i d h = absurd (omega (arith, h))
@@ -51,10 +58,13 @@ pub else_smaller : (xs : List RArm) (other : Arms) → arms_size other ≤ arms_
 else_smaller [] other = omega arith
 else_smaller (x ∷ xs) other = omega (arith, else_smaller xs other)
 
-body_smaller : (xs : List RArm) (other : Arms) (i : ℕ) (d : RArm) → i < length xs → sts_size (stmts at_place (get_or xs i d).body.items) ≤ arms_size (arms_seen at_place xs other)
+body_smaller : (xs : List RArm) (other : Arms) (i : ℕ) (d : RArm) → i < length xs → sts_size (stmts at_place (get_or xs i d).body.items) ≤ arms_size
+    (arms_seen at_place xs other)
 body_smaller [] other i d h = absurd (omega (arith, h))
 body_smaller (x ∷ xs) other zero d h = omega arith
 body_smaller (x ∷ xs) other (suc i) d h = omega (arith, body_smaller xs other i d (omega (arith, h)))
 
-pub arm_smaller : (xs : List RArm) (other : Arms) (i : ℕ) (d : RArm) → i < length xs → d ≡ get_or xs i d → sts_size (stmts at_place d.body.items) ≤ arms_size (arms_seen at_place xs other)
-arm_smaller xs other i d h e = subst (λ (x : RArm). sts_size (stmts at_place x.body.items) ≤ arms_size (arms_seen at_place xs other)) (sym e) (body_smaller xs other i d h)
+pub arm_smaller : (xs : List RArm) (other : Arms) (i : ℕ) (d : RArm) → i < length xs → d ≡ get_or xs i d
+    → sts_size (stmts at_place d.body.items) ≤ arms_size (arms_seen at_place xs other)
+arm_smaller xs other i d h e = subst (λ (x : RArm). sts_size (stmts at_place x.body.items) ≤ arms_size (arms_seen at_place xs other)) (sym e)
+    (body_smaller xs other i d h)

@@ -38,12 +38,14 @@ module _ (P : Plain) (g : Env) where
   JudgedArgs t es us (Err (IllTyped k p)) = ArgsFail t es us k p
   JudgedArgs t es us (Err Memory) = ⊥
 
-  then_judged : {e d : Ex} (r : Answer) (f : declared.Static → Answer) → IsPart e d → Judged e r → ((s : declared.Static) → Typed P g e → static P g e ≡ seen s → Judged d (f s)) → Judged d (and_then r f)
+  then_judged : {e d : Ex} (r : Answer) (f : declared.Static → Answer) → IsPart e d → Judged e r
+      → ((s : declared.Static) → Typed P g e → static P g e ≡ seen s → Judged d (f s)) → Judged d (and_then r f)
   then_judged (Ok s) f part h k = k s h.0 h.1
   then_judged (Err (IllTyped x p)) f part h k = within part h
   then_judged (Err Memory) f part h k = h
 
-  asked_judged : {d : Ex} (b : Bool) (k : Kind) (s : declared.Static) → (b ≡ true → Typed P g d) → static P g d ≡ seen s → (b ≡ false → Breaks P g d k) → Judged d (asked b k (tag_of d) s)
+  asked_judged : {d : Ex} (b : Bool) (k : Kind) (s : declared.Static) → (b ≡ true → Typed P g d) → static P g d ≡ seen s
+      → (b ≡ false → Breaks P g d k) → Judged d (asked b k (tag_of d) s)
   asked_judged true k s typed same broken = (typed refl, same)
   asked_judged false k s typed same broken = itself (broken refl)
 
@@ -51,7 +53,8 @@ module _ (P : Plain) (g : Env) where
   shifted (bad b) = bad (after b)
   shifted (one is f) = one (later_one is) f
 
-  rest_judged : (t : Tag) (e : Ex) (es : Exs) (u : Ty) (us : List Ty) (r : Result (Unit {0}) CheckFault) → Typed P g e → fits P (static P g e) u ≡ true → JudgedArgs t es us r → JudgedArgs t (ex_then e es) (u ∷ us) r
+  rest_judged : (t : Tag) (e : Ex) (es : Exs) (u : Ty) (us : List Ty) (r : Result (Unit {0}) CheckFault) → Typed P g e → fits P (static P g e) u
+      ≡ true → JudgedArgs t es us r → JudgedArgs t (ex_then e es) (u ∷ us) r
   rest_judged t e es u us (Ok x) typed fit h = t_ex_then typed fit h
   rest_judged t e es u us (Err (IllTyped k p)) typed fit h = shifted h
   rest_judged t e es u us (Err Memory) typed fit h = h
@@ -66,8 +69,10 @@ module _ (P : Plain) (g : Env) where
       split true b = rest_judged t e es u us rest h.0 (ap (λ x. fits P x u) h.1 ∙ b) more
       split false b = bad (unfit h.0 (ap (λ x. fits P x u) h.1 ∙ b))
 
-  called_judged : {d : Ex} {es : Exs} (t : Tag) (s : Signature) (r : Result (Unit {0}) CheckFault) → JudgedArgs t es s.params r → (TypedArgs P g es s.params → Typed P g d) → static P g d ≡ or_nothing s.result
-      → (BadArguments P g es s.params → Fails P g d Arguments t.place) → ((c : Ex) → IsOne c es → IsPart c d) → Judged d (and_then r (λ _. Ok (given_of s.result)))
+  called_judged : {d : Ex} {es : Exs} (t : Tag) (s : Signature) (r : Result (Unit {0}) CheckFault) → JudgedArgs t es s.params r
+      → (TypedArgs P g es s.params → Typed P g d) → static P g d ≡ or_nothing s.result
+      → (BadArguments P g es s.params → Fails P g d Arguments t.place) → ((c : Ex) → IsOne c es → IsPart c d)
+          → Judged d (and_then r (λ _. Ok (given_of s.result)))
   called_judged t s (Ok x) h typed same broken part = (typed h, same ∙ seen-given_of s.result)
   called_judged {d} {es} t s (Err (IllTyped k p)) h typed same broken part = failed h
     where
@@ -76,7 +81,8 @@ module _ (P : Plain) (g : Env) where
       failed (one is f) = within (part _ is) f
   called_judged t s (Err Memory) h typed same broken part = h
 
-  field_judged : {e : Ex} (t : Tag) (x : List ℕ) (s : declared.Static) → Typed P g e → static P g e ≡ seen s → Judged (field t e x) (member_answer (access_type P (seen s) x) t)
+  field_judged : {e : Ex} (t : Tag) (x : List ℕ) (s : declared.Static) → Typed P g e → static P g e ≡ seen s
+      → Judged (field t e x) (member_answer (access_type P (seen s) x) t)
   field_judged {e} t x s typed same = split (access_type P (seen s) x) refl
     where
       split : (o : Option Ty) → access_type P (seen s) x ≡ o → Judged (field t e x) (member_answer o t)
@@ -93,35 +99,44 @@ module _ (P : Plain) (g : Env) where
       (ap (λ s. or_nothing (element_of s)) se ∙ seen-given_of (element_of (seen s)))
       (λ h. bad_index te ti (same ∙ h))
 
-  call_judged : {e : Ex} (es : Exs) (t : Tag) (x : List ℕ) (s : declared.Static) → Typed P g e → static P g e ≡ seen s → ((us : List Ty) → JudgedArgs t es us (args_answer P g es t us)) → Judged (call t e x es) (call_answer (call_signature P (seen s) x) (args_answer P g es t) t)
+  call_judged : {e : Ex} (es : Exs) (t : Tag) (x : List ℕ) (s : declared.Static) → Typed P g e → static P g e ≡ seen s
+      → ((us : List Ty) → JudgedArgs t es us (args_answer P g es t us))
+      → Judged (call t e x es) (call_answer (call_signature P (seen s) x) (args_answer P g es t) t)
   call_judged {e} es t x s typed same args = split (call_signature P (seen s) x) refl
     where
       split : (o : Option Signature) → call_signature P (seen s) x ≡ o → Judged (call t e x es) (call_answer o (args_answer P g es t) t)
       split None a = itself (no_method typed (ap (λ s. call_signature P s x) same ∙ a))
       split (Some k) a =
           let h : call_signature P (static P g e) x ≡ Some k = ap (λ s. call_signature P s x) same ∙ a in
-          called_judged t k (args_answer P g es t k.params) (args k.params) (λ all. t_call typed h all) (ap types.result_of h) (λ b. itself (call_arguments typed h b)) (λ c is. call_argument is)
+          called_judged t k (args_answer P g es t k.params) (args k.params) (λ all. t_call typed h all) (ap types.result_of h)
+              (λ b. itself (call_arguments typed h b)) (λ c is. call_argument is)
 
-  static_judged : (es : Exs) (t : Tag) (m : ℕ) → ((us : List Ty) → JudgedArgs t es us (args_answer P g es t us)) → Judged (static_call t m es) (call_answer (signature_of_method P m) (args_answer P g es t) t)
+  static_judged : (es : Exs) (t : Tag) (m : ℕ) → ((us : List Ty) → JudgedArgs t es us (args_answer P g es t us))
+      → Judged (static_call t m es) (call_answer (signature_of_method P m) (args_answer P g es t) t)
   static_judged es t m args = split (signature_of_method P m) refl
     where
       split : (o : Option Signature) → signature_of_method P m ≡ o → Judged (static_call t m es) (call_answer o (args_answer P g es t) t)
       split None a = itself (no_static_method a)
-      split (Some k) a = called_judged t k (args_answer P g es t k.params) (args k.params) (λ all. t_static_call a all) (ap types.result_of a) (λ b. itself (static_arguments a b)) (λ c is. static_argument is)
+      split (Some k) a = called_judged t k (args_answer P g es t k.params) (args k.params) (λ all. t_static_call a all) (ap types.result_of a)
+          (λ b. itself (static_arguments a b)) (λ c is. static_argument is)
 
   bodied : (m : ℕ) (o : Option PlainMethod) → slice_get P.methods m ≡ o → has_body P m ≡ true → signature_of_method P m ≡ None → ⊥
   bodied m None e h k = let f : has_body P m ≡ false = rw e refl in cc (h, f)
-  bodied m (Some q) e h k = let f : is_some (signature_of_method P m) ≡ true = rw e refl in let w : is_some (signature_of_method P m) ≡ false = ap is_some k in cc (f, w)
+  bodied m (Some q) e h k = let f : is_some (signature_of_method P m) ≡ true = rw e refl in let w : is_some (signature_of_method P m)
+      ≡ false = ap is_some k in cc (f, w)
 
-  super_judged : (es : Exs) (t : Tag) (x : List ℕ) → ((us : List Ty) → JudgedArgs t es us (args_answer P g es t us)) → Judged (super_call t x es) (super_answer P (super_method P g.self x) (args_answer P g es t) t)
+  super_judged : (es : Exs) (t : Tag) (x : List ℕ) → ((us : List Ty) → JudgedArgs t es us (args_answer P g es t us))
+      → Judged (super_call t x es) (super_answer P (super_method P g.self x) (args_answer P g es t) t)
   unfolding super_signature
   super_judged es t x args = split (super_method P g.self x) refl
     where
-      signed : (m : ℕ) (o : Option Signature) → super_method P g.self x ≡ Some m → has_body P m ≡ true → signature_of_method P m ≡ o → Judged (super_call t x es) (call_answer o (args_answer P g es t) t)
+      signed : (m : ℕ) (o : Option Signature) → super_method P g.self x ≡ Some m → has_body P m ≡ true → signature_of_method P m ≡ o
+          → Judged (super_call t x es) (call_answer o (args_answer P g es t) t)
       signed m None s h a = absurd (bodied m (slice_get P.methods m) refl h a)
       signed m (Some k) s h a =
           let e : super_signature P g.self x ≡ Some k = rw s a in
-          called_judged t k (args_answer P g es t k.params) (args k.params) (λ all. t_super_call s h e all) (ap types.result_of e) (λ b. itself (super_arguments s a b)) (λ c is. super_argument is)
+          called_judged t k (args_answer P g es t k.params) (args k.params) (λ all. t_super_call s h e all) (ap types.result_of e)
+              (λ b. itself (super_arguments s a b)) (λ c is. super_argument is)
 
       body : (b : Bool) (m : ℕ) → super_method P g.self x ≡ Some m → has_body P m ≡ b → Judged (super_call t x es) (super_body P b m (args_answer P g es t) t)
       body true m s h = signed m (signature_of_method P m) s h refl
@@ -148,23 +163,30 @@ module _ (P : Plain) (g : Env) where
     judged (static_field t f) = (t_static_field, seen-given_of (types.field_type P f))
     judged (own_field t f) = (t_own_field, seen-given_of (types.field_type P f))
     judged (field t e x) = then_judged (answer P g e) _ field_base (judged e) (λ s te se. field_judged t x s te se)
-    judged (index t e i) = then_judged (answer P g e) _ index_base (judged e) (λ s te se. then_judged (answer P g i) _ index_at (judged i) (λ j ti si. index_judged t s j te se ti si))
+    judged (index t e i) = then_judged (answer P g e) _ index_base (judged e) (λ s te se. then_judged (answer P g i) _ index_at (judged i)
+        (λ j ti si. index_judged t s j te se ti si))
     judged (call t e x es) = then_judged (answer P g e) _ call_base (judged e) (λ s te se. call_judged es t x s te se (λ us. judged_args es t us))
     judged (static_call t m es) = static_judged es t m (λ us. judged_args es t us)
     judged (super_call t x es) = super_judged es t x (λ us. judged_args es t us)
     judged (create t n c es) = create_judged t n c es (is_concrete P c) refl
     judged (create_array t n u e) = then_judged (answer P g e) _ array_size (judged e)
-        (λ s te se. asked_judged (is_numeric (seen s)) Operand (declared.TheVariants.Value u) (λ h. t_create_array te (ap is_numeric se ∙ h)) refl (λ h. bad_size te (ap is_numeric se ∙ h)))
+        (λ s te se. asked_judged (is_numeric (seen s)) Operand (declared.TheVariants.Value u) (λ h. t_create_array te (ap is_numeric se ∙ h)) refl
+            (λ h. bad_size te (ap is_numeric se ∙ h)))
     judged (cast t n u e) = then_judged (answer P g e) _ cast_value (judged e)
-        (λ s te se. asked_judged (can_cast P (seen s) u) Cast (declared.TheVariants.Value u) (λ h. t_cast te (ap (λ x. can_cast P x u) se ∙ h)) refl (λ h. bad_cast te (ap (λ x. can_cast P x u) se ∙ h)))
+        (λ s te se. asked_judged (can_cast P (seen s) u) Cast (declared.TheVariants.Value u) (λ h. t_cast te (ap (λ x. can_cast P x u) se ∙ h)) refl
+            (λ h. bad_cast te (ap (λ x. can_cast P x u) se ∙ h)))
     judged (instance_of t n e c) = then_judged (answer P g e) _ tested_value (judged e)
-        (λ s te se. asked_judged (are_related P (class_of (seen s)) (Some c)) Cast _ (λ h. t_instance_of te (ap (λ x. are_related P (class_of x) (Some c)) se ∙ h)) refl (λ h. bad_instance_of te (ap (λ x. are_related P (class_of x) (Some c)) se ∙ h)))
+        (λ s te se. asked_judged (are_related P (class_of (seen s)) (Some c)) Cast _
+            (λ h. t_instance_of te (ap (λ x. are_related P (class_of x) (Some c)) se ∙ h)) refl
+            (λ h. bad_instance_of te (ap (λ x. are_related P (class_of x) (Some c)) se ∙ h)))
     judged (unary t o e) = then_judged (answer P g e) _ unary_value (judged e)
-        (λ s te se. asked_judged (takes_one o (seen s)) Operand (declared.TheVariants.Value (types.unary_type o)) (λ h. t_unary te (ap (takes_one o) se ∙ h)) refl (λ h. bad_unary te (ap (takes_one o) se ∙ h)))
+        (λ s te se. asked_judged (takes_one o (seen s)) Operand (declared.TheVariants.Value (types.unary_type o))
+            (λ h. t_unary te (ap (takes_one o) se ∙ h)) refl (λ h. bad_unary te (ap (takes_one o) se ∙ h)))
     judged (binary t o e d) = then_judged (answer P g e) _ binary_left (judged e)
         (λ s te se. then_judged (answer P g d) _ binary_right (judged d)
         (λ r td sd. let same : takes_two P o (static P g e) (static P g d) ≡ takes_two P o (seen s) (seen r) = rw (se, sd) refl in
-        asked_judged (takes_two P o (seen s) (seen r)) Operand (declared.TheVariants.Value (binary_type o (seen s) (seen r))) (λ h. t_binary te td (same ∙ h)) (rw (se, sd) refl) (λ h. bad_binary te td (same ∙ h))))
+        asked_judged (takes_two P o (seen s) (seen r)) Operand (declared.TheVariants.Value (binary_type o (seen s) (seen r)))
+            (λ h. t_binary te td (same ∙ h)) (rw (se, sd) refl) (λ h. bad_binary te td (same ∙ h))))
 
     judged_args : (es : Exs) (t : Tag) (us : List Ty) → JudgedArgs t es us (args_answer P g es t us)
     judged_args no_ex t [] = t_no_ex

@@ -27,7 +27,8 @@ module _ (P : Plain) (c : ℕ) where
   first_cases false bod false true false k e = inr (refl, refl, refl, cc e)
   first_cases false bod false false p k e = cc e
 
-  first_none : (con bod int own p : Bool) → first_rule (con && not bod) (not int && (own && not p)) ≡ None → (con ≡ true → bod ≡ true) × (int ≡ false → own ≡ true → p ≡ true)
+  first_none : (con bod int own p : Bool) → first_rule (con && not bod) (not int && (own && not p)) ≡ None → (con ≡ true → bod ≡ true)
+      × (int ≡ false → own ≡ true → p ≡ true)
   first_none true false int own p e = cc e
   first_none true true true own p e = (λ h. refl, λ h. cc h)
   first_none true true false true true e = (λ h. refl, λ h k. refl)
@@ -38,7 +39,8 @@ module _ (P : Plain) (c : ℕ) where
   first_none false bod false true false e = cc e
   first_none false bod false false p e = (λ h. cc h, λ h k. cc k)
 
-  broken : (m : ℕ) (k : PlainMethod) (r : Kind) → slice_get P.methods m ≡ Some k → (o : Option ℕ) → k.slot ≡ o → (b : Bool) → below P c k.owner ≡ b → slot_rule P c k.owner o ≡ Some r → BreaksClass P c r
+  broken : (m : ℕ) (k : PlainMethod) (r : Kind) → slice_get P.methods m ≡ Some k → (o : Option ℕ) → k.slot ≡ o → (b : Bool) → below P c k.owner ≡ b
+      → slot_rule P c k.owner o ≡ Some r → BreaksClass P c r
   broken m k r at None e b h rule = absurd (cc rule)
   broken m k r at (Some s) e false h rule = absurd (let f : below_rule P c k.owner s false ≡ Some r = sym (ap (below_rule P c k.owner s) h) ∙ rule in cc f)
   broken m k r at (Some s) e true h rule =
@@ -49,7 +51,9 @@ module _ (P : Plain) (c : ℕ) where
       (λ (x : _). subst (BreaksClass P c) (sym x.3) (not_public x.0 o x.1 x.2))
       (first_cases (is_concrete P c) (IsBodied s) (is_interface P c) (is_interface P k.owner) (is_public_method P (nearest_declaration P c s)) r f)
 
-  fine : (k : PlainMethod) (s : ℕ) → method_rule P c k ≡ None → k.slot ≡ Some s → below P c k.owner ≡ true → (is_concrete P c ≡ true → IsBodied s ≡ true) × (is_interface P c ≡ false → is_interface P k.owner ≡ true → is_public_method P (nearest_declaration P c s) ≡ true)
+  fine : (k : PlainMethod) (s : ℕ) → method_rule P c k ≡ None → k.slot ≡ Some s → below P c k.owner ≡ true
+      → (is_concrete P c ≡ true → IsBodied s ≡ true) × (is_interface P c ≡ false → is_interface P k.owner ≡ true
+      → is_public_method P (nearest_declaration P c s) ≡ true)
   fine k s rule e h =
       let f : below_rule P c k.owner s true ≡ None = sym (ap (slot_rule P c k.owner) e ∙ ap (below_rule P c k.owner s) h) ∙ rule in
       first_none (is_concrete P c) (IsBodied s) (is_interface P c) (is_interface P k.owner) (is_public_method P (nearest_declaration P c s)) f
@@ -62,9 +66,11 @@ module _ (P : Plain) (c : ℕ) where
   no_rule (Some k) b e = cc e
   no_rule None b e = (refl, e)
 
-  listed : (ks : List PlainMethod) (r : Kind) → class_rule P c ks ≡ Some r → (m : ℕ) × (k : PlainMethod) × (slice_get ks m ≡ Some k) × (method_rule P c k ≡ Some r)
+  listed : (ks : List PlainMethod) (r : Kind) → class_rule P c ks ≡ Some r → (m : ℕ) × (k : PlainMethod) × (slice_get ks m ≡ Some k)
+      × (method_rule P c k ≡ Some r)
   listed [] r e = absurd (cc e)
-  listed (k ∷ ks) r e = ⊎_elim (λ (h : _). (zero, k, refl, h)) (λ (h : _). let x = listed ks r h in (suc x.0, x.1, x.2, x.3)) (some_rule (method_rule P c k) (class_rule P c ks) r e)
+  listed (k ∷ ks) r e = ⊎_elim (λ (h : _). (zero, k, refl, h)) (λ (h : _). let x = listed ks r h in (suc x.0, x.1, x.2, x.3))
+      (some_rule (method_rule P c k) (class_rule P c ks) r e)
 
   none_listed : (ks : List PlainMethod) → class_rule P c ks ≡ None → (m : ℕ) (k : PlainMethod) → slice_get ks m ≡ Some k → method_rule P c k ≡ None
   none_listed [] e m k at = absurd (cc at)

@@ -40,7 +40,8 @@ module _ (P : Plain) (g : Env) (a b : Place → Tag) where
     same_call ex.None' n es fs p = refl
     same_call (ex.Some' c e) n es fs p = ap (λ s. result_of (call_signature P s n)) (same_static e)
 
-  create_at : (k c : ℕ) {m : _} (args : ex.Row_of-RExpr m) (p : Place) → Typed P g (create (a p) k c (exprs_of a args)) → Typed P g (create (b p) k c (exprs_of b args))
+  create_at : (k c : ℕ) {m : _} (args : ex.Row_of-RExpr m) (p : Place) → Typed P g (create (a p) k c (exprs_of a args))
+      → Typed P g (create (b p) k c (exprs_of b args))
   create_at k c ex.end_of-RExpr p (t_create h) = t_create h
   create_at k c (ex.more_of-RExpr e rest) p h = elim h [ ]
 
@@ -56,7 +57,8 @@ module _ (P : Plain) (g : Env) (a b : Place → Tag) where
     typed_at (ex.Static f p) h = t_static_field
     typed_at (ex.Own f p) h = t_own_field
     typed_at (ex.Field' c e n p) (t_field h k) = t_field (typed_at e h) (ap (λ s. is_some (access_type P s n)) (same_static e) ∙ k)
-    typed_at (ex.Index' c e d i p) (t_index h k j l) = t_index (typed_at e h) (ap (λ s. is_some (element_of s)) (same_static e) ∙ k) (typed_at i j) (ap is_numeric (same_static i) ∙ l)
+    typed_at (ex.Index' c e d i p) (t_index h k j l) = t_index (typed_at e h) (ap (λ s. is_some (element_of s)) (same_static e) ∙ k) (typed_at i j)
+        (ap is_numeric (same_static i) ∙ l)
     typed_at (ex.Call' c n s args p) h = call_at c n (exprs_of a args) (exprs_of b args) p (λ us all. args_at args us all) h
     typed_at (ex.StaticCall' m s args p) (t_static_call k all) = t_static_call k (args_at args _ all)
     typed_at (ex.SuperCall' n s args p) (t_super_call k l q all) = t_super_call k l q (args_at args _ all)
@@ -67,13 +69,15 @@ module _ (P : Plain) (g : Env) (a b : Place → Tag) where
     typed_at (ex.Unary' o c e p) (t_unary h l) = t_unary (typed_at e h) (ap (takes_one o) (same_static e) ∙ l)
     typed_at (ex.Binary' o c l d r p) (t_binary h k q) = t_binary (typed_at l h) (typed_at r k) (rw (same_static l, same_static r) q)
 
-    call_at : (c : ex.Held-RExpr-Call-0) (n : List ℕ) (es fs : Exs) (p : Place) → ((us : List Ty) → TypedArgs P g es us → TypedArgs P g fs us) → Typed P g (call_of a c n es p) → Typed P g (call_of b c n fs p)
+    call_at : (c : ex.Held-RExpr-Call-0) (n : List ℕ) (es fs : Exs) (p : Place) → ((us : List Ty) → TypedArgs P g es us → TypedArgs P g fs us)
+        → Typed P g (call_of a c n es p) → Typed P g (call_of b c n fs p)
     call_at ex.None' n es fs p args (t_call h k all) = t_call t_this k (args _ all)
     call_at (ex.Some' c e) n es fs p args (t_call h k all) = t_call (typed_at e h) (ap (λ s. call_signature P s n) (same_static e) ∙ k) (args _ all)
 
     args_at : {m : _} (args : ex.Row_of-RExpr m) (us : List Ty) → TypedArgs P g (exprs_of a args) us → TypedArgs P g (exprs_of b args) us
     args_at ex.end_of-RExpr us t_no_ex = t_no_ex
-    args_at (ex.more_of-RExpr e rest) us (t_ex_then {u = u} h f more) = t_ex_then (typed_at e h) (ap (λ s. fits P s u) (same_static e) ∙ f) (args_at rest _ more)
+    args_at (ex.more_of-RExpr e rest) us (t_ex_then {u = u} h f more) = t_ex_then (typed_at e h) (ap (λ s. fits P s u) (same_static e)
+        ∙ f) (args_at rest _ more)
 
   value_fits : (e : RExpr) (s : Static) → fits_in P (static P g (expr_of a e)) s ≡ true → fits_in P (static P g (expr_of b e)) s ≡ true
   value_fits e s h = ap (λ x. fits_in P x s) (same_static e) ∙ h
@@ -83,7 +87,8 @@ module _ (P : Plain) (g : Env) (a b : Place → Tag) where
   typed_target (ex.Static f p) h = t_to_static
   typed_target (ex.Own f p) h = t_to_own
   typed_target (ex.Field' c e n p) (t_to_field h k) = t_to_field (typed_at e h) (ap (λ s. is_some (field_in P s n)) (same_static e) ∙ k)
-  typed_target (ex.Index' c e d i p) (t_to_element h k j l) = t_to_element (typed_at e h) (ap (λ s. is_some (element_of s)) (same_static e) ∙ k) (typed_at i j) (ap is_numeric (same_static i) ∙ l)
+  typed_target (ex.Index' c e d i p) (t_to_element h k j l) = t_to_element (typed_at e h) (ap (λ s. is_some (element_of s)) (same_static e)
+      ∙ k) (typed_at i j) (ap is_numeric (same_static i) ∙ l)
   typed_target (ex.Int v p) h = elim h [ ]
   typed_target (ex.Char v p) h = elim h [ ]
   typed_target (ex.Str u p) h = elim h [ ]
@@ -114,7 +119,9 @@ module _ (P : Plain) (g : Env) (a b : Place → Tag) where
     st_at (st.Local n None p) h = t_declare
     st_at (st.Local n (Some e) p) (t_declare_as h k) = t_declare_as (typed_at e h) (value_fits e _ k)
     st_at (st.Block' s items p) (t_block h) = t_block (sts_at items h)
-    st_at (st.Assign t v p) (t_assign h k l) = t_assign (typed_target t h) (typed_at v k) (ap (λ s. fits_in P (static P g (expr_of b v)) s) (same_target t) ∙ value_fits v (target_type P g (target_of a t)) l)
+    st_at (st.Assign t v p) (t_assign h k l) =
+        t_assign (typed_target t h) (typed_at v k) (ap (λ s. fits_in P (static P g (expr_of b v)) s) (same_target t)
+        ∙ value_fits v (target_type P g (target_of a t)) l)
     st_at (st.Do c p) (t_act h) = t_act (typed_at c h)
     st_at (st.Print l None p) h = t_print_line
     st_at (st.Print l (Some e) p) (t_print h k) = t_print (typed_at e h) (ap is_printable (same_static e) ∙ k)
@@ -138,9 +145,11 @@ module _ (P : Plain) (g : Env) (a b : Place → Tag) where
     else_at st.RStmt-If-1-None' h = t_no_other
     else_at (st.RStmt-If-1-Some' s body) (t_otherwise h) = t_otherwise (sts_at body h)
 
-    arms_at : {n : _} (arms : st.Row_of-RArm n) (xs ys : Arms) → (TypedArms P g xs → TypedArms P g ys) → TypedArms P g (arms_of a arms xs) → TypedArms P g (arms_of b arms ys)
+    arms_at : {n : _} (arms : st.Row_of-RArm n) (xs ys : Arms) → (TypedArms P g xs → TypedArms P g ys) → TypedArms P g (arms_of a arms xs)
+        → TypedArms P g (arms_of b arms ys)
     arms_at st.end_of-RArm xs ys other h = other h
-    arms_at (st.more_of-RArm t s body rest) xs ys other (t_arm h k l m) = t_arm (typed_at t h) (ap is_boolean (same_static t) ∙ k) (sts_at body l) (arms_at rest xs ys other m)
+    arms_at (st.more_of-RArm t s body rest) xs ys other (t_arm h k l m) = t_arm (typed_at t h) (ap is_boolean (same_static t) ∙ k) (sts_at body l)
+        (arms_at rest xs ys other m)
 
   pub list_at : (xs : List RStmt) → TypedSts P g (stmts a xs) → TypedSts P g (stmts b xs)
   list_at [] h = t_no_st

@@ -47,7 +47,8 @@ module _ (P : Plain) (g : Env) where
   same_body : (x : List ℕ) {m n : ℕ} → super_method P g.self x ≡ Some m → has_body P m ≡ false → super_method P g.self x ≡ Some n → has_body P n ≡ true → ⊥
   same_body x {m} {n} a f b c = let same : m ≡ n = cc in clash c (subst (λ k. has_body P k ≡ false) same f)
 
-  super_signed : (x : List ℕ) {m : ℕ} {s : Signature} → super_method P g.self x ≡ Some m → signature_of_method P m ≡ Some s → super_signature P g.self x ≡ Some s
+  super_signed : (x : List ℕ) {m : ℕ} {s : Signature} → super_method P g.self x ≡ Some m → signature_of_method P m ≡ Some s
+      → super_signature P g.self x ≡ Some s
   unfolding super_signature
   super_signed x a s = rw a s
 

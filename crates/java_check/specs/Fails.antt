@@ -72,21 +72,26 @@ module _ (P : Plain) (g : Env) where
   -- the rule that an expression itself breaks, whatever its parts that are not typed
   pub data Breaks : Ex → Kind → Type 0 where
     no_field : {t : Tag} {e : Ex} {x : List ℕ} → Typed P g e → access_type P (static P g e) x ≡ None → Breaks (field t e x) NoMember
-    bad_index : {t : Tag} {e i : Ex} → Typed P g e → Typed P g i → (is_some (element_of (static P g e)) && is_numeric (static P g i)) ≡ false → Breaks (index t e i) Operand
+    bad_index : {t : Tag} {e i : Ex} → Typed P g e → Typed P g i → (is_some (element_of (static P g e)) && is_numeric (static P g i)) ≡ false
+        → Breaks (index t e i) Operand
     no_method : {t : Tag} {e : Ex} {x : List ℕ} {es : Exs} → Typed P g e → call_signature P (static P g e) x ≡ None → Breaks (call t e x es) NoMember
-    call_arguments : {t : Tag} {e : Ex} {x : List ℕ} {es : Exs} {s : Signature} → Typed P g e → call_signature P (static P g e) x ≡ Some s → BadArguments es s.params → Breaks (call t e x es) Arguments
+    call_arguments : {t : Tag} {e : Ex} {x : List ℕ} {es : Exs} {s : Signature} → Typed P g e → call_signature P (static P g e) x ≡ Some s
+        → BadArguments es s.params → Breaks (call t e x es) Arguments
     no_static_method : {t : Tag} {m : ℕ} {es : Exs} → signature_of_method P m ≡ None → Breaks (static_call t m es) NoMember
-    static_arguments : {t : Tag} {m : ℕ} {es : Exs} {s : Signature} → signature_of_method P m ≡ Some s → BadArguments es s.params → Breaks (static_call t m es) Arguments
+    static_arguments : {t : Tag} {m : ℕ} {es : Exs} {s : Signature} → signature_of_method P m ≡ Some s → BadArguments es s.params
+        → Breaks (static_call t m es) Arguments
     no_super_method : {t : Tag} {x : List ℕ} {es : Exs} → super_method P g.self x ≡ None → Breaks (super_call t x es) MissingBody
     no_super_body : {t : Tag} {x : List ℕ} {es : Exs} {m : ℕ} → super_method P g.self x ≡ Some m → has_body P m ≡ false → Breaks (super_call t x es) MissingBody
-    super_arguments : {t : Tag} {x : List ℕ} {es : Exs} {m : ℕ} {s : Signature} → super_method P g.self x ≡ Some m → signature_of_method P m ≡ Some s → BadArguments es s.params → Breaks (super_call t x es) Arguments
+    super_arguments : {t : Tag} {x : List ℕ} {es : Exs} {m : ℕ} {s : Signature} → super_method P g.self x ≡ Some m → signature_of_method P m ≡ Some s
+        → BadArguments es s.params → Breaks (super_call t x es) Arguments
     not_concrete : {t : Tag} {n c : ℕ} {es : Exs} → is_concrete P c ≡ false → Breaks (create t n c es) AbstractNew
     create_arguments : {t : Tag} {n c : ℕ} {e : Ex} {es : Exs} → Breaks (create t n c (ex_then e es)) Arguments
     bad_size : {t : Tag} {n : ℕ} {u : Ty} {e : Ex} → Typed P g e → is_numeric (static P g e) ≡ false → Breaks (create_array t n u e) Operand
     bad_cast : {t : Tag} {n : ℕ} {u : Ty} {e : Ex} → Typed P g e → can_cast P (static P g e) u ≡ false → Breaks (cast t n u e) Cast
     bad_instance_of : {t : Tag} {n c : ℕ} {e : Ex} → Typed P g e → are_related P (class_of (static P g e)) (Some c) ≡ false → Breaks (instance_of t n e c) Cast
     bad_unary : {t : Tag} {o : UnOp} {e : Ex} → Typed P g e → takes_one o (static P g e) ≡ false → Breaks (unary t o e) Operand
-    bad_binary : {t : Tag} {o : BinOp} {e d : Ex} → Typed P g e → Typed P g d → takes_two P o (static P g e) (static P g d) ≡ false → Breaks (binary t o e d) Operand
+    bad_binary : {t : Tag} {o : BinOp} {e d : Ex} → Typed P g e → Typed P g d → takes_two P o (static P g e) (static P g d) ≡ false
+        → Breaks (binary t o e d) Operand
 
   -- a rule fails in an expression, at the place of the form that breaks it
   pub data Fails : Ex → Kind → Place → Type 0 where
@@ -96,16 +101,20 @@ module _ (P : Plain) (g : Env) where
   -- the rule that what an assignment changes breaks
   pub data BreaksTarget : Target → Kind → Place → Type 0 where
     no_own_field : {t : Tag} {e : Ex} {x : List ℕ} → Typed P g e → field_in P (static P g e) x ≡ None → BreaksTarget (to_field t e x) NoMember t.place
-    bad_element : {t : Tag} {e i : Ex} → Typed P g e → Typed P g i → (is_some (element_of (static P g e)) && is_numeric (static P g i)) ≡ false → BreaksTarget (to_element t e i) Operand t.place
+    bad_element : {t : Tag} {e i : Ex} → Typed P g e → Typed P g i → (is_some (element_of (static P g e)) && is_numeric (static P g i)) ≡ false
+        → BreaksTarget (to_element t e i) Operand t.place
 
   -- the rule that a statement itself breaks
   pub data BreaksSt : St → Kind → Place → Type 0 where
-    bad_initial : {t : Tag} {i : ℕ} {e : Ex} → Typed P g e → fits_in P (static P g e) (target_type P g (to_local t i)) ≡ false → BreaksSt (declare t i (Some e)) Assign t.place
+    bad_initial : {t : Tag} {i : ℕ} {e : Ex} → Typed P g e → fits_in P (static P g e) (target_type P g (to_local t i)) ≡ false
+        → BreaksSt (declare t i (Some e)) Assign t.place
     bad_target : {t : Tag} {b : Target} {e : Ex} {k : Kind} {p : Place} → BreaksTarget b k p → BreaksSt (assign t b e) k p
     no_variable : {t : Tag} {e : Ex} → BreaksSt (assign t no_target e) Assign t.place
-    bad_assign : {t : Tag} {b : Target} {e : Ex} → TypedTarget P g b → Typed P g e → fits_in P (static P g e) (target_type P g b) ≡ false → BreaksSt (assign t b e) Assign t.place
+    bad_assign : {t : Tag} {b : Target} {e : Ex} → TypedTarget P g b → Typed P g e → fits_in P (static P g e) (target_type P g b) ≡ false
+        → BreaksSt (assign t b e) Assign t.place
     bad_print : {t : Tag} {n : Bool} {e : Ex} → Typed P g e → is_printable (static P g e) ≡ false → BreaksSt (print t n (Some e)) Operand t.place
-    bad_loop_test : {t : Tag} {is_while : Bool} {first step body : Sts} {e : Ex} → Typed P g e → is_boolean (static P g e) ≡ false → BreaksSt (loop t is_while first (Some e) step body) Condition (tag_of e).place
+    bad_loop_test : {t : Tag} {is_while : Bool} {first step body : Sts} {e : Ex} → Typed P g e → is_boolean (static P g e) ≡ false
+        → BreaksSt (loop t is_while first (Some e) step body) Condition (tag_of e).place
     value_wanted : {t : Tag} → is_some g.result ≡ true → BreaksSt (return t None) Return t.place
     no_value_wanted : {t : Tag} {e : Ex} → g.result ≡ None → BreaksSt (return t (Some e)) Return t.place
     bad_return : {t : Tag} {e : Ex} {u : Ty} → g.result ≡ Some u → Typed P g e → fits P (static P g e) u ≡ false → BreaksSt (return t (Some e)) Return t.place
@@ -129,9 +138,12 @@ module _ (P : Plain) (g : Env) where
       in_ex : {x : St} {e : Ex} {k : Kind} {p : Place} → HasEx x e → Fails e k p → FailsSt x k p
       in_block : {t : Tag} {xs : Sts} {k : Kind} {p : Place} → FailsSts xs k p → FailsSt (block t xs) k p
       in_choose : {t : Tag} {xs : Arms} {k : Kind} {p : Place} → FailsArms xs k p → FailsSt (choose t xs) k p
-      in_first : {t : Tag} {is_while : Bool} {first step body : Sts} {test : Option Ex} {k : Kind} {p : Place} → FailsSts first k p → FailsSt (loop t is_while first test step body) k p
-      in_step : {t : Tag} {is_while : Bool} {first step body : Sts} {test : Option Ex} {k : Kind} {p : Place} → FailsSts step k p → FailsSt (loop t is_while first test step body) k p
-      in_body : {t : Tag} {is_while : Bool} {first step body : Sts} {test : Option Ex} {k : Kind} {p : Place} → FailsSts body k p → FailsSt (loop t is_while first test step body) k p
+      in_first : {t : Tag} {is_while : Bool} {first step body : Sts} {test : Option Ex} {k : Kind} {p : Place} → FailsSts first k p
+          → FailsSt (loop t is_while first test step body) k p
+      in_step : {t : Tag} {is_while : Bool} {first step body : Sts} {test : Option Ex} {k : Kind} {p : Place} → FailsSts step k p
+          → FailsSt (loop t is_while first test step body) k p
+      in_body : {t : Tag} {is_while : Bool} {first step body : Sts} {test : Option Ex} {k : Kind} {p : Place} → FailsSts body k p
+          → FailsSt (loop t is_while first test step body) k p
 
     pub data FailsSts : Sts → Kind → Place → Type 0 where
       here : {x : St} {xs : Sts} {k : Kind} {p : Place} → FailsSt x k p → FailsSts (st_then x xs) k p
@@ -146,12 +158,15 @@ module _ (P : Plain) (g : Env) where
 
 -- the class or interface breaks a rule
 pub data BreaksClass (P : Plain) (c : ℕ) : Kind → Type 0 where
-  no_body : {s m : ℕ} → is_concrete P c ≡ true → Offers P c s m → option_map_or (has_body P) (nearest_declaration P c s) false ≡ false → BreaksClass P c MissingBody
-  not_public : {s m : ℕ} → is_interface P c ≡ false → (o : Offers P c s m) → is_interface P o.method.owner ≡ true → is_public_method P (nearest_declaration P c s) ≡ false → BreaksClass P c NotPublic
+  no_body : {s m : ℕ} → is_concrete P c ≡ true → Offers P c s m → option_map_or (has_body P) (nearest_declaration P c s) false ≡ false
+      → BreaksClass P c MissingBody
+  not_public : {s m : ℕ} → is_interface P c ≡ false → (o : Offers P c s m) → is_interface P o.method.owner ≡ true
+      → is_public_method P (nearest_declaration P c s) ≡ false → BreaksClass P c NotPublic
 
 -- P is the program and Q the same with its places: a rule fails in P, at this place of Q
 pub data FailsIn (P Q : Plain) : Kind → Place → Type 0 where
-  in_method : (m : ℕ) {k : PlainMethod} {xs : Sts} {r : Kind} {p : Place} → slice_get Q.methods m ≡ Some k → k.body ≡ Some xs → FailsSts P (env_in P m) xs r p → FailsIn P Q r p
+  in_method : (m : ℕ) {k : PlainMethod} {xs : Sts} {r : Kind} {p : Place} → slice_get Q.methods m ≡ Some k → k.body ≡ Some xs
+      → FailsSts P (env_in P m) xs r p → FailsIn P Q r p
   at_class : {c : ℕ} {k : PlainClass} {r : Kind} → slice_get Q.classes c ≡ Some k → BreaksClass P c r → FailsIn P Q r k.tag.place
 
 -- why a program is refused: a rule fails at the place; want of memory never comes

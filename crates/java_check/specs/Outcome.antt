@@ -71,7 +71,8 @@ module _ (P : Plain) (g : Env) where
     answer (static_field t f) = Ok (given_of (field_type P f))
     answer (own_field t f) = Ok (given_of (field_type P f))
     answer (field t e x) = and_then (answer e) (λ s. member_answer (access_type P (seen s) x) t)
-    answer (index t e i) = and_then (answer e) (λ s. and_then (answer i) (λ j. asked (is_some (element_of (seen s)) && is_numeric (seen j)) Operand t (given_of (element_of (seen s)))))
+    answer (index t e i) = and_then (answer e) (λ s. and_then (answer i) (λ j. asked (is_some (element_of (seen s)) && is_numeric (seen j)) Operand t
+        (given_of (element_of (seen s)))))
     answer (call t e x es) = and_then (answer e) (λ s. call_answer (call_signature P (seen s) x) (args_answer es t) t)
     answer (static_call t m es) = call_answer (signature_of_method P m) (args_answer es t) t
     answer (super_call t x es) = super_answer P (super_method P g.self x) (args_answer es t) t
@@ -80,7 +81,8 @@ module _ (P : Plain) (g : Env) where
     answer (cast t n u e) = and_then (answer e) (λ s. asked (can_cast P (seen s) u) Cast t (Value u))
     answer (instance_of t n e c) = and_then (answer e) (λ s. asked (are_related P (class_of (seen s)) (Some c)) Cast t (Value (plain_type Boolean)))
     answer (unary t o e) = and_then (answer e) (λ s. asked (takes_one o (seen s)) Operand t (Value (unary_type o)))
-    answer (binary t o e d) = and_then (answer e) (λ s. and_then (answer d) (λ r. asked (takes_two P o (seen s) (seen r)) Operand t (Value (binary_type o (seen s) (seen r)))))
+    answer (binary t o e d) = and_then (answer e) (λ s. and_then (answer d) (λ r. asked (takes_two P o (seen s) (seen r)) Operand t
+        (Value (binary_type o (seen s) (seen r)))))
 
     -- the arguments of a call against the types of the parameters, one by one
     pub args_answer : Exs → Tag → List Ty → Result (Unit {0}) CheckFault

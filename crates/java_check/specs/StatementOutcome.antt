@@ -23,7 +23,9 @@ module _ (P : Plain) (g : Env) where
   target_answer a (to_static t f) = Ok (given_of (field_type P f))
   target_answer a (to_own t f) = Ok (given_of (field_type P f))
   target_answer a (to_field t e x) = and_then (answer P g e) (λ s. field_answer (field_in P (seen s) x) t)
-  target_answer a (to_element t e i) = and_then (answer P g e) (λ s. and_then (answer P g i) (λ j. asked (is_some (element_of (seen s)) && is_numeric (seen j)) Operand t (given_of (element_of (seen s)))))
+  target_answer a (to_element t e i) =
+      and_then (answer P g e) (λ s. and_then (answer P g i) (λ j. asked (is_some (element_of (seen s)) && is_numeric (seen j)) Operand t
+      (given_of (element_of (seen s)))))
   target_answer a no_target = refused Assign a
 
   abbrev pub condition_answer : Ex → Result (Unit {0}) CheckFault
@@ -50,7 +52,8 @@ module _ (P : Plain) (g : Env) where
     st_answer (print t n None) = Ok (tt {0})
     st_answer (print t n (Some e)) = and_then (answer P g e) (λ s. asked (is_printable (seen s)) Operand t (tt {0}))
     st_answer (choose t xs) = arms_answer xs
-    st_answer (loop t is_while first test step body) = and_then (sts_answer first) (λ _. and_then (test_answer test) (λ _. and_then (sts_answer step) (λ _. sts_answer body)))
+    st_answer (loop t is_while first test step body) =
+        and_then (sts_answer first) (λ _. and_then (test_answer test) (λ _. and_then (sts_answer step) (λ _. sts_answer body)))
     st_answer (return t None) = asked (is_none g.result) Return t (tt {0})
     st_answer (return t (Some e)) = and_then (answer P g e) (λ s. return_answer g.result s t)
     st_answer (break t) = Ok (tt {0})

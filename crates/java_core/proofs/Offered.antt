@@ -39,13 +39,15 @@ module _ (P : Plain) (own : ℕ → Option ℕ) where
       face None h = h
       face (Some q) h = (suc h.0, omega (arith, h.1), h.2)
 
-  in_faces : (n c d : ℕ) (xs : List ClassId) → ((k : ClassId) → Contains xs k → IsSubclass P c k.0) → ((k : ClassId) → first_found own (faces_above P n k.0) ≡ Some d → IsAbove k.0 d)
+  in_faces : (n c d : ℕ) (xs : List ClassId) → ((k : ClassId) → Contains xs k → IsSubclass P c k.0)
+      → ((k : ClassId) → first_found own (faces_above P n k.0) ≡ Some d → IsAbove k.0 d)
       → first_found own (flat_map (λ k. k.0 ∷ faces_above P n k.0) xs) ≡ Some d → IsAbove c d
   in_faces n c d [] up more e = absurd (cc e)
   in_faces n c d (k ∷ xs) up more e =
       let direct = up k (0, omega arith, refl) in
       ⊎_elim
-      (λ here. ⊎_elim (λ it. record { holder = k.0; above = direct; found = it }) (λ above. further direct (more k above)) (first_or_cases (own k.0) (first_found own (faces_above P n k.0)) d here))
+      (λ here. ⊎_elim (λ it. record { holder = k.0; above = direct; found = it }) (λ above. further direct (more k above))
+          (first_or_cases (own k.0) (first_found own (faces_above P n k.0)) d here))
       (λ later. in_faces n c d xs (λ j h. up j (suc h.0, omega (arith, h.1), h.2)) more later)
       (first_or_cases (first_found own (k.0 ∷ faces_above P n k.0)) (first_found own (flat_map (λ k. k.0 ∷ faces_above P n k.0) xs)) d
       (sym (first_found-append own (k.0 ∷ faces_above P n k.0) (flat_map (λ k. k.0 ∷ faces_above P n k.0) xs)) ∙ e))
@@ -103,22 +105,27 @@ module _ (P : Plain) (own : ℕ → Option ℕ) (held : AreHeld P own) where
       cases None e h = inr h
       cases (Some q) e h = ⊎_elim (λ s. inl (e ∙ ap Some s)) (λ f. inr f) (contains_cases q (faces_of P c) k h)
 
-  listed : (n : ℕ) (xs : List ClassId) (k : ClassId) → Contains xs k → IsThere (first_found own (k.0 ∷ faces_above P n k.0)) → IsThere (first_found own (flat_map (λ k. k.0 ∷ faces_above P n k.0) xs))
+  listed : (n : ℕ) (xs : List ClassId) (k : ClassId) → Contains xs k → IsThere (first_found own (k.0 ∷ faces_above P n k.0))
+      → IsThere (first_found own (flat_map (λ k. k.0 ∷ faces_above P n k.0) xs))
   listed n [] k h there = absurd (omega (arith, h.1))
   listed n (j ∷ xs) k h there =
       let rest = flat_map (λ (k : ClassId). k.0 ∷ faces_above P n k.0) xs in
       subst IsThere (sym (first_found-append own (j.0 ∷ faces_above P n j.0) rest))
       (⊎_elim
-      (λ e. there_or (first_found own (j.0 ∷ faces_above P n j.0)) (first_found own rest) (subst (λ (i : ClassId). IsThere (first_found own (i.0 ∷ faces_above P n i.0))) (sym e) there))
+      (λ e. there_or (first_found own (j.0 ∷ faces_above P n j.0)) (first_found own rest)
+          (subst (λ (i : ClassId). IsThere (first_found own (i.0 ∷ faces_above P n i.0))) (sym e) there))
       (λ later. or_there (first_found own (j.0 ∷ faces_above P n j.0)) (first_found own rest) (listed n xs k later there))
       (contains_cases j xs k h))
 
-  face-found : (n c : ℕ) (seen : List ℕ) (k : ClassId) {b d : ℕ} → n + length seen ≡ length P.classes → ArePassed P seen c → Contains (faces_of P c) k → IsSubclass P k.0 b → own b ≡ Some d → IsThere (first_found own (faces_above P n c))
+  face-found : (n c : ℕ) (seen : List ℕ) (k : ClassId) {b d : ℕ} → n + length seen ≡ length P.classes → ArePassed P seen c → Contains (faces_of P c) k
+      → IsSubclass P k.0 b → own b ≡ Some d → IsThere (first_found own (faces_above P n c))
   face-found zero c seen k e h direct up found = absurd (one_left P held.acyclic seen (face-super P own c k direct) h e)
-  face-found (suc n) c seen k {d = d} e h direct same_class found = listed n (faces_of P c) k direct (there_or (own k.0) (first_found own (faces_above P n k.0)) (d, found))
+  face-found (suc n) c seen k {d = d} e h direct same_class found =
+      listed n (faces_of P c) k direct (there_or (own k.0) (first_found own (faces_above P n k.0)) (d, found))
   face-found (suc n) c seen k {b} e h direct (through {c = j} more up) found =
       ⊎_elim
-      (λ parent. let face = held.faces c k direct in absurd (above_object (subst (λ i. IsSubclass P i b) (held.parent k.0 face.0 j face.1 face.2 parent) up) found))
+      (λ parent. let face = held.faces c k direct in absurd
+          (above_object (subst (λ i. IsSubclass P i b) (held.parent k.0 face.0 j face.1 face.2 parent) up) found))
       (λ face. listed n (faces_of P c) k direct
       (or_there (own k.0) (first_found own (faces_above P n k.0))
       (face-found n k.0 (c ∷ seen) j (omega (arith, e)) (passed_more P held.acyclic seen (face-super P own c k direct) h) face up found)))
@@ -135,7 +142,8 @@ module _ (P : Plain) (own : ℕ → Option ℕ) (held : AreHeld P own) where
       split None none = (d, nearest-nearest_of P f held.acyclic (above_class none up (nearest_of-nearest P f e)))
 
   -- what some class at or above has is found, along the superclasses or in their interfaces
-  above-found : {c b d : ℕ} → IsSubclass P c b → own b ≡ Some d → IsThere (nearest_of P own c) ⊎ IsThere (nearest_of P (λ k. first_found own (faces_above P (length P.classes) k)) c)
+  above-found : {c b d : ℕ} → IsSubclass P c b → own b ≡ Some d → IsThere (nearest_of P own c)
+      ⊎ IsThere (nearest_of P (λ k. first_found own (faces_above P (length P.classes) k)) c)
   above-found {c} {d = d} same_class found = inl (nearest-there own c (d, found))
   above-found {c} (through {c = k} direct up) found =
       let faces = λ (k : ℕ). first_found own (faces_above P (length P.classes) k) in
@@ -162,7 +170,8 @@ own_method-own P c x m e =
     let k = found.0 in
     let outer = and_parts (eqb k.owner c) (not k.is_static && bytes_eq k.name x) found.2 in
     let inner = and_parts (not k.is_static) (bytes_eq k.name x) outer.1 in
-    record { method = k; stands = found.1; owner = eqb-true k.owner c outer.0; instance = not-true k.is_static inner.0; name = (bytes_eq-Decides k.name x).0 inner.1 }
+    record { method = k; stands = found.1; owner = eqb-true k.owner c outer.0; instance = not-true k.is_static inner.0; name =
+        (bytes_eq-Decides k.name x).0 inner.1 }
 
 pub own-own_method : (P : Plain) (c : ℕ) (x : List ℕ) (m : ℕ) → IsOwn P c x m → IsThere (own_method P c x)
 own-own_method P c x m h =
@@ -190,7 +199,8 @@ held P x formed = record {
         let same : Some f.parent ≡ Some p = sym f.has_parent ∙ sym (rw at refl) ∙ up in
         subst (λ (q : ClassId). q.0 ≡ 0) (let e : f.parent ≡ p = cc in e) (f.interface_parent face)
 
-    face : (c : ℕ) (o : Option PlainClass) → slice_get P.classes c ≡ o → (f : ClassId) → Contains (faces_of P c) f → (k : PlainClass) × (slice_get P.classes f.0 ≡ Some k) × (k.is_interface ≡ true)
+    face : (c : ℕ) (o : Option PlainClass) → slice_get P.classes c ≡ o → (f : ClassId) → Contains (faces_of P c) f → (k : PlainClass)
+        × (slice_get P.classes f.0 ≡ Some k) × (k.is_interface ≡ true)
     face c None at f h = let lt : h.0 < 0 = rw at at h.1 in absurd (omega (arith, lt))
     face zero (Some k) at f h = let lt : h.0 < 0 = rw (formed.object.first, formed.object.faces) at h.1 in absurd (omega (arith, lt))
     face (suc c) (Some k) at f h = (formed.classes c k at).faces f (rw at at h)
@@ -200,7 +210,8 @@ module _ (P : Plain) (formed : IsFormed P) where
   pub offered-declared : (c : ℕ) (x : List ℕ) (s : ℕ) → IsOffered P c x s → IsThere (declaration_of P c x)
   offered-declared c x s o =
       let own = λ (k : ℕ). own_method P k x in
-      let there = own-own_method P o.method.owner x o.number (record { method = o.method; stands = o.stands; owner = refl; instance = o.instance; name = o.name }) in
+      let there = own-own_method P o.method.owner x o.number
+          (record { method = o.method; stands = o.stands; owner = refl; instance = o.instance; name = o.name }) in
       subst IsThere (sym (declaration_of-found P c x))
       (⊎_elim
       (λ near. there_or (nearest_of P own c) (nearest_of P (λ k. first_found own (faces_above P (length P.classes) k)) c) near)
@@ -215,7 +226,8 @@ module _ (P : Plain) (formed : IsFormed P) where
       declared (Some m) d e =
           let a = declaration-above P c x m d in
           let k = own_method-own P a.holder x m a.found in
-          record { number = m; method = k.method; stands = k.stands; instance = k.instance; name = k.name; above = subst (λ b. IsSubclass P c b) (sym k.owner) a.above; slot = sym (rw k.stands refl) ∙ e }
+          record { number = m; method = k.method; stands = k.stands; instance = k.instance; name = k.name; above = subst (λ b. IsSubclass P c b)
+              (sym k.owner) a.above; slot = sym (rw k.stands refl) ∙ e }
 
   pub offered-slot_of : (c : ℕ) (x : List ℕ) (s : ℕ) → IsOffered P c x s → slot_of P c x ≡ Some s
   offered-slot_of c x s o =
@@ -226,7 +238,8 @@ module _ (P : Plain) (formed : IsFormed P) where
       let above = subst (λ b. IsSubclass P c b) (sym k.owner) a.above in
       rw (there.1, k.stands)
       (⊎_elim
-      (λ e. let same : Some k.method ≡ Some o.method = sym k.stands ∙ ap (slice_get P.methods) e ∙ o.stands in let it : k.method ≡ o.method = cc in ap (λ (h : PlainMethod). h.slot) it ∙ o.slot)
+      (λ e. let same : Some k.method ≡ Some o.method = sym k.stands ∙ ap (slice_get P.methods) e ∙ o.stands in let it : k.method ≡ o.method = cc in ap
+          (λ (h : PlainMethod). h.slot) it ∙ o.slot)
       (λ h. h.1 ∙ o.slot)
       (formed.one_slot c m o.number k.method o.method k.stands o.stands above o.above (k.name ∙ sym o.name)))
 

@@ -33,20 +33,25 @@ module _ (tag : Place → Tag) where
   pub arms-items : {n : _} (k : Row_of-RArm n) (other : Arms) → arms_of tag k other ≡ arms_seen tag (items-the_row-RArm _ k) other
   arms-items end_of-RArm other = refl
   arms-items (more_of-RArm t s body rest) other =
-      ap (λ b. arm (expr_of tag t) b (arms_of tag rest other)) (stmts_shown s body) ∙ ap (arm (expr_of tag t) (stmts tag (shown-the_row-RStmt-0 s body).items)) (arms-items rest other)
+      ap (λ b. arm (expr_of tag t) b (arms_of tag rest other)) (stmts_shown s body)
+          ∙ ap (arm (expr_of tag t) (stmts tag (shown-the_row-RStmt-0 s body).items)) (arms-items rest other)
 
   pub arms_vec : (v : Vec RArm Global) (other : Arms) → arms_of tag (hidden-the_row-RArm-1 v) other ≡ arms_seen tag v.items other
   arms_vec v other = arms-items (hidden-the_row-RArm-1 v) other ∙ ap (λ xs. arms_seen tag xs other) (items_hidden-the_row-RArm-1 v)
 
-  pub call_as : (b : Option (Box RExpr Global)) (x : List ℕ) (v : Vec RExpr Global) (p : Place) → expr_of tag (Call b x v p) ≡ call (tag p) (base_seen tag b p) x (exprs tag v.items)
+  pub call_as : (b : Option (Box RExpr Global)) (x : List ℕ) (v : Vec RExpr Global) (p : Place) → expr_of tag (Call b x v p)
+      ≡ call (tag p) (base_seen tag b p) x (exprs tag v.items)
   call_as None x v p = ap (call (tag p) (this (tag p)) x) (exprs_vec v)
   call_as (Some b) x v p = ap (call (tag p) (expr_of tag b.value) x) (exprs_vec v)
 
-  pub if_as : (v : Vec RArm Global) (o : Option (Vec RStmt Global)) (p : Place) → stmt_of tag (If v o p) ≡ choose (tag p) (arms_seen tag v.items (else_seen tag o))
+  pub if_as : (v : Vec RArm Global) (o : Option (Vec RStmt Global)) (p : Place) → stmt_of tag (If v o p)
+      ≡ choose (tag p) (arms_seen tag v.items (else_seen tag o))
   if_as v None p = ap (choose (tag p)) (arms_vec v no_other)
-  if_as v (Some w) p = ap (λ s. choose (tag p) (arms_of tag (hidden-the_row-RArm-1 v) (otherwise s))) (stmts_vec w) ∙ ap (choose (tag p)) (arms_vec v (otherwise (stmts tag w.items)))
+  if_as v (Some w) p = ap (λ s. choose (tag p) (arms_of tag (hidden-the_row-RArm-1 v) (otherwise s))) (stmts_vec w)
+      ∙ ap (choose (tag p)) (arms_vec v (otherwise (stmts tag w.items)))
 
-  pub for_as : (f : Option (Box RStmt Global)) (t : Option RExpr) (g : Option (Box RStmt Global)) (v : Vec RStmt Global) (p : Place) → stmt_of tag (For f t g v p) ≡ loop (tag p) false (step_seen tag f) (value_of tag t) (step_seen tag g) (stmts tag v.items)
+  pub for_as : (f : Option (Box RStmt Global)) (t : Option RExpr) (g : Option (Box RStmt Global)) (v : Vec RStmt Global) (p : Place)
+      → stmt_of tag (For f t g v p) ≡ loop (tag p) false (step_seen tag f) (value_of tag t) (step_seen tag g) (stmts tag v.items)
   for_as None t None v p = ap (loop (tag p) false no_st (value_of tag t) no_st) (stmts_vec v)
   for_as None t (Some g) v p = ap (loop (tag p) false no_st (value_of tag t) (step_seen tag (Some g))) (stmts_vec v)
   for_as (Some f) t None v p = ap (loop (tag p) false (step_seen tag (Some f)) (value_of tag t) no_st) (stmts_vec v)

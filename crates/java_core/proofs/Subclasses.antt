@@ -58,11 +58,13 @@ module _ (P : Plain) where
     distinct : IsDistinct eqb seen
     each : AllByRecursion (λ q. (q < length P.classes) × IsProperSubclass P q a) seen
 
-  up : (a : ℕ) (c : ClassId) (seen : List ℕ) → Contains (supers_of P a) c → AllByRecursion (λ q. (q < length P.classes) × IsProperSubclass P q a) seen → AllByRecursion (λ q. (q < length P.classes) × IsProperSubclass P q c.0) seen
+  up : (a : ℕ) (c : ClassId) (seen : List ℕ) → Contains (supers_of P a) c → AllByRecursion (λ q. (q < length P.classes) × IsProperSubclass P q a) seen
+      → AllByRecursion (λ q. (q < length P.classes) × IsProperSubclass P q c.0) seen
   up a c [] direct h = tt
   up a c (q ∷ seen) direct h = ((h.0.0, proper-then h.0.1 (through direct same_class)), up a c seen direct h.1)
 
-  apart : IsAcyclic P → (a : ℕ) (seen : List ℕ) → AllByRecursion (λ q. (q < length P.classes) × IsProperSubclass P q a) seen → AllByRecursion (λ y. eqb a y ≡ false) seen
+  apart : IsAcyclic P → (a : ℕ) (seen : List ℕ) → AllByRecursion (λ q. (q < length P.classes) × IsProperSubclass P q a) seen
+      → AllByRecursion (λ y. eqb a y ≡ false) seen
   apart acyclic a [] h = tt
   apart acyclic a (q ∷ seen) h = (ne_eqb a q (λ e. acyclic a (subst (λ x. IsProperSubclass P x a) (sym e) h.0.1)), apart acyclic a seen h.1)
 
@@ -72,9 +74,11 @@ module _ (P : Plain) where
     each = ((supers-within a c direct, record { by = c; direct = direct; rest = same_class }), up a c seen direct h.each);
   }
 
-  within : (a : ℕ) (seen : List ℕ) → AllByRecursion (λ q. (q < length P.classes) × IsProperSubclass P q a) seen → (q : ℕ) → list_any (eqb q) seen ≡ true → q < length P.classes
+  within : (a : ℕ) (seen : List ℕ) → AllByRecursion (λ q. (q < length P.classes) × IsProperSubclass P q a) seen → (q : ℕ)
+      → list_any (eqb q) seen ≡ true → q < length P.classes
   within a [] h q e = absurd (false≢true e)
-  within a (x ∷ seen) h q e = ⊎_elim (λ one. subst (λ y. y < length P.classes) (sym (eqb-true q x one)) h.0.0) (λ more. within a seen h.1 q more) (or_cases (eqb q x) (list_any (eqb q) seen) e)
+  within a (x ∷ seen) h q e = ⊎_elim (λ one. subst (λ y. y < length P.classes) (sym (eqb-true q x one)) h.0.0) (λ more. within a seen h.1 q more)
+      (or_cases (eqb q x) (list_any (eqb q) seen) e)
 
   pub passed-le : {a : ℕ} (seen : List ℕ) → ArePassed seen a → length seen ≤ length P.classes
   passed-le {a} seen h = length-le_from_distinct_below seen (length P.classes) h.distinct (within a seen h.each)
@@ -87,7 +91,8 @@ module _ (P : Plain) where
   pub one_left : IsAcyclic P → {a : ℕ} {c : ClassId} (seen : List ℕ) → Contains (supers_of P a) c → ArePassed seen a → 0 + length seen ≡ length P.classes → ⊥
   one_left acyclic {a} seen direct h e = omega (arith, passed-le (a ∷ seen) (passed_more acyclic seen direct h))
 
-  reaches-all : IsAcyclic P → (n : ℕ) (seen : List ℕ) {a b : ℕ} → IsSubclass P a b → n + length seen ≡ length P.classes → ArePassed seen a → reaches P n a b ≡ true
+  reaches-all : IsAcyclic P → (n : ℕ) (seen : List ℕ) {a b : ℕ} → IsSubclass P a b → n + length seen ≡ length P.classes → ArePassed seen a
+      → reaches P n a b ≡ true
   reaches-all acyclic zero seen {a} same_class e h = eq-eqb a a refl
   reaches-all acyclic (suc n) seen {a} same_class e h = or_left (eqb a a) (list_any (λ c. reaches P n c.0 a) (supers_of P a)) (eq-eqb a a refl)
   reaches-all acyclic zero seen (through direct rest) e h = absurd (one_left acyclic seen direct h e)
@@ -105,7 +110,8 @@ module _ (P : Plain) where
   subclass-below acyclic {a} h = reaches-all acyclic (length P.classes) [] h (omega arith) (none_passed a)
 
   module _ (own : ℕ → Option ℕ) where
-    found_up : (n a d : ℕ) (o : Option ℕ) (p : Option ClassId) → own a ≡ o → parent_of P a ≡ p → ((p : ClassId) → nearest P own n p.0 ≡ Some d → IsNearest P own p.0 d)
+    found_up : (n a d : ℕ) (o : Option ℕ) (p : Option ClassId) → own a ≡ o → parent_of P a ≡ p → ((p : ClassId) → nearest P own n p.0 ≡ Some d
+        → IsNearest P own p.0 d)
         → first_or o (option_and_then (λ p. nearest P own n p.0) p) ≡ Some d → IsNearest P own a d
     found_up n a d (Some y) p e f up h = at_class (e ∙ h)
     found_up n a d None None e f up h = absurd (cc h)
@@ -115,7 +121,8 @@ module _ (P : Plain) where
     nearest-sound zero a d h = at_class h
     nearest-sound (suc n) a d h = found_up n a d (own a) (parent_of P a) refl refl (λ p. nearest-sound n p.0 d) h
 
-    nearest-all : IsAcyclic P → (n : ℕ) (seen : List ℕ) {a d : ℕ} → IsNearest P own a d → n + length seen ≡ length P.classes → ArePassed seen a → nearest P own n a ≡ Some d
+    nearest-all : IsAcyclic P → (n : ℕ) (seen : List ℕ) {a d : ℕ} → IsNearest P own a d → n + length seen ≡ length P.classes → ArePassed seen a
+        → nearest P own n a ≡ Some d
     nearest-all acyclic zero seen (at_class e) k h = e
     nearest-all acyclic (suc n) seen (at_class e) k h = rw e
     nearest-all acyclic zero seen {a} (above_class {p = p} none e up) k h = absurd (one_left acyclic seen (parent-super a p e) h k)

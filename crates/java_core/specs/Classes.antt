@@ -92,7 +92,8 @@ abbrev pub chain : Plain → ℕ → ℕ → List ℕ
 chain P zero c = c ∷ []
 chain P (suc n) c = c ∷ option_map_or (λ p. chain P n p.0) (parent_of P c) []
 
--- the order in which the declaration of a method is looked for: the type and its superclasses, the nearest first; then the interfaces that these name, from the type upwards, each followed by its own
+-- the order in which the declaration of a method is looked for: the type and its superclasses, the nearest first; then the interfaces that these
+-- name, from the type upwards, each followed by its own
 unfoldable pub search_order : Plain → ℕ → List ℕ
 search_order P c = chain P (length P.classes) c ++ flat_map (λ k. faces_above P (length P.classes) k) (chain P (length P.classes) c)
 

@@ -1,4 +1,5 @@
--- Which resolved programs are ones that some text has: numbers in range, names in their scopes, forms of the grammar, and none of the conditions that refuse a text's names.
+-- Which resolved programs are ones that some text has: numbers in range, names in their scopes, forms of the grammar, and none of the conditions that
+-- refuse a text's names.
 use Rattle.std.specs.Prelude.{◌≡◌, ◌≢◌, ◌↔◌, ◌⊎◌, ℕ, ℤ, zero, suc, ◌<◌, ◌≤◌, ◌||◌, Bool, true, false, List, [], ◌∷◌, ◌++◌, length, map, Contains, Option, Some, None, slice_get, codes, negsuc}
 use Rattle.std.specs.Option.{is_some}
 use Rattle.kaba_base.specs.declared.ClassId.{ClassId}
@@ -146,12 +147,16 @@ module _ (P : Plain) (k : PlainMethod) where
 
   mutual
     pub data FormedSt : Bool → List ℕ → St → Type 0 where
-      f_declare : {in_loop : Bool} {scope : List ℕ} {t : Tag} {i : ℕ} {e : Option Ex} → IsNewLocal k scope i → FormedOption (i ∷ scope) e → FormedSt in_loop scope (declare t i e)
+      f_declare : {in_loop : Bool} {scope : List ℕ} {t : Tag} {i : ℕ} {e : Option Ex} → IsNewLocal k scope i → FormedOption (i ∷ scope) e
+          → FormedSt in_loop scope (declare t i e)
       f_block : {in_loop : Bool} {scope : List ℕ} {t : Tag} {xs : Sts} → FormedSts in_loop scope xs → FormedSt in_loop scope (block t xs)
-      f_assign : {in_loop : Bool} {scope : List ℕ} {t : Tag} {b : Target} {e : Ex} → FormedTarget scope b → FormedEx scope e → FormedSt in_loop scope (assign t b e)
+      f_assign : {in_loop : Bool} {scope : List ℕ} {t : Tag} {b : Target} {e : Ex} → FormedTarget scope b → FormedEx scope e
+          → FormedSt in_loop scope (assign t b e)
       f_act : {in_loop : Bool} {scope : List ℕ} {t : Tag} {e : Ex} → is_call e ≡ true → FormedEx scope e → FormedSt in_loop scope (act t e)
-      f_print : {in_loop : Bool} {scope : List ℕ} {t : Tag} {n : Bool} {e : Option Ex} → n || is_some e ≡ true → FormedOption scope e → FormedSt in_loop scope (print t n e)
-      f_choose : {in_loop : Bool} {scope : List ℕ} {t : Tag} {e : Ex} {xs : Sts} {more : Arms} → FormedArms in_loop scope (arm e xs more) → FormedSt in_loop scope (choose t (arm e xs more))
+      f_print : {in_loop : Bool} {scope : List ℕ} {t : Tag} {n : Bool} {e : Option Ex} → n || is_some e ≡ true → FormedOption scope e
+          → FormedSt in_loop scope (print t n e)
+      f_choose : {in_loop : Bool} {scope : List ℕ} {t : Tag} {e : Ex} {xs : Sts} {more : Arms} → FormedArms in_loop scope (arm e xs more)
+          → FormedSt in_loop scope (choose t (arm e xs more))
       f_loop : {in_loop is_while : Bool} {scope : List ℕ} {t : Tag} {first step body : Sts} {test : Option Ex} → IsHead is_while first test step
           → is_at_most_one is_first first ≡ true → is_at_most_one is_act step ≡ true
           → FormedSts in_loop scope first → FormedOption (scope_after_all scope first) test → FormedSts in_loop (scope_after_all scope first) step
@@ -162,12 +167,14 @@ module _ (P : Plain) (k : PlainMethod) where
 
     pub data FormedSts : Bool → List ℕ → Sts → Type 0 where
       f_no_st : {in_loop : Bool} {scope : List ℕ} → FormedSts in_loop scope no_st
-      f_st_then : {in_loop : Bool} {scope : List ℕ} {x : St} {xs : Sts} → FormedSt in_loop scope x → FormedSts in_loop (scope_after scope x) xs → FormedSts in_loop scope (st_then x xs)
+      f_st_then : {in_loop : Bool} {scope : List ℕ} {x : St} {xs : Sts} → FormedSt in_loop scope x → FormedSts in_loop (scope_after scope x) xs
+          → FormedSts in_loop scope (st_then x xs)
 
     pub data FormedArms : Bool → List ℕ → Arms → Type 0 where
       f_no_other : {in_loop : Bool} {scope : List ℕ} → FormedArms in_loop scope no_other
       f_otherwise : {in_loop : Bool} {scope : List ℕ} {xs : Sts} → FormedSts in_loop scope xs → FormedArms in_loop scope (otherwise xs)
-      f_arm : {in_loop : Bool} {scope : List ℕ} {e : Ex} {xs : Sts} {more : Arms} → FormedEx scope e → FormedSts in_loop scope xs → FormedArms in_loop scope more → FormedArms in_loop scope (arm e xs more)
+      f_arm : {in_loop : Bool} {scope : List ℕ} {e : Ex} {xs : Sts} {more : Arms} → FormedEx scope e → FormedSts in_loop scope xs
+          → FormedArms in_loop scope more → FormedArms in_loop scope (arm e xs more)
 
 -- the numbers of the creations, casts and instanceof of trees
 abbrev mutual
@@ -351,9 +358,11 @@ pub record IsFormed (P : Plain) : Type 0 where
   pub fields : (f : ℕ) (k : PlainField) → slice_get P.fields f ≡ Some k → IsFormedField P k
   pub field_names : (f g : ℕ) (h k : PlainField) → slice_get P.fields f ≡ Some h → slice_get P.fields g ≡ Some k → h.owner ≡ k.owner → h.name ≡ k.name → f ≡ g
   pub methods : (m : ℕ) (k : PlainMethod) → slice_get P.methods m ≡ Some k → IsFormedMethod P k
-  pub method_names : (m n : ℕ) (h k : PlainMethod) → slice_get P.methods m ≡ Some h → slice_get P.methods n ≡ Some k → h.owner ≡ k.owner → h.name ≡ k.name → m ≡ n
+  pub method_names : (m n : ℕ) (h k : PlainMethod) → slice_get P.methods m ≡ Some h → slice_get P.methods n ≡ Some k → h.owner ≡ k.owner
+      → h.name ≡ k.name → m ≡ n
   -- the methods of one name at or above a class are all of one slot
-  pub one_slot : (c m n : ℕ) (h k : PlainMethod) → slice_get P.methods m ≡ Some h → slice_get P.methods n ≡ Some k → IsSubclass P c h.owner → IsSubclass P c k.owner
+  pub one_slot : (c m n : ℕ) (h k : PlainMethod) → slice_get P.methods m ≡ Some h → slice_get P.methods n ≡ Some k → IsSubclass P c h.owner
+      → IsSubclass P c k.owner
       → h.name ≡ k.name → (m ≡ n) ⊎ ((h.is_static ≡ false) × (h.slot ≡ k.slot))
   pub slots : (s : ℕ) (slot : PlainSlot) → slice_get P.slots s ≡ Some slot → IsFormedSlot P s slot
   pub numbered : HasNoTwice (numbers_methods P.methods)

@@ -134,7 +134,8 @@ fits_in P s (a_value t) = fits P s t
 fits_in P s null_value = false
 fits_in P s no_value = false
 
--- what `==` and `!=` compare: numbers, booleans, null with a reference, and two classes or arrays of which one is a subtype of the other (Java Language Specification, 15.21, the subset's part)
+-- what `==` and `!=` compare: numbers, booleans, null with a reference, and two classes or arrays of which one is a subtype of the other (Java
+-- Language Specification, 15.21, the subset's part)
 abbrev pub are_comparable : Plain → Static → Static → Bool
 are_comparable P (a_value s) (a_value t) =
     (is_numeric (a_value s) && is_numeric (a_value t))
@@ -152,7 +153,8 @@ pub data StringMethod : Type 0 where
 
 abbrev pub string_method : List ℕ → Option StringMethod
 string_method x =
-    if bytes_eq x (codes "length") then Some LengthOf else if bytes_eq x (codes "charAt") then Some CharAt else if bytes_eq x (codes "equals") then Some Equals else None
+    if bytes_eq x (codes "length") then Some LengthOf else if bytes_eq x (codes "charAt") then Some CharAt else if bytes_eq x (codes "equals") then
+        Some Equals else None
 
 abbrev pub string_params : StringMethod → List Ty
 string_params LengthOf = []

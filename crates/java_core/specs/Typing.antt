@@ -55,9 +55,11 @@ module _ (P : Plain) (g : Env) where
       t_own_field : {t : Tag} {f : ℕ} → Typed (own_field t f)
       t_field : {t : Tag} {e : Ex} {x : List ℕ} → Typed e → is_some (access_type P (static P g e) x) ≡ true → Typed (field t e x)
       t_index : {t : Tag} {e i : Ex} → Typed e → is_some (element_of (static P g e)) ≡ true → Typed i → is_numeric (static P g i) ≡ true → Typed (index t e i)
-      t_call : {t : Tag} {e : Ex} {x : List ℕ} {es : Exs} {s : Signature} → Typed e → call_signature P (static P g e) x ≡ Some s → TypedArgs es s.params → Typed (call t e x es)
+      t_call : {t : Tag} {e : Ex} {x : List ℕ} {es : Exs} {s : Signature} → Typed e → call_signature P (static P g e) x ≡ Some s
+          → TypedArgs es s.params → Typed (call t e x es)
       t_static_call : {t : Tag} {m : ℕ} {es : Exs} {s : Signature} → signature_of_method P m ≡ Some s → TypedArgs es s.params → Typed (static_call t m es)
-      t_super_call : {t : Tag} {x : List ℕ} {es : Exs} {m : ℕ} {s : Signature} → super_method P g.self x ≡ Some m → has_body P m ≡ true → super_signature P g.self x ≡ Some s
+      t_super_call : {t : Tag} {x : List ℕ} {es : Exs} {m : ℕ} {s : Signature} → super_method P g.self x ≡ Some m → has_body P m ≡ true
+          → super_signature P g.self x ≡ Some s
           → TypedArgs es s.params → Typed (super_call t x es)
       t_create : {t : Tag} {n c : ℕ} → is_concrete P c ≡ true → Typed (create t n c no_ex)
       t_create_array : {t : Tag} {n : ℕ} {u : Ty} {e : Ex} → Typed e → is_numeric (static P g e) ≡ true → Typed (create_array t n u e)
@@ -75,7 +77,8 @@ module _ (P : Plain) (g : Env) where
     t_to_static : {t : Tag} {f : ℕ} → TypedTarget (to_static t f)
     t_to_own : {t : Tag} {f : ℕ} → TypedTarget (to_own t f)
     t_to_field : {t : Tag} {e : Ex} {x : List ℕ} → Typed e → is_some (field_in P (static P g e) x) ≡ true → TypedTarget (to_field t e x)
-    t_to_element : {t : Tag} {e i : Ex} → Typed e → is_some (element_of (static P g e)) ≡ true → Typed i → is_numeric (static P g i) ≡ true → TypedTarget (to_element t e i)
+    t_to_element : {t : Tag} {e i : Ex} → Typed e → is_some (element_of (static P g e)) ≡ true → Typed i → is_numeric (static P g i) ≡ true
+        → TypedTarget (to_element t e i)
 
   -- the test of a loop; one that is not there is true
   pub data TypedTest : Option Ex → Type 0 where
@@ -92,7 +95,8 @@ module _ (P : Plain) (g : Env) where
       t_print_line : {t : Tag} {n : Bool} → TypedSt (print t n None)
       t_print : {t : Tag} {n : Bool} {e : Ex} → Typed e → is_printable (static P g e) ≡ true → TypedSt (print t n (Some e))
       t_choose : {t : Tag} {xs : Arms} → TypedArms xs → TypedSt (choose t xs)
-      t_loop : {t : Tag} {is_while : Bool} {first step body : Sts} {test : Option Ex} → TypedSts first → TypedTest test → TypedSts step → TypedSts body → TypedSt (loop t is_while first test step body)
+      t_loop : {t : Tag} {is_while : Bool} {first step body : Sts} {test : Option Ex} → TypedSts first → TypedTest test → TypedSts step
+          → TypedSts body → TypedSt (loop t is_while first test step body)
       t_return_nothing : {t : Tag} → g.result ≡ None → TypedSt (return t None)
       t_return : {t : Tag} {e : Ex} {u : Ty} → Typed e → g.result ≡ Some u → fits P (static P g e) u ≡ true → TypedSt (return t (Some e))
       t_break : {t : Tag} → TypedSt (break t)

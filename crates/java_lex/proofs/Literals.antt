@@ -21,7 +21,8 @@ LetterFits c (Some d) = (escaped d ≡ Some c) × (encode_utf16 c ≡ c ∷ [])
 LetterFits c None = ((c == 34) ≡ false) × ((c == 92) ≡ false) × (is_line_end c ≡ false) × ((c == 39) ≡ false)
 
 test : (P : Option ℕ → Type 0) (c d e : ℕ) (o : Option ℕ) → (c ≡ d → P (Some e)) → ((c == d) ≡ false → P o) → P (if c == d then Some e else o)
-test P c d e o a b = elim (cases_Bool (c == d)) as (λ _. P (if c == d then Some e else o)) [ inl h ↦ subst (λ t. P (if t then Some e else o)) (sym h) (a (eqb-true c d h)) | inr h ↦ subst (λ t. P (if t then Some e else o)) (sym h) (b h) ]
+test P c d e o a b = elim (cases_Bool (c == d)) as (λ _. P (if c == d then Some e else o)) [ inl h ↦ subst (λ t. P (if t then Some e else o)) (sym h)
+    (a (eqb-true c d h)) | inr h ↦ subst (λ t. P (if t then Some e else o)) (sym h) (b h) ]
 
 here : (d e : ℕ) → LetterFits d (Some e) → (c : ℕ) → c ≡ d → LetterFits c (Some e)
 here d e h c k = subst (λ x. LetterFits x (Some e)) (sym k) h
@@ -41,7 +42,8 @@ quoted_raw : (c : ℕ) (xs : List ℕ) → (c == 34) ≡ false → (c == 92) ≡
 quoted_raw c [] h k l = rw (h, l, k) refl
 quoted_raw c (d ∷ xs) h k l = rw (h, l, k) refl
 
-quoted_by : (c : ℕ) (o : Option ℕ) (xs : List ℕ) → LetterFits c o → quoted (written_by c o ++ xs) ≡ behind (encode_utf16 c) (length (written_by c o)) (quoted xs)
+quoted_by : (c : ℕ) (o : Option ℕ) (xs : List ℕ) → LetterFits c o → quoted (written_by c o ++ xs) ≡ behind (encode_utf16 c)
+    (length (written_by c o)) (quoted xs)
 quoted_by c (Some d) xs h = rw (h.0) (ap (λ us. behind us 2 (quoted xs)) (sym h.1))
 quoted_by c None xs h = quoted_raw c xs h.0 h.1 h.2
 
@@ -73,7 +75,8 @@ string cs rest ks s = one_more (kinds.Str (units_of cs)) 34 (all_written cs ++ 3
     ∙ ap string_piece (quoted_all cs rest)
     ∙ ap (Part (kinds.Str (units_of cs))) (sym (length-append (all_written cs) (34 ∷ [])))) s
 
-char_by : (c : ℕ) (o : Option ℕ) (rest : List ℕ) → c < 65536 → LetterFits c o → char_piece (written_by c o ++ 39 ∷ rest) ≡ Part (kinds.Char c) (length (written_by c o) + 1)
+char_by : (c : ℕ) (o : Option ℕ) (rest : List ℕ) → c < 65536 → LetterFits c o → char_piece (written_by c o ++ 39 ∷ rest)
+    ≡ Part (kinds.Char c) (length (written_by c o) + 1)
 char_by c (Some d) rest l h = rw (h.0) refl
 char_by c None rest l h = let f : nat_lt c 65536 ≡ true = lt-ltb c 65536 l in rw (h.1, h.2, h.3, f) refl
 

@@ -34,7 +34,8 @@ far c d (inl h) = ne_eqb c d (λ e. omega arith)
 far c d (inr h) = ne_eqb c d (λ e. omega arith)
 
 not_blank : (c : ℕ) → Range c → is_blank c ≡ false
-not_blank c h = rw (far c 32 (inr (omega (arith, h.0))), far c 9 (inr (omega (arith, h.0))), far c 12 (inr (omega (arith, h.0))), far c 13 (inr (omega (arith, h.0))), far c 10 (inr (omega (arith, h.0)))) refl
+not_blank c h = rw (far c 32 (inr (omega (arith, h.0))), far c 9 (inr (omega (arith, h.0))), far c 12 (inr (omega (arith, h.0))), far c 13
+    (inr (omega (arith, h.0))), far c 10 (inr (omega (arith, h.0)))) refl
 
 not_start : (c : ℕ) → Range c → is_start c ≡ false
 not_start c h =
@@ -62,18 +63,22 @@ stops [] h = refl
 stops (c ∷ rest) h = false_from_ne_true (is_ascii_digit c) (λ d. true≢false (sym (digit_is_part c d) ∙ h))
 
 -- the digits of a number, of which the first is no 0 where there are more
-module _ (c : ℕ) (xs rest : List ℕ) (n : ℕ) (digits : list_all is_ascii_digit (c ∷ xs) ≡ true) (lead : (c ≡ 48) → xs ≡ []) (value : digits_value_after 10 0 (c ∷ xs) ≡ n) (small : n ≤ 2147483648) (apart : next_is is_part rest ≡ false) where
+module _ (c : ℕ) (xs rest : List ℕ) (n : ℕ) (digits : list_all is_ascii_digit (c ∷ xs) ≡ true) (lead : (c ≡ 48) → xs ≡ [])
+    (value : digits_value_after 10 0 (c ∷ xs) ≡ n) (small : n ≤ 2147483648) (apart : next_is is_part rest ≡ false) where
   more : more_digits c (xs ++ rest) ≡ length xs
   more = elim (cases_Bool (c == 48)) as (λ _. more_digits c (xs ++ rest) ≡ length xs) [
     | inl h ↦ cond-true (c == 48) _ _ h ∙ sym (ap length (lead (eqb-true c 48 h)))
-    | inr h ↦ cond-false (c == 48) _ _ h ∙ run_len is_ascii_digit xs rest (and_parts (is_ascii_digit c) (list_all is_ascii_digit xs) digits).1 (stops rest apart)
+    | inr h ↦ cond-false (c == 48) _ _ h ∙ run_len is_ascii_digit xs rest (and_parts (is_ascii_digit c) (list_all is_ascii_digit xs) digits).1
+        (stops rest apart)
   ]
 
   read : number_in (c ∷ (xs ++ rest)) (length xs) ≡ Part (number_kind n) (length xs)
   read =
       let big : nat_lt 2147483648 n ≡ false = le-ltb 2147483648 n small in
-      ap (λ m. number_piece (digits_value_after 10 0 (take m (c ∷ (xs ++ rest)))) (length xs) (next_is is_part (drop m (c ∷ (xs ++ rest))))) (add-one (length xs))
-      ∙ ap (λ ys. number_piece (digits_value_after 10 0 (c ∷ ys)) (length xs) (next_is is_part (drop (length xs) (xs ++ rest)))) (take_at xs rest (length xs) refl)
+      ap (λ m. number_piece (digits_value_after 10 0 (take m (c ∷ (xs ++ rest)))) (length xs) (next_is is_part (drop m (c ∷ (xs ++ rest)))))
+          (add-one (length xs))
+      ∙ ap (λ ys. number_piece (digits_value_after 10 0 (c ∷ ys)) (length xs) (next_is is_part (drop (length xs) (xs ++ rest))))
+          (take_at xs rest (length xs) refl)
       ∙ ap (λ ys. number_piece (digits_value_after 10 0 (c ∷ xs)) (length xs) (next_is is_part ys)) (drop_at xs rest (length xs) refl)
       ∙ ap (λ m. number_piece m (length xs) (next_is is_part rest)) value
       ∙ ap (number_piece n (length xs)) apart
@@ -84,7 +89,9 @@ module _ (c : ℕ) (xs rest : List ℕ) (n : ℕ) (digits : list_all is_ascii_di
       let d = (and_parts (is_ascii_digit c) (list_all is_ascii_digit xs) digits).0 in
       number_rule c (xs ++ rest) (not_blank c (range c d)) (not_start c (range c d)) d ∙ ap (number_in (c ∷ (xs ++ rest))) more ∙ read
 
-by_cases : (ds : List ℕ) (n : ℕ) (rest : List ℕ) (ks : List TokenKind) → 0 < length ds → list_all is_ascii_digit ds ≡ true → (get_or ds 0 0 ≡ 48 → ds ≡ 48 ∷ []) → digits_value_after 10 0 ds ≡ n → n ≤ 2147483648 → next_is is_part rest ≡ false → Spells rest ks → Spells (ds ++ rest) (number_kind n ∷ ks)
+by_cases : (ds : List ℕ) (n : ℕ) (rest : List ℕ) (ks : List TokenKind) → 0 < length ds → list_all is_ascii_digit ds ≡ true
+    → (get_or ds 0 0 ≡ 48 → ds ≡ 48 ∷ []) → digits_value_after 10 0 ds ≡ n → n ≤ 2147483648 → next_is is_part rest ≡ false → Spells rest ks
+    → Spells (ds ++ rest) (number_kind n ∷ ks)
 by_cases [] n rest ks h d l v s a t = absurd (omega arith)
 by_cases (c ∷ xs) n rest ks h d l v s a t = one_more (number_kind n) c xs rest ks (piece c xs rest n d (λ e. cc (l e)) v s a) t
 
@@ -95,7 +102,8 @@ lead_zero : (n : ℕ) → n ≤ 2147483648 → get_or (decimal n) 0 0 ≡ 48 →
 lead_zero zero s h = decimal_digit 0 (lit< tt)
 lead_zero (suc n) s h = absurd (omega (arith, h, first_decimal (suc n) (omega arith) (below (suc n) s)))
 
-pub number : (n : ℕ) (rest : List ℕ) (ks : List TokenKind) → n ≤ 2147483648 → next_is is_part rest ≡ false → Spells rest ks → Spells (decimal n ++ rest) (number_kind n ∷ ks)
+pub number : (n : ℕ) (rest : List ℕ) (ks : List TokenKind) → n ≤ 2147483648 → next_is is_part rest ≡ false → Spells rest ks
+    → Spells (decimal n ++ rest) (number_kind n ∷ ks)
 number n rest ks s a t =
     let q = decimal_is_IsNumeral n (below n s) in
     by_cases (decimal n) n rest ks q.0.0 (all_digits n (below n s)) (lead_zero n s) q.1 s a t

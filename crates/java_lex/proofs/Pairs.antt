@@ -58,8 +58,10 @@ units_chars (c ∷ cs) h =
     let p = and_parts _ _ h in
     let rest = units_chars cs p.1 in
     elim (cases_Bool (nat_lt c 65536)) as (λ _. utf16_chars (units_of (c ∷ cs)) ≡ map Some (c ∷ cs)) [
-      | inl k ↦ ap (λ ys. utf16_chars (ys ++ units_of cs)) (small c (ltb-true c 65536 k)) ∙ utf16_chars_lone c (units_of cs) (no_pair c _ p.0) ∙ ap (λ o. o ∷ utf16_chars (units_of cs)) (alone c p.0) ∙ ap (λ ys. Some c ∷ ys) rest
-      | inr k ↦ ap (λ ys. utf16_chars (ys ++ units_of cs)) (large c p.0 (ltb-false c 65536 k)) ∙ utf16_chars_pair (first c p.0 (ltb-false c 65536 k)) (second c p.0 (ltb-false c 65536 k)) (units_of cs) (is_pair c p.0 (ltb-false c 65536 k))
+      | inl k ↦ ap (λ ys. utf16_chars (ys ++ units_of cs)) (small c (ltb-true c 65536 k)) ∙ utf16_chars_lone c (units_of cs) (no_pair c _ p.0)
+          ∙ ap (λ o. o ∷ utf16_chars (units_of cs)) (alone c p.0) ∙ ap (λ ys. Some c ∷ ys) rest
+      | inr k ↦ ap (λ ys. utf16_chars (ys ++ units_of cs)) (large c p.0 (ltb-false c 65536 k)) ∙ utf16_chars_pair (first c p.0 (ltb-false c 65536 k))
+          (second c p.0 (ltb-false c 65536 k)) (units_of cs) (is_pair c p.0 (ltb-false c 65536 k))
           ∙ ap (λ d. Some d ∷ utf16_chars (units_of cs)) (joined c p.0 (ltb-false c 65536 k)) ∙ ap (λ ys. Some c ∷ ys) rest
     ]
 

@@ -39,7 +39,8 @@ gap_step all rest c n p ts e f h =
     ∙ ap (λ q. led ts (from_piece q p (c ∷ rest) (λ m. lexed rest m (past p c)))) f
     ∙ ap (λ xs. led ts (lexed xs 0 p)) (sym e)
 
-pub part_step : (all rest : List ℕ) (c n : ℕ) (p : Place) (ts us : List Token) (k : TokenKind) → us ≡ ts ++ token k p ∷ [] → all ≡ c ∷ rest → Part k n ≡ piece_of c rest → n ≤ length rest
+pub part_step : (all rest : List ℕ) (c n : ℕ) (p : Place) (ts us : List Token) (k : TokenKind) → us ≡ ts ++ token k p ∷ [] → all ≡ c ∷ rest
+    → Part k n ≡ piece_of c rest → n ≤ length rest
     → led us (lexed (drop (n + 1) all) 0 (moved p (take (n + 1) all))) ≡ led ts (lexed all 0 p)
 part_step all rest c n p ts us k g e f h =
     ap (λ ws. led ws (lexed (drop (n + 1) all) 0 (moved p (take (n + 1) all)))) g
@@ -79,15 +80,18 @@ pub width_step : (xs : List ℕ) (i d : ℕ) → i < length xs → width (drop i
 width_step xs i d h = ap width (drop_more xs i d h)
 
 module _ (n : ℕ) (p : Place) (ts : List Token) where
-  pub gap_more : (all : List ℕ) (q : Piece) → q ≡ Gap n → q ≡ piece_at all → reach q < length all → led ts (lexed (drop (n + 1) all) 0 (moved p (take (n + 1) all))) ≡ led ts (lexed all 0 p)
+  pub gap_more : (all : List ℕ) (q : Piece) → q ≡ Gap n → q ≡ piece_at all → reach q < length all
+      → led ts (lexed (drop (n + 1) all) 0 (moved p (take (n + 1) all))) ≡ led ts (lexed all 0 p)
   gap_more [] q e f h = absurd (omega arith)
   gap_more (c ∷ rest) q e f h = gap_step (c ∷ rest) rest c n p ts refl (sym e ∙ f) (omega (arith, ap reach e))
 
-  pub part_more : (all : List ℕ) (q : Piece) (k : TokenKind) (us : List Token) → us ≡ ts ++ token k p ∷ [] → q ≡ Part k n → q ≡ piece_at all → reach q < length all → led us (lexed (drop (n + 1) all) 0 (moved p (take (n + 1) all))) ≡ led ts (lexed all 0 p)
+  pub part_more : (all : List ℕ) (q : Piece) (k : TokenKind) (us : List Token) → us ≡ ts ++ token k p ∷ [] → q ≡ Part k n → q ≡ piece_at all
+      → reach q < length all → led us (lexed (drop (n + 1) all) 0 (moved p (take (n + 1) all))) ≡ led ts (lexed all 0 p)
   part_more [] q k us w e f h = absurd (omega arith)
   part_more (c ∷ rest) q k us w e f h = part_step (c ∷ rest) rest c n p ts us k w refl (sym e ∙ f) (omega (arith, ap reach e))
 
-  pub fault_more : (all : List ℕ) (q : Piece) (k : FaultKind) → 0 < length all → q ≡ Fault k n → q ≡ piece_at all → led ts (lexed all 0 p) ≡ Err (fault_at k (moved p (take n all)))
+  pub fault_more : (all : List ℕ) (q : Piece) (k : FaultKind) → 0 < length all → q ≡ Fault k n → q ≡ piece_at all → led ts (lexed all 0 p)
+      ≡ Err (fault_at k (moved p (take n all)))
   fault_more [] q k l e f = absurd (omega arith)
   fault_more (c ∷ rest) q k l e f = fault_step (c ∷ rest) rest c n p ts k refl (sym e ∙ f)
 
@@ -99,11 +103,16 @@ module _ (n : ℕ) (p r : Place) (all : List ℕ) where
   pub cut_size : r.at ≡ p.at + width (take (n + 1) all) → r.at + width (take (length all - (n + 1)) (drop (n + 1) all)) ≡ p.at + width all
   cut_size h = ap (λ ys. r.at + width ys) (take_rest all (n + 1)) ∙ omega (arith, h, width_split (n + 1) all)
 
-  pub gap_cut : (ts : List Token) (q : Piece) (o : Outcome) → r ≡ moved p (take (n + 1) all) → q ≡ Gap n → q ≡ piece_at all → reach q < length all → led ts (lexed all 0 p) ≡ o → led ts (lexed (take (length all - (n + 1)) (drop (n + 1) all)) 0 r) ≡ o
-  gap_cut ts q o h e f g s = ap (λ ys. led ts (lexed ys 0 r)) (take_rest all (n + 1)) ∙ ap (λ t. led ts (lexed (drop (n + 1) all) 0 t)) h ∙ gap_more n p ts all q e f g ∙ s
+  pub gap_cut : (ts : List Token) (q : Piece) (o : Outcome) → r ≡ moved p (take (n + 1) all) → q ≡ Gap n → q ≡ piece_at all → reach q < length all
+      → led ts (lexed all 0 p) ≡ o → led ts (lexed (take (length all - (n + 1)) (drop (n + 1) all)) 0 r) ≡ o
+  gap_cut ts q o h e f g s = ap (λ ys. led ts (lexed ys 0 r)) (take_rest all (n + 1)) ∙ ap (λ t. led ts (lexed (drop (n + 1) all) 0 t)) h
+      ∙ gap_more n p ts all q e f g ∙ s
 
-  pub part_cut : (ts us : List Token) (k : TokenKind) (q : Piece) (o : Outcome) → us ≡ ts ++ token k p ∷ [] → r ≡ moved p (take (n + 1) all) → q ≡ Part k n → q ≡ piece_at all → reach q < length all → led ts (lexed all 0 p) ≡ o → led us (lexed (take (length all - (n + 1)) (drop (n + 1) all)) 0 r) ≡ o
-  part_cut ts us k q o w h e f g s = ap (λ ys. led us (lexed ys 0 r)) (take_rest all (n + 1)) ∙ ap (λ t. led us (lexed (drop (n + 1) all) 0 t)) h ∙ part_more n p ts all q k us w e f g ∙ s
+  pub part_cut : (ts us : List Token) (k : TokenKind) (q : Piece) (o : Outcome) → us ≡ ts ++ token k p ∷ [] → r ≡ moved p (take (n + 1) all)
+      → q ≡ Part k n → q ≡ piece_at all → reach q < length all → led ts (lexed all 0 p) ≡ o
+      → led us (lexed (take (length all - (n + 1)) (drop (n + 1) all)) 0 r) ≡ o
+  part_cut ts us k q o w h e f g s = ap (λ ys. led us (lexed ys 0 r)) (take_rest all (n + 1)) ∙ ap (λ t. led us (lexed (drop (n + 1) all) 0 t)) h
+      ∙ part_more n p ts all q k us w e f g ∙ s
 
 pub width-chars : (bs : List ℕ) → IsUtf8 bs → width (chars bs) ≡ length bs
 width-chars bs u = width-encodes (chars bs) ∙ ap length (encodes-chars bs u)
@@ -112,7 +121,8 @@ pub tokens_ok : (bs : List ℕ) → IsUtf8 bs → tokens_of bs ≡ lexed (chars 
 tokens_ok bs u = cond-true (is_utf8 bs) _ _ (is_utf8-from_IsUtf8 bs u)
 
 pub tokens_err : (bs : List ℕ) (n : ℕ) → ¬ (IsUtf8 bs) → n ≡ utf8_valid_len bs → tokens_of bs ≡ Err (faults.BadByte (byte_place bs n))
-tokens_err bs n u e = cond-false (is_utf8 bs) _ _ (false_from_ne_true (is_utf8 bs) (λ h. u (IsUtf8-from_is_utf8 bs h))) ∙ ap (λ m. fails (faults.BadByte (byte_place bs m))) (sym e)
+tokens_err bs n u e = cond-false (is_utf8 bs) _ _ (false_from_ne_true (is_utf8 bs) (λ h. u (IsUtf8-from_is_utf8 bs h)))
+    ∙ ap (λ m. fails (faults.BadByte (byte_place bs m))) (sym e)
 
 pub gives_along : (r : Result (Vec Token Global) LexFault) (o p : Outcome) → Gives r o → p ≡ o → Gives r p
 gives_along r o p h e = subst (λ x. Gives r x) (sym e) h

@@ -20,7 +20,8 @@ kinds_of-led k p (Err f) = refl
 pub ends : Spells [] []
 ends = record { reads = λ p. refl }
 
-pub one_more : (k : TokenKind) (x : ℕ) (xs rest : List ℕ) (ks : List TokenKind) → piece_of x (xs ++ rest) ≡ Part k (length xs) → Spells rest ks → Spells (x ∷ (xs ++ rest)) (k ∷ ks)
+pub one_more : (k : TokenKind) (x : ℕ) (xs rest : List ℕ) (ks : List TokenKind) → piece_of x (xs ++ rest) ≡ Part k (length xs) → Spells rest ks
+    → Spells (x ∷ (xs ++ rest)) (k ∷ ks)
 one_more k x xs rest ks e s = record {
   reads = λ p.
       ap (λ q. kinds_of (from_piece q p (x ∷ (xs ++ rest)) (λ n. lexed (xs ++ rest) n (past p x)))) e

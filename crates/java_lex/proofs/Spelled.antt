@@ -32,13 +32,15 @@ run_taken p xs rest h k = rw (run_len p xs rest h k) (take_at xs rest (length xs
 
 -- a start of an identifier is none of these
 pub starts_none : (c d : ℕ) → is_start d ≡ false → is_start c ≡ true → (c == d) ≡ false
-starts_none c d h k = elim (c == d) as (λ b. (c == d) ≡ b → (b ≡ false)) [ true ↦ λ e. absurd (true≢false (sym k ∙ ap is_start (eqb-true c d e) ∙ h)) | false ↦ λ e. refl ] refl
+starts_none c d h k = elim (c == d) as (λ b. (c == d) ≡ b → (b ≡ false)) [ true ↦ λ e. absurd (true≢false (sym k ∙ ap is_start (eqb-true c d e) ∙ h))
+    | false ↦ λ e. refl ] refl
 
 pub start_not_blank : (c : ℕ) → is_start c ≡ true → is_blank c ≡ false
 unfolding unicode_ident
 start_not_blank c k = rw (starts_none c 32 refl k, starts_none c 9 refl k, starts_none c 12 refl k, starts_none c 13 refl k, starts_none c 10 refl k) refl
 
-word_like : (c : ℕ) (xs rest : List ℕ) → is_start c ≡ true → list_all is_part xs ≡ true → next_is is_part rest ≡ false → piece_of c (xs ++ rest) ≡ word_piece (c ∷ xs) (length xs)
+word_like : (c : ℕ) (xs rest : List ℕ) → is_start c ≡ true → list_all is_part xs ≡ true → next_is is_part rest ≡ false → piece_of c (xs ++ rest)
+    ≡ word_piece (c ∷ xs) (length xs)
 word_like c xs rest h k l =
     word_rule c (xs ++ rest) (start_not_blank c h) h
     ∙ ap (λ w. word_piece (c ∷ w) (prefix_len is_part (xs ++ rest))) (run_taken is_part xs rest k l)
@@ -48,7 +50,8 @@ none_is : {A : Type 0} (o : Option A) → is_none o ≡ true → o ≡ None
 none_is None h = refl
 none_is (Some x) h = absurd (true≢false (sym h))
 
-pub word : (c : ℕ) (xs rest : List ℕ) (ks : List TokenKind) → is_start c ≡ true → list_all is_part xs ≡ true → key_of (c ∷ xs) ≡ None → next_is is_part rest ≡ false → Spells rest ks → Spells (c ∷ (xs ++ rest)) (kinds.Word (c ∷ xs) ∷ ks)
+pub word : (c : ℕ) (xs rest : List ℕ) (ks : List TokenKind) → is_start c ≡ true → list_all is_part xs ≡ true → key_of (c ∷ xs) ≡ None
+    → next_is is_part rest ≡ false → Spells rest ks → Spells (c ∷ (xs ++ rest)) (kinds.Word (c ∷ xs) ∷ ks)
 word c xs rest ks h k e l s = one_more (kinds.Word (c ∷ xs)) c xs rest ks (word_like c xs rest h k l ∙ ap (λ o. Part (word_kind (c ∷ xs) o) (length xs)) e) s
 
 -- a name, as the whole of its characters
@@ -57,7 +60,8 @@ name [] rest ks h l s = absurd (true≢false (sym h))
 name (c ∷ xs) rest ks h l s = let p = and_parts (is_word (c ∷ xs)) (is_none (key_of (c ∷ xs))) h in let q = and_parts (is_start c) (list_all is_part xs) p.0 in
     word c xs rest ks q.0 q.1 (none_is (key_of (c ∷ xs)) p.1) l s
 
-key_at : (k : Keyword) (c : ℕ) (xs rest : List ℕ) (ks : List TokenKind) → is_start c ≡ true → list_all is_part xs ≡ true → key_of (c ∷ xs) ≡ Some k → next_is is_part rest ≡ false → Spells rest ks → Spells (c ∷ (xs ++ rest)) (kinds.Key k ∷ ks)
+key_at : (k : Keyword) (c : ℕ) (xs rest : List ℕ) (ks : List TokenKind) → is_start c ≡ true → list_all is_part xs ≡ true → key_of (c ∷ xs) ≡ Some k
+    → next_is is_part rest ≡ false → Spells rest ks → Spells (c ∷ (xs ++ rest)) (kinds.Key k ∷ ks)
 key_at q c xs rest ks h k e l s = one_more (kinds.Key q) c xs rest ks (word_like c xs rest h k l ∙ ap (λ o. Part (word_kind (c ∷ xs) o) (length xs)) e) s
 
 pub key : (k : Keyword) (rest : List ℕ) (ks : List TokenKind) → next_is is_part rest ≡ false → Spells rest ks → Spells (key_text k ++ rest) (kinds.Key k ∷ ks)
@@ -66,11 +70,15 @@ key keys.Abstract rest ks l s = key_at keys.Abstract 97 (codes "bstract") rest k
 key k rest ks l s = key_at k (get_or (key_text k) 0 0) (drop 1 (key_text k)) rest ks refl refl refl l s
 
 -- a mark, where longest match gives it and no comment begins
-marked : (m : Mark) (c : ℕ) (xs rest : List ℕ) (ks : List TokenKind) → length (mark_text m) - 1 ≡ length xs → is_blank c ≡ false → is_start c ≡ false → is_ascii_digit c ≡ false → (c == 34) ≡ false → (c == 39) ≡ false
-    → mark_of (c ∷ (xs ++ rest)) ≡ Some m → is_front (codes "//") (c ∷ (xs ++ rest)) ≡ false → is_front (codes "/*") (c ∷ (xs ++ rest)) ≡ false → Spells rest ks → Spells (c ∷ (xs ++ rest)) (kinds.Mark m ∷ ks)
-marked m c xs rest ks z h k l n o e f g s = one_more (kinds.Mark m) c xs rest ks (mark_rule c (xs ++ rest) h k l n o f g ∙ ap mark_piece e ∙ ap (Part (kinds.Mark m)) z) s
+marked : (m : Mark) (c : ℕ) (xs rest : List ℕ) (ks : List TokenKind) → length (mark_text m) - 1 ≡ length xs → is_blank c ≡ false → is_start c ≡ false
+    → is_ascii_digit c ≡ false → (c == 34) ≡ false → (c == 39) ≡ false
+    → mark_of (c ∷ (xs ++ rest)) ≡ Some m → is_front (codes "//") (c ∷ (xs ++ rest)) ≡ false → is_front (codes "/*") (c ∷ (xs ++ rest)) ≡ false
+        → Spells rest ks → Spells (c ∷ (xs ++ rest)) (kinds.Mark m ∷ ks)
+marked m c xs rest ks z h k l n o e f g s = one_more (kinds.Mark m) c xs rest ks (mark_rule c (xs ++ rest) h k l n o f g ∙ ap mark_piece e
+    ∙ ap (Part (kinds.Mark m)) z) s
 
-pub mark : (m : Mark) (rest : List ℕ) (ks : List TokenKind) → mark_of (mark_text m ++ rest) ≡ Some m → is_front (codes "//") (mark_text m ++ rest) ≡ false → is_front (codes "/*") (mark_text m ++ rest) ≡ false → Spells rest ks → Spells (mark_text m ++ rest) (kinds.Mark m ∷ ks)
+pub mark : (m : Mark) (rest : List ℕ) (ks : List TokenKind) → mark_of (mark_text m ++ rest) ≡ Some m → is_front (codes "//") (mark_text m ++ rest)
+    ≡ false → is_front (codes "/*") (mark_text m ++ rest) ≡ false → Spells rest ks → Spells (mark_text m ++ rest) (kinds.Mark m ∷ ks)
 unfolding unicode_ident
 mark marks.OpenRound rest ks e f g s = marked marks.OpenRound 40 [] rest ks refl refl refl refl refl refl e f g s
 mark m rest ks e f g s = marked m (get_or (mark_text m) 0 0) (drop 1 (mark_text m)) rest ks refl refl refl refl refl refl e f g s

@@ -35,11 +35,13 @@ signature_of k = record { params = types_of k.params; result = k.result }
 body_there : (P : Plain) (m : ℕ) → has_body P m ≡ true → (k : PlainMethod) × (slice_get P.methods m ≡ Some k) × ((xs : Sts) × (k.body ≡ Some xs))
 body_there P m h = go (slice_get P.methods m) refl h
   where
-    inside : (k : PlainMethod) → slice_get P.methods m ≡ Some k → (o : Option Sts) → k.body ≡ o → is_some o ≡ true → (k : PlainMethod) × (slice_get P.methods m ≡ Some k) × ((xs : Sts) × (k.body ≡ Some xs))
+    inside : (k : PlainMethod) → slice_get P.methods m ≡ Some k → (o : Option Sts) → k.body ≡ o → is_some o ≡ true → (k : PlainMethod)
+        × (slice_get P.methods m ≡ Some k) × ((xs : Sts) × (k.body ≡ Some xs))
     inside k at (Some xs) e t = (k, at, (xs, e))
     inside k at None e t = absurd (false≢true t)
 
-    go : (o : Option PlainMethod) → slice_get P.methods m ≡ o → option_map_or (λ k. is_some k.body) o false ≡ true → (k : PlainMethod) × (slice_get P.methods m ≡ Some k) × ((xs : Sts) × (k.body ≡ Some xs))
+    go : (o : Option PlainMethod) → slice_get P.methods m ≡ o → option_map_or (λ k. is_some k.body) o false ≡ true → (k : PlainMethod)
+        × (slice_get P.methods m ≡ Some k) × ((xs : Sts) × (k.body ≡ Some xs))
     go (Some k) at t = inside k at k.body refl t
     go None at t = absurd (false≢true t)
 
@@ -61,7 +63,8 @@ module _ (P : Plain) (formed : IsFormed P) (typed : IsTyped P) where
   body_found m k xs at body = rw (at, body) refl
 
   -- a body with this signature, at or above the class
-  has_body_of : (o : Option ℕ) (c m : ℕ) (k : PlainMethod) (xs : Sts) (sig : Signature) → o ≡ Some m → slice_get P.methods m ≡ Some k → k.body ≡ Some xs → signature_of k ≡ sig → IsSubclass P c k.owner → HasBody P (option_and_then (body_of P) o) c sig
+  has_body_of : (o : Option ℕ) (c m : ℕ) (k : PlainMethod) (xs : Sts) (sig : Signature) → o ≡ Some m → slice_get P.methods m ≡ Some k
+      → k.body ≡ Some xs → signature_of k ≡ sig → IsSubclass P c k.owner → HasBody P (option_and_then (body_of P) o) c sig
   has_body_of o c m k xs sig e at body s up = record {
     body = body_with m k xs;
     found_body = ap (option_and_then (body_of P)) e ∙ body_found m k xs at body;
@@ -75,7 +78,8 @@ module _ (P : Plain) (formed : IsFormed P) (typed : IsTyped P) where
   pub static_bodies : (m : ℕ) (sig : Signature) → has_body P m ≡ true → signature_of_method P m ≡ Some sig → HasStaticBody P (body_of P m) sig
   static_bodies m sig h s =
       let b = body_there P m h in
-      record { body = body_with m b.0 b.2.0; found_body = body_found m b.0 b.2.0 b.1 b.2.1; typed = subst (λ z. TypedBody P (body_with m b.0 b.2.0) z) (method_signature m b.0 sig b.1 s) (typed_body m b.0 b.2.0 b.1 b.2.1) }
+      record { body = body_with m b.0 b.2.0; found_body = body_found m b.0 b.2.0 b.1 b.2.1; typed = subst (λ z. TypedBody P (body_with m b.0 b.2.0) z)
+          (method_signature m b.0 sig b.1 s) (typed_body m b.0 b.2.0 b.1 b.2.1) }
 
   super_above : (c m : ℕ) (x : List ℕ) (k : PlainMethod) → super_method P c x ≡ Some m → slice_get P.methods m ≡ Some k → IsSubclass P c k.owner
   unfolding super_method
@@ -86,20 +90,23 @@ module _ (P : Plain) (formed : IsFormed P) (typed : IsTyped P) where
       let same : o.method ≡ k = same_Some _ _ (sym o.stands ∙ at) in
       subst (λ z. IsSubclass P c z) (sym o.owner ∙ ap (λ (z : PlainMethod). z.owner) same) (through (parent-super P c p.0 p.1) n.1)
 
-  pub super_bodies : (c m : ℕ) (x : List ℕ) (sig : Signature) → super_method P c x ≡ Some m → has_body P m ≡ true → signature_of_method P m ≡ Some sig → HasBody P (option_and_then (body_of P) (super_method P c x)) c sig
+  pub super_bodies : (c m : ℕ) (x : List ℕ) (sig : Signature) → super_method P c x ≡ Some m → has_body P m ≡ true → signature_of_method P m ≡ Some sig
+      → HasBody P (option_and_then (body_of P) (super_method P c x)) c sig
   super_bodies c m x sig e h s =
       let b = body_there P m h in
       has_body_of (super_method P c x) c m b.0 b.2.0 sig e b.1 b.2.1 (method_signature m b.0 sig b.1 s) (super_above c m x b.0 e b.1)
 
   -- the signature of a slot is that of each of its methods
-  slot_signature : (m j : ℕ) (k : PlainMethod) (sig : Signature) → slice_get P.methods m ≡ Some k → k.slot ≡ Some j → signature_of_slot P j ≡ Some sig → signature_of k ≡ sig
+  slot_signature : (m j : ℕ) (k : PlainMethod) (sig : Signature) → slice_get P.methods m ≡ Some k → k.slot ≡ Some j → signature_of_slot P j ≡ Some sig
+      → signature_of k ≡ sig
   slot_signature m j k sig at s e =
       let i = ((formed.methods m k at).slots j).0 s in
       let q = mapped_some (λ z. record { params = z.params; result = z.result }) (slice_get P.slots j) sig e in
       let same : q.0 ≡ i.slot = same_Some _ _ (sym q.1 ∙ i.stands) in
       pair k.params k.result i.slot i.params i.result ∙ ap (λ z. record { params = z.params; result = z.result }) (sym same) ∙ q.2
     where
-      pair : (ps : List PlainLocal) (r : Option Ty) (z : PlainSlot) → types_of ps ≡ z.params → r ≡ z.result → signature_at (types_of ps) r ≡ signature_at z.params z.result
+      pair : (ps : List PlainLocal) (r : Option Ty) (z : PlainSlot) → types_of ps ≡ z.params → r ≡ z.result → signature_at (types_of ps) r
+          ≡ signature_at z.params z.result
       pair ps r z a b = subst (λ y. signature_at (types_of ps) r ≡ signature_at z.params y) b (ap (λ y. signature_at y r) a)
 
   -- where the nearest declaration of a slot has a body, a body is found
@@ -119,7 +126,8 @@ module _ (P : Plain) (formed : IsFormed P) (typed : IsTyped P) where
   class_there : (c : ℕ) → is_concrete P c ≡ true → (k : PlainClass) × (slice_get P.classes c ≡ Some k)
   class_there c h = go (slice_get P.classes c) refl h
     where
-      go : (o : Option PlainClass) → slice_get P.classes c ≡ o → option_map_or (λ k. not k.is_interface && not k.is_abstract) o false ≡ true → (k : PlainClass) × (slice_get P.classes c ≡ Some k)
+      go : (o : Option PlainClass) → slice_get P.classes c ≡ o → option_map_or (λ k. not k.is_interface && not k.is_abstract) o false ≡ true
+          → (k : PlainClass) × (slice_get P.classes c ≡ Some k)
       go (Some k) at t = (k, at)
       go None at t = absurd (false≢true t)
 
@@ -127,12 +135,15 @@ module _ (P : Plain) (formed : IsFormed P) (typed : IsTyped P) where
   slot_some None s e = absurd (false≢true e)
   slot_some (Some r) s e = ap Some (eqb-true r s e)
 
-  pub bodies : (c d j : ℕ) (x : List ℕ) (sig : Signature) → is_concrete P c ≡ true → below P c d ≡ true → slot_of P d x ≡ Some j → signature_of_slot P j ≡ Some sig → HasBody P (option_and_then (body_of P) (lookup P c j)) c sig
+  pub bodies : (c d j : ℕ) (x : List ℕ) (sig : Signature) → is_concrete P c ≡ true → below P c d ≡ true → slot_of P d x ≡ Some j
+      → signature_of_slot P j ≡ Some sig → HasBody P (option_and_then (body_of P) (lookup P c j)) c sig
   unfolding HasBodies nearest_declaration lookup
   bodies c d j x sig made bel found s =
       let o = slot_of-offered P formed d x j found in
       let k = class_there c made in
-      let declared = (typed.classes c k.0 k.1).bodies made j o.number (record { method = o.method; stands = o.stands; slot = o.slot; above = subclass-below P formed.acyclic (subclass-then P (below-subclass P c d bel) o.above) }) in
+      let declared = (typed.classes c k.0 k.1).bodies made j o.number
+          (record { method = o.method; stands = o.stands; slot = o.slot; above = subclass-below P formed.acyclic
+          (subclass-then P (below-subclass P c d bel) o.above) }) in
       let near = nearest_body j (nearest_of-nearest P (λ z. own_declaration P z j) declared.1) declared.2 in
       let up = nearest_above P (λ z. own_body P z j) near.1 in
       let p = position-passes (λ m. has_slot up.0 j m && is_some m.body) P.methods near.0 up.2 in

@@ -44,7 +44,8 @@ module _ (P : Plain) where
   -- values of types that fit the parameters, and values of the types themselves
   pub data FitAll (h : Heap) : List Value → List Ty → Type 0 where
     fit_none : FitAll h [] []
-    fit_more : {v : Value} {s : Static} {vs : List Value} {t : Ty} {ts : List Ty} → Holds P h v s → fits P s t ≡ true → FitAll h vs ts → FitAll h (v ∷ vs) (t ∷ ts)
+    fit_more : {v : Value} {s : Static} {vs : List Value} {t : Ty} {ts : List Ty} → Holds P h v s → fits P s t ≡ true → FitAll h vs ts
+        → FitAll h (v ∷ vs) (t ∷ ts)
 
   pub data HoldAll (h : Heap) : List Value → List Ty → Type 0 where
     hold_none : HoldAll h [] []
@@ -66,12 +67,14 @@ module _ (P : Plain) where
   all_defaults h [] = hold_none
   all_defaults h (t ∷ ts) = hold_more (default_held P h t) (all_defaults h ts)
 
-  pub all_get : {h : Heap} {vs : List Value} {ts : List Ty} (i : ℕ) (t : Ty) → HoldAll h vs ts → slice_get ts i ≡ Some t → (v : Value) × (slice_get vs i ≡ Some v) × Holds P h v (a_value t)
+  pub all_get : {h : Heap} {vs : List Value} {ts : List Ty} (i : ℕ) (t : Ty) → HoldAll h vs ts → slice_get ts i ≡ Some t → (v : Value)
+      × (slice_get vs i ≡ Some v) × Holds P h v (a_value t)
   all_get i t hold_none e = absurd (cc)
   all_get {h = h} zero t (hold_more {v = v} hv rest) e = (v, refl, subst (λ z. Holds P h v (a_value z)) (same_Some _ _ e) hv)
   all_get (suc i) t (hold_more hv rest) e = all_get i t rest e
 
-  pub all_set : {h : Heap} {vs : List Value} {ts : List Ty} (i : ℕ) (t : Ty) (w : Value) → HoldAll h vs ts → slice_get ts i ≡ Some t → Holds P h w (a_value t) → HoldAll h (slice_set vs i w) ts
+  pub all_set : {h : Heap} {vs : List Value} {ts : List Ty} (i : ℕ) (t : Ty) (w : Value) → HoldAll h vs ts → slice_get ts i ≡ Some t
+      → Holds P h w (a_value t) → HoldAll h (slice_set vs i w) ts
   all_set i t w hold_none e hw = hold_none
   all_set {h = h} zero t w (hold_more hv rest) e hw = hold_more (subst (λ z. Holds P h w (a_value z)) (sym (same_Some _ _ e)) hw) rest
   all_set (suc i) t w (hold_more hv rest) e hw = hold_more hv (all_set i t w rest e hw)
@@ -117,31 +120,40 @@ module _ (P : Plain) where
   module _ (L : Lang) (tl : TypedLang P L) where
     arguments_held : {h : Heap} {vs : List Value} {ts : List Ty} → FitAll h vs ts → (ws : List Value) × (arguments ts vs ≡ Some ws) × HoldAll h ws ts
     arguments_held fit_none = ([], refl, hold_none)
-    arguments_held (fit_more {v = v} {t = t} hv p rest) = let r = arguments_held rest in (convert t v ∷ r.0, ap (and_argument (convert t v)) r.1, hold_more (flows P tl.below_all t hv p) r.2)
+    arguments_held (fit_more {v = v} {t = t} hv p rest) =
+        let r = arguments_held rest in (convert t v ∷ r.0, ap (and_argument (convert t v)) r.1, hold_more (flows P tl.below_all t hv p) r.2)
 
     abbrev pub KF : Env → Heap → ToFlow → Type 0
     KF g h k = (w : Flow) (f : Frame) (s : State) → From P L tl h s → f.env ≡ g → FrameIn (heap_of s) f → FlowOk g (heap_of s) w → Sound (k w f s)
 
     -- what runs typed statements soundly
     pub record LaterOk (later : Later) : Type 0 where
-      pub runs : (g : Env) (xs : Sts) → TypedSts P g xs → StandsSts P g xs → (f : Frame) (s : State) (k : ToFlow) → Good P L tl s → f.env ≡ g → FrameIn (heap_of s) f → KF g (heap_of s) k → Sound (later xs f s k)
+      pub runs : (g : Env) (xs : Sts) → TypedSts P g xs → StandsSts P g xs → (f : Frame) (s : State) (k : ToFlow) → Good P L tl s → f.env ≡ g
+          → FrameIn (heap_of s) f → KF g (heap_of s) k → Sound (later xs f s k)
 
     abbrev V : Heap → Static → ToValue → Type 0
     V h t k = KV P L tl h t k
 
-    string_call_sound : (m : StringMethod) (u : List ℕ) (vs : List Value) (s : State) (k : ToValue) → Good P L tl s → FitAll (heap_of s) vs (string_params m) → V (heap_of s) (a_value (string_result m)) k → Sound (string_call m u vs s k)
+    string_call_sound : (m : StringMethod) (u : List ℕ) (vs : List Value) (s : State) (k : ToValue) → Good P L tl s
+        → FitAll (heap_of s) vs (string_params m) → V (heap_of s) (a_value (string_result m)) k → Sound (string_call m u vs s k)
     string_call_sound LengthOf u vs s k ok fit_none h = here P L tl (Number (int_of (length u))) s k ok holds_number h
     string_call_sound CharAt u vs s k ok (fit_more {v = v} hv p fit_none) h =
         let n = number_held P (flows P tl.below_all (plain_type Int) hv p) refl in
-        some_sound (number_of v) n.0 s _ (sym (number_converted v) ∙ n.1) (fault_sound fault.Bounds (option_and_then (λ n. slice_get u n) (natural_of n.0)) s _ (λ c e. here P L tl (CodeUnit c) s k ok holds_unit h))
-    string_call_sound Equals u vs s k ok (fit_more {v = v} hv p fit_none) h = go v (text_held P (subst (λ z. Holds P (heap_of s) z (a_value (plain_type Str))) (string_converted v) (flows P tl.below_all (plain_type Str) hv p)) refl)
+        some_sound (number_of v) n.0 s _ (sym (number_converted v)
+            ∙ n.1) (fault_sound fault.Bounds (option_and_then (λ n. slice_get u n) (natural_of n.0)) s _
+            (λ c e. here P L tl (CodeUnit c) s k ok holds_unit h))
+    string_call_sound Equals u vs s k ok (fit_more {v = v} hv p fit_none) h =
+        go v (text_held P (subst (λ z. Holds P (heap_of s) z (a_value (plain_type Str))) (string_converted v)
+        (flows P tl.below_all (plain_type Str) hv p)) refl)
       where
         go : (v : Value) → IsText P (heap_of s) v → Sound (string_call Equals u (v ∷ []) s k)
         go v text_null = here P L tl (Truth false) s k ok holds_truth h
-        go v (text_there {a = a} {u = w} e) = some_sound (equals_value s.strings u (Text a)) (bytes_eq u w) s _ (ap (λ z. option_map (λ y. bytes_eq u y) z) e) (here P L tl (Truth (bytes_eq u w)) s k ok holds_truth h)
+        go v (text_there {a = a} {u = w} e) = some_sound (equals_value s.strings u (Text a)) (bytes_eq u w) s _
+            (ap (λ z. option_map (λ y. bytes_eq u y) z) e) (here P L tl (Truth (bytes_eq u w)) s k ok holds_truth h)
 
     module _ (later : Later) (next : LaterOk later) where
-      pub enter_sound : (b : Body) (sig : Signature) (v : Value) (vs : List Value) (s : State) (k : ToValue) → Good P L tl s → TypedBody P b sig → Holds P (heap_of s) v (a_value (class_type b.env.self)) → FitAll (heap_of s) vs sig.params
+      pub enter_sound : (b : Body) (sig : Signature) (v : Value) (vs : List Value) (s : State) (k : ToValue) → Good P L tl s → TypedBody P b sig
+          → Holds P (heap_of s) v (a_value (class_type b.env.self)) → FitAll (heap_of s) vs sig.params
           → V (heap_of s) (or_nothing sig.result) k → Sound (enter L later b v vs s k)
       enter_sound b sig v vs s k ok tb hv fit h =
           let ws = arguments_held (subst (λ z. FitAll (heap_of s) vs z) (sym tb.params) fit) in
@@ -152,28 +164,38 @@ module _ (P : Plain) where
         where
           frame : (h : Heap) (ws : List Value) → HoldAll h ws b.params → HoldAll h (ws ++ b.rest) b.env.locals
           frame h ws p = subst (λ z. HoldAll h (ws ++ b.rest) z) (sym tb.locals)
-              (subst (λ z. HoldAll h (ws ++ z) (sig.params ++ tb.rest)) (sym tb.defaults) (all_joined (subst (λ z. HoldAll h ws z) tb.params p) (all_defaults h tb.rest)))
+              (subst (λ z. HoldAll h (ws ++ z) (sig.params ++ tb.rest)) (sym tb.defaults) (all_joined (subst (λ z. HoldAll h ws z) tb.params p)
+                  (all_defaults h tb.rest)))
 
       -- the value of a call is looked at, and goes on
       after_call : {t : Static} (b : ℕ) (d : Ex) (s : State) (k : ToValue) → V (heap_of s) t k → V (heap_of s) t (λ u s4. look L (held b d) u s4 (λ s5. k u s5))
-      after_call b d s k h u s4 r4 hu = look_sound P L tl (held b d) u s4 _ r4.ok (λ s5 r5. h u s5 (from_on P L tl (heap_of s) s4 s5 r4 r5) (grown P r5.grows hu))
+      after_call b d s k h u s4 r4 hu =
+          look_sound P L tl (held b d) u s4 _ r4.ok (λ s5 r5. h u s5 (from_on P L tl (heap_of s) s4 s5 r4 r5) (grown P r5.grows hu))
 
       earlier : {t : Static} (s s1 : State) (k : ToValue) → From P L tl (heap_of s) s1 → V (heap_of s) t k → V (heap_of s1) t k
       earlier s s1 k r h u s2 r2 hu = h u s2 (from_on P L tl (heap_of s) s1 s2 r r2) hu
 
-      class_self : (h : Heap) (a : ℕ) (c : Cell) (d e : ℕ) → slice_get h.cells a ≡ Some c → c.kind ≡ an_object d → below P d e ≡ true → Holds P h (Object a) (a_value (class_type e))
-      class_self h a c d e there kd bel = holds_object there refl (ap (λ z. is_subtype P (own_type z) (class_type e)) kd ∙ of_parts P (class_type d) (class_type e) refl bel)
+      class_self : (h : Heap) (a : ℕ) (c : Cell) (d e : ℕ) → slice_get h.cells a ≡ Some c → c.kind ≡ an_object d → below P d e ≡ true
+          → Holds P h (Object a) (a_value (class_type e))
+      class_self h a c d e there kd bel = holds_object there refl (ap (λ z. is_subtype P (own_type z) (class_type e)) kd
+          ∙ of_parts P (class_type d) (class_type e) refl bel)
 
-      call_object_sound : (g : Env) (e d : Ex) (x : List ℕ) (a : ℕ) (c : Cell) (y j : ℕ) (sig : Signature) (vs : List Value) (s : State) (k : ToValue) → Good P L tl s → slice_get s.cells a ≡ Some c → c.kind ≡ an_object y
-          → L.slot g e x ≡ Some j → HasBody P (L.body y j) y sig → FitAll (heap_of s) vs sig.params → V (heap_of s) (or_nothing sig.result) k → Sound (call_object L later g e d x a c vs s k)
+      call_object_sound : (g : Env) (e d : Ex) (x : List ℕ) (a : ℕ) (c : Cell) (y j : ℕ) (sig : Signature) (vs : List Value) (s : State) (k : ToValue)
+          → Good P L tl s → slice_get s.cells a ≡ Some c → c.kind ≡ an_object y
+          → L.slot g e x ≡ Some j → HasBody P (L.body y j) y sig → FitAll (heap_of s) vs sig.params → V (heap_of s) (or_nothing sig.result) k
+              → Sound (call_object L later g e d x a c vs s k)
       call_object_sound g e d x a c y j sig vs s k ok there kd slot b fit h =
-          some_sound (own_class c.kind) y s _ (ap own_class kd) (step_sound P L tl s _ ok (λ s1 r1. some_sound (L.slot g e x) j s1 _ slot (some_sound (L.body y j) b.body s1 _ b.found_body
-          (look_sound P L tl (ran g.body d b.body.env.body) (Object a) s1 _ r1.ok (λ s2 r2. look_sound P L tl (self_of b.body.env.body) (Object a) s2 _ r2.ok (λ s3 r3.
+          some_sound (own_class c.kind) y s _ (ap own_class kd)
+              (step_sound P L tl s _ ok (λ s1 r1. some_sound (L.slot g e x) j s1 _ slot (some_sound (L.body y j) b.body s1 _ b.found_body
+          (look_sound P L tl (ran g.body d b.body.env.body) (Object a) s1 _ r1.ok (λ s2 r2. look_sound P L tl (self_of b.body.env.body) (Object a) s2
+              _ r2.ok (λ s3 r3.
           let all = from_on P L tl (heap_of s) s2 s3 (from_on P L tl (heap_of s) s1 s2 r1 r2) r3 in
-          enter_sound b.body sig (Object a) vs s3 _ r3.ok b.typed (grown P all.grows (class_self (heap_of s) a c y b.body.env.self there kd b.above)) (fit_grown all.grows fit)
+          enter_sound b.body sig (Object a) vs s3 _ r3.ok b.typed (grown P all.grows (class_self (heap_of s) a c y b.body.env.self there kd b.above))
+              (fit_grown all.grows fit)
           (after_call g.body d s3 k (earlier s s3 k all h))))))))
 
-      call_cells : {t : Static} (g : Env) (e d : Ex) (x : List ℕ) (v : Value) (vs : List Value) (c : ℕ) (s : State) (k : ToValue) → Holds P (heap_of s) v t → class_of t ≡ Some c
+      call_cells : {t : Static} (g : Env) (e d : Ex) (x : List ℕ) (v : Value) (vs : List Value) (c : ℕ) (s : State) (k : ToValue)
+          → Holds P (heap_of s) v t → class_of t ≡ Some c
           → Sound (with_cell v s (λ a o. call_object L later g e d x a o vs s k)) → Sound (call_on L later g e d x v vs s k)
       call_cells g e d x v vs c s k holds_number p h = absurd (cc)
       call_cells g e d x v vs c s k holds_truth p h = absurd (cc)
@@ -184,39 +206,54 @@ module _ (P : Plain) where
       call_cells g e d x v vs c s k holds_nothing p h = absurd (cc)
       call_cells g e d x v vs c s k holds_any p h = absurd (cc)
 
-      object_parts : (o : Option ℕ) (x : List ℕ) (sig : Signature) → object_signature P o x ≡ Some sig → (c : ℕ) × (o ≡ Some c) × ((j : ℕ) × (slot_of P c x ≡ Some j) × (signature_of_slot P j ≡ Some sig))
+      object_parts : (o : Option ℕ) (x : List ℕ) (sig : Signature) → object_signature P o x ≡ Some sig → (c : ℕ) × (o ≡ Some c)
+          × ((j : ℕ) × (slot_of P c x ≡ Some j) × (signature_of_slot P j ≡ Some sig))
       object_parts None x sig e = absurd (cc)
       object_parts (Some c) x sig e = (c, refl, then_some (signature_of_slot P) (slot_of P c x) sig e)
 
-      pub call_sound : (g : Env) (e d : Ex) (x : List ℕ) (v : Value) (vs : List Value) (sig : Signature) (s : State) (k : ToValue) → Good P L tl s → Holds P (heap_of s) v (static P g e) → call_signature P (static P g e) x ≡ Some sig
+      pub call_sound : (g : Env) (e d : Ex) (x : List ℕ) (v : Value) (vs : List Value) (sig : Signature) (s : State) (k : ToValue) → Good P L tl s
+          → Holds P (heap_of s) v (static P g e) → call_signature P (static P g e) x ≡ Some sig
           → FitAll (heap_of s) vs sig.params → V (heap_of s) (or_nothing sig.result) k → Sound (call_on L later g e d x v vs s k)
       unfolding call_signature
       call_sound g e d x v vs sig s k ok hv p fit h = go (is_string (static P g e)) refl p
         where
-          text : (v : Value) → IsText P (heap_of s) v → (m : StringMethod) → text_method (L.slot g e x) x ≡ Some m → signature_of_string m ≡ sig → Sound (call_on L later g e d x v vs s k)
+          text : (v : Value) → IsText P (heap_of s) v → (m : StringMethod) → text_method (L.slot g e x) x ≡ Some m → signature_of_string m ≡ sig
+              → Sound (call_on L later g e d x v vs s k)
           text v text_null m y z = sound_stop (Faulted fault.Null) s tt
           text v (text_there {a = a} {u = u} there) m y z =
-              some_sound (slice_get s.strings a) u s _ there (some_sound (text_method (L.slot g e x) x) m s _ y (string_call_sound m u vs s k ok (subst (λ q. FitAll (heap_of s) vs q.params) (sym z) fit) (subst (λ q. V (heap_of s) (or_nothing q.result) k) (sym z) h)))
+              some_sound (slice_get s.strings a) u s _ there (some_sound (text_method (L.slot g e x) x) m s _ y
+                  (string_call_sound m u vs s k ok (subst (λ q. FitAll (heap_of s) vs q.params) (sym z) fit)
+                  (subst (λ q. V (heap_of s) (or_nothing q.result) k) (sym z) h)))
 
-          go : (b : Bool) → is_string (static P g e) ≡ b → (if b then option_map signature_of_string (string_method x) else object_signature P (class_of (static P g e)) x) ≡ Some sig → Sound (call_on L later g e d x v vs s k)
-          go true is_text q = let m = mapped_some signature_of_string (string_method x) sig q in text v (text_held P hv is_text) m.0 (ap (λ z. text_method z x) (tl.no_slot g e x (string_class (static P g e) is_text)) ∙ m.1) m.2
+          go : (b : Bool) → is_string (static P g e) ≡ b
+              → (if b then option_map signature_of_string (string_method x) else object_signature P (class_of (static P g e)) x) ≡ Some sig
+              → Sound (call_on L later g e d x v vs s k)
+          go true is_text q = let m = mapped_some signature_of_string (string_method x) sig q in text v (text_held P hv is_text) m.0
+              (ap (λ z. text_method z x) (tl.no_slot g e x (string_class (static P g e) is_text)) ∙ m.1) m.2
           go false other q = let c = object_parts (class_of (static P g e)) x sig q in
               call_cells g e d x v vs c.0 s k hv c.1 (class_sound P L tl s c.0 _ ok hv c.1 (λ a o y at kd bel oo ho.
-              call_object_sound g e d x a o y c.2.0 sig vs s k ok at kd (tl.slot g e x c.0 c.2.0 c.1 c.2.1) (tl.bodies y c.0 c.2.0 x sig oo.made bel c.2.1 c.2.2) fit h))
+              call_object_sound g e d x a o y c.2.0 sig vs s k ok at kd (tl.slot g e x c.0 c.2.0 c.1 c.2.1)
+                  (tl.bodies y c.0 c.2.0 x sig oo.made bel c.2.1 c.2.2) fit h))
 
-      pub call_static_sound : (g : Env) (d : Ex) (m : ℕ) (vs : List Value) (sig : Signature) (s : State) (k : ToValue) → Good P L tl s → has_body P m ≡ true → signature_of_method P m ≡ Some sig → FitAll (heap_of s) vs sig.params
+      pub call_static_sound : (g : Env) (d : Ex) (m : ℕ) (vs : List Value) (sig : Signature) (s : State) (k : ToValue) → Good P L tl s
+          → has_body P m ≡ true → signature_of_method P m ≡ Some sig → FitAll (heap_of s) vs sig.params
           → V (heap_of s) (or_nothing sig.result) k → Sound (call_static L later g d m vs s k)
       call_static_sound g d m vs sig s k ok body p fit h =
           let b = tl.static_bodies m sig body p in
           step_sound P L tl s _ ok (λ s1 r1. some_sound (L.static_body m) b.body s1 _ b.found_body
           (enter_sound b.body sig Nothing vs s1 _ r1.ok b.typed (holds_null refl) (fit_grown r1.grows fit) (after_call g.body d s1 k (earlier s s1 k r1 h))))
 
-      pub call_super_sound : (g : Env) (d : Ex) (m : ℕ) (x : List ℕ) (v : Value) (vs : List Value) (sig : Signature) (s : State) (k : ToValue) → Good P L tl s → Holds P (heap_of s) v (a_value (class_type g.self)) → super_method P g.self x ≡ Some m
-          → has_body P m ≡ true → super_signature P g.self x ≡ Some sig → FitAll (heap_of s) vs sig.params → V (heap_of s) (or_nothing sig.result) k → Sound (call_super L later g d x v vs s k)
+      pub call_super_sound : (g : Env) (d : Ex) (m : ℕ) (x : List ℕ) (v : Value) (vs : List Value) (sig : Signature) (s : State) (k : ToValue)
+          → Good P L tl s → Holds P (heap_of s) v (a_value (class_type g.self)) → super_method P g.self x ≡ Some m
+          → has_body P m ≡ true → super_signature P g.self x ≡ Some sig → FitAll (heap_of s) vs sig.params → V (heap_of s) (or_nothing sig.result) k
+              → Sound (call_super L later g d x v vs s k)
       unfolding super_signature
       call_super_sound g d m x v vs sig s k ok hv there body p fit h =
           let b = tl.super_bodies g.self m x sig there body (ap (option_and_then (signature_of_method P)) (sym there) ∙ p) in
-          step_sound P L tl s _ ok (λ s1 r1. some_sound (L.super_body g.self x) b.body s1 _ b.found_body (look_sound P L tl (self_of b.body.env.body) v s1 _ r1.ok (λ s2 r2.
+          step_sound P L tl s _ ok (λ s1 r1. some_sound (L.super_body g.self x) b.body s1 _ b.found_body
+              (look_sound P L tl (self_of b.body.env.body) v s1 _ r1.ok (λ s2 r2.
           let all = from_on P L tl (heap_of s) s1 s2 r1 r2 in
-          enter_sound b.body sig v vs s2 _ r2.ok b.typed (grown P all.grows (sub_held P tl.below_all (class_type b.body.env.self) hv (of_parts P (class_type g.self) (class_type b.body.env.self) refl b.above))) (fit_grown all.grows fit)
+          enter_sound b.body sig v vs s2 _ r2.ok b.typed
+              (grown P all.grows (sub_held P tl.below_all (class_type b.body.env.self) hv (of_parts P (class_type g.self) (class_type b.body.env.self)
+              refl b.above))) (fit_grown all.grows fit)
           (after_call g.body d s2 k (earlier s s2 k all h)))))

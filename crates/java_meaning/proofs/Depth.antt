@@ -38,26 +38,33 @@ pub step_alike : (m : ℕ) (s : State) (g h : State → Outcome) → s.left ≤ 
 step_alike m s g h le e = step_like Same same_end same_spent m s g h le e
 
 module _ (L : Lang) (b c : Later) where
-  pub value_alike : (e : Ex) (m : ℕ) → LaterAlike m b c → (f : Frame) (s : State) (k k' : ToValue) → s.left ≤ m → AlikeV m k k' → value L b e f s k ≡ value L c e f s k'
+  pub value_alike : (e : Ex) (m : ℕ) → LaterAlike m b c → (f : Frame) (s : State) (k k' : ToValue) → s.left ≤ m → AlikeV m k k'
+      → value L b e f s k ≡ value L c e f s k'
   value_alike e m l f s k k' le h = value_like Same same_end same_spent L b c e m l f s k k' le h
 
-  pub values_alike : (es : Exs) (m : ℕ) → LaterAlike m b c → (f : Frame) (s : State) (k k' : List Value → State → Outcome) → s.left ≤ m → AlikeL m k k' → values L b es f s k ≡ values L c es f s k'
+  pub values_alike : (es : Exs) (m : ℕ) → LaterAlike m b c → (f : Frame) (s : State) (k k' : List Value → State → Outcome) → s.left ≤ m
+      → AlikeL m k k' → values L b es f s k ≡ values L c es f s k'
   values_alike es m l f s k k' le h = values_like Same same_end same_spent L b c es m l f s k k' le h
 
-  pub test_alike : (e : Option Ex) (m : ℕ) → LaterAlike m b c → (f : Frame) (s : State) (g h g' h' : State → Outcome) → s.left ≤ m → AlikeS m g g' → AlikeS m h h' → run_test L b e f s g h ≡ run_test L c e f s g' h'
+  pub test_alike : (e : Option Ex) (m : ℕ) → LaterAlike m b c → (f : Frame) (s : State) (g h g' h' : State → Outcome) → s.left ≤ m → AlikeS m g g'
+      → AlikeS m h h' → run_test L b e f s g h ≡ run_test L c e f s g' h'
   test_alike e m l f s g h g' h' le p q = test_like Same same_end same_spent L b c e m l f s g h g' h' le p q
 
-  pub one_alike : (x : St) (m : ℕ) → LaterAlike m b c → (f : Frame) (s : State) (k k' : ToFlow) → s.left ≤ m → AlikeF m k k' → run_one L b x f s k ≡ run_one L c x f s k'
+  pub one_alike : (x : St) (m : ℕ) → LaterAlike m b c → (f : Frame) (s : State) (k k' : ToFlow) → s.left ≤ m → AlikeF m k k'
+      → run_one L b x f s k ≡ run_one L c x f s k'
   one_alike x m l f s k k' le h = one_like Same same_end same_spent L b c x m l f s k k' le h
 
-  pub all_alike : (xs : Sts) (m : ℕ) → LaterAlike m b c → (f : Frame) (s : State) (k k' : ToFlow) → s.left ≤ m → AlikeF m k k' → run_all L b xs f s k ≡ run_all L c xs f s k'
+  pub all_alike : (xs : Sts) (m : ℕ) → LaterAlike m b c → (f : Frame) (s : State) (k k' : ToFlow) → s.left ≤ m → AlikeF m k k'
+      → run_all L b xs f s k ≡ run_all L c xs f s k'
   all_alike xs m l f s k k' le h = all_like Same same_end same_spent L b c xs m l f s k k' le h
 
-  pub arms_alike : (xs : Arms) (m : ℕ) → LaterAlike m b c → (f : Frame) (s : State) (k k' : ToFlow) → s.left ≤ m → AlikeF m k k' → run_arms L b xs f s k ≡ run_arms L c xs f s k'
+  pub arms_alike : (xs : Arms) (m : ℕ) → LaterAlike m b c → (f : Frame) (s : State) (k k' : ToFlow) → s.left ≤ m → AlikeF m k k'
+      → run_arms L b xs f s k ≡ run_arms L c xs f s k'
   arms_alike xs m l f s k k' le h = arms_like Same same_end same_spent L b c xs m l f s k k' le h
 
 -- two depths above the steps left give the same
-pub depth_alike : (L : Lang) (d e m : ℕ) → m < d → m < e → (xs : Sts) (f : Frame) (s : State) (k k' : ToFlow) → s.left ≤ m → AlikeF m k k' → meaning L d xs f s k ≡ meaning L e xs f s k'
+pub depth_alike : (L : Lang) (d e m : ℕ) → m < d → m < e → (xs : Sts) (f : Frame) (s : State) (k k' : ToFlow) → s.left ≤ m → AlikeF m k k'
+    → meaning L d xs f s k ≡ meaning L e xs f s k'
 depth_alike L d e m ld le xs f s k k' ls h = depth_like Same same_end same_spent L d e m ld le xs f s k k' ls h
 
 -- the meaning at a depth is like itself

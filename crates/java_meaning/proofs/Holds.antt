@@ -69,7 +69,8 @@ apart : (b : TyBase) (t : Ty) (test : Ty → Bool) → is_class b ≡ false → 
 apart b t test c f p q = false≢true (sym f ∙ ap test (only_type b t c p) ∙ q)
 
 numeric_apart : (t : Ty) (test : Ty → Bool) → test (plain_type Int) ≡ false → test (plain_type Char) ≡ false → is_numeric (a_value t) ≡ true → test t ≡ true → ⊥
-numeric_apart t test e d p q = ⊎_elim (λ h. apart Int t test refl e h q) (λ h. apart Char t test refl d h q) (or_cases (is_only Int (a_value t)) (is_only Char (a_value t)) p)
+numeric_apart t test e d p q = ⊎_elim (λ h. apart Int t test refl e h q) (λ h. apart Char t test refl d h q)
+    (or_cases (is_only Int (a_value t)) (is_only Char (a_value t)) p)
 
 pub object_reference : (t : Ty) → is_object t ≡ true → is_reference t ≡ true
 object_reference t e = rw e refl
@@ -82,7 +83,8 @@ module _ (P : Plain) where
     holds_unit : {c : ℕ} → Holds h (CodeUnit c) (a_value (plain_type Char))
     holds_text : {a : ℕ} {u : List ℕ} → slice_get h.strings a ≡ Some u → Holds h (Text a) (a_value (plain_type Str))
     holds_null : {t : Ty} → is_reference t ≡ true → Holds h Nothing (a_value t)
-    holds_object : {a : ℕ} {t : Ty} {c : Cell} → slice_get h.cells a ≡ Some c → is_object t ≡ true → is_subtype P (own_type c.kind) t ≡ true → Holds h (Object a) (a_value t)
+    holds_object : {a : ℕ} {t : Ty} {c : Cell} → slice_get h.cells a ≡ Some c → is_object t ≡ true → is_subtype P (own_type c.kind) t ≡ true
+        → Holds h (Object a) (a_value t)
     holds_nothing : Holds h Nothing null_value
     holds_any : {v : Value} → Holds h v no_value
 
@@ -149,7 +151,8 @@ module _ (P : Plain) where
   printable_apart : (t : Ty) → is_printable (a_value t) ≡ true → is_object t ≡ true → ⊥
   printable_apart t p q =
       ⊎_elim (λ n. numeric_apart t is_object refl refl n q)
-      (λ o. ⊎_elim (λ b. apart Boolean t is_object refl refl b q) (λ u. apart Str t is_object refl refl u q) (or_cases (is_boolean (a_value t)) (is_string (a_value t)) o))
+      (λ o. ⊎_elim (λ b. apart Boolean t is_object refl refl b q) (λ u. apart Str t is_object refl refl u q)
+          (or_cases (is_boolean (a_value t)) (is_string (a_value t)) o))
       (or_cases (is_numeric (a_value t)) (is_boolean (a_value t) || is_string (a_value t)) p)
 
   pub units_held : {h : Heap} {v : Value} {s : Static} → Holds h v s → is_printable s ≡ true → (u : List ℕ) × (text_of h.strings v ≡ Some u)
@@ -203,22 +206,27 @@ module _ (P : Plain) where
   same_null ref_text = ((_, refl), (_, refl))
 
   -- what `==` compares is the same or not
-  pub comparable_held : {h : Heap} {v w : Value} (s t : Static) → Holds h v s → Holds h w t → are_comparable P s t ≡ true → (b : Bool) × (same_value v w ≡ Some b)
+  pub comparable_held : {h : Heap} {v w : Value} (s t : Static) → Holds h v s → Holds h w t → are_comparable P s t ≡ true → (b : Bool)
+      × (same_value v w ≡ Some b)
   comparable_held {v = v} {w = w} (a_value s) (a_value t) p q e =
       ⊎_elim (λ n. let d = both_hold (is_numeric (a_value s)) (is_numeric (a_value t)) n in numbers (number_held p d.0) (number_held q d.1))
       (λ o. ⊎_elim (λ b. let d = both_hold (is_boolean (a_value s)) (is_boolean (a_value t)) b in truths (truth_held p d.0) (truth_held q d.1))
-      (λ r. let d = both_hold (is_object s && is_object t) (is_subtype P s t || is_subtype P t s) r in let f = both_hold (is_object s) (is_object t) d.0 in same_objects (object_held p f.0) (object_held q f.1))
+      (λ r. let d = both_hold (is_object s && is_object t) (is_subtype P s t || is_subtype P t s) r in let f = both_hold (is_object s) (is_object t)
+          d.0 in same_objects (object_held p f.0) (object_held q f.1))
       (or_cases (is_boolean (a_value s) && is_boolean (a_value t)) ((is_object s && is_object t) && (is_subtype P s t || is_subtype P t s)) o))
-      (or_cases (is_numeric (a_value s) && is_numeric (a_value t)) ((is_boolean (a_value s) && is_boolean (a_value t)) || ((is_object s && is_object t) && (is_subtype P s t || is_subtype P t s))) e)
+      (or_cases (is_numeric (a_value s) && is_numeric (a_value t)) ((is_boolean (a_value s) && is_boolean (a_value t)) ||
+          ((is_object s && is_object t) && (is_subtype P s t || is_subtype P t s))) e)
     where
       numbers : ((m : ℤ) × (number_of v ≡ Some m)) → ((n : ℤ) × (number_of w ≡ Some n)) → (b : Bool) × (same_value v w ≡ Some b)
       numbers (m, a) (n, b) = (int_eq m n, rw (a, b) refl)
 
       truths : ((m : Bool) × (v ≡ Truth m)) → ((n : Bool) × (w ≡ Truth n)) → (b : Bool) × (same_value v w ≡ Some b)
       truths (m, a) (n, b) = (same_bool m n, rw (a, b) refl)
-  comparable_held {v = v} {w = w} (a_value s) null_value p q e = subst (λ z. (b : Bool) × (same_value v z ≡ Some b)) (sym (null_held q)) (same_null (reference_held p e)).0
+  comparable_held {v = v} {w = w} (a_value s) null_value p q e = subst (λ z. (b : Bool) × (same_value v z ≡ Some b)) (sym (null_held q))
+      (same_null (reference_held p e)).0
   comparable_held (a_value s) no_value p q e = absurd (false≢true e)
-  comparable_held {v = v} {w = w} null_value (a_value t) p q e = subst (λ z. (b : Bool) × (same_value z w ≡ Some b)) (sym (null_held p)) (same_null (reference_held q e)).1
+  comparable_held {v = v} {w = w} null_value (a_value t) p q e = subst (λ z. (b : Bool) × (same_value z w ≡ Some b)) (sym (null_held p))
+      (same_null (reference_held q e)).1
   comparable_held {v = v} {w = w} null_value null_value p q e = (true, rw (null_held p, null_held q) refl)
   comparable_held null_value no_value p q e = absurd (false≢true e)
   comparable_held no_value t p q e = absurd (false≢true e)
@@ -255,11 +263,13 @@ module _ (P : Plain) where
   of_parts s t e d = both (s.dim == t.dim) (is_sub_base P s.base t.base) (eq-eqb s.dim t.dim e) d
 
   pub sub_object : (s t : Ty) → is_subtype P s t ≡ true → is_object s ≡ true → is_object t ≡ true
-  sub_object s t p e = let q = sub_parts s t p in subst (λ z. not (z == 0) || is_class t.base ≡ true) q.0 (subst (λ z. not (s.dim == 0) || z ≡ true) (sub_class s.base t.base q.1) e)
+  sub_object s t p e = let q = sub_parts s t p in subst (λ z. not (z == 0) || is_class t.base ≡ true) q.0 (subst (λ z. not (s.dim == 0) || z ≡ true)
+      (sub_class s.base t.base q.1) e)
 
   pub sub_reference : (s t : Ty) → is_subtype P s t ≡ true → is_reference s ≡ true → is_reference t ≡ true
   sub_reference s t p e = let q = sub_parts s t p in
-      subst (λ z. (not (z == 0) || is_class t.base) || is_base t.base Str ≡ true) q.0 (subst (λ z. (not (s.dim == 0) || z) || is_base t.base Str ≡ true) (sub_class s.base t.base q.1)
+      subst (λ z. (not (z == 0) || is_class t.base) || is_base t.base Str ≡ true) q.0 (subst (λ z. (not (s.dim == 0) || z) || is_base t.base Str
+          ≡ true) (sub_class s.base t.base q.1)
       (subst (λ z. (not (s.dim == 0) || is_class s.base) || z ≡ true) (sub_string s.base t.base q.1) e))
 
   sub_flat : (b : TyBase) (t : Ty) → is_class b ≡ false → ((0 == t.dim) && is_base b t.base) ≡ true → plain_type b ≡ t
@@ -275,7 +285,8 @@ module _ (P : Plain) where
   -- and back: what is below a type without class is that type
   sub_reference_back : (s t : Ty) → is_subtype P s t ≡ true → is_reference t ≡ true → is_reference s ≡ true
   sub_reference_back s t p e = let q = sub_parts s t p in
-      subst (λ z. (not (z == 0) || is_class s.base) || is_base s.base Str ≡ true) (sym q.0) (subst (λ z. (not (t.dim == 0) || z) || is_base s.base Str ≡ true) (sym (sub_class s.base t.base q.1))
+      subst (λ z. (not (z == 0) || is_class s.base) || is_base s.base Str ≡ true) (sym q.0) (subst (λ z. (not (t.dim == 0) || z) || is_base s.base Str
+          ≡ true) (sym (sub_class s.base t.base q.1))
       (subst (λ z. (not (t.dim == 0) || is_class t.base) || z ≡ true) (sym (sub_string s.base t.base q.1)) e))
 
   sub_back : (s t : Ty) → is_subtype P s t ≡ true → is_class t.base ≡ false → s ≡ t
@@ -328,14 +339,18 @@ module _ (P : Plain) where
     -- a value that flows into what its type fits
     pub flows : {h : Heap} {v : Value} {s : Static} (t : Ty) → Holds h v s → fits P s t ≡ true → Holds h (convert t v) (a_value t)
     flows {h = h} t (holds_number {n = n}) p =
-        ⊎_elim (λ e. subst (λ u. Holds h (Number n) (a_value u)) (sub_flat Int t refl e) holds_number) (λ e. absurd (false≢true e)) (or_cases (is_subtype P (plain_type Int) t) false p)
+        ⊎_elim (λ e. subst (λ u. Holds h (Number n) (a_value u)) (sub_flat Int t refl e) holds_number) (λ e. absurd (false≢true e))
+            (or_cases (is_subtype P (plain_type Int) t) false p)
     flows {h = h} t (holds_truth {b = b}) p =
-        ⊎_elim (λ e. subst (λ u. Holds h (Truth b) (a_value u)) (sub_flat Boolean t refl e) holds_truth) (λ e. absurd (false≢true e)) (or_cases (is_subtype P (plain_type Boolean) t) false p)
+        ⊎_elim (λ e. subst (λ u. Holds h (Truth b) (a_value u)) (sub_flat Boolean t refl e) holds_truth) (λ e. absurd (false≢true e))
+            (or_cases (is_subtype P (plain_type Boolean) t) false p)
     flows t (holds_unit {c = c}) p = char_flows c t p
     flows {h = h} t (holds_text {a = a} there) p =
-        ⊎_elim (λ e. subst (λ u. Holds h (Text a) (a_value u)) (sub_flat Str t refl e) (holds_text there)) (λ e. absurd (false≢true e)) (or_cases (is_subtype P (plain_type Str) t) false p)
+        ⊎_elim (λ e. subst (λ u. Holds h (Text a) (a_value u)) (sub_flat Str t refl e) (holds_text there)) (λ e. absurd (false≢true e))
+            (or_cases (is_subtype P (plain_type Str) t) false p)
     flows t (holds_null {t = s} r) p =
-        ⊎_elim (λ e. holds_null (sub_reference s t e r)) (λ e. absurd (apart Char s is_reference refl refl (both_hold (is_only Char (a_value s)) (is_only Int (a_value t)) e).0 r))
+        ⊎_elim (λ e. holds_null (sub_reference s t e r))
+            (λ e. absurd (apart Char s is_reference refl refl (both_hold (is_only Char (a_value s)) (is_only Int (a_value t)) e).0 r))
         (or_cases (is_subtype P s t) (is_only Char (a_value s) && is_only Int (a_value t)) p)
     flows t (holds_object {t = s} {c = c} there r sub) p =
         ⊎_elim (λ e. holds_object there (sub_object s t e r) (sub_all (own_type c.kind) s t sub e))
@@ -353,7 +368,8 @@ module _ (P : Plain) where
     sub_held t (holds_null {t = s} r) e = holds_null (sub_reference s t e r)
     sub_held t (holds_object {t = s} {c = c} there r sub) e = holds_object there (sub_object s t e r) (sub_all (own_type c.kind) s t sub e)
 
-    flat_fits : (b : TyBase) (u : Ty) → is_class b ≡ false → fits P (a_value (plain_type b)) u ≡ true → is_sub_base P b u.base ≡ is_base b u.base → is_class u.base ≡ false
+    flat_fits : (b : TyBase) (u : Ty) → is_class b ≡ false → fits P (a_value (plain_type b)) u ≡ true → is_sub_base P b u.base ≡ is_base b u.base
+        → is_class u.base ≡ false
     flat_fits b u c p same =
         ⊎_elim (λ e. ap (λ z. is_class z.base) (sym (sub_flat b u c (ap (λ z. (0 == u.dim) && z) (sym same) ∙ e))) ∙ c)
         (λ e. ap (λ z. is_class z.base) (sym (only_type Int u refl (both_hold (is_only Char (a_value (plain_type b))) (is_only Int (a_value u)) e).1)))
@@ -368,13 +384,19 @@ module _ (P : Plain) where
     NoObject (Text a) = Unit {0}
     NoObject Nothing = Unit {0}
 
-    pub stored : {h : Heap} {w : Value} {s : Static} (e u : Ty) → Holds h w s → fits P s u ≡ true → is_subtype P e u ≡ true → NoObject w → Holds h (convert e w) (a_value e)
-    stored {h = h} {w = w} e u holds_number p q n = subst (λ z. Holds h (convert z w) (a_value z)) (sym (sub_back e u q (flat_fits Int u refl p refl))) (flows u holds_number p)
-    stored {h = h} {w = w} e u holds_truth p q n = subst (λ z. Holds h (convert z w) (a_value z)) (sym (sub_back e u q (flat_fits Boolean u refl p refl))) (flows u holds_truth p)
-    stored {h = h} {w = w} e u holds_unit p q n = subst (λ z. Holds h (convert z w) (a_value z)) (sym (sub_back e u q (flat_fits Char u refl p refl))) (flows u holds_unit p)
-    stored {h = h} {w = w} e u (holds_text x) p q n = subst (λ z. Holds h (convert z w) (a_value z)) (sym (sub_back e u q (flat_fits Str u refl p refl))) (flows u (holds_text x) p)
+    pub stored : {h : Heap} {w : Value} {s : Static} (e u : Ty) → Holds h w s → fits P s u ≡ true → is_subtype P e u ≡ true → NoObject w
+        → Holds h (convert e w) (a_value e)
+    stored {h = h} {w = w} e u holds_number p q n =
+        subst (λ z. Holds h (convert z w) (a_value z)) (sym (sub_back e u q (flat_fits Int u refl p refl))) (flows u holds_number p)
+    stored {h = h} {w = w} e u holds_truth p q n =
+        subst (λ z. Holds h (convert z w) (a_value z)) (sym (sub_back e u q (flat_fits Boolean u refl p refl))) (flows u holds_truth p)
+    stored {h = h} {w = w} e u holds_unit p q n = subst (λ z. Holds h (convert z w) (a_value z)) (sym (sub_back e u q (flat_fits Char u refl p refl)))
+        (flows u holds_unit p)
+    stored {h = h} {w = w} e u (holds_text x) p q n =
+        subst (λ z. Holds h (convert z w) (a_value z)) (sym (sub_back e u q (flat_fits Str u refl p refl))) (flows u (holds_text x) p)
     stored e u (holds_null {t = s} r) p q n =
-        ⊎_elim (λ d. holds_null (sub_reference_back e u q (sub_reference s u d r))) (λ d. absurd (apart Char s is_reference refl refl (both_hold (is_only Char (a_value s)) (is_only Int (a_value u)) d).0 r))
+        ⊎_elim (λ d. holds_null (sub_reference_back e u q (sub_reference s u d r)))
+            (λ d. absurd (apart Char s is_reference refl refl (both_hold (is_only Char (a_value s)) (is_only Int (a_value u)) d).0 r))
         (or_cases (is_subtype P s u) (is_only Char (a_value s) && is_only Int (a_value u)) p)
     stored e u (holds_object there r sub) p q n = absurd n
     stored e u holds_nothing p q n = holds_null (sub_reference_back e u q p)

@@ -38,27 +38,32 @@ in_cases (x ∷ xs) ys a zero e = inl (zero, e)
 in_cases (x ∷ xs) ys a (suc i) e = ⊎_elim (λ h. inl (suc h.0, h.1)) (λ h. inr h) (in_cases xs ys a i e)
 
 -- the fields that a class itself declares
-own_listed : (c n : ℕ) (fs : List PlainField) (i : ℕ) (f : PlainField) → slice_get fs i ≡ Some f → f.owner ≡ c → f.is_static ≡ false → IsIn (own_fields_from c n fs) (n + i)
+own_listed : (c n : ℕ) (fs : List PlainField) (i : ℕ) (f : PlainField) → slice_get fs i ≡ Some f → f.owner ≡ c → f.is_static ≡ false
+    → IsIn (own_fields_from c n fs) (n + i)
 own_listed c n [] i f e o s = absurd (cc)
 own_listed c n (x ∷ fs) zero f e o s =
     let same : x ≡ f = same_Some _ _ e in
     let passes : (x.owner == c) && not x.is_static ≡ true = rw (same, eq-eqb f.owner c o, s) refl in
-    subst (λ z. IsIn (own_fields_from c n (x ∷ fs)) z) (let z : n ≡ n + 0 = omega arith in z) (subst (λ z. IsIn ((if z then n ∷ [] else []) ++ own_fields_from c (suc n) fs) n) (sym passes) (zero, refl))
+    subst (λ z. IsIn (own_fields_from c n (x ∷ fs)) z) (let z : n ≡ n + 0 = omega arith in z)
+        (subst (λ z. IsIn ((if z then n ∷ [] else []) ++ own_fields_from c (suc n) fs) n) (sym passes) (zero, refl))
 own_listed c n (x ∷ fs) (suc i) f e o s =
     subst (λ z. IsIn (own_fields_from c n (x ∷ fs)) z) (let z : suc n + i ≡ n + suc i = omega arith in z)
     (in_right (if (x.owner == c) && not x.is_static then n ∷ [] else []) (own_fields_from c (suc n) fs) (suc n + i) (own_listed c (suc n) fs i f e o s))
 
 -- and each of them is a field
-own_field_there : (c n : ℕ) (fs : List PlainField) (a i : ℕ) → slice_get (own_fields_from c n fs) i ≡ Some a → (j : ℕ) × (f : PlainField) × (a ≡ n + j) × (slice_get fs j ≡ Some f)
+own_field_there : (c n : ℕ) (fs : List PlainField) (a i : ℕ) → slice_get (own_fields_from c n fs) i ≡ Some a → (j : ℕ) × (f : PlainField)
+    × (a ≡ n + j) × (slice_get fs j ≡ Some f)
 own_field_there c n [] a i e = absurd (cc)
-own_field_there c n (x ∷ fs) a i e = ⊎_elim (λ h. first ((x.owner == c) && not x.is_static) h.0 h.1) (λ h. later (own_field_there c (suc n) fs a) h) (in_cases (if (x.owner == c) && not x.is_static then n ∷ [] else []) (own_fields_from c (suc n) fs) a i e)
+own_field_there c n (x ∷ fs) a i e = ⊎_elim (λ h. first ((x.owner == c) && not x.is_static) h.0 h.1) (λ h. later (own_field_there c (suc n) fs a) h)
+    (in_cases (if (x.owner == c) && not x.is_static then n ∷ [] else []) (own_fields_from c (suc n) fs) a i e)
   where
     first : (b : Bool) (i : ℕ) → slice_get (if b then n ∷ [] else []) i ≡ Some a → (j : ℕ) × (f : PlainField) × (a ≡ n + j) × (slice_get (x ∷ fs) j ≡ Some f)
     first true zero e = let same : n ≡ a = same_Some _ _ e in (zero, x, omega (arith, same), refl)
     first true (suc i) e = absurd (cc)
     first false i e = absurd (cc)
 
-    later : ((i : ℕ) → slice_get (own_fields_from c (suc n) fs) i ≡ Some a → (j : ℕ) × (f : PlainField) × (a ≡ suc n + j) × (slice_get fs j ≡ Some f)) → IsIn (own_fields_from c (suc n) fs) a → (j : ℕ) × (f : PlainField) × (a ≡ n + j) × (slice_get (x ∷ fs) j ≡ Some f)
+    later : ((i : ℕ) → slice_get (own_fields_from c (suc n) fs) i ≡ Some a → (j : ℕ) × (f : PlainField) × (a ≡ suc n + j) × (slice_get fs j ≡ Some f))
+        → IsIn (own_fields_from c (suc n) fs) a → (j : ℕ) × (f : PlainField) × (a ≡ n + j) × (slice_get (x ∷ fs) j ≡ Some f)
     later rec h = let r = rec h.0 h.1 in let at : a ≡ suc n + r.0 = r.2 in (suc r.0, r.1, omega (arith, at), r.3)
 
 module _ (P : Plain) where
@@ -67,12 +72,15 @@ module _ (P : Plain) where
     where
       own : ((j : ℕ) × (f : PlainField) × (a ≡ 0 + j) × (slice_get P.fields j ≡ Some f)) → (f : PlainField) × (slice_get P.fields a ≡ Some f)
       own (j, f, at, e) = (f, ap (slice_get P.fields) (let z : a ≡ j = omega (arith, at) in z) ∙ e)
-  layout_there (suc n) c a i e = ⊎_elim (λ h. up (λ p. layout_there n p a) (parent_of P c) h.0 h.1) (λ h. own (own_field_there c 0 P.fields a h.0 h.1)) (in_cases (option_map_or (λ p. layout_in P n p.0) (parent_of P c) []) (own_fields P c) a i e)
+  layout_there (suc n) c a i e = ⊎_elim (λ h. up (λ p. layout_there n p a) (parent_of P c) h.0 h.1)
+      (λ h. own (own_field_there c 0 P.fields a h.0 h.1)) (in_cases (option_map_or (λ p. layout_in P n p.0) (parent_of P c) [])
+      (own_fields P c) a i e)
     where
       own : ((j : ℕ) × (f : PlainField) × (a ≡ 0 + j) × (slice_get P.fields j ≡ Some f)) → (f : PlainField) × (slice_get P.fields a ≡ Some f)
       own (j, f, at, e) = (f, ap (slice_get P.fields) (let z : a ≡ j = omega (arith, at) in z) ∙ e)
 
-      up : ((p i : ℕ) → slice_get (layout_in P n p) i ≡ Some a → (f : PlainField) × (slice_get P.fields a ≡ Some f)) → (o : Option ClassId) (i : ℕ) → slice_get (option_map_or (λ p. layout_in P n p.0) o []) i ≡ Some a → (f : PlainField) × (slice_get P.fields a ≡ Some f)
+      up : ((p i : ℕ) → slice_get (layout_in P n p) i ≡ Some a → (f : PlainField) × (slice_get P.fields a ≡ Some f)) → (o : Option ClassId) (i : ℕ)
+          → slice_get (option_map_or (λ p. layout_in P n p.0) o []) i ≡ Some a → (f : PlainField) × (slice_get P.fields a ≡ Some f)
       up rec None i e = absurd (cc)
       up rec (Some p) i e = rec p.0 i e
 
@@ -88,10 +96,12 @@ module _ (P : Plain) where
   fresh c f i e =
       let at = index_at c f i e in let k = layout_there (length P.classes) c f i at in
       let ty : field_type P f ≡ Some k.0.ty = ap (option_map (λ z. z.ty)) k.1 in
-      (k.0.ty, ty, slice_get-map (λ f. default_at P f) (layout P c) i ∙ ap (option_map (λ f. default_at P f)) at ∙ ap (λ z. Some (option_map_or default_of z Nothing)) ty)
+      (k.0.ty, ty, slice_get-map (λ f. default_at P f) (layout P c) i ∙ ap (option_map (λ f. default_at P f)) at
+          ∙ ap (λ z. Some (option_map_or default_of z Nothing)) ty)
 
   pub statics : (f : ℕ) (t : Ty) → field_type P f ≡ Some t → slice_get (map (λ f. default_of f.ty) P.fields) f ≡ Some (default_of t)
-  statics f t e = let k = mapped_some (λ k. k.ty) (slice_get P.fields f) t e in slice_get-map (λ f. default_of f.ty) P.fields f ∙ ap (option_map (λ f. default_of f.ty)) k.1 ∙ ap (λ z. Some (default_of z)) k.2
+  statics f t e = let k = mapped_some (λ k. k.ty) (slice_get P.fields f) t e in slice_get-map (λ f. default_of f.ty) P.fields f
+      ∙ ap (option_map (λ f. default_of f.ty)) k.1 ∙ ap (λ z. Some (default_of z)) k.2
 
   -- a class along the superclasses
   data IsChain : ℕ → ℕ → Type 0 where
@@ -148,13 +158,15 @@ module _ (P : Plain) where
     chain_of {c} o i (through {c = k} direct rest) =
         ⊎_elim (λ up. chain_up up (chain_of o i rest)) (λ f. absurd (⊎_elim o i (above_interface (face_interface c k f) rest))) (super_cases c k direct)
 
-    in_layout : (n : ℕ) (seen : List ℕ) {c h : ℕ} (f : ℕ) → IsChain c h → IsIn (own_fields P h) f → n + length seen ≡ length P.classes → ArePassed P seen c → IsIn (layout_in P n c) f
+    in_layout : (n : ℕ) (seen : List ℕ) {c h : ℕ} (f : ℕ) → IsChain c h → IsIn (own_fields P h) f → n + length seen ≡ length P.classes
+        → ArePassed P seen c → IsIn (layout_in P n c) f
     in_layout zero seen f chain_here there e k = there
     in_layout (suc n) seen {c} f chain_here there e k = in_right (option_map_or (λ p. layout_in P n p.0) (parent_of P c) []) (own_fields P c) f there
     in_layout zero seen {c} f (chain_up {p = p} up rest) there e k = absurd (one_left P formed.acyclic seen (parent-super P c p up) k e)
     in_layout (suc n) seen {c} f (chain_up {p = p} up rest) there e k =
         let r = in_layout n (c ∷ seen) f rest there (omega (arith, e)) (passed_more P formed.acyclic seen (parent-super P c p up) k) in
-        (r.0, in_left (option_map_or (λ p. layout_in P n p.0) (parent_of P c) []) (own_fields P c) f r.0 (subst (λ z. slice_get (option_map_or (λ p. layout_in P n p.0) z []) r.0 ≡ Some f) (sym up) r.1))
+        (r.0, in_left (option_map_or (λ p. layout_in P n p.0) (parent_of P c) []) (own_fields P c) f r.0
+            (subst (λ z. slice_get (option_map_or (λ p. layout_in P n p.0) z []) r.0 ≡ Some f) (sym up) r.1))
 
     instance_found : (f : ℕ) (o : Option ℕ) → when_instance P o ≡ Some f → (o ≡ Some f) × (is_static_field P f ≡ false)
     instance_found f None e = absurd (cc)
@@ -177,9 +189,11 @@ module _ (P : Plain) where
         let up = subclass-then P (below-subclass P c d bel) n.1 in
         let chain = chain_of (λ z. own.no_object (owner ∙ z)) (λ z. no_face (owner ∙ refl) own.holder own.stands own.class z) up in
         let listed = own_listed n.0 0 P.fields f k.0 k.1 owner static in
-        let there = in_layout (length P.classes) [] f chain (subst (λ z. IsIn (own_fields P n.0) z) (let z : 0 + f ≡ f = omega arith in z) listed) (omega arith) (none_passed P c) in
+        let there = in_layout (length P.classes) [] f chain (subst (λ z. IsIn (own_fields P n.0) z) (let z : 0 + f ≡ f = omega arith in z) listed)
+            (omega arith) (none_passed P c) in
         let p = passes-position (λ g. g == f) (layout P c) there.0 f there.1 (eq-eqb f f refl) in
         ap is_some p.1
       where
         no_face : {a b : ℕ} → a ≡ b → (h : PlainClass) → slice_get P.classes a ≡ Some h → h.is_interface ≡ false → IsInterface b → ⊥
-        no_face e h at class i = false≢true (sym class ∙ ap (λ (z : PlainClass). z.is_interface) (same_Some _ _ (sym at ∙ ap (slice_get P.classes) e ∙ i.1)) ∙ i.2)
+        no_face e h at class i = false≢true (sym class
+            ∙ ap (λ (z : PlainClass). z.is_interface) (same_Some _ _ (sym at ∙ ap (slice_get P.classes) e ∙ i.1)) ∙ i.2)

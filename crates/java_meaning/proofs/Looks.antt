@@ -1,4 +1,5 @@
--- Each look of a watched run looks: of one program, at each of its looks, a watch that does not let the object pass there lets the run escape, and no other does.
+-- Each look of a watched run looks: of one program, at each of its looks, a watch that does not let the object pass there lets the run escape, and no
+-- other does.
 use Rattle.std.proofs.Common.{◌≡◌, ℕ, refl}
 use Rattle.std.specs.Prelude.{pos, ◌==◌, ◌&&◌, Bool, true, false, not, List, [], ◌∷◌, Option, Some, None, slice_get, codes}
 use Rattle.std.specs.Option.{option_map_or, option_and_then}
@@ -42,7 +43,8 @@ abbrev gives_super : PlainMethod
 gives_super = method 2 (codes "m") [] [] (Some a_class) (Some 0) (st_then (return tag (Some (super_call tag (codes "m") no_ex))) no_st)
 
 abbrev gives_same : PlainMethod
-gives_same = record (method 3 (codes "same") (variable (codes "x") a_class ∷ []) [] (Some a_class) None (st_then (return tag (Some (local tag 0))) no_st)) { is_static = true }
+gives_same = record (method 3 (codes "same") (variable (codes "x") a_class ∷ []) [] (Some a_class) None
+    (st_then (return tag (Some (local tag 0))) no_st)) { is_static = true }
 
 abbrev x : Ex
 x = local tag 1
@@ -72,11 +74,13 @@ abbrev looking : Plain
 looking =
     record {
       classes = object ∷ class (codes "A") (under 0) ∷ class (codes "B") (under 1) ∷ class (codes "Main") (under 0) ∷ [];
-      fields = record { owner = 1; name = codes "f"; is_static = false; ty = a_class; tag = tag } ∷ record { owner = 3; name = codes "s"; is_static = true; ty = a_class; tag = tag } ∷ [];
+      fields = record { owner = 1; name = codes "f"; is_static = false; ty = a_class; tag = tag }
+          ∷ record { owner = 3; name = codes "s"; is_static = true; ty = a_class; tag = tag } ∷ [];
       slots = record { name = codes "m"; params = []; result = Some a_class; first = 0 } ∷ [];
       main = 3;
       methods = gives_this ∷ gives_super ∷ gives_same
-          ∷ main_of 3 (variable (codes "x") a_class ∷ variable (codes "y") a_class ∷ variable (codes "a") (many 1) ∷ variable (codes "b") (plain_type Boolean) ∷ []) all_looks ∷ [];
+          ∷ main_of 3 (variable (codes "x") a_class ∷ variable (codes "y") a_class ∷ variable (codes "a") (many 1) ∷ variable (codes "b")
+              (plain_type Boolean) ∷ []) all_looks ∷ [];
     }
 
 abbrev code_of : ℕ → Option Sts

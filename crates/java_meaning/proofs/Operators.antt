@@ -67,23 +67,30 @@ module _ (P : Plain) (L : Lang) (tl : TypedLang P L) where
   truth : (b : Bool) (s : State) (k : ToValue) → Ok s → V (heap_of s) (a_value (plain_type Boolean)) k → Sound (k (Truth b) s)
   truth b s k ok h = here P L tl (Truth b) s k ok holds_truth h
 
-  pub after_left_sound : {t : Static} (u : Static) (o : BinOp) (v : Value) (s : State) (r : State → Outcome) (k : ToValue) → Ok s → Holds P (heap_of s) v t → takes_two P o t u ≡ true → KS P L tl (heap_of s) r
+  pub after_left_sound : {t : Static} (u : Static) (o : BinOp) (v : Value) (s : State) (r : State → Outcome) (k : ToValue) → Ok s
+      → Holds P (heap_of s) v t → takes_two P o t u ≡ true → KS P L tl (heap_of s) r
       → V (heap_of s) (a_value (binary_type o t u)) k → Sound (after_left o v s r k)
   after_left_sound {t = t} u bin.Both v s r k ok hv p g h =
-      let b = truth_held P hv (both_hold (is_boolean t) (is_boolean u) p).0 in test_sound P L tl v b.0 s r (λ s1. k (Truth false) s1) b.1 (g s (from_same P L tl s ok)) (truth false s k ok h)
+      let b = truth_held P hv (both_hold (is_boolean t) (is_boolean u) p).0 in test_sound P L tl v b.0 s r (λ s1. k (Truth false) s1) b.1
+          (g s (from_same P L tl s ok)) (truth false s k ok h)
   after_left_sound {t = t} u bin.Either v s r k ok hv p g h =
-      let b = truth_held P hv (both_hold (is_boolean t) (is_boolean u) p).0 in test_sound P L tl v b.0 s (λ s1. k (Truth true) s1) r b.1 (truth true s k ok h) (g s (from_same P L tl s ok))
+      let b = truth_held P hv (both_hold (is_boolean t) (is_boolean u) p).0 in test_sound P L tl v b.0 s (λ s1. k (Truth true) s1) r b.1
+          (truth true s k ok h) (g s (from_same P L tl s ok))
   after_left_sound u _ v s r k ok hv p g h = g s (from_same P L tl s ok)
 
-  join_sound : {t u : Static} (v w : Value) (s : State) (k : ToValue) → Ok s → Holds P (heap_of s) v t → Holds P (heap_of s) w u → is_printable t ≡ true → is_printable u ≡ true → V (heap_of s) (a_value (plain_type Str)) k → Sound (join_values v w s k)
+  join_sound : {t u : Static} (v w : Value) (s : State) (k : ToValue) → Ok s → Holds P (heap_of s) v t → Holds P (heap_of s) w u
+      → is_printable t ≡ true → is_printable u ≡ true → V (heap_of s) (a_value (plain_type Str)) k → Sound (join_values v w s k)
   join_sound v w s k ok hv hw p q h =
       let a = units_held P hv p in let b = units_held P hw q in
-      some_sound (text_of s.strings v) a.0 s _ a.1 (some_sound (text_of s.strings w) b.0 s _ b.1 (result_sound (join a.0 b.0) s _ (λ u. give_string_sound P L tl u s k ok h)))
+      some_sound (text_of s.strings v) a.0 s _ a.1 (some_sound (text_of s.strings w) b.0 s _ b.1
+          (result_sound (join a.0 b.0) s _ (λ u. give_string_sound P L tl u s k ok h)))
 
-  compute_numbers : (j : Bool) (x y : Option ℤ) (a b : ℤ) (v w : Value) (o : Op) (s : State) (k : ToValue) → Ok s → x ≡ Some a → y ≡ Some b → V (heap_of s) (a_value (plain_type Int)) k → Sound (compute j x y v w o s k)
+  compute_numbers : (j : Bool) (x y : Option ℤ) (a b : ℤ) (v w : Value) (o : Op) (s : State) (k : ToValue) → Ok s → x ≡ Some a → y ≡ Some b
+      → V (heap_of s) (a_value (plain_type Int)) k → Sound (compute j x y v w o s k)
   compute_numbers j x y a b v w o s k ok e d h = rw (e, d) (result_sound (op_arith o a b) s _ (λ n. here P L tl (Number n) s k ok holds_number h))
 
-  compute_join : (j : Bool) (x y : Option ℤ) (v w : Value) (o : Op) (s : State) (k : ToValue) → j ≡ true → (x ≡ None) ⊎ (y ≡ None) → Sound (join_values v w s k) → Sound (compute j x y v w o s k)
+  compute_join : (j : Bool) (x y : Option ℤ) (v w : Value) (o : Op) (s : State) (k : ToValue) → j ≡ true → (x ≡ None) ⊎ (y ≡ None)
+      → Sound (join_values v w s k) → Sound (compute j x y v w o s k)
   compute_join j None y v w o s k e d h = rw e h
   compute_join j (Some a) None v w o s k e d h = rw e h
   compute_join j (Some a) (Some b) v w o s k e d h = ⊎_elim (λ z. absurd (cc z)) (λ z. absurd (cc z)) d
@@ -92,9 +99,12 @@ module _ (P : Plain) (L : Lang) (tl : TypedLang P L) where
   no_number text_null = (refl, refl)
   no_number (text_there e) = (refl, refl)
 
-  arithmetic_sound : {t u : Static} (o : Op) (v w : Value) (s : State) (k : ToValue) → Ok s → Holds P (heap_of s) v t → Holds P (heap_of s) w u → takes_two P (bin.Int o) t u ≡ true
+  arithmetic_sound : {t u : Static} (o : Op) (v w : Value) (s : State) (k : ToValue) → Ok s → Holds P (heap_of s) v t → Holds P (heap_of s) w u
+      → takes_two P (bin.Int o) t u ≡ true
       → V (heap_of s) (a_value (binary_type (bin.Int o) t u)) k → Sound (operate (bin.Int o) v w s k)
-  arithmetic_sound {t = t} {u = u} o v w s k ok hv hw p h = ⊎_elim numbers (λ e. let q = both_hold (is_plus o) (joins t u) e in ⊎_elim (left q.0) (right q.0) (or_cases (is_string t && is_printable u) (is_printable t && is_string u) q.1))
+  arithmetic_sound {t = t} {u = u} o v w s k ok hv hw p h =
+      ⊎_elim numbers (λ e. let q = both_hold (is_plus o) (joins t u) e in ⊎_elim (left q.0) (right q.0) (or_cases (is_string t && is_printable u)
+      (is_printable t && is_string u) q.1))
       (or_cases (is_numeric t && is_numeric u) (is_plus o && joins t u) p)
     where
       flag : Bool
@@ -103,10 +113,12 @@ module _ (P : Plain) (L : Lang) (tl : TypedLang P L) where
       numbers : (is_numeric t && is_numeric u) ≡ true → Sound (operate (bin.Int o) v w s k)
       numbers e =
           let q = both_hold (is_numeric t) (is_numeric u) e in let a = number_held P hv q.0 in let b = number_held P hw q.1 in
-          let none : (is_plus o && (is_string t || is_string u)) ≡ false = and_false (is_plus o) (is_string t || is_string u) (rw (numeric_no_string t q.0, numeric_no_string u q.1) refl) in
+          let none : (is_plus o && (is_string t || is_string u)) ≡ false = and_false (is_plus o) (is_string t || is_string u)
+              (rw (numeric_no_string t q.0, numeric_no_string u q.1) refl) in
           compute_numbers flag (number_of v) (number_of w) a.0 b.0 v w o s k ok a.1 b.1 (subst (λ z. V (heap_of s) (a_value (sum_type z)) k) none h)
 
-      joined : is_plus o ≡ true → (is_string t || is_string u) ≡ true → (is_text v || is_text w) ≡ true → (number_of v ≡ None) ⊎ (number_of w ≡ None) → is_printable t ≡ true → is_printable u ≡ true → Sound (operate (bin.Int o) v w s k)
+      joined : is_plus o ≡ true → (is_string t || is_string u) ≡ true → (is_text v || is_text w) ≡ true → (number_of v ≡ None) ⊎ (number_of w ≡ None)
+          → is_printable t ≡ true → is_printable u ≡ true → Sound (operate (bin.Int o) v w s k)
       joined e d f g x y = compute_join flag (number_of v) (number_of w) v w o s k (rw (e, f) refl) g
           (join_sound v w s k ok hv hw x y (subst (λ z. V (heap_of s) (a_value (sum_type z)) k) (ap (λ z. z && (is_string t || is_string u)) e ∙ d) h))
 
@@ -118,19 +130,27 @@ module _ (P : Plain) (L : Lang) (tl : TypedLang P L) where
       right e d = let q = both_hold (is_printable t) (is_string u) d in let x = no_number (text_held P hw q.1) in
           joined e (or_right (is_string t) (is_string u) q.1) (or_right (is_text v) (is_text w) x.1) (inr x.0) q.0 (string_printable u q.1)
 
-  compared_sound : {t u : Static} (o : BinOp) (v w : Value) (f : ℤ → ℤ → Bool) (s : State) (k : ToValue) → Ok s → Holds P (heap_of s) v t → Holds P (heap_of s) w u → (is_numeric t && is_numeric u) ≡ true → ((a b : ℤ) → compared o a b ≡ Some (f a b))
-      → V (heap_of s) (a_value (plain_type Boolean)) k → Sound (with_some (number_of v) s (λ a. with_some (number_of w) s (λ b. with_some (compared o a b) s (λ t. k (Truth t) s))))
+  compared_sound : {t u : Static} (o : BinOp) (v w : Value) (f : ℤ → ℤ → Bool) (s : State) (k : ToValue) → Ok s → Holds P (heap_of s) v t
+      → Holds P (heap_of s) w u → (is_numeric t && is_numeric u) ≡ true → ((a b : ℤ) → compared o a b ≡ Some (f a b))
+      → V (heap_of s) (a_value (plain_type Boolean)) k
+          → Sound (with_some (number_of v) s (λ a. with_some (number_of w) s (λ b. with_some (compared o a b) s (λ t. k (Truth t) s))))
   compared_sound {t = t} {u = u} o v w f s k ok hv hw p e h =
       let q = both_hold (is_numeric t) (is_numeric u) p in let a = number_held P hv q.0 in let b = number_held P hw q.1 in
-      some_sound (number_of v) a.0 s _ a.1 (some_sound (number_of w) b.0 s _ b.1 (some_sound (compared o a.0 b.0) (f a.0 b.0) s _ (e a.0 b.0) (truth (f a.0 b.0) s k ok h)))
+      some_sound (number_of v) a.0 s _ a.1 (some_sound (number_of w) b.0 s _ b.1 (some_sound (compared o a.0 b.0) (f a.0 b.0) s _ (e a.0 b.0)
+          (truth (f a.0 b.0) s k ok h)))
 
-  pub operate_sound : {t u : Static} (o : BinOp) (v w : Value) (s : State) (k : ToValue) → Ok s → Holds P (heap_of s) v t → Holds P (heap_of s) w u → takes_two P o t u ≡ true → V (heap_of s) (a_value (binary_type o t u)) k → Sound (operate o v w s k)
+  pub operate_sound : {t u : Static} (o : BinOp) (v w : Value) (s : State) (k : ToValue) → Ok s → Holds P (heap_of s) v t → Holds P (heap_of s) w u
+      → takes_two P o t u ≡ true → V (heap_of s) (a_value (binary_type o t u)) k → Sound (operate o v w s k)
   operate_sound (bin.Int o) v w s k ok hv hw p h = arithmetic_sound o v w s k ok hv hw p h
-  operate_sound {t = t} {u = u} bin.Same v w s k ok hv hw p h = let b = comparable_held P t u hv hw p in some_sound (same_value v w) b.0 s _ b.1 (truth b.0 s k ok h)
+  operate_sound {t = t} {u = u} bin.Same v w s k ok hv hw p h = let b = comparable_held P t u hv hw p in some_sound (same_value v w) b.0 s _ b.1
+      (truth b.0 s k ok h)
   operate_sound {t = t} {u = u} bin.Differs v w s k ok hv hw p h =
-      let b = comparable_held P t u hv hw p in some_sound (same_value v w) b.0 s _ b.1 (bool_sound b.0 s (λ s1. k (Truth false) s1) (λ s1. k (Truth true) s1) (truth false s k ok h) (truth true s k ok h))
-  operate_sound {t = t} {u = u} bin.Both v w s k ok hv hw p h = let b = truth_held P hw (both_hold (is_boolean t) (is_boolean u) p).1 in some_sound (truth_of w) b.0 s _ (ap truth_of b.1) (truth b.0 s k ok h)
-  operate_sound {t = t} {u = u} bin.Either v w s k ok hv hw p h = let b = truth_held P hw (both_hold (is_boolean t) (is_boolean u) p).1 in some_sound (truth_of w) b.0 s _ (ap truth_of b.1) (truth b.0 s k ok h)
+      let b = comparable_held P t u hv hw p in some_sound (same_value v w) b.0 s _ b.1 (bool_sound b.0 s (λ s1. k (Truth false) s1)
+          (λ s1. k (Truth true) s1) (truth false s k ok h) (truth true s k ok h))
+  operate_sound {t = t} {u = u} bin.Both v w s k ok hv hw p h = let b = truth_held P hw (both_hold (is_boolean t) (is_boolean u) p).1 in some_sound
+      (truth_of w) b.0 s _ (ap truth_of b.1) (truth b.0 s k ok h)
+  operate_sound {t = t} {u = u} bin.Either v w s k ok hv hw p h = let b = truth_held P hw (both_hold (is_boolean t) (is_boolean u) p).1 in some_sound
+      (truth_of w) b.0 s _ (ap truth_of b.1) (truth b.0 s k ok h)
   operate_sound bin.Less v w s k ok hv hw p h = compared_sound bin.Less v w _ s k ok hv hw p (λ a b. refl) h
   operate_sound bin.Greater v w s k ok hv hw p h = compared_sound bin.Greater v w _ s k ok hv hw p (λ a b. refl) h
   operate_sound bin.AtMost v w s k ok hv hw p h = compared_sound bin.AtMost v w _ s k ok hv hw p (λ a b. refl) h
@@ -152,7 +172,8 @@ module _ (P : Plain) (L : Lang) (tl : TypedLang P L) where
       same : class_type c ≡ t
       same = class_in_type t.base t.dim c e
 
-  cast_object_sound : {t : Static} (b c d : ℕ) (x : Ex) (u : Ty) (v : Value) (s : State) (k : ToValue) → Ok s → Holds P (heap_of s) v t → class_of t ≡ Some c → class_in u.base u.dim ≡ Some d → V (heap_of s) (a_value u) k → Sound (cast_object L b x u v s k)
+  cast_object_sound : {t : Static} (b c d : ℕ) (x : Ex) (u : Ty) (v : Value) (s : State) (k : ToValue) → Ok s → Holds P (heap_of s) v t
+      → class_of t ≡ Some c → class_in u.base u.dim ≡ Some d → V (heap_of s) (a_value u) k → Sound (cast_object L b x u v s k)
   cast_object_sound b c d x u v s k ok holds_number e f h = absurd (cc)
   cast_object_sound b c d x u v s k ok holds_truth e f h = absurd (cc)
   cast_object_sound b c d x u v s k ok holds_unit e f h = absurd (cc)
@@ -161,30 +182,38 @@ module _ (P : Plain) (L : Lang) (tl : TypedLang P L) where
   cast_object_sound b c d x u v s k ok holds_nothing e f h = absurd (cc)
   cast_object_sound b c d x u v s k ok holds_any e f h = absurd (cc)
   cast_object_sound b c d x u v s k ok (holds_object {a = a} {c = o} there r sub) e f h =
-      some_sound (slice_get s.cells a) o s _ there (look_sound P L tl (tested b x (L.is_sub (own_type o.kind) u)) (Object a) s _ ok (λ s1 r1. go s1 r1 (L.is_sub (own_type o.kind) u) refl))
+      some_sound (slice_get s.cells a) o s _ there (look_sound P L tl (tested b x (L.is_sub (own_type o.kind) u)) (Object a) s _ ok
+          (λ s1 r1. go s1 r1 (L.is_sub (own_type o.kind) u) refl))
     where
-      go : (s1 : State) → From P L tl (heap_of s) s1 → (y : Bool) → L.is_sub (own_type o.kind) u ≡ y → Sound (on_bool y s1 (λ s2. look L (held b x) (Object a) s2 (λ s3. k (Object a) s3)) (stop (Faulted fault.ClassCast)))
+      go : (s1 : State) → From P L tl (heap_of s) s1 → (y : Bool) → L.is_sub (own_type o.kind) u ≡ y
+          → Sound (on_bool y s1 (λ s2. look L (held b x) (Object a) s2 (λ s3. k (Object a) s3)) (stop (Faulted fault.ClassCast)))
       go s1 r1 true pass = look_sound P L tl (held b x) (Object a) s1 _ r1.ok (λ s3 r3. let all = from_on P L tl (heap_of s) s1 s3 r1 r3 in
           h (Object a) s3 all (grown P all.grows (holds_object there (class_object u d f).0 (sym (tl.is_sub (own_type o.kind) u) ∙ pass))))
       go s1 r1 false fail = sound_stop (Faulted fault.ClassCast) s1 tt
 
-  pub cast_sound : {t : Static} (b : ℕ) (x : Ex) (u : Ty) (v : Value) (s : State) (k : ToValue) → Ok s → Holds P (heap_of s) v t → can_cast P t u ≡ true → V (heap_of s) (a_value u) k → Sound (cast_to L b x u v s k)
-  cast_sound {t = t} b x u v s k ok hv p h = ⊎_elim numbers (λ e. let q = related_some P (class_of t) (class_in u.base u.dim) e in objects q.0 q.1 q.2 q.3) (or_cases (is_numeric (a_value u) && is_numeric t) (are_related P (class_of t) (class_in u.base u.dim)) p)
+  pub cast_sound : {t : Static} (b : ℕ) (x : Ex) (u : Ty) (v : Value) (s : State) (k : ToValue) → Ok s → Holds P (heap_of s) v t
+      → can_cast P t u ≡ true → V (heap_of s) (a_value u) k → Sound (cast_to L b x u v s k)
+  cast_sound {t = t} b x u v s k ok hv p h =
+      ⊎_elim numbers (λ e. let q = related_some P (class_of t) (class_in u.base u.dim) e in objects q.0 q.1 q.2 q.3)
+      (or_cases (is_numeric (a_value u) && is_numeric t) (are_related P (class_of t) (class_in u.base u.dim)) p)
     where
       numbers : (is_numeric (a_value u) && is_numeric t) ≡ true → Sound (cast_to L b x u v s k)
       numbers e =
-          let q = both_hold (is_numeric (a_value u)) (is_numeric t) e in let a = number_held P hv q.1 in let yes : is_number_type u.base u.dim ≡ true = number_type u.base u.dim ∙ q.0 in
+          let q = both_hold (is_numeric (a_value u)) (is_numeric t) e in let a = number_held P hv q.1 in let yes : is_number_type u.base u.dim
+              ≡ true = number_type u.base u.dim ∙ q.0 in
           subst (λ z. Sound (on_bool z s (λ s1. with_some (number_of v) s1 (λ a. k (cast_number u.base a) s1)) (λ s1. cast_object L b x u v s1 k))) (sym yes)
           (some_sound (number_of v) a.0 s _ a.1 (here P L tl (cast_number u.base a.0) s k ok (cast_number_held (heap_of s) u.base u.dim a.0 yes) h))
 
       objects : (c d : ℕ) → class_of t ≡ Some c → class_in u.base u.dim ≡ Some d → Sound (cast_to L b x u v s k)
       objects c d e f = go (is_number_type u.base u.dim) refl
         where
-          go : (y : Bool) → is_number_type u.base u.dim ≡ y → Sound (on_bool y s (λ s1. with_some (number_of v) s1 (λ a. k (cast_number u.base a) s1)) (λ s1. cast_object L b x u v s1 k))
+          go : (y : Bool) → is_number_type u.base u.dim ≡ y → Sound (on_bool y s (λ s1. with_some (number_of v) s1 (λ a. k (cast_number u.base a) s1))
+              (λ s1. cast_object L b x u v s1 k))
           go true z = absurd (numeric_no_class u.base u.dim d z f)
           go false z = cast_object_sound b c d x u v s k ok hv e f h
 
-  pub test_class_sound : {t : Static} (b c : ℕ) (x : Ex) (d : ℕ) (v : Value) (s : State) (k : ToValue) → Ok s → Holds P (heap_of s) v t → class_of t ≡ Some c → V (heap_of s) (a_value (plain_type Boolean)) k → Sound (test_class L b x d v s k)
+  pub test_class_sound : {t : Static} (b c : ℕ) (x : Ex) (d : ℕ) (v : Value) (s : State) (k : ToValue) → Ok s → Holds P (heap_of s) v t
+      → class_of t ≡ Some c → V (heap_of s) (a_value (plain_type Boolean)) k → Sound (test_class L b x d v s k)
   test_class_sound b c x d v s k ok holds_number e h = absurd (cc)
   test_class_sound b c x d v s k ok holds_truth e h = absurd (cc)
   test_class_sound b c x d v s k ok holds_unit e h = absurd (cc)
@@ -193,7 +222,8 @@ module _ (P : Plain) (L : Lang) (tl : TypedLang P L) where
   test_class_sound b c x d v s k ok holds_nothing e h = absurd (cc)
   test_class_sound b c x d v s k ok holds_any e h = absurd (cc)
   test_class_sound b c x d v s k ok (holds_object {a = a} {c = o} there r sub) e h =
-      some_sound (slice_get s.cells a) o s _ there (look_sound P L tl (tested b x (L.is_sub (own_type o.kind) (class_type d))) (Object a) s _ ok (λ s1 r1. h (Truth (L.is_sub (own_type o.kind) (class_type d))) s1 r1 holds_truth))
+      some_sound (slice_get s.cells a) o s _ there (look_sound P L tl (tested b x (L.is_sub (own_type o.kind) (class_type d))) (Object a) s _ ok
+          (λ s1 r1. h (Truth (L.is_sub (own_type o.kind) (class_type d))) s1 r1 holds_truth))
 
   pub related_class : (t : Static) (d : Option ℕ) → are_related P (class_of t) d ≡ true → (c : ℕ) × (class_of t ≡ Some c)
   related_class t d e = let q = related_some P (class_of t) d e in (q.0, q.2)

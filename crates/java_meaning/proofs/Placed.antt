@@ -86,7 +86,8 @@ module _ (tag : Place → Tag) where
 
     bare_ifs : {n : _} (xs : st.Row_of-RArm n) (a b : Arms) → bare_arms a ≡ b → bare_arms (arms_of tag xs a) ≡ arms_of no_place xs b
     bare_ifs st.end_of-RArm a b q = q
-    bare_ifs (st.more_of-RArm t s body rest) a b q = ap2 (λ y z. arm y z (bare_arms (arms_of tag rest a))) (bare_expr t) (bare_stmts body) ∙ ap (λ z. arm (expr_of no_place t) (stmts_of no_place body) z) (bare_ifs rest a b q)
+    bare_ifs (st.more_of-RArm t s body rest) a b q = ap2 (λ y z. arm y z (bare_arms (arms_of tag rest a))) (bare_expr t) (bare_stmts body)
+        ∙ ap (λ z. arm (expr_of no_place t) (stmts_of no_place body) z) (bare_ifs rest a b q)
 
   -- a list of statements
   pub bare_list : (xs : List RStmt) → bare_sts (stmts tag xs) ≡ stmts no_place xs

@@ -137,12 +137,14 @@ module _ (P : Plain) (L : Lang) (tl : TypedLang P L) where
   KS h k = (s : State) → From h s → Sound (k s)
 
   -- a value put into a cell, where it may stand there
-  pub put_from : (s : State) (a i : ℕ) (c : Cell) (w : Value) → Good s → slice_get s.cells a ≡ Some c → KindOk (heap_of s) c.kind (slice_set c.values i w) → From (heap_of s) (set_value a c i w s)
+  pub put_from : (s : State) (a i : ℕ) (c : Cell) (w : Value) → Good s → slice_get s.cells a ≡ Some c
+      → KindOk (heap_of s) c.kind (slice_set c.values i w) → From (heap_of s) (set_value a c i w s)
   put_from s a i c w ok at new = record {
     grows = grows;
     ok = record {
       cells = λ b d e. ⊎_elim
-          (λ same. subst (λ z. KindOk k z.kind z.values) (same_Some _ _ (sym (get_set_there s.cells a put c at) ∙ ap (λ z. slice_get k.cells z) same ∙ e)) (kind_grown (heap_of s) k c.kind (slice_set c.values i w) grows new))
+          (λ same. subst (λ z. KindOk k z.kind z.values) (same_Some _ _ (sym (get_set_there s.cells a put c at) ∙ ap (λ z. slice_get k.cells z) same
+              ∙ e)) (kind_grown (heap_of s) k c.kind (slice_set c.values i w) grows new))
           (λ ne. kind_grown (heap_of s) k d.kind d.values grows (ok.cells b d (sym (get_set_other s.cells a b put ne) ∙ e)))
           (cases_eq a b);
       statics = λ f t e. let v = ok.statics f t e in (v.0, v.1, grown P grows v.2);
@@ -158,13 +160,15 @@ module _ (P : Plain) (L : Lang) (tl : TypedLang P L) where
       grows : Grows P (heap_of s) k
       grows = record {
         cells = λ b d e. ⊎_elim
-            (λ same. (put, ap (λ z. slice_get k.cells z) (sym same) ∙ get_set_there s.cells a put c at, ap (λ z. z.kind) (same_Some _ _ (sym at ∙ ap (λ z. slice_get s.cells z) same ∙ e))))
+            (λ same. (put, ap (λ z. slice_get k.cells z) (sym same) ∙ get_set_there s.cells a put c at, ap (λ z. z.kind)
+                (same_Some _ _ (sym at ∙ ap (λ z. slice_get s.cells z) same ∙ e))))
             (λ ne. (d, get_set_other s.cells a b put ne ∙ e, refl))
             (cases_eq a b);
         strings = λ b u e. e;
       }
 
-  pub object_put : (h : Heap) (c f i : ℕ) (t : Ty) (vs : List Value) (w : Value) → ObjectOk h c vs → L.index c f ≡ Some i → field_type P f ≡ Some t → Holds P h w (a_value t) → ObjectOk h c (slice_set vs i w)
+  pub object_put : (h : Heap) (c f i : ℕ) (t : Ty) (vs : List Value) (w : Value) → ObjectOk h c vs → L.index c f ≡ Some i → field_type P f ≡ Some t
+      → Holds P h w (a_value t) → ObjectOk h c (slice_set vs i w)
   object_put h c f i t vs w o at ty hw = record {
     made = o.made;
     values = λ g j u e d. let x = o.values g j u e d in ⊎_elim
@@ -177,7 +181,8 @@ module _ (P : Plain) (L : Lang) (tl : TypedLang P L) where
         (cases_eq i j);
   }
 
-  pub array_put : (h : Heap) (t : Ty) (i : ℕ) (vs : List Value) (w : Value) → (o : ArrayOk h t vs) → Holds P h w (a_value o.element) → ArrayOk h t (slice_set vs i w)
+  pub array_put : (h : Heap) (t : Ty) (i : ℕ) (vs : List Value) (w : Value) → (o : ArrayOk h t vs) → Holds P h w (a_value o.element)
+      → ArrayOk h t (slice_set vs i w)
   array_put h t i vs w o hw = record {
     element = o.element;
     of = o.of;
@@ -237,17 +242,20 @@ module _ (P : Plain) (L : Lang) (tl : TypedLang P L) where
       go (suc n) = h (record s { left = n }) (record { grows = grows_same P (heap_of s); ok = ok })
 
   pub look_exact : (p : Spot) (v : Value) (s : State) (k : State → Outcome) → Sound (k (record s { met = L.note p v s.cells s.met })) → Sound (look L p v s k)
-  look_exact p v s k h = bool_sound (L.sees p v s.cells) (record s { met = L.note p v s.cells s.met }) k (stop Escaped) h (sound_stop Escaped (record s { met = L.note p v s.cells s.met }) tt)
+  look_exact p v s k h = bool_sound (L.sees p v s.cells) (record s { met = L.note p v s.cells s.met }) k (stop Escaped) h
+      (sound_stop Escaped (record s { met = L.note p v s.cells s.met }) tt)
 
   pub look_sound : (p : Spot) (v : Value) (s : State) (k : State → Outcome) → Good s → KS (heap_of s) k → Sound (look L p v s k)
   look_sound p v s k ok h = look_exact p v s k (h _ (record { grows = grows_same P (heap_of s); ok = ok }))
 
   pub look_all_sound : (b : ℕ) (vs : List Value) (s : State) (k : State → Outcome) → Good s → KS (heap_of s) k → Sound (look_all L b vs s k)
   look_all_sound b vs s k ok h =
-      bool_sound (L.sees_all b vs s.cells) (record s { met = L.note_all b vs s.cells s.met }) k (stop Escaped) (h _ (record { grows = grows_same P (heap_of s); ok = ok })) (sound_stop Escaped (record s { met = L.note_all b vs s.cells s.met }) tt)
+      bool_sound (L.sees_all b vs s.cells) (record s { met = L.note_all b vs s.cells s.met }) k (stop Escaped)
+          (h _ (record { grows = grows_same P (heap_of s); ok = ok })) (sound_stop Escaped (record s { met = L.note_all b vs s.cells s.met }) tt)
 
   -- an object of a class, and an array of elements
-  object_kind : (h : Heap) (c : ℕ) (K : Kind) (vs : List Value) → KindOk h K vs → is_subtype P (own_type K) (class_type c) ≡ true → (d : ℕ) × (K ≡ an_object d) × (below P d c ≡ true) × ObjectOk h d vs
+  object_kind : (h : Heap) (c : ℕ) (K : Kind) (vs : List Value) → KindOk h K vs → is_subtype P (own_type K) (class_type c) ≡ true
+      → (d : ℕ) × (K ≡ an_object d) × (below P d c ≡ true) × ObjectOk h d vs
   object_kind h c (an_object d) vs o sub = (d, refl, (sub_parts P (class_type d) (class_type c) sub).1, o)
   object_kind h c (an_array t) vs o sub = absurd (none (sym (ap (λ z. element_in t.base z) (sub_parts P t (class_type c) sub).0) ∙ o.of))
     where
@@ -255,23 +263,29 @@ module _ (P : Plain) (L : Lang) (tl : TypedLang P L) where
       none e = cc
 
   pub class_sound : {t : Static} {v : Value} (s : State) (c : ℕ) (k : ℕ → Cell → Outcome) → Good s → Holds P (heap_of s) v t → class_of t ≡ Some c
-      → ((a : ℕ) (o : Cell) (d : ℕ) → slice_get s.cells a ≡ Some o → o.kind ≡ an_object d → below P d c ≡ true → ObjectOk (heap_of s) d o.values → Holds P (heap_of s) (Object a) t → Sound (k a o)) → Sound (with_cell v s k)
+      → ((a : ℕ) (o : Cell) (d : ℕ) → slice_get s.cells a ≡ Some o → o.kind ≡ an_object d → below P d c ≡ true → ObjectOk (heap_of s) d o.values
+          → Holds P (heap_of s) (Object a) t → Sound (k a o)) → Sound (with_cell v s k)
   class_sound s c k ok holds_number e h = absurd (cc)
   class_sound s c k ok holds_truth e h = absurd (cc)
   class_sound s c k ok holds_unit e h = absurd (cc)
   class_sound s c k ok (holds_text x) e h = absurd (cc)
   class_sound s c k ok (holds_null x) e h = sound_stop (Faulted fault.Null) s tt
   class_sound s c k ok (holds_object {a = a} {t = t} {c = o} there r sub) e h =
-      let q = object_kind (heap_of s) c o.kind o.values (ok.cells a o there) (subst (λ z. is_subtype P (own_type o.kind) z ≡ true) (sym (class_in_type t.base t.dim c e)) sub) in
+      let q = object_kind (heap_of s) c o.kind o.values (ok.cells a o there) (subst (λ z. is_subtype P (own_type o.kind) z ≡ true)
+          (sym (class_in_type t.base t.dim c e)) sub) in
       some_sound (slice_get s.cells a) o s (λ z. k a z) there (h a o q.0 there q.1 q.2 q.3 (holds_object there r sub))
   class_sound s c k ok holds_nothing e h = sound_stop (Faulted fault.Null) s tt
   class_sound s c k ok holds_any e h = absurd (cc)
 
-  array_kind : (h : Heap) (b : TyBase) (d : ℕ) (u : Ty) (K : Kind) (vs : List Value) → KindOk h K vs → element_in b d ≡ Some u → is_subtype P (own_type K) (record { base = b; dim = d }) ≡ true
+  array_kind : (h : Heap) (b : TyBase) (d : ℕ) (u : Ty) (K : Kind) (vs : List Value) → KindOk h K vs → element_in b d ≡ Some u
+      → is_subtype P (own_type K) (record { base = b; dim = d }) ≡ true
       → (t : Ty) × (K ≡ an_array t) × ((o : ArrayOk h t vs) × (is_subtype P o.element u ≡ true))
   array_kind h b zero u K vs o e sub = absurd (cc)
-  array_kind h b (suc d) u (an_object c) vs o e sub = let z : 0 ≡ suc d = (sub_parts P (class_type c) (record { base = b; dim = suc d }) sub).0 in absurd (omega (arith, z))
-  array_kind h b (suc d) u (an_array t) vs o e sub = (t, refl, (o, subst (λ z. is_subtype P o.element z ≡ true) (same_Some _ _ e) (subst (λ z. is_subtype P z (record { base = b; dim = d }) ≡ true) here (of_parts P (record { base = t.base; dim = d }) (record { base = b; dim = d }) refl parts.1))))
+  array_kind h b (suc d) u (an_object c) vs o e sub = let z : 0 ≡ suc d = (sub_parts P (class_type c) (record { base = b; dim = suc d }) sub).0 in
+      absurd (omega (arith, z))
+  array_kind h b (suc d) u (an_array t) vs o e sub =
+      (t, refl, (o, subst (λ z. is_subtype P o.element z ≡ true) (same_Some _ _ e) (subst (λ z. is_subtype P z (record { base = b; dim = d }) ≡ true)
+      here (of_parts P (record { base = t.base; dim = d }) (record { base = b; dim = d }) refl parts.1))))
     where
       parts : (t.dim ≡ suc d) × (is_sub_base P t.base b ≡ true)
       parts = sub_parts P t (record { base = b; dim = suc d }) sub
@@ -280,7 +294,8 @@ module _ (P : Plain) (L : Lang) (tl : TypedLang P L) where
       here = same_Some _ _ (sym (ap (λ z. element_in t.base z) parts.0) ∙ o.of)
 
   pub array_sound : {t : Static} {v : Value} (s : State) (u : Ty) (k : ℕ → Cell → Outcome) → Good s → Holds P (heap_of s) v t → element_of t ≡ Some u
-      → ((a : ℕ) (c : Cell) (y : Ty) → slice_get s.cells a ≡ Some c → c.kind ≡ an_array y → (o : ArrayOk (heap_of s) y c.values) → is_subtype P o.element u ≡ true → Sound (k a c)) → Sound (with_cell v s k)
+      → ((a : ℕ) (c : Cell) (y : Ty) → slice_get s.cells a ≡ Some c → c.kind ≡ an_array y → (o : ArrayOk (heap_of s) y c.values)
+          → is_subtype P o.element u ≡ true → Sound (k a c)) → Sound (with_cell v s k)
   array_sound s u k ok holds_number e h = absurd (cc)
   array_sound s u k ok holds_truth e h = absurd (cc)
   array_sound s u k ok holds_unit e h = absurd (cc)
@@ -293,10 +308,12 @@ module _ (P : Plain) (L : Lang) (tl : TypedLang P L) where
   array_sound s u k ok holds_any e h = absurd (cc)
 
   -- static fields
-  pub read_static_sound : (x : ℕ) (t : Ty) (s : State) (k : ToValue) → Good s → field_type P x ≡ Some t → KV (heap_of s) (a_value t) k → Sound (read_static x s k)
+  pub read_static_sound : (x : ℕ) (t : Ty) (s : State) (k : ToValue) → Good s → field_type P x ≡ Some t → KV (heap_of s) (a_value t) k
+      → Sound (read_static x s k)
   read_static_sound x t s k ok e h = let r = ok.statics x t e in some_sound (slice_get s.statics x) r.0 s _ r.1 (h r.0 s (from_same s ok) r.2)
 
-  statics_put : (s : State) (x : ℕ) (t : Ty) (w : Value) → Good s → field_type P x ≡ Some t → Holds P (heap_of s) w (a_value t) → StateOk (heap_of s) (slice_set s.statics x w)
+  statics_put : (s : State) (x : ℕ) (t : Ty) (w : Value) → Good s → field_type P x ≡ Some t → Holds P (heap_of s) w (a_value t)
+      → StateOk (heap_of s) (slice_set s.statics x w)
   statics_put s x t w ok ty hw = record {
     cells = ok.cells;
     statics = λ f u e. let v = ok.statics f u e in ⊎_elim
@@ -309,25 +326,34 @@ module _ (P : Plain) (L : Lang) (tl : TypedLang P L) where
         (cases_eq x f);
   }
 
-  pub write_static_sound : (x : ℕ) (t : Ty) (v : Value) (s : State) (k : State → Outcome) → Good s → field_type P x ≡ Some t → Holds P (heap_of s) (convert t v) (a_value t) → KS (heap_of s) k → Sound (write_static L x v s k)
+  pub write_static_sound : (x : ℕ) (t : Ty) (v : Value) (s : State) (k : State → Outcome) → Good s → field_type P x ≡ Some t
+      → Holds P (heap_of s) (convert t v) (a_value t) → KS (heap_of s) k → Sound (write_static L x v s k)
   write_static_sound x t v s k ok e hv h =
       some_sound (L.field_type x) t s _ (tl.typed_field x ∙ e) (some_sound (slice_get s.statics x) (ok.statics x t e).0 s _ (ok.statics x t e).1
       (look_sound _ (convert t v) s _ ok (λ s1 r. h _ (record { grows = r.grows; ok = statics_put s1 x t (convert t v) r.ok e (grown P r.grows hv) }))))
 
   -- fields of objects: c is the class of the object, f the field
-  pub read_field_sound : (b : ℕ) (e d : Ex) (x : Option ℕ) (a : ℕ) (o : Cell) (c f i : ℕ) (t : Ty) (s : State) (k : ToValue) → Good s → o.kind ≡ an_object c → ObjectOk (heap_of s) c o.values → x ≡ Some f → L.index c f ≡ Some i → field_type P f ≡ Some t
+  pub read_field_sound : (b : ℕ) (e d : Ex) (x : Option ℕ) (a : ℕ) (o : Cell) (c f i : ℕ) (t : Ty) (s : State) (k : ToValue) → Good s
+      → o.kind ≡ an_object c → ObjectOk (heap_of s) c o.values → x ≡ Some f → L.index c f ≡ Some i → field_type P f ≡ Some t
       → KV (heap_of s) (a_value t) k → Sound (read_field L b e d x a o s k)
   read_field_sound b e d x a o c f i t s k ok kd oo ex at ty h =
       let v = oo.values f i t at ty in
-      some_sound (own_class o.kind) c s _ (ap own_class kd) (some_sound x f s _ ex (some_sound (L.index c f) i s _ at (some_sound (slice_get o.values i) v.0 s _ v.1
-      (look_sound _ (Object a) s _ ok (λ s1 r. look_sound _ v.0 s1 _ r.ok (λ s2 r2. let all = from_on (heap_of s) s1 s2 r r2 in h v.0 s2 all (grown P all.grows v.2)))))))
+      some_sound (own_class o.kind) c s _ (ap own_class kd)
+          (some_sound x f s _ ex (some_sound (L.index c f) i s _ at (some_sound (slice_get o.values i) v.0 s _ v.1
+      (look_sound _ (Object a) s _ ok (λ s1 r. look_sound _ v.0 s1 _ r.ok (λ s2 r2. let all = from_on (heap_of s) s1 s2 r r2 in h v.0 s2 all
+          (grown P all.grows v.2)))))))
 
-  pub write_field_sound : (b : ℕ) (e : Ex) (x : Option ℕ) (w : Value) (a : ℕ) (o : Cell) (c f i : ℕ) (t : Ty) (s : State) (k : State → Outcome) → Good s → slice_get s.cells a ≡ Some o → o.kind ≡ an_object c → ObjectOk (heap_of s) c o.values → x ≡ Some f
-      → L.index c f ≡ Some i → field_type P f ≡ Some t → Holds P (heap_of s) (convert t w) (a_value t) → KS (heap_of s) k → Sound (write_field L b e x w a o s k)
+  pub write_field_sound : (b : ℕ) (e : Ex) (x : Option ℕ) (w : Value) (a : ℕ) (o : Cell) (c f i : ℕ) (t : Ty) (s : State) (k : State → Outcome)
+      → Good s → slice_get s.cells a ≡ Some o → o.kind ≡ an_object c → ObjectOk (heap_of s) c o.values → x ≡ Some f
+      → L.index c f ≡ Some i → field_type P f ≡ Some t → Holds P (heap_of s) (convert t w) (a_value t) → KS (heap_of s) k
+          → Sound (write_field L b e x w a o s k)
   write_field_sound b e x w a o c f i t s k ok there kd oo ex at ty hw h =
       let v = oo.values f i t at ty in
-      some_sound (own_class o.kind) c s _ (ap own_class kd) (some_sound x f s _ ex (some_sound (L.field_type f) t s _ (tl.typed_field f ∙ ty) (some_sound (L.index c f) i s _ at (some_sound (slice_get o.values i) v.0 s _ v.1
-      (look_exact _ (Object a) s _ (look_exact _ (convert t w) _ _ (h _ (again (put_from s a i o (convert t w) ok there (subst (λ z. KindOk (heap_of s) z (slice_set o.values i (convert t w))) (sym kd) (object_put (heap_of s) c f i t o.values (convert t w) oo at ty hw)))))))))))
+      some_sound (own_class o.kind) c s _ (ap own_class kd) (some_sound x f s _ ex (some_sound (L.field_type f) t s _ (tl.typed_field f
+          ∙ ty) (some_sound (L.index c f) i s _ at (some_sound (slice_get o.values i) v.0 s _ v.1
+      (look_exact _ (Object a) s _ (look_exact _ (convert t w) _ _
+          (h _ (again (put_from s a i o (convert t w) ok there (subst (λ z. KindOk (heap_of s) z (slice_set o.values i (convert t w))) (sym kd)
+          (object_put (heap_of s) c f i t o.values (convert t w) oo at ty hw)))))))))))
     where
       again : {m : _} → From (heap_of s) (set_value a o i (convert t w) s) → From (heap_of s) (set_value a o i (convert t w) (record s { met = m }))
       again r = record { grows = r.grows; ok = r.ok }

@@ -36,9 +36,11 @@ bare_static P g (create_array t n u e) = refl
 bare_static P g (cast t n u e) = refl
 bare_static P g (instance_of t n e c) = refl
 bare_static P g (unary t o e) = refl
-bare_static P g (binary t o e d) = ap (λ z. a_value (binary_type o z (static P g (bare d)))) (bare_static P g e) ∙ ap (λ z. a_value (binary_type o (static P g e) z)) (bare_static P g d)
+bare_static P g (binary t o e d) = ap (λ z. a_value (binary_type o z (static P g (bare d)))) (bare_static P g e)
+    ∙ ap (λ z. a_value (binary_type o (static P g e) z)) (bare_static P g d)
 
-found_bare : (P : Plain) (code : ℕ → Option Sts) → IsCodeOf P code → (o : Option ℕ) → option_and_then (body_of P) o ≡ option_map bare_body (option_and_then (coded_body P code) o)
+found_bare : (P : Plain) (code : ℕ → Option Sts) → IsCodeOf P code → (o : Option ℕ) → option_and_then (body_of P) o
+    ≡ option_map bare_body (option_and_then (coded_body P code) o)
 unfolding IsCodeOf
 found_bare P code h None = refl
 found_bare P code h (Some m) = h m
@@ -63,33 +65,39 @@ watched_bare P code eyes h = record {
 }
 
 -- the theorem: for all words and every bound
-pub watched_is_run : (P : Plain) (code : ℕ → Option Sts) (eyes : Eyes) → IsCodeOf P code → (words : List (List ℕ)) (n : ℕ) → EscapesOrIs (watched_run P code eyes words n) (run P words n)
+pub watched_is_run : (P : Plain) (code : ℕ → Option Sts) (eyes : Eyes) → IsCodeOf P code → (words : List (List ℕ)) (n : ℕ)
+    → EscapesOrIs (watched_run P code eyes words n) (run P words n)
 watched_is_run P code eyes h words n = run_r (watched P code eyes) (language_of P) (watched_bare P code eyes h) P.main words n
 
 -- code whose trees without tags are the bodies of the program
-pub is_code : (P : Plain) (code : ℕ → Option Sts) → ((m : ℕ) → option_map bare_sts (code m) ≡ option_and_then (λ k. k.body) (slice_get P.methods m)) → IsCodeOf P code
+pub is_code : (P : Plain) (code : ℕ → Option Sts) → ((m : ℕ) → option_map bare_sts (code m) ≡ option_and_then (λ k. k.body) (slice_get P.methods m))
+    → IsCodeOf P code
 unfolding IsCodeOf
 is_code P code h m = go (slice_get P.methods m) (code m) (h m)
   where
-    coded : (k : PlainMethod) (o : Option Sts) (c : Option Sts) → option_map bare_sts c ≡ o → option_map (λ xs. body_with m k xs) o ≡ option_map bare_body (with_code c (option_map (λ xs. body_with m k xs) o))
+    coded : (k : PlainMethod) (o : Option Sts) (c : Option Sts) → option_map bare_sts c ≡ o → option_map (λ xs. body_with m k xs) o
+        ≡ option_map bare_body (with_code c (option_map (λ xs. body_with m k xs) o))
     coded k None None e = refl
     coded k None (Some ys) e = absurd (cc)
     coded k (Some xs) None e = absurd (cc)
     coded k (Some xs) (Some ys) e = ap (λ z. Some (body_with m k z)) (sym (same_Some _ _ e))
 
     go : (o : Option PlainMethod) (c : Option Sts) → option_map bare_sts c ≡ option_and_then (λ k. k.body) o
-        → option_and_then (λ k. option_map (λ xs. body_with m k xs) k.body) o ≡ option_map bare_body (with_code c (option_and_then (λ k. option_map (λ xs. body_with m k xs) k.body) o))
+        → option_and_then (λ k. option_map (λ xs. body_with m k xs) k.body) o
+            ≡ option_map bare_body (with_code c (option_and_then (λ k. option_map (λ xs. body_with m k xs) k.body) o))
     go None None e = refl
     go None (Some ys) e = absurd (cc)
     go (Some k) c e = coded k k.body c e
 
 -- the bodies of the program with places, or with other tags, are its code
 pub placed_code : (tag : Place → Tag) (p : Program) (m : ℕ)
-    → option_map bare_sts (option_and_then (λ (k : PlainMethod). k.body) (slice_get (program_of tag p).methods m)) ≡ option_and_then (λ (k : PlainMethod). k.body) (slice_get (program_of no_place p).methods m)
+    → option_map bare_sts (option_and_then (λ (k : PlainMethod). k.body) (slice_get (program_of tag p).methods m))
+        ≡ option_and_then (λ (k : PlainMethod). k.body) (slice_get (program_of no_place p).methods m)
 placed_code tag p m =
     ap (λ z. option_map bare_sts (option_and_then (λ (k : PlainMethod). k.body) z)) (slice_get-map (method_seen tag) p.methods.items m)
     ∙ (go (slice_get p.methods.items m) ∙ sym (ap (option_and_then (λ (k : PlainMethod). k.body)) (slice_get-map (method_seen no_place) p.methods.items m)))
   where
-    go : (o : Option Method) → option_map bare_sts (option_and_then (λ (k : PlainMethod). k.body) (option_map (method_seen tag) o)) ≡ option_and_then (λ (k : PlainMethod). k.body) (option_map (method_seen no_place) o)
+    go : (o : Option Method) → option_map bare_sts (option_and_then (λ (k : PlainMethod). k.body) (option_map (method_seen tag) o))
+        ≡ option_and_then (λ (k : PlainMethod). k.body) (option_map (method_seen no_place) o)
     go None = refl
     go (Some k) = bare_seen tag k.body

@@ -1,4 +1,5 @@
--- What a program does: a run by recursion on the depth of its calls and loops and on the tree. A value goes to the function that takes it, and so does the end of a statement.
+-- What a program does: a run by recursion on the depth of its calls and loops and on the tree. A value goes to the function that takes it, and so
+-- does the end of a statement.
 use Rattle.std.specs.Prelude.{ℕ, zero, suc, ℤ, Bool, true, false, List, [], ◌∷◌, ◌++◌, length, Option, Some, None, slice_get, slice_set, ◌&&◌, ◌||◌}
 use Rattle.std.specs.Option.{option_and_then}
 use Rattle.java_core.specs.declared.Ty.{Ty}
@@ -83,7 +84,8 @@ read_field L b e d x a c s k =
 
 abbrev pub write_field : Lang → ℕ → Ex → Option ℕ → Value → ℕ → Cell → State → (State → Outcome) → Outcome
 write_field L b e x v a c s k =
-    with_some (own_class c.kind) s (λ t. with_some x s (λ j. with_some (L.field_type j) s (λ u. with_some (L.index t j) s (λ i. with_some (slice_get c.values i) s (λ old.
+    with_some (own_class c.kind) s
+        (λ t. with_some x s (λ j. with_some (L.field_type j) s (λ u. with_some (L.index t j) s (λ i. with_some (slice_get c.values i) s (λ old.
     look L (touched b e j) (Object a) s (λ s1. look L (kept c.site j) (convert u v) s1 (λ s2. k (set_value a c i (convert u v) s2))))))))
 
 -- whether a name is that of an array's length: no field is found under it
@@ -155,7 +157,8 @@ abbrev pub text_method : Option ℕ → List ℕ → Option StringMethod
 text_method None x = string_method x
 text_method (Some j) x = None
 
--- a call on a value: arguments are there before the receiver is tested; a name under which the static type of the receiver has a slot calls no method of a string
+-- a call on a value: arguments are there before the receiver is tested; a name under which the static type of the receiver has a slot calls no method
+-- of a string
 abbrev pub call_on : Lang → Later → Env → Ex → Ex → List ℕ → Value → List Value → State → ToValue → Outcome
 call_on L later g e d x Nothing vs s k = stop (Faulted fault.Null) s
 call_on L later g e d x (Text a) vs s k = with_some (slice_get s.strings a) s (λ u. with_some (text_method (L.slot g e x) x) s (λ m. string_call m u vs s k))
@@ -209,7 +212,8 @@ cast_object L b d t (CodeUnit n) s k = stop Wrong s
 cast_object L b d t (Text n) s k = stop Wrong s
 
 abbrev pub cast_to : Lang → ℕ → Ex → Ty → Value → State → ToValue → Outcome
-cast_to L b d t v s k = on_bool (is_number_type t.base t.dim) s (λ s1. with_some (number_of v) s1 (λ a. k (cast_number t.base a) s1)) (λ s1. cast_object L b d t v s1 k)
+cast_to L b d t v s k = on_bool (is_number_type t.base t.dim) s (λ s1. with_some (number_of v) s1 (λ a. k (cast_number t.base a) s1))
+    (λ s1. cast_object L b d t v s1 k)
 
 abbrev pub test_class : Lang → ℕ → Ex → ℕ → Value → State → ToValue → Outcome
 test_class L b d t Nothing s k = k (Truth false) s
@@ -312,7 +316,8 @@ module _ (L : Lang) (later : Later) where
   run_initial x (Some e) f s k = value e f s (λ v s1. write_local L x v f s1 k)
 
   abbrev pub run_declare : ℕ → Option Ex → Frame → State → ToFlow → Outcome
-  run_declare x e f s k = with_some (slice_get f.env.locals x) s (λ t. with_some (slice_get f.locals x) s (λ old. run_initial x e (set_local f x (default_of t)) s k))
+  run_declare x e f s k = with_some (slice_get f.env.locals x) s (λ t. with_some (slice_get f.locals x) s
+      (λ old. run_initial x e (set_local f x (default_of t)) s k))
 
   -- what is given back
   abbrev pub run_return : Option Ex → Frame → State → ToFlow → Outcome

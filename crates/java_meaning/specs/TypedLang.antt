@@ -111,6 +111,8 @@ pub record TypedLang (P : Plain) (L : Lang) : Type 0 where
   pub fresh : (c f i : ℕ) → L.index c f ≡ Some i → (t : Ty) × (field_type P f ≡ Some t) × (slice_get (L.fresh c) i ≡ Some (default_of t))
   pub statics : (f : ℕ) (t : Ty) → field_type P f ≡ Some t → slice_get L.statics f ≡ Some (default_of t)
   -- the bodies that are found have the signatures that typing asks
-  pub bodies : (c d j : ℕ) (x : List ℕ) (sig : Signature) → is_concrete P c ≡ true → below P c d ≡ true → slot_of P d x ≡ Some j → signature_of_slot P j ≡ Some sig → HasBody P (L.body c j) c sig
+  pub bodies : (c d j : ℕ) (x : List ℕ) (sig : Signature) → is_concrete P c ≡ true → below P c d ≡ true → slot_of P d x ≡ Some j
+      → signature_of_slot P j ≡ Some sig → HasBody P (L.body c j) c sig
   pub static_bodies : (m : ℕ) (sig : Signature) → has_body P m ≡ true → signature_of_method P m ≡ Some sig → HasStaticBody P (L.static_body m) sig
-  pub super_bodies : (c m : ℕ) (x : List ℕ) (sig : Signature) → super_method P c x ≡ Some m → has_body P m ≡ true → signature_of_method P m ≡ Some sig → HasBody P (L.super_body c x) c sig
+  pub super_bodies : (c m : ℕ) (x : List ℕ) (sig : Signature) → super_method P c x ≡ Some m → has_body P m ≡ true → signature_of_method P m ≡ Some sig
+      → HasBody P (L.super_body c x) c sig

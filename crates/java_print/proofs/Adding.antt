@@ -29,7 +29,8 @@ adds_then h k = record { added = h.added ∙ k.added }
 -- characters that are those of an item
 pub adds_chars : (a b xs : List ℕ) (x y : List Item) → b ≡ a ++ encode_utf8_all xs → text x ≡ xs ++ text y → Adds a b x y
 adds_chars a b xs x y h e = record {
-  added = ap (λ zs. a ++ encode_utf8_all zs) e ∙ ap (λ zs. a ++ zs) (encodes-append xs (text y)) ∙ sym (append_assoc a (encode_utf8_all xs) (encode_utf8_all (text y)))
+  added = ap (λ zs. a ++ encode_utf8_all zs) e ∙ ap (λ zs. a ++ zs) (encodes-append xs (text y))
+      ∙ sym (append_assoc a (encode_utf8_all xs) (encode_utf8_all (text y)))
       ∙ ap (λ zs. zs ++ encode_utf8_all (text y)) (sym h);
 }
 
@@ -54,14 +55,19 @@ pub adds_word : (a b n : List ℕ) → b ≡ a ++ encode_utf8_all n → Puts a b
 adds_word a b n h r = adds_chars a b n (word_then n r) r h refl
 
 -- a literal of characters between two quotes
-pub adds_quoted : (a b c d : List ℕ) (q : ℕ) (us : List ℕ) (k : TokenKind) → kind_text k ≡ q ∷ (us ++ q ∷ []) → b ≡ a ++ encode_utf8_all (q ∷ []) → c ≡ b ++ encode_utf8_all us → d ≡ c ++ encode_utf8_all (q ∷ []) → (r : List Item) → Adds a d (Lexeme k ∷ r) r
+pub adds_quoted : (a b c d : List ℕ) (q : ℕ) (us : List ℕ) (k : TokenKind) → kind_text k ≡ q ∷ (us ++ q ∷ []) → b ≡ a ++ encode_utf8_all (q ∷ [])
+    → c ≡ b ++ encode_utf8_all us → d ≡ c ++ encode_utf8_all (q ∷ []) → (r : List Item) → Adds a d (Lexeme k ∷ r) r
 adds_quoted a b c d q us k e f g h r =
     adds_chars a d (kind_text k) (Lexeme k ∷ r) r (h ∙ ap (λ zs. zs ++ encode_utf8_all (q ∷ [])) (g ∙ ap (λ zs. zs ++ encode_utf8_all us) f)
-    ∙ append_assoc (a ++ encode_utf8_all (q ∷ [])) (encode_utf8_all us) (encode_utf8_all (q ∷ [])) ∙ append_assoc a (encode_utf8_all (q ∷ [])) (encode_utf8_all us ++ encode_utf8_all (q ∷ []))
-    ∙ ap (λ zs. a ++ (encode_utf8_all (q ∷ []) ++ zs)) (sym (encodes-append us (q ∷ []))) ∙ ap (λ zs. a ++ zs) (sym (encodes-append (q ∷ []) (us ++ q ∷ []))) ∙ ap (λ zs. a ++ encode_utf8_all zs) (sym e)) refl
+    ∙ append_assoc (a ++ encode_utf8_all (q ∷ [])) (encode_utf8_all us) (encode_utf8_all (q ∷ []))
+        ∙ append_assoc a (encode_utf8_all (q ∷ [])) (encode_utf8_all us ++ encode_utf8_all (q ∷ []))
+    ∙ ap (λ zs. a ++ (encode_utf8_all (q ∷ []) ++ zs)) (sym (encodes-append us (q ∷ [])))
+        ∙ ap (λ zs. a ++ zs) (sym (encodes-append (q ∷ []) (us ++ q ∷ []))) ∙ ap (λ zs. a ++ encode_utf8_all zs) (sym e)) refl
 
 adds_decimal : (a b : List ℕ) (n : ℕ) (k : TokenKind) → n < 2 ^ 64 → kind_text k ≡ decimal n → b ≡ a ++ decimal n → (r : List Item) → Adds a b (Lexeme k ∷ r) r
-adds_decimal a b n k s e h r = adds_chars a b (decimal n) (Lexeme k ∷ r) r (h ∙ ap (λ ys. a ++ ys) (sym (encodes-IsAscii (decimal n) (IsAscii-decimal n s)))) (ap (λ ys. ys ++ text r) e)
+adds_decimal a b n k s e h r =
+    adds_chars a b (decimal n) (Lexeme k ∷ r) r (h ∙ ap (λ ys. a ++ ys) (sym (encodes-IsAscii (decimal n) (IsAscii-decimal n s))))
+    (ap (λ ys. ys ++ text r) e)
 
 pub adds_negative : (a b c : List ℕ) (z : ℤ) → z <ℤ pos 0 → Puts a b (mark_then marks.Minus) → c ≡ b ++ decimal 2147483648 → Puts a c (int_items z)
 adds_negative a b c (pos n) l h k r = absurd (omega (arith, ints, l))
@@ -81,7 +87,8 @@ blank_bytes zero = refl
 blank_bytes (suc n) = ap (λ xs. 32 ∷ xs) (blank_bytes n)
 
 pub margin_more : (a b c : List ℕ) (n : ℕ) → b ≡ a ++ replicate n 32 → c ≡ b ++ 32 ∷ [] → c ≡ a ++ replicate (n + 1) 32
-margin_more a b c n h k = k ∙ ap (λ zs. zs ++ 32 ∷ []) h ∙ append_assoc a (replicate n 32) (32 ∷ []) ∙ ap (λ zs. a ++ zs) (replicate_more n) ∙ ap (λ m. a ++ replicate m 32) (sym (add-one n))
+margin_more a b c n h k = k ∙ ap (λ zs. zs ++ 32 ∷ []) h ∙ append_assoc a (replicate n 32) (32 ∷ []) ∙ ap (λ zs. a ++ zs) (replicate_more n)
+    ∙ ap (λ m. a ++ replicate m 32) (sym (add-one n))
 
 pub adds_margin : (a b : List ℕ) (m n : ℕ) → m ≤ n → n ≤ m → b ≡ a ++ replicate m 32 → Puts a b (margin_then n)
 adds_margin a b m n h k e r =
@@ -92,9 +99,11 @@ flat_more : (ys : List ℕ) (c : ℕ) → flat_map written (ys ++ c ∷ []) ≡ 
 flat_more [] c = append-nil (written c)
 flat_more (y ∷ ys) c = ap (λ zs. written y ++ zs) (flat_more ys c) ∙ sym (append_assoc (written y) (flat_map written ys) (written c))
 
-pub all_more : (a b c cs : List ℕ) (i d : ℕ) → i < length cs → d ≡ get_or cs i d → b ≡ a ++ encode_utf8_all (flat_map written (take i cs)) → c ≡ b ++ encode_utf8_all (written d) → c ≡ a ++ encode_utf8_all (flat_map written (take (i + 1) cs))
+pub all_more : (a b c cs : List ℕ) (i d : ℕ) → i < length cs → d ≡ get_or cs i d → b ≡ a ++ encode_utf8_all (flat_map written (take i cs))
+    → c ≡ b ++ encode_utf8_all (written d) → c ≡ a ++ encode_utf8_all (flat_map written (take (i + 1) cs))
 all_more a b c cs i d l e h k =
-    let s : flat_map written (take (i + 1) cs) ≡ flat_map written (take i cs) ++ written d = ap (flat_map written) (take_more cs i d l ∙ ap (λ x. take i cs ++ x ∷ []) (sym e)) ∙ flat_more (take i cs) d in
+    let s : flat_map written (take (i + 1) cs) ≡ flat_map written (take i cs) ++ written d = ap (flat_map written) (take_more cs i d l
+        ∙ ap (λ x. take i cs ++ x ∷ []) (sym e)) ∙ flat_more (take i cs) d in
     k ∙ ap (λ zs. zs ++ encode_utf8_all (written d)) h ∙ append_assoc a (encode_utf8_all (flat_map written (take i cs))) (encode_utf8_all (written d))
     ∙ ap (λ zs. a ++ zs) (sym (encodes-append (flat_map written (take i cs)) (written d))) ∙ ap (λ zs. a ++ encode_utf8_all zs) (sym s)
 
@@ -117,10 +126,13 @@ pub puts_along : {a b : List ℕ} (x y : Expression) → x ≡ y → Puts a b (e
 puts_along {a} {b} x y e h = subst (λ z. Puts a b (expr_items z)) (sym e) h
 
 -- one more pair of square brackets
-pub dims_step : (a b c d : List ℕ) (n i : ℕ) → i < n → ((r : List Item) → Adds a b (dims_items n r) (dims_items (n - i) r)) → Puts b c (mark_then marks.OpenSquare) → Puts c d (mark_then marks.CloseSquare) → (r : List Item) → Adds a d (dims_items n r) (dims_items (n - (i + 1)) r)
+pub dims_step : (a b c d : List ℕ) (n i : ℕ) → i < n → ((r : List Item) → Adds a b (dims_items n r) (dims_items (n - i) r))
+    → Puts b c (mark_then marks.OpenSquare) → Puts c d (mark_then marks.CloseSquare) → (r : List Item)
+    → Adds a d (dims_items n r) (dims_items (n - (i + 1)) r)
 dims_step a b c d n i l h f g r =
     let e : n - i ≡ suc (n - (i + 1)) = omega arith in
-    adds_then (h r) (subst (λ m. Adds b d (dims_items m r) (dims_items (n - (i + 1)) r)) (sym e) (adds_then (f (mark_then marks.CloseSquare (dims_items (n - (i + 1)) r))) (g (dims_items (n - (i + 1)) r))))
+    adds_then (h r) (subst (λ m. Adds b d (dims_items m r) (dims_items (n - (i + 1)) r)) (sym e)
+        (adds_then (f (mark_then marks.CloseSquare (dims_items (n - (i + 1)) r))) (g (dims_items (n - (i + 1)) r))))
 
 pub dims_end : (a b : List ℕ) (n i : ℕ) → n ≤ i → ((r : List Item) → Adds a b (dims_items n r) (dims_items (n - i) r)) → Puts a b (dims_items n)
 dims_end a b n i l h r = let e : n - i ≡ 0 = omega arith in subst (λ m. Adds a b (dims_items n r) (dims_items m r)) e (h r)

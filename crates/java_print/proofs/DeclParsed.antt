@@ -25,16 +25,21 @@ use Rattle.java_print.proofs.TreeLexes as texts
 use Rattle.java_print.proofs.ExprParsed.{Of, none, one, of_tokens, Got, step, type_found}
 use Rattle.java_print.proofs.TreeParsed.{final, stmts}
 
-mods : (ms : List Modifier) → Each IsFormedMod (all_unplaced modifier_unplaced ms) → (r : List Item) (ts : List Token) → Of (kinds_in (mods_items ms r)) ts → Got (all_unplaced modifier_unplaced) IsMods ms (kinds_in r) ts
+mods : (ms : List Modifier) → Each IsFormedMod (all_unplaced modifier_unplaced ms) → (r : List Item) (ts : List Token)
+    → Of (kinds_in (mods_items ms r)) ts → Got (all_unplaced modifier_unplaced) IsMods ms (kinds_in r) ts
 mods [] w r ts o = record { rest = ts; tree = []; fact = no_mods; left = o; same = refl }
 mods (m ∷ ms) w r _ (one {p = p} {ts = ts} o) = let x = mods ms w.1 r ts o in
-    record { rest = x.rest; tree = record { word = m.word; place = p } ∷ x.tree; fact = next_mod w.0 x.fact; left = x.left; same = ap (λ x. modifier_unplaced m ∷ x) x.same }
+    record { rest = x.rest; tree = record { word = m.word; place = p } ∷ x.tree; fact = next_mod w.0 x.fact; left = x.left; same = ap
+        (λ x. modifier_unplaced m ∷ x) x.same }
 
-result : (t : Option TypeName) (r : List Item) (ts : List Token) → Of (kinds_in (result_items t r)) ts → Got (may_unplaced type_unplaced) IsResult t (kinds_in r) ts
+result : (t : Option TypeName) (r : List Item) (ts : List Token) → Of (kinds_in (result_items t r)) ts
+    → Got (may_unplaced type_unplaced) IsResult t (kinds_in r) ts
 result None r _ (one {ts = ts} o) = record { rest = ts; tree = None; fact = no_result; left = o; same = refl }
-result (Some t) r ts o = let x = type_found t r ts o in record { rest = x.rest; tree = Some x.tree; fact = a_result x.fact; left = x.left; same = ap Some x.same }
+result (Some t) r ts o = let x = type_found t r ts o in record { rest = x.rest; tree = Some x.tree; fact = a_result x.fact; left = x.left; same =
+    ap Some x.same }
 
-param : (q : Param) (r : List Item) (ts : List Token) → Of (kinds_in (final_items q.is_final (type_items q.ty (Space ∷ word_then q.name r)))) ts → Got param_unplaced IsParam q (kinds_in r) ts
+param : (q : Param) (r : List Item) (ts : List Token) → Of (kinds_in (final_items q.is_final (type_items q.ty (Space ∷ word_then q.name r)))) ts
+    → Got param_unplaced IsParam q (kinds_in r) ts
 param q r ts o =
     let a = final q.is_final _ ts o in
     let b = step (type_found q.ty _ a.rest a.left) in
@@ -43,24 +48,30 @@ param q r ts o =
       tree = record { is_final = a.tree; ty = b.tree; name = q.name; place = b.fact.0 };
       fact = a_param a.fact b.fact.1;
       left = b.left;
-      same = ap (λ x. record { is_final = x; ty = type_unplaced b.tree; name = q.name; place = nowhere }) a.same ∙ ap (λ x. record { is_final = q.is_final; ty = x; name = q.name; place = nowhere }) b.same;
+      same = ap (λ x. record { is_final = x; ty = type_unplaced b.tree; name = q.name; place = nowhere }) a.same
+          ∙ ap (λ x. record { is_final = q.is_final; ty = x; name = q.name; place = nowhere }) b.same;
     }
 
-more_params : (qs : List Param) (r : List Item) (ts : List Token) → Of (kinds_in (params_items true qs r)) ts → Got (all_unplaced param_unplaced) IsMoreParams qs (kinds_in r) ts
+more_params : (qs : List Param) (r : List Item) (ts : List Token) → Of (kinds_in (params_items true qs r)) ts
+    → Got (all_unplaced param_unplaced) IsMoreParams qs (kinds_in r) ts
 more_params [] r _ (one {ts = ts} o) = record { rest = ts; tree = []; fact = last_param; left = o; same = refl }
 more_params (q ∷ qs) r _ (one {ts = ts} o) = let x = param q _ ts o in let y = more_params qs r x.rest x.left in
-    record { rest = y.rest; tree = x.tree ∷ y.tree; fact = next_param x.fact y.fact; left = y.left; same = ap (λ x. x ∷ all_unplaced param_unplaced y.tree) x.same ∙ ap (λ y. param_unplaced q ∷ y) y.same }
+    record { rest = y.rest; tree = x.tree ∷ y.tree; fact = next_param x.fact y.fact; left = y.left; same = ap
+        (λ x. x ∷ all_unplaced param_unplaced y.tree) x.same ∙ ap (λ y. param_unplaced q ∷ y) y.same }
 
-params : (qs : List Param) (r : List Item) (ts : List Token) → Of (kinds_in (params_items false qs r)) ts → Got (all_unplaced param_unplaced) IsParams qs (kinds_in r) ts
+params : (qs : List Param) (r : List Item) (ts : List Token) → Of (kinds_in (params_items false qs r)) ts
+    → Got (all_unplaced param_unplaced) IsParams qs (kinds_in r) ts
 params [] r _ (one {ts = ts} o) = record { rest = ts; tree = []; fact = no_params; left = o; same = refl }
 params (q ∷ qs) r ts o = let x = param q _ ts o in let y = more_params qs r x.rest x.left in
-    record { rest = y.rest; tree = x.tree ∷ y.tree; fact = some_params x.fact y.fact; left = y.left; same = ap (λ x. x ∷ all_unplaced param_unplaced y.tree) x.same ∙ ap (λ y. param_unplaced q ∷ y) y.same }
+    record { rest = y.rest; tree = x.tree ∷ y.tree; fact = some_params x.fact y.fact; left = y.left; same = ap
+        (λ x. x ∷ all_unplaced param_unplaced y.tree) x.same ∙ ap (λ y. param_unplaced q ∷ y) y.same }
 
 -- a head without its place
 abbrev bare_head : List Modifier → Option TypeName → List ℕ → List Param → HeadTree
 bare_head ms t n qs = record { mods = ms; type = t; name = n; params = qs; place = nowhere }
 
-head : (h : HeadTree) → IsFormedHead (head_unplaced h) → (r : List Item) (ts : List Token) → Of (kinds_in (head_items h r)) ts → Got head_unplaced IsHead h (kinds_in r) ts
+head : (h : HeadTree) → IsFormedHead (head_unplaced h) → (r : List Item) (ts : List Token) → Of (kinds_in (head_items h r)) ts
+    → Got head_unplaced IsHead h (kinds_in r) ts
 head h w r ts o =
     let x = mods h.mods w.0 _ ts o in
     let y = step (step (result h.type _ x.rest x.left)) in
@@ -70,15 +81,19 @@ head h w r ts o =
       tree = record { mods = x.tree; type = y.tree; name = h.name; params = z.tree; place = y.fact.1.0 };
       fact = a_head x.fact y.fact.1.1 z.fact;
       left = z.left;
-      same = ap (λ k. bare_head k (may_unplaced type_unplaced y.tree) h.name (all_unplaced param_unplaced z.tree)) x.same ∙ ap (λ k. bare_head (all_unplaced modifier_unplaced h.mods) k h.name (all_unplaced param_unplaced z.tree)) y.same
+      same = ap (λ k. bare_head k (may_unplaced type_unplaced y.tree) h.name (all_unplaced param_unplaced z.tree)) x.same
+          ∙ ap (λ k. bare_head (all_unplaced modifier_unplaced h.mods) k h.name (all_unplaced param_unplaced z.tree)) y.same
           ∙ ap (bare_head (all_unplaced modifier_unplaced h.mods) (may_unplaced type_unplaced h.type) h.name) z.same;
     }
 
-body : (b : Option Statements) → IsFormedBody (may_unplaced stmts_unplaced b) → (r : List Item) (ts : List Token) → Of (kinds_in (body_items b r)) ts → Got (may_unplaced stmts_unplaced) IsBody b (kinds_in r) ts
+body : (b : Option Statements) → IsFormedBody (may_unplaced stmts_unplaced b) → (r : List Item) (ts : List Token) → Of (kinds_in (body_items b r)) ts
+    → Got (may_unplaced stmts_unplaced) IsBody b (kinds_in r) ts
 body None w r _ (one {ts = ts} o) = record { rest = ts; tree = None; fact = no_body; left = o; same = refl }
-body (Some ss) w r _ (one {ts = ts} o) = let x = stmts ss w 4 2 (End ∷ r) ts o in record { rest = x.rest; tree = Some x.tree; fact = a_body x.fact; left = x.left; same = ap Some x.same }
+body (Some ss) w r _ (one {ts = ts} o) =
+    let x = stmts ss w 4 2 (End ∷ r) ts o in record { rest = x.rest; tree = Some x.tree; fact = a_body x.fact; left = x.left; same = ap Some x.same }
 
-member : (m : MemberTree) → IsFormedMember (member_unplaced m) → (r : List Item) (ts : List Token) → Of (kinds_in (member_items m r)) ts → Got member_unplaced IsMember m (kinds_in r) ts
+member : (m : MemberTree) → IsFormedMember (member_unplaced m) → (r : List Item) (ts : List Token) → Of (kinds_in (member_items m r)) ts
+    → Got member_unplaced IsMember m (kinds_in r) ts
 member (FieldTree ms t n p) w r ts o =
     let x = mods ms w.0 _ ts o in
     let y = step (step (type_found t _ x.rest x.left)) in
@@ -100,30 +115,39 @@ member (MethodTree h b p) w r ts o =
       same = ap (λ k. MethodTree k (may_unplaced stmts_unplaced y.tree) nowhere) x.same ∙ ap (λ k. MethodTree (head_unplaced h) k nowhere) y.same;
     }
 
-members : (ms : List MemberTree) → Each IsFormedMember (all_unplaced member_unplaced ms) → (r : List Item) (ts : List Token) → Of (kinds_in (members_items ms (mark_then marks.CloseBrace r))) ts → Got (all_unplaced member_unplaced) IsMembers ms (kinds_in r) ts
+members : (ms : List MemberTree) → Each IsFormedMember (all_unplaced member_unplaced ms) → (r : List Item) (ts : List Token)
+    → Of (kinds_in (members_items ms (mark_then marks.CloseBrace r))) ts → Got (all_unplaced member_unplaced) IsMembers ms (kinds_in r) ts
 members [] w r _ (one {ts = ts} o) = record { rest = ts; tree = []; fact = no_members; left = o; same = refl }
 members (m ∷ ms) w r ts o = let x = member m w.0 _ ts o in let y = members ms w.1 r x.rest x.left in
-    record { rest = y.rest; tree = x.tree ∷ y.tree; fact = next_member x.fact y.fact; left = y.left; same = ap (λ x. x ∷ all_unplaced member_unplaced y.tree) x.same ∙ ap (λ y. member_unplaced m ∷ y) y.same }
+    record { rest = y.rest; tree = x.tree ∷ y.tree; fact = next_member x.fact y.fact; left = y.left; same = ap
+        (λ x. x ∷ all_unplaced member_unplaced y.tree) x.same ∙ ap (λ y. member_unplaced m ∷ y) y.same }
 
-heads : (hs : List HeadTree) → Each IsFormedHead (all_unplaced head_unplaced hs) → (r : List Item) (ts : List Token) → Of (kinds_in (heads_items hs (mark_then marks.CloseBrace r))) ts → Got (all_unplaced head_unplaced) IsHeads hs (kinds_in r) ts
+heads : (hs : List HeadTree) → Each IsFormedHead (all_unplaced head_unplaced hs) → (r : List Item) (ts : List Token)
+    → Of (kinds_in (heads_items hs (mark_then marks.CloseBrace r))) ts → Got (all_unplaced head_unplaced) IsHeads hs (kinds_in r) ts
 heads [] w r _ (one {ts = ts} o) = record { rest = ts; tree = []; fact = no_heads; left = o; same = refl }
 heads (h ∷ hs) w r ts o = let x = step (head h w.0 _ ts o) in let y = heads hs w.1 r x.rest x.left in
-    record { rest = y.rest; tree = x.tree ∷ y.tree; fact = next_head x.fact.1 y.fact; left = y.left; same = ap (λ x. x ∷ all_unplaced head_unplaced y.tree) x.same ∙ ap (λ y. head_unplaced h ∷ y) y.same }
+    record { rest = y.rest; tree = x.tree ∷ y.tree; fact = next_head x.fact.1 y.fact; left = y.left; same = ap
+        (λ x. x ∷ all_unplaced head_unplaced y.tree) x.same ∙ ap (λ y. head_unplaced h ∷ y) y.same }
 
-ids : (is : List Id) (i : Id) (r : List Item) (ts : List Token) → Of (kinds_in (ids_items false (i ∷ is) r)) ts → Got (all_unplaced id_unplaced) IsIds (i ∷ is) (kinds_in r) ts
+ids : (is : List Id) (i : Id) (r : List Item) (ts : List Token) → Of (kinds_in (ids_items false (i ∷ is) r)) ts
+    → Got (all_unplaced id_unplaced) IsIds (i ∷ is) (kinds_in r) ts
 ids [] i r _ (one {p = p} {ts = ts} o) = record { rest = ts; tree = record { name = i.name; place = p } ∷ []; fact = last_id; left = o; same = refl }
 ids (j ∷ is) i r _ (one {p = p} (one {ts = ts} o)) = let x = ids is j r ts o in
-    record { rest = x.rest; tree = record { name = i.name; place = p } ∷ x.tree; fact = next_id x.fact; left = x.left; same = ap (λ x. id_unplaced i ∷ x) x.same }
+    record { rest = x.rest; tree = record { name = i.name; place = p } ∷ x.tree; fact = next_id x.fact; left = x.left; same = ap
+        (λ x. id_unplaced i ∷ x) x.same }
 
 parent : (c : Option Id) (r : List Item) (ts : List Token) → Of (kinds_in (parent_items c r)) ts → Got (may_unplaced id_unplaced) IsParent c (kinds_in r) ts
 parent None r ts o = record { rest = ts; tree = None; fact = no_parent; left = o; same = refl }
-parent (Some i) r _ (one (one {p = p} {ts = ts} o)) = record { rest = ts; tree = Some (record { name = i.name; place = p }); fact = a_parent; left = o; same = refl }
+parent (Some i) r _ (one (one {p = p} {ts = ts} o)) =
+    record { rest = ts; tree = Some (record { name = i.name; place = p }); fact = a_parent; left = o; same = refl }
 
-list : (k : Keyword) (is : List Id) (r : List Item) (ts : List Token) → Of (kinds_in (list_items k is r)) ts → Got (all_unplaced id_unplaced) (IsList k) is (kinds_in r) ts
+list : (k : Keyword) (is : List Id) (r : List Item) (ts : List Token) → Of (kinds_in (list_items k is r)) ts
+    → Got (all_unplaced id_unplaced) (IsList k) is (kinds_in r) ts
 list k [] r ts o = record { rest = ts; tree = []; fact = no_list; left = o; same = refl }
 list k (i ∷ is) r _ (one {ts = ts} o) = let x = ids is i r ts o in record { rest = x.rest; tree = x.tree; fact = a_list x.fact; left = x.left; same = x.same }
 
-decl : (d : DeclTree) → IsFormedDecl (decl_unplaced d) → (r : List Item) (ts : List Token) → Of (kinds_in (decl_items d r)) ts → Got decl_unplaced IsDecl d (kinds_in r) ts
+decl : (d : DeclTree) → IsFormedDecl (decl_unplaced d) → (r : List Item) (ts : List Token) → Of (kinds_in (decl_items d r)) ts
+    → Got decl_unplaced IsDecl d (kinds_in r) ts
 decl (ClassTree ms n c fs bs p) w r ts o =
     let x = step (step (mods ms w.0 _ ts o)) in
     let y = parent c _ x.rest x.left in
@@ -156,9 +180,11 @@ decl (InterfaceTree ms n fs hs p) w r ts o =
 decls : (ds : List DeclTree) → IsFormedTree (unplaced ds) → (ts : List Token) → Of (kinds_in (decls_items ds [])) ts → Derives ts ds
 decls [] w _ none = record { placed = []; derived = no_decls; same = refl }
 decls (d ∷ ds) w ts o = let x = decl d w.0 _ ts o in let y = decls ds w.1 x.rest x.left in
-    record { placed = x.tree ∷ y.placed; derived = next_decl x.fact y.derived; same = ap (λ x. x ∷ unplaced y.placed) x.same ∙ ap (λ y. decl_unplaced d ∷ y) y.same }
+    record { placed = x.tree ∷ y.placed; derived = next_decl x.fact y.derived; same = ap (λ x. x ∷ unplaced y.placed) x.same
+        ∙ ap (λ y. decl_unplaced d ∷ y) y.same }
 
-read_by : (bytes : List ℕ) (ds : List DeclTree) (o : Outcome) → tokens_of bytes ≡ o → kinds_of o ≡ Ok (kinds_in (decls_items ds [])) → IsFormedTree (unplaced ds) → IsReadAs bytes ds
+read_by : (bytes : List ℕ) (ds : List DeclTree) (o : Outcome) → tokens_of bytes ≡ o → kinds_of o ≡ Ok (kinds_in (decls_items ds []))
+    → IsFormedTree (unplaced ds) → IsReadAs bytes ds
 read_by bytes ds (Ok ts) e h w = let k : map kind_of ts ≡ kinds_in (decls_items ds []) = cc in
     record { tokens = ts; lexed = e; derived = decls ds w ts (subst (λ ks. Of ks ts) k (of_tokens ts)) }
 read_by bytes ds (Err f) e h w = cc
@@ -169,7 +195,8 @@ text_read ds w =
     let l = texts.decls ds w [] nothing in
     let cs = tree_text ds in
     let u : chars (encode_utf8_all cs) ≡ cs = chars-encodes cs l.scalars in
-    read_by (encode_utf8_all cs) ds (lexed cs 0 start) (tokens_ok (encode_utf8_all cs) (cs, (l.scalars, refl)) ∙ ap (λ x. lexed x 0 start) u) (l.reads.reads start) w
+    read_by (encode_utf8_all cs) ds (lexed cs 0 start) (tokens_ok (encode_utf8_all cs) (cs, (l.scalars, refl)) ∙ ap (λ x. lexed x 0 start) u)
+        (l.reads.reads start) w
 
 -- a formed program is one that the grammar gives: it is read from its own text
 pub formed_given : (ds : List DeclTree) → IsFormedTree (unplaced ds) → IsGiven ds

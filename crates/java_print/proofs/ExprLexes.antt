@@ -38,11 +38,13 @@ unfolding unicode_ident
 round true e h r a s = (h r a s).lexes
 round false e h r a s = closed tokens.cOpenRound (h _ refl (closed tokens.cCloseRound s)).lexes
 
-round_head : (b : Bool) (e : Expression) (r : List Item) → (b ≡ true → next_is signy (text (expr_items e r)) ≡ false) → next_is signy (text (in_round b (expr_items e) r)) ≡ false
+round_head : (b : Bool) (e : Expression) (r : List Item) → (b ≡ true → next_is signy (text (expr_items e r)) ≡ false)
+    → next_is signy (text (in_round b (expr_items e) r)) ≡ false
 round_head true e r h = h refl
 round_head false e r h = refl
 
-post_head : (k : ℕ) → 12 ≤ k → (e : Expression) → Shown e → (r : List Item) → Loose r → Lexes r → next_is signy (text (in_round (fits k e) (expr_items e) r)) ≡ false
+post_head : (k : ℕ) → 12 ≤ k → (e : Expression) → Shown e → (r : List Item) → Loose r → Lexes r
+    → next_is signy (text (in_round (fits k e) (expr_items e) r)) ≡ false
 post_head k l e h r a s = round_head (fits k e) e r (λ f. (h r a s).head (omega (arith, leb-true k (rank e) f, l)))
 
 pub a_sign : (m : Mark) → is_sign m ≡ true → IsSign m
@@ -53,7 +55,8 @@ a_sign marks.Flip h = flip
 a_sign _ h = absurd (true≢false (sym h))
 
 -- a sign whose operand does not begin with the same one
-two_signs : {m k : Mark} → IsSign m → IsSign k → (e : Expression) (p : Place) (rest : List ℕ) → not (same_sign m (sign_of (UnaryOf k e p))) ≡ true → next_is (extends m) (mark_text k ++ rest) ≡ false
+two_signs : {m k : Mark} → IsSign m → IsSign k → (e : Expression) (p : Place) (rest : List ℕ) → not (same_sign m (sign_of (UnaryOf k e p))) ≡ true
+    → next_is (extends m) (mark_text k ++ rest) ≡ false
 two_signs plus plus e p rest h = absurd (true≢false (sym h))
 two_signs plus minus e p rest h = refl
 two_signs plus bang e p rest h = refl
@@ -80,7 +83,8 @@ bracket minus rest = refl
 bracket bang rest = refl
 bracket flip rest = refl
 
-sign_eleven : {m : Mark} → IsSign m → (e : Expression) → IsFormed (expr_unplaced e) → 11 ≤ rank e → rank e < 12 → not (same_sign m (sign_of e)) ≡ true → (r : List Item) → next_is (extends m) (text (expr_items e r)) ≡ false
+sign_eleven : {m : Mark} → IsSign m → (e : Expression) → IsFormed (expr_unplaced e) → 11 ≤ rank e → rank e < 12 → not (same_sign m (sign_of e)) ≡ true
+    → (r : List Item) → next_is (extends m) (text (expr_items e r)) ≡ false
 sign_eleven g (UnaryOf k e p) w l u q r = two_signs g (a_sign k w.0) e p _ q
 sign_eleven g (CastOf t e p) w l u q r = bracket g (drop 1 (text (expr_items (CastOf t e p) r)))
 sign_eleven g (BinaryOf m a b p) w l u q r = absurd (omega (arith, level_low m, l))
@@ -88,7 +92,8 @@ sign_eleven g (IntLit (pos n) p) w l u q r = absurd (omega (arith, u))
 sign_eleven g (IntLit (negsuc n) p) w l u q r = absurd (omega (arith, l))
 sign_eleven g _ w l u q r = absurd (omega (arith, l, u))
 
-sign_head : {m : Mark} → IsSign m → (e : Expression) → IsFormed (expr_unplaced e) → Shown e → fits_sign m e ≡ true → (r : List Item) → Loose r → Lexes r → next_is (extends m) (text (expr_items e r)) ≡ false
+sign_head : {m : Mark} → IsSign m → (e : Expression) → IsFormed (expr_unplaced e) → Shown e → fits_sign m e ≡ true → (r : List Item) → Loose r
+    → Lexes r → next_is (extends m) (text (expr_items e r)) ≡ false
 sign_head {m} g e w h f r a s =
     let p = and_parts (fits 11 e) (not (same_sign m (sign_of e))) f in
     elim (cases_Bool (nat_le 12 (rank e))) as (λ _. next_is (extends m) (text (expr_items e r)) ≡ false) [
@@ -96,7 +101,8 @@ sign_head {m} g e w h f r a s =
       | inr k ↦ sign_eleven g e w (leb-true 11 (rank e) p.0) (leb-false 12 (rank e) k) p.1 r
     ]
 
-sign_round : {m : Mark} → IsSign m → (b : Bool) (e : Expression) → fits_sign m e ≡ b → IsFormed (expr_unplaced e) → Shown e → (r : List Item) → Loose r → Lexes r → next_is (extends m) (text (in_round b (expr_items e) r)) ≡ false
+sign_round : {m : Mark} → IsSign m → (b : Bool) (e : Expression) → fits_sign m e ≡ b → IsFormed (expr_unplaced e) → Shown e → (r : List Item)
+    → Loose r → Lexes r → next_is (extends m) (text (in_round b (expr_items e) r)) ≡ false
 sign_round g true e f w h r a s = sign_head g e w h f r a s
 sign_round g false e f w h r a s = bracket g (drop 1 (text (in_round false (expr_items e) r)))
 
@@ -105,7 +111,9 @@ small_shows n p h r a s = record { lexes = small n h a s; head = λ k. number_he
 
 int : (z : ℤ) (p : Place) → IsNumber z → Shown (IntLit z p)
 int z p (a_small q) = subst (λ y. Shown (IntLit y p)) (sym q.is) (small_shows q.value p q.small)
-int z p the_least = λ r a s. record { lexes = signed minus (clear minus (text (Lexeme kinds.Least ∷ r)) (number_head 2147483648 (text r) (omega arith))) (least a s); head = λ k. absurd (omega (arith, k)) }
+int z p the_least = λ r a s. record
+    { lexes = signed minus (clear minus (text (Lexeme kinds.Least ∷ r)) (number_head 2147483648 (text r) (omega arith))) (least a s); head = λ k.
+    absurd (omega (arith, k)) }
 
 pub base : (b : TypeBase) → IsFormedBase b → (r : List Item) → Loose r → Lexes r → Lexes (base_items b r)
 base bases.Int w r a s = key keys.Int a s
@@ -163,14 +171,19 @@ mutual
   expr (CallOf n es p) w = λ r a s. record { lexes = word w.0 refl (closed tokens.cOpenRound (args false es w.1 r s)); head = λ h. name_head n _ w.0.named }
   expr (CallOn e n es p) w = λ r a s. let t = closed tokens.cDot (word w.1 refl (closed tokens.cOpenRound (args false es w.2 r s))) in
       record { lexes = round (fits 12 e) e (expr e w.0) _ refl t; head = λ h. post_head 12 (omega arith) e (expr e w.0) _ refl t }
-  expr (SuperCallOf n es p) w = λ r a s. record { lexes = key keys.Super refl (closed tokens.cDot (word w.0 refl (closed tokens.cOpenRound (args false es w.1 r s)))); head = λ h. refl }
-  expr (NewOf c es p) w = λ r a s. record { lexes = key keys.New refl (space (word w.0 refl (closed tokens.cOpenRound (args false es w.1 r s)))); head = λ h. refl }
+  expr (SuperCallOf n es p) w =
+      λ r a s. record { lexes = key keys.Super refl (closed tokens.cDot (word w.0 refl (closed tokens.cOpenRound (args false es w.1 r s))));
+      head = λ h. refl }
+  expr (NewOf c es p) w = λ r a s. record { lexes = key keys.New refl (space (word w.0 refl (closed tokens.cOpenRound (args false es w.1 r s))));
+      head = λ h. refl }
   expr (NewArrayOf t e p) w = λ r a s. record {
-    lexes = key keys.New refl (space (base t.base w.0 _ refl (closed tokens.cOpenSquare (expr e w.2 _ refl (closed tokens.cCloseSquare (more_dims t.dim r s))).lexes)));
+    lexes = key keys.New refl (space
+        (base t.base w.0 _ refl (closed tokens.cOpenSquare (expr e w.2 _ refl (closed tokens.cCloseSquare (more_dims t.dim r s))).lexes)));
     head = λ h. refl;
   }
   expr (CastOf t e p) w = λ r a s. record {
-    lexes = closed tokens.cOpenRound (base t.base (cast_base t.base w.0) _ refl (closed tokens.cCloseRound (space (round (fits_cast t.base e) e (expr e w.2) r a s))));
+    lexes = closed tokens.cOpenRound (base t.base (cast_base t.base w.0) _ refl
+        (closed tokens.cCloseRound (space (round (fits_cast t.base e) e (expr e w.2) r a s))));
     head = λ h. absurd (omega (arith, h));
   }
   expr (InstanceOfClass e c p) w = λ r a s. record {

@@ -43,10 +43,12 @@ pub record Got {A : Type 0} (plain : A → A) (P : List Token → List Token →
 abbrev pub Then : {A : Type 0} → TokenKind → (List Token → List Token → A → Type 0) → List Token → List Token → A → Type 0
 Then k P ts rest x = (p : Place) × P ts (token k p ∷ rest) x
 
-step_by : {A : Type 0} {plain : A → A} {x : A} {k : TokenKind} {ks : List TokenKind} {ts : List Token} (P : List Token → List Token → A → Type 0) (us : List Token) (tree : A) → P ts us tree → Of (k ∷ ks) us → plain tree ≡ plain x → Got plain (Then k P) x ks ts
+step_by : {A : Type 0} {plain : A → A} {x : A} {k : TokenKind} {ks : List TokenKind} {ts : List Token} (P : List Token → List Token → A → Type 0)
+    (us : List Token) (tree : A) → P ts us tree → Of (k ∷ ks) us → plain tree ≡ plain x → Got plain (Then k P) x ks ts
 step_by P _ tree d (one {p = p} {ts = vs} o) s = record { rest = vs; tree = tree; fact = (p, d); left = o; same = s }
 
-pub step : {A : Type 0} {plain : A → A} {P : List Token → List Token → A → Type 0} {x : A} {k : TokenKind} {ks : List TokenKind} {ts : List Token} → Got plain P x (k ∷ ks) ts → Got plain (Then k P) x ks ts
+pub step : {A : Type 0} {plain : A → A} {P : List Token → List Token → A → Type 0} {x : A} {k : TokenKind} {ks : List TokenKind} {ts : List Token}
+    → Got plain P x (k ∷ ks) ts → Got plain (Then k P) x ks ts
 step {P = P} g = step_by P g.rest g.tree g.fact g.left g.same
 
 -- an expression where a level is asked
@@ -74,21 +76,26 @@ post_shape : {e t : Expression} {ts rest : List Token} → IsPost true ts rest t
 post_shape d = record { whole = operand (bare d); at = λ k l. at_post k d }
 
 array_shape : {e t : Expression} {b : Bool} {ts rest : List Token} → rank e ≤ 12 → IsPost b ts rest t → Shape e ts rest t
-array_shape {b = b} h d = record { whole = operand (bare d); at = λ k l. record { level = operand (bare d); prefixed = λ m. bare d; any_post = λ m. (b, d); post = λ m. absurd (omega (arith, h, l, m)) } }
+array_shape {b = b} h d = record { whole = operand (bare d); at = λ k l. record { level = operand (bare d); prefixed = λ m. bare d; any_post = λ m.
+    (b, d); post = λ m. absurd (omega (arith, h, l, m)) } }
 
 prefixed_shape : {e t : Expression} {ts rest : List Token} → rank e ≤ 11 → IsPrefixed ts rest t → Shape e ts rest t
-prefixed_shape h d = record { whole = operand d; at = λ k l. record { level = operand d; prefixed = λ m. d; any_post = λ m. absurd (omega (arith, h, l, m)); post = λ m. absurd (omega (arith, h, l, m)) } }
+prefixed_shape h d = record { whole = operand d; at = λ k l. record { level = operand d; prefixed = λ m. d; any_post = λ m. absurd
+    (omega (arith, h, l, m)); post = λ m. absurd (omega (arith, h, l, m)) } }
 
 open_shape : {e t : Expression} {ts rest : List Token} → rank e ≤ 10 → 1 ≤ rank e → ((k : ℕ) → k ≤ rank e → IsExpr k ts rest t) → Shape e ts rest t
-open_shape h i d = record { whole = d 1 i; at = λ k l. record { level = d k l; prefixed = λ m. absurd (omega (arith, h, l, m)); any_post = λ m. absurd (omega (arith, h, l, m)); post = λ m. absurd (omega (arith, h, l, m)) } }
+open_shape h i d = record { whole = d 1 i; at = λ k l. record { level = d k l; prefixed = λ m. absurd (omega (arith, h, l, m)); any_post = λ m. absurd
+    (omega (arith, h, l, m)); post = λ m. absurd (omega (arith, h, l, m)) } }
 
 -- an operand, in round brackets where the test says so
-pub rounded : (k : ℕ) (b : Bool) (e : Expression) → (b ≡ true → k ≤ rank e) → Finds e → (r : List Item) (ts : List Token) → Of (kinds_in (in_round b (expr_items e) r)) ts → Got expr_unplaced (At k) e (kinds_in r) ts
+pub rounded : (k : ℕ) (b : Bool) (e : Expression) → (b ≡ true → k ≤ rank e) → Finds e → (r : List Item) (ts : List Token)
+    → Of (kinds_in (in_round b (expr_items e) r)) ts → Got expr_unplaced (At k) e (kinds_in r) ts
 rounded k true e f h r ts o = let x = h r ts o in record { rest = x.rest; tree = x.tree; fact = x.fact.at k (f refl); left = x.left; same = x.same }
 rounded k false e f h r _ (one {ts = ts} o) = let x = step (h (mark_then marks.CloseRound r) ts o) in
     record { rest = x.rest; tree = x.tree; fact = at_post k (round x.fact.1.whole); left = x.left; same = x.same }
 
-pub operand_found : (k : ℕ) (e : Expression) → Finds e → (r : List Item) (ts : List Token) → Of (kinds_in (in_round (fits k e) (expr_items e) r)) ts → Got expr_unplaced (At k) e (kinds_in r) ts
+pub operand_found : (k : ℕ) (e : Expression) → Finds e → (r : List Item) (ts : List Token) → Of (kinds_in (in_round (fits k e) (expr_items e) r)) ts
+    → Got expr_unplaced (At k) e (kinds_in r) ts
 operand_found k e h r ts o = rounded k (fits k e) e (λ f. leb-true k (rank e) f) h r ts o
 
 -- a type without brackets, at the place of its token
@@ -126,7 +133,8 @@ of_casts : (ks : List TokenKind) (ts : List Token) → Of ks ts → first_casts 
 of_casts _ _ none h = absurd (true≢false (sym h))
 of_casts _ _ (one o) h = h
 
-starts_round : (b : Bool) (e : Expression) (r : List Item) → (b ≡ true → first_casts (kinds_in (expr_items e r)) ≡ true) → first_casts (kinds_in (in_round b (expr_items e) r)) ≡ true
+starts_round : (b : Bool) (e : Expression) (r : List Item) → (b ≡ true → first_casts (kinds_in (expr_items e r)) ≡ true)
+    → first_casts (kinds_in (in_round b (expr_items e) r)) ≡ true
 starts_round true e r h = h refl
 starts_round false e r h = refl
 
@@ -136,7 +144,8 @@ starts (IntLit (negsuc n) p) l r = absurd (omega (arith, l))
 starts (BoolLit true p) l r = refl
 starts (BoolLit false p) l r = refl
 starts (FieldOf e n p) l r = starts_round (fits 12 e) e _ (λ f. starts e (leb-true 12 (rank e) f) _)
-starts (IndexOf e i p) l r = let m : 12 ≤ 13 = omega arith in starts_round (fits 13 e) e _ (λ f. let k : 12 ≤ rank e = omega (arith, leb-true 13 (rank e) f) in starts e k _)
+starts (IndexOf e i p) l r = let m : 12 ≤ 13 = omega arith in starts_round (fits 13 e) e _
+    (λ f. let k : 12 ≤ rank e = omega (arith, leb-true 13 (rank e) f) in starts e k _)
 starts (CallOn e n es p) l r = starts_round (fits 12 e) e _ (λ f. starts e (leb-true 12 (rank e) f) _)
 starts (CastOf t e p) l r = absurd (omega (arith, l))
 starts (InstanceOfClass e c p) l r = absurd (omega (arith, l))
@@ -144,13 +153,15 @@ starts (UnaryOf m e p) l r = absurd (omega (arith, l))
 starts (BinaryOf m a b p) l r = absurd (omega (arith, l, level_low m))
 starts _ l r = refl
 
-sign_starts : {k : Mark} → IsSign k → (n : List ℕ) (e : Expression) (p : Place) → not (is_named (bases.Named n) && is_plus_or_minus (sign_of (UnaryOf k e p))) ≡ true → casts_kind (kinds.Mark k) ≡ true
+sign_starts : {k : Mark} → IsSign k → (n : List ℕ) (e : Expression) (p : Place)
+    → not (is_named (bases.Named n) && is_plus_or_minus (sign_of (UnaryOf k e p))) ≡ true → casts_kind (kinds.Mark k) ≡ true
 sign_starts plus n e p h = absurd (true≢false (sym h))
 sign_starts minus n e p h = absurd (true≢false (sym h))
 sign_starts bang n e p h = refl
 sign_starts flip n e p h = refl
 
-eleven_starts : (e : Expression) → IsFormed (expr_unplaced e) → 11 ≤ rank e → rank e < 12 → (n : List ℕ) → not (is_named (bases.Named n) && is_plus_or_minus (sign_of e)) ≡ true → (r : List Item) → first_casts (kinds_in (expr_items e r)) ≡ true
+eleven_starts : (e : Expression) → IsFormed (expr_unplaced e) → 11 ≤ rank e → rank e < 12 → (n : List ℕ)
+    → not (is_named (bases.Named n) && is_plus_or_minus (sign_of e)) ≡ true → (r : List Item) → first_casts (kinds_in (expr_items e r)) ≡ true
 eleven_starts (UnaryOf k e p) w l u n q r = sign_starts (a_sign k w.0) n e p q
 eleven_starts (CastOf t e p) w l u n q r = refl
 eleven_starts (BinaryOf m a b p) w l u n q r = absurd (omega (arith, level_low m, l))
@@ -158,7 +169,8 @@ eleven_starts (IntLit (pos m) p) w l u n q r = absurd (omega (arith, u))
 eleven_starts (IntLit (negsuc m) p) w l u n q r = absurd (omega (arith, l))
 eleven_starts _ w l u n q r = absurd (omega (arith, l, u))
 
-cast_starts : (b : Bool) (n : List ℕ) (e : Expression) → fits_cast (bases.Named n) e ≡ b → IsFormed (expr_unplaced e) → (r : List Item) → first_casts (kinds_in (in_round b (expr_items e) r)) ≡ true
+cast_starts : (b : Bool) (n : List ℕ) (e : Expression) → fits_cast (bases.Named n) e ≡ b → IsFormed (expr_unplaced e) → (r : List Item)
+    → first_casts (kinds_in (in_round b (expr_items e) r)) ≡ true
 cast_starts false n e f w r = refl
 cast_starts true n e f w r =
     let p = and_parts (fits 11 e) (not (is_named (bases.Named n) && is_plus_or_minus (sign_of e))) f in
@@ -171,18 +183,23 @@ cast_starts true n e f w r =
 abbrev CastTo : TypeBase → Place → List Token → List Token → Expression → Type 0
 CastTo b q ts rest e = (p : Place) × IsPrefixed (mark marks.OpenRound q ∷ ts) rest (CastOf (record { base = b; dim = 0; place = p }) e q)
 
-cast_operand : (b : TypeBase) (e : Expression) → Finds e → (r : List Item) (ts : List Token) → Of (kinds_in (in_round (fits_cast b e) (expr_items e) r)) ts → Got expr_unplaced IsPrefixed e (kinds_in r) ts
+cast_operand : (b : TypeBase) (e : Expression) → Finds e → (r : List Item) (ts : List Token)
+    → Of (kinds_in (in_round (fits_cast b e) (expr_items e) r)) ts → Got expr_unplaced IsPrefixed e (kinds_in r) ts
 cast_operand b e h r ts o =
     let x = rounded 11 (fits_cast b e) e (λ f. leb-true 11 (rank e) (and_parts (fits 11 e) (not (is_named b && is_plus_or_minus (sign_of e))) f).0) h r ts o in
     record { rest = x.rest; tree = x.tree; fact = x.fact.prefixed (omega arith); left = x.left; same = x.same }
 
 cast_to : (b : TypeBase) → IsCastBase b → (e : Expression) → IsFormed (expr_unplaced e) → Finds e → (q : Place) (r : List Item) (ts : List Token)
-    → Of (kinds_in (base_items b (mark_then marks.CloseRound (Space ∷ in_round (fits_cast b e) (expr_items e) r)))) ts → Got expr_unplaced (CastTo b q) e (kinds_in r) ts
+    → Of (kinds_in (base_items b (mark_then marks.CloseRound (Space ∷ in_round (fits_cast b e) (expr_items e) r)))) ts
+        → Got expr_unplaced (CastTo b q) e (kinds_in r) ts
 cast_to bases.Boolean c e w h q r ts o = absurd c
-cast_to bases.Int c e w h q r _ (one {p = p} (one {ts = us} o)) = let x = cast_operand bases.Int e h r us o in record { rest = x.rest; tree = x.tree; fact = (p, cast_int x.fact); left = x.left; same = x.same }
-cast_to bases.Char c e w h q r _ (one {p = p} (one {ts = us} o)) = let x = cast_operand bases.Char e h r us o in record { rest = x.rest; tree = x.tree; fact = (p, cast_char x.fact); left = x.left; same = x.same }
+cast_to bases.Int c e w h q r _ (one {p = p} (one {ts = us} o)) =
+    let x = cast_operand bases.Int e h r us o in record { rest = x.rest; tree = x.tree; fact = (p, cast_int x.fact); left = x.left; same = x.same }
+cast_to bases.Char c e w h q r _ (one {p = p} (one {ts = us} o)) =
+    let x = cast_operand bases.Char e h r us o in record { rest = x.rest; tree = x.tree; fact = (p, cast_char x.fact); left = x.left; same = x.same }
 cast_to (bases.Named n) c e w h q r _ (one {p = p} (one {ts = us} o)) = let x = cast_operand (bases.Named n) e h r us o in
-    record { rest = x.rest; tree = x.tree; fact = (p, cast_named (of_casts _ us o (cast_starts (fits_cast (bases.Named n) e) n e refl w r)) x.fact); left = x.left; same = x.same }
+    record { rest = x.rest; tree = x.tree; fact = (p, cast_named (of_casts _ us o (cast_starts (fits_cast (bases.Named n) e) n e refl w r)) x.fact);
+        left = x.left; same = x.same }
 
 small_found : (n : ℕ) (p : Place) → Finds (IntLit (pos n) p)
 small_found n p r _ (one {p = q} {ts = ts} o) = record { rest = ts; tree = IntLit (pos n) q; fact = post_shape int_literal; left = o; same = refl }
@@ -192,7 +209,8 @@ int z p (a_small q) = subst (λ y. Finds (IntLit y p)) (sym q.is) (small_found q
 int z p the_least = λ r ts o. least_found p r ts o
   where
     least_found : (p : Place) → Finds (IntLit (negsuc 2147483647) p)
-    least_found p r _ (one {p = q} (one {ts = ts} o)) = record { rest = ts; tree = IntLit (negsuc 2147483647) q; fact = prefixed_shape (omega arith) least; left = o; same = refl }
+    least_found p r _ (one {p = q} (one {ts = ts} o)) =
+        record { rest = ts; tree = IntLit (negsuc 2147483647) q; fact = prefixed_shape (omega arith) least; left = o; same = refl }
 
 array_dims : (n : ℕ) → 1 ≤ n → (r : List Item) (ts : List Token) → Of (kinds_in (more_dims_items n r)) ts → (d : ℕ) × (n ≡ suc d) × DimsFound d (kinds_in r) ts
 array_dims zero h r ts o = absurd (omega (arith, h))
@@ -210,7 +228,8 @@ mutual
   expr (NameRef n p) w r _ (one {p = q} {ts = ts} o) = record { rest = ts; tree = NameRef n q; fact = post_shape name; left = o; same = refl }
   expr (FieldOf e n p) w r ts o =
       let x = step (step (operand_found 12 e (expr e w.0) _ ts o)) in
-      record { rest = x.rest; tree = FieldOf x.tree n x.fact.0; fact = post_shape (field (x.fact.1.1.any_post (omega arith)).1); left = x.left; same = ap (λ t. FieldOf t n nowhere) x.same }
+      record { rest = x.rest; tree = FieldOf x.tree n x.fact.0; fact = post_shape (field (x.fact.1.1.any_post (omega arith)).1); left = x.left; same =
+          ap (λ t. FieldOf t n nowhere) x.same }
   expr (IndexOf e i p) w r ts o =
       let x = step (operand_found 13 e (expr e w.0) _ ts o) in
       let y = step (expr i w.1 _ x.rest x.left) in
@@ -234,9 +253,11 @@ mutual
         same = ap (λ t. CallOn t n (exprs_unplaced y.tree) nowhere) x.same ∙ ap (λ t. CallOn (expr_unplaced e) n t nowhere) y.same;
       }
   expr (SuperCallOf n es p) w r _ (one (one (one {p = q} (one {ts = ts} o)))) = let y = args es w.1 r ts o in
-      record { rest = y.rest; tree = SuperCallOf n y.tree q; fact = post_shape (super_call y.fact); left = y.left; same = ap (λ t. SuperCallOf n t nowhere) y.same }
+      record { rest = y.rest; tree = SuperCallOf n y.tree q; fact = post_shape (super_call y.fact); left = y.left; same = ap
+          (λ t. SuperCallOf n t nowhere) y.same }
   expr (NewOf c es p) w r _ (one {p = q} (one {p = s} (one {ts = ts} o))) = let y = args es w.1 r ts o in
-      record { rest = y.rest; tree = NewOf (record { name = c.name; place = s }) y.tree q; fact = post_shape (new_object y.fact); left = y.left; same = ap (λ t. NewOf (id_unplaced c) t nowhere) y.same }
+      record { rest = y.rest; tree = NewOf (record { name = c.name; place = s }) y.tree q; fact = post_shape (new_object y.fact); left = y.left;
+          same = ap (λ t. NewOf (id_unplaced c) t nowhere) y.same }
   expr (NewArrayOf t e p) w r _ (one {p = q} {ts = ts} o) =
       let b = step (base t.base _ ts o) in
       let x = step (expr e w.2 _ b.rest b.left) in
@@ -246,7 +267,8 @@ mutual
         tree = NewArrayOf (record { base = t.base; dim = suc m.0; place = b.tree }) x.tree q;
         fact = array_shape (omega arith) (new_array b.fact.1 x.fact.1.whole m.2.fact);
         left = m.2.left;
-        same = ap (λ d. NewArrayOf (record { base = t.base; dim = d; place = nowhere }) (expr_unplaced x.tree) nowhere) (sym m.1) ∙ ap (λ y. NewArrayOf (type_unplaced t) y nowhere) x.same;
+        same = ap (λ d. NewArrayOf (record { base = t.base; dim = d; place = nowhere }) (expr_unplaced x.tree) nowhere) (sym m.1)
+            ∙ ap (λ y. NewArrayOf (type_unplaced t) y nowhere) x.same;
       }
   expr (CastOf t e p) w r _ (one {p = q} {ts = ts} o) =
       let x = cast_to t.base w.0 e w.2 (expr e w.2) q r ts o in
@@ -255,7 +277,8 @@ mutual
         tree = CastOf (record { base = t.base; dim = 0; place = x.fact.0 }) x.tree q;
         fact = prefixed_shape (omega arith) x.fact.1;
         left = x.left;
-        same = ap (λ d. CastOf (record { base = t.base; dim = d; place = nowhere }) (expr_unplaced x.tree) nowhere) (sym w.1) ∙ ap (λ y. CastOf (type_unplaced t) y nowhere) x.same;
+        same = ap (λ d. CastOf (record { base = t.base; dim = d; place = nowhere }) (expr_unplaced x.tree) nowhere) (sym w.1)
+            ∙ ap (λ y. CastOf (type_unplaced t) y nowhere) x.same;
       }
   expr (InstanceOfClass e c p) w r ts o =
       let x = step (step (operand_found 7 e (expr e w.0) _ ts o)) in
@@ -268,7 +291,8 @@ mutual
       }
   expr (UnaryOf m e p) w r _ (one {p = q} {ts = ts} o) =
       let x = rounded 11 (fits_sign m e) e (λ f. leb-true 11 (rank e) (and_parts (fits 11 e) (not (same_sign m (sign_of e))) f).0) (expr e w.1) r ts o in
-      record { rest = x.rest; tree = UnaryOf m x.tree q; fact = prefixed_shape (omega arith) (signed w.0 (x.fact.prefixed (omega arith))); left = x.left; same = ap (λ t. UnaryOf m t nowhere) x.same }
+      record { rest = x.rest; tree = UnaryOf m x.tree q; fact = prefixed_shape (omega arith) (signed w.0 (x.fact.prefixed (omega arith))); left =
+          x.left; same = ap (λ t. UnaryOf m t nowhere) x.same }
   expr (BinaryOf m a b p) w r ts o =
       let x = step (operand_found (level m) a (expr a w.1) _ ts o) in
       let y = operand_found (suc (level m)) b (expr b w.2) r x.rest x.left in
@@ -280,12 +304,16 @@ mutual
         same = ap (λ t. BinaryOf m t (expr_unplaced y.tree) nowhere) x.same ∙ ap (λ t. BinaryOf m (expr_unplaced a) t nowhere) y.same;
       }
 
-  pub args : (es : Expressions) → AreFormed (exprs_unplaced es) → (r : List Item) (ts : List Token) → Of (kinds_in (args_items false es r)) ts → Got exprs_unplaced IsArgs es (kinds_in r) ts
+  pub args : (es : Expressions) → AreFormed (exprs_unplaced es) → (r : List Item) (ts : List Token) → Of (kinds_in (args_items false es r)) ts
+      → Got exprs_unplaced IsArgs es (kinds_in r) ts
   args no_more w r _ (one {ts = ts} o) = record { rest = ts; tree = no_more; fact = no_args; left = o; same = refl }
   args (and_more e es) w r ts o = let x = expr e w.0 _ ts o in let y = more es w.1 r x.rest x.left in
-      record { rest = y.rest; tree = and_more x.tree y.tree; fact = some_args x.fact.whole y.fact; left = y.left; same = ap (λ t. and_more t (exprs_unplaced y.tree)) x.same ∙ ap (and_more (expr_unplaced e)) y.same }
+      record { rest = y.rest; tree = and_more x.tree y.tree; fact = some_args x.fact.whole y.fact; left = y.left; same = ap
+          (λ t. and_more t (exprs_unplaced y.tree)) x.same ∙ ap (and_more (expr_unplaced e)) y.same }
 
-  more : (es : Expressions) → AreFormed (exprs_unplaced es) → (r : List Item) (ts : List Token) → Of (kinds_in (args_items true es r)) ts → Got exprs_unplaced IsMoreArgs es (kinds_in r) ts
+  more : (es : Expressions) → AreFormed (exprs_unplaced es) → (r : List Item) (ts : List Token) → Of (kinds_in (args_items true es r)) ts
+      → Got exprs_unplaced IsMoreArgs es (kinds_in r) ts
   more no_more w r _ (one {ts = ts} o) = record { rest = ts; tree = no_more; fact = last_arg; left = o; same = refl }
   more (and_more e es) w r _ (one {ts = ts} o) = let x = expr e w.0 _ ts o in let y = more es w.1 r x.rest x.left in
-      record { rest = y.rest; tree = and_more x.tree y.tree; fact = next_arg x.fact.whole y.fact; left = y.left; same = ap (λ t. and_more t (exprs_unplaced y.tree)) x.same ∙ ap (and_more (expr_unplaced e)) y.same }
+      record { rest = y.rest; tree = and_more x.tree y.tree; fact = next_arg x.fact.whole y.fact; left = y.left; same = ap
+          (λ t. and_more t (exprs_unplaced y.tree)) x.same ∙ ap (and_more (expr_unplaced e)) y.same }

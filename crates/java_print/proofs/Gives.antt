@@ -100,12 +100,14 @@ Acting s = (is_act (stmt_unplaced s) ≡ true) × IsFormedStmt (stmt_unplaced s)
 local : {ts rest : List Token} {s : Statement} → IsLocal ts rest s → AllWritable ts → And (Simple s) rest
 local (a_local f t v) w = let x = a_formed_type t (final f w) in let y = init v x.1.1 in ((refl, (x.0, x.1.0, y.0)), y.1)
 
-target : {ts rest : List Token} {t : Expression} → IsTarget ts rest t → AllWritable ts → And ((is_target (expr_unplaced t) ≡ true) × IsFormed (expr_unplaced t)) rest
+target : {ts rest : List Token} {t : Expression} → IsTarget ts rest t → AllWritable ts
+    → And ((is_target (expr_unplaced t) ≡ true) × IsFormed (expr_unplaced t)) rest
 target to_name w = ((refl, w.0), w.1)
 target (to_field d) w = let x = post d w in ((refl, (x.0, x.1.1.0)), x.1.1.1)
 target (to_index d i) w = let x = post d w in let y = expr i x.1.1 in ((refl, (x.0, y.0)), y.1.1)
 
-a_call : {ts rest : List Token} {e : Expression} → IsCall ts rest e → AllWritable ts → And ((is_call (expr_unplaced e) ≡ true) × IsFormed (expr_unplaced e)) rest
+a_call : {ts rest : List Token} {e : Expression} → IsCall ts rest e → AllWritable ts
+    → And ((is_call (expr_unplaced e) ≡ true) × IsFormed (expr_unplaced e)) rest
 a_call (plain_call a) w = let y = args a w.1.1 in ((refl, (w.0, y.0)), y.1)
 a_call (call_upon d a) w = let x = post d w in let y = args a x.1.1.1.1 in ((refl, (x.0, x.1.1.0, y.0)), y.1)
 a_call (call_above a) w = let y = args a w.1.1.1.1 in ((refl, (w.1.1.0, y.0)), y.1)
@@ -141,7 +143,8 @@ two_tests false b x y z h f g = one_test b y z h g
 
 printed_formed : (n : List ℕ) (es : Expressions) (z : Bool × Option Expression) → printed_args n es ≡ Some z → AreFormed (exprs_unplaced es) → Printed z
 printed_formed n no_more z h f = one_test (is_called n (codes "println")) (true, None) z h (refl, tt)
-printed_formed n (and_more e no_more) z h f = two_tests (is_called n (codes "println")) (is_called n (codes "print")) (true, Some e) (false, Some e) z h (refl, f.0) (refl, f.0)
+printed_formed n (and_more e no_more) z h f = two_tests (is_called n (codes "println")) (is_called n (codes "print")) (true, Some e) (false, Some e) z
+    h (refl, f.0) (refl, f.0)
 printed_formed n (and_more e (and_more k es)) z h f = cc
 
 printing : (e : Expression) (z : Bool × Option Expression) → printed_by e ≡ Some z → IsFormed (expr_unplaced e) → Printed z
@@ -156,7 +159,8 @@ act : {ts rest : List Token} {s : Statement} → IsAct ts rest s → AllWritable
 act (assign t v) w = let x = target t w in let y = expr v x.1.1 in ((refl, (x.0.0, x.0.1, y.0)), y.1)
 act (assign_by {m = m} {o = o} h d) w = let y = expr d w.1.1 in ((refl, (refl, w.0, (compound_level m o h, w.0, y.0))), y.1)
 act (step_after {m = m} {o = o} h) w = ((refl, (refl, w.0, (stepping_level m o h, w.0, a_small (record { value = 1; is = refl; small = omega arith })))), w.1.1)
-act (step_before {m = m} {o = o} h) w = ((refl, (refl, w.1.0, (stepping_level m o h, w.1.0, a_small (record { value = 1; is = refl; small = omega arith })))), w.1.1)
+act (step_before {m = m} {o = o} h) w =
+    ((refl, (refl, w.1.0, (stepping_level m o h, w.1.0, a_small (record { value = 1; is = refl; small = omega arith })))), w.1.1)
 act (do_call c h) w = let x = a_call c w in ((refl, x.0), x.1)
 act (print {e = e} {l = l} {v = v} {ts = ts} c h) w = let x = a_call c w in ((refl, printing e (l, v) (printed_is ts e (l, v) h) x.0.1), x.1)
 act (do_new a) w = let y = args a w.1.1.1 in ((refl, (refl, (w.1.0, y.0))), y.1)
@@ -193,15 +197,19 @@ mutual
   stmt (acting d) w = let x = act d w in (x.0.1, x.1.1)
   stmt (choice d) w = arms d w.1
   stmt (while_loop {s = s} e b) w = let x = expr e w.1.1 in let y = stmt b x.1.1 in ((x.0, body_formed s y.0), y.1)
-  stmt (for_loop {s = s} f v g b) w = let x = first f w.1.1 in let y = value v x.1.1 in let z = step g y.1.1 in let t = stmt b z.1.1 in ((x.0, y.0, z.0, body_formed s t.0), t.1)
+  stmt (for_loop {s = s} f v g b) w = let x = first f w.1.1 in let y = value v x.1.1 in let z = step g y.1.1 in let t = stmt b z.1.1 in
+      ((x.0, y.0, z.0, body_formed s t.0), t.1)
   stmt (return_word v) w = let x = value v w.1 in (x.0, x.1.1)
   stmt break_word w = (tt, w.1.1)
   stmt continue_word w = (tt, w.1.1)
 
-  arms : {o : Bool} {ts rest : List Token} {a : Arms} {l : Else} → IsArms o ts rest a l → AllWritable ts → And ((has_arm (arms_unplaced a) ≡ true) × AreFormedArms (arms_unplaced a) × IsFormedElse (else_unplaced l)) rest
+  arms : {o : Bool} {ts rest : List Token} {a : Arms} {l : Else} → IsArms o ts rest a l → AllWritable ts
+      → And ((has_arm (arms_unplaced a) ≡ true) × AreFormedArms (arms_unplaced a) × IsFormedElse (else_unplaced l)) rest
   arms (last_arm {s = s} e b) w = let x = expr e w.1 in let y = stmt b x.1.1 in ((refl, (x.0, body_formed s y.0, tt), tt), y.1)
-  arms (else_arm {s = s} {t = t} e b c h) w = let x = expr e w.1 in let y = stmt b x.1.1 in let z = stmt c y.1.1 in ((refl, (x.0, body_formed s y.0, tt), body_formed t z.0), z.1)
-  arms (more_arms {s = s} e b c) w = let x = expr e w.1 in let y = stmt b x.1.1 in let z = arms c y.1.1.1 in ((refl, (x.0, body_formed s y.0, z.0.1), z.0.2), z.1)
+  arms (else_arm {s = s} {t = t} e b c h) w = let x = expr e w.1 in let y = stmt b x.1.1 in let z = stmt c y.1.1 in
+      ((refl, (x.0, body_formed s y.0, tt), body_formed t z.0), z.1)
+  arms (more_arms {s = s} e b c) w = let x = expr e w.1 in let y = stmt b x.1.1 in let z = arms c y.1.1.1 in
+      ((refl, (x.0, body_formed s y.0, z.0.1), z.0.2), z.1)
 
 mods : {ts rest : List Token} {ms : List Modifier} → IsMods ts rest ms → AllWritable ts → And (Each IsFormedMod (all_unplaced modifier_unplaced ms)) rest
 mods no_mods w = (tt, w)
@@ -222,7 +230,8 @@ list (a_list d) w = ids d w.1
 param : {ts rest : List Token} {q : Param} → IsParam ts rest q → AllWritable ts → And (IsFormedParam (param_unplaced q)) rest
 param (a_param f t) w = let x = a_formed_type t (final f w) in ((x.0, x.1.0), x.1.1)
 
-more_params : {ts rest : List Token} {qs : List Param} → IsMoreParams ts rest qs → AllWritable ts → And (Each IsFormedParam (all_unplaced param_unplaced qs)) rest
+more_params : {ts rest : List Token} {qs : List Param} → IsMoreParams ts rest qs → AllWritable ts
+    → And (Each IsFormedParam (all_unplaced param_unplaced qs)) rest
 more_params last_param w = (tt, w.1)
 more_params (next_param d m) w = let x = param d w.1 in let y = more_params m x.1 in ((x.0, y.0), y.1)
 
@@ -245,7 +254,8 @@ member : {ts rest : List Token} {m : MemberTree} → IsMember ts rest m → AllW
 member (a_field m t) w = let x = mods m w in let y = a_formed_type t x.1 in ((x.0, y.0, y.1.0), y.1.1.1)
 member (a_method h b) w = let x = head h w in let y = body b x.1 in ((x.0, y.0), y.1)
 
-members : {ts rest : List Token} {ms : List MemberTree} → IsMembers ts rest ms → AllWritable ts → And (Each IsFormedMember (all_unplaced member_unplaced ms)) rest
+members : {ts rest : List Token} {ms : List MemberTree} → IsMembers ts rest ms → AllWritable ts
+    → And (Each IsFormedMember (all_unplaced member_unplaced ms)) rest
 members no_members w = (tt, w.1)
 members (next_member d m) w = let x = member d w in let y = members m x.1 in ((x.0, y.0), y.1)
 

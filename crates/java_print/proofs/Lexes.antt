@@ -48,13 +48,16 @@ also (x ∷ xs) ys h k = let p = and_parts _ _ h in and_from _ _ p.0 (also xs ys
 
 digits : (ds : List ℕ) → list_all is_ascii_digit ds ≡ true → Plain ds
 digits [] h = refl
-digits (d ∷ ds) h = let p = and_parts (is_ascii_digit d) (list_all is_ascii_digit ds) h in let r = range d p.0 in and_from _ _ (low_scalar d (omega (arith, r.1))) (digits ds p.1)
+digits (d ∷ ds) h = let p = and_parts (is_ascii_digit d) (list_all is_ascii_digit ds) h in let r = range d p.0 in and_from _ _
+    (low_scalar d (omega (arith, r.1))) (digits ds p.1)
 
 plain_written : (c : ℕ) → Plain (c ∷ []) → Plain (written c)
 plain_written c s =
     let P : Option ℕ → Type 0 = λ o. Plain (written_by c o) in
-    cond_both (c == 8) _ _ P (λ h. refl) (λ h. cond_both (c == 9) _ _ P (λ h. refl) (λ h. cond_both (c == 10) _ _ P (λ h. refl) (λ h. cond_both (c == 12) _ _ P (λ h. refl) (λ h.
-    cond_both (c == 13) _ _ P (λ h. refl) (λ h. cond_both (c == 34) _ _ P (λ h. refl) (λ h. cond_both (c == 39) _ _ P (λ h. refl) (λ h. cond_both (c == 92) _ _ P (λ h. refl) (λ h. s))))))))
+    cond_both (c == 8) _ _ P (λ h. refl) (λ h. cond_both (c == 9) _ _ P (λ h. refl) (λ h. cond_both (c == 10) _ _ P (λ h. refl)
+        (λ h. cond_both (c == 12) _ _ P (λ h. refl) (λ h.
+    cond_both (c == 13) _ _ P (λ h. refl) (λ h. cond_both (c == 34) _ _ P (λ h. refl) (λ h. cond_both (c == 39) _ _ P (λ h. refl)
+        (λ h. cond_both (c == 92) _ _ P (λ h. refl) (λ h. s))))))))
 
 plain_all : (cs : List ℕ) → Plain cs → Plain (all_written cs)
 plain_all [] h = refl
@@ -78,7 +81,8 @@ word {n} {r} w a s = record { reads = tokens.name n (text r) (kinds_in r) w.name
 pub key : {r : List Item} (k : Keyword) → Loose r → Lexes r → Lexes (key_then k r)
 key {r} k a s = record { reads = tokens.key k (text r) (kinds_in r) a s.reads; scalars = also (key_text k) (text r) (plain_key k) s.scalars }
 
-numeral : {r : List Item} (n : ℕ) (k : TokenKind) → n ≤ 2147483648 → Spells (decimal n ++ text r) (k ∷ kinds_in r) → kind_text k ≡ decimal n → Lexes r → Lexes (Lexeme k ∷ r)
+numeral : {r : List Item} (n : ℕ) (k : TokenKind) → n ≤ 2147483648 → Spells (decimal n ++ text r) (k ∷ kinds_in r) → kind_text k ≡ decimal n → Lexes r
+    → Lexes (Lexeme k ∷ r)
 numeral {r} n k h t e s = record {
   reads = subst (λ xs. Spells (xs ++ text r) (k ∷ kinds_in r)) (sym e) t;
   scalars = subst (λ xs. Plain (xs ++ text r)) (sym e) (also (decimal n) (text r) (digits (decimal n) (all_digits n (omega arith))) s.scalars);
@@ -86,7 +90,8 @@ numeral {r} n k h t e s = record {
 
 pub small : {r : List Item} (n : ℕ) → n < 2147483648 → Loose r → Lexes r → Lexes (Lexeme (kinds.Int (pos n)) ∷ r)
 small {r} n h a s = numeral n (kinds.Int (pos n)) (omega arith)
-    (subst (λ k. Spells (decimal n ++ text r) (k ∷ kinds_in r)) (cond-false (n == 2147483648) _ _ (ne_eqb n 2147483648 (λ e. omega (arith, h, e)))) (number n (text r) (kinds_in r) (omega (arith, h)) a s.reads)) refl s
+    (subst (λ k. Spells (decimal n ++ text r) (k ∷ kinds_in r)) (cond-false (n == 2147483648) _ _ (ne_eqb n 2147483648 (λ e. omega (arith, h, e))))
+        (number n (text r) (kinds_in r) (omega (arith, h)) a s.reads)) refl s
 
 pub least : {r : List Item} → Loose r → Lexes r → Lexes (Lexeme kinds.Least ∷ r)
 least {r} a s = numeral 2147483648 kinds.Least (omega arith) (number 2147483648 (text r) (kinds_in r) (omega arith) a s.reads) refl s
@@ -95,22 +100,27 @@ least {r} a s = numeral 2147483648 kinds.Least (omega arith) (number 2147483648 
 unit_written : (u : ℕ) → IsUnit u → units_written (u ∷ []) ≡ written u
 unit_written u w =
     let e : encode_utf16 u ≡ u ∷ [] = cond-true (nat_lt u 65536) _ _ (lt-ltb u 65536 w.small) in
-    ap units_written (sym (append-nil (u ∷ []))) ∙ ap (λ vs. units_written (vs ++ [])) (sym e) ∙ ap all_written (lossy_units (u ∷ []) w.scalar) ∙ append-nil (written u)
+    ap units_written (sym (append-nil (u ∷ []))) ∙ ap (λ vs. units_written (vs ++ [])) (sym e) ∙ ap all_written (lossy_units (u ∷ []) w.scalar)
+        ∙ append-nil (written u)
 
 pub char : {u : ℕ} {r : List Item} → IsUnit u → Lexes r → Lexes (Lexeme (kinds.Char u) ∷ r)
 char {u} {r} w s =
     let q = unit_written u w in
     record {
-      reads = subst (λ xs. Spells (39 ∷ ((xs ++ 39 ∷ []) ++ text r)) (kinds.Char u ∷ kinds_in r)) (sym q) (literals.char u (text r) (kinds_in r) w.small s.reads);
-      scalars = subst (λ xs. Plain (39 ∷ ((xs ++ 39 ∷ []) ++ text r))) (sym q) (also (39 ∷ (written u ++ 39 ∷ [])) (text r) (also (written u) (39 ∷ []) (plain_written u w.scalar) refl) s.scalars);
+      reads = subst (λ xs. Spells (39 ∷ ((xs ++ 39 ∷ []) ++ text r)) (kinds.Char u ∷ kinds_in r)) (sym q)
+          (literals.char u (text r) (kinds_in r) w.small s.reads);
+      scalars = subst (λ xs. Plain (39 ∷ ((xs ++ 39 ∷ []) ++ text r))) (sym q) (also (39 ∷ (written u ++ 39 ∷ [])) (text r)
+          (also (written u) (39 ∷ []) (plain_written u w.scalar) refl) s.scalars);
     }
 
 string_of : {r : List Item} (cs us : List ℕ) → all_scalars cs ≡ true → us ≡ units_of cs → Lexes r → Lexes (Lexeme (kinds.Str us) ∷ r)
 string_of {r} cs us p e s =
     let q : units_written (units_of cs) ≡ all_written cs = ap all_written (lossy_units cs p) in
     subst (λ vs. Lexes (Lexeme (kinds.Str vs) ∷ r)) (sym e) (record {
-      reads = subst (λ xs. Spells (34 ∷ ((xs ++ 34 ∷ []) ++ text r)) (kinds.Str (units_of cs) ∷ kinds_in r)) (sym q) (literals.string cs (text r) (kinds_in r) s.reads);
-      scalars = subst (λ xs. Plain (34 ∷ ((xs ++ 34 ∷ []) ++ text r))) (sym q) (also (34 ∷ (all_written cs ++ 34 ∷ [])) (text r) (also (all_written cs) (34 ∷ []) (plain_all cs p) refl) s.scalars);
+      reads = subst (λ xs. Spells (34 ∷ ((xs ++ 34 ∷ []) ++ text r)) (kinds.Str (units_of cs) ∷ kinds_in r)) (sym q)
+          (literals.string cs (text r) (kinds_in r) s.reads);
+      scalars = subst (λ xs. Plain (34 ∷ ((xs ++ 34 ∷ []) ++ text r))) (sym q) (also (34 ∷ (all_written cs ++ 34 ∷ [])) (text r)
+          (also (all_written cs) (34 ∷ []) (plain_all cs p) refl) s.scalars);
     })
 
 pub string : {us : List ℕ} {r : List Item} → IsText us → Lexes r → Lexes (Lexeme (kinds.Str us) ∷ r)
@@ -137,7 +147,8 @@ pub margin : {r : List Item} (n : ℕ) → Lexes r → Lexes (Margin n ∷ r)
 margin {r} n s = record { reads = blanks n (text r) (kinds_in r) s.reads; scalars = also (replicate n 32) (text r) (plain_blanks n) s.scalars }
 
 pub spaced : {r : List Item} (m : Mark) → Lexes r → Lexes (mark_then m (Space ∷ r))
-spaced {r} m s = let t = space s in record { reads = tokens.before_blank m (text r) (kinds_in r) t.reads; scalars = also (mark_text m) (32 ∷ text r) (plain_mark m) s.scalars }
+spaced {r} m s = let t = space s in record { reads = tokens.before_blank m (text r) (kinds_in r) t.reads; scalars = also (mark_text m) (32 ∷ text r)
+    (plain_mark m) s.scalars }
 
 -- the prefix operators
 pub data IsSign : Mark → Type 0 where
@@ -167,7 +178,8 @@ or3 false true z h = cc
 or3 false false true h = cc
 or3 false false false h = (refl, refl, refl)
 
-sign_spells : {m : Mark} → IsSign m → (xs : List ℕ) (ks : List TokenKind) → next_is (extends m) xs ≡ false → Spells xs ks → Spells (mark_text m ++ xs) (kinds.Mark m ∷ ks)
+sign_spells : {m : Mark} → IsSign m → (xs : List ℕ) (ks : List TokenKind) → next_is (extends m) xs ≡ false → Spells xs ks
+    → Spells (mark_text m ++ xs) (kinds.Mark m ∷ ks)
 sign_spells plus [] ks h s = tokens.mark marks.Plus [] ks refl refl refl s
 sign_spells minus [] ks h s = tokens.mark marks.Minus [] ks refl refl refl s
 sign_spells bang [] ks h s = tokens.mark marks.Bang [] ks refl refl refl s

@@ -13,10 +13,12 @@ use Rattle.java_print.specs.Layout.{comma, expr_items, args_items}
 use Rattle.java_print.specs.Adds.{Adds, Puts}
 use Rattle.java_print.proofs.Adding.{adds_then}
 
-pub call_alone : (e : Expr) (b : Option (Box Expr Global)) (n : List ℕ) (v : Vec Expr Global) (p : Place) → e ≡ Call b n v p → b ≡ None → expr_of e ≡ CallOf n (exprs v.items) p
+pub call_alone : (e : Expr) (b : Option (Box Expr Global)) (n : List ℕ) (v : Vec Expr Global) (p : Place) → e ≡ Call b n v p → b ≡ None
+    → expr_of e ≡ CallOf n (exprs v.items) p
 call_alone e b n v p h k = ap expr_of h ∙ ap (λ x. expr_of (Call x n v p)) k ∙ ap (λ es. CallOf n es p) (exprs_vec v)
 
-pub call_upon : (e : Expr) (b : Option (Box Expr Global)) (x : Box Expr Global) (n : List ℕ) (v : Vec Expr Global) (p : Place) → e ≡ Call b n v p → b ≡ Some x → expr_of e ≡ CallOn (expr_of x.value) n (exprs v.items) p
+pub call_upon : (e : Expr) (b : Option (Box Expr Global)) (x : Box Expr Global) (n : List ℕ) (v : Vec Expr Global) (p : Place) → e ≡ Call b n v p
+    → b ≡ Some x → expr_of e ≡ CallOn (expr_of x.value) n (exprs v.items) p
 call_upon e b x n v p h k = ap expr_of h ∙ ap (λ y. expr_of (Call y n v p)) k ∙ ap (λ es. CallOn (expr_of x.value) n es p) (exprs_vec v)
 
 pub call_above : (e : Expr) (n : List ℕ) (v : Vec Expr Global) (p : Place) → e ≡ SuperCall n v p → expr_of e ≡ SuperCallOf n (exprs v.items) p
@@ -41,9 +43,12 @@ pub args_step : (a b c d : List ℕ) (xs : List Expr) (i : ℕ) (e : Expr) (whol
 args_step a b c d xs i e whole l k h f g r =
     let s : List Item = args_items true (exprs (drop (i + 1) xs)) r in
     let t : nat_lt 0 (i + 1) ≡ true = lt-ltb 0 (i + 1) (omega arith) in
-    adds_then (h r) (subst (λ es. Adds b d (args_items (nat_lt 0 i) es r) (args_items (nat_lt 0 (i + 1)) (exprs (drop (i + 1) xs)) r)) (sym (exprs_at xs i e l k))
-    (subst (λ z. Adds b d (comma (nat_lt 0 i) (expr_items (expr_of e) s)) (args_items z (exprs (drop (i + 1) xs)) r)) (sym t) (adds_then (f (expr_items (expr_of e) s)) (g s))))
+    adds_then (h r) (subst (λ es. Adds b d (args_items (nat_lt 0 i) es r) (args_items (nat_lt 0 (i + 1)) (exprs (drop (i + 1) xs)) r))
+        (sym (exprs_at xs i e l k))
+    (subst (λ z. Adds b d (comma (nat_lt 0 i) (expr_items (expr_of e) s)) (args_items z (exprs (drop (i + 1) xs)) r)) (sym t)
+        (adds_then (f (expr_items (expr_of e) s)) (g s))))
 
 -- the closing bracket behind the last one
-pub args_end : (a b c : List ℕ) (xs : List Expr) (i : ℕ) (whole : List Item → List Item) → length xs ≤ i → ((r : List Item) → Adds a b (whole r) (args_items (nat_lt 0 i) (exprs (drop i xs)) r)) → Puts b c (args_items true no_more) → Puts a c whole
+pub args_end : (a b c : List ℕ) (xs : List Expr) (i : ℕ) (whole : List Item → List Item) → length xs ≤ i
+    → ((r : List Item) → Adds a b (whole r) (args_items (nat_lt 0 i) (exprs (drop i xs)) r)) → Puts b c (args_items true no_more) → Puts a c whole
 args_end a b c xs i whole l h k r = adds_then (h r) (subst (λ ys. Adds b c (args_items (nat_lt 0 i) (exprs ys) r) r) (sym (drop_all i xs l)) (k r))

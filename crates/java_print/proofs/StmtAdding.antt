@@ -25,18 +25,23 @@ use Rattle.java_print.proofs.Opened.{call_alone, call_upon}
 
 -- an ASCII text that stands for items
 by_text : (a b xs : List ℕ) (x y : List Item) → b ≡ a ++ xs → encode_utf8_all (text x) ≡ xs ++ encode_utf8_all (text y) → Adds a b x y
-by_text a b xs x y h e = record { added = ap (λ zs. a ++ zs) e ∙ sym (append_assoc a xs (encode_utf8_all (text y))) ∙ ap (λ zs. zs ++ encode_utf8_all (text y)) (sym h) }
+by_text a b xs x y h e = record { added = ap (λ zs. a ++ zs) e ∙ sym (append_assoc a xs (encode_utf8_all (text y)))
+    ∙ ap (λ zs. zs ++ encode_utf8_all (text y)) (sym h) }
 
 pub adds_end : (a b : List ℕ) → b ≡ a ++ encode_utf8_all (10 ∷ []) → (r : List Item) → Adds a b (End ∷ r) r
 unfolding encode_utf8
 adds_end a b h r = by_text a b (10 ∷ []) (End ∷ r) r h refl
 
-pub adds_print : (a b : List ℕ) (l : Bool) → b ≡ a ++ print_head l → (r : List Item) → Adds a b (word_then (codes "System") (mark_then marks.Dot (word_then (codes "out") (mark_then marks.Dot (word_then (print_name l) (mark_then marks.OpenRound r)))))) r
+pub adds_print : (a b : List ℕ) (l : Bool) → b ≡ a ++ print_head l → (r : List Item)
+    → Adds a b (word_then (codes "System")
+    (mark_then marks.Dot (word_then (codes "out") (mark_then marks.Dot (word_then (print_name l) (mark_then marks.OpenRound r)))))) r
 unfolding encode_utf8
 adds_print a b true h r = by_text a b (print_head true) _ r h refl
 adds_print a b false h r = by_text a b (print_head false) _ r h refl
 
-pub adds_system : (a b : List ℕ) → b ≡ a ++ codes "(System).out." → (r : List Item) → Adds a b (mark_then marks.OpenRound (word_then (codes "System") (mark_then marks.CloseRound (mark_then marks.Dot (word_then (codes "out") (mark_then marks.Dot r)))))) r
+pub adds_system : (a b : List ℕ) → b ≡ a ++ codes "(System).out." → (r : List Item)
+    → Adds a b (mark_then marks.OpenRound
+    (word_then (codes "System") (mark_then marks.CloseRound (mark_then marks.Dot (word_then (codes "out") (mark_then marks.Dot r)))))) r
 unfolding encode_utf8
 adds_system a b h r = by_text a b (codes "(System).out.") _ r h refl
 
@@ -60,16 +65,22 @@ no_names s t a b h k = rw (h, k) refl
 printing_by : (n : List ℕ) (xs : List Expr) → is_printing n (length xs) ≡ is_some (printed_args n (exprs xs))
 printing_by n [] = one_name (is_called n (codes "println")) (is_called n (codes "print")) _
 printing_by n (x ∷ []) = two_names (is_called n (codes "println")) (is_called n (codes "print")) _ _
-printing_by n (x ∷ y ∷ xs) = no_names (nat_lt (length (x ∷ y ∷ xs)) 2) (length (x ∷ y ∷ xs) == 1) _ _ (le-ltb (length (x ∷ y ∷ xs)) 2 (omega arith)) (ne_eqb (length (x ∷ y ∷ xs)) 1 (λ e. omega (arith, e)))
+printing_by n (x ∷ y ∷ xs) = no_names (nat_lt (length (x ∷ y ∷ xs)) 2) (length (x ∷ y ∷ xs) == 1) _ _ (le-ltb (length (x ∷ y ∷ xs)) 2 (omega arith))
+    (ne_eqb (length (x ∷ y ∷ xs)) 1 (λ e. omega (arith, e)))
 
-pub prints_upon : (e : Expr) (b : Option (Box Expr Global)) (x : Box Expr Global) (n : List ℕ) (v : Vec Expr Global) (p : Place) (k : ℕ) (t : Bool) → e ≡ Call b n v p → b ≡ Some x → is_out (expr_of x.value) ≡ true → k ≡ length v.items → t ≡ is_printing n k → t ≡ prints (expr_of e)
+pub prints_upon : (e : Expr) (b : Option (Box Expr Global)) (x : Box Expr Global) (n : List ℕ) (v : Vec Expr Global) (p : Place) (k : ℕ) (t : Bool)
+    → e ≡ Call b n v p → b ≡ Some x → is_out (expr_of x.value) ≡ true → k ≡ length v.items → t ≡ is_printing n k → t ≡ prints (expr_of e)
 prints_upon e b x n v p k t h i o l f =
-    f ∙ ap (is_printing n) l ∙ printing_by n v.items ∙ ap (λ s. is_some (if s then printed_args n (exprs v.items) else None)) (sym o) ∙ ap prints (sym (call_upon e b x n v p h i))
+    f ∙ ap (is_printing n) l ∙ printing_by n v.items ∙ ap (λ s. is_some (if s then printed_args n (exprs v.items) else None)) (sym o)
+        ∙ ap prints (sym (call_upon e b x n v p h i))
 
-pub bracketed_upon : {a c : List ℕ} (e : Expr) (b : Option (Box Expr Global)) (x : Box Expr Global) (n : List ℕ) (v : Vec Expr Global) (p : Place) (xs : List Expr) → e ≡ Call b n v p → b ≡ Some x → xs ≡ v.items → Puts a c (upon_system n (exprs xs)) → Puts a c (bracketed_items (expr_of e))
-bracketed_upon {a} {c} e b x n v p xs h i l f = subst (λ z. Puts a c (bracketed_items z)) (sym (call_upon e b x n v p h i)) (subst (λ ys. Puts a c (upon_system n (exprs ys))) l f)
+pub bracketed_upon : {a c : List ℕ} (e : Expr) (b : Option (Box Expr Global)) (x : Box Expr Global) (n : List ℕ) (v : Vec Expr Global) (p : Place)
+    (xs : List Expr) → e ≡ Call b n v p → b ≡ Some x → xs ≡ v.items → Puts a c (upon_system n (exprs xs)) → Puts a c (bracketed_items (expr_of e))
+bracketed_upon {a} {c} e b x n v p xs h i l f = subst (λ z. Puts a c (bracketed_items z)) (sym (call_upon e b x n v p h i))
+    (subst (λ ys. Puts a c (upon_system n (exprs ys))) l f)
 
-pub bracketed_alone : {a c : List ℕ} (e : Expr) (b : Option (Box Expr Global)) (n : List ℕ) (v : Vec Expr Global) (p : Place) → e ≡ Call b n v p → b ≡ None → Puts a c (expr_items (expr_of e)) → Puts a c (bracketed_items (expr_of e))
+pub bracketed_alone : {a c : List ℕ} (e : Expr) (b : Option (Box Expr Global)) (n : List ℕ) (v : Vec Expr Global) (p : Place) → e ≡ Call b n v p
+    → b ≡ None → Puts a c (expr_items (expr_of e)) → Puts a c (bracketed_items (expr_of e))
 bracketed_alone {a} {c} e b n v p h i f = let q = call_alone e b n v p h i in
     subst (λ z. Puts a c (bracketed_items z)) (sym q) (subst (λ z. Puts a c (expr_items z)) q f)
 
@@ -80,23 +91,27 @@ block_of s v p h = ap stmt_of h ∙ ap (λ ss. BlockOf ss p) (stmts_vec v)
 pub while_of : (s : Stmt) (e : Expr) (v : Vec Stmt Global) (p : Place) → s ≡ While e v p → stmt_of s ≡ WhileOf (expr_of e) (stmts v.items) p
 while_of s e v p h = ap stmt_of h ∙ ap (λ ss. WhileOf (expr_of e) ss p) (stmts_vec v)
 
-box_step : (f : Option (Box Stmt Global)) (x : Option Expr) (g : Option (Box Stmt Global)) (v : Vec Stmt Global) (p : Place) → stmt_of (For f x g v p) ≡ ForOf (boxed_step f) (value_of x) (boxed_step g) (stmts v.items) p
+box_step : (f : Option (Box Stmt Global)) (x : Option Expr) (g : Option (Box Stmt Global)) (v : Vec Stmt Global) (p : Place) → stmt_of (For f x g v p)
+    ≡ ForOf (boxed_step f) (value_of x) (boxed_step g) (stmts v.items) p
 box_step None x None v p = ap (λ ss. ForOf (boxed_step None) (value_of x) (boxed_step None) ss p) (stmts_vec v)
 box_step None x (Some g) v p = ap (λ ss. ForOf (boxed_step None) (value_of x) (boxed_step (Some g)) ss p) (stmts_vec v)
 box_step (Some f) x None v p = ap (λ ss. ForOf (boxed_step (Some f)) (value_of x) (boxed_step None) ss p) (stmts_vec v)
 box_step (Some f) x (Some g) v p = ap (λ ss. ForOf (boxed_step (Some f)) (value_of x) (boxed_step (Some g)) ss p) (stmts_vec v)
 
-pub for_of : (s : Stmt) (f : Option (Box Stmt Global)) (x : Option Expr) (g : Option (Box Stmt Global)) (v : Vec Stmt Global) (p : Place) → s ≡ For f x g v p → stmt_of s ≡ ForOf (boxed_step f) (value_of x) (boxed_step g) (stmts v.items) p
+pub for_of : (s : Stmt) (f : Option (Box Stmt Global)) (x : Option Expr) (g : Option (Box Stmt Global)) (v : Vec Stmt Global) (p : Place)
+    → s ≡ For f x g v p → stmt_of s ≡ ForOf (boxed_step f) (value_of x) (boxed_step g) (stmts v.items) p
 for_of s f x g v p h = ap stmt_of h ∙ box_step f x g v p
 
 if_parts : (a : Vec Arm Global) (o : Option (Vec Stmt Global)) (p : Place) → stmt_of (If a o p) ≡ IfOf (arms_seen a.items) (else_seen o) p
 if_parts a None p = ap (λ al. IfOf al (else_seen None) p) (arms_vec a)
-if_parts a (Some v) p = ap (λ al. IfOf al (otherwise (stmts_of (hidden-the_row-Stmt-0 v))) p) (arms_vec a) ∙ ap (λ ss. IfOf (arms_seen a.items) (otherwise ss) p) (stmts_vec v)
+if_parts a (Some v) p = ap (λ al. IfOf al (otherwise (stmts_of (hidden-the_row-Stmt-0 v))) p) (arms_vec a)
+    ∙ ap (λ ss. IfOf (arms_seen a.items) (otherwise ss) p) (stmts_vec v)
 
 pub if_of : (s : Stmt) (a : Vec Arm Global) (o : Option (Vec Stmt Global)) (p : Place) → s ≡ If a o p → stmt_of s ≡ IfOf (arms_seen a.items) (else_seen o) p
 if_of s a o p h = ap stmt_of h ∙ if_parts a o p
 
-pub bare_along : {a b : List ℕ} (d : ℕ) (x y : Statement) → x ≡ y → ((r : List Item) → Adds a b (bare_items d y r) r) → (r : List Item) → Adds a b (bare_items d x r) r
+pub bare_along : {a b : List ℕ} (d : ℕ) (x y : Statement) → x ≡ y → ((r : List Item) → Adds a b (bare_items d y r) r) → (r : List Item)
+    → Adds a b (bare_items d x r) r
 bare_along {a} {b} d x y e h = subst (λ z. (r : List Item) → Adds a b (bare_items d z r) r) (sym e) h
 
 -- a statement stands behind its margin
@@ -114,17 +129,20 @@ stmt_smaller (x ∷ xs) (suc i) s l k = omega (arith, stmt_smaller xs i s (omega
 
 -- one more statement
 pub stmts_step : (a b c d : List ℕ) (m : ℕ) (xs : List Stmt) (i : ℕ) (s : Stmt) (whole : List Item → List Item) → i < length xs → s ≡ get_or xs i s
-    → ((r : List Item) → Adds a b (whole r) (stmts_items m (stmts (drop i xs)) r)) → ((r : List Item) → Adds b c (Margin m ∷ r) r) → ((r : List Item) → Adds c d (bare_items m (stmt_of s) r) r)
+    → ((r : List Item) → Adds a b (whole r) (stmts_items m (stmts (drop i xs)) r)) → ((r : List Item) → Adds b c (Margin m ∷ r) r)
+        → ((r : List Item) → Adds c d (bare_items m (stmt_of s) r) r)
     → (r : List Item) → Adds a d (whole r) (stmts_items m (stmts (drop (i + 1) xs)) r)
 stmts_step a b c d m xs i s whole l k h f g r =
     let w : List Item = stmts_items m (stmts (drop (i + 1) xs)) r in
     adds_then (h r) (subst (λ ss. Adds b d (stmts_items m ss r) w) (sym (stmts_at xs i s l k))
     (subst (λ ys. Adds b d ys w) (sym (behind m (stmt_of s) w)) (adds_then (f (bare_items m (stmt_of s) w)) (g w))))
 
-pub stmts_end : (a b : List ℕ) (m : ℕ) (xs : List Stmt) (i : ℕ) (whole : List Item → List Item) → length xs ≤ i → ((r : List Item) → Adds a b (whole r) (stmts_items m (stmts (drop i xs)) r)) → Puts a b whole
+pub stmts_end : (a b : List ℕ) (m : ℕ) (xs : List Stmt) (i : ℕ) (whole : List Item → List Item) → length xs ≤ i
+    → ((r : List Item) → Adds a b (whole r) (stmts_items m (stmts (drop i xs)) r)) → Puts a b whole
 stmts_end a b m xs i whole l h r = subst (λ ys. Adds a b (whole r) (stmts_items m (stmts ys) r)) (drop_all i xs l) (h r)
 
-arms_at : (xs : List Arm) (i : ℕ) (x : Arm) → i < length xs → x ≡ get_or xs i x → arms_seen (drop i xs) ≡ and_arm (expr_of x.test) (stmts x.body.items) (arms_seen (drop (i + 1) xs))
+arms_at : (xs : List Arm) (i : ℕ) (x : Arm) → i < length xs → x ≡ get_or xs i x → arms_seen (drop i xs) ≡ and_arm (expr_of x.test)
+    (stmts x.body.items) (arms_seen (drop (i + 1) xs))
 arms_at xs i x l k = ap arms_seen (drop_more xs i x l) ∙ ap (λ (y : Arm). and_arm (expr_of y.test) (stmts y.body.items) (arms_seen (drop (i + 1) xs))) (sym k)
 
 pub arm_smaller : (xs : List Arm) (i : ℕ) (x : Arm) → i < length xs → x ≡ get_or xs i x → stmts_size (stmts x.body.items) ≤ arms_size (arms_seen xs)
@@ -133,23 +151,29 @@ arm_smaller (x ∷ xs) zero s l k = let e = ap (λ (y : Arm). stmts_size (stmts 
 arm_smaller (x ∷ xs) (suc i) s l k = omega (arith, arm_smaller xs i s (omega arith) k)
 
 -- one more arm
-pub arms_step : (a b c d : List ℕ) (m : ℕ) (xs : List Arm) (i : ℕ) (x : Arm) (body : List Stmt) (whole : List Item → List Item) → i < length xs → x ≡ get_or xs i x → body ≡ x.body.items
-    → ((r : List Item) → Adds a b (whole r) (arms_items m (nat_lt 0 i) (arms_seen (drop i xs)) r)) → Puts b c (else_then (nat_lt 0 i)) → Puts c d (arm_items m (expr_of x.test) (stmts body))
+pub arms_step : (a b c d : List ℕ) (m : ℕ) (xs : List Arm) (i : ℕ) (x : Arm) (body : List Stmt) (whole : List Item → List Item) → i < length xs
+    → x ≡ get_or xs i x → body ≡ x.body.items
+    → ((r : List Item) → Adds a b (whole r) (arms_items m (nat_lt 0 i) (arms_seen (drop i xs)) r)) → Puts b c (else_then (nat_lt 0 i))
+        → Puts c d (arm_items m (expr_of x.test) (stmts body))
     → (r : List Item) → Adds a d (whole r) (arms_items m (nat_lt 0 (i + 1)) (arms_seen (drop (i + 1) xs)) r)
 arms_step a b c d m xs i x body whole l k q h f g r =
     let w : List Item = arms_items m true (arms_seen (drop (i + 1) xs)) r in
     let t : nat_lt 0 (i + 1) ≡ true = lt-ltb 0 (i + 1) (omega arith) in
     let y = subst (λ ys. Puts c d (arm_items m (expr_of x.test) (stmts ys))) q g in
-    adds_then (h r) (subst (λ al. Adds b d (arms_items m (nat_lt 0 i) al r) (arms_items m (nat_lt 0 (i + 1)) (arms_seen (drop (i + 1) xs)) r)) (sym (arms_at xs i x l k))
-    (subst (λ z. Adds b d (else_then (nat_lt 0 i) (arm_items m (expr_of x.test) (stmts x.body.items) w)) (arms_items m z (arms_seen (drop (i + 1) xs)) r)) (sym t)
+    adds_then (h r) (subst (λ al. Adds b d (arms_items m (nat_lt 0 i) al r) (arms_items m (nat_lt 0 (i + 1)) (arms_seen (drop (i + 1) xs)) r))
+        (sym (arms_at xs i x l k))
+    (subst (λ z. Adds b d (else_then (nat_lt 0 i) (arm_items m (expr_of x.test) (stmts x.body.items) w))
+        (arms_items m z (arms_seen (drop (i + 1) xs)) r)) (sym t)
     (adds_then (f (arm_items m (expr_of x.test) (stmts x.body.items) w)) (y w))))
 
-pub arms_end : (a b : List ℕ) (m : ℕ) (xs : List Arm) (i : ℕ) (whole : List Item → List Item) → length xs ≤ i → ((r : List Item) → Adds a b (whole r) (arms_items m (nat_lt 0 i) (arms_seen (drop i xs)) r)) → Puts a b whole
+pub arms_end : (a b : List ℕ) (m : ℕ) (xs : List Arm) (i : ℕ) (whole : List Item → List Item) → length xs ≤ i
+    → ((r : List Item) → Adds a b (whole r) (arms_items m (nat_lt 0 i) (arms_seen (drop i xs)) r)) → Puts a b whole
 arms_end a b m xs i whole l h r = subst (λ ys. Adds a b (whole r) (arms_items m (nat_lt 0 i) (arms_seen ys) r)) (drop_all i xs l) (h r)
 
 -- margins that are equal
 pub deeper_as : {a b : List ℕ} (m n : ℕ) (ss : Statements) → m ≡ n → Puts a b (stmts_items m ss) → Puts a b (stmts_items n ss)
 deeper_as {a} {b} m n ss e h = subst (λ k. Puts a b (stmts_items k ss)) e h
 
-pub other_along : {a b : List ℕ} (m : ℕ) (o : Option (Vec Stmt Global)) (v : Vec Stmt Global) (xs : List Stmt) → o ≡ Some v → xs ≡ v.items → Puts a b (last_items m (stmts xs)) → Puts a b (else_items m (else_seen o))
+pub other_along : {a b : List ℕ} (m : ℕ) (o : Option (Vec Stmt Global)) (v : Vec Stmt Global) (xs : List Stmt) → o ≡ Some v → xs ≡ v.items
+    → Puts a b (last_items m (stmts xs)) → Puts a b (else_items m (else_seen o))
 other_along {a} {b} m o v xs h k f = subst (λ x. Puts a b (else_items m (else_seen x))) (sym h) (subst (λ ys. Puts a b (last_items m (stmts ys))) k f)

@@ -48,7 +48,10 @@ final false r s = s
 
 bracketed : (e : Expression) → IsFormed (expr_unplaced e) → (r : List Item) → Loose r → Lexes r → Lexes (bracketed_items e r)
 unfolding unicode_ident
-bracketed (CallOn e n es p) w r a s = closed tokens.cOpenRound (word system_name refl (closed tokens.cCloseRound (closed tokens.cDot (word out_name refl (closed tokens.cDot (word w.1 refl (closed tokens.cOpenRound (args false es w.2 r s))))))))
+bracketed (CallOn e n es p) w r a s =
+    closed tokens.cOpenRound (word system_name refl
+    (closed tokens.cCloseRound (closed tokens.cDot
+    (word out_name refl (closed tokens.cDot (word w.1 refl (closed tokens.cOpenRound (args false es w.2 r s))))))))
 bracketed e w r a s = (expr e w r a s).lexes
 
 call : (e : Expression) → IsFormed (expr_unplaced e) → (r : List Item) → Loose r → Lexes r → Lexes (call_items e r)
@@ -63,7 +66,10 @@ unfolding unicode_ident
 simple (LocalOf f t n v p) w r a s = final f _ (a_type t w.0 _ refl (space (word w.1 (init_loose v r a) (init v w.2 r a s))))
 simple (AssignOf t v p) w r a s = (expr t w.1 _ refl (space (spaced marks.Assign (expr v w.2 r a s).lexes))).lexes
 simple (DoOf c p) w r a s = call c w.1 r a s
-simple (PrintOf l v p) w r a s = word system_name refl (closed tokens.cDot (word out_name refl (closed tokens.cDot (word (print_names l) refl (closed tokens.cOpenRound (value v w.1 _ refl (closed tokens.cCloseRound s)))))))
+simple (PrintOf l v p) w r a s =
+    word system_name refl (closed tokens.cDot
+    (word out_name refl (closed tokens.cDot
+    (word (print_names l) refl (closed tokens.cOpenRound (value v w.1 _ refl (closed tokens.cCloseRound s)))))))
 simple _ w r a s = s
 
 first : (f : OptionalStatement) → IsFormedFirst (step_unplaced f) → (r : List Item) → Loose r → Lexes r → Lexes (first_items f r)
@@ -91,8 +97,12 @@ mutual
   stmt : (s : Statement) → IsFormedStmt (stmt_unplaced s) → (d : ℕ) (r : List Item) → Lexes r → Lexes (stmt_items d s r)
   stmt (BlockOf ss p) w d r s = margin d (closed tokens.cOpenBrace (line (stmts ss w (d + 2) _ (shut d (line s)))))
   stmt (IfOf a l p) w d r s = margin d (arms a w.1 d false _ (else_part l w.2 d r s))
-  stmt (WhileOf e ss p) w d r s = margin d (key keys.While refl (space (closed tokens.cOpenRound (expr e w.0 _ refl (closed tokens.cCloseRound (opened (stmts ss w.1 (d + 2) _ (shut d (line s)))))).lexes)))
-  stmt (ForOf f v g ss p) w d r s = margin d (key keys.For refl (space (closed tokens.cOpenRound (first f w.0 _ refl (closed tokens.cSemi (spaced_value v w.1 _ refl (closed tokens.cSemi
+  stmt (WhileOf e ss p) w d r s =
+      margin d (key keys.While refl
+      (space (closed tokens.cOpenRound (expr e w.0 _ refl (closed tokens.cCloseRound (opened (stmts ss w.1 (d + 2) _ (shut d (line s)))))).lexes)))
+  stmt (ForOf f v g ss p) w d r s =
+      margin d (key keys.For refl (space
+      (closed tokens.cOpenRound (first f w.0 _ refl (closed tokens.cSemi (spaced_value v w.1 _ refl (closed tokens.cSemi
       (step g w.2 _ refl (closed tokens.cCloseRound (opened (stmts ss w.3 (d + 2) _ (shut d (line s)))))))))))))
   stmt (ReturnOf v p) w d r s = margin d (key keys.Return (spaced_loose v _ refl) (spaced_value v w _ refl (closed tokens.cSemi (line s))))
   stmt (BreakOf p) w d r s = margin d (key keys.Break refl (closed tokens.cSemi (line s)))
@@ -105,7 +115,10 @@ mutual
 
   arms : (a : Arms) → AreFormedArms (arms_unplaced a) → (d : ℕ) (b : Bool) (r : List Item) → Lexes r → Lexes (arms_items d b a r)
   arms no_arms w d b r s = s
-  arms (and_arm e ss a) w d b r s = else_word b _ (key keys.If refl (space (closed tokens.cOpenRound (expr e w.0 _ refl (closed tokens.cCloseRound (opened (stmts ss w.1 (d + 2) _ (shut d (arms a w.2 d true r s)))))).lexes)))
+  arms (and_arm e ss a) w d b r s =
+      else_word b _ (key keys.If refl
+      (space (closed tokens.cOpenRound
+      (expr e w.0 _ refl (closed tokens.cCloseRound (opened (stmts ss w.1 (d + 2) _ (shut d (arms a w.2 d true r s)))))).lexes)))
 
   else_part : (l : Else) → IsFormedElse (else_unplaced l) → (d : ℕ) (r : List Item) → Lexes r → Lexes (else_items d l r)
   else_part no_else w d r s = line s
@@ -182,7 +195,9 @@ list_loose k (i ∷ is) r a = refl
 
 decl : (d : DeclTree) → IsFormedDecl (decl_unplaced d) → (r : List Item) → Lexes r → Lexes (decl_items d r)
 unfolding unicode_ident
-decl (ClassTree ms n c fs bs p) w r s = mods ms w.0 _ (key keys.Class refl (space (word w.1 (parent_loose c _ (list_loose keys.Implements fs _ refl)) (parent c w.2 _ (list_loose keys.Implements fs _ refl)
+decl (ClassTree ms n c fs bs p) w r s =
+    mods ms w.0 _ (key keys.Class refl
+    (space (word w.1 (parent_loose c _ (list_loose keys.Implements fs _ refl)) (parent c w.2 _ (list_loose keys.Implements fs _ refl)
     (list keys.Implements fs w.3 _ refl (opened (members bs w.4 _ (closed tokens.cCloseBrace (line s)))))))))
 decl (InterfaceTree ms n fs hs p) w r s = mods ms w.0 _ (key keys.Interface refl (space (word w.1 (list_loose keys.Extends fs _ refl)
     (list keys.Extends fs w.2 _ refl (opened (heads hs w.3 _ (closed tokens.cCloseBrace (line s))))))))

@@ -121,11 +121,15 @@ abbrev mutual
   expr_items (CallOn e n es p) r = in_round (fits 12 e) (expr_items e) (mark_then marks.Dot (word_then n (mark_then marks.OpenRound (args_items false es r))))
   expr_items (SuperCallOf n es p) r = key_then keys.Super (mark_then marks.Dot (word_then n (mark_then marks.OpenRound (args_items false es r))))
   expr_items (NewOf c es p) r = key_then keys.New (Space ∷ word_then c.name (mark_then marks.OpenRound (args_items false es r)))
-  expr_items (NewArrayOf t e p) r = key_then keys.New (Space ∷ base_items t.base (mark_then marks.OpenSquare (expr_items e (mark_then marks.CloseSquare (more_dims_items t.dim r)))))
-  expr_items (CastOf t e p) r = mark_then marks.OpenRound (base_items t.base (mark_then marks.CloseRound (Space ∷ in_round (fits_cast t.base e) (expr_items e) r)))
+  expr_items (NewArrayOf t e p) r =
+      key_then keys.New (Space ∷ base_items t.base
+      (mark_then marks.OpenSquare (expr_items e (mark_then marks.CloseSquare (more_dims_items t.dim r)))))
+  expr_items (CastOf t e p) r =
+      mark_then marks.OpenRound (base_items t.base (mark_then marks.CloseRound (Space ∷ in_round (fits_cast t.base e) (expr_items e) r)))
   expr_items (InstanceOfClass e c p) r = in_round (fits 7 e) (expr_items e) (Space ∷ key_then keys.InstanceOf (Space ∷ word_then c.name r))
   expr_items (UnaryOf m e p) r = mark_then m (in_round (fits_sign m e) (expr_items e) r)
-  expr_items (BinaryOf m a b p) r = in_round (fits (level m) a) (expr_items a) (Space ∷ mark_then m (Space ∷ in_round (fits (suc (level m)) b) (expr_items b) r))
+  expr_items (BinaryOf m a b p) r =
+      in_round (fits (level m) a) (expr_items a) (Space ∷ mark_then m (Space ∷ in_round (fits (suc (level m)) b) (expr_items b) r))
 
   -- the arguments, and the bracket that closes them
   pub args_items : Bool → Expressions → List Item → List Item
@@ -143,7 +147,8 @@ abbrev pub index_items : Expression → Expression → List Item → List Item
 index_items e i r = in_round (fits 13 e) (expr_items e) (mark_then marks.OpenSquare (expr_items i (mark_then marks.CloseSquare r)))
 
 abbrev pub new_array_items : TypeName → Expression → List Item → List Item
-new_array_items t e r = key_then keys.New (Space ∷ base_items t.base (mark_then marks.OpenSquare (expr_items e (mark_then marks.CloseSquare (more_dims_items t.dim r)))))
+new_array_items t e r = key_then keys.New
+    (Space ∷ base_items t.base (mark_then marks.OpenSquare (expr_items e (mark_then marks.CloseSquare (more_dims_items t.dim r)))))
 
 abbrev pub cast_items : TypeName → Expression → List Item → List Item
 cast_items t e r = mark_then marks.OpenRound (base_items t.base (mark_then marks.CloseRound (Space ∷ in_round (fits_cast t.base e) (expr_items e) r)))
@@ -184,7 +189,9 @@ is_printing n k = (nat_lt k 2 && is_called n (codes "println")) || ((k == 1) && 
 
 -- such a call, with brackets that keep it a call
 abbrev pub upon_system : List ℕ → Expressions → List Item → List Item
-upon_system n es r = mark_then marks.OpenRound (word_then (codes "System") (mark_then marks.CloseRound (mark_then marks.Dot (word_then (codes "out") (mark_then marks.Dot (called_items n es r))))))
+upon_system n es r = mark_then marks.OpenRound
+    (word_then (codes "System") (mark_then marks.CloseRound
+    (mark_then marks.Dot (word_then (codes "out") (mark_then marks.Dot (called_items n es r))))))
 
 abbrev pub bracketed_items : Expression → List Item → List Item
 bracketed_items (CallOn e n es p) r = upon_system n es r
@@ -204,7 +211,9 @@ abbrev pub assign_items : Expression → Expression → List Item → List Item
 assign_items t v r = expr_items t (Space ∷ mark_then marks.Assign (Space ∷ expr_items v r))
 
 abbrev pub print_items : Bool → Option Expression → List Item → List Item
-print_items l v r = word_then (codes "System") (mark_then marks.Dot (word_then (codes "out") (mark_then marks.Dot (word_then (print_name l) (mark_then marks.OpenRound (value_items v (mark_then marks.CloseRound r)))))))
+print_items l v r = word_then (codes "System")
+    (mark_then marks.Dot (word_then (codes "out")
+    (mark_then marks.Dot (word_then (print_name l) (mark_then marks.OpenRound (value_items v (mark_then marks.CloseRound r)))))))
 
 -- how a printing begins
 abbrev pub print_head : Bool → List ℕ
@@ -246,8 +255,14 @@ abbrev mutual
   pub stmt_items : ℕ → Statement → List Item → List Item
   stmt_items d (BlockOf ss p) r = Margin d ∷ mark_then marks.OpenBrace (End ∷ stmts_items (d + 2) ss (close_body d (End ∷ r)))
   stmt_items d (IfOf a l p) r = Margin d ∷ arms_items d false a (else_items d l r)
-  stmt_items d (WhileOf e ss p) r = Margin d ∷ key_then keys.While (Space ∷ mark_then marks.OpenRound (expr_items e (mark_then marks.CloseRound (open_body (stmts_items (d + 2) ss (close_body d (End ∷ r)))))))
-  stmt_items d (ForOf f v g ss p) r = Margin d ∷ key_then keys.For (Space ∷ mark_then marks.OpenRound (first_items f (mark_then marks.Semi (spaced_items v (mark_then marks.Semi (step_items g (mark_then marks.CloseRound (open_body (stmts_items (d + 2) ss (close_body d (End ∷ r)))))))))))
+  stmt_items d (WhileOf e ss p) r =
+      Margin d ∷ key_then keys.While
+      (Space ∷ mark_then marks.OpenRound (expr_items e (mark_then marks.CloseRound (open_body (stmts_items (d + 2) ss (close_body d (End ∷ r)))))))
+  stmt_items d (ForOf f v g ss p) r =
+      Margin d ∷ key_then keys.For (Space ∷ mark_then marks.OpenRound
+      (first_items f (mark_then marks.Semi
+      (spaced_items v (mark_then marks.Semi
+      (step_items g (mark_then marks.CloseRound (open_body (stmts_items (d + 2) ss (close_body d (End ∷ r)))))))))))
   stmt_items d (ReturnOf v p) r = Margin d ∷ key_then keys.Return (spaced_items v (mark_then marks.Semi (End ∷ r)))
   stmt_items d (BreakOf p) r = Margin d ∷ key_then keys.Break (mark_then marks.Semi (End ∷ r))
   stmt_items d (ContinueOf p) r = Margin d ∷ key_then keys.Continue (mark_then marks.Semi (End ∷ r))
@@ -259,7 +274,10 @@ abbrev mutual
 
   pub arms_items : ℕ → Bool → Arms → List Item → List Item
   arms_items d b no_arms r = r
-  arms_items d b (and_arm e ss a) r = else_then b (key_then keys.If (Space ∷ mark_then marks.OpenRound (expr_items e (mark_then marks.CloseRound (open_body (stmts_items (d + 2) ss (close_body d (arms_items d true a r))))))))
+  arms_items d b (and_arm e ss a) r =
+      else_then b (key_then keys.If
+      (Space ∷ mark_then marks.OpenRound
+      (expr_items e (mark_then marks.CloseRound (open_body (stmts_items (d + 2) ss (close_body d (arms_items d true a r))))))))
 
   pub else_items : ℕ → Else → List Item → List Item
   else_items d no_else r = End ∷ r
@@ -288,7 +306,9 @@ abbrev pub last_items : ℕ → Statements → List Item → List Item
 last_items d ss r = Space ∷ key_then keys.Else (body_block d ss (End ∷ r))
 
 abbrev pub for_head_items : OptionalStatement → Option Expression → OptionalStatement → List Item → List Item
-for_head_items f v g r = key_then keys.For (Space ∷ mark_then marks.OpenRound (first_items f (mark_then marks.Semi (spaced_items v (mark_then marks.Semi (step_items g (mark_then marks.CloseRound r)))))))
+for_head_items f v g r = key_then keys.For
+    (Space ∷ mark_then marks.OpenRound
+    (first_items f (mark_then marks.Semi (spaced_items v (mark_then marks.Semi (step_items g (mark_then marks.CloseRound r)))))))
 
 abbrev pub for_items : ℕ → OptionalStatement → Option Expression → OptionalStatement → Statements → List Item → List Item
 for_items d f v g ss r = for_head_items f v g (body_block d ss (End ∷ r))
@@ -372,10 +392,14 @@ list_items k [] r = r
 list_items k (i ∷ is) r = listed_items k (i ∷ is) r
 
 abbrev pub class_items : List Modifier → List ℕ → Option Id → List Id → List MemberTree → List Item → List Item
-class_items ms n c fs bs r = mods_items ms (key_then keys.Class (Space ∷ word_then n (parent_items c (list_items keys.Implements fs (open_body (members_items bs (mark_then marks.CloseBrace (End ∷ r))))))))
+class_items ms n c fs bs r = mods_items ms
+    (key_then keys.Class (Space ∷ word_then n
+    (parent_items c (list_items keys.Implements fs (open_body (members_items bs (mark_then marks.CloseBrace (End ∷ r))))))))
 
 abbrev pub interface_items : List Modifier → List ℕ → List Id → List HeadTree → List Item → List Item
-interface_items ms n fs hs r = mods_items ms (key_then keys.Interface (Space ∷ word_then n (list_items keys.Extends fs (open_body (heads_items hs (mark_then marks.CloseBrace (End ∷ r)))))))
+interface_items ms n fs hs r =
+    mods_items ms (key_then keys.Interface
+    (Space ∷ word_then n (list_items keys.Extends fs (open_body (heads_items hs (mark_then marks.CloseBrace (End ∷ r)))))))
 
 abbrev pub decl_items : DeclTree → List Item → List Item
 decl_items (ClassTree ms n c fs bs p) r = class_items ms n c fs bs r

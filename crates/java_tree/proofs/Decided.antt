@@ -48,7 +48,8 @@ base_decides (bases.Named n) (bases.Named m) = via (bytes_eq-Decides n m) (λ h.
 base_decides _ _ = (λ h. cc, λ h. cc)
 
 type_decides : (a b : TypeName) → Decides (same_type a b) (type_unplaced a ≡ type_unplaced b)
-type_decides a b = via (both (base_decides a.base b.base) (unsigned_Decides a.dim b.dim)) (λ h. cc (h.0, h.1)) (λ h. (ap (λ (i : TypeName). i.base) h, ap (λ (i : TypeName). i.dim) h))
+type_decides a b = via (both (base_decides a.base b.base) (unsigned_Decides a.dim b.dim)) (λ h. cc (h.0, h.1))
+    (λ h. (ap (λ (i : TypeName). i.base) h, ap (λ (i : TypeName). i.dim) h))
 
 param_decides : (a b : Param) → Decides (same_param a b) (param_unplaced a ≡ param_unplaced b)
 param_decides a b = via (both (both (booleans_Decides a.is_final b.is_final) (type_decides a.ty b.ty)) (bytes_eq-Decides a.name b.name))
@@ -66,14 +67,16 @@ mutual
   expr_decides (FieldOf e n p) (FieldOf f m q) = via (both (bytes_eq-Decides n m) (expr_decides e f)) (λ h. cc (h.0, h.1)) (λ h. (cc, cc))
   expr_decides (IndexOf e i p) (IndexOf f j q) = via (both (expr_decides e f) (expr_decides i j)) (λ h. cc (h.0, h.1)) (λ h. (cc, cc))
   expr_decides (CallOf n es p) (CallOf m fs q) = via (both (bytes_eq-Decides n m) (exprs_decides es fs)) (λ h. cc (h.0, h.1)) (λ h. (cc, cc))
-  expr_decides (CallOn e n es p) (CallOn f m fs q) = via (both (both (bytes_eq-Decides n m) (expr_decides e f)) (exprs_decides es fs)) (λ h. cc (h.0.0, h.0.1, h.1)) (λ h. ((cc, cc), cc))
+  expr_decides (CallOn e n es p) (CallOn f m fs q) = via (both (both (bytes_eq-Decides n m) (expr_decides e f)) (exprs_decides es fs))
+      (λ h. cc (h.0.0, h.0.1, h.1)) (λ h. ((cc, cc), cc))
   expr_decides (SuperCallOf n es p) (SuperCallOf m fs q) = via (both (bytes_eq-Decides n m) (exprs_decides es fs)) (λ h. cc (h.0, h.1)) (λ h. (cc, cc))
   expr_decides (NewOf c es p) (NewOf d fs q) = via (both (id_decides c d) (exprs_decides es fs)) (λ h. cc (h.0, h.1)) (λ h. (cc, cc))
   expr_decides (NewArrayOf t e p) (NewArrayOf u f q) = via (both (type_decides t u) (expr_decides e f)) (λ h. cc (h.0, h.1)) (λ h. (cc, cc))
   expr_decides (CastOf t e p) (CastOf u f q) = via (both (type_decides t u) (expr_decides e f)) (λ h. cc (h.0, h.1)) (λ h. (cc, cc))
   expr_decides (InstanceOfClass e c p) (InstanceOfClass f d q) = via (both (id_decides c d) (expr_decides e f)) (λ h. cc (h.0, h.1)) (λ h. (cc, cc))
   expr_decides (UnaryOf m e p) (UnaryOf k f q) = via (both (mark_decides m k) (expr_decides e f)) (λ h. cc (h.0, h.1)) (λ h. (cc, cc))
-  expr_decides (BinaryOf m a b p) (BinaryOf k c d q) = via (both (both (mark_decides m k) (expr_decides a c)) (expr_decides b d)) (λ h. cc (h.0.0, h.0.1, h.1)) (λ h. ((cc, cc), cc))
+  expr_decides (BinaryOf m a b p) (BinaryOf k c d q) = via (both (both (mark_decides m k) (expr_decides a c)) (expr_decides b d))
+      (λ h. cc (h.0.0, h.0.1, h.1)) (λ h. ((cc, cc), cc))
   expr_decides _ _ = (λ h. absurd (false≢true h), λ h. cc)
 
   exprs_decides : (a b : Expressions) → Decides (same_exprs a b) (exprs_unplaced a ≡ exprs_unplaced b)
@@ -88,14 +91,18 @@ value_decides _ _ = (λ h. absurd (false≢true h), λ h. cc)
 
 mutual
   stmt_decides : (a b : Statement) → Decides (same_stmt a b) (stmt_unplaced a ≡ stmt_unplaced b)
-  stmt_decides (LocalOf f t n v p) (LocalOf g u m w q) = via (both (both (both (booleans_Decides f g) (type_decides t u)) (bytes_eq-Decides n m)) (value_decides v w)) (λ h. cc (h.0.0.0, h.0.0.1, h.0.1, h.1)) (λ h. (((cc, cc), cc), cc))
+  stmt_decides (LocalOf f t n v p) (LocalOf g u m w q) =
+      via (both (both (both (booleans_Decides f g) (type_decides t u)) (bytes_eq-Decides n m)) (value_decides v w))
+      (λ h. cc (h.0.0.0, h.0.0.1, h.0.1, h.1)) (λ h. (((cc, cc), cc), cc))
   stmt_decides (BlockOf ss p) (BlockOf rs q) = via (stmts_decides ss rs) (λ h. cc) (λ h. cc)
   stmt_decides (AssignOf t v p) (AssignOf u w q) = via (both (expr_decides t u) (expr_decides v w)) (λ h. cc (h.0, h.1)) (λ h. (cc, cc))
   stmt_decides (DoOf c p) (DoOf d q) = via (expr_decides c d) (λ h. cc) (λ h. cc)
   stmt_decides (PrintOf l v p) (PrintOf m w q) = via (both (booleans_Decides l m) (value_decides v w)) (λ h. cc (h.0, h.1)) (λ h. (cc, cc))
   stmt_decides (IfOf a o p) (IfOf b r q) = via (both (arms_decides a b) (else_decides o r)) (λ h. cc (h.0, h.1)) (λ h. (cc, cc))
   stmt_decides (WhileOf t ss p) (WhileOf u rs q) = via (both (expr_decides t u) (stmts_decides ss rs)) (λ h. cc (h.0, h.1)) (λ h. (cc, cc))
-  stmt_decides (ForOf f t g ss p) (ForOf h u k rs q) = via (both (both (both (step_decides f h) (value_decides t u)) (step_decides g k)) (stmts_decides ss rs)) (λ h. cc (h.0.0.0, h.0.0.1, h.0.1, h.1)) (λ h. (((cc, cc), cc), cc))
+  stmt_decides (ForOf f t g ss p) (ForOf h u k rs q) =
+      via (both (both (both (step_decides f h) (value_decides t u)) (step_decides g k)) (stmts_decides ss rs))
+      (λ h. cc (h.0.0.0, h.0.0.1, h.0.1, h.1)) (λ h. (((cc, cc), cc), cc))
   stmt_decides (ReturnOf v p) (ReturnOf w q) = via (value_decides v w) (λ h. cc) (λ h. cc)
   stmt_decides (BreakOf p) (BreakOf q) = (λ h. refl, λ h. refl)
   stmt_decides (ContinueOf p) (ContinueOf q) = (λ h. refl, λ h. refl)
@@ -108,7 +115,8 @@ mutual
 
   arms_decides : (a b : Arms) → Decides (same_arms a b) (arms_unplaced a ≡ arms_unplaced b)
   arms_decides no_arms no_arms = (λ h. refl, λ h. refl)
-  arms_decides (and_arm t ss a) (and_arm u rs b) = via (both (both (expr_decides t u) (stmts_decides ss rs)) (arms_decides a b)) (λ h. cc (h.0.0, h.0.1, h.1)) (λ h. ((cc, cc), cc))
+  arms_decides (and_arm t ss a) (and_arm u rs b) = via (both (both (expr_decides t u) (stmts_decides ss rs)) (arms_decides a b))
+      (λ h. cc (h.0.0, h.0.1, h.1)) (λ h. ((cc, cc), cc))
   arms_decides _ _ = (λ h. absurd (false≢true h), λ h. cc)
 
   else_decides : (a b : Else) → Decides (same_else a b) (else_unplaced a ≡ else_unplaced b)
@@ -121,29 +129,34 @@ mutual
   step_decides (present s) (present r) = via (stmt_decides s r) (λ h. cc) (λ h. cc)
   step_decides _ _ = (λ h. absurd (false≢true h), λ h. cc)
 
-all_decides : {A : Type 0} {f : A → A → Bool} {g : A → A} → ((a b : A) → Decides (f a b) (g a ≡ g b)) → (xs ys : List A) → Decides (all_same f xs ys) (all_unplaced g xs ≡ all_unplaced g ys)
+all_decides : {A : Type 0} {f : A → A → Bool} {g : A → A} → ((a b : A) → Decides (f a b) (g a ≡ g b)) → (xs ys : List A)
+    → Decides (all_same f xs ys) (all_unplaced g xs ≡ all_unplaced g ys)
 all_decides d [] [] = (λ h. refl, λ h. refl)
 all_decides d (x ∷ xs) (y ∷ ys) = via (both (d x y) (all_decides d xs ys)) (λ h. cc (h.0, h.1)) (λ h. (cc, cc))
 all_decides d _ _ = (λ h. absurd (false≢true h), λ h. cc)
 
-may_decides : {A : Type 0} {f : A → A → Bool} {g : A → A} → ((a b : A) → Decides (f a b) (g a ≡ g b)) → (x y : Option A) → Decides (may_same f x y) (may_unplaced g x ≡ may_unplaced g y)
+may_decides : {A : Type 0} {f : A → A → Bool} {g : A → A} → ((a b : A) → Decides (f a b) (g a ≡ g b)) → (x y : Option A)
+    → Decides (may_same f x y) (may_unplaced g x ≡ may_unplaced g y)
 may_decides d None None = (λ h. refl, λ h. refl)
 may_decides d (Some x) (Some y) = via (d x y) (λ h. cc) (λ h. cc)
 may_decides d _ _ = (λ h. absurd (false≢true h), λ h. cc)
 
 head_decides : (a b : HeadTree) → Decides (same_head a b) (head_unplaced a ≡ head_unplaced b)
-head_decides a b = via (both (both (both (all_decides modifier_decides a.mods b.mods) (may_decides type_decides a.type b.type)) (bytes_eq-Decides a.name b.name)) (all_decides param_decides a.params b.params))
+head_decides a b = via (both (both (both (all_decides modifier_decides a.mods b.mods) (may_decides type_decides a.type b.type))
+    (bytes_eq-Decides a.name b.name)) (all_decides param_decides a.params b.params))
     (λ h. cc (h.0.0.0, h.0.0.1, h.0.1, h.1))
     (λ h. (((ap (λ (i : HeadTree). i.mods) h, ap (λ (i : HeadTree). i.type) h), ap (λ (i : HeadTree). i.name) h), ap (λ (i : HeadTree). i.params) h))
 
 member_decides : (a b : MemberTree) → Decides (same_member a b) (member_unplaced a ≡ member_unplaced b)
-member_decides (FieldTree m t n p) (FieldTree k u l q) = via (both (both (all_decides modifier_decides m k) (type_decides t u)) (bytes_eq-Decides n l)) (λ h. cc (h.0.0, h.0.1, h.1)) (λ h. ((cc, cc), cc))
+member_decides (FieldTree m t n p) (FieldTree k u l q) =
+    via (both (both (all_decides modifier_decides m k) (type_decides t u)) (bytes_eq-Decides n l)) (λ h. cc (h.0.0, h.0.1, h.1)) (λ h. ((cc, cc), cc))
 member_decides (MethodTree h b p) (MethodTree g c q) = via (both (head_decides h g) (may_decides stmts_decides b c)) (λ h. cc (h.0, h.1)) (λ h. (cc, cc))
 member_decides _ _ = (λ h. absurd (false≢true h), λ h. cc)
 
 decl_decides : (a b : DeclTree) → Decides (same_decl a b) (decl_unplaced a ≡ decl_unplaced b)
 decl_decides (ClassTree m n c f ms p) (ClassTree k l d g rs q) =
-    via (both (both (both (both (all_decides modifier_decides m k) (bytes_eq-Decides n l)) (may_decides id_decides c d)) (all_decides id_decides f g)) (all_decides member_decides ms rs))
+    via (both (both (both (both (all_decides modifier_decides m k) (bytes_eq-Decides n l)) (may_decides id_decides c d)) (all_decides id_decides f g))
+        (all_decides member_decides ms rs))
     (λ h. cc (h.0.0.0.0, h.0.0.0.1, h.0.0.1, h.0.1, h.1)) (λ h. ((((cc, cc), cc), cc), cc))
 decl_decides (InterfaceTree m n f hs p) (InterfaceTree k l g js q) =
     via (both (both (both (all_decides modifier_decides m k) (bytes_eq-Decides n l)) (all_decides id_decides f g)) (all_decides head_decides hs js))

@@ -18,16 +18,21 @@ use Rattle.java_tree.specs.Same.{same_expr, same_exprs, same_stmt, same_stmts, s
 use Rattle.java_tree.proofs.Rows.{exprs_vec, stmts_vec, arms_vec}
 
 -- one more item of both lists is compared
-pub exprs_step : (xs ys : List Expr) (i : ℕ) (d e : Expr) → i < length xs → i < length ys → same_exprs (exprs (drop i xs)) (exprs (drop i ys)) ≡ (same_expr (expr_of (get_or xs i d)) (expr_of (get_or ys i e)) && same_exprs (exprs (drop (i + 1) xs)) (exprs (drop (i + 1) ys)))
+pub exprs_step : (xs ys : List Expr) (i : ℕ) (d e : Expr) → i < length xs → i < length ys → same_exprs (exprs (drop i xs)) (exprs (drop i ys))
+    ≡ (same_expr (expr_of (get_or xs i d)) (expr_of (get_or ys i e)) && same_exprs (exprs (drop (i + 1) xs)) (exprs (drop (i + 1) ys)))
 exprs_step xs ys i d e h k = rw (add-one, drop-cons xs i d, drop-cons ys i e)
 
-pub stmts_step : (xs ys : List Stmt) (i : ℕ) (d e : Stmt) → i < length xs → i < length ys → same_stmts (stmts (drop i xs)) (stmts (drop i ys)) ≡ (same_stmt (stmt_of (get_or xs i d)) (stmt_of (get_or ys i e)) && same_stmts (stmts (drop (i + 1) xs)) (stmts (drop (i + 1) ys)))
+pub stmts_step : (xs ys : List Stmt) (i : ℕ) (d e : Stmt) → i < length xs → i < length ys → same_stmts (stmts (drop i xs)) (stmts (drop i ys))
+    ≡ (same_stmt (stmt_of (get_or xs i d)) (stmt_of (get_or ys i e)) && same_stmts (stmts (drop (i + 1) xs)) (stmts (drop (i + 1) ys)))
 stmts_step xs ys i d e h k = rw (add-one, drop-cons xs i d, drop-cons ys i e)
 
-pub arms_step : (xs ys : List Arm) (i : ℕ) (d e : Arm) → i < length xs → i < length ys → same_arms (arms_seen (drop i xs)) (arms_seen (drop i ys)) ≡ (same_expr (expr_of (get_or xs i d).test) (expr_of (get_or ys i e).test) && same_stmts (stmts (get_or xs i d).body.items) (stmts (get_or ys i e).body.items) && same_arms (arms_seen (drop (i + 1) xs)) (arms_seen (drop (i + 1) ys)))
+pub arms_step : (xs ys : List Arm) (i : ℕ) (d e : Arm) → i < length xs → i < length ys → same_arms (arms_seen (drop i xs)) (arms_seen (drop i ys))
+    ≡ (same_expr (expr_of (get_or xs i d).test) (expr_of (get_or ys i e).test) && same_stmts (stmts (get_or xs i d).body.items)
+    (stmts (get_or ys i e).body.items) && same_arms (arms_seen (drop (i + 1) xs)) (arms_seen (drop (i + 1) ys)))
 arms_step xs ys i d e h k = rw (add-one, drop-cons xs i d, drop-cons ys i e)
 
-pub all_step : {A : Type 0} (f : A → A → Bool) (xs ys : List A) (i : ℕ) (d e : A) → i < length xs → i < length ys → all_same f (drop i xs) (drop i ys) ≡ (f (get_or xs i d) (get_or ys i e) && all_same f (drop (i + 1) xs) (drop (i + 1) ys))
+pub all_step : {A : Type 0} (f : A → A → Bool) (xs ys : List A) (i : ℕ) (d e : A) → i < length xs → i < length ys → all_same f (drop i xs) (drop i ys)
+    ≡ (f (get_or xs i d) (get_or ys i e) && all_same f (drop (i + 1) xs) (drop (i + 1) ys))
 all_step f xs ys i d e h k = rw (add-one, drop-cons xs i d, drop-cons ys i e)
 
 and_right : (a b : Bool) → (a && b) ≡ true → b ≡ true
@@ -47,7 +52,9 @@ stmts_long _ _ h = absurd (false≢true h)
 
 arms_long : (xs ys : List Arm) → same_arms (arms_seen xs) (arms_seen ys) ≡ true → length xs ≡ length ys
 arms_long [] [] h = refl
-arms_long (x ∷ xs) (y ∷ ys) h = let k = arms_long xs ys (and_right (same_expr (expr_of x.test) (expr_of y.test) && same_stmts (stmts x.body.items) (stmts y.body.items)) _ h) in omega (arith, k)
+arms_long (x ∷ xs) (y ∷ ys) h =
+    let k = arms_long xs ys (and_right (same_expr (expr_of x.test) (expr_of y.test) && same_stmts (stmts x.body.items) (stmts y.body.items)) _ h) in
+    omega (arith, k)
 arms_long _ _ h = absurd (false≢true h)
 
 all_long : {A : Type 0} (f : A → A → Bool) (xs ys : List A) → all_same f xs ys ≡ true → length xs ≡ length ys
@@ -92,13 +99,17 @@ pub ruleset seen = (exprs_vec, exprs_step, exprs_apart, stmts_vec, stmts_step, s
 pub ruleset lists = (all_step, all_apart, heads_all, members_all, decls_all)
 
 -- an expression with arguments, as the program sees it
-pub call_seen : {e : Expr} (v : Vec Expr Global) {b : Option (Box Expr Global)} {n : List ℕ} {p : Place} {xs : List Expr} → e ≡ Call b n v p → b ≡ None → xs ≡ v.items → expr_of e ≡ CallOf n (exprs xs) p
+pub call_seen : {e : Expr} (v : Vec Expr Global) {b : Option (Box Expr Global)} {n : List ℕ} {p : Place} {xs : List Expr} → e ≡ Call b n v p
+    → b ≡ None → xs ≡ v.items → expr_of e ≡ CallOf n (exprs xs) p
 call_seen v {n = n} {p = p} h k x = ap expr_of (h ∙ ap (λ b. Call b n v p) k) ∙ ap (λ es. CallOf n es p) (exprs_vec v ∙ sym (ap exprs x))
 
-pub on_seen : {e : Expr} (v : Vec Expr Global) {b : Option (Box Expr Global)} {c : Box Expr Global} {n : List ℕ} {p : Place} {xs : List Expr} → e ≡ Call b n v p → b ≡ Some c → xs ≡ v.items → expr_of e ≡ CallOn (expr_of c.value) n (exprs xs) p
-on_seen v {c = c} {n = n} {p = p} h k x = ap expr_of (h ∙ ap (λ b. Call b n v p) k) ∙ ap (λ es. CallOn (expr_of c.value) n es p) (exprs_vec v ∙ sym (ap exprs x))
+pub on_seen : {e : Expr} (v : Vec Expr Global) {b : Option (Box Expr Global)} {c : Box Expr Global} {n : List ℕ} {p : Place} {xs : List Expr}
+    → e ≡ Call b n v p → b ≡ Some c → xs ≡ v.items → expr_of e ≡ CallOn (expr_of c.value) n (exprs xs) p
+on_seen v {c = c} {n = n} {p = p} h k x = ap expr_of (h ∙ ap (λ b. Call b n v p) k) ∙ ap (λ es. CallOn (expr_of c.value) n es p) (exprs_vec v
+    ∙ sym (ap exprs x))
 
-pub super_seen : {e : Expr} (v : Vec Expr Global) {n : List ℕ} {p : Place} {xs : List Expr} → e ≡ SuperCall n v p → xs ≡ v.items → expr_of e ≡ SuperCallOf n (exprs xs) p
+pub super_seen : {e : Expr} (v : Vec Expr Global) {n : List ℕ} {p : Place} {xs : List Expr} → e ≡ SuperCall n v p → xs ≡ v.items
+    → expr_of e ≡ SuperCallOf n (exprs xs) p
 super_seen v {n = n} {p = p} h x = ap expr_of h ∙ ap (λ es. SuperCallOf n es p) (exprs_vec v ∙ sym (ap exprs x))
 
 pub new_seen : {e : Expr} (v : Vec Expr Global) {i : Id} {p : Place} {xs : List Expr} → e ≡ New i v p → xs ≡ v.items → expr_of e ≡ NewOf i (exprs xs) p
@@ -118,14 +129,17 @@ stmt_by u v h k e = rw (h, k) e
 pub block_seen : {e : Stmt} (v : Vec Stmt Global) {p : Place} {xs : List Stmt} → e ≡ Block v p → xs ≡ v.items → stmt_of e ≡ BlockOf (stmts xs) p
 block_seen v {p = p} h x = ap stmt_of h ∙ ap (λ ss. BlockOf ss p) (stmts_vec v ∙ sym (ap stmts x))
 
-pub while_seen : {e : Stmt} {t : Expr} (v : Vec Stmt Global) {p : Place} {xs : List Stmt} → e ≡ While t v p → xs ≡ v.items → stmt_of e ≡ WhileOf (expr_of t) (stmts xs) p
+pub while_seen : {e : Stmt} {t : Expr} (v : Vec Stmt Global) {p : Place} {xs : List Stmt} → e ≡ While t v p → xs ≡ v.items
+    → stmt_of e ≡ WhileOf (expr_of t) (stmts xs) p
 while_seen {t = t} v {p = p} h x = ap stmt_of h ∙ ap (λ ss. WhileOf (expr_of t) ss p) (stmts_vec v ∙ sym (ap stmts x))
 
-for_as : (f : Option (Box Stmt Global)) (t : Option Expr) (g : Option (Box Stmt Global)) (v : Vec Stmt Global) (p : Place) → stmt_of (For f t g v p) ≡ ForOf (boxed_step f) (value_of t) (boxed_step g) (stmts v.items) p
+for_as : (f : Option (Box Stmt Global)) (t : Option Expr) (g : Option (Box Stmt Global)) (v : Vec Stmt Global) (p : Place) → stmt_of (For f t g v p)
+    ≡ ForOf (boxed_step f) (value_of t) (boxed_step g) (stmts v.items) p
 for_as None t None v p = rw (sym (stmts_vec v)) refl
 for_as None t (Some b) v p = rw (sym (stmts_vec v)) refl
 for_as (Some b) t None v p = rw (sym (stmts_vec v)) refl
 for_as (Some b) t (Some c) v p = rw (sym (stmts_vec v)) refl
 
-pub for_seen : {e : Stmt} (f : Option (Box Stmt Global)) (t : Option Expr) (g : Option (Box Stmt Global)) (v : Vec Stmt Global) {p : Place} {xs : List Stmt} → e ≡ For f t g v p → xs ≡ v.items → stmt_of e ≡ ForOf (boxed_step f) (value_of t) (boxed_step g) (stmts xs) p
+pub for_seen : {e : Stmt} (f : Option (Box Stmt Global)) (t : Option Expr) (g : Option (Box Stmt Global)) (v : Vec Stmt Global) {p : Place}
+    {xs : List Stmt} → e ≡ For f t g v p → xs ≡ v.items → stmt_of e ≡ ForOf (boxed_step f) (value_of t) (boxed_step g) (stmts xs) p
 for_seen f t g v {p = p} h x = ap stmt_of h ∙ for_as f t g v p ∙ sym (ap (λ xs. ForOf (boxed_step f) (value_of t) (boxed_step g) (stmts xs) p) x)

@@ -92,15 +92,18 @@ may_unplaced f None = None
 may_unplaced f (Some x) = Some (f x)
 
 abbrev pub head_unplaced : HeadTree → HeadTree
-head_unplaced h = record { mods = all_unplaced modifier_unplaced h.mods; type = may_unplaced type_unplaced h.type; name = h.name; params = all_unplaced param_unplaced h.params; place = nowhere }
+head_unplaced h = record { mods = all_unplaced modifier_unplaced h.mods; type = may_unplaced type_unplaced h.type; name = h.name; params =
+    all_unplaced param_unplaced h.params; place = nowhere }
 
 abbrev pub member_unplaced : MemberTree → MemberTree
 member_unplaced (FieldTree m t n p) = FieldTree (all_unplaced modifier_unplaced m) (type_unplaced t) n nowhere
 member_unplaced (MethodTree h b p) = MethodTree (head_unplaced h) (may_unplaced stmts_unplaced b) nowhere
 
 abbrev pub decl_unplaced : DeclTree → DeclTree
-decl_unplaced (ClassTree m n c f ms p) = ClassTree (all_unplaced modifier_unplaced m) n (may_unplaced id_unplaced c) (all_unplaced id_unplaced f) (all_unplaced member_unplaced ms) nowhere
-decl_unplaced (InterfaceTree m n f hs p) = InterfaceTree (all_unplaced modifier_unplaced m) n (all_unplaced id_unplaced f) (all_unplaced head_unplaced hs) nowhere
+decl_unplaced (ClassTree m n c f ms p) = ClassTree (all_unplaced modifier_unplaced m) n (may_unplaced id_unplaced c) (all_unplaced id_unplaced f)
+    (all_unplaced member_unplaced ms) nowhere
+decl_unplaced (InterfaceTree m n f hs p) = InterfaceTree (all_unplaced modifier_unplaced m) n (all_unplaced id_unplaced f)
+    (all_unplaced head_unplaced hs) nowhere
 
 -- a program without its places
 abbrev pub unplaced : List DeclTree → List DeclTree

@@ -125,7 +125,8 @@ same_member (MethodTree h b p) (MethodTree g c q) = same_head h g && may_same sa
 same_member _ _ = false
 
 abbrev pub same_decl : DeclTree → DeclTree → Bool
-same_decl (ClassTree m n c f ms p) (ClassTree k l d g rs q) = all_same same_modifier m k && bytes_eq n l && may_same same_id c d && all_same same_id f g && all_same same_member ms rs
+same_decl (ClassTree m n c f ms p) (ClassTree k l d g rs q) = all_same same_modifier m k && bytes_eq n l && may_same same_id c d && all_same same_id f
+    g && all_same same_member ms rs
 same_decl (InterfaceTree m n f hs p) (InterfaceTree k l g js q) = all_same same_modifier m k && bytes_eq n l && all_same same_id f g && all_same same_head hs js
 same_decl _ _ = false
 

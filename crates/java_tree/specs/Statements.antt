@@ -34,7 +34,8 @@ is_out _ = false
 -- whether a line ends, and what is printed: `println` takes at most one argument, `print` takes one
 abbrev pub printed_args : List ℕ → Expressions → Option (Bool × Option Expression)
 printed_args n no_more = if is_called n (codes "println") then Some (true, None) else None
-printed_args n (and_more e no_more) = if is_called n (codes "println") then Some (true, Some e) else if is_called n (codes "print") then Some (false, Some e) else None
+printed_args n (and_more e no_more) = if is_called n (codes "println") then Some (true, Some e) else if is_called n (codes "print") then Some
+    (false, Some e) else None
 printed_args n (and_more e (and_more f es)) = None
 
 abbrev pub printed_by : Expression → Option (Bool × Option Expression)
@@ -150,7 +151,8 @@ mutual
         IsFirst us (mark marks.Semi r ∷ vs) f → IsValue vs (mark marks.Semi t ∷ ws) v → IsStep ws (mark marks.CloseRound w ∷ xs) g → IsStmt o xs rest s →
         IsStmt o (key keys.For p ∷ mark marks.OpenRound q ∷ us) rest (ForOf f v g (as_body s) p)
     -- stmt = "return" [expr] ";" | "break" ";" | "continue" ";"
-    return_word : {v : Option Expression} {p q : Place} {us rest : List Token} → IsValue us (mark marks.Semi q ∷ rest) v → IsStmt false (key keys.Return p ∷ us) rest (ReturnOf v p)
+    return_word : {v : Option Expression} {p q : Place} {us rest : List Token} → IsValue us (mark marks.Semi q ∷ rest) v
+        → IsStmt false (key keys.Return p ∷ us) rest (ReturnOf v p)
     break_word : {p q : Place} {rest : List Token} → IsStmt false (key keys.Break p ∷ mark marks.Semi q ∷ rest) rest (BreakOf p)
     continue_word : {p q : Place} {rest : List Token} → IsStmt false (key keys.Continue p ∷ mark marks.Semi q ∷ rest) rest (ContinueOf p)
 

@@ -43,7 +43,8 @@ column_below P Q F facts i c e =
     omega (arith, few, counted, listed)
 
 -- rows and columns of the program are those of the hierarchy, and rows stand at its nodes
-pub fitting : (p : Program) (n : Numbering) (F : Facts) (H : Hierarchy) → AreNumbersOf p n → IsFactsOf (program_of no_place p) (program_of at_place p) F → IsHierarchyOf F H → IsFitting n H
+pub fitting : (p : Program) (n : Numbering) (F : Facts) (H : Hierarchy) → AreNumbersOf p n
+    → IsFactsOf (program_of no_place p) (program_of at_place p) F → IsHierarchyOf F H → IsFitting n H
 fitting p n F H are facts is =
     let P = program_of no_place p in
     let Q = program_of at_place p in
@@ -63,14 +64,16 @@ renamed_by H row column = record {
   holder_of = λ c. c;
 }
 
-same_renaming : (p : Program) (n : Numbering) (H : Hierarchy) → AreNumbersOf p n → renamed n H ≡ renaming_of (program_of no_place p) (program_of at_place p) H by_number
+same_renaming : (p : Program) (n : Numbering) (H : Hierarchy) → AreNumbersOf p n → renamed n H ≡ renaming_of (program_of no_place p)
+    (program_of at_place p) H by_number
 unfolding renaming_of
 same_renaming p n H are =
     ap (λ row. renamed_by H row (number_among same_column n.columns.keys)) are.rows
     ∙ ap (renamed_by H (numbers (program_of no_place p) (program_of at_place p)).row) are.columns
 
 -- the tree by the numbering is the hierarchy's
-pub same_tree : (p : Program) (n : Numbering) (F : Facts) (H : Hierarchy) → AreNumbersOf p n → written_by (program_of no_place p) (renamed n H) F H n.columns.keys ≡ tree_of_hierarchy p F H
+pub same_tree : (p : Program) (n : Numbering) (F : Facts) (H : Hierarchy) → AreNumbersOf p n
+    → written_by (program_of no_place p) (renamed n H) F H n.columns.keys ≡ tree_of_hierarchy p F H
 unfolding java_tree
 same_tree p n F H are =
     ap (λ R. written_by (program_of no_place p) R F H n.columns.keys) (same_renaming p n H are)

@@ -97,5 +97,6 @@ module _ (p : Program) (F : Facts) (H : Hierarchy)
         record {
           text = encode_utf8_all (tree_text t);
           appended = subst (λ d. now ≡ before ++ encode_utf8_all (tree_text d)) same made;
-          is = is_written text new (subst (λ d. Resolves d (program_of at_place new)) same resolves) formed_new (subst (λ d. IsReadAs (encode_utf8_all (tree_text d)) d) same read);
+          is = is_written text new (subst (λ d. Resolves d (program_of at_place new)) same resolves) formed_new
+              (subst (λ d. IsReadAs (encode_utf8_all (tree_text d)) d) same read);
         }

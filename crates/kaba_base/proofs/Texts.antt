@@ -20,7 +20,8 @@ pub same_chars : (xs ys : List ℕ) → IsUtf8 xs → IsUtf8 ys → chars xs ≡
 same_chars xs ys u v h = sym (encodes-chars xs u) ∙ ap encode_utf8_all h ∙ encodes-chars ys v
 
 -- the first that passes, past one that does not
-pub first_that_skips : {X : Type 0} (p : X → Bool) (xs : List X) (d : X) (r : Option X) → 1 ≤ length xs → p (get_or xs 0 d) ≡ false → r ≡ first_that p (take (length xs - 1) (drop 1 xs)) → r ≡ first_that p xs
+pub first_that_skips : {X : Type 0} (p : X → Bool) (xs : List X) (d : X) (r : Option X) → 1 ≤ length xs → p (get_or xs 0 d) ≡ false
+    → r ≡ first_that p (take (length xs - 1) (drop 1 xs)) → r ≡ first_that p xs
 first_that_skips p [] d r h f e = absurd (omega arith)
 first_that_skips p (x ∷ xs) d r h f e = e ∙ ap (first_that p) (take_all (length (x ∷ xs) - 1) xs (omega arith)) ∙ sym (cond-false (p x) _ _ f)
 
@@ -49,7 +50,8 @@ none_after : (a : Bool) (k : Keyword) (found : Option Keyword) (any : Bool) → 
 none_after true k found any h = refl
 none_after false k found any h = h
 
-keyword_tests : (bs : List ℕ) → IsUtf8 bs → (ks : List Keyword) → list_all (λ k. is_plain (key_text k)) ks ≡ true → is_none (first_that (λ k. bytes_eq (key_text k) (chars bs)) ks) ≡ not (list_any (λ k. bytes_eq (key_text k) bs) ks)
+keyword_tests : (bs : List ℕ) → IsUtf8 bs → (ks : List Keyword) → list_all (λ k. is_plain (key_text k)) ks ≡ true
+    → is_none (first_that (λ k. bytes_eq (key_text k) (chars bs)) ks) ≡ not (list_any (λ k. bytes_eq (key_text k) bs) ks)
 keyword_tests bs u [] h = refl
 keyword_tests bs u (k ∷ ks) h =
     let told = both (is_plain (key_text k)) (list_all (λ x. is_plain (key_text x)) ks) h in

@@ -3,7 +3,8 @@ use Rattle.std.proofs.Common.{◌≡◌, ℕ, ◌+◌, ◌-◌, List, ◌++◌, 
 use Rattle.std.proofs.lemmas.List.{take_rest}
 use Rattle.kaba_base.specs.Outside.{taken_more}
 
-pub taken_on : (before now after : Option (List ℕ)) (bytes piece : List ℕ) (done n : ℕ) → now ≡ taken_more before (take done bytes) → piece ≡ take (length bytes - done) (drop done bytes) → after ≡ taken_more now (take n piece) → after ≡ taken_more before (take (done + n) bytes)
+pub taken_on : (before now after : Option (List ℕ)) (bytes piece : List ℕ) (done n : ℕ) → now ≡ taken_more before (take done bytes)
+    → piece ≡ take (length bytes - done) (drop done bytes) → after ≡ taken_more now (take n piece) → after ≡ taken_more before (take (done + n) bytes)
 taken_on None now after bytes piece done n h p t = t ∙ ap (λ x. taken_more x (take n piece)) h
 taken_on (Some b) now after bytes piece done n h p t =
     t ∙ ap (λ x. taken_more x (take n piece)) h

@@ -111,7 +111,8 @@ pub apart_bits : (a b : List ℕ) → ((k : ℕ) → IsApartAt a b k) → (i : �
 apart_bits a b apart i ha hb =
     let x = slice_index a (i / 64) in
     let y = slice_index b (i / 64) in
-    let e : min (bit_at x (i % 64)) (bit_at y (i % 64)) ≡ 0 = sym (bit_at_and x y (i % 64)) ∙ (ap (λ n. bit_at n (i % 64)) (apart (i / 64)) ∙ bit_at-zero (i % 64)) in
+    let e : min (bit_at x (i % 64)) (bit_at y (i % 64)) ≡ 0 = sym (bit_at_and x y (i % 64)) ∙ (ap (λ n. bit_at n (i % 64)) (apart (i / 64))
+        ∙ bit_at-zero (i % 64)) in
     omega (arith, e, eqb-true (bit_at x (i % 64)) 1 ha, eqb-true (bit_at y (i % 64)) 1 hb)
 
 pub within_bits : (a b : List ℕ) → ((k : ℕ) → IsWithinAt a b k) → (i : ℕ) → word_bit a i ≡ true → word_bit b i ≡ true

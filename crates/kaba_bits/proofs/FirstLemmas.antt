@@ -51,12 +51,14 @@ first_below_clear f zero none = refl
 first_below_clear f (suc n) none = rw (first_below_clear f n (λ k lt. none k (omega (arith, lt)))) (none n (omega arith))
 
 -- the number of the first answer, below which there is none
-pub first_below_Some : {B : Type 0} (f : ℕ → Option B) (n : ℕ) (x : B) → first_below n f ≡ Some x → (k : ℕ) × (k < n) × (f k ≡ Some x) × (first_below k f ≡ None)
+pub first_below_Some : {B : Type 0} (f : ℕ → Option B) (n : ℕ) (x : B) → first_below n f ≡ Some x → (k : ℕ) × (k < n) × (f k ≡ Some x)
+    × (first_below k f ≡ None)
 first_below_Some f zero x h = absurd (cc)
 first_below_Some f (suc n) x h =
     ⊎_elim
     (λ none. (n, omega arith, sym (ap (λ o. or_else o (f n)) none) ∙ h, none))
-    (λ y. let e : Some y.0 ≡ Some x = sym (ap (λ o. or_else o (f n)) y.1) ∙ h in let r = first_below_Some f n x (y.1 ∙ e) in (r.0, omega (arith, r.1), r.2, r.3))
+    (λ y. let e : Some y.0 ≡ Some x = sym (ap (λ o. or_else o (f n)) y.1) ∙ h in let r = first_below_Some f n x (y.1 ∙ e) in
+        (r.0, omega (arith, r.1), r.2, r.3))
     (cases_Option (first_below n f))
 
 -- two searches that agree below n find the same

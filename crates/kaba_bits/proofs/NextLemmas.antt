@@ -15,7 +15,8 @@ and_not a b la lb = grind (arith, nat_tests)
 
 pub news_bit : (a b j : ℕ) → b < 2 ^ 64 → j < 64 → (bit_at (bit_and a (bit_not w64 b)) j == 1) ≡ ((bit_at a j == 1) && not (bit_at b j == 1))
 news_bit a b j small lt =
-    ap (λ n. n == 1) (bit_at_and a (bit_not w64 b) j ∙ ap (λ n. min (bit_at a j) n) (bit_at_not w64 b j small lt)) ∙ and_not (bit_at a j) (bit_at b j) (bit_at-lt a j) (bit_at-lt b j)
+    ap (λ n. n == 1) (bit_at_and a (bit_not w64 b) j ∙ ap (λ n. min (bit_at a j) n) (bit_at_not w64 b j small lt))
+        ∙ and_not (bit_at a j) (bit_at b j) (bit_at-lt a j) (bit_at-lt b j)
 
 and_true : (b : Bool) → b ≡ (b && not false)
 and_true true = refl
@@ -35,7 +36,8 @@ pub none_left : (word from : ℕ) → word / 2 ^ from ≡ 0 → IsNoneFrom (λ j
 none_left word from e k low lt =
     ap (λ n. n == 1) (sym (bit_at-shr word from k low)) ∙ (ap (λ n. bit_at n (k - from) == 1) e ∙ ap (λ n. n == 1) (bit_at-zero (k - from)))
 
-pub least_left : (word from rest : ℕ) → rest ≡ word / 2 ^ from → 0 < rest → rest < 2 ^ 64 → word < 2 ^ 64 → from < 64 → (from + trailing_zeros w64 rest < 64) × IsLeastFrom (λ j. bit_at word j == 1) from (from + trailing_zeros w64 rest)
+pub least_left : (word from rest : ℕ) → rest ≡ word / 2 ^ from → 0 < rest → rest < 2 ^ 64 → word < 2 ^ 64 → from < 64
+    → (from + trailing_zeros w64 rest < 64) × IsLeastFrom (λ j. bit_at word j == 1) from (from + trailing_zeros w64 rest)
 least_left word from rest is some fits small lt =
     let t = trailing_zeros w64 rest in
     let h = bit_at-trailing_zeros w64 rest some fits in
@@ -51,27 +53,32 @@ least_left word from rest is some fits small lt =
     )
 
 -- ---- the words
-module _ (words other : List ℕ) (k word : ℕ) (is : (j : ℕ) → j < 64 → (bit_at word j == 1) ≡ ((bit_at (slice_index words k) j == 1) && not (bit_at (slice_index other k) j == 1))) where
+module _ (words other : List ℕ) (k word : ℕ) (is : (j : ℕ) → j < 64
+    → (bit_at word j == 1) ≡ ((bit_at (slice_index words k) j == 1) && not (bit_at (slice_index other k) j == 1))) where
   here : (j : ℕ) → j / 64 ≡ k → is_news words other j ≡ (bit_at word (j % 64) == 1)
   here j e =
       subst (λ n. ((bit_at (slice_index words n) (j % 64) == 1) && not (bit_at (slice_index other n) (j % 64) == 1)) ≡ (bit_at word (j % 64) == 1)) (sym e)
       (sym (is (j % 64) (omega arith)))
 
-  pub none_more : (from at : ℕ) → at / 64 ≡ k → IsNoneFrom (is_news words other) from at → IsNoneFrom (λ j. bit_at word j == 1) (at % 64) 64 → IsNoneFrom (is_news words other) from ((k + 1) * 64)
+  pub none_more : (from at : ℕ) → at / 64 ≡ k → IsNoneFrom (is_news words other) from at → IsNoneFrom (λ j. bit_at word j == 1) (at % 64) 64
+      → IsNoneFrom (is_news words other) from ((k + 1) * 64)
   none_more from at e before none j low lt =
       ⊎_elim
       (λ below. before j low below)
       (λ past. let same : j / 64 ≡ k = omega (arith, e, lt, past) in here j same ∙ none (j % 64) (omega (arith, e, same, past)) (omega arith))
       (cases_lt j at)
 
-  pub least_here : (from at i : ℕ) → at / 64 ≡ k → from ≤ at → IsNoneFrom (is_news words other) from at → i < 64 → IsLeastFrom (λ j. bit_at word j == 1) (at % 64) i → IsLeastFrom (is_news words other) from (k * 64 + i)
+  pub least_here : (from at i : ℕ) → at / 64 ≡ k → from ≤ at → IsNoneFrom (is_news words other) from at → i < 64
+      → IsLeastFrom (λ j. bit_at word j == 1) (at % 64) i → IsLeastFrom (is_news words other) from (k * 64 + i)
   least_here from at i e le before lt x = record {
     low = omega (arith, e, le, x.low);
-    holds = let same : (k * 64 + i) / 64 ≡ k = omega (arith, lt) in let rest : (k * 64 + i) % 64 ≡ i = omega (arith, lt) in here (k * 64 + i) same ∙ (ap (λ n. bit_at word n == 1) rest ∙ x.holds);
+    holds = let same : (k * 64 + i) / 64 ≡ k = omega (arith, lt) in let rest : (k * 64 + i) % 64 ≡ i = omega (arith, lt) in here (k * 64 + i) same
+        ∙ (ap (λ n. bit_at word n == 1) rest ∙ x.holds);
     least = λ j low below.
         ⊎_elim
         (λ b. before j low b)
-        (λ past. let same : j / 64 ≡ k = omega (arith, e, below, past, lt) in here j same ∙ x.least (j % 64) (omega (arith, e, same, past)) (omega (arith, same, below, lt)))
+        (λ past. let same : j / 64 ≡ k = omega (arith, e, below, past, lt) in here j same ∙ x.least (j % 64) (omega (arith, e, same, past))
+            (omega (arith, same, below, lt)))
         (cases_lt j at);
   }
 
@@ -86,6 +93,7 @@ module _ (w : ℕ) (words other : List ℕ) (news : ℕ → Bool) (h : HoldWidth
   pub least_row : (from i : ℕ) → IsLeastFrom (is_news words other) from i → IsLeastFrom news from i
   least_row from i x = record { low = x.low; holds = is i ∙ x.holds; least = λ k low lt. is k ∙ x.least k low lt }
 
-  pub next_row : (from n : ℕ) (found : Option ℕ) → n ≡ w → MatchOption found (IsNoneFrom (is_news words other) from (64 * length words)) (IsLeastFrom (is_news words other) from) → MatchOption found (IsNoneFrom news from n) (IsLeastFrom news from)
+  pub next_row : (from n : ℕ) (found : Option ℕ) → n ≡ w → MatchOption found (IsNoneFrom (is_news words other) from (64 * length words))
+      (IsLeastFrom (is_news words other) from) → MatchOption found (IsNoneFrom news from n) (IsLeastFrom news from)
   next_row from n None e x = none_row from n e x
   next_row from n (Some i) e x = least_row from i x

@@ -7,14 +7,17 @@ use Rattle.std.proofs.lemmas.List.Sums.{sum_by-le}
 use Rattle.std.proofs.lemmas.List.Elements.{All-from_get_or}
 use Rattle.kaba_bits.proofs.SetLemmas.{same_bits, size-le-length}
 
-pub widths-set : (rows : List (List Bool)) (into : ℕ) (new : List Bool) → length new ≡ length (row rows into) → (k : ℕ) → length (row (set rows into new) k) ≡ length (row rows k)
+pub widths-set : (rows : List (List Bool)) (into : ℕ) (new : List Bool) → length new ≡ length (row rows into) → (k : ℕ)
+    → length (row (set rows into new) k) ≡ length (row rows k)
 widths-set rows into new e k = grind (arith, common_steps)
 
 -- rows that keep their widths
-pub HasWidth-kept : (w : ℕ) (old new : List (List Bool)) → length new ≡ length old → ((k : ℕ) → length (row new k) ≡ length (row old k)) → HasWidth w old → HasWidth w new
+pub HasWidth-kept : (w : ℕ) (old new : List (List Bool)) → length new ≡ length old → ((k : ℕ) → length (row new k) ≡ length (row old k))
+    → HasWidth w old → HasWidth w new
 HasWidth-kept w old new len widths h = λ k lt. widths k ∙ h k (omega (arith, len, lt))
 
-pub GainsRow-set : (rows : List (List Bool)) (into : ℕ) (new extra : List Bool) → into < length rows → ((s : ℕ) → bit new s ≡ (bit (row rows into) s || bit extra s)) → GainsRow rows (set rows into new) into extra
+pub GainsRow-set : (rows : List (List Bool)) (into : ℕ) (new extra : List Bool) → into < length rows
+    → ((s : ℕ) → bit new s ≡ (bit (row rows into) s || bit extra s)) → GainsRow rows (set rows into new) into extra
 GainsRow-set rows into new extra lt e = record {
   others = λ k ne. get_or-set_other rows into k new [] ne;
   joined = λ s. rw (get_or-set_same rows into new [] lt) (e s);
@@ -45,7 +48,8 @@ pub total-le : (w : ℕ) (rows : List (List Bool)) → HasWidth w rows → total
 total-le w rows h = sum_by-le size w rows (All-from_get_or (λ x. size x ≤ w) rows [] (λ i lt. omega (arith, size-le-length (get_or rows i []), h i lt)))
 
 -- a row that gains keeps what it had
-pub GainsRow-keeps : (old new : List (List Bool)) (into : ℕ) (extra : List Bool) → GainsRow old new into extra → (k i : ℕ) → bit (row old k) i ≡ true → bit (row new k) i ≡ true
+pub GainsRow-keeps : (old new : List (List Bool)) (into : ℕ) (extra : List Bool) → GainsRow old new into extra → (k i : ℕ) → bit (row old k) i ≡ true
+    → bit (row new k) i ≡ true
 GainsRow-keeps old new into extra g k i h =
     ⊎_elim
     (λ e. subst (λ j. bit (row new j) i ≡ true) (sym e) (g.joined i ∙ or_left (bit (row old into) i) (bit extra i) (subst (λ j. bit (row old j) i ≡ true) e h)))

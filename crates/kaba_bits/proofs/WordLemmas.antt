@@ -29,7 +29,8 @@ module _ (f : ℕ → ℕ → ℕ) (xs ys : List ℕ) (at : ℕ) (lx : at + 8 �
       ∙ (ap (λ a. f a (get_or (chunk at 8 ys) j 0)) (get_or-chunk at 8 xs j 0 lt) ∙ ap (λ b. f (slice_index xs (at + j)) b) (get_or-chunk at 8 ys j 0 lt))
 
   -- a word of a chunk that was computed lane by lane and put back
-  pub lane_put : (k : ℕ) → at ≤ k → k < at + 8 → slice_index (put_chunk at xs (zip2 f (chunk at 8 xs) (chunk at 8 ys))) k ≡ f (slice_index xs k) (slice_index ys k)
+  pub lane_put : (k : ℕ) → at ≤ k → k < at + 8 → slice_index (put_chunk at xs (zip2 f (chunk at 8 xs) (chunk at 8 ys))) k
+      ≡ f (slice_index xs k) (slice_index ys k)
   lane_put k low high =
       let j = k - at in
       let e : at + j ≡ k = omega (arith, low) in
@@ -42,11 +43,13 @@ module _ (f : ℕ → ℕ → ℕ) (xs ys : List ℕ) (at : ℕ) (lx : at + 8 �
   lane_above k high = get_or-put_chunk_above at xs (zip2 f (chunk at 8 xs) (chunk at 8 ys)) k 0 (omega (arith, length-lanes, high))
 
   -- the same with the first words once more
-  pub lane_twice : (g : ℕ → ℕ → ℕ) (j : ℕ) → j < 8 → get_or (zip2 g (zip2 f (chunk at 8 xs) (chunk at 8 ys)) (chunk at 8 xs)) j 0 ≡ g (f (slice_index xs (at + j)) (slice_index ys (at + j))) (slice_index xs (at + j))
+  pub lane_twice : (g : ℕ → ℕ → ℕ) (j : ℕ) → j < 8 → get_or (zip2 g (zip2 f (chunk at 8 xs) (chunk at 8 ys)) (chunk at 8 xs)) j 0
+      ≡ g (f (slice_index xs (at + j)) (slice_index ys (at + j))) (slice_index xs (at + j))
   lane_twice g j lt =
       let cx = length-chunk at 8 xs lx in
       get_or-zip2 g (zip2 f (chunk at 8 xs) (chunk at 8 ys)) (chunk at 8 xs) j 0 0 0 (omega (arith, length-lanes, lt)) (omega (arith, cx, lt))
-      ∙ (ap (λ a. g a (get_or (chunk at 8 xs) j 0)) (lane_is j lt) ∙ ap (λ b. g (f (slice_index xs (at + j)) (slice_index ys (at + j))) b) (get_or-chunk at 8 xs j 0 lt))
+      ∙ (ap (λ a. g a (get_or (chunk at 8 xs) j 0)) (lane_is j lt) ∙ ap (λ b. g (f (slice_index xs (at + j)) (slice_index ys (at + j))) b)
+          (get_or-chunk at 8 xs j 0 lt))
 
   pub length-lanes_twice : (g : ℕ → ℕ → ℕ) → length (zip2 g (zip2 f (chunk at 8 xs) (chunk at 8 ys)) (chunk at 8 xs)) ≡ 8
   length-lanes_twice g =
@@ -54,7 +57,8 @@ module _ (f : ℕ → ℕ → ℕ) (xs ys : List ℕ) (at : ℕ) (lx : at + 8 �
       length-zip2 g (zip2 f (chunk at 8 xs) (chunk at 8 ys)) (chunk at 8 xs) (length-lanes ∙ sym cx) ∙ length-lanes
 
 -- from the lanes of a chunk to its words
-pub none_at : (lanes : List ℕ) (P : ℕ → ℕ) (at : ℕ) → ((j : ℕ) → j < 8 → get_or lanes j 0 ≡ P (at + j)) → ((j : ℕ) → j < 8 → slice_index lanes j ≡ 0) → (k : ℕ) → at ≤ k → k < at + 8 → P k ≡ 0
+pub none_at : (lanes : List ℕ) (P : ℕ → ℕ) (at : ℕ) → ((j : ℕ) → j < 8 → get_or lanes j 0 ≡ P (at + j)) → ((j : ℕ) → j < 8 → slice_index lanes j ≡ 0)
+    → (k : ℕ) → at ≤ k → k < at + 8 → P k ≡ 0
 none_at lanes P at is none k low high =
     let lt : k - at < 8 = omega (arith, low, high) in
     let e : at + (k - at) ≡ k = omega (arith, low) in
@@ -137,7 +141,9 @@ size-whole w words h =
 pub word_bit-set_same : (ws : List ℕ) (i x : ℕ) → i / 64 < length ws → word_bit (set ws (i / 64) x) i ≡ (bit_at x (i % 64) == 1)
 word_bit-set_same ws i x lt = ap (λ n. bit_at n (i % 64) == 1) (get_or-set_same ws (i / 64) x 0 lt)
 
-pub word_bit-set_others : (ws : List ℕ) (i x : ℕ) → i / 64 < length ws → ((t : ℕ) → t < 64 → t ≢ i % 64 → bit_at x t ≡ bit_at (slice_index ws (i / 64)) t) → (j : ℕ) → j ≢ i → word_bit (set ws (i / 64) x) j ≡ word_bit ws j
+pub word_bit-set_others : (ws : List ℕ) (i x : ℕ) → i / 64 < length ws
+    → ((t : ℕ) → t < 64 → t ≢ i % 64 → bit_at x t ≡ bit_at (slice_index ws (i / 64)) t) → (j : ℕ) → j ≢ i
+    → word_bit (set ws (i / 64) x) j ≡ word_bit ws j
 word_bit-set_others ws i x lt keep j ne =
     let within : j % 64 < 64 = omega arith in
     ⊎_elim
@@ -148,14 +154,16 @@ word_bit-set_others ws i x lt keep j ne =
     (λ other. ap (λ n. bit_at n (j % 64) == 1) (get_or-set_other ws (i / 64) (j / 64) x 0 other))
     (cases_eq (j / 64) (i / 64))
 
-pub HoldWidth-one : (w : ℕ) (old new : List ℕ) (i : ℕ) → HoldWidth w old → i < w → length new ≡ length old → ((j : ℕ) → j ≢ i → word_bit new j ≡ word_bit old j) → HoldWidth w new
+pub HoldWidth-one : (w : ℕ) (old new : List ℕ) (i : ℕ) → HoldWidth w old → i < w → length new ≡ length old
+    → ((j : ℕ) → j ≢ i → word_bit new j ≡ word_bit old j) → HoldWidth w new
 HoldWidth-one w old new i h lt len others = record {
   small = h.small;
   len = len ∙ h.len;
   clear = λ j ge. others j (omega (arith, lt, ge)) ∙ h.clear j ge;
 }
 
-pub row_of-one : (w : ℕ) (old new : List ℕ) (row : List Bool) (i : ℕ) (b : Bool) → IsSeen w old row → i < w → word_bit new i ≡ b → ((j : ℕ) → j ≢ i → word_bit new j ≡ word_bit old j) → row_of w new ≡ set row i b
+pub row_of-one : (w : ℕ) (old new : List ℕ) (row : List Bool) (i : ℕ) (b : Bool) → IsSeen w old row → i < w → word_bit new i ≡ b
+    → ((j : ℕ) → j ≢ i → word_bit new j ≡ word_bit old j) → row_of w new ≡ set row i b
 row_of-one w old new row i b s lt here others =
     let len = length-row_of w new ∙ sym (length-set row i b ∙ s.len) in
     same_bits (row_of w new) (set row i b) len (λ j below.
@@ -201,7 +209,8 @@ word_bit-met old other new i j =
     ap (λ n. bit_at n (i % 64) == 1) (j (i / 64))
     ∙ (ap (λ n. n == 1) (bit_at_and x y (i % 64)) ∙ and_of_min (bit_at x (i % 64)) (bit_at y (i % 64)) (bit_at-lt x (i % 64)) (bit_at-lt y (i % 64)))
 
-module _ (w : ℕ) (old other new : List ℕ) (a b : List Bool) (h : HoldWidth w old) (g : HoldWidth w other) (s : IsSeen w old a) (t : IsSeen w other b) (len : length new ≡ length old) where
+module _ (w : ℕ) (old other new : List ℕ) (a b : List Bool) (h : HoldWidth w old) (g : HoldWidth w other) (s : IsSeen w old a) (t : IsSeen w other b)
+    (len : length new ≡ length old) where
   pub HoldWidth-joined : AreJoined old other new → HoldWidth w new
   HoldWidth-joined j = record {
     small = h.small;
@@ -227,7 +236,8 @@ module _ (w : ℕ) (old other new : List ℕ) (a b : List Bool) (h : HoldWidth w
       ∙ (word_bit-met old other new i j ∙ (ap (λ x. x && word_bit other i) (sym (s.bits i)) ∙ ap (λ x. bit a i && x) (sym (t.bits i))))
 
 -- rows of one width have as many words
-pub same_words : (w v : ℕ) (xs ys : List ℕ) (a b : List Bool) → HoldWidth w xs → HoldWidth v ys → IsSeen w xs a → IsSeen v ys b → length a ≡ length b → length xs ≡ length ys
+pub same_words : (w v : ℕ) (xs ys : List ℕ) (a b : List Bool) → HoldWidth w xs → HoldWidth v ys → IsSeen w xs a → IsSeen v ys b → length a ≡ length b
+    → length xs ≡ length ys
 same_words w v xs ys a b h g s t e =
     let same : w ≡ v = omega (arith, s.len, t.len, e) in
     omega (arith, same, h.len, g.len)

@@ -12,7 +12,8 @@ has_any_none [] = refl
 has_any_none (s ∷ set) = has_any_none set
 
 -- one more element of the list
-pub stays_more : (set : List NodeId) (m a i : ℕ) (d : NodeId) → i < length set → stays (take (i + 1) set) m a ≡ (stays (take i set) m a && (not (a == (get_or set i d).0) || (a == m)))
+pub stays_more : (set : List NodeId) (m a i : ℕ) (d : NodeId) → i < length set → stays (take (i + 1) set) m a
+    ≡ (stays (take i set) m a && (not (a == (get_or set i d).0) || (a == m)))
 stays_more set m a i d lt = rw (list_any_more (λ s. a == s.0) set i d lt) (split (is_among (take i set) a) (a == (get_or set i d).0) (a == m))
   where
     split : (x y z : Bool) → (not (x || y) || z) ≡ ((not x || z) && (not y || z))
@@ -29,7 +30,8 @@ numbers-push nodes n = map-append (λ x. x.0) nodes (n ∷ [])
 
 -- the kept node takes no other out
 pub stays_same : (set : List NodeId) (m a i : ℕ) (d : NodeId) → i < length set → (get_or set i d).0 ≡ m → stays (take (i + 1) set) m a ≡ stays (take i set) m a
-stays_same set m a i d lt e = stays_more set m a i d lt ∙ ap (λ x. stays (take i set) m a && (not (a == x) || (a == m))) e ∙ split (stays (take i set) m a) (a == m)
+stays_same set m a i d lt e = stays_more set m a i d lt ∙ ap (λ x. stays (take i set) m a && (not (a == x) || (a == m))) e
+    ∙ split (stays (take i set) m a) (a == m)
   where
     split : (x y : Bool) → (x && (not y || y)) ≡ x
     split true true = refl
@@ -37,7 +39,8 @@ stays_same set m a i d lt e = stays_more set m a i d lt ∙ ap (λ x. stays (tak
     split false y = refl
 
 -- another node of the list takes itself out
-pub stays_less : (set : List NodeId) (m a i : ℕ) (d : NodeId) → i < length set → (get_or set i d).0 ≢ m → stays (take (i + 1) set) m a ≡ (stays (take i set) m a && not (a == (get_or set i d).0))
+pub stays_less : (set : List NodeId) (m a i : ℕ) (d : NodeId) → i < length set → (get_or set i d).0 ≢ m → stays (take (i + 1) set) m a
+    ≡ (stays (take i set) m a && not (a == (get_or set i d).0))
 stays_less set m a i d lt ne =
     let s = (get_or set i d).0 in
     stays_more set m a i d lt

@@ -15,7 +15,8 @@ has_any_some r (n ∷ set) h =
     (λ later. let x = has_any_some r set later in (x.0, or_right (x.0 == n.0) (is_among set x.0) x.1, x.2))
     (or_cases (bit r n.0) (has_any r set) h)
 
-pub any_has_some : (rows : List (List Bool)) (set : List NodeId) (b : ℕ) → any_has rows set b ≡ true → (s : ℕ) × (is_among set s ≡ true) × (bit (row rows s) b ≡ true)
+pub any_has_some : (rows : List (List Bool)) (set : List NodeId) (b : ℕ) → any_has rows set b ≡ true → (s : ℕ) × (is_among set s ≡ true)
+    × (bit (row rows s) b ≡ true)
 unfolding any_has
 any_has_some rows [] b h = absurd (false≢true h)
 any_has_some rows (n ∷ set) b h =
@@ -47,7 +48,9 @@ merged-stays set m a e =
     (λ f. ap (λ x. not x || (a == m)) f)
     (cases_Bool (is_among set a))
 
-module _ (old new : Ordered) (set : List NodeId) (m : ℕ) (o : IsPartialOrder old) (count : length new.le ≡ length new.live) (widths : HasWidth (length new.live) new.le) (n_count : length new.live ≡ length old.live) (n_live : (a : ℕ) → is_live new a ≡ (is_live old a && stays set m a)) (pairs : IsMerged old set m new)
+module _ (old new : Ordered) (set : List NodeId) (m : ℕ) (o : IsPartialOrder old) (count : length new.le ≡ length new.live)
+    (widths : HasWidth (length new.live) new.le) (n_count : length new.live ≡ length old.live) (n_live : (a : ℕ)
+    → is_live new a ≡ (is_live old a && stays set m a)) (pairs : IsMerged old set m new)
     (has : is_among set m ≡ true) (live : (s : ℕ) → is_among set s ≡ true → is_live old s ≡ true) (none : (x : ℕ) → IsBetween old set x → ⊥) where
   abbrev Low : ℕ → Type 0
   Low a = (s : ℕ) × (is_among set s ≡ true) × (is_le old a s ≡ true)
@@ -95,9 +98,12 @@ module _ (old new : Ordered) (set : List NodeId) (m : ℕ) (o : IsPartialOrder o
       let pair =
       ⊎_elim
       (λ k. or_left (is_le old a b) (is_below_some old set a && is_above_some old set b) k)
-      (λ k. or_right (is_le old a b) (is_below_some old set a && is_above_some old set b) (and_from (is_below_some old set a) (is_above_some old set b) (has_any_among (row old.le a) set k.0.0 k.0.1 k.0.2) (any_has_among old.le set k.1.0 b k.1.1 k.1.2)))
+      (λ k. or_right (is_le old a b) (is_below_some old set a && is_above_some old set b)
+          (and_from (is_below_some old set a) (is_above_some old set b) (has_any_among (row old.le a) set k.0.0 k.0.1 k.0.2)
+          (any_has_among old.le set k.1.0 b k.1.1 k.1.2)))
       came in
-      pairs a b ∙ and_from ((is_le old a b || (is_below_some old set a && is_above_some old set b)) && stays set m a) (stays set m b) (and_from (is_le old a b || (is_below_some old set a && is_above_some old set b)) (stays set m a) pair sa) sb
+      pairs a b ∙ and_from ((is_le old a b || (is_below_some old set a && is_above_some old set b)) && stays set m a) (stays set m b)
+          (and_from (is_le old a b || (is_below_some old set a && is_above_some old set b)) (stays set m a) pair sa) sb
 
   low_under : (a b : ℕ) → is_le old a b ≡ true → Low b → Low a
   low_under a b h l = (l.0, l.1, o.transitive a b l.0 h l.2)
@@ -144,12 +150,16 @@ module _ (old new : Ordered) (set : List NodeId) (m : ℕ) (o : IsPartialOrder o
   to_came a b h =
       ⊎_elim
       (λ t. ⊎_elim
-      (λ v. subst (λ x. Came x (merged_to set m b)) (sym (cond-true (is_among set a) m a t)) (subst (Came m) (sym (cond-true (is_among set b) m b v)) (inl (o.reflexive m (live m has)))))
-      (λ g. subst (λ x. Came x (merged_to set m b)) (sym (cond-true (is_among set a) m a t)) (subst (Came m) (sym (cond-false (is_among set b) m b g)) (inr ((m, has, o.reflexive m (live m has)), (a, t, h)))))
+      (λ v. subst (λ x. Came x (merged_to set m b)) (sym (cond-true (is_among set a) m a t)) (subst (Came m) (sym (cond-true (is_among set b) m b v))
+          (inl (o.reflexive m (live m has)))))
+      (λ g. subst (λ x. Came x (merged_to set m b)) (sym (cond-true (is_among set a) m a t)) (subst (Came m) (sym (cond-false (is_among set b) m b g))
+          (inr ((m, has, o.reflexive m (live m has)), (a, t, h)))))
       (cases_Bool (is_among set b)))
       (λ f. ⊎_elim
-      (λ v. subst (λ x. Came x (merged_to set m b)) (sym (cond-false (is_among set a) m a f)) (subst (Came a) (sym (cond-true (is_among set b) m b v)) (inr ((b, v, h), (m, has, o.reflexive m (live m has))))))
-      (λ g. subst (λ x. Came x (merged_to set m b)) (sym (cond-false (is_among set a) m a f)) (subst (Came a) (sym (cond-false (is_among set b) m b g)) (inl h)))
+      (λ v. subst (λ x. Came x (merged_to set m b)) (sym (cond-false (is_among set a) m a f)) (subst (Came a) (sym (cond-true (is_among set b) m b v))
+          (inr ((b, v, h), (m, has, o.reflexive m (live m has))))))
+      (λ g. subst (λ x. Came x (merged_to set m b)) (sym (cond-false (is_among set a) m a f))
+          (subst (Came a) (sym (cond-false (is_among set b) m b g)) (inl h)))
       (cases_Bool (is_among set b)))
       (cases_Bool (is_among set a))
 
@@ -166,8 +176,10 @@ module _ (old new : Ordered) (set : List NodeId) (m : ℕ) (o : IsPartialOrder o
         ⊎_elim
         (λ k. subst (λ y. is_le other y b ≡ true) ea (subst (λ y. is_le other (merged_to set m a) y ≡ true) eb (keeps a b k)))
         (λ k.
-        let p = subst (λ y. is_le other y m ≡ true) ea (subst (λ y. is_le other (merged_to set m a) y ≡ true) (cond-true (is_among set k.0.0) m k.0.0 k.0.1) (keeps a k.0.0 k.0.2)) in
-        let r = subst (λ y. is_le other m y ≡ true) eb (subst (λ y. is_le other y (merged_to set m b) ≡ true) (cond-true (is_among set k.1.0) m k.1.0 k.1.1) (keeps k.1.0 b k.1.2)) in
+        let p = subst (λ y. is_le other y m ≡ true) ea (subst (λ y. is_le other (merged_to set m a) y ≡ true)
+            (cond-true (is_among set k.0.0) m k.0.0 k.0.1) (keeps a k.0.0 k.0.2)) in
+        let r = subst (λ y. is_le other m y ≡ true) eb (subst (λ y. is_le other y (merged_to set m b) ≡ true)
+            (cond-true (is_among set k.1.0) m k.1.0 k.1.1) (keeps k.1.0 b k.1.2)) in
         q.transitive a m b p r)
         x.2;
   }

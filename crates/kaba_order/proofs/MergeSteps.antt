@@ -30,7 +30,8 @@ absorbs true y h = sym (h refl)
 absorbs false y h = refl
 
 -- gathered in one row, and that row spread: the closed pairs
-module _ (old g s : List (List Bool)) (set : List NodeId) (m : ℕ) (among : is_among set m ≡ true) (reflexive : bit (row old m) m ≡ true) (g_len : length g ≡ length old) (s_len : length s ≡ length old)
+module _ (old g s : List (List Bool)) (set : List NodeId) (m : ℕ) (among : is_among set m ≡ true) (reflexive : bit (row old m) m ≡ true)
+    (g_len : length g ≡ length old) (s_len : length s ≡ length old)
     (others : (k : ℕ) → k ≢ m → row g k ≡ row old k)
     (gathered : (b : ℕ) → bit (row g m) b ≡ (bit (row old m) b || any_has old set b))
     (same : (b : ℕ) → bit (row s m) b ≡ bit (row g m) b)

@@ -10,7 +10,8 @@ pub dropped_live : (old new : List Bool) (n : ℕ) → new ≡ set old n false �
 dropped_live old new n e a = grind (arith, common_steps, e)
 
 -- what is left where a node was taken out
-module _ (old new : Ordered) (n : ℕ) (o : IsPartialOrder old) (count : length new.le ≡ length new.live) (widths : HasWidth (length new.live) new.le) (d : IsDropped old n new) where
+module _ (old new : Ordered) (n : ℕ) (o : IsPartialOrder old) (count : length new.le ≡ length new.live) (widths : HasWidth (length new.live) new.le)
+    (d : IsDropped old n new) where
   left : (a b : ℕ) → is_le new a b ≡ true → (is_le old a b ≡ true) × (not (a == n) ≡ true) × (not (b == n) ≡ true)
   left a b h =
       let x = and_parts (is_le old a b && not (a == n)) (not (b == n)) (sym (d.le a b) ∙ h) in
@@ -35,7 +36,9 @@ module _ (old new : Ordered) (n : ℕ) (o : IsPartialOrder old) (count : length 
   }
 
 -- what a new pair leads to
-module _ (old new : Ordered) (n p : ℕ) (o : IsPartialOrder old) (count : length new.le ≡ length new.live) (widths : HasWidth (length new.live) new.le) (same_live : new.live ≡ old.live) (u : IsUnder old n p new) (n_lives : is_live old n ≡ true) (p_lives : is_live old p ≡ true) (apart : is_le old p n ≡ true → p ≡ n) where
+module _ (old new : Ordered) (n p : ℕ) (o : IsPartialOrder old) (count : length new.le ≡ length new.live) (widths : HasWidth (length new.live) new.le)
+    (same_live : new.live ≡ old.live) (u : IsUnder old n p new) (n_lives : is_live old n ≡ true) (p_lives : is_live old p ≡ true)
+    (apart : is_le old p n ≡ true → p ≡ n) where
   -- each new pair is an old one, or leads through the new one
   came : (a b : ℕ) → is_le new a b ≡ true → (is_le old a b ≡ true) ⊎ ((is_le old a n ≡ true) × (is_le old p b ≡ true))
   came a b h = ⊎_elim inl (λ k. inr (and_parts (is_le old a n) (is_le old p b) k)) (or_cases (is_le old a b) (is_le old a n && is_le old p b) (sym (u a b) ∙ h))
@@ -69,7 +72,8 @@ module _ (old new : Ordered) (n p : ℕ) (o : IsPartialOrder old) (count : lengt
         (λ x. ⊎_elim (λ y. meets_both a b x.0 x.1 y) (λ y.
         let pn = o.transitive p b n x.1 y.0 in
         let e = apart pn in
-        o.antisymmetric a b (o.transitive a n b x.0 (subst (λ q. is_le old q b ≡ true) e x.1)) (o.transitive b n a y.0 (subst (λ q. is_le old q a ≡ true) e y.1))) (came b a k))
+        o.antisymmetric a b (o.transitive a n b x.0 (subst (λ q. is_le old q b ≡ true) e x.1))
+            (o.transitive b n a y.0 (subst (λ q. is_le old q a ≡ true) e y.1))) (came b a k))
         (came a b h);
     transitive = λ a b c h k.
         ⊎_elim
@@ -93,7 +97,8 @@ row_below : (rows : List (List Bool)) (a b : ℕ) → bit (row rows a) b ≡ tru
 row_below rows a b h = grind (arith, common_steps, h)
 
 -- each node is related to itself alone
-module _ (o : Ordered) (count : length o.le ≡ length o.live) (widths : HasWidth (length o.live) o.le) (pairs : (a b : ℕ) → a < length o.live → is_le o a b ≡ (a == b)) (full : (a : ℕ) → a < length o.live → is_live o a ≡ true) where
+module _ (o : Ordered) (count : length o.le ≡ length o.live) (widths : HasWidth (length o.live) o.le) (pairs : (a b : ℕ) → a < length o.live
+    → is_le o a b ≡ (a == b)) (full : (a : ℕ) → a < length o.live → is_live o a ≡ true) where
   within : (a b : ℕ) → is_le o a b ≡ true → a < length o.live
   within a b h = subst (λ n. a < n) count (row_below o.le a b h)
 

@@ -103,7 +103,8 @@ pub record IsLeastMerged (old : Ordered) (set : List NodeId) (m : ℕ) (new : Or
   pub count : length new.live ≡ length old.live
   pub live : (a : ℕ) → is_live new a ≡ (is_live old a && stays set m a)
   pub holds : (a b : ℕ) → is_le old a b ≡ true → is_le new (merged_to set m a) (merged_to set m b) ≡ true
-  pub least : (other : Ordered) → IsPartialOrder other → ((a b : ℕ) → is_le old a b ≡ true → is_le other (merged_to set m a) (merged_to set m b) ≡ true) → IsWithin new other
+  pub least : (other : Ordered) → IsPartialOrder other → ((a b : ℕ) → is_le old a b ≡ true → is_le other (merged_to set m a) (merged_to set m b)
+      ≡ true) → IsWithin new other
 
 -- the pairs of that order: the old ones, and those that lead through the list
 abbrev pub IsMerged : Ordered → List NodeId → ℕ → Ordered → Type 0

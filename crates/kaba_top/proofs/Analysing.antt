@@ -25,11 +25,16 @@ use Rattle.kaba_top.specs.RegenAnswers.{IsTreeOf, EndsAtConflict, IsWithoutTree,
 use Rattle.kaba_top.specs.Proposals.{IsProposal, IsStuck, IsWritten}
 use Rattle.kaba_top.proofs.Reaching.{reached}
 
-pub too_many : (json : Bool) (bound : ℕ) (facts : Facts) (table : Table) (r : Result Reply AllocError) → IsTable facts table → AreMoreThan table.rows.items table.width bound → IfOk r (λ reply. Says 68 (too_many_concepts bound) reply.status reply.out.items reply.err.items) → IfOk r (λ reply. LatticeOf json bound facts reply.status reply.out.items reply.err.items)
+pub too_many : (json : Bool) (bound : ℕ) (facts : Facts) (table : Table) (r : Result Reply AllocError) → IsTable facts table
+    → AreMoreThan table.rows.items table.width bound
+    → IfOk r (λ reply. Says 68 (too_many_concepts bound) reply.status reply.out.items reply.err.items)
+    → IfOk r (λ reply. LatticeOf json bound facts reply.status reply.out.items reply.err.items)
 too_many json bound facts table (Err e) is more h = tt
 too_many json bound facts table (Ok reply) is more h = record { table = table; is = is; answers = inl (record { more = more; says = h }) }
 
-pub analysed : (J : Facts → ℕ → List ℕ → List ℕ → Type 0) (program : Program) (facts : Facts) (r : Result Reply AllocError) → HasFacts program facts → IfOk r (λ reply. J facts reply.status reply.out.items reply.err.items) → IfOk r (λ reply. AnalysisAnswers J program reply.status reply.out.items reply.err.items)
+pub analysed : (J : Facts → ℕ → List ℕ → List ℕ → Type 0) (program : Program) (facts : Facts) (r : Result Reply AllocError) → HasFacts program facts
+    → IfOk r (λ reply. J facts reply.status reply.out.items reply.err.items)
+    → IfOk r (λ reply. AnalysisAnswers J program reply.status reply.out.items reply.err.items)
 analysed J program facts (Err e) has h = tt
 analysed J program facts (Ok reply) has h = inr (record { facts = facts; has = has; answers = h })
 
@@ -46,27 +51,34 @@ has_lattice bound script facts p is = record {
 }
 
 -- a script was run, and a reply follows
-pub ran : (bound : ℕ) (script : List ℕ) (facts : Facts) (A : HasLattice bound facts → List Line → ℕ → List ℕ → List ℕ → Type 0) (p : Proposal) (r : Result Reply AllocError)
+pub ran : (bound : ℕ) (script : List ℕ) (facts : Facts) (A : HasLattice bound facts → List Line → ℕ → List ℕ → List ℕ → Type 0) (p : Proposal)
+    (r : Result Reply AllocError)
     → (is : IsProposal bound script facts p)
     → IfOk r (λ reply. A (has_lattice bound script facts p is) is.edits reply.status reply.out.items reply.err.items)
     → IfOk r (λ reply. ScriptAnswers bound script facts A reply.status reply.out.items reply.err.items)
 ran bound script facts A p (Err e) is h = tt
-ran bound script facts A p (Ok reply) is h = inr (record { has = has_lattice bound script facts p is; edits = is.edits; are = is.are; few = is.few; answers = h })
+ran bound script facts A p (Ok reply) is h =
+    inr (record { has = has_lattice bound script facts p is; edits = is.edits; are = is.are; few = is.few; answers = h })
 
 -- the hierarchy after it is shown
 pub shows : (bound : ℕ) (script : List ℕ) (facts : Facts) (p : Proposal) (r : Result Reply AllocError) → IsProposal bound script facts p
-    → IfOk r (λ reply. Gives (edit_status p.edited.refusals.items) (hierarchy_text facts p.edited.hier) p.edited.refusals.items reply.status reply.out.items reply.err.items)
+    → IfOk r (λ reply. Gives (edit_status p.edited.refusals.items) (hierarchy_text facts p.edited.hier) p.edited.refusals.items reply.status
+        reply.out.items reply.err.items)
     → IfOk r (λ reply. EditOf bound script facts reply.status reply.out.items reply.err.items)
 shows bound script facts p r is h =
     let has = has_lattice bound script facts p is in
     ran bound script facts (ShowsHierarchy bound facts) p r is
-    (subst (λ lines. IfOk r (λ reply. Gives (edit_status lines) (hierarchy_text facts (edited bound facts has is.edits)) lines reply.status reply.out.items reply.err.items)) is.is.refusals
-    (subst (λ H. IfOk r (λ reply. Gives (edit_status p.edited.refusals.items) (hierarchy_text facts H) p.edited.refusals.items reply.status reply.out.items reply.err.items)) is.is.hierarchy h))
+    (subst (λ lines. IfOk r (λ reply. Gives (edit_status lines) (hierarchy_text facts (edited bound facts has is.edits)) lines reply.status
+        reply.out.items reply.err.items)) is.is.refusals
+    (subst (λ H. IfOk r (λ reply. Gives (edit_status p.edited.refusals.items) (hierarchy_text facts H) p.edited.refusals.items reply.status
+        reply.out.items reply.err.items)) is.is.hierarchy h))
 
 -- the program of a tree is written
-pub regenerated : (bound : ℕ) (script : List ℕ) (program : Program) (facts : Facts) (p : Proposal) (w : Written) (r : Result Reply AllocError) → (is : IsProposal bound script facts p)
+pub regenerated : (bound : ℕ) (script : List ℕ) (program : Program) (facts : Facts) (p : Proposal) (w : Written) (r : Result Reply AllocError)
+    → (is : IsProposal bound script facts p)
     → IsWritten program facts p.sets p.edited.hier w
-    → IfOk r (λ reply. Gives (edit_status p.edited.refusals.items) w.text.items (p.edited.refusals.items ++ log_text w.log.items) reply.status reply.out.items reply.err.items)
+    → IfOk r (λ reply. Gives (edit_status p.edited.refusals.items) w.text.items (p.edited.refusals.items ++ log_text w.log.items) reply.status
+        reply.out.items reply.err.items)
     → IfOk r (λ reply. RegenOf bound script program facts reply.status reply.out.items reply.err.items)
 regenerated bound script program facts p w (Err e) is written h = tt
 regenerated bound script program facts p w (Ok reply) is written h = inr (record {
@@ -80,12 +92,14 @@ regenerated bound script program facts p w (Ok reply) is written h = inr (record
     is = subst (λ H. IsTreeOf facts p.sets H w.log.items w.hier) is.is.hierarchy written.is;
     text = w.text.items;
     written = written.written;
-    gives = subst (λ lines. Gives (edit_status lines) w.text.items (lines ++ log_text w.log.items) reply.status reply.out.items reply.err.items) is.is.refusals h;
+    gives = subst (λ lines. Gives (edit_status lines) w.text.items (lines ++ log_text w.log.items) reply.status reply.out.items reply.err.items)
+        is.is.refusals h;
   });
 })
 
 -- there is no tree, and drops and fresh names alone do not lead there
-pub without_tree : (bound : ℕ) (script : List ℕ) (program : Program) (facts : Facts) (p : Proposal) (fault : NoTree) (status : ℕ) (out err : List ℕ) → (is : IsProposal bound script facts p)
+pub without_tree : (bound : ℕ) (script : List ℕ) (program : Program) (facts : Facts) (p : Proposal) (fault : NoTree) (status : ℕ) (out err : List ℕ)
+    → (is : IsProposal bound script facts p)
     → InRange facts → InOrder facts → HasNoInterface facts → IsStuck facts p.sets p.edited.hier fault
     → Gives 5 [] (p.edited.refusals.items ++ (log_text fault.log.items ++ line (no_tree_text fault))) status out err
     → IsWithoutTree program bound facts (has_lattice bound script facts p is) is.edits status out err
@@ -96,13 +110,16 @@ without_tree bound script program facts p fault status out err is range order no
       ends = subst (λ H. EndsAtConflict facts p.sets H fault) is.is.hierarchy stuck.ends;
       more = λ modest. stuck.unreached p.table p.lattice
           (record { range = range; order = order; sets = is.are_sets; table = is.is_table; lattice = is.is_lattice }) none
-          (subst (IsReached facts p.sets p.table p.lattice) (sym is.is.hierarchy) (reached facts p.sets p.table p.lattice (start_of bound facts has) is.edits modest begun));
+          (subst (IsReached facts p.sets p.table p.lattice) (sym is.is.hierarchy) (reached facts p.sets p.table p.lattice (start_of bound facts has)
+              is.edits modest begun));
       gives = subst (λ lines. Gives 5 [] (lines ++ (log_text fault.log.items ++ line (no_tree_text fault))) status out err) is.is.refusals h;
     }
 
-pub stuck_answers : (bound : ℕ) (script : List ℕ) (program : Program) (facts : Facts) (p : Proposal) (fault : NoTree) (r : Result Reply AllocError) → IsProposal bound script facts p
+pub stuck_answers : (bound : ℕ) (script : List ℕ) (program : Program) (facts : Facts) (p : Proposal) (fault : NoTree) (r : Result Reply AllocError)
+    → IsProposal bound script facts p
     → InRange facts → InOrder facts → HasNoInterface facts → IsStuck facts p.sets p.edited.hier fault
-    → IfOk r (λ reply. Gives 5 [] (p.edited.refusals.items ++ (log_text fault.log.items ++ line (no_tree_text fault))) reply.status reply.out.items reply.err.items)
+    → IfOk r (λ reply. Gives 5 [] (p.edited.refusals.items ++ (log_text fault.log.items ++ line (no_tree_text fault))) reply.status reply.out.items
+        reply.err.items)
     → IfOk r (λ reply. RegenOf bound script program facts reply.status reply.out.items reply.err.items)
 stuck_answers bound script program facts p fault (Err e) is range order none stuck h = tt
 stuck_answers bound script program facts p fault (Ok reply) is range order none stuck h = inr (record {

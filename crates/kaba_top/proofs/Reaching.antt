@@ -24,7 +24,8 @@ use Rattle.kaba_top.specs.Fresh.{IsDropOrFresh, AreDropsAndFreshNames}
 
 module _ (F : Facts) (pt : PointsTo) (t : Table) (l : Lattice) where
   -- an edit that was accepted or refused
-  by_result : (H : Hierarchy) (e : Edit) (r : Result Hierarchy ApplyFault) → IsDropOrFresh F H e → IsReached F pt t l H → applied F pt H e ≡ r → IsReached F pt t l (kept H r)
+  by_result : (H : Hierarchy) (e : Edit) (r : Result Hierarchy ApplyFault) → IsDropOrFresh F H e → IsReached F pt t l H → applied F pt H e ≡ r
+      → IsReached F pt t l (kept H r)
   by_result H (Drop n) (Ok New) d h made = dropped n h made
   by_result H (TypeName n name) (Ok New) d h made = type_named n name h d made
   by_result H (MemberName c name) (Ok New) d h made = member_named c name h d made

@@ -8,47 +8,63 @@ use Rattle.kaba_top.specs.Lines.{Says, usage, cannot_read, most_bytes, file_too_
 use Rattle.kaba_top.specs.Answers.{Agrees, IsMissing, IsTooLarge, FileAnswers, IsAnswered, IsFault, Names, CommandAnswers, CommandReplies, Replies}
 use Rattle.kaba_top.specs.Fetching.{IsThere, IsRefused, FileReplies}
 
-found : (f : Files) (name bytes : List ℕ) (o : Option (List ℕ)) → f name ≡ o → ((b : List ℕ) → f name ≡ Some b → bytes ≡ b) → (f name ≡ None → ⊥) → length bytes ≤ most_bytes → IsThere (Some f) name bytes
+found : (f : Files) (name bytes : List ℕ) (o : Option (List ℕ)) → f name ≡ o → ((b : List ℕ) → f name ≡ Some b → bytes ≡ b) → (f name ≡ None → ⊥)
+    → length bytes ≤ most_bytes → IsThere (Some f) name bytes
 found f name bytes None e same present small = absurd (present e)
 found f name bytes (Some b) e same present small = record { files = f; agrees = refl; there = e ∙ ap Some (sym (same b e)); small = small }
 
-pub is_there : (told : Option Files) (name bytes : List ℕ) → ((b : List ℕ) → IsFile told name b → bytes ≡ b) → (IsAbsent told name → ⊥) → length bytes ≤ most_bytes → IsThere told name bytes
+pub is_there : (told : Option Files) (name bytes : List ℕ) → ((b : List ℕ) → IsFile told name b → bytes ≡ b) → (IsAbsent told name → ⊥)
+    → length bytes ≤ most_bytes → IsThere told name bytes
 is_there (Some f) name bytes same present small = found f name bytes (f name) refl same present small
 is_there None name bytes same present small = record { files = λ _. Some bytes; agrees = λ _. refl; there = refl; small = small }
 
-pub cannot : (told : Option Files) (before now : ℕ) (name : List ℕ) (status : ℕ) (out err : List ℕ) → Rose before now ⊎ IsAbsent told name → Says 66 (cannot_read name) status out err → IsRefused told name status out err ⊎ IsFault before now name status out err
+pub cannot : (told : Option Files) (before now : ℕ) (name : List ℕ) (status : ℕ) (out err : List ℕ) → Rose before now ⊎ IsAbsent told name
+    → Says 66 (cannot_read name) status out err → IsRefused told name status out err ⊎ IsFault before now name status out err
 cannot told before now name status out err (inl rose) says = inr (record { rose = rose; says = says })
-cannot (Some f) before now name status out err (inr absent) says = inl (record { files = f; agrees = refl; refused = inl (record { missing = absent; says = says }) })
+cannot (Some f) before now name status out err (inr absent) says =
+    inl (record { files = f; agrees = refl; refused = inl (record { missing = absent; says = says }) })
 cannot None before now name status out err (inr absent) says = absurd absent
 
 longer : (n : ℕ) → (xs : List ℕ) × (n < length xs)
 longer zero = (0 ∷ [], omega arith)
 longer (suc n) = (0 ∷ (longer n).0, omega (arith, (longer n).1))
 
-larger : (f : Files) (name : List ℕ) (status : ℕ) (out err : List ℕ) (o : Option (List ℕ)) → f name ≡ o → ((b : List ℕ) → f name ≡ Some b → most_bytes < length b) → (f name ≡ None → ⊥) → Says 67 file_too_large status out err → IsRefused (Some f) name status out err
+larger : (f : Files) (name : List ℕ) (status : ℕ) (out err : List ℕ) (o : Option (List ℕ)) → f name ≡ o
+    → ((b : List ℕ) → f name ≡ Some b → most_bytes < length b) → (f name ≡ None → ⊥) → Says 67 file_too_large status out err
+    → IsRefused (Some f) name status out err
 larger f name status out err None e large present says = absurd (present e)
-larger f name status out err (Some b) e large present says = record { files = f; agrees = refl; refused = inr (record { bytes = b; there = e; large = large b e; says = says }) }
+larger f name status out err (Some b) e large present says =
+    record { files = f; agrees = refl; refused = inr (record { bytes = b; there = e; large = large b e; says = says }) }
 
-pub too_large : (told : Option Files) (before now : ℕ) (name : List ℕ) (status : ℕ) (out err : List ℕ) → ((b : List ℕ) → IsFile told name b → most_bytes < length b) → (IsAbsent told name → ⊥) → Says 67 file_too_large status out err → IsRefused told name status out err ⊎ IsFault before now name status out err
+pub too_large : (told : Option Files) (before now : ℕ) (name : List ℕ) (status : ℕ) (out err : List ℕ)
+    → ((b : List ℕ) → IsFile told name b → most_bytes < length b) → (IsAbsent told name → ⊥) → Says 67 file_too_large status out err
+    → IsRefused told name status out err ⊎ IsFault before now name status out err
 too_large (Some f) before now name status out err large present says = inl (larger f name status out err (f name) refl large present says)
 too_large None before now name status out err large present says =
-    inl (record { files = λ _. Some (longer most_bytes).0; agrees = λ _. refl; refused = inr (record { bytes = (longer most_bytes).0; there = refl; large = (longer most_bytes).1; says = says }) })
+    inl (record { files = λ _. Some (longer most_bytes).0; agrees = λ _. refl; refused = inr
+        (record { bytes = (longer most_bytes).0; there = refl; large = (longer most_bytes).1; says = says }) })
 
 -- some files agree with what is told
 any_files : (told : Option Files) → (files : Files) × Agrees told files
 any_files (Some f) = (f, refl)
 any_files None = ((λ _. Some []), (λ _. refl))
 
-pub usage_replies : (told : Option Files) (before now : ℕ) (words : List (List ℕ)) (r : Result Reply AllocError) → FitsNone words → IfOk r (λ reply. Says 64 usage reply.status reply.out.items reply.err.items) → IfOk r (λ reply. Replies told before now words reply.status reply.out.items reply.err.items)
+pub usage_replies : (told : Option Files) (before now : ℕ) (words : List (List ℕ)) (r : Result Reply AllocError) → FitsNone words
+    → IfOk r (λ reply. Says 64 usage reply.status reply.out.items reply.err.items)
+    → IfOk r (λ reply. Replies told before now words reply.status reply.out.items reply.err.items)
 usage_replies told before now words (Err e) none h = tt
 usage_replies told before now words (Ok reply) none h =
     let files = any_files told in
     inl (record { first = files.0; second = files.0; first_agrees = files.1; second_agrees = files.1; answers = inl (record { fits_none = none; says = h }) })
 
 -- a reply to a command is one to the words that say it
-pub of_command : (told : Option Files) (before now : ℕ) (words : List (List ℕ)) (command : Cmd) (r : Result Reply AllocError) → Fits words command → IfOk r (λ reply. CommandReplies told before now command reply.status reply.out.items reply.err.items) → IfOk r (λ reply. Replies told before now words reply.status reply.out.items reply.err.items)
+pub of_command : (told : Option Files) (before now : ℕ) (words : List (List ℕ)) (command : Cmd) (r : Result Reply AllocError) → Fits words command
+    → IfOk r (λ reply. CommandReplies told before now command reply.status reply.out.items reply.err.items)
+    → IfOk r (λ reply. Replies told before now words reply.status reply.out.items reply.err.items)
 of_command told before now words command (Err e) fits h = tt
-of_command told before now words command (Ok reply) fits (inl a) = inl (record { first = a.first; second = a.second; first_agrees = a.first_agrees; second_agrees = a.second_agrees; answers = inr (record { command = command; fits = fits; answers = a.answers }) })
+of_command told before now words command (Ok reply) fits (inl a) =
+    inl (record { first = a.first; second = a.second; first_agrees = a.first_agrees; second_agrees = a.second_agrees; answers = inr
+    (record { command = command; fits = fits; answers = a.answers }) })
 of_command told before now words command (Ok reply) fits (inr u) = inr (record { command = command; fits = fits; unread = u })
 
 -- an answer of a command that reads no file is one for any files
@@ -58,18 +74,26 @@ pub without_files : (told : Option Files) (before now : ℕ) (words : List (List
 without_files told before now words command (Err e) fits a = tt
 without_files told before now words command (Ok reply) fits a =
     let files = any_files told in
-    inl (record { first = files.0; second = files.0; first_agrees = files.1; second_agrees = files.1; answers = inr (record { command = command; fits = fits; answers = a files.0 files.0 }) })
+    inl (record { first = files.0; second = files.0; first_agrees = files.1; second_agrees = files.1; answers = inr
+        (record { command = command; fits = fits; answers = a files.0 files.0 }) })
 
 -- the one file of a command was read, and K are the answers for its bytes
-pub read_reply : (told : Option Files) (name bytes : List ℕ) (K : List ℕ → ℕ → List ℕ → List ℕ → Type 0) (status : ℕ) (out err : List ℕ) → IsThere told name bytes → K bytes status out err → IsAnswered told (λ first second. FileAnswers K first name) status out err
-read_reply told name bytes K status out err t k = record { first = t.files; second = t.files; first_agrees = t.agrees; second_agrees = t.agrees; answers = inr (inr (record { bytes = bytes; there = t.there; small = t.small; answers = k })) }
+pub read_reply : (told : Option Files) (name bytes : List ℕ) (K : List ℕ → ℕ → List ℕ → List ℕ → Type 0) (status : ℕ) (out err : List ℕ)
+    → IsThere told name bytes → K bytes status out err → IsAnswered told (λ first second. FileAnswers K first name) status out err
+read_reply told name bytes K status out err t k =
+    record { first = t.files; second = t.files; first_agrees = t.agrees; second_agrees = t.agrees; answers = inr
+    (inr (record { bytes = bytes; there = t.there; small = t.small; answers = k })) }
 
-refused_answers : (K : List ℕ → ℕ → List ℕ → List ℕ → Type 0) (files : Files) (name : List ℕ) (status : ℕ) (out err : List ℕ) → IsMissing files name status out err ⊎ IsTooLarge files name status out err → FileAnswers K files name status out err
+refused_answers : (K : List ℕ → ℕ → List ℕ → List ℕ → Type 0) (files : Files) (name : List ℕ) (status : ℕ) (out err : List ℕ)
+    → IsMissing files name status out err ⊎ IsTooLarge files name status out err → FileAnswers K files name status out err
 refused_answers K files name status out err (inl m) = inl m
 refused_answers K files name status out err (inr l) = inr (inl l)
 
-pub refused_reply : (told : Option Files) (name : List ℕ) (K : List ℕ → ℕ → List ℕ → List ℕ → Type 0) (status : ℕ) (out err : List ℕ) → IsRefused told name status out err → IsAnswered told (λ first second. FileAnswers K first name) status out err
-refused_reply told name K status out err r = record { first = r.files; second = r.files; first_agrees = r.agrees; second_agrees = r.agrees; answers = refused_answers K r.files name status out err r.refused }
+pub refused_reply : (told : Option Files) (name : List ℕ) (K : List ℕ → ℕ → List ℕ → List ℕ → Type 0) (status : ℕ) (out err : List ℕ)
+    → IsRefused told name status out err → IsAnswered told (λ first second. FileAnswers K first name) status out err
+refused_reply told name K status out err r =
+    record { first = r.files; second = r.files; first_agrees = r.agrees; second_agrees = r.agrees; answers = refused_answers K r.files name status
+    out err r.refused }
 
 -- the answers of a command that reads two files, where K are those for their bytes
 abbrev pub ReadsTwo : Cmd → List ℕ → List ℕ → (List ℕ → List ℕ → ℕ → List ℕ → List ℕ → Type 0) → Type 0
@@ -80,7 +104,8 @@ abbrev pub NamesTwo : Cmd → List ℕ → List ℕ → Type 0
 NamesTwo command file script = (name : List ℕ) → (name ≡ file) ⊎ (name ≡ script) → Names command name
 
 -- the first of two files was read, and the reply is that to the second
-pub two_files : (command : Cmd) (file script : List ℕ) (K : List ℕ → List ℕ → ℕ → List ℕ → List ℕ → Type 0) → ReadsTwo command file script K → NamesTwo command file script
+pub two_files : (command : Cmd) (file script : List ℕ) (K : List ℕ → List ℕ → ℕ → List ℕ → List ℕ → Type 0) → ReadsTwo command file script K
+    → NamesTwo command file script
     → (told told_then : Option Files) (before mid now : ℕ) (bytes : List ℕ) (r : Result Reply AllocError)
     → told_then ≡ told → before ≤ mid → IsThere told file bytes
     → IfOk r (λ reply. FileReplies told_then mid now (K bytes) script reply.status reply.out.items reply.err.items)
@@ -91,13 +116,15 @@ two_files command file script K reads names told told_then before mid now bytes 
   second = a.first;
   first_agrees = there.agrees;
   second_agrees = subst (λ t. Agrees t a.first) same a.first_agrees;
-  answers = reads there.files a.first reply.status reply.out.items reply.err.items (inr (inr (record { bytes = bytes; there = there.there; small = there.small; answers = a.answers })));
+  answers = reads there.files a.first reply.status reply.out.items reply.err.items
+      (inr (inr (record { bytes = bytes; there = there.there; small = there.small; answers = a.answers })));
 })
 two_files command file script K reads names told told_then before mid now bytes (Ok reply) same later there (inr f) =
     inr (record { file = script; names = names script (inr refl); fault = record { rose = omega (arith, later, f.rose); says = f.says } })
 
 -- the first of two files was not read
-pub no_first_file : (command : Cmd) (file script : List ℕ) (K : List ℕ → List ℕ → ℕ → List ℕ → List ℕ → Type 0) → ReadsTwo command file script K → NamesTwo command file script
+pub no_first_file : (command : Cmd) (file script : List ℕ) (K : List ℕ → List ℕ → ℕ → List ℕ → List ℕ → Type 0) → ReadsTwo command file script K
+    → NamesTwo command file script
     → (told : Option Files) (before now : ℕ) (status : ℕ) (out err : List ℕ)
     → IsRefused told file status out err ⊎ IsFault before now file status out err → CommandReplies told before now command status out err
 no_first_file command file script K reads names told before now status out err (inl r) = inl (record {

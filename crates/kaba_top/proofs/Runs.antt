@@ -6,5 +6,7 @@ use Rattle.java_run.specs.Outcomes.{end_of}
 use Rattle.kaba_top.specs.declared.reply.Reply.{Reply}
 use Rattle.kaba_top.specs.RunAnswers.{EndGives}
 
-pub at_end : (end known : End) (bytes : List ℕ) (r : Result Reply AllocError) → end ≡ known → IfOk r (λ reply. EndGives (end_of known) bytes reply.status reply.out.items reply.err.items) → IfOk r (λ reply. EndGives (end_of end) bytes reply.status reply.out.items reply.err.items)
+pub at_end : (end known : End) (bytes : List ℕ) (r : Result Reply AllocError) → end ≡ known
+    → IfOk r (λ reply. EndGives (end_of known) bytes reply.status reply.out.items reply.err.items)
+    → IfOk r (λ reply. EndGives (end_of end) bytes reply.status reply.out.items reply.err.items)
 at_end end known bytes r is h = subst (λ e. IfOk r (λ reply. EndGives (end_of e) bytes reply.status reply.out.items reply.err.items)) (sym is) h

@@ -76,7 +76,8 @@ after_script : (none : Bool) (bytes refusals : List ℕ) → AreOther (Gives (if
 after_script true bytes refusals status out err h = gave 0 (omega arith, omega arith) _ _ status out err h
 after_script false bytes refusals status out err h = gave 4 (omega arith, omega arith) _ _ status out err h
 
-script_run_other : (bound : ℕ) (script : List ℕ) (f : Facts) (A : HasLattice bound f → List Line → ℕ → List ℕ → List ℕ → Type 0) → ((has : HasLattice bound f) (edits : List Line) → AreOther (A has edits))
+script_run_other : (bound : ℕ) (script : List ℕ) (f : Facts) (A : HasLattice bound f → List Line → ℕ → List ℕ → List ℕ → Type 0)
+    → ((has : HasLattice bound f) (edits : List Line) → AreOther (A has edits))
     → AreOther (ScriptAnswers bound script f A)
 script_run_other bound script f A o status out err (inl (inl a)) = said 68 (omega arith, omega arith) _ status out err a.many.says
 script_run_other bound script f A o status out err (inl (inr a)) = elim a.fault as (λ _. IsOther status) [
@@ -87,18 +88,21 @@ script_run_other bound script f A o status out err (inr a) = o a.has a.edits sta
 
 edit_other : (bound : ℕ) (script : List ℕ) (f : Facts) → AreOther (EditOf bound script f)
 edit_other bound script f =
-    script_run_other bound script f (ShowsHierarchy bound f) (λ has edits. after_script (length (refusals bound f has edits) == 0) (hierarchy_text f (edited bound f has edits)) (refusals bound f has edits))
+    script_run_other bound script f (ShowsHierarchy bound f) (λ has edits. after_script (length (refusals bound f has edits) == 0)
+        (hierarchy_text f (edited bound f has edits)) (refusals bound f has edits))
 
 no_tree_other : (program : Program) (bound : ℕ) (f : Facts) (has : HasLattice bound f) (edits : List Line) → AreOther (IsWithoutTree program bound f has edits)
 no_tree_other program bound f has edits status out err a = gave 5 (omega arith, omega arith) _ _ status out err a.gives
 
 regen_other : (bound : ℕ) (script : List ℕ) (program : Program) (f : Facts) → AreOther (RegenOf bound script program f)
-regen_other bound script program f = script_run_other bound script f (IsRegeneration program bound f) (λ has edits status out err a. elim a as (λ _. IsOther status) [
+regen_other bound script program f = script_run_other bound script f (IsRegeneration program bound f) (λ has edits status out err a. elim a as
+    (λ _. IsOther status) [
   | inl g ↦ after_script (length (refusals bound f has edits) == 0) g.text (refusals bound f has edits ++ log_text g.log) status out err g.gives
   | inr w ↦ no_tree_other program bound f has edits status out err w
 ])
 
-file_other : (K : List ℕ → ℕ → List ℕ → List ℕ → Type 0) → ((bytes : List ℕ) → AreOther (K bytes)) → (files : Files) (name : List ℕ) → AreOther (FileAnswers K files name)
+file_other : (K : List ℕ → ℕ → List ℕ → List ℕ → Type 0) → ((bytes : List ℕ) → AreOther (K bytes)) → (files : Files) (name : List ℕ)
+    → AreOther (FileAnswers K files name)
 file_other K o files name status out err (inl a) = said 66 (omega arith, omega arith) _ status out err a.says
 file_other K o files name status out err (inr (inl a)) = said 67 (omega arith, omega arith) _ status out err a.says
 file_other K o files name status out err (inr (inr a)) = o a.bytes status out err a.answers
@@ -138,15 +142,19 @@ make_other false number =
     made_text_other (λ p. AnalysisAnswers (MadeOf p) p) (λ p. analysis_other (MadeOf p) (made_other p) p) (sample_text number)
 
 command_other : (command : Cmd) (first second : Files) → AreOther (CommandAnswers command first second)
-command_other (run file steps words) first second = file_other (TextAnswers (RunAnswers steps words)) (text_other (RunAnswers steps words) (run_other steps words)) first file
+command_other (run file steps words) first second =
+    file_other (TextAnswers (RunAnswers steps words)) (text_other (RunAnswers steps words) (run_other steps words)) first file
 command_other (table file) first second =
     file_other (TextAnswers (AnalysisAnswers TableOf)) (text_other (AnalysisAnswers TableOf) (analysis_other TableOf table_other)) first file
 command_other (lattice json bound file) first second =
-    file_other (TextAnswers (AnalysisAnswers (LatticeOf json bound))) (text_other (AnalysisAnswers (LatticeOf json bound)) (analysis_other (LatticeOf json bound) (lattice_other json bound))) first file
+    file_other (TextAnswers (AnalysisAnswers (LatticeOf json bound))) (text_other (AnalysisAnswers (LatticeOf json bound))
+        (analysis_other (LatticeOf json bound) (lattice_other json bound))) first file
 command_other (edit bound file script) first second =
-    file_other (λ bytes. FileAnswers (EditAnswers bound bytes) second script) (λ bytes. file_other (EditAnswers bound bytes) (edits_other bound bytes) second script) first file
+    file_other (λ bytes. FileAnswers (EditAnswers bound bytes) second script) (λ bytes. file_other (EditAnswers bound bytes) (edits_other bound bytes)
+        second script) first file
 command_other (regen bound file script) first second =
-    file_other (λ bytes. FileAnswers (RegenAnswers bound bytes) second script) (λ bytes. file_other (RegenAnswers bound bytes) (regens_other bound bytes) second script) first file
+    file_other (λ bytes. FileAnswers (RegenAnswers bound bytes) second script) (λ bytes. file_other (RegenAnswers bound bytes)
+        (regens_other bound bytes) second script) first file
 command_other (make prints number) first second = make_other prints number
 command_other help first second = gave 0 (omega arith, omega arith) help_text []
 command_other version first second = gave 0 (omega arith, omega arith) version_text []
@@ -155,6 +163,7 @@ answer_other : (words : List (List ℕ)) (first second : Files) → AreOther (An
 answer_other words first second status out err (inl a) = said 64 (omega arith, omega arith) _ status out err a.says
 answer_other words first second status out err (inr a) = command_other a.command first second status out err a.answers
 
-pub reply_other : (told : Option Files) (before now : ℕ) (words : List (List ℕ)) (status : ℕ) (out err : List ℕ) → Replies told before now words status out err → IsOther status
+pub reply_other : (told : Option Files) (before now : ℕ) (words : List (List ℕ)) (status : ℕ) (out err : List ℕ)
+    → Replies told before now words status out err → IsOther status
 reply_other told before now words status out err (inl a) = answer_other words a.first a.second status out err a.answers
 reply_other told before now words status out err (inr u) = said 66 (omega arith, omega arith) _ status out err u.unread.fault.says

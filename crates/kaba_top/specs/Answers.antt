@@ -119,7 +119,8 @@ abbrev pub Replies : Option Files → ℕ → ℕ → List (List ℕ) → ℕ �
 Replies told before now words status out err = IsAnswered told (Answers words) status out err ⊎ WasUnread before now words status out err
 
 -- the sinks took all the bytes of a reply
-pub record Gave (told : Option Files) (before now : ℕ) (words : List (List ℕ)) (status : ℕ) (out_before out_now err_before err_now : Option (List ℕ)) : Type 0 where
+pub record Gave (told : Option Files) (before now : ℕ) (words : List (List ℕ)) (status : ℕ) (out_before out_now err_before err_now : Option
+    (List ℕ)) : Type 0 where
   pub out : List ℕ
   pub err : List ℕ
   pub replies : Replies told before now words status out err

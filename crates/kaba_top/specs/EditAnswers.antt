@@ -12,7 +12,8 @@ edit_status lines = if length lines == 0 then 0 else 4
 
 -- the text of the hierarchy after the edits, and a line for each that was refused
 abbrev pub ShowsHierarchy : (bound : ℕ) (facts : Facts) → HasLattice bound facts → List Line → ℕ → List ℕ → List ℕ → Type 0
-ShowsHierarchy bound facts has edits = Gives (edit_status (refusals bound facts has edits)) (hierarchy_text facts (edited bound facts has edits)) (refusals bound facts has edits)
+ShowsHierarchy bound facts has edits = Gives (edit_status (refusals bound facts has edits)) (hierarchy_text facts (edited bound facts has edits))
+    (refusals bound facts has edits)
 
 abbrev pub EditOf : ℕ → List ℕ → Facts → ℕ → List ℕ → List ℕ → Type 0
 EditOf bound script facts = ScriptAnswers bound script facts (ShowsHierarchy bound facts)

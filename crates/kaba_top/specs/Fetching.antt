@@ -21,8 +21,10 @@ pub record IsRefused (told : Option Files) (name : List ℕ) (status : ℕ) (out
 
 abbrev pub IsFetched : Option Files → ℕ → ℕ → List ℕ → Fetched → Type 0
 IsFetched told before now name (Bytes bytes) = IsThere told name bytes.items
-IsFetched told before now name (Refused reply) = IsRefused told name reply.status reply.out.items reply.err.items ⊎ IsFault before now name reply.status reply.out.items reply.err.items
+IsFetched told before now name (Refused reply) = IsRefused told name reply.status reply.out.items reply.err.items
+    ⊎ IsFault before now name reply.status reply.out.items reply.err.items
 
 -- the reply to a file of a command, where K are the answers for its bytes
 abbrev pub FileReplies : Option Files → ℕ → ℕ → (List ℕ → ℕ → List ℕ → List ℕ → Type 0) → List ℕ → ℕ → List ℕ → List ℕ → Type 0
-FileReplies told before now K name status out err = IsAnswered told (λ first second. FileAnswers K first name) status out err ⊎ IsFault before now name status out err
+FileReplies told before now K name status out err = IsAnswered told (λ first second. FileAnswers K first name) status out err
+    ⊎ IsFault before now name status out err

@@ -129,8 +129,10 @@ IsJudging status = (status ≡ 0) ⊎ (status ≡ 4)
 -- what is promised of each command
 abbrev pub Promises : Cmd → Files → Files → ℕ → List ℕ → List ℕ → Type 0
 Promises (lattice json bound file) first second status out err = status ≡ 0 → OfFile first file (λ bytes. ShowsLattice json bytes out)
-Promises (edit bound file script) first second status out err = IsJudging status → OfFile first file (λ bytes. OfFile second script (λ lines. TellsEdits bytes lines err))
-Promises (regen bound file script) first second status out err = IsJudging status → OfFile first file (λ bytes. OfFile second script (λ lines. WritesProgram bytes lines out err))
+Promises (edit bound file script) first second status out err = IsJudging status
+    → OfFile first file (λ bytes. OfFile second script (λ lines. TellsEdits bytes lines err))
+Promises (regen bound file script) first second status out err = IsJudging status
+    → OfFile first file (λ bytes. OfFile second script (λ lines. WritesProgram bytes lines out err))
 Promises (run file steps words) first second status out err = Unit {0}
 Promises (table file) first second status out err = Unit {0}
 Promises (make prints number) first second status out err = Unit {0}

@@ -45,7 +45,8 @@ IsProposed bound script facts (proposed.Edited p) = IsProposal bound script fact
 -- the steps end at a conflict, which those from a start that drops and fresh names changed never do
 pub record IsStuck (facts : Facts) (sets : PointsTo) (from : Hierarchy) (fault : NoTree) : Type 0 where
   pub ends : EndsAtConflict facts sets from fault
-  pub unreached : (table : Table) (lattice : Lattice) → AreAnalysed facts sets table lattice → HasNoInterface facts → IsReached facts sets table lattice from → ⊥
+  pub unreached : (table : Table) (lattice : Lattice) → AreAnalysed facts sets table lattice → HasNoInterface facts
+      → IsReached facts sets table lattice from → ⊥
 
 -- the program of a tree of classes was written
 pub record IsWritten (program : Program) (facts : Facts) (sets : PointsTo) (from : Hierarchy) (w : Written) : Type 0 where

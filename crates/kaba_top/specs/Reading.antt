@@ -169,7 +169,8 @@ pub record IsUntyped (bytes : List ℕ) (status : ℕ) (out err : List ℕ) : Ty
 
 -- the text is refused
 unfoldable pub IsRefusedText : List ℕ → ℕ → List ℕ → List ℕ → Type 0
-IsRefusedText bytes status out err = IsNoTokens bytes status out err ⊎ (IsTooDeep bytes status out err ⊎ (IsNoTree bytes status out err ⊎ (IsUnresolved bytes status out err ⊎ IsUntyped bytes status out err)))
+IsRefusedText bytes status out err = IsNoTokens bytes status out err
+    ⊎ (IsTooDeep bytes status out err ⊎ (IsNoTree bytes status out err ⊎ (IsUnresolved bytes status out err ⊎ IsUntyped bytes status out err)))
 
 -- the text is that of this program, which is typed
 pub record IsTypedText (bytes : List ℕ) (program : Program) : Type 0 where

@@ -61,10 +61,12 @@ pub record IsUntypedTree (tree : List DeclTree) (status : ℕ) (out err : List �
 
 abbrev pub IsReadingOfTree : List DeclTree → Reading → Type 0
 IsReadingOfTree tree (readings.Typed program) = IsTypedTree tree program
-IsReadingOfTree tree (readings.Refused reply) = IsUnresolvedTree tree reply.status reply.out.items reply.err.items ⊎ IsUntypedTree tree reply.status reply.out.items reply.err.items
+IsReadingOfTree tree (readings.Refused reply) = IsUnresolvedTree tree reply.status reply.out.items reply.err.items
+    ⊎ IsUntypedTree tree reply.status reply.out.items reply.err.items
 
 -- the bytes of a text that no file holds are those of this typed program, or a reply refuses them
 abbrev pub IsMadeReading : List ℕ → Reading → Type 0
 IsMadeReading bytes (readings.Typed program) = (length bytes ≤ most_bytes) × IsTypedText bytes program
 IsMadeReading bytes (readings.Refused reply) =
-    IsLongText bytes reply.status reply.out.items reply.err.items ⊎ ((length bytes ≤ most_bytes) × IsRefusedText bytes reply.status reply.out.items reply.err.items)
+    IsLongText bytes reply.status reply.out.items reply.err.items
+        ⊎ ((length bytes ≤ most_bytes) × IsRefusedText bytes reply.status reply.out.items reply.err.items)

@@ -10,7 +10,8 @@ use Rattle.kaba_words.specs.Commands.{Cmd, run, table, lattice, edit, regen, mak
 apart : (a b : List ℕ) → bytes_eq a b ≡ false → a ≡ b → ⊥
 apart a b f e = false≢true (sym f ∙ (bytes_eq-Decides a b).1 e)
 
-at_run : (more : List (List ℕ)) → ((file : List ℕ) (steps : ℕ) (after : List (List ℕ)) → FitsRun more file steps after → ⊥) → (command : Cmd) → Fits (codes "run" ∷ more) command → ⊥
+at_run : (more : List (List ℕ)) → ((file : List ℕ) (steps : ℕ) (after : List (List ℕ)) → FitsRun more file steps after → ⊥) → (command : Cmd)
+    → Fits (codes "run" ∷ more) command → ⊥
 at_run more none (run file steps after) h = none file steps after h.1
 at_run more none (table file) h = apart (codes "run") (codes "table") refl h.0
 at_run more none (lattice json bound file) h = apart (codes "run") (codes "lattice") refl h.0
@@ -30,7 +31,8 @@ at_table more none (make prints n) h = apart (codes "table") (codes "make") refl
 at_table more none help h = apart (codes "table") (codes "--help") refl h.0
 at_table more none version h = apart (codes "table") (codes "--version") refl h.0
 
-at_lattice : (more : List (List ℕ)) → ((json : Bool) (bound : ℕ) (file : List ℕ) → FitsLattice more json bound file → ⊥) → (command : Cmd) → Fits (codes "lattice" ∷ more) command → ⊥
+at_lattice : (more : List (List ℕ)) → ((json : Bool) (bound : ℕ) (file : List ℕ) → FitsLattice more json bound file → ⊥) → (command : Cmd)
+    → Fits (codes "lattice" ∷ more) command → ⊥
 at_lattice more none (run file steps after) h = apart (codes "lattice") (codes "run") refl h.0
 at_lattice more none (table file) h = apart (codes "lattice") (codes "table") refl h.0
 at_lattice more none (lattice json bound file) h = none json bound file h.1
@@ -91,13 +93,15 @@ at_version more none help h = apart (codes "--version") (codes "--help") refl h.
 at_version more none version h = none h.1
 
 -- the name is that of the command, and the words after it do not fit
-pub none_of_run : (words : List (List ℕ)) (more : List (List ℕ)) → words ≡ codes "run" ∷ more → ((file : List ℕ) (steps : ℕ) (after : List (List ℕ)) → FitsRun more file steps after → ⊥) → FitsNone words
+pub none_of_run : (words : List (List ℕ)) (more : List (List ℕ)) → words ≡ codes "run" ∷ more → ((file : List ℕ) (steps : ℕ) (after : List (List ℕ))
+    → FitsRun more file steps after → ⊥) → FitsNone words
 none_of_run words more e none = subst FitsNone (sym e) (at_run more none)
 
 pub none_of_table : (words : List (List ℕ)) (more : List (List ℕ)) → words ≡ codes "table" ∷ more → ((file : List ℕ) → more ≡ file ∷ [] → ⊥) → FitsNone words
 none_of_table words more e none = subst FitsNone (sym e) (at_table more none)
 
-pub none_of_lattice : (words : List (List ℕ)) (more : List (List ℕ)) → words ≡ codes "lattice" ∷ more → ((json : Bool) (bound : ℕ) (file : List ℕ) → FitsLattice more json bound file → ⊥) → FitsNone words
+pub none_of_lattice : (words : List (List ℕ)) (more : List (List ℕ)) → words ≡ codes "lattice" ∷ more → ((json : Bool) (bound : ℕ) (file : List ℕ)
+    → FitsLattice more json bound file → ⊥) → FitsNone words
 none_of_lattice words more e none = subst FitsNone (sym e) (at_lattice more none)
 
 pub none_of_edit : (words : List (List ℕ)) (more : List (List ℕ)) → words ≡ codes "edit" ∷ more → NoEdit more → FitsNone words
@@ -119,7 +123,8 @@ none_of_version words more e none = subst FitsNone (sym e) (at_version more none
 pub flag_taken : (flag word : List ℕ) (words rest : List (List ℕ)) → words ≡ word ∷ rest → bytes_eq word flag ≡ true → words ≡ flag ∷ rest
 flag_taken flag word words rest e t = e ∙ ap (λ w. w ∷ rest) ((bytes_eq-Decides word flag).0 t)
 
-pub flag_absent : (flag word : List ℕ) (words rest : List (List ℕ)) → words ≡ word ∷ rest → bytes_eq word flag ≡ false → (more : List (List ℕ)) → words ≡ flag ∷ more → ⊥
+pub flag_absent : (flag word : List ℕ) (words rest : List (List ℕ)) → words ≡ word ∷ rest → bytes_eq word flag ≡ false → (more : List (List ℕ))
+    → words ≡ flag ∷ more → ⊥
 flag_absent flag word words rest e f more g =
     let same : word ≡ flag = cc in
     false≢true (sym f ∙ (bytes_eq-Decides word flag).1 same)
@@ -141,32 +146,39 @@ bound_same words n m r s h k =
     after_same k.asked k.after n m r s (subst (λ a. BoundAfter a k.after n r) e.0 (subst (λ ws. BoundAfter h.asked ws n r) e.1 h.bound)) k.bound
 
 -- what stands after `-c`
-pub bound_asked : (words after : List (List ℕ)) (n : ℕ) (rest : List (List ℕ)) → TakesFlag (codes "-c") words true after → TakesBound words n rest → BoundAfter true after n rest
+pub bound_asked : (words after : List (List ℕ)) (n : ℕ) (rest : List (List ℕ)) → TakesFlag (codes "-c") words true after → TakesBound words n rest
+    → BoundAfter true after n rest
 bound_asked words after n rest f h =
     let e = flag_same (codes "-c") words true h.asked after h.after f h.flag in
     subst (λ a. BoundAfter a after n rest) (sym e.0) (subst (λ ws. BoundAfter h.asked ws n rest) (sym e.1) h.bound)
 
-pub none_asked : (words after : List (List ℕ)) (a : Bool) → a ≡ true → TakesFlag (codes "-c") words a after → ((n : ℕ) (rest : List (List ℕ)) → BoundAfter true after n rest → ⊥) → (n : ℕ) (rest : List (List ℕ)) → TakesBound words n rest → ⊥
+pub none_asked : (words after : List (List ℕ)) (a : Bool) → a ≡ true → TakesFlag (codes "-c") words a after
+    → ((n : ℕ) (rest : List (List ℕ)) → BoundAfter true after n rest → ⊥) → (n : ℕ) (rest : List (List ℕ)) → TakesBound words n rest → ⊥
 none_asked words after a e f none n rest h = none n rest (bound_asked words after n rest (subst (λ b. TakesFlag (codes "-c") words b after) e f) h)
 
 -- the number that was read is none that may stand there
-pub not_zero : (words : List (List ℕ)) (n : ℕ) (word : List ℕ) (rest more : List (List ℕ)) → words ≡ word ∷ more → IsNumber word most_concepts 0 → BoundAfter true words n rest → ⊥
+pub not_zero : (words : List (List ℕ)) (n : ℕ) (word : List ℕ) (rest more : List (List ℕ)) → words ≡ word ∷ more → IsNumber word most_concepts 0
+    → BoundAfter true words n rest → ⊥
 not_zero words n word rest more e z h =
     let same : h.0 ≡ word = let g = h.1 in cc in
     let same_number : n ≡ 0 = decimal_injective n 0 (omega (arith, h.2.small)) (omega arith) (sym h.2.digits ∙ same ∙ z.digits) in
     omega (arith, h.3, same_number)
 
-pub no_number : (words : List (List ℕ)) (word : List ℕ) (more : List (List ℕ)) → words ≡ word ∷ more → ((n : ℕ) → IsNumber word most_concepts n → ⊥) → (n : ℕ) (rest : List (List ℕ)) → BoundAfter true words n rest → ⊥
+pub no_number : (words : List (List ℕ)) (word : List ℕ) (more : List (List ℕ)) → words ≡ word ∷ more → ((n : ℕ) → IsNumber word most_concepts n → ⊥)
+    → (n : ℕ) (rest : List (List ℕ)) → BoundAfter true words n rest → ⊥
 no_number words word more e none n rest h =
     let same : h.0 ≡ word = let g = h.1 in cc in
     none n (subst (λ w. IsNumber w most_concepts n) same h.2)
 
 -- the words after `lattice` do not fit
-pub no_bound : (words after : List (List ℕ)) (asked : Bool) → TakesFlag (codes "-j") words asked after → ((n : ℕ) (rest : List (List ℕ)) → TakesBound after n rest → ⊥) → (json : Bool) (bound : ℕ) (file : List ℕ) → FitsLattice words json bound file → ⊥
+pub no_bound : (words after : List (List ℕ)) (asked : Bool) → TakesFlag (codes "-j") words asked after
+    → ((n : ℕ) (rest : List (List ℕ)) → TakesBound after n rest → ⊥) → (json : Bool) (bound : ℕ) (file : List ℕ)
+    → FitsLattice words json bound file → ⊥
 no_bound words after asked f none json bound file h =
     none bound h.rest (subst (λ ws. TakesBound ws bound h.rest) (sym (flag_same (codes "-j") words asked json after h.after f h.flag).1) h.takes_bound)
 
-pub no_file : (words after rest : List (List ℕ)) (asked : Bool) (n : ℕ) → TakesFlag (codes "-j") words asked after → TakesBound after n rest → ((file : List ℕ) → rest ≡ file ∷ [] → ⊥) → (json : Bool) (bound : ℕ) (file : List ℕ) → FitsLattice words json bound file → ⊥
+pub no_file : (words after rest : List (List ℕ)) (asked : Bool) (n : ℕ) → TakesFlag (codes "-j") words asked after → TakesBound after n rest
+    → ((file : List ℕ) → rest ≡ file ∷ [] → ⊥) → (json : Bool) (bound : ℕ) (file : List ℕ) → FitsLattice words json bound file → ⊥
 no_file words after rest asked n f b none json bound file h =
     let e = (flag_same (codes "-j") words asked json after h.after f h.flag).1 in
     none file (bound_same h.after n bound rest h.rest (subst (λ ws. TakesBound ws n rest) e b) h.takes_bound ∙ h.file_is)
@@ -186,7 +198,8 @@ pub same_fault : {A B E : Type 0} (x y : E) → ◌≡◌ {A = Result A E} (Err 
 same_fault x y h = let e : x ≡ y = cc in ap Err e
 
 -- the words after `make` do not fit
-pub no_number_to_make : (words after : List (List ℕ)) (asked : Bool) → TakesFlag (codes "-p") words asked after → ((word : List ℕ) → after ≡ word ∷ [] → ⊥) → NoMake words
+pub no_number_to_make : (words after : List (List ℕ)) (asked : Bool) → TakesFlag (codes "-p") words asked after
+    → ((word : List ℕ) → after ≡ word ∷ [] → ⊥) → NoMake words
 no_number_to_make words after asked f none prints n h =
     none h.word ((flag_same (codes "-p") words asked prints after h.after f h.flag).1 ∙ h.word_is)
 

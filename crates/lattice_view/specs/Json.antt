@@ -20,11 +20,13 @@ names_data names = array (items_of (map (λ name. string (encode_utf8_all name))
 -- an object of a concept's four parts
 abbrev pub concept_parts : Data → Data → Data → ℕ → Data
 concept_parts above columns rows count =
-    object (member (codes "above") above (member (codes "columns") columns (member (codes "rows") rows (member (codes "size") (number (unsigned count)) no_members))))
+    object (member (codes "above") above
+        (member (codes "columns") columns (member (codes "rows") rows (member (codes "size") (number (unsigned count)) no_members))))
 
 -- a concept: its upper covers, the columns and rows that stand there, and the size of its extent
 abbrev pub concept_data : Concept → Data
-concept_data x = concept_parts (numbers_data x.above.items) (numbers_data (map (λ c. c.0) x.columns.items)) (numbers_data (map (λ r. r.0) x.rows.items)) (size x.extent)
+concept_data x = concept_parts (numbers_data x.above.items) (numbers_data (map (λ c. c.0) x.columns.items))
+    (numbers_data (map (λ r. r.0) x.rows.items)) (size x.extent)
 
 -- an object of a lattice's three parts
 abbrev pub lattice_parts : Data → Data → Data → Data
@@ -32,7 +34,8 @@ lattice_parts columns concepts rows = object (member (codes "columns") columns (
 
 -- a lattice: the labels of the columns, the concepts, and the labels of the rows
 abbrev pub lattice_data : Facts → Lattice → Data
-lattice_data f l = lattice_parts (names_data (map (λ c. c.label) f.columns.items)) (array (items_of (map concept_data l.concepts.items))) (names_data (map (λ r. r.label) f.rows.items))
+lattice_data f l = lattice_parts (names_data (map (λ c. c.label) f.columns.items)) (array (items_of (map concept_data l.concepts.items)))
+    (names_data (map (λ r. r.label) f.rows.items))
 
 -- the line: that object with no space between, and the end of the line
 abbrev pub lattice_json : Facts → Lattice → List ℕ

@@ -42,26 +42,36 @@ module _ (O : Plain) (here : Here) (scope : List (List ℕ)) where
       this_in_static : {p : Place} → here.is_static ≡ true → FaultIn (ThisRef p) (NotInProfile forms.ThisInStatic p)
       -- a simple name that no variable has, that of a static field of an ancestor, and that of an instance field in a static method
       no_variable : {n : List ℕ} {p : Place} → is_class_name O here.owner scope (NameRef n p) ≡ true → FaultIn (NameRef n p) (Unknown n p)
-      static_above : {n : List ℕ} {p : Place} {f : ℕ} {k : PlainField} → is_bound scope n ≡ false → IsNearestField O here.owner n f k → k.is_static ≡ true → k.owner ≢ here.owner → FaultIn (NameRef n p) (Unknown n p)
-      own_in_static : {n : List ℕ} {p : Place} {f : ℕ} {k : PlainField} → is_bound scope n ≡ false → IsNearestField O here.owner n f k → k.is_static ≡ false → here.is_static ≡ true
+      static_above : {n : List ℕ} {p : Place} {f : ℕ} {k : PlainField} → is_bound scope n ≡ false → IsNearestField O here.owner n f k
+          → k.is_static ≡ true → k.owner ≢ here.owner → FaultIn (NameRef n p) (Unknown n p)
+      own_in_static : {n : List ℕ} {p : Place} {f : ℕ} {k : PlainField} → is_bound scope n ≡ false → IsNearestField O here.owner n f k
+          → k.is_static ≡ false → here.is_static ≡ true
           → FaultIn (NameRef n p) (NotInProfile forms.ThisInStatic p)
       -- a class before a dot that is not there, or that has no such static field of its own
-      no_class_of_field : {c n : List ℕ} {p q : Place} → is_class_name O here.owner scope (NameRef c q) ≡ true → class_named O c ≡ None → FaultIn (FieldOf (NameRef c q) n p) (Unknown c q)
-      no_static_field : {c n : List ℕ} {p q : Place} {k : ℕ} → is_class_name O here.owner scope (NameRef c q) ≡ true → class_named O c ≡ Some k → ((f : ℕ) → IsStaticFieldOf O k n f → ⊥)
+      no_class_of_field : {c n : List ℕ} {p q : Place} → is_class_name O here.owner scope (NameRef c q) ≡ true → class_named O c ≡ None
+          → FaultIn (FieldOf (NameRef c q) n p) (Unknown c q)
+      no_static_field : {c n : List ℕ} {p q : Place} {k : ℕ} → is_class_name O here.owner scope (NameRef c q) ≡ true → class_named O c ≡ Some k
+          → ((f : ℕ) → IsStaticFieldOf O k n f → ⊥)
           → FaultIn (FieldOf (NameRef c q) n p) (Unknown n p)
       in_base : {e : Expression} {n : List ℕ} {p : Place} {r : Refusal} → is_class_name O here.owner scope e ≡ false → FaultIn e r → FaultIn (FieldOf e n p) r
       in_array : {e i : Expression} {p : Place} {r : Refusal} → FaultIn e r → FaultIn (IndexOf e i p) r
       in_index : {e i : Expression} {p : Place} {r : Refusal} → FaultIn i r → FaultIn (IndexOf e i p) r
       -- a call by a simple name that no method has, that of a static method of an ancestor, and that of an instance method in a static one
-      no_method : {n : List ℕ} {es : Expressions} {p : Place} → ((m : ℕ) (k : PlainMethod) → IsMet O here.owner n m k → ⊥) → FaultIn (CallOf n es p) (Unknown n p)
-      static_method_above : {n : List ℕ} {es : Expressions} {p : Place} {m : ℕ} {k : PlainMethod} → IsMet O here.owner n m k → k.is_static ≡ true → k.owner ≢ here.owner → FaultIn (CallOf n es p) (Unknown n p)
-      call_in_static : {n : List ℕ} {es : Expressions} {p : Place} {m : ℕ} {k : PlainMethod} → IsMet O here.owner n m k → k.is_static ≡ false → here.is_static ≡ true
+      no_method : {n : List ℕ} {es : Expressions} {p : Place} → ((m : ℕ) (k : PlainMethod) → IsMet O here.owner n m k → ⊥)
+          → FaultIn (CallOf n es p) (Unknown n p)
+      static_method_above : {n : List ℕ} {es : Expressions} {p : Place} {m : ℕ} {k : PlainMethod} → IsMet O here.owner n m k → k.is_static ≡ true
+          → k.owner ≢ here.owner → FaultIn (CallOf n es p) (Unknown n p)
+      call_in_static : {n : List ℕ} {es : Expressions} {p : Place} {m : ℕ} {k : PlainMethod} → IsMet O here.owner n m k → k.is_static ≡ false
+          → here.is_static ≡ true
           → FaultIn (CallOf n es p) (NotInProfile forms.ThisInStatic p)
       in_arguments : {n : List ℕ} {es : Expressions} {p : Place} {r : Refusal} → FaultInOne es r → FaultIn (CallOf n es p) r
-      no_class_of_call : {c n : List ℕ} {es : Expressions} {p q : Place} → is_class_name O here.owner scope (NameRef c q) ≡ true → class_named O c ≡ None → FaultIn (CallOn (NameRef c q) n es p) (Unknown c q)
-      no_static_method : {c n : List ℕ} {es : Expressions} {p q : Place} {k : ℕ} → is_class_name O here.owner scope (NameRef c q) ≡ true → class_named O c ≡ Some k → ((m : ℕ) → IsStaticMethodOf O k n m → ⊥)
+      no_class_of_call : {c n : List ℕ} {es : Expressions} {p q : Place} → is_class_name O here.owner scope (NameRef c q) ≡ true
+          → class_named O c ≡ None → FaultIn (CallOn (NameRef c q) n es p) (Unknown c q)
+      no_static_method : {c n : List ℕ} {es : Expressions} {p q : Place} {k : ℕ} → is_class_name O here.owner scope (NameRef c q) ≡ true
+          → class_named O c ≡ Some k → ((m : ℕ) → IsStaticMethodOf O k n m → ⊥)
           → FaultIn (CallOn (NameRef c q) n es p) (Unknown n p)
-      in_receiver : {e : Expression} {n : List ℕ} {es : Expressions} {p : Place} {r : Refusal} → is_class_name O here.owner scope e ≡ false → FaultIn e r → FaultIn (CallOn e n es p) r
+      in_receiver : {e : Expression} {n : List ℕ} {es : Expressions} {p : Place} {r : Refusal} → is_class_name O here.owner scope e ≡ false
+          → FaultIn e r → FaultIn (CallOn e n es p) r
       in_call_arguments : {e : Expression} {n : List ℕ} {es : Expressions} {p : Place} {r : Refusal} → FaultInOne es r → FaultIn (CallOn e n es p) r
       -- `super` in a static method
       super_in_static : {n : List ℕ} {es : Expressions} {p : Place} → here.is_static ≡ true → FaultIn (SuperCallOf n es p) (NotInProfile forms.ThisInStatic p)
@@ -98,42 +108,65 @@ names_after_part scope (present s) = names_after scope s
 module _ (O : Plain) (here : Here) where
   mutual
     pub data StFault : Bool → List (List ℕ) → Statement → Refusal → Type 0 where
-      no_type_of_local : {in_loop final : Bool} {scope : List (List ℕ)} {u : TypeName} {n : List ℕ} {v : Option Expression} {p : Place} {r : Refusal} → IsUnknownType O u r → StFault in_loop scope (LocalOf final u n v p) r
+      no_type_of_local : {in_loop final : Bool} {scope : List (List ℕ)} {u : TypeName} {n : List ℕ} {v : Option Expression} {p : Place} {r : Refusal}
+          → IsUnknownType O u r → StFault in_loop scope (LocalOf final u n v p) r
       -- a local of the name of a type, and one in the scope of another
-      type_as_local : {in_loop final : Bool} {scope : List (List ℕ)} {u : TypeName} {n : List ℕ} {v : Option Expression} {p : Place} → is_type_name (type_names O) n ≡ true
+      type_as_local : {in_loop final : Bool} {scope : List (List ℕ)} {u : TypeName} {n : List ℕ} {v : Option Expression} {p : Place}
+          → is_type_name (type_names O) n ≡ true
           → StFault in_loop scope (LocalOf final u n v p) (TwoKinds n p)
-      local_twice : {in_loop final : Bool} {scope : List (List ℕ)} {u : TypeName} {n : List ℕ} {v : Option Expression} {p : Place} → is_bound scope n ≡ true → StFault in_loop scope (LocalOf final u n v p) (Twice n p)
-      in_first_value : {in_loop final : Bool} {scope : List (List ℕ)} {u : TypeName} {n : List ℕ} {v : Option Expression} {p : Place} {r : Refusal} → FaultInValue O here (scope ++ n ∷ []) v r
+      local_twice : {in_loop final : Bool} {scope : List (List ℕ)} {u : TypeName} {n : List ℕ} {v : Option Expression} {p : Place}
+          → is_bound scope n ≡ true → StFault in_loop scope (LocalOf final u n v p) (Twice n p)
+      in_first_value : {in_loop final : Bool} {scope : List (List ℕ)} {u : TypeName} {n : List ℕ} {v : Option Expression} {p : Place} {r : Refusal}
+          → FaultInValue O here (scope ++ n ∷ []) v r
           → StFault in_loop scope (LocalOf final u n v p) r
-      in_block : {in_loop : Bool} {scope : List (List ℕ)} {ss : Statements} {p : Place} {r : Refusal} → StsFault in_loop scope ss r → StFault in_loop scope (BlockOf ss p) r
-      in_target : {in_loop : Bool} {scope : List (List ℕ)} {e v : Expression} {p : Place} {r : Refusal} → FaultIn O here scope e r → StFault in_loop scope (AssignOf e v p) r
-      in_assigned : {in_loop : Bool} {scope : List (List ℕ)} {e v : Expression} {p : Place} {r : Refusal} → FaultIn O here scope v r → StFault in_loop scope (AssignOf e v p) r
-      in_call : {in_loop : Bool} {scope : List (List ℕ)} {e : Expression} {p : Place} {r : Refusal} → FaultIn O here scope e r → StFault in_loop scope (DoOf e p) r
-      in_printed : {in_loop line : Bool} {scope : List (List ℕ)} {v : Option Expression} {p : Place} {r : Refusal} → FaultInValue O here scope v r → StFault in_loop scope (PrintOf line v p) r
-      in_choice : {in_loop : Bool} {scope : List (List ℕ)} {a : tree.Arms} {other : Else} {p : Place} {r : Refusal} → ArmsFault in_loop scope a r → StFault in_loop scope (IfOf a other p) r
-      in_else : {in_loop : Bool} {scope : List (List ℕ)} {a : tree.Arms} {ss : Statements} {p : Place} {r : Refusal} → StsFault in_loop scope ss r → StFault in_loop scope (IfOf a (tree.otherwise ss) p) r
-      in_while_test : {in_loop : Bool} {scope : List (List ℕ)} {e : Expression} {ss : Statements} {p : Place} {r : Refusal} → FaultIn O here scope e r → StFault in_loop scope (WhileOf e ss p) r
-      in_while : {in_loop : Bool} {scope : List (List ℕ)} {e : Expression} {ss : Statements} {p : Place} {r : Refusal} → StsFault true scope ss r → StFault in_loop scope (WhileOf e ss p) r
-      in_first_part : {in_loop : Bool} {scope : List (List ℕ)} {f g : OptionalStatement} {v : Option Expression} {ss : Statements} {p : Place} {r : Refusal} → PartFault in_loop scope f r → StFault in_loop scope (ForOf f v g ss p) r
-      in_for_test : {in_loop : Bool} {scope : List (List ℕ)} {f g : OptionalStatement} {v : Option Expression} {ss : Statements} {p : Place} {r : Refusal} → FaultInValue O here (names_after_part scope f) v r
+      in_block : {in_loop : Bool} {scope : List (List ℕ)} {ss : Statements} {p : Place} {r : Refusal} → StsFault in_loop scope ss r
+          → StFault in_loop scope (BlockOf ss p) r
+      in_target : {in_loop : Bool} {scope : List (List ℕ)} {e v : Expression} {p : Place} {r : Refusal} → FaultIn O here scope e r
+          → StFault in_loop scope (AssignOf e v p) r
+      in_assigned : {in_loop : Bool} {scope : List (List ℕ)} {e v : Expression} {p : Place} {r : Refusal} → FaultIn O here scope v r
+          → StFault in_loop scope (AssignOf e v p) r
+      in_call : {in_loop : Bool} {scope : List (List ℕ)} {e : Expression} {p : Place} {r : Refusal} → FaultIn O here scope e r
+          → StFault in_loop scope (DoOf e p) r
+      in_printed : {in_loop line : Bool} {scope : List (List ℕ)} {v : Option Expression} {p : Place} {r : Refusal} → FaultInValue O here scope v r
+          → StFault in_loop scope (PrintOf line v p) r
+      in_choice : {in_loop : Bool} {scope : List (List ℕ)} {a : tree.Arms} {other : Else} {p : Place} {r : Refusal} → ArmsFault in_loop scope a r
+          → StFault in_loop scope (IfOf a other p) r
+      in_else : {in_loop : Bool} {scope : List (List ℕ)} {a : tree.Arms} {ss : Statements} {p : Place} {r : Refusal} → StsFault in_loop scope ss r
+          → StFault in_loop scope (IfOf a (tree.otherwise ss) p) r
+      in_while_test : {in_loop : Bool} {scope : List (List ℕ)} {e : Expression} {ss : Statements} {p : Place} {r : Refusal} → FaultIn O here scope e r
+          → StFault in_loop scope (WhileOf e ss p) r
+      in_while : {in_loop : Bool} {scope : List (List ℕ)} {e : Expression} {ss : Statements} {p : Place} {r : Refusal} → StsFault true scope ss r
+          → StFault in_loop scope (WhileOf e ss p) r
+      in_first_part : {in_loop : Bool} {scope : List (List ℕ)} {f g : OptionalStatement} {v : Option Expression} {ss : Statements} {p : Place}
+          {r : Refusal} → PartFault in_loop scope f r → StFault in_loop scope (ForOf f v g ss p) r
+      in_for_test : {in_loop : Bool} {scope : List (List ℕ)} {f g : OptionalStatement} {v : Option Expression} {ss : Statements} {p : Place}
+          {r : Refusal} → FaultInValue O here (names_after_part scope f) v r
           → StFault in_loop scope (ForOf f v g ss p) r
-      in_last_part : {in_loop : Bool} {scope : List (List ℕ)} {f g : OptionalStatement} {v : Option Expression} {ss : Statements} {p : Place} {r : Refusal} → PartFault in_loop (names_after_part scope f) g r
+      in_last_part : {in_loop : Bool} {scope : List (List ℕ)} {f g : OptionalStatement} {v : Option Expression} {ss : Statements} {p : Place}
+          {r : Refusal} → PartFault in_loop (names_after_part scope f) g r
           → StFault in_loop scope (ForOf f v g ss p) r
-      in_for : {in_loop : Bool} {scope : List (List ℕ)} {f g : OptionalStatement} {v : Option Expression} {ss : Statements} {p : Place} {r : Refusal} → StsFault true (names_after_part scope f) ss r
+      in_for : {in_loop : Bool} {scope : List (List ℕ)} {f g : OptionalStatement} {v : Option Expression} {ss : Statements} {p : Place} {r : Refusal}
+          → StsFault true (names_after_part scope f) ss r
           → StFault in_loop scope (ForOf f v g ss p) r
-      in_returned : {in_loop : Bool} {scope : List (List ℕ)} {v : Option Expression} {p : Place} {r : Refusal} → FaultInValue O here scope v r → StFault in_loop scope (ReturnOf v p) r
+      in_returned : {in_loop : Bool} {scope : List (List ℕ)} {v : Option Expression} {p : Place} {r : Refusal} → FaultInValue O here scope v r
+          → StFault in_loop scope (ReturnOf v p) r
       -- `break` and `continue` outside a loop
       break_outside : {scope : List (List ℕ)} {p : Place} → StFault false scope (BreakOf p) (NotInProfile forms.BreakOutside p)
       continue_outside : {scope : List (List ℕ)} {p : Place} → StFault false scope (ContinueOf p) (NotInProfile forms.BreakOutside p)
 
     pub data StsFault : Bool → List (List ℕ) → Statements → Refusal → Type 0 where
-      in_statement : {in_loop : Bool} {scope : List (List ℕ)} {s : Statement} {ss : Statements} {r : Refusal} → StFault in_loop scope s r → StsFault in_loop scope (and_then s ss) r
-      in_rest : {in_loop : Bool} {scope : List (List ℕ)} {s : Statement} {ss : Statements} {r : Refusal} → StsFault in_loop (names_after scope s) ss r → StsFault in_loop scope (and_then s ss) r
+      in_statement : {in_loop : Bool} {scope : List (List ℕ)} {s : Statement} {ss : Statements} {r : Refusal} → StFault in_loop scope s r
+          → StsFault in_loop scope (and_then s ss) r
+      in_rest : {in_loop : Bool} {scope : List (List ℕ)} {s : Statement} {ss : Statements} {r : Refusal} → StsFault in_loop (names_after scope s) ss r
+          → StsFault in_loop scope (and_then s ss) r
 
     pub data ArmsFault : Bool → List (List ℕ) → tree.Arms → Refusal → Type 0 where
-      in_test : {in_loop : Bool} {scope : List (List ℕ)} {e : Expression} {ss : Statements} {a : tree.Arms} {r : Refusal} → FaultIn O here scope e r → ArmsFault in_loop scope (tree.and_arm e ss a) r
-      in_arm : {in_loop : Bool} {scope : List (List ℕ)} {e : Expression} {ss : Statements} {a : tree.Arms} {r : Refusal} → StsFault in_loop scope ss r → ArmsFault in_loop scope (tree.and_arm e ss a) r
-      in_more_arms : {in_loop : Bool} {scope : List (List ℕ)} {e : Expression} {ss : Statements} {a : tree.Arms} {r : Refusal} → ArmsFault in_loop scope a r → ArmsFault in_loop scope (tree.and_arm e ss a) r
+      in_test : {in_loop : Bool} {scope : List (List ℕ)} {e : Expression} {ss : Statements} {a : tree.Arms} {r : Refusal} → FaultIn O here scope e r
+          → ArmsFault in_loop scope (tree.and_arm e ss a) r
+      in_arm : {in_loop : Bool} {scope : List (List ℕ)} {e : Expression} {ss : Statements} {a : tree.Arms} {r : Refusal} → StsFault in_loop scope ss r
+          → ArmsFault in_loop scope (tree.and_arm e ss a) r
+      in_more_arms : {in_loop : Bool} {scope : List (List ℕ)} {e : Expression} {ss : Statements} {a : tree.Arms} {r : Refusal}
+          → ArmsFault in_loop scope a r → ArmsFault in_loop scope (tree.and_arm e ss a) r
 
     pub data PartFault : Bool → List (List ℕ) → OptionalStatement → Refusal → Type 0 where
       in_part : {in_loop : Bool} {scope : List (List ℕ)} {s : Statement} {r : Refusal} → StFault in_loop scope s r → PartFault in_loop scope (present s) r
@@ -193,39 +226,56 @@ pub data ConditionAt (declarations : List DeclTree) : Refusal → Type 0 where
   -- a type that a declaration names is not there
   unknown : {n : List ℕ} {p : Place} → Asks declarations n p → class_named (outline declarations) n ≡ None → ConditionAt declarations (Unknown n p)
   -- two types of one name; a type called Object, String or System
-  type_twice : {i j : ℕ} {c d : DeclTree} → slice_get declarations i ≡ Some c → slice_get declarations j ≡ Some d → i < j → name_of c ≡ name_of d → ConditionAt declarations (Twice (name_of d) (place_of d))
-  known_twice : {d : DeclTree} → Contains declarations d → name_of d ≡ codes "Object" ⊎ is_known (name_of d) ≡ true → ConditionAt declarations (Twice (name_of d) (place_of d))
+  type_twice : {i j : ℕ} {c d : DeclTree} → slice_get declarations i ≡ Some c → slice_get declarations j ≡ Some d → i < j → name_of c ≡ name_of d
+      → ConditionAt declarations (Twice (name_of d) (place_of d))
+  known_twice : {d : DeclTree} → Contains declarations d → name_of d ≡ codes "Object" ⊎ is_known (name_of d) ≡ true
+      → ConditionAt declarations (Twice (name_of d) (place_of d))
   -- two supertypes of one name in one list
-  super_twice : {d : DeclTree} {i j : ℕ} {a b : Id} → Contains declarations d → slice_get (faces_named d) i ≡ Some a → slice_get (faces_named d) j ≡ Some b → i < j → a.name ≡ b.name
+  super_twice : {d : DeclTree} {i j : ℕ} {a b : Id} → Contains declarations d → slice_get (faces_named d) i ≡ Some a → slice_get (faces_named d) j
+      ≡ Some b → i < j → a.name ≡ b.name
       → ConditionAt declarations (Twice b.name b.place)
   -- two fields, two methods, two parameters of one name
-  field_twice : {i j : ℕ} {f g : FieldAt} → slice_get (fields_in declarations) i ≡ Some f → slice_get (fields_in declarations) j ≡ Some g → i < j → f.owner ≡ g.owner → f.name ≡ g.name
+  field_twice : {i j : ℕ} {f g : FieldAt} → slice_get (fields_in declarations) i ≡ Some f → slice_get (fields_in declarations) j ≡ Some g → i < j
+      → f.owner ≡ g.owner → f.name ≡ g.name
       → ConditionAt declarations (Twice g.name g.place)
-  method_twice : {i j : ℕ} {h k : MethodAt} → slice_get (methods_in declarations) i ≡ Some h → slice_get (methods_in declarations) j ≡ Some k → i < j → h.owner ≡ k.owner → h.head.name ≡ k.head.name
+  method_twice : {i j : ℕ} {h k : MethodAt} → slice_get (methods_in declarations) i ≡ Some h → slice_get (methods_in declarations) j ≡ Some k → i < j
+      → h.owner ≡ k.owner → h.head.name ≡ k.head.name
       → ConditionAt declarations (Twice k.head.name k.head.place)
-  param_twice : {m : MethodAt} {i j : ℕ} {a b : _} → Contains (methods_in declarations) m → slice_get m.head.params i ≡ Some a → slice_get m.head.params j ≡ Some b → i < j → a.name ≡ b.name
+  param_twice : {m : MethodAt} {i j : ℕ} {a b : _} → Contains (methods_in declarations) m → slice_get m.head.params i ≡ Some a
+      → slice_get m.head.params j ≡ Some b → i < j → a.name ≡ b.name
       → ConditionAt declarations (Twice b.name b.place)
   -- a type that is its own ancestor
-  loop : {c : ℕ} {d : DeclTree} → slice_get declarations c ≡ Some d → IsProperSubclass (outline declarations) (suc c) (suc c) → ConditionAt declarations (Loop (name_of d) (place_of d))
+  loop : {c : ℕ} {d : DeclTree} → slice_get declarations c ≡ Some d → IsProperSubclass (outline declarations) (suc c) (suc c)
+      → ConditionAt declarations (Loop (name_of d) (place_of d))
   -- two methods of one name in a type and its ancestors that are not of one slot
-  overload : {i j c : ℕ} {h k : PlainMethod} → slice_get (outline declarations).methods i ≡ Some h → slice_get (outline declarations).methods j ≡ Some k → i < j → h.name ≡ k.name
-      → IsSubclass (outline declarations) c h.owner → IsSubclass (outline declarations) c k.owner → (AreOneSlot h k → ⊥) → ConditionAt declarations (Overload k.name k.tag.place)
+  overload : {i j c : ℕ} {h k : PlainMethod} → slice_get (outline declarations).methods i ≡ Some h → slice_get (outline declarations).methods j
+      ≡ Some k → i < j → h.name ≡ k.name
+      → IsSubclass (outline declarations) c h.owner → IsSubclass (outline declarations) c k.owner → (AreOneSlot h k → ⊥)
+          → ConditionAt declarations (Overload k.name k.tag.place)
   -- a field or a parameter of the name of a type
-  type_as_field : {f : FieldAt} → Contains (fields_in declarations) f → is_type_name (types_in declarations) f.name ≡ true → ConditionAt declarations (TwoKinds f.name f.place)
-  type_as_param : {m : MethodAt} {q : _} → Contains (methods_in declarations) m → Contains m.head.params q → is_type_name (types_in declarations) q.name ≡ true → ConditionAt declarations (TwoKinds q.name q.place)
+  type_as_field : {f : FieldAt} → Contains (fields_in declarations) f → is_type_name (types_in declarations) f.name ≡ true
+      → ConditionAt declarations (TwoKinds f.name f.place)
+  type_as_param : {m : MethodAt} {q : _} → Contains (methods_in declarations) m → Contains m.head.params q
+      → is_type_name (types_in declarations) q.name ≡ true → ConditionAt declarations (TwoKinds q.name q.place)
   -- an interface as a superclass, and a class as an interface
-  face_as_parent : {d : DeclTree} {i : Id} {c : ℕ} {k : PlainClass} → Contains declarations d → parent_named d ≡ Some i → class_named (outline declarations) i.name ≡ Some c
+  face_as_parent : {d : DeclTree} {i : Id} {c : ℕ} {k : PlainClass} → Contains declarations d → parent_named d ≡ Some i
+      → class_named (outline declarations) i.name ≡ Some c
       → slice_get (outline declarations).classes c ≡ Some k → k.is_interface ≡ true → ConditionAt declarations (TwoKinds i.name i.place)
-  class_as_face : {d : DeclTree} {i : Id} {c : ℕ} {k : PlainClass} → Contains declarations d → Contains (faces_named d) i → class_named (outline declarations) i.name ≡ Some c
+  class_as_face : {d : DeclTree} {i : Id} {c : ℕ} {k : PlainClass} → Contains declarations d → Contains (faces_named d) i
+      → class_named (outline declarations) i.name ≡ Some c
       → slice_get (outline declarations).classes c ≡ Some k → k.is_interface ≡ false → ConditionAt declarations (TwoKinds i.name i.place)
   -- the name of a private method again in an ancestor or a descendant
-  private_reused : {i j : ℕ} {h k : MethodAt} → slice_get (methods_in declarations) i ≡ Some h → slice_get (methods_in declarations) j ≡ Some k → i < j → h.head.name ≡ k.head.name
-      → h.owner ≢ k.owner → is_private h || is_private k ≡ true → IsSubclass (outline declarations) h.owner k.owner ⊎ IsSubclass (outline declarations) k.owner h.owner → ConditionAt declarations (PrivateReused k.head.name k.head.place)
+  private_reused : {i j : ℕ} {h k : MethodAt} → slice_get (methods_in declarations) i ≡ Some h → slice_get (methods_in declarations) j ≡ Some k
+      → i < j → h.head.name ≡ k.head.name
+      → h.owner ≢ k.owner → is_private h || is_private k ≡ true → IsSubclass (outline declarations) h.owner k.owner
+          ⊎ IsSubclass (outline declarations) k.owner h.owner → ConditionAt declarations (PrivateReused k.head.name k.head.place)
   no_main : ((m : ℕ) (k : PlainMethod) → slice_get (outline declarations).methods m ≡ Some k → IsMain k → ⊥) → ConditionAt declarations NoMain
   -- a modifier that disagrees with one before it, or does not fit
-  modifiers_disagree : {kind : Kind} {mods : List Modifier} {i j : ℕ} {a b : Modifier} → HasModifiers declarations kind mods → slice_get mods i ≡ Some a → slice_get mods j ≡ Some b → i < j → disagree a.word b.word ≡ true
+  modifiers_disagree : {kind : Kind} {mods : List Modifier} {i j : ℕ} {a b : Modifier} → HasModifiers declarations kind mods
+      → slice_get mods i ≡ Some a → slice_get mods j ≡ Some b → i < j → disagree a.word b.word ≡ true
       → ConditionAt declarations (NotInProfile forms.Modifier b.place)
-  modifier_unfit : {kind : Kind} {mods : List Modifier} {a : Modifier} → HasModifiers declarations kind mods → Contains mods a → is_unfit kind a.word ≡ true → ConditionAt declarations (NotInProfile forms.Modifier a.place)
+  modifier_unfit : {kind : Kind} {mods : List Modifier} {a : Modifier} → HasModifiers declarations kind mods → Contains mods a
+      → is_unfit kind a.word ≡ true → ConditionAt declarations (NotInProfile forms.Modifier a.place)
   wrong_body : {m : MethodAt} → Contains (methods_in declarations) m → HasWrongBody m → ConditionAt declarations (NotInProfile forms.Body m.head.place)
   -- a condition in a body
   in_body : {m : MethodAt} {ss : Statements} {r : Refusal} → Contains (methods_in declarations) m → m.body ≡ Some ss

@@ -67,7 +67,8 @@ is_bound names n = list_any (λ m. bytes_eq m n) names
 abbrev pub bound_names : List Bound → List (List ℕ)
 bound_names scope = map (λ b. b.name) scope
 
--- whether an expression before a dot is a simple name that no variable has, and so the name of a class: no parameter and no local in scope, and no field from the holding class upwards
+-- whether an expression before a dot is a simple name that no variable has, and so the name of a class: no parameter and no local in scope, and no
+-- field from the holding class upwards
 abbrev pub is_class_name : Plain → ℕ → List (List ℕ) → Expression → Bool
 is_class_name O c names (NameRef n p) = not (is_bound names n) && is_none (field_of O c n)
 is_class_name O c names _ = false

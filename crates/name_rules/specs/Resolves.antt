@@ -82,31 +82,44 @@ module _ (O : Plain) (here : Here) (scope : List Bound) where
       -- a simple name: a parameter or local in scope
       r_local : {n : List ℕ} {p : Place} {i : ℕ} → in_scope scope n ≡ Some i → ResolvesTo (NameRef n p) (local (at_place p) i)
       -- else the nearest field from the holding class upwards: a static one is the class's own
-      r_static_field : {n : List ℕ} {p : Place} {f : ℕ} {k : PlainField} → in_scope scope n ≡ None → IsNearestField O here.owner n f k → k.is_static ≡ true → k.owner ≡ here.owner
+      r_static_field : {n : List ℕ} {p : Place} {f : ℕ} {k : PlainField} → in_scope scope n ≡ None → IsNearestField O here.owner n f k
+          → k.is_static ≡ true → k.owner ≡ here.owner
           → ResolvesTo (NameRef n p) (static_field (at_place p) f)
-      r_own_field : {n : List ℕ} {p : Place} {f : ℕ} {k : PlainField} → in_scope scope n ≡ None → IsNearestField O here.owner n f k → k.is_static ≡ false → here.is_static ≡ false
+      r_own_field : {n : List ℕ} {p : Place} {f : ℕ} {k : PlainField} → in_scope scope n ≡ None → IsNearestField O here.owner n f k
+          → k.is_static ≡ false → here.is_static ≡ false
           → ResolvesTo (NameRef n p) (own_field (at_place p) f)
       -- else a class, where a static member of its own follows
-      r_class_field : {c n : List ℕ} {p q : Place} {k f : ℕ} → is_class_name O here.owner (bound_names scope) (NameRef c q) ≡ true → class_named O c ≡ Some k → IsStaticFieldOf O k n f
+      r_class_field : {c n : List ℕ} {p q : Place} {k f : ℕ} → is_class_name O here.owner (bound_names scope) (NameRef c q) ≡ true
+          → class_named O c ≡ Some k → IsStaticFieldOf O k n f
           → ResolvesTo (FieldOf (NameRef c q) n p) (static_field (at_place p) f)
       r_field : {e : Expression} {x : Ex} {n : List ℕ} {p : Place} → ResolvesTo e x → ResolvesTo (FieldOf e n p) (field (at_place p) x n)
       r_index : {e i : Expression} {x y : Ex} {p : Place} → ResolvesTo e x → ResolvesTo i y → ResolvesTo (IndexOf e i p) (index (at_place p) x y)
       -- a call by a simple name: a static method of the class itself, or an instance method of it or an ancestor on `this`
-      r_own_static_call : {n : List ℕ} {es : Expressions} {xs : Exs} {p : Place} {m : ℕ} {k : PlainMethod} → IsMet O here.owner n m k → k.is_static ≡ true → k.owner ≡ here.owner → AllResolve es xs
+      r_own_static_call : {n : List ℕ} {es : Expressions} {xs : Exs} {p : Place} {m : ℕ} {k : PlainMethod} → IsMet O here.owner n m k
+          → k.is_static ≡ true → k.owner ≡ here.owner → AllResolve es xs
           → ResolvesTo (CallOf n es p) (static_call (at_place p) m xs)
-      r_own_call : {n : List ℕ} {es : Expressions} {xs : Exs} {p : Place} {m : ℕ} {k : PlainMethod} → IsMet O here.owner n m k → k.is_static ≡ false → here.is_static ≡ false → AllResolve es xs
+      r_own_call : {n : List ℕ} {es : Expressions} {xs : Exs} {p : Place} {m : ℕ} {k : PlainMethod} → IsMet O here.owner n m k → k.is_static ≡ false
+          → here.is_static ≡ false → AllResolve es xs
           → ResolvesTo (CallOf n es p) (call (at_place p) (this (at_place p)) n xs)
-      r_static_call : {c n : List ℕ} {es : Expressions} {xs : Exs} {p q : Place} {k m : ℕ} → is_class_name O here.owner (bound_names scope) (NameRef c q) ≡ true → class_named O c ≡ Some k → IsStaticMethodOf O k n m
+      r_static_call : {c n : List ℕ} {es : Expressions} {xs : Exs} {p q : Place} {k m : ℕ} → is_class_name O here.owner (bound_names scope)
+          (NameRef c q) ≡ true → class_named O c ≡ Some k → IsStaticMethodOf O k n m
           → AllResolve es xs → ResolvesTo (CallOn (NameRef c q) n es p) (static_call (at_place p) m xs)
-      r_call : {e : Expression} {x : Ex} {n : List ℕ} {es : Expressions} {xs : Exs} {p : Place} → ResolvesTo e x → AllResolve es xs → ResolvesTo (CallOn e n es p) (call (at_place p) x n xs)
-      r_super_call : {n : List ℕ} {es : Expressions} {xs : Exs} {p : Place} → here.is_static ≡ false → AllResolve es xs → ResolvesTo (SuperCallOf n es p) (super_call (at_place p) n xs)
+      r_call : {e : Expression} {x : Ex} {n : List ℕ} {es : Expressions} {xs : Exs} {p : Place} → ResolvesTo e x → AllResolve es xs
+          → ResolvesTo (CallOn e n es p) (call (at_place p) x n xs)
+      r_super_call : {n : List ℕ} {es : Expressions} {xs : Exs} {p : Place} → here.is_static ≡ false → AllResolve es xs
+          → ResolvesTo (SuperCallOf n es p) (super_call (at_place p) n xs)
       -- creations, casts and instanceof have a number each
-      r_create : {c : Id} {es : Expressions} {xs : Exs} {p : Place} {i k : ℕ} → class_named O c.name ≡ Some k → AllResolve es xs → ResolvesTo (NewOf c es p) (create (at_place p) i k xs)
-      r_create_array : {u : TypeName} {t : Ty} {e : Expression} {x : Ex} {p : Place} {i : ℕ} → Means O u t → ResolvesTo e x → ResolvesTo (NewArrayOf u e p) (create_array (at_place p) i t x)
-      r_cast : {u : TypeName} {t : Ty} {e : Expression} {x : Ex} {p : Place} {i : ℕ} → MeansCast O u t → ResolvesTo e x → ResolvesTo (CastOf u e p) (cast (at_place p) i t x)
-      r_instance_of : {e : Expression} {x : Ex} {c : Id} {p : Place} {i k : ℕ} → ResolvesTo e x → class_named O c.name ≡ Some k → ResolvesTo (InstanceOfClass e c p) (instance_of (at_place p) i x k)
+      r_create : {c : Id} {es : Expressions} {xs : Exs} {p : Place} {i k : ℕ} → class_named O c.name ≡ Some k → AllResolve es xs
+          → ResolvesTo (NewOf c es p) (create (at_place p) i k xs)
+      r_create_array : {u : TypeName} {t : Ty} {e : Expression} {x : Ex} {p : Place} {i : ℕ} → Means O u t → ResolvesTo e x
+          → ResolvesTo (NewArrayOf u e p) (create_array (at_place p) i t x)
+      r_cast : {u : TypeName} {t : Ty} {e : Expression} {x : Ex} {p : Place} {i : ℕ} → MeansCast O u t → ResolvesTo e x
+          → ResolvesTo (CastOf u e p) (cast (at_place p) i t x)
+      r_instance_of : {e : Expression} {x : Ex} {c : Id} {p : Place} {i k : ℕ} → ResolvesTo e x → class_named O c.name ≡ Some k
+          → ResolvesTo (InstanceOfClass e c p) (instance_of (at_place p) i x k)
       r_unary : {m : Mark} {e : Expression} {x : Ex} {p : Place} → ResolvesTo e x → ResolvesTo (UnaryOf m e p) (unary (at_place p) (un_op m) x)
-      r_binary : {m : Mark} {e d : Expression} {x y : Ex} {p : Place} → ResolvesTo e x → ResolvesTo d y → ResolvesTo (BinaryOf m e d p) (binary (at_place p) (bin_op m) x y)
+      r_binary : {m : Mark} {e d : Expression} {x y : Ex} {p : Place} → ResolvesTo e x → ResolvesTo d y
+          → ResolvesTo (BinaryOf m e d p) (binary (at_place p) (bin_op m) x y)
 
     pub data AllResolve : Expressions → Exs → Type 0 where
       r_no_more : AllResolve no_more no_ex
@@ -139,40 +152,53 @@ module _ (O : Plain) (here : Here) (k : PlainMethod) where
   mutual
     pub data StResolves : Bool → List Bound → Statement → St → Type 0 where
       -- the scope of a local begins with its own first value
-      r_declare : {in_loop final : Bool} {scope : List Bound} {u : TypeName} {n : List ℕ} {v : Option Expression} {x : Option Ex} {p : Place} {i : ℕ} → IsLocal O k scope u n p i
+      r_declare : {in_loop final : Bool} {scope : List Bound} {u : TypeName} {n : List ℕ} {v : Option Expression} {x : Option Ex} {p : Place} {i : ℕ}
+          → IsLocal O k scope u n p i
           → ResolvesIf O here (bound scope n i) v x → StResolves in_loop scope (LocalOf final u n v p) (declare (at_place p) i x)
-      r_block : {in_loop : Bool} {scope : List Bound} {ss : Statements} {xs : Sts} {p : Place} → StsResolve in_loop scope ss xs → StResolves in_loop scope (BlockOf ss p) (block (at_place p) xs)
+      r_block : {in_loop : Bool} {scope : List Bound} {ss : Statements} {xs : Sts} {p : Place} → StsResolve in_loop scope ss xs
+          → StResolves in_loop scope (BlockOf ss p) (block (at_place p) xs)
       r_assign : {in_loop : Bool} {scope : List Bound} {e v : Expression} {x y : Ex} {p : Place} → ResolvesTo O here scope e x → ResolvesTo O here scope v y
           → StResolves in_loop scope (AssignOf e v p) (assign (at_place p) (target x) y)
-      r_act : {in_loop : Bool} {scope : List Bound} {e : Expression} {x : Ex} {p : Place} → ResolvesTo O here scope e x → StResolves in_loop scope (DoOf e p) (act (at_place p) x)
-      r_print : {in_loop line : Bool} {scope : List Bound} {v : Option Expression} {x : Option Ex} {p : Place} → ResolvesIf O here scope v x → StResolves in_loop scope (PrintOf line v p) (print (at_place p) line x)
-      r_choose : {in_loop : Bool} {scope : List Bound} {a : tree.Arms} {other : Else} {xs : Arms} {p : Place} → ArmsResolve in_loop scope a other xs → StResolves in_loop scope (IfOf a other p) (choose (at_place p) xs)
-      r_while : {in_loop : Bool} {scope : List Bound} {e : Expression} {x : Ex} {ss : Statements} {xs : Sts} {p : Place} → ResolvesTo O here scope e x → StsResolve true scope ss xs
+      r_act : {in_loop : Bool} {scope : List Bound} {e : Expression} {x : Ex} {p : Place} → ResolvesTo O here scope e x
+          → StResolves in_loop scope (DoOf e p) (act (at_place p) x)
+      r_print : {in_loop line : Bool} {scope : List Bound} {v : Option Expression} {x : Option Ex} {p : Place} → ResolvesIf O here scope v x
+          → StResolves in_loop scope (PrintOf line v p) (print (at_place p) line x)
+      r_choose : {in_loop : Bool} {scope : List Bound} {a : tree.Arms} {other : Else} {xs : Arms} {p : Place} → ArmsResolve in_loop scope a other xs
+          → StResolves in_loop scope (IfOf a other p) (choose (at_place p) xs)
+      r_while : {in_loop : Bool} {scope : List Bound} {e : Expression} {x : Ex} {ss : Statements} {xs : Sts} {p : Place} → ResolvesTo O here scope e x
+          → StsResolve true scope ss xs
           → StResolves in_loop scope (WhileOf e ss p) (loop (at_place p) true no_st (Some x) no_st xs)
-      r_for : {in_loop : Bool} {scope : List Bound} {f g : OptionalStatement} {v : Option Expression} {x : Option Ex} {ss : Statements} {first step xs : Sts} {p : Place} → PartResolves in_loop scope f first
-          → ResolvesIf O here (scope_after_part scope f first) v x → PartResolves in_loop (scope_after_part scope f first) g step → StsResolve true (scope_after_part scope f first) ss xs
+      r_for : {in_loop : Bool} {scope : List Bound} {f g : OptionalStatement} {v : Option Expression} {x : Option Ex} {ss : Statements}
+          {first step xs : Sts} {p : Place} → PartResolves in_loop scope f first
+          → ResolvesIf O here (scope_after_part scope f first) v x → PartResolves in_loop (scope_after_part scope f first) g step
+              → StsResolve true (scope_after_part scope f first) ss xs
           → StResolves in_loop scope (ForOf f v g ss p) (loop (at_place p) false first x step xs)
-      r_return : {in_loop : Bool} {scope : List Bound} {v : Option Expression} {x : Option Ex} {p : Place} → ResolvesIf O here scope v x → StResolves in_loop scope (ReturnOf v p) (return (at_place p) x)
+      r_return : {in_loop : Bool} {scope : List Bound} {v : Option Expression} {x : Option Ex} {p : Place} → ResolvesIf O here scope v x
+          → StResolves in_loop scope (ReturnOf v p) (return (at_place p) x)
       r_break : {scope : List Bound} {p : Place} → StResolves true scope (BreakOf p) (break (at_place p))
       r_continue : {scope : List Bound} {p : Place} → StResolves true scope (ContinueOf p) (continue (at_place p))
 
     -- what a block declares leaves the scope at its end
     pub data StsResolve : Bool → List Bound → Statements → Sts → Type 0 where
       r_no_statements : {in_loop : Bool} {scope : List Bound} → StsResolve in_loop scope no_statements no_st
-      r_and_then : {in_loop : Bool} {scope : List Bound} {s : Statement} {x : St} {ss : Statements} {xs : Sts} → StResolves in_loop scope s x → StsResolve in_loop (scope_after scope s x) ss xs
+      r_and_then : {in_loop : Bool} {scope : List Bound} {s : Statement} {x : St} {ss : Statements} {xs : Sts} → StResolves in_loop scope s x
+          → StsResolve in_loop (scope_after scope s x) ss xs
           → StsResolve in_loop scope (and_then s ss) (st_then x xs)
 
     -- the arms of an `if`, and behind them its `else` or none
     pub data ArmsResolve : Bool → List Bound → tree.Arms → Else → Arms → Type 0 where
       r_no_else : {in_loop : Bool} {scope : List Bound} → ArmsResolve in_loop scope tree.no_arms no_else no_other
-      r_else : {in_loop : Bool} {scope : List Bound} {ss : Statements} {xs : Sts} → StsResolve in_loop scope ss xs → ArmsResolve in_loop scope tree.no_arms (tree.otherwise ss) (otherwise xs)
-      r_arm : {in_loop : Bool} {scope : List Bound} {e : Expression} {x : Ex} {ss : Statements} {xs : Sts} {a : tree.Arms} {other : Else} {more : Arms} → ResolvesTo O here scope e x → StsResolve in_loop scope ss xs
+      r_else : {in_loop : Bool} {scope : List Bound} {ss : Statements} {xs : Sts} → StsResolve in_loop scope ss xs
+          → ArmsResolve in_loop scope tree.no_arms (tree.otherwise ss) (otherwise xs)
+      r_arm : {in_loop : Bool} {scope : List Bound} {e : Expression} {x : Ex} {ss : Statements} {xs : Sts} {a : tree.Arms} {other : Else}
+          {more : Arms} → ResolvesTo O here scope e x → StsResolve in_loop scope ss xs
           → ArmsResolve in_loop scope a other more → ArmsResolve in_loop scope (tree.and_arm e ss a) other (arm x xs more)
 
     -- the first or last part of a `for`
     pub data PartResolves : Bool → List Bound → OptionalStatement → Sts → Type 0 where
       r_absent : {in_loop : Bool} {scope : List Bound} → PartResolves in_loop scope absent no_st
-      r_present : {in_loop : Bool} {scope : List Bound} {s : Statement} {x : St} → StResolves in_loop scope s x → PartResolves in_loop scope (present s) (st_then x no_st)
+      r_present : {in_loop : Bool} {scope : List Bound} {s : Statement} {x : St} → StResolves in_loop scope s x
+          → PartResolves in_loop scope (present s) (st_then x no_st)
 
 -- the locals that a body declares, by number, in the order of the text
 abbrev mutual
@@ -215,11 +241,13 @@ pub data BodyResolves (O : Plain) (m : MethodAt) (k : PlainMethod) : Type 0 wher
 -- the bodies of methods, each in its turn
 pub data BodiesResolve (O : Plain) : List MethodAt → List PlainMethod → Type 0 where
   r_no_methods : BodiesResolve O [] []
-  r_method : {m : MethodAt} {k : PlainMethod} {ms : List MethodAt} {ks : List PlainMethod} → BodyResolves O m k → BodiesResolve O ms ks → BodiesResolve O (m ∷ ms) (k ∷ ks)
+  r_method : {m : MethodAt} {k : PlainMethod} {ms : List MethodAt} {ks : List PlainMethod} → BodyResolves O m k → BodiesResolve O ms ks
+      → BodiesResolve O (m ∷ ms) (k ∷ ks)
 
 -- a method up to its slot, its locals and its body
 abbrev pub heading_of : PlainMethod → PlainMethod
-heading_of k = record { owner = k.owner; name = k.name; is_static = k.is_static; is_public = k.is_public; slot = None; params = k.params; locals = []; result = k.result; body = None; tag = k.tag }
+heading_of k = record { owner = k.owner; name = k.name; is_static = k.is_static; is_public = k.is_public; slot = None; params = k.params; locals =
+    []; result = k.result; body = None; tag = k.tag }
 
 -- a slot is that of a method: the name, the types of the parameters and the result agree
 pub record IsOfSlot (slot : PlainSlot) (k : PlainMethod) : Type 0 where
@@ -236,8 +264,10 @@ pub data HasSlot (P : Plain) (k : PlainMethod) : Type 0 where
 pub record AreSlots (P : Plain) : Type 0 where
   pub each : (m : ℕ) (k : PlainMethod) → slice_get P.methods m ≡ Some k → HasSlot P k
   pub first : (s : ℕ) (slot : PlainSlot) → slice_get P.slots s ≡ Some slot → (k : PlainMethod) × (slice_get P.methods slot.first ≡ Some k) × (k.slot ≡ Some s)
-  pub least : (s m : ℕ) (slot : PlainSlot) (k : PlainMethod) → slice_get P.slots s ≡ Some slot → slice_get P.methods m ≡ Some k → k.slot ≡ Some s → slot.first ≤ m
-  pub apart : (r s : ℕ) (a b : PlainSlot) → slice_get P.slots r ≡ Some a → slice_get P.slots s ≡ Some b → a.name ≡ b.name → a.params ≡ b.params → a.result ≡ b.result → r ≡ s
+  pub least : (s m : ℕ) (slot : PlainSlot) (k : PlainMethod) → slice_get P.slots s ≡ Some slot → slice_get P.methods m ≡ Some k → k.slot ≡ Some s
+      → slot.first ≤ m
+  pub apart : (r s : ℕ) (a b : PlainSlot) → slice_get P.slots r ≡ Some a → slice_get P.slots s ≡ Some b → a.name ≡ b.name → a.params ≡ b.params
+      → a.result ≡ b.result → r ≡ s
   pub order : (r s : ℕ) (a b : PlainSlot) → slice_get P.slots r ≡ Some a → slice_get P.slots s ≡ Some b → r < s → a.first < b.first
 
 -- the tree resolves to the program

@@ -17,7 +17,8 @@ unfolding HaveSlots
 have_slots P formed m k e s = (formed.methods m k e).slotted s
 
 -- each family of closed sets covers each run
-pub covering : (p : Program) (F : Facts) → IsFormed (program_of no_place p) → IsTyped (program_of no_place p) → IsFactsOf (program_of no_place p) (program_of at_place p) F → CoversProgram (program_of no_place p) (program_of at_place p) F
+pub covering : (p : Program) (F : Facts) → IsFormed (program_of no_place p) → IsTyped (program_of no_place p)
+    → IsFactsOf (program_of no_place p) (program_of at_place p) F → CoversProgram (program_of no_place p) (program_of at_place p) F
 covering p F formed typed facts = program_covers p F formed typed (have_slots (program_of no_place p) formed) facts
 
 -- and the points-to sets are closed

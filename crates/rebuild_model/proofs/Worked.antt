@@ -1,4 +1,5 @@
--- A worked program and its rebuilt one: class A { int f; int m() { return f; } }, and a main that makes an A, holds it in x and calls m. In the new program x has the interface A_0, where m stands, and the object the class A_1.
+-- A worked program and its rebuilt one: class A { int f; int m() { return f; } }, and a main that makes an A, holds it in x and calls m. In the new
+-- program x has the interface A_0, where m stands, and the object the class A_1.
 use Rattle.std.proofs.Common.{◌≡◌, ◌≢◌, ◌↔◌, ◌⊎◌, inl, inr, ℕ, zero, suc, true, false, List, [], ◌∷◌, Option, Some, None, refl, sym, ap, ◌∙◌, subst, arith, ⊎_elim, length, ◌≤◌, lit≤, lit<}
 use Rattle.std.specs.Option.{option_map_or}
 use Rattle.std.specs.Prelude.{◌||◌, ◌&&◌, ◌==◌, not, Bool, Contains, codes, slice_get, position}
@@ -51,7 +52,8 @@ abbrev pub the_field : ℕ → PlainField
 the_field owner = record { owner = owner; name = codes "f"; is_static = false; ty = an_int; tag = place 10 }
 
 abbrev pub method : ℕ → Option Sts → PlainMethod
-method owner body = record { owner = owner; name = codes "m"; is_static = false; is_public = true; slot = Some 0; params = []; locals = []; result = Some an_int; body = body; tag = place 20 }
+method owner body = record { owner = owner; name = codes "m"; is_static = false; is_public = true; slot = Some 0; params = []; locals = []; result =
+    Some an_int; body = body; tag = place 20 }
 
 abbrev pub main : ℕ → ℕ → Sts → PlainMethod
 main owner kept code =
@@ -72,7 +74,8 @@ abbrev pub slot : PlainSlot
 slot = record { name = codes "m"; params = []; result = Some an_int; first = 0 }
 
 abbrev pub main_code : ℕ → Sts
-main_code made = st_then (declare (place 50) 1 (Some (create (place 54) 0 made no_ex))) (st_then (act (place 60) (call (place 60) (local (place 60) 1) (codes "m") no_ex)) no_st)
+main_code made = st_then (declare (place 50) 1 (Some (create (place 54) 0 made no_ex)))
+    (st_then (act (place 60) (call (place 60) (local (place 60) 1) (codes "m") no_ex)) no_st)
 
 abbrev pub old : Plain
 old =
@@ -92,7 +95,8 @@ new =
           ∷ record { name = codes "A_1"; is_interface = false; is_abstract = false; parent = object; faces = record { 0 = 1 } ∷ []; tag = place 0 }
           ∷ class (codes "Main") object 0 ∷ [];
       fields = the_field 2 ∷ [];
-      methods = method 1 None ∷ method 2 (Some (st_then (return (place 0) (Some (field (place 0) (this (place 0)) (codes "f")))) no_st)) ∷ main 3 1 (main_code 2) ∷ [];
+      methods = method 1 None ∷ method 2 (Some (st_then (return (place 0) (Some (field (place 0) (this (place 0)) (codes "f")))) no_st))
+          ∷ main 3 1 (main_code 2) ∷ [];
       slots = slot ∷ [];
       main = 2;
     }
@@ -103,7 +107,8 @@ listed v xs fits = record { ptr = v.ptr; len = length xs; cap = 9; alloc = v.all
 
 abbrev pub the_columns : List ColumnInfo
 the_columns =
-    record { kind = Fld; class = record { 0 = 1 }; slot = None; name = codes "f"; label = [] } ∷ record { kind = Dcl; class = record { 0 = 1 }; slot = Some 0; name = codes "m"; label = [] }
+    record { kind = Fld; class = record { 0 = 1 }; slot = None; name = codes "f"; label = [] }
+        ∷ record { kind = Dcl; class = record { 0 = 1 }; slot = Some 0; name = codes "m"; label = [] }
     ∷ record { kind = Def; class = record { 0 = 1 }; slot = Some 0; name = codes "m"; label = [] } ∷ []
 
 abbrev pub the_sites : List SiteInfo
@@ -180,7 +185,8 @@ main_types : HasTypes (renaming_of old old hierarchy places) 1 (main 2 1 (main_c
 unfolding renaming_of numbers rows_of row_number columns_of column_number parts_of type_in field_of member_field declaration_of search_order
 main_types = record { params = refl; result = refl }
 
-main_locals : types_of (main 3 1 (main_code 2)).locals ≡ new_types (renaming_of old old hierarchy places) 1 (main 2 1 (main_code 1)) 1 (main 2 1 (main_code 1)).locals
+main_locals : types_of (main 3 1 (main_code 2)).locals ≡ new_types (renaming_of old old hierarchy places) 1 (main 2 1 (main_code 1)) 1
+    (main 2 1 (main_code 1)).locals
 unfolding renaming_of numbers rows_of row_number columns_of column_number parts_of type_in field_of member_field declaration_of search_order
 main_locals = refl
 
@@ -218,7 +224,8 @@ no_object : ◌≡◌ {A = ℕ} 2 0 → ⊥
 no_object e = omega (arith, e)
 
 -- the order of the types is that of the nodes
-pub ordered : (a b : ℕ) → is_live hierarchy.order a ≡ true → is_live hierarchy.order b ≡ true → IsSubclass new (suc a) (suc b) ↔ (is_le hierarchy.order a b ≡ true)
+pub ordered : (a b : ℕ) → is_live hierarchy.order a ≡ true → is_live hierarchy.order b ≡ true
+    → IsSubclass new (suc a) (suc b) ↔ (is_le hierarchy.order a b ≡ true)
 ordered zero zero la lb = (λ s. refl, λ e. same_class)
 ordered zero (suc zero) la lb = (λ s. absurd (⊎_elim no_face no_object (at_face s refl)), λ e. absurd (cc e))
 ordered (suc zero) zero la lb = (λ s. refl, λ e. through {c = record { 0 = 1 }} (1, omega arith, refl) same_class)
@@ -318,7 +325,8 @@ module _ (others : Facts) where
   new_field : IsField old old facts hierarchy new places 0 (the_field 2)
   new_field = record { old = the_field 1; old_stands = refl; node = 1; stands = field_stands; instance = refl; owner = refl; name = name_f; type = type_f }
 
-  new_body : IsBody old old facts hierarchy new places 0 (method 2 (Some (st_then (return (place 0) (Some (field (place 0) (this (place 0)) (codes "f")))) no_st)))
+  new_body : IsBody old old facts hierarchy new places 0
+      (method 2 (Some (st_then (return (place 0) (Some (field (place 0) (this (place 0)) (codes "f")))) no_st)))
   new_body = record {
     old = method 1 (Some (st_then (return (place 22) (Some (own_field (place 24) 0))) no_st));
     old_stands = refl;
@@ -383,7 +391,8 @@ module _ (others : Facts) where
 
   -- the members, one by one
   abbrev IsMember : PlainMethod → Type 0
-  IsMember k = ((m : ℕ) × IsBody old old facts hierarchy new places m k) ⊎ ((n : ℕ) × (m : ℕ) × (IsHead old old facts hierarchy new places n m k ⊎ IsFiller old old facts hierarchy new places n m k))
+  IsMember k = ((m : ℕ) × IsBody old old facts hierarchy new places m k)
+      ⊎ ((n : ℕ) × (m : ℕ) × (IsHead old old facts hierarchy new places n m k ⊎ IsFiller old old facts hierarchy new places n m k))
 
   each_instance : (g : ℕ) (k : PlainMethod) → slice_get new.methods g ≡ Some k → k.is_static ≡ false → IsMember k
   each_instance zero k e i = subst IsMember (cc e) (inr (0, 0, inl new_head))
@@ -395,18 +404,21 @@ module _ (others : Facts) where
   fields_are zero k e i = (0, subst (λ x. IsField old old facts hierarchy new places 0 x) (cc e) new_field)
   fields_are (suc g) k e i = absurd (cc e)
 
-  field_is : (f n : ℕ) → Stands (column.Fld f) n → (g : ℕ) × (k : PlainField) × (slice_get new.fields g ≡ Some k) × IsField old old facts hierarchy new places f k
+  field_is : (f n : ℕ) → Stands (column.Fld f) n → (g : ℕ) × (k : PlainField) × (slice_get new.fields g ≡ Some k)
+      × IsField old old facts hierarchy new places f k
   field_is zero n s = (0, the_field 2, refl, new_field)
   field_is (suc f) n s = absurd (cc (sym (no_field f) ∙ s.numbered))
 
-  body_is : (m n : ℕ) → Stands (column.Def m) n → (g : ℕ) × (k : PlainMethod) × (slice_get new.methods g ≡ Some k) × IsBody old old facts hierarchy new places m k
+  body_is : (m n : ℕ) → Stands (column.Def m) n → (g : ℕ) × (k : PlainMethod) × (slice_get new.methods g ≡ Some k)
+      × IsBody old old facts hierarchy new places m k
   body_is zero n s = (1, _, refl, new_body)
   body_is (suc m) n s = absurd (cc (sym (no_body m) ∙ s.numbered))
 
   head_is : (m n s : ℕ) (k : PlainMethod) → Stands (column.Dcl m) n → slice_get old.methods m ≡ Some k → k.slot ≡ Some s → is_headed facts hierarchy n s ≡ true
       → (g : ℕ) × (h : PlainMethod) × (slice_get new.methods g ≡ Some h) × (h.body ≡ None) × IsOfSlot old old facts hierarchy new places n m h
   head_is zero n s k at e slot headed =
-      (0, method 1 None, refl, refl, subst (λ x. IsOfSlot old old facts hierarchy new places x 0 (method 1 None)) (stands_alone 1 0 n refl (column.Dcl 0) column_m at) new_of_slot)
+      (0, method 1 None, refl, refl, subst (λ x. IsOfSlot old old facts hierarchy new places x 0 (method 1 None))
+          (stands_alone 1 0 n refl (column.Dcl 0) column_m at) new_of_slot)
   head_is (suc m) n s k at e slot headed = absurd (cc (sym (no_declaration m) ∙ at.numbered))
 
   -- no object is without its body
@@ -429,13 +441,15 @@ module _ (others : Facts) where
     each_filler = λ m n s k l e slot filled. absurd (no_filler n s l filled);
   }
 
-  static_methods_are : (g : ℕ) (k : PlainMethod) → slice_get new.methods g ≡ Some k → k.is_static ≡ true → (m : ℕ) × IsStaticMethodOf old old facts hierarchy new places m g
+  static_methods_are : (g : ℕ) (k : PlainMethod) → slice_get new.methods g ≡ Some k → k.is_static ≡ true
+      → (m : ℕ) × IsStaticMethodOf old old facts hierarchy new places m g
   static_methods_are zero k e i = absurd (cc (ap (λ o. option_map_or (λ (m : PlainMethod). m.is_static) o false) e ∙ i))
   static_methods_are (suc zero) k e i = absurd (cc (ap (λ o. option_map_or (λ (m : PlainMethod). m.is_static) o false) e ∙ i))
   static_methods_are (suc (suc zero)) k e i = (1, new_main)
   static_methods_are (suc (suc (suc g))) k e i = absurd (cc e)
 
-  static_method_is : (m : ℕ) (k : PlainMethod) → slice_get old.methods m ≡ Some k → k.is_static ≡ true → (g : ℕ) × IsStaticMethodOf old old facts hierarchy new places m g
+  static_method_is : (m : ℕ) (k : PlainMethod) → slice_get old.methods m ≡ Some k → k.is_static ≡ true
+      → (g : ℕ) × IsStaticMethodOf old old facts hierarchy new places m g
   static_method_is zero k e i = absurd (cc (ap (λ o. option_map_or (λ (m : PlainMethod). m.is_static) o false) e ∙ i))
   static_method_is (suc zero) k e i = (2, new_main)
   static_method_is (suc (suc m)) k e i = absurd (cc e)

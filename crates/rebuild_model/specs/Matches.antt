@@ -1,4 +1,5 @@
--- When a body is another with new names and types: in the same form, statement by statement and expression by expression. Labels, places and the numbers of creations are free.
+-- When a body is another with new names and types: in the same form, statement by statement and expression by expression. Labels, places and the
+-- numbers of creations are free.
 use Rattle.std.specs.Prelude.{◌≡◌, ℕ, ℤ, Bool, true, List, Option, Some, None, slice_get}
 use Rattle.std.specs.Option.{is_some}
 use Rattle.java_core.specs.declared.Ty.{Ty}
@@ -48,20 +49,25 @@ module _ (P W : Plain) (R : Renaming) where
         m_static_field : {t u : Tag} {f h : ℕ} → IsStaticField f h → Matches (static_field t f) (static_field u h)
         -- a field of `this` by its simple name is that field on a written `this`
         m_own_field : {t u v : Tag} {f : ℕ} → Matches (own_field t f) (field u (this v) (R.field_name f))
-        m_field : {t u : Tag} {e d : Ex} {x : List ℕ} {f : ℕ} → Matches e d → field_in P (static P g e) x ≡ Some f → Matches (field t e x) (field u d (R.field_name f))
+        m_field : {t u : Tag} {e d : Ex} {x : List ℕ} {f : ℕ} → Matches e d → field_in P (static P g e) x ≡ Some f
+            → Matches (field t e x) (field u d (R.field_name f))
         m_length : {t u : Tag} {e d : Ex} {x : List ℕ} → Matches e d → is_some (element_of (static P g e)) ≡ true → Matches (field t e x) (field u d x)
         m_index : {t u : Tag} {e d i j : Ex} → Matches e d → Matches i j → Matches (index t e i) (index u d j)
         -- a call has the new name of the method that it finds statically; the methods of a String keep theirs
         m_call : {t u : Tag} {e d : Ex} {x : List ℕ} {c m : ℕ} {es ds : Exs} → Matches e d → class_of (static P g e) ≡ Some c → declaration_of P c x ≡ Some m
             → MatchesAll es ds → Matches (call t e x es) (call u d (R.method_name m) ds)
-        m_string_call : {t u : Tag} {e d : Ex} {x : List ℕ} {es ds : Exs} → Matches e d → is_string (static P g e) ≡ true → MatchesAll es ds → Matches (call t e x es) (call u d x ds)
+        m_string_call : {t u : Tag} {e d : Ex} {x : List ℕ} {es ds : Exs} → Matches e d → is_string (static P g e) ≡ true → MatchesAll es ds
+            → Matches (call t e x es) (call u d x ds)
         m_static_call : {t u : Tag} {m n : ℕ} {es ds : Exs} → IsStaticMethod m n → MatchesAll es ds → Matches (static_call t m es) (static_call u n ds)
-        m_super_call : {t u : Tag} {x : List ℕ} {m : ℕ} {es ds : Exs} → super_method P g.self x ≡ Some m → MatchesAll es ds → Matches (super_call t x es) (super_call u (R.method_name m) ds)
+        m_super_call : {t u : Tag} {x : List ℕ} {m : ℕ} {es ds : Exs} → super_method P g.self x ≡ Some m → MatchesAll es ds
+            → Matches (super_call t x es) (super_call u (R.method_name m) ds)
         -- the class of a creation, a cast and an `instanceof` is that of the node of its own row
         m_create : {t u : Tag} {n j c k : ℕ} {es ds : Exs} → R.row_type (row.New n) ≡ Some k → MatchesAll es ds → Matches (create t n c es) (create u j k ds)
-        m_create_array : {t u : Tag} {n j : ℕ} {v : Ty} {e d : Ex} → Matches e d → Matches (create_array t n v e) (create_array u j (retyped (R.row_type (row.New n)) v) d)
+        m_create_array : {t u : Tag} {n j : ℕ} {v : Ty} {e d : Ex} → Matches e d
+            → Matches (create_array t n v e) (create_array u j (retyped (R.row_type (row.New n)) v) d)
         m_cast : {t u : Tag} {n j : ℕ} {v : Ty} {e d : Ex} → Matches e d → Matches (cast t n v e) (cast u j (retyped (R.row_type (row.Cast n)) v) d)
-        m_instance_of : {t u : Tag} {n j c k : ℕ} {e d : Ex} → Matches e d → R.row_type (row.Test n) ≡ Some k → Matches (instance_of t n e c) (instance_of u j d k)
+        m_instance_of : {t u : Tag} {n j c k : ℕ} {e d : Ex} → Matches e d → R.row_type (row.Test n) ≡ Some k
+            → Matches (instance_of t n e c) (instance_of u j d k)
         m_unary : {t u : Tag} {o : UnOp} {e d : Ex} → Matches e d → Matches (unary t o e) (unary u o d)
         m_binary : {t u : Tag} {o : BinOp} {a b c d : Ex} → Matches a c → Matches b d → Matches (binary t o a b) (binary u o c d)
 
@@ -77,7 +83,8 @@ module _ (P W : Plain) (R : Renaming) where
       m_to_local : {t u : Tag} {i : ℕ} → MatchesTarget (to_local t i) (to_local u i)
       m_to_static : {t u : Tag} {f h : ℕ} → IsStaticField f h → MatchesTarget (to_static t f) (to_static u h)
       m_to_own : {t u v : Tag} {f : ℕ} → MatchesTarget (to_own t f) (to_field u (this v) (R.field_name f))
-      m_to_field : {t u : Tag} {e d : Ex} {x : List ℕ} {f : ℕ} → Matches e d → field_in P (static P g e) x ≡ Some f → MatchesTarget (to_field t e x) (to_field u d (R.field_name f))
+      m_to_field : {t u : Tag} {e d : Ex} {x : List ℕ} {f : ℕ} → Matches e d → field_in P (static P g e) x ≡ Some f
+          → MatchesTarget (to_field t e x) (to_field u d (R.field_name f))
       m_to_element : {t u : Tag} {e d i j : Ex} → Matches e d → Matches i j → MatchesTarget (to_element t e i) (to_element u d j)
 
     mutual
@@ -88,7 +95,8 @@ module _ (P W : Plain) (R : Renaming) where
         m_act : {t u : Tag} {e d : Ex} → Matches e d → MatchesSt (act t e) (act u d)
         m_print : {t u : Tag} {n : Bool} {e d : Option Ex} → MatchesIf e d → MatchesSt (print t n e) (print u n d)
         m_choose : {t u : Tag} {a b : Arms} → MatchesArms a b → MatchesSt (choose t a) (choose u b)
-        m_loop : {t u : Tag} {is_while : Bool} {first step body other last code : Sts} {e d : Option Ex} → MatchesSts first other → MatchesIf e d → MatchesSts step last → MatchesSts body code
+        m_loop : {t u : Tag} {is_while : Bool} {first step body other last code : Sts} {e d : Option Ex} → MatchesSts first other → MatchesIf e d
+            → MatchesSts step last → MatchesSts body code
             → MatchesSt (loop t is_while first e step body) (loop u is_while other d last code)
         m_return : {t u : Tag} {e d : Option Ex} → MatchesIf e d → MatchesSt (return t e) (return u d)
         m_break : {t u : Tag} → MatchesSt (break t) (break u)

@@ -46,13 +46,17 @@ module _ (P Q : Plain) (F : Facts) (H : Hierarchy) (W : Plain) where
   -- the instance members are the fields, bodies, heads and fillers of the nodes, and no others
   pub record AreMembers (T : Places) : Type 0 where
     pub fields : (g : ℕ) (new : PlainField) → slice_get W.fields g ≡ Some new → new.is_static ≡ false → (f : ℕ) × IsField P Q F H W T f new
-    pub each_field : (f n : ℕ) → StandsAt P Q F H W T (column.Fld f) n → (g : ℕ) × (new : PlainField) × (slice_get W.fields g ≡ Some new) × IsField P Q F H W T f new
+    pub each_field : (f n : ℕ) → StandsAt P Q F H W T (column.Fld f) n → (g : ℕ) × (new : PlainField) × (slice_get W.fields g ≡ Some new)
+        × IsField P Q F H W T f new
     pub methods : (g : ℕ) (new : PlainMethod) → slice_get W.methods g ≡ Some new → new.is_static ≡ false
         → ((m : ℕ) × IsBody P Q F H W T m new) ⊎ ((n : ℕ) × (m : ℕ) × (IsHead P Q F H W T n m new ⊎ IsFiller P Q F H W T n m new))
-    pub each_body : (m n : ℕ) → StandsAt P Q F H W T (column.Def m) n → (g : ℕ) × (new : PlainMethod) × (slice_get W.methods g ≡ Some new) × IsBody P Q F H W T m new
-    pub each_head : (m n s : ℕ) (old : PlainMethod) → StandsAt P Q F H W T (column.Dcl m) n → slice_get P.methods m ≡ Some old → old.slot ≡ Some s → is_headed F H n s ≡ true
+    pub each_body : (m n : ℕ) → StandsAt P Q F H W T (column.Def m) n → (g : ℕ) × (new : PlainMethod) × (slice_get W.methods g ≡ Some new)
+        × IsBody P Q F H W T m new
+    pub each_head : (m n s : ℕ) (old : PlainMethod) → StandsAt P Q F H W T (column.Dcl m) n → slice_get P.methods m ≡ Some old → old.slot ≡ Some s
+        → is_headed F H n s ≡ true
         → (g : ℕ) × (new : PlainMethod) × (slice_get W.methods g ≡ Some new) × (new.body ≡ None) × IsOfSlot P Q F H W T n m new
-    pub each_filler : (m n s : ℕ) (old : PlainMethod) → is_live H.order n ≡ true → slice_get P.methods m ≡ Some old → old.slot ≡ Some s → is_filled F H n s ≡ true
+    pub each_filler : (m n s : ℕ) (old : PlainMethod) → is_live H.order n ≡ true → slice_get P.methods m ≡ Some old → old.slot ≡ Some s
+        → is_filled F H n s ≡ true
         → (g : ℕ) × (new : PlainMethod) × (slice_get W.methods g ≡ Some new) × IsOfSlot P Q F H W T n m new
 
   -- the static members are the old ones, in the holders of their classes
@@ -66,7 +70,8 @@ module _ (P Q : Plain) (F : Facts) (H : Hierarchy) (W : Plain) where
     pub places : Places
     pub types : AreTypes places
     -- the type of a node is a subtype of that of another exactly where the node stands at or below the other
-    pub order : (a b : ℕ) → is_live H.order a ≡ true → is_live H.order b ≡ true → IsSubclass W (places.type_of a) (places.type_of b) ↔ (is_le H.order a b ≡ true)
+    pub order : (a b : ℕ) → is_live H.order a ≡ true → is_live H.order b ≡ true → IsSubclass W (places.type_of a) (places.type_of b) ↔
+        (is_le H.order a b ≡ true)
     pub members : AreMembers places
     pub statics : AreStatics places
     pub main : IsStaticMethod P W (renaming_of P Q H places) P.main W.main

@@ -54,7 +54,8 @@ record IsLaid (fs : List PlainField) (c f : ℕ) : Type 0 where
 
 own_from : (c n : ℕ) (fs : List PlainField) (f : ℕ) → Contains (own_fields_from c n fs) f → (i : ℕ) × (f ≡ n + i) × IsLaid fs c i
 own_from c n [] f h = absurd (omega (arith, h.1))
-own_from c n (k ∷ fs) f h = ⊎_elim (λ d. here d) (λ d. past (own_from c (suc n) fs f d)) (Contains-append_cases (if (k.owner == c) && not k.is_static then n ∷ [] else []) (own_fields_from c (suc n) fs) f h)
+own_from c n (k ∷ fs) f h = ⊎_elim (λ d. here d) (λ d. past (own_from c (suc n) fs f d))
+    (Contains-append_cases (if (k.owner == c) && not k.is_static then n ∷ [] else []) (own_fields_from c (suc n) fs) f h)
   where
     single : Contains (n ∷ []) f → n ≡ f
     single (zero, lt, e) = e
@@ -64,7 +65,8 @@ own_from c n (k ∷ fs) f h = ⊎_elim (λ d. here d) (λ d. past (own_from c (s
     here d = go ((k.owner == c) && not k.is_static) refl d
       where
         go : (b : Bool) → ((k.owner == c) && not k.is_static) ≡ b → Contains (if b then n ∷ [] else []) f → (i : ℕ) × (f ≡ n + i) × IsLaid (k ∷ fs) c i
-        go true e w = let t = both_hold (k.owner == c) (not k.is_static) e in (0, omega (arith, single w), record { field = k; there = refl; instance = no_not k.is_static t.1; owner = eqb-true k.owner c t.0 })
+        go true e w = let t = both_hold (k.owner == c) (not k.is_static) e in
+            (0, omega (arith, single w), record { field = k; there = refl; instance = no_not k.is_static t.1; owner = eqb-true k.owner c t.0 })
         go false e w = absurd (omega (arith, w.1))
 
     past : (i : ℕ) × (f ≡ suc n + i) × IsLaid fs c i → (i : ℕ) × (f ≡ n + i) × IsLaid (k ∷ fs) c i
@@ -84,7 +86,8 @@ module _ (P : Plain) where
   own_in : (n c f : ℕ) → Contains (own_fields P c) f → ((k : PlainField) → k.owner ≡ c → reaches P n c k.owner ≡ true) → IsIn n c f
   own_in n c f h r =
       let o = own_from c 0 P.fields f h in
-      let there : slice_get P.fields f ≡ Some o.2.field = subst (λ z. slice_get P.fields z ≡ Some o.2.field) (let z : o.0 ≡ f = omega (arith, o.1) in z) o.2.there in
+      let there : slice_get P.fields f ≡ Some o.2.field = subst (λ z. slice_get P.fields z ≡ Some o.2.field)
+          (let z : o.0 ≡ f = omega (arith, o.1) in z) o.2.there in
       record { field = o.2.field; there = there; instance = o.2.instance; above = r o.2.field o.2.owner }
 
   laid : (n c f : ℕ) → Contains (layout_in P n c) f → IsIn n c f
@@ -94,11 +97,14 @@ module _ (P : Plain) where
       (λ d. own_in (suc n) c f d (λ k e. or_left (c == k.owner) (list_any (λ c. reaches P n c.0 k.owner) (supers_of P c)) (eq-eqb c k.owner (sym e))))
       (Contains-append_cases (option_map_or (λ p. layout_in P n p.0) (parent_of P c) []) (own_fields P c) f h)
     where
-      up : (o : Option ClassId) → parent_of P c ≡ o → Contains (option_map_or (λ p. layout_in P n p.0) o []) f → ((p : ClassId) → Contains (layout_in P n p.0) f → IsIn n p.0 f) → IsIn (suc n) c f
+      up : (o : Option ClassId) → parent_of P c ≡ o → Contains (option_map_or (λ p. layout_in P n p.0) o []) f
+          → ((p : ClassId) → Contains (layout_in P n p.0) f → IsIn n p.0 f) → IsIn (suc n) c f
       up None e d r = absurd (omega (arith, d.1))
       up (Some p) e d r =
           let w = r p d in
-          record { field = w.field; there = w.there; instance = w.instance; above = or_right (c == w.field.owner) (list_any (λ c. reaches P n c.0 w.field.owner) (supers_of P c)) (any_first (λ c. reaches P n c.0 w.field.owner) (parent_of P c) p (faces_of P c) e w.above) }
+          record { field = w.field; there = w.there; instance = w.instance; above = or_right (c == w.field.owner)
+              (list_any (λ c. reaches P n c.0 w.field.owner) (supers_of P c)) (any_first (λ c. reaches P n c.0 w.field.owner) (parent_of P c) p
+              (faces_of P c) e w.above) }
 
   indexed : (c f i : ℕ) → index_of P c f ≡ Some i → IsIn (length P.classes) c f
   unfolding layout
@@ -122,16 +128,21 @@ module _ (Q : Plain) (F : Facts) (formed : IsFormed (untagged Q)) (facts : IsFac
   site_of n s e =
       let p = position-Some (nat_eq n) (map (λ (s : Site). s.number) (sites_of P Q)) s 0 e in
       let at = slice_get-get_or (map (λ (s : Site). s.number) (sites_of P Q)) s 0 p.0 in
-      let x = map_some (λ (s : Site). s.number) (slice_get (sites_of P Q) s) (get_or (map (λ (s : Site). s.number) (sites_of P Q)) s 0) (sym (get_map (λ (s : Site). s.number) (sites_of P Q) s) ∙ at) in
-      let listed : slice_get F.sites.items s ≡ Some (site_info x.0) = ap (λ z. slice_get z s) facts.sites ∙ get_map (site_info) (sites_of P Q) s ∙ ap (λ z. option_map (site_info) z) x.1 in
+      let x = map_some (λ (s : Site). s.number) (slice_get (sites_of P Q) s) (get_or (map (λ (s : Site). s.number) (sites_of P Q)) s 0)
+          (sym (get_map (λ (s : Site). s.number) (sites_of P Q) s) ∙ at) in
+      let listed : slice_get F.sites.items s ≡ Some (site_info x.0) = ap (λ z. slice_get z s) facts.sites ∙ get_map (site_info) (sites_of P Q) s
+          ∙ ap (λ z. option_map (site_info) z) x.1 in
       let same = get_or_from_slice_get F.sites.items s (site_info x.0) (record { row = record { 0 = 0 }; class = record { 0 = 0 }; dim = 0 }) listed in
       record { site = x.0; there = x.1; number = x.2 ∙ sym (eqb-true n _ p.1); type = ap (λ (z : SiteInfo). record { class = z.class; dim = z.dim }) same }
 
-  cell_there : (s : ℕ) (x : Site) (c : Option ℕ) (y : CellInfo) → slice_get (sites_of P Q) s ≡ Some x → Contains (site_cells P (fields_of (numbers P Q) Q (columns_of P Q)) s x) y → is_cell s c y ≡ true → (n : ℕ) × (cell_number P Q F s c ≡ Some n)
+  cell_there : (s : ℕ) (x : Site) (c : Option ℕ) (y : CellInfo) → slice_get (sites_of P Q) s ≡ Some x
+      → Contains (site_cells P (fields_of (numbers P Q) Q (columns_of P Q)) s x) y → is_cell s c y ≡ true → (n : ℕ) × (cell_number P Q F s c ≡ Some n)
   unfolding cells_of
-  cell_there s x c y e h d = position_there (is_cell s c) F.cells.items y (subst (λ z. Contains z y) (sym facts.cells) (each_has (site_cells P (fields_of (numbers P Q) Q (columns_of P Q))) 0 (sites_of P Q) s x y e s (omega arith) h)) d
+  cell_there s x c y e h d = position_there (is_cell s c) F.cells.items y (subst (λ z. Contains z y) (sym facts.cells)
+      (each_has (site_cells P (fields_of (numbers P Q) Q (columns_of P Q))) 0 (sites_of P Q) s x y e s (omega arith) h)) d
 
-  pub field_has_cell : (f n s c i : ℕ) (t : ObjectType) → (numbers P Q).site n ≡ Some s → site_type F s ≡ record { class = record { 0 = c }; dim = 0 } → index_of P c f ≡ Some i → field_object P f ≡ Some t → (q : ℕ) × (field_cell P Q F f s ≡ Some q)
+  pub field_has_cell : (f n s c i : ℕ) (t : ObjectType) → (numbers P Q).site n ≡ Some s → site_type F s ≡ record { class = record { 0 = c }; dim = 0 }
+      → index_of P c f ≡ Some i → field_object P f ≡ Some t → (q : ℕ) × (field_cell P Q F f s ≡ Some q)
   unfolding numbers column_number below
   field_has_cell f n s c i t en et ix ot =
       let x = site_of n s en in
@@ -141,29 +152,38 @@ module _ (Q : Plain) (F : Facts) (formed : IsFormed (untagged Q)) (facts : IsFac
       let r = field_row_of Q formed f t ot in
       let at = position-Some (same_column (column.Fld f)) (map (λ (c : Column). c.item) (columns_of P Q)) col.0 (column.Fld f) col.1 in
       let item = map_some (λ (c : Column). c.item) (slice_get (columns_of P Q) col.0) (column.Fld f)
-      (sym (get_map (λ (c : Column). c.item) (columns_of P Q) col.0) ∙ slice_get-get_or (map (λ (c : Column). c.item) (columns_of P Q)) col.0 (column.Fld f) at.0 ∙ ap (λ z. Some z) (sym (column_exact (column.Fld f) _ at.1))) in
+      (sym (get_map (λ (c : Column). c.item) (columns_of P Q) col.0) ∙ slice_get-get_or (map (λ (c : Column). c.item) (columns_of P Q)) col.0
+          (column.Fld f) at.0 ∙ ap (λ z. Some z) (sym (column_exact (column.Fld f) _ at.1))) in
       let ty : x.site.ty ≡ record { class = record { 0 = c }; dim = 0 } = sym x.type ∙ et in
       let y : CellInfo = record { site = record { 0 = s }; column = Some (record { 0 = col.0 }); row = record { 0 = r.0 } } in
       let owner : owner_of Q (column.Fld f) ≡ l.field.owner = ap (λ z. option_map_or (λ (k : PlainField). k.owner) z 0) k.1 ∙ ap (λ z. z.owner) k.2 in
       let place : FieldCell = record { column = col.0; row = r.0; owner = owner_of Q (column.Fld f) } in
-      let in_item : Contains (field_at (numbers P Q) Q col.0 (column.Fld f)) place = subst (λ z. Contains (field_if (numbers P Q) Q col.0 (owner_of Q (column.Fld f)) z) place) (sym r.1) (one place) in
-      let in_fields : Contains (fields_of (numbers P Q) Q (columns_of P Q)) place = each_has (λ c k. field_at (numbers P Q) Q c k.item) 0 (columns_of P Q) col.0 item.0 place item.1 col.0 (omega arith) (subst (λ z. Contains (field_at (numbers P Q) Q col.0 z) place) (sym item.2) in_item) in
-      let in_object : Contains (flat_map (cell_for P s c) (fields_of (numbers P Q) Q (columns_of P Q))) y = flat_has (cell_for P s c) (fields_of (numbers P Q) Q (columns_of P Q)) place y in_fields
+      let in_item : Contains (field_at (numbers P Q) Q col.0 (column.Fld f)) place = subst
+          (λ z. Contains (field_if (numbers P Q) Q col.0 (owner_of Q (column.Fld f)) z) place) (sym r.1) (one place) in
+      let in_fields : Contains (fields_of (numbers P Q) Q (columns_of P Q)) place = each_has (λ c k. field_at (numbers P Q) Q c k.item) 0
+          (columns_of P Q) col.0 item.0 place item.1 col.0 (omega arith) (subst (λ z. Contains (field_at (numbers P Q) Q col.0 z) place)
+          (sym item.2) in_item) in
+      let in_object : Contains (flat_map (cell_for P s c) (fields_of (numbers P Q) Q (columns_of P Q))) y = flat_has (cell_for P s c)
+          (fields_of (numbers P Q) Q (columns_of P Q)) place y in_fields
       (when_has (below P c (owner_of Q (column.Fld f))) _ y (ap (λ z. below P c z) owner ∙ l.above) (one y)) in
-      let in_site : Contains (site_cells P (fields_of (numbers P Q) Q (columns_of P Q)) s x.site) y = subst (λ z. Contains (if z.dim == 0 then flat_map (cell_for P s z.class.0) (fields_of (numbers P Q) Q (columns_of P Q)) else array_cell s x.site.row) y) (sym ty) in_object in
+      let in_site : Contains (site_cells P (fields_of (numbers P Q) Q (columns_of P Q)) s x.site) y = subst
+          (λ z. Contains (if z.dim == 0 then flat_map (cell_for P s z.class.0) (fields_of (numbers P Q) Q (columns_of P Q)) else array_cell s
+          x.site.row) y) (sym ty) in_object in
       let q = cell_there s x.site (Some col.0) y x.there in_site (both (s == s) (col.0 == col.0) (eq-eqb s s refl) (eq-eqb col.0 col.0 refl)) in
       (q.0, ap (λ z. option_and_then (λ c. cell_number P Q F s (Some c)) z) col.1 ∙ q.1)
     where
       both : (x y : Bool) → x ≡ true → y ≡ true → (x && y) ≡ true
       both x y e d = rw e d
 
-  pub element_has_cell : (n s c d : ℕ) → (numbers P Q).site n ≡ Some s → site_type F s ≡ record { class = record { 0 = c }; dim = d } → (d ≡ 0 → ⊥) → (q : ℕ) × (element_cell P Q F s ≡ Some q)
+  pub element_has_cell : (n s c d : ℕ) → (numbers P Q).site n ≡ Some s → site_type F s ≡ record { class = record { 0 = c }; dim = d } → (d ≡ 0 → ⊥)
+      → (q : ℕ) × (element_cell P Q F s ≡ Some q)
   unfolding numbers
   element_has_cell n s c d en et nd =
       let x = site_of n s en in
       let dim : x.site.ty.dim ≡ d = ap (λ z. z.dim) (sym x.type ∙ et) in
       let y : CellInfo = record { site = record { 0 = s }; column = None; row = record { 0 = x.site.row } } in
-      cell_there s x.site None y x.there (array _ _ (x.site.ty.dim == 0) refl (λ h. nd (sym dim ∙ eqb-true x.site.ty.dim 0 h)) y (one y)) (both (s == s) true (eq-eqb s s refl) refl)
+      cell_there s x.site None y x.there (array _ _ (x.site.ty.dim == 0) refl (λ h. nd (sym dim ∙ eqb-true x.site.ty.dim 0 h)) y (one y))
+          (both (s == s) true (eq-eqb s s refl) refl)
     where
       both : (x y : Bool) → x ≡ true → y ≡ true → (x && y) ≡ true
       both x y e d = rw e d

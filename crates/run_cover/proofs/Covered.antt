@@ -23,7 +23,8 @@ use Rattle.run_cover.proofs.Cells.{field_has_cell, element_has_cell}
 use Rattle.run_cover.proofs.Unique.{creation_type}
 use Rattle.run_cover.proofs.Escapes.{kinded_covers}
 
-module _ (Q : Plain) (F : Facts) (formed : IsFormed (untagged Q)) (typed : IsTyped (untagged Q)) (slots : HaveSlots (untagged Q)) (facts : IsFactsOf (untagged Q) Q F) where
+module _ (Q : Plain) (F : Facts) (formed : IsFormed (untagged Q)) (typed : IsTyped (untagged Q)) (slots : HaveSlots (untagged Q))
+    (facts : IsFactsOf (untagged Q) Q F) where
   abbrev P : Plain
   P = untagged Q
 
@@ -32,10 +33,13 @@ module _ (Q : Plain) (F : Facts) (formed : IsFormed (untagged Q)) (typed : IsTyp
   method_parts m k e p c = go k.body refl
     where
       go : (b : Option Sts) → k.body ≡ b → IsKindedPart P Q F m k p
-      go None h = absurd (let z : Contains (parts_body P (type_in P m k) m k None) p = subst (λ z. Contains (parts_body P (type_in P m k) m k z) p) h c in omega (arith, z.1))
+      go None h = absurd (let z : Contains (parts_body P (type_in P m k) m k None) p = subst (λ z. Contains (parts_body P (type_in P m k) m k z) p) h
+          c in omega (arith, z.1))
       go (Some xs) h =
-          body_kinds Q F formed slots m k e (subst (λ z. is_some z ≡ true) (sym h) refl) (λ q u o n s c ec es. creation_type Q F formed facts m k e q u o n s c ec es) xs h
-          (subst (λ g. TypedSts P g (bare_sts xs)) (same_env m k) (typed.methods m (untag_method k) (method_of Q formed m k e) (bare_sts xs) (ap (λ z. untag_body z) h)))
+          body_kinds Q F formed slots m k e (subst (λ z. is_some z ≡ true) (sym h) refl) (λ q u o n s c ec es. creation_type Q F formed facts m k e q
+              u o n s c ec es) xs h
+          (subst (λ g. TypedSts P g (bare_sts xs)) (same_env m k) (typed.methods m (untag_method k) (method_of Q formed m k e) (bare_sts xs)
+              (ap (λ z. untag_body z) h)))
           ((formed.methods m (untag_method k) (method_of Q formed m k e)).code (bare_sts xs) (ap (λ z. untag_body z) h)) p c
 
   all_kinded : IsKinded P Q F

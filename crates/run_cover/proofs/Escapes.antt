@@ -64,7 +64,8 @@ module _ (P Q : Plain) (F : Facts) (S : Sets) where
   typed_sub (ran m d b) s h = h
 
   value_seen : (p : Spot) (v : Value) (h : List Cell) → Of h v ((family P Q F S).spot p) → is_seen P Q F S (spot_set P Q F S p) v h ≡ true
-  value_seen p (Object a) h o = subst (λ z. option_map_or (λ c. spot_set P Q F S p c.site) z false ≡ true) (sym o.there) (passes_map (typed_sites P Q F S p) (sites_at P Q F S p) (site_in (numbers P Q) o.cell.site) (typed_sub p) o.member)
+  value_seen p (Object a) h o = subst (λ z. option_map_or (λ c. spot_set P Q F S p c.site) z false ≡ true) (sym o.there)
+      (passes_map (typed_sites P Q F S p) (sites_at P Q F S p) (site_in (numbers P Q) o.cell.site) (typed_sub p) o.member)
   value_seen p (Number n) h o = refl
   value_seen p (Truth b) h o = refl
   value_seen p (CodeUnit c) h o = refl
@@ -74,14 +75,18 @@ module _ (P Q : Plain) (F : Facts) (S : Sets) where
   both : (x y : Bool) → x ≡ true → y ≡ true → (x && y) ≡ true
   both x y e d = rw e d
 
-  all_seen : (b i : ℕ) (vs : List Value) (h : List Cell) → ((x y : ℕ) (v : Value) → y ≡ i + x → slice_get vs x ≡ Some v → Of h v ((family P Q F S).spot (bound b y))) → are_seen P Q F S b i vs h ≡ true
+  all_seen : (b i : ℕ) (vs : List Value) (h : List Cell) → ((x y : ℕ) (v : Value) → y ≡ i + x → slice_get vs x ≡ Some v
+      → Of h v ((family P Q F S).spot (bound b y))) → are_seen P Q F S b i vs h ≡ true
   all_seen b i [] h p = refl
-  all_seen b i (v ∷ vs) h p = both (is_seen P Q F S (spot_set P Q F S (bound b i)) v h) (are_seen P Q F S b (suc i) vs h) (value_seen (bound b i) v h (p 0 i v (omega arith) refl)) (all_seen b (suc i) vs h (λ x y w e d. p (suc x) y w (omega (arith, e)) d))
+  all_seen b i (v ∷ vs) h p = both (is_seen P Q F S (spot_set P Q F S (bound b i)) v h) (are_seen P Q F S b (suc i) vs h)
+      (value_seen (bound b i) v h (p 0 i v (omega arith) refl)) (all_seen b (suc i) vs h (λ x y w e d. p (suc x) y w (omega (arith, e)) d))
 
   watches : IsWatched (watched P Q F S) (family P Q F S)
-  watches = record { sees = value_seen; sees_all = λ b vs h p. all_seen b 0 vs h (λ x y v e d. subst (λ z. Of h v ((family P Q F S).spot (bound b z))) (let z : x ≡ y = omega (arith, e) in z) (p x v d)) }
+  watches = record { sees = value_seen; sees_all = λ b vs h p. all_seen b 0 vs h (λ x y v e d. subst (λ z. Of h v ((family P Q F S).spot (bound b z)))
+      (let z : x ≡ y = omega (arith, e) in z) (p x v d)) }
 
-  module _ (closed : (ps : List Fact) (f : Fact) → Inclusion F ps f → AllByRecursion (λ p. has S p ≡ true) ps → has S f ≡ true) (facts : IsFactsOf P Q F) (kinded : IsKinded P Q F) where
+  module _ (closed : (ps : List Fact) (f : Fact) → Inclusion F ps f → AllByRecursion (λ p. has S p ≡ true) ps → has S f ≡ true)
+      (facts : IsFactsOf P Q F) (kinded : IsKinded P Q F) where
     body_included : (c : ℕ) (b : Body) → labelled_body P Q F S c ≡ Some b → IsIncluded (watched P Q F S) (MadeAs P Q F S) (family P Q F S) b
     unfolding labelled_body
     body_included c b e =
@@ -111,4 +116,6 @@ stays_not e s d = subst (λ z. Stays z) d s
 
 pub kinded_covers : (P Q : Plain) (F : Facts) → IsFactsOf P Q F → IsKinded P Q F → CoversEachRun P Q F
 unfolding CoversEachRun IsClosed
-kinded_covers P Q F facts kinded = λ S closed words n. stays_not _ (run_stays (watched P Q F S) (MadeAs P Q F S) (family P Q F S) (all_included P Q F S closed facts kinded) (watches P Q F S) P.main (begins P Q F S P.main) words n)
+kinded_covers P Q F facts kinded =
+    λ S closed words n. stays_not _ (run_stays (watched P Q F S) (MadeAs P Q F S) (family P Q F S) (all_included P Q F S closed facts kinded)
+    (watches P Q F S) P.main (begins P Q F S P.main) words n)

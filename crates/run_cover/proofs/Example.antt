@@ -34,7 +34,8 @@ code : Sts
 code = st_then (declare bare_tag 1 (Some (create bare_tag 0 0 no_ex))) no_st
 
 main : PlainMethod
-main = record { owner = 1; name = codes "main"; is_static = true; is_public = true; slot = None; params = args ∷ []; locals = kept ∷ []; result = None; body = Some code; tag = bare_tag }
+main = record { owner = 1; name = codes "main"; is_static = true; is_public = true; slot = None; params = args ∷ []; locals = kept
+    ∷ []; result = None; body = Some code; tag = bare_tag }
 
 program : Plain
 program = record { classes = object ∷ main_class ∷ []; fields = []; methods = main ∷ []; slots = []; main = 0 }
@@ -47,11 +48,13 @@ all = record { point = λ p s. true; cell = λ c s. true }
 
 -- the local lacks the site
 escapes : (F : Facts) → (run_in (watched (untagged program) program F none) 0 [] 5).end ≡ Escaped
-unfolding run_in labelled_body operand_at numbers rows_of row_number columns_of column_number bodies_of sites_of site_number points_of point_number parts_of type_in object main_class args kept code main program none
+unfolding run_in labelled_body operand_at numbers rows_of row_number columns_of column_number bodies_of sites_of site_number points_of point_number
+    parts_of type_in object main_class args kept code main program none
 escapes F = refl
 
 ends : (F : Facts) → (run_in (watched (untagged program) program F all) 0 [] 5).end ≡ Ended
-unfolding run_in labelled_body operand_at numbers rows_of row_number columns_of column_number bodies_of sites_of site_number points_of point_number parts_of type_in object main_class args kept code main program all
+unfolding run_in labelled_body operand_at numbers rows_of row_number columns_of column_number bodies_of sites_of site_number points_of point_number
+    parts_of type_in object main_class args kept code main program all
 ends F = refl
 
 -- sets without sites let no object of a creation pass at any spot; a creation that is no flow point is itself alone
@@ -71,7 +74,8 @@ module _ (P Q : Plain) (F : Facts) where
   Flows (held m e) = ((operand_at P Q m e).created ≡ None) ⊎ ((p : ℕ) × (point_at (numbers P Q) (operand_at P Q m e) ≡ Some p))
   Flows q = Unit {0}
 
-  held_nowhere : (c q : Option ℕ) (o : Operand) (s : ℕ) → point_at (numbers P Q) o ≡ q → (c ≡ None) ⊎ ((p : ℕ) × (q ≡ Some p)) → held_in P Q F none c o s ≡ false
+  held_nowhere : (c q : Option ℕ) (o : Operand) (s : ℕ) → point_at (numbers P Q) o ≡ q → (c ≡ None) ⊎ ((p : ℕ) × (q ≡ Some p))
+      → held_in P Q F none c o s ≡ false
   held_nowhere None q o s e h = at_no_point (point_at (numbers P Q) o) s
   held_nowhere (Some n) q o s e h =
       ⊎_elim (λ d. absurd (cc)) (λ d. ap (λ z. or_itself P Q F none z ((numbers P Q).site n) s) (e ∙ d.1) ∙ at_no_point (Some d.0) s) h

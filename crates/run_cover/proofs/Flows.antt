@@ -53,7 +53,8 @@ when_is t u X s e h = subst (λ z. when_object z X s ≡ true) (sym e) h
 pub both_has : {A B C : Type 0} (x : Option A) (y : Option B) (f : A → B → C) (a : A) (b : B) → x ≡ Some a → y ≡ Some b → Contains (both x y f) (f a b)
 both_has x y f a b e d = subst (λ z. Contains (both z y f) (f a b)) (sym e) (subst (λ z. Contains (both (Some a) z f) (f a b)) (sym d) (one (f a b)))
 
-pub these_has : {A B C D : Type 0} (x : Option A) (y : Option B) (z : Option C) (f : A → B → C → D) (a : A) (b : B) (c : C) → x ≡ Some a → y ≡ Some b → z ≡ Some c → Contains (these x y z f) (f a b c)
+pub these_has : {A B C D : Type 0} (x : Option A) (y : Option B) (z : Option C) (f : A → B → C → D) (a : A) (b : B) (c : C) → x ≡ Some a → y ≡ Some b
+    → z ≡ Some c → Contains (these x y z f) (f a b c)
 these_has x y z f a b c e d g = subst (λ w. Contains (these w y z f) (f a b c)) (sym e) (both_has y z (f a) b c d g)
 
 then_some : {A B : Type 0} (f : A → Option B) (o : Option A) (b : B) → option_and_then f o ≡ Some b → (a : A) × (o ≡ Some a) × (f a ≡ Some b)
@@ -137,11 +138,14 @@ module _ (P Q : Plain) (F : Facts) (S : Sets) where
       go (Some n) d h = u n s d (site_is ((numbers P Q).site n) s h)
 
   -- what is no creation holds what it gives
-  pub plain_sites : (o : Operand) (s : ℕ) → o.created ≡ None → when_object o.ty (at_point P Q F S (point_at (numbers P Q) o)) s ≡ true → (looks_in o.created o s ≡ true) × (value_sites o s ≡ true)
+  pub plain_sites : (o : Operand) (s : ℕ) → o.created ≡ None → when_object o.ty (at_point P Q F S (point_at (numbers P Q) o)) s ≡ true
+      → (looks_in o.created o s ≡ true) × (value_sites o s ≡ true)
   plain_sites o s e h = (subst (λ z. looks_in z o s ≡ true) (sym e) h, subst (λ z. value_in z o s ≡ true) (sym e) h)
 
-  pub point_sites_of : (o : Operand) (s : ℕ) → o.created ≡ None → (p : IsPoint P Q F o) → S.point p.number s ≡ true → (looks_in o.created o s ≡ true) × (value_sites o s ≡ true)
-  point_sites_of o s e p h = plain_sites o s e (when_is o.ty p.type (at_point P Q F S (point_at (numbers P Q) o)) s p.typed (is_at (point_at (numbers P Q) o) p.number s p.point h))
+  pub point_sites_of : (o : Operand) (s : ℕ) → o.created ≡ None → (p : IsPoint P Q F o) → S.point p.number s ≡ true → (looks_in o.created o s ≡ true)
+      × (value_sites o s ≡ true)
+  point_sites_of o s e p h = plain_sites o s e (when_is o.ty p.type (at_point P Q F S (point_at (numbers P Q) o)) s p.typed
+      (is_at (point_at (numbers P Q) o) p.number s p.point h))
 
   cell_found : (s c : ℕ) (col : Option ℕ) → cell_number P Q F s col ≡ Some c → IsCell F c s (as_column col)
   cell_found s c col e =
@@ -150,8 +154,10 @@ module _ (P Q : Plain) (F : Facts) (S : Sets) where
       record { below = p.0; site_is = eqb-true (cell_at F c).site.0 s q.0; column_is = column_is (cell_at F c).column col q.1 }
 
   module _ (closed : (ps : List Fact) (f : Fact) → Inclusion F ps f → AllByRecursion (λ p. has S p ≡ true) ps → has S f ≡ true) (facts : IsFactsOf P Q F) where
-    given : {A : Type 0} (f : Body → Part → List A) (m : ℕ) (k : PlainMethod) (p : Part) (x : A) → slice_get Q.methods m ≡ Some k → Contains (parts_of P m k) p → Contains (f (body_of P m k) p) x → Contains (gathered P Q f) x
-    given f m k p x e c d = flat_has (λ b. flat_map (f b) b.parts) (bodies_of P Q) (body_of P m k) x (body_there P Q m k e) (flat_has (f (body_of P m k)) (parts_of P m k) p x c d)
+    given : {A : Type 0} (f : Body → Part → List A) (m : ℕ) (k : PlainMethod) (p : Part) (x : A) → slice_get Q.methods m ≡ Some k
+        → Contains (parts_of P m k) p → Contains (f (body_of P m k) p) x → Contains (gathered P Q f) x
+    given f m k p x e c d = flat_has (λ b. flat_map (f b) b.parts) (bodies_of P Q) (body_of P m k) x (body_there P Q m k e)
+        (flat_has (f (body_of P m k)) (parts_of P m k) p x c d)
 
     -- in a method that stands, with a part of it
     module _ (m : ℕ) (k : PlainMethod) (stands : slice_get Q.methods m ≡ Some k) where
@@ -171,23 +177,31 @@ module _ (P Q : Plain) (F : Facts) (S : Sets) where
       casts_given p c x d = (facts.casts x).1 (given (λ b. casts_of (numbers P Q)) m k p x stands c d)
 
       -- a creation's site goes where the facts say
-      new_goes : (p : Part) → Contains (parts_of P m k) p → (o : Operand) (t : Option ℕ) (n s q : ℕ) → ((x : NewInfo) → Contains (created (numbers P Q) o t) x → Contains (news_of (numbers P Q) m p) x) → o.created ≡ Some n → (numbers P Q).site n ≡ Some s → t ≡ Some q
+      new_goes : (p : Part) → Contains (parts_of P m k) p → (o : Operand) (t : Option ℕ) (n s q : ℕ)
+          → ((x : NewInfo) → Contains (created (numbers P Q) o t) x → Contains (news_of (numbers P Q) m p) x) → o.created ≡ Some n
+          → (numbers P Q).site n ≡ Some s → t ≡ Some q
           → S.point q s ≡ true
       new_goes p c o t n s q h e d g =
           closed [] (in_point q s) (by_new (record { point = q; site = record { 0 = s } }) (news_given p c (record { point = q; site = record { 0 = s } })
-          (h (record { point = q; site = record { 0 = s } }) (both_has t (site_in (numbers P Q) o.created) (λ p s. record { point = p; site = record { 0 = s } }) q s g (ap (λ z. site_in (numbers P Q) z) e ∙ d))))) tt
+          (h (record { point = q; site = record { 0 = s } }) (both_has t (site_in (numbers P Q) o.created)
+              (λ p s. record { point = p; site = record { 0 = s } }) q s g (ap (λ z. site_in (numbers P Q) z) e ∙ d))))) tt
 
-      pub flow_goes : (p : Part) → Contains (parts_of P m k) p → (o t : Option ℕ) (a q s : ℕ) → ((x : FlowInfo) → Contains (moved o t) x → Contains (flows_of (numbers P Q) m p) x) → o ≡ Some a → t ≡ Some q → S.point a s ≡ true → S.point q s ≡ true
+      pub flow_goes : (p : Part) → Contains (parts_of P m k) p → (o t : Option ℕ) (a q s : ℕ) → ((x : FlowInfo) → Contains (moved o t) x
+          → Contains (flows_of (numbers P Q) m p) x) → o ≡ Some a → t ≡ Some q → S.point a s ≡ true → S.point q s ≡ true
       flow_goes p c o t a q s h e d g =
-          closed (in_point a s ∷ []) (in_point q s) (by_flow (record { from = a; to = q }) s (flows_given p c (record { from = a; to = q }) (h (record { from = a; to = q }) (both_has o t (λ a b. record { from = a; to = b }) a q e d)))) (g, tt)
+          closed (in_point a s ∷ []) (in_point q s) (by_flow (record { from = a; to = q }) s (flows_given p c (record { from = a; to = q })
+              (h (record { from = a; to = q }) (both_has o t (λ a b. record { from = a; to = b }) a q e d)))) (g, tt)
 
       -- the value of an operand goes to a point
-      pub operand_goes : (p : Part) → Contains (parts_of P m k) p → (o : Operand) (t : Option ℕ) (q s : ℕ) → ((x : NewInfo) → Contains (created (numbers P Q) o t) x → Contains (news_of (numbers P Q) m p) x)
-          → ((x : FlowInfo) → Contains (moved (point_at (numbers P Q) o) t) x → Contains (flows_of (numbers P Q) m p) x) → t ≡ Some q → value_sites o s ≡ true → S.point q s ≡ true
+      pub operand_goes : (p : Part) → Contains (parts_of P m k) p → (o : Operand) (t : Option ℕ) (q s : ℕ)
+          → ((x : NewInfo) → Contains (created (numbers P Q) o t) x → Contains (news_of (numbers P Q) m p) x)
+          → ((x : FlowInfo) → Contains (moved (point_at (numbers P Q) o) t) x → Contains (flows_of (numbers P Q) m p) x) → t ≡ Some q
+              → value_sites o s ≡ true → S.point q s ≡ true
       operand_goes p c o t q s hn hf e v = go o.created refl v
         where
           go : (z : Option ℕ) → o.created ≡ z → value_in z o s ≡ true → S.point q s ≡ true
-          go None d h = let a = at_is (point_at (numbers P Q) o) s (when_some o.ty (at_point P Q F S (point_at (numbers P Q) o)) s h).1 in flow_goes p c (point_at (numbers P Q) o) t a.number q s hf a.there e a.holds
+          go None d h = let a = at_is (point_at (numbers P Q) o) s (when_some o.ty (at_point P Q F S (point_at (numbers P Q) o)) s h).1 in flow_goes p
+              c (point_at (numbers P Q) o) t a.number q s hf a.there e a.holds
           go (Some n) d h = new_goes p c o t n s q hn d (site_is ((numbers P Q).site n) s h) e
 
       -- a used creation
@@ -195,10 +209,12 @@ module _ (P Q : Plain) (F : Facts) (S : Sets) where
       unfolding IsBase
       creation_used p u o c kc base = record {
         used = λ n s e d. let q = base n s e d in
-            ((site_type F s, kc.typed n s e d), record { number = q.0; there = q.1; holds = new_goes (a_creation p u o) c o (point_at (numbers P Q) o) n s q.0 (λ x w. w) e d q.1 });
+            ((site_type F s, kc.typed n s e d), record { number = q.0; there = q.1; holds = new_goes (a_creation p u o) c o (point_at (numbers P Q) o)
+                n s q.0 (λ x w. w) e d q.1 });
       }
 
-      pub creation_looks : (p : Place) (u : Bool) (o : Operand) → Contains (parts_of P m k) (a_creation p u o) → (n s : ℕ) → o.created ≡ Some n → (numbers P Q).site n ≡ Some s → or_itself P Q F S (point_at (numbers P Q) o) ((numbers P Q).site n) s ≡ true
+      pub creation_looks : (p : Place) (u : Bool) (o : Operand) → Contains (parts_of P m k) (a_creation p u o) → (n s : ℕ) → o.created ≡ Some n
+          → (numbers P Q).site n ≡ Some s → or_itself P Q F S (point_at (numbers P Q) o) ((numbers P Q).site n) s ≡ true
       creation_looks p u o c n s e d = go (point_at (numbers P Q) o) refl
         where
           go : (z : Option ℕ) → point_at (numbers P Q) o ≡ z → or_itself P Q F S z ((numbers P Q).site n) s ≡ true
@@ -206,7 +222,9 @@ module _ (P Q : Plain) (F : Facts) (S : Sets) where
           go (Some q) g = new_goes (a_creation p u o) c o (point_at (numbers P Q) o) n s q (λ x w. w) e d g
 
       -- a read of a field: the base's object may have the site z
-      pub load_goes : (p : Place) (b : Operand) (f : ℕ) (o : Operand) → Contains (parts_of P m k) (a_load p b (Some f) o) → ((t : ObjectType) → field_object P f ≡ Some t → IsPoint P Q F o) → IsUsed b → o.created ≡ None → (z : Option ℕ) → passes (value_sites b) z ≡ true
+      pub load_goes : (p : Place) (b : Operand) (f : ℕ) (o : Operand) → Contains (parts_of P m k) (a_load p b (Some f) o)
+          → ((t : ObjectType) → field_object P f ≡ Some t → IsPoint P Q F o) → IsUsed b → o.created ≡ None → (z : Option ℕ)
+          → passes (value_sites b) z ≡ true
           → (i : ℕ) → field_sites f z i ≡ true → (looks_in o.created o i ≡ true) × (value_sites o i ≡ true)
       load_goes p b f o c kp u plain z v i h =
           let w = when_some (field_object P f) (at_cell P Q F S (option_and_then (field_cell P Q F f) z)) i h in
@@ -218,10 +236,14 @@ module _ (P Q : Plain) (F : Facts) (S : Sets) where
           let x : LoadInfo = record { base = base.number; column = Some (record { 0 = col.0 }); into = q.number } in
           point_sites_of o i plain q
           (closed (in_point base.number site.0 ∷ in_cell cell.0 i ∷ []) (in_point q.number i) (by_load x cell.0 site.0 i
-          (loads_given (a_load p b (Some f) o) c x (these_has (point_at (numbers P Q) b) ((numbers P Q).column (column.Fld f)) (point_at (numbers P Q) o) (λ a c q. record { base = a; column = Some (record { 0 = c }); into = q }) base.number col.0 q.number base.there col.1 q.point))
+          (loads_given (a_load p b (Some f) o) c x (these_has (point_at (numbers P Q) b) ((numbers P Q).column (column.Fld f))
+              (point_at (numbers P Q) o) (λ a c q. record { base = a; column = Some (record { 0 = c }); into = q }) base.number col.0 q.number
+              base.there col.1 q.point))
           (cell_found site.0 cell.0 (Some col.0) col.2)) (base.holds, (cell.2, tt)))
 
-      pub element_goes : (p : Place) (b o : Operand) → Contains (parts_of P m k) (an_element p b o) → ((t : ObjectType) → b.ty ≡ Some t → IsPoint P Q F o) → IsUsed b → o.created ≡ None → (z : Option ℕ) → passes (value_sites b) z ≡ true → (i : ℕ) → element_sites z i ≡ true
+      pub element_goes : (p : Place) (b o : Operand) → Contains (parts_of P m k) (an_element p b o)
+          → ((t : ObjectType) → b.ty ≡ Some t → IsPoint P Q F o) → IsUsed b → o.created ≡ None → (z : Option ℕ) → passes (value_sites b) z ≡ true
+          → (i : ℕ) → element_sites z i ≡ true
           → (looks_in o.created o i ≡ true) × (value_sites o i ≡ true)
       element_goes p b o c kp u plain z v i h =
           let cell = cell_is_at (option_and_then (element_cell P Q F) z) i h in
@@ -232,12 +254,16 @@ module _ (P Q : Plain) (F : Facts) (S : Sets) where
           let x : LoadInfo = record { base = base.number; column = None; into = q.number } in
           point_sites_of o i plain q
           (closed (in_point base.number site.0 ∷ in_cell cell.0 i ∷ []) (in_point q.number i) (by_load x cell.0 site.0 i
-          (loads_given (an_element p b o) c x (both_has (point_at (numbers P Q) b) (point_at (numbers P Q) o) (λ a q. record { base = a; column = None; into = q }) base.number q.number base.there q.point))
+          (loads_given (an_element p b o) c x (both_has (point_at (numbers P Q) b) (point_at (numbers P Q) o)
+              (λ a q. record { base = a; column = None; into = q }) base.number q.number base.there q.point))
           (cell_found site.0 cell.0 None site.2)) (base.holds, (cell.2, tt)))
 
       -- a store in a field of an object of the site s
-      pub store_goes : (p : Place) (b : Operand) (f : ℕ) (o : Operand) → Contains (parts_of P m k) (a_store p b (Some f) o) → ((t : ObjectType) → o.ty ≡ Some t → (u : ObjectType) × (field_object P f ≡ Some u)) → IsUsed b → IsUsed o → (s : ℕ) → value_sites b s ≡ true
-          → ((t : ObjectType) → field_object P f ≡ Some t → (n : ℕ) × (field_cell P Q F f s ≡ Some n)) → (i : ℕ) → value_sites o i ≡ true → field_sites f (Some s) i ≡ true
+      pub store_goes : (p : Place) (b : Operand) (f : ℕ) (o : Operand) → Contains (parts_of P m k) (a_store p b (Some f) o)
+          → ((t : ObjectType) → o.ty ≡ Some t → (u : ObjectType) × (field_object P f ≡ Some u)) → IsUsed b → IsUsed o → (s : ℕ)
+          → value_sites b s ≡ true
+          → ((t : ObjectType) → field_object P f ≡ Some t → (n : ℕ) × (field_cell P Q F f s ≡ Some n)) → (i : ℕ) → value_sites o i ≡ true
+              → field_sites f (Some s) i ≡ true
       store_goes p b f o c kp ub uo s v cells i h =
           let base = (used_at b s ub v).1 in
           let w = used_at o i uo h in
@@ -247,10 +273,14 @@ module _ (P Q : Plain) (F : Facts) (S : Sets) where
           let x : StoreInfo = record { base = base.number; column = Some (record { 0 = col.0 }); value = w.1.number; place = p } in
           when_is (field_object P f) t.0 (at_cell P Q F S (field_cell P Q F f s)) i t.1 (is_at_cell (field_cell P Q F f s) cell.0 i cell.1
           (closed (in_point base.number s ∷ in_point w.1.number i ∷ []) (in_cell cell.0 i) (by_store x cell.0 s i
-          (stores_given (a_store p b (Some f) o) c x (these_has (point_at (numbers P Q) b) ((numbers P Q).column (column.Fld f)) (point_at (numbers P Q) o) (λ a c q. record { base = a; column = Some (record { 0 = c }); value = q; place = p }) base.number col.0 w.1.number base.there col.1 w.1.there))
+          (stores_given (a_store p b (Some f) o) c x (these_has (point_at (numbers P Q) b) ((numbers P Q).column (column.Fld f))
+              (point_at (numbers P Q) o) (λ a c q. record { base = a; column = Some (record { 0 = c }); value = q; place = p }) base.number col.0
+              w.1.number base.there col.1 w.1.there))
           (cell_found s cell.0 (Some col.0) col.2) tt) (base.holds, (w.1.holds, tt))))
 
-      pub element_store_goes : (p : Place) (b o : Operand) → Contains (parts_of P m k) (an_element_store p b o) → IsUsed b → IsUsed o → (s : ℕ) → value_sites b s ≡ true → (n : ℕ) → element_cell P Q F s ≡ Some n → (i : ℕ) → IsBelow F (site_class F i) (site_class F s) → value_sites o i ≡ true
+      pub element_store_goes : (p : Place) (b o : Operand) → Contains (parts_of P m k) (an_element_store p b o) → IsUsed b → IsUsed o → (s : ℕ)
+          → value_sites b s ≡ true → (n : ℕ) → element_cell P Q F s ≡ Some n → (i : ℕ) → IsBelow F (site_class F i) (site_class F s)
+          → value_sites o i ≡ true
           → element_sites (Some s) i ≡ true
       element_store_goes p b o c ub uo s v n cell i below h =
           let base = (used_at b s ub v).1 in
@@ -258,11 +288,14 @@ module _ (P Q : Plain) (F : Facts) (S : Sets) where
           let x : StoreInfo = record { base = base.number; column = None; value = w.1.number; place = p } in
           is_at_cell (element_cell P Q F s) n i cell
           (closed (in_point base.number s ∷ in_point w.1.number i ∷ []) (in_cell n i) (by_store x n s i
-          (stores_given (an_element_store p b o) c x (both_has (point_at (numbers P Q) b) (point_at (numbers P Q) o) (λ a q. record { base = a; column = None; value = q; place = p }) base.number w.1.number base.there w.1.there))
+          (stores_given (an_element_store p b o) c x (both_has (point_at (numbers P Q) b) (point_at (numbers P Q) o)
+              (λ a q. record { base = a; column = None; value = q; place = p }) base.number w.1.number base.there w.1.there))
           (cell_found s n None cell) below) (base.holds, (w.1.holds, tt)))
 
       -- a cast that an object of the site s passes
-      pub cast_goes : (p : Place) (e o : Operand) → Contains (parts_of P m k) (a_test p e o) → HasPoint P Q F o → IsUsed e → o.created ≡ None → (s : ℕ) → value_sites e s ≡ true → (t : ObjectType) → o.ty ≡ Some t → IsBelow F (site_class F s) t.class.0 → (looks_in o.created o s ≡ true) × (value_sites o s ≡ true)
+      pub cast_goes : (p : Place) (e o : Operand) → Contains (parts_of P m k) (a_test p e o) → HasPoint P Q F o → IsUsed e → o.created ≡ None
+          → (s : ℕ) → value_sites e s ≡ true → (t : ObjectType) → o.ty ≡ Some t → IsBelow F (site_class F s) t.class.0
+          → (looks_in o.created o s ≡ true) × (value_sites o s ≡ true)
       unfolding HasPoint
       cast_goes p e o c kp u plain s v t et below =
           let base = (used_at e s u v).1 in
@@ -270,4 +303,5 @@ module _ (P Q : Plain) (F : Facts) (S : Sets) where
           let x : CastInfo = record { from = base.number; into = q.0; class = t.class } in
           point_sites_of o s plain (record { type = t; typed = et; number = q.0; point = q.1 })
           (closed (in_point base.number s ∷ []) (in_point q.0 s) (by_cast x s
-          (casts_given (a_test p e o) c x (these_has (point_at (numbers P Q) e) (point_at (numbers P Q) o) o.ty (λ a q t. record { from = a; into = q; class = t.class }) base.number q.0 t base.there q.1 et)) below) (base.holds, tt))
+          (casts_given (a_test p e o) c x (these_has (point_at (numbers P Q) e) (point_at (numbers P Q) o) o.ty
+              (λ a q t. record { from = a; into = q; class = t.class }) base.number q.0 t base.there q.1 et)) below) (base.holds, tt))

@@ -29,13 +29,16 @@ use Rattle.run_cover.proofs.Sites.{more}
 use Rattle.run_cover.proofs.Included.{get_map, map_some}
 
 -- one item for each
-pub each_get : {A B : Type 0} (f : ℕ → A → List B) (h : ℕ → A → B) → ((n : ℕ) (x : A) → f n x ≡ h n x ∷ []) → (n : ℕ) (xs : List A) (i : ℕ) (x : A) → slice_get xs i ≡ Some x → (j : ℕ) → j ≡ n + i → slice_get (each f n xs) i ≡ Some (h j x)
+pub each_get : {A B : Type 0} (f : ℕ → A → List B) (h : ℕ → A → B) → ((n : ℕ) (x : A) → f n x ≡ h n x ∷ []) → (n : ℕ) (xs : List A) (i : ℕ) (x : A)
+    → slice_get xs i ≡ Some x → (j : ℕ) → j ≡ n + i → slice_get (each f n xs) i ≡ Some (h j x)
 each_get f h s n [] i x e j d = absurd (cc)
 each_get f h s n (y ∷ ys) zero x e j d =
-    ap (λ z. slice_get (z ++ each f (n + 1) ys) zero) (s n y) ∙ ap (λ z. Some z) (subst (λ w. h n y ≡ h w x) (sym (let z : j ≡ n = omega (arith, d) in z)) (ap (λ w. h n w) (same_Some y x e)))
+    ap (λ z. slice_get (z ++ each f (n + 1) ys) zero) (s n y)
+        ∙ ap (λ z. Some z) (subst (λ w. h n y ≡ h w x) (sym (let z : j ≡ n = omega (arith, d) in z)) (ap (λ w. h n w) (same_Some y x e)))
 each_get f h s n (y ∷ ys) (suc i) x e j d = ap (λ z. slice_get (z ++ each f (n + 1) ys) (suc i)) (s n y) ∙ each_get f h s (n + 1) ys i x e j (omega (arith, d))
 
-each_length : {A B : Type 0} (f : ℕ → A → List B) (h : ℕ → A → B) → ((n : ℕ) (x : A) → f n x ≡ h n x ∷ []) → (n : ℕ) (xs : List A) → length (each f n xs) ≡ length xs
+each_length : {A B : Type 0} (f : ℕ → A → List B) (h : ℕ → A → B) → ((n : ℕ) (x : A) → f n x ≡ h n x ∷ []) → (n : ℕ) (xs : List A)
+    → length (each f n xs) ≡ length xs
 each_length f h s n [] = refl
 each_length f h s n (y ∷ ys) = ap (λ z. length (z ++ each f (n + 1) ys)) (s n y) ∙ ap suc (each_length f h s (n + 1) ys)
 
@@ -53,28 +56,34 @@ module _ (Q : Plain) (F : Facts) (facts : IsFactsOf (untagged Q) Q F) where
   abbrev facts_at : ℕ → PlainClass → ClassFacts
   facts_at c k = record { name = k.name; parent = k.parent; faces = k.faces; is_interface = k.is_interface; holder = is_holder Q c }
 
-  class_listed : (a : ℕ) (k : PlainClass) → slice_get Q.classes a ≡ Some k → (c : ClassInfo) × (slice_get F.classes.items a ≡ Some c) × (class_seen c ≡ facts_at a k)
-  class_listed a k e = map_some class_seen (slice_get F.classes.items a) (facts_at a k) (sym (get_map class_seen F.classes.items a) ∙ ap (λ z. slice_get z a) facts.classes ∙ each_get (class_facts Q) facts_at (λ n x. refl) 0 Q.classes a k e a (omega arith))
+  class_listed : (a : ℕ) (k : PlainClass) → slice_get Q.classes a ≡ Some k → (c : ClassInfo) × (slice_get F.classes.items a ≡ Some c)
+      × (class_seen c ≡ facts_at a k)
+  class_listed a k e = map_some class_seen (slice_get F.classes.items a) (facts_at a k) (sym (get_map class_seen F.classes.items a)
+      ∙ ap (λ z. slice_get z a) facts.classes ∙ each_get (class_facts Q) facts_at (λ n x. refl) 0 Q.classes a k e a (omega arith))
 
   of_class : (a : ℕ) (h : PlainClass) → slice_get P.classes a ≡ Some h → (k : PlainClass) × (slice_get Q.classes a ≡ Some k) × (untag_class k ≡ h)
   of_class a h e = map_some untag_class (slice_get Q.classes a) h (sym (get_map untag_class Q.classes a) ∙ e)
 
   pub same_length : length F.classes.items ≡ length P.classes
-  same_length = sym (length-map F.classes.items class_seen) ∙ ap (λ z. length z) facts.classes ∙ each_length (class_facts Q) facts_at (λ n x. refl) 0 Q.classes ∙ sym (length-map Q.classes untag_class)
+  same_length = sym (length-map F.classes.items class_seen) ∙ ap (λ z. length z) facts.classes
+      ∙ each_length (class_facts Q) facts_at (λ n x. refl) 0 Q.classes ∙ sym (length-map Q.classes untag_class)
 
   pub same_parent : (a : ℕ) → parent_of F a ≡ java.parent_of P a
   same_parent a = go (slice_get P.classes a) refl
     where
       go : (z : Option PlainClass) → slice_get P.classes a ≡ z → parent_of F a ≡ java.parent_of P a
-      go None e = ap (λ z. option_and_then (λ (k : ClassInfo). k.parent) z) (none_past P.classes F.classes.items a (sym same_length) e) ∙ ap (λ z. option_and_then (λ (k : PlainClass). k.parent) z) (sym e)
+      go None e = ap (λ z. option_and_then (λ (k : ClassInfo). k.parent) z) (none_past P.classes F.classes.items a (sym same_length) e)
+          ∙ ap (λ z. option_and_then (λ (k : PlainClass). k.parent) z) (sym e)
       go (Some h) e =
           let k = of_class a h e in let c = class_listed a k.0 k.1 in
-          ap (λ z. option_and_then (λ (k : ClassInfo). k.parent) z) c.1 ∙ ap (λ z. z.parent) c.2 ∙ ap (λ z. z.parent) k.2 ∙ ap (λ z. option_and_then (λ (k : PlainClass). k.parent) z) (sym e)
+          ap (λ z. option_and_then (λ (k : ClassInfo). k.parent) z) c.1 ∙ ap (λ z. z.parent) c.2 ∙ ap (λ z. z.parent) k.2
+              ∙ ap (λ z. option_and_then (λ (k : PlainClass). k.parent) z) (sym e)
 
   same_faces : (a : ℕ) (h : PlainClass) → slice_get P.classes a ≡ Some h → faces_of F a ≡ java.faces_of P a
   same_faces a h e =
       let k = of_class a h e in let c = class_listed a k.0 k.1 in
-      ap (λ z. option_map_or (λ (k : ClassInfo). k.faces.items) z []) c.1 ∙ ap (λ z. z.faces) c.2 ∙ ap (λ z. z.faces) k.2 ∙ ap (λ z. option_map_or (λ (k : PlainClass). k.faces) z []) (sym e)
+      ap (λ z. option_map_or (λ (k : ClassInfo). k.faces.items) z []) c.1 ∙ ap (λ z. z.faces) c.2 ∙ ap (λ z. z.faces) k.2
+          ∙ ap (λ z. option_map_or (λ (k : PlainClass). k.faces) z []) (sym e)
 
   below_of : {a b : ℕ} → IsSubclass P a b → IsBelow F a b
   below_of same_class = same_below
@@ -82,7 +91,8 @@ module _ (Q : Plain) (F : Facts) (facts : IsFactsOf (untagged Q) Q F) where
     where
       same_supers : supers_of F a ≡ java.supers_of P a
       same_supers =
-          let s = slice_get-get_or P.classes a (record { name = []; is_interface = false; is_abstract = false; parent = None; faces = []; tag = record { label = 0; place = record { at = 0; line = 0 } } }) (supers-within P a c d) in
+          let s = slice_get-get_or P.classes a (record { name = []; is_interface = false; is_abstract = false; parent = None; faces = []; tag = record
+              { label = 0; place = record { at = 0; line = 0 } } }) (supers-within P a c d) in
           ap (λ z. option_to_list z ++ faces_of F a) (same_parent a) ∙ ap (λ z. option_to_list (java.parent_of P a) ++ z) (same_faces a _ s)
 
   pub is_below : (c d : ℕ) → java.below P c d ≡ true → IsBelow F c d
@@ -93,11 +103,13 @@ pub nearest_some : (P : Plain) (f : ℕ → Option ℕ) (n c d : ℕ) → neares
 nearest_some P f zero c d e = (c, e)
 nearest_some P f (suc n) c d e = go (f c) refl (java.parent_of P c) (λ p h. nearest_some P f n p.0 d h) e
   where
-    up : (o : Option ClassId) → ((p : ClassId) → nearest P f n p.0 ≡ Some d → (b : ℕ) × (f b ≡ Some d)) → option_and_then (λ p. nearest P f n p.0) o ≡ Some d → (b : ℕ) × (f b ≡ Some d)
+    up : (o : Option ClassId) → ((p : ClassId) → nearest P f n p.0 ≡ Some d → (b : ℕ) × (f b ≡ Some d)) → option_and_then (λ p. nearest P f n p.0) o
+        ≡ Some d → (b : ℕ) × (f b ≡ Some d)
     up None r h = absurd (cc)
     up (Some p) r h = r p h
 
-    go : (z : Option ℕ) → f c ≡ z → (o : Option ClassId) → ((p : ClassId) → nearest P f n p.0 ≡ Some d → (b : ℕ) × (f b ≡ Some d)) → first_or z (option_and_then (λ p. nearest P f n p.0) o) ≡ Some d → (b : ℕ) × (f b ≡ Some d)
+    go : (z : Option ℕ) → f c ≡ z → (o : Option ClassId) → ((p : ClassId) → nearest P f n p.0 ≡ Some d → (b : ℕ) × (f b ≡ Some d))
+        → first_or z (option_and_then (λ p. nearest P f n p.0) o) ≡ Some d → (b : ℕ) × (f b ≡ Some d)
     go (Some y) ey o r h = (c, ey ∙ h)
     go None ey o r h = up o r h
 
@@ -110,7 +122,8 @@ put_from at x (z ∷ zs) y c = go (nat_lt (at z) (at x)) (λ d. put_from at x zs
     swap (zero, lt, e) = (0, omega arith, e)
     swap (suc k, lt, e) = (suc (suc k), omega (arith, lt), e)
 
-    go : (b : Bool) → (Contains (put_in at x zs) y → Contains (x ∷ zs) y) → Contains (if b then z ∷ put_in at x zs else x ∷ (z ∷ zs)) y → Contains (x ∷ (z ∷ zs)) y
+    go : (b : Bool) → (Contains (put_in at x zs) y → Contains (x ∷ zs) y) → Contains (if b then z ∷ put_in at x zs else x ∷ (z ∷ zs)) y
+        → Contains (x ∷ (z ∷ zs)) y
     go true r (zero, lt, e) = (1, omega arith, e)
     go true r (suc k, lt, e) = swap (r (k, omega (arith, lt), e))
     go false r d = d
@@ -127,16 +140,19 @@ pub once_from : {A K : Type 0} (eq : K → K → Bool) (key : A → K) (seen : L
 once_from eq key seen [] y c = c
 once_from eq key seen (x ∷ xs) y c = go (list_any (eq (key x)) seen) c (λ d. once_from eq key (insert_key eq seen (key x)) xs y d)
   where
-    go : (b : Bool) → Contains (if b then once_after eq key (insert_key eq seen (key x)) xs else x ∷ once_after eq key (insert_key eq seen (key x)) xs) y → (Contains (once_after eq key (insert_key eq seen (key x)) xs) y → Contains xs y) → Contains (x ∷ xs) y
+    go : (b : Bool) → Contains (if b then once_after eq key (insert_key eq seen (key x)) xs else x ∷ once_after eq key (insert_key eq seen (key x))
+        xs) y → (Contains (once_after eq key (insert_key eq seen (key x)) xs) y → Contains xs y) → Contains (x ∷ xs) y
     go true d r = more y x xs (r d)
     go false (zero, lt, e) r = (0, omega arith, e)
     go false (suc k, lt, e) r = more y x xs (r (k, omega (arith, lt), e))
 
-pub each_from : {A B : Type 0} (f : ℕ → A → List B) (n : ℕ) (xs : List A) (y : B) → Contains (each f n xs) y → (i : ℕ) × ((x : A) × (slice_get xs i ≡ Some x) × Contains (f (n + i) x) y)
+pub each_from : {A B : Type 0} (f : ℕ → A → List B) (n : ℕ) (xs : List A) (y : B) → Contains (each f n xs) y
+    → (i : ℕ) × ((x : A) × (slice_get xs i ≡ Some x) × Contains (f (n + i) x) y)
 each_from f n [] y c = absurd (omega (arith, c.1))
 each_from f n (x ∷ xs) y c = ⊎_elim
     (λ d. (0, (x, refl, subst (λ z. Contains (f z x) y) (let z : n ≡ n + 0 = omega arith in z) d)))
-    (λ d. let r = each_from f (n + 1) xs y d in (suc r.0, (r.1.0, r.1.1, subst (λ z. Contains (f z r.1.0) y) (let z : n + 1 + r.0 ≡ n + suc r.0 = omega arith in z) r.1.2)))
+    (λ d. let r = each_from f (n + 1) xs y d in
+        (suc r.0, (r.1.0, r.1.1, subst (λ z. Contains (f z r.1.0) y) (let z : n + 1 + r.0 ≡ n + suc r.0 = omega arith in z) r.1.2)))
     (Contains-append_cases (f n x) (each f (n + 1) xs) y c)
 
 pub flat_from : {A B : Type 0} (f : A → List B) (xs : List A) (y : B) → Contains (flat_map f xs) y → (x : A) × Contains (f x) y
@@ -162,7 +178,9 @@ form_apart (a_creation q u o) y m c e = array_apart q o.ty y m c e
 form_apart (a_test q b o) y m c e = mark_apart q o.ty y m c e
 form_apart _ y m c e = omega (arith, c.1)
 
-own_apart : (f : ℕ) (k : PlainMethod) (y : Column) (m : ℕ) → Contains (record { item = column.Dcl f; place = k.tag.place } ∷ when (is_some k.body) (record { item = column.Def f; place = k.tag.place } ∷ [])) y → y.item ≡ column.Def m → (f ≡ m) × (is_some k.body ≡ true)
+own_apart : (f : ℕ) (k : PlainMethod) (y : Column) (m : ℕ)
+    → Contains (record { item = column.Dcl f; place = k.tag.place } ∷ when (is_some k.body) (record { item = column.Def f; place = k.tag.place }
+    ∷ [])) y → y.item ≡ column.Def m → (f ≡ m) × (is_some k.body ≡ true)
 own_apart f k y m (zero, lt, d) e = absurd (let z = ap (λ w. w.item) d ∙ e in cc)
 own_apart f k y m (suc i, lt, d) e =
     let w = when_from (is_some k.body) (record { item = column.Def f; place = k.tag.place } ∷ []) y (i, omega (arith, lt), d) in
@@ -176,11 +194,13 @@ own_apart f k y m (suc i, lt, d) e =
     only_item (suc j, l, h) = absurd (omega (arith, l))
 
 module _ (P Q : Plain) where
-  method_apart : (f : ℕ) (k : PlainMethod) (y : Column) (m : ℕ) → Contains (method_columns P Q f k) y → y.item ≡ column.Def m → (f ≡ m) × (is_some k.body ≡ true)
+  method_apart : (f : ℕ) (k : PlainMethod) (y : Column) (m : ℕ) → Contains (method_columns P Q f k) y → y.item ≡ column.Def m
+      → (f ≡ m) × (is_some k.body ≡ true)
   method_apart f k y m c e = ⊎_elim
       (λ d. own_apart f k y m (when_from (not k.is_static) _ y d).1 e)
       (λ d. let z = flat_from form_columns (parts_of P f k) y d in absurd (form_apart z.0 y m z.1 e))
-      (Contains-append_cases (when (not k.is_static) (record { item = column.Dcl f; place = k.tag.place } ∷ when (is_some k.body) (record { item = column.Def f; place = k.tag.place } ∷ []))) (flat_map form_columns (parts_of P f k)) y c)
+      (Contains-append_cases (when (not k.is_static) (record { item = column.Dcl f; place = k.tag.place } ∷ when (is_some k.body)
+          (record { item = column.Def f; place = k.tag.place } ∷ []))) (flat_map form_columns (parts_of P f k)) y c)
 
   field_apart : (f : ℕ) (k : PlainField) (y : Column) (m : ℕ) → Contains (field_columns f k) y → y.item ≡ column.Def m → ⊥
   field_apart f k y m c e = go (when_from (not k.is_static) (record { item = column.Fld f; place = k.tag.place } ∷ []) y c).1
@@ -189,7 +209,8 @@ module _ (P Q : Plain) where
       go (zero, lt, d) = let z = ap (λ w. w.item) d ∙ e in cc
       go (suc i, lt, d) = omega (arith, lt)
 
-  pub body_listed : (y : Column) (m : ℕ) → Contains (columns_of P Q) y → y.item ≡ column.Def m → (k : PlainMethod) × (slice_get Q.methods m ≡ Some k) × (is_some k.body ≡ true)
+  pub body_listed : (y : Column) (m : ℕ) → Contains (columns_of P Q) y → y.item ≡ column.Def m → (k : PlainMethod) × (slice_get Q.methods m ≡ Some k)
+      × (is_some k.body ≡ true)
   unfolding columns_of
   body_listed y m c e = ⊎_elim
       (λ d. let r = each_from field_columns 0 Q.fields y d in absurd (field_apart (0 + r.0) r.1.0 y m r.1.2 e))

@@ -82,18 +82,21 @@ module _ (Q : Plain) (formed : IsFormed (untagged Q)) where
         method = k.0;
         there = k.1;
         of = of;
-        first = ap (λ z. option_map_or (λ s. is_first_in slot.first (slice_get P.slots s)) z true) of ∙ ap (λ z. is_first_in slot.first z) e ∙ eq-eqb slot.first slot.first refl;
+        first = ap (λ z. option_map_or (λ s. is_first_in slot.first (slice_get P.slots s)) z true) of ∙ ap (λ z. is_first_in slot.first z) e
+            ∙ eq-eqb slot.first slot.first refl;
         params = sym (untyped_params k.0.params) ∙ i.params ∙ ap (λ z. z.params) same;
         result = i.result ∙ ap (λ z. z.result) same;
       }
 
-  pub return_row : (s : ℕ) (slot : PlainSlot) (t : ObjectType) → slice_get P.slots s ≡ Some slot → object_if slot.result ≡ Some t → (r : ℕ) × (row_number P Q (row.Return s) ≡ Some r)
+  pub return_row : (s : ℕ) (slot : PlainSlot) (t : ObjectType) → slice_get P.slots s ≡ Some slot → object_if slot.result ≡ Some t
+      → (r : ℕ) × (row_number P Q (row.Return s) ≡ Some r)
   return_row s slot t e o =
       let f = first_of_slot s slot e in
       let r = result_row P Q slot.first f.method f.there f.first t (ap (λ z. object_if z) f.result ∙ o) in
       (r.0, subst (λ z. row_number P Q (result_in z slot.first) ≡ Some r.0) f.of r.1)
 
-  pub result_row_of : (m : ℕ) (k : PlainMethod) (t : ObjectType) → slice_get Q.methods m ≡ Some k → object_if k.result ≡ Some t → (r : ℕ) × (row_number P Q (result_in k.slot m) ≡ Some r)
+  pub result_row_of : (m : ℕ) (k : PlainMethod) (t : ObjectType) → slice_get Q.methods m ≡ Some k → object_if k.result ≡ Some t
+      → (r : ℕ) × (row_number P Q (result_in k.slot m) ≡ Some r)
   result_row_of m k t e o = go k.slot refl
     where
       go : (z : Option ℕ) → k.slot ≡ z → (r : ℕ) × (row_number P Q (result_in k.slot m) ≡ Some r)
@@ -103,13 +106,15 @@ module _ (Q : Plain) (formed : IsFormed (untagged Q)) where
           let r = return_row s i.slot t i.stands (ap (λ z. object_if z) (sym i.result) ∙ o) in
           (r.0, subst (λ z. row_number P Q (result_in z m) ≡ Some r.0) (sym h) r.1)
 
-  pub variable_row_of : (m : ℕ) (k : PlainMethod) (i : ℕ) (t : ObjectType) → slice_get Q.methods m ≡ Some k → variable_object k i ≡ Some t → (r : ℕ) × (row_number P Q (variable_row m k i) ≡ Some r)
+  pub variable_row_of : (m : ℕ) (k : PlainMethod) (i : ℕ) (t : ObjectType) → slice_get Q.methods m ≡ Some k → variable_object k i ≡ Some t
+      → (r : ℕ) × (row_number P Q (variable_row m k i) ≡ Some r)
   variable_row_of m k i t e o =
       let u = object_there (option_map (λ v. v.ty) (slice_get (k.params ++ k.locals) i)) t o in
       let v = map_some (λ (v : PlainLocal). v.ty) (slice_get (k.params ++ k.locals) i) u.0 u.1 in
       go v.0 v.1 (ap (λ z. object_of z) v.2 ∙ u.2) k.slot (nat_lt i (length k.params)) refl refl
     where
-      own : (v : PlainLocal) → slice_get (k.params ++ k.locals) i ≡ Some v → object_of v.ty ≡ Some t → (is_first P m k || not (nat_lt i (length k.params))) ≡ true → (r : ℕ) × (row_number P Q (variable_row m k i) ≡ Some r)
+      own : (v : PlainLocal) → slice_get (k.params ++ k.locals) i ≡ Some v → object_of v.ty ≡ Some t
+          → (is_first P m k || not (nat_lt i (length k.params))) ≡ true → (r : ℕ) × (row_number P Q (variable_row m k i) ≡ Some r)
       own v ev ov f = own_variable_row P Q m k e i v t ev ov f
 
       or_right : (a b : Bool) → b ≡ true → (a || b) ≡ true
@@ -120,36 +125,46 @@ module _ (Q : Plain) (formed : IsFormed (untagged Q)) where
       or_left true b h = refl
       or_left false b h = absurd (false≢true h)
 
-      go : (v : PlainLocal) → slice_get (k.params ++ k.locals) i ≡ Some v → object_of v.ty ≡ Some t → (z : Option ℕ) (b : Bool) → k.slot ≡ z → nat_lt i (length k.params) ≡ b → (r : ℕ) × (row_number P Q (variable_row m k i) ≡ Some r)
-      go v ev ov None b h l = own v ev ov (or_left (is_first P m k) (not (nat_lt i (length k.params))) (ap (λ z. option_map_or (λ s. is_first_in m (slice_get P.slots s)) z true) h))
+      go : (v : PlainLocal) → slice_get (k.params ++ k.locals) i ≡ Some v → object_of v.ty ≡ Some t → (z : Option ℕ) (b : Bool) → k.slot ≡ z
+          → nat_lt i (length k.params) ≡ b → (r : ℕ) × (row_number P Q (variable_row m k i) ≡ Some r)
+      go v ev ov None b h l = own v ev ov (or_left (is_first P m k) (not (nat_lt i (length k.params)))
+          (ap (λ z. option_map_or (λ s. is_first_in m (slice_get P.slots s)) z true) h))
       go v ev ov (Some s) false h l = own v ev ov (or_right (is_first P m k) (not (nat_lt i (length k.params))) (ap (λ z. not z) l))
       go v ev ov (Some s) true h l =
           let j = in_slot m k e s h in
           let f = first_of_slot s j.slot j.stands in
-          let here : slice_get (types_of k.params) i ≡ Some v.ty = get_map (λ v. v.ty) k.params i ∙ ap (λ z. option_map (λ v. v.ty) z) (sym (get_within k.params k.locals i (lt_of i (length k.params) l)) ∙ ev) in
+          let here : slice_get (types_of k.params) i ≡ Some v.ty = get_map (λ v. v.ty) k.params i
+              ∙ ap (λ z. option_map (λ v. v.ty) z) (sym (get_within k.params k.locals i (lt_of i (length k.params) l)) ∙ ev) in
           let there : slice_get (types_of f.method.params) i ≡ Some v.ty = ap (λ z. slice_get z i) (f.params ∙ sym j.params ∙ untyped_params k.params) ∙ here in
           let w = map_some (λ (v : PlainLocal). v.ty) (slice_get f.method.params i) v.ty (sym (get_map (λ v. v.ty) f.method.params i) ∙ there) in
-          let r = own_variable_row P Q j.slot.first f.method f.there i w.0 t (get_left f.method.params f.method.locals i w.0 w.1) (ap (λ z. object_of z) w.2 ∙ ov)
+          let r = own_variable_row P Q j.slot.first f.method f.there i w.0 t (get_left f.method.params f.method.locals i w.0 w.1)
+              (ap (λ z. object_of z) w.2 ∙ ov)
           (or_left (is_first P j.slot.first f.method) (not (nat_lt i (length f.method.params))) f.first) in
           let within = of_lt i (length f.method.params) (slice_get_within f.method.params i w.0 w.1) in (
             r.0,
-            subst (λ z. row_number P Q (variable_in z (nat_lt i (length k.params)) m i) ≡ Some r.0) (sym h) (subst (λ z. row_number P Q (variable_in (Some s) z m i) ≡ Some r.0) (sym l)
-                (subst (λ z. row_number P Q (variable_in (Some s) z j.slot.first i) ≡ Some r.0) within (subst (λ z. row_number P Q (variable_in z (nat_lt i (length f.method.params)) j.slot.first i) ≡ Some r.0) f.of r.1))),
+            subst (λ z. row_number P Q (variable_in z (nat_lt i (length k.params)) m i) ≡ Some r.0) (sym h)
+                (subst (λ z. row_number P Q (variable_in (Some s) z m i) ≡ Some r.0) (sym l)
+                (subst (λ z. row_number P Q (variable_in (Some s) z j.slot.first i) ≡ Some r.0) within
+                    (subst (λ z. row_number P Q (variable_in z (nat_lt i (length f.method.params)) j.slot.first i) ≡ Some r.0) f.of r.1))),
           )
 
   -- points of a body
-  pub variable_point_of : (m : ℕ) (k : PlainMethod) → slice_get Q.methods m ≡ Some k → is_some k.body ≡ true → (i : ℕ) (t : ObjectType) → variable_object k i ≡ Some t → (q : ℕ) × (point_number P Q (point.Local m i) ≡ Some q)
+  pub variable_point_of : (m : ℕ) (k : PlainMethod) → slice_get Q.methods m ≡ Some k → is_some k.body ≡ true → (i : ℕ) (t : ObjectType)
+      → variable_object k i ≡ Some t → (q : ℕ) × (point_number P Q (point.Local m i) ≡ Some q)
   variable_point_of m k e b i t o =
       let u = object_there (option_map (λ v. v.ty) (slice_get (k.params ++ k.locals) i)) t o in
       let v = map_some (λ (v : PlainLocal). v.ty) (slice_get (k.params ++ k.locals) i) u.0 u.1 in
       let r = variable_row_of m k i t e o in
       variable_point P Q m k e b i v.0 v.1 r.0 r.1
 
-  pub result_point_of : (m : ℕ) (k : PlainMethod) → slice_get Q.methods m ≡ Some k → is_some k.body ≡ true → (t : ObjectType) → object_if k.result ≡ Some t → (q : ℕ) × (point_number P Q (point.Result m) ≡ Some q)
+  pub result_point_of : (m : ℕ) (k : PlainMethod) → slice_get Q.methods m ≡ Some k → is_some k.body ≡ true → (t : ObjectType)
+      → object_if k.result ≡ Some t → (q : ℕ) × (point_number P Q (point.Result m) ≡ Some q)
   result_point_of m k e b t o = let r = result_row_of m k t e o in result_point P Q m k e b r.0 r.1
 
-  pub this_point_of : (m : ℕ) (k : PlainMethod) → slice_get Q.methods m ≡ Some k → is_some k.body ≡ true → k.is_static ≡ false → (q : ℕ) × (point_number P Q (point.This m) ≡ Some q)
+  pub this_point_of : (m : ℕ) (k : PlainMethod) → slice_get Q.methods m ≡ Some k → is_some k.body ≡ true → k.is_static ≡ false
+      → (q : ℕ) × (point_number P Q (point.This m) ≡ Some q)
   this_point_of m k e b s = let r = this_row P Q m k e b s in this_point P Q m k e b s r.0 r.1
 
-  pub static_point_of : (f : ℕ) (h : PlainField) (t : ObjectType) → slice_get P.fields f ≡ Some h → h.is_static ≡ true → field_object P f ≡ Some t → (q : ℕ) × (point_number P Q (point.Static f) ≡ Some q)
+  pub static_point_of : (f : ℕ) (h : PlainField) (t : ObjectType) → slice_get P.fields f ≡ Some h → h.is_static ≡ true → field_object P f ≡ Some t
+      → (q : ℕ) × (point_number P Q (point.Static f) ≡ Some q)
   static_point_of f h t e s o = let r = field_row_of f t o in let k = of_field f h e in static_point P Q f k.0 k.1 (ap (λ z. z.is_static) k.2 ∙ s) r.0 r.1

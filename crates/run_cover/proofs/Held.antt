@@ -135,7 +135,8 @@ args_convert h (t ∷ ts) (v ∷ vs) ws X e p = go (arguments ts vs) e (λ us d.
     go (Some us) e q = subst (λ z. ArgsIn h z X) (same_Some (convert t v ∷ us) ws e) (of_convert h t v (X 0) p.0, q us refl)
 
 -- and are then in the locals, before those that begin plain
-pub args_locals : (h : List Cell) (ws rest : List Value) (X : ℕ → Set) → ArgsIn h ws X → ArePlain rest → (x : ℕ) (v : Value) → slice_get (ws ++ rest) x ≡ Some v → Of h v (X x)
+pub args_locals : (h : List Cell) (ws rest : List Value) (X : ℕ → Set) → ArgsIn h ws X → ArePlain rest → (x : ℕ) (v : Value)
+    → slice_get (ws ++ rest) x ≡ Some v → Of h v (X x)
 args_locals h [] rest X p free x v e = plain_of h v (X x) (λ a d. free x a (e ∙ ap (λ z. Some z) d))
 args_locals h (w ∷ ws) rest X p free zero v e = subst (λ z. Of h z (X 0)) (same_Some w v e) p.0
 args_locals h (w ∷ ws) rest X p free (suc x) v e = args_locals h ws rest (λ y. X (suc y)) p.1 free x v e
@@ -182,7 +183,8 @@ step_of_fine (suc n) s k h = h n
 pub step_fine : (s : State) (k : State → Outcome) → ((m : ℕ) → Fine (k (record s { left = m }))) → Fine (step s k)
 step_fine s k h = step_of_fine s.left s k h
 
-pub cell_fine : (v : Value) (X : Set) (s : State) (k : ℕ → Cell → Outcome) → Of s.cells v X → ((a : ℕ) (c : Cell) → slice_get s.cells a ≡ Some c → X c.site ≡ true → Fine (k a c)) → Fine (with_cell v s k)
+pub cell_fine : (v : Value) (X : Set) (s : State) (k : ℕ → Cell → Outcome) → Of s.cells v X → ((a : ℕ) (c : Cell) → slice_get s.cells a ≡ Some c
+    → X c.site ≡ true → Fine (k a c)) → Fine (with_cell v s k)
 cell_fine Nothing X s k q h = fine_stop (Faulted fault.Null) s tt
 cell_fine (Object a) X s k q h = some_fine (slice_get s.cells a) s (λ c. k a c) (λ c e. h a c e (member_of s.cells a c X q e))
 cell_fine (Number n) X s k q h = fine_stop Wrong s tt

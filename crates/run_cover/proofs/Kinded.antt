@@ -55,7 +55,8 @@ module _ (P Q : Plain) (F : Facts) where
 
   -- what a call gives and takes has the types of the method's parameters and result
   pub record IsKindedCall (k : PlainMethod) (es : List Operand) (o : Operand) : Type 0 where
-    pub args : (i : ℕ) (a : Operand) (t : ObjectType) → slice_get es i ≡ Some a → a.ty ≡ Some t → (u : ObjectType) × (variable_object k i ≡ Some u) × (i < length k.params)
+    pub args : (i : ℕ) (a : Operand) (t : ObjectType) → slice_get es i ≡ Some a → a.ty ≡ Some t → (u : ObjectType) × (variable_object k i ≡ Some u)
+        × (i < length k.params)
     pub result : (t : ObjectType) → object_if k.result ≡ Some t → IsPoint o
 
   pub record IsKindedReturn (m : ℕ) (k : PlainMethod) : Type 0 where
@@ -73,7 +74,8 @@ module _ (P Q : Plain) (F : Facts) where
   IsKindedPart m k (a_call p b (Some j) d es o) = (c : ℕ) (h : PlainMethod) → slice_get Q.methods c ≡ Some h → h.slot ≡ Some j → IsKindedCall h es o
   IsKindedPart m k (a_static_call p c es o) = (h : PlainMethod) → slice_get Q.methods c ≡ Some h → IsKindedCall h es o
   IsKindedPart m k (a_super_call p None es o) = Unit {0}
-  IsKindedPart m k (a_super_call p (Some c) es o) = (h : PlainMethod) → slice_get Q.methods c ≡ Some h → is_some h.body ≡ true → IsKindedCall h es o × ((q : ℕ) × ((numbers P Q).point (point.This c) ≡ Some q))
+  IsKindedPart m k (a_super_call p (Some c) es o) = (h : PlainMethod) → slice_get Q.methods c ≡ Some h → is_some h.body ≡ true → IsKindedCall h es o
+      × ((q : ℕ) × ((numbers P Q).point (point.This c) ≡ Some q))
   IsKindedPart m k (a_test p e o) = HasPoint o
   IsKindedPart m k (a_pair c l r) = Unit {0}
   IsKindedPart m k (a_set v o) = (t : ObjectType) → o.ty ≡ Some t → IsPoint v
@@ -99,10 +101,13 @@ module _ (P Q : Plain) (F : Facts) where
   pub record IsKinded : Type 0 where
     pub parts : (m : ℕ) (k : PlainMethod) → slice_get Q.methods m ≡ Some k → (p : Part) → Contains (parts_of P m k) p → IsKindedPart m k p
     -- the points of variables and of `this`
-    pub variables : (m : ℕ) (k : PlainMethod) → slice_get Q.methods m ≡ Some k → is_some k.body ≡ true → (i : ℕ) (t : ObjectType) → variable_object k i ≡ Some t → (q : ℕ) × ((numbers P Q).point (point.Local m i) ≡ Some q)
+    pub variables : (m : ℕ) (k : PlainMethod) → slice_get Q.methods m ≡ Some k → is_some k.body ≡ true → (i : ℕ) (t : ObjectType)
+        → variable_object k i ≡ Some t → (q : ℕ) × ((numbers P Q).point (point.Local m i) ≡ Some q)
     -- the cells of fields and elements
-    pub fields : (f n s c i : ℕ) (t : ObjectType) → (numbers P Q).site n ≡ Some s → site_type F s ≡ record { class = record { 0 = c }; dim = 0 } → index_of P c f ≡ Some i → field_object P f ≡ Some t → (n : ℕ) × (field_cell P Q F f s ≡ Some n)
-    pub elements : (n s c d : ℕ) → (numbers P Q).site n ≡ Some s → site_type F s ≡ record { class = record { 0 = c }; dim = d } → (d ≡ 0 → ⊥) → (n : ℕ) × (element_cell P Q F s ≡ Some n)
+    pub fields : (f n s c i : ℕ) (t : ObjectType) → (numbers P Q).site n ≡ Some s → site_type F s ≡ record { class = record { 0 = c }; dim = 0 }
+        → index_of P c f ≡ Some i → field_object P f ≡ Some t → (n : ℕ) × (field_cell P Q F f s ≡ Some n)
+    pub elements : (n s c d : ℕ) → (numbers P Q).site n ≡ Some s → site_type F s ≡ record { class = record { 0 = c }; dim = d } → (d ≡ 0 → ⊥)
+        → (n : ℕ) × (element_cell P Q F s ≡ Some n)
     -- the classes and bodies
     pub below : (c d : ℕ) → below P c d ≡ true → IsBelow F c d
     pub bodies : (c j m : ℕ) (k : PlainMethod) → lookup P c j ≡ Some m → slice_get Q.methods m ≡ Some k → is_some k.body ≡ true → FindsBody c j m k

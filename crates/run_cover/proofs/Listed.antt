@@ -53,9 +53,11 @@ or_right true b e = refl
 or_right false b e = e
 
 any_end : {A : Type 0} (f : A → Bool) (xs : List A) (y : A) → list_any f (xs ++ y ∷ []) ≡ true → (list_any f xs ≡ true) ⊎ (f y ≡ true)
-any_end f xs y e = ⊎_elim (λ h. inl h) (λ h. ⊎_elim (λ g. inr g) (λ g. absurd (false≢true g)) (or_cases (f y) false h)) (or_cases (list_any f xs) (list_any f (y ∷ [])) (sym (list_any-append f xs (y ∷ [])) ∙ e))
+any_end f xs y e = ⊎_elim (λ h. inl h) (λ h. ⊎_elim (λ g. inr g) (λ g. absurd (false≢true g)) (or_cases (f y) false h))
+    (or_cases (list_any f xs) (list_any f (y ∷ [])) (sym (list_any-append f xs (y ∷ [])) ∙ e))
 
-insert_any : {K : Type 0} (eq : K → K → Bool) (ks : List K) (k q : K) → list_any (eq q) (insert_key eq ks k) ≡ true → (list_any (eq q) ks ≡ true) ⊎ (eq q k ≡ true)
+insert_any : {K : Type 0} (eq : K → K → Bool) (ks : List K) (k q : K) → list_any (eq q) (insert_key eq ks k) ≡ true → (list_any (eq q) ks ≡ true)
+    ⊎ (eq q k ≡ true)
 insert_any eq ks k q e = go (list_any (eq k) ks) e
   where
     go : (b : Bool) → list_any (eq q) (if b then ks else ks ++ k ∷ []) ≡ true → (list_any (eq q) ks ≡ true) ⊎ (eq q k ≡ true)
@@ -75,7 +77,8 @@ module _ {A K : Type 0} (eq : K → K → Bool) (exact : (x y : K) → eq x y �
       go true h = inl (subst (λ z. list_any (eq z) seen ≡ true) e h)
       go false h = inr (y, first y rest, e)
 
-  kept_tail : (seen : List K) (y : A) (rest : List A) (x : A) → Kept (insert_key eq seen (key y)) rest x → Kept seen (if list_any (eq (key y)) seen then rest else y ∷ rest) x
+  kept_tail : (seen : List K) (y : A) (rest : List A) (x : A) → Kept (insert_key eq seen (key y)) rest x
+      → Kept seen (if list_any (eq (key y)) seen then rest else y ∷ rest) x
   unfolding Kept
   kept_tail seen y rest x k = ⊎_elim
       (λ h. ⊎_elim (λ g. inl g) (λ g. kept_head seen y rest x (sym (exact (key x) (key y) g))) (insert_any eq seen (key y) (key x) h))
@@ -88,7 +91,8 @@ module _ {A K : Type 0} (eq : K → K → Bool) (exact : (x y : K) → eq x y �
   once_kept : (seen : List K) (xs : List A) (x : A) → Contains xs x → Kept seen (once_after eq key seen xs) x
   once_kept seen [] x c = absurd (omega (arith, c.1))
   once_kept seen (y ∷ ys) x (zero, lt, d) = kept_head seen y (once_after eq key (insert_key eq seen (key y)) ys) x (ap key d)
-  once_kept seen (y ∷ ys) x (suc k, lt, d) = kept_tail seen y (once_after eq key (insert_key eq seen (key y)) ys) x (once_kept (insert_key eq seen (key y)) ys x (k, omega (arith, lt), d))
+  once_kept seen (y ∷ ys) x (suc k, lt, d) = kept_tail seen y (once_after eq key (insert_key eq seen (key y)) ys) x
+      (once_kept (insert_key eq seen (key y)) ys x (k, omega (arith, lt), d))
 
   pub once_has : (xs : List A) (x : A) → Contains xs x → (z : A) × Contains (once eq key xs) z × (key z ≡ key x)
   unfolding Kept
@@ -98,7 +102,8 @@ module _ {A K : Type 0} (eq : K → K → Bool) (exact : (x y : K) → eq x y �
   pub number_there : (xs : List A) (x : A) → Contains xs x → (i : ℕ) × (position (eq (key x)) (map key (once eq key xs)) ≡ Some i)
   number_there xs x c =
       let z = once_has xs x c in
-      position_there (eq (key x)) (map key (once eq key xs)) (key z.0) (map_has key (once eq key xs) z.0 z.1) (subst (λ w. eq (key x) w ≡ true) (sym z.2) (alike (key x)))
+      position_there (eq (key x)) (map key (once eq key xs)) (key z.0) (map_has key (once eq key xs) z.0 z.1)
+          (subst (λ w. eq (key x) w ≡ true) (sym z.2) (alike (key x)))
 
 pub when_has : {A : Type 0} (b : Bool) (xs : List A) (x : A) → b ≡ true → Contains xs x → Contains (when b xs) x
 when_has true xs x e c = c

@@ -34,9 +34,11 @@ choose : {A : Type 0} (x y : List A) (a : A) (b : Bool) → Contains x a → Con
 choose x y a true c d = c
 choose x y a false c d = d
 
-pub each_has : {A B : Type 0} (f : ℕ → A → List B) (n : ℕ) (xs : List A) (i : ℕ) (x : A) (y : B) → slice_get xs i ≡ Some x → (j : ℕ) → j ≡ n + i → Contains (f j x) y → Contains (each f n xs) y
+pub each_has : {A B : Type 0} (f : ℕ → A → List B) (n : ℕ) (xs : List A) (i : ℕ) (x : A) (y : B) → slice_get xs i ≡ Some x → (j : ℕ) → j ≡ n + i
+    → Contains (f j x) y → Contains (each f n xs) y
 each_has f n [] i x y e j d c = absurd (cc)
-each_has f n (z ∷ zs) zero x y e j d c = Contains-append_left (f n z) (each f (n + 1) zs) y (subst (λ w. Contains (f n w) y) (sym (same_Some z x e)) (subst (λ w. Contains (f w x) y) (omega (arith, d)) c))
+each_has f n (z ∷ zs) zero x y e j d c = Contains-append_left (f n z) (each f (n + 1) zs) y (subst (λ w. Contains (f n w) y) (sym (same_Some z x e))
+    (subst (λ w. Contains (f w x) y) (omega (arith, d)) c))
 each_has f n (z ∷ zs) (suc i) x y e j d c = Contains-append_right (f n z) (each f (n + 1) zs) y (each_has f (n + 1) zs i x y e j (omega (arith, d)) c)
 
 put_here : {A : Type 0} (at : A → ℕ) (x : A) (xs : List A) → Contains (put_in at x xs) x
@@ -47,7 +49,8 @@ put_rest : {A : Type 0} (at : A → ℕ) (x : A) (xs : List A) (y : A) → Conta
 put_rest at x [] y c = absurd (omega (arith, c.1))
 put_rest at x (z ∷ zs) y (zero, lt, e) = choose _ _ _ (nat_lt (at z) (at x)) (0, omega arith, e) (more y x (z ∷ zs) (0, omega arith, e))
 put_rest at x (z ∷ zs) y (suc k, lt, e) =
-    let c : Contains zs y = (k, omega (arith, lt), e) in choose _ _ _ (nat_lt (at z) (at x)) (more y z (put_in at x zs) (put_rest at x zs y c)) (more y x (z ∷ zs) (more y z zs c))
+    let c : Contains zs y = (k, omega (arith, lt), e) in choose _ _ _ (nat_lt (at z) (at x)) (more y z (put_in at x zs) (put_rest at x zs y c))
+        (more y x (z ∷ zs) (more y z zs c))
 
 pub place_has : {A : Type 0} (at : A → ℕ) (xs : List A) (y : A) → Contains xs y → Contains (by_place at xs) y
 place_has at [] y c = c
@@ -55,7 +58,9 @@ place_has at (x ∷ xs) y (zero, lt, e) = subst (λ z. Contains (put_in at x (by
 place_has at (x ∷ xs) y (suc k, lt, e) = put_rest at x (by_place at xs) y (place_has at xs y (k, omega (arith, lt), e))
 
 -- what an item of one of two lists gives, numbered on
-pub two_have : {A B : Type 0} (f : ℕ → A → List B) (n l : ℕ) (xs ys : List A) (i : ℕ) (x : A) (y : B) → slice_get (xs ++ ys) i ≡ Some x → l ≡ n + length xs → (j : ℕ) → j ≡ n + i → Contains (f j x) y → Contains (each f n xs) y ⊎ Contains (each f l ys) y
+pub two_have : {A B : Type 0} (f : ℕ → A → List B) (n l : ℕ) (xs ys : List A) (i : ℕ) (x : A) (y : B) → slice_get (xs ++ ys) i ≡ Some x
+    → l ≡ n + length xs → (j : ℕ) → j ≡ n + i → Contains (f j x) y → Contains (each f n xs) y ⊎ Contains (each f l ys) y
 two_have f n l [] ys i x y e h j d c = inr (each_has f l ys i x y e j (omega (arith, h, d)) c)
 two_have f n l (z ∷ zs) ys zero x y e h j d c = inl (each_has f n (z ∷ zs) zero x y e j d c)
-two_have f n l (z ∷ zs) ys (suc i) x y e h j d c = ⊎_elim (λ w. inl (Contains-append_right (f n z) (each f (n + 1) zs) y w)) (λ w. inr w) (two_have f (n + 1) l zs ys i x y e (omega (arith, h)) j (omega (arith, d)) c)
+two_have f n l (z ∷ zs) ys (suc i) x y e h j d c = ⊎_elim (λ w. inl (Contains-append_right (f n z) (each f (n + 1) zs) y w)) (λ w. inr w)
+    (two_have f (n + 1) l zs ys i x y e (omega (arith, h)) j (omega (arith, d)) c)

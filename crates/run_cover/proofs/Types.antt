@@ -64,12 +64,14 @@ module _ (P : Plain) where
   pub fits_object : (s : Static) (u : Ty) (t : ObjectType) → fits P s u ≡ true → object_static s ≡ Some t → (r : ObjectType) × (object_of u ≡ Some r)
   fits_object (a_value a) u t e o = ⊎_elim
       (λ h. base_object a.base u.base a.dim u.dim t (both_hold (a.dim == u.dim) (is_sub_base P a.base u.base) h).1 o)
-      (λ h. absurd (char_none a.base a.dim t (both_hold (is_base a.base Char) (a.dim == 0) (both_hold (is_only Char (a_value a)) (is_only Int (a_value u)) h).0).0 o))
+      (λ h. absurd (char_none a.base a.dim t (both_hold (is_base a.base Char) (a.dim == 0)
+          (both_hold (is_only Char (a_value a)) (is_only Int (a_value u)) h).0).0 o))
       (or_cases (is_subtype P a u) (is_only Char (a_value a) && is_only Int (a_value u)) e)
   fits_object null_value u t e o = absurd (cc)
   fits_object no_value u t e o = absurd (cc)
 
-element_object : (b : TyBase) (d : ℕ) (t : ObjectType) → object_in b d ≡ Some t → is_some (element_in b d) ≡ true → (r : ObjectType) × (object_static (or_nothing (element_in b d)) ≡ Some r)
+element_object : (b : TyBase) (d : ℕ) (t : ObjectType) → object_in b d ≡ Some t → is_some (element_in b d) ≡ true → (r : ObjectType)
+    × (object_static (or_nothing (element_in b d)) ≡ Some r)
 element_object (Class c) (suc d) t o e = (record { class = c; dim = d }, refl)
 element_object b zero t o e = absurd (false≢true e)
 element_object Int (suc d) t o e = absurd (cc)
@@ -77,7 +79,8 @@ element_object Boolean (suc d) t o e = absurd (cc)
 element_object Char (suc d) t o e = absurd (cc)
 element_object Str (suc d) t o e = absurd (cc)
 
-pub element_typed : (s : Static) (t : ObjectType) → object_static s ≡ Some t → is_some (element_of s) ≡ true → (r : ObjectType) × (object_static (or_nothing (element_of s)) ≡ Some r)
+pub element_typed : (s : Static) (t : ObjectType) → object_static s ≡ Some t → is_some (element_of s) ≡ true → (r : ObjectType)
+    × (object_static (or_nothing (element_of s)) ≡ Some r)
 element_typed (a_value a) t o e = element_object a.base a.dim t o e
 element_typed null_value t o e = absurd (cc)
 element_typed no_value t o e = absurd (cc)
@@ -127,8 +130,10 @@ pub record SlotOf (P : Plain) (s : Static) (x : List ℕ) (sig : Signature) : Ty
   pub params : sig.params ≡ slot.params
   pub result : sig.result ≡ slot.result
 
-slot_signature : (P : Plain) (j : ℕ) (sig : Signature) → signature_of_slot P j ≡ Some sig → (slot : PlainSlot) × (slice_get P.slots j ≡ Some slot) × (sig.params ≡ slot.params) × (sig.result ≡ slot.result)
-slot_signature P j sig e = let z = map_some (λ (k : PlainSlot). record { params = k.params; result = k.result }) (slice_get P.slots j) sig e in (z.0, z.1, sym (ap (λ w. w.params) z.2), sym (ap (λ w. w.result) z.2))
+slot_signature : (P : Plain) (j : ℕ) (sig : Signature) → signature_of_slot P j ≡ Some sig → (slot : PlainSlot) × (slice_get P.slots j ≡ Some slot)
+    × (sig.params ≡ slot.params) × (sig.result ≡ slot.result)
+slot_signature P j sig e = let z = map_some (λ (k : PlainSlot). record { params = k.params; result = k.result }) (slice_get P.slots j) sig e in
+    (z.0, z.1, sym (ap (λ w. w.params) z.2), sym (ap (λ w. w.result) z.2))
 
 class_slot : (P : Plain) (s : Static) (c : Option ℕ) (x : List ℕ) (sig : Signature) → class_of s ≡ c → object_signature P c x ≡ Some sig → SlotOf P s x sig
 class_slot P s None x sig h e = absurd (cc)
@@ -138,17 +143,21 @@ class_slot P s (Some c) x sig h e =
 
 pub slot_called : (P : Plain) (s : Static) (x : List ℕ) (sig : Signature) → call_signature P s x ≡ Some sig → is_string s ≡ false → SlotOf P s x sig
 unfolding call_signature
-slot_called P s x sig e h = class_slot P s (class_of s) x sig refl (subst (λ b. (if b then option_map signature_of_string (string_method x) else object_signature P (class_of s) x) ≡ Some sig) h e)
+slot_called P s x sig e h = class_slot P s (class_of s) x sig refl
+    (subst (λ b. (if b then option_map signature_of_string (string_method x) else object_signature P (class_of s) x) ≡ Some sig) h e)
 
-string_result_none : (o : Option StringMethod) (sig : Signature) (t : ObjectType) → option_map signature_of_string o ≡ Some sig → object_if sig.result ≡ Some t → ⊥
+string_result_none : (o : Option StringMethod) (sig : Signature) (t : ObjectType) → option_map signature_of_string o ≡ Some sig
+    → object_if sig.result ≡ Some t → ⊥
 string_result_none None sig t e h = cc
 string_result_none (Some m) sig t e h = let z = sym (string_none m) ∙ ap (λ w. object_if w.result) (same_Some (signature_of_string m) sig e) ∙ h in cc
 
 -- a call that gives an object calls a slot
-pub object_called : (P : Plain) (s : Static) (x : List ℕ) (sig : Signature) (t : ObjectType) → call_signature P s x ≡ Some sig → object_if sig.result ≡ Some t → SlotOf P s x sig
+pub object_called : (P : Plain) (s : Static) (x : List ℕ) (sig : Signature) (t : ObjectType) → call_signature P s x ≡ Some sig
+    → object_if sig.result ≡ Some t → SlotOf P s x sig
 unfolding call_signature
 object_called P s x sig t e h = go (is_string s) refl
   where
     go : (b : Bool) → is_string s ≡ b → SlotOf P s x sig
-    go true d = absurd (string_result_none (string_method x) sig t (subst (λ b. (if b then option_map signature_of_string (string_method x) else object_signature P (class_of s) x) ≡ Some sig) d e) h)
+    go true d = absurd (string_result_none (string_method x) sig t
+        (subst (λ b. (if b then option_map signature_of_string (string_method x) else object_signature P (class_of s) x) ≡ Some sig) d e) h)
     go false d = slot_called P s x sig e d

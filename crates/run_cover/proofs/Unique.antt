@@ -156,7 +156,8 @@ module _ (T : Ex → Option ObjectType) where
     st_numbers (choose t xs) = arms_numbers xs
     st_numbers (loop t is_while first test step body) =
         joined (made_sts first ++ made_if test ++ made_sts step) (made_sts body) _ _
-        (joined (made_sts first ++ made_if test) (made_sts step) _ _ (joined (made_sts first) (made_if test) _ _ (sts_numbers first) (if_numbers test)) (sts_numbers step)) (sts_numbers body)
+        (joined (made_sts first ++ made_if test) (made_sts step) _ _ (joined (made_sts first) (made_if test) _ _ (sts_numbers first)
+            (if_numbers test)) (sts_numbers step)) (sts_numbers body)
     st_numbers (return t e) = if_numbers e
     st_numbers (break t) = refl
     st_numbers (continue t) = refl
@@ -168,7 +169,8 @@ module _ (T : Ex → Option ObjectType) where
     arms_numbers : (xs : Arms) → N (made_arms xs) ≡ numbers_arms (bare_arms xs)
     arms_numbers no_other = refl
     arms_numbers (otherwise xs) = sts_numbers xs
-    arms_numbers (arm e xs more) = joined (made e ++ made_sts xs) (made_arms more) _ _ (joined (made e) (made_sts xs) _ _ (made_numbers e) (sts_numbers xs)) (arms_numbers more)
+    arms_numbers (arm e xs more) = joined (made e ++ made_sts xs) (made_arms more) _ _ (joined (made e) (made_sts xs) _ _ (made_numbers e)
+        (sts_numbers xs)) (arms_numbers more)
 
   -- a creation among parts is among the numbered forms
   abbrev Among : Part → List Made → Type 0
@@ -207,7 +209,8 @@ module _ (T : Ex → Option ObjectType) where
 
   m_append : (ps qs : List Part) (xs ys : List Made) → M ps xs → M qs ys → M (ps ++ qs) (xs ++ ys)
   unfolding M
-  m_append ps qs xs ys h r p c = ⊎_elim (λ d. grown p xs (xs ++ ys) (λ z w. Contains-append_left xs ys z w) (h p d)) (λ d. grown p ys (xs ++ ys) (λ z w. Contains-append_right xs ys z w) (r p d)) (Contains-append_cases ps qs p c)
+  m_append ps qs xs ys h r p c = ⊎_elim (λ d. grown p xs (xs ++ ys) (λ z w. Contains-append_left xs ys z w) (h p d))
+      (λ d. grown p ys (xs ++ ys) (λ z w. Contains-append_right xs ys z w) (r p d)) (Contains-append_cases ps qs p c)
 
   m_end : (ps : List Part) (q : Part) (xs : List Made) → M ps xs → Among q xs → M (ps ++ q ∷ []) xs
   unfolding M
@@ -236,20 +239,26 @@ module _ (P : Plain) (m : ℕ) (k : PlainMethod) where
     tree_among u (static_field t f) = m_nil T []
     tree_among u (own_field t f) = m_cons T _ [] [] tt (m_nil T [])
     tree_among u (field t e x) = m_end T (tree (is_accessed e) e) _ (made T e) (tree_among (is_accessed e) e) tt
-    tree_among u (index t e i) = m_append T (tree true e) _ (made T e) (made T i) (tree_among true e) (m_cons T _ (tree false i) (made T i) tt (tree_among false i))
-    tree_among u (call t e x es) = m_append T (tree true e) _ (made T e) (made_all T es) (tree_among true e) (m_cons T _ (parts_all P (type_in P m k) m k true es) (made_all T es) tt (all_among true es))
+    tree_among u (index t e i) = m_append T (tree true e) _ (made T e) (made T i) (tree_among true e) (m_cons T _ (tree false i) (made T i) tt
+        (tree_among false i))
+    tree_among u (call t e x es) = m_append T (tree true e) _ (made T e) (made_all T es) (tree_among true e)
+        (m_cons T _ (parts_all P (type_in P m k) m k true es) (made_all T es) tt (all_among true es))
     tree_among u (static_call t c es) = m_cons T _ (parts_all P (type_in P m k) m k false es) (made_all T es) tt (all_among false es)
     tree_among u (super_call t x es) = m_cons T _ (parts_all P (type_in P m k) m k false es) (made_all T es) tt (all_among false es)
     tree_among u (create t n c es) =
-        m_cons T _ (parts_all P (type_in P m k) m k false es) _ (among_first T t.place u (operand_of P (type_in P m k) m k (create t n c es)) n (made_all T es) refl)
+        m_cons T _ (parts_all P (type_in P m k) m k false es) _ (among_first T t.place u (operand_of P (type_in P m k) m k (create t n c es)) n
+            (made_all T es) refl)
         (m_more T (parts_all P (type_in P m k) m k false es) (record { number = n; type = T (create t n c es) }) (made_all T es) (all_among false es))
     tree_among u (create_array t n v e) =
         m_cons T _ (tree false e) _ (among_first T t.place u (operand_of P (type_in P m k) m k (create_array t n v e)) n (made T e) refl)
         (m_more T (tree false e) (record { number = n; type = T (create_array t n v e) }) (made T e) (tree_among false e))
     tree_among u (cast t n v e) = m_cons T _ (tree true e) _ tt (m_more T (tree true e) (record { number = n; type = None }) (made T e) (tree_among true e))
-    tree_among u (instance_of t n e c) = m_append T (tree true e) _ (made T e) _ (tree_among true e) (m_cons T _ [] (record { number = n; type = None } ∷ []) tt (m_nil T (record { number = n; type = None } ∷ [])))
+    tree_among u (instance_of t n e c) =
+        m_append T (tree true e) _ (made T e) _ (tree_among true e) (m_cons T _ [] (record { number = n; type = None } ∷ []) tt
+        (m_nil T (record { number = n; type = None } ∷ [])))
     tree_among u (unary t o e) = tree_among false e
-    tree_among u (binary t o e d) = m_end T (tree false e ++ tree false d) _ (made T e ++ made T d) (m_append T (tree false e) (tree false d) (made T e) (made T d) (tree_among false e) (tree_among false d)) tt
+    tree_among u (binary t o e d) = m_end T (tree false e ++ tree false d) _ (made T e ++ made T d) (m_append T (tree false e) (tree false d)
+        (made T e) (made T d) (tree_among false e) (tree_among false d)) tt
 
     all_among : (u : Bool) (es : Exs) → M T (parts_all P (type_in P m k) m k u es) (made_all T es)
     all_among u no_ex = m_nil T []
@@ -271,10 +280,12 @@ module _ (P : Plain) (m : ℕ) (k : PlainMethod) where
   assign_among p (to_local t i) e = m_end T (tree false e) _ (made T e) (tree_among false e) tt
   assign_among p (to_static t f) e = m_end T (tree false e) _ (made T e) (tree_among false e) tt
   assign_among p (to_own t f) e = m_end T (tree true e) _ (made T e) (tree_among true e) tt
-  assign_among p (to_field t b x) e = m_end T (tree (is_accessed b) b ++ tree true e) _ (made T b ++ made T e) (m_append T (tree (is_accessed b) b) (tree true e) (made T b) (made T e) (tree_among (is_accessed b) b) (tree_among true e)) tt
+  assign_among p (to_field t b x) e = m_end T (tree (is_accessed b) b ++ tree true e) _ (made T b ++ made T e)
+      (m_append T (tree (is_accessed b) b) (tree true e) (made T b) (made T e) (tree_among (is_accessed b) b) (tree_among true e)) tt
   assign_among p (to_element t b i) e =
       m_end T (tree true b ++ tree false i ++ tree true e) _ (made T b ++ made T i ++ made T e)
-      (m_append T (tree true b ++ tree false i) (tree true e) (made T b ++ made T i) (made T e) (m_append T (tree true b) (tree false i) (made T b) (made T i) (tree_among true b) (tree_among false i)) (tree_among true e)) tt
+      (m_append T (tree true b ++ tree false i) (tree true e) (made T b ++ made T i) (made T e) (m_append T (tree true b) (tree false i) (made T b)
+          (made T i) (tree_among true b) (tree_among false i)) (tree_among true e)) tt
   assign_among p no_target e = m_end T (tree false e) _ (made T e) (tree_among false e) tt
 
   abbrev sts : Sts → List Part
@@ -289,9 +300,11 @@ module _ (P : Plain) (m : ℕ) (k : PlainMethod) where
     st_among (print t n e) = if_among e
     st_among (choose t xs) = arms_among xs
     st_among (loop t is_while head test step body) =
-        m_append T (sts head ++ parts_if P (type_in P m k) m k test ++ sts step) (sts body) (made_sts T head ++ made_if T test ++ made_sts T step) (made_sts T body)
+        m_append T (sts head ++ parts_if P (type_in P m k) m k test ++ sts step) (sts body) (made_sts T head ++ made_if T test ++ made_sts T step)
+            (made_sts T body)
         (m_append T (sts head ++ parts_if P (type_in P m k) m k test) (sts step) (made_sts T head ++ made_if T test) (made_sts T step)
-        (m_append T (sts head) (parts_if P (type_in P m k) m k test) (made_sts T head) (made_if T test) (sts_among head) (if_among test)) (sts_among step)) (sts_among body)
+        (m_append T (sts head) (parts_if P (type_in P m k) m k test) (made_sts T head) (made_if T test) (sts_among head) (if_among test))
+            (sts_among step)) (sts_among body)
     st_among (return t e) = return_among e
     st_among (break t) = m_nil T []
     st_among (continue t) = m_nil T []
@@ -304,7 +317,8 @@ module _ (P : Plain) (m : ℕ) (k : PlainMethod) where
     arms_among no_other = m_nil T []
     arms_among (otherwise xs) = sts_among xs
     arms_among (arm e xs more) =
-        m_append T (tree false e ++ sts xs) (parts_arms P (type_in P m k) m k more) (made T e ++ made_sts T xs) (made_arms T more) (m_append T (tree false e) (sts xs) (made T e) (made_sts T xs) (tree_among false e) (sts_among xs)) (arms_among more)
+        m_append T (tree false e ++ sts xs) (parts_arms P (type_in P m k) m k more) (made T e ++ made_sts T xs) (made_arms T more)
+            (m_append T (tree false e) (sts xs) (made T e) (made_sts T xs) (tree_among false e) (sts_among xs)) (arms_among more)
 
   -- the numbered forms of the body
   made_body : Option Sts → List Made
@@ -321,7 +335,8 @@ module _ (P : Plain) (m : ℕ) (k : PlainMethod) where
   body_numbers None = refl
   body_numbers (Some xs) = sts_numbers T (label_sts 0 xs) ∙ ap (λ z. numbers_sts z) (unlabel_sts 0 xs)
 
-  among : (q : Place) (u : Bool) (o : Operand) (n : ℕ) → Contains (parts_of P m k) (a_creation q u o) → o.created ≡ Some n → Contains (made_body k.body) (record { number = n; type = o.ty })
+  among : (q : Place) (u : Bool) (o : Operand) (n : ℕ) → Contains (parts_of P m k) (a_creation q u o) → o.created ≡ Some n
+      → Contains (made_body k.body) (record { number = n; type = o.ty })
   unfolding parts_of M
   among q u o n c e = body_among k.body (a_creation q u o) c n e
 
@@ -334,17 +349,21 @@ module _ (Q : Plain) (F : Facts) (formed : IsFormed (untagged Q)) (facts : IsFac
 
   all_made_numbers : (n : ℕ) (ks : List PlainMethod) → map (λ (y : Made). y.number) (all_made n ks) ≡ numbers_methods (map untag_method ks)
   all_made_numbers n [] = refl
-  all_made_numbers n (k ∷ ks) = joined (type_in P n k) (made_body P n k k.body) (all_made (n + 1) ks) (numbers_body (untag_body k.body)) (numbers_methods (map untag_method ks)) (body_numbers P n k k.body) (all_made_numbers (n + 1) ks)
+  all_made_numbers n (k ∷ ks) = joined (type_in P n k) (made_body P n k k.body) (all_made (n + 1) ks) (numbers_body (untag_body k.body))
+      (numbers_methods (map untag_method ks)) (body_numbers P n k k.body) (all_made_numbers (n + 1) ks)
 
   -- two creations of one number are of one type
-  one_type : (n : ℕ) (s t : Option ObjectType) → Contains (all_made 0 Q.methods) (record { number = n; type = s }) → Contains (all_made 0 Q.methods) (record { number = n; type = t }) → s ≡ t
+  one_type : (n : ℕ) (s t : Option ObjectType) → Contains (all_made 0 Q.methods) (record { number = n; type = s })
+      → Contains (all_made 0 Q.methods) (record { number = n; type = t }) → s ≡ t
   unfolding HasNoTwice
   one_type n s t c d =
       let x : Made = record { number = n; type = s } in
       let y : Made = record { number = n; type = t } in
-      let at : (z : Made) (w : Contains (all_made 0 Q.methods) z) → slice_get (all_made 0 Q.methods) w.0 ≡ Some z = λ z w. slice_get-get_or (all_made 0 Q.methods) w.0 z w.1 ∙ ap (λ v. Some v) w.2 in
+      let at : (z : Made) (w : Contains (all_made 0 Q.methods) z) → slice_get (all_made 0 Q.methods) w.0 ≡ Some z = λ z w. slice_get-get_or
+          (all_made 0 Q.methods) w.0 z w.1 ∙ ap (λ v. Some v) w.2 in
       let numbered_at : (z : Made) (w : Contains (all_made 0 Q.methods) z) → slice_get (numbers_methods P.methods) w.0 ≡ Some z.number = λ z w.
-      ap (λ v. slice_get v w.0) (sym (all_made_numbers 0 Q.methods)) ∙ get_map (λ (y : Made). y.number) (all_made 0 Q.methods) w.0 ∙ ap (λ v. option_map (λ (y : Made). y.number) v) (at z w) in
+      ap (λ v. slice_get v w.0) (sym (all_made_numbers 0 Q.methods)) ∙ get_map (λ (y : Made). y.number) (all_made 0 Q.methods) w.0
+          ∙ ap (λ v. option_map (λ (y : Made). y.number) v) (at z w) in
       let same = formed.numbered c.0 d.0 n (numbered_at x c) (numbered_at y d) in
       ap (λ (z : Made). z.type) (same_Some x y (sym (at x c) ∙ ap (λ z. slice_get (all_made 0 Q.methods) z) same ∙ at y d))
 
@@ -360,38 +379,47 @@ module _ (Q : Plain) (F : Facts) (formed : IsFormed (untagged Q)) (facts : IsFac
     created : operand.created ≡ Some x.number
     type : operand.ty ≡ Some x.ty
 
-  site_gives : (q : Place) (c : Option ℕ) (t : Option ObjectType) (r : Option ℕ) (x : Site) → Contains (site_if q c t r) x → (c ≡ Some x.number) × (t ≡ Some x.ty)
+  site_gives : (q : Place) (c : Option ℕ) (t : Option ObjectType) (r : Option ℕ) (x : Site) → Contains (site_if q c t r) x → (c ≡ Some x.number)
+      × (t ≡ Some x.ty)
   site_gives q (Some n) (Some t) (Some r) x (zero, lt, e) = (ap (λ z. Some z.number) e, ap (λ z. Some z.ty) e)
   site_gives q (Some n) (Some t) (Some r) x (suc k, lt, e) = absurd (omega (arith, lt))
   site_gives q None t r x c = absurd (omega (arith, c.1))
   site_gives q (Some n) None r x c = absurd (omega (arith, c.1))
   site_gives q (Some n) (Some t) None x c = absurd (omega (arith, c.1))
 
-  part_gives : (m : ℕ) (k : PlainMethod) → slice_get Q.methods m ≡ Some k → (p : Part) → Contains (parts_of P m k) p → (x : Site) → Contains (form_sites (row_number P Q) p) x → IsOfCreation x
-  part_gives m k e (a_creation q u o) c x d = let g = site_gives q o.created o.ty _ x d in record { method = m; code = k; there = e; place = q; used = u; operand = o; part = c; created = g.0; type = g.1 }
+  part_gives : (m : ℕ) (k : PlainMethod) → slice_get Q.methods m ≡ Some k → (p : Part) → Contains (parts_of P m k) p → (x : Site)
+      → Contains (form_sites (row_number P Q) p) x → IsOfCreation x
+  part_gives m k e (a_creation q u o) c x d =
+      let g = site_gives q o.created o.ty _ x d in record { method = m; code = k; there = e; place = q; used = u; operand = o; part = c; created =
+      g.0; type = g.1 }
   part_gives m k e _ c x d = absurd (omega (arith, d.1))
 
   of_creation : (x : Site) → Contains (sites_of P Q) x → IsOfCreation x
   unfolding sites_of bodies_of
   of_creation x c =
       let b = flat_there (λ (b : Body). flat_map (form_sites (row_number P Q)) b.parts) (each (body_at P Q) 0 Q.methods) x
-      (place_from (λ s. s.place.at) (flat_map (λ (b : Body). flat_map (form_sites (row_number P Q)) b.parts) (each (body_at P Q) 0 Q.methods)) x (once_from nat_eq (λ s. s.number) [] (by_place (λ s. s.place.at) (flat_map (λ (b : Body). flat_map (form_sites (row_number P Q)) b.parts) (each (body_at P Q) 0 Q.methods))) x c)) in
+      (place_from (λ s. s.place.at) (flat_map (λ (b : Body). flat_map (form_sites (row_number P Q)) b.parts) (each (body_at P Q) 0 Q.methods)) x
+          (once_from nat_eq (λ s. s.number) [] (by_place (λ s. s.place.at) (flat_map (λ (b : Body). flat_map (form_sites (row_number P Q)) b.parts)
+          (each (body_at P Q) 0 Q.methods))) x c)) in
       let k = each_from (body_at P Q) 0 Q.methods b.0 b.1 in
       let p = flat_there (form_sites (row_number P Q)) b.0.parts x b.2 in
       part_gives k.0 k.1.0 k.1.1 p.0 (subst (λ z. Contains z p.0) (parts_same k.0 k.1.0 b.0 k.1.2) p.1) x p.2
     where
       flat_there : {A B : Type 0} (f : A → List B) (xs : List A) (y : B) → Contains (flat_map f xs) y → (x : A) × Contains xs x × Contains (f x) y
       flat_there f [] y c = absurd (omega (arith, c.1))
-      flat_there f (x ∷ xs) y c = ⊎_elim (λ d. (x, first x xs, d)) (λ d. let z = flat_there f xs y d in (z.0, more z.0 x xs z.1, z.2)) (Contains-append_cases (f x) (flat_map f xs) y c)
+      flat_there f (x ∷ xs) y c = ⊎_elim (λ d. (x, first x xs, d)) (λ d. let z = flat_there f xs y d in (z.0, more z.0 x xs z.1, z.2))
+          (Contains-append_cases (f x) (flat_map f xs) y c)
 
       parts_same : (m : ℕ) (k : PlainMethod) (b : Body) → Contains (body_at P Q (0 + m) k) b → b.parts ≡ parts_of P m k
       parts_same m k b (zero, lt, e) = sym (ap (λ z. z.parts) e) ∙ ap (λ z. parts_of P z k) (let z : 0 + m ≡ m = omega arith in z)
       parts_same m k b (suc i, lt, e) = absurd (omega (arith, lt))
 
-  pub creation_type : (m : ℕ) (k : PlainMethod) → slice_get Q.methods m ≡ Some k → (q : Place) (u : Bool) (o : Operand) (n s : ℕ) → Contains (parts_of P m k) (a_creation q u o) → o.created ≡ Some n → site_number P Q n ≡ Some s → o.ty ≡ Some (site_type F s)
+  pub creation_type : (m : ℕ) (k : PlainMethod) → slice_get Q.methods m ≡ Some k → (q : Place) (u : Bool) (o : Operand) (n s : ℕ)
+      → Contains (parts_of P m k) (a_creation q u o) → o.created ≡ Some n → site_number P Q n ≡ Some s → o.ty ≡ Some (site_type F s)
   creation_type m k e q u o n s c ec es =
       let x = site_of Q F formed facts n s es in
       let y = of_creation x.site (s, slice_get_within (sites_of P Q) s x.site x.there, get_or_from_slice_get (sites_of P Q) s x.site x.site x.there) in
       let here = each_has (λ m k. made_body P m k k.body) 0 Q.methods m k (record { number = n; type = o.ty }) e m (omega arith) (among P m k q u o n c ec) in
-      let there = each_has (λ m k. made_body P m k k.body) 0 Q.methods y.method y.code (record { number = n; type = y.operand.ty }) y.there y.method (omega arith) (among P y.method y.code y.place y.used y.operand n y.part (y.created ∙ ap (λ z. Some z) x.number)) in
+      let there = each_has (λ m k. made_body P m k k.body) 0 Q.methods y.method y.code (record { number = n; type = y.operand.ty }) y.there y.method
+          (omega arith) (among P y.method y.code y.place y.used y.operand n y.part (y.created ∙ ap (λ z. Some z) x.number)) in
       one_type n o.ty y.operand.ty here there ∙ y.type ∙ ap (λ z. Some z) (sym x.type)

@@ -160,7 +160,8 @@ module _ (P Q : Plain) (F : Facts) (S : Sets) where
         sees_all = λ b vs h. are_seen b 0 vs h;
       }
 
--- no run of the program under the watch of sets that the inclusions close escapes: each object and array that a local, a parameter, `this`, a field, an element or a result holds comes from a site in the set that the facts give it
+-- no run of the program under the watch of sets that the inclusions close escapes: each object and array that a local, a parameter, `this`, a field,
+-- an element or a result holds comes from a site in the set that the facts give it
 unfoldable pub CoversEachRun : Plain → Plain → Facts → Type 0
 CoversEachRun P Q F = (S : Sets) → IsClosed F S → (words : List (List ℕ)) (n : ℕ) → (run_in (watched P Q F S) P.main words n).end ≢ Escaped
 

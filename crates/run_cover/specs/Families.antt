@@ -55,7 +55,8 @@ module _ (L : Lang) (Made : Option ℕ → Kind → Type 0) (V : Family) where
 
     -- what d gives is put in an element of what e gives, where its own type is a subtype of the elements'
     unfoldable pub WritesElement : Ex → Ex → Type 0
-    WritesElement e d = (o q : Option ℕ) (t u : Ty) (k : Kind) → Made o (an_array t) → element_in t.base t.dim ≡ Some u → Made q k → L.is_sub (own_type k) u ≡ true
+    WritesElement e d = (o q : Option ℕ) (t u : Ty) (k : Kind) → Made o (an_array t) → element_in t.base t.dim ≡ Some u → Made q k
+        → L.is_sub (own_type k) u ≡ true
         → value_of e o ≡ true → value_of d q ≡ true → V.spot (put_in o) q ≡ true
 
     -- the arguments go into sets, one after the other
@@ -75,7 +76,8 @@ module _ (L : Lang) (Made : Option ℕ → Kind → Type 0) (V : Family) where
       pub enters : Enters d es b
 
     unfoldable pub Calls : Ex → Ex → List ℕ → Exs → Type 0
-    Calls d e x es = (o : Option ℕ) (c j : ℕ) (b : Body) → Made o (an_object c) → L.slot g e x ≡ Some j → L.body c j ≡ Some b → value_of e o ≡ true → CallsAt d es o b
+    Calls d e x es = (o : Option ℕ) (c j : ℕ) (b : Body) → Made o (an_object c) → L.slot g e x ≡ Some j → L.body c j ≡ Some b → value_of e o ≡ true
+        → CallsAt d es o b
 
     unfoldable pub StaticCalls : Ex → ℕ → Exs → Type 0
     StaticCalls d m es = (b : Body) → L.static_body m ≡ Some b → Enters d es b
@@ -99,7 +101,8 @@ module _ (L : Lang) (Made : Option ℕ → Kind → Type 0) (V : Family) where
 
     -- and gives it where it passes
     unfoldable pub Casts : Ex → Ex → Ty → Type 0
-    Casts d e t = (o : Option ℕ) (k : Kind) → Made o k → value_of e o ≡ true → L.is_sub (own_type k) t ≡ true → (V.spot (held g.body d) o ≡ true) × (value_of d o ≡ true)
+    Casts d e t = (o : Option ℕ) (k : Kind) → Made o k → value_of e o ≡ true → L.is_sub (own_type k) t ≡ true → (V.spot (held g.body d) o ≡ true)
+        × (value_of d o ≡ true)
 
     -- all that an expression does stays in the sets
     abbrev mutual

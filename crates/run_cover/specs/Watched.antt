@@ -21,4 +21,5 @@ Of h (Text a) X = Unit {0}
 -- the watch lets pass all values of the set at a spot
 pub record IsWatched (L : Lang) (V : Family) : Type 0 where
   pub sees : (p : Spot) (v : Value) (h : List Cell) → Of h v (V.spot p) → L.sees p v h ≡ true
-  pub sees_all : (b : ℕ) (vs : List Value) (h : List Cell) → ((x : ℕ) (v : Value) → slice_get vs x ≡ Some v → Of h v (V.spot (bound b x))) → L.sees_all b vs h ≡ true
+  pub sees_all : (b : ℕ) (vs : List Value) (h : List Cell) → ((x : ℕ) (v : Value) → slice_get vs x ≡ Some v → Of h v (V.spot (bound b x)))
+      → L.sees_all b vs h ≡ true

@@ -42,7 +42,8 @@ pub call_tree : (b : Bool) (x y : List ℕ) (es : Expressions) → IsName x → 
 call_tree true x y es a c = (λ f. (c, f), refl)
 call_tree false x y es a c = (λ f. (a, c, f), refl)
 
-pub loop_formed : (is_while : Bool) (a : OptionalStatement) (v : Option Expression) (s : OptionalStatement) (ss : Statements) → IsFormedFirst a → IsFormedValue v
+pub loop_formed : (is_while : Bool) (a : OptionalStatement) (v : Option Expression) (s : OptionalStatement) (ss : Statements) → IsFormedFirst a
+    → IsFormedValue v
     → IsFormedStep s → AreFormedStmts ss → IsFormedStmt (loop_tree is_while a v s ss)
 loop_formed true absent None s ss f w g h = (f, w, g, h)
 loop_formed true absent (Some e) absent ss f w g h = (w, h)

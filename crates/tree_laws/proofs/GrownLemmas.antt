@@ -24,7 +24,8 @@ module _ (G : Given) (R : Roles) (T : IsClosed G R) (O : AreInOrder G R) (W : Ar
 
   pub slots_apart : (is_field : ℕ → Bool) (slot : ℕ → Option ℕ) (name : ℕ → List ℕ) → AreNamesApart G S is_field slot name
       → (n c d x y : ℕ) → slot c ≡ Some x → slot d ≡ Some y → Offers S n c → Offers S n d → name c ≡ name d → x ≡ y
-  slots_apart is_field slot name N n c d x y sc sd oc od e = N.slots (o n) c d oc.at od.at x y sc sd oc.stands od.stands (above_origin n c oc) (above_origin n d od) e
+  slots_apart is_field slot name N n c d x y sc sd oc od e = N.slots (o n) c d oc.at od.at x y sc sd oc.stands od.stands (above_origin n c oc)
+      (above_origin n d od) e
 
   body_below : (d e m k : ℕ) → G.is_body d ≡ true → G.is_body e ≡ true → S.column e ≡ Some m → S.column d ≡ Some k → S.le m k ≡ true
       → G.below (G.class_of e) (G.class_of d) ≡ true
@@ -108,7 +109,8 @@ module _ (G : Given) (R : Roles) (T : IsClosed G R) (O : AreInOrder G R) (W : Ar
       passes = λ s t k b. rw (U.row (G.site_row s), U.row t) (still (S.row (G.site_row s)) (S.row t) (H.passes s t k b));
     }
 
-    pub under_names : (is_field : ℕ → Bool) (slot : ℕ → Option ℕ) (name : ℕ → List ℕ) → AreNamesApart G S is_field slot name → AreNamesApart G New is_field slot name
+    pub under_names : (is_field : ℕ → Bool) (slot : ℕ → Option ℕ) (name : ℕ → List ℕ) → AreNamesApart G S is_field slot name
+        → AreNamesApart G New is_field slot name
     under_names is_field slot name N = record {
       fields = λ a c d n m fc fd cc cd. N.fields a c d n m fc fd (sym (U.column c) ∙ cc) (sym (U.column d) ∙ cd);
       slots = λ a c d n m x y sc sd cc cd. N.slots a c d n m x y sc sd (sym (U.column c) ∙ cc) (sym (U.column d) ∙ cd);
@@ -155,20 +157,23 @@ module _ (G : Given) (R : Roles) (T : IsClosed G R) (O : AreInOrder G R) (W : Ar
       passes = λ s t h b. rw (M.row (G.site_row s), M.row t) (M.holds (S.row (G.site_row s)) (S.row t) (H.passes s t h b));
     }
 
-    pub merge_names : (is_field : ℕ → Bool) (slot : ℕ → Option ℕ) (name : ℕ → List ℕ) → AreNamesApart G S is_field slot name → AreNamesApart G New is_field slot name
+    pub merge_names : (is_field : ℕ → Bool) (slot : ℕ → Option ℕ) (name : ℕ → List ℕ) → AreNamesApart G S is_field slot name
+        → AreNamesApart G New is_field slot name
     merge_names is_field slot name N = record {
       fields = λ a c d n j fc fd cc cd. let p = M.column c n cc in let q = M.column d j cd in N.fields a c d p.0 q.0 fc fd p.1 q.1;
       slots = λ a c d n j x y sc sd cc cd. let p = M.column c n cc in let q = M.column d j cd in N.slots a c d p.0 q.0 x y sc sd p.1 q.1;
     }
 
     -- where the set has all nodes of the origin
-    module _ (lives : ℕ → Bool) (columns_live : (c n : ℕ) → S.column c ≡ Some n → lives n ≡ true) (rows_live : (r : ℕ) → G.is_row r ≡ true → lives (S.row r) ≡ true)
+    module _ (lives : ℕ → Bool) (columns_live : (c n : ℕ) → S.column c ≡ Some n → lives n ≡ true) (rows_live : (r : ℕ) → G.is_row r ≡ true
+        → lives (S.row r) ≡ true)
         (whole : (x : ℕ) → lives x ≡ true → o x ≡ k → set x ≡ true) where
       row_lives : (r d a : ℕ) → a ≡ S.row r → G.runs r d ≡ true → lives a ≡ true
       row_lives r d a ra run = subst (λ x. lives x ≡ true) (sym ra) (rows_live r (W.super_row r d run))
 
       none_at : NoneIsOwn G S → (r d e a b : ℕ) → a ≡ S.row r → G.runs r d ≡ true → IsOther G S d e b → G.class_of e ≡ G.row_class r → o a ≡ o b
-          → New.le (becomes set m a) (becomes set m b) ≡ true → becomes set m a ≢ becomes set m b → (set a ≡ true) ⊎ (set a ≡ false) → (set b ≡ true) ⊎ (set b ≡ false) → ⊥
+          → New.le (becomes set m a) (becomes set m b) ≡ true → becomes set m a ≢ becomes set m b → (set a ≡ true) ⊎ (set a ≡ false) → (set b ≡ true)
+              ⊎ (set b ≡ false) → ⊥
       none_at N r d e a b ra run is same ends le other (inl x) (inl y) = other (ap (λ z. cond z m a) x ∙ sym (ap (λ z. cond z m b) y))
       none_at N r d e a b ra run is same ends le other (inl x) (inr y) = cc (whole b (columns_live e b is.stands) (sym ends ∙ A.each a x), y)
       none_at N r d e a b ra run is same ends le other (inr x) (inl y) = cc (whole a (row_lives r d a ra run) (ends ∙ A.each b y), x)

@@ -103,7 +103,8 @@ module _ (F : Facts) (pt : PointsTo) (t : Table) (R : InRange F) (O : InOrder F)
 
     -- a hierarchy that keeps the halves that grow, and the last words of B5, is kept
     kept_by : (New : Hierarchy) → IsHierarchyOf F New → New.table ≡ t.rows.items → ((n : ℕ) → is_live New.order n ≡ true → is_some (origin_of New n) ≡ true)
-        → Keeps G (shape New) (origin_at New) → AreNamesApart G (shape New) (field_at F) (slot_at F) (member_name New) → Half G (shape New) → NoneIsOwn G (shape New) → AreNamesLeft H New
+        → Keeps G (shape New) (origin_at New) → AreNamesApart G (shape New) (field_at F) (slot_at F) (member_name New) → Half G (shape New)
+            → NoneIsOwn G (shape New) → AreNamesLeft H New
         → IsKept F pt t New
     kept_by New fits table there keeps names half_new own_new left =
         let rest = rest_of_half G Q closes ordered orders (shape New) (origin_at New) keeps half_new own_new in
@@ -113,7 +114,8 @@ module _ (F : Facts) (pt : PointsTo) (t : Table) (R : InRange F) (O : InOrder F)
         (slots_apart G Q closes ordered orders (shape New) (origin_at New) keeps (field_at F) (slot_at F) (member_name New) names) in
         let run : first_changed_run F pt New ≡ None =
         none_both (first_wrong_need F pt New) (or_else (first_wrong_super F New) (or_else (first_two_bodies F New) (first_wrong_outcome F pt New))) r.2
-        (none_both (first_wrong_super F New) (or_else (first_two_bodies F New) (first_wrong_outcome F pt New)) r.3 (none_both (first_two_bodies F New) (first_wrong_outcome F pt New) r.4 r.5)) in
+        (none_both (first_wrong_super F New) (or_else (first_two_bodies F New) (first_wrong_outcome F pt New)) r.3
+            (none_both (first_two_bodies F New) (first_wrong_outcome F pt New) r.4 r.5)) in
         let meets : first_of_edit F pt New ≡ None =
         none_both (first_unoffered F New) (or_else (first_untied F pt New) (or_else (first_changed_run F pt New) (first_misnamed F New))) r.0
         (none_both (first_untied F pt New) (or_else (first_changed_run F pt New) (first_misnamed F New)) r.1
@@ -126,10 +128,12 @@ module _ (F : Facts) (pt : PointsTo) (t : Table) (R : InRange F) (O : InOrder F)
       where
         at : (o : Option NodeId) → place_of_column H c ≡ o → is_at n o ≡ true → n < length H.order.live
         at None e k = absurd (false≢true k)
-        at (Some p) e k = let low = bit-below H.order.live p.0 (K.fits.placed.columns c p e) in let same : p.0 ≡ n = eqb-true p.0 n k in omega (arith, low, same)
+        at (Some p) e k = let low = bit-below H.order.live p.0 (K.fits.placed.columns c p e) in let same : p.0 ≡ n = eqb-true p.0 n k in omega
+            (arith, low, same)
 
     -- one node below another, where their origins are so and differ
-    module _ (l h : ℕ) (ll : is_live H.order l ≡ true) (lh : is_live H.order h ≡ true) (lower : below F (origin_at H l) (origin_at H h) ≡ true) (differ : origin_at H l ≢ origin_at H h) where
+    module _ (l h : ℕ) (ll : is_live H.order l ≡ true) (lh : is_live H.order h ≡ true) (lower : below F (origin_at H l) (origin_at H h) ≡ true)
+        (differ : origin_at H l ≢ origin_at H h) where
       pub no_cycle : (is_le H.order h l && not (h == l)) ≡ false
       no_cycle =
           ⊎_elim
@@ -148,7 +152,8 @@ module _ (F : Facts) (pt : PointsTo) (t : Table) (R : InRange F) (O : InOrder F)
           let made = put_under H K.fits.sized.order l h in
           kept_by under_new (under_fits F R H K.fits l h ll lh no_cycle) K.table (λ n k. K.there n (lives n k))
           (under_keeps G Q closes ordered orders (shape H) (origin_at H) K.origins l h (shape under_new) made lower differ)
-          (under_names G Q closes ordered orders (shape H) (origin_at H) K.origins l h (shape under_new) made lower differ (field_at F) (slot_at F) (member_name H) K.names)
+          (under_names G Q closes ordered orders (shape H) (origin_at H) K.origins l h (shape under_new) made lower differ (field_at F) (slot_at F)
+              (member_name H) K.names)
           (under_half G Q closes ordered orders (shape H) (origin_at H) K.origins l h (shape under_new) made lower differ half)
           (under_own G Q closes ordered orders (shape H) (origin_at H) K.origins l h (shape under_new) made lower differ own)
           (record {
@@ -160,7 +165,8 @@ module _ (F : Facts) (pt : PointsTo) (t : Table) (R : InRange F) (O : InOrder F)
           })
 
     -- nodes of one origin as one
-    module _ (set : List NodeId) (some : 0 < length set) (all : All (λ s. is_live H.order s.0 ≡ true) set) (k : ClassId) (each_of : All (λ s. origin_of H s.0 ≡ Some k) set) where
+    module _ (set : List NodeId) (some : 0 < length set) (all : All (λ s. is_live H.order s.0 ≡ true) set) (k : ClassId)
+        (each_of : All (λ s. origin_of H s.0 ≡ Some k) set) where
       abbrev pub merge_new : Hierarchy
       merge_new = merged F H set
 
@@ -170,7 +176,8 @@ module _ (F : Facts) (pt : PointsTo) (t : Table) (R : InRange F) (O : InOrder F)
       of_origin : AreOfOrigin (is_among set) (least F H K.fits.sized.order set all some) k.0 (origin_at H)
       of_origin = record {
         each = λ x h. ap (λ o. option_map_or (λ (c : ClassId). c.0) o 0) (each x h);
-        least = ap (λ o. option_map_or (λ (c : ClassId). c.0) o 0) (each (least F H K.fits.sized.order set all some) (least_there F H K.fits.sized.order set all some));
+        least = ap (λ o. option_map_or (λ (c : ClassId). c.0) o 0) (each (least F H K.fits.sized.order set all some)
+            (least_there F H K.fits.sized.order set all some));
       }
 
       unmoved : (n : ℕ) → origin_of merge_new n ≡ origin_of H n
@@ -183,17 +190,20 @@ module _ (F : Facts) (pt : PointsTo) (t : Table) (R : InRange F) (O : InOrder F)
         keeps_new : Keeps G (shape merge_new) (origin_at merge_new)
         keeps_new =
             keeps_as G (shape merge_new) (origin_at H) (origin_at merge_new) (λ n. ap (λ o. option_map_or (λ (c : ClassId). c.0) o 0) (unmoved n))
-            (merge_keeps G Q closes ordered orders (shape H) (origin_at H) K.origins (is_among set) (least F H K.fits.sized.order set all some) k.0 (shape merge_new) made of_origin)
+            (merge_keeps G Q closes ordered orders (shape H) (origin_at H) K.origins (is_among set) (least F H K.fits.sized.order set all some) k.0
+                (shape merge_new) made of_origin)
 
         names_new : AreNamesApart G (shape merge_new) (field_at F) (slot_at F) (member_name merge_new)
-        names_new = merge_names G Q closes ordered orders (shape H) (origin_at H) K.origins (is_among set) (least F H K.fits.sized.order set all some) k.0 (shape merge_new) made of_origin (field_at F) (slot_at F) (member_name H) K.names
+        names_new = merge_names G Q closes ordered orders (shape H) (origin_at H) K.origins (is_among set) (least F H K.fits.sized.order set all some)
+            k.0 (shape merge_new) made of_origin (field_at F) (slot_at F) (member_name H) K.names
 
         there_new : (n : ℕ) → is_live merge_new.order n ≡ true → is_some (origin_of merge_new n) ≡ true
         there_new n h = subst (λ o. is_some o ≡ true) (sym (unmoved n)) (K.there n (merged_lives F H K.fits.sized.order set all some none n h))
 
         -- where it is accepted
         pub merge_kept : first_of_edit F pt merge_new ≡ None → IsKept F pt t merge_new
-        merge_kept meets = record { fits = merged_fits F R H K.fits set some all none; table = K.table; there = there_new; origins = keeps_new; names = names_new; meets = meets }
+        merge_kept meets = record { fits = merged_fits F R H K.fits set some all none; table = K.table; there = there_new; origins = keeps_new;
+            names = names_new; meets = meets }
 
         -- and where the nodes are all that have the origin
         module _ (whole : (x : ℕ) → is_live H.order x ≡ true → origin_at H x ≡ k.0 → is_among set x ≡ true) where
@@ -206,8 +216,10 @@ module _ (F : Facts) (pt : PointsTo) (t : Table) (R : InRange F) (O : InOrder F)
           pub whole_kept : IsKept F pt t merge_new
           whole_kept =
               kept_by merge_new (merged_fits F R H K.fits set some all none) K.table there_new keeps_new names_new
-              (merge_half G Q closes ordered orders (shape H) (origin_at H) K.origins (is_among set) (least F H K.fits.sized.order set all some) k.0 (shape merge_new) made of_origin half)
-              (merge_own G Q closes ordered orders (shape H) (origin_at H) K.origins (is_among set) (least F H K.fits.sized.order set all some) k.0 (shape merge_new) made of_origin
+              (merge_half G Q closes ordered orders (shape H) (origin_at H) K.origins (is_among set) (least F H K.fits.sized.order set all some) k.0
+                  (shape merge_new) made of_origin half)
+              (merge_own G Q closes ordered orders (shape H) (origin_at H) K.origins (is_among set) (least F H K.fits.sized.order set all some) k.0
+                  (shape merge_new) made of_origin
               (is_live H.order) columns_live rows_live whole own)
               (record {
                 count = merged_count F H K.fits.sized.order set all some none;
@@ -220,7 +232,8 @@ module _ (F : Facts) (pt : PointsTo) (t : Table) (R : InRange F) (O : InOrder F)
               stood : (n c : ℕ) → stands_at merge_new n c ≡ true → (j : ℕ) × (j < length H.order.live) × (stands_at H j c ≡ true)
               stood n c h = at (place_of_column H c) refl (place_of_column merge_new c) refl h
                 where
-                  at : (o : Option NodeId) → place_of_column H c ≡ o → (q : Option NodeId) → place_of_column merge_new c ≡ q → is_at n q ≡ true → (j : ℕ) × (j < length H.order.live) × (stands_at H j c ≡ true)
+                  at : (o : Option NodeId) → place_of_column H c ≡ o → (q : Option NodeId) → place_of_column merge_new c ≡ q → is_at n q ≡ true
+                      → (j : ℕ) × (j < length H.order.live) × (stands_at H j c ≡ true)
                   at o e None f k = absurd (false≢true k)
                   at o e (Some q) f k =
                       let back = made.column c q.0 (ap (option_map (λ (x : NodeId). x.0)) f) in

@@ -35,7 +35,8 @@ module _ (H : Hierarchy) (p : IsPartialOrder H.order) where
   }
 
 -- classes that are all there are all one
-all_there_one : (k : ClassId) (os : List (Option ClassId)) → All (λ o. o ≡ Some k) os → (ks : List ClassId) × (all_there os ≡ Some ks) × (length ks ≡ length os) × All (λ x. x ≡ k) ks
+all_there_one : (k : ClassId) (os : List (Option ClassId)) → All (λ o. o ≡ Some k) os → (ks : List ClassId) × (all_there os ≡ Some ks)
+    × (length ks ≡ length os) × All (λ x. x ≡ k) ks
 all_there_one k [] all = ([], refl, refl, λ i d lt. absurd (omega (arith, lt)))
 all_there_one k (o ∷ os) all =
     let here : o ≡ Some k = all 0 None (omega arith) in
@@ -54,7 +55,8 @@ below_each : (F : Facts) (k : ClassId) → below F k.0 k.0 ≡ true → (ks : Li
 below_each F k b [] all = refl
 below_each F k b (x ∷ ks) all =
     let here : x ≡ k = all 0 x (omega arith) in
-    and_from (below F k.0 x.0) (is_below_all F ks k) (subst (λ (y : ClassId). below F k.0 y.0 ≡ true) (sym here) b) (below_each F k b ks (λ i d lt. all (suc i) d (omega (arith, lt))))
+    and_from (below F k.0 x.0) (is_below_all F ks k) (subst (λ (y : ClassId). below F k.0 y.0 ≡ true) (sym here) b)
+        (below_each F k b ks (λ i d lt. all (suc i) d (omega (arith, lt))))
 
 lowest_one : (F : Facts) (k : ClassId) → below F k.0 k.0 ≡ true → (ks : List ClassId) → 0 < length ks → All (λ x. x ≡ k) ks → lowest F ks ≡ Some k
 lowest_one F k b [] some all = absurd (omega (arith, some))
@@ -63,7 +65,8 @@ lowest_one F k b (x ∷ ks) some all =
     let test : is_below_all F (x ∷ ks) x ≡ true = subst (λ (y : ClassId). is_below_all F (x ∷ ks) y ≡ true) (sym here) (below_each F k b (x ∷ ks) all) in
     rw test (ap Some here)
 
-module _ (F : Facts) (H : Hierarchy) (p : IsPartialOrder H.order) (set : List NodeId) (all : All (λ s. is_live H.order s.0 ≡ true) set) (some : 0 < length set) where
+module _ (F : Facts) (H : Hierarchy) (p : IsPartialOrder H.order) (set : List NodeId) (all : All (λ s. is_live H.order s.0 ≡ true) set)
+    (some : 0 < length set) where
   abbrev pub least : ℕ
   least = least_of H.order set
 
@@ -85,7 +88,8 @@ module _ (F : Facts) (H : Hierarchy) (p : IsPartialOrder H.order) (set : List No
       (λ lt. ap (λ (q : NodeId). q.0) (get_or-map (merged_node set least) H.rows r (node 0) (node 0) lt))
       (λ past.
       let len = length-map H.rows (merged_node set least) in
-      let new : place_of_row (merged F H set) r ≡ 0 = ap (λ (q : NodeId). q.0) (get_or_past (map (merged_node set least) H.rows) r (node 0) (omega (arith, past, len))) in
+      let new : place_of_row (merged F H set) r ≡ 0 = ap (λ (q : NodeId). q.0) (get_or_past (map (merged_node set least) H.rows) r (node 0)
+          (omega (arith, past, len))) in
       let old : place_of_row H r ≡ 0 = ap (λ (q : NodeId). q.0) (get_or_past H.rows r (node 0) past) in
       new ∙ sym (ap (becomes (is_among set) least) old ∙ zero_stays (cases_Bool (is_among set 0))))
       (cases_lt r (length H.rows))
@@ -99,14 +103,17 @@ module _ (F : Facts) (H : Hierarchy) (p : IsPartialOrder H.order) (set : List No
     made = merged_made H.order p set least least_there among_live (none_between H.order set p none)
 
     only : (a b : ℕ) → is_le (merged_order H.order set least) a b ≡ true
-        → (is_le H.order a b ≡ true) ⊎ (((s : ℕ) × (is_among set s ≡ true) × (is_le H.order a s ≡ true)) × ((s : ℕ) × (is_among set s ≡ true) × (is_le H.order s b ≡ true)))
+        → (is_le H.order a b ≡ true) ⊎ (((s : ℕ) × (is_among set s ≡ true) × (is_le H.order a s ≡ true))
+            × ((s : ℕ) × (is_among set s ≡ true) × (is_le H.order s b ≡ true)))
     only a b h =
         let pair = is_le H.order a b || (is_below_some H.order set a && is_above_some H.order set b) in
-        let pairs = made_le H.order (λ x. is_live H.order x && stays set least x) (merged_le H.order p set least) (merged_live H.order p set least) (merged_below H.order p set least) a b in
+        let pairs = made_le H.order (λ x. is_live H.order x && stays set least x) (merged_le H.order p set least) (merged_live H.order p set least)
+            (merged_below H.order p set least) a b in
         let x = and_parts pair (stays set least a) (and_parts (pair && stays set least a) (stays set least b) (sym pairs ∙ h)).0 in
         ⊎_elim
         (λ y. inl y)
-        (λ y. let z = and_parts (is_below_some H.order set a) (is_above_some H.order set b) y in inr (has_any_some (row H.order.le a) set z.0, any_has_some H.order.le set b z.1))
+        (λ y. let z = and_parts (is_below_some H.order set a) (is_above_some H.order set b) y in inr
+            (has_any_some (row H.order.le a) set z.0, any_has_some H.order.le set b z.1))
         (or_cases (is_le H.order a b) (is_below_some H.order set a && is_above_some H.order set b) x.0)
 
     pub made_one : IsMadeOne (shape H) (is_among set) least (shape (merged F H set))
@@ -117,7 +124,8 @@ module _ (F : Facts) (H : Hierarchy) (p : IsPartialOrder H.order) (set : List No
           ⊎_elim
           (λ gone. absurd (cc (sym (ap (option_map (λ (q : NodeId). q.0)) (column_of c ∙ ap (option_map (merged_node set least)) gone)) ∙ h)))
           (λ at.
-          let is : Some (merged_to set least at.0.0) ≡ Some n = sym (ap (option_map (λ (q : NodeId). q.0)) (column_of c ∙ ap (option_map (merged_node set least)) at.1)) ∙ h in
+          let is : Some (merged_to set least at.0.0) ≡ Some n = sym (ap (option_map (λ (q : NodeId). q.0)) (column_of c
+              ∙ ap (option_map (merged_node set least)) at.1)) ∙ h in
           let same : n ≡ merged_to set least at.0.0 = cc (sym is) in
           (at.0.0, ap (option_map (λ (q : NodeId). q.0)) at.1, same))
           (cases_Option (place_of_column H c));
@@ -133,7 +141,8 @@ module _ (F : Facts) (H : Hierarchy) (p : IsPartialOrder H.order) (set : List No
     merged_count = made.count
 
   -- nodes that come from one class come from it still
-  module _ (k : ClassId) (self : below F k.0 k.0 ≡ true) (each : (s : ℕ) → is_among set s ≡ true → origin_of H s ≡ Some k) (each_of : All (λ s. origin_of H s.0 ≡ Some k) set) (sized : length H.origins ≡ length H.order.live) where
+  module _ (k : ClassId) (self : below F k.0 k.0 ≡ true) (each : (s : ℕ) → is_among set s ≡ true → origin_of H s ≡ Some k)
+      (each_of : All (λ s. origin_of H s.0 ≡ Some k) set) (sized : length H.origins ≡ length H.order.live) where
     origin_is : merged_origin F (map (λ s. origin_of H s.0) set) ≡ Some k
     origin_is =
         let f = λ (s : NodeId). origin_of H s.0 in
@@ -149,6 +158,7 @@ module _ (F : Facts) (H : Hierarchy) (p : IsPartialOrder H.order) (set : List No
         let x = merged_origin F (map (λ s. origin_of H s.0) set) in
         ⊎_elim
         (λ same.
-        ap (λ j. get_or (slice_set H.origins least x) j None) same ∙ get_or-set_same H.origins least x None (omega (arith, low.1, sized)) ∙ origin_is ∙ sym (each least least_there) ∙ ap (origin_of H) (sym same))
+        ap (λ j. get_or (slice_set H.origins least x) j None) same ∙ get_or-set_same H.origins least x None (omega (arith, low.1, sized)) ∙ origin_is
+            ∙ sym (each least least_there) ∙ ap (origin_of H) (sym same))
         (λ other. get_or-set_other H.origins least n x None other)
         (cases_eq n least)

@@ -5,7 +5,8 @@ use Rattle.hier_laws.specs.Starts.{Roles, IsClosed, AreInOrder, IsStart}
 use Rattle.tree_laws.specs.Origins.{AreOrdered, Keeps, AreNamesApart, AreStartOrigins, IsWithout}
 use Rattle.hier_laws.proofs.Begins.{this_at, under_class}
 
-module _ (G : Given) (R : Roles) (T : IsClosed G R) (O : AreInOrder G R) (W : AreOrdered G) (S : Shape) (B : IsStart G S) (is_class : ℕ → Bool) (o : ℕ → ℕ) (A : AreStartOrigins G S is_class o) where
+module _ (G : Given) (R : Roles) (T : IsClosed G R) (O : AreInOrder G R) (W : AreOrdered G) (S : Shape) (B : IsStart G S) (is_class : ℕ → Bool) (o : ℕ
+    → ℕ) (A : AreStartOrigins G S is_class o) where
   column_self : (c n : ℕ) → S.column c ≡ Some n → S.le n n ≡ true
   column_self c n at = (B.under c c n n at at).1 (λ r h. h)
 
@@ -52,7 +53,8 @@ module _ (G : Given) (S : Shape) (x : ℕ) (New : Shape) (D : IsWithout S x New)
     supers = λ r d run. ap o (D.row r) ∙ K.supers r d run;
   }
 
-  pub drop_names : (is_field : ℕ → Bool) (slot : ℕ → Option ℕ) (name : ℕ → List ℕ) → AreNamesApart G S is_field slot name → AreNamesApart G New is_field slot name
+  pub drop_names : (is_field : ℕ → Bool) (slot : ℕ → Option ℕ) (name : ℕ → List ℕ) → AreNamesApart G S is_field slot name
+      → AreNamesApart G New is_field slot name
   drop_names is_field slot name N = record {
     fields = λ a c d n m fc fd cc cd. N.fields a c d n m fc fd (sym (D.column c) ∙ cc) (sym (D.column d) ∙ cd);
     slots = λ a c d n m y z sc sd cc cd. N.slots a c d n m y z sc sd (sym (D.column c) ∙ cc) (sym (D.column d) ∙ cd);

@@ -38,15 +38,19 @@ use Rattle.tree_laws.proofs.OriginLemmas.{drop_keeps, drop_names}
 use Rattle.tree_laws.proofs.MadeLemmas.{without}
 
 -- an accepted change was made, and meets the obligations
-pub accepted : (F : Facts) (pt : PointsTo) (r : Result Hierarchy ChangeFault) (h : Hierarchy) → outcome F pt r ≡ Ok h → (r ≡ Ok h) × (first_of_edit F pt h ≡ None)
+pub accepted : (F : Facts) (pt : PointsTo) (r : Result Hierarchy ChangeFault) (h : Hierarchy) → outcome F pt r ≡ Ok h → (r ≡ Ok h)
+    × (first_of_edit F pt h ≡ None)
 accepted F pt (Err x) h e = absurd (cc e)
 accepted F pt (Ok k) h e = at (first_of_edit F pt k) refl e
   where
-    at : (b : Option Broken) → first_of_edit F pt k ≡ b → unless_broken k b ≡ Ok h → (◌≡◌ {A = Result Hierarchy ChangeFault} (Ok k) (Ok h)) × (first_of_edit F pt h ≡ None)
+    at : (b : Option Broken) → first_of_edit F pt k ≡ b → unless_broken k b ≡ Ok h → (◌≡◌ {A = Result Hierarchy ChangeFault} (Ok k) (Ok h))
+        × (first_of_edit F pt h ≡ None)
     at (Some b) f g = absurd (cc g)
-    at None f g = let same : k ≡ h = cc g in (ap (λ (x : Hierarchy). let r : Result Hierarchy ChangeFault = Ok x in r) same, subst (λ (x : Hierarchy). first_of_edit F pt x ≡ None) same f)
+    at None f g = let same : k ≡ h = cc g in (ap (λ (x : Hierarchy). let r : Result Hierarchy ChangeFault = Ok x in r) same, subst
+        (λ (x : Hierarchy). first_of_edit F pt x ≡ None) same f)
 
-pub unless_ok : (o : Option NodeId) (f : NodeId → ChangeFault) (r : Result Hierarchy ChangeFault) (h : Hierarchy) → unless o f r ≡ Ok h → (o ≡ None) × (r ≡ Ok h)
+pub unless_ok : (o : Option NodeId) (f : NodeId → ChangeFault) (r : Result Hierarchy ChangeFault) (h : Hierarchy) → unless o f r ≡ Ok h
+    → (o ≡ None) × (r ≡ Ok h)
 unless_ok None f r h e = (refl, e)
 unless_ok (Some n) f r h e = absurd (cc e)
 
@@ -126,7 +130,8 @@ module _ (F : Facts) (pt : PointsTo) (t : Table) (R : InRange F) (O : InOrder F)
     stood : (c n : ℕ) → (shape H).column c ≡ Some n → c < length H.members
     stood c n h =
         ⊎_elim (λ lt. lt)
-        (λ past. absurd (cc (sym (ap (option_map (λ (q : NodeId). q.0)) (get_or_past H.columns c None (omega (arith, past, K.fits.sized.columns, K.fits.sized.members)))) ∙ h)))
+        (λ past. absurd (cc (sym (ap (option_map (λ (q : NodeId). q.0))
+            (get_or_past H.columns c None (omega (arith, past, K.fits.sized.columns, K.fits.sized.members)))) ∙ h)))
         (cases_lt c (length H.members))
 
     name_at : (c n : ℕ) → (shape H).column c ≡ Some n → member_name made c ≡ renamed_member F H.members e name c
@@ -140,7 +145,8 @@ module _ (F : Facts) (pt : PointsTo) (t : Table) (R : InRange F) (O : InOrder F)
     own_name c n h r = name_at c n h ∙ ap (λ b. cond b name (member_name H c)) r
 
     -- one that is renamed and one that is not have different names
-    differs : (c d n m : ℕ) → (shape H).column c ≡ Some n → (shape H).column d ≡ Some m → is_member (column_kind F d) ≡ true → is_renamed F e c ≡ true → is_renamed F e d ≡ false
+    differs : (c d n m : ℕ) → (shape H).column c ≡ Some n → (shape H).column d ≡ Some m → is_member (column_kind F d) ≡ true → is_renamed F e c ≡ true
+        → is_renamed F e d ≡ false
         → member_name made c ≡ member_name made d → ⊥
     differs c d n m cc cd kind rc rd same = fresh.members d (node m) kind (placed H d m cd) (sym (own_name d m cd rd) ∙ sym same ∙ new_name c n cc rc)
 
@@ -200,5 +206,6 @@ module _ (F : Facts) (pt : PointsTo) (t : Table) (R : InRange F) (O : InOrder F)
         let b = or_err (is_placed H e && not (is_mark (column_kind F e.0))) (UnknownMember e) made New a.0 in
         let fits = changed_fits F R H K.fits (edit.MemberName e name) tt New a.0 in
         subst (λ (x : Hierarchy). IsHierarchyOf F x → first_of_edit F pt x ≡ None → IsKept F pt t x) b.1
-        (λ f m. record { fits = f; table = K.table; there = K.there; origins = K.origins; names = record { fields = fields_new; slots = slots_new }; meets = m })
+        (λ f m. record { fits = f; table = K.table; there = K.there; origins = K.origins; names = record
+            { fields = fields_new; slots = slots_new }; meets = m })
         fits a.1

@@ -77,7 +77,8 @@ def_kind Is h = absurd (false≢true h)
 body_below : (F : Facts) (e : ℕ) → is_def (column_kind F e) ≡ true → e < length F.columns.items
 body_below F e b = column-below F e Def (def_kind (column_kind F e) b) (λ x. cc x)
 
-module _ (F : Facts) (pt : PointsTo) (t : Table) (R : InRange F) (O : InOrder F) (S : AreSets F pt) (T : IsTable F t) (H : Hierarchy) (table : H.table ≡ t.rows.items) where
+module _ (F : Facts) (pt : PointsTo) (t : Table) (R : InRange F) (O : InOrder F) (S : AreSets F pt) (T : IsTable F t) (H : Hierarchy) (table : H.table
+    ≡ t.rows.items) where
   abbrev G : Given
   G = given F pt t
 
@@ -86,23 +87,28 @@ module _ (F : Facts) (pt : PointsTo) (t : Table) (R : InRange F) (O : InOrder F)
       let lr = bit-row-below t.rows.items r c h in
       omega (arith, bit-below (row t.rows.items r) c h, T.sized.widths r lr, T.sized.columns)
 
-  module _ (b2 : first_unoffered F H ≡ None) (b3 : first_untied F pt H ≡ None) (b4 : first_wrong_need F pt H ≡ None) (b5 : first_wrong_super F H ≡ None) (b7 : first_wrong_outcome F pt H ≡ None) where
+  module _ (b2 : first_unoffered F H ≡ None) (b3 : first_untied F pt H ≡ None) (b4 : first_wrong_need F pt H ≡ None) (b5 : first_wrong_super F H
+      ≡ None) (b7 : first_wrong_outcome F pt H ≡ None) where
     offered : (r c : ℕ) → bit (row t.rows.items r) c ≡ true → Offers (shape H) (place_of_row H r) c
     offered r c h =
         let lr = row_below F pt t R O S T r c h in
         let one = first_below_None (λ r. first_below (length F.columns.items) (rule.unoffered F H r)) (length F.rows.items) r b2 lr in
         let two = first_below_None (rule.unoffered F H r) (length F.columns.items) c one (column_below r c h) in
         let no = none_when (bit (row H.table r) c && not (is_offered H (place_of_row H r) c)) (of_both B2 (place_of_row H r) r c) two in
-        offered_says F pt t H table (place_of_row H r) c (asked (bit (row H.table r) c) (is_offered H (place_of_row H r) c) no (ap (λ x. bit (row x r) c) table ∙ h))
+        offered_says F pt t H table (place_of_row H r) c (asked (bit (row H.table r) c) (is_offered H (place_of_row H r) c) no
+            (ap (λ x. bit (row x r) c) table ∙ h))
 
-    ties : (first_below (length F.rows.items) (λ l. first_below (length F.rows.items) (untied F H l)) ≡ None) × (first_below (length F.sites.items) (λ o. first_below (length F.rows.items) (unheld F pt H o)) ≡ None)
-    ties = or_else-None (first_below (length F.rows.items) (λ l. first_below (length F.rows.items) (untied F H l))) (first_below (length F.sites.items) (λ o. first_below (length F.rows.items) (unheld F pt H o))) b3
+    ties : (first_below (length F.rows.items) (λ l. first_below (length F.rows.items) (untied F H l)) ≡ None)
+        × (first_below (length F.sites.items) (λ o. first_below (length F.rows.items) (unheld F pt H o)) ≡ None)
+    ties = or_else-None (first_below (length F.rows.items) (λ l. first_below (length F.rows.items) (untied F H l)))
+        (first_below (length F.sites.items) (λ o. first_below (length F.rows.items) (unheld F pt H o))) b3
 
     tied : (l u : ℕ) → is_tie F l u ≡ true → is_le H.order (place_of_row H l) (place_of_row H u) ≡ true
     tied l u h =
         let x = tie_at F pt t R O S T l u h in
         let range = All-contains (λ (y : TieInfo). IsRow F y.lower × IsRow F y.upper) F.ties.items x.0 R.ties x.1 in
-        let one = first_below_None (λ l. first_below (length F.rows.items) (untied F H l)) (length F.rows.items) l ties.0 (subst (λ k. k < length F.rows.items) x.2 range.0) in
+        let one = first_below_None (λ l. first_below (length F.rows.items) (untied F H l)) (length F.rows.items) l ties.0
+            (subst (λ k. k < length F.rows.items) x.2 range.0) in
         let two = first_below_None (untied F H l) (length F.rows.items) u one (subst (λ k. k < length F.rows.items) x.3 range.1) in
         asked (is_tie F l u) (row_le H l u) (none_when (is_tie F l u && not (row_le H l u)) (of_row B3 (place_of_row H l) (place_of_row H u) l) two) h
 
@@ -125,18 +131,23 @@ module _ (F : Facts) (pt : PointsTo) (t : Table) (R : InRange F) (O : InOrder F)
         let two = first_below_None (wrong_need F pt H s) (slots_of F) x one lx in
         let found = found_at F pt t R O S T s x d h in
         let right : wrong_body F H s d ≡ None =
-        sym (ap (option_and_then (wrong_body F H s)) found) ∙ (sym (ap (λ b. cond b (option_and_then (wrong_body F H s) (finds F (site_class F s) x)) None) both.0) ∙ two) in
-        let no = none_when (not (is_offered H (place_of_site F H s) d) || has_nearer F H (place_of_site F H s) d) (of_both B4 (place_of_site F H s) (site_row F s) d) right in
-        offered_says F pt t H table (place_of_row H (site_row F s)) d (no_not (is_offered H (place_of_site F H s) d) (or_parts (not (is_offered H (place_of_site F H s) d)) (has_nearer F H (place_of_site F H s) d) no).0)
+        sym (ap (option_and_then (wrong_body F H s)) found)
+            ∙ (sym (ap (λ b. cond b (option_and_then (wrong_body F H s) (finds F (site_class F s) x)) None) both.0) ∙ two) in
+        let no = none_when (not (is_offered H (place_of_site F H s) d) || has_nearer F H (place_of_site F H s) d)
+            (of_both B4 (place_of_site F H s) (site_row F s) d) right in
+        offered_says F pt t H table (place_of_row H (site_row F s)) d (no_not (is_offered H (place_of_site F H s) d)
+            (or_parts (not (is_offered H (place_of_site F H s) d)) (has_nearer F H (place_of_site F H s) d) no).0)
 
     super_right : (r d : ℕ) → is_super F r d ≡ true → (rule.is_above H (place_of_row H r) d ≡ true) × (has_between F H r d ≡ false)
     super_right r d h =
         let x = super_at F pt t R O S T r d h in
         let range = All-contains (λ (y : SuperInfo). IsRow F y.row × IsCol F y.column) F.supers.items x.0 R.supers x.1 in
-        let one = first_below_None (λ r. first_below (length F.columns.items) (wrong_super F H r)) (length F.rows.items) r b5 (subst (λ k. k < length F.rows.items) x.2 range.0) in
+        let one = first_below_None (λ r. first_below (length F.columns.items) (wrong_super F H r)) (length F.rows.items) r b5
+            (subst (λ k. k < length F.rows.items) x.2 range.0) in
         let two = first_below_None (wrong_super F H r) (length F.columns.items) d one (subst (λ k. k < length F.columns.items) x.3 range.1) in
         let no = none_when (is_super F r d && (not (rule.is_above H (place_of_row H r) d) || has_between F H r d)) (of_both B5 (place_of_row H r) r d) two in
-        let rest = or_parts (not (rule.is_above H (place_of_row H r) d)) (has_between F H r d) (asked_also (is_super F r d) (not (rule.is_above H (place_of_row H r) d) || has_between F H r d) no h) in
+        let rest = or_parts (not (rule.is_above H (place_of_row H r) d)) (has_between F H r d)
+            (asked_also (is_super F r d) (not (rule.is_above H (place_of_row H r) d) || has_between F H r d) no h) in
         (no_not (rule.is_above H (place_of_row H r) d) rest.0, rest.1)
 
     ran : (r d : ℕ) → is_super F r d ≡ true → Offers (shape H) (place_of_row H r) d
@@ -144,15 +155,20 @@ module _ (F : Facts) (pt : PointsTo) (t : Table) (R : InRange F) (O : InOrder F)
         let m = above_says F pt t H table (place_of_row H r) d (super_right r d h).0 in
         record { at = m.0; stands = m.1; above = m.2 }
 
-    passes : (s k : ℕ) → G.meets s k ≡ true → below F (site_class F s) (row_class F k) ≡ true → is_le H.order (place_of_row H (site_row F s)) (place_of_row H k) ≡ true
+    passes : (s k : ℕ) → G.meets s k ≡ true → below F (site_class F s) (row_class F k) ≡ true
+        → is_le H.order (place_of_row H (site_row F s)) (place_of_row H k) ≡ true
     passes s k h up =
         let p = any_below_some (λ p. meets F pt p k s) (places_of F) h in
         let m = met F pt t R O S T s k h in
-        let one = first_below_None (λ p. first_below (length F.rows.items) (λ k. first_below (length F.sites.items) (wrong_outcome F pt H p k))) (places_of F) p.0 b7 p.1 in
-        let two = first_below_None (λ k. first_below (length F.sites.items) (wrong_outcome F pt H p.0 k)) (length F.rows.items) k one (meet_target F pt t R O S T s k m) in
+        let one = first_below_None (λ p. first_below (length F.rows.items) (λ k. first_below (length F.sites.items) (wrong_outcome F pt H p k)))
+            (places_of F) p.0 b7 p.1 in
+        let two = first_below_None (λ k. first_below (length F.sites.items) (wrong_outcome F pt H p.0 k)) (length F.rows.items) k one
+            (meet_target F pt t R O S T s k m) in
         let three = first_below_None (wrong_outcome F pt H p.0 k) (length F.sites.items) s two (meet_site F pt t R O S T s k m) in
-        let no = none_when (meets F pt p.0 k s && differ (row_le H (site_row F s) k) (below F (site_class F s) (row_class F k))) (of_row B7 (place_of_site F H s) (place_of_row H k) (site_row F s)) three in
-        same_answers (row_le H (site_row F s) k) (below F (site_class F s) (row_class F k)) (asked_also (meets F pt p.0 k s) (differ (row_le H (site_row F s) k) (below F (site_class F s) (row_class F k))) no p.2) up
+        let no = none_when (meets F pt p.0 k s && differ (row_le H (site_row F s) k) (below F (site_class F s) (row_class F k)))
+            (of_row B7 (place_of_site F H s) (place_of_row H k) (site_row F s)) three in
+        same_answers (row_le H (site_row F s) k) (below F (site_class F s) (row_class F k))
+            (asked_also (meets F pt p.0 k s) (differ (row_le H (site_row F s) k) (below F (site_class F s) (row_class F k))) no p.2) up
 
     pub half_of : Half (given F pt t) (shape H)
     half_of = record { offered = offered; tied = tied; held = held; needed = needed; ran = ran; passes = passes }

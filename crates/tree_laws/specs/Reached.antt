@@ -24,5 +24,7 @@ module _ (F : Facts) (pt : PointsTo) (t : Table) (l : Lattice) where
   pub data IsReached : Hierarchy → Type 0 where
     begun : IsReached (start_from F t l)
     dropped : {H New : Hierarchy} (n : NodeId) → IsReached H → applied F pt H (edit.Drop n) ≡ Ok New → IsReached New
-    type_named : {H New : Hierarchy} (n : NodeId) (name : List ℕ) → IsReached H → IsFresh F H name → applied F pt H (edit.TypeName n name) ≡ Ok New → IsReached New
-    member_named : {H New : Hierarchy} (c : ColId) (name : List ℕ) → IsReached H → IsFresh F H name → applied F pt H (edit.MemberName c name) ≡ Ok New → IsReached New
+    type_named : {H New : Hierarchy} (n : NodeId) (name : List ℕ) → IsReached H → IsFresh F H name → applied F pt H (edit.TypeName n name)
+        ≡ Ok New → IsReached New
+    member_named : {H New : Hierarchy} (c : ColId) (name : List ℕ) → IsReached H → IsFresh F H name → applied F pt H (edit.MemberName c name)
+        ≡ Ok New → IsReached New

@@ -21,7 +21,8 @@ use Rattle.written_tree.specs.Names.{nowhere, written_type}
 use Rattle.written_tree.specs.Bodies.{written, written_if, written_st, written_sts, written_part, written_arms, written_else, scope_after_part, declared}
 
 module _ (P : Plain) (R : Renaming) (H : Hierarchy) (m : ℕ) (k : PlainMethod) where
-  pub arms_alike : (scope : List ℕ) (xs : List RArm) (o : Option (Vec RStmt Global)) → written_arms P R H m k scope (arms_seen no_place xs (else_seen no_place o))
+  pub arms_alike : (scope : List ℕ) (xs : List RArm) (o : Option (Vec RStmt Global))
+      → written_arms P R H m k scope (arms_seen no_place xs (else_seen no_place o))
       ≡ written_arms P R H m k scope (arms_seen no_place xs no_other)
   arms_alike scope [] None = refl
   arms_alike scope [] (Some v) = refl

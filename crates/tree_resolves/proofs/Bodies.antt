@@ -214,7 +214,8 @@ module _ (P : Plain) (R : Renaming) (H : Hierarchy) (m : ℕ) (k : PlainMethod) 
   after s (f_act a b) = s
   after s (f_print a b) = s
   after s (f_choose a) = s
-  after {formed = formed} {scope = scope} {names = names} s (f_loop {is_while = is_while} {first = first} {step = step} {body = body} {test = test} of a b c d e f) =
+  after {formed = formed} {scope = scope} {names = names} s (f_loop {is_while = is_while} {first = first} {step = step} {body = body} {test = test}
+      of a b c d e f) =
       let inner = scope_after_part scope first in
       subst (λ z. IsScope k formed scope z)
       (sym (loop_names is_while names (written_part P R H m k scope first) (written_if P R H m k inner test) (written_part P R H m k inner step)
@@ -260,7 +261,8 @@ module _ (P : Plain) (R : Renaming) (H : Hierarchy) (m : ℕ) (k : PlainMethod) 
     st_ok {l = l} {scope = scope} {names = names} s (f_choose {e = e} {xs = xs} {more = more} a) g r x =
         if_fault O here l names (written_arms P R H m k scope (arm e xs more)) (written_else P R H m k scope (arm e xs more)) nowhere r (arms_ok s a g r)
         (else_ok s a g r) x
-    st_ok {l = l} {scope = scope} {names = names} s (f_loop {is_while = is_while} {first = first} {step = step} {body = body} {test = test} of p q a b c d) g r x =
+    st_ok {l = l} {scope = scope} {names = names} s (f_loop {is_while = is_while} {first = first} {step = step} {body = body} {test = test} of p q
+        a b c d) g r x =
         let inner = scope_after_part scope first in
         let t = after_part core.is_first p s a in
         loop_fault O here l is_while names (written_part P R H m k scope first) (written_if P R H m k inner test) (written_part P R H m k inner step)

@@ -324,7 +324,8 @@ module _ (L M : Lang) (K : Link) (Made : Option ℕ → Kind → Kind → Type 0
           st_same (same_act p) v ls s t k j r i q = value_same p v ls s t _ _ r i (λ u s1 t1 r1 k1 o1. q Next v ls s1 t1 r1 k1 (kept_in s s1 v ls k1 i))
           st_same (same_print {n = n} p) v ls s t k j r i q = print_same n p v ls s t _ _ r i (λ s1 t1 r1 k1. q Next v ls s1 t1 r1 k1 (kept_in s s1 v ls k1 i))
           st_same (same_choose a) v ls s t k j r i q = arms_same a v ls s t k j r i q
-          st_same (same_loop {t = a} {u = b} {is_while = is_while} {first = first} {step = step} {body = body} {other = other} {last = last} {code = code} {e = e} {d = d} p1 p2 p3
+          st_same (same_loop {t = a} {u = b} {is_while = is_while} {first = first} {step = step} {body = body} {other = other} {last = last}
+              {code = code} {e = e} {d = d} p1 p2 p3
               p4) v ls s t k j r i q =
               sts_same p1 v ls s t _ _ r i (λ w v1 ls1 s1 t1 r1 k1 i1.
               let q1 = on_flow s s1 k j k1 q in

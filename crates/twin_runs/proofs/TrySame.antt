@@ -127,7 +127,8 @@ new_main = main_of 1 (locals_of 2 3) (main_code 2 3 (codes "h") (codes "n"))
 abbrev new_program : Plain
 new_program =
     record {
-      classes = class (codes "Object") None ∷ class (codes "Main") (under 0) ∷ record (class (codes "A_1") (under 0)) { is_abstract = true } ∷ class (codes "B_2") (under 2) ∷ [];
+      classes = class (codes "Object") None ∷ class (codes "Main") (under 0) ∷ record (class (codes "A_1") (under 0)) { is_abstract = true }
+          ∷ class (codes "B_2") (under 2) ∷ [];
       fields = record { owner = 2; name = codes "g"; is_static = false; ty = plain_type Int; tag = tag }
           ∷ record { owner = 2; name = codes "h"; is_static = false; ty = plain_type Int; tag = tag } ∷ [];
       methods = new_main ∷ new_second ∷ new_first ∷ new_head ∷ new_filler ∷ [];

@@ -162,7 +162,8 @@ module _ (L M : Lang) (K : Link) (Made : Option ℕ → Kind → Kind → Type 0
         same_act : {t u : Tag} {e d : Ex} → Same e d → SameSt (act t e) (act u d)
         same_print : {t u : Tag} {n : Bool} {e d : Option Ex} → SameIf e d → SameSt (print t n e) (print u n d)
         same_choose : {t u : Tag} {a b : Arms} → SameArms a b → SameSt (choose t a) (choose u b)
-        same_loop : {t u : Tag} {is_while : Bool} {first step body other last code : Sts} {e d : Option Ex} → SameSts first other → SameIf e d → SameSts step last
+        same_loop : {t u : Tag} {is_while : Bool} {first step body other last code : Sts} {e d : Option Ex} → SameSts first other → SameIf e d
+            → SameSts step last
             → SameSts body code
             → SameSt (loop t is_while first e step body) (loop u is_while other d last code)
         same_return : {t u : Tag} {e d : Option Ex} → SameIf e d → SameSt (return t e) (return u d)

@@ -24,7 +24,8 @@ pub record Keeps (P Q : Plain) (F : Facts) (H : Hierarchy) (W : Plain) : Type 0 
   pub rows : OffersRows P Q F H W rebuilds.places
   pub run : HasSameRun P W
 
--- p is the program of a text, ready with its facts, sets, table and a hierarchy that breaks no obligation; w any formed program to which the tree resolves that is written of them
+-- p is the program of a text, ready with its facts, sets, table and a hierarchy that breaks no obligation; w any formed program to which the tree
+-- resolves that is written of them
 unfoldable pub WrittenRuns : Type 0
 WrittenRuns = (declarations : List DeclTree) (p w : Program) (F : Facts) (s : PointsTo) (t : Table) (H : Hierarchy)
     → Resolves declarations (program_of at_place p) → IsReady (program_of no_place p) (program_of at_place p) F s t H

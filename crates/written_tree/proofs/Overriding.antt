@@ -1,4 +1,5 @@
--- An overriding method that calls super, and the program that is written of its hierarchy: class A { int f; int m() { return this.f; } }, class B extends A { int m() { return super.m() + 1; } }, and a main with A x = new B() that prints x.m().
+-- An overriding method that calls super, and the program that is written of its hierarchy: class A { int f; int m() { return this.f; } }, class B
+-- extends A { int m() { return super.m() + 1; } }, and a main with A x = new B() that prints x.m().
 use Rattle.std.proofs.Common.{◌≡◌, ℕ, Bool, true, false, List, [], ◌∷◌, refl, lit≤}
 use Rattle.std.specs.Prelude.{ℤ, pos, Option, Some, None, codes}
 use Rattle.std.specs.declared.vec.Vec.{Vec}
@@ -37,7 +38,8 @@ the_main =
       params = variable (codes "args") (record { base = ty.Str; dim = 1 }) 92 ∷ [];
       locals = variable (codes "x") (plain (ty.Class (record { 0 = 1 }))) 100 ∷ [];
       result = None;
-      body = Some (st_then (declare (at 100) 1 (Some (create (at 104) 0 2 no_ex))) (st_then (print (at 110) true (Some (call (at 122) (local (at 120) 1) (codes "m") no_ex))) no_st));
+      body = Some (st_then (declare (at 100) 1 (Some (create (at 104) 0 2 no_ex)))
+          (st_then (print (at 110) true (Some (call (at 122) (local (at 120) 1) (codes "m") no_ex))) no_st));
       tag = at 90;
     }
 
@@ -47,7 +49,9 @@ program =
       classes = class (codes "Object") None 0 ∷ class (codes "A") (under 0) 6 ∷ class (codes "B") (under 1) 50 ∷ class (codes "Main") (under 0) 80 ∷ [];
       fields = a_field 1 (codes "f") (plain ty.Int) 20 ∷ [];
       methods = a_method 1 (codes "m") 0 (Some (plain ty.Int)) 30 (st_then (return (at 36) (Some (field (at 42) (this (at 40)) (codes "f")))) no_st)
-          ∷ a_method 2 (codes "m") 0 (Some (plain ty.Int)) 60 (st_then (return (at 66) (Some (binary (at 74) (bin.Int op.Plus) (super_call (at 70) (codes "m") no_ex) (number (at 76) (pos 1))))) no_st)
+          ∷ a_method 2 (codes "m") 0 (Some (plain ty.Int)) 60
+              (st_then (return (at 66) (Some (binary (at 74) (bin.Int op.Plus) (super_call (at 70) (codes "m") no_ex) (number (at 76) (pos 1)))))
+              no_st)
           ∷ the_main ∷ [];
       slots = record { name = codes "m"; params = []; result = Some (plain ty.Int); first = 0 } ∷ [];
       main = 2;
@@ -62,7 +66,8 @@ nodes =
 
 abbrev facts : Facts → Facts
 facts others = record others {
-  columns = listed others.columns (column Fld 1 None (codes "f") ∷ column Dcl 1 (Some 0) (codes "m") ∷ column Def 1 (Some 0) (codes "m") ∷ column Dcl 2 (Some 0) (codes "m") ∷ column Def 2 (Some 0) (codes "m") ∷ []) (lit≤ tt);
+  columns = listed others.columns (column Fld 1 None (codes "f") ∷ column Dcl 1 (Some 0) (codes "m") ∷ column Def 1 (Some 0) (codes "m")
+      ∷ column Dcl 2 (Some 0) (codes "m") ∷ column Def 2 (Some 0) (codes "m") ∷ []) (lit≤ tt);
   sites = listed others.sites (site 3 2 ∷ []) (lit≤ tt);
 }
 
@@ -71,16 +76,21 @@ expected =
     InterfaceTree [] (codes "A_0") [] (an_head [] (Some (type base.Int)) (codes "m") [] ∷ []) nowhere
     ∷ ClassTree (modifier Abstract ∷ []) (codes "A_1") None (id (codes "A_0") ∷ [])
     (FieldTree [] (type base.Int) (codes "f") nowhere
-    ∷ MethodTree (an_head (modifier Public ∷ []) (Some (type base.Int)) (codes "m") []) (Some (and_then (ReturnOf (Some (FieldOf (ThisRef nowhere) (codes "f") nowhere)) nowhere) no_statements)) nowhere ∷ []) nowhere
+    ∷ MethodTree (an_head (modifier Public ∷ []) (Some (type base.Int)) (codes "m") [])
+        (Some (and_then (ReturnOf (Some (FieldOf (ThisRef nowhere) (codes "f") nowhere)) nowhere) no_statements)) nowhere ∷ []) nowhere
     ∷ ClassTree [] (codes "B_2") (Some (id (codes "A_1"))) []
     (MethodTree (an_head (modifier Public ∷ []) (Some (type base.Int)) (codes "m") [])
-    (Some (and_then (ReturnOf (Some (BinaryOf marks.Plus (SuperCallOf (codes "m") no_more nowhere) (IntLit (pos 1) nowhere) nowhere)) nowhere) no_statements)) nowhere ∷ []) nowhere
+    (Some (and_then (ReturnOf (Some (BinaryOf marks.Plus (SuperCallOf (codes "m") no_more nowhere) (IntLit (pos 1) nowhere) nowhere)) nowhere)
+        no_statements)) nowhere ∷ []) nowhere
     ∷ ClassTree [] (codes "Main") None []
-    (MethodTree (an_head (modifier Public ∷ modifier Static ∷ []) None (codes "main") (record { is_final = false; ty = record { base = base.Named (codes "String"); dim = 1; place = nowhere }; name = codes "args"; place = nowhere } ∷ []))
+    (MethodTree (an_head (modifier Public ∷ modifier Static ∷ []) None (codes "main")
+        (record { is_final = false; ty = record { base = base.Named (codes "String"); dim = 1; place = nowhere }; name = codes "args"; place =
+        nowhere } ∷ []))
     (Some (and_then (LocalOf false (type (base.Named (codes "A_0"))) (codes "x") (Some (NewOf (id (codes "B_2")) no_more nowhere)) nowhere)
     (and_then (PrintOf true (Some (CallOn (NameRef (codes "x") nowhere) (codes "m") no_more nowhere)) nowhere) no_statements))) nowhere ∷ []) nowhere
     ∷ []
 
 tree : (others : Facts) → java_tree program program (facts others) nodes ≡ expected
-unfolding java_tree renaming_of numbers rows_of row_number columns_of column_number parts_of type_in call_signature super_signature field_in access_type below member_field field_of declaration_of search_order super_method
+unfolding java_tree renaming_of numbers rows_of row_number columns_of column_number parts_of type_in call_signature super_signature field_in
+    access_type below member_field field_of declaration_of search_order super_method
 tree others = refl

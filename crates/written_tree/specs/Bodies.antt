@@ -117,7 +117,8 @@ module _ (P : Plain) (R : Renaming) (H : Hierarchy) (m : ℕ) (k : PlainMethod) 
 
   -- a local, without `final`
   abbrev pub declared : ℕ → Option Expression → Statement
-  declared i e = option_map_or (λ v. LocalOf false (written_type P H (R.row_type (variable_row m k i)) v.ty) v.name e nowhere) (slice_get (variables_of k) i) (BlockOf no_statements nowhere)
+  declared i e = option_map_or (λ v. LocalOf false (written_type P H (R.row_type (variable_row m k i)) v.ty) v.name e nowhere)
+      (slice_get (variables_of k) i) (BlockOf no_statements nowhere)
 
   abbrev mutual
     pub written_st : List ℕ → St → Statement
@@ -128,7 +129,8 @@ module _ (P : Plain) (R : Renaming) (H : Hierarchy) (m : ℕ) (k : PlainMethod) 
     written_st scope (print t line e) = PrintOf line (written_if scope e) nowhere
     written_st scope (choose t a) = IfOf (written_arms scope a) (written_else scope a) nowhere
     written_st scope (loop t is_while first e step body) =
-        let inner = scope_after_part scope first in loop_tree is_while (written_part scope first) (written_if inner e) (written_part inner step) (written_sts inner body)
+        let inner = scope_after_part scope first in loop_tree is_while (written_part scope first) (written_if inner e) (written_part inner step)
+            (written_sts inner body)
     written_st scope (return t e) = ReturnOf (written_if scope e) nowhere
     written_st scope (break t) = BreakOf nowhere
     written_st scope (continue t) = ContinueOf nowhere

@@ -83,10 +83,12 @@ module _ (P : Plain) (R : Renaming) (H : Hierarchy) where
 
   -- the static members of a holder keep their names
   abbrev pub static_field_member : ℕ → ℕ → PlainField → List MemberTree
-  static_field_member c f k = when (k.is_static && (k.owner == c)) (FieldTree (modifier Public ∷ modifier Static ∷ []) (written_type P H (R.row_type (row.Field f)) k.ty) k.name nowhere ∷ [])
+  static_field_member c f k = when (k.is_static && (k.owner == c)) (FieldTree (modifier Public ∷ modifier Static ∷ [])
+      (written_type P H (R.row_type (row.Field f)) k.ty) k.name nowhere ∷ [])
 
   abbrev pub static_method_member : ℕ → ℕ → PlainMethod → List MemberTree
-  static_method_member c m k = when (k.is_static && (k.owner == c)) (MethodTree (head (modifier Public ∷ modifier Static ∷ []) k.name m k) (body m k) nowhere ∷ [])
+  static_method_member c m k = when (k.is_static && (k.owner == c)) (MethodTree (head (modifier Public ∷ modifier Static ∷ []) k.name m k)
+      (body m k) nowhere ∷ [])
 
   -- the fields, then the methods, each in the order of the program
   abbrev pub holder_members : ℕ → List MemberTree

@@ -1,4 +1,5 @@
--- The program that is written of a class hierarchy (after Streckenbach and Snelting, 2004): a type for each live node, and then the holders of the static members.
+-- The program that is written of a class hierarchy (after Streckenbach and Snelting, 2004): a type for each live node, and then the holders of the
+-- static members.
 use Rattle.std.specs.Prelude.{ℕ, Bool, true, false, List, [], ◌∷◌, ◌++◌, map, None}
 use Rattle.kaba_base.specs.declared.words.Keyword.TheVariants.{Abstract}
 use Rattle.java_tree.specs.declared.Modifier.{Modifier}

@@ -19,7 +19,9 @@ none F a x None acyclic e = λ d h. cc ((finds-exact F acyclic a x d).1 h, e)
 none F a x (Some d) acyclic e = tt
 
 pub returns-clause-found : goal.returns-clause-found
-returns-clause-found c = found c.args.facts.now c.args.class.0 c.args.slot c.finds_within.result c.requires.facts.acyclic (value (goal.at.returns-clause-found c).After-finds_within)
+returns-clause-found c = found c.args.facts.now c.args.class.0 c.args.slot c.finds_within.result c.requires.facts.acyclic
+    (value (goal.at.returns-clause-found c).After-finds_within)
 
 pub returns-clause-none : goal.returns-clause-none
-returns-clause-none c = none c.args.facts.now c.args.class.0 c.args.slot c.finds_within.result c.requires.facts.acyclic (value (goal.at.returns-clause-none c).After-finds_within)
+returns-clause-none c = none c.args.facts.now c.args.class.0 c.args.slot c.finds_within.result c.requires.facts.acyclic
+    (value (goal.at.returns-clause-none c).After-finds_within)

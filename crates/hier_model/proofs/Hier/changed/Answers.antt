@@ -5,19 +5,25 @@ use Rattle.hier_model.proofs.FitLemmas.{fits_of}
 use Rattle.hier_model.proofs.Hier.changed.Goals as goal
 
 pub returns-in-Merge-clause-fits : goal.returns-in-Merge-clause-fits
-returns-in-Merge-clause-fits c = fits_of c.args.facts.now c.requires.range c.args.self.now c.requires.hierarchy (edit.Merge c.in-Merge.set) (subst NamesSome c.in-Merge.is c.requires.some) c.merge.result c.merge.ensures
+returns-in-Merge-clause-fits c = fits_of c.args.facts.now c.requires.range c.args.self.now c.requires.hierarchy (edit.Merge c.in-Merge.set)
+    (subst NamesSome c.in-Merge.is c.requires.some) c.merge.result c.merge.ensures
 
 pub returns-in-Under-clause-fits : goal.returns-in-Under-clause-fits
-returns-in-Under-clause-fits c = fits_of c.args.facts.now c.requires.range c.args.self.now c.requires.hierarchy (edit.Under c.in-Under.n c.in-Under.p) tt c.put_under.result c.put_under.ensures
+returns-in-Under-clause-fits c = fits_of c.args.facts.now c.requires.range c.args.self.now c.requires.hierarchy (edit.Under c.in-Under.n c.in-Under.p)
+    tt c.put_under.result c.put_under.ensures
 
 pub returns-in-Move-clause-fits : goal.returns-in-Move-clause-fits
-returns-in-Move-clause-fits c = fits_of c.args.facts.now c.requires.range c.args.self.now c.requires.hierarchy (edit.Move c.in-Move.c c.in-Move.n) tt c.move_column.result c.move_column.ensures
+returns-in-Move-clause-fits c = fits_of c.args.facts.now c.requires.range c.args.self.now c.requires.hierarchy (edit.Move c.in-Move.c c.in-Move.n) tt
+    c.move_column.result c.move_column.ensures
 
 pub returns-in-TypeName-clause-fits : goal.returns-in-TypeName-clause-fits
-returns-in-TypeName-clause-fits c = fits_of c.args.facts.now c.requires.range c.args.self.now c.requires.hierarchy (edit.TypeName c.in-TypeName.n c.in-TypeName.name) tt c.name_type.result c.name_type.ensures
+returns-in-TypeName-clause-fits c = fits_of c.args.facts.now c.requires.range c.args.self.now c.requires.hierarchy
+    (edit.TypeName c.in-TypeName.n c.in-TypeName.name) tt c.name_type.result c.name_type.ensures
 
 pub returns-in-MemberName-clause-fits : goal.returns-in-MemberName-clause-fits
-returns-in-MemberName-clause-fits c = fits_of c.args.facts.now c.requires.range c.args.self.now c.requires.hierarchy (edit.MemberName c.in-MemberName.c c.in-MemberName.name) tt c.name_member.result c.name_member.ensures
+returns-in-MemberName-clause-fits c = fits_of c.args.facts.now c.requires.range c.args.self.now c.requires.hierarchy
+    (edit.MemberName c.in-MemberName.c c.in-MemberName.name) tt c.name_member.result c.name_member.ensures
 
 pub returns-in-Drop-clause-fits : goal.returns-in-Drop-clause-fits
-returns-in-Drop-clause-fits c = fits_of c.args.facts.now c.requires.range c.args.self.now c.requires.hierarchy (edit.Drop c.in-Drop.n) tt c.drop_node.result c.drop_node.ensures
+returns-in-Drop-clause-fits c = fits_of c.args.facts.now c.requires.range c.args.self.now c.requires.hierarchy (edit.Drop c.in-Drop.n) tt
+    c.drop_node.result c.drop_node.ensures

@@ -7,10 +7,12 @@ pub from_rows-requires : goal.from_rows-requires
 from_rows-requires c =
     let live = c.in_ok-live in
     let le = c.in_ok-le in
-    subst IsPartialOrder (sym (order_from c.args.concepts.now live.live le.le.items live.ensures.width live.ensures.nodes le.ensures.len le.ensures.widths le.ensures.rows)) c.requires.order
+    subst IsPartialOrder (sym (order_from c.args.concepts.now live.live le.le.items live.ensures.width live.ensures.nodes le.ensures.len
+        le.ensures.widths le.ensures.rows)) c.requires.order
 
 pub returns : goal.returns
 returns c =
     let live = c.in_ok-live in
     let le = c.in_ok-le in
-    c.from_rows.ensures ∙ order_from c.args.concepts.now live.live le.le.items live.ensures.width live.ensures.nodes le.ensures.len le.ensures.widths le.ensures.rows
+    c.from_rows.ensures ∙ order_from c.args.concepts.now live.live le.le.items live.ensures.width live.ensures.nodes le.ensures.len
+        le.ensures.widths le.ensures.rows

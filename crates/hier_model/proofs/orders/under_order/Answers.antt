@@ -2,7 +2,10 @@ use Rattle.hier_model.proofs.MergedLemmas.{under_is, under_fault}
 use Rattle.hier_model.proofs.orders.under_order.Goals as goal
 
 pub returns-in-Ok-clause-order : goal.returns-in-Ok-clause-order
-returns-in-Ok-clause-order c = under_is c.args.order.now c.in_ok-under.under c.put_under.new.self c.args.n.0 c.args.p.0 c.in_ok-under.ensures c.in-Ok.ensures.least c.in-Ok.ensures.pairs
+returns-in-Ok-clause-order c = under_is c.args.order.now c.in_ok-under.under c.put_under.new.self c.args.n.0 c.args.p.0 c.in_ok-under.ensures
+    c.in-Ok.ensures.least c.in-Ok.ensures.pairs
 
 pub returns-in-Err-clause-fault : goal.returns-in-Err-clause-fault
-returns-in-Err-clause-fault c = rw c.fault_of.ensures (under_fault c.args.order.now c.in_ok-under.under c.args.n c.args.p c.in-Err.fault c.in_ok-under.ensures c.in-Err.ensures.cycle)
+returns-in-Err-clause-fault c =
+    rw c.fault_of.ensures (under_fault c.args.order.now c.in_ok-under.under c.args.n c.args.p c.in-Err.fault c.in_ok-under.ensures
+    c.in-Err.ensures.cycle)

@@ -18,10 +18,13 @@ loop-class-preserved c =
     elim c.if-below.branch [
       | then-below w ↦ record {
         member = subst (Contains cs) (sym w.lower-is) (Contains-get_or cs i d (omega arith));
-        only = subst (Only F c.requires.range.acyclic cs (i + 1)) (sym w.lower-is) (only_taken F c.requires.range.acyclic cs i low x (omega arith) is (sym w.if-below.ensures.value) c.loop-class.invariant.only);
+        only = subst (Only F c.requires.range.acyclic cs (i + 1)) (sym w.lower-is) (only_taken F c.requires.range.acyclic cs i low x (omega arith) is
+            (sym w.if-below.ensures.value) c.loop-class.invariant.only);
       }
       | else-below w ↦ record {
         member = subst (Contains cs) (sym w.lower-is) c.loop-class.invariant.member;
-        only = subst (Only F c.requires.range.acyclic cs (i + 1)) (sym w.lower-is) (only_left F c.requires.range.acyclic cs i low x c.loop-class.invariant.member is (sym w.if-below.ensures.value) c.loop-class.invariant.only);
+        only = subst (Only F c.requires.range.acyclic cs (i + 1)) (sym w.lower-is)
+            (only_left F c.requires.range.acyclic cs i low x c.loop-class.invariant.member is (sym w.if-below.ensures.value)
+            c.loop-class.invariant.only);
       }
     ]

@@ -4,4 +4,5 @@ use Rattle.hier_rules.specs.Obligations.{unchained}
 use Rattle.hier_rules.proofs.chains.first_unchained.Given as goal
 
 abbrev pub invariant-loop-n : goal.invariant-loop-n
-invariant-loop-n l = first_below l.n (λ n. first_below (length l.hier.order.live) (λ x. first_below (length l.hier.order.live) (unchained l.facts l.hier n x))) ≡ None
+invariant-loop-n l = first_below l.n (λ n. first_below (length l.hier.order.live) (λ x. first_below (length l.hier.order.live)
+    (unchained l.facts l.hier n x))) ≡ None

@@ -10,7 +10,8 @@ loop-n-preserved c =
     let H = c.args.hier.now in
     record {
       width = search rules;
-      exact = λ x. c.add_loose.ensures.added x ∙ ap (λ b. b || (eqb c.loop-n.n x && is_loose F H c.loop-n.n)) (c.loop-n.invariant.exact x) ∙ one_more (is_loose F H) c.loop-n.n x;
+      exact = λ x. c.add_loose.ensures.added x ∙ ap (λ b. b || (eqb c.loop-n.n x && is_loose F H c.loop-n.n)) (c.loop-n.invariant.exact x)
+          ∙ one_more (is_loose F H) c.loop-n.n x;
     }
 
 pub returns : goal.returns

@@ -8,4 +8,5 @@ first_standing-requires-clause-list c =
     listed_below (λ k. is_taken_field c.args.facts.now c.args.hier.now k ≡ true) (length c.args.facts.now.columns.items) c.args.list.now c.requires.list
 
 pub returns : goal.returns
-returns c = c.first_standing.ensures (is_taken_field c.args.facts.now c.args.hier.now) c.requires.list ∙ standing_taken c.args.facts.now c.args.hier.now c.args.n
+returns c = c.first_standing.ensures (is_taken_field c.args.facts.now c.args.hier.now) c.requires.list
+    ∙ standing_taken c.args.facts.now c.args.hier.now c.args.n

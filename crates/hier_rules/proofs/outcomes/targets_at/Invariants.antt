@@ -7,5 +7,6 @@ use Rattle.hier_rules.proofs.outcomes.targets_at.Given as goal
 abbrev pub invariant-loop-x : goal.invariant-loop-x
 invariant-loop-x l = record {
   width : length l.targets ≡ length l.facts.rows.items;
-  added : (t : ℕ) → bit l.targets t ≡ (list_any (is_test_at l.p t) l.facts.tests.items || list_any (is_store_at l.facts l.pt l.p t) (take l.x-index l.facts.stores.items));
+  added : (t : ℕ) → bit l.targets t ≡ (list_any (is_test_at l.p t) l.facts.tests.items || list_any (is_store_at l.facts l.pt l.p t)
+      (take l.x-index l.facts.stores.items));
 }

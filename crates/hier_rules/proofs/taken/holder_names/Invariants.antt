@@ -6,4 +6,5 @@ use Rattle.hier_model.specs.Taken.{texts}
 use Rattle.hier_rules.proofs.taken.holder_names.Given as goal
 
 abbrev pub invariant-loop-class : goal.invariant-loop-class
-invariant-loop-class l = (x : List ℕ) → is_taken (texts l.names.keys) x ≡ list_any (λ k. k.holder && bytes_eq k.name x) (take l.class-index l.facts.classes.items)
+invariant-loop-class l = (x : List ℕ) → is_taken (texts l.names.keys) x ≡ list_any (λ k. k.holder && bytes_eq k.name x)
+    (take l.class-index l.facts.classes.items)

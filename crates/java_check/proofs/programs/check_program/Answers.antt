@@ -8,8 +8,10 @@ use Rattle.java_check.proofs.JudgedPrograms.{program_right, ok_typed, err_refuse
 use Rattle.java_check.proofs.programs.check_program.Goals as goal
 use Rattle.java_check.proofs.programs.check_program.Goals.{After-first_fault}
 
-right : (c : After-first_fault) → Right (IsTyped (program_of no_place c.args.p.now)) (FailsIn (program_of no_place c.args.p.now) (program_of at_place c.args.p.now)) c.first_fault.result
-right c = subst (Right (IsTyped (program_of no_place c.args.p.now)) (FailsIn (program_of no_place c.args.p.now) (program_of at_place c.args.p.now))) (sym c.first_fault.ensures) (program_right c.args.p.now)
+right : (c : After-first_fault) → Right (IsTyped (program_of no_place c.args.p.now)) (FailsIn (program_of no_place c.args.p.now)
+    (program_of at_place c.args.p.now)) c.first_fault.result
+right c = subst (Right (IsTyped (program_of no_place c.args.p.now)) (FailsIn (program_of no_place c.args.p.now) (program_of at_place c.args.p.now)))
+    (sym c.first_fault.ensures) (program_right c.args.p.now)
 
 pub returns-clause-typed : goal.returns-clause-typed
 returns-clause-typed c = ok_typed c.args.p.now c.first_fault.result (right (goal.at.returns-clause-typed c).After-first_fault)

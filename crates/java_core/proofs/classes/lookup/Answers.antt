@@ -9,8 +9,10 @@ use Rattle.java_core.proofs.Subclasses.{IsAcyclic, nearest_of-nearest, nearest-n
 use Rattle.java_core.proofs.classes.lookup.Goals as goal
 use Rattle.java_core.proofs.classes.lookup.Goals.{After-nearest_of_slot}
 
-body : (c : After-nearest_of_slot) → option_map (λ (d : MemberId). d.0) c.nearest_of_slot.result ≡ nearest_of (program_of no_place c.args.p.now) (λ k. own_body (program_of no_place c.args.p.now) k c.args.slot) c.args.class.0
-body c = let P = program_of no_place c.args.p.now in c.nearest_of_slot.ensures ∙ ap (λ n. nearest P (λ k. own_body P k c.args.slot) n c.args.class.0) c.class_count.ensures
+body : (c : After-nearest_of_slot) → option_map (λ (d : MemberId). d.0) c.nearest_of_slot.result ≡ nearest_of (program_of no_place c.args.p.now)
+    (λ k. own_body (program_of no_place c.args.p.now) k c.args.slot) c.args.class.0
+body c = let P = program_of no_place c.args.p.now in c.nearest_of_slot.ensures ∙ ap (λ n. nearest P (λ k. own_body P k c.args.slot) n c.args.class.0)
+    c.class_count.ensures
 
 module _ (P : Plain) (a s : ℕ) where
   found : (r : Option MemberId) → option_map (λ (d : MemberId). d.0) r ≡ nearest_of P (λ k. own_body P k s) a → IfSome r (λ d. Runs P a s d.0)
@@ -18,13 +20,16 @@ module _ (P : Plain) (a s : ℕ) where
   found None e = tt
   found (Some d) e = nearest_of-nearest P (λ k. own_body P k s) (sym e)
 
-  none : (r : Option MemberId) → IsAcyclic P → option_map (λ (d : MemberId). d.0) r ≡ nearest_of P (λ k. own_body P k s) a → IfNone r ((d : ℕ) → Runs P a s d → ⊥)
+  none : (r : Option MemberId) → IsAcyclic P → option_map (λ (d : MemberId). d.0) r ≡ nearest_of P (λ k. own_body P k s) a
+      → IfNone r ((d : ℕ) → Runs P a s d → ⊥)
   unfolding Runs
   none None acyclic e = λ d h. cc (nearest-nearest_of P (λ k. own_body P k s) acyclic h, e)
   none (Some d) acyclic e = tt
 
 pub returns-clause-found : goal.returns-clause-found
-returns-clause-found c = found (program_of no_place c.args.p.now) c.args.class.0 c.args.slot c.nearest_of_slot.result (body (goal.at.returns-clause-found c).After-nearest_of_slot)
+returns-clause-found c = found (program_of no_place c.args.p.now) c.args.class.0 c.args.slot c.nearest_of_slot.result
+    (body (goal.at.returns-clause-found c).After-nearest_of_slot)
 
 pub returns-clause-none : goal.returns-clause-none
-returns-clause-none c = none (program_of no_place c.args.p.now) c.args.class.0 c.args.slot c.nearest_of_slot.result c.requires.acyclic (body (goal.at.returns-clause-none c).After-nearest_of_slot)
+returns-clause-none c = none (program_of no_place c.args.p.now) c.args.class.0 c.args.slot c.nearest_of_slot.result c.requires.acyclic
+    (body (goal.at.returns-clause-none c).After-nearest_of_slot)

@@ -6,4 +6,5 @@ use Rattle.java_core.proofs.Positions.{position-map}
 use Rattle.java_core.proofs.classes.own_method.Goals as goal
 
 pub returns : goal.returns
-returns c = c.member.ensures ∙ c.own_method_at.ensures.value ∙ sym (position-map (method_seen no_place) (λ m. is_method_of c.args.class.0 c.args.name.now m) c.args.p.now.methods.items)
+returns c = c.member.ensures ∙ c.own_method_at.ensures.value
+    ∙ sym (position-map (method_seen no_place) (λ m. is_method_of c.args.class.0 c.args.name.now m) c.args.p.now.methods.items)

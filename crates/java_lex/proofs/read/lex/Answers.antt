@@ -19,5 +19,6 @@ returns-in-Err c =
     let n : c.valid_up_to.result ≡ utf8_valid_len c.args.bytes.now.items = c.valid_up_to.ensures ∙ c.in-Err.ensures.valid_len ∙ ap utf8_valid_len e in
     record {
       value = tokens_err c.args.bytes.now.items c.valid_up_to.result (λ u. c.in-Err.ensures.cases.0 (subst IsUtf8 (sym e) u)) n
-          ∙ ap (λ (p : Place). fails (faults.BadByte p)) (sym (c.byte_place.ensures ∙ ap (λ bs. byte_place bs c.valid_up_to.result) c.as_slice-in-Err.ensures.value));
+          ∙ ap (λ (p : Place). fails (faults.BadByte p))
+              (sym (c.byte_place.ensures ∙ ap (λ bs. byte_place bs c.valid_up_to.result) c.as_slice-in-Err.ensures.value));
     }

@@ -51,4 +51,5 @@ decreases-put_unary l = 4 * expr_size (expr_of l.value.now) + 2
 
 -- the arguments that are left are still to add
 abbrev pub invariant-put_args-loop-i : goal.invariant-put_args-loop-i
-invariant-put_args-loop-i l = (r : List Item) → Adds l.fn.into.items l.into.items (args_items false (exprs l.args) r) (args_items (nat_lt 0 l.i) (exprs (drop l.i l.args)) r)
+invariant-put_args-loop-i l = (r : List Item) → Adds l.fn.into.items l.into.items (args_items false (exprs l.args) r)
+    (args_items (nat_lt 0 l.i) (exprs (drop l.i l.args)) r)

@@ -6,6 +6,7 @@ use Rattle.java_print.proofs.put.put_char_literal.Goals as goal
 
 pub returns : goal.returns
 returns c = record {
-  value = on_ok c.put_char-2.result c.put_char-2.ensures.value (λ h. adds_quoted c.args.into.now.items c.put_char.new.into.items c.put_units.new.into.items c.put_char-2.new.into.items 39 (units_written (c.args.unit ∷ [])) (kinds.Char c.args.unit) refl
+  value = on_ok c.put_char-2.result c.put_char-2.ensures.value (λ h. adds_quoted c.args.into.now.items c.put_char.new.into.items
+      c.put_units.new.into.items c.put_char-2.new.into.items 39 (units_written (c.args.unit ∷ [])) (kinds.Char c.args.unit) refl
       c.in_ok-put_char.ensures.value c.in_ok-put_units.ensures.value h);
 }

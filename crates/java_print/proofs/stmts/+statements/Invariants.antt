@@ -42,8 +42,10 @@ decreases-put_last l = 8 * stmts_size (stmts l.body.now) + 5
 
 -- the statements that are left are still to add
 abbrev pub invariant-put_stmts-loop-s : goal.invariant-put_stmts-loop-s
-invariant-put_stmts-loop-s l = (r : List Item) → Adds l.fn.into.items l.into.items (stmts_items l.margin (stmts l.body) r) (stmts_items l.margin (stmts (drop l.s-index l.body)) r)
+invariant-put_stmts-loop-s l = (r : List Item) → Adds l.fn.into.items l.into.items (stmts_items l.margin (stmts l.body) r)
+    (stmts_items l.margin (stmts (drop l.s-index l.body)) r)
 
 -- the arms that are left are still to add
 abbrev pub invariant-put_arms-loop-i : goal.invariant-put_arms-loop-i
-invariant-put_arms-loop-i l = (r : List Item) → Adds l.fn.into.items l.into.items (arms_items l.margin false (arms_seen l.arms) r) (arms_items l.margin (nat_lt 0 l.i) (arms_seen (drop l.i l.arms)) r)
+invariant-put_arms-loop-i l = (r : List Item) → Adds l.fn.into.items l.into.items (arms_items l.margin false (arms_seen l.arms) r)
+    (arms_items l.margin (nat_lt 0 l.i) (arms_seen (drop l.i l.arms)) r)

@@ -12,7 +12,8 @@ pub is_within-requires : goal.is_within-requires
 is_within-requires c =
     let s = seen c.self.inside.width c.self.inside.words.items c.args.self.now c.self.invariant c.self.view_is in
     let t = seen c.other.inside.width c.other.inside.words.items c.args.other.now c.other.invariant c.other.view_is in
-    let e = same_words c.self.inside.width c.other.inside.width c.self.inside.words.items c.other.inside.words.items c.args.self.now c.args.other.now c.self.invariant c.other.invariant s t c.requires in
+    let e = same_words c.self.inside.width c.other.inside.width c.self.inside.words.items c.other.inside.words.items c.args.self.now c.args.other.now
+        c.self.invariant c.other.invariant s t c.requires in
     ap length c.deref.ensures.value ∙ (sym e ∙ sym (ap length c.deref-2.ensures.value))
 
 pub returns-then-is_within-clause-join : goal.returns-then-is_within-clause-join
@@ -28,7 +29,8 @@ pub join_words-requires : goal.join_words-requires
 join_words-requires c =
     let s = seen c.self.inside.width c.self.inside.words.items c.args.self.now c.self.invariant c.self.view_is in
     let t = seen c.other.inside.width c.other.inside.words.items c.args.other.now c.other.invariant c.other.view_is in
-    let e = same_words c.self.inside.width c.other.inside.width c.self.inside.words.items c.other.inside.words.items c.args.self.now c.args.other.now c.self.invariant c.other.invariant s t c.requires in
+    let e = same_words c.self.inside.width c.other.inside.width c.self.inside.words.items c.other.inside.words.items c.args.self.now c.args.other.now
+        c.self.invariant c.other.invariant s t c.requires in
     ap length c.deref_mut.ensures.value ∙ (e ∙ sym (ap length c.deref-3.ensures.value))
 
 -- what the call left, in the words of the two rows
@@ -61,7 +63,8 @@ left c =
       held = HoldWidth-joined w xs ys new a b c.self.invariant g s u len joined;
       kept = with_items_is c.self.inside.words new (len ∙ sym c.self.inside.words.ok.0);
       bits = bits;
-      grew = size-grows a (row_of w new) stray.0 (s.len ∙ sym (length-row_of w new)) (λ i h. bits i ∙ or_left (bit a i) (bit b i) h) (bits stray.0 ∙ (ap (λ x. x || bit b stray.0) lacks ∙ has)) lacks;
+      grew = size-grows a (row_of w new) stray.0 (s.len ∙ sym (length-row_of w new)) (λ i h. bits i ∙ or_left (bit a i) (bit b i) h) (bits stray.0
+          ∙ (ap (λ x. x || bit b stray.0) lacks ∙ has)) lacks;
     }
 
 pub invariant_of-self : goal.invariant_of-self

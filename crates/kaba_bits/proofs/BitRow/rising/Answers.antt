@@ -21,7 +21,8 @@ scan-preserved c =
       list = rw c.in_ok-push.ensures.items (ap (λ l. l ++ i ∷ []) (c.scan.invariant.list ∙ sym skipped) ∙ sym (rising_more set i true lt (sym found.holds)));
       exact = rw c.in_ok-push.ensures.items
           (ListsBelow-push (λ k. bit set k ≡ true) i xs
-          (ListsBelow-rest (λ k. bit set k ≡ true) at xs c.scan.invariant.exact i found.low (λ k low below h. false≢true (sym (found.least k low below) ∙ h))) found.holds);
+          (ListsBelow-rest (λ k. bit set k ≡ true) at xs c.scan.invariant.exact i found.low
+              (λ k low below h. false≢true (sym (found.least k low below) ∙ h))) found.holds);
     }
 
 pub returns : goal.returns
@@ -33,7 +34,8 @@ returns c =
     let past = rising_past set at n c.scan.invariant.below (omega arith) none in
     record {
       list = c.scan.invariant.list ∙ (sym past ∙ ap rising (take_all n set (omega arith)));
-      exact = ListsBelow-rest (λ k. bit set k ≡ true) at c.scan.numbers.items c.scan.invariant.exact n c.scan.invariant.below (λ k low below h. false≢true (sym (none k low below) ∙ h));
+      exact = ListsBelow-rest (λ k. bit set k ≡ true) at c.scan.numbers.items c.scan.invariant.exact n c.scan.invariant.below
+          (λ k low below h. false≢true (sym (none k low below) ∙ h));
     }
 
 pub overflow_add-at : goal.overflow_add-at

@@ -12,6 +12,7 @@ loop-b-preserved c =
     let nodes = c.loop-b.above.items in
     let b = c.loop-b.b in
     elim c.if-is_cover.branch [
-      | then-is_cover+in_ok-push w ↦ rw (w.above-is, w.in_ok-push.ensures.items, numbers-push nodes (record { 0 = b })) (ListsBelow-push P b (numbers nodes) c.loop-b.invariant (w.if-is_cover.ensures.0 refl))
+      | then-is_cover+in_ok-push w ↦ rw (w.above-is, w.in_ok-push.ensures.items, numbers-push nodes (record { 0 = b }))
+          (ListsBelow-push P b (numbers nodes) c.loop-b.invariant (w.if-is_cover.ensures.0 refl))
       | else-is_cover w ↦ rw w.above-is (ListsBelow-skip P b (numbers nodes) c.loop-b.invariant (λ h. false≢true (w.if-is_cover.ensures.1 h)))
     ]

@@ -21,16 +21,24 @@ least c =
     let apart : is_le old p n ≡ true → p ≡ n = λ h. ⊎_elim (λ e. e) (λ ne. absurd (false≢true (c.if-is_strictly_below.ensures.1 (h, ne)))) (cases_eq p n) in
     let before = c.deref_mut.ensures.value ∙ le in
     let rows = rw before at c.close_under.ensures.rows in
-    let count : length c.close_under.new.le ≡ length c.self.inside.live = c.close_under.ensures.len ∙ (ap length before ∙ (order.count ∙ ap length (sym live))) in
-    let widths : HasWidth (length c.self.inside.live) c.close_under.new.le = subst (λ w. HasWidth w c.close_under.new.le) (sym c.close_under.ensures.len ∙ count) c.close_under.ensures.widths in
+    let count : length c.close_under.new.le ≡ length c.self.inside.live = c.close_under.ensures.len
+        ∙ (ap length before ∙ (order.count ∙ ap length (sym live))) in
+    let widths : HasWidth (length c.self.inside.live) c.close_under.new.le = subst (λ w. HasWidth w c.close_under.new.le)
+        (sym c.close_under.ensures.len ∙ count) c.close_under.ensures.widths in
     least_under old (made c) n p order count widths live rows c.requires.n c.requires.p apart
 
 -- the field after the call is the list that the call left
-whole : (c : After-close_under) → made c ≡ record { live = c.self.inside.live; le = take c.self.inside.le.len (c.close_under.new.le ++ drop (length c.close_under.new.le) c.self.inside.le.items) }
-whole c = ap (λ (l : List (List Bool)). let o : Ordered = record { live = c.self.inside.live; le = l } in o) (sym (with_items_is c.self.inside.le c.close_under.new.le (c.close_under.ensures.len ∙ (ap length c.deref_mut.ensures.value ∙ sym c.self.inside.le.ok.0))))
+whole : (c : After-close_under)
+    → made c ≡ record { live = c.self.inside.live; le = take c.self.inside.le.len (c.close_under.new.le ++ drop (length c.close_under.new.le)
+    c.self.inside.le.items) }
+whole c = ap (λ (l : List (List Bool)). let o : Ordered = record { live = c.self.inside.live; le = l } in o)
+    (sym (with_items_is c.self.inside.le c.close_under.new.le (c.close_under.ensures.len
+    ∙ (ap length c.deref_mut.ensures.value ∙ sym c.self.inside.le.ok.0))))
 
 pub invariant_of-self : goal.invariant_of-self
-invariant_of-self c = subst IsPartialOrder (whole (goal.at.invariant_of-self c).After-close_under) ((least (goal.at.invariant_of-self c).After-close_under).order)
+invariant_of-self c = subst IsPartialOrder (whole (goal.at.invariant_of-self c).After-close_under)
+    ((least (goal.at.invariant_of-self c).After-close_under).order)
 
 pub returns-clause-least : goal.returns-clause-least
-returns-clause-least c = subst (IsLeastWith c.args.self.now c.args.n.0 c.args.p.0) (whole (goal.at.returns-clause-least c).After-close_under) (least (goal.at.returns-clause-least c).After-close_under)
+returns-clause-least c = subst (IsLeastWith c.args.self.now c.args.n.0 c.args.p.0) (whole (goal.at.returns-clause-least c).After-close_under)
+    (least (goal.at.returns-clause-least c).After-close_under)

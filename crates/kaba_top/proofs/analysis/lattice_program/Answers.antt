@@ -5,4 +5,5 @@ use Rattle.kaba_top.proofs.Analysing.{analysed}
 use Rattle.kaba_top.proofs.analysis.lattice_program.Goals as goal
 
 pub returns-in-Found : goal.returns-in-Found
-returns-in-Found c = analysed (LatticeOf c.args.json c.args.bound) c.args.program.now c.in-Found.facts c.lattice_reply.result (subst (IsAnalysis c.args.program.now) c.in-Found.is c.in_ok-facts.ensures) c.lattice_reply.ensures
+returns-in-Found c = analysed (LatticeOf c.args.json c.args.bound) c.args.program.now c.in-Found.facts c.lattice_reply.result
+    (subst (IsAnalysis c.args.program.now) c.in-Found.is c.in_ok-facts.ensures) c.lattice_reply.ensures

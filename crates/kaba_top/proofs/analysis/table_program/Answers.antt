@@ -5,4 +5,5 @@ use Rattle.kaba_top.proofs.Analysing.{analysed}
 use Rattle.kaba_top.proofs.analysis.table_program.Goals as goal
 
 pub returns-in-Found : goal.returns-in-Found
-returns-in-Found c = analysed TableOf c.args.program.now c.in-Found.facts c.table_reply.result (subst (IsAnalysis c.args.program.now) c.in-Found.is c.in_ok-facts.ensures) c.table_reply.ensures
+returns-in-Found c = analysed TableOf c.args.program.now c.in-Found.facts c.table_reply.result (subst (IsAnalysis c.args.program.now) c.in-Found.is
+    c.in_ok-facts.ensures) c.table_reply.ensures

@@ -6,33 +6,42 @@ use Rattle.kaba_top.proofs.answer.answer.Goals as goal
 
 pub returns-in-Err-Usage : goal.returns-in-Err-Usage
 returns-in-Err-Usage g c = record {
-  replies = usage_replies (g.F.Shelf.files c.args.shelf.now) (g.F.Shelf.faults c.args.shelf.now) (g.F.Shelf.faults c.args.shelf.now) (texts c.args.words.now.items) c.line.result (c.in-Err-Usage.ensures.usage (ap Err c.in-Err-Usage.field-0-is)) c.line.ensures.says;
+  replies = usage_replies (g.F.Shelf.files c.args.shelf.now) (g.F.Shelf.faults c.args.shelf.now) (g.F.Shelf.faults c.args.shelf.now)
+      (texts c.args.words.now.items) c.line.result (c.in-Err-Usage.ensures.usage (ap Err c.in-Err-Usage.field-0-is)) c.line.ensures.says;
 }
 
 pub returns-in-Ok-Help : goal.returns-in-Ok-Help
 returns-in-Ok-Help g c = record {
-  replies = without_files (g.F.Shelf.files c.args.shelf.now) (g.F.Shelf.faults c.args.shelf.now) (g.F.Shelf.faults c.args.shelf.now) (texts c.args.words.now.items) help c.help_reply.result
-      (subst (λ command. Fits (texts c.args.words.now.items) (command_of command)) c.in-Ok-Help.field-0-is c.in-Ok-Help.ensures.command) (λ first second. c.help_reply.ensures.gives);
+  replies = without_files (g.F.Shelf.files c.args.shelf.now) (g.F.Shelf.faults c.args.shelf.now) (g.F.Shelf.faults c.args.shelf.now)
+      (texts c.args.words.now.items) help c.help_reply.result
+      (subst (λ command. Fits (texts c.args.words.now.items) (command_of command)) c.in-Ok-Help.field-0-is c.in-Ok-Help.ensures.command)
+          (λ first second. c.help_reply.ensures.gives);
 }
 
 pub returns-in-Ok-Version : goal.returns-in-Ok-Version
 returns-in-Ok-Version g c = record {
-  replies = without_files (g.F.Shelf.files c.args.shelf.now) (g.F.Shelf.faults c.args.shelf.now) (g.F.Shelf.faults c.args.shelf.now) (texts c.args.words.now.items) version c.version_reply.result
-      (subst (λ command. Fits (texts c.args.words.now.items) (command_of command)) c.in-Ok-Version.field-0-is c.in-Ok-Version.ensures.command) (λ first second. c.version_reply.ensures.gives);
+  replies = without_files (g.F.Shelf.files c.args.shelf.now) (g.F.Shelf.faults c.args.shelf.now) (g.F.Shelf.faults c.args.shelf.now)
+      (texts c.args.words.now.items) version c.version_reply.result
+      (subst (λ command. Fits (texts c.args.words.now.items) (command_of command)) c.in-Ok-Version.field-0-is c.in-Ok-Version.ensures.command)
+          (λ first second. c.version_reply.ensures.gives);
 }
 
 pub returns-in-Ok-Edit : goal.returns-in-Ok-Edit
 returns-in-Ok-Edit g c = record {
-  replies = of_command (g.F.Shelf.files c.args.shelf.now) (g.F.Shelf.faults c.args.shelf.now) (g.F.Shelf.faults c.edit_command.new.shelf) (texts c.args.words.now.items)
+  replies = of_command (g.F.Shelf.files c.args.shelf.now) (g.F.Shelf.faults c.args.shelf.now) (g.F.Shelf.faults c.edit_command.new.shelf)
+      (texts c.args.words.now.items)
       (edit c.in-Ok-Edit.bound (string_bytes c.in-Ok-Edit.file) (string_bytes c.in-Ok-Edit.script)) c.edit_command.result
-      (subst (λ command. Fits (texts c.args.words.now.items) (command_of command)) c.in-Ok-Edit.field-0-is c.in-Ok-Edit.ensures.command) c.edit_command.ensures.replies;
+      (subst (λ command. Fits (texts c.args.words.now.items) (command_of command)) c.in-Ok-Edit.field-0-is c.in-Ok-Edit.ensures.command)
+          c.edit_command.ensures.replies;
 }
 
 pub returns-in-Ok-Regen : goal.returns-in-Ok-Regen
 returns-in-Ok-Regen g c = record {
-  replies = of_command (g.F.Shelf.files c.args.shelf.now) (g.F.Shelf.faults c.args.shelf.now) (g.F.Shelf.faults c.regen_command.new.shelf) (texts c.args.words.now.items)
+  replies = of_command (g.F.Shelf.files c.args.shelf.now) (g.F.Shelf.faults c.args.shelf.now) (g.F.Shelf.faults c.regen_command.new.shelf)
+      (texts c.args.words.now.items)
       (regen c.in-Ok-Regen.bound (string_bytes c.in-Ok-Regen.file) (string_bytes c.in-Ok-Regen.script)) c.regen_command.result
-      (subst (λ command. Fits (texts c.args.words.now.items) (command_of command)) c.in-Ok-Regen.field-0-is c.in-Ok-Regen.ensures.command) c.regen_command.ensures.replies;
+      (subst (λ command. Fits (texts c.args.words.now.items) (command_of command)) c.in-Ok-Regen.field-0-is c.in-Ok-Regen.ensures.command)
+          c.regen_command.ensures.replies;
 }
 
 pub make_reply-requires : goal.make_reply-requires
@@ -43,7 +52,9 @@ make_reply-requires g c =
 
 pub returns-in-Ok-Make : goal.returns-in-Ok-Make
 returns-in-Ok-Make g c = record {
-  replies = without_files (g.F.Shelf.files c.args.shelf.now) (g.F.Shelf.faults c.args.shelf.now) (g.F.Shelf.faults c.args.shelf.now) (texts c.args.words.now.items)
+  replies = without_files (g.F.Shelf.files c.args.shelf.now) (g.F.Shelf.faults c.args.shelf.now) (g.F.Shelf.faults c.args.shelf.now)
+      (texts c.args.words.now.items)
       (make c.in-Ok-Make.prints c.in-Ok-Make.number) c.make_reply.result
-      (subst (λ command. Fits (texts c.args.words.now.items) (command_of command)) c.in-Ok-Make.field-0-is c.in-Ok-Make.ensures.command) (λ first second. c.make_reply.ensures.answers);
+      (subst (λ command. Fits (texts c.args.words.now.items) (command_of command)) c.in-Ok-Make.field-0-is c.in-Ok-Make.ensures.command)
+          (λ first second. c.make_reply.ensures.answers);
 }

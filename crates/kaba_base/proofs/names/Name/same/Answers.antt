@@ -13,6 +13,7 @@ returns c =
     record {
       value = (
         (λ t. sym c.self.view_is ∙ ap chars (sym c.as_str.ensures.value ∙ told.0 (sym c.eq.ensures ∙ t) ∙ c.as_str-2.ensures.value) ∙ c.other.view_is),
-        (λ e. c.eq.ensures ∙ told.1 (c.as_str.ensures.value ∙ same_chars mine others (IsUtf8-string_bytes c.self.inside.text) (IsUtf8-string_bytes c.other.inside.text) (c.self.view_is ∙ e ∙ sym c.other.view_is) ∙ sym c.as_str-2.ensures.value)),
+        (λ e. c.eq.ensures ∙ told.1 (c.as_str.ensures.value ∙ same_chars mine others (IsUtf8-string_bytes c.self.inside.text)
+            (IsUtf8-string_bytes c.other.inside.text) (c.self.view_is ∙ e ∙ sym c.other.view_is) ∙ sym c.as_str-2.ensures.value)),
       );
     }
