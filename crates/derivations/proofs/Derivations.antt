@@ -62,8 +62,12 @@ module _ {A : Type 0} (R : List A → A → Type 0) where
   pub derivable_from : (a : A) → IsDerivable R a → (premises : List A) × R premises a × AllByRecursion (IsDerivable R) premises
   derivable_from =
       derivable_least (λ a. (premises : List A) × R premises a × AllByRecursion (IsDerivable R) premises)
-      (λ ps a r h. (ps, r, each_weaker (λ p. (premises : List A) × R premises p × AllByRecursion (IsDerivable R) premises) (IsDerivable R)
-          (λ p d. derivable_by d.0 p d.1 d.2) ps h))
+      (λ ps a r h. (
+        ps,
+        r,
+        each_weaker (λ p. (premises : List A) × R premises p × AllByRecursion (IsDerivable R) premises) (IsDerivable R)
+            (λ p d. derivable_by d.0 p d.1 d.2) ps h,
+      ))
 
 -- more rules derive more
 pub derivable_more : {A : Type 0} (R S : List A → A → Type 0) → ((ps : List A) (a : A) → R ps a → S ps a) → (a : A) → IsDerivable R a → IsDerivable S a

@@ -40,7 +40,7 @@ module _ (F : Facts) (R : InRange F) (O : InOrder F) where
   own_there : (x e : ℕ) → IsBodyOf F (column_class F e) x e → own_body F (column_class F e) x ≡ None → ⊥
   own_there x e b none =
       passes_somewhere (λ k. is_body (column_class F e) x k) F.columns.items e
-          (record { kind = Is; class = record { 0 = 0 }; slot = None; name = []; label = [] }) b.below
+      (record { kind = Is; class = record { 0 = 0 }; slot = None; name = []; label = [] }) b.below
       (rw (b.kind, b.slot, eq-eqb (column_class F e) (column_class F e) refl, eq-eqb x x refl) refl)
       none
 
@@ -72,7 +72,7 @@ module _ (F : Facts) (R : InRange F) (O : InOrder F) where
       from None at e = absurd (cc e)
       from (Some k) at e =
           let all = All-contains (λ k. IfSome k.parent (IsClass F) × All (IsClass F) k.faces.items) F.classes.items k R.classes
-              (a, slice_get_within F.classes.items a k at, get_or_from_slice_get F.classes.items a k k at) in
+          (a, slice_get_within F.classes.items a k at, get_or_from_slice_get F.classes.items a k k at) in
           subst (λ o. IfSome o (IsClass F)) e all.0
 
   nearest : {a x d : ℕ} → Finds F a x d → is_interface F a ≡ false → (e : ℕ) → IsBodyOf F (column_class F e) x e → IsBelow F a (column_class F e)
@@ -120,7 +120,7 @@ module _ (F : Facts) (R : InRange F) (O : InOrder F) where
       let zero_e = above_interface F O a (column_class F e) face (plain_class x e b) up in
       subst (λ k. IsBelow F (column_class F d) k) (zero_d ∙ sym zero_e) same)
       (λ plain. finds_nearest p.0 x d h e b (above_parent a (column_class F e) p (plain_class x e b) (O.classes.parents a p plain above)
-          (parent_below a p above) above s))
+      (parent_below a p above) above s))
       (cases_Bool (is_interface F a)))
       (below_cases F up)
 

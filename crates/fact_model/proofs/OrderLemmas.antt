@@ -90,7 +90,7 @@ module _ (F : Facts) (R : InRange F) (O : InOrder F) where
       let runs : Runs F call o one.body = record { called = is; listed = one.listed; found = f ∙ ap Some (sym one.column) } in
       subst (λ v. IsInRow F v o) one.point_is
       (by_point one.body.this o one.point (derivable_by (Inclusion F) (in_point call.receiver o ∷ []) (in_point one.body.this o)
-          (flow_this call o one.body runs) (holds, tt)))
+      (flow_this call o one.body runs) (holds, tt)))
 
   super_above : (a d : ℕ) → IsNearestAbove F a d → IsStrictlyBelow F a (column_class F d)
   super_above a d n =
@@ -119,9 +119,9 @@ module _ (F : Facts) (R : InRange F) (O : InOrder F) where
       subst (λ w. IsThisOf F w k) vr (h.1.0.1 d (c ∙ ap (row_class F) (sym vr)) (subst (λ w. is_object_row F w ≡ false) (sym vr) o))
   own ps e (by_super x is) h d c o =
       let n = All-contains (λ y. (is_some (row_this F y.row.0) ≡ true) × IsDef F y.column.0 × IsNearestAbove F (row_class F y.row.0) y.column.0)
-          F.supers.items x O.bodies.supers is in
+      F.supers.items x O.bodies.supers is in
       absurd (O.classes.acyclic (row_class F x.row.0) (subst (λ a. IsStrictlyBelow F (row_class F x.row.0) a) c
-          (super_above (row_class F x.row.0) x.column.0 n.2)))
+      (super_above (row_class F x.row.0) x.column.0 n.2)))
   own ps e (by_tie x k is) h d c o =
       let tie = All-contains (λ y. IsBelow F (row_class F y.lower.0) (row_class F y.upper.0)) F.ties.items x O.types.ties is in
       let one : row_class F x.lower.0 ≡ row_class F x.upper.0 = both tie (along h.0.0 c) in

@@ -45,7 +45,7 @@ module _ (F : Facts) where
       ⊎_elim
       (λ lt. lt)
       (λ past. absurd (ne (sym e ∙ ap (λ (k : ColumnInfo). k.kind)
-          (get_or_past F.columns.items c (record { kind = Is; class = record { 0 = 0 }; slot = None; name = []; label = [] }) past))))
+      (get_or_past F.columns.items c (record { kind = Is; class = record { 0 = 0 }; slot = None; name = []; label = [] }) past))))
       (cases_lt c (length F.columns.items))
 
   -- only a row of the list is a `this`
@@ -53,6 +53,9 @@ module _ (F : Facts) where
   this-below v d e =
       ⊎_elim
       (λ lt. lt)
-      (λ past. absurd (cc (e, ap (λ (r : RowInfo). r.this_of)
-          (get_or_past F.rows.items v (record { label = []; class = record { 0 = 0 }; dim = 0; site = None; this_of = None }) past))))
+      (λ past. absurd (cc (
+        e,
+        ap (λ (r : RowInfo). r.this_of)
+            (get_or_past F.rows.items v (record { label = []; class = record { 0 = 0 }; dim = 0; site = None; this_of = None }) past),
+      )))
       (cases_lt v (length F.rows.items))

@@ -41,7 +41,7 @@ module _ (P Q : Plain) (placed : IsPlaced P Q) (formed : IsFormed P) where
       let w = placed.fields f q.0 q.1 in
       let o = eqb-true z.0.owner n.0 (and_left (z.0.owner == n.0) (bytes_eq z.0.name x) z.2) in
       subst (λ y. IsSubclass P c y) (sym o ∙ ap (λ k. k.owner) (same_Some _ _ (sym z.1 ∙ w.stands)) ∙ w.owner
-          ∙ sym (ap (λ y. option_map_or (λ k. k.owner) y 0) q.1)) n.1
+      ∙ sym (ap (λ y. option_map_or (λ k. k.owner) y 0) q.1)) n.1
 
   instance_found : (o : Option ℕ) (f : ℕ) → when_instance P o ≡ Some f → o ≡ Some f
   instance_found None f e = absurd (cc)
@@ -68,7 +68,7 @@ module _ (P Q : Plain) (placed : IsPlaced P Q) (formed : IsFormed P) where
       let q = placed.placed_method d z.method z.stands in
       let w = placed.methods d q.0 q.1 in
       subst (λ y. IsSubclass P c y) (sym z.owner ∙ ap (λ k. k.owner) (same_Some _ _ (sym z.stands ∙ w.stands)) ∙ w.owner
-          ∙ sym (ap (λ y. option_map_or (λ k. k.owner) y 0) q.1)) n.above
+      ∙ sym (ap (λ y. option_map_or (λ k. k.owner) y 0) q.1)) n.above
 
   pub call_above : (t : ObjectType) (x : List ℕ) (d : ℕ) → call_declaration P (Some t) x ≡ Some d → IsSubclass P t.class.0 (owner_of Q (column.Dcl d))
   call_above t x d e = go (class_at t) refl e

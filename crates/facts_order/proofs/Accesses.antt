@@ -91,8 +91,8 @@ module _ (P Q : Plain) where
       accesses_below = all_of (λ x. IsBelow F (row_class F x.row.0) (column_class F x.column.0)) F.accesses.items
           (λ x c. let z = access_part x c in
           let b = base_above z.number z.method z.stands z.has.base z.has.member z.part z.has.access
-              (part_fitted P Q placed formed typed F facts z.number z.method z.stands z.part z.in_body) in
+          (part_fitted P Q placed formed typed F facts z.number z.method z.stands z.part z.in_body) in
           let r = row_of_operand P Q placed formed typed F facts z.number z.method z.stands z.has.base x.row.0 b.good z.has.row_is in
           subst (λ y. IsBelow F y (column_class F x.column.0)) (sym r.class) (subst (λ y. IsBelow F r.type.class.0 y)
-              (sym (ap (λ i. i.class.0) (numbered_column P Q F facts z.has.member x.column.0 z.has.column_is).1))
-              (subclass_below P Q placed F facts (b.above r.type r.stated))))
+          (sym (ap (λ i. i.class.0) (numbered_column P Q F facts z.has.member x.column.0 z.has.column_is).1))
+          (subclass_below P Q placed F facts (b.above r.type r.stated))))

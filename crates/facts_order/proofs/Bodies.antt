@@ -202,7 +202,7 @@ module _ (P Q : Plain) (placed : IsPlaced P Q) (formed : IsFormed P) (typed : Is
     pub listed : All (λ b. IsDef F b.column.0) F.bodies.items
     listed = all_of (λ b. IsDef F b.column.0) F.bodies.items
         (λ b c. let z = each_from_zero (λ c k. column_body (numbers P Q) Q c k.item) (columns_of P Q) (body_seen b)
-            (subst (λ w. Contains w (body_seen b)) facts.bodies (map_has body_seen F.bodies.items b c)) in
+        (subst (λ w. Contains w (body_seen b)) facts.bodies (map_has body_seen F.bodies.items b c)) in
         let p = body_part z.0 z.1.item (body_seen b) z.3 in
         let n = numbered_column P Q F facts z.1.item z.0 (column_back P Q z.0 z.1 z.2) in
         ap (λ w. column_kind F w) p.2 ∙ ap (λ i. i.kind) n.1 ∙ ap (λ i. (column_info Q i).kind) p.1)
@@ -305,18 +305,27 @@ module _ (P Q : Plain) (placed : IsPlaced P Q) (formed : IsFormed P) (typed : Is
         let x = item_point P Q F facts (point.This m) q.0 q.1 in
         let f = point_of P Q q.0 x.0 x.1 in
         let col = column_at P Q (column.Def m) d b.number in
-        let entry : PlainBody = record { column = d; this = q.0; params = param_points (numbers P Q) Q m b.plain; result = point_number P Q
-            (point.Result m) } in
+        let entry : PlainBody = record {
+          column = d;
+          this = q.0;
+          params = param_points (numbers P Q) Q m b.plain;
+          result = point_number P Q
+              (point.Result m);
+        } in
         let there : Contains entries entry =
         each_has (λ c k. column_body (numbers P Q) Q c k.item) 0 (columns_of P Q) d col.0 entry col.1 d (omega arith)
         (subst (λ i. Contains (column_body (numbers P Q) Q d i) entry) (sym col.2)
-            (subst (λ o. Contains (option_map_or (λ k. body_if (numbers P Q) Q d m k (point_number P Q (point.This m))) o []) entry) (sym b.stands)
-            (subst (λ o. Contains (body_if (numbers P Q) Q d m b.plain o) entry) (sym q.1) (first entry [])))) in
+        (subst (λ o. Contains (option_map_or (λ k. body_if (numbers P Q) Q d m k (point_number P Q (point.This m))) o []) entry) (sym b.stands)
+        (subst (λ o. Contains (body_if (numbers P Q) Q d m b.plain o) entry) (sym q.1) (first entry [])))) in
         let own = map_from body_seen F.bodies.items entry (subst (λ z. Contains z entry) (sym facts.bodies) there) in
         record {
           row = r.0;
-          this = record { column = record { 0 = d }; row = ap (λ i. i.this_of) w.3 ∙ ap (this_of_row (numbers P Q)) w.2
-              ∙ this_column m d b.number; body = refl };
+          this = record {
+            column = record { 0 = d };
+            row = ap (λ i. i.this_of) w.3 ∙ ap (this_of_row (numbers P Q)) w.2
+                ∙ this_column m d b.number;
+            body = refl;
+          };
           class = ap (λ i. i.class.0) w.3 ∙ ap (λ t. t.class.0) (this_type m b.plain w.0 b.stands (row_types P Q r.0 w.0 w.1) w.2)
               ∙ sym (ap (λ i. i.class.0) b.info ∙ ap (λ o. option_map_or (λ k. k.owner) o 0) b.stands);
           one_row = λ v t. let z = this_row_of v t.column t.row in same_Some v r.0 (sym z.row_is

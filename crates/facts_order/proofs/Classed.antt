@@ -125,11 +125,11 @@ module _ (P Q : Plain) (placed : IsPlaced P Q) (formed : IsFormed P) (typed : Is
   same_env =
       let z = placed.methods m k stands in
       let types : types_of (z.plain.params ++ z.plain.locals) ≡ types_of (k.params ++ k.locals) = map-append (λ l. l.ty) z.plain.params z.plain.locals
-          ∙ ap (λ w. w ++ types_of z.plain.locals) z.params ∙ ap (λ w. types_of k.params ++ w) z.locals
-          ∙ sym (map-append (λ l. l.ty) k.params k.locals) in
+      ∙ ap (λ w. w ++ types_of z.plain.locals) z.params ∙ ap (λ w. types_of k.params ++ w) z.locals
+      ∙ sym (map-append (λ l. l.ty) k.params k.locals) in
       ap (λ w. record { body = m; self = w; locals = types_of (z.plain.params ++ z.plain.locals); result = z.plain.result }) z.owner
-          ∙ ap (λ w. record { body = m; self = k.owner; locals = w; result = z.plain.result }) types
-          ∙ ap (λ w. record { body = m; self = k.owner; locals = types_of (k.params ++ k.locals); result = w }) z.result
+      ∙ ap (λ w. record { body = m; self = k.owner; locals = w; result = z.plain.result }) types
+      ∙ ap (λ w. record { body = m; self = k.owner; locals = types_of (k.params ++ k.locals); result = w }) z.result
 
   same_static : (n : ℕ) (e : Ex) → static P g (bare e) ≡ static P (env_of m k) (label n e)
   same_static n e = ap (static P g) (sym (unlabel n e)) ∙ bare_static P g (label n e) ∙ ap (λ z. static P z (label n e)) same_env
@@ -161,7 +161,7 @@ module _ (P Q : Plain) (placed : IsPlaced P Q) (formed : IsFormed P) (typed : Is
       (as_object (label n e)) (field_typing (object_field P (object_type P k (label n e)) x))
   typing n u (index t e i) (t_index a b c d) w =
       element_typing _ _ (λ u h. many_dims n e b u (sym (as_object (label n e)) ∙ h))
-          (typing n true e a (λ q c. w q (Contains-append_left (parts P type m k true (label n e)) _ q c)))
+      (typing n true e a (λ q c. w q (Contains-append_left (parts P type m k true (label n e)) _ q c)))
   typing n u (call t e x es) a w = subst (λ o. Typing (option_map row.Return (call_slot P o x)) (object_type P k (label n (call t e x es))))
       (as_object (label n e)) (call_typing (call_slot P (object_type P k (label n e)) x))
   typing n u (static_call t d es) a w = static_typing d

@@ -51,7 +51,7 @@ module _ (P Q : Plain) (placed : IsPlaced P Q) (F : Facts) (facts : IsFactsOf P 
   pub class_at : (c : ℕ) (i : ClassInfo) → slice_get F.classes.items c ≡ Some i → IsClassAt c i
   class_at c i e =
       let z = at_each facts_at 0 Q.classes c (class_seen i) (subst (λ w. slice_get w c ≡ Some (class_seen i)) facts.classes
-          (at_map class_seen F.classes.items c i e)) in
+      (at_map class_seen F.classes.items c i e)) in
       let k = placed.classes c z.0 z.1 in
       record {
         plain = k.plain;
@@ -67,7 +67,7 @@ module _ (P Q : Plain) (placed : IsPlaced P Q) (F : Facts) (facts : IsFactsOf P 
   class_there c h e =
       let z = placed.placed_class c h e in
       let w = map_at class_seen F.classes.items c _ (subst (λ w. slice_get w c ≡ Some (facts_at (0 + c) z.0)) (sym facts.classes)
-          (each_at facts_at 0 Q.classes c z.0 z.1)) in
+      (each_at facts_at 0 Q.classes c z.0 z.1)) in
       (w.0, w.1)
 
   cases : (c : ℕ) → ((i : ClassInfo) × (slice_get F.classes.items c ≡ Some i)) ⊎ ((slice_get F.classes.items c ≡ None) × (slice_get P.classes c ≡ None))
@@ -82,13 +82,13 @@ module _ (P Q : Plain) (placed : IsPlaced P Q) (F : Facts) (facts : IsFactsOf P 
   pub parent_same : (c : ℕ) → parent_in F c ≡ parent_of P c
   parent_same c =
       ⊎_elim (λ z. let k = class_at c z.0 z.1 in ap (λ o. option_and_then (λ k. k.parent) o) z.1 ∙ k.parent
-          ∙ sym (ap (λ o. option_and_then (λ k. k.parent) o) k.stands))
+      ∙ sym (ap (λ o. option_and_then (λ k. k.parent) o) k.stands))
       (λ z. ap (λ o. option_and_then (λ k. k.parent) o) z.0 ∙ sym (ap (λ o. option_and_then (λ k. k.parent) o) z.1)) (cases c)
 
   pub faces_same : (c : ℕ) → faces_in F c ≡ faces_of P c
   faces_same c =
       ⊎_elim (λ z. let k = class_at c z.0 z.1 in ap (λ o. option_map_or (λ k. k.faces.items) o []) z.1 ∙ k.faces
-          ∙ sym (ap (λ o. option_map_or (λ k. k.faces) o []) k.stands))
+      ∙ sym (ap (λ o. option_map_or (λ k. k.faces) o []) k.stands))
       (λ z. ap (λ o. option_map_or (λ k. k.faces.items) o []) z.0 ∙ sym (ap (λ o. option_map_or (λ k. k.faces) o []) z.1)) (cases c)
 
   pub supers_same : (c : ℕ) → supers_in F c ≡ supers_of P c
@@ -156,7 +156,7 @@ module _ (P Q : Plain) (placed : IsPlaced P Q) (F : Facts) (facts : IsFactsOf P 
         let u = under_at a z.0 p z.1 z.2 in
         let q = same_Some _ _ (sym u.as_formed.has_parent ∙ ap (λ k. k.parent) (same_Some _ _ (sym u.stands ∙ z.1)) ∙ z.2) in
         interface_same p.0 u.as_formed.above (subst (λ c. slice_get P.classes c.0 ≡ Some u.as_formed.above) q u.as_formed.parent_stands)
-            ∙ u.as_formed.parent_class
+        ∙ u.as_formed.parent_class
 
     roots : (a : ℕ) (p : ClassId) → is_interface F a ≡ true → parent_in F a ≡ Some p → p.0 ≡ 0
     roots a p i h =
@@ -190,13 +190,13 @@ module _ (P Q : Plain) (placed : IsPlaced P Q) (F : Facts) (facts : IsFactsOf P 
         let z = placed.fields f k e in
         let y = formed.fields f z.plain z.stands in
         ap (λ o. is_interface F (option_map_or (λ k. k.owner) o 0)) e ∙ ap (is_interface F) (sym z.owner)
-            ∙ interface_same z.plain.owner y.holder y.stands ∙ y.class
+        ∙ interface_same z.plain.owner y.holder y.stands ∙ y.class
     holder_class _ (for_body m k e s b) h =
         let z = placed.methods m k e in
         let y = formed.methods m z.plain z.stands in
         ap (λ o. is_interface F (option_map_or (λ k. k.owner) o 0)) e ∙ ap (is_interface F) (sym z.owner)
-            ∙ interface_same z.plain.owner y.holder y.stands
-            ∙ no_interface y.holder.is_interface (λ i. bodied z.plain.body (z.bodied ∙ b) (y.in_interface i).1)
+        ∙ interface_same z.plain.owner y.holder y.stands
+        ∙ no_interface y.holder.is_interface (λ i. bodied z.plain.body (z.bodied ∙ b) (y.in_interface i).1)
       where
         bodied : {A : Type 0} (o : Option A) → is_some o ≡ true → o ≡ None → ⊥
         bodied None p q = false≢true p

@@ -64,9 +64,9 @@ module _ (P Q : Plain) where
       let z = when_from (not k.is_static) _ x c in
       let s = no_static k.is_static z.0 in
       ⊎_elim (λ d. stands_as _ _ (ap (λ z. z.item) (one_from _ x d)) (for_declaration m k e s))
-          (λ d. let w = when_from (is_some k.body) _ x d in stands_as _ _ (ap (λ z. z.item) (one_from _ x w.1)) (for_body m k e s w.0))
+      (λ d. let w = when_from (is_some k.body) _ x d in stands_as _ _ (ap (λ z. z.item) (one_from _ x w.1)) (for_body m k e s w.0))
       (Contains-append_cases (record { item = column.Dcl m; place = k.tag.place } ∷ [])
-          (when (is_some k.body) (record { item = column.Def m; place = k.tag.place } ∷ [])) x z.1)
+      (when (is_some k.body) (record { item = column.Def m; place = k.tag.place } ∷ [])) x z.1)
 
   method_stands : (m : ℕ) (k : PlainMethod) (x : Column) → slice_get Q.methods m ≡ Some k → Contains (method_columns P Q m k) x → Stands Q x.item
   unfolding members
@@ -77,7 +77,7 @@ module _ (P Q : Plain) where
   raw_stands : (x : Column) → Contains (raw_columns P Q) x → Stands Q x.item
   raw_stands x c =
       ⊎_elim (λ d. let z = each_from_zero field_columns Q.fields x d in field_stands z.0 z.1 x z.2 z.3)
-          (λ d. let z = each_from_zero (method_columns P Q) Q.methods x d in method_stands z.0 z.1 x z.2 z.3)
+      (λ d. let z = each_from_zero (method_columns P Q) Q.methods x d in method_stands z.0 z.1 x z.2 z.3)
       (Contains-append_cases (each field_columns 0 Q.fields) (each (method_columns P Q) 0 Q.methods) x c)
 
   pub column_stands : (n : ℕ) (x : Column) → slice_get (columns_of P Q) n ≡ Some x → Stands Q x.item
@@ -88,7 +88,7 @@ module _ (P Q : Plain) where
   field_column f k e s =
       let x : Column = record { item = column.Fld f; place = k.tag.place } in
       column_there P Q x (Contains-append_left (each field_columns 0 Q.fields) (each (method_columns P Q) 0 Q.methods) x
-          (each_has field_columns 0 Q.fields f k x e f (omega arith) (when_has (not k.is_static) _ x (rw s refl) (first x []))))
+      (each_has field_columns 0 Q.fields f k x e f (omega arith) (when_has (not k.is_static) _ x (rw s refl) (first x []))))
 
   pub in_method : (m : ℕ) (k : PlainMethod) (x : Column) → slice_get Q.methods m ≡ Some k → Contains (method_columns P Q m k) x
       → (c : ℕ) × (column_number P Q x.item ≡ Some c)
@@ -108,7 +108,7 @@ module _ (P Q : Plain) where
   body_column m k e s b =
       let x : Column = record { item = column.Def m; place = k.tag.place } in
       in_method m k x e (Contains-append_left (members m k) (flat_map form_columns (parts_of P m k)) x (when_has (not k.is_static) _ x (rw s refl)
-          (more x _ _ (when_has (is_some k.body) _ x b (first x [])))))
+      (more x _ _ (when_has (is_some k.body) _ x b (first x [])))))
 
   pub part_column : (m : ℕ) (k : PlainMethod) (p : Part) (x : Column) → slice_get Q.methods m ≡ Some k → Contains (parts_of P m k) p
       → Contains (form_columns p) x → (c : ℕ) × (column_number P Q x.item ≡ Some c)
@@ -144,7 +144,7 @@ module _ (P Q : Plain) where
     numbered_column i c e =
         let x = column_at P Q i c e in
         let a = subst (λ z. slice_get z c ≡ Some (column_info Q x.0.item)) (sym facts.columns)
-            (at_map (λ c. column_info Q c.item) (columns_of P Q) c x.0 x.1) in
+        (at_map (λ c. column_info Q c.item) (columns_of P Q) c x.0 x.1) in
         (at_below F.columns.items c _ a, index_at F.columns.items c _ _ a ∙ ap (column_info Q) x.2)
 
     -- a column of a slot stands in the list

@@ -66,10 +66,10 @@ module _ (P Q : Plain) (placed : IsPlaced P Q) (formed : IsFormed P) (typed : Is
       let f = fields_are k.0 k.1 in
       let y = one_from _ z (when_from (below P x.ty.class.0 k.0.owner) _ z k.2).1 in
       of_field x f.number k.0.column k.0.row (subst (λ n. slice_get (sites_of P Q) n ≡ Some x) (ap (λ y. y.site.0) y) e) (sym (ap (λ y. y.column) y))
-          f.column_is f.row_is (ap (λ y. y.row.0) y)
+      f.column_is f.row_is (ap (λ y. y.row.0) y)
   site_cell i x z false e d c =
       let y = one_from _ z c in of_array x (sym (ap (λ y. y.column) y)) (subst (λ n. slice_get (sites_of P Q) n ≡ Some x) (ap (λ y. y.site.0) y) e)
-          (λ h. eqb-false x.ty.dim 0 d h) (ap (λ y. y.row.0) y)
+      (λ h. eqb-false x.ty.dim 0 d h) (ap (λ y. y.row.0) y)
 
   pub cell_is : (c : ℕ) → c < length F.cells.items → IsCellOf (cell_at F c)
   unfolding cells_of
@@ -100,7 +100,7 @@ module _ (P Q : Plain) (placed : IsPlaced P Q) (formed : IsFormed P) (typed : Is
   cell_contains c s (of_field x f d r g i n e q) w =
       let y = row_there P Q placed formed typed F facts (row.Field f) r e in
       let u = (held P Q placed formed typed F facts (in_cell c s) w).field f (record { 0 = d }) y.here.ty i n
-          (field_type P Q placed formed typed f r y.here y.stands y.item) in
+      (field_type P Q placed formed typed f r y.here y.stands y.item) in
       subst (λ v. IsContained v s) q (record {
         below = class_below r s y.here.ty.class.0 u.class (class_of_row P Q placed formed typed F facts r (row.Field f) y);
         free = λ n. apart_free P Q placed formed typed F facts r (row.Field f) y refl;
@@ -109,9 +109,9 @@ module _ (P Q : Plain) (placed : IsPlaced P Q) (formed : IsFormed P) (typed : Is
       let p = site_part P Q placed formed typed (cell_at F c).site.0 x e in
       let y = row_there P Q placed formed typed F facts (row.New x.number) x.row p.row_number_is in
       let t = own_type P Q placed formed typed (a_creation p.place p.used p.operand) p.operand (row.New x.number) x.ty x.row y.here p.is_part refl
-          p.row_is p.type y.stands y.item in
+      p.row_is p.type y.stands y.item in
       let z = index_at F.sites.items (cell_at F c).site.0 _ (site_info x) (subst (λ w. slice_get w (cell_at F c).site.0 ≡ Some (site_info x))
-          (sym facts.sites) (at_map site_info (sites_of P Q) (cell_at F c).site.0 x e)) in
+      (sym facts.sites) (at_map site_info (sites_of P Q) (cell_at F c).site.0 x e)) in
       let u = held P Q placed formed typed F facts (in_cell c s) w in
       subst (λ v. IsContained v s) q (record {
         below = class_below x.row s (site_class F (cell_at F c).site.0) (u.class i) (class_of_row P Q placed formed typed F facts x.row

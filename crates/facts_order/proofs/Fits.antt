@@ -87,8 +87,11 @@ module _ (P : Plain) where
       let w = and_parts (c == d) (below P a.0 b.0) e in
       let x = same_Some _ s h in
       let y = same_Some _ t g in
-      record { class = rw (sym (ap (λ z. z.class) x), sym (ap (λ z. z.class) y)) (below-subclass P a.0 b.0 w.1); dim = sym (ap (λ z. z.dim) x)
-          ∙ eqb-true c d w.0 ∙ ap (λ z. z.dim) y }
+      record {
+        class = rw (sym (ap (λ z. z.class) x), sym (ap (λ z. z.class) y)) (below-subclass P a.0 b.0 w.1);
+        dim = sym (ap (λ z. z.dim) x)
+            ∙ eqb-true c d w.0 ∙ ap (λ z. z.dim) y;
+      }
   sub_under (Class a) Int c d s t e h g = absurd (cc)
   sub_under (Class a) Boolean c d s t e h g = absurd (cc)
   sub_under (Class a) Char c d s t e h g = absurd (cc)
@@ -109,7 +112,7 @@ module _ (P : Plain) where
   pub fits_under : (s : Static) (u : Ty) (b t : ObjectType) → fits P s u ≡ true → object_static s ≡ Some b → object_of u ≡ Some t → IsUnder b t
   fits_under (a_value a) u b t e h g =
       ⊎_elim (λ w. sub_under a.base u.base a.dim u.dim b t w h g)
-          (λ w. absurd (no_number u.base u.dim t (and_parts (is_only Char (a_value a)) (is_only Int (a_value u)) w).1 g))
+      (λ w. absurd (no_number u.base u.dim t (and_parts (is_only Char (a_value a)) (is_only Int (a_value u)) w).1 g))
       (or_cases (is_subtype P a u) (is_only Char (a_value a) && is_only Int (a_value u)) e)
   fits_under null_value u b t e h g = absurd (cc)
   fits_under no_value u b t e h g = absurd (cc)
@@ -140,7 +143,7 @@ module _ (P : Plain) where
       (or_cases (is_subtype P a u) (is_subtype P u a) (and_parts (is_object a && is_object u) (is_subtype P a u || is_subtype P u a) w).1))
       (or_cases (is_boolean (a_value a) && is_boolean (a_value u)) ((is_object a && is_object u) && (is_subtype P a u || is_subtype P u a)) w))
       (or_cases (is_numeric (a_value a) && is_numeric (a_value u)) ((is_boolean (a_value a) && is_boolean (a_value u)) ||
-          ((is_object a && is_object u) && (is_subtype P a u || is_subtype P u a))) e)
+      ((is_object a && is_object u) && (is_subtype P a u || is_subtype P u a))) e)
 
   comparable : (s d : Static) (b t : ObjectType) → are_comparable P s d ≡ true → object_static s ≡ Some b → object_static d ≡ Some t → ArePaired b t
   comparable (a_value a) (a_value u) b t e h g = compared a u b t e h g
@@ -166,7 +169,7 @@ module _ (P : Plain) where
           let x = class_dim s c a in
           let y = class_dim t d b in
           ⊎_elim (λ w. inl (record { class = rw (x.0, y.0) (below-subclass P c d w); dim = x.1 ∙ sym y.1 }))
-              (λ w. inr (record { class = rw (x.0, y.0) (below-subclass P d c w); dim = y.1 ∙ sym x.1 }))
+          (λ w. inr (record { class = rw (x.0, y.0) (below-subclass P d c w); dim = y.1 ∙ sym x.1 }))
           (or_cases (below P c d) (below P d c) e)
 
   pub related_paired : (s d : Static) (b t : ObjectType) → are_related P (class_of s) (class_of d) ≡ true → object_static s ≡ Some b
@@ -179,5 +182,5 @@ module _ (P : Plain) where
   pub cast_paired : (s : Static) (u : Ty) (b t : ObjectType) → can_cast P s u ≡ true → object_static s ≡ Some b → object_of u ≡ Some t → ArePaired b t
   cast_paired s u b t e h g =
       ⊎_elim (λ w. absurd (false≢true (sym (no_plain u.base u.dim t g).0 ∙ (and_parts (is_numeric (a_value u)) (is_numeric s) w).0)))
-          (λ w. related_paired s (a_value u) b t w h g)
+      (λ w. related_paired s (a_value u) b t w h g)
       (or_cases (is_numeric (a_value u) && is_numeric s) (are_related P (class_of s) (class_in u.base u.dim)) e)

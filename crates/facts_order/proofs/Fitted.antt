@@ -148,9 +148,11 @@ module _ (P Q : Plain) (placed : IsPlaced P Q) (formed : IsFormed P) (typed : Is
       → slice_get (operands_of P type m k (label_all n es)) i ≡ Some a → (i < length us) × IsValue a (object_if (slice_get us i))
   args_values n u no_ex us t w i a e = absurd (cc)
   args_values n u (ex_then e es) [] t w i a h = elim t [ ]
-  args_values n u (ex_then e es) (v ∷ us) (t_ex_then x f y) w zero a h =
-      (omega arith, subst (λ z. IsValue z (object_of v)) (same_Some _ a h) (value_of n u e (a_value v) (object_of v) x
-          (λ q c. w q (Contains-append_left (parts P type m k u (label n e)) _ q c)) f refl))
+  args_values n u (ex_then e es) (v ∷ us) (t_ex_then x f y) w zero a h = (
+    omega arith,
+    subst (λ z. IsValue z (object_of v)) (same_Some _ a h) (value_of n u e (a_value v) (object_of v) x
+        (λ q c. w q (Contains-append_left (parts P type m k u (label n e)) _ q c)) f refl),
+  )
   args_values n u (ex_then e es) (v ∷ us) (t_ex_then x f y) w (suc i) a h =
       let z = args_values (n + size e) u es us y (λ q c. w q (Contains-append_right (parts P type m k u (label n e)) _ q c)) i a h in (omega (arith, z.0), z.1)
 
@@ -166,8 +168,8 @@ module _ (P Q : Plain) (placed : IsPlaced P Q) (formed : IsFormed P) (typed : Is
       let same : s.params ≡ types_of y.0.params = sym (ap (λ z. z.params) x.2) ∙ ap (λ z. types_of z.params) (same_Some _ _ (sym x.1 ∙ v.stands)) ∙ v.params in
       let here : object_if (slice_get s.params i) ≡ is_variable_of d i =
       ap (λ z. object_if (slice_get z i)) same
-          ∙ sym (front_type y.0.params y.0.locals i (subst (λ z. i < z) (ap length same ∙ length-map y.0.params (λ v. v.ty)) z.0))
-          ∙ sym (ap (option_and_then (λ k. variable_object k i)) y.1) in
+      ∙ sym (front_type y.0.params y.0.locals i (subst (λ z. i < z) (ap length same ∙ length-map y.0.params (λ v. v.ty)) z.0))
+      ∙ sym (ap (option_and_then (λ k. variable_object k i)) y.1) in
       subst (λ t. IsValue a t) here z.1
 
   field_as : (n : ℕ) (e : Ex) (x : List ℕ) → object_field P (type (label n e)) x ≡ field_in P (static P g (bare e)) x
@@ -178,13 +180,13 @@ module _ (P Q : Plain) (placed : IsPlaced P Q) (formed : IsFormed P) (typed : Is
       → call_slot P (type (label n e)) x ≡ Some j → AreValues (operands_of P type m k (label_all l es)) (param_object P j)
   slot_values n e x l es s j c t w h i a d =
       let found : option_and_then (λ c. slot_of P c x) (class_of (static P g (bare e))) ≡ Some j = ap (option_and_then (λ c. slot_of P c x))
-          (sym (class_is (static P g (bare e)))) ∙ ap (λ t. call_slot P t x) (as_type n e) ∙ h in
+      (sym (class_is (static P g (bare e)))) ∙ ap (λ t. call_slot P t x) (as_type n e) ∙ h in
       let y = and_some (λ c. slot_of P c x) (class_of (static P g (bare e))) j found in
       let z = slot_called P (static P g (bare e)) x s c (class_apart (static P g (bare e)) y.0 y.1).1 in
       let same : z.number ≡ j = same_Some _ _ (sym z.found ∙ found) in
       let v = args_values l true es s.params t w i a d in
       subst (λ t. IsValue a t) (ap (λ us. object_if (slice_get us i)) z.params
-          ∙ sym (ap (λ o. object_if (option_and_then (λ z. slice_get z.params i) o)) z.stands) ∙ ap (λ q. param_object P q i) same) v.1
+      ∙ sym (ap (λ o. object_if (option_and_then (λ z. slice_get z.params i) o)) z.stands) ∙ ap (λ q. param_object P q i) same) v.1
 
   object_called : (n : ℕ) (e : Ex) (x : List ℕ) (j : ℕ) → call_slot P (type (label n e)) x ≡ Some j → (t : ObjectType) → type (label n e) ≡ Some t → t.dim ≡ 0
   object_called n e x j h t d =
@@ -208,13 +210,16 @@ module _ (P Q : Plain) (placed : IsPlaced P Q) (formed : IsFormed P) (typed : Is
     good = this_good;
     above = λ t e. subst (λ z. IsSubclass P z (owner_of Q (column.Fld j))) ((placed.methods m k stands).owner ∙ ap (λ z. z.class.0) (same_Some _ t e))
         (subst (λ z. IsSubclass P plain.owner (owner_of Q (column.Fld z))) (same_Some i j h)
-            (field_above P Q placed formed plain.owner i y.member.name y.nearest));
+        (field_above P Q placed formed plain.owner i y.member.name y.nearest));
   }
 
   field_base : (n : ℕ) (u : Bool) (e : Ex) (x : List ℕ) (j : ℕ) → Typed P g (bare e) → Into n u e → object_field P (type (label n e)) x ≡ Some j
       → IsBase (at n e) (column.Fld j)
-  field_base n u e x j a w h = record { good = good_at n u e a w; above = λ t i. object_field_above P Q placed formed t x j
-      (ap (λ t. object_field P t x) (sym i) ∙ h) }
+  field_base n u e x j a w h = record {
+    good = good_at n u e a w;
+    above = λ t i. object_field_above P Q placed formed t x j
+        (ap (λ t. object_field P t x) (sym i) ∙ h);
+  }
 
   is : (q p : Part) → Contains (q ∷ []) p → IsFitted q → IsFitted p
   is q p c n = subst (λ z. IsFitted z) (one_from q p c) n
@@ -232,22 +237,35 @@ module _ (P Q : Plain) (placed : IsPlaced P Q) (formed : IsFormed P) (typed : Is
   form_fitted n u (static_field t i) p a f w c = unlisted p c
   form_fitted n u (unary t o e) p a f w c = unlisted p c
   form_fitted n u (own_field t i) p a (f_own_field x y) w c =
-      is _ p c (good_at n u (own_field t i) a w, (λ j h. (own_base i j y h, sym (of_object (label n (own_field t i)))
-      ∙ ap (field_object P) (same_Some i j h))))
+      is _ p c (
+        good_at n u (own_field t i) a w,
+        (λ j h. (
+          own_base i j y h,
+          sym (of_object (label n (own_field t i)))
+              ∙ ap (field_object P) (same_Some i j h),
+        )),
+      )
   form_fitted n u (field t e x) p (t_field a b) f w c =
-      is (a_load t.place (at n e) (object_field P (type (label n e)) x) (at n (field t e x))) p c
-      (good_at n u (field t e x) (t_field a b) w,
-          (λ j h. (field_base n (is_accessed (label n e)) e x j a
-          (λ q z. w q (Contains-append_left (parts P type m k (is_accessed (label n e)) (label n e)) _ q z)) h, sym
-          (of_object (label n (field t e x))) ∙ ap (λ t. option_and_then (field_object P) (object_field P t x)) (of_object (label n e))
-          ∙ ap (option_and_then (field_object P)) h)))
+      is (a_load t.place (at n e) (object_field P (type (label n e)) x) (at n (field t e x))) p c (
+        good_at n u (field t e x) (t_field a b) w,
+        (λ j h. (
+          field_base n (is_accessed (label n e)) e x j a
+              (λ q z. w q (Contains-append_left (parts P type m k (is_accessed (label n e)) (label n e)) _ q z)) h,
+          sym
+              (of_object (label n (field t e x))) ∙ ap (λ t. option_and_then (field_object P) (object_field P t x)) (of_object (label n e))
+              ∙ ap (option_and_then (field_object P)) h,
+        )),
+      )
   form_fitted n u (index t e i) p (t_index a b d v) f w c =
-      is (an_element t.place (at n e) (at n (index t e i))) p c
-      (good_at n true e a (λ q z. w q (Contains-append_left (parts P type m k true (label n e)) _ q z)), good_at n u (index t e i) (t_index a b d v)
-          w, sym (of_object (label n (index t e i))) ∙ ap element_object (of_object (label n e)))
+      is (an_element t.place (at n e) (at n (index t e i))) p c (
+        good_at n true e a (λ q z. w q (Contains-append_left (parts P type m k true (label n e)) _ q z)),
+        good_at n u (index t e i) (t_index a b d v)
+            w,
+        sym (of_object (label n (index t e i))) ∙ ap element_object (of_object (label n e)),
+      )
   form_fitted n u (call t e x es) p (t_call a b d) f w c =
       is (a_call t.place (at n e) (call_slot P (type (label n e)) x) (call_declaration P (type (label n e)) x)
-          (operands_of P type m k (label_all (n + size e + 1) es)) (at n (call t e x es))) p c (
+      (operands_of P type m k (label_all (n + size e + 1) es)) (at n (call t e x es))) p c (
         good_at n u (call t e x es) (t_call a b d) w,
         (λ j h. (
           record { good = good_at n true e a (λ q z. w q (Contains-append_left (parts P type m k true (label n e)) _ q z)); object = object_called n e x j h },
@@ -257,19 +275,30 @@ module _ (P Q : Plain) (placed : IsPlaced P Q) (formed : IsFormed P) (typed : Is
                 ∙ ap (option_and_then (slot_object P)) h;
           },
         )),
-        (λ j h. record { good = good_at n true e a (λ q z. w q (Contains-append_left (parts P type m k true (label n e)) _ q z)); above = λ y i.
-            call_above P Q placed formed y x j (ap (λ t. call_declaration P t x) (sym i) ∙ h) }),
+        (λ j h. record {
+          good = good_at n true e a (λ q z. w q (Contains-append_left (parts P type m k true (label n e)) _ q z));
+          above = λ y i.
+              call_above P Q placed formed y x j (ap (λ t. call_declaration P t x) (sym i) ∙ h);
+        }),
       )
   form_fitted n u (static_call t d es) p (t_static_call a b) f w c =
-      is (a_static_call t.place d (operands_of P type m k (label_all (n + 1) es)) (at n (static_call t d es))) p c
-      (good_at n u (static_call t d es) (t_static_call a b) w, record { args = method_values (n + 1) false es d _ a b (λ q z. w q (more q _ _ z));
-          result = sym (of_object (label n (static_call t d es))) })
+      is (a_static_call t.place d (operands_of P type m k (label_all (n + 1) es)) (at n (static_call t d es))) p c (
+        good_at n u (static_call t d es) (t_static_call a b) w,
+        record {
+          args = method_values (n + 1) false es d _ a b (λ q z. w q (more q _ _ z));
+          result = sym (of_object (label n (static_call t d es)));
+        },
+      )
   form_fitted n u (super_call t x es) p (t_super_call a b v y) f w c =
       is (a_super_call t.place (super_method P k.owner x) (operands_of P type m k (label_all (n + 1) es)) (at n (super_call t x es))) p c (
         good_at n u (super_call t x es) (t_super_call a b v y) w,
         (λ d h. (
-          record { name = x; found = h; bodied = subst (λ i. has_body P i ≡ true)
-              (same_Some _ d (sym a ∙ ap (λ c. super_method P c x) (placed.methods m k stands).owner ∙ h)) b },
+          record {
+            name = x;
+            found = h;
+            bodied = subst (λ i. has_body P i ≡ true)
+                (same_Some _ d (sym a ∙ ap (λ c. super_method P c x) (placed.methods m k stands).owner ∙ h)) b;
+          },
           record {
             args = method_values (n + 1) false es d _ (super_as x d _ h v) y (λ q z. w q (more q _ _ z));
             result = sym (of_object (label n (super_call t x es))) ∙ ap (option_and_then (method_object P)) h;
@@ -277,24 +306,36 @@ module _ (P Q : Plain) (placed : IsPlaced P Q) (formed : IsFormed P) (typed : Is
         )),
       )
   form_fitted n u (create t i d es) p a (f_create x y) w c =
-      is (a_creation t.place u (at n (create t i d es))) p c (good_at n u (create t i d es) a w, (λ s h. subst (λ z. z.class.0 < length P.classes)
-      (same_Some _ s (of_object (label n (create t i d es)) ∙ h)) x))
+      is (a_creation t.place u (at n (create t i d es))) p c (
+        good_at n u (create t i d es) a w,
+        (λ s h. subst (λ z. z.class.0 < length P.classes)
+            (same_Some _ s (of_object (label n (create t i d es)) ∙ h)) x),
+      )
   form_fitted n u (create_array t i v e) p a (f_create_array x y z) w c =
-      is (a_creation t.place u (at n (create_array t i v e))) p c (good_at n u (create_array t i v e) a w,
-      (λ s h. known_type P v s x (of_object (label n (create_array t i v e)) ∙ h)))
+      is (a_creation t.place u (at n (create_array t i v e))) p c (
+        good_at n u (create_array t i v e) a w,
+        (λ s h. known_type P v s x (of_object (label n (create_array t i v e)) ∙ h)),
+      )
   form_fitted n u (cast t i v e) p (t_cast a b) (f_cast x y) w c =
-      is (a_test t.place (at (n + 1) e) (at n (cast t i v e))) p c
-      (good_at (n + 1) true e a (λ q z. w q (more q _ _ z)), good_at n u (cast t i v e) (t_cast a b) w, apart_as (at n (cast t i v e)) (row.Cast i)
-          refl refl, (λ s d p q. cast_paired P (static P g (bare e)) v s d b (as_type (n + 1) e ∙ p) (of_object (label n (cast t i v e)) ∙ q)),
-          (λ s h. known_cast P v s x (of_object (label n (cast t i v e)) ∙ h)))
+      is (a_test t.place (at (n + 1) e) (at n (cast t i v e))) p c (
+        good_at (n + 1) true e a (λ q z. w q (more q _ _ z)),
+        good_at n u (cast t i v e) (t_cast a b) w,
+        apart_as (at n (cast t i v e)) (row.Cast i)
+            refl refl,
+        (λ s d p q. cast_paired P (static P g (bare e)) v s d b (as_type (n + 1) e ∙ p) (of_object (label n (cast t i v e)) ∙ q)),
+        (λ s h. known_cast P v s x (of_object (label n (cast t i v e)) ∙ h)),
+      )
   form_fitted n u (instance_of t i e d) p (t_instance_of a b) (f_instance_of x y) w c =
       let o = test_operand m (record { label = n + size e; place = t.place }) i d in
       let there = w _ (Contains-append_right (parts P type m k true (label n e)) _ _ (first (a_test t.place (at n e) o) [])) in
-      is (a_test t.place (at n e) o) p c
-      (good_at n true e a (λ q z. w q (Contains-append_left (parts P type m k true (label n e)) _ q z)), test_sound P Q placed formed typed F facts m
-          k stands (a_test t.place (at n e) o) o i (n + size e) there refl refl refl refl refl, apart_as o (row.Test i) refl refl,
-          (λ s v p q. related_paired P (static P g (bare e)) (a_value (class_type d)) s v b (as_type n e ∙ p) q),
-          (λ s h. subst (λ z. z.class.0 < length P.classes) (same_Some _ s h) y))
+      is (a_test t.place (at n e) o) p c (
+        good_at n true e a (λ q z. w q (Contains-append_left (parts P type m k true (label n e)) _ q z)),
+        test_sound P Q placed formed typed F facts m
+            k stands (a_test t.place (at n e) o) o i (n + size e) there refl refl refl refl refl,
+        apart_as o (row.Test i) refl refl,
+        (λ s v p q. related_paired P (static P g (bare e)) (a_value (class_type d)) s v b (as_type n e ∙ p) q),
+        (λ s h. subst (λ z. z.class.0 < length P.classes) (same_Some _ s h) y),
+      )
   form_fitted n u (binary t o e d) p (t_binary a b v) f w c =
       is (a_pair o (at n e) (at (n + size e) d)) p c (
         good_at n false e a (λ q z. w q (Contains-append_left (parts P type m k false (label n e) ++ parts P type m k false (label (n + size e) d)) _
@@ -308,9 +349,12 @@ module _ (P Q : Plain) (placed : IsPlaced P Q) (formed : IsFormed P) (typed : Is
   -- an assignment
   local_fitted : (t : Tag) (i n : ℕ) (u : Bool) (e : Ex) → Typed P g (bare e) → Into n u e
       → fits_in P (static P g (bare e)) (target_type P g (to_local t i)) ≡ true → IsFitted (a_set (at 0 (local t i)) (at n e))
-  local_fitted t i n u e a w f =
-      (good_at 0 false (local t i) t_local (λ q c. unlisted q c), apart_as (at 0 (local t i)) _ refl
-      (variable_apart k.slot (nat_lt i (length k.params)) m i), value_of n u e _ _ a w f (as_type 0 (local t i)))
+  local_fitted t i n u e a w f = (
+    good_at 0 false (local t i) t_local (λ q c. unlisted q c),
+    apart_as (at 0 (local t i)) _ refl
+        (variable_apart k.slot (nat_lt i (length k.params)) m i),
+    value_of n u e _ _ a w f (as_type 0 (local t i)),
+  )
 
   assign_fitted : {in_loop : Bool} {scope : List ℕ} (n : ℕ) (s : Tag) (pl : Place) (b : Target) (e : Ex) (p : Part)
       → TypedSt P g (assign s (bare_target b) (bare e)) → FormedSt P plain in_loop scope (assign s (bare_target b) (bare e))
@@ -319,13 +363,20 @@ module _ (P Q : Plain) (placed : IsPlaced P Q) (formed : IsFormed P) (typed : Is
   assign_fitted n s pl (to_local t i) e p (t_assign x a f) q w c =
       is _ p c (local_fitted t i (n + 0) false e a (λ q z. w q (Contains-append_left (parts P type m k false (label (n + 0) e)) _ q z)) f)
   assign_fitted n s pl (to_static t i) e p (t_assign x a f) q w c =
-      is (a_set (at 0 (static_field t i)) (at (n + 0) e)) p c (good_at 0 false (static_field t i) t_static_field (λ q c. unlisted q c), apart_as
-          (at 0 (static_field t i)) (row.Field i) refl refl, value_of (n + 0) false e _ _ a
-          (λ q z. w q (Contains-append_left (parts P type m k false (label (n + 0) e)) _ q z)) f (as_type 0 (static_field t i)))
+      is (a_set (at 0 (static_field t i)) (at (n + 0) e)) p c (
+        good_at 0 false (static_field t i) t_static_field (λ q c. unlisted q c),
+        apart_as
+            (at 0 (static_field t i)) (row.Field i) refl refl,
+        value_of (n + 0) false e _ _ a
+            (λ q z. w q (Contains-append_left (parts P type m k false (label (n + 0) e)) _ q z)) f (as_type 0 (static_field t i)),
+      )
   assign_fitted n s pl (to_own t i) e p (t_assign x a f) (f_assign (f_to_own v y) z) w c =
       is (a_store pl (this_operand m k) (Some i) (at (n + 0) e)) p c
-          (λ j h. (own_base i j y h, value_of (n + 0) true e _ _ a (λ q z. w q (Contains-append_left (parts P type m k true (label (n + 0) e)) _ q z))
-          f (as_type 0 (own_field t i) ∙ sym (of_object (label 0 (own_field t i))) ∙ ap (field_object P) (same_Some i j h))))
+      (λ j h. (
+        own_base i j y h,
+        value_of (n + 0) true e _ _ a (λ q z. w q (Contains-append_left (parts P type m k true (label (n + 0) e)) _ q z))
+            f (as_type 0 (own_field t i) ∙ sym (of_object (label 0 (own_field t i))) ∙ ap (field_object P) (same_Some i j h)),
+      ))
   assign_fitted n s pl (to_field t b x) e p (t_assign (t_to_field v y) a f) q w c =
       is (a_store pl (at n b) (object_field P (type (label n b)) x) (at (n + size b) e)) p c
       (λ j h. (

@@ -132,48 +132,106 @@ module _ (P : Plain) (type : Ex → Option ObjectType) (m : ℕ) (k h : PlainMet
         record { form = own_field t i; number = n; used = u; scope = _; typed = a; formed = f; inside = into; own_part = c }
     ex_from n u (field t e x) (t_field a b) (f_field d i) into c =
         split (parts P type m k (is_accessed (label n e)) (label n e)) (own u (label n (field t e x))) into c
-            (λ way z. ex_from n (is_accessed (label n e)) e a d way z)
+        (λ way z. ex_from n (is_accessed (label n e)) e a d way z)
         (λ way z. record { form = field t e x; number = n; used = u; scope = _; typed = t_field a b; formed = f_field d i; inside = into; own_part = z })
     ex_from n u (index t e i) (t_index a b v w) (f_index d q) into c =
         split (parts P type m k true (label n e)) (own u (label n (index t e i)) ++ parts P type m k false (label (n + size e + 1) i)) into c
-            (λ way z. ex_from n true e a d way z)
+        (λ way z. ex_from n true e a d way z)
         (λ way z. split (own u (label n (index t e i))) (parts P type m k false (label (n + size e + 1) i)) way z
-        (λ way z. record { form = index t e i; number = n; used = u; scope = _; typed = t_index a b v w; formed = f_index d q; inside = into;
-            own_part = z }) (λ way z. ex_from (n + size e + 1) false i v q way z))
+        (λ way z. record {
+          form = index t e i;
+          number = n;
+          used = u;
+          scope = _;
+          typed = t_index a b v w;
+          formed = f_index d q;
+          inside = into;
+          own_part = z;
+        }) (λ way z. ex_from (n + size e + 1) false i v q way z))
     ex_from n u (call t e x es) (t_call a b v) (f_call d i q) into c =
         split (parts P type m k true (label n e)) (own u (label n (call t e x es)) ++ parts_all P type m k true (label_all (n + size e + 1) es)) into
-            c (λ way z. ex_from n true e a d way z)
+        c (λ way z. ex_from n true e a d way z)
         (λ way z. split (own u (label n (call t e x es))) (parts_all P type m k true (label_all (n + size e + 1) es)) way z
-        (λ way z. record { form = call t e x es; number = n; used = u; scope = _; typed = t_call a b v; formed = f_call d i q; inside = into;
-            own_part = z }) (λ way z. all_from (n + size e + 1) true es v q way z))
+        (λ way z. record {
+          form = call t e x es;
+          number = n;
+          used = u;
+          scope = _;
+          typed = t_call a b v;
+          formed = f_call d i q;
+          inside = into;
+          own_part = z;
+        }) (λ way z. all_from (n + size e + 1) true es v q way z))
     ex_from n u (static_call t d es) (t_static_call a b) (f_static_call i q) into c =
         split (own u (label n (static_call t d es))) (parts_all P type m k false (label_all (n + 1) es)) into c
-        (λ way z. record { form = static_call t d es; number = n; used = u; scope = _; typed = t_static_call a b; formed = f_static_call i q; inside =
-            into; own_part = z }) (λ way z. all_from (n + 1) false es b q way z)
+        (λ way z. record {
+          form = static_call t d es;
+          number = n;
+          used = u;
+          scope = _;
+          typed = t_static_call a b;
+          formed = f_static_call i q;
+          inside =
+              into;
+          own_part = z;
+        }) (λ way z. all_from (n + 1) false es b q way z)
     ex_from n u (super_call t x es) (t_super_call a b v w) (f_super_call i j q) into c =
         split (own u (label n (super_call t x es))) (parts_all P type m k false (label_all (n + 1) es)) into c
-        (λ way z. record { form = super_call t x es; number = n; used = u; scope = _; typed = t_super_call a b v w; formed = f_super_call i j q;
-            inside = into; own_part = z }) (λ way z. all_from (n + 1) false es w q way z)
+        (λ way z. record {
+          form = super_call t x es;
+          number = n;
+          used = u;
+          scope = _;
+          typed = t_super_call a b v w;
+          formed = f_super_call i j q;
+          inside = into;
+          own_part = z;
+        }) (λ way z. all_from (n + 1) false es w q way z)
     ex_from n u (create t i d no_ex) (t_create a) (f_create b q) into c =
         record { form = create t i d no_ex; number = n; used = u; scope = _; typed = t_create a; formed = f_create b q; inside = into; own_part = c }
     ex_from n u (create t i d (ex_then e es)) a f into c = elim a [ ]
     ex_from n u (create_array t i v e) (t_create_array a b) (f_create_array d q r) into c =
         split (own u (label n (create_array t i v e))) (parts P type m k false (label (n + 1) e)) into c
-        (λ way z. record { form = create_array t i v e; number = n; used = u; scope = _; typed = t_create_array a b; formed = f_create_array d q r;
-            inside = into; own_part = z }) (λ way z. ex_from (n + 1) false e a r way z)
+        (λ way z. record {
+          form = create_array t i v e;
+          number = n;
+          used = u;
+          scope = _;
+          typed = t_create_array a b;
+          formed = f_create_array d q r;
+          inside = into;
+          own_part = z;
+        }) (λ way z. ex_from (n + 1) false e a r way z)
     ex_from n u (cast t i v e) (t_cast a b) (f_cast d q) into c =
         split (own u (label n (cast t i v e))) (parts P type m k true (label (n + 1) e)) into c
-        (λ way z. record { form = cast t i v e; number = n; used = u; scope = _; typed = t_cast a b; formed = f_cast d q; inside = into; own_part =
-            z }) (λ way z. ex_from (n + 1) true e a q way z)
+        (λ way z. record {
+          form = cast t i v e;
+          number = n;
+          used = u;
+          scope = _;
+          typed = t_cast a b;
+          formed = f_cast d q;
+          inside = into;
+          own_part =
+              z;
+        }) (λ way z. ex_from (n + 1) true e a q way z)
     ex_from n u (instance_of t i e v) (t_instance_of a b) (f_instance_of d q) into c =
         split (parts P type m k true (label n e)) (own u (label n (instance_of t i e v))) into c (λ way z. ex_from n true e a d way z)
-        (λ way z. record { form = instance_of t i e v; number = n; used = u; scope = _; typed = t_instance_of a b; formed = f_instance_of d q;
-            inside = into; own_part = z })
+        (λ way z. record {
+          form = instance_of t i e v;
+          number = n;
+          used = u;
+          scope = _;
+          typed = t_instance_of a b;
+          formed = f_instance_of d q;
+          inside = into;
+          own_part = z;
+        })
     ex_from n u (unary t o e) (t_unary a b) (f_unary d) into c = ex_from n false e a d into c
     ex_from n u (binary t o e i) (t_binary a b v) (f_binary d q) into c =
         split (parts P type m k false (label n e) ++ parts P type m k false (label (n + size e) i)) (own u (label n (binary t o e i))) into c
         (λ way z. split (parts P type m k false (label n e)) (parts P type m k false (label (n + size e) i)) way z
-            (λ way z. ex_from n false e a d way z) (λ way z. ex_from (n + size e) false i b q way z))
+        (λ way z. ex_from n false e a d way z) (λ way z. ex_from (n + size e) false i b q way z))
         (λ way z. record { form = binary t o e i; number = n; used = u; scope = _; typed = t_binary a b v; formed = f_binary d q; inside = into; own_part = z })
 
     all_from : {p : Part} {scope : List ℕ} {us : List Ty} (n : ℕ) (u : Bool) (es : Exs) → TypedArgs P g (bare_all es) us
@@ -193,36 +251,48 @@ module _ (P : Plain) (type : Ex → Option ObjectType) (m : ℕ) (k h : PlainMet
   assign_from : {p : Part} {in_loop : Bool} {scope : List ℕ} (n : ℕ) (t : Tag) (s : Tag) (b : Target) (e : Ex)
       → TypedSt P g (assign s (bare_target b) (bare e)) → FormedSt P h in_loop scope (assign s (bare_target b) (bare e))
       → Into (parts_assign P type m k t.place (label_target n b) (label (n + size_target b) e)) ps
-          → Contains (own_assign t.place (label_target n b) (label (n + size_target b) e)) p → From p
+      → Contains (own_assign t.place (label_target n b) (label (n + size_target b) e)) p → From p
   assign_from n t s b e a f into c =
-      from_assign (record { target = b; value = e; number = n; place = t.place; in_loop = _; scope = _; tag = s; typed = a; formed = f; inside =
-      into; own_part = c })
+      from_assign (record {
+        target = b;
+        value = e;
+        number = n;
+        place = t.place;
+        in_loop = _;
+        scope = _;
+        tag = s;
+        typed = a;
+        formed = f;
+        inside =
+            into;
+        own_part = c;
+      })
 
   target_from : {p : Part} {in_loop : Bool} {scope : List ℕ} (n : ℕ) (t : Tag) (s : Tag) (b : Target) (e : Ex)
       → TypedSt P g (assign s (bare_target b) (bare e)) → FormedSt P h in_loop scope (assign s (bare_target b) (bare e))
       → Into (parts_assign P type m k t.place (label_target n b) (label (n + size_target b) e)) ps
-          → Contains (parts_assign P type m k t.place (label_target n b) (label (n + size_target b) e)) p → From p
+      → Contains (parts_assign P type m k t.place (label_target n b) (label (n + size_target b) e)) p → From p
   target_from {in_loop = il} n t s (to_local r i) e (t_assign a b v) (f_assign d f) into c =
       split (parts P type m k false (label (n + 0) e)) _ into c (λ way z. from_ex (ex_from (n + 0) false e b f way z))
-          (λ way z. assign_from {in_loop = il} n t s (to_local r i) e (t_assign a b v) (f_assign d f) into z)
+      (λ way z. assign_from {in_loop = il} n t s (to_local r i) e (t_assign a b v) (f_assign d f) into z)
   target_from {in_loop = il} n t s (to_static r i) e (t_assign a b v) (f_assign d f) into c =
       split (parts P type m k false (label (n + 0) e)) _ into c (λ way z. from_ex (ex_from (n + 0) false e b f way z))
-          (λ way z. assign_from {in_loop = il} n t s (to_static r i) e (t_assign a b v) (f_assign d f) into z)
+      (λ way z. assign_from {in_loop = il} n t s (to_static r i) e (t_assign a b v) (f_assign d f) into z)
   target_from {in_loop = il} n t s (to_own r i) e (t_assign a b v) (f_assign d f) into c =
       split (parts P type m k true (label (n + 0) e)) _ into c (λ way z. from_ex (ex_from (n + 0) true e b f way z))
-          (λ way z. assign_from {in_loop = il} n t s (to_own r i) e (t_assign a b v) (f_assign d f) into z)
+      (λ way z. assign_from {in_loop = il} n t s (to_own r i) e (t_assign a b v) (f_assign d f) into z)
   target_from {in_loop = il} n t s (to_field r i x) e (t_assign (t_to_field q w) b v) (f_assign (f_to_field d j) f) into c =
       split (parts P type m k (is_accessed (label n i)) (label n i) ++ parts P type m k true (label (n + size i) e)) _ into c
       (λ way z. split (parts P type m k (is_accessed (label n i)) (label n i)) (parts P type m k true (label (n + size i) e)) way z
-          (λ way z. from_ex (ex_from n (is_accessed (label n i)) i q d way z)) (λ way z. from_ex (ex_from (n + size i) true e b f way z)))
+      (λ way z. from_ex (ex_from n (is_accessed (label n i)) i q d way z)) (λ way z. from_ex (ex_from (n + size i) true e b f way z)))
       (λ way z. assign_from {in_loop = il} n t s (to_field r i x) e (t_assign (t_to_field q w) b v) (f_assign (f_to_field d j) f) into z)
   target_from {in_loop = il} n t s (to_element r i j) e (t_assign (t_to_element q w x y) b v) (f_assign (f_to_element d l) f) into c =
       split ((parts P type m k true (label n i) ++ parts P type m k false (label (n + size i) j)) ++ parts P type m k true
-          (label (n + (size i + size j)) e)) _ into c
+      (label (n + (size i + size j)) e)) _ into c
       (λ way z. split (parts P type m k true (label n i) ++ parts P type m k false (label (n + size i) j))
-          (parts P type m k true (label (n + (size i + size j)) e)) way z
+      (parts P type m k true (label (n + (size i + size j)) e)) way z
       (λ way z. split (parts P type m k true (label n i)) (parts P type m k false (label (n + size i) j)) way z
-          (λ way z. from_ex (ex_from n true i q d way z)) (λ way z. from_ex (ex_from (n + size i) false j x l way z)))
+      (λ way z. from_ex (ex_from n true i q d way z)) (λ way z. from_ex (ex_from (n + size i) false j x l way z)))
       (λ way z. from_ex (ex_from (n + (size i + size j)) true e b f way z)))
       (λ way z. assign_from {in_loop = il} n t s (to_element r i j) e (t_assign (t_to_element q w x y) b v) (f_assign (f_to_element d l) f) into z)
   target_from {in_loop = il} n t s no_target e (t_assign a b v) f into c = elim a [ ]
@@ -233,8 +303,16 @@ module _ (P : Plain) (type : Ex → Option ObjectType) (m : ℕ) (k h : PlainMet
     st_from n (declare t i None) a f into c = unless c
     st_from n (declare t i (Some e)) (t_declare_as a b) (f_declare d (f_some f)) into c =
         split (parts P type m k false (label n e)) _ into c (λ way z. from_ex (ex_from n false e a f way z))
-            (λ way z. from_declare (record { local_number = i; value = e; number = n; tag = t; typed = t_declare_as a b; inside = λ q y. into q
-            (Contains-append_left (parts P type m k false (label n e)) _ q y); own_part = z }))
+        (λ way z. from_declare (record {
+          local_number = i;
+          value = e;
+          number = n;
+          tag = t;
+          typed = t_declare_as a b;
+          inside = λ q y. into q
+              (Contains-append_left (parts P type m k false (label n e)) _ q y);
+          own_part = z;
+        }))
     st_from n (block t xs) (t_block a) (f_block f) into c = sts_from n xs a f into c
     st_from n (assign t b e) a f into c = target_from n t _ b e a f into c
     st_from n (act t e) (t_act a) (f_act d f) into c = from_ex (ex_from n false e a f into c)
@@ -245,19 +323,26 @@ module _ (P : Plain) (type : Ex → Option ObjectType) (m : ℕ) (k h : PlainMet
     st_from n (choose t (otherwise xs)) a f into c = elim f [ ]
     st_from n (loop t is_while first test step body) (t_loop a b v w) (f_loop head i j d f q r) into c =
         split ((parts_sts P type m k (label_sts n first) ++ parts_if P type m k (label_if (n + size_sts first) test)) ++ parts_sts P type m k
-            (label_sts (n + size_sts first + size_if test) step))
-            (parts_sts P type m k (label_sts (n + size_sts first + size_if test + size_sts step) body)) into c
+        (label_sts (n + size_sts first + size_if test) step))
+        (parts_sts P type m k (label_sts (n + size_sts first + size_if test + size_sts step) body)) into c
         (λ way z. split (parts_sts P type m k (label_sts n first) ++ parts_if P type m k (label_if (n + size_sts first) test))
-            (parts_sts P type m k (label_sts (n + size_sts first + size_if test) step)) way z
+        (parts_sts P type m k (label_sts (n + size_sts first + size_if test) step)) way z
         (λ way z. split (parts_sts P type m k (label_sts n first)) (parts_if P type m k (label_if (n + size_sts first) test)) way z
-            (λ way z. sts_from n first a d way z) (λ way z. from_ex (test_from (n + size_sts first) test b f way z)))
+        (λ way z. sts_from n first a d way z) (λ way z. from_ex (test_from (n + size_sts first) test b f way z)))
         (λ way z. sts_from (n + size_sts first + size_if test) step v q way z))
         (λ way z. sts_from (n + size_sts first + size_if test + size_sts step) body w r way z)
     st_from n (return t None) a f into c = unless c
     st_from n (return t (Some e)) (t_return a b v) (f_return (f_some f)) into c =
         split (parts P type m k false (label n e)) _ into c (λ way z. from_ex (ex_from n false e a f way z))
-            (λ way z. from_return (record { value = e; number = n; tag = t; typed = t_return a b v; inside = λ q y. into q
-            (Contains-append_left (parts P type m k false (label n e)) _ q y); own_part = z }))
+        (λ way z. from_return (record {
+          value = e;
+          number = n;
+          tag = t;
+          typed = t_return a b v;
+          inside = λ q y. into q
+              (Contains-append_left (parts P type m k false (label n e)) _ q y);
+          own_part = z;
+        }))
     st_from n (break t) a f into c = unless c
     st_from n (continue t) a f into c = unless c
 
@@ -276,7 +361,7 @@ module _ (P : Plain) (type : Ex → Option ObjectType) (m : ℕ) (k h : PlainMet
     arms_from n (otherwise xs) (t_otherwise a) (f_otherwise f) into c = sts_from n xs a f into c
     arms_from n (arm e xs more) (t_arm a b v w) (f_arm d f q) into c =
         split (parts P type m k false (label n e) ++ parts_sts P type m k (label_sts (n + size e) xs))
-            (parts_arms P type m k (label_arms (n + size e + size_sts xs) more)) into c
+        (parts_arms P type m k (label_arms (n + size e + size_sts xs) more)) into c
         (λ way z. split (parts P type m k false (label n e)) (parts_sts P type m k (label_sts (n + size e) xs)) way z
-            (λ way z. from_ex (ex_from n false e a d way z)) (λ way z. sts_from (n + size e) xs v f way z))
+        (λ way z. from_ex (ex_from n false e a d way z)) (λ way z. sts_from (n + size e) xs v f way z))
         (λ way z. arms_from (n + size e + size_sts xs) more w q way z)

@@ -174,8 +174,11 @@ module _ (P Q : Plain) (placed : IsPlaced P Q) (formed : IsFormed P) (typed : Is
         (made_type P Q placed formed typed F facts m k stands o z.0 x.site.0 v.good z.2 z.3) (f x.point z.1 u d)
 
     self_value : (o : Operand) → IsGood o → Value o o.ty
-    self_value o g = record { good = g; under = λ b u x y. under_as P Q placed formed typed F facts (under_same P Q placed formed typed F facts b)
-        (same_Some b u (sym x ∙ y)) }
+    self_value o g = record {
+      good = g;
+      under = λ b u x y. under_as P Q placed formed typed F facts (under_same P Q placed formed typed F facts b)
+          (same_Some b u (sym x ∙ y));
+    }
 
     args_new : (d : ℕ) (es : List Operand) (x : NewInfo) → ((i : ℕ) (a : Operand) → slice_get es i ≡ Some a
         → Value a (item_type P Q (point.Local d i))) → Contains (each (λ i o. created (numbers P Q) o (point_number P Q (point.Local d i))) 0 es) x
@@ -220,8 +223,8 @@ module _ (P Q : Plain) (placed : IsPlaced P Q) (formed : IsFormed P) (typed : Is
         let z = moved_from (point_number P Q (point.This m)) (point_number P Q (point.This d)) x c in
         let w = this_parts (slice_get Q.methods d) refl (sym (number_types (point.This d) x.to z.1) ∙ y) in
         then_under (h (record { class = record { 0 = k.owner }; dim = 0 }) (number_types (point.This m) x.from z.0
-            ∙ ap (option_and_then (λ k. class_object k.owner)) stands)) (subst (λ v. IsUnder P (record { class = record { 0 = k.owner }; dim = 0 }) v)
-            w (record { class = b; dim = refl }))
+        ∙ ap (option_and_then (λ k. class_object k.owner)) stands)) (subst (λ v. IsUnder P (record { class = record { 0 = k.owner }; dim = 0 }) v)
+        w (record { class = b; dim = refl }))
       where
         this_parts : (o : Option PlainMethod) → slice_get Q.methods d ≡ o → option_and_then (λ k. class_object k.owner) (slice_get Q.methods d)
             ≡ Some u → record { class = record { 0 = owner_of Q (column.Def d) }; dim = 0 } ≡ u
@@ -236,14 +239,14 @@ module _ (P Q : Plain) (placed : IsPlaced P Q) (formed : IsFormed P) (typed : Is
     part_flow (a_static_call w d es o) x s h c =
         let one = each (λ i o. moved (point_at (numbers P Q) o) (point_number P Q (point.Local d i))) 0 es in
         ⊎_elim (λ y. args_flow d es x s h.1.args y) (λ y. result_flow d o x s h.0 h.1.result y)
-            (Contains-append_cases one (moved (point_number P Q (point.Result d)) (point_at (numbers P Q) o)) x c)
+        (Contains-append_cases one (moved (point_number P Q (point.Result d)) (point_at (numbers P Q) o)) x c)
     part_flow (a_super_call w (Some d) es o) x s h c =
         let one = each (λ i o. moved (point_at (numbers P Q) o) (point_number P Q (point.Local d i))) 0 es in
         let two = moved (point_number P Q (point.Result d)) (point_at (numbers P Q) o) in
         let z = h.1 d refl in
         ⊎_elim (λ y. ⊎_elim (λ y. args_flow d es x s z.1.args y) (λ y. result_flow d o x s h.0 z.1.result y) (Contains-append_cases one two x y))
         (λ y. this_flow d x s (super_above P Q placed formed typed k.owner d z.0.name z.0.found) y)
-            (Contains-append_cases (one ++ two) (moved (point_number P Q (point.This m)) (point_number P Q (point.This d))) x c)
+        (Contains-append_cases (one ++ two) (moved (point_number P Q (point.This m)) (point_number P Q (point.This d))) x c)
     part_flow _ x s h c = absurd (omega (arith, c.1))
 
     -- an element of what a base holds
@@ -264,13 +267,13 @@ module _ (P Q : Plain) (placed : IsPlaced P Q) (formed : IsFormed P) (typed : Is
     unfolding numbers
     part_load (a_load w b (Some f) q) x c o s g e i h v u d =
         let z = these_from (point_at (numbers P Q) b) (column_number P Q (column.Fld f)) (point_at (numbers P Q) q)
-            (λ a c q. record { base = a; column = Some (record { 0 = c }); into = q }) x e in
+        (λ a c q. record { base = a; column = Some (record { 0 = c }); into = q }) x e in
         let ty = sym (g.1 f refl).1 ∙ sym (operand_types q x.into g.0 (z.5 ∙ ap (λ y. Some y.into) z.6)) ∙ d in
         v.field f (record { 0 = z.1 }) u (i.column_is ∙ sym (ap (λ y. y.column) z.6)) z.4 ty
     part_load (an_element w b q) x c o s g e i h v u d =
         let z = both_from (point_at (numbers P Q) b) (point_at (numbers P Q) q) (λ a q. record { base = a; column = None; into = q }) x e in
         element_held b x.base c o s g.0 (z.2 ∙ ap (λ y. Some y.base) z.4) (subst (λ y. IsCell F c o y) (sym (ap (λ y. y.column) z.4)) i) h v u
-            (sym g.2 ∙ sym (operand_types q x.into g.1 (z.3 ∙ ap (λ y. Some y.into) z.4)) ∙ d)
+        (sym g.2 ∙ sym (operand_types q x.into g.1 (z.3 ∙ ap (λ y. Some y.into) z.4)) ∙ d)
     part_load _ x c o s g e i h v u d = absurd (omega (arith, e.1))
 
     -- what is put in an element
@@ -281,7 +284,7 @@ module _ (P Q : Plain) (placed : IsPlaced P Q) (formed : IsFormed P) (typed : Is
         let z = typed_operand b a g e in
         let r = h z.0 z.1 in
         let y = value_goes q (element_object b.ty) n s v d w (record { class = z.0.class; dim = z.0.dim - 1 }) (ap element_object z.2
-            ∙ element_some z.0 (deep z.0 z.2)) in
+        ∙ element_some z.0 (deep z.0 z.2)) in
         record {
           field = λ f p t x. absurd (let y = sym x ∙ i.column_is in cc);
           class = λ x. subst (λ n. IsSubclass P (site_class F s) (site_class F n)) (sym i.site_is) (below_subclass P Q placed F facts f);
@@ -302,12 +305,12 @@ module _ (P Q : Plain) (placed : IsPlaced P Q) (formed : IsFormed P) (typed : Is
     unfolding numbers
     part_store (a_store w b (Some f) q) x c o s g e i r h v =
         let z = these_from (point_at (numbers P Q) b) (column_number P Q (column.Fld f)) (point_at (numbers P Q) q)
-            (λ a c q. record { base = a; column = Some (record { 0 = c }); value = q; place = w }) x e in
+        (λ a c q. record { base = a; column = Some (record { 0 = c }); value = q; place = w }) x e in
         field_put f q z.1 x.value c o s (g f refl).1 z.4 (z.5 ∙ ap (λ y. Some y.value) z.6) (subst (λ y. IsCell F c o y) (sym (ap (λ y. y.column) z.6)) i) v
     part_store (an_element_store w b q) x c o s g e i r h v =
         let z = both_from (point_at (numbers P Q) b) (point_at (numbers P Q) q) (λ a q. record { base = a; column = None; value = q; place = w }) x e in
         element_put b q x.base x.value c o s g.0 g.1 g.2 (z.2 ∙ ap (λ y. Some y.base) z.4) (z.3 ∙ ap (λ y. Some y.value) z.4)
-            (subst (λ y. IsCell F c o y) (sym (ap (λ y. y.column) z.4)) i) (subst (λ y. Fits F y s o) (sym (ap (λ y. y.column) z.4)) r) h v
+        (subst (λ y. IsCell F c o y) (sym (ap (λ y. y.column) z.4)) i) (subst (λ y. Fits F y s o) (sym (ap (λ y. y.column) z.4)) r) h v
     part_store _ x c o s g e i r h v = absurd (omega (arith, e.1))
 
     paired_dims : (s t : ObjectType) → ArePaired P s t → s.dim ≡ t.dim
@@ -347,8 +350,16 @@ module _ (P Q : Plain) (placed : IsPlaced P Q) (formed : IsFormed P) (typed : Is
   call_part m k e (a_call w b (Some s) d es o) y call f c i = go (point_at (numbers P Q) b) refl c
     where
       go : (r : Option ℕ) → point_at (numbers P Q) b ≡ r
-          → Contains (option_map_or (λ r. record { place = w; item = record { receiver = r; slot = s; args = map (point_at (numbers P Q)) es; result =
-          point_at (numbers P Q) o } } ∷ []) r []) y → IsCall call
+          → Contains (option_map_or (λ r. record {
+            place = w;
+            item = record {
+              receiver = r;
+              slot = s;
+              args = map (point_at (numbers P Q)) es;
+              result =
+                  point_at (numbers P Q) o;
+            };
+          } ∷ []) r []) y → IsCall call
       go None a c = absurd (omega (arith, c.1))
       go (Some r) a c =
           let z = ap (λ y. y.item) (one_from _ y c) ∙ i in
@@ -379,7 +390,7 @@ module _ (P Q : Plain) (placed : IsPlaced P Q) (formed : IsFormed P) (typed : Is
   pub call_of : (call : CallInfo) → Contains F.calls.items call → IsCall call
   call_of call c =
       let y = map_from (λ c. c.item) (by_place (λ c. c.place.at) (gathered P Q (λ b. calls_of (numbers P Q)))) (call_seen call)
-          (subst (λ w. Contains w (call_seen call)) facts.calls (map_has call_seen F.calls.items call c)) in
+      (subst (λ w. Contains w (call_seen call)) facts.calls (map_has call_seen F.calls.items call c)) in
       let z = gathered_from P Q (λ b. calls_of (numbers P Q)) y.0 (place_from (λ c. c.place.at) (gathered P Q (λ b. calls_of (numbers P Q))) y.0 y.1) in
       call_part z.0 z.1 z.3 z.2 y.0 call (fitted_at z.0 z.1 z.3 z.2 z.4) z.5 y.2
 
@@ -403,8 +414,16 @@ module _ (P Q : Plain) (placed : IsPlaced P Q) (formed : IsFormed P) (typed : Is
       inner k None e d h = absurd (omega (arith, h.1))
       inner k (Some t) e d h =
           let z = one_from _ (body_seen body) h in
-          record { number = m; method = k; stands = e; column_is = n ∙ ap (λ y. Some y.column) z; this = d
-              ∙ ap (λ y. Some y.this) z; params = sym (ap (λ y. y.params) z); result = sym (ap (λ y. y.result) z) }
+          record {
+            number = m;
+            method = k;
+            stands = e;
+            column_is = n ∙ ap (λ y. Some y.column) z;
+            this = d
+                ∙ ap (λ y. Some y.this) z;
+            params = sym (ap (λ y. y.params) z);
+            result = sym (ap (λ y. y.result) z);
+          }
 
       go : (o : Option PlainMethod) → slice_get Q.methods m ≡ o
           → Contains (option_map_or (λ k. body_if (numbers P Q) Q c m k (point_number P Q (point.This m))) o []) (body_seen body) → IsEntry body
@@ -415,7 +434,7 @@ module _ (P Q : Plain) (placed : IsPlaced P Q) (formed : IsFormed P) (typed : Is
   pub entry_of : (body : BodyInfo) → Contains F.bodies.items body → IsEntry body
   entry_of body c =
       let z = each_from_zero (λ c k. column_body (numbers P Q) Q c k.item) (columns_of P Q) (body_seen body)
-          (subst (λ w. Contains w (body_seen body)) facts.bodies (map_has body_seen F.bodies.items body c)) in
+      (subst (λ w. Contains w (body_seen body)) facts.bodies (map_has body_seen F.bodies.items body c)) in
       item_entry z.0 z.1.item body (column_back P Q z.0 z.1 z.2) z.3
 
   -- the body that a call runs for an object
@@ -446,7 +465,7 @@ module _ (P Q : Plain) (placed : IsPlaced P Q) (formed : IsFormed P) (typed : Is
       let c = w.call_is in
       let t = typed_operand c.number c.method c.stands c.base call.receiver c.base_good c.receiver in
       let s : record { class = record { 0 = e.method.owner }; dim = 0 } ≡ u = same_Some _ u (sym (number_types (point.This e.number) body.this e.this
-          ∙ ap (option_and_then (λ k. class_object k.owner)) e.stands) ∙ d) in
+      ∙ ap (option_and_then (λ k. class_object k.owner)) e.stands) ∙ d) in
       as_under (record { class = w.above; dim = (h t.0 t.1).dim ∙ c.object t.0 t.2 }) s
 
   arg_at : (es : List Operand) (xs : List (Option ℕ)) (i n : ℕ) → xs ≡ map (point_at (numbers P Q)) es → listed_at xs i ≡ Some n → (a : Operand)
@@ -470,7 +489,7 @@ module _ (P Q : Plain) (placed : IsPlaced P Q) (formed : IsFormed P) (typed : Is
       let y = param_at e.number e.method body.params.items i to e.params p in
       value_goes c.number c.method c.stands x.0 (param_object P call.slot i) from s (c.values i x.0 x.1) x.2 h u
       (sym (slot_param P Q placed formed typed e.number i call.slot e.method e.stands w.slot y.0) ∙ sym (number_types (point.Local e.number i) to y.1
-          ∙ ap (option_and_then (λ k. variable_object k i)) e.stands) ∙ d)
+      ∙ ap (option_and_then (λ k. variable_object k i)) e.stands) ∙ d)
 
   result_held : (call : CallInfo) (o : ℕ) (body : BodyInfo) (from to s : ℕ) → Runs F call o body → body.result ≡ Some from → call.result ≡ Some to
       → IsHeld (in_point from s) → IsHeld (in_point to s)
@@ -482,9 +501,9 @@ module _ (P Q : Plain) (placed : IsPlaced P Q) (formed : IsFormed P) (typed : Is
       let y = ((formed.methods e.number z.plain z.stands).slots call.slot).0 (z.slot ∙ w.slot) in
       let t = typed_item (point.Result e.number) from (sym e.result ∙ a) in
       let same : object_if e.method.result ≡ slot_object P call.slot = ap object_if (sym z.result ∙ y.result)
-          ∙ sym (ap (λ o. object_if (option_and_then (λ k. k.result) o)) y.stands) in
+      ∙ sym (ap (λ o. object_if (option_and_then (λ k. k.result) o)) y.stands) in
       as_under (h t.0 t.1) (same_Some _ _ (sym t.2 ∙ ap (option_and_then (λ k. object_if k.result)) e.stands ∙ same ∙ sym c.gives
-          ∙ sym (operand_types c.number c.method c.stands c.own to c.own_good (sym c.result ∙ p)) ∙ d))
+      ∙ sym (operand_types c.number c.method c.stands c.own to c.own_good (sym c.result ∙ p)) ∙ d))
 
   closed : (ps : List Fact) (f : Fact) → Inclusion F ps f → AllByRecursion IsHeld ps → IsHeld f
   closed ps f (by_new x c) h = let z = gathered_from P Q (λ b. news_of (numbers P Q) b.number) x ((facts.news x).0 c) in part_new z.0 z.1 z.3 z.2 x

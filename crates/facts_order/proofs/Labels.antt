@@ -151,7 +151,7 @@ module _ (P : Plain) (type : Ex → Option ObjectType) (m : ℕ) (k : PlainMetho
     st_labels n (choose t xs) = arms_labels n xs
     st_labels n (loop t is_while first test step body) =
         upto (omega arith) (join (join (join (sts_labels n first) (if_labels (n + size_sts first) test))
-            (sts_labels (n + size_sts first + size_if test) step)) (sts_labels (n + size_sts first + size_if test + size_sts step) body))
+        (sts_labels (n + size_sts first + size_if test) step)) (sts_labels (n + size_sts first + size_if test + size_sts step) body))
     st_labels n (return t e) = return_labels n e
     st_labels n (break t) = none (omega arith)
     st_labels n (continue t) = none (omega arith)

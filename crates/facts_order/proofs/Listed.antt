@@ -84,7 +84,7 @@ pub each_from : {A B : Type 0} (f : ℕ → A → List B) (n : ℕ) (xs : List A
 each_from f n [] y c = absurd (omega (arith, c.1))
 each_from f n (x ∷ xs) y c =
     ⊎_elim (λ d. (0, n, x, refl, omega arith, d)) (λ d. let z = each_from f (n + 1) xs y d in (suc z.0, z.1, z.2, z.3, omega (arith, z.4), z.5))
-        (Contains-append_cases (f n x) (each f (n + 1) xs) y c)
+    (Contains-append_cases (f n x) (each f (n + 1) xs) y c)
 
 pub each_from_zero : {A B : Type 0} (f : ℕ → A → List B) (xs : List A) (y : B) → Contains (each f 0 xs) y → (i : ℕ) × (x : A)
     × (slice_get xs i ≡ Some x) × Contains (f i x) y
@@ -123,13 +123,13 @@ put_rest at x [] y c = absurd (omega (arith, c.1))
 put_rest at x (z ∷ zs) y (zero, lt, e) = choose_has _ _ _ (nat_lt (at z) (at x)) (0, omega arith, e) (more y x (z ∷ zs) (0, omega arith, e))
 put_rest at x (z ∷ zs) y (suc k, lt, e) =
     let c : Contains zs y = (k, omega (arith, lt), e) in choose_has _ _ _ (nat_lt (at z) (at x)) (more y z (put_in at x zs) (put_rest at x zs y c))
-        (more y x (z ∷ zs) (more y z zs c))
+    (more y x (z ∷ zs) (more y z zs c))
 
 put_from : {A : Type 0} (at : A → ℕ) (x : A) (xs : List A) (y : A) → Contains (put_in at x xs) y → (x ≡ y) ⊎ Contains xs y
 put_from at x [] y c = tail_from x y [] c
 put_from at x (z ∷ zs) y c =
     ⊎_elim (λ d. ⊎_elim (λ e. inr (0, omega arith, e)) (λ d. ⊎_elim (λ e. inl e) (λ d. inr (more y z zs d)) (put_from at x zs y d))
-        (tail_from z y (put_in at x zs) d)) (λ d. tail_from x y (z ∷ zs) d)
+    (tail_from z y (put_in at x zs) d)) (λ d. tail_from x y (z ∷ zs) d)
     (choose_from (z ∷ put_in at x zs) (x ∷ (z ∷ zs)) y (nat_lt (at z) (at x)) c)
 
 pub place_has : {A : Type 0} (at : A → ℕ) (xs : List A) (y : A) → Contains xs y → Contains (by_place at xs) y
@@ -192,7 +192,7 @@ module _ {A K : Type 0} (eq : K → K → Bool) (exact : (x y : K) → eq x y �
   once_after_from seen [] x c = c
   once_after_from seen (y ∷ ys) x c =
       ⊎_elim (λ d. more x y ys (once_after_from (insert_key eq seen (key y)) ys x d)) (λ p. (0, omega arith, p.1))
-          (head_cases (list_any (eq (key y)) seen) (once_after eq key (insert_key eq seen (key y)) ys) y x c)
+      (head_cases (list_any (eq (key y)) seen) (once_after eq key (insert_key eq seen (key y)) ys) y x c)
 
   pub once_from : (xs : List A) (x : A) → Contains (once eq key xs) x → Contains xs x
   once_from xs x c = once_after_from [] xs x c
@@ -201,7 +201,7 @@ module _ {A K : Type 0} (eq : K → K → Bool) (exact : (x y : K) → eq x y �
   unseen seen [] x c h = absurd (omega (arith, c.1))
   unseen seen (y ∷ ys) x c h =
       ⊎_elim (λ d. unseen (insert_key eq seen (key y)) ys x d (still_in seen (key y) (key x) h))
-          (λ p. false≢true (sym p.0 ∙ subst (λ z. list_any (eq (key z)) seen ≡ true) (sym p.1) h))
+      (λ p. false≢true (sym p.0 ∙ subst (λ z. list_any (eq (key z)) seen ≡ true) (sym p.1) h))
       (head_cases (list_any (eq (key y)) seen) (once_after eq key (insert_key eq seen (key y)) ys) y x c)
 
   AreApart : List A → Type 0
@@ -302,7 +302,7 @@ module _ {A K : Type 0} (eq : K → K → Bool) (exact : (x y : K) → eq x y �
   number_there x c =
       let z = once_has eq exact alike key xs x c in
       position_there (eq (key x)) (map key (once eq key xs)) (key z.0) (map_has key (once eq key xs) z.0 z.1)
-          (subst (λ w. eq (key x) w ≡ true) (sym z.2) (alike (key x)))
+      (subst (λ w. eq (key x) w ≡ true) (sym z.2) (alike (key x)))
 
   pub number_back : (n : ℕ) (x : A) → slice_get (once eq key xs) n ≡ Some x → position (eq (key x)) (map key (once eq key xs)) ≡ Some n
   number_back n x e =

@@ -92,7 +92,7 @@ module _ (P Q : Plain) (placed : IsPlaced P Q) (formed : IsFormed P) where
       let w = slot_has m h e s in
       ap (λ z. column.Def z)
       (same_method (column.Def m) (column.Def n) w.0 (method_member (column.Def m) m w.0 h e refl refl refl w.1)
-          (method_member (column.Def n) n w.0 k d refl refl refl (sym l ∙ w.1)) o)
+      (method_member (column.Def n) n w.0 k d refl refl refl (sym l ∙ w.1)) o)
   two_bodies _ _ (for_body m h e s p) (for_declaration n k d t) a b o l = absurd (cc)
   two_bodies _ _ (for_body m h e s p) (for_field f k d t) a b o l = absurd (cc)
   two_bodies _ _ (for_body m h e s p) (for_mark c) a b o l = absurd (cc)
@@ -111,7 +111,7 @@ module _ (P Q : Plain) (placed : IsPlaced P Q) (formed : IsFormed P) where
         let b = item_of P Q F facts d q in
         same_column c d a b
         (two_fields a.item b.item a.stands b.stands (sym (ap (λ i. i.kind) a.info) ∙ h) (sym (ap (λ i. i.kind) b.info)
-            ∙ k) (sym (ap (λ i. i.class.0) a.info) ∙ o ∙ ap (λ i. i.class.0) b.info)
+        ∙ k) (sym (ap (λ i. i.class.0) a.info) ∙ o ∙ ap (λ i. i.class.0) b.info)
         (sym (ap (λ i. i.name) a.info) ∙ n ∙ ap (λ i. i.name) b.info))
 
     no_slots : (c : ℕ) → c < length F.columns.items → column_kind F c ≡ kind.Fld → column_slot F c ≡ None
@@ -126,7 +126,7 @@ module _ (P Q : Plain) (placed : IsPlaced P Q) (formed : IsFormed P) where
         let b = item_of P Q F facts d q in
         same_column c d a b
         (two_bodies a.item b.item a.stands b.stands (sym (ap (λ i. i.kind) a.info) ∙ h) (sym (ap (λ i. i.kind) b.info)
-            ∙ k) (sym (ap (λ i. i.class.0) a.info) ∙ o ∙ ap (λ i. i.class.0) b.info)
+        ∙ k) (sym (ap (λ i. i.class.0) a.info) ∙ o ∙ ap (λ i. i.class.0) b.info)
         (sym (ap (λ i. i.slot) a.info) ∙ l ∙ ap (λ i. i.slot) b.info))
 
     -- the member of a column of a slot
@@ -147,7 +147,7 @@ module _ (P Q : Plain) (placed : IsPlaced P Q) (formed : IsFormed P) where
         let a = slot_member c x h in
         let b = slot_member d x k in
         a.name ∙ a.member.in_slot.name ∙ ap (λ z. z.name) (same_Some _ _ (sym a.member.in_slot.stands ∙ b.member.in_slot.stands))
-            ∙ sym b.member.in_slot.name ∙ sym b.name
+        ∙ sym b.member.in_slot.name ∙ sym b.name
 
     slots : (a c d x y : ℕ) → column_slot F c ≡ Some x → column_slot F d ≡ Some y → IsBelow F a (column_class F c) → IsBelow F a (column_class F d)
         → name_of F c ≡ name_of F d → x ≡ y
@@ -158,11 +158,11 @@ module _ (P Q : Plain) (placed : IsPlaced P Q) (formed : IsFormed P) where
         let v = q.member.method in
         ⊎_elim
         (λ e. same_Some x y (sym p.member.slot ∙ ap (λ z. z.slot) (same_Some u v (sym p.member.stands ∙ ap (slice_get P.methods) e ∙ q.member.stands))
-            ∙ q.member.slot))
+        ∙ q.member.slot))
         (λ e. same_Some x y (sym p.member.slot ∙ e.1 ∙ q.member.slot))
         (formed.one_slot a p.member.number q.member.number u v p.member.stands q.member.stands
-            (subst (λ z. IsSubclass P a z) p.owner (below_subclass P Q placed F facts s))
-            (subst (λ z. IsSubclass P a z) q.owner (below_subclass P Q placed F facts t))
+        (subst (λ z. IsSubclass P a z) p.owner (below_subclass P Q placed F facts s))
+        (subst (λ z. IsSubclass P a z) q.owner (below_subclass P Q placed F facts t))
         (sym p.name ∙ n ∙ q.name))
 
     pub members_in_order : AreMembersInOrder F

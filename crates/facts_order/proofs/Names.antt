@@ -79,7 +79,7 @@ module _ (P Q : Plain) (placed : IsPlaced P Q) (formed : IsFormed P) where
   variable x c =
       ⊎_elim (λ d. Contains-append_left (class_names ++ field_names) (flat_map own_names Q.methods) x (Contains-append_right class_names field_names x d))
       (λ d. let z = flat_from variable_names Q.methods x d in Contains-append_right (class_names ++ field_names) (flat_map own_names Q.methods) x
-          (flat_has own_names Q.methods z.0 x z.1 (more x z.0.name (variable_names z.0) z.2)))
+      (flat_has own_names Q.methods z.0 x z.1 (more x z.0.name (variable_names z.0) z.2)))
       (Contains-append_cases field_names (flat_map variable_names Q.methods) x c)
 
   -- and an identifier
@@ -96,9 +96,9 @@ module _ (P Q : Plain) (placed : IsPlaced P Q) (formed : IsFormed P) where
       let c = subst (λ w. Contains w x) (sym z.names) (i, omega (arith, lt), d) in
       let each = (formed.methods m z.plain z.stands).variables in
       ⊎_elim (λ c. let v = map_from (λ v. v.name) z.plain.params x c in subst (λ x. IsName x) v.2
-          (each v.0 (Contains-append_left z.plain.params z.plain.locals v.0 v.1)).name.name)
+      (each v.0 (Contains-append_left z.plain.params z.plain.locals v.0 v.1)).name.name)
       (λ c. let v = map_from (λ v. v.name) z.plain.locals x c in subst (λ x. IsName x) v.2
-          (each v.0 (Contains-append_right z.plain.params z.plain.locals v.0 v.1)).name.name)
+      (each v.0 (Contains-append_right z.plain.params z.plain.locals v.0 v.1)).name.name)
       (Contains-append_cases (map (λ v. v.name) z.plain.params) (map (λ v. v.name) z.plain.locals) x c)
 
   named : (x : List ℕ) → Contains (all_names Q) x → IsName x
@@ -106,7 +106,7 @@ module _ (P Q : Plain) (placed : IsPlaced P Q) (formed : IsFormed P) where
       ⊎_elim
       (λ d. ⊎_elim
       (λ d. let z = map_from (λ k. k.name) (drop 1 Q.classes) x d in let w = at_contains (drop 1 Q.classes) z.0 z.1 in subst (λ x. IsName x) z.2
-          (class_named w.0 z.0 (drop_at Q.classes w.0 z.0 w.1)))
+      (class_named w.0 z.0 (drop_at Q.classes w.0 z.0 w.1)))
       (λ d. let z = map_from (λ f. f.name) Q.fields x d in let w = at_contains Q.fields z.0 z.1 in subst (λ x. IsName x) z.2 (field_named w.0 z.0 w.1).name)
       (Contains-append_cases class_names field_names x d))
       (λ d. let z = flat_from own_names Q.methods x d in let w = at_contains Q.methods z.0 z.1 in method_named w.0 z.0 x w.1 z.2)
@@ -140,7 +140,7 @@ module _ (P Q : Plain) (placed : IsPlaced P Q) (formed : IsFormed P) where
     classes : All (λ k. is_name k.name ≡ true) F.classes.items
     classes = all_of (λ k. is_name k.name ≡ true) F.classes.items
         (λ k c. let z = at_contains F.classes.items k c in let w = class_at P Q placed F facts z.0 k z.1 in subst (λ x. is_name x ≡ true) (sym w.name)
-            (name_at z.0 w.plain w.stands))
+        (name_at z.0 w.plain w.stands))
 
     -- a class with static members is not Object
     holding : (c : ℕ) → is_holder Q c ≡ true → c ≢ 0
@@ -173,7 +173,7 @@ module _ (P Q : Plain) (placed : IsPlaced P Q) (formed : IsFormed P) where
     members c h =
         let z = item_of P Q F facts c h.0 in
         subst (λ x. Contains F.words.items x) (sym (ap (λ i. i.name) z.info))
-            (word (name_in Q z.item) (item_name z.item z.stands (λ e. h.1 (ap (λ i. i.kind) z.info ∙ e))))
+        (word (name_in Q z.item) (item_name z.item z.stands (λ e. h.1 (ap (λ i. i.kind) z.info ∙ e))))
 
     field_item : (i : ColumnItem) → Stands Q i → kind_of i ≡ kind.Fld → IsVariableName P (name_in Q i)
     field_item _ (for_field f k e s) h = subst (λ x. IsVariableName P x) (sym (ap (λ o. option_map_or (λ k. k.name) o []) e)) (field_named f k e)

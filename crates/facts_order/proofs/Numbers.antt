@@ -89,7 +89,7 @@ module _ (P : Plain) (type : Ex → Option ObjectType) (m : ℕ) (k : PlainMetho
     ex_numbers n u (binary t o e d) =
         joined (in_ex false (label n e) ++ in_ex false (label (n + size e) d)) _ (numbers (bare e) ++ numbers (bare d))
         (join (in_ex false (label n e)) (in_ex false (label (n + size e) d)) (numbers (bare e)) (numbers (bare d)) (ex_numbers n false e)
-            (ex_numbers (n + size e) false d)) refl
+        (ex_numbers (n + size e) false d)) refl
 
     all_numbers : (n : ℕ) (u : Bool) (es : Exs) → numbers_in (in_all u (label_all n es)) ≡ numbers_all (bare_all es)
     all_numbers n u no_ex = refl
@@ -118,14 +118,14 @@ module _ (P : Plain) (type : Ex → Option ObjectType) (m : ℕ) (k : PlainMetho
       let one = in_ex (is_accessed (label n b)) (label n b) in
       let two = in_ex true (label (n + size b) e) in
       joined (one ++ two) _ (numbers (bare b) ++ numbers (bare e)) (join one two (numbers (bare b)) (numbers (bare e))
-          (ex_numbers n (is_accessed (label n b)) b) (ex_numbers (n + size b) true e)) refl
+      (ex_numbers n (is_accessed (label n b)) b) (ex_numbers (n + size b) true e)) refl
   assign_numbers n t (to_element s b i) e =
       let one = in_ex true (label n b) in
       let two = in_ex false (label (n + size b) i) in
       let three = in_ex true (label (n + (size b + size i)) e) in
       joined ((one ++ two) ++ three) _ ((numbers (bare b) ++ numbers (bare i)) ++ numbers (bare e))
       (join (one ++ two) three (numbers (bare b) ++ numbers (bare i)) (numbers (bare e)) (join one two (numbers (bare b)) (numbers (bare i))
-          (ex_numbers n true b) (ex_numbers (n + size b) false i)) (ex_numbers (n + (size b + size i)) true e)) refl
+      (ex_numbers n true b) (ex_numbers (n + size b) false i)) (ex_numbers (n + (size b + size i)) true e)) refl
   assign_numbers n t no_target e = joined (in_ex false (label (n + 0) e)) _ (numbers (bare e)) (ex_numbers (n + 0) false e) refl
 
   mutual
@@ -138,14 +138,14 @@ module _ (P : Plain) (type : Ex → Option ObjectType) (m : ℕ) (k : PlainMetho
     st_numbers n (choose t xs) = arms_numbers n xs
     st_numbers n (loop t is_while first test step body) =
         join (((parts_sts P type m k (label_sts n first)) ++ parts_if P type m k (label_if (n + size_sts first) test)) ++ parts_sts P type m k
-            (label_sts (n + size_sts first + size_if test) step))
-            (parts_sts P type m k (label_sts (n + size_sts first + size_if test + size_sts step) body))
-            ((numbers_sts (bare_sts first) ++ numbers_if (bare_if test)) ++ numbers_sts (bare_sts step)) (numbers_sts (bare_sts body))
+        (label_sts (n + size_sts first + size_if test) step))
+        (parts_sts P type m k (label_sts (n + size_sts first + size_if test + size_sts step) body))
+        ((numbers_sts (bare_sts first) ++ numbers_if (bare_if test)) ++ numbers_sts (bare_sts step)) (numbers_sts (bare_sts body))
         (join ((parts_sts P type m k (label_sts n first)) ++ parts_if P type m k (label_if (n + size_sts first) test))
-            (parts_sts P type m k (label_sts (n + size_sts first + size_if test) step)) (numbers_sts (bare_sts first) ++ numbers_if (bare_if test))
-            (numbers_sts (bare_sts step))
+        (parts_sts P type m k (label_sts (n + size_sts first + size_if test) step)) (numbers_sts (bare_sts first) ++ numbers_if (bare_if test))
+        (numbers_sts (bare_sts step))
         (join (parts_sts P type m k (label_sts n first)) (parts_if P type m k (label_if (n + size_sts first) test)) (numbers_sts (bare_sts first))
-            (numbers_if (bare_if test)) (sts_numbers n first) (if_numbers (n + size_sts first) test))
+        (numbers_if (bare_if test)) (sts_numbers n first) (if_numbers (n + size_sts first) test))
         (sts_numbers (n + size_sts first + size_if test) step))
         (sts_numbers (n + size_sts first + size_if test + size_sts step) body)
     st_numbers n (return t e) = return_numbers n e
@@ -162,10 +162,10 @@ module _ (P : Plain) (type : Ex → Option ObjectType) (m : ℕ) (k : PlainMetho
     arms_numbers n (otherwise xs) = sts_numbers n xs
     arms_numbers n (arm e xs more) =
         join (in_ex false (label n e) ++ parts_sts P type m k (label_sts (n + size e) xs))
-            (parts_arms P type m k (label_arms (n + size e + size_sts xs) more)) (numbers (bare e) ++ numbers_sts (bare_sts xs))
-            (numbers_arms (bare_arms more))
+        (parts_arms P type m k (label_arms (n + size e + size_sts xs) more)) (numbers (bare e) ++ numbers_sts (bare_sts xs))
+        (numbers_arms (bare_arms more))
         (join (in_ex false (label n e)) (parts_sts P type m k (label_sts (n + size e) xs)) (numbers (bare e)) (numbers_sts (bare_sts xs))
-            (ex_numbers n false e) (sts_numbers (n + size e) xs))
+        (ex_numbers n false e) (sts_numbers (n + size e) xs))
         (arms_numbers (n + size e + size_sts xs) more)
 
 body_numbers : (P : Plain) (type : Ex → Option ObjectType) (m : ℕ) (k : PlainMethod) (b : Option Sts) → numbers_in (parts_body P type m k b)
@@ -255,7 +255,7 @@ module _ (P Q : Plain) (placed : IsPlaced P Q) (formed : IsFormed P) where
   body_has : (p : Part) (n : ℕ) (a : IsPart p) → Contains (part_number p) n → Contains (numbers_body (placed.methods a.number a.method a.stands).plain.body) n
   body_has p n a c =
       subst (λ z. Contains z n) (method_numbers P a.number a.method ∙ ap numbers_body (placed.methods a.number a.method a.stands).body)
-          (flat_has part_number (parts_of P a.number a.method) p n a.part c)
+      (flat_has part_number (parts_of P a.number a.method) p n a.part c)
 
   pub number_apart : (p q : Part) (n : ℕ) → IsPart p → IsPart q → Contains (part_number p) n → Contains (part_number q) n → p ≡ q
   number_apart p q n a b c d =
@@ -265,5 +265,5 @@ module _ (P Q : Plain) (placed : IsPlaced P Q) (formed : IsFormed P) where
       let g = same_Some a.method b.method (sym a.stands ∙ ap (slice_get Q.methods) e ∙ b.stands) in
       one_part (parts_of P a.number a.method) p q n
       (subst (λ z. HasNoTwice z) (sym (method_numbers P a.number a.method ∙ ap numbers_body x.body))
-          (method_twice P.methods a.number x.plain formed.numbered x.stands))
+      (method_twice P.methods a.number x.plain formed.numbered x.stands))
       a.part (subst (λ z. Contains (parts_of P a.number z) q) (sym g) (subst (λ z. Contains (parts_of P z b.method) q) (sym e) b.part)) c d

@@ -161,7 +161,7 @@ module _ (P Q : Plain) (placed : IsPlaced P Q) (formed : IsFormed P) (typed : Is
       go (Some k) h =
           let y = ((formed.methods d k h).slots s).0 (sym (ap (option_and_then (λ k. k.slot)) h) ∙ e) in
           ap (λ o. object_if (option_and_then (λ k. k.result) o)) h ∙ ap object_if y.result
-              ∙ sym (ap (λ o. object_if (option_and_then (λ k. k.result) o)) y.stands)
+          ∙ sym (ap (λ o. object_if (option_and_then (λ k. k.result) o)) y.stands)
 
   -- the row of a parameter or local has its type
   same_variable : (k l : PlainMethod) (i j : ℕ) → k ≡ l → i ≡ j → variable_object k i ≡ variable_object l j
@@ -174,7 +174,7 @@ module _ (P Q : Plain) (placed : IsPlaced P Q) (formed : IsFormed P) (typed : Is
       let x = placed.methods m k e in
       let u = ((formed.methods m x.plain x.stands).slots s).0 (x.slot ∙ a) in
       front_type k.params k.locals i h ∙ ap (λ z. object_if (slice_get z i)) (sym x.params ∙ u.params)
-          ∙ sym (ap (λ o. object_if (option_and_then (λ z. slice_get z.params i) o)) u.stands)
+      ∙ sym (ap (λ o. object_if (option_and_then (λ z. slice_get z.params i) o)) u.stands)
 
   variable_cases : (m n i j : ℕ) (k l : PlainMethod) (a b : Option ℕ) (u v : Bool) → slice_get Q.methods m ≡ Some k → slice_get Q.methods n ≡ Some l
       → k.slot ≡ a → l.slot ≡ b → nat_lt i (length k.params) ≡ u → nat_lt j (length l.params) ≡ v
@@ -195,7 +195,7 @@ module _ (P Q : Plain) (placed : IsPlaced P Q) (formed : IsFormed P) (typed : Is
       let s = same_Some _ _ (ap param_number h) in
       let y : i ≡ j = ap (λ z. z.1) s in
       slot_param m i c k e a (grind (arith, p)) ∙ ap (λ z. param_object P z i) (ap (λ z. z.0) s) ∙ ap (param_object P f) y
-          ∙ sym (slot_param n j f l d b (grind (arith, q)))
+      ∙ sym (slot_param n j f l d b (grind (arith, q)))
   variable_cases m n i j k l (Some c) None true v e d a b p q h = absurd (let g = ap param_number h in cc)
   variable_cases m n i j k l None (Some c) u true e d a b p q h = absurd (let g = ap local_number h in cc)
   variable_cases m n i j k l (Some c) (Some f) true false e d a b p q h = absurd (let g = ap param_number h in cc)

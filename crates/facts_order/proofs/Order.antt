@@ -76,7 +76,7 @@ module _ (P Q : Plain) (pairs : IsPlaced P Q) (formed : IsFormed P) (F : Facts) 
       (λ h. let z = below_at F.classes.items 4294967294 h in
       let k = class_at P Q pairs F facts 4294967294 z.0 z.1 in
       absurd (omega (arith, at_below P.classes 4294967294 k.plain k.stands, formed.counted.classes))) (λ h. omega (arith, h))
-          (cases_lt 4294967294 (length F.classes.items))
+      (cases_lt 4294967294 (length F.classes.items))
 
   are_counted : too_many P Q ≡ None → length F.calls.items < 4294967295 → length F.tests.items < 4294967295 → AreCounted F
   are_counted few calls tests =

@@ -104,8 +104,17 @@ module _ (P Q : Plain) (placed : IsPlaced P Q) (formed : IsFormed P) (typed : Is
         let j = row_item P Q o.row r e in
         let x = row_there j.0 r j.2 in
         let c = g.classed j.0 r x.here j.1 x.stands x.item in
-        record { item = j.0; row_is = j.1; number = j.2; at = x; type = c.type; stated = c.stated; class = class_of_row r j.0 x
-            ∙ ap (λ z. z.0) c.class; dim = c.dim }
+        record {
+          item = j.0;
+          row_is = j.1;
+          number = j.2;
+          at = x;
+          type = c.type;
+          stated = c.stated;
+          class = class_of_row r j.0 x
+              ∙ ap (λ z. z.0) c.class;
+          dim = c.dim;
+        }
 
     -- how the row of an operand stands
     pub row_standing : (o : Operand) (r : ℕ) → IsGood o → (h : HasRow o r) → Standing o h.at.here
@@ -118,7 +127,7 @@ module _ (P Q : Plain) (placed : IsPlaced P Q) (formed : IsFormed P) (typed : Is
     value_below o t u r q v e d c =
         let h = row_of_operand o r v.good e in
         subst (λ z. IsBelow F z (row_class F q)) (sym h.class) (subst (λ z. IsBelow F h.type.class.0 z) (sym c)
-            (subclass_below P Q placed F facts (v.under h.type u h.stated d).class))
+        (subclass_below P Q placed F facts (v.under h.type u h.stated d).class))
 
     -- a creation of an object has the row of an object site
     pub creation_object : (o : Operand) (r n : ℕ) → IsGood o → (h : HasRow o r) → o.created ≡ Some n → h.type.dim ≡ 0 → is_object_row F r ≡ true
@@ -126,10 +135,10 @@ module _ (P Q : Plain) (placed : IsPlaced P Q) (formed : IsFormed P) (typed : Is
     creation_object o r n g h c d =
         let w = g.created n c in
         let t = own_typed P Q placed formed typed (a_creation w.place w.used o) o h.item r h.at.here
-            (record { number = m; method = k; stands = stands; part = w.part }) refl h.row_is h.at.stands h.at.item in
+        (record { number = m; method = k; stands = stands; part = w.part }) refl h.row_is h.at.stands h.at.item in
         let i : h.item ≡ row.New n = same_Some _ _ (sym h.row_is ∙ w.row_is) in
         let a = ap (row_number P Q) (sym i) ∙ h.number in
         let s = made_site P Q placed formed typed F facts m k w.place w.used o n r h.type stands w.part c h.stated w.row_is a in
         object_as r h.item h.at ∙ ap is_object_item i ∙ ap (λ q. is_object_site (option_map (λ s. record { 0 = s }) q)) s.1
         ∙ eq-eqb (site_info_at F s.0).dim 0 (site_dim P Q placed formed typed F facts n r s.0 h.at.here h.at.stands (h.at.item ∙ i) a s.1
-            ∙ ap (λ y. y.dim) (same_Some _ _ (sym t ∙ h.stated)) ∙ d)
+        ∙ ap (λ y. y.dim) (same_Some _ _ (sym t ∙ h.stated)) ∙ d)

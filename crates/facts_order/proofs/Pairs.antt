@@ -128,11 +128,20 @@ module _ (p : Program) where
     fields = field_pair;
     methods = method_pair;
     classes = class_pair;
-    placed_method = λ m h e. let z = map_at (method_seen no_place) p.methods.items m h e in (method_seen at_place z.0, at_map (method_seen at_place)
-        p.methods.items m z.0 z.1);
-    placed_field = λ f h e. let z = map_at (field_seen no_place) p.fields.items f h e in (field_seen at_place z.0, at_map (field_seen at_place)
-        p.fields.items f z.0 z.1);
-    placed_class = λ c h e. let z = map_at (class_seen no_place) p.classes.items c h e in (class_seen at_place z.0, at_map (class_seen at_place)
-        p.classes.items c z.0 z.1);
+    placed_method = λ m h e. let z = map_at (method_seen no_place) p.methods.items m h e in (
+      method_seen at_place z.0,
+      at_map (method_seen at_place)
+          p.methods.items m z.0 z.1,
+    );
+    placed_field = λ f h e. let z = map_at (field_seen no_place) p.fields.items f h e in (
+      field_seen at_place z.0,
+      at_map (field_seen at_place)
+          p.fields.items f z.0 z.1,
+    );
+    placed_class = λ c h e. let z = map_at (class_seen no_place) p.classes.items c h e in (
+      class_seen at_place z.0,
+      at_map (class_seen at_place)
+          p.classes.items c z.0 z.1,
+    );
     slots = refl;
   }

@@ -97,17 +97,25 @@ module _ (P Q : Plain) (placed : IsPlaced P Q) (formed : IsFormed P) (typed : Is
         let p = site_part P Q placed formed typed s z.0 z.1 in
         let y = row_there P Q placed formed typed F facts (row.New z.0.number) z.0.row p.row_number_is in
         let t = own_type P Q placed formed typed (a_creation p.place p.used p.operand) p.operand (row.New z.0.number) z.0.ty z.0.row y.here p.is_part
-            refl p.row_is p.type y.stands y.item in
+        refl p.row_is p.type y.stands y.item in
         let i = index_at F.sites.items s _ (site_info z.0) (subst (λ y. slice_get y s ≡ Some (site_info z.0)) (sym facts.sites)
-            (at_map (site_info) (sites_of P Q) s z.0 z.1)) in
+        (at_map (site_info) (sites_of P Q) s z.0 z.1)) in
         own_typed P Q placed formed typed (a_creation w.place w.used o) o (row.New n) z.0.row y.here
-            (record { number = m; method = k; stands = stands; part = w.part }) refl w.row_is y.stands (y.item ∙ ap row.New z.2)
+        (record { number = m; method = k; stands = stands; part = w.part }) refl w.row_is y.stands (y.item ∙ ap row.New z.2)
         ∙ ap Some t ∙ ap (λ i. Some (record { class = i.class; dim = i.dim })) (sym i)
 
   with_type : (a : PointAt) (x : Point) (t : ObjectType) → a.item ≡ x.item → (n : row_number P Q a.row ≡ Some x.row) → item_type P Q a.item ≡ Some t
       → (y : IsRowAt P Q placed formed typed F facts x.row a.row) → y.here.ty.class ≡ t.class → t.dim ≤ y.here.ty.dim → IsPointTyped x
-  with_type a x t i n s y c d = record { type = t; stated = ap (item_type P Q) (sym i) ∙ s; item = a.row; number = n; at = y; class = class_of_row P Q
-      placed formed typed F facts x.row a.row y ∙ ap (λ z. z.0) c; dim = d }
+  with_type a x t i n s y c d = record {
+    type = t;
+    stated = ap (item_type P Q) (sym i) ∙ s;
+    item = a.row;
+    number = n;
+    at = y;
+    class = class_of_row P Q
+        placed formed typed F facts x.row a.row y ∙ ap (λ z. z.0) c;
+    dim = d;
+  }
 
   follows_typed : (a : PointAt) (x : Point) → a.item ≡ x.item → row_number P Q a.row ≡ Some x.row → Follows P Q a → IsPointTyped x
   unfolding Typing
@@ -121,12 +129,12 @@ module _ (P Q : Plain) (placed : IsPlaced P Q) (formed : IsFormed P) (typed : Is
   follows_typed a x i n (a_variable m k j e s r) =
       let y = row_there P Q placed formed typed F facts a.row x.row n in
       with_type a x y.here.ty i n (ap (item_type P Q) s ∙ ap (option_and_then (λ k. variable_object k j)) e
-          ∙ variable_type P Q placed formed typed m j k x.row y.here e y.stands (y.item ∙ r)) y refl (omega arith)
+      ∙ variable_type P Q placed formed typed m j k x.row y.here e y.stands (y.item ∙ r)) y refl (omega arith)
   follows_typed a x i n (a_result m k e s r) =
       let y = row_there P Q placed formed typed F facts a.row x.row n in
       with_type a x y.here.ty i n
       (ap (item_type P Q) s ∙ ap (option_and_then (λ k. object_if k.result)) e ∙ result_row_type P Q placed formed typed F facts m k e x.row k.slot
-          refl (record { here = y.here; stands = y.stands; item = y.item ∙ r; info = y.info; below = y.below })) y refl (omega arith)
+      refl (record { here = y.here; stands = y.stands; item = y.item ∙ r; info = y.info; below = y.below })) y refl (omega arith)
   follows_typed a x i n (a_form m k p e c g) =
       let y = row_there P Q placed formed typed F facts a.row x.row n in
       let s = given_sound m k e p g.operand (part_fitted P Q placed formed typed F facts m k e p c) g.given in

@@ -101,22 +101,22 @@ module _ (P Q : Plain) where
         (λ c. ⊎_elim
         (λ c. ⊎_elim
         (λ c. ⊎_elim (λ c. let d = one_from _ a (when_from (not k.is_static) _ a c).1 in a_this m k e (sym (ap (λ z. z.item) d))
-            (sym (ap (λ z. z.row) d))) (λ c. let z = each_from_zero (variable_points m k) k.params a c in variable_follows z.0 z.1 a z.3)
-            (Contains-append_cases this_points param_points a c))
+        (sym (ap (λ z. z.row) d))) (λ c. let z = each_from_zero (variable_points m k) k.params a c in variable_follows z.0 z.1 a z.3)
+        (Contains-append_cases this_points param_points a c))
         (λ c. let z = each_from (variable_points m k) (length k.params) k.locals a c in variable_follows z.1 z.2 a z.5)
         (Contains-append_cases (this_points ++ param_points) local_points a c))
         (λ c. let d = one_from _ a c in a_result m k e (sym (ap (λ z. z.item) d)) (sym (ap (λ z. z.row) d)))
         (Contains-append_cases ((this_points ++ param_points) ++ local_points) result_points a c))
         (λ c. let z = flat_from form_points (parts_of P m k) a (place_from (λ p. p.place.at) (flat_map form_points (parts_of P m k)) a c) in a_form m
-            k z.0 e z.1 (form_from z.0 a z.2))
+        k z.0 e z.1 (form_from z.0 a z.2))
         (Contains-append_cases (((this_points ++ param_points) ++ local_points) ++ result_points) part_points a c)
 
     this_at : k.is_static ≡ false → Contains (method_points P Q m k) (record { item = point.This m; place = k.tag.place; row = row.This m })
     this_at s =
         let a : PointAt = record { item = point.This m; place = k.tag.place; row = row.This m } in
         Contains-append_left (((this_points ++ param_points) ++ local_points) ++ result_points) part_points a
-            (Contains-append_left ((this_points ++ param_points) ++ local_points) result_points a
-            (Contains-append_left (this_points ++ param_points) local_points a (Contains-append_left this_points param_points a
+        (Contains-append_left ((this_points ++ param_points) ++ local_points) result_points a
+        (Contains-append_left (this_points ++ param_points) local_points a (Contains-append_left this_points param_points a
         (when_has (not k.is_static) _ a (rw s refl) (first a [])))))
 
     part_at : (p : Part) (a : PointAt) → Contains (parts_of P m k) p → Contains (form_points p) a → Contains (method_points P Q m k) a
@@ -166,7 +166,7 @@ module _ (P Q : Plain) where
       let o : Outline = record { place = k.tag.place; points = method_points P Q m k } in
       point_there P Q x (Contains-append_right (flat_map (listed (row_number P Q)) statics) (flat_map in_outline outlines) x
       (flat_has in_outline outlines o x (place_has (λ o. o.place.at) (each (outline_if P Q) 0 Q.methods) o
-          (each_has (outline_if P Q) 0 Q.methods m k o e m (omega arith) (when_has (is_some k.body) _ o b (first o []))))
+      (each_has (outline_if P Q) 0 Q.methods m k o e m (omega arith) (when_has (is_some k.body) _ o b (first o []))))
       (flat_has (listed (row_number P Q)) (method_points P Q m k) a x c (subst (λ v. Contains (point_with a v) x) (sym n) (first x [])))))
 
   pub this_point : (m : ℕ) (k : PlainMethod) → slice_get Q.methods m ≡ Some k → is_some k.body ≡ true → k.is_static ≡ false → (r : ℕ)

@@ -123,12 +123,12 @@ module _ (P Q : Plain) (placed : IsPlaced P Q) (formed : IsFormed P) (typed : Is
   variable_known m k i v t e d h =
       let z = placed.methods m k e in
       let types : types_of (z.plain.params ++ z.plain.locals) ≡ types_of (k.params ++ k.locals) = map-append (λ l. l.ty) z.plain.params z.plain.locals
-          ∙ ap (λ w. w ++ types_of z.plain.locals) z.params ∙ ap (λ w. types_of k.params ++ w) z.locals
-          ∙ sym (map-append (λ l. l.ty) k.params k.locals) in
+      ∙ ap (λ w. w ++ types_of z.plain.locals) z.params ∙ ap (λ w. types_of k.params ++ w) z.locals
+      ∙ sym (map-append (λ l. l.ty) k.params k.locals) in
       let w = map_at (λ l. l.ty) (variables_of z.plain) i v.ty (subst (λ y. slice_get y i ≡ Some v.ty) (sym types)
-          (at_map (λ l. l.ty) (k.params ++ k.locals) i v d)) in
+      (at_map (λ l. l.ty) (k.params ++ k.locals) i v d)) in
       known_bound t (known_type P w.0.ty t ((formed.methods m z.plain z.stands).variables w.0 (contains_at (variables_of z.plain) i w.0 w.1)).type
-          (ap object_of w.2 ∙ h))
+      (ap object_of w.2 ∙ h))
 
   row_known : (x : Row) → Types P Q x → x.ty.class.0 < length F.classes.items
   row_known x (types_field f k e i t) =
@@ -162,7 +162,7 @@ module _ (P Q : Plain) (placed : IsPlaced P Q) (formed : IsFormed P) (typed : Is
       (λ x c. let z = at_contains F.rows.items x c in
       let w = map_at (row_info (numbers P Q) Q) (rows_of P Q) z.0 x (subst (λ y. slice_get y z.0 ≡ Some x) facts.rows z.1) in
       subst (λ r. IsClass F r.class × IfSome r.site (IsSite F) × IfSome r.this_of (IsCol F)) w.2
-          (row_known w.0 (row_types P Q z.0 w.0 w.1), row_site_bound w.0.item, row_this_bound w.0.item))
+      (row_known w.0 (row_types P Q z.0 w.0 w.1), row_site_bound w.0.item, row_this_bound w.0.item))
 
   -- the class of a mark
   Marks : Column → Type 0
@@ -194,12 +194,12 @@ module _ (P Q : Plain) (placed : IsPlaced P Q) (formed : IsFormed P) (typed : Is
   unfolding Marks mark_of members
   member_marks m k x c d e =
       let z = (when_from (not k.is_static) (record { item = column.Dcl m; place = k.tag.place } ∷ when (is_some k.body)
-          (record { item = column.Def m; place = k.tag.place } ∷ [])) x c).1 in
+      (record { item = column.Def m; place = k.tag.place } ∷ [])) x c).1 in
       ⊎_elim (λ y. absurd (let g = ap (λ z. mark_of z.item) (one_from _ x y) ∙ ap mark_of e in cc))
-          (λ y. absurd (let g = ap (λ z. mark_of z.item) (one_from (record { item = column.Def m; place = k.tag.place }) x
-          (when_from (is_some k.body) (record { item = column.Def m; place = k.tag.place } ∷ []) x y).1) ∙ ap mark_of e in cc))
+      (λ y. absurd (let g = ap (λ z. mark_of z.item) (one_from (record { item = column.Def m; place = k.tag.place }) x
+      (when_from (is_some k.body) (record { item = column.Def m; place = k.tag.place } ∷ []) x y).1) ∙ ap mark_of e in cc))
       (Contains-append_cases (record { item = column.Dcl m; place = k.tag.place } ∷ [])
-          (when (is_some k.body) (record { item = column.Def m; place = k.tag.place } ∷ [])) x z)
+      (when (is_some k.body) (record { item = column.Def m; place = k.tag.place } ∷ [])) x z)
 
   method_marks : (m : ℕ) (k : PlainMethod) (x : Column) → slice_get Q.methods m ≡ Some k → Contains (method_columns P Q m k) x → Marks x
   unfolding members
@@ -216,7 +216,7 @@ module _ (P Q : Plain) (placed : IsPlaced P Q) (formed : IsFormed P) (typed : Is
   column_marks : (n : ℕ) (x : Column) → slice_get (columns_of P Q) n ≡ Some x → Marks x
   column_marks n x e =
       ⊎_elim (λ d. let z = each_from_zero field_columns Q.fields x d in field_marks z.0 z.1 x z.3)
-          (λ d. let z = each_from_zero (method_columns P Q) Q.methods x d in method_marks z.0 z.1 x z.2 z.3)
+      (λ d. let z = each_from_zero (method_columns P Q) Q.methods x d in method_marks z.0 z.1 x z.2 z.3)
       (Contains-append_cases (each field_columns 0 Q.fields) (each (method_columns P Q) 0 Q.methods) x (column_raw P Q n x e))
 
   item_owner : (i : ColumnItem) → Stands Q i → ((c : ClassId) → i ≡ column.Is c → c.0 < length F.classes.items) → owner_of Q i < length F.classes.items
@@ -238,21 +238,28 @@ module _ (P Q : Plain) (placed : IsPlaced P Q) (formed : IsFormed P) (typed : Is
       let w = map_at site_info (sites_of P Q) z.0 x (subst (λ y. slice_get y z.0 ≡ Some x) facts.sites z.1) in
       let p = site_part P Q placed formed typed z.0 w.0 w.1 in
       let a = p.is_part in
-      subst (λ s. IsRow F s.row × IsClass F s.class) w.2 (row_bound (row.New w.0.number) w.0.row p.row_number_is, own_known a.number a.method a.stands
-          (a_creation p.place p.used p.operand) p.operand w.0.ty (fitted_at a.number a.method a.stands (a_creation p.place p.used p.operand) a.part)
-          refl p.type))
+      subst (λ s. IsRow F s.row × IsClass F s.class) w.2 (
+        row_bound (row.New w.0.number) w.0.row p.row_number_is,
+        own_known a.number a.method a.stands
+            (a_creation p.place p.used p.operand) p.operand w.0.ty (fitted_at a.number a.method a.stands (a_creation p.place p.used p.operand) a.part)
+            refl p.type,
+      ))
 
   class_known : (c : ℕ) (x : ClassInfo) → slice_get F.classes.items c ≡ Some x → IfSome x.parent (IsClass F) × All (IsClass F) x.faces.items
   class_known zero x e =
       let k = class_at P Q placed F facts 0 x e in
-      let o = same_Some _ _ (sym k.stands ∙ formed.object.first) in
-      (subst (λ p. IfSome p (IsClass F)) (sym (k.parent ∙ ap (λ y. y.parent) o ∙ formed.object.parent)) tt, all_of (IsClass F) x.faces.items
-          (λ f h. absurd (omega (arith, (subst (λ y. Contains y f) (k.faces ∙ ap (λ y. y.faces) o ∙ formed.object.faces) h).1))))
+      let o = same_Some _ _ (sym k.stands ∙ formed.object.first) in (
+        subst (λ p. IfSome p (IsClass F)) (sym (k.parent ∙ ap (λ y. y.parent) o ∙ formed.object.parent)) tt,
+        all_of (IsClass F) x.faces.items
+            (λ f h. absurd (omega (arith, (subst (λ y. Contains y f) (k.faces ∙ ap (λ y. y.faces) o ∙ formed.object.faces) h).1))),
+      )
   class_known (suc c) x e =
       let k = class_at P Q placed F facts (suc c) x e in
-      let f = formed.classes c k.plain k.stands in
-      (subst (λ p. IfSome p (IsClass F)) (sym (k.parent ∙ f.has_parent)) (owner_bound f.parent.0 f.above f.parent_stands), all_of
-          (IsClass F) x.faces.items (λ y h. let i = f.faces y (subst (λ z. Contains z y) k.faces h) in owner_bound y.0 i.0 i.1))
+      let f = formed.classes c k.plain k.stands in (
+        subst (λ p. IfSome p (IsClass F)) (sym (k.parent ∙ f.has_parent)) (owner_bound f.parent.0 f.above f.parent_stands),
+        all_of
+            (IsClass F) x.faces.items (λ y h. let i = f.faces y (subst (λ z. Contains z y) k.faces h) in owner_bound y.0 i.0 i.1),
+      )
 
   classes : All (λ k. IfSome k.parent (IsClass F) × All (IsClass F) k.faces.items) F.classes.items
   classes = all_of (λ k. IfSome k.parent (IsClass F) × All (IsClass F) k.faces.items) F.classes.items
@@ -266,17 +273,24 @@ module _ (P Q : Plain) (placed : IsPlaced P Q) (formed : IsFormed P) (typed : Is
       subst (IsRow F) w.2 (row_bound p.at.row w.0.row p.number))
 
   cell_bound : (z : CellInfo) → IsCellOf P Q placed formed typed F facts z → IsSite F z.site × IfSome z.column (IsCol F) × IsRow F z.row
-  cell_bound z (of_field x f c r s n e d q) =
-      (site_index z.site.0 x s, subst (λ o. IfSome o (IsCol F)) (sym n) (column_bound (column.Fld f) c e), subst (λ r. r < length F.rows.items) q
-      (row_bound (row.Field f) r d))
-  cell_bound z (of_array x n s h q) = (site_index z.site.0 x s, subst (λ o. IfSome o (IsCol F)) (sym n) tt, subst (λ r. r < length F.rows.items) q
-      (row_bound (row.New x.number) x.row (site_part P Q placed formed typed z.site.0 x s).row_number_is))
+  cell_bound z (of_field x f c r s n e d q) = (
+    site_index z.site.0 x s,
+    subst (λ o. IfSome o (IsCol F)) (sym n) (column_bound (column.Fld f) c e),
+    subst (λ r. r < length F.rows.items) q
+        (row_bound (row.Field f) r d),
+  )
+  cell_bound z (of_array x n s h q) = (
+    site_index z.site.0 x s,
+    subst (λ o. IfSome o (IsCol F)) (sym n) tt,
+    subst (λ r. r < length F.rows.items) q
+        (row_bound (row.New x.number) x.row (site_part P Q placed formed typed z.site.0 x s).row_number_is),
+  )
 
   cells : All (λ c. IsSite F c.site × IfSome c.column (IsCol F) × IsRow F c.row) F.cells.items
   cells = all_of (λ c. IsSite F c.site × IfSome c.column (IsCol F) × IsRow F c.row) F.cells.items
       (λ x c. let z = at_contains F.cells.items x c in
       cell_bound x (subst (IsCellOf P Q placed formed typed F facts) (index_at F.cells.items z.0 _ x z.1) (cell_is P Q placed formed typed F facts z.0
-          (at_below F.cells.items z.0 x z.1))))
+      (at_below F.cells.items z.0 x z.1))))
 
   new_bound : (o : Operand) (q : Option ℕ) (x : NewInfo) → ((p : ℕ) → q ≡ Some p → p < length F.points.items) → Contains (created (numbers P Q) o q) x
       → IsPoint F x.point × IsSite F x.site
@@ -309,13 +323,13 @@ module _ (P Q : Plain) (placed : IsPlaced P Q) (formed : IsFormed P) (typed : Is
   part_flows m (a_return o) x c = flow_bound _ _ x (operand_bound o) (point_bound (point.Result m)) c
   part_flows m (a_static_call w d es o) x c =
       ⊎_elim (args_flows d es x) (flow_bound _ _ x (point_bound (point.Result d)) (operand_bound o))
-          (Contains-append_cases (each (λ i o. moved (point_at (numbers P Q) o) (point_number P Q (point.Local d i))) 0 es)
-          (moved (point_number P Q (point.Result d)) (point_at (numbers P Q) o)) x c)
+      (Contains-append_cases (each (λ i o. moved (point_at (numbers P Q) o) (point_number P Q (point.Local d i))) 0 es)
+      (moved (point_number P Q (point.Result d)) (point_at (numbers P Q) o)) x c)
   part_flows m (a_super_call w (Some d) es o) x c =
       let one = each (λ i o. moved (point_at (numbers P Q) o) (point_number P Q (point.Local d i))) 0 es in
       let two = moved (point_number P Q (point.Result d)) (point_at (numbers P Q) o) in
       ⊎_elim (λ y. ⊎_elim (args_flows d es x) (flow_bound _ _ x (point_bound (point.Result d)) (operand_bound o)) (Contains-append_cases one two x y))
-          (flow_bound _ _ x (point_bound (point.This m)) (point_bound (point.This d)))
+      (flow_bound _ _ x (point_bound (point.This m)) (point_bound (point.This d)))
       (Contains-append_cases (one ++ two) (moved (point_number P Q (point.This m)) (point_number P Q (point.This d))) x c)
   part_flows m _ x c = absurd (omega (arith, c.1))
 
@@ -323,9 +337,12 @@ module _ (P Q : Plain) (placed : IsPlaced P Q) (formed : IsFormed P) (typed : Is
   unfolding numbers
   part_loads (a_load w b (Some f) o) x c =
       let z = these_from (point_at (numbers P Q) b) (column_number P Q (column.Fld f)) (point_at (numbers P Q) o)
-          (λ a c q. record { base = a; column = Some (record { 0 = c }); into = q }) x c in
-      subst (λ y. IsPoint F y.base × IfSome y.column (IsCol F) × IsPoint F y.into) z.6 (operand_bound b z.0 z.3, column_bound (column.Fld f) z.1 z.4,
-          operand_bound o z.2 z.5)
+      (λ a c q. record { base = a; column = Some (record { 0 = c }); into = q }) x c in
+      subst (λ y. IsPoint F y.base × IfSome y.column (IsCol F) × IsPoint F y.into) z.6 (
+        operand_bound b z.0 z.3,
+        column_bound (column.Fld f) z.1 z.4,
+        operand_bound o z.2 z.5,
+      )
   part_loads (an_element w b o) x c =
       let z = both_from (point_at (numbers P Q) b) (point_at (numbers P Q) o) (λ a q. record { base = a; column = None; into = q }) x c in
       subst (λ y. IsPoint F y.base × IfSome y.column (IsCol F) × IsPoint F y.into) z.4 (operand_bound b z.0 z.2, tt, operand_bound o z.1 z.3)
@@ -335,9 +352,12 @@ module _ (P Q : Plain) (placed : IsPlaced P Q) (formed : IsFormed P) (typed : Is
   unfolding numbers
   part_stores (a_store w b (Some f) o) x c =
       let z = these_from (point_at (numbers P Q) b) (column_number P Q (column.Fld f)) (point_at (numbers P Q) o)
-          (λ a c q. record { base = a; column = Some (record { 0 = c }); value = q; place = w }) x c in
-      subst (λ y. IsPoint F y.base × IfSome y.column (IsCol F) × IsPoint F y.value) z.6 (operand_bound b z.0 z.3, column_bound (column.Fld f) z.1 z.4,
-          operand_bound o z.2 z.5)
+      (λ a c q. record { base = a; column = Some (record { 0 = c }); value = q; place = w }) x c in
+      subst (λ y. IsPoint F y.base × IfSome y.column (IsCol F) × IsPoint F y.value) z.6 (
+        operand_bound b z.0 z.3,
+        column_bound (column.Fld f) z.1 z.4,
+        operand_bound o z.2 z.5,
+      )
   part_stores (an_element_store w b o) x c =
       let z = both_from (point_at (numbers P Q) b) (point_at (numbers P Q) o) (λ a q. record { base = a; column = None; value = q; place = w }) x c in
       subst (λ y. IsPoint F y.base × IfSome y.column (IsCol F) × IsPoint F y.value) z.4 (operand_bound b z.0 z.2, tt, operand_bound o z.1 z.3)
@@ -352,7 +372,7 @@ module _ (P Q : Plain) (placed : IsPlaced P Q) (formed : IsFormed P) (typed : Is
         all_of (λ p. IfSome p (IsPoint F)) x.params.items
             (λ p d. let z = each_from_zero (λ i v. point_number P Q (point.Local e.number i) ∷ []) e.method.params p (subst (λ y. Contains y p) e.params d) in
             subst (λ q. IfSome q (IsPoint F)) (one_from _ p z.3) (some_point (point_number P Q (point.Local e.number z.0))
-                (point_bound (point.Local e.number z.0)))),
+            (point_bound (point.Local e.number z.0)))),
         subst (λ q. IfSome q (IsPoint F)) (sym e.result) (some_point (point_number P Q (point.Result e.number)) (point_bound (point.Result e.number))),
       ))
 

@@ -120,13 +120,13 @@ module _ (P Q : Plain) where
         let three = each (variable_rows P Q m k) 0 k.params in
         let four = each (variable_rows P Q m k) (length k.params) k.locals in
         ⊎_elim (λ d. ⊎_elim (λ d. ⊎_elim (λ d. ⊎_elim this_types result_types (Contains-append_cases one two x d)) param_types
-            (Contains-append_cases (one ++ two) three x d)) local_types (Contains-append_cases ((one ++ two) ++ three) four x d)) part_types
+        (Contains-append_cases (one ++ two) three x d)) local_types (Contains-append_cases ((one ++ two) ++ three) four x d)) part_types
         (Contains-append_cases (((one ++ two) ++ three) ++ four) (flat_map form_rows (parts_of P m k)) x c)
 
   pub row_types : (r : ℕ) (x : Row) → slice_get (rows_of P Q) r ≡ Some x → Types x
   row_types r x e =
       ⊎_elim (λ d. let z = each_from_zero field_rows Q.fields x d in field_types z.0 z.1 x z.2 z.3)
-          (λ d. let z = each_from_zero (method_rows P Q) Q.methods x d in method_types z.0 z.1 x z.2 z.3)
+      (λ d. let z = each_from_zero (method_rows P Q) Q.methods x d in method_types z.0 z.1 x z.2 z.3)
       (Contains-append_cases (each field_rows 0 Q.fields) (each (method_rows P Q) 0 Q.methods) x (row_raw P Q r x e))
 
   -- the row of a `this`
@@ -139,9 +139,9 @@ module _ (P Q : Plain) where
       let three = each (variable_rows P Q m k) 0 k.params in
       let four = each (variable_rows P Q m k) (length k.params) k.locals in
       row_there P Q x (Contains-append_right (each field_rows 0 Q.fields) (each (method_rows P Q) 0 Q.methods) x
-          (each_has (method_rows P Q) 0 Q.methods m k x e m (omega arith)
+      (each_has (method_rows P Q) 0 Q.methods m k x e m (omega arith)
       (Contains-append_left (((one ++ two) ++ three) ++ four) (flat_map form_rows (parts_of P m k)) x
-          (Contains-append_left ((one ++ two) ++ three) four x (Contains-append_left (one ++ two) three x (Contains-append_left one two x
+      (Contains-append_left ((one ++ two) ++ three) four x (Contains-append_left (one ++ two) three x (Contains-append_left one two x
       (when_has (is_some k.body && not k.is_static) _ x (rw (b, s) refl) (first x []))))))))
 
   module _ (F : Facts) (facts : IsFactsOf P Q F) where
@@ -187,7 +187,7 @@ module _ (P Q : Plain) (placed : IsPlaced P Q) (formed : IsFormed P) (typed : Is
   body_from (Some xs) p h c =
       let z = placed.methods m k e in
       sts_from P (type_in P m k) m k plain (parts_body P (type_in P m k) m k (Some xs)) 0 xs (typed.methods m z.plain z.stands (bare_sts xs) (sym h))
-          ((formed.methods m z.plain z.stands).code (bare_sts xs) (sym h)) (λ q z. z) c
+      ((formed.methods m z.plain z.stands).code (bare_sts xs) (sym h)) (λ q z. z) c
 
   pub part_from : (p : Part) → Contains (parts_of P m k) p → From P (type_in P m k) m k plain (parts_of P m k) p
   unfolding parts_of

@@ -173,8 +173,17 @@ module _ (P Q : Plain) (placed : IsPlaced P Q) (formed : IsFormed P) (typed : Is
   form_site (a_creation p u o) x a c =
       let z = site_parts p o.created o.ty (number_if (row_number P Q) o.row) x c in
       let e = (part_numbered (a_creation p u o) a).1 ∙ ap (option_map row.New) z.0 in
-      record { place = p; used = u; operand = o; is_part = a; created = z.0; type = z.1; row_is = e; row_number_is = sym
-          (ap (number_if (row_number P Q)) e) ∙ z.2 }
+      record {
+        place = p;
+        used = u;
+        operand = o;
+        is_part = a;
+        created = z.0;
+        type = z.1;
+        row_is = e;
+        row_number_is = sym
+            (ap (number_if (row_number P Q)) e) ∙ z.2;
+      }
   form_site _ x a c = absurd (omega (arith, c.1))
 
   pub site_part : (s : ℕ) (x : Site) → slice_get (sites_of P Q) s ≡ Some x → IsSitePart x
@@ -204,7 +213,7 @@ module _ (P Q : Plain) (placed : IsPlaced P Q) (formed : IsFormed P) (typed : Is
         let p = site_part s z.site z.stands in
         let w = item_row P Q F facts (row.New z.site.number) z.site.row p.row_number_is in
         ap (λ i. (info_at F i.row.0).site) z.info ∙ ap (λ i. i.site) w.3 ∙ ap (site_of_row (numbers P Q)) w.2
-            ∙ ap (λ n. option_map (λ i. record { 0 = i }) n) (site_back P Q s z.site z.stands)
+        ∙ ap (λ n. option_map (λ i. record { 0 = i }) n) (site_back P Q s z.site z.stands)
 
     pub site_types : (s : ℕ) → s < length F.sites.items → site_class F s ≡ row_class F (site_row F s)
     site_types s h =
@@ -212,7 +221,7 @@ module _ (P Q : Plain) (placed : IsPlaced P Q) (formed : IsFormed P) (typed : Is
         let p = site_part s z.site z.stands in
         let w = item_row P Q F facts (row.New z.site.number) z.site.row p.row_number_is in
         let t = own_type (a_creation p.place p.used p.operand) p.operand (row.New z.site.number) z.site.ty z.site.row w.0 p.is_part refl p.row_is
-            p.type w.1 w.2 in
+        p.type w.1 w.2 in
         ap (λ i. i.class.0) z.info ∙ sym (ap (λ i. row_class F i.row.0) z.info ∙ ap (λ i. i.class.0) w.3 ∙ ap (λ y. y.class.0) t)
 
     -- the site of a creation's row has as many brackets
@@ -223,9 +232,9 @@ module _ (P Q : Plain) (placed : IsPlaced P Q) (formed : IsFormed P) (typed : Is
         let p = site_part s z.0 z.1 in
         let same : z.0.row ≡ r = same_Some _ _ (sym p.row_number_is ∙ ap (λ i. row_number P Q (row.New i)) z.2 ∙ a) in
         let t = own_type (a_creation p.place p.used p.operand) p.operand (row.New z.0.number) z.0.ty z.0.row x p.is_part refl p.row_is p.type
-            (subst (λ i. slice_get (rows_of P Q) i ≡ Some x) (sym same) e) (h ∙ ap row.New (sym z.2)) in
+        (subst (λ i. slice_get (rows_of P Q) i ≡ Some x) (sym same) e) (h ∙ ap row.New (sym z.2)) in
         ap (λ i. i.dim) (index_at F.sites.items s _ (site_info z.0) (subst (λ y. slice_get y s ≡ Some (site_info z.0)) (sym facts.sites)
-            (at_map (site_info) (sites_of P Q) s z.0 z.1))) ∙ sym (ap (λ y. y.dim) t)
+        (at_map (site_info) (sites_of P Q) s z.0 z.1))) ∙ sym (ap (λ y. y.dim) t)
 
     -- a creation has a site
     pub made_site : (m : ℕ) (k : PlainMethod) (w : Place) (u : Bool) (o : Operand) (n r : ℕ) (t : ObjectType) → slice_get Q.methods m ≡ Some k
@@ -237,11 +246,11 @@ module _ (P Q : Plain) (placed : IsPlaced P Q) (formed : IsFormed P) (typed : Is
         let x : Site = record { number = n; place = w; ty = t; row = r } in
         let b0 : Body = record { number = m; slot = k.slot; parts = parts_of P m k } in
         site_there P Q x (flat_has (λ b. flat_map (form_sites (row_number P Q)) b.parts) (bodies_of P Q) b0 x
-            (each_has (body_at P Q) 0 Q.methods m k b0 e m (omega arith) (first b0 []))
+        (each_has (body_at P Q) 0 Q.methods m k b0 e m (omega arith) (first b0 []))
         (flat_has (form_sites (row_number P Q)) (parts_of P m k) (a_creation w u o) x c
         (subst (λ z. Contains (site_if w z o.ty (number_if (row_number P Q) o.row)) x) (sym a)
-            (subst (λ z. Contains (site_if w (Some n) z (number_if (row_number P Q) o.row)) x) (sym b)
-            (subst (λ z. Contains (site_if w (Some n) (Some t) z) x) (sym (ap (number_if (row_number P Q)) d ∙ h)) (first x []))))))
+        (subst (λ z. Contains (site_if w (Some n) z (number_if (row_number P Q) o.row)) x) (sym b)
+        (subst (λ z. Contains (site_if w (Some n) (Some t) z) x) (sym (ap (number_if (row_number P Q)) d ∙ h)) (first x []))))))
 
     -- the creation of a row with a site
     pub created_row : (n r : ℕ) (s : SiteId) → row_number P Q (row.New n) ≡ Some r → site_number P Q n ≡ Some s.0 → site_row F s.0 ≡ r
@@ -249,7 +258,7 @@ module _ (P Q : Plain) (placed : IsPlaced P Q) (formed : IsFormed P) (typed : Is
         let z = site_at P Q n s.0 b in
         let p = site_part s.0 z.0 z.1 in
         let i = index_at F.sites.items s.0 _ (site_info z.0) (subst (λ y. slice_get y s.0 ≡ Some (site_info z.0)) (sym facts.sites)
-            (at_map (site_info) (sites_of P Q) s.0 z.0 z.1)) in
+        (at_map (site_info) (sites_of P Q) s.0 z.0 z.1)) in
         ap (λ i. i.row.0) i ∙ same_Some z.0.row r (sym p.row_number_is ∙ ap (λ n. row_number P Q (row.New n)) z.2 ∙ a)
 
     item_site : (r : ℕ) (i : RowItem) (s : SiteId) → row_number P Q i ≡ Some r → site_of_row (numbers P Q) i ≡ Some s → site_row F s.0 ≡ r

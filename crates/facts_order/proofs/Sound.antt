@@ -131,7 +131,7 @@ module _ (P Q : Plain) (placed : IsPlaced P Q) (formed : IsFormed P) (typed : Is
   form_type p o l c g e =
       let h : part_label p ≡ Some l = label_given p o g ∙ ap label_in e in
       ap (option_and_then (λ k. type_among (parts_of P m k) l)) stands ∙ type_found (parts_of P m k) p l (λ q d y. label_apart P m k q p l d c y h) c
-          h ∙ ap (option_and_then (λ o. o.ty)) g
+      h ∙ ap (option_and_then (λ o. o.ty)) g
 
   -- what is no row, no point and no creation
   nothing_own : (o : Operand) → o.row ≡ None → IsOwn o
@@ -227,20 +227,20 @@ module _ (P Q : Plain) (placed : IsPlaced P Q) (formed : IsFormed P) (typed : Is
       (apart_own row.Field (Some f) (at n (own_field t f)) refl (λ i. refl)) (no_creation (at n (own_field t f)) refl)
   sound n u (field t e x) a w =
       form_sound (a_load t.place (at n e) (object_field P (type (label n e)) x) (at n (field t e x))) (at n (field t e x)) _
-          (w _ (Contains-append_right _ (a_load t.place (at n e) (object_field P (type (label n e)) x) (at n (field t e x)) ∷ []) _ (first _ [])))
-          refl refl
+      (w _ (Contains-append_right _ (a_load t.place (at n e) (object_field P (type (label n e)) x) (at n (field t e x)) ∷ []) _ (first _ [])))
+      refl refl
       (typing_at n u (field t e x) a w) (apart_own row.Field (object_field P (type (label n e)) x) (at n (field t e x)) refl (λ i. refl))
-          (no_creation (at n (field t e x)) refl)
+      (no_creation (at n (field t e x)) refl)
   sound n u (index t e i) (t_index a b c d) w =
       form_sound _ (at n (index t e i)) _
-          (w _ (Contains-append_right (parts P type m k true (label n e)) _ _ (first (an_element t.place (at n e) (at n (index t e i))) _))) refl refl
-          (typing_at n u (index t e i) (t_index a b c d) w)
+      (w _ (Contains-append_right (parts P type m k true (label n e)) _ _ (first (an_element t.place (at n e) (at n (index t e i))) _))) refl refl
+      (typing_at n u (index t e i) (t_index a b c d) w)
       (deep_own n n true e (index t e i) a (λ q z. w q (Contains-append_left (parts P type m k true (label n e)) _ q z))
-          (many_dims P Q placed formed typed F facts m k stands n e b) refl) (no_creation (at n (index t e i)) refl)
+      (many_dims P Q placed formed typed F facts m k stands n e b) refl) (no_creation (at n (index t e i)) refl)
   sound n u (call t e x es) a w =
       form_sound _ (at n (call t e x es)) _ (w _ (Contains-append_right (parts P type m k true (label n e)) _ _ (first _ _))) refl refl
-          (typing_at n u (call t e x es) a w) (apart_own row.Return (call_slot P (type (label n e)) x) (at n (call t e x es)) refl (λ i. refl))
-          (no_creation (at n (call t e x es)) refl)
+      (typing_at n u (call t e x es) a w) (apart_own row.Return (call_slot P (type (label n e)) x) (at n (call t e x es)) refl (λ i. refl))
+      (no_creation (at n (call t e x es)) refl)
   sound n u (static_call t d es) a w = form_sound _ (at n (static_call t d es)) n (w _ (first _ _)) refl refl (typing_at n u (static_call t d es) a w)
       (apart_own row.Result (Some d) (at n (static_call t d es)) refl (λ i. refl)) (no_creation (at n (static_call t d es)) refl)
   sound n u (super_call t x es) a w = form_sound _ (at n (super_call t x es)) n (w _ (first _ _)) refl refl (typing_at n u (super_call t x es) a w)

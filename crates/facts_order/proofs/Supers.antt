@@ -101,7 +101,7 @@ module _ (P Q : Plain) (placed : IsPlaced P Q) (formed : IsFormed P) (typed : Is
     body_here : (c : ℕ) → h.owner ≡ c → own_body P c s ≡ Some d
     body_here c o =
         let j = passes-position (λ m. has_slot c s m && is_some m.body) P.methods d h stands (and_from (has_slot c s h) (is_some h.body)
-            (and_from (h.owner == c) (is_slot h.slot s) (eq-eqb h.owner c o) (ap (λ z. is_slot z s) slot ∙ eq-eqb s s refl)) bodied) in
+        (and_from (h.owner == c) (is_slot h.slot s) (eq-eqb h.owner c o) (ap (λ z. is_slot z s) slot ∙ eq-eqb s s refl)) bodied) in
         let z = own_body_method c s j.0 j.1 in
         j.1 ∙ ap Some (formed.method_names j.0 d z.0 h z.1 stands (z.2 ∙ sym o) (slot_name j.0 d s z.0 h z.1 stands z.3 slot))
 
@@ -113,8 +113,14 @@ module _ (P Q : Plain) (placed : IsPlaced P Q) (formed : IsFormed P) (typed : Is
         go (Some j) f =
             let z = own_body_method c s j f in
             let y = in_slot j s z.0 z.1 z.3 in
-            let t = own-own_method P c h.name j (record { method = z.0; stands = z.1; owner = z.2; instance = y.instance; name = slot_name j d s z.0 h
-                z.1 stands z.3 slot }) in
+            let t = own-own_method P c h.name j (record {
+              method = z.0;
+              stands = z.1;
+              owner = z.2;
+              instance = y.instance;
+              name = slot_name j d s z.0 h
+                  z.1 stands z.3 slot;
+            }) in
             absurd (let u = sym t.1 ∙ e in cc)
 
     nearest_body : {c : ℕ} → IsNearest P (λ k. own_method P k h.name) c d → IsNearest P (λ k. own_body P k s) c d
@@ -128,8 +134,8 @@ module _ (P Q : Plain) (placed : IsPlaced P Q) (formed : IsFormed P) (typed : Is
   found_body c d s x h e b f =
       nearest-nearest_of P (λ k. own_body P k s) formed.acyclic
       (nearest_body d s h.method h.stands e (sym (ap (λ o. option_map_or (λ k. is_some k.body) o false) h.stands)
-          ∙ b) (nearest_of-nearest P (λ k. own_method P k h.method.name) (subst (λ y. nearest_of P (λ k. own_method P k y) c ≡ Some d)
-          (sym h.name) f)))
+      ∙ b) (nearest_of-nearest P (λ k. own_method P k h.method.name) (subst (λ y. nearest_of P (λ k. own_method P k y) c ≡ Some d)
+      (sym h.name) f)))
 
   module _ (F : Facts) (facts : IsFactsOf P Q F) where
     -- a super call of a method's body
@@ -149,10 +155,20 @@ module _ (P Q : Plain) (placed : IsPlaced P Q) (formed : IsFormed P) (typed : Is
     unfolding numbers
     super_call_of m k (a_super_call w (Some d) es o) x e c h =
         let z = both_from (row_number P Q (row.This m)) (column_number P Q (column.Def d))
-            (λ a b. record { row = record { 0 = a }; column = record { 0 = b } }) x h in
+        (λ a b. record { row = record { 0 = a }; column = record { 0 = b } }) x h in
         let f = ((part_fitted P Q placed formed typed F facts m k e (a_super_call w (Some d) es o) c).1 d refl).0 in
-        record { number = m; method = k; stands = e; runs = d; row_is = z.2 ∙ ap (λ y. Some y.row.0) z.4; column_is = z.3
-            ∙ ap (λ y. Some y.column.0) z.4; name = f.name; found = f.found; bodied = f.bodied }
+        record {
+          number = m;
+          method = k;
+          stands = e;
+          runs = d;
+          row_is = z.2 ∙ ap (λ y. Some y.row.0) z.4;
+          column_is = z.3
+              ∙ ap (λ y. Some y.column.0) z.4;
+          name = f.name;
+          found = f.found;
+          bodied = f.bodied;
+        }
     super_call_of m k _ x e c h = absurd (omega (arith, h.1))
 
     pub super_entry : (x : SuperInfo) → Contains F.supers.items x → IsSuperCall x
@@ -169,7 +185,7 @@ module _ (P Q : Plain) (placed : IsPlaced P Q) (formed : IsFormed P) (typed : Is
         (λ x c. let w = super_entry x c in
         let n = numbered_column P Q F facts (column.Def w.runs) x.column.0 w.column_is in
         subst (λ z. IsBelow F z (column_class F x.column.0)) (sym (this_class x w)) (subst (λ z. IsBelow F w.method.owner z)
-            (sym (ap (λ i. i.class.0) n.1)) (subclass_below P Q placed F facts (super_above w.method.owner w.runs w.name w.found))))
+        (sym (ap (λ i. i.class.0) n.1)) (subclass_below P Q placed F facts (super_above w.method.owner w.runs w.name w.found))))
 
     -- a super call stands in a method with a `this`
     this_there : (x : SuperInfo) → IsSuperCall x → is_some (row_this F x.row.0) ≡ true
@@ -184,8 +200,12 @@ module _ (P Q : Plain) (placed : IsPlaced P Q) (formed : IsFormed P) (typed : Is
       unfolding lookup
       finds_column = subst (λ Z. IsFormed Z → IsFactsOf Z Q F → (c j m : ℕ) → lookup Z c j ≡ Some m → (d : ℕ) × (finds F c j ≡ Some d)
           × (column_number Z Q (column.Def m) ≡ Some d)) same
-          (λ f g c j m e. let z = finds_some Q F f g (length (untagged Q).classes) c j m e in (z.0, ap (λ n. finds_within F n c j) (same_length Q F g)
-              ∙ z.1, z.2)) formed facts
+          (λ f g c j m e. let z = finds_some Q F f g (length (untagged Q).classes) c j m e in (
+            z.0,
+            ap (λ n. finds_within F n c j) (same_length Q F g)
+                ∙ z.1,
+            z.2,
+          )) formed facts
 
       nearest_entry : (x : SuperInfo) → IsSuperCall x → IsNearestAbove F (row_class F x.row.0) x.column.0
       nearest_entry x w =
@@ -208,5 +228,9 @@ module _ (P Q : Plain) (placed : IsPlaced P Q) (formed : IsFormed P) (typed : Is
       pub super_bodies : All (λ x. (is_some (row_this F x.row.0) ≡ true) × IsDef F x.column.0 × IsNearestAbove F (row_class F x.row.0) x.column.0)
           F.supers.items
       super_bodies = all_of (λ x. (is_some (row_this F x.row.0) ≡ true) × IsDef F x.column.0 × IsNearestAbove F (row_class F x.row.0) x.column.0) F.supers.items
-          (λ x c. let w = super_entry x c in (this_there x w, ap (λ i. i.kind) (numbered_column P Q F facts (column.Def w.runs) x.column.0
-              w.column_is).1, nearest_entry x w))
+          (λ x c. let w = super_entry x c in (
+            this_there x w,
+            ap (λ i. i.kind) (numbered_column P Q F facts (column.Def w.runs) x.column.0
+                w.column_is).1,
+            nearest_entry x w,
+          ))

@@ -85,7 +85,7 @@ module _ (P Q : Plain) where
   gathered_has f x m k p e c d =
       let b : Body = record { number = m; slot = k.slot; parts = parts_of P m k } in
       flat_has (λ b. flat_map (f b) b.parts) (bodies_of P Q) b x (each_has (body_at P Q) 0 Q.methods m k b e m (omega arith) (first b []))
-          (flat_has (f b) b.parts p x c d)
+      (flat_has (f b) b.parts p x c d)
 
   -- the item of a numbered row, and of a numbered point
   pub row_item : (i : Option RowItem) (r : ℕ) → row_in (numbers P Q) i ≡ Some r → (j : RowItem) × (i ≡ Some j) × (row_number P Q j ≡ Some r)
@@ -147,12 +147,12 @@ module _ {A B : Type 0} (f : ℕ → A → List B) (key : B → ℕ) (keyed : (n
       (λ p. let same : s ≡ n = sym g ∙ keyed n x a (contains_at front i a p) in
       ⊎_elim
       (λ q. let c = one x 0 refl (omega (arith, same)) in let w : front ≡ c.0 ∷ [] = ap (λ z. f z x) (sym same) ∙ c.1 in at_one front c.0 i a w p
-          ∙ sym (at_one front c.0 j b w q))
+      ∙ sym (at_one front c.0 j b w q))
       (λ q. absurd (after n xs q.0 b q.2 (h ∙ same))) (append_cases front rest j b e))
       (λ p. ⊎_elim
       (λ q. absurd (after n xs p.0 a p.2 (g ∙ sym h ∙ keyed n x b (contains_at front j b q))))
       (λ q. let r = one_place (n + 1) xs s (λ y k u v. one y (suc k) u (omega (arith, v))) p.0 q.0 a b p.2 q.2 g h in omega (arith, p.1, q.1, r))
-          (append_cases front rest j b e))
+      (append_cases front rest j b e))
       (append_cases front rest i a d)
 
 module _ (P Q : Plain) (placed : IsPlaced P Q) (formed : IsFormed P) (typed : IsTyped P) (F : Facts) (facts : IsFactsOf P Q F) where
@@ -177,7 +177,7 @@ module _ (P Q : Plain) (placed : IsPlaced P Q) (formed : IsFormed P) (typed : Is
       → Contains (tests_of (numbers P Q) p) x → IsTestPart x
   test_part m k (a_test w d o) x e c t =
       let z = these_from (point_at (numbers P Q) d) (row_at (numbers P Q) o) o.ty
-          (λ a r t. record { from = a; target = record { 0 = r }; class = t.class; place = w }) x t in
+      (λ a r t. record { from = a; target = record { 0 = r }; class = t.class; place = w }) x t in
       let i = row_item P Q o.row z.1 z.4 in
       record {
         number = m;
@@ -200,7 +200,7 @@ module _ (P Q : Plain) (placed : IsPlaced P Q) (formed : IsFormed P) (typed : Is
   pub test_of : (x : TestInfo) → Contains F.tests.items x → IsTestPart x
   test_of x c =
       let z = gathered_from P Q (λ b. tests_of (numbers P Q)) x (place_from (λ t. t.place.at) (gathered P Q (λ b. tests_of (numbers P Q))) x
-          (subst (λ w. Contains w x) facts.tests c)) in
+      (subst (λ w. Contains w x) facts.tests c)) in
       test_part z.0 z.1 z.2 x z.3 z.4 z.5
 
   part_is : (x : TestInfo) (t : IsTestPart x) → IsPart P Q placed formed (a_test t.place t.operand t.own)
@@ -211,7 +211,7 @@ module _ (P Q : Plain) (placed : IsPlaced P Q) (formed : IsFormed P) (typed : Is
       (λ x c. let t = test_of x c in
       let w = item_row P Q F facts t.item x.target.0 t.target in
       ap (λ i. i.class.0) w.3 ∙ ap (λ y. y.class.0) (own_type P Q placed formed typed (a_test t.place t.operand t.own) t.own t.item t.type x.target.0
-          w.0 (part_is x t) refl t.row_is t.typed_as w.1 w.2) ∙ ap (λ y. y.0) t.class)
+      w.0 (part_is x t) refl t.row_is t.typed_as w.1 w.2) ∙ ap (λ y. y.0) t.class)
 
   marked : (m : ℕ) (k : PlainMethod) (p : Part) (x : Column) (c : ClassId) → slice_get Q.methods m ≡ Some k → Contains (parts_of P m k) p
       → Contains (form_columns p) x → x.item ≡ column.Is c → HasMark F c.0
@@ -225,7 +225,7 @@ module _ (P Q : Plain) (placed : IsPlaced P Q) (formed : IsFormed P) (typed : Is
       (λ x c. let t = test_of x c in
       let col : Column = record { item = column.Is t.type.class; place = t.place } in
       subst (λ y. HasMark F y.0) t.class (marked t.number t.method (a_test t.place t.operand t.own) col t.type.class t.stands t.part
-          (rw t.typed_as (first col [])) refl))
+      (rw t.typed_as (first col [])) refl))
 
   -- the row of the point of a part
   pub part_follows : (m : ℕ) (k : PlainMethod) (p : Part) (o : Operand) (l : ℕ) (a : PointAt) → slice_get Q.methods m ≡ Some k
@@ -249,8 +249,8 @@ module _ (P Q : Plain) (placed : IsPlaced P Q) (formed : IsFormed P) (typed : Is
       let y = part_labelled P Q placed formed typed p (part_is x t) t.number t.method t.stands t.part in
       let a : PointAt = record { item = point.Expr t.number y.0; place = t.place; row = t.item } in
       let q = part_point P Q t.number t.method t.stands (has_body P t.number t.method p t.part) p a t.part
-          (own_point_has t.place t.own.point t.own.row t.own.ty (point.Expr t.number y.0) t.item t.type y.1 t.row_is t.typed_as)
-          x.target.0 t.target in
+      (own_point_has t.place t.own.point t.own.row t.own.ty (point.Expr t.number y.0) t.item t.type y.1 t.row_is t.typed_as)
+      x.target.0 t.target in
       let z = item_point P Q F facts (point.Expr t.number y.0) q.0 q.1 in
       let f = point_of P Q q.0 z.0 z.1 in
       let at = ap (λ i. point_in (numbers P Q) i) y.1 ∙ point_item P Q (point.Expr t.number y.0) q.0 q.1 in
@@ -312,7 +312,7 @@ module _ (P Q : Plain) (placed : IsPlaced P Q) (formed : IsFormed P) (typed : Is
       let w = array_cells s x (subst (λ n. 0 < n) (ap (λ i. i.dim) z.info) d) in
       let c : CellInfo = record { site = record { 0 = s }; column = None; row = record { 0 = x.row } } in
       let at = at_contains (each (site_cells P all_fields) 0 (sites_of P Q)) c (each_has (site_cells P all_fields) 0 (sites_of P Q) s x c z.stands s
-          (omega arith) (subst (λ y. Contains y c) (sym w) (first c []))) in
+      (omega arith) (subst (λ y. Contains y c) (sym w) (first c []))) in
       let e : slice_get F.cells.items at.0 ≡ Some c = subst (λ y. slice_get y at.0 ≡ Some c) (sym facts.cells) at.1 in
       let i = index_at F.cells.items at.0 _ c e in
       record {
@@ -323,8 +323,11 @@ module _ (P Q : Plain) (placed : IsPlaced P Q) (formed : IsFormed P) (typed : Is
         row = ap (λ k. k.row.0) i ∙ sym (ap (λ k. k.row.0) z.info);
         one = λ j below q. let k = below_at F.cells.items j below in
             one_place (site_cells P all_fields) (λ k. k.site.0) keyed_site 0 (sites_of P Q) s
-                (λ y n u v. (c, ap (site_cells P all_fields s) (same_Some y x (sym u ∙ ap (slice_get (sites_of P Q)) (omega (arith, v)) ∙ z.stands))
-                ∙ w)) j at.0 k.0 c
+            (λ y n u v. (
+              c,
+              ap (site_cells P all_fields s) (same_Some y x (sym u ∙ ap (slice_get (sites_of P Q)) (omega (arith, v)) ∙ z.stands))
+                  ∙ w,
+            )) j at.0 k.0 c
             (subst (λ y. slice_get y j ≡ Some k.0) facts.cells k.1) at.1 (ap (λ k. k.site.0) (sym (index_at F.cells.items j _ k.0 k.1)) ∙ q) refl;
       }
 

@@ -35,8 +35,11 @@ use Rattle.facts_order.proofs.Fitted.{IsFitted, IsValue, is_variable_of, part_fi
 use Rattle.facts_order.proofs.Owners.{IsRowAt, row_there, class_of_row, IsFree, apart_free, deep_free, HasRow, row_of_operand, row_standing, value_below, creation_object}
 
 tied_from : (r q : Option ℕ) (x : TieInfo) → Contains (tied r q) x → (r ≡ Some x.lower.0) × (q ≡ Some x.upper.0)
-tied_from r q x d = let z = both_from r q (λ a b. record { lower = record { 0 = a }; upper = record { 0 = b } }) x d in (z.2
-    ∙ ap (λ y. Some y.lower.0) z.4, z.3 ∙ ap (λ y. Some y.upper.0) z.4)
+tied_from r q x d = let z = both_from r q (λ a b. record { lower = record { 0 = a }; upper = record { 0 = b } }) x d in (
+  z.2
+      ∙ ap (λ y. Some y.lower.0) z.4,
+  z.3 ∙ ap (λ y. Some y.upper.0) z.4,
+)
 
 result_apart : (s : Option ℕ) (m : ℕ) → is_apart (result_in s m) ≡ true
 result_apart None m = refl
@@ -108,8 +111,8 @@ module _ (P Q : Plain) (placed : IsPlaced P Q) (formed : IsFormed P) (typed : Is
     to_item o t i x v a h e d =
         let y = row_there P Q placed formed typed F facts i x.upper.0 d in
         free_tie x.lower.0 x.upper.0 (row_of_operand P Q placed formed typed F facts m k stands o x.lower.0 v.good e).at.below y.below
-            (value_below P Q placed formed typed F facts m k stands o t y.here.ty x.lower.0 x.upper.0 v e (h y)
-            (class_of_row P Q placed formed typed F facts x.upper.0 i y)) (apart_free P Q placed formed typed F facts x.upper.0 i y a)
+        (value_below P Q placed formed typed F facts m k stands o t y.here.ty x.lower.0 x.upper.0 v e (h y)
+        (class_of_row P Q placed formed typed F facts x.upper.0 i y)) (apart_free P Q placed formed typed F facts x.upper.0 i y a)
 
     -- a value goes to the row of an operand
     to_operand : (o v : Operand) (t : Option ObjectType) (x : TieInfo) → Value o t → IsGood v
@@ -120,30 +123,34 @@ module _ (P Q : Plain) (placed : IsPlaced P Q) (formed : IsFormed P) (typed : Is
         let h = row_of_operand P Q placed formed typed F facts m k stands v x.upper.0 g e.1 in
         let z = f h in
         free_tie x.lower.0 x.upper.0 (row_of_operand P Q placed formed typed F facts m k stands o x.lower.0 a.good e.0).at.below h.at.below
-            (value_below P Q placed formed typed F facts m k stands o t z.1.0 x.lower.0 x.upper.0 a e.0 z.1.1 (h.class ∙ z.1.2)) z.0
+        (value_below P Q placed formed typed F facts m k stands o t z.1.0 x.lower.0 x.upper.0 a e.0 z.1.1 (h.class ∙ z.1.2)) z.0
 
     set_tie : (v o : Operand) (x : TieInfo) → IsGood v → ((j : RowItem) → v.row ≡ Some j → is_apart j ≡ true) → Value o v.ty
         → Contains (tied (row_at (numbers P Q) o) (row_at (numbers P Q) v)) x → IsTied x.lower.0 x.upper.0
-    set_tie v o x g a w c = to_operand o v v.ty x w g (λ h. (apart_free P Q placed formed typed F facts x.upper.0 h.item h.at (a h.item h.row_is),
-        (h.type, h.stated, refl))) c
+    set_tie v o x g a w c = to_operand o v v.ty x w g (λ h. (
+      apart_free P Q placed formed typed F facts x.upper.0 h.item h.at (a h.item h.row_is),
+      (h.type, h.stated, refl),
+    )) c
 
     element_tie : (b o : Operand) (x : TieInfo) → IsGood b → ((t : ObjectType) → b.ty ≡ Some t → 0 < t.dim) → Value o (element_object b.ty)
         → Contains (tied (row_at (numbers P Q) o) (row_at (numbers P Q) b)) x → IsTied x.lower.0 x.upper.0
     element_tie b o x g n w c = to_operand o b (element_object b.ty) x w g
-        (λ h. (deep_free P Q placed formed typed F facts x.upper.0 h.item h.at h.number (omega (arith, h.dim, n h.type h.stated)),
-        (record { class = h.type.class; dim = h.type.dim - 1 }, ap element_object h.stated ∙ element_some h.type (n h.type h.stated), refl))) c
+        (λ h. (
+          deep_free P Q placed formed typed F facts x.upper.0 h.item h.at h.number (omega (arith, h.dim, n h.type h.stated)),
+          (record { class = h.type.class; dim = h.type.dim - 1 }, ap element_object h.stated ∙ element_some h.type (n h.type h.stated), refl),
+        )) c
 
     -- the row of what a method gives back
     pub result_row_type : (r : ℕ) (o : Option ℕ) → k.slot ≡ o → (y : At r (result_in k.slot m)) → object_if k.result ≡ Some y.here.ty
     result_row_type r None e y =
         let z = placed.methods m k stands in
         ap object_if (sym z.result) ∙ sym (ap (λ o. object_if (option_and_then (λ k. k.result) o)) z.stands)
-            ∙ result_type P Q placed formed typed m r y.here y.stands (y.item ∙ ap (λ s. result_in s m) e)
+        ∙ result_type P Q placed formed typed m r y.here y.stands (y.item ∙ ap (λ s. result_in s m) e)
     result_row_type r (Some s) e y =
         let z = placed.methods m k stands in
         let w = ((formed.methods m z.plain z.stands).slots s).0 (z.slot ∙ e) in
         ap object_if (sym z.result ∙ w.result) ∙ sym (ap (λ o. object_if (option_and_then (λ k. k.result) o)) w.stands)
-            ∙ return_type P Q placed formed typed s r y.here y.stands (y.item ∙ ap (λ s. result_in s m) e)
+        ∙ return_type P Q placed formed typed s r y.here y.stands (y.item ∙ ap (λ s. result_in s m) e)
 
     return_tie : (o : Operand) (x : TieInfo) → Value o (object_if k.result)
         → Contains (tied (row_at (numbers P Q) o) (row_number P Q (result_in k.slot m))) x → IsTied x.lower.0 x.upper.0
@@ -177,9 +184,9 @@ module _ (P Q : Plain) (placed : IsPlaced P Q) (formed : IsFormed P) (typed : Is
         let j = row_item P Q (param_row P d i) x.upper.0 e.1 in
         let h = variable_there (slice_get P.methods d) refl j.0 j.1 in
         to_item o (is_variable_of P Q placed formed typed F facts m k stands d i) (variable_row d h.0 i) x v
-            (variable_apart h.0.slot (nat_lt i (length h.0.params)) d i)
+        (variable_apart h.0.slot (nat_lt i (length h.0.params)) d i)
         (λ y. ap (option_and_then (λ k. variable_object k i)) h.1 ∙ variable_type P Q placed formed typed d i h.0 x.upper.0 y.here h.1 y.stands
-            y.item) e.0 (ap (row_number P Q) (sym h.2) ∙ j.2)
+        y.item) e.0 (ap (row_number P Q) (sym h.2) ∙ j.2)
       where
         variable_there : (p : Option PlainMethod) → slice_get P.methods d ≡ p → (j : RowItem)
             → option_map (λ k. variable_row d k i) (slice_get P.methods d) ≡ Some j → (q : PlainMethod) × (slice_get Q.methods d ≡ Some q)
@@ -190,9 +197,12 @@ module _ (P Q : Plain) (placed : IsPlaced P Q) (formed : IsFormed P) (typed : Is
             let z = placed.methods d q.0 q.1 in
             let same : p ≡ z.plain = same_Some _ _ (sym e ∙ z.stands) in
             let count : length z.plain.params ≡ length q.0.params = sym (length-map z.plain.params (λ v. v.ty)) ∙ ap length z.params
-                ∙ length-map q.0.params (λ v. v.ty) in
-            (q.0, q.1, same_Some j _ (sym h ∙ ap (option_map (λ k. variable_row d k i)) e) ∙ ap (λ p. variable_row d p i) same
-                ∙ ap (λ s. variable_in s (nat_lt i (length z.plain.params)) d i) z.slot ∙ ap (λ n. variable_in q.0.slot (nat_lt i n) d i) count)
+            ∙ length-map q.0.params (λ v. v.ty) in (
+              q.0,
+              q.1,
+              same_Some j _ (sym h ∙ ap (option_map (λ k. variable_row d k i)) e) ∙ ap (λ p. variable_row d p i) same
+                  ∙ ap (λ s. variable_in s (nat_lt i (length z.plain.params)) d i) z.slot ∙ ap (λ n. variable_in q.0.slot (nat_lt i n) d i) count,
+            )
 
     params_tie : (d : ℕ) (es : List Operand) (x : TieInfo) → ((i : ℕ) (a : Operand) → slice_get es i ≡ Some a
         → Value a (is_variable_of P Q placed formed typed F facts m k stands d i)) → Contains (method_ties (numbers P Q) P d es) x
@@ -209,8 +219,11 @@ module _ (P Q : Plain) (placed : IsPlaced P Q) (formed : IsFormed P) (typed : Is
         → Both l r x.lower.0 x.upper.0
     both_rows l r x g h c =
         let e = tied_from (row_at (numbers P Q) l) (row_at (numbers P Q) r) x c in
-        record { left = row_of_operand P Q placed formed typed F facts m k stands l x.lower.0 g e.0; right = row_of_operand P Q placed formed typed F
-            facts m k stands r x.upper.0 h e.1 }
+        record {
+          left = row_of_operand P Q placed formed typed F facts m k stands l x.lower.0 g e.0;
+          right = row_of_operand P Q placed formed typed F
+              facts m k stands r x.upper.0 h e.1;
+        }
 
     rows_below : (s t : ObjectType) (a b : ℕ) → IsUnder P s t → row_class F a ≡ s.class.0 → row_class F b ≡ t.class.0
         → IsBelow F (row_class F a) (row_class F b)
@@ -223,14 +236,14 @@ module _ (P Q : Plain) (placed : IsPlaced P Q) (formed : IsFormed P) (typed : Is
     test_tie : (e o : Operand) (s t : ObjectType) (x : TieInfo) → IsGood e → IsGood o → ((j : RowItem) → o.row ≡ Some j → is_apart j ≡ true)
         → e.ty ≡ Some s → o.ty ≡ Some t → ArePaired P s t → (b : Bool) → below P s.class.0 t.class.0 ≡ b
         → Contains (if b then tied (row_at (numbers P Q) e) (row_at (numbers P Q) o) else tied (row_at (numbers P Q) o) (row_at (numbers P Q) e)) x
-            → IsTied x.lower.0 x.upper.0
+        → IsTied x.lower.0 x.upper.0
     test_tie e o s t x g h a es ot p true b c =
         let w = both_rows e o x g h c in
         let u = ap (λ z. z.class.0) (same_Some _ _ (sym w.left.stated ∙ es)) in
         let v = ap (λ z. z.class.0) (same_Some _ _ (sym w.right.stated ∙ ot)) in
         free_tie x.lower.0 x.upper.0 w.left.at.below w.right.at.below (subst (λ z. IsBelow F z (row_class F x.upper.0)) (sym (w.left.class ∙ u))
-            (subst (λ z. IsBelow F s.class.0 z) (sym (w.right.class ∙ v))
-            (subclass_below P Q placed F facts (below-subclass P s.class.0 t.class.0 b))))
+        (subst (λ z. IsBelow F s.class.0 z) (sym (w.right.class ∙ v))
+        (subclass_below P Q placed F facts (below-subclass P s.class.0 t.class.0 b))))
         (apart_free P Q placed formed typed F facts x.upper.0 w.right.item w.right.at (a w.right.item w.right.row_is))
     test_tie e o s t x g h a es ot p false b c =
         let w = both_rows o e x h g c in
@@ -261,13 +274,13 @@ module _ (P Q : Plain) (placed : IsPlaced P Q) (formed : IsFormed P) (typed : Is
     creation_free l r a b w o c =
         ⊎_elim (λ d. deep_free P Q placed formed typed F facts b w.right.item w.right.at w.right.number d)
         (λ z. let n = some_of l.created c in absurd (false≢true (sym o ∙ creation_object P Q placed formed typed F facts m k stands l a n.0 w.lower
-            w.left n.1 (omega (arith, w.dim, w.right.dim, z)))))
+        w.left n.1 (omega (arith, w.dim, w.right.dim, z)))))
         (dim_cases w.right.at.here.ty.dim)
 
     same_this : (l r : Operand) (a b : ℕ) → Alike l r a b → is_this l.point ≡ true → is_this r.point ≡ true → a ≡ b
     same_this l r a b w d e =
         let i : w.left.item ≡ w.right.item = same_Some _ _ (sym w.left.row_is ∙ w.lower.self d ∙ sym (w.upper.self e) ∙ w.right.row_is) in same_Some a
-            b (sym w.left.number ∙ ap (row_number P Q) i ∙ w.right.number)
+        b (sym w.left.number ∙ ap (row_number P Q) i ∙ w.right.number)
 
     pair_free : (l r : Operand) (a b : ℕ) → Alike l r a b → (a ≡ b → ⊥) → is_object_row F a ≡ false
         → (is_this r.point ≡ true → (is_some l.created ≡ true) ⊎ (is_this l.point ≡ true)) → (is_some r.created ≡ true → is_some l.created ≡ true)
@@ -294,8 +307,11 @@ module _ (P Q : Plain) (placed : IsPlaced P Q) (formed : IsFormed P) (typed : Is
       where
         go : (b : Bool) → same_type s t ≡ b → (if same_type s t then left_lower l r else narrower P s t) ≡ true → IsUnder P t s → IsUnder P s t
         go true d e u = record { class = subst (λ z. IsSubclass P s.class.0 z) (one_class s t d) same_class; dim = sym u.dim }
-        go false d e u = record { class = below-subclass P s.class.0 t.class.0 (and_parts (s.dim == t.dim) (below P s.class.0 t.class.0)
-            (sym (ap (λ z. if z then left_lower l r else narrower P s t) d) ∙ e)).1; dim = sym u.dim }
+        go false d e u = record {
+          class = below-subclass P s.class.0 t.class.0 (and_parts (s.dim == t.dim) (below P s.class.0 t.class.0)
+              (sym (ap (λ z. if z then left_lower l r else narrower P s t) d) ∙ e)).1;
+          dim = sym u.dim;
+        }
 
     upper_under : (l r : Operand) (s t : ObjectType) → is_left_lower P l r s t ≡ false → ArePaired P s t → IsUnder P t s
     upper_under l r s t e p = ⊎_elim (λ u. go (same_type s t) refl e u) (λ u. u) p
@@ -304,7 +320,7 @@ module _ (P Q : Plain) (placed : IsPlaced P Q) (formed : IsFormed P) (typed : Is
         go true d e u = record { class = subst (λ z. IsSubclass P z s.class.0) (one_class s t d) same_class; dim = sym u.dim }
         go false d e u =
             absurd (false≢true (sym (sym (ap (λ z. if z then left_lower l r else narrower P s t) d) ∙ e)
-                ∙ and_from (s.dim == t.dim) (below P s.class.0 t.class.0) (eq-eqb s.dim t.dim u.dim) (under_below s t u)))
+            ∙ and_from (s.dim == t.dim) (below P s.class.0 t.class.0) (eq-eqb s.dim t.dim u.dim) (under_below s t u)))
 
     paired_dim : (s t : ObjectType) → ArePaired P s t → s.dim ≡ t.dim
     paired_dim s t p = ⊎_elim (λ u. u.dim) (λ u. sym u.dim) p
@@ -316,13 +332,19 @@ module _ (P Q : Plain) (placed : IsPlaced P Q) (formed : IsFormed P) (typed : Is
     pair_tie : (l r : Operand) (s t : ObjectType) (x : TieInfo) → IsGood l → IsGood r → l.ty ≡ Some s → r.ty ≡ Some t → ArePaired P s t → (b : Bool)
         → is_left_lower P l r s t ≡ b
         → Contains (if b then tied (row_at (numbers P Q) l) (row_at (numbers P Q) r) else tied (row_at (numbers P Q) r) (row_at (numbers P Q) l)) x
-            → IsTied x.lower.0 x.upper.0
+        → IsTied x.lower.0 x.upper.0
     pair_tie l r s t x g h ls rt p true b c =
         let w = both_rows l r x g h c in
         let u = same_Some _ _ (sym w.left.stated ∙ ls) in
         let v = same_Some _ _ (sym w.right.stated ∙ rt) in
-        let like : Alike l r x.lower.0 x.upper.0 = record { lower = g; upper = h; left = w.left; right = w.right; dim = ap (λ z. z.dim) u
-            ∙ paired_dim s t p ∙ sym (ap (λ z. z.dim) v) } in
+        let like : Alike l r x.lower.0 x.upper.0 = record {
+          lower = g;
+          upper = h;
+          left = w.left;
+          right = w.right;
+          dim = ap (λ z. z.dim) u
+              ∙ paired_dim s t p ∙ sym (ap (λ z. z.dim) v);
+        } in
         let lc = w.left.class ∙ ap (λ z. z.class.0) u in
         let rc = w.right.class ∙ ap (λ z. z.class.0) v in
         record {
@@ -331,15 +353,21 @@ module _ (P Q : Plain) (placed : IsPlaced P Q) (formed : IsFormed P) (typed : Is
           below = rows_below s t x.lower.0 x.upper.0 (lower_under l r s t b p) lc rc;
           free = λ n c o. let e = lower_is l r s t true b p (sym lc ∙ c ∙ rc) in
               pair_free l r x.lower.0 x.upper.0 like n o
-                  (λ d. inl (lower_self (is_some l.created) (is_this l.point) (is_some r.created) (is_this r.point) e d))
-                  (λ d. absurd (lower_made (is_some l.created) (is_this l.point) (is_some r.created) (is_this r.point) e d));
+              (λ d. inl (lower_self (is_some l.created) (is_this l.point) (is_some r.created) (is_this r.point) e d))
+              (λ d. absurd (lower_made (is_some l.created) (is_this l.point) (is_some r.created) (is_this r.point) e d));
         }
     pair_tie l r s t x g h ls rt p false b c =
         let w = both_rows r l x h g c in
         let u = same_Some _ _ (sym w.left.stated ∙ rt) in
         let v = same_Some _ _ (sym w.right.stated ∙ ls) in
-        let like : Alike r l x.lower.0 x.upper.0 = record { lower = h; upper = g; left = w.left; right = w.right; dim = ap (λ z. z.dim) u
-            ∙ sym (paired_dim s t p) ∙ sym (ap (λ z. z.dim) v) } in
+        let like : Alike r l x.lower.0 x.upper.0 = record {
+          lower = h;
+          upper = g;
+          left = w.left;
+          right = w.right;
+          dim = ap (λ z. z.dim) u
+              ∙ sym (paired_dim s t p) ∙ sym (ap (λ z. z.dim) v);
+        } in
         let lc = w.left.class ∙ ap (λ z. z.class.0) u in
         let rc = w.right.class ∙ ap (λ z. z.class.0) v in
         record {
@@ -348,7 +376,7 @@ module _ (P Q : Plain) (placed : IsPlaced P Q) (formed : IsFormed P) (typed : Is
           below = rows_below t s x.lower.0 x.upper.0 (upper_under l r s t b p) lc rc;
           free = λ n c o. let e = lower_is l r s t false b p (sym (sym lc ∙ c ∙ rc)) in
               pair_free r l x.lower.0 x.upper.0 like n o (λ d. upper_self (is_some l.created) (is_this l.point) (is_some r.created) (is_this r.point)
-                  e d) (λ d. upper_made (is_some l.created) (is_this l.point) (is_some r.created) (is_this r.point) e d);
+              e d) (λ d. upper_made (is_some l.created) (is_this l.point) (is_some r.created) (is_this r.point) e d);
         }
 
     pair_ties_tied : (l r : Operand) (x : TieInfo) → IsGood l → IsGood r → ((s t : ObjectType) → l.ty ≡ Some s → r.ty ≡ Some t → ArePaired P s t)

@@ -125,7 +125,7 @@ module _ (P : Plain) where
 
   call_in : (b : TyBase) (d : ℕ) (x : List ℕ) → option_and_then (slot_object P) (option_and_then (λ c. slot_of P c x) (class_in b d))
       ≡ object_static (result_of (if is_string (a_value (record { base = b; dim = d })) then option_map signature_of_string (string_method x) else
-          object_signature P (class_in b d) x))
+      object_signature P (class_in b d) x))
   call_in (Class c) zero x = slot_is (slot_of P c.0 x)
   call_in (Class c) (suc d) x = refl
   call_in Int d x = refl

@@ -123,7 +123,7 @@ abbrev mutual
   label_st n (choose t xs) = choose t (label_arms n xs)
   label_st n (loop t is_while first test step body) =
       loop t is_while (label_sts n first) (label_if (n + size_sts first) test) (label_sts (n + size_sts first + size_if test) step)
-          (label_sts (n + size_sts first + size_if test + size_sts step) body)
+      (label_sts (n + size_sts first + size_if test + size_sts step) body)
   label_st n (return t e) = return t (label_if n e)
   label_st n (break t) = break t
   label_st n (continue t) = continue t

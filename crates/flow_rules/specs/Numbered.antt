@@ -176,7 +176,7 @@ module _ (P Q : Plain) where
   abbrev pub method_columns : ℕ → PlainMethod → List Column
   method_columns m k =
       when (not k.is_static) (record { item = column.Dcl m; place = k.tag.place } ∷ when (is_some k.body)
-          (record { item = column.Def m; place = k.tag.place } ∷ []))
+      (record { item = column.Def m; place = k.tag.place } ∷ []))
       ++ flat_map form_columns (parts_of P m k)
 
   -- the columns by their place; a mark stands where it is first met
@@ -221,7 +221,7 @@ module _ (P Q : Plain) where
   unfoldable pub points_of : List Point
   points_of = once same_point (λ p. p.item)
       (flat_map (listed row_number) (by_place (λ p. p.place.at) (each static_points 0 Q.fields))
-          ++ flat_map (λ o. flat_map (listed row_number) o.points) (by_place (λ o. o.place.at) (each outline_if 0 Q.methods)))
+      ++ flat_map (λ o. flat_map (listed row_number) o.points) (by_place (λ o. o.place.at) (each outline_if 0 Q.methods)))
 
   unfoldable pub point_number : PointItem → Option ℕ
   point_number i = number_among same_point (map (λ p. p.item) points_of) i

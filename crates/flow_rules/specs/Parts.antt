@@ -64,7 +64,7 @@ module _ (P : Plain) (type : Ex → Option ObjectType) (m : ℕ) (k : PlainMetho
     parts u (index t e i) = parts true e ++ an_element t.place (operand_of P type m k e) (operand_of P type m k (index t e i)) ∷ parts false i
     parts u (call t e x es) = parts true e
         ++ a_call t.place (operand_of P type m k e) (call_slot P (type e) x) (call_declaration P (type e) x) (operands_of P type m k es)
-            (operand_of P type m k (call t e x es)) ∷ parts_all true es
+        (operand_of P type m k (call t e x es)) ∷ parts_all true es
     parts u (static_call t d es) = a_static_call t.place d (operands_of P type m k es) (operand_of P type m k (static_call t d es)) ∷ parts_all false es
     parts u (super_call t x es) = a_super_call t.place (super_method P k.owner x) (operands_of P type m k es)
         (operand_of P type m k (super_call t x es)) ∷ parts_all false es

@@ -65,7 +65,7 @@ module _ (T : List (List Bool)) (w : ℕ) (widths : HasWidth w T) where
         λ h r rlt k. sym (rows_with-bit T d r) ∙ subset-sound (rows_with T c) (rows_with T d) (sym (common_bit (rows_with T c) d below) ∙ h) r k,
         λ all. common_bit (rows_with T c) d below
             ∙ subset-complete (rows_with T c) (rows_with T d) (λ r k. rows_with-bit T d r
-                ∙ all r (omega (arith, bit-below (rows_with T c) r k, with_len T c)) k),
+            ∙ all r (omega (arith, bit-below (rows_with T c) r k, with_len T c)) k),
       );
     };
   }
@@ -124,5 +124,5 @@ module _ (T : List (List Bool)) (w : ℕ) (widths : HasWidth w T) where
             let one = same_extent (concept_at ps k.at).0 (rows_with T c) (common (rows_with T c)) ext (column_concept c lt).extent in
             let filled = filled-has (rows_with T c) r (rows_with-bit T c r ∙ h) in
             let both = and_from (is_filled (rows_with T c)) (is_same_set (concept_at ps k.at).0 (rows_with T c)) filled
-                (same_test (concept_at ps k.at).0 (rows_with T c) one) in
+            (same_test (concept_at ps k.at).0 (rows_with T c) one) in
             absurd (cc (none, ap (λ b. when b (node k.at)) both))

@@ -248,7 +248,7 @@ module _ (F : Facts) (pt : PointsTo) (t : Table) where
     super_fact r d h =
         let x = super_at r d h in
         let n = All-contains (λ (y : SuperInfo). (is_some (row_this F y.row.0) ≡ true) × IsDef F y.column.0
-            × IsNearestAbove F (row_class F y.row.0) y.column.0) F.supers.items x.0 O.bodies.supers x.1 in
+        × IsNearestAbove F (row_class F y.row.0) y.column.0) F.supers.items x.0 O.bodies.supers x.1 in
         subst (λ y. (is_some (row_this F y) ≡ true) × IsDef F d × IsNearestAbove F (row_class F y) d) x.2
         (subst (λ y. (is_some (row_this F x.0.row.0) ≡ true) × IsDef F y × IsNearestAbove F (row_class F x.0.row.0) y) x.3 n)
 
@@ -258,7 +258,7 @@ module _ (F : Facts) (pt : PointsTo) (t : Table) where
         let n = (super_fact r d h).2 in
         le (column_class F d) (column_class F e)
         (found_above F R O (row_class F r) n.slot d n.parent n.above n.found e (body_of n.slot e b (one ∙ n.slot_is))
-            (is_le (row_class F r) (column_class F e) up) ne)
+        (is_le (row_class F r) (column_class F e) up) ne)
 
     super_other : (r d : ℕ) → is_super F r d ≡ true → column_class F d ≢ row_class F r
     super_other r d h = let n = (super_fact r d h).2 in found_other F R O (row_class F r) n.slot d n.parent n.above n.found
@@ -278,7 +278,7 @@ module _ (F : Facts) (pt : PointsTo) (t : Table) where
         let x = h.test in
         let cast = All-contains (HasCast F) F.tests.items x O.tests.casts h.listed in
         let class : row_class F k ≡ cast.cast.class.0 = ap (row_class F) (sym h.target) ∙ target_class x h.listed
-            ∙ sym (ap (λ (c : ClassId). c.0) cast.class) in
+        ∙ sym (ap (λ (c : ClassId). c.0) cast.class) in
         let fits = subst (λ a. IsBelow F (site_class F s) a) class (is_le (site_class F s) (row_class F k) b) in
         let into = cast_shown F pt S cast.cast s cast.listed fits (subst (λ p. bit (row pt.points.items p) s ≡ true) (sym cast.from) h.held) in
         subst (λ r. bit (row pt.rows.items r) s ≡ true) (cast.row ∙ h.target) (point_row_shown F pt S cast.cast.into cast.point s into)
@@ -297,15 +297,21 @@ module _ (F : Facts) (pt : PointsTo) (t : Table) where
 
     marked_test : (s k : ℕ) → IsTested k s → (c : ℕ) × (bit (row t.rows.items k) c ≡ true) × (column_class F c ≡ row_class F k)
     marked_test s k h =
-        let m = All-contains (λ (y : TestInfo). HasMark F y.class.0) F.tests.items h.test O.tests.marks h.listed in
-        (m.0, subst (λ r. bit (row t.rows.items r) m.0 ≡ true) h.target (test_entry F t T h.test m.0 h.listed m.1), m.1.class_is
-            ∙ sym (target_class h.test h.listed) ∙ ap (row_class F) h.target)
+        let m = All-contains (λ (y : TestInfo). HasMark F y.class.0) F.tests.items h.test O.tests.marks h.listed in (
+          m.0,
+          subst (λ r. bit (row t.rows.items r) m.0 ≡ true) h.target (test_entry F t T h.test m.0 h.listed m.1),
+          m.1.class_is
+              ∙ sym (target_class h.test h.listed) ∙ ap (row_class F) h.target,
+        )
 
     marked_store : (s k : ℕ) → IsStored k s → (c : ℕ) × (bit (row t.rows.items k) c ≡ true) × (column_class F c ≡ row_class F k)
     marked_store s k h =
-        let m = O.tests.array_marks h.array h.below h.dim in
-        (m.0, subst (λ r. bit (row t.rows.items r) m.0 ≡ true) h.target (array_entry F t T h.array m.0 h.below h.dim m.1), m.1.class_is
-            ∙ O.types.sites h.array h.below ∙ ap (row_class F) h.target)
+        let m = O.tests.array_marks h.array h.below h.dim in (
+          m.0,
+          subst (λ r. bit (row t.rows.items r) m.0 ≡ true) h.target (array_entry F t T h.array m.0 h.below h.dim m.1),
+          m.1.class_is
+              ∙ O.types.sites h.array h.below ∙ ap (row_class F) h.target,
+        )
 
     pub meet_site : (s k : ℕ) → IsTested k s ⊎ IsStored k s → s < length F.sites.items
     meet_site s k h = ⊎_elim (λ a. point_site a.test.from s a.held) (λ b. point_site b.store.value s b.held) h
@@ -314,7 +320,7 @@ module _ (F : Facts) (pt : PointsTo) (t : Table) where
     meet_target s k h =
         ⊎_elim
         (λ a. subst (λ r. r < length F.rows.items) a.target (All-contains (λ (x : TestInfo). IsPoint F x.from × IsRow F x.target × IsClass F x.class)
-            F.tests.items a.test R.tests a.listed).1)
+        F.tests.items a.test R.tests a.listed).1)
         (λ b. subst (λ r. r < length F.rows.items) b.target (site_row_below b.array b.below))
         h
 

@@ -148,7 +148,7 @@ module _ (F : Facts) (pt : PointsTo) (t : Table) (H : Hierarchy) (table : H.tabl
     needed_none s x true None called found = refl
     needed_none s x true (Some d) called found =
         let need : G.needs s x d ≡ true = and_from (is_called F pt s x) (is_slot (finds F (site_class F s) x) d) called (ap (λ o. is_slot o d) found
-            ∙ eq-eqb d d refl) in
+        ∙ eq-eqb d d refl) in
         none_by (not (is_offered H (place_of_site F H s) d) || has_nearer F H (place_of_site F H s) d) (of_both B4 (place_of_site F H s) (site_row F s) d) (λ h.
         ⊎_elim
         (λ a. refuted (is_offered H (place_of_site F H s) d) a (offers (place_of_site F H s) d (A.needed s x d need)))
@@ -164,7 +164,7 @@ module _ (F : Facts) (pt : PointsTo) (t : Table) (H : Hierarchy) (table : H.tabl
     between r d run h =
         let e = any_below_some (is_between F H r d) (length F.columns.items) h in
         let a = and_parts (is_other_body F d e.0 && rule.is_above H (place_of_row H r) e.0) (column_le H e.0 d || eqb (column_class F e.0)
-            (row_class F r)) e.2 in
+        (row_class F r)) e.2 in
         let b = and_parts (is_other_body F d e.0) (rule.is_above H (place_of_row H r) e.0) a.0 in
         let up = above_says (place_of_row H r) e.0 b.1 in
         let other = other_says d e.0 up.0 b.0 up.1 in
@@ -193,7 +193,7 @@ module _ (F : Facts) (pt : PointsTo) (t : Table) (H : Hierarchy) (table : H.tabl
     bodies_none : first_two_bodies F H ≡ None
     bodies_none =
         first_below_clear (λ n. first_below (length F.columns.items) (λ c. first_below (length F.columns.items) (two_bodies F H n c)))
-            (length H.order.live) (λ n ln.
+        (length H.order.live) (λ n ln.
         first_below_clear (λ c. first_below (length F.columns.items) (two_bodies F H n c)) (length F.columns.items) (λ c lc.
         first_below_clear (two_bodies F H n c) (length F.columns.items) (λ d ld.
         none_by (is_body_at F H n c && (is_body_at F H n d && nat_lt c d && is_one_slot (column_slot F c) (column_slot F d))) (of_column B6 n d) (two n c d))))
@@ -207,8 +207,13 @@ module _ (F : Facts) (pt : PointsTo) (t : Table) (H : Hierarchy) (table : H.tabl
             let other = and_parts (stands_at H n d) (is_def (column_kind F d)) r.0 in
             let lt = ltb-true c d r.1 in
             B.apart c d n one.1
-            (record { body = other.1; slot = one_slot_says (column_slot F c) (column_slot F d) q.1; other = λ x. omega (arith, x, lt); stands =
-                stands_says n d other.0 })
+            (record {
+              body = other.1;
+              slot = one_slot_says (column_slot F c) (column_slot F d) q.1;
+              other = λ x. omega (arith, x, lt);
+              stands =
+                  stands_says n d other.0;
+            })
             (stands_says n c one.0)
 
     differ_says : (x y : Bool) → differ x y ≡ true → ((x ≡ true) × (y ≡ false)) ⊎ ((x ≡ false) × (y ≡ true))
@@ -223,7 +228,7 @@ module _ (F : Facts) (pt : PointsTo) (t : Table) (H : Hierarchy) (table : H.tabl
         first_below_clear (λ t. first_below (length F.sites.items) (wrong_outcome F pt H p t)) (length F.rows.items) (λ k lk.
         first_below_clear (wrong_outcome F pt H p k) (length F.sites.items) (λ s ls.
         none_by (meets F pt p k s && differ (row_le H (site_row F s) k) (below F (site_class F s) (row_class F k)))
-            (of_row B7 (place_of_site F H s) (place_of_row H k) (site_row F s)) (λ h.
+        (of_row B7 (place_of_site F H s) (place_of_row H k) (site_row F s)) (λ h.
         let a = and_parts (meets F pt p k s) (differ (row_le H (site_row F s) k) (below F (site_class F s) (row_class F k))) h in
         let met = any_below_has (λ p. meets F pt p k s) (places_of F) p lp a.0 in
         ⊎_elim

@@ -67,11 +67,11 @@ module _ (F : Facts) where
   member_at (suc n) c lt =
       ⊎_elim
       (λ before. get_or_append_left (member_names F n) (named_member F (member_names F n) n ∷ []) [] c (omega (arith, before, members_len n))
-          ∙ member_at n c before)
+      ∙ member_at n c before)
       (λ last.
       let e : c ≡ n = omega (arith, lt, last) in
       get_or_push (member_names F n) (named_member F (member_names F n) n) [] c (omega (arith, e, members_len n))
-          ∙ ap (λ k. named_member F (member_names F k) k) (sym e))
+      ∙ ap (λ k. named_member F (member_names F k) k) (sym e))
       (cases_lt c n)
 
   -- what is named by itself keeps its name
@@ -121,7 +121,7 @@ module _ (F : Facts) where
     pub type_no_member : (n k c : ℕ) → k < n → c < C → get_or (ts n) k [] ≢ get_or ms c []
     type_no_member n k c lt cl e =
         not_taken ms (named_type F os (ms ++ ts k) k) (get_or ms c []) (type_free k).1 (Contains-get_or ms c [] (omega (arith, cl, members_len C)))
-            (sym (type_at n k lt) ∙ e)
+        (sym (type_at n k lt) ∙ e)
 
     earlier : (n j k : ℕ) → j < k → k < n → get_or (ts n) k [] ≢ get_or (ts n) j []
     earlier n j k jk kn e =
@@ -188,12 +188,12 @@ module _ (F : Facts) where
     made_no_word : (c : ℕ) (x : List ℕ) → c < C → is_shared F c ≡ true → Contains F.words.items x → get_or (member_names F C) c [] ≢ x
     made_no_word c x lt e has same =
         not_taken F.words.items (free_name (F.words.items ++ member_names F c) (joined (name_of F c) (class_name F (column_class F c)))) x
-            (made_free c).0 has (sym (member_new c lt e) ∙ same)
+        (made_free c).0 has (sym (member_new c lt e) ∙ same)
 
     made_before : (c d : ℕ) → d < c → c < C → is_shared F c ≡ true → get_or (member_names F C) c [] ≢ get_or (member_names F C) d []
     made_before c d dc lt e same =
         not_taken (member_names F c) (free_name (F.words.items ++ member_names F c) (joined (name_of F c) (class_name F (column_class F c))))
-            (get_or (member_names F c) d []) (made_free c).1
+        (get_or (member_names F c) d []) (made_free c).1
         (Contains-get_or (member_names F c) d [] (omega (arith, dc, members_len c)))
         (sym (member_new c lt e) ∙ same ∙ member_at C d (omega (arith, dc, lt)) ∙ sym (member_at c d dc))
 
@@ -205,7 +205,7 @@ module _ (F : Facts) where
         (λ e.
         let w = name_word (name_of F c) word in
         ap is_name (member_new c lt e) ∙ made_name (F.words.items ++ member_names F c) (name_of F c) (class_name F (column_class F c)) (inr w)
-            (class_parts (column_class F c)) (let some = word_long (name_of F c) w in omega (arith, some)))
+        (class_parts (column_class F c)) (let some = word_long (name_of F c) w in omega (arith, some)))
         (λ e. ap is_name (member_old c lt e) ∙ word)
         (cases_Bool (is_shared F c))
       where
@@ -229,8 +229,8 @@ module _ (F : Facts) where
     past_name : (c : ℕ) → C ≤ c → new_name c ≡ name_of F c
     past_name c past =
         get_or_past (member_names F C) c [] (omega (arith, past, members_len C))
-            ∙ sym (ap (λ (k : ColumnInfo). k.name)
-            (get_or_past F.columns.items c (record { kind = Is; class = record { 0 = 0 }; slot = None; name = []; label = [] }) past))
+        ∙ sym (ap (λ (k : ColumnInfo). k.name)
+        (get_or_past F.columns.items c (record { kind = Is; class = record { 0 = 0 }; slot = None; name = []; label = [] }) past))
 
     pub fields_named : (pt : PointsTo) (t : Table) → AreNamed (given F pt t) (λ c. is_field (column_kind F c)) (is_shared F) (name_of F) new_name
     fields_named pt t = record {
@@ -247,19 +247,19 @@ module _ (F : Facts) where
       again = λ c d fc fd e le ne.
           let strict : is_strictly_above F (column_class F c) (column_class F d) ≡ true =
           and_from (not (eqb (column_class F c) (column_class F d))) (below F (column_class F c) (column_class F d))
-              (ap not (ne_eqb (column_class F c) (column_class F d) ne)) le in
+          (ap not (ne_eqb (column_class F c) (column_class F d) ne)) le in
           let one : bytes_eq (name_of F c) (name_of F d) ≡ true = (bytes_eq-Decides (name_of F c) (name_of F d)).1 e in
           let mate : is_namesake_above F c d ≡ true =
           and_from (is_field (column_kind F d) && bytes_eq (name_of F c) (name_of F d)) (is_strictly_above F (column_class F c) (column_class F d))
-              (and_from (is_field (column_kind F d)) (bytes_eq (name_of F c) (name_of F d)) fd one) strict in
+          (and_from (is_field (column_kind F d)) (bytes_eq (name_of F c) (name_of F d)) fd one) strict in
           and_from (is_field (column_kind F c)) (any_below C (λ d. is_namesake_above F c d)) fc (any_below_has (λ d. is_namesake_above F c d) C d
-              (field_below d fd) mate);
+          (field_below d fd) mate);
       chain = λ a c d fc fd ac ad.
           ⊎_elim
           (λ h. inl ((below-exact F O.classes.acyclic (column_class F c) (column_class F d)).1 h))
           (λ h. inr ((below-exact F O.classes.acyclic (column_class F d) (column_class F c)).1 h))
           (chain F O a (column_class F c) (column_class F d) (field_class c fc) (field_class d fd) (is_le a (column_class F c) ac)
-              (is_le a (column_class F d) ad));
+          (is_le a (column_class F d) ad));
     }
 
     -- a name of the text that is reserved stands in the words, or is one that the language has
@@ -282,14 +282,14 @@ module _ (F : Facts) where
     type_no_variable os n k lt =
         no_any (λ v. bytes_eq v (get_or (type_names F (member_names F C) os n) k [])) F.vars.items (λ v c h.
         type_no_word os n k v lt (All-contains (Contains F.words.items) F.vars.items v O.names.vars c)
-            (sym ((bytes_eq-Decides v (get_or (type_names F (member_names F C) os n) k [])).0 h)))
+        (sym ((bytes_eq-Decides v (get_or (type_names F (member_names F C) os n) k [])).0 h)))
 
     -- a field's name is not reserved
     pub field_unreserved : (c : ℕ) → is_field (column_kind F c) ≡ true → is_reserved F (new_name c) ≡ false
     field_unreserved c f =
         ⊎_elim
         (λ e. marked_free (new_name c) (λ x has. made_no_word c x (field_below c f) e has) (ap has_mark (member_new c (field_below c f) e)
-            ∙ made_mark (F.words.items ++ member_names F c) (name_of F c) (class_name F (column_class F c))))
+        ∙ made_mark (F.words.items ++ member_names F c) (name_of F c) (class_name F (column_class F c))))
         (λ e. ap (is_reserved F) (member_old c (field_below c f) e) ∙ old c f)
         (cases_Bool (is_shared F c))
       where
@@ -305,11 +305,11 @@ module _ (F : Facts) where
             let kind = field_is (column_kind F c) f in
             let others = O.names.others c (field_below c f) kind in
             or_none (list_any (λ (k : ClassInfo). k.holder && bytes_eq k.name (name_of F c)) F.classes.items)
-                (list_any (λ k. bytes_eq k (name_of F c)) known_names)
+            (list_any (λ k. bytes_eq k (name_of F c)) known_names)
             (no_any (λ (k : ClassInfo). k.holder && bytes_eq k.name (name_of F c)) F.classes.items (λ k has h.
             let p = and_parts k.holder (bytes_eq k.name (name_of F c)) h in
             All-contains (λ (k : ClassInfo). k.holder ≡ true → name_of F c ≢ k.name) F.classes.items k (O.names.fields c (field_below c f) kind) has
-                p.0 (sym ((bytes_eq-Decides k.name (name_of F c)).0 p.1))))
+            p.0 (sym ((bytes_eq-Decides k.name (name_of F c)).0 p.1))))
             (no_any (λ k. bytes_eq k (name_of F c)) known_names (λ k has h. known c k has ((bytes_eq-Decides k (name_of F c)).0 h) others))
 
     -- a method keeps its name

@@ -80,9 +80,11 @@ module _ (F : Facts) (pt : PointsTo) (t : Table) (l : Lattice) (T : IsTable F t)
   there : (r c : ℕ) → bit (row rows r) c ≡ true → (n : ℕ) × (option_map (λ (p : NodeId). p.0) (place_of_column H c) ≡ Some n)
   there r c h =
       let p = column_stands rows t.width widths ps all r c h in
-      let lt : c < length F.columns.items = omega (arith, column_below rows t.width widths r c h, T.sized.columns) in
-      (p.0.0, ap (option_map (λ (p : NodeId). p.0)) (get_or-map-range_with_len (column_place rows ps) 0 (length F.columns.items) c c None lt
-          (omega arith) ∙ p.1))
+      let lt : c < length F.columns.items = omega (arith, column_below rows t.width widths r c h, T.sized.columns) in (
+        p.0.0,
+        ap (option_map (λ (p : NodeId). p.0)) (get_or-map-range_with_len (column_place rows ps) 0 (length F.columns.items) c c None lt
+            (omega arith) ∙ p.1),
+      )
 
   pub start_shape : IsStart (given F pt t) (shape H)
   start_shape = record {

@@ -49,7 +49,7 @@ module _ (T : List (List Bool)) (w : ℕ) (widths : HasWidth w T) (ps : List Pai
   pub le_test : (a b : ℕ) → IsLe a b → is_le (order_of ps) a b ≡ true
   le_test a b h =
       node-le T w widths ps A a b h.lower h.upper ∙ and_from (is_filled (extent_at a)) (is_subset (extent_at a) (extent_at b)) h.filled
-          (subset-complete (extent_at a) (extent_at b) h.subset)
+      (subset-complete (extent_at a) (extent_at b) h.subset)
 
   is : (k : ℕ) → k < length ps → IsConcept T w (extent_at k) (concept_at ps k).1
   is = concept_is T w widths ps A
@@ -74,7 +74,7 @@ module _ (T : List (List Bool)) (w : ℕ) (widths : HasWidth w T) (ps : List Pai
 
   pub rows_le : (r v : ℕ) (lr : r < length T) (lv : v < length T)
       → (is_le (order_of ps) (node_of r lr).at (node_of v lv).at ≡ true → IsSubset (row T v) (row T r)) × (IsSubset (row T v) (row T r)
-          → is_le (order_of ps) (node_of r lr).at (node_of v lv).at ≡ true)
+      → is_le (order_of ps) (node_of r lr).at (node_of v lv).at ≡ true)
   rows_le r v lr lv = (
     λ h. (in_row_extent v r lv lr).0 ((le_says (node_of r lr).at (node_of v lv).at h).subset r ((in_row_extent r r lr lr).1 (λ i k. k))),
     λ s. le_test (node_of r lr).at (node_of v lv).at (record {
@@ -104,7 +104,7 @@ module _ (T : List (List Bool)) (w : ℕ) (widths : HasWidth w T) (ps : List Pai
 
   pub row_column_le : (r c : ℕ) (lr : r < length T) (p : NodeId) → At c p
       → (is_le (order_of ps) (node_of r lr).at p.0 ≡ true → bit (row T r) c ≡ true)
-          × (bit (row T r) c ≡ true → is_le (order_of ps) (node_of r lr).at p.0 ≡ true)
+      × (bit (row T r) c ≡ true → is_le (order_of ps) (node_of r lr).at p.0 ≡ true)
   row_column_le r c lr p at = (
     λ h. (in_column c r p at).0 ((le_says (node_of r lr).at p.0 h).subset r ((in_row_extent r r lr lr).1 (λ i k. k))),
     λ h. le_test (node_of r lr).at p.0 (record {
@@ -117,7 +117,7 @@ module _ (T : List (List Bool)) (w : ℕ) (widths : HasWidth w T) (ps : List Pai
 
   pub columns_le : (c d : ℕ) (p q : NodeId) → At c p → At d q
       → (is_le (order_of ps) p.0 q.0 ≡ true → (r : ℕ) → bit (row T r) c ≡ true → bit (row T r) d ≡ true)
-          × (((r : ℕ) → bit (row T r) c ≡ true → bit (row T r) d ≡ true) → is_le (order_of ps) p.0 q.0 ≡ true)
+      × (((r : ℕ) → bit (row T r) c ≡ true → bit (row T r) d ≡ true) → is_le (order_of ps) p.0 q.0 ≡ true)
   columns_le c d p q ac ad = (
     λ h r k. (in_column d r q ad).0 ((le_says p.0 q.0 h).subset r ((in_column c r p ac).1 k)),
     λ all. le_test p.0 q.0 (record {
@@ -130,7 +130,7 @@ module _ (T : List (List Bool)) (w : ℕ) (widths : HasWidth w T) (ps : List Pai
 
   pub column_row_le : (c r : ℕ) (p : NodeId) (lr : r < length T) → At c p
       → (is_le (order_of ps) p.0 (node_of r lr).at ≡ true → (v : ℕ) → bit (row T v) c ≡ true → IsSubset (row T r) (row T v))
-          × (((v : ℕ) → bit (row T v) c ≡ true → IsSubset (row T r) (row T v)) → is_le (order_of ps) p.0 (node_of r lr).at ≡ true)
+      × (((v : ℕ) → bit (row T v) c ≡ true → IsSubset (row T r) (row T v)) → is_le (order_of ps) p.0 (node_of r lr).at ≡ true)
   column_row_le c r p lr at = (
     λ h v k. (in_row_extent r v lr (bit-row-below T v c k)).0 ((le_says p.0 (node_of r lr).at h).subset v ((in_column c v p at).1 k)),
     λ all. le_test p.0 (node_of r lr).at (record {

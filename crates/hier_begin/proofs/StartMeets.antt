@@ -106,7 +106,7 @@ module _ (F : Facts) (pt : PointsTo) (t : Table) (l : Lattice) (A : AreAnalysed 
       let p = and_parts (not (eqb m.0 n)) (is_named H (type_name H n) m.0) m.2 in
       let q = and_parts (is_live H.order m.0) (bytes_eq (type_name H m.0) (type_name H n)) p.1 in
       types_apart F (origins_of F ps) W m.0 n (live_below m.0 q.0) lt (λ e. refuted (eqb m.0 n) p.0 (eq-eqb m.0 n e))
-          ((bytes_eq-Decides (type_name H m.0) (type_name H n)).0 q.1)
+      ((bytes_eq-Decides (type_name H m.0) (type_name H n)).0 q.1)
 
   taken_type_none : first_taken_type F H ≡ None
   taken_type_none =
@@ -163,7 +163,7 @@ module _ (F : Facts) (pt : PointsTo) (t : Table) (l : Lattice) (A : AreAnalysed 
       let b = slot_of_method (column_kind F d) (column_slot F d) two.1 two.3 in
       let r = offered_row G (roles F pt t) closes ordered (shape H) shown n c d (offers n c oc) (offers n d od) in
       let up = λ (k : ℕ) (g : bit (row t.rows.items r.0) k ≡ true). (below-exact F A.order.classes.acyclic (row_class F r.0) (column_class F k)).0
-          (closes.above r.0 k g) in
+      (closes.above r.0 k g) in
       two.4 (A.order.members.slots (row_class F r.0) c d two.0 two.1 a.1 b.1 (up c r.1) (up d r.2)
       (sym (method_name F A.range A.order c lc a.0) ∙ e ∙ method_name F A.range A.order d ld b.0))
 
@@ -172,7 +172,7 @@ module _ (F : Facts) (pt : PointsTo) (t : Table) (l : Lattice) (A : AreAnalysed 
   fields_apart n c d lt oc od e h =
       let f = and_parts (is_field (column_kind F c)) (is_field (column_kind F d)) h in
       let same = start_fields G (roles F pt t) closes ordered (shape H) shown (λ c. is_field (column_kind F c)) (is_shared F) (name_of F)
-          (new_name F A.range A.order) (fields_named F A.range A.order pt t) n c d f.0 f.1 (offers n c oc) (offers n d od) e in
+      (new_name F A.range A.order) (fields_named F A.range A.order pt t) n c d f.0 f.1 (offers n c oc) (offers n d od) e in
       omega (arith, same, lt)
 
   confused_none : first_confused F H ≡ None
@@ -185,19 +185,19 @@ module _ (F : Facts) (pt : PointsTo) (t : Table) (l : Lattice) (A : AreAnalysed 
       let q = and_parts (is_offered H n c.0) (clash F H c.0 d) c.2 in
       let k = and_parts (bytes_eq (member_name H c.0) (member_name H d))
       ((is_field (column_kind F c.0) && is_field (column_kind F d)) || are_two_slots (method_slot (column_kind F c.0) (column_slot F c.0))
-          (method_slot (column_kind F d) (column_slot F d))) q.1 in
+      (method_slot (column_kind F d) (column_slot F d))) q.1 in
       let e = (bytes_eq-Decides (member_name H c.0) (member_name H d)).0 k.0 in
       ⊎_elim
       (fields_apart n c.0 d c.1 q.0 p.0 e)
       (slots_apart n c.0 d (omega (arith, c.1, ld)) ld q.0 p.0 e)
       (or_cases (is_field (column_kind F c.0) && is_field (column_kind F d)) (are_two_slots (method_slot (column_kind F c.0) (column_slot F c.0))
-          (method_slot (column_kind F d) (column_slot F d))) k.1))))
+      (method_slot (column_kind F d) (column_slot F d))) k.1))))
 
   misnamed_none : first_misnamed F H ≡ None
   misnamed_none =
       none_both (first_unwritable F H) (or_else (first_taken_type F H) (or_else (first_taken_field F H) (first_confused F H))) unwritable_none
       (none_both (first_taken_type F H) (or_else (first_taken_field F H) (first_confused F H)) taken_type_none
-          (none_both (first_taken_field F H) (first_confused F H) taken_field_none confused_none))
+      (none_both (first_taken_field F H) (first_confused F H) taken_field_none confused_none))
 
   pub edit_none : first_of_edit F pt H ≡ None
   edit_none =
@@ -207,10 +207,10 @@ module _ (F : Facts) (pt : PointsTo) (t : Table) (l : Lattice) (A : AreAnalysed 
       let run : first_changed_run F pt H ≡ None =
       none_both (first_wrong_need F pt H) (or_else (first_wrong_super F H) (or_else (first_two_bodies F H) (first_wrong_outcome F pt H))) r.2
       (none_both (first_wrong_super F H) (or_else (first_two_bodies F H) (first_wrong_outcome F pt H)) r.3
-          (none_both (first_two_bodies F H) (first_wrong_outcome F pt H) r.4 r.5)) in
+      (none_both (first_two_bodies F H) (first_wrong_outcome F pt H) r.4 r.5)) in
       none_both (first_unoffered F H) (or_else (first_untied F pt H) (or_else (first_changed_run F pt H) (first_misnamed F H))) r.0
       (none_both (first_untied F pt H) (or_else (first_changed_run F pt H) (first_misnamed F H)) r.1
-          (none_both (first_changed_run F pt H) (first_misnamed F H) run misnamed_none))
+      (none_both (first_changed_run F pt H) (first_misnamed F H) run misnamed_none))
 
 pub start_meets : StartMeets
 start_meets F pt t l A = edit_none F pt t l A

@@ -80,7 +80,7 @@ joined_mark a b = list_any-append (eqb 95) a (95 ∷ b) ∙ or_right (has_mark a
 pub made_mark : (taken : List (List ℕ)) (a b : List ℕ) → has_mark (free_name taken (joined a b)) ≡ true
 made_mark taken a b =
     list_any-append (eqb 95) (joined a b) (replicate (underscores taken (joined a b)) 95)
-        ∙ or_left (has_mark (joined a b)) (has_mark (replicate (underscores taken (joined a b)) 95)) (joined_mark a b)
+    ∙ or_left (has_mark (joined a b)) (has_mark (replicate (underscores taken (joined a b)) 95)) (joined_mark a b)
 
 -- no name that the language has has one
 pub known_unmarked : (name : List ℕ) → has_mark name ≡ true → list_any (λ k. bytes_eq k name) known_names ≡ false
@@ -107,7 +107,7 @@ no_key : (ks : List Keyword) (name : List ℕ) → list_all (λ k. not (has_mark
 no_key [] name all mark long = refl
 no_key (k ∷ ks) name all mark long =
     let p = and_parts (not (has_mark (key_text k)) || eqb (length (key_text k)) 1)
-        (list_all (λ k. not (has_mark (key_text k)) || eqb (length (key_text k)) 1) ks) all in
+    (list_all (λ k. not (has_mark (key_text k)) || eqb (length (key_text k)) 1) ks) all in
     ⊎_elim
     (λ e. absurd (let same = (bytes_eq-Decides (key_text k) name).0 e in
     ⊎_elim
@@ -142,7 +142,7 @@ joined_word (c ∷ cs) rest h k =
     (λ e. absurd (cc e))
     (λ w. let p = and_parts (is_start c) (list_all is_part cs) w in
     and_from (is_start c) (list_all is_part (cs ++ 95 ∷ rest)) p.0
-        (both_parts cs (95 ∷ rest) p.1 (and_from (is_part 95) (list_all is_part rest) mark_is_part k)))
+    (both_parts cs (95 ∷ rest) p.1 (and_from (is_part 95) (list_all is_part rest) mark_is_part k)))
     h
 
 append_twice : (a b c : List ℕ) → (a ++ 95 ∷ b) ++ c ≡ a ++ 95 ∷ (b ++ c)
@@ -156,10 +156,10 @@ made_name taken a b w parts some =
     let k = underscores taken (joined a b) in
     let word : is_word (free_name taken (joined a b)) ≡ true =
     subst (λ y. is_word y ≡ true) (sym (append_twice a b (replicate k 95)))
-        (joined_word a (b ++ replicate k 95) w (both_parts b (replicate k 95) parts (marks_are_parts k))) in
+    (joined_word a (b ++ replicate k 95) w (both_parts b (replicate k 95) parts (marks_are_parts k))) in
     let long : 1 < length (free_name taken (joined a b)) = omega (arith, length-append (joined a b) (replicate k 95), length-append a (95 ∷ b), some) in
     and_from (is_word (free_name taken (joined a b))) (is_none (key_of (free_name taken (joined a b)))) word
-        (no_key KEYWORDS (free_name taken (joined a b)) short_keys (made_mark taken a b) long)
+    (no_key KEYWORDS (free_name taken (joined a b)) short_keys (made_mark taken a b) long)
 
 -- the digits of a number may stand in a name
 pub decimal_parts : (n : ℕ) → n < 2 ^ 64 → list_all is_part (decimal n) ≡ true

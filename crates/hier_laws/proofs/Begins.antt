@@ -89,7 +89,7 @@ module _ (G : Given) (R : Roles) (T : IsClosed G R) (O : AreInOrder G R) (S : Sh
       let has = has_above r e m (T.rows r d (T.by_super r d k)) is.stands le in
       is.other (O.one_body e d is.body (O.super_body r d k).0 is.slot
       (O.both (G.class_of e) (G.class_of d) (under_class d e is.body u) (O.super_nearest r d e k is.body is.slot (T.above r e has)
-          (own r d e m k is le strict))))
+      (own r d e m k is le strict))))
 
   above : (r d : ℕ) → G.runs r d ≡ true → S.column d ≢ Some (S.row r)
   above r d k at =
@@ -103,7 +103,7 @@ module _ (G : Given) (R : Roles) (T : IsClosed G R) (O : AreInOrder G R) (S : Sh
       let u = (B.under d mine.0 (S.row r) place.0 at place.1).0 le in
       let up = under_class mine.0 d body.0 u in
       body.1 (O.both (G.class_of d) (G.row_class r) (subst (λ x. G.below (G.class_of d) x ≡ true) (sym (O.this_body r mine.0 mine.1).1) up)
-          (T.above r d (T.by_super r d k)))
+      (T.above r d (T.by_super r d k)))
 
   apart : (d e n : ℕ) → G.is_body d ≡ true → IsOther G S d e n → S.column d ≢ Some n
   apart d e n bd is at =
@@ -128,9 +128,12 @@ module _ (G : Given) (R : Roles) (T : IsClosed G R) (O : AreInOrder G R) (S : Sh
   -- what a node offers some row has
   pub offered_row : (n c d : ℕ) → Offers S n c → Offers S n d → (r : ℕ) × (G.has r c ≡ true) × (G.has r d ≡ true)
   offered_row n c d f g =
-      let r = B.extent n f.at f.above in
-      (r.0, has_above r.0 c f.at r.1 f.stands (B.through (S.row r.0) n f.at r.2 f.above), has_above r.0 d g.at r.1 g.stands
-          (B.through (S.row r.0) n g.at r.2 g.above))
+      let r = B.extent n f.at f.above in (
+        r.0,
+        has_above r.0 c f.at r.1 f.stands (B.through (S.row r.0) n f.at r.2 f.above),
+        has_above r.0 d g.at r.1 g.stands
+            (B.through (S.row r.0) n g.at r.2 g.above),
+      )
 
   module _ (is_field is_made : ℕ → Bool) (old new : ℕ → List ℕ) (N : AreNamed G is_field is_made old new) where
     -- no node offers two fields of one name

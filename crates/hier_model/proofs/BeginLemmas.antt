@@ -47,13 +47,13 @@ use Rattle.hier_model.proofs.StartLemmas.{rows_with-bit, int-length, ext-length,
 pub order_built : (xs : List Pair) (live : List Bool) (le : List (List Bool)) → length live ≡ length xs
     → ((k : ℕ) → k < length xs → bit live k ≡ is_filled (concept_at xs k).0) → length le ≡ length xs
     → ((a : ℕ) → a < length xs → length (row le a) ≡ length xs) → ((a b : ℕ) → a < length xs → b < length xs
-        → bit (row le a) b ≡ (is_filled (concept_at xs a).0 && is_subset (concept_at xs a).0 (concept_at xs b).0))
+    → bit (row le a) b ≡ (is_filled (concept_at xs a).0 && is_subset (concept_at xs a).0 (concept_at xs b).0))
     → (let o : Ordered = record { live = live; le = le } in o) ≡ order_of xs
 order_built xs live le ll lives n widths les =
     let f = λ (k : Pair). is_filled k.0 in
     let g = λ (k : Pair). map (λ (l : Pair). is_filled k.0 && is_subset k.0 l.0) xs in
     let same_live : live ≡ map f xs = same_bits live (map f xs) (ll ∙ sym (length-map xs f)) (λ i lt. lives i (omega (arith, lt, ll))
-        ∙ sym (get_or-map f xs i ([], []) false (omega (arith, lt, ll)))) in
+    ∙ sym (get_or-map f xs i ([], []) false (omega (arith, lt, ll)))) in
     let same_le : le ≡ map g xs =
     ext_get_or [] le (map g xs) (n ∙ sym (length-map xs g))
     (λ a lt.
@@ -64,7 +64,7 @@ order_built xs live le ll lives n widths les =
     (λ b bt. let lb : b < length xs = omega (arith, bt, widths a la) in les a b la lb ∙ sym (get_or-map h xs b ([], []) false lb))
     ∙ sym rowed) in
     ap (λ (l : List Bool). let o : Ordered = record { live = l; le = le } in o) same_live
-        ∙ ap (λ (l : List (List Bool)). let o : Ordered = record { live = map f xs; le = l } in o) same_le
+    ∙ ap (λ (l : List (List Bool)). let o : Ordered = record { live = map f xs; le = l } in o) same_le
 
 -- the same, by the concepts
 pub order_from : (cs : List Concept) (live : List Bool) (le : List (List Bool)) → length live ≡ length cs
@@ -74,7 +74,7 @@ pub order_from : (cs : List Concept) (live : List Bool) (le : List (List Bool)) 
 order_from cs live le ll lives n widths les =
     let e = length-map cs pair_of in
     order_built (map pair_of cs) live le (ll ∙ sym e) (λ k lt. lives k (omega (arith, lt, e))) (n ∙ sym e) (λ a lt. widths a (omega (arith, lt, e))
-        ∙ sym e) (λ a b la lb. les a b (omega (arith, la, e)) (omega (arith, lb, e)))
+    ∙ sym e) (λ a b la lb. les a b (omega (arith, la, e)) (omega (arith, lb, e)))
 
 -- the classes of a list of columns, one column on
 module _ (p : ClassId → Bool) (g : ℕ → ClassId) (N : List ℕ) (i : ℕ) (lt : i < length N) where
@@ -86,14 +86,14 @@ module _ (p : ClassId → Bool) (g : ℕ → ClassId) (N : List ℕ) (i : ℕ) (
   owned_then old new t e =
       ap (λ l. l ++ filter p (map g (drop (i + 1) N))) e ∙ append_assoc old (g (get_or N i 0) ∷ []) (filter p (map g (drop (i + 1) N)))
       ∙ ap (λ l. old ++ l) (sym (ap (λ l. filter p (map g l)) front
-          ∙ ap (λ b. cond b (g (get_or N i 0) ∷ filter p (map g (drop (i + 1) N))) (filter p (map g (drop (i + 1) N)))) t))
+      ∙ ap (λ b. cond b (g (get_or N i 0) ∷ filter p (map g (drop (i + 1) N))) (filter p (map g (drop (i + 1) N)))) t))
 
   pub owned_else : (old new : List ClassId) → p (g (get_or N i 0)) ≡ false → new ≡ old → new ++ filter p (map g (drop (i + 1) N))
       ≡ old ++ filter p (map g (drop i N))
   owned_else old new f e =
       ap (λ l. l ++ filter p (map g (drop (i + 1) N))) e
       ∙ ap (λ l. old ++ l) (sym (ap (λ l. filter p (map g l)) front
-          ∙ ap (λ b. cond b (g (get_or N i 0) ∷ filter p (map g (drop (i + 1) N))) (filter p (map g (drop (i + 1) N)))) f))
+      ∙ ap (λ b. cond b (g (get_or N i 0) ∷ filter p (map g (drop (i + 1) N))) (filter p (map g (drop (i + 1) N)))) f))
 
 -- a number among those of a list
 any_contains : {A : Type 0} (f : A → ℕ) (xs : List A) (c : ℕ) → list_any (λ x. f x == c) xs ≡ true → Contains (map f xs) c
@@ -133,7 +133,7 @@ module _ (T : List (List Bool)) (w : ℕ) (cs : List Concept) (lattice : IsLatti
       let at = placed k x.0 lt x.2 in
       let ext : (concept_at (map pair_of cs) k).0 ≡ x.0.extent = ap (λ (p : Pair). p.0) (pair-is cs k x.0 lt x.2) in
       let listed : lists_column cs k c ≡ list_any (λ (d : ColId). d.0 == c) x.0.columns.items = ap
-          (λ o. option_map_or (λ (y : Concept). list_any (λ (d : ColId). d.0 == c) y.columns.items) o false) x.1 in
+      (λ o. option_map_or (λ (y : Concept). list_any (λ (d : ColId). d.0 == c) y.columns.items) o false) x.1 in
       let filled = is_filled (rows_with T c) in
       let same = is_same_set x.0.extent (rows_with T c) in
       let whole : list_any (λ (d : ColId). d.0 == c) x.0.columns.items ≡ (filled && same) =
@@ -176,20 +176,20 @@ module _ (T : List (List Bool)) (w : ℕ) (cs : List Concept) (lattice : IsLatti
       let at = placed k x.0 lt x.2 in
       let int : (concept_at (map pair_of cs) k).1 ≡ x.0.intent = ap (λ (p : Pair). p.1) (pair-is cs k x.0 lt x.2) in
       let listed : lists_row cs k r ≡ list_any (λ (q : RowId). q.0 == r) x.0.rows.items = ap
-          (λ o. option_map_or (λ (y : Concept). list_any (λ (q : RowId). q.0 == r) y.rows.items) o false) x.1 in
+      (λ o. option_map_or (λ (y : Concept). list_any (λ (q : RowId). q.0 == r) y.rows.items) o false) x.1 in
       let same = is_same_set x.0.intent (row T r) in
       let whole : list_any (λ (q : RowId). q.0 == r) x.0.rows.items ≡ same =
       same_truth (list_any (λ (q : RowId). q.0 == r) x.0.rows.items) same
       (λ h. let s : RowStands T x.0.intent r = ((at.rows.each r).0 (any_contains (λ (q : RowId). q.0) x.0.rows.items r h)).1 in same_set-complete
-          x.0.intent (row T r) s.1 s.0)
+      x.0.intent (row T r) s.1 s.0)
       (λ h. let sets = same_set-sound x.0.intent (row T r) h in contains_any (λ (q : RowId). q.0) x.0.rows.items r
-          ((at.rows.each r).1 (rt, (sets.1, sets.0)))) in
+      ((at.rows.each r).1 (rt, (sets.1, sets.0)))) in
       listed ∙ whole ∙ ap (λ s. is_same_set s (row T r)) (sym int)
 
   column_listed : (c : ℕ) → c < w → listed_column cs c ≡ column_place T (map pair_of cs) c
   column_listed c cw =
       first_below_same (λ k. when (lists_column cs k c) (node k))
-          (λ k. when (is_filled (rows_with T c) && is_same_set (concept_at (map pair_of cs) k).0 (rows_with T c)) (node k)) (length cs)
+      (λ k. when (is_filled (rows_with T c) && is_same_set (concept_at (map pair_of cs) k).0 (rows_with T c)) (node k)) (length cs)
       (λ k lt. ap (λ b. when b (node k)) (column-test k c lt cw))
       ∙ ap (λ n. first_below n (λ k. when (is_filled (rows_with T c) && is_same_set (concept_at (map pair_of cs) k).0 (rows_with T c)) (node k))) (sym count)
 
@@ -197,7 +197,7 @@ module _ (T : List (List Bool)) (w : ℕ) (cs : List Concept) (lattice : IsLatti
   row_listed r rt =
       ap (λ o. unwrap_or o (node 0))
       (first_below_same (λ k. when (lists_row cs k r) (node k)) (λ k. when (is_same_set (concept_at (map pair_of cs) k).1 (row T r)) (node k))
-          (length cs) (λ k lt. ap (λ b. when b (node k)) (row-test k r lt rt))
+      (length cs) (λ k lt. ap (λ b. when b (node k)) (row-test k r lt rt))
       ∙ ap (λ n. first_below n (λ k. when (is_same_set (concept_at (map pair_of cs) k).1 (row T r)) (node k))) (sym count))
 
   pub columns_start : map (listed_column cs) (range_with_len 0 w) ≡ map (column_place T (map pair_of cs)) (range_with_len 0 w)
@@ -207,7 +207,7 @@ module _ (T : List (List Bool)) (w : ℕ) (cs : List Concept) (lattice : IsLatti
       (λ i lt.
       let il : i < w = omega (arith, lt, length-map-range_with_len (listed_column cs) 0 w) in
       get_or-map-range_with_len (listed_column cs) 0 w i i None il (omega arith) ∙ column_listed i il
-          ∙ sym (get_or-map-range_with_len (column_place T (map pair_of cs)) 0 w i i None il (omega arith)))
+      ∙ sym (get_or-map-range_with_len (column_place T (map pair_of cs)) 0 w i i None il (omega arith)))
 
   pub rows_start : map (row_node cs) (range_with_len 0 (length T)) ≡ map (row_place (map pair_of cs)) T
   rows_start =
@@ -216,7 +216,7 @@ module _ (T : List (List Bool)) (w : ℕ) (cs : List Concept) (lattice : IsLatti
       (λ i lt.
       let il : i < length T = omega (arith, lt, length-map-range_with_len (row_node cs) 0 (length T)) in
       get_or-map-range_with_len (row_node cs) 0 (length T) i i (node 0) il (omega arith) ∙ row_listed i il
-          ∙ sym (get_or-map (row_place (map pair_of cs)) T i [] (node 0) il))
+      ∙ sym (get_or-map (row_place (map pair_of cs)) T i [] (node 0) il))
 
   -- what the parts of the start ask of the lattice
   module _ (widths : HasWidth w T) where
@@ -237,19 +237,47 @@ module _ (T : List (List Bool)) (w : ℕ) (cs : List Concept) (lattice : IsLatti
 pub same_parts : (o o2 : Ordered) (cs cs2 : List (Option NodeId)) (rs rs2 : List NodeId) (ts ts2 ms ms2 : List (List ℕ))
     (os os2 : List (Option ClassId)) (T T2 : List (List Bool)) → o ≡ o2 → cs ≡ cs2 → rs ≡ rs2 → ts ≡ ts2 → ms ≡ ms2 → os ≡ os2 → T ≡ T2
     → (let h : Hierarchy = record { order = o; columns = cs; rows = rs; types = ts; members = ms; origins = os; table = T } in h)
-        ≡ record { order = o2; columns = cs2; rows = rs2; types = ts2; members = ms2; origins = os2; table = T2 }
+    ≡ record { order = o2; columns = cs2; rows = rs2; types = ts2; members = ms2; origins = os2; table = T2 }
 same_parts o o2 cs cs2 rs rs2 ts ts2 ms ms2 os os2 T T2 e1 e2 e3 e4 e5 e6 e7 =
     ap (λ (x : Ordered). let h : Hierarchy = record { order = x; columns = cs; rows = rs; types = ts; members = ms; origins = os; table = T } in h) e1
-    ∙ ap (λ (x : List (Option NodeId)). let h : Hierarchy = record { order = o2; columns = x; rows = rs; types = ts; members = ms; origins = os;
-        table = T } in h) e2
+    ∙ ap (λ (x : List (Option NodeId)). let h : Hierarchy = record {
+      order = o2;
+      columns = x;
+      rows = rs;
+      types = ts;
+      members = ms;
+      origins = os;
+      table = T;
+    } in h) e2
     ∙ ap (λ (x : List NodeId). let h : Hierarchy = record { order = o2; columns = cs2; rows = x; types = ts; members = ms; origins = os; table = T } in h) e3
     ∙ ap (λ (x : List (List ℕ)). let h : Hierarchy = record { order = o2; columns = cs2; rows = rs2; types = x; members = ms; origins = os; table = T } in h) e4
-    ∙ ap (λ (x : List (List ℕ)). let h : Hierarchy = record { order = o2; columns = cs2; rows = rs2; types = ts2; members = x; origins = os;
-        table = T } in h) e5
-    ∙ ap (λ (x : List (Option ClassId)). let h : Hierarchy = record { order = o2; columns = cs2; rows = rs2; types = ts2; members = ms2; origins = x;
-        table = T } in h) e6
-    ∙ ap (λ (x : List (List Bool)). let h : Hierarchy = record { order = o2; columns = cs2; rows = rs2; types = ts2; members = ms2; origins = os2;
-        table = x } in h) e7
+    ∙ ap (λ (x : List (List ℕ)). let h : Hierarchy = record {
+      order = o2;
+      columns = cs2;
+      rows = rs2;
+      types = ts2;
+      members = x;
+      origins = os;
+      table = T;
+    } in h) e5
+    ∙ ap (λ (x : List (Option ClassId)). let h : Hierarchy = record {
+      order = o2;
+      columns = cs2;
+      rows = rs2;
+      types = ts2;
+      members = ms2;
+      origins = x;
+      table = T;
+    } in h) e6
+    ∙ ap (λ (x : List (List Bool)). let h : Hierarchy = record {
+      order = o2;
+      columns = cs2;
+      rows = rs2;
+      types = ts2;
+      members = ms2;
+      origins = os2;
+      table = x;
+    } in h) e7
 
 -- the names of members and types
 member_names-length : (F : Facts) (n : ℕ) → length (member_names F n) ≡ n
@@ -261,16 +289,19 @@ member_names-at F zero c lt = absurd (omega (arith, lt))
 member_names-at F (suc n) c lt =
     ⊎_elim
     (λ less. get_or_append_left (member_names F n) (named_member F (member_names F n) n ∷ []) [] c (omega (arith, less, member_names-length F n))
-        ∙ member_names-at F n c less)
+    ∙ member_names-at F n c less)
     (λ last. let e : n ≡ c = omega (arith, last, lt) in get_or_push (member_names F n) (named_member F (member_names F n) n) [] c
-        (member_names-length F n ∙ e) ∙ ap (λ k. named_member F (member_names F k) k) e)
+    (member_names-length F n ∙ e) ∙ ap (λ k. named_member F (member_names F k) k) e)
     (cases_lt c n)
 
 type_names-length : (F : Facts) (members : List (List ℕ)) (os : List (Option ClassId)) (n : ℕ) → length (type_names F members os n) ≡ n
 type_names-length F members os zero = refl
 type_names-length F members os (suc n) =
-    omega (arith, length_push (type_names F members os n) (named_type F os (members ++ type_names F members os n) n),
-    type_names-length F members os n)
+    omega (
+      arith,
+      length_push (type_names F members os n) (named_type F os (members ++ type_names F members os n) n),
+      type_names-length F members os n,
+    )
 
 method_kind : (k : ColKind) → is_method k ≡ true → is_field k ≡ false
 method_kind Dcl h = refl
@@ -336,8 +367,13 @@ module _ (F : Facts) (R : InRange F) (O : InOrder F) (T : List (List Bool)) (kee
       let nl : n < length xs = omega (arith, bit-below (order_of xs).live n h, nodes-count T (length F.columns.items) keeps.widths xs all) in
       let filled : is_filled (concept_at xs n).0 ≡ true = sym (get_or-map (λ (k : Pair). is_filled k.0) xs n ([], []) false nl) ∙ h in
       let i = filled-some (concept_at xs n).0 filled in
-      let il : i.0 < length F.rows.items = omega (arith, bit-below (concept_at xs n).0 i.0 i.1, ext-length T (length F.columns.items) keeps.widths xs
-          all n nl, keeps.rows) in
+      let il : i.0 < length F.rows.items = omega (
+        arith,
+        bit-below (concept_at xs n).0 i.0 i.1,
+        ext-length T (length F.columns.items) keeps.widths xs
+            all n nl,
+        keeps.rows,
+      ) in
       let info : RowInfo = record { label = []; class = record { 0 = 0 }; dim = 0; site = None; this_of = None } in
       let class = (R.rows i.0 info il).0 in
       omega (arith, class)
@@ -357,9 +393,9 @@ module _ (F : Facts) (R : InRange F) (O : InOrder F) (T : List (List Bool)) (kee
       columns = λ c p e.
           ⊎_elim
           (λ lt. column_lives T (length F.columns.items) keeps.widths xs all c p
-              (sym (get_or-map-range_with_len (column_place T xs) 0 (length F.columns.items) c c None lt (omega arith)) ∙ e))
+          (sym (get_or-map-range_with_len (column_place T xs) 0 (length F.columns.items) c c None lt (omega arith)) ∙ e))
           (λ past. absurd (cc (sym (get_or_past (start_of F T xs).columns c None
-              (omega (arith, past, length-map-range_with_len (column_place T xs) 0 (length F.columns.items)))) ∙ e)))
+          (omega (arith, past, length-map-range_with_len (column_place T xs) 0 (length F.columns.items)))) ∙ e)))
           (cases_lt c (length F.columns.items));
       rows = λ r lt. subst (λ (n : NodeId). is_live (order_of xs) n.0 ≡ true) (sym (row-at r (row-inside r lt)))
           (row_lives T (length F.columns.items) keeps.widths xs all r (row-inside r lt));
@@ -367,7 +403,7 @@ module _ (F : Facts) (R : InRange F) (O : InOrder F) (T : List (List Bool)) (kee
           let rt : r < length T = row-inside r (this-below F r d e) in
           let dt : d.0 < length F.columns.items = this-column F R r d e in
           get_or-map-range_with_len (column_place T xs) 0 (length F.columns.items) d.0 d.0 None dt (omega arith)
-              ∙ this_stands F R T keeps xs all r d e ∙ ap Some (sym (row-at r rt));
+          ∙ this_stands F R T keeps xs all r d e ∙ ap Some (sym (row-at r rt));
     };
     names = λ a b x ma mb ea eb.
         member_names-at F (length F.columns.items) a (slot-below F a x ea) ∙ method_name F (member_names F a) a ma
@@ -376,7 +412,7 @@ module _ (F : Facts) (R : InRange F) (O : InOrder F) (T : List (List Bool)) (kee
     origins = λ n h.
         let nl : n < length xs = omega (arith, bit-below (order_of xs).live n h, nodes-count T (length F.columns.items) keeps.widths xs all) in
         subst (λ o. IfSome o (IsClass F)) (sym (get_or-map (λ (k : Pair). start_origin F k.1) xs n ([], []) None nl))
-            (start_class F R (some-class n h) (concept_at xs n).1);
+        (start_class F R (some-class n h) (concept_at xs n).1);
     table = keeps;
   }
     where

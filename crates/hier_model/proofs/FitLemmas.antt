@@ -80,8 +80,8 @@ module _ (o : Ordered) (p : IsPartialOrder o) where
         (made_widths o (is_live o) (λ a b. is_le o a b || (is_le o a n && is_le o q b)) (λ a h. bit-below o.live a h) under_below)
         under_live under_pairs nl ql
         (λ h. ⊎_elim (λ e. e) (λ ne. absurd
-            (false≢true (sym none ∙ and_from (is_le o q n) (not (q == n)) h (⊎_elim (λ t. absurd (ne (eqb-true q n t))) (λ f. ap not f)
-            (cases_Bool (q == n)))))) (cases_eq q n))
+        (false≢true (sym none ∙ and_from (is_le o q n) (not (q == n)) h (⊎_elim (λ t. absurd (ne (eqb-true q n t))) (λ f. ap not f)
+        (cases_Bool (q == n)))))) (cases_eq q n))
 
   module _ (n : ℕ) where
     dropped_below : (a b : ℕ) → (is_le o a b && not (a == n) && not (b == n)) ≡ true → (a < length o.live) × (b < length o.live)
@@ -180,8 +180,15 @@ module _ (F : Facts) (R : InRange F) (H : Hierarchy) (fit : IsHierarchyOf F H) w
       → ((c : ℕ) (p : NodeId) → place_of_column H c ≡ Some p → is_live o p.0 ≡ true) → ((r : ℕ) → r < length F.rows.items → is_live o (place_of_row H r) ≡ true)
       → IsHierarchyOf F (record H { order = o })
   order_fits o po len lives columns rows = record {
-    sized = record { order = po; types = fit.sized.types ∙ sym len; origins = fit.sized.origins
-        ∙ sym len; columns = fit.sized.columns; members = fit.sized.members; rows = fit.sized.rows };
+    sized = record {
+      order = po;
+      types = fit.sized.types ∙ sym len;
+      origins = fit.sized.origins
+          ∙ sym len;
+      columns = fit.sized.columns;
+      members = fit.sized.members;
+      rows = fit.sized.rows;
+    };
     placed = record { columns = columns; rows = rows; these = fit.placed.these };
     names = fit.names;
     origins = λ n h. fit.origins n (lives n h);
@@ -202,15 +209,15 @@ module _ (F : Facts) (R : InRange F) (H : Hierarchy) (fit : IsHierarchyOf F H) w
       let made = dropped_made H.order fit.sized.order n.0 in
       let lives : (p : ℕ) → is_live H.order p ≡ true → p ≢ n.0 → is_live (dropped_order H.order n.0) p ≡ true =
       λ p h ne. made.live p ∙ and_from (is_live H.order p) (not (p == n.0)) h (⊎_elim (λ t. absurd (ne (eqb-true p n.0 t))) (λ f. ap not f)
-          (cases_Bool (p == n.0))) in
+      (cases_Bool (p == n.0))) in
       let none = or_false (list_any (is_at n.0) H.columns) (list_any (λ p. p.0 == n.0) H.rows) unused in
       order_fits (dropped_order H.order n.0) (dropped_partial H.order fit.sized.order n.0) made.count
       (λ k h. (and_parts (is_live H.order k) (not (k == n.0)) (sym (made.live k) ∙ h)).0)
       (λ c q e. lives q.0 (fit.placed.columns c q e) (λ same. false≢true (sym (any_at_false (is_at n.0) H.columns c None none.0 (λ x. false≢true x))
-          ∙ ap (is_at n.0) e ∙ eq-eqb q.0 n.0 same)))
+      ∙ ap (is_at n.0) e ∙ eq-eqb q.0 n.0 same)))
       (λ r lt. lives (place_of_row H r) (fit.placed.rows r lt)
-          (λ same. false≢true (sym (list_any_at (λ p. p.0 == n.0) H.rows r (node 0) none.1 (omega (arith, lt, fit.sized.rows)))
-          ∙ eq-eqb (place_of_row H r) n.0 same)))
+      (λ same. false≢true (sym (list_any_at (λ p. p.0 == n.0) H.rows r (node 0) none.1 (omega (arith, lt, fit.sized.rows)))
+      ∙ eq-eqb (place_of_row H r) n.0 same)))
     where
       or_false : (a b : Bool) → (a || b) ≡ false → (a ≡ false) × (b ≡ false)
       or_false false false h = (refl, refl)
@@ -229,8 +236,15 @@ module _ (F : Facts) (R : InRange F) (H : Hierarchy) (fit : IsHierarchyOf F H) w
 
   pub type_fits : (n : ℕ) (name : List ℕ) → IsHierarchyOf F (record H { types = slice_set H.types n name })
   type_fits n name = record {
-    sized = record { order = fit.sized.order; types = length-set H.types n name
-        ∙ fit.sized.types; origins = fit.sized.origins; columns = fit.sized.columns; members = fit.sized.members; rows = fit.sized.rows };
+    sized = record {
+      order = fit.sized.order;
+      types = length-set H.types n name
+          ∙ fit.sized.types;
+      origins = fit.sized.origins;
+      columns = fit.sized.columns;
+      members = fit.sized.members;
+      rows = fit.sized.rows;
+    };
     placed = record { columns = fit.placed.columns; rows = fit.placed.rows; these = fit.placed.these };
     names = fit.names;
     origins = fit.origins;
@@ -250,13 +264,20 @@ module _ (F : Facts) (R : InRange F) (H : Hierarchy) (fit : IsHierarchyOf F H) w
   together c a b x ea eb h =
       let own : column_slot F c.0 ≡ Some x =
       ⊎_elim (λ t. ap (column_slot F) (sym (eqb-true a c.0 t)) ∙ ea) (λ t. one_slot (column_slot F c.0) (column_slot F a) x t ea)
-          (or_cases (a == c.0) (is_one_slot (column_slot F c.0) (column_slot F a)) h) in
+      (or_cases (a == c.0) (is_one_slot (column_slot F c.0) (column_slot F a)) h) in
       or_right (b == c.0) (is_one_slot (column_slot F c.0) (column_slot F b)) (is_slot_of (column_slot F c.0) (column_slot F b) x own eb)
 
   pub member_fits : (c : ColId) (name : List ℕ) → IsHierarchyOf F (renamed F H c name)
   member_fits c name = record {
-    sized = record { order = fit.sized.order; types = fit.sized.types; origins = fit.sized.origins; columns = fit.sized.columns; members =
-        length-map-range_with_len (renamed_member F H.members c name) 0 (length H.members) ∙ fit.sized.members; rows = fit.sized.rows };
+    sized = record {
+      order = fit.sized.order;
+      types = fit.sized.types;
+      origins = fit.sized.origins;
+      columns = fit.sized.columns;
+      members =
+          length-map-range_with_len (renamed_member F H.members c name) 0 (length H.members) ∙ fit.sized.members;
+      rows = fit.sized.rows;
+    };
     placed = record { columns = fit.placed.columns; rows = fit.placed.rows; these = fit.placed.these };
     names = λ a b x ma mb ea eb. named a (slot_below a x ea) ∙ same a b x ma mb ea eb ∙ sym (named b (slot_below b x eb));
     origins = fit.origins;
@@ -304,7 +325,7 @@ module _ (F : Facts) (R : InRange F) (H : Hierarchy) (fit : IsHierarchyOf F H) w
           here d.0 same ∙ ap Some (sym (at ∙ goes r t)))
           (λ other.
           let f : is_column c (row_this F r) ≡ false = ap (is_column c) e ∙ ⊎_elim (λ t. absurd (other (eqb-true d.0 c.0 t))) (λ x. x)
-              (cases_Bool (d.0 == c.0)) in
+          (cases_Bool (d.0 == c.0)) in
           there d.0 other ∙ fit.placed.these r d e ∙ ap Some (sym (at ∙ rests r f)))
           (cases_eq d.0 c.0);
     };
@@ -353,12 +374,12 @@ module _ (F : Facts) (R : InRange F) (H : Hierarchy) (fit : IsHierarchyOf F H) w
       let m = least_of o set in
       let low = least_among o set some all in
       let made : IsLeastMerged o set m (merged_order o set m) = merged_made o p set m low.0 (λ s h. among-All (λ x. is_live o x ≡ true) set all s h)
-          (none_between o set p none) in
+      (none_between o set p none) in
       let to_live : (q : ℕ) → is_live o q ≡ true → is_live (merged_order o set m) (merged_to set m q) ≡ true =
       λ q h. made.order.lower_lives (merged_to set m q) (merged_to set m q) (made.holds q q (p.reflexive q h)) in
       let g = merged_node set m in
       let column_of : (c : ℕ) → place_of_column (merged F H set) c ≡ option_map g (place_of_column H c) = λ c. get_or_map_default (option_map g)
-          H.columns c None in
+      H.columns c None in
       let row_of : (r : ℕ) → r < length F.rows.items → get_or (merged F H set).rows r (node 0) ≡ g (get_or H.rows r (node 0)) =
       λ r lt. get_or-map g H.rows r (node 0) (node 0) (omega (arith, lt, fit.sized.rows)) in
       let origin = merged_origin F (map (λ s. origin_of H s.0) set) in
@@ -388,7 +409,7 @@ module _ (F : Facts) (R : InRange F) (H : Hierarchy) (fit : IsHierarchyOf F H) w
             ⊎_elim
             (λ same.
             let at : origin_of (merged F H set) n ≡ origin = ap (λ j. get_or (slice_set H.origins m origin) j None) same
-                ∙ get_or-set_same H.origins m origin None (omega (arith, low.1, fit.sized.origins)) in
+            ∙ get_or-set_same H.origins m origin None (omega (arith, low.1, fit.sized.origins)) in
             subst (λ x. IfSome x (IsClass F)) (sym at) (origin_class set all origin refl))
             (λ other.
             let at : origin_of (merged F H set) n ≡ origin_of H n = get_or-set_other H.origins m n origin None other in
@@ -459,7 +480,7 @@ module _ (F : Facts) (R : InRange F) (H : Hierarchy) (fit : IsHierarchyOf F H) w
   -- a merge where nothing refuses it
   pub merge_made : (set : List NodeId) (h : Hierarchy) → first_unknown H.order set ≡ None → first_between H.order set ≡ None → h ≡ merged F H set
       → ◌≡◌ {A = Result Hierarchy ChangeFault} (Ok h) (unless (first_unknown H.order set) UnknownNode (unless (first_between H.order set) Cycle
-          (Ok (merged F H set))))
+      (Ok (merged F H set))))
   merge_made set h a b e =
       let made : Result Hierarchy ChangeFault = Ok (merged F H set) in
       ap (λ (x : Hierarchy). let r : Result Hierarchy ChangeFault = Ok x in r) e

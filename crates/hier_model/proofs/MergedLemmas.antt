@@ -42,7 +42,7 @@ module _ (o : Ordered) (set : List NodeId) (p : IsPartialOrder o) where
       let f : ℕ → Option ℕ = λ k. when (is_among set k) k in
       let none : first_below m f ≡ None =
       first_below_clear f m (λ k lt. when_false (is_among set k) k (⊎_elim (λ t. let le = l.least k t in absurd (omega (arith, lt, le))) (λ e. e)
-          (cases_Bool (is_among set k)))) in
+      (cases_Bool (is_among set k)))) in
       rw (first_below_found f m (length o.live) m (among_below all m l.among) none (when_true (is_among set m) m l.among)) refl
 
   abbrev between : ℕ → Option NodeId
@@ -66,7 +66,7 @@ module _ (o : Ordered) (set : List NodeId) (p : IsPartialOrder o) where
   between_some x f =
       first_below_found between x.0 (length o.live) x (between_below x.0 f.between)
       (first_below_clear between x.0 (λ k lt. ⊎_elim (λ e. e) (λ y. let le = f.first k (from_between k y.0 y.1) in absurd (omega (arith, lt, le)))
-          (cases_Option (between k))))
+      (cases_Option (between k))))
       (when_true (not (is_among set x.0) && is_above_some o set x.0 && is_below_some o set x.0) x (is_between x.0 f.between))
 
   pub between_none : ((x : NodeId) → IsFirstBetween o set x.0 → ⊥) → first_between o set ≡ None
@@ -79,8 +79,8 @@ module _ (o : Ordered) (set : List NodeId) (p : IsPartialOrder o) where
         first = λ x b.
             ⊎_elim
             (λ lt. let e = first_below_None between s.0 x s.3 lt in let z : Some (node x)
-                ≡ None = sym (when_true (not (is_among set x) && is_above_some o set x && is_below_some o set x) (node x) (is_between x b))
-                ∙ e in absurd (cc z))
+            ≡ None = sym (when_true (not (is_among set x) && is_above_some o set x && is_below_some o set x) (node x) (is_between x b))
+            ∙ e in absurd (cc z))
             (λ ge. ge)
             (cases_lt x s.0);
       })))
@@ -90,7 +90,7 @@ module _ (o : Ordered) (set : List NodeId) (p : IsPartialOrder o) where
   none_between none x b =
       let e = first_below_None between (length o.live) x none (between_below x b) in
       let z : Some (node x) ≡ None = sym (when_true (not (is_among set x) && is_above_some o set x && is_below_some o set x) (node x)
-          (is_between x b)) ∙ e in absurd (cc z)
+      (is_between x b)) ∙ e in absurd (cc z)
 
 -- whether p is strictly below n
 pub strictly_true : (o : Ordered) (p n : ℕ) → IsStrictlyBelow o p n → (is_le o p n && not (p == n)) ≡ true
@@ -110,7 +110,7 @@ merged_is o old new set e m least pairs =
     let least_o = subst (λ x. IsLeastMerged x set m new) e least in
     let pairs_o = subst (λ x. IsMerged x set m new) e pairs in
     made_order o (λ a. is_live o a && stays set m a) (λ a b. (is_le o a b || (is_below_some o set a && is_above_some o set b)) && stays set m a &&
-        stays set m b) new least_o.order least_o.count least_o.live pairs_o
+    stays set m b) new least_o.order least_o.count least_o.live pairs_o
 
 pub merged_none : (o old : Ordered) (set : List NodeId) (m : NodeId) → IsPartialOrder o → old ≡ o
     → ((x : NodeId) → (◌≡◌ {A = Result NodeId OrderFault} (Ok m) (Err (fault.Cycle x)) ↔ IsFirstBetween old set x.0)) → first_between o set ≡ None
@@ -126,7 +126,7 @@ merged_fault o old set (fault.Cycle x) p e cycle = inr (x, refl, between_some o 
 pub under_is : (o old new : Ordered) (n p : ℕ) → old ≡ o → IsLeastWith old n p new → IsUnder old n p new → new ≡ under_order o n p
 under_is o old new n p e least pairs =
     made_order o (is_live o) (λ a b. is_le o a b || (is_le o a n && is_le o p b)) new least.order
-        (ap (λ l. length l) (least.live ∙ ap (λ (x : Ordered). x.live) e))
+    (ap (λ l. length l) (least.live ∙ ap (λ (x : Ordered). x.live) e))
     (λ a. ap (λ l. bit l a) (least.live ∙ ap (λ (x : Ordered). x.live) e)) (subst (λ x. IsUnder x n p new) e pairs)
 
 pub under_none : (o old : Ordered) (n p : NodeId) → old ≡ o

@@ -97,7 +97,7 @@ module _ (t : List (List ℕ)) (name : List ℕ) where
 pub free_name-same : (t s : List (List ℕ)) (name : List ℕ) → AreSame t s → free_name t name ≡ free_name s name
 free_name-same t s name same =
     sym (free_name-at s name (underscores t name) (λ j lt. sym (same (lengthened name j)) ∙ free_name-before t name j lt)
-        (sym (same (free_name t name)) ∙ free_name-free t name))
+    (sym (same (free_name t name)) ∙ free_name-free t name))
 
 -- one underscore more
 pub lengthened-more : (name : List ℕ) (k : ℕ) → lengthened name k ++ 95 ∷ [] ≡ lengthened name (k + 1)
@@ -117,7 +117,7 @@ pub AreSame-more : (t u w g : List (List ℕ)) (name : List ℕ) → AreSame t (
 AreSame-more t u w g name same more x =
     more x ∙ ap (λ b. b || bytes_eq x name) (same x ∙ list_any-append (bytes_eq x) w g)
     ∙ sym (list_any-append (bytes_eq x) w (g ++ name ∷ []) ∙ ap (λ b. is_taken w x || b) (list_any-append (bytes_eq x) g (name ∷ []))
-        ∙ either (is_taken w x) (is_taken g x) (bytes_eq x name))
+    ∙ either (is_taken w x) (is_taken g x) (bytes_eq x name))
   where
     either : (a b c : Bool) → (a || (b || (c || false))) ≡ (a || b || c)
     either true b c = refl
@@ -212,7 +212,7 @@ underscored s t e = text_is (chars (string_bytes s) ++ 95 ∷ []) t (encodes-app
 -- the name of a field that shares its own with one above
 pub named_shared : (F : Facts) (given t : List (List ℕ)) (c : ℕ) (k : ColumnInfo) (base : String Global) (n : List ℕ) → k ≡ column_at F c → is_shared F c ≡ true
     → string_bytes base ≡ encode_utf8_all k.name ++ 95 ∷ encode_utf8_all (class_name F k.class.0) → AreSame t (F.words.items ++ given)
-        → n ≡ free_name t (chars (string_bytes base)) → n ≡ named_member F given c
+    → n ≡ free_name t (chars (string_bytes base)) → n ≡ named_member F given c
 named_shared F given t c k base n e shared b same is =
     let base_is : chars (string_bytes base) ≡ joined (name_of F c) (class_name F (column_class F c)) =
     joined_text base k.name (class_name F k.class.0) b ∙ ap (λ (x : ColumnInfo). joined x.name (class_name F x.class.0)) e in
@@ -222,10 +222,10 @@ named_shared F given t c k base n e shared b same is =
 -- the name of a type
 pub typed_name : (F : Facts) (given t : List (List ℕ)) (class : List ℕ) (k : ℕ) (base : String Global) (n : List ℕ) → k < 2 ^ 64
     → string_bytes base ≡ encode_utf8_all class ++ 95 ∷ decimal k → AreSame t (F.words.items ++ given) → n ≡ free_name t (chars (string_bytes base))
-        → n ≡ free_name (F.words.items ++ given) (joined class (decimal k))
+    → n ≡ free_name (F.words.items ++ given) (joined class (decimal k))
 typed_name F given t class k base n fits b same is =
     let base_is : chars (string_bytes base) ≡ joined class (decimal k) = joined_text base class (decimal k) (b
-        ∙ ap (λ (d : List ℕ). encode_utf8_all class ++ 95 ∷ d) (sym (encodes-IsAscii (decimal k) (IsAscii-decimal k fits)))) in
+    ∙ ap (λ (d : List ℕ). encode_utf8_all class ++ 95 ∷ d) (sym (encodes-IsAscii (decimal k) (IsAscii-decimal k fits)))) in
     is ∙ ap (free_name t) base_is ∙ free_name-same t (F.words.items ++ given) (joined class (decimal k)) same
 
 -- one name more of a list where each is given after those before it

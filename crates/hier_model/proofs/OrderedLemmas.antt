@@ -34,7 +34,7 @@ module _ (o : Ordered) (live : ℕ → Bool) (le : ℕ → ℕ → Bool) where
       → ((a b : ℕ) → is_le new a b ≡ le a b) → new ≡ ordered_by o live le
   made_order new p n lives les =
       let l : new.live ≡ (ordered_by o live le).live = same_bits new.live (ordered_by o live le).live (n ∙ sym made_count) (λ i lt. lives i
-          ∙ sym (live_at i (omega (arith, lt, n)))) in
+      ∙ sym (live_at i (omega (arith, lt, n)))) in
       let r : new.le ≡ (ordered_by o live le).le =
       ext_get_or [] new.le (ordered_by o live le).le (p.count ∙ n ∙ sym rows)
       (λ k lt.
@@ -42,7 +42,7 @@ module _ (o : Ordered) (live : ℕ → Bool) (le : ℕ → ℕ → Bool) where
       same_bits (row new.le k) (row (ordered_by o live le).le k) (p.widths k lt ∙ n ∙ sym (row_width k here))
       (λ i il. les k i ∙ sym (le_at k i here (omega (arith, il, p.widths k lt, n))))) in
       let first : new ≡ record { live = (ordered_by o live le).live; le = new.le } = ap
-          (λ (x : List Bool). let y : Ordered = record { live = x; le = new.le } in y) l in
+      (λ (x : List Bool). let y : Ordered = record { live = x; le = new.le } in y) l in
       first ∙ ap (λ (x : List (List Bool)). let y : Ordered = record { live = (ordered_by o live le).live; le = x } in y) r
 
   -- its pairs, where no others are given
@@ -55,7 +55,7 @@ module _ (o : Ordered) (live : ℕ → Bool) (le : ℕ → ℕ → Bool) where
         ⊎_elim (live_at a)
         (λ past.
         let past_live : is_live (ordered_by o live le) a ≡ false = get_or-eq_default (ordered_by o live le).live false {n = a}
-            (omega (arith, past, made_count)) in
+        (omega (arith, past, made_count)) in
         past_live ∙ sym (none_false (live a) (λ t. let lt = live_below a t in absurd (omega (arith, lt, past)))))
         (cases_lt a (length o.live))
 
@@ -65,7 +65,7 @@ module _ (o : Ordered) (live : ℕ → Bool) (le : ℕ → ℕ → Bool) where
         (λ la. ⊎_elim (le_at a b la)
         (λ past.
         let gone : is_le (ordered_by o live le) a b ≡ false = get_or-eq_default (row (ordered_by o live le).le a) false {n = b}
-            (omega (arith, past, row_width a la)) in
+        (omega (arith, past, row_width a la)) in
         gone ∙ sym (none_false (le a b) (λ t. let lt = (le_below a b t).1 in absurd (omega (arith, lt, past)))))
         (cases_lt b (length o.live)))
         (λ past.

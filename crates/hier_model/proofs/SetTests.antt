@@ -65,7 +65,7 @@ module _ (a : List Bool) (xs : List ℕ) (L : ListsBelow (λ i. bit a i ≡ true
   listed-filled b e =
       filled-not a b
       (λ t i. ⊎_elim (λ h. let c = (L.each i).1 (bit-below a i h, h) in absurd (omega (arith, eqb-true (length xs) 0 (sym e ∙ t), c.1))) (λ h. h)
-          (cases_Bool (bit a i)))
+      (cases_Bool (bit a i)))
       (λ none. ⊎_elim
       (λ lt. let c = (L.each (get_or xs 0 0)).0 (Contains-get_or xs 0 0 lt) in absurd (false≢true (sym (none (get_or xs 0 0)) ∙ c.1)))
       (λ le. e ∙ eq-eqb (length xs) 0 (omega (arith, le)))

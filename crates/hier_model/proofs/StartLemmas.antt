@@ -68,7 +68,7 @@ module _ (T : List (List Bool)) (w : ℕ) (widths : HasWidth w T) (xs : List Pai
       let pi = concept_at xs i in
       let pj = concept_at xs j in
       let same : pi ≡ pj = ap (λ (s : List Bool). let p : Pair = (s, pi.1) in p) e ∙ ap (λ (s : List Bool). let p : Pair = (pj.0, s) in p)
-          (same_int i j li lj e) in
+      (same_int i j li lj e) in
       let less = all.concepts.ordered i j ([], []) ij lj in
       let equal : concept_cmp pi pj ≡ Equal = ap (λ p. concept_cmp pi p) (sym same) ∙ tied_itself concept_cmp-total pi in
       absurd (cc (sym less ∙ equal))
@@ -111,7 +111,7 @@ module _ (T : List (List Bool)) (w : ℕ) (widths : HasWidth w T) (xs : List Pai
   related a b h =
       ⊎_elim
       (λ la. let lb : b < length xs = omega (arith, bit-below (row (order_of xs).le a) b h, row-width a la) in record
-          { first = la; second = lb; above = sym (node-le a b la lb) ∙ h })
+      { first = la; second = lb; above = sym (node-le a b la lb) ∙ h })
       (λ past.
       let empty : row (order_of xs).le a ≡ [] = get_or-eq_default (order_of xs).le [] {n = a} (omega (arith, past, rows-width)) in
       absurd (false≢true (sym (ap (λ r. bit r b) empty) ∙ h)))
@@ -146,7 +146,7 @@ module _ (T : List (List Bool)) (w : ℕ) (widths : HasWidth w T) (xs : List Pai
         let s = (and_parts (is_filled (ext b)) (is_subset (ext b) (ext c)) q.above).1 in
         node-le a c r.first q.second
         ∙ and_from (is_filled (ext a)) (is_subset (ext a) (ext c)) p.0
-            (subset-complete (ext a) (ext c) (λ i e. subset-sound (ext b) (ext c) s i (subset-sound (ext a) (ext b) p.1 i e)));
+        (subset-complete (ext a) (ext c) (λ i e. subset-sound (ext b) (ext c) s i (subset-sound (ext a) (ext b) p.1 i e)));
   }
 
   pub nodes-count : length (order_of xs).live ≡ length xs
@@ -224,7 +224,7 @@ module _ (T : List (List Bool)) (w : ℕ) (widths : HasWidth w T) (xs : List Pai
       let is : int h.at ≡ row T r = h.is ([], []) in
       let here : at_row (row T r) h.at ≡ Some (node h.at) =
       when_true (is_same_set (int h.at) (row T r)) (node h.at) (same_set-complete (int h.at) (row T r) (λ i e. subst (λ s. bit s i ≡ true) is e)
-          (λ i e. subst (λ s. bit s i ≡ true) (sym is) e)) in
+      (λ i e. subst (λ s. bit s i ≡ true) (sym is) e)) in
       ⊎_elim
       (λ none. let z : Some (node h.at) ≡ None = sym here ∙ first_below_None (at_row (row T r)) (length xs) h.at none h.below in absurd (cc z))
       (λ y.
@@ -273,4 +273,4 @@ module _ (F : Facts) (R : InRange F) (T : List (List Bool)) (keeps : KeepsTable 
       stands_with T (length F.columns.items) keeps.widths xs all d.0 v lt
       ((keeps.entries v d.0).1 (derivable_by (Entails F) [] (v, d.0) (by_this v d e) tt))
       (λ q h c m. (keeps.entries q c).1 (derivable_by (Entails F) ((q, d.0) ∷ (v, c) ∷ []) (q, c) (by_body q v c d e)
-          ((keeps.entries q d.0).0 h, ((keeps.entries v c).0 m, tt))))
+      ((keeps.entries q d.0).0 h, ((keeps.entries v c).0 m, tt))))

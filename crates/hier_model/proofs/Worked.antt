@@ -16,9 +16,9 @@ use Rattle.hier_model.specs.Start.{start_of}
 abbrev the_columns : List ColumnInfo
 the_columns =
     record { kind = Fld; class = record { 0 = 1 }; slot = None; name = 102 ∷ []; label = [] }
-        ∷ record { kind = Dcl; class = record { 0 = 1 }; slot = Some 0; name = 109 ∷ []; label = [] }
+    ∷ record { kind = Dcl; class = record { 0 = 1 }; slot = Some 0; name = 109 ∷ []; label = [] }
     ∷ record { kind = Def; class = record { 0 = 1 }; slot = Some 0; name = 109 ∷ []; label = [] }
-        ∷ record { kind = Dcl; class = record { 0 = 2 }; slot = Some 0; name = 109 ∷ []; label = [] }
+    ∷ record { kind = Dcl; class = record { 0 = 2 }; slot = Some 0; name = 109 ∷ []; label = [] }
     ∷ record { kind = Def; class = record { 0 = 2 }; slot = Some 0; name = 109 ∷ []; label = [] } ∷ []
 
 abbrev class : List ℕ → Option ClassId → Vec ClassId Global → ClassInfo
@@ -38,8 +38,11 @@ table =
 abbrev concepts : List Pair
 concepts =
     (true ∷ true ∷ true ∷ true ∷ [], false ∷ false ∷ false ∷ false ∷ false ∷ []) ∷ (true ∷ false ∷ true ∷ true ∷ [], true ∷ false ∷ false ∷ false ∷ false ∷ [])
-    ∷ (true ∷ false ∷ false ∷ false ∷ [], true ∷ true ∷ true ∷ false ∷ false ∷ []) ∷ (false ∷ true ∷ false ∷ false ∷ [], false ∷ false ∷ false
-        ∷ true ∷ true ∷ [])
+    ∷ (true ∷ false ∷ false ∷ false ∷ [], true ∷ true ∷ true ∷ false ∷ false ∷ []) ∷ (
+      false ∷ true ∷ false ∷ false ∷ [],
+      false ∷ false ∷ false
+          ∷ true ∷ true ∷ [],
+    )
     ∷ (false ∷ false ∷ false ∷ false ∷ [], true ∷ true ∷ true ∷ true ∷ true ∷ []) ∷ []
 
 -- a list where one of other items stands

@@ -49,12 +49,12 @@ count_two p q sub w v n wn vn ne qw qv pw pv =
     let mid : ℕ → Bool = λ k. p k || eqb k w in
     let one = count_more p mid (λ k h. or_left (p k) (eqb k w) h) w n wn (or_right (p w) (eqb w w) (eq-eqb w w refl)) pw in
     let two = count_more mid q (λ k h. ⊎_elim (sub k) (λ e. subst (λ j. q j ≡ true) (sym (eqb-true k w e)) qw) (or_cases (p k) (eqb k w) h)) v n vn qv
-        (rw (pv, ne_eqb v w (λ e. ne (sym e))) refl) in
+    (rw (pv, ne_eqb v w (λ e. ne (sym e))) refl) in
     omega (arith, one, two)
 
 module _
     (n : ℕ) (up : ℕ → ℕ → Bool) (within : (a b : ℕ) → up a b ≡ true → b < n) (lower : (a b : ℕ) → up a b ≡ true → up a a ≡ true) (upper : (a b : ℕ)
-        → up a b ≡ true → up b b ≡ true)
+    → up a b ≡ true → up b b ≡ true)
     (through : (a b c : ℕ) → up a b ≡ true → up b c ≡ true → up a c ≡ true) (both : (a b : ℕ) → up a b ≡ true → up b a ≡ true → a ≡ b) where
   abbrev over : ℕ → ℕ → Bool
   over a x = up a x && not (eqb x a)
@@ -194,4 +194,4 @@ module _ (F : Facts) (H : Hierarchy) (P : IsPartialOrder H.order) where
       ⊎_elim (λ h. inl (says x y h).le) (λ h. inr (says y x h).le)
       (chain (length H.order.live) up within lower upper through both (class_count F H n + 1) n (omega arith)
       (λ m h. tight m (second_false (up n m) (is_loose F H m) (any_below_none (is_loose_above F H n) (length H.order.live) m none (within n m h)) h))
-          x y hx hy))))
+      x y hx hy))))

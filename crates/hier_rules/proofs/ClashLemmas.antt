@@ -84,7 +84,7 @@ module _ (F : Facts) (H : Hierarchy) where
         A.all x lt w
         (λ e. ⊎_elim
         (λ less. absurd (false≢true (sym (none x.first (here e) less) ∙ subst (λ y. bytes_eq (member_name H x.first) (member_name H y) ≡ true) e
-            (same_name x h))))
+        (same_name x h))))
         (λ ge. ge)
         (cases_lt x.first k)) h;
     rising = A.rising;
@@ -162,7 +162,7 @@ module _ (F : Facts) (H : Hierarchy) where
           ⊎_elim
           (λ both. subst (Contains longer) (made x both.0 both.1) (Contains-push xs new))
           (λ apart. Contains-append_left xs (new ∷ []) x
-              (A.all x less w (λ e. ⊎_elim (λ same. absurd (apart same e)) (λ ne. let l = here e in omega (arith, l, ne)) (cases_eq x.first c)) h))
+          (A.all x less w (λ e. ⊎_elim (λ same. absurd (apart same e)) (λ ne. let l = here e in omega (arith, l, ne)) (cases_eq x.first c)) h))
           (is_new x);
       rising = still_rising A;
     }
@@ -173,7 +173,7 @@ module _ (F : Facts) (H : Hierarchy) where
         ⊎_elim
         (λ t. subst (λ b. AreClashes F H d c (xs ++ cond b (new ∷ []) [])) (sym t) (pushed lt t A))
         (λ f. subst (λ b. AreClashes F H d c (xs ++ cond b (new ∷ []) [])) (sym f) (subst (λ l. AreClashes F H d c l) (sym (append-nil xs))
-            (skipped d c xs f A)))
+        (skipped d c xs f A)))
         (cases_Bool (clash F H c d))
 
   module _ (C : ℕ) (xs : List ClashPair) (A : AreClashes F H C C xs) where
@@ -221,7 +221,7 @@ module _ (F : Facts) (H : Hierarchy) where
           (ap (λ b. when b (of_column B8 n x.second))
           (and_from (is_offered H n x.second) (any_below x.second (λ c. is_offered H n c && clash F H c x.second)) p.0
           (any_below_has (λ c. is_offered H n c && clash F H c x.second) x.second x.first (A.order x m)
-              (and_from (is_offered H n x.first) (clash F H x.first x.second) p.1 (A.is x m)))))
+          (and_from (is_offered H n x.first) (clash F H x.first x.second) p.1 (A.is x m)))))
 
 -- one link more
 pub link_more : (H : Hierarchy) (n : ℕ) (links more : List (Option ℕ)) (o : Option ℕ) → more ≡ links ++ o ∷ [] → AreLinks H n links

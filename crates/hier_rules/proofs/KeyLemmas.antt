@@ -102,7 +102,7 @@ module _ {X : Type 0} (f : X → ℕ) (p : X → Bool) (base : ℕ → Bool) (ou
       ⊎_elim
       (λ passes. subst (λ b. Collects f p base (out ++ cond b (f k ∷ []) []) xs (i + 1)) (sym passes) (collect_push passes))
       (λ fails. subst (λ b. Collects f p base (out ++ cond b (f k ∷ []) []) xs (i + 1)) (sym fails) (subst (λ o. Collects f p base o xs (i + 1))
-          (sym (append-nil out)) (collect_skip fails)))
+      (sym (append-nil out)) (collect_skip fails)))
       (cases_Bool (p k))
 
 -- the keys of those of a list that pass a test

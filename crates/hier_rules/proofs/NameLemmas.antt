@@ -52,11 +52,15 @@ one_more k c x =
     (λ b. and_from (nat_lt x (c + 1)) (k x) (lt-ltb x (c + 1) (omega (arith, e))) (subst (λ y. k y ≡ true) (sym e) (and_parts (eqb c x) (k c) b).1))
     (or_cases (nat_lt x c && k x) (eqb c x && k c) h))
     (λ h. or_right (nat_lt x c && k x) (eqb c x && k c) (and_from (eqb c x) (k c) (eq-eqb c x (sym e))
-        (subst (λ y. k y ≡ true) e (and_parts (nat_lt x (c + 1)) (k x) h).1))))
+    (subst (λ y. k y ≡ true) e (and_parts (nat_lt x (c + 1)) (k x) h).1))))
     (⊎_elim
     (λ lt. rw (lt-ltb x c lt, lt-ltb x (c + 1) (omega (arith, lt)), ne_eqb c x (λ e. omega (arith, lt, e))) (or_false (k x)))
-    (λ gt. rw (not_true (nat_lt x c) (λ h. omega (arith, gt, ltb-true x c h)), not_true (nat_lt x (c + 1))
-        (λ h. omega (arith, gt, ltb-true x (c + 1) h)), ne_eqb c x (λ e. omega (arith, gt, e))) refl))
+    (λ gt. rw (
+      not_true (nat_lt x c) (λ h. omega (arith, gt, ltb-true x c h)),
+      not_true (nat_lt x (c + 1))
+          (λ h. omega (arith, gt, ltb-true x (c + 1) h)),
+      ne_eqb c x (λ e. omega (arith, gt, e)),
+    ) refl))
     (cases_order x c)
   where
     or_false : (b : Bool) → (b || false) ≡ b

@@ -50,7 +50,7 @@ module _ (F : Facts) (pt : PointsTo) (H : Hierarchy) where
         (λ a. let lt = bound_above (λ (x : TestInfo). x.place.at) (λ x. true) F.tests.items p a in omega (arith, lt))
         (λ b. let lt = bound_above (λ (x : StoreInfo). x.place.at) (λ x. is_element x.column) F.stores.items p b in omega (arith, lt))
         (or_cases (list_any (λ (x : TestInfo). eqb x.place.at p) F.tests.items) (list_any (λ (x : StoreInfo). is_element x.column && eqb x.place.at p)
-            F.stores.items) h)
+        F.stores.items) h)
 
     place_keys : AreKeys (first_wrong_of_place F pt H) (places_of F) places
     place_keys = record {

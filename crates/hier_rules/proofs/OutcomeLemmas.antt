@@ -26,22 +26,22 @@ module _ (F : Facts) (pt : PointsTo) where
       ⊎_elim
       (λ a. or_left (list_any (is_test_at p t) F.tests.items) (list_any (is_store_at F pt p t) F.stores.items)
       (any_weaker (is_test_at p t) (λ (x : TestInfo). is_test_at p t x && bit (row pt.points.items x.from) s)
-          (λ x k. (and_parts (is_test_at p t x) (bit (row pt.points.items x.from) s) k).0) F.tests.items a))
+      (λ x k. (and_parts (is_test_at p t x) (bit (row pt.points.items x.from) s) k).0) F.tests.items a))
       (λ b. or_right (list_any (is_test_at p t) F.tests.items) (list_any (is_store_at F pt p t) F.stores.items)
       (any_weaker (is_store_at F pt p t) (λ (x : StoreInfo). is_store_at F pt p t x && bit (row pt.points.items x.value) s)
-          (λ x k. (and_parts (is_store_at F pt p t x) (bit (row pt.points.items x.value) s) k).0) F.stores.items b))
+      (λ x k. (and_parts (is_store_at F pt p t x) (bit (row pt.points.items x.value) s) k).0) F.stores.items b))
       (or_cases (is_tested F pt p t s) (is_stored F pt p t s) h)
 
   target_asked : (p t : ℕ) → is_target F pt p t ≡ true → is_asked F p ≡ true
   target_asked p t h =
       ⊎_elim
       (λ a. or_left (list_any (λ (x : TestInfo). x.place.at == p) F.tests.items)
-          (list_any (λ (x : StoreInfo). is_element x.column && (x.place.at == p)) F.stores.items)
+      (list_any (λ (x : StoreInfo). is_element x.column && (x.place.at == p)) F.stores.items)
       (any_weaker (λ (x : TestInfo). x.place.at == p) (is_test_at p t) (λ x k. (and_parts (x.place.at == p) (x.target.0 == t) k).0) F.tests.items a))
       (λ b. or_right (list_any (λ (x : TestInfo). x.place.at == p) F.tests.items)
-          (list_any (λ (x : StoreInfo). is_element x.column && (x.place.at == p)) F.stores.items)
+      (list_any (λ (x : StoreInfo). is_element x.column && (x.place.at == p)) F.stores.items)
       (any_weaker (λ (x : StoreInfo). is_element x.column && (x.place.at == p)) (is_store_at F pt p t)
-          (λ x k. (and_parts (is_element x.column && (x.place.at == p)) (has_array F pt x.base t) k).0) F.stores.items b))
+      (λ x k. (and_parts (is_element x.column && (x.place.at == p)) (has_array F pt x.base t) k).0) F.stores.items b))
       (or_cases (list_any (is_test_at p t) F.tests.items) (list_any (is_store_at F pt p t) F.stores.items) h)
 
   unmet : (H : Hierarchy) (p t s : ℕ) → is_target F pt p t ≡ false → wrong_outcome F pt H p t s ≡ None

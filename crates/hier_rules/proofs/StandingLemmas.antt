@@ -36,7 +36,7 @@ module _ (F : Facts) (H : Hierarchy) (n : ℕ) (p : ℕ → Bool) (xs : List ℕ
   pub none_stands : i ≡ length xs → first_standing F H n p ≡ None
   none_stands end =
       first_below_clear (λ c. when (stands_at H n c && p c) (of_column B8 n c)) (length F.columns.items)
-          (λ k lt. clear k lt (λ j less e. omega (arith, less, end)))
+      (λ k lt. clear k lt (λ j less e. omega (arith, less, end)))
 
   pub one_stands : i < length xs → stands_at H n (get_or xs i 0) ≡ true → first_standing F H n p ≡ Some (of_column B8 n (get_or xs i 0))
   one_stands lt h =

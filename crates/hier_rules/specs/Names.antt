@@ -92,7 +92,7 @@ module _ (F : Facts) (H : Hierarchy) where
   abbrev pub clash : ℕ → ℕ → Bool
   clash c d = bytes_eq (member_name H c) (member_name H d)
       && ((is_field (column_kind F c) && is_field (column_kind F d)) || are_two_slots (method_slot (column_kind F c) (column_slot F c))
-          (method_slot (column_kind F d) (column_slot F d)))
+      (method_slot (column_kind F d) (column_slot F d)))
 
   -- part 4: no type offers two slots, or two fields, of one name
   abbrev pub is_confused : ℕ → ℕ → Bool

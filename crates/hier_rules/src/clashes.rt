@@ -94,7 +94,8 @@ fn put_last(
     c: u32,
 ) -> Result<Option<u32>, AllocError>
     ensures old { IfOk result (λ o. o ≡ get_by_text last.old (encode_utf8_all name.now)) }
-    ensures put { OnOk result ((x : List ℕ) → get_by_text last.new (encode_utf8_all x) ≡ cond (bytes_eq name.now x) (Some c) (get_by_text last.old (encode_utf8_all x))) }
+    ensures put { OnOk result ((x : List ℕ) → get_by_text last.new (encode_utf8_all x)
+        ≡ cond (bytes_eq name.now x) (Some c) (get_by_text last.old (encode_utf8_all x))) }
 {
     let text = String::from_str(alloc, name.as_str())?;
     let old = last.insert(text, c)?;

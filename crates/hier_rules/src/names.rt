@@ -281,7 +281,8 @@ fn first_taken(
     requires facts { InRange facts.now }
     requires hier { IsHierarchyOf facts.now hier.now }
     requires taken { AreTaken facts.now hier.now taken.now }
-    ensures { IfOk result (λ b. b ≡ or_else (first_taken_type facts.now hier.now) (or_else (first_taken_field facts.now hier.now) (first_confused facts.now hier.now))) }
+    ensures { IfOk result (λ b. b ≡ or_else (first_taken_type facts.now hier.now)
+        (or_else (first_taken_field facts.now hier.now) (first_confused facts.now hier.now))) }
 {
     if let Some(found) = first_taken_type(facts, hier, taken) {
         return Ok(Some(found));
@@ -296,7 +297,8 @@ fn first_taken(
 fn first_not_apart(alloc: Global, facts: &Facts, hier: &Hier) -> Result<Option<Broken>, AllocError>
     requires facts { InRange facts.now }
     requires hier { IsHierarchyOf facts.now hier.now }
-    ensures { IfOk result (λ b. b ≡ or_else (first_taken_type facts.now hier.now) (or_else (first_taken_field facts.now hier.now) (first_confused facts.now hier.now))) }
+    ensures { IfOk result (λ b. b ≡ or_else (first_taken_type facts.now hier.now)
+        (or_else (first_taken_field facts.now hier.now) (first_confused facts.now hier.now))) }
 {
     let taken = taken_names(alloc, facts, hier)?;
     first_taken(alloc, facts, hier, &taken)

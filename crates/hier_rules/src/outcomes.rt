@@ -49,7 +49,8 @@ fn store_places(alloc: Global, facts: &Facts) -> Result<Vec<u32>, AllocError>
 
 /// The places of both. An error comes only for want of memory.
 fn all_places(alloc: Global, facts: &Facts) -> Result<Vec<u32>, AllocError>
-    ensures { IfOk result (λ v. v.items ≡ map (λ x. x.place.at) facts.now.tests.items ++ map (λ x. x.place.at) (filter (λ x. is_element x.column) facts.now.stores.items)) }
+    ensures { IfOk result (λ v. v.items ≡ map (λ x. x.place.at) facts.now.tests.items ++ map (λ x. x.place.at)
+        (filter (λ x. is_element x.column) facts.now.stores.items)) }
 {
     let mut places = test_places(alloc, facts)?;
     let stores = store_places(alloc, facts)?;

@@ -63,7 +63,8 @@ fn add_holder(
     set: &mut IndexSet<String>,
     class: &ClassInfo,
 ) -> Result<(), AllocError>
-    ensures { OnOk result ((x : List ℕ) → is_taken (texts set.new.keys) x ≡ (is_taken (texts set.old.keys) x || (class.now.holder && bytes_eq class.now.name x))) }
+    ensures { OnOk result ((x : List ℕ) → is_taken (texts set.new.keys) x
+        ≡ (is_taken (texts set.old.keys) x || (class.now.holder && bytes_eq class.now.name x))) }
 {
     if class.holder {
         add_name(alloc, set, &class.name)?;
@@ -124,7 +125,9 @@ fn add_type(
     requires hier { IsHierarchyOf facts.now hier.now }
     requires node { n < length hier.now.order.live }
     ensures types { OnOk result ((x : List ℕ) → is_taken (texts types.new.keys) x ≡ (is_taken (texts types.old.keys) x || is_named hier.now x n)) }
-    ensures twice { OnOk result ((x : List ℕ) → is_taken (texts twice.new.keys) x ≡ (is_taken (texts twice.old.keys) x || (is_named hier.now x n && is_taken (texts types.old.keys) x))) }
+    ensures twice { OnOk result ((x : List ℕ) → is_taken (texts twice.new.keys) x
+        ≡ (is_taken (texts twice.old.keys) x ||
+        (is_named hier.now x n && is_taken (texts types.old.keys) x))) }
 {
     if !is_live(hier, n) {
         return Ok(());

@@ -48,7 +48,7 @@ some_column_text (Some c) = column_text c
 abbrev pub broken_text : Broken → List ℕ
 broken_text b =
     codes "breaks " ++ (rule_text b.rule
-        ++ (codes " nodes " ++ (nodes_text b.nodes ++ (codes " row " ++ (some_row_text b.row ++ (codes " column " ++ some_column_text b.column))))))
+    ++ (codes " nodes " ++ (nodes_text b.nodes ++ (codes " row " ++ (some_row_text b.row ++ (codes " column " ++ some_column_text b.column))))))
 
 -- why an edit is refused
 abbrev pub fault_text : ApplyFault → List ℕ

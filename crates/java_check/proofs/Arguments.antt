@@ -76,11 +76,11 @@ module _ (P : Plain) (g : Env) (t : Tag) (xs : List RExpr) (us : List Ty) (i : �
   pub argument : (d : RExpr) (u : Ty) → d ≡ get_or xs i d → slice_get us i ≡ Some u → i < length xs
       → args_answer P g (exprs at_place (drop i xs)) t (drop i us)
       ≡ and_then (and_then (answer P g (expr_of at_place d)) (λ s. asked (fits P (seen s) u) Arguments t (tt {0})))
-          (λ _. args_answer P g (exprs at_place (drop (i + 1) xs)) t (drop (i + 1) us))
+      (λ _. args_answer P g (exprs at_place (drop (i + 1) xs)) t (drop (i + 1) us))
   argument d u here e h =
       rw (drop-some us i u (sym e), drop-cons xs i d, add-one)
       (ap (λ d. and_then (and_then (answer P g (expr_of at_place d)) (λ s. asked (fits P (seen s) u) Arguments t (tt {0})))
-          (λ _. args_answer P g (exprs at_place (drop (suc i) xs)) t (drop (suc i) us))) (sym here))
+      (λ _. args_answer P g (exprs at_place (drop (suc i) xs)) t (drop (suc i) us))) (sym here))
 
   pub all_given : length xs ≤ i → slice_get us i ≡ None → args_answer P g (exprs at_place (drop i xs)) t (drop i us) ≡ Ok (tt {0})
   all_given h e = rw (drop-none us i (sym e), drop-all xs i h) refl

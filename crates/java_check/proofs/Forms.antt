@@ -41,7 +41,7 @@ while_body P g t v p h k o = sym (ap (st_answer P g) (while_seen t v p h) ∙ an
 pub for_body : (P : Plain) (g : Env) {s : RStmt} (f : Option (Box RStmt Global)) (t : Option RExpr) (j : Option (Box RStmt Global))
     (v : Vec RStmt Global) (p : Place) {a b c : Result (Unit {0}) CheckFault} {x y z : Unit {0}} → s ≡ For f t j v p
     → a ≡ sts_answer P g (step_seen at_place f) → a ≡ Ok x → b ≡ test_answer P g (value_of at_place t) → b ≡ Ok y
-        → c ≡ sts_answer P g (step_seen at_place j) → c ≡ Ok z
+    → c ≡ sts_answer P g (step_seen at_place j) → c ≡ Ok z
     → sts_answer P g (stmts at_place v.items) ≡ st_answer P g (stmt_of at_place s)
 for_body P g f t j v p h a x b y c z = sym (ap (st_answer P g) (for_seen f t j v p h) ∙ and_then-ok _ (sym a ∙ x) ∙ and_then-ok _ (sym b ∙ y)
     ∙ and_then-ok _ (sym c ∙ z))

@@ -72,7 +72,7 @@ module _ (P : Plain) (g : Env) where
   called_judged : {d : Ex} {es : Exs} (t : Tag) (s : Signature) (r : Result (Unit {0}) CheckFault) → JudgedArgs t es s.params r
       → (TypedArgs P g es s.params → Typed P g d) → static P g d ≡ or_nothing s.result
       → (BadArguments P g es s.params → Fails P g d Arguments t.place) → ((c : Ex) → IsOne c es → IsPart c d)
-          → Judged d (and_then r (λ _. Ok (given_of s.result)))
+      → Judged d (and_then r (λ _. Ok (given_of s.result)))
   called_judged t s (Ok x) h typed same broken part = (typed h, same ∙ seen-given_of s.result)
   called_judged {d} {es} t s (Err (IllTyped k p)) h typed same broken part = failed h
     where
@@ -109,7 +109,7 @@ module _ (P : Plain) (g : Env) where
       split (Some k) a =
           let h : call_signature P (static P g e) x ≡ Some k = ap (λ s. call_signature P s x) same ∙ a in
           called_judged t k (args_answer P g es t k.params) (args k.params) (λ all. t_call typed h all) (ap types.result_of h)
-              (λ b. itself (call_arguments typed h b)) (λ c is. call_argument is)
+          (λ b. itself (call_arguments typed h b)) (λ c is. call_argument is)
 
   static_judged : (es : Exs) (t : Tag) (m : ℕ) → ((us : List Ty) → JudgedArgs t es us (args_answer P g es t us))
       → Judged (static_call t m es) (call_answer (signature_of_method P m) (args_answer P g es t) t)
@@ -136,7 +136,7 @@ module _ (P : Plain) (g : Env) where
       signed m (Some k) s h a =
           let e : super_signature P g.self x ≡ Some k = rw s a in
           called_judged t k (args_answer P g es t k.params) (args k.params) (λ all. t_super_call s h e all) (ap types.result_of e)
-              (λ b. itself (super_arguments s a b)) (λ c is. super_argument is)
+          (λ b. itself (super_arguments s a b)) (λ c is. super_argument is)
 
       body : (b : Bool) (m : ℕ) → super_method P g.self x ≡ Some m → has_body P m ≡ b → Judged (super_call t x es) (super_body P b m (args_answer P g es t) t)
       body true m s h = signed m (signature_of_method P m) s h refl
@@ -171,22 +171,22 @@ module _ (P : Plain) (g : Env) where
     judged (create t n c es) = create_judged t n c es (is_concrete P c) refl
     judged (create_array t n u e) = then_judged (answer P g e) _ array_size (judged e)
         (λ s te se. asked_judged (is_numeric (seen s)) Operand (declared.TheVariants.Value u) (λ h. t_create_array te (ap is_numeric se ∙ h)) refl
-            (λ h. bad_size te (ap is_numeric se ∙ h)))
+        (λ h. bad_size te (ap is_numeric se ∙ h)))
     judged (cast t n u e) = then_judged (answer P g e) _ cast_value (judged e)
         (λ s te se. asked_judged (can_cast P (seen s) u) Cast (declared.TheVariants.Value u) (λ h. t_cast te (ap (λ x. can_cast P x u) se ∙ h)) refl
-            (λ h. bad_cast te (ap (λ x. can_cast P x u) se ∙ h)))
+        (λ h. bad_cast te (ap (λ x. can_cast P x u) se ∙ h)))
     judged (instance_of t n e c) = then_judged (answer P g e) _ tested_value (judged e)
         (λ s te se. asked_judged (are_related P (class_of (seen s)) (Some c)) Cast _
-            (λ h. t_instance_of te (ap (λ x. are_related P (class_of x) (Some c)) se ∙ h)) refl
-            (λ h. bad_instance_of te (ap (λ x. are_related P (class_of x) (Some c)) se ∙ h)))
+        (λ h. t_instance_of te (ap (λ x. are_related P (class_of x) (Some c)) se ∙ h)) refl
+        (λ h. bad_instance_of te (ap (λ x. are_related P (class_of x) (Some c)) se ∙ h)))
     judged (unary t o e) = then_judged (answer P g e) _ unary_value (judged e)
         (λ s te se. asked_judged (takes_one o (seen s)) Operand (declared.TheVariants.Value (types.unary_type o))
-            (λ h. t_unary te (ap (takes_one o) se ∙ h)) refl (λ h. bad_unary te (ap (takes_one o) se ∙ h)))
+        (λ h. t_unary te (ap (takes_one o) se ∙ h)) refl (λ h. bad_unary te (ap (takes_one o) se ∙ h)))
     judged (binary t o e d) = then_judged (answer P g e) _ binary_left (judged e)
         (λ s te se. then_judged (answer P g d) _ binary_right (judged d)
         (λ r td sd. let same : takes_two P o (static P g e) (static P g d) ≡ takes_two P o (seen s) (seen r) = rw (se, sd) refl in
         asked_judged (takes_two P o (seen s) (seen r)) Operand (declared.TheVariants.Value (binary_type o (seen s) (seen r)))
-            (λ h. t_binary te td (same ∙ h)) (rw (se, sd) refl) (λ h. bad_binary te td (same ∙ h))))
+        (λ h. t_binary te td (same ∙ h)) (rw (se, sd) refl) (λ h. bad_binary te td (same ∙ h))))
 
     judged_args : (es : Exs) (t : Tag) (us : List Ty) → JudgedArgs t es us (args_answer P g es t us)
     judged_args no_ex t [] = t_no_ex

@@ -69,11 +69,23 @@ module _ (P : Plain) where
   classes_right i [] = holds (λ j k at. absurd (cc at))
   classes_right i (k ∷ ks) =
       then_right _ (class_right i k.tag (class_rule P i P.methods) refl)
-      (λ r p h. let e : i + 0 ≡ i = omega arith in record { at = 0; class = k; stands = refl; breaks = subst (λ c. BreaksClass P c r)
-          (sym e) h.0; place = h.1 })
+      (λ r p h. let e : i + 0 ≡ i = omega arith in record {
+        at = 0;
+        class = k;
+        stands = refl;
+        breaks = subst (λ c. BreaksClass P c r)
+            (sym e) h.0;
+        place = h.1;
+      })
       (λ h. mapped (classes_right (suc i) ks)
-      (λ r p b. let e : i + suc b.at ≡ suc i + b.at = omega arith in record { at = suc b.at; class = b.class; stands = b.stands; breaks = subst
-          (λ c. BreaksClass P c r) (sym e) b.breaks; place = b.place })
+      (λ r p b. let e : i + suc b.at ≡ suc i + b.at = omega arith in record {
+        at = suc b.at;
+        class = b.class;
+        stands = b.stands;
+        breaks = subst
+            (λ c. BreaksClass P c r) (sym e) b.breaks;
+        place = b.place;
+      })
       (λ more. more_classes i k ks h more))
 
   body_right : (g : Env) (o : Option Sts) → Right ((xs : Sts) → o ≡ Some xs → TypedSts P g xs) (λ r p. (xs : Sts) × (o ≡ Some xs)
@@ -95,11 +107,24 @@ module _ (P : Plain) where
   methods_right i [] = holds (λ j k xs at e. absurd (cc at))
   methods_right i (k ∷ ks) =
       then_right _ (body_right (env_in P i) k.body)
-      (λ r p h. let z : i + 0 ≡ i = omega arith in record { at = 0; method = k; code = h.0; stands = refl; body = h.1; fault = subst
-          (λ m. FailsSts P (env_in P m) h.0 r p) (sym z) h.2 })
+      (λ r p h. let z : i + 0 ≡ i = omega arith in record {
+        at = 0;
+        method = k;
+        code = h.0;
+        stands = refl;
+        body = h.1;
+        fault = subst
+            (λ m. FailsSts P (env_in P m) h.0 r p) (sym z) h.2;
+      })
       (λ h. mapped (methods_right (suc i) ks)
-      (λ r p b. let z : i + suc b.at ≡ suc i + b.at = omega arith in record { at = suc b.at; method = b.method; code = b.code; stands = b.stands;
-          body = b.body; fault = subst (λ m. FailsSts P (env_in P m) b.code r p) (sym z) b.fault })
+      (λ r p b. let z : i + suc b.at ≡ suc i + b.at = omega arith in record {
+        at = suc b.at;
+        method = b.method;
+        code = b.code;
+        stands = b.stands;
+        body = b.body;
+        fault = subst (λ m. FailsSts P (env_in P m) b.code r p) (sym z) b.fault;
+      })
       (λ more. more_bodies i k ks h more))
 
 module _ (p : Program) where
@@ -130,7 +155,7 @@ module _ (p : Program) where
           let same : stmts no_place v.items ≡ xs = cc in
           subst (TypedSts (program_of no_place p) (env_in (program_of no_place p) (0 + m))) same
           (list_at (program_of no_place p) (env_in (program_of no_place p) (0 + m)) at_place no_place v.items
-              (bodies m (method_seen at_place k) (stmts at_place v.items) at (ap (body_seen at_place) e)))
+          (bodies m (method_seen at_place k) (stmts at_place v.items) at (ap (body_seen at_place) e)))
 
   pub program_right : Right (IsTyped (program_of no_place p)) (FailsIn (program_of no_place p) (program_of at_place p))
       (and_then (classes_answer (program_of no_place p) 0 (program_of at_place p).classes) (λ _. methods_answer (program_of no_place p) 0
@@ -138,10 +163,10 @@ module _ (p : Program) where
   program_right =
       then_right _ (classes_right (program_of no_place p) 0 (program_of at_place p).classes)
       (λ r pl b. let z : 0 + b.at ≡ b.at = omega arith in subst (FailsIn (program_of no_place p) (program_of at_place p) r) b.place
-          (at_class b.stands (subst (λ c. BreaksClass (program_of no_place p) c r) z b.breaks)))
+      (at_class b.stands (subst (λ c. BreaksClass (program_of no_place p) c r) z b.breaks)))
       (λ classes. mapped (methods_right (program_of no_place p) 0 (program_of at_place p).methods)
       (λ r pl b. let z : 0 + b.at ≡ b.at = omega arith in in_method b.at b.stands b.body
-          (subst (λ m. FailsSts (program_of no_place p) (env_in (program_of no_place p) m) b.code r pl) z b.fault))
+      (subst (λ m. FailsSts (program_of no_place p) (env_in (program_of no_place p) m) b.code r pl) z b.fault))
       (λ bodies. typed_from classes bodies))
 
   -- where a rule fails in a program, it is not typed
@@ -163,9 +188,9 @@ module _ (p : Program) where
           let same : xs ≡ stmts at_place v.items = cc in
           let P = program_of no_place p in
           let typed_body : TypedSts P (env_of m (method_seen no_place k)) (stmts no_place v.items) = typed.methods m (method_seen no_place k) at
-              (stmts no_place v.items) (ap (body_seen no_place) e) in
+          (stmts no_place v.items) (ap (body_seen no_place) e) in
           let here : TypedSts P (env_in P m) (stmts no_place v.items) = subst (λ g. TypedSts P g (stmts no_place v.items))
-              (sym (env_same m (method_seen no_place k) at)) typed_body in
+          (sym (env_same m (method_seen no_place k) at)) typed_body in
           fails_sts_untyped P (env_in P m) (subst (λ ys. FailsSts P (env_in P m) ys r pl) same f) (list_at P (env_in P m) no_place at_place v.items here)
 
   pub ok_typed : (r : Result (Unit {0}) CheckFault)

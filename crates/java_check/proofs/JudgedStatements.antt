@@ -73,7 +73,7 @@ module _ (P : Plain) (g : Env) where
 
   element_target : (a : Tag) (e : Ex) (t : Tag) (d i : Ex) (s j : declared.Static) → Typed P g d → static P g d ≡ seen s → Typed P g i → static P g i ≡ seen j
       → (b : Bool) → (is_some (element_of (seen s)) && is_numeric (seen j)) ≡ b
-          → JudgedTarget a e (to_element t d i) (asked b Operand t (given_of (element_of (seen s))))
+      → JudgedTarget a e (to_element t d i) (asked b Operand t (given_of (element_of (seen s))))
   element_target a e t d i s j td sd ti si true h =
       let same : (is_some (element_of (static P g d)) && is_numeric (static P g i)) ≡ true = rw (sd, si) h in
       let both = and_parts (is_some (element_of (static P g d))) (is_numeric (static P g i)) same in
@@ -90,7 +90,7 @@ module _ (P : Plain) (g : Env) where
       (λ s td sd. field_target a e t d x td (field_in P (seen s) x) (ap (λ s. field_in P s x) sd))
   target_judged a e (to_element t d i) = part_target a e (to_element t d i) (answer P g d) _ element_base (judged P g d)
       (λ s td sd. part_target a e (to_element t d i) (answer P g i) _ element_at (judged P g i) (λ j ti si. element_target a e t d i s j td sd ti si
-          (is_some (element_of (seen s)) && is_numeric (seen j)) refl))
+      (is_some (element_of (seen s)) && is_numeric (seen j)) refl))
   target_judged a e no_target = itself_st no_variable
 
   assign_judged : (t : Tag) (b : Target) (e : Ex) (r : Answer) → JudgedTarget t e b r
@@ -102,7 +102,7 @@ module _ (P : Plain) (g : Env) where
       given_right e (answer P g e) _ (judged P g e) (λ k p f. in_ex assigned f)
       (λ s te se. let same : fits_in P (static P g e) (target_type P g b) ≡ fits_in P (seen s) (seen d) = rw (se, h.1) refl in
       asked_right (FailsSt P g (assign t b e)) (fits_in P (seen s) (seen d)) Assign t (λ k. t_assign h.0 te (same ∙ k))
-          (λ k. itself_st (bad_assign h.0 te (same ∙ k))))
+      (λ k. itself_st (bad_assign h.0 te (same ∙ k))))
 
   return_judged : (t : Tag) (e : Ex) (s : declared.Static) → Typed P g e → static P g e ≡ seen s → (o : Option Ty) → g.result ≡ o
       → Right (TypedSt P g (return t (Some e))) (FailsSt P g (return t (Some e))) (return_answer P g o s t)
@@ -130,14 +130,14 @@ module _ (P : Plain) (g : Env) where
     judged_st (declare t i (Some e)) = given_right e (answer P g e) _ (judged P g e) (λ k p f. in_ex initial f)
         (λ s te se. let d = or_nothing (slice_get g.locals i) in
         asked_right (FailsSt P g (declare t i (Some e))) (fits_in P (seen s) d) Assign t (λ h. t_declare_as te (ap (λ s. fits_in P s d) se ∙ h))
-            (λ h. itself_st (bad_initial te (ap (λ s. fits_in P s d) se ∙ h))))
+        (λ h. itself_st (bad_initial te (ap (λ s. fits_in P s d) se ∙ h))))
     judged_st (block t xs) = mapped (judged_sts xs) (λ k p f. in_block f) (λ h. t_block h)
     judged_st (assign t b e) = assign_judged t b e (target_answer P g t b) (target_judged t e b)
     judged_st (act t e) = given_right e (answer P g e) _ (judged P g e) (λ k p f. in_ex acted f) (λ s te se. holds (t_act te))
     judged_st (print t n None) = holds t_print_line
     judged_st (print t n (Some e)) = given_right e (answer P g e) _ (judged P g e) (λ k p f. in_ex printed f)
         (λ s te se. asked_right (FailsSt P g (print t n (Some e))) (is_printable (seen s)) Operand t (λ h. t_print te (ap is_printable se ∙ h))
-            (λ h. itself_st (bad_print te (ap is_printable se ∙ h))))
+        (λ h. itself_st (bad_print te (ap is_printable se ∙ h))))
     judged_st (choose t xs) = mapped (judged_arms xs) (λ k p f. in_choose f) (λ h. t_choose h)
     judged_st (loop t is_while first test step body) =
         then_right _ (judged_sts first) (λ k p f. in_first f)
@@ -161,6 +161,6 @@ module _ (P : Plain) (g : Env) where
     judged_arms (arm e xs more) =
         then_right _
         (condition_right {T = Typed P g e × (is_boolean (static P g e) ≡ true)} (FailsArms P g (arm e xs more)) e (λ k p f. in_test f)
-            (λ te h. (te, h)) (λ te h. bad_test te h)) (λ k p f. f)
+        (λ te h. (te, h)) (λ te h. bad_test te h)) (λ k p f. f)
         (λ he. then_right _ (judged_sts xs) (λ k p f. in_arm f)
         (λ hx. mapped (judged_arms more) (λ k p f. in_more f) (λ hm. t_arm he.0 he.1 hx hm)))

@@ -57,7 +57,9 @@ fn text_called(name: &Name) -> Option<Callee>
 /// The slot that a class offers under a name.
 fn offered(p: &Program, class: ClassId, name: &Name) -> Option<Callee>
     requires { IsFormed (program_of no_place p.now) }
-    ensures { option_map (signature_of (program_of no_place p.now)) result ≡ option_and_then (types.signature_of_slot (program_of no_place p.now)) (classes.slot_of (program_of no_place p.now) class.0 name.now) }
+    ensures { option_map (signature_of (program_of no_place p.now)) result
+        ≡ option_and_then (types.signature_of_slot (program_of no_place p.now))
+        (classes.slot_of (program_of no_place p.now) class.0 name.now) }
 {
     match slot_of(p, class, name) {
         Some(slot) if p.slots.get(slot as usize).is_some() => Some(Callee::Slot(slot)),

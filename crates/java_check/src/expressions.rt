@@ -183,7 +183,9 @@ fn type_of_call(
     place: Place,
 ) -> Result<Static, CheckFault>
     requires { IsFormed (program_of no_place p.now) }
-    ensures { result ≡ call_answer (option_map (signature_of (program_of no_place p.now)) callee) (args_answer (program_of no_place p.now) (env_in (program_of no_place p.now) body.0) (exprs at_place args.now.items) (at_place place)) (at_place place) }
+    ensures { result ≡ call_answer (option_map (signature_of (program_of no_place p.now)) callee)
+        (args_answer (program_of no_place p.now) (env_in (program_of no_place p.now) body.0)
+        (exprs at_place args.now.items) (at_place place)) (at_place place) }
 {
     match callee {
         Some(callee) => {
@@ -204,7 +206,10 @@ fn type_of_super(
     place: Place,
 ) -> Result<Static, CheckFault>
     requires { IsFormed (program_of no_place p.now) }
-    ensures { result ≡ super_answer (program_of no_place p.now) (classes.super_method (program_of no_place p.now) (env_in (program_of no_place p.now) body.0).self name.now) (args_answer (program_of no_place p.now) (env_in (program_of no_place p.now) body.0) (exprs at_place args.now.items) (at_place place)) (at_place place) }
+    ensures { result ≡ super_answer (program_of no_place p.now)
+        (classes.super_method (program_of no_place p.now) (env_in (program_of no_place p.now) body.0).self
+        name.now) (args_answer (program_of no_place p.now) (env_in (program_of no_place p.now) body.0)
+        (exprs at_place args.now.items) (at_place place)) (at_place place) }
 {
     match super_method(p, self_class(p, body), name) {
         Some(method) if has_body(p, method) => {
@@ -224,7 +229,8 @@ fn check_args(
     place: Place,
 ) -> Result<(), CheckFault>
     requires { IsFormed (program_of no_place p.now) }
-    ensures { result ≡ args_answer (program_of no_place p.now) (env_in (program_of no_place p.now) body.0) (exprs at_place args.now) (at_place place) (signature_of (program_of no_place p.now) callee).params }
+    ensures { result ≡ args_answer (program_of no_place p.now) (env_in (program_of no_place p.now) body.0)
+        (exprs at_place args.now) (at_place place) (signature_of (program_of no_place p.now) callee).params }
 {
     for (i, arg) in args.iter().enumerate() {
         let Some(ty) = param_at(p, callee, i) else {
@@ -250,7 +256,10 @@ fn check_arg(
     place: Place,
 ) -> Result<(), CheckFault>
     requires { IsFormed (program_of no_place p.now) }
-    ensures { result ≡ and_then (answer (program_of no_place p.now) (env_in (program_of no_place p.now) body.0) (expr_of at_place arg.now)) (λ s. asked (types.fits (program_of no_place p.now) (seen s) ty) Kind.Arguments (at_place place) (tt {0})) }
+    ensures { result ≡ and_then (answer (program_of no_place p.now)
+        (env_in (program_of no_place p.now) body.0) (expr_of at_place arg.now))
+        (λ s. asked (types.fits (program_of no_place p.now) (seen s) ty) Kind.Arguments
+        (at_place place) (tt {0})) }
 {
     ask(fits(p, type_of(p, body, arg)?, ty), Kind::Arguments, place)
 }
@@ -268,7 +277,8 @@ fn access(p: &Program, given: Static, name: &Name, place: Place) -> Result<Stati
 
 /// What an index gives.
 pub(crate) fn element(base: Static, index: Static, place: Place) -> Result<Static, CheckFault>
-    ensures { result ≡ asked (is_some (types.element_of (seen base)) && types.is_numeric (seen index)) Kind.Operand (at_place place) (given_of (types.element_of (seen base))) }
+    ensures { result ≡ asked (is_some (types.element_of (seen base)) && types.is_numeric (seen index))
+        Kind.Operand (at_place place) (given_of (types.element_of (seen base))) }
 {
     let element = element_of(base);
     ask(element.is_some() && is_numeric(index), Kind::Operand, place)?;
@@ -311,7 +321,8 @@ fn cast(p: &Program, given: Static, ty: Ty, place: Place) -> Result<Static, Chec
 /// What an `instanceof` gives.
 fn instance(p: &Program, given: Static, class: ClassId, place: Place) -> Result<Static, CheckFault>
     requires { IsFormed (program_of no_place p.now) }
-    ensures { result ≡ asked (typing.are_related (program_of no_place p.now) (types.class_of (seen given)) (Some class.0)) Kind.Cast (at_place place) (Static.Value (types.plain_type TyBase.Boolean)) }
+    ensures { result ≡ asked (typing.are_related (program_of no_place p.now) (types.class_of (seen given))
+        (Some class.0)) Kind.Cast (at_place place) (Static.Value (types.plain_type TyBase.Boolean)) }
 {
     ask(
         are_related(p, class_of(given), Some(class)),
@@ -338,7 +349,8 @@ fn binary(
     place: Place,
 ) -> Result<Static, CheckFault>
     requires { IsFormed (program_of no_place p.now) }
-    ensures { result ≡ asked (typing.takes_two (program_of no_place p.now) op (seen left) (seen right)) Kind.Operand (at_place place) (Static.Value (types.binary_type op (seen left) (seen right))) }
+    ensures { result ≡ asked (typing.takes_two (program_of no_place p.now) op (seen left) (seen right))
+        Kind.Operand (at_place place) (Static.Value (types.binary_type op (seen left) (seen right))) }
 {
     ask(takes_two(p, op, left, right), Kind::Operand, place)?;
     Ok(Static::Value(binary_type(op, left, right)))

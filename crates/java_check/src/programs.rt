@@ -45,7 +45,9 @@ fn check_program(p: &Program) -> Result<(), CheckFault>
 /// The first rule that fails: in the classes, then in the bodies.
 fn first_fault(p: &Program) -> Result<(), CheckFault>
     requires { IsFormed (program_of no_place p.now) }
-    ensures { result ≡ and_then (classes_answer (program_of no_place p.now) 0 (program_of at_place p.now).classes) (λ _. methods_answer (program_of no_place p.now) 0 (program_of at_place p.now).methods) }
+    ensures { result ≡ and_then (classes_answer (program_of no_place p.now) 0
+        (program_of at_place p.now).classes) (λ _. methods_answer (program_of no_place p.now) 0
+        (program_of at_place p.now).methods) }
 {
     match check_classes(p, &p.classes) {
         Ok(()) => check_methods(p, &p.methods),

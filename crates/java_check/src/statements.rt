@@ -70,7 +70,8 @@ fn target_type(
 /// The type of the field that an object has under a name.
 fn stored(p: &Program, given: Static, name: &Name, place: Place) -> Result<Static, CheckFault>
     requires { IsFormed (program_of no_place p.now) }
-    ensures { result ≡ field_answer (program_of no_place p.now) (env_in (program_of no_place p.now) 0) (types.field_in (program_of no_place p.now) (seen given) name.now) (at_place place) }
+    ensures { result ≡ field_answer (program_of no_place p.now) (env_in (program_of no_place p.now) 0)
+        (types.field_in (program_of no_place p.now) (seen given) name.now) (at_place place) }
 {
     match field_in(p, given, name) {
         Some(field) => Ok(given_of(field_type(p, field))),
@@ -87,7 +88,9 @@ fn check_value(
     place: Place,
 ) -> Result<(), CheckFault>
     requires { IsFormed (program_of no_place p.now) }
-    ensures { result ≡ assign_answer (program_of no_place p.now) (env_in (program_of no_place p.now) body.0) (answer (program_of no_place p.now) (env_in (program_of no_place p.now) body.0) (expr_of at_place value.now)) (seen target) (at_place place) }
+    ensures { result ≡ assign_answer (program_of no_place p.now) (env_in (program_of no_place p.now) body.0)
+        (answer (program_of no_place p.now) (env_in (program_of no_place p.now) body.0)
+        (expr_of at_place value.now)) (seen target) (at_place place) }
 {
     ask(
         fits_in(p, type_of(p, body, value)?, target),
@@ -132,7 +135,8 @@ fn result_type(p: &Program, body: MemberId) -> Option<Ty>
 /// Whether a value is what the method gives back.
 fn check_result(p: &Program, body: MemberId, given: Static, place: Place) -> Result<(), CheckFault>
     requires { IsFormed (program_of no_place p.now) }
-    ensures { result ≡ return_answer (program_of no_place p.now) (env_in (program_of no_place p.now) 0) (env_in (program_of no_place p.now) body.0).result given (at_place place) }
+    ensures { result ≡ return_answer (program_of no_place p.now) (env_in (program_of no_place p.now) 0)
+        (env_in (program_of no_place p.now) body.0).result given (at_place place) }
 {
     match result_type(p, body) {
         Some(ty) => ask(fits(p, given, ty), Kind::Return, place),
@@ -268,7 +272,8 @@ fn check_arms(
     other: &Option<Vec<RStmt>>,
 ) -> Result<(), CheckFault>
     requires { IsFormed (program_of no_place p.now) }
-    ensures { result ≡ arms_answer (program_of no_place p.now) (env_in (program_of no_place p.now) body.0) (arms_seen at_place arms.now (else_seen at_place other.now)) }
+    ensures { result ≡ arms_answer (program_of no_place p.now) (env_in (program_of no_place p.now) body.0)
+        (arms_seen at_place arms.now (else_seen at_place other.now)) }
 {
     for arm in arms {
         if let Err(fault) = check_condition(p, body, &arm.test) {

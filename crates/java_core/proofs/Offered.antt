@@ -47,7 +47,7 @@ module _ (P : Plain) (own : ℕ → Option ℕ) where
       let direct = up k (0, omega arith, refl) in
       ⊎_elim
       (λ here. ⊎_elim (λ it. record { holder = k.0; above = direct; found = it }) (λ above. further direct (more k above))
-          (first_or_cases (own k.0) (first_found own (faces_above P n k.0)) d here))
+      (first_or_cases (own k.0) (first_found own (faces_above P n k.0)) d here))
       (λ later. in_faces n c d xs (λ j h. up j (suc h.0, omega (arith, h.1), h.2)) more later)
       (first_or_cases (first_found own (k.0 ∷ faces_above P n k.0)) (first_found own (flat_map (λ k. k.0 ∷ faces_above P n k.0) xs)) d
       (sym (first_found-append own (k.0 ∷ faces_above P n k.0) (flat_map (λ k. k.0 ∷ faces_above P n k.0) xs)) ∙ e))
@@ -113,7 +113,7 @@ module _ (P : Plain) (own : ℕ → Option ℕ) (held : AreHeld P own) where
       subst IsThere (sym (first_found-append own (j.0 ∷ faces_above P n j.0) rest))
       (⊎_elim
       (λ e. there_or (first_found own (j.0 ∷ faces_above P n j.0)) (first_found own rest)
-          (subst (λ (i : ClassId). IsThere (first_found own (i.0 ∷ faces_above P n i.0))) (sym e) there))
+      (subst (λ (i : ClassId). IsThere (first_found own (i.0 ∷ faces_above P n i.0))) (sym e) there))
       (λ later. or_there (first_found own (j.0 ∷ faces_above P n j.0)) (first_found own rest) (listed n xs k later there))
       (contains_cases j xs k h))
 
@@ -125,7 +125,7 @@ module _ (P : Plain) (own : ℕ → Option ℕ) (held : AreHeld P own) where
   face-found (suc n) c seen k {b} e h direct (through {c = j} more up) found =
       ⊎_elim
       (λ parent. let face = held.faces c k direct in absurd
-          (above_object (subst (λ i. IsSubclass P i b) (held.parent k.0 face.0 j face.1 face.2 parent) up) found))
+      (above_object (subst (λ i. IsSubclass P i b) (held.parent k.0 face.0 j face.1 face.2 parent) up) found))
       (λ face. listed n (faces_of P c) k direct
       (or_there (own k.0) (first_found own (faces_above P n k.0))
       (face-found n k.0 (c ∷ seen) j (omega (arith, e)) (passed_more P held.acyclic seen (face-super P own c k direct) h) face up found)))
@@ -170,8 +170,14 @@ own_method-own P c x m e =
     let k = found.0 in
     let outer = and_parts (eqb k.owner c) (not k.is_static && bytes_eq k.name x) found.2 in
     let inner = and_parts (not k.is_static) (bytes_eq k.name x) outer.1 in
-    record { method = k; stands = found.1; owner = eqb-true k.owner c outer.0; instance = not-true k.is_static inner.0; name =
-        (bytes_eq-Decides k.name x).0 inner.1 }
+    record {
+      method = k;
+      stands = found.1;
+      owner = eqb-true k.owner c outer.0;
+      instance = not-true k.is_static inner.0;
+      name =
+          (bytes_eq-Decides k.name x).0 inner.1;
+    }
 
 pub own-own_method : (P : Plain) (c : ℕ) (x : List ℕ) (m : ℕ) → IsOwn P c x m → IsThere (own_method P c x)
 own-own_method P c x m h =
@@ -211,7 +217,7 @@ module _ (P : Plain) (formed : IsFormed P) where
   offered-declared c x s o =
       let own = λ (k : ℕ). own_method P k x in
       let there = own-own_method P o.method.owner x o.number
-          (record { method = o.method; stands = o.stands; owner = refl; instance = o.instance; name = o.name }) in
+      (record { method = o.method; stands = o.stands; owner = refl; instance = o.instance; name = o.name }) in
       subst IsThere (sym (declaration_of-found P c x))
       (⊎_elim
       (λ near. there_or (nearest_of P own c) (nearest_of P (λ k. first_found own (faces_above P (length P.classes) k)) c) near)
@@ -226,8 +232,16 @@ module _ (P : Plain) (formed : IsFormed P) where
       declared (Some m) d e =
           let a = declaration-above P c x m d in
           let k = own_method-own P a.holder x m a.found in
-          record { number = m; method = k.method; stands = k.stands; instance = k.instance; name = k.name; above = subst (λ b. IsSubclass P c b)
-              (sym k.owner) a.above; slot = sym (rw k.stands refl) ∙ e }
+          record {
+            number = m;
+            method = k.method;
+            stands = k.stands;
+            instance = k.instance;
+            name = k.name;
+            above = subst (λ b. IsSubclass P c b)
+                (sym k.owner) a.above;
+            slot = sym (rw k.stands refl) ∙ e;
+          }
 
   pub offered-slot_of : (c : ℕ) (x : List ℕ) (s : ℕ) → IsOffered P c x s → slot_of P c x ≡ Some s
   offered-slot_of c x s o =
@@ -239,7 +253,7 @@ module _ (P : Plain) (formed : IsFormed P) where
       rw (there.1, k.stands)
       (⊎_elim
       (λ e. let same : Some k.method ≡ Some o.method = sym k.stands ∙ ap (slice_get P.methods) e ∙ o.stands in let it : k.method ≡ o.method = cc in ap
-          (λ (h : PlainMethod). h.slot) it ∙ o.slot)
+      (λ (h : PlainMethod). h.slot) it ∙ o.slot)
       (λ h. h.1 ∙ o.slot)
       (formed.one_slot c m o.number k.method o.method k.stands o.stands above o.above (k.name ∙ sym o.name)))
 

@@ -34,7 +34,7 @@ module _ (tag : Place → Tag) where
   arms-items end_of-RArm other = refl
   arms-items (more_of-RArm t s body rest) other =
       ap (λ b. arm (expr_of tag t) b (arms_of tag rest other)) (stmts_shown s body)
-          ∙ ap (arm (expr_of tag t) (stmts tag (shown-the_row-RStmt-0 s body).items)) (arms-items rest other)
+      ∙ ap (arm (expr_of tag t) (stmts tag (shown-the_row-RStmt-0 s body).items)) (arms-items rest other)
 
   pub arms_vec : (v : Vec RArm Global) (other : Arms) → arms_of tag (hidden-the_row-RArm-1 v) other ≡ arms_seen tag v.items other
   arms_vec v other = arms-items (hidden-the_row-RArm-1 v) other ∙ ap (λ xs. arms_seen tag xs other) (items_hidden-the_row-RArm-1 v)

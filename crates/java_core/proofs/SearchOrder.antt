@@ -59,22 +59,22 @@ module _ (f : ℕ → Option ℕ) where
         let n = length P.classes in
         first_found-append (chain P n c) (flat_map (λ k. faces_above P n k) (chain P n c))
         ∙ ap (λ o. first_or o (first_found f (flat_map (λ k. faces_above P n k) (chain P n c)))) (sym (first_found-each (chain P n c))
-            ∙ first_found-chain (λ k. k ∷ []) n c ∙ nearest-same (λ k. first_or (f k) None) f (λ k. first_or-none (f k)) n c)
+        ∙ first_found-chain (λ k. k ∷ []) n c ∙ nearest-same (λ k. first_or (f k) None) f (λ k. first_or-none (f k)) n c)
         ∙ ap (first_or (nearest P f n c)) (first_found-chain (λ k. faces_above P n k) n c)
 
     pub faces_step : (n : ℕ) (xs : List ClassId) (i : ℕ) (d : ClassId) → i < length xs
         → first_found f (flat_map (λ k. k.0 ∷ faces_above P n k.0) (drop i xs))
         ≡ first_or (first_or (f (get_or xs i d).0) (first_found f (faces_above P n (get_or xs i d).0)))
-            (first_found f (flat_map (λ k. k.0 ∷ faces_above P n k.0) (drop (i + 1) xs)))
+        (first_found f (flat_map (λ k. k.0 ∷ faces_above P n k.0) (drop (i + 1) xs)))
     faces_step n xs i d h =
         let k = get_or xs i d in
         rw (add-one, drop-cons xs i d)
-            (ap (first_or (f k.0)) (first_found-append (faces_above P n k.0) (flat_map (λ k. k.0 ∷ faces_above P n k.0) (drop (suc i) xs)))
-            ∙ sym (first_or-assoc (f k.0) (first_found f (faces_above P n k.0))
-            (first_found f (flat_map (λ k. k.0 ∷ faces_above P n k.0) (drop (suc i) xs)))))
+        (ap (first_or (f k.0)) (first_found-append (faces_above P n k.0) (flat_map (λ k. k.0 ∷ faces_above P n k.0) (drop (suc i) xs)))
+        ∙ sym (first_or-assoc (f k.0) (first_found f (faces_above P n k.0))
+        (first_found f (flat_map (λ k. k.0 ∷ faces_above P n k.0) (drop (suc i) xs)))))
 
 pub declaration_of-found : (P : Plain) (c : ℕ) (x : List ℕ)
     → declaration_of P c x ≡ first_or (nearest_of P (λ k. own_method P k x) c)
-        (nearest_of P (λ k. first_found (λ j. own_method P j x) (faces_above P (length P.classes) k)) c)
+    (nearest_of P (λ k. first_found (λ j. own_method P j x) (faces_above P (length P.classes) k)) c)
 unfolding declaration_of
 declaration_of-found P c x = found-search_order (λ k. own_method P k x) P c

@@ -154,7 +154,7 @@ pub data StringMethod : Type 0 where
 abbrev pub string_method : List ℕ → Option StringMethod
 string_method x =
     if bytes_eq x (codes "length") then Some LengthOf else if bytes_eq x (codes "charAt") then Some CharAt else if bytes_eq x (codes "equals") then
-        Some Equals else None
+    Some Equals else None
 
 abbrev pub string_params : StringMethod → List Ty
 string_params LengthOf = []

@@ -21,8 +21,11 @@ LetterFits c (Some d) = (escaped d ≡ Some c) × (encode_utf16 c ≡ c ∷ [])
 LetterFits c None = ((c == 34) ≡ false) × ((c == 92) ≡ false) × (is_line_end c ≡ false) × ((c == 39) ≡ false)
 
 test : (P : Option ℕ → Type 0) (c d e : ℕ) (o : Option ℕ) → (c ≡ d → P (Some e)) → ((c == d) ≡ false → P o) → P (if c == d then Some e else o)
-test P c d e o a b = elim (cases_Bool (c == d)) as (λ _. P (if c == d then Some e else o)) [ inl h ↦ subst (λ t. P (if t then Some e else o)) (sym h)
-    (a (eqb-true c d h)) | inr h ↦ subst (λ t. P (if t then Some e else o)) (sym h) (b h) ]
+test P c d e o a b = elim (cases_Bool (c == d)) as (λ _. P (if c == d then Some e else o)) [
+  | inl h ↦ subst (λ t. P (if t then Some e else o)) (sym h)
+      (a (eqb-true c d h))
+  | inr h ↦ subst (λ t. P (if t then Some e else o)) (sym h) (b h)
+]
 
 here : (d e : ℕ) → LetterFits d (Some e) → (c : ℕ) → c ≡ d → LetterFits c (Some e)
 here d e h c k = subst (λ x. LetterFits x (Some e)) (sym k) h

@@ -27,8 +27,11 @@ first_longest cs (n ∷ ns) m h e =
     elim (cases_Bool (is_front (mark_text n) cs)) as (λ _. NoneLonger cs m (n ∷ ns)) [
       | inl f ↦ (let same : n ≡ m = cc (sym (cond-true (is_front (mark_text n) cs) (Some n) (first_that (λ k. is_front (mark_text k) cs) ns) f) ∙ e) in
           subst (λ k. NoneLonger cs k (n ∷ ns)) same ((λ g. omega arith), all_shorter cs n ns p.0))
-      | inr f ↦ ((λ g. absurd (true≢false (sym g ∙ f))), first_longest cs ns m p.1
-          (sym (cond-false (is_front (mark_text n) cs) (Some n) (first_that (λ k. is_front (mark_text k) cs) ns) f) ∙ e))
+      | inr f ↦ (
+        (λ g. absurd (true≢false (sym g ∙ f))),
+        first_longest cs ns m p.1
+            (sym (cond-false (is_front (mark_text n) cs) (Some n) (first_that (λ k. is_front (mark_text k) cs) ns) f) ∙ e),
+      )
     ]
 
 pub longest : (cs : List ℕ) (o : Option Mark) → o ≡ mark_of cs → IfSome o (λ m. NoneLonger cs m MARKS)

@@ -34,8 +34,14 @@ far c d (inl h) = ne_eqb c d (λ e. omega arith)
 far c d (inr h) = ne_eqb c d (λ e. omega arith)
 
 not_blank : (c : ℕ) → Range c → is_blank c ≡ false
-not_blank c h = rw (far c 32 (inr (omega (arith, h.0))), far c 9 (inr (omega (arith, h.0))), far c 12 (inr (omega (arith, h.0))), far c 13
-    (inr (omega (arith, h.0))), far c 10 (inr (omega (arith, h.0)))) refl
+not_blank c h = rw (
+  far c 32 (inr (omega (arith, h.0))),
+  far c 9 (inr (omega (arith, h.0))),
+  far c 12 (inr (omega (arith, h.0))),
+  far c 13
+      (inr (omega (arith, h.0))),
+  far c 10 (inr (omega (arith, h.0))),
+) refl
 
 not_start : (c : ℕ) → Range c → is_start c ≡ false
 not_start c h =
@@ -76,9 +82,9 @@ module _ (c : ℕ) (xs rest : List ℕ) (n : ℕ) (digits : list_all is_ascii_di
   read =
       let big : nat_lt 2147483648 n ≡ false = le-ltb 2147483648 n small in
       ap (λ m. number_piece (digits_value_after 10 0 (take m (c ∷ (xs ++ rest)))) (length xs) (next_is is_part (drop m (c ∷ (xs ++ rest)))))
-          (add-one (length xs))
+      (add-one (length xs))
       ∙ ap (λ ys. number_piece (digits_value_after 10 0 (c ∷ ys)) (length xs) (next_is is_part (drop (length xs) (xs ++ rest))))
-          (take_at xs rest (length xs) refl)
+      (take_at xs rest (length xs) refl)
       ∙ ap (λ ys. number_piece (digits_value_after 10 0 (c ∷ xs)) (length xs) (next_is is_part ys)) (drop_at xs rest (length xs) refl)
       ∙ ap (λ m. number_piece m (length xs) (next_is is_part rest)) value
       ∙ ap (number_piece n (length xs)) apart

@@ -32,8 +32,10 @@ run_taken p xs rest h k = rw (run_len p xs rest h k) (take_at xs rest (length xs
 
 -- a start of an identifier is none of these
 pub starts_none : (c d : ℕ) → is_start d ≡ false → is_start c ≡ true → (c == d) ≡ false
-starts_none c d h k = elim (c == d) as (λ b. (c == d) ≡ b → (b ≡ false)) [ true ↦ λ e. absurd (true≢false (sym k ∙ ap is_start (eqb-true c d e) ∙ h))
-    | false ↦ λ e. refl ] refl
+starts_none c d h k = elim (c == d) as (λ b. (c == d) ≡ b → (b ≡ false)) [
+  | true ↦ λ e. absurd (true≢false (sym k ∙ ap is_start (eqb-true c d e) ∙ h))
+  | false ↦ λ e. refl
+] refl
 
 pub start_not_blank : (c : ℕ) → is_start c ≡ true → is_blank c ≡ false
 unfolding unicode_ident
@@ -73,7 +75,7 @@ key k rest ks l s = key_at k (get_or (key_text k) 0 0) (drop 1 (key_text k)) res
 marked : (m : Mark) (c : ℕ) (xs rest : List ℕ) (ks : List TokenKind) → length (mark_text m) - 1 ≡ length xs → is_blank c ≡ false → is_start c ≡ false
     → is_ascii_digit c ≡ false → (c == 34) ≡ false → (c == 39) ≡ false
     → mark_of (c ∷ (xs ++ rest)) ≡ Some m → is_front (codes "//") (c ∷ (xs ++ rest)) ≡ false → is_front (codes "/*") (c ∷ (xs ++ rest)) ≡ false
-        → Spells rest ks → Spells (c ∷ (xs ++ rest)) (kinds.Mark m ∷ ks)
+    → Spells rest ks → Spells (c ∷ (xs ++ rest)) (kinds.Mark m ∷ ks)
 marked m c xs rest ks z h k l n o e f g s = one_more (kinds.Mark m) c xs rest ks (mark_rule c (xs ++ rest) h k l n o f g ∙ ap mark_piece e
     ∙ ap (Part (kinds.Mark m)) z) s
 

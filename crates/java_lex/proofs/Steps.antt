@@ -80,7 +80,7 @@ comment_step xs n r b h e f k =
     let d = drop_more xs n 0 h in
     on_more n (comment_end (drop (n + 1) xs))
     ∙ ap (on n) (sym (comment_more (get_or xs n 0) (drop (n + 1) xs) (ap (is_front (codes "*/")) (sym d)
-        ∙ sym (ap (is_front (codes "*/")) (take_rest xs n)) ∙ sym e ∙ f)))
+    ∙ sym (ap (is_front (codes "*/")) (take_rest xs n)) ∙ sym e ∙ f)))
     ∙ ap (λ ys. on n (comment_end ys)) (sym d) ∙ k
 
 pub value_rises : (n : ℕ) (ds : List ℕ) → n ≤ digits_value_after 10 n ds
@@ -91,4 +91,4 @@ pub value_over : (v c m : ℕ) (ds after : List ℕ) → ds ≡ c ∷ after → 
 value_over v c m ds after e f h =
     let p : 2147483648 < digits_value_after 10 (v * 10 + digit_value c) after = omega (arith, value_rises (v * 10 + digit_value c) after, f) in
     sym (ap (λ ys. capped (digits_value_after 10 v ys)) e ∙ cond-true (nat_lt 2147483648 (digits_value_after 10 (v * 10 + digit_value c) after)) _
-        _ (lt-ltb _ _ p))
+    _ (lt-ltb _ _ p))

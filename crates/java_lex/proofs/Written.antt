@@ -44,8 +44,11 @@ while_scalars (suc n) (c ∷ cs) h = let q = and_parts _ _ h in and_from _ _ q.0
 word_by : (c : ℕ) (cs : List ℕ) (o : Option Keyword) (n : ℕ) → key_of (c ∷ take_while is_part cs) ≡ o → all_scalars (c ∷ cs) ≡ true
     → is_start c ≡ true → Good (Part (word_kind (c ∷ take_while is_part cs) o) n)
 word_by c cs (Some k) n e s h = tt
-word_by c cs None n e s h = let q = and_parts _ _ s in record { named = and_from _ _ (and_from _ _ h (while_all is_part cs)) (ap is_none e); scalars =
-    and_from _ _ q.0 (while_scalars (prefix_len is_part cs) cs q.1) }
+word_by c cs None n e s h = let q = and_parts _ _ s in record {
+  named = and_from _ _ (and_from _ _ h (while_all is_part cs)) (ap is_none e);
+  scalars =
+      and_from _ _ q.0 (while_scalars (prefix_len is_part cs) cs q.1);
+}
 
 number_kind_good : (v : ℕ) → v ≤ 2147483648 → IsWritable (number_kind v)
 number_kind_good v h = cond_both (v == 2147483648) kinds.Least (kinds.Int (pos v)) IsWritable (λ e. tt)
@@ -118,8 +121,11 @@ char_good [] s = tt
 char_good (c ∷ []) s = tt
 char_good (c ∷ d ∷ cs) s = cond_both (c == 39) _ _ Good (λ h. tt) (λ h. cond_both (is_line_end c) _ _ Good (λ h. tt) (λ h. cond_both (c == 92) _ _ Good
     (λ k. escape_good (escaped d) _ (escaped_plain d))
-    (λ k. cond_both ((d == 39) && nat_lt c 65536) _ _ Good (λ l. record { scalar = and_from _ _ (and_parts _ _ s).0 refl; small = ltb-true c 65536
-        (and_parts (d == 39) (nat_lt c 65536) l).1 }) (λ l. tt))))
+    (λ k. cond_both ((d == 39) && nat_lt c 65536) _ _ Good (λ l. record {
+      scalar = and_from _ _ (and_parts _ _ s).0 refl;
+      small = ltb-true c 65536
+          (and_parts (d == 39) (nat_lt c 65536) l).1;
+    }) (λ l. tt))))
 
 comment_good : (o : Option ℕ) → Good (comment_piece o)
 comment_good None = tt
@@ -144,12 +150,12 @@ unfolding piece_of
 piece_fine c cs s =
     cond_both (is_blank c) _ _ Fine (λ h. fine _ tt) (λ h.
     cond_both (is_start c) _ _ Fine (λ k. fine (word_piece (c ∷ take_while is_part cs) (prefix_len is_part cs))
-        (word_by c cs (key_of (c ∷ take_while is_part cs)) (prefix_len is_part cs) refl s k)) (λ k.
+    (word_by c cs (key_of (c ∷ take_while is_part cs)) (prefix_len is_part cs) refl s k)) (λ k.
     cond_both (is_ascii_digit c) _ _ Fine (λ l. fine _ (number_in_good (c ∷ cs) (more_digits c cs))) (λ l.
     cond_both (c == 34) _ _ Fine (λ m. fine _ (string_good (quoted cs) (quoted_fair cs (and_parts _ _ s).1))) (λ m.
     cond_both (c == 39) _ _ Fine (λ n. fine _ (char_good cs (and_parts _ _ s).1)) (λ n.
     cond_both (is_front (codes "//") (c ∷ cs)) _ _ Fine (λ o. fine _ tt) (λ o. cond_both (is_front (codes "/*") (c ∷ cs)) _ _ Fine
-        (λ o. fine _ (comment_good (comment_end (drop 1 cs)))) (λ o. fine _ (mark_good (mark_of (c ∷ cs))))))))))
+    (λ o. fine _ (comment_good (comment_end (drop 1 cs)))) (λ o. fine _ (mark_good (mark_of (c ∷ cs))))))))))
 
 piece_good : (c : ℕ) (cs : List ℕ) → all_scalars (c ∷ cs) ≡ true → Good (piece_of c cs)
 piece_good c cs s = (piece_fine c cs s).good

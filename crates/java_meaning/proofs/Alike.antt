@@ -104,14 +104,14 @@ module _ (R : Outcome → Outcome → Type 0) (ends : (e : End) (s : State) → 
         → R (read_field L b e d x a c s k) (read_field L b e d x a c s k')
     read_field_like L b e d x a c s k k' le h =
         with_some_like (own_class c.kind) s _ _
-            (λ t. with_some_like x s _ _ (λ j. with_some_like (L.index t j) s _ _ (λ i. with_some_like (slice_get c.values i) s _ _ (λ u.
+        (λ t. with_some_like x s _ _ (λ j. with_some_like (L.index t j) s _ _ (λ i. with_some_like (slice_get c.values i) s _ _ (λ u.
         look_like L _ _ s _ _ le (λ s1 l1. look_like L _ _ s1 _ _ l1 (λ s2 l2. h u s2 l2))))))
 
     write_field_like : (L : Lang) (b : ℕ) (e : Ex) (x : Option ℕ) (v : Value) (a : ℕ) (c : Cell) (s : State) (k k' : State → Outcome) → s.left ≤ m
         → AlikeS k k' → R (write_field L b e x v a c s k) (write_field L b e x v a c s k')
     write_field_like L b e x v a c s k k' le h =
         with_some_like (own_class c.kind) s _ _
-            (λ t. with_some_like x s _ _ (λ j. with_some_like (L.field_type j) s _ _ (λ u. with_some_like (L.index t j) s _ _ (λ i.
+        (λ t. with_some_like x s _ _ (λ j. with_some_like (L.field_type j) s _ _ (λ u. with_some_like (L.index t j) s _ _ (λ i.
         with_some_like (slice_get c.values i) s _ _ (λ old. look_like L _ _ s _ _ le (λ s1 l1. look_like L _ _ s1 _ _ l1 (λ s2 l2. h _ l2)))))))
 
     read_member_like : (L : Lang) (g : Env) (e d : Ex) (x : List ℕ) (t : Kind) (a : ℕ) (c : Cell) (s : State) (k k' : ToValue) → s.left ≤ m
@@ -124,7 +124,7 @@ module _ (R : Outcome → Outcome → Type 0) (ends : (e : End) (s : State) → 
         → R (read_element L b d v i s k) (read_element L b d v i s k')
     read_element_like L b d v i s k k' le h =
         with_cell_like v s _ _ (λ a c. with_some_like (element_type c.kind) s _ _
-            (λ t. or_fault_like fault.Bounds (option_and_then (λ n. slice_get c.values n) (natural_of i)) s _ _ (λ u.
+        (λ t. or_fault_like fault.Bounds (option_and_then (λ n. slice_get c.values n) (natural_of i)) s _ _ (λ u.
         look_like L _ _ s _ _ le (λ s1 l1. h u s1 l1))))
 
     on_fitting_like : (L : Lang) (v : Value) (t : Ty) (s : State) (k k' : State → Outcome) → s.left ≤ m → AlikeS k k'
@@ -151,7 +151,7 @@ module _ (R : Outcome → Outcome → Type 0) (ends : (e : End) (s : State) → 
     string_call_like CharAt u [] s k k' le h = ends Wrong s tt
     string_call_like CharAt u (v ∷ []) s k k' le h =
         with_some_like (number_of v) s _ _ (λ i. or_fault_like fault.Bounds (option_and_then (λ n. slice_get u n) (natural_of i)) s _ _
-            (λ c. h (CodeUnit c) s le))
+        (λ c. h (CodeUnit c) s le))
     string_call_like CharAt u (v ∷ w ∷ vs) s k k' le h = ends Wrong s tt
     string_call_like Equals u [] s k k' le h = ends Wrong s tt
     string_call_like Equals u (v ∷ []) s k k' le h = with_some_like (equals_value s.strings u v) s _ _ (λ b. h (Truth b) s le)
@@ -178,7 +178,7 @@ module _ (R : Outcome → Outcome → Type 0) (ends : (e : End) (s : State) → 
     cast_object_like L b d t (Object a) s k k' le h =
         with_some_like (slice_get s.cells a) s _ _ (λ c. look_like L _ _ s _ _ le (λ s1 l1.
         on_bool_like (L.is_sub (own_type c.kind) t) s1 _ _ _ _ l1 (λ s2 l2. look_like L _ _ s2 _ _ l2 (λ s3 l3. h _ s3 l3))
-            (stop_like (Faulted fault.ClassCast) tt)))
+        (stop_like (Faulted fault.ClassCast) tt)))
     cast_object_like L b d t (Number n) s k k' le h = ends Wrong s tt
     cast_object_like L b d t (Truth n) s k k' le h = ends Wrong s tt
     cast_object_like L b d t (CodeUnit n) s k k' le h = ends Wrong s tt
@@ -188,7 +188,7 @@ module _ (R : Outcome → Outcome → Type 0) (ends : (e : End) (s : State) → 
         → R (cast_to L b d t v s k) (cast_to L b d t v s k')
     cast_like L b d t v s k k' le h =
         on_bool_like (is_number_type t.base t.dim) s _ _ _ _ le (λ s1 l1. with_some_like (number_of v) s1 _ _ (λ a. h _ s1 l1))
-            (λ s1 l1. cast_object_like L b d t v s1 k k' l1 h)
+        (λ s1 l1. cast_object_like L b d t v s1 k k' l1 h)
 
     test_class_like : (L : Lang) (b : ℕ) (d : Ex) (t : ℕ) (v : Value) (s : State) (k k' : ToValue) → s.left ≤ m → AlikeV k k'
         → R (test_class L b d t v s k) (test_class L b d t v s k')
@@ -229,7 +229,7 @@ module _ (R : Outcome → Outcome → Type 0) (ends : (e : End) (s : State) → 
         → R (write_local L x v f s k) (write_local L x v f s k')
     write_local_like L x v f s k k' le h =
         with_some_like (slice_get f.env.locals x) s _ _ (λ t. with_some_like (slice_get f.locals x) s _ _
-            (λ old. look_like L _ _ s _ _ le (λ s1 l1. h _ _ s1 l1)))
+        (λ old. look_like L _ _ s _ _ le (λ s1 l1. h _ _ s1 l1)))
 
     after_one_like : (w : Flow) (f : Frame) (s : State) (g g' : Frame → State → Outcome) (k k' : ToFlow) → s.left ≤ m → R (g f s) (g' f s)
         → AlikeF k k' → R (after_one w f s g k) (after_one w f s g' k')
@@ -260,7 +260,7 @@ module _ (R : Outcome → Outcome → Type 0) (ends : (e : End) (s : State) → 
         → R (call_object L b g e d x a o vs s k) (call_object L c g e d x a o vs s k')
     call_object_like m l g e d x a o vs s k k' le h =
         with_some_like (own_class o.kind) s _ _
-            (λ t. step_like m s _ _ le (λ s1 l1. with_some_like (L.slot g e x) s1 _ _ (λ j. with_some_like (L.body t j) s1 _ _ (λ y.
+        (λ t. step_like m s _ _ le (λ s1 l1. with_some_like (L.slot g e x) s1 _ _ (λ j. with_some_like (L.body t j) s1 _ _ (λ y.
         look_like s1.left L _ _ s1 _ _ (omega arith) (λ s2 l2. look_like s1.left L _ _ s2 _ _ l2 (λ s3 l3.
         enter_like m s1.left l1 l y (Object a) vs s3 _ _ l3 (λ u s4 l4. look_like m L (held g.body d) u s4 _ _ (omega arith) (λ s5 l5. h u s5 l5))))))))
 
@@ -306,7 +306,7 @@ module _ (R : Outcome → Outcome → Type 0) (ends : (e : End) (s : State) → 
           value_like e m l f s _ _ le (λ v s1 l1. with_cell_like v s1 _ _ (λ a o. read_member_like m L f.env e (field t e x) x o.kind a o s1 k k' l1 h))
       value_like (index t e i) m l f s k k' le h =
           value_like e m l f s _ _ le (λ v s1 l1. value_like i m l f s1 _ _ l1 (λ w s2 l2. with_some_like (number_of w) s2 _ _
-              (λ n. read_element_like m L f.env.body (index t e i) v n s2 k k' l2 h)))
+          (λ n. read_element_like m L f.env.body (index t e i) v n s2 k k' l2 h)))
       value_like (call t e x es) m l f s k k' le h =
           value_like e m l f s _ _ le (λ v s1 l1. values_like es m l f s1 _ _ l1 (λ vs s2 l2. call_like m l f.env e (call t e x es) x v vs s2 k k' l2 h))
       value_like (static_call t x es) m l f s k k' le h =
@@ -317,14 +317,14 @@ module _ (R : Outcome → Outcome → Type 0) (ends : (e : End) (s : State) → 
           values_like es m l f s _ _ le (λ vs s1 l1. make_object_like m L f.env (create t n x es) n x vs s1 k k' l1 h)
       value_like (create_array t n u e) m l f s k k' le h =
           value_like e m l f s _ _ le (λ v s1 l1. with_some_like (number_of v) s1 _ _ (λ size. make_array_like m L f.env (create_array t n u e) n u
-              size s1 k k' l1 h))
+          size s1 k k' l1 h))
       value_like (cast t n u e) m l f s k k' le h = value_like e m l f s _ _ le (λ v s1 l1. cast_like m L f.env.body (cast t n u e) u v s1 k k' l1 h)
       value_like (instance_of t n e x) m l f s k k' le h =
           value_like e m l f s _ _ le (λ v s1 l1. test_class_like m L f.env.body (instance_of t n e x) x v s1 k k' l1 h)
       value_like (unary t o e) m l f s k k' le h = value_like e m l f s _ _ le (λ v s1 l1. with_some_like (unary_value o v) s1 _ _ (λ u. h u s1 l1))
       value_like (binary t o e d) m l f s k k' le h =
           value_like e m l f s _ _ le (λ v s1 l1. after_left_like m o v s1 _ _ k k' l1
-              (λ s2 l2. value_like d m l f s2 _ _ l2 (λ w s3 l3. operate_like m o v w s3 k k' l3 h)) h)
+          (λ s2 l2. value_like d m l f s2 _ _ l2 (λ w s3 l3. operate_like m o v w s3 k k' l3 h)) h)
 
       pub values_like : (es : Exs) (m : ℕ) → LaterAlike m b c → (f : Frame) (s : State) (k k' : List Value → State → Outcome) → s.left ≤ m
           → AlikeL m k k' → R (values L b es f s k) (values L c es f s k')
@@ -361,13 +361,13 @@ module _ (R : Outcome → Outcome → Type 0) (ends : (e : End) (s : State) → 
     assign_like (to_static t x) d m l f s k k' le h = value_like d m l f s _ _ le (λ v s1 l1. write_static_like m L x v s1 _ _ l1 (λ s2 l2. h Next f s2 l2))
     assign_like (to_own t x) d m l f s k k' le h =
         value_like d m l f s _ _ le (λ v s1 l1. with_cell_like f.self s1 _ _ (λ a o. write_field_like m L f.env.body (this t) (Some x) v a o s1 _ _ l1
-            (λ s2 l2. h Next f s2 l2)))
+        (λ s2 l2. h Next f s2 l2)))
     assign_like (to_field t e x) d m l f s k k' le h =
         value_like e m l f s _ _ le (λ v s1 l1. value_like d m l f s1 _ _ l1 (λ w s2 l2. with_cell_like v s2 _ _ (λ a o.
         write_field_like m L f.env.body e (L.field f.env e x) w a o s2 _ _ l2 (λ s3 l3. h Next f s3 l3))))
     assign_like (to_element t e i) d m l f s k k' le h =
         value_like e m l f s _ _ le (λ v s1 l1. value_like i m l f s1 _ _ l1 (λ w s2 l2. value_like d m l f s2 _ _ l2
-            (λ u s3 l3. with_some_like (number_of w) s3 _ _ (λ n.
+        (λ u s3 l3. with_some_like (number_of w) s3 _ _ (λ n.
         write_element_like m L v n u s3 _ _ l3 (λ s4 l4. h Next f s4 l4)))))
     assign_like no_target d m l f s k k' le h = ends Wrong s tt
 
@@ -386,10 +386,10 @@ module _ (R : Outcome → Outcome → Type 0) (ends : (e : End) (s : State) → 
           all_like first m l f s _ _ le (λ w f1 s1 l1. after_one_like m w f1 s1 _ _ k k' l1
           (test_like test m l f1 s1 _ _ _ _ l1
           (λ s3 l3. step_like m s3 _ _ l3 (λ s4 l4. all_like body s4.left (narrow m s4.left (omega arith) l) f1 s4 _ _ (omega arith)
-              (λ w3 f3 s5 l5. after_turn_like s4.left w3 f3 s5 _ _ k k' l5
+          (λ w3 f3 s5 l5. after_turn_like s4.left w3 f3 s5 _ _ k k' l5
           (all_like last s4.left (narrow m s4.left (omega arith) l) f3 s5 _ _ l5 (λ w5 f5 s7 l7. after_one_like s4.left w5 f5 s7 _ _ k k' l7
           (l s4.left l4 (st_then (loop t is_while no_st test last body) no_st) f5 s7 k k' l7 (λ w6 f6 s8 l8. h w6 f6 s8 (omega arith)))
-              (λ w6 f6 s8 l8. h w6 f6 s8 (omega arith)))) (λ w6 f6 s8 l8. h w6 f6 s8 (omega arith)))))
+          (λ w6 f6 s8 l8. h w6 f6 s8 (omega arith)))) (λ w6 f6 s8 l8. h w6 f6 s8 (omega arith)))))
           (λ s3 l3. h Next f1 s3 l3)) h)
       one_like (return t e) m l f s k k' le h = return_like e m l f s k k' le h
       one_like (break t) m l f s k k' le h = h Broke f s le
@@ -407,7 +407,7 @@ module _ (R : Outcome → Outcome → Type 0) (ends : (e : End) (s : State) → 
       arms_like (otherwise xs) m l f s k k' le h = all_like xs m l f s k k' le h
       arms_like (arm e xs more) m l f s k k' le h =
           value_like e m l f s _ _ le (λ v s1 l1. on_test_like m v s1 _ _ _ _ l1 (λ s2 l2. all_like xs m l f s2 k k' l2 h)
-              (λ s2 l2. arms_like more m l f s2 k k' l2 h))
+          (λ s2 l2. arms_like more m l f s2 k k' l2 h))
 
   -- two depths above the steps left give the same
   pub depth_like : (L : Lang) (d e m : ℕ) → m < d → m < e → (xs : Sts) (f : Frame) (s : State) (k k' : ToFlow) → s.left ≤ m → AlikeF m k k'
@@ -427,4 +427,4 @@ module _ (R : Outcome → Outcome → Type 0) (ends : (e : End) (s : State) → 
   run_like L x words n =
       with_some_like (L.static_body x) (start L words n) _ _ (λ b.
       enter_like L (meaning L (suc n)) (meaning L (suc n)) (suc n) n (omega arith) (same_depths L (suc n) (suc n) (omega arith)) b Nothing
-          (Object 0 ∷ []) (start L words n) _ _ (omega arith) (λ v s le. ends Ended s tt))
+      (Object 0 ∷ []) (start L words n) _ _ (omega arith) (λ v s le. ends Ended s tt))

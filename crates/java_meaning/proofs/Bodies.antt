@@ -78,8 +78,12 @@ module _ (P : Plain) (formed : IsFormed P) (typed : IsTyped P) where
   pub static_bodies : (m : ℕ) (sig : Signature) → has_body P m ≡ true → signature_of_method P m ≡ Some sig → HasStaticBody P (body_of P m) sig
   static_bodies m sig h s =
       let b = body_there P m h in
-      record { body = body_with m b.0 b.2.0; found_body = body_found m b.0 b.2.0 b.1 b.2.1; typed = subst (λ z. TypedBody P (body_with m b.0 b.2.0) z)
-          (method_signature m b.0 sig b.1 s) (typed_body m b.0 b.2.0 b.1 b.2.1) }
+      record {
+        body = body_with m b.0 b.2.0;
+        found_body = body_found m b.0 b.2.0 b.1 b.2.1;
+        typed = subst (λ z. TypedBody P (body_with m b.0 b.2.0) z)
+            (method_signature m b.0 sig b.1 s) (typed_body m b.0 b.2.0 b.1 b.2.1);
+      }
 
   super_above : (c m : ℕ) (x : List ℕ) (k : PlainMethod) → super_method P c x ≡ Some m → slice_get P.methods m ≡ Some k → IsSubclass P c k.owner
   unfolding super_method
@@ -142,8 +146,13 @@ module _ (P : Plain) (formed : IsFormed P) (typed : IsTyped P) where
       let o = slot_of-offered P formed d x j found in
       let k = class_there c made in
       let declared = (typed.classes c k.0 k.1).bodies made j o.number
-          (record { method = o.method; stands = o.stands; slot = o.slot; above = subclass-below P formed.acyclic
-          (subclass-then P (below-subclass P c d bel) o.above) }) in
+      (record {
+        method = o.method;
+        stands = o.stands;
+        slot = o.slot;
+        above = subclass-below P formed.acyclic
+            (subclass-then P (below-subclass P c d bel) o.above);
+      }) in
       let near = nearest_body j (nearest_of-nearest P (λ z. own_declaration P z j) declared.1) declared.2 in
       let up = nearest_above P (λ z. own_body P z j) near.1 in
       let p = position-passes (λ m. has_slot up.0 j m && is_some m.body) P.methods near.0 up.2 in

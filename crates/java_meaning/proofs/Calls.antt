@@ -140,8 +140,8 @@ module _ (P : Plain) where
     string_call_sound CharAt u vs s k ok (fit_more {v = v} hv p fit_none) h =
         let n = number_held P (flows P tl.below_all (plain_type Int) hv p) refl in
         some_sound (number_of v) n.0 s _ (sym (number_converted v)
-            ∙ n.1) (fault_sound fault.Bounds (option_and_then (λ n. slice_get u n) (natural_of n.0)) s _
-            (λ c e. here P L tl (CodeUnit c) s k ok holds_unit h))
+        ∙ n.1) (fault_sound fault.Bounds (option_and_then (λ n. slice_get u n) (natural_of n.0)) s _
+        (λ c e. here P L tl (CodeUnit c) s k ok holds_unit h))
     string_call_sound Equals u vs s k ok (fit_more {v = v} hv p fit_none) h =
         go v (text_held P (subst (λ z. Holds P (heap_of s) z (a_value (plain_type Str))) (string_converted v)
         (flows P tl.below_all (plain_type Str) hv p)) refl)
@@ -165,7 +165,7 @@ module _ (P : Plain) where
           frame : (h : Heap) (ws : List Value) → HoldAll h ws b.params → HoldAll h (ws ++ b.rest) b.env.locals
           frame h ws p = subst (λ z. HoldAll h (ws ++ b.rest) z) (sym tb.locals)
               (subst (λ z. HoldAll h (ws ++ z) (sig.params ++ tb.rest)) (sym tb.defaults) (all_joined (subst (λ z. HoldAll h ws z) tb.params p)
-                  (all_defaults h tb.rest)))
+              (all_defaults h tb.rest)))
 
       -- the value of a call is looked at, and goes on
       after_call : {t : Static} (b : ℕ) (d : Ex) (s : State) (k : ToValue) → V (heap_of s) t k → V (heap_of s) t (λ u s4. look L (held b d) u s4 (λ s5. k u s5))
@@ -183,15 +183,15 @@ module _ (P : Plain) where
       call_object_sound : (g : Env) (e d : Ex) (x : List ℕ) (a : ℕ) (c : Cell) (y j : ℕ) (sig : Signature) (vs : List Value) (s : State) (k : ToValue)
           → Good P L tl s → slice_get s.cells a ≡ Some c → c.kind ≡ an_object y
           → L.slot g e x ≡ Some j → HasBody P (L.body y j) y sig → FitAll (heap_of s) vs sig.params → V (heap_of s) (or_nothing sig.result) k
-              → Sound (call_object L later g e d x a c vs s k)
+          → Sound (call_object L later g e d x a c vs s k)
       call_object_sound g e d x a c y j sig vs s k ok there kd slot b fit h =
           some_sound (own_class c.kind) y s _ (ap own_class kd)
-              (step_sound P L tl s _ ok (λ s1 r1. some_sound (L.slot g e x) j s1 _ slot (some_sound (L.body y j) b.body s1 _ b.found_body
+          (step_sound P L tl s _ ok (λ s1 r1. some_sound (L.slot g e x) j s1 _ slot (some_sound (L.body y j) b.body s1 _ b.found_body
           (look_sound P L tl (ran g.body d b.body.env.body) (Object a) s1 _ r1.ok (λ s2 r2. look_sound P L tl (self_of b.body.env.body) (Object a) s2
-              _ r2.ok (λ s3 r3.
+          _ r2.ok (λ s3 r3.
           let all = from_on P L tl (heap_of s) s2 s3 (from_on P L tl (heap_of s) s1 s2 r1 r2) r3 in
           enter_sound b.body sig (Object a) vs s3 _ r3.ok b.typed (grown P all.grows (class_self (heap_of s) a c y b.body.env.self there kd b.above))
-              (fit_grown all.grows fit)
+          (fit_grown all.grows fit)
           (after_call g.body d s3 k (earlier s s3 k all h))))))))
 
       call_cells : {t : Static} (g : Env) (e d : Ex) (x : List ℕ) (v : Value) (vs : List Value) (c : ℕ) (s : State) (k : ToValue)
@@ -222,8 +222,8 @@ module _ (P : Plain) where
           text v text_null m y z = sound_stop (Faulted fault.Null) s tt
           text v (text_there {a = a} {u = u} there) m y z =
               some_sound (slice_get s.strings a) u s _ there (some_sound (text_method (L.slot g e x) x) m s _ y
-                  (string_call_sound m u vs s k ok (subst (λ q. FitAll (heap_of s) vs q.params) (sym z) fit)
-                  (subst (λ q. V (heap_of s) (or_nothing q.result) k) (sym z) h)))
+              (string_call_sound m u vs s k ok (subst (λ q. FitAll (heap_of s) vs q.params) (sym z) fit)
+              (subst (λ q. V (heap_of s) (or_nothing q.result) k) (sym z) h)))
 
           go : (b : Bool) → is_string (static P g e) ≡ b
               → (if b then option_map signature_of_string (string_method x) else object_signature P (class_of (static P g e)) x) ≡ Some sig
@@ -233,7 +233,7 @@ module _ (P : Plain) where
           go false other q = let c = object_parts (class_of (static P g e)) x sig q in
               call_cells g e d x v vs c.0 s k hv c.1 (class_sound P L tl s c.0 _ ok hv c.1 (λ a o y at kd bel oo ho.
               call_object_sound g e d x a o y c.2.0 sig vs s k ok at kd (tl.slot g e x c.0 c.2.0 c.1 c.2.1)
-                  (tl.bodies y c.0 c.2.0 x sig oo.made bel c.2.1 c.2.2) fit h))
+              (tl.bodies y c.0 c.2.0 x sig oo.made bel c.2.1 c.2.2) fit h))
 
       pub call_static_sound : (g : Env) (d : Ex) (m : ℕ) (vs : List Value) (sig : Signature) (s : State) (k : ToValue) → Good P L tl s
           → has_body P m ≡ true → signature_of_method P m ≡ Some sig → FitAll (heap_of s) vs sig.params
@@ -246,14 +246,14 @@ module _ (P : Plain) where
       pub call_super_sound : (g : Env) (d : Ex) (m : ℕ) (x : List ℕ) (v : Value) (vs : List Value) (sig : Signature) (s : State) (k : ToValue)
           → Good P L tl s → Holds P (heap_of s) v (a_value (class_type g.self)) → super_method P g.self x ≡ Some m
           → has_body P m ≡ true → super_signature P g.self x ≡ Some sig → FitAll (heap_of s) vs sig.params → V (heap_of s) (or_nothing sig.result) k
-              → Sound (call_super L later g d x v vs s k)
+          → Sound (call_super L later g d x v vs s k)
       unfolding super_signature
       call_super_sound g d m x v vs sig s k ok hv there body p fit h =
           let b = tl.super_bodies g.self m x sig there body (ap (option_and_then (signature_of_method P)) (sym there) ∙ p) in
           step_sound P L tl s _ ok (λ s1 r1. some_sound (L.super_body g.self x) b.body s1 _ b.found_body
-              (look_sound P L tl (self_of b.body.env.body) v s1 _ r1.ok (λ s2 r2.
+          (look_sound P L tl (self_of b.body.env.body) v s1 _ r1.ok (λ s2 r2.
           let all = from_on P L tl (heap_of s) s1 s2 r1 r2 in
           enter_sound b.body sig v vs s2 _ r2.ok b.typed
-              (grown P all.grows (sub_held P tl.below_all (class_type b.body.env.self) hv (of_parts P (class_type g.self) (class_type b.body.env.self)
-              refl b.above))) (fit_grown all.grows fit)
+          (grown P all.grows (sub_held P tl.below_all (class_type b.body.env.self) hv (of_parts P (class_type g.self) (class_type b.body.env.self)
+          refl b.above))) (fit_grown all.grows fit)
           (after_call g.body d s2 k (earlier s s2 k all h)))))

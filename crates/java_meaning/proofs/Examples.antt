@@ -37,8 +37,19 @@ abbrev pub under : ℕ → Option ClassId
 under c = Some (record { 0 = c })
 
 abbrev pub method : ℕ → List ℕ → List PlainLocal → List PlainLocal → Option Ty → Option ℕ → Sts → PlainMethod
-method c x ps ls t s xs = record { owner = c; name = x; is_static = false; is_public = true; slot = s; params = ps; locals = ls; result = t; body =
-    Some xs; tag = tag }
+method c x ps ls t s xs = record {
+  owner = c;
+  name = x;
+  is_static = false;
+  is_public = true;
+  slot = s;
+  params = ps;
+  locals = ls;
+  result = t;
+  body =
+      Some xs;
+  tag = tag;
+}
 
 abbrev pub main_of : ℕ → List PlainLocal → Sts → PlainMethod
 main_of c ls xs =
@@ -69,7 +80,7 @@ abbrev pub counting_code : Sts
 counting_code =
     two (declare tag 1 (Some (number tag (pos 0))))
     (loop tag true no_st (Some (binary tag bin.Less (local tag 1) (number tag (pos 3)))) no_st
-        (two (print_line (local tag 1)) (assign tag (to_local tag 1) (plus (local tag 1) (number tag (pos 1))))))
+    (two (print_line (local tag 1)) (assign tag (to_local tag 1) (plus (local tag 1) (number tag (pos 1))))))
 
 abbrev pub counting_main : PlainMethod
 counting_main = main_of 1 (variable (codes "i") (plain_type Int) ∷ []) counting_code
@@ -99,9 +110,9 @@ overriding =
       main = 2;
       methods = method 1 (codes "m") [] [] (Some (plain_type Int)) (Some 0) (st_then (return tag (Some (field tag (this tag) (codes "f")))) no_st)
           ∷ method 2 (codes "m") [] [] (Some (plain_type Int)) (Some 0)
-              (st_then (return tag (Some (plus (super_call tag (codes "m") no_ex) (number tag (pos 1))))) no_st)
+          (st_then (return tag (Some (plus (super_call tag (codes "m") no_ex) (number tag (pos 1))))) no_st)
           ∷ main_of 3 (variable (codes "x") (class_type 1) ∷ []) (two (declare tag 1 (Some (create tag 0 2 no_ex)))
-              (print_line (call tag (local tag 1) (codes "m") no_ex))) ∷ [];
+          (print_line (call tag (local tag 1) (codes "m") no_ex))) ∷ [];
     }
 
 overrides : run overriding [] 10 ≡ record { end = Ended; out = codes "1\n"; left = 7; met = [] }
@@ -191,7 +202,7 @@ numbers : run (record {
   methods = main_of 1 (variable (codes "a") (plain_type Int) ∷ variable (codes "z") (plain_type Int) ∷ [])
       (st_then (declare tag 1 (Some (int (negsuc 2147483647))))
       (st_then (declare tag 2 (Some (int (pos 0)))) (st_then (prints (bin.Int op.Divide) (local tag 1) (int (negsuc 0)))
-          (st_then (prints (bin.Int op.ShiftLeft) (int (pos 1)) (int (pos 33)))
+      (st_then (prints (bin.Int op.ShiftLeft) (int (pos 1)) (int (pos 33)))
       (st_then (prints (bin.Int op.Divide) (int (negsuc 6)) (int (pos 2))) (st_then (prints (bin.Int op.Remainder) (int (negsuc 6)) (int (pos 2)))
       (two (prints (bin.Int op.Plus) (character tag 97) (int (pos 1))) (prints (bin.Int op.Divide) (int (pos 1)) (local tag 2))))))))) ∷ [];
 }) [] 0
@@ -201,8 +212,14 @@ numbers = refl
 
 -- a main with one local
 abbrev with_local : Ty → Sts → Plain
-with_local t xs = record { classes = object ∷ class (codes "Main") (under 0) ∷ []; fields = []; slots = []; main = 0; methods = main_of 1
-    (variable (codes "x") t ∷ []) xs ∷ [] }
+with_local t xs = record {
+  classes = object ∷ class (codes "Main") (under 0) ∷ [];
+  fields = [];
+  slots = [];
+  main = 0;
+  methods = main_of 1
+      (variable (codes "x") t ∷ []) xs ∷ [];
+}
 
 abbrev only_if : Ex → St → St
 only_if e x = choose tag (arm e (st_then x no_st) no_other)
@@ -212,7 +229,7 @@ leaves : run (with_local (plain_type Int)
     (st_then (loop tag false (st_then (declare tag 1 (Some (int (pos 0)))) no_st) (Some (binary tag bin.Less (local tag 1) (int (pos 5))))
     (st_then (assign tag (to_local tag 1) (plus (local tag 1) (int (pos 1)))) no_st)
     (st_then (only_if (binary tag bin.Same (local tag 1) (int (pos 1))) (continue tag))
-        (two (only_if (binary tag bin.Same (local tag 1) (int (pos 3))) (break tag)) (print_line (local tag 1))))) no_st)) [] 9
+    (two (only_if (binary tag bin.Same (local tag 1) (int (pos 3))) (break tag)) (print_line (local tag 1))))) no_st)) [] 9
     ≡ record { end = Ended; out = codes "0\n2\n"; left = 5; met = [] }
 unfolding run_in layout utf16_chars digits encode
 leaves = refl
@@ -220,7 +237,7 @@ leaves = refl
 -- int x = 'a'; System.out.println(x); System.out.println(false && 1 / 0 == 0); System.out.println("ab".charAt(x));
 widens : run (with_local (plain_type Int) (st_then (declare tag 1 (Some (character tag 97))) (st_then (print_line (local tag 1))
     (two (prints bin.Both (truth tag false) (binary tag bin.Same (binary tag (bin.Int op.Divide) (int (pos 1)) (int (pos 0))) (int (pos 0))))
-        (print_line (call tag (text tag (codes "ab")) (codes "charAt") (ex_then (local tag 1) no_ex))))))) [] 0
+    (print_line (call tag (text tag (codes "ab")) (codes "charAt") (ex_then (local tag 1) no_ex))))))) [] 0
     ≡ record { end = Faulted fault.Bounds; out = codes "97\nfalse\n"; left = 0; met = [] }
 unfolding run_in layout utf16_chars digits encode
 widens = refl
@@ -244,8 +261,13 @@ escapes = refl
 -- a record of each look at one value
 abbrev recording : Eyes
 recording =
-    record { sees = λ p v h. true; sees_all = λ b vs h. true; note = λ p v h m. m ++ record { spot = p; value = v; site = None }
-        ∷ []; note_all = λ b vs h m. m }
+    record {
+      sees = λ p v h. true;
+      sees_all = λ b vs h. true;
+      note = λ p v h m. m ++ record { spot = p; value = v; site = None }
+          ∷ [];
+      note_all = λ b vs h m. m;
+    }
 
 abbrev keeping : Plain
 keeping = with_local (class_type 1) (st_then (declare tag 1 (Some (create tag 0 1 no_ex))) no_st)

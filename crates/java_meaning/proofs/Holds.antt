@@ -152,7 +152,7 @@ module _ (P : Plain) where
   printable_apart t p q =
       ⊎_elim (λ n. numeric_apart t is_object refl refl n q)
       (λ o. ⊎_elim (λ b. apart Boolean t is_object refl refl b q) (λ u. apart Str t is_object refl refl u q)
-          (or_cases (is_boolean (a_value t)) (is_string (a_value t)) o))
+      (or_cases (is_boolean (a_value t)) (is_string (a_value t)) o))
       (or_cases (is_numeric (a_value t)) (is_boolean (a_value t) || is_string (a_value t)) p)
 
   pub units_held : {h : Heap} {v : Value} {s : Static} → Holds h v s → is_printable s ≡ true → (u : List ℕ) × (text_of h.strings v ≡ Some u)
@@ -212,10 +212,10 @@ module _ (P : Plain) where
       ⊎_elim (λ n. let d = both_hold (is_numeric (a_value s)) (is_numeric (a_value t)) n in numbers (number_held p d.0) (number_held q d.1))
       (λ o. ⊎_elim (λ b. let d = both_hold (is_boolean (a_value s)) (is_boolean (a_value t)) b in truths (truth_held p d.0) (truth_held q d.1))
       (λ r. let d = both_hold (is_object s && is_object t) (is_subtype P s t || is_subtype P t s) r in let f = both_hold (is_object s) (is_object t)
-          d.0 in same_objects (object_held p f.0) (object_held q f.1))
+      d.0 in same_objects (object_held p f.0) (object_held q f.1))
       (or_cases (is_boolean (a_value s) && is_boolean (a_value t)) ((is_object s && is_object t) && (is_subtype P s t || is_subtype P t s)) o))
       (or_cases (is_numeric (a_value s) && is_numeric (a_value t)) ((is_boolean (a_value s) && is_boolean (a_value t)) ||
-          ((is_object s && is_object t) && (is_subtype P s t || is_subtype P t s))) e)
+      ((is_object s && is_object t) && (is_subtype P s t || is_subtype P t s))) e)
     where
       numbers : ((m : ℤ) × (number_of v ≡ Some m)) → ((n : ℤ) × (number_of w ≡ Some n)) → (b : Bool) × (same_value v w ≡ Some b)
       numbers (m, a) (n, b) = (int_eq m n, rw (a, b) refl)
@@ -269,7 +269,7 @@ module _ (P : Plain) where
   pub sub_reference : (s t : Ty) → is_subtype P s t ≡ true → is_reference s ≡ true → is_reference t ≡ true
   sub_reference s t p e = let q = sub_parts s t p in
       subst (λ z. (not (z == 0) || is_class t.base) || is_base t.base Str ≡ true) q.0 (subst (λ z. (not (s.dim == 0) || z) || is_base t.base Str
-          ≡ true) (sub_class s.base t.base q.1)
+      ≡ true) (sub_class s.base t.base q.1)
       (subst (λ z. (not (s.dim == 0) || is_class s.base) || z ≡ true) (sub_string s.base t.base q.1) e))
 
   sub_flat : (b : TyBase) (t : Ty) → is_class b ≡ false → ((0 == t.dim) && is_base b t.base) ≡ true → plain_type b ≡ t
@@ -286,7 +286,7 @@ module _ (P : Plain) where
   sub_reference_back : (s t : Ty) → is_subtype P s t ≡ true → is_reference t ≡ true → is_reference s ≡ true
   sub_reference_back s t p e = let q = sub_parts s t p in
       subst (λ z. (not (z == 0) || is_class s.base) || is_base s.base Str ≡ true) (sym q.0) (subst (λ z. (not (t.dim == 0) || z) || is_base s.base Str
-          ≡ true) (sym (sub_class s.base t.base q.1))
+      ≡ true) (sym (sub_class s.base t.base q.1))
       (subst (λ z. (not (t.dim == 0) || is_class t.base) || z ≡ true) (sym (sub_string s.base t.base q.1)) e))
 
   sub_back : (s t : Ty) → is_subtype P s t ≡ true → is_class t.base ≡ false → s ≡ t
@@ -340,17 +340,17 @@ module _ (P : Plain) where
     pub flows : {h : Heap} {v : Value} {s : Static} (t : Ty) → Holds h v s → fits P s t ≡ true → Holds h (convert t v) (a_value t)
     flows {h = h} t (holds_number {n = n}) p =
         ⊎_elim (λ e. subst (λ u. Holds h (Number n) (a_value u)) (sub_flat Int t refl e) holds_number) (λ e. absurd (false≢true e))
-            (or_cases (is_subtype P (plain_type Int) t) false p)
+        (or_cases (is_subtype P (plain_type Int) t) false p)
     flows {h = h} t (holds_truth {b = b}) p =
         ⊎_elim (λ e. subst (λ u. Holds h (Truth b) (a_value u)) (sub_flat Boolean t refl e) holds_truth) (λ e. absurd (false≢true e))
-            (or_cases (is_subtype P (plain_type Boolean) t) false p)
+        (or_cases (is_subtype P (plain_type Boolean) t) false p)
     flows t (holds_unit {c = c}) p = char_flows c t p
     flows {h = h} t (holds_text {a = a} there) p =
         ⊎_elim (λ e. subst (λ u. Holds h (Text a) (a_value u)) (sub_flat Str t refl e) (holds_text there)) (λ e. absurd (false≢true e))
-            (or_cases (is_subtype P (plain_type Str) t) false p)
+        (or_cases (is_subtype P (plain_type Str) t) false p)
     flows t (holds_null {t = s} r) p =
         ⊎_elim (λ e. holds_null (sub_reference s t e r))
-            (λ e. absurd (apart Char s is_reference refl refl (both_hold (is_only Char (a_value s)) (is_only Int (a_value t)) e).0 r))
+        (λ e. absurd (apart Char s is_reference refl refl (both_hold (is_only Char (a_value s)) (is_only Int (a_value t)) e).0 r))
         (or_cases (is_subtype P s t) (is_only Char (a_value s) && is_only Int (a_value t)) p)
     flows t (holds_object {t = s} {c = c} there r sub) p =
         ⊎_elim (λ e. holds_object there (sub_object s t e r) (sub_all (own_type c.kind) s t sub e))
@@ -396,7 +396,7 @@ module _ (P : Plain) where
         subst (λ z. Holds h (convert z w) (a_value z)) (sym (sub_back e u q (flat_fits Str u refl p refl))) (flows u (holds_text x) p)
     stored e u (holds_null {t = s} r) p q n =
         ⊎_elim (λ d. holds_null (sub_reference_back e u q (sub_reference s u d r)))
-            (λ d. absurd (apart Char s is_reference refl refl (both_hold (is_only Char (a_value s)) (is_only Int (a_value u)) d).0 r))
+        (λ d. absurd (apart Char s is_reference refl refl (both_hold (is_only Char (a_value s)) (is_only Int (a_value u)) d).0 r))
         (or_cases (is_subtype P s u) (is_only Char (a_value s) && is_only Int (a_value u)) p)
     stored e u (holds_object there r sub) p q n = absurd n
     stored e u holds_nothing p q n = holds_null (sub_reference_back e u q p)

@@ -98,8 +98,13 @@ acyclic c h = let x = lower c h.by h.direct in let y = upwards h.rest in omega (
 
 variable_name : (x : List ℕ) → IsName x → bytes_eq (codes "Object") x ≡ false → bytes_eq (codes "Main") x ≡ false → bytes_eq x (codes "String")
     ≡ false → bytes_eq x (codes "System") ≡ false → IsVariableName P x
-variable_name x n a b c d = record { name = n; no_class = λ i k e. of_two _ _ k (λ k. k.name ≢ x) i (differ (codes "Object") x a)
-    (differ (codes "Main") x b) e; no_string = differ x (codes "String") c; no_system = differ x (codes "System") d }
+variable_name x n a b c d = record {
+  name = n;
+  no_class = λ i k e. of_two _ _ k (λ k. k.name ≢ x) i (differ (codes "Object") x a)
+      (differ (codes "Main") x b) e;
+  no_string = differ x (codes "String") c;
+  no_system = differ x (codes "System") d;
+}
 
 formed_class : IsFormedClass P (class (codes "Main") (under 0))
 formed_class = record {
@@ -124,14 +129,19 @@ in_two a b x Q q r (suc (suc i), lt, e) = absurd (omega (arith, lt))
 
 formed_code : FormedSts P counting_main false (numbers_below 1) counting_code
 formed_code =
-    f_st_then (f_declare (record { variable = variable (codes "i") (plain_type Int); declared = refl; no_parameter = omega arith; other = λ j v h e.
-        apart j v h e }) (f_some (f_number (small (record { value = 0; is = refl; small = omega arith })))))
+    f_st_then (f_declare (record {
+      variable = variable (codes "i") (plain_type Int);
+      declared = refl;
+      no_parameter = omega arith;
+      other = λ j v h e.
+          apart j v h e;
+    }) (f_some (f_number (small (record { value = 0; is = refl; small = omega arith })))))
     (f_st_then (f_loop of_while refl refl f_no_st
-        (f_some (f_binary (f_local (0, omega arith, refl) (omega arith)) (f_number (small (record { value = 3; is = refl; small = omega arith })))))
-        f_no_st
+    (f_some (f_binary (f_local (0, omega arith, refl) (omega arith)) (f_number (small (record { value = 3; is = refl; small = omega arith })))))
+    f_no_st
     (f_st_then (f_print refl (f_some (f_local (0, omega arith, refl) (omega arith))))
     (f_st_then (f_assign (f_to_local (0, omega arith, refl) (omega arith)) (f_binary (f_local (0, omega arith, refl) (omega arith))
-        (f_number (small (record { value = 1; is = refl; small = omega arith }))))) f_no_st)))
+    (f_number (small (record { value = 1; is = refl; small = omega arith }))))) f_no_st)))
     f_no_st)
   where
     apart : (j : ℕ) (v : PlainLocal) → Contains (0 ∷ []) j → slice_get (variables_of counting_main) j ≡ Some v → v.name ≢ codes "i"

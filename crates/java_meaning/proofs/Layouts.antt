@@ -45,7 +45,7 @@ own_listed c n (x ∷ fs) zero f e o s =
     let same : x ≡ f = same_Some _ _ e in
     let passes : (x.owner == c) && not x.is_static ≡ true = rw (same, eq-eqb f.owner c o, s) refl in
     subst (λ z. IsIn (own_fields_from c n (x ∷ fs)) z) (let z : n ≡ n + 0 = omega arith in z)
-        (subst (λ z. IsIn ((if z then n ∷ [] else []) ++ own_fields_from c (suc n) fs) n) (sym passes) (zero, refl))
+    (subst (λ z. IsIn ((if z then n ∷ [] else []) ++ own_fields_from c (suc n) fs) n) (sym passes) (zero, refl))
 own_listed c n (x ∷ fs) (suc i) f e o s =
     subst (λ z. IsIn (own_fields_from c n (x ∷ fs)) z) (let z : suc n + i ≡ n + suc i = omega arith in z)
     (in_right (if (x.owner == c) && not x.is_static then n ∷ [] else []) (own_fields_from c (suc n) fs) (suc n + i) (own_listed c (suc n) fs i f e o s))
@@ -95,9 +95,12 @@ module _ (P : Plain) where
   unfolding layout
   fresh c f i e =
       let at = index_at c f i e in let k = layout_there (length P.classes) c f i at in
-      let ty : field_type P f ≡ Some k.0.ty = ap (option_map (λ z. z.ty)) k.1 in
-      (k.0.ty, ty, slice_get-map (λ f. default_at P f) (layout P c) i ∙ ap (option_map (λ f. default_at P f)) at
-          ∙ ap (λ z. Some (option_map_or default_of z Nothing)) ty)
+      let ty : field_type P f ≡ Some k.0.ty = ap (option_map (λ z. z.ty)) k.1 in (
+        k.0.ty,
+        ty,
+        slice_get-map (λ f. default_at P f) (layout P c) i ∙ ap (option_map (λ f. default_at P f)) at
+            ∙ ap (λ z. Some (option_map_or default_of z Nothing)) ty,
+      )
 
   pub statics : (f : ℕ) (t : Ty) → field_type P f ≡ Some t → slice_get (map (λ f. default_of f.ty) P.fields) f ≡ Some (default_of t)
   statics f t e = let k = mapped_some (λ k. k.ty) (slice_get P.fields f) t e in slice_get-map (λ f. default_of f.ty) P.fields f
@@ -164,9 +167,11 @@ module _ (P : Plain) where
     in_layout (suc n) seen {c} f chain_here there e k = in_right (option_map_or (λ p. layout_in P n p.0) (parent_of P c) []) (own_fields P c) f there
     in_layout zero seen {c} f (chain_up {p = p} up rest) there e k = absurd (one_left P formed.acyclic seen (parent-super P c p up) k e)
     in_layout (suc n) seen {c} f (chain_up {p = p} up rest) there e k =
-        let r = in_layout n (c ∷ seen) f rest there (omega (arith, e)) (passed_more P formed.acyclic seen (parent-super P c p up) k) in
-        (r.0, in_left (option_map_or (λ p. layout_in P n p.0) (parent_of P c) []) (own_fields P c) f r.0
-            (subst (λ z. slice_get (option_map_or (λ p. layout_in P n p.0) z []) r.0 ≡ Some f) (sym up) r.1))
+        let r = in_layout n (c ∷ seen) f rest there (omega (arith, e)) (passed_more P formed.acyclic seen (parent-super P c p up) k) in (
+          r.0,
+          in_left (option_map_or (λ p. layout_in P n p.0) (parent_of P c) []) (own_fields P c) f r.0
+              (subst (λ z. slice_get (option_map_or (λ p. layout_in P n p.0) z []) r.0 ≡ Some f) (sym up) r.1),
+        )
 
     instance_found : (f : ℕ) (o : Option ℕ) → when_instance P o ≡ Some f → (o ≡ Some f) × (is_static_field P f ≡ false)
     instance_found f None e = absurd (cc)
@@ -190,7 +195,7 @@ module _ (P : Plain) where
         let chain = chain_of (λ z. own.no_object (owner ∙ z)) (λ z. no_face (owner ∙ refl) own.holder own.stands own.class z) up in
         let listed = own_listed n.0 0 P.fields f k.0 k.1 owner static in
         let there = in_layout (length P.classes) [] f chain (subst (λ z. IsIn (own_fields P n.0) z) (let z : 0 + f ≡ f = omega arith in z) listed)
-            (omega arith) (none_passed P c) in
+        (omega arith) (none_passed P c) in
         let p = passes-position (λ g. g == f) (layout P c) there.0 f there.1 (eq-eqb f f refl) in
         ap is_some p.1
       where

@@ -80,7 +80,7 @@ looking =
       main = 3;
       methods = gives_this ∷ gives_super ∷ gives_same
           ∷ main_of 3 (variable (codes "x") a_class ∷ variable (codes "y") a_class ∷ variable (codes "a") (many 1) ∷ variable (codes "b")
-              (plain_type Boolean) ∷ []) all_looks ∷ [];
+          (plain_type Boolean) ∷ []) all_looks ∷ [];
     }
 
 abbrev code_of : ℕ → Option Sts

@@ -83,14 +83,14 @@ module _ (P : Plain) (L : Lang) (tl : TypedLang P L) where
           let none : L.field g e x ≡ None = tl.field g e x ∙ ap (option_and_then (λ c. member_field P c x)) (element_class (static P g e) u eq) in
           array_sound P L tl s u _ ok hv eq (λ a c y at kd o sub. subst (λ z. Sound (read_member L g e d x z a c s k)) (sym kd)
           (subst (λ z. Sound (on_bool z s (λ s1. k (Number (int_of (length c.values))) s1) (stop Wrong))) (sym (ap (λ z. names_length z x) none
-              ∙ len)) (here (Number (int_of (length c.values))) s k ok holds_number (subst (λ z. V (heap_of s) (or_nothing z) k)
-              (ap (λ z. length_or z (option_and_then (field_type P) (field_in P (static P g e) x)) x) eq
-              ∙ ap (λ z. if z then Some (plain_type Int) else None) len) h))))
+          ∙ len)) (here (Number (int_of (length c.values))) s k ok holds_number (subst (λ z. V (heap_of s) (or_nothing z) k)
+          (ap (λ z. length_or z (option_and_then (field_type P) (field_in P (static P g e) x)) x) eq
+          ∙ ap (λ z. if z then Some (plain_type Int) else None) len) h))))
 
       object : element_of (static P g e) ≡ None → Sound (with_cell v s (λ a c. read_member L g e d x c.kind a c s k))
       object eq =
           let whole : access_type P (static P g e) x ≡ option_and_then (field_type P) (field_in P (static P g e) x) = ap
-              (λ z. length_or z (option_and_then (field_type P) (field_in P (static P g e) x)) x) eq in
+          (λ z. length_or z (option_and_then (field_type P) (field_in P (static P g e) x)) x) eq in
           let t = some_there (option_and_then (field_type P) (field_in P (static P g e) x)) (subst (λ z. is_some z ≡ true) whole p) in
           let f = then_some (field_type P) (field_in P (static P g e) x) t.0 t.1 in
           let c = then_some (λ c. member_field P c x) (class_of (static P g e)) f.0 f.1 in
@@ -98,7 +98,7 @@ module _ (P : Plain) (L : Lang) (tl : TypedLang P L) where
           let i = some_there (L.index y f.0) (tl.members y c.0 x f.0 oo.made bel c.2) in
           subst (λ z. Sound (read_member L g e d x z a o s k)) (sym kd)
           (read_field_sound P L tl g.body e d (L.field g e x) a o y f.0 i.0 t.0 s k ok kd oo (tl.field g e x ∙ f.1) i.1 f.2
-              (subst (λ z. V (heap_of s) (or_nothing z) k) (whole ∙ t.1) h)))
+          (subst (λ z. V (heap_of s) (or_nothing z) k) (whole ∙ t.1) h)))
 
       go : (o : Option Ty) → element_of (static P g e) ≡ o → Sound (with_cell v s (λ a c. read_member L g e d x c.kind a c s k))
       go (Some u) eq = array u eq (length_some u (option_and_then (field_type P) (field_in P (static P g e) x)) x
@@ -151,7 +151,7 @@ module _ (P : Plain) (L : Lang) (tl : TypedLang P L) where
       (fault_sound fault.Bounds (place_in c i) s _ (λ n there. fitting_sound x o.element u s _ ok hx p sub (λ hw.
       look_exact P L tl _ (convert o.element x) s _ (h _ (again a c n (convert o.element x) (put_from P L tl s a n c (convert o.element x) ok at
       (subst (λ z. KindOk P L tl (heap_of s) z (slice_set c.values n (convert o.element x))) (sym kd) (array_put P L tl (heap_of s) y n c.values
-          (convert o.element x) o hw)))))))))
+      (convert o.element x) o hw)))))))))
     where
       again : {m : _} (a : ℕ) (c : Cell) (n : ℕ) (w : Value) → From P L tl (heap_of s) (set_value a c n w s)
           → From P L tl (heap_of s) (set_value a c n w (record s { met = m }))
@@ -182,7 +182,7 @@ module _ (P : Plain) (L : Lang) (tl : TypedLang P L) where
       → V (heap_of s) (a_value (class_type c)) k → Sound (make_object L g d n c [] s k)
   make_object_sound g d n c s k ok made h =
       step_sound P L tl s _ ok (λ s1 r. make_cell_sound g.body d _ (class_type c) s1 k r.ok (new (heap_of s1)) refl (sub_self (class_type c))
-          (λ v s2 r2 hv. h v s2 (from_on P L tl (heap_of s) s1 s2 r r2) hv))
+      (λ v s2 r2 hv. h v s2 (from_on P L tl (heap_of s) s1 s2 r r2) hv))
     where
       new : (h : Heap) → ObjectOk P L tl h c (L.fresh c)
       new h = record {
@@ -196,12 +196,16 @@ module _ (P : Plain) (L : Lang) (tl : TypedLang P L) where
   make_array_sound g d n t u size s k ok e h =
       some_sound (element_in t.base t.dim) u s _ e (fault_sound fault.NegativeSize (natural_of size) s _ (λ many there.
       step_sound P L tl s _ ok (λ s1 r. make_cell_sound g.body d _ t s1 k r.ok (new (heap_of s1) many)
-          (own_object (heap_of s1) (an_array t) (defaults u many) (new (heap_of s1) many)) (sub_self t)
+      (own_object (heap_of s1) (an_array t) (defaults u many) (new (heap_of s1) many)) (sub_self t)
       (λ v s2 r2 hv. h v s2 (from_on P L tl (heap_of s) s1 s2 r r2) hv))))
     where
       new : (h : Heap) (many : ℕ) → ArrayOk P L tl h t (defaults u many)
-      new h many = record { element = u; of = e; values = λ i v at. subst (λ z. Holds P h z (a_value u)) (all_same many i (default_of u) v at)
-          (default_held P h u) }
+      new h many = record {
+        element = u;
+        of = e;
+        values = λ i v at. subst (λ z. Holds P h z (a_value u)) (all_same many i (default_of u) v at)
+            (default_held P h u);
+      }
 
   -- operators
   pub unary_sound : {t : Static} (o : UnOp) (v : Value) (s : State) (k : ToValue) → Ok s → Holds P (heap_of s) v t → takes_one o t ≡ true

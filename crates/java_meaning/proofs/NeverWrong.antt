@@ -27,16 +27,20 @@ module _ (P : Plain) (L : Lang) (tl : TypedLang P L) where
   words_held h first [] there i v e = absurd (cc)
   words_held h first (w ∷ ws) there zero v e =
       subst (λ z. Holds P h z (a_value (plain_type Str))) (same_Some _ _ e)
-          (holds_text (subst (λ z. slice_get h.strings z ≡ Some w) (let z : first + 0 ≡ first = omega arith in z) (there 0 w refl)))
+      (holds_text (subst (λ z. slice_get h.strings z ≡ Some w) (let z : first + 0 ≡ first = omega arith in z) (there 0 w refl)))
   words_held h first (w ∷ ws) there (suc i) v e =
       words_held h (suc first) ws (λ j u q. subst (λ z. slice_get h.strings z ≡ Some u) (let z : first + suc j ≡ suc first + j = omega arith in z)
-          (there (suc j) u q)) i v e
+      (there (suc j) u q)) i v e
 
   start_good : (words : List (List ℕ)) (n : ℕ) → Good P L tl (start L words n)
   start_good words n = record {
     cells = λ a c e. subst (λ z. KindOk P L tl (heap_of (start L words n)) z.kind z.values) (only a c e)
-        (record { element = plain_type Str; of = refl; values = λ i v q. words_held (heap_of (start L words n)) 0 words
-            (λ j u e. subst (λ z. slice_get words z ≡ Some u) (let z : j ≡ 0 + j = omega arith in z) e) i v q });
+        (record {
+          element = plain_type Str;
+          of = refl;
+          values = λ i v q. words_held (heap_of (start L words n)) 0 words
+              (λ j u e. subst (λ z. slice_get words z ≡ Some u) (let z : j ≡ 0 + j = omega arith in z) e) i v q;
+        });
     statics = λ f t e. (default_of t, tl.statics f t e, default_held P (heap_of (start L words n)) t);
   }
     where
@@ -52,6 +56,6 @@ module _ (P : Plain) (L : Lang) (tl : TypedLang P L) where
       let b = tl.static_bodies m sig body p in
       sound_not_wrong (run_in L m words n) (some_sound (L.static_body m) b.body (start L words n) _ b.found_body
       (enter_sound P L tl (meaning L (suc n)) (meaning_sound (suc n)) b.body sig Nothing (Object 0 ∷ []) (start L words n) _ (start_good words n)
-          b.typed (holds_null refl)
+      b.typed (holds_null refl)
       (subst (λ z. FitAll P (heap_of (start L words n)) (Object 0 ∷ []) z) (sym q)
-          (fit_more (holds_object {t = words_type} {c = words_cell words} refl refl refl) refl fit_none)) (λ v s r hv. sound_stop Ended s tt)))
+      (fit_more (holds_object {t = words_type} {c = words_cell words} refl refl refl) refl fit_none)) (λ v s r hv. sound_stop Ended s tt)))

@@ -72,10 +72,10 @@ module _ (P : Plain) (L : Lang) (tl : TypedLang P L) where
       → V (heap_of s) (a_value (binary_type o t u)) k → Sound (after_left o v s r k)
   after_left_sound {t = t} u bin.Both v s r k ok hv p g h =
       let b = truth_held P hv (both_hold (is_boolean t) (is_boolean u) p).0 in test_sound P L tl v b.0 s r (λ s1. k (Truth false) s1) b.1
-          (g s (from_same P L tl s ok)) (truth false s k ok h)
+      (g s (from_same P L tl s ok)) (truth false s k ok h)
   after_left_sound {t = t} u bin.Either v s r k ok hv p g h =
       let b = truth_held P hv (both_hold (is_boolean t) (is_boolean u) p).0 in test_sound P L tl v b.0 s (λ s1. k (Truth true) s1) r b.1
-          (truth true s k ok h) (g s (from_same P L tl s ok))
+      (truth true s k ok h) (g s (from_same P L tl s ok))
   after_left_sound u _ v s r k ok hv p g h = g s (from_same P L tl s ok)
 
   join_sound : {t u : Static} (v w : Value) (s : State) (k : ToValue) → Ok s → Holds P (heap_of s) v t → Holds P (heap_of s) w u
@@ -83,7 +83,7 @@ module _ (P : Plain) (L : Lang) (tl : TypedLang P L) where
   join_sound v w s k ok hv hw p q h =
       let a = units_held P hv p in let b = units_held P hw q in
       some_sound (text_of s.strings v) a.0 s _ a.1 (some_sound (text_of s.strings w) b.0 s _ b.1
-          (result_sound (join a.0 b.0) s _ (λ u. give_string_sound P L tl u s k ok h)))
+      (result_sound (join a.0 b.0) s _ (λ u. give_string_sound P L tl u s k ok h)))
 
   compute_numbers : (j : Bool) (x y : Option ℤ) (a b : ℤ) (v w : Value) (o : Op) (s : State) (k : ToValue) → Ok s → x ≡ Some a → y ≡ Some b
       → V (heap_of s) (a_value (plain_type Int)) k → Sound (compute j x y v w o s k)
@@ -114,7 +114,7 @@ module _ (P : Plain) (L : Lang) (tl : TypedLang P L) where
       numbers e =
           let q = both_hold (is_numeric t) (is_numeric u) e in let a = number_held P hv q.0 in let b = number_held P hw q.1 in
           let none : (is_plus o && (is_string t || is_string u)) ≡ false = and_false (is_plus o) (is_string t || is_string u)
-              (rw (numeric_no_string t q.0, numeric_no_string u q.1) refl) in
+          (rw (numeric_no_string t q.0, numeric_no_string u q.1) refl) in
           compute_numbers flag (number_of v) (number_of w) a.0 b.0 v w o s k ok a.1 b.1 (subst (λ z. V (heap_of s) (a_value (sum_type z)) k) none h)
 
       joined : is_plus o ≡ true → (is_string t || is_string u) ≡ true → (is_text v || is_text w) ≡ true → (number_of v ≡ None) ⊎ (number_of w ≡ None)
@@ -133,11 +133,11 @@ module _ (P : Plain) (L : Lang) (tl : TypedLang P L) where
   compared_sound : {t u : Static} (o : BinOp) (v w : Value) (f : ℤ → ℤ → Bool) (s : State) (k : ToValue) → Ok s → Holds P (heap_of s) v t
       → Holds P (heap_of s) w u → (is_numeric t && is_numeric u) ≡ true → ((a b : ℤ) → compared o a b ≡ Some (f a b))
       → V (heap_of s) (a_value (plain_type Boolean)) k
-          → Sound (with_some (number_of v) s (λ a. with_some (number_of w) s (λ b. with_some (compared o a b) s (λ t. k (Truth t) s))))
+      → Sound (with_some (number_of v) s (λ a. with_some (number_of w) s (λ b. with_some (compared o a b) s (λ t. k (Truth t) s))))
   compared_sound {t = t} {u = u} o v w f s k ok hv hw p e h =
       let q = both_hold (is_numeric t) (is_numeric u) p in let a = number_held P hv q.0 in let b = number_held P hw q.1 in
       some_sound (number_of v) a.0 s _ a.1 (some_sound (number_of w) b.0 s _ b.1 (some_sound (compared o a.0 b.0) (f a.0 b.0) s _ (e a.0 b.0)
-          (truth (f a.0 b.0) s k ok h)))
+      (truth (f a.0 b.0) s k ok h)))
 
   pub operate_sound : {t u : Static} (o : BinOp) (v w : Value) (s : State) (k : ToValue) → Ok s → Holds P (heap_of s) v t → Holds P (heap_of s) w u
       → takes_two P o t u ≡ true → V (heap_of s) (a_value (binary_type o t u)) k → Sound (operate o v w s k)
@@ -146,7 +146,7 @@ module _ (P : Plain) (L : Lang) (tl : TypedLang P L) where
       (truth b.0 s k ok h)
   operate_sound {t = t} {u = u} bin.Differs v w s k ok hv hw p h =
       let b = comparable_held P t u hv hw p in some_sound (same_value v w) b.0 s _ b.1 (bool_sound b.0 s (λ s1. k (Truth false) s1)
-          (λ s1. k (Truth true) s1) (truth false s k ok h) (truth true s k ok h))
+      (λ s1. k (Truth true) s1) (truth false s k ok h) (truth true s k ok h))
   operate_sound {t = t} {u = u} bin.Both v w s k ok hv hw p h = let b = truth_held P hw (both_hold (is_boolean t) (is_boolean u) p).1 in some_sound
       (truth_of w) b.0 s _ (ap truth_of b.1) (truth b.0 s k ok h)
   operate_sound {t = t} {u = u} bin.Either v w s k ok hv hw p h = let b = truth_held P hw (both_hold (is_boolean t) (is_boolean u) p).1 in some_sound
@@ -183,7 +183,7 @@ module _ (P : Plain) (L : Lang) (tl : TypedLang P L) where
   cast_object_sound b c d x u v s k ok holds_any e f h = absurd (cc)
   cast_object_sound b c d x u v s k ok (holds_object {a = a} {c = o} there r sub) e f h =
       some_sound (slice_get s.cells a) o s _ there (look_sound P L tl (tested b x (L.is_sub (own_type o.kind) u)) (Object a) s _ ok
-          (λ s1 r1. go s1 r1 (L.is_sub (own_type o.kind) u) refl))
+      (λ s1 r1. go s1 r1 (L.is_sub (own_type o.kind) u) refl))
     where
       go : (s1 : State) → From P L tl (heap_of s) s1 → (y : Bool) → L.is_sub (own_type o.kind) u ≡ y
           → Sound (on_bool y s1 (λ s2. look L (held b x) (Object a) s2 (λ s3. k (Object a) s3)) (stop (Faulted fault.ClassCast)))
@@ -200,7 +200,7 @@ module _ (P : Plain) (L : Lang) (tl : TypedLang P L) where
       numbers : (is_numeric (a_value u) && is_numeric t) ≡ true → Sound (cast_to L b x u v s k)
       numbers e =
           let q = both_hold (is_numeric (a_value u)) (is_numeric t) e in let a = number_held P hv q.1 in let yes : is_number_type u.base u.dim
-              ≡ true = number_type u.base u.dim ∙ q.0 in
+          ≡ true = number_type u.base u.dim ∙ q.0 in
           subst (λ z. Sound (on_bool z s (λ s1. with_some (number_of v) s1 (λ a. k (cast_number u.base a) s1)) (λ s1. cast_object L b x u v s1 k))) (sym yes)
           (some_sound (number_of v) a.0 s _ a.1 (here P L tl (cast_number u.base a.0) s k ok (cast_number_held (heap_of s) u.base u.dim a.0 yes) h))
 
@@ -223,7 +223,7 @@ module _ (P : Plain) (L : Lang) (tl : TypedLang P L) where
   test_class_sound b c x d v s k ok holds_any e h = absurd (cc)
   test_class_sound b c x d v s k ok (holds_object {a = a} {c = o} there r sub) e h =
       some_sound (slice_get s.cells a) o s _ there (look_sound P L tl (tested b x (L.is_sub (own_type o.kind) (class_type d))) (Object a) s _ ok
-          (λ s1 r1. h (Truth (L.is_sub (own_type o.kind) (class_type d))) s1 r1 holds_truth))
+      (λ s1 r1. h (Truth (L.is_sub (own_type o.kind) (class_type d))) s1 r1 holds_truth))
 
   pub related_class : (t : Static) (d : Option ℕ) → are_related P (class_of t) d ≡ true → (c : ℕ) × (class_of t ≡ Some c)
   related_class t d e = let q = related_some P (class_of t) d e in (q.0, q.2)

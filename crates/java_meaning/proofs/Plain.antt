@@ -184,24 +184,24 @@ module _ (L M : Lang) (like : IsBare L M) where
   write_static_r x v s m k j r =
       some_as (L.field_type x) (M.field_type x) s m _ _ (like.typed_field x) (λ t. some_r (slice_get s.statics x) s m _ _ (λ old.
       look_r (set_static x) (set_static x) (convert t v) s m (λ s1. k (record s1 { statics = slice_set s1.statics x (convert t v) }))
-          (λ s1. j (record s1 { statics = slice_set s1.statics x (convert t v) }))
+      (λ s1. j (record s1 { statics = slice_set s1.statics x (convert t v) }))
       (λ s1 m1. r (record s1 { statics = slice_set s1.statics x (convert t v) }) m1)))
 
   read_field_r : (b : ℕ) (e d e2 d2 : Ex) (x y : Option ℕ) (a : ℕ) (c : Cell) (s : State) (m : List Met) (k j : ToValue) → y ≡ x → KV k j
       → OrIs m (read_field L b e d x a c s k) (read_field M b e2 d2 y a c (re s m) j)
   read_field_r b e d e2 d2 x y a c s m k j q r =
       some_r (own_class c.kind) s m _ _ (λ t. some_as x y s m _ _ q (λ f. some_as (L.index t f) (M.index t f) s m _ _ (like.index t f)
-          (λ i. some_r (slice_get c.values i) s m _ _ (λ u.
+      (λ i. some_r (slice_get c.values i) s m _ _ (λ u.
       look_r (touched b e f) (touched b e2 f) (Object a) s m _ _ (λ s1 m1. look_r (held b d) (held b d2) u s1 m1 (λ s2. k u s2) (λ s2. j u s2) (r u))))))
 
   write_field_r : (b : ℕ) (e e2 : Ex) (x y : Option ℕ) (v : Value) (a : ℕ) (c : Cell) (s : State) (m : List Met) (k j : State → Outcome) → y ≡ x
       → KS k j → OrIs m (write_field L b e x v a c s k) (write_field M b e2 y v a c (re s m) j)
   write_field_r b e e2 x y v a c s m k j q r =
       some_r (own_class c.kind) s m _ _ (λ t. some_as x y s m _ _ q (λ f. some_as (L.field_type f) (M.field_type f) s m _ _ (like.typed_field f)
-          (λ u. some_as (L.index t f) (M.index t f) s m _ _ (like.index t f) (λ i.
+      (λ u. some_as (L.index t f) (M.index t f) s m _ _ (like.index t f) (λ i.
       some_r (slice_get c.values i) s m _ _ (λ old. look_r (touched b e f) (touched b e2 f) (Object a) s m _ _ (λ s1 m1.
       look_r (kept c.site f) (kept c.site f) (convert u v) s1 m1 (λ s2. k (set_value a c i (convert u v) s2))
-          (λ s2. j (set_value a c i (convert u v) s2)) (λ s2 m2. r (set_value a c i (convert u v) s2) m2)))))))
+      (λ s2. j (set_value a c i (convert u v) s2)) (λ s2 m2. r (set_value a c i (convert u v) s2) m2)))))))
 
   read_member_r : (g : Env) (e d d2 : Ex) (x : List ℕ) (t : Kind) (a : ℕ) (c : Cell) (s : State) (m : List Met) (k j : ToValue) → KV k j
       → OrIs m (read_member L g e d x t a c s k) (read_member M g (bare e) d2 x t a c (re s m) j)
@@ -209,15 +209,15 @@ module _ (L M : Lang) (like : IsBare L M) where
       (like.field g e x) r
   read_member_r g e d d2 x (an_array t) a c s m k j r =
       subst (λ z. OrIs m (read_member L g e d x (an_array t) a c s k)
-          (on_bool (names_length z x) (re s m) (λ s1. j (Number (int_of (length c.values))) s1) (stop Wrong))) (sym (like.field g e x))
+      (on_bool (names_length z x) (re s m) (λ s1. j (Number (int_of (length c.values))) s1) (stop Wrong))) (sym (like.field g e x))
       (bool_r (names_length (L.field g e x) x) s m (λ s1. k (Number (int_of (length c.values))) s1) (λ s1. j (Number (int_of (length c.values))) s1)
-          (stop Wrong) (stop Wrong) (r (Number (int_of (length c.values)))) (is_stop Wrong))
+      (stop Wrong) (stop Wrong) (r (Number (int_of (length c.values)))) (is_stop Wrong))
 
   read_element_r : (b : ℕ) (d d2 : Ex) (v : Value) (i : ℤ) (s : State) (m : List Met) (k j : ToValue) → KV k j
       → OrIs m (read_element L b d v i s k) (read_element M b d2 v i (re s m) j)
   read_element_r b d d2 v i s m k j r =
       cell_r v s m _ _ (λ a c. some_r (element_type c.kind) s m _ _
-          (λ t. fault_r fault.Bounds (option_and_then (λ n. slice_get c.values n) (natural_of i)) s m _ _ (λ u.
+      (λ t. fault_r fault.Bounds (option_and_then (λ n. slice_get c.values n) (natural_of i)) s m _ _ (λ u.
       look_r (held b d) (held b d2) u s m (λ s1. k u s1) (λ s1. j u s1) (r u))))
 
   fitting_r : (v : Value) (t : Ty) (s : State) (m : List Met) (k j : State → Outcome) → KS k j → OrIs m (on_fitting L v t s k) (on_fitting M v t (re s m) j)
@@ -225,7 +225,7 @@ module _ (L M : Lang) (like : IsBare L M) where
       some_r (slice_get s.cells b) s m _ _ (λ d. subst (λ z. OrIs m (on_bool (L.is_sub (own_type d.kind) t) s k (stop (Faulted fault.ArrayStore)))
       (on_bool z (re s m) j (stop (Faulted fault.ArrayStore)))) (sym (like.is_sub (own_type d.kind) t))
       (bool_r (L.is_sub (own_type d.kind) t) s m k j (stop (Faulted fault.ArrayStore)) (stop (Faulted fault.ArrayStore)) r
-          (is_stop (Faulted fault.ArrayStore))))
+      (is_stop (Faulted fault.ArrayStore))))
   fitting_r (Number n) t s m k j r = r s m
   fitting_r (Truth n) t s m k j r = r s m
   fitting_r (CodeUnit n) t s m k j r = r s m
@@ -237,7 +237,7 @@ module _ (L M : Lang) (like : IsBare L M) where
   write_element_r v i u s m k j r =
       cell_r v s m _ _ (λ a c. some_r (element_type c.kind) s m _ _ (λ t. fault_r fault.Bounds (place_in c i) s m _ _ (λ n. fitting_r u t s m _ _ (λ s1 m1.
       look_r (put_in c.site) (put_in c.site) (convert t u) s1 m1 (λ s2. k (set_value a c n (convert t u) s2))
-          (λ s2. j (set_value a c n (convert t u) s2)) (λ s2 m2. r (set_value a c n (convert t u) s2) m2)))))
+      (λ s2. j (set_value a c n (convert t u) s2)) (λ s2 m2. r (set_value a c n (convert t u) s2) m2)))))
 
   make_cell_r : (b : ℕ) (d d2 : Ex) (c : Cell) (s : State) (m : List Met) (k j : ToValue) → KV k j
       → OrIs m (make_cell L b d c s k) (make_cell M b d2 c (re s m) j)
@@ -256,8 +256,8 @@ module _ (L M : Lang) (like : IsBare L M) where
       → OrIs m (make_array L g d n t size s k) (make_array M g d2 n t size (re s m) j)
   make_array_r g d d2 n t size s m k j r =
       some_r (element_in t.base t.dim) s m _ _ (λ u. fault_r fault.NegativeSize (natural_of size) s m _ _
-          (λ many. step_r s m _ _ (λ s1 m1. make_cell_r g.body d d2 (record { site = Some n; kind = an_array t; values = defaults u many }) s1 m1 k j
-          r)))
+      (λ many. step_r s m _ _ (λ s1 m1. make_cell_r g.body d d2 (record { site = Some n; kind = an_array t; values = defaults u many }) s1 m1 k j
+      r)))
 
   cast_object_r : (b : ℕ) (d d2 : Ex) (t : Ty) (v : Value) (s : State) (m : List Met) (k j : ToValue) → KV k j
       → OrIs m (cast_object L b d t v s k) (cast_object M b d2 t v (re s m) j)
@@ -276,8 +276,8 @@ module _ (L M : Lang) (like : IsBare L M) where
       both : (c : Cell) → OrIs m (more c) (plain c (L.is_sub (own_type c.kind) t))
       both c = look_r (tested b d (L.is_sub (own_type c.kind) t)) (tested b d2 (L.is_sub (own_type c.kind) t)) (Object a) s m _ _ (λ s1 m1.
           bool_r (L.is_sub (own_type c.kind) t) s1 m1 _ _ (stop (Faulted fault.ClassCast)) (stop (Faulted fault.ClassCast))
-              (λ s2 m2. look_r (held b d) (held b d2) (Object a) s2 m2 (λ s3. k (Object a) s3) (λ s3. j (Object a) s3) (r (Object a)))
-              (is_stop (Faulted fault.ClassCast)))
+          (λ s2 m2. look_r (held b d) (held b d2) (Object a) s2 m2 (λ s3. k (Object a) s3) (λ s3. j (Object a) s3) (r (Object a)))
+          (is_stop (Faulted fault.ClassCast)))
   cast_object_r b d d2 t (Number n) s m k j r = is_stop Wrong s m
   cast_object_r b d d2 t (Truth n) s m k j r = is_stop Wrong s m
   cast_object_r b d d2 t (CodeUnit n) s m k j r = is_stop Wrong s m
@@ -287,7 +287,7 @@ module _ (L M : Lang) (like : IsBare L M) where
       → OrIs m (cast_to L b d t v s k) (cast_to M b d2 t v (re s m) j)
   cast_r b d d2 t v s m k j r =
       bool_r (is_number_type t.base t.dim) s m _ _ (λ s1. cast_object L b d t v s1 k) (λ s1. cast_object M b d2 t v s1 j)
-          (λ s1 m1. some_r (number_of v) s1 m1 _ _ (λ a. r (cast_number t.base a) s1 m1)) (λ s1 m1. cast_object_r b d d2 t v s1 m1 k j r)
+      (λ s1 m1. some_r (number_of v) s1 m1 _ _ (λ a. r (cast_number t.base a) s1 m1)) (λ s1 m1. cast_object_r b d d2 t v s1 m1 k j r)
 
   test_class_r : (b : ℕ) (d d2 : Ex) (t : ℕ) (v : Value) (s : State) (m : List Met) (k j : ToValue) → KV k j
       → OrIs m (test_class L b d t v s k) (test_class M b d2 t v (re s m) j)
@@ -315,7 +315,7 @@ module _ (L M : Lang) (like : IsBare L M) where
       → OrIs m (write_local L x v f s k) (write_local M x v f (re s m) j)
   write_local_r x v f s m k j r =
       some_r (slice_get f.env.locals x) s m _ _ (λ t. some_r (slice_get f.locals x) s m _ _ (λ old. look_r (bound f.env.body x) (bound f.env.body x)
-          (convert t v) s m
+      (convert t v) s m
       (λ s1. k Next (set_local f x (convert t v)) s1) (λ s1. j Next (set_local f x (convert t v)) s1) (r Next (set_local f x (convert t v)))))
 
   module _ (later later2 : Later) where
@@ -345,9 +345,9 @@ module _ (L M : Lang) (like : IsBare L M) where
           → OrIs m (call_object L later g e d x a c vs s k) (call_object M later2 g (bare e) d2 x a c vs (re s m) j)
       call_object_r g e d d2 x a c vs s m k j r =
           some_r (own_class c.kind) s m _ _ (λ t. step_r s m _ _ (λ s1 m1. some_as (L.slot g e x) (M.slot g (bare e) x) s1 m1 _ _ (like.slot g e x)
-              (λ y. found_r (L.body t y) (M.body t y) s1 m1 _ _ (like.body t y) (λ b.
+          (λ y. found_r (L.body t y) (M.body t y) s1 m1 _ _ (like.body t y) (λ b.
           look_r (ran g.body d b.env.body) (ran g.body d2 b.env.body) (Object a) s1 m1 _ _ (λ s2 m2. look_r (self_of b.env.body) (self_of b.env.body)
-              (Object a) s2 m2 _ _ (λ s3 m3.
+          (Object a) s2 m2 _ _ (λ s3 m3.
           enter_r b (Object a) vs s3 m3 (looked L g.body d k) (looked M g.body d2 j) (after_r g.body d d2 k j r)))))))
 
       call_r : (g : Env) (e d d2 : Ex) (x : List ℕ) (v : Value) (vs : List Value) (s : State) (m : List Met) (k j : ToValue) → KV k j
@@ -371,7 +371,7 @@ module _ (L M : Lang) (like : IsBare L M) where
           → OrIs m (call_super L later g d x v vs s k) (call_super M later2 g d2 x v vs (re s m) j)
       call_super_r g d d2 x v vs s m k j r =
           step_r s m _ _ (λ s1 m1. found_r (L.super_body g.self x) (M.super_body g.self x) s1 m1 _ _ (like.super_body g.self x)
-              (λ b. look_r (self_of b.env.body) (self_of b.env.body) v s1 m1 _ _ (λ s2 m2.
+          (λ b. look_r (self_of b.env.body) (self_of b.env.body) v s1 m1 _ _ (λ s2 m2.
           enter_r b v vs s2 m2 (looked L g.body d k) (looked M g.body d2 j) (after_r g.body d d2 k j r))))
 
       mutual
@@ -387,16 +387,16 @@ module _ (L M : Lang) (like : IsBare L M) where
         value_r (static_field t x) f s m k j r = some_r (slice_get s.statics x) s m _ _ (λ v. r v s m)
         value_r (own_field t x) f s m k j r =
             cell_r f.self s m _ _ (λ a c. read_field_r f.env.body (this t) (own_field t x) (this bare_tag) (own_field bare_tag x) (Some x)
-                (Some x) a c s m k j refl r)
+            (Some x) a c s m k j refl r)
         value_r (field t e x) f s m k j r =
             value_r e f s m _ _ (λ v s1 m1. cell_r v s1 m1 _ _ (λ a c. read_member_r f.env e (field t e x) (field bare_tag (bare e) x) x c.kind
-                a c s1 m1 k j r))
+            a c s1 m1 k j r))
         value_r (index t e i) f s m k j r =
             value_r e f s m _ _ (λ v s1 m1. value_r i f s1 m1 _ _ (λ w s2 m2. some_r (number_of w) s2 m2 _ _
-                (λ n. read_element_r f.env.body (index t e i) (index bare_tag (bare e) (bare i)) v n s2 m2 k j r)))
+            (λ n. read_element_r f.env.body (index t e i) (index bare_tag (bare e) (bare i)) v n s2 m2 k j r)))
         value_r (call t e x es) f s m k j r =
             value_r e f s m _ _ (λ v s1 m1. values_r es f s1 m1 _ _ (λ vs s2 m2. call_r f.env e (call t e x es)
-                (call bare_tag (bare e) x (bare_all es)) x v vs s2 m2 k j r))
+            (call bare_tag (bare e) x (bare_all es)) x v vs s2 m2 k j r))
         value_r (static_call t x es) f s m k j r =
             values_r es f s m _ _ (λ vs s2 m2. call_static_r f.env (static_call t x es) (static_call bare_tag x (bare_all es)) x vs s2 m2 k j r)
         value_r (super_call t x es) f s m k j r =
@@ -405,7 +405,7 @@ module _ (L M : Lang) (like : IsBare L M) where
             values_r es f s m _ _ (λ vs s1 m1. make_object_r f.env (create t n c es) (create bare_tag n c (bare_all es)) n c vs s1 m1 k j r)
         value_r (create_array t n u e) f s m k j r =
             value_r e f s m _ _ (λ v s1 m1. some_r (number_of v) s1 m1 _ _ (λ size. make_array_r f.env (create_array t n u e)
-                (create_array bare_tag n u (bare e)) n u size s1 m1 k j r))
+            (create_array bare_tag n u (bare e)) n u size s1 m1 k j r))
         value_r (cast t n u e) f s m k j r = value_r e f s m _ _ (λ v s1 m1. cast_r f.env.body (cast t n u e) (cast bare_tag n u (bare e)) u v s1 m1 k j r)
         value_r (instance_of t n e c) f s m k j r =
             value_r e f s m _ _ (λ v s1 m1. test_class_r f.env.body (instance_of t n e c) (instance_of bare_tag n (bare e) c) c v s1 m1 k j r)
@@ -438,7 +438,7 @@ module _ (L M : Lang) (like : IsBare L M) where
       return_r None f s m k j r = r (Gave Nothing) f s m
       return_r (Some e) f s m k j r =
           value_r e f s m _ _ (λ v s1 m1. some_r f.env.result s1 m1 _ _ (λ t. look_r (result_of f.env.body) (result_of f.env.body) (convert t v) s1 m1
-              (λ s2. k (Gave (convert t v)) f s2) (λ s2. j (Gave (convert t v)) f s2) (r (Gave (convert t v)) f)))
+          (λ s2. k (Gave (convert t v)) f s2) (λ s2. j (Gave (convert t v)) f s2) (r (Gave (convert t v)) f)))
 
       assign_r : (b : Target) (d : Ex) (f : Frame) (s : State) (m : List Met) (k j : ToFlow) → KF k j
           → OrIs m (run_assign L later b d f s k) (run_assign M later2 (bare_target b) (bare d) f (re s m) j)
@@ -446,11 +446,11 @@ module _ (L M : Lang) (like : IsBare L M) where
       assign_r (to_static t x) d f s m k j r = value_r d f s m _ _ (λ v s1 m1. write_static_r x v s1 m1 (λ s2. k Next f s2) (λ s2. j Next f s2) (r Next f))
       assign_r (to_own t x) d f s m k j r =
           value_r d f s m _ _ (λ v s1 m1. cell_r f.self s1 m1 _ _ (λ a c. write_field_r f.env.body (this t) (this bare_tag) (Some x) (Some x) v a c s1
-              m1 (λ s2. k Next f s2) (λ s2. j Next f s2) refl (r Next f)))
+          m1 (λ s2. k Next f s2) (λ s2. j Next f s2) refl (r Next f)))
       assign_r (to_field t e x) d f s m k j r =
           value_r e f s m _ _ (λ v s1 m1. value_r d f s1 m1 _ _ (λ w s2 m2. cell_r v s2 m2 _ _ (λ a c.
           write_field_r f.env.body e (bare e) (L.field f.env e x) (M.field f.env (bare e) x) w a c s2 m2 (λ s3. k Next f s3) (λ s3. j Next f s3)
-              (like.field f.env e x) (r Next f))))
+          (like.field f.env e x) (r Next f))))
       assign_r (to_element t e i) d f s m k j r =
           value_r e f s m _ _ (λ v s1 m1. value_r i f s1 m1 _ _ (λ w s2 m2. value_r d f s2 m2 _ _ (λ u s3 m3. some_r (number_of w) s3 m3 _ _ (λ n.
           write_element_r v n u s3 m3 (λ s4. k Next f s4) (λ s4. j Next f s4) (r Next f)))))
@@ -472,7 +472,7 @@ module _ (L M : Lang) (like : IsBare L M) where
             (loop_test_r test f1 s1 m1 _ _ (λ s3. k Next f1 s3) (λ s3. j Next f1 s3)
             (λ s3 m3. step_r s3 m3 _ _ (λ s4 m4. sts_r body f1 s4 m4 _ _ (λ w3 f3 s5 m5. turn_r w3 f3 s5 m5 k j _ _ r
             (sts_r last f3 s5 m5 _ _ (λ w5 f5 s7 m7. one_r w5 f5 s7 m7 k j (λ f6 s8. later (st_then (loop t is_while no_st test last body) no_st) f6
-                s8 k) (λ f6 s8. later2 (bare_sts (st_then (loop t is_while no_st test last body) no_st)) f6 s8 j) r
+            s8 k) (λ f6 s8. later2 (bare_sts (st_then (loop t is_while no_st test last body) no_st)) f6 s8 j) r
             (next.runs (st_then (loop t is_while no_st test last body) no_st) f5 s7 m7 k j r))))))
             (r Next f1)))
         st_r (return t e) f s m k j r = return_r e f s m k j r
@@ -508,9 +508,9 @@ module _ (L M : Lang) (like : IsBare L M) where
   unfolding run_in OrIs EscapesOrIs
   run_r x words n = subst (λ z. OrIs [] (run_in L x words n) (run_from z)) (sym like.statics)
       (found_r (meaning L (suc n)) (meaning M (suc n)) (meaning_r (suc n)) (L.static_body x) (M.static_body x) (start L words n) [] _ _
-          (like.static_body x) (λ b.
+      (like.static_body x) (λ b.
       enter_r (meaning L (suc n)) (meaning M (suc n)) (meaning_r (suc n)) b Nothing (Object 0 ∷ []) (start L words n) [] (λ v s. stop Ended s)
-          (λ v s. stop Ended s) (λ v s m. is_stop Ended s m)))
+      (λ v s. stop Ended s) (λ v s m. is_stop Ended s m)))
     where
       run_from : List Value → Outcome
       run_from z =

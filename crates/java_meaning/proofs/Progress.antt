@@ -84,24 +84,24 @@ module _ (P : Plain) (L : Lang) (tl : TypedLang P L) (later : Later) (next : Lat
           class_sound P L tl s f.env.self _ ok fi.self refl (λ a o y at kd bel oo ho.
           let i = some_there (L.index y x) (tl.members y f.env.self p.0 x oo.made bel p.1) in let u = tl.fresh y x i.0 i.1 in
           read_field_sound P L tl f.env.body (this t) (own_field t x) (Some x) a o y x i.0 u.0 s k ok kd oo refl i.1 u.1
-              (subst (λ z. V (heap_of s) (or_nothing z) k) u.1 h))
+          (subst (λ z. V (heap_of s) (or_nothing z) k) u.1 h))
       value_sound (t_field {t = t} {e = e} {x = x} q m) p s k ok fi h =
           value_sound q p s _ ok fi (λ v s1 r hv. member_sound P L tl f.env e (field t e x) x v s1 k r.ok hv m (later_v s s1 k r h))
       value_sound (t_index {t = t} {e = e} {i = i} q m qi n) p s k ok fi h =
           value_sound q p.0 s _ ok fi (λ v s1 r hv. value_sound qi p.1 s1 _ r.ok (frame_grown P r.grows fi) (λ w s2 r2 hw.
           let z = number_held P hw n in let u = some_there (element_of (static P f.env e)) m in let all = onto s s1 s2 r r2 in
           some_sound (number_of w) z.0 s2 _ z.1 (element_sound P L tl f.env.body (index t e i) v z.0 u.0 s2 k r2.ok (grown P r2.grows hv) u.1
-              (later_v s s2 k all (subst (λ z. V (heap_of s) (or_nothing z) k) u.1 h)))))
+          (later_v s s2 k all (subst (λ z. V (heap_of s) (or_nothing z) k) u.1 h)))))
       value_sound (t_call {t = t} {e = e} {x = x} {es = es} {s = sig} q m qs) p s k ok fi h =
           value_sound q p.0 s _ ok fi (λ v s1 r hv. values_sound qs p.1 s1 _ r.ok (frame_grown P r.grows fi) (λ vs s2 r2 hvs. let all = onto s s1 s2 r r2 in
           call_sound P L tl later next f.env e (call t e x es) x v vs sig s2 k r2.ok (grown P r2.grows hv) m hvs
-              (later_v s s2 k all (subst (λ z. V (heap_of s) (result_of z) k) m h))))
+          (later_v s s2 k all (subst (λ z. V (heap_of s) (result_of z) k) m h))))
       value_sound (t_static_call {t = t} {m = m} {es = es} {s = sig} q qs) p s k ok fi h =
           values_sound qs p.1 s _ ok fi (λ vs s1 r hvs. call_static_sound P L tl later next f.env (static_call t m es) m vs sig s1 k r.ok p.0 q hvs
-              (later_v s s1 k r (subst (λ z. V (heap_of s) (result_of z) k) q h)))
+          (later_v s s1 k r (subst (λ z. V (heap_of s) (result_of z) k) q h)))
       value_sound (t_super_call {t = t} {x = x} {es = es} {m = m} {s = sig} there body q qs) p s k ok fi h =
           values_sound qs p s _ ok fi (λ vs s1 r hvs. call_super_sound P L tl later next f.env (super_call t x es) m x f.self vs sig s1 k r.ok
-              (grown P r.grows fi.self) there body q hvs
+          (grown P r.grows fi.self) there body q hvs
           (later_v s s1 k r (subst (λ z. V (heap_of s) (result_of z) k) q h)))
       value_sound (t_create {t = t} {n = n} {c = c} q) p s k ok fi h = make_object_sound P L tl f.env (create t n c _) n c s k ok q h
       value_sound (t_create_array {t = t} {n = n} {u = u} {e = e} q m) p s k ok fi h =
@@ -125,7 +125,7 @@ module _ (P : Plain) (L : Lang) (tl : TypedLang P L) (later : Later) (next : Lat
       values_sound t_no_ex p s k ok fi h = h [] s (from_same P L tl s ok) fit_none
       values_sound (t_ex_then q m qs) p s k ok fi h =
           value_sound q p.0 s _ ok fi (λ v s1 r hv. values_sound qs p.1 s1 _ r.ok (frame_grown P r.grows fi)
-              (λ vs s2 r2 hvs. h (v ∷ vs) s2 (onto s s1 s2 r r2) (fit_more (grown P r2.grows hv) m hvs)))
+          (λ vs s2 r2 hvs. h (v ∷ vs) s2 (onto s s1 s2 r r2) (fit_more (grown P r2.grows hv) m hvs)))
 
   -- in a frame of a body
   value_at : {g : Env} {e : Ex} → Typed P g e → Stands P g e → (f : Frame) (s : State) (k : ToValue) → Ok s → f.env ≡ g → FrameIn P (heap_of s) f
@@ -139,10 +139,13 @@ module _ (P : Plain) (L : Lang) (tl : TypedLang P L) (later : Later) (next : Lat
   local_sound g x t v f s k ok ef fi e hv h =
       let there = ap (λ z. slice_get z.locals x) ef ∙ e in let old = all_get P x t fi.locals there in
       some_sound (slice_get f.env.locals x) t s _ there (some_sound (slice_get f.locals x) old.0 s _ old.1
-          (look_sound P L tl (bound f.env.body x) (convert t v) s _ ok (λ s1 r.
+      (look_sound P L tl (bound f.env.body x) (convert t v) s _ ok (λ s1 r.
       h Next (set_local f x (convert t v)) s1 r ef
-          (record { self = grown P r.grows fi.self; locals = all_set P x t (convert t v) (frame_grown P r.grows fi).locals there
-          (grown P r.grows hv) }) tt)))
+      (record {
+        self = grown P r.grows fi.self;
+        locals = all_set P x t (convert t v) (frame_grown P r.grows fi).locals there
+            (grown P r.grows hv);
+      }) tt)))
 
   -- what is assigned fits
   fits_some : (s : Static) (o : Option Ty) → fits_in P s (or_nothing o) ≡ true → (t : Ty) × (o ≡ Some t) × (fits P s t ≡ true)
@@ -161,7 +164,7 @@ module _ (P : Plain) (L : Lang) (tl : TypedLang P L) (later : Later) (next : Lat
   print_sound g newline f s k print_nothing p ok ef fi h = h _ (record { grows = (from_same P L tl s ok).grows; ok = ok })
   print_sound g newline f s k (print_value q m) p ok ef fi h =
       value_at q p f s _ ok ef fi (λ v s1 r hv. let u = units_held P hv m in some_sound (text_of s1.strings v) u.0 s1 _ u.1
-          (h _ (record { grows = r.grows; ok = r.ok })))
+      (h _ (record { grows = r.grows; ok = r.ok })))
 
   declare_sound : (g : Env) (x : ℕ) {e : Option Ex} (f : Frame) (s : State) (k : ToFlow) → TypedInitial P g x e
       → (is_some (slice_get g.locals x) ≡ true) × StandsIf P g e → Ok s → f.env ≡ g → FrameIn P (heap_of s) f → F g (heap_of s) k
@@ -186,7 +189,7 @@ module _ (P : Plain) (L : Lang) (tl : TypedLang P L) (later : Later) (next : Lat
       go (starts_value {e = e} q m) p = let u = fits_some (static P g e) (slice_get g.locals x) m in
           value_at q p (set_local f x (default_of t.0)) s _ ok ef fresh (λ v s1 r hv.
           local_sound g x u.0 v (set_local f x (default_of t.0)) s1 k r.ok ef (frame_grown P r.grows fresh) u.1 (flows P tl.below_all u.0 hv u.2)
-              (later_f g s s1 k r h))
+          (later_f g s s1 k r h))
 
   return_sound : (g : Env) {e : Option Ex} (f : Frame) (s : State) (k : ToFlow) → TypedReturn P g e → StandsIf P g e → Ok s → f.env ≡ g
       → FrameIn P (heap_of s) f → F g (heap_of s) k → Sound (run_return L later e f s k)
@@ -196,10 +199,10 @@ module _ (P : Plain) (L : Lang) (tl : TypedLang P L) (later : Later) (next : Lat
       none e = cc
   return_sound g f s k (gives_value {u = u} q m n) p ok ef fi h =
       value_at q p f s _ ok ef fi (λ v s1 r hv. some_sound f.env.result u s1 _ (ap (λ z. z.result) ef ∙ m) (look_sound P L tl (result_spot f.env.body)
-          (convert u v) s1 _ r.ok (λ s2 r2.
+      (convert u v) s1 _ r.ok (λ s2 r2.
       let all = onto s s1 s2 r r2 in
       h (Gave (convert u v)) f s2 all ef (frame_grown P all.grows fi) (λ t e. subst (λ z. Holds P (heap_of s2) (convert u v) (a_value z))
-          (same_Some _ _ (sym m ∙ e)) (grown P r2.grows (flows P tl.below_all u hv n))))))
+      (same_Some _ _ (sym m ∙ e)) (grown P r2.grows (flows P tl.below_all u hv n))))))
 
   -- assignments
   kept_frame : (g : Env) (f : Frame) (s s1 : State) (k : ToFlow) → Goes (heap_of s) s1 → f.env ≡ g → FrameIn P (heap_of s) f → F g (heap_of s) k
@@ -212,17 +215,17 @@ module _ (P : Plain) (L : Lang) (tl : TypedLang P L) (later : Later) (next : Lat
   assign_sound g {d = d} f s k (t_to_local {i = x}) q m p y ok ef fi h =
       let u = fits_some (static P g d) (slice_get g.locals x) m in
       value_at q y f s _ ok ef fi (λ v s1 r hv. local_sound g x u.0 v f s1 k r.ok ef (frame_grown P r.grows fi) u.1 (flows P tl.below_all u.0 hv u.2)
-          (later_f g s s1 k r h))
+      (later_f g s s1 k r h))
   assign_sound g {d = d} f s k (t_to_static {f = x}) q m p y ok ef fi h =
       let u = fits_some (static P g d) (field_type P x) m in
       value_at q y f s _ ok ef fi (λ v s1 r hv. write_static_sound P L tl x u.0 v s1 _ r.ok u.1 (flows P tl.below_all u.0 hv u.2)
-          (kept_frame g f s s1 k r ef fi h))
+      (kept_frame g f s s1 k r ef fi h))
   assign_sound g {d = d} f s k (t_to_own {t = t} {f = x}) q m p y ok ef fi h =
       let u = fits_some (static P g d) (field_type P x) m in
       value_at q y f s _ ok ef fi (λ v s1 r hv. class_sound P L tl s1 f.env.self _ r.ok (grown P r.grows fi.self) refl (λ a o c at kd bel oo ho.
       let i = some_there (L.index c x) (tl.members c g.self p.0 x oo.made (subst (λ z. below P c z.self ≡ true) ef bel) p.1) in
       write_field_sound P L tl f.env.body (this t) (Some x) v a o c x i.0 u.0 s1 _ r.ok at kd oo refl i.1 u.1 (flows P tl.below_all u.0 hv u.2)
-          (kept_frame g f s s1 k r ef fi h)))
+      (kept_frame g f s s1 k r ef fi h)))
   assign_sound g {d = d} f s k (t_to_field {e = e} {x = x} qe n) q m p y ok ef fi h =
       let u = fits_some (static P g d) (option_and_then (field_type P) (field_in P (static P g e) x)) m in
       let z = then_some (field_type P) (field_in P (static P g e) x) u.0 u.1 in
@@ -231,15 +234,15 @@ module _ (P : Plain) (L : Lang) (tl : TypedLang P L) (later : Later) (next : Lat
       class_sound P L tl s2 c.0 _ r2.ok (grown P r2.grows hv) c.1 (λ a o b at kd bel oo ho.
       let i = some_there (L.index b z.0) (tl.members b c.0 x z.0 oo.made bel c.2) in
       write_field_sound P L tl f.env.body e (L.field f.env e x) w a o b z.0 i.0 u.0 s2 _ r2.ok at kd oo (tl.field f.env e x
-          ∙ (ap (λ q. field_in P (static P q e) x) ef ∙ z.1)) i.1 z.2
+      ∙ (ap (λ q. field_in P (static P q e) x) ef ∙ z.1)) i.1 z.2
       (flows P tl.below_all u.0 hw u.2) (kept_frame g f s s2 k all ef fi h))))
   assign_sound g {d = d} f s k (t_to_element {e = e} {i = i} qe n qi l) q m p y ok ef fi h =
       let u = fits_some (static P g d) (element_of (static P g e)) m in
       value_at qe p.0 f s _ ok ef fi (λ v s1 r hv. value_at qi p.1 f s1 _ r.ok ef (frame_grown P r.grows fi) (λ w s2 r2 hw.
       value_at q y f s2 _ r2.ok ef (frame_grown P (onto s s1 s2 r r2).grows fi) (λ x s3 r3 hx. let all = onto s s2 s3 (onto s s1 s2 r r2) r3 in
-          let z = number_held P hw l in
+      let z = number_held P hw l in
       some_sound (number_of w) z.0 s3 _ z.1 (write_element_sound P L tl v z.0 x u.0 s3 _ r3.ok (grown P (onto s1 s2 s3 r2 r3).grows hv) u.1 hx u.2
-          (kept_frame g f s s3 k all ef fi h)))))
+      (kept_frame g f s s3 k all ef fi h)))))
 
   -- after one of several statements, and after the body of a loop
   next_sound : (g : Env) (w : Flow) (f : Frame) (s : State) (k : ToFlow) (on : Frame → State → Outcome) → Ok s → f.env ≡ g → FrameIn P (heap_of s) f
@@ -275,10 +278,10 @@ module _ (P : Plain) (L : Lang) (tl : TypedLang P L) (later : Later) (next : Lat
           (test_of g f1 s1 _ _ qt p.1 r1.ok e1 i1
           (λ s3 r3. step_sound P L tl s3 _ r3.ok (λ s4 r4. let to4 = onto s1 s3 s4 r3 r4 in let h4 = later_f g s1 s4 k to4 h1 in
           all_sound qb p.3 f1 s4 _ r4.ok e1 (frame_grown P to4.grows i1) (λ w3 f3 s5 r5 e3 i3 o3. let h5 = later_f g s4 s5 k r5 h4 in turn_sound g w3
-              f3 s5 k _ r5.ok e3 i3 o3 h5
+          f3 s5 k _ r5.ok e3 i3 o3 h5
           (all_sound ql p.2 f3 s5 _ r5.ok e3 i3 (λ w5 f5 s7 r7 e5 i5 o5. let h7 = later_f g s5 s7 k r7 h5 in next_sound g w5 f5 s7 k _ r7.ok e5 i5 o5 h7
           (next.runs g (st_then (loop t is_while no_st test last body) no_st) (t_st_then (t_loop t_no_st qt ql qb) t_no_st) ((tt, p.1, p.2, p.3), tt)
-              f5 s7 k r7.ok e5 i5 h7))))))
+          f5 s7 k r7.ok e5 i5 h7))))))
           (λ s3 r3. let to3 = onto s s1 s3 r1 r3 in h Next f1 s3 to3 e1 (frame_grown P r3.grows i1) tt)))
       one_sound (t_return_nothing n) p f s k ok ef fi h = return_sound g f s k (gives_nothing n) p ok ef fi h
       one_sound (t_return q m n) p f s k ok ef fi h = return_sound g f s k (gives_value q m n) p ok ef fi h
@@ -290,7 +293,7 @@ module _ (P : Plain) (L : Lang) (tl : TypedLang P L) (later : Later) (next : Lat
       all_sound t_no_st p f s k ok ef fi h = h Next f s (from_same P L tl s ok) ef fi tt
       all_sound (t_st_then q qs) p f s k ok ef fi h =
           one_sound q p.0 f s _ ok ef fi (λ w f1 s1 r e1 i1 wo. let h1 = later_f g s s1 k r h in next_sound g w f1 s1 k _ r.ok e1 i1 wo h1
-              (all_sound qs p.1 f1 s1 k r.ok e1 i1 h1))
+          (all_sound qs p.1 f1 s1 k r.ok e1 i1 h1))
 
       arms_sound : {xs : Arms} → TypedArms P g xs → StandsArms P g xs → (f : Frame) (s : State) (k : ToFlow) → Ok s → f.env ≡ g
           → FrameIn P (heap_of s) f → F g (heap_of s) k → Sound (run_arms L later xs f s k)

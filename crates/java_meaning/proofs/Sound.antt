@@ -144,7 +144,7 @@ module _ (P : Plain) (L : Lang) (tl : TypedLang P L) where
     ok = record {
       cells = λ b d e. ⊎_elim
           (λ same. subst (λ z. KindOk k z.kind z.values) (same_Some _ _ (sym (get_set_there s.cells a put c at) ∙ ap (λ z. slice_get k.cells z) same
-              ∙ e)) (kind_grown (heap_of s) k c.kind (slice_set c.values i w) grows new))
+          ∙ e)) (kind_grown (heap_of s) k c.kind (slice_set c.values i w) grows new))
           (λ ne. kind_grown (heap_of s) k d.kind d.values grows (ok.cells b d (sym (get_set_other s.cells a b put ne) ∙ e)))
           (cases_eq a b);
       statics = λ f t e. let v = ok.statics f t e in (v.0, v.1, grown P grows v.2);
@@ -160,8 +160,12 @@ module _ (P : Plain) (L : Lang) (tl : TypedLang P L) where
       grows : Grows P (heap_of s) k
       grows = record {
         cells = λ b d e. ⊎_elim
-            (λ same. (put, ap (λ z. slice_get k.cells z) (sym same) ∙ get_set_there s.cells a put c at, ap (λ z. z.kind)
-                (same_Some _ _ (sym at ∙ ap (λ z. slice_get s.cells z) same ∙ e))))
+            (λ same. (
+              put,
+              ap (λ z. slice_get k.cells z) (sym same) ∙ get_set_there s.cells a put c at,
+              ap (λ z. z.kind)
+                  (same_Some _ _ (sym at ∙ ap (λ z. slice_get s.cells z) same ∙ e)),
+            ))
             (λ ne. (d, get_set_other s.cells a b put ne ∙ e, refl))
             (cases_eq a b);
         strings = λ b u e. e;
@@ -251,7 +255,7 @@ module _ (P : Plain) (L : Lang) (tl : TypedLang P L) where
   pub look_all_sound : (b : ℕ) (vs : List Value) (s : State) (k : State → Outcome) → Good s → KS (heap_of s) k → Sound (look_all L b vs s k)
   look_all_sound b vs s k ok h =
       bool_sound (L.sees_all b vs s.cells) (record s { met = L.note_all b vs s.cells s.met }) k (stop Escaped)
-          (h _ (record { grows = grows_same P (heap_of s); ok = ok })) (sound_stop Escaped (record s { met = L.note_all b vs s.cells s.met }) tt)
+      (h _ (record { grows = grows_same P (heap_of s); ok = ok })) (sound_stop Escaped (record s { met = L.note_all b vs s.cells s.met }) tt)
 
   -- an object of a class, and an array of elements
   object_kind : (h : Heap) (c : ℕ) (K : Kind) (vs : List Value) → KindOk h K vs → is_subtype P (own_type K) (class_type c) ≡ true
@@ -264,7 +268,7 @@ module _ (P : Plain) (L : Lang) (tl : TypedLang P L) where
 
   pub class_sound : {t : Static} {v : Value} (s : State) (c : ℕ) (k : ℕ → Cell → Outcome) → Good s → Holds P (heap_of s) v t → class_of t ≡ Some c
       → ((a : ℕ) (o : Cell) (d : ℕ) → slice_get s.cells a ≡ Some o → o.kind ≡ an_object d → below P d c ≡ true → ObjectOk (heap_of s) d o.values
-          → Holds P (heap_of s) (Object a) t → Sound (k a o)) → Sound (with_cell v s k)
+      → Holds P (heap_of s) (Object a) t → Sound (k a o)) → Sound (with_cell v s k)
   class_sound s c k ok holds_number e h = absurd (cc)
   class_sound s c k ok holds_truth e h = absurd (cc)
   class_sound s c k ok holds_unit e h = absurd (cc)
@@ -272,7 +276,7 @@ module _ (P : Plain) (L : Lang) (tl : TypedLang P L) where
   class_sound s c k ok (holds_null x) e h = sound_stop (Faulted fault.Null) s tt
   class_sound s c k ok (holds_object {a = a} {t = t} {c = o} there r sub) e h =
       let q = object_kind (heap_of s) c o.kind o.values (ok.cells a o there) (subst (λ z. is_subtype P (own_type o.kind) z ≡ true)
-          (sym (class_in_type t.base t.dim c e)) sub) in
+      (sym (class_in_type t.base t.dim c e)) sub) in
       some_sound (slice_get s.cells a) o s (λ z. k a z) there (h a o q.0 there q.1 q.2 q.3 (holds_object there r sub))
   class_sound s c k ok holds_nothing e h = sound_stop (Faulted fault.Null) s tt
   class_sound s c k ok holds_any e h = absurd (cc)
@@ -283,9 +287,15 @@ module _ (P : Plain) (L : Lang) (tl : TypedLang P L) where
   array_kind h b zero u K vs o e sub = absurd (cc)
   array_kind h b (suc d) u (an_object c) vs o e sub = let z : 0 ≡ suc d = (sub_parts P (class_type c) (record { base = b; dim = suc d }) sub).0 in
       absurd (omega (arith, z))
-  array_kind h b (suc d) u (an_array t) vs o e sub =
-      (t, refl, (o, subst (λ z. is_subtype P o.element z ≡ true) (same_Some _ _ e) (subst (λ z. is_subtype P z (record { base = b; dim = d }) ≡ true)
-      here (of_parts P (record { base = t.base; dim = d }) (record { base = b; dim = d }) refl parts.1))))
+  array_kind h b (suc d) u (an_array t) vs o e sub = (
+    t,
+    refl,
+    (
+      o,
+      subst (λ z. is_subtype P o.element z ≡ true) (same_Some _ _ e) (subst (λ z. is_subtype P z (record { base = b; dim = d }) ≡ true)
+          here (of_parts P (record { base = t.base; dim = d }) (record { base = b; dim = d }) refl parts.1)),
+    ),
+  )
     where
       parts : (t.dim ≡ suc d) × (is_sub_base P t.base b ≡ true)
       parts = sub_parts P t (record { base = b; dim = suc d }) sub
@@ -295,7 +305,7 @@ module _ (P : Plain) (L : Lang) (tl : TypedLang P L) where
 
   pub array_sound : {t : Static} {v : Value} (s : State) (u : Ty) (k : ℕ → Cell → Outcome) → Good s → Holds P (heap_of s) v t → element_of t ≡ Some u
       → ((a : ℕ) (c : Cell) (y : Ty) → slice_get s.cells a ≡ Some c → c.kind ≡ an_array y → (o : ArrayOk (heap_of s) y c.values)
-          → is_subtype P o.element u ≡ true → Sound (k a c)) → Sound (with_cell v s k)
+      → is_subtype P o.element u ≡ true → Sound (k a c)) → Sound (with_cell v s k)
   array_sound s u k ok holds_number e h = absurd (cc)
   array_sound s u k ok holds_truth e h = absurd (cc)
   array_sound s u k ok holds_unit e h = absurd (cc)
@@ -339,21 +349,21 @@ module _ (P : Plain) (L : Lang) (tl : TypedLang P L) where
   read_field_sound b e d x a o c f i t s k ok kd oo ex at ty h =
       let v = oo.values f i t at ty in
       some_sound (own_class o.kind) c s _ (ap own_class kd)
-          (some_sound x f s _ ex (some_sound (L.index c f) i s _ at (some_sound (slice_get o.values i) v.0 s _ v.1
+      (some_sound x f s _ ex (some_sound (L.index c f) i s _ at (some_sound (slice_get o.values i) v.0 s _ v.1
       (look_sound _ (Object a) s _ ok (λ s1 r. look_sound _ v.0 s1 _ r.ok (λ s2 r2. let all = from_on (heap_of s) s1 s2 r r2 in h v.0 s2 all
-          (grown P all.grows v.2)))))))
+      (grown P all.grows v.2)))))))
 
   pub write_field_sound : (b : ℕ) (e : Ex) (x : Option ℕ) (w : Value) (a : ℕ) (o : Cell) (c f i : ℕ) (t : Ty) (s : State) (k : State → Outcome)
       → Good s → slice_get s.cells a ≡ Some o → o.kind ≡ an_object c → ObjectOk (heap_of s) c o.values → x ≡ Some f
       → L.index c f ≡ Some i → field_type P f ≡ Some t → Holds P (heap_of s) (convert t w) (a_value t) → KS (heap_of s) k
-          → Sound (write_field L b e x w a o s k)
+      → Sound (write_field L b e x w a o s k)
   write_field_sound b e x w a o c f i t s k ok there kd oo ex at ty hw h =
       let v = oo.values f i t at ty in
       some_sound (own_class o.kind) c s _ (ap own_class kd) (some_sound x f s _ ex (some_sound (L.field_type f) t s _ (tl.typed_field f
-          ∙ ty) (some_sound (L.index c f) i s _ at (some_sound (slice_get o.values i) v.0 s _ v.1
+      ∙ ty) (some_sound (L.index c f) i s _ at (some_sound (slice_get o.values i) v.0 s _ v.1
       (look_exact _ (Object a) s _ (look_exact _ (convert t w) _ _
-          (h _ (again (put_from s a i o (convert t w) ok there (subst (λ z. KindOk (heap_of s) z (slice_set o.values i (convert t w))) (sym kd)
-          (object_put (heap_of s) c f i t o.values (convert t w) oo at ty hw)))))))))))
+      (h _ (again (put_from s a i o (convert t w) ok there (subst (λ z. KindOk (heap_of s) z (slice_set o.values i (convert t w))) (sym kd)
+      (object_put (heap_of s) c f i t o.values (convert t w) oo at ty hw)))))))))))
     where
       again : {m : _} → From (heap_of s) (set_value a o i (convert t w) s) → From (heap_of s) (set_value a o i (convert t w) (record s { met = m }))
       again r = record { grows = r.grows; ok = r.ok }

@@ -84,7 +84,7 @@ is_code P code h m = go (slice_get P.methods m) (code m) (h m)
 
     go : (o : Option PlainMethod) (c : Option Sts) → option_map bare_sts c ≡ option_and_then (λ k. k.body) o
         → option_and_then (λ k. option_map (λ xs. body_with m k xs) k.body) o
-            ≡ option_map bare_body (with_code c (option_and_then (λ k. option_map (λ xs. body_with m k xs) k.body) o))
+        ≡ option_map bare_body (with_code c (option_and_then (λ k. option_map (λ xs. body_with m k xs) k.body) o))
     go None None e = refl
     go None (Some ys) e = absurd (cc)
     go (Some k) c e = coded k k.body c e
@@ -92,7 +92,7 @@ is_code P code h m = go (slice_get P.methods m) (code m) (h m)
 -- the bodies of the program with places, or with other tags, are its code
 pub placed_code : (tag : Place → Tag) (p : Program) (m : ℕ)
     → option_map bare_sts (option_and_then (λ (k : PlainMethod). k.body) (slice_get (program_of tag p).methods m))
-        ≡ option_and_then (λ (k : PlainMethod). k.body) (slice_get (program_of no_place p).methods m)
+    ≡ option_and_then (λ (k : PlainMethod). k.body) (slice_get (program_of no_place p).methods m)
 placed_code tag p m =
     ap (λ z. option_map bare_sts (option_and_then (λ (k : PlainMethod). k.body) z)) (slice_get-map (method_seen tag) p.methods.items m)
     ∙ (go (slice_get p.methods.items m) ∙ sym (ap (option_and_then (λ (k : PlainMethod). k.body)) (slice_get-map (method_seen no_place) p.methods.items m)))

@@ -38,8 +38,14 @@ fresh_of P c = map (λ f. default_at P f) (layout P c)
 -- a method with a body, as a run has it
 abbrev pub body_with : ℕ → PlainMethod → Sts → Body
 body_with m k xs =
-    record { env = env_of m k; params = types_of k.params; rest = map default_of (types_of k.locals); ends = option_map_or default_of k.result
-        Nothing; code = xs }
+    record {
+      env = env_of m k;
+      params = types_of k.params;
+      rest = map default_of (types_of k.locals);
+      ends = option_map_or default_of k.result
+          Nothing;
+      code = xs;
+    }
 
 abbrev pub body_of : Plain → ℕ → Option Body
 body_of P m = option_and_then (λ k. option_map (λ xs. body_with m k xs) k.body) (slice_get P.methods m)

@@ -85,7 +85,7 @@ read_field L b e d x a c s k =
 abbrev pub write_field : Lang → ℕ → Ex → Option ℕ → Value → ℕ → Cell → State → (State → Outcome) → Outcome
 write_field L b e x v a c s k =
     with_some (own_class c.kind) s
-        (λ t. with_some x s (λ j. with_some (L.field_type j) s (λ u. with_some (L.index t j) s (λ i. with_some (slice_get c.values i) s (λ old.
+    (λ t. with_some x s (λ j. with_some (L.field_type j) s (λ u. with_some (L.index t j) s (λ i. with_some (slice_get c.values i) s (λ old.
     look L (touched b e j) (Object a) s (λ s1. look L (kept c.site j) (convert u v) s1 (λ s2. k (set_value a c i (convert u v) s2))))))))
 
 -- whether a name is that of an array's length: no field is found under it

@@ -60,9 +60,9 @@ pub adds_quoted : (a b c d : List ℕ) (q : ℕ) (us : List ℕ) (k : TokenKind)
 adds_quoted a b c d q us k e f g h r =
     adds_chars a d (kind_text k) (Lexeme k ∷ r) r (h ∙ ap (λ zs. zs ++ encode_utf8_all (q ∷ [])) (g ∙ ap (λ zs. zs ++ encode_utf8_all us) f)
     ∙ append_assoc (a ++ encode_utf8_all (q ∷ [])) (encode_utf8_all us) (encode_utf8_all (q ∷ []))
-        ∙ append_assoc a (encode_utf8_all (q ∷ [])) (encode_utf8_all us ++ encode_utf8_all (q ∷ []))
+    ∙ append_assoc a (encode_utf8_all (q ∷ [])) (encode_utf8_all us ++ encode_utf8_all (q ∷ []))
     ∙ ap (λ zs. a ++ (encode_utf8_all (q ∷ []) ++ zs)) (sym (encodes-append us (q ∷ [])))
-        ∙ ap (λ zs. a ++ zs) (sym (encodes-append (q ∷ []) (us ++ q ∷ []))) ∙ ap (λ zs. a ++ encode_utf8_all zs) (sym e)) refl
+    ∙ ap (λ zs. a ++ zs) (sym (encodes-append (q ∷ []) (us ++ q ∷ []))) ∙ ap (λ zs. a ++ encode_utf8_all zs) (sym e)) refl
 
 adds_decimal : (a b : List ℕ) (n : ℕ) (k : TokenKind) → n < 2 ^ 64 → kind_text k ≡ decimal n → b ≡ a ++ decimal n → (r : List Item) → Adds a b (Lexeme k ∷ r) r
 adds_decimal a b n k s e h r =
@@ -103,7 +103,7 @@ pub all_more : (a b c cs : List ℕ) (i d : ℕ) → i < length cs → d ≡ get
     → c ≡ b ++ encode_utf8_all (written d) → c ≡ a ++ encode_utf8_all (flat_map written (take (i + 1) cs))
 all_more a b c cs i d l e h k =
     let s : flat_map written (take (i + 1) cs) ≡ flat_map written (take i cs) ++ written d = ap (flat_map written) (take_more cs i d l
-        ∙ ap (λ x. take i cs ++ x ∷ []) (sym e)) ∙ flat_more (take i cs) d in
+    ∙ ap (λ x. take i cs ++ x ∷ []) (sym e)) ∙ flat_more (take i cs) d in
     k ∙ ap (λ zs. zs ++ encode_utf8_all (written d)) h ∙ append_assoc a (encode_utf8_all (flat_map written (take i cs))) (encode_utf8_all (written d))
     ∙ ap (λ zs. a ++ zs) (sym (encodes-append (flat_map written (take i cs)) (written d))) ∙ ap (λ zs. a ++ encode_utf8_all zs) (sym s)
 
@@ -132,7 +132,7 @@ pub dims_step : (a b c d : List ℕ) (n i : ℕ) → i < n → ((r : List Item) 
 dims_step a b c d n i l h f g r =
     let e : n - i ≡ suc (n - (i + 1)) = omega arith in
     adds_then (h r) (subst (λ m. Adds b d (dims_items m r) (dims_items (n - (i + 1)) r)) (sym e)
-        (adds_then (f (mark_then marks.CloseSquare (dims_items (n - (i + 1)) r))) (g (dims_items (n - (i + 1)) r))))
+    (adds_then (f (mark_then marks.CloseSquare (dims_items (n - (i + 1)) r))) (g (dims_items (n - (i + 1)) r))))
 
 pub dims_end : (a b : List ℕ) (n i : ℕ) → n ≤ i → ((r : List Item) → Adds a b (dims_items n r) (dims_items (n - i) r)) → Puts a b (dims_items n)
 dims_end a b n i l h r = let e : n - i ≡ 0 = omega arith in subst (λ m. Adds a b (dims_items n r) (dims_items m r)) e (h r)

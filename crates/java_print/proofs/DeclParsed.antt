@@ -29,14 +29,26 @@ mods : (ms : List Modifier) → Each IsFormedMod (all_unplaced modifier_unplaced
     → Of (kinds_in (mods_items ms r)) ts → Got (all_unplaced modifier_unplaced) IsMods ms (kinds_in r) ts
 mods [] w r ts o = record { rest = ts; tree = []; fact = no_mods; left = o; same = refl }
 mods (m ∷ ms) w r _ (one {p = p} {ts = ts} o) = let x = mods ms w.1 r ts o in
-    record { rest = x.rest; tree = record { word = m.word; place = p } ∷ x.tree; fact = next_mod w.0 x.fact; left = x.left; same = ap
-        (λ x. modifier_unplaced m ∷ x) x.same }
+    record {
+      rest = x.rest;
+      tree = record { word = m.word; place = p } ∷ x.tree;
+      fact = next_mod w.0 x.fact;
+      left = x.left;
+      same = ap
+          (λ x. modifier_unplaced m ∷ x) x.same;
+    }
 
 result : (t : Option TypeName) (r : List Item) (ts : List Token) → Of (kinds_in (result_items t r)) ts
     → Got (may_unplaced type_unplaced) IsResult t (kinds_in r) ts
 result None r _ (one {ts = ts} o) = record { rest = ts; tree = None; fact = no_result; left = o; same = refl }
-result (Some t) r ts o = let x = type_found t r ts o in record { rest = x.rest; tree = Some x.tree; fact = a_result x.fact; left = x.left; same =
-    ap Some x.same }
+result (Some t) r ts o = let x = type_found t r ts o in record {
+  rest = x.rest;
+  tree = Some x.tree;
+  fact = a_result x.fact;
+  left = x.left;
+  same =
+      ap Some x.same;
+}
 
 param : (q : Param) (r : List Item) (ts : List Token) → Of (kinds_in (final_items q.is_final (type_items q.ty (Space ∷ word_then q.name r)))) ts
     → Got param_unplaced IsParam q (kinds_in r) ts
@@ -56,15 +68,27 @@ more_params : (qs : List Param) (r : List Item) (ts : List Token) → Of (kinds_
     → Got (all_unplaced param_unplaced) IsMoreParams qs (kinds_in r) ts
 more_params [] r _ (one {ts = ts} o) = record { rest = ts; tree = []; fact = last_param; left = o; same = refl }
 more_params (q ∷ qs) r _ (one {ts = ts} o) = let x = param q _ ts o in let y = more_params qs r x.rest x.left in
-    record { rest = y.rest; tree = x.tree ∷ y.tree; fact = next_param x.fact y.fact; left = y.left; same = ap
-        (λ x. x ∷ all_unplaced param_unplaced y.tree) x.same ∙ ap (λ y. param_unplaced q ∷ y) y.same }
+    record {
+      rest = y.rest;
+      tree = x.tree ∷ y.tree;
+      fact = next_param x.fact y.fact;
+      left = y.left;
+      same = ap
+          (λ x. x ∷ all_unplaced param_unplaced y.tree) x.same ∙ ap (λ y. param_unplaced q ∷ y) y.same;
+    }
 
 params : (qs : List Param) (r : List Item) (ts : List Token) → Of (kinds_in (params_items false qs r)) ts
     → Got (all_unplaced param_unplaced) IsParams qs (kinds_in r) ts
 params [] r _ (one {ts = ts} o) = record { rest = ts; tree = []; fact = no_params; left = o; same = refl }
 params (q ∷ qs) r ts o = let x = param q _ ts o in let y = more_params qs r x.rest x.left in
-    record { rest = y.rest; tree = x.tree ∷ y.tree; fact = some_params x.fact y.fact; left = y.left; same = ap
-        (λ x. x ∷ all_unplaced param_unplaced y.tree) x.same ∙ ap (λ y. param_unplaced q ∷ y) y.same }
+    record {
+      rest = y.rest;
+      tree = x.tree ∷ y.tree;
+      fact = some_params x.fact y.fact;
+      left = y.left;
+      same = ap
+          (λ x. x ∷ all_unplaced param_unplaced y.tree) x.same ∙ ap (λ y. param_unplaced q ∷ y) y.same;
+    }
 
 -- a head without its place
 abbrev bare_head : List Modifier → Option TypeName → List ℕ → List Param → HeadTree
@@ -119,22 +143,40 @@ members : (ms : List MemberTree) → Each IsFormedMember (all_unplaced member_un
     → Of (kinds_in (members_items ms (mark_then marks.CloseBrace r))) ts → Got (all_unplaced member_unplaced) IsMembers ms (kinds_in r) ts
 members [] w r _ (one {ts = ts} o) = record { rest = ts; tree = []; fact = no_members; left = o; same = refl }
 members (m ∷ ms) w r ts o = let x = member m w.0 _ ts o in let y = members ms w.1 r x.rest x.left in
-    record { rest = y.rest; tree = x.tree ∷ y.tree; fact = next_member x.fact y.fact; left = y.left; same = ap
-        (λ x. x ∷ all_unplaced member_unplaced y.tree) x.same ∙ ap (λ y. member_unplaced m ∷ y) y.same }
+    record {
+      rest = y.rest;
+      tree = x.tree ∷ y.tree;
+      fact = next_member x.fact y.fact;
+      left = y.left;
+      same = ap
+          (λ x. x ∷ all_unplaced member_unplaced y.tree) x.same ∙ ap (λ y. member_unplaced m ∷ y) y.same;
+    }
 
 heads : (hs : List HeadTree) → Each IsFormedHead (all_unplaced head_unplaced hs) → (r : List Item) (ts : List Token)
     → Of (kinds_in (heads_items hs (mark_then marks.CloseBrace r))) ts → Got (all_unplaced head_unplaced) IsHeads hs (kinds_in r) ts
 heads [] w r _ (one {ts = ts} o) = record { rest = ts; tree = []; fact = no_heads; left = o; same = refl }
 heads (h ∷ hs) w r ts o = let x = step (head h w.0 _ ts o) in let y = heads hs w.1 r x.rest x.left in
-    record { rest = y.rest; tree = x.tree ∷ y.tree; fact = next_head x.fact.1 y.fact; left = y.left; same = ap
-        (λ x. x ∷ all_unplaced head_unplaced y.tree) x.same ∙ ap (λ y. head_unplaced h ∷ y) y.same }
+    record {
+      rest = y.rest;
+      tree = x.tree ∷ y.tree;
+      fact = next_head x.fact.1 y.fact;
+      left = y.left;
+      same = ap
+          (λ x. x ∷ all_unplaced head_unplaced y.tree) x.same ∙ ap (λ y. head_unplaced h ∷ y) y.same;
+    }
 
 ids : (is : List Id) (i : Id) (r : List Item) (ts : List Token) → Of (kinds_in (ids_items false (i ∷ is) r)) ts
     → Got (all_unplaced id_unplaced) IsIds (i ∷ is) (kinds_in r) ts
 ids [] i r _ (one {p = p} {ts = ts} o) = record { rest = ts; tree = record { name = i.name; place = p } ∷ []; fact = last_id; left = o; same = refl }
 ids (j ∷ is) i r _ (one {p = p} (one {ts = ts} o)) = let x = ids is j r ts o in
-    record { rest = x.rest; tree = record { name = i.name; place = p } ∷ x.tree; fact = next_id x.fact; left = x.left; same = ap
-        (λ x. id_unplaced i ∷ x) x.same }
+    record {
+      rest = x.rest;
+      tree = record { name = i.name; place = p } ∷ x.tree;
+      fact = next_id x.fact;
+      left = x.left;
+      same = ap
+          (λ x. id_unplaced i ∷ x) x.same;
+    }
 
 parent : (c : Option Id) (r : List Item) (ts : List Token) → Of (kinds_in (parent_items c r)) ts → Got (may_unplaced id_unplaced) IsParent c (kinds_in r) ts
 parent None r ts o = record { rest = ts; tree = None; fact = no_parent; left = o; same = refl }
@@ -180,8 +222,12 @@ decl (InterfaceTree ms n fs hs p) w r ts o =
 decls : (ds : List DeclTree) → IsFormedTree (unplaced ds) → (ts : List Token) → Of (kinds_in (decls_items ds [])) ts → Derives ts ds
 decls [] w _ none = record { placed = []; derived = no_decls; same = refl }
 decls (d ∷ ds) w ts o = let x = decl d w.0 _ ts o in let y = decls ds w.1 x.rest x.left in
-    record { placed = x.tree ∷ y.placed; derived = next_decl x.fact y.derived; same = ap (λ x. x ∷ unplaced y.placed) x.same
-        ∙ ap (λ y. decl_unplaced d ∷ y) y.same }
+    record {
+      placed = x.tree ∷ y.placed;
+      derived = next_decl x.fact y.derived;
+      same = ap (λ x. x ∷ unplaced y.placed) x.same
+          ∙ ap (λ y. decl_unplaced d ∷ y) y.same;
+    }
 
 read_by : (bytes : List ℕ) (ds : List DeclTree) (o : Outcome) → tokens_of bytes ≡ o → kinds_of o ≡ Ok (kinds_in (decls_items ds []))
     → IsFormedTree (unplaced ds) → IsReadAs bytes ds
@@ -196,7 +242,7 @@ text_read ds w =
     let cs = tree_text ds in
     let u : chars (encode_utf8_all cs) ≡ cs = chars-encodes cs l.scalars in
     read_by (encode_utf8_all cs) ds (lexed cs 0 start) (tokens_ok (encode_utf8_all cs) (cs, (l.scalars, refl)) ∙ ap (λ x. lexed x 0 start) u)
-        (l.reads.reads start) w
+    (l.reads.reads start) w
 
 -- a formed program is one that the grammar gives: it is read from its own text
 pub formed_given : (ds : List DeclTree) → IsFormedTree (unplaced ds) → IsGiven ds

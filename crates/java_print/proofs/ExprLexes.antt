@@ -111,9 +111,11 @@ small_shows n p h r a s = record { lexes = small n h a s; head = λ k. number_he
 
 int : (z : ℤ) (p : Place) → IsNumber z → Shown (IntLit z p)
 int z p (a_small q) = subst (λ y. Shown (IntLit y p)) (sym q.is) (small_shows q.value p q.small)
-int z p the_least = λ r a s. record
-    { lexes = signed minus (clear minus (text (Lexeme kinds.Least ∷ r)) (number_head 2147483648 (text r) (omega arith))) (least a s); head = λ k.
-    absurd (omega (arith, k)) }
+int z p the_least = λ r a s. record {
+  lexes = signed minus (clear minus (text (Lexeme kinds.Least ∷ r)) (number_head 2147483648 (text r) (omega arith))) (least a s);
+  head = λ k.
+      absurd (omega (arith, k));
+}
 
 pub base : (b : TypeBase) → IsFormedBase b → (r : List Item) → Loose r → Lexes r → Lexes (base_items b r)
 base bases.Int w r a s = key keys.Int a s
@@ -172,10 +174,14 @@ mutual
   expr (CallOn e n es p) w = λ r a s. let t = closed tokens.cDot (word w.1 refl (closed tokens.cOpenRound (args false es w.2 r s))) in
       record { lexes = round (fits 12 e) e (expr e w.0) _ refl t; head = λ h. post_head 12 (omega arith) e (expr e w.0) _ refl t }
   expr (SuperCallOf n es p) w =
-      λ r a s. record { lexes = key keys.Super refl (closed tokens.cDot (word w.0 refl (closed tokens.cOpenRound (args false es w.1 r s))));
-      head = λ h. refl }
-  expr (NewOf c es p) w = λ r a s. record { lexes = key keys.New refl (space (word w.0 refl (closed tokens.cOpenRound (args false es w.1 r s))));
-      head = λ h. refl }
+      λ r a s. record {
+        lexes = key keys.Super refl (closed tokens.cDot (word w.0 refl (closed tokens.cOpenRound (args false es w.1 r s))));
+        head = λ h. refl;
+      }
+  expr (NewOf c es p) w = λ r a s. record {
+    lexes = key keys.New refl (space (word w.0 refl (closed tokens.cOpenRound (args false es w.1 r s))));
+    head = λ h. refl;
+  }
   expr (NewArrayOf t e p) w = λ r a s. record {
     lexes = key keys.New refl (space
         (base t.base w.0 _ refl (closed tokens.cOpenSquare (expr e w.2 _ refl (closed tokens.cCloseSquare (more_dims t.dim r s))).lexes)));

@@ -76,16 +76,40 @@ post_shape : {e t : Expression} {ts rest : List Token} → IsPost true ts rest t
 post_shape d = record { whole = operand (bare d); at = λ k l. at_post k d }
 
 array_shape : {e t : Expression} {b : Bool} {ts rest : List Token} → rank e ≤ 12 → IsPost b ts rest t → Shape e ts rest t
-array_shape {b = b} h d = record { whole = operand (bare d); at = λ k l. record { level = operand (bare d); prefixed = λ m. bare d; any_post = λ m.
-    (b, d); post = λ m. absurd (omega (arith, h, l, m)) } }
+array_shape {b = b} h d = record {
+  whole = operand (bare d);
+  at = λ k l. record {
+    level = operand (bare d);
+    prefixed = λ m. bare d;
+    any_post = λ m.
+        (b, d);
+    post = λ m. absurd (omega (arith, h, l, m));
+  };
+}
 
 prefixed_shape : {e t : Expression} {ts rest : List Token} → rank e ≤ 11 → IsPrefixed ts rest t → Shape e ts rest t
-prefixed_shape h d = record { whole = operand d; at = λ k l. record { level = operand d; prefixed = λ m. d; any_post = λ m. absurd
-    (omega (arith, h, l, m)); post = λ m. absurd (omega (arith, h, l, m)) } }
+prefixed_shape h d = record {
+  whole = operand d;
+  at = λ k l. record {
+    level = operand d;
+    prefixed = λ m. d;
+    any_post = λ m. absurd
+        (omega (arith, h, l, m));
+    post = λ m. absurd (omega (arith, h, l, m));
+  };
+}
 
 open_shape : {e t : Expression} {ts rest : List Token} → rank e ≤ 10 → 1 ≤ rank e → ((k : ℕ) → k ≤ rank e → IsExpr k ts rest t) → Shape e ts rest t
-open_shape h i d = record { whole = d 1 i; at = λ k l. record { level = d k l; prefixed = λ m. absurd (omega (arith, h, l, m)); any_post = λ m. absurd
-    (omega (arith, h, l, m)); post = λ m. absurd (omega (arith, h, l, m)) } }
+open_shape h i d = record {
+  whole = d 1 i;
+  at = λ k l. record {
+    level = d k l;
+    prefixed = λ m. absurd (omega (arith, h, l, m));
+    any_post = λ m. absurd
+        (omega (arith, h, l, m));
+    post = λ m. absurd (omega (arith, h, l, m));
+  };
+}
 
 -- an operand, in round brackets where the test says so
 pub rounded : (k : ℕ) (b : Bool) (e : Expression) → (b ≡ true → k ≤ rank e) → Finds e → (r : List Item) (ts : List Token)
@@ -191,15 +215,20 @@ cast_operand b e h r ts o =
 
 cast_to : (b : TypeBase) → IsCastBase b → (e : Expression) → IsFormed (expr_unplaced e) → Finds e → (q : Place) (r : List Item) (ts : List Token)
     → Of (kinds_in (base_items b (mark_then marks.CloseRound (Space ∷ in_round (fits_cast b e) (expr_items e) r)))) ts
-        → Got expr_unplaced (CastTo b q) e (kinds_in r) ts
+    → Got expr_unplaced (CastTo b q) e (kinds_in r) ts
 cast_to bases.Boolean c e w h q r ts o = absurd c
 cast_to bases.Int c e w h q r _ (one {p = p} (one {ts = us} o)) =
     let x = cast_operand bases.Int e h r us o in record { rest = x.rest; tree = x.tree; fact = (p, cast_int x.fact); left = x.left; same = x.same }
 cast_to bases.Char c e w h q r _ (one {p = p} (one {ts = us} o)) =
     let x = cast_operand bases.Char e h r us o in record { rest = x.rest; tree = x.tree; fact = (p, cast_char x.fact); left = x.left; same = x.same }
 cast_to (bases.Named n) c e w h q r _ (one {p = p} (one {ts = us} o)) = let x = cast_operand (bases.Named n) e h r us o in
-    record { rest = x.rest; tree = x.tree; fact = (p, cast_named (of_casts _ us o (cast_starts (fits_cast (bases.Named n) e) n e refl w r)) x.fact);
-        left = x.left; same = x.same }
+    record {
+      rest = x.rest;
+      tree = x.tree;
+      fact = (p, cast_named (of_casts _ us o (cast_starts (fits_cast (bases.Named n) e) n e refl w r)) x.fact);
+      left = x.left;
+      same = x.same;
+    }
 
 small_found : (n : ℕ) (p : Place) → Finds (IntLit (pos n) p)
 small_found n p r _ (one {p = q} {ts = ts} o) = record { rest = ts; tree = IntLit (pos n) q; fact = post_shape int_literal; left = o; same = refl }
@@ -228,8 +257,14 @@ mutual
   expr (NameRef n p) w r _ (one {p = q} {ts = ts} o) = record { rest = ts; tree = NameRef n q; fact = post_shape name; left = o; same = refl }
   expr (FieldOf e n p) w r ts o =
       let x = step (step (operand_found 12 e (expr e w.0) _ ts o)) in
-      record { rest = x.rest; tree = FieldOf x.tree n x.fact.0; fact = post_shape (field (x.fact.1.1.any_post (omega arith)).1); left = x.left; same =
-          ap (λ t. FieldOf t n nowhere) x.same }
+      record {
+        rest = x.rest;
+        tree = FieldOf x.tree n x.fact.0;
+        fact = post_shape (field (x.fact.1.1.any_post (omega arith)).1);
+        left = x.left;
+        same =
+            ap (λ t. FieldOf t n nowhere) x.same;
+      }
   expr (IndexOf e i p) w r ts o =
       let x = step (operand_found 13 e (expr e w.0) _ ts o) in
       let y = step (expr i w.1 _ x.rest x.left) in
@@ -253,11 +288,22 @@ mutual
         same = ap (λ t. CallOn t n (exprs_unplaced y.tree) nowhere) x.same ∙ ap (λ t. CallOn (expr_unplaced e) n t nowhere) y.same;
       }
   expr (SuperCallOf n es p) w r _ (one (one (one {p = q} (one {ts = ts} o)))) = let y = args es w.1 r ts o in
-      record { rest = y.rest; tree = SuperCallOf n y.tree q; fact = post_shape (super_call y.fact); left = y.left; same = ap
-          (λ t. SuperCallOf n t nowhere) y.same }
+      record {
+        rest = y.rest;
+        tree = SuperCallOf n y.tree q;
+        fact = post_shape (super_call y.fact);
+        left = y.left;
+        same = ap
+            (λ t. SuperCallOf n t nowhere) y.same;
+      }
   expr (NewOf c es p) w r _ (one {p = q} (one {p = s} (one {ts = ts} o))) = let y = args es w.1 r ts o in
-      record { rest = y.rest; tree = NewOf (record { name = c.name; place = s }) y.tree q; fact = post_shape (new_object y.fact); left = y.left;
-          same = ap (λ t. NewOf (id_unplaced c) t nowhere) y.same }
+      record {
+        rest = y.rest;
+        tree = NewOf (record { name = c.name; place = s }) y.tree q;
+        fact = post_shape (new_object y.fact);
+        left = y.left;
+        same = ap (λ t. NewOf (id_unplaced c) t nowhere) y.same;
+      }
   expr (NewArrayOf t e p) w r _ (one {p = q} {ts = ts} o) =
       let b = step (base t.base _ ts o) in
       let x = step (expr e w.2 _ b.rest b.left) in
@@ -291,8 +337,14 @@ mutual
       }
   expr (UnaryOf m e p) w r _ (one {p = q} {ts = ts} o) =
       let x = rounded 11 (fits_sign m e) e (λ f. leb-true 11 (rank e) (and_parts (fits 11 e) (not (same_sign m (sign_of e))) f).0) (expr e w.1) r ts o in
-      record { rest = x.rest; tree = UnaryOf m x.tree q; fact = prefixed_shape (omega arith) (signed w.0 (x.fact.prefixed (omega arith))); left =
-          x.left; same = ap (λ t. UnaryOf m t nowhere) x.same }
+      record {
+        rest = x.rest;
+        tree = UnaryOf m x.tree q;
+        fact = prefixed_shape (omega arith) (signed w.0 (x.fact.prefixed (omega arith)));
+        left =
+            x.left;
+        same = ap (λ t. UnaryOf m t nowhere) x.same;
+      }
   expr (BinaryOf m a b p) w r ts o =
       let x = step (operand_found (level m) a (expr a w.1) _ ts o) in
       let y = operand_found (suc (level m)) b (expr b w.2) r x.rest x.left in
@@ -308,12 +360,24 @@ mutual
       → Got exprs_unplaced IsArgs es (kinds_in r) ts
   args no_more w r _ (one {ts = ts} o) = record { rest = ts; tree = no_more; fact = no_args; left = o; same = refl }
   args (and_more e es) w r ts o = let x = expr e w.0 _ ts o in let y = more es w.1 r x.rest x.left in
-      record { rest = y.rest; tree = and_more x.tree y.tree; fact = some_args x.fact.whole y.fact; left = y.left; same = ap
-          (λ t. and_more t (exprs_unplaced y.tree)) x.same ∙ ap (and_more (expr_unplaced e)) y.same }
+      record {
+        rest = y.rest;
+        tree = and_more x.tree y.tree;
+        fact = some_args x.fact.whole y.fact;
+        left = y.left;
+        same = ap
+            (λ t. and_more t (exprs_unplaced y.tree)) x.same ∙ ap (and_more (expr_unplaced e)) y.same;
+      }
 
   more : (es : Expressions) → AreFormed (exprs_unplaced es) → (r : List Item) (ts : List Token) → Of (kinds_in (args_items true es r)) ts
       → Got exprs_unplaced IsMoreArgs es (kinds_in r) ts
   more no_more w r _ (one {ts = ts} o) = record { rest = ts; tree = no_more; fact = last_arg; left = o; same = refl }
   more (and_more e es) w r _ (one {ts = ts} o) = let x = expr e w.0 _ ts o in let y = more es w.1 r x.rest x.left in
-      record { rest = y.rest; tree = and_more x.tree y.tree; fact = next_arg x.fact.whole y.fact; left = y.left; same = ap
-          (λ t. and_more t (exprs_unplaced y.tree)) x.same ∙ ap (and_more (expr_unplaced e)) y.same }
+      record {
+        rest = y.rest;
+        tree = and_more x.tree y.tree;
+        fact = next_arg x.fact.whole y.fact;
+        left = y.left;
+        same = ap
+            (λ t. and_more t (exprs_unplaced y.tree)) x.same ∙ ap (and_more (expr_unplaced e)) y.same;
+      }

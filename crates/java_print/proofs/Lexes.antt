@@ -55,9 +55,9 @@ plain_written : (c : ℕ) → Plain (c ∷ []) → Plain (written c)
 plain_written c s =
     let P : Option ℕ → Type 0 = λ o. Plain (written_by c o) in
     cond_both (c == 8) _ _ P (λ h. refl) (λ h. cond_both (c == 9) _ _ P (λ h. refl) (λ h. cond_both (c == 10) _ _ P (λ h. refl)
-        (λ h. cond_both (c == 12) _ _ P (λ h. refl) (λ h.
+    (λ h. cond_both (c == 12) _ _ P (λ h. refl) (λ h.
     cond_both (c == 13) _ _ P (λ h. refl) (λ h. cond_both (c == 34) _ _ P (λ h. refl) (λ h. cond_both (c == 39) _ _ P (λ h. refl)
-        (λ h. cond_both (c == 92) _ _ P (λ h. refl) (λ h. s))))))))
+    (λ h. cond_both (c == 92) _ _ P (λ h. refl) (λ h. s))))))))
 
 plain_all : (cs : List ℕ) → Plain cs → Plain (all_written cs)
 plain_all [] h = refl
@@ -91,7 +91,7 @@ numeral {r} n k h t e s = record {
 pub small : {r : List Item} (n : ℕ) → n < 2147483648 → Loose r → Lexes r → Lexes (Lexeme (kinds.Int (pos n)) ∷ r)
 small {r} n h a s = numeral n (kinds.Int (pos n)) (omega arith)
     (subst (λ k. Spells (decimal n ++ text r) (k ∷ kinds_in r)) (cond-false (n == 2147483648) _ _ (ne_eqb n 2147483648 (λ e. omega (arith, h, e))))
-        (number n (text r) (kinds_in r) (omega (arith, h)) a s.reads)) refl s
+    (number n (text r) (kinds_in r) (omega (arith, h)) a s.reads)) refl s
 
 pub least : {r : List Item} → Loose r → Lexes r → Lexes (Lexeme kinds.Least ∷ r)
 least {r} a s = numeral 2147483648 kinds.Least (omega arith) (number 2147483648 (text r) (kinds_in r) (omega arith) a s.reads) refl s
@@ -101,7 +101,7 @@ unit_written : (u : ℕ) → IsUnit u → units_written (u ∷ []) ≡ written u
 unit_written u w =
     let e : encode_utf16 u ≡ u ∷ [] = cond-true (nat_lt u 65536) _ _ (lt-ltb u 65536 w.small) in
     ap units_written (sym (append-nil (u ∷ []))) ∙ ap (λ vs. units_written (vs ++ [])) (sym e) ∙ ap all_written (lossy_units (u ∷ []) w.scalar)
-        ∙ append-nil (written u)
+    ∙ append-nil (written u)
 
 pub char : {u : ℕ} {r : List Item} → IsUnit u → Lexes r → Lexes (Lexeme (kinds.Char u) ∷ r)
 char {u} {r} w s =
@@ -147,8 +147,11 @@ pub margin : {r : List Item} (n : ℕ) → Lexes r → Lexes (Margin n ∷ r)
 margin {r} n s = record { reads = blanks n (text r) (kinds_in r) s.reads; scalars = also (replicate n 32) (text r) (plain_blanks n) s.scalars }
 
 pub spaced : {r : List Item} (m : Mark) → Lexes r → Lexes (mark_then m (Space ∷ r))
-spaced {r} m s = let t = space s in record { reads = tokens.before_blank m (text r) (kinds_in r) t.reads; scalars = also (mark_text m) (32 ∷ text r)
-    (plain_mark m) s.scalars }
+spaced {r} m s = let t = space s in record {
+  reads = tokens.before_blank m (text r) (kinds_in r) t.reads;
+  scalars = also (mark_text m) (32 ∷ text r)
+      (plain_mark m) s.scalars;
+}
 
 -- the prefix operators
 pub data IsSign : Mark → Type 0 where

@@ -44,9 +44,9 @@ args_step a b c d xs i e whole l k h f g r =
     let s : List Item = args_items true (exprs (drop (i + 1) xs)) r in
     let t : nat_lt 0 (i + 1) ≡ true = lt-ltb 0 (i + 1) (omega arith) in
     adds_then (h r) (subst (λ es. Adds b d (args_items (nat_lt 0 i) es r) (args_items (nat_lt 0 (i + 1)) (exprs (drop (i + 1) xs)) r))
-        (sym (exprs_at xs i e l k))
+    (sym (exprs_at xs i e l k))
     (subst (λ z. Adds b d (comma (nat_lt 0 i) (expr_items (expr_of e) s)) (args_items z (exprs (drop (i + 1) xs)) r)) (sym t)
-        (adds_then (f (expr_items (expr_of e) s)) (g s))))
+    (adds_then (f (expr_items (expr_of e) s)) (g s))))
 
 -- the closing bracket behind the last one
 pub args_end : (a b c : List ℕ) (xs : List Expr) (i : ℕ) (whole : List Item → List Item) → length xs ≤ i

@@ -25,8 +25,10 @@ use Rattle.java_print.proofs.Opened.{call_alone, call_upon}
 
 -- an ASCII text that stands for items
 by_text : (a b xs : List ℕ) (x y : List Item) → b ≡ a ++ xs → encode_utf8_all (text x) ≡ xs ++ encode_utf8_all (text y) → Adds a b x y
-by_text a b xs x y h e = record { added = ap (λ zs. a ++ zs) e ∙ sym (append_assoc a xs (encode_utf8_all (text y)))
-    ∙ ap (λ zs. zs ++ encode_utf8_all (text y)) (sym h) }
+by_text a b xs x y h e = record {
+  added = ap (λ zs. a ++ zs) e ∙ sym (append_assoc a xs (encode_utf8_all (text y)))
+      ∙ ap (λ zs. zs ++ encode_utf8_all (text y)) (sym h);
+}
 
 pub adds_end : (a b : List ℕ) → b ≡ a ++ encode_utf8_all (10 ∷ []) → (r : List Item) → Adds a b (End ∷ r) r
 unfolding encode_utf8
@@ -72,7 +74,7 @@ pub prints_upon : (e : Expr) (b : Option (Box Expr Global)) (x : Box Expr Global
     → e ≡ Call b n v p → b ≡ Some x → is_out (expr_of x.value) ≡ true → k ≡ length v.items → t ≡ is_printing n k → t ≡ prints (expr_of e)
 prints_upon e b x n v p k t h i o l f =
     f ∙ ap (is_printing n) l ∙ printing_by n v.items ∙ ap (λ s. is_some (if s then printed_args n (exprs v.items) else None)) (sym o)
-        ∙ ap prints (sym (call_upon e b x n v p h i))
+    ∙ ap prints (sym (call_upon e b x n v p h i))
 
 pub bracketed_upon : {a c : List ℕ} (e : Expr) (b : Option (Box Expr Global)) (x : Box Expr Global) (n : List ℕ) (v : Vec Expr Global) (p : Place)
     (xs : List Expr) → e ≡ Call b n v p → b ≡ Some x → xs ≡ v.items → Puts a c (upon_system n (exprs xs)) → Puts a c (bracketed_items (expr_of e))
@@ -130,7 +132,7 @@ stmt_smaller (x ∷ xs) (suc i) s l k = omega (arith, stmt_smaller xs i s (omega
 -- one more statement
 pub stmts_step : (a b c d : List ℕ) (m : ℕ) (xs : List Stmt) (i : ℕ) (s : Stmt) (whole : List Item → List Item) → i < length xs → s ≡ get_or xs i s
     → ((r : List Item) → Adds a b (whole r) (stmts_items m (stmts (drop i xs)) r)) → ((r : List Item) → Adds b c (Margin m ∷ r) r)
-        → ((r : List Item) → Adds c d (bare_items m (stmt_of s) r) r)
+    → ((r : List Item) → Adds c d (bare_items m (stmt_of s) r) r)
     → (r : List Item) → Adds a d (whole r) (stmts_items m (stmts (drop (i + 1) xs)) r)
 stmts_step a b c d m xs i s whole l k h f g r =
     let w : List Item = stmts_items m (stmts (drop (i + 1) xs)) r in
@@ -154,16 +156,16 @@ arm_smaller (x ∷ xs) (suc i) s l k = omega (arith, arm_smaller xs i s (omega a
 pub arms_step : (a b c d : List ℕ) (m : ℕ) (xs : List Arm) (i : ℕ) (x : Arm) (body : List Stmt) (whole : List Item → List Item) → i < length xs
     → x ≡ get_or xs i x → body ≡ x.body.items
     → ((r : List Item) → Adds a b (whole r) (arms_items m (nat_lt 0 i) (arms_seen (drop i xs)) r)) → Puts b c (else_then (nat_lt 0 i))
-        → Puts c d (arm_items m (expr_of x.test) (stmts body))
+    → Puts c d (arm_items m (expr_of x.test) (stmts body))
     → (r : List Item) → Adds a d (whole r) (arms_items m (nat_lt 0 (i + 1)) (arms_seen (drop (i + 1) xs)) r)
 arms_step a b c d m xs i x body whole l k q h f g r =
     let w : List Item = arms_items m true (arms_seen (drop (i + 1) xs)) r in
     let t : nat_lt 0 (i + 1) ≡ true = lt-ltb 0 (i + 1) (omega arith) in
     let y = subst (λ ys. Puts c d (arm_items m (expr_of x.test) (stmts ys))) q g in
     adds_then (h r) (subst (λ al. Adds b d (arms_items m (nat_lt 0 i) al r) (arms_items m (nat_lt 0 (i + 1)) (arms_seen (drop (i + 1) xs)) r))
-        (sym (arms_at xs i x l k))
+    (sym (arms_at xs i x l k))
     (subst (λ z. Adds b d (else_then (nat_lt 0 i) (arm_items m (expr_of x.test) (stmts x.body.items) w))
-        (arms_items m z (arms_seen (drop (i + 1) xs)) r)) (sym t)
+    (arms_items m z (arms_seen (drop (i + 1) xs)) r)) (sym t)
     (adds_then (f (arm_items m (expr_of x.test) (stmts x.body.items) w)) (y w))))
 
 pub arms_end : (a b : List ℕ) (m : ℕ) (xs : List Arm) (i : ℕ) (whole : List Item → List Item) → length xs ≤ i

@@ -23,8 +23,14 @@ use Rattle.java_print.proofs.ExprParsed.{Of, one, Got, step, operand_found, type
 value : (v : Option Expression) → IsFormedValue (value_unplaced v) → (r : List Item) (ts : List Token) → Of (kinds_in (value_items v r)) ts
     → Got value_unplaced IsValue v (kinds_in r) ts
 value None w r ts o = record { rest = ts; tree = None; fact = no_value; left = o; same = refl }
-value (Some e) w r ts o = let x = expr e w r ts o in record { rest = x.rest; tree = Some x.tree; fact = a_value x.fact.whole; left = x.left; same =
-    ap Some x.same }
+value (Some e) w r ts o = let x = expr e w r ts o in record {
+  rest = x.rest;
+  tree = Some x.tree;
+  fact = a_value x.fact.whole;
+  left = x.left;
+  same =
+      ap Some x.same;
+}
 
 spaced_value : (v : Option Expression) → IsFormedValue (value_unplaced v) → (r : List Item) (ts : List Token) → Of (kinds_in (spaced_items v r)) ts
     → Got value_unplaced IsValue v (kinds_in r) ts
@@ -61,8 +67,14 @@ target : (t : Expression) → is_target (expr_unplaced t) ≡ true → IsFormed 
     → Of (kinds_in (expr_items t r)) ts → Got expr_unplaced IsTarget t (kinds_in r) ts
 target (NameRef n p) h w r _ (one {p = q} {ts = ts} o) = record { rest = ts; tree = NameRef n q; fact = to_name; left = o; same = refl }
 target (FieldOf e n p) h w r ts o = let x = step (step (operand_found 12 e (expr e w.0) _ ts o)) in
-    record { rest = x.rest; tree = FieldOf x.tree n x.fact.0; fact = to_field (x.fact.1.1.any_post (omega arith)).1; left = x.left; same = ap
-        (λ t. FieldOf t n nowhere) x.same }
+    record {
+      rest = x.rest;
+      tree = FieldOf x.tree n x.fact.0;
+      fact = to_field (x.fact.1.1.any_post (omega arith)).1;
+      left = x.left;
+      same = ap
+          (λ t. FieldOf t n nowhere) x.same;
+    }
 target (IndexOf e i p) h w r ts o =
     let x = step (operand_found 13 e (expr e w.0) _ ts o) in
     let y = step (expr i w.1 _ x.rest x.left) in
@@ -125,7 +137,7 @@ unfolding encode_utf8
 out_base (FieldOf (NameRef s p) o r) h =
     let c = and_parts (is_called s (codes "System")) (is_called o (codes "out")) h in
     ap (λ x. FieldOf (NameRef x nowhere) o nowhere) (texts_same s (codes "System") refl c.0)
-        ∙ ap (λ x. FieldOf (NameRef (codes "System") nowhere) x nowhere) (texts_same o (codes "out") refl c.1)
+    ∙ ap (λ x. FieldOf (NameRef (codes "System") nowhere) x nowhere) (texts_same o (codes "out") refl c.1)
 out_base _ h = absurd (true≢false (sym h))
 
 system_base : (e : Expression) (n : List ℕ) (es : Expressions) (q : Place) → prints (CallOn e n es q) ≡ true
@@ -153,30 +165,57 @@ bracketed _ p h w r ts o = absurd (true≢false (sym h))
 plain_do : (c : Expression) (p : Place) → prints c ≡ false → is_call (expr_unplaced c) ≡ true → IsFormed (expr_unplaced c)
     → (r : List Item) (ts : List Token) → Of (kinds_in (expr_items c r)) ts → Acts (DoOf c p) (kinds_in r) ts
 plain_do (CallOf n es q) p h i w r _ (one {p = p1} (one {ts = ts} o)) = let y = args es w.1 r ts o in
-    record { rest = y.rest; tree = DoOf (CallOf n y.tree p1) p1; fact = do_call (plain_call y.fact) refl; left = y.left; same = ap
-        (λ x. DoOf (CallOf n x nowhere) nowhere) y.same }
+    record {
+      rest = y.rest;
+      tree = DoOf (CallOf n y.tree p1) p1;
+      fact = do_call (plain_call y.fact) refl;
+      left = y.left;
+      same = ap
+          (λ x. DoOf (CallOf n x nowhere) nowhere) y.same;
+    }
 plain_do (CallOn e n es q) p h i w r ts o =
     let x = step (step (step (operand_found 12 e (expr e w.0) _ ts o))) in
     let y = args es w.2 r x.rest x.left in
     let t : Expression = CallOn x.tree n y.tree x.fact.1.0 in
     let same : expr_unplaced t ≡ expr_unplaced (CallOn e n es q) = ap (λ t. CallOn t n (exprs_unplaced y.tree) nowhere) x.same
-        ∙ ap (λ t. CallOn (expr_unplaced e) n t nowhere) y.same in
-    record { rest = y.rest; tree = DoOf t (first_place ts); fact = do_call (call_upon (x.fact.1.1.1.any_post (omega arith)).1 y.fact)
-        (not_printed ts t (CallOn e n es q) same h); left = y.left; same = ap (λ t. DoOf t nowhere) same }
+    ∙ ap (λ t. CallOn (expr_unplaced e) n t nowhere) y.same in
+    record {
+      rest = y.rest;
+      tree = DoOf t (first_place ts);
+      fact = do_call (call_upon (x.fact.1.1.1.any_post (omega arith)).1 y.fact)
+          (not_printed ts t (CallOn e n es q) same h);
+      left = y.left;
+      same = ap (λ t. DoOf t nowhere) same;
+    }
 plain_do (SuperCallOf n es q) p h i w r _ (one {p = p0} (one (one {p = p1} (one {ts = ts} o)))) = let y = args es w.1 r ts o in
-    record { rest = y.rest; tree = DoOf (SuperCallOf n y.tree p1) p0; fact = do_call (call_above y.fact) refl; left = y.left; same = ap
-        (λ x. DoOf (SuperCallOf n x nowhere) nowhere) y.same }
+    record {
+      rest = y.rest;
+      tree = DoOf (SuperCallOf n y.tree p1) p0;
+      fact = do_call (call_above y.fact) refl;
+      left = y.left;
+      same = ap
+          (λ x. DoOf (SuperCallOf n x nowhere) nowhere) y.same;
+    }
 plain_do (NewOf c es q) p h i w r _ (one {p = p0} (one {p = p1} (one {ts = ts} o))) = let y = args es w.1 r ts o in
-    record { rest = y.rest; tree = DoOf (NewOf (record { name = c.name; place = p1 }) y.tree p0) p0; fact = do_new y.fact; left = y.left; same = ap
-        (λ x. DoOf (NewOf (id_unplaced c) x nowhere) nowhere) y.same }
+    record {
+      rest = y.rest;
+      tree = DoOf (NewOf (record { name = c.name; place = p1 }) y.tree p0) p0;
+      fact = do_new y.fact;
+      left = y.left;
+      same = ap
+          (λ x. DoOf (NewOf (id_unplaced c) x nowhere) nowhere) y.same;
+    }
 plain_do _ p h i w r ts o = absurd (true≢false (sym i))
 
 do_found : (c : Expression) (p : Place) → is_call (expr_unplaced c) ≡ true → IsFormed (expr_unplaced c) → (r : List Item) (ts : List Token)
     → Of (kinds_in (call_items c r)) ts → Acts (DoOf c p) (kinds_in r) ts
 do_found c p i w r ts o =
     let at : Bool → Type 0 = λ b. Of (kinds_in (if b then bracketed_items c r else expr_items c r)) ts in
-    elim (cases_Bool (prints c)) as (λ _. Acts (DoOf c p) (kinds_in r) ts) [ inl h ↦ bracketed c p h w r ts (subst at h o) | inr h ↦ plain_do c p h i
-        w r ts (subst at h o) ]
+    elim (cases_Bool (prints c)) as (λ _. Acts (DoOf c p) (kinds_in r) ts) [
+      | inl h ↦ bracketed c p h w r ts (subst at h o)
+      | inr h ↦ plain_do c p h i
+          w r ts (subst at h o)
+    ]
 
 print_found : (l : Bool) (v : Option Expression) (p : Place) → (l || is_some (value_unplaced v)) ≡ true → IsFormedValue (value_unplaced v)
     → (r : List Item) (ts : List Token) → Of (kinds_in (simple_items (PrintOf l v p) r)) ts → Acts (PrintOf l v p) (kinds_in r) ts
@@ -184,11 +223,21 @@ unfolding encode_utf8
 print_found true None p h w r _ (one {p = p0} (one (one (one (one (one (one {ts = ts} o))))))) =
     record { rest = ts; tree = PrintOf true None p0; fact = print (call_upon (field name) no_args) refl; left = o; same = refl }
 print_found true (Some e) p h w r _ (one {p = p0} (one (one (one (one (one {ts = ts} o)))))) = let x = step (expr e w _ ts o) in
-    record { rest = x.rest; tree = PrintOf true (Some x.tree) p0; fact = print (call_upon (field name) (some_args x.fact.1.whole last_arg)) refl;
-        left = x.left; same = ap (λ x. PrintOf true (Some x) nowhere) x.same }
+    record {
+      rest = x.rest;
+      tree = PrintOf true (Some x.tree) p0;
+      fact = print (call_upon (field name) (some_args x.fact.1.whole last_arg)) refl;
+      left = x.left;
+      same = ap (λ x. PrintOf true (Some x) nowhere) x.same;
+    }
 print_found false (Some e) p h w r _ (one {p = p0} (one (one (one (one (one {ts = ts} o)))))) = let x = step (expr e w _ ts o) in
-    record { rest = x.rest; tree = PrintOf false (Some x.tree) p0; fact = print (call_upon (field name) (some_args x.fact.1.whole last_arg)) refl;
-        left = x.left; same = ap (λ x. PrintOf false (Some x) nowhere) x.same }
+    record {
+      rest = x.rest;
+      tree = PrintOf false (Some x.tree) p0;
+      fact = print (call_upon (field name) (some_args x.fact.1.whole last_arg)) refl;
+      left = x.left;
+      same = ap (λ x. PrintOf false (Some x) nowhere) x.same;
+    }
 print_found false None p h w r ts o = absurd (true≢false (sym h))
 
 act : (s : Statement) → is_act (stmt_unplaced s) ≡ true → IsFormedStmt (stmt_unplaced s) → (r : List Item) (ts : List Token)
@@ -209,22 +258,39 @@ act _ h w r ts o = absurd (true≢false (sym h))
 
 acting_first : (s : Statement) → is_act (stmt_unplaced s) ≡ true → IsFormedStmt (stmt_unplaced s) → (r : List Item) (ts : List Token)
     → Of (kinds_in (simple_items s r)) ts → Got step_unplaced IsFirst (present s) (kinds_in r) ts
-acting_first s h w r ts o = let x = act s h w r ts o in record { rest = x.rest; tree = present x.tree; fact = first_act x.fact; left = x.left; same =
-    ap present x.same }
+acting_first s h w r ts o = let x = act s h w r ts o in record {
+  rest = x.rest;
+  tree = present x.tree;
+  fact = first_act x.fact;
+  left = x.left;
+  same =
+      ap present x.same;
+}
 
 first : (f : OptionalStatement) → IsFormedFirst (step_unplaced f) → (r : List Item) (ts : List Token) → Of (kinds_in (first_items f r)) ts
     → Got step_unplaced IsFirst f (kinds_in r) ts
 first absent w r ts o = record { rest = ts; tree = absent; fact = no_first; left = o; same = refl }
 first (present (LocalOf f t n v p)) w r ts o =
-    let x = local f t n v p w.1.2 r ts o in record { rest = x.rest; tree = present x.tree; fact = first_local x.fact; left = x.left; same = ap
-    present x.same }
+    let x = local f t n v p w.1.2 r ts o in record {
+      rest = x.rest;
+      tree = present x.tree;
+      fact = first_local x.fact;
+      left = x.left;
+      same = ap
+          present x.same;
+    }
 first (present s) w r ts o = acting_first s w.0 w.1 r ts o
 
 step_part : (g : OptionalStatement) → IsFormedStep (step_unplaced g) → (r : List Item) (ts : List Token) → Of (kinds_in (step_items g r)) ts
     → Got step_unplaced IsStep g (kinds_in r) ts
 step_part absent w r ts o = record { rest = ts; tree = absent; fact = no_step; left = o; same = refl }
-step_part (present s) w r ts o = let x = act s w.0 w.1 r ts o in record { rest = x.rest; tree = present x.tree; fact = a_step x.fact; left = x.left;
-    same = ap present x.same }
+step_part (present s) w r ts o = let x = act s w.0 w.1 r ts o in record {
+  rest = x.rest;
+  tree = present x.tree;
+  fact = a_step x.fact;
+  left = x.left;
+  same = ap present x.same;
+}
 
 -- what follows the closing brace of an arm's body
 record Tail (a : Arms) (l : Else) (ks : List TokenKind) (us : List Token) : Type 0 where
@@ -261,7 +327,7 @@ mutual
         same = ap (λ x. IfOf (and_arm x (stmts_unplaced z.tree) (arms_unplaced t.arms)) (else_unplaced t.other) nowhere) y.same
             ∙ ap (λ x. IfOf (and_arm (expr_unplaced e) x (arms_unplaced t.arms)) (else_unplaced t.other) nowhere) z.same
             ∙ ap (λ x. IfOf (and_arm (expr_unplaced e) (stmts_unplaced ss) x) (else_unplaced t.other) nowhere) t.same_arms
-                ∙ ap (λ x. IfOf (and_arm (expr_unplaced e) (stmts_unplaced ss) (arms_unplaced a)) x nowhere) t.same_other;
+            ∙ ap (λ x. IfOf (and_arm (expr_unplaced e) (stmts_unplaced ss) (arms_unplaced a)) x nowhere) t.same_other;
       }
   stmt (WhileOf e ss p) w d r _ (one {p = q} (one {ts = ts} o)) =
       let y = step (step (expr e w.0 _ ts o)) in
@@ -286,34 +352,75 @@ mutual
         same = ap (λ k. ForOf k (value_unplaced y.tree) (step_unplaced t.tree) (stmts_unplaced z.tree) nowhere) x.same
             ∙ ap (λ k. ForOf (step_unplaced f) k (step_unplaced t.tree) (stmts_unplaced z.tree) nowhere) y.same
             ∙ ap (λ k. ForOf (step_unplaced f) (value_unplaced v) k (stmts_unplaced z.tree) nowhere) t.same
-                ∙ ap (λ k. ForOf (step_unplaced f) (value_unplaced v) (step_unplaced g) k nowhere) z.same;
+            ∙ ap (λ k. ForOf (step_unplaced f) (value_unplaced v) (step_unplaced g) k nowhere) z.same;
       }
   stmt (ReturnOf v p) w d r _ (one {p = q} {ts = ts} o) = let x = step (spaced_value v w _ ts o) in
       record { rest = x.rest; tree = ReturnOf x.tree q; fact = stmt_item (return_word x.fact.1); left = x.left; same = ap (λ x. ReturnOf x nowhere) x.same }
   stmt (BreakOf p) w d r _ (one {p = q} (one {ts = ts} o)) = record { rest = ts; tree = BreakOf q; fact = stmt_item break_word; left = o; same = refl }
   stmt (ContinueOf p) w d r _ (one {p = q} (one {ts = ts} o)) = record { rest = ts; tree = ContinueOf q; fact = stmt_item continue_word; left = o; same = refl }
-  stmt (AssignOf t v p) w d r ts o = let x = step (act (AssignOf t v p) refl w _ ts o) in record { rest = x.rest; tree = x.tree; fact = stmt_item
-      (acting x.fact.1); left = x.left; same = x.same }
-  stmt (DoOf c p) w d r ts o = let x = step (act (DoOf c p) refl w _ ts o) in record { rest = x.rest; tree = x.tree; fact = stmt_item
-      (acting x.fact.1); left = x.left; same = x.same }
-  stmt (PrintOf l v p) w d r ts o = let x = step (act (PrintOf l v p) refl w _ ts o) in record { rest = x.rest; tree = x.tree; fact = stmt_item
-      (acting x.fact.1); left = x.left; same = x.same }
+  stmt (AssignOf t v p) w d r ts o = let x = step (act (AssignOf t v p) refl w _ ts o) in record {
+    rest = x.rest;
+    tree = x.tree;
+    fact = stmt_item
+        (acting x.fact.1);
+    left = x.left;
+    same = x.same;
+  }
+  stmt (DoOf c p) w d r ts o = let x = step (act (DoOf c p) refl w _ ts o) in record {
+    rest = x.rest;
+    tree = x.tree;
+    fact = stmt_item
+        (acting x.fact.1);
+    left = x.left;
+    same = x.same;
+  }
+  stmt (PrintOf l v p) w d r ts o = let x = step (act (PrintOf l v p) refl w _ ts o) in record {
+    rest = x.rest;
+    tree = x.tree;
+    fact = stmt_item
+        (acting x.fact.1);
+    left = x.left;
+    same = x.same;
+  }
 
   -- the items of a body and the brace that closes it
   pub stmts : (ss : Statements) → AreFormedStmts (stmts_unplaced ss) → (d c : ℕ) (r : List Item) (ts : List Token)
       → Of (kinds_in (stmts_items d ss (close_body c r))) ts → Items ss (kinds_in r) ts
   stmts no_statements w d c r _ (one {ts = ts} o) = record { rest = ts; tree = no_statements; fact = no_items; left = o; same = refl }
   stmts (and_then s ss) w d c r ts o = let x = stmt s w.0 d _ ts o in let y = stmts ss w.1 d c r x.rest x.left in
-      record { rest = y.rest; tree = and_then x.tree y.tree; fact = next_item x.fact y.fact; left = y.left; same = ap
-          (λ x. and_then x (stmts_unplaced y.tree)) x.same ∙ ap (and_then (stmt_unplaced s)) y.same }
+      record {
+        rest = y.rest;
+        tree = and_then x.tree y.tree;
+        fact = next_item x.fact y.fact;
+        left = y.left;
+        same = ap
+            (λ x. and_then x (stmts_unplaced y.tree)) x.same ∙ ap (and_then (stmt_unplaced s)) y.same;
+      }
 
   else_tail : (l : Else) → IsFormedElse (else_unplaced l) → (d : ℕ) (r : List Item) (us : List Token) → Of (kinds_in (else_items d l r)) us
       → Tail no_arms l (kinds_in r) us
-  else_tail no_else v d r us o = record { flag = true; rest = us; arms = no_arms; other = no_else; left = o; same_arms = refl; same_other = refl;
-      extend = λ c b. last_arm c b }
+  else_tail no_else v d r us o = record {
+    flag = true;
+    rest = us;
+    arms = no_arms;
+    other = no_else;
+    left = o;
+    same_arms = refl;
+    same_other = refl;
+    extend = λ c b. last_arm c b;
+  }
   else_tail (otherwise ss) v d r _ (one (one {p = q} {ts = ts} o)) = let x = stmts ss v (d + 2) d (End ∷ r) ts o in
-      record { flag = false; rest = x.rest; arms = no_arms; other = otherwise x.tree; left = x.left; same_arms = refl; same_other = ap otherwise
-          x.same; extend = λ c b. else_arm c b (block {p = q} x.fact) refl }
+      record {
+        flag = false;
+        rest = x.rest;
+        arms = no_arms;
+        other = otherwise x.tree;
+        left = x.left;
+        same_arms = refl;
+        same_other = ap otherwise
+            x.same;
+        extend = λ c b. else_arm c b (block {p = q} x.fact) refl;
+      }
 
   tail : (a : Arms) → AreFormedArms (arms_unplaced a) → (l : Else) (d : ℕ) (r : List Item) → ((us : List Token) → Of (kinds_in (else_items d l r)) us
       → Tail no_arms l (kinds_in r) us)

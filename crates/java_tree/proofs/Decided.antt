@@ -156,7 +156,7 @@ member_decides _ _ = (λ h. absurd (false≢true h), λ h. cc)
 decl_decides : (a b : DeclTree) → Decides (same_decl a b) (decl_unplaced a ≡ decl_unplaced b)
 decl_decides (ClassTree m n c f ms p) (ClassTree k l d g rs q) =
     via (both (both (both (both (all_decides modifier_decides m k) (bytes_eq-Decides n l)) (may_decides id_decides c d)) (all_decides id_decides f g))
-        (all_decides member_decides ms rs))
+    (all_decides member_decides ms rs))
     (λ h. cc (h.0.0.0.0, h.0.0.0.1, h.0.0.1, h.0.1, h.1)) (λ h. ((((cc, cc), cc), cc), cc))
 decl_decides (InterfaceTree m n f hs p) (InterfaceTree k l g js q) =
     via (both (both (both (all_decides modifier_decides m k) (bytes_eq-Decides n l)) (all_decides id_decides f g)) (all_decides head_decides hs js))

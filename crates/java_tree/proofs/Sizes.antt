@@ -54,7 +54,7 @@ pub on_size : (v : Vec Expr Global) {e : Expr} {b : Option (Box Expr Global)} {c
     expr_size (expr_of e) ≡ expr_size (expr_of c.value) + exprs_size (exprs xs) + 1
 on_size v {c = c} {n = n} {p = p} h k x =
     ap (λ (e : Expr). expr_size (expr_of e)) (h ∙ ap (λ b. Call b n v p) k) ∙ ap (λ es. expr_size (expr_of c.value) + exprs_size es + 1) (exprs_vec v
-        ∙ sym (ap exprs x))
+    ∙ sym (ap exprs x))
 
 pub super_size : (v : Vec Expr Global) {e : Expr} {n : List ℕ} {p : Place} {xs : List Expr} → e ≡ SuperCall n v p → xs ≡ v.items
     → expr_size (expr_of e) ≡ exprs_size (exprs xs) + 1

@@ -92,8 +92,14 @@ may_unplaced f None = None
 may_unplaced f (Some x) = Some (f x)
 
 abbrev pub head_unplaced : HeadTree → HeadTree
-head_unplaced h = record { mods = all_unplaced modifier_unplaced h.mods; type = may_unplaced type_unplaced h.type; name = h.name; params =
-    all_unplaced param_unplaced h.params; place = nowhere }
+head_unplaced h = record {
+  mods = all_unplaced modifier_unplaced h.mods;
+  type = may_unplaced type_unplaced h.type;
+  name = h.name;
+  params =
+      all_unplaced param_unplaced h.params;
+  place = nowhere;
+}
 
 abbrev pub member_unplaced : MemberTree → MemberTree
 member_unplaced (FieldTree m t n p) = FieldTree (all_unplaced modifier_unplaced m) (type_unplaced t) n nowhere

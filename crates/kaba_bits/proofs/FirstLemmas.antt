@@ -58,7 +58,7 @@ first_below_Some f (suc n) x h =
     ⊎_elim
     (λ none. (n, omega arith, sym (ap (λ o. or_else o (f n)) none) ∙ h, none))
     (λ y. let e : Some y.0 ≡ Some x = sym (ap (λ o. or_else o (f n)) y.1) ∙ h in let r = first_below_Some f n x (y.1 ∙ e) in
-        (r.0, omega (arith, r.1), r.2, r.3))
+    (r.0, omega (arith, r.1), r.2, r.3))
     (cases_Option (first_below n f))
 
 -- two searches that agree below n find the same

@@ -16,7 +16,7 @@ and_not a b la lb = grind (arith, nat_tests)
 pub news_bit : (a b j : ℕ) → b < 2 ^ 64 → j < 64 → (bit_at (bit_and a (bit_not w64 b)) j == 1) ≡ ((bit_at a j == 1) && not (bit_at b j == 1))
 news_bit a b j small lt =
     ap (λ n. n == 1) (bit_at_and a (bit_not w64 b) j ∙ ap (λ n. min (bit_at a j) n) (bit_at_not w64 b j small lt))
-        ∙ and_not (bit_at a j) (bit_at b j) (bit_at-lt a j) (bit_at-lt b j)
+    ∙ and_not (bit_at a j) (bit_at b j) (bit_at-lt a j) (bit_at-lt b j)
 
 and_true : (b : Bool) → b ≡ (b && not false)
 and_true true = refl
@@ -78,7 +78,7 @@ module _ (words other : List ℕ) (k word : ℕ) (is : (j : ℕ) → j < 64
         ⊎_elim
         (λ b. before j low b)
         (λ past. let same : j / 64 ≡ k = omega (arith, e, below, past, lt) in here j same ∙ x.least (j % 64) (omega (arith, e, same, past))
-            (omega (arith, same, below, lt)))
+        (omega (arith, same, below, lt)))
         (cases_lt j at);
   }
 

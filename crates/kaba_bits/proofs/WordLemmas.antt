@@ -49,7 +49,7 @@ module _ (f : ℕ → ℕ → ℕ) (xs ys : List ℕ) (at : ℕ) (lx : at + 8 �
       let cx = length-chunk at 8 xs lx in
       get_or-zip2 g (zip2 f (chunk at 8 xs) (chunk at 8 ys)) (chunk at 8 xs) j 0 0 0 (omega (arith, length-lanes, lt)) (omega (arith, cx, lt))
       ∙ (ap (λ a. g a (get_or (chunk at 8 xs) j 0)) (lane_is j lt) ∙ ap (λ b. g (f (slice_index xs (at + j)) (slice_index ys (at + j))) b)
-          (get_or-chunk at 8 xs j 0 lt))
+      (get_or-chunk at 8 xs j 0 lt))
 
   pub length-lanes_twice : (g : ℕ → ℕ → ℕ) → length (zip2 g (zip2 f (chunk at 8 xs) (chunk at 8 ys)) (chunk at 8 xs)) ≡ 8
   length-lanes_twice g =

@@ -99,11 +99,11 @@ module _ (old new : Ordered) (set : List NodeId) (m : ℕ) (o : IsPartialOrder o
       ⊎_elim
       (λ k. or_left (is_le old a b) (is_below_some old set a && is_above_some old set b) k)
       (λ k. or_right (is_le old a b) (is_below_some old set a && is_above_some old set b)
-          (and_from (is_below_some old set a) (is_above_some old set b) (has_any_among (row old.le a) set k.0.0 k.0.1 k.0.2)
-          (any_has_among old.le set k.1.0 b k.1.1 k.1.2)))
+      (and_from (is_below_some old set a) (is_above_some old set b) (has_any_among (row old.le a) set k.0.0 k.0.1 k.0.2)
+      (any_has_among old.le set k.1.0 b k.1.1 k.1.2)))
       came in
       pairs a b ∙ and_from ((is_le old a b || (is_below_some old set a && is_above_some old set b)) && stays set m a) (stays set m b)
-          (and_from (is_le old a b || (is_below_some old set a && is_above_some old set b)) (stays set m a) pair sa) sb
+      (and_from (is_le old a b || (is_below_some old set a && is_above_some old set b)) (stays set m a) pair sa) sb
 
   low_under : (a b : ℕ) → is_le old a b ≡ true → Low b → Low a
   low_under a b h l = (l.0, l.1, o.transitive a b l.0 h l.2)
@@ -151,15 +151,15 @@ module _ (old new : Ordered) (set : List NodeId) (m : ℕ) (o : IsPartialOrder o
       ⊎_elim
       (λ t. ⊎_elim
       (λ v. subst (λ x. Came x (merged_to set m b)) (sym (cond-true (is_among set a) m a t)) (subst (Came m) (sym (cond-true (is_among set b) m b v))
-          (inl (o.reflexive m (live m has)))))
+      (inl (o.reflexive m (live m has)))))
       (λ g. subst (λ x. Came x (merged_to set m b)) (sym (cond-true (is_among set a) m a t)) (subst (Came m) (sym (cond-false (is_among set b) m b g))
-          (inr ((m, has, o.reflexive m (live m has)), (a, t, h)))))
+      (inr ((m, has, o.reflexive m (live m has)), (a, t, h)))))
       (cases_Bool (is_among set b)))
       (λ f. ⊎_elim
       (λ v. subst (λ x. Came x (merged_to set m b)) (sym (cond-false (is_among set a) m a f)) (subst (Came a) (sym (cond-true (is_among set b) m b v))
-          (inr ((b, v, h), (m, has, o.reflexive m (live m has))))))
+      (inr ((b, v, h), (m, has, o.reflexive m (live m has))))))
       (λ g. subst (λ x. Came x (merged_to set m b)) (sym (cond-false (is_among set a) m a f))
-          (subst (Came a) (sym (cond-false (is_among set b) m b g)) (inl h)))
+      (subst (Came a) (sym (cond-false (is_among set b) m b g)) (inl h)))
       (cases_Bool (is_among set b)))
       (cases_Bool (is_among set a))
 
@@ -177,9 +177,9 @@ module _ (old new : Ordered) (set : List NodeId) (m : ℕ) (o : IsPartialOrder o
         (λ k. subst (λ y. is_le other y b ≡ true) ea (subst (λ y. is_le other (merged_to set m a) y ≡ true) eb (keeps a b k)))
         (λ k.
         let p = subst (λ y. is_le other y m ≡ true) ea (subst (λ y. is_le other (merged_to set m a) y ≡ true)
-            (cond-true (is_among set k.0.0) m k.0.0 k.0.1) (keeps a k.0.0 k.0.2)) in
+        (cond-true (is_among set k.0.0) m k.0.0 k.0.1) (keeps a k.0.0 k.0.2)) in
         let r = subst (λ y. is_le other m y ≡ true) eb (subst (λ y. is_le other y (merged_to set m b) ≡ true)
-            (cond-true (is_among set k.1.0) m k.1.0 k.1.1) (keeps k.1.0 b k.1.2)) in
+        (cond-true (is_among set k.1.0) m k.1.0 k.1.1) (keeps k.1.0 b k.1.2)) in
         q.transitive a m b p r)
         x.2;
   }

@@ -73,7 +73,7 @@ module _ (old new : Ordered) (n p : ℕ) (o : IsPartialOrder old) (count : lengt
         let pn = o.transitive p b n x.1 y.0 in
         let e = apart pn in
         o.antisymmetric a b (o.transitive a n b x.0 (subst (λ q. is_le old q b ≡ true) e x.1))
-            (o.transitive b n a y.0 (subst (λ q. is_le old q a ≡ true) e y.1))) (came b a k))
+        (o.transitive b n a y.0 (subst (λ q. is_le old q a ≡ true) e y.1))) (came b a k))
         (came a b h);
     transitive = λ a b c h k.
         ⊎_elim

@@ -16,9 +16,9 @@ same_truth false false h k = refl
 pub same_order : (a b : Ordered) → IsPartialOrder a → IsPartialOrder b → length a.live ≡ length b.live → IsWithin a b → IsWithin b a → a ≡ b
 same_order a b p q len ab ba =
     let live : a.live ≡ b.live = same_bits a.live b.live len (λ i lt. same_truth (is_live a i) (is_live b i)
-        (λ h. q.lower_lives i i (ab i i (p.reflexive i h))) (λ h. p.lower_lives i i (ba i i (q.reflexive i h)))) in
+    (λ h. q.lower_lives i i (ab i i (p.reflexive i h))) (λ h. p.lower_lives i i (ba i i (q.reflexive i h)))) in
     let rows : a.le ≡ b.le = same_rows (length a.live) a.le b.le (p.count ∙ (len ∙ sym q.count)) p.widths
-        (subst (λ w. HasWidth w b.le) (sym len) q.widths) (λ k i. same_truth (is_le a k i) (is_le b k i) (ab k i) (ba k i)) in
+    (subst (λ w. HasWidth w b.le) (sym len) q.widths) (λ k i. same_truth (is_le a k i) (is_le b k i) (ab k i) (ba k i)) in
     let first : a ≡ record { live = b.live; le = a.le } = ap (λ (l : List Bool). let o : Ordered = record { live = l; le = a.le } in o) live in
     first ∙ ap (λ (l : List (List Bool)). let o : Ordered = record { live = b.live; le = l } in o) rows
 

@@ -63,22 +63,22 @@ ran bound script facts A p (Ok reply) is h =
 -- the hierarchy after it is shown
 pub shows : (bound : ℕ) (script : List ℕ) (facts : Facts) (p : Proposal) (r : Result Reply AllocError) → IsProposal bound script facts p
     → IfOk r (λ reply. Gives (edit_status p.edited.refusals.items) (hierarchy_text facts p.edited.hier) p.edited.refusals.items reply.status
-        reply.out.items reply.err.items)
+    reply.out.items reply.err.items)
     → IfOk r (λ reply. EditOf bound script facts reply.status reply.out.items reply.err.items)
 shows bound script facts p r is h =
     let has = has_lattice bound script facts p is in
     ran bound script facts (ShowsHierarchy bound facts) p r is
     (subst (λ lines. IfOk r (λ reply. Gives (edit_status lines) (hierarchy_text facts (edited bound facts has is.edits)) lines reply.status
-        reply.out.items reply.err.items)) is.is.refusals
+    reply.out.items reply.err.items)) is.is.refusals
     (subst (λ H. IfOk r (λ reply. Gives (edit_status p.edited.refusals.items) (hierarchy_text facts H) p.edited.refusals.items reply.status
-        reply.out.items reply.err.items)) is.is.hierarchy h))
+    reply.out.items reply.err.items)) is.is.hierarchy h))
 
 -- the program of a tree is written
 pub regenerated : (bound : ℕ) (script : List ℕ) (program : Program) (facts : Facts) (p : Proposal) (w : Written) (r : Result Reply AllocError)
     → (is : IsProposal bound script facts p)
     → IsWritten program facts p.sets p.edited.hier w
     → IfOk r (λ reply. Gives (edit_status p.edited.refusals.items) w.text.items (p.edited.refusals.items ++ log_text w.log.items) reply.status
-        reply.out.items reply.err.items)
+    reply.out.items reply.err.items)
     → IfOk r (λ reply. RegenOf bound script program facts reply.status reply.out.items reply.err.items)
 regenerated bound script program facts p w (Err e) is written h = tt
 regenerated bound script program facts p w (Ok reply) is written h = inr (record {
@@ -111,7 +111,7 @@ without_tree bound script program facts p fault status out err is range order no
       more = λ modest. stuck.unreached p.table p.lattice
           (record { range = range; order = order; sets = is.are_sets; table = is.is_table; lattice = is.is_lattice }) none
           (subst (IsReached facts p.sets p.table p.lattice) (sym is.is.hierarchy) (reached facts p.sets p.table p.lattice (start_of bound facts has)
-              is.edits modest begun));
+          is.edits modest begun));
       gives = subst (λ lines. Gives 5 [] (lines ++ (log_text fault.log.items ++ line (no_tree_text fault))) status out err) is.is.refusals h;
     }
 
@@ -119,7 +119,7 @@ pub stuck_answers : (bound : ℕ) (script : List ℕ) (program : Program) (facts
     → IsProposal bound script facts p
     → InRange facts → InOrder facts → HasNoInterface facts → IsStuck facts p.sets p.edited.hier fault
     → IfOk r (λ reply. Gives 5 [] (p.edited.refusals.items ++ (log_text fault.log.items ++ line (no_tree_text fault))) reply.status reply.out.items
-        reply.err.items)
+    reply.err.items)
     → IfOk r (λ reply. RegenOf bound script program facts reply.status reply.out.items reply.err.items)
 stuck_answers bound script program facts p fault (Err e) is range order none stuck h = tt
 stuck_answers bound script program facts p fault (Ok reply) is range order none stuck h = inr (record {

@@ -117,9 +117,14 @@ parent None h = h
 parent (Some i) h = h
 
 decl : (d : DeclTree) → IsFormedDecl (decl_unplaced d) → IsFormedDecl d
-decl (ClassTree ms n c fs bs p) h =
-    (each IsFormedMod modifier_unplaced (λ m f. f) ms h.0, h.1, parent c h.2, each IsFormedId id_unplaced (λ i f. f) fs h.3, each IsFormedMember
-        member_unplaced member bs h.4)
+decl (ClassTree ms n c fs bs p) h = (
+  each IsFormedMod modifier_unplaced (λ m f. f) ms h.0,
+  h.1,
+  parent c h.2,
+  each IsFormedId id_unplaced (λ i f. f) fs h.3,
+  each IsFormedMember
+      member_unplaced member bs h.4,
+)
 decl (InterfaceTree ms n fs hs p) h =
     (each IsFormedMod modifier_unplaced (λ m f. f) ms h.0, h.1, each IsFormedId id_unplaced (λ i f. f) fs h.2, each IsFormedHead head_unplaced head hs h.3)
 
@@ -127,5 +132,12 @@ decl (InterfaceTree ms n fs hs p) h =
 pub read_formed : (bytes : List ℕ) (tokens : List Token) (tree : List DeclTree) → tokens_of bytes ≡ Ok tokens → IsPlaced tokens tree → IsFormedTree tree
 read_formed bytes tokens tree h d =
     each IsFormedDecl decl_unplaced decl tree
-        (given_formed tree (record { bytes = bytes; read = record { tokens = tokens; lexed = h; derived = record
-        { placed = tree; derived = d; same = refl } } }))
+    (given_formed tree (record {
+      bytes = bytes;
+      read = record {
+        tokens = tokens;
+        lexed = h;
+        derived = record
+            { placed = tree; derived = d; same = refl };
+      };
+    }))

@@ -87,14 +87,14 @@ module _ (F : Facts) (pt : PointsTo) where
   by_tested : (H K : Hierarchy) (line : Line) (lines : List Line) (o : Option Broken) → changed F H line.edit ≡ Ok K → first_of_edit F pt K ≡ o
       → ((L : Hierarchy) → AreJudged F pt L lines (after_edits F pt L lines) (refusals_of F pt L lines))
       → AreJudged F pt H (line ∷ lines) (after_edits F pt (kept H (unless_broken K o)) lines) (refusal line.number (unless_broken K o)
-          ++ refusals_of F pt (kept H (unless_broken K o)) lines)
+      ++ refusals_of F pt (kept H (unless_broken K o)) lines)
   by_tested H K line lines None e t rest = made e t (rest K)
   by_tested H K line lines (Some b) e t rest = breaks e t (rest H)
 
   by_changed : (H : Hierarchy) (line : Line) (lines : List Line) (r : Result Hierarchy ChangeFault) → changed F H line.edit ≡ r
       → ((L : Hierarchy) → AreJudged F pt L lines (after_edits F pt L lines) (refusals_of F pt L lines))
       → AreJudged F pt H (line ∷ lines) (after_edits F pt (kept H (outcome F pt r)) lines) (refusal line.number (outcome F pt r) ++ refusals_of F pt
-          (kept H (outcome F pt r)) lines)
+      (kept H (outcome F pt r)) lines)
   by_changed H line lines (Ok K) e rest = by_tested H K line lines (first_of_edit F pt K) e refl rest
   by_changed H line lines (Err fault) e rest = unmade e (rest H)
 
@@ -135,8 +135,14 @@ module _ (status : ℕ) (out err : List ℕ) (j : IsJudging status) where
       → TellsEdits bytes script err
   edits_told bound bytes script p text F facts a =
       let J = judges bound bytes script p F text facts a.has a.edits a.are in
-      record { program = p; facts = F; sets = a.has.sets; after = edited bound F a.has a.edits; judges = subst
-          (JudgesEdits bytes script p F a.has.sets (edited bound F a.has a.edits)) (sym a.answers.err_is) J }
+      record {
+        program = p;
+        facts = F;
+        sets = a.has.sets;
+        after = edited bound F a.has a.edits;
+        judges = subst
+            (JudgesEdits bytes script p F a.has.sets (edited bound F a.has a.edits)) (sym a.answers.err_is) J;
+      }
 
   text_written : (bound : ℕ) (bytes script : List ℕ) (p : Program) → IsTypedText bytes p → (F : Facts) → HasFacts p F
       → IsRun bound script F (IsRegeneration p bound F) status out err
@@ -171,7 +177,7 @@ module _ (status : ℕ) (out err : List ℕ) (j : IsJudging status) where
       in_text status out err j (λ p. AnalysisAnswers (RegenOf bound script p) p) (WritesProgram bytes script out err) bytes
       (λ p text. in_facts status out err j (RegenOf bound script p) (WritesProgram bytes script out err) p
       (λ F facts. in_run status out err j bound script F (IsRegeneration p bound F) (WritesProgram bytes script out err)
-          (text_written bound bytes script p text F facts)))
+      (text_written bound bytes script p text F facts)))
       a
 
 -- what is promised of a command
@@ -181,19 +187,19 @@ command_promised (lattice json bound file) first second status out err a = λ z.
     in_file status out err (inl z) (TextAnswers (AnalysisAnswers (LatticeOf json bound))) (λ bytes. ShowsLattice json bytes out) first file
     (λ bytes. in_text status out err (inl z) (AnalysisAnswers (LatticeOf json bound)) (ShowsLattice json bytes out) bytes
     (λ p text. in_facts status out err (inl z) (LatticeOf json bound) (ShowsLattice json bytes out) p
-        (lattice_shown status out err (inl z) json bound bytes p text)))
+    (lattice_shown status out err (inl z) json bound bytes p text)))
     a
 command_promised (edit bound file script) first second status out err a = λ j.
     in_file status out err j (λ bytes. FileAnswers (EditAnswers bound bytes) second script)
-        (λ bytes. OfFile second script (λ lines. TellsEdits bytes lines err)) first file
+    (λ bytes. OfFile second script (λ lines. TellsEdits bytes lines err)) first file
     (λ bytes. in_file status out err j (EditAnswers bound bytes) (λ lines. TellsEdits bytes lines err) second script
-        (edit_promised status out err j bound bytes))
+    (edit_promised status out err j bound bytes))
     a
 command_promised (regen bound file script) first second status out err a = λ j.
     in_file status out err j (λ bytes. FileAnswers (RegenAnswers bound bytes) second script)
-        (λ bytes. OfFile second script (λ lines. WritesProgram bytes lines out err)) first file
+    (λ bytes. OfFile second script (λ lines. WritesProgram bytes lines out err)) first file
     (λ bytes. in_file status out err j (RegenAnswers bound bytes) (λ lines. WritesProgram bytes lines out err) second script
-        (regen_promised status out err j bound bytes))
+    (regen_promised status out err j bound bytes))
     a
 command_promised (run file steps words) first second status out err a = tt
 command_promised (table file) first second status out err a = tt

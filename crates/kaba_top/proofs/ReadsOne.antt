@@ -16,6 +16,10 @@ pub reads_one : (bytes : List ℕ) (tree : List DeclTree) (new q : Program) → 
 unfolding HasOneProgram
 reads_one bytes tree new q read resolves is =
     let r = is.has.read in
-    let again : IsReadAs bytes is.tree = record { tokens = r.tokens; lexed = r.lexed; derived = record
-        { placed = is.tree; derived = r.placed; same = refl } } in
+    let again : IsReadAs bytes is.tree = record {
+      tokens = r.tokens;
+      lexed = r.lexed;
+      derived = record
+          { placed = is.tree; derived = r.placed; same = refl };
+    } in
     has_one_program bytes tree is.tree new q read again is.has.none resolves is.has.resolves

@@ -41,8 +41,12 @@ pub too_large : (told : Option Files) (before now : ℕ) (name : List ℕ) (stat
     → IsRefused told name status out err ⊎ IsFault before now name status out err
 too_large (Some f) before now name status out err large present says = inl (larger f name status out err (f name) refl large present says)
 too_large None before now name status out err large present says =
-    inl (record { files = λ _. Some (longer most_bytes).0; agrees = λ _. refl; refused = inr
-        (record { bytes = (longer most_bytes).0; there = refl; large = (longer most_bytes).1; says = says }) })
+    inl (record {
+      files = λ _. Some (longer most_bytes).0;
+      agrees = λ _. refl;
+      refused = inr
+          (record { bytes = (longer most_bytes).0; there = refl; large = (longer most_bytes).1; says = says });
+    })
 
 -- some files agree with what is told
 any_files : (told : Option Files) → (files : Files) × Agrees told files
@@ -63,8 +67,14 @@ pub of_command : (told : Option Files) (before now : ℕ) (words : List (List �
     → IfOk r (λ reply. Replies told before now words reply.status reply.out.items reply.err.items)
 of_command told before now words command (Err e) fits h = tt
 of_command told before now words command (Ok reply) fits (inl a) =
-    inl (record { first = a.first; second = a.second; first_agrees = a.first_agrees; second_agrees = a.second_agrees; answers = inr
-    (record { command = command; fits = fits; answers = a.answers }) })
+    inl (record {
+      first = a.first;
+      second = a.second;
+      first_agrees = a.first_agrees;
+      second_agrees = a.second_agrees;
+      answers = inr
+          (record { command = command; fits = fits; answers = a.answers });
+    })
 of_command told before now words command (Ok reply) fits (inr u) = inr (record { command = command; fits = fits; unread = u })
 
 -- an answer of a command that reads no file is one for any files
@@ -74,15 +84,27 @@ pub without_files : (told : Option Files) (before now : ℕ) (words : List (List
 without_files told before now words command (Err e) fits a = tt
 without_files told before now words command (Ok reply) fits a =
     let files = any_files told in
-    inl (record { first = files.0; second = files.0; first_agrees = files.1; second_agrees = files.1; answers = inr
-        (record { command = command; fits = fits; answers = a files.0 files.0 }) })
+    inl (record {
+      first = files.0;
+      second = files.0;
+      first_agrees = files.1;
+      second_agrees = files.1;
+      answers = inr
+          (record { command = command; fits = fits; answers = a files.0 files.0 });
+    })
 
 -- the one file of a command was read, and K are the answers for its bytes
 pub read_reply : (told : Option Files) (name bytes : List ℕ) (K : List ℕ → ℕ → List ℕ → List ℕ → Type 0) (status : ℕ) (out err : List ℕ)
     → IsThere told name bytes → K bytes status out err → IsAnswered told (λ first second. FileAnswers K first name) status out err
 read_reply told name bytes K status out err t k =
-    record { first = t.files; second = t.files; first_agrees = t.agrees; second_agrees = t.agrees; answers = inr
-    (inr (record { bytes = bytes; there = t.there; small = t.small; answers = k })) }
+    record {
+      first = t.files;
+      second = t.files;
+      first_agrees = t.agrees;
+      second_agrees = t.agrees;
+      answers = inr
+          (inr (record { bytes = bytes; there = t.there; small = t.small; answers = k }));
+    }
 
 refused_answers : (K : List ℕ → ℕ → List ℕ → List ℕ → Type 0) (files : Files) (name : List ℕ) (status : ℕ) (out err : List ℕ)
     → IsMissing files name status out err ⊎ IsTooLarge files name status out err → FileAnswers K files name status out err
@@ -92,8 +114,14 @@ refused_answers K files name status out err (inr l) = inr (inl l)
 pub refused_reply : (told : Option Files) (name : List ℕ) (K : List ℕ → ℕ → List ℕ → List ℕ → Type 0) (status : ℕ) (out err : List ℕ)
     → IsRefused told name status out err → IsAnswered told (λ first second. FileAnswers K first name) status out err
 refused_reply told name K status out err r =
-    record { first = r.files; second = r.files; first_agrees = r.agrees; second_agrees = r.agrees; answers = refused_answers K r.files name status
-    out err r.refused }
+    record {
+      first = r.files;
+      second = r.files;
+      first_agrees = r.agrees;
+      second_agrees = r.agrees;
+      answers = refused_answers K r.files name status
+          out err r.refused;
+    }
 
 -- the answers of a command that reads two files, where K are those for their bytes
 abbrev pub ReadsTwo : Cmd → List ℕ → List ℕ → (List ℕ → List ℕ → ℕ → List ℕ → List ℕ → Type 0) → Type 0

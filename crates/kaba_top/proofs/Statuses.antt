@@ -89,7 +89,7 @@ script_run_other bound script f A o status out err (inr a) = o a.has a.edits sta
 edit_other : (bound : ℕ) (script : List ℕ) (f : Facts) → AreOther (EditOf bound script f)
 edit_other bound script f =
     script_run_other bound script f (ShowsHierarchy bound f) (λ has edits. after_script (length (refusals bound f has edits) == 0)
-        (hierarchy_text f (edited bound f has edits)) (refusals bound f has edits))
+    (hierarchy_text f (edited bound f has edits)) (refusals bound f has edits))
 
 no_tree_other : (program : Program) (bound : ℕ) (f : Facts) (has : HasLattice bound f) (edits : List Line) → AreOther (IsWithoutTree program bound f has edits)
 no_tree_other program bound f has edits status out err a = gave 5 (omega arith, omega arith) _ _ status out err a.gives
@@ -97,9 +97,9 @@ no_tree_other program bound f has edits status out err a = gave 5 (omega arith, 
 regen_other : (bound : ℕ) (script : List ℕ) (program : Program) (f : Facts) → AreOther (RegenOf bound script program f)
 regen_other bound script program f = script_run_other bound script f (IsRegeneration program bound f) (λ has edits status out err a. elim a as
     (λ _. IsOther status) [
-  | inl g ↦ after_script (length (refusals bound f has edits) == 0) g.text (refusals bound f has edits ++ log_text g.log) status out err g.gives
-  | inr w ↦ no_tree_other program bound f has edits status out err w
-])
+      | inl g ↦ after_script (length (refusals bound f has edits) == 0) g.text (refusals bound f has edits ++ log_text g.log) status out err g.gives
+      | inr w ↦ no_tree_other program bound f has edits status out err w
+    ])
 
 file_other : (K : List ℕ → ℕ → List ℕ → List ℕ → Type 0) → ((bytes : List ℕ) → AreOther (K bytes)) → (files : Files) (name : List ℕ)
     → AreOther (FileAnswers K files name)
@@ -148,13 +148,13 @@ command_other (table file) first second =
     file_other (TextAnswers (AnalysisAnswers TableOf)) (text_other (AnalysisAnswers TableOf) (analysis_other TableOf table_other)) first file
 command_other (lattice json bound file) first second =
     file_other (TextAnswers (AnalysisAnswers (LatticeOf json bound))) (text_other (AnalysisAnswers (LatticeOf json bound))
-        (analysis_other (LatticeOf json bound) (lattice_other json bound))) first file
+    (analysis_other (LatticeOf json bound) (lattice_other json bound))) first file
 command_other (edit bound file script) first second =
     file_other (λ bytes. FileAnswers (EditAnswers bound bytes) second script) (λ bytes. file_other (EditAnswers bound bytes) (edits_other bound bytes)
-        second script) first file
+    second script) first file
 command_other (regen bound file script) first second =
     file_other (λ bytes. FileAnswers (RegenAnswers bound bytes) second script) (λ bytes. file_other (RegenAnswers bound bytes)
-        (regens_other bound bytes) second script) first file
+    (regens_other bound bytes) second script) first file
 command_other (make prints number) first second = make_other prints number
 command_other help first second = gave 0 (omega arith, omega arith) help_text []
 command_other version first second = gave 0 (omega arith, omega arith) version_text []

@@ -89,8 +89,14 @@ of_tree bytes tokens tree (readings.Typed program) h d p t =
       typed = t.typed;
     }
 of_tree bytes tokens tree (readings.Refused reply) h d p (inl u) =
-    inr (inr (inr (inl (record { tree = tree; read = record { tokens = tokens; lexed = h; nested = d; placed = p }; why = u.why; condition =
-        u.condition; says = u.says }))))
+    inr (inr (inr (inl (record {
+      tree = tree;
+      read = record { tokens = tokens; lexed = h; nested = d; placed = p };
+      why = u.why;
+      condition =
+          u.condition;
+      says = u.says;
+    }))))
 of_tree bytes tokens tree (readings.Refused reply) h d p (inr u) =
     inr (inr (inr (inr (record {
       tree = tree;

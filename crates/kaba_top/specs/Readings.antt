@@ -69,4 +69,4 @@ abbrev pub IsMadeReading : List ℕ → Reading → Type 0
 IsMadeReading bytes (readings.Typed program) = (length bytes ≤ most_bytes) × IsTypedText bytes program
 IsMadeReading bytes (readings.Refused reply) =
     IsLongText bytes reply.status reply.out.items reply.err.items
-        ⊎ ((length bytes ≤ most_bytes) × IsRefusedText bytes reply.status reply.out.items reply.err.items)
+    ⊎ ((length bytes ≤ most_bytes) × IsRefusedText bytes reply.status reply.out.items reply.err.items)

@@ -53,7 +53,9 @@ fn run_command<F: Shelf>(
     steps: u32,
     words: &Vec<String>,
 ) -> Result<Reply, AllocError>
-    ensures replies { IfOk result (λ reply. CommandReplies (F.files shelf.old) (F.faults shelf.old) (F.faults shelf.new) (run (string_bytes file.now) steps (texts words.now.items)) reply.status reply.out.items reply.err.items) }
+    ensures replies { IfOk result (λ reply. CommandReplies (F.files shelf.old) (F.faults shelf.old)
+        (F.faults shelf.new) (run (string_bytes file.now) steps (texts words.now.items)) reply.status
+        reply.out.items reply.err.items) }
 {
     match fetch_file(alloc, shelf, file)? {
         Fetched::Bytes(bytes) => run_text(alloc, &bytes, steps, words),
@@ -63,7 +65,8 @@ fn run_command<F: Shelf>(
 
 /// The reply of `table`.
 fn table_command<F: Shelf>(alloc: Global, shelf: &mut F, file: &String) -> Result<Reply, AllocError>
-    ensures replies { IfOk result (λ reply. CommandReplies (F.files shelf.old) (F.faults shelf.old) (F.faults shelf.new) (table (string_bytes file.now)) reply.status reply.out.items reply.err.items) }
+    ensures replies { IfOk result (λ reply. CommandReplies (F.files shelf.old) (F.faults shelf.old)
+        (F.faults shelf.new) (table (string_bytes file.now)) reply.status reply.out.items reply.err.items) }
 {
     match fetch_file(alloc, shelf, file)? {
         Fetched::Bytes(bytes) => table_text(alloc, &bytes),
@@ -79,7 +82,9 @@ fn lattice_command<F: Shelf>(
     json: bool,
     bound: u32,
 ) -> Result<Reply, AllocError>
-    ensures replies { IfOk result (λ reply. CommandReplies (F.files shelf.old) (F.faults shelf.old) (F.faults shelf.new) (lattice json bound (string_bytes file.now)) reply.status reply.out.items reply.err.items) }
+    ensures replies { IfOk result (λ reply. CommandReplies (F.files shelf.old) (F.faults shelf.old)
+        (F.faults shelf.new) (lattice json bound (string_bytes file.now)) reply.status reply.out.items
+        reply.err.items) }
 {
     match fetch_file(alloc, shelf, file)? {
         Fetched::Bytes(bytes) => lattice_text(alloc, &bytes, json, bound),
@@ -97,7 +102,9 @@ fn edit_script<F: Shelf>(
 ) -> Result<Reply, AllocError>
     requires small { length bytes.now.items ≤ most_bytes }
     requires bound { bound ≤ most_concepts }
-    ensures replies { IfOk result (λ reply. FileReplies (F.files shelf.old) (F.faults shelf.old) (F.faults shelf.new) (EditAnswers bound bytes.now.items) (string_bytes script.now) reply.status reply.out.items reply.err.items) }
+    ensures replies { IfOk result (λ reply. FileReplies (F.files shelf.old) (F.faults shelf.old)
+        (F.faults shelf.new) (EditAnswers bound bytes.now.items) (string_bytes script.now) reply.status
+        reply.out.items reply.err.items) }
 {
     match fetch_file(alloc, shelf, script)? {
         Fetched::Bytes(lines) => edit_text(alloc, bytes, &lines, bound),
@@ -114,7 +121,9 @@ fn edit_command<F: Shelf>(
     bound: u32,
 ) -> Result<Reply, AllocError>
     requires bound { bound ≤ most_concepts }
-    ensures replies { IfOk result (λ reply. CommandReplies (F.files shelf.old) (F.faults shelf.old) (F.faults shelf.new) (edit bound (string_bytes file.now) (string_bytes script.now)) reply.status reply.out.items reply.err.items) }
+    ensures replies { IfOk result (λ reply. CommandReplies (F.files shelf.old) (F.faults shelf.old)
+        (F.faults shelf.new) (edit bound (string_bytes file.now) (string_bytes script.now)) reply.status
+        reply.out.items reply.err.items) }
 {
     match fetch_file(alloc, shelf, file)? {
         Fetched::Bytes(bytes) => edit_script(alloc, shelf, &bytes, script, bound),
@@ -132,7 +141,9 @@ fn regen_script<F: Shelf>(
 ) -> Result<Reply, AllocError>
     requires small { length bytes.now.items ≤ most_bytes }
     requires bound { bound ≤ most_concepts }
-    ensures replies { IfOk result (λ reply. FileReplies (F.files shelf.old) (F.faults shelf.old) (F.faults shelf.new) (RegenAnswers bound bytes.now.items) (string_bytes script.now) reply.status reply.out.items reply.err.items) }
+    ensures replies { IfOk result (λ reply. FileReplies (F.files shelf.old) (F.faults shelf.old)
+        (F.faults shelf.new) (RegenAnswers bound bytes.now.items) (string_bytes script.now) reply.status
+        reply.out.items reply.err.items) }
 {
     match fetch_file(alloc, shelf, script)? {
         Fetched::Bytes(lines) => regen_text(alloc, bytes, &lines, bound),
@@ -149,7 +160,9 @@ fn regen_command<F: Shelf>(
     bound: u32,
 ) -> Result<Reply, AllocError>
     requires bound { bound ≤ most_concepts }
-    ensures replies { IfOk result (λ reply. CommandReplies (F.files shelf.old) (F.faults shelf.old) (F.faults shelf.new) (regen bound (string_bytes file.now) (string_bytes script.now)) reply.status reply.out.items reply.err.items) }
+    ensures replies { IfOk result (λ reply. CommandReplies (F.files shelf.old) (F.faults shelf.old)
+        (F.faults shelf.new) (regen bound (string_bytes file.now) (string_bytes script.now)) reply.status
+        reply.out.items reply.err.items) }
 {
     match fetch_file(alloc, shelf, file)? {
         Fetched::Bytes(bytes) => regen_script(alloc, shelf, &bytes, script, bound),
@@ -163,7 +176,8 @@ pub fn answer<F: Shelf>(
     words: &Vec<String>,
     shelf: &mut F,
 ) -> Result<Reply, AllocError>
-    ensures replies { IfOk result (λ reply. Replies (F.files shelf.old) (F.faults shelf.old) (F.faults shelf.new) (texts words.now.items) reply.status reply.out.items reply.err.items) }
+    ensures replies { IfOk result (λ reply. Replies (F.files shelf.old) (F.faults shelf.old)
+        (F.faults shelf.new) (texts words.now.items) reply.status reply.out.items reply.err.items) }
 {
     match read_words(alloc, words) {
         Ok(Command::Run(file, steps, more)) => run_command(alloc, shelf, &file, steps, &more),

@@ -26,7 +26,9 @@ use std::alloc::{AllocError, Global};
 fn show(alloc: Global, facts: &Facts, edited: Edited) -> Result<Reply, AllocError>
     requires range { InRange facts.now }
     requires hierarchy { IsHierarchyOf facts.now edited.hier }
-    ensures { IfOk result (λ reply. Gives (edit_status edited.refusals.items) (hierarchy_text facts.now edited.hier) edited.refusals.items reply.status reply.out.items reply.err.items) }
+    ensures { IfOk result (λ reply. Gives (edit_status edited.refusals.items)
+        (hierarchy_text facts.now edited.hier) edited.refusals.items reply.status reply.out.items
+        reply.err.items) }
 {
     let mut out = Vec::new(alloc);
     show_hierarchy(alloc, facts, &edited.hier, &mut out)?;
@@ -83,7 +85,8 @@ pub fn edit_text(
     requires small { length bytes.now.items ≤ most_bytes }
     requires script_small { length script.now.items ≤ most_bytes }
     requires bound { bound ≤ most_concepts }
-    ensures answers { IfOk result (λ reply. TextAnswers (AnalysisAnswers (EditOf bound script.now.items)) bytes.now.items reply.status reply.out.items reply.err.items) }
+    ensures answers { IfOk result (λ reply. TextAnswers (AnalysisAnswers (EditOf bound script.now.items))
+        bytes.now.items reply.status reply.out.items reply.err.items) }
 {
     match read_program(alloc, bytes)? {
         Reading::Typed(program) => edit_program(alloc, &program, script, bound),

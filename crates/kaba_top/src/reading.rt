@@ -107,7 +107,9 @@ fn not_parsed(
     token: u32,
 ) -> Result<Reply, AllocError>
     requires small { length bytes.now.items ≤ most_bytes }
-    ensures { IfOk result (λ reply. Says 65 (refused (at_token kind.now token (line_of bytes.now.items token tokens.now.items))) reply.status reply.out.items reply.err.items) }
+    ensures { IfOk result (λ reply. Says 65
+        (refused (at_token kind.now token (line_of bytes.now.items token tokens.now.items))) reply.status
+        reply.out.items reply.err.items) }
 {
     at_token(alloc, kind, token, line_of(bytes, token, tokens))
 }

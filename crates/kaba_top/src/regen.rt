@@ -95,7 +95,8 @@ fn told(alloc: Global, refusals: Vec<u8>, log: &[TreeStep]) -> Result<Vec<u8>, A
 
 /// The reply with a program that was written, and the lines of the refused edits and of the log.
 fn written_reply(alloc: Global, refusals: Vec<u8>, written: Written) -> Result<Reply, AllocError>
-    ensures { IfOk result (λ reply. Gives (edit_status refusals.items) written.text.items (refusals.items ++ log_text written.log.items) reply.status reply.out.items reply.err.items) }
+    ensures { IfOk result (λ reply. Gives (edit_status refusals.items) written.text.items
+        (refusals.items ++ log_text written.log.items) reply.status reply.out.items reply.err.items) }
 {
     let status = edit_status(&refusals);
     let err = told(alloc, refusals, &written.log)?;
@@ -108,7 +109,9 @@ fn written_reply(alloc: Global, refusals: Vec<u8>, written: Written) -> Result<R
 
 /// The reply that there is no tree.
 pub fn stuck(alloc: Global, refusals: Vec<u8>, fault: &NoTree) -> Result<Reply, AllocError>
-    ensures { IfOk result (λ reply. Gives 5 [] (refusals.items ++ (log_text fault.now.log.items ++ line (no_tree_text fault.now))) reply.status reply.out.items reply.err.items) }
+    ensures { IfOk result (λ reply. Gives 5 []
+        (refusals.items ++ (log_text fault.now.log.items ++ line (no_tree_text fault.now))) reply.status
+        reply.out.items reply.err.items) }
 {
     let mut err = told(alloc, refusals, &fault.log)?;
     let text = no_tree_text(alloc, fault)?;

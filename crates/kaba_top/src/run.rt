@@ -70,7 +70,8 @@ pub fn run_text(
     words: &Vec<String>,
 ) -> Result<Reply, AllocError>
     requires small { length bytes.now.items ≤ most_bytes }
-    ensures answers { IfOk result (λ reply. TextAnswers (RunAnswers steps (texts words.now.items)) bytes.now.items reply.status reply.out.items reply.err.items) }
+    ensures answers { IfOk result (λ reply. TextAnswers (RunAnswers steps (texts words.now.items))
+        bytes.now.items reply.status reply.out.items reply.err.items) }
 {
     match read_program(alloc, bytes)? {
         Reading::Typed(program) => run_program(alloc, &program, words, steps),

@@ -18,8 +18,13 @@ names_whole (name ∷ names) = names_whole names
 
 concepts_whole : (xs : List Concept) → items_have_float (items_of (map concept_data xs)) ≡ false
 concepts_whole [] = refl
-concepts_whole (x ∷ xs) = rw (numbers_whole x.above.items, numbers_whole (map (λ c. c.0) x.columns.items), numbers_whole
-    (map (λ r. r.0) x.rows.items), concepts_whole xs) refl
+concepts_whole (x ∷ xs) = rw (
+  numbers_whole x.above.items,
+  numbers_whole (map (λ c. c.0) x.columns.items),
+  numbers_whole
+      (map (λ r. r.0) x.rows.items),
+  concepts_whole xs,
+) refl
 
 -- the JSON of a lattice has whole numbers alone
 pub lattice_whole : (f : Facts) (l : Lattice) → has_float (lattice_data f l) ≡ false

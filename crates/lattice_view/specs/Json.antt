@@ -21,7 +21,7 @@ names_data names = array (items_of (map (λ name. string (encode_utf8_all name))
 abbrev pub concept_parts : Data → Data → Data → ℕ → Data
 concept_parts above columns rows count =
     object (member (codes "above") above
-        (member (codes "columns") columns (member (codes "rows") rows (member (codes "size") (number (unsigned count)) no_members))))
+    (member (codes "columns") columns (member (codes "rows") rows (member (codes "size") (number (unsigned count)) no_members))))
 
 -- a concept: its upper covers, the columns and rows that stand there, and the size of its extent
 abbrev pub concept_data : Concept → Data

@@ -251,7 +251,7 @@ pub data ConditionAt (declarations : List DeclTree) : Refusal → Type 0 where
   overload : {i j c : ℕ} {h k : PlainMethod} → slice_get (outline declarations).methods i ≡ Some h → slice_get (outline declarations).methods j
       ≡ Some k → i < j → h.name ≡ k.name
       → IsSubclass (outline declarations) c h.owner → IsSubclass (outline declarations) c k.owner → (AreOneSlot h k → ⊥)
-          → ConditionAt declarations (Overload k.name k.tag.place)
+      → ConditionAt declarations (Overload k.name k.tag.place)
   -- a field or a parameter of the name of a type
   type_as_field : {f : FieldAt} → Contains (fields_in declarations) f → is_type_name (types_in declarations) f.name ≡ true
       → ConditionAt declarations (TwoKinds f.name f.place)
@@ -268,7 +268,7 @@ pub data ConditionAt (declarations : List DeclTree) : Refusal → Type 0 where
   private_reused : {i j : ℕ} {h k : MethodAt} → slice_get (methods_in declarations) i ≡ Some h → slice_get (methods_in declarations) j ≡ Some k
       → i < j → h.head.name ≡ k.head.name
       → h.owner ≢ k.owner → is_private h || is_private k ≡ true → IsSubclass (outline declarations) h.owner k.owner
-          ⊎ IsSubclass (outline declarations) k.owner h.owner → ConditionAt declarations (PrivateReused k.head.name k.head.place)
+      ⊎ IsSubclass (outline declarations) k.owner h.owner → ConditionAt declarations (PrivateReused k.head.name k.head.place)
   no_main : ((m : ℕ) (k : PlainMethod) → slice_get (outline declarations).methods m ≡ Some k → IsMain k → ⊥) → ConditionAt declarations NoMain
   -- a modifier that disagrees with one before it, or does not fit
   modifiers_disagree : {kind : Kind} {mods : List Modifier} {i j : ℕ} {a b : Modifier} → HasModifiers declarations kind mods

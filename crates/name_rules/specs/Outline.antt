@@ -204,8 +204,14 @@ class_outline types d =
     }
 
 abbrev pub field_outline : List (List ℕ) → FieldAt → PlainField
-field_outline types f = record { owner = f.owner; name = f.name; is_static = has_word is_static_word f.mods; ty = type_meant types f.type; tag =
-    at_place f.place }
+field_outline types f = record {
+  owner = f.owner;
+  name = f.name;
+  is_static = has_word is_static_word f.mods;
+  ty = type_meant types f.type;
+  tag =
+      at_place f.place;
+}
 
 abbrev pub param_outline : List (List ℕ) → Param → PlainLocal
 param_outline types q = record { name = q.name; ty = type_meant types q.ty; tag = at_place q.place }
@@ -230,5 +236,11 @@ method_outline types m =
 unfoldable pub outline : List DeclTree → Plain
 outline tree =
     let types = types_in tree in
-    record { classes = object ∷ map (class_outline types) tree; fields = map (field_outline types) (fields_in tree); methods = map
-        (method_outline types) (methods_in tree); slots = []; main = 0 }
+    record {
+      classes = object ∷ map (class_outline types) tree;
+      fields = map (field_outline types) (fields_in tree);
+      methods = map
+          (method_outline types) (methods_in tree);
+      slots = [];
+      main = 0;
+    }

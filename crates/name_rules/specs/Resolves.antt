@@ -171,7 +171,7 @@ module _ (O : Plain) (here : Here) (k : PlainMethod) where
       r_for : {in_loop : Bool} {scope : List Bound} {f g : OptionalStatement} {v : Option Expression} {x : Option Ex} {ss : Statements}
           {first step xs : Sts} {p : Place} → PartResolves in_loop scope f first
           → ResolvesIf O here (scope_after_part scope f first) v x → PartResolves in_loop (scope_after_part scope f first) g step
-              → StsResolve true (scope_after_part scope f first) ss xs
+          → StsResolve true (scope_after_part scope f first) ss xs
           → StResolves in_loop scope (ForOf f v g ss p) (loop (at_place p) false first x step xs)
       r_return : {in_loop : Bool} {scope : List Bound} {v : Option Expression} {x : Option Ex} {p : Place} → ResolvesIf O here scope v x
           → StResolves in_loop scope (ReturnOf v p) (return (at_place p) x)
@@ -246,8 +246,19 @@ pub data BodiesResolve (O : Plain) : List MethodAt → List PlainMethod → Type
 
 -- a method up to its slot, its locals and its body
 abbrev pub heading_of : PlainMethod → PlainMethod
-heading_of k = record { owner = k.owner; name = k.name; is_static = k.is_static; is_public = k.is_public; slot = None; params = k.params; locals =
-    []; result = k.result; body = None; tag = k.tag }
+heading_of k = record {
+  owner = k.owner;
+  name = k.name;
+  is_static = k.is_static;
+  is_public = k.is_public;
+  slot = None;
+  params = k.params;
+  locals =
+      [];
+  result = k.result;
+  body = None;
+  tag = k.tag;
+}
 
 -- a slot is that of a method: the name, the types of the parameters and the result agree
 pub record IsOfSlot (slot : PlainSlot) (k : PlainMethod) : Type 0 where

@@ -52,8 +52,19 @@ abbrev pub the_field : ℕ → PlainField
 the_field owner = record { owner = owner; name = codes "f"; is_static = false; ty = an_int; tag = place 10 }
 
 abbrev pub method : ℕ → Option Sts → PlainMethod
-method owner body = record { owner = owner; name = codes "m"; is_static = false; is_public = true; slot = Some 0; params = []; locals = []; result =
-    Some an_int; body = body; tag = place 20 }
+method owner body = record {
+  owner = owner;
+  name = codes "m";
+  is_static = false;
+  is_public = true;
+  slot = Some 0;
+  params = [];
+  locals = [];
+  result =
+      Some an_int;
+  body = body;
+  tag = place 20;
+}
 
 abbrev pub main : ℕ → ℕ → Sts → PlainMethod
 main owner kept code =
@@ -108,7 +119,7 @@ listed v xs fits = record { ptr = v.ptr; len = length xs; cap = 9; alloc = v.all
 abbrev pub the_columns : List ColumnInfo
 the_columns =
     record { kind = Fld; class = record { 0 = 1 }; slot = None; name = codes "f"; label = [] }
-        ∷ record { kind = Dcl; class = record { 0 = 1 }; slot = Some 0; name = codes "m"; label = [] }
+    ∷ record { kind = Dcl; class = record { 0 = 1 }; slot = Some 0; name = codes "m"; label = [] }
     ∷ record { kind = Def; class = record { 0 = 1 }; slot = Some 0; name = codes "m"; label = [] } ∷ []
 
 abbrev pub the_sites : List SiteInfo
@@ -416,9 +427,14 @@ module _ (others : Facts) where
 
   head_is : (m n s : ℕ) (k : PlainMethod) → Stands (column.Dcl m) n → slice_get old.methods m ≡ Some k → k.slot ≡ Some s → is_headed facts hierarchy n s ≡ true
       → (g : ℕ) × (h : PlainMethod) × (slice_get new.methods g ≡ Some h) × (h.body ≡ None) × IsOfSlot old old facts hierarchy new places n m h
-  head_is zero n s k at e slot headed =
-      (0, method 1 None, refl, refl, subst (λ x. IsOfSlot old old facts hierarchy new places x 0 (method 1 None))
-          (stands_alone 1 0 n refl (column.Dcl 0) column_m at) new_of_slot)
+  head_is zero n s k at e slot headed = (
+    0,
+    method 1 None,
+    refl,
+    refl,
+    subst (λ x. IsOfSlot old old facts hierarchy new places x 0 (method 1 None))
+        (stands_alone 1 0 n refl (column.Dcl 0) column_m at) new_of_slot,
+  )
   head_is (suc m) n s k at e slot headed = absurd (cc (sym (no_declaration m) ∙ at.numbered))
 
   -- no object is without its body

@@ -78,7 +78,7 @@ module _ (Q : Plain) (F : Facts) (formed : IsFormed (untagged Q)) (facts : IsFac
   own_one a x m n h k =
       let i = in_slot Q formed m h.method h.there x h.slot in let j = in_slot Q formed n k.method k.there x k.slot in
       formed.method_names m n (untag_method h.method) (untag_method k.method) (method_of Q formed m h.method h.there)
-          (method_of Q formed n k.method k.there) (h.owner ∙ sym k.owner)
+      (method_of Q formed n k.method k.there) (h.owner ∙ sym k.owner)
       (i.name ∙ ap (λ z. z.name) (same_Some i.slot j.slot (sym i.stands ∙ j.stands)) ∙ sym j.name)
 
   item_own : (a x : ℕ) (i : ColumnItem) → is_body a x (column_info Q i) ≡ true → (m : ℕ) × (i ≡ column.Def m) × IsOwn a x m
@@ -106,15 +106,31 @@ module _ (Q : Plain) (F : Facts) (formed : IsFormed (untagged Q)) (facts : IsFac
   -- the same of the program
   java_own : (a x m : ℕ) → java.own_body P a x ≡ Some m → IsOwn a x m × ((h : PlainMethod) → slice_get Q.methods m ≡ Some h → is_some h.body ≡ true)
   java_own a x m e =
-      let d : PlainMethod = untag_method (record { owner = 0; name = []; is_static = false; is_public = false; slot = None; params = []; locals =
-          []; result = None; body = None; tag = record { label = 0; place = record { at = 0; line = 0 } } }) in
+      let d : PlainMethod = untag_method (record {
+        owner = 0;
+        name = [];
+        is_static = false;
+        is_public = false;
+        slot = None;
+        params = [];
+        locals =
+            [];
+        result = None;
+        body = None;
+        tag = record { label = 0; place = record { at = 0; line = 0 } };
+      }) in
       let p = position-Some (λ m. has_slot a x m && is_some m.body) P.methods m d e in
       let s = slice_get-get_or P.methods m d p.0 in
       let h = of_method Q formed m (get_or P.methods m d) s in
       let t = both_hold (has_slot a x (get_or P.methods m d)) (is_some (get_or P.methods m d).body) p.1 in
       let o = both_hold ((get_or P.methods m d).owner == a) (java.is_slot (get_or P.methods m d).slot x) t.0 in (
-        record { method = h.0; there = h.1; owner = ap (λ z. z.owner) h.2 ∙ eqb-true (get_or P.methods m d).owner a o.0; slot = ap (λ z. z.slot) h.2
-            ∙ java_slot_is (get_or P.methods m d).slot x o.1 },
+        record {
+          method = h.0;
+          there = h.1;
+          owner = ap (λ z. z.owner) h.2 ∙ eqb-true (get_or P.methods m d).owner a o.0;
+          slot = ap (λ z. z.slot) h.2
+              ∙ java_slot_is (get_or P.methods m d).slot x o.1;
+        },
         (λ k ek. untagged_body k.body (ap (λ z. is_some z.body) (ap (λ z. untag_method z) (same_Some k h.0 (sym ek ∙ h.1)) ∙ h.2) ∙ t.1)),
       )
     where
@@ -126,7 +142,7 @@ module _ (Q : Plain) (F : Facts) (formed : IsFormed (untagged Q)) (facts : IsFac
   own_java a x m h b = position_there (λ m. has_slot a x m && is_some m.body) P.methods (untag_method h.method)
       (there_at P.methods m (untag_method h.method) (method_of Q formed m h.method h.there))
       (both (has_slot a x (untag_method h.method)) (is_some (untag_body h.method.body)) (both (h.method.owner == a) (java.is_slot h.method.slot x)
-          (eq-eqb h.method.owner a h.owner) (ap (λ z. java.is_slot z x) h.slot ∙ eq-eqb x x refl)) (with_body h.method.body b))
+      (eq-eqb h.method.owner a h.owner) (ap (λ z. java.is_slot z x) h.slot ∙ eq-eqb x x refl)) (with_body h.method.body b))
     where
       with_body : (b : _) → is_some b ≡ true → is_some (untag_body b) ≡ true
       with_body None e = e
@@ -144,7 +160,7 @@ module _ (Q : Plain) (F : Facts) (formed : IsFormed (untagged Q)) (facts : IsFac
       column_there P Q x (Contains-append_right (each field_columns 0 Q.fields) (each (method_columns P Q) 0 Q.methods) x
       (each_has (method_columns P Q) 0 Q.methods m k x e m (omega arith)
       (Contains-append_left (when (not k.is_static) (record { item = column.Dcl m; place = k.tag.place } ∷ when (is_some k.body)
-          (record { item = column.Def m; place = k.tag.place } ∷ []))) (flat_map form_columns (parts_of P m k)) x
+      (record { item = column.Def m; place = k.tag.place } ∷ []))) (flat_map form_columns (parts_of P m k)) x
       (when_has (not k.is_static) _ x (rw s refl) (more x _ _ (when_has (is_some k.body) _ x b (one x)))))))
 
   abbrev bodies_at : ℕ → ℕ → ColumnItem → Bool
@@ -187,7 +203,7 @@ module _ (Q : Plain) (F : Facts) (formed : IsFormed (untagged Q)) (facts : IsFac
           let p = position-Some (bodies_at a x) items c (column.Def 0) d in
           let o = item_own a x (get_or items c (column.Def 0)) p.1 in
           let y = map_from (λ (c : Column). c.item) (columns_of P Q) (column.Def o.0)
-              (there_at items c (column.Def o.0) (slice_get-get_or items c (column.Def 0) p.0 ∙ ap (λ z. Some z) o.1)) in
+          (there_at items c (column.Def o.0) (slice_get-get_or items c (column.Def 0) p.0 ∙ ap (λ z. Some z) o.1)) in
           let b = body_listed P Q y.0 o.0 y.1 y.2 in
           let n = own_java a x o.0 o.2 (ap (λ z. is_some z.body) (same_Some o.2.method b.0 (sym o.2.there ∙ b.1)) ∙ b.2) in
           absurd (let z = sym e ∙ n.1 in cc)
@@ -202,15 +218,18 @@ module _ (Q : Plain) (F : Facts) (formed : IsFormed (untagged Q)) (facts : IsFac
           → (c : ℕ) × (finds_within F (suc n) a x ≡ Some c) × (def_number m ≡ Some c)
       up None eo none r h = absurd (cc)
       up (Some p) eo none r h =
-          let w = r p h in
-          (w.0, ap (λ z. or_else z (option_and_then (λ p. finds_within F n p.0 x) (parent_of F a))) none
-              ∙ ap (λ z. option_and_then (λ p. finds_within F n p.0 x) z) (same_parent Q F facts a ∙ eo) ∙ w.1, w.2)
+          let w = r p h in (
+            w.0,
+            ap (λ z. or_else z (option_and_then (λ p. finds_within F n p.0 x) (parent_of F a))) none
+                ∙ ap (λ z. option_and_then (λ p. finds_within F n p.0 x) z) (same_parent Q F facts a ∙ eo) ∙ w.1,
+            w.2,
+          )
 
       go : (y : Option ℕ) → java.own_body P a x ≡ y → (o : Option ClassId) → java.parent_of P a ≡ o
           → ((p : ClassId) → nearest P (λ k. java.own_body P k x) n p.0 ≡ Some m → (c : ℕ) × (finds_within F n p.0 x ≡ Some c)
           × (def_number m ≡ Some c))
           → first_or y (option_and_then (λ p. nearest P (λ k. java.own_body P k x) n p.0) o) ≡ Some m
-              → (c : ℕ) × (finds_within F (suc n) a x ≡ Some c) × (def_number m ≡ Some c)
+          → (c : ℕ) × (finds_within F (suc n) a x ≡ Some c) × (def_number m ≡ Some c)
       go None ey o eo r h = up o eo (own_none a x ey) r h
       go (Some y) ey o eo r h =
           let w = own_found a x m (ey ∙ h) in
@@ -228,12 +247,12 @@ module _ (Q : Plain) (F : Facts) (formed : IsFormed (untagged Q)) (facts : IsFac
       let this = this_point_of Q formed m k ek b i.instance in
       let at = def_at m f.0 f.2 in
       let col = map_some (λ (c : Column). c.item) (slice_get (columns_of P Q) f.0) (column.Def m)
-          (sym (get_map (λ (c : Column). c.item) (columns_of P Q) f.0) ∙ at.0) in
+      (sym (get_map (λ (c : Column). c.item) (columns_of P Q) f.0) ∙ at.0) in
       let x : PlainBody = record { column = f.0; this = this.0; params = param_points (numbers P Q) Q m k; result = point_number P Q (point.Result m) } in
       let listed = each_has (λ c k. column_body (numbers P Q) Q c k.item) 0 (columns_of P Q) f.0 col.0 x col.1 f.0 (omega arith)
       (subst (λ z. Contains (column_body (numbers P Q) Q f.0 z) x) (sym col.2)
-          (subst (λ z. Contains (option_map_or (λ k. body_if (numbers P Q) Q f.0 m k (point_number P Q (point.This m))) z []) x) (sym ek)
-          (subst (λ z. Contains (body_if (numbers P Q) Q f.0 m k z) x) (sym this.1) (one x)))) in
+      (subst (λ z. Contains (option_map_or (λ k. body_if (numbers P Q) Q f.0 m k (point_number P Q (point.This m))) z []) x) (sym ek)
+      (subst (λ z. Contains (body_if (numbers P Q) Q f.0 m k z) x) (sym this.1) (one x)))) in
       let found = map_from body_seen F.bodies.items x (subst (λ z. Contains z x) (sym facts.bodies) listed) in
       record {
         body = found.0;
@@ -244,11 +263,11 @@ module _ (Q : Plain) (F : Facts) (formed : IsFormed (untagged Q)) (facts : IsFac
           this = this.1 ∙ ap (λ z. Some z) (sym (ap (λ z. z.this) found.2));
           params = λ i l.
               let v = slice_get-get_or k.params i
-                  (record { name = []; ty = record { base = Int; dim = 0 }; tag = record { label = 0; place = record { at = 0; line = 0 } } }) l in
+              (record { name = []; ty = record { base = Int; dim = 0 }; tag = record { label = 0; place = record { at = 0; line = 0 } } }) l in
               ap (λ z. listed_at z i) (ap (λ z. z.params) found.2) ∙ get_or_from_slice_get (param_points (numbers P Q) Q m k) i
-                  (point_number P Q (point.Local m i)) None
+              (point_number P Q (point.Local m i)) None
               (each_get (λ i v. point_number P Q (point.Local m i) ∷ []) (λ i v. point_number P Q (point.Local m i)) (λ i v. refl) 0 k.params i _ v
-                  i (omega arith));
+              i (omega arith));
           result = sym (ap (λ z. z.result) found.2);
         };
       }

@@ -62,9 +62,9 @@ module _ (P Q : Plain) (F : Facts) (S : Sets) where
     call_given p c x d =
         map_from call_seen F.calls.items x.item (subst (λ z. Contains z x.item) (sym facts.calls)
         (map_has (λ c. c.item) (by_place (λ c. c.place.at) (gathered P Q (λ b. calls_of (numbers P Q)))) x
-            (place_has (λ c. c.place.at) (gathered P Q (λ b. calls_of (numbers P Q))) x
+        (place_has (λ c. c.place.at) (gathered P Q (λ b. calls_of (numbers P Q))) x
         (flat_has (λ b. flat_map (calls_of (numbers P Q)) b.parts) (bodies_of P Q) (body_of P m k) x (body_there P Q m k stands)
-            (flat_has (calls_of (numbers P Q)) (parts_of P m k) p x c d)))))
+        (flat_has (calls_of (numbers P Q)) (parts_of P m k) p x c d)))))
 
     pub record CallGoes (c : ℕ) (es : List Operand) (o : Operand) (s : ℕ) : Type 0 where
       pub self : at_point P Q F S ((numbers P Q).point (point.This c)) s ≡ true
@@ -75,23 +75,42 @@ module _ (P Q : Plain) (F : Facts) (S : Sets) where
     pub call_goes : (p : Place) (b : Operand) (j : ℕ) (d : Option ℕ) (es : List Operand) (o : Operand)
         → Contains (parts_of P m k) (a_call p b (Some j) d es o) → IsUsed P Q F S b → o.created ≡ None → (s : ℕ) → value_sites P Q F S b s ≡ true
         → (c : ℕ) (h : PlainMethod) → slice_get Q.methods c ≡ Some h → FindsBody P Q F (site_class F s) j c h → IsKindedCall P Q F h es o
-            → ((i : ℕ) (t : ObjectType) → variable_object h i ≡ Some t → (q : ℕ) × ((numbers P Q).point (point.Local c i) ≡ Some q))
-            → CallGoes c es o s
+        → ((i : ℕ) (t : ObjectType) → variable_object h i ≡ Some t → (q : ℕ) × ((numbers P Q).point (point.Local c i) ≡ Some q))
+        → CallGoes c es o s
     call_goes p b j d es o there ub plain s v c h eh body kc vars =
         let base = (used_at P Q F S b s ub v).1 in
-        let x : Placed PlainCall = record { place = p; item = record { receiver = base.number; slot = j; args = map (point_at (numbers P Q)) es;
-            result = point_at (numbers P Q) o } } in
+        let x : Placed PlainCall = record {
+          place = p;
+          item = record {
+            receiver = base.number;
+            slot = j;
+            args = map (point_at (numbers P Q)) es;
+            result = point_at (numbers P Q) o;
+          };
+        } in
         let call = call_given (a_call p b (Some j) d es o) there x
         (subst (λ z. Contains (option_map_or
-            (λ r. record { place = p; item = record { receiver = r; slot = j; args = map (point_at (numbers P Q)) es; result = point_at (numbers P Q)
-            o } } ∷ []) z []) x) (sym base.there) (one x)) in
+        (λ r. record {
+          place = p;
+          item = record {
+            receiver = r;
+            slot = j;
+            args = map (point_at (numbers P Q)) es;
+            result = point_at (numbers P Q)
+                o;
+          };
+        } ∷ []) z []) x) (sym base.there) (one x)) in
         go call.0 call.1 base.number base.holds (ap (λ z. z.receiver) call.2) (ap (λ z. z.slot) call.2) (ap (λ z. z.args) call.2) (ap (λ z. z.result) call.2)
       where
         go : (call : CallInfo) → Contains F.calls.items call → (r : ℕ) → S.point r s ≡ true → call.receiver ≡ r → call.slot ≡ j
             → call.args.items ≡ map (point_at (numbers P Q)) es → call.result ≡ point_at (numbers P Q) o → CallGoes c es o s
         go call listed r base er ej ea eo =
-            let runs : Runs F call s body.body = record { called = listed; listed = body.is_body.listed; found = ap (λ z. finds F (site_class F s) z)
-                ej ∙ body.found } in
+            let runs : Runs F call s body.body = record {
+              called = listed;
+              listed = body.is_body.listed;
+              found = ap (λ z. finds F (site_class F s) z)
+                  ej ∙ body.found;
+            } in
             let received : S.point call.receiver s ≡ true = subst (λ z. S.point z s ≡ true) (sym er) base in
             record {
               self = is_at P Q F S ((numbers P Q).point (point.This c)) body.body.this s body.is_body.this
@@ -101,10 +120,10 @@ module _ (P Q : Plain) (F : Facts) (S : Sets) where
                   let u = kc.args i a w.0.0 ei w.0.1 in
                   let q = vars i u.0 u.1 in
                   when_is (local_object c i) u.0 (at_point P Q F S ((numbers P Q).point (point.Local c i))) t (local_is c h i eh
-                      ∙ u.1) (is_at P Q F S ((numbers P Q).point (point.Local c i)) q.0 t q.1
+                  ∙ u.1) (is_at P Q F S ((numbers P Q).point (point.Local c i)) q.0 t q.1
                   (closed (in_point call.receiver s ∷ in_point w.1.number t ∷ []) (in_point q.0 t) (by_argument call s body.body i w.1.number q.0 t runs
                   (ap (λ z. listed_at z i) ea ∙ listed_map (point_at (numbers P Q)) es i a ei ∙ w.1.there) (body.is_body.params i u.2 ∙ q.1))
-                      (received, (w.1.holds, tt))));
+                  (received, (w.1.holds, tt))));
               result = λ t rt.
                   let w = when_some (result_object c) (at_point P Q F S ((numbers P Q).point (point.Result c))) t rt in
                   let from = at_is P Q F S ((numbers P Q).point (point.Result c)) t w.1 in
@@ -122,17 +141,17 @@ module _ (P Q : Plain) (F : Facts) (S : Sets) where
     one_body : (p : Part) → Contains (parts_of P m k) p → (c : ℕ) (es : List Operand) (o : Operand) → o.created ≡ None
         → ((x : NewInfo) → Contains (created_args (numbers P Q) c es) x → Contains (news_of (numbers P Q) m p) x)
         → ((x : FlowInfo) → Contains (moved_args (numbers P Q) c es) x → Contains (flows_of (numbers P Q) m p) x)
-            → ((x : FlowInfo) → Contains (moved ((numbers P Q).point (point.Result c)) (point_at (numbers P Q) o)) x
-            → Contains (flows_of (numbers P Q) m p) x)
+        → ((x : FlowInfo) → Contains (moved ((numbers P Q).point (point.Result c)) (point_at (numbers P Q) o)) x
+        → Contains (flows_of (numbers P Q) m p) x)
         → (h : PlainMethod) → slice_get Q.methods c ≡ Some h → IsKindedCall P Q F h es o → ((i : ℕ) (t : ObjectType) → variable_object h i ≡ Some t
-            → (q : ℕ) × ((numbers P Q).point (point.Local c i) ≡ Some q)) → StaticGoes c es o
+        → (q : ℕ) × ((numbers P Q).point (point.Local c i) ≡ Some q)) → StaticGoes c es o
     one_body p there c es o plain hn hf hr h eh kc vars = record {
       args = λ i a ei ua t va.
           let w = value_typed P Q F S a t ua va in
           let u = kc.args i a w.0 ei w.1 in
           let q = vars i u.0 u.1 in
           when_is (local_object c i) u.0 (at_point P Q F S ((numbers P Q).point (point.Local c i))) t (local_is c h i eh
-              ∙ u.1) (is_at P Q F S ((numbers P Q).point (point.Local c i)) q.0 t q.1
+          ∙ u.1) (is_at P Q F S ((numbers P Q).point (point.Local c i)) q.0 t q.1
           (operand_goes P Q F S closed facts m k stands p there a ((numbers P Q).point (point.Local c i)) q.0 t
           (λ x d. hn x (each_has (λ i o. created (numbers P Q) o ((numbers P Q).point (point.Local c i))) 0 es i a x ei i (omega arith) d))
           (λ x d. hf x (each_has (λ i o. moved (point_at (numbers P Q) o) ((numbers P Q).point (point.Local c i))) 0 es i a x ei i (omega arith) d)) q.1 va));
@@ -141,7 +160,7 @@ module _ (P Q : Plain) (F : Facts) (S : Sets) where
           let from = at_is P Q F S ((numbers P Q).point (point.Result c)) t w.1 in
           let q = kc.result w.0.0 (sym (result_is c h eh) ∙ w.0.1) in
           point_sites_of P Q F S o t plain q (flow_goes P Q F S closed facts m k stands p there ((numbers P Q).point (point.Result c))
-              (point_at (numbers P Q) o) from.number q.number t hr from.there q.point from.holds);
+          (point_at (numbers P Q) o) from.number q.number t hr from.there q.point from.holds);
     }
 
     pub static_goes : (p : Place) (c : ℕ) (es : List Operand) (o : Operand) → Contains (parts_of P m k) (a_static_call p c es o) → o.created ≡ None
@@ -150,18 +169,18 @@ module _ (P Q : Plain) (F : Facts) (S : Sets) where
     static_goes p c es o there plain h eh kc vars = one_body (a_static_call p c es o) there c es o plain (λ x d. d)
         (λ x d. Contains-append_left (moved_args (numbers P Q) c es) (moved ((numbers P Q).point (point.Result c)) (point_at (numbers P Q) o)) x d)
         (λ x d. Contains-append_right (moved_args (numbers P Q) c es) (moved ((numbers P Q).point (point.Result c)) (point_at (numbers P Q) o)) x d) h
-            eh kc vars
+        eh kc vars
 
     pub super_goes : (p : Place) (c : ℕ) (es : List Operand) (o : Operand) → Contains (parts_of P m k) (a_super_call p (Some c) es o)
         → o.created ≡ None → (h : PlainMethod) → slice_get Q.methods c ≡ Some h → IsKindedCall P Q F h es o
         → ((i : ℕ) (t : ObjectType) → variable_object h i ≡ Some t → (q : ℕ) × ((numbers P Q).point (point.Local c i) ≡ Some q)) → StaticGoes c es o
     super_goes p c es o there plain h eh kc vars = one_body (a_super_call p (Some c) es o) there c es o plain (λ x d. d)
         (λ x d. Contains-append_left (moved_args (numbers P Q) c es ++ moved ((numbers P Q).point (point.Result c)) (point_at (numbers P Q) o))
-            (moved ((numbers P Q).point (point.This m)) ((numbers P Q).point (point.This c))) x (Contains-append_left (moved_args (numbers P Q) c es)
-            (moved ((numbers P Q).point (point.Result c)) (point_at (numbers P Q) o)) x d))
+        (moved ((numbers P Q).point (point.This m)) ((numbers P Q).point (point.This c))) x (Contains-append_left (moved_args (numbers P Q) c es)
+        (moved ((numbers P Q).point (point.Result c)) (point_at (numbers P Q) o)) x d))
         (λ x d. Contains-append_left (moved_args (numbers P Q) c es ++ moved ((numbers P Q).point (point.Result c)) (point_at (numbers P Q) o))
-            (moved ((numbers P Q).point (point.This m)) ((numbers P Q).point (point.This c))) x (Contains-append_right (moved_args (numbers P Q) c es)
-            (moved ((numbers P Q).point (point.Result c)) (point_at (numbers P Q) o)) x d)) h eh kc vars
+        (moved ((numbers P Q).point (point.This m)) ((numbers P Q).point (point.This c))) x (Contains-append_right (moved_args (numbers P Q) c es)
+        (moved ((numbers P Q).point (point.Result c)) (point_at (numbers P Q) o)) x d)) h eh kc vars
 
     pub super_self : (p : Place) (c : ℕ) (es : List Operand) (o : Operand) → Contains (parts_of P m k) (a_super_call p (Some c) es o) → (q : ℕ)
         → (numbers P Q).point (point.This c) ≡ Some q → (s : ℕ) → at_point P Q F S ((numbers P Q).point (point.This m)) s ≡ true
@@ -169,6 +188,6 @@ module _ (P Q : Plain) (F : Facts) (S : Sets) where
     super_self p c es o there q e s h =
         let a = at_is P Q F S ((numbers P Q).point (point.This m)) s h in
         is_at P Q F S ((numbers P Q).point (point.This c)) q s e (flow_goes P Q F S closed facts m k stands (a_super_call p (Some c) es o) there
-            ((numbers P Q).point (point.This m)) ((numbers P Q).point (point.This c)) a.number q s
+        ((numbers P Q).point (point.This m)) ((numbers P Q).point (point.This c)) a.number q s
         (λ x d. Contains-append_right (moved_args (numbers P Q) c es ++ moved ((numbers P Q).point (point.Result c)) (point_at (numbers P Q) o))
-            (moved ((numbers P Q).point (point.This m)) ((numbers P Q).point (point.This c))) x d) a.there e a.holds)
+        (moved ((numbers P Q).point (point.This m)) ((numbers P Q).point (point.This c))) x d) a.there e a.holds)

@@ -87,7 +87,7 @@ module _ (P : Plain) where
   own_in n c f h r =
       let o = own_from c 0 P.fields f h in
       let there : slice_get P.fields f ≡ Some o.2.field = subst (λ z. slice_get P.fields z ≡ Some o.2.field)
-          (let z : o.0 ≡ f = omega (arith, o.1) in z) o.2.there in
+      (let z : o.0 ≡ f = omega (arith, o.1) in z) o.2.there in
       record { field = o.2.field; there = there; instance = o.2.instance; above = r o.2.field o.2.owner }
 
   laid : (n c f : ℕ) → Contains (layout_in P n c) f → IsIn n c f
@@ -102,9 +102,14 @@ module _ (P : Plain) where
       up None e d r = absurd (omega (arith, d.1))
       up (Some p) e d r =
           let w = r p d in
-          record { field = w.field; there = w.there; instance = w.instance; above = or_right (c == w.field.owner)
-              (list_any (λ c. reaches P n c.0 w.field.owner) (supers_of P c)) (any_first (λ c. reaches P n c.0 w.field.owner) (parent_of P c) p
-              (faces_of P c) e w.above) }
+          record {
+            field = w.field;
+            there = w.there;
+            instance = w.instance;
+            above = or_right (c == w.field.owner)
+                (list_any (λ c. reaches P n c.0 w.field.owner) (supers_of P c)) (any_first (λ c. reaches P n c.0 w.field.owner) (parent_of P c) p
+                (faces_of P c) e w.above);
+          }
 
   indexed : (c f i : ℕ) → index_of P c f ≡ Some i → IsIn (length P.classes) c f
   unfolding layout
@@ -129,9 +134,9 @@ module _ (Q : Plain) (F : Facts) (formed : IsFormed (untagged Q)) (facts : IsFac
       let p = position-Some (nat_eq n) (map (λ (s : Site). s.number) (sites_of P Q)) s 0 e in
       let at = slice_get-get_or (map (λ (s : Site). s.number) (sites_of P Q)) s 0 p.0 in
       let x = map_some (λ (s : Site). s.number) (slice_get (sites_of P Q) s) (get_or (map (λ (s : Site). s.number) (sites_of P Q)) s 0)
-          (sym (get_map (λ (s : Site). s.number) (sites_of P Q) s) ∙ at) in
+      (sym (get_map (λ (s : Site). s.number) (sites_of P Q) s) ∙ at) in
       let listed : slice_get F.sites.items s ≡ Some (site_info x.0) = ap (λ z. slice_get z s) facts.sites ∙ get_map (site_info) (sites_of P Q) s
-          ∙ ap (λ z. option_map (site_info) z) x.1 in
+      ∙ ap (λ z. option_map (site_info) z) x.1 in
       let same = get_or_from_slice_get F.sites.items s (site_info x.0) (record { row = record { 0 = 0 }; class = record { 0 = 0 }; dim = 0 }) listed in
       record { site = x.0; there = x.1; number = x.2 ∙ sym (eqb-true n _ p.1); type = ap (λ (z : SiteInfo). record { class = z.class; dim = z.dim }) same }
 
@@ -153,22 +158,22 @@ module _ (Q : Plain) (F : Facts) (formed : IsFormed (untagged Q)) (facts : IsFac
       let at = position-Some (same_column (column.Fld f)) (map (λ (c : Column). c.item) (columns_of P Q)) col.0 (column.Fld f) col.1 in
       let item = map_some (λ (c : Column). c.item) (slice_get (columns_of P Q) col.0) (column.Fld f)
       (sym (get_map (λ (c : Column). c.item) (columns_of P Q) col.0) ∙ slice_get-get_or (map (λ (c : Column). c.item) (columns_of P Q)) col.0
-          (column.Fld f) at.0 ∙ ap (λ z. Some z) (sym (column_exact (column.Fld f) _ at.1))) in
+      (column.Fld f) at.0 ∙ ap (λ z. Some z) (sym (column_exact (column.Fld f) _ at.1))) in
       let ty : x.site.ty ≡ record { class = record { 0 = c }; dim = 0 } = sym x.type ∙ et in
       let y : CellInfo = record { site = record { 0 = s }; column = Some (record { 0 = col.0 }); row = record { 0 = r.0 } } in
       let owner : owner_of Q (column.Fld f) ≡ l.field.owner = ap (λ z. option_map_or (λ (k : PlainField). k.owner) z 0) k.1 ∙ ap (λ z. z.owner) k.2 in
       let place : FieldCell = record { column = col.0; row = r.0; owner = owner_of Q (column.Fld f) } in
       let in_item : Contains (field_at (numbers P Q) Q col.0 (column.Fld f)) place = subst
-          (λ z. Contains (field_if (numbers P Q) Q col.0 (owner_of Q (column.Fld f)) z) place) (sym r.1) (one place) in
+      (λ z. Contains (field_if (numbers P Q) Q col.0 (owner_of Q (column.Fld f)) z) place) (sym r.1) (one place) in
       let in_fields : Contains (fields_of (numbers P Q) Q (columns_of P Q)) place = each_has (λ c k. field_at (numbers P Q) Q c k.item) 0
-          (columns_of P Q) col.0 item.0 place item.1 col.0 (omega arith) (subst (λ z. Contains (field_at (numbers P Q) Q col.0 z) place)
-          (sym item.2) in_item) in
+      (columns_of P Q) col.0 item.0 place item.1 col.0 (omega arith) (subst (λ z. Contains (field_at (numbers P Q) Q col.0 z) place)
+      (sym item.2) in_item) in
       let in_object : Contains (flat_map (cell_for P s c) (fields_of (numbers P Q) Q (columns_of P Q))) y = flat_has (cell_for P s c)
-          (fields_of (numbers P Q) Q (columns_of P Q)) place y in_fields
+      (fields_of (numbers P Q) Q (columns_of P Q)) place y in_fields
       (when_has (below P c (owner_of Q (column.Fld f))) _ y (ap (λ z. below P c z) owner ∙ l.above) (one y)) in
       let in_site : Contains (site_cells P (fields_of (numbers P Q) Q (columns_of P Q)) s x.site) y = subst
-          (λ z. Contains (if z.dim == 0 then flat_map (cell_for P s z.class.0) (fields_of (numbers P Q) Q (columns_of P Q)) else array_cell s
-          x.site.row) y) (sym ty) in_object in
+      (λ z. Contains (if z.dim == 0 then flat_map (cell_for P s z.class.0) (fields_of (numbers P Q) Q (columns_of P Q)) else array_cell s
+      x.site.row) y) (sym ty) in_object in
       let q = cell_there s x.site (Some col.0) y x.there in_site (both (s == s) (col.0 == col.0) (eq-eqb s s refl) (eq-eqb col.0 col.0 refl)) in
       (q.0, ap (λ z. option_and_then (λ c. cell_number P Q F s (Some c)) z) col.1 ∙ q.1)
     where
@@ -183,7 +188,7 @@ module _ (Q : Plain) (F : Facts) (formed : IsFormed (untagged Q)) (facts : IsFac
       let dim : x.site.ty.dim ≡ d = ap (λ z. z.dim) (sym x.type ∙ et) in
       let y : CellInfo = record { site = record { 0 = s }; column = None; row = record { 0 = x.site.row } } in
       cell_there s x.site None y x.there (array _ _ (x.site.ty.dim == 0) refl (λ h. nd (sym dim ∙ eqb-true x.site.ty.dim 0 h)) y (one y))
-          (both (s == s) true (eq-eqb s s refl) refl)
+      (both (s == s) true (eq-eqb s s refl) refl)
     where
       both : (x y : Bool) → x ≡ true → y ≡ true → (x && y) ≡ true
       both x y e d = rw e d

@@ -31,7 +31,7 @@ module _ (L : Lang) (Made : Option ℕ → Kind → Type 0) (V : Family) (inc : 
       → ((m : List Met) → Fine (go (record s { met = m }))) → Fine (look_all L b vs s go)
   look_all_fine b vs s go o h =
       subst (λ z. Fine (on_bool z (record s { met = L.note_all b vs s.cells s.met }) go (stop Escaped)))
-          (sym (hooks.sees_all b vs s.cells (λ x v e. args_get s.cells vs (λ x. V.spot (bound b x)) o x v e))) (h _)
+      (sym (hooks.sees_all b vs s.cells (λ x v e. args_get s.cells vs (λ x. V.spot (bound b x)) o x v e))) (h _)
 
   -- the values of an object or array are in the sets of its fields or elements
   abbrev ValuesIn : List Cell → Option ℕ → Kind → List Value → Type 0
@@ -118,7 +118,7 @@ module _ (L : Lang) (Made : Option ℕ → Kind → Type 0) (V : Family) (inc : 
       some_fine (L.field_type x) s _ (λ t et. some_fine (slice_get s.statics x) s _ (λ old eo.
       let c = of_convert s.cells t v (V.spot (set_static x)) o in
       look_fine (set_static x) (convert t v) s _ c (λ m. h (record s { met = m; statics = slice_set s.statics x (convert t v) })
-          (here s.cells (slice_set s.statics x (convert t v)) (good_static s.cells s.statics x (convert t v) ok c)))))
+      (here s.cells (slice_set s.statics x (convert t v)) (good_static s.cells s.statics x (convert t v) ok c)))))
 
   -- a field of an object
   read_field_fine : (g : Env) (e d : Ex) (x : Option ℕ) → Reads L Made V g e d x → (a : ℕ) (c : Cell) (s : State) (k : ToValue)
@@ -141,14 +141,14 @@ module _ (L : Lang) (Made : Option ℕ → Kind → Type 0) (V : Family) (inc : 
   unfolding Writes
   write_field_fine g e d x wr v a c s k ok at mem iv h =
       some_fine (own_class c.kind) s _
-          (λ t et. some_fine x s _ (λ j ej. some_fine (L.field_type j) s _
-          (λ u eu. some_fine (L.index t j) s _ (λ i ei. some_fine (slice_get c.values i) s _ (λ old eo.
+      (λ t et. some_fine x s _ (λ j ej. some_fine (L.field_type j) s _
+      (λ u eu. some_fine (L.index t j) s _ (λ i ei. some_fine (slice_get c.values i) s _ (λ old eo.
       let kind = own_object c.kind t et in
       let r = wr j ej c.site t i (subst (λ z. Made c.site z) kind (ok.cells a c at).made) ei mem in
       let all : ValuesIn s.cells c.site (an_object t) c.values = subst (λ z. ValuesIn s.cells c.site z c.values) kind (ok.cells a c at).values in
       let w = convert u v in
       let iw : Of s.cells w (V.spot (kept c.site j)) = of_convert s.cells u v (V.spot (kept c.site j))
-          (of_sub s.cells v (V.value g.body d) (V.spot (kept c.site j)) r.gives iv) in
+      (of_sub s.cells v (V.value g.body d) (V.spot (kept c.site j)) r.gives iv) in
       let new : CellIn s.cells (record c { values = slice_set c.values i w }) = record {
         made = (ok.cells a c at).made;
         values = subst (λ z. ValuesIn s.cells c.site z (slice_set c.values i w)) (sym kind) (object_set s.cells c.site t c.values i j w all ei iw);
@@ -185,7 +185,7 @@ module _ (L : Lang) (Made : Option ℕ → Kind → Type 0) (V : Family) (inc : 
   fitting_fine (Object b) X Y t s go ok iu f h =
       some_fine (slice_get s.cells b) s _ (λ d ed. bool_fine (L.is_sub (own_type d.kind) t) s go _
       (λ z. h (record { cell = d; there = ed; member = f d.site d.kind (ok.cells b d ed).made z (member_of s.cells b d X iu ed) }))
-          (fine_stop (Faulted fault.ArrayStore) s tt))
+      (fine_stop (Faulted fault.ArrayStore) s tt))
   fitting_fine (Number n) X Y t s go ok iu f h = h tt
   fitting_fine (Truth n) X Y t s go ok iu f h = h tt
   fitting_fine (CodeUnit n) X Y t s go ok iu f h = h tt
@@ -219,7 +219,7 @@ module _ (L : Lang) (Made : Option ℕ → Kind → Type 0) (V : Family) (inc : 
       let new : CellIn s.cells c = record { made = mk.made; values = values_plain s.cells (Some n) t vs free } in
       look_fine (held g.body d) (Object (length s.cells)) (add_cell c s) _ (record { cell = c; there = get_last s.cells c; member = mk.looks }) (λ m.
       h (Object (length s.cells)) (record s { cells = s.cells ++ c ∷ []; met = m }) (good_add s.cells s.statics c ok new)
-          (record { cell = c; there = get_last s.cells c; member = mk.holds }))
+      (record { cell = c; there = get_last s.cells c; member = mk.holds }))
 
   make_object_fine : (g : Env) (d : Ex) (n c : ℕ) (vs : List Value) → Makes L Made V g d n (an_object c) → (s : State) (k : ToValue)
       → Good s.cells s.statics → KV s.cells (V.value g.body d) k → Fine (make_object L g d n c vs s k)
@@ -231,7 +231,7 @@ module _ (L : Lang) (Made : Option ℕ → Kind → Type 0) (V : Family) (inc : 
   make_array_fine g d n t size mk s k ok h =
       some_fine (element_in t.base t.dim) s _ (λ u eu. fault_fine fault.NegativeSize (natural_of size) s _ (λ many em. step_fine s _ (λ m.
       make_fine g d n (an_array t) (defaults u many) mk (replicate_plain many (default_of u) (λ a e. default_plain u.base u.dim a e))
-          (record s { left = m }) k ok h)))
+      (record s { left = m }) k ok h)))
 
   -- a cast and an instanceof
   cast_object_fine : (g : Env) (d e : Ex) (t : Ty) → Tests L Made V g d e t → Casts L Made V g d e t → (v : Value) (s : State) (k : ToValue)
@@ -249,7 +249,7 @@ module _ (L : Lang) (Made : Option ℕ → Kind → Type 0) (V : Family) (inc : 
       look_fine (tested g.body d (L.is_sub (own_type c.kind) t)) (Object a) s _ (record { cell = c; there = ec; member = ts c.site c.kind made mem }) (λ m1.
       bool_fine (L.is_sub (own_type c.kind) t) (record s { met = m1 }) _ _
       (λ z. let p = cs c.site c.kind made mem z in look_fine (held g.body d) (Object a) (record s { met = m1 }) _
-          (record { cell = c; there = ec; member = p.0 }) (λ m2.
+      (record { cell = c; there = ec; member = p.0 }) (λ m2.
       h (Object a) (record s { met = m2 }) (here s.cells s.statics ok) (record { cell = c; there = ec; member = p.1 })))
       (fine_stop (Faulted fault.ClassCast) (record s { met = m1 }) tt)))
 
@@ -261,7 +261,7 @@ module _ (L : Lang) (Made : Option ℕ → Kind → Type 0) (V : Family) (inc : 
       → Good s.cells s.statics → Of s.cells v (V.value g.body e) → KV s.cells (V.value g.body d) k → Fine (cast_to L g.body d t v s k)
   cast_fine g d e t ts cs v s k ok iv h =
       bool_fine (is_number_type t.base t.dim) s _ _ (λ z. some_fine (number_of v) s _ (λ n en. h (cast_number t.base n) s (here s.cells s.statics ok)
-          (cast_number_plain t.base n s.cells (V.value g.body d)))) (cast_object_fine g d e t ts cs v s k ok iv h)
+      (cast_number_plain t.base n s.cells (V.value g.body d)))) (cast_object_fine g d e t ts cs v s k ok iv h)
 
   test_class_fine : (g : Env) (d e : Ex) (t : ℕ) → Tests L Made V g d e (class_type t) → (v : Value) (s : State) (k : ToValue)
       → Good s.cells s.statics → Of s.cells v (V.value g.body e) → KV s.cells (V.value g.body d) k → Fine (test_class L g.body d t v s k)
@@ -274,7 +274,7 @@ module _ (L : Lang) (Made : Option ℕ → Kind → Type 0) (V : Family) (inc : 
   test_class_fine g d e t ts (Object a) s k ok iv h =
       some_fine (slice_get s.cells a) s _ (λ c ec.
       look_fine (tested g.body d (L.is_sub (own_type c.kind) (class_type t))) (Object a) s _
-          (record { cell = c; there = ec; member = ts c.site c.kind (ok.cells a c ec).made (member_of s.cells a c (V.value g.body e) iv ec) }) (λ m.
+      (record { cell = c; there = ec; member = ts c.site c.kind (ok.cells a c ec).made (member_of s.cells a c (V.value g.body e) iv ec) }) (λ m.
       h _ (record s { met = m }) (here s.cells s.statics ok) tt))
 
   -- a body that runs
@@ -283,8 +283,11 @@ module _ (L : Lang) (Made : Option ℕ → Kind → Type 0) (V : Family) (inc : 
     locals : (x : ℕ) (v : Value) → slice_get f.locals x ≡ Some v → Of h v (V.spot (bound f.env.body x))
 
   frame_kept : (h k : List Cell) (f : Frame) → Keeps h k → FrameIn h f → FrameIn k f
-  frame_kept h k f q p = record { self = of_kept h k f.self (V.spot (self_of f.env.body)) q p.self; locals = λ x v e. of_kept h k v
-      (V.spot (bound f.env.body x)) q (p.locals x v e) }
+  frame_kept h k f q p = record {
+    self = of_kept h k f.self (V.spot (self_of f.env.body)) q p.self;
+    locals = λ x v e. of_kept h k v
+        (V.spot (bound f.env.body x)) q (p.locals x v e);
+  }
 
   frame_set : (h : List Cell) (f : Frame) (x : ℕ) (u : Value) → FrameIn h f → Of h u (V.spot (bound f.env.body x)) → FrameIn h (set_local f x u)
   frame_set h f x u p q = record {
@@ -329,7 +332,7 @@ module _ (L : Lang) (Made : Option ℕ → Kind → Type 0) (V : Family) (inc : 
       some_fine (slice_get f.env.locals x) s _ (λ t et. some_fine (slice_get f.locals x) s _ (λ old eo.
       let c = of_convert s.cells t v (V.spot (bound f.env.body x)) o in
       look_fine (bound f.env.body x) (convert t v) s _ c (λ m. h Next (set_local f x (convert t v)) (record s { met = m }) (here s.cells s.statics ok)
-          refl (frame_set s.cells f x (convert t v) fo c) tt)))
+      refl (frame_set s.cells f x (convert t v) fo c) tt)))
 
   -- what makes no object
   string_fine : (u : List ℕ) (s : State) (X : Set) (k : ToValue) → Good s.cells s.statics → KV s.cells X k → Fine (give_string u s k)
@@ -432,15 +435,15 @@ module _ (L : Lang) (Made : Option ℕ → Kind → Type 0) (V : Family) (inc : 
       unfolding Calls
       call_object_fine g e d x es cl a c vs s k ok at mem ivs h =
           some_fine (own_class c.kind) s _ (λ t et. step_fine s _ (λ n. let s1 = record s { left = n } in some_fine (L.slot g e x) s1 _
-              (λ j ej. some_fine (L.body t j) s1 _ (λ b eb.
+          (λ j ej. some_fine (L.body t j) s1 _ (λ b eb.
           let r = cl c.site t j b (subst (λ z. Made c.site z) (own_object c.kind t et) (ok.cells a c at).made) ej eb mem in
           look_fine (ran g.body d b.env.body) (Object a) s1 _ (record { cell = c; there = at; member = r.receiver }) (λ m1.
           let s2 = record s1 { met = m1 } in
           look_fine (self_of b.env.body) (Object a) s2 _ (record { cell = c; there = at; member = r.self }) (λ m2.
           enter_fine b (Object a) vs (record s2 { met = m2 }) (λ u s4. look L (held g.body d) u s4 (λ s5. k u s5)) (inc.bodies t j b eb) ok
-              (record { cell = c; there = at; member = r.self }) (ins_args s.cells g vs es _ ivs r.enters.args) (λ u s4 r4 o4.
+          (record { cell = c; there = at; member = r.self }) (ins_args s.cells g vs es _ ivs r.enters.args) (λ u s4 r4 o4.
           look_fine (held g.body d) u s4 (λ s5. k u s5) (of_sub s4.cells u (V.spot (result_of b.env.body)) (V.spot (held g.body d))
-              r.enters.result.looks o4) (λ m3.
+          r.enters.result.looks o4) (λ m3.
           h u (record s4 { met = m3 }) r4 (of_sub s4.cells u (V.spot (result_of b.env.body)) (V.value g.body d) r.enters.result.holds o4)))))))))
 
       call_fine : (g : Env) (e d : Ex) (x : List ℕ) (es : Exs) → Calls L Made V g d e x es → (v : Value) (vs : List Value) (s : State) (k : ToValue)
@@ -464,7 +467,7 @@ module _ (L : Lang) (Made : Option ℕ → Kind → Type 0) (V : Family) (inc : 
           step_fine s _ (λ l. let s1 = record s { left = l } in some_fine (L.static_body n) s1 _ (λ b eb.
           let r = cl b eb in
           enter_fine b Nothing vs s1 (λ u s4. look L (held g.body d) u s4 (λ s5. k u s5)) (inc.static_bodies n b eb) ok tt
-              (ins_args s.cells g vs es _ ivs r.args) (λ u s4 r4 o4.
+          (ins_args s.cells g vs es _ ivs r.args) (λ u s4 r4 o4.
           look_fine (held g.body d) u s4 (λ s5. k u s5) (of_sub s4.cells u (V.spot (result_of b.env.body)) (V.spot (held g.body d)) r.result.looks o4) (λ m3.
           h u (record s4 { met = m3 }) r4 (of_sub s4.cells u (V.spot (result_of b.env.body)) (V.value g.body d) r.result.holds o4)))))
 
@@ -479,9 +482,9 @@ module _ (L : Lang) (Made : Option ℕ → Kind → Type 0) (V : Family) (inc : 
           let self = of_sub s.cells v (V.spot (self_of g.body)) (V.spot (self_of b.env.body)) r.self iv in
           look_fine (self_of b.env.body) v s1 _ self (λ m1.
           enter_fine b v vs (record s1 { met = m1 }) (λ u s4. look L (held g.body d) u s4 (λ s5. k u s5)) (inc.super_bodies g.self x b eb) ok self
-              (ins_args s.cells g vs es _ ivs r.enters.args) (λ u s4 r4 o4.
+          (ins_args s.cells g vs es _ ivs r.enters.args) (λ u s4 r4 o4.
           look_fine (held g.body d) u s4 (λ s5. k u s5) (of_sub s4.cells u (V.spot (result_of b.env.body)) (V.spot (held g.body d))
-              r.enters.result.looks o4) (λ m3.
+          r.enters.result.looks o4) (λ m3.
           h u (record s4 { met = m3 }) r4 (of_sub s4.cells u (V.spot (result_of b.env.body)) (V.value g.body d) r.enters.result.holds o4))))))
 
       kv_on : (h l : List Cell) (X : Set) (k : ToValue) → Keeps h l → KV h X k → KV l X k
@@ -499,20 +502,20 @@ module _ (L : Lang) (Made : Option ℕ → Kind → Type 0) (V : Family) (inc : 
             h f.self s (here s.cells s.statics ok) (of_sub s.cells f.self (V.spot (self_of f.env.body)) (V.value f.env.body (this t)) i fo.self)
         value_fine (local t x) f s k i ok fo h =
             some_fine (slice_get f.locals x) s _ (λ v e. h v s (here s.cells s.statics ok) (of_sub s.cells v (V.spot (bound f.env.body x))
-                (V.value f.env.body (local t x)) i (fo.locals x v e)))
+            (V.value f.env.body (local t x)) i (fo.locals x v e)))
         value_fine (static_field t x) f s k i ok fo h =
             some_fine (slice_get s.statics x) s _ (λ v e. h v s (here s.cells s.statics ok) (of_sub s.cells v (V.spot (set_static x))
-                (V.value f.env.body (static_field t x)) i (ok.statics x v e)))
+            (V.value f.env.body (static_field t x)) i (ok.statics x v e)))
         value_fine (own_field t x) f s k i ok fo h =
             cell_fine f.self (V.value f.env.body (this t)) s _ (of_sub s.cells f.self (V.spot (self_of f.env.body)) (V.value f.env.body (this t)) i.0
-                fo.self) (λ a c at mem.
+            fo.self) (λ a c at mem.
             read_field_fine f.env (this t) (own_field t x) (Some x) i.1 a c s k ok at mem h)
         value_fine (field t e x) f s k i ok fo h =
             value_fine e f s _ i.0 ok fo (λ v s1 r iv. cell_fine v (V.value f.env.body e) s1 _ iv (λ a c at mem.
             member_fine f.env e (field t e x) x i.1 c.kind a c s1 k r.good at mem (kv_on s.cells s1.cells (V.value f.env.body (field t e x)) k r.keeps h)))
         value_fine (index t e y) f s k i ok fo h =
             value_fine e f s _ i.0 ok fo (λ v s1 r iv. value_fine y f s1 _ i.1 r.good (frame_kept s.cells s1.cells f r.keeps fo)
-                (λ w s2 r2 iw. some_fine (number_of w) s2 _ (λ n en.
+            (λ w s2 r2 iw. some_fine (number_of w) s2 _ (λ n en.
             read_element_fine f.env e (index t e y) i.2 v n s2 k r2.good (of_kept s1.cells s2.cells v (V.value f.env.body e) r2.keeps iv)
             (kv_on s.cells s2.cells (V.value f.env.body (index t e y)) k (keeps_on s.cells s1.cells s2.cells r.keeps r2.keeps) h))))
         value_fine (call t e x es) f s k i ok fo h =
@@ -521,31 +524,31 @@ module _ (L : Lang) (Made : Option ℕ → Kind → Type 0) (V : Family) (inc : 
             (kv_on s.cells s2.cells (V.value f.env.body (call t e x es)) k (keeps_on s.cells s1.cells s2.cells r.keeps r2.keeps) h)))
         value_fine (static_call t m es) f s k i ok fo h =
             values_fine es f s _ i.0 ok fo (λ vs s1 r ivs. call_static_fine f.env (static_call t m es) m es i.1 vs s1 k r.good ivs
-                (kv_on s.cells s1.cells (V.value f.env.body (static_call t m es)) k r.keeps h))
+            (kv_on s.cells s1.cells (V.value f.env.body (static_call t m es)) k r.keeps h))
         value_fine (super_call t x es) f s k i ok fo h =
             values_fine es f s _ i.0 ok fo (λ vs s1 r ivs. call_super_fine f.env (super_call t x es) x es i.1 f.self vs s1 k r.good
-                (of_kept s.cells s1.cells f.self (V.spot (self_of f.env.body)) r.keeps fo.self) ivs
+            (of_kept s.cells s1.cells f.self (V.spot (self_of f.env.body)) r.keeps fo.self) ivs
             (kv_on s.cells s1.cells (V.value f.env.body (super_call t x es)) k r.keeps h))
         value_fine (create t n c es) f s k i ok fo h =
             values_fine es f s _ i.0 ok fo (λ vs s1 r ivs. make_object_fine f.env (create t n c es) n c vs i.1 s1 k r.good
-                (kv_on s.cells s1.cells (V.value f.env.body (create t n c es)) k r.keeps h))
+            (kv_on s.cells s1.cells (V.value f.env.body (create t n c es)) k r.keeps h))
         value_fine (create_array t n u e) f s k i ok fo h =
             value_fine e f s _ i.0 ok fo (λ v s1 r iv. some_fine (number_of v) s1 _ (λ size es.
             make_array_fine f.env (create_array t n u e) n u size i.1 s1 k r.good
-                (kv_on s.cells s1.cells (V.value f.env.body (create_array t n u e)) k r.keeps h)))
+            (kv_on s.cells s1.cells (V.value f.env.body (create_array t n u e)) k r.keeps h)))
         value_fine (cast t n u e) f s k i ok fo h =
             value_fine e f s _ i.0 ok fo (λ v s1 r iv. cast_fine f.env (cast t n u e) e u i.1 i.2 v s1 k r.good iv
-                (kv_on s.cells s1.cells (V.value f.env.body (cast t n u e)) k r.keeps h))
+            (kv_on s.cells s1.cells (V.value f.env.body (cast t n u e)) k r.keeps h))
         value_fine (instance_of t n e c) f s k i ok fo h =
             value_fine e f s _ i.0 ok fo (λ v s1 r iv. test_class_fine f.env (instance_of t n e c) e c i.1 v s1 k r.good iv
-                (kv_on s.cells s1.cells (V.value f.env.body (instance_of t n e c)) k r.keeps h))
+            (kv_on s.cells s1.cells (V.value f.env.body (instance_of t n e c)) k r.keeps h))
         value_fine (unary t o e) f s k i ok fo h =
             value_fine e f s _ i ok fo (λ v s1 r iv. unary_fine o v s1 (V.value f.env.body (unary t o e)) k r.good
-                (kv_on s.cells s1.cells (V.value f.env.body (unary t o e)) k r.keeps h))
+            (kv_on s.cells s1.cells (V.value f.env.body (unary t o e)) k r.keeps h))
         value_fine (binary t o e d) f s k i ok fo h =
             value_fine e f s _ i.0 ok fo (λ v s1 r iv. after_left_fine o v s1 _ (V.value f.env.body (binary t o e d)) k r.good
             (value_fine d f s1 _ i.1 r.good (frame_kept s.cells s1.cells f r.keeps fo)
-                (λ w s2 r2 iw. operate_fine o v w s2 (V.value f.env.body (binary t o e d)) k r2.good
+            (λ w s2 r2 iw. operate_fine o v w s2 (V.value f.env.body (binary t o e d)) k r2.good
             (kv_on s.cells s2.cells (V.value f.env.body (binary t o e d)) k (keeps_on s.cells s1.cells s2.cells r.keeps r2.keeps) h)))
             (kv_on s.cells s1.cells (V.value f.env.body (binary t o e d)) k r.keeps h))
 
@@ -573,7 +576,7 @@ module _ (L : Lang) (Made : Option ℕ → Kind → Type 0) (V : Family) (inc : 
       initial_fine x None f s k i ok fo h = h Next f s (here s.cells s.statics ok) refl fo tt
       initial_fine x (Some e) f s k i ok fo h =
           value_fine e f s _ i.0 ok fo (λ v s1 r iv. write_local_fine x v f s1 k r.good (frame_kept s.cells s1.cells f r.keeps fo)
-              (of_sub s1.cells v (V.value f.env.body e) (V.spot (bound f.env.body x)) i.1 iv)
+          (of_sub s1.cells v (V.value f.env.body e) (V.spot (bound f.env.body x)) i.1 iv)
           (kf_on f.env f.env s.cells s1.cells k refl r.keeps h))
 
       declare_fine : (x : ℕ) (o : Option Ex) (f : Frame) (s : State) (k : ToFlow) → Sets L Made V f.env o (bound f.env.body x)
@@ -581,7 +584,7 @@ module _ (L : Lang) (Made : Option ℕ → Kind → Type 0) (V : Family) (inc : 
       declare_fine x o f s k i ok fo h =
           some_fine (slice_get f.env.locals x) s _ (λ t et. some_fine (slice_get f.locals x) s _ (λ old eo.
           initial_fine x o (set_local f x (default_of t)) s k i ok (frame_set s.cells f x (default_of t) fo
-              (plain_of s.cells (default_of t) (V.spot (bound f.env.body x)) (λ a e. default_plain t.base t.dim a e))) h))
+          (plain_of s.cells (default_of t) (V.spot (bound f.env.body x)) (λ a e. default_plain t.base t.dim a e))) h))
 
       return_fine : (o : Option Ex) (f : Frame) (s : State) (k : ToFlow) → Sets L Made V f.env o (result_of f.env.body) → Good s.cells s.statics
           → FrameIn s.cells f → KF f.env s.cells k → Fine (run_return L later o f s k)
@@ -590,22 +593,22 @@ module _ (L : Lang) (Made : Option ℕ → Kind → Type 0) (V : Family) (inc : 
           value_fine e f s _ i.0 ok fo (λ v s1 r iv. some_fine f.env.result s1 _ (λ t et.
           let o = of_convert s1.cells t v (V.spot (result_of f.env.body)) (of_sub s1.cells v (V.value f.env.body e) (V.spot (result_of f.env.body)) i.1 iv) in
           look_fine (result_of f.env.body) (convert t v) s1 _ o (λ m. h (Gave (convert t v)) f (record s1 { met = m }) r refl
-              (frame_kept s.cells s1.cells f r.keeps fo) o)))
+          (frame_kept s.cells s1.cells f r.keeps fo) o)))
 
       assign_fine : (b : Target) (d : Ex) (f : Frame) (s : State) (k : ToFlow) → Assigns L Made V f.env b d → Good s.cells s.statics
           → FrameIn s.cells f → KF f.env s.cells k → Fine (run_assign L later b d f s k)
       assign_fine (to_local t x) d f s k i ok fo h =
           value_fine d f s _ i.0 ok fo (λ v s1 r iv. write_local_fine x v f s1 k r.good (frame_kept s.cells s1.cells f r.keeps fo)
-              (of_sub s1.cells v (V.value f.env.body d) (V.spot (bound f.env.body x)) i.1 iv)
+          (of_sub s1.cells v (V.value f.env.body d) (V.spot (bound f.env.body x)) i.1 iv)
           (kf_on f.env f.env s.cells s1.cells k refl r.keeps h))
       assign_fine (to_static t x) d f s k i ok fo h =
           value_fine d f s _ i.0 ok fo (λ v s1 r iv. write_static_fine x v s1 _ r.good (of_sub s1.cells v (V.value f.env.body d)
-              (V.spot (set_static x)) i.1 iv) (λ s2 r2.
+          (V.spot (set_static x)) i.1 iv) (λ s2 r2.
           let q = from_on s.cells s1.cells s2.cells s2.statics r.keeps r2 in h Next f s2 q refl (frame_kept s.cells s2.cells f q.keeps fo) tt))
       assign_fine (to_own t x) d f s k i ok fo h =
           value_fine d f s _ i.0 ok fo (λ v s1 r iv.
           cell_fine f.self (V.value f.env.body (this t)) s1 _ (of_sub s1.cells f.self (V.spot (self_of f.env.body)) (V.value f.env.body (this t)) i.1
-              (of_kept s.cells s1.cells f.self (V.spot (self_of f.env.body)) r.keeps fo.self)) (λ a c at mem.
+          (of_kept s.cells s1.cells f.self (V.spot (self_of f.env.body)) r.keeps fo.self)) (λ a c at mem.
           write_field_fine f.env (this t) d (Some x) i.2 v a c s1 _ r.good at mem iv (λ s2 r2.
           let q = from_on s.cells s1.cells s2.cells s2.statics r.keeps r2 in h Next f s2 q refl (frame_kept s.cells s2.cells f q.keeps fo) tt)))
       assign_fine (to_field t e x) d f s k i ok fo h =
@@ -613,15 +616,15 @@ module _ (L : Lang) (Made : Option ℕ → Kind → Type 0) (V : Family) (inc : 
           cell_fine v (V.value f.env.body e) s2 _ (of_kept s1.cells s2.cells v (V.value f.env.body e) r2.keeps iv) (λ a c at mem.
           write_field_fine f.env e d (L.field f.env e x) i.2 w a c s2 _ r2.good at mem iw (λ s3 r3.
           let q = from_on s.cells s1.cells s3.cells s3.statics r.keeps (from_on s1.cells s2.cells s3.cells s3.statics r2.keeps r3) in h Next f s3 q
-              refl (frame_kept s.cells s3.cells f q.keeps fo) tt))))
+          refl (frame_kept s.cells s3.cells f q.keeps fo) tt))))
       assign_fine (to_element t e y) d f s k i ok fo h =
           value_fine e f s _ i.0 ok fo (λ v s1 r iv. value_fine y f s1 _ i.1 r.good (frame_kept s.cells s1.cells f r.keeps fo) (λ w s2 r2 iw.
           let k2 = keeps_on s.cells s1.cells s2.cells r.keeps r2.keeps in
           value_fine d f s2 _ i.2 r2.good (frame_kept s.cells s2.cells f k2 fo) (λ u s3 r3 iu. some_fine (number_of w) s3 _ (λ n en.
           write_element_fine f.env e d i.3 v n u s3 _ r3.good (of_kept s1.cells s3.cells v (V.value f.env.body e)
-              (keeps_on s1.cells s2.cells s3.cells r2.keeps r3.keeps) iv) iu (λ s4 r4.
+          (keeps_on s1.cells s2.cells s3.cells r2.keeps r3.keeps) iv) iu (λ s4 r4.
           let q = from_on s.cells s2.cells s4.cells s4.statics k2 (from_on s2.cells s3.cells s4.cells s4.statics r3.keeps r4) in h Next f s4 q refl
-              (frame_kept s.cells s4.cells f q.keeps fo) tt)))))
+          (frame_kept s.cells s4.cells f q.keeps fo) tt)))))
       assign_fine no_target d f s k i ok fo h = fine_stop Wrong s tt
 
       mutual
@@ -637,7 +640,7 @@ module _ (L : Lang) (Made : Option ℕ → Kind → Type 0) (V : Family) (inc : 
             all_fine first f s _ i.0 ok fo (λ w f1 s1 r e1 fo1 wo.
             let h1 = kf_on f.env f1.env s.cells s1.cells k e1 r.keeps h in
             let again : IncludedSts L Made V f1.env (st_then (loop t is_while no_st test last body) no_st) = subst
-                (λ g. IncludedSts L Made V g (st_then (loop t is_while no_st test last body) no_st)) (sym e1) ((tt, i.1, i.2, i.3), tt) in
+            (λ g. IncludedSts L Made V g (st_then (loop t is_while no_st test last body) no_st)) (sym e1) ((tt, i.1, i.2, i.3), tt) in
             after_one_fine f1.env w f1 s1 k _ r.good refl fo1 (subst (λ g. FlowIn g s1.cells w) (sym e1) wo) h1
             (run_test_fine test f1 s1 _ _ again.0.1 r.good fo1
             (λ s3 r3. step_fine s3 _ (λ n. let s4 = record s3 { left = n } in
@@ -645,13 +648,13 @@ module _ (L : Lang) (Made : Option ℕ → Kind → Type 0) (V : Family) (inc : 
             let k5 = keeps_on s1.cells s3.cells s5.cells r3.keeps r5.keeps in
             let h3 = kf_on f1.env f3.env s1.cells s5.cells k e3 k5 h1 in
             let again3 : IncludedSts L Made V f3.env (st_then (loop t is_while no_st test last body) no_st) = subst
-                (λ g. IncludedSts L Made V g (st_then (loop t is_while no_st test last body) no_st)) (sym e3) again in
+            (λ g. IncludedSts L Made V g (st_then (loop t is_while no_st test last body) no_st)) (sym e3) again in
             after_turn_fine f3.env w3 f3 s5 k _ r5.good refl fo3 (subst (λ g. FlowIn g s5.cells w3) (sym e3) wo3) h3
             (all_fine last f3 s5 _ again3.0.2 r5.good fo3 (λ w5 f5 s7 r7 e5 fo5 wo5.
             let h5 = kf_on f3.env f5.env s5.cells s7.cells k e5 r7.keeps h3 in
             after_one_fine f5.env w5 f5 s7 k _ r7.good refl fo5 (subst (λ g. FlowIn g s7.cells w5) (sym e5) wo5) h5
             (next.runs (st_then (loop t is_while no_st test last body) no_st) f5 s7 k
-                (subst (λ g. IncludedSts L Made V g (st_then (loop t is_while no_st test last body) no_st)) (sym e5) again3) r7.good fo5 h5))))))
+            (subst (λ g. IncludedSts L Made V g (st_then (loop t is_while no_st test last body) no_st)) (sym e5) again3) r7.good fo5 h5))))))
             (λ s3 r3. h1 Next f1 s3 r3 refl (frame_kept s1.cells s3.cells f1 r3.keeps fo1) tt)))
         one_fine (return t e) f s k i ok fo h = return_fine e f s k i ok fo h
         one_fine (break t) f s k i ok fo h = h Broke f s (here s.cells s.statics ok) refl fo tt
@@ -664,7 +667,7 @@ module _ (L : Lang) (Made : Option ℕ → Kind → Type 0) (V : Family) (inc : 
             one_fine x f s _ i.0 ok fo (λ w f1 s1 r e1 fo1 wo.
             let h1 = kf_on f.env f1.env s.cells s1.cells k e1 r.keeps h in
             after_one_fine f1.env w f1 s1 k _ r.good refl fo1 (subst (λ g. FlowIn g s1.cells w) (sym e1) wo) h1
-                (all_fine xs f1 s1 k (subst (λ g. IncludedSts L Made V g xs) (sym e1) i.1) r.good fo1 h1))
+            (all_fine xs f1 s1 k (subst (λ g. IncludedSts L Made V g xs) (sym e1) i.1) r.good fo1 h1))
 
         arms_fine : (xs : Arms) (f : Frame) (s : State) (k : ToFlow) → IncludedArms L Made V f.env xs → Good s.cells s.statics → FrameIn s.cells f
             → KF f.env s.cells k → Fine (run_arms L later xs f s k)
@@ -698,7 +701,7 @@ module _ (L : Lang) (Made : Option ℕ → Kind → Type 0) (V : Family) (inc : 
   run_stays m b words n = (go (some_fine (L.static_body m) (start L words n) _ (λ d ed.
       let s = start L words n in
       enter_fine (meaning L (suc n)) (meaning_in (suc n)) d Nothing (Object 0 ∷ []) s (λ v s. stop Ended s) (inc.static_bodies m d ed)
-          (start_good words n b.made) tt
+      (start_good words n b.made) tt
       (record { cell = words_cell words; there = refl; member = b.words d ed }, tt) (λ v s1 r o. fine_stop Ended s1 tt))))
     where
       go : {o : Outcome} → Fine o → Stays o.end

@@ -37,9 +37,9 @@ module _ (Q : Plain) (F : Facts) (formed : IsFormed (untagged Q)) (typed : IsTyp
           c in omega (arith, z.1))
       go (Some xs) h =
           body_kinds Q F formed slots m k e (subst (λ z. is_some z ≡ true) (sym h) refl) (λ q u o n s c ec es. creation_type Q F formed facts m k e q
-              u o n s c ec es) xs h
+          u o n s c ec es) xs h
           (subst (λ g. TypedSts P g (bare_sts xs)) (same_env m k) (typed.methods m (untag_method k) (method_of Q formed m k e) (bare_sts xs)
-              (ap (λ z. untag_body z) h)))
+          (ap (λ z. untag_body z) h)))
           ((formed.methods m (untag_method k) (method_of Q formed m k e)).code (bare_sts xs) (ap (λ z. untag_body z) h)) p c
 
   all_kinded : IsKinded P Q F

@@ -82,8 +82,11 @@ module _ (P Q : Plain) (F : Facts) (S : Sets) where
       (value_seen (bound b i) v h (p 0 i v (omega arith) refl)) (all_seen b (suc i) vs h (λ x y w e d. p (suc x) y w (omega (arith, e)) d))
 
   watches : IsWatched (watched P Q F S) (family P Q F S)
-  watches = record { sees = value_seen; sees_all = λ b vs h p. all_seen b 0 vs h (λ x y v e d. subst (λ z. Of h v ((family P Q F S).spot (bound b z)))
-      (let z : x ≡ y = omega (arith, e) in z) (p x v d)) }
+  watches = record {
+    sees = value_seen;
+    sees_all = λ b vs h p. all_seen b 0 vs h (λ x y v e d. subst (λ z. Of h v ((family P Q F S).spot (bound b z)))
+        (let z : x ≡ y = omega (arith, e) in z) (p x v d));
+  }
 
   module _ (closed : (ps : List Fact) (f : Fact) → Inclusion F ps f → AllByRecursion (λ p. has S p ≡ true) ps → has S f ≡ true)
       (facts : IsFactsOf P Q F) (kinded : IsKinded P Q F) where

@@ -34,8 +34,19 @@ code : Sts
 code = st_then (declare bare_tag 1 (Some (create bare_tag 0 0 no_ex))) no_st
 
 main : PlainMethod
-main = record { owner = 1; name = codes "main"; is_static = true; is_public = true; slot = None; params = args ∷ []; locals = kept
-    ∷ []; result = None; body = Some code; tag = bare_tag }
+main = record {
+  owner = 1;
+  name = codes "main";
+  is_static = true;
+  is_public = true;
+  slot = None;
+  params = args ∷ [];
+  locals = kept
+      ∷ [];
+  result = None;
+  body = Some code;
+  tag = bare_tag;
+}
 
 program : Plain
 program = record { classes = object ∷ main_class ∷ []; fields = []; methods = main ∷ []; slots = []; main = 0 }

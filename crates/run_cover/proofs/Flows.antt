@@ -184,19 +184,19 @@ module _ (P Q : Plain) (F : Facts) (S : Sets) where
       new_goes p c o t n s q h e d g =
           closed [] (in_point q s) (by_new (record { point = q; site = record { 0 = s } }) (news_given p c (record { point = q; site = record { 0 = s } })
           (h (record { point = q; site = record { 0 = s } }) (both_has t (site_in (numbers P Q) o.created)
-              (λ p s. record { point = p; site = record { 0 = s } }) q s g (ap (λ z. site_in (numbers P Q) z) e ∙ d))))) tt
+          (λ p s. record { point = p; site = record { 0 = s } }) q s g (ap (λ z. site_in (numbers P Q) z) e ∙ d))))) tt
 
       pub flow_goes : (p : Part) → Contains (parts_of P m k) p → (o t : Option ℕ) (a q s : ℕ) → ((x : FlowInfo) → Contains (moved o t) x
           → Contains (flows_of (numbers P Q) m p) x) → o ≡ Some a → t ≡ Some q → S.point a s ≡ true → S.point q s ≡ true
       flow_goes p c o t a q s h e d g =
           closed (in_point a s ∷ []) (in_point q s) (by_flow (record { from = a; to = q }) s (flows_given p c (record { from = a; to = q })
-              (h (record { from = a; to = q }) (both_has o t (λ a b. record { from = a; to = b }) a q e d)))) (g, tt)
+          (h (record { from = a; to = q }) (both_has o t (λ a b. record { from = a; to = b }) a q e d)))) (g, tt)
 
       -- the value of an operand goes to a point
       pub operand_goes : (p : Part) → Contains (parts_of P m k) p → (o : Operand) (t : Option ℕ) (q s : ℕ)
           → ((x : NewInfo) → Contains (created (numbers P Q) o t) x → Contains (news_of (numbers P Q) m p) x)
           → ((x : FlowInfo) → Contains (moved (point_at (numbers P Q) o) t) x → Contains (flows_of (numbers P Q) m p) x) → t ≡ Some q
-              → value_sites o s ≡ true → S.point q s ≡ true
+          → value_sites o s ≡ true → S.point q s ≡ true
       operand_goes p c o t q s hn hf e v = go o.created refl v
         where
           go : (z : Option ℕ) → o.created ≡ z → value_in z o s ≡ true → S.point q s ≡ true
@@ -208,9 +208,15 @@ module _ (P Q : Plain) (F : Facts) (S : Sets) where
       pub creation_used : (p : Place) (u : Bool) (o : Operand) → Contains (parts_of P m k) (a_creation p u o) → IsCreation P Q F u o → IsBase P Q F o → IsUsed o
       unfolding IsBase
       creation_used p u o c kc base = record {
-        used = λ n s e d. let q = base n s e d in
-            ((site_type F s, kc.typed n s e d), record { number = q.0; there = q.1; holds = new_goes (a_creation p u o) c o (point_at (numbers P Q) o)
-                n s q.0 (λ x w. w) e d q.1 });
+        used = λ n s e d. let q = base n s e d in (
+          (site_type F s, kc.typed n s e d),
+          record {
+            number = q.0;
+            there = q.1;
+            holds = new_goes (a_creation p u o) c o (point_at (numbers P Q) o)
+                n s q.0 (λ x w. w) e d q.1;
+          },
+        );
       }
 
       pub creation_looks : (p : Place) (u : Bool) (o : Operand) → Contains (parts_of P m k) (a_creation p u o) → (n s : ℕ) → o.created ≡ Some n
@@ -237,8 +243,8 @@ module _ (P Q : Plain) (F : Facts) (S : Sets) where
           point_sites_of o i plain q
           (closed (in_point base.number site.0 ∷ in_cell cell.0 i ∷ []) (in_point q.number i) (by_load x cell.0 site.0 i
           (loads_given (a_load p b (Some f) o) c x (these_has (point_at (numbers P Q) b) ((numbers P Q).column (column.Fld f))
-              (point_at (numbers P Q) o) (λ a c q. record { base = a; column = Some (record { 0 = c }); into = q }) base.number col.0 q.number
-              base.there col.1 q.point))
+          (point_at (numbers P Q) o) (λ a c q. record { base = a; column = Some (record { 0 = c }); into = q }) base.number col.0 q.number
+          base.there col.1 q.point))
           (cell_found site.0 cell.0 (Some col.0) col.2)) (base.holds, (cell.2, tt)))
 
       pub element_goes : (p : Place) (b o : Operand) → Contains (parts_of P m k) (an_element p b o)
@@ -255,7 +261,7 @@ module _ (P Q : Plain) (F : Facts) (S : Sets) where
           point_sites_of o i plain q
           (closed (in_point base.number site.0 ∷ in_cell cell.0 i ∷ []) (in_point q.number i) (by_load x cell.0 site.0 i
           (loads_given (an_element p b o) c x (both_has (point_at (numbers P Q) b) (point_at (numbers P Q) o)
-              (λ a q. record { base = a; column = None; into = q }) base.number q.number base.there q.point))
+          (λ a q. record { base = a; column = None; into = q }) base.number q.number base.there q.point))
           (cell_found site.0 cell.0 None site.2)) (base.holds, (cell.2, tt)))
 
       -- a store in a field of an object of the site s
@@ -263,7 +269,7 @@ module _ (P Q : Plain) (F : Facts) (S : Sets) where
           → ((t : ObjectType) → o.ty ≡ Some t → (u : ObjectType) × (field_object P f ≡ Some u)) → IsUsed b → IsUsed o → (s : ℕ)
           → value_sites b s ≡ true
           → ((t : ObjectType) → field_object P f ≡ Some t → (n : ℕ) × (field_cell P Q F f s ≡ Some n)) → (i : ℕ) → value_sites o i ≡ true
-              → field_sites f (Some s) i ≡ true
+          → field_sites f (Some s) i ≡ true
       store_goes p b f o c kp ub uo s v cells i h =
           let base = (used_at b s ub v).1 in
           let w = used_at o i uo h in
@@ -274,8 +280,8 @@ module _ (P Q : Plain) (F : Facts) (S : Sets) where
           when_is (field_object P f) t.0 (at_cell P Q F S (field_cell P Q F f s)) i t.1 (is_at_cell (field_cell P Q F f s) cell.0 i cell.1
           (closed (in_point base.number s ∷ in_point w.1.number i ∷ []) (in_cell cell.0 i) (by_store x cell.0 s i
           (stores_given (a_store p b (Some f) o) c x (these_has (point_at (numbers P Q) b) ((numbers P Q).column (column.Fld f))
-              (point_at (numbers P Q) o) (λ a c q. record { base = a; column = Some (record { 0 = c }); value = q; place = p }) base.number col.0
-              w.1.number base.there col.1 w.1.there))
+          (point_at (numbers P Q) o) (λ a c q. record { base = a; column = Some (record { 0 = c }); value = q; place = p }) base.number col.0
+          w.1.number base.there col.1 w.1.there))
           (cell_found s cell.0 (Some col.0) col.2) tt) (base.holds, (w.1.holds, tt))))
 
       pub element_store_goes : (p : Place) (b o : Operand) → Contains (parts_of P m k) (an_element_store p b o) → IsUsed b → IsUsed o → (s : ℕ)
@@ -289,7 +295,7 @@ module _ (P Q : Plain) (F : Facts) (S : Sets) where
           is_at_cell (element_cell P Q F s) n i cell
           (closed (in_point base.number s ∷ in_point w.1.number i ∷ []) (in_cell n i) (by_store x n s i
           (stores_given (an_element_store p b o) c x (both_has (point_at (numbers P Q) b) (point_at (numbers P Q) o)
-              (λ a q. record { base = a; column = None; value = q; place = p }) base.number w.1.number base.there w.1.there))
+          (λ a q. record { base = a; column = None; value = q; place = p }) base.number w.1.number base.there w.1.there))
           (cell_found s n None cell) below) (base.holds, (w.1.holds, tt)))
 
       -- a cast that an object of the site s passes
@@ -304,4 +310,4 @@ module _ (P Q : Plain) (F : Facts) (S : Sets) where
           point_sites_of o s plain (record { type = t; typed = et; number = q.0; point = q.1 })
           (closed (in_point base.number s ∷ []) (in_point q.0 s) (by_cast x s
           (casts_given (a_test p e o) c x (these_has (point_at (numbers P Q) e) (point_at (numbers P Q) o) o.ty
-              (λ a q t. record { from = a; into = q; class = t.class }) base.number q.0 t base.there q.1 et)) below) (base.holds, tt))
+          (λ a q t. record { from = a; into = q; class = t.class }) base.number q.0 t base.there q.1 et)) below) (base.holds, tt))

@@ -34,7 +34,7 @@ pub each_get : {A B : Type 0} (f : ℕ → A → List B) (h : ℕ → A → B) �
 each_get f h s n [] i x e j d = absurd (cc)
 each_get f h s n (y ∷ ys) zero x e j d =
     ap (λ z. slice_get (z ++ each f (n + 1) ys) zero) (s n y)
-        ∙ ap (λ z. Some z) (subst (λ w. h n y ≡ h w x) (sym (let z : j ≡ n = omega (arith, d) in z)) (ap (λ w. h n w) (same_Some y x e)))
+    ∙ ap (λ z. Some z) (subst (λ w. h n y ≡ h w x) (sym (let z : j ≡ n = omega (arith, d) in z)) (ap (λ w. h n w) (same_Some y x e)))
 each_get f h s n (y ∷ ys) (suc i) x e j d = ap (λ z. slice_get (z ++ each f (n + 1) ys) (suc i)) (s n y) ∙ each_get f h s (n + 1) ys i x e j (omega (arith, d))
 
 each_length : {A B : Type 0} (f : ℕ → A → List B) (h : ℕ → A → B) → ((n : ℕ) (x : A) → f n x ≡ h n x ∷ []) → (n : ℕ) (xs : List A)
@@ -77,13 +77,13 @@ module _ (Q : Plain) (F : Facts) (facts : IsFactsOf (untagged Q) Q F) where
       go (Some h) e =
           let k = of_class a h e in let c = class_listed a k.0 k.1 in
           ap (λ z. option_and_then (λ (k : ClassInfo). k.parent) z) c.1 ∙ ap (λ z. z.parent) c.2 ∙ ap (λ z. z.parent) k.2
-              ∙ ap (λ z. option_and_then (λ (k : PlainClass). k.parent) z) (sym e)
+          ∙ ap (λ z. option_and_then (λ (k : PlainClass). k.parent) z) (sym e)
 
   same_faces : (a : ℕ) (h : PlainClass) → slice_get P.classes a ≡ Some h → faces_of F a ≡ java.faces_of P a
   same_faces a h e =
       let k = of_class a h e in let c = class_listed a k.0 k.1 in
       ap (λ z. option_map_or (λ (k : ClassInfo). k.faces.items) z []) c.1 ∙ ap (λ z. z.faces) c.2 ∙ ap (λ z. z.faces) k.2
-          ∙ ap (λ z. option_map_or (λ (k : PlainClass). k.faces) z []) (sym e)
+      ∙ ap (λ z. option_map_or (λ (k : PlainClass). k.faces) z []) (sym e)
 
   below_of : {a b : ℕ} → IsSubclass P a b → IsBelow F a b
   below_of same_class = same_below
@@ -91,8 +91,15 @@ module _ (Q : Plain) (F : Facts) (facts : IsFactsOf (untagged Q) Q F) where
     where
       same_supers : supers_of F a ≡ java.supers_of P a
       same_supers =
-          let s = slice_get-get_or P.classes a (record { name = []; is_interface = false; is_abstract = false; parent = None; faces = []; tag = record
-              { label = 0; place = record { at = 0; line = 0 } } }) (supers-within P a c d) in
+          let s = slice_get-get_or P.classes a (record {
+            name = [];
+            is_interface = false;
+            is_abstract = false;
+            parent = None;
+            faces = [];
+            tag = record
+                { label = 0; place = record { at = 0; line = 0 } };
+          }) (supers-within P a c d) in
           ap (λ z. option_to_list z ++ faces_of F a) (same_parent a) ∙ ap (λ z. option_to_list (java.parent_of P a) ++ z) (same_faces a _ s)
 
   pub is_below : (c d : ℕ) → java.below P c d ≡ true → IsBelow F c d
@@ -152,7 +159,7 @@ each_from f n [] y c = absurd (omega (arith, c.1))
 each_from f n (x ∷ xs) y c = ⊎_elim
     (λ d. (0, (x, refl, subst (λ z. Contains (f z x) y) (let z : n ≡ n + 0 = omega arith in z) d)))
     (λ d. let r = each_from f (n + 1) xs y d in
-        (suc r.0, (r.1.0, r.1.1, subst (λ z. Contains (f z r.1.0) y) (let z : n + 1 + r.0 ≡ n + suc r.0 = omega arith in z) r.1.2)))
+    (suc r.0, (r.1.0, r.1.1, subst (λ z. Contains (f z r.1.0) y) (let z : n + 1 + r.0 ≡ n + suc r.0 = omega arith in z) r.1.2)))
     (Contains-append_cases (f n x) (each f (n + 1) xs) y c)
 
 pub flat_from : {A B : Type 0} (f : A → List B) (xs : List A) (y : B) → Contains (flat_map f xs) y → (x : A) × Contains (f x) y
@@ -200,7 +207,7 @@ module _ (P Q : Plain) where
       (λ d. own_apart f k y m (when_from (not k.is_static) _ y d).1 e)
       (λ d. let z = flat_from form_columns (parts_of P f k) y d in absurd (form_apart z.0 y m z.1 e))
       (Contains-append_cases (when (not k.is_static) (record { item = column.Dcl f; place = k.tag.place } ∷ when (is_some k.body)
-          (record { item = column.Def f; place = k.tag.place } ∷ []))) (flat_map form_columns (parts_of P f k)) y c)
+      (record { item = column.Def f; place = k.tag.place } ∷ []))) (flat_map form_columns (parts_of P f k)) y c)
 
   field_apart : (f : ℕ) (k : PlainField) (y : Column) (m : ℕ) → Contains (field_columns f k) y → y.item ≡ column.Def m → ⊥
   field_apart f k y m c e = go (when_from (not k.is_static) (record { item = column.Fld f; place = k.tag.place } ∷ []) y c).1

@@ -105,7 +105,7 @@ module _ (P Q : Plain) where
   field_row f k t e o =
       let x : Row = record { item = row.Field f; place = k.tag.place; ty = t } in
       row_there x (Contains-append_left (each field_rows 0 Q.fields) (each (method_rows P Q) 0 Q.methods) x (each_has field_rows 0 Q.fields f k x e f
-          (omega arith) (row_typed (row.Field f) k.tag.place (object_of k.ty) t o)))
+      (omega arith) (row_typed (row.Field f) k.tag.place (object_of k.ty) t o)))
 
   module _ (m : ℕ) (k : PlainMethod) (stands : slice_get Q.methods m ≡ Some k) where
     in_method : (x : Row) → Contains (method_rows P Q m k) x → (r : ℕ) × (row_number P Q x.item ≡ Some r)
@@ -134,7 +134,7 @@ module _ (P Q : Plain) where
     result_row f t o =
         let x : Row = record { item = result_in k.slot m; place = k.tag.place; ty = t } in
         in_heads x (Contains-append_right (this_rows m k) (result_rows P Q m k) x
-            (when_has (is_first P m k) _ x f (row_typed (result_in k.slot m) k.tag.place (object_if k.result) t o)))
+        (when_has (is_first P m k) _ x f (row_typed (result_in k.slot m) k.tag.place (object_if k.result) t o)))
 
     pub own_variable_row : (i : ℕ) (v : PlainLocal) (t : ObjectType) → slice_get (k.params ++ k.locals) i ≡ Some v → object_of v.ty ≡ Some t
         → (is_first P m k || not (nat_lt i (length k.params))) ≡ true → (r : ℕ) × (row_number P Q (variable_row m k i) ≡ Some r)
@@ -144,7 +144,7 @@ module _ (P Q : Plain) where
         (λ d. Contains-append_left (heads ++ parameters) locals x (Contains-append_right heads parameters x d))
         (λ d. Contains-append_right (heads ++ parameters) locals x d)
         (two_have (variable_rows P Q m k) 0 (length k.params) k.params k.locals i v x e (omega arith) i (omega arith)
-            (when_has (is_first P m k || not (nat_lt i (length k.params))) _ x f (row_typed (variable_row m k i) v.tag.place (object_of v.ty) t o)))))
+        (when_has (is_first P m k || not (nat_lt i (length k.params))) _ x f (row_typed (variable_row m k i) v.tag.place (object_of v.ty) t o)))))
 
     pub form_row : (p : Part) → Contains (parts_of P m k) p → (x : Row) → Contains (form_rows p) x → (r : ℕ) × (row_number P Q x.item ≡ Some r)
     form_row p c x d = in_method x (Contains-append_right (heads ++ parameters ++ locals) (flat_map form_rows (parts_of P m k)) x
@@ -156,10 +156,10 @@ module _ (P Q : Plain) where
     unfolding site_number sites_of
     site_there p c x d =
         number_there nat_eq (λ x y e. eqb-true x y e) (λ x. eq-eqb x x refl) (λ s. s.number)
-            (by_place (λ s. s.place.at) (flat_map (λ b. flat_map (form_sites (row_number P Q)) b.parts) (bodies_of P Q))) x
+        (by_place (λ s. s.place.at) (flat_map (λ b. flat_map (form_sites (row_number P Q)) b.parts) (bodies_of P Q))) x
         (place_has (λ s. s.place.at) (flat_map (λ b. flat_map (form_sites (row_number P Q)) b.parts) (bodies_of P Q)) x
         (flat_has (λ b. flat_map (form_sites (row_number P Q)) b.parts) (bodies_of P Q) (body_of P m k) x (body_there P Q m k stands)
-            (flat_has (form_sites (row_number P Q)) (parts_of P m k) p x c d)))
+        (flat_has (form_sites (row_number P Q)) (parts_of P m k) p x c d)))
 
   -- points
   abbrev statics : List PointAt
@@ -187,7 +187,7 @@ module _ (P Q : Plain) where
       let x : Point = record { item = point.Static f; row = r } in
       point_there x (Contains-append_left (flat_map listed_at statics) (flat_map (λ o. flat_map listed_at o.points) outlines) x (flat_has listed_at statics p x
       (place_has (λ p. p.place.at) (each static_points 0 Q.fields) p (each_has static_points 0 Q.fields f k p e f (omega arith)
-          (when_has k.is_static _ p s (one p)))) (with_row p r h)))
+      (when_has k.is_static _ p s (one p)))) (with_row p r h)))
 
   module _ (m : ℕ) (k : PlainMethod) (stands : slice_get Q.methods m ≡ Some k) (body : is_some k.body ≡ true) where
     in_body : (p : PointAt) (r : ℕ) → row_number P Q p.row ≡ Some r → Contains (method_points P Q m k) p → (q : ℕ) × (point_number P Q p.item ≡ Some q)
@@ -195,9 +195,9 @@ module _ (P Q : Plain) where
         let o : Outline = record { place = k.tag.place; points = method_points P Q m k } in
         let x : Point = record { item = p.item; row = r } in
         point_there x (Contains-append_right (flat_map listed_at statics) (flat_map (λ o. flat_map listed_at o.points) outlines) x
-            (flat_has (λ o. flat_map listed_at o.points) outlines o x
+        (flat_has (λ o. flat_map listed_at o.points) outlines o x
         (place_has (λ o. o.place.at) (each (outline_if P Q) 0 Q.methods) o (each_has (outline_if P Q) 0 Q.methods m k o stands m (omega arith)
-            (when_has (is_some k.body) _ o body (one o))))
+        (when_has (is_some k.body) _ o body (one o))))
         (flat_has listed_at (method_points P Q m k) p x c (with_row p r h))))
 
     abbrev first_points : List PointAt
@@ -219,16 +219,16 @@ module _ (P Q : Plain) where
     this_point s r h =
         let p : PointAt = record { item = point.This m; place = k.tag.place; row = row.This m } in
         in_body p r h (Contains-append_left (first_points ++ param_points ++ local_points ++ result_points) expr_points p
-            (Contains-append_left (first_points ++ param_points ++ local_points) result_points p
+        (Contains-append_left (first_points ++ param_points ++ local_points) result_points p
         (Contains-append_left (first_points ++ param_points) local_points p (Contains-append_left first_points param_points p
-            (when_has (not k.is_static) _ p (rw s refl) (one p))))))
+        (when_has (not k.is_static) _ p (rw s refl) (one p))))))
 
     pub variable_point : (i : ℕ) (v : PlainLocal) → slice_get (k.params ++ k.locals) i ≡ Some v → (r : ℕ) → row_number P Q (variable_row m k i)
         ≡ Some r → (q : ℕ) × (point_number P Q (point.Local m i) ≡ Some q)
     variable_point i v e r h =
         let p : PointAt = record { item = point.Local m i; place = v.tag.place; row = variable_row m k i } in
         in_body p r h (Contains-append_left (first_points ++ param_points ++ local_points ++ result_points) expr_points p
-            (Contains-append_left (first_points ++ param_points ++ local_points) result_points p (⊎_elim
+        (Contains-append_left (first_points ++ param_points ++ local_points) result_points p (⊎_elim
         (λ d. Contains-append_left (first_points ++ param_points) local_points p (Contains-append_right first_points param_points p d))
         (λ d. Contains-append_right (first_points ++ param_points) local_points p d)
         (two_have (variable_points m k) 0 (length k.params) k.params k.locals i v p e (omega arith) i (omega arith) (one p)))))
@@ -237,7 +237,7 @@ module _ (P Q : Plain) where
     result_point r h =
         let p : PointAt = record { item = point.Result m; place = k.tag.place; row = result_in k.slot m } in
         in_body p r h (Contains-append_left (first_points ++ param_points ++ local_points ++ result_points) expr_points p
-            (Contains-append_right (first_points ++ param_points ++ local_points) result_points p (one p)))
+        (Contains-append_right (first_points ++ param_points ++ local_points) result_points p (one p)))
 
     -- a form that is a point, where its row stands
     pub form_point : (p : Part) → Contains (parts_of P m k) p → (x : PointAt) → Contains (form_points p) x → (r : ℕ) → row_number P Q x.row ≡ Some r
@@ -253,9 +253,13 @@ module _ (P Q : Plain) where
       → number_if (row_number P Q) o.row ≡ Some r → (x : PointAt) × Contains (point_of_form p o) x × (x.item ≡ i) × (row_number P Q x.row ≡ Some r)
   own_listed p o i t r ei et er =
       let w = row_in_there o.row r er in
-      let x : PointAt = record { item = i; place = p; row = w.0 } in
-      (x, subst (λ z. Contains (own_point p z o.row o.ty) x) (sym ei) (subst (λ z. Contains (own_point p (Some i) z o.ty) x) (sym w.1)
-          (subst (λ z. Contains (own_point p (Some i) (Some w.0) z) x) (sym et) (one x))), refl, w.2)
+      let x : PointAt = record { item = i; place = p; row = w.0 } in (
+        x,
+        subst (λ z. Contains (own_point p z o.row o.ty) x) (sym ei) (subst (λ z. Contains (own_point p (Some i) z o.ty) x) (sym w.1)
+            (subst (λ z. Contains (own_point p (Some i) (Some w.0) z) x) (sym et) (one x))),
+        refl,
+        w.2,
+      )
 
   -- columns
   pub column_there : (x : Column) → Contains (each field_columns 0 Q.fields ++ each (method_columns P Q) 0 Q.methods) x
@@ -269,4 +273,4 @@ module _ (P Q : Plain) where
   field_column f k e s =
       let x : Column = record { item = column.Fld f; place = k.tag.place } in
       column_there x (Contains-append_left (each field_columns 0 Q.fields) (each (method_columns P Q) 0 Q.methods) x
-          (each_has field_columns 0 Q.fields f k x e f (omega arith) (when_has (not k.is_static) _ x (rw s refl) (one x))))
+      (each_has field_columns 0 Q.fields f k x e f (omega arith) (when_has (not k.is_static) _ x (rw s refl) (one x))))

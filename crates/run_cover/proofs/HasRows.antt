@@ -134,18 +134,18 @@ module _ (Q : Plain) (formed : IsFormed (untagged Q)) where
           let j = in_slot m k e s h in
           let f = first_of_slot s j.slot j.stands in
           let here : slice_get (types_of k.params) i ≡ Some v.ty = get_map (λ v. v.ty) k.params i
-              ∙ ap (λ z. option_map (λ v. v.ty) z) (sym (get_within k.params k.locals i (lt_of i (length k.params) l)) ∙ ev) in
+          ∙ ap (λ z. option_map (λ v. v.ty) z) (sym (get_within k.params k.locals i (lt_of i (length k.params) l)) ∙ ev) in
           let there : slice_get (types_of f.method.params) i ≡ Some v.ty = ap (λ z. slice_get z i) (f.params ∙ sym j.params ∙ untyped_params k.params) ∙ here in
           let w = map_some (λ (v : PlainLocal). v.ty) (slice_get f.method.params i) v.ty (sym (get_map (λ v. v.ty) f.method.params i) ∙ there) in
           let r = own_variable_row P Q j.slot.first f.method f.there i w.0 t (get_left f.method.params f.method.locals i w.0 w.1)
-              (ap (λ z. object_of z) w.2 ∙ ov)
+          (ap (λ z. object_of z) w.2 ∙ ov)
           (or_left (is_first P j.slot.first f.method) (not (nat_lt i (length f.method.params))) f.first) in
           let within = of_lt i (length f.method.params) (slice_get_within f.method.params i w.0 w.1) in (
             r.0,
             subst (λ z. row_number P Q (variable_in z (nat_lt i (length k.params)) m i) ≡ Some r.0) (sym h)
                 (subst (λ z. row_number P Q (variable_in (Some s) z m i) ≡ Some r.0) (sym l)
                 (subst (λ z. row_number P Q (variable_in (Some s) z j.slot.first i) ≡ Some r.0) within
-                    (subst (λ z. row_number P Q (variable_in z (nat_lt i (length f.method.params)) j.slot.first i) ≡ Some r.0) f.of r.1))),
+                (subst (λ z. row_number P Q (variable_in z (nat_lt i (length f.method.params)) j.slot.first i) ≡ Some r.0) f.of r.1))),
           )
 
   -- points of a body

@@ -216,8 +216,11 @@ module _ (P Q : Plain) (F : Facts) (S : Sets) where
 
     gives : (d : Ex) (X : ℕ → Bool) → ((s : ℕ) → X s ≡ true → (looks_in P Q F S (at d).created (at d) s ≡ true)
         × (value_sites P Q F S (at d) s ≡ true)) → Gives L MadeAs V g d (λ q. passes X (site_in (numbers P Q) q))
-    gives d X f = record { looks = sub_sites X (typed_sites (held m d)) (λ s h. (f s h).0); holds = sub_sites X (value_sites P Q F S (at d))
-        (λ s h. (f s h).1) }
+    gives d X f = record {
+      looks = sub_sites X (typed_sites (held m d)) (λ s h. (f s h).0);
+      holds = sub_sites X (value_sites P Q F S (at d))
+          (λ s h. (f s h).1);
+    }
 
     -- a base that is used is in its point
     base_at : (e : Ex) (z : Option ℕ) → IsUsed P Q F S (at e) → passes (value_sites P Q F S (at e)) z ≡ true → passes (point_sites P Q F S (at e)) z ≡ true
@@ -269,7 +272,7 @@ module _ (P Q : Plain) (F : Facts) (S : Sets) where
           gives = sub_sites (value_sites P Q F S (at d)) (field_sites P Q F S j (site_in (numbers P Q) o))
               (λ s r. subst (λ z. field_sites P Q F S j z s ≡ true) (sym site.1)
               (store_goes P Q F S closed facts m k stands p (at e) j (at d) w.0 kind.takes u ud site.0 base
-                  (λ t et. kinded.fields j (site_some o site.0 site.1).0 site.0 c i t (site_some o site.0 site.1).1 site.2 ix et) s r));
+              (λ t et. kinded.fields j (site_some o site.0 site.1).0 site.0 c i t (site_some o site.0 site.1).1 site.2 ix et) s r));
         }
 
     element_kind : (p : Place) (b o : Operand) → Contains (parts_of P m k) (an_element p b o) → (t : ObjectType) → b.ty ≡ Some t → IsPoint P Q F o
@@ -281,14 +284,17 @@ module _ (P Q : Plain) (F : Facts) (S : Sets) where
     unfolding ReadsElement
     reads_element p e d pl c u = λ o t w made et v.
         gives d (element_sites P Q F S (site_in (numbers P Q) o)) (λ s r. element_goes P Q F S closed facts m k stands p (at e) (at d) c
-            (element_kind p (at e) (at d) c) u pl (site_in (numbers P Q) o) v s r)
+        (element_kind p (at e) (at d) c) u pl (site_in (numbers P Q) o) v s r)
 
     -- a subtype of an object's type is one of its class
     sub_object : (b c : TyBase) (d n : ℕ) (t : ObjectType) → d ≡ n → is_sub_base P b c ≡ true → object_in b d ≡ Some t → (u : ObjectType)
         × (object_in c n ≡ Some u) × (below P t.class.0 u.class.0 ≡ true)
-    sub_object (Class b) (Class c) d n t e s o =
-        (record { class = c; dim = n }, refl, subst (λ z. below P z c.0 ≡ true) (ap (λ z. z.class.0) (same_Some (record { class = b; dim = d }) t o))
-        s)
+    sub_object (Class b) (Class c) d n t e s o = (
+      record { class = c; dim = n },
+      refl,
+      subst (λ z. below P z c.0 ≡ true) (ap (λ z. z.class.0) (same_Some (record { class = b; dim = d }) t o))
+          s,
+    )
     sub_object (Class b) Int d n t e s o = absurd (false≢true s)
     sub_object (Class b) Boolean d n t e s o = absurd (false≢true s)
     sub_object (Class b) Char d n t e s o = absurd (false≢true s)
@@ -330,7 +336,7 @@ module _ (P Q : Plain) (F : Facts) (S : Sets) where
         let type : site_type F site.0 ≡ record { class = up.0.class; dim = t.dim } = sym (same_Some _ _ (sym array.0 ∙ made.typed site.0 site.1)) in
         let cell = kinded.elements (site_some o site.0 site.1).0 site.0 up.0.class.0 t.dim (site_some o site.0 site.1).1 type array.1 in
         let less : IsBelow F (site_class F i) (site_class F site.0) = kinded.below (site_class F i) (site_class F site.0)
-            (subst (λ z. below P (site_class F i) z ≡ true) (sym (ap (λ z. z.class.0) type)) up.2) in
+        (subst (λ z. below P (site_class F i) z ≡ true) (sym (ap (λ z. z.class.0) type)) up.2) in
         subst (λ z. element_sites P Q F S z i ≡ true) (sym site.1) (element_store_goes P Q F S closed facts m k stands p (at e) (at d) c ue ud site.0
         (subst (λ z. passes (value_sites P Q F S (at e)) z ≡ true) site.1 v) cell.0 cell.1 i less
         (subst (λ z. passes (value_sites P Q F S (at d)) z ≡ true) ei w)))
@@ -376,7 +382,7 @@ module _ (P Q : Plain) (F : Facts) (S : Sets) where
     enters : (d : Ex) (es : Exs) (b : Body) (c : ℕ) → b.env.body ≡ c → ((i : ℕ) (e : Ex) → exs_at es i ≡ Some e → (s : ℕ)
         → value_sites P Q F S (at e) s ≡ true → local_sites P Q F S c i s ≡ true)
         → ((s : ℕ) → result_sites P Q F S c s ≡ true → (looks_in P Q F S (at d).created (at d) s ≡ true) × (value_sites P Q F S (at d) s ≡ true))
-            → Enters L MadeAs V g d es b
+        → Enters L MadeAs V g d es b
     enters d es b c eb ha hr = record {
       args = subst (λ y. Passes L MadeAs V g es (λ x. V.spot (bound y x))) (sym eb)
           (pass_all es (λ x. V.spot (bound c x)) (λ i e h. sub_sites (value_sites P Q F S (at e)) (local_sites P Q F S c i) (ha i e h)));
@@ -400,11 +406,11 @@ module _ (P Q : Plain) (F : Facts) (S : Sets) where
         let f = found look.0 b look.2 in
         let finds = kinded.bodies c j look.0 f.method look.1 f.there f.has_body in
         let finds_site : FindsBody P Q F (site_class F site.0) j look.0 f.method = subst (λ z. FindsBody P Q F z j look.0 f.method)
-            (sym (ap (λ z. z.class.0) site.2)) finds in
+        (sym (ap (λ z. z.class.0) site.2)) finds in
         let goes = call_goes P Q F S closed facts m k stands p (at e) j n (operands_of P (type_in P m k) m k es) (at d) part ue pl site.0 base look.0
-            f.method f.there finds_site
+        f.method f.there finds_site
         (call_kind p (at e) (at d) j n (operands_of P (type_in P m k) m k es) part look.0 f.method f.there finds.slot)
-            (kinded.variables look.0 f.method f.there f.has_body) in
+        (kinded.variables look.0 f.method f.there f.has_body) in
         record {
           receiver = subst (λ y. passes (point_sites P Q F S (at y)) (site_in (numbers P Q) o) ≡ true) (sym ce) (base_at e (site_in (numbers P Q) o) ue v);
           self = subst (λ z. passes (typed_sites (self_of b.env.body)) z ≡ true) (sym site.1)
@@ -428,7 +434,7 @@ module _ (P Q : Plain) (F : Facts) (S : Sets) where
         → StaticGoes P Q F S closed facts m k stands c (operands_of P (type_in P m k) m k es) (at d) → Enters L MadeAs V g d es b
     one_enters d es b c eb st goes = enters d es b c eb
         (λ i a h s w. goes.args i (seen a) (operand_there es i a h) (subst (λ z. HasTypes P Q F S z) (at_seen a)
-            (has_types false a (argument_stands false es i a h st))) s (value_seen a s w)) goes.result
+        (has_types false a (argument_stands false es i a h st))) s (value_seen a s w)) goes.result
 
     static_calls : (p : Place) (d : Ex) (c : ℕ) (es : Exs) → (at d).created ≡ None
         → Contains (parts_of P m k) (a_static_call p c (operands_of P (type_in P m k) m k es) (at d))
@@ -437,7 +443,7 @@ module _ (P Q : Plain) (F : Facts) (S : Sets) where
     static_calls p d c es pl there st = λ b eb.
         let f = found c b eb in
         one_enters d es b c f.body_is st (static_goes P Q F S closed facts m k stands p c (operands_of P (type_in P m k) m k es) (at d) there pl
-            f.method f.there
+        f.method f.there
         (static_kind p c (at d) (operands_of P (type_in P m k) m k es) there f.method f.there) (kinded.variables c f.method f.there f.has_body))
 
     super_calls : (p : Place) (d : Ex) (x : List ℕ) (es : Exs) → (at d).created ≡ None
@@ -484,12 +490,14 @@ module _ (P Q : Plain) (F : Facts) (S : Sets) where
     unfolding Casts
     casts p d e t pl et there ue = λ o h made v sub.
         let both : (s : ℕ) → site_in (numbers P Q) o ≡ Some s → (looks_in P Q F S (at d).created (at d) s ≡ true)
-            × (value_sites P Q F S (at d) s ≡ true) = λ s es.
+        × (value_sites P Q F S (at d) s ≡ true) = λ s es.
         let up = subtype_object (own_type h) t (site_type F s) sub (made.typed s es) in
         cast_goes P Q F S closed facts m k stands p (at e) (at d) there (test_kind p (at e) (at d) there) ue pl s
-            (subst (λ z. passes (value_sites P Q F S (at e)) z ≡ true) es v) up.0 (et ∙ up.1) (kinded.below (site_class F s) up.0.class.0 up.2) in
-        (passes_all (typed_sites (held m d)) (site_in (numbers P Q) o) (λ s es. (both s es).0), passes_all (value_sites P Q F S (at d))
-            (site_in (numbers P Q) o) (λ s es. (both s es).1))
+        (subst (λ z. passes (value_sites P Q F S (at e)) z ≡ true) es v) up.0 (et ∙ up.1) (kinded.below (site_class F s) up.0.class.0 up.2) in (
+          passes_all (typed_sites (held m d)) (site_in (numbers P Q) o) (λ s es. (both s es).0),
+          passes_all (value_sites P Q F S (at d))
+              (site_in (numbers P Q) o) (λ s es. (both s es).1),
+        )
 
     -- variables
     this_sub : (t : Tag) → Sub (V.spot (self_of m)) (V.value m (this t))
@@ -505,7 +513,7 @@ module _ (P Q : Plain) (F : Facts) (S : Sets) where
     local_sub : (t : Tag) (i : ℕ) → Sub (V.spot (bound m i)) (V.value m (local t i))
     local_sub t i = sub_sites (typed_sites (bound m i)) (value_sites P Q F S (at (local t i)))
         (λ s h. subst (λ z. value_sites P Q F S z s ≡ true) (sym (at_seen (local t i)))
-            (subst (λ z. when_object z (at_point P Q F S ((numbers P Q).point (point.Local m i))) s ≡ true) (sym (local_seen t i)) h))
+        (subst (λ z. when_object z (at_point P Q F S ((numbers P Q).point (point.Local m i))) s ≡ true) (sym (local_seen t i)) h))
 
     static_seen : (t : Tag) (f : ℕ) → type_in P m k (static_field t f) ≡ field_object P f
     unfolding type_in
@@ -514,7 +522,7 @@ module _ (P Q : Plain) (F : Facts) (S : Sets) where
     static_sub : (t : Tag) (f : ℕ) → Sub (V.spot (set_static f)) (V.value m (static_field t f))
     static_sub t f = sub_sites (typed_sites (set_static f)) (value_sites P Q F S (at (static_field t f)))
         (λ s h. subst (λ z. value_sites P Q F S z s ≡ true) (sym (at_seen (static_field t f)))
-            (subst (λ z. when_object z (at_point P Q F S ((numbers P Q).point (point.Static f))) s ≡ true) (sym (static_seen t f)) h))
+        (subst (λ z. when_object z (at_point P Q F S ((numbers P Q).point (point.Static f))) s ≡ true) (sym (static_seen t f)) h))
 
     abbrev this_seen : Operand
     this_seen = record { point = Some (point.This m); row = Some (row.This m); ty = Some (record { class = record { 0 = k.owner }; dim = 0 }); created = None }
@@ -575,7 +583,7 @@ module _ (P Q : Plain) (F : Facts) (S : Sets) where
         reads t.place e (field t e x) (L.field g e x) (plain (field t e x) refl) (λ j ej. (
           part_at (λ o z. a_load t.place o (Some j) z) e (field t e x)
               (subst (λ z. Contains (parts_of P m k) (a_load t.place (seen e) z (seen (field t e x)))) (field_seen e x
-                  ∙ ej) (stands_here _ _ (stands_right (tree (is_accessed e) e) _ st))),
+              ∙ ej) (stands_here _ _ (stands_right (tree (is_accessed e) e) _ st))),
           (λ b. base_used e (stands_left (tree (is_accessed e) e) _ st) b),
         )),
       )
@@ -590,20 +598,20 @@ module _ (P Q : Plain) (F : Facts) (S : Sets) where
         included_all true es (stands_past _ _ (stands_right (tree true e) _ st)),
         calls t.place e (call t e x es) x es (call_declaration P (type_in P m k e) x) refl (plain (call t e x es) refl)
             (part_at (λ o z. a_call t.place o (call_slot P (type_in P m k e) x) (call_declaration P (type_in P m k e) x)
-                (operands_of P (type_in P m k) m k es) z) e (call t e x es) (stands_here _ _ (stands_right (tree true e) _ st)))
+            (operands_of P (type_in P m k) m k es) z) e (call t e x es) (stands_here _ _ (stands_right (tree true e) _ st)))
             (is_used e (stands_left (tree true e) _ st)) (stands_past _ _ (stands_right (tree true e) _ st)),
       )
       included u (static_call t c es) st = (
         included_all false es (stands_past _ _ st),
         static_calls t.place (static_call t c es) c es (plain (static_call t c es) refl)
             (part_at (λ o z. a_static_call t.place c (operands_of P (type_in P m k) m k es) z) (static_call t c es) (static_call t c es)
-                (stands_here _ _ st)) (stands_past _ _ st),
+            (stands_here _ _ st)) (stands_past _ _ st),
       )
       included u (super_call t x es) st = (
         included_all false es (stands_past _ _ st),
         super_calls t.place (super_call t x es) x es (plain (super_call t x es) refl)
             (part_at (λ o z. a_super_call t.place (super_method P k.owner x) (operands_of P (type_in P m k) m k es) z) (super_call t x es)
-                (super_call t x es) (stands_here _ _ st)) (stands_past _ _ st),
+            (super_call t x es) (stands_here _ _ st)) (stands_past _ _ st),
       )
       included u (create t n c es) st = (
         included_all false es (stands_past _ _ st),
@@ -652,7 +660,7 @@ module _ (P Q : Plain) (F : Facts) (S : Sets) where
         when_is (type_in P m k v) q.type (at_point P Q F S (point_at (numbers P Q) (seen v))) s (ap (λ z. z.ty) (sym (at_seen v)) ∙ q.typed)
         (is_at P Q F S (point_at (numbers P Q) (seen v)) q.number s (ap (λ z. point_at (numbers P Q) z) (sym (at_seen v)) ∙ q.point)
         (operand_goes P Q F S closed facts m k stands (a_set (at v) (at e)) c (at e) (point_at (numbers P Q) (at v)) q.number s (λ x d. d)
-            (λ x d. d) q.point w))
+        (λ x d. d) q.point w))
 
     set_part : (v e : Ex) → Contains (parts_of P m k) (a_set (seen v) (seen e)) → Contains (parts_of P m k) (a_set (at v) (at e))
     set_part v e c = part_at (λ o z. a_set o z) v e c
@@ -664,7 +672,7 @@ module _ (P Q : Plain) (F : Facts) (S : Sets) where
       sub_sites (value_sites P Q F S (at e)) (typed_sites (bound m i))
           (λ s h. subst (λ z. when_object z (at_point P Q F S ((numbers P Q).point (point.Local m i))) s ≡ true) (local_seen t i)
           (set_goes (local t i) e (set_part (local t i) e (stands_here _ _ (stands_right (tree false e) _ st)))
-              (has_types false e (stands_left (tree false e) _ st)) s h)),
+          (has_types false e (stands_left (tree false e) _ st)) s h)),
     )
 
     sets_static : (t : Tag) (f : ℕ) (e : Ex) → Stands (tree false e ++ a_set (seen (static_field t f)) (seen e) ∷ []) → Included L MadeAs V g e
@@ -674,7 +682,7 @@ module _ (P Q : Plain) (F : Facts) (S : Sets) where
       sub_sites (value_sites P Q F S (at e)) (typed_sites (set_static f))
           (λ s h. subst (λ z. when_object z (at_point P Q F S ((numbers P Q).point (point.Static f))) s ≡ true) (static_seen t f)
           (set_goes (static_field t f) e (set_part (static_field t f) e (stands_here _ _ (stands_right (tree false e) _ st)))
-              (has_types false e (stands_left (tree false e) _ st)) s h)),
+          (has_types false e (stands_left (tree false e) _ st)) s h)),
     )
 
     sets_initial : (t : Tag) (i : ℕ) (e : Option Ex) → Stands (parts_set P (type_in P m k) m k (local t i) e) → SetsTo L MadeAs V g e (bound m i)
@@ -692,7 +700,7 @@ module _ (P Q : Plain) (F : Facts) (S : Sets) where
               when_is (result_object P Q F S m) q.type (at_point P Q F S ((numbers P Q).point (point.Result m))) s (result_is P Q F S m k stands ∙ q.typed)
               (is_at P Q F S ((numbers P Q).point (point.Result m)) q.number s q.point
               (operand_goes P Q F S closed facts m k stands (a_return (at e)) c (at e) ((numbers P Q).point (point.Result m)) q.number s (λ x d. d)
-                  (λ x d. d) q.point w))),
+              (λ x d. d) q.point w))),
         )
 
     included_if : (e : Option Ex) → Stands (parts_if P (type_in P m k) m k e) → IncludedIf L MadeAs V g e
@@ -719,7 +727,7 @@ module _ (P Q : Plain) (F : Facts) (S : Sets) where
           writes p e d (L.field g e x) (λ j ej. (
             part_at (λ o z. a_store p o (Some j) z) e d
                 (subst (λ z. Contains (parts_of P m k) (a_store p (seen e) z (seen d))) (field_seen e x
-                    ∙ ej) (stands_here _ _ (stands_right (tree (is_accessed e) e ++ tree true d) _ st))),
+                ∙ ej) (stands_here _ _ (stands_right (tree (is_accessed e) e ++ tree true d) _ st))),
             (λ b. base_used e se b),
           )) (is_used d sd),
         )
@@ -764,9 +772,11 @@ module _ (P Q : Plain) (F : Facts) (S : Sets) where
 
       included_sts : (xs : Sts) → Stands (sts xs) → IncludedSts L MadeAs V g xs
       included_sts no_st st = tt
-      included_sts (st_then x xs) st =
-          (included_st x (stands_left (parts_st P (type_in P m k) m k x) (sts xs) st), included_sts xs
-          (stands_right (parts_st P (type_in P m k) m k x) (sts xs) st))
+      included_sts (st_then x xs) st = (
+        included_st x (stands_left (parts_st P (type_in P m k) m k x) (sts xs) st),
+        included_sts xs
+            (stands_right (parts_st P (type_in P m k) m k x) (sts xs) st),
+      )
 
       included_arms : (xs : Arms) → Stands (parts_arms P (type_in P m k) m k xs) → IncludedArms L MadeAs V g xs
       included_arms no_other st = tt

@@ -103,7 +103,7 @@ module _ {A K : Type 0} (eq : K → K → Bool) (exact : (x y : K) → eq x y �
   number_there xs x c =
       let z = once_has xs x c in
       position_there (eq (key x)) (map key (once eq key xs)) (key z.0) (map_has key (once eq key xs) z.0 z.1)
-          (subst (λ w. eq (key x) w ≡ true) (sym z.2) (alike (key x)))
+      (subst (λ w. eq (key x) w ≡ true) (sym z.2) (alike (key x)))
 
 pub when_has : {A : Type 0} (b : Bool) (xs : List A) (x : A) → b ≡ true → Contains xs x → Contains (when b xs) x
 when_has true xs x e c = c

@@ -38,29 +38,80 @@ same_body (Some xs) = refl
 
 same_method : (m : Method) → untag_method (method_seen at_place m) ≡ method_seen no_place m
 same_method m =
-    ap (λ z. record { owner = m.owner.0; name = m.name; is_static = m.is_static; is_public = m.is_public; slot = m.slot; params = z; locals = map
-        untag_local (map (local_seen at_place) m.locals.items); result = m.result; body = untag_body (body_seen at_place m.body); tag =
-        no_place m.place })
+    ap (λ z. record {
+      owner = m.owner.0;
+      name = m.name;
+      is_static = m.is_static;
+      is_public = m.is_public;
+      slot = m.slot;
+      params = z;
+      locals = map
+          untag_local (map (local_seen at_place) m.locals.items);
+      result = m.result;
+      body = untag_body (body_seen at_place m.body);
+      tag =
+          no_place m.place;
+    })
     (maps untag_local (local_seen at_place) (local_seen no_place) m.params.items (λ l. refl))
-    ∙ ap (λ z. record { owner = m.owner.0; name = m.name; is_static = m.is_static; is_public = m.is_public; slot = m.slot; params = map
-        (local_seen no_place) m.params.items; locals = z; result = m.result; body = untag_body (body_seen at_place m.body); tag = no_place m.place })
+    ∙ ap (λ z. record {
+      owner = m.owner.0;
+      name = m.name;
+      is_static = m.is_static;
+      is_public = m.is_public;
+      slot = m.slot;
+      params = map
+          (local_seen no_place) m.params.items;
+      locals = z;
+      result = m.result;
+      body = untag_body (body_seen at_place m.body);
+      tag = no_place m.place;
+    })
     (maps untag_local (local_seen at_place) (local_seen no_place) m.locals.items (λ l. refl))
-    ∙ ap (λ z. record { owner = m.owner.0; name = m.name; is_static = m.is_static; is_public = m.is_public; slot = m.slot; params = map
-        (local_seen no_place) m.params.items; locals = map (local_seen no_place) m.locals.items; result = m.result; body = z; tag =
-        no_place m.place })
+    ∙ ap (λ z. record {
+      owner = m.owner.0;
+      name = m.name;
+      is_static = m.is_static;
+      is_public = m.is_public;
+      slot = m.slot;
+      params = map
+          (local_seen no_place) m.params.items;
+      locals = map (local_seen no_place) m.locals.items;
+      result = m.result;
+      body = z;
+      tag =
+          no_place m.place;
+    })
     (same_body (body_seen at_place m.body) ∙ bare_seen at_place m.body)
 
 -- a program without places is the one with places, its tags taken off
 pub same_program : (p : Program) → untagged (program_of at_place p) ≡ program_of no_place p
 same_program p =
-    ap (λ z. record { classes = z; fields = map untag_field (map (field_seen at_place) p.fields.items); methods = map untag_method
-        (map (method_seen at_place) p.methods.items); slots = map (slot_seen at_place) p.slots.items; main = p.main.0 })
+    ap (λ z. record {
+      classes = z;
+      fields = map untag_field (map (field_seen at_place) p.fields.items);
+      methods = map untag_method
+          (map (method_seen at_place) p.methods.items);
+      slots = map (slot_seen at_place) p.slots.items;
+      main = p.main.0;
+    })
     (maps untag_class (class_seen at_place) (class_seen no_place) p.classes.items (λ c. refl))
-    ∙ ap (λ z. record { classes = map (class_seen no_place) p.classes.items; fields = z; methods = map untag_method
-        (map (method_seen at_place) p.methods.items); slots = map (slot_seen at_place) p.slots.items; main = p.main.0 })
+    ∙ ap (λ z. record {
+      classes = map (class_seen no_place) p.classes.items;
+      fields = z;
+      methods = map untag_method
+          (map (method_seen at_place) p.methods.items);
+      slots = map (slot_seen at_place) p.slots.items;
+      main = p.main.0;
+    })
     (maps untag_field (field_seen at_place) (field_seen no_place) p.fields.items (λ f. refl))
-    ∙ ap (λ z. record { classes = map (class_seen no_place) p.classes.items; fields = map (field_seen no_place) p.fields.items; methods = z; slots =
-        map (slot_seen at_place) p.slots.items; main = p.main.0 })
+    ∙ ap (λ z. record {
+      classes = map (class_seen no_place) p.classes.items;
+      fields = map (field_seen no_place) p.fields.items;
+      methods = z;
+      slots =
+          map (slot_seen at_place) p.slots.items;
+      main = p.main.0;
+    })
     (maps untag_method (method_seen at_place) (method_seen no_place) p.methods.items same_method)
 
 -- the watched run of a program without tags is its run, unless it escapes
@@ -77,14 +128,25 @@ module _ (Q : Plain) (F : Facts) (S : Sets) where
       code k None = refl
       code k (Some xs) =
           let ends = option_map_or default_of k.result Nothing in
-          ap (λ z. Some (record { env = z; params = types_of (map untag_local k.params); rest = map default_of (types_of (map untag_local k.locals));
-              ends = ends; code = bare_sts xs })) (same_env m k)
-          ∙ ap (λ z. Some (record { env = env_of m k; params = z; rest = map default_of (types_of (map untag_local k.locals)); ends = ends; code =
-              bare_sts xs })) (untyped_params k.params)
+          ap (λ z. Some (record {
+            env = z;
+            params = types_of (map untag_local k.params);
+            rest = map default_of (types_of (map untag_local k.locals));
+            ends = ends;
+            code = bare_sts xs;
+          })) (same_env m k)
+          ∙ ap (λ z. Some (record {
+            env = env_of m k;
+            params = z;
+            rest = map default_of (types_of (map untag_local k.locals));
+            ends = ends;
+            code =
+                bare_sts xs;
+          })) (untyped_params k.params)
           ∙ ap (λ z. Some (record { env = env_of m k; params = types_of k.params; rest = map default_of z; ends = ends; code = bare_sts xs }))
-              (untyped_params k.locals)
+          (untyped_params k.locals)
           ∙ ap (λ z. Some (record { env = env_of m k; params = types_of k.params; rest = map default_of (types_of k.locals); ends = ends; code = z }))
-              (sym (unlabel_sts 0 xs))
+          (sym (unlabel_sts 0 xs))
 
       go : (o : Option PlainMethod) → option_and_then (λ k. option_map (λ xs. body_with m k xs) k.body) (option_map untag_method o)
           ≡ option_map bare_body (option_and_then (labelled_with P Q F S m) o)
@@ -133,4 +195,4 @@ pub program_covers : (p : Program) (F : Facts) → IsFormed (program_of no_place
     → CoversProgram (program_of no_place p) (program_of at_place p) F
 program_covers p F =
     subst (λ z. IsFormed z → IsTyped z → HaveSlots z → IsFactsOf z (program_of at_place p) F → CoversProgram z (program_of at_place p) F)
-        (same_program p) (untagged_covers (program_of at_place p) F)
+    (same_program p) (untagged_covers (program_of at_place p) F)

@@ -50,7 +50,7 @@ put_rest at x [] y c = absurd (omega (arith, c.1))
 put_rest at x (z ∷ zs) y (zero, lt, e) = choose _ _ _ (nat_lt (at z) (at x)) (0, omega arith, e) (more y x (z ∷ zs) (0, omega arith, e))
 put_rest at x (z ∷ zs) y (suc k, lt, e) =
     let c : Contains zs y = (k, omega (arith, lt), e) in choose _ _ _ (nat_lt (at z) (at x)) (more y z (put_in at x zs) (put_rest at x zs y c))
-        (more y x (z ∷ zs) (more y z zs c))
+    (more y x (z ∷ zs) (more y z zs c))
 
 pub place_has : {A : Type 0} (at : A → ℕ) (xs : List A) (y : A) → Contains xs y → Contains (by_place at xs) y
 place_has at [] y c = c

@@ -50,7 +50,7 @@ use Rattle.run_cover.proofs.Found.{nearest_some}
 module _ (Q : Plain) (F : Facts) (formed : IsFormed (untagged Q)) (slots : HaveSlots (untagged Q)) (m : ℕ) (k : PlainMethod)
     (stands : slice_get Q.methods m ≡ Some k) (body : is_some k.body ≡ true)
     (unique : (q : Place) (u : Bool) (o : Operand) (n s : ℕ) → Contains (parts_of (untagged Q) m k) (a_creation q u o) → o.created ≡ Some n
-        → site_number (untagged Q) Q n ≡ Some s → o.ty ≡ Some (site_type F s)) where
+    → site_number (untagged Q) Q n ≡ Some s → o.ty ≡ Some (site_type F s)) where
   abbrev P : Plain
   P = untagged Q
 
@@ -172,9 +172,13 @@ module _ (Q : Plain) (F : Facts) (formed : IsFormed (untagged Q)) (slots : HaveS
       × (sig.params ≡ types_of h.params) × (sig.result ≡ h.result)
   method_sig c sig e =
       let z = map_some (λ (k : PlainMethod). record { params = types_of k.params; result = k.result }) (slice_get P.methods c) sig e in
-      let h = of_method Q formed c z.0 z.1 in
-      (h.0, h.1, sym (ap (λ w. w.params) z.2) ∙ ap (λ w. types_of w.params) (sym h.2) ∙ untyped_params h.0.params, sym (ap (λ w. w.result) z.2)
-          ∙ ap (λ w. w.result) (sym h.2))
+      let h = of_method Q formed c z.0 z.1 in (
+        h.0,
+        h.1,
+        sym (ap (λ w. w.params) z.2) ∙ ap (λ w. types_of w.params) (sym h.2) ∙ untyped_params h.0.params,
+        sym (ap (λ w. w.result) z.2)
+            ∙ ap (λ w. w.result) (sym h.2),
+      )
 
   -- a form's own row
   own_row_there : (p : Part) (q : Place) (i : RowItem) (o : Option ObjectType) (t : ObjectType) → Contains (parts_of P m k) p
@@ -231,7 +235,7 @@ module _ (Q : Plain) (F : Facts) (formed : IsFormed (untagged Q)) (slots : HaveS
       let f = nearest_some P (λ k. own_method P k x) (length P.classes) b.0.0 d b.2 in
       let at = position-Some (λ m. is_method_of f.0 x m) P.methods d (untag_method h) f.1 in
       let same : get_or P.methods d (untag_method h) ≡ untag_method h = get_or_from_slice_get P.methods d (untag_method h) (untag_method h)
-          (method_of Q formed d h eh) in
+      (method_of Q formed d h eh) in
       no_static f.0 x (untag_method h) (subst (λ z. is_method_of f.0 x z ≡ true) same at.1)
 
   super_listed : (t : Tag) (x : List ℕ) (es : Exs) (c : ℕ) (sig : Signature) (o : ObjectType) → super_method P k.owner x ≡ Some c
@@ -303,7 +307,7 @@ module _ (Q : Plain) (F : Facts) (formed : IsFormed (untagged Q)) (slots : HaveS
             let r = listed t et in
             let x : Site = record { number = j; place = q; ty = t; row = r.0 } in
             site_there P Q m k stands (a_creation q u o) c x (subst (λ z. Contains (site_if q z o.ty (number_if (row_number P Q) o.row)) x) (sym ej)
-                (subst (λ z. Contains (site_if q (Some j) z (number_if (row_number P Q) o.row)) x) (sym et)
+            (subst (λ z. Contains (site_if q (Some j) z (number_if (row_number P Q) o.row)) x) (sym et)
             (subst (λ z. Contains (site_if q (Some j) (Some t) z) x) (sym r.1) (one x))));
         typed = λ j s ej es. unique q u o j s c ej es;
         point = λ eu j s ej es.
@@ -373,7 +377,7 @@ module _ (Q : Plain) (F : Facts) (formed : IsFormed (untagged Q)) (slots : HaveS
   element_kind sc t e i ty fo some st there = λ o ho.
       let r = element_typed (static P g (bare e)) o (typed_of e o ho) some in
       is_point (an_element t.place (O e) (O (index t e i))) t.place (O (index t e i)) (point.Expr m t.label) r.0 there (λ y d. d) refl
-          (index_type t e i ∙ r.1) (row_listed true sc e ty fo st o ho)
+      (index_type t e i ∙ r.1) (row_listed true sc e ty fo st o ho)
 
   -- arguments
   pub args_typed : (es : Exs) (us : List Ty) → TypedArgs P g (bare_all es) us → (i : ℕ) (a : Operand) (t : ObjectType)
@@ -388,9 +392,12 @@ module _ (Q : Plain) (F : Facts) (formed : IsFormed (untagged Q)) (slots : HaveS
   pub param_typed : (h : PlainMethod) (i : ℕ) (u : Ty) (r : ObjectType) → slice_get (types_of h.params) i ≡ Some u → object_of u ≡ Some r
       → (w : ObjectType) × (variable_object h i ≡ Some w) × (i < length h.params)
   param_typed h i u r e o =
-      let v = map_some (λ (v : PlainLocal). v.ty) (slice_get h.params i) u (sym (get_map (λ v. v.ty) h.params i) ∙ e) in
-      (r, ap (λ z. object_if (option_map (λ v. v.ty) z)) (get_left h.params h.locals i v.0 v.1) ∙ ap (λ z. object_of z) v.2
-          ∙ o, slice_get_within h.params i v.0 v.1)
+      let v = map_some (λ (v : PlainLocal). v.ty) (slice_get h.params i) u (sym (get_map (λ v. v.ty) h.params i) ∙ e) in (
+        r,
+        ap (λ z. object_if (option_map (λ v. v.ty) z)) (get_left h.params h.locals i v.0 v.1) ∙ ap (λ z. object_of z) v.2
+            ∙ o,
+        slice_get_within h.params i v.0 v.1,
+      )
 
   method_args : (es : Exs) (us : List Ty) (h : PlainMethod) → TypedArgs P g (bare_all es) us → us ≡ types_of h.params
       → (i : ℕ) (a : Operand) (t : ObjectType) → slice_get (operands_of P (type_in P m k) m k es) i ≡ Some a → a.ty ≡ Some t → (w : ObjectType)
@@ -400,9 +407,9 @@ module _ (Q : Plain) (F : Facts) (formed : IsFormed (untagged Q)) (slots : HaveS
   call_kind : (t : Tag) (e : Ex) (x : List ℕ) (es : Exs) (sig : Signature) → call_signature P (static P g (bare e)) x ≡ Some sig
       → TypedArgs P g (bare_all es) sig.params
       → Contains (parts_of P m k) (a_call t.place (O e) (call_slot P (T e) x) (call_declaration P (T e) x) (operands_of P (type_in P m k) m k es)
-          (O (call t e x es)))
+      (O (call t e x es)))
       → IsKindedPart P Q F m k (a_call t.place (O e) (call_slot P (T e) x) (call_declaration P (T e) x) (operands_of P (type_in P m k) m k es)
-          (O (call t e x es)))
+      (O (call t e x es)))
   unfolding IsKindedPart
   call_kind t e x es sig called args there = go (call_slot P (T e) x) refl
     where
@@ -422,7 +429,7 @@ module _ (Q : Plain) (F : Facts) (formed : IsFormed (untagged Q)) (slots : HaveS
                 (O (call t e x es))) t.place (O (call t e x es)) (point.Expr m t.label) o there (λ y d. d) refl
                 (call_type t e x es sig called ∙ ap (λ z. object_if z) (s.result ∙ ap (λ z. z.result) same ∙ sym i.result) ∙ ho)
                 (let r = return_row Q formed j i.slot o i.stands (ap (λ z. object_if z) (sym i.result) ∙ ho) in
-                    (r.0, ap (λ z. number_if (row_number P Q) (option_map row.Return z)) h ∙ r.1));
+                (r.0, ap (λ z. number_if (row_number P Q) (option_map row.Return z)) h ∙ r.1));
           }
 
   static_kind : (t : Tag) (d : ℕ) (es : Exs) (sig : Signature) → signature_of_method P d ≡ Some sig → TypedArgs P g (bare_all es) sig.params
@@ -437,13 +444,13 @@ module _ (Q : Plain) (F : Facts) (formed : IsFormed (untagged Q)) (slots : HaveS
         result = λ o ho.
             let et = static_call_type t d es sig called ∙ ap (λ z. object_if z) (f.3 ∙ ap (λ z. z.result) same) ∙ ho in
             is_point (a_static_call t.place d (operands_of P (type_in P m k) m k es) (O (static_call t d es))) t.place (O (static_call t d es))
-                (point.Expr m t.label) o there (λ y d. d) refl et (static_listed t d es sig o called s et);
+            (point.Expr m t.label) o there (λ y d. d) refl et (static_listed t d es sig o called s et);
       }
 
   super_kind : (t : Tag) (x : List ℕ) (es : Exs) (c : ℕ) (sig : Signature) → super_method P k.owner x ≡ Some c → super_signature P k.owner x
       ≡ Some sig → TypedArgs P g (bare_all es) sig.params
       → Contains (parts_of P m k) (a_super_call t.place (super_method P k.owner x) (operands_of P (type_in P m k) m k es) (O (super_call t x es)))
-          → IsKindedPart P Q F m k (a_super_call t.place (super_method P k.owner x) (operands_of P (type_in P m k) m k es) (O (super_call t x es)))
+      → IsKindedPart P Q F m k (a_super_call t.place (super_method P k.owner x) (operands_of P (type_in P m k) m k es) (O (super_call t x es)))
   unfolding IsKindedPart numbers
   super_kind t x es c sig found called args there =
       subst (λ z. IsKindedPart P Q F m k (a_super_call t.place z (operands_of P (type_in P m k) m k es) (O (super_call t x es))))
@@ -455,7 +462,7 @@ module _ (Q : Plain) (F : Facts) (formed : IsFormed (untagged Q)) (slots : HaveS
           result = λ o ho.
               let et = super_call_type t x es sig called ∙ ap (λ z. object_if z) (f.3 ∙ ap (λ z. z.result) same) ∙ ho in
               is_point (a_super_call t.place (super_method P k.owner x) (operands_of P (type_in P m k) m k es) (O (super_call t x es))) t.place
-                  (O (super_call t x es)) (point.Expr m t.label) o there (λ y d. d) refl et (super_listed t x es c sig o found called et);
+              (O (super_call t x es)) (point.Expr m t.label) o there (λ y d. d) refl et (super_listed t x es c sig o found called et);
         },
         this_point_of Q formed c h eh hb (super_instance k.owner x c found h eh),
       ))
@@ -466,7 +473,7 @@ module _ (Q : Plain) (F : Facts) (formed : IsFormed (untagged Q)) (slots : HaveS
   test_kind t e o i er ep there = λ y hy.
       let r = own_row_there (a_test t.place (O e) o) t.place i o.ty y there (λ x d. subst (λ z. Contains (own_row t.place z o.ty) x) (sym er) d) hy in
       let w = is_point (a_test t.place (O e) o) t.place o (point.Expr m t.label) y there (λ x d. d) ep hy
-          (r.0, ap (λ z. number_if (row_number P Q) z) er ∙ r.1) in
+      (r.0, ap (λ z. number_if (row_number P Q) z) er ∙ r.1) in
       (w.number, w.point)
 
   creation_kind : (q : Place) (u : Bool) (o : Operand) → IsCreation P Q F u o → IsKindedPart P Q F m k (a_creation q u o)
@@ -495,11 +502,11 @@ module _ (Q : Plain) (F : Facts) (formed : IsFormed (untagged Q)) (slots : HaveS
     kinds u sc (index t e i) (t_index te some ti num) (f_index fe fi) st =
         k_append (tree true e) _ (kinds true sc e te fe (left (tree true e) _ st))
         (k_cons _ _ (element_kind sc t e i te fe some (left (tree true e) _ st) (here _ _ (right (tree true e) _ st)))
-            (kinds false sc i ti fi (past _ _ (right (tree true e) _ st))))
+        (kinds false sc i ti fi (past _ _ (right (tree true e) _ st))))
     kinds u sc (call t e x es) (t_call te sig args) (f_call fe n fes) st =
         k_append (tree true e) _ (kinds true sc e te fe (left (tree true e) _ st))
         (k_cons _ _ (call_kind t e x es _ sig args (here _ _ (right (tree true e) _ st)))
-            (kinds_all true sc es _ args fes (past _ _ (right (tree true e) _ st))))
+        (kinds_all true sc es _ args fes (past _ _ (right (tree true e) _ st))))
     kinds u sc (static_call t d es) (t_static_call sig args) (f_static_call s fes) st =
         k_cons _ _ (static_kind t d es _ sig args s (here _ _ st)) (kinds_all false sc es _ args fes (past _ _ st))
     kinds u sc (super_call t x es) (t_super_call found has sig args) (f_super_call s n fes) st =
@@ -512,13 +519,13 @@ module _ (Q : Plain) (F : Facts) (formed : IsFormed (untagged Q)) (slots : HaveS
         (kinds true sc e te fe (past _ _ st))
     kinds u sc (instance_of t n e c) (t_instance_of te rel) (f_instance_of fe cl) st =
         k_append (tree true e) _ (kinds true sc e te fe (left (tree true e) _ st))
-            (k_cons _ [] (test_kind t e _ (row.Test n) refl refl (here _ [] (right (tree true e) _ st))) k_nil)
+        (k_cons _ [] (test_kind t e _ (row.Test n) refl refl (here _ [] (right (tree true e) _ st))) k_nil)
     kinds u sc (unary t p e) (t_unary te takes) (f_unary fe) st = kinds false sc e te fe st
     kinds u sc (binary t p e d) (t_binary te td takes) (f_binary fe fd) st =
         let both = left (tree false e ++ tree false d) _ st in
         k_append (tree false e ++ tree false d) _
-            (k_append (tree false e) (tree false d) (kinds false sc e te fe (left (tree false e) (tree false d) both))
-            (kinds false sc d td fd (right (tree false e) (tree false d) both)))
+        (k_append (tree false e) (tree false d) (kinds false sc e te fe (left (tree false e) (tree false d) both))
+        (kinds false sc d td fd (right (tree false e) (tree false d) both)))
         (k_cons _ [] (pair_kind p (O e) (O d)) k_nil)
 
     kinds_all : (u : Bool) (sc : List ℕ) (es : Exs) (us : List Ty) → TypedArgs P g (bare_all es) us → FormedExs P (untag_method k) sc (bare_all es)
@@ -611,15 +618,15 @@ module _ (Q : Plain) (F : Facts) (formed : IsFormed (untagged Q)) (slots : HaveS
       let both = left (tree (is_accessed b) b ++ tree true e) _ st in
       let sb = left (tree (is_accessed b) b) (tree true e) both in
       k_append (tree (is_accessed b) b ++ tree true e) _ (k_append (tree (is_accessed b) b) (tree true e) (kinds (is_accessed b) sc b tb fb sb)
-          (kinds true sc e te fe (right (tree (is_accessed b) b) (tree true e) both)))
+      (kinds true sc e te fe (right (tree (is_accessed b) b) (tree true e) both)))
       (k_cons _ [] (store_kind sc p t b x e fb sb fit) k_nil)
   assign_kinds sc p (to_element t b i) e (t_to_element tb some ti num) te fit (f_to_element fb fi) fe st =
       let three = left (tree true b ++ tree false i ++ tree true e) _ st in
       let two = left (tree true b ++ tree false i) (tree true e) three in
       k_append (tree true b ++ tree false i ++ tree true e) _
       (k_append (tree true b ++ tree false i) (tree true e)
-          (k_append (tree true b) (tree false i) (kinds true sc b tb fb (left (tree true b) (tree false i) two))
-          (kinds false sc i ti fi (right (tree true b) (tree false i) two)))
+      (k_append (tree true b) (tree false i) (kinds true sc b tb fb (left (tree true b) (tree false i) two))
+      (kinds false sc i ti fi (right (tree true b) (tree false i) two)))
       (kinds true sc e te fe (right (tree true b ++ tree false i) (tree true e) three)))
       (k_cons _ [] (element_store_kind p (O b) (O e)) k_nil)
   assign_kinds sc p no_target e ty te fit fb fe st = elim ty [ ]
@@ -650,7 +657,7 @@ module _ (Q : Plain) (F : Facts) (formed : IsFormed (untagged Q)) (slots : HaveS
         k_append (sts head ++ if_there test ++ sts step) (sts body)
         (k_append (sts head ++ if_there test) (sts step)
         (k_append (sts head) (if_there test) (sts_kinds _ _ head th fh (left (sts head) (if_there test) both))
-            (test_kinds _ test tt1 ft (right (sts head) (if_there test) both)))
+        (test_kinds _ test tt1 ft (right (sts head) (if_there test) both)))
         (sts_kinds _ _ step ts fs (right (sts head ++ if_there test) (sts step) three)))
         (sts_kinds _ _ body tb fb (right (sts head ++ if_there test ++ sts step) (sts body) st))
     st_kinds l sc (return t None) ty fo st = k_nil
@@ -664,7 +671,7 @@ module _ (Q : Plain) (F : Facts) (formed : IsFormed (untagged Q)) (slots : HaveS
     sts_kinds l sc no_st ty fo st = k_nil
     sts_kinds l sc (st_then x xs) (t_st_then tx txs) (f_st_then fx fxs) st =
         k_append (parts_st P (type_in P m k) m k x) (sts xs) (st_kinds l sc x tx fx (left (parts_st P (type_in P m k) m k x) (sts xs) st))
-            (sts_kinds l _ xs txs fxs (right (parts_st P (type_in P m k) m k x) (sts xs) st))
+        (sts_kinds l _ xs txs fxs (right (parts_st P (type_in P m k) m k x) (sts xs) st))
 
     arms_kinds : (l : Bool) (sc : List ℕ) (xs : Arms) → TypedArms P g (bare_arms xs) → FormedArms P (untag_method k) l sc (bare_arms xs)
         → Stands (parts_arms P (type_in P m k) m k xs) → K (parts_arms P (type_in P m k) m k xs)
@@ -674,7 +681,7 @@ module _ (Q : Plain) (F : Facts) (formed : IsFormed (untagged Q)) (slots : HaveS
         let both = left (tree false e ++ sts xs) (parts_arms P (type_in P m k) m k more) st in
         k_append (tree false e ++ sts xs) (parts_arms P (type_in P m k) m k more)
         (k_append (tree false e) (sts xs) (kinds false sc e te fe (left (tree false e) (sts xs) both))
-            (sts_kinds l sc xs txs fxs (right (tree false e) (sts xs) both)))
+        (sts_kinds l sc xs txs fxs (right (tree false e) (sts xs) both)))
         (arms_kinds l sc more tm fm (right (tree false e ++ sts xs) (parts_arms P (type_in P m k) m k more) st))
 
   -- each part of a typed body is kinded
@@ -684,5 +691,5 @@ module _ (Q : Plain) (F : Facts) (formed : IsFormed (untagged Q)) (slots : HaveS
   unfolding parts_of
   body_kinds xs e ty fo p c =
       sts_kinds false (numbers_below (length (untag_method k).params)) (label_sts 0 xs) (subst (λ z. TypedSts P g z) (sym (unlabel_sts 0 xs)) ty)
-          (subst (λ z. FormedSts P (untag_method k) false (numbers_below (length (untag_method k).params)) z) (sym (unlabel_sts 0 xs)) fo)
+      (subst (λ z. FormedSts P (untag_method k) false (numbers_below (length (untag_method k).params)) z) (sym (unlabel_sts 0 xs)) fo)
       (λ q d. subst (λ z. Contains (parts_body P (type_in P m k) m k z) q) (sym e) d) p (subst (λ z. Contains (parts_body P (type_in P m k) m k z) p) e c)

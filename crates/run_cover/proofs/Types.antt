@@ -65,7 +65,7 @@ module _ (P : Plain) where
   fits_object (a_value a) u t e o = ⊎_elim
       (λ h. base_object a.base u.base a.dim u.dim t (both_hold (a.dim == u.dim) (is_sub_base P a.base u.base) h).1 o)
       (λ h. absurd (char_none a.base a.dim t (both_hold (is_base a.base Char) (a.dim == 0)
-          (both_hold (is_only Char (a_value a)) (is_only Int (a_value u)) h).0).0 o))
+      (both_hold (is_only Char (a_value a)) (is_only Int (a_value u)) h).0).0 o))
       (or_cases (is_subtype P a u) (is_only Char (a_value a) && is_only Int (a_value u)) e)
   fits_object null_value u t e o = absurd (cc)
   fits_object no_value u t e o = absurd (cc)

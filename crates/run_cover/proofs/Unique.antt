@@ -157,7 +157,7 @@ module _ (T : Ex → Option ObjectType) where
     st_numbers (loop t is_while first test step body) =
         joined (made_sts first ++ made_if test ++ made_sts step) (made_sts body) _ _
         (joined (made_sts first ++ made_if test) (made_sts step) _ _ (joined (made_sts first) (made_if test) _ _ (sts_numbers first)
-            (if_numbers test)) (sts_numbers step)) (sts_numbers body)
+        (if_numbers test)) (sts_numbers step)) (sts_numbers body)
     st_numbers (return t e) = if_numbers e
     st_numbers (break t) = refl
     st_numbers (continue t) = refl
@@ -247,7 +247,7 @@ module _ (P : Plain) (m : ℕ) (k : PlainMethod) where
     tree_among u (super_call t x es) = m_cons T _ (parts_all P (type_in P m k) m k false es) (made_all T es) tt (all_among false es)
     tree_among u (create t n c es) =
         m_cons T _ (parts_all P (type_in P m k) m k false es) _ (among_first T t.place u (operand_of P (type_in P m k) m k (create t n c es)) n
-            (made_all T es) refl)
+        (made_all T es) refl)
         (m_more T (parts_all P (type_in P m k) m k false es) (record { number = n; type = T (create t n c es) }) (made_all T es) (all_among false es))
     tree_among u (create_array t n v e) =
         m_cons T _ (tree false e) _ (among_first T t.place u (operand_of P (type_in P m k) m k (create_array t n v e)) n (made T e) refl)
@@ -285,7 +285,7 @@ module _ (P : Plain) (m : ℕ) (k : PlainMethod) where
   assign_among p (to_element t b i) e =
       m_end T (tree true b ++ tree false i ++ tree true e) _ (made T b ++ made T i ++ made T e)
       (m_append T (tree true b ++ tree false i) (tree true e) (made T b ++ made T i) (made T e) (m_append T (tree true b) (tree false i) (made T b)
-          (made T i) (tree_among true b) (tree_among false i)) (tree_among true e)) tt
+      (made T i) (tree_among true b) (tree_among false i)) (tree_among true e)) tt
   assign_among p no_target e = m_end T (tree false e) _ (made T e) (tree_among false e) tt
 
   abbrev sts : Sts → List Part
@@ -301,10 +301,10 @@ module _ (P : Plain) (m : ℕ) (k : PlainMethod) where
     st_among (choose t xs) = arms_among xs
     st_among (loop t is_while head test step body) =
         m_append T (sts head ++ parts_if P (type_in P m k) m k test ++ sts step) (sts body) (made_sts T head ++ made_if T test ++ made_sts T step)
-            (made_sts T body)
+        (made_sts T body)
         (m_append T (sts head ++ parts_if P (type_in P m k) m k test) (sts step) (made_sts T head ++ made_if T test) (made_sts T step)
         (m_append T (sts head) (parts_if P (type_in P m k) m k test) (made_sts T head) (made_if T test) (sts_among head) (if_among test))
-            (sts_among step)) (sts_among body)
+        (sts_among step)) (sts_among body)
     st_among (return t e) = return_among e
     st_among (break t) = m_nil T []
     st_among (continue t) = m_nil T []
@@ -318,7 +318,7 @@ module _ (P : Plain) (m : ℕ) (k : PlainMethod) where
     arms_among (otherwise xs) = sts_among xs
     arms_among (arm e xs more) =
         m_append T (tree false e ++ sts xs) (parts_arms P (type_in P m k) m k more) (made T e ++ made_sts T xs) (made_arms T more)
-            (m_append T (tree false e) (sts xs) (made T e) (made_sts T xs) (tree_among false e) (sts_among xs)) (arms_among more)
+        (m_append T (tree false e) (sts xs) (made T e) (made_sts T xs) (tree_among false e) (sts_among xs)) (arms_among more)
 
   -- the numbered forms of the body
   made_body : Option Sts → List Made
@@ -360,10 +360,10 @@ module _ (Q : Plain) (F : Facts) (formed : IsFormed (untagged Q)) (facts : IsFac
       let x : Made = record { number = n; type = s } in
       let y : Made = record { number = n; type = t } in
       let at : (z : Made) (w : Contains (all_made 0 Q.methods) z) → slice_get (all_made 0 Q.methods) w.0 ≡ Some z = λ z w. slice_get-get_or
-          (all_made 0 Q.methods) w.0 z w.1 ∙ ap (λ v. Some v) w.2 in
+      (all_made 0 Q.methods) w.0 z w.1 ∙ ap (λ v. Some v) w.2 in
       let numbered_at : (z : Made) (w : Contains (all_made 0 Q.methods) z) → slice_get (numbers_methods P.methods) w.0 ≡ Some z.number = λ z w.
       ap (λ v. slice_get v w.0) (sym (all_made_numbers 0 Q.methods)) ∙ get_map (λ (y : Made). y.number) (all_made 0 Q.methods) w.0
-          ∙ ap (λ v. option_map (λ (y : Made). y.number) v) (at z w) in
+      ∙ ap (λ v. option_map (λ (y : Made). y.number) v) (at z w) in
       let same = formed.numbered c.0 d.0 n (numbered_at x c) (numbered_at y d) in
       ap (λ (z : Made). z.type) (same_Some x y (sym (at x c) ∙ ap (λ z. slice_get (all_made 0 Q.methods) z) same ∙ at y d))
 
@@ -390,8 +390,18 @@ module _ (Q : Plain) (F : Facts) (formed : IsFormed (untagged Q)) (facts : IsFac
   part_gives : (m : ℕ) (k : PlainMethod) → slice_get Q.methods m ≡ Some k → (p : Part) → Contains (parts_of P m k) p → (x : Site)
       → Contains (form_sites (row_number P Q) p) x → IsOfCreation x
   part_gives m k e (a_creation q u o) c x d =
-      let g = site_gives q o.created o.ty _ x d in record { method = m; code = k; there = e; place = q; used = u; operand = o; part = c; created =
-      g.0; type = g.1 }
+      let g = site_gives q o.created o.ty _ x d in record {
+        method = m;
+        code = k;
+        there = e;
+        place = q;
+        used = u;
+        operand = o;
+        part = c;
+        created =
+            g.0;
+        type = g.1;
+      }
   part_gives m k e _ c x d = absurd (omega (arith, d.1))
 
   of_creation : (x : Site) → Contains (sites_of P Q) x → IsOfCreation x
@@ -399,8 +409,8 @@ module _ (Q : Plain) (F : Facts) (formed : IsFormed (untagged Q)) (facts : IsFac
   of_creation x c =
       let b = flat_there (λ (b : Body). flat_map (form_sites (row_number P Q)) b.parts) (each (body_at P Q) 0 Q.methods) x
       (place_from (λ s. s.place.at) (flat_map (λ (b : Body). flat_map (form_sites (row_number P Q)) b.parts) (each (body_at P Q) 0 Q.methods)) x
-          (once_from nat_eq (λ s. s.number) [] (by_place (λ s. s.place.at) (flat_map (λ (b : Body). flat_map (form_sites (row_number P Q)) b.parts)
-          (each (body_at P Q) 0 Q.methods))) x c)) in
+      (once_from nat_eq (λ s. s.number) [] (by_place (λ s. s.place.at) (flat_map (λ (b : Body). flat_map (form_sites (row_number P Q)) b.parts)
+      (each (body_at P Q) 0 Q.methods))) x c)) in
       let k = each_from (body_at P Q) 0 Q.methods b.0 b.1 in
       let p = flat_there (form_sites (row_number P Q)) b.0.parts x b.2 in
       part_gives k.0 k.1.0 k.1.1 p.0 (subst (λ z. Contains z p.0) (parts_same k.0 k.1.0 b.0 k.1.2) p.1) x p.2
@@ -421,5 +431,5 @@ module _ (Q : Plain) (F : Facts) (formed : IsFormed (untagged Q)) (facts : IsFac
       let y = of_creation x.site (s, slice_get_within (sites_of P Q) s x.site x.there, get_or_from_slice_get (sites_of P Q) s x.site x.site x.there) in
       let here = each_has (λ m k. made_body P m k k.body) 0 Q.methods m k (record { number = n; type = o.ty }) e m (omega arith) (among P m k q u o n c ec) in
       let there = each_has (λ m k. made_body P m k k.body) 0 Q.methods y.method y.code (record { number = n; type = y.operand.ty }) y.there y.method
-          (omega arith) (among P y.method y.code y.place y.used y.operand n y.part (y.created ∙ ap (λ z. Some z) x.number)) in
+      (omega arith) (among P y.method y.code y.place y.used y.operand n y.part (y.created ∙ ap (λ z. Some z) x.number)) in
       one_type n o.ty y.operand.ty here there ∙ y.type ∙ ap (λ z. Some z) (sym x.type)

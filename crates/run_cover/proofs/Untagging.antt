@@ -56,8 +56,13 @@ mutual
   unlabel_st n (print t l e) = rw (unlabel_if n e) refl
   unlabel_st n (choose t xs) = rw (unlabel_arms n xs) refl
   unlabel_st n (loop t is_while first test step body) =
-      rw (unlabel_sts n first, unlabel_if (n + size_sts first) test, unlabel_sts (n + size_sts first + size_if test) step, unlabel_sts
-      (n + size_sts first + size_if test + size_sts step) body) refl
+      rw (
+        unlabel_sts n first,
+        unlabel_if (n + size_sts first) test,
+        unlabel_sts (n + size_sts first + size_if test) step,
+        unlabel_sts
+            (n + size_sts first + size_if test + size_sts step) body,
+      ) refl
   unlabel_st n (return t e) = rw (unlabel_if n e) refl
   unlabel_st n (break t) = refl
   unlabel_st n (continue t) = refl

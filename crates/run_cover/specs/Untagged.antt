@@ -22,8 +22,14 @@ untag_method k = record k { params = map untag_local k.params; locals = map unta
 
 -- the program as typing sees it
 abbrev pub untagged : Plain → Plain
-untagged Q = record { classes = map untag_class Q.classes; fields = map untag_field Q.fields; methods = map untag_method Q.methods; slots =
-    Q.slots; main = Q.main }
+untagged Q = record {
+  classes = map untag_class Q.classes;
+  fields = map untag_field Q.fields;
+  methods = map untag_method Q.methods;
+  slots =
+      Q.slots;
+  main = Q.main;
+}
 
 -- each instance method is of a slot
 unfoldable pub HaveSlots : Plain → Type 0

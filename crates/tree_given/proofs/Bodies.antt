@@ -277,7 +277,7 @@ module _ (C : Given) (B : Bodied C) where
         let both = left (sts head ++ if_there test) (sts step) three in
         let inner = scope_after_part wr (bare_sts head) in
         loop_formed is_while (written_part P R H m h wr (bare_sts head)) (written_if P R H m h inner (bare_if test))
-            (written_part P R H m h inner (bare_sts step))
+        (written_part P R H m h inner (bare_sts step))
         (Ss inner (bare_sts body))
         (first_formed _ _ wr (bare_sts head) one fh (sts_formed _ _ wr head th fh (left (sts head) (if_there test) both)))
         (test_formed _ inner test tt1 ft (right (sts head) (if_there test) both))

@@ -67,7 +67,7 @@ module _ (F : Facts) (pt : PointsTo) (t : Table) (R : InRange F) (O : InOrder F)
         let kept : IsKept F pt t made = under_kept F pt t R O S T H K l.0 h.0 ll lh lower differ in
         let both : All (λ (s : NodeId). is_live H.order s.0 ≡ true) (l ∷ h ∷ []) =
         All-cons (λ (s : NodeId). is_live H.order s.0 ≡ true) l (h ∷ []) ll (All-cons (λ (s : NodeId). is_live H.order s.0 ≡ true) h [] lh
-            (All-nil (λ (s : NodeId). is_live H.order s.0 ≡ true))) in
+        (All-nil (λ (s : NodeId). is_live H.order s.0 ≡ true))) in
         let changed : changed_by F H (PutUnder l h) ≡ Ok made =
         ap (λ o. unless o UnknownNode (cond (is_le H.order h.0 l.0 && not (h.0 == l.0)) (Err (Cycle l)) (Ok made))) (none_unknown H.order (l ∷ h ∷ []) both)
         ∙ ap (λ b. cond b (Err (Cycle l)) (Ok made)) (no_cycle F pt t R O S T H K l.0 h.0 ll lh lower differ) in
@@ -91,7 +91,7 @@ module _ (F : Facts) (pt : PointsTo) (t : Table) (R : InRange F) (O : InOrder F)
           let down = has_any_some (row H.order.le z.0) set b.between.below in
           let live = K.fits.sized.order.upper_lives up.0 z.0 up.2 in
           let from : (s : ℕ) → is_among set s ≡ true → origin_at H s ≡ k.0 = λ s h. ap (λ c. option_map_or (λ (j : ClassId). j.0) c 0)
-              (among-All (λ x. origin_of H x ≡ Some k) set (from_origin H k) s h) in
+          (among-All (λ x. origin_of H x ≡ Some k) set (from_origin H k) s h) in
           let low = subst (λ x. below F x (origin_at H z.0) ≡ true) (from up.0 up.1) (K.origins.up up.0 z.0 up.2) in
           let high = subst (λ x. below F (origin_at H z.0) x ≡ true) (from down.0 down.1) (K.origins.up z.0 down.0 down.2) in
           false≢true (sym b.between.outside ∙ whole z.0 live (ordered.both (origin_at H z.0) k.0 high low)))
@@ -131,13 +131,18 @@ module _ (F : Facts) (pt : PointsTo) (t : Table) (R : InRange F) (O : InOrder F)
           at (Ok h) e =
               let a = accepted F pt (changed_by F H (MakeOne (x ∷ y ∷ []))) h e in
               let b = unless_ok (first_unknown H.order (x ∷ y ∷ [])) UnknownNode (unless (first_between H.order (x ∷ y ∷ [])) Cycle
-                  (Ok (merged F H (x ∷ y ∷ [])))) h a.0 in
+              (Ok (merged F H (x ∷ y ∷ [])))) h a.0 in
               let c = unless_ok (first_between H.order (x ∷ y ∷ [])) Cycle (Ok (merged F H (x ∷ y ∷ []))) h b.1 in
               let same : merged F H (x ∷ y ∷ []) ≡ h = is_ok (merged F H (x ∷ y ∷ [])) h c.1 in
               let kept = merge_kept F pt t R O S T H K (x ∷ y ∷ []) (omega arith) lives k origins c.0
-                  (subst (λ (z : Hierarchy). first_of_edit F pt z ≡ None) (sym same) a.1) in
-              record { try = MakeOne (x ∷ y ∷ []); new = h; first = accept H (MakeOne (x ∷ y ∷ [])) (MakeOne (nodes_from H k) ∷ us) h e; kept = subst
-                  (IsKept F pt t) same kept }
+              (subst (λ (z : Hierarchy). first_of_edit F pt z ≡ None) (sym same) a.1) in
+              record {
+                try = MakeOne (x ∷ y ∷ []);
+                new = h;
+                first = accept H (MakeOne (x ∷ y ∷ [])) (MakeOne (nodes_from H k) ∷ us) h e;
+                kept = subst
+                    (IsKept F pt t) same kept;
+              }
 
     -- the tries of different origins
     abbrev others : ClassId → ClassId → Conflict → List Try
@@ -175,8 +180,8 @@ module _ (F : Facts) (pt : PointsTo) (t : Table) (R : InRange F) (O : InOrder F)
             (λ two. subst (IsTaken H) (sym (ap (λ b. cond b (tries_of_one H k c.first c.second) (others k l c)) two))
             (⊎_elim
             (λ low. subst (IsTaken H) (sym
-                (ap (λ b. cond b (tries_of_lower c.first c.second) (cond (below F l.0 k.0) (tries_of_lower c.second c.first)
-                (tries_of_others c.first c.second))) low))
+            (ap (λ b. cond b (tries_of_lower c.first c.second) (cond (below F l.0 k.0) (tries_of_lower c.second c.first)
+            (tries_of_others c.first c.second))) low))
             (take_under c.first c.second (MakeOne (c.first ∷ c.second ∷ []) ∷ PutUnder c.second c.first ∷ []) lx ly
             (rw (number c.first.0 k ox, number c.second.0 l oy) low) (differ two)))
             (λ high.
@@ -188,7 +193,7 @@ module _ (F : Facts) (pt : PointsTo) (t : Table) (R : InRange F) (O : InOrder F)
             (facts.is_le F pt t R O S T (origin_at H c.lower.0) k.0 (rw (sym (number c.first.0 k ox)) (K.origins.up c.lower.0 c.first.0 says.first)))
             (facts.is_le F pt t R O S T (origin_at H c.lower.0) l.0 (rw (sym (number c.second.0 l oy)) (K.origins.up c.lower.0 c.second.0 says.second)))) in
             subst (IsTaken H) (sym (ap (λ b. cond b (tries_of_lower c.first c.second) (cond (below F l.0 k.0) (tries_of_lower c.second c.first)
-                (tries_of_others c.first c.second))) high
+            (tries_of_others c.first c.second))) high
             ∙ ap (λ b. cond b (tries_of_lower c.second c.first) (tries_of_others c.first c.second)) down))
             (take_under c.second c.first (MakeOne (c.second ∷ c.first ∷ []) ∷ PutUnder c.first c.second ∷ []) ly lx
             (rw (number c.second.0 l oy, number c.first.0 k ox) down) (λ e. differ two (sym e))))

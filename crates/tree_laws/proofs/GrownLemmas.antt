@@ -173,7 +173,7 @@ module _ (G : Given) (R : Roles) (T : IsClosed G R) (O : AreInOrder G R) (W : Ar
 
       none_at : NoneIsOwn G S → (r d e a b : ℕ) → a ≡ S.row r → G.runs r d ≡ true → IsOther G S d e b → G.class_of e ≡ G.row_class r → o a ≡ o b
           → New.le (becomes set m a) (becomes set m b) ≡ true → becomes set m a ≢ becomes set m b → (set a ≡ true) ⊎ (set a ≡ false) → (set b ≡ true)
-              ⊎ (set b ≡ false) → ⊥
+          ⊎ (set b ≡ false) → ⊥
       none_at N r d e a b ra run is same ends le other (inl x) (inl y) = other (ap (λ z. cond z m a) x ∙ sym (ap (λ z. cond z m b) y))
       none_at N r d e a b ra run is same ends le other (inl x) (inr y) = cc (whole b (columns_live e b is.stands) (sym ends ∙ A.each a x), y)
       none_at N r d e a b ra run is same ends le other (inr x) (inl y) = cc (whole a (row_lives r d a ra run) (ends ∙ A.each b y), x)

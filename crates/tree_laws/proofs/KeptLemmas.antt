@@ -104,7 +104,7 @@ module _ (F : Facts) (pt : PointsTo) (t : Table) (R : InRange F) (O : InOrder F)
     -- a hierarchy that keeps the halves that grow, and the last words of B5, is kept
     kept_by : (New : Hierarchy) → IsHierarchyOf F New → New.table ≡ t.rows.items → ((n : ℕ) → is_live New.order n ≡ true → is_some (origin_of New n) ≡ true)
         → Keeps G (shape New) (origin_at New) → AreNamesApart G (shape New) (field_at F) (slot_at F) (member_name New) → Half G (shape New)
-            → NoneIsOwn G (shape New) → AreNamesLeft H New
+        → NoneIsOwn G (shape New) → AreNamesLeft H New
         → IsKept F pt t New
     kept_by New fits table there keeps names half_new own_new left =
         let rest = rest_of_half G Q closes ordered orders (shape New) (origin_at New) keeps half_new own_new in
@@ -115,7 +115,7 @@ module _ (F : Facts) (pt : PointsTo) (t : Table) (R : InRange F) (O : InOrder F)
         let run : first_changed_run F pt New ≡ None =
         none_both (first_wrong_need F pt New) (or_else (first_wrong_super F New) (or_else (first_two_bodies F New) (first_wrong_outcome F pt New))) r.2
         (none_both (first_wrong_super F New) (or_else (first_two_bodies F New) (first_wrong_outcome F pt New)) r.3
-            (none_both (first_two_bodies F New) (first_wrong_outcome F pt New) r.4 r.5)) in
+        (none_both (first_two_bodies F New) (first_wrong_outcome F pt New) r.4 r.5)) in
         let meets : first_of_edit F pt New ≡ None =
         none_both (first_unoffered F New) (or_else (first_untied F pt New) (or_else (first_changed_run F pt New) (first_misnamed F New))) r.0
         (none_both (first_untied F pt New) (or_else (first_changed_run F pt New) (first_misnamed F New)) r.1
@@ -153,7 +153,7 @@ module _ (F : Facts) (pt : PointsTo) (t : Table) (R : InRange F) (O : InOrder F)
           kept_by under_new (under_fits F R H K.fits l h ll lh no_cycle) K.table (λ n k. K.there n (lives n k))
           (under_keeps G Q closes ordered orders (shape H) (origin_at H) K.origins l h (shape under_new) made lower differ)
           (under_names G Q closes ordered orders (shape H) (origin_at H) K.origins l h (shape under_new) made lower differ (field_at F) (slot_at F)
-              (member_name H) K.names)
+          (member_name H) K.names)
           (under_half G Q closes ordered orders (shape H) (origin_at H) K.origins l h (shape under_new) made lower differ half)
           (under_own G Q closes ordered orders (shape H) (origin_at H) K.origins l h (shape under_new) made lower differ own)
           (record {
@@ -191,7 +191,7 @@ module _ (F : Facts) (pt : PointsTo) (t : Table) (R : InRange F) (O : InOrder F)
         keeps_new =
             keeps_as G (shape merge_new) (origin_at H) (origin_at merge_new) (λ n. ap (λ o. option_map_or (λ (c : ClassId). c.0) o 0) (unmoved n))
             (merge_keeps G Q closes ordered orders (shape H) (origin_at H) K.origins (is_among set) (least F H K.fits.sized.order set all some) k.0
-                (shape merge_new) made of_origin)
+            (shape merge_new) made of_origin)
 
         names_new : AreNamesApart G (shape merge_new) (field_at F) (slot_at F) (member_name merge_new)
         names_new = merge_names G Q closes ordered orders (shape H) (origin_at H) K.origins (is_among set) (least F H K.fits.sized.order set all some)
@@ -202,8 +202,14 @@ module _ (F : Facts) (pt : PointsTo) (t : Table) (R : InRange F) (O : InOrder F)
 
         -- where it is accepted
         pub merge_kept : first_of_edit F pt merge_new ≡ None → IsKept F pt t merge_new
-        merge_kept meets = record { fits = merged_fits F R H K.fits set some all none; table = K.table; there = there_new; origins = keeps_new;
-            names = names_new; meets = meets }
+        merge_kept meets = record {
+          fits = merged_fits F R H K.fits set some all none;
+          table = K.table;
+          there = there_new;
+          origins = keeps_new;
+          names = names_new;
+          meets = meets;
+        }
 
         -- and where the nodes are all that have the origin
         module _ (whole : (x : ℕ) → is_live H.order x ≡ true → origin_at H x ≡ k.0 → is_among set x ≡ true) where
@@ -217,9 +223,9 @@ module _ (F : Facts) (pt : PointsTo) (t : Table) (R : InRange F) (O : InOrder F)
           whole_kept =
               kept_by merge_new (merged_fits F R H K.fits set some all none) K.table there_new keeps_new names_new
               (merge_half G Q closes ordered orders (shape H) (origin_at H) K.origins (is_among set) (least F H K.fits.sized.order set all some) k.0
-                  (shape merge_new) made of_origin half)
+              (shape merge_new) made of_origin half)
               (merge_own G Q closes ordered orders (shape H) (origin_at H) K.origins (is_among set) (least F H K.fits.sized.order set all some) k.0
-                  (shape merge_new) made of_origin
+              (shape merge_new) made of_origin
               (is_live H.order) columns_live rows_live whole own)
               (record {
                 count = merged_count F H K.fits.sized.order set all some none;

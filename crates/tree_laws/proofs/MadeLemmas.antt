@@ -56,7 +56,7 @@ below_each F k b [] all = refl
 below_each F k b (x ∷ ks) all =
     let here : x ≡ k = all 0 x (omega arith) in
     and_from (below F k.0 x.0) (is_below_all F ks k) (subst (λ (y : ClassId). below F k.0 y.0 ≡ true) (sym here) b)
-        (below_each F k b ks (λ i d lt. all (suc i) d (omega (arith, lt))))
+    (below_each F k b ks (λ i d lt. all (suc i) d (omega (arith, lt))))
 
 lowest_one : (F : Facts) (k : ClassId) → below F k.0 k.0 ≡ true → (ks : List ClassId) → 0 < length ks → All (λ x. x ≡ k) ks → lowest F ks ≡ Some k
 lowest_one F k b [] some all = absurd (omega (arith, some))
@@ -89,7 +89,7 @@ module _ (F : Facts) (H : Hierarchy) (p : IsPartialOrder H.order) (set : List No
       (λ past.
       let len = length-map H.rows (merged_node set least) in
       let new : place_of_row (merged F H set) r ≡ 0 = ap (λ (q : NodeId). q.0) (get_or_past (map (merged_node set least) H.rows) r (node 0)
-          (omega (arith, past, len))) in
+      (omega (arith, past, len))) in
       let old : place_of_row H r ≡ 0 = ap (λ (q : NodeId). q.0) (get_or_past H.rows r (node 0) past) in
       new ∙ sym (ap (becomes (is_among set) least) old ∙ zero_stays (cases_Bool (is_among set 0))))
       (cases_lt r (length H.rows))
@@ -104,16 +104,16 @@ module _ (F : Facts) (H : Hierarchy) (p : IsPartialOrder H.order) (set : List No
 
     only : (a b : ℕ) → is_le (merged_order H.order set least) a b ≡ true
         → (is_le H.order a b ≡ true) ⊎ (((s : ℕ) × (is_among set s ≡ true) × (is_le H.order a s ≡ true))
-            × ((s : ℕ) × (is_among set s ≡ true) × (is_le H.order s b ≡ true)))
+        × ((s : ℕ) × (is_among set s ≡ true) × (is_le H.order s b ≡ true)))
     only a b h =
         let pair = is_le H.order a b || (is_below_some H.order set a && is_above_some H.order set b) in
         let pairs = made_le H.order (λ x. is_live H.order x && stays set least x) (merged_le H.order p set least) (merged_live H.order p set least)
-            (merged_below H.order p set least) a b in
+        (merged_below H.order p set least) a b in
         let x = and_parts pair (stays set least a) (and_parts (pair && stays set least a) (stays set least b) (sym pairs ∙ h)).0 in
         ⊎_elim
         (λ y. inl y)
         (λ y. let z = and_parts (is_below_some H.order set a) (is_above_some H.order set b) y in inr
-            (has_any_some (row H.order.le a) set z.0, any_has_some H.order.le set b z.1))
+        (has_any_some (row H.order.le a) set z.0, any_has_some H.order.le set b z.1))
         (or_cases (is_le H.order a b) (is_below_some H.order set a && is_above_some H.order set b) x.0)
 
     pub made_one : IsMadeOne (shape H) (is_among set) least (shape (merged F H set))
@@ -125,7 +125,7 @@ module _ (F : Facts) (H : Hierarchy) (p : IsPartialOrder H.order) (set : List No
           (λ gone. absurd (cc (sym (ap (option_map (λ (q : NodeId). q.0)) (column_of c ∙ ap (option_map (merged_node set least)) gone)) ∙ h)))
           (λ at.
           let is : Some (merged_to set least at.0.0) ≡ Some n = sym (ap (option_map (λ (q : NodeId). q.0)) (column_of c
-              ∙ ap (option_map (merged_node set least)) at.1)) ∙ h in
+          ∙ ap (option_map (merged_node set least)) at.1)) ∙ h in
           let same : n ≡ merged_to set least at.0.0 = cc (sym is) in
           (at.0.0, ap (option_map (λ (q : NodeId). q.0)) at.1, same))
           (cases_Option (place_of_column H c));
@@ -159,6 +159,6 @@ module _ (F : Facts) (H : Hierarchy) (p : IsPartialOrder H.order) (set : List No
         ⊎_elim
         (λ same.
         ap (λ j. get_or (slice_set H.origins least x) j None) same ∙ get_or-set_same H.origins least x None (omega (arith, low.1, sized)) ∙ origin_is
-            ∙ sym (each least least_there) ∙ ap (origin_of H) (sym same))
+        ∙ sym (each least least_there) ∙ ap (origin_of H) (sym same))
         (λ other. get_or-set_other H.origins least n x None other)
         (cases_eq n least)

@@ -87,7 +87,7 @@ module _ (F : Facts) (H New : Hierarchy) (L : AreNamesLeft H New) where
       let p = and_parts (not (eqb m.0 n)) (is_named New (type_name New n) m.0) m.2 in
       any_below_has (λ m. not (eqb m n) && is_named H (type_name H n) m) N m.0 (node_below m.0 m.1)
       (and_from (not (eqb m.0 n)) (is_named H (type_name H n) m.0) p.0 (subst (λ x. is_named H x m.0 ≡ true) (named n)
-          (is_named_left (type_name New n) m.0 p.1)))
+      (is_named_left (type_name New n) m.0 p.1)))
 
   taken_left : first_taken_type F H ≡ None → first_taken_type F New ≡ None
   taken_left none =
@@ -106,7 +106,7 @@ module _ (F : Facts) (H New : Hierarchy) (L : AreNamesLeft H New) where
       (λ a. or_right (other || is_reserved F (type_name H n)) (is_variable F (type_name H n)) (subst (λ x. is_variable F x ≡ true) (named n) a))
       (or_cases (is_other_type F New n (type_name New n) || is_reserved F (type_name New n)) (is_variable F (type_name New n)) p.1) in
       false≢true (sym (none_when (is_live H.order n && is_taken_type F H n) (of_node B8 n) old) ∙ and_from (is_live H.order n) (is_taken_type F H n)
-          (L.live n p.0) taken)))
+      (L.live n p.0) taken)))
 
   field_left : first_taken_field F H ≡ None → first_taken_field F New ≡ None
   field_left none =
@@ -124,12 +124,12 @@ module _ (F : Facts) (H New : Hierarchy) (L : AreNamesLeft H New) where
       let m = any_below_some (is_named New (member_name New c)) (length New.order.live) a in
       or_left (is_type F H (member_name H c)) (is_reserved F (member_name H c))
       (any_below_has (is_named H (member_name H c)) N m.0 (node_below m.0 m.1) (subst (λ x. is_named H x m.0 ≡ true) (called c)
-          (is_named_left (member_name New c) m.0 m.2))))
+      (is_named_left (member_name New c) m.0 m.2))))
       (λ a. or_right (is_type F H (member_name H c)) (is_reserved F (member_name H c)) (subst (λ x. is_reserved F x ≡ true) (called c) a))
       (or_cases (is_type F New (member_name New c)) (is_reserved F (member_name New c)) p.1) in
       false≢true (sym (none_when (stands_at H k.0 c && is_field (column_kind F c) && is_taken_name F H c) (of_column B8 k.0 c) two)
       ∙ and_from (stands_at H k.0 c && is_field (column_kind F c)) (is_taken_name F H c) (and_from (stands_at H k.0 c) (is_field (column_kind F c))
-          k.2 q.1) taken))))
+      k.2 q.1) taken))))
 
   -- with members apart at each node
   pub names_left : first_misnamed F H ≡ None → first_confused F New ≡ None → first_misnamed F New ≡ None
@@ -157,7 +157,7 @@ module _ (F : Facts) (pt : PointsTo) (t : Table) (H : Hierarchy) (table : H.tabl
       let c = any_below_some (λ c. is_offered H n c && clash F H c d) d p.1 in
       let q = and_parts (is_offered H n c.0) (clash F H c.0 d) c.2 in
       let k = and_parts (bytes_eq (member_name H c.0) (member_name H d)) ((field_at F c.0 && field_at F d) || are_two_slots (slot_at F c.0)
-          (slot_at F d)) q.1 in
+      (slot_at F d)) q.1 in
       let e = (bytes_eq-Decides (member_name H c.0) (member_name H d)).0 k.0 in
       let oc = offered_says F pt t H table n c.0 q.0 in
       let od = offered_says F pt t H table n d p.0 in

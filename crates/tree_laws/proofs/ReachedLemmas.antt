@@ -46,8 +46,11 @@ accepted F pt (Ok k) h e = at (first_of_edit F pt k) refl e
     at : (b : Option Broken) → first_of_edit F pt k ≡ b → unless_broken k b ≡ Ok h → (◌≡◌ {A = Result Hierarchy ChangeFault} (Ok k) (Ok h))
         × (first_of_edit F pt h ≡ None)
     at (Some b) f g = absurd (cc g)
-    at None f g = let same : k ≡ h = cc g in (ap (λ (x : Hierarchy). let r : Result Hierarchy ChangeFault = Ok x in r) same, subst
-        (λ (x : Hierarchy). first_of_edit F pt x ≡ None) same f)
+    at None f g = let same : k ≡ h = cc g in (
+      ap (λ (x : Hierarchy). let r : Result Hierarchy ChangeFault = Ok x in r) same,
+      subst
+          (λ (x : Hierarchy). first_of_edit F pt x ≡ None) same f,
+    )
 
 pub unless_ok : (o : Option NodeId) (f : NodeId → ChangeFault) (r : Result Hierarchy ChangeFault) (h : Hierarchy) → unless o f r ≡ Ok h
     → (o ≡ None) × (r ≡ Ok h)
@@ -131,7 +134,7 @@ module _ (F : Facts) (pt : PointsTo) (t : Table) (R : InRange F) (O : InOrder F)
     stood c n h =
         ⊎_elim (λ lt. lt)
         (λ past. absurd (cc (sym (ap (option_map (λ (q : NodeId). q.0))
-            (get_or_past H.columns c None (omega (arith, past, K.fits.sized.columns, K.fits.sized.members)))) ∙ h)))
+        (get_or_past H.columns c None (omega (arith, past, K.fits.sized.columns, K.fits.sized.members)))) ∙ h)))
         (cases_lt c (length H.members))
 
     name_at : (c n : ℕ) → (shape H).column c ≡ Some n → member_name made c ≡ renamed_member F H.members e name c
@@ -206,6 +209,13 @@ module _ (F : Facts) (pt : PointsTo) (t : Table) (R : InRange F) (O : InOrder F)
         let b = or_err (is_placed H e && not (is_mark (column_kind F e.0))) (UnknownMember e) made New a.0 in
         let fits = changed_fits F R H K.fits (edit.MemberName e name) tt New a.0 in
         subst (λ (x : Hierarchy). IsHierarchyOf F x → first_of_edit F pt x ≡ None → IsKept F pt t x) b.1
-        (λ f m. record { fits = f; table = K.table; there = K.there; origins = K.origins; names = record
-            { fields = fields_new; slots = slots_new }; meets = m })
+        (λ f m. record {
+          fits = f;
+          table = K.table;
+          there = K.there;
+          origins = K.origins;
+          names = record
+              { fields = fields_new; slots = slots_new };
+          meets = m;
+        })
         fits a.1

@@ -96,7 +96,7 @@ module _ (F : Facts) (pt : PointsTo) (t : Table) (R : InRange F) (O : InOrder F)
         let two = first_below_None (rule.unoffered F H r) (length F.columns.items) c one (column_below r c h) in
         let no = none_when (bit (row H.table r) c && not (is_offered H (place_of_row H r) c)) (of_both B2 (place_of_row H r) r c) two in
         offered_says F pt t H table (place_of_row H r) c (asked (bit (row H.table r) c) (is_offered H (place_of_row H r) c) no
-            (ap (λ x. bit (row x r) c) table ∙ h))
+        (ap (λ x. bit (row x r) c) table ∙ h))
 
     ties : (first_below (length F.rows.items) (λ l. first_below (length F.rows.items) (untied F H l)) ≡ None)
         × (first_below (length F.sites.items) (λ o. first_below (length F.rows.items) (unheld F pt H o)) ≡ None)
@@ -108,7 +108,7 @@ module _ (F : Facts) (pt : PointsTo) (t : Table) (R : InRange F) (O : InOrder F)
         let x = tie_at F pt t R O S T l u h in
         let range = All-contains (λ (y : TieInfo). IsRow F y.lower × IsRow F y.upper) F.ties.items x.0 R.ties x.1 in
         let one = first_below_None (λ l. first_below (length F.rows.items) (untied F H l)) (length F.rows.items) l ties.0
-            (subst (λ k. k < length F.rows.items) x.2 range.0) in
+        (subst (λ k. k < length F.rows.items) x.2 range.0) in
         let two = first_below_None (untied F H l) (length F.rows.items) u one (subst (λ k. k < length F.rows.items) x.3 range.1) in
         asked (is_tie F l u) (row_le H l u) (none_when (is_tie F l u && not (row_le H l u)) (of_row B3 (place_of_row H l) (place_of_row H u) l) two) h
 
@@ -132,22 +132,22 @@ module _ (F : Facts) (pt : PointsTo) (t : Table) (R : InRange F) (O : InOrder F)
         let found = found_at F pt t R O S T s x d h in
         let right : wrong_body F H s d ≡ None =
         sym (ap (option_and_then (wrong_body F H s)) found)
-            ∙ (sym (ap (λ b. cond b (option_and_then (wrong_body F H s) (finds F (site_class F s) x)) None) both.0) ∙ two) in
+        ∙ (sym (ap (λ b. cond b (option_and_then (wrong_body F H s) (finds F (site_class F s) x)) None) both.0) ∙ two) in
         let no = none_when (not (is_offered H (place_of_site F H s) d) || has_nearer F H (place_of_site F H s) d)
-            (of_both B4 (place_of_site F H s) (site_row F s) d) right in
+        (of_both B4 (place_of_site F H s) (site_row F s) d) right in
         offered_says F pt t H table (place_of_row H (site_row F s)) d (no_not (is_offered H (place_of_site F H s) d)
-            (or_parts (not (is_offered H (place_of_site F H s) d)) (has_nearer F H (place_of_site F H s) d) no).0)
+        (or_parts (not (is_offered H (place_of_site F H s) d)) (has_nearer F H (place_of_site F H s) d) no).0)
 
     super_right : (r d : ℕ) → is_super F r d ≡ true → (rule.is_above H (place_of_row H r) d ≡ true) × (has_between F H r d ≡ false)
     super_right r d h =
         let x = super_at F pt t R O S T r d h in
         let range = All-contains (λ (y : SuperInfo). IsRow F y.row × IsCol F y.column) F.supers.items x.0 R.supers x.1 in
         let one = first_below_None (λ r. first_below (length F.columns.items) (wrong_super F H r)) (length F.rows.items) r b5
-            (subst (λ k. k < length F.rows.items) x.2 range.0) in
+        (subst (λ k. k < length F.rows.items) x.2 range.0) in
         let two = first_below_None (wrong_super F H r) (length F.columns.items) d one (subst (λ k. k < length F.columns.items) x.3 range.1) in
         let no = none_when (is_super F r d && (not (rule.is_above H (place_of_row H r) d) || has_between F H r d)) (of_both B5 (place_of_row H r) r d) two in
         let rest = or_parts (not (rule.is_above H (place_of_row H r) d)) (has_between F H r d)
-            (asked_also (is_super F r d) (not (rule.is_above H (place_of_row H r) d) || has_between F H r d) no h) in
+        (asked_also (is_super F r d) (not (rule.is_above H (place_of_row H r) d) || has_between F H r d) no h) in
         (no_not (rule.is_above H (place_of_row H r) d) rest.0, rest.1)
 
     ran : (r d : ℕ) → is_super F r d ≡ true → Offers (shape H) (place_of_row H r) d
@@ -161,14 +161,14 @@ module _ (F : Facts) (pt : PointsTo) (t : Table) (R : InRange F) (O : InOrder F)
         let p = any_below_some (λ p. meets F pt p k s) (places_of F) h in
         let m = met F pt t R O S T s k h in
         let one = first_below_None (λ p. first_below (length F.rows.items) (λ k. first_below (length F.sites.items) (wrong_outcome F pt H p k)))
-            (places_of F) p.0 b7 p.1 in
+        (places_of F) p.0 b7 p.1 in
         let two = first_below_None (λ k. first_below (length F.sites.items) (wrong_outcome F pt H p.0 k)) (length F.rows.items) k one
-            (meet_target F pt t R O S T s k m) in
+        (meet_target F pt t R O S T s k m) in
         let three = first_below_None (wrong_outcome F pt H p.0 k) (length F.sites.items) s two (meet_site F pt t R O S T s k m) in
         let no = none_when (meets F pt p.0 k s && differ (row_le H (site_row F s) k) (below F (site_class F s) (row_class F k)))
-            (of_row B7 (place_of_site F H s) (place_of_row H k) (site_row F s)) three in
+        (of_row B7 (place_of_site F H s) (place_of_row H k) (site_row F s)) three in
         same_answers (row_le H (site_row F s) k) (below F (site_class F s) (row_class F k))
-            (asked_also (meets F pt p.0 k s) (differ (row_le H (site_row F s) k) (below F (site_class F s) (row_class F k))) no p.2) up
+        (asked_also (meets F pt p.0 k s) (differ (row_le H (site_row F s) k) (below F (site_class F s) (row_class F k))) no p.2) up
 
     pub half_of : Half (given F pt t) (shape H)
     half_of = record { offered = offered; tied = tied; held = held; needed = needed; ran = ran; passes = passes }

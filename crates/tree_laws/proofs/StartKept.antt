@@ -165,8 +165,11 @@ module _ (F : Facts) (pt : PointsTo) (t : Table) (l : Lattice) (A : AreAnalysed 
   stands c at h =
       let e = placed H c at h in
       ⊎_elim
-      (λ lt. (lt, column_stands rows t.width A.table.sized.widths ps all c (node at)
-          (sym (get_or-map-range_with_len (column_place rows ps) 0 C c c None lt (omega arith)) ∙ e)))
+      (λ lt. (
+        lt,
+        column_stands rows t.width A.table.sized.widths ps all c (node at)
+            (sym (get_or-map-range_with_len (column_place rows ps) 0 C c c None lt (omega arith)) ∙ e),
+      ))
       (λ past. absurd (cc (sym (get_or_past H.columns c None (omega (arith, past, length-map-range_with_len (column_place rows ps) 0 C))) ∙ e)))
       (cases_lt c C)
 
@@ -186,9 +189,12 @@ module _ (F : Facts) (pt : PointsTo) (t : Table) (l : Lattice) (A : AreAnalysed 
       let r = filled-some (ext n) f in
       let there = shown.there r.0 c (each r.0 (omega (arith, bit-below (ext n) r.0 r.1, len)) r.1) in
       let st = stands c there.0 there.1 in
-      let within : IsSubset (ext n) (ext there.0) = λ j q. st.1.holds j (rows_with-bit rows c j ∙ each j (omega (arith, bit-below (ext n) j q, len)) q) in
-      (there.0, there.1, node-le rows t.width A.table.sized.widths ps all n there.0 ln st.1.below
-          ∙ and_from (is_filled (ext n)) (is_subset (ext n) (ext there.0)) f (subset-complete (ext n) (ext there.0) within))
+      let within : IsSubset (ext n) (ext there.0) = λ j q. st.1.holds j (rows_with-bit rows c j ∙ each j (omega (arith, bit-below (ext n) j q, len)) q) in (
+        there.0,
+        there.1,
+        node-le rows t.width A.table.sized.widths ps all n there.0 ln st.1.below
+            ∙ and_from (is_filled (ext n)) (is_subset (ext n) (ext there.0)) f (subset-complete (ext n) (ext there.0) within),
+      )
 
   abbrev class_at : ℕ → ClassId
   class_at c = (column_at F c).class
@@ -209,18 +215,29 @@ module _ (F : Facts) (pt : PointsTo) (t : Table) (l : Lattice) (A : AreAnalysed 
   -- of classes at or above one there is a lowest
   has_lowest : (a : ℕ) (ks : List ClassId) (x : ClassId) → ((k : ClassId) → Contains (x ∷ ks) k → IsPlainClass F k.0 × IsBelow F a k.0)
       → (m : ClassId) × Contains (x ∷ ks) m × ((k : ClassId) → Contains (x ∷ ks) k → IsBelow F m.0 k.0)
-  has_lowest a [] x h =
-      (x, (0, omega arith, refl), λ k c. ⊎_elim (λ here. subst (λ (z : ClassId). IsBelow F x.0 z.0) here same)
-          (λ rest. absurd (omega (arith, rest.1))) (unshift x [] k c))
+  has_lowest a [] x h = (
+    x,
+    (0, omega arith, refl),
+    λ k c. ⊎_elim (λ here. subst (λ (z : ClassId). IsBelow F x.0 z.0) here same)
+        (λ rest. absurd (omega (arith, rest.1))) (unshift x [] k c),
+  )
   has_lowest a (y ∷ ys) x h =
       let r = has_lowest a ys y (λ k c. h k (shift x (y ∷ ys) k c)) in
       let one = h x (0, omega arith, refl) in
       let two = h r.0 (shift x (y ∷ ys) r.0 r.1) in
       ⊎_elim
-      (λ down. (x, (0, omega arith, refl), λ k c. ⊎_elim (λ here. subst (λ (z : ClassId). IsBelow F x.0 z.0) here same)
-          (λ rest. below-then F down (r.2 k rest)) (unshift x (y ∷ ys) k c)))
-      (λ up. (r.0, shift x (y ∷ ys) r.0 r.1, λ k c. ⊎_elim (λ here. subst (λ (z : ClassId). IsBelow F r.0.0 z.0) here up) (λ rest. r.2 k rest)
-          (unshift x (y ∷ ys) k c)))
+      (λ down. (
+        x,
+        (0, omega arith, refl),
+        λ k c. ⊎_elim (λ here. subst (λ (z : ClassId). IsBelow F x.0 z.0) here same)
+            (λ rest. below-then F down (r.2 k rest)) (unshift x (y ∷ ys) k c),
+      ))
+      (λ up. (
+        r.0,
+        shift x (y ∷ ys) r.0 r.1,
+        λ k c. ⊎_elim (λ here. subst (λ (z : ClassId). IsBelow F r.0.0 z.0) here up) (λ rest. r.2 k rest)
+            (unshift x (y ∷ ys) k c),
+      ))
       (chain F A.order a x.0 r.0.0 one.0 two.0 one.1 two.1)
 
   column_class_below : (c : ℕ) → c < C → column_class F c < length F.classes.items
@@ -246,8 +263,11 @@ module _ (F : Facts) (pt : PointsTo) (t : Table) (l : Lattice) (A : AreAnalysed 
           let cw : c2.0 < t.width = omega (arith, bit-below (int n) c2.0 c2.1, int-length rows t.width A.table.sized.widths ps all n ln) in
           let entry = ((concept n ln).intent.columns c2.0 cw).0 c2.1 r.0 (omega (arith, bit-below (ext n) r.0 r.1, len)) r.1 in
           let up = facts.is_le F pt t A.range A.order A.sets A.table (row_class F r.0) (column_class F c2.0) (closes.above r.0 c2.0 entry) in (
-            record { below = subst (λ (z : ClassId). z.0 < length F.classes.items) c2.2
-                (column_class_below c2.0 (omega (arith, cw, A.table.sized.columns))); kind = W.classes k.0 },
+            record {
+              below = subst (λ (z : ClassId). z.0 < length F.classes.items) c2.2
+                  (column_class_below c2.0 (omega (arith, cw, A.table.sized.columns)));
+              kind = W.classes k.0;
+            },
             subst (λ (z : ClassId). IsBelow F (row_class F r.0) z.0) c2.2 up,
           ) in
           let m = has_lowest (row_class F r.0) ks x above in
@@ -264,7 +284,7 @@ module _ (F : Facts) (pt : PointsTo) (t : Table) (l : Lattice) (A : AreAnalysed 
       (λ k.
       let says = first_says (is_below_all F (owners F (int n))) (owners F (int n)) k.0 k.1 in
       subst (λ x. below F x (column_class F c) ≡ true) (sym (origin_low n ln k.0 k.1)) (list_all-at (λ (z : ClassId). below F k.0.0 z.0)
-          (owners F (int n)) (class_at c) (owner_has n c has) says.0))
+      (owners F (int n)) (class_at c) (owner_has n c has) says.0))
       (cases_Option (lowest F (owners F (int n))))
 
   abbrev is_class : ℕ → Bool
@@ -272,7 +292,7 @@ module _ (F : Facts) (pt : PointsTo) (t : Table) (l : Lattice) (A : AreAnalysed 
 
   one : (n : ℕ) → is_le H.order n n ≡ true
       → ((c : ℕ) × (at : ℕ) × ((shape H).column c ≡ Some at) × (is_le H.order n at ≡ true) × (column_class F c ≡ origin_at H n))
-          ⊎ ((a : ℕ) → is_class a ≡ true → below F a (origin_at H n) ≡ true)
+      ⊎ ((a : ℕ) → is_class a ≡ true → below F a (origin_at H n) ≡ true)
   one n le =
       let live = fits.sized.order.lower_lives n n le in
       let ln = live_below n live in
@@ -297,7 +317,7 @@ module _ (F : Facts) (pt : PointsTo) (t : Table) (l : Lattice) (A : AreAnalysed 
       let k : ClassId = unwrap_or (lowest F (owners F (int n))) (record { 0 = 0 }) in
       let class = subst (λ o. IfSome o (IsClass F)) (origin_is n ln) (fits.origins n live) in
       lt-ltb (origin_at H n) (length F.classes.items) (subst (λ x. x < length F.classes.items)
-          (sym (ap (λ o. option_map_or (λ (j : ClassId). j.0) o 0) (origin_is n ln))) class)
+      (sym (ap (λ o. option_map_or (λ (j : ClassId). j.0) o 0) (origin_is n ln))) class)
 
   start_origins : AreStartOrigins G (shape H) is_class (origin_at H)
   start_origins = record {

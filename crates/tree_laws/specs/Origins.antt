@@ -52,7 +52,7 @@ pub record AreStartOrigins (G : Given) (S : Shape) (is_class : ℕ → Bool) (or
   pub lowest : (n c at : ℕ) → S.column c ≡ Some at → S.le n at ≡ true → G.below (origin n) (G.class_of c) ≡ true
   pub one : (n : ℕ) → S.le n n ≡ true
       → ((c : ℕ) × (at : ℕ) × (S.column c ≡ Some at) × (S.le n at ≡ true) × (G.class_of c ≡ origin n)) ⊎ ((a : ℕ) → is_class a ≡ true
-          → G.below a (origin n) ≡ true)
+      → G.below a (origin n) ≡ true)
   pub nodes : (n m : ℕ) → S.le n m ≡ true → is_class (origin n) ≡ true
   pub columns : (c n : ℕ) → S.column c ≡ Some n → is_class (G.class_of c) ≡ true
   pub rows : (r : ℕ) → G.is_row r ≡ true → is_class (G.row_class r) ≡ true

@@ -19,7 +19,7 @@ pub written_runs : WrittenRuns
 unfolding WrittenRuns TreeRebuilds WrittenIsTyped RowsAreOffered RebuiltRunsTheSame
 written_runs declarations p w F s t H resolved ready again formed =
     let locals : HasLocalsInOrder (program_of no_place p) = subst HasLocalsInOrder (same_program p)
-        (resolved_in_order declarations (program_of at_place p) resolved) in
+    (resolved_in_order declarations (program_of at_place p) resolved) in
     let made : IsRebuilt (program_of no_place p) (program_of at_place p) F H (program_of no_place w) =
     subst (λ W. IsRebuilt (program_of no_place p) (program_of at_place p) F H W) (same_program w)
     (tree_rebuilds p F s H (program_of at_place w)

@@ -40,7 +40,7 @@ the_main =
       result = None;
       body = Some (st_then (declare (at 100) 1 (Some (create (at 104) 0 1 no_ex))) (st_then (declare (at 110) 2 (Some (create (at 114) 1 2 no_ex)))
           (st_then (print (at 120) true (Some (binary (at 126) (bin.Int op.Plus) (call (at 124) (local (at 122) 1) (codes "m") no_ex)
-              (call (at 130) (local (at 128) 2) (codes "n") no_ex)))) no_st)));
+          (call (at 130) (local (at 128) 2) (codes "n") no_ex)))) no_st)));
       tag = at 90;
     }
 
@@ -64,7 +64,7 @@ abbrev nodes : Hierarchy
 nodes =
     hierarchy (true ∷ true ∷ false ∷ true ∷ true ∷ [])
     ((true ∷ false ∷ false ∷ false ∷ false ∷ []) ∷ (true ∷ true ∷ false ∷ false ∷ false ∷ []) ∷ (false ∷ false ∷ false ∷ false ∷ false ∷ [])
-        ∷ (true ∷ true ∷ false ∷ true ∷ false ∷ []) ∷ (true ∷ true ∷ false ∷ false ∷ true ∷ []) ∷ [])
+    ∷ (true ∷ true ∷ false ∷ true ∷ false ∷ []) ∷ (true ∷ true ∷ false ∷ false ∷ true ∷ []) ∷ [])
     (at_node 1 ∷ at_node 3 ∷ at_node 1 ∷ at_node 4 ∷ []) (node 3 ∷ node 4 ∷ node 1 ∷ node 3 ∷ node 1 ∷ node 4 ∷ [])
     (codes "Object_0" ∷ codes "A_1" ∷ codes "B_2" ∷ codes "A_3" ∷ codes "B_4" ∷ []) (codes "m" ∷ codes "m" ∷ codes "n" ∷ codes "n" ∷ [])
 
@@ -83,17 +83,22 @@ abbrev expected : List DeclTree
 expected =
     InterfaceTree [] (codes "Object_0") [] [] nowhere
     ∷ InterfaceTree [] (codes "A_1") (id (codes "Object_0") ∷ []) (an_head [] (Some (type base.Int)) (codes "m") [] ∷ an_head []
-        (Some (type base.Int)) (codes "n") [] ∷ []) nowhere
+    (Some (type base.Int)) (codes "n") [] ∷ []) nowhere
     ∷ ClassTree [] (codes "A_3") None (id (codes "A_1") ∷ []) (giving (codes "m") (pos 1) ∷ giving (codes "n") (pos 0) ∷ []) nowhere
     ∷ ClassTree [] (codes "B_4") None (id (codes "A_1") ∷ []) (giving (codes "n") (pos 2) ∷ giving (codes "m") (pos 0) ∷ []) nowhere
     ∷ ClassTree [] (codes "Main") None []
     (MethodTree (an_head (modifier Public ∷ modifier Static ∷ []) None (codes "main")
-        (record { is_final = false; ty = record { base = base.Named (codes "String"); dim = 1; place = nowhere }; name = codes "args"; place =
-        nowhere } ∷ []))
+    (record {
+      is_final = false;
+      ty = record { base = base.Named (codes "String"); dim = 1; place = nowhere };
+      name = codes "args";
+      place =
+          nowhere;
+    } ∷ []))
     (Some (and_then (LocalOf false (type (base.Named (codes "A_1"))) (codes "x") (Some (NewOf (id (codes "A_3")) no_more nowhere)) nowhere)
     (and_then (LocalOf false (type (base.Named (codes "A_1"))) (codes "y") (Some (NewOf (id (codes "B_4")) no_more nowhere)) nowhere)
     (and_then (PrintOf true (Some (BinaryOf marks.Plus (CallOn (NameRef (codes "x") nowhere) (codes "m") no_more nowhere)
-        (CallOn (NameRef (codes "y") nowhere) (codes "n") no_more nowhere) nowhere)) nowhere) no_statements)))) nowhere ∷ []) nowhere
+    (CallOn (NameRef (codes "y") nowhere) (codes "n") no_more nowhere) nowhere)) nowhere) no_statements)))) nowhere ∷ []) nowhere
     ∷ []
 
 tree : (others : Facts) → java_tree program program (facts others) nodes ≡ expected

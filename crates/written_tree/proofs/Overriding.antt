@@ -50,8 +50,8 @@ program =
       fields = a_field 1 (codes "f") (plain ty.Int) 20 ∷ [];
       methods = a_method 1 (codes "m") 0 (Some (plain ty.Int)) 30 (st_then (return (at 36) (Some (field (at 42) (this (at 40)) (codes "f")))) no_st)
           ∷ a_method 2 (codes "m") 0 (Some (plain ty.Int)) 60
-              (st_then (return (at 66) (Some (binary (at 74) (bin.Int op.Plus) (super_call (at 70) (codes "m") no_ex) (number (at 76) (pos 1)))))
-              no_st)
+          (st_then (return (at 66) (Some (binary (at 74) (bin.Int op.Plus) (super_call (at 70) (codes "m") no_ex) (number (at 76) (pos 1)))))
+          no_st)
           ∷ the_main ∷ [];
       slots = record { name = codes "m"; params = []; result = Some (plain ty.Int); first = 0 } ∷ [];
       main = 2;
@@ -77,15 +77,20 @@ expected =
     ∷ ClassTree (modifier Abstract ∷ []) (codes "A_1") None (id (codes "A_0") ∷ [])
     (FieldTree [] (type base.Int) (codes "f") nowhere
     ∷ MethodTree (an_head (modifier Public ∷ []) (Some (type base.Int)) (codes "m") [])
-        (Some (and_then (ReturnOf (Some (FieldOf (ThisRef nowhere) (codes "f") nowhere)) nowhere) no_statements)) nowhere ∷ []) nowhere
+    (Some (and_then (ReturnOf (Some (FieldOf (ThisRef nowhere) (codes "f") nowhere)) nowhere) no_statements)) nowhere ∷ []) nowhere
     ∷ ClassTree [] (codes "B_2") (Some (id (codes "A_1"))) []
     (MethodTree (an_head (modifier Public ∷ []) (Some (type base.Int)) (codes "m") [])
     (Some (and_then (ReturnOf (Some (BinaryOf marks.Plus (SuperCallOf (codes "m") no_more nowhere) (IntLit (pos 1) nowhere) nowhere)) nowhere)
-        no_statements)) nowhere ∷ []) nowhere
+    no_statements)) nowhere ∷ []) nowhere
     ∷ ClassTree [] (codes "Main") None []
     (MethodTree (an_head (modifier Public ∷ modifier Static ∷ []) None (codes "main")
-        (record { is_final = false; ty = record { base = base.Named (codes "String"); dim = 1; place = nowhere }; name = codes "args"; place =
-        nowhere } ∷ []))
+    (record {
+      is_final = false;
+      ty = record { base = base.Named (codes "String"); dim = 1; place = nowhere };
+      name = codes "args";
+      place =
+          nowhere;
+    } ∷ []))
     (Some (and_then (LocalOf false (type (base.Named (codes "A_0"))) (codes "x") (Some (NewOf (id (codes "B_2")) no_more nowhere)) nowhere)
     (and_then (PrintOf true (Some (CallOn (NameRef (codes "x") nowhere) (codes "m") no_more nowhere)) nowhere) no_statements))) nowhere ∷ []) nowhere
     ∷ []

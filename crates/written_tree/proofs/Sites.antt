@@ -89,24 +89,29 @@ abbrev main_tree : List ℕ → List ℕ → Expression → DeclTree
 main_tree c d shown =
     ClassTree [] (codes "Main") None []
     (MethodTree (an_head (modifier Public ∷ modifier Static ∷ []) None (codes "main")
-        (record { is_final = false; ty = record { base = base.Named (codes "String"); dim = 1; place = nowhere }; name = codes "args"; place =
-        nowhere } ∷ []))
+    (record {
+      is_final = false;
+      ty = record { base = base.Named (codes "String"); dim = 1; place = nowhere };
+      name = codes "args";
+      place =
+          nowhere;
+    } ∷ []))
     (Some (and_then (makes (codes "x") c) (and_then (makes (codes "y") d) (and_then (stores (codes "x") (codes "a") (pos 1))
-        (and_then (stores (codes "y") (codes "b") (pos 2))
+    (and_then (stores (codes "y") (codes "b") (pos 2))
     (and_then (PrintOf true (Some shown) nowhere) no_statements)))))) nowhere ∷ []) nowhere
 
 apart : (others : Facts) → java_tree (program sum) (program sum) (facts others) three
     ≡ InterfaceTree [] (codes "Object_0") [] [] nowhere ∷ ClassTree [] (codes "P_1") None (id (codes "Object_0") ∷ []) (an_int (codes "a") ∷ [])
-        nowhere ∷ ClassTree [] (codes "P_2") None (id (codes "Object_0") ∷ []) (an_int (codes "b") ∷ []) nowhere
+    nowhere ∷ ClassTree [] (codes "P_2") None (id (codes "Object_0") ∷ []) (an_int (codes "b") ∷ []) nowhere
     ∷ main_tree (codes "P_1") (codes "P_2") (BinaryOf marks.Plus (FieldOf (NameRef (codes "x") nowhere) (codes "a") nowhere)
-        (FieldOf (NameRef (codes "y") nowhere) (codes "b") nowhere) nowhere) ∷ []
+    (FieldOf (NameRef (codes "y") nowhere) (codes "b") nowhere) nowhere) ∷ []
 unfolding java_tree renaming_of numbers rows_of row_number columns_of column_number parts_of type_in call_signature super_signature field_in
     access_type below member_field field_of declaration_of search_order super_method
 apart others = refl
 
 above : (others : Facts) → java_tree (program same) (program same) (facts others) two
     ≡ ClassTree [] (codes "P_0") None [] (an_int (codes "a") ∷ []) nowhere ∷ ClassTree [] (codes "P_1") (Some (id (codes "P_0"))) []
-        (an_int (codes "b") ∷ []) nowhere
+    (an_int (codes "b") ∷ []) nowhere
     ∷ main_tree (codes "P_0") (codes "P_1") (BinaryOf marks.Equal (NameRef (codes "x") nowhere) (NameRef (codes "y") nowhere) nowhere) ∷ []
 unfolding java_tree renaming_of numbers rows_of row_number columns_of column_number parts_of type_in call_signature super_signature field_in
     access_type below member_field field_of declaration_of search_order super_method

@@ -44,8 +44,19 @@ variable name ty p = record { name = name; ty = ty; tag = at p }
 
 abbrev pub a_method : ℕ → List ℕ → ℕ → Option Ty → ℕ → Sts → PlainMethod
 a_method owner name slot result p code =
-    record { owner = owner; name = name; is_static = false; is_public = false; slot = Some slot; params = []; locals = []; result = result; body =
-        Some code; tag = at p }
+    record {
+      owner = owner;
+      name = name;
+      is_static = false;
+      is_public = false;
+      slot = Some slot;
+      params = [];
+      locals = [];
+      result = result;
+      body =
+          Some code;
+      tag = at p;
+    }
 
 -- ---- facts
 

@@ -130,7 +130,7 @@ module _ (P : Plain) (R : Renaming) (H : Hierarchy) (m : ℕ) (k : PlainMethod) 
     written_st scope (choose t a) = IfOf (written_arms scope a) (written_else scope a) nowhere
     written_st scope (loop t is_while first e step body) =
         let inner = scope_after_part scope first in loop_tree is_while (written_part scope first) (written_if inner e) (written_part inner step)
-            (written_sts inner body)
+        (written_sts inner body)
     written_st scope (return t e) = ReturnOf (written_if scope e) nowhere
     written_st scope (break t) = BreakOf nowhere
     written_st scope (continue t) = ContinueOf nowhere

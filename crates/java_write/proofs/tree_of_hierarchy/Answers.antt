@@ -24,7 +24,7 @@ returns c =
     record {
       tree = subst (λ d. IfOk c.generate.result (λ t. tree_of t ≡ d)) (same_tree p n F H are)
           (subst (λ q. IfOk c.generate.result (λ t. tree_of t ≡ written_by (program_of no_place q) (renamed n H) F H n.columns.keys))
-              c.program-plain.ensures.value c.generate.ensures.tree);
+          c.program-plain.ensures.value c.generate.ensures.tree);
       formed = c.program-plain.ensures.formed;
       typed = c.program-plain.ensures.typed;
     }

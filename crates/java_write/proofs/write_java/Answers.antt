@@ -12,14 +12,14 @@ pub resolve-requires : goal.resolve-requires
 resolve-requires c = record {
   given = subst IsFormedTree (sym c.in_ok-tree.ensures.tree)
       (hierarchy_formed c.args.program.now c.args.facts.now c.args.hier.now c.in_ok-tree.ensures.formed c.in_ok-tree.ensures.typed c.requires.facts
-          c.requires.unbroken);
+      c.requires.unbroken);
 }
 
 pub print-requires : goal.print-requires
 print-requires c =
     subst IsGiven (sym c.in_ok-tree.ensures.tree)
     (hierarchy_given c.args.program.now c.args.facts.now c.args.hier.now c.in_ok-tree.ensures.formed c.in_ok-tree.ensures.typed c.requires.facts
-        c.requires.unbroken)
+    c.requires.unbroken)
 
 pub returns-in-Ok-clause-written : goal.returns-in-Ok-clause-written
 returns-in-Ok-clause-written c =
@@ -27,9 +27,9 @@ returns-in-Ok-clause-written c =
     let before = c.args.into.now.items in
     let now = c.print.new.into.items in
     on_both c.print.result (now ≡ before ++ text) (IsReadAs text (tree_of c.in_ok-tree.tree))
-        (Appends c.args.program.now c.args.facts.now c.args.hier.now before now)
+    (Appends c.args.program.now c.args.facts.now c.args.hier.now before now)
     (appends c.args.program.now c.args.facts.now c.args.hier.now c.in_ok-tree.ensures.formed c.in_ok-tree.ensures.typed c.requires.facts
-        c.requires.unbroken c.requires.text
+    c.requires.unbroken c.requires.text
     c.in-Ok._new (tree_of c.in_ok-tree.tree) before now c.in_ok-tree.ensures.tree c.in-Ok.ensures.resolves c.in-Ok.ensures.formed)
     c.print.ensures.text c.print.ensures.read
 
@@ -38,5 +38,5 @@ short_of_memory-requires c =
     only_memory (tree_of c.in_ok-tree.tree) c.in-Err.refusal
     (subst HasNoCondition (sym c.in_ok-tree.ensures.tree)
     (hierarchy_named c.args.program.now c.args.facts.now c.args.hier.now c.in_ok-tree.ensures.formed c.in_ok-tree.ensures.typed c.requires.facts
-        c.requires.unbroken))
+    c.requires.unbroken))
     c.in-Err.ensures.refused

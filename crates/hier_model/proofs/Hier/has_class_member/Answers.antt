@@ -13,4 +13,4 @@ returns-then-offers c =
     let n = c.args.n.0 in
     sym (any_below_found (λ k. is_of_class (column_kind F k) && is_offered H n k) (length F.columns.items) c.loop-c.c c.loop-c.invariant (omega arith)
     (and_from (is_of_class (column_kind F c.loop-c.c)) (is_offered H n c.loop-c.c) (ap (λ (x : ColumnInfo). is_of_class x.kind)
-        (sym c.column_at.ensures) ∙ sym c.if-is_of_class.ensures) (sym c.if-offers.ensures)))
+    (sym c.column_at.ensures) ∙ sym c.if-is_of_class.ensures) (sym c.if-offers.ensures)))

@@ -16,6 +16,6 @@ returns-then-le c =
     let dim = ap (λ (x : SiteInfo). x.dim) (sym c.site_at-site.ensures) ∙ c.if-site-eq0.true in
     let at = c.place_of_row.ensures ∙ ap (λ (x : SiteInfo). place_of_row H x.row.0) c.site_at-site.ensures in
     sym (any_below_found (λ k. ((site_at F k).dim == 0) && is_le H.order n (place_of_row H (site_row F k))) (length F.sites.items) s
-        c.loop-s.invariant (omega arith)
+    c.loop-s.invariant (omega arith)
     (and_from ((site_at F s).dim == 0) (is_le H.order n (place_of_row H (site_row F s))) (eq-eqb (site_at F s).dim 0 dim)
-        (ap (is_le H.order n) (sym at) ∙ ap (λ (h : Hierarchy). is_le h.order n c.place_of_row.result.0) (sym c.self.view_is) ∙ sym c.if-le.ensures)))
+    (ap (is_le H.order n) (sym at) ∙ ap (λ (h : Hierarchy). is_le h.order n c.place_of_row.result.0) (sym c.self.view_is) ∙ sym c.if-le.ensures)))

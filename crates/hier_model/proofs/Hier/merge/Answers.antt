@@ -15,7 +15,7 @@ merged-requires-clause-live c =
     let set = c.args.set.now.items in
     let none : first_unknown c.args.self.now.order set ≡ None =
     ap (λ (h : Hierarchy). first_unknown h.order set) (sym c.self.view_is) ∙ ap (first_unknown c.self.inside.order) (sym c.deref.ensures.value)
-        ∙ sym c.in_default.ensures in
+    ∙ sym c.in_default.ensures in
     subst (All (λ (s : NodeId). is_live c.args.self.now.order s.0 ≡ true)) (sym c.deref-2.ensures.value) (all_live c.args.self.now.order set none)
 
 pub returns : goal.returns
@@ -24,7 +24,7 @@ returns c =
     let H = c.args.self.now in
     let set = c.args.set.now.items in
     let none : first_unknown H.order set ≡ None = ap (λ (h : Hierarchy). first_unknown h.order set) (sym c.self.view_is)
-        ∙ ap (first_unknown c.self.inside.order) (sym c.deref.ensures.value) ∙ sym c.in_default.ensures in
+    ∙ ap (first_unknown c.self.inside.order) (sym c.deref.ensures.value) ∙ sym c.in_default.ensures in
     let apart : first_between H.order set ≡ None = ap (λ (h : Hierarchy). first_between h.order set) (sym c.self.view_is) ∙ c.in_ok-made.ensures.none in
     let node : c.in_ok-made.made.node.0 ≡ least_of H.order set = c.in_ok-made.ensures.node ∙ ap (λ (h : Hierarchy). least_of h.order set) c.self.view_is in
     inr (merge_made F c.requires.range H c.requires.hierarchy set c.in_ok-hier.hier none apart

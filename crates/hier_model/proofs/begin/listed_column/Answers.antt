@@ -12,4 +12,4 @@ returns-then-lists_column c =
     let x = c.args.c.0 in
     let k = c.loop-k.k in
     sym (first_below_found (λ j. when (lists_column cs j x) (node j)) k (length cs) (node k) (omega arith) c.loop-k.invariant
-        (when_true (lists_column cs k x) (node k) (sym c.if-lists_column.ensures)))
+    (when_true (lists_column cs k x) (node k) (sym c.if-lists_column.ensures)))

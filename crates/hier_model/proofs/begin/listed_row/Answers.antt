@@ -12,4 +12,4 @@ returns-then-lists_row c =
     let x = c.args.r.0 in
     let k = c.loop-k.k in
     sym (first_below_found (λ j. when (lists_row cs j x) (node j)) k (length cs) (node k) (omega arith) c.loop-k.invariant
-        (when_true (lists_row cs k x) (node k) (sym c.if-lists_row.ensures)))
+    (when_true (lists_row cs k x) (node k) (sym c.if-lists_row.ensures)))

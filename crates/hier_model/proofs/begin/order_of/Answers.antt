@@ -8,11 +8,11 @@ from_rows-requires c =
     let live = c.in_ok-live in
     let le = c.in_ok-le in
     subst IsPartialOrder (sym (order_from c.args.concepts.now live.live le.le.items live.ensures.width live.ensures.nodes le.ensures.len
-        le.ensures.widths le.ensures.rows)) c.requires.order
+    le.ensures.widths le.ensures.rows)) c.requires.order
 
 pub returns : goal.returns
 returns c =
     let live = c.in_ok-live in
     let le = c.in_ok-le in
     c.from_rows.ensures ∙ order_from c.args.concepts.now live.live le.le.items live.ensures.width live.ensures.nodes le.ensures.len
-        le.ensures.widths le.ensures.rows
+    le.ensures.widths le.ensures.rows

@@ -17,7 +17,7 @@ below : (c : After-deref-c-items) (i : ℕ) → i < length c.deref-c-items.resul
 below c i lt =
     let N = c.deref-c-items.result.now in
     let has : Contains c.in_ok-numbers.numbers.items (get_or N i 0) = subst (λ l. Contains l (get_or N i 0)) c.deref-c-items.ensures.value
-        (Contains-get_or N i 0 lt) in
+    (Contains-get_or N i 0 lt) in
     let lt = ((c.in_ok-numbers.ensures.exact.each (get_or N i 0)).0 has).0 in
     omega (arith, lt, c.requires.columns)
 
@@ -47,7 +47,7 @@ loop-c-preserved c =
     elim c.if-is_owner.branch [
       | then-is_owner+in_ok-push w ↦
           let new_is : c.if-is_owner.classes.items ≡ old ++ g (get_or N i 0) ∷ [] = ap (λ (v : Vec ClassId Global). v.items) w.classes-is
-              ∙ w.in_ok-push.ensures.items ∙ ap (λ k. old ++ k ∷ []) column in
+          ∙ w.in_ok-push.ensures.items ∙ ap (λ k. old ++ k ∷ []) column in
           let owned : p (g (get_or N i 0)) ≡ true = ap p (sym column) ∙ sym w.if-is_owner.ensures in
           record {
             list = owned_then p g N i c.loop-c-test.true old c.if-is_owner.classes.items owned new_is ∙ c.loop-c.invariant.list;

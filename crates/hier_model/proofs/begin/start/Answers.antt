@@ -46,11 +46,11 @@ value c =
     let wide : c.len.result ≡ n = c.len.ensures ∙ F.columns.ok.0 in
     let columns : c.in_ok-columns.columns.items ≡ map (column_place T xs) (range_with_len 0 n) =
     c.in_ok-columns.ensures ∙ ap (λ l. map (listed_column l) (range_with_len 0 c.len.result)) c.deref-2.ensures.value
-        ∙ ap (λ k. map (listed_column cs) (range_with_len 0 k)) wide ∙ columns_start T n cs lattice in
+    ∙ ap (λ k. map (listed_column cs) (range_with_len 0 k)) wide ∙ columns_start T n cs lattice in
     let tall : c.len-2.result ≡ length T = c.len-2.ensures ∙ F.rows.ok.0 ∙ sym c.requires.table.sized.rows in
     let rows : c.in_ok-rows.rows.items ≡ map (row_place xs) T =
     c.in_ok-rows.ensures ∙ ap (λ l. map (row_node l) (range_with_len 0 c.len-2.result)) c.deref-3.ensures.value
-        ∙ ap (λ k. map (row_node cs) (range_with_len 0 k)) tall ∙ rows_start T n cs lattice in
+    ∙ ap (λ k. map (row_node cs) (range_with_len 0 k)) tall ∙ rows_start T n cs lattice in
     let origins : c.in_ok-origins.origins.items ≡ origins_of F xs = c.in_ok-origins.ensures ∙ ap (λ l. origins_of F (map pair_of l)) c.deref-4.ensures.value in
     let members : c.in_ok-members.members.items ≡ member_names F n = c.in_ok-members.ensures in
     let types : c.in_ok-types.types.items ≡ type_names F (member_names F n) (origins_of F xs) (length (origins_of F xs)) =
@@ -58,9 +58,9 @@ value c =
     ∙ ap (λ l. type_names F (member_names F n) l (length l)) (c.deref-6.ensures.value ∙ origins) in
     let table : c.in_ok-table.table.items ≡ T = c.in_ok-table.ensures ∙ c.deref-7.ensures.value in
     same_parts c.in_ok-order.order (order_of xs) c.in_ok-columns.columns.items (map (column_place T xs) (range_with_len 0 n)) c.in_ok-rows.rows.items
-        (map (row_place xs) T) c.in_ok-types.types.items
+    (map (row_place xs) T) c.in_ok-types.types.items
     (type_names F (member_names F n) (origins_of F xs) (length (origins_of F xs))) c.in_ok-members.members.items (member_names F n)
-        c.in_ok-origins.origins.items (origins_of F xs) c.in_ok-table.table.items T
+    c.in_ok-origins.origins.items (origins_of F xs) c.in_ok-table.table.items T
     order columns rows types members origins table
 
 pub returns-clause-value : goal.returns-clause-value
@@ -72,5 +72,5 @@ returns-clause-fits c =
     let t = c.args.table.now in
     let xs = map pair_of c.args.lattice.now.concepts.items in
     let all : AreAllConcepts t.rows.items (length F.columns.items) xs = subst (λ w. AreAllConcepts t.rows.items w xs) c.requires.table.sized.columns
-        c.requires.lattice.all in
+    c.requires.lattice.all in
     subst (IsHierarchyOf F) (sym (value c)) (start_fits F c.requires.range c.requires.order t.rows.items (keeps_table F t c.requires.table) xs all)

@@ -10,7 +10,7 @@ use Rattle.hier_model.proofs.names.free_name.Goals.{In_ok-push}
 taken : (c : In_ok-push) → is_taken (texts c.args.taken.now.keys) (chars (string_bytes c.loop-text.text)) ≡ true
 taken c =
     ap (λ b. is_taken (texts c.args.taken.now.keys) (chars b)) (sym c.as_str.ensures.value)
-        ∙ sym (taken_by c.as_str.result.now c.as_str.utf8 c.args.taken.now.keys) ∙ sym c.loop-text-test.ensures
+    ∙ sym (taken_by c.as_str.result.now c.as_str.utf8 c.args.taken.now.keys) ∙ sym c.loop-text-test.ensures
 
 more : (c : In_ok-push) → chars (string_bytes c.push.new.self) ≡ chars (string_bytes c.loop-text.text) ++ 95 ∷ []
 more c = underscored c.loop-text.text c.push.new.self (c.in_ok-push.ensures.bytes
@@ -29,6 +29,6 @@ returns c =
     let t = texts c.args.taken.now.keys in
     let free : is_taken t (chars (string_bytes c.loop-text.text)) ≡ false =
     ap (λ b. is_taken t (chars b)) (sym c.as_str.ensures.value) ∙ sym (taken_by c.as_str.result.now c.as_str.utf8 c.args.taken.now.keys)
-        ∙ sym c.loop-text-test.ensures in
+    ∙ sym c.loop-text-test.ensures in
     c.in_ok-name.ensures.value ∙ ap chars c.as_str-2.ensures.value ∙ tried_free t (chars (string_bytes c.args.base))
-        (chars (string_bytes c.loop-text.text)) c.loop-text.invariant free
+    (chars (string_bytes c.loop-text.text)) c.loop-text.invariant free

@@ -11,6 +11,6 @@ returns c = λ given same.
     let class = class_name F (naming_class c.args.origin) in
     typed_name F given (texts c.args.taken.now.keys) class c.args.n c.in_ok-base.base c.in_ok-name.name (omega (arith, c.ranges.n.fits))
     (c.in_ok-base.ensures ∙ ap (λ x. x ++ 95 ∷ c.as_str.result.now) (c.class_text-class.ensures
-        ∙ ap (λ k. encode_utf8_all (class_name F k)) c.naming_class.ensures)
+    ∙ ap (λ k. encode_utf8_all (class_name F k)) c.naming_class.ensures)
     ∙ ap (λ y. encode_utf8_all class ++ 95 ∷ y) (c.as_str.ensures.value ∙ c.in_ok-number.ensures.ok))
     same c.in_ok-name.ensures

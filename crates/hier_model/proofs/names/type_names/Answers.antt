@@ -11,7 +11,7 @@ loop-n-init c = record {
   taken = λ x.
       c.in_ok-taken.ensures x ∙ ap (λ w. is_taken (w ++ c.args.members.now) x) c.deref.ensures.value
       ∙ ap (λ m. is_taken (c.args.facts.now.words.items ++ m) x) (sym (ap (λ l. c.args.members.now ++ l) c.new-names.ensures.items
-          ∙ append-nil c.args.members.now));
+      ∙ append-nil c.args.members.now));
 }
 
 pub loop-n-preserved : goal.loop-n-preserved
@@ -26,10 +26,10 @@ loop-n-preserved c =
       names =
           grown (type_names F ms os) k n g c.push.new.self.items c.in_ok-push.ensures.items c.loop-n.invariant.names
           (ap (λ y. type_names F ms os k ++ y ∷ []) (sym (c.in_ok-name.ensures (ms ++ g) c.loop-n.invariant.taken
-              ∙ ap (λ l. named_type F os (ms ++ l) k) c.loop-n.invariant.names)));
+          ∙ ap (λ l. named_type F os (ms ++ l) k) c.loop-n.invariant.names)));
       taken =
           subst (λ l. AreSame (texts c.add_name.new.taken.keys) (F.words.items ++ (ms ++ l))) (sym c.in_ok-push.ensures.items)
           (subst (λ l. AreSame (texts c.add_name.new.taken.keys) (F.words.items ++ l)) (append_assoc ms g (n ∷ []))
           (AreSame-more (texts c.loop-n.taken.keys) (texts c.add_name.new.taken.keys) F.words.items (ms ++ g) n c.loop-n.invariant.taken
-              c.in_ok-add_name.ensures));
+          c.in_ok-add_name.ensures));
     }

@@ -10,7 +10,7 @@ returns-in-Ok-clause-node c = sym (least_is c.args.order.now c.args.set.now.item
 pub returns-in-Ok-clause-order : goal.returns-in-Ok-clause-order
 returns-in-Ok-clause-order c =
     merged_is c.args.order.now c.in_ok-merged.merged c.merge_set.new.self c.args.set.now.items c.in_ok-merged.ensures c.in-Ok.node.0
-        c.in-Ok.ensures.least c.in-Ok.ensures.pairs
+    c.in-Ok.ensures.least c.in-Ok.ensures.pairs
 
 pub returns-in-Ok-clause-none : goal.returns-in-Ok-clause-none
 returns-in-Ok-clause-none c = merged_none c.args.order.now c.in_ok-merged.merged c.args.set.now.items c.in-Ok.node c.requires.order

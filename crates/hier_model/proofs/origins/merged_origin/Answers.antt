@@ -17,7 +17,7 @@ lowest-requires-clause-classes c =
     let set = c.args.set.now in
     let f = λ (n : NodeId). get_or c.args.origins.now n.0 None in
     let there : all_there (map f set) ≡ Some c.in-Some.classes.items = sym c.in_ok-classes.ensures
-        ∙ ap (option_map (λ (v : Vec ClassId Global). v.items)) c.in-Some.is in
+    ∙ ap (option_map (λ (v : Vec ClassId Global). v.items)) c.in-Some.is in
     let all : All (IsClass F) c.in-Some.classes.items =
     all_there_all (IsClass F) (map f set) c.in-Some.classes.items there
     (λ i d lt.

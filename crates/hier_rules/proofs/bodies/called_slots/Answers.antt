@@ -18,7 +18,7 @@ loop-call-preserved c =
     let p = λ (k : CallInfo). bit (row pt.points.items k.receiver) s in
     subst (λ out. Collects f p (λ x. false) out calls (c.loop-call.call-index + 1)) (sym c.in_ok-add_slot.ensures)
     (collect_more f p (λ x. false) c.loop-call.slots.items calls c.loop-call.call-index c.call-item.result c.call-item.result (omega arith) is
-        c.loop-call.invariant)
+    c.loop-call.invariant)
 
 pub returns-clause-sorted : goal.returns-clause-sorted
 returns-clause-sorted c = IsNonDecreasingBy-from_sort (λ x. x) c.sort.new.self.items c.in_ok-sort.ensures.sorted
@@ -27,7 +27,7 @@ pub returns-clause-slots : goal.returns-clause-slots
 returns-clause-slots c =
     let e = take_all c.loop-call.call-index c.args.facts.now.calls.items (omega arith) in
     sorted_same {P = λ x. is_called c.args.facts.now c.args.pt.now c.args.s x ≡ true} c.loop-call.slots.items c.sort.new.self.items
-        c.in_ok-sort.ensures.permutation
+    c.in_ok-sort.ensures.permutation
     (λ x. subst (λ cs. Contains c.loop-call.slots.items x ↔
-        (list_any (λ (k : CallInfo). bit (row c.args.pt.now.points.items k.receiver) c.args.s && eqb k.slot x) cs ≡ true)) e
-        (c.loop-call.invariant x))
+    (list_any (λ (k : CallInfo). bit (row c.args.pt.now.points.items k.receiver) c.args.s && eqb k.slot x) cs ≡ true)) e
+    (c.loop-call.invariant x))

@@ -9,4 +9,4 @@ returns-in-Some c =
     let F = c.args.facts.now in
     let H = c.args.hier.now in
     sym (first_below_found (λ n. first_below (length F.columns.items) (λ k. first_below (length F.columns.items) (two_bodies F H n k))) c.loop-n.n
-        (length H.order.live) c.in-Some.found (omega arith) c.loop-n.invariant (sym c.in-Some.ensures))
+    (length H.order.live) c.in-Some.found (omega arith) c.loop-n.invariant (sym c.in-Some.ensures))

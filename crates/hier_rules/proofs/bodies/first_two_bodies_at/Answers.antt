@@ -9,4 +9,4 @@ returns-in-Some c =
     let F = c.args.facts.now in
     let H = c.args.hier.now in
     sym (first_below_found (λ k. first_below (length F.columns.items) (two_bodies F H c.args.n k)) c.loop-c.c (length F.columns.items) c.in-Some.found
-        (omega arith) c.loop-c.invariant (sym c.in-Some.ensures))
+    (omega arith) c.loop-c.invariant (sym c.in-Some.ensures))

@@ -10,4 +10,4 @@ returns-in-Some c =
     let F = c.args.facts.now in
     let H = c.args.hier.now in
     sym (first_below_found (λ s. first_below (slots_of F) (wrong_need F c.args.pt.now H s)) c.loop-s.s (length F.sites.items) c.in-Some.found
-        (omega arith) c.loop-s.invariant (sym c.in_ok-found.ensures ∙ c.in-Some.is))
+    (omega arith) c.loop-s.invariant (sym c.in_ok-found.ensures ∙ c.in-Some.is))

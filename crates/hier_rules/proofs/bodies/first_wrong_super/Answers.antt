@@ -9,4 +9,4 @@ returns-in-Some c =
     let F = c.args.facts.now in
     let H = c.args.hier.now in
     sym (first_below_found (λ r. first_below (length F.columns.items) (wrong_super F H r)) c.loop-r.r (length F.rows.items) c.in-Some.found
-        (omega arith) c.loop-r.invariant (sym c.in-Some.ensures))
+    (omega arith) c.loop-r.invariant (sym c.in-Some.ensures))

@@ -9,4 +9,4 @@ returns-in-Some c =
     let F = c.args.facts.now in
     let H = c.args.hier.now in
     sym (first_below_found (λ n. first_below (length H.order.live) (λ x. first_below (length H.order.live) (unchained F H n x))) c.loop-n.n
-        (length H.order.live) c.in-Some.found (omega arith) c.loop-n.invariant (sym c.in-Some.ensures))
+    (length H.order.live) c.in-Some.found (omega arith) c.loop-n.invariant (sym c.in-Some.ensures))

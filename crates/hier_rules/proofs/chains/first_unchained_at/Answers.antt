@@ -9,4 +9,4 @@ returns-in-Some c =
     let F = c.args.facts.now in
     let H = c.args.hier.now in
     sym (first_below_found (λ x. first_below (length H.order.live) (unchained F H c.args.n x)) c.loop-x.x (length H.order.live) c.in-Some.found
-        (omega arith) c.loop-x.invariant (sym c.in-Some.ensures))
+    (omega arith) c.loop-x.invariant (sym c.in-Some.ensures))

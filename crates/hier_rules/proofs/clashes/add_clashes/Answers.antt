@@ -35,7 +35,7 @@ namesakes-preserved c =
     let same : member_name H k ≡ name = bytes_same (member_name H k) name (c.namesakes.invariant.named k c.in-Some.is) in
     let was : AreClashes F H d (k + 1) xs = subst (λ (p : Option ℕ). AreClashes F H d (limit p) xs) c.in-Some.is c.namesakes.invariant.found in
     let now : AreClashes F H d k more = subst (λ (l : List ClashPair). AreClashes F H d k l) (sym c.in_ok-add_clash-in-Some.ensures)
-        (with_one F H d k xs lt was) in
+    (with_one F H d k xs lt was) in
     let e : get_or c.args.links.now k None ≡ last_of H name k =
     c.requires.links.exact k (omega (arith, lt, c.requires.column, c.requires.links.width)) ∙ ap (λ x. last_of H x k) same in
     let r = last_says H name k in

@@ -45,7 +45,7 @@ loop-x-preserved c = λ j y lt ln.
     let here : j ≡ i = omega (arith, lt, late) in
     ap (λ k. offers_both H c.args.n (get_or xs k y)) here
     ∙ (ap (λ (z : ClashPair). offers_both H c.args.n z) (get_or_default xs i y (pair 0 0) (omega arith))
-        ∙ (sym c.offers_both.ensures ∙ c.if-offers_both.false)))
+    ∙ (sym c.offers_both.ensures ∙ c.if-offers_both.false)))
     (cases_lt j i)
 
 pub returns : goal.returns

@@ -7,7 +7,7 @@ returns-then-stands_at c = λ p l.
     let xs = c.args.list.now in
     let i : ℕ = c.loop-c.c-index in
     sym (one_stands c.args.facts.now c.args.hier.now c.args.n p xs l i (λ j lt. c.loop-c.invariant j lt) (omega arith) (sym c.stands_at.ensures
-        ∙ c.if-stands_at.true)
+    ∙ c.if-stands_at.true)
     ∙ ap Some (sym c.of_column.ensures))
 
 pub returns : goal.returns

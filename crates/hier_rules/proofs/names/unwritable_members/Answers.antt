@@ -9,7 +9,7 @@ loop-c-init c =
     let F = c.args.facts.now in
     let H = c.args.hier.now in
     subst (λ l. ListsBelow (λ k. is_unwritable_member F H k ≡ true) 0 l) (sym c.new-list.ensures.items)
-        (ListsBelow-empty (λ k. is_unwritable_member F H k ≡ true))
+    (ListsBelow-empty (λ k. is_unwritable_member F H k ≡ true))
 
 pub loop-c-preserved : goal.loop-c-preserved
 loop-c-preserved c =

@@ -9,4 +9,4 @@ returns-in-Some c =
     let F = c.args.facts.now in
     let H = c.args.hier.now in
     sym (first_below_found (λ t. first_below (length F.sites.items) (wrong_outcome F c.args.pt.now H c.args.p t)) c.loop-t.t (length F.rows.items)
-        c.in-Some.found (omega arith) c.loop-t.invariant (sym c.in_ok-found.ensures ∙ c.in-Some.is))
+    c.in-Some.found (omega arith) c.loop-t.invariant (sym c.in_ok-found.ensures ∙ c.in-Some.is))

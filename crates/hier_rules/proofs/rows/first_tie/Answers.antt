@@ -9,4 +9,4 @@ returns-in-Some c =
     let F = c.args.facts.now in
     let H = c.args.hier.now in
     sym (first_below_found (λ l. first_below (length F.rows.items) (untied F H l)) c.loop-l.l (length F.rows.items) c.in-Some.found (omega arith)
-        c.loop-l.invariant (sym c.in-Some.ensures))
+    c.loop-l.invariant (sym c.in-Some.ensures))

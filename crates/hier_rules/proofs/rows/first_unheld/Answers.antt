@@ -9,4 +9,4 @@ returns-in-Some c =
     let F = c.args.facts.now in
     let H = c.args.hier.now in
     sym (first_below_found (λ o. first_below (length F.rows.items) (unheld F c.args.pt.now H o)) c.loop-o.o (length F.sites.items) c.in-Some.found
-        (omega arith) c.loop-o.invariant (sym c.in-Some.ensures))
+    (omega arith) c.loop-o.invariant (sym c.in-Some.ensures))

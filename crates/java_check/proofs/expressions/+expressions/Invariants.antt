@@ -10,4 +10,4 @@ invariant-check_args-loop-i l =
     let P = program_of no_place l.p in
     let us = (signature_of P l.callee).params in
     args_answer P (env_in P l.body.0) (exprs at_place l.args) (at_place l.place) us ≡ args_answer P (env_in P l.body.0)
-        (exprs at_place (drop l.i l.args)) (at_place l.place) (drop l.i us)
+    (exprs at_place (drop l.i l.args)) (at_place l.place) (drop l.i us)

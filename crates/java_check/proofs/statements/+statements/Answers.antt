@@ -12,7 +12,7 @@ check_stmt-returns-in-Block t c =
     let P = program_of no_place c.args.p.now in
     let g = env_in P c.args.body.0 in
     c.check_stmts.ensures ∙ ap (λ xs. sts_answer P g (stmts at_place xs)) c.deref.ensures.value
-        ∙ sym (ap (st_answer P g) (block_seen c.in-Block.items c.in-Block.place c.in-Block.is))
+    ∙ sym (ap (st_answer P g) (block_seen c.in-Block.items c.in-Block.place c.in-Block.is))
 
 pub check_stmt-returns-in-If : goal.check_stmt-returns-in-If
 check_stmt-returns-in-If t c =
@@ -35,53 +35,99 @@ check_stmt-returns-in_default-check_step t c =
     let k = c.in-For in
     c.check_stmts-in-For.ensures ∙ ap (λ xs. sts_answer P g (stmts at_place xs)) c.deref-in-For.ensures.value
     ∙ for_body P g k.first k.test k.step k.items k.place k.is c.check_step.ensures c.in_default.is c.check_test.ensures c.in_default-check_test.is
-        c.check_step-in-For.ensures c.in_default-check_step.is
+    c.check_step-in-For.ensures c.in_default-check_step.is
 
 pub check_stmts-check_stmt-requires : goal.check_stmts-check_stmt-requires
 check_stmts-check_stmt-requires t c =
     (omega (arith, c.decreases, stmt_smaller c.args.list.now c.loop-s.s-index c.s-item.result c.loop-s-test.true c.s-item.is), c.requires)
 
 pub check_stmt-check_stmts-requires : goal.check_stmt-check_stmts-requires
-check_stmt-check_stmts-requires t c =
-    (omega (arith, c.decreases, ap st_size (block_seen c.in-Block.items c.in-Block.place c.in-Block.is), ap (λ xs. sts_size (stmts at_place xs))
-    c.deref.ensures.value), c.requires)
+check_stmt-check_stmts-requires t c = (
+  omega (
+    arith,
+    c.decreases,
+    ap st_size (block_seen c.in-Block.items c.in-Block.place c.in-Block.is),
+    ap (λ xs. sts_size (stmts at_place xs))
+        c.deref.ensures.value,
+  ),
+  c.requires,
+)
 
 pub check_stmt-check_arms-requires : goal.check_stmt-check_arms-requires
-check_stmt-check_arms-requires t c =
-    (omega (arith, c.decreases, ap st_size (if_seen c.in-If.arms c.in-If.other c.in-If.place c.in-If.is), ap
-        (λ xs. arms_size (arms_seen at_place xs (else_seen at_place c.in-If.other))) c.deref-in-If.ensures.value), c.requires)
+check_stmt-check_arms-requires t c = (
+  omega (
+    arith,
+    c.decreases,
+    ap st_size (if_seen c.in-If.arms c.in-If.other c.in-If.place c.in-If.is),
+    ap
+        (λ xs. arms_size (arms_seen at_place xs (else_seen at_place c.in-If.other))) c.deref-in-If.ensures.value,
+  ),
+  c.requires,
+)
 
 pub check_stmt-check_stmts-requires-in-Ok : goal.check_stmt-check_stmts-requires-in-Ok
-check_stmt-check_stmts-requires-in-Ok t c =
-    (omega (arith, c.decreases, ap st_size (while_seen c.in-While.test c.in-While.items c.in-While.place c.in-While.is), ap
-    (λ xs. sts_size (stmts at_place xs)) c.deref-in-Ok.ensures.value), c.requires)
+check_stmt-check_stmts-requires-in-Ok t c = (
+  omega (
+    arith,
+    c.decreases,
+    ap st_size (while_seen c.in-While.test c.in-While.items c.in-While.place c.in-While.is),
+    ap
+        (λ xs. sts_size (stmts at_place xs)) c.deref-in-Ok.ensures.value,
+  ),
+  c.requires,
+)
 
 pub check_stmt-check_step-requires : goal.check_stmt-check_step-requires
-check_stmt-check_step-requires t c =
-    (omega (arith, c.decreases, ap st_size (for_seen c.in-For.first c.in-For.test c.in-For.step c.in-For.items c.in-For.place c.in-For.is)),
-    c.requires)
+check_stmt-check_step-requires t c = (
+  omega (arith, c.decreases, ap st_size (for_seen c.in-For.first c.in-For.test c.in-For.step c.in-For.items c.in-For.place c.in-For.is)),
+  c.requires,
+)
 
 pub check_stmt-check_step-requires-in-For : goal.check_stmt-check_step-requires-in-For
-check_stmt-check_step-requires-in-For t c =
-    (omega (arith, c.decreases, ap st_size (for_seen c.in-For.first c.in-For.test c.in-For.step c.in-For.items c.in-For.place c.in-For.is)),
-    c.requires)
+check_stmt-check_step-requires-in-For t c = (
+  omega (arith, c.decreases, ap st_size (for_seen c.in-For.first c.in-For.test c.in-For.step c.in-For.items c.in-For.place c.in-For.is)),
+  c.requires,
+)
 
 pub check_stmt-check_stmts-requires-in-For : goal.check_stmt-check_stmts-requires-in-For
-check_stmt-check_stmts-requires-in-For t c =
-    (omega (arith, c.decreases, ap st_size (for_seen c.in-For.first c.in-For.test c.in-For.step c.in-For.items c.in-For.place c.in-For.is), ap
-        (λ xs. sts_size (stmts at_place xs)) c.deref-in-For.ensures.value), c.requires)
+check_stmt-check_stmts-requires-in-For t c = (
+  omega (
+    arith,
+    c.decreases,
+    ap st_size (for_seen c.in-For.first c.in-For.test c.in-For.step c.in-For.items c.in-For.place c.in-For.is),
+    ap
+        (λ xs. sts_size (stmts at_place xs)) c.deref-in-For.ensures.value,
+  ),
+  c.requires,
+)
 
 pub check_arms-check_stmts-requires-in-Some : goal.check_arms-check_stmts-requires-in-Some
-check_arms-check_stmts-requires-in-Some t c =
-    (omega (arith, c.decreases, else_smaller c.args.arms.now (else_seen at_place c.args.other.now), ap (λ o. arms_size (else_seen at_place o))
-        c.in-Some.is, ap (λ xs. sts_size (stmts at_place xs)) c.deref-in-Some.ensures.value), c.requires)
+check_arms-check_stmts-requires-in-Some t c = (
+  omega (
+    arith,
+    c.decreases,
+    else_smaller c.args.arms.now (else_seen at_place c.args.other.now),
+    ap (λ o. arms_size (else_seen at_place o))
+        c.in-Some.is,
+    ap (λ xs. sts_size (stmts at_place xs)) c.deref-in-Some.ensures.value,
+  ),
+  c.requires,
+)
 
 pub check_arms-check_stmts-requires : goal.check_arms-check_stmts-requires
-check_arms-check_stmts-requires t c =
-    (omega (arith, c.decreases, arm_smaller c.args.arms.now (else_seen at_place c.args.other.now) c.loop-arm.arm-index c.arm-item.result
-        c.loop-arm-test.true c.arm-item.is, ap (λ xs. sts_size (stmts at_place xs)) c.deref.ensures.value), c.requires)
+check_arms-check_stmts-requires t c = (
+  omega (
+    arith,
+    c.decreases,
+    arm_smaller c.args.arms.now (else_seen at_place c.args.other.now) c.loop-arm.arm-index c.arm-item.result
+        c.loop-arm-test.true c.arm-item.is,
+    ap (λ xs. sts_size (stmts at_place xs)) c.deref.ensures.value,
+  ),
+  c.requires,
+)
 
 pub check_step-check_stmt-requires : goal.check_step-check_stmt-requires
-check_step-check_stmt-requires t c =
-    (omega (arith, c.decreases, ap (λ o. sts_size (step_seen at_place o)) c.in-Some.is, ap (λ x. st_size (stmt_of at_place x)) c.deref.ensures),
-    c.requires)
+check_step-check_stmt-requires t c = (
+  omega (arith, c.decreases, ap (λ o. sts_size (step_seen at_place o)) c.in-Some.is, ap (λ x. st_size (stmt_of at_place x)) c.deref.ensures),
+  c.requires,
+)

@@ -18,5 +18,5 @@ returns-in-None c =
     let P = program_of no_place c.args.p.now in
     let near = c.nearest_named.ensures ∙ ap (λ n. nearest P (λ k. own_named P Method k c.args.name.now) n c.args.class.0) c.class_count.ensures in
     let far = c.nearest_named-in-None.ensures ∙ ap (λ n. nearest P (λ k. own_named P OfFaces k c.args.name.now) n c.args.class.0)
-        c.class_count-in-None.ensures in
+    c.class_count-in-None.ensures in
     record { value = far ∙ sym (first-later _ _ (declaration_of-found P c.args.class.0 c.args.name.now) near c.in-None.is) }

@@ -9,5 +9,5 @@ use Rattle.java_core.proofs.classes.own_named.Goals as goal
 pub returns-in-Field : goal.returns-in-Field
 returns-in-Field c =
     c.member.ensures ∙ c.own_field_at.ensures.value
-        ∙ sym (position-map (field_seen no_place) (λ f. is_field_of c.args.class.0 c.args.name.now f) c.args.p.now.fields.items)
+    ∙ sym (position-map (field_seen no_place) (λ f. is_field_of c.args.class.0 c.args.name.now f) c.args.p.now.fields.items)
     ∙ ap (λ n. own_named (program_of no_place c.args.p.now) n c.args.class.0 c.args.name.now) (sym c.in-Field.is)

@@ -20,5 +20,5 @@ returns-in-Err c =
     record {
       value = tokens_err c.args.bytes.now.items c.valid_up_to.result (λ u. c.in-Err.ensures.cases.0 (subst IsUtf8 (sym e) u)) n
           ∙ ap (λ (p : Place). fails (faults.BadByte p))
-              (sym (c.byte_place.ensures ∙ ap (λ bs. byte_place bs c.valid_up_to.result) c.as_slice-in-Err.ensures.value));
+          (sym (c.byte_place.ensures ∙ ap (λ bs. byte_place bs c.valid_up_to.result) c.as_slice-in-Err.ensures.value));
     }

@@ -10,23 +10,51 @@ pub moved-place-requires-clause-fits : goal.moved-place-requires-clause-fits
 moved-place-requires-clause-fits c = omega (arith, c.requires, c.loop-rest.invariant.size, width_split (c.in-Gap.n + 1) c.loop-rest.rest.now)
 
 pub overflow_add-rest : goal.overflow_add-rest
-overflow_add-rest c = omega (arith, c.requires, ap reach c.in-Gap.is, c.in_ok-n.ensures.within, c.loop-rest.invariant.size, length-le-width
-    c.loop-rest.rest.now)
+overflow_add-rest c = omega (
+  arith,
+  c.requires,
+  ap reach c.in-Gap.is,
+  c.in_ok-n.ensures.within,
+  c.loop-rest.invariant.size,
+  length-le-width
+      c.loop-rest.rest.now,
+)
 
 pub offset_bounds-rest-n : goal.offset_bounds-rest-n
-offset_bounds-rest-n c = omega (arith, c.requires, ap reach c.in-Gap.is, c.in_ok-n.ensures.within, c.loop-rest.invariant.size, length-le-width
-    c.loop-rest.rest.now)
+offset_bounds-rest-n c = omega (
+  arith,
+  c.requires,
+  ap reach c.in-Gap.is,
+  c.in_ok-n.ensures.within,
+  c.loop-rest.invariant.size,
+  length-le-width
+      c.loop-rest.rest.now,
+)
 
 pub overflow_add-n-in-Part : goal.overflow_add-n-in-Part
-overflow_add-n-in-Part c = omega (arith, c.requires, ap reach c.in-Part.is, c.in_ok-n.ensures.within, c.loop-rest.invariant.size, length-le-width
-    c.loop-rest.rest.now)
+overflow_add-n-in-Part c = omega (
+  arith,
+  c.requires,
+  ap reach c.in-Part.is,
+  c.in_ok-n.ensures.within,
+  c.loop-rest.invariant.size,
+  length-le-width
+      c.loop-rest.rest.now,
+)
 
 pub moved-place-requires-in-Part-clause-fits : goal.moved-place-requires-in-Part-clause-fits
 moved-place-requires-in-Part-clause-fits c = omega (arith, c.requires, c.loop-rest.invariant.size, width_split (c.in-Part.n + 1) c.loop-rest.rest.now)
 
 pub overflow_add-rest-in-Part : goal.overflow_add-rest-in-Part
-overflow_add-rest-in-Part c = omega (arith, c.requires, ap reach c.in-Part.is, c.in_ok-n.ensures.within, c.loop-rest.invariant.size, length-le-width
-    c.loop-rest.rest.now)
+overflow_add-rest-in-Part c = omega (
+  arith,
+  c.requires,
+  ap reach c.in-Part.is,
+  c.in_ok-n.ensures.within,
+  c.loop-rest.invariant.size,
+  length-le-width
+      c.loop-rest.rest.now,
+)
 
 pub offset_bounds-rest-n-in-Part : goal.offset_bounds-rest-n-in-Part
 offset_bounds-rest-n-in-Part c =

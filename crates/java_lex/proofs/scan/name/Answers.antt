@@ -9,4 +9,4 @@ returns c =
     let e : string_bytes c.in_ok-text.text ≡ encode_utf8_all c.args.word.now = search rules in
     ok_along c.new.result _ _ c.new.ensures.value (ap chars c.as_str.ensures.value
     ∙ encodes_same (chars (string_bytes c.in_ok-text.text)) c.args.word.now (encodes-chars (string_bytes c.in_ok-text.text)
-        (IsUtf8-string_bytes c.in_ok-text.text) ∙ e))
+    (IsUtf8-string_bytes c.in_ok-text.text) ∙ e))

@@ -13,5 +13,7 @@ loop-decl-preserved c = each_step (λ (ds : List Decl). decls_items (decls ds)) 
     (c.in_ok-put_decl.ensures.value)
 
 pub returns : goal.returns
-returns c = record { value = each_end (λ (ds : List Decl). decls_items (decls ds)) c.args.into.now.items c.loop-decl.into.items c.args.list.now
-    c.loop-decl.decl-index ((λ (ds : List Decl). decls_items (decls ds)) c.args.list.now) c.loop-decl-test.false c.loop-decl.invariant }
+returns c = record {
+  value = each_end (λ (ds : List Decl). decls_items (decls ds)) c.args.into.now.items c.loop-decl.into.items c.args.list.now
+      c.loop-decl.decl-index ((λ (ds : List Decl). decls_items (decls ds)) c.args.list.now) c.loop-decl-test.false c.loop-decl.invariant;
+}

@@ -12,7 +12,7 @@ returns c = record {
       let p : List Item = mark_then marks.OpenRound (params_items false c.args.head.now.params.items r) in
       let n : List Item = Space ∷ word_then c.args.head.now.name p in
       adds_then (mods_as _ _ c.as_slice.ensures.value c.in_ok-put_mods.ensures.value (result_items c.args.head.now.result n))
-          (adds_then (c.in_ok-put_result.ensures.value n) (adds_then (c.in_ok-put_space.ensures.value (word_then c.args.head.now.name p))
+      (adds_then (c.in_ok-put_result.ensures.value n) (adds_then (c.in_ok-put_space.ensures.value (word_then c.args.head.now.name p))
       (adds_then (c.in_ok-put_name.ensures.value p) (adds_then (c.in_ok-put_mark.ensures.value (params_items false c.args.head.now.params.items r))
-          (params_as _ _ c.as_slice-2.ensures.value h r))))));
+      (params_as _ _ c.as_slice-2.ensures.value h r))))));
 }

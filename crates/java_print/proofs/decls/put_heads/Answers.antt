@@ -17,5 +17,7 @@ loop-head-preserved c = each_step (λ (hs : List Head). heads_items (heads hs)) 
     (adds_then (c.in_ok-put_head.ensures.value (stop_then r)) (c.in_ok-put_stop.ensures.value r)))
 
 pub returns : goal.returns
-returns c = record { value = each_end (λ (hs : List Head). heads_items (heads hs)) c.args.into.now.items c.loop-head.into.items c.args.list.now
-    c.loop-head.head-index ((λ (hs : List Head). heads_items (heads hs)) c.args.list.now) c.loop-head-test.false c.loop-head.invariant }
+returns c = record {
+  value = each_end (λ (hs : List Head). heads_items (heads hs)) c.args.into.now.items c.loop-head.into.items c.args.list.now
+      c.loop-head.head-index ((λ (hs : List Head). heads_items (heads hs)) c.args.list.now) c.loop-head-test.false c.loop-head.invariant;
+}

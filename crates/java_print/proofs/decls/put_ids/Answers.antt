@@ -10,5 +10,7 @@ loop-i-preserved c = comma_step ids_items (λ i r. word_then i.name r) (λ b x x
     c.loop-i-test.true c.index-ids-i.is c.loop-i.invariant c.in_ok-put_comma.ensures.value c.in_ok-put_name.ensures.value
 
 pub returns : goal.returns
-returns c = record { value = comma_end ids_items c.args.into.now.items c.loop-i.into.items c.args.ids.now c.loop-i.i (ids_items false c.args.ids.now)
-    c.loop-i-test.false c.loop-i.invariant }
+returns c = record {
+  value = comma_end ids_items c.args.into.now.items c.loop-i.into.items c.args.ids.now c.loop-i.i (ids_items false c.args.ids.now)
+      c.loop-i-test.false c.loop-i.invariant;
+}

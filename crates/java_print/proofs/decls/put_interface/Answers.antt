@@ -8,19 +8,21 @@ use Rattle.java_tree.specs.Syntax.{heads}
 use Rattle.java_print.proofs.decls.put_interface.Goals as goal
 
 pub returns : goal.returns
-returns c = record { value = on_ok c.put_end.result c.put_end.ensures.value
-    (λ h r. adds_then (c.in_ok-put_mods.ensures.value
-    (key_then keys.Interface (Space ∷ word_then c.args.name.now (list_items keys.Extends c.args.parents.now
-    (open_body (heads_items (heads c.args.list.now) (mark_then marks.CloseBrace (End ∷ r))))))))
-    (adds_then (c.in_ok-put_key.ensures.value
-    (Space ∷ word_then c.args.name.now (list_items keys.Extends c.args.parents.now
-    (open_body (heads_items (heads c.args.list.now) (mark_then marks.CloseBrace (End ∷ r)))))))
-    (adds_then (c.in_ok-put_space.ensures.value
-    (word_then c.args.name.now (list_items keys.Extends c.args.parents.now
-    (open_body (heads_items (heads c.args.list.now) (mark_then marks.CloseBrace (End ∷ r)))))))
-    (adds_then (c.in_ok-put_name.ensures.value (list_items keys.Extends c.args.parents.now
-    (open_body (heads_items (heads c.args.list.now) (mark_then marks.CloseBrace (End ∷ r))))))
-    (adds_then (c.in_ok-put_list.ensures.value (open_body (heads_items (heads c.args.list.now) (mark_then marks.CloseBrace (End ∷ r)))))
-    (adds_then (c.in_ok-put_open_body.ensures.value (heads_items (heads c.args.list.now) (mark_then marks.CloseBrace (End ∷ r))))
-    (adds_then (c.in_ok-put_heads.ensures.value (mark_then marks.CloseBrace (End ∷ r)))
-    (adds_then (c.in_ok-put_mark.ensures.value (End ∷ r)) (h r))))))))) }
+returns c = record {
+  value = on_ok c.put_end.result c.put_end.ensures.value
+      (λ h r. adds_then (c.in_ok-put_mods.ensures.value
+      (key_then keys.Interface (Space ∷ word_then c.args.name.now (list_items keys.Extends c.args.parents.now
+      (open_body (heads_items (heads c.args.list.now) (mark_then marks.CloseBrace (End ∷ r))))))))
+      (adds_then (c.in_ok-put_key.ensures.value
+      (Space ∷ word_then c.args.name.now (list_items keys.Extends c.args.parents.now
+      (open_body (heads_items (heads c.args.list.now) (mark_then marks.CloseBrace (End ∷ r)))))))
+      (adds_then (c.in_ok-put_space.ensures.value
+      (word_then c.args.name.now (list_items keys.Extends c.args.parents.now
+      (open_body (heads_items (heads c.args.list.now) (mark_then marks.CloseBrace (End ∷ r)))))))
+      (adds_then (c.in_ok-put_name.ensures.value (list_items keys.Extends c.args.parents.now
+      (open_body (heads_items (heads c.args.list.now) (mark_then marks.CloseBrace (End ∷ r))))))
+      (adds_then (c.in_ok-put_list.ensures.value (open_body (heads_items (heads c.args.list.now) (mark_then marks.CloseBrace (End ∷ r)))))
+      (adds_then (c.in_ok-put_open_body.ensures.value (heads_items (heads c.args.list.now) (mark_then marks.CloseBrace (End ∷ r))))
+      (adds_then (c.in_ok-put_heads.ensures.value (mark_then marks.CloseBrace (End ∷ r)))
+      (adds_then (c.in_ok-put_mark.ensures.value (End ∷ r)) (h r)))))))));
+}

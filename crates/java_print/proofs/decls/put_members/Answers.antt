@@ -13,6 +13,8 @@ loop-member-preserved c = each_step (λ (ms : List Member). members_items (membe
     (c.in_ok-put_member.ensures.value)
 
 pub returns : goal.returns
-returns c = record { value = each_end (λ (ms : List Member). members_items (members ms)) c.args.into.now.items c.loop-member.into.items
-    c.args.list.now c.loop-member.member-index ((λ (ms : List Member). members_items (members ms)) c.args.list.now) c.loop-member-test.false
-    c.loop-member.invariant }
+returns c = record {
+  value = each_end (λ (ms : List Member). members_items (members ms)) c.args.into.now.items c.loop-member.into.items
+      c.args.list.now c.loop-member.member-index ((λ (ms : List Member). members_items (members ms)) c.args.list.now) c.loop-member-test.false
+      c.loop-member.invariant;
+}

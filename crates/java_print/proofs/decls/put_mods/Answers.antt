@@ -9,5 +9,7 @@ loop-m-preserved c = each_at mods_items mod_items (λ x xs r. refl) c.args.into.
     c.loop-m.m-index _ (mods_items c.args.mods.now) c.loop-m-test.true c.loop-m.invariant c.in_ok-put_mod.ensures.value
 
 pub returns : goal.returns
-returns c = record { value = each_end (mods_items) c.args.into.now.items c.loop-m.into.items c.args.mods.now c.loop-m.m-index
-    ((mods_items) c.args.mods.now) c.loop-m-test.false c.loop-m.invariant }
+returns c = record {
+  value = each_end (mods_items) c.args.into.now.items c.loop-m.into.items c.args.mods.now c.loop-m.m-index
+      ((mods_items) c.args.mods.now) c.loop-m-test.false c.loop-m.invariant;
+}

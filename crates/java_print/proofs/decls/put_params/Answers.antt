@@ -12,6 +12,8 @@ loop-i-preserved c = comma_step params_items param_items (λ b x xs r. refl) c.a
     c.loop-i-test.true c.index-params-i.is c.loop-i.invariant c.in_ok-put_comma.ensures.value c.in_ok-put_param.ensures.value
 
 pub returns : goal.returns
-returns c = record { value = on_ok c.put_mark.result c.put_mark.ensures.value
-    (λ h r. adds_then (comma_end params_items c.args.into.now.items c.loop-i.into.items c.args.params.now c.loop-i.i
-    (params_items false c.args.params.now) c.loop-i-test.false c.loop-i.invariant r) (h r)) }
+returns c = record {
+  value = on_ok c.put_mark.result c.put_mark.ensures.value
+      (λ h r. adds_then (comma_end params_items c.args.into.now.items c.loop-i.into.items c.args.params.now c.loop-i.i
+      (params_items false c.args.params.now) c.loop-i-test.false c.loop-i.invariant r) (h r));
+}

@@ -21,23 +21,47 @@ put_args-loop-i-preserved t c = args_step c.args.into.now.items c.loop-i.into.it
     c.loop-i-test.true c.index-args-i.is c.loop-i.invariant c.in_ok-put_comma.ensures.value c.in_ok-put_expr.ensures.value
 
 pub put_args-returns : goal.put_args-returns
-put_args-returns t c = record { value = on_ok c.put_mark.result c.put_mark.ensures.value (λ h. args_end c.args.into.now.items c.loop-i.into.items
-    c.put_mark.new.into.items c.args.args.now c.loop-i.i (args_items false (exprs c.args.args.now)) c.loop-i-test.false c.loop-i.invariant h) }
+put_args-returns t c = record {
+  value = on_ok c.put_mark.result c.put_mark.ensures.value (λ h. args_end c.args.into.now.items c.loop-i.into.items
+      c.put_mark.new.into.items c.args.args.now c.loop-i.i (args_items false (exprs c.args.args.now)) c.loop-i-test.false c.loop-i.invariant h);
+}
 
 pub put_expr-put_call-requires : goal.put_expr-put_call-requires
-put_expr-put_call-requires t c =
-    (omega (arith, c.decreases, ap expr_size (call_alone _ _ _ _ _ c.in-Call.is c.in-None.is), ap (λ xs. exprs_size (exprs xs))
-    c.as_slice.ensures.value), tt)
+put_expr-put_call-requires t c = (
+  omega (
+    arith,
+    c.decreases,
+    ap expr_size (call_alone _ _ _ _ _ c.in-Call.is c.in-None.is),
+    ap (λ xs. exprs_size (exprs xs))
+        c.as_slice.ensures.value,
+  ),
+  tt,
+)
 
 pub put_expr-put_call_on-requires : goal.put_expr-put_call_on-requires
-put_expr-put_call_on-requires t c =
-    (omega (arith, c.decreases, ap expr_size (call_upon _ _ _ _ _ _ c.in-Call.is c.in-Some.is), ap (λ x. expr_size (expr_of x))
-    c.deref-in-Some.ensures, ap (λ xs. exprs_size (exprs xs)) c.as_slice-in-Some.ensures.value), tt)
+put_expr-put_call_on-requires t c = (
+  omega (
+    arith,
+    c.decreases,
+    ap expr_size (call_upon _ _ _ _ _ _ c.in-Call.is c.in-Some.is),
+    ap (λ x. expr_size (expr_of x))
+        c.deref-in-Some.ensures,
+    ap (λ xs. exprs_size (exprs xs)) c.as_slice-in-Some.ensures.value,
+  ),
+  tt,
+)
 
 pub put_expr-put_super_call-requires : goal.put_expr-put_super_call-requires
-put_expr-put_super_call-requires t c =
-    (omega (arith, c.decreases, ap expr_size (call_above _ _ _ _ c.in-SuperCall.is), ap (λ xs. exprs_size (exprs xs))
-    c.as_slice-in-SuperCall.ensures.value), tt)
+put_expr-put_super_call-requires t c = (
+  omega (
+    arith,
+    c.decreases,
+    ap expr_size (call_above _ _ _ _ c.in-SuperCall.is),
+    ap (λ xs. exprs_size (exprs xs))
+        c.as_slice-in-SuperCall.ensures.value,
+  ),
+  tt,
+)
 
 pub put_expr-put_new-requires : goal.put_expr-put_new-requires
 put_expr-put_new-requires t c =
@@ -46,8 +70,10 @@ put_expr-put_new-requires t c =
 pub put_expr-returns-in-Int : goal.put_expr-returns-in-Int
 put_expr-returns-in-Int t c =
     let e = to_z-of_z w32 c.in-Int.value (search rules) in
-    record { value = on_ok c.put_int.result c.put_int.ensures.value (λ h. puts_along (expr_of c.args.e.now) (IntLit c.in-Int.value c.in-Int.place)
-        (ap expr_of c.in-Int.is) (puts_int _ c.in-Int.value e h)) }
+    record {
+      value = on_ok c.put_int.result c.put_int.ensures.value (λ h. puts_along (expr_of c.args.e.now) (IntLit c.in-Int.value c.in-Int.place)
+          (ap expr_of c.in-Int.is) (puts_int _ c.in-Int.value e h));
+    }
 
 pub put_expr-returns-in-None : goal.put_expr-returns-in-None
 put_expr-returns-in-None t c = record {
@@ -62,7 +88,7 @@ put_expr-returns-in-Some t c = record {
       (λ h. puts_along (expr_of c.args.e.now) (CallOn (expr_of c.deref-in-Some.result.now) c.in-Call.name (exprs c.as_slice-in-Some.result.now)
       c.in-Call.place)
       (call_upon _ _ _ _ _ _ c.in-Call.is c.in-Some.is ∙ ap (λ x. CallOn (expr_of x) c.in-Call.name (exprs c.in-Call.args.items) c.in-Call.place)
-          (sym c.deref-in-Some.ensures)
+      (sym c.deref-in-Some.ensures)
       ∙ ap (λ xs. CallOn (expr_of c.deref-in-Some.result.now) c.in-Call.name (exprs xs) c.in-Call.place) (sym c.as_slice-in-Some.ensures.value)) h);
 }
 
@@ -71,7 +97,7 @@ put_expr-returns-in-SuperCall t c = record {
   value = on_ok c.put_super_call.result c.put_super_call.ensures.value
       (λ h. puts_along (expr_of c.args.e.now) (SuperCallOf c.in-SuperCall.name (exprs c.as_slice-in-SuperCall.result.now) c.in-SuperCall.place)
       (call_above _ _ _ _ c.in-SuperCall.is ∙ ap (λ xs. SuperCallOf c.in-SuperCall.name (exprs xs) c.in-SuperCall.place)
-          (sym c.as_slice-in-SuperCall.ensures.value)) h);
+      (sym c.as_slice-in-SuperCall.ensures.value)) h);
 }
 
 pub put_expr-returns-in-New : goal.put_expr-returns-in-New
@@ -99,7 +125,7 @@ pub put_call_on-returns : goal.put_call_on-returns
 put_call_on-returns t c = record {
   value = on_ok c.put_call.result c.put_call.ensures.value (λ h r.
       adds_then (round_as _ _ _ c.fits.ensures.value c.in_ok-put_operand.ensures.value
-          (mark_then marks.Dot (called_items c.args.name.now (exprs c.args.args.now) r)))
+      (mark_then marks.Dot (called_items c.args.name.now (exprs c.args.args.now) r)))
       (adds_then (c.in_ok-put_mark.ensures.value (called_items c.args.name.now (exprs c.args.args.now) r)) (h r)));
 }
 
@@ -123,9 +149,9 @@ put_new_array-returns t c = record {
       let s : List Item = mark_then marks.CloseSquare (more_dims_items c.args.ty.now.dim r) in
       let u : List Item = mark_then marks.OpenSquare (expr_items (expr_of c.args.size.now) s) in
       adds_then (c.in_ok-put_key.ensures.value (Space ∷ base_items c.args.ty.now.base u))
-          (adds_then (c.in_ok-put_space.ensures.value (base_items c.args.ty.now.base u))
+      (adds_then (c.in_ok-put_space.ensures.value (base_items c.args.ty.now.base u))
       (adds_then (c.in_ok-put_base.ensures.value u) (adds_then (c.in_ok-put_mark.ensures.value (expr_items (expr_of c.args.size.now) s))
-          (adds_then (c.in_ok-put_expr.ensures.value s)
+      (adds_then (c.in_ok-put_expr.ensures.value s)
       (adds_then (c.in_ok-put_mark-2.ensures.value (more_dims_items c.args.ty.now.dim r)) (h r)))))));
 }
 
@@ -134,9 +160,9 @@ put_cast-returns t c = record {
   value = on_ok c.put_operand.result c.put_operand.ensures.value (λ h r.
       let s : List Item = in_round (fits_cast c.args.ty.now.base (expr_of c.args.value.now)) (expr_items (expr_of c.args.value.now)) r in
       adds_then (c.in_ok-put_mark.ensures.value (base_items c.args.ty.now.base (mark_then marks.CloseRound (Space ∷ s))))
-          (adds_then (c.in_ok-put_base.ensures.value (mark_then marks.CloseRound (Space ∷ s)))
+      (adds_then (c.in_ok-put_base.ensures.value (mark_then marks.CloseRound (Space ∷ s)))
       (adds_then (c.in_ok-put_mark-2.ensures.value (Space ∷ s)) (adds_then (c.in_ok-put_space.ensures.value s)
-          (round_as _ _ _ c.fits_cast.ensures.value h r)))));
+      (round_as _ _ _ c.fits_cast.ensures.value h r)))));
 }
 
 pub put_instance_of-returns : goal.put_instance_of-returns
@@ -144,7 +170,7 @@ put_instance_of-returns t c = record {
   value = on_ok c.put_name.result c.put_name.ensures.value (λ h r.
       let n = word_then c.args.class.now r in
       adds_then (round_as _ _ _ c.fits.ensures.value c.in_ok-put_operand.ensures.value (Space ∷ key_then keys.InstanceOf (Space ∷ n)))
-          (adds_then (c.in_ok-put_space.ensures.value (key_then keys.InstanceOf (Space ∷ n)))
+      (adds_then (c.in_ok-put_space.ensures.value (key_then keys.InstanceOf (Space ∷ n)))
       (adds_then (c.in_ok-put_key.ensures.value (Space ∷ n)) (adds_then (c.in_ok-put_space-2.ensures.value n) (h r)))));
 }
 
@@ -155,5 +181,5 @@ put_binary-returns t c = record {
       let right = c.fits-2.ensures.value ∙ ap (λ k. fits k (expr_of c.args.right.now)) (add-one c.level-2.result ∙ ap suc c.level-2.ensures.value) in
       let g = round_as _ _ _ right h r in
       adds_then (round_as _ _ _ left c.in_ok-put_operand.ensures.value _) (adds_then (c.in_ok-put_space.ensures.value _)
-          (adds_then (c.in_ok-put_mark.ensures.value _) (adds_then (c.in_ok-put_space-2.ensures.value _) g))));
+      (adds_then (c.in_ok-put_mark.ensures.value _) (adds_then (c.in_ok-put_space-2.ensures.value _) g))));
 }

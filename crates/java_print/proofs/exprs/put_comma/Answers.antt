@@ -6,5 +6,7 @@ use Rattle.java_print.proofs.Adding.{adds_then}
 use Rattle.java_print.proofs.exprs.put_comma.Goals as goal
 
 pub returns-in_ok-put_space : goal.returns-in_ok-put_space
-returns-in_ok-put_space c = record { value = subst (λ b. Puts c.args.into.now.items c.put_space.new.into.items (comma b)) (sym c.if-more.true)
-    (λ r. adds_then (c.in_ok-put_mark.ensures.value (Space ∷ r)) (c.in_ok-put_space.ensures.value r)) }
+returns-in_ok-put_space c = record {
+  value = subst (λ b. Puts c.args.into.now.items c.put_space.new.into.items (comma b)) (sym c.if-more.true)
+      (λ r. adds_then (c.in_ok-put_mark.ensures.value (Space ∷ r)) (c.in_ok-put_space.ensures.value r));
+}

@@ -10,5 +10,5 @@ returns c = record {
   value = on_ok c.put_char-2.result c.put_char-2.ensures.value (λ h. adds_quoted c.args.into.now.items c.put_char.new.into.items
       c.put_units.new.into.items c.put_char-2.new.into.items 34 (units_written (c.args.units.now)) (kinds.Str c.args.units.now) refl
       c.in_ok-put_char.ensures.value (c.in_ok-put_units.ensures.value ∙ ap (λ us. c.put_char.new.into.items ++ encode_utf8_all (units_written us))
-          c.as_slice.ensures.value) h);
+      c.as_slice.ensures.value) h);
 }

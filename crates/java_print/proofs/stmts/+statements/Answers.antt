@@ -10,30 +10,40 @@ use Rattle.java_tree.specs.Size.{stmt_size, stmts_size, arms_size, else_size}
 use Rattle.java_print.proofs.stmts.+statements.Goals as goal
 
 pub put_while-returns : goal.put_while-returns
-put_while-returns t c = record { value = on_ok c.put_end.result c.put_end.ensures.value
-    (λ h r. adds_then (c.in_ok-put_key.ensures.value (condition_items (expr_of c.args.test.now) (body_block c.args.margin (stmts c.args.body.now)
-    (End ∷ r)))) (adds_then (c.in_ok-put_condition.ensures.value (body_block c.args.margin (stmts c.args.body.now) (End ∷ r)))
-    (adds_then (c.in_ok-put_body.ensures.value (End ∷ r)) (h r)))) }
+put_while-returns t c = record {
+  value = on_ok c.put_end.result c.put_end.ensures.value
+      (λ h r. adds_then (c.in_ok-put_key.ensures.value (condition_items (expr_of c.args.test.now) (body_block c.args.margin (stmts c.args.body.now)
+      (End ∷ r)))) (adds_then (c.in_ok-put_condition.ensures.value (body_block c.args.margin (stmts c.args.body.now) (End ∷ r)))
+      (adds_then (c.in_ok-put_body.ensures.value (End ∷ r)) (h r))));
+}
 
 pub put_for-returns : goal.put_for-returns
-put_for-returns t c = record { value = on_ok c.put_end.result c.put_end.ensures.value
-    (λ h r. adds_then (c.in_ok-put_for_head.ensures.value (body_block c.args.margin (stmts c.args.body.now) (End ∷ r)))
-    (adds_then (c.in_ok-put_body.ensures.value (End ∷ r)) (h r))) }
+put_for-returns t c = record {
+  value = on_ok c.put_end.result c.put_end.ensures.value
+      (λ h r. adds_then (c.in_ok-put_for_head.ensures.value (body_block c.args.margin (stmts c.args.body.now) (End ∷ r)))
+      (adds_then (c.in_ok-put_body.ensures.value (End ∷ r)) (h r)));
+}
 
 pub put_arm-returns : goal.put_arm-returns
-put_arm-returns t c = record { value = on_ok c.put_body.result c.put_body.ensures.value
-    (λ h r. adds_then (c.in_ok-put_key.ensures.value (condition_items (expr_of c.args.test.now) (body_block c.args.margin (stmts c.args.body.now) r)))
-    (adds_then (c.in_ok-put_condition.ensures.value (body_block c.args.margin (stmts c.args.body.now) r)) (h r))) }
+put_arm-returns t c = record {
+  value = on_ok c.put_body.result c.put_body.ensures.value
+      (λ h r. adds_then (c.in_ok-put_key.ensures.value (condition_items (expr_of c.args.test.now) (body_block c.args.margin (stmts c.args.body.now) r)))
+      (adds_then (c.in_ok-put_condition.ensures.value (body_block c.args.margin (stmts c.args.body.now) r)) (h r)));
+}
 
 pub put_last-returns : goal.put_last-returns
-put_last-returns t c = record { value = on_ok c.put_end.result c.put_end.ensures.value
-    (λ h r. adds_then (c.in_ok-put_space.ensures.value (key_then keys.Else (body_block c.args.margin (stmts c.args.body.now) (End ∷ r))))
-    (adds_then (c.in_ok-put_key.ensures.value (body_block c.args.margin (stmts c.args.body.now) (End ∷ r)))
-    (adds_then (c.in_ok-put_body.ensures.value (End ∷ r)) (h r)))) }
+put_last-returns t c = record {
+  value = on_ok c.put_end.result c.put_end.ensures.value
+      (λ h r. adds_then (c.in_ok-put_space.ensures.value (key_then keys.Else (body_block c.args.margin (stmts c.args.body.now) (End ∷ r))))
+      (adds_then (c.in_ok-put_key.ensures.value (body_block c.args.margin (stmts c.args.body.now) (End ∷ r)))
+      (adds_then (c.in_ok-put_body.ensures.value (End ∷ r)) (h r))));
+}
 
 pub put_if-returns : goal.put_if-returns
-put_if-returns t c = record { value = on_ok c.put_other.result c.put_other.ensures.value
-    (λ h r. adds_then (c.in_ok-put_arms.ensures.value (else_items c.args.margin (else_seen c.args.other.now) r)) (h r)) }
+put_if-returns t c = record {
+  value = on_ok c.put_other.result c.put_other.ensures.value
+      (λ h r. adds_then (c.in_ok-put_arms.ensures.value (else_items c.args.margin (else_seen c.args.other.now) r)) (h r));
+}
 
 pub put_stmts-put_stmt-requires : goal.put_stmts-put_stmt-requires
 put_stmts-put_stmt-requires t c = (omega (arith, c.decreases, stmt_smaller c.args.body.now c.loop-s.s-index c.s-item.result c.loop-s-test.true c.s-item.is), tt)
@@ -44,13 +54,22 @@ put_stmts-loop-s-preserved t c = stmts_step c.args.into.now.items c.loop-s.into.
     c.loop-s-test.true c.s-item.is c.loop-s.invariant c.in_ok-put_margin.ensures.value c.in_ok-put_stmt.ensures.value
 
 pub put_stmts-returns : goal.put_stmts-returns
-put_stmts-returns t c = record { value = stmts_end c.args.into.now.items c.loop-s.into.items c.args.margin c.args.body.now c.loop-s.s-index
-    (stmts_items c.args.margin (stmts c.args.body.now)) c.loop-s-test.false c.loop-s.invariant }
+put_stmts-returns t c = record {
+  value = stmts_end c.args.into.now.items c.loop-s.into.items c.args.margin c.args.body.now c.loop-s.s-index
+      (stmts_items c.args.margin (stmts c.args.body.now)) c.loop-s-test.false c.loop-s.invariant;
+}
 
 pub put_arms-put_arm-requires : goal.put_arms-put_arm-requires
-put_arms-put_arm-requires t c =
-    (omega (arith, c.decreases, arm_smaller c.args.arms.now c.loop-i.i c.index-arms-i.result c.loop-i-test.true c.index-arms-i.is, ap
-    (λ xs. stmts_size (stmts xs)) c.as_slice.ensures.value), tt)
+put_arms-put_arm-requires t c = (
+  omega (
+    arith,
+    c.decreases,
+    arm_smaller c.args.arms.now c.loop-i.i c.index-arms-i.result c.loop-i-test.true c.index-arms-i.is,
+    ap
+        (λ xs. stmts_size (stmts xs)) c.as_slice.ensures.value,
+  ),
+  tt,
+)
 
 pub put_arms-loop-i-preserved : goal.put_arms-loop-i-preserved
 put_arms-loop-i-preserved t c = arms_step c.args.into.now.items c.loop-i.into.items c.put_else.new.into.items c.put_arm.new.into.items c.args.margin
@@ -58,8 +77,10 @@ put_arms-loop-i-preserved t c = arms_step c.args.into.now.items c.loop-i.into.it
     c.loop-i-test.true c.index-arms-i.is c.as_slice.ensures.value c.loop-i.invariant c.in_ok-put_else.ensures.value c.in_ok-put_arm.ensures.value
 
 pub put_arms-returns : goal.put_arms-returns
-put_arms-returns t c = record { value = arms_end c.args.into.now.items c.loop-i.into.items c.args.margin c.args.arms.now c.loop-i.i
-    (arms_items c.args.margin false (arms_seen c.args.arms.now)) c.loop-i-test.false c.loop-i.invariant }
+put_arms-returns t c = record {
+  value = arms_end c.args.into.now.items c.loop-i.into.items c.args.margin c.args.arms.now c.loop-i.i
+      (arms_items c.args.margin false (arms_seen c.args.arms.now)) c.loop-i-test.false c.loop-i.invariant;
+}
 
 pub put_stmt-put_block-requires : goal.put_stmt-put_block-requires
 put_stmt-put_block-requires t c =
@@ -70,9 +91,10 @@ put_stmt-put_if-requires t c =
     (omega (arith, c.decreases, ap stmt_size (if_of _ _ _ _ c.in-If.is), ap (λ xs. arms_size (arms_seen xs)) c.as_slice-in-If.ensures.value), tt)
 
 pub put_stmt-put_while-requires : goal.put_stmt-put_while-requires
-put_stmt-put_while-requires t c =
-    (omega (arith, c.decreases, ap stmt_size (while_of _ _ _ _ c.in-While.is), ap (λ xs. stmts_size (stmts xs)) c.as_slice-in-While.ensures.value),
-    tt)
+put_stmt-put_while-requires t c = (
+  omega (arith, c.decreases, ap stmt_size (while_of _ _ _ _ c.in-While.is), ap (λ xs. stmts_size (stmts xs)) c.as_slice-in-While.ensures.value),
+  tt,
+)
 
 pub put_stmt-put_for-requires : goal.put_stmt-put_for-requires
 put_stmt-put_for-requires t c =
@@ -104,7 +126,7 @@ put_stmt-returns-in-For t c = record {
   value = on_ok c.put_for.result c.put_for.ensures.value (λ h. bare_along c.args.margin (stmt_of c.args.s.now)
       (ForOf (boxed_step c.in-For.first) (value_of c.in-For.test) (boxed_step c.in-For.step) (stmts c.as_slice-in-For.result.now) c.in-For.place)
       (for_of _ _ _ _ _ _ c.in-For.is ∙ ap (λ xs. ForOf (boxed_step c.in-For.first) (value_of c.in-For.test) (boxed_step c.in-For.step)
-          (stmts xs) c.in-For.place) (sym c.as_slice-in-For.ensures.value)) h);
+      (stmts xs) c.in-For.place) (sym c.as_slice-in-For.ensures.value)) h);
 }
 
 pub put_body-returns : goal.put_body-returns
@@ -119,9 +141,9 @@ put_block-returns t c = record {
   value = on_ok c.put_end-2.result c.put_end-2.ensures.value (λ h r.
       let w : List Item = close_body c.args.margin (End ∷ r) in
       adds_then (c.in_ok-put_mark.ensures.value (End ∷ stmts_items (c.args.margin + 2) (stmts c.args.body.now) w))
-          (adds_then (c.in_ok-put_end.ensures.value (stmts_items (c.args.margin + 2) (stmts c.args.body.now) w))
+      (adds_then (c.in_ok-put_end.ensures.value (stmts_items (c.args.margin + 2) (stmts c.args.body.now) w))
       (adds_then (deeper_as _ _ (stmts c.args.body.now) c.in_ok-deeper.ensures.value c.in_ok-put_stmts.ensures.value w)
-          (adds_then (c.in_ok-put_close_body.ensures.value (End ∷ r)) (h r)))));
+      (adds_then (c.in_ok-put_close_body.ensures.value (End ∷ r)) (h r)))));
 }
 
 pub put_other-put_last-requires : goal.put_other-put_last-requires
@@ -130,5 +152,7 @@ put_other-put_last-requires t c =
 
 pub put_other-returns-in-Some : goal.put_other-returns-in-Some
 put_other-returns-in-Some t c =
-    record { value = on_ok c.put_last.result c.put_last.ensures.value (λ h. other_along c.args.margin c.args.other.now c.in-Some.body
-    c.as_slice.result.now c.in-Some.is c.as_slice.ensures.value h) }
+    record {
+      value = on_ok c.put_last.result c.put_last.ensures.value (λ h. other_along c.args.margin c.args.other.now c.in-Some.body
+          c.as_slice.result.now c.in-Some.is c.as_slice.ensures.value h);
+    }

@@ -10,5 +10,5 @@ returns-then-is_output c = record {
   value = prints_upon c.args.call.now c.in-Call.base c.in-Some.base c.in-Call.name c.in-Call.args c.in-Call.place (length c.as_slice.result.now)
       c.is_printing.result c.in-Call.is c.in-Some.is
       (ap (λ x. is_out (expr_of x)) (sym c.deref.ensures) ∙ sym c.is_output.ensures.value ∙ c.if-is_output.true) (ap length c.as_slice.ensures.value)
-          c.is_printing.ensures.value;
+      c.is_printing.ensures.value;
 }

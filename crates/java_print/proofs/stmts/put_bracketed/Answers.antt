@@ -7,8 +7,10 @@ use Rattle.java_print.proofs.StmtAdding.{adds_system}
 use Rattle.java_print.proofs.stmts.put_bracketed.Goals as goal
 
 pub returns : goal.returns
-returns c = record { value = on_ok c.put_args.result c.put_args.ensures.value
-    (λ h r. adds_then ((adds_system c.args.into.now.items c.put_text.new.into.items c.in_ok-put_text.ensures.value)
-    (word_then c.args.name.now (mark_then marks.OpenRound (args_items false (exprs c.args.args.now) r))))
-    (adds_then (c.in_ok-put_name.ensures.value (mark_then marks.OpenRound (args_items false (exprs c.args.args.now) r)))
-    (adds_then (c.in_ok-put_mark.ensures.value (args_items false (exprs c.args.args.now) r)) (h r)))) }
+returns c = record {
+  value = on_ok c.put_args.result c.put_args.ensures.value
+      (λ h r. adds_then ((adds_system c.args.into.now.items c.put_text.new.into.items c.in_ok-put_text.ensures.value)
+      (word_then c.args.name.now (mark_then marks.OpenRound (args_items false (exprs c.args.args.now) r))))
+      (adds_then (c.in_ok-put_name.ensures.value (mark_then marks.OpenRound (args_items false (exprs c.args.args.now) r)))
+      (adds_then (c.in_ok-put_mark.ensures.value (args_items false (exprs c.args.args.now) r)) (h r))));
+}

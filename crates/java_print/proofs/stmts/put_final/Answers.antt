@@ -6,5 +6,7 @@ use Rattle.java_print.proofs.Adding.{adds_then}
 use Rattle.java_print.proofs.stmts.put_final.Goals as goal
 
 pub returns-in_ok-put_space : goal.returns-in_ok-put_space
-returns-in_ok-put_space c = record { value = subst (λ b. Puts c.args.into.now.items c.put_space.new.into.items (final_items b))
-    (sym c.if-is_final.true) (λ r. adds_then (c.in_ok-put_key.ensures.value (Space ∷ r)) (c.in_ok-put_space.ensures.value r)) }
+returns-in_ok-put_space c = record {
+  value = subst (λ b. Puts c.args.into.now.items c.put_space.new.into.items (final_items b))
+      (sym c.if-is_final.true) (λ r. adds_then (c.in_ok-put_key.ensures.value (Space ∷ r)) (c.in_ok-put_space.ensures.value r));
+}

@@ -8,7 +8,9 @@ use Rattle.std.proofs.Common.{◌++◌}
 use Rattle.java_print.proofs.stmts.put_print.Goals as goal
 
 pub returns : goal.returns
-returns c = record { value = on_ok c.put_mark.result c.put_mark.ensures.value
-    (λ h r. adds_then ((adds_print c.args.into.now.items c.put_text.new.into.items c.args.newline (c.in_ok-put_text.ensures.value
-    ∙ ap (λ xs. c.args.into.now.items ++ xs) c.print_head.ensures.value)) (value_items (value_of c.args.value.now) (mark_then marks.CloseRound r)))
-    (adds_then (c.in_ok-put_value.ensures.value (mark_then marks.CloseRound r)) (h r))) }
+returns c = record {
+  value = on_ok c.put_mark.result c.put_mark.ensures.value
+      (λ h r. adds_then ((adds_print c.args.into.now.items c.put_text.new.into.items c.args.newline (c.in_ok-put_text.ensures.value
+      ∙ ap (λ xs. c.args.into.now.items ++ xs) c.print_head.ensures.value)) (value_items (value_of c.args.value.now) (mark_then marks.CloseRound r)))
+      (adds_then (c.in_ok-put_value.ensures.value (mark_then marks.CloseRound r)) (h r)));
+}

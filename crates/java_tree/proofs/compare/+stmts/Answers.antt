@@ -6,8 +6,10 @@ use Rattle.java_tree.proofs.compare.+stmts.Goals as goal
 
 pub equal_stmts-returns-in-Block-b : goal.equal_stmts-returns-in-Block-b
 equal_stmts-returns-in-Block-b t c =
-    record { value = stmt_by _ _ (block_seen c.in-Block.items c.in-Block.is c.deref.ensures.value)
-    (block_seen c.in-Block-b.others c.in-Block-b.is c.deref-in-Block-b.ensures.value) c.equal_bodies.ensures.value }
+    record {
+      value = stmt_by _ _ (block_seen c.in-Block.items c.in-Block.is c.deref.ensures.value)
+          (block_seen c.in-Block-b.others c.in-Block-b.is c.deref-in-Block-b.ensures.value) c.equal_bodies.ensures.value;
+    }
 
 pub equal_stmts-returns-then-equal_exprs-2 : goal.equal_stmts-returns-then-equal_exprs-2
 equal_stmts-returns-then-equal_exprs-2 t c = record {
@@ -41,8 +43,10 @@ equal_stmts-returns-then-equal_steps-2 t c = record {
 }
 
 pub equal_stmts-returns-in-None-last : goal.equal_stmts-returns-in-None-last
-equal_stmts-returns-in-None-last t c = record { value = stmt_by _ _ (if_seen c.in-If.arms c.in-If.is c.in-None.is c.deref-in-None-last.ensures.value)
-    (if_seen c.in-If-b.others c.in-If-b.is c.in-None-last.is c.deref-in-None-last-2.ensures.value) (c.equal_arms.ensures.value ∙ and_true _) }
+equal_stmts-returns-in-None-last t c = record {
+  value = stmt_by _ _ (if_seen c.in-If.arms c.in-If.is c.in-None.is c.deref-in-None-last.ensures.value)
+      (if_seen c.in-If-b.others c.in-If-b.is c.in-None-last.is c.deref-in-None-last-2.ensures.value) (c.equal_arms.ensures.value ∙ and_true _);
+}
 
 pub equal_stmts-returns-then-equal_arms : goal.equal_stmts-returns-then-equal_arms
 equal_stmts-returns-then-equal_arms t c = record {

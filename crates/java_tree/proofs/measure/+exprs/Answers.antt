@@ -6,8 +6,11 @@ use Rattle.java_tree.proofs.Sizes.{call_size, on_size, super_size, new_size}
 use Rattle.java_tree.proofs.measure.+exprs.Goals as goal
 
 pub expr_count-exprs_count-requires : goal.expr_count-exprs_count-requires
-expr_count-exprs_count-requires t c = (omega (arith, call_size c.in-Call.args c.in-Call.is c.in-None.is c.deref-in-None.ensures.value), omega
-    (arith, call_size c.in-Call.args c.in-Call.is c.in-None.is c.deref-in-None.ensures.value))
+expr_count-exprs_count-requires t c = (
+  omega (arith, call_size c.in-Call.args c.in-Call.is c.in-None.is c.deref-in-None.ensures.value),
+  omega
+      (arith, call_size c.in-Call.args c.in-Call.is c.in-None.is c.deref-in-None.ensures.value),
+)
 
 pub expr_count-overflow_add-result-in-None : goal.expr_count-overflow_add-result-in-None
 expr_count-overflow_add-result-in-None t c =
@@ -18,30 +21,62 @@ expr_count-returns-in-None t c =
     record { value = omega (arith, c.exprs_count.ensures.value, call_size c.in-Call.args c.in-Call.is c.in-None.is c.deref-in-None.ensures.value) }
 
 pub expr_count-exprs_count-requires-in-Some : goal.expr_count-exprs_count-requires-in-Some
-expr_count-exprs_count-requires-in-Some t c =
-    (omega (arith, on_size c.in-Call.args c.in-Call.is c.in-Some.is c.deref-in-Some-2.ensures.value, ap (λ (e : Expr). expr_size (expr_of e))
-    c.deref-in-Some.ensures), omega (arith, on_size c.in-Call.args c.in-Call.is c.in-Some.is c.deref-in-Some-2.ensures.value, ap
-    (λ (e : Expr). expr_size (expr_of e)) c.deref-in-Some.ensures))
+expr_count-exprs_count-requires-in-Some t c = (
+  omega (
+    arith,
+    on_size c.in-Call.args c.in-Call.is c.in-Some.is c.deref-in-Some-2.ensures.value,
+    ap (λ (e : Expr). expr_size (expr_of e))
+        c.deref-in-Some.ensures,
+  ),
+  omega (
+    arith,
+    on_size c.in-Call.args c.in-Call.is c.in-Some.is c.deref-in-Some-2.ensures.value,
+    ap
+        (λ (e : Expr). expr_size (expr_of e)) c.deref-in-Some.ensures,
+  ),
+)
 
 pub expr_count-overflow_add-result-in-Some : goal.expr_count-overflow_add-result-in-Some
 expr_count-overflow_add-result-in-Some t c =
-    omega (arith, c.expr_count-in-Some.ensures.value, c.exprs_count-in-Some.ensures.value, on_size c.in-Call.args c.in-Call.is c.in-Some.is
-    c.deref-in-Some-2.ensures.value, ap (λ (e : Expr). expr_size (expr_of e)) c.deref-in-Some.ensures)
+    omega (
+      arith,
+      c.expr_count-in-Some.ensures.value,
+      c.exprs_count-in-Some.ensures.value,
+      on_size c.in-Call.args c.in-Call.is c.in-Some.is
+          c.deref-in-Some-2.ensures.value,
+      ap (λ (e : Expr). expr_size (expr_of e)) c.deref-in-Some.ensures,
+    )
 
 pub expr_count-overflow_add-result-in-Some-2 : goal.expr_count-overflow_add-result-in-Some-2
 expr_count-overflow_add-result-in-Some-2 t c =
-    omega (arith, c.expr_count-in-Some.ensures.value, c.exprs_count-in-Some.ensures.value, on_size c.in-Call.args c.in-Call.is c.in-Some.is
-    c.deref-in-Some-2.ensures.value, ap (λ (e : Expr). expr_size (expr_of e)) c.deref-in-Some.ensures)
+    omega (
+      arith,
+      c.expr_count-in-Some.ensures.value,
+      c.exprs_count-in-Some.ensures.value,
+      on_size c.in-Call.args c.in-Call.is c.in-Some.is
+          c.deref-in-Some-2.ensures.value,
+      ap (λ (e : Expr). expr_size (expr_of e)) c.deref-in-Some.ensures,
+    )
 
 pub expr_count-returns-in-Some : goal.expr_count-returns-in-Some
 expr_count-returns-in-Some t c =
-    record { value = omega (arith, c.expr_count-in-Some.ensures.value, c.exprs_count-in-Some.ensures.value, on_size c.in-Call.args c.in-Call.is
-    c.in-Some.is c.deref-in-Some-2.ensures.value, ap (λ (e : Expr). expr_size (expr_of e)) c.deref-in-Some.ensures) }
+    record {
+      value = omega (
+        arith,
+        c.expr_count-in-Some.ensures.value,
+        c.exprs_count-in-Some.ensures.value,
+        on_size c.in-Call.args c.in-Call.is
+            c.in-Some.is c.deref-in-Some-2.ensures.value,
+        ap (λ (e : Expr). expr_size (expr_of e)) c.deref-in-Some.ensures,
+      );
+    }
 
 pub expr_count-exprs_count-requires-in-SuperCall : goal.expr_count-exprs_count-requires-in-SuperCall
-expr_count-exprs_count-requires-in-SuperCall t c =
-    (omega (arith, super_size c.in-SuperCall.args c.in-SuperCall.is c.deref-in-SuperCall.ensures.value), omega
-    (arith, super_size c.in-SuperCall.args c.in-SuperCall.is c.deref-in-SuperCall.ensures.value))
+expr_count-exprs_count-requires-in-SuperCall t c = (
+  omega (arith, super_size c.in-SuperCall.args c.in-SuperCall.is c.deref-in-SuperCall.ensures.value),
+  omega
+      (arith, super_size c.in-SuperCall.args c.in-SuperCall.is c.deref-in-SuperCall.ensures.value),
+)
 
 pub expr_count-overflow_add-result-in-SuperCall : goal.expr_count-overflow_add-result-in-SuperCall
 expr_count-overflow_add-result-in-SuperCall t c =
@@ -49,13 +84,21 @@ expr_count-overflow_add-result-in-SuperCall t c =
 
 pub expr_count-returns-in-SuperCall : goal.expr_count-returns-in-SuperCall
 expr_count-returns-in-SuperCall t c =
-    record { value = omega (arith, c.exprs_count-in-SuperCall.ensures.value, super_size c.in-SuperCall.args c.in-SuperCall.is
-    c.deref-in-SuperCall.ensures.value) }
+    record {
+      value = omega (
+        arith,
+        c.exprs_count-in-SuperCall.ensures.value,
+        super_size c.in-SuperCall.args c.in-SuperCall.is
+            c.deref-in-SuperCall.ensures.value,
+      );
+    }
 
 pub expr_count-exprs_count-requires-in-New : goal.expr_count-exprs_count-requires-in-New
-expr_count-exprs_count-requires-in-New t c =
-    (omega (arith, new_size c.in-New.args c.in-New.is c.deref-in-New.ensures.value), omega
-    (arith, new_size c.in-New.args c.in-New.is c.deref-in-New.ensures.value))
+expr_count-exprs_count-requires-in-New t c = (
+  omega (arith, new_size c.in-New.args c.in-New.is c.deref-in-New.ensures.value),
+  omega
+      (arith, new_size c.in-New.args c.in-New.is c.deref-in-New.ensures.value),
+)
 
 pub expr_count-overflow_add-result-in-New : goal.expr_count-overflow_add-result-in-New
 expr_count-overflow_add-result-in-New t c = omega (arith, c.exprs_count-in-New.ensures.value, new_size c.in-New.args c.in-New.is c.deref-in-New.ensures.value)

@@ -11,7 +11,7 @@ meet_words-requires c =
     let s = seen c.self.inside.width c.self.inside.words.items c.args.self.now c.self.invariant c.self.view_is in
     let t = seen c.other.inside.width c.other.inside.words.items c.args.other.now c.other.invariant c.other.view_is in
     let e = same_words c.self.inside.width c.other.inside.width c.self.inside.words.items c.other.inside.words.items c.args.self.now c.args.other.now
-        c.self.invariant c.other.invariant s t c.requires in
+    c.self.invariant c.other.invariant s t c.requires in
     ap length c.deref_mut.ensures.value ∙ (e ∙ sym (ap length c.deref.ensures.value))
 
 -- what the call left, in the words of the two rows

@@ -12,4 +12,4 @@ returns c =
     let words = c.self.inside.words.items in
     let s = seen c.self.inside.width words c.args.self.now c.self.invariant c.self.view_is in
     next_row c.self.inside.width words [] (bit c.args.self.now) c.self.invariant (λ i. s.bits i ∙ news_none words i) c.args.from _ c.next_news.result
-        s.len (rw c.deref.ensures.value at c.next_news.ensures)
+    s.len (rw c.deref.ensures.value at c.next_news.ensures)

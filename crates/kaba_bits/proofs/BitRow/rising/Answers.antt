@@ -22,7 +22,7 @@ scan-preserved c =
       exact = rw c.in_ok-push.ensures.items
           (ListsBelow-push (λ k. bit set k ≡ true) i xs
           (ListsBelow-rest (λ k. bit set k ≡ true) at xs c.scan.invariant.exact i found.low
-              (λ k low below h. false≢true (sym (found.least k low below) ∙ h))) found.holds);
+          (λ k low below h. false≢true (sym (found.least k low below) ∙ h))) found.holds);
     }
 
 pub returns : goal.returns

@@ -21,7 +21,7 @@ returns-then-test_bit-clause-after c =
     let row = c.args.self.now in
     let s = seen c.self.inside.width c.self.inside.words.items row c.self.invariant c.self.view_is in
     let in_set : bit row c.args.i ≡ true = s.bits c.args.i ∙ (sym (ap (λ ws. word_bit ws c.args.i) c.deref.ensures.value)
-        ∙ (sym c.test_bit.ensures ∙ c.if-test_bit.true)) in
+    ∙ (sym c.test_bit.ensures ∙ c.if-test_bit.true)) in
     sym (set-get_or row c.args.i false) ∙ ap (set row c.args.i) in_set
 
 pub returns-then-test_bit-clause-news : goal.returns-then-test_bit-clause-news
@@ -29,7 +29,7 @@ returns-then-test_bit-clause-news c =
     let row = c.args.self.now in
     let s = seen c.self.inside.width c.self.inside.words.items row c.self.invariant c.self.view_is in
     let in_set : bit row c.args.i ≡ true = s.bits c.args.i ∙ (sym (ap (λ ws. word_bit ws c.args.i) c.deref.ensures.value)
-        ∙ (sym c.test_bit.ensures ∙ c.if-test_bit.true)) in
+    ∙ (sym c.test_bit.ensures ∙ c.if-test_bit.true)) in
     sym (ap not in_set)
 
 -- what the call left, in the words of the row

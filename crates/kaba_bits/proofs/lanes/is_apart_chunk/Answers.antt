@@ -11,7 +11,7 @@ returns-clause-apart c =
     let a = c.args.words.now in
     let b = c.args.other.now in
     on_true c.is_zero.result (λ none. none_at _ (λ k. bit_and (slice_index a k) (slice_index b k)) c.args.at
-        (lane_is bit_and a b c.args.at (omega arith) (omega arith)) none) c.is_zero.ensures.none
+    (lane_is bit_and a b c.args.at (omega arith) (omega arith)) none) c.is_zero.ensures.none
 
 pub returns-clause-met : goal.returns-clause-met
 returns-clause-met c =

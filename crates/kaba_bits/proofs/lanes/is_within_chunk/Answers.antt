@@ -12,7 +12,7 @@ returns-clause-within c =
     let b = c.args.other.now in
     let lanes = lane_twice bit_and a b c.args.at (omega arith) (omega arith) bit_xor in
     on_true c.is_zero.result (λ none. none_at _ (λ k. bit_xor (bit_and (slice_index a k) (slice_index b k)) (slice_index a k)) c.args.at lanes none)
-        c.is_zero.ensures.none
+    c.is_zero.ensures.none
 
 pub returns-clause-strays : goal.returns-clause-strays
 returns-clause-strays c =

@@ -9,7 +9,7 @@ returns-then-from-into-2-clause-widths c =
     let rows = c.args.rows.now in
     let new = c.or_into.new.self in
     let e = set_back rows c.split_at_mut-front.result.0.now c.split_at_mut-front.result.1.now c.args.into new c.split_at_mut-front.ensures.value
-        c.split_at_mut-front.ensures.front_len in
+    c.split_at_mut-front.ensures.front_len in
     rw e (widths-set rows c.args.into new (grind (arith, common_steps)))
 
 pub returns-else-from-into-2-clause-widths : goal.returns-else-from-into-2-clause-widths

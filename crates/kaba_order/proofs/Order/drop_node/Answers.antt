@@ -7,8 +7,11 @@ use Rattle.kaba_order.proofs.Order.drop_node.Goals as goal
 use Rattle.kaba_order.proofs.Order.drop_node.Goals.{After-drop_from}
 
 left : (c : After-drop_from) → IsPartialOrder
-    (record { live = c.remove.new.self; le = take c.self.inside.le.len (c.drop_from.new.le ++ drop (length c.drop_from.new.le)
-    c.self.inside.le.items) })
+    (record {
+      live = c.remove.new.self;
+      le = take c.self.inside.le.len (c.drop_from.new.le ++ drop (length c.drop_from.new.le)
+          c.self.inside.le.items);
+    })
 left c =
     let old = c.args.self.now in
     let n = c.args.n.0 in
@@ -26,8 +29,8 @@ left c =
       le = rw before at c.drop_from.ensures.rows;
     } in
     let whole = ap (λ (l : List (List Bool)). let o : Ordered = record { live = made.live; le = l } in o)
-        (sym (with_items_is c.self.inside.le made.le (c.drop_from.ensures.len
-        ∙ (ap length c.deref_mut.ensures.value ∙ sym c.self.inside.le.ok.0)))) in
+    (sym (with_items_is c.self.inside.le made.le (c.drop_from.ensures.len
+    ∙ (ap length c.deref_mut.ensures.value ∙ sym c.self.inside.le.ok.0)))) in
     subst IsPartialOrder whole (dropped_order old made n order count widths dropped)
 
 pub invariant_of-self : goal.invariant_of-self

@@ -43,16 +43,19 @@ least c =
     let n_count : length c.keep_one.new.live ≡ length old.live = c.keep_one.ensures.len ∙ ap (λ l. length l) live in
     let n_live = rw live at c.keep_one.ensures.bits in
     let count : length c.merge_rows.new.le ≡ length c.keep_one.new.live = c.merge_rows.ensures.len
-        ∙ (ap (λ l. length l) before ∙ (order.count ∙ sym n_count)) in
+    ∙ (ap (λ l. length l) before ∙ (order.count ∙ sym n_count)) in
     let widths : HasWidth (length c.keep_one.new.live) c.merge_rows.new.le = subst (λ w. HasWidth w c.merge_rows.new.le) (sym c.merge_rows.ensures.len
-        ∙ count) c.merge_rows.ensures.widths in
+    ∙ count) c.merge_rows.ensures.widths in
     least_merged old (made c) set m order count widths n_count n_live pairs c.least_of-m.ensures.among
-        (among-All (λ s. is_live old s ≡ true) set c.requires.live) c.in_default.ensures
+    (among-All (λ s. is_live old s ≡ true) set c.requires.live) c.in_default.ensures
 
 -- the field after the call is the list that the call left
 whole : (c : After-merge_rows)
-    → made c ≡ record { live = c.keep_one.new.live; le = take c.self.inside.le.len (c.merge_rows.new.le ++ drop (length c.merge_rows.new.le)
-    c.self.inside.le.items) }
+    → made c ≡ record {
+      live = c.keep_one.new.live;
+      le = take c.self.inside.le.len (c.merge_rows.new.le ++ drop (length c.merge_rows.new.le)
+          c.self.inside.le.items);
+    }
 whole c = ap (λ (l : List (List Bool)). let o : Ordered = record { live = c.keep_one.new.live; le = l } in o)
     (sym (with_items_is c.self.inside.le c.merge_rows.new.le (c.merge_rows.ensures.len ∙ (ap (λ l. length l) c.deref_mut.ensures.value
     ∙ sym c.self.inside.le.ok.0))))

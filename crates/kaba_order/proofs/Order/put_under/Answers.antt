@@ -22,15 +22,18 @@ least c =
     let before = c.deref_mut.ensures.value ∙ le in
     let rows = rw before at c.close_under.ensures.rows in
     let count : length c.close_under.new.le ≡ length c.self.inside.live = c.close_under.ensures.len
-        ∙ (ap length before ∙ (order.count ∙ ap length (sym live))) in
+    ∙ (ap length before ∙ (order.count ∙ ap length (sym live))) in
     let widths : HasWidth (length c.self.inside.live) c.close_under.new.le = subst (λ w. HasWidth w c.close_under.new.le)
-        (sym c.close_under.ensures.len ∙ count) c.close_under.ensures.widths in
+    (sym c.close_under.ensures.len ∙ count) c.close_under.ensures.widths in
     least_under old (made c) n p order count widths live rows c.requires.n c.requires.p apart
 
 -- the field after the call is the list that the call left
 whole : (c : After-close_under)
-    → made c ≡ record { live = c.self.inside.live; le = take c.self.inside.le.len (c.close_under.new.le ++ drop (length c.close_under.new.le)
-    c.self.inside.le.items) }
+    → made c ≡ record {
+      live = c.self.inside.live;
+      le = take c.self.inside.le.len (c.close_under.new.le ++ drop (length c.close_under.new.le)
+          c.self.inside.le.items);
+    }
 whole c = ap (λ (l : List (List Bool)). let o : Ordered = record { live = c.self.inside.live; le = l } in o)
     (sym (with_items_is c.self.inside.le c.close_under.new.le (c.close_under.ensures.len
     ∙ (ap length c.deref_mut.ensures.value ∙ sym c.self.inside.le.ok.0))))

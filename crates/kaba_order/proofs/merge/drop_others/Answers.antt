@@ -20,11 +20,11 @@ loop-s-preserved c =
         widths = grind (arith, common_steps);
         rows = λ a b.
             let less : (x : ℕ) → stays (take (i + 1) set) m x ≡ (stays (take i set) m x && not (x == s)) = λ x. stays_less set m x i d (omega arith)
-                w.if-s-m.true in
+            w.if-s-m.true in
             ap (λ l. bit (row l a) b) w.le-is
             ∙ (w.drop_from.ensures.rows a b
             ∙ rw (old a b, less a, less b) (swap_tests (bit (row c.args.le.now a) b) (stays (take i set) m a) (stays (take i set) m b) (not (a == s))
-                (not (b == s))));
+            (not (b == s))));
       }
       | else-s-m w ↦ record {
         widths = grind (arith, common_steps);

@@ -12,4 +12,4 @@ returns-clause-rows c = λ a b.
     c.drop_others.ensures.rows a b
     ∙ ap (λ x. x && stays set m a && stays set m b)
     (closed_rows c.args.le.now c.gather.new.le c.spread.new.le set m c.requires.among c.requires.reflexive g.len (s.len ∙ g.len) g.others g.gathered
-        s.same s.rows a b)
+    s.same s.rows a b)

@@ -15,7 +15,7 @@ returns-in-Ok-Help g c = record {
   replies = without_files (g.F.Shelf.files c.args.shelf.now) (g.F.Shelf.faults c.args.shelf.now) (g.F.Shelf.faults c.args.shelf.now)
       (texts c.args.words.now.items) help c.help_reply.result
       (subst (λ command. Fits (texts c.args.words.now.items) (command_of command)) c.in-Ok-Help.field-0-is c.in-Ok-Help.ensures.command)
-          (λ first second. c.help_reply.ensures.gives);
+      (λ first second. c.help_reply.ensures.gives);
 }
 
 pub returns-in-Ok-Version : goal.returns-in-Ok-Version
@@ -23,7 +23,7 @@ returns-in-Ok-Version g c = record {
   replies = without_files (g.F.Shelf.files c.args.shelf.now) (g.F.Shelf.faults c.args.shelf.now) (g.F.Shelf.faults c.args.shelf.now)
       (texts c.args.words.now.items) version c.version_reply.result
       (subst (λ command. Fits (texts c.args.words.now.items) (command_of command)) c.in-Ok-Version.field-0-is c.in-Ok-Version.ensures.command)
-          (λ first second. c.version_reply.ensures.gives);
+      (λ first second. c.version_reply.ensures.gives);
 }
 
 pub returns-in-Ok-Edit : goal.returns-in-Ok-Edit
@@ -32,7 +32,7 @@ returns-in-Ok-Edit g c = record {
       (texts c.args.words.now.items)
       (edit c.in-Ok-Edit.bound (string_bytes c.in-Ok-Edit.file) (string_bytes c.in-Ok-Edit.script)) c.edit_command.result
       (subst (λ command. Fits (texts c.args.words.now.items) (command_of command)) c.in-Ok-Edit.field-0-is c.in-Ok-Edit.ensures.command)
-          c.edit_command.ensures.replies;
+      c.edit_command.ensures.replies;
 }
 
 pub returns-in-Ok-Regen : goal.returns-in-Ok-Regen
@@ -41,7 +41,7 @@ returns-in-Ok-Regen g c = record {
       (texts c.args.words.now.items)
       (regen c.in-Ok-Regen.bound (string_bytes c.in-Ok-Regen.file) (string_bytes c.in-Ok-Regen.script)) c.regen_command.result
       (subst (λ command. Fits (texts c.args.words.now.items) (command_of command)) c.in-Ok-Regen.field-0-is c.in-Ok-Regen.ensures.command)
-          c.regen_command.ensures.replies;
+      c.regen_command.ensures.replies;
 }
 
 pub make_reply-requires : goal.make_reply-requires
@@ -56,5 +56,5 @@ returns-in-Ok-Make g c = record {
       (texts c.args.words.now.items)
       (make c.in-Ok-Make.prints c.in-Ok-Make.number) c.make_reply.result
       (subst (λ command. Fits (texts c.args.words.now.items) (command_of command)) c.in-Ok-Make.field-0-is c.in-Ok-Make.ensures.command)
-          (λ first second. c.make_reply.ensures.answers);
+      (λ first second. c.make_reply.ensures.answers);
 }

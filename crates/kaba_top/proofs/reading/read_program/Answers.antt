@@ -7,15 +7,19 @@ use Rattle.kaba_top.proofs.Texts.{no_tokens, too_deep, no_tree, read_as}
 use Rattle.kaba_top.proofs.reading.read_program.Goals as goal
 
 pub returns-in-Err : goal.returns-in-Err
-returns-in-Err c = record { reading = no_tokens c.args.bytes.now.items c.in-Err.fault c.in_ok-not_lexed-in-Err.field-0 c.in-Err.ensures.value
-    c.in_ok-not_lexed-in-Err.ensures }
+returns-in-Err c = record {
+  reading = no_tokens c.args.bytes.now.items c.in-Err.fault c.in_ok-not_lexed-in-Err.field-0 c.in-Err.ensures.value
+      c.in_ok-not_lexed-in-Err.ensures;
+}
 
 pub parse-requires : goal.parse-requires
 parse-requires c = record { room = omega (arith, few-tokens c.args.bytes.now.items c.in-Ok.tokens.items c.in-Ok.ensures.value, c.requires.small) }
 
 pub type_tree-requires : goal.type_tree-requires
-type_tree-requires c = record { given = read_formed c.args.bytes.now.items c.in-Ok.tokens.items (tree_of c.in-Ok-parse.tree) c.in-Ok.ensures.value
-    c.in-Ok-parse.ensures.found }
+type_tree-requires c = record {
+  given = read_formed c.args.bytes.now.items c.in-Ok.tokens.items (tree_of c.in-Ok-parse.tree) c.in-Ok.ensures.value
+      c.in-Ok-parse.ensures.found;
+}
 
 pub returns-in-Ok-parse : goal.returns-in-Ok-parse
 returns-in-Ok-parse c = record {

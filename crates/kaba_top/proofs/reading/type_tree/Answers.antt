@@ -11,5 +11,7 @@ returns-in-Ok c = record {
 
 pub returns-in_ok-not_resolved-in-Err : goal.returns-in_ok-not_resolved-in-Err
 returns-in_ok-not_resolved-in-Err c =
-    record { reading = unresolved (tree_of c.args.tree.now) c.in-Err.refusal c.in_ok-not_resolved-in-Err.field-0 c.in-Err.ensures.refused
-    c.in_ok-not_resolved-in-Err.ensures }
+    record {
+      reading = unresolved (tree_of c.args.tree.now) c.in-Err.refusal c.in_ok-not_resolved-in-Err.field-0 c.in-Err.ensures.refused
+          c.in_ok-not_resolved-in-Err.ensures;
+    }

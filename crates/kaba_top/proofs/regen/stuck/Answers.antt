@@ -12,5 +12,5 @@ returns c = record {
       c.extend_from_slice.new.self.items
       (c.in_ok-err.ensures ∙ ap (λ log. c.args.refusals.items ++ log_text log) c.deref.ensures.value)
       (c.in_ok-extend_from_slice.ensures.items ∙ ap (λ last. c.in_ok-err.err.items ++ last) (c.deref-2.ensures.value
-          ∙ c.in_ok-last.ensures.says.err_is ∙ ap line (c.as_bytes.ensures.value ∙ c.in_ok-text.ensures)));
+      ∙ c.in_ok-last.ensures.says.err_is ∙ ap line (c.as_bytes.ensures.value ∙ c.in_ok-text.ensures)));
 }

@@ -14,7 +14,7 @@ returns-in_ok-text-in-Fault c =
     let said = c.as_bytes.ensures.value ∙ c.in_ok-text-in-Fault.ensures.ok ∙ ap (λ word. codes "fault " ++ word) c.fault_word-word.ensures in
     at_end c.args.outcome.end (ends.Fault c.in-Fault.fault) c.args.outcome.out.items c.with_line.result c.in-Fault.is
     (subst (λ text. IfOk c.with_line.result (λ reply. Gives 10 c.args.outcome.out.items (line text) reply.status reply.out.items reply.err.items))
-        said c.with_line.ensures.gives)
+    said c.with_line.ensures.gives)
 
 pub returns-in-Going : goal.returns-in-Going
 returns-in-Going c = at_end c.args.outcome.end ends.Going c.args.outcome.out.items c.with_line-in-Going.result c.in-Going.is c.with_line-in-Going.ensures.gives
