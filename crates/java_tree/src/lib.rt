@@ -6,6 +6,7 @@ ghost use Rattle.java_tree.specs.Laws.{OneAnswer};
 /// Trees from their parts.
 pub mod build;
 mod compare;
+mod compare_bodies;
 mod measure;
 
 pub use compare::same;

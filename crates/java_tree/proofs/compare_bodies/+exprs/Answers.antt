@@ -1,8 +1,8 @@
 use Rattle.std.proofs.Common.{sym, ◌∙◌}
 use Rattle.java_tree.proofs.Sameness.{true_and, expr_by, call_seen, on_seen, super_seen, new_seen, exprs_apart}
 use Rattle.java_tree.proofs.Parts.{then_and, else_and, expr_at}
-use Rattle.java_tree.proofs.compare.+exprs.Goals.{equal_exprs-then-equal_names-3, equal_exprs-else-equal_names-3}
-use Rattle.java_tree.proofs.compare.+exprs.Goals as goal
+use Rattle.java_tree.proofs.compare_bodies.+exprs.Goals.{equal_exprs-then-equal_names-3, equal_exprs-else-equal_names-3}
+use Rattle.java_tree.proofs.compare_bodies.+exprs.Goals as goal
 
 pub equal_exprs-returns-then-equal_names-2 : goal.equal_exprs-returns-then-equal_names-2
 equal_exprs-returns-then-equal_names-2 t c =

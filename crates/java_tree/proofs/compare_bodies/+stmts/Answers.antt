@@ -1,8 +1,8 @@
 use Rattle.std.proofs.Common.{refl, ◌∙◌}
 use Rattle.java_tree.proofs.Sameness.{stmt_by, block_seen, while_seen, for_seen}
 use Rattle.java_tree.proofs.Parts.{then_and, else_and, and_true, if_seen, if_else_seen}
-use Rattle.java_tree.proofs.compare.+stmts.Goals.{equal_stmts-then-equal_steps, equal_stmts-else-equal_steps, equal_stmts-then-equal_values, equal_stmts-else-equal_values}
-use Rattle.java_tree.proofs.compare.+stmts.Goals as goal
+use Rattle.java_tree.proofs.compare_bodies.+stmts.Goals.{equal_stmts-then-equal_steps, equal_stmts-else-equal_steps, equal_stmts-then-equal_values, equal_stmts-else-equal_values}
+use Rattle.java_tree.proofs.compare_bodies.+stmts.Goals as goal
 
 pub equal_stmts-returns-in-Block-b : goal.equal_stmts-returns-in-Block-b
 equal_stmts-returns-in-Block-b t c =

@@ -1,0 +1,376 @@
+//! Equality of names, types, expressions and statements, places aside.
+#![tactic(auto, using(crate::proofs::Sameness::seen))]
+
+ghost use Rattle.std.specs.Prelude.{◌≡◌};
+ghost use Rattle.std.specs.Str.{bytes_eq};
+ghost use Rattle.java_tree.specs.Syntax.{value_of, expr_of, exprs, stmt_of, stmts, arms_seen, boxed_step};
+ghost use Rattle.java_tree.specs.Same.{same_id, same_base, same_type, same_expr, same_exprs, same_value, same_stmt, same_stmts, same_arm, same_arms, same_step};
+
+use crate::{Arm, Expr, Id, Stmt, TypeBase, TypeName};
+use java_lex::Units;
+use kaba_base::Name;
+
+/// Whether two names have the same characters.
+pub fn equal_names(a: &Name, b: &Name) -> bool
+    ensures value { result ≡ bytes_eq a.now b.now }
+{
+    a.same(b)
+}
+
+fn equal_units(a: &Units, b: &Units) -> bool
+    ensures value { result ≡ bytes_eq a.now b.now }
+{
+    a.same(b)
+}
+
+/// Whether two names are equal, places aside.
+pub fn equal_ids(a: &Id, b: &Id) -> bool
+    ensures value { result ≡ same_id a.now b.now }
+{
+    equal_names(&a.name, &b.name)
+}
+
+fn equal_bases(a: &TypeBase, b: &TypeBase) -> bool
+    ensures value { result ≡ same_base a.now b.now }
+{
+    match a {
+        TypeBase::Int => matches!(b, TypeBase::Int),
+        TypeBase::Boolean => matches!(b, TypeBase::Boolean),
+        TypeBase::Char => matches!(b, TypeBase::Char),
+        TypeBase::Named(name) => match b {
+            TypeBase::Named(other) => equal_names(name, other),
+            _ => false,
+        },
+    }
+}
+
+/// Whether two types are equal, places aside.
+pub fn equal_types(a: &TypeName, b: &TypeName) -> bool
+    ensures value { result ≡ same_type a.now b.now }
+{
+    equal_bases(&a.base, &b.base) && a.dim == b.dim
+}
+
+#[cycle(exprs)]
+fn equal_exprs(a: &Expr, b: &Expr) -> bool
+    ensures value { result ≡ same_expr (expr_of a.now) (expr_of b.now) }
+{
+    match a {
+        Expr::Int { value, .. } => match b {
+            Expr::Int { value: other, .. } => *value == *other,
+            _ => false,
+        },
+        Expr::Char { value, .. } => match b {
+            Expr::Char { value: other, .. } => *value == *other,
+            _ => false,
+        },
+        Expr::Str { units, .. } => match b {
+            Expr::Str { units: others, .. } => equal_units(units, others),
+            _ => false,
+        },
+        Expr::Bool { value, .. } => match b {
+            Expr::Bool { value: other, .. } => *value == *other,
+            _ => false,
+        },
+        Expr::Null { .. } => matches!(b, Expr::Null { .. }),
+        Expr::This { .. } => matches!(b, Expr::This { .. }),
+        Expr::Name { name, .. } => match b {
+            Expr::Name { name: other, .. } => equal_names(name, other),
+            _ => false,
+        },
+        Expr::Field { base, name, .. } => match b {
+            Expr::Field {
+                base: root,
+                name: other,
+                ..
+            } => equal_names(name, other) && equal_exprs(base, root),
+            _ => false,
+        },
+        Expr::Index { base, at, .. } => match b {
+            Expr::Index {
+                base: root,
+                at: place,
+                ..
+            } => equal_exprs(base, root) && equal_exprs(at, place),
+            _ => false,
+        },
+        Expr::Call {
+            base,
+            name,
+            args,
+            ..
+        } => match b {
+            Expr::Call {
+                base: root,
+                name: other,
+                args: others,
+                ..
+            } => match base {
+                None => match root {
+                    None => equal_names(name, other) && equal_lists(args, others),
+                    Some(_) => false,
+                },
+                Some(base) => match root {
+                    None => false,
+                    Some(root) => {
+                        equal_names(name, other)
+                            && equal_exprs(base, root)
+                            && equal_lists(args, others)
+                    }
+                },
+            },
+            _ => false,
+        },
+        Expr::SuperCall { name, args, .. } => match b {
+            Expr::SuperCall {
+                name: other,
+                args: others,
+                ..
+            } => equal_names(name, other) && equal_lists(args, others),
+            _ => false,
+        },
+        Expr::New { class, args, .. } => match b {
+            Expr::New {
+                class: other,
+                args: others,
+                ..
+            } => equal_ids(class, other) && equal_lists(args, others),
+            _ => false,
+        },
+        Expr::NewArray { ty, size, .. } => match b {
+            Expr::NewArray {
+                ty: other,
+                size: count,
+                ..
+            } => equal_types(ty, other) && equal_exprs(size, count),
+            _ => false,
+        },
+        Expr::Cast { ty, value, .. } => match b {
+            Expr::Cast {
+                ty: other,
+                value: content,
+                ..
+            } => equal_types(ty, other) && equal_exprs(value, content),
+            _ => false,
+        },
+        Expr::InstanceOf { value, class, .. } => match b {
+            Expr::InstanceOf {
+                value: content,
+                class: other,
+                ..
+            } => equal_ids(class, other) && equal_exprs(value, content),
+            _ => false,
+        },
+        Expr::Unary { mark, value, .. } => match b {
+            Expr::Unary {
+                mark: other,
+                value: content,
+                ..
+            } => *mark == *other && equal_exprs(value, content),
+            _ => false,
+        },
+        Expr::Binary {
+            mark,
+            left,
+            right,
+            ..
+        } => match b {
+            Expr::Binary {
+                mark: other,
+                left: first,
+                right: second,
+                ..
+            } => *mark == *other && equal_exprs(left, first) && equal_exprs(right, second),
+            _ => false,
+        },
+    }
+}
+
+#[cycle(exprs)]
+fn equal_lists(a: &[Expr], b: &[Expr]) -> bool
+    ensures value { result ≡ same_exprs (exprs a.now) (exprs b.now) }
+{
+    if a.len() != b.len() {
+        return false;
+    }
+    for i in 0..a.len() {
+        if !equal_exprs(&a[i], &b[i]) {
+            return false;
+        }
+    }
+    true
+}
+
+fn equal_values(a: &Option<Expr>, b: &Option<Expr>) -> bool
+    ensures value { result ≡ same_value (value_of a.now) (value_of b.now) }
+{
+    match a {
+        None => match b {
+            None => true,
+            Some(_) => false,
+        },
+        Some(one) => match b {
+            None => false,
+            Some(other) => equal_exprs(one, other),
+        },
+    }
+}
+
+#[cycle(stmts)]
+fn equal_stmts(a: &Stmt, b: &Stmt) -> bool
+    ensures value { result ≡ same_stmt (stmt_of a.now) (stmt_of b.now) }
+{
+    match a {
+        Stmt::Local {
+            is_final,
+            ty,
+            name,
+            value,
+            ..
+        } => match b {
+            Stmt::Local {
+                is_final: fixed,
+                ty: kind,
+                name: other,
+                value: content,
+                ..
+            } => {
+                *is_final == *fixed
+                    && equal_types(ty, kind)
+                    && equal_names(name, other)
+                    && equal_values(value, content)
+            }
+            _ => false,
+        },
+        Stmt::Block { items, .. } => match b {
+            Stmt::Block { items: others, .. } => equal_bodies(items, others),
+            _ => false,
+        },
+        Stmt::Assign { target, value, .. } => match b {
+            Stmt::Assign {
+                target: other,
+                value: content,
+                ..
+            } => equal_exprs(target, other) && equal_exprs(value, content),
+            _ => false,
+        },
+        Stmt::Do { call, .. } => match b {
+            Stmt::Do { call: other, .. } => equal_exprs(call, other),
+            _ => false,
+        },
+        Stmt::Print { newline, value, .. } => match b {
+            Stmt::Print {
+                newline: other,
+                value: content,
+                ..
+            } => *newline == *other && equal_values(value, content),
+            _ => false,
+        },
+        Stmt::If { arms, other, .. } => match b {
+            Stmt::If {
+                arms: others,
+                other: last,
+                ..
+            } => match other {
+                None => match last {
+                    None => equal_arms(arms, others),
+                    Some(_) => false,
+                },
+                Some(body) => match last {
+                    None => false,
+                    Some(rest) => equal_arms(arms, others) && equal_bodies(body, rest),
+                },
+            },
+            _ => false,
+        },
+        Stmt::While { test, body, .. } => match b {
+            Stmt::While {
+                test: other,
+                body: others,
+                ..
+            } => equal_exprs(test, other) && equal_bodies(body, others),
+            _ => false,
+        },
+        Stmt::For {
+            first,
+            test,
+            step,
+            body,
+            ..
+        } => match b {
+            Stmt::For {
+                first: start,
+                test: other,
+                step: next,
+                body: others,
+                ..
+            } => {
+                equal_steps(first, start)
+                    && equal_values(test, other)
+                    && equal_steps(step, next)
+                    && equal_bodies(body, others)
+            }
+            _ => false,
+        },
+        Stmt::Return { value, .. } => match b {
+            Stmt::Return { value: content, .. } => equal_values(value, content),
+            _ => false,
+        },
+        Stmt::Break { .. } => matches!(b, Stmt::Break { .. }),
+        Stmt::Continue { .. } => matches!(b, Stmt::Continue { .. }),
+    }
+}
+
+#[cycle(stmts)]
+fn equal_steps(a: &Option<Box<Stmt>>, b: &Option<Box<Stmt>>) -> bool
+    ensures value { result ≡ same_step (boxed_step a.now) (boxed_step b.now) }
+{
+    match a {
+        None => match b {
+            None => true,
+            Some(_) => false,
+        },
+        Some(stmt) => match b {
+            None => false,
+            Some(other) => equal_stmts(stmt, other),
+        },
+    }
+}
+
+/// Whether two lists of statements are equal, places aside.
+#[cycle(stmts)]
+pub fn equal_bodies(a: &[Stmt], b: &[Stmt]) -> bool
+    ensures value { result ≡ same_stmts (stmts a.now) (stmts b.now) }
+{
+    if a.len() != b.len() {
+        return false;
+    }
+    for i in 0..a.len() {
+        if !equal_stmts(&a[i], &b[i]) {
+            return false;
+        }
+    }
+    true
+}
+
+#[cycle(stmts)]
+fn equal_arms(a: &[Arm], b: &[Arm]) -> bool
+    ensures value { result ≡ same_arms (arms_seen a.now) (arms_seen b.now) }
+{
+    if a.len() != b.len() {
+        return false;
+    }
+    for i in 0..a.len() {
+        if !equal_branches(&a[i], &b[i]) {
+            return false;
+        }
+    }
+    true
+}
+
+#[cycle(stmts)]
+fn equal_branches(a: &Arm, b: &Arm) -> bool
+    ensures value { result ≡ same_arm a.now b.now }
+{
+    equal_exprs(&a.test, &b.test) && equal_bodies(&a.body, &b.body)
+}
