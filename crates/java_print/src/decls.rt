@@ -9,7 +9,8 @@ ghost use Rattle.java_print.specs.Adds.{Adds, Puts};
 
 use crate::exprs::{put_comma, put_space, put_type};
 use crate::put::{put_end, put_key, put_margin, put_mark, put_name};
-use crate::stmts::{put_body, put_final, put_open_body, put_stop};
+use crate::simple::{put_final, put_stop};
+use crate::stmts::{put_body, put_open_body};
 use java_lex::Mark;
 use java_tree::{Decl, Head, Id, Member, Modifier, Param, Stmt, TypeName};
 use kaba_base::{Keyword, Name};

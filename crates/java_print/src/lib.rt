@@ -13,6 +13,7 @@ use std::alloc::{AllocError, Global};
 mod decls;
 mod exprs;
 mod put;
+mod simple;
 mod stmts;
 
 /// The text of a program.

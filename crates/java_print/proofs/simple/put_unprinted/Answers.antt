@@ -1,6 +1,6 @@
 use Rattle.java_print.proofs.Adding.{on_ok}
 use Rattle.java_print.proofs.StmtAdding.{bracketed_upon, bracketed_alone}
-use Rattle.java_print.proofs.stmts.put_unprinted.Goals as goal
+use Rattle.java_print.proofs.simple.put_unprinted.Goals as goal
 
 pub returns-in-Some : goal.returns-in-Some
 returns-in-Some c = record {

@@ -3,7 +3,7 @@ use Rattle.java_tree.specs.Syntax.{expr_of}
 use Rattle.java_print.proofs.StmtAdding.{prints_upon}
 use Rattle.std.proofs.Common.{length}
 use Rattle.java_tree.specs.Statements.{is_out}
-use Rattle.java_print.proofs.stmts.prints.Goals as goal
+use Rattle.java_print.proofs.simple.prints.Goals as goal
 
 pub returns-then-is_output : goal.returns-then-is_output
 returns-then-is_output c = record {

@@ -4,7 +4,7 @@ use Rattle.java_tree.specs.Syntax.{exprs}
 use Rattle.java_print.specs.Layout.{mark_then, word_then, args_items}
 use Rattle.java_print.proofs.Adding.{adds_then, on_ok}
 use Rattle.java_print.proofs.StmtAdding.{adds_system}
-use Rattle.java_print.proofs.stmts.put_bracketed.Goals as goal
+use Rattle.java_print.proofs.simple.put_bracketed.Goals as goal
 
 pub returns : goal.returns
 returns c = record {

@@ -3,7 +3,7 @@ use Rattle.java_tree.specs.Syntax.{value_of}
 use Rattle.java_print.specs.Items.{Space}
 use Rattle.java_print.specs.Layout.{word_then, init_items, type_items}
 use Rattle.java_print.proofs.Adding.{adds_then, on_ok}
-use Rattle.java_print.proofs.stmts.put_local.Goals as goal
+use Rattle.java_print.proofs.simple.put_local.Goals as goal
 
 pub returns : goal.returns
 returns c = record {

@@ -4,7 +4,7 @@ use Rattle.java_print.specs.Layout.{mark_then, spaced_items, first_items, step_i
 use Rattle.java_tree.specs.Syntax.{boxed_step}
 use Rattle.java_print.proofs.Adding.{adds_then, on_ok}
 use Rattle.java_print.proofs.StmtAdding.{adds_for}
-use Rattle.java_print.proofs.stmts.put_for_head.Goals as goal
+use Rattle.java_print.proofs.simple.put_for_head.Goals as goal
 
 pub returns : goal.returns
 returns c = record {

@@ -1,7 +1,7 @@
 use Rattle.java_tree.specs.Syntax.{value_of}
 use Rattle.java_print.specs.Layout.{spaced_items, stop_then}
 use Rattle.java_print.proofs.Adding.{adds_then, on_ok}
-use Rattle.java_print.proofs.stmts.put_return.Goals as goal
+use Rattle.java_print.proofs.simple.put_return.Goals as goal
 
 pub returns : goal.returns
 returns c = record {

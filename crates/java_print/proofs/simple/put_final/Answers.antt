@@ -3,7 +3,7 @@ use Rattle.java_print.specs.Items.{Space}
 use Rattle.java_print.specs.Layout.{final_items}
 use Rattle.java_print.specs.Adds.{Puts}
 use Rattle.java_print.proofs.Adding.{adds_then}
-use Rattle.java_print.proofs.stmts.put_final.Goals as goal
+use Rattle.java_print.proofs.simple.put_final.Goals as goal
 
 pub returns-in_ok-put_space : goal.returns-in_ok-put_space
 returns-in_ok-put_space c = record {

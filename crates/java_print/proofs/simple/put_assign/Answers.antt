@@ -4,7 +4,7 @@ use Rattle.java_tree.specs.Syntax.{expr_of}
 use Rattle.java_print.specs.Items.{Space}
 use Rattle.java_print.specs.Layout.{mark_then, expr_items}
 use Rattle.java_print.proofs.Adding.{adds_then, on_ok}
-use Rattle.java_print.proofs.stmts.put_assign.Goals as goal
+use Rattle.java_print.proofs.simple.put_assign.Goals as goal
 
 pub returns : goal.returns
 returns c = record {

@@ -5,7 +5,7 @@ use Rattle.java_print.specs.Layout.{mark_then, value_items}
 use Rattle.java_print.proofs.Adding.{adds_then, on_ok}
 use Rattle.java_print.proofs.StmtAdding.{adds_print}
 use Rattle.std.proofs.Common.{◌++◌}
-use Rattle.java_print.proofs.stmts.put_print.Goals as goal
+use Rattle.java_print.proofs.simple.put_print.Goals as goal
 
 pub returns : goal.returns
 returns c = record {

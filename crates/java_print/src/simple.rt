@@ -1,0 +1,313 @@
+//! The text of a statement that stands on a line of its own.
+#![tactic(auto)]
+
+ghost use Rattle.std.specs.Prelude.{◌≡◌, OnOk, List};
+ghost use Rattle.java_tree.specs.Syntax.{expr_of, exprs, value_of, stmt_of};
+ghost use Rattle.java_tree.specs.Statements.{is_called, is_out};
+ghost use Rattle.java_print.specs.Items.{Item};
+ghost use Rattle.java_print.specs.Layout.{key_then, value_items, spaced_items, init_items, initial_items, print_head, final_items, prints, is_printing, bracketed_items, upon_system, call_items, local_items, assign_items, print_items, simple_items, first_items, step_items, stop_then, for_head_items, return_items};
+ghost use Rattle.java_print.specs.Adds.{Adds, Puts};
+ghost use Rattle.java_tree.specs.Syntax.{boxed_step};
+
+use crate::exprs::{put_args, put_expr, put_space, put_type};
+use crate::put::{put_end, put_key, put_mark, put_name, put_text};
+use java_lex::Mark;
+use java_tree::{Expr, Stmt, TypeName};
+use kaba_base::{Keyword, Name};
+use std::alloc::{AllocError, Global};
+
+/// Whether a name is this text.
+fn is_text(name: &Name, text: &str) -> bool
+    ensures value { result ≡ is_called name.now text.now }
+{
+    name.as_str() == text
+}
+
+/// Whether an expression is `System.out`.
+fn is_output(base: &Expr) -> bool
+    ensures value { result ≡ is_out (expr_of base.now) }
+{
+    match base {
+        Expr::Field { base, name, .. } => match &**base {
+            Expr::Name { name: owner, .. } => is_text(owner, "System") && is_text(name, "out"),
+            _ => false,
+        },
+        _ => false,
+    }
+}
+
+/// Whether a call of `System.out` with so many arguments prints.
+fn is_printing(name: &Name, count: usize) -> bool
+    ensures value { result ≡ is_printing name.now count }
+{
+    count < 2 && is_text(name, "println") || count == 1 && is_text(name, "print")
+}
+
+/// Whether a call would be read as the printing of a value.
+fn prints(call: &Expr) -> bool
+    ensures value { result ≡ prints (expr_of call.now) }
+{
+    match call {
+        Expr::Call {
+            base,
+            name,
+            args,
+            ..
+        } => match base {
+            Some(base) => is_output(base) && is_printing(name, args.as_slice().len()),
+            None => false,
+        },
+        _ => false,
+    }
+}
+
+/// Adds a value, where there is one.
+fn put_value(alloc: Global, into: &mut Vec<u8>, value: &Option<Expr>) -> Result<(), AllocError>
+    ensures value { OnOk result (Puts into.old.items into.new.items (value_items (value_of value.now))) }
+{
+    match value {
+        None => Ok(()),
+        Some(value) => put_expr(alloc, into, value),
+    }
+}
+
+/// Adds a space and a value, where there is one.
+fn put_spaced(alloc: Global, into: &mut Vec<u8>, value: &Option<Expr>) -> Result<(), AllocError>
+    ensures value { OnOk result (Puts into.old.items into.new.items (spaced_items (value_of value.now))) }
+{
+    match value {
+        None => Ok(()),
+        Some(value) => {
+            put_space(into)?;
+            put_expr(alloc, into, value)
+        }
+    }
+}
+
+/// Adds ` = ` and an initial value.
+fn put_initial(alloc: Global, into: &mut Vec<u8>, value: &Expr) -> Result<(), AllocError>
+    ensures value { OnOk result (Puts into.old.items into.new.items (initial_items (expr_of value.now))) }
+{
+    put_space(into)?;
+    put_mark(into, Mark::Assign)?;
+    put_space(into)?;
+    put_expr(alloc, into, value)
+}
+
+/// Adds ` = ` and an initial value, where there is one.
+fn put_init(alloc: Global, into: &mut Vec<u8>, value: &Option<Expr>) -> Result<(), AllocError>
+    ensures value { OnOk result (Puts into.old.items into.new.items (init_items (value_of value.now))) }
+{
+    match value {
+        None => Ok(()),
+        Some(value) => put_initial(alloc, into, value),
+    }
+}
+
+/// Adds `final `, where it is asked.
+pub fn put_final(into: &mut Vec<u8>, is_final: bool) -> Result<(), AllocError>
+    ensures value { OnOk result (Puts into.old.items into.new.items (final_items is_final)) }
+{
+    if is_final {
+        put_key(into, Keyword::Final)?;
+        put_space(into)?;
+    }
+    Ok(())
+}
+
+/// Adds the declaration of a local.
+fn put_local(
+    alloc: Global,
+    into: &mut Vec<u8>,
+    is_final: bool,
+    ty: &TypeName,
+    name: &Name,
+    value: &Option<Expr>,
+) -> Result<(), AllocError>
+    ensures value { OnOk result (Puts into.old.items into.new.items (local_items is_final ty.now name.now (value_of value.now))) }
+{
+    put_final(into, is_final)?;
+    put_type(into, ty)?;
+    put_space(into)?;
+    put_name(into, name)?;
+    put_init(alloc, into, value)
+}
+
+/// Adds an assignment.
+fn put_assign(
+    alloc: Global,
+    into: &mut Vec<u8>,
+    target: &Expr,
+    value: &Expr,
+) -> Result<(), AllocError>
+    ensures value { OnOk result (Puts into.old.items into.new.items (assign_items (expr_of target.now) (expr_of value.now))) }
+{
+    put_expr(alloc, into, target)?;
+    put_space(into)?;
+    put_mark(into, Mark::Assign)?;
+    put_space(into)?;
+    put_expr(alloc, into, value)
+}
+
+/// How a printing begins.
+fn print_head(newline: bool) -> &'static str
+    ensures value { result.now ≡ print_head newline }
+{
+    if newline {
+        "System.out.println("
+    } else {
+        "System.out.print("
+    }
+}
+
+/// Adds a printing.
+fn put_print(
+    alloc: Global,
+    into: &mut Vec<u8>,
+    newline: bool,
+    value: &Option<Expr>,
+) -> Result<(), AllocError>
+    ensures value { OnOk result (Puts into.old.items into.new.items (print_items newline (value_of value.now))) }
+{
+    put_text(into, print_head(newline))?;
+    put_value(alloc, into, value)?;
+    put_mark(into, Mark::CloseRound)
+}
+
+/// Adds a call that stands as a statement.
+fn put_do(alloc: Global, into: &mut Vec<u8>, call: &Expr) -> Result<(), AllocError>
+    ensures value { OnOk result (Puts into.old.items into.new.items (call_items (expr_of call.now))) }
+{
+    if prints(call) {
+        put_unprinted(alloc, into, call)
+    } else {
+        put_expr(alloc, into, call)
+    }
+}
+
+/// Adds a call that would be read as a printing, with brackets that keep it a call.
+fn put_unprinted(alloc: Global, into: &mut Vec<u8>, call: &Expr) -> Result<(), AllocError>
+    ensures value { OnOk result (Puts into.old.items into.new.items (bracketed_items (expr_of call.now))) }
+{
+    match call {
+        Expr::Call {
+            base,
+            name,
+            args,
+            ..
+        } => match base {
+            Some(_) => put_bracketed(alloc, into, name, args.as_slice()),
+            None => put_expr(alloc, into, call),
+        },
+        _ => put_expr(alloc, into, call),
+    }
+}
+
+/// Adds a call upon `(System).out`.
+fn put_bracketed(
+    alloc: Global,
+    into: &mut Vec<u8>,
+    name: &Name,
+    args: &[Expr],
+) -> Result<(), AllocError>
+    ensures value { OnOk result ((r : List Item) → Adds into.old.items into.new.items (upon_system name.now (exprs args.now) r) r) }
+{
+    put_text(into, "(System).out.")?;
+    put_name(into, name)?;
+    put_mark(into, Mark::OpenRound)?;
+    put_args(alloc, into, args)
+}
+
+/// Adds a statement that stands on a line with nothing else, without its semicolon.
+fn put_simple(alloc: Global, into: &mut Vec<u8>, s: &Stmt) -> Result<(), AllocError>
+    ensures value { OnOk result (Puts into.old.items into.new.items (simple_items (stmt_of s.now))) }
+{
+    match s {
+        Stmt::Local {
+            is_final,
+            ty,
+            name,
+            value,
+            ..
+        } => put_local(alloc, into, *is_final, ty, name, value),
+        Stmt::Assign { target, value, .. } => put_assign(alloc, into, target, value),
+        Stmt::Do { call, .. } => put_do(alloc, into, call),
+        Stmt::Print { newline, value, .. } => put_print(alloc, into, *newline, value),
+        _ => Ok(()),
+    }
+}
+
+/// Adds the first part of a `for`.
+fn put_first(alloc: Global, into: &mut Vec<u8>, first: &Option<Box<Stmt>>) -> Result<(), AllocError>
+    ensures value { OnOk result (Puts into.old.items into.new.items (first_items (boxed_step first.now))) }
+{
+    match first {
+        None => Ok(()),
+        Some(first) => put_simple(alloc, into, first),
+    }
+}
+
+/// Adds the last part of a `for`.
+fn put_step(alloc: Global, into: &mut Vec<u8>, step: &Option<Box<Stmt>>) -> Result<(), AllocError>
+    ensures value { OnOk result (Puts into.old.items into.new.items (step_items (boxed_step step.now))) }
+{
+    match step {
+        None => Ok(()),
+        Some(step) => {
+            put_space(into)?;
+            put_simple(alloc, into, step)
+        }
+    }
+}
+
+/// Adds a semicolon and the end of the line.
+pub fn put_stop(into: &mut Vec<u8>) -> Result<(), AllocError>
+    ensures value { OnOk result (Puts into.old.items into.new.items stop_then) }
+{
+    put_mark(into, Mark::Semi)?;
+    put_end(into)
+}
+
+/// Adds a `for` up to its body.
+pub fn put_for_head(
+    alloc: Global,
+    into: &mut Vec<u8>,
+    first: &Option<Box<Stmt>>,
+    test: &Option<Expr>,
+    step: &Option<Box<Stmt>>,
+) -> Result<(), AllocError>
+    ensures value { OnOk result (Puts into.old.items into.new.items (for_head_items (boxed_step first.now) (value_of test.now) (boxed_step step.now))) }
+{
+    put_text(into, "for (")?;
+    put_first(alloc, into, first)?;
+    put_mark(into, Mark::Semi)?;
+    put_spaced(alloc, into, test)?;
+    put_mark(into, Mark::Semi)?;
+    put_step(alloc, into, step)?;
+    put_mark(into, Mark::CloseRound)
+}
+
+/// Adds a `return`.
+pub fn put_return(alloc: Global, into: &mut Vec<u8>, value: &Option<Expr>) -> Result<(), AllocError>
+    ensures value { OnOk result (Puts into.old.items into.new.items (return_items (value_of value.now))) }
+{
+    put_key(into, Keyword::Return)?;
+    put_spaced(alloc, into, value)?;
+    put_stop(into)
+}
+
+/// Adds a `break` or a `continue`.
+pub fn put_jump(into: &mut Vec<u8>, key: Keyword) -> Result<(), AllocError>
+    ensures value { OnOk result ((r : List Item) → Adds into.old.items into.new.items (key_then key (stop_then r)) r) }
+{
+    put_key(into, key)?;
+    put_stop(into)
+}
+
+/// Adds a line with one simple statement.
+pub fn put_line(alloc: Global, into: &mut Vec<u8>, s: &Stmt) -> Result<(), AllocError>
+    ensures value { OnOk result ((r : List Item) → Adds into.old.items into.new.items (simple_items (stmt_of s.now) (stop_then r)) r) }
+{
+    put_simple(alloc, into, s)?;
+    put_stop(into)
+}
