@@ -13,6 +13,7 @@ pub mod FormedBodies
 pub mod Layouts
 pub mod Bodies
 pub mod TypedPrograms
+pub mod Unwatched
 pub mod Plain
 pub mod Placed
 pub mod WatchedPrograms
