@@ -16,7 +16,7 @@ use Rattle.java_meaning.specs.Watched.{bare_sts}
 use Rattle.run_cover.proofs.Kinded.{IsKindedPart, IsKinded}
 use Rattle.run_cover.proofs.Untagging.{same_env}
 use Rattle.run_cover.proofs.HasRows.{method_of, variable_point_of}
-use Rattle.run_cover.proofs.TypedParts.{body_kinds}
+use Rattle.run_cover.proofs.TypedBodies.{body_kinds}
 use Rattle.run_cover.proofs.Found.{is_below}
 use Rattle.run_cover.proofs.Bodies.{finds_body}
 use Rattle.run_cover.proofs.Cells.{field_has_cell, element_has_cell}

@@ -28,7 +28,8 @@ use Rattle.run_cover.proofs.Cover.{run_stays}
 use Rattle.run_cover.proofs.Kinded.{IsKinded}
 use Rattle.run_cover.proofs.Flows.{when_some, looks_in}
 use Rattle.run_cover.proofs.Calls.{local_object, result_object}
-use Rattle.run_cover.proofs.Included.{passes_map, get_map, then_some, map_some, MadeAs, typed_sites, family, included_code}
+use Rattle.run_cover.proofs.Included.{passes_map, get_map, then_some, map_some, MadeAs, typed_sites, family}
+use Rattle.run_cover.proofs.IncludedBodies.{included_code}
 
 default_no_object : (t : Ty) (a : ℕ) → default_of t ≡ Object a → ⊥
 default_no_object t a e = default_plain t.base t.dim a e

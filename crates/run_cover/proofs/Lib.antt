@@ -1,12 +1,17 @@
 pub mod Truths
 pub mod Lists
 pub mod Held
+pub mod CoveredSteps
 pub mod Cover
 pub mod Kinded
 pub mod Sites
+pub mod Each
 pub mod Flows
 pub mod Calls
+pub mod SeenOperands
 pub mod Included
+pub mod IncludedExpressions
+pub mod IncludedBodies
 pub mod Escapes
 pub mod Listed
 pub mod HasNumbers
@@ -14,6 +19,8 @@ pub mod Untagging
 pub mod HasRows
 pub mod Types
 pub mod TypedParts
+pub mod TypedExpressions
+pub mod TypedBodies
 pub mod Found
 pub mod Bodies
 pub mod Cells
