@@ -1,6 +1,6 @@
 -- Each site in a set has a type at or below that of the set, and as many brackets.
-use Rattle.std.proofs.Common.{◌≡◌, ℕ, zero, suc, ◌+◌, ◌-◌, List, [], ◌∷◌, ◌++◌, Option, Some, None, length, refl, sym, ap, ◌∙◌, subst, arith, ⊎_elim}
-use Rattle.std.specs.Prelude.{◌<◌, Contains, slice_get, slice_index_or, option_and_then, map}
+use Rattle.std.proofs.Common.{◌≡◌, ℕ, ◌+◌, ◌-◌, List, ◌++◌, Option, Some, None, refl, sym, ap, ◌∙◌, subst, arith, ⊎_elim}
+use Rattle.std.specs.Prelude.{◌<◌, Contains, slice_get, option_and_then}
 use Rattle.std.specs.Option.{option_map_or}
 use Rattle.std.specs.List.{AllByRecursion}
 use Rattle.std.proofs.lemmas.Option.{same_Some}
@@ -23,39 +23,32 @@ use Rattle.fact_model.specs.declared.facts.StoreInfo.{StoreInfo}
 use Rattle.fact_model.specs.declared.facts.CastInfo.{CastInfo}
 use Rattle.fact_model.specs.declared.facts.CallInfo.{CallInfo}
 use Rattle.fact_model.specs.declared.facts.BodyInfo.{BodyInfo}
-use Rattle.fact_model.proofs.ClassLemmas.{finds-found}
 use Rattle.flow_rules.specs.declared.items.ObjectType.{ObjectType}
 use Rattle.flow_rules.specs.declared.items.Operand.{Operand}
 use Rattle.flow_rules.specs.declared.items.PointItem.{PointItem}
 use Rattle.flow_rules.specs.declared.items.PointItem.TheVariants as point
 use Rattle.flow_rules.specs.declared.items.ColumnItem.{ColumnItem}
 use Rattle.flow_rules.specs.declared.items.ColumnItem.TheVariants as column
-use Rattle.flow_rules.specs.Ordered.{each, by_place}
+use Rattle.flow_rules.specs.Ordered.{each}
 use Rattle.flow_rules.specs.Operands.{object_if, class_object}
 use Rattle.flow_rules.specs.Types.{field_object, slot_object, method_object, variable_object, element_object}
-use Rattle.flow_rules.specs.Parts.{Part, a_load, an_element, a_creation, a_call, a_static_call, a_super_call, a_test, a_set, a_store, an_element_store, a_return, parts_of}
-use Rattle.flow_rules.specs.Lists.{Placed, PlainCall, point_at, site_in, created, moved, news_of, flows_of, loads_of, stores_of, casts_of, calls_of}
-use Rattle.flow_rules.specs.Numbered.{column_number, columns_of, site_number, point_number}
-use Rattle.flow_rules.specs.Facts.{numbers, gathered, body_seen, call_seen, body_if, column_body, param_points, owner_of, IsFactsOf}
+use Rattle.flow_rules.specs.Parts.{Part, a_load, an_element, a_creation, a_static_call, a_super_call, a_test, a_set, a_store, an_element_store, a_return, parts_of}
+use Rattle.flow_rules.specs.Lists.{point_at, site_in, created, moved, news_of, flows_of, loads_of, stores_of, casts_of}
+use Rattle.flow_rules.specs.Numbered.{column_number, site_number, point_number}
+use Rattle.flow_rules.specs.Facts.{numbers, owner_of, IsFactsOf}
 use Rattle.run_cover.proofs.Kinded.{site_type}
-use Rattle.facts_order.proofs.Listed.{map_has, map_from, map_at, one_from, each_from_zero, place_from, at_below}
-use Rattle.facts_order.proofs.Items.{column_at, column_back}
+use Rattle.facts_order.proofs.Listed.{each_from_zero}
+use Rattle.facts_order.proofs.Items.{column_at}
 use Rattle.facts_order.proofs.Pairs.{IsPlaced}
-use Rattle.facts_order.proofs.Columns.{numbered_column}
-use Rattle.facts_order.proofs.Classes.{at_each, below_subclass}
+use Rattle.facts_order.proofs.Classes.{below_subclass}
 use Rattle.facts_order.proofs.Tests.{gathered_from, both_from, these_from}
 use Rattle.facts_order.proofs.Operands.{param_object, slot_param}
 use Rattle.facts_order.proofs.Fits.{IsUnder, ArePaired, element_some, element_parts}
 use Rattle.facts_order.proofs.Sound.{item_type, IsSound}
-use Rattle.facts_order.proofs.Fitted.{IsFitted, IsValue, AreValues, part_fitted}
+use Rattle.facts_order.proofs.Fitted.{IsFitted, IsValue, part_fitted}
 use Rattle.facts_order.proofs.Supers.{super_above}
 use Rattle.facts_order.proofs.Pointed.{under_same, under_then, under_as, point_type, number_type, point_item_of, operand_type, made_type, has_type}
-
--- what stands in a list of numbers that may be there
-index_some : (xs : List (Option ℕ)) (i n : ℕ) → slice_index_or xs i None ≡ Some n → slice_get xs i ≡ Some (Some n)
-index_some [] i n e = absurd (cc)
-index_some (x ∷ xs) zero n e = ap Some e
-index_some (x ∷ xs) (suc i) n e = index_some xs i n e
+use Rattle.facts_order.proofs.Called.{runs_body, arg_at, param_at}
 
 field_number : ColumnItem → Option ℕ
 field_number (column.Fld f) = Some f
@@ -328,139 +321,13 @@ module _ (P Q : Plain) (placed : IsPlaced P Q) (formed : IsFormed P) (typed : Is
         }
     part_cast _ x s g c r h u d = absurd (omega (arith, c.1))
 
-  -- a call, and what typing gives of it
-  pub record IsCall (call : CallInfo) : Type 0 where
-    pub number : ℕ
-    pub method : PlainMethod
-    pub stands : slice_get Q.methods number ≡ Some method
-    pub base : Operand
-    pub args : List Operand
-    pub own : Operand
-    pub receiver : point_at (numbers P Q) base ≡ Some call.receiver
-    pub args_are : call.args.items ≡ map (point_at (numbers P Q)) args
-    pub result : call.result ≡ point_at (numbers P Q) own
-    pub base_good : IsSound P Q placed formed typed F facts number method stands base
-    pub own_good : IsSound P Q placed formed typed F facts number method stands own
-    pub object : (t : ObjectType) → base.ty ≡ Some t → t.dim ≡ 0
-    pub values : AreValues P Q placed formed typed F facts number method stands args (param_object P call.slot)
-    pub gives : own.ty ≡ slot_object P call.slot
-
-  call_part : (m : ℕ) (k : PlainMethod) (e : slice_get Q.methods m ≡ Some k) (p : Part) (y : Placed PlainCall) (call : CallInfo)
-      → IsFitted P Q placed formed typed F facts m k e p → Contains (calls_of (numbers P Q) p) y → y.item ≡ call_seen call → IsCall call
-  call_part m k e (a_call w b (Some s) d es o) y call f c i = go (point_at (numbers P Q) b) refl c
-    where
-      go : (r : Option ℕ) → point_at (numbers P Q) b ≡ r
-          → Contains (option_map_or (λ r. record {
-            place = w;
-            item = record {
-              receiver = r;
-              slot = s;
-              args = map (point_at (numbers P Q)) es;
-              result =
-                  point_at (numbers P Q) o;
-            };
-          } ∷ []) r []) y → IsCall call
-      go None a c = absurd (omega (arith, c.1))
-      go (Some r) a c =
-          let z = ap (λ y. y.item) (one_from _ y c) ∙ i in
-          let same : s ≡ call.slot = ap (λ y. y.slot) z in
-          let h = f.1 s refl in
-          record {
-            number = m;
-            method = k;
-            stands = e;
-            base = b;
-            args = es;
-            own = o;
-            receiver = a ∙ ap (λ y. Some y.receiver) z;
-            args_are = sym (ap (λ y. y.args) z);
-            result = sym (ap (λ y. y.result) z);
-            base_good = h.0.good;
-            own_good = f.0;
-            object = h.0.object;
-            values = subst (λ s. AreValues P Q placed formed typed F facts m k e es (param_object P s)) same h.1.args;
-            gives = h.1.result ∙ ap (slot_object P) same;
-          }
-  call_part m k e _ y call f c i = absurd (omega (arith, c.1))
-
   fitted_at : (m : ℕ) (k : PlainMethod) (e : slice_get Q.methods m ≡ Some k) (p : Part) → Contains (parts_of P m k) p
       → IsFitted P Q placed formed typed F facts m k e p
   fitted_at m k e p c = part_fitted P Q placed formed typed F facts m k e p c
 
-  pub call_of : (call : CallInfo) → Contains F.calls.items call → IsCall call
-  call_of call c =
-      let y = map_from (λ c. c.item) (by_place (λ c. c.place.at) (gathered P Q (λ b. calls_of (numbers P Q)))) (call_seen call)
-      (subst (λ w. Contains w (call_seen call)) facts.calls (map_has call_seen F.calls.items call c)) in
-      let z = gathered_from P Q (λ b. calls_of (numbers P Q)) y.0 (place_from (λ c. c.place.at) (gathered P Q (λ b. calls_of (numbers P Q))) y.0 y.1) in
-      call_part z.0 z.1 z.3 z.2 y.0 call (fitted_at z.0 z.1 z.3 z.2 z.4) z.5 y.2
-
-  -- a body of the facts, and its method
-  pub record IsEntry (body : BodyInfo) : Type 0 where
-    pub number : ℕ
-    pub method : PlainMethod
-    pub stands : slice_get Q.methods number ≡ Some method
-    pub column_is : column_number P Q (column.Def number) ≡ Some body.column.0
-    pub this : point_number P Q (point.This number) ≡ Some body.this
-    pub params : body.params.items ≡ param_points (numbers P Q) Q number method
-    pub result : body.result ≡ point_number P Q (point.Result number)
-
-  item_entry : (c : ℕ) (i : ColumnItem) (body : BodyInfo) → column_number P Q i ≡ Some c → Contains (column_body (numbers P Q) Q c i) (body_seen body)
-      → IsEntry body
-  unfolding numbers
-  item_entry c (column.Def m) body n h = go (slice_get Q.methods m) refl h
-    where
-      inner : (k : PlainMethod) (t : Option ℕ) → slice_get Q.methods m ≡ Some k → point_number P Q (point.This m) ≡ t
-          → Contains (body_if (numbers P Q) Q c m k t) (body_seen body) → IsEntry body
-      inner k None e d h = absurd (omega (arith, h.1))
-      inner k (Some t) e d h =
-          let z = one_from _ (body_seen body) h in
-          record {
-            number = m;
-            method = k;
-            stands = e;
-            column_is = n ∙ ap (λ y. Some y.column) z;
-            this = d
-                ∙ ap (λ y. Some y.this) z;
-            params = sym (ap (λ y. y.params) z);
-            result = sym (ap (λ y. y.result) z);
-          }
-
-      go : (o : Option PlainMethod) → slice_get Q.methods m ≡ o
-          → Contains (option_map_or (λ k. body_if (numbers P Q) Q c m k (point_number P Q (point.This m))) o []) (body_seen body) → IsEntry body
-      go None e h = absurd (omega (arith, h.1))
-      go (Some k) e h = inner k (point_number P Q (point.This m)) e refl h
-  item_entry c _ body n h = absurd (omega (arith, h.1))
-
-  pub entry_of : (body : BodyInfo) → Contains F.bodies.items body → IsEntry body
-  entry_of body c =
-      let z = each_from_zero (λ c k. column_body (numbers P Q) Q c k.item) (columns_of P Q) (body_seen body)
-      (subst (λ w. Contains w (body_seen body)) facts.bodies (map_has body_seen F.bodies.items body c)) in
-      item_entry z.0 z.1.item body (column_back P Q z.0 z.1 z.2) z.3
-
-  -- the body that a call runs for an object
-  record RunsBody (call : CallInfo) (o : ℕ) (body : BodyInfo) : Type 0 where
-    call_is : IsCall call
-    entry : IsEntry body
-    above : IsSubclass P (site_class F o) entry.method.owner
-    slot : entry.method.slot ≡ Some call.slot
-
-  runs_body : (call : CallInfo) (o : ℕ) (body : BodyInfo) → Runs F call o body → RunsBody call o body
-  runs_body call o body r =
-      let c = call_of call r.called in
-      let e = entry_of body r.listed in
-      let f = finds-found F (site_class F o) call.slot body.column.0 r.found in
-      let n = numbered_column P Q F facts (column.Def e.number) body.column.0 e.column_is in
-      record {
-        call_is = c;
-        entry = e;
-        above = subst (λ z. IsSubclass P (site_class F o) z) (sym f.body.class ∙ ap (λ i. i.class.0) n.1
-            ∙ ap (λ o. option_map_or (λ k. k.owner) o 0) e.stands) (below_subclass P Q placed F facts f.above);
-        slot = sym (ap (λ o. option_and_then (λ k. k.slot) o) e.stands) ∙ sym (ap (λ i. i.slot) n.1) ∙ f.body.slot;
-      }
-
   this_held : (call : CallInfo) (o : ℕ) (body : BodyInfo) → Runs F call o body → IsHeld (in_point call.receiver o) → IsHeld (in_point body.this o)
   this_held call o body r h u d =
-      let w = runs_body call o body r in
+      let w = runs_body P Q placed formed typed F facts call o body r in
       let e = w.entry in
       let c = w.call_is in
       let t = typed_operand c.number c.method c.stands c.base call.receiver c.base_good c.receiver in
@@ -468,25 +335,14 @@ module _ (P Q : Plain) (placed : IsPlaced P Q) (formed : IsFormed P) (typed : Is
       ∙ ap (option_and_then (λ k. class_object k.owner)) e.stands) ∙ d) in
       as_under (record { class = w.above; dim = (h t.0 t.1).dim ∙ c.object t.0 t.2 }) s
 
-  arg_at : (es : List Operand) (xs : List (Option ℕ)) (i n : ℕ) → xs ≡ map (point_at (numbers P Q)) es → listed_at xs i ≡ Some n → (a : Operand)
-      × (slice_get es i ≡ Some a) × (point_at (numbers P Q) a ≡ Some n)
-  arg_at es xs i n e d = map_at (point_at (numbers P Q)) es i (Some n) (subst (λ y. slice_get y i ≡ Some (Some n)) e (index_some xs i n d))
-
-  param_at : (m : ℕ) (k : PlainMethod) (xs : List (Option ℕ)) (i n : ℕ) → xs ≡ param_points (numbers P Q) Q m k → listed_at xs i ≡ Some n
-      → (i < length k.params) × (point_number P Q (point.Local m i) ≡ Some n)
-  unfolding numbers
-  param_at m k xs i n e d =
-      let z = at_each (λ i v. point_number P Q (point.Local m i)) 0 k.params i (Some n) (subst (λ y. slice_get y i ≡ Some (Some n)) e (index_some xs i n d)) in
-      (at_below k.params i z.0 z.1, ap (λ j. point_number P Q (point.Local m j)) (omega arith) ∙ z.2)
-
   argument_held : (call : CallInfo) (o : ℕ) (body : BodyInfo) (i from to s : ℕ) → Runs F call o body → listed_at call.args.items i ≡ Some from
       → listed_at body.params.items i ≡ Some to → IsHeld (in_point from s) → IsHeld (in_point to s)
   argument_held call o body i from to s r a p h u d =
-      let w = runs_body call o body r in
+      let w = runs_body P Q placed formed typed F facts call o body r in
       let e = w.entry in
       let c = w.call_is in
-      let x = arg_at c.args call.args.items i from c.args_are a in
-      let y = param_at e.number e.method body.params.items i to e.params p in
+      let x = arg_at P Q placed formed typed F facts c.args call.args.items i from c.args_are a in
+      let y = param_at P Q placed formed typed F facts e.number e.method body.params.items i to e.params p in
       value_goes c.number c.method c.stands x.0 (param_object P call.slot i) from s (c.values i x.0 x.1) x.2 h u
       (sym (slot_param P Q placed formed typed e.number i call.slot e.method e.stands w.slot y.0) ∙ sym (number_types (point.Local e.number i) to y.1
       ∙ ap (option_and_then (λ k. variable_object k i)) e.stands) ∙ d)
@@ -494,7 +350,7 @@ module _ (P Q : Plain) (placed : IsPlaced P Q) (formed : IsFormed P) (typed : Is
   result_held : (call : CallInfo) (o : ℕ) (body : BodyInfo) (from to s : ℕ) → Runs F call o body → body.result ≡ Some from → call.result ≡ Some to
       → IsHeld (in_point from s) → IsHeld (in_point to s)
   result_held call o body from to s r a p h u d =
-      let w = runs_body call o body r in
+      let w = runs_body P Q placed formed typed F facts call o body r in
       let e = w.entry in
       let c = w.call_is in
       let z = placed.methods e.number e.method e.stands in

@@ -24,6 +24,7 @@ pub mod Accesses
 pub mod Tied
 pub mod Supers
 pub mod Pointed
+pub mod Called
 pub mod Held
 pub mod Contained
 pub mod Range

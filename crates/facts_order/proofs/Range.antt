@@ -54,7 +54,8 @@ use Rattle.facts_order.proofs.Accesses.{access_part}
 use Rattle.facts_order.proofs.Supers.{super_entry}
 use Rattle.facts_order.proofs.Tied.{tie_fits}
 use Rattle.facts_order.proofs.Pointed.{point_item_of}
-use Rattle.facts_order.proofs.Held.{created_from, moved_from, call_of, entry_of}
+use Rattle.facts_order.proofs.Called.{call_of, entry_of}
+use Rattle.facts_order.proofs.Held.{created_from, moved_from}
 use Rattle.facts_order.proofs.Contained.{IsCellOf, of_field, of_array, cell_is}
 
 module _ (P Q : Plain) (placed : IsPlaced P Q) (formed : IsFormed P) (typed : IsTyped P) (F : Facts) (facts : IsFactsOf P Q F) where
