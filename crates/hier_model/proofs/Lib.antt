@@ -2,6 +2,7 @@ pub mod AnyLemmas
 pub mod LowestLemmas
 pub mod OrderedLemmas
 pub mod MergedLemmas
+pub mod EditedOrders
 pub mod FitLemmas
 pub mod Pushed
 pub mod SetTests

@@ -23,7 +23,8 @@ use Rattle.fact_model.specs.declared.sets.Table.{Table}
 use Rattle.fact_model.proofs.ClassLemmas.{below-then}
 use Rattle.hier_model.specs.Hierarchies.{Hierarchy, node, place_of_column, place_of_row, origin_of, member_name, is_at, stands_at, IsHierarchyOf}
 use Rattle.hier_model.specs.Edits.{under_order, first_between, merged}
-use Rattle.hier_model.proofs.FitLemmas.{under_live, under_fits, merged_fits}
+use Rattle.hier_model.proofs.EditedOrders.{under_live}
+use Rattle.hier_model.proofs.FitLemmas.{under_fits, merged_fits}
 use Rattle.hier_laws.specs.Shapes.{Given, Shape}
 use Rattle.hier_laws.specs.Obligations.{Half, NoneIsOwn}
 use Rattle.hier_laws.specs.Starts.{Roles, IsClosed, AreInOrder}

@@ -17,7 +17,7 @@ use Rattle.hier_model.specs.Start.{is_below_all, lowest}
 use Rattle.hier_model.specs.Edits.{merged_order, under_order, dropped_order, least_of, first_between, all_there, merged_origin, merged_node, merged}
 use Rattle.hier_model.proofs.MergedLemmas.{cases_Option, none_between, least_is}
 use Rattle.hier_model.proofs.OrderedLemmas.{made_le}
-use Rattle.hier_model.proofs.FitLemmas.{under_pairs, dropped_made, merged_made, merged_le, merged_live, merged_below, least_among}
+use Rattle.hier_model.proofs.EditedOrders.{under_pairs, dropped_made, merged_made, merged_le, merged_live, merged_below, least_among}
 use Rattle.hier_begin.proofs.ShapeLemmas.{shape, placed}
 use Rattle.tree_laws.specs.Origins.{IsPutUnder, becomes, IsMadeOne, IsWithout}
 

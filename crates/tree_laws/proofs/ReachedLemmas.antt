@@ -24,7 +24,8 @@ use Rattle.hier_model.specs.Edits.{dropped_order, is_one_slot, is_renamed, renam
 use Rattle.hier_model.specs.declared.edits.Edit.TheVariants as edit
 use Rattle.hier_model.specs.declared.edits.ChangeFault.{ChangeFault}
 use Rattle.hier_model.specs.declared.edits.ChangeFault.TheVariants.{UnknownNode, UnknownMember, NotEmpty}
-use Rattle.hier_model.proofs.FitLemmas.{dropped_made, changed_fits}
+use Rattle.hier_model.proofs.EditedOrders.{dropped_made}
+use Rattle.hier_model.proofs.FitLemmas.{changed_fits}
 use Rattle.hier_laws.specs.Shapes.{Given}
 use Rattle.hier_rules.specs.declared.broken.Broken.{Broken}
 use Rattle.hier_rules.specs.Names.{is_member, method_slot}

@@ -12,7 +12,7 @@ use Rattle.hier_model.specs.declared.edits.Edit.{Edit}
 use Rattle.hier_model.specs.declared.edits.Edit.TheVariants as edit
 use Rattle.hier_model.specs.declared.edits.ChangeFault.TheVariants.{UnknownNode, Cycle}
 use Rattle.hier_model.proofs.MergedLemmas.{none_between}
-use Rattle.hier_model.proofs.FitLemmas.{least_among}
+use Rattle.hier_model.proofs.EditedOrders.{least_among}
 use Rattle.hier_rules.specs.declared.broken.Broken.{Broken}
 use Rattle.hier_rules.specs.First.{first_of_edit}
 use Rattle.hier_rules.specs.Obligations.{first_unchained}

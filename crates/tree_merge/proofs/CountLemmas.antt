@@ -7,7 +7,7 @@ use Rattle.kaba_bits.proofs.SetLemmas.{bit-below}
 use Rattle.kaba_order.specs.Orders.{Ordered, is_le, is_live, is_among, is_below_some, is_above_some, stays, IsPartialOrder, IsBetween, IsLeastMerged}
 use Rattle.hier_model.specs.Edits.{under_order, merged_order}
 use Rattle.hier_model.proofs.OrderedLemmas.{made_le}
-use Rattle.hier_model.proofs.FitLemmas.{under_pairs, under_live, merged_le, merged_live, merged_below, merged_made}
+use Rattle.hier_model.proofs.EditedOrders.{under_pairs, under_live, merged_le, merged_live, merged_below, merged_made}
 use Rattle.tree_merge.specs.Attempts.{sum_below, one_if, is_apart, unordered}
 
 sum_le : (n : ℕ) (f g : ℕ → ℕ) → ((k : ℕ) → f k ≤ g k) → sum_below n f ≤ sum_below n g
