@@ -18,7 +18,8 @@ use Rattle.flow_rules.specs.Operands.{type_in}
 use Rattle.flow_rules.specs.Parts.{parts_of}
 use Rattle.flow_rules.specs.Facts.{numbers, kind_of, slot_in}
 use Rattle.rebuild_model.specs.Members.{StandsAt}
-use Rattle.rebuild_model.proofs.Worked.{old, new, facts, hierarchy, column_f, column_m, column_body, no_field, no_declaration, no_body, name_m, rebuilds}
+use Rattle.rebuild_model.proofs.Worked.{old, new, hierarchy}
+use Rattle.rebuild_model.proofs.WorkedRebuilds.{facts, column_f, column_m, column_body, no_field, no_declaration, no_body, name_m, rebuilds}
 use Rattle.rebuild_looks.specs.Known.{AreColumns, Known, Offers}
 use Rattle.rebuild_looks.proofs.FormedOld as of_old
 use Rattle.rebuild_looks.proofs.FormedNew as of_new

@@ -11,7 +11,8 @@ use Rattle.fact_model.specs.Classes.{is_slot}
 use Rattle.fact_model.specs.declared.facts.Facts.{Facts}
 use Rattle.rebuild_model.specs.Members.{is_filled}
 use Rattle.rebuild_model.specs.Written.{IsFilling, IsWritten}
-use Rattle.rebuild_model.proofs.Worked.{old, new, facts, hierarchy, places}
+use Rattle.rebuild_model.proofs.Worked.{old, new, hierarchy, places}
+use Rattle.rebuild_model.proofs.WorkedRebuilds.{facts}
 
 module _ (others : Facts) where
   no_filler : (n s : ℕ) → is_live hierarchy.order n ≡ true → is_filled (facts others) hierarchy n s ≡ true → ⊥
