@@ -27,7 +27,8 @@ extra (false ∷ a) (false ∷ b) lt = let h = extra a b (omega (arith, lt, size
 
 module _ (E : List (List Bool)) (k : ℕ) where
   -- the upper covers are the least candidates
-  pub cover_is_least : (n : ℕ) (numbers : List ℕ) → ((i : ℕ) → i < length E → length (row E i) ≡ n) → ((i j : ℕ) → i < length E → j < length E → row E i ≡ row E j → i ≡ j)
+  pub cover_is_least : (n : ℕ) (numbers : List ℕ) → ((i : ℕ) → i < length E → length (row E i) ≡ n) → ((i j : ℕ) → i < length E → j < length E
+      → row E i ≡ row E j → i ≡ j)
       → AreCandidates E k n numbers → (j : ℕ) → j < length E → ((Contains numbers j × IsLeast E numbers j) ↔ IsUpperCover E k j)
   cover_is_least n numbers len same are j jlt = (
     λ h. record {
@@ -56,7 +57,8 @@ module _ (E : List (List Bool)) (k : ℕ) where
   )
 
   -- a closure with a row that has no less of the intent than r is within each extent above k that has r
-  pub AreCandidates-all : (T : List (List Bool)) (w : ℕ) (xs : List Pair) (m : ℕ) (near numbers : List ℕ) → E ≡ extents_of xs → AreConcepts T w xs → k < length xs → AreNear T (get_or xs k nothing).0 (get_or xs k nothing).1 near → m ≡ length near → length numbers ≡ m
+  pub AreCandidates-all : (T : List (List Bool)) (w : ℕ) (xs : List Pair) (m : ℕ) (near numbers : List ℕ) → E ≡ extents_of xs → AreConcepts T w xs
+      → k < length xs → AreNear T (get_or xs k nothing).0 (get_or xs k nothing).1 near → m ≡ length near → length numbers ≡ m
       → ((i d : ℕ) → i < m → IsClosure E k (get_or near i d) (get_or numbers i d)) → AreCandidates E k (length T) numbers
   AreCandidates-all T w xs m near numbers e are klt n mlen len closure =
       let x = get_or xs k nothing in
@@ -70,7 +72,8 @@ module _ (E : List (List Bool)) (k : ℕ) where
             let j = get_or numbers i d in
             let jlt : j < length xs = omega (arith, o.below, long) in
             let q = get_or near i d in
-            within_by (row E k) (row E j) (ap length (at k klt) ∙ (c.extent.len ∙ sym (ap length (at j jlt) ∙ (are.each j nothing jlt).extent.len))) o.holds q (ap (λ s. bit s q) (at k klt) ∙ n.lacks i d (omega (arith, lt, len, mlen))) o.has;
+            within_by (row E k) (row E j) (ap length (at k klt) ∙ (c.extent.len ∙ sym (ap length (at j jlt) ∙ (are.each j nothing jlt).extent.len)))
+            o.holds q (ap (λ s. bit s q) (at k klt) ∙ n.lacks i d (omega (arith, lt, len, mlen))) o.has;
         each = λ r rlt lacks.
             let h = n.each r rlt (sym (ap (λ s. bit s r) (at k klt)) ∙ lacks) in
             let q = h.0 in
@@ -82,7 +85,8 @@ module _ (E : List (List Bool)) (k : ℕ) where
               λ j jlt over has.
                   let below : j < length xs = omega (arith, jlt, long) in
                   let u = get_or xs j nothing in
-                  let more : bit u.0 q ≡ true = near-has T w x u c (are.each j nothing below) (rw (at k klt, at j below) at over) r q rlt qlt h.2 (sym (ap (λ s. bit s r) (at j below)) ∙ has) in
+                  let more : bit u.0 q ≡ true = near-has T w x u c (are.each j nothing below) (rw (at k klt, at j below) at over) r q rlt qlt h.2
+                  (sym (ap (λ s. bit s r) (at j below)) ∙ has) in
                   o.least j jlt over (ap (λ s. bit s q) (at j below) ∙ more),
             );
       }

@@ -55,7 +55,8 @@ module _ (T : List (List Bool)) where
           let k = c.0 in
           let klt : k < length xs = omega (arith, c.1, ap length s.listed, length-map xs columns_at) in
           let q = get_or xs k 0 in
-          let same : columns_at q ≡ columns_at n = sym (get_or-map columns_at xs k 0 (columns_at n) klt) ∙ (sym (ap (λ l. get_or l k (columns_at n)) s.listed) ∙ c.2) in
+          let same : columns_at q ≡ columns_at n = sym (get_or-map columns_at xs k 0 (columns_at n) klt)
+          ∙ (sym (ap (λ l. get_or l k (columns_at n)) s.listed) ∙ c.2) in
           (q, Contains-get_or xs k 0 klt, rising_from-same 0 (row T q) (row T n) (widths q (s.below k 0 klt) ∙ sym (widths n lt)) same ∙ ap (row T) e))
           (cases_lt r n);
     }

@@ -56,7 +56,8 @@ module _ (T : List (List Bool)) (w : ℕ) where
       let b = get_or xs j nothing in
       let p = are.each i nothing ilt in
       let q = are.each j nothing jlt in
-      let f : a.1 ≡ b.1 = rising_from-same 0 a.1 b.1 (p.intent.len ∙ sym q.intent.len) (sym (column-columns_of xs i d ilt) ∙ (e ∙ column-columns_of xs j d jlt)) in
+      let f : a.1 ≡ b.1 = rising_from-same 0 a.1 b.1 (p.intent.len ∙ sym q.intent.len) (sym (column-columns_of xs i d ilt)
+      ∙ (e ∙ column-columns_of xs j d jlt)) in
       let g : a.0 ≡ b.0 = same_extent T w a.0 b.0 b.1 (subst (IsExtent T a.0) f p.extent) q.extent in
       let h : i ≡ j = same_number xs are i j ilt jlt (row-extents_of xs i nothing ilt ∙ (g ∙ sym (row-extents_of xs j nothing jlt))) in
       omega (arith, h, ij)
@@ -77,7 +78,8 @@ module _ (T : List (List Bool)) (w : ℕ) where
               let f : meet B R ≡ B = subset-same (meet B R) B m.len (meet-left (meet B R) B R m) (omega (arith, e)) in
               λ i b. meet-right (meet B R) B R m i (subst (λ s. bit s i ≡ true) (sym f) b),
           λ s.
-              let f : meet B R ≡ B = same_bits (meet B R) B m.len (λ i ilt. same_Bool (bit (meet B R) i) (bit B i) (meet-left (meet B R) B R m i) (λ b. m.bits i ∙ and_from (bit B i) (bit R i) b (s i b))) in
+              let f : meet B R ≡ B = same_bits (meet B R) B m.len (λ i ilt. same_Bool (bit (meet B R) i) (bit B i) (meet-left (meet B R) B R m i)
+              (λ b. m.bits i ∙ and_from (bit B i) (bit R i) b (s i b))) in
               at ∙ eq-eqb (size (meet B R)) (size B) (ap size f),
         );
   }
@@ -94,7 +96,8 @@ module _ (T : List (List Bool)) (w : ℕ) where
     pub meet-there : HasIntent xs (meet y.1 (row T q))
     meet-there =
         let B = meet y.1 (row T q) in
-        all.complete (extent B) B (concept-closed T w (extent B) B (IsExtent-extent B) (closed-meet T w q B y.1 qlt (closed-concept T w y.0 y.1 c) (IsMeet-meet y.1 (row T q))))
+        all.complete (extent B) B (concept-closed T w (extent B) B (IsExtent-extent B) (closed-meet T w q B y.1 qlt (closed-concept T w y.0 y.1 c)
+        (IsMeet-meet y.1 (row T q))))
 
     pub columns-there : Contains (columns_of xs) (rising (meet y.1 (row T q)))
     columns-there =
@@ -112,7 +115,8 @@ module _ (T : List (List Bool)) (w : ℕ) where
       meet-z : IsMeet z.1 y.1 (row T q)
       meet-z =
           let m = IsMeet-meet y.1 (row T q) in
-          let e : z.1 ≡ meet y.1 (row T q) = rising_from-same 0 z.1 (meet y.1 (row T q)) (p.intent.len ∙ sym (m.len ∙ c.intent.len)) (sym (column-columns_of xs i [] lt) ∙ same) in
+          let e : z.1 ≡ meet y.1 (row T q) = rising_from-same 0 z.1 (meet y.1 (row T q)) (p.intent.len ∙ sym (m.len ∙ c.intent.len))
+          (sym (column-columns_of xs i [] lt) ∙ same) in
           subst (λ B. IsMeet B y.1 (row T q)) (sym e) m
 
       pub closure-found : IsClosure (extents_of xs) k q i
@@ -127,5 +131,6 @@ module _ (T : List (List Bool)) (w : ℕ) where
             least = λ j jlt over has.
                 let below : j < length xs = omega (arith, len, jlt) in
                 let at_j = row-extents_of xs j nothing below in
-                rw (at_i, at_j) (meet-least T w y z q c p qlt meet-z (get_or xs j nothing) (all.concepts.each j nothing below) (rw (at_k, at_j) at over) (rw at_j at has));
+                rw (at_i, at_j) (meet-least T w y z q c p qlt meet-z (get_or xs j nothing) (all.concepts.each j nothing below)
+                (rw (at_k, at_j) at over) (rw at_j at has));
           }

@@ -32,10 +32,18 @@ pub AreNext-grows : (T : List (List Bool)) (a b : List Pair) (k : ℕ) → k < l
 AreNext-grows T a b k lt g next r rlt lacks =
     let e = g.same k lt in
     let n = next r rlt (subst (λ (x : Pair). bit x.0 r ≡ false) e lacks) in
-    subst (λ (x : Pair). IsNext T x.0 x.1 b r) (sym e) (record { q = n.q; below = n.below; lacks = n.lacks; more = n.more; has = HasMeet-grows a b (pair_at a k).1 (row T n.q) g n.has })
+    subst (λ (x : Pair). IsNext T x.0 x.1 b r) (sym e) (record {
+      q = n.q;
+      below = n.below;
+      lacks = n.lacks;
+      more = n.more;
+      has = HasMeet-grows a b
+          (pair_at a k).1 (row T n.q) g n.has;
+    })
 
 -- the neighbours by near rows
-pub AreNext-near : (T : List (List Bool)) (xs : List Pair) (k n : ℕ) (near : List ℕ) → AreNear T (pair_at xs k).0 (pair_at xs k).1 near → n ≡ length near → ((i d : ℕ) → i < n → HasMeet xs (pair_at xs k).1 (row T (get_or near i d))) → AreNext T xs k
+pub AreNext-near : (T : List (List Bool)) (xs : List Pair) (k n : ℕ) (near : List ℕ) → AreNear T (pair_at xs k).0 (pair_at xs k).1 near
+    → n ≡ length near → ((i d : ℕ) → i < n → HasMeet xs (pair_at xs k).1 (row T (get_or near i d))) → AreNext T xs k
 AreNext-near T xs k n near are len has r rlt lacks =
     let h = are.each r rlt lacks in
     let c = h.1 in
@@ -48,7 +56,8 @@ AreNext-near T xs k n near are len has r rlt lacks =
     }
 
 module _ (T : List (List Bool)) (w : ℕ) (xs : List Pair) (keys : List (List ℕ)) (found : AreFound T w xs keys) where
-  pub AreFound-push : (y : Pair) (new : List (List ℕ)) → IsConcept T w y.0 y.1 → new ≡ keys ++ rising y.1 ∷ [] → (Contains keys (rising y.1) → ⊥) → AreFound T w (xs ++ y ∷ []) new
+  pub AreFound-push : (y : Pair) (new : List (List ℕ)) → IsConcept T w y.0 y.1 → new ≡ keys ++ rising y.1 ∷ [] → (Contains keys (rising y.1) → ⊥)
+      → AreFound T w (xs ++ y ∷ []) new
   AreFound-push y new o e fresh =
       let more : columns_of (xs ++ y ∷ []) ≡ columns_of xs ++ rising y.1 ∷ [] = map-append (λ (x : Pair). rising x.1) xs (y ∷ []) in
       record {
@@ -66,6 +75,7 @@ module _ (T : List (List Bool)) (w : ℕ) (xs : List Pair) (keys : List (List �
       let lt : k < length xs = omega (arith, c.1, ap length found.listed, len) in
       let x = pair_at xs k in
       let m = IsMeet-meet B R in
-      let same : rising x.1 ≡ rising (meet B R) = sym (column-columns_of xs k (rising (meet B R)) lt) ∙ (sym (ap (λ l. get_or l k (rising (meet B R))) found.listed) ∙ c.2) in
+      let same : rising x.1 ≡ rising (meet B R) = sym (column-columns_of xs k (rising (meet B R)) lt)
+      ∙ (sym (ap (λ l. get_or l k (rising (meet B R))) found.listed) ∙ c.2) in
       let e : x.1 ≡ meet B R = rising_from-same 0 x.1 (meet B R) ((found.each k nothing lt).intent.len ∙ sym (m.len ∙ wide)) same in
       (k, lt, subst (λ s. IsMeet s B R) (sym e) m)

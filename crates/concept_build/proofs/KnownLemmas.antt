@@ -22,17 +22,21 @@ rising_from-below k (false ∷ xs) i d lt = omega (arith, rising_from-below (k +
 pub rising_from-has : (k : ℕ) (xs : List Bool) (i : ℕ) → bit xs i ≡ true → Contains (rising_from k xs) (k + i)
 rising_from-has k [] i h = absurd (false≢true h)
 rising_from-has k (true ∷ xs) zero h = (0, omega arith, omega arith)
-rising_from-has k (true ∷ xs) (suc i) h = subst (Contains (k ∷ rising_from (k + 1) xs)) (omega arith) (Contains-append_right (k ∷ []) (rising_from (k + 1) xs) (k + 1 + i) (rising_from-has (k + 1) xs i h))
+rising_from-has k (true ∷ xs) (suc i) h =
+    subst (Contains (k ∷ rising_from (k + 1) xs)) (omega arith) (Contains-append_right (k ∷ []) (rising_from (k + 1) xs) (k + 1 + i)
+    (rising_from-has (k + 1) xs i h))
 rising_from-has k (false ∷ xs) zero h = absurd (false≢true h)
 rising_from-has k (false ∷ xs) (suc i) h = subst (Contains (rising_from (k + 1) xs)) (omega arith) (rising_from-has (k + 1) xs i h)
 
 -- the numbers of a set that pass a test
-pub filter-rising_from : (k : ℕ) (f : ℕ → Bool) (B M : List Bool) → length M ≡ length B → ((i : ℕ) → bit M i ≡ (bit B i && f (k + i))) → filter f (rising_from k B) ≡ rising_from k M
+pub filter-rising_from : (k : ℕ) (f : ℕ → Bool) (B M : List Bool) → length M ≡ length B → ((i : ℕ) → bit M i ≡ (bit B i && f (k + i)))
+    → filter f (rising_from k B) ≡ rising_from k M
 filter-rising_from k f [] [] len bits = refl
 filter-rising_from k f [] (m ∷ M) len bits = absurd (omega (arith, len))
 filter-rising_from k f (x ∷ B) [] len bits = absurd (omega (arith, len))
 filter-rising_from k f (x ∷ B) (m ∷ M) len bits =
-    one x m (bits 0 ∙ ap (λ n. x && f n) (omega arith)) (filter-rising_from (k + 1) f B M (omega (arith, len)) (λ i. bits (suc i) ∙ ap (λ n. bit B i && f n) (omega arith)))
+    one x m (bits 0 ∙ ap (λ n. x && f n) (omega arith)) (filter-rising_from (k + 1) f B M (omega (arith, len)) (λ i. bits (suc i)
+    ∙ ap (λ n. bit B i && f n) (omega arith)))
   where
     one : (x m : Bool) → m ≡ (x && f k) → filter f (rising_from (k + 1) B) ≡ rising_from (k + 1) M → filter f (rising_from k (x ∷ B)) ≡ rising_from k (m ∷ M)
     one true true e rest = rw (sym e) (ap (λ l. k ∷ l) rest)
@@ -43,7 +47,8 @@ filter-rising_from k f (x ∷ B) (m ∷ M) len bits =
 module _ {K : Type 0} (f : K → List ℕ) (t : K → Bool) (y : List ℕ) (is : (x : K) → Decides (t x) (y ≡ f x)) where
   Contains-any : (ks : List K) → list_any t ks ≡ true → Contains (map f ks) y
   Contains-any [] h = absurd (true≢false (sym h))
-  Contains-any (x ∷ xs) h = ⊎_elim (λ e. (0, omega arith, sym ((is x).0 e))) (λ e. Contains-append_right (f x ∷ []) (map f xs) y (Contains-any xs (rw e at h))) (cases_Bool (t x))
+  Contains-any (x ∷ xs) h = ⊎_elim (λ e. (0, omega arith, sym ((is x).0 e))) (λ e. Contains-append_right (f x ∷ []) (map f xs) y
+      (Contains-any xs (rw e at h))) (cases_Bool (t x))
 
   any-at : (ks : List K) (k : ℕ) → k < length (map f ks) → get_or (map f ks) k y ≡ y → list_any t ks ≡ true
   any-at [] k lt e = absurd (omega (arith, lt))
@@ -61,15 +66,18 @@ module _ {K : Type 0} (f : K → List ℕ) (t : K → Bool) (y : List ℕ) (is :
 
 -- what an insertion does
 module _ {K : Type 0} (f : K → List ℕ) (k : K) (ks new : List K) (b : Bool) where
-  added : (there : Bool) → (there ≡ true → Contains (map f ks) (f k)) → (Contains (map f ks) (f k) → there ≡ true) → b ≡ not there → new ≡ cond there ks (ks ++ k ∷ []) → IsAddition (map f ks) (f k) (map f new) b
+  added : (there : Bool) → (there ≡ true → Contains (map f ks) (f k)) → (Contains (map f ks) (f k) → there ≡ true) → b ≡ not there
+      → new ≡ cond there ks (ks ++ k ∷ []) → IsAddition (map f ks) (f k) (map f new) b
   added true c d p q = rw (p, q) (refl, c refl)
   added false c d p q = rw (p, q) (map-append f ks (k ∷ []), λ h. false≢true (d h))
 
-  pub IsAddition-insert_key : (eq : K → K → Bool) → ((x : K) → Decides (eq k x) (f k ≡ f x)) → b ≡ not (list_any (eq k) ks) → new ≡ insert_key eq ks k → IsAddition (map f ks) (f k) (map f new) b
+  pub IsAddition-insert_key : (eq : K → K → Bool) → ((x : K) → Decides (eq k x) (f k ≡ f x)) → b ≡ not (list_any (eq k) ks) → new ≡ insert_key eq ks k
+      → IsAddition (map f ks) (f k) (map f new) b
   IsAddition-insert_key eq is p q = added (list_any (eq k) ks) (Contains-any f (eq k) (f k) is ks) (λ h. any-at f (eq k) (f k) is ks h.0 h.1 h.2) p q
 
 -- in a list whose members differ each is new
-pub take-addition : (cols old new : List (List ℕ)) (n : ℕ) (x : List ℕ) (b : Bool) → AreDifferent cols → n < length cols → old ≡ take n cols → x ≡ get_or cols n [] → IsAddition old x new b → new ≡ take (n + 1) cols
+pub take-addition : (cols old new : List (List ℕ)) (n : ℕ) (x : List ℕ) (b : Bool) → AreDifferent cols → n < length cols → old ≡ take n cols
+    → x ≡ get_or cols n [] → IsAddition old x new b → new ≡ take (n + 1) cols
 take-addition cols old new n x true apart lt front is h = h.0 ∙ ((λ i. front i ++ is i ∷ []) ∙ sym (take_more cols n [] lt))
 take-addition cols old new n x false apart lt front is h =
     let c = h.1 in

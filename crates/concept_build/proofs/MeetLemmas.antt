@@ -35,10 +35,12 @@ module _ (T : List (List Bool)) (w : ℕ) where
         (o.extent.rows r rlt).1 (λ i h.
         let below : i < w = omega (arith, bit-below u.1 i h, o.intent.len) in
         let each = (o.intent.columns i below).0 h in
-        (p.extent.rows r rlt).0 b i (m.bits i ∙ and_from (bit x.1 i) (bit (row T q) i) ((c.intent.columns i below).1 (λ s slt a. each s slt (over s a))) (each q qlt has)))
+        (p.extent.rows r rlt).0 b i (m.bits i
+        ∙ and_from (bit x.1 i) (bit (row T q) i) ((c.intent.columns i below).1 (λ s slt a. each s slt (over s a))) (each q qlt has)))
 
   -- an extent above x with a row has each row that has no less of x's intent
-  pub near-has : (x u : Pair) → IsConcept T w x.0 x.1 → IsConcept T w u.0 u.1 → IsSubset x.0 u.0 → (r q : ℕ) → r < length T → q < length T → IsNoMore x.1 (row T r) (row T q) → bit u.0 r ≡ true → bit u.0 q ≡ true
+  pub near-has : (x u : Pair) → IsConcept T w x.0 x.1 → IsConcept T w u.0 u.1 → IsSubset x.0 u.0 → (r q : ℕ) → r < length T → q < length T
+      → IsNoMore x.1 (row T r) (row T q) → bit u.0 r ≡ true → bit u.0 q ≡ true
   near-has x u c o over r q rlt qlt more b =
       (o.extent.rows q qlt).1 (λ i h.
       let below : i < w = omega (arith, bit-below u.1 i h, o.intent.len) in

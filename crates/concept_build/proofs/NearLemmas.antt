@@ -12,7 +12,8 @@ use Rattle.concept_build.proofs.KnownLemmas.{rising_from-has}
 use Rattle.concept_build.specs.Tables.{AreExamples, AreNear, HasNear, IsMissed, IsNoMore, IsFull, listed_rows}
 
 -- an example has a column where the set of that column has its place
-pub column-place : (T : List (List Bool)) (examples : List ℕ) (p c : ℕ) → p < length examples → bit (row (listed_rows T examples) p) c ≡ bit (row T (get_or examples p 0)) c
+pub column-place : (T : List (List Bool)) (examples : List ℕ) (p c : ℕ) → p < length examples → bit (row (listed_rows T examples) p) c
+    ≡ bit (row T (get_or examples p 0)) c
 column-place T examples p c lt = ap (λ r. bit r c) (get_or-map (row T) examples p 0 [] lt)
 
 -- a row that has no column that another misses has no more of B
@@ -57,7 +58,8 @@ module _ (T : List (List Bool)) (A B : List Bool) (examples : List ℕ) where
           ⊎_elim
           (λ up.
           let e : p ≡ k = omega (arith, up, high) in
-          subst (λ i. HasNear T B near (get_or examples i 0)) e (let o = known (subst (λ i. bit A (get_or examples i 0) ≡ false) (sym e) lacks) in (o.0, s.known o.0 o.1, o.2)))
+          subst (λ i. HasNear T B near (get_or examples i 0)) e (let o = known (subst (λ i. bit A (get_or examples i 0) ≡ false) (sym e) lacks) in
+          (o.0, s.known o.0 o.1, o.2)))
           (λ out. past k lt lacks (inr out))
           h)
           (cases_lt k p);
@@ -72,13 +74,15 @@ module _ (T : List (List Bool)) (A B : List Bool) (examples : List ℕ) where
         record {
           below = All-push (λ m. m < length T) near q s.below qlt;
           lacks = All-push (λ m. bit A m ≡ false) near q s.lacks lacks;
-          known = λ m c. ⊎_elim (λ old. Contains-append_left near (q ∷ []) m (s.known m old)) (λ e. subst (Contains (near ++ q ∷ [])) (sym e) (Contains-push near q)) (known m c);
+          known = λ m c. ⊎_elim (λ old. Contains-append_left near (q ∷ []) m (s.known m old)) (λ e. subst (Contains (near ++ q ∷ [])) (sym e)
+              (Contains-push near q)) (known m c);
           each = λ k lt out h.
               ⊎_elim
               (λ low. HasNear-more near q (get_or examples k 0) (past k lt out (inl low)))
               (λ high.
               ⊎_elim
-              (λ up. let e : p ≡ k = omega (arith, up, high) in (q, Contains-push near q, subst (λ i. IsNoMore B (row T (get_or examples i 0)) (row T q)) e (λ c b r. r)))
+              (λ up. let e : p ≡ k = omega (arith, up, high) in
+              (q, Contains-push near q, subst (λ i. IsNoMore B (row T (get_or examples i 0)) (row T q)) e (λ c b r. r)))
               (λ gone.
               ⊎_elim
               (λ was. (q, Contains-push near q, passed k was gone))
@@ -88,7 +92,8 @@ module _ (T : List (List Bool)) (A B : List Bool) (examples : List ℕ) where
               (cases_lt k p);
         }
 
-  pub AreNear-all : (n : ℕ) (near wide : List ℕ) (left : List Bool) → length left ≡ length examples → AreExamples T examples → IsExtent T A B → SoFar n near wide left → IsNoneFrom (bit left) n (length left) → AreNear T A B near
+  pub AreNear-all : (n : ℕ) (near wide : List ℕ) (left : List Bool) → length left ≡ length examples → AreExamples T examples → IsExtent T A B
+      → SoFar n near wide left → IsNoneFrom (bit left) n (length left) → AreNear T A B near
   AreNear-all n near wide left len are extent s none = record {
     below = s.below;
     lacks = s.lacks;
@@ -98,7 +103,10 @@ module _ (T : List (List Bool)) (A B : List Bool) (examples : List ℕ) where
         let at = o.1.0 in
         let same : get_or examples at 0 ≡ q = get_or_default examples at 0 q o.1.1 ∙ o.1.2 in
         let qlt : q < length T = All-contains (λ m. m < length T) examples q are.below o.1 in
-        let out : bit A q ≡ false = ⊎_elim (λ has. absurd (false≢true (sym lacks ∙ (extent.rows r rlt).1 (subst (λ R. (c : ℕ) → bit B c ≡ true → bit R c ≡ true) o.2 ((extent.rows q qlt).0 has))))) (λ h. h) (cases_Bool (bit A q)) in
+        let out : bit A q ≡ false = ⊎_elim
+        (λ has. absurd (false≢true (sym lacks
+        ∙ (extent.rows r rlt).1 (subst (λ R. (c : ℕ) → bit B c ≡ true → bit R c ≡ true) o.2 ((extent.rows q qlt).0 has))))) (λ h. h)
+        (cases_Bool (bit A q)) in
         let past : (at < n) ⊎ (bit left at ≡ false) = ⊎_elim (λ low. inl low) (λ high. inr (none at high (omega (arith, o.1.1, len)))) (cases_lt at n) in
         let h = subst (λ m. HasNear T B near m) same (s.each at o.1.1 (subst (λ m. bit A m ≡ false) (sym same) out) past) in
         (h.0, h.1, subst (λ R. (c : ℕ) → bit B c ≡ true → bit R c ≡ true → bit (row T h.0) c ≡ true) o.2 h.2);

@@ -11,7 +11,8 @@ use Rattle.concept_build.proofs.ExtentLemmas.{nothing}
 use Rattle.concept_build.proofs.MeetLemmas.{same_intents, meet-holds, meet-has, meet-least, near-has}
 use Rattle.concept_build.proofs.CoverLemmas.{within_by, extra}
 
-module _ (T : List (List Bool)) (w : ℕ) (xs : List Pair) (each : All (λ k. IsConcept T w k.0 k.1) xs) (next : (k : ℕ) → k < length xs → AreNext T xs k) (A B : List Bool) (o : IsConcept T w A B) where
+module _ (T : List (List Bool)) (w : ℕ) (xs : List Pair) (each : All (λ k. IsConcept T w k.0 k.1) xs) (next : (k : ℕ) → k < length xs
+    → AreNext T xs k) (A B : List Bool) (o : IsConcept T w A B) where
   here : (k : ℕ) → k < length xs → IsSubset (pair_at xs k).0 A → size A ≤ size (pair_at xs k).0 → HasIntent xs B
   here k lt over ge =
       let x = pair_at xs k in

@@ -29,7 +29,8 @@ flips : (a b : List ℕ) → pointwise (λ x y. x == y) a b ≡ pointwise (λ x 
 flips a b = same_Bool _ _ (λ h. (same b a).1 (sym ((same a b).0 h))) (λ h. (same a b).1 (sym ((same b a).0 h)))
 
 AreDifferent-permutation : (xs ys : List (List ℕ)) → IsPermutation xs ys → AreDifferent xs → AreDifferent ys
-AreDifferent-permutation xs ys p h = AllPairs-from_IsDistinct same ys (IsDistinct-IsPermutation (pointwise (λ x y. x == y)) flips xs ys p (IsDistinct-from_AllPairs same xs h))
+AreDifferent-permutation xs ys p h = AllPairs-from_IsDistinct same ys (IsDistinct-IsPermutation (pointwise (λ x y. x == y)) flips xs ys p
+    (IsDistinct-from_AllPairs same xs h))
 
 then-Equal : (x y : Ordering) → ordering_then x y ≡ Equal → y ≡ Equal
 then-Equal Less y e = cc
@@ -38,7 +39,8 @@ then-Equal Greater y e = cc
 
 same_columns : (a b : Pair) → concept_cmp a b ≡ Equal → rising a.1 ≡ rising b.1
 same_columns a b e =
-    slice_cmp-IsAntisymmetric nat_cmp-IsAntisymmetric (rising a.1) (rising b.1) (then-Equal (nat_cmp (size b.0) (size a.0)) (slice_cmp nat_cmp (rising a.1) (rising b.1)) e)
+    slice_cmp-IsAntisymmetric nat_cmp-IsAntisymmetric (rising a.1) (rising b.1) (then-Equal (nat_cmp (size b.0) (size a.0))
+    (slice_cmp nat_cmp (rising a.1) (rising b.1)) e)
 
 -- not after and not alike is before
 turned : (a b : Pair) (o : Ordering) → concept_cmp b a ≡ o → is_lt o ≡ false → (o ≡ Equal → ⊥) → IsBefore a b
@@ -46,7 +48,8 @@ turned a b Less e n d = absurd (true≢false n)
 turned a b Equal e n d = absurd (d refl)
 turned a b Greater e n d = concept_cmp-total.antisymm a b ∙ ap ordering_reverse e
 
-pub ordered_from_sort : (xs ys : List Pair) → AreDifferent (columns_of xs) → IsPermutation xs ys → IsSortedBy (λ a b. is_lt (concept_cmp a b)) ys → AllPairs IsBefore ys
+pub ordered_from_sort : (xs ys : List Pair) → AreDifferent (columns_of xs) → IsPermutation xs ys → IsSortedBy (λ a b. is_lt (concept_cmp a b)) ys
+    → AllPairs IsBefore ys
 ordered_from_sort xs ys differ p up i j d ij jlt =
     let a = get_or ys i d in
     let b = get_or ys j d in
@@ -62,5 +65,6 @@ HasIntent-permutation xs ys B p h =
     let c = Contains-permutation xs ys x p (h.at, h.below, get_or_default xs h.at x nothing h.below) in
     record { at = c.0; below = c.1; is = λ d. ap (λ (y : Pair). y.1) (get_or_default ys c.0 d x c.1 ∙ c.2) ∙ h.is nothing }
 
-pub AreConcepts-sorted : (T : List (List Bool)) (w : ℕ) (xs ys : List Pair) → IsPermutation xs ys → All (λ k. IsConcept T w k.0 k.1) xs → AllPairs IsBefore ys → AreConcepts T w ys
+pub AreConcepts-sorted : (T : List (List Bool)) (w : ℕ) (xs ys : List Pair) → IsPermutation xs ys → All (λ k. IsConcept T w k.0 k.1) xs
+    → AllPairs IsBefore ys → AreConcepts T w ys
 AreConcepts-sorted T w xs ys p each ordered = record { each = All-permutation (λ k. IsConcept T w k.0 k.1) xs ys p each; ordered = ordered }

@@ -85,7 +85,8 @@ pub record IsClosure (extents : List (List Bool)) (k q i : ℕ) : Type 0 where
 pub record AreCandidates (extents : List (List Bool)) (k n : ℕ) (numbers : List ℕ) : Type 0 where
   pub below : All (λ i. i < length extents) numbers
   pub above : All (λ i. IsWithin (row extents k) (row extents i)) numbers
-  pub each : (q : ℕ) → q < n → bit (row extents k) q ≡ false → (i : ℕ) × Contains numbers i × ((j : ℕ) → j < length extents → IsSubset (row extents k) (row extents j) → bit (row extents j) q ≡ true → IsSubset (row extents i) (row extents j))
+  pub each : (q : ℕ) → q < n → bit (row extents k) q ≡ false → (i : ℕ) × Contains numbers i × ((j : ℕ) → j < length extents
+      → IsSubset (row extents k) (row extents j) → bit (row extents j) q ≡ true → IsSubset (row extents i) (row extents j))
 
 -- no extent of the list is strictly within that at j
 abbrev pub IsLeast : List (List Bool) → List ℕ → ℕ → Type 0

@@ -20,7 +20,8 @@ module _ {A B : Type 0} (at : A → ℕ) (place : B → ℕ) (f : A → B) (is :
   map_in : (x : A) (ys : List A) → map f (put_in at x ys) ≡ put_in place (f x) (map f ys)
   map_in x [] = refl
   map_in x (y ∷ ys) =
-      elim (nat_lt (at y) (at x)) as (λ b. nat_lt (at y) (at x) ≡ b → map f (cond b (y ∷ put_in at x ys) (x ∷ (y ∷ ys))) ≡ put_in place (f x) (f y ∷ map f ys)) [
+      elim (nat_lt (at y) (at x)) as (λ b. nat_lt (at y) (at x) ≡ b → map f (cond b (y ∷ put_in at x ys) (x ∷ (y ∷ ys)))
+      ≡ put_in place (f x) (f y ∷ map f ys)) [
         | true ↦ λ e. ap (λ l. f y ∷ l) (map_in x ys) ∙ sym (ap (λ b. cond b (f y ∷ put_in place (f x) (map f ys)) (f x ∷ (f y ∷ map f ys))) (test x y e))
         | false ↦ λ e. sym (ap (λ b. cond b (f y ∷ put_in place (f x) (map f ys)) (f x ∷ (f y ∷ map f ys))) (test x y e))
       ] refl

@@ -21,37 +21,51 @@ pub then_at : {A : Type 0} (old mid new X : List A) (Y : ℕ → List A) (l n : 
 then_at old mid new X Y l n e h k = then old mid new X (Y n) e (k ∙ ap (λ m. mid ++ Y m) h)
 
 module _ (P : Plain) (m : ℕ) (k : PlainMethod) where
-  pub call_parts : (t : Tag) (x : List ℕ) (es : Exs) (B : Ex) (u : Bool) (old mid new : List Part) (n l : ℕ) (o : Operand) → mid ≡ old ++ parts P (object_type P k) m k true (label n B)
+  pub call_parts : (t : Tag) (x : List ℕ) (es : Exs) (B : Ex) (u : Bool) (old mid new : List Part) (n l : ℕ) (o : Operand)
+      → mid ≡ old ++ parts P (object_type P k) m k true (label n B)
       → o ≡ operand_of P (object_type P k) m k (label n B) → l ≡ n + size B
-      → new ≡ mid ++ a_call t.place o (call_slot P o.ty x) (call_declaration P o.ty x) (operands_of P (object_type P k) m k (label_all (l + 1) es)) (call_operand P m l o.ty x) ∷ parts_all P (object_type P k) m k true (label_all (l + 1) es)
+      → new ≡ mid ++ a_call t.place o (call_slot P o.ty x) (call_declaration P o.ty x) (operands_of P (object_type P k) m k (label_all (l + 1) es))
+      (call_operand P m l o.ty x) ∷ parts_all P (object_type P k) m k true (label_all (l + 1) es)
       → new ≡ old ++ parts P (object_type P k) m k u (label n (call t B x es))
   call_parts t x es B u old mid new n l o e v h d =
       then_at old mid new (parts P (object_type P k) m k true (label n B))
-      (λ j. a_call t.place (operand_of P (object_type P k) m k (label n B)) (call_slot P (object_type P k (label n B)) x) (call_declaration P (object_type P k (label n B)) x)
-      (operands_of P (object_type P k) m k (label_all (j + 1) es)) (call_operand P m j (object_type P k (label n B)) x) ∷ parts_all P (object_type P k) m k true (label_all (j + 1) es)) l (n + size B) e h
-      (d ∙ ap (λ q. mid ++ a_call t.place q (call_slot P q.ty x) (call_declaration P q.ty x) (operands_of P (object_type P k) m k (label_all (l + 1) es)) (call_operand P m l q.ty x) ∷ parts_all P (object_type P k) m k true (label_all (l + 1) es)) v)
+      (λ j. a_call t.place (operand_of P (object_type P k) m k (label n B)) (call_slot P (object_type P k (label n B)) x)
+      (call_declaration P (object_type P k (label n B)) x)
+      (operands_of P (object_type P k) m k (label_all (j + 1) es)) (call_operand P m j (object_type P k (label n B)) x) ∷ parts_all P
+      (object_type P k) m k true (label_all (j + 1) es)) l (n + size B) e h
+      (d ∙ ap (λ q. mid ++ a_call t.place q (call_slot P q.ty x) (call_declaration P q.ty x)
+      (operands_of P (object_type P k) m k (label_all (l + 1) es)) (call_operand P m l q.ty x) ∷ parts_all P (object_type P k) m k true
+      (label_all (l + 1) es)) v)
 
-  pub creation_parts : (a : Part) (es : Exs) (old mid new : List Part) (n l : ℕ) → mid ≡ old ++ a ∷ [] → l ≡ n + 1 → new ≡ mid ++ parts_all P (object_type P k) m k false (label_all l es)
+  pub creation_parts : (a : Part) (es : Exs) (old mid new : List Part) (n l : ℕ) → mid ≡ old ++ a ∷ [] → l ≡ n + 1
+      → new ≡ mid ++ parts_all P (object_type P k) m k false (label_all l es)
       → new ≡ old ++ a ∷ parts_all P (object_type P k) m k false (label_all (n + 1) es)
   creation_parts a es old mid new n l e h d = then_at old mid new (a ∷ []) (λ j. parts_all P (object_type P k) m k false (label_all j es)) l (n + 1) e h d
 
   pub loop_parts : (t : Tag) (is_while : Bool) (first : Sts) (test : Option Ex) (step body : Sts) (old a b c new : List Part) (n la lb lc : ℕ)
-      → a ≡ old ++ parts_sts P (object_type P k) m k (label_sts n first) → la ≡ n + size_sts first → b ≡ a ++ parts_if P (object_type P k) m k (label_if la test) → lb ≡ la + size_if test
-      → c ≡ b ++ parts_sts P (object_type P k) m k (label_sts lb step) → lc ≡ lb + size_sts step → new ≡ c ++ parts_sts P (object_type P k) m k (label_sts lc body)
+      → a ≡ old ++ parts_sts P (object_type P k) m k (label_sts n first) → la ≡ n + size_sts first
+      → b ≡ a ++ parts_if P (object_type P k) m k (label_if la test) → lb ≡ la + size_if test
+      → c ≡ b ++ parts_sts P (object_type P k) m k (label_sts lb step) → lc ≡ lb + size_sts step
+      → new ≡ c ++ parts_sts P (object_type P k) m k (label_sts lc body)
       → new ≡ old ++ parts_st P (object_type P k) m k (label_st n (loop t is_while first test step body))
   loop_parts t is_while first test step body old a b c new n la lb lc ea ha eb hb ec hc en =
       let kb = hb ∙ ap (λ j. j + size_if test) ha in
       let kc = hc ∙ ap (λ j. j + size_sts step) kb in
       then_at old c new _ (λ j. parts_sts P (object_type P k) m k (label_sts j body)) lc (n + size_sts first + size_if test + size_sts step)
       (then_at old b c _ (λ j. parts_sts P (object_type P k) m k (label_sts j step)) lb (n + size_sts first + size_if test)
-      (then_at old a b (parts_sts P (object_type P k) m k (label_sts n first)) (λ j. parts_if P (object_type P k) m k (label_if j test)) la (n + size_sts first) ea ha eb) kb ec) kc en
+      (then_at old a b (parts_sts P (object_type P k) m k (label_sts n first)) (λ j. parts_if P (object_type P k) m k (label_if j test)) la
+      (n + size_sts first) ea ha eb) kb ec) kc en
 
-  pub while_parts : (t : Tag) (test : Ex) (body : Sts) (old b new : List Part) (n lb : ℕ) → b ≡ old ++ parts P (object_type P k) m k false (label n test) → lb ≡ n + size test
-      → new ≡ b ++ parts_sts P (object_type P k) m k (label_sts lb body) → new ≡ old ++ parts_st P (object_type P k) m k (label_st n (loop t true no_st (Some test) no_st body))
+  pub while_parts : (t : Tag) (test : Ex) (body : Sts) (old b new : List Part) (n lb : ℕ) → b ≡ old ++ parts P (object_type P k) m k false
+      (label n test) → lb ≡ n + size test
+      → new ≡ b ++ parts_sts P (object_type P k) m k (label_sts lb body)
+      → new ≡ old ++ parts_st P (object_type P k) m k (label_st n (loop t true no_st (Some test) no_st body))
   while_parts t test body old b new n lb eb hb en =
-      loop_parts t true no_st (Some test) no_st body old old b b new n n lb lb (sym (append-nil old)) (sym (add-zero n)) eb hb (sym (append-nil b)) (sym (add-zero lb)) en
+      loop_parts t true no_st (Some test) no_st body old old b b new n n lb lb (sym (append-nil old)) (sym (add-zero n)) eb hb (sym (append-nil b))
+      (sym (add-zero lb)) en
 
-  pub own_store : (t : Tag) (p : Place) (f : ℕ) (e : Ex) (old mid new : List Part) (n : ℕ) (w v : Operand) → mid ≡ old ++ parts P (object_type P k) m k true (label n e)
+  pub own_store : (t : Tag) (p : Place) (f : ℕ) (e : Ex) (old mid new : List Part) (n : ℕ) (w v : Operand)
+      → mid ≡ old ++ parts P (object_type P k) m k true (label n e)
       → v ≡ operand_of P (object_type P k) m k (label n e) → w ≡ this_operand m k → new ≡ mid ++ a_store p w (Some f) v ∷ []
       → new ≡ old ++ parts_assign P (object_type P k) m k p (to_own t f) (label (n + 0) e)
   own_store t p f e old mid new n w v ex ev ew en =
@@ -67,7 +81,9 @@ module _ (P : Plain) (m : ℕ) (k : PlainMethod) where
       → new ≡ old ++ parts_assign P (object_type P k) m k p (to_element t (label n b) (label (n + size b) i)) (label (n + (size b + size i)) e)
   element_store t p b i e old x y z new n ly lz o v ex eo hy ey hz ez ev en =
       let kz : lz ≡ n + (size b + size i) = omega (arith, hz, hy) in
-      then_at old z new _ (λ j. an_element_store p (operand_of P (object_type P k) m k (label n b)) (operand_of P (object_type P k) m k (label j e)) ∷ []) lz (n + (size b + size i))
+      then_at old z new _ (λ j. an_element_store p (operand_of P (object_type P k) m k (label n b)) (operand_of P (object_type P k) m k (label j e))
+      ∷ []) lz (n + (size b + size i))
       (then_at old y z _ (λ j. parts P (object_type P k) m k true (label j e)) lz (n + (size b + size i))
-      (then_at old x y (parts P (object_type P k) m k true (label n b)) (λ j. parts P (object_type P k) m k false (label j i)) ly (n + size b) ex hy ey) kz ez) kz
+      (then_at old x y (parts P (object_type P k) m k true (label n b)) (λ j. parts P (object_type P k) m k false (label j i)) ly (n + size b) ex
+      hy ey) kz ez) kz
       (en ∙ ap (λ q. z ++ an_element_store p q v ∷ []) eo ∙ ap (λ q. z ++ an_element_store p (operand_of P (object_type P k) m k (label n b)) q ∷ []) ev)

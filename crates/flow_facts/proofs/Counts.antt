@@ -34,17 +34,49 @@ over_here limit n what rest h = ap (λ b. cond b (Some (record { what = what; nu
 pub over_not : (limit n : ℕ) (what : Counted) (rest : Option TooMany) → n ≤ limit → over limit n what rest ≡ rest
 over_not limit n what rest h = ap (λ b. cond b (Some (record { what = what; number = limit + 1 })) rest) (le-ltb limit n h)
 
-pub numbers_are : (P Q : Plain) (rs : List RowItem) (cs : List ColumnItem) (ss : List ℕ) (ps : List PointItem) → rs ≡ map (λ r. r.item) (rows_of P Q) → cs ≡ map (λ c. c.item) (columns_of P Q)
+pub numbers_are : (P Q : Plain) (rs : List RowItem) (cs : List ColumnItem) (ss : List ℕ) (ps : List PointItem) → rs ≡ map (λ r. r.item) (rows_of P Q)
+    → cs ≡ map (λ c. c.item) (columns_of P Q)
     → ss ≡ map (λ s. s.number) (sites_of P Q) → ps ≡ map (λ p. p.item) (points_of P Q)
-    → record { row = number_among same_row rs; column = number_among same_column cs; site = number_among nat_eq ss; point = number_among same_point ps } ≡ numbers P Q
+    → record {
+      row = number_among same_row rs;
+      column = number_among same_column cs;
+      site = number_among nat_eq ss;
+      point = number_among same_point
+          ps;
+    } ≡ numbers P Q
 unfolding numbers row_number column_number site_number point_number
 numbers_are P Q rs cs ss ps r c s p =
-    ap (λ k. record { row = number_among same_row k; column = number_among same_column cs; site = number_among nat_eq ss; point = number_among same_point ps }) r
-    ∙ ap (λ k. record { row = number_among same_row (map (λ r. r.item) (rows_of P Q)); column = number_among same_column k; site = number_among nat_eq ss; point = number_among same_point ps }) c
-    ∙ ap (λ k. record { row = number_among same_row (map (λ r. r.item) (rows_of P Q)); column = number_among same_column (map (λ c. c.item) (columns_of P Q)); site = number_among nat_eq k; point = number_among same_point ps }) s
-    ∙ ap (λ k. record { row = number_among same_row (map (λ r. r.item) (rows_of P Q)); column = number_among same_column (map (λ c. c.item) (columns_of P Q)); site = number_among nat_eq (map (λ s. s.number) (sites_of P Q)); point = number_among same_point k }) p
+    ap (λ k. record {
+      row = number_among same_row k;
+      column = number_among same_column cs;
+      site = number_among nat_eq ss;
+      point = number_among
+          same_point ps;
+    }) r
+    ∙ ap (λ k. record {
+      row = number_among same_row (map (λ r. r.item) (rows_of P Q));
+      column = number_among same_column k;
+      site = number_among nat_eq
+          ss;
+      point = number_among same_point ps;
+    }) c
+    ∙ ap (λ k. record {
+      row = number_among same_row (map (λ r. r.item) (rows_of P Q));
+      column = number_among same_column
+          (map (λ c. c.item) (columns_of P Q));
+      site = number_among nat_eq k;
+      point = number_among same_point ps;
+    }) s
+    ∙ ap (λ k. record {
+      row = number_among same_row (map (λ r. r.item) (rows_of P Q));
+      column = number_among same_column
+          (map (λ c. c.item) (columns_of P Q));
+      site = number_among nat_eq (map (λ s. s.number) (sites_of P Q));
+      point = number_among same_point k;
+    }) p
 
-pub rows_are : (P Q : Plain) (xs : List Row) → xs ≡ each field_rows 0 Q.fields ++ each (method_rows P Q) 0 Q.methods → once same_row (λ r. r.item) (by_place (λ r. r.place.at) xs) ≡ rows_of P Q
+pub rows_are : (P Q : Plain) (xs : List Row) → xs ≡ each field_rows 0 Q.fields ++ each (method_rows P Q) 0 Q.methods
+    → once same_row (λ r. r.item) (by_place (λ r. r.place.at) xs) ≡ rows_of P Q
 unfolding rows_of
 rows_are P Q xs e = ap (λ l. once same_row (λ r. r.item) (by_place (λ r. r.place.at) l)) e
 
@@ -59,31 +91,38 @@ unfolding row_number
 rows_numbered P Q keys e = ap (number_among same_row) e
 
 pub sites_are : (P Q : Plain) (keys : List RowItem) (bs : List Body) (xs : List Site) → keys ≡ map (λ r. r.item) (rows_of P Q) → bs ≡ bodies_of P Q
-    → xs ≡ flat_map (λ b. flat_map (form_sites (number_among same_row keys)) b.parts) bs → once nat_eq (λ s. s.number) (by_place (λ s. s.place.at) xs) ≡ sites_of P Q
+    → xs ≡ flat_map (λ b. flat_map (form_sites (number_among same_row keys)) b.parts) bs
+    → once nat_eq (λ s. s.number) (by_place (λ s. s.place.at) xs) ≡ sites_of P Q
 unfolding sites_of
 sites_are P Q keys bs xs k b e =
     ap (λ l. once nat_eq (λ s. s.number) (by_place (λ s. s.place.at) l))
-    (e ∙ ap (λ n. flat_map (λ c. flat_map (form_sites n) c.parts) bs) (rows_numbered P Q keys k) ∙ ap (λ l. flat_map (λ c. flat_map (form_sites (row_number P Q)) c.parts) l) b)
+    (e ∙ ap (λ n. flat_map (λ c. flat_map (form_sites n) c.parts) bs) (rows_numbered P Q keys k)
+    ∙ ap (λ l. flat_map (λ c. flat_map (form_sites (row_number P Q)) c.parts) l) b)
 
 pub points_are : (P Q : Plain) (keys : List RowItem) (ss : List PointAt) (os : List Outline) (xs : List Point) → keys ≡ map (λ r. r.item) (rows_of P Q)
     → ss ≡ by_place (λ p. p.place.at) (each static_points 0 Q.fields) → os ≡ by_place (λ o. o.place.at) (each (outline_if P Q) 0 Q.methods)
-    → xs ≡ flat_map (listed (number_among same_row keys)) ss ++ flat_map (λ o. flat_map (listed (number_among same_row keys)) o.points) os → once same_point (λ p. p.item) xs ≡ points_of P Q
+    → xs ≡ flat_map (listed (number_among same_row keys)) ss ++ flat_map (λ o. flat_map (listed (number_among same_row keys)) o.points) os
+    → once same_point (λ p. p.item) xs ≡ points_of P Q
 unfolding points_of
 points_are P Q keys ss os xs k s o e =
     ap (once same_point (λ p. p.item))
     (e ∙ ap (λ n. flat_map (listed n) ss ++ flat_map (λ u. flat_map (listed n) u.points) os) (rows_numbered P Q keys k)
     ∙ ap (λ l. flat_map (listed (row_number P Q)) l ++ flat_map (λ u. flat_map (listed (row_number P Q)) u.points) os) s
-    ∙ ap (λ l. flat_map (listed (row_number P Q)) (by_place (λ p. p.place.at) (each static_points 0 Q.fields)) ++ flat_map (λ u. flat_map (listed (row_number P Q)) u.points) l) o)
+    ∙ ap (λ l. flat_map (listed (row_number P Q)) (by_place (λ p. p.place.at) (each static_points 0 Q.fields))
+    ++ flat_map (λ u. flat_map (listed (row_number P Q)) u.points) l) o)
 
-pub cells_are : (P Q : Plain) (N : Numbers) (cs : List Column) (ss : List Site) (fs : List FieldCell) (xs : List CellInfo) → N ≡ numbers P Q → cs ≡ columns_of P Q → ss ≡ sites_of P Q
+pub cells_are : (P Q : Plain) (N : Numbers) (cs : List Column) (ss : List Site) (fs : List FieldCell) (xs : List CellInfo) → N ≡ numbers P Q
+    → cs ≡ columns_of P Q → ss ≡ sites_of P Q
     → fs ≡ fields_of N Q cs → xs ≡ each (site_cells P fs) 0 ss → xs ≡ cells_of P Q
 unfolding cells_of
 cells_are P Q N cs ss fs xs n c s f e =
-    e ∙ ap (λ l. each (site_cells P l) 0 ss) (f ∙ ap (λ m. fields_of m Q cs) n ∙ ap (fields_of (numbers P Q) Q) c) ∙ ap (λ l. each (site_cells P (fields_of (numbers P Q) Q (columns_of P Q))) 0 l) s
+    e ∙ ap (λ l. each (site_cells P l) 0 ss) (f ∙ ap (λ m. fields_of m Q cs) n ∙ ap (fields_of (numbers P Q) Q) c)
+    ∙ ap (λ l. each (site_cells P (fields_of (numbers P Q) Q (columns_of P Q))) 0 l) s
 
 pub outlines_are : (P Q : Plain) (os ps : List declared.Outline) → map outline_seen os ≡ each (outline_if P Q) 0 Q.methods → ps ≡ by_place (λ o. o.place.at) os
     → map outline_seen ps ≡ by_place (λ o. o.place.at) (each (outline_if P Q) 0 Q.methods)
-outlines_are P Q os ps e h = ap (map outline_seen) h ∙ map-by_place (λ o. o.place.at) (λ o. o.place.at) outline_seen (λ _. refl) os ∙ ap (by_place (λ o. o.place.at)) e
+outlines_are P Q os ps e h = ap (map outline_seen) h ∙ map-by_place (λ o. o.place.at) (λ o. o.place.at) outline_seen (λ _. refl) os
+    ∙ ap (by_place (λ o. o.place.at)) e
 
 -- what there is too much of, kind by kind
 module _ (P Q : Plain) where
@@ -93,18 +132,21 @@ module _ (P Q : Plain) where
   pub over_columns : length (rows_of P Q) ≤ 16384 → 8192 < length (columns_of P Q) → too_many P Q ≡ Some (record { what = counted.Columns; number = 8193 })
   over_columns r h = over_not 16384 _ counted.Rows _ r ∙ over_here 8192 _ counted.Columns _ h
 
-  pub over_sites : length (rows_of P Q) ≤ 16384 → length (columns_of P Q) ≤ 8192 → 8192 < length (sites_of P Q) → too_many P Q ≡ Some (record { what = counted.Sites; number = 8193 })
+  pub over_sites : length (rows_of P Q) ≤ 16384 → length (columns_of P Q) ≤ 8192 → 8192 < length (sites_of P Q)
+      → too_many P Q ≡ Some (record { what = counted.Sites; number = 8193 })
   over_sites r c h = over_not 16384 _ counted.Rows _ r ∙ over_not 8192 _ counted.Columns _ c ∙ over_here 8192 _ counted.Sites _ h
 
   points_counted : length (rows_of P Q) ≤ 16384 → length (columns_of P Q) ≤ 8192 → length (sites_of P Q) ≤ 8192
       → too_many P Q ≡ over 65536 (length (points_of P Q) + length (cells_of P Q)) counted.Points None
   points_counted r c s = over_not 16384 _ counted.Rows _ r ∙ over_not 8192 _ counted.Columns _ c ∙ over_not 8192 _ counted.Sites _ s
 
-  pub over_points : length (rows_of P Q) ≤ 16384 → length (columns_of P Q) ≤ 8192 → length (sites_of P Q) ≤ 8192 → 65536 < length (points_of P Q) + length (cells_of P Q)
+  pub over_points : length (rows_of P Q) ≤ 16384 → length (columns_of P Q) ≤ 8192 → length (sites_of P Q) ≤ 8192
+      → 65536 < length (points_of P Q) + length (cells_of P Q)
       → too_many P Q ≡ Some (record { what = counted.Points; number = 65537 })
   over_points r c s h = points_counted r c s ∙ over_here 65536 _ counted.Points _ h
 
-  pub none_over : length (rows_of P Q) ≤ 16384 → length (columns_of P Q) ≤ 8192 → length (sites_of P Q) ≤ 8192 → length (points_of P Q) + length (cells_of P Q) ≤ 65536 → too_many P Q ≡ None
+  pub none_over : length (rows_of P Q) ≤ 16384 → length (columns_of P Q) ≤ 8192 → length (sites_of P Q) ≤ 8192
+      → length (points_of P Q) + length (cells_of P Q) ≤ 65536 → too_many P Q ≡ None
   none_over r c s h = points_counted r c s ∙ over_not 65536 _ counted.Points _ h
 
 pub refused_from : (P Q : Plain) (e : FactsFault) → first_interface Q.classes ≡ None → IsOver P Q e → IsRefused P Q e
@@ -112,7 +154,8 @@ refused_from P Q (fault.TooMany what n) h o = (h, o)
 refused_from P Q (fault.HasInterface x) h o = absurd o
 refused_from P Q fault.Memory h o = tt
 
-pub over_as : (P Q : Plain) (e : FactsFault) (what : Counted) (n : ℕ) → e ≡ fault.TooMany what n → too_many P Q ≡ Some (record { what = what; number = n }) → IsOver P Q e
+pub over_as : (P Q : Plain) (e : FactsFault) (what : Counted) (n : ℕ) → e ≡ fault.TooMany what n
+    → too_many P Q ≡ Some (record { what = what; number = n }) → IsOver P Q e
 over_as P Q e what n h o = subst (IsOver P Q) (sym h) o
 
 -- calls without their places

@@ -20,17 +20,21 @@ pub call_on : (e : RExpr) (b : Option (Box RExpr Global)) (r : Box RExpr Global)
     → expr_of at_place e ≡ call (at_place p) (expr_of at_place r.value) x (exprs at_place v.items)
 call_on e b r x v p is some = ap (expr_of at_place) (is ∙ ap (λ c. Call c x v p) some) ∙ call_as at_place (Some r) x v p
 
-pub static_form : (e : RExpr) (d : MemberId) (v : Vec RExpr Global) (p : Place) → e ≡ StaticCall d v p → expr_of at_place e ≡ static_call (at_place p) d.0 (exprs at_place v.items)
+pub static_form : (e : RExpr) (d : MemberId) (v : Vec RExpr Global) (p : Place) → e ≡ StaticCall d v p
+    → expr_of at_place e ≡ static_call (at_place p) d.0 (exprs at_place v.items)
 static_form e d v p is = ap (expr_of at_place) is ∙ ap (static_call (at_place p) d.0) (exprs_vec at_place v)
 
-pub super_form : (e : RExpr) (x : List ℕ) (v : Vec RExpr Global) (p : Place) → e ≡ SuperCall x v p → expr_of at_place e ≡ super_call (at_place p) x (exprs at_place v.items)
+pub super_form : (e : RExpr) (x : List ℕ) (v : Vec RExpr Global) (p : Place) → e ≡ SuperCall x v p → expr_of at_place e ≡ super_call (at_place p) x
+    (exprs at_place v.items)
 super_form e x v p is = ap (expr_of at_place) is ∙ ap (super_call (at_place p) x) (exprs_vec at_place v)
 
-pub creation_form : (e : RExpr) (n : ℕ) (c : ClassId) (v : Vec RExpr Global) (p : Place) → e ≡ New n c v p → expr_of at_place e ≡ create (at_place p) n c.0 (exprs at_place v.items)
+pub creation_form : (e : RExpr) (n : ℕ) (c : ClassId) (v : Vec RExpr Global) (p : Place) → e ≡ New n c v p
+    → expr_of at_place e ≡ create (at_place p) n c.0 (exprs at_place v.items)
 creation_form e n c v p is = ap (expr_of at_place) is ∙ ap (create (at_place p) n c.0) (exprs_vec at_place v)
 
 pub block_form : (s : RStmt) (v : Vec RStmt Global) (p : Place) → s ≡ Block v p → stmt_of at_place s ≡ block (at_place p) (stmts at_place v.items)
 block_form s v p is = ap (stmt_of at_place) is ∙ ap (block (at_place p)) (stmts_vec at_place v)
 
-pub while_form : (s : RStmt) (t : RExpr) (v : Vec RStmt Global) (p : Place) → s ≡ While t v p → stmt_of at_place s ≡ loop (at_place p) true no_st (Some (expr_of at_place t)) no_st (stmts at_place v.items)
+pub while_form : (s : RStmt) (t : RExpr) (v : Vec RStmt Global) (p : Place) → s ≡ While t v p → stmt_of at_place s ≡ loop (at_place p) true no_st
+    (Some (expr_of at_place t)) no_st (stmts at_place v.items)
 while_form s t v p is = ap (stmt_of at_place) is ∙ ap (loop (at_place p) true no_st (Some (expr_of at_place t)) no_st) (stmts_vec at_place v)

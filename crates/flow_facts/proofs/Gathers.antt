@@ -12,13 +12,15 @@ use Rattle.flow_facts.specs.declared.gathering.Lists.{Lists}
 use Rattle.flow_facts.specs.Gathered.{IsPartAdded, ArePartsAdded, AreGathered}
 
 -- the items of a list so far, and one more
-pub so_far : {A B : Type 0} (f : A → B) (xs : List A) (i : ℕ) (x : A) → i < length xs → x ≡ get_or xs i x → map f (take (i + 1) xs) ≡ map f (take i xs) ++ f x ∷ []
+pub so_far : {A B : Type 0} (f : A → B) (xs : List A) (i : ℕ) (x : A) → i < length xs → x ≡ get_or xs i x → map f (take (i + 1) xs)
+    ≡ map f (take i xs) ++ f x ∷ []
 so_far f xs i x lt is = ap (map f) (take_more xs i x lt) ∙ map-append f (take i xs) (get_or xs i x ∷ []) ∙ ap (λ y. map f (take i xs) ++ f y ∷ []) (sym is)
 
 one : {A B : Type 0} (f : A → List B) (xs : List A) (x : A) → flat_map f (xs ++ x ∷ []) ≡ flat_map f xs ++ f x
 one f xs x = flat_map-append f xs (x ∷ []) ∙ ap (λ l. flat_map f xs ++ l) (append-nil (f x))
 
-more : {A B : Type 0} (f : A → List B) (xs : List A) (x : A) (old : List B) {mid new : List B} → mid ≡ old ++ flat_map f xs → new ≡ mid ++ f x → new ≡ old ++ flat_map f (xs ++ x ∷ [])
+more : {A B : Type 0} (f : A → List B) (xs : List A) (x : A) (old : List B) {mid new : List B} → mid ≡ old ++ flat_map f xs → new ≡ mid ++ f x
+    → new ≡ old ++ flat_map f (xs ++ x ∷ [])
 more f xs x old e h = h ∙ ap (λ l. l ++ f x) e ∙ append_assoc old (flat_map f xs) (f x) ∙ ap (λ l. old ++ l) (sym (one f xs x))
 
 last : {A B : Type 0} (f : A → List B) (xs : List A) (x : A) {mid new : List B} → mid ≡ flat_map f xs → new ≡ mid ++ f x → new ≡ flat_map f (xs ++ x ∷ [])
@@ -39,7 +41,8 @@ module _ (N : Numbers) (P : Plain) where
     calls = sym (append-nil _);
   }
 
-  pub part_more : {m : ℕ} {slot : Option ℕ} {ps : List Part} {p : Part} {old mid new : Lists} → ArePartsAdded N P m slot ps old mid → IsPartAdded N P m slot p mid new
+  pub part_more : {m : ℕ} {slot : Option ℕ} {ps : List Part} {p : Part} {old mid new : Lists} → ArePartsAdded N P m slot ps old mid
+      → IsPartAdded N P m slot p mid new
       → ArePartsAdded N P m slot (ps ++ p ∷ []) old new
   part_more {m} {slot} {ps} {p} a b = record {
     news = more (news_of N m) ps p _ a.news b.news;
@@ -54,7 +57,8 @@ module _ (N : Numbers) (P : Plain) where
     calls = more (calls_of N) ps p _ a.calls b.calls;
   }
 
-  pub body_more : {bs : List Body} {b : Body} {mid new : Lists} → AreGathered N P bs mid → ArePartsAdded N P b.number b.slot b.parts mid new → AreGathered N P (bs ++ b ∷ []) new
+  pub body_more : {bs : List Body} {b : Body} {mid new : Lists} → AreGathered N P bs mid → ArePartsAdded N P b.number b.slot b.parts mid new
+      → AreGathered N P (bs ++ b ∷ []) new
   body_more {bs} {b} g h = record {
     news = last (λ b. flat_map (news_of N b.number) b.parts) bs b g.news h.news;
     flows = last (λ b. flat_map (flows_of N b.number) b.parts) bs b g.flows h.flows;

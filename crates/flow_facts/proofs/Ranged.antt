@@ -44,7 +44,8 @@ module _ (count : ℕ) where
   put : (x : Column) (xs : List Column) → Ranged x.item → AllRanged xs → AllRanged (put_in (λ c. c.place.at) x xs)
   put x [] r h = (r, tt)
   put x (y ∷ ys) r h =
-      elim (nat_lt y.place.at x.place.at) as (λ b. AllRanged (cond b (y ∷ put_in (λ c. c.place.at) x ys) (x ∷ (y ∷ ys)))) [ true ↦ (h.0, put x ys r h.1) | false ↦ (r, h) ]
+      elim (nat_lt y.place.at x.place.at) as (λ b. AllRanged (cond b (y ∷ put_in (λ c. c.place.at) x ys) (x ∷ (y ∷ ys))))
+      [ true ↦ (h.0, put x ys r h.1) | false ↦ (r, h) ]
 
   sorted : (xs : List Column) → AllRanged xs → AllRanged (by_place (λ c. c.place.at) xs)
   sorted [] h = tt
@@ -53,7 +54,9 @@ module _ (count : ℕ) where
   kept : (seen : List ColumnItem) (xs : List Column) → AllRanged xs → AllRanged (once_after same_column (λ c. c.item) seen xs)
   kept seen [] h = tt
   kept seen (x ∷ xs) h =
-      elim (list_any (same_column x.item) seen) as (λ b. AllRanged (cond b (once_after same_column (λ c. c.item) (insert_key same_column seen x.item) xs) (x ∷ once_after same_column (λ c. c.item) (insert_key same_column seen x.item) xs))) [
+      elim (list_any (same_column x.item) seen) as
+      (λ b. AllRanged (cond b (once_after same_column (λ c. c.item) (insert_key same_column seen x.item) xs)
+      (x ∷ once_after same_column (λ c. c.item) (insert_key same_column seen x.item) xs))) [
         | true ↦ kept (insert_key same_column seen x.item) xs h.1
         | false ↦ (h.0, kept (insert_key same_column seen x.item) xs h.1)
       ]
@@ -62,7 +65,8 @@ module _ (count : ℕ) where
   of_fields n [] h = tt
   of_fields n (f ∷ fs) h =
       let rest = of_fields (n + 1) fs (omega (arith, h)) in
-      elim (not f.is_static) as (λ b. AllRanged (when b (record { item = column.Fld n; place = f.tag.place } ∷ []) ++ each field_columns (n + 1) fs)) [ true ↦ (omega (arith, h), rest) | false ↦ rest ]
+      elim (not f.is_static) as (λ b. AllRanged (when b (record { item = column.Fld n; place = f.tag.place } ∷ []) ++ each field_columns (n + 1) fs))
+      [ true ↦ (omega (arith, h), rest) | false ↦ rest ]
 
   of_mark : (p : Place) (t : Option ObjectType) → AllRanged (mark p t)
   of_mark p None = tt
@@ -70,7 +74,8 @@ module _ (count : ℕ) where
 
   of_array : (p : Place) (t : Option ObjectType) → AllRanged (array_mark p t)
   of_array p None = tt
-  of_array p (Some t) = elim (not (eqb t.dim 0)) as (λ b. AllRanged (when b (record { item = column.Is t.class; place = p } ∷ []))) [ true ↦ (tt, tt) | false ↦ tt ]
+  of_array p (Some t) = elim (not (eqb t.dim 0)) as (λ b. AllRanged (when b (record { item = column.Is t.class; place = p } ∷ [])))
+      [ true ↦ (tt, tt) | false ↦ tt ]
 
   of_form : (a : Part) → AllRanged (form_columns a)
   of_form (a_creation p u o) = of_array p o.ty
@@ -92,27 +97,34 @@ module _ (count : ℕ) where
 
   of_methods : (P Q : Plain) (n : ℕ) (ks : List PlainMethod) → AllRanged (each (method_columns P Q) n ks)
   of_methods P Q n [] = tt
-  of_methods P Q n (k ∷ ks) = both (method_columns P Q n k) (each (method_columns P Q) (n + 1) ks) (both _ (flat_map form_columns (parts_of P n k)) (own n k) (of_forms (parts_of P n k))) (of_methods P Q (n + 1) ks)
+  of_methods P Q n (k ∷ ks) = both (method_columns P Q n k) (each (method_columns P Q) (n + 1) ks) (both _ (flat_map form_columns (parts_of P n k))
+      (own n k) (of_forms (parts_of P n k))) (of_methods P Q (n + 1) ks)
     where
       body : (n : ℕ) (k : PlainMethod) (b : Bool) → AllRanged (when b (record { item = column.Def n; place = k.tag.place } ∷ []))
       body n k true = (tt, tt)
       body n k false = tt
 
-      declared : (n : ℕ) (k : PlainMethod) (b d : Bool) → AllRanged (when b (record { item = column.Dcl n; place = k.tag.place } ∷ when d (record { item = column.Def n; place = k.tag.place } ∷ [])))
+      declared : (n : ℕ) (k : PlainMethod) (b d : Bool)
+          → AllRanged (when b (record { item = column.Dcl n; place = k.tag.place }
+          ∷ when d (record { item = column.Def n; place = k.tag.place } ∷ [])))
       declared n k true d = (tt, body n k d)
       declared n k false d = tt
 
-      own : (n : ℕ) (k : PlainMethod) → AllRanged (when (not k.is_static) (record { item = column.Dcl n; place = k.tag.place } ∷ when (is_some k.body) (record { item = column.Def n; place = k.tag.place } ∷ [])))
+      own : (n : ℕ) (k : PlainMethod)
+          → AllRanged (when (not k.is_static) (record { item = column.Dcl n; place = k.tag.place } ∷ when (is_some k.body)
+          (record { item = column.Def n; place = k.tag.place } ∷ [])))
       own n k = declared n k (not k.is_static) (is_some k.body)
 
   pub of_columns : (P Q : Plain) → length Q.fields ≤ count → AllRanged (columns_of P Q)
   unfolding columns_of
-  of_columns P Q h = kept [] _ (sorted _ (both (each field_columns 0 Q.fields) (each (method_columns P Q) 0 Q.methods) (of_fields 0 Q.fields (omega (arith, h))) (of_methods P Q 0 Q.methods)))
+  of_columns P Q h = kept [] _ (sorted _ (both (each field_columns 0 Q.fields) (each (method_columns P Q) 0 Q.methods)
+      (of_fields 0 Q.fields (omega (arith, h))) (of_methods P Q 0 Q.methods)))
 
   module _ (N : Numbers) (P Q : Plain) (holder : (f : ℕ) → f < count → IsHolder P (owner_of Q (column.Fld f))) where
     one : (n : ℕ) (i : ColumnItem) (rest : List FieldCell) → Ranged i → AreListed P (n + 1) rest → AreListed P n (field_at N Q n i ++ rest)
     one n (column.Fld f) rest r h =
-        elim (N.row (row.Field f)) as (λ x. AreListed P n (field_if N Q n (owner_of Q (column.Fld f)) x ++ rest)) [ None ↦ listed_lower P n (n + 1) rest (omega arith) h | Some y ↦ (omega arith, (holder f r, h)) ]
+        elim (N.row (row.Field f)) as (λ x. AreListed P n (field_if N Q n (owner_of Q (column.Fld f)) x ++ rest))
+        [ None ↦ listed_lower P n (n + 1) rest (omega arith) h | Some y ↦ (omega arith, (holder f r, h)) ]
     one n (column.Dcl m) rest r h = listed_lower P n (n + 1) rest (omega arith) h
     one n (column.Def m) rest r h = listed_lower P n (n + 1) rest (omega arith) h
     one n (column.Is c) rest r h = listed_lower P n (n + 1) rest (omega arith) h
@@ -122,7 +134,8 @@ module _ (count : ℕ) where
     all n (k ∷ ks) h = one n k.item (each (λ c k. field_at N Q c k.item) (n + 1) ks) h.0 (all (n + 1) ks h.1)
 
 -- the class of a field of a formed program
-holder_of : (p : Program) → IsFormed (program_of no_place p) → (f : ℕ) (g : Field) → slice_get p.fields.items f ≡ Some g → IsHolder (program_of no_place p) (owner_of (program_of at_place p) (column.Fld f))
+holder_of : (p : Program) → IsFormed (program_of no_place p) → (f : ℕ) (g : Field) → slice_get p.fields.items f ≡ Some g
+    → IsHolder (program_of no_place p) (owner_of (program_of at_place p) (column.Fld f))
 holder_of p formed f g e =
     let P = program_of no_place p in
     let K = formed.fields f (field_seen no_place g) (slice_get-map (field_seen no_place) p.fields.items f ∙ ap (option_map (field_seen no_place)) e) in
@@ -134,14 +147,16 @@ holder_of p formed f g e =
       within = slice_get_within P.classes g.owner.0 K.holder K.stands;
     })
 
-pub fields_listed : (p : Program) → IsFormed (program_of no_place p) → (N : Numbers) (ks : List Column) (fs : List FieldCell) → ks ≡ columns_of (program_of no_place p) (program_of at_place p)
+pub fields_listed : (p : Program) → IsFormed (program_of no_place p) → (N : Numbers) (ks : List Column) (fs : List FieldCell)
+    → ks ≡ columns_of (program_of no_place p) (program_of at_place p)
     → fs ≡ fields_of N (program_of at_place p) ks → AreListed (program_of no_place p) 0 fs
 fields_listed p formed N ks fs e h =
     let P = program_of no_place p in
     let Q = program_of at_place p in
     let count = length Q.fields in
     let there : length Q.fields ≡ length p.fields.items = length-map p.fields.items (field_seen at_place) in
-    let holder = λ (f : ℕ) (lt : f < count). let k : f < length p.fields.items = subst (λ n. f < n) there lt in let found = in_list p.fields.items f k in holder_of p formed f found.0 found.1 in
+    let holder = λ (f : ℕ) (lt : f < count). let k : f < length p.fields.items = subst (λ n. f < n) there lt in
+    let found = in_list p.fields.items f k in holder_of p formed f found.0 found.1 in
     subst (AreListed P 0) (sym (h ∙ ap (fields_of N Q) e)) (all count N P Q holder 0 (columns_of P Q) (of_columns count P Q (omega arith)))
   where
     in_list : (xs : List Field) (i : ℕ) → i < length xs → (x : Field) × (slice_get xs i ≡ Some x)

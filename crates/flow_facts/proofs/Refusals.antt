@@ -25,12 +25,14 @@ module _ {A : Type 0} {n : ℕ} {xs ys : List A} where
       → (limit < length ys → too_many P Q ≡ Some (record { what = what; number = limit + 1 })) → IsOver P Q e
   refused P Q limit what e h s o f = over_as P Q e what (limit + 1) o.1 (f (subst (λ k. limit < k) (counted h s) o.0))
 
-pub too_many_points : (P Q : Plain) → length (rows_of P Q) ≤ 16384 → length (columns_of P Q) ≤ 8192 → length (sites_of P Q) ≤ 8192 → 65536 < length (points_of P Q)
+pub too_many_points : (P Q : Plain) → length (rows_of P Q) ≤ 16384 → length (columns_of P Q) ≤ 8192 → length (sites_of P Q) ≤ 8192
+    → 65536 < length (points_of P Q)
     → too_many P Q ≡ Some (record { what = counted_as.Points; number = 65537 })
 too_many_points P Q r c s h = over_points P Q r c s (omega (arith, h))
 
 -- the cells beside the flow points
-module _ (P Q : Plain) (r : length (rows_of P Q) ≤ 16384) (c : length (columns_of P Q) ≤ 8192) (s : length (sites_of P Q) ≤ 8192) {most : ℕ} (p : length (points_of P Q) + most ≡ 65536) {xs : List CellInfo} (e : xs ≡ cells_of P Q) where
+module _ (P Q : Plain) (r : length (rows_of P Q) ≤ 16384) (c : length (columns_of P Q) ≤ 8192) (s : length (sites_of P Q) ≤ 8192) {most : ℕ}
+    (p : length (points_of P Q) + most ≡ 65536) {xs : List CellInfo} (e : xs ≡ cells_of P Q) where
   pub too_many_cells : most < length xs → IsOver P Q (fault.TooMany counted_as.Points 65537)
   too_many_cells h = let k : most < length (cells_of P Q) = subst (λ l. most < length l) e h in over_points P Q r c s (omega (arith, k, p))
 

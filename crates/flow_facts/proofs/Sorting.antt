@@ -36,8 +36,11 @@ module _ {A : Type 0} (at : A → ℕ) where
 
   rising_from : (zs : List A) → IsNonDecreasingBy at zs → Rising zs
   rising_from [] h = tt
-  rising_from (z ∷ zs) h =
-      (low_from (at z) zs (λ j d l. h 0 (suc j) d (omega arith) (omega (arith, l))), rising_from zs (λ i j d le l. h (suc i) (suc j) d (omega (arith, le)) (omega (arith, l))))
+  rising_from (z ∷ zs) h = (
+    low_from (at z) zs (λ j d l. h 0 (suc j) d (omega arith) (omega (arith, l))),
+    rising_from zs
+        (λ i j d le l. h (suc i) (suc j) d (omega (arith, le)) (omega (arith, l))),
+  )
 
   -- an element put in
   low_in : (n : ℕ) (a : A) (zs : List A) → n ≤ at a → Low n zs → Low n (put_in at a zs)
@@ -58,7 +61,8 @@ module _ {A : Type 0} (at : A → ℕ) where
   rising_all (x ∷ xs) = rising_in x (by_place at xs) (rising_all xs)
 
   -- what of one place is kept
-  swapped : (p q : Bool) (a z : A) (zs ws : List A) → (p ≡ true → q ≡ true → ⊥) → ws ≡ cond p (a ∷ zs) zs → cond q (z ∷ ws) ws ≡ cond p (a ∷ cond q (z ∷ zs) zs) (cond q (z ∷ zs) zs)
+  swapped : (p q : Bool) (a z : A) (zs ws : List A) → (p ≡ true → q ≡ true → ⊥) → ws ≡ cond p (a ∷ zs) zs
+      → cond q (z ∷ ws) ws ≡ cond p (a ∷ cond q (z ∷ zs) zs) (cond q (z ∷ zs) zs)
   swapped true true a z zs ws h e = absurd (h refl refl)
   swapped true false a z zs ws h e = e
   swapped false true a z zs ws h e = ap (λ l. z ∷ l) e
@@ -68,7 +72,9 @@ module _ {A : Type 0} (at : A → ℕ) where
   kept_in n a [] = refl
   kept_in n a (z ∷ zs) =
       elim (nat_lt (at z) (at a)) as (λ b. nat_lt (at z) (at a) ≡ b → kept n (cond b (z ∷ put_in at a zs) (a ∷ (z ∷ zs))) ≡ kept n (a ∷ (z ∷ zs))) [
-        | true ↦ λ e. swapped (n == at a) (n == at z) a z (kept n zs) (kept n (put_in at a zs)) (λ f g. let l = ltb-true (at z) (at a) e in let m = eqb-true n (at a) f in let k = eqb-true n (at z) g in omega (arith, l, m, k)) (kept_in n a zs)
+        | true ↦ λ e. swapped (n == at a) (n == at z) a z (kept n zs) (kept n (put_in at a zs))
+            (λ f g. let l = ltb-true (at z) (at a) e in let m = eqb-true n (at a) f in let k = eqb-true n (at z) g in omega (arith, l, m, k))
+            (kept_in n a zs)
         | false ↦ λ e. refl
       ] refl
 
@@ -79,7 +85,11 @@ module _ {A : Type 0} (at : A → ℕ) where
   none_low : (m n : ℕ) (zs : List A) → m < n → Low n zs → kept m zs ≡ []
   none_low m n [] h l = refl
   none_low m n (z ∷ zs) h l =
-      elim (m == at z) as (λ b. (m == at z) ≡ b → cond b (z ∷ kept m zs) (kept m zs) ≡ []) [ true ↦ λ e. let q = eqb-true m (at z) e in absurd (omega (arith, q, h, l.0)) | false ↦ λ e. none_low m n zs h l.1 ] refl
+      elim (m == at z) as (λ b. (m == at z) ≡ b → cond b (z ∷ kept m zs) (kept m zs) ≡ []) [
+        | true ↦ λ e. let q = eqb-true m (at z) e in absurd
+            (omega (arith, q, h, l.0))
+        | false ↦ λ e. none_low m n zs h l.1
+      ] refl
 
   own : (a : A) (zs : List A) → kept (at a) (a ∷ zs) ≡ a ∷ kept (at a) zs
   own a zs = ap (λ b. cond b (a ∷ kept (at a) zs) (kept (at a) zs)) (eq-eqb (at a) (at a) refl)
@@ -98,7 +108,8 @@ module _ {A : Type 0} (at : A → ℕ) where
   empty_not : (a : A) (us : List A) → [] ≡ a ∷ us → ⊥
   empty_not a us e = cc
 
-  rest_of : (x a b : A) (us vs : List A) → a ≡ b → kept (at x) (a ∷ us) ≡ kept (at x) (b ∷ vs) → kept (at a) us ≡ kept (at a) vs → kept (at x) us ≡ kept (at x) vs
+  rest_of : (x a b : A) (us vs : List A) → a ≡ b → kept (at x) (a ∷ us) ≡ kept (at x) (b ∷ vs) → kept (at a) us ≡ kept (at a) vs
+      → kept (at x) us ≡ kept (at x) vs
   rest_of x a b us vs e h own_rest =
       elim (at x == at a) as (λ c. (at x == at a) ≡ c → cond c (a ∷ kept (at x) us) (kept (at x) us) ≡ kept (at x) (b ∷ vs) → kept (at x) us ≡ kept (at x) vs) [
         | true ↦ λ eq g. let n : at x ≡ at a = eqb-true (at x) (at a) eq in subst (λ k. kept k us ≡ kept k vs) (sym n) own_rest
@@ -134,6 +145,7 @@ module _ {A : Type 0} (at : A → ℕ) where
       (λ x. sym (ties_kept x ys) ∙ st x ∙ ties_kept x xs ∙ sym (kept_all (at x) xs))
 
   -- the same by what a closure answers
-  pub sorted_by_closure : {F : Type 0} {g : Mut F (Bor A × Unit {0}) ℕ} {f : F} (xs ys : List A) → IsSortedByKeyClosure g nat_cmp f ys → IsStableByKeyClosure g nat_cmp f xs ys
+  pub sorted_by_closure : {F : Type 0} {g : Mut F (Bor A × Unit {0}) ℕ} {f : F} (xs ys : List A) → IsSortedByKeyClosure g nat_cmp f ys
+      → IsStableByKeyClosure g nat_cmp f xs ys
       → ((a : Bor A × Unit {0}) (r : ℕ) (f' : F) → Called g f a r f' → (r ≡ at a.0.now) × (f' ≡ f)) → ys ≡ by_place at xs
   sorted_by_closure {g = g} {f = f} xs ys s st h = let k = always_returns_same g (λ a r. r ≡ at a.0.now) f h in sorted_is xs ys (s at k) (st at k)

@@ -45,26 +45,32 @@ module _ (P : Plain) (m : ℕ) (k : PlainMethod) {u : Bool} {E : Ex} where
   own_walked {t} {f} {old} {new} {w} {o} is a ew eo = as_form is (record {
     grown = a.grown;
     value = eo;
-    parts = a.parts ∙ ap (λ q. parts_seen old ++ a_load t.place q (Some f) o ∷ []) ew ∙ ap (λ q. parts_seen old ++ a_load t.place (this_operand m k) (Some f) q ∷ []) eo;
+    parts = a.parts ∙ ap (λ q. parts_seen old ++ a_load t.place q (Some f) o ∷ []) ew
+        ∙ ap (λ q. parts_seen old ++ a_load t.place (this_operand m k) (Some f) q ∷ []) eo;
   })
 
-  pub field_walked : {t : Tag} {x : List ℕ} {B : Ex} {v : Bool} {old mid new : List Part} {b o : Operand} → E ≡ field t B x → v ≡ is_accessed (label (length old) B) → IsWalked P m k v B old mid b
-      → IsMade mid new 1 (a_load t.place b (object_field P b.ty x) (load_operand P m (length mid) b.ty x) ∷ []) o (load_operand P m (length mid) b.ty x) → IsWalked P m k u E old new o
+  pub field_walked : {t : Tag} {x : List ℕ} {B : Ex} {v : Bool} {old mid new : List Part} {b o : Operand} → E ≡ field t B x
+      → v ≡ is_accessed (label (length old) B) → IsWalked P m k v B old mid b
+      → IsMade mid new 1 (a_load t.place b (object_field P b.ty x) (load_operand P m (length mid) b.ty x) ∷ []) o
+      (load_operand P m (length mid) b.ty x) → IsWalked P m k u E old new o
   field_walked {t} {x} {B} {v} {old} {mid} {new} {b} {o} is ev w h =
       let n = length old in
       let at = λ (l : ℕ) (q : Operand). load_operand P m l q.ty x in
       let first : parts_seen mid ≡ parts_seen old ++ parts P (object_type P k) m k (is_accessed (label n B)) (label n B) =
       w.parts ∙ ap (λ z. parts_seen old ++ parts P (object_type P k) m k z (label n B)) ev in
-      let last : parts_seen new ≡ parts_seen mid ++ a_load t.place (is_of P m k (label n B)) (object_field P (object_type P k (label n B)) x) (at (length mid) (is_of P m k (label n B))) ∷ [] =
+      let last : parts_seen new ≡ parts_seen mid ++ a_load t.place (is_of P m k (label n B)) (object_field P (object_type P k (label n B)) x)
+      (at (length mid) (is_of P m k (label n B))) ∷ [] =
       h.parts ∙ ap (λ q. parts_seen mid ++ a_load t.place q (object_field P q.ty x) (at (length mid) q) ∷ []) w.value in
       as_form is (record {
         grown = omega (arith, w.grown, h.grown);
         value = h.value ∙ ap (λ q. at (length mid) q) w.value ∙ ap (λ l. at l (is_of P m k (label n B))) w.grown;
-        parts = then_at (parts_seen old) (parts_seen mid) (parts_seen new) _ (λ l. a_load t.place (is_of P m k (label n B)) (object_field P (object_type P k (label n B)) x) (at l (is_of P m k (label n B))) ∷ [])
+        parts = then_at (parts_seen old) (parts_seen mid) (parts_seen new) _ (λ l. a_load t.place (is_of P m k (label n B))
+            (object_field P (object_type P k (label n B)) x) (at l (is_of P m k (label n B))) ∷ [])
             (length mid) (n + size B) first w.grown last;
       })
 
-  pub index_walked : {t : Tag} {B I : Ex} {old x y new : List Part} {b o i : Operand} → E ≡ index t B I → IsWalked P m k true B old x b → IsAdded x y 1 (an_element t.place b o ∷ [])
+  pub index_walked : {t : Tag} {B I : Ex} {old x y new : List Part} {b o i : Operand} → E ≡ index t B I → IsWalked P m k true B old x b
+      → IsAdded x y 1 (an_element t.place b o ∷ [])
       → o ≡ labelled_operand m (length x) b.row (element_object b.ty) → IsWalked P m k false I y new i → IsWalked P m k u E old new o
   index_walked {t} {B} {I} {old} {x} {y} {new} {b} {o} is w a eo z =
       let n = length old in
@@ -72,10 +78,13 @@ module _ (P : Plain) (m : ℕ) (k : PlainMethod) {u : Bool} {E : Ex} where
       let here = at (n + size B) (is_of P m k (label n B)) in
       let value : o ≡ here = eo ∙ ap (λ q. at (length x) q) w.value ∙ ap (λ l. at l (is_of P m k (label n B))) w.grown in
       let mid : parts_seen y ≡ parts_seen x ++ an_element t.place (is_of P m k (label n B)) here ∷ [] =
-      a.parts ∙ ap (λ q. parts_seen x ++ an_element t.place q o ∷ []) w.value ∙ ap (λ q. parts_seen x ++ an_element t.place (is_of P m k (label n B)) q ∷ []) value in
+      a.parts ∙ ap (λ q. parts_seen x ++ an_element t.place q o ∷ []) w.value
+      ∙ ap (λ q. parts_seen x ++ an_element t.place (is_of P m k (label n B)) q ∷ []) value in
       let ly : length y ≡ n + size B + 1 = omega (arith, w.grown, a.grown) in
-      let rest : parts_seen new ≡ parts_seen x ++ an_element t.place (is_of P m k (label n B)) here ∷ parts P (object_type P k) m k false (label (n + size B + 1) I) =
-      then_at (parts_seen x) (parts_seen y) (parts_seen new) (an_element t.place (is_of P m k (label n B)) here ∷ []) (λ l. parts P (object_type P k) m k false (label l I)) (length y) (n + size B + 1) mid ly z.parts in
+      let rest : parts_seen new ≡ parts_seen x ++ an_element t.place (is_of P m k (label n B)) here ∷ parts P (object_type P k) m k false
+      (label (n + size B + 1) I) =
+      then_at (parts_seen x) (parts_seen y) (parts_seen new) (an_element t.place (is_of P m k (label n B)) here ∷ [])
+      (λ l. parts P (object_type P k) m k false (label l I)) (length y) (n + size B + 1) mid ly z.parts in
       as_form is (record {
         grown = omega (arith, w.grown, a.grown, z.grown);
         value = value;
@@ -94,46 +103,57 @@ module _ (P : Plain) (m : ℕ) (k : PlainMethod) {u : Bool} {E : Ex} where
       as_form is (record {
         grown = omega (arith, w.grown, h.grown);
         value = h.value ∙ ap (λ q. call_operand P m (length mid) q.ty x) w.value ∙ ap (λ l. call_operand P m l (object_type P k (label n B)) x) w.grown;
-        parts = then_at (parts_seen old) (parts_seen mid) (parts_seen new) _ (λ l. call_from P m k t.place (is_of P m k (label n B)) x l es) (length mid) (n + size B) w.parts w.grown last;
+        parts = then_at (parts_seen old) (parts_seen mid) (parts_seen new) _ (λ l. call_from P m k t.place (is_of P m k (label n B)) x l es)
+            (length mid) (n + size B) w.parts w.grown last;
       })
 
   pub static_walked : {t : Tag} {d : ℕ} {es : Exs} {old new : List Part} {o : Operand} → E ≡ static_call t d es
-      → IsMade old new (1 + sizes es) (a_static_call t.place d (args_from P m k (length old + 1) es) (static_operand P m (length old) d) ∷ parts_from P m k false (length old + 1) es) o (static_operand P m (length old) d)
+      → IsMade old new (1 + sizes es) (a_static_call t.place d (args_from P m k (length old + 1) es) (static_operand P m (length old) d)
+      ∷ parts_from P m k false (length old + 1) es) o (static_operand P m (length old) d)
       → IsWalked P m k u E old new o
   static_walked is h = as_form is (record { grown = h.grown; value = h.value; parts = h.parts })
 
   pub super_walked : {t : Tag} {x : List ℕ} {es : Exs} {old new : List Part} {o : Operand} → E ≡ super_call t x es
-      → IsMade old new (1 + sizes es) (a_super_call t.place (super_method P k.owner x) (args_from P m k (length old + 1) es) (super_operand P m (length old) k.owner x) ∷ parts_from P m k false (length old + 1) es) o
+      → IsMade old new (1 + sizes es) (a_super_call t.place (super_method P k.owner x) (args_from P m k (length old + 1) es)
+      (super_operand P m (length old) k.owner x) ∷ parts_from P m k false (length old + 1) es) o
       (super_operand P m (length old) k.owner x) → IsWalked P m k u E old new o
   super_walked is h = as_form is (record { grown = h.grown; value = h.value; parts = h.parts })
 
-  pub creation_walked : {t : Tag} {i c : ℕ} {es : Exs} {old mid new : List Part} {o : Operand} {os : List Operand} → E ≡ create t i c es → IsAdded old mid 1 (a_creation t.place u o ∷ [])
-      → o ≡ record { point = Some (point.Expr m (length old)); row = Some (row.New i); ty = class_object c; created = Some i } → AreWalked P m k false es mid new os → IsWalked P m k u E old new o
+  pub creation_walked : {t : Tag} {i c : ℕ} {es : Exs} {old mid new : List Part} {o : Operand} {os : List Operand} → E ≡ create t i c es
+      → IsAdded old mid 1 (a_creation t.place u o ∷ [])
+      → o ≡ record { point = Some (point.Expr m (length old)); row = Some (row.New i); ty = class_object c; created = Some i }
+      → AreWalked P m k false es mid new os → IsWalked P m k u E old new o
   creation_walked {t} {i} {c} {es} {old} {mid} {new} {o} is a eo w =
       let n = length old in
       let made : Operand = record { point = Some (point.Expr m n); row = Some (row.New i); ty = class_object c; created = Some i } in
       as_form is (record {
         grown = omega (arith, a.grown, w.grown);
         value = eo;
-        parts = then_at (parts_seen old) (parts_seen mid) (parts_seen new) (a_creation t.place u made ∷ []) (λ l. parts_from P m k false l es) (length mid) (n + 1)
+        parts = then_at (parts_seen old) (parts_seen mid) (parts_seen new) (a_creation t.place u made ∷ []) (λ l. parts_from P m k false l es)
+            (length mid) (n + 1)
             (a.parts ∙ ap (λ q. parts_seen old ++ a_creation t.place u q ∷ []) eo) a.grown w.parts;
       })
 
-  pub array_walked : {t : Tag} {i : ℕ} {y : Ty} {S : Ex} {old mid new : List Part} {o s : Operand} → E ≡ create_array t i y S → IsAdded old mid 1 (a_creation t.place u o ∷ [])
-      → o ≡ record { point = Some (point.Expr m (length old)); row = Some (row.New i); ty = object_of y; created = Some i } → IsWalked P m k false S mid new s → IsWalked P m k u E old new o
+  pub array_walked : {t : Tag} {i : ℕ} {y : Ty} {S : Ex} {old mid new : List Part} {o s : Operand} → E ≡ create_array t i y S
+      → IsAdded old mid 1 (a_creation t.place u o ∷ [])
+      → o ≡ record { point = Some (point.Expr m (length old)); row = Some (row.New i); ty = object_of y; created = Some i }
+      → IsWalked P m k false S mid new s → IsWalked P m k u E old new o
   array_walked {t} {i} {y} {S} {old} {mid} {new} {o} is a eo w =
       let n = length old in
       let made : Operand = record { point = Some (point.Expr m n); row = Some (row.New i); ty = object_of y; created = Some i } in
       as_form is (record {
         grown = omega (arith, a.grown, w.grown);
         value = eo;
-        parts = then_at (parts_seen old) (parts_seen mid) (parts_seen new) (a_creation t.place u made ∷ []) (λ l. parts P (object_type P k) m k false (label l S)) (length mid) (n + 1)
+        parts = then_at (parts_seen old) (parts_seen mid) (parts_seen new) (a_creation t.place u made ∷ []) (λ l. parts P (object_type P k) m k false
+            (label l S)) (length mid) (n + 1)
             (a.parts ∙ ap (λ q. parts_seen old ++ a_creation t.place u q ∷ []) eo) a.grown w.parts;
       })
 
-  pub cast_walked : {t : Tag} {i : ℕ} {y : Ty} {V : Ex} {old mid z new : List Part} {v o p : Operand} → E ≡ cast t i y V → IsAdded old mid 1 (a_test t.place p o ∷ []) → IsWalked P m k true V mid z v
+  pub cast_walked : {t : Tag} {i : ℕ} {y : Ty} {V : Ex} {old mid z new : List Part} {v o p : Operand} → E ≡ cast t i y V
+      → IsAdded old mid 1 (a_test t.place p o ∷ []) → IsWalked P m k true V mid z v
       → o ≡ labelled_operand m (length old) (Some (row.Cast i)) (object_of y) → length new ≡ length z
-      → ((xs ys : List plain.Part) (q : plain.Part) → length xs ≡ length old → parts_seen z ≡ xs ++ q ∷ ys → parts_seen new ≡ xs ++ a_test t.place v o ∷ ys) → IsWalked P m k u E old new o
+      → ((xs ys : List plain.Part) (q : plain.Part) → length xs ≡ length old → parts_seen z ≡ xs ++ q ∷ ys → parts_seen new ≡ xs ++ a_test t.place v o
+      ∷ ys) → IsWalked P m k u E old new o
   cast_walked {t} {i} {y} {V} {old} {mid} {z} {new} {v} {o} {p} is a w eo el f =
       let n = length old in
       let T = parts P (object_type P k) m k true in
@@ -148,7 +168,8 @@ module _ (P : Plain) (m : ℕ) (k : PlainMethod) {u : Bool} {E : Ex} where
             ∙ ap (λ q. parts_seen old ++ a_test t.place (is_of P m k (label (n + 1) V)) q ∷ T (label (n + 1) V)) eo;
       })
 
-  pub test_walked : {t : Tag} {i c : ℕ} {V : Ex} {old mid new : List Part} {v o w : Operand} → E ≡ instance_of t i V c → IsWalked P m k true V old mid v → IsAdded mid new 1 (a_test t.place v o ∷ [])
+  pub test_walked : {t : Tag} {i c : ℕ} {V : Ex} {old mid new : List Part} {v o w : Operand} → E ≡ instance_of t i V c
+      → IsWalked P m k true V old mid v → IsAdded mid new 1 (a_test t.place v o ∷ [])
       → o ≡ labelled_operand m (length mid) (Some (row.Test i)) (class_object c) → w ≡ nothing → IsWalked P m k u E old new w
   test_walked {t} {i} {c} {V} {old} {mid} {new} {v} {o} is w a eo ew =
       let n = length old in
@@ -158,13 +179,16 @@ module _ (P : Plain) (m : ℕ) (k : PlainMethod) {u : Bool} {E : Ex} where
       as_form is (record {
         grown = omega (arith, w.grown, a.grown);
         value = ew;
-        parts = then_at (parts_seen old) (parts_seen mid) (parts_seen new) _ (λ l. a_test t.place (is_of P m k (label n V)) (at l) ∷ []) (length mid) (n + size V) w.parts w.grown last;
+        parts = then_at (parts_seen old) (parts_seen mid) (parts_seen new) _ (λ l. a_test t.place (is_of P m k (label n V)) (at l) ∷ []) (length mid)
+            (n + size V) w.parts w.grown last;
       })
 
-  pub unary_walked : {t : Tag} {f : UnOp} {V : Ex} {old new : List Part} {v w : Operand} → E ≡ unary t f V → IsWalked P m k false V old new v → w ≡ nothing → IsWalked P m k u E old new w
+  pub unary_walked : {t : Tag} {f : UnOp} {V : Ex} {old new : List Part} {v w : Operand} → E ≡ unary t f V → IsWalked P m k false V old new v
+      → w ≡ nothing → IsWalked P m k u E old new w
   unary_walked is h ew = as_form is (record { grown = h.grown; value = ew; parts = h.parts })
 
-  pub binary_walked : {t : Tag} {f : BinOp} {L R : Ex} {old x y new : List Part} {l r w : Operand} → E ≡ binary t f L R → IsWalked P m k false L old x l → IsWalked P m k false R x y r
+  pub binary_walked : {t : Tag} {f : BinOp} {L R : Ex} {old x y new : List Part} {l r w : Operand} → E ≡ binary t f L R
+      → IsWalked P m k false L old x l → IsWalked P m k false R x y r
       → IsAdded y new 1 (a_pair f l r ∷ []) → w ≡ nothing → IsWalked P m k u E old new w
   binary_walked {t} {f} {L} {R} {old} {x} {y} {new} {l} {r} is h g a ew =
       let n = length old in

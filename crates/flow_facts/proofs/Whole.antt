@@ -30,10 +30,12 @@ module _ (P Q : Plain) (d : Numbered) (n : IsNumbered P Q d) where
   pub few_columns : length d.columns.items < 4294967295
   few_columns = let k : length d.columns.items ≤ 8192 = subst (λ l. length l ≤ 8192) (sym n.columns) n.few in omega (arith, k)
 
-  pub rows_whole : (xs : List RowInfo) → xs ≡ map (row_info (numbers_seen d.numbering) Q) d.rows.items → xs ≡ map (row_info (numbers P Q) Q) (numbered.rows_of P Q)
+  pub rows_whole : (xs : List RowInfo) → xs ≡ map (row_info (numbers_seen d.numbering) Q) d.rows.items
+      → xs ≡ map (row_info (numbers P Q) Q) (numbered.rows_of P Q)
   rows_whole xs e = e ∙ ap (λ N. map (row_info N Q) d.rows.items) n.numbers ∙ ap (map (row_info (numbers P Q) Q)) n.rows
 
-  pub columns_whole : (xs : List ColumnInfo) → xs ≡ map (λ c. column_info Q c.item) d.columns.items → xs ≡ map (λ c. column_info Q c.item) (numbered.columns_of P Q)
+  pub columns_whole : (xs : List ColumnInfo) → xs ≡ map (λ c. column_info Q c.item) d.columns.items
+      → xs ≡ map (λ c. column_info Q c.item) (numbered.columns_of P Q)
   columns_whole xs e = e ∙ ap (map (λ c. column_info Q c.item)) n.columns
 
   pub sites_whole : (xs : List SiteInfo) → xs ≡ map site_info d.sites.items → xs ≡ map site_info (numbered.sites_of P Q)
@@ -44,22 +46,29 @@ module _ (P Q : Plain) (d : Numbered) (n : IsNumbered P Q d) where
 
   pub bodies_whole : (xs : List BodyInfo) → map plain_body xs ≡ each (λ c k. column_body (numbers_seen d.numbering) Q c k.item) 0 d.columns.items
       → map plain_body xs ≡ each (λ c k. column_body (numbers P Q) Q c k.item) 0 (numbered.columns_of P Q)
-  bodies_whole xs e = e ∙ ap (λ N. each (λ c k. column_body N Q c k.item) 0 d.columns.items) n.numbers ∙ ap (each (λ c k. column_body (numbers P Q) Q c k.item) 0) n.columns
+  bodies_whole xs e = e ∙ ap (λ N. each (λ c k. column_body N Q c k.item) 0 d.columns.items) n.numbers
+      ∙ ap (each (λ c k. column_body (numbers P Q) Q c k.item) 0) n.columns
 
   -- what the parts of all bodies give
-  pub gathered_whole : {A : Type 0} (f : Numbers → numbered.Body → Part → List A) (xs : List A) → xs ≡ flat_map (λ b. flat_map (f (numbers_seen d.numbering) b) b.parts) (map body_seen d.bodies.items)
+  pub gathered_whole : {A : Type 0} (f : Numbers → numbered.Body → Part → List A) (xs : List A)
+      → xs ≡ flat_map (λ b. flat_map (f (numbers_seen d.numbering) b) b.parts) (map body_seen d.bodies.items)
       → xs ≡ gathered P Q (f (numbers P Q))
   gathered_whole f xs e =
-      e ∙ ap (λ N. flat_map (λ b. flat_map (f N b) b.parts) (map body_seen d.bodies.items)) n.numbers ∙ ap (flat_map (λ b. flat_map (f (numbers P Q) b) b.parts)) n.bodies
+      e ∙ ap (λ N. flat_map (λ b. flat_map (f N b) b.parts) (map body_seen d.bodies.items)) n.numbers
+      ∙ ap (flat_map (λ b. flat_map (f (numbers P Q) b) b.parts)) n.bodies
 
-  pub set_whole : {A : Type 0} (f : Numbers → numbered.Body → Part → List A) (xs : List A) → xs ≡ flat_map (λ b. flat_map (f (numbers_seen d.numbering) b) b.parts) (map body_seen d.bodies.items)
+  pub set_whole : {A : Type 0} (f : Numbers → numbered.Body → Part → List A) (xs : List A)
+      → xs ≡ flat_map (λ b. flat_map (f (numbers_seen d.numbering) b) b.parts) (map body_seen d.bodies.items)
       → IsSameSet xs (gathered P Q (f (numbers P Q)))
   set_whole f xs e = same_set (gathered_whole f xs e)
 
-  pub calls_whole : (ys : List CallInfo) → map call_seen ys ≡ map (λ c. c.item) (by_place (λ c. c.place.at) (flat_map (λ b. flat_map (calls_of (numbers_seen d.numbering)) b.parts) (map body_seen d.bodies.items)))
+  pub calls_whole : (ys : List CallInfo)
+      → map call_seen ys ≡ map (λ c. c.item) (by_place (λ c. c.place.at) (flat_map (λ b. flat_map (calls_of (numbers_seen d.numbering)) b.parts)
+      (map body_seen d.bodies.items)))
       → map call_seen ys ≡ map (λ c. c.item) (by_place (λ c. c.place.at) (gathered P Q (λ b. calls_of (numbers P Q))))
   calls_whole ys h = h ∙ ap (λ l. map (λ c. c.item) (by_place (λ c. c.place.at) l)) (gathered_whole (λ N b. calls_of N) _ refl)
 
-  pub tests_whole : (ys : List TestInfo) → ys ≡ by_place (λ t. t.place.at) (flat_map (λ b. flat_map (tests_of (numbers_seen d.numbering)) b.parts) (map body_seen d.bodies.items))
+  pub tests_whole : (ys : List TestInfo) → ys ≡ by_place (λ t. t.place.at) (flat_map (λ b. flat_map (tests_of (numbers_seen d.numbering)) b.parts)
+      (map body_seen d.bodies.items))
       → ys ≡ by_place (λ t. t.place.at) (gathered P Q (λ b. tests_of (numbers P Q)))
   tests_whole ys h = h ∙ ap (by_place (λ t. t.place.at)) (gathered_whole (λ N b. tests_of N) _ refl)

@@ -10,7 +10,12 @@ use Rattle.flow_rules.specs.Facts as plain
 -- the numbers that a numbering gives
 abbrev pub numbers_seen : Numbering → Numbers
 numbers_seen n =
-    record { row = number_among same_row n.rows.keys; column = number_among same_column n.columns.keys; site = number_among nat_eq n.sites.keys; point = number_among same_point n.points.keys }
+    record {
+      row = number_among same_row n.rows.keys;
+      column = number_among same_column n.columns.keys;
+      site = number_among nat_eq n.sites.keys;
+      point = number_among same_point n.points.keys;
+    }
 
 -- calls at their places
 abbrev pub call_at : PlacedCall → Placed PlainCall

@@ -46,4 +46,5 @@ module _ (P : Plain) (m : ℕ) (k : PlainMethod) where
 
   -- the parts of a call of an instance method on an operand, labelled from a number on
   abbrev pub call_from : Place → Operand → List ℕ → ℕ → Exs → List plain.Part
-  call_from p o x n es = plain.a_call p o (call_slot P o.ty x) (call_declaration P o.ty x) (args_from (n + 1) es) (call_operand P m n o.ty x) ∷ parts_from true (n + 1) es
+  call_from p o x n es = plain.a_call p o (call_slot P o.ty x) (call_declaration P o.ty x) (args_from (n + 1) es) (call_operand P m n o.ty x)
+      ∷ parts_from true (n + 1) es

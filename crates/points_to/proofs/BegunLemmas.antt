@@ -42,7 +42,9 @@ module _ (E D : Edge → Type 0) (S T : Told → Type 0) (f : (x : Edge) → E x
   }
 
 -- a call at each body of the column found
-pub run_of : (F : Facts) (E : Edge → Type 0) (S : Told → Type 0) (index : Index) (call : CallInfo) (o d : ℕ) → IsIndex F index → All (IsRunAt F E S call o d) (numbers_at index.bodies.items d) → (body : BodyInfo) → Runs F call o body → body.column.0 ≡ d → IsRun E S call o body
+pub run_of : (F : Facts) (E : Edge → Type 0) (S : Told → Type 0) (index : Index) (call : CallInfo) (o d : ℕ) → IsIndex F index
+    → All (IsRunAt F E S call o d) (numbers_at index.bodies.items d) → (body : BodyInfo) → Runs F call o body → body.column.0 ≡ d
+    → IsRun E S call o body
 run_of F E S index call o d is all body runs e =
     let at = runs.listed in
     All-contains (IsRunAt F E S call o d) (numbers_at index.bodies.items d) at.0 all
@@ -50,17 +52,22 @@ run_of F E S index call o d is all body runs e =
     body (at.1, at.2) e
 
 module _ (F : Facts) (index : Index) (old new : List (List Bool)) (edges : List Edge) (told : List Told) where
-  pub point_closed : (p : ℕ) (sites : List ℕ) (grew : Bool) → IsStep old new grew → All (IsBegunAt F index old (Contains edges) (Contains told) p) sites → ((o : ℕ) → bit (row old p) o ≡ true → Contains sites o) → OnFalse grew (All (IsEdgeClosed F new) edges) → OnFalse grew (All (IsShown new) told) → OnFalse grew (IsPointClosed F index new p)
+  pub point_closed : (p : ℕ) (sites : List ℕ) (grew : Bool) → IsStep old new grew → All (IsBegunAt F index old (Contains edges) (Contains told) p)
+      sites → ((o : ℕ) → bit (row old p) o ≡ true → Contains sites o) → OnFalse grew (All (IsEdgeClosed F new) edges)
+      → OnFalse grew (All (IsShown new) told) → OnFalse grew (IsPointClosed F index new p)
   point_closed p sites true step begun all closed shown = tt
   point_closed p sites false step begun all closed shown = λ o h b is.
       let was : bit (row old p) o ≡ true = subst (λ s. bit (row s p) o ≡ true) step h in
-      begun_map (Contains edges) (IsEdgeClosed F new) (Contains told) (IsShown new) (λ x c. All-contains (IsEdgeClosed F new) edges x closed c) (λ x c. All-contains (IsShown new) told x shown c) F p o b
+      begun_map (Contains edges) (IsEdgeClosed F new) (Contains told) (IsShown new) (λ x c. All-contains (IsEdgeClosed F new) edges x closed c)
+      (λ x c. All-contains (IsShown new) told x shown c) F p o b
       (All-contains (IsBegunAt F index old (Contains edges) (Contains told) p) sites o begun (all o was) was b is)
 
-  pub fixed_closed : (grew : Bool) → AreFixed F (Contains edges) (Contains told) → OnFalse grew (All (IsEdgeClosed F new) edges) → OnFalse grew (All (IsShown new) told) → OnFalse grew (AreFixed F (IsEdgeClosed F new) (IsShown new))
+  pub fixed_closed : (grew : Bool) → AreFixed F (Contains edges) (Contains told) → OnFalse grew (All (IsEdgeClosed F new) edges)
+      → OnFalse grew (All (IsShown new) told) → OnFalse grew (AreFixed F (IsEdgeClosed F new) (IsShown new))
   fixed_closed true fixed closed shown = tt
   fixed_closed false fixed closed shown =
-      fixed_map (Contains edges) (IsEdgeClosed F new) (Contains told) (IsShown new) (λ x c. All-contains (IsEdgeClosed F new) edges x closed c) (λ x c. All-contains (IsShown new) told x shown c) F fixed
+      fixed_map (Contains edges) (IsEdgeClosed F new) (Contains told) (IsShown new) (λ x c. All-contains (IsEdgeClosed F new) edges x closed c)
+      (λ x c. All-contains (IsShown new) told x shown c) F fixed
 
 -- a point from which nothing begins
 pub nothing_begun : (F : Facts) (index : Index) (sets : List (List Bool)) (p : ℕ) → begins_at index.begins.items p ≡ [] → IsPointClosed F index sets p
@@ -68,7 +75,9 @@ nothing_begun F index sets p none o h b is = let c : Contains [] b = subst (λ x
 
 -- a load, a store or a call of a number, where what it asks for was found
 module _ (F : Facts) (index : Index) (is : IsIndex F index) (edges : List Edge) (told : List Told) (p o i : ℕ) where
-  pub load_begun : (x : LoadInfo) → IsAt F.loads.items i x → All (λ c. IsCell F c o x.column → Contains edges (cell_edge F (Read x.into) x.column o c)) (numbers_at index.cells.items o) → IsBegun F (Contains edges) (Contains told) p o (Load i)
+  pub load_begun : (x : LoadInfo) → IsAt F.loads.items i x
+      → All (λ c. IsCell F c o x.column → Contains edges (cell_edge F (Read x.into) x.column o c)) (numbers_at index.cells.items o)
+      → IsBegun F (Contains edges) (Contains told) p o (Load i)
   load_begun x at all y a e =
       subst (λ (z : LoadInfo). (c : ℕ) → IsCell F c o z.column → Contains edges (cell_edge F (Read z.into) z.column o c)) (at_same F.loads.items i x y at a)
       (λ c cell.
@@ -78,7 +87,9 @@ module _ (F : Facts) (index : Index) (is : IsIndex F index) (edges : List Edge) 
   pub load_other : (x : LoadInfo) → IsAt F.loads.items i x → (x.base ≡ p → ⊥) → IsBegun F (Contains edges) (Contains told) p o (Load i)
   load_other x at ne y a e = absurd (ne (subst (λ (z : LoadInfo). z.base ≡ p) (at_same F.loads.items i y x a at) e))
 
-  pub store_begun : (x : StoreInfo) → IsAt F.stores.items i x → All (λ c. IsCell F c o x.column → Contains edges (cell_edge F (Write x.value) x.column o c)) (numbers_at index.cells.items o) → IsBegun F (Contains edges) (Contains told) p o (Store i)
+  pub store_begun : (x : StoreInfo) → IsAt F.stores.items i x
+      → All (λ c. IsCell F c o x.column → Contains edges (cell_edge F (Write x.value) x.column o c)) (numbers_at index.cells.items o)
+      → IsBegun F (Contains edges) (Contains told) p o (Store i)
   store_begun x at all y a e =
       subst (λ (z : StoreInfo). (c : ℕ) → IsCell F c o z.column → Contains edges (cell_edge F (Write z.value) z.column o c)) (at_same F.stores.items i x y at a)
       (λ c cell.
@@ -88,7 +99,8 @@ module _ (F : Facts) (index : Index) (is : IsIndex F index) (edges : List Edge) 
   pub store_other : (x : StoreInfo) → IsAt F.stores.items i x → (x.base ≡ p → ⊥) → IsBegun F (Contains edges) (Contains told) p o (Store i)
   store_other x at ne y a e = absurd (ne (subst (λ (z : StoreInfo). z.base ≡ p) (at_same F.stores.items i y x a at) e))
 
-  pub call_begun : (x : CallInfo) → IsAt F.calls.items i x → AreRun F (Contains edges) (Contains told) x o → IsBegun F (Contains edges) (Contains told) p o (Call i)
+  pub call_begun : (x : CallInfo) → IsAt F.calls.items i x → AreRun F (Contains edges) (Contains told) x o
+      → IsBegun F (Contains edges) (Contains told) p o (Call i)
   call_begun x at run y a e = subst (λ (z : CallInfo). AreRun F (Contains edges) (Contains told) z o) (at_same F.calls.items i x y at a) run
 
   pub call_other : (x : CallInfo) → IsAt F.calls.items i x → (x.receiver ≡ p → ⊥) → IsBegun F (Contains edges) (Contains told) p o (Call i)

@@ -13,7 +13,8 @@ use Rattle.fact_model.specs.declared.facts.ColKind.{ColKind}
 use Rattle.fact_model.specs.declared.facts.ColKind.TheVariants.{Fld, Dcl, Def, Is}
 use Rattle.points_to.specs.Chains.{IsBodyOf, IsFirstAt, IsFirst, AreChained, IsWalk}
 
-pub position_found : {X : Type 0} (p : X → Bool) (xs : List X) (i : ℕ) (d : X) → i < length xs → p (get_or xs i d) ≡ true → ((k : ℕ) → k < i → p (get_or xs k d) ≡ false) → position p xs ≡ Some i
+pub position_found : {X : Type 0} (p : X → Bool) (xs : List X) (i : ℕ) (d : X) → i < length xs → p (get_or xs i d) ≡ true
+    → ((k : ℕ) → k < i → p (get_or xs k d) ≡ false) → position p xs ≡ Some i
 position_found p xs i d lt here before =
     let e : position_or_len p xs ≡ i = position_or_len_is p xs i d (omega (arith, lt)) before (λ _. here) in
     rw e (within i (length xs) lt)
@@ -50,12 +51,15 @@ module _ (F : Facts) where
   -- a body of the class is the first from itself on
   pub first_here : (a c : ℕ) → c < length F.columns.items → IsBodyOf F a c → IsFirst F a c (Some c)
   first_here a c lt b = record {
-    some = λ d e. let same : c ≡ d = cc in subst (IsFirstAt F a c) same (record { low = omega arith; high = lt; body = b; least = λ k le l _. omega (arith, le, l) });
+    some = λ d e. let same : c ≡ d = cc in subst (IsFirstAt F a c) same
+        (record { low = omega arith; high = lt; body = b; least = λ k le l _. omega (arith, le, l) });
     none = λ e. absurd (cc (e));
   }
 
-  module _ (first next : List (Option ℕ)) (c : ℕ) (lt : c < length F.columns.items) (in_class : column_class F c < length F.classes.items) (old : AreChained F first next (c + 1)) where
-    next_more : (k : ℕ) → c ≤ k → k < length F.columns.items → IsFirst F (column_class F k) (k + 1) (get_or (set next c (get_or first (column_class F c) None)) k None)
+  module _ (first next : List (Option ℕ)) (c : ℕ) (lt : c < length F.columns.items) (in_class : column_class F c < length F.classes.items)
+      (old : AreChained F first next (c + 1)) where
+    next_more : (k : ℕ) → c ≤ k → k < length F.columns.items
+        → IsFirst F (column_class F k) (k + 1) (get_or (set next c (get_or first (column_class F c) None)) k None)
     next_more k le high =
         ⊎_elim
         (λ same. subst (λ j. IsFirst F (column_class F j) (j + 1) (get_or (set next c (get_or first (column_class F c) None)) j None)) (sym same)
@@ -70,7 +74,8 @@ module _ (F : Facts) where
       firsts = λ a la.
           ⊎_elim
           (λ same. subst (λ j. IsFirst F j c (get_or (set first (column_class F c) (Some c)) j None)) (sym same)
-          (rw (get_or-set_same first (column_class F c) (Some c) None (omega (arith, in_class, old.first_len))) (first_here (column_class F c) c lt (record { kind = def; class = refl }))))
+          (rw (get_or-set_same first (column_class F c) (Some c) None (omega (arith, in_class, old.first_len)))
+          (first_here (column_class F c) c lt (record { kind = def; class = refl }))))
           (λ ne. rw (get_or-set_other first (column_class F c) a (Some c) None ne) (first_more a c _ (λ b. ne (sym b.class)) (old.firsts a la)))
           (cases_eq a (column_class F c));
       nexts = next_more;
@@ -85,7 +90,8 @@ module _ (F : Facts) where
     }
 
   -- before the walk begins, and past the last column
-  pub chained_none : (first next : List (Option ℕ)) → length first ≡ length F.classes.items → length next ≡ length F.columns.items → ((a : ℕ) → get_or first a None ≡ None) → AreChained F first next (length F.columns.items)
+  pub chained_none : (first next : List (Option ℕ)) → length first ≡ length F.classes.items → length next ≡ length F.columns.items
+      → ((a : ℕ) → get_or first a None ≡ None) → AreChained F first next (length F.columns.items)
   chained_none first next lf ln all = record {
     first_len = lf;
     next_len = ln;
@@ -133,14 +139,17 @@ module _ (F : Facts) where
   }
 
   -- the walk one step on
-  pub walk_on : (a x d : ℕ) (first next : List (Option ℕ)) → AreChained F first next 0 → IsWalk F a x (Some d) → is_slot (column_slot F d) x ≡ false → IsWalk F a x (get_or next d None)
+  pub walk_on : (a x d : ℕ) (first next : List (Option ℕ)) → AreChained F first next 0 → IsWalk F a x (Some d) → is_slot (column_slot F d) x ≡ false
+      → IsWalk F a x (get_or next d None)
   walk_on a x d first next chained w none =
       walk_from a x (d + 1) (get_or next d None)
       (subst (λ b. IsFirst F b (d + 1) (get_or next d None)) ((w.body d refl).class) (chained.nexts d (omega arith) (w.high d refl)))
-      (λ k lt. ⊎_elim (λ same. subst (λ j. is_body a x (column_at F j) ≡ false) (sym same) (slot_missing a x d none)) (λ ne. w.before d k refl (omega (arith, lt, ne))) (cases_eq k d))
+      (λ k lt. ⊎_elim (λ same. subst (λ j. is_body a x (column_at F j) ≡ false) (sym same) (slot_missing a x d none))
+      (λ ne. w.before d k refl (omega (arith, lt, ne))) (cases_eq k d))
 
   pub walk_found : (a x d : ℕ) → IsWalk F a x (Some d) → is_slot (column_slot F d) x ≡ true → own_body F a x ≡ Some d
-  walk_found a x d w s = position_found (λ k. is_body a x k) F.columns.items d _ (w.high d refl) (slot_found a x d (w.body d refl) s) (λ k lt. w.before d k refl lt)
+  walk_found a x d w s = position_found (λ k. is_body a x k) F.columns.items d _ (w.high d refl) (slot_found a x d (w.body d refl) s)
+      (λ k lt. w.before d k refl lt)
 
   pub walk_missing : (a x : ℕ) → IsWalk F a x None → own_body F a x ≡ None
   walk_missing a x w = position_missing (λ k. is_body a x k) F.columns.items _ (w.all refl)
@@ -150,7 +159,8 @@ abbrev pub left : ℕ → Option ℕ → ℕ
 left n None = 0
 left n (Some d) = n - d
 
-pub left_less : (F : Facts) (a x d : ℕ) (first next : List (Option ℕ)) → AreChained F first next 0 → IsWalk F a x (Some d) → left (length F.columns.items) (get_or next d None) < left (length F.columns.items) (Some d)
+pub left_less : (F : Facts) (a x d : ℕ) (first next : List (Option ℕ)) → AreChained F first next 0 → IsWalk F a x (Some d)
+    → left (length F.columns.items) (get_or next d None) < left (length F.columns.items) (Some d)
 left_less F a x d first next chained w = go (get_or next d None) refl
   where
     go : (o : Option ℕ) → get_or next d None ≡ o → left (length F.columns.items) o < left (length F.columns.items) (Some d)

@@ -22,7 +22,8 @@ use Rattle.points_to.proofs.RuleLemmas.{new_holds, flow_holds, load_holds, store
 
 module _ (F : Facts) where
   -- from one point into another
-  point_edge : (p q : ℕ) (class : Option ClassId) → p < length F.points.items → q < length F.points.items → ((s : ℕ) → Passes F class s → Holds F (in_point p s) → Holds F (in_point q s)) → IsEdge F (record { from = p; to = q; class = class })
+  point_edge : (p q : ℕ) (class : Option ClassId) → p < length F.points.items → q < length F.points.items
+      → ((s : ℕ) → Passes F class s → Holds F (in_point p s) → Holds F (in_point q s)) → IsEdge F (record { from = p; to = q; class = class })
   point_edge p q class lp lq f = record {
     from = omega (arith, lp);
     to = omega (arith, lq);
@@ -53,7 +54,8 @@ module _ (F : Facts) where
         let p = All-contains (λ x. IsPoint F x.from × IsPoint F x.into × IsClass F x.class) F.casts.items x R.casts is in
         point_edge x.from x.into (Some x.class) p.0 p.1 (λ s b h. cast_holds F x s is b h)
 
-    pub load_edge : (x : LoadInfo) (c o : ℕ) → Contains F.loads.items x → Holds F (in_point x.base o) → IsCell F c o x.column → IsEdge F (cell_edge F (Read x.into) x.column o c)
+    pub load_edge : (x : LoadInfo) (c o : ℕ) → Contains F.loads.items x → Holds F (in_point x.base o) → IsCell F c o x.column
+        → IsEdge F (cell_edge F (Read x.into) x.column o c)
     load_edge x c o is base cell =
         let p = All-contains (λ x. IsPoint F x.base × IfSome x.column (IsCol F) × IsPoint F x.into) F.loads.items x R.loads is in
         record {
@@ -62,7 +64,8 @@ module _ (F : Facts) where
           flows = λ s b h. point_node F x.into s p.2 (load_holds F x c o s is cell base (node_cell F c s h));
         }
 
-    pub store_edge : (x : StoreInfo) (c o : ℕ) → Contains F.stores.items x → Holds F (in_point x.base o) → IsCell F c o x.column → IsEdge F (cell_edge F (Write x.value) x.column o c)
+    pub store_edge : (x : StoreInfo) (c o : ℕ) → Contains F.stores.items x → Holds F (in_point x.base o) → IsCell F c o x.column
+        → IsEdge F (cell_edge F (Write x.value) x.column o c)
     store_edge x c o is base cell =
         let p = All-contains (λ x. IsPoint F x.base × IfSome x.column (IsCol F) × IsPoint F x.value) F.stores.items x R.stores is in
         record {
@@ -73,10 +76,12 @@ module _ (F : Facts) where
 
     module _ (call : CallInfo) (o : ℕ) (body : BodyInfo) (runs : Runs F call o body) (receiver : Holds F (in_point call.receiver o)) where
       body_is : IsCol F body.column × IsPoint F body.this × All (λ p. IfSome p (IsPoint F)) body.params.items × IfSome body.result (IsPoint F)
-      body_is = All-contains (λ x. IsCol F x.column × IsPoint F x.this × All (λ p. IfSome p (IsPoint F)) x.params.items × IfSome x.result (IsPoint F)) F.bodies.items body R.bodies runs.listed
+      body_is = All-contains (λ x. IsCol F x.column × IsPoint F x.this × All (λ p. IfSome p (IsPoint F)) x.params.items × IfSome x.result (IsPoint F))
+          F.bodies.items body R.bodies runs.listed
 
       call_is : IsPoint F call.receiver × All (λ p. IfSome p (IsPoint F)) call.args.items × IfSome call.result (IsPoint F)
-      call_is = All-contains (λ x. IsPoint F x.receiver × All (λ p. IfSome p (IsPoint F)) x.args.items × IfSome x.result (IsPoint F)) F.calls.items call R.calls runs.called
+      call_is = All-contains (λ x. IsPoint F x.receiver × All (λ p. IfSome p (IsPoint F)) x.args.items × IfSome x.result (IsPoint F)) F.calls.items
+          call R.calls runs.called
 
       pub this_told : o < length F.sites.items → IsTold F (record { node = body.this; site = o })
       this_told lt =
@@ -85,7 +90,8 @@ module _ (F : Facts) where
 
       pub argument_edge : (k p q : ℕ) → point_at call.args.items k ≡ Some p → point_at body.params.items k ≡ Some q → IsEdge F (between p q)
       argument_edge k p q a b =
-          point_edge p q None (points_of F call.args.items call_is.1 k p a) (points_of F body.params.items body_is.2 k q b) (λ s t h. argument_holds F call o body runs receiver k p q s a b h)
+          point_edge p q None (points_of F call.args.items call_is.1 k p a) (points_of F body.params.items body_is.2 k q b)
+          (λ s t h. argument_holds F call o body runs receiver k p q s a b h)
 
       pub result_edge : (p q : ℕ) → body.result ≡ Some p → call.result ≡ Some q → IsEdge F (between p q)
       result_edge p q a b =

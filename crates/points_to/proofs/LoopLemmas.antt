@@ -12,7 +12,8 @@ use Rattle.points_to.specs.Work.{IsMore}
 use Rattle.points_to.specs.declared.found.Found.{Found}
 
 -- a loop over a list, one element on, where what held still holds
-pub within_more : {X : Type 0} (P Q : X → Type 0) (xs : List X) (k : ℕ) (d : X) → k < length xs → ((x : X) → P x → Q x) → AllWithin P xs 0 k → Q (get_or xs k d) → AllWithin Q xs 0 (k + 1)
+pub within_more : {X : Type 0} (P Q : X → Type 0) (xs : List X) (k : ℕ) (d : X) → k < length xs → ((x : X) → P x → Q x) → AllWithin P xs 0 k
+    → Q (get_or xs k d) → AllWithin Q xs 0 (k + 1)
 within_more P Q xs k d lt f before here =
     AllWithin-more Q xs 0 k (λ i e low below. f (get_or xs i e) (before i e low below)) (λ e. subst Q (get_or_default xs k d e lt) here)
 
@@ -45,11 +46,13 @@ module _ (set : List Bool) (w at : ℕ) (len : length set ≡ w) where
   next_below None x = tt
   next_below (Some s) x = omega (arith, bit-below set s x.holds, len)
 
-  pub next_holds : (P : ℕ → Type 0) → ((s : ℕ) → bit set s ≡ true → P s) → (found : Option ℕ) → MatchOption found (IsNoneFrom (bit set) at (length set)) (IsLeastFrom (bit set) at) → IfSome found P
+  pub next_holds : (P : ℕ → Type 0) → ((s : ℕ) → bit set s ≡ true → P s) → (found : Option ℕ)
+      → MatchOption found (IsNoneFrom (bit set) at (length set)) (IsLeastFrom (bit set) at) → IfSome found P
   next_holds P f None x = tt
   next_holds P f (Some s) x = f s x.holds
 
-  pub next_least : (found : Option ℕ) → MatchOption found (IsNoneFrom (bit set) at (length set)) (IsLeastFrom (bit set) at) → MatchOption found (IsNoneFrom (bit set) at w) (λ s. IsNoneFrom (bit set) at s)
+  pub next_least : (found : Option ℕ) → MatchOption found (IsNoneFrom (bit set) at (length set)) (IsLeastFrom (bit set) at)
+      → MatchOption found (IsNoneFrom (bit set) at w) (λ s. IsNoneFrom (bit set) at s)
   next_least None x = λ k low lt. x k low (omega (arith, lt, len))
   next_least (Some s) x = x.least
 

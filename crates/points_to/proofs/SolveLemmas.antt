@@ -30,20 +30,28 @@ IsSeen F sets (in_cell c s) = (c < length F.cells.items) × (bit (row sets (leng
 
 module _ (F : Facts) (R : InRange F) (index : Index) (is : IsIndex F index) (sets : List (List Bool)) (closed : AreClosed F index sets) where
   -- the call of a body for an object of the site o
-  run : (call : CallInfo) (o : ℕ) (body : BodyInfo) → Runs F call o body → IsSeen F sets (in_point call.receiver o) → IsRun (IsEdgeClosed F sets) (IsShown sets) call o body
+  run : (call : CallInfo) (o : ℕ) (body : BodyInfo) → Runs F call o body → IsSeen F sets (in_point call.receiver o)
+      → IsRun (IsEdgeClosed F sets) (IsShown sets) call o body
   run call o body runs h =
       let at = runs.called in
       closed.points call.receiver h.0 o h.1 (Call at.0) (is.calls at.0 at.1 call (at.1, at.2)) call (at.1, at.2) refl body runs
 
   this_below : (body : BodyInfo) → Contains F.bodies.items body → body.this < length F.points.items
   this_below body c =
-      (All-contains (λ x. IsCol F x.column × IsPoint F x.this × All (λ p. IfSome p (IsPoint F)) x.params.items × IfSome x.result (IsPoint F)) F.bodies.items body R.bodies c).1
+      (All-contains (λ x. IsCol F x.column × IsPoint F x.this × All (λ p. IfSome p (IsPoint F)) x.params.items × IfSome x.result (IsPoint F))
+      F.bodies.items body R.bodies c).1
 
   closed_under : (ps : List Fact) (f : Fact) → Inclusion F ps f → AllByRecursion (IsSeen F sets) ps → IsSeen F sets f
-  closed_under ps f (by_new x c) h =
-      ((All-contains (λ x. IsPoint F x.point × IsSite F x.site) F.news.items x R.news c).0, All-contains (IsNewAsked (IsShown sets)) F.news.items x closed.fixed.news c)
-  closed_under ps f (by_flow x s c) h =
-      ((All-contains (λ x. IsPoint F x.from × IsPoint F x.to) F.flows.items x R.flows c).1, All-contains (IsFlowAsked (IsEdgeClosed F sets)) F.flows.items x closed.fixed.flows c s tt h.0.1)
+  closed_under ps f (by_new x c) h = (
+    (All-contains (λ x. IsPoint F x.point × IsSite F x.site) F.news.items x R.news c).0,
+    All-contains (IsNewAsked (IsShown sets)) F.news.items x
+        closed.fixed.news c,
+  )
+  closed_under ps f (by_flow x s c) h = (
+    (All-contains (λ x. IsPoint F x.from × IsPoint F x.to) F.flows.items x R.flows c).1,
+    All-contains (IsFlowAsked (IsEdgeClosed F sets))
+        F.flows.items x closed.fixed.flows c s tt h.0.1,
+  )
   closed_under ps f (by_load x c o s at cell) h = (
     (All-contains (λ x. IsPoint F x.base × IfSome x.column (IsCol F) × IsPoint F x.into) F.loads.items x R.loads at).2,
     closed.points x.base h.0.0 o h.0.1 (Load at.0) (is.loads at.0 at.1 x (at.1, at.2)) x (at.1, at.2) refl c cell s tt h.1.0.1,
@@ -55,15 +63,20 @@ module _ (F : Facts) (R : InRange F) (index : Index) (is : IsIndex F index) (set
   closed_under ps f (by_this call o body runs) h = (this_below body runs.listed, (run call o body runs h.0).this)
   closed_under ps f (by_argument call o body k from to s runs a b) h = (
     points_of F body.params.items
-        (All-contains (λ x. IsCol F x.column × IsPoint F x.this × All (λ p. IfSome p (IsPoint F)) x.params.items × IfSome x.result (IsPoint F)) F.bodies.items body R.bodies runs.listed).2 k to b,
+        (All-contains (λ x. IsCol F x.column × IsPoint F x.this × All (λ p. IfSome p (IsPoint F)) x.params.items × IfSome x.result (IsPoint F))
+        F.bodies.items body R.bodies runs.listed).2 k to b,
     (run call o body runs h.0).arguments k (point_below call.args.items k from a) from to a b s tt h.1.0.1,
   )
   closed_under ps f (by_result call o body from to s runs a b) h = (
-    subst (λ r. IfSome r (IsPoint F)) b (All-contains (λ x. IsPoint F x.receiver × All (λ p. IfSome p (IsPoint F)) x.args.items × IfSome x.result (IsPoint F)) F.calls.items call R.calls runs.called).2,
+    subst (λ r. IfSome r (IsPoint F)) b (All-contains (λ x. IsPoint F x.receiver × All (λ p. IfSome p (IsPoint F)) x.args.items
+        × IfSome x.result (IsPoint F)) F.calls.items call R.calls runs.called).2,
     (run call o body runs h.0).result from to a b s tt h.1.0.1,
   )
-  closed_under ps f (by_cast x s c b) h =
-      ((All-contains (λ x. IsPoint F x.from × IsPoint F x.into × IsClass F x.class) F.casts.items x R.casts c).1, All-contains (IsCastAsked (IsEdgeClosed F sets)) F.casts.items x closed.fixed.casts c s b h.0.1)
+  closed_under ps f (by_cast x s c b) h = (
+    (All-contains (λ x. IsPoint F x.from × IsPoint F x.into × IsClass F x.class) F.casts.items x R.casts c).1,
+    All-contains
+        (IsCastAsked (IsEdgeClosed F sets)) F.casts.items x closed.fixed.casts c s b h.0.1,
+  )
 
   complete : (f : Fact) → Holds F f → IsSeen F sets f
   complete = derivable_least (Inclusion F) (IsSeen F sets) closed_under
@@ -72,7 +85,8 @@ module _ (F : Facts) (R : InRange F) (index : Index) (is : IsIndex F index) (set
   solved sound = record { sound = sound; points = λ p s. complete (in_point p s); cells = λ c s. complete (in_cell c s) }
 
 -- the sets of the points and those of the cells
-module _ (F : Facts) (sets points cells : List (List Bool)) (a : AreSolved F sets) (first : points ≡ take (length F.points.items) sets) (rest : cells ≡ drop (length F.points.items) sets) where
+module _ (F : Facts) (sets points cells : List (List Bool)) (a : AreSolved F sets) (first : points ≡ take (length F.points.items) sets)
+    (rest : cells ≡ drop (length F.points.items) sets) where
   point_row : (p : ℕ) → p < length F.points.items → row points p ≡ row sets p
   point_row p lt = ap (λ xs. row xs p) first ∙ get_or-take (length F.points.items) sets p [] lt
 
@@ -91,7 +105,8 @@ module _ (F : Facts) (sets points cells : List (List Bool)) (a : AreSolved F set
   pub points_are : ArePoints F points
   points_are = record {
     len = count;
-    widths = λ p lt. let below : p < length F.points.items = omega (arith, lt, count) in rw (point_row p below) (a.sound.widths p (omega (arith, below, a.sound.len)));
+    widths = λ p lt. let below : p < length F.points.items = omega (arith, lt, count) in rw (point_row p below)
+        (a.sound.widths p (omega (arith, below, a.sound.len)));
     sound = λ p s h. let below = in_points p s h in node_point F p s below (a.sound.sound p s (rw (point_row p below) at h));
   }
 
@@ -108,12 +123,15 @@ module _ (F : Facts) (sets points cells : List (List Bool)) (a : AreSolved F set
   pub cells_all : (c s : ℕ) → Holds F (in_cell c s) → bit (row cells c) s ≡ true
   cells_all c s h = rw (cell_row c) (a.cells c s h).1
 
-module _ (F : Facts) (t : PointsTo) (points : ArePoints F t.points.items) (cells : AreCells F t.cells.items) (all : (p s : ℕ) → Holds F (in_point p s) → bit (row t.points.items p) s ≡ true) (held : (c s : ℕ) → Holds F (in_cell c s) → bit (row t.cells.items c) s ≡ true) where
-  in_row : PointsJoined F t.points.items t.rows.items (length F.points.items) → CellsJoined F t.cells.items t.rows.items (length F.cells.items) → (r s : ℕ) → IsInRow F r s → bit (row t.rows.items r) s ≡ true
+module _ (F : Facts) (t : PointsTo) (points : ArePoints F t.points.items) (cells : AreCells F t.cells.items) (all : (p s : ℕ) → Holds F (in_point p s)
+    → bit (row t.points.items p) s ≡ true) (held : (c s : ℕ) → Holds F (in_cell c s) → bit (row t.cells.items c) s ≡ true) where
+  in_row : PointsJoined F t.points.items t.rows.items (length F.points.items) → CellsJoined F t.cells.items t.rows.items (length F.cells.items)
+      → (r s : ℕ) → IsInRow F r s → bit (row t.rows.items r) s ≡ true
   in_row joined more r s (by_point p i lt h) = joined p lt i (all p i h)
   in_row joined more r s (by_cell c i lt h) = more c lt i (held c i h)
 
-  pub are_sets : AreUnions F t.rows.items → PointsJoined F t.points.items t.rows.items (length F.points.items) → CellsJoined F t.cells.items t.rows.items (length F.cells.items) → AreSets F t
+  pub are_sets : AreUnions F t.rows.items → PointsJoined F t.points.items t.rows.items (length F.points.items)
+      → CellsJoined F t.cells.items t.rows.items (length F.cells.items) → AreSets F t
   are_sets unions joined more = record {
     point_count = points.len;
     cell_count = cells.len;

@@ -83,7 +83,8 @@ module _ (F : Facts) (E : Edge → Type 0) (S : Told → Type 0) where
 
   abbrev pub IsBegun : ℕ → ℕ → Begin → Type 0
   IsBegun p o (Load i) = (x : LoadInfo) → IsAt F.loads.items i x → x.base ≡ p → (c : ℕ) → IsCell F c o x.column → E (cell_edge F (Read x.into) x.column o c)
-  IsBegun p o (Store i) = (x : StoreInfo) → IsAt F.stores.items i x → x.base ≡ p → (c : ℕ) → IsCell F c o x.column → E (cell_edge F (Write x.value) x.column o c)
+  IsBegun p o (Store i) = (x : StoreInfo) → IsAt F.stores.items i x → x.base ≡ p → (c : ℕ) → IsCell F c o x.column
+      → E (cell_edge F (Write x.value) x.column o c)
   IsBegun p o (Call i) = (x : CallInfo) → IsAt F.calls.items i x → x.receiver ≡ p → AreRun x o
 
 -- all of them

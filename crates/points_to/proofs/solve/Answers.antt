@@ -22,9 +22,11 @@ returns c =
 pub unions-requires-clause-points : goal.unions-requires-clause-points
 unions-requires-clause-points c =
     let e = c.in_ok-cells.ensures in
-    rw c.deref.ensures.value (points_are c.args.facts.now c.in_ok-points.points.items _ c.in_ok-cells.cells.items c.in_ok-points.ensures (rw c.point_count.ensures at e.items) (rw c.point_count.ensures at e.tail))
+    rw c.deref.ensures.value (points_are c.args.facts.now c.in_ok-points.points.items _ c.in_ok-cells.cells.items c.in_ok-points.ensures
+    (rw c.point_count.ensures at e.items) (rw c.point_count.ensures at e.tail))
 
 pub unions-requires-clause-cells : goal.unions-requires-clause-cells
 unions-requires-clause-cells c =
     let e = c.in_ok-cells.ensures in
-    rw c.deref-2.ensures.value (cells_are c.args.facts.now c.in_ok-points.points.items _ c.in_ok-cells.cells.items c.in_ok-points.ensures (rw c.point_count.ensures at e.items) (rw c.point_count.ensures at e.tail))
+    rw c.deref-2.ensures.value (cells_are c.args.facts.now c.in_ok-points.points.items _ c.in_ok-cells.cells.items c.in_ok-points.ensures
+    (rw c.point_count.ensures at e.items) (rw c.point_count.ensures at e.tail))

@@ -45,7 +45,8 @@ returns c =
       bits = λ k p.
           ⊎_elim
           (λ low. c.loop-p.invariant.done k p (omega (arith, low, is)) ∙ ap (λ r. bit r k) (sym (get_or-map (row T) xs p 0 [] low)))
-          (λ high. c.loop-p.invariant.rest k p (omega (arith, high, is)) ∙ ap (λ r. bit r k) (sym (get_or_past (listed_rows T xs) p [] (omega (arith, high, long)))))
+          (λ high. c.loop-p.invariant.rest k p (omega (arith, high, is))
+          ∙ ap (λ r. bit r k) (sym (get_or_past (listed_rows T xs) p [] (omega (arith, high, long)))))
           (cases_lt p (length xs));
       all = record { len = c.in_ok-all.ensures.width ∙ sym long; bits = λ p lt. c.in_ok-all.ensures.full p (omega (arith, lt, long)) };
     }

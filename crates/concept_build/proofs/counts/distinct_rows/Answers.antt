@@ -26,4 +26,5 @@ pub returns-clause-few : goal.returns-clause-few
 returns-clause-few c = omega (arith, c.loop-r.invariant.few)
 
 pub returns-clause-examples : goal.returns-clause-examples
-returns-clause-examples c = AreExamples-listed c.args.table.now c.loop-r.r c.loop-r.examples.items (lists_of c.loop-r.known.keys) (omega arith) c.loop-r.invariant
+returns-clause-examples c = AreExamples-listed c.args.table.now c.loop-r.r c.loop-r.examples.items (lists_of c.loop-r.known.keys) (omega arith)
+    c.loop-r.invariant

@@ -30,5 +30,6 @@ returns c =
     let same = same_number T w xs c.requires.all.concepts in
     let least = rw c.deref.ensures.value at c.in_ok-above.ensures in
     ListsBelow-same (λ j. Contains numbers j × IsLeast E numbers j) (IsUpperCover E k) (length xs) c.in_ok-above.above.items
-    (λ j lt. cover_is_least E k (length T) numbers (λ i ilt. len i (omega (arith, ilt, long))) (λ i m ilt mlt. same i m (omega (arith, ilt, long)) (omega (arith, mlt, long))) c.in_ok-numbers.ensures j (omega (arith, lt, long)))
+    (λ j lt. cover_is_least E k (length T) numbers (λ i ilt. len i (omega (arith, ilt, long))) (λ i m ilt mlt. same i m (omega (arith, ilt, long))
+    (omega (arith, mlt, long))) c.in_ok-numbers.ensures j (omega (arith, lt, long)))
     least

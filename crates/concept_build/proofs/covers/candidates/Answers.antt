@@ -33,11 +33,13 @@ loop-q-preserved c =
       len = omega (arith, length_push xs x, c.loop-q.invariant.len);
       closures = λ i d lt.
           ⊎_elim
-          (λ less. subst (IsClosure E c.args.k (get_or near i d)) (sym (get_or_append_left xs (x ∷ []) d i (omega (arith, less, c.loop-q.invariant.len)))) (c.loop-q.invariant.closures i d less))
+          (λ less. subst (IsClosure E c.args.k (get_or near i d))
+          (sym (get_or_append_left xs (x ∷ []) d i (omega (arith, less, c.loop-q.invariant.len)))) (c.loop-q.invariant.closures i d less))
           (λ high.
           let e : n ≡ i = omega (arith, high, lt) in
           let at : get_or near n 0 ≡ get_or near i d = get_or_default near n 0 d c.loop-q-test.true ∙ ap (λ k. get_or near k d) e in
-          subst (IsClosure E c.args.k (get_or near i d)) (sym (get_or_push xs x d i (c.loop-q.invariant.len ∙ e))) (subst (λ q. IsClosure E c.args.k q x) at c.in_ok-at.ensures))
+          subst (IsClosure E c.args.k (get_or near i d)) (sym (get_or_push xs x d i (c.loop-q.invariant.len ∙ e)))
+          (subst (λ q. IsClosure E c.args.k q x) at c.in_ok-at.ensures))
           (cases_lt i n);
     })
 
@@ -47,4 +49,5 @@ returns c =
     let xs = c.args.items.now in
     let near = c.deref-q-items.result.now in
     let o = rw (c.item_at.ensures.item nothing, ← c.deref-q-items.ensures.value) at c.in_ok-near.ensures in
-    AreCandidates-all (extents_of xs) c.args.k T c.args.width xs c.loop-q.q-index near c.loop-q.numbers.items refl c.requires.all.concepts c.requires.k o (omega arith) c.loop-q.invariant.len c.loop-q.invariant.closures
+    AreCandidates-all (extents_of xs) c.args.k T c.args.width xs c.loop-q.q-index near c.loop-q.numbers.items refl c.requires.all.concepts
+    c.requires.k o (omega arith) c.loop-q.invariant.len c.loop-q.invariant.closures

@@ -18,5 +18,6 @@ loop-i-preserved c =
     (λ before. c.loop-i.invariant k d before)
     (λ last.
     let is : at ≡ k = omega (arith, last, lt) in
-    subst (λ n. IsWithin (row E (get_or numbers n d)) (row E j) → ⊥) is (λ h. false≢true (c.if-is_within.ensures.1 (subst (λ m. IsWithin (row E m) (row E j)) (get_or_default numbers at d 0 below) h))))
+    subst (λ n. IsWithin (row E (get_or numbers n d)) (row E j)
+    → ⊥) is (λ h. false≢true (c.if-is_within.ensures.1 (subst (λ m. IsWithin (row E m) (row E j)) (get_or_default numbers at d 0 below) h))))
     (cases_lt k at)

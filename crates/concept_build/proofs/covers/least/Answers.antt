@@ -21,7 +21,8 @@ loop-j-preserved c =
     let same = λ (k d : _) (e : n ≡ k). get_or_default numbers n 0 d c.loop-j-test.true ∙ ap (λ i. get_or numbers i d) e in
     elim c.if-is_least.branch [
       | then-is_least+in_ok-push w ↦ rw (w.above-is, w.in_ok-push.ensures.items) (record {
-        sound = All-push (λ i. Contains numbers i × IsLeast E numbers i) old j c.loop-j.invariant.sound (Contains-get_or numbers n 0 c.loop-j-test.true, w.if-is_least.ensures.0 refl);
+        sound = All-push (λ i. Contains numbers i × IsLeast E numbers i) old j c.loop-j.invariant.sound
+            (Contains-get_or numbers n 0 c.loop-j-test.true, w.if-is_least.ensures.0 refl);
         whole = λ k d lt h.
             ⊎_elim
             (λ less. Contains-append_left old (j ∷ []) (get_or numbers k d) (c.loop-j.invariant.whole k d less h))
@@ -49,12 +50,14 @@ returns c =
     rw e (record {
       each = λ k. (
         λ h.
-            let o = All-contains (λ i. Contains numbers i × IsLeast E numbers i) found k c.loop-j.invariant.sound (Contains-permutation sorted found k (IsPermutation-sym found sorted p) (Contains-from_dedup eqb sorted k h)) in
+            let o = All-contains (λ i. Contains numbers i × IsLeast E numbers i) found k c.loop-j.invariant.sound
+            (Contains-permutation sorted found k (IsPermutation-sym found sorted p) (Contains-from_dedup eqb sorted k h)) in
             (All-contains (λ i. i < length c.args.items.now) numbers k c.requires.numbers o.0, o),
         λ h.
             let at = h.1.0 in
             let least = subst (IsLeast E numbers) (sym at.2) h.1.1 in
-            Contains-dedup_nat sorted k (Contains-permutation found sorted k p (subst (Contains found) at.2 (c.loop-j.invariant.whole at.0 k (omega (arith, at.1, c.loop-j-test.false)) least))),
+            Contains-dedup_nat sorted k (Contains-permutation found sorted k p
+            (subst (Contains found) at.2 (c.loop-j.invariant.whole at.0 k (omega (arith, at.1, c.loop-j-test.false)) least))),
       );
       rising = IsStrictlyIncreasing-dedup sorted c.in_ok-sort.ensures.sorted;
     })

@@ -6,5 +6,6 @@ use Rattle.concept_build.proofs.covers.least.Given as goal
 abbrev pub invariant-loop-j : goal.invariant-loop-j
 invariant-loop-j l = record {
   sound : All (λ j. Contains l.numbers j × IsLeast (extents_of l.items) l.numbers j) l.above.items;
-  whole : (k d : ℕ) → k < l.j-index → IsLeast (extents_of l.items) l.numbers (slice_index_or l.numbers k d) → Contains l.above.items (slice_index_or l.numbers k d);
+  whole : (k d : ℕ) → k < l.j-index → IsLeast (extents_of l.items) l.numbers (slice_index_or l.numbers k d)
+      → Contains l.above.items (slice_index_or l.numbers k d);
 }

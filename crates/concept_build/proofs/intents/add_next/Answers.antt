@@ -71,5 +71,6 @@ returns c =
     record {
       found = c.loop-q.invariant.found;
       grows = c.loop-q.invariant.grows;
-      next = λ small. AreNext-near T new k c.loop-q.q-index near (subst (λ (x : Pair). AreNear T x.0 x.1 near) same are) (omega arith) (λ i d lt. subst (λ (x : Pair). HasMeet new x.1 (row T (get_or near i d))) same (c.loop-q.invariant.has i d lt));
+      next = λ small. AreNext-near T new k c.loop-q.q-index near (subst (λ (x : Pair). AreNear T x.0 x.1 near) same are) (omega arith)
+          (λ i d lt. subst (λ (x : Pair). HasMeet new x.1 (row T (get_or near i d))) same (c.loop-q.invariant.has i d lt));
     }

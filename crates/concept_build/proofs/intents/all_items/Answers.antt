@@ -25,7 +25,8 @@ returns-then-len-bound c =
         refl,
         record {
           list = ys;
-          concepts = AreConcepts-sorted c.args.table.now c.args.width xs ys c.in_ok-sort_items.ensures.same c.in_ok-items.ensures.each c.in_ok-sort_items.ensures.ordered;
+          concepts = AreConcepts-sorted c.args.table.now c.args.width xs ys c.in_ok-sort_items.ensures.same c.in_ok-items.ensures.each
+              c.in_ok-sort_items.ensures.ordered;
           more = omega (arith, c.if-len-bound.true, c.len.ensures);
         },
       );

@@ -12,7 +12,8 @@ use Rattle.concept_build.proofs.intents.found_items.Goals.{then-loop-k-test+else
 
 pub places_of-requires : goal.places_of-requires
 places_of-requires c =
-    rw c.deref.ensures.value (λ i j d ij lt. absurd (omega (arith, ij, lt, length-map c.in_ok-items.items.items (λ (x : Pair). rising x.1), c.in_ok-items.ensures.one)))
+    rw c.deref.ensures.value (λ i j d ij lt. absurd
+    (omega (arith, ij, lt, length-map c.in_ok-items.items.items (λ (x : Pair). rising x.1), c.in_ok-items.ensures.one)))
 
 pub loop-k-init : goal.loop-k-init
 loop-k-init c = record {

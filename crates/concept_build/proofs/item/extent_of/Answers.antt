@@ -11,7 +11,8 @@ loop-c-preserved c =
     let n = c.loop-c.c-index in
     let old = c.loop-c.extent in
     let S = row sets (get_or xs n 0) in
-    let is : (i : _) → bit c.and_into.new.self i ≡ _ = λ i. c.and_into.ensures.meet i ∙ ap (λ s. bit old i && bit s i) (c.row_at.ensures ∙ ap (λ l. row l (get_or xs n 0)) c.deref.ensures.value) in
+    let is : (i : _) → bit c.and_into.new.self i ≡ _ = λ i. c.and_into.ensures.meet i ∙ ap (λ s. bit old i && bit s i) (c.row_at.ensures
+    ∙ ap (λ l. row l (get_or xs n 0)) c.deref.ensures.value) in
     record {
       len = c.and_into.ensures.width ∙ c.loop-c.invariant.len;
       bits = λ r. (

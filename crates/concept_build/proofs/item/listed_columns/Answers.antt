@@ -30,4 +30,5 @@ returns c M m =
     let B = c.args.item.now.1 in
     let xs = c.columns-c-items.result.now in
     let test = bit c.args.with.now in
-    c.loop-c.invariant ∙ (ap (filter test) (take_all c.loop-c.c-index xs (omega arith)) ∙ (ap (filter test) c.columns-c-items.ensures ∙ filter-rising_from 0 test B M m.len (λ i. m.bits i ∙ ap (λ n. bit B i && test n) (sym (zero-add i)))))
+    c.loop-c.invariant ∙ (ap (filter test) (take_all c.loop-c.c-index xs (omega arith)) ∙ (ap (filter test) c.columns-c-items.ensures
+    ∙ filter-rising_from 0 test B M m.len (λ i. m.bits i ∙ ap (λ n. bit B i && test n) (sym (zero-add i)))))

@@ -10,4 +10,6 @@ use Rattle.concept_build.proofs.item.sort_items.Goals as goal
 pub returns-clause-ordered : goal.returns-clause-ordered
 returns-clause-ordered c =
     let o = c.in_ok-sort_by.ensures in
-    ordered_from_sort c.args.items.now.items c.sort_by.new.self.items c.requires.differ o.permutation (o.sorted (λ a b. is_lt (concept_cmp a b)) (ranks_by concept_cmp-total (λ x. x)) (always_returns_same _ (λ a r. is_lt r ≡ is_lt (concept_cmp a.0.now a.1.0.now)) _ (λ a r f k. search rules)))
+    ordered_from_sort c.args.items.now.items c.sort_by.new.self.items c.requires.differ o.permutation (o.sorted (λ a b. is_lt (concept_cmp a b))
+    (ranks_by concept_cmp-total (λ x. x)) (always_returns_same _ (λ a r. is_lt r ≡ is_lt (concept_cmp a.0.now a.1.0.now)) _
+    (λ a r f k. search rules)))

@@ -42,7 +42,8 @@ loop-c-preserved c =
             (λ less. c.loop-c.invariant.missed k d less h)
             (λ high.
             let e : i ≡ k = omega (arith, high, klt) in
-            absurd (true≢false (sym w.if-not-has.false ∙ (c.has.ensures ∙ (ap (bit R) (get_or_default xs i 0 d c.loop-c-test.true ∙ ap (λ n. get_or xs n d) e) ∙ h)))))
+            absurd (true≢false (sym w.if-not-has.false
+            ∙ (c.has.ensures ∙ (ap (bit R) (get_or_default xs i 0 d c.loop-c-test.true ∙ ap (λ n. get_or xs n d) e) ∙ h)))))
             (cases_lt k i);
         below = c.loop-c.invariant.below;
       })
@@ -54,4 +55,5 @@ returns-clause-missed c k b h =
     let B = c.args.item.now.1 in
     let p : Contains (rising B) k = subst (Contains (rising B)) (zero-add k) (rising_from-has 0 B k b) in
     let o = subst (λ l. Contains l k) (sym c.columns-c-items.ensures) p in
-    subst (Contains c.loop-c.missed.items) o.2 (c.loop-c.invariant.missed o.0 k (omega (arith, o.1, c.loop-c-test.false)) (subst (λ n. bit c.args.row.now n ≡ false) (sym o.2) h))
+    subst (Contains c.loop-c.missed.items) o.2 (c.loop-c.invariant.missed o.0 k (omega (arith, o.1, c.loop-c-test.false))
+    (subst (λ n. bit c.args.row.now n ≡ false) (sym o.2) h))

@@ -18,7 +18,8 @@ loop-p-init c =
     record {
       len = ap length c.in_ok-left.ensures ∙ (shares.all.len ∙ long);
       at = omega arith;
-      found = rw (c.new-near.ensures.items, c.new-wide.ensures.items, c.in_ok-left.ensures) (SoFar-empty T c.args.item.now.0 c.args.item.now.1 ex all (subst (λ n. IsFull n all) long shares.all));
+      found = rw (c.new-near.ensures.items, c.new-wide.ensures.items, c.in_ok-left.ensures) (SoFar-empty T c.args.item.now.0 c.args.item.now.1 ex all
+          (subst (λ n. IsFull n all) long shares.all));
     }
 
 pub index-q-requires : goal.index-q-requires
@@ -28,19 +29,30 @@ pub is_news-requires : goal.is_news-requires
 is_news-requires c =
     let T = c.args.table.now in
     let found = c.loop-p.invariant.found in
-    let lt : c.in-Some.p < length c.args.counts.now.examples.items = omega (arith, bit-below c.loop-p.left c.in-Some.p c.in-Some.ensures.holds, c.loop-p.invariant.len) in
-    let is : c.index-q.result.now ≡ get_or c.args.counts.now.examples.items c.in-Some.p 0 = get_or_read c.args.counts.now.examples.items _ _ lt c.index-q.ensures 0 in
+    let lt : c.in-Some.p < length c.args.counts.now.examples.items = omega (
+      arith,
+      bit-below c.loop-p.left c.in-Some.p c.in-Some.ensures.holds,
+      c.loop-p.invariant.len,
+    ) in
+    let is : c.index-q.result.now ≡ get_or c.args.counts.now.examples.items c.in-Some.p 0 = get_or_read c.args.counts.now.examples.items _ _ lt
+    c.index-q.ensures 0 in
     record {
       widths = c.requires.widths;
       rows = c.requires.extent.len;
-      wide = rw c.deref.ensures.value (λ k d lt. All-contains (λ m. m < length T) c.loop-p.near.items (get_or c.loop-p.wide.items k d) found.below (found.known (get_or c.loop-p.wide.items k d) (Contains-get_or c.loop-p.wide.items k d lt)));
+      wide = rw c.deref.ensures.value (λ k d lt. All-contains (λ m. m < length T) c.loop-p.near.items (get_or c.loop-p.wide.items k d) found.below
+          (found.known (get_or c.loop-p.wide.items k d) (Contains-get_or c.loop-p.wide.items k d lt)));
       q = rw is (c.requires.counts.examples.below c.in-Some.p 0 lt);
     }
 
 pub pass_over-requires : goal.pass_over-requires
 pass_over-requires c =
-    let lt : c.in-Some.p < length c.args.counts.now.examples.items = omega (arith, bit-below c.loop-p.left c.in-Some.p c.in-Some.ensures.holds, c.loop-p.invariant.len) in
-    let is : c.index-q.result.now ≡ get_or c.args.counts.now.examples.items c.in-Some.p 0 = get_or_read c.args.counts.now.examples.items _ _ lt c.index-q.ensures 0 in
+    let lt : c.in-Some.p < length c.args.counts.now.examples.items = omega (
+      arith,
+      bit-below c.loop-p.left c.in-Some.p c.in-Some.ensures.holds,
+      c.loop-p.invariant.len,
+    ) in
+    let is : c.index-q.result.now ≡ get_or c.args.counts.now.examples.items c.in-Some.p 0 = get_or_read c.args.counts.now.examples.items _ _ lt
+    c.index-q.ensures 0 in
     record {
       widths = c.requires.widths;
       counts = c.requires.counts;
@@ -72,7 +84,8 @@ loop-p-preserved c =
           rw (w.near-is, w.in_ok-push.ensures.items, is, w.wide-is, w.left-is) (record {
             len = o.len ∙ c.loop-p.invariant.len;
             at = omega (arith, lt);
-            found = SoFar-push T A B ex n p near wide left s none w.pass_over.new.wide.items w.pass_over.new.left (c.requires.counts.examples.below p 0 lt) out known passed;
+            found = SoFar-push T A B ex n p near wide left s none w.pass_over.new.wide.items w.pass_over.new.left
+                (c.requires.counts.examples.below p 0 lt) out known passed;
           })
       | else-branch w ↦
           let known = rw (w.if-branch.false, c.deref.ensures.value, is) at c.in_ok-is_news.ensures in
@@ -86,8 +99,16 @@ loop-p-preserved c =
 pub overflow_add-at : goal.overflow_add-at
 overflow_add-at c =
     let ex = c.args.counts.now.examples.items in
-    omega (arith, bit-below c.loop-p.left c.in-Some.p c.in-Some.ensures.holds, c.loop-p.invariant.len, length-map ex (row c.args.table.now), c.requires.counts.shares.small)
+    omega (
+      arith,
+      bit-below c.loop-p.left c.in-Some.p c.in-Some.ensures.holds,
+      c.loop-p.invariant.len,
+      length-map ex (row c.args.table.now),
+      c.requires.counts.shares.small,
+    )
 
 pub returns : goal.returns
 returns c =
-    AreNear-all c.args.table.now c.args.item.now.0 c.args.item.now.1 c.args.counts.now.examples.items c.loop-p.at c.loop-p.near.items c.loop-p.wide.items c.loop-p.left c.loop-p.invariant.len c.requires.counts.examples c.requires.extent c.loop-p.invariant.found c.in_default.ensures
+    AreNear-all c.args.table.now c.args.item.now.0 c.args.item.now.1 c.args.counts.now.examples.items c.loop-p.at c.loop-p.near.items
+    c.loop-p.wide.items c.loop-p.left c.loop-p.invariant.len c.requires.counts.examples c.requires.extent c.loop-p.invariant.found
+    c.in_default.ensures

@@ -27,8 +27,10 @@ keep_some-requires c =
     let shares = c.requires.counts.shares in
     let ex = c.args.counts.now.examples.items in
     record {
-      listed = rw (c.deref.ensures.value, c.deref-2.ensures.value, shares.len) (subst (λ n. All (λ m. m < n) c.in_ok-missed.missed.items) (ap length c.row_at.ensures ∙ c.requires.widths c.args.q c.requires.q) c.in_ok-missed.ensures.below);
-      widths = rw c.deref.ensures.value (subst (λ n. HasWidth n c.args.counts.now.shares.sets.items) (length-map ex (row T) ∙ sym c.requires.left) shares.widths);
+      listed = rw (c.deref.ensures.value, c.deref-2.ensures.value, shares.len) (subst (λ n. All (λ m. m < n) c.in_ok-missed.missed.items)
+          (ap length c.row_at.ensures ∙ c.requires.widths c.args.q c.requires.q) c.in_ok-missed.ensures.below);
+      widths = rw c.deref.ensures.value (subst (λ n. HasWidth n c.args.counts.now.shares.sets.items) (length-map ex (row T)
+          ∙ sym c.requires.left) shares.widths);
     }
 
 pub returns-clause-passed : goal.returns-clause-passed

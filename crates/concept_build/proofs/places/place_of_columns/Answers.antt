@@ -9,4 +9,5 @@ use Rattle.concept_build.proofs.places.place_of_columns.Goals as goal
 pub returns : goal.returns
 returns c =
     let columns = c.args.columns.now in
-    IsFound-position (λ v. v.items) (λ x. pointwise (λ a b. a == b) columns x.items) columns (λ x. slice_eq-Decides Decides-eqb columns x.items _ refl) c.args.places.now.keys c.get_index_of.result c.get_index_of.ensures.index c.get_index_of.ensures.found
+    IsFound-position (λ v. v.items) (λ x. pointwise (λ a b. a == b) columns x.items) columns (λ x. slice_eq-Decides Decides-eqb columns x.items _
+    refl) c.args.places.now.keys c.get_index_of.result c.get_index_of.ensures.index c.get_index_of.ensures.found

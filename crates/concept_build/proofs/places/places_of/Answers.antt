@@ -14,8 +14,12 @@ loop-item-preserved c =
     let n = c.loop-item.item-index in
     let x = c.extend_from_slice.new.self.items in
     let long = length-map xs (λ (y : Pair). rising y.1) in
-    let is : x ≡ get_or cols n [] = c.in_ok-extend_from_slice.ensures.items ∙ (ap (λ l. l ++ c.columns.result.now) c.new-columns.ensures.items ∙ (c.columns.ensures ∙ (ap (λ (y : Pair). rising y.1) (c.item-item.is ∙ get_or_default xs n c.item-item.result nothing c.loop-item-test.true) ∙ sym (column-columns_of xs n [] c.loop-item-test.true)))) in
-    take-addition cols (lists_of c.loop-item.places.keys) (lists_of c.is_new.new.known.keys) n x c.in_ok-is_new.field-0 c.requires (omega (arith, long, c.loop-item-test.true)) c.loop-item.invariant is c.in_ok-is_new.ensures
+    let is : x ≡ get_or cols n [] = c.in_ok-extend_from_slice.ensures.items ∙ (ap (λ l. l ++ c.columns.result.now) c.new-columns.ensures.items
+    ∙ (c.columns.ensures ∙ (ap (λ (y : Pair). rising y.1) (c.item-item.is ∙ get_or_default xs n c.item-item.result nothing c.loop-item-test.true)
+    ∙ sym (column-columns_of xs n [] c.loop-item-test.true)))) in
+    take-addition cols (lists_of c.loop-item.places.keys) (lists_of c.is_new.new.known.keys) n x c.in_ok-is_new.field-0 c.requires
+    (omega (arith, long, c.loop-item-test.true)) c.loop-item.invariant is c.in_ok-is_new.ensures
 
 pub returns : goal.returns
-returns c = c.loop-item.invariant ∙ take_all c.loop-item.item-index (columns_of c.args.items.now) (omega (arith, length-map c.args.items.now (λ (y : Pair). rising y.1), c.loop-item-test.false))
+returns c = c.loop-item.invariant ∙ take_all c.loop-item.item-index (columns_of c.args.items.now)
+    (omega (arith, length-map c.args.items.now (λ (y : Pair). rising y.1), c.loop-item-test.false))

@@ -11,10 +11,15 @@ use Rattle.concept_build.proofs.stands.columns_at.Goals as goal
 use Rattle.concept_build.proofs.stands.columns_at.Goals.{then-column_stands+in_ok-push, else-column_stands}
 
 pub column_stands-requires-clause-c : goal.column_stands-requires-clause-c
-column_stands-requires-clause-c c = omega (arith, bit-below c.args.item.now.1 c.in-Some.c (rw c.intent-intent.ensures at c.in-Some.ensures.holds), c.requires.concept.intent.len)
+column_stands-requires-clause-c c =
+    omega (arith, bit-below c.args.item.now.1 c.in-Some.c (rw c.intent-intent.ensures at c.in-Some.ensures.holds), c.requires.concept.intent.len)
 
 pub overflow_add-at : goal.overflow_add-at
-overflow_add-at c = omega (arith, bit-below c.args.item.now.1 c.in-Some.c (rw c.intent-intent.ensures at c.in-Some.ensures.holds), c.requires.concept.intent.len)
+overflow_add-at c = omega (
+  arith,
+  bit-below c.args.item.now.1 c.in-Some.c (rw c.intent-intent.ensures at c.in-Some.ensures.holds),
+  c.requires.concept.intent.len,
+)
 
 pub loop-c-preserved : goal.loop-c-preserved
 loop-c-preserved c =
@@ -32,7 +37,8 @@ loop-c-preserved c =
     record {
       at = omega (arith, lt);
       listed = elim c.if-column_stands.branch [
-        | then-column_stands+in_ok-push w ↦ rw (w.columns-is, w.in_ok-push.ensures.items, map-append) (ListsBelow-push P k xs listed (w.if-column_stands.ensures.0 refl))
+        | then-column_stands+in_ok-push w ↦ rw (w.columns-is, w.in_ok-push.ensures.items, map-append)
+            (ListsBelow-push P k xs listed (w.if-column_stands.ensures.0 refl))
         | else-column_stands w ↦ rw w.columns-is (ListsBelow-skip P k xs listed (λ h. false≢true (w.if-column_stands.ensures.1 h)))
       ];
     }
@@ -43,5 +49,7 @@ returns c =
     let w = c.args.width in
     let A = c.args.item.now.0 in
     let B = c.args.item.now.1 in
-    let none : IsNoneFrom (bit B) c.loop-c.at w = subst (IsNoneFrom (bit B) c.loop-c.at) c.requires.concept.intent.len (rw c.intent-intent.ensures at c.in_default.ensures) in
-    ListsBelow-rest (ColumnStands T A) c.loop-c.at (map (λ (x : ColId). x.0) c.loop-c.columns.items) c.loop-c.invariant.listed w c.loop-c.invariant.at (none_columns T w A B c.requires.concept c.loop-c.at w (omega arith) none)
+    let none : IsNoneFrom (bit B) c.loop-c.at w = subst (IsNoneFrom (bit B) c.loop-c.at) c.requires.concept.intent.len
+    (rw c.intent-intent.ensures at c.in_default.ensures) in
+    ListsBelow-rest (ColumnStands T A) c.loop-c.at (map (λ (x : ColId). x.0) c.loop-c.columns.items) c.loop-c.invariant.listed w c.loop-c.invariant.at
+    (none_columns T w A B c.requires.concept c.loop-c.at w (omega arith) none)

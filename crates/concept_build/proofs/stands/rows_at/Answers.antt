@@ -11,10 +11,16 @@ use Rattle.concept_build.proofs.stands.rows_at.Goals as goal
 use Rattle.concept_build.proofs.stands.rows_at.Goals.{then-row_stands+in_ok-push, else-row_stands}
 
 pub row_stands-requires-clause-r : goal.row_stands-requires-clause-r
-row_stands-requires-clause-r c = omega (arith, bit-below c.args.item.now.0 c.in-Some.r (rw c.extent-extent.ensures at c.in-Some.ensures.holds), c.requires.concept.extent.len)
+row_stands-requires-clause-r c =
+    omega (arith, bit-below c.args.item.now.0 c.in-Some.r (rw c.extent-extent.ensures at c.in-Some.ensures.holds), c.requires.concept.extent.len)
 
 pub overflow_add-at : goal.overflow_add-at
-overflow_add-at c = omega (arith, bit-below c.args.item.now.0 c.in-Some.r (rw c.extent-extent.ensures at c.in-Some.ensures.holds), c.requires.concept.extent.len, c.requires.rows)
+overflow_add-at c = omega (
+  arith,
+  bit-below c.args.item.now.0 c.in-Some.r (rw c.extent-extent.ensures at c.in-Some.ensures.holds),
+  c.requires.concept.extent.len,
+  c.requires.rows,
+)
 
 pub loop-r-preserved : goal.loop-r-preserved
 loop-r-preserved c =
@@ -27,7 +33,8 @@ loop-r-preserved c =
     let r = c.in-Some.r in
     let found = rw c.extent-extent.ensures at c.in-Some.ensures in
     let lt : r < length T = omega (arith, bit-below A r found.holds, c.requires.concept.extent.len) in
-    let listed = ListsBelow-rest P n xs c.loop-r.invariant.listed r found.low (none_rows T c.args.width A B c.requires.concept n r (omega (arith, lt)) found.least) in
+    let listed = ListsBelow-rest P n xs c.loop-r.invariant.listed r found.low (none_rows T c.args.width A B c.requires.concept n r
+    (omega (arith, lt)) found.least) in
     record {
       at = omega (arith, lt);
       listed = elim c.if-row_stands.branch [
@@ -41,5 +48,7 @@ returns c =
     let T = c.args.table.now in
     let A = c.args.item.now.0 in
     let B = c.args.item.now.1 in
-    let none : IsNoneFrom (bit A) c.loop-r.at (length T) = subst (IsNoneFrom (bit A) c.loop-r.at) c.requires.concept.extent.len (rw c.extent-extent.ensures at c.in_default.ensures) in
-    ListsBelow-rest (RowStands T B) c.loop-r.at (map (λ (x : RowId). x.0) c.loop-r.rows.items) c.loop-r.invariant.listed (length T) c.loop-r.invariant.at (none_rows T c.args.width A B c.requires.concept c.loop-r.at (length T) (omega arith) none)
+    let none : IsNoneFrom (bit A) c.loop-r.at (length T) = subst (IsNoneFrom (bit A) c.loop-r.at) c.requires.concept.extent.len
+    (rw c.extent-extent.ensures at c.in_default.ensures) in
+    ListsBelow-rest (RowStands T B) c.loop-r.at (map (λ (x : RowId). x.0) c.loop-r.rows.items) c.loop-r.invariant.listed
+    (length T) c.loop-r.invariant.at (none_rows T c.args.width A B c.requires.concept c.loop-r.at (length T) (omega arith) none)

@@ -9,7 +9,8 @@ pub say-requires : goal.say-requires
 say-requires c = record { formed = c.requires.formed; numbered = c.requires.numbered }
 
 pub returns-in_err-said-clause-ok : goal.returns-in_err-said-clause-ok
-returns-in_err-said-clause-ok c = none_given _ _ (λ f. IsFactsOf (program_of no_place c.args.program.now) (program_of at_place c.args.program.now) f) c.from_residual.ensures.1
+returns-in_err-said-clause-ok c = none_given _ _ (λ f. IsFactsOf (program_of no_place c.args.program.now) (program_of at_place c.args.program.now) f)
+    c.from_residual.ensures.1
 
 pub returns-in_err-said-clause-names : goal.returns-in_err-said-clause-names
 returns-in_err-said-clause-names c = none_given _ _ (λ f. AreNamesOf (program_of at_place c.args.program.now) f) c.from_residual.ensures.1

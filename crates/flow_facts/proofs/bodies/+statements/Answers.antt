@@ -12,7 +12,8 @@ use Rattle.flow_facts.proofs.Composed.{loop_parts, while_parts}
 use Rattle.flow_facts.proofs.bodies.+statements.Goals as goal
 
 pub walk_stmt-returns-in_ok-walk_local-in-Local-clause-parts : goal.walk_stmt-returns-in_ok-walk_local-in-Local-clause-parts
-walk_stmt-returns-in_ok-walk_local-in-Local-clause-parts t c = let form = ap (stmt_of at_place) c.in-Local.is in rw form (c.in_ok-walk_local-in-Local.ensures.parts (at_place c.in-Local.place))
+walk_stmt-returns-in_ok-walk_local-in-Local-clause-parts t c =
+    let form = ap (stmt_of at_place) c.in-Local.is in rw form (c.in_ok-walk_local-in-Local.ensures.parts (at_place c.in-Local.place))
 
 pub walk_stmt-returns-in_ok-walk_stmts-in-Block-clause-grown : goal.walk_stmt-returns-in_ok-walk_stmts-in-Block-clause-grown
 walk_stmt-returns-in_ok-walk_stmts-in-Block-clause-grown t c = let form = block_form _ _ _ c.in-Block.is in rw form c.in_ok-walk_stmts-in-Block.ensures.grown
@@ -27,20 +28,30 @@ walk_stmt-returns-in_ok-walk_stmts-in-While-clause-grown t c =
 pub walk_stmt-returns-in_ok-walk_stmts-in-While-clause-parts : goal.walk_stmt-returns-in_ok-walk_stmts-in-While-clause-parts
 walk_stmt-returns-in_ok-walk_stmts-in-While-clause-parts t c =
     let form = while_form _ _ _ _ c.in-While.is in
-    rw form (while_parts (program_of no_place c.args.program.now) c.args.m (method_seen at_place c.args.method.now) (at_place c.in-While.place) (expr_of at_place c.in-While.test) (stmts at_place c.in-While.body.items) (parts_seen c.args.parts.now.items) _ _ (length c.args.parts.now.items) _
+    rw form (while_parts (program_of no_place c.args.program.now) c.args.m (method_seen at_place c.args.method.now) (at_place c.in-While.place)
+    (expr_of at_place c.in-While.test) (stmts at_place c.in-While.body.items) (parts_seen c.args.parts.now.items) _ _
+    (length c.args.parts.now.items) _
     c.in_ok-walk-in-While.ensures.parts c.in_ok-walk-in-While.ensures.grown c.in_ok-walk_stmts-in-While.ensures.parts)
 
 pub walk_stmt-returns-in_ok-walk_stmts-in-For-clause-grown : goal.walk_stmt-returns-in_ok-walk_stmts-in-For-clause-grown
 walk_stmt-returns-in_ok-walk_stmts-in-For-clause-grown t c =
     let form = ap (stmt_of at_place) c.in-For.is ∙ for_as at_place c.in-For.first c.in-For.test c.in-For.step c.in-For.body c.in-For.place in
-    rw form (omega (arith, c.in_ok-walk_step-in-For.ensures.grown, c.in_ok-walk_value-in-For.ensures.grown, c.in_ok-walk_step-in-For-2.ensures.grown, c.in_ok-walk_stmts-in-For.ensures.grown))
+    rw form (omega (
+      arith,
+      c.in_ok-walk_step-in-For.ensures.grown,
+      c.in_ok-walk_value-in-For.ensures.grown,
+      c.in_ok-walk_step-in-For-2.ensures.grown,
+      c.in_ok-walk_stmts-in-For.ensures.grown,
+    ))
 
 pub walk_stmt-returns-in_ok-walk_stmts-in-For-clause-parts : goal.walk_stmt-returns-in_ok-walk_stmts-in-For-clause-parts
 walk_stmt-returns-in_ok-walk_stmts-in-For-clause-parts t c =
     let form = ap (stmt_of at_place) c.in-For.is ∙ for_as at_place c.in-For.first c.in-For.test c.in-For.step c.in-For.body c.in-For.place in
-    rw form (loop_parts (program_of no_place c.args.program.now) c.args.m (method_seen at_place c.args.method.now) (at_place c.in-For.place) false (step_seen at_place c.in-For.first) (value_of at_place c.in-For.test) (step_seen at_place c.in-For.step) (stmts at_place c.in-For.body.items)
+    rw form (loop_parts (program_of no_place c.args.program.now) c.args.m (method_seen at_place c.args.method.now) (at_place c.in-For.place) false
+    (step_seen at_place c.in-For.first) (value_of at_place c.in-For.test) (step_seen at_place c.in-For.step) (stmts at_place c.in-For.body.items)
     (parts_seen c.args.parts.now.items) _ _ _ _ (length c.args.parts.now.items) _ _ _
-    c.in_ok-walk_step-in-For.ensures.parts c.in_ok-walk_step-in-For.ensures.grown c.in_ok-walk_value-in-For.ensures.parts c.in_ok-walk_value-in-For.ensures.grown
+    c.in_ok-walk_step-in-For.ensures.parts c.in_ok-walk_step-in-For.ensures.grown c.in_ok-walk_value-in-For.ensures.parts
+    c.in_ok-walk_value-in-For.ensures.grown
     c.in_ok-walk_step-in-For-2.ensures.parts c.in_ok-walk_step-in-For-2.ensures.grown c.in_ok-walk_stmts-in-For.ensures.parts)
 
 pub walk_stmt-returns-in_ok-walk_stmts-in-Some-clause-grown : goal.walk_stmt-returns-in_ok-walk_stmts-in-Some-clause-grown
@@ -55,7 +66,8 @@ walk_stmt-returns-in_ok-walk_stmts-in-Some-clause-parts t c =
     let K = method_seen at_place c.args.method.now in
     let form = ap (stmt_of at_place) c.in-If.is ∙ if_as at_place c.in-If.arms c.in-If.other c.in-If.place in
     let all = c.in_ok-walk_stmts-in-Some.ensures.parts
-    ∙ ap (λ o. parts_seen c.walk_arms.new.parts.items ++ parts_arms P (object_type P K) c.args.m K (label_arms (length c.walk_arms.new.parts.items) (else_seen at_place o))) (sym c.in-Some.is)
+    ∙ ap (λ o. parts_seen c.walk_arms.new.parts.items ++ parts_arms P (object_type P K) c.args.m K (label_arms (length c.walk_arms.new.parts.items)
+    (else_seen at_place o))) (sym c.in-Some.is)
     ∙ c.in_ok-walk_arms-in-If.ensures.parts in
     rw form all
 
@@ -71,6 +83,7 @@ walk_stmt-returns-in-None-clause-parts t c =
     let K = method_seen at_place c.args.method.now in
     let form = ap (stmt_of at_place) c.in-If.is ∙ if_as at_place c.in-If.arms c.in-If.other c.in-If.place in
     let all = sym (append-nil (parts_seen c.walk_arms.new.parts.items))
-    ∙ ap (λ o. parts_seen c.walk_arms.new.parts.items ++ parts_arms P (object_type P K) c.args.m K (label_arms (length c.walk_arms.new.parts.items) (else_seen at_place o))) (sym c.in-None.is)
+    ∙ ap (λ o. parts_seen c.walk_arms.new.parts.items ++ parts_arms P (object_type P K) c.args.m K (label_arms (length c.walk_arms.new.parts.items)
+    (else_seen at_place o))) (sym c.in-None.is)
     ∙ c.in_ok-walk_arms-in-If.ensures.parts in
     rw form all

@@ -13,5 +13,6 @@ returns-clause-value c = λ k.
     let f = field_cell_seen c.args.field in
     let r = c.index_mut.result.now in
     let more : map field_cell_seen c.push.new.self.items ≡ own_at vs i ++ f ∷ [] =
-    ap (map field_cell_seen) c.in_ok-push.ensures.items ∙ map-append field_cell_seen r.items (c.args.field ∷ []) ∙ ap (λ l. l ++ f ∷ []) (sym (own_index vs i r c.requires c.index_mut.ensures.value)) in
+    ap (map field_cell_seen) c.in_ok-push.ensures.items ∙ map-append field_cell_seen r.items (c.args.field ∷ [])
+    ∙ ap (λ l. l ++ f ∷ []) (sym (own_index vs i r c.requires c.index_mut.ensures.value)) in
     own_set vs i k c.push.new.self f c.requires more

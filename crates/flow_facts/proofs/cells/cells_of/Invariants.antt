@@ -8,6 +8,7 @@ use Rattle.flow_facts.proofs.cells.cells_of.Given as goal
 
 abbrev pub invariant-loop-i : goal.invariant-loop-i
 invariant-loop-i l = record {
-  value : l.cells.items ++ each (site_cells (program_of no_place l.program) (map field_cell_seen l.fields.items)) l.i (drop l.i l.sites.items) ≡ each (site_cells (program_of no_place l.program) (map field_cell_seen l.fields.items)) 0 l.sites.items;
+  value : l.cells.items ++ each (site_cells (program_of no_place l.program) (map field_cell_seen l.fields.items)) l.i (drop l.i l.sites.items)
+      ≡ each (site_cells (program_of no_place l.program) (map field_cell_seen l.fields.items)) 0 l.sites.items;
   most : length l.cells.items ≤ l.most;
 }

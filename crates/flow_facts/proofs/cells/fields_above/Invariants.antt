@@ -11,4 +11,5 @@ abbrev pub invariant-loop-step : goal.invariant-loop-step
 invariant-loop-step l =
     let P = program_of no_place l.program in
     let own = own_at l.own.items in
-    (r : ℕ) → r + l.step ≡ length l.program.classes.items → map field_cell_seen l.found.items ++ upwards P own r l.above ≡ upwards P own (suc (length P.classes)) (Some l.fn.class)
+    (r : ℕ) → r + l.step ≡ length l.program.classes.items → map field_cell_seen l.found.items ++ upwards P own r l.above
+    ≡ upwards P own (suc (length P.classes)) (Some l.fn.class)

@@ -13,11 +13,13 @@ use Rattle.flow_facts.proofs.cells.fields_by_class.Goals as goal
 pub add_own-requires : goal.add_own-requires
 add_own-requires c =
     let all = c.args.program.now.classes.items in
-    within_own (program_of no_place c.args.program.now) _ c.args.fields.now.items _ _ _ (length all) c.deref-field-items.ensures.value c.loop-field-test.true c.requires c.loop-field.invariant.count (sym (length-map all (class_seen no_place)))
+    within_own (program_of no_place c.args.program.now) _ c.args.fields.now.items _ _ _ (length all) c.deref-field-items.ensures.value
+    c.loop-field-test.true c.requires c.loop-field.invariant.count (sym (length-map all (class_seen no_place)))
 
 pub loop-field-preserved : goal.loop-field-preserved
 loop-field-preserved c = record {
   count = c.in_ok-add_own.ensures.count ∙ c.loop-field.invariant.count;
-  value = λ k. step (λ x. when (k == (field_cell_seen x).owner) (field_cell_seen x ∷ [])) (λ l. own_of (map field_cell_seen l) k) (λ l. own_of (map field_cell_seen l) k) (kept_one k) c.args.fields.now.items _ _ _ _ _ _
+  value = λ k. step (λ x. when (k == (field_cell_seen x).owner) (field_cell_seen x ∷ [])) (λ l. own_of (map field_cell_seen l) k)
+      (λ l. own_of (map field_cell_seen l) k) (kept_one k) c.args.fields.now.items _ _ _ _ _ _
       c.deref-field-items.ensures.value c.loop-field-test.true (c.loop-field.invariant.value k) (c.in_ok-add_own.ensures.value k);
 }

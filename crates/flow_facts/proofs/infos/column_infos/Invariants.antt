@@ -5,4 +5,5 @@ use Rattle.flow_rules.specs.Facts.{column_info}
 use Rattle.flow_facts.proofs.infos.column_infos.Given as goal
 
 abbrev pub invariant-loop-column : goal.invariant-loop-column
-invariant-loop-column l = l.list.items ++ map (λ c. column_info (program_of at_place l.program) c.item) (drop l.column-index l.columns.items) ≡ map (λ c. column_info (program_of at_place l.program) c.item) l.columns.items
+invariant-loop-column l = l.list.items ++ map (λ c. column_info (program_of at_place l.program) c.item) (drop l.column-index l.columns.items)
+    ≡ map (λ c. column_info (program_of at_place l.program) c.item) l.columns.items

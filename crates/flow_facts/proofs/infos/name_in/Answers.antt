@@ -9,4 +9,7 @@ use Rattle.flow_facts.proofs.infos.name_in.Goals as goal
 
 pub returns-in-None : goal.returns-in-None
 returns-in-None c =
-    record { value = IfOk-weaker c.new.result (λ x. x ≡ chars []) (λ x. x ≡ name_in (program_of at_place c.args.program.now) c.args.item) (λ x h. h ∙ chars-nil ∙ c.in-None.ensures.value) c.new.ensures.value }
+    record {
+      value = IfOk-weaker c.new.result (λ x. x ≡ chars []) (λ x. x ≡ name_in (program_of at_place c.args.program.now) c.args.item) (λ x h. h
+          ∙ chars-nil ∙ c.in-None.ensures.value) c.new.ensures.value;
+    }

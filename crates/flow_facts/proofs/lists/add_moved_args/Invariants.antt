@@ -6,4 +6,6 @@ use Rattle.flow_rules.specs.declared.items.PointItem.TheVariants as point
 use Rattle.flow_facts.proofs.lists.add_moved_args.Given as goal
 
 abbrev pub invariant-loop-i : goal.invariant-loop-i
-invariant-loop-i l = l.flows.items ++ each (λ i o. moved (point_at (numbers_seen l.n) o) ((numbers_seen l.n).point (point.Local l.callee i))) l.i (drop l.i l.args.items) ≡ l.fn.flows.items ++ each (λ i o. moved (point_at (numbers_seen l.n) o) ((numbers_seen l.n).point (point.Local l.callee i))) 0 l.args.items
+invariant-loop-i l = l.flows.items ++ each (λ i o. moved (point_at (numbers_seen l.n) o) ((numbers_seen l.n).point (point.Local l.callee i))) l.i
+    (drop l.i l.args.items) ≡ l.fn.flows.items ++ each (λ i o. moved (point_at (numbers_seen l.n) o)
+    ((numbers_seen l.n).point (point.Local l.callee i))) 0 l.args.items

@@ -4,4 +4,5 @@ use Rattle.java_core.specs.Trees.{at_place}
 use Rattle.flow_facts.proofs.names.add_types.Given as goal
 
 abbrev pub invariant-loop-class : goal.invariant-loop-class
-invariant-loop-class l = l.names.items ++ map (λ k. k.name) (map (plain_class at_place) (drop l.class-index l.rest)) ≡ l.fn.names.items ++ map (λ k. k.name) (map (plain_class at_place) l.rest)
+invariant-loop-class l = l.names.items ++ map (λ k. k.name) (map (plain_class at_place) (drop l.class-index l.rest)) ≡ l.fn.names.items
+    ++ map (λ k. k.name) (map (plain_class at_place) l.rest)

@@ -7,4 +7,6 @@ use Rattle.flow_rules.specs.Facts.{class_facts, class_seen}
 use Rattle.flow_facts.proofs.names.class_infos.Given as goal
 
 abbrev pub invariant-loop-c : goal.invariant-loop-c
-invariant-loop-c l = map class_seen l.list.items ++ each (class_facts (program_of at_place l.program)) l.c (map (plain_class at_place) (drop l.c l.program.classes.items)) ≡ each (class_facts (program_of at_place l.program)) 0 (program_of at_place l.program).classes
+invariant-loop-c l = map class_seen l.list.items ++ each (class_facts (program_of at_place l.program)) l.c
+    (map (plain_class at_place) (drop l.c l.program.classes.items)) ≡ each (class_facts (program_of at_place l.program)) 0
+    (program_of at_place l.program).classes

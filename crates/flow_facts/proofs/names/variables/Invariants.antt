@@ -6,4 +6,6 @@ use Rattle.flow_rules.specs.Facts.{variable_names}
 use Rattle.flow_facts.proofs.names.variables.Given as goal
 
 abbrev pub invariant-loop-method : goal.invariant-loop-method
-invariant-loop-method l = l.names.items ++ flat_map variable_names (map (method_seen at_place) (drop l.method-index l.program.methods.items)) ≡ map (λ f. f.name) (map (field_seen at_place) l.program.fields.items) ++ flat_map variable_names (map (method_seen at_place) l.program.methods.items)
+invariant-loop-method l = l.names.items ++ flat_map variable_names (map (method_seen at_place) (drop l.method-index l.program.methods.items))
+    ≡ map (λ f. f.name) (map (field_seen at_place) l.program.fields.items) ++ flat_map variable_names
+    (map (method_seen at_place) l.program.methods.items)

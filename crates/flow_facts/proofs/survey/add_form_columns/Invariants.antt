@@ -5,4 +5,5 @@ use Rattle.flow_facts.specs.Views.{parts_seen}
 use Rattle.flow_facts.proofs.survey.add_form_columns.Given as goal
 
 abbrev pub invariant-loop-part : goal.invariant-loop-part
-invariant-loop-part l = l.columns.items ++ flat_map form_columns (parts_seen (drop l.part-index l.parts.items)) ≡ l.fn.columns.items ++ flat_map form_columns (parts_seen l.parts.items)
+invariant-loop-part l = l.columns.items ++ flat_map form_columns (parts_seen (drop l.part-index l.parts.items)) ≡ l.fn.columns.items
+    ++ flat_map form_columns (parts_seen l.parts.items)

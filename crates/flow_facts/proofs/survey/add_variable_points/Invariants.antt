@@ -10,5 +10,6 @@ invariant-loop-local l =
     let f = variable_points l.m (method_seen at_place l.method) in
     record {
       number : l.number ≡ l.first + l.local-index;
-      points : l.points.items ++ each f l.number (map (local_seen at_place) (drop l.local-index l.locals.items)) ≡ l.fn.points.items ++ each f l.first (map (local_seen at_place) l.locals.items);
+      points : l.points.items ++ each f l.number (map (local_seen at_place) (drop l.local-index l.locals.items)) ≡ l.fn.points.items ++ each f l.first
+          (map (local_seen at_place) l.locals.items);
     }

@@ -10,5 +10,6 @@ invariant-loop-local l =
     let f = variable_rows (program_of no_place l.program) (program_of at_place l.program) l.m (method_seen at_place l.method) in
     record {
       number : l.number ≡ l.first + l.local-index;
-      rows : l.rows.items ++ each f l.number (map (local_seen at_place) (drop l.local-index l.locals.items)) ≡ l.fn.rows.items ++ each f l.first (map (local_seen at_place) l.locals.items);
+      rows : l.rows.items ++ each f l.number (map (local_seen at_place) (drop l.local-index l.locals.items)) ≡ l.fn.rows.items ++ each f l.first
+          (map (local_seen at_place) l.locals.items);
     }

@@ -5,7 +5,13 @@ use Rattle.flow_facts.proofs.Refusals.{passed}
 use Rattle.flow_facts.proofs.top.number_flow.Goals as goal
 
 pub number_sites-requires : goal.number_sites-requires
-number_sites-requires c = record { keys = c.requires.table.row_items; bodies = c.requires.bodies; rows = c.requires.table.few_rows; columns = c.requires.table.few_columns }
+number_sites-requires c = record {
+  keys = c.requires.table.row_items;
+  bodies = c.requires.bodies;
+  rows = c.requires.table.few_rows;
+  columns =
+      c.requires.table.few_columns;
+}
 
 pub number_points-requires : goal.number_points-requires
 number_points-requires c = record {
@@ -18,10 +24,12 @@ number_points-requires c = record {
 }
 
 pub returns-in_err-sites-clause-refused : goal.returns-in_err-sites-clause-refused
-returns-in_err-sites-clause-refused c = passed (program_of no_place c.args.program.now) (program_of at_place c.args.program.now) c.from_residual.result c.in_err-sites.field-0.0 c.from_residual.ensures.1 c.in_err-sites.ensures.refused
+returns-in_err-sites-clause-refused c = passed (program_of no_place c.args.program.now) (program_of at_place c.args.program.now)
+    c.from_residual.result c.in_err-sites.field-0.0 c.from_residual.ensures.1 c.in_err-sites.ensures.refused
 
 pub returns-in_err-points-clause-refused : goal.returns-in_err-points-clause-refused
-returns-in_err-points-clause-refused c = passed (program_of no_place c.args.program.now) (program_of at_place c.args.program.now) c.from_residual-in_err-points.result c.in_err-points.field-0.0 c.from_residual-in_err-points.ensures.1 c.in_err-points.ensures.refused
+returns-in_err-points-clause-refused c = passed (program_of no_place c.args.program.now) (program_of at_place c.args.program.now)
+    c.from_residual-in_err-points.result c.in_err-points.field-0.0 c.from_residual-in_err-points.ensures.1 c.in_err-points.ensures.refused
 
 pub returns-clause-ok : goal.returns-clause-ok
 returns-clause-ok c = record {

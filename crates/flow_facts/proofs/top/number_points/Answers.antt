@@ -14,23 +14,32 @@ returns-in_err-within-clause-refused c =
     let Q = program_of at_place c.args.program.now in
     let n : c.len.result ≡ length c.in_ok-listed.listed.items.items = omega (arith, c.in_ok-listed.listed.items.ok.0) in
     let q = err_from_is_err_and c.from_residual-in_err-within.result c.from_residual-in_err-within.ensures.1 in
-    rw (q.1, q.2) (refused P Q 65536 counted.Points c.in_err-within.field-0.0 n (c.in_ok-listed.ensures.items ∙ points_are P Q _ _ _ _ c.requires.keys (c.in_ok-statics.ensures.value ∙ ap (by_place (λ p. p.place.at)) c.requires.statics) (outlines_are P Q _ _ c.requires.outlines c.in_ok-outlines.ensures.value) c.in_ok-points.ensures.value) c.in_err-within.ensures.refused (too_many_points P Q c.requires.rows c.requires.columns c.requires.sites))
+    rw (q.1, q.2) (refused P Q 65536 counted.Points c.in_err-within.field-0.0 n (c.in_ok-listed.ensures.items
+    ∙ points_are P Q _ _ _ _ c.requires.keys (c.in_ok-statics.ensures.value ∙ ap (by_place (λ p. p.place.at)) c.requires.statics)
+    (outlines_are P Q _ _ c.requires.outlines c.in_ok-outlines.ensures.value) c.in_ok-points.ensures.value) c.in_err-within.ensures.refused
+    (too_many_points P Q c.requires.rows c.requires.columns c.requires.sites))
 
 pub returns-clause-items : goal.returns-clause-items
 returns-clause-items c =
     let P = program_of no_place c.args.program.now in
     let Q = program_of at_place c.args.program.now in
-    (c.in_ok-listed.ensures.items ∙ points_are P Q _ _ _ _ c.requires.keys (c.in_ok-statics.ensures.value ∙ ap (by_place (λ p. p.place.at)) c.requires.statics) (outlines_are P Q _ _ c.requires.outlines c.in_ok-outlines.ensures.value) c.in_ok-points.ensures.value)
+    (c.in_ok-listed.ensures.items ∙ points_are P Q _ _ _ _ c.requires.keys (c.in_ok-statics.ensures.value
+    ∙ ap (by_place (λ p. p.place.at)) c.requires.statics) (outlines_are P Q _ _ c.requires.outlines c.in_ok-outlines.ensures.value)
+    c.in_ok-points.ensures.value)
 
 pub returns-clause-keys : goal.returns-clause-keys
 returns-clause-keys c =
     let P = program_of no_place c.args.program.now in
     let Q = program_of at_place c.args.program.now in
-    c.in_ok-listed.ensures.keys ∙ ap (map (λ p. p.item)) (points_are P Q _ _ _ _ c.requires.keys (c.in_ok-statics.ensures.value ∙ ap (by_place (λ p. p.place.at)) c.requires.statics) (outlines_are P Q _ _ c.requires.outlines c.in_ok-outlines.ensures.value) c.in_ok-points.ensures.value)
+    c.in_ok-listed.ensures.keys ∙ ap (map (λ p. p.item)) (points_are P Q _ _ _ _ c.requires.keys (c.in_ok-statics.ensures.value
+    ∙ ap (by_place (λ p. p.place.at)) c.requires.statics) (outlines_are P Q _ _ c.requires.outlines c.in_ok-outlines.ensures.value)
+    c.in_ok-points.ensures.value)
 
 pub returns-clause-most : goal.returns-clause-most
 returns-clause-most c =
     let P = program_of no_place c.args.program.now in
     let Q = program_of at_place c.args.program.now in
     let n : c.len.result ≡ length c.in_ok-listed.listed.items.items = omega (arith, c.in_ok-listed.listed.items.ok.0) in
-    at_most n (c.in_ok-listed.ensures.items ∙ points_are P Q _ _ _ _ c.requires.keys (c.in_ok-statics.ensures.value ∙ ap (by_place (λ p. p.place.at)) c.requires.statics) (outlines_are P Q _ _ c.requires.outlines c.in_ok-outlines.ensures.value) c.in_ok-points.ensures.value) c.in_ok-within.ensures.ok
+    at_most n (c.in_ok-listed.ensures.items ∙ points_are P Q _ _ _ _ c.requires.keys (c.in_ok-statics.ensures.value
+    ∙ ap (by_place (λ p. p.place.at)) c.requires.statics) (outlines_are P Q _ _ c.requires.outlines c.in_ok-outlines.ensures.value)
+    c.in_ok-points.ensures.value) c.in_ok-within.ensures.ok

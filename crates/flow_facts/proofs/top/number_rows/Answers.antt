@@ -13,7 +13,8 @@ returns-in_err-within-clause-refused c =
     let Q = program_of at_place c.args.program.now in
     let n : c.len.result ≡ length c.in_ok-listed.listed.items.items = omega (arith, c.in_ok-listed.listed.items.ok.0) in
     let q = err_from_is_err_and c.from_residual-in_err-within.result c.from_residual-in_err-within.ensures.1 in
-    rw (q.1, q.2) (refused P Q 16384 counted.Rows c.in_err-within.field-0.0 n (c.in_ok-listed.ensures.items ∙ rows_are P Q _ c.requires) c.in_err-within.ensures.refused (over_rows P Q))
+    rw (q.1, q.2) (refused P Q 16384 counted.Rows c.in_err-within.field-0.0 n (c.in_ok-listed.ensures.items ∙ rows_are P Q _ c.requires)
+    c.in_err-within.ensures.refused (over_rows P Q))
 
 pub returns-clause-items : goal.returns-clause-items
 returns-clause-items c =

@@ -5,10 +5,12 @@ use Rattle.flow_facts.proofs.Refusals.{passed}
 use Rattle.flow_facts.proofs.top.number_table.Goals as goal
 
 pub returns-in_err-rows-clause-refused : goal.returns-in_err-rows-clause-refused
-returns-in_err-rows-clause-refused c = passed (program_of no_place c.args.program.now) (program_of at_place c.args.program.now) c.from_residual.result c.in_err-rows.field-0.0 c.from_residual.ensures.1 c.in_err-rows.ensures.refused
+returns-in_err-rows-clause-refused c = passed (program_of no_place c.args.program.now) (program_of at_place c.args.program.now) c.from_residual.result
+    c.in_err-rows.field-0.0 c.from_residual.ensures.1 c.in_err-rows.ensures.refused
 
 pub returns-in_err-columns-clause-refused : goal.returns-in_err-columns-clause-refused
-returns-in_err-columns-clause-refused c = passed (program_of no_place c.args.program.now) (program_of at_place c.args.program.now) c.from_residual-in_err-columns.result c.in_err-columns.field-0.0 c.from_residual-in_err-columns.ensures.1 c.in_err-columns.ensures.refused
+returns-in_err-columns-clause-refused c = passed (program_of no_place c.args.program.now) (program_of at_place c.args.program.now)
+    c.from_residual-in_err-columns.result c.in_err-columns.field-0.0 c.from_residual-in_err-columns.ensures.1 c.in_err-columns.ensures.refused
 
 pub returns-clause-ok : goal.returns-clause-ok
 returns-clause-ok c = record {

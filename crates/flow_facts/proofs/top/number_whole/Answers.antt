@@ -8,7 +8,8 @@ use Rattle.flow_facts.proofs.Refusals.{counted, few, passed}
 use Rattle.flow_facts.proofs.top.number_whole.Goals as goal
 
 pub returns-in_err-cells-clause-refused : goal.returns-in_err-cells-clause-refused
-returns-in_err-cells-clause-refused c = passed (program_of no_place c.args.program.now) (program_of at_place c.args.program.now) c.from_residual.result c.in_err-cells.field-0.0 c.from_residual.ensures.1 c.in_err-cells.ensures.refused
+returns-in_err-cells-clause-refused c = passed (program_of no_place c.args.program.now) (program_of at_place c.args.program.now)
+    c.from_residual.result c.in_err-cells.field-0.0 c.from_residual.ensures.1 c.in_err-cells.ensures.refused
 
 pub overflow_sub-most : goal.overflow_sub-most
 overflow_sub-most c =
@@ -37,7 +38,8 @@ number_cells-requires c =
     let f = c.requires.flow in
     record {
       formed = c.requires.formed;
-      numbers = numbers_are (program_of no_place c.args.program.now) (program_of at_place c.args.program.now) _ _ _ _ t.row_items t.column_items f.site_items f.point_items;
+      numbers = numbers_are (program_of no_place c.args.program.now) (program_of at_place c.args.program.now) _ _ _ _ t.row_items t.column_items
+          f.site_items f.point_items;
       of_columns = t.columns;
       of_sites = f.sites;
       rows = t.few_rows;
@@ -57,7 +59,8 @@ returns-clause-ok c =
       points = f.points;
       cells = c.in_ok-cells.ensures.items;
       bodies = c.requires.bodies;
-      numbers = numbers_are (program_of no_place c.args.program.now) (program_of at_place c.args.program.now) _ _ _ _ t.row_items t.column_items f.site_items f.point_items;
+      numbers = numbers_are (program_of no_place c.args.program.now) (program_of at_place c.args.program.now) _ _ _ _ t.row_items t.column_items
+          f.site_items f.point_items;
       column_items = t.column_items;
       few = t.few_columns;
       counts = c.in_ok-cells.ensures.counts;

@@ -24,84 +24,120 @@ walk-returns-in_ok-add-in-Own t c =
 
 pub walk-returns-in_ok-own-in-Field : goal.walk-returns-in_ok-own-in-Field
 walk-returns-in_ok-own-in-Field t c =
-    let form = ap (expr_of at_place) c.in-Field.is ∙ ap (λ y. field (at_place c.in-Field.place) (expr_of at_place y) c.in-Field.name) (sym c.deref-in-Field.ensures) in
+    let form = ap (expr_of at_place) c.in-Field.is ∙ ap (λ y. field (at_place c.in-Field.place) (expr_of at_place y) c.in-Field.name)
+    (sym c.deref-in-Field.ensures) in
     let n = length c.args.parts.now.items in
-    let accessed = c.is_accessed-accessed.ensures.value n ∙ ap (λ y. is_accessed (label n (expr_of at_place y))) (c.deref.ensures ∙ sym c.deref-in-Field.ensures) in
+    let accessed = c.is_accessed-accessed.ensures.value n ∙ ap (λ y. is_accessed (label n (expr_of at_place y))) (c.deref.ensures
+    ∙ sym c.deref-in-Field.ensures) in
     let h = c.in_ok-own-in-Field.ensures in
-    field_walked (program_of no_place c.args.program.now) c.args.m (method_seen at_place c.args.method.now) form accessed c.in_ok-base-in-Field.ensures (record { grown = h.grown; value = h.value; parts = h.parts })
+    field_walked (program_of no_place c.args.program.now) c.args.m (method_seen at_place c.args.method.now) form accessed
+    c.in_ok-base-in-Field.ensures (record { grown = h.grown; value = h.value; parts = h.parts })
 
 pub walk-returns-in_ok-walk-in-Index : goal.walk-returns-in_ok-walk-in-Index
 walk-returns-in_ok-walk-in-Index t c =
-    let form = ap (expr_of at_place) c.in-Index.is ∙ ap (λ y. index (at_place c.in-Index.place) (expr_of at_place y) (expr_of at_place c.in-Index.at.value)) (sym c.deref-in-Index.ensures)
+    let form = ap (expr_of at_place) c.in-Index.is
+    ∙ ap (λ y. index (at_place c.in-Index.place) (expr_of at_place y) (expr_of at_place c.in-Index.at.value)) (sym c.deref-in-Index.ensures)
     ∙ ap (λ y. index (at_place c.in-Index.place) (expr_of at_place c.deref-in-Index.result.now) (expr_of at_place y)) (sym c.deref-in-Index-2.ensures) in
     let b = c.in_ok-base-in-Index.base in
-    let value : c.labelled-own-in-Index.result ≡ labelled_operand c.args.m (length c.walk-in-Index.new.parts.items) b.row (element_object b.ty) = search rules in
+    let value : c.labelled-own-in-Index.result ≡ labelled_operand c.args.m (length c.walk-in-Index.new.parts.items) b.row
+    (element_object b.ty) = search rules in
     let h = c.in_ok-add-in-Index.ensures in
-    index_walked (program_of no_place c.args.program.now) c.args.m (method_seen at_place c.args.method.now) form c.in_ok-base-in-Index.ensures (record { grown = h.grown; parts = h.parts }) value c.in_ok-walk-in-Index.ensures
+    index_walked (program_of no_place c.args.program.now) c.args.m (method_seen at_place c.args.method.now) form c.in_ok-base-in-Index.ensures
+    (record { grown = h.grown; parts = h.parts }) value c.in_ok-walk-in-Index.ensures
 
 pub walk-returns-in_ok-own-in-None : goal.walk-returns-in_ok-own-in-None
 walk-returns-in_ok-own-in-None t c =
     let P = program_of no_place c.args.program.now in
     let K = method_seen at_place c.args.method.now in
     let h = c.in_ok-own-in-None.ensures in
-    call_walked P c.args.m K (own_call _ _ _ _ _ c.in-Call.is c.in-None.is) (this_walked P c.args.m K refl c.this_operand-this-in-None.ensures.value) (record { grown = omega (arith, h.grown); value = h.value; parts = h.parts })
+    call_walked P c.args.m K (own_call _ _ _ _ _ c.in-Call.is c.in-None.is) (this_walked P c.args.m K refl c.this_operand-this-in-None.ensures.value)
+    (record { grown = omega (arith, h.grown); value = h.value; parts = h.parts })
 
 pub walk-returns-in_ok-own-in-Some : goal.walk-returns-in_ok-own-in-Some
 walk-returns-in_ok-own-in-Some t c =
     let form = call_on c.args.e.now c.in-Call.base c.in-Some.base c.in-Call.name c.in-Call.args c.in-Call.place c.in-Call.is c.in-Some.is
     ∙ ap (λ y. call (at_place c.in-Call.place) (expr_of at_place y) c.in-Call.name (exprs at_place c.in-Call.args.items)) (sym c.deref-in-Some.ensures) in
     let h = c.in_ok-own-in-Some.ensures in
-    call_walked (program_of no_place c.args.program.now) c.args.m (method_seen at_place c.args.method.now) form c.in_ok-base-in-Some.ensures (record { grown = omega (arith, h.grown); value = h.value; parts = h.parts })
+    call_walked (program_of no_place c.args.program.now) c.args.m (method_seen at_place c.args.method.now) form c.in_ok-base-in-Some.ensures
+    (record { grown = omega (arith, h.grown); value = h.value; parts = h.parts })
 
 pub walk-returns-in_ok-own-in-StaticCall : goal.walk-returns-in_ok-own-in-StaticCall
 walk-returns-in_ok-own-in-StaticCall t c =
     let h = c.in_ok-own-in-StaticCall.ensures in
-    static_walked (program_of no_place c.args.program.now) c.args.m (method_seen at_place c.args.method.now) (static_form _ _ _ _ c.in-StaticCall.is) (record { grown = omega (arith, h.grown); value = h.value; parts = h.parts })
+    static_walked (program_of no_place c.args.program.now) c.args.m (method_seen at_place c.args.method.now) (static_form _ _ _ _ c.in-StaticCall.is)
+    (record { grown = omega (arith, h.grown); value = h.value; parts = h.parts })
 
 pub walk-returns-in_ok-own-in-SuperCall : goal.walk-returns-in_ok-own-in-SuperCall
 walk-returns-in_ok-own-in-SuperCall t c =
     let h = c.in_ok-own-in-SuperCall.ensures in
-    super_walked (program_of no_place c.args.program.now) c.args.m (method_seen at_place c.args.method.now) (super_form _ _ _ _ c.in-SuperCall.is) (record { grown = omega (arith, h.grown); value = h.value; parts = h.parts })
+    super_walked (program_of no_place c.args.program.now) c.args.m (method_seen at_place c.args.method.now) (super_form _ _ _ _ c.in-SuperCall.is)
+    (record { grown = omega (arith, h.grown); value = h.value; parts = h.parts })
 
 pub walk-returns-in_ok-_args-in-New : goal.walk-returns-in_ok-_args-in-New
 walk-returns-in_ok-_args-in-New t c =
-    let value : c.creation-own.result ≡ record { point = Some (point.Expr c.args.m (length c.args.parts.now.items)); row = Some (row.New c.in-New.number); ty = class_object c.in-New.class.0; created = Some c.in-New.number } = search rules in
+    let value : c.creation-own.result ≡ record {
+      point = Some (point.Expr c.args.m (length c.args.parts.now.items));
+      row = Some
+          (row.New c.in-New.number);
+      ty = class_object c.in-New.class.0;
+      created = Some c.in-New.number;
+    } = search rules in
     let h = c.in_ok-add-in-New.ensures in
     let g = c.in_ok-_args-in-New.ensures in
-    creation_walked (program_of no_place c.args.program.now) c.args.m (method_seen at_place c.args.method.now) (creation_form _ _ _ _ _ c.in-New.is) (record { grown = h.grown; parts = h.parts }) value (record { grown = g.grown; value = g.value; parts = g.parts })
+    creation_walked (program_of no_place c.args.program.now) c.args.m (method_seen at_place c.args.method.now) (creation_form _ _ _ _ _ c.in-New.is)
+    (record { grown = h.grown; parts = h.parts }) value (record { grown = g.grown; value = g.value; parts = g.parts })
 
 pub walk-returns-in_ok-walk-in-NewArray : goal.walk-returns-in_ok-walk-in-NewArray
 walk-returns-in_ok-walk-in-NewArray t c =
-    let form = ap (expr_of at_place) c.in-NewArray.is ∙ ap (λ y. create_array (at_place c.in-NewArray.place) c.in-NewArray.number c.in-NewArray.ty (expr_of at_place y)) (sym c.deref-in-NewArray.ensures) in
-    let value : c.creation-own-in-NewArray.result ≡ record { point = Some (point.Expr c.args.m (length c.args.parts.now.items)); row = Some (row.New c.in-NewArray.number); ty = object_of c.in-NewArray.ty; created = Some c.in-NewArray.number } = search rules in
+    let form = ap (expr_of at_place) c.in-NewArray.is ∙ ap (λ y. create_array (at_place c.in-NewArray.place) c.in-NewArray.number c.in-NewArray.ty
+    (expr_of at_place y)) (sym c.deref-in-NewArray.ensures) in
+    let value : c.creation-own-in-NewArray.result ≡ record {
+      point = Some (point.Expr c.args.m (length c.args.parts.now.items));
+      row = Some
+          (row.New c.in-NewArray.number);
+      ty = object_of c.in-NewArray.ty;
+      created = Some c.in-NewArray.number;
+    } = search rules in
     let h = c.in_ok-add-in-NewArray.ensures in
-    array_walked (program_of no_place c.args.program.now) c.args.m (method_seen at_place c.args.method.now) form (record { grown = h.grown; parts = h.parts }) value c.in_ok-walk-in-NewArray.ensures
+    array_walked (program_of no_place c.args.program.now) c.args.m (method_seen at_place c.args.method.now) form
+    (record { grown = h.grown; parts = h.parts }) value c.in_ok-walk-in-NewArray.ensures
 
 pub walk-returns-in_ok-value-in-Cast : goal.walk-returns-in_ok-value-in-Cast
 walk-returns-in_ok-value-in-Cast t c =
-    let form = ap (expr_of at_place) c.in-Cast.is ∙ ap (λ y. cast (at_place c.in-Cast.place) c.in-Cast.number c.in-Cast.ty (expr_of at_place y)) (sym c.deref-in-Cast.ensures) in
+    let form = ap (expr_of at_place) c.in-Cast.is ∙ ap (λ y. cast (at_place c.in-Cast.place) c.in-Cast.number c.in-Cast.ty (expr_of at_place y))
+    (sym c.deref-in-Cast.ensures) in
     let n = length c.args.parts.now.items in
     let value : c.labelled-own-in-Cast.result ≡ labelled_operand c.args.m n (Some (row.Cast c.in-Cast.number)) (object_of c.in-Cast.ty) = search rules in
     let at : c.len-at.result ≡ n = search rules in
     let h = c.in_ok-add-in-Cast.ensures in
-    cast_walked (program_of no_place c.args.program.now) c.args.m (method_seen at_place c.args.method.now) form (record { grown = h.grown; parts = h.parts }) c.in_ok-value-in-Cast.ensures value c.fill.ensures.grown
+    cast_walked (program_of no_place c.args.program.now) c.args.m (method_seen at_place c.args.method.now) form
+    (record { grown = h.grown; parts = h.parts }) c.in_ok-value-in-Cast.ensures value c.fill.ensures.grown
     (λ xs ys q e. c.fill.ensures.parts xs ys q (e ∙ sym at))
 
 pub walk-returns-in_ok-add-in-InstanceOf : goal.walk-returns-in_ok-add-in-InstanceOf
 walk-returns-in_ok-add-in-InstanceOf t c =
-    let form = ap (expr_of at_place) c.in-InstanceOf.is ∙ ap (λ y. instance_of (at_place c.in-InstanceOf.place) c.in-InstanceOf.number (expr_of at_place y) c.in-InstanceOf.class.0) (sym c.deref-in-InstanceOf.ensures) in
-    let value : c.labelled-own-in-InstanceOf.result ≡ labelled_operand c.args.m (length c.walk-in-InstanceOf.new.parts.items) (Some (row.Test c.in-InstanceOf.number)) (class_object c.in-InstanceOf.class.0) = search rules in
+    let form = ap (expr_of at_place) c.in-InstanceOf.is
+    ∙ ap (λ y. instance_of (at_place c.in-InstanceOf.place) c.in-InstanceOf.number (expr_of at_place y) c.in-InstanceOf.class.0)
+    (sym c.deref-in-InstanceOf.ensures) in
+    let value : c.labelled-own-in-InstanceOf.result ≡ labelled_operand c.args.m (length c.walk-in-InstanceOf.new.parts.items)
+    (Some (row.Test c.in-InstanceOf.number)) (class_object c.in-InstanceOf.class.0) = search rules in
     let h = c.in_ok-add-in-InstanceOf.ensures in
-    test_walked (program_of no_place c.args.program.now) c.args.m (method_seen at_place c.args.method.now) form c.in_ok-value-in-InstanceOf.ensures (record { grown = h.grown; parts = h.parts }) value refl
+    test_walked (program_of no_place c.args.program.now) c.args.m (method_seen at_place c.args.method.now) form c.in_ok-value-in-InstanceOf.ensures
+    (record { grown = h.grown; parts = h.parts }) value refl
 
 pub walk-returns-in_ok-walk-in-Unary : goal.walk-returns-in_ok-walk-in-Unary
 walk-returns-in_ok-walk-in-Unary t c =
-    let form = ap (expr_of at_place) c.in-Unary.is ∙ ap (λ y. unary (at_place c.in-Unary.place) c.in-Unary.op (expr_of at_place y)) (sym c.deref-in-Unary.ensures) in
+    let form = ap (expr_of at_place) c.in-Unary.is ∙ ap (λ y. unary (at_place c.in-Unary.place) c.in-Unary.op (expr_of at_place y))
+    (sym c.deref-in-Unary.ensures) in
     unary_walked (program_of no_place c.args.program.now) c.args.m (method_seen at_place c.args.method.now) form c.in_ok-walk-in-Unary.ensures refl
 
 pub walk-returns-in_ok-add-in-Binary : goal.walk-returns-in_ok-add-in-Binary
 walk-returns-in_ok-add-in-Binary t c =
-    let form = ap (expr_of at_place) c.in-Binary.is ∙ ap (λ y. binary (at_place c.in-Binary.place) c.in-Binary.op (expr_of at_place y) (expr_of at_place c.in-Binary.right.value)) (sym c.deref-in-Binary.ensures)
-    ∙ ap (λ y. binary (at_place c.in-Binary.place) c.in-Binary.op (expr_of at_place c.deref-in-Binary.result.now) (expr_of at_place y)) (sym c.deref-in-Binary-2.ensures) in
+    let form = ap (expr_of at_place) c.in-Binary.is
+    ∙ ap (λ y. binary (at_place c.in-Binary.place) c.in-Binary.op (expr_of at_place y) (expr_of at_place c.in-Binary.right.value))
+    (sym c.deref-in-Binary.ensures)
+    ∙ ap (λ y. binary (at_place c.in-Binary.place) c.in-Binary.op (expr_of at_place c.deref-in-Binary.result.now) (expr_of at_place y))
+    (sym c.deref-in-Binary-2.ensures) in
     let h = c.in_ok-add-in-Binary.ensures in
-    binary_walked (program_of no_place c.args.program.now) c.args.m (method_seen at_place c.args.method.now) form c.in_ok-left-in-Binary.ensures c.in_ok-right-in-Binary.ensures (record { grown = h.grown; parts = h.parts }) refl
+    binary_walked (program_of no_place c.args.program.now) c.args.m (method_seen at_place c.args.method.now) form c.in_ok-left-in-Binary.ensures
+    c.in_ok-right-in-Binary.ensures (record { grown = h.grown; parts = h.parts }) refl

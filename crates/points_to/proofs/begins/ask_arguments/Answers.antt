@@ -15,5 +15,7 @@ loop-k-preserved c =
     record {
       found = step.found;
       kept = more_then c.args.found.now old new c.loop-k.invariant.kept step.kept;
-      here = below_more (HasArgument (Contains new.edges.items) args params) k (λ i lt from to a b. step.kept.edges _ (c.loop-k.invariant.here i lt from to a b)) (rw (c.point_at.ensures, c.point_at-in-loop-k.ensures) at step.here);
+      here = below_more (HasArgument (Contains new.edges.items) args params) k
+          (λ i lt from to a b. step.kept.edges _ (c.loop-k.invariant.here i lt from to a b))
+          (rw (c.point_at.ensures, c.point_at-in-loop-k.ensures) at step.here);
     }

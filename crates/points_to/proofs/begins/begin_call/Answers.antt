@@ -11,4 +11,5 @@ call_site-requires-clause-receiver c =
 pub returns-clause-begun : goal.returns-clause-begun
 returns-clause-begun c =
     let found = c.call_site.new.found in
-    call_begun c.args.facts.now c.args.index.now c.requires.index found.edges.items found.told.items c.args.p c.args.o c.args.i c.call_at-call.result.now c.call_at-call.ensures c.in_ok-call_site.ensures.run
+    call_begun c.args.facts.now c.args.index.now c.requires.index found.edges.items found.told.items c.args.p c.args.o c.args.i
+    c.call_at-call.result.now c.call_at-call.ensures c.in_ok-call_site.ensures.run

@@ -24,6 +24,7 @@ loop-b-preserved c =
       found = step.found;
       kept = more_then c.args.found.now old new c.loop-b.invariant.kept step.kept;
       begun = within_more (P old) (P new) xs k _ lt
-          (begun_map (Contains old.edges.items) (Contains new.edges.items) (Contains old.told.items) (Contains new.told.items) step.kept.edges step.kept.told facts p o)
+          (begun_map (Contains old.edges.items) (Contains new.edges.items) (Contains old.told.items) (Contains new.told.items) step.kept.edges
+          step.kept.told facts p o)
           c.loop-b.invariant.begun step.begun;
     }

@@ -20,6 +20,7 @@ loop-o-preserved c =
     record {
       found = step.found;
       begun = within_more (P old) (P new) xs k 0 lt
-          (λ o h has b is. begun_map (Contains old.edges.items) (Contains new.edges.items) (Contains old.told.items) (Contains new.told.items) step.kept.edges step.kept.told facts p o b (h has b is))
+          (λ o h has b is. begun_map (Contains old.edges.items) (Contains new.edges.items) (Contains old.told.items) (Contains new.told.items)
+          step.kept.edges step.kept.told facts p o b (h has b is))
           c.loop-o.invariant.begun step.begun;
     }

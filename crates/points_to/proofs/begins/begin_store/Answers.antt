@@ -15,5 +15,6 @@ ask_cells-requires-clause-edges c =
 pub returns-clause-begun : goal.returns-clause-begun
 returns-clause-begun c =
     let found = c.ask_cells.new.found in
-    store_begun c.args.facts.now c.args.index.now c.requires.index found.edges.items found.told.items c.args.p c.args.o c.args.i c.store_at-x.result c.store_at-x.ensures
+    store_begun c.args.facts.now c.args.index.now c.requires.index found.edges.items found.told.items c.args.p c.args.o c.args.i c.store_at-x.result
+    c.store_at-x.ensures
     (rw (c.numbers_at-cells.ensures, c.deref.ensures.value) at c.in_ok-ask_cells.ensures.here)

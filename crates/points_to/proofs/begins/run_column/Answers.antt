@@ -22,6 +22,7 @@ loop-b-preserved c =
       found = step.found;
       kept = more_then c.args.found.now old new c.loop-b.invariant.kept step.kept;
       run = within_more (P old) (P new) xs k 0 lt
-          (λ b h body is e. run_map (Contains old.edges.items) (Contains new.edges.items) (Contains old.told.items) (Contains new.told.items) step.kept.edges step.kept.told call o body (h body is e))
+          (λ b h body is e. run_map (Contains old.edges.items) (Contains new.edges.items) (Contains old.told.items) (Contains new.told.items)
+          step.kept.edges step.kept.told call o body (h body is e))
           c.loop-b.invariant.run step.run;
     }

@@ -18,5 +18,6 @@ loop-x-preserved c =
     record {
       sets = step.ensures.sets;
       step = IsStep-then c.args.sets.now old new c.loop-x.grew step.result c.loop-x.invariant.step step.ensures.step;
-      closed = closed_more (IsEdgeClosed F) old new xs k none c.loop-x.grew step.result lt (closed-both (IsEdgeClosed F new (get_or xs k none)) old new step.result step.ensures.step step.ensures.closed) c.loop-x.invariant.closed;
+      closed = closed_more (IsEdgeClosed F) old new xs k none c.loop-x.grew step.result lt (closed-both (IsEdgeClosed F new (get_or xs k none)) old
+          new step.result step.ensures.step step.ensures.closed) c.loop-x.invariant.closed;
     }

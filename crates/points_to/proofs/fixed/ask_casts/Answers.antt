@@ -18,5 +18,6 @@ loop-x-preserved c =
     record {
       found = step.found;
       kept = more_then c.args.found.now old new c.loop-x.invariant.kept step.kept;
-      here = within_more (IsCastAsked (Contains old.edges.items)) (IsCastAsked (Contains new.edges.items)) xs k none lt (λ x h. step.kept.edges _ h) c.loop-x.invariant.here here;
+      here = within_more (IsCastAsked (Contains old.edges.items)) (IsCastAsked (Contains new.edges.items)) xs k none lt (λ x h. step.kept.edges _ h)
+          c.loop-x.invariant.here here;
     }

@@ -18,5 +18,6 @@ loop-x-preserved c =
     record {
       found = step.found;
       kept = more_then c.args.found.now old new c.loop-x.invariant.kept step.kept;
-      here = within_more (IsNewAsked (Contains old.told.items)) (IsNewAsked (Contains new.told.items)) xs k none lt (λ x h. step.kept.told _ h) c.loop-x.invariant.here here;
+      here = within_more (IsNewAsked (Contains old.told.items)) (IsNewAsked (Contains new.told.items)) xs k none lt (λ x h. step.kept.told _ h)
+          c.loop-x.invariant.here here;
     }

@@ -15,7 +15,8 @@ loop-c-preserved c =
     let new = c.ask_cell.new.found in
     let step = c.in_ok-ask_cell.ensures in
     let lt : k < length xs = grind (arith, common_steps) in
-    let P = λ (found : Found) (n : ℕ). IsCell facts n c.args.o c.args.column → Contains found.edges.items (cell_edge facts c.args.usage c.args.column c.args.o n) in
+    let P = λ (found : Found) (n : ℕ). IsCell facts n c.args.o c.args.column
+    → Contains found.edges.items (cell_edge facts c.args.usage c.args.column c.args.o n) in
     record {
       found = step.found;
       kept = more_then c.args.found.now old new c.loop-c.invariant.kept step.kept;

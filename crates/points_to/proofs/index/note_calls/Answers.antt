@@ -10,7 +10,8 @@ loop-i-preserved c =
     let F = c.args.facts.now in
     let x = c.call_at.result.now in
     let is = c.call_at.ensures in
-    let range = at_all (λ x. IsPoint F x.receiver × All (λ p. IfSome p (IsPoint F)) x.args.items × IfSome x.result (IsPoint F)) F.calls.items c.loop-i.i x c.requires.facts.calls is in
+    let range = at_all (λ x. IsPoint F x.receiver × All (λ p. IfSome p (IsPoint F)) x.args.items × IfSome x.result (IsPoint F)) F.calls.items
+    c.loop-i.i x c.requires.facts.calls is in
     let step = c.in_ok-note_begin.ensures in
     let kept = c.loop-i.invariant.kept in
     let here = step.here (omega (arith, range.0, kept.len, c.requires.count)) in

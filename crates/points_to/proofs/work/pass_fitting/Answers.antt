@@ -15,7 +15,8 @@ scan-preserved c =
     let new = step.new.sets in
     let s = c.in-Some.s in
     let P = IsPassed facts edge in
-    let before = skip_to (P old) (row old edge.from) c.scan.at (λ k none b h. absurd (false≢true (sym none ∙ h))) s c.scan.grew c.in-Some.ensures.least c.scan.invariant.closed in
+    let before = skip_to (P old) (row old edge.from) c.scan.at (λ k none b h. absurd (false≢true (sym none ∙ h))) s c.scan.grew
+    c.in-Some.ensures.least c.scan.invariant.closed in
     record {
       sets = step.ensures.sets;
       step = IsStep-then c.args.sets.now old new c.scan.grew step.result c.scan.invariant.step step.ensures.step;
