@@ -25,7 +25,8 @@ use Rattle.java_tree.specs.Expressions.{int_base, boolean_base, char_base, int_l
 use Rattle.java_parse.specs.Reading.{Reads}
 use Rattle.java_parse.proofs.Post.{stmt_append, arm_append}
 use Rattle.java_parse.proofs.SoundStatements.{stmt_append-none, stmt_append-snoc, arm_append-snoc, arm_append-one}
-use Rattle.java_parse.proofs.CompleteExpressions.{Ends, Stops, stops_round, stops_square, stops_semi, begins_post, post_begins, expr_begins, no_semi, no_closes, post_none, index_none, post_reads, closed_reads, args_reads, type_reads}
+use Rattle.java_parse.proofs.Edges.{Ends, Stops, stops_round, stops_square, stops_semi, begins_post, post_begins, expr_begins, no_semi, no_closes, post_none}
+use Rattle.java_parse.proofs.CompleteExpressions.{index_none, post_reads, closed_reads, args_reads, type_reads}
 use Rattle.java_tree.specs.Statements.{not_final, is_final}
 use Rattle.java_parse.proofs.ExpressionSteps as x
 use Rattle.java_parse.proofs.StatementSteps as y
@@ -50,12 +51,15 @@ type_no_final (a_type boolean_base d) = refl
 type_no_final (a_type char_base d) = refl
 type_no_final (a_type named_base d) = refl
 
-local_by_final : {ts us vs ws : List Token} {t : TypeName} {n : List ℕ} {v : Option Expression} {p : Place} (f : Bool × List Token) → final_of ts ≡ f → Reads NType f.1 (Ok (t, us)) → word_next us ≡ Some (n, p, vs) → Reads NInit vs (Ok (v, ws)) →
+local_by_final : {ts us vs ws : List Token} {t : TypeName} {n : List ℕ} {v : Option Expression} {p : Place} (f : Bool × List Token) → final_of ts ≡ f
+    → Reads NType f.1 (Ok (t, us)) → word_next us ≡ Some (n, p, vs) → Reads NInit vs (Ok (v, ws)) →
     Reads NLocal ts (Ok (LocalOf f.0 t n v p, ws))
 local_by_final {ts = ts} {us = us} {vs = vs} {ws = ws} {t = t} {n = n} {v = v} {p = p} f e a h b =
-    subst (λ (f : Bool × List Token). Reads NLocal ts (Ok (LocalOf f.0 t n v p, ws))) e (y.local_is (subst (λ (f : Bool × List Token). Reads NType f.1 (Ok (t, us))) (sym e) a) h b)
+    subst (λ (f : Bool × List Token). Reads NLocal ts (Ok (LocalOf f.0 t n v p, ws))) e
+    (y.local_is (subst (λ (f : Bool × List Token). Reads NType f.1 (Ok (t, us))) (sym e) a) h b)
 
-init_reads : {ts rest : List Token} {v : Option Expression} {q : Place} → IsInit ts (mark marks.Semi q ∷ rest) v → Reads NInit ts (Ok (v, mark marks.Semi q ∷ rest))
+init_reads : {ts rest : List Token} {v : Option Expression} {q : Place} → IsInit ts (mark marks.Semi q ∷ rest) v
+    → Reads NInit ts (Ok (v, mark marks.Semi q ∷ rest))
 init_reads no_init = y.init_none refl
 init_reads (an_init d) = y.init_some refl (closed_reads d stops_semi)
 
@@ -63,7 +67,8 @@ local_reads : {ts rest : List Token} {s : Statement} {q : Place} → IsLocal ts 
 local_reads (a_local not_final t i) = local_by_final (false, _) (type_no_final t) (type_reads t refl) refl (init_reads i)
 local_reads (a_local is_final t i) = local_by_final (true, _) refl (type_reads t refl) refl (init_reads i)
 
-value_reads : {ts rest : List Token} {v : Option Expression} {q : Place} → IsValue ts (mark marks.Semi q ∷ rest) v → Reads NValue ts (Ok (v, mark marks.Semi q ∷ rest))
+value_reads : {ts rest : List Token} {v : Option Expression} {q : Place} → IsValue ts (mark marks.Semi q ∷ rest) v
+    → Reads NValue ts (Ok (v, mark marks.Semi q ∷ rest))
 value_reads no_value = y.value_none refl
 value_reads (a_value {ts = ts} d) = y.value_some (no_semi ts (expr_begins d)) (closed_reads d stops_semi)
 
@@ -81,7 +86,13 @@ no h = absurd (let g : ⊥ = cc in g)
 
 target_reads : {ts rest : List Token} {e : Expression} → IsTarget ts rest e → Ends rest → Ended is_target ts rest e
 target_reads to_name s = record { how = ends.Name; kind = refl; reads = x.post_steps (x.atom_name refl refl s.round) (ends_here s) }
-target_reads (to_field d) s = let r = post_reads d refl (λ h. refl) in record { how = ends.Target; kind = refl; reads = r.goes _ (x.tail_field refl refl s.round (ends_here s)) }
+target_reads (to_field d) s =
+    let r = post_reads d refl (λ h. refl) in record {
+      how = ends.Target;
+      kind = refl;
+      reads = r.goes _
+          (x.tail_field refl refl s.round (ends_here s));
+    }
 target_reads (to_index {p = p} {us = us} d i) s =
     let r = post_reads d refl (λ h. no h) in
     let h : index_next r.end_ (mark marks.OpenSquare p ∷ us) ≡ Some (p, us) = rw (r.kind refl) refl in
@@ -89,8 +100,20 @@ target_reads (to_index {p = p} {us = us} d i) s =
 
 call_reads : {ts rest : List Token} {e : Expression} → IsCall ts rest e → Ends rest → Ended is_call ts rest e
 call_reads (plain_call a) s = record { how = ends.Call; kind = refl; reads = x.post_steps (x.atom_call refl refl refl (args_reads a)) (ends_here s) }
-call_reads (call_upon d a) s = let r = post_reads d refl (λ h. refl) in record { how = ends.Call; kind = refl; reads = r.goes _ (x.tail_call refl refl refl (args_reads a) (ends_here s)) }
-call_reads (call_above a) s = record { how = ends.Call; kind = refl; reads = x.post_steps (x.atom_super refl refl refl refl refl (x.super_call refl refl refl (args_reads a))) (ends_here s) }
+call_reads (call_upon d a) s =
+    let r = post_reads d refl (λ h. refl) in record {
+      how = ends.Call;
+      kind = refl;
+      reads = r.goes _ (x.tail_call refl refl refl (args_reads a)
+          (ends_here s));
+    }
+call_reads (call_above a) s =
+    record {
+      how = ends.Call;
+      kind = refl;
+      reads = x.post_steps (x.atom_super refl refl refl refl refl (x.super_call refl refl refl (args_reads a)))
+          (ends_here s);
+    }
 
 target_begins : {ts rest : List Token} {e : Expression} → IsTarget ts rest e → next_is begins_post ts ≡ true
 target_begins to_name = refl
@@ -117,15 +140,19 @@ compound_free marks.PercentAssign o p us h = record { ends_ = record { dot = ref
 compound_free _ o p us h = cc
 
 stepping_free : (m o : Mark) (p : Place) (us : List Token) → stepping m ≡ Some o → Free m p us × (compound m ≡ None)
-stepping_free marks.PlusPlus o p us h = (record { ends_ = record { dot = refl; round = refl; square = refl; cast = refl }; assign_ = refl; follows = refl }, refl)
-stepping_free marks.MinusMinus o p us h = (record { ends_ = record { dot = refl; round = refl; square = refl; cast = refl }; assign_ = refl; follows = refl }, refl)
+stepping_free marks.PlusPlus o p us h =
+    (record { ends_ = record { dot = refl; round = refl; square = refl; cast = refl }; assign_ = refl; follows = refl }, refl)
+stepping_free marks.MinusMinus o p us h =
+    (record { ends_ = record { dot = refl; round = refl; square = refl; cast = refl }; assign_ = refl; follows = refl }, refl)
 stepping_free _ o p us h = cc
 
 named_reads : {n : List ℕ} {p : Place} {rest : List Token} → Ends rest → Reads NPost (word n p ∷ rest) (Ok ((NameRef n p, ends.Name), rest))
 named_reads s = x.post_steps (x.atom_name refl refl s.round) (ends_here s)
 
-done_reads : {ts rest : List Token} {e : Expression} {s : Statement} → Ended is_call ts rest e → stepping_next ts ≡ None → ActEnds rest → done ts e ≡ s → Reads NAct ts (Ok (s, rest))
-done_reads {ts = ts} {rest = rest} r h n q = subst (λ (s : Statement). Reads NAct ts (Ok (s, rest))) q (y.act_post h r.reads (y.act_rest_call n.assign_ n.compound_ n.stepping_ r.kind))
+done_reads : {ts rest : List Token} {e : Expression} {s : Statement} → Ended is_call ts rest e → stepping_next ts ≡ None → ActEnds rest
+    → done ts e ≡ s → Reads NAct ts (Ok (s, rest))
+done_reads {ts = ts} {rest = rest} r h n q =
+    subst (λ (s : Statement). Reads NAct ts (Ok (s, rest))) q (y.act_post h r.reads (y.act_rest_call n.assign_ n.compound_ n.stepping_ r.kind))
 
 act_reads : {ts rest : List Token} {s : Statement} → IsAct ts rest s → ActEnds rest → Reads NAct ts (Ok (s, rest))
 act_reads (assign {ts = ts} t e) n =
@@ -140,10 +167,17 @@ act_reads (step_after {m = m} {o = o} {q = q} {rest = rest} h) n =
     let g : compound_next (mark m q ∷ rest) ≡ None = rw f.1 refl in
     let k : stepping_next (mark m q ∷ rest) ≡ Some (o, q, rest) = rw h refl in
     y.act_post refl (named_reads f.0.ends_) (y.act_rest_after f.0.assign_ g k refl)
-act_reads (step_before {n = w} {m = m} {o = o} {p = p} {q = q} {rest = rest} h) n = let f : stepping_next (mark m q ∷ word w p ∷ rest) ≡ Some (o, q, word w p ∷ rest) = rw h refl in y.act_before f refl
+act_reads (step_before {n = w} {m = m} {o = o} {p = p} {q = q} {rest = rest} h) n =
+    let f : stepping_next (mark m q ∷ word w p ∷ rest) ≡ Some (o, q, word w p ∷ rest) = rw h refl in y.act_before f refl
 act_reads (do_call {e = e} {ts = ts} c h) n = done_reads (call_reads c n.stops.ends_) ((post_none ts (call_begins c)).2) n (rw (h, done) refl)
 act_reads (print {ts = ts} c h) n = done_reads (call_reads c n.stops.ends_) ((post_none ts (call_begins c)).2) n (rw (h, done) refl)
-act_reads (do_new a) n = done_reads (record { how = ends.New; kind = refl; reads = x.post_steps (x.atom_new refl refl refl refl (x.new_object refl refl (args_reads a))) (ends_here n.stops.ends_) }) refl n refl
+act_reads (do_new a) n = done_reads
+    (record {
+      how = ends.New;
+      kind = refl;
+      reads = x.post_steps (x.atom_new refl refl refl refl (x.new_object refl refl (args_reads a)))
+          (ends_here n.stops.ends_);
+    }) refl n refl
 
 -- no statement begins as a declaration of a local
 post_no_local : {b : Bool} {ts rest : List Token} {e : Expression} → IsPost b ts rest e → follows_word rest ≡ false → starts_local ts ≡ false
@@ -248,19 +282,23 @@ act_starts (do_call {ts = ts} c h) = post_acts ts (call_begins c)
 act_starts (print {ts = ts} c h) = post_acts ts (call_begins c)
 act_starts (do_new a) = record { other = refl; semi = refl; round_ = refl; brace = refl; else_ = refl }
 
-first_reads : {ts rest : List Token} {o : OptionalStatement} {q : Place} → IsFirst ts (mark marks.Semi q ∷ rest) o → Reads NFirst ts (Ok (o, mark marks.Semi q ∷ rest))
+first_reads : {ts rest : List Token} {o : OptionalStatement} {q : Place} → IsFirst ts (mark marks.Semi q ∷ rest) o
+    → Reads NFirst ts (Ok (o, mark marks.Semi q ∷ rest))
 first_reads no_first = y.first_none refl
 first_reads (first_local d) = let s = local_starts d in y.first_local s.1 s.0 (local_reads d)
 first_reads (first_act d) = y.first_act (act_starts d).semi (act_no_local d) (act_reads d semi_ends)
 
-step_reads : {ts rest : List Token} {o : OptionalStatement} {q : Place} → IsStep ts (mark marks.CloseRound q ∷ rest) o → Reads NStep ts (Ok (o, mark marks.CloseRound q ∷ rest))
+step_reads : {ts rest : List Token} {o : OptionalStatement} {q : Place} → IsStep ts (mark marks.CloseRound q ∷ rest) o
+    → Reads NStep ts (Ok (o, mark marks.CloseRound q ∷ rest))
 step_reads no_step = y.step_none refl
 step_reads (a_step d) = y.step_act (act_starts d).round_ (act_reads d round_ends)
 
-tested_reads : {us vs : List Token} {e : Expression} {q r : Place} → IsExpr 1 us (mark marks.CloseRound r ∷ vs) e → Reads NTested (mark marks.OpenRound q ∷ us) (Ok (e, vs))
+tested_reads : {us vs : List Token} {e : Expression} {q r : Place} → IsExpr 1 us (mark marks.CloseRound r ∷ vs) e
+    → Reads NTested (mark marks.OpenRound q ∷ us) (Ok (e, vs))
 tested_reads d = y.tested_is refl (closed_reads d stops_round) refl
 
-head_reads : {us vs ws xs : List Token} {f g : OptionalStatement} {v : Option Expression} {q r t w : Place} → IsFirst us (mark marks.Semi r ∷ vs) f → IsValue vs (mark marks.Semi t ∷ ws) v → IsStep ws (mark marks.CloseRound w ∷ xs) g →
+head_reads : {us vs ws xs : List Token} {f g : OptionalStatement} {v : Option Expression} {q r t w : Place} → IsFirst us (mark marks.Semi r ∷ vs) f
+    → IsValue vs (mark marks.Semi t ∷ ws) v → IsStep ws (mark marks.CloseRound w ∷ xs) g →
     Reads NForHead (mark marks.OpenRound q ∷ us) (Ok ((f, v, g), xs))
 head_reads a b c = y.for_head_is refl (first_reads a) refl (value_reads b) refl (step_reads c) refl
 
@@ -333,11 +371,14 @@ mutual
   item_reads (local_item d) h = y.item_local (local_starts d).0 (local_reads d) refl
   item_reads (stmt_item d) h = y.item_stmt (stmt_no_local d) (stmt_reads d (λ z. h))
 
-  pub items_reads : {us rest : List Token} {ss : Statements} → IsItems us rest ss → (before : Statements) → Reads (NItems before) us (Ok (stmt_append before ss, rest))
+  pub items_reads : {us rest : List Token} {ss : Statements} → IsItems us rest ss → (before : Statements)
+      → Reads (NItems before) us (Ok (stmt_append before ss, rest))
   items_reads no_items before = rw stmt_append-none (y.items_end refl)
-  items_reads (next_item {s = s} {ss = ss} d ds) before = rw (← stmt_append-snoc before s ss) (y.items_next (item_starts d).brace (item_reads d (items_no_else ds)) (items_reads ds (stmt_snoc before s)))
+  items_reads (next_item {s = s} {ss = ss} d ds) before =
+      rw (← stmt_append-snoc before s ss) (y.items_next (item_starts d).brace (item_reads d (items_no_else ds)) (items_reads ds (stmt_snoc before s)))
 
-  stmt_reads : {o : Bool} {ts rest : List Token} {s : Statement} → IsStmt o ts rest s → (o ≡ true → after_key keys.Else rest ≡ None) → Reads NStmt ts (Ok (s, rest))
+  stmt_reads : {o : Bool} {ts rest : List Token} {s : Statement} → IsStmt o ts rest s → (o ≡ true → after_key keys.Else rest ≡ None)
+      → Reads NStmt ts (Ok (s, rest))
   stmt_reads (block d) h = y.stmt_block refl (items_reads d no_statements)
   stmt_reads empty h = y.stmt_empty refl
   stmt_reads (acting d) h = y.stmt_act (act_starts d).other (act_reads d semi_ends) refl
@@ -348,8 +389,15 @@ mutual
   stmt_reads break_word h = y.stmt_break refl refl
   stmt_reads continue_word h = y.stmt_continue refl refl
 
-  arms_reads : {o : Bool} {ts rest : List Token} {a : Arms} {l : Else} → IsArms o ts rest a l → (o ≡ true → after_key keys.Else rest ≡ None) → (before : Arms) → Reads (NBranches before) ts (Ok ((arm_append before a, l), rest))
-  arms_reads (last_arm {o = false} {e = e} {s = s} t d) h before = rw (← arm_append-one before e (as_body s)) (y.branches_end (tested_reads t) (stmt_reads d (λ z. never z)) (h refl))
-  arms_reads (last_arm {o = true} {e = e} {s = s} t d) h before = rw (← arm_append-one before e (as_body s)) (y.branches_end (tested_reads t) (stmt_reads d h) (h refl))
-  arms_reads (else_arm {e = e} {s = s} t d u n) h before = rw (← arm_append-one before e (as_body s)) (y.branches_other (tested_reads t) (stmt_reads d (λ z. never z)) refl (stmt_no_if u n) (stmt_reads u h))
-  arms_reads (more_arms {e = e} {s = s} {a = a} t d r) h before = rw (← arm_append-snoc before e (as_body s) a) (y.branches_again (tested_reads t) (stmt_reads d (λ z. never z)) refl refl (arms_reads r h (arm_snoc before e (as_body s))))
+  arms_reads : {o : Bool} {ts rest : List Token} {a : Arms} {l : Else} → IsArms o ts rest a l → (o ≡ true → after_key keys.Else rest ≡ None)
+      → (before : Arms) → Reads (NBranches before) ts (Ok ((arm_append before a, l), rest))
+  arms_reads (last_arm {o = false} {e = e} {s = s} t d) h before =
+      rw (← arm_append-one before e (as_body s)) (y.branches_end (tested_reads t) (stmt_reads d (λ z. never z)) (h refl))
+  arms_reads (last_arm {o = true} {e = e} {s = s} t d) h before =
+      rw (← arm_append-one before e (as_body s)) (y.branches_end (tested_reads t) (stmt_reads d h) (h refl))
+  arms_reads (else_arm {e = e} {s = s} t d u n) h before =
+      rw (← arm_append-one before e (as_body s)) (y.branches_other (tested_reads t) (stmt_reads d (λ z. never z)) refl (stmt_no_if u n)
+      (stmt_reads u h))
+  arms_reads (more_arms {e = e} {s = s} {a = a} t d r) h before =
+      rw (← arm_append-snoc before e (as_body s) a) (y.branches_again (tested_reads t) (stmt_reads d (λ z. never z)) refl refl
+      (arms_reads r h (arm_snoc before e (as_body s))))

@@ -51,7 +51,8 @@ pub after_is : (m : Mark) (ts : List Token) (w : Place × List Token) → after 
 after_is m [] w h = cc
 after_is m (t ∷ ts) w h = after_kind m t.kind t.place ts w h
 
-after_key_kind : (m : Keyword) (k : TokenKind) (p : Place) (ts : List Token) (w : Place × List Token) → after_key_by m k p ts ≡ Some w → token k p ∷ ts ≡ key m w.0 ∷ w.1
+after_key_kind : (m : Keyword) (k : TokenKind) (p : Place) (ts : List Token) (w : Place × List Token) → after_key_by m k p ts ≡ Some w
+    → token k p ∷ ts ≡ key m w.0 ∷ w.1
 after_key_kind m (kinds.Key k) p ts w h =
     let c = chosen (sameb key_type k m) (p, ts) w h in
     let e : k ≡ m = same_true key_type tt k m c.0 in
@@ -89,17 +90,20 @@ guarded : {A : Type 0} (b : Bool) (o : Option A) (w : A) → (if b then o else N
 guarded true o w h = (refl, h)
 guarded false o w h = cc
 
-pub instance_is : (l c : ℕ) (ts : List Token) (w : Place × List Token) → instance_next l c ts ≡ Some w → (ts ≡ key keys.InstanceOf w.0 ∷ w.1) × (l ≤ 7) × (7 ≤ c)
+pub instance_is : (l c : ℕ) (ts : List Token) (w : Place × List Token) → instance_next l c ts ≡ Some w → (ts ≡ key keys.InstanceOf w.0 ∷ w.1)
+    × (l ≤ 7) × (7 ≤ c)
 instance_is l c ts w h =
     let g = guarded (nat_le l 7 && nat_le 7 c) (after_key keys.InstanceOf ts) w h in
     let b = both_true (nat_le l 7) (nat_le 7 c) g.0 in
     (after_key_is keys.InstanceOf ts w g.1, leb-true l 7 b.0, leb-true 7 c b.1)
 
-least_of : (k : TokenKind) (p q : Place) (ts : List Token) (w : Place × List Token) → least_kind k p ts ≡ Some w → mark marks.Minus p ∷ token k q ∷ ts ≡ mark marks.Minus w.0 ∷ token kinds.Least q ∷ w.1
+least_of : (k : TokenKind) (p q : Place) (ts : List Token) (w : Place × List Token) → least_kind k p ts ≡ Some w → mark marks.Minus p ∷ token k q ∷ ts
+    ≡ mark marks.Minus w.0 ∷ token kinds.Least q ∷ w.1
 least_of kinds.Least p q ts w h = cc
 least_of _ p q ts w h = cc
 
-least_behind : (p : Place) (ts : List Token) (w : Place × List Token) → least_by p ts ≡ Some w → (q : Place) × (mark marks.Minus p ∷ ts ≡ mark marks.Minus w.0 ∷ token kinds.Least q ∷ w.1)
+least_behind : (p : Place) (ts : List Token) (w : Place × List Token) → least_by p ts ≡ Some w → (q : Place)
+    × (mark marks.Minus p ∷ ts ≡ mark marks.Minus w.0 ∷ token kinds.Least q ∷ w.1)
 least_behind p [] w h = cc
 least_behind p (t ∷ ts) w h = (t.place, least_of t.kind p t.place ts w h)
 
@@ -109,7 +113,8 @@ least_is ts w h = option_cases (after marks.Minus ts)
     (λ a yes. let g = rw (yes, least_next) at h in
     let b = least_behind a.0 a.1 w g in (b.0, after_is marks.Minus ts a yes ∙ b.1))
 
-sign_kind : (k : TokenKind) (p : Place) (ts : List Token) (w : Mark × Place × List Token) → sign_by k p ts ≡ Some w → (token k p ∷ ts ≡ mark w.0 w.1 ∷ w.2) × (is_sign w.0 ≡ true)
+sign_kind : (k : TokenKind) (p : Place) (ts : List Token) (w : Mark × Place × List Token) → sign_by k p ts ≡ Some w
+    → (token k p ∷ ts ≡ mark w.0 w.1 ∷ w.2) × (is_sign w.0 ≡ true)
 sign_kind (kinds.Mark m) p ts w h =
     let c = chosen (is_sign m) (m, p, ts) w h in
     subst (λ (w : Mark × Place × List Token). (mark m p ∷ ts ≡ mark w.0 w.1 ∷ w.2) × (is_sign w.0 ≡ true)) c.1 (refl, c.0)
@@ -119,10 +124,13 @@ pub sign_is : (ts : List Token) (w : Mark × Place × List Token) → sign_next 
 sign_is [] w h = cc
 sign_is (t ∷ ts) w h = sign_kind t.kind t.place ts w h
 
-based : {k : TokenKind} {p : Place} {ts : List Token} {b : TypeBase} (w : TypeBase × Place × List Token) → IsBase (token k p ∷ ts) ts b p → Some (b, p, ts) ≡ Some w → IsBase (token k p ∷ ts) w.2 w.0 w.1
-based {k = k} {p = p} {ts = ts} {b = b} w d h = let e : (b, p, ts) ≡ w = cc in subst (λ (w : TypeBase × Place × List Token). IsBase (token k p ∷ ts) w.2 w.0 w.1) e d
+based : {k : TokenKind} {p : Place} {ts : List Token} {b : TypeBase} (w : TypeBase × Place × List Token) → IsBase (token k p ∷ ts) ts b p
+    → Some (b, p, ts) ≡ Some w → IsBase (token k p ∷ ts) w.2 w.0 w.1
+based {k = k} {p = p} {ts = ts} {b = b} w d h =
+    let e : (b, p, ts) ≡ w = cc in subst (λ (w : TypeBase × Place × List Token). IsBase (token k p ∷ ts) w.2 w.0 w.1) e d
 
-base_key : (k : Keyword) (p : Place) (ts : List Token) (w : TypeBase × Place × List Token) → base_by (kinds.Key k) p ts ≡ Some w → IsBase (key k p ∷ ts) w.2 w.0 w.1
+base_key : (k : Keyword) (p : Place) (ts : List Token) (w : TypeBase × Place × List Token) → base_by (kinds.Key k) p ts ≡ Some w
+    → IsBase (key k p ∷ ts) w.2 w.0 w.1
 base_key keys.Int p ts w h = based w int_base h
 base_key keys.Boolean p ts w h = based w boolean_base h
 base_key keys.Char p ts w h = based w char_base h
@@ -137,14 +145,16 @@ pub base_is : (ts : List Token) (w : TypeBase × Place × List Token) → base_n
 base_is [] w h = cc
 base_is (t ∷ ts) w h = base_kind t.kind t.place ts w h
 
-cast_made : (p q r : Place) (ts us rest : List Token) (b : TypeBase) (e : Expression) → IsBase us (mark marks.CloseRound r ∷ ts) b q → may_cast b ts ≡ true → IsPrefixed ts rest e →
+cast_made : (p q r : Place) (ts us rest : List Token) (b : TypeBase) (e : Expression) → IsBase us (mark marks.CloseRound r ∷ ts) b q
+    → may_cast b ts ≡ true → IsPrefixed ts rest e →
     IsPrefixed (mark marks.OpenRound p ∷ us) rest (CastOf (record { base = b; dim = 0; place = q }) e p)
 cast_made p q r ts us rest b e int_base h d = cast_int d
 cast_made p q r ts us rest b e boolean_base h d = cc
 cast_made p q r ts us rest b e char_base h d = cast_char d
 cast_made p q r ts us rest b e named_base h d = cast_named h d
 
-pub cast_is : (ts : List Token) (w : TypeName × Place × List Token) → cast_next ts ≡ Some w → (rest : List Token) (e : Expression) → IsPrefixed w.2 rest e → IsPrefixed ts rest (CastOf w.0 e w.1)
+pub cast_is : (ts : List Token) (w : TypeName × Place × List Token) → cast_next ts ≡ Some w → (rest : List Token) (e : Expression)
+    → IsPrefixed w.2 rest e → IsPrefixed ts rest (CastOf w.0 e w.1)
 cast_is ts w h rest e d = option_cases (after marks.OpenRound ts)
     (λ no. let g = rw (no, cast_next) at h in cc)
     (λ a yes. let g = rw (yes, cast_next) at h in
@@ -162,10 +172,12 @@ cast_is ts w h rest e d = option_cases (after marks.OpenRound ts)
     (subst (λ (w : TypeName × Place × List Token). IsPrefixed w.2 rest e → IsPrefixed (mark marks.OpenRound a.0 ∷ a.1) rest (CastOf w.0 e w.1)) f.1
     (cast_made a.0 b.1 c.0 c.1 a.1 rest b.0 e (subst (λ (us : List Token). IsBase a.1 us b.0 b.1) ec db) f.0) d))))
 
-lit : {k : TokenKind} {p : Place} {ts : List Token} {e : Expression} (w : Expression × List Token) → IsPost true (token k p ∷ ts) ts e → Some (e, ts) ≡ Some w → IsPost true (token k p ∷ ts) w.1 w.0
+lit : {k : TokenKind} {p : Place} {ts : List Token} {e : Expression} (w : Expression × List Token) → IsPost true (token k p ∷ ts) ts e
+    → Some (e, ts) ≡ Some w → IsPost true (token k p ∷ ts) w.1 w.0
 lit {k = k} {p = p} {ts = ts} {e = e} w d h = let f : (e, ts) ≡ w = cc in subst (λ (w : Expression × List Token). IsPost true (token k p ∷ ts) w.1 w.0) f d
 
-literal_key : (k : Keyword) (p : Place) (ts : List Token) (w : Expression × List Token) → literal_by (kinds.Key k) p ts ≡ Some w → IsPost true (key k p ∷ ts) w.1 w.0
+literal_key : (k : Keyword) (p : Place) (ts : List Token) (w : Expression × List Token) → literal_by (kinds.Key k) p ts ≡ Some w
+    → IsPost true (key k p ∷ ts) w.1 w.0
 literal_key keys.True p ts w h = lit w true_literal h
 literal_key keys.False p ts w h = lit w false_literal h
 literal_key keys.Null p ts w h = lit w null_literal h
@@ -196,12 +208,15 @@ final_is ts = option_cases (after_key keys.Final ts)
     (λ a yes. rw (yes, final_of) (subst (λ ts. IsFinal ts a.1 true) (sym (after_key_is keys.Final ts a yes)) is_final))
 
 -- a mark of which `of` makes an operator
-stepped_by : (f : Mark → Option Mark) (m : Mark) (p : Place) (ts : List Token) (o : Option Mark) (w : Mark × Place × List Token) → f m ≡ o → operator_of o p ts ≡ Some w →
+stepped_by : (f : Mark → Option Mark) (m : Mark) (p : Place) (ts : List Token) (o : Option Mark) (w : Mark × Place × List Token) → f m ≡ o
+    → operator_of o p ts ≡ Some w →
     (n : Mark) × (mark m p ∷ ts ≡ mark n w.1 ∷ w.2) × (f n ≡ Some w.0)
 stepped_by f m p ts None w g h = cc
-stepped_by f m p ts (Some o) w g h = let e : (o, p, ts) ≡ w = cc in subst (λ (w : Mark × Place × List Token). (n : Mark) × (mark m p ∷ ts ≡ mark n w.1 ∷ w.2) × (f n ≡ Some w.0)) e (m, refl, g)
+stepped_by f m p ts (Some o) w g h = let e : (o, p, ts) ≡ w = cc in subst (λ (w : Mark × Place × List Token). (n : Mark)
+    × (mark m p ∷ ts ≡ mark n w.1 ∷ w.2) × (f n ≡ Some w.0)) e (m, refl, g)
 
-stepping_kind : (k : TokenKind) (p : Place) (ts : List Token) (w : Mark × Place × List Token) → stepping_by k p ts ≡ Some w → (n : Mark) × (token k p ∷ ts ≡ mark n w.1 ∷ w.2) × (stepping n ≡ Some w.0)
+stepping_kind : (k : TokenKind) (p : Place) (ts : List Token) (w : Mark × Place × List Token) → stepping_by k p ts ≡ Some w → (n : Mark)
+    × (token k p ∷ ts ≡ mark n w.1 ∷ w.2) × (stepping n ≡ Some w.0)
 stepping_kind (kinds.Mark m) p ts w h = stepped_by stepping m p ts (stepping m) w refl h
 stepping_kind _ p ts w h = cc
 
@@ -209,7 +224,8 @@ pub stepping_is : (ts : List Token) (w : Mark × Place × List Token) → steppi
 stepping_is [] w h = cc
 stepping_is (t ∷ ts) w h = stepping_kind t.kind t.place ts w h
 
-compound_kind : (k : TokenKind) (p : Place) (ts : List Token) (w : Mark × Place × List Token) → compound_by k p ts ≡ Some w → (n : Mark) × (token k p ∷ ts ≡ mark n w.1 ∷ w.2) × (compound n ≡ Some w.0)
+compound_kind : (k : TokenKind) (p : Place) (ts : List Token) (w : Mark × Place × List Token) → compound_by k p ts ≡ Some w → (n : Mark)
+    × (token k p ∷ ts ≡ mark n w.1 ∷ w.2) × (compound n ≡ Some w.0)
 compound_kind (kinds.Mark m) p ts w h = stepped_by compound m p ts (compound m) w refl h
 compound_kind _ p ts w h = cc
 
@@ -217,18 +233,21 @@ pub compound_is : (ts : List Token) (w : Mark × Place × List Token) → compou
 compound_is [] w h = cc
 compound_is (t ∷ ts) w h = compound_kind t.kind t.place ts w h
 
-modifier_kind : (k : TokenKind) (p : Place) (ts : List Token) (w : Modifier × List Token) → modifier_by k p ts ≡ Some w → (token k p ∷ ts ≡ key w.0.word w.0.place ∷ w.1) × (is_modifier w.0.word ≡ true)
+modifier_kind : (k : TokenKind) (p : Place) (ts : List Token) (w : Modifier × List Token) → modifier_by k p ts ≡ Some w
+    → (token k p ∷ ts ≡ key w.0.word w.0.place ∷ w.1) × (is_modifier w.0.word ≡ true)
 modifier_kind (kinds.Key k) p ts w h =
     let c = chosen (is_modifier k) (record { word = k; place = p }, ts) w h in
     subst (λ (w : Modifier × List Token). (key k p ∷ ts ≡ key w.0.word w.0.place ∷ w.1) × (is_modifier w.0.word ≡ true)) c.1 (refl, c.0)
 modifier_kind _ p ts w h = cc
 
-pub modifier_is : (ts : List Token) (w : Modifier × List Token) → modifier_next ts ≡ Some w → (ts ≡ key w.0.word w.0.place ∷ w.1) × (is_modifier w.0.word ≡ true)
+pub modifier_is : (ts : List Token) (w : Modifier × List Token) → modifier_next ts ≡ Some w → (ts ≡ key w.0.word w.0.place ∷ w.1)
+    × (is_modifier w.0.word ≡ true)
 modifier_is [] w h = cc
 modifier_is (t ∷ ts) w h = modifier_kind t.kind t.place ts w h
 
 id_kind : (k : TokenKind) (p : Place) (ts : List Token) (w : Id × List Token) → id_by k p ts ≡ Some w → token k p ∷ ts ≡ word w.0.name w.0.place ∷ w.1
-id_kind (kinds.Word n) p ts w h = let e : (record { name = n; place = p }, ts) ≡ w = cc in subst (λ (w : Id × List Token). word n p ∷ ts ≡ word w.0.name w.0.place ∷ w.1) e refl
+id_kind (kinds.Word n) p ts w h = let e : (record { name = n; place = p }, ts) ≡ w = cc in subst (λ (w : Id × List Token). word n p ∷ ts
+    ≡ word w.0.name w.0.place ∷ w.1) e refl
 id_kind _ p ts w h = cc
 
 pub id_is : (ts : List Token) (w : Id × List Token) → id_next ts ≡ Some w → ts ≡ word w.0.name w.0.place ∷ w.1
@@ -236,8 +255,10 @@ id_is [] w h = cc
 id_is (t ∷ ts) w h = id_kind t.kind t.place ts w h
 
 pub start_cases : {P : Type 0} (s : Start) → ((p : Place) (us : List Token) → s ≡ SBlock p us → P) → ((p : Place) (us : List Token) → s ≡ SEmpty p us → P) →
-    ((p : Place) (us : List Token) → s ≡ SIf p us → P) → ((p : Place) (us : List Token) → s ≡ SWhile p us → P) → ((p : Place) (us : List Token) → s ≡ SFor p us → P) →
-    ((p : Place) (us : List Token) → s ≡ SReturn p us → P) → ((p : Place) (us : List Token) → s ≡ SBreak p us → P) → ((p : Place) (us : List Token) → s ≡ SContinue p us → P) → (s ≡ SOther → P) → P
+    ((p : Place) (us : List Token) → s ≡ SIf p us → P) → ((p : Place) (us : List Token) → s ≡ SWhile p us → P)
+    → ((p : Place) (us : List Token) → s ≡ SFor p us → P) →
+    ((p : Place) (us : List Token) → s ≡ SReturn p us → P) → ((p : Place) (us : List Token) → s ≡ SBreak p us → P)
+    → ((p : Place) (us : List Token) → s ≡ SContinue p us → P) → (s ≡ SOther → P) → P
 start_cases (SBlock p us) a b c d e f g h i = a p us refl
 start_cases (SEmpty p us) a b c d e f g h i = b p us refl
 start_cases (SIf p us) a b c d e f g h i = c p us refl

@@ -24,7 +24,8 @@ pub record Accepted (ts : List Token) (ds : List DeclTree) : Type 0 where
   pub not_deep : (k : ℕ) → IsTooDeep ts k → ⊥
   pub derives : Derives ts ds
 
-pub accepted : (ts us rest : List Token) (ds : List DeclTree) → us ≡ ts → Reads (NDecls []) us (Ok (ds, rest)) → ((k : ℕ) → k < length us → length (stack_after [] us (k + 1)) ≤ 128) → Accepted ts ds
+pub accepted : (ts us rest : List Token) (ds : List DeclTree) → us ≡ ts → Reads (NDecls []) us (Ok (ds, rest))
+    → ((k : ℕ) → k < length us → length (stack_after [] us (k + 1)) ≤ 128) → Accepted ts ds
 accepted ts us rest ds e r all = subst (λ (ts : List Token). Accepted ts ds) e (record {
   placed = program_sound r;
   nested = shallow_nested us all;
@@ -39,7 +40,8 @@ pub record Refused (ts : List Token) : Type 0 where
   pub not_deep : (k : ℕ) → IsTooDeep ts k → ⊥
   pub none : (tree : List DeclTree) → Derives ts tree → ⊥
 
-pub refused : (ts us rest : List Token) → us ≡ ts → Reads (NDecls []) us (Err (Left rest)) → ((k : ℕ) → k < length us → length (stack_after [] us (k + 1)) ≤ 128) → Refused ts
+pub refused : (ts us rest : List Token) → us ≡ ts → Reads (NDecls []) us (Err (Left rest))
+    → ((k : ℕ) → k < length us → length (stack_after [] us (k + 1)) ≤ 128) → Refused ts
 refused ts us rest e r all = subst (λ (ts : List Token). Refused ts) e (record {
   nested = shallow_nested us all;
   not_deep = λ k d. let h = shallow_nested us all in absurd (omega (arith, h, deep_nested us k d));

@@ -158,7 +158,8 @@ Post NResult ts x rest = IsResult ts rest x
 Post NHead ts x rest = IsHead ts rest x
 Post NBody ts x rest = IsBody ts rest x
 Post NMember ts x rest = IsMember ts rest x
-Post (NMethod ms t n p) ts x rest = (us vs : List Token) (q : Place) → IsMods us vs ms → IsResult vs (word n p ∷ mark marks.OpenRound q ∷ ts) t → IsMember us rest x
+Post (NMethod ms t n p) ts x rest = (us vs : List Token) (q : Place) → IsMods us vs ms → IsResult vs (word n p ∷ mark marks.OpenRound q ∷ ts) t
+    → IsMember us rest x
 Post (NMembers bs) ts x rest = Membered bs ts x rest
 Post (NHeads hs) ts x rest = Heads hs ts x rest
 Post (NClass ms) ts x rest = (us : List Token) (q : Place) → IsMods us (key keys.Class q ∷ ts) ms → IsDecl us rest x

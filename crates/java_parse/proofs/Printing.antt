@@ -19,17 +19,21 @@ ends_line o = option_map (λ (x : Bool × Option Expression). x.0) o
 
 kind_args : (n : List ℕ) (xs : List Expr) → print_kind n (length xs) ≡ ends_line (printed_args n (exprs xs))
 kind_args n [] = bool_cases (is_called n (codes "println")) (λ yes. rw yes refl) (λ no. rw no refl)
-kind_args n (x ∷ []) = bool_cases (is_called n (codes "println")) (λ yes. rw yes refl) (λ no. rw no (bool_cases (is_called n (codes "print")) (λ yes. rw yes refl) (λ no2. rw no2 refl)))
+kind_args n (x ∷ []) = bool_cases (is_called n (codes "println")) (λ yes. rw yes refl)
+    (λ no. rw no (bool_cases (is_called n (codes "print")) (λ yes. rw yes refl) (λ no2. rw no2 refl)))
 kind_args n (x ∷ (y ∷ xs)) =
     let f : nat_lt (length (x ∷ (y ∷ xs))) 2 ≡ false = lt-leb (suc (length (x ∷ (y ∷ xs)))) 2 (omega arith) in
     rw f refl
 
-pub prints_as : {e : Expr} {o : Option (Box Expr Global)} (b : Box Expr Global) (n : List ℕ) (v : Vec Expr Global) {p : Place} (k : ℕ) → e ≡ Call o n v p → o ≡ Some b → is_out (expr_of b.value) ≡ true → k ≡ length v.items →
+pub prints_as : {e : Expr} {o : Option (Box Expr Global)} (b : Box Expr Global) (n : List ℕ) (v : Vec Expr Global) {p : Place} (k : ℕ)
+    → e ≡ Call o n v p → o ≡ Some b → is_out (expr_of b.value) ≡ true → k ≡ length v.items →
     print_kind n k ≡ ends_line (printed_by (expr_of e))
 prints_as b n v {p = p} z h k i q =
-    ap (print_kind n) q ∙ kind_args n v.items ∙ sym (ap (λ (e : Expr). ends_line (printed_by (expr_of e))) (h ∙ ap (λ o. Call o n v p) k) ∙ rw i (ap (λ es. ends_line (printed_args n es)) (exprs_vec v)))
+    ap (print_kind n) q ∙ kind_args n v.items ∙ sym (ap (λ (e : Expr). ends_line (printed_by (expr_of e))) (h ∙ ap (λ o. Call o n v p) k)
+    ∙ rw i (ap (λ es. ends_line (printed_args n es)) (exprs_vec v)))
 
-list_arg : (n : List ℕ) (xs : List Expr) (k : ℕ) (r : Option Expr) → k ≡ length xs → ((d : Expr) → 0 < k → r ≡ Some (slice_index_or xs (k - 1) d)) → (IsSome r → 0 < k) →
+list_arg : (n : List ℕ) (xs : List Expr) (k : ℕ) (r : Option Expr) → k ≡ length xs → ((d : Expr) → 0 < k → r ≡ Some (slice_index_or xs (k - 1) d))
+    → (IsSome r → 0 < k) →
     (l : Bool) (v : Option Expression) → printed_args n (exprs xs) ≡ Some (l, v) → value_of r ≡ v
 list_arg n [] k None q h s l v p = bool_cases (is_called n (codes "println"))
     (λ yes. let g = rw yes at p in let e : ◌≡◌ {A = Bool × Option Expression} (true, None) (l, v) = cc in ap (λ (x : Bool × Option Expression). x.1) e)
@@ -40,19 +44,24 @@ list_arg n (x ∷ []) k r q h s l v p =
     let g : r ≡ Some (slice_index_or (x ∷ []) (k - 1) x) = h x (omega (arith, one)) in
     let f : r ≡ Some x = subst (λ (k : ℕ). r ≡ Some (slice_index_or (x ∷ []) (k - 1) x)) one g in
     ap value_of f ∙ bool_cases (is_called n (codes "println"))
-    (λ yes. let g = rw yes at p in let e : ◌≡◌ {A = Bool × Option Expression} (true, Some (expr_of x)) (l, v) = cc in ap (λ (x : Bool × Option Expression). x.1) e)
+    (λ yes. let g = rw yes at p in let e : ◌≡◌ {A = Bool × Option Expression} (true, Some (expr_of x)) (l, v) = cc in ap
+    (λ (x : Bool × Option Expression). x.1) e)
     (λ no. let g = rw no at p in bool_cases (is_called n (codes "print"))
-    (λ yes. let k = rw yes at g in let e : ◌≡◌ {A = Bool × Option Expression} (false, Some (expr_of x)) (l, v) = cc in ap (λ (x : Bool × Option Expression). x.1) e)
+    (λ yes. let k = rw yes at g in let e : ◌≡◌ {A = Bool × Option Expression} (false, Some (expr_of x)) (l, v) = cc in ap
+    (λ (x : Bool × Option Expression). x.1) e)
     (λ no2. let k = rw no2 at g in cc))
 list_arg n (x ∷ (y ∷ xs)) k r q h s l v p = cc
 
-call_printed : (o : Option (Box Expr Global)) (n : List ℕ) (v : Vec Expr Global) (p : Place) (l : Bool) (a : Option Expression) → printed_by (expr_of (Call o n v p)) ≡ Some (l, a) → printed_args n (exprs v.items) ≡ Some (l, a)
+call_printed : (o : Option (Box Expr Global)) (n : List ℕ) (v : Vec Expr Global) (p : Place) (l : Bool) (a : Option Expression)
+    → printed_by (expr_of (Call o n v p)) ≡ Some (l, a) → printed_args n (exprs v.items) ≡ Some (l, a)
 call_printed None n v p l a h = cc
 call_printed (Some b) n v p l a h = bool_cases (is_out (expr_of b.value))
     (λ yes. let g = rw yes at h in sym (ap (printed_args n) (exprs_vec v)) ∙ g)
     (λ no. let g = rw no at h in cc)
 
-pub argument_is : {e : Expr} (o : Option (Box Expr Global)) (n : List ℕ) (w : Vec Expr Global) {p : Place} (k : ℕ) (r : Option Expr) → e ≡ Call o n w p → k ≡ length w.items →
-    ((d : Expr) → 0 < k → r ≡ Some (slice_index_or w.items (k - 1) d)) → (IsSome r → 0 < k) → (l : Bool) (v : Option Expression) → printed_by (expr_of e) ≡ Some (l, v) → value_of r ≡ v
+pub argument_is : {e : Expr} (o : Option (Box Expr Global)) (n : List ℕ) (w : Vec Expr Global) {p : Place} (k : ℕ) (r : Option Expr)
+    → e ≡ Call o n w p → k ≡ length w.items →
+    ((d : Expr) → 0 < k → r ≡ Some (slice_index_or w.items (k - 1) d)) → (IsSome r → 0 < k) → (l : Bool) (v : Option Expression)
+    → printed_by (expr_of e) ≡ Some (l, v) → value_of r ≡ v
 argument_is o n w {p = p} k r h q a s l v g =
     list_arg n w.items k r q a s l v (call_printed o n w p l v (sym (ap (λ (e : Expr). printed_by (expr_of e)) h) ∙ g))

@@ -27,7 +27,8 @@ arms-snoc : (xs : List Arm) (a : Arm) → arms_seen (xs ++ a ∷ []) ≡ arm_sno
 arms-snoc [] a = refl
 arms-snoc (x ∷ xs) a = ap (and_arm (expr_of x.test) (stmts x.body.items)) (arms-snoc xs a)
 
-pub pushed_arm : (xs ys : List Arm) (a : Arm) (ss : Statements) → ys ≡ xs ++ a ∷ [] → stmts a.body.items ≡ ss → arms_seen ys ≡ arm_snoc (arms_seen xs) (expr_of a.test) ss
+pub pushed_arm : (xs ys : List Arm) (a : Arm) (ss : Statements) → ys ≡ xs ++ a ∷ [] → stmts a.body.items ≡ ss
+    → arms_seen ys ≡ arm_snoc (arms_seen xs) (expr_of a.test) ss
 pushed_arm xs ys a ss h e = ap arms_seen h ∙ arms-snoc xs a ∙ ap (arm_snoc (arms_seen xs) (expr_of a.test)) e
 
 heads-snoc : (xs : List Head) (a : Head) → heads (xs ++ a ∷ []) ≡ heads xs ++ head_of a ∷ []

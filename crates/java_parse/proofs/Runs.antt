@@ -23,7 +23,8 @@ pub data Agrees {A : Type 0} : Outcome A → Outcome A → Type 0 where
   one_short : {o : Outcome A} → Agrees (Err NoMemory) o
   other_short : {o : Outcome A} → Agrees o (Err NoMemory)
 
-both : {A B : Type 0} {v w : A} {us vs : List Token} {o p : Outcome B} (P : A → List Token → Type 0) → Agrees (Ok (v, us)) (Ok (w, vs)) → (P v us → Agrees o p) → P w vs → Agrees o p
+both : {A B : Type 0} {v w : A} {us vs : List Token} {o p : Outcome B} (P : A → List Token → Type 0) → Agrees (Ok (v, us)) (Ok (w, vs))
+    → (P v us → Agrees o p) → P w vs → Agrees o p
 both P alike f d = f d
 
 first_fails : {A B : Type 0} {x : A × List Token} {f : Fault} {p : Outcome B} → Agrees (Err f) (Ok x) → Agrees (Err f) p
@@ -44,7 +45,8 @@ agrees s o p give short = other_short
 agrees s o p fail fail = alike
 agrees s o p fail short = other_short
 agrees s o p (ask a c) short = other_short
-agrees {m = m} s o p (ask {n = n} {ts = ts} {v = v} {k = k} a c) (ask {v = w} b d) = both (λ x r. Runs m (k x r) p) (agrees (body n ts) _ _ a b) (λ e. agrees (k v _) o p c e) d
+agrees {m = m} s o p (ask {n = n} {ts = ts} {v = v} {k = k} a c) (ask {v = w} b d) =
+    both (λ x r. Runs m (k x r) p) (agrees (body n ts) _ _ a b) (λ e. agrees (k v _) o p c e) d
 agrees s o p (ask {n = n} {ts = ts} a c) (ask_fails b) = other_fails (agrees (body n ts) _ _ a b)
 agrees s o p (ask_fails a) short = other_short
 agrees s o p (ask_fails {n = n} {ts = ts} a) (ask b d) = first_fails (agrees (body n ts) _ _ a b)
@@ -79,5 +81,6 @@ pub good_runs : (P : (n : Want) → List Token → Val n → List Token → Type
 good_runs P all s Q o give g = g
 good_runs P all s Q o fail g = tt
 good_runs P all s Q o short g = tt
-good_runs P all s Q o (ask {n = n} {ts = ts} {rest = us} {v = w} {k = k} a b) g = good_runs P all (k w us) Q o b (g w us (good_runs P all (body n ts) (P n ts) (Ok (w, us)) a (all n ts)))
+good_runs P all s Q o (ask {n = n} {ts = ts} {rest = us} {v = w} {k = k} a b) g =
+    good_runs P all (k w us) Q o b (g w us (good_runs P all (body n ts) (P n ts) (Ok (w, us)) a (all n ts)))
 good_runs P all s Q o (ask_fails a) g = tt

@@ -99,12 +99,15 @@ call_small (call_above a) = omega (arith, args_small a)
 
 args_printed : (n : List ℕ) (es : Expressions) (l : Bool) (v : Option Expression) → printed_args n es ≡ Some (l, v) → value_size v ≤ exprs_size es
 args_printed n no_more l v h = bool_cases (is_called n (codes "println"))
-    (λ yes. let g = rw yes at h in let e : ◌≡◌ {A = Bool × Option Expression} (true, None) (l, v) = cc in subst (λ (x : Bool × Option Expression). value_size x.1 ≤ 0) e (omega arith))
+    (λ yes. let g = rw yes at h in let e : ◌≡◌ {A = Bool × Option Expression} (true, None) (l, v) = cc in subst
+    (λ (x : Bool × Option Expression). value_size x.1 ≤ 0) e (omega arith))
     (λ no. let g = rw no at h in cc)
 args_printed n (and_more e no_more) l v h = bool_cases (is_called n (codes "println"))
-    (λ yes. let g = rw yes at h in let f : ◌≡◌ {A = Bool × Option Expression} (true, Some e) (l, v) = cc in subst (λ (x : Bool × Option Expression). value_size x.1 ≤ expr_size e + 0) f (omega arith))
+    (λ yes. let g = rw yes at h in let f : ◌≡◌ {A = Bool × Option Expression} (true, Some e) (l, v) = cc in subst
+    (λ (x : Bool × Option Expression). value_size x.1 ≤ expr_size e + 0) f (omega arith))
     (λ no. let g = rw no at h in bool_cases (is_called n (codes "print"))
-    (λ yes. let k = rw yes at g in let f : ◌≡◌ {A = Bool × Option Expression} (false, Some e) (l, v) = cc in subst (λ (x : Bool × Option Expression). value_size x.1 ≤ expr_size e + 0) f (omega arith))
+    (λ yes. let k = rw yes at g in let f : ◌≡◌ {A = Bool × Option Expression} (false, Some e) (l, v) = cc in subst
+    (λ (x : Bool × Option Expression). value_size x.1 ≤ expr_size e + 0) f (omega arith))
     (λ no2. let k = rw no2 at g in cc))
 args_printed n (and_more e (and_more f es)) l v h = cc
 

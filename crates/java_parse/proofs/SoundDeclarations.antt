@@ -36,7 +36,8 @@ heads_all {ts = ts} {rest = rest} d = subst (λ (hs : List HeadTree). IsHeads ts
 params_all : {ts us rest : List Token} {q : Param} {qs : List Param} → IsParam ts us q → MoreParams (q ∷ []) us qs rest → IsParams ts rest qs
 params_all {ts = ts} {rest = rest} d m = subst (λ (qs : List Param). IsParams ts rest qs) (sym m.is) (some_params d m.params)
 
-field_good : {ts us vs : List Token} {ms : List Modifier} {o : Option TypeName} {t : TypeName} {w : List ℕ × Place × List Token} {x : Place × List Token} → IsMods ts us ms → IsResult us vs o → vs ≡ word w.0 w.1 ∷ w.2 → o ≡ Some t →
+field_good : {ts us vs : List Token} {ms : List Modifier} {o : Option TypeName} {t : TypeName} {w : List ℕ × Place × List Token} {x : Place
+    × List Token} → IsMods ts us ms → IsResult us vs o → vs ≡ word w.0 w.1 ∷ w.2 → o ≡ Some t →
     w.2 ≡ mark marks.Semi x.0 ∷ x.1 → IsMember ts x.1 (FieldTree ms t w.0 w.1)
 field_good m no_result e f g = cc
 field_good {us = us} {vs = vs} {t = t} {w = w} {x = x} m (a_result d) e f g =
@@ -50,14 +51,24 @@ at_end_is (t ∷ ts) h = cc
 pub mods_good : (ms : List Modifier) (ts : List Token) → Good Post (mods_step ms ts) (Post (NMods ms) ts)
 mods_good ms ts = option_cases (modifier_next ts)
     (λ n0. rw (n0, mods_step) (record { more = []; is = sym (append-nil ms); mods = no_mods }))
-    (λ w0 y0. let e0 = modifier_is ts w0 y0 in rw (y0, mods_step) (λ v r d. record { more = w0.0 ∷ d.more; is = d.is ∙ append_assoc ms (w0.0 ∷ []) d.more; mods = rw e0.0 (next_mod e0.1 d.mods) }))
+    (λ w0 y0. let e0 = modifier_is ts w0 y0 in rw (y0, mods_step) (λ v r d. record {
+      more = w0.0 ∷ d.more;
+      is = d.is
+          ∙ append_assoc ms (w0.0 ∷ []) d.more;
+      mods = rw e0.0 (next_mod e0.1 d.mods);
+    }))
 
 pub ids_good : (is : List Id) (ts : List Token) → Good Post (ids_step is ts) (Post (NIds is) ts)
 ids_good is ts = option_cases (id_next ts)
     (λ n0. rw (n0, ids_step) tt)
     (λ w0 y0. let e0 = id_is ts w0 y0 in rw (y0, ids_step) (option_cases (after marks.Comma w0.1)
     (λ n1. rw n1 (record { more = w0.0 ∷ []; is = refl; ids = rw e0 last_id }))
-    (λ w1 y1. let e1 = after_is marks.Comma w0.1 w1 y1 in rw y1 (λ v r d. record { more = w0.0 ∷ d.more; is = d.is ∙ append_assoc is (w0.0 ∷ []) d.more; ids = rw (e0, e1) (next_id d.ids) }))))
+    (λ w1 y1. let e1 = after_is marks.Comma w0.1 w1 y1 in rw y1 (λ v r d. record {
+      more = w0.0 ∷ d.more;
+      is = d.is
+          ∙ append_assoc is (w0.0 ∷ []) d.more;
+      ids = rw (e0, e1) (next_id d.ids);
+    }))))
 
 pub parent_good : (ts : List Token) → Good Post (parent_step ts) (Post NParent ts)
 parent_good ts = option_cases (after_key keys.Extends ts)
@@ -85,8 +96,15 @@ pub more_params_good : (qs : List Param) (ts : List Token) → Good Post (more_p
 more_params_good qs ts = option_cases (after marks.CloseRound ts)
     (λ n0. rw (n0, more_params_step) (option_cases (after marks.Comma ts)
     (λ n1. rw n1 tt)
-    (λ w1 y1. let e1 = after_is marks.Comma ts w1 y1 in rw y1 (λ v2 r2 d2. (λ v r d. record { more = v2 ∷ d.more; is = d.is ∙ append_assoc qs (v2 ∷ []) d.more; params = rw e1 (next_param d2 d.params) })))))
-    (λ w0 y0. let e0 = after_is marks.CloseRound ts w0 y0 in rw (y0, more_params_step) (record { more = []; is = sym (append-nil qs); params = rw e0 last_param }))
+    (λ w1 y1. let e1 = after_is marks.Comma ts w1 y1 in rw y1
+    (λ v2 r2 d2. (λ v r d. record {
+      more = v2 ∷ d.more;
+      is = d.is ∙ append_assoc qs (v2 ∷ []) d.more;
+      params = rw e1
+          (next_param d2 d.params);
+    })))))
+    (λ w0 y0. let e0 = after_is marks.CloseRound ts w0 y0 in rw (y0, more_params_step)
+    (record { more = []; is = sym (append-nil qs); params = rw e0 last_param }))
 
 pub result_type_good : (ts : List Token) → Good Post (result_type_step ts) (Post NResult ts)
 result_type_good ts = option_cases (after_key keys.Void ts)
@@ -118,19 +136,30 @@ member_good ts = λ v0 r0 d0. (λ v1 r1 d1. (option_cases (word_next r1)
     (λ w5 y5. let e5 = after_is marks.Semi w2.2 w5 y5 in rw y5 (field_good (mods_all d0) d1 e2 y4 e5))))))
     (λ w3 y3. let e3 = after_is marks.OpenRound w2.2 w3 y3 in rw y3 (λ v r d. d ts r0 w3.0 (mods_all d0) (rw (e2, e3) at d1)))))))
 
-pub method_good : (ms : List Modifier) (t : Option TypeName) (n : List ℕ) (p : Place) (ts : List Token) → Good Post (method_step ms t n p ts) (Post (NMethod ms t n p) ts)
+pub method_good : (ms : List Modifier) (t : Option TypeName) (n : List ℕ) (p : Place) (ts : List Token)
+    → Good Post (method_step ms t n p ts) (Post (NMethod ms t n p) ts)
 method_good ms t n p ts = λ v0 r0 d0. (λ v1 r1 d1. (λ us vs q m t. a_method (a_head m t d0) d1))
 
 pub members_good : (bs : List MemberTree) (ts : List Token) → Good Post (members_step bs ts) (Post (NMembers bs) ts)
 members_good bs ts = option_cases (after marks.CloseBrace ts)
-    (λ n0. rw (n0, members_step) (λ v1 r1 d1. (λ v r d. record { more = v1 ∷ d.more; is = d.is ∙ append_assoc bs (v1 ∷ []) d.more; members = next_member d1 d.members })))
+    (λ n0. rw (n0, members_step) (λ v1 r1 d1. (λ v r d. record {
+      more = v1 ∷ d.more;
+      is = d.is
+          ∙ append_assoc bs (v1 ∷ []) d.more;
+      members = next_member d1 d.members;
+    })))
     (λ w0 y0. let e0 = after_is marks.CloseBrace ts w0 y0 in rw (y0, members_step) (record { more = []; is = sym (append-nil bs); members = rw e0 no_members }))
 
 pub heads_good : (hs : List HeadTree) (ts : List Token) → Good Post (heads_step hs ts) (Post (NHeads hs) ts)
 heads_good hs ts = option_cases (after marks.CloseBrace ts)
     (λ n0. rw (n0, heads_step) (λ v1 r1 d1. (option_cases (after marks.Semi r1)
     (λ n2. rw n2 tt)
-    (λ w2 y2. let e2 = after_is marks.Semi r1 w2 y2 in rw y2 (λ v r d. record { more = v1 ∷ d.more; is = d.is ∙ append_assoc hs (v1 ∷ []) d.more; heads = next_head (rw e2 at d1) d.heads })))))
+    (λ w2 y2. let e2 = after_is marks.Semi r1 w2 y2 in rw y2 (λ v r d. record {
+      more = v1 ∷ d.more;
+      is = d.is
+          ∙ append_assoc hs (v1 ∷ []) d.more;
+      heads = next_head (rw e2 at d1) d.heads;
+    })))))
     (λ w0 y0. let e0 = after_is marks.CloseBrace ts w0 y0 in rw (y0, heads_step) (record { more = []; is = sym (append-nil hs); heads = rw e0 no_heads }))
 
 pub class_good : (ms : List Modifier) (ts : List Token) → Good Post (class_step ms ts) (Post (NClass ms) ts)
@@ -157,4 +186,10 @@ decl_good ts = λ v0 r0 d0. (option_cases (after_key keys.Class r0)
 pub decls_good : (ds : List DeclTree) (ts : List Token) → Good Post (decls_step ds ts) (Post (NDecls ds) ts)
 decls_good ds ts = bool_cases (at_end ts)
     (λ y0. rw (y0, decls_step) (record { more = []; is = sym (append-nil ds); ended = at_end_is ts y0; decls = rw (at_end_is ts y0) no_decls }))
-    (λ y0. rw (y0, decls_step) (λ v1 r1 d1. (λ v r d. record { more = v1 ∷ d.more; is = d.is ∙ append_assoc ds (v1 ∷ []) d.more; ended = d.ended; decls = next_decl d1 d.decls })))
+    (λ y0. rw (y0, decls_step) (λ v1 r1 d1. (λ v r d. record {
+      more = v1 ∷ d.more;
+      is = d.is
+          ∙ append_assoc ds (v1 ∷ []) d.more;
+      ended = d.ended;
+      decls = next_decl d1 d.decls;
+    })))

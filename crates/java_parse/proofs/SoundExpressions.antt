@@ -63,9 +63,11 @@ more_binary {e = e} {us = us} {w = w} f a d go =
 
 more_instance : {l c : ℕ} {e : Expression} {us ts : List Token} {v : Place × List Token} {w : List ℕ × Place × List Token} {P : Type 0} →
     (ts ≡ key keys.InstanceOf v.0 ∷ v.1) × (l ≤ 7) × (7 ≤ c) → v.1 ≡ word w.0 w.1 ∷ w.2 → IsExpr c us ts e →
-    (IsExpr l us w.2 (InstanceOfClass e (record { name = w.0; place = w.1 }) v.0) → IsExpr 7 us w.2 (InstanceOfClass e (record { name = w.0; place = w.1 }) v.0) → P) → P
+    (IsExpr l us w.2 (InstanceOfClass e (record { name = w.0; place = w.1 }) v.0)
+    → IsExpr 7 us w.2 (InstanceOfClass e (record { name = w.0; place = w.1 }) v.0) → P) → P
 more_instance {e = e} {us = us} {v = v} {w = w} f g a go =
-    let x : IsExpr 7 us (key keys.InstanceOf v.0 ∷ word w.0 w.1 ∷ w.2) e = subst (λ (ts : List Token). IsExpr 7 us ts e) (f.0 ∙ ap (λ r. key keys.InstanceOf v.0 ∷ r) g) (loosen f.2 a) in
+    let x : IsExpr 7 us (key keys.InstanceOf v.0 ∷ word w.0 w.1 ∷ w.2) e = subst (λ (ts : List Token). IsExpr 7 us ts e) (f.0
+    ∙ ap (λ r. key keys.InstanceOf v.0 ∷ r) g) (loosen f.2 a) in
     go (instance_of f.1 x) (instance_of (omega arith) x)
 
 sized_array : {us ts vs rest : List Token} {b : TypeBase} {e : Expression} {d : ℕ} {p q s : Place} {w : Place × List Token} →
@@ -164,7 +166,8 @@ dims_good d ts = option_cases (after marks.OpenSquare ts)
     (λ n0. rw (n0, dims_step) (record { more = 0; is = omega arith; dims = no_dims }))
     (λ w0 y0. let e0 = after_is marks.OpenSquare ts w0 y0 in rw (y0, dims_step) (option_cases (after marks.CloseSquare w0.1)
     (λ n1. rw n1 tt)
-    (λ w1 y1. let e1 = after_is marks.CloseSquare w0.1 w1 y1 in rw y1 (λ v r d. record { more = suc d.more; is = omega (arith, d.is); dims = rw (e0, e1) (one_dim _ _ d.dims) }))))
+    (λ w1 y1. let e1 = after_is marks.CloseSquare w0.1 w1 y1 in rw y1
+    (λ v r d. record { more = suc d.more; is = omega (arith, d.is); dims = rw (e0, e1) (one_dim _ _ d.dims) }))))
 
 pub type_good : (ts : List Token) → Good Post (type_step ts) (Post NType ts)
 type_good ts = option_cases (base_next ts)
@@ -177,12 +180,14 @@ tail_good e z ts = option_cases (after marks.Dot ts)
     (λ n1. rw n1 (λ us h. h))
     (λ w1 y1. let e1 = index_is z ts w1 y1 in rw y1 (λ v2 r2 d2. (option_cases (after marks.CloseSquare r2)
     (λ n3. rw n3 tt)
-    (λ w3 y3. let e3 = after_is marks.CloseSquare r2 w3 y3 in rw y3 (λ v r d. λ us h. d us (by_target (to_index (open_post e1.1 (rw e1.0 at h)) (rw e3 at d2))))))))))
+    (λ w3 y3. let e3 = after_is marks.CloseSquare r2 w3 y3 in rw y3
+    (λ v r d. λ us h. d us (by_target (to_index (open_post e1.1 (rw e1.0 at h)) (rw e3 at d2))))))))))
     (λ w0 y0. let e0 = after_is marks.Dot ts w0 y0 in rw (y0, tail_step) (option_cases (word_next w0.1)
     (λ n1. rw n1 tt)
     (λ w1 y1. let e1 = word_is w0.1 w1 y1 in rw y1 (option_cases (after marks.OpenRound w1.2)
     (λ n2. rw n2 (λ v r d. λ us h. d us (by_target (to_field (post_of (rw (e0, e1) at h))))))
-    (λ w2 y2. let e2 = after_is marks.OpenRound w1.2 w2 y2 in rw y2 (λ v3 r3 d3. (λ v r d. λ us h. d us (by_call (call_upon (post_of (rw (e0, e1, e2) at h)) d3)))))))))
+    (λ w2 y2. let e2 = after_is marks.OpenRound w1.2 w2 y2 in rw y2
+    (λ v3 r3 d3. (λ v r d. λ us h. d us (by_call (call_upon (post_of (rw (e0, e1, e2) at h)) d3)))))))))
 
 pub args_good : (ts : List Token) → Good Post (args_step ts) (Post NArgs ts)
 args_good ts = option_cases (after marks.CloseRound ts)
@@ -193,5 +198,7 @@ pub more_args_good : (es : Expressions) (ts : List Token) → Good Post (more_ar
 more_args_good es ts = option_cases (after marks.CloseRound ts)
     (λ n0. rw (n0, more_args_step) (option_cases (after marks.Comma ts)
     (λ n1. rw n1 tt)
-    (λ w1 y1. let e1 = after_is marks.Comma ts w1 y1 in rw y1 (λ v2 r2 d2. (λ v r d. record { more = and_more v2 d.more; is = d.is ∙ expr_append-snoc es v2 d.more; args = rw e1 (next_arg d2 d.args) })))))
-    (λ w0 y0. let e0 = after_is marks.CloseRound ts w0 y0 in rw (y0, more_args_step) (record { more = no_more; is = sym (expr_append-none es); args = rw e0 last_arg }))
+    (λ w1 y1. let e1 = after_is marks.Comma ts w1 y1 in rw y1
+    (λ v2 r2 d2. (λ v r d. record { more = and_more v2 d.more; is = d.is ∙ expr_append-snoc es v2 d.more; args = rw e1 (next_arg d2 d.args) })))))
+    (λ w0 y0. let e0 = after_is marks.CloseRound ts w0 y0 in rw (y0, more_args_step)
+    (record { more = no_more; is = sym (expr_append-none es); args = rw e0 last_arg }))

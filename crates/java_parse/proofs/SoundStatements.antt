@@ -45,7 +45,8 @@ compound_act : {z : End} {ss ts rest : List Token} {e v : Expression} {w : Mark 
     (n : Mark) × (ts ≡ mark n w.1 ∷ w.2) × (compound n ≡ Some w.0) → named z e ≡ Some x → Ended z ss ts e → IsExpr 1 w.2 rest v →
     IsAct ss rest (AssignOf (NameRef x.0 x.1) (BinaryOf w.0 (NameRef x.0 x.1) v w.1) w.1)
 compound_act {rest = rest} {v = v} {w = w} {x = x} f g h d =
-    subst (λ (ss : List Token). IsAct ss rest (AssignOf (NameRef x.0 x.1) (BinaryOf w.0 (NameRef x.0 x.1) v w.1) w.1)) (sym (named_as g h ∙ ap (λ r. word x.0 x.1 ∷ r) f.1)) (assign_by f.2 d)
+    subst (λ (ss : List Token). IsAct ss rest (AssignOf (NameRef x.0 x.1) (BinaryOf w.0 (NameRef x.0 x.1) v w.1) w.1))
+    (sym (named_as g h ∙ ap (λ r. word x.0 x.1 ∷ r) f.1)) (assign_by f.2 d)
 
 after_act : {z : End} {ss ts : List Token} {e : Expression} {w : Mark × Place × List Token} {x : List ℕ × Place} →
     (n : Mark) × (ts ≡ mark n w.1 ∷ w.2) × (stepping n ≡ Some w.0) → named z e ≡ Some x → Ended z ss ts e → IsAct ss w.2 (stepped w.0 x.0 x.1 w.1)
@@ -95,7 +96,8 @@ pub items_all : {ts rest : List Token} {ss : Statements} → Itemed no_statement
 unfolding stmt_append
 items_all {ts = ts} {rest = rest} d = subst (λ (ss : Statements). IsItems ts rest ss) (sym d.is) d.items
 
-block_good : {ts us rest : List Token} {p : Place} {ss : Statements} → ts ≡ mark marks.OpenBrace p ∷ us → Itemed no_statements us ss rest → Stmted ts (BlockOf ss p) rest
+block_good : {ts us rest : List Token} {p : Place} {ss : Statements} → ts ≡ mark marks.OpenBrace p ∷ us → Itemed no_statements us ss rest
+    → Stmted ts (BlockOf ss p) rest
 block_good e d = rw e (record { flag = false; fact = block (items_all d); closed = never })
 
 arms_good : {ts rest : List Token} {a : Arms} {l : Else} (d : Branched no_arms ts a l rest) → IsArms d.flag ts rest a l
@@ -105,14 +107,17 @@ arms_good {ts = ts} {rest = rest} {l = l} d = subst (λ (a : Arms). IsArms d.fla
 choice_good : {ts us rest : List Token} {p : Place} {a : Arms} {l : Else} → ts ≡ key keys.If p ∷ us → Branched no_arms us a l rest → Stmted ts (IfOf a l p) rest
 choice_good e d = rw e (record { flag = d.flag; fact = choice (arms_good d); closed = d.closed })
 
-while_good : {ts us vs rest : List Token} {p : Place} {e : Expression} {s : Statement} → ts ≡ key keys.While p ∷ us → Tested us e vs → Stmted vs s rest → Stmted ts (WhileOf e (as_body s) p) rest
+while_good : {ts us vs rest : List Token} {p : Place} {e : Expression} {s : Statement} → ts ≡ key keys.While p ∷ us → Tested us e vs
+    → Stmted vs s rest → Stmted ts (WhileOf e (as_body s) p) rest
 while_good e t d = rw (e, t.starts) (record { flag = d.flag; fact = while_loop t.test d.fact; closed = d.closed })
 
-for_good : {ts us vs rest : List Token} {p : Place} {f g : OptionalStatement} {v : Option Expression} {s : Statement} → ts ≡ key keys.For p ∷ us → Headed us f v g vs → Stmted vs s rest → Stmted ts (ForOf f v g (as_body s) p) rest
+for_good : {ts us vs rest : List Token} {p : Place} {f g : OptionalStatement} {v : Option Expression} {s : Statement} → ts ≡ key keys.For p ∷ us
+    → Headed us f v g vs → Stmted vs s rest → Stmted ts (ForOf f v g (as_body s) p) rest
 for_good e t d = rw (e, t.starts) (record { flag = d.flag; fact = for_loop t.first t.test t.step d.fact; closed = d.closed })
 
 -- a body before an `else`
-shut : {o : Bool} {ts us : List Token} {s : Statement} {p : Place} → (o ≡ true → after_key keys.Else (key keys.Else p ∷ us) ≡ None) → IsStmt o ts (key keys.Else p ∷ us) s → IsStmt false ts (key keys.Else p ∷ us) s
+shut : {o : Bool} {ts us : List Token} {s : Statement} {p : Place} → (o ≡ true → after_key keys.Else (key keys.Else p ∷ us) ≡ None)
+    → IsStmt o ts (key keys.Else p ∷ us) s → IsStmt false ts (key keys.Else p ∷ us) s
 shut {o = false} c d = d
 shut {o = true} c d = let n = c refl in cc
 
@@ -136,22 +141,47 @@ no_choice (return_word d) h = refl
 no_choice break_word h = refl
 no_choice continue_word h = refl
 
-end_good : {ts us vs : List Token} {e : Expression} {s : Statement} (a : Arms) → after_key keys.Else vs ≡ None → Tested ts e us → Stmted us s vs → Branched a ts (arm_snoc a e (as_body s)) no_else vs
-end_good {e = e} {s = s} a n t d = rw t.starts (record { flag = true; more = and_arm e (as_body s) no_arms; is = arm_append-one a e (as_body s); fact = last_arm t.test d.fact; closed = λ _. n })
+end_good : {ts us vs : List Token} {e : Expression} {s : Statement} (a : Arms) → after_key keys.Else vs ≡ None → Tested ts e us → Stmted us s vs
+    → Branched a ts (arm_snoc a e (as_body s)) no_else vs
+end_good {e = e} {s = s} a n t d =
+    rw t.starts (record {
+      flag = true;
+      more = and_arm e (as_body s) no_arms;
+      is = arm_append-one a e (as_body s);
+      fact = last_arm t.test d.fact;
+      closed = λ _. n;
+    })
 
-shut_at : {ts vs : List Token} {s : Statement} {w : Place × List Token} → vs ≡ key keys.Else w.0 ∷ w.1 → Stmted ts s vs → IsStmt false ts (key keys.Else w.0 ∷ w.1) s
+shut_at : {ts vs : List Token} {s : Statement} {w : Place × List Token} → vs ≡ key keys.Else w.0 ∷ w.1 → Stmted ts s vs
+    → IsStmt false ts (key keys.Else w.0 ∷ w.1) s
 shut_at {ts = ts} {s = s} e d = shut (subst (λ vs. d.flag ≡ true → after_key keys.Else vs ≡ None) e d.closed) (subst (λ vs. IsStmt d.flag ts vs s) e d.fact)
 
-other_good : {ts us vs rest : List Token} {e : Expression} {s t : Statement} {w : Place × List Token} (a : Arms) → vs ≡ key keys.Else w.0 ∷ w.1 → after_key keys.If w.1 ≡ None → Tested ts e us → Stmted us s vs → Stmted w.1 t rest →
+other_good : {ts us vs rest : List Token} {e : Expression} {s t : Statement} {w : Place × List Token} (a : Arms) → vs ≡ key keys.Else w.0 ∷ w.1
+    → after_key keys.If w.1 ≡ None → Tested ts e us → Stmted us s vs → Stmted w.1 t rest →
     Branched a ts (arm_snoc a e (as_body s)) (otherwise (as_body t)) rest
 other_good {e = e} {s = s} a x n t d o =
-    rw t.starts (record { flag = o.flag; more = and_arm e (as_body s) no_arms; is = arm_append-one a e (as_body s); fact = else_arm t.test (shut_at x d) o.fact (no_choice o.fact n); closed = o.closed })
+    rw t.starts (record {
+      flag = o.flag;
+      more = and_arm e (as_body s) no_arms;
+      is = arm_append-one a e (as_body s);
+      fact = else_arm t.test
+          (shut_at x d) o.fact (no_choice o.fact n);
+      closed = o.closed;
+    })
 
-again_good : {ts us vs rest : List Token} {e : Expression} {s : Statement} {w x : Place × List Token} {b : Arms} {l : Else} (a : Arms) → vs ≡ key keys.Else w.0 ∷ w.1 → w.1 ≡ key keys.If x.0 ∷ x.1 → Tested ts e us → Stmted us s vs →
+again_good : {ts us vs rest : List Token} {e : Expression} {s : Statement} {w x : Place × List Token} {b : Arms} {l : Else} (a : Arms)
+    → vs ≡ key keys.Else w.0 ∷ w.1 → w.1 ≡ key keys.If x.0 ∷ x.1 → Tested ts e us → Stmted us s vs →
     Branched (arm_snoc a e (as_body s)) x.1 b l rest → Branched a ts b l rest
 again_good {us = us} {e = e} {s = s} {w = w} {x = x} a f g t d r =
     let body : IsStmt false us (key keys.Else w.0 ∷ key keys.If x.0 ∷ x.1) s = subst (λ r. IsStmt false us (key keys.Else w.0 ∷ r) s) g (shut_at f d) in
-    rw t.starts (record { flag = r.flag; more = and_arm e (as_body s) r.more; is = r.is ∙ arm_append-snoc a e (as_body s) r.more; fact = more_arms t.test body r.fact; closed = r.closed })
+    rw t.starts (record {
+      flag = r.flag;
+      more = and_arm e (as_body s) r.more;
+      is = r.is
+          ∙ arm_append-snoc a e (as_body s) r.more;
+      fact = more_arms t.test body r.fact;
+      closed = r.closed;
+    })
 
 pub init_good : (ts : List Token) → Good Post (init_step ts) (Post NInit ts)
 init_good ts = option_cases (after marks.Assign ts)
@@ -197,7 +227,8 @@ tested_good ts = option_cases (after marks.OpenRound ts)
     (λ n0. rw (n0, tested_step) tt)
     (λ w0 y0. let e0 = after_is marks.OpenRound ts w0 y0 in rw (y0, tested_step) (λ v1 r1 d1. (option_cases (after marks.CloseRound r1)
     (λ n2. rw n2 tt)
-    (λ w2 y2. let e2 = after_is marks.CloseRound r1 w2 y2 in rw y2 (record { open_at = w0.0; close_at = w2.0; inner = w0.1; starts = e0; test = rw e2 at d1 })))))
+    (λ w2 y2. let e2 = after_is marks.CloseRound r1 w2 y2 in rw y2
+    (record { open_at = w0.0; close_at = w2.0; inner = w0.1; starts = e0; test = rw e2 at d1 })))))
 
 pub item_good : (ts : List Token) → Good Post (item_step ts) (Post NItem ts)
 item_good ts = bool_cases (starts_local ts)
@@ -208,8 +239,14 @@ item_good ts = bool_cases (starts_local ts)
 
 pub items_good : (ss : Statements) (ts : List Token) → Good Post (items_step ss ts) (Post (NItems ss) ts)
 items_good ss ts = option_cases (after marks.CloseBrace ts)
-    (λ n0. rw (n0, items_step) (λ v1 r1 d1. (λ v r d. record { more = and_then v1 d.more; is = d.is ∙ stmt_append-snoc ss v1 d.more; items = next_item d1 d.items })))
-    (λ w0 y0. let e0 = after_is marks.CloseBrace ts w0 y0 in rw (y0, items_step) (record { more = no_statements; is = sym (stmt_append-none ss); items = rw e0 no_items }))
+    (λ n0. rw (n0, items_step) (λ v1 r1 d1. (λ v r d. record {
+      more = and_then v1 d.more;
+      is = d.is
+          ∙ stmt_append-snoc ss v1 d.more;
+      items = next_item d1 d.items;
+    })))
+    (λ w0 y0. let e0 = after_is marks.CloseBrace ts w0 y0 in rw (y0, items_step)
+    (record { more = no_statements; is = sym (stmt_append-none ss); items = rw e0 no_items }))
 
 pub stmt_good : (ts : List Token) → Good Post (stmt_step ts) (Post NStmt ts)
 stmt_good ts = start_cases (start ts)
@@ -220,7 +257,8 @@ stmt_good ts = start_cases (start ts)
     (λ p0 us0 y0. rw (y0, stmt_step) (λ v1 r1 d1. (λ v2 r2 d2. (for_good (starts_at ts y0) d1 d2))))
     (λ p0 us0 y0. rw (y0, stmt_step) (λ v1 r1 d1. (option_cases (after marks.Semi r1)
     (λ n2. rw n2 tt)
-    (λ w2 y2. let e2 = after_is marks.Semi r1 w2 y2 in rw y2 (rw (starts_at ts y0) (record { flag = false; fact = return_word (rw e2 at d1); closed = never }))))))
+    (λ w2 y2. let e2 = after_is marks.Semi r1 w2 y2 in rw y2
+    (rw (starts_at ts y0) (record { flag = false; fact = return_word (rw e2 at d1); closed = never }))))))
     (λ p0 us0 y0. rw (y0, stmt_step) (option_cases (after marks.Semi us0)
     (λ n1. rw n1 tt)
     (λ w1 y1. let e1 = after_is marks.Semi us0 w1 y1 in rw y1 (rw (starts_at ts y0, e1) (record { flag = false; fact = break_word; closed = never })))))
@@ -240,7 +278,21 @@ for_head_good ts = option_cases (after marks.OpenRound ts)
     (λ n4. rw n4 tt)
     (λ w4 y4. let e4 = after_is marks.Semi r3 w4 y4 in rw y4 (λ v5 r5 d5. (option_cases (after marks.CloseRound r5)
     (λ n6. rw n6 tt)
-    (λ w6 y6. let e6 = after_is marks.CloseRound r5 w6 y6 in rw y6 (record { open_at = w0.0; first_at = w2.0; second_at = w4.0; close_at = w6.0; inner = w0.1; middle = w2.1; last = w4.1; starts = e0; first = rw e2 at d1; test = rw e4 at d3; step = rw e6 at d5 })))))))))))
+    (λ w6 y6. let e6 = after_is marks.CloseRound r5 w6 y6 in rw y6
+    (record {
+      open_at = w0.0;
+      first_at = w2.0;
+      second_at = w4.0;
+      close_at = w6.0;
+      inner = w0.1;
+      middle = w2.1;
+      last = w4.1;
+      starts = e0;
+      first =
+          rw e2 at d1;
+      test = rw e4 at d3;
+      step = rw e6 at d5;
+    })))))))))))
 
 pub first_good : (ts : List Token) → Good Post (first_step ts) (Post NFirst ts)
 first_good ts = option_cases (after marks.Semi ts)

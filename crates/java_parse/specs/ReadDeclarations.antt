@@ -104,7 +104,8 @@ member_step ts = Ask (NMods []) ts (λ x1 r2. Ask NResult r2 (λ x3 r4. elim (wo
 ]))
 
 abbrev pub method_step : List Modifier → Option TypeName → List ℕ → Place → List Token → Step MemberTree
-method_step ms t n p ts = Ask NParams ts (λ x1 r2. Ask NBody r2 (λ x3 r4. Give (MethodTree (record { mods = ms; type = t; name = n; params = x1; place = p }) x3 p) r4))
+method_step ms t n p ts = Ask NParams ts
+    (λ x1 r2. Ask NBody r2 (λ x3 r4. Give (MethodTree (record { mods = ms; type = t; name = n; params = x1; place = p }) x3 p) r4))
 
 abbrev pub members_step : List MemberTree → List Token → Step (List MemberTree)
 members_step bs ts = elim (after marks.CloseBrace ts) [

@@ -12,8 +12,8 @@ use Rattle.java_tree.specs.Syntax.{Expression, Arms, Else, OptionalStatement, ex
 use Rattle.java_parse.specs.declared.End.{End}
 use Rattle.java_parse.specs.declared.Stop.{Stop}
 use Rattle.java_parse.specs.declared.Stop.TheVariants as stops
-use Rattle.java_parse.specs.declared.front.Begin.{Begin}
-use Rattle.java_parse.specs.declared.front.Begin.TheVariants as begins
+use Rattle.java_parse.specs.declared.opening.Begin.{Begin}
+use Rattle.java_parse.specs.declared.opening.Begin.TheVariants as begins
 use Rattle.java_parse.specs.Front.{Start, SBlock, SEmpty, SIf, SWhile, SFor, SReturn, SBreak, SContinue, SOther}
 use Rattle.java_parse.specs.Reading.{Fault, Left, NoMemory, Outcome}
 

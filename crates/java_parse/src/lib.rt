@@ -14,6 +14,7 @@ mod decl;
 mod expr;
 mod front;
 mod nest;
+mod opening;
 mod stmt;
 
 use decl::all_decls;

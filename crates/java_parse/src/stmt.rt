@@ -15,10 +15,8 @@ ghost use Rattle.java_parse.specs.Seen.{seen, seen_branches, seen_steps};
 
 use crate::acts::{calls, finished, steps_of, targets};
 use crate::expr::{expr, post, type_at};
-use crate::front::{
-    Begin, begin_of, begins_local, compound_at, final_at, key_at, mark_at, named_by, stepping_at,
-    word_at,
-};
+use crate::front::{final_at, key_at, mark_at, word_at};
+use crate::opening::{Begin, begin_of, begins_local, compound_at, named_by, stepping_at};
 use crate::{End, Stop};
 use java_lex::{Mark, Token};
 use java_tree::build::{binary, block, choice, for_loop, while_loop};

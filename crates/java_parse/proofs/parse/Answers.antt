@@ -13,28 +13,39 @@ pub returns-in-Some-clause-accepted : goal.returns-in-Some-clause-accepted
 returns-in-Some-clause-accepted c = λ h _ _. (goes_deep _ _ c.in-Some.k c.as_slice-all.ensures.value (rw c.in-Some.is at c.in-Ok.ensures.deep)).not_nested h
 
 pub returns-in-Ok-all_decls-clause-found : goal.returns-in-Ok-all_decls-clause-found
-returns-in-Ok-all_decls-clause-found c = (accepted _ _ _ _ c.as_slice-all.ensures.value c.in-Ok-all_decls.ensures.reads (c.in-Ok.ensures.shallow c.in_default-deep.is)).placed
+returns-in-Ok-all_decls-clause-found c =
+    (accepted _ _ _ _ c.as_slice-all.ensures.value c.in-Ok-all_decls.ensures.reads (c.in-Ok.ensures.shallow c.in_default-deep.is)).placed
 
 pub returns-in-Ok-all_decls-clause-nested : goal.returns-in-Ok-all_decls-clause-nested
-returns-in-Ok-all_decls-clause-nested c = (accepted _ _ _ _ c.as_slice-all.ensures.value c.in-Ok-all_decls.ensures.reads (c.in-Ok.ensures.shallow c.in_default-deep.is)).nested
+returns-in-Ok-all_decls-clause-nested c =
+    (accepted _ _ _ _ c.as_slice-all.ensures.value c.in-Ok-all_decls.ensures.reads (c.in-Ok.ensures.shallow c.in_default-deep.is)).nested
 
 pub returns-in-Ok-all_decls-clause-small : goal.returns-in-Ok-all_decls-clause-small
-returns-in-Ok-all_decls-clause-small c = (accepted _ _ _ _ c.as_slice-all.ensures.value c.in-Ok-all_decls.ensures.reads (c.in-Ok.ensures.shallow c.in_default-deep.is)).small
+returns-in-Ok-all_decls-clause-small c =
+    (accepted _ _ _ _ c.as_slice-all.ensures.value c.in-Ok-all_decls.ensures.reads (c.in-Ok.ensures.shallow c.in_default-deep.is)).small
 
 pub returns-in-Ok-all_decls-clause-deep : goal.returns-in-Ok-all_decls-clause-deep
-returns-in-Ok-all_decls-clause-deep c = (accepted _ _ _ _ c.as_slice-all.ensures.value c.in-Ok-all_decls.ensures.reads (c.in-Ok.ensures.shallow c.in_default-deep.is)).not_deep
+returns-in-Ok-all_decls-clause-deep c =
+    (accepted _ _ _ _ c.as_slice-all.ensures.value c.in-Ok-all_decls.ensures.reads (c.in-Ok.ensures.shallow c.in_default-deep.is)).not_deep
 
 pub returns-in-Ok-all_decls-clause-none : goal.returns-in-Ok-all_decls-clause-none
-returns-in-Ok-all_decls-clause-none c = λ _ no. no _ (accepted _ _ _ _ c.as_slice-all.ensures.value c.in-Ok-all_decls.ensures.reads (c.in-Ok.ensures.shallow c.in_default-deep.is)).derives
+returns-in-Ok-all_decls-clause-none c =
+    λ _ no. no _ (accepted _ _ _ _ c.as_slice-all.ensures.value c.in-Ok-all_decls.ensures.reads
+    (c.in-Ok.ensures.shallow c.in_default-deep.is)).derives
 
 pub returns-in-Err-At-clause-refused : goal.returns-in-Err-At-clause-refused
 returns-in-Err-At-clause-refused c =
-    let r = refused _ _ _ c.as_slice-all.ensures.value (subst (λ (s : Stop). Reads (NDecls []) c.as_slice-all.result.now (Err (fault_of s))) c.in-Err-At.field-0-is c.in-Err-At.ensures.reads) (c.in-Ok.ensures.shallow c.in_default-deep.is) in
+    let r = refused _ _ _ c.as_slice-all.ensures.value (subst (λ (s : Stop). Reads (NDecls []) c.as_slice-all.result.now (Err (fault_of s)))
+    c.in-Err-At.field-0-is c.in-Err-At.ensures.reads) (c.in-Ok.ensures.shallow c.in_default-deep.is) in
     let g = ap length c.as_slice-all.ensures.value in
     (r.nested, omega (arith, g, c.saturating_sub.ensures), r.none)
 
 pub returns-in-Err-At-clause-deep : goal.returns-in-Err-At-clause-deep
-returns-in-Err-At-clause-deep c = (refused _ _ _ c.as_slice-all.ensures.value (subst (λ (s : Stop). Reads (NDecls []) c.as_slice-all.result.now (Err (fault_of s))) c.in-Err-At.field-0-is c.in-Err-At.ensures.reads) (c.in-Ok.ensures.shallow c.in_default-deep.is)).not_deep
+returns-in-Err-At-clause-deep c =
+    (refused _ _ _ c.as_slice-all.ensures.value (subst (λ (s : Stop). Reads (NDecls []) c.as_slice-all.result.now (Err (fault_of s)))
+    c.in-Err-At.field-0-is c.in-Err-At.ensures.reads) (c.in-Ok.ensures.shallow c.in_default-deep.is)).not_deep
 
 pub returns-in-Err-At-clause-accepted : goal.returns-in-Err-At-clause-accepted
-returns-in-Err-At-clause-accepted c = λ _. (refused _ _ _ c.as_slice-all.ensures.value (subst (λ (s : Stop). Reads (NDecls []) c.as_slice-all.result.now (Err (fault_of s))) c.in-Err-At.field-0-is c.in-Err-At.ensures.reads) (c.in-Ok.ensures.shallow c.in_default-deep.is)).none
+returns-in-Err-At-clause-accepted c =
+    λ _. (refused _ _ _ c.as_slice-all.ensures.value (subst (λ (s : Stop). Reads (NDecls []) c.as_slice-all.result.now (Err (fault_of s)))
+    c.in-Err-At.field-0-is c.in-Err-At.ensures.reads) (c.in-Ok.ensures.shallow c.in_default-deep.is)).none

@@ -12,6 +12,8 @@ returns-then-is_empty c = record { reads = c.more.invariant.so_far _ (decls_end 
 
 pub more-preserved : goal.more-preserved
 more-preserved c = record {
-  so_far = λ o h. c.more.invariant.so_far o (decls_next (at_end_by c.more.rest.now _ false c.is_empty.ensures c.if-is_empty.false) c.in_ok-next.ensures.reads (subst (λ (xs : List DeclTree). Reads (NDecls xs) c.in_ok-next.after.now o) (pushed_decl _ _ _ c.in_ok-push.ensures.items) h));
+  so_far = λ o h. c.more.invariant.so_far o (decls_next (at_end_by c.more.rest.now _ false c.is_empty.ensures c.if-is_empty.false)
+      c.in_ok-next.ensures.reads (subst (λ (xs : List DeclTree). Reads (NDecls xs) c.in_ok-next.after.now o)
+      (pushed_decl _ _ _ c.in_ok-push.ensures.items) h));
   shorter = omega (arith, c.in_ok-next.ensures.shorter);
 }

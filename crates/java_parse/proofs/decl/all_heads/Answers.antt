@@ -14,6 +14,7 @@ returns-in_default-mark_at-clause-reads c = c.more.invariant.so_far _ (heads_ope
 
 pub more-preserved : goal.more-preserved
 more-preserved c = record {
-  so_far = λ o h. c.more.invariant.so_far o (heads_next (search rules) c.in_ok-next.ensures.reads (sym c.in-Some-mark_at.ensures.value) (subst (λ (xs : List HeadTree). Reads (NHeads xs) c.in-Some-mark_at.after.now o) (pushed_head _ _ _ c.in_ok-push.ensures.items) h));
+  so_far = λ o h. c.more.invariant.so_far o (heads_next (search rules) c.in_ok-next.ensures.reads (sym c.in-Some-mark_at.ensures.value)
+      (subst (λ (xs : List HeadTree). Reads (NHeads xs) c.in-Some-mark_at.after.now o) (pushed_head _ _ _ c.in_ok-push.ensures.items) h));
   shorter = omega (arith, c.in_ok-next.ensures.shorter, c.in-Some-mark_at.ensures.shorter);
 }

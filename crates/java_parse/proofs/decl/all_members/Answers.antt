@@ -11,6 +11,7 @@ returns-in-Some-clause-reads c = c.more.invariant.so_far _ (members_end (sym c.i
 
 pub more-preserved : goal.more-preserved
 more-preserved c = record {
-  so_far = λ o h. c.more.invariant.so_far o (members_next (search rules) c.in_ok-next.ensures.reads (subst (λ (xs : List MemberTree). Reads (NMembers xs) c.in_ok-next.after.now o) (pushed_member _ _ _ c.in_ok-push.ensures.items) h));
+  so_far = λ o h. c.more.invariant.so_far o (members_next (search rules) c.in_ok-next.ensures.reads
+      (subst (λ (xs : List MemberTree). Reads (NMembers xs) c.in_ok-next.after.now o) (pushed_member _ _ _ c.in_ok-push.ensures.items) h));
   shorter = omega (arith, c.in_ok-next.ensures.shorter);
 }

@@ -15,4 +15,5 @@ returns-in_default-clause-reads c = c.more.invariant.so_far _ (ids_none (search 
 pub returns-in_default-mark_at-clause-reads : goal.returns-in_default-mark_at-clause-reads
 returns-in_default-mark_at-clause-reads c =
     subst (λ (xs : List Id). Reads (NIds []) c.args.tokens.now (Ok (xs, c.in-Some.behind.now))) (sym c.in_ok-push.ensures.items)
-    (c.more.invariant.so_far _ (ids_end (sym c.in_ok-next.ensures.value ∙ ap (λ (o : Option (Id × Bor (List Token))). option_map seen_one o) c.in-Some.is) (search rules)))
+    (c.more.invariant.so_far _ (ids_end (sym c.in_ok-next.ensures.value ∙ ap (λ (o : Option (Id × Bor (List Token))). option_map seen_one o)
+    c.in-Some.is) (search rules)))

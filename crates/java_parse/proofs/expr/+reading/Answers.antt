@@ -9,7 +9,8 @@ use Rattle.java_parse.proofs.expr.+reading.Goals as goal
 
 pub args-more-preserved : goal.args-more-preserved
 args-more-preserved t c = record {
-  so_far = λ o h. c.more.invariant.so_far o (more_args_next (search rules) (sym c.in-Some-mark_at-2.ensures.value) c.in_ok-next.ensures.reads (subst (λ (es : Expressions). Reads (NMoreArgs es) c.in_ok-next.after.now o) (pushed_expr _ _ _ c.in_ok-push-2.ensures.items) h));
+  so_far = λ o h. c.more.invariant.so_far o (more_args_next (search rules) (sym c.in-Some-mark_at-2.ensures.value) c.in_ok-next.ensures.reads
+      (subst (λ (es : Expressions). Reads (NMoreArgs es) c.in_ok-next.after.now o) (pushed_expr _ _ _ c.in_ok-push-2.ensures.items) h));
   shorter = omega (arith, c.in_ok-next.ensures.shorter, c.in-Some-mark_at-2.ensures.shorter);
 }
 
@@ -20,7 +21,8 @@ pub args-returns-in_default-mark_at-2-clause-reads : goal.args-returns-in_defaul
 args-returns-in_default-mark_at-2-clause-reads t c = c.more.invariant.so_far _ (more_args_open (search rules) (search rules))
 
 pub more-returns-in_err-right-clause-reads : goal.more-returns-in_err-right-clause-reads
-more-returns-in_err-right-clause-reads t c = let q = err_from_is_err_and c.from_residual.result c.from_residual.ensures.1 in rw (q.1, q.2) (more_operator_fails (sym c.in-Some.ensures.value) c.level_of-level.ensures.value c.in_err-right.ensures.reads)
+more-returns-in_err-right-clause-reads t c = let q = err_from_is_err_and c.from_residual.result c.from_residual.ensures.1 in rw (q.1, q.2)
+    (more_operator_fails (sym c.in-Some.ensures.value) c.level_of-level.ensures.value c.in_err-right.ensures.reads)
 
 pub more-returns-in_default-word_at-clause-reads : goal.more-returns-in_default-word_at-clause-reads
 more-returns-in_default-word_at-clause-reads t c = more_no_class (search rules) (sym c.in-Some-instance_at.ensures.value) (search rules)

@@ -13,23 +13,33 @@ items-returns-in-Some-clause-reads t c = c.more.invariant.so_far _ (items_end (s
 
 pub items-more-preserved : goal.items-more-preserved
 items-more-preserved t c = record {
-  so_far = λ o h. c.more.invariant.so_far o (items_next (search rules) c.in_ok-next.ensures.reads (subst (λ (ss : Statements). Reads (NItems ss) c.in_ok-next.after.now o) (pushed_stmt _ _ _ c.in_ok-push.ensures.items) h));
+  so_far = λ o h. c.more.invariant.so_far o (items_next (search rules) c.in_ok-next.ensures.reads
+      (subst (λ (ss : Statements). Reads (NItems ss) c.in_ok-next.after.now o) (pushed_stmt _ _ _ c.in_ok-push.ensures.items) h));
   shorter = omega (arith, c.in_ok-next.ensures.shorter);
 }
 
 pub branches-returns-in_default-clause-reads : goal.branches-returns-in_default-clause-reads
 branches-returns-in_default-clause-reads t c = c.arms.invariant.so_far _
-    (subst (λ (a : Arms). Reads (NBranches (arms_seen c.arms.arms.items)) c.arms.rest.now (Ok ((a, no_else), c.in_ok-whole.after.now))) (sym (pushed_arm _ _ _ _ c.in_ok-push.ensures.items c.in_ok-body.ensures.value))
+    (subst (λ (a : Arms). Reads (NBranches (arms_seen c.arms.arms.items)) c.arms.rest.now (Ok ((a, no_else), c.in_ok-whole.after.now)))
+    (sym (pushed_arm _ _ _ _ c.in_ok-push.ensures.items c.in_ok-body.ensures.value))
     (branches_end c.in_ok-test.ensures.reads c.in_ok-whole.ensures.reads (search rules)))
 
 pub branches-returns-in_default-key_at-clause-reads : goal.branches-returns-in_default-key_at-clause-reads
 branches-returns-in_default-key_at-clause-reads t c = c.arms.invariant.so_far _
-    (subst (λ (a : Arms). Reads (NBranches (arms_seen c.arms.arms.items)) c.arms.rest.now (Ok ((a, otherwise (stmts c.in_ok-other.other.items)), c.in_ok-whole-2.end.now))) (sym (pushed_arm _ _ _ _ c.in_ok-push.ensures.items c.in_ok-body.ensures.value))
-    (subst (λ (b : Statements). Reads (NBranches (arms_seen c.arms.arms.items)) c.arms.rest.now (Ok ((arm_snoc (arms_seen c.arms.arms.items) (expr_of c.in_ok-test.test) (as_body (stmt_of c.in_ok-whole.whole)), otherwise b), c.in_ok-whole-2.end.now))) (sym c.in_ok-other.ensures.value)
+    (subst (λ (a : Arms). Reads (NBranches (arms_seen c.arms.arms.items)) c.arms.rest.now
+    (Ok ((a, otherwise (stmts c.in_ok-other.other.items)), c.in_ok-whole-2.end.now)))
+    (sym (pushed_arm _ _ _ _ c.in_ok-push.ensures.items c.in_ok-body.ensures.value))
+    (subst (λ (b : Statements). Reads (NBranches (arms_seen c.arms.arms.items)) c.arms.rest.now
+    (Ok (
+      (arm_snoc (arms_seen c.arms.arms.items) (expr_of c.in_ok-test.test) (as_body (stmt_of c.in_ok-whole.whole)), otherwise b),
+      c.in_ok-whole-2.end.now,
+    ))) (sym c.in_ok-other.ensures.value)
     (branches_other c.in_ok-test.ensures.reads c.in_ok-whole.ensures.reads (sym c.in-Some.ensures.value) (search rules) c.in_ok-whole-2.ensures.reads)))
 
 pub branches-arms-preserved : goal.branches-arms-preserved
 branches-arms-preserved t c = record {
-  so_far = λ o h. c.arms.invariant.so_far o (branches_again c.in_ok-test.ensures.reads c.in_ok-whole.ensures.reads (sym c.in-Some.ensures.value) (sym c.in-Some-key_at.ensures.value) (subst (λ (a : Arms). Reads (NBranches a) c.in-Some-key_at.again.now o) (pushed_arm _ _ _ _ c.in_ok-push.ensures.items c.in_ok-body.ensures.value) h));
+  so_far = λ o h. c.arms.invariant.so_far o (branches_again c.in_ok-test.ensures.reads c.in_ok-whole.ensures.reads (sym c.in-Some.ensures.value)
+      (sym c.in-Some-key_at.ensures.value) (subst (λ (a : Arms). Reads (NBranches a) c.in-Some-key_at.again.now o)
+      (pushed_arm _ _ _ _ c.in_ok-push.ensures.items c.in_ok-body.ensures.value) h));
   shorter = omega (arith, c.in-Some-key_at.ensures.shorter, c.in-Some.ensures.shorter, c.in_ok-whole.ensures.shorter, c.in_ok-test.ensures.shorter);
 }
