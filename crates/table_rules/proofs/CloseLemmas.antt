@@ -1,13 +1,15 @@
 -- What each rule with premises gives, and that a sound and closed table is the least one.
-use Rattle.std.proofs.Common.{◌≡◌, ℕ, ◌*◌, ◌<◌, ◌≤◌, ⊎_elim, Bool, List, [], ◌∷◌, length, get_or, Some, Contains, subst, arith}
-use Rattle.std.specs.List.{AllByRecursion}
+use Rattle.std.proofs.Common.{◌≡◌, ℕ, ◌<◌, ⊎_elim, Bool, true, false, ◌||◌, List, [], ◌∷◌, length, Some, Contains, refl, sym, ◌∙◌, subst, arith}
+use Rattle.std.specs.Bool.{OnFalse}
+use Rattle.std.specs.declared.vec.Vec.{Vec}
+use Rattle.std.specs.declared.alloc.Global.{Global}
+use Rattle.std.specs.List.{All, AllByRecursion}
 use Rattle.std.proofs.lemmas.Bool.{cases_lt, false≢true}
 use Rattle.std.proofs.lemmas.List.{get_or_past}
-use Rattle.std.proofs.lemmas.List.Elements.{All-contains, All-from_get_or}
-use Rattle.std.proofs.lemmas.List.Sums.{sum_by-le}
+use Rattle.std.proofs.lemmas.List.Elements.{All-contains}
 use Rattle.derivations.proofs.Derivations.{derivable_by, derivable_least}
-use Rattle.kaba_bits.specs.Sets.{row, size, HasWidth, total}
-use Rattle.kaba_bits.proofs.SetLemmas.{bit-below, size-le-length}
+use Rattle.kaba_bits.specs.Sets.{row, IsSubset, HasWidth, IsStep}
+use Rattle.kaba_bits.proofs.SetLemmas.{bit-below}
 use Rattle.kaba_base.specs.declared.ColId.{ColId}
 use Rattle.fact_model.specs.Items.{site_row, row_this}
 use Rattle.fact_model.specs.InRange.{InRange}
@@ -21,11 +23,11 @@ use Rattle.fact_model.specs.declared.sets.Table.{Table}
 use Rattle.fact_model.proofs.RangeLemmas.{this-below, member-below}
 use Rattle.fact_model.proofs.OrderLemmas.{column-above, body-own}
 use Rattle.table_rules.specs.Marks.{Marked, AreEntries}
-use Rattle.table_rules.specs.Closed.{RowFlows, ColumnFlows, IsTieClosed, AreClosed}
+use Rattle.table_rules.specs.Closed.{RowFlows, ColumnFlows, IsTieClosed, IsSiteClosed, AreClosed}
+use Rattle.table_rules.specs.Asked.{AreAsked, IsIndex, IsMet, IsThisClosed, IsClosedAt, IsRowClosed}
+use Rattle.table_rules.specs.declared.index.Index.{Index}
+use Rattle.points_to.specs.Begun.{numbers_at}
 use Rattle.table_rules.proofs.RawLemmas.{sized}
-
-pub total-le : (w : ℕ) (rows : List (List Bool)) → HasWidth w rows → total rows ≤ length rows * w
-total-le w rows h = sum_by-le size w rows (All-from_get_or (λ x. size x ≤ w) rows [] (λ i lt. omega (arith, size-le-length (get_or rows i []), h i lt)))
 
 -- an entry is in a row and in a column of the table
 pub marked-row : (rows : List (List Bool)) (r c : ℕ) → Marked rows r c → r < length rows
@@ -51,29 +53,58 @@ module _ (F : Facts) where
   pub hidden_flows : (q d c : ℕ) → Hides F d c → IsEntry F q d → IsEntry F q c → ColumnFlows F d c
   hidden_flows q d c by one two r h = derivable_by (Entails F) ((q, d) ∷ (q, c) ∷ (r, d) ∷ []) (r, c) (by_hiding q r d c by) (one, (two, (h, tt)))
 
+-- what a column asks for, where neither of two steps changed anything
+pub column_closed : (F : Facts) (these : List (Vec ℕ Global)) (asked : List (List Bool)) (r d : ℕ) (old new : List (List Bool)) (g h : Bool) → IsStep old new h → OnFalse g (IsSubset (row asked d) (row old r)) → OnFalse h (All (IsThisClosed F new r d) (numbers_at these d)) → OnFalse (g || h) (IsClosedAt F these asked r new d)
+column_closed F these asked r d old new true h s p q = tt
+column_closed F these asked r d old new false true s p q = tt
+column_closed F these asked r d old new false false s p q = λ m. record { columns = subst (λ rows. IsSubset (row asked d) (row rows r)) (sym s) p; bodies = q }
+
+module _ (F : Facts) (sets asked rows : List (List Bool)) (index : Index) (is : IsIndex F index) (are : AreEntries F rows) (flows : AreAsked F asked) where
+  -- a table whose rows have what their columns ask for is closed, where all was asked for
+  pub all_closed : ((q : ℕ) → q < length F.rows.items → IsMet F rows asked q) → ((r : ℕ) → r < length F.rows.items → IsRowClosed F index.these.items asked rows r) → All (IsTieClosed rows) F.ties.items → ((v : ℕ) → v < length F.rows.items → IsSiteClosed F sets rows v) → AreClosed F sets rows
+  all_closed met closed ties sites =
+      let held : (r c : ℕ) → Marked rows r c → r < length F.rows.items = λ r c h. subst (λ n. r < n) are.len (marked-row rows r c h) in
+      record {
+        declared = λ r d c lt by m. (closed r (held r d m) d m).columns c (flows.declared d c (marked-column (length F.columns.items) rows r d are.widths m) lt by);
+        bodies = λ r v c d t m mv.
+            All-contains (IsThisClosed F rows r d.0) (numbers_at index.these.items d.0) v (closed r (held r d.0 m) d.0 m).bodies (is.these v (this-below F v d t) d t) d t refl c mv;
+        ties = ties;
+        sites = sites;
+        hidden = λ q r d c by one two m. (closed r (held r d m) d m).columns c (met q (held q d one) d one c by two);
+      }
+
+-- the same after three steps that changed nothing
+pub round_closed : (F : Facts) (sets asked rows after ties_done new : List (List Bool)) (index : Index) (g t s : Bool) → IsIndex F index → AreAsked F asked
+    → ((q : ℕ) → q < length F.rows.items → IsMet F rows asked q)
+    → IsStep rows after g → OnFalse g ((r : ℕ) → r < length F.rows.items → IsRowClosed F index.these.items asked after r)
+    → IsStep after ties_done t → OnFalse t (All (IsTieClosed ties_done) F.ties.items)
+    → IsStep ties_done new s → OnFalse s ((v : ℕ) → v < length F.rows.items → IsSiteClosed F sets new v)
+    → AreEntries F new → OnFalse ((g || t) || s) (AreClosed F sets new)
+round_closed F sets asked rows after ties_done new index true t s is flows met e1 p1 e2 p2 e3 p3 are = tt
+round_closed F sets asked rows after ties_done new index false true s is flows met e1 p1 e2 p2 e3 p3 are = tt
+round_closed F sets asked rows after ties_done new index false false true is flows met e1 p1 e2 p2 e3 p3 are = tt
+round_closed F sets asked rows after ties_done new index false false false is flows met e1 p1 e2 p2 e3 p3 are =
+    all_closed F sets asked new index is are flows
+    (subst (λ x. (q : ℕ) → q < length F.rows.items → IsMet F x asked q) (sym (e3 ∙ e2 ∙ e1)) met)
+    (subst (λ x. (r : ℕ) → r < length F.rows.items → IsRowClosed F index.these.items asked x r) (sym (e3 ∙ e2)) p1)
+    (subst (λ x. All (IsTieClosed x) F.ties.items) (sym e3) p2)
+    p3
+
 module _ (F : Facts) (R : InRange F) (pt : PointsTo) (sets : AreSets F pt) (rows : List (List Bool)) (are : AreEntries F rows) (closed : AreClosed F pt.rows.items rows) where
-  in_row : (r c : ℕ) → Marked rows r c → r < length rows
-  in_row = marked-row rows
-
-  in_column : (r c : ℕ) → Marked rows r c → c < length F.columns.items
-  in_column r c = marked-column (length F.columns.items) rows r c are.widths
-
   held : (r c : ℕ) → Marked rows r c → r < length F.rows.items
-  held r c h = subst (λ n. r < n) are.len (in_row r c h)
+  held r c h = subst (λ n. r < n) are.len (marked-row rows r c h)
 
   closed_under : (ps : List Entry) (e : Entry) → Entails F ps e → AllByRecursion (λ p. Marked rows p.0 p.1) ps → Marked rows e.0 e.1
   closed_under ps e (by_access x is) h = are.raw x.row.0 x.column.0 (by_access x is)
   closed_under ps e (by_need call o d is holds found) h = are.raw (site_row F o) d (by_need call o d is holds found)
   closed_under ps e (by_this v d t) h = are.raw v d.0 (by_this v d t)
-  closed_under ps e (by_declared r d c lt by) h = closed.declared d (in_column r d h.0) c lt by r (in_row r d h.0) h.0
-  closed_under ps e (by_body r v c d t) h = closed.bodies v (this-below F v d t) d t r (in_row r d.0 h.0) h.0 c h.1.0
+  closed_under ps e (by_declared r d c lt by) h = closed.declared r d c lt by h.0
+  closed_under ps e (by_body r v c d t) h = closed.bodies r v c d t h.0 h.1.0
   closed_under ps e (by_super x is) h = are.raw x.row.0 x.column.0 (by_super x is)
   closed_under ps e (by_tie x c is) h = All-contains (IsTieClosed rows) F.ties.items x closed.ties is c h.0
   closed_under ps e (by_site v o c m) h = closed.sites v (held v c h.0) o (member-below F R v o m) ((sets.rows v o).1 m) c h.0
   closed_under ps e (by_hiding q r d c by) h =
-      closed.hidden d (in_column q d h.0) c (in_column q c h.1.0) by
-      (record { at = q; below = in_row q d h.0; first = h.0; second = h.1.0 })
-      r (in_row r d h.1.1.0) h.1.1.0
+      closed.hidden q r d c by h.0 h.1.0 h.1.1.0
   closed_under ps e (by_test x c is m) h = are.raw x.target.0 c (by_test x c is m)
   closed_under ps e (by_array s c lt dim m) h = are.raw (site_row F s) c (by_array s c lt dim m)
 

@@ -1,4 +1,4 @@
 pub mod RawLemmas
 pub mod CloseLemmas
-pub mod PairLemmas
-pub mod EdgeLemmas
+pub mod AskLemmas
+pub mod IndexLemmas

@@ -16,41 +16,6 @@ RowFlows F v r = (c : ℕ) → IsEntry F v c → IsEntry F r c
 abbrev pub ColumnFlows : Facts → ℕ → ℕ → Type 0
 ColumnFlows F d c = (r : ℕ) → IsEntry F r d → IsEntry F r c
 
-abbrev pub IsCopiedAt : ℕ → ℕ → List (List Bool) → ℕ → Type 0
-IsCopiedAt d c rows r = Marked rows r d → Marked rows r c
-
--- each row with the column d has the column c
-abbrev pub IsCopied : List (List Bool) → ℕ → ℕ → Type 0
-IsCopied rows d c = (r : ℕ) → r < length rows → IsCopiedAt d c rows r
-
-abbrev pub IsDeclaredAt : Facts → ℕ → List (List Bool) → ℕ → Type 0
-IsDeclaredAt F d rows c = IsDeclaredBy F d c → IsCopied rows d c
-
--- each row with the body d has its declaration
-abbrev pub IsDeclaredClosed : Facts → List (List Bool) → ℕ → Type 0
-IsDeclaredClosed F rows d = (c : ℕ) → c < length F.columns.items → IsDeclaredAt F d rows c
-
--- some row has both columns
-pub record HaveBoth (rows : List (List Bool)) (d c : ℕ) : Type 0 where
-  pub at : ℕ
-  pub below : at < length rows
-  pub first : Marked rows at d
-  pub second : Marked rows at c
-
-abbrev pub IsHiddenAt : Facts → ℕ → List (List Bool) → ℕ → Type 0
-IsHiddenAt F d rows c = Hides F d c → HaveBoth rows d c → IsCopied rows d c
-
--- where some row has both d and a member that it hides, each row with d has that
-abbrev pub IsHiddenClosed : Facts → List (List Bool) → ℕ → Type 0
-IsHiddenClosed F rows d = (c : ℕ) → c < length F.columns.items → IsHiddenAt F d rows c
-
-abbrev pub IsBodyClosedAt : ℕ → ℕ → List (List Bool) → ℕ → Type 0
-IsBodyClosedAt v d rows r = Marked rows r d → IsSubset (row rows v) (row rows r)
-
--- each row with a body has all columns of its `this`
-abbrev pub IsBodyClosed : Facts → List (List Bool) → ℕ → Type 0
-IsBodyClosed F rows v = (d : ColId) → row_this F v ≡ Some d → (r : ℕ) → r < length rows → IsBodyClosedAt v d.0 rows r
-
 abbrev pub IsTieClosed : List (List Bool) → TieInfo → Type 0
 IsTieClosed rows x = IsSubset (row rows x.upper.0) (row rows x.lower.0)
 
@@ -63,8 +28,8 @@ IsSiteClosed F sets rows v = (o : ℕ) → o < length F.sites.items → IsSiteCl
 
 -- the table is closed under the rules with premises
 pub record AreClosed (F : Facts) (sets rows : List (List Bool)) : Type 0 where
-  pub declared : (d : ℕ) → d < length F.columns.items → IsDeclaredClosed F rows d
-  pub bodies : (v : ℕ) → v < length F.rows.items → IsBodyClosed F rows v
+  pub declared : (r d c : ℕ) → c < length F.columns.items → IsDeclaredBy F d c → Marked rows r d → Marked rows r c
+  pub bodies : (r v c : ℕ) (d : ColId) → row_this F v ≡ Some d → Marked rows r d.0 → Marked rows v c → Marked rows r c
   pub ties : All (IsTieClosed rows) F.ties.items
   pub sites : (v : ℕ) → v < length F.rows.items → IsSiteClosed F sets rows v
-  pub hidden : (d : ℕ) → d < length F.columns.items → IsHiddenClosed F rows d
+  pub hidden : (q r d c : ℕ) → Hides F d c → Marked rows q d → Marked rows q c → Marked rows r d → Marked rows r c

@@ -1,3 +1,3 @@
 pub mod Marks
 pub mod Closed
-pub mod Pairs
+pub mod Asked

@@ -1,25 +1,25 @@
-//! The least table that holds the raw one and is closed under T5, T6, T8, T9 and T10. A worklist passes each new entry
-//! on once; plain rounds then apply every rule until nothing changes, which shows that nothing was left out.
+//! The least table that holds the raw one and is closed under T5, T6, T8, T9 and T10. A worklist passes on what rows
+//! gain; one turn over what is in the table then shows that nothing was left out.
 
-ghost use Rattle.std.specs.Prelude.{◌≡◌, ℕ, ◌<◌, ◌↔◌, true, length, All, Contains, Some, IfOk, IsTrue, OnOk};
-ghost use Rattle.std.specs.Bool.{OnTrue, OnFalse};
-ghost use Rattle.kaba_bits.specs.Sets.{bit, row, total, HasWidth, IsStep};
-ghost use Rattle.fact_model.specs.Items.{row_this};
+ghost use Rattle.std.specs.Prelude.{◌≡◌, ℕ, ◌<◌, ◌≤◌, length, All, Contains, Some, IfOk, IfSome, MatchOption, OnOk};
+ghost use Rattle.std.specs.Bool.{OnFalse};
+ghost use Rattle.kaba_bits.specs.Sets.{bit, row, IsStep, IsNoneFrom};
 ghost use Rattle.fact_model.specs.InRange.{InRange};
 ghost use Rattle.fact_model.specs.InOrder.{InOrder, ColumnsStandAbove, BodiesAreOwn};
-ghost use Rattle.fact_model.specs.Flowing.{AreSets};
-ghost use Rattle.fact_model.specs.Entries.{IsRawTable, IsTable, IsEntry, Hides, IsDeclaredBy};
-ghost use Rattle.table_rules.specs.Marks.{AreEntries};
-ghost use Rattle.table_rules.specs.Pairs.{IsPair, AreAllPairs, IsPairCopied, IsPairHidden};
-ghost use Rattle.table_rules.specs.Closed.{IsDeclaredClosed, HaveBoth, IsHiddenClosed, IsBodyClosedAt, IsBodyClosed, IsTieClosed, IsSiteClosedAt, IsSiteClosed, AreClosed};
+ghost use Rattle.fact_model.specs.Flowing.{AreSets, IsInRow};
+ghost use Rattle.fact_model.specs.Entries.{IsRawTable, IsTable, IsEntry};
+ghost use Rattle.table_rules.specs.Marks.{AreEntries, Grow};
+ghost use Rattle.table_rules.specs.Closed.{IsTieClosed, IsSiteClosedAt, IsSiteClosed, AreClosed};
+ghost use Rattle.table_rules.specs.Asked.{AreAsked, AreHidden, AreOpen, IsIndex, IsMet, IsThisClosed, IsClosedAt, IsRowClosed};
 
+use crate::asked::{Columns, columns_of, meet_at};
 use crate::columns::{site_at, this_of};
-use crate::marks::{copy_column, join_rows};
-use crate::pairs::{Pair, declared_pairs, hidden_pairs};
+use crate::index::{Index, index_of};
+use crate::marks::{join_asked, join_rows};
 use crate::turns::grow;
 use fact_model::{Facts, PointsTo, Table, TieInfo};
-use kaba_base::ColId;
 use kaba_bits::{BitRow, row_at};
+use points_to::numbers_at;
 use std::alloc::{AllocError, Global};
 
 /// The least table that holds the raw one and is closed under T5, T6, T8, T9 and T10. The sets and the raw table are
@@ -39,7 +39,7 @@ pub fn close(alloc: Global, facts: &Facts, pt: &PointsTo, raw: Table) -> Result<
     Ok(Table { width, rows })
 }
 
-/// The pairs, what the worklist finds, and then rounds. An error comes only for want of memory.
+/// What the columns ask for, and then the rows. An error comes only for want of memory.
 fn fill(alloc: Global, facts: &Facts, pt: &PointsTo, rows: &mut [BitRow]) -> Result<(), AllocError>
     requires facts { InRange facts.now }
     requires sets { AreSets facts.now pt.now }
@@ -47,163 +47,258 @@ fn fill(alloc: Global, facts: &Facts, pt: &PointsTo, rows: &mut [BitRow]) -> Res
     ensures rows { OnOk result (AreEntries facts.now rows.new) }
     ensures closed { OnOk result (AreClosed facts.now pt.now.rows.items rows.new) }
 {
-    let declared = declared_pairs(alloc, facts)?;
-    let hidden = hidden_pairs(alloc, facts)?;
-    grow(alloc, facts, pt, &declared, &hidden, rows)?;
-    run_rounds(facts, pt, &declared, &hidden, rows);
+    let Columns { mut asked, hidden } = columns_of(alloc, facts)?;
+    let index = index_of(alloc, facts, hidden)?;
+    let mut both = BitRow::new(alloc, facts.columns.len() as u32)?;
+    fill_rows(alloc, facts, pt, &index, &mut asked, &mut both, rows)?;
     Ok(())
 }
 
-/// Rounds, until nothing changes.
-fn run_rounds(facts: &Facts, pt: &PointsTo, declared: &[Pair], hidden: &[Pair], rows: &mut [BitRow])
+/// What the worklist finds, and then turns over everything. An error comes only for want of memory.
+fn fill_rows(
+    alloc: Global,
+    facts: &Facts,
+    pt: &PointsTo,
+    index: &Index,
+    asked: &mut [BitRow],
+    both: &mut BitRow,
+    rows: &mut [BitRow],
+) -> Result<(), AllocError>
     requires facts { InRange facts.now }
     requires sets { AreSets facts.now pt.now }
-    requires declared { AreAllPairs (IsDeclaredBy facts.now) (length facts.now.columns.items) declared.now }
-    requires hidden { AreAllPairs (Hides facts.now) (length facts.now.columns.items) hidden.now }
-    requires rows { AreEntries facts.now rows.old }
-    ensures rows { AreEntries facts.now rows.new }
+    requires index { IsIndex facts.now index.now }
+    requires state { AreOpen facts.now asked.old both.old rows.old }
+    ensures rows { OnOk result (AreEntries facts.now rows.new) }
+    ensures closed { OnOk result (AreClosed facts.now pt.now.rows.items rows.new) }
+{
+    grow(alloc, facts, pt, index, asked, both, rows)?;
+    run_rounds(facts, pt, index, asked, both, rows);
+    Ok(())
+}
+
+/// Turns over everything, until nothing is new.
+fn run_rounds(
+    facts: &Facts,
+    pt: &PointsTo,
+    index: &Index,
+    asked: &mut [BitRow],
+    both: &mut BitRow,
+    rows: &mut [BitRow],
+)
+    requires facts { InRange facts.now }
+    requires sets { AreSets facts.now pt.now }
+    requires index { IsIndex facts.now index.now }
+    requires state { AreOpen facts.now asked.old both.old rows.old }
+    ensures state { AreOpen facts.now asked.new both.new rows.new }
     ensures closed { AreClosed facts.now pt.now.rows.items rows.new }
 {
     loop {
-        if !round(facts, pt, declared, hidden, rows) {
+        if !round(facts, pt, index, asked, both, rows) {
             return;
         }
     }
 }
 
-/// Each rule with premises once.
+/// Everything once, and whether anything was new.
 fn round(
     facts: &Facts,
     pt: &PointsTo,
-    declared: &[Pair],
-    hidden: &[Pair],
+    index: &Index,
+    asked: &mut [BitRow],
+    both: &mut BitRow,
     rows: &mut [BitRow],
 ) -> bool
     requires facts { InRange facts.now }
     requires sets { AreSets facts.now pt.now }
-    requires declared { AreAllPairs (IsDeclaredBy facts.now) (length facts.now.columns.items) declared.now }
-    requires hidden { AreAllPairs (Hides facts.now) (length facts.now.columns.items) hidden.now }
-    requires rows { AreEntries facts.now rows.old }
-    ensures rows { AreEntries facts.now rows.new }
+    requires index { IsIndex facts.now index.now }
+    requires state { AreOpen facts.now asked.old both.old rows.old }
+    ensures state { AreOpen facts.now asked.new both.new rows.new }
     ensures step { IsStep rows.old rows.new result }
     ensures closed { OnFalse result (AreClosed facts.now pt.now.rows.items rows.new) }
 {
-    let declared = pass_declared(facts, declared, rows);
-    let bodies = pass_bodies(facts, rows);
+    meet_rows(facts, &index.hidden, rows, asked, both);
+    let columns = close_rows(facts, &index.these, asked, rows);
     let ties = pass_ties(facts, rows);
     let sites = pass_sites(facts, pt, rows);
-    let hidden = pass_hidden(facts, hidden, rows);
-    declared | bodies | ties | sites | hidden
+    columns | ties | sites
 }
 
-/// T5 for one pair.
-fn declare_pair(facts: &Facts, rows: &mut [BitRow], x: Pair) -> bool
-    requires facts { InRange facts.now }
-    requires rows { AreEntries facts.now rows.old }
-    requires pair { IsPair (IsDeclaredBy facts.now) (length facts.now.columns.items) x }
-    ensures rows { AreEntries facts.now rows.new }
-    ensures step { IsStep rows.old rows.new result }
-    ensures closed { OnFalse result (IsPairCopied rows.new x) }
-{
-    copy_column(facts, rows, x.from, x.to)
-}
-
-/// T5 for each pair.
-fn pass_pairs(facts: &Facts, declared: &[Pair], rows: &mut [BitRow]) -> bool
-    requires facts { InRange facts.now }
-    requires rows { AreEntries facts.now rows.old }
-    requires declared { All (IsPair (IsDeclaredBy facts.now) (length facts.now.columns.items)) declared.now }
-    ensures rows { AreEntries facts.now rows.new }
-    ensures step { IsStep rows.old rows.new result }
-    ensures closed { OnFalse result (All (IsPairCopied rows.new) declared.now) }
-{
-    let mut grew = false;
-    for x in declared {
-        grew |= declare_pair(facts, rows, *x);
-    }
-    grew
-}
-
-/// T5: a row with a body has its declaration.
-fn pass_declared(facts: &Facts, declared: &[Pair], rows: &mut [BitRow]) -> bool
-    requires facts { InRange facts.now }
-    requires rows { AreEntries facts.now rows.old }
-    requires declared { AreAllPairs (IsDeclaredBy facts.now) (length facts.now.columns.items) declared.now }
-    ensures rows { AreEntries facts.now rows.new }
-    ensures step { IsStep rows.old rows.new result }
-    ensures closed { OnFalse result ((d : ℕ) → d < length facts.now.columns.items → IsDeclaredClosed facts.now rows.new d) }
-{
-    pass_pairs(facts, declared, rows)
-}
-
-/// T6 for one `this` and one row.
-fn join_body(facts: &Facts, rows: &mut [BitRow], v: usize, d: ColId, r: usize) -> bool
-    requires facts { InRange facts.now }
-    requires rows { AreEntries facts.now rows.old }
-    requires this { v < length facts.now.rows.items }
-    requires body { row_this facts.now v ≡ Some d }
-    requires column { d.0 < length facts.now.columns.items }
+/// The least column of a row from one on.
+pub fn next_column(facts: &Facts, rows: &[BitRow], r: usize, at: u32) -> Option<u32>
+    requires rows { AreEntries facts.now rows.now }
     requires row { r < length facts.now.rows.items }
+    ensures low { IfSome result (λ d. at ≤ d) }
+    ensures column { IfSome result (λ d. d < length facts.now.columns.items) }
+    ensures entry { IfSome result (IsEntry facts.now r) }
+    ensures least { MatchOption result (IsNoneFrom (bit (row rows.now r)) at (length facts.now.columns.items)) (λ d. IsNoneFrom (bit (row rows.now r)) at d) }
+{
+    let _ = facts;
+    row_at(rows, r).next(at)
+}
+
+/// T10: what a row has, and its columns hide, is asked for.
+fn meet_row(
+    facts: &Facts,
+    hidden: &[BitRow],
+    rows: &[BitRow],
+    asked: &mut [BitRow],
+    both: &mut BitRow,
+    q: usize,
+)
+    requires facts { InRange facts.now }
+    requires hidden { AreHidden facts.now hidden.now }
+    requires state { AreOpen facts.now asked.old both.old rows.now }
+    requires row { q < length facts.now.rows.items }
+    ensures state { AreOpen facts.now asked.new both.new rows.now }
+    ensures grows { Grow asked.old asked.new }
+    ensures met { IsMet facts.now rows.now asked.new q }
+{
+    let width = facts.columns.len() as u32;
+    let mut at = 0;
+    'scan: while at < width {
+        match next_column(facts, rows, q, at) {
+            Some(d) => {
+                meet_at(facts, hidden, rows, asked, both, q, d);
+                at = d + 1;
+            }
+            None => return,
+        }
+    }
+}
+
+/// T10: what a row has, and its columns hide, is asked for, for each row.
+fn meet_rows(
+    facts: &Facts,
+    hidden: &[BitRow],
+    rows: &[BitRow],
+    asked: &mut [BitRow],
+    both: &mut BitRow,
+)
+    requires facts { InRange facts.now }
+    requires hidden { AreHidden facts.now hidden.now }
+    requires state { AreOpen facts.now asked.old both.old rows.now }
+    ensures state { AreOpen facts.now asked.new both.new rows.now }
+    ensures met { (q : ℕ) → q < length facts.now.rows.items → IsMet facts.now rows.now asked.new q }
+{
+    for q in 0..facts.rows.len() {
+        meet_row(facts, hidden, rows, asked, both, q);
+    }
+}
+
+/// T6 for a row with a body, and a row that may be its `this`.
+pub fn close_this(facts: &Facts, rows: &mut [BitRow], r: usize, d: u32, v: usize) -> bool
+    requires facts { InRange facts.now }
+    requires rows { AreEntries facts.now rows.old }
+    requires row { r < length facts.now.rows.items }
+    requires entry { IsEntry facts.now r d }
     ensures rows { AreEntries facts.now rows.new }
     ensures step { IsStep rows.old rows.new result }
-    ensures closed { OnFalse result (IsBodyClosedAt v d.0 rows.new r) }
+    ensures closed { OnFalse result (IsThisClosed facts.now rows.new r d v) }
 {
-    if !row_at(rows, r).has(d.0) {
+    if v >= facts.rows.len() {
         return false;
     }
-    join_rows(facts, rows, v, r)
-}
-
-/// T6 for one `this` and its body.
-fn join_bodies(facts: &Facts, rows: &mut [BitRow], v: usize, d: ColId) -> bool
-    requires facts { InRange facts.now }
-    requires rows { AreEntries facts.now rows.old }
-    requires this { v < length facts.now.rows.items }
-    requires body { row_this facts.now v ≡ Some d }
-    requires column { d.0 < length facts.now.columns.items }
-    ensures rows { AreEntries facts.now rows.new }
-    ensures step { IsStep rows.old rows.new result }
-    ensures closed { OnFalse result ((r : ℕ) → r < length rows.new → IsBodyClosedAt v d.0 rows.new r) }
-{
-    let mut grew = false;
-    for r in 0..facts.rows.len() {
-        grew |= join_body(facts, rows, v, d, r);
-    }
-    grew
-}
-
-/// T6 for one row, where it is a `this`.
-fn join_this(facts: &Facts, rows: &mut [BitRow], v: usize) -> bool
-    requires facts { InRange facts.now }
-    requires rows { AreEntries facts.now rows.old }
-    requires this { v < length facts.now.rows.items }
-    ensures rows { AreEntries facts.now rows.new }
-    ensures step { IsStep rows.old rows.new result }
-    ensures closed { OnFalse result (IsBodyClosed facts.now rows.new v) }
-{
     match this_of(facts, v) {
-        Some(d) => join_bodies(facts, rows, v, d),
+        Some(b) => {
+            if b.0 != d {
+                return false;
+            }
+            join_rows(facts, rows, v, r)
+        }
         None => false,
     }
 }
 
-/// T6: a row with a body has all columns of its `this`.
-fn pass_bodies(facts: &Facts, rows: &mut [BitRow]) -> bool
+/// T6 for a row with a body, and each of a list of rows.
+fn close_these(facts: &Facts, rows: &mut [BitRow], r: usize, d: u32, list: &[usize]) -> bool
     requires facts { InRange facts.now }
+    requires rows { AreEntries facts.now rows.old }
+    requires row { r < length facts.now.rows.items }
+    requires entry { IsEntry facts.now r d }
+    ensures rows { AreEntries facts.now rows.new }
+    ensures step { IsStep rows.old rows.new result }
+    ensures closed { OnFalse result (All (IsThisClosed facts.now rows.new r d) list.now) }
+{
+    let mut grew = false;
+    for v in list {
+        grew |= close_this(facts, rows, r, d, *v);
+    }
+    grew
+}
+
+/// What a column of a row asks for.
+pub fn close_column(
+    facts: &Facts,
+    these: &[Vec<usize>],
+    asked: &[BitRow],
+    rows: &mut [BitRow],
+    r: usize,
+    d: u32,
+) -> bool
+    requires facts { InRange facts.now }
+    requires asked { AreAsked facts.now asked.now }
+    requires rows { AreEntries facts.now rows.old }
+    requires row { r < length facts.now.rows.items }
+    requires column { d < length facts.now.columns.items }
+    requires entry { IsEntry facts.now r d }
+    ensures rows { AreEntries facts.now rows.new }
+    ensures step { IsStep rows.old rows.new result }
+    ensures closed { OnFalse result (IsClosedAt facts.now these.now asked.now r rows.new d) }
+{
+    let columns = join_asked(facts, asked, rows, r, d);
+    let bodies = close_these(facts, rows, r, d, numbers_at(these, d as usize));
+    columns | bodies
+}
+
+/// What the columns of a row ask for.
+fn close_row(
+    facts: &Facts,
+    these: &[Vec<usize>],
+    asked: &[BitRow],
+    rows: &mut [BitRow],
+    r: usize,
+) -> bool
+    requires facts { InRange facts.now }
+    requires asked { AreAsked facts.now asked.now }
+    requires rows { AreEntries facts.now rows.old }
+    requires row { r < length facts.now.rows.items }
+    ensures rows { AreEntries facts.now rows.new }
+    ensures step { IsStep rows.old rows.new result }
+    ensures closed { OnFalse result (IsRowClosed facts.now these.now asked.now rows.new r) }
+{
+    let width = facts.columns.len() as u32;
+    let mut grew = false;
+    let mut at = 0;
+    'scan: while at < width {
+        match next_column(facts, rows, r, at) {
+            Some(d) => {
+                grew |= close_column(facts, these, asked, rows, r, d);
+                at = d + 1;
+            }
+            None => return grew,
+        }
+    }
+    grew
+}
+
+/// What the columns of each row ask for.
+fn close_rows(facts: &Facts, these: &[Vec<usize>], asked: &[BitRow], rows: &mut [BitRow]) -> bool
+    requires facts { InRange facts.now }
+    requires asked { AreAsked facts.now asked.now }
     requires rows { AreEntries facts.now rows.old }
     ensures rows { AreEntries facts.now rows.new }
     ensures step { IsStep rows.old rows.new result }
-    ensures closed { OnFalse result ((v : ℕ) → v < length facts.now.rows.items → IsBodyClosed facts.now rows.new v) }
+    ensures closed { OnFalse result ((r : ℕ) → r < length facts.now.rows.items → IsRowClosed facts.now these.now asked.now rows.new r) }
 {
     let mut grew = false;
-    for v in 0..facts.rows.len() {
-        grew |= join_this(facts, rows, v);
+    for r in 0..facts.rows.len() {
+        grew |= close_row(facts, these, asked, rows, r);
     }
     grew
 }
 
 /// T8 for one tie.
-fn join_tie(facts: &Facts, rows: &mut [BitRow], x: TieInfo) -> bool
+pub fn join_tie(facts: &Facts, rows: &mut [BitRow], x: TieInfo) -> bool
     requires facts { InRange facts.now }
     requires rows { AreEntries facts.now rows.old }
     requires tie { Contains facts.now.ties.items x }
@@ -229,20 +324,32 @@ fn pass_ties(facts: &Facts, rows: &mut [BitRow]) -> bool
     grew
 }
 
+/// The least site in the set of a row from one on.
+pub fn next_site(facts: &Facts, pt: &PointsTo, v: usize, at: u32) -> Option<u32>
+    requires facts { InRange facts.now }
+    requires sets { AreSets facts.now pt.now }
+    requires row { v < length facts.now.rows.items }
+    ensures low { IfSome result (λ o. at ≤ o) }
+    ensures site { IfSome result (λ o. o < length facts.now.sites.items) }
+    ensures member { IfSome result (IsInRow facts.now v) }
+    ensures least { MatchOption result (IsNoneFrom (bit (row pt.now.rows.items v)) at (length facts.now.sites.items)) (λ o. IsNoneFrom (bit (row pt.now.rows.items v)) at o) }
+{
+    let _ = facts;
+    row_at(&pt.rows, v).next(at)
+}
+
 /// T9 for one row and one site.
-fn join_site(facts: &Facts, pt: &PointsTo, rows: &mut [BitRow], v: usize, o: u32) -> bool
+pub fn join_site(facts: &Facts, pt: &PointsTo, rows: &mut [BitRow], v: usize, o: u32) -> bool
     requires facts { InRange facts.now }
     requires sets { AreSets facts.now pt.now }
     requires rows { AreEntries facts.now rows.old }
     requires row { v < length facts.now.rows.items }
     requires site { o < length facts.now.sites.items }
+    requires member { IsInRow facts.now v o }
     ensures rows { AreEntries facts.now rows.new }
     ensures step { IsStep rows.old rows.new result }
     ensures closed { OnFalse result (IsSiteClosedAt facts.now pt.now.rows.items v rows.new o) }
 {
-    if !row_at(&pt.rows, v).has(o) {
-        return false;
-    }
     join_rows(facts, rows, v, site_at(facts, o).row.0 as usize)
 }
 
@@ -256,9 +363,17 @@ fn join_sites(facts: &Facts, pt: &PointsTo, rows: &mut [BitRow], v: usize) -> bo
     ensures step { IsStep rows.old rows.new result }
     ensures closed { OnFalse result (IsSiteClosed facts.now pt.now.rows.items rows.new v) }
 {
+    let width = facts.sites.len() as u32;
     let mut grew = false;
-    for o in 0..facts.sites.len() as u32 {
-        grew |= join_site(facts, pt, rows, v, o);
+    let mut at = 0;
+    'scan: while at < width {
+        match next_site(facts, pt, v, at) {
+            Some(o) => {
+                grew |= join_site(facts, pt, rows, v, o);
+                at = o + 1;
+            }
+            None => return grew,
+        }
     }
     grew
 }
@@ -277,63 +392,4 @@ fn pass_sites(facts: &Facts, pt: &PointsTo, rows: &mut [BitRow]) -> bool
         grew |= join_sites(facts, pt, rows, v);
     }
     grew
-}
-
-/// Whether some row has both columns.
-fn have_both(rows: &[BitRow], width: u32, d: u32, c: u32) -> bool
-    requires widths { HasWidth width rows.now }
-    requires first { d < width }
-    requires second { c < width }
-    ensures { IsTrue result ↔ HaveBoth rows.now d c }
-{
-    for r in 0..rows.len() {
-        let row = row_at(rows, r);
-        if row.has(d) && row.has(c) {
-            return true;
-        }
-    }
-    false
-}
-
-/// T10 for one pair.
-fn hide_pair(facts: &Facts, rows: &mut [BitRow], x: Pair) -> bool
-    requires facts { InRange facts.now }
-    requires rows { AreEntries facts.now rows.old }
-    requires pair { IsPair (Hides facts.now) (length facts.now.columns.items) x }
-    ensures rows { AreEntries facts.now rows.new }
-    ensures step { IsStep rows.old rows.new result }
-    ensures closed { OnFalse result (IsPairHidden rows.new x) }
-{
-    if !have_both(rows, facts.columns.len() as u32, x.from, x.to) {
-        return false;
-    }
-    copy_column(facts, rows, x.from, x.to)
-}
-
-/// T10 for each pair.
-fn hide_pairs(facts: &Facts, hidden: &[Pair], rows: &mut [BitRow]) -> bool
-    requires facts { InRange facts.now }
-    requires rows { AreEntries facts.now rows.old }
-    requires hidden { All (IsPair (Hides facts.now) (length facts.now.columns.items)) hidden.now }
-    ensures rows { AreEntries facts.now rows.new }
-    ensures step { IsStep rows.old rows.new result }
-    ensures closed { OnFalse result (All (IsPairHidden rows.new) hidden.now) }
-{
-    let mut grew = false;
-    for x in hidden {
-        grew |= hide_pair(facts, rows, *x);
-    }
-    grew
-}
-
-/// T10: where some row has both a member and one that it hides, each row with the first has the second.
-fn pass_hidden(facts: &Facts, hidden: &[Pair], rows: &mut [BitRow]) -> bool
-    requires facts { InRange facts.now }
-    requires rows { AreEntries facts.now rows.old }
-    requires hidden { AreAllPairs (Hides facts.now) (length facts.now.columns.items) hidden.now }
-    ensures rows { AreEntries facts.now rows.new }
-    ensures step { IsStep rows.old rows.new result }
-    ensures closed { OnFalse result ((d : ℕ) → d < length facts.now.columns.items → IsHiddenClosed facts.now rows.new d) }
-{
-    hide_pairs(facts, hidden, rows)
 }

@@ -2,10 +2,11 @@
 
 ghost use Rattle.std.specs.Prelude.{◌≡◌, ℕ, ◌<◌, ◌↔◌, ◌⊎◌, true, length, IsTrue};
 ghost use Rattle.kaba_bits.specs.Sets.{bit, row};
-ghost use Rattle.fact_model.specs.Items.{column_at, row_at, row_this, site_at, IsColumn};
+ghost use Rattle.fact_model.specs.Items.{column_at, column_slot, row_at, row_this, site_at, IsColumn};
 ghost use Rattle.fact_model.specs.Classes.{IsStrictlyBelow};
 ghost use Rattle.fact_model.specs.InRange.{InRange, IsClass};
 ghost use Rattle.fact_model.specs.Entries.{IsDeclaredBy, Hides};
+ghost use Rattle.table_rules.specs.Asked.{IsMethod};
 ghost use Rattle.fact_model.specs.declared.facts.ColKind.TheVariants.{Dcl, Def, Is};
 
 use fact_model::{ColKind, ColumnInfo, Facts, SiteInfo, below};
@@ -57,10 +58,26 @@ fn is_same_class(a: ClassId, b: ClassId) -> bool
 }
 
 /// Whether a kind is that of a method's declaration or body.
-fn is_method(kind: ColKind) -> bool
+fn is_member(kind: ColKind) -> bool
     ensures { IsTrue result ↔ ((kind ≡ ColKind.Def) ⊎ (kind ≡ ColKind.Dcl)) }
 {
     is_same_kind(kind, ColKind::Def) || is_same_kind(kind, ColKind::Dcl)
+}
+
+/// Whether a column is that of a method's declaration or body.
+pub fn is_method(facts: &Facts, c: u32) -> bool
+    requires { c < length facts.now.columns.items }
+    ensures { IsTrue result ↔ IsMethod facts.now c }
+{
+    is_member(column_at(facts, c).kind)
+}
+
+/// The slot of a column.
+pub fn slot_of(facts: &Facts, c: u32) -> Option<u32>
+    requires { c < length facts.now.columns.items }
+    ensures { result ≡ column_slot facts.now c }
+{
+    column_at(facts, c).slot
 }
 
 /// Whether a column is the mark of a class.
@@ -104,7 +121,7 @@ pub fn hides(facts: &Facts, d: u32, c: u32) -> bool
 {
     let lower = column_at(facts, d);
     let upper = column_at(facts, c);
-    is_method(lower.kind)
+    is_member(lower.kind)
         && is_same_kind(lower.kind, upper.kind)
         && is_same_slot(lower.slot, upper.slot)
         && is_strictly_below(facts, lower.class, upper.class)

@@ -1,43 +1,134 @@
-//! What a new entry begins beside its pairs, each list made once.
+//! Lists by column and by row, each made once.
 
-use crate::columns::this_of;
-use crate::pairs::Pair;
-use crate::work::{empty, note};
+ghost use Rattle.std.specs.Prelude.{◌≡◌, ℕ, ◌<◌, ◌+◌, length, IfOk, OnOk};
+ghost use Rattle.fact_model.specs.InRange.{InRange};
+ghost use Rattle.points_to.specs.Begun.{KeepNumbers};
+ghost use Rattle.table_rules.specs.Asked.{place_of, AreHidden, HaveMethods, HaveThese, IsThisNoted, IsIndex};
+
+use crate::columns::{is_method, slot_of, this_of};
 use fact_model::Facts;
+use kaba_bits::BitRow;
+use points_to::{empty, note};
 use std::alloc::{AllocError, Global};
 
-/// For each column the rows that are the `this` of its body, and the numbers of the pairs of hiding that it is in.
+/// The rows that are the `this` of a body, by its column, the ties by their upper row, and the columns that each hides.
 #[derive(Drop)]
 pub struct Index {
     pub these: Vec<Vec<usize>>,
-    pub hiding: Vec<Vec<usize>>,
+    pub ties: Vec<Vec<usize>>,
+    pub hidden: Vec<BitRow>,
 }
 
-/// The `this` rows by their body. An error comes only for want of memory.
-fn these_of(alloc: Global, facts: &Facts) -> Result<Vec<Vec<usize>>, AllocError> {
-    let mut lists = empty(alloc, facts.columns.len())?;
-    for v in 0..facts.rows.len() {
-        if let Some(d) = this_of(facts, v) {
-            note(&mut lists, d.0 as usize, v)?;
-        }
+/// Where the columns of a slot are listed, of so many lists.
+pub fn place_of(count: usize, slot: Option<u32>) -> usize
+    requires { 0 < count }
+    ensures { result ≡ place_of count slot }
+{
+    match slot {
+        Some(x) => x as usize % count,
+        None => 0,
     }
+}
+
+/// One column, where it is that of a method. An error comes only for want of memory.
+fn note_method(facts: &Facts, lists: &mut [Vec<usize>], c: u32) -> Result<(), AllocError>
+    requires column { c < length facts.now.columns.items }
+    requires count { length lists.old ≡ length facts.now.columns.items }
+    requires before { HaveMethods facts.now lists.old c }
+    ensures count { OnOk result (length lists.new ≡ length facts.now.columns.items) }
+    ensures here { OnOk result (HaveMethods facts.now lists.new (c + 1)) }
+{
+    if !is_method(facts, c) {
+        return Ok(());
+    }
+    let at = place_of(lists.len(), slot_of(facts, c));
+    note(lists, at, c as usize)?;
+    Ok(())
+}
+
+/// Each column that is that of a method. An error comes only for want of memory.
+fn note_methods(facts: &Facts, lists: &mut [Vec<usize>]) -> Result<(), AllocError>
+    requires facts { InRange facts.now }
+    requires count { length lists.old ≡ length facts.now.columns.items }
+    ensures { OnOk result (HaveMethods facts.now lists.new (length facts.now.columns.items)) }
+{
+    for c in 0..facts.columns.len() as u32 {
+        note_method(facts, lists, c)?;
+    }
+    Ok(())
+}
+
+/// The columns of methods by their slot. An error comes only for want of memory.
+pub fn methods_of(alloc: Global, facts: &Facts) -> Result<Vec<Vec<usize>>, AllocError>
+    requires { InRange facts.now }
+    ensures count { IfOk result (λ v. length v.items ≡ length facts.now.columns.items) }
+    ensures methods { IfOk result (λ v. HaveMethods facts.now v.items (length facts.now.columns.items)) }
+{
+    let mut lists = empty(alloc, facts.columns.len())?;
+    note_methods(facts, &mut lists)?;
     Ok(lists)
 }
 
-/// The pairs of hiding by either column. An error comes only for want of memory.
-fn hiding_of(alloc: Global, facts: &Facts, hidden: &[Pair]) -> Result<Vec<Vec<usize>>, AllocError> {
+/// One row, where it is a `this`. An error comes only for want of memory.
+fn note_this(facts: &Facts, lists: &mut [Vec<usize>], v: usize) -> Result<(), AllocError>
+    requires facts { InRange facts.now }
+    requires row { v < length facts.now.rows.items }
+    requires count { length lists.old ≡ length facts.now.columns.items }
+    requires before { HaveThese facts.now lists.old v }
+    ensures count { OnOk result (length lists.new ≡ length facts.now.columns.items) }
+    ensures here { OnOk result (HaveThese facts.now lists.new (v + 1)) }
+{
+    match this_of(facts, v) {
+        Some(d) => {
+            note(lists, d.0 as usize, v)?;
+            Ok(())
+        }
+        None => Ok(()),
+    }
+}
+
+/// Each row that is a `this`. An error comes only for want of memory.
+fn note_these(facts: &Facts, lists: &mut [Vec<usize>]) -> Result<(), AllocError>
+    requires facts { InRange facts.now }
+    requires count { length lists.old ≡ length facts.now.columns.items }
+    ensures { OnOk result (HaveThese facts.now lists.new (length facts.now.rows.items)) }
+{
+    for v in 0..facts.rows.len() {
+        note_this(facts, lists, v)?;
+    }
+    Ok(())
+}
+
+/// The rows that are a `this`, by their body. An error comes only for want of memory.
+fn these_of(alloc: Global, facts: &Facts) -> Result<Vec<Vec<usize>>, AllocError>
+    requires { InRange facts.now }
+    ensures { IfOk result (λ v. HaveThese facts.now v.items (length facts.now.rows.items)) }
+{
     let mut lists = empty(alloc, facts.columns.len())?;
-    for i in 0..hidden.len() {
-        note(&mut lists, hidden[i].from as usize, i)?;
-        note(&mut lists, hidden[i].to as usize, i)?;
+    note_these(facts, &mut lists)?;
+    Ok(lists)
+}
+
+/// The ties by their upper row. An error comes only for want of memory.
+fn ties_of(alloc: Global, facts: &Facts) -> Result<Vec<Vec<usize>>, AllocError> {
+    let mut lists = empty(alloc, facts.rows.len())?;
+    for i in 0..facts.ties.len() {
+        note(&mut lists, facts.ties[i].upper.0 as usize, i)?;
     }
     Ok(lists)
 }
 
 /// The index of the facts. An error comes only for want of memory.
-pub fn index_of(alloc: Global, facts: &Facts, hidden: &[Pair]) -> Result<Index, AllocError> {
+pub fn index_of(alloc: Global, facts: &Facts, hidden: Vec<BitRow>) -> Result<Index, AllocError>
+    requires facts { InRange facts.now }
+    requires hidden { AreHidden facts.now hidden.items }
+    ensures { IfOk result (λ x. IsIndex facts.now x) }
+{
+    let these = these_of(alloc, facts)?;
+    let ties = ties_of(alloc, facts)?;
     Ok(Index {
-        these: these_of(alloc, facts)?,
-        hiding: hiding_of(alloc, facts, hidden)?,
+        these,
+        ties,
+        hidden,
     })
 }

@@ -2,14 +2,13 @@
 //! the least table that holds them and is closed under the others.
 #![tactic(auto)]
 
+mod asked;
 mod closing;
 mod columns;
 mod index;
 mod marks;
-mod pairs;
 mod raw_table;
 mod turns;
-mod work;
 
 pub use closing::close;
 pub use raw_table::raw;

@@ -5,10 +5,11 @@ ghost use Rattle.std.specs.Bool.{OnFalse};
 ghost use Rattle.kaba_bits.specs.Sets.{bit, row, IsSubset, IsStep};
 ghost use Rattle.fact_model.specs.Entries.{IsRawEntry, IsEntry};
 ghost use Rattle.table_rules.specs.Marks.{AreRaw, AreEntries, Grow, Marked};
-ghost use Rattle.table_rules.specs.Closed.{RowFlows, ColumnFlows, IsCopied, IsCopiedAt};
+ghost use Rattle.table_rules.specs.Closed.{RowFlows};
+ghost use Rattle.table_rules.specs.Asked.{AreAsked};
 
 use fact_model::Facts;
-use kaba_bits::{BitRow, join, row_at, set_at};
+use kaba_bits::{BitRow, join, join_with, row_at, set_at};
 
 /// One entry of the rules without premises.
 pub fn mark(facts: &Facts, rows: &mut [BitRow], r: u32, c: u32)
@@ -36,36 +37,16 @@ pub fn join_rows(facts: &Facts, rows: &mut [BitRow], from: usize, into: usize) -
     join(rows, from, into)
 }
 
-/// The column `c` into one row, where that has the column `d`.
-fn copy_at(facts: &Facts, rows: &mut [BitRow], d: u32, c: u32, r: usize) -> bool
+/// All columns that one column asks for, into a row that has it.
+pub fn join_asked(facts: &Facts, asked: &[BitRow], rows: &mut [BitRow], r: usize, d: u32) -> bool
+    requires asked { AreAsked facts.now asked.now }
     requires rows { AreEntries facts.now rows.old }
     requires row { r < length facts.now.rows.items }
-    requires from { d < length facts.now.columns.items }
-    requires into { c < length facts.now.columns.items }
-    requires flows { ColumnFlows facts.now d c }
+    requires column { d < length facts.now.columns.items }
+    requires entry { IsEntry facts.now r d }
     ensures rows { AreEntries facts.now rows.new }
     ensures step { IsStep rows.old rows.new result }
-    ensures closed { OnFalse result (IsCopiedAt d c rows.new r) }
+    ensures closed { OnFalse result (IsSubset (row asked.now d) (row rows.new r)) }
 {
-    if !row_at(rows, r).has(d) {
-        return false;
-    }
-    set_at(rows, r, c)
-}
-
-/// The column `c` into each row that has the column `d`.
-pub fn copy_column(facts: &Facts, rows: &mut [BitRow], d: u32, c: u32) -> bool
-    requires rows { AreEntries facts.now rows.old }
-    requires from { d < length facts.now.columns.items }
-    requires into { c < length facts.now.columns.items }
-    requires flows { ColumnFlows facts.now d c }
-    ensures rows { AreEntries facts.now rows.new }
-    ensures step { IsStep rows.old rows.new result }
-    ensures closed { OnFalse result (IsCopied rows.new d c) }
-{
-    let mut grew = false;
-    for r in 0..facts.rows.len() {
-        grew |= copy_at(facts, rows, d, c, r);
-    }
-    grew
+    join_with(rows, r, row_at(asked, d as usize))
 }

@@ -1,396 +1,461 @@
-//! The table by a worklist: each entry that is new is passed on once.
+//! The table by a worklist: a row that grew passes on what it has, and a column that is new in a row asks for what it can.
 
-ghost use Rattle.std.specs.Prelude.{◌≡◌, ℕ, ◌<◌, length, Contains, All, Some, IfSome, IsTrue, OnOk};
-ghost use Rattle.fact_model.specs.Items.{row_this};
+ghost use Rattle.std.specs.Prelude.{◌≡◌, ℕ, ◌<◌, length, OnOk};
+ghost use Rattle.std.specs.Bool.{OnTrue};
 ghost use Rattle.fact_model.specs.InRange.{InRange};
-ghost use Rattle.fact_model.specs.Flowing.{AreSets};
-ghost use Rattle.fact_model.specs.Entries.{IsEntry, IsDeclaredBy, Hides};
+ghost use Rattle.fact_model.specs.Flowing.{AreSets, IsInRow};
+ghost use Rattle.fact_model.specs.Entries.{IsEntry};
 ghost use Rattle.table_rules.specs.Marks.{AreEntries};
-ghost use Rattle.table_rules.specs.Pairs.{IsPair, AreListed, IsWaiting};
+ghost use Rattle.table_rules.specs.Asked.{AreAsked, AreOpen, IsIndex};
 
+use crate::asked::meet_at;
+use crate::closing::{close_column, close_this, join_site, join_tie, next_column, next_site};
 use crate::columns::{site_at, this_of};
-use crate::index::{Index, index_of};
-use crate::pairs::Pair;
-use crate::work::{
-    Lists, Waiting, empty_lists, has, keep_column, keep_row, link_columns, link_rows, list_at,
-    pass_columns, pass_rows, wait,
-};
-use fact_model::{Facts, PointsTo, TieInfo};
-use kaba_bits::{BitRow, row_at};
+use crate::index::Index;
+use crate::marks::join_asked;
+use fact_model::{Facts, PointsTo};
+use kaba_bits::{BitRow, empty_rows, row_at};
+use points_to::numbers_at;
 use std::alloc::{AllocError, Global};
+use std::collections::VecDeque;
 
-/// T6: a row with a body gets all columns of its `this`. An error comes only for want of memory.
-fn link_body(
-    facts: &Facts,
-    rows: &mut [BitRow],
-    lists: &mut Lists,
-    v: u32,
-    r: u32,
-    c: u32,
-) -> Result<(), AllocError>
-    requires facts { InRange facts.now }
-    requires rows { AreEntries facts.now rows.old }
-    requires lists { AreListed facts.now lists.old }
-    requires this { v < length facts.now.rows.items }
-    requires body { row_this facts.now v ≡ Some (record { 0 = c }) }
-    requires row { r < length facts.now.rows.items }
-    requires column { c < length facts.now.columns.items }
-    requires entry { IsEntry facts.now r c }
-    ensures rows { OnOk result (AreEntries facts.now rows.new) }
-    ensures lists { OnOk result (AreListed facts.now lists.new) }
-{
-    link_rows(facts, rows, lists, Pair { from: v, to: r })?;
-    Ok(())
+/// The rows that grew and were not gone over since, each once, and for each column the rows where it was gone over.
+#[derive(Drop)]
+struct Lists {
+    waiting: VecDeque<usize>,
+    waits: Vec<bool>,
+    holders: Vec<BitRow>,
 }
 
-/// T6 for one `this` and an entry. An error comes only for want of memory.
-fn join_this(
-    facts: &Facts,
-    rows: &mut [BitRow],
-    lists: &mut Lists,
-    v: usize,
-    r: u32,
-    c: u32,
-) -> Result<(), AllocError>
-    requires facts { InRange facts.now }
-    requires rows { AreEntries facts.now rows.old }
-    requires lists { AreListed facts.now lists.old }
-    requires row { r < length facts.now.rows.items }
-    requires column { c < length facts.now.columns.items }
-    requires entry { IsEntry facts.now r c }
-    ensures rows { OnOk result (AreEntries facts.now rows.new) }
-    ensures lists { OnOk result (AreListed facts.now lists.new) }
-{
-    if v < facts.rows.len() {
-        if let Some(d) = this_of(facts, v) {
-            if d.0 == c {
-                link_body(facts, rows, lists, v as u32, r, c)?;
-            }
-        }
+/// A row waits, unless it does already. An error comes only for want of memory.
+fn wake(lists: &mut Lists, r: usize) -> Result<(), AllocError> {
+    if r < lists.waits.len() && !lists.waits[r] {
+        lists.waits[r] = true;
+        lists.waiting.push_back(r)?;
     }
     Ok(())
 }
 
-/// T6 for an entry. An error comes only for want of memory.
-fn join_these(
-    facts: &Facts,
-    index: &Index,
-    rows: &mut [BitRow],
-    lists: &mut Lists,
-    r: u32,
-    c: u32,
-) -> Result<(), AllocError>
-    requires facts { InRange facts.now }
-    requires rows { AreEntries facts.now rows.old }
-    requires lists { AreListed facts.now lists.old }
-    requires row { r < length facts.now.rows.items }
-    requires column { c < length facts.now.columns.items }
-    requires entry { IsEntry facts.now r c }
-    ensures rows { OnOk result (AreEntries facts.now rows.new) }
-    ensures lists { OnOk result (AreListed facts.now lists.new) }
-{
-    for v in list_at(&index.these, c as usize) {
-        join_this(facts, rows, lists, *v, r, c)?;
+/// Notes that a row has a column, and answers whether that is new.
+fn is_first(lists: &mut Lists, d: u32, r: usize) -> bool {
+    if d as usize >= lists.holders.len() {
+        return false;
     }
-    Ok(())
+    let holders = &mut lists.holders[d as usize];
+    if r >= holders.width() as usize {
+        return false;
+    }
+    holders.set(r as u32)
 }
 
-/// Whether a pair of hiding is one that a row has, met for the first time.
-fn meets_first(
-    facts: &Facts,
-    rows: &[BitRow],
-    lists: &mut Lists,
-    i: usize,
-    pair: Pair,
-    r: u32,
-) -> bool
+/// The rows that were noted to have a column. An error comes only for want of memory.
+fn holders_of(alloc: Global, lists: &Lists, d: u32) -> Result<Vec<u32>, AllocError> {
+    if d as usize >= lists.holders.len() {
+        return Ok(Vec::new(alloc));
+    }
+    row_at(&lists.holders, d as usize).rising(alloc)
+}
+
+/// Whether a row is there and has a column.
+fn has(facts: &Facts, rows: &[BitRow], r: u32, d: u32) -> bool
     requires rows { AreEntries facts.now rows.now }
-    requires lists { AreListed facts.now lists.old }
-    requires pair { IsPair (Hides facts.now) (length facts.now.columns.items) pair }
-    requires row { r < length facts.now.rows.items }
-    ensures lists { AreListed facts.now lists.new }
-    ensures both { IsTrue result → IsEntry facts.now r pair.from × IsEntry facts.now r pair.to }
+    requires column { d < length facts.now.columns.items }
+    ensures row { OnTrue result (r < length facts.now.rows.items) }
+    ensures entry { OnTrue result (IsEntry facts.now r d) }
 {
-    if i >= lists.met.len() || lists.met[i] {
-        return false;
-    }
-    if !has(facts, rows, r, pair.from) || !has(facts, rows, r, pair.to) {
-        return false;
-    }
-    lists.met[i] = true;
-    true
+    (r as usize) < facts.rows.len() && row_at(rows, r as usize).has(d)
 }
 
-/// T10 for one pair and an entry. An error comes only for want of memory.
-fn hide(
+/// What a column asks for, into a row that may have it. An error comes only for want of memory.
+fn give(
     facts: &Facts,
+    asked: &[BitRow],
     rows: &mut [BitRow],
     lists: &mut Lists,
-    i: usize,
-    pair: Pair,
+    d: u32,
     r: u32,
 ) -> Result<(), AllocError>
-    requires facts { InRange facts.now }
+    requires asked { AreAsked facts.now asked.now }
     requires rows { AreEntries facts.now rows.old }
-    requires lists { AreListed facts.now lists.old }
-    requires pair { IsPair (Hides facts.now) (length facts.now.columns.items) pair }
-    requires row { r < length facts.now.rows.items }
-    ensures rows { OnOk result (AreEntries facts.now rows.new) }
-    ensures lists { OnOk result (AreListed facts.now lists.new) }
+    requires column { d < length facts.now.columns.items }
+    ensures { OnOk result (AreEntries facts.now rows.new) }
 {
-    if meets_first(facts, rows, lists, i, pair, r) {
-        link_columns(facts, rows, lists, pair)?;
+    if !has(facts, rows, r, d) {
+        return Ok(());
+    }
+    if join_asked(facts, asked, rows, r as usize, d) {
+        wake(lists, r as usize)?;
     }
     Ok(())
 }
 
-/// A pair of hiding by its number.
-fn pair_at(facts: &Facts, hidden: &[Pair], i: usize) -> Option<Pair>
-    requires { All (IsPair (Hides facts.now) (length facts.now.columns.items)) hidden.now }
-    ensures { IfSome result (IsPair (Hides facts.now) (length facts.now.columns.items)) }
-{
-    let _ = facts;
-    if i < hidden.len() {
-        Some(hidden[i])
-    } else {
-        None
-    }
-}
-
-/// T10 for the pair of a number and an entry. An error comes only for want of memory.
-fn hide_if_pair(
+/// What a column asks for, into each row that has it. An error comes only for want of memory.
+fn spread(
+    alloc: Global,
     facts: &Facts,
-    hidden: &[Pair],
+    asked: &[BitRow],
     rows: &mut [BitRow],
     lists: &mut Lists,
-    i: usize,
-    r: u32,
+    d: u32,
 ) -> Result<(), AllocError>
-    requires facts { InRange facts.now }
+    requires asked { AreAsked facts.now asked.now }
     requires rows { AreEntries facts.now rows.old }
-    requires lists { AreListed facts.now lists.old }
-    requires hidden { All (IsPair (Hides facts.now) (length facts.now.columns.items)) hidden.now }
-    requires row { r < length facts.now.rows.items }
-    ensures rows { OnOk result (AreEntries facts.now rows.new) }
-    ensures lists { OnOk result (AreListed facts.now lists.new) }
+    requires column { d < length facts.now.columns.items }
+    ensures { OnOk result (AreEntries facts.now rows.new) }
 {
-    if let Some(pair) = pair_at(facts, hidden, i) {
-        hide(facts, rows, lists, i, pair, r)?;
+    let holders = holders_of(alloc, lists, d)?;
+    for r in &holders {
+        give(facts, asked, rows, lists, d, *r)?;
     }
     Ok(())
 }
 
-/// T10 for an entry. An error comes only for want of memory.
-fn hide_each(
+/// What a column asks for, where it is new in a row. An error comes only for want of memory.
+fn begin_column(
     facts: &Facts,
     index: &Index,
-    hidden: &[Pair],
+    asked: &[BitRow],
     rows: &mut [BitRow],
     lists: &mut Lists,
-    r: u32,
-    c: u32,
+    r: usize,
+    d: u32,
 ) -> Result<(), AllocError>
     requires facts { InRange facts.now }
+    requires asked { AreAsked facts.now asked.now }
     requires rows { AreEntries facts.now rows.old }
-    requires lists { AreListed facts.now lists.old }
-    requires hidden { All (IsPair (Hides facts.now) (length facts.now.columns.items)) hidden.now }
     requires row { r < length facts.now.rows.items }
-    ensures rows { OnOk result (AreEntries facts.now rows.new) }
-    ensures lists { OnOk result (AreListed facts.now lists.new) }
+    requires column { d < length facts.now.columns.items }
+    requires entry { IsEntry facts.now r d }
+    ensures { OnOk result (AreEntries facts.now rows.new) }
 {
-    for i in list_at(&index.hiding, c as usize) {
-        hide_if_pair(facts, hidden, rows, lists, *i, r)?;
+    if !is_first(lists, d, r) {
+        return Ok(());
+    }
+    if close_column(facts, &index.these, asked, rows, r, d) {
+        wake(lists, r)?;
     }
     Ok(())
 }
 
-/// One turn: an entry that waited is passed on. An error comes only for want of memory.
-fn turn(
+/// What the columns ask for that are new in a row. An error comes only for want of memory.
+fn begin(
     facts: &Facts,
     index: &Index,
-    hidden: &[Pair],
+    asked: &[BitRow],
     rows: &mut [BitRow],
     lists: &mut Lists,
-    x: Waiting,
+    r: usize,
 ) -> Result<(), AllocError>
     requires facts { InRange facts.now }
+    requires asked { AreAsked facts.now asked.now }
     requires rows { AreEntries facts.now rows.old }
-    requires lists { AreListed facts.now lists.old }
-    requires hidden { All (IsPair (Hides facts.now) (length facts.now.columns.items)) hidden.now }
-    requires waited { IsWaiting facts.now x }
-    ensures rows { OnOk result (AreEntries facts.now rows.new) }
-    ensures lists { OnOk result (AreListed facts.now lists.new) }
+    requires row { r < length facts.now.rows.items }
+    ensures { OnOk result (AreEntries facts.now rows.new) }
 {
-    pass_rows(facts, rows, lists, x.row, x.column)?;
-    pass_columns(facts, rows, lists, x.row, x.column)?;
-    join_these(facts, index, rows, lists, x.row, x.column)?;
-    hide_each(facts, index, hidden, rows, lists, x.row, x.column)?;
-    Ok(())
-}
-
-/// Takes out what began to wait last.
-fn next(facts: &Facts, lists: &mut Lists) -> Option<Waiting>
-    requires { AreListed facts.now lists.old }
-    ensures lists { AreListed facts.now lists.new }
-    ensures waited { IfSome result (IsWaiting facts.now) }
-{
-    lists.waiting.pop()
-}
-
-/// Turns, until nothing waits. An error comes only for want of memory.
-fn run(
-    facts: &Facts,
-    index: &Index,
-    hidden: &[Pair],
-    rows: &mut [BitRow],
-    lists: &mut Lists,
-) -> Result<(), AllocError>
-    requires facts { InRange facts.now }
-    requires rows { AreEntries facts.now rows.old }
-    requires lists { AreListed facts.now lists.old }
-    requires hidden { All (IsPair (Hides facts.now) (length facts.now.columns.items)) hidden.now }
-    ensures rows { OnOk result (AreEntries facts.now rows.new) }
-    ensures lists { OnOk result (AreListed facts.now lists.new) }
-{
-    for _turn in 0..u64::MAX {
-        match next(facts, lists) {
-            Some(x) => turn(facts, index, hidden, rows, lists, x)?,
+    let width = facts.columns.len() as u32;
+    let mut at = 0;
+    'scan: while at < width {
+        match next_column(facts, rows, r, at) {
+            Some(d) => {
+                begin_column(facts, index, asked, rows, lists, r, d)?;
+                at = d + 1;
+            }
             None => return Ok(()),
         }
     }
     Ok(())
 }
 
-/// T8 for one tie. An error comes only for want of memory.
-fn keep_tie(facts: &Facts, lists: &mut Lists, x: TieInfo) -> Result<(), AllocError>
-    requires facts { InRange facts.now }
-    requires lists { AreListed facts.now lists.old }
-    requires tie { Contains facts.now.ties.items x }
-    ensures { OnOk result (AreListed facts.now lists.new) }
+/// T10 for one column of a row. An error comes only for want of memory.
+fn meet_column(
+    alloc: Global,
+    facts: &Facts,
+    index: &Index,
+    asked: &mut [BitRow],
+    both: &mut BitRow,
+    rows: &mut [BitRow],
+    lists: &mut Lists,
+    r: usize,
+    d: u32,
+) -> Result<(), AllocError>
+    requires index { IsIndex facts.now index.now }
+    requires state { AreOpen facts.now asked.old both.old rows.old }
+    requires row { r < length facts.now.rows.items }
+    requires column { d < length facts.now.columns.items }
+    requires entry { IsEntry facts.now r d }
+    ensures { OnOk result (AreOpen facts.now asked.new both.new rows.new) }
 {
-    let edge = Pair {
-        from: x.upper.0,
-        to: x.lower.0,
-    };
-    keep_row(facts, lists, edge)?;
-    Ok(())
-}
-
-/// T8 for each tie. An error comes only for want of memory.
-fn keep_ties(facts: &Facts, lists: &mut Lists) -> Result<(), AllocError>
-    requires facts { InRange facts.now }
-    requires lists { AreListed facts.now lists.old }
-    ensures { OnOk result (AreListed facts.now lists.new) }
-{
-    for x in &facts.ties {
-        keep_tie(facts, lists, *x)?;
+    if meet_at(facts, &index.hidden, rows, asked, both, r, d) {
+        spread(alloc, facts, asked, rows, lists, d)?;
     }
     Ok(())
 }
 
-/// T9 for one row and one site. An error comes only for want of memory.
-fn keep_site(
+/// T10 for each column of a row. An error comes only for want of memory.
+fn meet_columns(
+    alloc: Global,
     facts: &Facts,
-    pt: &PointsTo,
+    index: &Index,
+    asked: &mut [BitRow],
+    both: &mut BitRow,
+    rows: &mut [BitRow],
     lists: &mut Lists,
-    v: u32,
-    o: u32,
+    r: usize,
 ) -> Result<(), AllocError>
     requires facts { InRange facts.now }
-    requires lists { AreListed facts.now lists.old }
-    requires sets { AreSets facts.now pt.now }
-    requires row { v < length facts.now.rows.items }
-    requires site { o < length facts.now.sites.items }
-    ensures { OnOk result (AreListed facts.now lists.new) }
-{
-    if row_at(&pt.rows, v as usize).has(o) {
-        let edge = Pair {
-            from: v,
-            to: site_at(facts, o).row.0,
-        };
-        keep_row(facts, lists, edge)?;
-    }
-    Ok(())
-}
-
-/// T9 for one row. An error comes only for want of memory.
-fn keep_row_sites(facts: &Facts, pt: &PointsTo, lists: &mut Lists, v: u32) -> Result<(), AllocError>
-    requires facts { InRange facts.now }
-    requires lists { AreListed facts.now lists.old }
-    requires sets { AreSets facts.now pt.now }
-    requires row { v < length facts.now.rows.items }
-    ensures { OnOk result (AreListed facts.now lists.new) }
-{
-    for o in 0..facts.sites.len() as u32 {
-        keep_site(facts, pt, lists, v, o)?;
-    }
-    Ok(())
-}
-
-/// T9 for each row. An error comes only for want of memory.
-fn keep_sites(facts: &Facts, pt: &PointsTo, lists: &mut Lists) -> Result<(), AllocError>
-    requires facts { InRange facts.now }
-    requires lists { AreListed facts.now lists.old }
-    requires sets { AreSets facts.now pt.now }
-    ensures { OnOk result (AreListed facts.now lists.new) }
-{
-    for v in 0..facts.rows.len() as u32 {
-        keep_row_sites(facts, pt, lists, v)?;
-    }
-    Ok(())
-}
-
-/// T5 for one pair. An error comes only for want of memory.
-fn keep_pair(facts: &Facts, lists: &mut Lists, x: Pair) -> Result<(), AllocError>
-    requires facts { InRange facts.now }
-    requires lists { AreListed facts.now lists.old }
-    requires pair { IsPair (IsDeclaredBy facts.now) (length facts.now.columns.items) x }
-    ensures { OnOk result (AreListed facts.now lists.new) }
-{
-    keep_column(facts, lists, x)?;
-    Ok(())
-}
-
-/// T5 for each pair. An error comes only for want of memory.
-fn keep_pairs(facts: &Facts, declared: &[Pair], lists: &mut Lists) -> Result<(), AllocError>
-    requires facts { InRange facts.now }
-    requires lists { AreListed facts.now lists.old }
-    requires declared { All (IsPair (IsDeclaredBy facts.now) (length facts.now.columns.items)) declared.now }
-    ensures { OnOk result (AreListed facts.now lists.new) }
-{
-    for x in declared {
-        keep_pair(facts, lists, *x)?;
-    }
-    Ok(())
-}
-
-/// Each entry of one row waits. An error comes only for want of memory.
-fn wait_row(facts: &Facts, rows: &[BitRow], lists: &mut Lists, r: u32) -> Result<(), AllocError>
-    requires facts { InRange facts.now }
-    requires lists { AreListed facts.now lists.old }
-    requires rows { AreEntries facts.now rows.now }
+    requires index { IsIndex facts.now index.now }
+    requires state { AreOpen facts.now asked.old both.old rows.old }
     requires row { r < length facts.now.rows.items }
-    ensures { OnOk result (AreListed facts.now lists.new) }
+    ensures { OnOk result (AreOpen facts.now asked.new both.new rows.new) }
 {
-    for c in 0..facts.columns.len() as u32 {
-        if has(facts, rows, r, c) {
-            wait(facts, lists, r, c)?;
+    let width = facts.columns.len() as u32;
+    let mut at = 0;
+    'scan: while at < width {
+        match next_column(facts, rows, r, at) {
+            Some(d) => {
+                meet_column(alloc, facts, index, asked, both, rows, lists, r, d)?;
+                at = d + 1;
+            }
+            None => return Ok(()),
         }
     }
     Ok(())
 }
 
-/// Each entry waits. An error comes only for want of memory.
-fn wait_all(facts: &Facts, rows: &[BitRow], lists: &mut Lists) -> Result<(), AllocError>
+/// T8: what a row has, into the lower row of one of its ties. An error comes only for want of memory.
+fn pass_tie(
+    facts: &Facts,
+    rows: &mut [BitRow],
+    lists: &mut Lists,
+    i: usize,
+) -> Result<(), AllocError>
     requires facts { InRange facts.now }
-    requires lists { AreListed facts.now lists.old }
-    requires rows { AreEntries facts.now rows.now }
-    ensures { OnOk result (AreListed facts.now lists.new) }
+    requires rows { AreEntries facts.now rows.old }
+    ensures { OnOk result (AreEntries facts.now rows.new) }
 {
-    for r in 0..facts.rows.len() as u32 {
-        wait_row(facts, rows, lists, r)?;
+    if i < facts.ties.len() {
+        let x = facts.ties[i];
+        if join_tie(facts, rows, x) {
+            wake(lists, x.lower.0 as usize)?;
+        }
     }
     Ok(())
+}
+
+/// T8: what a row has, into the lower row of each of its ties. An error comes only for want of memory.
+fn pass_ties(
+    facts: &Facts,
+    rows: &mut [BitRow],
+    lists: &mut Lists,
+    list: &[usize],
+) -> Result<(), AllocError>
+    requires facts { InRange facts.now }
+    requires rows { AreEntries facts.now rows.old }
+    ensures { OnOk result (AreEntries facts.now rows.new) }
+{
+    for i in list {
+        pass_tie(facts, rows, lists, *i)?;
+    }
+    Ok(())
+}
+
+/// T9: what a row has, into the row of a site of its set. An error comes only for want of memory.
+fn pass_site(
+    facts: &Facts,
+    pt: &PointsTo,
+    rows: &mut [BitRow],
+    lists: &mut Lists,
+    v: usize,
+    o: u32,
+) -> Result<(), AllocError>
+    requires facts { InRange facts.now }
+    requires sets { AreSets facts.now pt.now }
+    requires rows { AreEntries facts.now rows.old }
+    requires row { v < length facts.now.rows.items }
+    requires site { o < length facts.now.sites.items }
+    requires member { IsInRow facts.now v o }
+    ensures { OnOk result (AreEntries facts.now rows.new) }
+{
+    if join_site(facts, pt, rows, v, o) {
+        wake(lists, site_at(facts, o).row.0 as usize)?;
+    }
+    Ok(())
+}
+
+/// T9: what a row has, into the row of each site of its set. An error comes only for want of memory.
+fn pass_sites(
+    facts: &Facts,
+    pt: &PointsTo,
+    rows: &mut [BitRow],
+    lists: &mut Lists,
+    v: usize,
+) -> Result<(), AllocError>
+    requires facts { InRange facts.now }
+    requires sets { AreSets facts.now pt.now }
+    requires rows { AreEntries facts.now rows.old }
+    requires row { v < length facts.now.rows.items }
+    ensures { OnOk result (AreEntries facts.now rows.new) }
+{
+    let width = facts.sites.len() as u32;
+    let mut at = 0;
+    'scan: while at < width {
+        match next_site(facts, pt, v, at) {
+            Some(o) => {
+                pass_site(facts, pt, rows, lists, v, o)?;
+                at = o + 1;
+            }
+            None => return Ok(()),
+        }
+    }
+    Ok(())
+}
+
+/// T6: what the `this` of a body has, into a row that may have the body. An error comes only for want of memory.
+fn pass_body(
+    facts: &Facts,
+    rows: &mut [BitRow],
+    lists: &mut Lists,
+    v: usize,
+    d: u32,
+    r: u32,
+) -> Result<(), AllocError>
+    requires facts { InRange facts.now }
+    requires rows { AreEntries facts.now rows.old }
+    requires column { d < length facts.now.columns.items }
+    ensures { OnOk result (AreEntries facts.now rows.new) }
+{
+    if !has(facts, rows, r, d) {
+        return Ok(());
+    }
+    if close_this(facts, rows, r as usize, d, v) {
+        wake(lists, r as usize)?;
+    }
+    Ok(())
+}
+
+/// T6: what the `this` of a body has, into each row that has the body. An error comes only for want of memory.
+fn pass_bodies(
+    alloc: Global,
+    facts: &Facts,
+    rows: &mut [BitRow],
+    lists: &mut Lists,
+    v: usize,
+    d: u32,
+) -> Result<(), AllocError>
+    requires facts { InRange facts.now }
+    requires rows { AreEntries facts.now rows.old }
+    requires column { d < length facts.now.columns.items }
+    ensures { OnOk result (AreEntries facts.now rows.new) }
+{
+    let holders = holders_of(alloc, lists, d)?;
+    for r in &holders {
+        pass_body(facts, rows, lists, v, d, *r)?;
+    }
+    Ok(())
+}
+
+/// What a row has, into the rows that get all of it. An error comes only for want of memory.
+fn pass(
+    alloc: Global,
+    facts: &Facts,
+    pt: &PointsTo,
+    index: &Index,
+    rows: &mut [BitRow],
+    lists: &mut Lists,
+    v: usize,
+) -> Result<(), AllocError>
+    requires facts { InRange facts.now }
+    requires sets { AreSets facts.now pt.now }
+    requires rows { AreEntries facts.now rows.old }
+    requires row { v < length facts.now.rows.items }
+    ensures { OnOk result (AreEntries facts.now rows.new) }
+{
+    pass_ties(facts, rows, lists, numbers_at(&index.ties, v))?;
+    pass_sites(facts, pt, rows, lists, v)?;
+    if let Some(d) = this_of(facts, v) {
+        pass_bodies(alloc, facts, rows, lists, v, d.0)?;
+    }
+    Ok(())
+}
+
+/// One turn: the columns that are new in a row ask for what they can, and what it has is passed on. An error comes only for want of memory.
+fn turn(
+    alloc: Global,
+    facts: &Facts,
+    pt: &PointsTo,
+    index: &Index,
+    asked: &mut [BitRow],
+    both: &mut BitRow,
+    rows: &mut [BitRow],
+    lists: &mut Lists,
+    r: usize,
+) -> Result<(), AllocError>
+    requires facts { InRange facts.now }
+    requires sets { AreSets facts.now pt.now }
+    requires index { IsIndex facts.now index.now }
+    requires state { AreOpen facts.now asked.old both.old rows.old }
+    requires row { r < length facts.now.rows.items }
+    ensures { OnOk result (AreOpen facts.now asked.new both.new rows.new) }
+{
+    begin(facts, index, asked, rows, lists, r)?;
+    meet_columns(alloc, facts, index, asked, both, rows, lists, r)?;
+    pass(alloc, facts, pt, index, rows, lists, r)?;
+    Ok(())
+}
+
+/// Takes out the row that began to wait first.
+fn next(lists: &mut Lists) -> Option<usize> {
+    let r = lists.waiting.pop_front()?;
+    if r < lists.waits.len() {
+        lists.waits[r] = false;
+    }
+    Some(r)
+}
+
+/// Turns, until nothing waits. An error comes only for want of memory.
+fn run(
+    alloc: Global,
+    facts: &Facts,
+    pt: &PointsTo,
+    index: &Index,
+    asked: &mut [BitRow],
+    both: &mut BitRow,
+    rows: &mut [BitRow],
+    lists: &mut Lists,
+) -> Result<(), AllocError>
+    requires facts { InRange facts.now }
+    requires sets { AreSets facts.now pt.now }
+    requires index { IsIndex facts.now index.now }
+    requires state { AreOpen facts.now asked.old both.old rows.old }
+    ensures { OnOk result (AreOpen facts.now asked.new both.new rows.new) }
+{
+    for _turn in 0..u64::MAX {
+        match next(lists) {
+            Some(r) => {
+                if r < facts.rows.len() {
+                    turn(alloc, facts, pt, index, asked, both, rows, lists, r)?;
+                }
+            }
+            None => return Ok(()),
+        }
+    }
+    Ok(())
+}
+
+/// Each row waits. An error comes only for want of memory.
+fn all_wait(alloc: Global, facts: &Facts) -> Result<Lists, AllocError>
+    requires { InRange facts.now }
+{
+    let count = facts.rows.len();
+    let mut waiting = VecDeque::new(alloc);
+    for r in 0..count {
+        waiting.push_back(r)?;
+    }
+    Ok(Lists {
+        waiting,
+        waits: vec![in alloc; true; count]?,
+        holders: empty_rows(alloc, facts.columns.len(), count as u32)?,
+    })
 }
 
 /// The entries, as far as the worklist finds them. An error comes only for want of memory.
@@ -398,23 +463,18 @@ pub fn grow(
     alloc: Global,
     facts: &Facts,
     pt: &PointsTo,
-    declared: &[Pair],
-    hidden: &[Pair],
+    index: &Index,
+    asked: &mut [BitRow],
+    both: &mut BitRow,
     rows: &mut [BitRow],
 ) -> Result<(), AllocError>
     requires facts { InRange facts.now }
     requires sets { AreSets facts.now pt.now }
-    requires declared { All (IsPair (IsDeclaredBy facts.now) (length facts.now.columns.items)) declared.now }
-    requires hidden { All (IsPair (Hides facts.now) (length facts.now.columns.items)) hidden.now }
-    requires rows { AreEntries facts.now rows.old }
-    ensures { OnOk result (AreEntries facts.now rows.new) }
+    requires index { IsIndex facts.now index.now }
+    requires state { AreOpen facts.now asked.old both.old rows.old }
+    ensures { OnOk result (AreOpen facts.now asked.new both.new rows.new) }
 {
-    let index = index_of(alloc, facts, hidden)?;
-    let mut lists = empty_lists(alloc, facts, hidden.len())?;
-    keep_ties(facts, &mut lists)?;
-    keep_sites(facts, pt, &mut lists)?;
-    keep_pairs(facts, declared, &mut lists)?;
-    wait_all(facts, rows, &mut lists)?;
-    run(facts, &index, hidden, rows, &mut lists)?;
+    let mut lists = all_wait(alloc, facts)?;
+    run(alloc, facts, pt, index, asked, both, rows, &mut lists)?;
     Ok(())
 }

@@ -1,10 +1,10 @@
 use Rattle.std.proofs.Common.{◌-◌, ◌*◌, length}
 use Rattle.kaba_bits.specs.Sets.{total}
-use Rattle.table_rules.specs.Marks.{AreEntries}
+use Rattle.table_rules.specs.Asked.{AreOpen}
 use Rattle.table_rules.proofs.closing.run_rounds.Given as goal
 
 abbrev pub invariant-loop : goal.invariant-loop
-invariant-loop l = AreEntries l.facts l.rows
+invariant-loop l = AreOpen l.facts l.asked l.both l.rows
 
 abbrev pub decreases-loop : goal.decreases-loop
 decreases-loop l = length l.rows * length l.facts.columns.items - total l.rows

@@ -1,0 +1,76 @@
+-- Pairs of columns that were noted, and what rows have met: one step on.
+use Rattle.std.proofs.Common.{◌≡◌, ℕ, ◌<◌, Bool, true, List, length, ◌||◌, Contains, sym, subst, ◌∙◌, ⊎_elim, inl, inr}
+use Rattle.std.specs.List.{All}
+use Rattle.std.specs.declared.vec.Vec.{Vec}
+use Rattle.std.specs.declared.alloc.Global.{Global}
+use Rattle.std.proofs.lemmas.List.Elements.{All-contains}
+use Rattle.std.proofs.lemmas.Bool.{cases_eq, or_cases, false≢true}
+use Rattle.kaba_bits.specs.Sets.{bit, row, GainsRow, HasWidth, IsEmpty}
+use Rattle.kaba_bits.proofs.RowLemmas.{HasWidth-kept, GainsRow-keeps}
+use Rattle.fact_model.specs.declared.facts.Facts.{Facts}
+use Rattle.fact_model.specs.Entries.{IsEntry}
+use Rattle.fact_model.specs.Items.{column_slot}
+use Rattle.points_to.specs.Begun.{numbers_at}
+use Rattle.table_rules.specs.Marks.{Marked, Grow, AreEntries}
+use Rattle.table_rules.specs.Closed.{ColumnFlows}
+use Rattle.table_rules.specs.Asked.{ArePairs, AreAsked, IsMethod, HaveMethods, place_of, IsNoted, IsMetAt}
+
+module _ (F : Facts) (a b : List (List Bool)) (grows : Grow a b) where
+  pub noted_more : (h k : List (List Bool)) (d c : ℕ) → Grow h k → IsNoted F a h d c → IsNoted F b k d c
+  noted_more h k d c more is = record { by_body = λ by. grows d c (is.by_body by); by_hiding = λ by. more d c (is.by_hiding by) }
+
+  pub met_more : (rows : List (List Bool)) (q d : ℕ) → IsMetAt F rows a q d → IsMetAt F rows b q d
+  met_more rows q d met m c by h = grows d c (met m c by h)
+
+pub grow_then : (a b c : List (List Bool)) → Grow a b → Grow b c → Grow a c
+grow_then a b c p q r i h = q r i (p r i h)
+
+-- what holds of the entries of a family, and of what one of its rows gained, holds of the entries after it
+pub gained : (P : ℕ → ℕ → Type 0) (old new : List (List Bool)) (into : ℕ) (extra : List Bool) → GainsRow old new into extra → ((r c : ℕ) → Marked old r c → P r c) → ((c : ℕ) → bit extra c ≡ true → P into c) → (r c : ℕ) → Marked new r c → P r c
+gained P old new into extra g have more r c h =
+    ⊎_elim
+    (λ e.
+    let both : (bit (row old into) c || bit extra c) ≡ true = sym (g.joined c) ∙ subst (λ k. bit (row new k) c ≡ true) e h in
+    subst (λ k. P k c) (sym e) (⊎_elim (λ o. have into c o) (λ x. more c x) (or_cases (bit (row old into) c) (bit extra c) both)))
+    (λ ne. have r c (subst (λ s. bit s c ≡ true) (g.others r ne) h))
+    (cases_eq r into)
+
+-- the columns asked for, after one has gained columns that flow from it
+module _ (F : Facts) (old new : List (List Bool)) (d : ℕ) (extra : List Bool) (len : length new ≡ length old) (widths : (k : ℕ) → length (row new k) ≡ length (row old k)) (gains : GainsRow old new d extra) where
+  pub asked_more : AreAsked F old → ((c : ℕ) → bit extra c ≡ true → ColumnFlows F d c) → AreAsked F new
+  asked_more are flows = record {
+    pairs = record {
+      len = len ∙ are.pairs.len;
+      widths = HasWidth-kept (length F.columns.items) old new len widths are.pairs.widths;
+      sound = gained (ColumnFlows F) old new d extra gains are.pairs.sound flows;
+    };
+    declared = λ b c lb lc by. GainsRow-keeps old new d extra gains b c (are.declared b c lb lc by);
+  }
+
+  pub entries_more : AreEntries F old → ((c : ℕ) → bit extra c ≡ true → IsEntry F d c) → AreEntries F new
+  entries_more are holds = record {
+    len = len ∙ are.len;
+    widths = HasWidth-kept (length F.columns.items) old new len widths are.widths;
+    sound = gained (IsEntry F) old new d extra gains are.sound holds;
+    raw = λ r c h. GainsRow-keeps old new d extra gains r c (are.raw r c h);
+  }
+
+-- empty sets
+pub no_pairs : (F : Facts) (P : ℕ → ℕ → Type 0) (sets : List (List Bool)) → length sets ≡ length F.columns.items → HasWidth (length F.columns.items) sets → ((k : ℕ) → IsEmpty (row sets k)) → ArePairs F P sets
+no_pairs F P sets len widths empty = record { len = len; widths = widths; sound = λ d c m. absurd (false≢true (sym (empty d c) ∙ m)) }
+
+-- a column with all of its slot
+module _ (F : Facts) (asked hidden : List (List Bool)) (d : ℕ) where
+  pub none_noted : (IsMethod F d → ⊥) → (c : ℕ) → IsNoted F asked hidden d c
+  none_noted lacks c = record { by_body = λ by. absurd (lacks (inl by.body)); by_hiding = λ by. absurd (lacks by.method) }
+
+  pub all_noted : (methods : List (Vec ℕ Global)) → HaveMethods F methods (length F.columns.items) → All (λ c. c < length F.columns.items → IsNoted F asked hidden d c) (numbers_at methods (place_of (length methods) (column_slot F d))) → (c : ℕ) → c < length F.columns.items → IsNoted F asked hidden d c
+  all_noted methods have all c lt = record {
+    by_body = λ by. (each (inr by.declaration) by.slot).by_body by;
+    by_hiding = λ by. (each (⊎_elim (λ e. inl (sym by.kind ∙ e)) (λ e. inr (sym by.kind ∙ e)) by.method) by.slot).by_hiding by;
+  }
+    where
+      each : IsMethod F c → column_slot F d ≡ column_slot F c → IsNoted F asked hidden d c
+      each m same =
+          All-contains (λ k. k < length F.columns.items → IsNoted F asked hidden d k) (numbers_at methods (place_of (length methods) (column_slot F d))) c all
+          (subst (λ s. Contains (numbers_at methods (place_of (length methods) s)) c) (sym same) (have c lt m)) lt

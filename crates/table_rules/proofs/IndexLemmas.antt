@@ -1,0 +1,40 @@
+-- Lists by slot and by body, one number on.
+use Rattle.std.proofs.Common.{◌≡◌, ℕ, ◌+◌, ◌<◌, List, [], length, Option, Some, None, Contains, refl, sym, subst}
+use Rattle.std.specs.Option.{IfSome}
+use Rattle.std.specs.declared.vec.Vec.{Vec}
+use Rattle.std.specs.declared.alloc.Global.{Global}
+use Rattle.std.proofs.lemmas.Nat.{mod_below}
+use borrow.Author.Count.{below_more}
+use Rattle.kaba_base.specs.declared.ColId.{ColId}
+use Rattle.fact_model.specs.Items.{column_slot, row_this}
+use Rattle.fact_model.specs.InRange.{InRange, IsCol}
+use Rattle.fact_model.specs.declared.facts.Facts.{Facts}
+use Rattle.fact_model.proofs.RangeLemmas.{this-below}
+use Rattle.points_to.specs.Begun.{numbers_at, KeepNumbers}
+use Rattle.table_rules.specs.Asked.{place_of, IsMethod, IsThisNoted, HaveMethods, HaveThese}
+
+pub place-below : (n : ℕ) (slot : Option ℕ) → 0 < n → place_of n slot < n
+place-below n None lt = lt
+place-below n (Some x) lt = mod_below x n lt
+
+pub keep_same : (lists : List (Vec ℕ Global)) → KeepNumbers lists lists
+keep_same lists = record { len = refl; each = λ k x h. h }
+
+-- the body of a `this` is a column
+pub this-column : (F : Facts) → InRange F → (v : ℕ) (d : ColId) → row_this F v ≡ Some d → d.0 < length F.columns.items
+this-column F R v d t =
+    let range = R.rows v (record { label = []; class = record { 0 = 0 }; dim = 0; site = None; this_of = None }) (this-below F v d t) in
+    subst (λ (o : Option ColId). IfSome o (IsCol F)) t range.2
+
+module _ (F : Facts) (old new : List (Vec ℕ Global)) (kept : KeepNumbers old new) (i : ℕ) where
+  pub methods_more : HaveMethods F old i → (IsMethod F i → Contains (numbers_at new (place_of (length old) (column_slot F i))) i) → HaveMethods F new (i + 1)
+  methods_more before here =
+      below_more (λ k. IsMethod F k → Contains (numbers_at new (place_of (length new) (column_slot F k))) k) i
+      (λ k lt m. same k (kept.each (place_of (length old) (column_slot F k)) k (before k lt m)))
+      (λ m. same i (here m))
+    where
+      same : (k : ℕ) → Contains (numbers_at new (place_of (length old) (column_slot F k))) k → Contains (numbers_at new (place_of (length new) (column_slot F k))) k
+      same k h = subst (λ n. Contains (numbers_at new (place_of n (column_slot F k))) k) (sym kept.len) h
+
+  pub these_more : HaveThese F old i → IsThisNoted F new i → HaveThese F new (i + 1)
+  these_more before here = below_more (IsThisNoted F new) i (λ k lt d t. kept.each d.0 k (before k lt d t)) here

@@ -1,0 +1,31 @@
+use Rattle.std.proofs.Common.{ℕ, ◌<◌, length, arith}
+use borrow.Author.Count.{below_more}
+use Rattle.table_rules.specs.Asked.{IsNoted}
+use Rattle.table_rules.proofs.AskLemmas.{noted_more}
+use Rattle.table_rules.proofs.asked.note_columns.Goals as goal
+
+pub loop-d-preserved : goal.loop-d-preserved
+loop-d-preserved c =
+    let F = c.args.facts.now in
+    let a = c.loop-d.asked in
+    let h = c.loop-d.hidden in
+    let step = c.note_column.ensures in
+    let b = c.note_column.new.asked in
+    let j = c.note_column.new.hidden in
+    record {
+      asked = step.asked;
+      hidden = step.hidden;
+      here = below_more (λ d. (k : ℕ) → k < length F.columns.items → IsNoted F b j d k) c.loop-d.d (λ d lt k below. noted_more F a b step.asked_grows h j d k step.hidden_grows (c.loop-d.invariant.here d lt k below)) step.here;
+    }
+
+pub returns-clause-asked : goal.returns-clause-asked
+returns-clause-asked c = record {
+  pairs = c.loop-d.invariant.asked;
+  declared = λ d k ld lk by. (c.loop-d.invariant.here d (omega (arith, ld)) k lk).by_body by;
+}
+
+pub returns-clause-hidden : goal.returns-clause-hidden
+returns-clause-hidden c = record {
+  pairs = c.loop-d.invariant.hidden;
+  all = λ d k ld lk by. (c.loop-d.invariant.here d (omega (arith, ld)) k lk).by_hiding by;
+}

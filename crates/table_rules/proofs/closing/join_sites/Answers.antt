@@ -1,0 +1,23 @@
+use Rattle.std.proofs.Common.{◌∙◌, sym}
+use Rattle.std.proofs.lemmas.Bool.{false≢true}
+use Rattle.kaba_bits.specs.Sets.{row}
+use Rattle.kaba_bits.proofs.StepLemmas.{IsStep-then, closed_below, closed-both}
+use Rattle.points_to.proofs.LoopLemmas.{skip_to}
+use Rattle.table_rules.specs.Closed.{IsSiteClosedAt}
+use Rattle.table_rules.proofs.closing.join_sites.Goals as goal
+
+pub scan-preserved : goal.scan-preserved
+scan-preserved c =
+    let sets = c.args.pt.now.rows.items in
+    let v = c.args.v in
+    let old = c.scan.rows in
+    let step = c.join_site-grew in
+    let new = step.new.rows in
+    let o = c.in-Some.o in
+    let P = IsSiteClosedAt c.args.facts.now sets v in
+    let before = skip_to (P old) (row sets v) c.scan.at (λ k none b. absurd (false≢true (sym none ∙ b))) o c.scan.grew c.in-Some.ensures.least c.scan.invariant.closed in
+    record {
+      rows = step.ensures.rows;
+      step = IsStep-then c.args.rows.now old new c.scan.grew step.result c.scan.invariant.step step.ensures.step;
+      closed = closed_below P old new o c.scan.grew step.result (closed-both (P new o) old new step.result step.ensures.step step.ensures.closed) before;
+    }

@@ -1,0 +1,14 @@
+use Rattle.std.proofs.Common.{ℕ, ◌<◌, ◌-◌}
+use Rattle.table_rules.specs.Marks.{Grow}
+use Rattle.table_rules.specs.Asked.{AreOpen, IsMetAt}
+use Rattle.table_rules.proofs.closing.meet_row.Given as goal
+
+abbrev pub invariant-scan : goal.invariant-scan
+invariant-scan l = record {
+  state : AreOpen l.facts l.asked l.both l.rows;
+  grows : Grow l.fn.asked l.asked;
+  met : (d : ℕ) → d < l.at → IsMetAt l.facts l.rows l.asked l.q d;
+}
+
+abbrev pub decreases-scan : goal.decreases-scan
+decreases-scan l = l.width - l.at

@@ -1,0 +1,93 @@
+-- What a column asks of the rows that have it: further columns, and those of a `this`.
+use Rattle.std.specs.Prelude.{◌≡◌, ℕ, ◌%◌, ◌<◌, ◌⊎◌, Bool, List, length, All, Contains, Option, Some, None}
+use Rattle.std.specs.declared.vec.Vec.{Vec}
+use Rattle.std.specs.declared.alloc.Global.{Global}
+use Rattle.kaba_bits.specs.Sets.{row, IsSubset, HasWidth}
+use Rattle.kaba_base.specs.declared.ColId.{ColId}
+use Rattle.fact_model.specs.Items.{column_kind, column_slot, row_this}
+use Rattle.fact_model.specs.Entries.{IsDeclaredBy, Hides}
+use Rattle.fact_model.specs.declared.facts.Facts.{Facts}
+use Rattle.fact_model.specs.declared.facts.ColKind.TheVariants.{Dcl, Def}
+use Rattle.points_to.specs.Begun.{numbers_at}
+use Rattle.table_rules.specs.Marks.{Marked, AreEntries}
+use Rattle.table_rules.specs.Closed.{ColumnFlows}
+use Rattle.table_rules.specs.declared.index.Index.{Index}
+
+-- for each column a set of columns, of which P holds
+pub record ArePairs (F : Facts) (P : ℕ → ℕ → Type 0) (sets : List (List Bool)) : Type 0 where
+  pub len : length sets ≡ length F.columns.items
+  pub widths : HasWidth (length F.columns.items) sets
+  pub sound : (d c : ℕ) → Marked sets d c → P d c
+
+-- the set of each column has each column of which P holds
+abbrev pub HaveAll : Facts → (ℕ → ℕ → Type 0) → List (List Bool) → Type 0
+HaveAll F P sets = (d c : ℕ) → d < length F.columns.items → c < length F.columns.items → P d c → Marked sets d c
+
+-- for each column columns that the rows with it must have, the declaration of a body among them
+pub record AreAsked (F : Facts) (asked : List (List Bool)) : Type 0 where
+  pub pairs : ArePairs F (ColumnFlows F) asked
+  pub declared : HaveAll F (IsDeclaredBy F) asked
+
+-- for each column those that it hides
+pub record AreHidden (F : Facts) (hidden : List (List Bool)) : Type 0 where
+  pub pairs : ArePairs F (Hides F) hidden
+  pub all : HaveAll F (Hides F) hidden
+
+-- the pair is in the sets, where it should be
+pub record IsNoted (F : Facts) (asked hidden : List (List Bool)) (d c : ℕ) : Type 0 where
+  pub by_body : IsDeclaredBy F d c → Marked asked d c
+  pub by_hiding : Hides F d c → Marked hidden d c
+
+-- where the columns of a slot are listed, of n lists
+abbrev pub place_of : ℕ → Option ℕ → ℕ
+place_of n None = 0
+place_of n (Some x) = x % n
+
+-- a column of a method's declaration or body
+abbrev pub IsMethod : Facts → ℕ → Type 0
+IsMethod F c = (column_kind F c ≡ Def) ⊎ (column_kind F c ≡ Dcl)
+
+-- each of the first n columns that is a method's is listed by its slot
+abbrev pub HaveMethods : Facts → List (Vec ℕ Global) → ℕ → Type 0
+HaveMethods F lists n = (c : ℕ) → c < n → IsMethod F c → Contains (numbers_at lists (place_of (length lists) (column_slot F c))) c
+
+-- the row, where it is a `this`, is listed by its body
+abbrev pub IsThisNoted : Facts → List (Vec ℕ Global) → ℕ → Type 0
+IsThisNoted F lists v = (d : ColId) → row_this F v ≡ Some d → Contains (numbers_at lists d.0) v
+
+-- each of the first n rows is
+abbrev pub HaveThese : Facts → List (Vec ℕ Global) → ℕ → Type 0
+HaveThese F lists n = (v : ℕ) → v < n → IsThisNoted F lists v
+
+pub record IsIndex (F : Facts) (index : Index) : Type 0 where
+  pub these : HaveThese F index.these.items (length F.rows.items)
+  pub hidden : AreHidden F index.hidden.items
+
+-- what the row q has, and the column d hides, is asked for
+abbrev pub IsMetAt : Facts → List (List Bool) → List (List Bool) → ℕ → ℕ → Type 0
+IsMetAt F rows asked q d = Marked rows q d → (c : ℕ) → Hides F d c → Marked rows q c → Marked asked d c
+
+abbrev pub IsMet : Facts → List (List Bool) → List (List Bool) → ℕ → Type 0
+IsMet F rows asked q = (d : ℕ) → IsMetAt F rows asked q d
+
+-- where v is the `this` of the body d, the row r has all columns of v
+abbrev pub IsThisClosed : Facts → List (List Bool) → ℕ → ℕ → ℕ → Type 0
+IsThisClosed F rows r d v = (b : ColId) → row_this F v ≡ Some b → b.0 ≡ d → IsSubset (row rows v) (row rows r)
+
+-- the row r has what its column d asks for
+pub record IsColumnClosed (F : Facts) (these : List (Vec ℕ Global)) (asked rows : List (List Bool)) (r d : ℕ) : Type 0 where
+  pub columns : IsSubset (row asked d) (row rows r)
+  pub bodies : All (IsThisClosed F rows r d) (numbers_at these d)
+
+abbrev pub IsClosedAt : Facts → List (Vec ℕ Global) → List (List Bool) → ℕ → List (List Bool) → ℕ → Type 0
+IsClosedAt F these asked r rows d = Marked rows r d → IsColumnClosed F these asked rows r d
+
+-- the row r has what its columns ask for
+abbrev pub IsRowClosed : Facts → List (Vec ℕ Global) → List (List Bool) → List (List Bool) → ℕ → Type 0
+IsRowClosed F these asked rows r = (d : ℕ) → IsClosedAt F these asked r rows d
+
+-- a table so far, what its columns are known to ask for, and a set of their width
+pub record AreOpen (F : Facts) (asked : List (List Bool)) (both : List Bool) (rows : List (List Bool)) : Type 0 where
+  pub flows : AreAsked F asked
+  pub width : length both ≡ length F.columns.items
+  pub entries : AreEntries F rows

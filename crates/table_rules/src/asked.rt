@@ -1,0 +1,213 @@
+//! What a column asks of each row that has it: the declaration of a body, and of the columns that it hides those that
+//! some row has beside it.
+
+ghost use Rattle.std.specs.Prelude.{◌≡◌, ℕ, ◌<◌, ◌&&◌, length, All, IfOk};
+ghost use Rattle.kaba_bits.specs.Sets.{bit, row};
+ghost use Rattle.fact_model.specs.InRange.{InRange};
+ghost use Rattle.fact_model.specs.Entries.{IsEntry, IsDeclaredBy, Hides};
+ghost use Rattle.table_rules.specs.Marks.{Marked, AreEntries, Grow};
+ghost use Rattle.table_rules.specs.Closed.{ColumnFlows};
+ghost use Rattle.table_rules.specs.Asked.{ArePairs, AreAsked, AreHidden, HaveAll, HaveMethods, IsMethod, IsNoted, IsMetAt};
+
+use crate::columns::{hides, is_declared_by, is_method, slot_of};
+use crate::index::{methods_of, place_of};
+use fact_model::Facts;
+use kaba_bits::{BitRow, empty_rows, join_with, row_at, set_at};
+use points_to::numbers_at;
+use std::alloc::{AllocError, Global};
+
+/// For each column those that the rows with it must have, and those that it hides.
+#[derive(Drop)]
+pub struct Columns {
+    pub asked: Vec<BitRow>,
+    pub hidden: Vec<BitRow>,
+}
+
+/// One column more that the rows with `d` must have.
+fn put_asked(facts: &Facts, asked: &mut [BitRow], d: u32, c: u32)
+    requires asked { ArePairs facts.now (ColumnFlows facts.now) asked.old }
+    requires from { d < length facts.now.columns.items }
+    requires into { c < length facts.now.columns.items }
+    requires flows { ColumnFlows facts.now d c }
+    ensures asked { ArePairs facts.now (ColumnFlows facts.now) asked.new }
+    ensures grows { Grow asked.old asked.new }
+    ensures here { Marked asked.new d c }
+{
+    set_at(asked, d as usize, c);
+}
+
+/// One column more that `d` hides.
+fn put_hidden(facts: &Facts, hidden: &mut [BitRow], d: u32, c: u32)
+    requires hidden { ArePairs facts.now (Hides facts.now) hidden.old }
+    requires lower { d < length facts.now.columns.items }
+    requires upper { c < length facts.now.columns.items }
+    requires hides { Hides facts.now d c }
+    ensures hidden { ArePairs facts.now (Hides facts.now) hidden.new }
+    ensures grows { Grow hidden.old hidden.new }
+    ensures here { Marked hidden.new d c }
+{
+    set_at(hidden, d as usize, c);
+}
+
+/// T5 for one pair of columns.
+fn note_declared(facts: &Facts, asked: &mut [BitRow], d: u32, c: u32)
+    requires asked { ArePairs facts.now (ColumnFlows facts.now) asked.old }
+    requires body { d < length facts.now.columns.items }
+    requires declaration { c < length facts.now.columns.items }
+    ensures asked { ArePairs facts.now (ColumnFlows facts.now) asked.new }
+    ensures grows { Grow asked.old asked.new }
+    ensures here { IsDeclaredBy facts.now d c → Marked asked.new d c }
+{
+    if is_declared_by(facts, d, c) {
+        put_asked(facts, asked, d, c);
+    }
+}
+
+/// T10 for one pair of columns.
+fn note_hidden(facts: &Facts, hidden: &mut [BitRow], d: u32, c: u32)
+    requires facts { InRange facts.now }
+    requires hidden { ArePairs facts.now (Hides facts.now) hidden.old }
+    requires lower { d < length facts.now.columns.items }
+    requires upper { c < length facts.now.columns.items }
+    ensures hidden { ArePairs facts.now (Hides facts.now) hidden.new }
+    ensures grows { Grow hidden.old hidden.new }
+    ensures here { Hides facts.now d c → Marked hidden.new d c }
+{
+    if hides(facts, d, c) {
+        put_hidden(facts, hidden, d, c);
+    }
+}
+
+/// One pair of columns, where the second is one.
+fn note_pair(facts: &Facts, asked: &mut [BitRow], hidden: &mut [BitRow], d: u32, c: usize)
+    requires facts { InRange facts.now }
+    requires asked { ArePairs facts.now (ColumnFlows facts.now) asked.old }
+    requires hidden { ArePairs facts.now (Hides facts.now) hidden.old }
+    requires column { d < length facts.now.columns.items }
+    ensures asked { ArePairs facts.now (ColumnFlows facts.now) asked.new }
+    ensures hidden { ArePairs facts.now (Hides facts.now) hidden.new }
+    ensures asked_grows { Grow asked.old asked.new }
+    ensures hidden_grows { Grow hidden.old hidden.new }
+    ensures here { c < length facts.now.columns.items → IsNoted facts.now asked.new hidden.new d c }
+{
+    if c < facts.columns.len() {
+        note_declared(facts, asked, d, c as u32);
+        note_hidden(facts, hidden, d, c as u32);
+    }
+}
+
+/// One column with each of a list.
+fn note_each(facts: &Facts, asked: &mut [BitRow], hidden: &mut [BitRow], d: u32, list: &[usize])
+    requires facts { InRange facts.now }
+    requires asked { ArePairs facts.now (ColumnFlows facts.now) asked.old }
+    requires hidden { ArePairs facts.now (Hides facts.now) hidden.old }
+    requires column { d < length facts.now.columns.items }
+    ensures asked { ArePairs facts.now (ColumnFlows facts.now) asked.new }
+    ensures hidden { ArePairs facts.now (Hides facts.now) hidden.new }
+    ensures asked_grows { Grow asked.old asked.new }
+    ensures hidden_grows { Grow hidden.old hidden.new }
+    ensures here { All (λ c. c < length facts.now.columns.items → IsNoted facts.now asked.new hidden.new d c) list.now }
+{
+    for c in list {
+        note_pair(facts, asked, hidden, d, *c);
+    }
+}
+
+/// One column with those of its slot.
+fn note_column(
+    facts: &Facts,
+    methods: &[Vec<usize>],
+    asked: &mut [BitRow],
+    hidden: &mut [BitRow],
+    d: u32,
+)
+    requires facts { InRange facts.now }
+    requires methods { HaveMethods facts.now methods.now (length facts.now.columns.items) }
+    requires some { 0 < length methods.now }
+    requires asked { ArePairs facts.now (ColumnFlows facts.now) asked.old }
+    requires hidden { ArePairs facts.now (Hides facts.now) hidden.old }
+    requires column { d < length facts.now.columns.items }
+    ensures asked { ArePairs facts.now (ColumnFlows facts.now) asked.new }
+    ensures hidden { ArePairs facts.now (Hides facts.now) hidden.new }
+    ensures asked_grows { Grow asked.old asked.new }
+    ensures hidden_grows { Grow hidden.old hidden.new }
+    ensures here { (c : ℕ) → c < length facts.now.columns.items → IsNoted facts.now asked.new hidden.new d c }
+{
+    if !is_method(facts, d) {
+        return;
+    }
+    let at = place_of(methods.len(), slot_of(facts, d));
+    note_each(facts, asked, hidden, d, numbers_at(methods, at));
+}
+
+/// Each column with those of its slot.
+fn note_columns(facts: &Facts, methods: &[Vec<usize>], asked: &mut [BitRow], hidden: &mut [BitRow])
+    requires facts { InRange facts.now }
+    requires methods { HaveMethods facts.now methods.now (length facts.now.columns.items) }
+    requires count { length methods.now ≡ length facts.now.columns.items }
+    requires asked { ArePairs facts.now (ColumnFlows facts.now) asked.old }
+    requires hidden { ArePairs facts.now (Hides facts.now) hidden.old }
+    ensures asked { AreAsked facts.now asked.new }
+    ensures hidden { AreHidden facts.now hidden.new }
+{
+    for d in 0..facts.columns.len() as u32 {
+        note_column(facts, methods, asked, hidden, d);
+    }
+}
+
+/// The columns that bodies ask for and those that columns hide. An error comes only for want of memory.
+pub fn columns_of(alloc: Global, facts: &Facts) -> Result<Columns, AllocError>
+    requires { InRange facts.now }
+    ensures asked { IfOk result (λ x. AreAsked facts.now x.asked.items) }
+    ensures hidden { IfOk result (λ x. AreHidden facts.now x.hidden.items) }
+{
+    let count = facts.columns.len();
+    let methods = methods_of(alloc, facts)?;
+    let mut asked = empty_rows(alloc, count, count as u32)?;
+    let mut hidden = empty_rows(alloc, count, count as u32)?;
+    note_columns(facts, &methods, &mut asked, &mut hidden);
+    Ok(Columns { asked, hidden })
+}
+
+/// What is in two sets.
+fn meet_into(both: &mut BitRow, a: &BitRow, b: &BitRow)
+    requires first { length both.old ≡ length a.now }
+    requires second { length both.old ≡ length b.now }
+    ensures width { length both.new ≡ length both.old }
+    ensures met { (i : ℕ) → bit both.new i ≡ (bit a.now i && bit b.now i) }
+{
+    both.clear();
+    both.or_into(a);
+    both.and_into(b);
+}
+
+/// T10 for a column of a row: what the row has, and the column hides, is asked for. Answers whether that is more than was.
+pub fn meet_at(
+    facts: &Facts,
+    hidden: &[BitRow],
+    rows: &[BitRow],
+    asked: &mut [BitRow],
+    both: &mut BitRow,
+    q: usize,
+    d: u32,
+) -> bool
+    requires hidden { AreHidden facts.now hidden.now }
+    requires rows { AreEntries facts.now rows.now }
+    requires asked { AreAsked facts.now asked.old }
+    requires both { length both.old ≡ length facts.now.columns.items }
+    requires row { q < length facts.now.rows.items }
+    requires column { d < length facts.now.columns.items }
+    requires entry { IsEntry facts.now q d }
+    ensures asked { AreAsked facts.now asked.new }
+    ensures both { length both.new ≡ length facts.now.columns.items }
+    ensures grows { Grow asked.old asked.new }
+    ensures met { IsMetAt facts.now rows.now asked.new q d }
+{
+    let row = row_at(rows, q);
+    let hides = row_at(hidden, d as usize);
+    if !row.meets(hides) {
+        return false;
+    }
+    meet_into(both, row, hides);
+    join_with(asked, d as usize, both)
+}
