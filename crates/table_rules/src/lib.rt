@@ -6,6 +6,7 @@ mod asked;
 mod closing;
 mod columns;
 mod index;
+mod lists;
 mod marks;
 mod raw_table;
 mod turns;
