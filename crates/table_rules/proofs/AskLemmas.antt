@@ -26,7 +26,8 @@ pub grow_then : (a b c : List (List Bool)) → Grow a b → Grow b c → Grow a 
 grow_then a b c p q r i h = q r i (p r i h)
 
 -- what holds of the entries of a family, and of what one of its rows gained, holds of the entries after it
-pub gained : (P : ℕ → ℕ → Type 0) (old new : List (List Bool)) (into : ℕ) (extra : List Bool) → GainsRow old new into extra → ((r c : ℕ) → Marked old r c → P r c) → ((c : ℕ) → bit extra c ≡ true → P into c) → (r c : ℕ) → Marked new r c → P r c
+pub gained : (P : ℕ → ℕ → Type 0) (old new : List (List Bool)) (into : ℕ) (extra : List Bool) → GainsRow old new into extra
+    → ((r c : ℕ) → Marked old r c → P r c) → ((c : ℕ) → bit extra c ≡ true → P into c) → (r c : ℕ) → Marked new r c → P r c
 gained P old new into extra g have more r c h =
     ⊎_elim
     (λ e.
@@ -36,7 +37,8 @@ gained P old new into extra g have more r c h =
     (cases_eq r into)
 
 -- the columns asked for, after one has gained columns that flow from it
-module _ (F : Facts) (old new : List (List Bool)) (d : ℕ) (extra : List Bool) (len : length new ≡ length old) (widths : (k : ℕ) → length (row new k) ≡ length (row old k)) (gains : GainsRow old new d extra) where
+module _ (F : Facts) (old new : List (List Bool)) (d : ℕ) (extra : List Bool) (len : length new ≡ length old) (widths : (k : ℕ)
+    → length (row new k) ≡ length (row old k)) (gains : GainsRow old new d extra) where
   pub asked_more : AreAsked F old → ((c : ℕ) → bit extra c ≡ true → ColumnFlows F d c) → AreAsked F new
   asked_more are flows = record {
     pairs = record {
@@ -56,7 +58,8 @@ module _ (F : Facts) (old new : List (List Bool)) (d : ℕ) (extra : List Bool) 
   }
 
 -- empty sets
-pub no_pairs : (F : Facts) (P : ℕ → ℕ → Type 0) (sets : List (List Bool)) → length sets ≡ length F.columns.items → HasWidth (length F.columns.items) sets → ((k : ℕ) → IsEmpty (row sets k)) → ArePairs F P sets
+pub no_pairs : (F : Facts) (P : ℕ → ℕ → Type 0) (sets : List (List Bool)) → length sets ≡ length F.columns.items
+    → HasWidth (length F.columns.items) sets → ((k : ℕ) → IsEmpty (row sets k)) → ArePairs F P sets
 no_pairs F P sets len widths empty = record { len = len; widths = widths; sound = λ d c m. absurd (false≢true (sym (empty d c) ∙ m)) }
 
 -- a column with all of its slot
@@ -64,7 +67,9 @@ module _ (F : Facts) (asked hidden : List (List Bool)) (d : ℕ) where
   pub none_noted : (IsMethod F d → ⊥) → (c : ℕ) → IsNoted F asked hidden d c
   none_noted lacks c = record { by_body = λ by. absurd (lacks (inl by.body)); by_hiding = λ by. absurd (lacks by.method) }
 
-  pub all_noted : (methods : List (Vec ℕ Global)) → HaveMethods F methods (length F.columns.items) → All (λ c. c < length F.columns.items → IsNoted F asked hidden d c) (numbers_at methods (place_of (length methods) (column_slot F d))) → (c : ℕ) → c < length F.columns.items → IsNoted F asked hidden d c
+  pub all_noted : (methods : List (Vec ℕ Global)) → HaveMethods F methods (length F.columns.items)
+      → All (λ c. c < length F.columns.items → IsNoted F asked hidden d c) (numbers_at methods (place_of (length methods) (column_slot F d)))
+      → (c : ℕ) → c < length F.columns.items → IsNoted F asked hidden d c
   all_noted methods have all c lt = record {
     by_body = λ by. (each (inr by.declaration) by.slot).by_body by;
     by_hiding = λ by. (each (⊎_elim (λ e. inl (sym by.kind ∙ e)) (λ e. inr (sym by.kind ∙ e)) by.method) by.slot).by_hiding by;

@@ -54,20 +54,26 @@ module _ (F : Facts) where
   hidden_flows q d c by one two r h = derivable_by (Entails F) ((q, d) ∷ (q, c) ∷ (r, d) ∷ []) (r, c) (by_hiding q r d c by) (one, (two, (h, tt)))
 
 -- what a column asks for, where neither of two steps changed anything
-pub column_closed : (F : Facts) (these : List (Vec ℕ Global)) (asked : List (List Bool)) (r d : ℕ) (old new : List (List Bool)) (g h : Bool) → IsStep old new h → OnFalse g (IsSubset (row asked d) (row old r)) → OnFalse h (All (IsThisClosed F new r d) (numbers_at these d)) → OnFalse (g || h) (IsClosedAt F these asked r new d)
+pub column_closed : (F : Facts) (these : List (Vec ℕ Global)) (asked : List (List Bool)) (r d : ℕ) (old new : List (List Bool)) (g h : Bool)
+    → IsStep old new h → OnFalse g (IsSubset (row asked d) (row old r)) → OnFalse h (All (IsThisClosed F new r d) (numbers_at these d))
+    → OnFalse (g || h) (IsClosedAt F these asked r new d)
 column_closed F these asked r d old new true h s p q = tt
 column_closed F these asked r d old new false true s p q = tt
 column_closed F these asked r d old new false false s p q = λ m. record { columns = subst (λ rows. IsSubset (row asked d) (row rows r)) (sym s) p; bodies = q }
 
 module _ (F : Facts) (sets asked rows : List (List Bool)) (index : Index) (is : IsIndex F index) (are : AreEntries F rows) (flows : AreAsked F asked) where
   -- a table whose rows have what their columns ask for is closed, where all was asked for
-  pub all_closed : ((q : ℕ) → q < length F.rows.items → IsMet F rows asked q) → ((r : ℕ) → r < length F.rows.items → IsRowClosed F index.these.items asked rows r) → All (IsTieClosed rows) F.ties.items → ((v : ℕ) → v < length F.rows.items → IsSiteClosed F sets rows v) → AreClosed F sets rows
+  pub all_closed : ((q : ℕ) → q < length F.rows.items → IsMet F rows asked q)
+      → ((r : ℕ) → r < length F.rows.items → IsRowClosed F index.these.items asked rows r) → All (IsTieClosed rows) F.ties.items
+      → ((v : ℕ) → v < length F.rows.items → IsSiteClosed F sets rows v) → AreClosed F sets rows
   all_closed met closed ties sites =
       let held : (r c : ℕ) → Marked rows r c → r < length F.rows.items = λ r c h. subst (λ n. r < n) are.len (marked-row rows r c h) in
       record {
-        declared = λ r d c lt by m. (closed r (held r d m) d m).columns c (flows.declared d c (marked-column (length F.columns.items) rows r d are.widths m) lt by);
+        declared = λ r d c lt by m. (closed r (held r d m) d m).columns c
+            (flows.declared d c (marked-column (length F.columns.items) rows r d are.widths m) lt by);
         bodies = λ r v c d t m mv.
-            All-contains (IsThisClosed F rows r d.0) (numbers_at index.these.items d.0) v (closed r (held r d.0 m) d.0 m).bodies (is.these v (this-below F v d t) d t) d t refl c mv;
+            All-contains (IsThisClosed F rows r d.0) (numbers_at index.these.items d.0) v (closed r (held r d.0 m) d.0 m).bodies
+            (is.these v (this-below F v d t) d t) d t refl c mv;
         ties = ties;
         sites = sites;
         hidden = λ q r d c by one two m. (closed r (held r d m) d m).columns c (met q (held q d one) d one c by two);
@@ -90,7 +96,8 @@ round_closed F sets asked rows after ties_done new index false false false is fl
     (subst (λ x. All (IsTieClosed x) F.ties.items) (sym e3) p2)
     p3
 
-module _ (F : Facts) (R : InRange F) (pt : PointsTo) (sets : AreSets F pt) (rows : List (List Bool)) (are : AreEntries F rows) (closed : AreClosed F pt.rows.items rows) where
+module _ (F : Facts) (R : InRange F) (pt : PointsTo) (sets : AreSets F pt) (rows : List (List Bool)) (are : AreEntries F rows)
+    (closed : AreClosed F pt.rows.items rows) where
   held : (r c : ℕ) → Marked rows r c → r < length F.rows.items
   held r c h = subst (λ n. r < n) are.len (marked-row rows r c h)
 
@@ -111,7 +118,8 @@ module _ (F : Facts) (R : InRange F) (pt : PointsTo) (sets : AreSets F pt) (rows
   complete : (r c : ℕ) → IsEntry F r c → Marked rows r c
   complete r c = derivable_least (Entails F) (λ e. Marked rows e.0 e.1) closed_under (r, c)
 
-pub closed_table : (F : Facts) (R : InRange F) (pt : PointsTo) (sets : AreSets F pt) (t : Table) → t.width ≡ length F.columns.items → AreEntries F t.rows.items → AreClosed F pt.rows.items t.rows.items → IsTable F t
+pub closed_table : (F : Facts) (R : InRange F) (pt : PointsTo) (sets : AreSets F pt) (t : Table) → t.width ≡ length F.columns.items
+    → AreEntries F t.rows.items → AreClosed F pt.rows.items t.rows.items → IsTable F t
 closed_table F R pt sets t e are closed = record {
   sized = sized F (IsEntry F) t e (record { len = are.len; widths = are.widths; sound = are.sound });
   entries = λ r c. (are.sound r c, complete F R pt sets t.rows.items are closed r c);

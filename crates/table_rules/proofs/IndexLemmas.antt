@@ -33,7 +33,8 @@ module _ (F : Facts) (old new : List (Vec ℕ Global)) (kept : KeepNumbers old n
       (λ k lt m. same k (kept.each (place_of (length old) (column_slot F k)) k (before k lt m)))
       (λ m. same i (here m))
     where
-      same : (k : ℕ) → Contains (numbers_at new (place_of (length old) (column_slot F k))) k → Contains (numbers_at new (place_of (length new) (column_slot F k))) k
+      same : (k : ℕ) → Contains (numbers_at new (place_of (length old) (column_slot F k))) k
+          → Contains (numbers_at new (place_of (length new) (column_slot F k))) k
       same k h = subst (λ n. Contains (numbers_at new (place_of n (column_slot F k))) k) (sym kept.len) h
 
   pub these_more : HaveThese F old i → IsThisNoted F new i → HaveThese F new (i + 1)

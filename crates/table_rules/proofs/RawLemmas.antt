@@ -15,7 +15,8 @@ module _ (F : Facts) (R : InRange F) (pt : PointsTo) (sets : AreSets F pt) (rows
   marked : (e : Entry) → Entails F [] e → Marked rows e.0 e.1
   marked e (by_access x is) = All-contains (IsAccessMarked rows) F.accesses.items x all.accesses is
   marked e (by_need call o d is holds found) =
-      All-contains (IsCallMarked F pt.points.items rows) F.calls.items call all.calls is o (site-below F R (in_point call.receiver o) holds) ((sets.points call.receiver o).1 holds) d found
+      All-contains (IsCallMarked F pt.points.items rows) F.calls.items call all.calls is o (site-below F R (in_point call.receiver o) holds)
+      ((sets.points call.receiver o).1 holds) d found
   marked e (by_this v d t) = all.these v (this-below F v d t) d t
   marked e (by_super x is) = All-contains (IsSuperMarked rows) F.supers.items x all.supers is
   marked e (by_test x c is m) = All-contains (IsTestMarked F rows) F.tests.items x all.tests is c m.below m
@@ -25,7 +26,8 @@ module _ (F : Facts) (R : InRange F) (pt : PointsTo) (sets : AreSets F pt) (rows
 pub sized : (F : Facts) (P : ℕ → ℕ → Type 0) (t : Table) → t.width ≡ length F.columns.items → AreMarks F P t.rows.items → IsSized F t
 sized F P t e are = record { columns = e; rows = are.len; widths = subst (λ w. HasWidth w t.rows.items) (sym e) are.widths }
 
-pub raw_table : (F : Facts) (R : InRange F) (pt : PointsTo) (sets : AreSets F pt) (t : Table) → t.width ≡ length F.columns.items → AreRaw F t.rows.items → AreMarked F pt.points.items t.rows.items → IsRawTable F t
+pub raw_table : (F : Facts) (R : InRange F) (pt : PointsTo) (sets : AreSets F pt) (t : Table) → t.width ≡ length F.columns.items
+    → AreRaw F t.rows.items → AreMarked F pt.points.items t.rows.items → IsRawTable F t
 raw_table F R pt sets t e are all = record {
   sized = sized F (IsRawEntry F) t e are;
   entries = λ r c. (are.sound r c, marked F R pt sets t.rows.items all (r, c));

@@ -48,7 +48,8 @@ IsThisMarked F rows v = (d : ColId) → row_this F v ≡ Some d → Marked rows 
 
 -- the site o, where it is in the receiver, has the body found for its class
 abbrev pub IsNeedMarked : Facts → List (List Bool) → CallInfo → List (List Bool) → ℕ → Type 0
-IsNeedMarked F points call rows o = bit (row points call.receiver) o ≡ true → (d : ℕ) → finds F (site_class F o) call.slot ≡ Some d → Marked rows (site_row F o) d
+IsNeedMarked F points call rows o = bit (row points call.receiver) o ≡ true → (d : ℕ) → finds F (site_class F o) call.slot ≡ Some d
+    → Marked rows (site_row F o) d
 
 abbrev pub IsCallMarked : Facts → List (List Bool) → List (List Bool) → CallInfo → Type 0
 IsCallMarked F points rows call = (o : ℕ) → o < length F.sites.items → IsNeedMarked F points call rows o

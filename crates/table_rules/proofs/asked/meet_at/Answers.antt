@@ -22,8 +22,10 @@ returns-clause-asked c =
     let q = c.args.q in
     let d = c.args.d in
     let bits = rw (c.row_at-row.ensures, c.row_at-hides.ensures) at c.meet_into.ensures.met in
-    asked_more F c.args.asked.now c.join_with.new.rows d c.meet_into.new.both c.join_with.ensures.len c.join_with.ensures.widths c.join_with.ensures.joined c.requires.asked
-    (λ k b. let p = and_parts (bit (row c.args.rows.now q) k) (bit (row c.args.hidden.now d) k) (sym (bits k) ∙ b) in hidden_flows F q d k (c.requires.hidden.pairs.sound d k p.1) c.requires.entry (c.requires.rows.sound q k p.0))
+    asked_more F c.args.asked.now c.join_with.new.rows d c.meet_into.new.both c.join_with.ensures.len c.join_with.ensures.widths
+    c.join_with.ensures.joined c.requires.asked
+    (λ k b. let p = and_parts (bit (row c.args.rows.now q) k) (bit (row c.args.hidden.now d) k) (sym (bits k) ∙ b) in hidden_flows F q d k
+    (c.requires.hidden.pairs.sound d k p.1) c.requires.entry (c.requires.rows.sound q k p.0))
 
 pub returns-clause-grows : goal.returns-clause-grows
 returns-clause-grows c = GainsRow-keeps c.args.asked.now c.join_with.new.rows c.args.d c.meet_into.new.both c.join_with.ensures.joined
@@ -38,4 +40,5 @@ returns-clause-met c =
     let bits = rw (c.row_at-row.ensures, c.row_at-hides.ensures) at c.meet_into.ensures.met in
     λ m k by h.
     let x = c.requires.hidden.all d k c.requires.column (marked-column n rows q k c.requires.rows.widths h) by in
-    c.join_with.ensures.joined.joined k ∙ or_right (bit (row c.args.asked.now d) k) (bit c.meet_into.new.both k) (bits k ∙ and_from (bit (row rows q) k) (bit (row hidden d) k) h x)
+    c.join_with.ensures.joined.joined k ∙ or_right (bit (row c.args.asked.now d) k) (bit c.meet_into.new.both k) (bits k
+    ∙ and_from (bit (row rows q) k) (bit (row hidden d) k) h x)

@@ -15,7 +15,8 @@ loop-d-preserved c =
     record {
       asked = step.asked;
       hidden = step.hidden;
-      here = below_more (λ d. (k : ℕ) → k < length F.columns.items → IsNoted F b j d k) c.loop-d.d (λ d lt k below. noted_more F a b step.asked_grows h j d k step.hidden_grows (c.loop-d.invariant.here d lt k below)) step.here;
+      here = below_more (λ d. (k : ℕ) → k < length F.columns.items → IsNoted F b j d k) c.loop-d.d
+          (λ d lt k below. noted_more F a b step.asked_grows h j d k step.hidden_grows (c.loop-d.invariant.here d lt k below)) step.here;
     }
 
 pub returns-clause-asked : goal.returns-clause-asked

@@ -23,5 +23,6 @@ loop-c-preserved c =
       hidden = step.hidden;
       asked_grows = grow_then c.args.asked.now a b c.loop-c.invariant.asked_grows step.asked_grows;
       hidden_grows = grow_then c.args.hidden.now h j c.loop-c.invariant.hidden_grows step.hidden_grows;
-      here = within_more (λ x. x < n → IsNoted F a h d x) (λ x. x < n → IsNoted F b j d x) xs k 0 lt (λ x is below. noted_more F a b step.asked_grows h j d x step.hidden_grows (is below)) c.loop-c.invariant.here step.here;
+      here = within_more (λ x. x < n → IsNoted F a h d x) (λ x. x < n → IsNoted F b j d x) xs k 0 lt
+          (λ x is below. noted_more F a b step.asked_grows h j d x step.hidden_grows (is below)) c.loop-c.invariant.here step.here;
     }

@@ -14,7 +14,8 @@ scan-preserved c =
     let new = step.new.rows in
     let d = c.in-Some.d in
     let P = IsClosedAt c.args.facts.now c.args.these.now c.args.asked.now r in
-    let before = skip_to (P old) (row old r) c.scan.at (λ k none b. absurd (false≢true (sym none ∙ b))) d c.scan.grew c.in-Some.ensures.least c.scan.invariant.closed in
+    let before = skip_to (P old) (row old r) c.scan.at (λ k none b. absurd (false≢true (sym none ∙ b))) d c.scan.grew c.in-Some.ensures.least
+    c.scan.invariant.closed in
     record {
       rows = step.ensures.rows;
       step = IsStep-then c.args.rows.now old new c.scan.grew step.result c.scan.invariant.step step.ensures.step;
@@ -26,7 +27,8 @@ returns-in-None-clause-closed c =
     let are = c.scan.invariant.rows in
     let rows = c.scan.rows in
     let r = c.args.r in
-    skip_all (IsClosedAt c.args.facts.now c.args.these.now c.args.asked.now r rows) (row rows r) c.scan.at (λ k none b. absurd (false≢true (sym none ∙ b))) (length c.args.facts.now.columns.items) c.scan.grew
+    skip_all (IsClosedAt c.args.facts.now c.args.these.now c.args.asked.now r rows) (row rows r) c.scan.at
+    (λ k none b. absurd (false≢true (sym none ∙ b))) (length c.args.facts.now.columns.items) c.scan.grew
     (are.widths r (omega (arith, c.requires.row, are.len))) c.in-None.ensures.least c.scan.invariant.closed
 
 pub returns-clause-closed : goal.returns-clause-closed
@@ -34,5 +36,7 @@ returns-clause-closed c =
     let are = c.scan.invariant.rows in
     let rows = c.scan.rows in
     let r = c.args.r in
-    skip_all (IsClosedAt c.args.facts.now c.args.these.now c.args.asked.now r rows) (row rows r) c.scan.at (λ k none b. absurd (false≢true (sym none ∙ b))) (length c.args.facts.now.columns.items) c.scan.grew
-    (are.widths r (omega (arith, c.requires.row, are.len))) (λ k low lt. absurd (omega (arith, low, lt, c.scan-test.false, c.len-width.ensures))) c.scan.invariant.closed
+    skip_all (IsClosedAt c.args.facts.now c.args.these.now c.args.asked.now r rows) (row rows r) c.scan.at
+    (λ k none b. absurd (false≢true (sym none ∙ b))) (length c.args.facts.now.columns.items) c.scan.grew
+    (are.widths r (omega (arith, c.requires.row, are.len))) (λ k low lt. absurd (omega (arith, low, lt, c.scan-test.false, c.len-width.ensures)))
+    c.scan.invariant.closed

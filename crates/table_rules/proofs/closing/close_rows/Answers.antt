@@ -12,5 +12,6 @@ loop-r-preserved c =
     record {
       rows = step.ensures.rows;
       step = IsStep-then c.args.rows.now old new c.loop-r.grew step.result c.loop-r.invariant.step step.ensures.step;
-      closed = closed_below P old new r c.loop-r.grew step.result (closed-both (P new r) old new step.result step.ensures.step step.ensures.closed) c.loop-r.invariant.closed;
+      closed = closed_below P old new r c.loop-r.grew step.result (closed-both (P new r) old new step.result step.ensures.step step.ensures.closed)
+          c.loop-r.invariant.closed;
     }

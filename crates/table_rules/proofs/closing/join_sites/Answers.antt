@@ -15,7 +15,8 @@ scan-preserved c =
     let new = step.new.rows in
     let o = c.in-Some.o in
     let P = IsSiteClosedAt c.args.facts.now sets v in
-    let before = skip_to (P old) (row sets v) c.scan.at (λ k none b. absurd (false≢true (sym none ∙ b))) o c.scan.grew c.in-Some.ensures.least c.scan.invariant.closed in
+    let before = skip_to (P old) (row sets v) c.scan.at (λ k none b. absurd (false≢true (sym none ∙ b))) o c.scan.grew c.in-Some.ensures.least
+    c.scan.invariant.closed in
     record {
       rows = step.ensures.rows;
       step = IsStep-then c.args.rows.now old new c.scan.grew step.result c.scan.invariant.step step.ensures.step;

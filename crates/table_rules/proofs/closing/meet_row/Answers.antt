@@ -16,7 +16,8 @@ scan-preserved c =
     let step = c.meet_at.ensures in
     let new = c.meet_at.new.asked in
     let d = c.in-Some.d in
-    let before = skip_to (IsMetAt F rows old q) (row rows q) c.scan.at (λ k none b. absurd (false≢true (sym none ∙ b))) d false c.in-Some.ensures.least c.scan.invariant.met in
+    let before = skip_to (IsMetAt F rows old q) (row rows q) c.scan.at (λ k none b. absurd (false≢true (sym none ∙ b))) d false
+    c.in-Some.ensures.least c.scan.invariant.met in
     record {
       state = record { flows = step.asked; width = step.both; entries = c.scan.invariant.state.entries };
       grows = grow_then c.args.asked.now old new c.scan.invariant.grows step.grows;
@@ -28,7 +29,8 @@ returns-in-None-clause-met c =
     let are = c.requires.state.entries in
     let rows = c.args.rows.now in
     let q = c.args.q in
-    skip_all (IsMetAt c.args.facts.now rows c.scan.asked q) (row rows q) c.scan.at (λ k none b. absurd (false≢true (sym none ∙ b))) (length c.args.facts.now.columns.items) false
+    skip_all (IsMetAt c.args.facts.now rows c.scan.asked q) (row rows q) c.scan.at (λ k none b. absurd (false≢true (sym none ∙ b)))
+    (length c.args.facts.now.columns.items) false
     (are.widths q (omega (arith, c.requires.row, are.len))) c.in-None.ensures.least c.scan.invariant.met
 
 pub returns-clause-met : goal.returns-clause-met
@@ -36,5 +38,7 @@ returns-clause-met c =
     let are = c.requires.state.entries in
     let rows = c.args.rows.now in
     let q = c.args.q in
-    skip_all (IsMetAt c.args.facts.now rows c.scan.asked q) (row rows q) c.scan.at (λ k none b. absurd (false≢true (sym none ∙ b))) (length c.args.facts.now.columns.items) false
-    (are.widths q (omega (arith, c.requires.row, are.len))) (λ k low lt. absurd (omega (arith, low, lt, c.scan-test.false, c.len-width.ensures))) c.scan.invariant.met
+    skip_all (IsMetAt c.args.facts.now rows c.scan.asked q) (row rows q) c.scan.at (λ k none b. absurd (false≢true (sym none ∙ b)))
+    (length c.args.facts.now.columns.items) false
+    (are.widths q (omega (arith, c.requires.row, are.len))) (λ k low lt. absurd (omega (arith, low, lt, c.scan-test.false, c.len-width.ensures)))
+    c.scan.invariant.met

@@ -10,5 +10,6 @@ loop-q-preserved c =
     let new = c.meet_row.new.asked in
     record {
       state = c.meet_row.ensures.state;
-      met = below_more (IsMet F rows new) c.loop-q.q (λ k lt d. met_more F c.loop-q.asked new c.meet_row.ensures.grows rows k d (c.loop-q.invariant.met k lt d)) c.meet_row.ensures.met;
+      met = below_more (IsMet F rows new) c.loop-q.q (λ k lt d. met_more F c.loop-q.asked new c.meet_row.ensures.grows rows k d
+          (c.loop-q.invariant.met k lt d)) c.meet_row.ensures.met;
     }

@@ -6,7 +6,8 @@ use Rattle.table_rules.proofs.index.note_method.Goals as goal
 pub returns-then-not-is_method : goal.returns-then-not-is_method
 returns-then-not-is_method c = record {
   count = c.requires.count;
-  here = methods_more c.args.facts.now c.args.lists.now c.args.lists.now (keep_same c.args.lists.now) c.args.c c.requires.before (λ m. absurd (false≢true (c.if-not-is_method.ensures.1 m)));
+  here = methods_more c.args.facts.now c.args.lists.now c.args.lists.now (keep_same c.args.lists.now) c.args.c c.requires.before
+      (λ m. absurd (false≢true (c.if-not-is_method.ensures.1 m)));
 }
 
 pub returns : goal.returns
@@ -18,5 +19,6 @@ returns c =
     let lt : 0 < length old = omega (arith, c.requires.column, c.requires.count) in
     record {
       count = step.kept.len ∙ c.requires.count;
-      here = methods_more F old c.note.new.lists step.kept c.args.c c.requires.before (λ m. rw (c.place_of-at.ensures, c.slot_of.ensures) at (step.here (rw c.place_of-at.ensures (place-below (length old) c.slot_of.result lt))));
+      here = methods_more F old c.note.new.lists step.kept c.args.c c.requires.before (λ m. rw (c.place_of-at.ensures, c.slot_of.ensures) at
+          (step.here (rw c.place_of-at.ensures (place-below (length old) c.slot_of.result lt))));
     }

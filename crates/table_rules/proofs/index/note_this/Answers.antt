@@ -14,7 +14,8 @@ returns-in_ok-note-in-Some c =
     record {
       count = step.kept.len ∙ c.requires.count;
       here = these_more F c.args.lists.now c.note.new.lists step.kept c.args.v c.requires.before
-          (λ b t. let e : d ≡ b = cc in subst (λ (x : ColId). Contains (numbers_at c.note.new.lists x.0) c.args.v) e (step.here (omega (arith, lt, c.requires.count))));
+          (λ b t. let e : d ≡ b = cc in subst (λ (x : ColId). Contains (numbers_at c.note.new.lists x.0) c.args.v) e
+          (step.here (omega (arith, lt, c.requires.count))));
     }
 
 pub returns-in-None : goal.returns-in-None

@@ -11,5 +11,6 @@ returns c =
     let e = with_items_is c.in_ok-rows.rows c.mark_all.new.rows (omega arith) in
     let t : Table = record { width = c.len-width.result; rows = with_items c.in_ok-rows.rows c.mark_all.new.rows } in
     record {
-      table = raw_table facts c.requires.facts c.args.pt.now c.requires.sets t (c.len-width.ensures ∙ facts.columns.ok.0) (rw e c.mark_all.ensures.rows) (rw e c.mark_all.ensures.marked);
+      table = raw_table facts c.requires.facts c.args.pt.now c.requires.sets t (c.len-width.ensures ∙ facts.columns.ok.0)
+          (rw e c.mark_all.ensures.rows) (rw e c.mark_all.ensures.marked);
     }
