@@ -96,6 +96,7 @@ fn add_array<'a>(
 }
 
 /// An element is set, where the array is one: null, bounds and the store's type are tested in this order.
+#[inline(always)]
 pub fn write_element<'a>(
     classes: &mut Classes<'a>,
     heap: &mut Heap,
@@ -122,6 +123,7 @@ pub fn write_element<'a>(
 }
 
 /// An element of an array in a cell is set, where the place is in it.
+#[inline(always)]
 fn write_at<'a>(
     classes: &mut Classes<'a>,
     heap: &mut Heap,
@@ -146,6 +148,7 @@ fn write_at<'a>(
 }
 
 /// A value is put into a place of an array with elements of a type, where it fits.
+#[inline(always)]
 fn store<'a>(
     classes: &mut Classes<'a>,
     heap: &mut Heap,
@@ -172,6 +175,7 @@ fn store<'a>(
 }
 
 /// Whether a value fits into an array with elements of a type; `None` where it names no cell.
+#[inline(always)]
 fn fits<'a>(
     classes: &mut Classes<'a>,
     heap: &Heap,

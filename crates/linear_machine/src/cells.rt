@@ -15,7 +15,7 @@ use java_core::Fault;
 use java_heap::{Heap, Value};
 
 /// The value in a place of an object.
-#[inline]
+#[inline(always)]
 pub fn loaded(heap: &Heap, object: Value, place: u32) -> Found
     ensures { Finds heap.now result (λ s k. with_cell (value_of object) s (λ a d. with_some (slice_get d.values place) s (λ u. k u s))) }
 {
@@ -30,7 +30,7 @@ pub fn loaded(heap: &Heap, object: Value, place: u32) -> Found
 }
 
 /// The length of an array.
-#[inline]
+#[inline(always)]
 pub fn length_of(heap: &Heap, array: Value) -> Found
     ensures { Finds heap.now result (λ s k. with_cell (value_of array) s (λ a d. k (Number (int_of (length d.values))) s)) }
 {
@@ -42,7 +42,7 @@ pub fn length_of(heap: &Heap, array: Value) -> Found
 }
 
 /// How many values a cell has.
-#[inline]
+#[inline(always)]
 fn length_at(heap: &Heap, at: u32) -> Found
     ensures { Finds heap.now result (λ s k. with_some (slice_get s.cells at) s (λ d. k (Number (int_of (length d.values))) s)) }
 {
@@ -53,7 +53,7 @@ fn length_at(heap: &Heap, at: u32) -> Found
 }
 
 /// The element of an array at an index.
-#[inline]
+#[inline(always)]
 pub fn element(heap: &Heap, array: Value, index: Value) -> Found
     ensures { Finds heap.now result (λ s k. with_some (number_of (value_of index)) s
         (λ n. with_cell (value_of array) s (λ a d. or_fault fault.Bounds (option_and_then (λ m. slice_get d.values m) (natural_of n)) s (λ u. k u s)))) }
@@ -69,7 +69,7 @@ pub fn element(heap: &Heap, array: Value, index: Value) -> Found
 }
 
 /// The value of a cell at an index.
-#[inline]
+#[inline(always)]
 fn element_at(heap: &Heap, at: u32, index: i32) -> Found
     ensures { Finds heap.now result (λ s k. with_some (slice_get s.cells at) s
         (λ d. or_fault fault.Bounds (option_and_then (λ m. slice_get d.values m) (natural_of index)) s (λ u. k u s))) }
@@ -95,7 +95,7 @@ fn out_of_bounds(heap: &Heap, at: u32) -> Found
 }
 
 /// A value is put into a place of an object.
-#[inline]
+#[inline(always)]
 pub fn saved(heap: &mut Heap, object: Value, place: u32, value: Value) -> Kept
     ensures { Keeps heap.old heap.new result (λ s k. with_cell (value_of object) s
         (λ a d. with_some (slice_get d.values place) s (λ old. k (set_value a d place (value_of value) s)))) }
@@ -108,7 +108,7 @@ pub fn saved(heap: &mut Heap, object: Value, place: u32, value: Value) -> Kept
 }
 
 /// A value is put into a cell, where the place is there.
-#[inline]
+#[inline(always)]
 pub fn put(heap: &mut Heap, at: u32, place: u32, value: Value) -> Kept
     ensures { Keeps heap.old heap.new result (λ s k. with_some (slice_get s.cells at) s
         (λ d. with_some (slice_get d.values place) s (λ old. k (set_value at d place (value_of value) s)))) }

@@ -4,7 +4,7 @@ ghost use Rattle.std.specs.Prelude.{◌≡◌};
 ghost use Rattle.java_meaning.specs.Values.{int_of, natural_of};
 
 /// A length as an `int`: the same number, within the limits of strings and arrays.
-#[inline]
+#[inline(always)]
 pub fn int_of(count: usize) -> i32
     ensures { result ≡ int_of count }
 {
@@ -12,7 +12,7 @@ pub fn int_of(count: usize) -> i32
 }
 
 /// The count or place that a number is, if it is not negative.
-#[inline]
+#[inline(always)]
 pub fn natural(number: i32) -> Option<u32>
     ensures { result ≡ natural_of number }
 {

@@ -36,7 +36,7 @@ pub fn act<'a>(m: &mut Machine<'a>, effect: &Effect) -> Result<Turn, AllocError>
 }
 
 /// The next comes once a write is done.
-#[inline]
+#[inline(always)]
 fn done<'a>(m: &mut Machine<'a>, kept: Kept) -> Result<Turn, AllocError>
     requires { m.old.pc < 2 ^ 63 }
     ensures { Turns (λ go. keeps kept (state_of m.old) (go (goes (config_of m.old) (m.old.pc + 1) (state_of m.old)))) m.old result m.new }
@@ -51,7 +51,7 @@ fn done<'a>(m: &mut Machine<'a>, kept: Kept) -> Result<Turn, AllocError>
 ghost use Rattle.std.specs.Prelude.{◌+◌};
 
 /// A field of an object is set.
-#[inline]
+#[inline(always)]
 fn save<'a>(
     m: &mut Machine<'a>,
     o: Operand,
@@ -104,6 +104,7 @@ fn write_static<'a>(m: &mut Machine<'a>, field: u32, value: Value) -> Result<Tur
 }
 
 /// An element of an array is set.
+#[inline(always)]
 fn keep_element<'a>(
     m: &mut Machine<'a>,
     o: Operand,
@@ -130,6 +131,7 @@ ghost use Rattle.java_meaning.specs.Values.{number_of};
 ghost use Rattle.java_meaning.specs.Meaning.{write_element};
 
 /// An element of an array is set to a value.
+#[inline(always)]
 fn put_element<'a>(
     m: &mut Machine<'a>,
     array: Value,

@@ -14,7 +14,7 @@ use linear_code::Operand;
 use std::alloc::AllocError;
 
 /// A body is left with a value, as an `int` where so it is said.
-#[inline]
+#[inline(always)]
 pub fn give<'a>(m: &mut Machine<'a>, is_int: bool, o: Operand) -> Result<Turn, AllocError>
     ensures { Does (give is_int (operand_of o)) m.old result m.new }
 {
@@ -25,7 +25,7 @@ pub fn give<'a>(m: &mut Machine<'a>, is_int: bool, o: Operand) -> Result<Turn, A
 }
 
 /// A body is left with a value.
-#[inline]
+#[inline(always)]
 fn leave<'a>(m: &mut Machine<'a>, value: Value) -> Result<Turn, AllocError>
     ensures { Turns (λ go. returns (config_of m.old).backs (value_of value) (config_of m.old) go) m.old result m.new }
 {

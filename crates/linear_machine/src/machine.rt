@@ -100,7 +100,7 @@ pub enum Verdict {
 }
 
 /// A value as an `int` holds it, where so it is said.
-#[inline]
+#[inline(always)]
 pub fn as_int(is_int: bool, value: Value) -> Value
     ensures { value_of result ≡ as_int is_int (value_of value) }
 {
@@ -117,7 +117,7 @@ pub fn as_int(is_int: bool, value: Value) -> Value
 }
 
 /// A slot is set, as an `int` where so it is said, and the next comes.
-#[inline]
+#[inline(always)]
 pub fn keep<'a>(
     m: &mut Machine<'a>,
     is_int: bool,
@@ -134,7 +134,7 @@ pub fn keep<'a>(
 }
 
 /// A slot is set to what is found, or the run stops.
-#[inline]
+#[inline(always)]
 pub fn answer<'a>(
     m: &mut Machine<'a>,
     is_int: bool,
@@ -184,7 +184,7 @@ pub fn settle<'a>(
 }
 
 /// So many are passed.
-#[inline]
+#[inline(always)]
 pub fn pass<'a>(m: &mut Machine<'a>, many: u32) -> Result<Turn, AllocError>
     requires { m.old.pc < 2 ^ 63 }
     ensures { Turns (λ go. go (goes (config_of m.old) (m.old.pc + 1 + many) (state_of m.old))) m.old result m.new }
@@ -194,7 +194,7 @@ pub fn pass<'a>(m: &mut Machine<'a>, many: u32) -> Result<Turn, AllocError>
 }
 
 /// The next comes.
-#[inline]
+#[inline(always)]
 pub fn next<'a>(m: &mut Machine<'a>) -> Result<Turn, AllocError>
     requires { m.old.pc < 2 ^ 63 }
     ensures { Turns (λ go. go (goes (config_of m.old) (m.old.pc + 1) (state_of m.old))) m.old result m.new }
@@ -204,7 +204,7 @@ pub fn next<'a>(m: &mut Machine<'a>) -> Result<Turn, AllocError>
 }
 
 /// A step, and back over so many.
-#[inline]
+#[inline(always)]
 pub fn go_back<'a>(m: &mut Machine<'a>, many: u32) -> Result<Turn, AllocError>
     requires { m.old.pc < 2 ^ 63 }
     ensures { Turns (λ go. step (state_of m.old) (λ s. go (goes (config_of m.old) (m.old.pc - many) s))) m.old result m.new }

@@ -42,6 +42,7 @@ pub fn found_of(value: Option<Value>) -> Found
 }
 
 /// What is made where so much is found.
+#[inline(always)]
 fn made_of(found: Found) -> Made
     ensures { (s : State) (k : ToValue) → gives found s k ≡ makes result s k }
 {
@@ -53,7 +54,7 @@ fn made_of(found: Found) -> Made
 }
 
 /// What a binary operator makes of two ints.
-#[inline]
+#[inline(always)]
 pub fn on_ints(op: BinOp, a: i32, b: i32) -> Found
     ensures { (s : State) (k : ToValue) → operate op (Number a) (Number b) s k ≡ gives result s k }
 {
@@ -71,7 +72,7 @@ pub fn on_ints(op: BinOp, a: i32, b: i32) -> Found
 }
 
 /// What an operator makes of two numbers.
-#[inline]
+#[inline(always)]
 fn computed(op: Op, a: i32, b: i32) -> Found
     ensures { (s : State) (k : ToValue) → with_result (arith op a b) s (λ n. k (Number n) s) ≡ gives result s k }
 {
@@ -82,6 +83,7 @@ fn computed(op: Op, a: i32, b: i32) -> Found
 }
 
 /// What a binary operator makes of two values.
+#[inline(always)]
 pub fn operate(
     alloc: Global,
     heap: &Heap,
@@ -98,6 +100,7 @@ pub fn operate(
 }
 
 /// What an operator that gives a `boolean` makes of two values.
+#[inline(always)]
 fn truth_value(op: BinOp, left: Value, right: Value) -> Found
     requires { (o : Op) → op ≢ BinOp.Int o }
     ensures { (s : State) (k : ToValue) → operate op (value_of left) (value_of right) s k ≡ gives result s k }
@@ -113,6 +116,7 @@ fn truth_value(op: BinOp, left: Value, right: Value) -> Found
 }
 
 /// A truth, where there is one.
+#[inline(always)]
 fn truth(found: Option<bool>) -> Found
     ensures { (s : State) (k : ToValue) → with_some found s (λ b. k (Truth b) s) ≡ gives result s k }
 {
@@ -123,6 +127,7 @@ fn truth(found: Option<bool>) -> Found
 }
 
 /// `!=` of two values.
+#[inline(always)]
 fn differ(left: Value, right: Value) -> Option<bool>
     ensures { result ≡ option_map not (same_value (value_of left) (value_of right)) }
 {
@@ -147,6 +152,7 @@ fn compared(op: BinOp, left: Value, right: Value) -> Found
 }
 
 /// An operator that gives an `int`, or `+` on strings.
+#[inline(never)]
 fn compute(
     alloc: Global,
     heap: &Heap,

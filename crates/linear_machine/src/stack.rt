@@ -28,7 +28,7 @@ impl<T: Drop> Stack<T> {
     }
 
     /// One more item on top.
-    #[inline]
+    #[inline(always)]
     pub fn push(&mut self, item: T) -> Result<(), AllocError>
         ensures { OnOk result (self.new ≡ item ∷ self.old) }
     {
@@ -39,7 +39,7 @@ impl<T: Drop> Stack<T> {
     }
 
     /// Takes the topmost item.
-    #[inline]
+    #[inline(always)]
     pub fn pop(&mut self) -> Option<T>
         ensures { MatchOption result ((self.old ≡ []) × (self.new ≡ [])) (λ item. self.old ≡ item ∷ self.new) }
     {
