@@ -1,8 +1,9 @@
 //! Where methods of one name meet, and the main method.
 #![tactic(auto)]
 
-ghost use Rattle.std.specs.Prelude.{◌≡◌, IfOk};
+ghost use Rattle.std.specs.Prelude.{◌≡◌, ◌&&◌, ◌||◌, not, slice_get, IfOk};
 ghost use Rattle.java_resolve.specs.Answers.{Gives};
+ghost use Rattle.java_resolve.specs.Tables.{bit_in, is_above};
 ghost use Rattle.java_resolve.specs.Members.{meet, same_slot, clash_of, clash_with, clash_step, clashes_of, main_from, main_of};
 
 use crate::Refusal;
@@ -12,12 +13,19 @@ use crate::names::is_same;
 use crate::tables::{Heading, Row, is_above};
 use std::alloc::{AllocError, Global};
 
+/// Whether a type, whose row this is, is at or below both.
+fn has_both(row: &Row, a: u32, b: u32) -> bool
+    ensures { result ≡ bit_in (slice_get row.now a) && bit_in (slice_get row.now b) }
+{
+    row.has(a) && row.has(b)
+}
+
 /// Whether some type is at or below both.
 fn meet(rows: &[Row], a: u32, b: u32) -> bool
     ensures { result ≡ meet rows.now a b }
 {
     for row in rows {
-        if row.has(a) & row.has(b) {
+        if has_both(row, a, b) {
             return true;
         }
     }
@@ -36,6 +44,27 @@ fn same_slot(a: Option<u32>, b: Option<u32>) -> bool
     }
 }
 
+/// Whether one of the types is at or above the other.
+fn are_related(rows: &[Row], a: u32, b: u32) -> bool
+    ensures { result ≡ is_above rows.now a b || is_above rows.now b a }
+{
+    is_above(rows, a, b) || is_above(rows, b, a)
+}
+
+/// Whether one of two methods of one name is private, and their types are related.
+fn is_reused(rows: &[Row], a: &Heading, b: &Heading) -> bool
+    ensures { result ≡ (a.now.is_private || b.now.is_private) && (is_above rows.now a.now.owner b.now.owner || is_above rows.now b.now.owner a.now.owner) }
+{
+    (a.is_private || b.is_private) && are_related(rows, a.owner, b.owner)
+}
+
+/// Whether two methods of one name are not of one slot, and some type has both.
+fn is_overload(rows: &[Row], a: &Heading, b: &Heading) -> bool
+    ensures { result ≡ not (same_slot a.now.slot b.now.slot) && meet rows.now a.now.owner b.now.owner }
+{
+    !same_slot(a.slot, b.slot) && meet(rows, a.owner, b.owner)
+}
+
 /// Why the second of two methods of one name cannot stand.
 fn clash_of(
     alloc: Global,
@@ -45,11 +74,10 @@ fn clash_of(
 ) -> Result<Option<Refusal>, AllocError>
     ensures { IfOk result (λ r. r ≡ clash_of rows.now a.now b.now) }
 {
-    let related = is_above(rows, a.owner, b.owner) | is_above(rows, b.owner, a.owner);
-    if (a.is_private | b.is_private) & related {
+    if is_reused(rows, a, b) {
         return Ok(Some(Refusal::PrivateReused(b.name.copy(alloc)?, b.place)));
     }
-    if !same_slot(a.slot, b.slot) & meet(rows, a.owner, b.owner) {
+    if is_overload(rows, a, b) {
         return Ok(Some(Refusal::Overload(b.name.copy(alloc)?, b.place)));
     }
     Ok(None)
