@@ -42,7 +42,13 @@ fn walk_set(
 ) -> Result<(), AllocError>
     requires { IsFormed (program_of no_place program.now) }
     ensures grown { OnOk result (length parts.new.items ≡ length parts.old.items + (size (expr_of at_place value.now) + 1)) }
-    ensures parts { OnOk result (parts_seen parts.new.items ≡ parts_seen parts.old.items ++ (plain.parts (program_of no_place program.now) (object_type (program_of no_place program.now) (method_seen at_place method.now)) m (method_seen at_place method.now) false (label (length parts.old.items) (expr_of at_place value.now)) ++ plain.a_set target (operand_of (program_of no_place program.now) (object_type (program_of no_place program.now) (method_seen at_place method.now)) m (method_seen at_place method.now) (label (length parts.old.items) (expr_of at_place value.now))) ∷ [])) }
+    ensures parts { OnOk result (parts_seen parts.new.items ≡ parts_seen parts.old.items
+        ++ (plain.parts (program_of no_place program.now) (object_type (program_of no_place program.now)
+        (method_seen at_place method.now)) m (method_seen at_place method.now) false
+        (label (length parts.old.items) (expr_of at_place value.now)) ++ plain.a_set target
+        (operand_of (program_of no_place program.now) (object_type (program_of no_place program.now)
+        (method_seen at_place method.now)) m (method_seen at_place method.now)
+        (label (length parts.old.items) (expr_of at_place value.now))) ∷ [])) }
 {
     let value = walk(alloc, program, m, method, false, value, parts)?;
     add(parts, Part::Set(target, value))?;
@@ -61,8 +67,14 @@ fn walk_assign(
     parts: &mut Vec<Part>,
 ) -> Result<(), AllocError>
     requires { IsFormed (program_of no_place program.now) }
-    ensures grown { OnOk result (length parts.new.items ≡ length parts.old.items + (size_target (target_of at_place target.now) + size (expr_of at_place value.now) + 1)) }
-    ensures parts { OnOk result (parts_seen parts.new.items ≡ parts_seen parts.old.items ++ plain.parts_assign (program_of no_place program.now) (object_type (program_of no_place program.now) (method_seen at_place method.now)) m (method_seen at_place method.now) place (label_target (length parts.old.items) (target_of at_place target.now)) (label ((length parts.old.items) + size_target (target_of at_place target.now)) (expr_of at_place value.now))) }
+    ensures grown { OnOk result (length parts.new.items ≡ length parts.old.items
+        + (size_target (target_of at_place target.now) + size (expr_of at_place value.now) + 1)) }
+    ensures parts { OnOk result (parts_seen parts.new.items ≡ parts_seen parts.old.items ++ plain.parts_assign
+        (program_of no_place program.now) (object_type (program_of no_place program.now)
+        (method_seen at_place method.now)) m (method_seen at_place method.now) place
+        (label_target (length parts.old.items) (target_of at_place target.now))
+        (label ((length parts.old.items) + size_target (target_of at_place target.now))
+        (expr_of at_place value.now))) }
 {
     match target {
         RExpr::Local { local, .. } => {
@@ -130,7 +142,10 @@ fn walk_value(
 ) -> Result<(), AllocError>
     requires { IsFormed (program_of no_place program.now) }
     ensures grown { OnOk result (length parts.new.items ≡ length parts.old.items + size_if (value_of at_place value.now)) }
-    ensures parts { OnOk result (parts_seen parts.new.items ≡ parts_seen parts.old.items ++ plain.parts_if (program_of no_place program.now) (object_type (program_of no_place program.now) (method_seen at_place method.now)) m (method_seen at_place method.now) (label_if (length parts.old.items) (value_of at_place value.now))) }
+    ensures parts { OnOk result (parts_seen parts.new.items ≡ parts_seen parts.old.items ++ plain.parts_if
+        (program_of no_place program.now) (object_type (program_of no_place program.now)
+        (method_seen at_place method.now)) m (method_seen at_place method.now)
+        (label_if (length parts.old.items) (value_of at_place value.now))) }
 {
     match value {
         Some(value) => {
@@ -153,7 +168,10 @@ fn walk_local(
 ) -> Result<(), AllocError>
     requires { IsFormed (program_of no_place program.now) }
     ensures grown { OnOk result (length parts.new.items ≡ length parts.old.items + size_put (value_of at_place value.now)) }
-    ensures parts { OnOk result ((t : Tag) → parts_seen parts.new.items ≡ parts_seen parts.old.items ++ plain.parts_set (program_of no_place program.now) (object_type (program_of no_place program.now) (method_seen at_place method.now)) m (method_seen at_place method.now) (tree.local t local) (label_if (length parts.old.items) (value_of at_place value.now))) }
+    ensures parts { OnOk result ((t : Tag) → parts_seen parts.new.items ≡ parts_seen parts.old.items
+        ++ plain.parts_set (program_of no_place program.now) (object_type (program_of no_place program.now)
+        (method_seen at_place method.now)) m (method_seen at_place method.now) (tree.local t local)
+        (label_if (length parts.old.items) (value_of at_place value.now))) }
 {
     match value {
         Some(value) => {
@@ -183,7 +201,10 @@ fn walk_return(
 ) -> Result<(), AllocError>
     requires { IsFormed (program_of no_place program.now) }
     ensures grown { OnOk result (length parts.new.items ≡ length parts.old.items + size_put (value_of at_place value.now)) }
-    ensures parts { OnOk result (parts_seen parts.new.items ≡ parts_seen parts.old.items ++ plain.parts_return (program_of no_place program.now) (object_type (program_of no_place program.now) (method_seen at_place method.now)) m (method_seen at_place method.now) (label_if (length parts.old.items) (value_of at_place value.now))) }
+    ensures parts { OnOk result (parts_seen parts.new.items ≡ parts_seen parts.old.items ++ plain.parts_return
+        (program_of no_place program.now) (object_type (program_of no_place program.now)
+        (method_seen at_place method.now)) m (method_seen at_place method.now)
+        (label_if (length parts.old.items) (value_of at_place value.now))) }
 {
     match value {
         Some(value) => {
@@ -207,7 +228,10 @@ fn walk_stmt(
 ) -> Result<(), AllocError>
     requires { IsFormed (program_of no_place program.now) }
     ensures grown { OnOk result (length parts.new.items ≡ length parts.old.items + size_st (stmt_of at_place s.now)) }
-    ensures parts { OnOk result (parts_seen parts.new.items ≡ parts_seen parts.old.items ++ plain.parts_st (program_of no_place program.now) (object_type (program_of no_place program.now) (method_seen at_place method.now)) m (method_seen at_place method.now) (label_st (length parts.old.items) (stmt_of at_place s.now))) }
+    ensures parts { OnOk result (parts_seen parts.new.items ≡ parts_seen parts.old.items ++ plain.parts_st
+        (program_of no_place program.now) (object_type (program_of no_place program.now)
+        (method_seen at_place method.now)) m (method_seen at_place method.now)
+        (label_st (length parts.old.items) (stmt_of at_place s.now))) }
 {
     match s {
         RStmt::Local { local, value, .. } => {
@@ -282,7 +306,10 @@ fn walk_step(
 ) -> Result<(), AllocError>
     requires { IsFormed (program_of no_place program.now) }
     ensures grown { OnOk result (length parts.new.items ≡ length parts.old.items + size_sts (step_seen at_place step.now)) }
-    ensures parts { OnOk result (parts_seen parts.new.items ≡ parts_seen parts.old.items ++ plain.parts_sts (program_of no_place program.now) (object_type (program_of no_place program.now) (method_seen at_place method.now)) m (method_seen at_place method.now) (label_sts (length parts.old.items) (step_seen at_place step.now))) }
+    ensures parts { OnOk result (parts_seen parts.new.items ≡ parts_seen parts.old.items ++ plain.parts_sts
+        (program_of no_place program.now) (object_type (program_of no_place program.now)
+        (method_seen at_place method.now)) m (method_seen at_place method.now)
+        (label_sts (length parts.old.items) (step_seen at_place step.now))) }
 {
     match step {
         Some(step) => {
@@ -305,7 +332,10 @@ fn walk_stmts(
 ) -> Result<(), AllocError>
     requires { IsFormed (program_of no_place program.now) }
     ensures grown { OnOk result (length parts.new.items ≡ length parts.old.items + size_sts (stmts at_place body.now.items)) }
-    ensures parts { OnOk result (parts_seen parts.new.items ≡ parts_seen parts.old.items ++ plain.parts_sts (program_of no_place program.now) (object_type (program_of no_place program.now) (method_seen at_place method.now)) m (method_seen at_place method.now) (label_sts (length parts.old.items) (stmts at_place body.now.items))) }
+    ensures parts { OnOk result (parts_seen parts.new.items ≡ parts_seen parts.old.items ++ plain.parts_sts
+        (program_of no_place program.now) (object_type (program_of no_place program.now)
+        (method_seen at_place method.now)) m (method_seen at_place method.now)
+        (label_sts (length parts.old.items) (stmts at_place body.now.items))) }
 {
     for s in body {
         walk_stmt(alloc, program, m, method, s, parts)?;
@@ -325,8 +355,17 @@ fn walk_arms(
     parts: &mut Vec<Part>,
 ) -> Result<(), AllocError>
     requires { IsFormed (program_of no_place program.now) }
-    ensures grown { OnOk result (length parts.new.items + size_arms (else_seen at_place other.now) ≡ length parts.old.items + size_arms (arms_seen at_place arms.now.items (else_seen at_place other.now))) }
-    ensures parts { OnOk result (parts_seen parts.new.items ++ plain.parts_arms (program_of no_place program.now) (object_type (program_of no_place program.now) (method_seen at_place method.now)) m (method_seen at_place method.now) (label_arms (length parts.new.items) (else_seen at_place other.now)) ≡ parts_seen parts.old.items ++ plain.parts_arms (program_of no_place program.now) (object_type (program_of no_place program.now) (method_seen at_place method.now)) m (method_seen at_place method.now) (label_arms (length parts.old.items) (arms_seen at_place arms.now.items (else_seen at_place other.now)))) }
+    ensures grown { OnOk result (length parts.new.items + size_arms (else_seen at_place other.now)
+        ≡ length parts.old.items + size_arms
+        (arms_seen at_place arms.now.items (else_seen at_place other.now))) }
+    ensures parts { OnOk result (parts_seen parts.new.items ++ plain.parts_arms
+        (program_of no_place program.now) (object_type (program_of no_place program.now)
+        (method_seen at_place method.now)) m (method_seen at_place method.now)
+        (label_arms (length parts.new.items) (else_seen at_place other.now)) ≡ parts_seen parts.old.items
+        ++ plain.parts_arms (program_of no_place program.now) (object_type (program_of no_place program.now)
+        (method_seen at_place method.now)) m (method_seen at_place method.now)
+        (label_arms (length parts.old.items)
+        (arms_seen at_place arms.now.items (else_seen at_place other.now)))) }
 {
     let _ = other;
     for arm in arms {

@@ -35,7 +35,8 @@ fn add_field(
     item: ColumnItem,
     fields: &mut Vec<FieldCell>,
 ) -> Result<(), AllocError>
-    ensures value { OnOk result (map field_cell_seen fields.new.items ≡ map field_cell_seen fields.old.items ++ field_at (numbers_seen n.now) (program_of at_place program.now) c item) }
+    ensures value { OnOk result (map field_cell_seen fields.new.items ≡ map field_cell_seen fields.old.items
+        ++ field_at (numbers_seen n.now) (program_of at_place program.now) c item) }
 {
     if let ColumnItem::Fld(field) = item {
         if let Some(row) = n.row(RowItem::Field(field)) {
@@ -146,7 +147,8 @@ fn fields_above(
     own: &Vec<Vec<FieldCell>>,
     class: ClassId,
 ) -> Result<Vec<FieldCell>, AllocError>
-    ensures { IfOk result (λ v. map field_cell_seen v.items ≡ upwards (program_of no_place program.now) (own_at own.now.items) (suc (length (program_of no_place program.now).classes)) (Some class)) }
+    ensures { IfOk result (λ v. map field_cell_seen v.items ≡ upwards (program_of no_place program.now)
+        (own_at own.now.items) (suc (length (program_of no_place program.now).classes)) (Some class)) }
 {
     let mut found = Vec::new(alloc);
     add_fields_of(own, class, &mut found)?;
@@ -192,7 +194,9 @@ fn add_object_cells(
     requires formed { IsFormed (program_of no_place program.now) }
     requires listed { AreListed (program_of no_place program.now) 0 (map field_cell_seen fields.now.items) }
     requires own { (c : ℕ) → own_at own.now.items c ≡ own_of (map field_cell_seen fields.now.items) c }
-    ensures value { OnOk result (cells.new.items ≡ cells.old.items ++ flat_map (field_cell (program_of no_place program.now) i class.0) (map field_cell_seen fields.now.items)) }
+    ensures value { OnOk result (cells.new.items ≡ cells.old.items
+        ++ flat_map (field_cell (program_of no_place program.now) i class.0)
+        (map field_cell_seen fields.now.items)) }
 {
     let _ = fields;
     let above = fields_above(alloc, program, own, class)?;
@@ -214,7 +218,8 @@ fn add_site_cells(
     requires formed { IsFormed (program_of no_place program.now) }
     requires listed { AreListed (program_of no_place program.now) 0 (map field_cell_seen fields.now.items) }
     requires own { (c : ℕ) → own_at own.now.items c ≡ own_of (map field_cell_seen fields.now.items) c }
-    ensures value { OnOk result (cells.new.items ≡ cells.old.items ++ site_cells (program_of no_place program.now) (map field_cell_seen fields.now.items) i site.now) }
+    ensures value { OnOk result (cells.new.items ≡ cells.old.items ++ site_cells
+        (program_of no_place program.now) (map field_cell_seen fields.now.items) i site.now) }
 {
     if site.ty.dim == 0 {
         add_object_cells(alloc, program, fields, own, i, site.ty.class, cells)?;
@@ -239,8 +244,12 @@ pub fn cells_of(
     requires formed { IsFormed (program_of no_place program.now) }
     requires listed { AreListed (program_of no_place program.now) 0 (map field_cell_seen fields.now.items) }
     requires few { length sites.now.items < 4294967295 }
-    ensures over { IfOk result (λ o. MatchOption o (most < length (each (site_cells (program_of no_place program.now) (map field_cell_seen fields.now.items)) 0 sites.now.items)) (λ v. length v.items ≤ most)) }
-    ensures value { IfOk result (λ o. IfSome o (λ v. v.items ≡ each (site_cells (program_of no_place program.now) (map field_cell_seen fields.now.items)) 0 sites.now.items)) }
+    ensures over { IfOk result (λ o. MatchOption o
+        (most < length (each (site_cells (program_of no_place program.now)
+        (map field_cell_seen fields.now.items)) 0 sites.now.items)) (λ v. length v.items ≤ most)) }
+    ensures value { IfOk result (λ o. IfSome o
+        (λ v. v.items ≡ each (site_cells (program_of no_place program.now)
+        (map field_cell_seen fields.now.items)) 0 sites.now.items)) }
 {
     let own = fields_by_class(alloc, program, fields)?;
     let mut cells = Vec::new(alloc);

@@ -216,7 +216,9 @@ fn add_method_body(
     method: &Method,
     bodies: &mut Vec<BodyInfo>,
 ) -> Result<(), AllocError>
-    ensures value { (Q : Plain) → OnOk result (map body_seen bodies.new.items ≡ map body_seen bodies.old.items ++ body_if (numbers_seen n.now) Q c m (method_seen at_place method.now) ((numbers_seen n.now).point (PointItem.This m))) }
+    ensures value { (Q : Plain) → OnOk result (map body_seen bodies.new.items ≡ map body_seen bodies.old.items
+        ++ body_if (numbers_seen n.now) Q c m (method_seen at_place method.now)
+        ((numbers_seen n.now).point (PointItem.This m))) }
 {
     match n.point(PointItem::This(m)) {
         Some(this) => {
@@ -249,7 +251,8 @@ fn add_body(
     item: ColumnItem,
     bodies: &mut Vec<BodyInfo>,
 ) -> Result<(), AllocError>
-    ensures value { OnOk result (map body_seen bodies.new.items ≡ map body_seen bodies.old.items ++ column_body (numbers_seen n.now) (program_of at_place program.now) c item) }
+    ensures value { OnOk result (map body_seen bodies.new.items ≡ map body_seen bodies.old.items
+        ++ column_body (numbers_seen n.now) (program_of at_place program.now) c item) }
 {
     match item {
         ColumnItem::Def(m) => match method_at(program, m) {
@@ -268,7 +271,9 @@ pub fn body_infos(
     columns: &Vec<Column>,
 ) -> Result<Vec<BodyInfo>, AllocError>
     requires { length columns.now.items < 4294967295 }
-    ensures value { IfOk result (λ v. map body_seen v.items ≡ each (λ c k. column_body (numbers_seen n.now) (program_of at_place program.now) c k.item) 0 columns.now.items) }
+    ensures value { IfOk result (λ v. map body_seen v.items
+        ≡ each (λ c k. column_body (numbers_seen n.now) (program_of at_place program.now) c k.item) 0
+        columns.now.items) }
 {
     let mut bodies = Vec::new(alloc);
     for (c, column) in columns.iter().enumerate() {

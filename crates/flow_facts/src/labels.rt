@@ -14,7 +14,8 @@ use std::alloc::{AllocError, Global};
 
 /// The parameter or local of a method by its number.
 fn variable_at(method: &Method, i: u64) -> Option<&Local>
-    ensures value { option_map (λ v. local_seen at_place v.now) result ≡ slice_get ((method_seen at_place method.now).params ++ (method_seen at_place method.now).locals) i }
+    ensures value { option_map (λ v. local_seen at_place v.now) result
+        ≡ slice_get ((method_seen at_place method.now).params ++ (method_seen at_place method.now).locals) i }
 {
     let at = i as usize;
     let count = method.params.len();
@@ -133,7 +134,9 @@ fn add_row_text(
     row: &Row,
     text: &mut String,
 ) -> Result<(), AllocError>
-    ensures value { OnOk result (string_bytes text.new ≡ string_bytes text.old ++ row_text (program_of at_place program.now) row.now.item (class_text (program_of at_place program.now) row.now.ty.class.0) row.now.ty.dim row.now.place) }
+    ensures value { OnOk result (string_bytes text.new ≡ string_bytes text.old
+        ++ row_text (program_of at_place program.now) row.now.item
+        (class_text (program_of at_place program.now) row.now.ty.class.0) row.now.ty.dim row.now.place) }
 {
     let class = row.ty.class.0 as u64;
     match row.item {

@@ -67,7 +67,8 @@ fn class_info(
 
 /// The classes.
 pub fn class_infos(alloc: Global, program: &Program) -> Result<Vec<ClassInfo>, AllocError>
-    ensures value { IfOk result (λ v. map class_seen v.items ≡ each (class_facts (program_of at_place program.now)) 0 (program_of at_place program.now).classes) }
+    ensures value { IfOk result (λ v. map class_seen v.items
+        ≡ each (class_facts (program_of at_place program.now)) 0 (program_of at_place program.now).classes) }
 {
     let mut list = Vec::new(alloc);
     for (c, class) in program.classes.iter().enumerate() {
@@ -157,7 +158,10 @@ fn add_word(
     name: &Name,
     words: &mut Vec<Name>,
 ) -> Result<(), AllocError>
-    ensures value { OnOk result ((rest : List (List ℕ)) → words.new.items ++ once_after bytes_eq encode_utf8_all (map string_bytes seen.new.keys) rest ≡ words.old.items ++ once_after bytes_eq encode_utf8_all (map string_bytes seen.old.keys) (name.now ∷ rest)) }
+    ensures value { OnOk result ((rest : List (List ℕ))
+        → words.new.items ++ once_after bytes_eq encode_utf8_all (map string_bytes seen.new.keys) rest
+        ≡ words.old.items ++ once_after bytes_eq encode_utf8_all (map string_bytes seen.old.keys)
+        (name.now ∷ rest)) }
 {
     if is_new(alloc, seen, name)? {
         words.push(name.copy(alloc)?)?;

@@ -158,7 +158,8 @@ fn add_sites(
     sites: &mut Vec<Site>,
 ) -> Result<(), AllocError>
     requires { length rows.now.keys < 4294967295 }
-    ensures value { OnOk result (sites.new.items ≡ sites.old.items ++ flat_map (form_sites (number_among same_row rows.now.keys)) (parts_seen parts.now.items)) }
+    ensures value { OnOk result (sites.new.items ≡ sites.old.items
+        ++ flat_map (form_sites (number_among same_row rows.now.keys)) (parts_seen parts.now.items)) }
 {
     for part in parts {
         add_part_site(rows, part, sites)?;
@@ -173,7 +174,9 @@ pub fn all_sites(
     bodies: &Vec<Body>,
 ) -> Result<Vec<Site>, AllocError>
     requires { length rows.now.keys < 4294967295 }
-    ensures value { IfOk result (λ v. v.items ≡ flat_map (λ b. flat_map (form_sites (number_among same_row rows.now.keys)) b.parts) (map body_seen bodies.now.items)) }
+    ensures value { IfOk result (λ v. v.items
+        ≡ flat_map (λ b. flat_map (form_sites (number_among same_row rows.now.keys)) b.parts)
+        (map body_seen bodies.now.items)) }
 {
     let mut sites = Vec::new(alloc);
     for body in bodies {
@@ -226,7 +229,9 @@ pub fn all_points(
     outlines: &Vec<Outline>,
 ) -> Result<Vec<Point>, AllocError>
     requires { length rows.now.keys < 4294967295 }
-    ensures value { IfOk result (λ v. v.items ≡ flat_map (listed (number_among same_row rows.now.keys)) statics.now.items ++ flat_map (λ o. flat_map (listed (number_among same_row rows.now.keys)) o.points) (map outline_seen outlines.now.items)) }
+    ensures value { IfOk result (λ v. v.items ≡ flat_map (listed (number_among same_row rows.now.keys))
+        statics.now.items ++ flat_map (λ o. flat_map (listed (number_among same_row rows.now.keys)) o.points)
+        (map outline_seen outlines.now.items)) }
 {
     let mut points = Vec::new(alloc);
     add_listed(rows, statics, &mut points)?;

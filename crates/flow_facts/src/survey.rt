@@ -93,7 +93,9 @@ fn add_variable_rows(
     rows: &mut Vec<Row>,
 ) -> Result<(), AllocError>
     requires { first + length locals.now.items < 2 ^ 64 }
-    ensures value { OnOk result (rows.new.items ≡ rows.old.items ++ each (variable_rows (program_of no_place program.now) (program_of at_place program.now) m (method_seen at_place method.now)) first (map (local_seen at_place) locals.now.items)) }
+    ensures value { OnOk result (rows.new.items ≡ rows.old.items
+        ++ each (variable_rows (program_of no_place program.now) (program_of at_place program.now) m
+        (method_seen at_place method.now)) first (map (local_seen at_place) locals.now.items)) }
 {
     let listed = is_first(program, m, method);
     let count = method.params.len();
@@ -117,7 +119,9 @@ fn add_method_rows(
     rows: &mut Vec<Row>,
 ) -> Result<(), AllocError>
     requires { parts_seen parts.now.items ≡ plain.parts_of (program_of no_place program.now) m (method_seen at_place method.now) }
-    ensures value { OnOk result (rows.new.items ≡ rows.old.items ++ method_rows (program_of no_place program.now) (program_of at_place program.now) m (method_seen at_place method.now)) }
+    ensures value { OnOk result (rows.new.items ≡ rows.old.items ++ method_rows
+        (program_of no_place program.now) (program_of at_place program.now) m
+        (method_seen at_place method.now)) }
 {
     if method.body.is_some() && !method.is_static {
         add_row(
@@ -216,7 +220,10 @@ fn add_method_columns(
     parts: &Vec<Part>,
     columns: &mut Vec<Column>,
 ) -> Result<(), AllocError>
-    ensures value { (P Q : Plain) → parts_seen parts.now.items ≡ plain.parts_of P m (method_seen at_place method.now) → OnOk result (columns.new.items ≡ columns.old.items ++ method_columns P Q m (method_seen at_place method.now)) }
+    ensures value { (P Q : Plain) → parts_seen parts.now.items
+        ≡ plain.parts_of P m (method_seen at_place method.now)
+        → OnOk result (columns.new.items ≡ columns.old.items ++ method_columns P Q m
+        (method_seen at_place method.now)) }
 {
     if !method.is_static {
         columns.push(Column {
@@ -284,7 +291,9 @@ fn add_variable_points(
     points: &mut Vec<PointAt>,
 ) -> Result<(), AllocError>
     requires { first + length locals.now.items < 2 ^ 64 }
-    ensures value { OnOk result (points.new.items ≡ points.old.items ++ each (variable_points m (method_seen at_place method.now)) first (map (local_seen at_place) locals.now.items)) }
+    ensures value { OnOk result (points.new.items ≡ points.old.items
+        ++ each (variable_points m (method_seen at_place method.now)) first
+        (map (local_seen at_place) locals.now.items)) }
 {
     let mut number = first;
     for local in locals {
@@ -307,7 +316,9 @@ fn method_points(
     method: &Method,
     parts: &Vec<Part>,
 ) -> Result<Vec<PointAt>, AllocError>
-    ensures value { (P Q : Plain) → parts_seen parts.now.items ≡ plain.parts_of P m (method_seen at_place method.now) → IfOk result (λ v. v.items ≡ method_points P Q m (method_seen at_place method.now)) }
+    ensures value { (P Q : Plain) → parts_seen parts.now.items
+        ≡ plain.parts_of P m (method_seen at_place method.now)
+        → IfOk result (λ v. v.items ≡ method_points P Q m (method_seen at_place method.now)) }
 {
     let place = method.place;
     let mut points = Vec::new(alloc);
@@ -346,8 +357,10 @@ pub struct Surveyed {
 /// Adds the rows, the columns and the points of the fields.
 fn survey_fields(program: &Program, survey: &mut Surveyed) -> Result<(), AllocError>
     ensures rows { OnOk result (survey.new.rows.items ≡ survey.old.rows.items ++ each field_rows 0 (map (field_seen at_place) program.now.fields.items)) }
-    ensures columns { OnOk result (survey.new.columns.items ≡ survey.old.columns.items ++ each field_columns 0 (map (field_seen at_place) program.now.fields.items)) }
-    ensures statics { OnOk result (survey.new.statics.items ≡ survey.old.statics.items ++ each static_points 0 (map (field_seen at_place) program.now.fields.items)) }
+    ensures columns { OnOk result (survey.new.columns.items ≡ survey.old.columns.items ++ each field_columns 0
+        (map (field_seen at_place) program.now.fields.items)) }
+    ensures statics { OnOk result (survey.new.statics.items ≡ survey.old.statics.items ++ each static_points 0
+        (map (field_seen at_place) program.now.fields.items)) }
     ensures outlines { OnOk result (survey.new.outlines ≡ survey.old.outlines) }
     ensures bodies { OnOk result (survey.new.bodies ≡ survey.old.bodies) }
 {
@@ -392,11 +405,19 @@ fn survey_method(
     survey: &mut Surveyed,
 ) -> Result<(), AllocError>
     requires { IsFormed (program_of no_place program.now) }
-    ensures rows { OnOk result (survey.new.rows.items ≡ survey.old.rows.items ++ method_rows (program_of no_place program.now) (program_of at_place program.now) m (method_seen at_place method.now)) }
-    ensures columns { OnOk result (survey.new.columns.items ≡ survey.old.columns.items ++ method_columns (program_of no_place program.now) (program_of at_place program.now) m (method_seen at_place method.now)) }
+    ensures rows { OnOk result (survey.new.rows.items ≡ survey.old.rows.items ++ method_rows
+        (program_of no_place program.now) (program_of at_place program.now) m
+        (method_seen at_place method.now)) }
+    ensures columns { OnOk result (survey.new.columns.items ≡ survey.old.columns.items ++ method_columns
+        (program_of no_place program.now) (program_of at_place program.now) m
+        (method_seen at_place method.now)) }
     ensures statics { OnOk result (survey.new.statics ≡ survey.old.statics) }
-    ensures outlines { OnOk result (map outline_seen survey.new.outlines.items ≡ map outline_seen survey.old.outlines.items ++ outline_if (program_of no_place program.now) (program_of at_place program.now) m (method_seen at_place method.now)) }
-    ensures bodies { OnOk result (map body_seen survey.new.bodies.items ≡ map body_seen survey.old.bodies.items ++ body_at (program_of no_place program.now) (program_of at_place program.now) m (method_seen at_place method.now)) }
+    ensures outlines { OnOk result (map outline_seen survey.new.outlines.items
+        ≡ map outline_seen survey.old.outlines.items ++ outline_if (program_of no_place program.now)
+        (program_of at_place program.now) m (method_seen at_place method.now)) }
+    ensures bodies { OnOk result (map body_seen survey.new.bodies.items
+        ≡ map body_seen survey.old.bodies.items ++ body_at (program_of no_place program.now)
+        (program_of at_place program.now) m (method_seen at_place method.now)) }
 {
     let parts = parts_of(alloc, program, m as u64, method)?;
     add_method_rows(program, m, method, &parts, &mut survey.rows)?;
@@ -420,10 +441,17 @@ fn survey_method(
 #[tactic(auto, unfolding(flow_rules::specs::Numbered::bodies_of))]
 pub fn survey(alloc: Global, program: &Program) -> Result<Surveyed, AllocError>
     requires { IsFormed (program_of no_place program.now) }
-    ensures rows { IfOk result (λ s. s.rows.items ≡ each field_rows 0 (program_of at_place program.now).fields ++ each (method_rows (program_of no_place program.now) (program_of at_place program.now)) 0 (program_of at_place program.now).methods) }
-    ensures columns { IfOk result (λ s. s.columns.items ≡ each field_columns 0 (program_of at_place program.now).fields ++ each (method_columns (program_of no_place program.now) (program_of at_place program.now)) 0 (program_of at_place program.now).methods) }
+    ensures rows { IfOk result (λ s. s.rows.items ≡ each field_rows 0 (program_of at_place program.now).fields
+        ++ each (method_rows (program_of no_place program.now) (program_of at_place program.now)) 0
+        (program_of at_place program.now).methods) }
+    ensures columns { IfOk result (λ s. s.columns.items
+        ≡ each field_columns 0 (program_of at_place program.now).fields
+        ++ each (method_columns (program_of no_place program.now) (program_of at_place program.now)) 0
+        (program_of at_place program.now).methods) }
     ensures statics { IfOk result (λ s. s.statics.items ≡ each static_points 0 (program_of at_place program.now).fields) }
-    ensures outlines { IfOk result (λ s. map outline_seen s.outlines.items ≡ each (outline_if (program_of no_place program.now) (program_of at_place program.now)) 0 (program_of at_place program.now).methods) }
+    ensures outlines { IfOk result (λ s. map outline_seen s.outlines.items
+        ≡ each (outline_if (program_of no_place program.now) (program_of at_place program.now)) 0
+        (program_of at_place program.now).methods) }
     ensures bodies { IfOk result (λ s. map body_seen s.bodies.items ≡ bodies_of (program_of no_place program.now) (program_of at_place program.now)) }
 {
     let mut survey = Surveyed {

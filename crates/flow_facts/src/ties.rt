@@ -84,7 +84,8 @@ fn add_pair(
     ties: &mut Vec<TieInfo>,
 ) -> Result<(), AllocError>
     requires { IsFormed (program_of no_place program.now) }
-    ensures value { OnOk result (ties.new.items ≡ ties.old.items ++ pair_ties (numbers_seen n.now) (program_of no_place program.now) left.now right.now left.now.ty right.now.ty) }
+    ensures value { OnOk result (ties.new.items ≡ ties.old.items ++ pair_ties (numbers_seen n.now)
+        (program_of no_place program.now) left.now right.now left.now.ty right.now.ty) }
 {
     if let (Some(s), Some(t)) = (left.ty, right.ty) {
         let (l, r) = (row_at(n, left), row_at(n, right));
@@ -106,7 +107,8 @@ fn add_test(
     ties: &mut Vec<TieInfo>,
 ) -> Result<(), AllocError>
     requires { IsFormed (program_of no_place program.now) }
-    ensures value { OnOk result (ties.new.items ≡ ties.old.items ++ test_ties (numbers_seen n.now) (program_of no_place program.now) operand.now own.now operand.now.ty own.now.ty) }
+    ensures value { OnOk result (ties.new.items ≡ ties.old.items ++ test_ties (numbers_seen n.now)
+        (program_of no_place program.now) operand.now own.now operand.now.ty own.now.ty) }
 {
     if let (Some(s), Some(t)) = (operand.ty, own.ty) {
         let (e, k) = (row_at(n, operand), row_at(n, own));
@@ -174,7 +176,8 @@ pub fn add_ties(
     ties: &mut Vec<TieInfo>,
 ) -> Result<(), AllocError>
     requires { IsFormed (program_of no_place program.now) }
-    ensures value { OnOk result (ties.new.items ≡ ties.old.items ++ ties_of (numbers_seen n.now) (program_of no_place program.now) m slot (part_seen part.now)) }
+    ensures value { OnOk result (ties.new.items ≡ ties.old.items ++ ties_of (numbers_seen n.now)
+        (program_of no_place program.now) m slot (part_seen part.now)) }
 {
     match part {
         Part::Set(target, value) => {

@@ -58,7 +58,9 @@ fn number_rows(
     program: &Program,
     rows: Vec<Row>,
 ) -> Result<Listed<Row, RowItem>, FactsFault>
-    requires { rows.items ≡ each field_rows 0 (program_of at_place program.now).fields ++ each (method_rows (program_of no_place program.now) (program_of at_place program.now)) 0 (program_of at_place program.now).methods }
+    requires { rows.items ≡ each field_rows 0 (program_of at_place program.now).fields
+        ++ each (method_rows (program_of no_place program.now) (program_of at_place program.now)) 0
+        (program_of at_place program.now).methods }
     ensures items { IfOk result (λ l. l.items.items ≡ rows_of (program_of no_place program.now) (program_of at_place program.now)) }
     ensures keys { IfOk result (λ l. l.keys.keys ≡ map (λ r. r.item) (rows_of (program_of no_place program.now) (program_of at_place program.now))) }
     ensures most { IfOk result (λ l. length (rows_of (program_of no_place program.now) (program_of at_place program.now)) ≤ 16384) }
@@ -75,7 +77,9 @@ fn number_columns(
     program: &Program,
     columns: Vec<Column>,
 ) -> Result<Listed<Column, ColumnItem>, FactsFault>
-    requires columns { columns.items ≡ each field_columns 0 (program_of at_place program.now).fields ++ each (method_columns (program_of no_place program.now) (program_of at_place program.now)) 0 (program_of at_place program.now).methods }
+    requires columns { columns.items ≡ each field_columns 0 (program_of at_place program.now).fields
+        ++ each (method_columns (program_of no_place program.now) (program_of at_place program.now)) 0
+        (program_of at_place program.now).methods }
     requires rows { length (rows_of (program_of no_place program.now) (program_of at_place program.now)) ≤ 16384 }
     ensures items { IfOk result (λ l. l.items.items ≡ columns_of (program_of no_place program.now) (program_of at_place program.now)) }
     ensures keys { IfOk result (λ l. l.keys.keys ≡ map (λ c. c.item) (columns_of (program_of no_place program.now) (program_of at_place program.now))) }
@@ -119,7 +123,9 @@ fn number_points(
 ) -> Result<Listed<Point, PointItem>, FactsFault>
     requires keys { rows.now.keys ≡ map (λ r. r.item) (rows_of (program_of no_place program.now) (program_of at_place program.now)) }
     requires statics { statics.items ≡ each static_points 0 (program_of at_place program.now).fields }
-    requires outlines { map outline_seen outlines.items ≡ each (outline_if (program_of no_place program.now) (program_of at_place program.now)) 0 (program_of at_place program.now).methods }
+    requires outlines { map outline_seen outlines.items
+        ≡ each (outline_if (program_of no_place program.now) (program_of at_place program.now)) 0
+        (program_of at_place program.now).methods }
     requires rows { length (rows_of (program_of no_place program.now) (program_of at_place program.now)) ≤ 16384 }
     requires columns { length (columns_of (program_of no_place program.now) (program_of at_place program.now)) ≤ 8192 }
     requires sites { length (sites_of (program_of no_place program.now) (program_of at_place program.now)) ≤ 8192 }
@@ -197,8 +203,12 @@ fn number_table(
     rows: Vec<Row>,
     columns: Vec<Column>,
 ) -> Result<Table, FactsFault>
-    requires rows { rows.items ≡ each field_rows 0 (program_of at_place program.now).fields ++ each (method_rows (program_of no_place program.now) (program_of at_place program.now)) 0 (program_of at_place program.now).methods }
-    requires columns { columns.items ≡ each field_columns 0 (program_of at_place program.now).fields ++ each (method_columns (program_of no_place program.now) (program_of at_place program.now)) 0 (program_of at_place program.now).methods }
+    requires rows { rows.items ≡ each field_rows 0 (program_of at_place program.now).fields
+        ++ each (method_rows (program_of no_place program.now) (program_of at_place program.now)) 0
+        (program_of at_place program.now).methods }
+    requires columns { columns.items ≡ each field_columns 0 (program_of at_place program.now).fields
+        ++ each (method_columns (program_of no_place program.now) (program_of at_place program.now)) 0
+        (program_of at_place program.now).methods }
     ensures ok { IfOk result (λ t. IsTable (program_of no_place program.now) (program_of at_place program.now) t) }
     ensures refused { IfErr result (λ e. IsOver (program_of no_place program.now) (program_of at_place program.now) e) }
 {
@@ -219,7 +229,9 @@ fn number_flow(
     requires table { IsTable (program_of no_place program.now) (program_of at_place program.now) table.now }
     requires bodies { map body_seen bodies.now.items ≡ bodies_of (program_of no_place program.now) (program_of at_place program.now) }
     requires statics { statics.items ≡ each static_points 0 (program_of at_place program.now).fields }
-    requires outlines { map outline_seen outlines.items ≡ each (outline_if (program_of no_place program.now) (program_of at_place program.now)) 0 (program_of at_place program.now).methods }
+    requires outlines { map outline_seen outlines.items
+        ≡ each (outline_if (program_of no_place program.now) (program_of at_place program.now)) 0
+        (program_of at_place program.now).methods }
     ensures ok { IfOk result (λ f. IsFlow (program_of no_place program.now) (program_of at_place program.now) f) }
     ensures refused { IfErr result (λ e. IsOver (program_of no_place program.now) (program_of at_place program.now) e) }
 {

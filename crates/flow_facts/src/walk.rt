@@ -128,7 +128,8 @@ pub fn add(parts: &mut Vec<Part>, part: Part) -> Result<(), AllocError>
 fn fill(parts: &mut Vec<Part>, at: usize, part: Part)
     requires { at < length parts.old.items }
     ensures grown { length parts.new.items ≡ length parts.old.items }
-    ensures parts { (xs ys : List plain.Part) (q : plain.Part) → length xs ≡ at → parts_seen parts.old.items ≡ xs ++ q ∷ ys → parts_seen parts.new.items ≡ xs ++ part_seen part ∷ ys }
+    ensures parts { (xs ys : List plain.Part) (q : plain.Part) → length xs ≡ at → parts_seen parts.old.items
+        ≡ xs ++ q ∷ ys → parts_seen parts.new.items ≡ xs ++ part_seen part ∷ ys }
 {
     parts[at] = part;
 }
@@ -145,7 +146,8 @@ pub fn walk(
     parts: &mut Vec<Part>,
 ) -> Result<Operand, AllocError>
     requires { IsFormed (program_of no_place program.now) }
-    ensures { IfOk result (λ o. IsWalked (program_of no_place program.now) m (method_seen at_place method.now) used (expr_of at_place e.now) parts.old.items parts.new.items o) }
+    ensures { IfOk result (λ o. IsWalked (program_of no_place program.now) m (method_seen at_place method.now)
+        used (expr_of at_place e.now) parts.old.items parts.new.items o) }
 {
     match e {
         RExpr::Int { .. }
@@ -288,7 +290,9 @@ fn add_load(
     requires { IsFormed (program_of no_place program.now) }
     ensures grown { IfOk result (λ o. length parts.new.items ≡ length parts.old.items + 1) }
     ensures value { IfOk result (λ o. o ≡ load_operand (program_of no_place program.now) m (length parts.old.items) base.ty name.now) }
-    ensures parts { IfOk result (λ o. parts_seen parts.new.items ≡ parts_seen parts.old.items ++ plain.a_load place base (object_field (program_of no_place program.now) base.ty name.now) (load_operand (program_of no_place program.now) m (length parts.old.items) base.ty name.now) ∷ []) }
+    ensures parts { IfOk result (λ o. parts_seen parts.new.items ≡ parts_seen parts.old.items
+        ++ plain.a_load place base (object_field (program_of no_place program.now) base.ty name.now)
+        (load_operand (program_of no_place program.now) m (length parts.old.items) base.ty name.now) ∷ []) }
 {
     let field = object_field(program, base.ty, name);
     let (row, ty) = match field {
@@ -316,8 +320,14 @@ fn walk_all(
 ) -> Result<Vec<Operand>, AllocError>
     requires { IsFormed (program_of no_place program.now) }
     ensures grown { IfOk result (λ o. length parts.new.items ≡ length parts.old.items + sizes (exprs at_place args.now.items)) }
-    ensures value { IfOk result (λ o. o.items ≡ operands_of (program_of no_place program.now) (object_type (program_of no_place program.now) (method_seen at_place method.now)) m (method_seen at_place method.now) (label_all (length parts.old.items) (exprs at_place args.now.items))) }
-    ensures parts { IfOk result (λ o. parts_seen parts.new.items ≡ parts_seen parts.old.items ++ plain.parts_all (program_of no_place program.now) (object_type (program_of no_place program.now) (method_seen at_place method.now)) m (method_seen at_place method.now) used (label_all (length parts.old.items) (exprs at_place args.now.items))) }
+    ensures value { IfOk result (λ o. o.items ≡ operands_of (program_of no_place program.now)
+        (object_type (program_of no_place program.now) (method_seen at_place method.now)) m
+        (method_seen at_place method.now)
+        (label_all (length parts.old.items) (exprs at_place args.now.items))) }
+    ensures parts { IfOk result (λ o. parts_seen parts.new.items ≡ parts_seen parts.old.items
+        ++ plain.parts_all (program_of no_place program.now) (object_type (program_of no_place program.now)
+        (method_seen at_place method.now)) m (method_seen at_place method.now) used
+        (label_all (length parts.old.items) (exprs at_place args.now.items))) }
 {
     let mut list = Vec::new(alloc);
     for e in args {
@@ -342,7 +352,16 @@ fn add_call(
     requires { IsFormed (program_of no_place program.now) }
     ensures grown { IfOk result (λ o. length parts.new.items ≡ length parts.old.items + 1 + sizes (exprs at_place args.now.items)) }
     ensures value { IfOk result (λ o. o ≡ call_operand (program_of no_place program.now) m (length parts.old.items) base.ty name.now) }
-    ensures parts { IfOk result (λ o. parts_seen parts.new.items ≡ parts_seen parts.old.items ++ plain.a_call place base (call_slot (program_of no_place program.now) base.ty name.now) (call_declaration (program_of no_place program.now) base.ty name.now) (operands_of (program_of no_place program.now) (object_type (program_of no_place program.now) (method_seen at_place method.now)) m (method_seen at_place method.now) (label_all (length parts.old.items + 1) (exprs at_place args.now.items))) (call_operand (program_of no_place program.now) m (length parts.old.items) base.ty name.now) ∷ plain.parts_all (program_of no_place program.now) (object_type (program_of no_place program.now) (method_seen at_place method.now)) m (method_seen at_place method.now) true (label_all (length parts.old.items + 1) (exprs at_place args.now.items))) }
+    ensures parts { IfOk result (λ o. parts_seen parts.new.items ≡ parts_seen parts.old.items
+        ++ plain.a_call place base (call_slot (program_of no_place program.now) base.ty name.now)
+        (call_declaration (program_of no_place program.now) base.ty name.now)
+        (operands_of (program_of no_place program.now) (object_type (program_of no_place program.now)
+        (method_seen at_place method.now)) m (method_seen at_place method.now)
+        (label_all (length parts.old.items + 1) (exprs at_place args.now.items)))
+        (call_operand (program_of no_place program.now) m (length parts.old.items) base.ty name.now)
+        ∷ plain.parts_all (program_of no_place program.now) (object_type (program_of no_place program.now)
+        (method_seen at_place method.now)) m (method_seen at_place method.now) true
+        (label_all (length parts.old.items + 1) (exprs at_place args.now.items))) }
 {
     let at = parts.len();
     add(parts, Part::Pair(BinOp::Both, NOTHING, NOTHING))?;
@@ -360,7 +379,9 @@ fn add_call(
 
 /// What the call of a slot is.
 fn call_operand(program: &Program, m: u64, label: usize, slot: Option<u32>) -> Operand
-    ensures value { (s : Option ObjectType) (x : List ℕ) → slot ≡ call_slot (program_of no_place program.now) s x → result ≡ call_operand (program_of no_place program.now) m label s x }
+    ensures value { (s : Option ObjectType) (x : List ℕ)
+        → slot ≡ call_slot (program_of no_place program.now) s x
+        → result ≡ call_operand (program_of no_place program.now) m label s x }
 {
     match slot {
         Some(slot) => labelled(
@@ -388,7 +409,15 @@ fn add_static_call(
     requires { IsFormed (program_of no_place program.now) }
     ensures grown { IfOk result (λ o. length parts.new.items ≡ length parts.old.items + 1 + sizes (exprs at_place args.now.items)) }
     ensures value { IfOk result (λ o. o ≡ static_operand (program_of no_place program.now) m (length parts.old.items) callee) }
-    ensures parts { IfOk result (λ o. parts_seen parts.new.items ≡ parts_seen parts.old.items ++ plain.a_static_call place callee (operands_of (program_of no_place program.now) (object_type (program_of no_place program.now) (method_seen at_place method.now)) m (method_seen at_place method.now) (label_all (length parts.old.items + 1) (exprs at_place args.now.items))) (static_operand (program_of no_place program.now) m (length parts.old.items) callee) ∷ plain.parts_all (program_of no_place program.now) (object_type (program_of no_place program.now) (method_seen at_place method.now)) m (method_seen at_place method.now) false (label_all (length parts.old.items + 1) (exprs at_place args.now.items))) }
+    ensures parts { IfOk result (λ o. parts_seen parts.new.items ≡ parts_seen parts.old.items
+        ++ plain.a_static_call place callee (operands_of (program_of no_place program.now)
+        (object_type (program_of no_place program.now) (method_seen at_place method.now)) m
+        (method_seen at_place method.now)
+        (label_all (length parts.old.items + 1) (exprs at_place args.now.items)))
+        (static_operand (program_of no_place program.now) m (length parts.old.items) callee) ∷ plain.parts_all
+        (program_of no_place program.now) (object_type (program_of no_place program.now)
+        (method_seen at_place method.now)) m (method_seen at_place method.now) false
+        (label_all (length parts.old.items + 1) (exprs at_place args.now.items))) }
 {
     let at = parts.len();
     add(parts, Part::Pair(BinOp::Both, NOTHING, NOTHING))?;
@@ -414,7 +443,17 @@ fn add_super_call(
     requires { IsFormed (program_of no_place program.now) }
     ensures grown { IfOk result (λ o. length parts.new.items ≡ length parts.old.items + 1 + sizes (exprs at_place args.now.items)) }
     ensures value { IfOk result (λ o. o ≡ super_operand (program_of no_place program.now) m (length parts.old.items) method.now.owner.0 name.now) }
-    ensures parts { IfOk result (λ o. parts_seen parts.new.items ≡ parts_seen parts.old.items ++ plain.a_super_call place (super_method (program_of no_place program.now) method.now.owner.0 name.now) (operands_of (program_of no_place program.now) (object_type (program_of no_place program.now) (method_seen at_place method.now)) m (method_seen at_place method.now) (label_all (length parts.old.items + 1) (exprs at_place args.now.items))) (super_operand (program_of no_place program.now) m (length parts.old.items) method.now.owner.0 name.now) ∷ plain.parts_all (program_of no_place program.now) (object_type (program_of no_place program.now) (method_seen at_place method.now)) m (method_seen at_place method.now) false (label_all (length parts.old.items + 1) (exprs at_place args.now.items))) }
+    ensures parts { IfOk result (λ o. parts_seen parts.new.items ≡ parts_seen parts.old.items
+        ++ plain.a_super_call place (super_method (program_of no_place program.now) method.now.owner.0
+        name.now) (operands_of (program_of no_place program.now)
+        (object_type (program_of no_place program.now) (method_seen at_place method.now)) m
+        (method_seen at_place method.now)
+        (label_all (length parts.old.items + 1) (exprs at_place args.now.items)))
+        (super_operand (program_of no_place program.now) m (length parts.old.items) method.now.owner.0
+        name.now) ∷ plain.parts_all (program_of no_place program.now)
+        (object_type (program_of no_place program.now) (method_seen at_place method.now)) m
+        (method_seen at_place method.now) false
+        (label_all (length parts.old.items + 1) (exprs at_place args.now.items))) }
 {
     let at = parts.len();
     add(parts, Part::Pair(BinOp::Both, NOTHING, NOTHING))?;
@@ -427,7 +466,8 @@ fn add_super_call(
 
 /// What a super call of a method is.
 fn super_operand(program: &Program, m: u64, label: usize, callee: Option<u32>) -> Operand
-    ensures value { (c : ℕ) (x : List ℕ) → callee ≡ super_method (program_of no_place program.now) c x → result ≡ super_operand (program_of no_place program.now) m label c x }
+    ensures value { (c : ℕ) (x : List ℕ) → callee ≡ super_method (program_of no_place program.now) c x
+        → result ≡ super_operand (program_of no_place program.now) m label c x }
 {
     let row = match slot_of_method(program, callee) {
         Some(slot) => Some(RowItem::Return(slot as u64)),

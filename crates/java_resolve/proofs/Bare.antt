@@ -91,10 +91,28 @@ bare_field f = record { owner = f.owner; name = f.name; is_static = f.is_static;
 
 abbrev pub bare_method : PlainMethod → PlainMethod
 bare_method k =
-    record { owner = k.owner; name = k.name; is_static = k.is_static; is_public = k.is_public; slot = k.slot; params = map bare_local k.params; locals = map bare_local k.locals; result = k.result; body = option_map bare_sts k.body; tag = bare_tag }
+    record {
+      owner = k.owner;
+      name = k.name;
+      is_static = k.is_static;
+      is_public = k.is_public;
+      slot = k.slot;
+      params = map bare_local k.params;
+      locals = map bare_local k.locals;
+      result = k.result;
+      body = option_map bare_sts k.body;
+      tag = bare_tag;
+    }
 
 abbrev pub bare_program : Plain → Plain
-bare_program P = record { classes = map bare_class P.classes; fields = map bare_field P.fields; methods = map bare_method P.methods; slots = P.slots; main = P.main }
+bare_program P = record {
+  classes = map bare_class P.classes;
+  fields = map bare_field P.fields;
+  methods = map bare_method P.methods;
+  slots =
+      P.slots;
+  main = P.main;
+}
 
 -- pairs and longer, part by part
 ap2 : {A B C : Type 0} (f : A → B → C) {a b : A} {c d : B} → a ≡ b → c ≡ d → f a c ≡ f b d
@@ -171,7 +189,8 @@ module _ (tag : Place → Tag) where
 
     bare_ifs : {n : _} (xs : st.Row_of-RArm n) (a b : Arms) → bare_arms a ≡ b → bare_arms (arms_of tag xs a) ≡ arms_of no_place xs b
     bare_ifs st.end_of-RArm a b q = q
-    bare_ifs (st.more_of-RArm t s body rest) a b q = ap2 (λ y z. arm y z (bare_arms (arms_of tag rest a))) (bare_expr t) (bare_stmts body) ∙ ap (λ z. arm (expr_of no_place t) (stmts_of no_place body) z) (bare_ifs rest a b q)
+    bare_ifs (st.more_of-RArm t s body rest) a b q = ap2 (λ y z. arm y z (bare_arms (arms_of tag rest a))) (bare_expr t) (bare_stmts body)
+        ∙ ap (λ z. arm (expr_of no_place t) (stmts_of no_place body) z) (bare_ifs rest a b q)
 
   -- a list of statements
   pub bare_list : (xs : List RStmt) → bare_sts (stmts tag xs) ≡ stmts no_place xs
@@ -189,13 +208,68 @@ map-both f g h e (x ∷ xs) = ap2 (λ y ys. y ∷ ys) (e x) (map-both f g h e xs
 
 bare-method : (m : Method) → bare_method (method_seen at_place m) ≡ method_seen no_place m
 bare-method m =
-    ap (λ z. record { owner = m.owner.0; name = m.name; is_static = m.is_static; is_public = m.is_public; slot = m.slot; params = z; locals = map bare_local (map (local_seen at_place) m.locals.items); result = m.result; body = option_map bare_sts (body_seen at_place m.body); tag = bare_tag }) (map-both (local_seen at_place) bare_local (local_seen no_place) (λ l. refl) m.params.items)
-    ∙ ap (λ z. record { owner = m.owner.0; name = m.name; is_static = m.is_static; is_public = m.is_public; slot = m.slot; params = map (local_seen no_place) m.params.items; locals = z; result = m.result; body = option_map bare_sts (body_seen at_place m.body); tag = bare_tag }) (map-both (local_seen at_place) bare_local (local_seen no_place) (λ l. refl) m.locals.items)
-    ∙ ap (λ z. record { owner = m.owner.0; name = m.name; is_static = m.is_static; is_public = m.is_public; slot = m.slot; params = map (local_seen no_place) m.params.items; locals = map (local_seen no_place) m.locals.items; result = m.result; body = z; tag = bare_tag }) (bare_seen at_place m.body)
+    ap (λ z. record {
+      owner = m.owner.0;
+      name = m.name;
+      is_static = m.is_static;
+      is_public = m.is_public;
+      slot = m.slot;
+      params = z;
+      locals = map
+          bare_local (map (local_seen at_place) m.locals.items);
+      result = m.result;
+      body = option_map bare_sts (body_seen at_place m.body);
+      tag =
+          bare_tag;
+    }) (map-both (local_seen at_place) bare_local (local_seen no_place) (λ l. refl) m.params.items)
+    ∙ ap (λ z. record {
+      owner = m.owner.0;
+      name = m.name;
+      is_static = m.is_static;
+      is_public = m.is_public;
+      slot = m.slot;
+      params = map
+          (local_seen no_place) m.params.items;
+      locals = z;
+      result = m.result;
+      body = option_map bare_sts (body_seen at_place m.body);
+      tag = bare_tag;
+    })
+    (map-both (local_seen at_place) bare_local (local_seen no_place) (λ l. refl) m.locals.items)
+    ∙ ap (λ z. record {
+      owner = m.owner.0;
+      name = m.name;
+      is_static = m.is_static;
+      is_public = m.is_public;
+      slot = m.slot;
+      params = map
+          (local_seen no_place) m.params.items;
+      locals = map (local_seen no_place) m.locals.items;
+      result = m.result;
+      body = z;
+      tag = bare_tag;
+    })
+    (bare_seen at_place m.body)
 
 -- the program without places
 pub bare-program : (p : Program) → bare_program (program_of at_place p) ≡ program_of no_place p
 bare-program p =
-    ap2 (λ y z. record { classes = y; fields = z; methods = map bare_method (map (method_seen at_place) p.methods.items); slots = (program_of at_place p).slots; main = p.main.0 })
-    (map-both (class_seen at_place) bare_class (class_seen no_place) (λ c. refl) p.classes.items) (map-both (field_seen at_place) bare_field (field_seen no_place) (λ f. refl) p.fields.items)
-    ∙ ap (λ z. record { classes = (program_of no_place p).classes; fields = (program_of no_place p).fields; methods = z; slots = (program_of at_place p).slots; main = p.main.0 }) (map-both (method_seen at_place) bare_method (method_seen no_place) bare-method p.methods.items)
+    ap2 (λ y z. record {
+      classes = y;
+      fields = z;
+      methods = map bare_method (map (method_seen at_place) p.methods.items);
+      slots =
+          (program_of at_place p).slots;
+      main = p.main.0;
+    })
+    (map-both (class_seen at_place) bare_class (class_seen no_place) (λ c. refl) p.classes.items) (map-both (field_seen at_place) bare_field
+    (field_seen no_place) (λ f. refl) p.fields.items)
+    ∙ ap (λ z. record {
+      classes = (program_of no_place p).classes;
+      fields = (program_of no_place p).fields;
+      methods = z;
+      slots =
+          (program_of at_place p).slots;
+      main = p.main.0;
+    }) (map-both (method_seen at_place) bare_method (method_seen no_place) bare-method
+    p.methods.items)

@@ -37,7 +37,8 @@ some-is : {A : Type 0} (o : Option A) (x : A) → o ≡ Some x → is_some o ≡
 some-is o x e = ap is_some e
 
 -- the class of a type that has a meaning is there
-means-known : (O : Plain) (b : TypeBase) (x : TyBase) (n : List ℕ) → MeansBase O b x → b ≡ bases.Named n → is_text_type n ≡ false → is_some (class_named O n) ≡ true
+means-known : (O : Plain) (b : TypeBase) (x : TyBase) (n : List ℕ) → MeansBase O b x → b ≡ bases.Named n → is_text_type n ≡ false
+    → is_some (class_named O n) ≡ true
 means-known O bases.Int x n an_int e f = absurd (cc e)
 means-known O bases.Boolean x n a_boolean e f = absurd (cc e)
 means-known O bases.Char x n a_char e f = absurd (cc e)
@@ -53,25 +54,34 @@ of-main {k} {l} e h = let m : IsMain (heading_of k) = record { static = h.static
 -- the first that passes stands before the others
 first-least : {A : Type 0} (p : A → Bool) (xs : List A) (i j : ℕ) (x : A) → position p xs ≡ Some i → slice_get xs j ≡ Some x → p x ≡ true → i ≤ j
 first-least p xs i j x e at f =
-    ⊎_elim (λ lt. absurd (false≢true (sym ((position-Some p xs i x e).2 j lt) ∙ ap p (same_some (sym (slice_get-get_or xs j x (stands-within xs j x at)) ∙ at)) ∙ f))) (λ le. le) (cases_lt j i)
+    ⊎_elim (λ lt. absurd (false≢true (sym ((position-Some p xs i x e).2 j lt)
+    ∙ ap p (same_some (sym (slice_get-get_or xs j x (stands-within xs j x at)) ∙ at)) ∙ f))) (λ le. le) (cases_lt j i)
 
 module _ (tree : List DeclTree) (known : List Known) (are : AreKnown tree known) (cs : List PlainClass) (classes : AreClasses tree known are tree cs)
     (m : Members) (members : AreMembers tree known are (fields_in tree) (methods_in tree) m) where
   all-known : (n : List ℕ) (p : Place) → Asks tree n p → is_some (class_named (outline tree) n) ≡ true
-  all-known n p (by_super (a_parent {d = d} {i = i} at e)) = let s = member-stands tree d at in let h = (classes.supers s.0 d s.1).parent i e in ap is_some h.named
-  all-known n p (by_super (a_face {d = d} {i = i} at e)) = let s = member-stands tree d at in let j = member-stands _ i e in let h = (classes.supers s.0 d s.1).faces j.0 i j.1 in ap is_some h.named
-  all-known n p (by_type {u = u} (of_field {f = f} at) e g) = let s = member-stands (fields_in tree) f at in let h = members.good_field s.0 f s.1 in means-known (outline tree) u.base _ n h.means.base e g
+  all-known n p (by_super (a_parent {d = d} {i = i} at e)) = let s = member-stands tree d at in let h = (classes.supers s.0 d s.1).parent i e in
+      ap is_some h.named
+  all-known n p (by_super (a_face {d = d} {i = i} at e)) =
+      let s = member-stands tree d at in let j = member-stands _ i e in let h = (classes.supers s.0 d s.1).faces j.0 i j.1 in ap is_some h.named
+  all-known n p (by_type {u = u} (of_field {f = f} at) e g) = let s = member-stands (fields_in tree) f at in let h = members.good_field s.0 f s.1 in
+      means-known (outline tree) u.base _ n h.means.base e g
   all-known n p (by_type {u = u} (of_param {m = x} {q = q} at has) e g) =
-      let s = member-stands (methods_in tree) x at in let h = members.good s.0 x s.1 in let j = member-stands x.head.params q has in let k = h.params.means j.0 q j.1 in means-known (outline tree) u.base _ n k.1.base e g
+      let s = member-stands (methods_in tree) x at in let h = members.good s.0 x s.1 in let j = member-stands x.head.params q has in
+      let k = h.params.means j.0 q j.1 in means-known (outline tree) u.base _ n k.1.base e g
   all-known n p (by_type {u = u} (of_result {m = x} at is) e g) =
-      let s = member-stands (methods_in tree) x at in let h = members.good s.0 x s.1 in let k = h.result u is in means-known (outline tree) u.base _ n k.1.base e g
+      let s = member-stands (methods_in tree) x at in let h = members.good s.0 x s.1 in let k = h.result u is in means-known (outline tree) u.base
+      _ n k.1.base e g
 
   module _ (rows : List (List Bool)) (above : AreAbove (outline tree) rows) (ks : List PlainMethod) (n : ℕ)
-      (written : BodiesAre tree known are (resolved_by.table known (outline tree).classes rows m) refl (sees-outline tree known are rows above m members) (methods_in tree) (ks, n)) where
+      (written : BodiesAre tree known are (resolved_by.table known (outline tree).classes rows m) refl
+      (sees-outline tree known are rows above m members) (methods_in tree) (ks, n)) where
     -- each method with its heading
-    pub whole : (i : ℕ) (k : PlainMethod) → slice_get ks i ≡ Some k → (h : Heading) × (x : MethodAt) × (slice_get m.headings i ≡ Some h) × (slice_get (methods_in tree) i ≡ Some x) × (heading_of k ≡ method_outline (types_in tree) x) × (k.slot ≡ h.slot)
+    pub whole : (i : ℕ) (k : PlainMethod) → slice_get ks i ≡ Some k → (h : Heading) × (x : MethodAt) × (slice_get m.headings i ≡ Some h)
+        × (slice_get (methods_in tree) i ≡ Some x) × (heading_of k ≡ method_outline (types_in tree) x) × (k.slot ≡ h.slot)
     whole i k e =
-        let a = map-stands (method_outline (types_in tree)) (methods_in tree) i (heading_of k) (ap (λ z. slice_get z i) (sym written.heads) ∙ stands-map heading_of ks i k e) in
+        let a = map-stands (method_outline (types_in tree)) (methods_in tree) i (heading_of k) (ap (λ z. slice_get z i) (sym written.heads)
+        ∙ stands-map heading_of ks i k e) in
         let b = some-stands tree known are m.headings i (let l = stands-within (methods_in tree) i a.0 a.1 in let c = members.count in omega (arith, l, c)) in
         (b.0, a.0, b.1, a.1, sym a.2, written.slots i k e ∙ ap slot_at b.1)
 
@@ -86,8 +96,10 @@ module _ (tree : List DeclTree) (known : List Known) (are : AreKnown tree known)
     pub slots-are : (P : Plain) → P.methods ≡ ks → P.slots ≡ m.slots → AreSlots P
     slots-are P methods slots = record {
       each = λ i k e. let a = whole i k (ap (λ z. slice_get z i) (sym methods) ∙ e) in has i k a.0 a.1 a.4 a.5 (members.slots.each i a.0 a.1 a.2 a.3);
-      first = λ s slot e. let a = members.slots.first s slot (ap (λ z. slice_get z s) (sym slots) ∙ e) in let b = method-at slot.first a.0 a.1 in (b.0, ap (λ z. slice_get z slot.first) methods ∙ b.1, b.2 ∙ a.2);
-      least = λ s i slot k e f g. let a = whole i k (ap (λ z. slice_get z i) (sym methods) ∙ f) in members.slots.least s i slot a.0 (ap (λ z. slice_get z s) (sym slots) ∙ e) a.2 (sym a.5 ∙ g);
+      first = λ s slot e. let a = members.slots.first s slot (ap (λ z. slice_get z s) (sym slots) ∙ e) in let b = method-at slot.first a.0 a.1 in
+          (b.0, ap (λ z. slice_get z slot.first) methods ∙ b.1, b.2 ∙ a.2);
+      least = λ s i slot k e f g. let a = whole i k (ap (λ z. slice_get z i) (sym methods) ∙ f) in members.slots.least s i slot a.0
+          (ap (λ z. slice_get z s) (sym slots) ∙ e) a.2 (sym a.5 ∙ g);
       apart = λ r s a b e f. members.slots.apart r s a b (ap (λ z. slice_get z r) (sym slots) ∙ e) (ap (λ z. slice_get z s) (sym slots) ∙ f);
       order = λ r s a b e f. members.slots.order r s a b (ap (λ z. slice_get z r) (sym slots) ∙ e) (ap (λ z. slice_get z s) (sym slots) ∙ f);
     }
@@ -95,14 +107,17 @@ module _ (tree : List DeclTree) (known : List Known) (are : AreKnown tree known)
         of-slot : (slot : PlainSlot) (k l : PlainMethod) → heading_of k ≡ l → IsOfSlot slot l → IsOfSlot slot k
         of-slot slot k l e g = let h = subst (IsOfSlot slot) (sym e) g in record { name = h.name; params = h.params; result = h.result }
 
-        has : (i : ℕ) (k : PlainMethod) (h : Heading) (x : MethodAt) → heading_of k ≡ method_outline (types_in tree) x → k.slot ≡ h.slot → SlotOf (types_in tree) m.slots h x → HasSlot P k
+        has : (i : ℕ) (k : PlainMethod) (h : Heading) (x : MethodAt) → heading_of k ≡ method_outline (types_in tree) x → k.slot ≡ h.slot
+            → SlotOf (types_in tree) m.slots h x → HasSlot P k
         has i k h x e f (none_of a b) = no_slot (ap (λ z. z.is_static) e ∙ a) (f ∙ b)
-        has i k h x e f (one_of {s = s} {slot = slot} a b c d) = a_slot (ap (λ z. z.is_static) e ∙ a) (f ∙ b) (ap (λ z. slice_get z s) slots ∙ c) (of-slot slot k (method_outline (types_in tree) x) e d)
+        has i k h x e f (one_of {s = s} {slot = slot} a b c d) = a_slot (ap (λ z. z.is_static) e ∙ a) (f ∙ b) (ap (λ z. slice_get z s) slots
+            ∙ c) (of-slot slot k (method_outline (types_in tree) x) e d)
 
     pub program-resolves : (i : ℕ) → IsFirstMain tree known are rows above (fields_in tree) m members i → Resolves tree (program (outline tree).classes m i ks)
     unfolding outline
     program-resolves i first =
-        let x = some-stands tree known are ks i (let l = stands-within (methods_in tree) i first.method first.stands in let c = members.count in omega (arith, l, c, size)) in
+        let x = some-stands tree known are ks i (let l = stands-within (methods_in tree) i first.method first.stands in let c = members.count in omega
+        (arith, l, c, size)) in
         let w = whole i x.0 x.1 in
         record {
           known = all-known;
@@ -116,5 +131,6 @@ module _ (tree : List DeclTree) (known : List Known) (are : AreKnown tree known)
           main = x.0;
           main_stands = x.1;
           main_is = main-of w.4 (subst (λ z. IsMain (method_outline (types_in tree) z)) (same_some (sym first.stands ∙ w.3)) first.is);
-          main_first = λ j k e is. let v = whole j k e in first-least (λ h. h.is_main) m.headings i j v.0 first.first v.2 ((members.heads j v.0 v.1 v.2 v.3).no_main (of-main v.4 is));
+          main_first = λ j k e is. let v = whole j k e in first-least (λ h. h.is_main) m.headings i j v.0 first.first v.2
+              ((members.heads j v.0 v.1 v.2 v.3).no_main (of-main v.4 is));
         }

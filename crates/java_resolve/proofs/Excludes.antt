@@ -26,9 +26,11 @@ use Rattle.java_resolve.proofs.Sees.{bound-local, same_some}
 abbrev pub OneMet : Plain → Type 0
 OneMet O = (c : ℕ) (n : List ℕ) (l m : ℕ) (h k : PlainMethod) → IsMet O c n l h → IsMet O c n m k → (l ≡ m) ⊎ ((h.is_static ≡ false) × (k.is_static ≡ false))
 
-pub one-met : (O : Plain) → ((c i j : ℕ) (h k : PlainMethod) → slice_get O.methods i ≡ Some h → slice_get O.methods j ≡ Some k → i < j → h.name ≡ k.name → IsSubclass O c h.owner → IsSubclass O c k.owner → (AreOneSlot h k → ⊥) → ⊥) → OneMet O
+pub one-met : (O : Plain) → ((c i j : ℕ) (h k : PlainMethod) → slice_get O.methods i ≡ Some h → slice_get O.methods j ≡ Some k → i < j
+    → h.name ≡ k.name → IsSubclass O c h.owner → IsSubclass O c k.owner → (AreOneSlot h k → ⊥) → ⊥) → OneMet O
 one-met O none c x i j h k a b =
-    ⊎_elim (λ lt. two i j h k a b lt) (λ le. ⊎_elim (λ lt. ⊎_elim (λ e. inl (sym e)) (λ e. inr (e.1, e.0)) (two j i k h b a lt)) (λ ge. inl (omega (arith, le, ge))) (cases_lt j i)) (cases_lt i j)
+    ⊎_elim (λ lt. two i j h k a b lt) (λ le. ⊎_elim (λ lt. ⊎_elim (λ e. inl (sym e)) (λ e. inr (e.1, e.0)) (two j i k h b a lt))
+    (λ ge. inl (omega (arith, le, ge))) (cases_lt j i)) (cases_lt i j)
   where
     two : (i j : ℕ) (h k : PlainMethod) → IsMet O c x i h → IsMet O c x j k → i < j → (i ≡ j) ⊎ ((h.is_static ≡ false) × (k.is_static ≡ false))
     two i j h k a b lt = go h.is_static refl k.is_static refl
@@ -58,12 +60,14 @@ module _ (O : Plain) (here : Here) (scope : List Bound) where
       go false d = false≢true d
 
   -- a simple name that resolves is no class's, and holds no condition
-  pub name-class : {n : List ℕ} {p : Place} {x : Ex} → ResolvesTo O here scope (NameRef n p) x → is_class_name O here.owner (bound_names scope) (NameRef n p) ≡ true → ⊥
+  pub name-class : {n : List ℕ} {p : Place} {x : Ex} → ResolvesTo O here scope (NameRef n p) x → is_class_name O here.owner (bound_names scope)
+      (NameRef n p) ≡ true → ⊥
   name-class {n} {p} (r_local {i = i} e) c = bound-class n p i e c
   name-class {n} {p} (r_static_field {f = f} e near s o) c = field-class n p f near.nearest c
   name-class {n} {p} (r_own_field {f = f} e near s o) c = field-class n p f near.nearest c
 
-  pub name-holds : {n : List ℕ} {p : Place} {x : Ex} {r : Refusal} → ResolvesTo O here scope (NameRef n p) x → FaultIn O here (bound_names scope) (NameRef n p) r → ⊥
+  pub name-holds : {n : List ℕ} {p : Place} {x : Ex} {r : Refusal} → ResolvesTo O here scope (NameRef n p) x
+      → FaultIn O here (bound_names scope) (NameRef n p) r → ⊥
   name-holds h (no_variable c) = name-class h c
   name-holds {n} (r_local {i = i} e) (static_above b near s o) = false≢true (sym b ∙ bound-local scope n i e)
   name-holds (r_static_field e near s o) (static_above b other t q) = q (sym (ap (λ z. z.owner) (one-nearest near other)) ∙ o)
@@ -90,7 +94,8 @@ module _ (O : Plain) (here : Here) (scope : List Bound) where
 
   module _ (one : OneMet O) where
     same-static : {n : List ℕ} {l m : ℕ} {h k : PlainMethod} → IsMet O here.owner n l h → IsMet O here.owner n m k → h.is_static ≡ true → h ≡ k
-    same-static {n} {l} {m} {h} {k} a b s = ⊎_elim (λ e. same_some (sym a.stands ∙ ap (slice_get O.methods) e ∙ b.stands)) (λ e. absurd (false≢true (sym e.0 ∙ s))) (one here.owner n l m h k a b)
+    same-static {n} {l} {m} {h} {k} a b s = ⊎_elim (λ e. same_some (sym a.stands ∙ ap (slice_get O.methods) e ∙ b.stands))
+        (λ e. absurd (false≢true (sym e.0 ∙ s))) (one here.owner n l m h k a b)
 
     mutual
       pub holds : {e : Expression} {x : Ex} {r : Refusal} → FaultIn O here (bound_names scope) e r → ResolvesTo O here scope e x → ⊥

@@ -17,34 +17,41 @@ use Rattle.java_resolve.proofs.Excludes.{OneMet, type-holds, holds}
 module _ (O : Plain) (here : Here) (k : PlainMethod) (one : OneMet O) where
   -- ---- expressions
 
-  expr-holds : {scope : List Bound} {names : List (List ℕ)} {e : Expression} {x : Ex} {r : Refusal} → names ≡ bound_names scope → FaultIn O here names e r → ResolvesTo O here scope e x → ⊥
+  expr-holds : {scope : List Bound} {names : List (List ℕ)} {e : Expression} {x : Ex} {r : Refusal} → names ≡ bound_names scope
+      → FaultIn O here names e r → ResolvesTo O here scope e x → ⊥
   expr-holds {scope} {names} {e} {x} {r} q f h = holds O here scope one (subst (λ z. FaultIn O here z e r) q f) h
 
-  value-holds : {scope : List Bound} {names : List (List ℕ)} {v : Option Expression} {x : Option Ex} {r : Refusal} → names ≡ bound_names scope → FaultInValue O here names v r → ResolvesIf O here scope v x → ⊥
+  value-holds : {scope : List Bound} {names : List (List ℕ)} {v : Option Expression} {x : Option Ex} {r : Refusal} → names ≡ bound_names scope
+      → FaultInValue O here names v r → ResolvesIf O here scope v x → ⊥
   value-holds q (in_value f) (r_some h) = expr-holds q f h
 
   -- ---- scopes
 
-  bound-more : (scope : List Bound) (names : List (List ℕ)) (n : List ℕ) (i : ℕ) → names ≡ bound_names scope → names ++ n ∷ [] ≡ bound_names (scope ++ record { name = n; number = i } ∷ [])
+  bound-more : (scope : List Bound) (names : List (List ℕ)) (n : List ℕ) (i : ℕ) → names ≡ bound_names scope
+      → names ++ n ∷ [] ≡ bound_names (scope ++ record { name = n; number = i } ∷ [])
   bound-more scope names n i q = ap (λ z. z ++ n ∷ []) q ∙ sym (map-append (λ b. b.name) scope (record { name = n; number = i } ∷ []))
 
-  after-names : {inside : Bool} {scope : List Bound} {names : List (List ℕ)} {s : Statement} {x : St} → names ≡ bound_names scope → StResolves O here k inside scope s x → names_after names s ≡ bound_names (scope_after scope s x)
+  after-names : {inside : Bool} {scope : List Bound} {names : List (List ℕ)} {s : Statement} {x : St} → names ≡ bound_names scope
+      → StResolves O here k inside scope s x → names_after names s ≡ bound_names (scope_after scope s x)
   after-names {scope = scope} {names = names} q (r_declare {n = n} {i = i} l v) = bound-more scope names n i q
   after-names q _ = q
 
-  part-names : {inside : Bool} {scope : List Bound} {names : List (List ℕ)} {s : OptionalStatement} {xs : Sts} → names ≡ bound_names scope → PartResolves O here k inside scope s xs → names_after_part names s ≡ bound_names (scope_after_part scope s xs)
+  part-names : {inside : Bool} {scope : List Bound} {names : List (List ℕ)} {s : OptionalStatement} {xs : Sts} → names ≡ bound_names scope
+      → PartResolves O here k inside scope s xs → names_after_part names s ≡ bound_names (scope_after_part scope s xs)
   part-names q r_absent = q
   part-names q (r_present h) = after-names q h
 
   -- the `else` behind some arms
-  else-resolves : {inside : Bool} {scope : List Bound} {a : tree.Arms} {ss : Statements} {xs : Arms} → ArmsResolve O here k inside scope a (tree.otherwise ss) xs → (ys : Sts) × StsResolve O here k inside scope ss ys
+  else-resolves : {inside : Bool} {scope : List Bound} {a : tree.Arms} {ss : Statements} {xs : Arms}
+      → ArmsResolve O here k inside scope a (tree.otherwise ss) xs → (ys : Sts) × StsResolve O here k inside scope ss ys
   else-resolves (r_else {xs = xs} h) = (xs, h)
   else-resolves (r_arm t h more) = else-resolves more
 
   -- ---- statements
 
   mutual
-    pub st-holds : {inside : Bool} {scope : List Bound} {names : List (List ℕ)} {s : Statement} {x : St} {r : Refusal} → names ≡ bound_names scope → StFault O here inside names s r → StResolves O here k inside scope s x → ⊥
+    pub st-holds : {inside : Bool} {scope : List Bound} {names : List (List ℕ)} {s : Statement} {x : St} {r : Refusal} → names ≡ bound_names scope
+        → StFault O here inside names s r → StResolves O here k inside scope s x → ⊥
     st-holds {scope = scope} q (no_type_of_local {u = u} {r = r} f) (r_declare l v) = type-holds O here scope u u.base l.ty.base r refl l.means.base f
     st-holds q (type_as_local f) (r_declare l v) = false≢true (sym l.no_type ∙ f)
     st-holds q (local_twice {n = n} f) (r_declare l v) = false≢true (sym l.fresh ∙ ap (λ z. is_bound z n) (sym q) ∙ f)
@@ -66,14 +73,17 @@ module _ (O : Plain) (here : Here) (k : PlainMethod) (one : OneMet O) where
     st-holds q break_outside h = elim h [ ]
     st-holds q continue_outside h = elim h [ ]
 
-    pub sts-holds : {inside : Bool} {scope : List Bound} {names : List (List ℕ)} {ss : Statements} {xs : Sts} {r : Refusal} → names ≡ bound_names scope → StsFault O here inside names ss r → StsResolve O here k inside scope ss xs → ⊥
+    pub sts-holds : {inside : Bool} {scope : List Bound} {names : List (List ℕ)} {ss : Statements} {xs : Sts} {r : Refusal}
+        → names ≡ bound_names scope → StsFault O here inside names ss r → StsResolve O here k inside scope ss xs → ⊥
     sts-holds q (in_statement f) (r_and_then h hs) = st-holds q f h
     sts-holds q (in_rest f) (r_and_then h hs) = sts-holds (after-names q h) f hs
 
-    arms-hold : {inside : Bool} {scope : List Bound} {names : List (List ℕ)} {a : tree.Arms} {o : tree.Else} {xs : Arms} {r : Refusal} → names ≡ bound_names scope → ArmsFault O here inside names a r → ArmsResolve O here k inside scope a o xs → ⊥
+    arms-hold : {inside : Bool} {scope : List Bound} {names : List (List ℕ)} {a : tree.Arms} {o : tree.Else} {xs : Arms} {r : Refusal}
+        → names ≡ bound_names scope → ArmsFault O here inside names a r → ArmsResolve O here k inside scope a o xs → ⊥
     arms-hold q (in_test f) (r_arm t h more) = expr-holds q f t
     arms-hold q (in_arm f) (r_arm t h more) = sts-holds q f h
     arms-hold q (in_more_arms f) (r_arm t h more) = arms-hold q f more
 
-    part-holds : {inside : Bool} {scope : List Bound} {names : List (List ℕ)} {s : OptionalStatement} {xs : Sts} {r : Refusal} → names ≡ bound_names scope → PartFault O here inside names s r → PartResolves O here k inside scope s xs → ⊥
+    part-holds : {inside : Bool} {scope : List Bound} {names : List (List ℕ)} {s : OptionalStatement} {xs : Sts} {r : Refusal}
+        → names ≡ bound_names scope → PartFault O here inside names s r → PartResolves O here k inside scope s xs → ⊥
     part-holds q (in_part f) (r_present h) = st-holds q f h

@@ -25,7 +25,8 @@ told tree o g e = subst (Tells (ResolvesFormed tree) (ConditionAt tree)) e (reso
 pub resolves_ok : (tree : List DeclTree) (p : Program) → IsFormedTree tree → resolved tree ≡ Ok (program_of at_place p) → Resolves tree (program_of at_place p)
 resolves_ok tree p g e = (told tree (Ok (program_of at_place p)) g e).resolves
 
-pub formed_ok : (tree : List DeclTree) (p : Program) → IsFormedTree tree → resolved tree ≡ Ok (program_of at_place p) → AreCounted (program_of no_place p) → IsFormed (program_of no_place p)
+pub formed_ok : (tree : List DeclTree) (p : Program) → IsFormedTree tree → resolved tree ≡ Ok (program_of at_place p)
+    → AreCounted (program_of no_place p) → IsFormed (program_of no_place p)
 formed_ok tree p g e c = subst IsFormed (bare-program p) ((told tree (Ok (program_of at_place p)) g e).formed (subst AreCounted (sym (bare-program p)) c))
 
 pub none_ok : (tree : List DeclTree) (p : Program) → IsFormedTree tree → resolved tree ≡ Ok (program_of at_place p) → HasNoCondition tree
@@ -42,7 +43,8 @@ cause tree refusals.NoMain g e = told tree (Err refusals.NoMain) g e
 cause tree (refusals.NotInProfile f p) g e = told tree (Err (refusals.NotInProfile f p)) g e
 cause tree refusals.Memory g e = tt
 
-pub counted : (p : Program) → length p.classes.items < 4294967295 → length p.fields.items < 4294967295 → length p.methods.items < 4294967295 → length p.slots.items < 4294967295 → AreCounted (program_of no_place p)
+pub counted : (p : Program) → length p.classes.items < 4294967295 → length p.fields.items < 4294967295 → length p.methods.items < 4294967295
+    → length p.slots.items < 4294967295 → AreCounted (program_of no_place p)
 counted p a b c d =
     record {
       classes = omega (arith, a, length-map p.classes.items (class_seen no_place));

@@ -41,7 +41,8 @@ pub record Suits (O : Plain) (here : Here) (K : PlainMethod) (Q : Plain) (k : Pl
   pub static_method : (m : ℕ) (x : PlainMethod) → slice_get O.methods m ≡ Some x → x.is_static ≡ true → IsStaticMethod Q m
   pub static : k.is_static ≡ here.is_static
   pub params : length k.params ≡ length K.params
-  pub variable : (i : ℕ) (v : PlainLocal) → slice_get (variables_of K) i ≡ Some v → (w : PlainLocal) × (slice_get (variables_of k) i ≡ Some w) × (w.name ≡ v.name)
+  pub variable : (i : ℕ) (v : PlainLocal) → slice_get (variables_of K) i ≡ Some v → (w : PlainLocal) × (slice_get (variables_of k) i ≡ Some w)
+      × (w.name ≡ v.name)
   pub back : (i : ℕ) (w : PlainLocal) → slice_get (variables_of k) i ≡ Some w → (v : PlainLocal) × (slice_get (variables_of K) i ≡ Some v) × (v.name ≡ w.name)
 
 -- the names in scope and their numbers
@@ -57,9 +58,12 @@ local_of-last [] b n i e = go (bytes_eq b.name n) e
     go false e = absurd (cc e)
 local_of-last (x ∷ scope) b n i e = go (bytes_eq x.name n) refl (local_of-last scope b n i)
   where
-    go : (c : Bool) → bytes_eq x.name n ≡ c → (local_of n (scope ++ b ∷ []) ≡ Some i → (local_of n scope ≡ Some i) ⊎ (b.number ≡ i)) → (local_of n (x ∷ scope) ≡ Some i) ⊎ (b.number ≡ i)
-    go true f more = inl (ap (λ z. if z then Some x.number else local_of n scope) f ∙ sym (ap (λ z. if z then Some x.number else local_of n (scope ++ b ∷ [])) f) ∙ e)
-    go false f more = ⊎_elim (λ h. inl (ap (λ z. if z then Some x.number else local_of n scope) f ∙ h)) (λ h. inr h) (more (sym (ap (λ z. if z then Some x.number else local_of n (scope ++ b ∷ [])) f) ∙ e))
+    go : (c : Bool) → bytes_eq x.name n ≡ c → (local_of n (scope ++ b ∷ []) ≡ Some i → (local_of n scope ≡ Some i) ⊎ (b.number ≡ i))
+        → (local_of n (x ∷ scope) ≡ Some i) ⊎ (b.number ≡ i)
+    go true f more = inl (ap (λ z. if z then Some x.number else local_of n scope) f
+        ∙ sym (ap (λ z. if z then Some x.number else local_of n (scope ++ b ∷ [])) f) ∙ e)
+    go false f more = ⊎_elim (λ h. inl (ap (λ z. if z then Some x.number else local_of n scope) f ∙ h)) (λ h. inr h)
+        (more (sym (ap (λ z. if z then Some x.number else local_of n (scope ++ b ∷ [])) f) ∙ e))
 
 pub contains-more : (xs : List ℕ) (i j : ℕ) → Contains xs j → Contains (i ∷ xs) j
 contains-more xs i j h = (suc h.0, (let l = h.1 in omega (arith, l)), h.2)
@@ -71,15 +75,19 @@ contains-cases xs i j h = go h.0 h.1 h.2
     go zero l e = inl e
     go (suc a) l e = inr (a, (let m = l in omega (arith, m)), e)
 
-pub scope-more : {k : PlainMethod} {scope : List Bound} {nums : List ℕ} (n : List ℕ) (i : ℕ) (w : PlainLocal) → ScopeIs k scope nums → slice_get (variables_of k) i ≡ Some w → w.name ≡ n → ScopeIs k (bound scope n i) (i ∷ nums)
+pub scope-more : {k : PlainMethod} {scope : List Bound} {nums : List ℕ} (n : List ℕ) (i : ℕ) (w : PlainLocal) → ScopeIs k scope nums
+    → slice_get (variables_of k) i ≡ Some w → w.name ≡ n → ScopeIs k (bound scope n i) (i ∷ nums)
 scope-more {k} {scope} {nums} n i w s at same = record {
   found = λ m j e. ⊎_elim
       (λ h. let f = s.found m j h in (contains-more nums i j f.0, f.1))
       (λ h. (subst (λ z. Contains (i ∷ nums) z) h (0, omega arith, refl), subst (λ z. z < length (variables_of k)) h (stands-within (variables_of k) i w at)))
       (local_of-last scope (record { name = n; number = i }) m j e);
-  named = λ j v c e. ap (λ z. is_bound z v.name) (map-append (λ b. b.name) scope (record { name = n; number = i } ∷ [])) ∙ list_any-append (λ m. bytes_eq m v.name) (bound_names scope) (n ∷ [])
+  named = λ j v c e. ap (λ z. is_bound z v.name) (map-append (λ b. b.name) scope (record { name = n; number = i } ∷ []))
+      ∙ list_any-append (λ m. bytes_eq m v.name) (bound_names scope) (n ∷ [])
       ∙ ⊎_elim
-      (λ h. or_right (is_bound (bound_names scope) v.name) (is_bound (n ∷ []) v.name) (or_left (bytes_eq n v.name) false ((bytes_eq-Decides n v.name).1 (sym same ∙ ap (λ z. z.name) (same_some (sym at ∙ subst (λ z. slice_get (variables_of k) z ≡ Some v) (sym h) e))))))
+      (λ h. or_right (is_bound (bound_names scope) v.name) (is_bound (n ∷ []) v.name)
+      (or_left (bytes_eq n v.name) false ((bytes_eq-Decides n v.name).1 (sym same
+      ∙ ap (λ z. z.name) (same_some (sym at ∙ subst (λ z. slice_get (variables_of k) z ≡ Some v) (sym h) e))))))
       (λ h. or_left (is_bound (bound_names scope) v.name) (is_bound (n ∷ []) v.name) (s.named j v h e))
       (contains-cases nums i j c);
 }
@@ -166,7 +174,8 @@ module _ (O : Plain) (here : Here) (K : PlainMethod) (Q : Plain) (k : PlainMetho
   -- ---- statements
 
   -- the numbers in scope after a statement
-  after-scope : {in_loop : Bool} {scope : List Bound} {nums : List ℕ} {x : Statement} {y : St} → StResolves O here K in_loop scope x y → ScopeIs k scope nums → ScopeIs k (scope_after scope x y) (core.scope_after nums (bare_st y))
+  after-scope : {in_loop : Bool} {scope : List Bound} {nums : List ℕ} {x : Statement} {y : St} → StResolves O here K in_loop scope x y
+      → ScopeIs k scope nums → ScopeIs k (scope_after scope x y) (core.scope_after nums (bare_st y))
   after-scope (r_declare {n = n} {i = i} l v) s = let w = suits.variable i _ l.stands in scope-more n i w.0 s w.1 w.2
   after-scope (r_block h) s = s
   after-scope (r_assign h i) s = s
@@ -179,11 +188,13 @@ module _ (O : Plain) (here : Here) (K : PlainMethod) (Q : Plain) (k : PlainMetho
   after-scope r_break s = s
   after-scope r_continue s = s
 
-  part-scope : {in_loop : Bool} {scope : List Bound} {nums : List ℕ} {x : OptionalStatement} {ys : Sts} → PartResolves O here K in_loop scope x ys → ScopeIs k scope nums → ScopeIs k (scope_after_part scope x ys) (core.scope_after_all nums (bare_sts ys))
+  part-scope : {in_loop : Bool} {scope : List Bound} {nums : List ℕ} {x : OptionalStatement} {ys : Sts} → PartResolves O here K in_loop scope x ys
+      → ScopeIs k scope nums → ScopeIs k (scope_after_part scope x ys) (core.scope_after_all nums (bare_sts ys))
   part-scope r_absent s = s
   part-scope (r_present h) s = after-scope h s
 
-  act-formed : {in_loop : Bool} {scope : List Bound} {x : Statement} {y : St} → StResolves O here K in_loop scope x y → is_act x ≡ true → core.is_act (bare_st y) ≡ true
+  act-formed : {in_loop : Bool} {scope : List Bound} {x : Statement} {y : St} → StResolves O here K in_loop scope x y → is_act x ≡ true
+      → core.is_act (bare_st y) ≡ true
   act-formed (r_assign h i) e = refl
   act-formed (r_act h) e = refl
   act-formed (r_print h) e = refl
@@ -196,7 +207,8 @@ module _ (O : Plain) (here : Here) (K : PlainMethod) (Q : Plain) (k : PlainMetho
   act-formed r_break e = absurd (false≢true e)
   act-formed r_continue e = absurd (false≢true e)
 
-  first-formed : {in_loop : Bool} {scope : List Bound} {x : Statement} {y : St} → StResolves O here K in_loop scope x y → is_simple x ≡ true → is_first (bare_st y) ≡ true
+  first-formed : {in_loop : Bool} {scope : List Bound} {x : Statement} {y : St} → StResolves O here K in_loop scope x y → is_simple x ≡ true
+      → is_first (bare_st y) ≡ true
   first-formed (r_declare l v) e = refl
   first-formed (r_assign h i) e = refl
   first-formed (r_act h) e = refl
@@ -221,7 +233,8 @@ module _ (O : Plain) (here : Here) (K : PlainMethod) (Q : Plain) (k : PlainMetho
   behind-right [] ys h = h
   behind-right (x ∷ xs) ys h = behind-right xs ys h.1
 
-  new-local : {scope : List Bound} {nums : List ℕ} {u : TypeName} {n : List ℕ} {p : Place} {i : ℕ} → IsLocal O K scope u n p i → ScopeIs k scope nums → length K.params ≤ i → IsNewLocal k nums i
+  new-local : {scope : List Bound} {nums : List ℕ} {u : TypeName} {n : List ℕ} {p : Place} {i : ℕ} → IsLocal O K scope u n p i → ScopeIs k scope nums
+      → length K.params ≤ i → IsNewLocal k nums i
   new-local {scope} {nums} {n = n} {i = i} l s b =
       let w = suits.variable i _ l.stands in
       record {
@@ -231,13 +244,16 @@ module _ (O : Plain) (here : Here) (K : PlainMethod) (Q : Plain) (k : PlainMetho
         other = λ j v c e same. false≢true (sym l.fresh ∙ ap (is_bound (bound_names scope)) (sym w.2 ∙ sym same) ∙ s.named j v c e);
       }
 
-  printed : (line : Bool) {scope : List Bound} {v : Option Expression} {x : Option Ex} → ResolvesIf O here scope v x → (line || is_some v) ≡ true → line || is_some (bare_if x) ≡ true
+  printed : (line : Bool) {scope : List Bound} {v : Option Expression} {x : Option Ex} → ResolvesIf O here scope v x → (line || is_some v) ≡ true
+      → line || is_some (bare_if x) ≡ true
   printed line r_none e = e
   printed line (r_some h) e = e
 
   mutual
-    pub formed-st : {in_loop : Bool} {scope : List Bound} {nums : List ℕ} {x : Statement} {y : St} → StResolves O here K in_loop scope x y → ScopeIs k scope nums → IsFormedStmt x → Behind (declares y) → FormedSt Q k in_loop nums (bare_st y)
-    formed-st (r_declare {n = n} {i = i} l v) s g b = let w = suits.variable i _ l.stands in f_declare (new-local l s b.0) (formed-if _ _ (scope-more n i w.0 s w.1 w.2) v g.2)
+    pub formed-st : {in_loop : Bool} {scope : List Bound} {nums : List ℕ} {x : Statement} {y : St} → StResolves O here K in_loop scope x y
+        → ScopeIs k scope nums → IsFormedStmt x → Behind (declares y) → FormedSt Q k in_loop nums (bare_st y)
+    formed-st (r_declare {n = n} {i = i} l v) s g b = let w = suits.variable i _ l.stands in f_declare (new-local l s b.0)
+        (formed-if _ _ (scope-more n i w.0 s w.1 w.2) v g.2)
     formed-st (r_block h) s g b = f_block (formed-sts h s g b)
     formed-st (r_assign {e = e} {x = x} h i) s g b = f_assign (formed-target _ _ s e x g.0 h g.1) (formed _ _ s i g.2)
     formed-st (r_act {e = e} {x = x} h) s g b = f_act (formed-call _ _ s e x g.0 h) (formed _ _ s h g.1)
@@ -246,42 +262,58 @@ module _ (O : Plain) (here : Here) (K : PlainMethod) (Q : Plain) (k : PlainMetho
     formed-st (r_while {x = x} h i) s g b = f_loop of_while refl refl f_no_st (f_some (formed _ _ s h g.0)) f_no_st (formed-sts i s g.1 b)
     formed-st (r_for {first = first} {step = step} {xs = xs} f v t h) s g b =
         let u = part-scope f s in
-        f_loop of_for (first-part f g.0) (last-part t g.2) (formed-first f s g.0 (behind-left (declares_all first) (declares_all step) (behind-left (declares_all first ++ declares_all step) (declares_all xs) b)))
-        (formed-if _ _ u v g.1) (formed-step t u g.2 (behind-right (declares_all first) (declares_all step) (behind-left (declares_all first ++ declares_all step) (declares_all xs) b)))
+        f_loop of_for (first-part f g.0) (last-part t g.2)
+        (formed-first f s g.0 (behind-left (declares_all first) (declares_all step) (behind-left (declares_all first ++ declares_all step)
+        (declares_all xs) b)))
+        (formed-if _ _ u v g.1) (formed-step t u g.2 (behind-right (declares_all first) (declares_all step)
+        (behind-left (declares_all first ++ declares_all step) (declares_all xs) b)))
         (formed-sts h u g.3 (behind-right (declares_all first ++ declares_all step) (declares_all xs) b))
     formed-st (r_return h) s g b = f_return (formed-if _ _ s h g)
     formed-st r_break s g b = f_break refl
     formed-st r_continue s g b = f_continue refl
 
-    pub formed-sts : {in_loop : Bool} {scope : List Bound} {nums : List ℕ} {xs : Statements} {ys : Sts} → StsResolve O here K in_loop scope xs ys → ScopeIs k scope nums → AreFormedStmts xs → Behind (declares_all ys) → FormedSts Q k in_loop nums (bare_sts ys)
+    pub formed-sts : {in_loop : Bool} {scope : List Bound} {nums : List ℕ} {xs : Statements} {ys : Sts} → StsResolve O here K in_loop scope xs ys
+        → ScopeIs k scope nums → AreFormedStmts xs → Behind (declares_all ys) → FormedSts Q k in_loop nums (bare_sts ys)
     formed-sts r_no_statements s g b = f_no_st
-    formed-sts (r_and_then {x = x} {xs = xs} h hs) s g b = f_st_then (formed-st h s g.0 (behind-left (declares x) (declares_all xs) b)) (formed-sts hs (after-scope h s) g.1 (behind-right (declares x) (declares_all xs) b))
+    formed-sts (r_and_then {x = x} {xs = xs} h hs) s g b = f_st_then (formed-st h s g.0 (behind-left (declares x) (declares_all xs) b))
+        (formed-sts hs (after-scope h s) g.1 (behind-right (declares x) (declares_all xs) b))
 
-    formed-arms : {in_loop : Bool} {scope : List Bound} {nums : List ℕ} {a : tree.Arms} {other : Else} {ys : Arms} → ArmsResolve O here K in_loop scope a other ys → ScopeIs k scope nums → AreFormedArms a → IsFormedElse other → Behind (declares_arms ys) → FormedArms Q k in_loop nums (bare_arms ys)
+    formed-arms : {in_loop : Bool} {scope : List Bound} {nums : List ℕ} {a : tree.Arms} {other : Else} {ys : Arms}
+        → ArmsResolve O here K in_loop scope a other ys → ScopeIs k scope nums → AreFormedArms a → IsFormedElse other → Behind (declares_arms ys)
+        → FormedArms Q k in_loop nums (bare_arms ys)
     formed-arms r_no_else s g e b = f_no_other
     formed-arms (r_else h) s g e b = f_otherwise (formed-sts h s e b)
-    formed-arms (r_arm {xs = xs} {more = more} h i hs) s g e b = f_arm (formed _ _ s h g.0) (formed-sts i s g.1 (behind-left (declares_all xs) (declares_arms more) b)) (formed-arms hs s g.2 e (behind-right (declares_all xs) (declares_arms more) b))
+    formed-arms (r_arm {xs = xs} {more = more} h i hs) s g e b =
+        f_arm (formed _ _ s h g.0) (formed-sts i s g.1 (behind-left (declares_all xs) (declares_arms more) b))
+        (formed-arms hs s g.2 e (behind-right (declares_all xs) (declares_arms more) b))
 
-    some-arm : {in_loop : Bool} {scope : List Bound} {nums : List ℕ} {a : tree.Arms} {other : Else} {ys : Arms} → ArmsResolve O here K in_loop scope a other ys → ScopeIs k scope nums → (has_arm a ≡ true) × AreFormedArms a × IsFormedElse other → Behind (declares_arms ys)
+    some-arm : {in_loop : Bool} {scope : List Bound} {nums : List ℕ} {a : tree.Arms} {other : Else} {ys : Arms}
+        → ArmsResolve O here K in_loop scope a other ys → ScopeIs k scope nums → (has_arm a ≡ true) × AreFormedArms a × IsFormedElse other
+        → Behind (declares_arms ys)
         → FormedSt Q k in_loop nums (choose bare_tag (bare_arms ys))
     some-arm r_no_else s g b = absurd (false≢true g.0)
     some-arm (r_else h) s g b = absurd (false≢true g.0)
     some-arm (r_arm {xs = xs} {more = more} h i hs) s g b =
-        f_choose (f_arm (formed _ _ s h g.1.0) (formed-sts i s g.1.1 (behind-left (declares_all xs) (declares_arms more) b)) (formed-arms hs s g.1.2 g.2 (behind-right (declares_all xs) (declares_arms more) b)))
+        f_choose (f_arm (formed _ _ s h g.1.0) (formed-sts i s g.1.1 (behind-left (declares_all xs) (declares_arms more) b))
+        (formed-arms hs s g.1.2 g.2 (behind-right (declares_all xs) (declares_arms more) b)))
 
-    formed-first : {in_loop : Bool} {scope : List Bound} {nums : List ℕ} {x : OptionalStatement} {ys : Sts} → PartResolves O here K in_loop scope x ys → ScopeIs k scope nums → IsFormedFirst x → Behind (declares_all ys) → FormedSts Q k in_loop nums (bare_sts ys)
+    formed-first : {in_loop : Bool} {scope : List Bound} {nums : List ℕ} {x : OptionalStatement} {ys : Sts} → PartResolves O here K in_loop scope x ys
+        → ScopeIs k scope nums → IsFormedFirst x → Behind (declares_all ys) → FormedSts Q k in_loop nums (bare_sts ys)
     formed-first r_absent s g b = f_no_st
     formed-first (r_present {x = x} h) s g b = f_st_then (formed-st h s g.1 (behind-left (declares x) [] b)) f_no_st
 
-    formed-step : {in_loop : Bool} {scope : List Bound} {nums : List ℕ} {x : OptionalStatement} {ys : Sts} → PartResolves O here K in_loop scope x ys → ScopeIs k scope nums → IsFormedStep x → Behind (declares_all ys) → FormedSts Q k in_loop nums (bare_sts ys)
+    formed-step : {in_loop : Bool} {scope : List Bound} {nums : List ℕ} {x : OptionalStatement} {ys : Sts} → PartResolves O here K in_loop scope x ys
+        → ScopeIs k scope nums → IsFormedStep x → Behind (declares_all ys) → FormedSts Q k in_loop nums (bare_sts ys)
     formed-step r_absent s g b = f_no_st
     formed-step (r_present {x = x} h) s g b = f_st_then (formed-st h s g.1 (behind-left (declares x) [] b)) f_no_st
 
-    first-part : {in_loop : Bool} {scope : List Bound} {x : OptionalStatement} {ys : Sts} → PartResolves O here K in_loop scope x ys → IsFormedFirst x → is_at_most_one is_first (bare_sts ys) ≡ true
+    first-part : {in_loop : Bool} {scope : List Bound} {x : OptionalStatement} {ys : Sts} → PartResolves O here K in_loop scope x ys → IsFormedFirst x
+        → is_at_most_one is_first (bare_sts ys) ≡ true
     first-part r_absent g = refl
     first-part (r_present h) g = first-formed h g.0
 
-    last-part : {in_loop : Bool} {scope : List Bound} {x : OptionalStatement} {ys : Sts} → PartResolves O here K in_loop scope x ys → IsFormedStep x → is_at_most_one core.is_act (bare_sts ys) ≡ true
+    last-part : {in_loop : Bool} {scope : List Bound} {x : OptionalStatement} {ys : Sts} → PartResolves O here K in_loop scope x ys → IsFormedStep x
+        → is_at_most_one core.is_act (bare_sts ys) ≡ true
     last-part r_absent g = refl
     last-part (r_present h) g = act-formed h g.0
 
@@ -305,32 +337,38 @@ module _ (O : Plain) (here : Here) (K : PlainMethod) (Q : Plain) (k : PlainMetho
 
   mutual
     good-st : {in_loop : Bool} {scope : List Bound} {x : Statement} {y : St} → StResolves O here K in_loop scope x y → IsFormedStmt x → Good (declares y)
-    good-st (r_declare {u = u} l v) g = (record { local = _; stands = l.stands; name = g.1; no_type = l.no_type; type = known-type O here K Q k suits u l.ty l.means }, tt)
+    good-st (r_declare {u = u} l v) g =
+        (record { local = _; stands = l.stands; name = g.1; no_type = l.no_type; type = known-type O here K Q k suits u l.ty l.means }, tt)
     good-st (r_block h) g = good-sts h g
     good-st (r_assign h i) g = tt
     good-st (r_act h) g = tt
     good-st (r_print h) g = tt
     good-st (r_choose h) g = good-arms h g.1 g.2
     good-st (r_while {xs = xs} h i) g = good-sts i g.1
-    good-st (r_for {first = first} {step = step} {xs = xs} f v t h) g = good-both (declares_all first ++ declares_all step) (declares_all xs) (good-both (declares_all first) (declares_all step) (good-first f g.0) (good-step t g.2)) (good-sts h g.3)
+    good-st (r_for {first = first} {step = step} {xs = xs} f v t h) g = good-both (declares_all first ++ declares_all step) (declares_all xs)
+        (good-both (declares_all first) (declares_all step) (good-first f g.0) (good-step t g.2)) (good-sts h g.3)
     good-st (r_return h) g = tt
     good-st r_break g = tt
     good-st r_continue g = tt
 
-    pub good-sts : {in_loop : Bool} {scope : List Bound} {xs : Statements} {ys : Sts} → StsResolve O here K in_loop scope xs ys → AreFormedStmts xs → Good (declares_all ys)
+    pub good-sts : {in_loop : Bool} {scope : List Bound} {xs : Statements} {ys : Sts} → StsResolve O here K in_loop scope xs ys → AreFormedStmts xs
+        → Good (declares_all ys)
     good-sts r_no_statements g = tt
     good-sts (r_and_then {x = x} {xs = xs} h hs) g = good-both (declares x) (declares_all xs) (good-st h g.0) (good-sts hs g.1)
 
-    good-arms : {in_loop : Bool} {scope : List Bound} {a : tree.Arms} {other : Else} {ys : Arms} → ArmsResolve O here K in_loop scope a other ys → AreFormedArms a → IsFormedElse other → Good (declares_arms ys)
+    good-arms : {in_loop : Bool} {scope : List Bound} {a : tree.Arms} {other : Else} {ys : Arms} → ArmsResolve O here K in_loop scope a other ys
+        → AreFormedArms a → IsFormedElse other → Good (declares_arms ys)
     good-arms r_no_else g e = tt
     good-arms (r_else h) g e = good-sts h e
     good-arms (r_arm {xs = xs} {more = more} h i hs) g e = good-both (declares_all xs) (declares_arms more) (good-sts i g.1) (good-arms hs g.2 e)
 
-    good-first : {in_loop : Bool} {scope : List Bound} {x : OptionalStatement} {ys : Sts} → PartResolves O here K in_loop scope x ys → IsFormedFirst x → Good (declares_all ys)
+    good-first : {in_loop : Bool} {scope : List Bound} {x : OptionalStatement} {ys : Sts} → PartResolves O here K in_loop scope x ys → IsFormedFirst x
+        → Good (declares_all ys)
     good-first r_absent g = tt
     good-first (r_present {x = x} h) g = good-both (declares x) [] (good-st h g.1) tt
 
-    good-step : {in_loop : Bool} {scope : List Bound} {x : OptionalStatement} {ys : Sts} → PartResolves O here K in_loop scope x ys → IsFormedStep x → Good (declares_all ys)
+    good-step : {in_loop : Bool} {scope : List Bound} {x : OptionalStatement} {ys : Sts} → PartResolves O here K in_loop scope x ys → IsFormedStep x
+        → Good (declares_all ys)
     good-step r_absent g = tt
     good-step (r_present {x = x} h) g = good-both (declares x) [] (good-st h g.1) tt
 

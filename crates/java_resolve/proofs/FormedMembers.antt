@@ -39,7 +39,8 @@ use Rattle.java_resolve.proofs.FormedBodies.{Suits, ScopeIs, contains-more, cont
 use Rattle.java_resolve.proofs.FormedProgram.{class-in, within-classes, free-name, meant-type, same-field, alike-field}
 use Rattle.java_resolve.proofs.MembersOf.{field-in}
 
-pub body-at : {O : Plain} {ms : List MethodAt} {ks : List PlainMethod} → BodiesResolve O ms ks → (j : ℕ) (m : MethodAt) (k : PlainMethod) → slice_get ms j ≡ Some m → slice_get ks j ≡ Some k → BodyResolves O m k
+pub body-at : {O : Plain} {ms : List MethodAt} {ks : List PlainMethod} → BodiesResolve O ms ks → (j : ℕ) (m : MethodAt) (k : PlainMethod)
+    → slice_get ms j ≡ Some m → slice_get ks j ≡ Some k → BodyResolves O m k
 body-at r_no_methods j m k e f = absurd (cc e)
 body-at {O} (r_method {m = n} {k = l} b rest) zero m k e f = subst (λ z. BodyResolves O z k) (same_some e) (subst (λ z. BodyResolves O n z) (same_some f) b)
 body-at (r_method b rest) (suc j) m k e f = body-at rest j m k e f
@@ -71,7 +72,8 @@ params-found c (v ∷ ps) n i e = go (bytes_eq v.name n) refl (params-found (suc
 
 params-bound : (c : ℕ) (ps : List PlainLocal) (j : ℕ) (v : PlainLocal) → slice_get ps j ≡ Some v → is_bound (bound_names (params_from c ps)) v.name ≡ true
 params-bound c [] j v e = absurd (cc e)
-params-bound c (u ∷ ps) zero v e = or_left (bytes_eq u.name v.name) (is_bound (bound_names (params_from (suc c) ps)) v.name) ((bytes_eq-Decides u.name v.name).1 (ap (λ z. z.name) (same_some e)))
+params-bound c (u ∷ ps) zero v e = or_left (bytes_eq u.name v.name) (is_bound (bound_names (params_from (suc c) ps)) v.name)
+    ((bytes_eq-Decides u.name v.name).1 (ap (λ z. z.name) (same_some e)))
 params-bound c (u ∷ ps) (suc j) v e = or_right (bytes_eq u.name v.name) (is_bound (bound_names (params_from (suc c) ps)) v.name) (params-bound (suc c) ps j v e)
 
 front-stands : {A : Type 0} (xs ys : List A) (j : ℕ) (v : A) → j < length xs → slice_get (xs ++ ys) j ≡ Some v → slice_get xs j ≡ Some v
@@ -89,7 +91,8 @@ bare-variables K = sym (map-append bare_local K.params K.locals)
 pub scope-params : (K : PlainMethod) → ScopeIs (bare_method K) (params_from 0 K.params) (numbers_below (length (bare_method K).params))
 scope-params K = record {
   found = λ n i e.
-      let l = params-found 0 K.params n i e in let s = length-map K.params bare_local in let t = ap length (bare-variables K) ∙ length-map (variables_of K) bare_local ∙ length-append K.params K.locals in
+      let l = params-found 0 K.params n i e in let s = length-map K.params bare_local in let t = ap length (bare-variables K)
+      ∙ length-map (variables_of K) bare_local ∙ length-append K.params K.locals in
       (below-has (length (map bare_local K.params)) i (omega (arith, l, s)), omega (arith, l, t));
   named = λ j v c e.
       let l = has-below (length (map bare_local K.params)) j c in
@@ -97,9 +100,12 @@ scope-params K = record {
       subst (λ z. is_bound (bound_names (params_from 0 K.params)) z ≡ true) (ap (λ z. z.name) a.2) (params-bound 0 K.params j a.0 a.1);
 }
 
-module _ (tree : List DeclTree) (formed : IsFormedTree tree) (known : List Known) (are : AreKnown tree known) (cs : List PlainClass) (classes : AreClasses tree known are tree cs) (number : ℕ) (loops : NoLoops tree (outline tree).classes number)
-    (m : Members) (members : AreMembers tree known are (fields_in tree) (methods_in tree) m) (rows : List (List Bool)) (above : AreAbove (outline tree) rows) (ks : List PlainMethod) (n : ℕ)
-    (written : BodiesAre tree known are (resolved_by.table known (outline tree).classes rows m) refl (sees-outline tree known are rows above m members) (methods_in tree) (ks, n)) (main : ℕ) where
+module _ (tree : List DeclTree) (formed : IsFormedTree tree) (known : List Known) (are : AreKnown tree known) (cs : List PlainClass)
+    (classes : AreClasses tree known are tree cs) (number : ℕ) (loops : NoLoops tree (outline tree).classes number)
+    (m : Members) (members : AreMembers tree known are (fields_in tree) (methods_in tree) m) (rows : List (List Bool))
+    (above : AreAbove (outline tree) rows) (ks : List PlainMethod) (n : ℕ)
+    (written : BodiesAre tree known are (resolved_by.table known (outline tree).classes rows m) refl
+    (sees-outline tree known are rows above m members) (methods_in tree) (ks, n)) (main : ℕ) where
   abbrev pub P : Plain
   P = program (outline tree).classes m main ks
 
@@ -110,7 +116,8 @@ module _ (tree : List DeclTree) (formed : IsFormedTree tree) (known : List Known
   R = bare_program P
 
   pub holder : (j : ℕ) (d : DeclTree) → slice_get tree j ≡ Some d → slice_get R.classes (suc j) ≡ Some (bare_class (class_outline (types_in tree) d))
-  holder j d e = class-in tree formed known are cs classes number loops P refl fields-same (suc j) (class_outline (types_in tree) d) (class_at-outline tree j d e)
+  holder j d e = class-in tree formed known are cs classes number loops P refl fields-same (suc j) (class_outline (types_in tree) d)
+      (class_at-outline tree j d e)
 
   pub meant : (u : TypeName) (t : Ty) → Means (outline tree) u t → IsType R (type_meant (types_in tree) u)
   meant u t h = meant-type tree formed known are cs classes number loops P refl fields-same u t h
@@ -120,7 +127,8 @@ module _ (tree : List DeclTree) (formed : IsFormedTree tree) (known : List Known
 
   -- ---- fields
 
-  field-at : (f : ℕ) (k : PlainField) → slice_get R.fields f ≡ Some k → (x : FieldAt) × (slice_get (fields_in tree) f ≡ Some x) × (bare_field (field_outline (types_in tree) x) ≡ k)
+  field-at : (f : ℕ) (k : PlainField) → slice_get R.fields f ≡ Some k → (x : FieldAt) × (slice_get (fields_in tree) f ≡ Some x)
+      × (bare_field (field_outline (types_in tree) x) ≡ k)
   field-at f k e =
       let a = map-stands bare_field P.fields f k e in
       let b = map-stands (field_outline (types_in tree)) (fields_in tree) f a.0 (ap (λ z. slice_get z f) (sym members.fields) ∙ a.1) in
@@ -141,27 +149,31 @@ module _ (tree : List DeclTree) (formed : IsFormedTree tree) (known : List Known
         class = at.class;
       })
 
-  pub formed-field_names : (f g : ℕ) (h k : PlainField) → slice_get R.fields f ≡ Some h → slice_get R.fields g ≡ Some k → h.owner ≡ k.owner → h.name ≡ k.name → f ≡ g
+  pub formed-field_names : (f g : ℕ) (h k : PlainField) → slice_get R.fields f ≡ Some h → slice_get R.fields g ≡ Some k → h.owner ≡ k.owner
+      → h.name ≡ k.name → f ≡ g
   formed-field_names f g h k e d o s =
       let a = field-at f h e in let b = field-at g k d in
       members.field_once f g a.0 b.0 a.1 b.1 (ap (λ z. z.owner) a.2 ∙ o ∙ sym (ap (λ z. z.owner) b.2)) (ap (λ z. z.name) a.2 ∙ s ∙ sym (ap (λ z. z.name) b.2))
 
   -- ---- methods
 
-  pub method-seen : (i : ℕ) (K : PlainMethod) → slice_get ks i ≡ Some K → (x : MethodAt) × (slice_get (methods_in tree) i ≡ Some x) × (heading_of K ≡ method_outline (types_in tree) x)
+  pub method-seen : (i : ℕ) (K : PlainMethod) → slice_get ks i ≡ Some K → (x : MethodAt) × (slice_get (methods_in tree) i ≡ Some x)
+      × (heading_of K ≡ method_outline (types_in tree) x)
   method-seen i K e = let w = whole tree known are cs classes m members rows above ks n written i K e in (w.1, w.3, w.4)
 
   nearest-name : (c : ℕ) (x : List ℕ) (f : ℕ) (k : PlainField) → IsNearestField (outline tree) c x f k → k.name ≡ x
   unfolding field_of
   nearest-name c x f k h =
-      let a = nearest-own (outline tree) (λ z. own_field_of (outline tree) z x) (nearest_of-nearest (outline tree) (λ z. own_field_of (outline tree) z x) {a = c} {d = f} h.nearest) in
+      let a = nearest-own (outline tree) (λ z. own_field_of (outline tree) z x)
+      (nearest_of-nearest (outline tree) (λ z. own_field_of (outline tree) z x) {a = c} {d = f} h.nearest) in
       let b = position-passes (λ z. is_field_of a.0 x z) (outline tree).fields f a.1 in
       ap (λ z. z.name) (same_some (sym h.stands ∙ b.1)) ∙ (both-true b.0.owner a.0 b.0.name x b.2).1
 
   field-there : (f : ℕ) (x : PlainField) → slice_get (outline tree).fields f ≡ Some x → slice_get R.fields f ≡ Some (bare_field x)
   field-there f x e = stands-map bare_field P.fields f x (ap (λ z. slice_get z f) fields-same ∙ e)
 
-  pub suits : (i : ℕ) (K : PlainMethod) (x : MethodAt) → slice_get ks i ≡ Some K → heading_of K ≡ method_outline (types_in tree) x → Suits (outline tree) (here_of x) K R (bare_method K)
+  pub suits : (i : ℕ) (K : PlainMethod) (x : MethodAt) → slice_get ks i ≡ Some K → heading_of K ≡ method_outline (types_in tree) x
+      → Suits (outline tree) (here_of x) K R (bare_method K)
   suits i K x e h = record {
     classes = within-classes tree formed known are cs classes number loops P refl fields-same;
     static_field = λ f y at s. record { member = bare_field y; stands = field-there f y at; kind = s };
@@ -169,15 +181,24 @@ module _ (tree : List DeclTree) (formed : IsFormedTree tree) (known : List Known
       member = bare_field y;
       stands = field-there f y near.stands;
       kind = s;
-      nearest = same-field P K.owner y.name ∙ alike-field P (outline tree) refl fields-same K.owner y.name ∙ ap (λ o. field_of (outline tree) o y.name) (ap (λ o. o.owner) h) ∙ ap (field_of (outline tree) x.owner) (nearest-name x.owner z f y near) ∙ near.nearest;
+      nearest = same-field P K.owner y.name ∙ alike-field P (outline tree) refl fields-same K.owner y.name
+          ∙ ap (λ o. field_of (outline tree) o y.name) (ap (λ o. o.owner) h) ∙ ap (field_of (outline tree) x.owner) (nearest-name x.owner z f y near)
+          ∙ near.nearest;
     };
     static_method = λ l y at s.
         let a = outline-method tree l y at in
-        let b = some-stands tree known are ks l (let t = stands-within (methods_in tree) l a.0 a.1 in let u = members.count in let v = size tree known are cs classes m members rows above ks n written in omega (arith, t, u, v)) in
+        let b = some-stands tree known are ks l (let t = stands-within (methods_in tree) l a.0 a.1 in let u = members.count in
+        let v = size tree known are cs classes m members rows above ks n written in omega (arith, t, u, v)) in
         let c = method-seen l b.0 b.1 in
-        record { member = bare_method b.0; stands = stands-map bare_method ks l b.0 b.1; kind = ap (λ z. z.is_static) (c.2 ∙ ap (method_outline (types_in tree)) (same_some (sym c.1 ∙ a.1)) ∙ a.2) ∙ s };
+        record {
+          member = bare_method b.0;
+          stands = stands-map bare_method ks l b.0 b.1;
+          kind = ap (λ z. z.is_static) (c.2
+              ∙ ap (method_outline (types_in tree)) (same_some (sym c.1 ∙ a.1)) ∙ a.2) ∙ s;
+        };
     static = ap (λ z. z.is_static) h;
     params = length-map K.params bare_local;
     variable = λ j v at. (bare_local v, ap (λ z. slice_get z j) (bare-variables K) ∙ stands-map bare_local (variables_of K) j v at, refl);
-    back = λ j w at. let a = map-stands bare_local (variables_of K) j w (ap (λ z. slice_get z j) (sym (bare-variables K)) ∙ at) in (a.0, a.1, ap (λ z. z.name) a.2);
+    back = λ j w at. let a = map-stands bare_local (variables_of K) j w (ap (λ z. slice_get z j) (sym (bare-variables K)) ∙ at) in
+        (a.0, a.1, ap (λ z. z.name) a.2);
   }

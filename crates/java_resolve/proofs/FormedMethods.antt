@@ -44,16 +44,20 @@ params-seen types (q ∷ qs) = ap (λ z. q.name ∷ z) (params-seen types qs)
 no-some : {A : Type 0} {o : Option A} {x : A} → o ≡ None → o ≡ Some x → ⊥
 no-some e f = cc (sym e ∙ f)
 
-module _ (tree : List DeclTree) (formed : IsFormedTree tree) (known : List Known) (are : AreKnown tree known) (cs : List PlainClass) (classes : AreClasses tree known are tree cs) (number : ℕ) (loops : NoLoops tree (outline tree).classes number)
-    (m : Members) (members : AreMembers tree known are (fields_in tree) (methods_in tree) m) (rows : List (List Bool)) (above : AreAbove (outline tree) rows) (ks : List PlainMethod) (n : ℕ)
-    (written : BodiesAre tree known are (resolved_by.table known (outline tree).classes rows m) refl (sees-outline tree known are rows above m members) (methods_in tree) (ks, n)) (main : ℕ) where
+module _ (tree : List DeclTree) (formed : IsFormedTree tree) (known : List Known) (are : AreKnown tree known) (cs : List PlainClass)
+    (classes : AreClasses tree known are tree cs) (number : ℕ) (loops : NoLoops tree (outline tree).classes number)
+    (m : Members) (members : AreMembers tree known are (fields_in tree) (methods_in tree) m) (rows : List (List Bool))
+    (above : AreAbove (outline tree) rows) (ks : List PlainMethod) (n : ℕ)
+    (written : BodiesAre tree known are (resolved_by.table known (outline tree).classes rows m) refl
+    (sees-outline tree known are rows above m members) (methods_in tree) (ks, n)) (main : ℕ) where
   abbrev PP : Plain
   PP = P tree formed known are cs classes number loops m members rows above ks n written main
 
   abbrev RR : Plain
   RR = R tree formed known are cs classes number loops m members rows above ks n written main
 
-  module _ (i : ℕ) (K : PlainMethod) (e : slice_get ks i ≡ Some K) (x : MethodAt) (at : slice_get (methods_in tree) i ≡ Some x) (h : heading_of K ≡ method_outline (types_in tree) x) where
+  module _ (i : ℕ) (K : PlainMethod) (e : slice_get ks i ≡ Some K) (x : MethodAt) (at : slice_get (methods_in tree) i ≡ Some x) (h : heading_of K
+      ≡ method_outline (types_in tree) x) where
     good : GoodMethod tree known are x
     good = members.good i x at
 
@@ -74,7 +78,8 @@ module _ (tree : List DeclTree) (formed : IsFormedTree tree) (known : List Known
         let d = map-stands (param_outline (types_in tree)) x.head.params a.0 b.0 (ap (λ z. slice_get z a.0) (sym (ap (λ z. z.params) h)) ∙ b.1) in
         let g = good.params.means a.0 d.0 d.1 in
         subst (IsFormedLocal RR) (ap bare_local d.2 ∙ b.2) (record {
-          name = free tree formed known are cs classes number loops m members rows above ks n written main d.0.name (each-of IsFormedParam x.head.params a.0 d.0 stands.head.3 d.1).1 (good.params.free a.0 d.0 d.1);
+          name = free tree formed known are cs classes number loops m members rows above ks n written main d.0.name
+              (each-of IsFormedParam x.head.params a.0 d.0 stands.head.3 d.1).1 (good.params.free a.0 d.0 d.1);
           type = meant tree formed known are cs classes number loops m members rows above ks n written main d.0.ty g.0 g.1;
         })
 
@@ -92,11 +97,15 @@ module _ (tree : List DeclTree) (formed : IsFormedTree tree) (known : List Known
         go (r_no_body p q r) = absurd (no-some {o = slice_get K.locals a.0} (ap (λ z. slice_get z a.0) r) b.1)
         go (r_body {ss = ss} p q r counts) =
             let lt = stands-within K.locals a.0 b.0 b.1 in
-            let l = counts-each (outline tree) (here_of x) K RR (bare_method K) (suits tree formed known are cs classes number loops m members rows above ks n written main i K x e h) counts (good-sts (outline tree) (here_of x) K RR (bare_method K) (suits tree formed known are cs classes number loops m members rows above ks n written main i K x e h) r (subst IsFormedBody p stands.body))
+            let l = counts-each (outline tree) (here_of x) K RR (bare_method K) (suits tree formed known are cs classes number loops m members rows
+            above ks n written main i K x e h) counts (good-sts (outline tree) (here_of x) K RR (bare_method K)
+            (suits tree formed known are cs classes number loops m members rows above ks n written main i K x e h) r
+            (subst IsFormedBody p stands.body))
             (length K.params + a.0) (omega arith) (let s = length-append K.params K.locals in omega (arith, lt, s)) in
             let same : l.local ≡ b.0 = same_some (sym l.stands ∙ back-stands K.params K.locals a.0 ∙ b.1) in
             subst (IsFormedLocal RR) (ap bare_local same ∙ b.2) (record {
-              name = free tree formed known are cs classes number loops m members rows above ks n written main l.local.name l.name (ap (λ z. is_type_name z l.local.name) (sym (type_names-outline tree)) ∙ l.no_type);
+              name = free tree formed known are cs classes number loops m members rows above ks n written main l.local.name l.name
+                  (ap (λ z. is_type_name z l.local.name) (sym (type_names-outline tree)) ∙ l.no_type);
               type = l.type;
             })
 
@@ -120,7 +129,8 @@ module _ (tree : List DeclTree) (formed : IsFormedTree tree) (known : List Known
     in-interface : is_interface_of stands.decl ≡ true → ((bare_method K).is_static ≡ false) × ((bare_method K).body ≡ None)
     in-interface f = let g = stands.in_interface f in (sym static-is ∙ good.head g.0, no-body g.1)
 
-    without-body : (bare_method K).body ≡ None → ((bare_method K).is_static ≡ false) × (is_interface_of stands.decl || has_word is_abstract_word (mods_of stands.decl) ≡ true)
+    without-body : (bare_method K).body ≡ None → ((bare_method K).is_static ≡ false)
+        × (is_interface_of stands.decl || has_word is_abstract_word (mods_of stands.decl) ≡ true)
     without-body f = go (is_interface_of stands.decl) refl (has_word is_abstract_word x.head.mods) refl x.in_abstract refl
       where
         go : (b : Bool) → is_interface_of stands.decl ≡ b → (c : Bool) → has_word is_abstract_word x.head.mods ≡ c → (d : Bool) → x.in_abstract ≡ d
@@ -128,7 +138,11 @@ module _ (tree : List DeclTree) (formed : IsFormedTree tree) (known : List Known
         go true p c q d r = ((in-interface p).0, or_left (is_interface_of stands.decl) (has_word is_abstract_word (mods_of stands.decl)) p)
         go false p false q d r = absurd (good.body (missing (stands.in_class p).0 q (bodyless f)))
         go false p true q false r = absurd (good.body (in_concrete q r))
-        go false p true q true r = (sym static-is ∙ good.no_static q, or_right (is_interface_of stands.decl) (has_word is_abstract_word (mods_of stands.decl)) (sym (stands.in_class p).1 ∙ r))
+        go false p true q true r = (
+          sym static-is ∙ good.no_static q,
+          or_right (is_interface_of stands.decl)
+              (has_word is_abstract_word (mods_of stands.decl)) (sym (stands.in_class p).1 ∙ r),
+        )
 
     code : (xs : Sts) → (bare_method K).body ≡ Some xs → FormedSts RR (bare_method K) false (numbers_below (length (bare_method K).params)) xs
     code xs f = go body
@@ -137,7 +151,8 @@ module _ (tree : List DeclTree) (formed : IsFormedTree tree) (known : List Known
         go (r_no_body p q r) = absurd (no-some {o = (bare_method K).body} (ap (option_map bare_sts) q) f)
         go (r_body {xs = ys} p q r counts) =
             subst (FormedSts RR (bare_method K) false (numbers_below (length (bare_method K).params))) (same_some (sym (ap (option_map bare_sts) q) ∙ f))
-            (formed-sts (outline tree) (here_of x) K RR (bare_method K) (suits tree formed known are cs classes number loops m members rows above ks n written main i K x e h) r (scope-params K) (subst IsFormedBody p stands.body) (counts-behind (length K.params) counts (omega arith)))
+            (formed-sts (outline tree) (here_of x) K RR (bare_method K) (suits tree formed known are cs classes number loops m members rows above ks n
+            written main i K x e h) r (scope-params K) (subst IsFormedBody p stands.body) (counts-behind (length K.params) counts (omega arith)))
 
     result : IsKnownResult RR K.result
     result = subst (IsKnownResult RR) (sym (ap (λ z. z.result) h)) (go x.head.type refl)
@@ -167,23 +182,34 @@ module _ (tree : List DeclTree) (formed : IsFormedTree tree) (known : List Known
         to f (no_slot a b) = absurd (no-some {o = K.slot} b f)
         to f (a_slot {s = r} {slot = slot} a b c d) =
             let same : r ≡ s = same_some (sym b ∙ f) in
-            record { slot = slot; stands = subst (λ z. slice_get m.slots z ≡ Some slot) same c; instance = a; name = d.name; params = bare-types K.params ∙ d.params; result = d.result }
+            record {
+              slot = slot;
+              stands = subst (λ z. slice_get m.slots z ≡ Some slot) same c;
+              instance = a;
+              name = d.name;
+              params = bare-types
+                  K.params ∙ d.params;
+              result = d.result;
+            }
 
         from : IsInSlot RR s (bare_method K) → HasSlot PP K → K.slot ≡ Some s
         from f (no_slot a b) = absurd (false≢true (sym f.instance ∙ a))
         from f (a_slot {s = r} {slot = slot} a b c d) =
-            b ∙ ap Some (are-slots.apart r s slot f.slot c f.stands (sym d.name ∙ f.name) (sym d.params ∙ sym (bare-types K.params) ∙ f.params) (sym d.result ∙ f.result))
+            b ∙ ap Some (are-slots.apart r s slot f.slot c f.stands (sym d.name ∙ f.name) (sym d.params ∙ sym (bare-types K.params) ∙ f.params)
+            (sym d.result ∙ f.result))
 
     pub formed-method : IsFormedMethod RR (bare_method K)
     unfolding HasNoTwice
     formed-method = record {
       name = subst (λ z. IsName z.name) (sym h) stands.head.2;
       variables = λ v c. ⊎_elim (λ a. param-good v a) (λ a. local-good v a) (Contains-append_cases (map bare_local K.params) (map bare_local K.locals) v c);
-      params = subst HasNoTwice (sym (ap (λ z. map (λ v. v.name) (map bare_local z)) (ap (λ z. z.params) h) ∙ params-seen (types_in tree) x.head.params)) good.params.once;
+      params = subst HasNoTwice (sym (ap (λ z. map (λ v. v.name) (map bare_local z)) (ap (λ z. z.params) h)
+          ∙ params-seen (types_in tree) x.head.params)) good.params.once;
       result = result;
       no_object = λ z. let o = own in omega (arith, z, o);
       holder = bare_class (class_outline (types_in tree) stands.decl);
-      stands = ap (slice_get RR.classes) own ∙ holder tree formed known are cs classes number loops m members rows above ks n written main stands.index stands.decl stands.stands;
+      stands = ap (slice_get RR.classes) own ∙ holder tree formed known are cs classes number loops m members rows above ks n written main
+          stands.index stands.decl stands.stands;
       in_interface = in-interface;
       bodyless = without-body;
       code = code;

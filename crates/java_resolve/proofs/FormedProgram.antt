@@ -66,18 +66,22 @@ module _ (P : Plain) where
   same-nearest : (n : List ℕ) (s : ℕ) (c : ℕ) → nearest (bare_program P) (λ k. own_field_of (bare_program P) k n) s c ≡ nearest P (λ k. own_field_of P k n) s c
   same-nearest n zero c = same-own c n
   same-nearest n (suc s) c =
-      ap (λ z. first_or z (option_and_then (λ p. nearest (bare_program P) (λ k. own_field_of (bare_program P) k n) s p.0) (parent_of (bare_program P) c))) (same-own c n)
-      ∙ ap (λ z. first_or (own_field_of P c n) (option_and_then (λ p. nearest (bare_program P) (λ k. own_field_of (bare_program P) k n) s p.0) z)) (same-parent c)
+      ap (λ z. first_or z (option_and_then (λ p. nearest (bare_program P) (λ k. own_field_of (bare_program P) k n) s p.0)
+      (parent_of (bare_program P) c))) (same-own c n)
+      ∙ ap (λ z. first_or (own_field_of P c n) (option_and_then (λ p. nearest (bare_program P) (λ k. own_field_of (bare_program P) k n) s p.0) z))
+      (same-parent c)
       ∙ ap (first_or (own_field_of P c n)) (go (parent_of P c) (λ p. same-nearest n s p))
     where
       go : (o : Option ClassId) → ((p : ℕ) → nearest (bare_program P) (λ k. own_field_of (bare_program P) k n) s p ≡ nearest P (λ k. own_field_of P k n) s p)
-          → option_and_then (λ p. nearest (bare_program P) (λ k. own_field_of (bare_program P) k n) s p.0) o ≡ option_and_then (λ p. nearest P (λ k. own_field_of P k n) s p.0) o
+          → option_and_then (λ p. nearest (bare_program P) (λ k. own_field_of (bare_program P) k n) s p.0) o
+          ≡ option_and_then (λ p. nearest P (λ k. own_field_of P k n) s p.0) o
       go None more = refl
       go (Some p) more = more p.0
 
   pub same-field : (c : ℕ) (n : List ℕ) → field_of (bare_program P) c n ≡ field_of P c n
   unfolding field_of
-  same-field c n = ap (λ z. nearest (bare_program P) (λ k. own_field_of (bare_program P) k n) z c) (length-map P.classes _) ∙ same-nearest n (length P.classes) c
+  same-field c n = ap (λ z. nearest (bare_program P) (λ k. own_field_of (bare_program P) k n) z c) (length-map P.classes _)
+      ∙ same-nearest n (length P.classes) c
 
 -- a program with the classes and fields of another finds the same fields
 pub alike-field : (P O : Plain) → P.classes ≡ O.classes → P.fields ≡ O.fields → (c : ℕ) (n : List ℕ) → field_of P c n ≡ field_of O c n
@@ -105,11 +109,17 @@ alike-field P O classes fields c n = at (length P.classes) c ∙ ap (λ z. neare
 pub classes-subclass : (P O : Plain) → P.classes ≡ O.classes → {a b : ℕ} → IsSubclass P a b → IsSubclass O a b
 classes-subclass P O e same_class = same_class
 classes-subclass P O e {a} (through {c = c} direct rest) =
-    through (subst (λ z. Contains (option_to_list (option_and_then (λ k. k.parent) (slice_get z a)) ++ option_map_or (λ k. k.faces) (slice_get z a) []) c) e direct) (classes-subclass P O e rest)
+    through (subst (λ z. Contains (option_to_list (option_and_then (λ k. k.parent) (slice_get z a)) ++ option_map_or (λ k. k.faces) (slice_get z a)
+    []) c) e direct) (classes-subclass P O e rest)
 
 classes-proper : (P O : Plain) → P.classes ≡ O.classes → {a b : ℕ} → IsProperSubclass P a b → IsProperSubclass O a b
 classes-proper P O e {a} h =
-    record { by = h.by; direct = subst (λ z. Contains (option_to_list (option_and_then (λ k. k.parent) (slice_get z a)) ++ option_map_or (λ k. k.faces) (slice_get z a) []) h.by) e h.direct; rest = classes-subclass P O e h.rest }
+    record {
+      by = h.by;
+      direct = subst (λ z. Contains (option_to_list (option_and_then (λ k. k.parent) (slice_get z a)) ++ option_map_or
+          (λ k. k.faces) (slice_get z a) []) h.by) e h.direct;
+      rest = classes-subclass P O e h.rest;
+    }
 
 pub neither : (a b : Bool) → a || b ≡ false → (a ≡ false) × (b ≡ false)
 neither true b e = absurd (false≢true (sym e))
@@ -128,7 +138,8 @@ decl-name : (d : DeclTree) → IsFormedDecl d → IsName (name_of d)
 decl-name (ClassTree mods n parent faces xs p) g = g.1
 decl-name (InterfaceTree mods n parents hs p) g = g.1
 
-module _ (tree : List DeclTree) (formed : IsFormedTree tree) (known : List Known) (are : AreKnown tree known) (cs : List PlainClass) (classes : AreClasses tree known are tree cs) (number : ℕ) (loops : NoLoops tree (outline tree).classes number)
+module _ (tree : List DeclTree) (formed : IsFormedTree tree) (known : List Known) (are : AreKnown tree known) (cs : List PlainClass)
+    (classes : AreClasses tree known are tree cs) (number : ℕ) (loops : NoLoops tree (outline tree).classes number)
     (P : Plain) (same-classes : P.classes ≡ (outline tree).classes) (same-fields : P.fields ≡ (outline tree).fields) where
   abbrev pub Q : Plain
   Q = bare_program P
@@ -149,7 +160,8 @@ module _ (tree : List DeclTree) (formed : IsFormedTree tree) (known : List Known
   pub within-classes : (n : List ℕ) (c : ℕ) → class_named (outline tree) n ≡ Some c → IsClass Q c
   within-classes n c e =
       let a = stands-within (type_names (outline tree)) c n (named-stands (type_names (outline tree)) n c e) in
-      let b = length-map (outline tree).classes (λ k. k.name) in let d = ap length classes-are ∙ length-map (outline tree).classes bare_class in omega (arith, a, b, d)
+      let b = length-map (outline tree).classes (λ k. k.name) in let d = ap length classes-are ∙ length-map (outline tree).classes bare_class in omega
+      (arith, a, b, d)
 
   -- a name that no type has
   pub free-name : (x : List ℕ) → IsName x → is_type_name (types_in tree) x ≡ false → IsVariableName Q x
@@ -158,7 +170,8 @@ module _ (tree : List DeclTree) (formed : IsFormedTree tree) (known : List Known
       let b = neither (bytes_eq (codes "String") x) (bytes_eq (codes "System") x) a.1 in
       record {
         name = name;
-        no_class = λ c k at same. unnamed-stands (types_in tree) x (none-of (type_named (types_in tree) x) a.0) c (ap (λ z. slice_get z c) (sym names-are) ∙ stands-map (λ k. k.name) Q.classes c k at ∙ ap Some same);
+        no_class = λ c k at same. unnamed-stands (types_in tree) x (none-of (type_named (types_in tree) x) a.0) c
+            (ap (λ z. slice_get z c) (sym names-are) ∙ stands-map (λ k. k.name) Q.classes c k at ∙ ap Some same);
         no_string = λ same. false≢true (sym b.0 ∙ (bytes_eq-Decides (codes "String") x).1 (sym same));
         no_system = λ same. false≢true (sym b.1 ∙ (bytes_eq-Decides (codes "System") x).1 (sym same));
       }
@@ -202,7 +215,8 @@ module _ (tree : List DeclTree) (formed : IsFormedTree tree) (known : List Known
           of-interface (ClassTree mods n parent faces xs p) e = absurd (false≢true e)
           of-interface (InterfaceTree mods n parents hs p) e = refl
 
-          up : (o : Option Id) → parent_named d ≡ o → (k : PlainClass) × (slice_get Q.classes (parent_meant (types_in tree) o).0 ≡ Some k) × (k.is_interface ≡ false)
+          up : (o : Option Id) → parent_named d ≡ o → (k : PlainClass) × (slice_get Q.classes (parent_meant (types_in tree) o).0 ≡ Some k)
+              × (k.is_interface ≡ false)
           up None e = (formed-object.object, formed-object.first, formed-object.class)
           up (Some i) e =
               let s = (classes.supers j d at).parent i e in

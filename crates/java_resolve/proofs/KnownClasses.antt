@@ -45,7 +45,8 @@ pub face_names-outline : (tree : List DeclTree) → map (λ k. k.is_interface) (
 unfolding outline
 face_names-outline tree = ap (λ z. false ∷ z) (faces-outline (types_in tree) tree)
 
-pub class_at-outline : (tree : List DeclTree) (i : ℕ) (d : DeclTree) → slice_get tree i ≡ Some d → slice_get (outline tree).classes (suc i) ≡ Some (class_outline (types_in tree) d)
+pub class_at-outline : (tree : List DeclTree) (i : ℕ) (d : DeclTree) → slice_get tree i ≡ Some d → slice_get (outline tree).classes (suc i)
+    ≡ Some (class_outline (types_in tree) d)
 unfolding outline
 class_at-outline tree i d e = stands-map (class_outline (types_in tree)) tree i d e
 
@@ -68,15 +69,18 @@ module _ (tree : List DeclTree) (known : List Known) (are : AreKnown tree known)
   pub known-named : (n : List ℕ) → number_of known n ≡ class_named (outline tree) n
   known-named n = number_of-named known n ∙ ap (λ z. type_named z n) are.names ∙ sym (class_named-outline tree n)
 
-  named-class : (n : List ℕ) (k : ℕ) → class_named (outline tree) n ≡ Some k → (c : PlainClass) × (slice_get (outline tree).classes k ≡ Some c) × (c.is_interface ≡ is_face known k)
+  named-class : (n : List ℕ) (k : ℕ) → class_named (outline tree) n ≡ Some k → (c : PlainClass) × (slice_get (outline tree).classes k ≡ Some c)
+      × (c.is_interface ≡ is_face known k)
   named-class n k e =
       let at = map-stands (λ c. c.name) (outline tree).classes k n (named-stands (type_names (outline tree)) n k e) in
-      let same : slice_get (map (λ c. c.is_interface) known) k ≡ Some at.0.is_interface = ap (λ z. slice_get z k) (are.faces ∙ sym (face_names-outline tree)) ∙ stands-map (λ c. c.is_interface) (outline tree).classes k at.0 at.1 in
+      let same : slice_get (map (λ c. c.is_interface) known) k ≡ Some at.0.is_interface = ap (λ z. slice_get z k) (are.faces
+      ∙ sym (face_names-outline tree)) ∙ stands-map (λ c. c.is_interface) (outline tree).classes k at.0 at.1 in
       let one = map-stands (λ c. c.is_interface) known k at.0.is_interface same in
       (at.0, at.1, sym one.2 ∙ sym (ap is_face_in one.1))
 
   -- a name that is asked for
-  pub asked-named : (i : Id) (F : Refusal → Type 0) → (class_named (outline tree) i.name ≡ None → F (Unknown i.name i.place)) → Tells (λ k. class_named (outline tree) i.name ≡ Some k) F (asked known i.name i.place)
+  pub asked-named : (i : Id) (F : Refusal → Type 0) → (class_named (outline tree) i.name ≡ None → F (Unknown i.name i.place))
+      → Tells (λ k. class_named (outline tree) i.name ≡ Some k) F (asked known i.name i.place)
   asked-named i F bad = go (number_of known i.name) refl
     where
       go : (o : Option ℕ) → number_of known i.name ≡ o → Tells (λ k. class_named (outline tree) i.name ≡ Some k) F (or_unknown o i.name i.place)
@@ -88,17 +92,23 @@ module _ (tree : List DeclTree) (known : List Known) (are : AreKnown tree known)
 
   module _ (d : DeclTree) (at : Contains tree d) where
     -- the superclass
-    parent-tells : (o : Option Id) → parent_named d ≡ o → Tells (λ k. (class_id k ≡ parent_meant (types_in tree) o) × ((i : Id) → o ≡ Some i → StandsNamed tree i.name false)) (ConditionAt tree) (parent_tree known o)
+    parent-tells : (o : Option Id) → parent_named d ≡ o → Tells (λ k. (class_id k ≡ parent_meant (types_in tree) o)
+        × ((i : Id) → o ≡ Some i → StandsNamed tree i.name false)) (ConditionAt tree) (parent_tree known o)
     parent-tells None e = (refl, λ i f. absurd (cc f))
     parent-tells (Some i) e =
-        tell (λ k. (class_id k ≡ id_meant (types_in tree) i) × ((j : Id) → Some i ≡ Some j → StandsNamed tree j.name false)) (ConditionAt tree) (asked known i.name i.place) _
+        tell (λ k. (class_id k ≡ id_meant (types_in tree) i) × ((j : Id) → Some i ≡ Some j → StandsNamed tree j.name false)) (ConditionAt tree)
+        (asked known i.name i.place) _
         (asked-named i (ConditionAt tree) (λ f. unknown (by_super (a_parent at e)) f)) (λ k f. go k f (is_face known k) refl) (λ r f. f)
       where
         go : (k : ℕ) → class_named (outline tree) i.name ≡ Some k → (b : Bool) → is_face known k ≡ b
-            → Tells (λ k. (class_id k ≡ id_meant (types_in tree) i) × ((j : Id) → Some i ≡ Some j → StandsNamed tree j.name false)) (ConditionAt tree) (if b then Err (TwoKinds i.name i.place) else Ok k)
+            → Tells (λ k. (class_id k ≡ id_meant (types_in tree) i) × ((j : Id) → Some i ≡ Some j → StandsNamed tree j.name false)) (ConditionAt tree)
+            (if b then Err (TwoKinds i.name i.place) else Ok k)
         go k f true g = let c = named-class i.name k f in face_as_parent at e f c.1 (c.2 ∙ g)
-        go k f false g = let c = named-class i.name k f in
-            (sym (id-meant i k f), λ j h. subst (λ z. StandsNamed tree z.name false) (same_some h) (record { number = k; named = f; class = c.0; stands = c.1; kind = c.2 ∙ g }))
+        go k f false g = let c = named-class i.name k f in (
+          sym (id-meant i k f),
+          λ j h. subst (λ z. StandsNamed tree z.name false) (same_some h)
+              (record { number = k; named = f; class = c.0; stands = c.1; kind = c.2 ∙ g }),
+        )
 
     -- the interfaces
     record AreFaces (done : List Id) (fs : List ClassId) : Type 0 where
@@ -110,7 +120,8 @@ module _ (tree : List DeclTree) (known : List Known) (are : AreKnown tree known)
     has_id-stands [] k e = absurd (cc e)
     has_id-stands (c ∷ fs) k e = go (c.0 == k) refl (has_id-stands fs k)
       where
-        go : (b : Bool) → (c.0 == k) ≡ b → (has_id fs k ≡ true → (j : ℕ) × (slice_get fs j ≡ Some (class_id k))) → (j : ℕ) × (slice_get (c ∷ fs) j ≡ Some (class_id k))
+        go : (b : Bool) → (c.0 == k) ≡ b → (has_id fs k ≡ true → (j : ℕ) × (slice_get fs j ≡ Some (class_id k)))
+            → (j : ℕ) × (slice_get (c ∷ fs) j ≡ Some (class_id k))
         go true f more = (0, ap (λ z. Some (class_id z)) (eqb-true c.0 k f))
         go false f more = let g = more (sym (ap (λ z. if z then true else has_id fs k) f) ∙ e) in (suc g.0, g.1)
 
@@ -118,7 +129,8 @@ module _ (tree : List DeclTree) (known : List Known) (are : AreKnown tree known)
     no_id-stands [] k e j f = cc f
     no_id-stands (c ∷ fs) k e j f = go (c.0 == k) refl j f (no_id-stands fs k)
       where
-        go : (b : Bool) → (c.0 == k) ≡ b → (j : ℕ) → slice_get (c ∷ fs) j ≡ Some (class_id k) → (has_id fs k ≡ false → (j : ℕ) → slice_get fs j ≡ Some (class_id k) → ⊥) → ⊥
+        go : (b : Bool) → (c.0 == k) ≡ b → (j : ℕ) → slice_get (c ∷ fs) j ≡ Some (class_id k)
+            → (has_id fs k ≡ false → (j : ℕ) → slice_get fs j ≡ Some (class_id k) → ⊥) → ⊥
         go true g j f more = false≢true (sym e ∙ ap (λ z. if z then true else has_id fs k) g)
         go false g zero f more = false≢true (sym g ∙ ap (λ z. z.0 == k) (same_some f) ∙ eqb-same k)
           where
@@ -126,36 +138,44 @@ module _ (tree : List DeclTree) (known : List Known) (are : AreKnown tree known)
             eqb-same k = grind arith
         go false g (suc j) f more = more (sym (ap (λ z. if z then true else has_id fs k) g) ∙ e) j f
 
-    face-tells : (done rest : List Id) (i : Id) (fs : List ClassId) → faces_named d ≡ done ++ i ∷ rest → AreFaces done fs → Tells (AreFaces (done ++ i ∷ [])) (ConditionAt tree) (face known fs i)
+    face-tells : (done rest : List Id) (i : Id) (fs : List ClassId) → faces_named d ≡ done ++ i ∷ rest → AreFaces done fs
+        → Tells (AreFaces (done ++ i ∷ [])) (ConditionAt tree) (face known fs i)
     face-tells done rest i fs e h =
         tell (AreFaces (done ++ i ∷ [])) (ConditionAt tree) (asked known i.name i.place) _
-        (asked-named i (ConditionAt tree) (λ f. unknown (by_super (a_face at (member-at (faces_named d) (length done) i here))) f)) (λ k f. go k f (is_face known k) refl (has_id fs k) refl) (λ r f. f)
+        (asked-named i (ConditionAt tree) (λ f. unknown (by_super (a_face at (member-at (faces_named d) (length done) i here))) f))
+        (λ k f. go k f (is_face known k) refl (has_id fs k) refl) (λ r f. f)
       where
         here : slice_get (faces_named d) (length done) ≡ Some i
         here = stands-at done i rest e
 
         go : (k : ℕ) → class_named (outline tree) i.name ≡ Some k → (b : Bool) → is_face known k ≡ b → (c : Bool) → has_id fs k ≡ c
-            → Tells (AreFaces (done ++ i ∷ [])) (ConditionAt tree) (if not b then Err (TwoKinds i.name i.place) else if c then Err (Twice i.name i.place) else Ok (fs ++ class_id k ∷ []))
+            → Tells (AreFaces (done ++ i ∷ [])) (ConditionAt tree) (if not b then Err (TwoKinds i.name i.place) else if c then Err
+            (Twice i.name i.place) else Ok (fs ++ class_id k ∷ []))
         go k f false g c q = let s = named-class i.name k f in class_as_face at (member-at (faces_named d) (length done) i here) f s.1 (s.2 ∙ g)
         go k f true g true q =
             let s = has_id-stands fs k q in
             let m = map-stands (id_meant (types_in tree)) done s.0 (class_id k) (ap (λ z. slice_get z s.0) (sym h.same) ∙ s.1) in
             let o = h.faces s.0 m.0 m.1 in
             let n : o.number ≡ k = ap (λ z. z.0) (sym (id-meant m.0 o.number o.named) ∙ m.2) in
-            let a : slice_get (type_names (outline tree)) k ≡ Some (m.0.name) = subst (λ z. slice_get (type_names (outline tree)) z ≡ Some (m.0.name)) n (named-stands (type_names (outline tree)) m.0.name o.number o.named) in
-            super_twice at (earlier-stands done (i ∷ rest) e s.0 m.0 m.1) here (stands-within done s.0 m.0 m.1) (same_some (sym a ∙ named-stands (type_names (outline tree)) i.name k f))
+            let a : slice_get (type_names (outline tree)) k ≡ Some (m.0.name) = subst (λ z. slice_get (type_names (outline tree)) z ≡ Some (m.0.name))
+            n (named-stands (type_names (outline tree)) m.0.name o.number o.named) in
+            super_twice at (earlier-stands done (i ∷ rest) e s.0 m.0 m.1) here (stands-within done s.0 m.0 m.1)
+            (same_some (sym a ∙ named-stands (type_names (outline tree)) i.name k f))
         go k f true g false q =
             let s = named-class i.name k f in
             let push = map-append (id_meant (types_in tree)) done (i ∷ []) ∙ ap (λ z. map (id_meant (types_in tree)) done ++ z ∷ []) (id-meant i k f) in
             record {
               same = ap (λ z. z ++ class_id k ∷ []) h.same ∙ sym push;
-              faces = λ j c l. ⊎_elim (λ x. h.faces j c x) (λ x. subst (λ z. StandsNamed tree z.name true) x.1 (record { number = k; named = f; class = s.0; stands = s.1; kind = s.2 ∙ g })) (push-cases done i j c l);
-              once = subst HasNoTwice (sym push) (once-push (map (id_meant (types_in tree)) done) (class_id k) h.once (λ j l. no_id-stands fs k q j (ap (λ z. slice_get z j) h.same ∙ l)));
+              faces = λ j c l. ⊎_elim (λ x. h.faces j c x) (λ x. subst (λ z. StandsNamed tree z.name true) x.1
+                  (record { number = k; named = f; class = s.0; stands = s.1; kind = s.2 ∙ g })) (push-cases done i j c l);
+              once = subst HasNoTwice (sym push) (once-push (map (id_meant (types_in tree)) done) (class_id k) h.once
+                  (λ j l. no_id-stands fs k q j (ap (λ z. slice_get z j) h.same ∙ l)));
             }
 
     faces-tells : Tells (AreFaces (faces_named d)) (ConditionAt tree) (faces_of known (faces_named d))
     unfolding HasNoTwice
-    faces-tells = run-tells (ConditionAt tree) (faces_named d) (face known) AreFaces (λ done rest i fs e h. face-tells done rest i fs e h) [] (faces_named d) [] refl
+    faces-tells = run-tells (ConditionAt tree) (faces_named d) (face known) AreFaces (λ done rest i fs e h. face-tells done rest i fs e h) []
+        (faces_named d) [] refl
         (record { same = refl; faces = λ j i e. absurd (cc e); once = λ i j x a b. absurd (cc a) })
 
   -- a class or an interface
@@ -187,13 +207,17 @@ module _ (tree : List DeclTree) (known : List Known) (are : AreKnown tree known)
 
   pub classes-tells : Tells (AreClasses tree) (ConditionAt tree) (classes_of known tree)
   unfolding ClassIs chars
-  classes-tells = run-tells (ConditionAt tree) tree (class_step known) AreClasses step [] tree (object_class ∷ []) refl (record { same = refl; supers = λ i d e. absurd (cc e) })
+  classes-tells = run-tells (ConditionAt tree) tree (class_step known) AreClasses step [] tree (object_class ∷ []) refl
+      (record { same = refl; supers = λ i d e. absurd (cc e) })
     where
-      step : (done rest : List DeclTree) (d : DeclTree) (cs : List PlainClass) → tree ≡ done ++ d ∷ rest → AreClasses done cs → Tells (AreClasses (done ++ d ∷ [])) (ConditionAt tree) (class_step known cs d)
+      step : (done rest : List DeclTree) (d : DeclTree) (cs : List PlainClass) → tree ≡ done ++ d ∷ rest → AreClasses done cs
+          → Tells (AreClasses (done ++ d ∷ [])) (ConditionAt tree) (class_step known cs d)
       step done rest d cs e h =
-          tell (AreClasses (done ++ d ∷ [])) (ConditionAt tree) (class_tree known d) _ (class-tells d (member-at tree (length done) d (stands-at done d rest e)))
+          tell (AreClasses (done ++ d ∷ [])) (ConditionAt tree) (class_tree known d) _
+          (class-tells d (member-at tree (length done) d (stands-at done d rest e)))
           (λ c g. record {
-            same = ap (λ z. cs ++ z ∷ []) g.0 ∙ ap (λ z. z ++ class_outline (types_in tree) d ∷ []) h.same ∙ ap (λ z. object ∷ z) (sym (map-append (class_outline (types_in tree)) done (d ∷ [])));
+            same = ap (λ z. cs ++ z ∷ []) g.0 ∙ ap (λ z. z ++ class_outline (types_in tree) d ∷ []) h.same
+                ∙ ap (λ z. object ∷ z) (sym (map-append (class_outline (types_in tree)) done (d ∷ [])));
             supers = λ i x l. ⊎_elim (λ a. h.supers i x a) (λ a. subst (HasSupers tree) a.1 g.1) (push-cases done d i x l);
           })
           (λ r q. q)

@@ -20,7 +20,8 @@ use Rattle.java_resolve.proofs.Runs.{run-tells, stands-at, stands-within, earlie
 
 numbered : (k : ℕ) (n : List ℕ) (ks : List Known) → number_from k n ks ≡ position_from (λ m. bytes_eq m n) k (map (λ x. x.name) ks)
 numbered k n [] = refl
-numbered k n (x ∷ xs) = ap (cond (bytes_eq x.name n) (Some k)) (numbered (suc k) n xs ∙ ap (λ i. position_from (λ m. bytes_eq m n) i (map (λ y. y.name) xs)) (sym (add-one k)))
+numbered k n (x ∷ xs) = ap (cond (bytes_eq x.name n) (Some k)) (numbered (suc k) n xs
+    ∙ ap (λ i. position_from (λ m. bytes_eq m n) i (map (λ y. y.name) xs)) (sym (add-one k)))
 
 pub number_of-named : (ks : List Known) (n : List ℕ) → number_of ks n ≡ type_named (map (λ x. x.name) ks) n
 number_of-named ks n = numbered 0 n ks ∙ sym (position-from (λ m. bytes_eq m n) (map (λ x. x.name) ks))
@@ -42,7 +43,8 @@ pub record AreKnown (done : List DeclTree) (ks : List Known) : Type 0 where
   pub once : HasNoTwice (types_in done)
   pub apart : (i : ℕ) (d : DeclTree) → slice_get done i ≡ Some d → is_known (name_of d) ≡ false
 
-know-tells : (whole done rest : List DeclTree) (d : DeclTree) (ks : List Known) → whole ≡ done ++ d ∷ rest → AreKnown done ks → Tells (AreKnown (done ++ d ∷ [])) (ConditionAt whole) (know ks d)
+know-tells : (whole done rest : List DeclTree) (d : DeclTree) (ks : List Known) → whole ≡ done ++ d ∷ rest → AreKnown done ks
+    → Tells (AreKnown (done ++ d ∷ [])) (ConditionAt whole) (know ks d)
 unfolding chars
 know-tells whole done rest d ks e h = go (is_known (name_of d)) refl (type_named (types_in done) (name_of d)) refl
   where
@@ -61,15 +63,20 @@ know-tells whole done rest d ks e h = go (is_known (name_of d)) refl (type_named
     apart : is_known (name_of d) ≡ false → (i : ℕ) (c : DeclTree) → slice_get (done ++ d ∷ []) i ≡ Some c → is_known (name_of c) ≡ false
     apart b i c f = ⊎_elim (λ k. h.apart i c k) (λ k. subst (λ z. is_known (name_of z) ≡ false) k.1 b) (push-cases done d i c f)
 
-    more : is_known (name_of d) ≡ false → type_named (types_in done) (name_of d) ≡ None → AreKnown (done ++ d ∷ []) (ks ++ record { name = name_of d; is_interface = is_interface_of d } ∷ [])
+    more : is_known (name_of d) ≡ false → type_named (types_in done) (name_of d) ≡ None
+        → AreKnown (done ++ d ∷ []) (ks ++ record { name = name_of d; is_interface = is_interface_of d } ∷ [])
     more b f = record {
-      names = map-append (λ k. k.name) ks (record { name = name_of d; is_interface = is_interface_of d } ∷ []) ∙ ap (λ z. z ++ name_of d ∷ []) h.names ∙ ap (λ z. codes "Object" ∷ z) (sym names);
-      faces = map-append (λ k. k.is_interface) ks (record { name = name_of d; is_interface = is_interface_of d } ∷ []) ∙ ap (λ z. z ++ is_interface_of d ∷ []) h.faces ∙ ap (λ z. false ∷ z) (sym (map-append is_interface_of done (d ∷ [])));
-      once = subst (λ z. HasNoTwice (codes "Object" ∷ z)) (sym names) (once-push (types_in done) (name_of d) h.once (λ i g. unnamed-stands (types_in done) (name_of d) f i g));
+      names = map-append (λ k. k.name) ks (record { name = name_of d; is_interface = is_interface_of d } ∷ []) ∙ ap (λ z. z ++ name_of d ∷ []) h.names
+          ∙ ap (λ z. codes "Object" ∷ z) (sym names);
+      faces = map-append (λ k. k.is_interface) ks (record { name = name_of d; is_interface = is_interface_of d } ∷ [])
+          ∙ ap (λ z. z ++ is_interface_of d ∷ []) h.faces ∙ ap (λ z. false ∷ z) (sym (map-append is_interface_of done (d ∷ [])));
+      once = subst (λ z. HasNoTwice (codes "Object" ∷ z)) (sym names) (once-push (types_in done) (name_of d) h.once
+          (λ i g. unnamed-stands (types_in done) (name_of d) f i g));
       apart = apart b;
     }
 
-    go : (a : Bool) → is_known (name_of d) ≡ a → (o : Option ℕ) → type_named (types_in done) (name_of d) ≡ o → Tells (AreKnown (done ++ d ∷ [])) (ConditionAt whole) (know_named ks (name_of d) (is_interface_of d) (place_of d))
+    go : (a : Bool) → is_known (name_of d) ≡ a → (o : Option ℕ) → type_named (types_in done) (name_of d) ≡ o
+        → Tells (AreKnown (done ++ d ∷ [])) (ConditionAt whole) (know_named ks (name_of d) (is_interface_of d) (place_of d))
     go true b o c = rw b (known_twice (member-at whole (length done) d here) (inr b))
     go false b (Some i) c = rw (b, number_of-named ks (name_of d), h.names, c) (twice i (named-stands (types_in done) (name_of d) i c))
     go false b None c = rw (b, number_of-named ks (name_of d), h.names, c) (more b c)

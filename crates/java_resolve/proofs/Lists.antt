@@ -14,9 +14,11 @@ use Rattle.java_resolve.proofs.Rows.{exprs_push}
 use Rattle.java_resolve.proofs.Steps.{next_at}
 
 -- one argument more
-pub all_next : (t : Table) (h : Here) (scope : List Bound) (k j : ℕ) (done pushed : List RExpr) (list : List Expr) (n : ℕ) (s : Expr) (e : RExpr) (o : Result (Exs × ℕ) Refusal) → n < length list → s ≡ get_or list n s →
+pub all_next : (t : Table) (h : Here) (scope : List Bound) (k j : ℕ) (done pushed : List RExpr) (list : List Expr) (n : ℕ) (s : Expr) (e : RExpr)
+    (o : Result (Exs × ℕ) Refusal) → n < length list → s ≡ get_or list n s →
     walk t h scope k (tree.expr_of s) ≡ Ok (expr_of at_place e, j) → pushed ≡ done ++ e ∷ [] →
-    walk_all t h scope (exprs at_place done) k (tree.exprs (drop n list)) ≡ o → walk_all t h scope (exprs at_place pushed) j (tree.exprs (drop (n + 1) list)) ≡ o
+    walk_all t h scope (exprs at_place done) k (tree.exprs (drop n list)) ≡ o
+    → walk_all t h scope (exprs at_place pushed) j (tree.exprs (drop (n + 1) list)) ≡ o
 all_next t h scope k j done pushed list n s e o below at given push before =
     let rest = drop (n + 1) list in
     ap (λ x. walk_all t h scope x j (tree.exprs rest)) (ap (exprs at_place) push ∙ exprs_push done e)

@@ -23,14 +23,18 @@ no_super : (tree : List DeclTree) → IsProperSubclass (outline tree) 0 0 → �
 unfolding outline
 no_super tree h = let e = h.direct.1 in omega (arith, e)
 
-pub class_stands : (tree : List DeclTree) (i : ℕ) (k : PlainClass) → slice_get (outline tree).classes (suc i) ≡ Some k → (d : DeclTree) × (slice_get tree i ≡ Some d) × (class_outline (types_in tree) d ≡ k)
+pub class_stands : (tree : List DeclTree) (i : ℕ) (k : PlainClass) → slice_get (outline tree).classes (suc i) ≡ Some k → (d : DeclTree)
+    × (slice_get tree i ≡ Some d) × (class_outline (types_in tree) d ≡ k)
 unfolding outline
 class_stands tree i k e = map-stands (class_outline (types_in tree)) tree i k e
 
-pub loops-tells : (tree : List DeclTree) (rows : List (List Bool)) → AreAbove (outline tree) rows → Tells (NoLoops tree (outline tree).classes) (ConditionAt tree) (loops_of rows (outline tree).classes)
-loops-tells tree rows above = run-tells (ConditionAt tree) (outline tree).classes (loop_step rows) (NoLoops tree) step [] (outline tree).classes 0 refl (record { count = refl; none = λ c lt h. omega (arith, lt) })
+pub loops-tells : (tree : List DeclTree) (rows : List (List Bool)) → AreAbove (outline tree) rows
+    → Tells (NoLoops tree (outline tree).classes) (ConditionAt tree) (loops_of rows (outline tree).classes)
+loops-tells tree rows above = run-tells (ConditionAt tree) (outline tree).classes (loop_step rows) (NoLoops tree) step [] (outline tree).classes 0
+    refl (record { count = refl; none = λ c lt h. omega (arith, lt) })
   where
-    step : (done rest : List PlainClass) (k : PlainClass) (n : ℕ) → (outline tree).classes ≡ done ++ k ∷ rest → NoLoops tree done n → Tells (NoLoops tree (done ++ k ∷ [])) (ConditionAt tree) (loop_step rows n k)
+    step : (done rest : List PlainClass) (k : PlainClass) (n : ℕ) → (outline tree).classes ≡ done ++ k ∷ rest → NoLoops tree done n
+        → Tells (NoLoops tree (done ++ k ∷ [])) (ConditionAt tree) (loop_step rows n k)
     step done rest k n e h = go (above_by rows k n) refl
       where
         here : slice_get (outline tree).classes n ≡ Some k
@@ -42,7 +46,8 @@ loops-tells tree rows above = run-tells (ConditionAt tree) (outline tree).classe
             let g = class_stands tree a k at in
             subst (λ z. ConditionAt tree (Loop z.name z.tag.place)) g.2 (loop g.1 l)
 
-        go : (b : Bool) → above_by rows k n ≡ b → Tells (NoLoops tree (done ++ k ∷ [])) (ConditionAt tree) (if b then Err (Loop k.name k.tag.place) else Ok (n + 1))
+        go : (b : Bool) → above_by rows k n ≡ b → Tells (NoLoops tree (done ++ k ∷ [])) (ConditionAt tree)
+            (if b then Err (Loop k.name k.tag.place) else Ok (n + 1))
         go true f = in_loop n here (above.proper n n k here (stands-within (outline tree).classes n k here) f)
         go false f = record {
           count = let a = h.count in let b = length-append done (k ∷ []) in omega (arith, a, b);

@@ -35,7 +35,13 @@ unfolding chars
 main-begins true n ls None e = go (bytes_eq (codes "main") n) refl
   where
     go : (b : Bool) → bytes_eq (codes "main") n ≡ b → Begins true n ls None
-    go true f = record { is_static = refl; name = sym ((bytes_eq-Decides (codes "main") n).0 f); params = takes-one ls (sym (ap (λ z. z && takes_texts ls) f) ∙ e); result = refl }
+    go true f = record {
+      is_static = refl;
+      name = sym ((bytes_eq-Decides (codes "main") n).0 f);
+      params = takes-one ls
+          (sym (ap (λ z. z && takes_texts ls) f) ∙ e);
+      result = refl;
+    }
     go false f = absurd (false≢true (sym (ap (λ z. z && takes_texts ls) f) ∙ e))
 main-begins true n ls (Some t) e = absurd (false≢true e)
 main-begins false n ls r e = absurd (false≢true e)

@@ -30,7 +30,8 @@ use Rattle.java_resolve.proofs.KnownMembers.{AreMembers, HeadIs, some-stands}
 
 -- ---- owners are types of the tree
 
-pub front-or-back : {A : Type 0} (xs ys : List A) (i : ℕ) (x : A) → slice_get (xs ++ ys) i ≡ Some x → ((j : ℕ) × (slice_get xs j ≡ Some x)) ⊎ ((j : ℕ) × (slice_get ys j ≡ Some x))
+pub front-or-back : {A : Type 0} (xs ys : List A) (i : ℕ) (x : A) → slice_get (xs ++ ys) i ≡ Some x → ((j : ℕ) × (slice_get xs j ≡ Some x))
+    ⊎ ((j : ℕ) × (slice_get ys j ≡ Some x))
 front-or-back [] ys i x e = inr (i, e)
 front-or-back (z ∷ xs) ys zero x e = inl (0, e)
 front-or-back (z ∷ xs) ys (suc i) x e = ⊎_elim (λ h. inl (suc h.0, h.1)) (λ h. inr h) (front-or-back xs ys i x e)
@@ -54,7 +55,8 @@ owner-from : (c : ℕ) (ds : List DeclTree) (i : ℕ) (m : MethodAt) → slice_g
 owner-from c [] i m e = absurd (cc e)
 owner-from c (d ∷ ds) i m e = go (front-or-back (methods_declared c d) (methods_from (suc c) ds) i m e) (λ j f. owner-from (suc c) ds j m f)
   where
-    go : ((j : ℕ) × (slice_get (methods_declared c d) j ≡ Some m)) ⊎ ((j : ℕ) × (slice_get (methods_from (suc c) ds) j ≡ Some m)) → ((j : ℕ) → slice_get (methods_from (suc c) ds) j ≡ Some m → m.owner < suc c + length ds) → m.owner < c + suc (length ds)
+    go : ((j : ℕ) × (slice_get (methods_declared c d) j ≡ Some m)) ⊎ ((j : ℕ) × (slice_get (methods_from (suc c) ds) j ≡ Some m))
+        → ((j : ℕ) → slice_get (methods_from (suc c) ds) j ≡ Some m → m.owner < suc c + length ds) → m.owner < c + suc (length ds)
     go (inl h) more = let a = owner-declared c d h.0 m h.1 in omega (arith, a)
     go (inr h) more = let a = more h.0 h.1 in omega (arith, a)
 
@@ -65,11 +67,13 @@ classes-count tree = ap suc (length-map tree _)
 pub owner-within : (tree : List DeclTree) (i : ℕ) (m : MethodAt) → slice_get (methods_in tree) i ≡ Some m → m.owner < length (outline tree).classes
 owner-within tree i m e = let a = owner-from 1 tree i m e in let b = classes-count tree in omega (arith, a, b)
 
-pub method_at-outline : (tree : List DeclTree) (i : ℕ) (m : MethodAt) → slice_get (methods_in tree) i ≡ Some m → slice_get (outline tree).methods i ≡ Some (method_outline (types_in tree) m)
+pub method_at-outline : (tree : List DeclTree) (i : ℕ) (m : MethodAt) → slice_get (methods_in tree) i ≡ Some m → slice_get (outline tree).methods i
+    ≡ Some (method_outline (types_in tree) m)
 unfolding outline
 method_at-outline tree i m e = stands-map (method_outline (types_in tree)) (methods_in tree) i m e
 
-pub outline-method : (tree : List DeclTree) (i : ℕ) (k : PlainMethod) → slice_get (outline tree).methods i ≡ Some k → (m : MethodAt) × (slice_get (methods_in tree) i ≡ Some m) × (method_outline (types_in tree) m ≡ k)
+pub outline-method : (tree : List DeclTree) (i : ℕ) (k : PlainMethod) → slice_get (outline tree).methods i ≡ Some k → (m : MethodAt)
+    × (slice_get (methods_in tree) i ≡ Some m) × (method_outline (types_in tree) m ≡ k)
 unfolding outline
 outline-method tree i k e = map-stands (method_outline (types_in tree)) (methods_in tree) i k e
 
@@ -85,17 +89,21 @@ not-true' false e = refl
 
 module _ (tree : List DeclTree) (known : List Known) (are : AreKnown tree known) (rows : List (List Bool)) (above : AreAbove (outline tree) rows)
     (fs : List _) (m : Members) (members : AreMembers tree known are fs (methods_in tree) m) where
-  meet-stands : (rs : List (List Bool)) (a b : ℕ) → meet rs a b ≡ true → (c : ℕ) × (row : List Bool) × (slice_get rs c ≡ Some row) × (bit_in (slice_get row a) ≡ true) × (bit_in (slice_get row b) ≡ true)
+  meet-stands : (rs : List (List Bool)) (a b : ℕ) → meet rs a b ≡ true → (c : ℕ) × (row : List Bool) × (slice_get rs c ≡ Some row)
+      × (bit_in (slice_get row a) ≡ true) × (bit_in (slice_get row b) ≡ true)
   meet-stands [] a b e = absurd (false≢true e)
   meet-stands (row ∷ rs) a b e = go (bit_in (slice_get row a) && bit_in (slice_get row b)) refl (meet-stands rs a b)
     where
-      go : (x : Bool) → bit_in (slice_get row a) && bit_in (slice_get row b) ≡ x → (meet rs a b ≡ true → (c : ℕ) × (row : List Bool) × (slice_get rs c ≡ Some row) × (bit_in (slice_get row a) ≡ true) × (bit_in (slice_get row b) ≡ true))
+      go : (x : Bool) → bit_in (slice_get row a) && bit_in (slice_get row b) ≡ x
+          → (meet rs a b ≡ true → (c : ℕ) × (row : List Bool) × (slice_get rs c ≡ Some row) × (bit_in (slice_get row a) ≡ true)
+          × (bit_in (slice_get row b) ≡ true))
           → (c : ℕ) × (r : List Bool) × (slice_get (row ∷ rs) c ≡ Some r) × (bit_in (slice_get r a) ≡ true) × (bit_in (slice_get r b) ≡ true)
       go true f more = let g = and-true (bit_in (slice_get row a)) (bit_in (slice_get row b)) f in (0, row, refl, g.0, g.1)
       go false f more = let g = more (sym (ap (λ z. if z then true else meet rs a b) f) ∙ e) in (suc g.0, g.1, g.2, g.3, g.4)
 
   -- methods whose signatures agree have one slot
-  one-slot : (i j : ℕ) (a b : Heading) (x y : MethodAt) → slice_get m.headings i ≡ Some a → slice_get m.headings j ≡ Some b → slice_get (methods_in tree) i ≡ Some x → slice_get (methods_in tree) j ≡ Some y
+  one-slot : (i j : ℕ) (a b : Heading) (x y : MethodAt) → slice_get m.headings i ≡ Some a → slice_get m.headings j ≡ Some b
+      → slice_get (methods_in tree) i ≡ Some x → slice_get (methods_in tree) j ≡ Some y
       → x.head.name ≡ y.head.name → AreOneSlot (method_outline (types_in tree) x) (method_outline (types_in tree) y) → same_slot a.slot b.slot ≡ true
   one-slot i j a b x y p q u v n o = go (members.slots.each i a x p u) (members.slots.each j b y q v)
     where
@@ -106,7 +114,8 @@ module _ (tree : List DeclTree) (known : List Known) (are : AreKnown tree known)
           ap (λ z. same_slot z b.slot) e ∙ ap (same_slot (Some r)) h
           ∙ eq-eqb r l (members.slots.apart r l c d f k (sym g.name ∙ n ∙ w.name) (sym g.params ∙ o.params ∙ w.params) (sym g.result ∙ o.result ∙ w.result))
 
-  clash-tells : (i j : ℕ) (a b : Heading) → slice_get m.headings i ≡ Some a → slice_get m.headings j ≡ Some b → i < j → (r : Refusal) → clash_with rows b a ≡ Some r → ConditionAt tree r
+  clash-tells : (i j : ℕ) (a b : Heading) → slice_get m.headings i ≡ Some a → slice_get m.headings j ≡ Some b → i < j → (r : Refusal)
+      → clash_with rows b a ≡ Some r → ConditionAt tree r
   clash-tells i j a b p q lt r e = by_name (bytes_eq a.name b.name) refl
     where
       x : (n : MethodAt) × (slice_get (methods_in tree) i ≡ Some n)
@@ -132,7 +141,8 @@ module _ (tree : List DeclTree) (known : List Known) (are : AreKnown tree known)
 
       by_name : (c : Bool) → bytes_eq a.name b.name ≡ c → ConditionAt tree r
       by_name false f = absurd (cc (sym (ap (λ z. if z then clash_of rows a b else None) f) ∙ e))
-      by_name true f = by_private ((a.is_private || b.is_private) && (is_above rows a.owner b.owner || is_above rows b.owner a.owner)) refl (not (same_slot a.slot b.slot) && meet rows a.owner b.owner) refl
+      by_name true f = by_private ((a.is_private || b.is_private) && (is_above rows a.owner b.owner || is_above rows b.owner a.owner)) refl
+          (not (same_slot a.slot b.slot) && meet rows a.owner b.owner) refl
         where
           names : x.0.head.name ≡ y.0.head.name
           names = sym hx.name ∙ (bytes_eq-Decides a.name b.name).0 f ∙ hy.name
@@ -140,30 +150,38 @@ module _ (tree : List DeclTree) (known : List Known) (are : AreKnown tree known)
           is : clash_of rows a b ≡ Some r
           is = sym (ap (λ z. if z then clash_of rows a b else None) f) ∙ e
 
-          by_private : (c : Bool) → (a.is_private || b.is_private) && (is_above rows a.owner b.owner || is_above rows b.owner a.owner) ≡ c → (d : Bool) → not (same_slot a.slot b.slot) && meet rows a.owner b.owner ≡ d → ConditionAt tree r
+          by_private : (c : Bool) → (a.is_private || b.is_private) && (is_above rows a.owner b.owner || is_above rows b.owner a.owner) ≡ c
+              → (d : Bool) → not (same_slot a.slot b.slot) && meet rows a.owner b.owner ≡ d → ConditionAt tree r
           by_private true g d h =
               let k = and-true (a.is_private || b.is_private) (is_above rows a.owner b.owner || is_above rows b.owner a.owner) g in
               let same : PrivateReused b.name b.place ≡ r =
-              same_some (sym (ap (λ z. if z then Some (PrivateReused b.name b.place) else if not (same_slot a.slot b.slot) && meet rows a.owner b.owner then Some (Overload b.name b.place) else None) g) ∙ is) in
-              let l = private_reused x.1 y.1 lt names (λ o. let s = members.method_once i j x.0 y.0 x.1 y.1 o names in omega (arith, s, lt)) (ap (λ z. z || is_private y.0) (sym hx.private) ∙ ap (λ z. a.is_private || z) (sym hy.private) ∙ k.0)
-              (⊎_elim (λ s. inl (subst (λ z. IsSubclass (outline tree) z y.0.owner) hx.owner (subst (λ z. IsSubclass (outline tree) a.owner z) hy.owner (above-sound a.owner b.owner y-within s))))
-              (λ s. inr (subst (λ z. IsSubclass (outline tree) z x.0.owner) hy.owner (subst (λ z. IsSubclass (outline tree) b.owner z) hx.owner (above-sound b.owner a.owner x-within s))))
+              same_some (sym (ap (λ z. if z then Some (PrivateReused b.name b.place) else if not (same_slot a.slot b.slot) && meet rows a.owner
+              b.owner then Some (Overload b.name b.place) else None) g) ∙ is) in
+              let l = private_reused x.1 y.1 lt names (λ o. let s = members.method_once i j x.0 y.0 x.1 y.1 o names in omega (arith, s, lt))
+              (ap (λ z. z || is_private y.0) (sym hx.private) ∙ ap (λ z. a.is_private || z) (sym hy.private) ∙ k.0)
+              (⊎_elim (λ s. inl (subst (λ z. IsSubclass (outline tree) z y.0.owner) hx.owner
+              (subst (λ z. IsSubclass (outline tree) a.owner z) hy.owner (above-sound a.owner b.owner y-within s))))
+              (λ s. inr (subst (λ z. IsSubclass (outline tree) z x.0.owner) hy.owner (subst (λ z. IsSubclass (outline tree) b.owner z) hx.owner
+              (above-sound b.owner a.owner x-within s))))
               (or_cases (is_above rows a.owner b.owner) (is_above rows b.owner a.owner) k.1)) in
               subst (ConditionAt tree) (ap (λ z. PrivateReused z y.0.head.place) (sym hy.name) ∙ ap (λ z. PrivateReused b.name z) (sym hy.place) ∙ same) l
           by_private false g true h =
               let k = and-true (not (same_slot a.slot b.slot)) (meet rows a.owner b.owner) h in
               let same : Overload b.name b.place ≡ r =
-              same_some (sym (ap (λ z. if z then Some (PrivateReused b.name b.place) else if not (same_slot a.slot b.slot) && meet rows a.owner b.owner then Some (Overload b.name b.place) else None) g
+              same_some (sym (ap (λ z. if z then Some (PrivateReused b.name b.place) else if not (same_slot a.slot b.slot) && meet rows a.owner
+              b.owner then Some (Overload b.name b.place) else None) g
               ∙ ap (λ z. if z then Some (Overload b.name b.place) else None) h) ∙ is) in
               let w = meet-stands rows a.owner b.owner k.1 in
               let at-a : is_above rows w.0 a.owner ≡ true = ap (λ z. row_in z a.owner) w.2 ∙ w.3 in
               let at-b : is_above rows w.0 b.owner ≡ true = ap (λ z. row_in z b.owner) w.2 ∙ w.4 in
               let l = overload (method_at-outline tree i x.0 x.1) (method_at-outline tree j y.0 y.1) lt names
-              (subst (λ z. IsSubclass (outline tree) w.0 z) hx.owner (above-sound w.0 a.owner x-within at-a)) (subst (λ z. IsSubclass (outline tree) w.0 z) hy.owner (above-sound w.0 b.owner y-within at-b))
+              (subst (λ z. IsSubclass (outline tree) w.0 z) hx.owner (above-sound w.0 a.owner x-within at-a))
+              (subst (λ z. IsSubclass (outline tree) w.0 z) hy.owner (above-sound w.0 b.owner y-within at-b))
               (λ o. false≢true (sym (not-true' (same_slot a.slot b.slot) k.0) ∙ one-slot i j a b x.0 y.0 p q x.1 y.1 names o)) in
               subst (ConditionAt tree) (ap (λ z. Overload z y.0.head.place) (sym hy.name) ∙ ap (λ z. Overload b.name z) (sym hy.place) ∙ same) l
           by_private false g false h =
-              absurd (cc (sym (ap (λ z. if z then Some (PrivateReused b.name b.place) else if not (same_slot a.slot b.slot) && meet rows a.owner b.owner then Some (Overload b.name b.place) else None) g
+              absurd (cc (sym (ap (λ z. if z then Some (PrivateReused b.name b.place) else if not (same_slot a.slot b.slot) && meet rows a.owner
+              b.owner then Some (Overload b.name b.place) else None) g
               ∙ ap (λ z. if z then Some (Overload b.name b.place) else None) h) ∙ is))
 
   -- a method clashes with none before it
@@ -172,22 +190,28 @@ module _ (tree : List DeclTree) (known : List Known) (are : AreKnown tree known)
     pub count : (j ≡ length done) ⊎ ((j ≡ k) × (k ≤ length done))
     pub none : (i : ℕ) (a : Heading) → slice_get done i ≡ Some a → i < k → clash_with rows b a ≡ None
 
-  earlier-tells : (k : ℕ) (b : Heading) → slice_get m.headings k ≡ Some b → Tells (NoneEarlier k b m.headings) (ConditionAt tree) (run (earlier_step rows k b) 0 m.headings)
-  earlier-tells k b at = run-tells (ConditionAt tree) m.headings (earlier_step rows k b) (NoneEarlier k b) step [] m.headings 0 refl (record { at_most = omega arith; count = inl refl; none = λ i a e lt. absurd (cc e) })
+  earlier-tells : (k : ℕ) (b : Heading) → slice_get m.headings k ≡ Some b → Tells (NoneEarlier k b m.headings) (ConditionAt tree)
+      (run (earlier_step rows k b) 0 m.headings)
+  earlier-tells k b at = run-tells (ConditionAt tree) m.headings (earlier_step rows k b) (NoneEarlier k b) step [] m.headings 0 refl
+      (record { at_most = omega arith; count = inl refl; none = λ i a e lt. absurd (cc e) })
     where
-      step : (done rest : List Heading) (a : Heading) (j : ℕ) → m.headings ≡ done ++ a ∷ rest → NoneEarlier k b done j → Tells (NoneEarlier k b (done ++ a ∷ [])) (ConditionAt tree) (earlier_step rows k b j a)
+      step : (done rest : List Heading) (a : Heading) (j : ℕ) → m.headings ≡ done ++ a ∷ rest → NoneEarlier k b done j
+          → Tells (NoneEarlier k b (done ++ a ∷ [])) (ConditionAt tree) (earlier_step rows k b j a)
       step done rest a j e h = go (j == k) refl (clash_with rows b a) refl
         where
           size : length (done ++ a ∷ []) ≡ length done + 1
           size = length-append done (a ∷ [])
 
-          go : (c : Bool) → (j == k) ≡ c → (o : Option Refusal) → clash_with rows b a ≡ o → Tells (NoneEarlier k b (done ++ a ∷ [])) (ConditionAt tree) (if c then Ok j else unless o (Ok (j + 1)))
+          go : (c : Bool) → (j == k) ≡ c → (o : Option Refusal) → clash_with rows b a ≡ o
+              → Tells (NoneEarlier k b (done ++ a ∷ [])) (ConditionAt tree) (if c then Ok j else unless o (Ok (j + 1)))
           go true f o g =
               let s = eqb-true j k f in
               record {
                 at_most = h.at_most;
                 count = inr (s, ⊎_elim (λ l. omega (arith, l, s, size)) (λ l. let u = l.1 in omega (arith, u, size)) h.count);
-                none = λ i x u lt. ⊎_elim (λ v. h.none i x v lt) (λ v. let l : k ≤ length done = ⊎_elim (λ l. omega (arith, l, s)) (λ l. l.1) h.count in let w = v.0 in absurd (omega (arith, w, lt, l))) (push-cases done a i x u);
+                none = λ i x u lt. ⊎_elim (λ v. h.none i x v lt)
+                    (λ v. let l : k ≤ length done = ⊎_elim (λ l. omega (arith, l, s)) (λ l. l.1) h.count in let w = v.0 in absurd
+                    (omega (arith, w, lt, l))) (push-cases done a i x u);
               }
           go false f None g =
               let s = eqb-false j k f in let t = h.at_most in
@@ -207,16 +231,19 @@ module _ (tree : List DeclTree) (known : List Known) (are : AreKnown tree known)
     pub none : (i k : ℕ) (a b : Heading) → slice_get m.headings i ≡ Some a → slice_get done k ≡ Some b → i < k → clash_with rows b a ≡ None
 
   pub clashes-tells : Tells (NoClash m.headings) (ConditionAt tree) (clashes_of rows m.headings)
-  clashes-tells = run-tells (ConditionAt tree) m.headings (clash_step rows m.headings) NoClash step [] m.headings 0 refl (record { count = refl; none = λ i k a b u v lt. absurd (cc v) })
+  clashes-tells = run-tells (ConditionAt tree) m.headings (clash_step rows m.headings) NoClash step [] m.headings 0 refl
+      (record { count = refl; none = λ i k a b u v lt. absurd (cc v) })
     where
-      step : (done rest : List Heading) (b : Heading) (n : ℕ) → m.headings ≡ done ++ b ∷ rest → NoClash done n → Tells (NoClash (done ++ b ∷ [])) (ConditionAt tree) (clash_step rows m.headings n b)
+      step : (done rest : List Heading) (b : Heading) (n : ℕ) → m.headings ≡ done ++ b ∷ rest → NoClash done n
+          → Tells (NoClash (done ++ b ∷ [])) (ConditionAt tree) (clash_step rows m.headings n b)
       step done rest b n e h =
           tell (NoClash (done ++ b ∷ [])) (ConditionAt tree) (run (earlier_step rows n b) 0 m.headings) _
           (earlier-tells n b (ap (slice_get m.headings) h.count ∙ stands-at done b rest e))
           (λ j k. record {
             count = let a = h.count in let c = length-append done (b ∷ []) in omega (arith, a, c);
             none = λ i l a c u v lt. ⊎_elim (λ w. h.none i l a c u w lt)
-                (λ w. subst (λ z. clash_with rows z a ≡ None) w.1 (k.none i a u (let s = w.0 in let t = h.count in omega (arith, s, t, lt)))) (push-cases done b l c v);
+                (λ w. subst (λ z. clash_with rows z a ≡ None) w.1 (k.none i a u (let s = w.0 in let t = h.count in omega (arith, s, t, lt))))
+                (push-cases done b l c v);
           })
           (λ r q. q)
 

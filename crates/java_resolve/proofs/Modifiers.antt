@@ -55,9 +55,11 @@ word-push test (x ∷ mods) m = ap (λ z. test x.word || z) (word-push test mods
     swap true false c = refl
     swap false b c = refl
 
-word-stands : (test : Keyword → Bool) (mods : List Modifier) → has_word test mods ≡ true → (i : ℕ) × (m : Modifier) × (slice_get mods i ≡ Some m) × (test m.word ≡ true)
+word-stands : (test : Keyword → Bool) (mods : List Modifier) → has_word test mods ≡ true → (i : ℕ) × (m : Modifier) × (slice_get mods i ≡ Some m)
+    × (test m.word ≡ true)
 word-stands test [] e = absurd (cc e)
-word-stands test (x ∷ mods) e = ⊎_elim (λ h. (0, x, refl, h)) (λ h. let g = word-stands test mods h in (suc g.0, g.1, g.2, g.3)) (or_cases (test x.word) (has_word test mods) e)
+word-stands test (x ∷ mods) e = ⊎_elim (λ h. (0, x, refl, h)) (λ h. let g = word-stands test mods h in (suc g.0, g.1, g.2, g.3))
+    (or_cases (test x.word) (has_word test mods) e)
 
 noted-push : (mods : List Modifier) (f : Flags) (m : Modifier) (w : Keyword) → m.word ≡ w → FlagsAre mods f → FlagsAre (mods ++ m ∷ []) (noted f w)
 noted-push mods f m w e h = record {
@@ -136,16 +138,22 @@ misplaced-unfit _ f _ e = refl
 
 module _ (kind : Kind) (done : List Modifier) (f : Flags) (h : FlagsAre done f) where
   -- what stands already disagrees with nothing that fits
-  no-disagree : (v w : Keyword) → ((test : Keyword → Bool) → test v ≡ true → has_word test done ≡ true) → is_misplaced kind f w ≡ false → disagree v w ≡ true → ⊥
+  no-disagree : (v w : Keyword) → ((test : Keyword → Bool) → test v ≡ true → has_word test done ≡ true) → is_misplaced kind f w ≡ false
+      → disagree v w ≡ true → ⊥
   no-disagree keys.Public keys.Public has e d = false≢true (sym e ∙ h.public ∙ has is_public_word refl)
   no-disagree keys.Protected keys.Protected has e d = false≢true (sym (neither f.is_protected (is_head kind) e).0 ∙ h.protected ∙ has is_protected_word refl)
   no-disagree keys.Final keys.Final has e d = false≢true (sym (neither f.is_final (is_head kind) e).0 ∙ h.final ∙ has is_final_word refl)
-  no-disagree keys.Private keys.Private has e d = let a = neither (f.is_private || f.is_abstract) (is_head kind) e in false≢true (sym (neither f.is_private f.is_abstract a.0).0 ∙ h.private ∙ has is_private_word refl)
-  no-disagree keys.Abstract keys.Private has e d = let a = neither (f.is_private || f.is_abstract) (is_head kind) e in false≢true (sym (neither f.is_private f.is_abstract a.0).1 ∙ h.abstract ∙ has is_abstract_word refl)
-  no-disagree keys.Static keys.Static has e d = let a = neither (f.is_static || f.is_abstract) (no_static kind) e in false≢true (sym (neither f.is_static f.is_abstract a.0).0 ∙ h.static ∙ has is_static_word refl)
-  no-disagree keys.Abstract keys.Static has e d = let a = neither (f.is_static || f.is_abstract) (no_static kind) e in false≢true (sym (neither f.is_static f.is_abstract a.0).1 ∙ h.abstract ∙ has is_abstract_word refl)
+  no-disagree keys.Private keys.Private has e d = let a = neither (f.is_private || f.is_abstract) (is_head kind) e in false≢true
+      (sym (neither f.is_private f.is_abstract a.0).0 ∙ h.private ∙ has is_private_word refl)
+  no-disagree keys.Abstract keys.Private has e d = let a = neither (f.is_private || f.is_abstract) (is_head kind) e in false≢true
+      (sym (neither f.is_private f.is_abstract a.0).1 ∙ h.abstract ∙ has is_abstract_word refl)
+  no-disagree keys.Static keys.Static has e d = let a = neither (f.is_static || f.is_abstract) (no_static kind) e in false≢true
+      (sym (neither f.is_static f.is_abstract a.0).0 ∙ h.static ∙ has is_static_word refl)
+  no-disagree keys.Abstract keys.Static has e d = let a = neither (f.is_static || f.is_abstract) (no_static kind) e in false≢true
+      (sym (neither f.is_static f.is_abstract a.0).1 ∙ h.abstract ∙ has is_abstract_word refl)
   no-disagree keys.Static keys.Abstract has e d =
-      let a = neither ((f.is_abstract || f.is_private) || f.is_static) (is_field kind) e in false≢true (sym (neither (f.is_abstract || f.is_private) f.is_static a.0).1 ∙ h.static ∙ has is_static_word refl)
+      let a = neither ((f.is_abstract || f.is_private) || f.is_static) (is_field kind) e in false≢true
+      (sym (neither (f.is_abstract || f.is_private) f.is_static a.0).1 ∙ h.static ∙ has is_static_word refl)
   no-disagree keys.Abstract keys.Abstract has e d =
       let a = neither ((f.is_abstract || f.is_private) || f.is_static) (is_field kind) e in let b = neither (f.is_abstract || f.is_private) f.is_static a.0 in
       false≢true (sym (neither f.is_abstract f.is_private b.0).0 ∙ h.abstract ∙ has is_abstract_word refl)
@@ -174,7 +182,8 @@ module _ (kind : Kind) (done : List Modifier) (f : Flags) (h : FlagsAre done f) 
 
 module _ (tree : List DeclTree) (kind : Kind) (mods : List Modifier) (has : HasModifiers tree kind mods) where
   module _ (done rest : List Modifier) (m : Modifier) (at : mods ≡ done ++ m ∷ rest) where
-    earlier : (test : Keyword → Bool) → has_word test done ≡ true → ((w : Keyword) → test w ≡ true → disagree w m.word ≡ true) → ConditionAt tree (NotInProfile forms.Modifier m.place)
+    earlier : (test : Keyword → Bool) → has_word test done ≡ true → ((w : Keyword) → test w ≡ true → disagree w m.word ≡ true)
+        → ConditionAt tree (NotInProfile forms.Modifier m.place)
     earlier test e d =
         let g = word-stands test done e in
         modifiers_disagree has (earlier-stands done (m ∷ rest) at g.0 g.1 g.2) (stands-at done m rest at) (stands-within done g.0 g.1 g.2) (d g.1.word g.3)
@@ -182,14 +191,16 @@ module _ (tree : List DeclTree) (kind : Kind) (mods : List Modifier) (has : HasM
     unfit : is_unfit kind m.word ≡ true → ConditionAt tree (NotInProfile forms.Modifier m.place)
     unfit e = modifier_unfit has (member-at mods (length done) m (stands-at done m rest at)) e
 
-    misplaced : (f : Flags) → FlagsAre done f → (w : Keyword) → m.word ≡ w → is_misplaced kind f w ≡ true → ConditionAt tree (NotInProfile forms.Modifier m.place)
+    misplaced : (f : Flags) → FlagsAre done f → (w : Keyword) → m.word ≡ w → is_misplaced kind f w ≡ true
+        → ConditionAt tree (NotInProfile forms.Modifier m.place)
     misplaced f h keys.Public e i = earlier is_public_word (sym h.public ∙ i) (λ w t. rw e (go w t))
       where
         go : (w : Keyword) → is_public_word w ≡ true → disagree w keys.Public ≡ true
         go keys.Public t = refl
         go _ t = absurd (cc t)
     misplaced f h keys.Protected e i =
-        ⊎_elim (λ j. earlier is_protected_word (sym h.protected ∙ j) (λ w t. rw e (go w t))) (λ j. unfit (rw e (head kind j))) (or_cases f.is_protected (is_head kind) i)
+        ⊎_elim (λ j. earlier is_protected_word (sym h.protected ∙ j) (λ w t. rw e (go w t))) (λ j. unfit (rw e (head kind j)))
+        (or_cases f.is_protected (is_head kind) i)
       where
         go : (w : Keyword) → is_protected_word w ≡ true → disagree w keys.Protected ≡ true
         go keys.Protected t = refl
@@ -200,7 +211,8 @@ module _ (tree : List DeclTree) (kind : Kind) (mods : List Modifier) (has : HasM
         head _ t = absurd (cc t)
     misplaced f h keys.Private e i =
         ⊎_elim
-        (λ j. ⊎_elim (λ l. earlier is_private_word (sym h.private ∙ l) (λ w t. rw e (go w t))) (λ l. earlier is_abstract_word (sym h.abstract ∙ l) (λ w t. rw e (went w t))) (or_cases f.is_private f.is_abstract j))
+        (λ j. ⊎_elim (λ l. earlier is_private_word (sym h.private ∙ l) (λ w t. rw e (go w t))) (λ l. earlier is_abstract_word (sym h.abstract
+        ∙ l) (λ w t. rw e (went w t))) (or_cases f.is_private f.is_abstract j))
         (λ j. unfit (rw e (head kind j))) (or_cases (f.is_private || f.is_abstract) (is_head kind) i)
       where
         go : (w : Keyword) → is_private_word w ≡ true → disagree w keys.Private ≡ true
@@ -217,7 +229,8 @@ module _ (tree : List DeclTree) (kind : Kind) (mods : List Modifier) (has : HasM
     misplaced f h keys.Abstract e i =
         ⊎_elim
         (λ j. ⊎_elim
-        (λ l. ⊎_elim (λ q. earlier is_abstract_word (sym h.abstract ∙ q) (λ w t. rw e (go w t))) (λ q. earlier is_private_word (sym h.private ∙ q) (λ w t. rw e (went w t))) (or_cases f.is_abstract f.is_private l))
+        (λ l. ⊎_elim (λ q. earlier is_abstract_word (sym h.abstract ∙ q) (λ w t. rw e (go w t))) (λ q. earlier is_private_word (sym h.private
+        ∙ q) (λ w t. rw e (went w t))) (or_cases f.is_abstract f.is_private l))
         (λ l. earlier is_static_word (sym h.static ∙ l) (λ w t. rw e (gone w t))) (or_cases (f.is_abstract || f.is_private) f.is_static j))
         (λ j. unfit (rw e (field kind j))) (or_cases ((f.is_abstract || f.is_private) || f.is_static) (is_field kind) i)
       where
@@ -238,7 +251,8 @@ module _ (tree : List DeclTree) (kind : Kind) (mods : List Modifier) (has : HasM
         field _ t = absurd (cc t)
     misplaced f h keys.Static e i =
         ⊎_elim
-        (λ j. ⊎_elim (λ l. earlier is_static_word (sym h.static ∙ l) (λ w t. rw e (go w t))) (λ l. earlier is_abstract_word (sym h.abstract ∙ l) (λ w t. rw e (went w t))) (or_cases f.is_static f.is_abstract j))
+        (λ j. ⊎_elim (λ l. earlier is_static_word (sym h.static ∙ l) (λ w t. rw e (go w t))) (λ l. earlier is_abstract_word (sym h.abstract
+        ∙ l) (λ w t. rw e (went w t))) (or_cases f.is_static f.is_abstract j))
         (λ j. unfit (rw e (type kind j))) (or_cases (f.is_static || f.is_abstract) (no_static kind) i)
       where
         go : (w : Keyword) → is_static_word w ≡ true → disagree w keys.Static ≡ true
@@ -267,14 +281,19 @@ module _ (tree : List DeclTree) (kind : Kind) (mods : List Modifier) (has : HasM
     misplaced f h _ e i = absurd (cc i)
 
   pub flags-fit : Tells (λ f. FlagsAre mods f × NoStatic kind f × AreFit kind mods) (ConditionAt tree) (flags_of kind mods)
-  flags-fit = run-tells (ConditionAt tree) mods (flag kind) (λ done f. FlagsAre done f × NoStatic kind f × AreFit kind done) step [] mods no_flags refl
-      (record { public = refl; protected = refl; private = refl; abstract = refl; static = refl; final = refl }, record { head = λ h. refl; abstract = λ h. refl }, record { fit = λ i m e. absurd (cc e); agree = λ i j a b e f lt. absurd (cc e) })
+  flags-fit = run-tells (ConditionAt tree) mods (flag kind) (λ done f. FlagsAre done f × NoStatic kind f × AreFit kind done) step [] mods no_flags refl (
+    record { public = refl; protected = refl; private = refl; abstract = refl; static = refl; final = refl },
+    record
+        { head = λ h. refl; abstract = λ h. refl },
+    record { fit = λ i m e. absurd (cc e); agree = λ i j a b e f lt. absurd (cc e) },
+  )
     where
       step : (done rest : List Modifier) (m : Modifier) (f : Flags) → mods ≡ done ++ m ∷ rest → FlagsAre done f × NoStatic kind f × AreFit kind done
           → Tells (λ f. FlagsAre (done ++ m ∷ []) f × NoStatic kind f × AreFit kind (done ++ m ∷ [])) (ConditionAt tree) (flag kind f m)
       step done rest m f at h = go (is_misplaced kind f m.word) refl
         where
-          go : (b : Bool) → is_misplaced kind f m.word ≡ b → Tells (λ f. FlagsAre (done ++ m ∷ []) f × NoStatic kind f × AreFit kind (done ++ m ∷ [])) (ConditionAt tree) (if b then Err (NotInProfile forms.Modifier m.place) else Ok (noted f m.word))
+          go : (b : Bool) → is_misplaced kind f m.word ≡ b → Tells (λ f. FlagsAre (done ++ m ∷ []) f × NoStatic kind f × AreFit kind (done ++ m ∷ []))
+              (ConditionAt tree) (if b then Err (NotInProfile forms.Modifier m.place) else Ok (noted f m.word))
           go true e = misplaced done rest m at f h.0 m.word refl e
           go false e = (noted-push done f m m.word refl h.0, static-push kind f m.word e h.1, fit-push kind done f h.0 m e h.2)
 

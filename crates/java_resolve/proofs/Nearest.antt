@@ -8,7 +8,8 @@ split : (t : Table) (n : List ℕ) (steps : List (Option ClassId)) (i c : ℕ) �
     nearest_in t n (drop i steps) c ≡ or_above (own_field t c n) (parent_of t.parents c) (λ p. nearest_in t n (drop (i + 1) steps) p)
 split t n steps i c below = ap (λ xs. nearest_in t n xs c) (drop-cons steps i None below ∙ ap (λ k. get_or steps i None ∷ drop k steps) (sym (add-one i)))
 
-pub nearest_next : (t : Table) (n : List ℕ) (steps : List (Option ClassId)) (i c : ℕ) (p : ClassId) (o : Option ℕ) → i < length steps → own_field t c n ≡ None → parent_of t.parents c ≡ Some p →
+pub nearest_next : (t : Table) (n : List ℕ) (steps : List (Option ClassId)) (i c : ℕ) (p : ClassId) (o : Option ℕ) → i < length steps
+    → own_field t c n ≡ None → parent_of t.parents c ≡ Some p →
     nearest_in t n (drop i steps) c ≡ o → nearest_in t n (drop (i + 1) steps) p.0 ≡ o
 nearest_next t n steps i c p o below none up before =
     ap (λ q. or_above None q (λ p. nearest_in t n (drop (i + 1) steps) p)) (sym up)
@@ -20,12 +21,14 @@ pub nearest_here : (t : Table) (n : List ℕ) (steps : List (Option ClassId)) (i
 nearest_here t n steps i c f o below own before =
     ap (λ q. or_above q (parent_of t.parents c) (λ p. nearest_in t n (drop (i + 1) steps) p)) (sym own) ∙ sym (split t n steps i c below) ∙ before
 
-pub nearest_none : (t : Table) (n : List ℕ) (steps : List (Option ClassId)) (i c : ℕ) (o : Option ℕ) → i < length steps → own_field t c n ≡ None → parent_of t.parents c ≡ None →
+pub nearest_none : (t : Table) (n : List ℕ) (steps : List (Option ClassId)) (i c : ℕ) (o : Option ℕ) → i < length steps → own_field t c n ≡ None
+    → parent_of t.parents c ≡ None →
     nearest_in t n (drop i steps) c ≡ o → None ≡ o
 nearest_none t n steps i c o below none up before =
     ap (λ q. or_above None q (λ p. nearest_in t n (drop (i + 1) steps) p)) (sym up)
     ∙ ap (λ f. or_above f (parent_of t.parents c) (λ p. nearest_in t n (drop (i + 1) steps) p)) (sym none)
     ∙ sym (split t n steps i c below) ∙ before
 
-pub nearest_last : (t : Table) (n : List ℕ) (steps : List (Option ClassId)) (i c : ℕ) (o : Option ℕ) → length steps ≤ i → nearest_in t n (drop i steps) c ≡ o → own_field t c n ≡ o
+pub nearest_last : (t : Table) (n : List ℕ) (steps : List (Option ClassId)) (i c : ℕ) (o : Option ℕ) → length steps ≤ i
+    → nearest_in t n (drop i steps) c ≡ o → own_field t c n ≡ o
 nearest_last t n steps i c o above before = ap (λ xs. nearest_in t n xs c) (sym (drop_all i steps above)) ∙ before

@@ -59,7 +59,12 @@ module _ (O : Plain) (one : OneMet O) where
 
   static-method : {c : ℕ} {n : List ℕ} {l m : ℕ} → IsStaticMethodOf O c n l → IsStaticMethodOf O c n m → l ≡ m
   static-method {c} {n} {l} {m} a b =
-      met-static {c = c} {n = n} {h = a.member} {k = b.member} (record { stands = a.stands; name = a.name; above = subst (λ z. IsSubclass O c z) (sym a.owner) same_class })
+      met-static {c = c} {n = n} {h = a.member} {k = b.member} (record {
+        stands = a.stands;
+        name = a.name;
+        above = subst (λ z. IsSubclass O c z)
+            (sym a.owner) same_class;
+      })
       (record { stands = b.stands; name = b.name; above = subst (λ z. IsSubclass O c z) (sym b.owner) same_class }) a.static
 
   module _ (here : Here) (scope : List Bound) where
@@ -68,7 +73,8 @@ module _ (O : Plain) (one : OneMet O) where
     name-numbers (r_static_field e near s o) = refl
     name-numbers (r_own_field e near s o) = refl
 
-    kinds-differ : {n : List ℕ} {f g : ℕ} {h k : PlainField} → IsNearestField O here.owner n f h → IsNearestField O here.owner n g k → h.is_static ≡ true → k.is_static ≡ false → ⊥
+    kinds-differ : {n : List ℕ} {f g : ℕ} {h k : PlainField} → IsNearestField O here.owner n f h → IsNearestField O here.owner n g k
+        → h.is_static ≡ true → k.is_static ≡ false → ⊥
     kinds-differ a b s t = false≢true (sym t ∙ ap (λ z. z.is_static) (sym (one-nearest O here scope a b)) ∙ s)
 
     name-only : {n : List ℕ} {p : Place} {x y : Ex} → ResolvesTo O here scope (NameRef n p) x → ResolvesTo O here scope (NameRef n p) y → x ≡ y
@@ -83,7 +89,8 @@ module _ (O : Plain) (one : OneMet O) where
     name-only (r_own_field e near s o) (r_static_field f other t q) = absurd (kinds-differ other near t s)
 
     mutual
-      pub ex-only : {e : Expression} {x y : Ex} {k i j : ℕ} → ResolvesTo O here scope e x → ResolvesTo O here scope e y → Counts k (numbers x) i → Counts k (numbers y) j → (x ≡ y) × (i ≡ j)
+      pub ex-only : {e : Expression} {x y : Ex} {k i j : ℕ} → ResolvesTo O here scope e x → ResolvesTo O here scope e y → Counts k (numbers x) i
+          → Counts k (numbers y) j → (x ≡ y) × (i ≡ j)
       ex-only r_number r_number c d = (refl, none-only c d)
       ex-only r_character r_character c d = (refl, none-only c d)
       ex-only r_text r_text c d = (refl, none-only c d)
@@ -91,8 +98,10 @@ module _ (O : Plain) (one : OneMet O) where
       ex-only r_null r_null c d = (refl, none-only c d)
       ex-only (r_this s) (r_this t) c d = (refl, none-only c d)
       ex-only {k = k} {j = j} (r_local e) h c d = (name-only (r_local e) h, none-only c (subst (λ z. Counts k z j) (name-numbers h) d))
-      ex-only {k = k} {j = j} (r_static_field e near s o) h c d = (name-only (r_static_field e near s o) h, none-only c (subst (λ z. Counts k z j) (name-numbers h) d))
-      ex-only {k = k} {j = j} (r_own_field e near s o) h c d = (name-only (r_own_field e near s o) h, none-only c (subst (λ z. Counts k z j) (name-numbers h) d))
+      ex-only {k = k} {j = j} (r_static_field e near s o) h c d =
+          (name-only (r_static_field e near s o) h, none-only c (subst (λ z. Counts k z j) (name-numbers h) d))
+      ex-only {k = k} {j = j} (r_own_field e near s o) h c d =
+          (name-only (r_own_field e near s o) h, none-only c (subst (λ z. Counts k z j) (name-numbers h) d))
       ex-only (r_class_field {n = n} {f = f} a e s) (r_class_field {f = g} b q t) c d =
           let u = subst (λ z. IsStaticFieldOf O z n g) (same_some (sym q ∙ e)) t in (rw (same_some (sym s.own ∙ u.own)) refl, none-only c d)
       ex-only (r_class_field a e s) (r_field h) c d = absurd (name-class O here scope h a)
@@ -116,23 +125,34 @@ module _ (O : Plain) (one : OneMet O) where
       ex-only (r_create e es) (r_create f us) c d =
           let s = counts-next c in let t = counts-next d in let a = exs-only es us s.1 t.1 in (rw (sym s.0 ∙ t.0, same_some (sym e ∙ f), a.0) refl, a.1)
       ex-only (r_create_array {u = u} {t = y} m h) (r_create_array {t = z} n g) c d =
-          let s = counts-next c in let t = counts-next d in let a = ex-only h g s.1 t.1 in (rw (sym s.0 ∙ t.0, type-meant O u y m ∙ sym (type-meant O u z n), a.0) refl, a.1)
+          let s = counts-next c in let t = counts-next d in let a = ex-only h g s.1 t.1 in (
+            rw (
+              sym s.0 ∙ t.0,
+              type-meant O u y m
+                  ∙ sym (type-meant O u z n),
+              a.0,
+            ) refl,
+            a.1,
+          )
       ex-only (r_cast {u = u} {t = y} m h) (r_cast {t = z} n g) c d =
           let s = counts-next c in let t = counts-next d in let a = ex-only h g s.1 t.1 in (rw (sym s.0 ∙ t.0, cast-only O u y z m n, a.0) refl, a.1)
       ex-only (r_instance_of {x = x} {i = l} h e) (r_instance_of {x = u} {i = m} g f) c d =
           let s = counts-split (numbers x) (l ∷ []) c in let t = counts-split (numbers u) (m ∷ []) d in
-          let a = ex-only h g s.1 t.1 in let p = counts-next s.2 in let q = counts-next (from a.1 t.2) in (rw (a.0, sym p.0 ∙ q.0, same_some (sym e ∙ f)) refl, none-only p.1 q.1)
+          let a = ex-only h g s.1 t.1 in let p = counts-next s.2 in let q = counts-next (from a.1 t.2) in
+          (rw (a.0, sym p.0 ∙ q.0, same_some (sym e ∙ f)) refl, none-only p.1 q.1)
       ex-only (r_unary h) (r_unary g) c d = let a = ex-only h g c d in (rw a.0 refl, a.1)
       ex-only (r_binary {x = x} {y = y} h g) (r_binary {x = u} {y = v} q r) c d =
           let s = counts-split (numbers x) (numbers y) c in let t = counts-split (numbers u) (numbers v) d in
           let a = ex-only h q s.1 t.1 in let b = ex-only g r s.2 (from a.1 t.2) in (rw (a.0, b.0) refl, b.1)
 
-      exs-only : {es : Expressions} {xs ys : Exs} {k i j : ℕ} → AllResolve O here scope es xs → AllResolve O here scope es ys → Counts k (numbers_all xs) i → Counts k (numbers_all ys) j → (xs ≡ ys) × (i ≡ j)
+      exs-only : {es : Expressions} {xs ys : Exs} {k i j : ℕ} → AllResolve O here scope es xs → AllResolve O here scope es ys
+          → Counts k (numbers_all xs) i → Counts k (numbers_all ys) j → (xs ≡ ys) × (i ≡ j)
       exs-only r_no_more r_no_more c d = (refl, none-only c d)
       exs-only (r_and_more {x = x} {xs = xs} h hs) (r_and_more {x = u} {xs = us} g gs) c d =
           let s = counts-split (numbers x) (numbers_all xs) c in let t = counts-split (numbers u) (numbers_all us) d in
           let a = ex-only h g s.1 t.1 in let b = exs-only hs gs s.2 (from a.1 t.2) in (rw (a.0, b.0) refl, b.1)
 
-    pub if-only : {v : Option Expression} {x y : Option Ex} {k i j : ℕ} → ResolvesIf O here scope v x → ResolvesIf O here scope v y → Counts k (numbers_if x) i → Counts k (numbers_if y) j → (x ≡ y) × (i ≡ j)
+    pub if-only : {v : Option Expression} {x y : Option Ex} {k i j : ℕ} → ResolvesIf O here scope v x → ResolvesIf O here scope v y
+        → Counts k (numbers_if x) i → Counts k (numbers_if y) j → (x ≡ y) × (i ≡ j)
     if-only r_none r_none c d = (refl, none-only c d)
     if-only (r_some h) (r_some g) c d = let a = ex-only h g c d in (ap Some a.0, a.1)

@@ -31,7 +31,8 @@ use Rattle.java_resolve.proofs.KnownClasses.{known-named, type_names-outline}
 
 module _ (tree : List DeclTree) (known : List Known) (are : AreKnown tree known) where
   -- a type that a declaration names
-  pub declared-tells : (u : TypeName) → IsDeclared tree u → Tells (λ t. (t ≡ type_meant (types_in tree) u) × Means (outline tree) u t) (ConditionAt tree) (type_of known u)
+  pub declared-tells : (u : TypeName) → IsDeclared tree u → Tells (λ t. (t ≡ type_meant (types_in tree) u) × Means (outline tree) u t)
+      (ConditionAt tree) (type_of known u)
   declared-tells u d = turn (type_of known u) (type-tells known (outline tree) (known-named tree known are) u)
       (λ t m. (type-meant (outline tree) u t m ∙ ap (λ z. type_meant z u) (type_names-outline tree), m)) (λ r f. bad r f)
     where
@@ -46,7 +47,8 @@ module _ (tree : List DeclTree) (known : List Known) (are : AreKnown tree known)
   has-stands n [] e = absurd (false≢true e)
   has-stands n (l ∷ ls) e = go (bytes_eq l.name n) refl (has-stands n ls)
     where
-      go : (b : Bool) → bytes_eq l.name n ≡ b → (has_local n ls ≡ true → (i : ℕ) × (slice_get (map (λ l. l.name) ls) i ≡ Some n)) → (i : ℕ) × (slice_get (map (λ l. l.name) (l ∷ ls)) i ≡ Some n)
+      go : (b : Bool) → bytes_eq l.name n ≡ b → (has_local n ls ≡ true → (i : ℕ) × (slice_get (map (λ l. l.name) ls) i ≡ Some n))
+          → (i : ℕ) × (slice_get (map (λ l. l.name) (l ∷ ls)) i ≡ Some n)
       go true f more = (0, ap Some ((bytes_eq-Decides l.name n).0 f))
       go false f more = let g = more (sym (ap (λ z. if z then true else has_local n ls) f) ∙ e) in (suc g.0, g.1)
 
@@ -54,7 +56,8 @@ module _ (tree : List DeclTree) (known : List Known) (are : AreKnown tree known)
   none-stands n [] e i f = cc f
   none-stands n (l ∷ ls) e i f = go (bytes_eq l.name n) refl i f (none-stands n ls)
     where
-      go : (b : Bool) → bytes_eq l.name n ≡ b → (i : ℕ) → slice_get (map (λ l. l.name) (l ∷ ls)) i ≡ Some n → (has_local n ls ≡ false → (i : ℕ) → slice_get (map (λ l. l.name) ls) i ≡ Some n → ⊥) → ⊥
+      go : (b : Bool) → bytes_eq l.name n ≡ b → (i : ℕ) → slice_get (map (λ l. l.name) (l ∷ ls)) i ≡ Some n
+          → (has_local n ls ≡ false → (i : ℕ) → slice_get (map (λ l. l.name) ls) i ≡ Some n → ⊥) → ⊥
       go true g i f more = false≢true (sym e ∙ ap (λ z. if z then true else has_local n ls) g)
       go false g zero f more = false≢true (sym g ∙ (bytes_eq-Decides l.name n).1 (let h : l.name ≡ n = cc in h))
       go false g (suc i) f more = more (sym (ap (λ z. if z then true else has_local n ls) g) ∙ e) i f
@@ -72,9 +75,11 @@ module _ (tree : List DeclTree) (known : List Known) (are : AreKnown tree known)
   params-tells m at = run-tells (ConditionAt tree) m.head.params (param known) AreParams step [] m.head.params [] refl
       (record { same = refl; names = refl; once = λ i j x a b. absurd (cc a); free = λ i q e. absurd (cc e); means = λ i q e. absurd (cc e) })
     where
-      step : (done rest : List Param) (q : Param) (ls : List Local) → m.head.params ≡ done ++ q ∷ rest → AreParams done ls → Tells (AreParams (done ++ q ∷ [])) (ConditionAt tree) (param known ls q)
+      step : (done rest : List Param) (q : Param) (ls : List Local) → m.head.params ≡ done ++ q ∷ rest → AreParams done ls
+          → Tells (AreParams (done ++ q ∷ [])) (ConditionAt tree) (param known ls q)
       step done rest q ls e h =
-          tell (AreParams (done ++ q ∷ [])) (ConditionAt tree) (type_of known q.ty) _ (declared-tells q.ty (of_param at has)) (λ t k. go t k (names_type known q.name) (type_name-known q.name) (has_local q.name ls) refl) (λ r f. f)
+          tell (AreParams (done ++ q ∷ [])) (ConditionAt tree) (type_of known q.ty) _ (declared-tells q.ty (of_param at has))
+          (λ t k. go t k (names_type known q.name) (type_name-known q.name) (has_local q.name ls) refl) (λ r f. f)
         where
           here : slice_get m.head.params (length done) ≡ Some q
           here = stands-at done q rest e
@@ -82,8 +87,10 @@ module _ (tree : List DeclTree) (known : List Known) (are : AreKnown tree known)
           has : Contains m.head.params q
           has = member-at m.head.params (length done) q here
 
-          go : (t : Ty) → (t ≡ type_meant (types_in tree) q.ty) × Means (outline tree) q.ty t → (b : Bool) → b ≡ is_type_name (types_in tree) q.name → (c : Bool) → has_local q.name ls ≡ c
-              → Tells (AreParams (done ++ q ∷ [])) (ConditionAt tree) (if b then Err (TwoKinds q.name q.place) else if c then Err (Twice q.name q.place) else Ok (ls ++ record { name = q.name; ty = t; place = q.place } ∷ []))
+          go : (t : Ty) → (t ≡ type_meant (types_in tree) q.ty) × Means (outline tree) q.ty t → (b : Bool) → b ≡ is_type_name (types_in tree) q.name
+              → (c : Bool) → has_local q.name ls ≡ c
+              → Tells (AreParams (done ++ q ∷ [])) (ConditionAt tree) (if b then Err (TwoKinds q.name q.place) else if c then Err
+              (Twice q.name q.place) else Ok (ls ++ record { name = q.name; ty = t; place = q.place } ∷ []))
           go t k true f c g = type_as_param at has (sym f)
           go t k false f true g =
               let a = has-stands q.name ls g in
@@ -92,21 +99,27 @@ module _ (tree : List DeclTree) (known : List Known) (are : AreKnown tree known)
           go t k false f false g =
               let l : Local = record { name = q.name; ty = t; place = q.place } in
               record {
-                same = map-append (local_seen at_place) ls (l ∷ []) ∙ ap (λ z. z ++ local_seen at_place l ∷ []) h.same ∙ ap (λ z. map (param_outline (types_in tree)) done ++ record { name = q.name; ty = z; tag = at_place q.place } ∷ []) k.0
+                same = map-append (local_seen at_place) ls (l ∷ []) ∙ ap (λ z. z ++ local_seen at_place l ∷ []) h.same
+                    ∙ ap (λ z. map (param_outline (types_in tree)) done ++ record { name = q.name; ty = z; tag = at_place q.place } ∷ []) k.0
                     ∙ sym (map-append (param_outline (types_in tree)) done (q ∷ []));
                 names = map-append (λ l. l.name) ls (l ∷ []) ∙ ap (λ z. z ++ q.name ∷ []) h.names ∙ sym (map-append (λ q. q.name) done (q ∷ []));
-                once = subst HasNoTwice (sym (map-append (λ q. q.name) done (q ∷ []))) (once-push (map (λ q. q.name) done) q.name h.once (λ i x. none-stands q.name ls g i (ap (λ z. slice_get z i) h.names ∙ x)));
-                free = λ i x a. ⊎_elim (λ y. h.free i x y) (λ y. subst (λ z. is_type_name (types_in tree) z.name ≡ false) y.1 (sym f)) (push-cases done q i x a);
+                once = subst HasNoTwice (sym (map-append (λ q. q.name) done (q ∷ []))) (once-push (map (λ q. q.name) done) q.name h.once
+                    (λ i x. none-stands q.name ls g i (ap (λ z. slice_get z i) h.names ∙ x)));
+                free = λ i x a. ⊎_elim (λ y. h.free i x y) (λ y. subst (λ z. is_type_name (types_in tree) z.name ≡ false) y.1 (sym f))
+                    (push-cases done q i x a);
                 means = λ i x a. ⊎_elim (λ y. h.means i x y) (λ y. subst (λ z. (t : Ty) × Means (outline tree) z.ty t) y.1 (t, k.1)) (push-cases done q i x a);
               }
 
   -- the result; none is void
   pub result-tells : (m : MethodAt) → Contains (methods_in tree) m
-      → Tells (λ r. (r ≡ option_map (type_meant (types_in tree)) m.head.type) × ((u : TypeName) → m.head.type ≡ Some u → (t : Ty) × Means (outline tree) u t)) (ConditionAt tree) (result_of known m.head.type)
+      → Tells (λ r. (r ≡ option_map (type_meant (types_in tree)) m.head.type) × ((u : TypeName) → m.head.type ≡ Some u
+      → (t : Ty) × Means (outline tree) u t)) (ConditionAt tree) (result_of known m.head.type)
   result-tells m at = go m.head.type refl
     where
-      go : (o : Option TypeName) → m.head.type ≡ o → Tells (λ r. (r ≡ option_map (type_meant (types_in tree)) o) × ((u : TypeName) → o ≡ Some u → (t : Ty) × Means (outline tree) u t)) (ConditionAt tree) (result_of known o)
+      go : (o : Option TypeName) → m.head.type ≡ o → Tells (λ r. (r ≡ option_map (type_meant (types_in tree)) o) × ((u : TypeName) → o ≡ Some u
+          → (t : Ty) × Means (outline tree) u t)) (ConditionAt tree) (result_of known o)
       go None e = (refl, λ u f. absurd (cc f))
       go (Some u) e =
-          tell (λ r. (r ≡ Some (type_meant (types_in tree) u)) × ((v : TypeName) → Some u ≡ Some v → (t : Ty) × Means (outline tree) v t)) (ConditionAt tree) (type_of known u) _ (declared-tells u (of_result at e))
+          tell (λ r. (r ≡ Some (type_meant (types_in tree) u)) × ((v : TypeName) → Some u ≡ Some v → (t : Ty) × Means (outline tree) v t))
+          (ConditionAt tree) (type_of known u) _ (declared-tells u (of_result at e))
           (λ t k. (ap Some k.0, λ v f. (t, subst (λ z. Means (outline tree) z t) (let g : u ≡ v = cc in g) k.1))) (λ r f. f)

@@ -73,12 +73,19 @@ module _ (P : Plain) where
           by_end : (x : Bool) → eqb a b ≡ x → (y : Bool) → list_any (eqb a) s.by ≡ y → Straight a b
           by_end true e y f = subst (λ z. Straight z b) (sym (eqb-true a b e)) (record { by = []; way = arrived; distinct = tt; short = refl })
           by_end false e true f = cut a s.way s.distinct s.short f
-          by_end false e false f = record { by = a ∷ s.by; way = one_up direct s.way; distinct = (apart-all a s.by f, s.distinct); short = ap (λ z. z || list_any (eqb b) s.by) (eq-swap b a ∙ e) ∙ s.short }
+          by_end false e false f = record {
+            by = a ∷ s.by;
+            way = one_up direct s.way;
+            distinct = (apart-all a s.by f, s.distinct);
+            short = ap
+                (λ z. z || list_any (eqb b) s.by) (eq-swap b a ∙ e) ∙ s.short;
+          }
 
   way-within : {a b : ℕ} {xs : List ℕ} → Way a b xs → (q : ℕ) → list_any (eqb q) xs ≡ true → q < length P.classes
   way-within arrived q e = absurd (cc e)
   way-within {a} (one_up {c = c} {xs = xs} direct rest) q e =
-      ⊎_elim (λ f. subst (λ z. z < length P.classes) (sym (eqb-true q a f)) (supers-within P a c direct)) (λ f. way-within rest q f) (or_cases (eqb q a) (list_any (eqb q) xs) e)
+      ⊎_elim (λ f. subst (λ z. z < length P.classes) (sym (eqb-true q a f)) (supers-within P a c direct)) (λ f. way-within rest q f)
+      (or_cases (eqb q a) (list_any (eqb q) xs) e)
 
   way-reaches : {a b : ℕ} {xs : List ℕ} → Way a b xs → (m : ℕ) → length xs ≤ m → reaches P m a b ≡ true
   way-reaches {a} arrived zero e = eq-eqb a a refl
@@ -97,7 +104,8 @@ module _ (P : Plain) where
       way-reaches s.way m (omega (arith, all, e))
     where
       within : (s : Straight a b) (q : ℕ) → list_any (eqb q) (b ∷ s.by) ≡ true → q < length P.classes
-      within s q f = ⊎_elim (λ g. subst (λ z. z < length P.classes) (sym (eqb-true q b g)) lt) (λ g. way-within s.way q g) (or_cases (eqb q b) (list_any (eqb q) s.by) f)
+      within s q f = ⊎_elim (λ g. subst (λ z. z < length P.classes) (sym (eqb-true q b g)) lt) (λ g. way-within s.way q g)
+          (or_cases (eqb q b) (list_any (eqb q) s.by) f)
 
   -- ---- rounds
 
@@ -122,21 +130,25 @@ module _ (P : Plain) where
   AreStage : ℕ → List (List Bool) → Type 0
   AreStage j rows = (a b : ℕ) → b < length P.classes → is_above rows a b ≡ stage j a b
 
-  any-stage : (j : ℕ) (rows : List (List Bool)) → AreStage j rows → (b : ℕ) → b < length P.classes → (cs : List ClassId) → any_above rows cs b ≡ list_any (λ c. stage j c.0 b) cs
+  any-stage : (j : ℕ) (rows : List (List Bool)) → AreStage j rows → (b : ℕ) → b < length P.classes → (cs : List ClassId)
+      → any_above rows cs b ≡ list_any (λ c. stage j c.0 b) cs
   unfolding AreStage
   any-stage j rows h b lt [] = refl
-  any-stage j rows h b lt (c ∷ cs) = ap (λ x. if x then true else any_above rows cs b) (h c.0 b lt) ∙ ap (λ x. if stage j c.0 b then true else x) (any-stage j rows h b lt cs) ∙ or-if (stage j c.0 b) (list_any (λ c. stage j c.0 b) cs)
+  any-stage j rows h b lt (c ∷ cs) = ap (λ x. if x then true else any_above rows cs b) (h c.0 b lt)
+      ∙ ap (λ x. if stage j c.0 b then true else x) (any-stage j rows h b lt cs) ∙ or-if (stage j c.0 b) (list_any (λ c. stage j c.0 b) cs)
     where
       or-if : (x y : Bool) → (if x then true else y) ≡ x || y
       or-if true y = refl
       or-if false y = refl
 
-  parent-stage : (j : ℕ) (rows : List (List Bool)) → AreStage j rows → (b : ℕ) → b < length P.classes → (o : Option ClassId) → by_parent rows o b ≡ list_any (λ c. stage j c.0 b) (option_to_list o)
+  parent-stage : (j : ℕ) (rows : List (List Bool)) → AreStage j rows → (b : ℕ) → b < length P.classes → (o : Option ClassId)
+      → by_parent rows o b ≡ list_any (λ c. stage j c.0 b) (option_to_list o)
   unfolding AreStage
   parent-stage j rows h b lt None = refl
   parent-stage j rows h b lt (Some c) = h c.0 b lt ∙ sym (or-false (stage j c.0 b))
 
-  above_by-stage : (j : ℕ) (rows : List (List Bool)) → AreStage j rows → (b : ℕ) → b < length P.classes → (a : ℕ) (k : PlainClass) → slice_get P.classes a ≡ Some k
+  above_by-stage : (j : ℕ) (rows : List (List Bool)) → AreStage j rows → (b : ℕ) → b < length P.classes → (a : ℕ) (k : PlainClass)
+      → slice_get P.classes a ≡ Some k
       → above_by rows k b ≡ list_any (λ c. stage j c.0 b) (supers_of P a)
   above_by-stage j rows h b lt a k e =
       ap (λ x. x || any_above rows k.faces b) (parent-stage j rows h b lt k.parent)
@@ -150,15 +162,18 @@ module _ (P : Plain) where
     pub bits_are : (b : ℕ) → b < length done → slice_get bits b ≡ Some ((b == a) || above_by rows k b)
 
   row-tells : (rows : List (List Bool)) (a : ℕ) (k : PlainClass) (all : List PlainClass) → Tells (AreBits rows a k all) (λ r. ⊥) (row_of rows all a k)
-  row-tells rows a k all = run-tells (λ r. ⊥) all (row_step rows a k) (AreBits rows a k) (λ done rest x bits e h. step done x bits h) [] all [] refl (record { size = refl; bits_are = λ b lt. absurd (omega (arith, lt)) })
+  row-tells rows a k all = run-tells (λ r. ⊥) all (row_step rows a k) (AreBits rows a k) (λ done rest x bits e h. step done x bits h) [] all [] refl
+      (record { size = refl; bits_are = λ b lt. absurd (omega (arith, lt)) })
     where
-      step : (done : List PlainClass) (x : PlainClass) (bits : List Bool) → AreBits rows a k done bits → AreBits rows a k (done ++ x ∷ []) (bits ++ ((length bits == a) || above_by rows k (length bits)) ∷ [])
+      step : (done : List PlainClass) (x : PlainClass) (bits : List Bool) → AreBits rows a k done bits
+          → AreBits rows a k (done ++ x ∷ []) (bits ++ ((length bits == a) || above_by rows k (length bits)) ∷ [])
       step done x bits h = record {
         size = length-append bits (((length bits == a) || above_by rows k (length bits)) ∷ []) ∙ ap (λ z. z + 1) h.size ∙ sym (length-append done (x ∷ []));
         bits_are = λ b lt. ⊎_elim
             (λ early. stands-front bits (((length bits == a) || above_by rows k (length bits)) ∷ []) b ((b == a) || above_by rows k b) (h.bits_are b early))
             (λ late. let e : b ≡ length bits = let f = length-append done (x ∷ []) in let g = h.size in omega (arith, f, g, lt, late) in
-            subst (λ z. slice_get (bits ++ ((length bits == a) || above_by rows k (length bits)) ∷ []) z ≡ Some ((z == a) || above_by rows k z)) (sym e) (middle-stands bits ((length bits == a) || above_by rows k (length bits)) []))
+            subst (λ z. slice_get (bits ++ ((length bits == a) || above_by rows k (length bits)) ∷ []) z ≡ Some ((z == a) || above_by rows k z))
+            (sym e) (middle-stands bits ((length bits == a) || above_by rows k (length bits)) []))
             (cases_lt b (length done));
       }
 
@@ -167,17 +182,23 @@ module _ (P : Plain) where
     pub each : (a : ℕ) (k : PlainClass) → slice_get done a ≡ Some k → (bits : List Bool) × (slice_get new a ≡ Some bits) × AreBits rows a k P.classes bits
 
   round-tells : (rows : List (List Bool)) → Tells (AreRows rows P.classes) (λ r. ⊥) (round P.classes rows)
-  round-tells rows = run-tells (λ r. ⊥) P.classes (round_step rows P.classes) (AreRows rows) (λ done rest k new e h. step done k new h) [] P.classes [] refl (record { size = refl; each = λ a k e. absurd (cc e) })
+  round-tells rows = run-tells (λ r. ⊥) P.classes (round_step rows P.classes) (AreRows rows) (λ done rest k new e h. step done k new h) [] P.classes
+      [] refl (record { size = refl; each = λ a k e. absurd (cc e) })
     where
-      step : (done : List PlainClass) (k : PlainClass) (new : List (List Bool)) → AreRows rows done new → Tells (AreRows rows (done ++ k ∷ [])) (λ r. ⊥) (round_step rows P.classes new k)
+      step : (done : List PlainClass) (k : PlainClass) (new : List (List Bool)) → AreRows rows done new
+          → Tells (AreRows rows (done ++ k ∷ [])) (λ r. ⊥) (round_step rows P.classes new k)
       step done k new h =
           tell (AreRows rows (done ++ k ∷ [])) (λ r. ⊥) (row_of rows P.classes (length new) k) _ (row-tells rows (length new) k P.classes)
           (λ bits g. record {
             size = length-append new (bits ∷ []) ∙ ap (λ z. z + 1) h.size ∙ sym (length-append done (k ∷ []));
             each = λ a x e. ⊎_elim
                 (λ early. let f = h.each a x early in (f.0, stands-front new (bits ∷ []) a f.0 f.1, f.2))
-                (λ late. let at : a ≡ length new = late.0 ∙ sym h.size in
-                (bits, subst (λ z. slice_get (new ++ bits ∷ []) z ≡ Some bits) (sym at) (middle-stands new bits []), subst (λ z. AreBits rows z x P.classes bits) (sym at) (subst (λ z. AreBits rows (length new) z P.classes bits) late.1 g)))
+                (λ late. let at : a ≡ length new = late.0 ∙ sym h.size in (
+                  bits,
+                  subst (λ z. slice_get (new ++ bits ∷ []) z ≡ Some bits) (sym at) (middle-stands new bits []),
+                  subst
+                      (λ z. AreBits rows z x P.classes bits) (sym at) (subst (λ z. AreBits rows (length new) z P.classes bits) late.1 g),
+                ))
                 (push-cases done k a x e);
           })
           (λ r f. f)
@@ -189,7 +210,8 @@ module _ (P : Plain) where
       at : (o : Option PlainClass) → slice_get P.classes a ≡ o → is_above new a b ≡ stage (suc j) a b
       at (Some k) e =
           let f = g.each a k e in
-          ap (λ z. row_in z b) f.1 ∙ ap bit_in (f.2.bits_are b lt) ∙ ap (λ z. z || above_by rows k b) (eq-swap b a) ∙ ap (λ z. (a == b) || z) (above_by-stage j rows h b lt a k e) ∙ next_stage j a b
+          ap (λ z. row_in z b) f.1 ∙ ap bit_in (f.2.bits_are b lt) ∙ ap (λ z. z || above_by rows k b) (eq-swap b a)
+          ∙ ap (λ z. (a == b) || z) (above_by-stage j rows h b lt a k e) ∙ next_stage j a b
       at None e = past (cases_lt a (length P.classes))
         where
           none : supers_of P a ≡ []
@@ -199,7 +221,8 @@ module _ (P : Plain) where
           past (inl less) = absurd (not-none P.classes a less e)
           past (inr more) =
               ap (λ z. row_in z b) (slice_get_past new a (subst (λ z. z ≤ a) (sym g.size) more))
-              ∙ sym (ap (λ z. z || list_any (λ c. stage j c.0 b) (supers_of P a)) (ne_eqb a b (λ i. omega (arith, more, lt, i))) ∙ ap (list_any (λ c. stage j c.0 b)) none)
+              ∙ sym (ap (λ z. z || list_any (λ c. stage j c.0 b) (supers_of P a)) (ne_eqb a b (λ i. omega (arith, more, lt, i)))
+              ∙ ap (list_any (λ c. stage j c.0 b)) none)
               ∙ next_stage j a b
 
   -- as many rounds as there are types
@@ -208,12 +231,17 @@ module _ (P : Plain) where
 
   reached-tells : Tells (AreReached P.classes) (λ r. ⊥) (above_of P.classes)
   unfolding AreStage stage
-  reached-tells = run-tells (λ r. ⊥) P.classes (rounds_step P.classes) AreReached (λ done rest k rows e h. step done k rows h) [] P.classes [] refl (record { stage_is = λ a b lt. refl })
+  reached-tells = run-tells (λ r. ⊥) P.classes (rounds_step P.classes) AreReached (λ done rest k rows e h. step done k rows h) [] P.classes [] refl
+      (record { stage_is = λ a b lt. refl })
     where
-      step : (done : List PlainClass) (k : PlainClass) (rows : List (List Bool)) → AreReached done rows → Tells (AreReached (done ++ k ∷ [])) (λ r. ⊥) (round P.classes rows)
+      step : (done : List PlainClass) (k : PlainClass) (rows : List (List Bool)) → AreReached done rows
+          → Tells (AreReached (done ++ k ∷ [])) (λ r. ⊥) (round P.classes rows)
       step done k rows h =
           turn (round P.classes rows) (round-tells rows)
-          (λ new g. record { stage_is = subst (λ z. AreStage z new) (sym (length-append done (k ∷ []) ∙ (let e : length done + 1 ≡ suc (length done) = omega arith in e))) (round-stage (length done) rows new h.stage_is g) })
+          (λ new g. record {
+            stage_is = subst (λ z. AreStage z new) (sym (length-append done (k ∷ [])
+                ∙ (let e : length done + 1 ≡ suc (length done) = omega arith in e))) (round-stage (length done) rows new h.stage_is g);
+          })
           (λ r f. f)
 
   -- the rows say which type is at or above which
@@ -229,7 +257,8 @@ module _ (P : Plain) where
     sound = λ a b lt f. reaches-subclass P m a b (sym (h.stage_is a b lt ∙ ap (λ z. stage z a b) e) ∙ f);
     whole = λ a b lt f. h.stage_is a b lt ∙ ap (λ z. stage z a b) e ∙ subclass-reaches f lt m e;
     proper = λ a b k at lt f.
-        let g = Any-from_list_any (λ c. reaches P m c.0 b) (supers_of P a) (sym (above_by-stage (suc m) rows (subst (λ z. AreStage z rows) e h.stage_is) b lt a k at) ∙ f) in
+        let g = Any-from_list_any (λ c. reaches P m c.0 b) (supers_of P a)
+        (sym (above_by-stage (suc m) rows (subst (λ z. AreStage z rows) e h.stage_is) b lt a k at) ∙ f) in
         record { by = g.1; direct = (g.0, g.2, g.3); rest = reaches-subclass P m g.1.0 b g.4 };
     proper_whole = λ a b k at lt f.
         above_by-stage (suc m) rows (subst (λ z. AreStage z rows) e h.stage_is) b lt a k at

@@ -30,25 +30,33 @@ exprs_push [] e = refl
 exprs_push (x ∷ xs) e = ap (ex_then (expr_of at_place x)) (exprs_push xs e)
 
 -- the trees of forms with arguments
-pub super_shown : {s : Expr} {n : List ℕ} {p : Place} (args : Vec Expr Global) → s ≡ SuperCall n args p → tree.expr_of s ≡ tree.SuperCallOf n (tree.exprs args.items) p
+pub super_shown : {s : Expr} {n : List ℕ} {p : Place} (args : Vec Expr Global) → s ≡ SuperCall n args p
+    → tree.expr_of s ≡ tree.SuperCallOf n (tree.exprs args.items) p
 super_shown {n = n} {p = p} args h = ap tree.expr_of h ∙ ap (λ b. tree.SuperCallOf n b p) (tree_rows.exprs_vec args)
 
 pub new_shown : {s : Expr} {c : Id} {p : Place} (args : Vec Expr Global) → s ≡ New c args p → tree.expr_of s ≡ tree.NewOf c (tree.exprs args.items) p
 new_shown {c = c} {p = p} args h = ap tree.expr_of h ∙ ap (λ b. tree.NewOf c b p) (tree_rows.exprs_vec args)
 
-pub call_shown : {s : Expr} {b : Option (Box Expr Global)} {n : List ℕ} {p : Place} (args : Vec Expr Global) → s ≡ Call b n args p → b ≡ None → tree.expr_of s ≡ tree.CallOf n (tree.exprs args.items) p
+pub call_shown : {s : Expr} {b : Option (Box Expr Global)} {n : List ℕ} {p : Place} (args : Vec Expr Global) → s ≡ Call b n args p → b ≡ None
+    → tree.expr_of s ≡ tree.CallOf n (tree.exprs args.items) p
 call_shown {n = n} {p = p} args h k = ap tree.expr_of (h ∙ ap (λ b. Call b n args p) k) ∙ ap (λ b. tree.CallOf n b p) (tree_rows.exprs_vec args)
 
-pub on_shown : {s : Expr} {b : Option (Box Expr Global)} {x : Box Expr Global} {n : List ℕ} {p : Place} (args : Vec Expr Global) → s ≡ Call b n args p → b ≡ Some x → tree.expr_of s ≡ tree.CallOn (tree.expr_of x.value) n (tree.exprs args.items) p
-on_shown {x = x} {n = n} {p = p} args h k = ap tree.expr_of (h ∙ ap (λ b. Call b n args p) k) ∙ ap (λ es. tree.CallOn (tree.expr_of x.value) n es p) (tree_rows.exprs_vec args)
+pub on_shown : {s : Expr} {b : Option (Box Expr Global)} {x : Box Expr Global} {n : List ℕ} {p : Place} (args : Vec Expr Global) → s ≡ Call b n args p
+    → b ≡ Some x → tree.expr_of s ≡ tree.CallOn (tree.expr_of x.value) n (tree.exprs args.items) p
+on_shown {x = x} {n = n} {p = p} args h k = ap tree.expr_of (h ∙ ap (λ b. Call b n args p) k) ∙ ap (λ es. tree.CallOn (tree.expr_of x.value) n es p)
+    (tree_rows.exprs_vec args)
 
 -- what is given of a tree is given of what it is
-pub carry : {A : Type 0} (f : A → Ex × ℕ) (r : Result A Refusal) (t : Table) (h : Here) (scope : List Bound) (k : ℕ) {x y : tree.Expression} → x ≡ y → Gives f r (walk t h scope k y) → Gives f r (walk t h scope k x)
+pub carry : {A : Type 0} (f : A → Ex × ℕ) (r : Result A Refusal) (t : Table) (h : Here) (scope : List Bound) (k : ℕ) {x y : tree.Expression} → x ≡ y
+    → Gives f r (walk t h scope k y) → Gives f r (walk t h scope k x)
 carry f r t h scope k e g = subst (λ z. Gives f r (walk t h scope k z)) (sym e) g
 
 -- a call on something: what it is on, and then the call
-pub on_given : {A : Type 0} (f : A → Ex × ℕ) (r : Result A Refusal) (t : Table) (h : Here) (scope : List Bound) (k j : ℕ) (on : Receiver) {x e d : tree.Expression} {n : List ℕ} {es : tree.Expressions} {p : Place} → x ≡ tree.CallOn e n es p → d ≡ e →
-    receiver t k n p (class_before t h scope d) (walk t h scope k d) ≡ Ok (on, j) → Gives f r (after (walk_all t h scope no_ex j es) (λ xs. called_on on n xs p)) → Gives f r (walk t h scope k x)
+pub on_given : {A : Type 0} (f : A → Ex × ℕ) (r : Result A Refusal) (t : Table) (h : Here) (scope : List Bound) (k j : ℕ) (on : Receiver)
+    {x e d : tree.Expression} {n : List ℕ} {es : tree.Expressions} {p : Place} → x ≡ tree.CallOn e n es p → d ≡ e →
+    receiver t k n p (class_before t h scope d) (walk t h scope k d) ≡ Ok (on, j)
+    → Gives f r (after (walk_all t h scope no_ex j es) (λ xs. called_on on n xs p)) → Gives f r (walk t h scope k x)
 on_given f r t h scope k j on {e = e} {n = n} {es = es} {p = p} shown same given g =
     carry f r t h scope k shown
-    (subst (λ w. Gives f r (with w (λ r. after (walk_all t h scope no_ex r.1 es) (λ xs. called_on r.0 n xs p)))) (sym given ∙ ap (λ d. receiver t k n p (class_before t h scope d) (walk t h scope k d)) same) g)
+    (subst (λ w. Gives f r (with w (λ r. after (walk_all t h scope no_ex r.1 es) (λ xs. called_on r.0 n xs p)))) (sym given
+    ∙ ap (λ d. receiver t k n p (class_before t h scope d) (walk t h scope k d)) same) g)

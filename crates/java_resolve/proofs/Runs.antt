@@ -18,7 +18,8 @@ pub run-tells : {A S : Type 0} (F : Refusal → Type 0) (whole : List A) (f : S 
     (done xs : List A) (s : S) → whole ≡ done ++ xs → I done s → Tells (I whole) F (run f s xs)
 run-tells F whole f I step done [] s e h = subst (λ z. I z s) (sym (e ∙ append-nil done)) h
 run-tells F whole f I step done (x ∷ xs) s e h =
-    tell (I whole) F (f s x) (λ t. run f t xs) (step done xs x s e h) (λ t k. run-tells F whole f I step (done ++ x ∷ []) xs t (e ∙ sym (append_assoc done (x ∷ []) xs)) k) (λ r q. q)
+    tell (I whole) F (f s x) (λ t. run f t xs) (step done xs x s e h) (λ t k. run-tells F whole f I step (done ++ x ∷ []) xs t (e
+    ∙ sym (append_assoc done (x ∷ []) xs)) k) (λ r q. q)
 
 -- ---- what stands where
 
@@ -39,10 +40,12 @@ stands-front [] ys i x e = absurd (cc e)
 stands-front (z ∷ xs) ys zero x e = e
 stands-front (z ∷ xs) ys (suc i) x e = stands-front xs ys i x e
 
-pub earlier-stands : {A : Type 0} {whole : List A} (done rest : List A) → whole ≡ done ++ rest → (i : ℕ) (x : A) → slice_get done i ≡ Some x → slice_get whole i ≡ Some x
+pub earlier-stands : {A : Type 0} {whole : List A} (done rest : List A) → whole ≡ done ++ rest → (i : ℕ) (x : A) → slice_get done i ≡ Some x
+    → slice_get whole i ≡ Some x
 earlier-stands done rest e i x h = ap (λ z. slice_get z i) e ∙ stands-front done rest i x h
 
-pub push-cases : {A : Type 0} (xs : List A) (y : A) (i : ℕ) (x : A) → slice_get (xs ++ y ∷ []) i ≡ Some x → (slice_get xs i ≡ Some x) ⊎ ((i ≡ length xs) × (y ≡ x))
+pub push-cases : {A : Type 0} (xs : List A) (y : A) (i : ℕ) (x : A) → slice_get (xs ++ y ∷ []) i ≡ Some x → (slice_get xs i ≡ Some x)
+    ⊎ ((i ≡ length xs) × (y ≡ x))
 push-cases [] y zero x e = inr (refl, same_some e)
 push-cases [] y (suc i) x e = absurd (cc e)
 push-cases (z ∷ xs) y zero x e = inl e

@@ -77,7 +77,8 @@ from-position : (k : ℕ) (n : List ℕ) (ls : List Local) (r : Option Ty) (ss :
 unfolding is_signature
 from-position k n ls r [] = refl
 from-position k n ls r (s ∷ ss) =
-    ap (cond ((bytes_eq s.name n && have_types ls s.params) && same_result r s.result) (Some k)) (from-position (suc k) n ls r ss ∙ ap (λ i. position_from (λ s. (bytes_eq s.name n && have_types ls s.params) && same_result r s.result) i ss) (sym (add-one k)))
+    ap (cond ((bytes_eq s.name n && have_types ls s.params) && same_result r s.result) (Some k)) (from-position (suc k) n ls r ss
+    ∙ ap (λ i. position_from (λ s. (bytes_eq s.name n && have_types ls s.params) && same_result r s.result) i ss) (sym (add-one k)))
 
 slot-position : (n : List ℕ) (ls : List Local) (r : Option Ty) (ss : List PlainSlot) → slot_from 0 n ls r ss ≡ position (is_signature n ls r) ss
 slot-position n ls r ss = from-position 0 n ls r ss ∙ sym (position-from (is_signature n ls r) ss)
@@ -88,7 +89,8 @@ pub record HasSignature (n : List ℕ) (ls : List Local) (r : Option Ty) (s : Pl
   pub params : s.params ≡ map (λ l. l.ty) ls
   pub result : s.result ≡ r
 
-pub slot-found : (n : List ℕ) (ls : List Local) (r : Option Ty) (ss : List PlainSlot) (i : ℕ) → slot_from 0 n ls r ss ≡ Some i → (s : PlainSlot) × (slice_get ss i ≡ Some s) × HasSignature n ls r s
+pub slot-found : (n : List ℕ) (ls : List Local) (r : Option Ty) (ss : List PlainSlot) (i : ℕ) → slot_from 0 n ls r ss ≡ Some i → (s : PlainSlot)
+    × (slice_get ss i ≡ Some s) × HasSignature n ls r s
 unfolding is_signature
 slot-found n ls r ss i e =
     let f = position-passes (is_signature n ls r) ss i (sym (slot-position n ls r ss) ∙ e) in
@@ -96,10 +98,12 @@ slot-found n ls r ss i e =
     let h = both (bytes_eq f.0.name n) (have_types ls f.0.params) g.0 in
     (f.0, f.1, record { name = (bytes_eq-Decides f.0.name n).0 h.0; params = sym (types-same ls f.0.params h.1); result = sym (result-same r f.0.result g.1) })
 
-pub slot-none : (n : List ℕ) (ls : List Local) (r : Option Ty) (ss : List PlainSlot) → slot_from 0 n ls r ss ≡ None → (i : ℕ) (s : PlainSlot) → slice_get ss i ≡ Some s → HasSignature n ls r s → ⊥
+pub slot-none : (n : List ℕ) (ls : List Local) (r : Option Ty) (ss : List PlainSlot) → slot_from 0 n ls r ss ≡ None → (i : ℕ) (s : PlainSlot)
+    → slice_get ss i ≡ Some s → HasSignature n ls r s → ⊥
 unfolding is_signature
 slot-none n ls r ss e i s at h =
     none-passes (is_signature n ls r) ss (sym (slot-position n ls r ss) ∙ e) i s at
     (join (bytes_eq s.name n && have_types ls s.params) (same_result r s.result)
-    (join (bytes_eq s.name n) (have_types ls s.params) ((bytes_eq-Decides s.name n).1 h.name) (subst (λ z. have_types ls z ≡ true) (sym h.params) (same-types ls)))
+    (join (bytes_eq s.name n) (have_types ls s.params) ((bytes_eq-Decides s.name n).1 h.name) (subst (λ z. have_types ls z ≡ true) (sym h.params)
+    (same-types ls)))
     (subst (λ z. same_result r z ≡ true) (sym h.result) (same-result r)))

@@ -94,6 +94,7 @@ pub same_some : {A : Type 0} {a b : A} → ◌≡◌ {A = Option A} (Some a) (So
 same_some {A} {a} {b} e = ap (λ o. elim o [ Some x ↦ x | None ↦ a ]) e
 
 -- what is told, told otherwise
-pub turn : {A : Type 0} {P Q : A → Type 0} {F G : Refusal → Type 0} (w : Result A Refusal) → Tells P F w → ((a : A) → P a → Q a) → ((r : Refusal) → F r → G r) → Tells Q G w
+pub turn : {A : Type 0} {P Q : A → Type 0} {F G : Refusal → Type 0} (w : Result A Refusal) → Tells P F w → ((a : A) → P a → Q a)
+    → ((r : Refusal) → F r → G r) → Tells Q G w
 turn (Ok a) h good bad = good a h
 turn (Err r) h good bad = bad r h

@@ -55,13 +55,24 @@ module _ (tree : List DeclTree) (known : List Known) (are : AreKnown tree known)
   fields-are = sym members.fields
 
   own-same : (c : ℕ) (n : List ℕ) → own_field T c n ≡ own_field_of O c n
-  own-same c n = field_from-position c n m.fields ∙ sym (position-map (field_seen at_place) (λ f. is_field_of c n f) m.fields) ∙ ap (position (λ f. is_field_of c n f)) (sym fields-are)
+  own-same c n = field_from-position c n m.fields ∙ sym (position-map (field_seen at_place) (λ f. is_field_of c n f) m.fields)
+      ∙ ap (position (λ f. is_field_of c n f)) (sym fields-are)
 
   own-stands : (c : ℕ) (n : List ℕ) (f : ℕ) → own_field_of O c n ≡ Some f → StandsField T O f
   own-stands c n f e =
       let a = position-passes (λ f. is_field_of c n f) O.fields f e in
       let b = map-stands (field_seen at_place) m.fields f a.0 (ap (λ z. slice_get z f) (sym fields-are) ∙ a.1) in
-      record { seen = b.0; member = a.0; seen_stands = b.1; stands = a.1; same = record { owner = ap (λ z. z.owner) (sym b.2); static = ap (λ z. z.is_static) (sym b.2) } }
+      record {
+        seen = b.0;
+        member = a.0;
+        seen_stands = b.1;
+        stands = a.1;
+        same = record {
+          owner = ap (λ z. z.owner) (sym b.2);
+          static = ap
+              (λ z. z.is_static) (sym b.2);
+        };
+      }
 
   parent-same : (c : ℕ) → table.parent_of T.parents c ≡ parent_of O c
   parent-same c = ap parent_in (slice_get-map (λ k. k.parent) O.classes c) ∙ go (slice_get O.classes c)
@@ -73,7 +84,8 @@ module _ (tree : List DeclTree) (known : List Known) (are : AreKnown tree known)
   nearest-same : (n : List ℕ) (steps : List (Option ClassId)) (c : ℕ) → nearest_in T n steps c ≡ nearest O (λ k. own_field_of O k n) (length steps) c
   nearest-same n [] c = own-same c n
   nearest-same n (s ∷ steps) c =
-      ap (λ z. or_above z (table.parent_of T.parents c) (λ p. nearest_in T n steps p)) (own-same c n) ∙ ap (λ z. or_above (own_field_of O c n) z (λ p. nearest_in T n steps p)) (parent-same c)
+      ap (λ z. or_above z (table.parent_of T.parents c) (λ p. nearest_in T n steps p)) (own-same c n)
+      ∙ ap (λ z. or_above (own_field_of O c n) z (λ p. nearest_in T n steps p)) (parent-same c)
       ∙ go (own_field_of O c n) (parent_of O c) (λ p. nearest-same n steps p)
     where
       go : (o : Option ℕ) (u : Option ClassId) → ((p : ℕ) → nearest_in T n steps p ≡ nearest O (λ k. own_field_of O k n) (length steps) p)
@@ -88,15 +100,27 @@ module _ (tree : List DeclTree) (known : List Known) (are : AreKnown tree known)
 
   nearest-stands : (c : ℕ) (n : List ℕ) (f : ℕ) → field_of O c n ≡ Some f → StandsField T O f
   unfolding field_of
-  nearest-stands c n f e = let a = nearest-own O (λ k. own_field_of O k n) (nearest_of-nearest O (λ k. own_field_of O k n) {a = c} {d = f} e) in own-stands a.0 n f a.1
+  nearest-stands c n f e = let a = nearest-own O (λ k. own_field_of O k n) (nearest_of-nearest O (λ k. own_field_of O k n) {a = c} {d = f} e) in
+      own-stands a.0 n f a.1
 
   method-stands : (i : ℕ) (h : Heading) → slice_get m.headings i ≡ Some h → (s : StandsMethod T O i) × (s.member.owner ≡ h.owner) × (s.member.name ≡ h.name)
   method-stands i h e =
       let a = some-stands tree known are (methods_in tree) i (let l = stands-within m.headings i h e in let c = members.count in omega (arith, l, c)) in
-      let d = members.heads i h a.0 e a.1 in
-      (record { seen = h; member = method_outline (types_in tree) a.0; seen_stands = e; stands = method_at-outline tree i a.0 a.1; same = record { owner = sym d.owner; name = sym d.name; static = sym d.static } }, sym d.owner, sym d.name)
+      let d = members.heads i h a.0 e a.1 in (
+        record {
+          seen = h;
+          member = method_outline (types_in tree) a.0;
+          seen_stands = e;
+          stands = method_at-outline tree i a.0 a.1;
+          same = record
+              { owner = sym d.owner; name = sym d.name; static = sym d.static };
+        },
+        sym d.owner,
+        sym d.name,
+      )
 
-  heading-stands : (i : ℕ) (k : PlainMethod) → slice_get O.methods i ≡ Some k → (h : Heading) × (n : MethodAt) × (slice_get m.headings i ≡ Some h) × (slice_get (methods_in tree) i ≡ Some n) × (k.owner ≡ h.owner) × (k.name ≡ h.name) × (n.owner ≡ k.owner) × (n.head.name ≡ k.name)
+  heading-stands : (i : ℕ) (k : PlainMethod) → slice_get O.methods i ≡ Some k → (h : Heading) × (n : MethodAt) × (slice_get m.headings i ≡ Some h)
+      × (slice_get (methods_in tree) i ≡ Some n) × (k.owner ≡ h.owner) × (k.name ≡ h.name) × (n.owner ≡ k.owner) × (n.head.name ≡ k.name)
   heading-stands i k e =
       let a = outline-method tree i k e in
       let b = some-stands tree known are m.headings i (let l = stands-within (methods_in tree) i a.0 a.1 in let c = members.count in omega (arith, l, c)) in
@@ -115,17 +139,20 @@ module _ (tree : List DeclTree) (known : List Known) (are : AreKnown tree known)
   unfolding own_method
   own-only c n i s =
       let a = heading-stands i s.member s.stands in
-      let b = passes-position (λ h. (h.owner == c) && bytes_eq h.name n) m.headings i a.0 a.2 (true-both a.0.owner c a.0.name n (sym a.4 ∙ s.owner) (sym a.5 ∙ s.name)) in
+      let b = passes-position (λ h. (h.owner == c) && bytes_eq h.name n) m.headings i a.0 a.2 (true-both a.0.owner c a.0.name n (sym a.4 ∙ s.owner)
+      (sym a.5 ∙ s.name)) in
       let d = position-passes (λ h. (h.owner == c) && bytes_eq h.name n) m.headings b.0 b.1 in
       let e = both-true d.0.owner c d.0.name n d.2 in
       let x = some-stands tree known are (methods_in tree) b.0 (let l = stands-within m.headings b.0 d.0 d.1 in let k = members.count in omega (arith, l, k)) in
       let y = members.heads b.0 d.0 x.0 d.1 x.1 in
-      method_from-position c n m.headings ∙ b.1 ∙ ap Some (members.method_once b.0 i x.0 a.1 x.1 a.3 (sym y.owner ∙ e.0 ∙ sym (a.6 ∙ s.owner)) (sym y.name ∙ e.1 ∙ sym (a.7 ∙ s.name)))
+      method_from-position c n m.headings ∙ b.1 ∙ ap Some (members.method_once b.0 i x.0 a.1 x.1 a.3 (sym y.owner ∙ e.0 ∙ sym (a.6 ∙ s.owner))
+      (sym y.name ∙ e.1 ∙ sym (a.7 ∙ s.name)))
 
   met-position : (k c : ℕ) (n : List ℕ) (hs : List Heading) → met_from rows k c n hs ≡ position_from (λ h. is_above rows c h.owner && bytes_eq h.name n) k hs
   met-position k c n [] = refl
   met-position k c n (h ∷ hs) =
-      ap (cond (is_above rows c h.owner && bytes_eq h.name n) (Some k)) (met-position (suc k) c n hs ∙ ap (λ i. position_from (λ h. is_above rows c h.owner && bytes_eq h.name n) i hs) (sym (add-one k)))
+      ap (cond (is_above rows c h.owner && bytes_eq h.name n) (Some k)) (met-position (suc k) c n hs
+      ∙ ap (λ i. position_from (λ h. is_above rows c h.owner && bytes_eq h.name n) i hs) (sym (add-one k)))
 
   met-first : (c : ℕ) (n : List ℕ) → method_met T c n ≡ position (λ h. is_above rows c h.owner && bytes_eq h.name n) m.headings
   unfolding method_met
@@ -141,13 +168,19 @@ module _ (tree : List DeclTree) (known : List Known) (are : AreKnown tree known)
       let a = position-passes (λ h. is_above rows c h.owner && bytes_eq h.name n) m.headings i (sym (met-first c n) ∙ e) in
       let b = and-both (is_above rows c a.0.owner) (bytes_eq a.0.name n) a.2 in
       let s = method-stands i a.0 a.1 in
-      record { at = s.0; name = s.2 ∙ (bytes_eq-Decides a.0.name n).0 b.1; above = subst (λ z. IsSubclass O c z) (sym s.1) (above.sound c a.0.owner (within-owner i a.0 a.1) b.0) }
+      record {
+        at = s.0;
+        name = s.2 ∙ (bytes_eq-Decides a.0.name n).0 b.1;
+        above = subst (λ z. IsSubclass O c z) (sym s.1)
+            (above.sound c a.0.owner (within-owner i a.0 a.1) b.0);
+      }
 
   met-none : (c : ℕ) (n : List ℕ) → method_met T c n ≡ None → (i : ℕ) (k : PlainMethod) → IsMet O c n i k → ⊥
   met-none c n e i k h =
       let a = heading-stands i k h.stands in
       none-passes (λ h. is_above rows c h.owner && bytes_eq h.name n) m.headings (sym (met-first c n) ∙ e) i a.0 a.2
-      (ap (λ z. z && bytes_eq a.0.name n) (above.whole c a.0.owner (within-owner i a.0 a.2) (subst (λ z. IsSubclass O c z) a.4 h.above)) ∙ (bytes_eq-Decides a.0.name n).1 (sym a.5 ∙ h.name))
+      (ap (λ z. z && bytes_eq a.0.name n) (above.whole c a.0.owner (within-owner i a.0 a.2) (subst (λ z. IsSubclass O c z) a.4 h.above))
+      ∙ (bytes_eq-Decides a.0.name n).1 (sym a.5 ∙ h.name))
 
   pub sees-outline : Sees T O
   sees-outline = record {

@@ -27,7 +27,8 @@ stmts_shown s k = stmts-items k ∙ sym (ap (stmts at_place) (items_shown-the_ro
 pub arms-items : {n : _} (k : Row_of-RArm n) (other : Arms) → arms_of at_place k other ≡ arms_seen at_place (items-the_row-RArm _ k) other
 arms-items end_of-RArm other = refl
 arms-items (more_of-RArm t s body rest) other =
-    ap (λ b. arm (expr_of at_place t) b (arms_of at_place rest other)) (stmts_shown s body) ∙ ap (arm (expr_of at_place t) (stmts at_place (shown-the_row-RStmt-0 s body).items)) (arms-items rest other)
+    ap (λ b. arm (expr_of at_place t) b (arms_of at_place rest other)) (stmts_shown s body)
+    ∙ ap (arm (expr_of at_place t) (stmts at_place (shown-the_row-RStmt-0 s body).items)) (arms-items rest other)
 
 pub arms_vec : (v : _) (other : Arms) → arms_of at_place (hidden-the_row-RArm-1 v) other ≡ arms_seen at_place v.items other
 arms_vec v other = arms-items (hidden-the_row-RArm-1 v) other ∙ ap (λ xs. arms_seen at_place xs other) (items_hidden-the_row-RArm-1 v)
@@ -36,7 +37,8 @@ pub stmts_push : (xs : List RStmt) (s : RStmt) → stmts at_place (xs ++ s ∷ [
 stmts_push [] s = refl
 stmts_push (x ∷ xs) s = ap (st_then (stmt_of at_place x)) (stmts_push xs s)
 
-pub arms_push : (xs : List RArm) (a : RArm) → arms_seen at_place (xs ++ a ∷ []) no_other ≡ arm_last (arms_seen at_place xs no_other) (expr_of at_place a.test) (stmts at_place a.body.items)
+pub arms_push : (xs : List RArm) (a : RArm) → arms_seen at_place (xs ++ a ∷ []) no_other ≡ arm_last (arms_seen at_place xs no_other)
+    (expr_of at_place a.test) (stmts at_place a.body.items)
 arms_push [] a = refl
 arms_push (x ∷ xs) a = ap (arm (expr_of at_place x.test) (stmts at_place x.body.items)) (arms_push xs a)
 
@@ -58,16 +60,20 @@ while_shown s t body p h = ap tree.stmt_of h ∙ ap (λ b. tree.WhileOf (tree.ex
 
 if_at : (arms : _) (other : _) (p : _) → tree.stmt_of (If arms other p) ≡ tree.IfOf (tree.arms_seen arms.items) (tree.else_seen other) p
 if_at arms None p = ap (λ a. tree.IfOf a tree.no_else p) (tree_rows.arms_vec arms)
-if_at arms (Some ss) p = ap (λ a. tree.IfOf a (tree.otherwise (tree.stmts_of (hidden-the_row-Stmt-0 ss))) p) (tree_rows.arms_vec arms) ∙ ap (λ b. tree.IfOf (tree.arms_seen arms.items) (tree.otherwise b) p) (tree_rows.stmts_vec ss)
+if_at arms (Some ss) p = ap (λ a. tree.IfOf a (tree.otherwise (tree.stmts_of (hidden-the_row-Stmt-0 ss))) p) (tree_rows.arms_vec arms)
+    ∙ ap (λ b. tree.IfOf (tree.arms_seen arms.items) (tree.otherwise b) p) (tree_rows.stmts_vec ss)
 
 pub if_shown : (s : Stmt) (arms : _) (other : _) (p : _) → s ≡ If arms other p → tree.stmt_of s ≡ tree.IfOf (tree.arms_seen arms.items) (tree.else_seen other) p
 if_shown s arms other p h = ap tree.stmt_of h ∙ if_at arms other p
 
-for_at : (f : _) (t : _) (g : _) (body : _) (p : _) → tree.stmt_of (For f t g body p) ≡ tree.ForOf (tree.boxed_step f) (tree.value_of t) (tree.boxed_step g) (tree.stmts body.items) p
+for_at : (f : _) (t : _) (g : _) (body : _) (p : _) → tree.stmt_of (For f t g body p) ≡ tree.ForOf (tree.boxed_step f) (tree.value_of t)
+    (tree.boxed_step g) (tree.stmts body.items) p
 for_at None t None body p = ap (λ b. tree.ForOf tree.absent (tree.value_of t) tree.absent b p) (tree_rows.stmts_vec body)
 for_at (Some x) t None body p = ap (λ b. tree.ForOf (tree.present (tree.stmt_of x.value)) (tree.value_of t) tree.absent b p) (tree_rows.stmts_vec body)
 for_at None t (Some y) body p = ap (λ b. tree.ForOf tree.absent (tree.value_of t) (tree.present (tree.stmt_of y.value)) b p) (tree_rows.stmts_vec body)
-for_at (Some x) t (Some y) body p = ap (λ b. tree.ForOf (tree.present (tree.stmt_of x.value)) (tree.value_of t) (tree.present (tree.stmt_of y.value)) b p) (tree_rows.stmts_vec body)
+for_at (Some x) t (Some y) body p = ap (λ b. tree.ForOf (tree.present (tree.stmt_of x.value)) (tree.value_of t) (tree.present (tree.stmt_of y.value))
+    b p) (tree_rows.stmts_vec body)
 
-pub for_shown : (s : Stmt) (f : _) (t : _) (g : _) (body : _) (p : _) → s ≡ For f t g body p → tree.stmt_of s ≡ tree.ForOf (tree.boxed_step f) (tree.value_of t) (tree.boxed_step g) (tree.stmts body.items) p
+pub for_shown : (s : Stmt) (f : _) (t : _) (g : _) (body : _) (p : _) → s ≡ For f t g body p → tree.stmt_of s ≡ tree.ForOf (tree.boxed_step f)
+    (tree.value_of t) (tree.boxed_step g) (tree.stmts body.items) p
 for_shown s f t g body p h = ap tree.stmt_of h ∙ for_at f t g body p

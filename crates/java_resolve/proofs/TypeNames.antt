@@ -38,7 +38,8 @@ module _ (known : List Known) (O : Plain) (types : (n : List ℕ) → number_of 
           (λ r f. subst (IsUnknownType O u) (sym f.0) (no_such_type e h f.1)))
 
   pub type-tells : (u : TypeName) → Tells (Means O u) (IsUnknownType O u) (type_of known u)
-  type-tells u = tell (Means O u) (IsUnknownType O u) (base_of known u.base u.place) _ (base-tells u u.base refl) (λ b h. record { base = h; dim = refl }) (λ r h. h)
+  type-tells u = tell (Means O u) (IsUnknownType O u) (base_of known u.base u.place) _ (base-tells u u.base refl)
+      (λ b h. record { base = h; dim = refl }) (λ r h. h)
 
 -- a type that a name means is the one that the outline has for it
 base-meant : (O : Plain) (b : TypeBase) (x : TyBase) → MeansBase O b x → x ≡ base_meant (type_names O) b
@@ -49,4 +50,5 @@ base-meant O (bases.Named n) x (a_text e) = rw e refl
 base-meant O (bases.Named n) x (a_class e f) = rw (e, f) refl
 
 pub type-meant : (O : Plain) (u : TypeName) (t : Ty) → Means O u t → t ≡ type_meant (type_names O) u
-type-meant O u t m = ap (λ b. record { base = b; dim = t.dim }) (base-meant O u.base t.base m.base) ∙ ap (λ d. record { base = base_meant (type_names O) u.base; dim = d }) m.dim
+type-meant O u t m = ap (λ b. record { base = b; dim = t.dim }) (base-meant O u.base t.base m.base)
+    ∙ ap (λ d. record { base = base_meant (type_names O) u.base; dim = d }) m.dim

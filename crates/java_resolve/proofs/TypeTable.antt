@@ -25,42 +25,54 @@ same-text : (n : List ℕ) (s : String Global) → bytes_eq (encode_utf8_all n) 
 same-text n s =
     let good = IsUtf8-had (string_bytes s) s.ok in
     both_ways (bytes_eq (encode_utf8_all n) (string_bytes s)) (bytes_eq (chars (string_bytes s)) n)
-    (λ e. (bytes_eq-Decides (chars (string_bytes s)) n).1 (sym (chars_from_encodes n (string_bytes s) good ((bytes_eq-Decides (encode_utf8_all n) (string_bytes s)).0 e))))
-    (λ e. (bytes_eq-Decides (encode_utf8_all n) (string_bytes s)).1 (ap encode_utf8_all (sym ((bytes_eq-Decides (chars (string_bytes s)) n).0 e)) ∙ encodes-chars (string_bytes s) good))
+    (λ e. (bytes_eq-Decides (chars (string_bytes s)) n).1
+    (sym (chars_from_encodes n (string_bytes s) good ((bytes_eq-Decides (encode_utf8_all n) (string_bytes s)).0 e))))
+    (λ e. (bytes_eq-Decides (encode_utf8_all n) (string_bytes s)).1 (ap encode_utf8_all (sym ((bytes_eq-Decides (chars (string_bytes s)) n).0 e))
+    ∙ encodes-chars (string_bytes s) good))
 
-found-from : (k : ℕ) (n : List ℕ) (es : List (String Global × Bool)) → position_from (λ s. bytes_eq (encode_utf8_all n) (string_bytes s)) k (keys_of es) ≡ number_from k n (map known_seen es)
+found-from : (k : ℕ) (n : List ℕ) (es : List (String Global × Bool)) → position_from (λ s. bytes_eq (encode_utf8_all n) (string_bytes s)) k
+    (keys_of es) ≡ number_from k n (map known_seen es)
 found-from k n [] = refl
 found-from k n (e ∷ es) =
     ap (λ b. cond b (Some k) (position_from (λ s. bytes_eq (encode_utf8_all n) (string_bytes s)) (k + 1) (keys_of es))) (same-text n e.0)
-    ∙ ap (cond (bytes_eq (chars (string_bytes e.0)) n) (Some k)) (ap (λ i. position_from (λ s. bytes_eq (encode_utf8_all n) (string_bytes s)) i (keys_of es)) (add-one k) ∙ found-from (suc k) n es)
+    ∙ ap (cond (bytes_eq (chars (string_bytes e.0)) n) (Some k))
+    (ap (λ i. position_from (λ s. bytes_eq (encode_utf8_all n) (string_bytes s)) i (keys_of es)) (add-one k) ∙ found-from (suc k) n es)
 
 -- a name is found under its number
-pub found : (n : List ℕ) (es : List (String Global × Bool)) → position (λ s. bytes_eq (encode_utf8_all n) (string_bytes s)) (keys_of es) ≡ number_of (map known_seen es) n
+pub found : (n : List ℕ) (es : List (String Global × Bool)) → position (λ s. bytes_eq (encode_utf8_all n) (string_bytes s)) (keys_of es)
+    ≡ number_of (map known_seen es) n
 found n es = position-from (λ s. bytes_eq (encode_utf8_all n) (string_bytes s)) (keys_of es) ∙ found-from 0 n es
 
 -- a new name goes last
-appended : (k : ℕ) (n : List ℕ) (text : String Global) (b : Bool) (es : List (String Global × Bool)) → string_bytes text ≡ encode_utf8_all n → number_from k n (map known_seen es) ≡ None → insert_entry string_eq es text b ≡ es ++ (text, b) ∷ []
+appended : (k : ℕ) (n : List ℕ) (text : String Global) (b : Bool) (es : List (String Global × Bool)) → string_bytes text ≡ encode_utf8_all n
+    → number_from k n (map known_seen es) ≡ None → insert_entry string_eq es text b ≡ es ++ (text, b) ∷ []
 appended k n text b [] is none = refl
 appended k n text b (e ∷ es) is none = go (bytes_eq (chars (string_bytes e.0)) n) refl (appended (suc k) n text b es is)
   where
     other : string_eq text e.0 ≡ bytes_eq (chars (string_bytes e.0)) n
     other = ap (λ z. bytes_eq z (string_bytes e.0)) is ∙ same-text n e.0
 
-    go : (c : Bool) → bytes_eq (chars (string_bytes e.0)) n ≡ c → (number_from (suc k) n (map known_seen es) ≡ None → insert_entry string_eq es text b ≡ es ++ (text, b) ∷ []) → insert_entry string_eq (e ∷ es) text b ≡ e ∷ (es ++ (text, b) ∷ [])
+    go : (c : Bool) → bytes_eq (chars (string_bytes e.0)) n ≡ c → (number_from (suc k) n (map known_seen es) ≡ None → insert_entry string_eq es text b
+        ≡ es ++ (text, b) ∷ []) → insert_entry string_eq (e ∷ es) text b ≡ e ∷ (es ++ (text, b) ∷ [])
     go true f more = absurd (cc (sym (ap (λ z. cond z (Some k) (number_from (suc k) n (map known_seen es))) f) ∙ none))
     go false f more =
-        ap (λ z. cond z ((e.0, b) ∷ es) (e ∷ insert_entry string_eq es text b)) (other ∙ f) ∙ ap (λ z. e ∷ z) (more (sym (ap (λ z. cond z (Some k) (number_from (suc k) n (map known_seen es))) f) ∙ none))
+        ap (λ z. cond z ((e.0, b) ∷ es) (e ∷ insert_entry string_eq es text b)) (other ∙ f)
+        ∙ ap (λ z. e ∷ z) (more (sym (ap (λ z. cond z (Some k) (number_from (suc k) n (map known_seen es))) f) ∙ none))
 
-known-more : (n : List ℕ) (text : String Global) (b : Bool) (es : List (String Global × Bool)) → string_bytes text ≡ encode_utf8_all n → number_of (map known_seen es) n ≡ None
+known-more : (n : List ℕ) (text : String Global) (b : Bool) (es : List (String Global × Bool)) → string_bytes text ≡ encode_utf8_all n
+    → number_of (map known_seen es) n ≡ None
     → map known_seen (insert_entry string_eq es text b) ≡ map known_seen es ++ record { name = n; is_interface = b } ∷ []
 known-more n text b es is none =
     ap (map known_seen) (appended 0 n text b es is none) ∙ map-append known_seen es ((text, b) ∷ [])
-    ∙ ap (λ z. map known_seen es ++ record { name = z; is_interface = b } ∷ []) (sym (chars_from_encodes n (string_bytes text) (IsUtf8-had (string_bytes text) text.ok) (sym is)))
+    ∙ ap (λ z. map known_seen es ++ record { name = z; is_interface = b } ∷ [])
+    (sym (chars_from_encodes n (string_bytes text) (IsUtf8-had (string_bytes text) text.ok) (sym is)))
 
-pub known-added : (n : List ℕ) (text : String Global) (b : Bool) (p : Place) (es : List (String Global × Bool)) → string_bytes text ≡ encode_utf8_all n → is_apart n || is_some (number_of (map known_seen es) n) ≡ false
+pub known-added : (n : List ℕ) (text : String Global) (b : Bool) (p : Place) (es : List (String Global × Bool))
+    → string_bytes text ≡ encode_utf8_all n → is_apart n || is_some (number_of (map known_seen es) n) ≡ false
     → know_named (map known_seen es) n b p ≡ Ok (map known_seen (insert_entry string_eq es text b))
 known-added n text b p es is free =
-    ap (λ z. cond z (Err (Twice n p)) (Ok (map known_seen es ++ record { name = n; is_interface = b } ∷ []))) free ∙ ap Ok (sym (known-more n text b es is (none (is_apart n) (number_of (map known_seen es) n) free)))
+    ap (λ z. cond z (Err (Twice n p)) (Ok (map known_seen es ++ record { name = n; is_interface = b } ∷ []))) free
+    ∙ ap Ok (sym (known-more n text b es is (none (is_apart n) (number_of (map known_seen es) n) free)))
   where
     none : (a : Bool) (o : Option ℕ) → a || is_some o ≡ false → o ≡ None
     none true o e = absurd (false≢true (sym e))

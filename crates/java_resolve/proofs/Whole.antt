@@ -39,18 +39,21 @@ unfolding resolved
 resolved-formed tree formed =
     tell (ResolvesFormed tree) (ConditionAt tree) (known_of tree) _ (known-tells tree)
     (λ known are. tell (ResolvesFormed tree) (ConditionAt tree) (classes_of known tree) _ (classes-tells tree known are)
-    (λ cs classes. subst (λ z. Tells (ResolvesFormed tree) (ConditionAt tree) (with (above_of z) (λ rows. with (loops_of rows z) (λ _. with (members_of known tree) (λ m. with_bodies tree known z rows m)))))
+    (λ cs classes. subst (λ z. Tells (ResolvesFormed tree) (ConditionAt tree)
+    (with (above_of z) (λ rows. with (loops_of rows z) (λ _. with (members_of known tree) (λ m. with_bodies tree known z rows m)))))
     (sym (classes-outline tree known are cs classes)) (from-classes known are cs classes))
     (λ r q. q))
     (λ r q. q)
   where
     from-classes : (known : List Known) (are : AreKnown tree known) (cs : List PlainClass) (classes : AreClasses tree known are tree cs)
-        → Tells (ResolvesFormed tree) (ConditionAt tree) (with (above_of (outline tree).classes) (λ rows. with (loops_of rows (outline tree).classes) (λ _. with (members_of known tree) (λ m. with_bodies tree known (outline tree).classes rows m))))
+        → Tells (ResolvesFormed tree) (ConditionAt tree) (with (above_of (outline tree).classes) (λ rows. with (loops_of rows (outline tree).classes)
+        (λ _. with (members_of known tree) (λ m. with_bodies tree known (outline tree).classes rows m))))
     from-classes known are cs classes =
         tell (ResolvesFormed tree) (ConditionAt tree) (above_of (outline tree).classes) _ (above-tells (outline tree) (length tree) (classes-count tree))
         (λ rows above. tell (ResolvesFormed tree) (ConditionAt tree) (loops_of rows (outline tree).classes) _ (loops-tells tree rows above)
         (λ number loops. tell (ResolvesFormed tree) (ConditionAt tree) (members_of known tree) _ (members-tells tree known are)
-        (λ m members. tell (ResolvesFormed tree) (ConditionAt tree) (clashes_of rows m.headings) _ (clashes-tells tree known are rows above (fields_in tree) m members)
+        (λ m members. tell (ResolvesFormed tree) (ConditionAt tree) (clashes_of rows m.headings) _ (clashes-tells tree known are rows above
+        (fields_in tree) m members)
         (λ count clash. tell (ResolvesFormed tree) (ConditionAt tree) (main_of m.headings) _ (main-tells tree known are rows above (fields_in tree) m members)
         (λ i main. tell (ResolvesFormed tree) (ConditionAt tree) (resolved_by.methods_of (resolved_by.table known (outline tree).classes rows m) tree) _
         (bodies-tells tree known are (resolved_by.table known (outline tree).classes rows m) refl (sees-outline tree known are rows above m members) formed)

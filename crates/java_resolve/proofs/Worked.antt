@@ -47,7 +47,18 @@ abbrev private : List Modifier
 private = record { word = keys.Private; place = at 0 } ∷ []
 
 abbrev main : HeadTree
-main = record { mods = static; type = None; name = chars (codes "main"); params = record { is_final = false; ty = texts; name = chars (codes "a"); place = at 1 } ∷ []; place = at 2 }
+main = record {
+  mods = static;
+  type = None;
+  name = chars (codes "main");
+  params = record {
+    is_final = false;
+    ty = texts;
+    name = chars (codes "a");
+    place = at 1;
+  } ∷ [];
+  place = at 2;
+}
 
 abbrev method : List Modifier → List ℕ → ℕ → MemberTree
 method mods n p = MethodTree (record { mods = mods; type = None; name = n; params = []; place = at p }) (Some no_statements) (at p)
@@ -87,12 +98,14 @@ unfolding resolved chars
 class_for_interface = refl
 
 -- a modifier stands twice
-static_twice : refused (ClassTree [] c None [] (FieldTree (record { word = keys.Static; place = at 4 } ∷ record { word = keys.Static; place = at 5 } ∷ []) int x (at 9) ∷ []) (at 7) ∷ []) (NotInProfile forms.Modifier (at 5))
+static_twice : refused (ClassTree [] c None [] (FieldTree (record { word = keys.Static; place = at 4 } ∷ record { word = keys.Static; place = at 5 }
+    ∷ []) int x (at 9) ∷ []) (at 7) ∷ []) (NotInProfile forms.Modifier (at 5))
 unfolding resolved chars
 static_twice = refl
 
 -- a method without a body in a class
-no_body : refused (ClassTree [] c None [] (MethodTree (record { mods = []; type = None; name = m; params = []; place = at 9 }) None (at 9) ∷ []) (at 7) ∷ []) (NotInProfile forms.Body (at 9))
+no_body : refused (ClassTree [] c None [] (MethodTree (record { mods = []; type = None; name = m; params = []; place = at 9 }) None (at 9) ∷ [])
+    (at 7) ∷ []) (NotInProfile forms.Body (at 9))
 unfolding resolved chars
 no_body = refl
 
@@ -102,17 +115,20 @@ unfolding resolved chars
 field_twice = refl
 
 -- a static method and another meet
-static_meets_instance : refused (ClassTree [] c None [] (method [] m 8 ∷ []) (at 7) ∷ ClassTree [] d (Some (id c 10)) [] (method static m 9 ∷ []) (at 7) ∷ []) (Overload m (at 9))
+static_meets_instance : refused (ClassTree [] c None [] (method [] m 8 ∷ []) (at 7) ∷ ClassTree [] d (Some (id c 10)) [] (method static m 9 ∷ [])
+    (at 7) ∷ []) (Overload m (at 9))
 unfolding resolved chars
 static_meets_instance = refl
 
 -- a private method's name stands again
-private_again : refused (ClassTree [] c None [] (method private m 8 ∷ []) (at 7) ∷ ClassTree [] d (Some (id c 10)) [] (method [] m 9 ∷ []) (at 7) ∷ []) (PrivateReused m (at 9))
+private_again : refused (ClassTree [] c None [] (method private m 8 ∷ []) (at 7) ∷ ClassTree [] d (Some (id c 10)) [] (method [] m 9 ∷ []) (at 7)
+    ∷ []) (PrivateReused m (at 9))
 unfolding resolved chars
 private_again = refl
 
 -- a local outside its scope
-unknown_local : refused (main_class (and_then (BlockOf (one (LocalOf false int x None (at 5))) (at 4)) (one (AssignOf (NameRef x (at 8)) (IntLit (pos 1) (at 9)) (at 6)))) ∷ []) (Unknown x (at 8))
+unknown_local : refused (main_class (and_then (BlockOf (one (LocalOf false int x None (at 5))) (at 4))
+    (one (AssignOf (NameRef x (at 8)) (IntLit (pos 1) (at 9)) (at 6)))) ∷ []) (Unknown x (at 8))
 unfolding resolved chars name_meaning nearest_field
 unknown_local = refl
 
@@ -137,6 +153,7 @@ unfolding resolved chars
 break_outside = refl
 
 -- a static field of an ancestor by its simple name
-static_of_ancestor : refused (ClassTree [] c None [] (FieldTree static int x (at 8) ∷ []) (at 7) ∷ ClassTree [] d (Some (id c 10)) [] (MethodTree main (Some (one (PrintOf true (Some (NameRef x (at 9))) (at 4)))) (at 2) ∷ []) (at 7) ∷ []) (Unknown x (at 9))
+static_of_ancestor : refused (ClassTree [] c None [] (FieldTree static int x (at 8) ∷ []) (at 7) ∷ ClassTree [] d (Some (id c 10)) []
+    (MethodTree main (Some (one (PrintOf true (Some (NameRef x (at 9))) (at 4)))) (at 2) ∷ []) (at 7) ∷ []) (Unknown x (at 9))
 unfolding resolved chars name_meaning nearest_field
 static_of_ancestor = refl

@@ -75,7 +75,8 @@ is_field kinds.Interface = false
 is_field kinds.Head = false
 is_field kinds.Method = false
 
--- whether a modifier stands twice or does not fit: `abstract` with `static` or `private` or on a field, `static` on a class or an interface, any but `public` and `abstract` in an interface
+-- whether a modifier stands twice or does not fit: `abstract` with `static` or `private` or on a field, `static` on a class or an interface, any but
+-- `public` and `abstract` in an interface
 abbrev pub is_misplaced : Kind → Flags → Keyword → Bool
 is_misplaced k f keys.Public = f.is_public
 is_misplaced k f keys.Protected = f.is_protected || is_head k
@@ -87,12 +88,58 @@ is_misplaced k f _ = false
 
 -- one modifier more
 abbrev pub noted : Flags → Keyword → Flags
-noted f keys.Public = record { is_public = true; is_protected = f.is_protected; is_private = f.is_private; is_abstract = f.is_abstract; is_static = f.is_static; is_final = f.is_final }
-noted f keys.Protected = record { is_public = f.is_public; is_protected = true; is_private = f.is_private; is_abstract = f.is_abstract; is_static = f.is_static; is_final = f.is_final }
-noted f keys.Private = record { is_public = f.is_public; is_protected = f.is_protected; is_private = true; is_abstract = f.is_abstract; is_static = f.is_static; is_final = f.is_final }
-noted f keys.Abstract = record { is_public = f.is_public; is_protected = f.is_protected; is_private = f.is_private; is_abstract = true; is_static = f.is_static; is_final = f.is_final }
-noted f keys.Static = record { is_public = f.is_public; is_protected = f.is_protected; is_private = f.is_private; is_abstract = f.is_abstract; is_static = true; is_final = f.is_final }
-noted f keys.Final = record { is_public = f.is_public; is_protected = f.is_protected; is_private = f.is_private; is_abstract = f.is_abstract; is_static = f.is_static; is_final = true }
+noted f keys.Public = record {
+  is_public = true;
+  is_protected = f.is_protected;
+  is_private = f.is_private;
+  is_abstract = f.is_abstract;
+  is_static =
+      f.is_static;
+  is_final = f.is_final;
+}
+noted f keys.Protected = record {
+  is_public = f.is_public;
+  is_protected = true;
+  is_private = f.is_private;
+  is_abstract = f.is_abstract;
+  is_static =
+      f.is_static;
+  is_final = f.is_final;
+}
+noted f keys.Private = record {
+  is_public = f.is_public;
+  is_protected = f.is_protected;
+  is_private = true;
+  is_abstract = f.is_abstract;
+  is_static =
+      f.is_static;
+  is_final = f.is_final;
+}
+noted f keys.Abstract = record {
+  is_public = f.is_public;
+  is_protected = f.is_protected;
+  is_private = f.is_private;
+  is_abstract = true;
+  is_static =
+      f.is_static;
+  is_final = f.is_final;
+}
+noted f keys.Static = record {
+  is_public = f.is_public;
+  is_protected = f.is_protected;
+  is_private = f.is_private;
+  is_abstract = f.is_abstract;
+  is_static = true;
+  is_final = f.is_final;
+}
+noted f keys.Final = record {
+  is_public = f.is_public;
+  is_protected = f.is_protected;
+  is_private = f.is_private;
+  is_abstract = f.is_abstract;
+  is_static = f.is_static;
+  is_final = true;
+}
 noted f _ = f
 
 abbrev pub flag : Kind → Flags → Modifier → Result Flags Refusal
@@ -125,18 +172,22 @@ has_id (c ∷ cs) k = if c.0 == k then true else has_id cs k
 
 -- the interfaces so far, and one more, which is no class and not there yet
 abbrev pub face : List Known → List ClassId → Id → Result (List ClassId) Refusal
-face known fs i = with (asked known i.name i.place) (λ k. if not (is_face known k) then Err (TwoKinds i.name i.place) else if has_id fs k then Err (Twice i.name i.place) else Ok (fs ++ class_id k ∷ []))
+face known fs i = with (asked known i.name i.place) (λ k. if not (is_face known k) then Err (TwoKinds i.name i.place) else if has_id fs k then Err
+    (Twice i.name i.place) else Ok (fs ++ class_id k ∷ []))
 
 abbrev pub faces_of : List Known → List Id → Result (List ClassId) Refusal
 faces_of known ids = run (face known) [] ids
 
 abbrev pub plain_class : List ℕ → Bool → Bool → Option ClassId → List ClassId → Place → PlainClass
-plain_class n interface abstract parent faces p = record { name = n; is_interface = interface; is_abstract = abstract; parent = parent; faces = faces; tag = at_place p }
+plain_class n interface abstract parent faces p =
+    record { name = n; is_interface = interface; is_abstract = abstract; parent = parent; faces = faces; tag = at_place p }
 
 -- the class or interface of a declaration
 abbrev pub class_tree : List Known → DeclTree → Result PlainClass Refusal
 class_tree known (ClassTree mods n parent faces ms p) =
-    with (flags_of kinds.Class mods) (λ f. with (parent_tree known parent) (λ c. with (faces_of known faces) (λ fs. Ok (plain_class n false f.is_abstract (Some (class_id c)) fs p))))
+    with (flags_of kinds.Class mods)
+    (λ f. with (parent_tree known parent)
+    (λ c. with (faces_of known faces) (λ fs. Ok (plain_class n false f.is_abstract (Some (class_id c)) fs p))))
 class_tree known (InterfaceTree mods n parents hs p) =
     with (flags_of kinds.Interface mods) (λ f. with (faces_of known parents) (λ fs. Ok (plain_class n true f.is_abstract (Some (class_id 0)) fs p)))
 
@@ -145,7 +196,15 @@ class_step known cs d = with (class_tree known d) (λ c. Ok (cs ++ c ∷ []))
 
 -- Object: its place is that of nothing
 abbrev pub object_class : PlainClass
-object_class = record { name = chars (codes "Object"); is_interface = false; is_abstract = false; parent = None; faces = []; tag = at_place (record { at = 0; line = 0 }) }
+object_class = record {
+  name = chars (codes "Object");
+  is_interface = false;
+  is_abstract = false;
+  parent = None;
+  faces = [];
+  tag = at_place
+      (record { at = 0; line = 0 });
+}
 
 abbrev pub classes_of : List Known → List DeclTree → Result (List PlainClass) Refusal
 classes_of known tree = run (class_step known) (object_class ∷ []) tree

@@ -101,12 +101,25 @@ is_main static n ls r = ((static && is_none r) && bytes_eq (chars (codes "main")
 
 abbrev pub heading : ℕ → HeadTree → Flags → List Local → Option Ty → Option ℕ → Heading
 heading owner h f ls r slot =
-    record { owner = owner; name = h.name; is_static = f.is_static; is_private = f.is_private; is_main = is_main f.is_static h.name ls r; slot = slot; place = h.place }
+    record {
+      owner = owner;
+      name = h.name;
+      is_static = f.is_static;
+      is_private = f.is_private;
+      is_main = is_main f.is_static h.name ls r;
+      slot = slot;
+      place = h.place;
+    }
 
 abbrev pub add_heading : Members → ℕ → HeadTree → Flags → List Local → Option Ty → Members
 add_heading m owner h f ls r =
     if f.is_static then record { fields = m.fields; headings = m.headings ++ heading owner h f ls r None ∷ []; slots = m.slots }
-    else let s = slotted h.name ls r (length m.headings) m.slots in record { fields = m.fields; headings = m.headings ++ heading owner h f ls r (Some s.0) ∷ []; slots = s.1 }
+    else let s = slotted h.name ls r (length m.headings) m.slots in record {
+      fields = m.fields;
+      headings = m.headings ++ heading owner h f ls r
+          (Some s.0) ∷ [];
+      slots = s.1;
+    }
 
 -- a method that is not there yet
 abbrev pub head_step : List Known → ℕ → Members → HeadTree → Flags → Result Members Refusal
@@ -121,13 +134,19 @@ is_wrong_body in_abstract abstract body = if abstract then body || not in_abstra
 abbrev pub field_step : List Known → ℕ → Members → Flags → TypeName → List ℕ → Place → Result Members Refusal
 field_step known owner m f u n p =
     with (type_of known u) (λ u. if names_type known n then Err (TwoKinds n p) else if is_some (field_from 0 owner n m.fields) then Err (Twice n p)
-    else Ok (record { fields = m.fields ++ record { owner = record { 0 = owner }; name = n; is_static = f.is_static; ty = u; place = p } ∷ []; headings = m.headings; slots = m.slots }))
+    else Ok (record {
+      fields = m.fields ++ record { owner = record { 0 = owner }; name = n; is_static = f.is_static; ty = u; place = p }
+          ∷ [];
+      headings = m.headings;
+      slots = m.slots;
+    }))
 
 -- the members so far, and one more of a class
 abbrev pub member_step : List Known → ℕ → Bool → Members → MemberTree → Result Members Refusal
 member_step known owner in_abstract m (FieldTree mods u n p) = with (flags_of kinds.Field mods) (λ f. field_step known owner m f u n p)
 member_step known owner in_abstract m (MethodTree h body p) =
-    with (flags_of kinds.Method h.mods) (λ f. if is_wrong_body in_abstract f.is_abstract (is_some body) then Err (NotInProfile forms.Body h.place) else head_step known owner m h f)
+    with (flags_of kinds.Method h.mods) (λ f. if is_wrong_body in_abstract f.is_abstract (is_some body) then Err (NotInProfile forms.Body h.place)
+    else head_step known owner m h f)
 
 abbrev pub interface_step : List Known → ℕ → Members → HeadTree → Result Members Refusal
 interface_step known owner m h = with (flags_of kinds.Head h.mods) (λ f. head_step known owner m h f)

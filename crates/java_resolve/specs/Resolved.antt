@@ -34,7 +34,8 @@ slot_at (Some h) = h.slot
 abbrev pub body_of : Table → Here → List Local → ℕ → Option Statements → Result (List PlainLocal × Option Sts × ℕ) Refusal
 body_of t here ls k None = Ok ([], None, k)
 body_of t here ls k (Some ss) =
-    with (walk_sts t here false no_st (bounds_from 0 ls) (record { locals = []; count = length ls; number = k }) ss) (λ r. Ok (r.1.locals, Some r.0, r.1.number))
+    with (walk_sts t here false no_st (bounds_from 0 ls) (record { locals = []; count = length ls; number = k }) ss)
+    (λ r. Ok (r.1.locals, Some r.0, r.1.number))
 
 -- the methods so far, and the next free number
 abbrev pub Methods : Type 0
@@ -45,7 +46,18 @@ methods_seen w = (map (method_seen at_place) w.methods.items, w.number)
 
 abbrev pub method_of : ℕ → HeadTree → Flags → Option ℕ → List Local → Option Ty → List PlainLocal → Option Sts → PlainMethod
 method_of owner h f slot ls r locals body =
-    record { owner = owner; name = h.name; is_static = f.is_static; is_public = f.is_public; slot = slot; params = map (local_seen at_place) ls; locals = locals; result = r; body = body; tag = at_place h.place }
+    record {
+      owner = owner;
+      name = h.name;
+      is_static = f.is_static;
+      is_public = f.is_public;
+      slot = slot;
+      params = map (local_seen at_place) ls;
+      locals = locals;
+      result = r;
+      body = body;
+      tag = at_place h.place;
+    }
 
 -- one method more
 abbrev pub method_step : Table → ℕ → Kind → Methods → HeadTree → Option Statements → Result Methods Refusal
@@ -83,7 +95,8 @@ program cs m main methods = record { classes = cs; fields = map (field_seen at_p
 -- the program of a tree whose types, members and main method are these
 abbrev pub with_bodies : List DeclTree → List Known → List PlainClass → List (List Bool) → Members → Result Plain Refusal
 with_bodies tree known cs rows m =
-    with (clashes_of rows m.headings) (λ _. with (main_of m.headings) (λ main. with (methods_of (table known cs rows m) tree) (λ methods. Ok (program cs m main methods))))
+    with (clashes_of rows m.headings) (λ _. with (main_of m.headings) (λ main. with (methods_of (table known cs rows m) tree)
+    (λ methods. Ok (program cs m main methods))))
 
 -- the program of a tree
 unfoldable pub resolved : List DeclTree → Result Plain Refusal

@@ -76,7 +76,8 @@ module _ (t : Table) (here : Here) where
 
   -- a declaration; the scope of a local begins with its own first value (Java Language Specification, 6.3)
   abbrev pub declared : List Bound → State → List ℕ → Option Expression → Place → Ty → Stepped
-  declared scope s n v p u = with (walk_value (bound scope n s.count) (with_local s n u p) v) (λ x. Ok (declare (at_place p) s.count x.0, bound scope n s.count, x.1))
+  declared scope s n v p u = with (walk_value (bound scope n s.count) (with_local s n u p) v)
+      (λ x. Ok (declare (at_place p) s.count x.0, bound scope n s.count, x.1))
 
   abbrev pub walk_local : List Bound → State → TypeName → List ℕ → Option Expression → Place → Stepped
   walk_local scope s u n v p = with (type_of t.known u) (λ u. unless (clash t scope n p) (declared scope s n v p u))
@@ -88,10 +89,14 @@ module _ (t : Table) (here : Here) where
     walk_st inside scope s (AssignOf e v p) = with (walk_expr scope s e) (λ x. kept (walk_expr scope x.1 v) scope (assign (at_place p) (target x.0)))
     walk_st inside scope s (DoOf e p) = kept (walk_expr scope s e) scope (act (at_place p))
     walk_st inside scope s (PrintOf l v p) = kept (walk_value scope s v) scope (print (at_place p) l)
-    walk_st inside scope s (IfOf arms other p) = with (walk_arms inside no_other scope s arms) (λ a. kept (walk_else inside scope a.1 other) scope (λ o. choose (at_place p) (ending a.0 o)))
-    walk_st inside scope s (WhileOf e ss p) = with (walk_expr scope s e) (λ x. kept (walk_sts true no_st scope x.1 ss) scope (loop (at_place p) true no_st (Some x.0) no_st))
+    walk_st inside scope s (IfOf arms other p) =
+        with (walk_arms inside no_other scope s arms) (λ a. kept (walk_else inside scope a.1 other) scope (λ o. choose (at_place p) (ending a.0 o)))
+    walk_st inside scope s (WhileOf e ss p) =
+        with (walk_expr scope s e) (λ x. kept (walk_sts true no_st scope x.1 ss) scope (loop (at_place p) true no_st (Some x.0) no_st))
     walk_st inside scope s (ForOf f v g ss p) =
-        with (walk_optional inside scope s f) (λ a. with (walk_value a.1 a.2 v) (λ b. with (walk_optional inside a.1 b.1 g) (λ c. kept (walk_sts true no_st c.1 c.2 ss) scope (loop (at_place p) false a.0 b.0 c.0))))
+        with (walk_optional inside scope s f)
+        (λ a. with (walk_value a.1 a.2 v) (λ b. with (walk_optional inside a.1 b.1 g) (λ c. kept (walk_sts true no_st c.1 c.2 ss) scope
+        (loop (at_place p) false a.0 b.0 c.0))))
     walk_st inside scope s (ReturnOf v p) = kept (walk_value scope s v) scope (return (at_place p))
     walk_st inside scope s (BreakOf p) = in_loop inside p (break (at_place p)) scope s
     walk_st inside scope s (ContinueOf p) = in_loop inside p (continue (at_place p)) scope s

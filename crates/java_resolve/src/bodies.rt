@@ -60,7 +60,9 @@ fn body_of(
     number: &mut u32,
     tree: &Option<Vec<Stmt>>,
 ) -> Result<(Vec<Local>, Option<Vec<RStmt>>), Refusal>
-    ensures { Gives {A = Vec Local Global × Option (Vec RStmt Global)} {B = List PlainLocal × Option Sts × ℕ} (λ b. (map (local_seen at_place) b.0.items, core.body_seen at_place b.1, number.new)) result (body_of (table_of tables.now) here params.now.items number.old (body_seen tree.now)) }
+    ensures { Gives {A = Vec Local Global × Option (Vec RStmt Global)} {B = List PlainLocal × Option Sts × ℕ}
+        (λ b. (map (local_seen at_place) b.0.items, core.body_seen at_place b.1, number.new)) result
+        (body_of (table_of tables.now) here params.now.items number.old (body_seen tree.now)) }
 {
     match tree {
         None => Ok((Vec::new(alloc), None)),
@@ -97,7 +99,8 @@ fn method_step(
     head: &Head,
     tree: &Option<Vec<Stmt>>,
 ) -> Result<(), Refusal>
-    ensures { Gives (λ _. methods_seen written.new) result (method_step (table_of tables.now) owner kind (methods_seen written.old) (head_of head.now) (body_seen tree.now)) }
+    ensures { Gives (λ _. methods_seen written.new) result (method_step (table_of tables.now) owner kind
+        (methods_seen written.old) (head_of head.now) (body_seen tree.now)) }
 {
     let flags = flags_of(kind, head.mods.as_slice())?;
     let params = params_of(alloc, &tables.known, head.params.as_slice())?;
@@ -165,7 +168,8 @@ fn interface_bodies(
     written: &mut Written,
     list: &Vec<Head>,
 ) -> Result<(), Refusal>
-    ensures { Gives (λ _. methods_seen written.new) result (run (head_body_step (table_of tables.now) owner) (methods_seen written.old) (heads list.now.items)) }
+    ensures { Gives (λ _. methods_seen written.new) result (run (head_body_step (table_of tables.now) owner)
+        (methods_seen written.old) (heads list.now.items)) }
 {
     for head in list {
         method_step(alloc, tables, owner, Kind::Head, written, head, &None)?;
@@ -181,7 +185,8 @@ fn decl_bodies(
     written: &mut Written,
     decl: &Decl,
 ) -> Result<u32, Refusal>
-    ensures { Gives {A = ℕ} {B = ℕ × Methods} (λ k. (k, methods_seen written.new)) result (decl_bodies (table_of tables.now) (owner, methods_seen written.old) (decl_of decl.now)) }
+    ensures { Gives {A = ℕ} {B = ℕ × Methods} (λ k. (k, methods_seen written.new)) result
+        (decl_bodies (table_of tables.now) (owner, methods_seen written.old) (decl_of decl.now)) }
 {
     match decl {
         Decl::Class { members, .. } => class_bodies(alloc, tables, owner, written, members)?,
@@ -192,7 +197,8 @@ fn decl_bodies(
 
 /// All methods of a tree.
 pub fn methods_of(alloc: Global, tables: &Tables, list: &[Decl]) -> Result<Vec<Method>, Refusal>
-    ensures { Gives {A = Vec Method Global} {B = List PlainMethod} (λ v. map (method_seen at_place) v.items) result (methods_of (table_of tables.now) (decls list.now)) }
+    ensures { Gives {A = Vec Method Global} {B = List PlainMethod} (λ v. map (method_seen at_place) v.items)
+        result (methods_of (table_of tables.now) (decls list.now)) }
 {
     let mut written = Written {
         methods: Vec::new(alloc),

@@ -193,7 +193,8 @@ fn row_of(
     a: u32,
     class: &Class,
 ) -> Result<Row, Refusal>
-    ensures { Gives {A = List Bool} {B = List Bool} (λ r. r) result (row_of rows.now (map (class_seen at_place) all.now.items) a (class_seen at_place class.now)) }
+    ensures { Gives {A = List Bool} {B = List Bool} (λ r. r) result
+        (row_of rows.now (map (class_seen at_place) all.now.items) a (class_seen at_place class.now)) }
 {
     let mut bits = Vec::new(alloc);
     let mut b = 0;

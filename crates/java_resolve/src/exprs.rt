@@ -315,7 +315,8 @@ pub fn expr(
     number: &mut u32,
     tree: &Expr,
 ) -> Result<RExpr, Refusal>
-    ensures given { Gives {A = RExpr} {B = Ex × ℕ} (λ e. (core.expr_of at_place e, number.new)) result (walk (table_of tables.now) here scope.now number.old (expr_of tree.now)) }
+    ensures given { Gives {A = RExpr} {B = Ex × ℕ} (λ e. (core.expr_of at_place e, number.new)) result
+        (walk (table_of tables.now) here scope.now number.old (expr_of tree.now)) }
 {
     match tree {
         Expr::Int { value, place } => Ok(RExpr::Int {
@@ -427,7 +428,9 @@ fn simple_call(
     args: &Vec<Expr>,
     place: Place,
 ) -> Result<RExpr, Refusal>
-    ensures given { Gives {A = RExpr} {B = Ex × ℕ} (λ e. (core.expr_of at_place e, number.new)) result (walk (table_of tables.now) here scope.now number.old (CallOf name.now (exprs args.now.items) place)) }
+    ensures given { Gives {A = RExpr} {B = Ex × ℕ} (λ e. (core.expr_of at_place e, number.new)) result
+        (walk (table_of tables.now) here scope.now number.old
+        (CallOf name.now (exprs args.now.items) place)) }
 {
     let method = call_meaning(alloc, tables, here, name, place)?;
     let args = all(alloc, tables, here, scope, number, args)?;
@@ -449,7 +452,10 @@ fn callee_of(
     name: &Name,
     place: Place,
 ) -> Result<Callee, Refusal>
-    ensures given { Gives {A = Callee} {B = Receiver × ℕ} (λ c. (receiver_of c, number.new)) result (receiver (table_of tables.now) number.old name.now place (class_before (table_of tables.now) here scope.now (expr_of base.now)) (walk (table_of tables.now) here scope.now number.old (expr_of base.now))) }
+    ensures given { Gives {A = Callee} {B = Receiver × ℕ} (λ c. (receiver_of c, number.new)) result
+        (receiver (table_of tables.now) number.old name.now place
+        (class_before (table_of tables.now) here scope.now (expr_of base.now))
+        (walk (table_of tables.now) here scope.now number.old (expr_of base.now))) }
 {
     match class_before(alloc, tables, here, scope, base)? {
         Some(class) => Ok(Callee::Static(static_method_of(alloc, tables, &class, name, place)?)),
@@ -470,7 +476,9 @@ fn applied(
     args: &Vec<Expr>,
     place: Place,
 ) -> Result<RExpr, Refusal>
-    ensures given { Gives {A = RExpr} {B = Ex × ℕ} (λ e. (core.expr_of at_place e, number.new)) result (after (walk_all (table_of tables.now) here scope.now no_ex number.old (exprs args.now.items)) (λ xs. called_on (receiver_of on) name.now xs place)) }
+    ensures given { Gives {A = RExpr} {B = Ex × ℕ} (λ e. (core.expr_of at_place e, number.new)) result
+        (after (walk_all (table_of tables.now) here scope.now no_ex number.old (exprs args.now.items))
+        (λ xs. called_on (receiver_of on) name.now xs place)) }
 {
     let name = name.copy(alloc)?;
     let args = all(alloc, tables, here, scope, number, args)?;
@@ -492,7 +500,9 @@ fn super_call(
     args: &Vec<Expr>,
     place: Place,
 ) -> Result<RExpr, Refusal>
-    ensures given { Gives {A = RExpr} {B = Ex × ℕ} (λ e. (core.expr_of at_place e, number.new)) result (walk (table_of tables.now) here scope.now number.old (SuperCallOf name.now (exprs args.now.items) place)) }
+    ensures given { Gives {A = RExpr} {B = Ex × ℕ} (λ e. (core.expr_of at_place e, number.new)) result
+        (walk (table_of tables.now) here scope.now number.old
+        (SuperCallOf name.now (exprs args.now.items) place)) }
 {
     if here.is_static {
         return Err(Refusal::NotInProfile(Form::ThisInStatic, place));
@@ -513,7 +523,9 @@ fn new_object(
     args: &Vec<Expr>,
     place: Place,
 ) -> Result<RExpr, Refusal>
-    ensures given { Gives {A = RExpr} {B = Ex × ℕ} (λ e. (core.expr_of at_place e, number.new)) result (walk (table_of tables.now) here scope.now number.old (NewOf class.now (exprs args.now.items) place)) }
+    ensures given { Gives {A = RExpr} {B = Ex × ℕ} (λ e. (core.expr_of at_place e, number.new)) result
+        (walk (table_of tables.now) here scope.now number.old
+        (NewOf class.now (exprs args.now.items) place)) }
 {
     let class = asked(alloc, &tables.known, &class.name, class.place)?;
     let own = next(number)?;
@@ -532,7 +544,9 @@ fn all(
     number: &mut u32,
     list: &Vec<Expr>,
 ) -> Result<Vec<RExpr>, Refusal>
-    ensures given { Gives {A = Vec RExpr Global} {B = Exs × ℕ} (λ v. (core.exprs at_place v.items, number.new)) result (walk_all (table_of tables.now) here scope.now no_ex number.old (exprs list.now.items)) }
+    ensures given { Gives {A = Vec RExpr Global} {B = Exs × ℕ}
+        (λ v. (core.exprs at_place v.items, number.new)) result
+        (walk_all (table_of tables.now) here scope.now no_ex number.old (exprs list.now.items)) }
 {
     let mut done = Vec::new(alloc);
     for one in list {

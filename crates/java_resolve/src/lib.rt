@@ -59,7 +59,9 @@ fn with_bodies(
     above: Vec<Row>,
     draft: Draft,
 ) -> Result<Program, Refusal>
-    ensures { Gives {A = Program} {B = Plain} (program_of at_place) result (with_bodies (decls list.now) known (map (class_seen at_place) classes.items) above.items (members_seen draft)) }
+    ensures { Gives {A = Program} {B = Plain} (program_of at_place) result
+        (with_bodies (decls list.now) known (map (class_seen at_place) classes.items) above.items
+        (members_seen draft)) }
 {
     let _count = clashes_of(alloc, above.as_slice(), &draft.headings)?;
     let main = main_of(&draft.headings)?;

@@ -200,7 +200,8 @@ pub fn for_loop(
     body: Vec<RStmt>,
     place: Place,
 ) -> RStmt
-    ensures { stmt_of at_place result ≡ loop (at_place place) false (step_seen at_place first) (value_of at_place test) (step_seen at_place step) (stmts at_place body.items) }
+    ensures { stmt_of at_place result ≡ loop (at_place place) false (step_seen at_place first)
+        (value_of at_place test) (step_seen at_place step) (stmts at_place body.items) }
 {
     RStmt::For {
         first,

@@ -188,7 +188,8 @@ fn slotted(
     outcome: Option<Ty>,
     first: usize,
 ) -> Result<u32, Refusal>
-    ensures { Gives {A = ℕ} {B = ℕ × List PlainSlot} (λ k. (k, map (slot_seen at_place) slots.new.items)) result (Ok (slotted name.now locals.now outcome first (map (slot_seen at_place) slots.old.items))) }
+    ensures { Gives {A = ℕ} {B = ℕ × List PlainSlot} (λ k. (k, map (slot_seen at_place) slots.new.items))
+        result (Ok (slotted name.now locals.now outcome first (map (slot_seen at_place) slots.old.items))) }
 {
     if let Some(slot) = slot_from(name, locals, outcome, slots) {
         return number_at(slot);
@@ -425,7 +426,8 @@ fn decl_step(
     draft: &mut Draft,
     decl: &Decl,
 ) -> Result<u32, Refusal>
-    ensures { Gives {A = ℕ} {B = ℕ × Members} (λ k. (k, members_seen draft.new)) result (decl_step known.now (owner, members_seen draft.old) (decl_of decl.now)) }
+    ensures { Gives {A = ℕ} {B = ℕ × Members} (λ k. (k, members_seen draft.new)) result
+        (decl_step known.now (owner, members_seen draft.old) (decl_of decl.now)) }
 {
     match decl {
         Decl::Class { mods, members, .. } => {

@@ -77,7 +77,8 @@ fn part(
     body: &mut Body,
     tree: &Expr,
 ) -> Result<RExpr, Refusal>
-    ensures given { Gives {A = RExpr} {B = Ex × State} (λ e. (core.expr_of at_place e, state_of body.new)) result (walk_expr (table_of tables.now) here scope.now.items (state_of body.old) (expr_of tree.now)) }
+    ensures given { Gives {A = RExpr} {B = Ex × State} (λ e. (core.expr_of at_place e, state_of body.new))
+        result (walk_expr (table_of tables.now) here scope.now.items (state_of body.old) (expr_of tree.now)) }
 {
     expr(
         alloc,
@@ -98,7 +99,9 @@ fn value(
     body: &mut Body,
     tree: &Option<Expr>,
 ) -> Result<Option<RExpr>, Refusal>
-    ensures given { Gives {A = Option RExpr} {B = Option Ex × State} (λ e. (core.value_of at_place e, state_of body.new)) result (walk_value (table_of tables.now) here scope.now.items (state_of body.old) (value_of tree.now)) }
+    ensures given { Gives {A = Option RExpr} {B = Option Ex × State}
+        (λ e. (core.value_of at_place e, state_of body.new)) result
+        (walk_value (table_of tables.now) here scope.now.items (state_of body.old) (value_of tree.now)) }
 {
     match tree {
         None => Ok(None),
@@ -118,7 +121,10 @@ fn declaration(
     first: &Option<Expr>,
     place: Place,
 ) -> Result<RStmt, Refusal>
-    ensures given { Gives {A = RStmt} {B = St × List Bound × State} (λ s. (core.stmt_of at_place s, scope.new.items, state_of body.new)) result (walk_local (table_of tables.now) here scope.old.items (state_of body.old) ty.now name.now (value_of first.now) place) }
+    ensures given { Gives {A = RStmt} {B = St × List Bound × State}
+        (λ s. (core.stmt_of at_place s, scope.new.items, state_of body.new)) result
+        (walk_local (table_of tables.now) here scope.old.items (state_of body.old) ty.now name.now
+        (value_of first.now) place) }
 {
     let ty = type_of(alloc, &tables.known, ty)?;
     if let Some(refusal) = clash(alloc, tables, scope.as_slice(), name, place)? {
@@ -153,7 +159,9 @@ fn stmt(
     body: &mut Body,
     tree: &Stmt,
 ) -> Result<RStmt, Refusal>
-    ensures given { Gives {A = RStmt} {B = St × List Bound × State} (λ s. (core.stmt_of at_place s, scope.new.items, state_of body.new)) result (walk_st (table_of tables.now) here inside scope.old.items (state_of body.old) (stmt_of tree.now)) }
+    ensures given { Gives {A = RStmt} {B = St × List Bound × State}
+        (λ s. (core.stmt_of at_place s, scope.new.items, state_of body.new)) result
+        (walk_st (table_of tables.now) here inside scope.old.items (state_of body.old) (stmt_of tree.now)) }
 {
     match tree {
         Stmt::Local {
@@ -261,7 +269,10 @@ fn assign(
     value: &Expr,
     place: Place,
 ) -> Result<RStmt, Refusal>
-    ensures given { Gives {A = RStmt} {B = St × List Bound × State} (λ s. (core.stmt_of at_place s, scope.now.items, state_of body.new)) result (walk_st (table_of tables.now) here true scope.now.items (state_of body.old) (AssignOf (expr_of target.now) (expr_of value.now) place)) }
+    ensures given { Gives {A = RStmt} {B = St × List Bound × State}
+        (λ s. (core.stmt_of at_place s, scope.now.items, state_of body.new)) result
+        (walk_st (table_of tables.now) here true scope.now.items (state_of body.old)
+        (AssignOf (expr_of target.now) (expr_of value.now) place)) }
 {
     let target = part(alloc, tables, here, scope, body, target)?;
     let value = part(alloc, tables, here, scope, body, value)?;
@@ -284,7 +295,10 @@ fn block(
     items: &Vec<Stmt>,
     place: Place,
 ) -> Result<RStmt, Refusal>
-    ensures given { Gives {A = RStmt} {B = St × List Bound × State} (λ s. (core.stmt_of at_place s, scope.now.items, state_of body.new)) result (walk_st (table_of tables.now) here inside scope.now.items (state_of body.old) (BlockOf (stmts items.now.items) place)) }
+    ensures given { Gives {A = RStmt} {B = St × List Bound × State}
+        (λ s. (core.stmt_of at_place s, scope.now.items, state_of body.new)) result
+        (walk_st (table_of tables.now) here inside scope.now.items (state_of body.old)
+        (BlockOf (stmts items.now.items) place)) }
 {
     let items = statements(alloc, tables, here, inside, scope, body, items)?;
     Ok(make::block(items, place))
@@ -304,7 +318,11 @@ fn choice(
     other: &Option<Vec<Stmt>>,
     place: Place,
 ) -> Result<RStmt, Refusal>
-    ensures given { Gives {A = RStmt} {B = St × List Bound × State} (λ s. (core.stmt_of at_place s, scope.now.items, state_of body.new)) result (kept (walk_else (table_of tables.now) here inside scope.now.items (state_of body.old) (else_seen other.now)) scope.now.items (λ o. choose (at_place place) (ending (core.arms_seen at_place arms.items no_other) o))) }
+    ensures given { Gives {A = RStmt} {B = St × List Bound × State}
+        (λ s. (core.stmt_of at_place s, scope.now.items, state_of body.new)) result
+        (kept (walk_else (table_of tables.now) here inside scope.now.items (state_of body.old)
+        (else_seen other.now)) scope.now.items
+        (λ o. choose (at_place place) (ending (core.arms_seen at_place arms.items no_other) o))) }
 {
     let other = otherwise(alloc, tables, here, inside, scope, body, other)?;
     Ok(make::choose(arms, other, place))
@@ -322,7 +340,10 @@ fn while_loop(
     run: &Vec<Stmt>,
     place: Place,
 ) -> Result<RStmt, Refusal>
-    ensures given { Gives {A = RStmt} {B = St × List Bound × State} (λ s. (core.stmt_of at_place s, scope.now.items, state_of body.new)) result (walk_st (table_of tables.now) here true scope.now.items (state_of body.old) (WhileOf (expr_of test.now) (stmts run.now.items) place)) }
+    ensures given { Gives {A = RStmt} {B = St × List Bound × State}
+        (λ s. (core.stmt_of at_place s, scope.now.items, state_of body.new)) result
+        (walk_st (table_of tables.now) here true scope.now.items (state_of body.old)
+        (WhileOf (expr_of test.now) (stmts run.now.items) place)) }
 {
     let test = part(alloc, tables, here, scope, body, test)?;
     let run = statements(alloc, tables, here, true, scope, body, run)?;
@@ -343,7 +364,11 @@ fn for_body(
     run: &Vec<Stmt>,
     place: Place,
 ) -> Result<RStmt, Refusal>
-    ensures given { (outer : List Bound) → Gives {A = RStmt} {B = St × List Bound × State} (λ s. (core.stmt_of at_place s, outer, state_of body.new)) result (kept (walk_sts (table_of tables.now) here true no_st inner.now.items (state_of body.old) (stmts run.now.items)) outer (loop (at_place place) false (core.step_seen at_place first) (core.value_of at_place test) (core.step_seen at_place step))) }
+    ensures given { (outer : List Bound) → Gives {A = RStmt} {B = St × List Bound × State}
+        (λ s. (core.stmt_of at_place s, outer, state_of body.new)) result
+        (kept (walk_sts (table_of tables.now) here true no_st inner.now.items (state_of body.old)
+        (stmts run.now.items)) outer (loop (at_place place) false (core.step_seen at_place first)
+        (core.value_of at_place test) (core.step_seen at_place step))) }
 {
     let run = statements(alloc, tables, here, true, inner, body, run)?;
     Ok(make::for_loop(first, test, step, run, place))
@@ -360,7 +385,10 @@ fn optional(
     body: &mut Body,
     tree: &Option<Box<Stmt>>,
 ) -> Result<Option<Box<RStmt>>, Refusal>
-    ensures given { Gives {A = Option (Box RStmt Global)} {B = Sts × List Bound × State} (λ s. (core.step_seen at_place s, scope.new.items, state_of body.new)) result (walk_optional (table_of tables.now) here inside scope.old.items (state_of body.old) (boxed_step tree.now)) }
+    ensures given { Gives {A = Option (Box RStmt Global)} {B = Sts × List Bound × State}
+        (λ s. (core.step_seen at_place s, scope.new.items, state_of body.new)) result
+        (walk_optional (table_of tables.now) here inside scope.old.items (state_of body.old)
+        (boxed_step tree.now)) }
 {
     match tree {
         None => Ok(None),
@@ -382,7 +410,10 @@ fn otherwise(
     body: &mut Body,
     tree: &Option<Vec<Stmt>>,
 ) -> Result<Option<Vec<RStmt>>, Refusal>
-    ensures given { Gives {A = Option (Vec RStmt Global)} {B = Arms × State} (λ o. (core.else_seen at_place o, state_of body.new)) result (walk_else (table_of tables.now) here inside scope.now.items (state_of body.old) (else_seen tree.now)) }
+    ensures given { Gives {A = Option (Vec RStmt Global)} {B = Arms × State}
+        (λ o. (core.else_seen at_place o, state_of body.new)) result
+        (walk_else (table_of tables.now) here inside scope.now.items (state_of body.old)
+        (else_seen tree.now)) }
 {
     match tree {
         None => Ok(None),
@@ -401,7 +432,10 @@ fn arm(
     body: &mut Body,
     tree: &Arm,
 ) -> Result<RArm, Refusal>
-    ensures given { Gives {A = RArm} {B = Ex × Sts × State} (λ a. (core.expr_of at_place a.test, core.stmts at_place a.body.items, state_of body.new)) result (walk_arm (table_of tables.now) here inside scope.now.items (state_of body.old) (expr_of tree.now.test) (stmts tree.now.body.items)) }
+    ensures given { Gives {A = RArm} {B = Ex × Sts × State}
+        (λ a. (core.expr_of at_place a.test, core.stmts at_place a.body.items, state_of body.new)) result
+        (walk_arm (table_of tables.now) here inside scope.now.items (state_of body.old)
+        (expr_of tree.now.test) (stmts tree.now.body.items)) }
 {
     let test = part(alloc, tables, here, scope, body, &tree.test)?;
     let run = statements(alloc, tables, here, inside, scope, body, &tree.body)?;
@@ -419,7 +453,10 @@ fn all_arms(
     body: &mut Body,
     list: &Vec<Arm>,
 ) -> Result<Vec<RArm>, Refusal>
-    ensures given { Gives {A = Vec RArm Global} {B = Arms × State} (λ v. (core.arms_seen at_place v.items no_other, state_of body.new)) result (walk_arms (table_of tables.now) here inside no_other scope.now.items (state_of body.old) (arms_seen list.now.items)) }
+    ensures given { Gives {A = Vec RArm Global} {B = Arms × State}
+        (λ v. (core.arms_seen at_place v.items no_other, state_of body.new)) result
+        (walk_arms (table_of tables.now) here inside no_other scope.now.items (state_of body.old)
+        (arms_seen list.now.items)) }
 {
     let mut done = Vec::new(alloc);
     for one in list {
@@ -442,7 +479,10 @@ pub fn statements(
     body: &mut Body,
     list: &Vec<Stmt>,
 ) -> Result<Vec<RStmt>, Refusal>
-    ensures given { Gives {A = Vec RStmt Global} {B = Sts × State} (λ v. (core.stmts at_place v.items, state_of body.new)) result (walk_sts (table_of tables.now) here inside no_st scope.now.items (state_of body.old) (stmts list.now.items)) }
+    ensures given { Gives {A = Vec RStmt Global} {B = Sts × State}
+        (λ v. (core.stmts at_place v.items, state_of body.new)) result
+        (walk_sts (table_of tables.now) here inside no_st scope.now.items (state_of body.old)
+        (stmts list.now.items)) }
 {
     let mut inner = copy_scope(alloc, scope)?;
     let mut done = Vec::new(alloc);

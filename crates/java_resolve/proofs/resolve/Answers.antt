@@ -6,7 +6,8 @@ pub returns-then-is_counted-clause-resolves : goal.returns-then-is_counted-claus
 returns-then-is_counted-clause-resolves c = resolves_ok (tree_of c.args.tree.now) c.in-Ok.program c.requires.given c.in-Ok.ensures.program
 
 pub returns-then-is_counted-clause-formed : goal.returns-then-is_counted-clause-formed
-returns-then-is_counted-clause-formed c = formed_ok (tree_of c.args.tree.now) c.in-Ok.program c.requires.given c.in-Ok.ensures.program (on_true c.is_counted.result _ c.if-is_counted.true c.is_counted.ensures)
+returns-then-is_counted-clause-formed c = formed_ok (tree_of c.args.tree.now) c.in-Ok.program c.requires.given c.in-Ok.ensures.program
+    (on_true c.is_counted.result _ c.if-is_counted.true c.is_counted.ensures)
 
 pub returns-then-is_counted-clause-no_condition : goal.returns-then-is_counted-clause-no_condition
 returns-then-is_counted-clause-no_condition c = none_ok (tree_of c.args.tree.now) c.in-Ok.program c.requires.given c.in-Ok.ensures.program

@@ -13,4 +13,5 @@ returns-then-are_same c =
     let next = c.in_ok-next.next.items in
     let same : rows ≡ next = sym c.as_slice-in-loop-step.ensures.value ∙ (c.if-are_same.ensures ∙ c.as_slice-in-loop-step-2.ensures.value) in
     let one : round all rows ≡ Ok next = rw c.as_slice.ensures.value at c.in_ok-next.ensures in
-    sym c.loop-step.invariant ∙ steady all rows (map (class_seen at_place) (drop c.loop-step._step-index c.deref-step-items.result.now)) (one ∙ ap Ok (sym same))
+    sym c.loop-step.invariant ∙ steady all rows (map (class_seen at_place) (drop c.loop-step._step-index c.deref-step-items.result.now)) (one
+    ∙ ap Ok (sym same))

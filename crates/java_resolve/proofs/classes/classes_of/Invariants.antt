@@ -9,4 +9,5 @@ use Rattle.java_resolve.proofs.classes.classes_of.Given as goal
 
 -- the classes so far, and then the rest
 abbrev pub invariant-loop-decl : goal.invariant-loop-decl
-invariant-loop-decl l = run (class_step l.known) (map (class_seen at_place) l.classes.items) (decls (drop l.decl-index l.list)) ≡ classes_of l.known (decls l.list)
+invariant-loop-decl l = run (class_step l.known) (map (class_seen at_place) l.classes.items) (decls (drop l.decl-index l.list))
+    ≡ classes_of l.known (decls l.list)

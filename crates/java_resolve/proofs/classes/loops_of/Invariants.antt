@@ -8,4 +8,5 @@ use Rattle.java_resolve.proofs.classes.loops_of.Given as goal
 
 -- the classes so far are no loops, and then the rest
 abbrev pub invariant-loop-class : goal.invariant-loop-class
-invariant-loop-class l = run (loop_step l.rows) l.a (map (class_seen at_place) (drop l.class-index l.class-items)) ≡ loops_of l.rows (map (class_seen at_place) l.all.items)
+invariant-loop-class l = run (loop_step l.rows) l.a (map (class_seen at_place) (drop l.class-index l.class-items))
+    ≡ loops_of l.rows (map (class_seen at_place) l.all.items)

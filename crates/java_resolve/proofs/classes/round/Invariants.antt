@@ -9,5 +9,6 @@ use Rattle.java_resolve.proofs.classes.round.Given as goal
 -- the rows so far, and then the rest
 abbrev pub invariant-loop-class : goal.invariant-loop-class
 invariant-loop-class l =
-    (run (round_step l.rows (map (class_seen at_place) l.all.items)) l.done.items (map (class_seen at_place) (drop l.class-index l.class-items)) ≡ round (map (class_seen at_place) l.all.items) l.rows)
+    (run (round_step l.rows (map (class_seen at_place) l.all.items)) l.done.items (map (class_seen at_place) (drop l.class-index l.class-items))
+    ≡ round (map (class_seen at_place) l.all.items) l.rows)
     × (l.a ≡ length l.done.items)

@@ -9,5 +9,6 @@ use Rattle.java_resolve.proofs.classes.row_of.Given as goal
 -- the bits so far, and then the rest
 abbrev pub invariant-loop-one : goal.invariant-loop-one
 invariant-loop-one l =
-    (run (row_step l.rows l.a (class_seen at_place l.class)) l.bits.items (map (class_seen at_place) (drop l._one-index l._one-items)) ≡ row_of l.rows (map (class_seen at_place) l.all.items) l.a (class_seen at_place l.class))
+    (run (row_step l.rows l.a (class_seen at_place l.class)) l.bits.items (map (class_seen at_place) (drop l._one-index l._one-items))
+    ≡ row_of l.rows (map (class_seen at_place) l.all.items) l.a (class_seen at_place l.class))
     × (l.b ≡ length l.bits.items)

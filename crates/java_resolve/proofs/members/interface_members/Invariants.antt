@@ -6,4 +6,5 @@ use Rattle.java_resolve.proofs.members.interface_members.Given as goal
 
 -- the methods so far, and then the rest
 abbrev pub invariant-loop-head : goal.invariant-loop-head
-invariant-loop-head l = run (interface_step l.known l.owner) (members_seen l.draft) (heads (drop l.head-index l.head-items)) ≡ run (interface_step l.known l.owner) (members_seen l.fn.draft) (heads l.list.items)
+invariant-loop-head l = run (interface_step l.known l.owner) (members_seen l.draft) (heads (drop l.head-index l.head-items))
+    ≡ run (interface_step l.known l.owner) (members_seen l.fn.draft) (heads l.list.items)

@@ -6,4 +6,5 @@ use Rattle.java_resolve.proofs.members.members_of.Given as goal
 
 -- the members so far, and then the rest
 abbrev pub invariant-loop-decl : goal.invariant-loop-decl
-invariant-loop-decl l = run (decl_step l.known) (l.owner, members_seen l.draft) (decls (drop l.decl-index l.list)) ≡ run (decl_step l.known) (1, no_members) (decls l.list)
+invariant-loop-decl l = run (decl_step l.known) (l.owner, members_seen l.draft) (decls (drop l.decl-index l.list)) ≡ run (decl_step l.known)
+    (1, no_members) (decls l.list)

@@ -7,4 +7,5 @@ use Rattle.java_resolve.proofs.members.slot_from.Given as goal
 
 -- the slot is among those that are left, if it is there
 abbrev pub invariant-loop-i : goal.invariant-loop-i
-invariant-loop-i l = slot_from l.i l.name l.locals l.outcome (map (slot_seen at_place) (drop l.i l.slots.items)) ≡ slot_from 0 l.name l.locals l.outcome (map (slot_seen at_place) l.slots.items)
+invariant-loop-i l = slot_from l.i l.name l.locals l.outcome (map (slot_seen at_place) (drop l.i l.slots.items))
+    ≡ slot_from 0 l.name l.locals l.outcome (map (slot_seen at_place) l.slots.items)

@@ -6,15 +6,18 @@ use Rattle.java_resolve.proofs.tables.nearest_field.Goals as goal
 pub returns-in-Some : goal.returns-in-Some
 unfolding nearest_field
 returns-in-Some c =
-    nearest_here (table_of c.args.tables.now) c.args.name.now c.deref-step-items.result.now c.loop-step._step-index c.loop-step.at c.in-Some.field _ c.loop-step-test.true (sym c.own_field.ensures ∙ c.in-Some.is) c.loop-step.invariant
+    nearest_here (table_of c.args.tables.now) c.args.name.now c.deref-step-items.result.now c.loop-step._step-index c.loop-step.at c.in-Some.field _
+    c.loop-step-test.true (sym c.own_field.ensures ∙ c.in-Some.is) c.loop-step.invariant
 
 pub returns-in-None-parent_of : goal.returns-in-None-parent_of
 unfolding nearest_field
 returns-in-None-parent_of c =
-    nearest_none (table_of c.args.tables.now) c.args.name.now c.deref-step-items.result.now c.loop-step._step-index c.loop-step.at _ c.loop-step-test.true (sym c.own_field.ensures ∙ c.in-None.is)
+    nearest_none (table_of c.args.tables.now) c.args.name.now c.deref-step-items.result.now c.loop-step._step-index c.loop-step.at _
+    c.loop-step-test.true (sym c.own_field.ensures ∙ c.in-None.is)
     (ap (λ xs. parent_of xs c.loop-step.at) (sym c.as_slice.ensures.value) ∙ sym c.parent_of.ensures ∙ c.in-None-parent_of.is) c.loop-step.invariant
 
 pub loop-step-preserved : goal.loop-step-preserved
 loop-step-preserved c =
-    nearest_next (table_of c.args.tables.now) c.args.name.now c.deref-step-items.result.now c.loop-step._step-index c.loop-step.at c.in-Some-parent_of.parent _ c.loop-step-test.true (sym c.own_field.ensures ∙ c.in-None.is)
+    nearest_next (table_of c.args.tables.now) c.args.name.now c.deref-step-items.result.now c.loop-step._step-index c.loop-step.at
+    c.in-Some-parent_of.parent _ c.loop-step-test.true (sym c.own_field.ensures ∙ c.in-None.is)
     (ap (λ xs. parent_of xs c.loop-step.at) (sym c.as_slice.ensures.value) ∙ sym c.parent_of.ensures ∙ c.in-Some-parent_of.is) c.loop-step.invariant

@@ -4,4 +4,5 @@ use Rattle.java_resolve.proofs.tables.nearest_field.Given as goal
 
 -- what is nearest from here, in the steps that are left
 abbrev pub invariant-loop-step : goal.invariant-loop-step
-invariant-loop-step l = nearest_in (table_of l.tables) l.name (drop l._step-index l._step-items) l.at ≡ nearest_in (table_of l.tables) l.name l.tables.parents.items l.class
+invariant-loop-step l = nearest_in (table_of l.tables) l.name (drop l._step-index l._step-items) l.at ≡ nearest_in (table_of l.tables) l.name
+    l.tables.parents.items l.class
