@@ -2,7 +2,7 @@
 use Rattle.std.proofs.Common.{◌≡◌, drop}
 use Rattle.java_tree.specs.Syntax as tree
 use Rattle.java_core.specs.Trees.{no_place, exprs}
-use Rattle.tree_forms.specs.Renamed.{expressions}
+use Rattle.tree_parts.specs.Written.{expressions}
 use Rattle.tree_parts.proofs.Appended.{append_exprs}
 use Rattle.tree_parts.proofs.exprs.+exprs.Given as goal
 
