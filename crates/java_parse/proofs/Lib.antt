@@ -8,7 +8,6 @@ pub mod SoundExpressions
 pub mod SoundStatements
 pub mod SoundDeclarations
 pub mod Sound
-pub mod Edges
 pub mod CompleteExpressions
 pub mod CompleteStatements
 pub mod CompleteDeclarations
