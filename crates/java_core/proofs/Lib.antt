@@ -5,3 +5,4 @@ pub mod SearchOrder
 pub mod Offered
 pub mod Words
 pub mod Locals
+pub mod OwnedLemmas

@@ -3,6 +3,7 @@ pub mod Programs
 pub mod Classes
 pub mod Found
 pub mod Own
+pub mod Owned
 pub mod Types
 pub mod Statics
 pub mod Typing

@@ -1,7 +1,10 @@
 -- A resolved program as plain data, and which plain program a program is.
-use Rattle.std.specs.Prelude.{ℕ, Bool, List, Option, map}
+use Rattle.std.specs.Prelude.{◌≡◌, ℕ, Bool, List, Option, map}
+use Rattle.std.specs.declared.vec.Vec.{Vec}
+use Rattle.std.specs.declared.alloc.Global.{Global}
 use Rattle.kaba_base.specs.declared.Place.{Place}
 use Rattle.kaba_base.specs.declared.ClassId.{ClassId}
+use Rattle.kaba_base.specs.declared.MemberId.{MemberId}
 use Rattle.java_core.specs.declared.Ty.{Ty}
 use Rattle.java_core.specs.declared.Local.{Local}
 use Rattle.java_core.specs.declared.Class.{Class}
@@ -98,3 +101,12 @@ module _ (tag : Place → Tag) where
         slots = map slot_seen p.slots.items;
         main = p.main.0;
       }
+
+-- a program has these parts
+pub record IsMadeOf (classes : Vec Class Global) (fields : Vec Field Global) (methods : Vec Method Global) (slots : Vec Slot Global) (main : MemberId)
+    (p : Program) : Type 0 where
+  pub classes_are : p.classes ≡ classes
+  pub fields_are : p.fields ≡ fields
+  pub methods_are : p.methods ≡ methods
+  pub slots_are : p.slots ≡ slots
+  pub main_is : p.main ≡ main

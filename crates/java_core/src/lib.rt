@@ -1,8 +1,13 @@
 //! Resolved programs: what a text means once each name is known, and the rules of their types.
 #![tactic(auto)]
 
+ghost use Rattle.std.specs.Prelude.{map};
+ghost use Rattle.java_core.specs.Owned.{AreOwned};
+
 mod checked;
 mod classes;
+mod made;
+mod owned;
 mod statics;
 
 pub use checked::Checked;
@@ -385,4 +390,10 @@ pub struct Program {
     pub slots: Vec<Slot>,
     /// The method that a run begins with.
     pub main: MemberId,
+    /// For each class the numbers of the fields that it declares itself.
+    own_fields: Vec<Vec<usize>>,
+    /// For each class or interface the numbers of the methods that it declares itself.
+    own_methods: Vec<Vec<usize>>,
+    ghost fields_owned: { AreOwned (map (λ f. f.owner.0) fields.items) own_fields.items },
+    ghost methods_owned: { AreOwned (map (λ m. m.owner.0) methods.items) own_methods.items },
 }

@@ -1,0 +1,43 @@
+-- What is found among the members of one class is what is found by going over all.
+use Rattle.std.proofs.Common.{◌≡◌, ℕ, ◌+◌, ◌<◌, Bool, true, false, ◌&&◌, cond, List, [], ◌∷◌, ◌++◌, map, length, Option, Some, None, refl, sym, ap, ◌∙◌, subst}
+use Rattle.std.specs.Prelude.{slice_get, ◌==◌, if◌then◌else◌}
+use Rattle.std.specs.List.{position, position_from}
+use Rattle.std.specs.Option.{IfSome}
+use Rattle.std.proofs.lemmas.List.{append_assoc, length-append}
+use Rattle.std.proofs.lemmas.List.Quantifiers.{position-Some}
+use Rattle.std.proofs.lemmas.Iterator.Adapters.{position_from-zero}
+use Rattle.java_core.specs.Owned.{owned_from, passes, first_among}
+
+middle : {A : Type 0} (done : List A) (x : A) (rest : List A) → slice_get (done ++ x ∷ rest) (length done) ≡ Some x
+middle [] x rest = refl
+middle (y ∷ done) x rest = middle done x rest
+
+module _ {A : Type 0} (owner : A → ℕ) (p : A → Bool) (c : ℕ) (own : (x : A) → p x ≡ true → (owner x == c) ≡ true) where
+  among : (done rest : List A) (k : ℕ) → length done ≡ k → first_among p (done ++ rest) (owned_from k c (map owner rest)) ≡ position_from p k rest
+  among done [] k e = refl
+  among done (x ∷ rest) k e =
+      by_owner (owner x == c) (p x) (own x) (ap (passes p) (subst (λ i. slice_get (done ++ x ∷ rest) i ≡ Some x) e (middle done x rest)))
+      (ap (λ w. first_among p w (owned_from (k + 1) c (map owner rest))) (sym (append_assoc done (x ∷ []) rest))
+      ∙ among (done ++ x ∷ []) rest (k + 1) (length-append done (x ∷ []) ∙ ap (λ i. i + 1) e))
+    where
+      by_owner : (b d : Bool) → (d ≡ true → b ≡ true) → passes p (slice_get (done ++ x ∷ rest) k) ≡ d
+          → first_among p (done ++ x ∷ rest) (owned_from (k + 1) c (map owner rest)) ≡ position_from p (k + 1) rest
+          → first_among p (done ++ x ∷ rest) (cond b (k ∷ owned_from (k + 1) c (map owner rest)) (owned_from (k + 1) c (map owner rest)))
+          ≡ cond d (Some k) (position_from p (k + 1) rest)
+      by_owner true true f g h = ap (λ z. if z then Some k else first_among p (done ++ x ∷ rest) (owned_from (k + 1) c (map owner rest))) g
+      by_owner true false f g h = ap (λ z. if z then Some k else first_among p (done ++ x ∷ rest) (owned_from (k + 1) c (map owner rest))) g ∙ h
+      by_owner false true f g h = absurd (cc (f refl))
+      by_owner false false f g h = h
+
+  -- what is found among the members of the class is the first of all
+  pub own-position : (items : List A) → first_among p items (owned_from 0 c (map owner items)) ≡ position p items
+  own-position items = among [] items 0 refl ∙ sym (position_from-zero p items)
+
+-- what is found stands in the list
+pub position-within : {A : Type 0} (p : A → Bool) (xs : List A) → IfSome (position p xs) (λ i. i < length xs)
+position-within p [] = tt
+position-within p (y ∷ ys) = go (position p (y ∷ ys)) refl
+  where
+    go : (o : Option ℕ) → position p (y ∷ ys) ≡ o → IfSome o (λ i. i < length (y ∷ ys))
+    go None e = tt
+    go (Some i) e = (position-Some p (y ∷ ys) i y e).0

@@ -1,0 +1,75 @@
+//! What each class or interface declares itself.
+#![tactic(auto)]
+
+ghost use Rattle.std.specs.Prelude.{◌≡◌, ℕ, ◌<◌, ◌++◌, ◌∷◌, ◌==◌, [], cond, length, map, IfOk, OnOk};
+ghost use Rattle.java_core.specs.Owned.{AreOwned, listed};
+
+use crate::{Field, Method};
+use kaba_base::ClassId;
+use std::alloc::{AllocError, Global};
+
+/// Lists up to the one of a number at least.
+fn reach(alloc: Global, lists: &mut Vec<Vec<usize>>, at: usize) -> Result<(), AllocError>
+    ensures there { OnOk result (at < length lists.new.items) }
+    ensures kept { OnOk result ((c : ℕ) → listed lists.new.items c ≡ listed lists.old.items c) }
+{
+    while lists.len() <= at {
+        lists.push(Vec::new(alloc))?;
+    }
+    Ok(())
+}
+
+/// One number more in the list of a number that is there.
+fn put(lists: &mut Vec<Vec<usize>>, at: usize, number: usize) -> Result<(), AllocError>
+    requires { at < length lists.old.items }
+    ensures { OnOk result ((c : ℕ) → listed lists.new.items c ≡ cond (at == c) (listed lists.old.items c ++ number ∷ []) (listed lists.old.items c)) }
+{
+    lists[at].push(number)?;
+    Ok(())
+}
+
+/// One member more, of this owner and this number.
+fn note(
+    alloc: Global,
+    lists: &mut Vec<Vec<usize>>,
+    owner: ClassId,
+    number: usize,
+) -> Result<(), AllocError>
+    ensures { OnOk result ((c : ℕ) → listed lists.new.items c ≡ cond (owner.0 == c) (listed lists.old.items c ++ number ∷ []) (listed lists.old.items c)) }
+{
+    let at = owner.0 as usize;
+    reach(alloc, lists, at)?;
+    put(lists, at, number)
+}
+
+/// For each class the fields that it declares itself; `AllocError` where memory is short.
+pub fn own_fields(alloc: Global, list: &[Field]) -> Result<Vec<Vec<usize>>, AllocError>
+    ensures { IfOk result (λ v. AreOwned (map (λ f. f.owner.0) list.now) v.items) }
+{
+    let mut lists = Vec::new(alloc);
+    for k in 0..list.len() {
+        note(alloc, &mut lists, list[k].owner, k)?;
+    }
+    Ok(lists)
+}
+
+/// For each class or interface the methods that it declares itself; `AllocError` where memory is short.
+pub fn own_methods(alloc: Global, list: &[Method]) -> Result<Vec<Vec<usize>>, AllocError>
+    ensures { IfOk result (λ v. AreOwned (map (λ m. m.owner.0) list.now) v.items) }
+{
+    let mut lists = Vec::new(alloc);
+    for k in 0..list.len() {
+        note(alloc, &mut lists, list[k].owner, k)?;
+    }
+    Ok(lists)
+}
+
+/// The numbers of a list.
+pub fn listed(lists: &Vec<Vec<usize>>, class: ClassId) -> &[usize]
+    ensures { result.now ≡ listed lists.now.items class.0 }
+{
+    match lists.get(class.0 as usize) {
+        Some(list) => list.as_slice(),
+        None => &[],
+    }
+}

@@ -1,0 +1,71 @@
+"""Texts of up to about a megabyte, each of one shape that names and types meet, at four sizes."""
+
+
+def main(body=""):
+    return f"class Main {{\n  static void main(String[] args) {{\n{body}  }}\n}}\n"
+
+
+def chain(count):
+    """Classes one below the other."""
+    return "class C0 {\n}\n" + "".join(f"class C{n} extends C{n - 1} {{\n}}\n" for n in range(1, count)) + main()
+
+
+def overriding(count):
+    """Classes one below the other, each with a method that overrides and calls the one above."""
+    text = "class C0 {\n  int m(int a) {\n    return a;\n  }\n}\n"
+    for n in range(1, count):
+        text += f"class C{n} extends C{n - 1} {{\n  int m(int a) {{\n    return super.m(a) + 1;\n  }}\n}}\n"
+    return text + main()
+
+
+def beside(count):
+    """Classes side by side, each with a field and a method."""
+    return "".join(f"class C{n} {{ int f; int m{n}() {{ return f; }} }}\n" for n in range(count)) + main()
+
+
+def two_names(count):
+    """Classes side by side, each with a static and an instance method of the same two names."""
+    return "".join(f"class C{n} {{\n  static void s() {{\n  }}\n  void m() {{\n  }}\n}}\n" for n in range(count)) + main()
+
+
+def diamonds(levels):
+    """Interfaces, two at each level, that name both of the level above, a class below all, and one beside them."""
+    text = "class D {\n  int m() {\n    return 0;\n  }\n}\ninterface A0 {\n}\ninterface B0 {\n}\n"
+    for n in range(1, levels):
+        text += "".join(f"interface {name}{n} extends A{n - 1}, B{n - 1} {{\n}}\n" for name in "AB")
+    last = levels - 1
+    return text + f"class C implements A{last}, B{last} {{\n}}\n" + main(f"    A0 a = new C();\n    C c = (C) a;\n    B0 b = c;\n")
+
+
+def members(count):
+    """A class with so many fields and methods, each of them used."""
+    text = "class P {\n" + "".join(f"  int f{n};\n  int m{n}() {{\n    return f{n};\n  }}\n" for n in range(count)) + "}\n"
+    return text + main("    P p = new P();\n" + "".join(f"    p.f{n} = p.m{n}();\n" for n in range(count)))
+
+
+def parameters(count):
+    """A method with so many parameters, each of them used, and a call of it."""
+    text = "class P {\n  static int m(" + ", ".join(f"int p{n}" for n in range(count)) + ") {\n    int sum = 0;\n"
+    text += "".join(f"    sum = sum + p{n};\n" for n in range(count)) + "    return sum;\n  }\n}\n"
+    return text + main("    int sum = P.m(" + ", ".join(str(n) for n in range(count)) + ");\n")
+
+
+def blocks(count):
+    """So many locals, and so many blocks under them, each with a local of its own."""
+    body = "".join(f"    int l{n} = {n};\n" for n in range(count))
+    body += "".join(f"    {{\n      int b = l{n};\n      l{n} = b + 1;\n    }}\n" for n in range(count))
+    return main(body)
+
+
+# The shape, its sizes, and the seconds and megabytes that the greatest may take until it is checked.
+SHAPES = [
+    ("classes in a chain", chain, (1000, 2000, 4000, 8000)),
+    ("classes that override and call super", overriding, (188, 375, 750, 1500)),
+    ("classes with a field and a method", beside, (2500, 5000, 10000, 20000)),
+    ("classes with one static and one instance name", two_names, (1000, 2000, 4000, 8000)),
+    ("levels of interfaces that name two above", diamonds, (8, 15, 30, 60)),
+    ("fields and as many methods in one class", members, (625, 1250, 2500, 5000)),
+    ("parameters of one method", parameters, (375, 750, 1500, 3000)),
+    ("blocks under as many locals", blocks, (250, 500, 1000, 2000)),
+]
+SECONDS, MEGABYTES, STACK = 5, 500, 256 << 10
