@@ -6,3 +6,9 @@ pub mod Offered
 pub mod Words
 pub mod Locals
 pub mod OwnedLemmas
+pub mod Meets
+pub mod Reached
+pub mod SquareLemmas
+pub mod Walks
+pub mod Entries
+pub mod SeenClasses

@@ -10,7 +10,7 @@ use Rattle.java_core.specs.declared.RStmt.{RStmt, If, For}
 use Rattle.java_core.specs.declared.RArm.{RArm}
 use Rattle.java_core.specs.declared.RExpr.TheBlock.{Row_of-RExpr, end_of-RExpr, more_of-RExpr, items-the_row-RExpr, hidden-the_row-RExpr-0, items_hidden-the_row-RExpr-0}
 use Rattle.java_core.specs.declared.RStmt.TheBlock.{Row_of-RStmt, end_of-RStmt, more_of-RStmt, items-the_row-RStmt, hidden-the_row-RStmt-0, items_hidden-the_row-RStmt-0, shown-the_row-RStmt-0, items_shown-the_row-RStmt-0, Row_of-RArm, end_of-RArm, more_of-RArm, items-the_row-RArm, hidden-the_row-RArm-1, items_hidden-the_row-RArm-1}
-use Rattle.java_core.specs.Trees.{Tag, ex_then, this, call, Sts, no_st, st_then, Arms, no_other, otherwise, arm, choose, loop, expr_of, exprs_of, exprs, value_of, stmt_of, stmts_of, stmts, arms_of, arms_seen, else_seen, step_seen, base_seen}
+use Rattle.java_core.specs.Trees.{Tag, ex_then, this, call, no_st, st_then, Arms, no_other, otherwise, arm, choose, loop, expr_of, exprs_of, exprs, value_of, stmt_of, stmts_of, stmts, arms_of, arms_seen, else_seen, step_seen, base_seen}
 
 module _ (tag : Place → Tag) where
   pub exprs-items : {n : _} (k : Row_of-RExpr n) → exprs_of tag k ≡ exprs tag (items-the_row-RExpr _ k)

@@ -4,7 +4,7 @@ use Rattle.std.specs.Option.{option_map_or, option_to_list, is_some}
 use Rattle.std.specs.List.{list_any, flat_map}
 use Rattle.std.specs.Str.{bytes_eq}
 use Rattle.kaba_base.specs.declared.ClassId.{ClassId}
-use Rattle.java_core.specs.Programs.{Plain, PlainField, PlainMethod}
+use Rattle.java_core.specs.Plain.{Plain, PlainField, PlainMethod}
 
 -- the superclass of a class, and the interfaces that a class or interface names
 abbrev pub parent_of : Plain → ℕ → Option ClassId

@@ -1,7 +1,7 @@
 -- What the look-ups of members find, as relations.
 use Rattle.std.specs.Prelude.{◌≡◌, ℕ, List, false, Option, Some, None, slice_get}
 use Rattle.kaba_base.specs.declared.ClassId.{ClassId}
-use Rattle.java_core.specs.Programs.{Plain, PlainMethod}
+use Rattle.java_core.specs.Plain.{Plain, PlainMethod}
 use Rattle.java_core.specs.Classes.{IsSubclass, parent_of, own_body}
 
 -- d is what a class itself has, or where it has nothing that of its superclass

@@ -1,4 +1,5 @@
 pub mod Trees
+pub mod Plain
 pub mod Programs
 pub mod Classes
 pub mod Found
@@ -8,3 +9,5 @@ pub mod Types
 pub mod Statics
 pub mod Typing
 pub mod Formed
+pub mod Squares
+pub mod Subtypes

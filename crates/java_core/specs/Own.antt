@@ -4,7 +4,7 @@ use Rattle.java_core.specs.declared.classes.Named.{Named}
 use Rattle.java_core.specs.declared.classes.Named.TheVariants as named
 use Rattle.java_core.specs.declared.classes.OfSlot.{OfSlot}
 use Rattle.java_core.specs.declared.classes.OfSlot.TheVariants as of_slot
-use Rattle.java_core.specs.Programs.{Plain}
+use Rattle.java_core.specs.Plain.{Plain}
 use Rattle.java_core.specs.Classes.{own_field_of, own_method, own_declaration, own_body, faces_above, first_found}
 
 abbrev pub own_named : Plain → Named → ℕ → List ℕ → Option ℕ

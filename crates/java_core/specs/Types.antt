@@ -12,7 +12,7 @@ use Rattle.java_core.specs.declared.BinOp.TheVariants as bin
 use Rattle.java_core.specs.declared.Op.{Op}
 use Rattle.java_core.specs.declared.Op.TheVariants as op
 use Rattle.java_core.specs.Trees.{Ex, number, character, text, truth, null, this, local, static_field, own_field, field, index, call, static_call, super_call, create, create_array, cast, instance_of, unary, binary, Target, to_local, to_static, to_own, to_field, to_element, no_target}
-use Rattle.java_core.specs.Programs.{Plain, PlainLocal, PlainMethod}
+use Rattle.java_core.specs.Plain.{Plain, PlainLocal, PlainMethod}
 use Rattle.java_core.specs.Classes.{below, member_field, slot_of, super_method}
 
 -- what an expression gives: a value of a type, null, or nothing (a call of a void method, or what no rule allows)

@@ -7,7 +7,7 @@ use Rattle.java_core.specs.declared.UnOp.TheVariants as un
 use Rattle.java_core.specs.declared.BinOp.{BinOp}
 use Rattle.java_core.specs.declared.BinOp.TheVariants as bin
 use Rattle.java_core.specs.Trees.{Tag, Ex, Exs, no_ex, ex_then, number, character, text, truth, null, this, local, static_field, own_field, field, index, call, static_call, super_call, create, create_array, cast, instance_of, unary, binary, Target, to_local, to_static, to_own, to_field, to_element, St, Sts, Arms, declare, block, assign, act, print, choose, loop, return, break, continue, no_st, st_then, no_other, otherwise, arm}
-use Rattle.java_core.specs.Programs.{Plain, PlainClass, PlainMethod}
+use Rattle.java_core.specs.Plain.{Plain, PlainClass, PlainMethod}
 use Rattle.java_core.specs.Classes.{below, is_interface, is_concrete, super_method, has_body, nearest_declaration}
 use Rattle.java_core.specs.Types.{Static, a_value, Env, env_of, class_in, class_of, element_of, is_numeric, is_boolean, is_string, is_printable, fits, fits_in, are_comparable, Signature, call_signature, super_signature, signature_of_method, access_type, field_in, is_plus, static, target_type}
 

@@ -5,7 +5,7 @@ ghost use Rattle.std.specs.Option.{option_map, is_some};
 ghost use Rattle.std.specs.List.{list_any, flat_map};
 ghost use Rattle.java_core.specs.Trees.{no_place};
 ghost use Rattle.java_core.specs.Programs.{program_of, field_seen, method_seen};
-ghost use Rattle.java_core.specs.Classes.{IsSubclass, reaches, below, parent_of, faces_of, is_field_of, own_field_of, field_of, member_field, is_static_field, is_method_of, own_method, nearest, faces_above, first_or, first_found, declaration_of, slot_of_method, slot_of, is_slot, has_slot, own_declaration, own_body, lookup, nearest_declaration, super_method, has_body};
+ghost use Rattle.java_core.specs.Classes.{IsSubclass, below, parent_of, faces_of, is_field_of, own_field_of, field_of, member_field, is_static_field, is_method_of, own_method, nearest, faces_above, first_or, first_found, declaration_of, slot_of_method, slot_of, is_slot, has_slot, own_declaration, own_body, lookup, nearest_declaration, super_method, has_body};
 ghost use Rattle.java_core.specs.Found.{Runs, IsOffered};
 ghost use Rattle.java_core.specs.Own.{own_named, own_of_slot};
 ghost use Rattle.java_core.specs.Owned.{passes, first_among};
@@ -22,7 +22,7 @@ pub fn is_subtype(p: &Program, a: ClassId, b: ClassId) -> bool
     ensures value { result ≡ below (program_of no_place p.now) a.0 b.0 }
     ensures exact { IsTrue result ↔ IsSubclass (program_of no_place p.now) a.0 b.0 }
 {
-    reaches(p, a, b, class_count(p))
+    (a == b) | p.above.is_above(a.0, b.0)
 }
 
 /// How many classes and interfaces there are: no way upwards is longer.
@@ -30,38 +30,6 @@ fn class_count(p: &Program) -> usize
     ensures { result ≡ length (program_of no_place p.now).classes }
 {
     p.classes.len()
-}
-
-/// Whether a class is reached from another in at most so many steps upwards.
-#[cycle(reaches)]
-fn reaches(p: &Program, a: ClassId, b: ClassId, left: usize) -> bool
-    ensures { result ≡ reaches (program_of no_place p.now) left a.0 b.0 }
-{
-    if a == b {
-        return true;
-    }
-    if left == 0 {
-        return false;
-    }
-    match parent_of(p, a) {
-        Some(parent) => {
-            reaches(p, parent, b, left - 1) || reaches_from_any(p, faces_of(p, a), b, left - 1)
-        }
-        None => reaches_from_any(p, faces_of(p, a), b, left - 1),
-    }
-}
-
-/// Whether a class is reached from one of a list.
-#[cycle(reaches)]
-fn reaches_from_any(p: &Program, list: &[ClassId], b: ClassId, left: usize) -> bool
-    ensures { result ≡ list_any (λ c. reaches (program_of no_place p.now) left c.0 b.0) list.now }
-{
-    for class in list {
-        if reaches(p, *class, b, left) {
-            return true;
-        }
-    }
-    false
 }
 
 /// The superclass of a class; that of an interface is `Object`, and `Object` has none.

@@ -1,14 +1,19 @@
 //! Resolved programs: what a text means once each name is known, and the rules of their types.
 #![tactic(auto)]
 
-ghost use Rattle.std.specs.Prelude.{map};
+ghost use Rattle.std.specs.Prelude.{◌≡◌, map};
+ghost use Rattle.java_core.specs.Trees.{at_place};
+ghost use Rattle.java_core.specs.Plain.{class_seen};
 ghost use Rattle.java_core.specs.Owned.{AreOwned};
+ghost use Rattle.java_core.specs.Subtypes.{subtype_rows};
 
 mod checked;
 mod classes;
+mod direct;
 mod made;
 mod owned;
 mod statics;
+mod subtypes;
 
 pub use checked::Checked;
 pub use classes::{
@@ -22,6 +27,7 @@ pub use statics::{
     field_in, field_type, given_of, is_length, is_string, local_type, plain_type, slot_in,
     static_of, string_method, string_result, type_at, unary_type, value_type,
 };
+pub use subtypes::{Hierarchy, subtypes_of};
 
 /// What an array's elements are, or a type that is no array.
 #[derive(Clone, Copy, Debug, PartialEq, Eq)]
@@ -394,6 +400,9 @@ pub struct Program {
     own_fields: Vec<Vec<usize>>,
     /// For each class or interface the numbers of the methods that it declares itself.
     own_methods: Vec<Vec<usize>>,
+    /// Which classes and interfaces are above which.
+    above: Hierarchy,
     ghost fields_owned: { AreOwned (map (λ f. f.owner.0) fields.items) own_fields.items },
     ghost methods_owned: { AreOwned (map (λ m. m.owner.0) methods.items) own_methods.items },
+    ghost above_shown: { above ≡ subtype_rows (map (class_seen at_place) classes.items) },
 }

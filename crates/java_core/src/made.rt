@@ -1,11 +1,14 @@
 //! A program from its parts.
 #![tactic(auto)]
 
-ghost use Rattle.std.specs.Prelude.{IfOk};
+ghost use Rattle.std.specs.Prelude.{◌≡◌, map, IfOk};
+ghost use Rattle.java_core.specs.Trees.{at_place};
+ghost use Rattle.java_core.specs.Plain.{class_seen};
+ghost use Rattle.java_core.specs.Subtypes.{subtype_rows};
 ghost use Rattle.java_core.specs.Programs.{IsMadeOf};
 
 use crate::owned::{own_fields, own_methods};
-use crate::{Class, Field, Method, Program, Slot};
+use crate::{Class, Field, Hierarchy, Method, Program, Slot};
 use kaba_base::MemberId;
 use std::alloc::{AllocError, Global};
 use std::mem::drop;
@@ -19,7 +22,9 @@ impl Program {
         methods: Vec<Method>,
         slots: Vec<Slot>,
         main: MemberId,
+        above: Hierarchy,
     ) -> Result<Program, AllocError>
+        requires { above ≡ subtype_rows (map (class_seen at_place) classes.items) }
         ensures { IfOk result (λ p. IsMadeOf classes fields methods slots main p) }
     {
         match (
@@ -32,6 +37,7 @@ impl Program {
                 methods,
                 slots,
                 main,
+                above,
                 own_fields,
                 own_methods,
             }),
@@ -40,6 +46,7 @@ impl Program {
                 drop(fields);
                 drop(methods);
                 drop(slots);
+                drop(above);
                 Err(AllocError)
             }
         }

@@ -11,7 +11,7 @@ use Rattle.java_core.specs.Formed.{HasNoTwice, IsFormedSlot, IsFormedMethod, IsM
 use Rattle.name_rules.specs.declared.Refusal.TheVariants.{Overload, PrivateReused}
 use Rattle.java_resolve.specs.Known.{Known}
 use Rattle.java_resolve.specs.declared.tables.Heading.{Heading}
-use Rattle.java_resolve.specs.Tables.{bit_in, row_in, is_above}
+use Rattle.java_resolve.specs.Tables.{is_above}
 use Rattle.java_resolve.specs.Members.{Members, meet, same_slot, clash_of}
 use Rattle.java_resolve.specs.Resolved.{program, with_bodies, resolved}
 use Rattle.java_resolve.specs.Resolved as resolved_by
@@ -22,6 +22,7 @@ use Rattle.java_resolve.proofs.Runs.{map-stands, stands-map}
 use Rattle.java_resolve.proofs.KnownTypes.{AreKnown}
 use Rattle.java_resolve.proofs.KnownClasses.{AreClasses}
 use Rattle.java_resolve.proofs.Reached.{AreAbove}
+use Rattle.java_core.proofs.Meets.{meets}
 use Rattle.java_resolve.proofs.Loops.{NoLoops}
 use Rattle.java_resolve.proofs.SlotsOf.{SlotOf, none_of, one_of}
 use Rattle.java_resolve.proofs.KnownMembers.{AreMembers}
@@ -39,15 +40,6 @@ use Rattle.java_resolve.proofs.MembersOf.{owners-rise}
 bare-types : (vs : List PlainLocal) → types_of (map bare_local vs) ≡ types_of vs
 bare-types [] = refl
 bare-types (v ∷ vs) = ap (λ z. v.ty ∷ z) (bare-types vs)
-
-meets : (rs : List (List Bool)) (c a b : ℕ) → row_in (slice_get rs c) a ≡ true → row_in (slice_get rs c) b ≡ true → meet rs a b ≡ true
-meets [] c a b p q = absurd (false≢true p)
-meets (row ∷ rs) zero a b p q = ap (λ z. if z && bit_in (slice_get row b) then true else meet rs a b) p ∙ ap (λ z. if z then true else meet rs a b) q
-meets (row ∷ rs) (suc c) a b p q = go (bit_in (slice_get row a) && bit_in (slice_get row b)) (meets rs c a b p q)
-  where
-    go : (x : Bool) → meet rs a b ≡ true → (if x then true else meet rs a b) ≡ true
-    go true e = refl
-    go false e = e
 
 same-slots : (a b : Option ℕ) → same_slot a b ≡ true → (s : ℕ) × (a ≡ Some s) × (b ≡ Some s)
 same-slots (Some s) (Some t) e = (s, refl, ap Some (sym (eqb-true s t e)))

@@ -1,4 +1,3 @@
-pub mod Rounds
 pub mod Rows
 pub mod Lists
 pub mod StatementRows
@@ -43,3 +42,5 @@ pub mod Final
 pub mod Only
 pub mod OnlyStatements
 pub mod OnlyWhole
+pub mod SpotLemmas
+pub mod ClashSpots

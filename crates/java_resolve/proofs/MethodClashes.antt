@@ -17,7 +17,7 @@ use Rattle.name_rules.specs.declared.Refusal.TheVariants.{Overload, PrivateReuse
 use Rattle.java_resolve.specs.Known.{Known}
 use Rattle.java_resolve.specs.declared.tables.Heading.{Heading}
 use Rattle.java_resolve.specs.Answers.{unless, run}
-use Rattle.java_resolve.specs.Tables.{bit_in, row_in, is_above}
+use Rattle.java_resolve.specs.Tables.{is_above}
 use Rattle.java_resolve.specs.Members.{Members, meet, same_slot, clash_of, clash_with, earlier_step, clash_step, clashes_of, main_from, or_no_main, main_of}
 use Rattle.name_rules.specs.Outline.{MethodAt, is_private, methods_of, heads_of, methods_declared, methods_from, methods_in, types_in, method_outline, outline}
 use Rattle.name_rules.specs.Conditions.{ConditionAt, overload, private_reused, no_main, AreOneSlot}
@@ -25,6 +25,7 @@ use Rattle.java_resolve.proofs.Sees.{Tells, tell, same_some}
 use Rattle.java_resolve.proofs.Runs.{run-tells, stands-at, stands-within, push-cases, map-stands, stands-map, position-from, none-passes}
 use Rattle.java_resolve.proofs.KnownTypes.{AreKnown}
 use Rattle.java_resolve.proofs.Reached.{AreAbove}
+use Rattle.java_core.proofs.Meets.{meet-stands}
 use Rattle.java_resolve.proofs.SlotsOf.{SlotOf, none_of, one_of}
 use Rattle.java_resolve.proofs.KnownMembers.{AreMembers, HeadIs, some-stands}
 
@@ -89,18 +90,6 @@ not-true' false e = refl
 
 module _ (tree : List DeclTree) (known : List Known) (are : AreKnown tree known) (rows : List (List Bool)) (above : AreAbove (outline tree) rows)
     (fs : List _) (m : Members) (members : AreMembers tree known are fs (methods_in tree) m) where
-  meet-stands : (rs : List (List Bool)) (a b : ℕ) → meet rs a b ≡ true → (c : ℕ) × (row : List Bool) × (slice_get rs c ≡ Some row)
-      × (bit_in (slice_get row a) ≡ true) × (bit_in (slice_get row b) ≡ true)
-  meet-stands [] a b e = absurd (false≢true e)
-  meet-stands (row ∷ rs) a b e = go (bit_in (slice_get row a) && bit_in (slice_get row b)) refl (meet-stands rs a b)
-    where
-      go : (x : Bool) → bit_in (slice_get row a) && bit_in (slice_get row b) ≡ x
-          → (meet rs a b ≡ true → (c : ℕ) × (row : List Bool) × (slice_get rs c ≡ Some row) × (bit_in (slice_get row a) ≡ true)
-          × (bit_in (slice_get row b) ≡ true))
-          → (c : ℕ) × (r : List Bool) × (slice_get (row ∷ rs) c ≡ Some r) × (bit_in (slice_get r a) ≡ true) × (bit_in (slice_get r b) ≡ true)
-      go true f more = let g = and-true (bit_in (slice_get row a)) (bit_in (slice_get row b)) f in (0, row, refl, g.0, g.1)
-      go false f more = let g = more (sym (ap (λ z. if z then true else meet rs a b) f) ∙ e) in (suc g.0, g.1, g.2, g.3, g.4)
-
   -- methods whose signatures agree have one slot
   one-slot : (i j : ℕ) (a b : Heading) (x y : MethodAt) → slice_get m.headings i ≡ Some a → slice_get m.headings j ≡ Some b
       → slice_get (methods_in tree) i ≡ Some x → slice_get (methods_in tree) j ≡ Some y
@@ -172,11 +161,9 @@ module _ (tree : List DeclTree) (known : List Known) (are : AreKnown tree known)
               b.owner then Some (Overload b.name b.place) else None) g
               ∙ ap (λ z. if z then Some (Overload b.name b.place) else None) h) ∙ is) in
               let w = meet-stands rows a.owner b.owner k.1 in
-              let at-a : is_above rows w.0 a.owner ≡ true = ap (λ z. row_in z a.owner) w.2 ∙ w.3 in
-              let at-b : is_above rows w.0 b.owner ≡ true = ap (λ z. row_in z b.owner) w.2 ∙ w.4 in
               let l = overload (method_at-outline tree i x.0 x.1) (method_at-outline tree j y.0 y.1) lt names
-              (subst (λ z. IsSubclass (outline tree) w.0 z) hx.owner (above-sound w.0 a.owner x-within at-a))
-              (subst (λ z. IsSubclass (outline tree) w.0 z) hy.owner (above-sound w.0 b.owner y-within at-b))
+              (subst (λ z. IsSubclass (outline tree) w.0 z) hx.owner (above-sound w.0 a.owner x-within w.1))
+              (subst (λ z. IsSubclass (outline tree) w.0 z) hy.owner (above-sound w.0 b.owner y-within w.2))
               (λ o. false≢true (sym (not-true' (same_slot a.slot b.slot) k.0) ∙ one-slot i j a b x.0 y.0 p q x.1 y.1 names o)) in
               subst (ConditionAt tree) (ap (λ z. Overload z y.0.head.place) (sym hy.name) ∙ ap (λ z. Overload b.name z) (sym hy.place) ∙ same) l
           by_private false g false h =

@@ -20,7 +20,7 @@ use Rattle.java_resolve.proofs.KnownClasses.{AreClasses, classes-tells, classes-
 use Rattle.java_resolve.proofs.Reached.{above-tells}
 use Rattle.java_resolve.proofs.Loops.{loops-tells}
 use Rattle.java_resolve.proofs.AllMembers.{members-tells}
-use Rattle.java_resolve.proofs.MethodClashes.{classes-count, clashes-tells, main-tells}
+use Rattle.java_resolve.proofs.MethodClashes.{clashes-tells, main-tells}
 use Rattle.java_resolve.proofs.SeesOutline.{sees-outline}
 use Rattle.java_resolve.proofs.MethodBodies.{bodies-tells}
 use Rattle.java_resolve.proofs.Bridge.{program-resolves}
@@ -49,7 +49,7 @@ resolved-formed tree formed =
         → Tells (ResolvesFormed tree) (ConditionAt tree) (with (above_of (outline tree).classes) (λ rows. with (loops_of rows (outline tree).classes)
         (λ _. with (members_of known tree) (λ m. with_bodies tree known (outline tree).classes rows m))))
     from-classes known are cs classes =
-        tell (ResolvesFormed tree) (ConditionAt tree) (above_of (outline tree).classes) _ (above-tells (outline tree) (length tree) (classes-count tree))
+        tell (ResolvesFormed tree) (ConditionAt tree) (above_of (outline tree).classes) _ (above-tells (outline tree))
         (λ rows above. tell (ResolvesFormed tree) (ConditionAt tree) (loops_of rows (outline tree).classes) _ (loops-tells tree rows above)
         (λ number loops. tell (ResolvesFormed tree) (ConditionAt tree) (members_of known tree) _ (members-tells tree known are)
         (λ m members. tell (ResolvesFormed tree) (ConditionAt tree) (clashes_of rows m.headings) _ (clashes-tells tree known are rows above

@@ -9,7 +9,8 @@ use Rattle.java_tree.specs.declared.Id.{Id}
 use Rattle.java_tree.specs.declared.Modifier.{Modifier}
 use Rattle.java_tree.specs.Syntax.{DeclTree, ClassTree, InterfaceTree}
 use Rattle.java_core.specs.Trees.{at_place}
-use Rattle.java_core.specs.Programs.{PlainClass}
+use Rattle.java_core.specs.Programs.{Plain, PlainClass}
+use Rattle.java_core.specs.Classes.{reaches}
 use Rattle.name_rules.specs.declared.Form.TheVariants as forms
 use Rattle.name_rules.specs.declared.Refusal.{Refusal}
 use Rattle.name_rules.specs.declared.Refusal.TheVariants.{Twice, TwoKinds, Loop, NotInProfile}
@@ -20,6 +21,8 @@ use Rattle.java_resolve.specs.declared.flags.Flags.{Flags}
 use Rattle.java_resolve.specs.Answers.{with, run}
 use Rattle.java_resolve.specs.Names.{is_apart, number_of, asked}
 use Rattle.java_resolve.specs.Tables.{is_above}
+use Rattle.java_core.specs.Squares.{square}
+pub use Rattle.java_core.specs.Subtypes.{of_classes, class_id, subtype_rows}
 
 abbrev pub decl_name : DeclTree → List ℕ
 decl_name (ClassTree mods n parent faces ms p) = n
@@ -158,9 +161,6 @@ is_face_in (Some k) = k.is_interface
 abbrev pub is_face : List Known → ℕ → Bool
 is_face known k = is_face_in (slice_get known k)
 
-abbrev pub class_id : ℕ → ClassId
-class_id k = record { 0 = k }
-
 -- the superclass: Object where none is named; an interface is none
 abbrev pub parent_tree : List Known → Option Id → Result ℕ Refusal
 parent_tree known None = Ok 0
@@ -223,26 +223,9 @@ by_parent rows (Some c) b = is_above rows c.0 b
 abbrev pub above_by : List (List Bool) → PlainClass → ℕ → Bool
 above_by rows c b = by_parent rows c.parent b || any_above rows c.faces b
 
--- the rows so far, and one bit more of the row of the type a: the types at or above it in one step more
-abbrev pub row_step : List (List Bool) → ℕ → PlainClass → List Bool → PlainClass → Result (List Bool) Refusal
-row_step rows a c bits _ = Ok (bits ++ ((length bits == a) || above_by rows c (length bits)) ∷ [])
-
-abbrev pub row_of : List (List Bool) → List PlainClass → ℕ → PlainClass → Result (List Bool) Refusal
-row_of rows all a c = run (row_step rows a c) [] all
-
-abbrev pub round_step : List (List Bool) → List PlainClass → List (List Bool) → PlainClass → Result (List (List Bool)) Refusal
-round_step rows all done c = with (row_of rows all (length done) c) (λ r. Ok (done ++ r ∷ []))
-
--- the types that are reached in one step more
-abbrev pub round : List PlainClass → List (List Bool) → Result (List (List Bool)) Refusal
-round all rows = run (round_step rows all) [] all
-
-abbrev pub rounds_step : List PlainClass → List (List Bool) → PlainClass → Result (List (List Bool)) Refusal
-rounds_step all rows _ = round all rows
-
--- the types at or above each type: those that are reached in as many steps as there are types
-abbrev pub above_of : List PlainClass → Result (List (List Bool)) Refusal
-above_of all = run (rounds_step all) [] all
+-- the types at or above each type: no way upwards is longer than the list of types
+unfoldable pub above_of : List PlainClass → Result (List (List Bool)) Refusal
+above_of all = Ok (subtype_rows all)
 
 -- a class that is its own ancestor
 abbrev pub loop_step : List (List Bool) → ℕ → PlainClass → Result ℕ Refusal

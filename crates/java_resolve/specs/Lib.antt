@@ -3,8 +3,10 @@ pub mod Answers
 pub mod Names
 pub mod Tables
 pub mod Expressions
+pub mod Spots
 pub mod Statements
 pub mod Classes
 pub mod Members
 pub mod Resolved
 pub mod Unique
+pub mod Clashes

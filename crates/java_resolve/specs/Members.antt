@@ -24,6 +24,7 @@ use Rattle.java_resolve.specs.Answers.{with, unless, run}
 use Rattle.java_resolve.specs.Names.{type_of, names_type}
 use Rattle.java_resolve.specs.Tables.{bit_in, is_above, field_from, method_from}
 use Rattle.java_resolve.specs.Classes.{flags_of}
+pub use Rattle.java_core.specs.Squares.{meet}
 
 -- the members so far
 pub record Members : Type 0 where
@@ -166,11 +167,6 @@ abbrev pub members_of : List Known → List DeclTree → Result Members Refusal
 members_of known tree = with (run (decl_step known) (1, no_members) tree) (λ s. Ok s.1)
 
 -- ---- where methods of one name meet
-
--- whether some type is at or below both
-abbrev pub meet : List (List Bool) → ℕ → ℕ → Bool
-meet [] a b = false
-meet (row ∷ rows) a b = if bit_in (slice_get row a) && bit_in (slice_get row b) then true else meet rows a b
 
 abbrev pub same_slot : Option ℕ → Option ℕ → Bool
 same_slot (Some s) (Some t) = s == t

@@ -5,8 +5,9 @@ use Rattle.kaba_base.specs.declared.ClassId.{ClassId}
 use Rattle.java_core.specs.declared.Field.{Field}
 use Rattle.java_resolve.specs.Known.{Known}
 use Rattle.java_resolve.specs.declared.tables.Heading.{Heading}
-use Rattle.java_resolve.specs.declared.tables.Tables.{Tables}
+use Rattle.java_resolve.specs.declared.declarations.Tables.{Tables}
 use Rattle.name_rules.specs.declared.parts.Bound.{Bound}
+pub use Rattle.java_core.specs.Squares.{bit_in, row_in, is_above}
 
 -- the declarations: types, superclasses, which types are at or above which, fields and methods
 pub record Table : Type 0 where
@@ -17,19 +18,7 @@ pub record Table : Type 0 where
   pub headings : List Heading
 
 abbrev pub table_of : Tables → Table
-table_of t = record { known = t.known; parents = t.parents.items; above = t.above.items; fields = t.fields.items; headings = t.headings.items }
-
--- whether b is at or above a
-abbrev pub bit_in : Option Bool → Bool
-bit_in None = false
-bit_in (Some b) = b
-
-abbrev pub row_in : Option (List Bool) → ℕ → Bool
-row_in None b = false
-row_in (Some row) b = bit_in (slice_get row b)
-
-abbrev pub is_above : List (List Bool) → ℕ → ℕ → Bool
-is_above rows a b = row_in (slice_get rows a) b
+table_of t = record { known = t.known; parents = t.parents.items; above = t.above; fields = t.fields.items; headings = t.headings.items }
 
 -- the superclass of a class
 abbrev pub parent_in : Option (Option ClassId) → Option ClassId

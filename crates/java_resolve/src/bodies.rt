@@ -18,10 +18,11 @@ ghost use Rattle.java_resolve.specs.Resolved.{Methods, methods_seen, bounds_from
 
 use crate::Refusal;
 use crate::classes::after;
+use crate::declarations::Tables;
 use crate::flags::flags_of;
 use crate::members::{number_at, params_of, result_of};
 use crate::stmts::{Body, statements};
-use crate::tables::{Heading, Tables};
+use crate::tables::Heading;
 use java_core::{Local, Method, RStmt};
 use java_tree::{Decl, Head, Member, Stmt};
 use kaba_base::ClassId;

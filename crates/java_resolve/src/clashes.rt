@@ -1,36 +1,20 @@
 //! Where methods of one name meet, and the main method.
 #![tactic(auto)]
 
-ghost use Rattle.std.specs.Prelude.{◌≡◌, ◌&&◌, ◌||◌, not, slice_get, IfOk};
+ghost use Rattle.std.specs.Prelude.{◌≡◌, ◌&&◌, ◌||◌, not, nat_lt, map, slice_get, IfOk};
 ghost use Rattle.java_resolve.specs.Answers.{Gives};
-ghost use Rattle.java_resolve.specs.Tables.{bit_in, is_above};
-ghost use Rattle.java_resolve.specs.Members.{meet, same_slot, clash_of, clash_with, clash_step, clashes_of, main_from, main_of};
+ghost use Rattle.java_resolve.specs.Tables.{is_above};
+ghost use Rattle.java_resolve.specs.Members.{meet, same_slot, clash_of, clash_step, clashes_of, main_from, main_of};
+ghost use Rattle.java_resolve.specs.Clashes.{clash_at, clash_among, clash_after};
+ghost use Rattle.java_resolve.specs.Spots.{AreSpots, spots_of};
 
 use crate::Refusal;
 use crate::classes::after;
 use crate::members::number_at;
-use crate::names::is_same;
-use crate::tables::{Heading, Row, is_above};
+use crate::spots::Spots;
+use crate::tables::Heading;
+use java_core::Hierarchy;
 use std::alloc::{AllocError, Global};
-
-/// Whether a type, whose row this is, is at or below both.
-fn has_both(row: &Row, a: u32, b: u32) -> bool
-    ensures { result ≡ bit_in (slice_get row.now a) && bit_in (slice_get row.now b) }
-{
-    row.has(a) && row.has(b)
-}
-
-/// Whether some type is at or below both.
-fn meet(rows: &[Row], a: u32, b: u32) -> bool
-    ensures { result ≡ meet rows.now a b }
-{
-    for row in rows {
-        if has_both(row, a, b) {
-            return true;
-        }
-    }
-    false
-}
 
 fn same_slot(a: Option<u32>, b: Option<u32>) -> bool
     ensures { result ≡ same_slot a b }
@@ -45,30 +29,30 @@ fn same_slot(a: Option<u32>, b: Option<u32>) -> bool
 }
 
 /// Whether one of the types is at or above the other.
-fn are_related(rows: &[Row], a: u32, b: u32) -> bool
+fn are_related(rows: &Hierarchy, a: u32, b: u32) -> bool
     ensures { result ≡ is_above rows.now a b || is_above rows.now b a }
 {
-    is_above(rows, a, b) || is_above(rows, b, a)
+    rows.is_above(a, b) || rows.is_above(b, a)
 }
 
 /// Whether one of two methods of one name is private, and their types are related.
-fn is_reused(rows: &[Row], a: &Heading, b: &Heading) -> bool
+fn is_reused(rows: &Hierarchy, a: &Heading, b: &Heading) -> bool
     ensures { result ≡ (a.now.is_private || b.now.is_private) && (is_above rows.now a.now.owner b.now.owner || is_above rows.now b.now.owner a.now.owner) }
 {
     (a.is_private || b.is_private) && are_related(rows, a.owner, b.owner)
 }
 
 /// Whether two methods of one name are not of one slot, and some type has both.
-fn is_overload(rows: &[Row], a: &Heading, b: &Heading) -> bool
+fn is_overload(rows: &Hierarchy, a: &Heading, b: &Heading) -> bool
     ensures { result ≡ not (same_slot a.now.slot b.now.slot) && meet rows.now a.now.owner b.now.owner }
 {
-    !same_slot(a.slot, b.slot) && meet(rows, a.owner, b.owner)
+    !same_slot(a.slot, b.slot) && rows.meet(a.owner, b.owner)
 }
 
 /// Why the second of two methods of one name cannot stand.
 fn clash_of(
     alloc: Global,
-    rows: &[Row],
+    rows: &Hierarchy,
     a: &Heading,
     b: &Heading,
 ) -> Result<Option<Refusal>, AllocError>
@@ -83,50 +67,95 @@ fn clash_of(
     Ok(None)
 }
 
-fn clash_with(
+/// Why the method `b` cannot stand after the method of a number, which has its name.
+fn clash_at(
     alloc: Global,
-    rows: &[Row],
+    rows: &Hierarchy,
+    all: &Vec<Heading>,
+    at: u32,
     b: &Heading,
-    a: &Heading,
 ) -> Result<Option<Refusal>, AllocError>
-    ensures { IfOk result (λ r. r ≡ clash_with rows.now b.now a.now) }
+    ensures { IfOk result (λ r. r ≡ clash_at rows.now b.now (slice_get all.now.items at)) }
 {
-    if is_same(&a.name, &b.name) {
-        clash_of(alloc, rows, a, b)
-    } else {
-        Ok(None)
+    match all.get(at as usize) {
+        Some(a) => clash_of(alloc, rows, a, b),
+        None => Ok(None),
     }
+}
+
+fn is_before(at: u32, k: u32) -> bool
+    ensures { result ≡ nat_lt at k }
+{
+    at < k
+}
+
+/// Why the method `b` of number `k` cannot stand after those of the list that stand before it.
+fn clash_among(
+    alloc: Global,
+    rows: &Hierarchy,
+    all: &Vec<Heading>,
+    list: &[u32],
+    k: u32,
+    b: &Heading,
+) -> Result<Option<Refusal>, AllocError>
+    ensures { IfOk result (λ r. r ≡ clash_among rows.now all.now.items k b.now list.now) }
+{
+    for at in list {
+        if !is_before(*at, k) {
+            return Ok(None);
+        }
+        if let Some(refusal) = clash_at(alloc, rows, all, *at, b)? {
+            return Ok(Some(refusal));
+        }
+    }
+    Ok(None)
+}
+
+/// The number after `k`, where the method `b` of number `k` clashes with none of the list.
+fn clash_after(
+    alloc: Global,
+    rows: &Hierarchy,
+    all: &Vec<Heading>,
+    list: &[u32],
+    k: u32,
+    b: &Heading,
+) -> Result<u32, Refusal>
+    ensures { Gives (λ n. n) result (clash_after rows.now all.now.items k b.now list.now) }
+{
+    if let Some(refusal) = clash_among(alloc, rows, all, list, k, b)? {
+        return Err(refusal);
+    }
+    after(k)
 }
 
 /// The method `b` of number `k` clashes with none of those before it.
 fn clash_step(
     alloc: Global,
-    rows: &[Row],
+    rows: &Hierarchy,
+    spots: &Spots,
     all: &Vec<Heading>,
     k: u32,
     b: &Heading,
 ) -> Result<u32, Refusal>
+    requires { AreSpots (map (λ h. h.name) all.now.items) spots.now }
     ensures { Gives (λ n. n) result (clash_step rows.now all.now.items k b.now) }
 {
-    let mut j = 0;
-    for a in all {
-        if j != k {
-            if let Some(refusal) = clash_with(alloc, rows, b, a)? {
-                return Err(refusal);
-            }
-            j = after(j)?;
-        }
-    }
-    after(k)
+    clash_after(alloc, rows, all, spots.at(&b.name), k, b)
 }
 
 /// `Overload` or `PrivateReused` where a method clashes with one before it.
-pub fn clashes_of(alloc: Global, rows: &[Row], all: &Vec<Heading>) -> Result<u32, Refusal>
+pub fn clashes_of(
+    alloc: Global,
+    rows: &Hierarchy,
+    spots: &Spots,
+    all: &Vec<Heading>,
+) -> Result<u32, Refusal>
+    requires { AreSpots (map (λ h. h.name) all.now.items) spots.now }
     ensures { Gives (λ n. n) result (clashes_of rows.now all.now.items) }
 {
     let mut k = 0;
     for b in all {
-        k = clash_step(alloc, rows, all, k, b)?;
+        k = clash_step(alloc, rows, spots, all, k, b)?;
     }
     Ok(k)
 }

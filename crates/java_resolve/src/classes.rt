@@ -1,7 +1,7 @@
 //! Classes and interfaces: their names, their supertypes, and which are above which.
 #![tactic(auto)]
 
-ghost use Rattle.std.specs.Prelude.{◌≡◌, ℕ, ◌+◌, List, Bool, IfOk, Ok, map};
+ghost use Rattle.std.specs.Prelude.{◌≡◌, ℕ, ◌+◌, List, IfOk, Ok, map};
 ghost use Rattle.std.specs.declared.vec.Vec.{Vec};
 ghost use Rattle.std.specs.declared.alloc.Global.{Global};
 ghost use Rattle.kaba_base.specs.declared.ClassId.{ClassId};
@@ -9,14 +9,15 @@ ghost use Rattle.java_tree.specs.Syntax.{decl_of, decls};
 ghost use Rattle.java_core.specs.Trees.{at_place};
 ghost use Rattle.java_core.specs.Programs.{PlainClass, class_seen};
 ghost use Rattle.java_core.specs.declared.Class.{Class};
+ghost use Rattle.java_core.specs.Subtypes.{subtype_rows};
 ghost use Rattle.java_resolve.specs.Answers.{Gives};
-ghost use Rattle.java_resolve.specs.Classes.{object_class, known_of, parent_tree, has_id, face, faces_of, class_tree, classes_of, any_above, above_by, row_of, round, above_of, loops_of};
+ghost use Rattle.java_resolve.specs.Classes.{object_class, known_of, parent_tree, has_id, face, faces_of, class_tree, classes_of, above_of, any_above, above_by, loops_of};
 
 use crate::Refusal;
 use crate::flags::flags_of;
+use crate::members::number_at;
 use crate::names::{Types, asked};
-use crate::tables::{Row, are_same, is_above};
-use java_core::Class;
+use java_core::{Class, Hierarchy, subtypes_of};
 use java_tree::{Decl, Id};
 use kaba_base::{ClassId, Name, Place};
 use name_rules::Kind;
@@ -162,12 +163,21 @@ pub fn classes_of(alloc: Global, known: &Types, list: &[Decl]) -> Result<Vec<Cla
     Ok(classes)
 }
 
+/// Which types are above which.
+pub fn above_of(alloc: Global, all: &Vec<Class>) -> Result<Hierarchy, Refusal>
+    ensures gives { Gives {A = List (List Bool)} {B = List (List Bool)} (λ r. r) result (above_of (map (class_seen at_place) all.now.items)) }
+    ensures rows { IfOk result (λ r. r ≡ subtype_rows (map (class_seen at_place) all.now.items)) }
+{
+    let count = number_at(all.len())?;
+    Ok(subtypes_of(alloc, all, count)?)
+}
+
 /// Whether one of these types is at or below `b`.
-fn any_above(rows: &[Row], list: &[ClassId], b: u32) -> bool
+fn any_above(rows: &Hierarchy, list: &[ClassId], b: u32) -> bool
     ensures { result ≡ any_above rows.now list.now b }
 {
     for class in list {
-        if is_above(rows, class.0, b) {
+        if rows.is_above(class.0, b) {
             return true;
         }
     }
@@ -175,34 +185,14 @@ fn any_above(rows: &[Row], list: &[ClassId], b: u32) -> bool
 }
 
 /// Whether something directly above the class is at or below `b`.
-fn above_by(rows: &[Row], class: &Class, b: u32) -> bool
+fn above_by(rows: &Hierarchy, class: &Class, b: u32) -> bool
     ensures { result ≡ above_by rows.now (class_seen at_place class.now) b }
 {
     let by_parent = match class.parent {
-        Some(parent) => is_above(rows, parent.0, b),
+        Some(parent) => rows.is_above(parent.0, b),
         None => false,
     };
     by_parent | any_above(rows, class.faces.as_slice(), b)
-}
-
-/// The types at or above the class `a` in one step more.
-fn row_of(
-    alloc: Global,
-    rows: &[Row],
-    all: &Vec<Class>,
-    a: u32,
-    class: &Class,
-) -> Result<Row, Refusal>
-    ensures { Gives {A = List Bool} {B = List Bool} (λ r. r) result
-        (row_of rows.now (map (class_seen at_place) all.now.items) a (class_seen at_place class.now)) }
-{
-    let mut bits = Vec::new(alloc);
-    let mut b = 0;
-    for _one in all {
-        bits.push((b == a) | above_by(rows, class, b))?;
-        b = after(b)?;
-    }
-    Ok(Row::new(bits))
 }
 
 /// The number after this one.
@@ -215,36 +205,8 @@ pub fn after(number: u32) -> Result<u32, Refusal>
     Ok(number + 1)
 }
 
-/// The types at or above each class in one step more.
-fn round(alloc: Global, all: &Vec<Class>, rows: &[Row]) -> Result<Vec<Row>, Refusal>
-    ensures { Gives {A = Vec (List Bool) Global} {B = List (List Bool)} (λ v. v.items) result (round (map (class_seen at_place) all.now.items) rows.now) }
-{
-    let mut done = Vec::new(alloc);
-    let mut a = 0;
-    for class in all {
-        done.push(row_of(alloc, rows, all, a, class)?)?;
-        a = after(a)?;
-    }
-    Ok(done)
-}
-
-/// For each type which ones are at or above it: a step that adds nothing is the last.
-pub fn above_of(alloc: Global, all: &Vec<Class>) -> Result<Vec<Row>, Refusal>
-    ensures { Gives {A = Vec (List Bool) Global} {B = List (List Bool)} (λ v. v.items) result (above_of (map (class_seen at_place) all.now.items)) }
-{
-    let mut rows = Vec::new(alloc);
-    for _step in all {
-        let next = round(alloc, all, rows.as_slice())?;
-        if are_same(rows.as_slice(), next.as_slice()) {
-            return Ok(rows);
-        }
-        rows = next;
-    }
-    Ok(rows)
-}
-
 /// `Loop` where a class is its own ancestor.
-pub fn loops_of(alloc: Global, rows: &[Row], all: &Vec<Class>) -> Result<u32, Refusal>
+pub fn loops_of(alloc: Global, rows: &Hierarchy, all: &Vec<Class>) -> Result<u32, Refusal>
     ensures { Gives (λ k. k) result (loops_of rows.now (map (class_seen at_place) all.now.items)) }
 {
     let mut a = 0;

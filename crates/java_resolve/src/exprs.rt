@@ -15,8 +15,9 @@ ghost use Rattle.java_resolve.specs.Expressions.{cast_type, cast_base, name_mean
 ghost use Rattle.name_rules.specs.Resolves.{un_op, bin_op};
 ghost use Rattle.java_resolve.specs.Expressions as spec;
 
+use crate::declarations::Tables;
 use crate::names::{asked, type_of};
-use crate::tables::{Tables, local_of, method_met, nearest_field, own_field, own_method};
+use crate::tables::{local_of, method_met, nearest_field, own_field, own_method};
 use crate::{Form, Refusal, make};
 use java_core::{BinOp, Op, RExpr, Ty, TyBase, UnOp};
 use java_lex::Mark;

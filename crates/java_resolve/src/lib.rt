@@ -4,11 +4,13 @@
 mod bodies;
 mod clashes;
 mod classes;
+mod declarations;
 mod exprs;
 mod flags;
 mod make;
 mod members;
 mod names;
+mod spots;
 mod stmts;
 mod tables;
 
@@ -23,6 +25,7 @@ ghost use Rattle.java_resolve.specs.Unique.{OneProgram};
 ghost use Rattle.name_rules.specs.Causes.{IsCause, HasNoCondition};
 ghost use Rattle.java_core.specs.Programs.{Plain, program_of, class_seen};
 ghost use Rattle.java_core.specs.declared.Program.{Program};
+ghost use Rattle.java_core.specs.Subtypes.{subtype_rows};
 ghost use Rattle.java_resolve.specs.Answers.{Gives};
 ghost use Rattle.java_resolve.specs.Members.{members_seen};
 ghost use Rattle.java_resolve.specs.Resolved.{resolved, with_bodies, parents_of};
@@ -30,14 +33,15 @@ ghost use Rattle.java_resolve.specs.Resolved.{resolved, with_bodies, parents_of}
 use bodies::methods_of;
 use clashes::{clashes_of, main_of};
 use classes::{above_of, classes_of, known_of, loops_of};
-use java_core::{Class, Program};
+use declarations::Tables;
+use java_core::{Class, Hierarchy, Program};
 use java_tree::{Decl, Tree};
 use kaba_base::{ClassId, MemberId};
 use members::{Draft, members_of};
 pub use name_rules::{Form, Refusal};
 use names::Types;
+use spots::{spots_of_fields, spots_of_methods};
 use std::alloc::{AllocError, Global};
-use tables::{Row, Tables};
 
 /// The superclass of each class.
 fn parents_of(alloc: Global, classes: &Vec<Class>) -> Result<Vec<Option<ClassId>>, AllocError>
@@ -56,30 +60,44 @@ fn with_bodies(
     list: &[Decl],
     known: Types,
     classes: Vec<Class>,
-    above: Vec<Row>,
+    above: Hierarchy,
     draft: Draft,
 ) -> Result<Program, Refusal>
+    requires { above ≡ subtype_rows (map (class_seen at_place) classes.items) }
     ensures { Gives {A = Program} {B = Plain} (program_of at_place) result
-        (with_bodies (decls list.now) known (map (class_seen at_place) classes.items) above.items
+        (with_bodies (decls list.now) known (map (class_seen at_place) classes.items) above
         (members_seen draft)) }
 {
-    let _count = clashes_of(alloc, above.as_slice(), &draft.headings)?;
+    let Ok(method_spots) = spots_of_methods(alloc, &draft.headings) else {
+        return Err(Refusal::Memory);
+    };
+    let Ok(field_spots) = spots_of_fields(alloc, &draft.fields) else {
+        return Err(Refusal::Memory);
+    };
+    let _count = clashes_of(alloc, &above, &method_spots, &draft.headings)?;
     let main = main_of(&draft.headings)?;
     let tables = Tables {
         known,
         parents: parents_of(alloc, &classes)?,
         above,
+        field_spots,
         fields: draft.fields,
         headings: draft.headings,
+        method_spots,
     };
     let methods = methods_of(alloc, &tables, list)?;
-    Ok(Program {
+    match Program::new(
+        alloc,
         classes,
-        fields: tables.fields,
+        tables.fields,
         methods,
-        slots: draft.slots,
-        main: MemberId(main),
-    })
+        draft.slots,
+        MemberId(main),
+        tables.above,
+    ) {
+        Ok(program) => Ok(program),
+        Err(_) => Err(Refusal::Memory),
+    }
 }
 
 /// The program that the rules make of a tree, or the first refusal that they meet.
@@ -91,7 +109,7 @@ fn resolve_tree(alloc: Global, tree: &Tree) -> Result<Program, Refusal>
     let known = known_of(alloc, list)?;
     let classes = classes_of(alloc, &known, list)?;
     let above = above_of(alloc, &classes)?;
-    let _count = loops_of(alloc, above.as_slice(), &classes)?;
+    let _count = loops_of(alloc, &above, &classes)?;
     let draft = members_of(alloc, &known, list)?;
     with_bodies(alloc, list, known, classes, above, draft)
 }

@@ -16,9 +16,10 @@ ghost use Rattle.java_resolve.specs.Answers.{Gives};
 ghost use Rattle.java_resolve.specs.Tables.{table_of};
 ghost use Rattle.java_resolve.specs.Statements.{State, state_of, kept, ending, clash, walk_expr, walk_value, walk_local, walk_arm, walk_st, walk_sts, walk_arms, walk_else, walk_optional};
 
+use crate::declarations::Tables;
 use crate::exprs::{expr, next};
 use crate::names::{names_type, type_of};
-use crate::tables::{Tables, local_of};
+use crate::tables::local_of;
 use crate::{Form, Refusal, make};
 use java_core::{Local, RArm, RExpr, RStmt};
 use java_tree::{Arm, Expr, Stmt, TypeName};

@@ -1,16 +1,16 @@
 //! What a body sees of the declarations.
 #![tactic(auto)]
 
-ghost use Rattle.std.specs.Prelude.{◌≡◌, slice_get};
-ghost use Rattle.std.specs.Bool.{OnTrue};
-ghost use Rattle.java_resolve.specs.Tables.{table_of, bit_in, is_above, parent_of, own_field, nearest_field, own_method, method_met};
+ghost use Rattle.std.specs.Prelude.{◌≡◌, ◌==◌, slice_get};
+ghost use Rattle.java_resolve.specs.Spots.{passes, first_among};
+ghost use Rattle.java_resolve.specs.Tables.{table_of, is_above, parent_of, own_field, nearest_field, own_method, method_met};
 ghost use Rattle.name_rules.specs.Meanings.{local_of};
 
-use crate::names::{Types, is_same};
-use java_core::Field;
+use crate::declarations::Tables;
+use crate::names::is_same;
+use java_core::{Field, Hierarchy};
 use kaba_base::{ClassId, Name, Place};
 use name_rules::Bound;
-use std::marker::Model;
 
 /// A method as the bodies and the other methods know it.
 #[derive(Drop)]
@@ -25,83 +25,6 @@ pub struct Heading {
     pub place: Place,
 }
 
-/// All declarations, without the bodies of methods. The number of each is its place in its list.
-#[derive(Drop)]
-pub struct Tables {
-    pub known: Types,
-    /// The superclass of each class; that of an interface is `Object`.
-    pub parents: Vec<Option<ClassId>>,
-    /// For each class which ones are at or above it.
-    pub above: Vec<Row>,
-    pub fields: Vec<Field>,
-    pub headings: Vec<Heading>,
-}
-
-/// A row of bits.
-#[derive(Drop)]
-pub struct Row {
-    bits: Vec<bool>,
-}
-
-impl Model for Row {
-    ghost use Rattle.std.specs.Prelude.{List, Bool};
-
-    ghost Value = { List Bool };
-
-    ghost view = { λ row. row.bits.items };
-}
-
-impl Row {
-    /// The row of these bits.
-    pub fn new(bits: Vec<bool>) -> Row
-        ensures { result ≡ bits.items }
-    {
-        Row { bits }
-    }
-
-    /// Whether the bit is there and set.
-    pub fn has(&self, at: u32) -> bool
-        ensures { result ≡ bit_in (slice_get self.now at) }
-    {
-        match self.bits.get(at as usize) {
-            Some(bit) => *bit,
-            None => false,
-        }
-    }
-
-    /// Whether the bits are the same.
-    fn is_same(&self, other: &Row) -> bool
-        ensures { OnTrue result (self.now ≡ other.now) }
-    {
-        self.bits == other.bits
-    }
-}
-
-/// Whether the rows are the same.
-pub fn are_same(rows: &[Row], others: &[Row]) -> bool
-    ensures { OnTrue result (rows.now ≡ others.now) }
-{
-    if rows.len() != others.len() {
-        return false;
-    }
-    for k in 0..rows.len() {
-        if !rows[k].is_same(&others[k]) {
-            return false;
-        }
-    }
-    true
-}
-
-/// Whether `b` is at or above `a`.
-pub fn is_above(above: &[Row], a: u32, b: u32) -> bool
-    ensures { result ≡ is_above above.now a b }
-{
-    match above.get(a as usize) {
-        Some(row) => row.has(b),
-        None => false,
-    }
-}
-
 /// The superclass of a class.
 pub fn parent_of(parents: &[Option<ClassId>], class: u32) -> Option<ClassId>
     ensures { result ≡ parent_of parents.now class }
@@ -112,16 +35,77 @@ pub fn parent_of(parents: &[Option<ClassId>], class: u32) -> Option<ClassId>
     }
 }
 
+/// Whether a class itself declares the field of this number.
+fn is_field_of(fields: &Vec<Field>, at: u32, class: u32) -> bool
+    ensures { result ≡ passes (λ f. f.owner.0 == class) (slice_get fields.now.items at) }
+{
+    match fields.get(at as usize) {
+        Some(field) => field.owner.0 == class,
+        None => false,
+    }
+}
+
+/// The first of these fields that a class itself declares.
+fn own_field_among(fields: &Vec<Field>, list: &[u32], class: u32) -> Option<usize>
+    ensures { result ≡ first_among (λ f. f.owner.0 == class) fields.now.items list.now }
+{
+    for at in list {
+        if is_field_of(fields, *at, class) {
+            return Some(*at as usize);
+        }
+    }
+    None
+}
+
+/// Whether a class itself declares the method of this number.
+fn is_method_of(headings: &Vec<Heading>, at: u32, class: u32) -> bool
+    ensures { result ≡ passes (λ h. h.owner == class) (slice_get headings.now.items at) }
+{
+    match headings.get(at as usize) {
+        Some(heading) => heading.owner == class,
+        None => false,
+    }
+}
+
+/// The first of these methods that a class itself declares.
+fn own_method_among(headings: &Vec<Heading>, list: &[u32], class: u32) -> Option<usize>
+    ensures { result ≡ first_among (λ h. h.owner == class) headings.now.items list.now }
+{
+    for at in list {
+        if is_method_of(headings, *at, class) {
+            return Some(*at as usize);
+        }
+    }
+    None
+}
+
+/// Whether a class or an ancestor declares the method of this number.
+fn is_met(rows: &Hierarchy, headings: &Vec<Heading>, at: u32, class: u32) -> bool
+    ensures { result ≡ passes (λ h. is_above rows.now class h.owner) (slice_get headings.now.items at) }
+{
+    match headings.get(at as usize) {
+        Some(heading) => rows.is_above(class, heading.owner),
+        None => false,
+    }
+}
+
+/// The first of these methods that a class or an ancestor declares.
+fn met_among(rows: &Hierarchy, headings: &Vec<Heading>, list: &[u32], class: u32) -> Option<usize>
+    ensures { result ≡ first_among (λ h. is_above rows.now class h.owner) headings.now.items list.now }
+{
+    for at in list {
+        if is_met(rows, headings, *at, class) {
+            return Some(*at as usize);
+        }
+    }
+    None
+}
+
 /// The number of the field of a name that a class itself declares.
 pub fn own_field(tables: &Tables, class: u32, name: &Name) -> Option<usize>
     ensures { result ≡ own_field (table_of tables.now) class name.now }
 {
-    for (i, field) in tables.fields.iter().enumerate() {
-        if (field.owner.0 == class) & is_same(&field.name, name) {
-            return Some(i);
-        }
-    }
-    None
+    own_field_among(&tables.fields, tables.field_spots.at(name), class)
 }
 
 /// The number of the nearest field of a name upwards.
@@ -147,12 +131,7 @@ pub fn nearest_field(tables: &Tables, class: u32, name: &Name) -> Option<usize>
 pub fn own_method(tables: &Tables, class: u32, name: &Name) -> Option<usize>
     ensures { result ≡ own_method (table_of tables.now) class name.now }
 {
-    for (i, method) in tables.headings.iter().enumerate() {
-        if (method.owner == class) & is_same(&method.name, name) {
-            return Some(i);
-        }
-    }
-    None
+    own_method_among(&tables.headings, tables.method_spots.at(name), class)
 }
 
 /// The number of the first method of a name in a class and its ancestors.
@@ -160,13 +139,12 @@ pub fn own_method(tables: &Tables, class: u32, name: &Name) -> Option<usize>
 pub fn method_met(tables: &Tables, class: u32, name: &Name) -> Option<usize>
     ensures { result ≡ method_met (table_of tables.now) class name.now }
 {
-    for (i, method) in tables.headings.iter().enumerate() {
-        let above = is_above(tables.above.as_slice(), class, method.owner);
-        if above & is_same(&method.name, name) {
-            return Some(i);
-        }
-    }
-    None
+    met_among(
+        &tables.above,
+        &tables.headings,
+        tables.method_spots.at(name),
+        class,
+    )
 }
 
 /// The number of the local in scope under a name.

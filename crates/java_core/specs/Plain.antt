@@ -1,0 +1,89 @@
+-- A resolved program as plain data, and which plain data its parts are.
+use Rattle.std.specs.Prelude.{ℕ, Bool, List, Option, map}
+use Rattle.kaba_base.specs.declared.Place.{Place}
+use Rattle.kaba_base.specs.declared.ClassId.{ClassId}
+use Rattle.java_core.specs.declared.Ty.{Ty}
+use Rattle.java_core.specs.declared.Local.{Local}
+use Rattle.java_core.specs.declared.Class.{Class}
+use Rattle.java_core.specs.declared.Field.{Field}
+use Rattle.java_core.specs.declared.Method.{Method}
+use Rattle.java_core.specs.declared.Slot.{Slot}
+use Rattle.java_core.specs.Trees.{Tag, Sts, body_seen}
+
+-- a parameter or a local
+pub record PlainLocal : Type 0 where
+  pub name : List ℕ
+  pub ty : Ty
+  pub tag : Tag
+
+-- a class or an interface
+pub record PlainClass : Type 0 where
+  pub name : List ℕ
+  pub is_interface : Bool
+  pub is_abstract : Bool
+  pub parent : Option ClassId
+  pub faces : List ClassId
+  pub tag : Tag
+
+pub record PlainField : Type 0 where
+  pub owner : ℕ
+  pub name : List ℕ
+  pub is_static : Bool
+  pub ty : Ty
+  pub tag : Tag
+
+pub record PlainMethod : Type 0 where
+  pub owner : ℕ
+  pub name : List ℕ
+  pub is_static : Bool
+  pub is_public : Bool
+  pub slot : Option ℕ
+  pub params : List PlainLocal
+  pub locals : List PlainLocal
+  pub result : Option Ty
+  pub body : Option Sts
+  pub tag : Tag
+
+pub record PlainSlot : Type 0 where
+  pub name : List ℕ
+  pub params : List Ty
+  pub result : Option Ty
+  pub first : ℕ
+
+-- a program: class 0 is Object
+pub record Plain : Type 0 where
+  pub classes : List PlainClass
+  pub fields : List PlainField
+  pub methods : List PlainMethod
+  pub slots : List PlainSlot
+  pub main : ℕ
+
+-- which plain data they are, with tags that their places give
+module _ (tag : Place → Tag) where
+  abbrev pub local_seen : Local → PlainLocal
+  local_seen l = record { name = l.name; ty = l.ty; tag = tag l.place }
+
+  abbrev pub class_seen : Class → PlainClass
+  class_seen c =
+      record { name = c.name; is_interface = c.is_interface; is_abstract = c.is_abstract; parent = c.parent; faces = c.faces.items; tag = tag c.place }
+
+  abbrev pub field_seen : Field → PlainField
+  field_seen f = record { owner = f.owner.0; name = f.name; is_static = f.is_static; ty = f.ty; tag = tag f.place }
+
+  abbrev pub method_seen : Method → PlainMethod
+  method_seen m =
+      record {
+        owner = m.owner.0;
+        name = m.name;
+        is_static = m.is_static;
+        is_public = m.is_public;
+        slot = m.slot;
+        params = map local_seen m.params.items;
+        locals = map local_seen m.locals.items;
+        result = m.result;
+        body = body_seen tag m.body;
+        tag = tag m.place;
+      }
+
+  abbrev pub slot_seen : Slot → PlainSlot
+  slot_seen s = record { name = s.name; params = s.params.items; result = s.result; first = s.first.0 }

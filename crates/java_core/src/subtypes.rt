@@ -1,0 +1,226 @@
+//! Which types are above which.
+#![tactic(auto)]
+
+ghost use Rattle.std.specs.Prelude.{◌≡◌, ℕ, ◌+◌, ◌<◌, ◌≤◌, ◌||◌, ◌⊎◌, ◌↔◌, Bool, List, ◌∷◌, [], length, map, IfOk, IsTrue, Contains};
+ghost use Rattle.kaba_bits.specs.Sets.{bit, size};
+ghost use Rattle.java_core.specs.Trees.{at_place};
+ghost use Rattle.java_core.specs.Plain.{class_seen};
+ghost use Rattle.java_core.specs.Squares.{meet};
+ghost use Rattle.java_core.specs.Squares.{in_row, AreRows};
+ghost use Rattle.java_core.specs.Subtypes.{Share, IsOwnRow, AreInside, IsExact, AreExact, Gained, subtype_rows};
+ghost use Rattle.java_core.specs.Squares.{is_above};
+
+use crate::Class;
+use crate::direct::{direct_of, listed};
+use kaba_bits::{BitRow, empty_rows, row_at};
+use std::alloc::{AllocError, Global};
+use std::marker::Model;
+
+/// For each type the types at or below it.
+#[derive(Drop)]
+pub struct Hierarchy {
+    /// The row of a type with no other below it is empty.
+    below: Vec<BitRow>,
+}
+
+impl Model for Hierarchy {
+    ghost use Rattle.std.specs.Prelude.{List, Bool, length};
+    ghost use Rattle.java_core.specs.Squares.{square, is_below, AreRows};
+
+    ghost Value = { List (List Bool) };
+
+    ghost view = { λ h. square (length h.below.items) (is_below h.below.items) };
+
+    ghost invariant = { λ h. AreRows (length h.below.items) h.below.items };
+}
+
+/// Whether `a` is at or below `b`, whose row this is.
+fn is_in(row: &BitRow, a: u32, b: u32) -> bool
+    ensures { result ≡ in_row row.now a b }
+{
+    if row.width() == 0 {
+        return a == b;
+    }
+    if a < row.width() { row.has(a) } else { false }
+}
+
+/// Whether some type is at or below both `a` and `b`, whose rows these are.
+fn share(first: &BitRow, second: &BitRow, a: u32, b: u32) -> bool
+    requires { (length first.now ≡ 0 → ⊥) → (length second.now ≡ 0 → ⊥) → length first.now ≡ length second.now }
+    ensures { IsTrue result ↔ Share first.now second.now a b }
+{
+    if first.width() == 0 {
+        return is_in(second, a, b);
+    }
+    if second.width() == 0 {
+        return is_in(first, b, a);
+    }
+    first.meets(second)
+}
+
+impl Hierarchy {
+    /// Whether `b` is at or above `a`.
+    pub fn is_above(&self, a: u32, b: u32) -> bool
+        ensures { result ≡ is_above self.now a b }
+    {
+        let count = self.below.len();
+        if a as usize >= count || b as usize >= count {
+            return false;
+        }
+        is_in(row_at(self.below.as_slice(), b as usize), a, b)
+    }
+
+    /// Whether some type is at or below both.
+    pub fn meet(&self, a: u32, b: u32) -> bool
+        ensures { result ≡ meet self.now a b }
+    {
+        let count = self.below.len();
+        if a as usize >= count || b as usize >= count {
+            return false;
+        }
+        let below = self.below.as_slice();
+        share(row_at(below, a as usize), row_at(below, b as usize), a, b)
+    }
+}
+
+/// Adds to a row the type `x`, whose row is the other, and what is below it.
+fn add_row(row: &mut BitRow, other: &BitRow, x: u32)
+    requires x { x < length row.old }
+    requires width { (length other.now ≡ 0) ⊎ (length other.now ≡ length row.old) }
+    ensures len { length row.new ≡ length row.old }
+    ensures join { (y : ℕ) → y < length row.old → bit row.new y ≡ (bit row.old y || in_row other.now y x) }
+    ensures work { size row.old ≤ size row.new }
+{
+    if other.width() == 0 {
+        row.set(x);
+    } else {
+        row.or_into(other);
+    }
+}
+
+/// Adds to the row of `b` the type `x`: with all below it where the row of `x` is known, else `x` waits.
+fn reach(
+    rows: &[BitRow],
+    row: &mut BitRow,
+    waiting: &mut Vec<u32>,
+    b: u32,
+    x: u32,
+) -> Result<(), AllocError>
+    requires x { x < length row.old }
+    requires len { length rows.now ≡ length row.old }
+    requires wide { AreRows (length row.old) rows.now }
+    ensures { IfOk result (λ _. Gained rows.now b (x ∷ []) row.old row.new waiting.old.items waiting.new.items) }
+{
+    if row.has(x) {
+        return Ok(());
+    }
+    if x > b {
+        add_row(row, row_at(rows, x as usize), x);
+    } else {
+        row.set(x);
+        waiting.push(x)?;
+    }
+    Ok(())
+}
+
+/// Adds these types to the row of `b`.
+fn reach_all(
+    rows: &[BitRow],
+    row: &mut BitRow,
+    waiting: &mut Vec<u32>,
+    b: u32,
+    more: &[u32],
+) -> Result<(), AllocError>
+    requires inside { (x : ℕ) → Contains more.now x → x < length row.old }
+    requires len { length rows.now ≡ length row.old }
+    requires wide { AreRows (length row.old) rows.now }
+    ensures { IfOk result (λ _. Gained rows.now b more.now row.old row.new waiting.old.items waiting.new.items) }
+{
+    for x in more {
+        reach(rows, row, waiting, b, *x)?;
+    }
+    Ok(())
+}
+
+/// A row of the type `b` alone.
+fn own_row(alloc: Global, count: u32, b: u32) -> Result<BitRow, AllocError>
+    requires { b < count }
+    ensures { IfOk result (λ r. IsOwnRow count b r) }
+{
+    let mut row = BitRow::new(alloc, count)?;
+    row.set(b);
+    Ok(row)
+}
+
+/// The row of a type, found by a walk downwards; the rows of the types after it are known.
+fn walk(
+    alloc: Global,
+    lists: &[Vec<u32>],
+    rows: &[BitRow],
+    count: u32,
+    b: u32,
+) -> Result<BitRow, AllocError>
+    requires b { b < count }
+    requires inside { AreInside count lists.now }
+    requires after { AreExact lists.now count (b + 1) rows.now }
+    ensures { IfOk result (λ r. IsExact lists.now count b r) }
+{
+    let mut row = own_row(alloc, count, b)?;
+    let mut waiting = Vec::new(alloc);
+    waiting.push(b)?;
+    'walk: while let Some(x) = waiting.pop() {
+        reach_all(rows, &mut row, &mut waiting, b, listed(lists, x))?;
+    }
+    Ok(row)
+}
+
+/// The row of a type: it is empty where nothing else is below the type.
+fn row_below(
+    alloc: Global,
+    lists: &[Vec<u32>],
+    rows: &[BitRow],
+    count: u32,
+    b: u32,
+) -> Result<BitRow, AllocError>
+    requires b { b < count }
+    requires inside { AreInside count lists.now }
+    requires after { AreExact lists.now count (b + 1) rows.now }
+    ensures { IfOk result (λ r. IsExact lists.now count b r) }
+{
+    if listed(lists, b).is_empty() {
+        let row = BitRow::new(alloc, 0)?;
+        return Ok(row);
+    }
+    let row = walk(alloc, lists, rows, count, b)?;
+    Ok(row)
+}
+
+/// Fills the rows of all types, the last first: a class often stands behind the one that it extends.
+fn fill(
+    alloc: Global,
+    lists: &[Vec<u32>],
+    rows: &mut [BitRow],
+    count: u32,
+) -> Result<(), AllocError>
+    requires inside { AreInside count lists.now }
+    requires before { AreExact lists.now count count rows.old }
+    ensures { IfOk result (λ _. AreExact lists.now count 0 rows.new) }
+{
+    for k in 0..count {
+        let b = count - 1 - k;
+        let row = row_below(alloc, lists, rows, count, b)?;
+        rows[b as usize] = row;
+    }
+    Ok(())
+}
+
+/// Which types are above which; `AllocError` where memory is short.
+pub fn subtypes_of(alloc: Global, all: &Vec<Class>, count: u32) -> Result<Hierarchy, AllocError>
+    requires { length all.now.items ≡ count }
+    ensures { IfOk result (λ r. r ≡ subtype_rows (map (class_seen at_place) all.now.items)) }
+{
+    let lists = direct_of(alloc, all, count)?;
+    let mut below = empty_rows(alloc, all.len(), 0)?;
+    fill(alloc, lists.as_slice(), below.as_mut_slice(), count)?;
+    Ok(Hierarchy { below })
+}

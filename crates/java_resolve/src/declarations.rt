@@ -1,0 +1,29 @@
+//! All declarations.
+#![tactic(auto)]
+
+ghost use Rattle.std.specs.Prelude.{map};
+ghost use Rattle.java_resolve.specs.Spots.{AreSpots};
+
+use crate::names::Types;
+use crate::spots::Spots;
+use crate::tables::Heading;
+use java_core::{Field, Hierarchy};
+use kaba_base::ClassId;
+
+/// All declarations, without the bodies of methods. The number of each is its place in its list.
+#[derive(Drop)]
+pub struct Tables {
+    pub known: Types,
+    /// The superclass of each class; that of an interface is `Object`.
+    pub parents: Vec<Option<ClassId>>,
+    /// Which types are at or above which.
+    pub above: Hierarchy,
+    pub fields: Vec<Field>,
+    pub headings: Vec<Heading>,
+    /// Where the fields of each name stand.
+    pub field_spots: Spots,
+    /// Where the methods of each name stand.
+    pub method_spots: Spots,
+    ghost fields_found: { AreSpots (map (λ f. f.name) fields.items) field_spots },
+    ghost methods_found: { AreSpots (map (λ h. h.name) headings.items) method_spots },
+}
