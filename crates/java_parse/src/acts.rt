@@ -5,7 +5,7 @@ ghost use Rattle.std.specs.Prelude.{◌≡◌, ◌↔◌, ◌<◌, ◌-◌, IfOk
 ghost use Rattle.java_tree.specs.declared.Expr.{Expr};
 ghost use Rattle.java_lex.specs.declared.Token.{Token};
 ghost use Rattle.std.specs.Option.{option_map};
-ghost use Rattle.java_tree.specs.Syntax.{Expression, expr_of, stmt_of, value_of};
+ghost use Rattle.java_tree.specs.Syntax.{Expression, AssignOf, BinaryOf, NameRef, expr_of, stmt_of, value_of};
 ghost use Rattle.java_tree.specs.Statements.{is_called, is_out, printed_by, is_word};
 ghost use Rattle.java_tree.specs.Nesting.{next_is};
 ghost use Rattle.java_parse.specs.Prints.{print_kind};
@@ -18,6 +18,7 @@ use java_tree::build::binary;
 use java_tree::{Expr, Stmt};
 use kaba_base::{Name, Place};
 use std::alloc::{AllocError, Global};
+use std::mem::drop;
 
 /// Whether what ends so may be assigned to.
 pub fn targets(end: End) -> bool
@@ -39,6 +40,39 @@ pub fn calls(end: End) -> bool
     }
 }
 
+/// The statement that a compound assignment is, at a name. `AllocError` where memory is short.
+pub fn compound_assignment(
+    alloc: Global,
+    operator: Mark,
+    found: &Name,
+    place: Place,
+    value: Expr,
+    at: Place,
+) -> Result<Stmt, AllocError>
+    ensures value { IfOk result (λ s. stmt_of s ≡ AssignOf (NameRef found.now place) (BinaryOf operator (NameRef found.now place) (expr_of value) at) at) }
+{
+    let left = match found.copy(alloc) {
+        Ok(name) => Expr::Name { name, place },
+        Err(short) => {
+            drop(value);
+            return Err(short);
+        }
+    };
+    let value = binary(alloc, operator, left, value, at)?;
+    let target = match found.copy(alloc) {
+        Ok(name) => Expr::Name { name, place },
+        Err(short) => {
+            drop(value);
+            return Err(short);
+        }
+    };
+    Ok(Stmt::Assign {
+        target,
+        value,
+        place: at,
+    })
+}
+
 /// The statement that `++` or `--` is, at a name. `AllocError` where memory is short.
 pub fn steps_of(
     alloc: Global,
@@ -49,24 +83,12 @@ pub fn steps_of(
 ) -> Result<Stmt, AllocError>
     ensures value { IfOk result (λ s. stmt_of s ≡ stepped operator found.now place at) }
 {
-    let left = Expr::Name {
-        name: found.copy(alloc)?,
-        place,
-    };
-    let target = Expr::Name {
-        name: found.copy(alloc)?,
-        place,
-    };
     let one = Expr::Int {
         value: 1,
         place: at,
     };
-    let value = binary(alloc, operator, left, one, at)?;
-    Ok(Stmt::Assign {
-        target,
-        value,
-        place: at,
-    })
+    let whole = compound_assignment(alloc, operator, found, place, one, at)?;
+    Ok(whole)
 }
 
 // Whether the name is this text.
@@ -146,7 +168,10 @@ fn argument_of(call: Expr) -> Option<Expr>
             args,
             ..
         } => last_of(args),
-        _ => None,
+        other => {
+            drop(other);
+            None
+        }
     }
 }
 

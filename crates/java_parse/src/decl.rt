@@ -25,6 +25,7 @@ use java_lex::{Mark, Token};
 use java_tree::{Decl, Head, Id, Member, Modifier, Param, Stmt, TypeName};
 use kaba_base::{Keyword, Name, Place};
 use std::alloc::Global;
+use std::mem::drop;
 
 // The modifiers at the front.
 fn modifiers(alloc: Global, tokens: &[Token]) -> Result<(Vec<Modifier>, &[Token]), Stop<'_>>
@@ -155,13 +156,24 @@ fn head(alloc: Global, tokens: &[Token]) -> Result<(Head, &[Token]), Stop<'_>>
     let (mods, rest) = modifiers(alloc, tokens)?;
     let (ty, rest) = result_type(alloc, rest)?;
     let Some((found, place, behind)) = word_at(rest) else {
+        drop(ty);
         return Err(Stop::At(rest));
     };
     let Some((_, inner)) = mark_at(Mark::OpenRound, behind) else {
+        drop(ty);
         return Err(Stop::At(behind));
     };
-    let (params, rest) = params(alloc, inner)?;
-    let name = found.copy(alloc)?;
+    let (params, rest) = match params(alloc, inner) {
+        Ok(read) => read,
+        Err(stop) => {
+            drop(ty);
+            return Err(stop);
+        }
+    };
+    let Ok(name) = found.copy(alloc) else {
+        drop(ty);
+        return Err(Stop::Memory);
+    };
     Ok((
         Head {
             mods,
@@ -198,9 +210,13 @@ fn member(alloc: Global, tokens: &[Token]) -> Result<(Member, &[Token]), Stop<'_
     let (mods, rest) = modifiers(alloc, tokens)?;
     let (ty, rest) = result_type(alloc, rest)?;
     let Some((found, place, behind)) = word_at(rest) else {
+        drop(ty);
         return Err(Stop::At(rest));
     };
-    let name = found.copy(alloc)?;
+    let Ok(name) = found.copy(alloc) else {
+        drop(ty);
+        return Err(Stop::Memory);
+    };
     if let Some((_, inner)) = mark_at(Mark::OpenRound, behind) {
         return method(alloc, mods, ty, name, place, inner);
     }
@@ -208,6 +224,7 @@ fn member(alloc: Global, tokens: &[Token]) -> Result<(Member, &[Token]), Stop<'_
         return Err(Stop::At(behind));
     };
     let Some((_, end)) = mark_at(Mark::Semi, behind) else {
+        drop(ty);
         return Err(Stop::At(behind));
     };
     Ok((
@@ -234,8 +251,20 @@ fn method(
     ensures reads { Reads (NMethod mods.items ty name place) tokens.now (seen member_of result) }
     ensures shorter { IfOk result (λ x. length x.1.now < length tokens.now) }
 {
-    let (params, rest) = params(alloc, tokens)?;
-    let (body, rest) = body(alloc, rest)?;
+    let (params, rest) = match params(alloc, tokens) {
+        Ok(read) => read,
+        Err(stop) => {
+            drop(ty);
+            return Err(stop);
+        }
+    };
+    let (body, rest) = match body(alloc, rest) {
+        Ok(read) => read,
+        Err(stop) => {
+            drop(ty);
+            return Err(stop);
+        }
+    };
     let head = Head {
         mods,
         result: ty,
@@ -278,6 +307,7 @@ fn all_heads(alloc: Global, tokens: &[Token]) -> Result<(Vec<Head>, &[Token]), S
         }
         let (next, behind) = head(alloc, rest)?;
         let Some((_, after)) = mark_at(Mark::Semi, behind) else {
+            drop(next);
             return Err(Stop::At(behind));
         };
         all.push(next)?;
@@ -296,11 +326,24 @@ fn class(alloc: Global, mods: Vec<Modifier>, tokens: &[Token]) -> Result<(Decl, 
     };
     let name = found.copy(alloc)?;
     let (parent, rest) = parent(alloc, behind)?;
-    let (faces, rest) = listed(alloc, Keyword::Implements, rest)?;
+    let (faces, rest) = match listed(alloc, Keyword::Implements, rest) {
+        Ok(read) => read,
+        Err(stop) => {
+            drop(parent);
+            return Err(stop);
+        }
+    };
     let Some((_, inner)) = mark_at(Mark::OpenBrace, rest) else {
+        drop(parent);
         return Err(Stop::At(rest));
     };
-    let (members, rest) = all_members(alloc, inner)?;
+    let (members, rest) = match all_members(alloc, inner) {
+        Ok(read) => read,
+        Err(stop) => {
+            drop(parent);
+            return Err(stop);
+        }
+    };
     Ok((
         Decl::Class {
             mods,

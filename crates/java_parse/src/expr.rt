@@ -24,6 +24,7 @@ use java_tree::build::{
 use java_tree::{Expr, Id, TypeBase, TypeName};
 use kaba_base::{Keyword, Place};
 use std::alloc::Global;
+use std::mem::drop;
 
 // The pairs of square brackets at the front, counted from `first` on.
 #[tactic(auto, using(crate::proofs::ExpressionSteps::expression_steps))]
@@ -83,7 +84,13 @@ fn more(
 {
     if let Some((mark, place, rest)) = operator_at(at_least, at_most, tokens) {
         let level = level_of(mark);
-        let (right, rest) = expr(alloc, level + 1, rest)?;
+        let (right, rest) = match expr(alloc, level + 1, rest) {
+            Ok(read) => read,
+            Err(stop) => {
+                drop(left);
+                return Err(stop);
+            }
+        };
         let whole = binary(alloc, mark, left, right, place)?;
         return more(alloc, at_least, level, whole, rest);
     }
@@ -91,9 +98,13 @@ fn more(
         return Ok((left, tokens));
     };
     let Some((found, at, rest)) = word_at(rest) else {
+        drop(left);
         return Err(Stop::At(rest));
     };
-    let name = found.copy(alloc)?;
+    let Ok(name) = found.copy(alloc) else {
+        drop(left);
+        return Err(Stop::Memory);
+    };
     let whole = instance_of(alloc, left, Id { name, place: at }, place)?;
     more(alloc, at_least, 7, whole, rest)
 }
@@ -158,6 +169,7 @@ fn atom(alloc: Global, tokens: &[Token]) -> Result<((Expr, End), &[Token]), Stop
     if let Some((_, inner)) = mark_at(Mark::OpenRound, tokens) {
         let (whole, behind) = expr(alloc, 1, inner)?;
         let Some((_, rest)) = mark_at(Mark::CloseRound, behind) else {
+            drop(whole);
             return Err(Stop::At(behind));
         };
         return Ok(((whole, End::Other), rest));
@@ -236,9 +248,16 @@ fn sized(
     };
     let (size, behind) = expr(alloc, 1, inner)?;
     let Some((_, rest)) = mark_at(Mark::CloseSquare, behind) else {
+        drop(size);
         return Err(Stop::At(behind));
     };
-    let (dim, rest) = dims(1, rest)?;
+    let (dim, rest) = match dims(1, rest) {
+        Ok(read) => read,
+        Err(stop) => {
+            drop(size);
+            return Err(stop);
+        }
+    };
     let ty = TypeName {
         base,
         dim,
@@ -262,22 +281,40 @@ fn tail(
 {
     if let Some((_, dotted)) = mark_at(Mark::Dot, tokens) {
         let Some((found, place, behind)) = word_at(dotted) else {
+            drop(base);
             return Err(Stop::At(dotted));
         };
-        let name = found.copy(alloc)?;
+        let Ok(name) = found.copy(alloc) else {
+            drop(base);
+            return Err(Stop::Memory);
+        };
         let Some((_, inner)) = mark_at(Mark::OpenRound, behind) else {
             let whole = field(alloc, base, name, place)?;
             return tail(alloc, whole, End::Target, behind);
         };
-        let (args, rest) = args(alloc, inner)?;
+        let (args, rest) = match args(alloc, inner) {
+            Ok(read) => read,
+            Err(stop) => {
+                drop(base);
+                return Err(stop);
+            }
+        };
         let whole = call_on(alloc, base, name, args, place)?;
         return tail(alloc, whole, End::Call, rest);
     }
     let Some((place, inner)) = index_at(end, tokens) else {
         return Ok(((base, end), tokens));
     };
-    let (at, behind) = expr(alloc, 1, inner)?;
+    let (at, behind) = match expr(alloc, 1, inner) {
+        Ok(read) => read,
+        Err(stop) => {
+            drop(base);
+            return Err(stop);
+        }
+    };
     let Some((_, rest)) = mark_at(Mark::CloseSquare, behind) else {
+        drop(base);
+        drop(at);
         return Err(Stop::At(behind));
     };
     let whole = index(alloc, base, at, place)?;

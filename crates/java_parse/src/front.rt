@@ -16,6 +16,7 @@ use java_lex::{Mark, Token, TokenKind};
 use java_tree::{Expr, Id, Modifier, TypeBase, TypeName};
 use kaba_base::{Keyword, Name, Place};
 use std::alloc::{AllocError, Global};
+use std::mem::drop;
 
 /// The place of the mark and what follows it, if it is at the front.
 pub fn mark_at(mark: Mark, tokens: &[Token]) -> Option<(Place, &[Token])>
@@ -197,6 +198,7 @@ pub fn cast_at(
         return Ok(None);
     };
     let Some((_, rest)) = mark_at(Mark::CloseRound, behind) else {
+        drop(base);
         return Ok(None);
     };
     let casts = match &base {
@@ -215,6 +217,7 @@ pub fn cast_at(
             rest,
         )));
     }
+    drop(base);
     Ok(None)
 }
 

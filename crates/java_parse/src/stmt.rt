@@ -13,16 +13,17 @@ ghost use Rattle.java_parse.specs.Want.{NInit, NLocal, NValue, NAct, NActRest, N
 ghost use Rattle.java_parse.specs.Reading.{Reads};
 ghost use Rattle.java_parse.specs.Seen.{seen, seen_branches, seen_steps};
 
-use crate::acts::{calls, finished, steps_of, targets};
+use crate::acts::{calls, compound_assignment, finished, steps_of, targets};
 use crate::expr::{expr, post, type_at};
 use crate::front::{final_at, key_at, mark_at, word_at};
 use crate::opening::{Begin, begin_of, begins_local, compound_at, named_by, stepping_at};
 use crate::{End, Stop};
 use java_lex::{Mark, Token};
-use java_tree::build::{binary, block, choice, for_loop, while_loop};
+use java_tree::build::{block, choice, for_loop, while_loop};
 use java_tree::{Arm, Expr, Stmt};
 use kaba_base::Keyword;
 use std::alloc::{AllocError, Global};
+use std::mem::drop;
 
 // A block gives its list, another statement is a list of one.
 fn body_of(alloc: Global, stmt: Stmt) -> Result<Vec<Stmt>, AllocError>
@@ -62,8 +63,8 @@ fn local(alloc: Global, tokens: &[Token]) -> Result<(Stmt, &[Token]), Stop<'_>>
     let Some((found, place, behind)) = word_at(rest) else {
         return Err(Stop::At(rest));
     };
-    let (value, rest) = init(alloc, behind)?;
     let name = found.copy(alloc)?;
+    let (value, rest) = init(alloc, behind)?;
     Ok((
         Stmt::Local {
             is_final,
@@ -120,9 +121,16 @@ fn act_rest<'a>(
 {
     if let Some((place, inner)) = mark_at(Mark::Assign, tokens) {
         if !targets(end) {
+            drop(first);
             return Err(Stop::At(tokens));
         }
-        let (value, rest) = expr(alloc, 1, inner)?;
+        let (value, rest) = match expr(alloc, 1, inner) {
+            Ok(read) => read,
+            Err(stop) => {
+                drop(first);
+                return Err(stop);
+            }
+        };
         return Ok((
             Stmt::Assign {
                 target: first,
@@ -134,35 +142,33 @@ fn act_rest<'a>(
     }
     if let Some((operator, at, inner)) = compound_at(tokens) {
         let Some((found, place)) = named_by(end, &first) else {
+            drop(first);
             return Err(Stop::At(tokens));
         };
-        let (value, rest) = expr(alloc, 1, inner)?;
-        let left = Expr::Name {
-            name: found.copy(alloc)?,
-            place,
+        let (value, rest) = match expr(alloc, 1, inner) {
+            Ok(read) => read,
+            Err(stop) => {
+                drop(first);
+                return Err(stop);
+            }
         };
-        let target = Expr::Name {
-            name: found.copy(alloc)?,
-            place,
-        };
-        let value = binary(alloc, operator, left, value, at)?;
-        return Ok((
-            Stmt::Assign {
-                target,
-                value,
-                place: at,
-            },
-            rest,
-        ));
+        let made = compound_assignment(alloc, operator, found, place, value, at);
+        drop(first);
+        let whole = made?;
+        return Ok((whole, rest));
     }
     if let Some((operator, at, rest)) = stepping_at(tokens) {
         let Some((found, place)) = named_by(end, &first) else {
+            drop(first);
             return Err(Stop::At(tokens));
         };
-        let whole = steps_of(alloc, operator, found, place, at)?;
+        let made = steps_of(alloc, operator, found, place, at);
+        drop(first);
+        let whole = made?;
         return Ok((whole, rest));
     }
     if !calls(end) {
+        drop(first);
         return Err(Stop::At(tokens));
     }
     Ok((finished(start, first), tokens))
@@ -179,6 +185,7 @@ fn tested(alloc: Global, tokens: &[Token]) -> Result<(Expr, &[Token]), Stop<'_>>
     };
     let (test, behind) = expr(alloc, 1, inner)?;
     let Some((_, rest)) = mark_at(Mark::CloseRound, behind) else {
+        drop(test);
         return Err(Stop::At(behind));
     };
     Ok((test, rest))
@@ -228,14 +235,33 @@ fn for_head(
     };
     let (first, rest) = first_step(alloc, inner)?;
     let Some((_, middle)) = mark_at(Mark::Semi, rest) else {
+        drop(first);
         return Err(Stop::At(rest));
     };
-    let (test, rest) = value(alloc, middle)?;
+    let (test, rest) = match value(alloc, middle) {
+        Ok(read) => read,
+        Err(stop) => {
+            drop(first);
+            return Err(stop);
+        }
+    };
     let Some((_, last)) = mark_at(Mark::Semi, rest) else {
+        drop(first);
+        drop(test);
         return Err(Stop::At(rest));
     };
-    let (step, rest) = next_step(alloc, last)?;
+    let (step, rest) = match next_step(alloc, last) {
+        Ok(read) => read,
+        Err(stop) => {
+            drop(first);
+            drop(test);
+            return Err(stop);
+        }
+    };
     let Some((_, end)) = mark_at(Mark::CloseRound, rest) else {
+        drop(first);
+        drop(test);
+        drop(step);
         return Err(Stop::At(rest));
     };
     Ok(((first, test, step), end))
@@ -250,6 +276,7 @@ fn item(alloc: Global, tokens: &[Token]) -> Result<(Stmt, &[Token]), Stop<'_>>
     if begins_local(tokens) {
         let (whole, rest) = local(alloc, tokens)?;
         let Some((_, end)) = mark_at(Mark::Semi, rest) else {
+            drop(whole);
             return Err(Stop::At(rest));
         };
         return Ok((whole, end));
@@ -294,20 +321,43 @@ fn stmt(alloc: Global, tokens: &[Token]) -> Result<(Stmt, &[Token]), Stop<'_>>
         }
         Begin::While(place, inner) => {
             let (test, behind) = tested(alloc, inner)?;
-            let (whole, rest) = stmt(alloc, behind)?;
-            let body = body_of(alloc, whole)?;
+            let (whole, rest) = match stmt(alloc, behind) {
+                Ok(read) => read,
+                Err(stop) => {
+                    drop(test);
+                    return Err(stop);
+                }
+            };
+            let Ok(body) = body_of(alloc, whole) else {
+                drop(test);
+                return Err(Stop::Memory);
+            };
             Ok((while_loop(test, body, place), rest))
         }
         Begin::For(place, inner) => {
             let ((first, test, step), behind) = for_head(alloc, inner)?;
-            let (whole, rest) = stmt(alloc, behind)?;
-            let body = body_of(alloc, whole)?;
+            let (whole, rest) = match stmt(alloc, behind) {
+                Ok(read) => read,
+                Err(stop) => {
+                    drop(first);
+                    drop(test);
+                    drop(step);
+                    return Err(stop);
+                }
+            };
+            let Ok(body) = body_of(alloc, whole) else {
+                drop(first);
+                drop(test);
+                drop(step);
+                return Err(Stop::Memory);
+            };
             let whole = for_loop(alloc, first, test, step, body, place)?;
             Ok((whole, rest))
         }
         Begin::Return(place, inner) => {
             let (value, rest) = value(alloc, inner)?;
             let Some((_, end)) = mark_at(Mark::Semi, rest) else {
+                drop(value);
                 return Err(Stop::At(rest));
             };
             Ok((Stmt::Return { value, place }, end))
@@ -327,6 +377,7 @@ fn stmt(alloc: Global, tokens: &[Token]) -> Result<(Stmt, &[Token]), Stop<'_>>
         Begin::Other => {
             let (whole, rest) = act(alloc, tokens)?;
             let Some((_, end)) = mark_at(Mark::Semi, rest) else {
+                drop(whole);
                 return Err(Stop::At(rest));
             };
             Ok((whole, end))
@@ -348,8 +399,17 @@ fn branches(
     let mut rest = tokens;
     'arms: loop {
         let (test, behind) = tested(alloc, rest)?;
-        let (whole, after) = stmt(alloc, behind)?;
-        let body = body_of(alloc, whole)?;
+        let (whole, after) = match stmt(alloc, behind) {
+            Ok(read) => read,
+            Err(stop) => {
+                drop(test);
+                return Err(stop);
+            }
+        };
+        let Ok(body) = body_of(alloc, whole) else {
+            drop(test);
+            return Err(Stop::Memory);
+        };
         arms.push(Arm { test, body })?;
         let Some((_, more)) = key_at(Keyword::Else, after) else {
             return Ok(((arms, None), after));

@@ -1,5 +1,4 @@
 use Rattle.std.proofs.Common.{sym, subst, arith, rules}
-use Rattle.std.proofs.lemmas.Result.{err_from_is_err_and}
 use Rattle.java_tree.specs.Syntax.{Expressions}
 use Rattle.java_parse.specs.Want.{NMoreArgs}
 use Rattle.java_parse.specs.Reading.{Reads}
@@ -20,9 +19,8 @@ args-returns-in-Some-mark_at-clause-reads t c = c.more.invariant.so_far _ (more_
 pub args-returns-in_default-mark_at-2-clause-reads : goal.args-returns-in_default-mark_at-2-clause-reads
 args-returns-in_default-mark_at-2-clause-reads t c = c.more.invariant.so_far _ (more_args_open (search rules) (search rules))
 
-pub more-returns-in_err-right-clause-reads : goal.more-returns-in_err-right-clause-reads
-more-returns-in_err-right-clause-reads t c = let q = err_from_is_err_and c.from_residual.result c.from_residual.ensures.1 in rw (q.1, q.2)
-    (more_operator_fails (sym c.in-Some.ensures.value) c.level_of-level.ensures.value c.in_err-right.ensures.reads)
+pub more-returns-in-Err-clause-reads : goal.more-returns-in-Err-clause-reads
+more-returns-in-Err-clause-reads t c = more_operator_fails (sym c.in-Some.ensures.value) c.level_of-level.ensures.value c.in-Err.ensures.reads
 
 pub more-returns-in_default-word_at-clause-reads : goal.more-returns-in_default-word_at-clause-reads
 more-returns-in_default-word_at-clause-reads t c = more_no_class (search rules) (sym c.in-Some-instance_at.ensures.value) (search rules)
