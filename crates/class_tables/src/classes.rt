@@ -160,18 +160,7 @@ impl<'a> Classes<'a> {
         Ok(found)
     }
 
-    /// The values of a new object of a class.
-    pub fn fresh(&mut self, class: u32) -> Result<Vec<Value>, AllocError>
-        ensures same { self.new ≡ self.old }
-        ensures values { IfOk result (λ v. map value_of v.items ≡ fresh_of (program_of no_place self.old) class) }
-    {
-        match known_values(&self.objects, class as usize) {
-            Some(values) => Vec::from_slice(self.alloc, values),
-            None => self.find_fresh(class),
-        }
-    }
-
-    /// The same, found and kept.
+    /// The values of a new object of a class, found and kept.
     #[cold]
     fn find_fresh(&mut self, class: u32) -> Result<Vec<Value>, AllocError>
         ensures same { self.new ≡ self.old }

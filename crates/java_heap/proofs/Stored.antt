@@ -36,9 +36,6 @@ module _ (strings : List (List ℕ)) (h : Store) (ls : List Label) (ss : List Sp
   pub count : length ls ≡ length h.cells
   count = sym (length_paired ls ss is.same) ∙ sym (length-map (paired ls ss) (cell_in vs)) ∙ ap (λ (k : Store). length k.cells) e
 
-  pub label_within : (at : ℕ) → at < length h.cells → at < length ls
-  label_within at lt = omega (arith, count)
-
   pub span_within : (at : ℕ) → at < length h.cells → at < length ss
   span_within at lt = omega (arith, count, is.same)
 
@@ -76,11 +73,6 @@ module _ (strings : List (List ℕ)) (h : Store) (ls : List Label) (ss : List Sp
   pub kind_found : (at : ℕ) (k : Option CellKind) → k ≡ option_map (λ (l : Label). l.kind) (slice_get ls at)
       → option_map kind_of k ≡ option_map (λ (c : Cell). c.kind) (slice_get h.cells at)
   kind_found at k q = ap (option_map kind_of) q ∙ kind_of_label (slice_get ls at) ∙ sym (kind_seen at)
-
-  pub kind_there : (at : ℕ) (l : Label) → at < length h.cells → l ≡ get_or ls at l
-      → option_map (λ (c : Cell). c.kind) (slice_get h.cells at) ≡ Some (kind_of l.kind)
-  kind_there at l lt q =
-      kind_seen at ∙ ap (option_map (λ (l : Label). kind_of l.kind)) (slice_get-get_or ls at l (label_within at lt) ∙ ap Some (sym q))
 
   -- its values
   pub read_there : (at place : ℕ) (s : Span) (r : Option Value) → Some s ≡ slice_get ss at
@@ -120,17 +112,6 @@ module _ (strings : List (List ℕ)) (h : Store) (ls : List Label) (ss : List Sp
       let r : s.start + s.len ≤ length vs = room at s p in
       let n : place < length (map value_of (values_in vs s)) = within at place s p w in
       omega (arith, length_within vs s r)
-
-  pub got : (at place : ℕ) (s : Span) (v : Value) → at < length h.cells → IfSome (slice_get h.cells at) (λ c. place < length c.values) → s ≡ get_or ss at s
-      → v ≡ get_or vs (s.start + place) v → values_at place (slice_get h.cells at) ≡ Some (value_of v)
-  got at place s v lt w q d =
-      let p = span_at at s lt q in
-      let n : place < length (map value_of (values_in vs s)) = within at place s p w in
-      let short : place < length (values_in vs s) = omega (arith, length-map (values_in vs s) value_of) in
-      let inside : place < s.len = omega (arith, length-take s.len (drop s.start vs)) in
-      sym (read_there at place s (Some v) p
-      (ap (λ x. Some (value_of x)) (d ∙ sym (get_or-take s.len (drop s.start vs) place v inside ∙ get_or-drop s.start vs place v))
-      ∙ sym (slice_get-map value_of (values_in vs s) place ∙ ap (option_map value_of) (slice_get-get_or (values_in vs s) place v short))))
 
   -- a value is put into a cell
   pub stored : (at place : ℕ) (v : Value) (s : Span) → at < length h.cells → IfSome (slice_get h.cells at) (λ c. place < length c.values) → s ≡ get_or ss at s

@@ -76,13 +76,6 @@ impl Heap {
         }
     }
 
-    /// How many strings there are.
-    pub fn strings(&self) -> usize
-        ensures value { result ≡ length self.now.strings }
-    {
-        self.texts.len()
-    }
-
     /// How many cells there are.
     pub fn cells(&self) -> usize
         ensures value { result ≡ length self.now.cells }
@@ -90,20 +83,7 @@ impl Heap {
         self.labels.len()
     }
 
-    /// A new object of a creation, and its place.
-    pub fn object(
-        &mut self,
-        site: SiteId,
-        class: ClassId,
-        values: Vec<Value>,
-    ) -> Result<u32, AllocError>
-        ensures place { IfOk result (λ at. at ≡ length self.old.cells) }
-        ensures cells { OnOk result (self.new ≡ record self.old { cells = self.old.cells ++ (record { site = Some site.0; kind = kind_of (CellKind.Object class); values = map value_of values.items }) ∷ [] }) }
-    {
-        self.add(Some(site), CellKind::Object(class), &values)
-    }
-
-    /// The same, with a copy of these values.
+    /// A new object of a creation with a copy of these values, and its place.
     pub fn object_of(
         &mut self,
         site: SiteId,
@@ -199,14 +179,6 @@ impl Heap {
         kind_at(&self.labels, at)
     }
 
-    /// What a cell is: an object's class, or an array's own type.
-    pub fn kind(&self, at: u32) -> CellKind
-        requires { at < length self.now.cells }
-        ensures value { option_map (λ c. c.kind) (slice_get self.now.cells at) ≡ Some (kind_of result) }
-    {
-        self.labels[at as usize].kind
-    }
-
     /// How many values a cell has.
     #[inline]
     pub fn len(&self, at: u32) -> usize
@@ -227,16 +199,6 @@ impl Heap {
         }
     }
 
-    /// A value of a cell.
-    pub fn get(&self, at: u32, place: u32) -> Value
-        requires cell { at < length self.now.cells }
-        requires place { IfSome (slice_get self.now.cells at) (λ c. place < length c.values) }
-        ensures value { option_and_then (λ c. slice_get c.values place) (slice_get self.now.cells at) ≡ Some (value_of result) }
-    {
-        let start = self.spans[at as usize].start;
-        self.values[start as usize + place as usize]
-    }
-
     /// Puts a value into a cell.
     #[inline]
     pub fn set(&mut self, at: u32, place: u32, value: Value)
@@ -246,14 +208,6 @@ impl Heap {
     {
         let start = self.spans[at as usize].start;
         self.values[start as usize + place as usize] = value;
-    }
-
-    /// The units of a string.
-    pub fn units(&self, string: u32) -> &Vec<u16>
-        requires { string < length self.now.strings }
-        ensures value { slice_get self.now.strings string ≡ Some result.now.items }
-    {
-        &self.texts[string as usize]
     }
 
     /// The units of a string; `None` where there is none.
