@@ -7,7 +7,7 @@ use Rattle.std.proofs.lemmas.List.{append_assoc, length-append}
 use Rattle.name_rules.specs.declared.Refusal.{Refusal}
 use Rattle.java_resolve.specs.declared.tables.Heading.{Heading}
 use Rattle.java_resolve.specs.Answers.{run, with, unless}
-use Rattle.java_resolve.specs.Members.{clash_of, clash_with, earlier_step, clash_step}
+use Rattle.java_resolve.specs.Members.{clash_of, clash_with, earlier_step}
 use Rattle.java_resolve.specs.Clashes.{clash_at, or_clash, clash_among, clash_after}
 use Rattle.java_resolve.specs.Spots.{spots_from}
 use Rattle.java_resolve.proofs.Runs.{middle-stands}

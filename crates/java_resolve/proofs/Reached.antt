@@ -1,22 +1,17 @@
 -- The rows of the types at or above each type: what is reached upwards is what is a subclass.
-use Rattle.std.proofs.Common.{◌≡◌, ℕ, zero, suc, ◌+◌, ◌<◌, ◌≤◌, ◌⊎◌, inl, inr, ⊎_elim, Bool, true, false, ◌||◌, List, [], ◌∷◌, ◌++◌, length, eqb, Option, Some, None, Contains, refl, sym, ap, ◌∙◌, subst, arith}
-use Rattle.std.specs.Prelude.{slice_get, ◌==◌, if◌then◌else◌}
+use Rattle.std.proofs.Common.{◌≡◌, ℕ, ◌<◌, Bool, true, false, ◌||◌, List, [], ◌∷◌, ◌++◌, length, Option, Some, None, refl, sym, ap, ◌∙◌}
+use Rattle.std.specs.Prelude.{slice_get, if◌then◌else◌}
 use Rattle.std.specs.Option.{option_to_list, option_and_then, option_map_or}
-use Rattle.std.specs.List.{list_any, IsDistinct, AllByRecursion}
-use Rattle.std.proofs.lemmas.Bool.{or_cases, or_left, or_right, eqb-true, eq-eqb, ne_eqb, eqb-false, false≢true}
+use Rattle.std.specs.List.{list_any}
 use Rattle.std.proofs.lemmas.List.Folds.{list_any-append, Any-from_list_any, list_any-from_Any}
-use Rattle.std.proofs.lemmas.Map.Steps.{length-le_from_distinct_below}
 use Rattle.std.proofs.Math.Bool.{or-false}
 use Rattle.kaba_base.specs.declared.ClassId.{ClassId}
 use Rattle.java_core.specs.Programs.{Plain, PlainClass}
-use Rattle.java_core.specs.Classes.{supers_of, IsSubclass, same_class, through, IsProperSubclass, reaches}
-use Rattle.java_core.proofs.Subclasses.{supers-within, reaches-subclass}
+use Rattle.java_core.specs.Classes.{supers_of, IsSubclass, IsProperSubclass}
 use Rattle.java_resolve.specs.Tables.{is_above}
-use Rattle.java_resolve.specs.Classes.{any_above, by_parent, above_by, of_classes, above_of}
-use Rattle.java_core.specs.Squares.{square}
+use Rattle.java_resolve.specs.Classes.{any_above, by_parent, above_by, above_of}
 use Rattle.java_resolve.proofs.Sees.{Tells}
 use Rattle.java_core.proofs.Reached.{reached, reached-sound, reached-whole}
-use Rattle.java_core.proofs.SquareLemmas.{same_truth, square-above, square-within}
 
 module _ (P : Plain) where
   or-if : (x y : Bool) → (if x then true else y) ≡ x || y

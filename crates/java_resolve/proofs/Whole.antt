@@ -1,5 +1,5 @@
 -- What a tree resolves to, whole: a formed program where no condition holds, or a condition that holds.
-use Rattle.std.proofs.Common.{List, refl, sym, subst, length}
+use Rattle.std.proofs.Common.{List, refl, sym, subst}
 use Rattle.java_tree.specs.Syntax.{DeclTree}
 use Rattle.java_core.specs.Programs.{Plain, PlainClass}
 use Rattle.java_core.specs.Formed.{AreCounted, IsFormed}

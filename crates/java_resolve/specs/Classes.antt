@@ -1,5 +1,5 @@
 -- The classes and interfaces of a tree: their names, modifiers and supertypes, and which are above which.
-use Rattle.std.specs.Prelude.{ℕ, ◌+◌, ◌||◌, ◌==◌, not, Bool, true, false, List, [], ◌∷◌, ◌++◌, length, Option, Some, None, is_some, Result, Ok, Err, codes, if◌then◌else◌, slice_get}
+use Rattle.std.specs.Prelude.{ℕ, ◌+◌, ◌||◌, ◌==◌, not, Bool, true, false, List, [], ◌∷◌, ◌++◌, Option, Some, None, is_some, Result, Ok, Err, codes, if◌then◌else◌, slice_get}
 use Rattle.std.specs.Str.{chars}
 use Rattle.kaba_base.specs.declared.Place.{Place}
 use Rattle.kaba_base.specs.declared.ClassId.{ClassId}
@@ -9,8 +9,7 @@ use Rattle.java_tree.specs.declared.Id.{Id}
 use Rattle.java_tree.specs.declared.Modifier.{Modifier}
 use Rattle.java_tree.specs.Syntax.{DeclTree, ClassTree, InterfaceTree}
 use Rattle.java_core.specs.Trees.{at_place}
-use Rattle.java_core.specs.Programs.{Plain, PlainClass}
-use Rattle.java_core.specs.Classes.{reaches}
+use Rattle.java_core.specs.Programs.{PlainClass}
 use Rattle.name_rules.specs.declared.Form.TheVariants as forms
 use Rattle.name_rules.specs.declared.Refusal.{Refusal}
 use Rattle.name_rules.specs.declared.Refusal.TheVariants.{Twice, TwoKinds, Loop, NotInProfile}
@@ -21,7 +20,6 @@ use Rattle.java_resolve.specs.declared.flags.Flags.{Flags}
 use Rattle.java_resolve.specs.Answers.{with, run}
 use Rattle.java_resolve.specs.Names.{is_apart, number_of, asked}
 use Rattle.java_resolve.specs.Tables.{is_above}
-use Rattle.java_core.specs.Squares.{square}
 pub use Rattle.java_core.specs.Subtypes.{of_classes, class_id, subtype_rows}
 
 abbrev pub decl_name : DeclTree → List ℕ

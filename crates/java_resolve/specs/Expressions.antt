@@ -1,8 +1,6 @@
 -- Which expression a tree is once its names are resolved, or the first of its faults.
 use Rattle.std.specs.Prelude.{ℕ, suc, ◌||◌, ◌==◌, Bool, true, false, List, Option, Some, None, is_some, Result, Ok, Err, if◌then◌else◌, slice_get}
 use Rattle.kaba_base.specs.declared.Place.{Place}
-use Rattle.java_lex.specs.declared.Mark.{Mark}
-use Rattle.java_lex.specs.declared.Mark.TheVariants as marks
 use Rattle.java_tree.specs.declared.Id.{Id}
 use Rattle.java_tree.specs.declared.TypeName.{TypeName}
 use Rattle.java_tree.specs.declared.TypeBase.{TypeBase}
@@ -12,11 +10,6 @@ use Rattle.java_core.specs.declared.Ty.{Ty}
 use Rattle.java_core.specs.declared.TyBase.{TyBase}
 use Rattle.java_core.specs.declared.TyBase.TheVariants as ty
 use Rattle.java_core.specs.declared.Field.{Field}
-use Rattle.java_core.specs.declared.UnOp.{UnOp}
-use Rattle.java_core.specs.declared.UnOp.TheVariants as un
-use Rattle.java_core.specs.declared.BinOp.{BinOp}
-use Rattle.java_core.specs.declared.BinOp.TheVariants as bin
-use Rattle.java_core.specs.declared.Op.TheVariants as op
 use Rattle.java_core.specs.Trees.{at_place, Ex, number, character, text, truth, null, this, local, static_field, own_field, field, index, call, static_call, super_call, create, create_array, cast, instance_of, unary, binary, Exs, no_ex, ex_then, expr_of}
 use Rattle.name_rules.specs.declared.Form.TheVariants.{ThisInStatic}
 use Rattle.name_rules.specs.declared.Refusal.{Refusal}

@@ -1,5 +1,5 @@
 -- The fields, methods and slots of a tree, and where methods of one name meet.
-use Rattle.std.specs.Prelude.{ℕ, suc, ◌+◌, ◌||◌, ◌&&◌, ◌==◌, not, Bool, true, false, List, [], ◌∷◌, ◌++◌, length, Option, Some, None, is_some, is_none, Result, Ok, Err, codes, if◌then◌else◌, slice_get, map}
+use Rattle.std.specs.Prelude.{ℕ, suc, ◌+◌, ◌||◌, ◌&&◌, ◌==◌, not, Bool, true, false, List, [], ◌∷◌, ◌++◌, length, Option, Some, None, is_some, is_none, Result, Ok, Err, codes, if◌then◌else◌, map}
 use Rattle.std.specs.Str.{bytes_eq, chars}
 use Rattle.kaba_base.specs.declared.Place.{Place}
 use Rattle.java_tree.specs.declared.TypeName.{TypeName}
@@ -22,7 +22,7 @@ use Rattle.java_resolve.specs.declared.tables.Heading.{Heading}
 use Rattle.java_resolve.specs.declared.members.Draft.{Draft}
 use Rattle.java_resolve.specs.Answers.{with, unless, run}
 use Rattle.java_resolve.specs.Names.{type_of, names_type}
-use Rattle.java_resolve.specs.Tables.{bit_in, is_above, field_from, method_from}
+use Rattle.java_resolve.specs.Tables.{is_above, field_from, method_from}
 use Rattle.java_resolve.specs.Classes.{flags_of}
 pub use Rattle.java_core.specs.Squares.{meet}
 

@@ -5,7 +5,7 @@ use Rattle.java_tree.specs.declared.TypeName.{TypeName}
 use Rattle.java_tree.specs.Syntax.{Expression, Statement, LocalOf, BlockOf, AssignOf, DoOf, PrintOf, IfOf, WhileOf, ForOf, ReturnOf, BreakOf, ContinueOf, Statements, no_statements, and_then, Else, no_else, OptionalStatement, absent, present}
 use Rattle.java_tree.specs.Syntax as tree
 use Rattle.java_core.specs.declared.Ty.{Ty}
-use Rattle.java_core.specs.Trees.{at_place, Ex, local, static_field, own_field, field, index, Target, to_local, to_static, to_own, to_field, to_element, no_target, St, declare, block, assign, act, print, choose, loop, return, break, continue, Sts, no_st, st_then, Arms, no_other, otherwise, arm}
+use Rattle.java_core.specs.Trees.{at_place, Ex, St, declare, block, assign, act, print, choose, loop, return, break, continue, Sts, no_st, st_then, Arms, no_other, otherwise, arm}
 use Rattle.java_core.specs.Programs.{PlainLocal, local_seen}
 use Rattle.name_rules.specs.declared.Form.TheVariants.{BreakOutside}
 use Rattle.name_rules.specs.declared.Refusal.{Refusal}

@@ -1,12 +1,11 @@
 -- What a body sees of the declarations: types, superclasses, fields and methods.
-use Rattle.std.specs.Prelude.{ℕ, suc, ◌&&◌, ◌==◌, Bool, false, List, [], ◌∷◌, Option, Some, None, if◌then◌else◌, slice_get}
+use Rattle.std.specs.Prelude.{ℕ, suc, ◌&&◌, ◌==◌, Bool, List, [], ◌∷◌, Option, Some, None, if◌then◌else◌, slice_get}
 use Rattle.std.specs.Str.{bytes_eq}
 use Rattle.kaba_base.specs.declared.ClassId.{ClassId}
 use Rattle.java_core.specs.declared.Field.{Field}
 use Rattle.java_resolve.specs.Known.{Known}
 use Rattle.java_resolve.specs.declared.tables.Heading.{Heading}
 use Rattle.java_resolve.specs.declared.declarations.Tables.{Tables}
-use Rattle.name_rules.specs.declared.parts.Bound.{Bound}
 pub use Rattle.java_core.specs.Squares.{bit_in, row_in, is_above}
 
 -- the declarations: types, superclasses, which types are at or above which, fields and methods

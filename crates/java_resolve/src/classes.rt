@@ -164,6 +164,7 @@ pub fn classes_of(alloc: Global, known: &Types, list: &[Decl]) -> Result<Vec<Cla
 }
 
 /// Which types are above which.
+#[tactic(auto, unfolding(crate::specs::Classes::above_of))]
 pub fn above_of(alloc: Global, all: &Vec<Class>) -> Result<Hierarchy, Refusal>
     ensures gives { Gives {A = List (List Bool)} {B = List (List Bool)} (λ r. r) result (above_of (map (class_seen at_place) all.now.items)) }
     ensures rows { IfOk result (λ r. r ≡ subtype_rows (map (class_seen at_place) all.now.items)) }

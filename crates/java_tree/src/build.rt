@@ -9,6 +9,7 @@ use crate::{Arm, Expr, Id, Stmt, TypeName};
 use java_lex::Mark;
 use kaba_base::{Name, Place};
 use std::alloc::{AllocError, Global};
+use std::mem::drop;
 
 /// `base.name`
 pub fn field(alloc: Global, base: Expr, name: Name, place: Place) -> Result<Expr, AllocError>
@@ -22,8 +23,20 @@ pub fn field(alloc: Global, base: Expr, name: Name, place: Place) -> Result<Expr
 pub fn index(alloc: Global, base: Expr, at: Expr, place: Place) -> Result<Expr, AllocError>
     ensures value { IfOk result (λ e. expr_of e ≡ IndexOf (expr_of base) (expr_of at) place) }
 {
-    let base = Box::new(alloc, base)?;
-    let at = Box::new(alloc, at)?;
+    let base = match Box::new(alloc, base) {
+        Ok(base) => base,
+        Err(short) => {
+            drop(at);
+            return Err(short.into());
+        }
+    };
+    let at = match Box::new(alloc, at) {
+        Ok(at) => at,
+        Err(short) => {
+            drop(base);
+            return Err(short.into());
+        }
+    };
     Ok(Expr::Index { base, at, place })
 }
 
@@ -122,8 +135,20 @@ pub fn binary(
 ) -> Result<Expr, AllocError>
     ensures value { IfOk result (λ e. expr_of e ≡ BinaryOf mark (expr_of left) (expr_of right) place) }
 {
-    let left = Box::new(alloc, left)?;
-    let right = Box::new(alloc, right)?;
+    let left = match Box::new(alloc, left) {
+        Ok(left) => left,
+        Err(short) => {
+            drop(right);
+            return Err(short.into());
+        }
+    };
+    let right = match Box::new(alloc, right) {
+        Ok(right) => right,
+        Err(short) => {
+            drop(left);
+            return Err(short.into());
+        }
+    };
     Ok(Expr::Binary {
         mark,
         left,
@@ -170,11 +195,27 @@ pub fn for_loop(
 {
     let first = match first {
         None => None,
-        Some(stmt) => Some(Box::new(alloc, stmt)?),
+        Some(stmt) => match Box::new(alloc, stmt) {
+            Ok(made) => Some(made),
+            Err(short) => {
+                drop(test);
+                drop(step);
+                drop(body);
+                return Err(short.into());
+            }
+        },
     };
     let step = match step {
         None => None,
-        Some(stmt) => Some(Box::new(alloc, stmt)?),
+        Some(stmt) => match Box::new(alloc, stmt) {
+            Ok(made) => Some(made),
+            Err(short) => {
+                drop(first);
+                drop(test);
+                drop(body);
+                return Err(short.into());
+            }
+        },
     };
     Ok(Stmt::For {
         first,

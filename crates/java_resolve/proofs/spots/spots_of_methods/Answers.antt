@@ -1,4 +1,4 @@
-use Rattle.std.proofs.Common.{◌≡◌, ◌+◌, ◌++◌, [], drop, map, sym, ap, subst, ◌∙◌}
+use Rattle.std.proofs.Common.{◌≡◌, ◌+◌, ◌++◌, drop, map, sym, ap, subst, ◌∙◌}
 use Rattle.java_resolve.specs.Spots.{spots_of, spots_from}
 use Rattle.java_resolve.proofs.SpotLemmas.{spot_step, spot_end, same_ok}
 use Rattle.java_resolve.proofs.spots.spots_of_methods.Goals as goal
