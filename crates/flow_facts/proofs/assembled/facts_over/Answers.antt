@@ -1,6 +1,4 @@
 -- What is assembled is the facts.
-use Rattle.java_core.specs.Trees.{at_place, no_place}
-use Rattle.java_core.specs.Programs.{program_of}
 use Rattle.flow_facts.proofs.assembled.facts_over.Goals as goal
 
 pub say-requires : goal.say-requires

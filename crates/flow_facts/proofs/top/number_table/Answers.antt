@@ -1,6 +1,4 @@
 -- What the steps number.
-use Rattle.java_core.specs.Trees.{at_place, no_place}
-use Rattle.java_core.specs.Programs.{program_of}
 use Rattle.flow_facts.proofs.top.number_table.Goals as goal
 
 pub returns-clause-ok : goal.returns-clause-ok
