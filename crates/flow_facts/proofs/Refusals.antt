@@ -1,9 +1,7 @@
 -- A list that was counted, and what there is too much of.
-use Rattle.std.proofs.Common.{◌≡◌, ℕ, ◌+◌, ◌<◌, ◌≤◌, List, length, ap, ◌∙◌, subst, arith, map, sym, Result}
+use Rattle.std.proofs.Common.{◌≡◌, ℕ, ◌+◌, ◌<◌, ◌≤◌, List, length, ap, ◌∙◌, subst, arith, map}
 use Rattle.std.specs.Prelude.{Some, None}
-use Rattle.std.specs.Result.{IsErrAnd, IfErr}
 use Rattle.std.proofs.lemmas.List.{length-map}
-use Rattle.std.proofs.lemmas.Result.{err_from_is_err_and}
 use Rattle.java_core.specs.Programs.{Plain}
 use Rattle.fact_model.specs.declared.facts.CellInfo.{CellInfo}
 use Rattle.flow_rules.specs.declared.faults.Counted.{Counted}
@@ -42,7 +40,3 @@ module _ (P Q : Plain) (r : length (rows_of P Q) ≤ 16384) (c : length (columns
 -- the numbers of a list's keys fit
 pub few : {A K : Type 0} (f : A → K) (keys : List K) (xs : List A) (n : ℕ) → keys ≡ map f xs → length xs ≤ n → n ≤ 65536 → length keys < 4294967295
 few f keys xs n e h l = let k : length keys ≡ length xs = ap length e ∙ length-map xs f in omega (arith, k, h, l)
-
--- what a failed call refuses is refused
-pub passed : {T : Type 0} (P Q : Plain) (r : Result T FactsFault) (e : FactsFault) → IsErrAnd r (λ y. y ≡ e) → IsOver P Q e → IfErr r (IsOver P Q)
-passed P Q r e h o = let q = err_from_is_err_and r h in rw q.1 (subst (IsOver P Q) (sym q.2) o)

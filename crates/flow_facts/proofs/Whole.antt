@@ -1,7 +1,5 @@
 -- What is said of the numbered rows, columns, sites, points and bodies of a program is what its facts say.
-use Rattle.std.proofs.Common.{◌≡◌, ◌<◌, ◌≤◌, List, length, map, refl, sym, ap, ◌∙◌, subst, arith, Result}
-use Rattle.std.specs.Result.{IsErrAnd, IfOk}
-use Rattle.std.proofs.lemmas.Result.{err_from_is_err_and}
+use Rattle.std.proofs.Common.{◌≡◌, ◌<◌, ◌≤◌, List, length, map, refl, sym, ap, ◌∙◌, subst, arith}
 use Rattle.std.specs.List.{flat_map}
 use Rattle.java_core.specs.Programs.{Plain}
 use Rattle.fact_model.specs.declared.facts.RowInfo.{RowInfo}
@@ -21,10 +19,6 @@ use Rattle.flow_facts.specs.Views.{body_seen}
 use Rattle.flow_facts.specs.Seen.{numbers_seen}
 use Rattle.flow_facts.specs.Stages.{IsNumbered}
 use Rattle.flow_facts.proofs.Along.{same_set}
-
--- a failed call gives nothing
-pub none_given : {T E : Type 0} (r : Result T E) (e : E) (p : T → Type 0) → IsErrAnd r (λ y. y ≡ e) → IfOk r p
-none_given r e p h = let q = err_from_is_err_and r h in rw q.1 tt
 
 module _ (P Q : Plain) (d : Numbered) (n : IsNumbered P Q d) where
   pub few_columns : length d.columns.items < 4294967295

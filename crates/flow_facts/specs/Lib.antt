@@ -5,3 +5,4 @@ pub mod Gathered
 pub mod Said
 pub mod Owned
 pub mod Walked
+pub mod Holders

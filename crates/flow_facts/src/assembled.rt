@@ -27,6 +27,7 @@ use fact_model::{
 use java_core::Program;
 use kaba_base::{Name, RowId};
 use std::alloc::{AllocError, Global};
+use std::mem::{drop, replace};
 
 /// The calls without their places.
 fn without_places(alloc: Global, calls: Vec<PlacedCall>) -> Result<Vec<CallInfo>, AllocError>
@@ -60,10 +61,13 @@ fn list_tables(alloc: Global, program: &Program, numbered: &Numbered) -> Result<
     ensures { IfOk result (λ t. AreTables (program_of at_place program.now) numbered.now t) }
 {
     let rows = row_infos(alloc, program, &numbered.numbering, &numbered.rows)?;
-    let columns = column_infos(alloc, program, &numbered.columns)?;
-    let sites = site_infos(alloc, &numbered.sites)?;
-    let points = point_rows(alloc, &numbered.points)?;
-    let bodies = body_infos(alloc, program, &numbered.numbering, &numbered.columns)?;
+    let columns = made!(column_infos(alloc, program, &numbered.columns); rows);
+    let sites = made!(site_infos(alloc, &numbered.sites); rows, columns);
+    let points = made!(point_rows(alloc, &numbered.points); rows, columns, sites);
+    let bodies = made!(
+        body_infos(alloc, program, &numbered.numbering, &numbered.columns);
+        rows, columns, sites, points
+    );
     Ok(Tables {
         rows,
         columns,
@@ -86,8 +90,8 @@ fn list_texts(alloc: Global, program: &Program) -> Result<Texts, AllocError>
     ensures { IfOk result (λ t. AreTexts (program_of at_place program.now) t) }
 {
     let classes = class_infos(alloc, program)?;
-    let words = words(alloc, program)?;
-    let variables = variables(alloc, program)?;
+    let words = made!(words(alloc, program); classes);
+    let variables = made!(variables(alloc, program); classes, words);
     Ok(Texts {
         classes,
         words,
@@ -111,11 +115,13 @@ pub struct Ordered {
 }
 
 /// The lists with their calls and tests by place.
-fn in_order(alloc: Global, lists: Lists) -> Result<Ordered, AllocError>
+fn in_order(alloc: Global, mut lists: Lists) -> Result<Ordered, AllocError>
     ensures { (N : Numbers) (P : Plain) (bs : List numbered.Body) → AreGathered N P bs lists → IfOk result (λ o. AreOrdered N P bs o) }
 {
-    let calls = calls_in_order(alloc, lists.calls)?;
-    let tests = by_place(lists.tests)?;
+    let calls = replace(&mut lists.calls, Vec::new(alloc));
+    let tests = replace(&mut lists.tests, Vec::new(alloc));
+    let calls = made!(calls_in_order(alloc, calls); lists, tests);
+    let tests = made!(by_place(tests); lists, calls);
     Ok(Ordered {
         news: lists.news,
         flows: lists.flows,
@@ -145,9 +151,12 @@ fn say(alloc: Global, program: &Program, numbered: &Numbered) -> Result<Said, Al
     ensures { IfOk result (λ s. IsSaid (program_of no_place program.now) (program_of at_place program.now) numbered.now s) }
 {
     let tables = list_tables(alloc, program, numbered)?;
-    let texts = list_texts(alloc, program)?;
-    let lists = gather(alloc, program, &numbered.numbering, &numbered.bodies)?;
-    let lists = in_order(alloc, lists)?;
+    let texts = made!(list_texts(alloc, program); tables);
+    let lists = made!(
+        gather(alloc, program, &numbered.numbering, &numbered.bodies);
+        tables, texts
+    );
+    let lists = made!(in_order(alloc, lists); tables, texts);
     Ok(Said {
         tables,
         texts,
@@ -195,6 +204,6 @@ pub fn facts_over(alloc: Global, program: &Program, numbered: Numbered) -> Resul
     ensures ok { IfOk result (λ f. IsFactsOf (program_of no_place program.now) (program_of at_place program.now) f) }
     ensures names { IfOk result (λ f. AreNamesOf (program_of at_place program.now) f) }
 {
-    let said = say(alloc, program, &numbered)?;
+    let said = made!(say(alloc, program, &numbered); numbered);
     Ok(assemble(alloc, numbered, said))
 }

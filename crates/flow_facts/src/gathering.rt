@@ -20,6 +20,7 @@ use fact_model::{
 use flow_rules::{Body, Part};
 use java_core::Program;
 use std::alloc::{AllocError, Global};
+use std::mem::drop;
 
 /// The lists that the parts of bodies give.
 #[derive(Drop)]
@@ -104,15 +105,18 @@ pub fn gather(
         ties: Vec::new(alloc),
     };
     for body in bodies {
-        add_parts(
-            alloc,
-            program,
-            n,
-            body.number,
-            body.slot,
-            &body.parts,
-            &mut lists,
-        )?;
+        made!(
+            add_parts(
+                alloc,
+                program,
+                n,
+                body.number,
+                body.slot,
+                &body.parts,
+                &mut lists,
+            );
+            lists
+        );
     }
     Ok(lists)
 }

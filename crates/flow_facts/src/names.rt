@@ -1,68 +1,100 @@
 //! The classes, and the names of the text.
 
-ghost use Rattle.std.specs.Prelude.{◌≡◌, ℕ, List, ◌++◌, ◌∷◌, [], ◌&&◌, ◌==◌, not, IfOk, OnOk, map, drop, string_bytes};
+ghost use Rattle.std.specs.Prelude.{◌≡◌, ℕ, ◌<◌, List, ◌++◌, ◌∷◌, [], ◌&&◌, ◌||◌, ◌==◌, false, not, IfOk, OnOk, length, get_or, map, drop, string_bytes};
 ghost use Rattle.indexmap.specs.IndexSet.{insert_key};
 ghost use Rattle.std.specs.List.{flat_map, list_any};
 ghost use Rattle.std.specs.Str.{bytes_eq, encode_utf8_all};
 ghost use Rattle.java_core.specs.Trees.{at_place};
-ghost use Rattle.java_core.specs.Programs.{program_of, class_seen as plain_class, method_seen, local_seen};
+ghost use Rattle.java_core.specs.Programs.{Plain, program_of, class_seen as plain_class, method_seen, local_seen};
 ghost use Rattle.flow_rules.specs.Ordered.{each, once, once_after};
 ghost use Rattle.flow_rules.specs.Facts.{class_seen, class_facts, is_holder, all_names, all_variables, variable_names};
+ghost use Rattle.flow_facts.specs.Holders.{AreHolders};
 
 use fact_model::ClassInfo;
 use indexmap::IndexSet;
 use java_core::{Class, Local, Program};
-use kaba_base::Name;
+use kaba_base::{ClassId, Name};
 use std::alloc::{AllocError, Global};
+use std::mem::drop;
 
-/// Whether a class has static members.
-fn is_holder(program: &Program, class: usize) -> bool
-    ensures value { result ≡ is_holder (program_of at_place program.now) class }
+/// Marks the class of a member, where the member is static.
+fn mark(holders: &mut [bool], is_static: bool, owner: ClassId)
+    ensures count { length holders.new ≡ length holders.old }
+    ensures value { (c : ℕ) → c < length holders.old
+        → get_or holders.new c false ≡ (get_or holders.old c false || (is_static && (owner.0 == c))) }
 {
-    has_static_field(program, class) || has_static_method(program, class)
+    let class = owner.0 as usize;
+    if is_static {
+        if class < holders.len() {
+            holders[class] = true;
+        }
+    }
 }
 
-/// Whether a class has a static field.
-fn has_static_field(program: &Program, class: usize) -> bool
-    ensures value { result ≡ list_any (λ f. f.is_static && (f.owner == class)) (program_of at_place program.now).fields }
+/// Marks the classes that have a static field.
+fn mark_fields(program: &Program, holders: &mut [bool])
+    ensures count { length holders.new ≡ length holders.old }
+    ensures value { (c : ℕ) → c < length holders.old → get_or holders.new c false ≡ (get_or holders.old c false
+        || list_any (λ f. f.is_static && (f.owner == c)) (program_of at_place program.now).fields) }
 {
     for field in &program.fields {
-        if field.is_static && field.owner.0 as usize == class {
-            return true;
-        }
+        mark(holders, field.is_static, field.owner);
     }
-    false
 }
 
-/// Whether a class has a static method.
-fn has_static_method(program: &Program, class: usize) -> bool
-    ensures value { result ≡ list_any (λ m. m.is_static && (m.owner == class)) (program_of at_place program.now).methods }
+/// Marks the classes that have a static method.
+fn mark_methods(program: &Program, holders: &mut [bool])
+    ensures count { length holders.new ≡ length holders.old }
+    ensures value { (c : ℕ) → c < length holders.old → get_or holders.new c false ≡ (get_or holders.old c false
+        || list_any (λ m. m.is_static && (m.owner == c)) (program_of at_place program.now).methods) }
 {
     for method in &program.methods {
-        if method.is_static && method.owner.0 as usize == class {
-            return true;
-        }
+        mark(holders, method.is_static, method.owner);
     }
-    false
 }
 
-/// A class.
-fn class_info(
+/// For each class, whether it has static members.
+fn holders(alloc: Global, program: &Program) -> Result<Vec<bool>, AllocError>
+    ensures { IfOk result (λ v. AreHolders (program_of at_place program.now) v.items) }
+{
+    let mut holders = vec![in alloc; false; program.classes.len()]?;
+    mark_fields(program, &mut holders);
+    mark_methods(program, &mut holders);
+    Ok(holders)
+}
+
+/// A class. `holder` says whether it has static members.
+fn class_info(alloc: Global, class: &Class, holder: bool) -> Result<ClassInfo, AllocError>
+    ensures value { (Q : Plain) (c : ℕ) → holder ≡ is_holder Q c
+        → IfOk result (λ x. class_seen x ∷ [] ≡ class_facts Q c (plain_class at_place class.now)) }
+{
+    let name = class.name.copy(alloc)?;
+    let faces = made!(class.faces.as_slice().to_vec(alloc); name);
+    Ok(ClassInfo {
+        name,
+        parent: class.parent,
+        faces,
+        is_interface: class.is_interface,
+        holder,
+    })
+}
+
+/// The classes, each with whether it has static members.
+fn list_classes(
     alloc: Global,
     program: &Program,
-    c: usize,
-    class: &Class,
-) -> Result<ClassInfo, AllocError>
-    ensures value { IfOk result (λ x. class_seen x ∷ [] ≡ class_facts (program_of at_place program.now) c (plain_class at_place class.now)) }
+    holders: &[bool],
+) -> Result<Vec<ClassInfo>, AllocError>
+    requires { AreHolders (program_of at_place program.now) holders.now }
+    ensures value { IfOk result (λ v. map class_seen v.items
+        ≡ each (class_facts (program_of at_place program.now)) 0 (program_of at_place program.now).classes) }
 {
-    let info = ClassInfo {
-        name: class.name.copy(alloc)?,
-        parent: class.parent,
-        faces: class.faces.as_slice().to_vec(alloc)?,
-        is_interface: class.is_interface,
-        holder: is_holder(program, c),
-    };
-    Ok(info)
+    let mut list = Vec::new(alloc);
+    for (c, class) in program.classes.iter().enumerate() {
+        let info = made!(class_info(alloc, class, holders[c]); list);
+        made!(list.push(info) => AllocError; list);
+    }
+    Ok(list)
 }
 
 /// The classes.
@@ -70,11 +102,17 @@ pub fn class_infos(alloc: Global, program: &Program) -> Result<Vec<ClassInfo>, A
     ensures value { IfOk result (λ v. map class_seen v.items
         ≡ each (class_facts (program_of at_place program.now)) 0 (program_of at_place program.now).classes) }
 {
-    let mut list = Vec::new(alloc);
-    for (c, class) in program.classes.iter().enumerate() {
-        list.push(class_info(alloc, program, c, class)?)?;
-    }
+    let holders = holders(alloc, program)?;
+    let list = made!(list_classes(alloc, program, &holders); holders);
     Ok(list)
+}
+
+/// Adds a name.
+fn add_name(alloc: Global, name: &Name, names: &mut Vec<Name>) -> Result<(), AllocError>
+    ensures value { OnOk result (names.new.items ≡ names.old.items ++ name.now ∷ []) }
+{
+    names.push(name.copy(alloc)?)?;
+    Ok(())
 }
 
 /// Adds the names of parameters or locals.
@@ -86,7 +124,7 @@ fn add_variables(
     ensures value { OnOk result (names.new.items ≡ names.old.items ++ map (λ v. v.name) (map (local_seen at_place) locals.now.items)) }
 {
     for local in locals {
-        names.push(local.name.copy(alloc)?)?;
+        add_name(alloc, &local.name, names)?;
     }
     Ok(())
 }
@@ -96,7 +134,7 @@ fn add_fields(alloc: Global, program: &Program, names: &mut Vec<Name>) -> Result
     ensures value { OnOk result (names.new.items ≡ names.old.items ++ map (λ f. f.name) (program_of at_place program.now).fields) }
 {
     for field in &program.fields {
-        names.push(field.name.copy(alloc)?)?;
+        add_name(alloc, &field.name, names)?;
     }
     Ok(())
 }
@@ -106,10 +144,10 @@ pub fn variables(alloc: Global, program: &Program) -> Result<Vec<Name>, AllocErr
     ensures value { IfOk result (λ v. v.items ≡ all_variables (program_of at_place program.now)) }
 {
     let mut names = Vec::new(alloc);
-    add_fields(alloc, program, &mut names)?;
+    made!(add_fields(alloc, program, &mut names); names);
     for method in &program.methods {
-        add_variables(alloc, &method.params, &mut names)?;
-        add_variables(alloc, &method.locals, &mut names)?;
+        made!(add_variables(alloc, &method.params, &mut names); names);
+        made!(add_variables(alloc, &method.locals, &mut names); names);
     }
     Ok(names)
 }
@@ -119,12 +157,12 @@ fn all_names(alloc: Global, program: &Program) -> Result<Vec<Name>, AllocError>
     ensures value { IfOk result (λ v. v.items ≡ all_names (program_of at_place program.now)) }
 {
     let mut names = Vec::new(alloc);
-    add_types(alloc, program, &mut names)?;
-    add_fields(alloc, program, &mut names)?;
+    made!(add_types(alloc, program, &mut names); names);
+    made!(add_fields(alloc, program, &mut names); names);
     for method in &program.methods {
-        names.push(method.name.copy(alloc)?)?;
-        add_variables(alloc, &method.params, &mut names)?;
-        add_variables(alloc, &method.locals, &mut names)?;
+        made!(add_name(alloc, &method.name, &mut names); names);
+        made!(add_variables(alloc, &method.params, &mut names); names);
+        made!(add_variables(alloc, &method.locals, &mut names); names);
     }
     Ok(names)
 }
@@ -135,7 +173,7 @@ fn add_types(alloc: Global, program: &Program, names: &mut Vec<Name>) -> Result<
 {
     if let [_, rest @ ..] = program.classes.as_slice() {
         for class in rest {
-            names.push(class.name.copy(alloc)?)?;
+            add_name(alloc, &class.name, names)?;
         }
     }
     Ok(())
@@ -164,7 +202,7 @@ fn add_word(
         (name.now ∷ rest)) }
 {
     if is_new(alloc, seen, name)? {
-        words.push(name.copy(alloc)?)?;
+        add_name(alloc, name, words)?;
         return Ok(());
     }
     Ok(())
@@ -176,9 +214,9 @@ pub fn words(alloc: Global, program: &Program) -> Result<Vec<Name>, AllocError>
 {
     let mut words = Vec::new(alloc);
     let mut seen = IndexSet::new(alloc);
-    let names = all_names(alloc, program)?;
+    let names = made!(all_names(alloc, program); words, seen);
     for name in &names {
-        add_word(alloc, &mut seen, name, &mut words)?;
+        made!(add_word(alloc, &mut seen, name, &mut words); words, seen, names);
     }
     Ok(words)
 }

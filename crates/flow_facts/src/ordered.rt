@@ -11,6 +11,7 @@ use indexmap::IndexSet;
 use kaba_base::Place;
 use std::alloc::{AllocError, Global};
 use std::hash::Hash;
+use std::mem::drop;
 
 /// What stands at a place: of the text, or of a list.
 pub trait HasPlace {
@@ -154,8 +155,9 @@ pub fn once<K: Eq + Hash + Copy + Drop, T: HasKey<K> + Copy>(
     let mut items = Vec::new(alloc);
     let mut keys = IndexSet::new(alloc);
     for item in all {
-        if keys.insert_full(item.key())?.1 {
-            items.push(*item)?;
+        let (_, added) = made!(keys.insert_full(item.key()) => AllocError; items, keys);
+        if added {
+            made!(items.push(*item) => AllocError; items, keys);
         }
     }
     Ok(Listed { items, keys })

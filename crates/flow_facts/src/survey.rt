@@ -21,6 +21,7 @@ use flow_rules::{
 use java_core::{Field, Local, Method, Program};
 use kaba_base::Place;
 use std::alloc::{AllocError, Global};
+use std::mem::drop;
 
 /// Adds a row, where there is a type that a row can have.
 fn add_row(
@@ -324,22 +325,17 @@ fn method_points(
     let mut points = Vec::new(alloc);
     if !method.is_static {
         let item = PointItem::This(m as u64);
-        points.push(PointAt {
-            item,
-            place,
-            row: RowItem::This(m as u64),
-        })?;
+        let row = RowItem::This(m as u64);
+        made!(points.push(PointAt { item, place, row }) => AllocError; points);
     }
-    add_variable_points(m, method, &method.params, 0, &mut points)?;
-    add_variable_points(m, method, &method.locals, method.params.len(), &mut points)?;
+    let count = method.params.len();
+    made!(add_variable_points(m, method, &method.params, 0, &mut points); points);
+    made!(add_variable_points(m, method, &method.locals, count, &mut points); points);
     let item = PointItem::Result(m as u64);
-    points.push(PointAt {
-        item,
-        place,
-        row: result_row(m as u64, method.slot),
-    })?;
-    let mut forms = form_points(alloc, parts)?;
-    points.append(&mut forms)?;
+    let row = result_row(m as u64, method.slot);
+    made!(points.push(PointAt { item, place, row }) => AllocError; points);
+    let mut forms = made!(form_points(alloc, parts); points);
+    made!(points.append(&mut forms); points, forms);
     Ok(points)
 }
 
@@ -420,14 +416,12 @@ fn survey_method(
         (program_of at_place program.now) m (method_seen at_place method.now)) }
 {
     let parts = parts_of(alloc, program, m as u64, method)?;
-    add_method_rows(program, m, method, &parts, &mut survey.rows)?;
-    add_method_columns(m, method, &parts, &mut survey.columns)?;
+    made!(add_method_rows(program, m, method, &parts, &mut survey.rows); parts);
+    made!(add_method_columns(m, method, &parts, &mut survey.columns); parts);
     if method.body.is_some() {
-        let points = method_points(alloc, m, method, &parts)?;
-        survey.outlines.push(Outline {
-            place: method.place,
-            points,
-        })?;
+        let points = made!(method_points(alloc, m, method, &parts); parts);
+        let place = method.place;
+        made!(survey.outlines.push(Outline { place, points }) => AllocError; parts);
     }
     survey.bodies.push(Body {
         number: m as u64,
@@ -461,9 +455,9 @@ pub fn survey(alloc: Global, program: &Program) -> Result<Surveyed, AllocError>
         outlines: Vec::new(alloc),
         bodies: Vec::new(alloc),
     };
-    survey_fields(program, &mut survey)?;
+    made!(survey_fields(program, &mut survey); survey);
     for (m, method) in program.methods.iter().enumerate() {
-        survey_method(alloc, program, m, method, &mut survey)?;
+        made!(survey_method(alloc, program, m, method, &mut survey); survey);
     }
     Ok(survey)
 }

@@ -27,6 +27,7 @@ use indexmap::IndexSet;
 use java_core::Program;
 use kaba_base::Name;
 use std::alloc::Global;
+use std::mem::drop;
 
 /// The first interface that is declared.
 fn first_interface(program: &Program) -> Option<&Name>
@@ -67,7 +68,7 @@ fn number_rows(
     ensures refused { IfErr result (λ e. IsOver (program_of no_place program.now) (program_of at_place program.now) e) }
 {
     let listed = list_rows(alloc, rows)?;
-    within(listed.items.len(), 16384, Counted::Rows)?;
+    made!(within(listed.items.len(), 16384, Counted::Rows); listed);
     Ok(listed)
 }
 
@@ -87,7 +88,7 @@ fn number_columns(
     ensures refused { IfErr result (λ e. IsOver (program_of no_place program.now) (program_of at_place program.now) e) }
 {
     let listed = list_columns(alloc, columns)?;
-    within(listed.items.len(), 8192, Counted::Columns)?;
+    made!(within(listed.items.len(), 8192, Counted::Columns); listed);
     Ok(listed)
 }
 
@@ -109,7 +110,7 @@ fn number_sites(
 {
     let sites = all_sites(alloc, rows, bodies)?;
     let listed = list_sites(alloc, sites)?;
-    within(listed.items.len(), 8192, Counted::Sites)?;
+    made!(within(listed.items.len(), 8192, Counted::Sites); listed);
     Ok(listed)
 }
 
@@ -138,7 +139,7 @@ fn number_points(
     let outlines = by_place(outlines)?;
     let points = all_points(alloc, rows, &statics, &outlines)?;
     let listed = list_points(alloc, points)?;
-    within(listed.items.len(), 65536, Counted::Points)?;
+    made!(within(listed.items.len(), 65536, Counted::Points); listed);
     Ok(listed)
 }
 
@@ -212,8 +213,8 @@ fn number_table(
     ensures ok { IfOk result (λ t. IsTable (program_of no_place program.now) (program_of at_place program.now) t) }
     ensures refused { IfErr result (λ e. IsOver (program_of no_place program.now) (program_of at_place program.now) e) }
 {
-    let rows = number_rows(alloc, program, rows)?;
-    let columns = number_columns(alloc, program, columns)?;
+    let rows = made!(number_rows(alloc, program, rows); columns);
+    let columns = made!(number_columns(alloc, program, columns); rows);
     Ok(Table { rows, columns })
 }
 
@@ -235,8 +236,14 @@ fn number_flow(
     ensures ok { IfOk result (λ f. IsFlow (program_of no_place program.now) (program_of at_place program.now) f) }
     ensures refused { IfErr result (λ e. IsOver (program_of no_place program.now) (program_of at_place program.now) e) }
 {
-    let sites = number_sites(alloc, program, &table.rows.keys, bodies)?;
-    let points = number_points(alloc, program, &table.rows.keys, statics, outlines)?;
+    let sites = made!(
+        number_sites(alloc, program, &table.rows.keys, bodies);
+        statics, outlines
+    );
+    let points = made!(
+        number_points(alloc, program, &table.rows.keys, statics, outlines);
+        sites
+    );
     Ok(Flow { sites, points })
 }
 
@@ -263,24 +270,29 @@ fn number_whole(
         sites: sites.keys,
         points: points.keys,
     };
-    let most = 65536 - points.items.len();
-    let cells = number_cells(
-        alloc,
-        program,
-        &numbering,
-        &columns.items,
-        &sites.items,
-        most,
-    )?;
-    Ok(Numbered {
+    let mut numbered = Numbered {
         rows: rows.items,
         columns: columns.items,
         sites: sites.items,
         points: points.items,
-        cells,
+        cells: Vec::new(alloc),
         bodies,
         numbering,
-    })
+    };
+    let most = 65536 - numbered.points.len();
+    let cells = made!(
+        number_cells(
+            alloc,
+            program,
+            &numbered.numbering,
+            &numbered.columns,
+            &numbered.sites,
+            most,
+        );
+        numbered
+    );
+    numbered.cells = cells;
+    Ok(numbered)
 }
 
 /// Numbers the rows, the columns, the sites, the flow points and the cells.
@@ -290,10 +302,16 @@ fn number_all(alloc: Global, program: &Program) -> Result<Numbered, FactsFault>
     ensures refused { IfErr result (λ e. IsOver (program_of no_place program.now) (program_of at_place program.now) e) }
 {
     let surveyed = survey(alloc, program)?;
-    let bodies = surveyed.bodies;
-    let table = number_table(alloc, program, surveyed.rows, surveyed.columns)?;
     let (statics, outlines) = (surveyed.statics, surveyed.outlines);
-    let flow = number_flow(alloc, program, &table, &bodies, statics, outlines)?;
+    let bodies = surveyed.bodies;
+    let table = made!(
+        number_table(alloc, program, surveyed.rows, surveyed.columns);
+        statics, outlines, bodies
+    );
+    let flow = made!(
+        number_flow(alloc, program, &table, &bodies, statics, outlines);
+        table, bodies
+    );
     number_whole(alloc, program, table, flow, bodies)
 }
 

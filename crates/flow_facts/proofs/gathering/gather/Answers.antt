@@ -29,5 +29,5 @@ loop-body-preserved c =
     let lt : i < length bs = subst (λ l. i < length l) c.deref-body-items.ensures.value c.loop-body-test.true in
     let is : b ≡ get_or bs i b = subst (λ l. b ≡ get_or l i b) c.deref-body-items.ensures.value c.body-item.is in
     let all = body_more (numbers_seen c.args.n.now) (program_of no_place c.args.program.now) {b = body_seen b} c.loop-body.invariant
-    c.in_ok-add_parts.ensures in
+    c.in-Ok.ensures in
     rw (so_far body_seen bs i b lt is) all

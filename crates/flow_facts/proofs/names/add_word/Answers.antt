@@ -10,7 +10,7 @@ returns-then-branch c =
     let old = c.args.words.now.items in
     record {
       value = λ rest. once_step bytes_eq encode_utf8_all x _ _ old _ rest _ c.in_ok-is_new.ensures.added c.in_ok-is_new.ensures.keys
-          (c.in_ok-push.ensures.items ∙ ap (λ y. old ++ y ∷ []) c.in_ok-copy.ensures.value ∙ sym (ap (λ b. old ++ cond b (x ∷ []) []) c.if-branch.true));
+          (c.in_ok-add_name.ensures.value ∙ sym (ap (λ b. old ++ cond b (x ∷ []) []) c.if-branch.true));
     }
 
 pub returns : goal.returns

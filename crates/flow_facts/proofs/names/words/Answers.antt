@@ -10,7 +10,7 @@ loop-name-preserved c =
     let xs = c.deref-name-items.result.now in
     let i = c.loop-name.name-index in
     let x = c.name-item.result in
-    c.in_ok-add_word.ensures.value (drop (i + 1) xs)
+    c.in-Ok-add_word.ensures.value (drop (i + 1) xs)
     ∙ ap (λ l. c.loop-name.words.items ++ once_after bytes_eq encode_utf8_all (map string_bytes c.loop-name.seen.keys) l)
     (sym (front xs i x c.loop-name-test.true ∙ ap (λ y. y ∷ drop (i + 1) xs) (sym c.name-item.is)))
     ∙ c.loop-name.invariant

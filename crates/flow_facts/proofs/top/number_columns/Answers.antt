@@ -1,5 +1,4 @@
 use Rattle.std.proofs.Common.{◌≡◌, length, ◌∙◌, ap, map, arith}
-use Rattle.std.proofs.lemmas.Result.{err_from_is_err_and}
 use Rattle.java_core.specs.Trees.{at_place, no_place}
 use Rattle.java_core.specs.Programs.{program_of}
 use Rattle.flow_rules.specs.declared.faults.Counted.TheVariants as counted
@@ -7,14 +6,13 @@ use Rattle.flow_facts.proofs.Counts.{columns_are, over_columns}
 use Rattle.flow_facts.proofs.Refusals.{at_most, refused}
 use Rattle.flow_facts.proofs.top.number_columns.Goals as goal
 
-pub returns-in_err-within-clause-refused : goal.returns-in_err-within-clause-refused
-returns-in_err-within-clause-refused c =
+pub returns-in-Err-clause-refused : goal.returns-in-Err-clause-refused
+returns-in-Err-clause-refused c =
     let P = program_of no_place c.args.program.now in
     let Q = program_of at_place c.args.program.now in
     let n : c.len.result ≡ length c.in_ok-listed.listed.items.items = omega (arith, c.in_ok-listed.listed.items.ok.0) in
-    let q = err_from_is_err_and c.from_residual-in_err-within.result c.from_residual-in_err-within.ensures.1 in
-    rw (q.1, q.2) (refused P Q 8192 counted.Columns c.in_err-within.field-0.0 n (c.in_ok-listed.ensures.items ∙ columns_are P Q _ c.requires.columns)
-    c.in_err-within.ensures.refused (over_columns P Q c.requires.rows))
+    refused P Q 8192 counted.Columns c.in-Err.fault n (c.in_ok-listed.ensures.items ∙ columns_are P Q _ c.requires.columns)
+    c.in-Err.ensures.refused (over_columns P Q c.requires.rows)
 
 pub returns-clause-items : goal.returns-clause-items
 returns-clause-items c =
@@ -33,4 +31,4 @@ returns-clause-most c =
     let P = program_of no_place c.args.program.now in
     let Q = program_of at_place c.args.program.now in
     let n : c.len.result ≡ length c.in_ok-listed.listed.items.items = omega (arith, c.in_ok-listed.listed.items.ok.0) in
-    at_most n (c.in_ok-listed.ensures.items ∙ columns_are P Q _ c.requires.columns) c.in_ok-within.ensures.ok
+    at_most n (c.in_ok-listed.ensures.items ∙ columns_are P Q _ c.requires.columns) c.in-Ok.ensures.ok

@@ -1,5 +1,4 @@
 use Rattle.std.proofs.Common.{◌≡◌, length, ◌∙◌, ap, map, arith}
-use Rattle.std.proofs.lemmas.Result.{err_from_is_err_and}
 use Rattle.java_core.specs.Trees.{at_place, no_place}
 use Rattle.java_core.specs.Programs.{program_of}
 use Rattle.flow_rules.specs.declared.faults.Counted.TheVariants as counted
@@ -8,16 +7,15 @@ use Rattle.flow_rules.specs.Ordered.{by_place}
 use Rattle.flow_facts.proofs.Refusals.{at_most, refused, too_many_points}
 use Rattle.flow_facts.proofs.top.number_points.Goals as goal
 
-pub returns-in_err-within-clause-refused : goal.returns-in_err-within-clause-refused
-returns-in_err-within-clause-refused c =
+pub returns-in-Err-clause-refused : goal.returns-in-Err-clause-refused
+returns-in-Err-clause-refused c =
     let P = program_of no_place c.args.program.now in
     let Q = program_of at_place c.args.program.now in
     let n : c.len.result ≡ length c.in_ok-listed.listed.items.items = omega (arith, c.in_ok-listed.listed.items.ok.0) in
-    let q = err_from_is_err_and c.from_residual-in_err-within.result c.from_residual-in_err-within.ensures.1 in
-    rw (q.1, q.2) (refused P Q 65536 counted.Points c.in_err-within.field-0.0 n (c.in_ok-listed.ensures.items
+    refused P Q 65536 counted.Points c.in-Err.fault n (c.in_ok-listed.ensures.items
     ∙ points_are P Q _ _ _ _ c.requires.keys (c.in_ok-statics.ensures.value ∙ ap (by_place (λ p. p.place.at)) c.requires.statics)
-    (outlines_are P Q _ _ c.requires.outlines c.in_ok-outlines.ensures.value) c.in_ok-points.ensures.value) c.in_err-within.ensures.refused
-    (too_many_points P Q c.requires.rows c.requires.columns c.requires.sites))
+    (outlines_are P Q _ _ c.requires.outlines c.in_ok-outlines.ensures.value) c.in_ok-points.ensures.value) c.in-Err.ensures.refused
+    (too_many_points P Q c.requires.rows c.requires.columns c.requires.sites)
 
 pub returns-clause-items : goal.returns-clause-items
 returns-clause-items c =
@@ -42,4 +40,4 @@ returns-clause-most c =
     let n : c.len.result ≡ length c.in_ok-listed.listed.items.items = omega (arith, c.in_ok-listed.listed.items.ok.0) in
     at_most n (c.in_ok-listed.ensures.items ∙ points_are P Q _ _ _ _ c.requires.keys (c.in_ok-statics.ensures.value
     ∙ ap (by_place (λ p. p.place.at)) c.requires.statics) (outlines_are P Q _ _ c.requires.outlines c.in_ok-outlines.ensures.value)
-    c.in_ok-points.ensures.value) c.in_ok-within.ensures.ok
+    c.in_ok-points.ensures.value) c.in-Ok.ensures.ok

@@ -4,12 +4,8 @@ use Rattle.java_core.specs.Trees.{at_place, no_place}
 use Rattle.java_core.specs.Programs.{program_of}
 use Rattle.flow_rules.specs.Numbered.{rows_of, columns_of, sites_of, points_of}
 use Rattle.flow_facts.proofs.Counts.{numbers_are}
-use Rattle.flow_facts.proofs.Refusals.{counted, few, passed}
+use Rattle.flow_facts.proofs.Refusals.{counted, few}
 use Rattle.flow_facts.proofs.top.number_whole.Goals as goal
-
-pub returns-in_err-cells-clause-refused : goal.returns-in_err-cells-clause-refused
-returns-in_err-cells-clause-refused c = passed (program_of no_place c.args.program.now) (program_of at_place c.args.program.now)
-    c.from_residual.result c.in_err-cells.field-0.0 c.from_residual.ensures.1 c.in_err-cells.ensures.refused
 
 pub overflow_sub-most : goal.overflow_sub-most
 overflow_sub-most c =
@@ -57,11 +53,11 @@ returns-clause-ok c =
       columns = t.columns;
       sites = f.sites;
       points = f.points;
-      cells = c.in_ok-cells.ensures.items;
+      cells = c.in-Ok.ensures.items;
       bodies = c.requires.bodies;
       numbers = numbers_are (program_of no_place c.args.program.now) (program_of at_place c.args.program.now) _ _ _ _ t.row_items t.column_items
           f.site_items f.point_items;
       column_items = t.column_items;
       few = t.few_columns;
-      counts = c.in_ok-cells.ensures.counts;
+      counts = c.in-Ok.ensures.counts;
     }

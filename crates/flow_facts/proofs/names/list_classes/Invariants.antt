@@ -4,7 +4,7 @@ use Rattle.flow_rules.specs.Ordered.{each}
 use Rattle.java_core.specs.Trees.{at_place}
 use Rattle.java_core.specs.Programs.{program_of}
 use Rattle.flow_rules.specs.Facts.{class_facts, class_seen}
-use Rattle.flow_facts.proofs.names.class_infos.Given as goal
+use Rattle.flow_facts.proofs.names.list_classes.Given as goal
 
 abbrev pub invariant-loop-c : goal.invariant-loop-c
 invariant-loop-c l = map class_seen l.list.items ++ each (class_facts (program_of at_place l.program)) l.c
