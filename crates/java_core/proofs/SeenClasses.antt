@@ -20,7 +20,8 @@ use Rattle.java_core.proofs.Reached.{reached-sound, reached-whole}
 use Rattle.java_core.proofs.SquareLemmas.{same_truth}
 use Rattle.java_core.proofs.Walks.{no-member, one-member}
 
-supers-seen : (t u : Place → Tag) (cs : List Class) (a : ℕ) → supers_of (of_classes (map (class_seen t) cs)) a ≡ supers_of (of_classes (map (class_seen u) cs)) a
+supers-seen : (t u : Place → Tag) (cs : List Class) (a : ℕ) → supers_of (of_classes (map (class_seen t) cs)) a
+    ≡ supers_of (of_classes (map (class_seen u) cs)) a
 supers-seen t u [] a = refl
 supers-seen t u (c ∷ cs) zero = refl
 supers-seen t u (c ∷ cs) (suc a) = supers-seen t u cs a
@@ -35,19 +36,21 @@ stands-within xs i x e = ⊎_elim (λ lt. lt) (λ past. absurd (cc (sym (slice_g
 -- what stands directly above a class of a formed program is one of its classes
 super-stands : (P : Plain) → IsFormed P → (a : ℕ) (c : ClassId) → Contains (supers_of P a) c → c.0 < length P.classes
 super-stands P formed zero c h =
-    absurd (no-member c (subst (λ l. Contains l c) (ap (λ o. option_to_list (option_and_then (λ k. k.parent) o) ++ option_map_or (λ k. k.faces) o []) formed.object.first
+    absurd (no-member c (subst (λ l. Contains l c) (ap (λ o. option_to_list (option_and_then (λ k. k.parent) o) ++ option_map_or (λ k. k.faces) o [])
+    formed.object.first
     ∙ ap (λ o. option_to_list o ++ formed.object.object.faces) formed.object.parent ∙ formed.object.faces) h))
 super-stands P formed (suc a) c h = at (slice_get P.classes (suc a)) refl
   where
     at : (o : Option PlainClass) → slice_get P.classes (suc a) ≡ o → c.0 < length P.classes
-    at None e = absurd (no-member c (subst (λ l. Contains l c) (ap (λ o. option_to_list (option_and_then (λ k. k.parent) o) ++ option_map_or (λ k. k.faces) o []) e) h))
+    at None e = absurd (no-member c
+        (subst (λ l. Contains l c) (ap (λ o. option_to_list (option_and_then (λ k. k.parent) o) ++ option_map_or (λ k. k.faces) o []) e) h))
     at (Some k) e =
         let f = formed.classes a k e in
         let own : Contains (option_to_list k.parent ++ k.faces) c =
-            subst (λ l. Contains l c) (ap (λ o. option_to_list (option_and_then (λ k. k.parent) o) ++ option_map_or (λ k. k.faces) o []) e) h in
+        subst (λ l. Contains l c) (ap (λ o. option_to_list (option_and_then (λ k. k.parent) o) ++ option_map_or (λ k. k.faces) o []) e) h in
         ⊎_elim
         (λ d. let p : f.parent ≡ c = one-member f.parent c (subst (λ o. Contains (option_to_list o) c) f.has_parent d) in
-            subst (λ x. x.0 < length P.classes) p (stands-within P.classes f.parent.0 f.above f.parent_stands))
+        subst (λ x. x.0 < length P.classes) p (stands-within P.classes f.parent.0 f.above f.parent_stands))
         (λ d. let g = f.faces c d in stands-within P.classes c.0 g.0 g.1)
         (Contains-append_cases (option_to_list k.parent) k.faces c own)
 

@@ -8,4 +8,6 @@ use Rattle.java_core.proofs.classes.body_among.Given as goal
 
 -- none so far
 abbrev pub invariant-loop-at : goal.invariant-loop-at
-invariant-loop-at l = first_among (λ m. has_slot l.class.0 l.slot (method_seen no_place m) && is_some (method_seen no_place m).body) l.p.methods.items (drop l.at-index l.list) ≡ first_among (λ m. has_slot l.class.0 l.slot (method_seen no_place m) && is_some (method_seen no_place m).body) l.p.methods.items l.list
+invariant-loop-at l = first_among (λ m. has_slot l.class.0 l.slot (method_seen no_place m) && is_some (method_seen no_place m).body) l.p.methods.items
+    (drop l.at-index l.list) ≡ first_among (λ m. has_slot l.class.0 l.slot (method_seen no_place m) && is_some (method_seen no_place m).body)
+    l.p.methods.items l.list

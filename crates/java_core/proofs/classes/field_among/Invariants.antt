@@ -7,4 +7,5 @@ use Rattle.java_core.proofs.classes.field_among.Given as goal
 
 -- none so far
 abbrev pub invariant-loop-at : goal.invariant-loop-at
-invariant-loop-at l = first_among (λ f. is_field_of l.class.0 l.name (field_seen no_place f)) l.p.fields.items (drop l.at-index l.list) ≡ first_among (λ f. is_field_of l.class.0 l.name (field_seen no_place f)) l.p.fields.items l.list
+invariant-loop-at l = first_among (λ f. is_field_of l.class.0 l.name (field_seen no_place f)) l.p.fields.items (drop l.at-index l.list)
+    ≡ first_among (λ f. is_field_of l.class.0 l.name (field_seen no_place f)) l.p.fields.items l.list

@@ -7,4 +7,5 @@ use Rattle.java_core.proofs.classes.method_among.Given as goal
 
 -- none so far
 abbrev pub invariant-loop-at : goal.invariant-loop-at
-invariant-loop-at l = first_among (λ m. is_method_of l.class.0 l.name (method_seen no_place m)) l.p.methods.items (drop l.at-index l.list) ≡ first_among (λ m. is_method_of l.class.0 l.name (method_seen no_place m)) l.p.methods.items l.list
+invariant-loop-at l = first_among (λ m. is_method_of l.class.0 l.name (method_seen no_place m)) l.p.methods.items (drop l.at-index l.list)
+    ≡ first_among (λ m. is_method_of l.class.0 l.name (method_seen no_place m)) l.p.methods.items l.list

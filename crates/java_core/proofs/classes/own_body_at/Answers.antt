@@ -14,8 +14,13 @@ pub returns-clause-value : goal.returns-clause-value
 returns-clause-value c =
     let p : Method → Bool = λ m. has_slot c.args.class.0 c.args.slot (method_seen no_place m) && is_some (method_seen no_place m).body in
     c.body_among.ensures ∙ ap (first_among p c.args.p.now.methods.items) (c.listed.ensures ∙ c.args.p.now.methods_owned.exact c.args.class.0)
-    ∙ own-position (λ m. m.owner.0) p c.args.class.0 (λ m e. (and_parts (m.owner.0 == c.args.class.0) (is_slot m.slot c.args.slot) (and_parts ((m.owner.0 == c.args.class.0) && is_slot m.slot c.args.slot) (is_some (method_seen no_place m).body) e).0).0) c.args.p.now.methods.items
+    ∙ own-position (λ m. m.owner.0) p c.args.class.0
+    (λ m e. (and_parts (m.owner.0 == c.args.class.0) (is_slot m.slot c.args.slot)
+    (and_parts ((m.owner.0 == c.args.class.0) && is_slot m.slot c.args.slot) (is_some (method_seen no_place m).body) e).0).0)
+    c.args.p.now.methods.items
 
 pub returns-clause-within : goal.returns-clause-within
 returns-clause-within c =
-    subst (λ o. IfSome o (λ i. i < length c.args.p.now.methods.items)) (sym (returns-clause-value c)) (position-within (λ m. has_slot c.args.class.0 c.args.slot (method_seen no_place m) && is_some (method_seen no_place m).body) c.args.p.now.methods.items)
+    subst (λ o. IfSome o (λ i. i < length c.args.p.now.methods.items)) (sym (returns-clause-value c))
+    (position-within (λ m. has_slot c.args.class.0 c.args.slot (method_seen no_place m) && is_some (method_seen no_place m).body)
+    c.args.p.now.methods.items)

@@ -4,4 +4,5 @@ use Rattle.java_core.proofs.owned.own_fields.Given as goal
 
 -- the numbers so far, and those of the rest
 abbrev pub invariant-loop-k : goal.invariant-loop-k
-invariant-loop-k l = (c : ℕ) → listed l.lists.items c ++ owned_from l.k c (map (λ f. f.owner.0) (drop l.k l.list)) ≡ owned_from 0 c (map (λ f. f.owner.0) l.list)
+invariant-loop-k l = (c : ℕ) → listed l.lists.items c ++ owned_from l.k c (map (λ f. f.owner.0) (drop l.k l.list))
+    ≡ owned_from 0 c (map (λ f. f.owner.0) l.list)
