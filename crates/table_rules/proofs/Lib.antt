@@ -2,3 +2,4 @@ pub mod RawLemmas
 pub mod CloseLemmas
 pub mod AskLemmas
 pub mod IndexLemmas
+pub mod AboveLemmas

@@ -1,3 +1,4 @@
 pub mod Marks
 pub mod Closed
 pub mod Asked
+pub mod Above

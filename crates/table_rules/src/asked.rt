@@ -7,8 +7,11 @@ ghost use Rattle.fact_model.specs.InRange.{InRange};
 ghost use Rattle.fact_model.specs.Entries.{IsEntry, IsDeclaredBy, Hides};
 ghost use Rattle.table_rules.specs.Marks.{Marked, AreEntries, Grow};
 ghost use Rattle.table_rules.specs.Closed.{ColumnFlows};
+ghost use Rattle.fact_model.specs.Items.{column_at};
+ghost use Rattle.table_rules.specs.Above.{IsAboveRow, AreAbove};
 ghost use Rattle.table_rules.specs.Asked.{ArePairs, AreAsked, AreHidden, HaveAll, HaveMethods, IsMethod, IsNoted, IsMetAt};
 
+use crate::above::above_of;
 use crate::columns::{hides, is_declared_by, is_method, slot_of};
 use crate::index::{methods_of, place_of};
 use fact_model::Facts;
@@ -64,8 +67,9 @@ fn note_declared(facts: &Facts, asked: &mut [BitRow], d: u32, c: u32)
 }
 
 /// T10 for one pair of columns.
-fn note_hidden(facts: &Facts, hidden: &mut [BitRow], d: u32, c: u32)
+fn note_hidden(facts: &Facts, above: &BitRow, hidden: &mut [BitRow], d: u32, c: u32)
     requires facts { InRange facts.now }
+    requires above { IsAboveRow facts.now (column_at facts.now d).class.0 above.now }
     requires hidden { ArePairs facts.now (Hides facts.now) hidden.old }
     requires lower { d < length facts.now.columns.items }
     requires upper { c < length facts.now.columns.items }
@@ -73,14 +77,22 @@ fn note_hidden(facts: &Facts, hidden: &mut [BitRow], d: u32, c: u32)
     ensures grows { Grow hidden.old hidden.new }
     ensures here { Hides facts.now d c → Marked hidden.new d c }
 {
-    if hides(facts, d, c) {
+    if hides(facts, above, d, c) {
         put_hidden(facts, hidden, d, c);
     }
 }
 
 /// One pair of columns, where the second is one.
-fn note_pair(facts: &Facts, asked: &mut [BitRow], hidden: &mut [BitRow], d: u32, c: usize)
+fn note_pair(
+    facts: &Facts,
+    above: &BitRow,
+    asked: &mut [BitRow],
+    hidden: &mut [BitRow],
+    d: u32,
+    c: usize,
+)
     requires facts { InRange facts.now }
+    requires above { IsAboveRow facts.now (column_at facts.now d).class.0 above.now }
     requires asked { ArePairs facts.now (ColumnFlows facts.now) asked.old }
     requires hidden { ArePairs facts.now (Hides facts.now) hidden.old }
     requires column { d < length facts.now.columns.items }
@@ -92,13 +104,21 @@ fn note_pair(facts: &Facts, asked: &mut [BitRow], hidden: &mut [BitRow], d: u32,
 {
     if c < facts.columns.len() {
         note_declared(facts, asked, d, c as u32);
-        note_hidden(facts, hidden, d, c as u32);
+        note_hidden(facts, above, hidden, d, c as u32);
     }
 }
 
 /// One column with each of a list.
-fn note_each(facts: &Facts, asked: &mut [BitRow], hidden: &mut [BitRow], d: u32, list: &[usize])
+fn note_each(
+    facts: &Facts,
+    above: &BitRow,
+    asked: &mut [BitRow],
+    hidden: &mut [BitRow],
+    d: u32,
+    list: &[usize],
+)
     requires facts { InRange facts.now }
+    requires above { IsAboveRow facts.now (column_at facts.now d).class.0 above.now }
     requires asked { ArePairs facts.now (ColumnFlows facts.now) asked.old }
     requires hidden { ArePairs facts.now (Hides facts.now) hidden.old }
     requires column { d < length facts.now.columns.items }
@@ -109,19 +129,21 @@ fn note_each(facts: &Facts, asked: &mut [BitRow], hidden: &mut [BitRow], d: u32,
     ensures here { All (λ c. c < length facts.now.columns.items → IsNoted facts.now asked.new hidden.new d c) list.now }
 {
     for c in list {
-        note_pair(facts, asked, hidden, d, *c);
+        note_pair(facts, above, asked, hidden, d, *c);
     }
 }
 
 /// One column with those of its slot.
 fn note_column(
     facts: &Facts,
+    above: &[BitRow],
     methods: &[Vec<usize>],
     asked: &mut [BitRow],
     hidden: &mut [BitRow],
     d: u32,
 )
     requires facts { InRange facts.now }
+    requires above { AreAbove facts.now (length facts.now.columns.items) above.now }
     requires methods { HaveMethods facts.now methods.now (length facts.now.columns.items) }
     requires some { 0 < length methods.now }
     requires asked { ArePairs facts.now (ColumnFlows facts.now) asked.old }
@@ -137,12 +159,26 @@ fn note_column(
         return;
     }
     let at = place_of(methods.len(), slot_of(facts, d));
-    note_each(facts, asked, hidden, d, numbers_at(methods, at));
+    note_each(
+        facts,
+        row_at(above, d as usize),
+        asked,
+        hidden,
+        d,
+        numbers_at(methods, at),
+    );
 }
 
 /// Each column with those of its slot.
-fn note_columns(facts: &Facts, methods: &[Vec<usize>], asked: &mut [BitRow], hidden: &mut [BitRow])
+fn note_columns(
+    facts: &Facts,
+    above: &[BitRow],
+    methods: &[Vec<usize>],
+    asked: &mut [BitRow],
+    hidden: &mut [BitRow],
+)
     requires facts { InRange facts.now }
+    requires above { AreAbove facts.now (length facts.now.columns.items) above.now }
     requires methods { HaveMethods facts.now methods.now (length facts.now.columns.items) }
     requires count { length methods.now ≡ length facts.now.columns.items }
     requires asked { ArePairs facts.now (ColumnFlows facts.now) asked.old }
@@ -151,7 +187,7 @@ fn note_columns(facts: &Facts, methods: &[Vec<usize>], asked: &mut [BitRow], hid
     ensures hidden { AreHidden facts.now hidden.new }
 {
     for d in 0..facts.columns.len() as u32 {
-        note_column(facts, methods, asked, hidden, d);
+        note_column(facts, above, methods, asked, hidden, d);
     }
 }
 
@@ -162,10 +198,11 @@ pub fn columns_of(alloc: Global, facts: &Facts) -> Result<Columns, AllocError>
     ensures hidden { IfOk result (λ x. AreHidden facts.now x.hidden.items) }
 {
     let count = facts.columns.len();
+    let above = above_of(alloc, facts)?;
     let methods = methods_of(alloc, facts)?;
     let mut asked = empty_rows(alloc, count, count as u32)?;
     let mut hidden = empty_rows(alloc, count, count as u32)?;
-    note_columns(facts, &methods, &mut asked, &mut hidden);
+    note_columns(facts, &above, &methods, &mut asked, &mut hidden);
     Ok(Columns { asked, hidden })
 }
 

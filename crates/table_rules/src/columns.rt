@@ -3,14 +3,16 @@
 ghost use Rattle.std.specs.Prelude.{◌≡◌, ℕ, ◌<◌, ◌↔◌, ◌⊎◌, true, length, IsTrue};
 ghost use Rattle.kaba_bits.specs.Sets.{bit, row};
 ghost use Rattle.fact_model.specs.Items.{column_at, column_slot, row_at, row_this, site_at, IsColumn};
-ghost use Rattle.fact_model.specs.Classes.{IsStrictlyBelow};
+ghost use Rattle.fact_model.specs.Classes.{IsBelow, IsStrictlyBelow};
 ghost use Rattle.fact_model.specs.InRange.{InRange, IsClass};
 ghost use Rattle.fact_model.specs.Entries.{IsDeclaredBy, Hides};
+ghost use Rattle.table_rules.specs.Above.{IsAboveRow};
 ghost use Rattle.table_rules.specs.Asked.{IsMethod};
 ghost use Rattle.fact_model.specs.declared.facts.ColKind.TheVariants.{Dcl, Def, Is};
 
-use fact_model::{ColKind, ColumnInfo, Facts, SiteInfo, below};
+use fact_model::{ColKind, ColumnInfo, Facts, SiteInfo};
 use kaba_base::{ClassId, ColId};
+use kaba_bits::BitRow;
 
 /// One column.
 fn column_at(facts: &Facts, c: u32) -> &ColumnInfo
@@ -89,13 +91,23 @@ pub fn is_mark(facts: &Facts, class: ClassId, c: u32) -> bool
     is_same_kind(column.kind, ColKind::Is) && is_same_class(column.class, class)
 }
 
-/// Whether a class is strictly below another.
-fn is_strictly_below(facts: &Facts, a: ClassId, b: ClassId) -> bool
+/// Whether a class is at or below another; the row has what is at or above the one.
+fn is_below(facts: &Facts, above: &BitRow, a: ClassId, b: ClassId) -> bool
+    requires above { IsAboveRow facts.now a.0 above.now }
+    requires class { IsClass facts.now b }
+    ensures exact { IsTrue result ↔ IsBelow facts.now a.0 b.0 }
+{
+    above.has(b.0)
+}
+
+/// Whether a class is strictly below another; the row has what is at or above the one.
+fn is_strictly_below(facts: &Facts, above: &BitRow, a: ClassId, b: ClassId) -> bool
     requires facts { InRange facts.now }
-    requires class { IsClass facts.now a }
+    requires above { IsAboveRow facts.now a.0 above.now }
+    requires class { IsClass facts.now b }
     ensures { IsTrue result ↔ IsStrictlyBelow facts.now a.0 b.0 }
 {
-    !is_same_class(a, b) && below(facts, a, b)
+    !is_same_class(a, b) && is_below(facts, above, a, b)
 }
 
 /// Whether the column `c` declares the method whose body `d` is, in the same class.
@@ -112,9 +124,11 @@ pub fn is_declared_by(facts: &Facts, d: u32, c: u32) -> bool
         && is_same_slot(body.slot, other.slot)
 }
 
-/// Whether the column `d` hides the column `c`: members of one kind and slot, the class of `d` strictly below.
-pub fn hides(facts: &Facts, d: u32, c: u32) -> bool
+/// Whether the column `d` hides the column `c`: members of one kind and slot, the class of `d` strictly below. The row has the classes
+/// at or above that of `d`.
+pub fn hides(facts: &Facts, above: &BitRow, d: u32, c: u32) -> bool
     requires facts { InRange facts.now }
+    requires above { IsAboveRow facts.now (column_at facts.now d).class.0 above.now }
     requires lower { d < length facts.now.columns.items }
     requires upper { c < length facts.now.columns.items }
     ensures { IsTrue result ↔ Hides facts.now d c }
@@ -124,5 +138,5 @@ pub fn hides(facts: &Facts, d: u32, c: u32) -> bool
     is_member(lower.kind)
         && is_same_kind(lower.kind, upper.kind)
         && is_same_slot(lower.slot, upper.slot)
-        && is_strictly_below(facts, lower.class, upper.class)
+        && is_strictly_below(facts, above, lower.class, upper.class)
 }

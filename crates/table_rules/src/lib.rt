@@ -2,6 +2,7 @@
 //! the least table that holds them and is closed under the others.
 #![tactic(auto)]
 
+mod above;
 mod asked;
 mod closing;
 mod columns;

@@ -1,0 +1,150 @@
+-- A walk upwards finds the classes at or above one.
+use Rattle.std.proofs.Common.{◌≡◌, ℕ, ◌+◌, ◌<◌, ◌⊎◌, inl, inr, ⊎_elim, Bool, true, false, List, [], ◌∷◌, ◌++◌, length, take, get_or, set, Contains, refl, sym, ap, ◌∙◌, subst, arith}
+use Rattle.std.proofs.lemmas.Bool.{cases_eq}
+use Rattle.std.proofs.lemmas.List.{get_or-set_same, get_or-set_other, length-append, length-set}
+use Rattle.std.proofs.lemmas.List.Elements.{Contains-append_left, Contains-append_right, Contains-push, Contains-push_cases, Contains-append_cases}
+use Rattle.std.proofs.Math.Seq.{take-suc}
+use Rattle.std.proofs.Math.Numerals.{add-one}
+use Rattle.kaba_base.specs.declared.ClassId.{ClassId}
+use Rattle.kaba_bits.specs.Sets.{bit, size}
+use Rattle.kaba_bits.proofs.SetLemmas.{bit-below}
+use Rattle.fact_model.specs.declared.facts.Facts.{Facts}
+use Rattle.fact_model.specs.Classes.{supers_of, IsBelow, same, through}
+use Rattle.fact_model.specs.InRange.{IsClass}
+use Rattle.table_rules.specs.Above.{class_id, IsAboveRow, Gained, Walked}
+
+pub no-member : {X : Type 0} {P : Type 0} (x : X) → Contains ([]) x → P
+no-member x c = let lt = c.1 in absurd (omega (arith, lt))
+
+pub one-member : {X : Type 0} (y x : X) → Contains (y ∷ []) x → y ≡ x
+one-member y x c = ⊎_elim (λ h. no-member x h) (λ e. e) (Contains-push_cases [] y x c)
+
+pub one-is : {X : Type 0} (x : X) → Contains (x ∷ []) x
+one-is x = Contains-push [] x
+
+-- ---- what a row gains
+
+pub gained-none : (r : List Bool) (w : List ClassId) → Gained [] r r w w
+gained-none r w = record {
+  len = refl;
+  kept = λ y h. h;
+  news = λ y h. inl h;
+  settled = λ y h. inl h;
+  told = λ x c. no-member x c;
+  waits = λ y c. c;
+  comes = λ y c. inl c;
+  inside = λ x c. no-member x c;
+  work = omega arith;
+}
+
+pub gained-had : (x : ClassId) (r : List Bool) (w : List ClassId) → bit r x.0 ≡ true → Gained (x ∷ []) r r w w
+gained-had x r w had = record {
+  len = refl;
+  kept = λ y h. h;
+  news = λ y h. inl h;
+  settled = λ y h. inl h;
+  told = λ y c. subst (λ (z : ClassId). bit r z.0 ≡ true) (one-member x y c) had;
+  waits = λ y c. c;
+  comes = λ y c. inl c;
+  inside = λ y c. subst (λ (z : ClassId). z.0 < length r) (one-member x y c) (bit-below r x.0 had);
+  work = omega arith;
+}
+
+set-bits : (r : List Bool) (x y : ℕ) → bit (set r x true) y ≡ true → (bit r y ≡ true) ⊎ (y ≡ x)
+set-bits r x y h = ⊎_elim (λ e. inr e) (λ ne. inl (sym (get_or-set_other r x y true false ne) ∙ h)) (cases_eq y x)
+
+set-kept : (r : List Bool) (x y : ℕ) → x < length r → bit r y ≡ true → bit (set r x true) y ≡ true
+set-kept r x y lt h = ⊎_elim (λ e. subst (λ z. bit (set r x true) z ≡ true) (sym e) (get_or-set_same r x true false lt))
+    (λ ne. get_or-set_other r x y true false ne ∙ h) (cases_eq y x)
+
+pub gained-wait : (x : ClassId) (r : List Bool) (w : List ClassId) → x.0 < length r → size (set r x.0 true) ≡ size r + 1
+    → Gained (x ∷ []) r (set r x.0 true) w (w ++ x ∷ [])
+gained-wait x r w lt more = record {
+  len = length-set r x.0 true;
+  kept = λ y h. set-kept r x.0 y lt h;
+  news = λ y h. ⊎_elim (λ k. inl k) (λ e. inr (subst (λ z. Contains (x ∷ []) (class_id z)) (sym e) (one-is x))) (set-bits r x.0 y h);
+  settled = λ y h. ⊎_elim (λ k. inl k) (λ e. inr (subst (λ z. Contains (w ++ x ∷ []) (class_id z)) (sym e) (Contains-push w x))) (set-bits r x.0 y h);
+  told = λ y c. subst (λ (z : ClassId). bit (set r x.0 true) z.0 ≡ true) (one-member x y c) (get_or-set_same r x.0 true false lt);
+  waits = λ y c. Contains-append_left w (x ∷ []) y c;
+  comes = λ y c. Contains-append_cases w (x ∷ []) y c;
+  inside = λ y c. subst (λ (z : ClassId). z.0 < length r) (one-member x y c) lt;
+  work = let l = length-append w (x ∷ []) in omega (arith, l, more);
+}
+
+pub gained-then : (first second : List ClassId) (r0 r1 r2 : List Bool) (w0 w1 w2 : List ClassId)
+    → Gained first r0 r1 w0 w1 → Gained second r1 r2 w1 w2 → Gained (first ++ second) r0 r2 w0 w2
+gained-then first second r0 r1 r2 w0 w1 w2 g h = record {
+  len = h.len ∙ g.len;
+  kept = λ y k. h.kept y (g.kept y k);
+  news = λ y k. ⊎_elim
+      (λ a. ⊎_elim (λ c. inl c) (λ c. inr (Contains-append_left first second (class_id y) c)) (g.news y a))
+      (λ c. inr (Contains-append_right first second (class_id y) c))
+      (h.news y k);
+  settled = λ y k. ⊎_elim
+      (λ a. ⊎_elim (λ c. inl c) (λ c. inr (h.waits (class_id y) c)) (g.settled y a))
+      (λ c. inr c)
+      (h.settled y k);
+  told = λ x c. ⊎_elim (λ d. h.kept x.0 (g.told x d)) (λ d. h.told x d) (Contains-append_cases first second x c);
+  waits = λ y c. h.waits y (g.waits y c);
+  comes = λ y c. ⊎_elim
+      (λ d. ⊎_elim (λ e. inl e) (λ e. inr (Contains-append_left first second y e)) (g.comes y d))
+      (λ d. inr (Contains-append_right first second y d))
+      (h.comes y c);
+  inside = λ x c. ⊎_elim (λ d. g.inside x d) (λ d. let i = h.inside x d in let l = g.len in omega (arith, i, l)) (Contains-append_cases first second x c);
+  work = let p = g.work in let q = h.work in omega (arith, p, q);
+}
+
+pub gained-more : (xs : List ClassId) (i : ℕ) (d : ClassId) (r0 r1 r2 : List Bool) (w0 w1 w2 : List ClassId) → i < length xs
+    → Gained (take i xs) r0 r1 w0 w1 → Gained (get_or xs i d ∷ []) r1 r2 w1 w2 → Gained (take (i + 1) xs) r0 r2 w0 w2
+gained-more xs i d r0 r1 r2 w0 w1 w2 lt g h =
+    subst (λ l. Gained l r0 r2 w0 w2) (sym (ap (λ k. take k xs) (add-one i) ∙ take-suc xs i d lt))
+    (gained-then (take i xs) (get_or xs i d ∷ []) r0 r1 r2 w0 w1 w2 g h)
+
+-- ---- the walk
+
+module _ (F : Facts) where
+  below-then : {a b c : ℕ} → IsBelow F a b → IsBelow F b c → IsBelow F a c
+  below-then same k = k
+  below-then (through direct rest) k = through direct (below-then rest k)
+
+  pub walked-start : (a : ClassId) (r s : List Bool) (w : List ClassId) → length r ≡ length F.classes.items → ((y : ℕ) → bit r y ≡ true → ⊥) → IsClass F a
+      → Gained (a ∷ []) r s [] w → Walked F a.0 s w
+  walked-start a r s w len none in_range g = record {
+    len = g.len ∙ len;
+    start = g.told a (one-is a);
+    sound = λ y h. ⊎_elim (λ k. absurd (none y k))
+        (λ c. subst (λ z. IsBelow F a.0 z) (ap (λ (z : ClassId). z.0) (one-member a (class_id y) c)) same) (g.news y h);
+    settled = λ y h. ⊎_elim (λ k. absurd (none y k)) (λ c. inl c) (g.settled y h);
+    from = λ y c. ⊎_elim (λ d. no-member y d) (λ d. subst (λ (z : ClassId). IsBelow F a.0 z.0) (one-member a y d) same) (g.comes y c);
+    inside = λ y c. ⊎_elim (λ d. no-member y d) (λ d. subst (IsClass F) (one-member a y d) in_range) (g.comes y c);
+  }
+
+  module _ (a : ℕ) where
+    pub walked-step : (r s : List Bool) (rest after : List ClassId) (x : ClassId) → Walked F a r (rest ++ x ∷ [])
+        → Gained (supers_of F x.0) r s rest after → Walked F a s after
+    walked-step r s rest after x w g = record {
+      len = g.len ∙ w.len;
+      start = g.kept a w.start;
+      sound = λ y h. ⊎_elim (λ k. w.sound y k) (λ k. below-then here (through {c = class_id y} k same)) (g.news y h);
+      settled = λ y h. ⊎_elim (λ k. old y (w.settled y k)) (λ c. inl c) (g.settled y h);
+      from = λ y c. ⊎_elim (λ d. w.from y (Contains-append_left rest (x ∷ []) y d)) (λ d. below-then here (through {c = y} d same)) (g.comes y c);
+      inside = λ y c. ⊎_elim (λ d. w.inside y (Contains-append_left rest (x ∷ []) y d)) (λ d. let i = g.inside y d in let l = w.len in omega
+          (arith, i, l)) (g.comes y c);
+    }
+      where
+        here : IsBelow F a x.0
+        here = w.from x (Contains-push rest x)
+
+        old : (y : ℕ) → Contains (rest ++ x ∷ []) (class_id y) ⊎ ((z : ClassId) → Contains (supers_of F y) z → bit r z.0 ≡ true)
+            → Contains after (class_id y) ⊎ ((z : ClassId) → Contains (supers_of F y) z → bit s z.0 ≡ true)
+        old y (inl c) = ⊎_elim (λ d. inl (g.waits (class_id y) d))
+            (λ e. inr (λ z d. g.told z (subst (λ (v : ClassId). Contains (supers_of F v.0) z) (sym e) d))) (Contains-push_cases rest x (class_id y) c)
+        old y (inr c) = inr (λ z d. g.kept z.0 (c z d))
+
+  pub walked-end : (a : ℕ) (r : List Bool) → Walked F a r [] → IsAboveRow F a r
+  walked-end a r w = record { len = w.len; sound = w.sound; whole = λ b h. reached w.start h }
+    where
+      reached : {x y : ℕ} → bit r x ≡ true → IsBelow F x y → bit r y ≡ true
+      reached e same = e
+      reached e (through {a = x} {c = c} direct rest) =
+          reached (⊎_elim (λ k. no-member (class_id x) k) (λ closed. closed c direct) (w.settled x e)) rest

@@ -1,0 +1,7 @@
+use Rattle.std.proofs.Common.{take}
+use Rattle.table_rules.specs.Above.{Gained}
+use Rattle.table_rules.proofs.above.reach_all.Given as goal
+
+-- the first of them are in the row
+abbrev pub invariant-loop-x : goal.invariant-loop-x
+invariant-loop-x l = Gained (take l.x-index l.more) l.initial.row l.row l.initial.waiting.items l.waiting.items

@@ -1,0 +1,11 @@
+use Rattle.std.proofs.Common.{◌+◌, ◌-◌, length}
+use Rattle.kaba_bits.specs.Sets.{size}
+use Rattle.table_rules.specs.Above.{Walked}
+use Rattle.table_rules.proofs.above.walk.Given as goal
+
+abbrev pub invariant-walk : goal.invariant-walk
+invariant-walk l = Walked l.facts l.fn.a.0 l.row l.waiting.items
+
+-- each class waits once
+abbrev pub decreases-walk : goal.decreases-walk
+decreases-walk l = length l.waiting.items + (length l.facts.classes.items - size l.row)
