@@ -1,5 +1,5 @@
 -- What a site begins: where it was found and what was found is closed, the sets are closed for it.
-use Rattle.std.proofs.Common.{◌≡◌, ℕ, ◌+◌, ◌<◌, Bool, true, false, List, [], length, Some, Contains, refl, sym, subst, arith}
+use Rattle.std.proofs.Common.{◌≡◌, ℕ, Bool, true, false, List, [], Contains, subst, arith}
 use Rattle.std.specs.Bool.{OnFalse}
 use Rattle.std.specs.List.{All}
 use Rattle.std.proofs.lemmas.List.Elements.{All-contains}
@@ -11,8 +11,8 @@ use Rattle.fact_model.specs.declared.facts.StoreInfo.{StoreInfo}
 use Rattle.fact_model.specs.declared.facts.CallInfo.{CallInfo}
 use Rattle.fact_model.specs.declared.facts.BodyInfo.{BodyInfo}
 use Rattle.points_to.specs.Work.{IsEdgeClosed, IsShown, cell_edge}
-use Rattle.points_to.specs.Begun.{begins_at, numbers_at, IsAt, IsIndex, IsRun, IsRunAt, AreRun, IsBegun, AreBegun, IsBegunAt}
-use Rattle.points_to.specs.Closed.{AreFixed, IsNewAsked, IsFlowAsked, IsCastAsked, IsPointClosed}
+use Rattle.points_to.specs.Begun.{begins_at, numbers_at, IsAt, IsIndex, IsRun, IsRunAt, AreRun, IsBegun, IsBegunAt}
+use Rattle.points_to.specs.Closed.{AreFixed, IsPointClosed}
 use Rattle.points_to.specs.declared.work.Edge.{Edge}
 use Rattle.points_to.specs.declared.work.Told.{Told}
 use Rattle.points_to.specs.declared.found.Use.TheVariants.{Read, Write}

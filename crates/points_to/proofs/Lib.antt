@@ -6,3 +6,4 @@ pub mod IndexLemmas
 pub mod BegunLemmas
 pub mod SolveLemmas
 pub mod ChainLemmas
+pub mod AboveLemmas

@@ -1,5 +1,5 @@
 -- Loops: one element on, and at their end.
-use Rattle.std.proofs.Common.{◌≡◌, ℕ, ◌+◌, ◌<◌, ◌≤◌, Bool, true, false, List, length, get_or, Option, Some, None, MatchOption, Contains, arith, subst, ⊎_elim}
+use Rattle.std.proofs.Common.{◌≡◌, ℕ, ◌+◌, ◌<◌, ◌≤◌, Bool, true, false, List, length, get_or, Option, Some, None, MatchOption, arith, subst, ⊎_elim}
 use Rattle.std.specs.Bool.{OnFalse}
 use Rattle.std.specs.List.{All, AllWithin}
 use Rattle.std.specs.Option.{IfSome}
@@ -36,35 +36,53 @@ more_same a = record { edges = λ x h. h; told = λ x h. h }
 pub more_then : (a b c : Found) → IsMore a b → IsMore b c → IsMore a c
 more_then a b c p q = record { edges = λ x h. q.edges x (p.edges x h); told = λ x h. q.told x (p.told x h) }
 
--- the least number from one on, by what is asked of it
+-- the least number below n, from one on, that passes a test, by what is asked of it
+module _ (p : ℕ → Bool) (n w at : ℕ) (len : n ≡ w) where
+  pub least_low : (found : Option ℕ) → MatchOption found (IsNoneFrom p at n) (IsLeastFrom p at) → IfSome found (λ s. at ≤ s)
+  least_low None x = tt
+  least_low (Some s) x = x.low
+
+  pub least_holds : (P : ℕ → Type 0) → ((s : ℕ) → p s ≡ true → P s) → (found : Option ℕ) → MatchOption found (IsNoneFrom p at n) (IsLeastFrom p at)
+      → IfSome found P
+  least_holds P f None x = tt
+  least_holds P f (Some s) x = f s x.holds
+
+  pub least_none : (found : Option ℕ) → MatchOption found (IsNoneFrom p at n) (IsLeastFrom p at)
+      → MatchOption found (IsNoneFrom p at w) (λ s. IsNoneFrom p at s)
+  least_none None x = λ k low lt. x k low (omega (arith, lt, len))
+  least_none (Some s) x = x.least
+
+-- the same of a set
 module _ (set : List Bool) (w at : ℕ) (len : length set ≡ w) where
   pub next_low : (found : Option ℕ) → MatchOption found (IsNoneFrom (bit set) at (length set)) (IsLeastFrom (bit set) at) → IfSome found (λ s. at ≤ s)
-  next_low None x = tt
-  next_low (Some s) x = x.low
+  next_low = least_low (bit set) (length set) w at len
 
   pub next_below : (found : Option ℕ) → MatchOption found (IsNoneFrom (bit set) at (length set)) (IsLeastFrom (bit set) at) → IfSome found (λ s. s < w)
-  next_below None x = tt
-  next_below (Some s) x = omega (arith, bit-below set s x.holds, len)
+  next_below = least_holds (bit set) (length set) w at len (λ s. s < w) (λ s h. omega (arith, bit-below set s h, len))
 
   pub next_holds : (P : ℕ → Type 0) → ((s : ℕ) → bit set s ≡ true → P s) → (found : Option ℕ)
       → MatchOption found (IsNoneFrom (bit set) at (length set)) (IsLeastFrom (bit set) at) → IfSome found P
-  next_holds P f None x = tt
-  next_holds P f (Some s) x = f s x.holds
+  next_holds = least_holds (bit set) (length set) w at len
 
   pub next_least : (found : Option ℕ) → MatchOption found (IsNoneFrom (bit set) at (length set)) (IsLeastFrom (bit set) at)
       → MatchOption found (IsNoneFrom (bit set) at w) (λ s. IsNoneFrom (bit set) at s)
-  next_least None x = λ k low lt. x k low (omega (arith, lt, len))
-  next_least (Some s) x = x.least
+  next_least = least_none (bit set) (length set) w at len
 
--- a pass over a set by the least number from each on
+-- a pass over the numbers below w by the least that passes a test
+module _ (P : ℕ → Type 0) (p : ℕ → Bool) (at : ℕ) (out : (k : ℕ) → p k ≡ false → P k) where
+  pub pass_to : (s : ℕ) (g : Bool) → IsNoneFrom p at s → OnFalse g ((k : ℕ) → k < at → P k) → OnFalse g ((k : ℕ) → k < s → P k)
+  pass_to s true none before = tt
+  pass_to s false none before = λ k lt. ⊎_elim (λ b. before k b) (λ past. out k (none k past lt)) (cases_lt k at)
+
+  pub pass_all : (w : ℕ) (g : Bool) → ((k : ℕ) → w ≤ k → P k) → IsNoneFrom p at w → OnFalse g ((k : ℕ) → k < at → P k) → OnFalse g ((k : ℕ) → P k)
+  pass_all w true rest none before = tt
+  pass_all w false rest none before = λ k.
+      ⊎_elim (λ b. before k b) (λ past. ⊎_elim (λ lt. out k (none k past lt)) (λ ge. rest k ge) (cases_lt k w)) (cases_lt k at)
+
+-- the same over a set
 module _ (P : ℕ → Type 0) (set : List Bool) (at : ℕ) (out : (k : ℕ) → bit set k ≡ false → P k) where
   pub skip_to : (s : ℕ) (g : Bool) → IsNoneFrom (bit set) at s → OnFalse g ((k : ℕ) → k < at → P k) → OnFalse g ((k : ℕ) → k < s → P k)
-  skip_to s true none before = tt
-  skip_to s false none before = λ k lt. ⊎_elim (λ b. before k b) (λ past. out k (none k past lt)) (cases_lt k at)
+  skip_to = pass_to P (bit set) at out
 
   pub skip_all : (w : ℕ) (g : Bool) → length set ≡ w → IsNoneFrom (bit set) at w → OnFalse g ((k : ℕ) → k < at → P k) → OnFalse g ((k : ℕ) → P k)
-  skip_all w true len none before = tt
-  skip_all w false len none before = λ k.
-      ⊎_elim (λ b. before k b)
-      (λ past. out k (⊎_elim (λ lt. none k past lt) (λ ge. get_or_past set k false (omega (arith, len, ge))) (cases_lt k w)))
-      (cases_lt k at)
+  skip_all w g len = pass_all P (bit set) at out w g (λ k ge. out k (get_or_past set k false (omega (arith, len, ge))))

@@ -11,6 +11,7 @@ use Rattle.fact_model.specs.declared.facts.LoadInfo.{LoadInfo}
 use Rattle.fact_model.specs.declared.facts.StoreInfo.{StoreInfo}
 use Rattle.fact_model.specs.declared.facts.CallInfo.{CallInfo}
 use Rattle.fact_model.specs.declared.facts.BodyInfo.{BodyInfo}
+use Rattle.points_to.specs.Above.{AreSitesAbove}
 use Rattle.points_to.specs.Work.{cell_edge, between}
 use Rattle.points_to.specs.declared.work.Edge.{Edge}
 use Rattle.points_to.specs.declared.work.Told.{Told}
@@ -61,6 +62,7 @@ pub record IsIndex (F : Facts) (index : Index) : Type 0 where
   pub calls : HaveCalls F index.begins.items (length F.calls.items)
   pub cells : HaveCells F index.cells.items (length F.cells.items)
   pub bodies : HaveBodies F index.bodies.items (length F.bodies.items)
+  pub above : AreSitesAbove F (length F.sites.items) index.above.items
 
 -- where argument and parameter are points, the one is in the other
 abbrev pub HasArgument : (Edge → Type 0) → List (Option ℕ) → List (Option ℕ) → ℕ → Type 0

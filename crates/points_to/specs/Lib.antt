@@ -3,3 +3,4 @@ pub mod Closed
 pub mod Work
 pub mod Begun
 pub mod Chains
+pub mod Above

@@ -1,5 +1,5 @@
 -- Sets so far: they show only what holds.
-use Rattle.std.specs.Prelude.{◌≡◌, ℕ, ◌+◌, ◌-◌, ◌<◌, Bool, true, cond, nat_lt, List, length}
+use Rattle.std.specs.Prelude.{◌≡◌, ℕ, ◌+◌, ◌-◌, Bool, true, cond, nat_lt, List, length}
 use Rattle.kaba_bits.specs.Sets.{bit, row, HasWidth}
 use Rattle.fact_model.specs.Flowing.{Fact, in_point, in_cell, Holds, IsInRow}
 use Rattle.fact_model.specs.declared.facts.Facts.{Facts}

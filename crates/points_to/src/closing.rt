@@ -4,6 +4,7 @@ ghost use Rattle.std.specs.Prelude.{◌≡◌, ℕ, ◌<◌, length, All, Contai
 ghost use Rattle.std.specs.Bool.{OnFalse};
 ghost use Rattle.kaba_bits.specs.Sets.{IsStep};
 ghost use Rattle.fact_model.specs.InRange.{InRange};
+ghost use Rattle.points_to.specs.Above.{AreSitesAbove};
 ghost use Rattle.points_to.specs.Sound.{AreSound};
 ghost use Rattle.points_to.specs.Chains.{AreBodies};
 ghost use Rattle.points_to.specs.Work.{AreFound, IsEdge, IsTold, IsEdgeClosed, IsShown};
@@ -20,8 +21,9 @@ use kaba_bits::{BitRow, row_at};
 use std::alloc::{AllocError, Global};
 
 /// Each inclusion of a list.
-fn close_edges(facts: &Facts, sets: &mut [BitRow], edges: &[Edge]) -> bool
+fn close_edges(facts: &Facts, above: &[BitRow], sets: &mut [BitRow], edges: &[Edge]) -> bool
     requires facts { InRange facts.now }
+    requires above { AreSitesAbove facts.now (length facts.now.sites.items) above.now }
     requires sets { AreSound facts.now sets.old }
     requires edges { All (IsEdge facts.now) edges.now }
     ensures sets { AreSound facts.now sets.new }
@@ -30,7 +32,7 @@ fn close_edges(facts: &Facts, sets: &mut [BitRow], edges: &[Edge]) -> bool
 {
     let mut grew = false;
     for x in edges {
-        grew |= pass(facts, sets, *x);
+        grew |= pass(facts, above, sets, *x);
     }
     grew
 }
@@ -51,8 +53,9 @@ fn close_told(facts: &Facts, sets: &mut [BitRow], told: &[Told]) -> bool
 }
 
 /// What was found.
-fn close(facts: &Facts, sets: &mut [BitRow], found: &Found) -> bool
+fn close(facts: &Facts, above: &[BitRow], sets: &mut [BitRow], found: &Found) -> bool
     requires facts { InRange facts.now }
+    requires above { AreSitesAbove facts.now (length facts.now.sites.items) above.now }
     requires sets { AreSound facts.now sets.old }
     requires found { AreFound facts.now found.now }
     ensures sets { AreSound facts.now sets.new }
@@ -60,7 +63,7 @@ fn close(facts: &Facts, sets: &mut [BitRow], found: &Found) -> bool
     ensures edges { OnFalse result (All (IsEdgeClosed facts.now sets.new) found.now.edges.items) }
     ensures told { OnFalse result (All (IsShown sets.new) found.now.told.items) }
 {
-    let edges = close_edges(facts, sets, &found.edges);
+    let edges = close_edges(facts, above, sets, &found.edges);
     let told = close_told(facts, sets, &found.told);
     edges | told
 }
@@ -89,7 +92,7 @@ fn close_point(
     let sites = row_at(sets, p as usize).rising(alloc)?;
     let mut found = nothing(alloc);
     begin_sites(facts, index, bodies, sets, &mut found, p, &sites)?;
-    Ok(close(facts, sets, &found))
+    Ok(close(facts, &index.above, sets, &found))
 }
 
 /// What the sites in each point begin. An error comes only for want of memory.
@@ -135,7 +138,7 @@ pub fn close_all(
     ensures step { IfOk result (IsStep sets.old sets.new) }
     ensures closed { IfOk result (λ grew. OnFalse grew (AreClosed facts.now index.now sets.new)) }
 {
-    let first = close(facts, sets, fixed);
+    let first = close(facts, &index.above, sets, fixed);
     let rest = close_points(alloc, facts, index, bodies, sets)?;
     Ok(first | rest)
 }

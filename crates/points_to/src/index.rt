@@ -11,7 +11,9 @@ ghost use Rattle.points_to.specs.declared.index.Begin.{Begin};
 ghost use Rattle.points_to.specs.declared.index.Begin.TheVariants.{Load, Store, Call};
 ghost use Rattle.points_to.specs.Begun.{begins_at, numbers_at, IsAt, IsIndex, HaveLoads, HaveStores, HaveCalls, HaveCells, HaveBodies, KeepBegins, KeepNumbers};
 
+use crate::above::above_sites;
 use fact_model::{BodyInfo, CallInfo, CellInfo, Facts, LoadInfo, StoreInfo};
+use kaba_bits::BitRow;
 use std::alloc::{AllocError, Global};
 
 /// A load, a store or a call by its number.
@@ -22,12 +24,14 @@ pub enum Begin {
     Call(usize),
 }
 
-/// Loads, stores and calls by their base or receiver, numbers of cells by their site, and of bodies by their column.
+/// Loads, stores and calls by their base or receiver, numbers of cells by their site, and of bodies by their column, and
+/// the classes at or above that of each site.
 #[derive(Drop)]
 pub struct Index {
     pub begins: Vec<Vec<Begin>>,
     pub cells: Vec<Vec<usize>>,
     pub bodies: Vec<Vec<usize>>,
+    pub above: Vec<BitRow>,
 }
 
 /// One load.
@@ -218,9 +222,11 @@ pub fn index_of(alloc: Global, facts: &Facts) -> Result<Index, AllocError>
     note_begins(facts, &mut begins)?;
     note_cells(facts, &mut cells)?;
     note_bodies(facts, &mut bodies)?;
+    let above = above_sites(alloc, facts)?;
     Ok(Index {
         begins,
         cells,
         bodies,
+        above,
     })
 }

@@ -15,6 +15,7 @@ use fact_model::{Facts, PointsTo};
 use kaba_bits::{BitRow, empty_rows};
 use std::alloc::{AllocError, Global};
 
+mod above;
 mod begins;
 mod bodies;
 mod closing;
@@ -25,6 +26,7 @@ mod turns;
 mod unions;
 mod work;
 
+pub use above::{classes_above, is_below};
 pub use bodies::{Bodies, bodies_of, find_body};
 use closing::close_all;
 use fixed::fixed;

@@ -2,6 +2,7 @@
 
 ghost use Rattle.std.specs.Prelude.{◌≡◌, ℕ, ◌<◌, [], length, All, Some, IfSome, IfOk, OnOk};
 ghost use Rattle.fact_model.specs.InRange.{InRange};
+ghost use Rattle.points_to.specs.Above.{AreSitesAbove};
 ghost use Rattle.points_to.specs.Sound.{AreSound};
 ghost use Rattle.points_to.specs.Chains.{AreBodies};
 ghost use Rattle.points_to.specs.Work.{AreFound, IsEdge, IsTold};
@@ -108,11 +109,13 @@ fn keep(facts: &Facts, lists: &mut Lists, x: Edge) -> Result<(), AllocError>
 /// An inclusion that was found: what is there is passed on, and it is kept. An error comes only for want of memory.
 fn take_edge(
     facts: &Facts,
+    above: &[BitRow],
     sets: &mut [BitRow],
     lists: &mut Lists,
     x: Edge,
 ) -> Result<(), AllocError>
     requires facts { InRange facts.now }
+    requires above { AreSitesAbove facts.now (length facts.now.sites.items) above.now }
     requires sets { AreSound facts.now sets.old }
     requires edges { All (IsEdge facts.now) lists.old.edges.items }
     requires edge { IsEdge facts.now x }
@@ -123,7 +126,7 @@ fn take_edge(
         return Ok(());
     }
     keep(facts, lists, x)?;
-    if pass(facts, sets, x) {
+    if pass(facts, above, sets, x) {
         wake(lists, x.to)?;
     }
     Ok(())
@@ -132,11 +135,13 @@ fn take_edge(
 /// Each inclusion of a list. An error comes only for want of memory.
 fn take_edges(
     facts: &Facts,
+    above: &[BitRow],
     sets: &mut [BitRow],
     lists: &mut Lists,
     list: &[Edge],
 ) -> Result<(), AllocError>
     requires facts { InRange facts.now }
+    requires above { AreSitesAbove facts.now (length facts.now.sites.items) above.now }
     requires sets { AreSound facts.now sets.old }
     requires edges { All (IsEdge facts.now) lists.old.edges.items }
     requires list { All (IsEdge facts.now) list.now }
@@ -144,7 +149,7 @@ fn take_edges(
     ensures edges { OnOk result (All (IsEdge facts.now) lists.new.edges.items) }
 {
     for x in list {
-        take_edge(facts, sets, lists, *x)?;
+        take_edge(facts, above, sets, lists, *x)?;
     }
     Ok(())
 }
@@ -174,18 +179,20 @@ fn take_told(
 /// What was found. An error comes only for want of memory.
 fn take(
     facts: &Facts,
+    above: &[BitRow],
     sets: &mut [BitRow],
     lists: &mut Lists,
     found: &Found,
 ) -> Result<(), AllocError>
     requires facts { InRange facts.now }
+    requires above { AreSitesAbove facts.now (length facts.now.sites.items) above.now }
     requires sets { AreSound facts.now sets.old }
     requires edges { All (IsEdge facts.now) lists.old.edges.items }
     requires found { AreFound facts.now found.now }
     ensures sets { OnOk result (AreSound facts.now sets.new) }
     ensures edges { OnOk result (All (IsEdge facts.now) lists.new.edges.items) }
 {
-    take_edges(facts, sets, lists, &found.edges)?;
+    take_edges(facts, above, sets, lists, &found.edges)?;
     take_told(facts, sets, lists, &found.told)?;
     Ok(())
 }
@@ -236,8 +243,15 @@ fn list_news(set: &BitRow, begun: &BitRow, news: &mut Vec<u32>) -> Result<(), Al
 }
 
 /// Sites that are new in a set along an inclusion that asks for a class, and whether one is new where it ends.
-fn pass_news(facts: &Facts, sets: &mut [BitRow], edge: Edge, class: ClassId, news: &[u32]) -> bool
-    requires facts { InRange facts.now }
+fn pass_news(
+    facts: &Facts,
+    above: &[BitRow],
+    sets: &mut [BitRow],
+    edge: Edge,
+    class: ClassId,
+    news: &[u32],
+) -> bool
+    requires above { AreSitesAbove facts.now (length facts.now.sites.items) above.now }
     requires sets { AreSound facts.now sets.old }
     requires edge { IsEdge facts.now edge }
     requires class { edge.class ≡ Some class }
@@ -245,21 +259,22 @@ fn pass_news(facts: &Facts, sets: &mut [BitRow], edge: Edge, class: ClassId, new
 {
     let mut grew = false;
     for s in news {
-        grew |= pass_site(facts, sets, edge, class, *s);
+        grew |= pass_site(facts, above, sets, edge, class, *s);
     }
     grew
 }
 
 /// What is in a set along one of its inclusions, or where that asks for a class what is new, and whether it is new where it ends.
-fn pass_on(facts: &Facts, sets: &mut [BitRow], edge: Edge, news: &[u32]) -> bool
+fn pass_on(facts: &Facts, above: &[BitRow], sets: &mut [BitRow], edge: Edge, news: &[u32]) -> bool
     requires facts { InRange facts.now }
+    requires above { AreSitesAbove facts.now (length facts.now.sites.items) above.now }
     requires sets { AreSound facts.now sets.old }
     requires edge { IsEdge facts.now edge }
     ensures { AreSound facts.now sets.new }
 {
     match edge.class {
-        Some(class) => pass_news(facts, sets, edge, class, news),
-        None => pass(facts, sets, edge),
+        Some(class) => pass_news(facts, above, sets, edge, class, news),
+        None => pass(facts, above, sets, edge),
     }
 }
 
@@ -272,12 +287,14 @@ fn noted_at(lists: &Lists, n: usize, k: usize) -> usize {
 /// What is in a set along each inclusion that begins there. An error comes only for want of memory.
 fn pass_all(
     facts: &Facts,
+    above: &[BitRow],
     sets: &mut [BitRow],
     lists: &mut Lists,
     n: usize,
     news: &[u32],
 ) -> Result<(), AllocError>
     requires facts { InRange facts.now }
+    requires above { AreSitesAbove facts.now (length facts.now.sites.items) above.now }
     requires sets { AreSound facts.now sets.old }
     requires edges { All (IsEdge facts.now) lists.old.edges.items }
     ensures sets { OnOk result (AreSound facts.now sets.new) }
@@ -286,7 +303,7 @@ fn pass_all(
     for k in 0..numbers_at(&lists.of_sets, n).len() {
         let at = noted_at(lists, n, k);
         if let Some(edge) = edge_at(facts, lists, at) {
-            if pass_on(facts, sets, edge, news) {
+            if pass_on(facts, above, sets, edge, news) {
                 wake(lists, edge.to)?;
             }
         }
@@ -316,7 +333,7 @@ fn begin_news(
     if p < facts.points.len() && begins_at(&index.begins, p).len() > 0 {
         let mut found = nothing(alloc);
         begin_sites(facts, index, bodies, sets, &mut found, p as u32, news)?;
-        take(facts, sets, lists, &found)?;
+        take(facts, &index.above, sets, lists, &found)?;
     }
     Ok(())
 }
@@ -340,7 +357,7 @@ fn turn(
     ensures edges { OnOk result (All (IsEdge facts.now) lists.new.edges.items) }
 {
     let news = take_news(alloc, index, sets, lists, n)?;
-    pass_all(facts, sets, lists, n, &news)?;
+    pass_all(facts, &index.above, sets, lists, n, &news)?;
     begin_news(alloc, facts, index, bodies, sets, lists, n, &news)?;
     Ok(())
 }
@@ -415,7 +432,7 @@ pub fn grow(
     ensures { OnOk result (AreSound facts.now sets.new) }
 {
     let mut lists = empty_lists(alloc, facts)?;
-    take(facts, sets, &mut lists, fixed)?;
+    take(facts, &index.above, sets, &mut lists, fixed)?;
     run(alloc, facts, index, bodies, sets, &mut lists)?;
     Ok(())
 }

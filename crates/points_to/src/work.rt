@@ -6,10 +6,12 @@ ghost use Rattle.kaba_bits.specs.Sets.{bit, row, IsSubset, IsStep, IsNoneFrom};
 ghost use Rattle.fact_model.specs.Items.{site_at, site_class};
 ghost use Rattle.fact_model.specs.Classes.{IsBelow};
 ghost use Rattle.fact_model.specs.InRange.{InRange};
+ghost use Rattle.points_to.specs.Above.{AreSitesAbove};
 ghost use Rattle.points_to.specs.Sound.{node_count, AreSound, InNode};
 ghost use Rattle.points_to.specs.Work.{Passes, IsEdge, IsPassed, IsEdgeClosed, IsTold, IsShown};
 
-use fact_model::{Facts, SiteInfo, below};
+use crate::above::is_below;
+use fact_model::{Facts, SiteInfo};
 use kaba_base::ClassId;
 use kaba_bits::{BitRow, join, row_at, set_at};
 
@@ -37,16 +39,21 @@ pub fn site_at(facts: &Facts, s: u32) -> SiteInfo
     facts.sites[s as usize]
 }
 
-/// Whether a site is in a set, and its class is at or below another.
-fn passes(facts: &Facts, set: &BitRow, s: u32, class: ClassId) -> bool
-    requires facts { InRange facts.now }
+/// Whether a site is in a set, and its class is at or below another. The rows have what is at or above the class of each site.
+fn passes(facts: &Facts, above: &[BitRow], set: &BitRow, s: u32, class: ClassId) -> bool
+    requires above { AreSitesAbove facts.now (length facts.now.sites.items) above.now }
     requires width { length set.now ≡ length facts.now.sites.items }
     ensures { IsTrue result ↔ ((bit set.now s ≡ true) × IsBelow facts.now (site_class facts.now s) class.0) }
 {
     if (s as usize) >= facts.sites.len() || !set.has(s) {
         return false;
     }
-    below(facts, site_at(facts, s).class, class)
+    is_below(
+        facts,
+        row_at(above, s as usize),
+        site_at(facts, s).class,
+        class,
+    )
 }
 
 /// One site into a set, and whether it is new there.
@@ -88,8 +95,15 @@ fn next_site(facts: &Facts, sets: &[BitRow], n: usize, at: u32) -> Option<u32>
 }
 
 /// One site along an inclusion that asks for a class.
-pub fn pass_site(facts: &Facts, sets: &mut [BitRow], edge: Edge, class: ClassId, s: u32) -> bool
-    requires facts { InRange facts.now }
+pub fn pass_site(
+    facts: &Facts,
+    above: &[BitRow],
+    sets: &mut [BitRow],
+    edge: Edge,
+    class: ClassId,
+    s: u32,
+) -> bool
+    requires above { AreSitesAbove facts.now (length facts.now.sites.items) above.now }
     requires sets { AreSound facts.now sets.old }
     requires edge { IsEdge facts.now edge }
     requires class { edge.class ≡ Some class }
@@ -97,15 +111,22 @@ pub fn pass_site(facts: &Facts, sets: &mut [BitRow], edge: Edge, class: ClassId,
     ensures step { IsStep sets.old sets.new result }
     ensures closed { OnFalse result (IsPassed facts.now edge sets.new s) }
 {
-    if !passes(facts, row_at(sets, edge.from), s, class) {
+    if !passes(facts, above, row_at(sets, edge.from), s, class) {
         return false;
     }
     put(facts, sets, edge.to, s)
 }
 
 /// Each site of a set along an inclusion that asks for a class.
-fn pass_fitting(facts: &Facts, sets: &mut [BitRow], edge: Edge, class: ClassId) -> bool
+fn pass_fitting(
+    facts: &Facts,
+    above: &[BitRow],
+    sets: &mut [BitRow],
+    edge: Edge,
+    class: ClassId,
+) -> bool
     requires facts { InRange facts.now }
+    requires above { AreSitesAbove facts.now (length facts.now.sites.items) above.now }
     requires sets { AreSound facts.now sets.old }
     requires edge { IsEdge facts.now edge }
     requires class { edge.class ≡ Some class }
@@ -119,7 +140,7 @@ fn pass_fitting(facts: &Facts, sets: &mut [BitRow], edge: Edge, class: ClassId) 
     'scan: while at < width {
         match next_site(facts, sets, edge.from, at) {
             Some(s) => {
-                grew |= pass_site(facts, sets, edge, class, s);
+                grew |= pass_site(facts, above, sets, edge, class, s);
                 at = s + 1;
             }
             None => return grew,
@@ -129,8 +150,9 @@ fn pass_fitting(facts: &Facts, sets: &mut [BitRow], edge: Edge, class: ClassId) 
 }
 
 /// What is in the set so far along an inclusion, and whether it is new there.
-pub fn pass(facts: &Facts, sets: &mut [BitRow], edge: Edge) -> bool
+pub fn pass(facts: &Facts, above: &[BitRow], sets: &mut [BitRow], edge: Edge) -> bool
     requires facts { InRange facts.now }
+    requires above { AreSitesAbove facts.now (length facts.now.sites.items) above.now }
     requires sets { AreSound facts.now sets.old }
     requires edge { IsEdge facts.now edge }
     ensures sets { AreSound facts.now sets.new }
@@ -138,7 +160,7 @@ pub fn pass(facts: &Facts, sets: &mut [BitRow], edge: Edge) -> bool
     ensures closed { OnFalse result (IsEdgeClosed facts.now sets.new edge) }
 {
     match edge.class {
-        Some(class) => pass_fitting(facts, sets, edge, class),
+        Some(class) => pass_fitting(facts, above, sets, edge, class),
         None => include(facts, sets, edge.from, edge.to),
     }
 }

@@ -1,5 +1,5 @@
 -- Pairs of columns that were noted, and what rows have met: one step on.
-use Rattle.std.proofs.Common.{◌≡◌, ℕ, ◌<◌, Bool, true, List, length, ◌||◌, Contains, sym, subst, ◌∙◌, ⊎_elim, inl, inr}
+use Rattle.std.proofs.Common.{◌≡◌, ℕ, ◌<◌, ◌≤◌, Bool, true, false, not, List, length, ◌||◌, ◌&&◌, Contains, refl, sym, subst, ◌∙◌, ⊎_elim, inl, inr, arith}
 use Rattle.std.specs.List.{All}
 use Rattle.std.specs.declared.vec.Vec.{Vec}
 use Rattle.std.specs.declared.alloc.Global.{Global}
@@ -13,7 +13,8 @@ use Rattle.fact_model.specs.Items.{column_slot}
 use Rattle.points_to.specs.Begun.{numbers_at}
 use Rattle.table_rules.specs.Marks.{Marked, Grow, AreEntries}
 use Rattle.table_rules.specs.Closed.{ColumnFlows}
-use Rattle.table_rules.specs.Asked.{ArePairs, AreAsked, IsMethod, HaveMethods, place_of, IsNoted, IsMetAt}
+use Rattle.table_rules.specs.Asked.{ArePairs, AreAsked, IsMethod, HaveMethods, place_of, IsNoted, IsMetAt, IsPlain}
+use Rattle.table_rules.proofs.CloseLemmas.{marked-column}
 
 module _ (F : Facts) (a b : List (List Bool)) (grows : Grow a b) where
   pub noted_more : (h k : List (List Bool)) (d c : ℕ) → Grow h k → IsNoted F a h d c → IsNoted F b k d c
@@ -79,3 +80,17 @@ module _ (F : Facts) (asked hidden : List (List Bool)) (d : ℕ) where
       each m same =
           All-contains (λ k. k < length F.columns.items → IsNoted F asked hidden d k) (numbers_at methods (place_of (length methods) (column_slot F d))) c all
           (subst (λ s. Contains (numbers_at methods (place_of (length methods) s)) c) (sym same) (have c lt m)) lt
+
+-- what a row has is met for a column that hides nothing, and for one past the last
+module _ (F : Facts) (rows asked : List (List Bool)) (q : ℕ) where
+  pub met-plain : (plain : List Bool) → AreEntries F rows → IsPlain F plain → (d : ℕ) → (bit (row rows q) d && not (bit plain d)) ≡ false
+      → IsMetAt F rows asked q d
+  met-plain plain are is d out has c by h =
+      absurd (is.none d c (cleared (bit plain d) (subst (λ x. (x && not (bit plain d)) ≡ false) has out)) (marked-column (length F.columns.items) rows q c are.widths h) by)
+    where
+      cleared : (b : Bool) → (true && not b) ≡ false → b ≡ true
+      cleared true e = refl
+      cleared false e = sym e
+
+  pub met-past : AreEntries F rows → (d : ℕ) → length F.columns.items ≤ d → IsMetAt F rows asked q d
+  met-past are d past has c by h = absurd (omega (arith, past, marked-column (length F.columns.items) rows q d are.widths has))

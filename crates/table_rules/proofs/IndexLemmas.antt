@@ -1,17 +1,21 @@
 -- Lists by slot and by body, one number on.
-use Rattle.std.proofs.Common.{◌≡◌, ℕ, ◌+◌, ◌<◌, List, [], length, Option, Some, None, Contains, refl, sym, subst}
+use Rattle.std.proofs.Common.{◌≡◌, ℕ, ◌+◌, ◌<◌, Bool, true, false, List, [], length, Option, Some, None, Contains, refl, sym, subst, ◌∙◌, ⊎_elim, set}
 use Rattle.std.specs.Option.{IfSome}
 use Rattle.std.specs.declared.vec.Vec.{Vec}
 use Rattle.std.specs.declared.alloc.Global.{Global}
 use Rattle.std.proofs.lemmas.Nat.{mod_below}
+use Rattle.std.proofs.lemmas.Bool.{cases_eq, false≢true}
+use Rattle.std.proofs.lemmas.List.{get_or-set_other, length-set}
+use Rattle.kaba_bits.specs.Sets.{row, IsEmpty}
 use borrow.Author.Count.{below_more}
 use Rattle.kaba_base.specs.declared.ColId.{ColId}
 use Rattle.fact_model.specs.Items.{column_slot, row_this}
 use Rattle.fact_model.specs.InRange.{InRange, IsCol}
+use Rattle.fact_model.specs.Entries.{Hides}
 use Rattle.fact_model.specs.declared.facts.Facts.{Facts}
 use Rattle.fact_model.proofs.RangeLemmas.{this-below}
 use Rattle.points_to.specs.Begun.{numbers_at, KeepNumbers}
-use Rattle.table_rules.specs.Asked.{place_of, IsMethod, IsThisNoted, HaveMethods, HaveThese}
+use Rattle.table_rules.specs.Asked.{place_of, IsMethod, IsThisNoted, HaveMethods, HaveThese, AreHidden, IsPlain}
 
 pub place-below : (n : ℕ) (slot : Option ℕ) → 0 < n → place_of n slot < n
 place-below n None lt = lt
@@ -39,3 +43,17 @@ module _ (F : Facts) (old new : List (Vec ℕ Global)) (kept : KeepNumbers old n
 
   pub these_more : HaveThese F old i → IsThisNoted F new i → HaveThese F new (i + 1)
   these_more before here = below_more (IsThisNoted F new) i (λ k lt d t. kept.each d.0 k (before k lt d t)) here
+
+-- a set of columns that hide none, and one more
+module _ (F : Facts) (hidden : List (List Bool)) (are : AreHidden F hidden) (plain : List Bool) (is : IsPlain F plain) where
+  pub plain-more : (d : ℕ) → d < length F.columns.items → IsEmpty (row hidden d) → IsPlain F (set plain d true)
+  plain-more d lt empty = record {
+    width = length-set plain d true ∙ is.width;
+    none = λ e c h below hides. ⊎_elim
+        (λ same. false≢true (sym (empty c) ∙ are.all d c lt below (subst (λ k. Hides F k c) same hides)))
+        (λ ne. is.none e c (sym (get_or-set_other plain d e true false ne) ∙ h) below hides)
+        (cases_eq e d);
+  }
+
+pub plain-none : (F : Facts) (r : List Bool) → length r ≡ length F.columns.items → IsEmpty r → IsPlain F r
+plain-none F r len empty = record { width = len; none = λ d c h. absurd (false≢true (sym (empty d) ∙ h)) }

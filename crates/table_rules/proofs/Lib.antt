@@ -2,4 +2,3 @@ pub mod RawLemmas
 pub mod CloseLemmas
 pub mod AskLemmas
 pub mod IndexLemmas
-pub mod AboveLemmas

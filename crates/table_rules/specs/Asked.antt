@@ -1,8 +1,8 @@
 -- What a column asks of the rows that have it: further columns, and those of a `this`.
-use Rattle.std.specs.Prelude.{◌≡◌, ℕ, ◌%◌, ◌<◌, ◌⊎◌, Bool, List, length, All, Contains, Option, Some, None}
+use Rattle.std.specs.Prelude.{◌≡◌, ℕ, ◌%◌, ◌<◌, ◌⊎◌, Bool, true, List, length, All, Contains, Option, Some, None}
 use Rattle.std.specs.declared.vec.Vec.{Vec}
 use Rattle.std.specs.declared.alloc.Global.{Global}
-use Rattle.kaba_bits.specs.Sets.{row, IsSubset, HasWidth}
+use Rattle.kaba_bits.specs.Sets.{bit, row, IsSubset, HasWidth}
 use Rattle.kaba_base.specs.declared.ColId.{ColId}
 use Rattle.fact_model.specs.Items.{column_kind, column_slot, row_this}
 use Rattle.fact_model.specs.Entries.{IsDeclaredBy, Hides}
@@ -59,9 +59,15 @@ IsThisNoted F lists v = (d : ColId) → row_this F v ≡ Some d → Contains (nu
 abbrev pub HaveThese : Facts → List (Vec ℕ Global) → ℕ → Type 0
 HaveThese F lists n = (v : ℕ) → v < n → IsThisNoted F lists v
 
+-- a set of columns that hide none
+pub record IsPlain (F : Facts) (plain : List Bool) : Type 0 where
+  pub width : length plain ≡ length F.columns.items
+  pub none : (d c : ℕ) → bit plain d ≡ true → c < length F.columns.items → Hides F d c → ⊥
+
 pub record IsIndex (F : Facts) (index : Index) : Type 0 where
   pub these : HaveThese F index.these.items (length F.rows.items)
   pub hidden : AreHidden F index.hidden.items
+  pub plain : IsPlain F index.plain
 
 -- what the row q has, and the column d hides, is asked for
 abbrev pub IsMetAt : Facts → List (List Bool) → List (List Bool) → ℕ → ℕ → Type 0

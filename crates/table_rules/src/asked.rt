@@ -8,7 +8,8 @@ ghost use Rattle.fact_model.specs.Entries.{IsEntry, IsDeclaredBy, Hides};
 ghost use Rattle.table_rules.specs.Marks.{Marked, AreEntries, Grow};
 ghost use Rattle.table_rules.specs.Closed.{ColumnFlows};
 ghost use Rattle.fact_model.specs.Items.{column_at};
-ghost use Rattle.table_rules.specs.Above.{IsAboveRow, AreAbove};
+ghost use Rattle.points_to.specs.Above.{IsAboveRow};
+ghost use Rattle.table_rules.specs.Above.{AreAbove};
 ghost use Rattle.table_rules.specs.Asked.{ArePairs, AreAsked, AreHidden, HaveAll, HaveMethods, IsMethod, IsNoted, IsMetAt};
 
 use crate::above::above_of;
@@ -242,6 +243,9 @@ pub fn meet_at(
 {
     let row = row_at(rows, q);
     let hides = row_at(hidden, d as usize);
+    if hides.is_subset(row_at(asked, d as usize)) {
+        return false;
+    }
     if !row.meets(hides) {
         return false;
     }

@@ -1,7 +1,7 @@
 //! The least table that holds the raw one and is closed under T5, T6, T8, T9 and T10. A worklist passes on what rows
 //! gain; one turn over what is in the table then shows that nothing was left out.
 
-ghost use Rattle.std.specs.Prelude.{◌≡◌, ℕ, ◌<◌, ◌≤◌, length, All, Contains, Some, IfOk, IfSome, MatchOption, OnOk};
+ghost use Rattle.std.specs.Prelude.{◌≡◌, ℕ, ◌<◌, ◌≤◌, ◌&&◌, not, length, All, Contains, Some, IfOk, IfSome, MatchOption, OnOk};
 ghost use Rattle.std.specs.Bool.{OnFalse};
 ghost use Rattle.kaba_bits.specs.Sets.{bit, row, IsStep, IsNoneFrom};
 ghost use Rattle.fact_model.specs.InRange.{InRange};
@@ -10,7 +10,7 @@ ghost use Rattle.fact_model.specs.Flowing.{AreSets, IsInRow};
 ghost use Rattle.fact_model.specs.Entries.{IsRawTable, IsTable, IsEntry};
 ghost use Rattle.table_rules.specs.Marks.{AreEntries, Grow};
 ghost use Rattle.table_rules.specs.Closed.{IsTieClosed, IsSiteClosedAt, IsSiteClosed, AreClosed};
-ghost use Rattle.table_rules.specs.Asked.{AreAsked, AreHidden, AreOpen, IsIndex, IsMet, IsThisClosed, IsClosedAt, IsRowClosed};
+ghost use Rattle.table_rules.specs.Asked.{AreAsked, AreOpen, IsIndex, IsMet, IsThisClosed, IsClosedAt, IsRowClosed};
 
 use crate::asked::{Columns, columns_of, meet_at};
 use crate::columns::{site_at, this_of};
@@ -116,7 +116,7 @@ fn round(
     ensures step { IsStep rows.old rows.new result }
     ensures closed { OnFalse result (AreClosed facts.now pt.now.rows.items rows.new) }
 {
-    meet_rows(facts, &index.hidden, rows, asked, both);
+    meet_rows(facts, index, rows, asked, both);
     let columns = close_rows(facts, &index.these, asked, rows);
     let ties = pass_ties(facts, rows);
     let sites = pass_sites(facts, pt, rows);
@@ -136,17 +136,31 @@ pub fn next_column(facts: &Facts, rows: &[BitRow], r: usize, at: u32) -> Option<
     row_at(rows, r).next(at)
 }
 
+/// The least column of a row from one on that is not in a set.
+pub fn next_beyond(facts: &Facts, plain: &BitRow, rows: &[BitRow], r: usize, at: u32) -> Option<u32>
+    requires plain { length plain.now ≡ length facts.now.columns.items }
+    requires rows { AreEntries facts.now rows.now }
+    requires row { r < length facts.now.rows.items }
+    ensures low { IfSome result (λ d. at ≤ d) }
+    ensures column { IfSome result (λ d. d < length facts.now.columns.items) }
+    ensures entry { IfSome result (IsEntry facts.now r) }
+    ensures least { MatchOption result (IsNoneFrom (λ d. bit (row rows.now r) d && not (bit plain.now d)) at (length facts.now.columns.items)) (λ d. IsNoneFrom (λ k. bit (row rows.now r) k && not (bit plain.now k)) at d) }
+{
+    let _ = facts;
+    row_at(rows, r).next_beyond(plain, at)
+}
+
 /// T10: what a row has, and its columns hide, is asked for.
 fn meet_row(
     facts: &Facts,
-    hidden: &[BitRow],
+    index: &Index,
     rows: &[BitRow],
     asked: &mut [BitRow],
     both: &mut BitRow,
     q: usize,
 )
     requires facts { InRange facts.now }
-    requires hidden { AreHidden facts.now hidden.now }
+    requires index { IsIndex facts.now index.now }
     requires state { AreOpen facts.now asked.old both.old rows.now }
     requires row { q < length facts.now.rows.items }
     ensures state { AreOpen facts.now asked.new both.new rows.now }
@@ -156,9 +170,9 @@ fn meet_row(
     let width = facts.columns.len() as u32;
     let mut at = 0;
     'scan: while at < width {
-        match next_column(facts, rows, q, at) {
+        match next_beyond(facts, &index.plain, rows, q, at) {
             Some(d) => {
-                meet_at(facts, hidden, rows, asked, both, q, d);
+                meet_at(facts, &index.hidden, rows, asked, both, q, d);
                 at = d + 1;
             }
             None => return,
@@ -167,21 +181,15 @@ fn meet_row(
 }
 
 /// T10: what a row has, and its columns hide, is asked for, for each row.
-fn meet_rows(
-    facts: &Facts,
-    hidden: &[BitRow],
-    rows: &[BitRow],
-    asked: &mut [BitRow],
-    both: &mut BitRow,
-)
+fn meet_rows(facts: &Facts, index: &Index, rows: &[BitRow], asked: &mut [BitRow], both: &mut BitRow)
     requires facts { InRange facts.now }
-    requires hidden { AreHidden facts.now hidden.now }
+    requires index { IsIndex facts.now index.now }
     requires state { AreOpen facts.now asked.old both.old rows.now }
     ensures state { AreOpen facts.now asked.new both.new rows.now }
     ensures met { (q : ℕ) → q < length facts.now.rows.items → IsMet facts.now rows.now asked.new q }
 {
     for q in 0..facts.rows.len() {
-        meet_row(facts, hidden, rows, asked, both, q);
+        meet_row(facts, index, rows, asked, both, q);
     }
 }
 

@@ -3,16 +3,17 @@
 ghost use Rattle.std.specs.Prelude.{◌≡◌, ℕ, ◌<◌, ◌↔◌, ◌⊎◌, true, length, IsTrue};
 ghost use Rattle.kaba_bits.specs.Sets.{bit, row};
 ghost use Rattle.fact_model.specs.Items.{column_at, column_slot, row_at, row_this, site_at, IsColumn};
-ghost use Rattle.fact_model.specs.Classes.{IsBelow, IsStrictlyBelow};
-ghost use Rattle.fact_model.specs.InRange.{InRange, IsClass};
+ghost use Rattle.fact_model.specs.Classes.{IsStrictlyBelow};
+ghost use Rattle.fact_model.specs.InRange.{InRange};
 ghost use Rattle.fact_model.specs.Entries.{IsDeclaredBy, Hides};
-ghost use Rattle.table_rules.specs.Above.{IsAboveRow};
+ghost use Rattle.points_to.specs.Above.{IsAboveRow};
 ghost use Rattle.table_rules.specs.Asked.{IsMethod};
 ghost use Rattle.fact_model.specs.declared.facts.ColKind.TheVariants.{Dcl, Def, Is};
 
 use fact_model::{ColKind, ColumnInfo, Facts, SiteInfo};
 use kaba_base::{ClassId, ColId};
 use kaba_bits::BitRow;
+use points_to::is_below;
 
 /// One column.
 fn column_at(facts: &Facts, c: u32) -> &ColumnInfo
@@ -91,20 +92,10 @@ pub fn is_mark(facts: &Facts, class: ClassId, c: u32) -> bool
     is_same_kind(column.kind, ColKind::Is) && is_same_class(column.class, class)
 }
 
-/// Whether a class is at or below another; the row has what is at or above the one.
-fn is_below(facts: &Facts, above: &BitRow, a: ClassId, b: ClassId) -> bool
-    requires above { IsAboveRow facts.now a.0 above.now }
-    requires class { IsClass facts.now b }
-    ensures exact { IsTrue result ↔ IsBelow facts.now a.0 b.0 }
-{
-    above.has(b.0)
-}
-
 /// Whether a class is strictly below another; the row has what is at or above the one.
 fn is_strictly_below(facts: &Facts, above: &BitRow, a: ClassId, b: ClassId) -> bool
     requires facts { InRange facts.now }
     requires above { IsAboveRow facts.now a.0 above.now }
-    requires class { IsClass facts.now b }
     ensures { IsTrue result ↔ IsStrictlyBelow facts.now a.0 b.0 }
 {
     !is_same_class(a, b) && is_below(facts, above, a, b)

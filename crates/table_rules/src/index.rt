@@ -3,20 +3,22 @@
 ghost use Rattle.std.specs.Prelude.{◌≡◌, ℕ, ◌<◌, ◌+◌, length, IfOk, OnOk};
 ghost use Rattle.fact_model.specs.InRange.{InRange};
 ghost use Rattle.points_to.specs.Begun.{KeepNumbers};
-ghost use Rattle.table_rules.specs.Asked.{place_of, AreHidden, HaveMethods, HaveThese, IsThisNoted, IsIndex};
+ghost use Rattle.table_rules.specs.Asked.{place_of, AreHidden, HaveMethods, HaveThese, IsThisNoted, IsPlain, IsIndex};
 
 use crate::columns::{is_method, slot_of, this_of};
 use fact_model::Facts;
-use kaba_bits::BitRow;
+use kaba_bits::{BitRow, row_at};
 use points_to::{empty, note};
 use std::alloc::{AllocError, Global};
 
-/// The rows that are the `this` of a body, by its column, the ties by their upper row, and the columns that each hides.
+/// The rows that are the `this` of a body, by its column, the ties by their upper row, the columns that each hides, and
+/// those that hide none.
 #[derive(Drop)]
 pub struct Index {
     pub these: Vec<Vec<usize>>,
     pub ties: Vec<Vec<usize>>,
     pub hidden: Vec<BitRow>,
+    pub plain: BitRow,
 }
 
 /// Where the columns of a slot are listed, of so many lists.
@@ -118,6 +120,32 @@ fn ties_of(alloc: Global, facts: &Facts) -> Result<Vec<Vec<usize>>, AllocError> 
     Ok(lists)
 }
 
+/// One column, where it hides none.
+fn note_plain(facts: &Facts, hidden: &[BitRow], plain: &mut BitRow, d: u32)
+    requires hidden { AreHidden facts.now hidden.now }
+    requires plain { IsPlain facts.now plain.old }
+    requires column { d < length facts.now.columns.items }
+    ensures { IsPlain facts.now plain.new }
+{
+    if row_at(hidden, d as usize).is_empty() {
+        plain.set(d);
+    }
+}
+
+/// The columns that hide none. An error comes only for want of memory.
+fn plain_of(alloc: Global, facts: &Facts, hidden: &[BitRow]) -> Result<BitRow, AllocError>
+    requires facts { InRange facts.now }
+    requires hidden { AreHidden facts.now hidden.now }
+    ensures { IfOk result (λ x. IsPlain facts.now x) }
+{
+    let width = facts.columns.len() as u32;
+    let mut plain = BitRow::new(alloc, width)?;
+    for d in 0..width {
+        note_plain(facts, hidden, &mut plain, d);
+    }
+    Ok(plain)
+}
+
 /// The index of the facts. An error comes only for want of memory.
 pub fn index_of(alloc: Global, facts: &Facts, hidden: Vec<BitRow>) -> Result<Index, AllocError>
     requires facts { InRange facts.now }
@@ -126,9 +154,11 @@ pub fn index_of(alloc: Global, facts: &Facts, hidden: Vec<BitRow>) -> Result<Ind
 {
     let these = these_of(alloc, facts)?;
     let ties = ties_of(alloc, facts)?;
+    let plain = plain_of(alloc, facts, &hidden)?;
     Ok(Index {
         these,
         ties,
         hidden,
+        plain,
     })
 }

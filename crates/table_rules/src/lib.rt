@@ -9,6 +9,7 @@ mod columns;
 mod index;
 mod lists;
 mod marks;
+mod order;
 mod raw_table;
 mod turns;
 

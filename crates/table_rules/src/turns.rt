@@ -9,7 +9,9 @@ ghost use Rattle.table_rules.specs.Marks.{AreEntries};
 ghost use Rattle.table_rules.specs.Asked.{AreAsked, AreOpen, IsIndex};
 
 use crate::asked::meet_at;
-use crate::closing::{close_column, close_this, join_site, join_tie, next_column, next_site};
+use crate::closing::{
+    close_column, close_this, join_site, join_tie, next_beyond, next_column, next_site,
+};
 use crate::columns::{site_at, this_of};
 use crate::index::Index;
 use crate::lists::{Lists, all_wait, holders_of, is_first, next, wake};
@@ -29,27 +31,19 @@ fn has(facts: &Facts, rows: &[BitRow], r: u32, d: u32) -> bool
     (r as usize) < facts.rows.len() && row_at(rows, r as usize).has(d)
 }
 
-/// What a column asks for, into a row that may have it. An error comes only for want of memory.
-fn give(
-    facts: &Facts,
-    asked: &[BitRow],
-    rows: &mut [BitRow],
-    lists: &mut Lists,
-    d: u32,
-    r: u32,
-) -> Result<(), AllocError>
+/// What a column asks for, into a row that may have it.
+fn give(facts: &Facts, asked: &[BitRow], rows: &mut [BitRow], lists: &mut Lists, d: u32, r: u32)
     requires asked { AreAsked facts.now asked.now }
     requires rows { AreEntries facts.now rows.old }
     requires column { d < length facts.now.columns.items }
-    ensures { OnOk result (AreEntries facts.now rows.new) }
+    ensures { AreEntries facts.now rows.new }
 {
     if !has(facts, rows, r, d) {
-        return Ok(());
+        return;
     }
     if join_asked(facts, asked, rows, r as usize, d) {
-        wake(lists, r as usize)?;
+        wake(lists, r as usize);
     }
-    Ok(())
 }
 
 /// What a column asks for, into each row that has it. An error comes only for want of memory.
@@ -68,12 +62,12 @@ fn spread(
 {
     let holders = holders_of(alloc, lists, d)?;
     for r in &holders {
-        give(facts, asked, rows, lists, d, *r)?;
+        give(facts, asked, rows, lists, d, *r);
     }
     Ok(())
 }
 
-/// What a column asks for, where it is new in a row. An error comes only for want of memory.
+/// What a column asks for, where it is new in a row.
 fn begin_column(
     facts: &Facts,
     index: &Index,
@@ -82,25 +76,24 @@ fn begin_column(
     lists: &mut Lists,
     r: usize,
     d: u32,
-) -> Result<(), AllocError>
+)
     requires facts { InRange facts.now }
     requires asked { AreAsked facts.now asked.now }
     requires rows { AreEntries facts.now rows.old }
     requires row { r < length facts.now.rows.items }
     requires column { d < length facts.now.columns.items }
     requires entry { IsEntry facts.now r d }
-    ensures { OnOk result (AreEntries facts.now rows.new) }
+    ensures { AreEntries facts.now rows.new }
 {
     if !is_first(lists, d, r) {
-        return Ok(());
+        return;
     }
     if close_column(facts, &index.these, asked, rows, r, d) {
-        wake(lists, r)?;
+        wake(lists, r);
     }
-    Ok(())
 }
 
-/// What the columns ask for that are new in a row. An error comes only for want of memory.
+/// What the columns ask for that are new in a row.
 fn begin(
     facts: &Facts,
     index: &Index,
@@ -108,25 +101,24 @@ fn begin(
     rows: &mut [BitRow],
     lists: &mut Lists,
     r: usize,
-) -> Result<(), AllocError>
+)
     requires facts { InRange facts.now }
     requires asked { AreAsked facts.now asked.now }
     requires rows { AreEntries facts.now rows.old }
     requires row { r < length facts.now.rows.items }
-    ensures { OnOk result (AreEntries facts.now rows.new) }
+    ensures { AreEntries facts.now rows.new }
 {
     let width = facts.columns.len() as u32;
     let mut at = 0;
     'scan: while at < width {
         match next_column(facts, rows, r, at) {
             Some(d) => {
-                begin_column(facts, index, asked, rows, lists, r, d)?;
+                begin_column(facts, index, asked, rows, lists, r, d);
                 at = d + 1;
             }
-            None => return Ok(()),
+            None => return,
         }
     }
-    Ok(())
 }
 
 /// T10 for one column of a row. An error comes only for want of memory.
@@ -174,7 +166,7 @@ fn meet_columns(
     let width = facts.columns.len() as u32;
     let mut at = 0;
     'scan: while at < width {
-        match next_column(facts, rows, r, at) {
+        match next_beyond(facts, &index.plain, rows, r, at) {
             Some(d) => {
                 meet_column(alloc, facts, index, asked, both, rows, lists, r, d)?;
                 at = d + 1;
@@ -185,115 +177,80 @@ fn meet_columns(
     Ok(())
 }
 
-/// T8: what a row has, into the lower row of one of its ties. An error comes only for want of memory.
-fn pass_tie(
-    facts: &Facts,
-    rows: &mut [BitRow],
-    lists: &mut Lists,
-    i: usize,
-) -> Result<(), AllocError>
+/// T8: what a row has, into the lower row of one of its ties.
+fn pass_tie(facts: &Facts, rows: &mut [BitRow], lists: &mut Lists, i: usize)
     requires facts { InRange facts.now }
     requires rows { AreEntries facts.now rows.old }
-    ensures { OnOk result (AreEntries facts.now rows.new) }
+    ensures { AreEntries facts.now rows.new }
 {
     if i < facts.ties.len() {
         let x = facts.ties[i];
         if join_tie(facts, rows, x) {
-            wake(lists, x.lower.0 as usize)?;
+            wake(lists, x.lower.0 as usize);
         }
     }
-    Ok(())
 }
 
-/// T8: what a row has, into the lower row of each of its ties. An error comes only for want of memory.
-fn pass_ties(
-    facts: &Facts,
-    rows: &mut [BitRow],
-    lists: &mut Lists,
-    list: &[usize],
-) -> Result<(), AllocError>
+/// T8: what a row has, into the lower row of each of its ties.
+fn pass_ties(facts: &Facts, rows: &mut [BitRow], lists: &mut Lists, list: &[usize])
     requires facts { InRange facts.now }
     requires rows { AreEntries facts.now rows.old }
-    ensures { OnOk result (AreEntries facts.now rows.new) }
+    ensures { AreEntries facts.now rows.new }
 {
     for i in list {
-        pass_tie(facts, rows, lists, *i)?;
+        pass_tie(facts, rows, lists, *i);
     }
-    Ok(())
 }
 
-/// T9: what a row has, into the row of a site of its set. An error comes only for want of memory.
-fn pass_site(
-    facts: &Facts,
-    pt: &PointsTo,
-    rows: &mut [BitRow],
-    lists: &mut Lists,
-    v: usize,
-    o: u32,
-) -> Result<(), AllocError>
+/// T9: what a row has, into the row of a site of its set.
+fn pass_site(facts: &Facts, pt: &PointsTo, rows: &mut [BitRow], lists: &mut Lists, v: usize, o: u32)
     requires facts { InRange facts.now }
     requires sets { AreSets facts.now pt.now }
     requires rows { AreEntries facts.now rows.old }
     requires row { v < length facts.now.rows.items }
     requires site { o < length facts.now.sites.items }
     requires member { IsInRow facts.now v o }
-    ensures { OnOk result (AreEntries facts.now rows.new) }
+    ensures { AreEntries facts.now rows.new }
 {
     if join_site(facts, pt, rows, v, o) {
-        wake(lists, site_at(facts, o).row.0 as usize)?;
+        wake(lists, site_at(facts, o).row.0 as usize);
     }
-    Ok(())
 }
 
-/// T9: what a row has, into the row of each site of its set. An error comes only for want of memory.
-fn pass_sites(
-    facts: &Facts,
-    pt: &PointsTo,
-    rows: &mut [BitRow],
-    lists: &mut Lists,
-    v: usize,
-) -> Result<(), AllocError>
+/// T9: what a row has, into the row of each site of its set.
+fn pass_sites(facts: &Facts, pt: &PointsTo, rows: &mut [BitRow], lists: &mut Lists, v: usize)
     requires facts { InRange facts.now }
     requires sets { AreSets facts.now pt.now }
     requires rows { AreEntries facts.now rows.old }
     requires row { v < length facts.now.rows.items }
-    ensures { OnOk result (AreEntries facts.now rows.new) }
+    ensures { AreEntries facts.now rows.new }
 {
     let width = facts.sites.len() as u32;
     let mut at = 0;
     'scan: while at < width {
         match next_site(facts, pt, v, at) {
             Some(o) => {
-                pass_site(facts, pt, rows, lists, v, o)?;
+                pass_site(facts, pt, rows, lists, v, o);
                 at = o + 1;
             }
-            None => return Ok(()),
+            None => return,
         }
     }
-    Ok(())
 }
 
-/// T6: what the `this` of a body has, into a row that may have the body. An error comes only for want of memory.
-fn pass_body(
-    facts: &Facts,
-    rows: &mut [BitRow],
-    lists: &mut Lists,
-    v: usize,
-    d: u32,
-    r: u32,
-) -> Result<(), AllocError>
+/// T6: what the `this` of a body has, into a row that may have the body.
+fn pass_body(facts: &Facts, rows: &mut [BitRow], lists: &mut Lists, v: usize, d: u32, r: u32)
     requires facts { InRange facts.now }
     requires rows { AreEntries facts.now rows.old }
     requires column { d < length facts.now.columns.items }
-    ensures { OnOk result (AreEntries facts.now rows.new) }
+    ensures { AreEntries facts.now rows.new }
 {
     if !has(facts, rows, r, d) {
-        return Ok(());
+        return;
     }
     if close_this(facts, rows, r as usize, d, v) {
-        wake(lists, r as usize)?;
+        wake(lists, r as usize);
     }
-    Ok(())
 }
 
 /// T6: what the `this` of a body has, into each row that has the body. An error comes only for want of memory.
@@ -312,7 +269,7 @@ fn pass_bodies(
 {
     let holders = holders_of(alloc, lists, d)?;
     for r in &holders {
-        pass_body(facts, rows, lists, v, d, *r)?;
+        pass_body(facts, rows, lists, v, d, *r);
     }
     Ok(())
 }
@@ -333,8 +290,8 @@ fn pass(
     requires row { v < length facts.now.rows.items }
     ensures { OnOk result (AreEntries facts.now rows.new) }
 {
-    pass_ties(facts, rows, lists, numbers_at(&index.ties, v))?;
-    pass_sites(facts, pt, rows, lists, v)?;
+    pass_ties(facts, rows, lists, numbers_at(&index.ties, v));
+    pass_sites(facts, pt, rows, lists, v);
     if let Some(d) = this_of(facts, v) {
         pass_bodies(alloc, facts, rows, lists, v, d.0)?;
     }
@@ -360,7 +317,7 @@ fn turn(
     requires row { r < length facts.now.rows.items }
     ensures { OnOk result (AreOpen facts.now asked.new both.new rows.new) }
 {
-    begin(facts, index, asked, rows, lists, r)?;
+    begin(facts, index, asked, rows, lists, r);
     meet_columns(alloc, facts, index, asked, both, rows, lists, r)?;
     pass(alloc, facts, pt, index, rows, lists, r)?;
     Ok(())
@@ -412,7 +369,7 @@ pub fn grow(
     requires state { AreOpen facts.now asked.old both.old rows.old }
     ensures { OnOk result (AreOpen facts.now asked.new both.new rows.new) }
 {
-    let mut lists = all_wait(alloc, facts)?;
+    let mut lists = all_wait(alloc, facts, index, rows)?;
     run(alloc, facts, pt, index, asked, both, rows, &mut lists)?;
     Ok(())
 }

@@ -1,4 +1,4 @@
-use Rattle.std.proofs.Common.{ℕ, ◌*◌, ◌-◌, length}
+use Rattle.std.proofs.Common.{◌*◌, ◌-◌, length}
 use Rattle.kaba_bits.specs.Sets.{total}
 use Rattle.points_to.specs.Sound.{AreSound}
 use Rattle.points_to.proofs.run_rounds.Given as goal

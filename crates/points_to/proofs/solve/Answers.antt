@@ -1,4 +1,3 @@
-use Rattle.std.proofs.Common.{◌≡◌, length, take, drop, arith}
 use Rattle.fact_model.specs.declared.sets.PointsTo.{PointsTo}
 use Rattle.points_to.proofs.SolveLemmas.{points_are, cells_are, points_all, cells_all, are_sets}
 use Rattle.points_to.proofs.solve.Goals as goal

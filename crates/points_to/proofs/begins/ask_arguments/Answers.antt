@@ -1,4 +1,4 @@
-use Rattle.std.proofs.Common.{ℕ, ◌<◌, Contains}
+use Rattle.std.proofs.Common.{Contains}
 use borrow.Author.Count.{below_more}
 use Rattle.points_to.specs.Begun.{HasArgument}
 use Rattle.points_to.proofs.LoopLemmas.{more_then}

@@ -1,10 +1,8 @@
-use Rattle.std.proofs.Common.{ℕ, ◌<◌, ◌≡◌, length, get_or, Contains, subst, arith}
+use Rattle.std.proofs.Common.{◌<◌, length, Contains, arith}
 use Rattle.std.proofs.lemmas.Grind.{common_steps}
-use Rattle.std.proofs.lemmas.List.Elements.{All-contains}
 use Rattle.points_to.specs.Begun.{IsBegun}
-use Rattle.points_to.specs.declared.index.Begin.{Begin}
 use Rattle.points_to.specs.declared.found.Found.{Found}
-use Rattle.points_to.proofs.LoopLemmas.{within_more, within_all, more_then}
+use Rattle.points_to.proofs.LoopLemmas.{within_more, more_then}
 use Rattle.points_to.proofs.BegunLemmas.{begun_map}
 use Rattle.points_to.proofs.begins.begin_site.Goals as goal
 

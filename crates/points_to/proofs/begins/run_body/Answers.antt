@@ -1,4 +1,3 @@
-use Rattle.std.proofs.Common.{sym}
 use Rattle.points_to.proofs.LoopLemmas.{more_then}
 use Rattle.points_to.proofs.EdgeLemmas.{this_told, argument_edge, result_edge}
 use Rattle.points_to.proofs.begins.run_body.Goals as goal

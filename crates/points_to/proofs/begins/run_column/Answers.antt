@@ -1,4 +1,4 @@
-use Rattle.std.proofs.Common.{ℕ, ◌<◌, length, Contains, arith}
+use Rattle.std.proofs.Common.{◌<◌, length, Contains, arith}
 use Rattle.std.proofs.lemmas.Grind.{common_steps}
 use Rattle.points_to.specs.Begun.{IsRunAt}
 use Rattle.points_to.specs.declared.found.Found.{Found}

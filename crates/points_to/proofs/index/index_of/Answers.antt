@@ -14,4 +14,5 @@ returns c =
       calls = rw e begins.calls;
       cells = rw cells c.in_ok-note_cells.ensures;
       bodies = rw bodies c.in_ok-note_bodies.ensures;
+      above = c.in_ok-above.ensures;
     }

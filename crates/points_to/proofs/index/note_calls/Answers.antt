@@ -1,7 +1,7 @@
-use Rattle.std.proofs.Common.{◌<◌, length, arith}
+use Rattle.std.proofs.Common.{arith}
 use Rattle.std.specs.List.{All}
 use Rattle.std.specs.Option.{IfSome}
-use Rattle.fact_model.specs.InRange.{IsPoint, IsCol}
+use Rattle.fact_model.specs.InRange.{IsPoint}
 use Rattle.points_to.proofs.IndexLemmas.{at_all, keep_then, calls_more}
 use Rattle.points_to.proofs.index.note_calls.Goals as goal
 

@@ -1,4 +1,4 @@
-use Rattle.std.proofs.Common.{◌<◌, ◌≡◌, ◌∙◌, length, None, arith}
+use Rattle.std.proofs.Common.{◌∙◌, None, arith}
 use Rattle.points_to.proofs.IndexLemmas.{cells_more}
 use Rattle.points_to.proofs.index.note_cells.Goals as goal
 

@@ -1,5 +1,4 @@
-use Rattle.std.proofs.Common.{◌<◌, length, arith}
-use Rattle.std.specs.List.{All}
+use Rattle.std.proofs.Common.{arith}
 use Rattle.std.specs.Option.{IfSome}
 use Rattle.fact_model.specs.InRange.{IsPoint, IsCol}
 use Rattle.points_to.proofs.IndexLemmas.{at_all, keep_then, stores_more}

@@ -1,8 +1,8 @@
-use Rattle.std.proofs.Common.{ℕ, ◌+◌, ◌<◌, ◌≤◌, ◌∙◌, sym, length, arith}
+use Rattle.std.proofs.Common.{◌∙◌, sym}
 use Rattle.std.proofs.lemmas.Bool.{false≢true}
-use Rattle.kaba_bits.specs.Sets.{bit, row}
+use Rattle.kaba_bits.specs.Sets.{row}
 use Rattle.kaba_bits.proofs.StepLemmas.{IsStep-then, closed_below, closed-both}
-use Rattle.points_to.proofs.LoopLemmas.{skip_to, skip_all}
+use Rattle.points_to.proofs.LoopLemmas.{skip_to}
 use Rattle.points_to.specs.Work.{IsPassed}
 use Rattle.points_to.proofs.work.pass_fitting.Goals as goal
 

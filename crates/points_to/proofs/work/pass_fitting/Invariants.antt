@@ -1,4 +1,4 @@
-use Rattle.std.proofs.Common.{ℕ, ◌<◌, ◌≤◌, ◌-◌}
+use Rattle.std.proofs.Common.{ℕ, ◌<◌, ◌-◌}
 use Rattle.std.specs.Bool.{OnFalse}
 use Rattle.kaba_bits.specs.Sets.{IsStep}
 use Rattle.points_to.specs.Sound.{AreSound}

@@ -1,4 +1,4 @@
-use Rattle.std.proofs.Common.{length, sym, ◌∙◌}
+use Rattle.std.proofs.Common.{length, refl, sym, ◌∙◌}
 use Rattle.std.proofs.lemmas.Bool.{and_parts, and_from, or_right, false≢true}
 use Rattle.kaba_bits.specs.Sets.{bit, row}
 use Rattle.kaba_bits.proofs.RowLemmas.{GainsRow-keeps}
@@ -15,6 +15,16 @@ returns-then-not-meets-clause-met c =
     let rows = c.args.rows.now in
     let apart = rw (c.row_at-row.ensures, c.row_at-hides.ensures) at c.if-not-meets.ensures in
     λ m k by h. absurd (false≢true (apart.1 (k, h, c.requires.hidden.all d k c.requires.column (marked-column n rows q k c.requires.rows.widths h) by)))
+
+pub returns-then-is_subset-clause-met : goal.returns-then-is_subset-clause-met
+returns-then-is_subset-clause-met c =
+    let F = c.args.facts.now in
+    let rows = c.args.rows.now in
+    let q = c.args.q in
+    let d = c.args.d in
+    let within = rw (c.row_at-hides.ensures, c.row_at.ensures) at c.if-is_subset.ensures in
+    λ m k by h. within.0 refl k
+    (c.requires.hidden.all d k c.requires.column (marked-column (length F.columns.items) rows q k c.requires.rows.widths h) by)
 
 pub returns-clause-asked : goal.returns-clause-asked
 returns-clause-asked c =

@@ -1,10 +1,9 @@
-use Rattle.std.proofs.Common.{false, length, ◌∙◌, sym, arith}
-use Rattle.std.proofs.lemmas.Bool.{false≢true}
-use Rattle.kaba_bits.specs.Sets.{row}
-use Rattle.points_to.proofs.LoopLemmas.{skip_to, skip_all}
+use Rattle.std.proofs.Common.{false, not, ◌&&◌, length, arith}
+use Rattle.kaba_bits.specs.Sets.{bit, row}
+use Rattle.points_to.proofs.LoopLemmas.{pass_to, pass_all}
 use borrow.Author.Count.{below_more}
 use Rattle.table_rules.specs.Asked.{IsMetAt}
-use Rattle.table_rules.proofs.AskLemmas.{met_more, grow_then}
+use Rattle.table_rules.proofs.AskLemmas.{met_more, grow_then, met-plain, met-past}
 use Rattle.table_rules.proofs.closing.meet_row.Goals as goal
 
 pub scan-preserved : goal.scan-preserved
@@ -16,8 +15,9 @@ scan-preserved c =
     let step = c.meet_at.ensures in
     let new = c.meet_at.new.asked in
     let d = c.in-Some.d in
-    let before = skip_to (IsMetAt F rows old q) (row rows q) c.scan.at (λ k none b. absurd (false≢true (sym none ∙ b))) d false
-    c.in-Some.ensures.least c.scan.invariant.met in
+    let plain = c.args.index.now.plain in
+    let before = pass_to (IsMetAt F rows old q) (λ k. bit (row rows q) k && not (bit plain k)) c.scan.at
+    (met-plain F rows old q plain c.requires.state.entries c.requires.index.plain) d false c.in-Some.ensures.least c.scan.invariant.met in
     record {
       state = record { flows = step.asked; width = step.both; entries = c.scan.invariant.state.entries };
       grows = grow_then c.args.asked.now old new c.scan.invariant.grows step.grows;
@@ -26,19 +26,21 @@ scan-preserved c =
 
 pub returns-in-None-clause-met : goal.returns-in-None-clause-met
 returns-in-None-clause-met c =
-    let are = c.requires.state.entries in
+    let F = c.args.facts.now in
     let rows = c.args.rows.now in
     let q = c.args.q in
-    skip_all (IsMetAt c.args.facts.now rows c.scan.asked q) (row rows q) c.scan.at (λ k none b. absurd (false≢true (sym none ∙ b)))
-    (length c.args.facts.now.columns.items) false
-    (are.widths q (omega (arith, c.requires.row, are.len))) c.in-None.ensures.least c.scan.invariant.met
+    let plain = c.args.index.now.plain in
+    pass_all (IsMetAt F rows c.scan.asked q) (λ k. bit (row rows q) k && not (bit plain k)) c.scan.at
+    (met-plain F rows c.scan.asked q plain c.requires.state.entries c.requires.index.plain) (length F.columns.items) false
+    (met-past F rows c.scan.asked q c.requires.state.entries) c.in-None.ensures.least c.scan.invariant.met
 
 pub returns-clause-met : goal.returns-clause-met
 returns-clause-met c =
-    let are = c.requires.state.entries in
+    let F = c.args.facts.now in
     let rows = c.args.rows.now in
     let q = c.args.q in
-    skip_all (IsMetAt c.args.facts.now rows c.scan.asked q) (row rows q) c.scan.at (λ k none b. absurd (false≢true (sym none ∙ b)))
-    (length c.args.facts.now.columns.items) false
-    (are.widths q (omega (arith, c.requires.row, are.len))) (λ k low lt. absurd (omega (arith, low, lt, c.scan-test.false, c.len-width.ensures)))
+    let plain = c.args.index.now.plain in
+    pass_all (IsMetAt F rows c.scan.asked q) (λ k. bit (row rows q) k && not (bit plain k)) c.scan.at
+    (met-plain F rows c.scan.asked q plain c.requires.state.entries c.requires.index.plain) (length F.columns.items) false
+    (met-past F rows c.scan.asked q c.requires.state.entries) (λ k low lt. absurd (omega (arith, low, lt, c.scan-test.false, c.len-width.ensures)))
     c.scan.invariant.met

@@ -3,7 +3,7 @@ use Rattle.table_rules.proofs.closing.round.Goals as goal
 
 pub returns-clause-closed : goal.returns-clause-closed
 returns-clause-closed c =
-    let closed = rw c.deref-2.ensures.value at c.close_rows-columns.ensures.closed in
+    let closed = rw c.deref.ensures.value at c.close_rows-columns.ensures.closed in
     round_closed c.args.facts.now c.args.pt.now.rows.items c.meet_rows.new.asked c.args.rows.now c.close_rows-columns.new.rows
     c.pass_ties-ties.new.rows c.pass_sites-sites.new.rows c.args.index.now
     c.close_rows-columns.result c.pass_ties-ties.result c.pass_sites-sites.result c.requires.index c.meet_rows.ensures.state.flows c.meet_rows.ensures.met

@@ -8,7 +8,7 @@ pub returns-then-not-is_same_class : goal.returns-then-not-is_same_class
 returns-then-not-is_same_class c =
     let exact = strictly-exact c.args.facts.now c.requires.facts.acyclic c.args.a.0 c.args.b.0 in
     let ne : c.args.a.0 ≢ c.args.b.0 = λ e. false≢true (c.if-not-is_same_class.ensures.1 e) in
-    (λ h. exact.1 ne (c.is_below.ensures.exact.0 h), λ s. c.is_below.ensures.exact.1 (exact.0 s).1)
+    (λ h. exact.1 ne (c.is_below.ensures.0 h), λ s. c.is_below.ensures.1 (exact.0 s).1)
 
 pub returns-else-not-is_same_class : goal.returns-else-not-is_same_class
 returns-else-not-is_same_class c =

@@ -1,6 +1,6 @@
 use Rattle.std.proofs.Common.{take}
-use Rattle.table_rules.specs.Above.{Gained}
-use Rattle.table_rules.proofs.above.reach_all.Given as goal
+use Rattle.points_to.specs.Above.{Gained}
+use Rattle.points_to.proofs.above.reach_all.Given as goal
 
 -- the first of them are in the row
 abbrev pub invariant-loop-x : goal.invariant-loop-x

@@ -1,7 +1,7 @@
 use Rattle.std.proofs.Common.{◌+◌, ◌-◌, length}
 use Rattle.kaba_bits.specs.Sets.{size}
-use Rattle.table_rules.specs.Above.{Walked}
-use Rattle.table_rules.proofs.above.walk.Given as goal
+use Rattle.points_to.specs.Above.{Walked}
+use Rattle.points_to.proofs.above.classes_above.Given as goal
 
 abbrev pub invariant-walk : goal.invariant-walk
 invariant-walk l = Walked l.facts l.fn.a.0 l.row l.waiting.items

@@ -1,9 +1,9 @@
 use Rattle.std.proofs.Common.{◌≡◌, [], ◌++◌, sym, ap, subst}
 use Rattle.std.specs.Option.{option_to_list, option_map_or, option_and_then}
 use Rattle.fact_model.specs.Classes.{supers_of}
-use Rattle.table_rules.specs.Above.{Gained}
-use Rattle.table_rules.proofs.AboveLemmas.{gained-then}
-use Rattle.table_rules.proofs.above.reach_supers.Goals as goal
+use Rattle.points_to.specs.Above.{Gained}
+use Rattle.points_to.proofs.AboveLemmas.{gained-then}
+use Rattle.points_to.proofs.above.reach_supers.Goals as goal
 
 pub returns : goal.returns
 returns c =

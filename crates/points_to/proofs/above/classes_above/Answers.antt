@@ -2,9 +2,9 @@ use Rattle.std.proofs.Common.{◌≡◌, ◌∷◌, [], Contains, sym, ◌∙◌
 use Rattle.std.proofs.lemmas.Bool.{false≢true}
 use Rattle.std.proofs.lemmas.List.{nil_from_length}
 use Rattle.std.proofs.lemmas.List.Elements.{Contains-push}
-use Rattle.table_rules.specs.Above.{Walked, Gained}
-use Rattle.table_rules.proofs.AboveLemmas.{walked-start, walked-step, walked-end}
-use Rattle.table_rules.proofs.above.walk.Goals as goal
+use Rattle.points_to.specs.Above.{Walked, Gained}
+use Rattle.points_to.proofs.AboveLemmas.{walked-start, walked-step, walked-end}
+use Rattle.points_to.proofs.above.classes_above.Goals as goal
 
 pub walk-init : goal.walk-init
 walk-init c = walked-start c.args.facts.now c.args.a c.in_ok-row.row c.reach.new.row c.reach.new.waiting.items

@@ -11,7 +11,7 @@ use Rattle.kaba_bits.proofs.SetLemmas.{bit-below}
 use Rattle.fact_model.specs.declared.facts.Facts.{Facts}
 use Rattle.fact_model.specs.Classes.{supers_of, IsBelow, same, through}
 use Rattle.fact_model.specs.InRange.{IsClass}
-use Rattle.table_rules.specs.Above.{class_id, IsAboveRow, Gained, Walked}
+use Rattle.points_to.specs.Above.{class_id, IsAboveRow, Gained, Walked}
 
 pub no-member : {X : Type 0} {P : Type 0} (x : X) → Contains ([]) x → P
 no-member x c = let lt = c.1 in absurd (omega (arith, lt))

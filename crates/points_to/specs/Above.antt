@@ -1,0 +1,43 @@
+-- The classes at or above a class, found by a walk upwards.
+use Rattle.std.specs.Prelude.{◌≡◌, ℕ, ◌+◌, ◌<◌, ◌≤◌, ◌⊎◌, Bool, true, List, length, Contains}
+use Rattle.kaba_base.specs.declared.ClassId.{ClassId}
+use Rattle.kaba_bits.specs.Sets.{bit, row, size}
+use Rattle.fact_model.specs.declared.facts.Facts.{Facts}
+use Rattle.fact_model.specs.Classes.{supers_of, IsBelow}
+use Rattle.fact_model.specs.InRange.{IsClass}
+use Rattle.fact_model.specs.Items.{site_class}
+
+abbrev pub class_id : ℕ → ClassId
+class_id k = record { 0 = k }
+
+-- the row has the classes at or above a
+pub record IsAboveRow (F : Facts) (a : ℕ) (r : List Bool) : Type 0 where
+  pub len : length r ≡ length F.classes.items
+  pub sound : (b : ℕ) → bit r b ≡ true → IsBelow F a b
+  pub whole : (b : ℕ) → IsBelow F a b → bit r b ≡ true
+
+-- the rows of the first n sites have the classes at or above that of the site
+pub record AreSitesAbove (F : Facts) (n : ℕ) (rows : List (List Bool)) : Type 0 where
+  pub len : length rows ≡ n
+  pub each : (s : ℕ) → s < n → IsAboveRow F (site_class F s) (row rows s)
+
+-- a row has gained these classes, and each that is new waits
+pub record Gained (more : List ClassId) (old new : List Bool) (before after : List ClassId) : Type 0 where
+  pub len : length new ≡ length old
+  pub kept : (y : ℕ) → bit old y ≡ true → bit new y ≡ true
+  pub news : (y : ℕ) → bit new y ≡ true → (bit old y ≡ true) ⊎ Contains more (class_id y)
+  pub settled : (y : ℕ) → bit new y ≡ true → (bit old y ≡ true) ⊎ Contains after (class_id y)
+  pub told : (x : ClassId) → Contains more x → bit new x.0 ≡ true
+  pub waits : (y : ClassId) → Contains before y → Contains after y
+  pub comes : (y : ClassId) → Contains after y → Contains before y ⊎ Contains more y
+  pub inside : (x : ClassId) → Contains more x → x.0 < length old
+  pub work : length after + size old ≤ length before + size new
+
+-- the walk so far: what is in the row is at or above a, and what stands directly above that is in the row too, or it waits
+pub record Walked (F : Facts) (a : ℕ) (r : List Bool) (waiting : List ClassId) : Type 0 where
+  pub len : length r ≡ length F.classes.items
+  pub start : bit r a ≡ true
+  pub sound : (y : ℕ) → bit r y ≡ true → IsBelow F a y
+  pub settled : (y : ℕ) → bit r y ≡ true → Contains waiting (class_id y) ⊎ ((x : ClassId) → Contains (supers_of F y) x → bit r x.0 ≡ true)
+  pub from : (y : ClassId) → Contains waiting y → IsBelow F a y.0
+  pub inside : (y : ClassId) → Contains waiting y → IsClass F y

@@ -1,0 +1,108 @@
+//! The classes at or above a class, and at or above that of each site.
+
+ghost use Rattle.std.specs.Prelude.{◌≡◌, ℕ, ◌<◌, ◌↔◌, ◌∷◌, [], length, All, IsTrue, IfSome, IfOk, OnOk};
+ghost use Rattle.std.specs.Option.{option_to_list};
+ghost use Rattle.fact_model.specs.InRange.{InRange, IsClass};
+ghost use Rattle.fact_model.specs.Classes.{supers_of, IsBelow};
+ghost use Rattle.points_to.specs.Above.{Gained, IsAboveRow, AreSitesAbove};
+
+use fact_model::{Facts, class_at};
+use kaba_base::ClassId;
+use kaba_bits::BitRow;
+use std::alloc::{AllocError, Global};
+
+/// Whether a class is at or below another; the row has what is at or above the one.
+pub fn is_below(facts: &Facts, above: &BitRow, a: ClassId, b: ClassId) -> bool
+    requires { IsAboveRow facts.now a.0 above.now }
+    ensures { IsTrue result ↔ IsBelow facts.now a.0 b.0 }
+{
+    let _ = facts;
+    let _ = a;
+    b.0 < above.width() && above.has(b.0)
+}
+
+/// One class, which waits where it is new.
+fn reach(row: &mut BitRow, waiting: &mut Vec<ClassId>, x: ClassId) -> Result<(), AllocError>
+    requires { x.0 < length row.old }
+    ensures { OnOk result (Gained (x ∷ []) row.old row.new waiting.old.items waiting.new.items) }
+{
+    if row.set(x.0) {
+        waiting.push(x)?;
+    }
+    Ok(())
+}
+
+/// These classes, each of which waits where it is new.
+fn reach_all(
+    row: &mut BitRow,
+    waiting: &mut Vec<ClassId>,
+    more: &[ClassId],
+) -> Result<(), AllocError>
+    requires { All (λ x. x.0 < length row.old) more.now }
+    ensures { OnOk result (Gained more.now row.old row.new waiting.old.items waiting.new.items) }
+{
+    for x in more {
+        reach(row, waiting, *x)?;
+    }
+    Ok(())
+}
+
+/// The superclass, where there is one.
+fn reach_parent(
+    row: &mut BitRow,
+    waiting: &mut Vec<ClassId>,
+    parent: Option<ClassId>,
+) -> Result<(), AllocError>
+    requires { IfSome parent (λ x. x.0 < length row.old) }
+    ensures { OnOk result (Gained (option_to_list parent) row.old row.new waiting.old.items waiting.new.items) }
+{
+    match parent {
+        Some(x) => reach(row, waiting, x),
+        None => Ok(()),
+    }
+}
+
+/// What stands directly above a class.
+fn reach_supers(
+    facts: &Facts,
+    row: &mut BitRow,
+    waiting: &mut Vec<ClassId>,
+    x: ClassId,
+) -> Result<(), AllocError>
+    requires facts { InRange facts.now }
+    requires class { IsClass facts.now x }
+    requires len { length row.old ≡ length facts.now.classes.items }
+    ensures { OnOk result (Gained (supers_of facts.now x.0) row.old row.new waiting.old.items waiting.new.items) }
+{
+    let class = class_at(facts, x);
+    reach_parent(row, waiting, class.parent)?;
+    reach_all(row, waiting, class.faces.as_slice())?;
+    Ok(())
+}
+
+/// The classes at or above a class, found by a walk upwards. An error comes only for want of memory.
+pub fn classes_above(alloc: Global, facts: &Facts, a: ClassId) -> Result<BitRow, AllocError>
+    requires facts { InRange facts.now }
+    requires class { IsClass facts.now a }
+    ensures { IfOk result (λ r. IsAboveRow facts.now a.0 r) }
+{
+    let mut row = BitRow::new(alloc, facts.classes.len() as u32)?;
+    let mut waiting = Vec::new(alloc);
+    reach(&mut row, &mut waiting, a)?;
+    'walk: while let Some(x) = waiting.pop() {
+        reach_supers(facts, &mut row, &mut waiting, x)?;
+    }
+    Ok(row)
+}
+
+/// For each site the classes at or above its class. An error comes only for want of memory.
+pub fn above_sites(alloc: Global, facts: &Facts) -> Result<Vec<BitRow>, AllocError>
+    requires { InRange facts.now }
+    ensures { IfOk result (λ v. AreSitesAbove facts.now (length facts.now.sites.items) v.items) }
+{
+    let mut rows = Vec::new(alloc);
+    for s in 0..facts.sites.len() {
+        rows.push(classes_above(alloc, facts, facts.sites[s].class)?)?;
+    }
+    Ok(rows)
+}
