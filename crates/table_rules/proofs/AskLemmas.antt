@@ -13,7 +13,7 @@ use Rattle.fact_model.specs.Items.{column_slot}
 use Rattle.points_to.specs.Begun.{numbers_at}
 use Rattle.table_rules.specs.Marks.{Marked, Grow, AreEntries}
 use Rattle.table_rules.specs.Closed.{ColumnFlows}
-use Rattle.table_rules.specs.Asked.{ArePairs, AreAsked, IsMethod, HaveMethods, place_of, IsNoted, IsMetAt, IsPlain}
+use Rattle.table_rules.specs.Asked.{ArePairs, AreAsked, IsMethod, HaveMethods, place_of, IsNoted, IsMetAt, IsPlain, is_beyond}
 use Rattle.table_rules.proofs.CloseLemmas.{marked-column}
 
 module _ (F : Facts) (a b : List (List Bool)) (grows : Grow a b) where
@@ -83,10 +83,11 @@ module _ (F : Facts) (asked hidden : List (List Bool)) (d : ℕ) where
 
 -- what a row has is met for a column that hides nothing, and for one past the last
 module _ (F : Facts) (rows asked : List (List Bool)) (q : ℕ) where
-  pub met-plain : (plain : List Bool) → AreEntries F rows → IsPlain F plain → (d : ℕ) → (bit (row rows q) d && not (bit plain d)) ≡ false
+  pub met-plain : (plain : List Bool) → AreEntries F rows → IsPlain F plain → (d : ℕ) → is_beyond plain rows q d ≡ false
       → IsMetAt F rows asked q d
   met-plain plain are is d out has c by h =
-      absurd (is.none d c (cleared (bit plain d) (subst (λ x. (x && not (bit plain d)) ≡ false) has out)) (marked-column (length F.columns.items) rows q c are.widths h) by)
+      let hides = cleared (bit plain d) (subst (λ x. (x && not (bit plain d)) ≡ false) has out) in
+      absurd (is.none d c hides (marked-column (length F.columns.items) rows q c are.widths h) by)
     where
       cleared : (b : Bool) → (true && not b) ≡ false → b ≡ true
       cleared true e = refl

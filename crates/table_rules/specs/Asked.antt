@@ -1,5 +1,5 @@
 -- What a column asks of the rows that have it: further columns, and those of a `this`.
-use Rattle.std.specs.Prelude.{◌≡◌, ℕ, ◌%◌, ◌<◌, ◌⊎◌, Bool, true, List, length, All, Contains, Option, Some, None}
+use Rattle.std.specs.Prelude.{◌≡◌, ℕ, ◌%◌, ◌<◌, ◌⊎◌, ◌&&◌, not, Bool, true, List, length, All, Contains, Option, Some, None}
 use Rattle.std.specs.declared.vec.Vec.{Vec}
 use Rattle.std.specs.declared.alloc.Global.{Global}
 use Rattle.kaba_bits.specs.Sets.{bit, row, IsSubset, HasWidth}
@@ -58,6 +58,10 @@ IsThisNoted F lists v = (d : ColId) → row_this F v ≡ Some d → Contains (nu
 -- each of the first n rows is
 abbrev pub HaveThese : Facts → List (Vec ℕ Global) → ℕ → Type 0
 HaveThese F lists n = (v : ℕ) → v < n → IsThisNoted F lists v
+
+-- a column of the row r that is not in a set
+abbrev pub is_beyond : List Bool → List (List Bool) → ℕ → ℕ → Bool
+is_beyond plain rows r d = bit (row rows r) d && not (bit plain d)
 
 -- a set of columns that hide none
 pub record IsPlain (F : Facts) (plain : List Bool) : Type 0 where

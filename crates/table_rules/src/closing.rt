@@ -1,7 +1,7 @@
 //! The least table that holds the raw one and is closed under T5, T6, T8, T9 and T10. A worklist passes on what rows
 //! gain; one turn over what is in the table then shows that nothing was left out.
 
-ghost use Rattle.std.specs.Prelude.{◌≡◌, ℕ, ◌<◌, ◌≤◌, ◌&&◌, not, length, All, Contains, Some, IfOk, IfSome, MatchOption, OnOk};
+ghost use Rattle.std.specs.Prelude.{◌≡◌, ℕ, ◌<◌, ◌≤◌, length, All, Contains, Some, IfOk, IfSome, MatchOption, OnOk};
 ghost use Rattle.std.specs.Bool.{OnFalse};
 ghost use Rattle.kaba_bits.specs.Sets.{bit, row, IsStep, IsNoneFrom};
 ghost use Rattle.fact_model.specs.InRange.{InRange};
@@ -10,7 +10,7 @@ ghost use Rattle.fact_model.specs.Flowing.{AreSets, IsInRow};
 ghost use Rattle.fact_model.specs.Entries.{IsRawTable, IsTable, IsEntry};
 ghost use Rattle.table_rules.specs.Marks.{AreEntries, Grow};
 ghost use Rattle.table_rules.specs.Closed.{IsTieClosed, IsSiteClosedAt, IsSiteClosed, AreClosed};
-ghost use Rattle.table_rules.specs.Asked.{AreAsked, AreOpen, IsIndex, IsMet, IsThisClosed, IsClosedAt, IsRowClosed};
+ghost use Rattle.table_rules.specs.Asked.{AreAsked, AreOpen, is_beyond, IsIndex, IsMet, IsThisClosed, IsClosedAt, IsRowClosed};
 
 use crate::asked::{Columns, columns_of, meet_at};
 use crate::columns::{site_at, this_of};
@@ -144,7 +144,7 @@ pub fn next_beyond(facts: &Facts, plain: &BitRow, rows: &[BitRow], r: usize, at:
     ensures low { IfSome result (λ d. at ≤ d) }
     ensures column { IfSome result (λ d. d < length facts.now.columns.items) }
     ensures entry { IfSome result (IsEntry facts.now r) }
-    ensures least { MatchOption result (IsNoneFrom (λ d. bit (row rows.now r) d && not (bit plain.now d)) at (length facts.now.columns.items)) (λ d. IsNoneFrom (λ k. bit (row rows.now r) k && not (bit plain.now k)) at d) }
+    ensures least { MatchOption result (IsNoneFrom (is_beyond plain.now rows.now r) at (length facts.now.columns.items)) (IsNoneFrom (is_beyond plain.now rows.now r) at) }
 {
     let _ = facts;
     row_at(rows, r).next_beyond(plain, at)

@@ -8,4 +8,5 @@ pub returns-then-is_empty : goal.returns-then-is_empty
 returns-then-is_empty c =
     let F = c.args.facts.now in
     let empty = subst IsEmpty c.row_at.ensures (c.if-is_empty.ensures.empty.0 refl) in
-    subst (IsPlain F) (sym c.set.ensures.after) (plain-more F c.args.hidden.now c.requires.hidden c.args.plain.now c.requires.plain c.args.d c.requires.column empty)
+    subst (IsPlain F) (sym c.set.ensures.after)
+    (plain-more F c.args.hidden.now c.requires.hidden c.args.plain.now c.requires.plain c.args.d c.requires.column empty)
