@@ -22,6 +22,7 @@ mod closing;
 mod fixed;
 mod found;
 mod index;
+mod known;
 mod turns;
 mod unions;
 mod work;

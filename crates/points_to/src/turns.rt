@@ -12,6 +12,7 @@ use crate::begins::begin_sites;
 use crate::bodies::Bodies;
 use crate::found::{Found, nothing};
 use crate::index::{Index, begins_at, empty, note, numbers_at};
+use crate::known::{Known, is_known, link, nothing_known};
 use crate::work::{Edge, Told, pass, pass_site, show};
 use fact_model::Facts;
 use kaba_base::ClassId;
@@ -20,15 +21,15 @@ use std::alloc::{AllocError, Global};
 use std::collections::VecDeque;
 
 /// The sets that grew and were not gone over since, each once; the inclusions found, their numbers by the set that they
-/// begin in and by that and the set that they end in; the points in which one begins that asks for a class; and of each
-/// point the sites that were gone over.
+/// begin in and by both ends; the points in which one begins that asks for a class; and of each point the sites that were
+/// gone over.
 #[derive(Drop)]
 struct Lists {
     waiting: VecDeque<usize>,
     waits: Vec<bool>,
     edges: Vec<Edge>,
     of_sets: Vec<Vec<usize>>,
-    of_pairs: Vec<Vec<usize>>,
+    known: Known,
     asks: Vec<bool>,
     begun: Vec<BitRow>,
 }
@@ -57,57 +58,32 @@ fn edge_at(facts: &Facts, lists: &Lists, i: usize) -> Option<Edge>
     }
 }
 
-/// Whether two inclusions are one.
-fn is_same_edge(a: Edge, b: Edge) -> bool {
-    a.from == b.from && a.to == b.to && a.class == b.class
-}
-
-/// Where the inclusions from a set into another are listed.
-fn place_of(lists: &Lists, x: Edge) -> usize {
-    let count = lists.of_pairs.len();
-    if count == 0 {
-        return 0;
-    }
-    x.from.wrapping_mul(31).wrapping_add(x.to) % count
-}
-
-/// Whether an inclusion was found before.
-fn is_known(lists: &Lists, x: Edge) -> bool {
-    for i in numbers_at(&lists.of_pairs, place_of(lists, x)) {
-        if *i < lists.edges.len() && is_same_edge(lists.edges[*i], x) {
-            return true;
-        }
-    }
-    false
-}
-
 /// Notes the number of an inclusion. An error comes only for want of memory.
-fn note_edge(lists: &mut Lists, x: Edge, at: usize) -> Result<(), AllocError>
+fn note_edge(alloc: Global, lists: &mut Lists, x: Edge, at: usize) -> Result<(), AllocError>
     ensures { lists.new.edges ≡ lists.old.edges }
 {
-    let place = place_of(lists, x);
     note(&mut lists.of_sets, x.from, at)?;
-    note(&mut lists.of_pairs, place, at)?;
     if x.class.is_some() && x.from < lists.asks.len() {
         lists.asks[x.from] = true;
     }
-    Ok(())
+    link(alloc, &mut lists.known, &lists.edges)
 }
 
 /// Keeps an inclusion for what comes later. An error comes only for want of memory.
-fn keep(facts: &Facts, lists: &mut Lists, x: Edge) -> Result<(), AllocError>
+fn keep(alloc: Global, facts: &Facts, lists: &mut Lists, x: Edge) -> Result<(), AllocError>
     requires edges { All (IsEdge facts.now) lists.old.edges.items }
     requires edge { IsEdge facts.now x }
     ensures { OnOk result (All (IsEdge facts.now) lists.new.edges.items) }
 {
     let at = lists.edges.len();
     lists.edges.push(x)?;
-    note_edge(lists, x, at)?;
+    note_edge(alloc, lists, x, at)?;
     Ok(())
 }
 
 /// An inclusion that was found: what is there is passed on, and it is kept. An error comes only for want of memory.
 fn take_edge(
+    alloc: Global,
     facts: &Facts,
     above: &[BitRow],
     sets: &mut [BitRow],
@@ -122,10 +98,10 @@ fn take_edge(
     ensures sets { OnOk result (AreSound facts.now sets.new) }
     ensures edges { OnOk result (All (IsEdge facts.now) lists.new.edges.items) }
 {
-    if is_known(lists, x) {
+    if is_known(&lists.known, &lists.edges, x) {
         return Ok(());
     }
-    keep(facts, lists, x)?;
+    keep(alloc, facts, lists, x)?;
     if pass(facts, above, sets, x) {
         wake(lists, x.to)?;
     }
@@ -134,6 +110,7 @@ fn take_edge(
 
 /// Each inclusion of a list. An error comes only for want of memory.
 fn take_edges(
+    alloc: Global,
     facts: &Facts,
     above: &[BitRow],
     sets: &mut [BitRow],
@@ -149,7 +126,7 @@ fn take_edges(
     ensures edges { OnOk result (All (IsEdge facts.now) lists.new.edges.items) }
 {
     for x in list {
-        take_edge(facts, above, sets, lists, *x)?;
+        take_edge(alloc, facts, above, sets, lists, *x)?;
     }
     Ok(())
 }
@@ -178,6 +155,7 @@ fn take_told(
 
 /// What was found. An error comes only for want of memory.
 fn take(
+    alloc: Global,
     facts: &Facts,
     above: &[BitRow],
     sets: &mut [BitRow],
@@ -192,7 +170,7 @@ fn take(
     ensures sets { OnOk result (AreSound facts.now sets.new) }
     ensures edges { OnOk result (All (IsEdge facts.now) lists.new.edges.items) }
 {
-    take_edges(facts, above, sets, lists, &found.edges)?;
+    take_edges(alloc, facts, above, sets, lists, &found.edges)?;
     take_told(facts, sets, lists, &found.told)?;
     Ok(())
 }
@@ -333,7 +311,7 @@ fn begin_news(
     if p < facts.points.len() && begins_at(&index.begins, p).len() > 0 {
         let mut found = nothing(alloc);
         begin_sites(facts, index, bodies, sets, &mut found, p as u32, news)?;
-        take(facts, &index.above, sets, lists, &found)?;
+        take(alloc, facts, &index.above, sets, lists, &found)?;
     }
     Ok(())
 }
@@ -409,7 +387,7 @@ fn empty_lists(alloc: Global, facts: &Facts) -> Result<Lists, AllocError>
         waits: vec![in alloc; false; count]?,
         edges: Vec::new(alloc),
         of_sets: empty(alloc, count)?,
-        of_pairs: empty(alloc, count)?,
+        known: nothing_known(alloc),
         asks: vec![in alloc; false; count]?,
         begun: empty_rows(alloc, facts.points.len(), facts.sites.len() as u32)?,
     })
@@ -432,7 +410,7 @@ pub fn grow(
     ensures { OnOk result (AreSound facts.now sets.new) }
 {
     let mut lists = empty_lists(alloc, facts)?;
-    take(facts, &index.above, sets, &mut lists, fixed)?;
+    take(alloc, facts, &index.above, sets, &mut lists, fixed)?;
     run(alloc, facts, index, bodies, sets, &mut lists)?;
     Ok(())
 }
