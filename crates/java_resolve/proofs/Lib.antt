@@ -44,3 +44,4 @@ pub mod OnlyStatements
 pub mod OnlyWhole
 pub mod SpotLemmas
 pub mod ClashSpots
+pub mod OwnedLemmas

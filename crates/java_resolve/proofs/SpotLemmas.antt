@@ -1,19 +1,26 @@
 -- Where names stand: what is found by a name's numbers is what is found by going over all.
-use Rattle.std.proofs.Common.{◌≡◌, ℕ, ◌+◌, ◌<◌, ◌≤◌, suc, Bool, true, false, ◌&&◌, cond, List, [], ◌∷◌, ◌++◌, map, length, get_or, drop, drop-cons, Option, Some, Result, Ok, Err, refl, sym, ap, ◌∙◌, subst}
+use Rattle.std.proofs.Common.{◌≡◌, ℕ, ◌+◌, suc, Bool, true, false, ◌&&◌, cond, List, [], ◌∷◌, ◌++◌, map, length, Option, Some, None, Result, Ok, Err, arith, refl, sym, ap, ◌∙◌, subst}
 use Rattle.std.specs.Prelude.{slice_get, ◌==◌, if◌then◌else◌}
 use Rattle.std.specs.List.{position_from}
 use Rattle.std.specs.Option.{option_map_or}
 use Rattle.std.specs.declared.vec.Vec.{Vec}
 use Rattle.std.specs.declared.alloc.Global.{Global}
 use Rattle.std.specs.Str.{bytes_eq, encode_utf8_all}
-use Rattle.std.proofs.lemmas.List.{append-nil, append_assoc, length-append, at_drop_all}
+use Rattle.std.proofs.lemmas.List.{append_assoc, length-append, length-map, map-append}
 use Rattle.std.proofs.lemmas.Slice.Eq.{bytes_eq-Decides}
 use Rattle.std.proofs.lemmas.Str.{cons_from_encodes}
 use Rattle.std.proofs.Math.Numerals.{add-one}
-use Rattle.java_core.specs.declared.Field.{Field}
+use Rattle.java_core.specs.declared.Local.{Local}
+use Rattle.java_core.specs.declared.Slot.{Slot}
+use Rattle.java_core.specs.declared.Ty.{Ty}
+use Rattle.java_core.specs.Trees.{at_place}
+use Rattle.java_core.specs.Programs.{slot_seen}
+use Rattle.java_resolve.specs.Members.{have_types, same_result, slot_from}
+use Rattle.java_resolve.specs.Found.{fits}
 use Rattle.java_resolve.specs.declared.tables.Heading.{Heading}
-use Rattle.java_resolve.specs.Tables.{is_above, field_from, method_from, met_from}
-use Rattle.java_resolve.specs.Spots.{spots_from, passes, first_among}
+use Rattle.java_resolve.specs.Tables.{is_above, met_from}
+use Rattle.java_resolve.specs.declared.spots.Spots.{Spots}
+use Rattle.java_resolve.specs.Spots.{AreSpots, spots_from, spots_of, passes, first_among}
 
 same_test : (a b : Bool) → (a ≡ true → b ≡ true) → (b ≡ true → a ≡ true) → a ≡ b
 same_test true b h k = sym (h refl)
@@ -34,33 +41,42 @@ text_test a b =
     (λ h. (bytes_eq-Decides a b).1 (encodes-same a b ((bytes_eq-Decides (encode_utf8_all a) (encode_utf8_all b)).0 h)))
     (λ h. (bytes_eq-Decides (encode_utf8_all a) (encode_utf8_all b)).1 (ap encode_utf8_all ((bytes_eq-Decides a b).0 h)))
 
+pub same_ok : {A E : Type 0} (a b : A) → ◌≡◌ {A = Result A E} (Ok a) (Ok b) → a ≡ b
+same_ok a b e = ap (λ o. elim o [ Ok x ↦ x | Err r ↦ a ]) e
+
 -- a list taken under one name, and put back longer
 pub taken-put : (b : Bool) (old mid new : List ℕ) (k : ℕ) (own : List ℕ) → (b ≡ true → own ≡ old) → mid ≡ cond b [] old
     → new ≡ cond b (own ++ k ∷ []) mid → new ≡ cond b (old ++ k ∷ []) old
 taken-put true old mid new k own e f g = g ∙ ap (λ l. l ++ k ∷ []) (e refl)
 taken-put false old mid new k own e f g = g ∙ f
 
--- the numbers so far and those of the rest are still all, after one name more
-pub spot_next : (b : Bool) (old new rest : List ℕ) (k : ℕ) → new ≡ cond b (old ++ k ∷ []) old → new ++ rest ≡ old ++ cond b (k ∷ rest) rest
-spot_next true old new rest k e = ap (λ l. l ++ rest) e ∙ append_assoc old (k ∷ []) rest
-spot_next false old new rest k e = ap (λ l. l ++ rest) e
+-- one name more stands last
+spots-more : (k : ℕ) (names : List (List ℕ)) (x n : List ℕ) → spots_from k n (names ++ x ∷ [])
+    ≡ cond (bytes_eq x n) (spots_from k n names ++ (k + length names) ∷ []) (spots_from k n names)
+spots-more k [] x n = ap (λ j. cond (bytes_eq x n) (j ∷ []) []) (omega arith)
+spots-more k (y ∷ names) x n = go (bytes_eq y n) (bytes_eq x n) (spots-more (k + 1) names x n ∙ ap (λ j. cond (bytes_eq x n)
+    (spots_from (k + 1) n names ++ j ∷ []) (spots_from (k + 1) n names)) (omega arith))
+  where
+    go : (b c : Bool) → spots_from (k + 1) n (names ++ x ∷ [])
+        ≡ cond c (spots_from (k + 1) n names ++ (k + length (y ∷ names)) ∷ []) (spots_from (k + 1) n names)
+        → cond b (k ∷ spots_from (k + 1) n (names ++ x ∷ [])) (spots_from (k + 1) n (names ++ x ∷ []))
+        ≡ cond c (cond b (k ∷ spots_from (k + 1) n names) (spots_from (k + 1) n names) ++ (k + length (y ∷ names)) ∷ [])
+        (cond b (k ∷ spots_from (k + 1) n names) (spots_from (k + 1) n names))
+    go true true h = ap (λ z. k ∷ z) h
+    go true false h = ap (λ z. k ∷ z) h
+    go false true h = h
+    go false false h = h
 
--- the same for a member of a list
-pub spot_step : {A : Type 0} (name : A → List ℕ) (n : List ℕ) (items : List A) (i k : ℕ) (x : A) → i < length items → x ≡ get_or items i x
-    → (old new all : List ℕ) → new ≡ cond (bytes_eq (name x) n) (old ++ k ∷ []) old
-    → old ++ spots_from k n (map name (drop i items)) ≡ all → new ++ spots_from (k + 1) n (map name (drop (i + 1) items)) ≡ all
-spot_step name n items i k x lt is old new all e h =
-    spot_next (bytes_eq (name x) n) old new (spots_from (k + 1) n (map name (drop (i + 1) items))) k e
-    ∙ ap (λ l. old ++ spots_from k n (map name l)) (sym (drop-cons items i x lt ∙ ap (λ z. z ∷ drop (suc i) items) (sym is)
-    ∙ ap (λ j. x ∷ drop j items) (sym (add-one i)))) ∙ h
-
-pub same_ok : {A E : Type 0} (a b : A) → ◌≡◌ {A = Result A E} (Ok a) (Ok b) → a ≡ b
-same_ok a b e = ap (λ o. elim o [ Ok x ↦ x | Err r ↦ a ]) e
-
--- at the end of the list
-pub spot_end : {A : Type 0} (name : A → List ℕ) (n : List ℕ) (items : List A) (i k : ℕ) → length items ≤ i → (old all : List ℕ)
-    → old ++ spots_from k n (map name (drop i items)) ≡ all → old ≡ all
-spot_end name n items i k le old all h = sym (append-nil old) ∙ ap (λ l. old ++ spots_from k n (map name l)) (sym (at_drop_all (λ l. l) items i le)) ∙ h
+-- a table that was right is right with one member more
+pub spots_noted : {A : Type 0} (name : A → List ℕ) (xs ys : List A) (x : A) (k : ℕ) (old new : Spots) → ys ≡ xs ++ x ∷ [] → AreSpots (map name xs) old
+    → k ≡ length xs → ((n : List ℕ) → spots_of new n ≡ cond (bytes_eq (name x) n) (spots_of old n ++ k ∷ []) (spots_of old n)) → AreSpots (map name ys) new
+spots_noted name xs ys x k old new push are long put = subst (λ z. AreSpots z new) (sym (ap (map name) push ∙ map-append name xs (x ∷ [])))
+    (record {
+      exact = λ n. put n ∙ ap (λ z. cond (bytes_eq (name x) n) (z ++ k ∷ []) z) (are.exact n)
+          ∙ ap (λ j. cond (bytes_eq (name x) n) (spots_from 0 n (map name xs) ++ j ∷ []) (spots_from 0 n (map name xs)))
+          (long ∙ sym (length-map xs name) ∙ omega arith)
+          ∙ sym (spots-more 0 (map name xs) (name x) n);
+    })
 
 -- the numbers under a name, where the table was changed under one name
 pub found_items : (b : Bool) (w o : Option (Vec ℕ Global)) → option_map_or (λ v. v.items) (cond b w o) [] ≡ cond b (option_map_or (λ v. v.items) w [])
@@ -93,21 +109,26 @@ module _ {A : Type 0} (name : A → List ℕ) (p : A → Bool) (n : List ℕ) wh
 
 -- ---- the same in the words of the tables
 
-pub field-position : (k c : ℕ) (n : List ℕ) (fs : List Field) → field_from k c n fs ≡ position_from (λ f. (f.owner.0 == c) && bytes_eq f.name n) k fs
-field-position k c n [] = refl
-field-position k c n (f ∷ fs) =
-    ap (λ o. if (f.owner.0 == c) && bytes_eq f.name n then Some k else o)
-    (field-position (suc k) c n fs ∙ ap (λ i. position_from (λ f. (f.owner.0 == c) && bytes_eq f.name n) i fs) (sym (add-one k)))
-
-pub method-position : (k c : ℕ) (n : List ℕ) (hs : List Heading) → method_from k c n hs ≡ position_from (λ h. (h.owner == c) && bytes_eq h.name n) k hs
-method-position k c n [] = refl
-method-position k c n (h ∷ hs) =
-    ap (λ o. if (h.owner == c) && bytes_eq h.name n then Some k else o)
-    (method-position (suc k) c n hs ∙ ap (λ i. position_from (λ h. (h.owner == c) && bytes_eq h.name n) i hs) (sym (add-one k)))
-
 pub met-position : (rows : List (List Bool)) (k c : ℕ) (n : List ℕ) (hs : List Heading) → met_from rows k c n hs
     ≡ position_from (λ h. is_above rows c h.owner && bytes_eq h.name n) k hs
 met-position rows k c n [] = refl
 met-position rows k c n (h ∷ hs) =
     ap (λ o. if is_above rows c h.owner && bytes_eq h.name n then Some k else o)
     (met-position rows (suc k) c n hs ∙ ap (λ i. position_from (λ h. is_above rows c h.owner && bytes_eq h.name n) i hs) (sym (add-one k)))
+
+by-name : (a b c : Bool) → (a && b) && c ≡ (b && c) && a
+by-name true true true = refl
+by-name true true false = refl
+by-name true false c = refl
+by-name false true true = refl
+by-name false true false = refl
+by-name false false c = refl
+
+pub slot-position : (k : ℕ) (n : List ℕ) (ls : List Local) (r : Option Ty) (ss : List Slot) → slot_from k n ls r (map (slot_seen at_place) ss)
+    ≡ position_from (λ s. fits ls r s && bytes_eq s.name n) k ss
+slot-position k n ls r [] = refl
+slot-position k n ls r (s ∷ ss) =
+    ap (λ b. if b then Some k else slot_from (suc k) n ls r (map (slot_seen at_place) ss))
+    (by-name (bytes_eq s.name n) (have_types ls s.params.items) (same_result r s.result))
+    ∙ ap (λ o. if fits ls r s && bytes_eq s.name n then Some k else o)
+    (slot-position (suc k) n ls r ss ∙ ap (λ i. position_from (λ s. fits ls r s && bytes_eq s.name n) i ss) (sym (add-one k)))

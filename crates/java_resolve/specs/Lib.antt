@@ -10,3 +10,5 @@ pub mod Members
 pub mod Resolved
 pub mod Unique
 pub mod Clashes
+pub mod Owned
+pub mod Found

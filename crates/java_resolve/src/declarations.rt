@@ -2,9 +2,11 @@
 #![tactic(auto)]
 
 ghost use Rattle.std.specs.Prelude.{map};
+ghost use Rattle.java_resolve.specs.Owned.{AreOwned, fields_owned, methods_owned};
 ghost use Rattle.java_resolve.specs.Spots.{AreSpots};
 
 use crate::names::Types;
+use crate::owned::Owned;
 use crate::spots::Spots;
 use crate::tables::Heading;
 use java_core::{Field, Hierarchy};
@@ -20,10 +22,13 @@ pub struct Tables {
     pub above: Hierarchy,
     pub fields: Vec<Field>,
     pub headings: Vec<Heading>,
-    /// Where the fields of each name stand.
-    pub field_spots: Spots,
+    /// Where the fields of each class stand.
+    pub own_fields: Owned,
+    /// Where the methods of each class stand.
+    pub own_methods: Owned,
     /// Where the methods of each name stand.
     pub method_spots: Spots,
-    ghost fields_found: { AreSpots (map (λ f. f.name) fields.items) field_spots },
+    ghost fields_found: { AreOwned (fields_owned fields.items) own_fields },
+    ghost own_found: { AreOwned (methods_owned headings.items) own_methods },
     ghost methods_found: { AreSpots (map (λ h. h.name) headings.items) method_spots },
 }

@@ -10,6 +10,8 @@ mod flags;
 mod make;
 mod members;
 mod names;
+mod owned;
+mod slots;
 mod spots;
 mod stmts;
 mod tables;
@@ -28,6 +30,7 @@ ghost use Rattle.java_core.specs.declared.Program.{Program};
 ghost use Rattle.java_core.specs.Subtypes.{subtype_rows};
 ghost use Rattle.java_resolve.specs.Answers.{Gives};
 ghost use Rattle.java_resolve.specs.Members.{members_seen};
+ghost use Rattle.java_resolve.specs.Found.{AreFound};
 ghost use Rattle.java_resolve.specs.Resolved.{resolved, with_bodies, parents_of};
 
 use bodies::methods_of;
@@ -40,7 +43,6 @@ use kaba_base::{ClassId, MemberId};
 use members::{Draft, members_of};
 pub use name_rules::{Form, Refusal};
 use names::Types;
-use spots::{spots_of_fields, spots_of_methods};
 use std::alloc::{AllocError, Global};
 
 /// The superclass of each class.
@@ -63,27 +65,23 @@ fn with_bodies(
     above: Hierarchy,
     draft: Draft,
 ) -> Result<Program, Refusal>
-    requires { above ≡ subtype_rows (map (class_seen at_place) classes.items) }
+    requires rows { above ≡ subtype_rows (map (class_seen at_place) classes.items) }
+    requires found { AreFound draft }
     ensures { Gives {A = Program} {B = Plain} (program_of at_place) result
         (with_bodies (decls list.now) known (map (class_seen at_place) classes.items) above
         (members_seen draft)) }
 {
-    let Ok(method_spots) = spots_of_methods(alloc, &draft.headings) else {
-        return Err(Refusal::Memory);
-    };
-    let Ok(field_spots) = spots_of_fields(alloc, &draft.fields) else {
-        return Err(Refusal::Memory);
-    };
-    let _count = clashes_of(alloc, &above, &method_spots, &draft.headings)?;
+    let _count = clashes_of(alloc, &above, &draft.method_spots, &draft.headings)?;
     let main = main_of(&draft.headings)?;
     let tables = Tables {
         known,
         parents: parents_of(alloc, &classes)?,
         above,
-        field_spots,
+        own_fields: draft.own_fields,
+        own_methods: draft.own_methods,
         fields: draft.fields,
         headings: draft.headings,
-        method_spots,
+        method_spots: draft.method_spots,
     };
     let methods = methods_of(alloc, &tables, list)?;
     match Program::new(

@@ -1,29 +1,30 @@
 //! Fields, methods and slots.
 #![tactic(auto)]
 
-ghost use Rattle.std.specs.Prelude.{◌≡◌, ℕ, ◌+◌, List, Option, IfOk, Ok, map, is_some};
+ghost use Rattle.std.specs.Prelude.{◌≡◌, ℕ, ◌+◌, List, Option, IfOk, OnOk, Ok, false, is_some};
 ghost use Rattle.std.specs.declared.vec.Vec.{Vec};
 ghost use Rattle.std.specs.declared.alloc.Global.{Global};
 ghost use Rattle.java_tree.specs.Syntax.{head_of, member_of, members, heads, decl_of, decls};
 ghost use Rattle.java_tree.specs.declared.Head.{Head};
 ghost use Rattle.java_core.specs.declared.Ty.{Ty};
 ghost use Rattle.java_core.specs.declared.Local.{Local};
-ghost use Rattle.java_core.specs.Types.{is_base};
-ghost use Rattle.java_core.specs.Trees.{at_place};
-ghost use Rattle.java_core.specs.Programs.{PlainSlot, slot_seen};
 ghost use Rattle.java_resolve.specs.declared.members.Draft.{Draft};
 ghost use Rattle.java_resolve.specs.Answers.{Gives, run};
+ghost use Rattle.java_resolve.specs.Found.{AreFound, with_method, with_field, slot_of};
 ghost use Rattle.java_resolve.specs.Tables.{field_from, method_from};
-ghost use Rattle.java_resolve.specs.Members.{Members, members_seen, has_local, param, params_of, result_of, same_type, same_result, have_types, slot_from, slotted, is_texts, takes_texts, is_main, add_heading, head_step, is_wrong_body, field_step, member_step, interface_step, decl_step, members_of, no_members};
+ghost use Rattle.java_resolve.specs.Members.{Members, members_seen, has_local, param, params_of, result_of, is_texts, takes_texts, is_main, add_heading, head_step, is_wrong_body, field_step, member_step, interface_step, decl_step, members_of, no_members};
 
 use crate::classes::after;
 use crate::flags::{Flags, flags_of};
 use crate::names::{Types, is_same, is_text, names_type, type_of};
+use crate::owned::Owned;
+use crate::slots::{is_base, slotted};
+use crate::spots::Spots;
 use crate::tables::Heading;
 use crate::{Form, Refusal};
 use java_core::{Field, Local, Slot, Ty, TyBase};
 use java_tree::{Decl, Head, Member, Param, Stmt, TypeName};
-use kaba_base::{ClassId, MemberId, Name, Place};
+use kaba_base::{ClassId, Name, Place};
 use name_rules::Kind;
 use std::alloc::{AllocError, Global};
 
@@ -33,6 +34,14 @@ pub struct Draft {
     pub fields: Vec<Field>,
     pub headings: Vec<Heading>,
     pub slots: Vec<Slot>,
+    /// Where the fields of each class stand.
+    pub own_fields: Owned,
+    /// Where the methods of each class stand.
+    pub own_methods: Owned,
+    /// Where the methods of each name stand.
+    pub method_spots: Spots,
+    /// Where the slots of each name stand.
+    pub slot_spots: Spots,
 }
 
 fn has_local(name: &Name, list: &[Local]) -> bool
@@ -86,89 +95,6 @@ pub fn result_of(alloc: Global, known: &Types, ty: &Option<TypeName>) -> Result<
     }
 }
 
-fn is_base(a: TyBase, b: TyBase) -> bool
-    ensures { result ≡ is_base a b }
-{
-    match a {
-        TyBase::Int => match b {
-            TyBase::Int => true,
-            _ => false,
-        },
-        TyBase::Boolean => match b {
-            TyBase::Boolean => true,
-            _ => false,
-        },
-        TyBase::Char => match b {
-            TyBase::Char => true,
-            _ => false,
-        },
-        TyBase::Str => match b {
-            TyBase::Str => true,
-            _ => false,
-        },
-        TyBase::Class(class) => match b {
-            TyBase::Class(other) => class.0 == other.0,
-            _ => false,
-        },
-    }
-}
-
-fn same_type(a: Ty, b: Ty) -> bool
-    ensures { result ≡ same_type a b }
-{
-    is_base(a.base, b.base) & (a.dim == b.dim)
-}
-
-fn same_result(a: Option<Ty>, b: Option<Ty>) -> bool
-    ensures { result ≡ same_result a b }
-{
-    match a {
-        None => b.is_none(),
-        Some(a) => match b {
-            None => false,
-            Some(b) => same_type(a, b),
-        },
-    }
-}
-
-/// Whether the parameters have these types.
-fn have_types(locals: &[Local], types: &[Ty]) -> bool
-    ensures { result ≡ have_types locals.now types.now }
-{
-    match locals {
-        [] => types.is_empty(),
-        [local, locals @ ..] => match types {
-            [] => false,
-            [ty, types @ ..] => same_type(local.ty, *ty) & have_types(locals, types),
-        },
-    }
-}
-
-/// The slot of a name, parameters and a result.
-fn slot_from(name: &Name, locals: &[Local], outcome: Option<Ty>, slots: &Vec<Slot>) -> Option<usize>
-    ensures { result ≡ slot_from 0 name.now locals.now outcome (map (slot_seen at_place) slots.now.items) }
-{
-    for (i, slot) in slots.iter().enumerate() {
-        let same = is_same(&slot.name, name);
-        let types = have_types(locals, slot.params.as_slice());
-        if same & types & same_result(outcome, slot.result) {
-            return Some(i);
-        }
-    }
-    None
-}
-
-/// The types of parameters.
-fn types_of(alloc: Global, locals: &[Local]) -> Result<Vec<Ty>, AllocError>
-    ensures { IfOk result (λ v. v.items ≡ map (λ l. l.ty) locals.now) }
-{
-    let mut types = Vec::new(alloc);
-    for local in locals {
-        types.push(local.ty)?;
-    }
-    Ok(types)
-}
-
 /// The number of a position in a list.
 pub fn number_at(at: usize) -> Result<u32, Refusal>
     ensures { Gives (λ k. k) result (Ok at) }
@@ -177,31 +103,6 @@ pub fn number_at(at: usize) -> Result<u32, Refusal>
         Ok(number) => Ok(number),
         Err(_) => Err(Refusal::Memory),
     }
-}
-
-/// The slot of an instance method, a new one where there is none like it.
-fn slotted(
-    alloc: Global,
-    slots: &mut Vec<Slot>,
-    name: &Name,
-    locals: &[Local],
-    outcome: Option<Ty>,
-    first: usize,
-) -> Result<u32, Refusal>
-    ensures { Gives {A = ℕ} {B = ℕ × List PlainSlot} (λ k. (k, map (slot_seen at_place) slots.new.items))
-        result (Ok (slotted name.now locals.now outcome first (map (slot_seen at_place) slots.old.items))) }
-{
-    if let Some(slot) = slot_from(name, locals, outcome, slots) {
-        return number_at(slot);
-    }
-    let number = number_at(slots.len())?;
-    slots.push(Slot {
-        name: name.copy(alloc)?,
-        params: types_of(alloc, locals)?,
-        result: outcome,
-        first: MemberId(number_at(first)?),
-    })?;
-    Ok(number)
 }
 
 /// Whether the parameters are one `String[]`.
@@ -229,6 +130,83 @@ fn is_main(
     Ok(is_static & outcome.is_none() & main & takes_texts(locals))
 }
 
+/// Whether a class has a method of this name.
+fn has_method(draft: &Draft, owner: u32, name: &Name) -> bool
+    requires { AreFound draft.now }
+    ensures { result ≡ is_some (method_from 0 owner name.now draft.now.headings.items) }
+{
+    draft.own_methods.at(owner, name).is_some()
+}
+
+/// Whether a class has a field of this name.
+fn has_field(draft: &Draft, owner: u32, name: &Name) -> bool
+    requires { AreFound draft.now }
+    ensures { result ≡ is_some (field_from 0 owner name.now draft.now.fields.items) }
+{
+    draft.own_fields.at(owner, name).is_some()
+}
+
+/// One method more, which its class does not have yet.
+fn add_method(alloc: Global, draft: &mut Draft, heading: Heading) -> Result<(), Refusal>
+    requires found { AreFound draft.old }
+    requires fresh { is_some (method_from 0 heading.owner heading.name draft.old.headings.items) ≡ false }
+    ensures given { Gives (λ _. members_seen draft.new) result (Ok (with_method (members_seen draft.old) heading)) }
+    ensures found { OnOk result (AreFound draft.new) }
+{
+    let number = number_at(draft.headings.len())?;
+    draft
+        .own_methods
+        .note(alloc, heading.owner, &heading.name, number)?;
+    draft.method_spots.note(alloc, &heading.name, number)?;
+    draft.headings.push(heading)?;
+    Ok(())
+}
+
+/// One field more, which its class does not have yet.
+fn add_field(alloc: Global, draft: &mut Draft, field: Field) -> Result<(), Refusal>
+    requires found { AreFound draft.old }
+    requires fresh { is_some (field_from 0 field.owner.0 field.name draft.old.fields.items) ≡ false }
+    ensures given { Gives (λ _. members_seen draft.new) result (Ok (with_field (members_seen draft.old) field)) }
+    ensures found { OnOk result (AreFound draft.new) }
+{
+    let number = number_at(draft.fields.len())?;
+    draft
+        .own_fields
+        .note(alloc, field.owner.0, &field.name, number)?;
+    draft.fields.push(field)?;
+    Ok(())
+}
+
+/// The slot of a method of this name; a static method has none.
+fn slot_of(
+    alloc: Global,
+    draft: &mut Draft,
+    is_static: bool,
+    name: &Name,
+    locals: &[Local],
+    outcome: Option<Ty>,
+) -> Result<Option<u32>, Refusal>
+    requires found { AreFound draft.old }
+    ensures given { Gives {A = Option ℕ} {B = Option ℕ × Members} (λ k. (k, members_seen draft.new)) result
+        (Ok (slot_of is_static name.now locals.now outcome (members_seen draft.old))) }
+    ensures found { OnOk result (AreFound draft.new) }
+{
+    if is_static {
+        return Ok(None);
+    }
+    let first = number_at(draft.headings.len())?;
+    let slot = slotted(
+        alloc,
+        &mut draft.slots,
+        &mut draft.slot_spots,
+        name,
+        locals,
+        outcome,
+        first,
+    )?;
+    Ok(Some(slot))
+}
+
 /// One method more of a class or interface.
 fn head_step(
     alloc: Global,
@@ -238,34 +216,21 @@ fn head_step(
     head: &Head,
     flags: Flags,
 ) -> Result<(), Refusal>
-    ensures { Gives (λ _. members_seen draft.new) result (head_step known.now owner (members_seen draft.old) (head_of head.now) flags) }
+    requires found { AreFound draft.old }
+    ensures given { Gives (λ _. members_seen draft.new) result (head_step known.now owner (members_seen draft.old)
+        (head_of head.now) flags) }
+    ensures found { OnOk result (AreFound draft.new) }
 {
-    if has_method(draft.headings.as_slice(), owner, &head.name) {
+    if has_method(draft, owner, &head.name) {
         return Err(Refusal::Twice(head.name.copy(alloc)?, head.place));
     }
     let params = params_of(alloc, known, head.params.as_slice())?;
     let outcome = result_of(alloc, known, &head.result)?;
-    let first = draft.headings.len();
-    let is_main = is_main(
-        alloc,
-        flags.is_static,
-        &head.name,
-        params.as_slice(),
-        outcome,
-    )?;
-    let slot = if flags.is_static {
-        None
-    } else {
-        Some(slotted(
-            alloc,
-            &mut draft.slots,
-            &head.name,
-            params.as_slice(),
-            outcome,
-            first,
-        )?)
-    };
-    draft.headings.push(Heading {
+    let locals = params.as_slice();
+    let is_main = is_main(alloc, flags.is_static, &head.name, locals, outcome)?;
+    let slot = slot_of(alloc, draft, flags.is_static, &head.name, locals, outcome)?;
+    drop(params);
+    let heading = Heading {
         owner,
         name: head.name.copy(alloc)?,
         is_static: flags.is_static,
@@ -273,30 +238,8 @@ fn head_step(
         is_main,
         slot,
         place: head.place,
-    })?;
-    Ok(())
-}
-
-fn has_method(list: &[Heading], owner: u32, name: &Name) -> bool
-    ensures { result ≡ is_some (method_from 0 owner name.now list.now) }
-{
-    for heading in list {
-        if (heading.owner == owner) & is_same(&heading.name, name) {
-            return true;
-        }
-    }
-    false
-}
-
-fn has_field(list: &[Field], owner: u32, name: &Name) -> bool
-    ensures { result ≡ is_some (field_from 0 owner name.now list.now) }
-{
-    for field in list {
-        if (field.owner.0 == owner) & is_same(&field.name, name) {
-            return true;
-        }
-    }
-    false
+    };
+    add_method(alloc, draft, heading)
 }
 
 /// Whether the body of a method is missing or not allowed.
@@ -321,23 +264,26 @@ fn field_step(
     name: &Name,
     place: Place,
 ) -> Result<(), Refusal>
-    ensures { Gives (λ _. members_seen draft.new) result (field_step known.now owner (members_seen draft.old) flags ty.now name.now place) }
+    requires found { AreFound draft.old }
+    ensures given { Gives (λ _. members_seen draft.new) result (field_step known.now owner (members_seen draft.old)
+        flags ty.now name.now place) }
+    ensures found { OnOk result (AreFound draft.new) }
 {
     let ty = type_of(alloc, known, ty)?;
     if names_type(alloc, known, name)? {
         return Err(Refusal::TwoKinds(name.copy(alloc)?, place));
     }
-    if has_field(draft.fields.as_slice(), owner, name) {
+    if has_field(draft, owner, name) {
         return Err(Refusal::Twice(name.copy(alloc)?, place));
     }
-    draft.fields.push(Field {
+    let field = Field {
         owner: ClassId(owner),
         name: name.copy(alloc)?,
         is_static: flags.is_static,
         ty,
         place,
-    })?;
-    Ok(())
+    };
+    add_field(alloc, draft, field)
 }
 
 /// One member more of a class.
@@ -349,7 +295,10 @@ fn member_step(
     draft: &mut Draft,
     member: &Member,
 ) -> Result<(), Refusal>
-    ensures { Gives (λ _. members_seen draft.new) result (member_step known.now owner in_abstract (members_seen draft.old) (member_of member.now)) }
+    requires found { AreFound draft.old }
+    ensures given { Gives (λ _. members_seen draft.new) result (member_step known.now owner in_abstract (members_seen draft.old)
+        (member_of member.now)) }
+    ensures found { OnOk result (AreFound draft.new) }
 {
     match member {
         Member::Field {
@@ -379,7 +328,10 @@ fn interface_step(
     draft: &mut Draft,
     head: &Head,
 ) -> Result<(), Refusal>
-    ensures { Gives (λ _. members_seen draft.new) result (interface_step known.now owner (members_seen draft.old) (head_of head.now)) }
+    requires found { AreFound draft.old }
+    ensures given { Gives (λ _. members_seen draft.new) result (interface_step known.now owner (members_seen draft.old)
+        (head_of head.now)) }
+    ensures found { OnOk result (AreFound draft.new) }
 {
     let flags = flags_of(Kind::Head, head.mods.as_slice())?;
     head_step(alloc, known, owner, draft, head, flags)
@@ -394,7 +346,10 @@ fn class_members(
     draft: &mut Draft,
     list: &Vec<Member>,
 ) -> Result<(), Refusal>
-    ensures { Gives (λ _. members_seen draft.new) result (run (member_step known.now owner in_abstract) (members_seen draft.old) (members list.now.items)) }
+    requires found { AreFound draft.old }
+    ensures given { Gives (λ _. members_seen draft.new) result (run (member_step known.now owner in_abstract) (members_seen draft.old)
+        (members list.now.items)) }
+    ensures found { OnOk result (AreFound draft.new) }
 {
     for member in list {
         member_step(alloc, known, owner, in_abstract, draft, member)?;
@@ -410,7 +365,10 @@ fn interface_members(
     draft: &mut Draft,
     list: &Vec<Head>,
 ) -> Result<(), Refusal>
-    ensures { Gives (λ _. members_seen draft.new) result (run (interface_step known.now owner) (members_seen draft.old) (heads list.now.items)) }
+    requires found { AreFound draft.old }
+    ensures given { Gives (λ _. members_seen draft.new) result (run (interface_step known.now owner) (members_seen draft.old)
+        (heads list.now.items)) }
+    ensures found { OnOk result (AreFound draft.new) }
 {
     for head in list {
         interface_step(alloc, known, owner, draft, head)?;
@@ -426,8 +384,10 @@ fn decl_step(
     draft: &mut Draft,
     decl: &Decl,
 ) -> Result<u32, Refusal>
-    ensures { Gives {A = ℕ} {B = ℕ × Members} (λ k. (k, members_seen draft.new)) result
+    requires found { AreFound draft.old }
+    ensures given { Gives {A = ℕ} {B = ℕ × Members} (λ k. (k, members_seen draft.new)) result
         (decl_step known.now (owner, members_seen draft.old) (decl_of decl.now)) }
+    ensures found { OnOk result (AreFound draft.new) }
 {
     match decl {
         Decl::Class { mods, members, .. } => {
@@ -439,18 +399,44 @@ fn decl_step(
     after(owner)
 }
 
+/// The members of all types of a list, and the number of the next type.
+fn all_members(
+    alloc: Global,
+    known: &Types,
+    draft: &mut Draft,
+    list: &[Decl],
+) -> Result<u32, Refusal>
+    requires found { AreFound draft.old }
+    ensures given { Gives {A = ℕ} {B = ℕ × Members} (λ k. (k, members_seen draft.new)) result
+        (run (decl_step known.now) (1, members_seen draft.old) (decls list.now)) }
+    ensures found { OnOk result (AreFound draft.new) }
+{
+    let mut owner = 1;
+    for decl in list {
+        owner = decl_step(alloc, known, owner, draft, decl)?;
+    }
+    Ok(owner)
+}
+
 /// All members of a tree.
 pub fn members_of(alloc: Global, known: &Types, list: &[Decl]) -> Result<Draft, Refusal>
-    ensures { Gives {A = Draft} {B = Members} members_seen result (members_of known.now (decls list.now)) }
+    ensures given { Gives {A = Draft} {B = Members} members_seen result (members_of known.now (decls list.now)) }
+    ensures found { IfOk result AreFound }
 {
     let mut draft = Draft {
         fields: Vec::new(alloc),
         headings: Vec::new(alloc),
         slots: Vec::new(alloc),
+        own_fields: Owned::new(alloc),
+        own_methods: Owned::new(alloc),
+        method_spots: Spots::new(alloc),
+        slot_spots: Spots::new(alloc),
     };
-    let mut owner = 1;
-    for decl in list {
-        owner = decl_step(alloc, known, owner, &mut draft, decl)?;
+    match all_members(alloc, known, &mut draft, list) {
+        Ok(_) => Ok(draft),
+        Err(refusal) => {
+            drop(draft);
+            Err(refusal)
+        }
     }
-    Ok(draft)
 }

@@ -1,15 +1,11 @@
 //! Where the members of a name stand.
 #![tactic(auto)]
 
-ghost use Rattle.std.specs.Prelude.{◌≡◌, ℕ, List, ◌++◌, ◌∷◌, [], cond, map, OnOk, IfOk};
+ghost use Rattle.std.specs.Prelude.{◌≡◌, ℕ, List, ◌++◌, ◌∷◌, [], cond, OnOk};
 ghost use Rattle.std.specs.Str.{bytes_eq};
 ghost use Rattle.java_resolve.specs.Spots.{AreSpots, spots_of};
 
-use crate::Refusal;
-use crate::classes::after;
-use crate::tables::Heading;
 use indexmap::IndexMap;
-use java_core::Field;
 use kaba_base::Name;
 use std::alloc::{AllocError, Global};
 
@@ -60,30 +56,4 @@ impl Spots {
         self.places.insert(text, list)?;
         Ok(())
     }
-}
-
-/// Where the methods of each name stand; `Memory` where memory is short, or where they are more than numbers of 32 bits.
-pub fn spots_of_methods(alloc: Global, list: &Vec<Heading>) -> Result<Spots, Refusal>
-    ensures { IfOk result (λ s. AreSpots (map (λ h. h.name) list.now.items) s) }
-{
-    let mut spots = Spots::new(alloc);
-    let mut number = 0;
-    for one in list {
-        spots.note(alloc, &one.name, number)?;
-        number = after(number)?;
-    }
-    Ok(spots)
-}
-
-/// Where the fields of each name stand; `Memory` where memory is short, or where they are more than numbers of 32 bits.
-pub fn spots_of_fields(alloc: Global, list: &Vec<Field>) -> Result<Spots, Refusal>
-    ensures { IfOk result (λ s. AreSpots (map (λ f. f.name) list.now.items) s) }
-{
-    let mut spots = Spots::new(alloc);
-    let mut number = 0;
-    for one in list {
-        spots.note(alloc, &one.name, number)?;
-        number = after(number)?;
-    }
-    Ok(spots)
 }

@@ -1,14 +1,14 @@
 //! What a body sees of the declarations.
 #![tactic(auto)]
 
-ghost use Rattle.std.specs.Prelude.{◌≡◌, ◌==◌, slice_get};
+ghost use Rattle.std.specs.Prelude.{◌≡◌, slice_get};
 ghost use Rattle.java_resolve.specs.Spots.{passes, first_among};
 ghost use Rattle.java_resolve.specs.Tables.{table_of, is_above, parent_of, own_field, nearest_field, own_method, method_met};
 ghost use Rattle.name_rules.specs.Meanings.{local_of};
 
 use crate::declarations::Tables;
 use crate::names::is_same;
-use java_core::{Field, Hierarchy};
+use java_core::Hierarchy;
 use kaba_base::{ClassId, Name, Place};
 use name_rules::Bound;
 
@@ -35,50 +35,6 @@ pub fn parent_of(parents: &[Option<ClassId>], class: u32) -> Option<ClassId>
     }
 }
 
-/// Whether a class itself declares the field of this number.
-fn is_field_of(fields: &Vec<Field>, at: u32, class: u32) -> bool
-    ensures { result ≡ passes (λ f. f.owner.0 == class) (slice_get fields.now.items at) }
-{
-    match fields.get(at as usize) {
-        Some(field) => field.owner.0 == class,
-        None => false,
-    }
-}
-
-/// The first of these fields that a class itself declares.
-fn own_field_among(fields: &Vec<Field>, list: &[u32], class: u32) -> Option<usize>
-    ensures { result ≡ first_among (λ f. f.owner.0 == class) fields.now.items list.now }
-{
-    for at in list {
-        if is_field_of(fields, *at, class) {
-            return Some(*at as usize);
-        }
-    }
-    None
-}
-
-/// Whether a class itself declares the method of this number.
-fn is_method_of(headings: &Vec<Heading>, at: u32, class: u32) -> bool
-    ensures { result ≡ passes (λ h. h.owner == class) (slice_get headings.now.items at) }
-{
-    match headings.get(at as usize) {
-        Some(heading) => heading.owner == class,
-        None => false,
-    }
-}
-
-/// The first of these methods that a class itself declares.
-fn own_method_among(headings: &Vec<Heading>, list: &[u32], class: u32) -> Option<usize>
-    ensures { result ≡ first_among (λ h. h.owner == class) headings.now.items list.now }
-{
-    for at in list {
-        if is_method_of(headings, *at, class) {
-            return Some(*at as usize);
-        }
-    }
-    None
-}
-
 /// Whether a class or an ancestor declares the method of this number.
 fn is_met(rows: &Hierarchy, headings: &Vec<Heading>, at: u32, class: u32) -> bool
     ensures { result ≡ passes (λ h. is_above rows.now class h.owner) (slice_get headings.now.items at) }
@@ -102,10 +58,14 @@ fn met_among(rows: &Hierarchy, headings: &Vec<Heading>, list: &[u32], class: u32
 }
 
 /// The number of the field of a name that a class itself declares.
+#[tactic(auto, using(crate::proofs::OwnedLemmas::field_owned))]
 pub fn own_field(tables: &Tables, class: u32, name: &Name) -> Option<usize>
     ensures { result ≡ own_field (table_of tables.now) class name.now }
 {
-    own_field_among(&tables.fields, tables.field_spots.at(name), class)
+    match tables.own_fields.at(class, name) {
+        Some(number) => Some(number as usize),
+        None => None,
+    }
 }
 
 /// The number of the nearest field of a name upwards.
@@ -127,11 +87,14 @@ pub fn nearest_field(tables: &Tables, class: u32, name: &Name) -> Option<usize>
 }
 
 /// The number of the method of a name that a class itself declares.
-#[tactic(auto, unfolding(crate::specs::Tables::own_method))]
+#[tactic(auto, using(crate::proofs::OwnedLemmas::method_owned), unfolding(crate::specs::Tables::own_method))]
 pub fn own_method(tables: &Tables, class: u32, name: &Name) -> Option<usize>
     ensures { result ≡ own_method (table_of tables.now) class name.now }
 {
-    own_method_among(&tables.headings, tables.method_spots.at(name), class)
+    match tables.own_methods.at(class, name) {
+        Some(number) => Some(number as usize),
+        None => None,
+    }
 }
 
 /// The number of the first method of a name in a class and its ancestors.

@@ -2,9 +2,13 @@ use Rattle.std.proofs.Common.{◌≡◌, drop}
 use Rattle.java_tree.specs.Syntax.{members}
 use Rattle.java_resolve.specs.Answers.{run}
 use Rattle.java_resolve.specs.Members.{members_seen, member_step}
+use Rattle.java_resolve.specs.Found.{AreFound}
 use Rattle.java_resolve.proofs.members.class_members.Given as goal
 
 -- the members so far, and then the rest
 abbrev pub invariant-loop-member : goal.invariant-loop-member
-invariant-loop-member l = run (member_step l.known l.owner l.in_abstract) (members_seen l.draft) (members (drop l.member-index l.member-items))
-    ≡ run (member_step l.known l.owner l.in_abstract) (members_seen l.fn.draft) (members l.list.items)
+invariant-loop-member l = record {
+  rest : run (member_step l.known l.owner l.in_abstract) (members_seen l.draft) (members (drop l.member-index l.member-items))
+      ≡ run (member_step l.known l.owner l.in_abstract) (members_seen l.fn.draft) (members l.list.items);
+  found : AreFound l.draft;
+}

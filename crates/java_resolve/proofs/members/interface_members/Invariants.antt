@@ -2,9 +2,13 @@ use Rattle.std.proofs.Common.{◌≡◌, drop}
 use Rattle.java_tree.specs.Syntax.{heads}
 use Rattle.java_resolve.specs.Answers.{run}
 use Rattle.java_resolve.specs.Members.{members_seen, interface_step}
+use Rattle.java_resolve.specs.Found.{AreFound}
 use Rattle.java_resolve.proofs.members.interface_members.Given as goal
 
 -- the methods so far, and then the rest
 abbrev pub invariant-loop-head : goal.invariant-loop-head
-invariant-loop-head l = run (interface_step l.known l.owner) (members_seen l.draft) (heads (drop l.head-index l.head-items))
-    ≡ run (interface_step l.known l.owner) (members_seen l.fn.draft) (heads l.list.items)
+invariant-loop-head l = record {
+  rest : run (interface_step l.known l.owner) (members_seen l.draft) (heads (drop l.head-index l.head-items))
+      ≡ run (interface_step l.known l.owner) (members_seen l.fn.draft) (heads l.list.items);
+  found : AreFound l.draft;
+}

@@ -1,6 +1,6 @@
 use Rattle.std.proofs.Common.{◌≡◌, take}
 use Rattle.std.specs.Prelude.{map}
-use Rattle.java_resolve.proofs.members.types_of.Given as goal
+use Rattle.java_resolve.proofs.slots.types_of.Given as goal
 
 -- the types of the first parameters
 abbrev pub invariant-loop-local : goal.invariant-loop-local
