@@ -136,8 +136,7 @@ fn add_fields_of(
     ensures value { OnOk result (map field_cell_seen found.new.items ≡ map field_cell_seen found.old.items ++ own_at own.now.items class.0) }
 {
     let fields = fields_in(own, class);
-    add_all(fields, found)?;
-    Ok(())
+    add_all(fields, found)
 }
 
 /// The fields of a class and of those above it, the nearest first.
@@ -201,8 +200,7 @@ fn add_object_cells(
     let _ = fields;
     let above = fields_above(alloc, program, own, class)?;
     let sorted = by_place(above)?;
-    add_cells(i, &sorted, cells)?;
-    Ok(())
+    add_cells(i, &sorted, cells)
 }
 
 /// Adds the cells of a site.

@@ -1,6 +1,6 @@
 //! How rows and columns are printed.
 
-ghost use Rattle.std.specs.Prelude.{◌≡◌, ℕ, ◌++◌, [], List, Option, Some, None, IfOk, OnOk, slice_get, string_bytes};
+ghost use Rattle.std.specs.Prelude.{◌≡◌, ℕ, ◌++◌, [], List, Option, Some, None, IfOk, OnOk, codes, slice_get, string_bytes};
 ghost use Rattle.std.specs.Option.{option_map, option_map_or};
 ghost use Rattle.std.specs.Str.{chars};
 ghost use Rattle.java_core.specs.Trees.{at_place};
@@ -39,14 +39,21 @@ fn variable_name(program: &Program, method: u64, i: u64) -> Option<&Name>
     }
 }
 
+/// Adds a text.
+fn add_text(more: &str, text: &mut String) -> Result<(), AllocError>
+    ensures value { OnOk result (string_bytes text.new ≡ string_bytes text.old ++ more.now) }
+{
+    text.push_str(more)
+}
+
 /// Adds the name of a class.
 fn add_class(program: &Program, class: u64, text: &mut String) -> Result<(), AllocError>
     ensures value { OnOk result (string_bytes text.new ≡ string_bytes text.old ++ class_text (program_of at_place program.now) class) }
 {
-    if let Some(class) = program.classes.get(class as usize) {
-        text.push_str(class.name.as_str())?;
+    match program.classes.get(class as usize) {
+        Some(class) => add_text(class.name.as_str(), text),
+        None => Ok(()),
     }
-    Ok(())
 }
 
 /// Adds the name of a member with that of its class.
@@ -59,29 +66,28 @@ fn add_member(
     ensures value { OnOk result (string_bytes text.new ≡ string_bytes text.old ++ member_text (program_of at_place program.now) owner name.now) }
 {
     add_class(program, owner, text)?;
-    text.push_str(".")?;
-    text.push_str(name.as_str())?;
-    Ok(())
+    add_text(".", text)?;
+    add_text(name.as_str(), text)
 }
 
 /// Adds the name of a field with that of its class.
 fn add_field(program: &Program, field: u64, text: &mut String) -> Result<(), AllocError>
     ensures value { OnOk result (string_bytes text.new ≡ string_bytes text.old ++ field_text (program_of at_place program.now) field) }
 {
-    if let Some(field) = program.fields.get(field as usize) {
-        add_member(program, field.owner.0 as u64, &field.name, text)?;
+    match program.fields.get(field as usize) {
+        Some(field) => add_member(program, field.owner.0 as u64, &field.name, text),
+        None => Ok(()),
     }
-    Ok(())
 }
 
 /// Adds the name of a method with that of its class.
 fn add_method(program: &Program, method: u64, text: &mut String) -> Result<(), AllocError>
     ensures value { OnOk result (string_bytes text.new ≡ string_bytes text.old ++ method_text (program_of at_place program.now) method) }
 {
-    if let Some(method) = program.methods.get(method as usize) {
-        add_member(program, method.owner.0 as u64, &method.name, text)?;
+    match program.methods.get(method as usize) {
+        Some(method) => add_member(program, method.owner.0 as u64, &method.name, text),
+        None => Ok(()),
     }
-    Ok(())
 }
 
 /// Adds the name of a parameter or local with those of its method and its class.
@@ -89,11 +95,11 @@ fn add_variable(program: &Program, method: u64, i: u64, text: &mut String) -> Re
     ensures value { OnOk result (string_bytes text.new ≡ string_bytes text.old ++ variable_text (program_of at_place program.now) method i) }
 {
     add_method(program, method, text)?;
-    text.push_str(".")?;
-    if let Some(name) = variable_name(program, method, i) {
-        text.push_str(name.as_str())?;
+    add_text(".", text)?;
+    match variable_name(program, method, i) {
+        Some(name) => add_text(name.as_str(), text),
+        None => Ok(()),
     }
-    Ok(())
 }
 
 /// The first method of a slot.
@@ -112,7 +118,7 @@ fn add_brackets(count: u32, text: &mut String) -> Result<(), AllocError>
 {
     for i in 0..count {
         let _ = i;
-        text.push_str("[]")?;
+        add_text("[]", text)?;
     }
     Ok(())
 }
@@ -122,9 +128,64 @@ fn add_line(alloc: Global, place: Place, text: &mut String) -> Result<(), AllocE
     ensures value { OnOk result (string_bytes text.new ≡ string_bytes text.old ++ at_line place) }
 {
     let line = format!(in alloc; "{}", place.line)?;
-    text.push_str("@")?;
-    text.push_str(line.as_str())?;
-    Ok(())
+    add_text("@", text)?;
+    add_text(line.as_str(), text)
+}
+
+/// Adds the name of a method with that of its class, and what follows.
+fn add_of_method(
+    program: &Program,
+    method: u64,
+    end: &str,
+    text: &mut String,
+) -> Result<(), AllocError>
+    ensures value { OnOk result (string_bytes text.new ≡ string_bytes text.old ++ method_text (program_of at_place program.now) method ++ end.now) }
+{
+    add_method(program, method, text)?;
+    add_text(end, text)
+}
+
+/// Adds a word and the name of a class.
+fn add_of_class(
+    program: &Program,
+    word: &str,
+    class: u64,
+    text: &mut String,
+) -> Result<(), AllocError>
+    ensures value { OnOk result (string_bytes text.new ≡ string_bytes text.old ++ (word.now ++ class_text (program_of at_place program.now) class)) }
+{
+    add_text(word, text)?;
+    add_class(program, class, text)
+}
+
+/// Adds the label of a cast or an `instanceof`, which begins with the word.
+fn add_test(
+    alloc: Global,
+    program: &Program,
+    word: &str,
+    row: &Row,
+    text: &mut String,
+) -> Result<(), AllocError>
+    ensures value { OnOk result (string_bytes text.new ≡ string_bytes text.old
+        ++ (word.now ++ class_text (program_of at_place program.now) row.now.ty.class.0 ++ at_line row.now.place)) }
+{
+    add_of_class(program, word, row.ty.class.0 as u64, text)?;
+    add_line(alloc, row.place, text)
+}
+
+/// Adds the label of a creation.
+fn add_creation(
+    alloc: Global,
+    program: &Program,
+    row: &Row,
+    text: &mut String,
+) -> Result<(), AllocError>
+    ensures value { OnOk result (string_bytes text.new ≡ string_bytes text.old ++ (codes "new "
+        ++ class_text (program_of at_place program.now) row.now.ty.class.0 ++ brackets row.now.ty.dim ++ at_line row.now.place)) }
+{
+    add_of_class(program, "new ", row.ty.class.0 as u64, text)?;
+    add_brackets(row.ty.dim, text)?;
+    add_line(alloc, row.place, text)
 }
 
 /// Adds the label of a row.
@@ -138,54 +199,16 @@ fn add_row_text(
         ++ row_text (program_of at_place program.now) row.now.item
         (class_text (program_of at_place program.now) row.now.ty.class.0) row.now.ty.dim row.now.place) }
 {
-    let class = row.ty.class.0 as u64;
     match row.item {
-        RowItem::Field(field) => {
-            add_field(program, field, text)?;
-            Ok(())
-        }
-        RowItem::This(method) => {
-            add_method(program, method, text)?;
-            text.push_str(".this")?;
-            Ok(())
-        }
-        RowItem::Return(slot) => {
-            add_method(program, first_of(program, slot), text)?;
-            text.push_str(".return")?;
-            Ok(())
-        }
-        RowItem::Param(slot, i) => {
-            add_variable(program, first_of(program, slot), i, text)?;
-            Ok(())
-        }
-        RowItem::Result(method) => {
-            add_method(program, method, text)?;
-            text.push_str(".return")?;
-            Ok(())
-        }
-        RowItem::Local(method, i) => {
-            add_variable(program, method, i, text)?;
-            Ok(())
-        }
-        RowItem::New(_) => {
-            text.push_str("new ")?;
-            add_class(program, class, text)?;
-            add_brackets(row.ty.dim, text)?;
-            add_line(alloc, row.place, text)?;
-            Ok(())
-        }
-        RowItem::Cast(_) => {
-            text.push_str("cast ")?;
-            add_class(program, class, text)?;
-            add_line(alloc, row.place, text)?;
-            Ok(())
-        }
-        RowItem::Test(_) => {
-            text.push_str("instanceof ")?;
-            add_class(program, class, text)?;
-            add_line(alloc, row.place, text)?;
-            Ok(())
-        }
+        RowItem::Field(field) => add_field(program, field, text),
+        RowItem::This(method) => add_of_method(program, method, ".this", text),
+        RowItem::Return(slot) => add_of_method(program, first_of(program, slot), ".return", text),
+        RowItem::Param(slot, i) => add_variable(program, first_of(program, slot), i, text),
+        RowItem::Result(method) => add_of_method(program, method, ".return", text),
+        RowItem::Local(method, i) => add_variable(program, method, i, text),
+        RowItem::New(_) => add_creation(alloc, program, row, text),
+        RowItem::Cast(_) => add_test(alloc, program, "cast ", row, text),
+        RowItem::Test(_) => add_test(alloc, program, "instanceof ", row, text),
     }
 }
 
@@ -199,30 +222,34 @@ pub fn row_label(alloc: Global, program: &Program, row: &Row) -> Result<Name, Al
     Ok(label)
 }
 
+/// Adds the name of what a column is of.
+fn add_column_item(program: &Program, item: ColumnItem, text: &mut String) -> Result<(), AllocError>
+    ensures value { OnOk result (string_bytes text.new ++ codes ")" ≡ string_bytes text.old ++ column_text (program_of at_place program.now) item) }
+{
+    match item {
+        ColumnItem::Fld(field) => {
+            add_text("fld(", text)?;
+            add_field(program, field, text)
+        }
+        ColumnItem::Dcl(method) => {
+            add_text("dcl(", text)?;
+            add_method(program, method, text)
+        }
+        ColumnItem::Def(method) => {
+            add_text("def(", text)?;
+            add_method(program, method, text)
+        }
+        ColumnItem::Is(class) => add_of_class(program, "is(", class.0 as u64, text),
+    }
+}
+
 /// The label of a column.
 pub fn column_label(alloc: Global, program: &Program, item: ColumnItem) -> Result<Name, AllocError>
     ensures value { IfOk result (λ x. x ≡ chars (column_text (program_of at_place program.now) item)) }
 {
     let mut text = String::new(alloc);
-    match item {
-        ColumnItem::Fld(field) => {
-            text.push_str("fld(")?;
-            add_field(program, field, &mut text)?;
-        }
-        ColumnItem::Dcl(method) => {
-            text.push_str("dcl(")?;
-            add_method(program, method, &mut text)?;
-        }
-        ColumnItem::Def(method) => {
-            text.push_str("def(")?;
-            add_method(program, method, &mut text)?;
-        }
-        ColumnItem::Is(class) => {
-            text.push_str("is(")?;
-            add_class(program, class.0 as u64, &mut text)?;
-        }
-    }
-    text.push_str(")")?;
+    add_column_item(program, item, &mut text)?;
+    add_text(")", &mut text)?;
     let label = Name::new(alloc, text.as_str())?;
     Ok(label)
 }

@@ -168,26 +168,16 @@ pub fn add_news(
     ensures value { OnOk result (news.new.items ≡ news.old.items ++ news_of (numbers_seen n.now) m (part_seen part.now)) }
 {
     match part {
-        Part::New(_, _, own) => {
-            add_created(n, own, point_at(n, own), news)?;
-            Ok(())
-        }
-        Part::Set(target, value) => {
-            add_created(n, value, point_at(n, target), news)?;
-            Ok(())
-        }
-        Part::Return(value) => {
-            add_created(n, value, n.point(PointItem::Result(m)), news)?;
-            Ok(())
-        }
-        Part::StaticCall(_, callee, args, _) => {
-            add_created_args(n, *callee as u64, args, news)?;
-            Ok(())
-        }
-        Part::SuperCall(_, Some(callee), args, _) => {
-            add_created_args(n, *callee as u64, args, news)?;
-            Ok(())
-        }
+        Part::New(_, _, own) => add_created(n, own, point_at(n, own), news),
+        Part::Set(target, value) => add_created(n, value, point_at(n, target), news),
+        Part::Return(value) => add_created(n, value, n.point(PointItem::Result(m)), news),
+        Part::StaticCall(_, callee, args, _) => add_created_args(n, *callee as u64, args, news),
+        Part::SuperCall(_, Some(callee), args, _) => add_created_args(
+            n,
+            *callee as u64,
+            args,
+            news,
+        ),
         _ => Ok(()),
     }
 }
@@ -202,19 +192,12 @@ pub fn add_flows(
     ensures value { OnOk result (flows.new.items ≡ flows.old.items ++ flows_of (numbers_seen n.now) m (part_seen part.now)) }
 {
     match part {
-        Part::Set(target, value) => {
-            add_moved(point_at(n, value), point_at(n, target), flows)?;
-            Ok(())
-        }
-        Part::Return(value) => {
-            add_moved(point_at(n, value), n.point(PointItem::Result(m)), flows)?;
-            Ok(())
-        }
+        Part::Set(target, value) => add_moved(point_at(n, value), point_at(n, target), flows),
+        Part::Return(value) => add_moved(point_at(n, value), n.point(PointItem::Result(m)), flows),
         Part::StaticCall(_, callee, args, own) => {
             let callee = *callee as u64;
             add_moved_args(n, callee, args, flows)?;
-            add_moved(n.point(PointItem::Result(callee)), point_at(n, own), flows)?;
-            Ok(())
+            add_moved(n.point(PointItem::Result(callee)), point_at(n, own), flows)
         }
         Part::SuperCall(_, Some(callee), args, own) => {
             let callee = *callee as u64;
@@ -224,8 +207,7 @@ pub fn add_flows(
                 n.point(PointItem::This(m)),
                 n.point(PointItem::This(callee)),
                 flows,
-            )?;
-            Ok(())
+            )
         }
         _ => Ok(()),
     }
@@ -407,13 +389,11 @@ pub fn add_accesses(
     match part {
         Part::Load(_, base, Some(field), _) | Part::Store(_, base, Some(field), _) => {
             let column = n.column(ColumnItem::Fld(*field as u64));
-            add_accessed(row_at(n, base), column, accesses)?;
-            Ok(())
+            add_accessed(row_at(n, base), column, accesses)
         }
         Part::Call(_, base, _, Some(declaration), _, _) => {
             let column = n.column(ColumnItem::Dcl(*declaration as u64));
-            add_accessed(row_at(n, base), column, accesses)?;
-            Ok(())
+            add_accessed(row_at(n, base), column, accesses)
         }
         _ => Ok(()),
     }

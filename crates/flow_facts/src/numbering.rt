@@ -143,10 +143,7 @@ fn add_part_site(
     ensures value { OnOk result (sites.new.items ≡ sites.old.items ++ form_sites (number_among same_row rows.now.keys) (part_seen part.now)) }
 {
     match part {
-        Part::New(place, _, own) => {
-            add_site(rows, *place, own, sites)?;
-            Ok(())
-        }
+        Part::New(place, _, own) => add_site(rows, *place, own, sites),
         _ => Ok(()),
     }
 }

@@ -12,9 +12,9 @@ ghost use Rattle.flow_rules.specs.Operands.{result_in};
 ghost use Rattle.flow_facts.specs.Views.{part_seen, parts_seen, outline_seen, body_seen};
 
 use crate::bodies::parts_of;
+use crate::operands::{class_object, variable_row};
 use crate::ordered::by_place;
 use crate::types::{object_if, object_of};
-use crate::walk::{class_object, variable_row};
 use flow_rules::{
     Body, Column, ColumnItem, ObjectType, Operand, Outline, Part, PointAt, PointItem, Row, RowItem,
 };
@@ -53,10 +53,7 @@ fn add_part_row(rows: &mut Vec<Row>, part: &Part) -> Result<(), AllocError>
     ensures value { OnOk result (rows.new.items ≡ rows.old.items ++ form_rows (part_seen part.now)) }
 {
     match part {
-        Part::New(place, _, own) | Part::Test(place, _, own) => {
-            add_own_row(rows, *place, *own)?;
-            Ok(())
-        }
+        Part::New(place, _, own) | Part::Test(place, _, own) => add_own_row(rows, *place, *own),
         _ => Ok(()),
     }
 }
@@ -149,8 +146,7 @@ fn add_method_rows(
         method.params.len(),
         rows,
     )?;
-    add_form_rows(rows, parts)?;
-    Ok(())
+    add_form_rows(rows, parts)
 }
 
 /// The row of what a method gives back.
@@ -196,10 +192,7 @@ fn add_part_column(columns: &mut Vec<Column>, part: &Part) -> Result<(), AllocEr
             }
             Ok(())
         }
-        Part::Test(place, _, own) => {
-            add_mark(columns, *place, own.ty)?;
-            Ok(())
-        }
+        Part::Test(place, _, own) => add_mark(columns, *place, own.ty),
         _ => Ok(()),
     }
 }
@@ -238,8 +231,7 @@ fn add_method_columns(
             })?;
         }
     }
-    add_form_columns(columns, parts)?;
-    Ok(())
+    add_form_columns(columns, parts)
 }
 
 /// Adds what may be the flow point of a form itself.
@@ -263,10 +255,7 @@ fn add_part_point(points: &mut Vec<PointAt>, part: &Part) -> Result<(), AllocErr
         | Part::Call(place, _, _, _, _, own)
         | Part::StaticCall(place, _, _, own)
         | Part::SuperCall(place, _, _, own)
-        | Part::Test(place, _, own) => {
-            add_own_point(points, *place, *own)?;
-            Ok(())
-        }
+        | Part::Test(place, _, own) => add_own_point(points, *place, *own),
         _ => Ok(()),
     }
 }

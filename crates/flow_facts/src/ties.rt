@@ -180,42 +180,33 @@ pub fn add_ties(
         (program_of no_place program.now) m slot (part_seen part.now)) }
 {
     match part {
-        Part::Set(target, value) => {
-            add_tied(row_at(n, value), row_at(n, target), ties)?;
-            Ok(())
-        }
-        Part::Return(value) => {
-            add_tied(row_at(n, value), n.row(result_row(m, slot)), ties)?;
-            Ok(())
-        }
-        Part::Store(_, _, Some(field), value) => {
-            add_tied(row_at(n, value), n.row(RowItem::Field(*field as u64)), ties)?;
-            Ok(())
-        }
-        Part::ElementStore(_, base, value) => {
-            add_tied(row_at(n, value), row_at(n, base), ties)?;
-            Ok(())
-        }
-        Part::Call(_, _, Some(slot), _, args, _) => {
-            add_slot_args(n, *slot as u64, args, ties)?;
-            Ok(())
-        }
-        Part::StaticCall(_, callee, args, _) => {
-            add_method_args(program, n, *callee as u64, args, ties)?;
-            Ok(())
-        }
-        Part::SuperCall(_, Some(callee), args, _) => {
-            add_method_args(program, n, *callee as u64, args, ties)?;
-            Ok(())
-        }
-        Part::Pair(op, left, right) if is_comparison(*op) => {
-            add_pair(program, n, left, right, ties)?;
-            Ok(())
-        }
-        Part::Test(_, operand, own) => {
-            add_test(program, n, operand, own, ties)?;
-            Ok(())
-        }
+        Part::Set(target, value) => add_tied(row_at(n, value), row_at(n, target), ties),
+        Part::Return(value) => add_tied(row_at(n, value), n.row(result_row(m, slot)), ties),
+        Part::Store(_, _, Some(field), value) => add_tied(
+            row_at(n, value),
+            n.row(RowItem::Field(*field as u64)),
+            ties,
+        ),
+        Part::ElementStore(_, base, value) => add_tied(row_at(n, value), row_at(n, base), ties),
+        Part::Call(_, _, Some(slot), _, args, _) => add_slot_args(n, *slot as u64, args, ties),
+        Part::StaticCall(_, callee, args, _) => add_method_args(
+            program,
+            n,
+            *callee as u64,
+            args,
+            ties,
+        ),
+        Part::SuperCall(_, Some(callee), args, _) => add_method_args(
+            program,
+            n,
+            *callee as u64,
+            args,
+            ties,
+        ),
+        Part::Pair(op, left, right) if is_comparison(*op) => add_pair(
+            program, n, left, right, ties,
+        ),
+        Part::Test(_, operand, own) => add_test(program, n, operand, own, ties),
         _ => Ok(()),
     }
 }
