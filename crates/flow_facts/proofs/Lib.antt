@@ -12,3 +12,4 @@ pub mod Owned
 pub mod Ranged
 pub mod Gathers
 pub mod Walks
+pub mod Passed

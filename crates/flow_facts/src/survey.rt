@@ -12,9 +12,9 @@ ghost use Rattle.flow_rules.specs.Operands.{result_in};
 ghost use Rattle.flow_facts.specs.Views.{part_seen, parts_seen, outline_seen, body_seen};
 
 use crate::bodies::parts_of;
-use crate::operands::{class_object, variable_row};
 use crate::ordered::by_place;
 use crate::types::{object_if, object_of};
+use crate::walk::{class_object, variable_row};
 use flow_rules::{
     Body, Column, ColumnItem, ObjectType, Operand, Outline, Part, PointAt, PointItem, Row, RowItem,
 };
@@ -146,7 +146,8 @@ fn add_method_rows(
         method.params.len(),
         rows,
     )?;
-    add_form_rows(rows, parts)
+    add_form_rows(rows, parts)?;
+    Ok(())
 }
 
 /// The row of what a method gives back.
@@ -231,7 +232,8 @@ fn add_method_columns(
             })?;
         }
     }
-    add_form_columns(columns, parts)
+    add_form_columns(columns, parts)?;
+    Ok(())
 }
 
 /// Adds what may be the flow point of a form itself.

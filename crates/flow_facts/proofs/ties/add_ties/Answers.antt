@@ -5,8 +5,7 @@ use Rattle.java_core.specs.Trees.{no_place}
 use Rattle.java_core.specs.Programs.{program_of}
 use Rattle.flow_facts.proofs.ties.add_ties.Goals as goal
 
-pub returns-in_ok-add_slot_args-in-Call-default-default-Some-default-default-default :
-    goal.returns-in_ok-add_slot_args-in-Call-default-default-Some-default-default-default
-returns-in_ok-add_slot_args-in-Call-default-default-Some-default-default-default c =
-    let added = c.in_ok-add_slot_args-in-Call-default-default-Some-default-default-default.ensures.value (program_of no_place c.args.program.now) in
+pub returns-in-Call-default-default-Some-default-default-default : goal.returns-in-Call-default-default-Some-default-default-default
+returns-in-Call-default-default-Some-default-default-default c =
+    let added = c.add_slot_args.ensures.value (program_of no_place c.args.program.now) in
     record { value = grind (arith, common_steps, added) }
