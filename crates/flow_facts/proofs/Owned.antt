@@ -1,7 +1,7 @@
 -- The fields at or above a class, found along its superclasses and put in the order of their columns.
 use Rattle.std.proofs.Common.{◌≡◌, ℕ, zero, suc, ◌+◌, ◌<◌, ◌≤◌, Bool, true, false, cond, List, [], ◌∷◌, ◌++◌, length, map, get_or, refl, sym, ap, ◌∙◌, subst, arith}
 use mathlib.Core.Path.{fun_ext}
-use Rattle.std.specs.Prelude.{◌==◌, ◌||◌, nat_lt, filter, Option, Some, None, slice_get, slice_set, slice_index_or, option_and_then, Contains}
+use Rattle.std.specs.Prelude.{◌==◌, ◌||◌, filter, Option, Some, None, slice_get, slice_set, slice_index_or, option_and_then, Contains}
 use Rattle.std.specs.Option.{option_map_or, option_to_list}
 use Rattle.std.specs.List.{flat_map, list_any}
 use Rattle.std.proofs.lemmas.Bool.{eqb-true, eq-eqb, ne_eqb, lt-ltb, le-ltb, false≢true}
@@ -10,7 +10,7 @@ use Rattle.std.proofs.lemmas.List.{append_assoc, append-nil}
 use Rattle.std.proofs.lemmas.List.Folds.{list_any-append}
 use Rattle.kaba_base.specs.declared.ClassId.{ClassId}
 use Rattle.java_core.specs.Programs.{Plain, PlainClass}
-use Rattle.java_core.specs.Classes.{parent_of, faces_of, supers_of, is_interface, reaches, below, IsProperSubclass}
+use Rattle.java_core.specs.Classes.{parent_of, faces_of, supers_of, is_interface, reaches, below}
 use Rattle.java_core.specs.Formed.{IsFormed}
 use Rattle.java_core.proofs.Subclasses.{reaches-subclass, parent-super}
 use Rattle.flow_rules.specs.Ordered.{put_in, by_place, when}

@@ -1,10 +1,8 @@
 -- What a form adds and is, from what stands in it.
-use Rattle.std.proofs.Common.{◌≡◌, ℕ, ◌+◌, Bool, true, false, List, [], ◌∷◌, ◌++◌, length, sym, ap, ◌∙◌, subst, refl, add-zero, arith, map}
+use Rattle.std.proofs.Common.{◌≡◌, ℕ, ◌+◌, Bool, true, false, List, [], ◌∷◌, ◌++◌, length, sym, ap, ◌∙◌, subst, add-zero, arith}
 use Rattle.std.proofs.lemmas.List.{length-map}
-use Rattle.std.proofs.lemmas.List.{append_assoc, append-nil}
-use Rattle.std.specs.Prelude.{Option, Some, None, Result, Ok, Err, IfOk}
-use Rattle.kaba_base.specs.declared.Place.{Place}
-use Rattle.kaba_base.specs.declared.ClassId.{ClassId}
+use Rattle.std.proofs.lemmas.List.{append-nil}
+use Rattle.std.specs.Prelude.{Some, Result, Ok, Err, IfOk}
 use Rattle.java_core.specs.declared.Ty.{Ty}
 use Rattle.java_core.specs.declared.UnOp.{UnOp}
 use Rattle.java_core.specs.declared.BinOp.{BinOp}
@@ -15,8 +13,8 @@ use Rattle.flow_rules.specs.declared.items.Operand.{Operand}
 use Rattle.flow_rules.specs.declared.items.Part.{Part}
 use Rattle.flow_rules.specs.declared.items.RowItem.TheVariants as row
 use Rattle.flow_rules.specs.declared.items.PointItem.TheVariants as point
-use Rattle.flow_rules.specs.Labels.{size, sizes, label, label_all}
-use Rattle.flow_rules.specs.Operands.{operand_of, this_operand, test_operand, object_of, class_object, object_field}
+use Rattle.flow_rules.specs.Labels.{size, sizes, label}
+use Rattle.flow_rules.specs.Operands.{operand_of, this_operand, object_of, class_object, object_field}
 use Rattle.flow_rules.specs.Types.{object_type, field_object, element_object}
 use Rattle.flow_rules.specs.Parts.{is_accessed, nothing, parts, parts_all, a_load, an_element, a_creation, a_call, a_static_call, a_super_call, a_test, a_pair}
 use Rattle.flow_rules.specs.Parts as plain

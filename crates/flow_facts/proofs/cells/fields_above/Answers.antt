@@ -1,5 +1,5 @@
 -- A class at a time, on the way up.
-use Rattle.std.proofs.Common.{◌≡◌, ◌+◌, ◌-◌, suc, length, map, ap, ◌∙◌, arith}
+use Rattle.std.proofs.Common.{◌+◌, ◌-◌, suc, length, map, ap, arith}
 use Rattle.std.proofs.lemmas.List.{length-map}
 use Rattle.java_core.specs.Trees.{no_place}
 use Rattle.java_core.specs.Programs.{program_of, class_seen}

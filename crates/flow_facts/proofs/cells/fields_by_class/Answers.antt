@@ -1,5 +1,5 @@
 -- One field more, to those of its class.
-use Rattle.std.proofs.Common.{◌≡◌, ◌==◌, ◌∷◌, [], length, map, sym, ◌∙◌}
+use Rattle.std.proofs.Common.{◌==◌, ◌∷◌, [], length, map, sym, ◌∙◌}
 use Rattle.std.proofs.lemmas.List.{length-map}
 use Rattle.java_core.specs.Trees.{no_place}
 use Rattle.java_core.specs.Programs.{program_of, class_seen}

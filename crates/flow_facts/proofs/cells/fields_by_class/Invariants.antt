@@ -1,8 +1,6 @@
 -- What is left is still to be added.
 use Rattle.std.proofs.Common.{◌≡◌, ℕ, ◌++◌, drop, length, map}
-use Rattle.java_core.specs.Trees.{no_place}
-use Rattle.java_core.specs.Programs.{program_of}
-use Rattle.flow_facts.specs.Owned.{own_at, own_of, AreListed}
+use Rattle.flow_facts.specs.Owned.{own_at, own_of}
 use Rattle.flow_facts.specs.Seen.{field_cell_seen}
 use Rattle.flow_facts.proofs.cells.fields_by_class.Given as goal
 

@@ -1,11 +1,9 @@
 -- One part more.
-use Rattle.std.proofs.Common.{◌≡◌, ◌<◌, length, get_or, sym, ap, subst}
-use Rattle.std.proofs.lemmas.List.{take_all}
+use Rattle.std.proofs.Common.{◌≡◌, ◌<◌, length, get_or, subst}
 use Rattle.java_core.specs.Trees.{no_place}
 use Rattle.java_core.specs.Programs.{program_of}
-use Rattle.flow_facts.specs.Views.{part_seen, parts_seen}
+use Rattle.flow_facts.specs.Views.{part_seen}
 use Rattle.flow_facts.specs.Seen.{numbers_seen}
-use Rattle.flow_facts.specs.Gathered.{ArePartsAdded}
 use Rattle.flow_facts.proofs.Gathers.{no_parts, part_more, so_far}
 use Rattle.flow_facts.proofs.gathering.add_parts.Goals as goal
 

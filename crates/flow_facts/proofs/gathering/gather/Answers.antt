@@ -1,5 +1,5 @@
 -- One body more.
-use Rattle.std.proofs.Common.{◌≡◌, ◌<◌, length, get_or, sym, ap, subst}
+use Rattle.std.proofs.Common.{◌≡◌, ◌<◌, length, get_or, ap, subst}
 use Rattle.java_core.specs.Trees.{no_place}
 use Rattle.java_core.specs.Programs.{program_of}
 use Rattle.flow_facts.specs.Views.{body_seen}

@@ -1,7 +1,7 @@
 -- Each form by what stands in it.
 use Rattle.std.proofs.Common.{rules, arith, ◌≡◌, length, sym, ap, ◌∙◌, refl}
 use Rattle.std.specs.Prelude.{Some}
-use Rattle.java_core.specs.Trees.{at_place, no_place, call, field, index, create_array, cast, instance_of, unary, binary, this, expr_of, exprs}
+use Rattle.java_core.specs.Trees.{at_place, no_place, call, field, index, create_array, cast, instance_of, unary, binary, expr_of, exprs}
 use Rattle.java_core.specs.Programs.{program_of, method_seen}
 use Rattle.flow_rules.specs.declared.items.RowItem.TheVariants as row
 use Rattle.flow_rules.specs.declared.items.PointItem.TheVariants as point
