@@ -5,7 +5,7 @@ use Rattle.std.specs.declared.alloc.Global.{Global}
 use Rattle.java_core.specs.declared.RStmt.{RStmt}
 use Rattle.java_core.specs.Trees.{no_place, expr_of, value_of, stmts, arms_seen, else_seen, step_seen}
 use Rattle.linear_code.specs.Ops.{Op, Test, turn, skip_unless}
-use Rattle.linear_code.specs.Code.{code_test, test_of, code_loop_test, turn_op, code_sts, code_arms}
+use Rattle.linear_code.specs.Code.{code_test, test_of, code_turn, code_loop_test, turn_op, code_sts, code_arms}
 use Rattle.linear_compile.specs.Scopes.{plain, env}
 use Rattle.linear_compile.proofs.Forms.{block_form, if_form, while_form, for_form}
 use Rattle.linear_compile.proofs.Built.{arm_made, loop_made, if_made}
@@ -49,7 +49,7 @@ compile_stmt-returns-in_ok-close_while-in-While t c =
     let x = c.args.exits in
     let none : ℕ → ℕ → List Op = λ b d. [] in
     let form = while_form _ _ _ _ k.is in
-    rw form (loop_made none (λ b d. code_sts P g (stmts no_place k.body.items) c.args.at b d) none (code_test P g (expr_of no_place k.test) c.args.at)
+    rw form (loop_made none (λ b d. code_sts P g (stmts no_place k.body.items) c.args.at b d) none (code_turn P g (expr_of no_place k.test) c.args.at)
     c.args.code.now
     c.open_while.new.code c.open_while.new.code c.compile_stmts-in-While.new.code c.close_while.new.code c.close_while.new.code (turn 0)
     (λ n. turn_op P g (Some (expr_of no_place k.test)) c.args.at n)
