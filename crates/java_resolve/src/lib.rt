@@ -83,18 +83,26 @@ fn with_bodies(
         headings: draft.headings,
         method_spots: draft.method_spots,
     };
-    let methods = methods_of(alloc, &tables, list)?;
-    match Program::new(
-        alloc,
-        classes,
-        tables.fields,
-        methods,
-        draft.slots,
-        MemberId(main),
-        tables.above,
-    ) {
-        Ok(program) => Ok(program),
-        Err(_) => Err(Refusal::Memory),
+    match methods_of(alloc, &tables, list) {
+        Ok(methods) => match Program::new(
+            alloc,
+            classes,
+            tables.fields,
+            methods,
+            draft.slots,
+            MemberId(main),
+            tables.above,
+        ) {
+            Ok(program) => Ok(program),
+            Err(_) => Err(Refusal::Memory),
+        },
+        Err(refusal) => {
+            drop(tables);
+            drop(classes);
+            drop(draft.slots);
+            drop(draft.slot_spots);
+            Err(refusal)
+        }
     }
 }
 
