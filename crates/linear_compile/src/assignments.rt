@@ -146,7 +146,7 @@ fn store(
         Some(field) => {
             let place = place_of(scope, field);
             let widens = is_int_field(scope, field);
-            code.put(Instr::Act(Effect::Save(object, place, widens, value)))
+            code.put(Instr::Save(object, place, widens, value))
         }
         None => code.put(Instr::Act(Effect::Lacks(object))),
     }
@@ -194,8 +194,8 @@ fn store_element(
     let next = further(at, 1)?;
     let last = further(at, 2)?;
     let array = operand(base, at)?;
-    let effect = Effect::KeepElement(array, operand(index, next)?, operand(value, last)?);
-    code.put(Instr::Act(effect))?;
+    let place = operand(index, next)?;
+    code.put(Instr::KeepElement(array, place, operand(value, last)?))?;
     compile(code, scope, value, last)?;
     compile(code, scope, index, next)?;
     compile(code, scope, base, at)

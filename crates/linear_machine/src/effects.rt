@@ -26,8 +26,6 @@ pub fn act<'a>(m: &mut Machine<'a>, effect: &Effect) -> Result<Turn, AllocError>
     ensures { Does (act (effect_of effect.now)) m.old result m.new }
 {
     match effect {
-        Effect::Save(o, place, is_int, value) => save(m, *o, *place, *is_int, *value),
-        Effect::KeepElement(o, at, value) => keep_element(m, *o, *at, *value),
         Effect::KeepStatic(field, value) => keep_static(m, *field, *value),
         Effect::Show(newline, value) => show(m, *newline, *value),
         Effect::ShowEnd(newline) => show_end(m, *newline),
@@ -52,7 +50,7 @@ ghost use Rattle.std.specs.Prelude.{◌+◌};
 
 /// A field of an object is set.
 #[inline(always)]
-fn save<'a>(
+pub fn save<'a>(
     m: &mut Machine<'a>,
     o: Operand,
     place: u32,
@@ -105,7 +103,7 @@ fn write_static<'a>(m: &mut Machine<'a>, field: u32, value: Value) -> Result<Tur
 
 /// An element of an array is set.
 #[inline(always)]
-fn keep_element<'a>(
+pub fn keep_element<'a>(
     m: &mut Machine<'a>,
     o: Operand,
     at: Operand,
