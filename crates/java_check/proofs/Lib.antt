@@ -7,3 +7,4 @@ pub mod Places
 pub mod Forms
 pub mod JudgedClasses
 pub mod JudgedPrograms
+pub mod Bodied

@@ -1,6 +1,6 @@
 -- What is answered of a class or an interface: the rule that it breaks for the slot of the first method for which it breaks one.
 use Rattle.std.specs.Prelude.{ℕ, ◌&&◌, Bool, true, false, not, List, [], ◌∷◌, Option, Some, None}
-use Rattle.std.specs.Option.{option_map_or}
+use Rattle.std.specs.Option.{option_map_or, is_some}
 use Rattle.java_core.specs.Programs.{Plain, PlainMethod}
 use Rattle.java_core.specs.Classes.{below, is_concrete, is_interface, has_body, nearest_declaration}
 use Rattle.java_core.specs.Typing.{is_public_method}
@@ -32,3 +32,8 @@ first_some None o = o
 abbrev pub class_rule : Plain → ℕ → List PlainMethod → Option Kind
 class_rule P c [] = None
 class_rule P c (k ∷ ks) = first_some (method_rule P c k) (class_rule P c ks)
+
+-- whether each method has a body
+abbrev pub all_bodied : List PlainMethod → Bool
+all_bodied [] = true
+all_bodied (k ∷ ks) = is_some k.body && all_bodied ks

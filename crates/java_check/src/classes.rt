@@ -7,12 +7,24 @@ ghost use Rattle.java_core.specs.Programs.{program_of, method_seen};
 ghost use Rattle.java_core.specs.Classes as classes;
 ghost use Rattle.java_core.specs.Typing as typing;
 ghost use Rattle.java_core.specs.Formed.{IsFormed};
-ghost use Rattle.java_check.specs.ClassOutcome.{method_rule, class_rule};
+ghost use Rattle.java_check.specs.ClassOutcome.{method_rule, class_rule, all_bodied};
 
 use crate::Kind;
 use crate::expressions::{has_body, is_concrete};
 use java_core::{Method, Program, is_subtype, nearest_declaration};
 use kaba_base::{ClassId, MemberId};
+
+/// Whether each of the methods has a body.
+pub(crate) fn all_bodied(methods: &[Method]) -> bool
+    ensures { result ≡ all_bodied (map (method_seen no_place) methods.now) }
+{
+    for method in methods {
+        if method.body.is_none() {
+            return false;
+        }
+    }
+    true
+}
 
 /// The rule that a class or an interface breaks for the slot of one of the methods.
 pub(crate) fn broken_rule(p: &Program, class: ClassId, methods: &[Method]) -> Option<Kind>

@@ -10,7 +10,7 @@ ghost use Rattle.java_check.specs.Outcome.{env_in, and_then};
 ghost use Rattle.java_check.specs.ProgramOutcome.{classes_answer, body_answer, methods_answer};
 
 use crate::CheckFault;
-use crate::classes::broken_rule;
+use crate::classes::{all_bodied, broken_rule};
 use crate::statements::check_stmts;
 use java_core::{Checked, Class, Method, Program};
 use kaba_base::{ClassId, MemberId};
@@ -55,8 +55,20 @@ fn first_fault(p: &Program) -> Result<(), CheckFault>
     }
 }
 
-/// The first rule that one of the classes breaks.
+/// The first rule that one of the classes breaks. Where each method has a body, none does.
 fn check_classes(p: &Program, classes: &[Class]) -> Result<(), CheckFault>
+    requires formed { IsFormed (program_of no_place p.now) }
+    requires few { length classes.now < 4294967295 }
+    ensures { result ≡ classes_answer (program_of no_place p.now) 0 (map (class_seen at_place) classes.now) }
+{
+    if all_bodied(&p.methods) {
+        return Ok(());
+    }
+    check_each(p, classes)
+}
+
+/// The first rule that one of the classes breaks, each tested.
+fn check_each(p: &Program, classes: &[Class]) -> Result<(), CheckFault>
     requires formed { IsFormed (program_of no_place p.now) }
     requires few { length classes.now < 4294967295 }
     ensures { result ≡ classes_answer (program_of no_place p.now) 0 (map (class_seen at_place) classes.now) }

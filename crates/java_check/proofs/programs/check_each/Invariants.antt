@@ -2,7 +2,7 @@ use Rattle.std.proofs.Common.{◌≡◌, drop, map}
 use Rattle.java_core.specs.Trees.{at_place, no_place}
 use Rattle.java_core.specs.Programs.{program_of, class_seen}
 use Rattle.java_check.specs.ProgramOutcome.{classes_answer}
-use Rattle.java_check.proofs.programs.check_classes.Given as goal
+use Rattle.java_check.proofs.programs.check_each.Given as goal
 
 abbrev pub invariant-loop-i : goal.invariant-loop-i
 invariant-loop-i l =
