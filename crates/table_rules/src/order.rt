@@ -29,16 +29,6 @@ fn come(walk: &mut Walk, row: usize) -> Result<(), AllocError> {
     Ok(())
 }
 
-/// The upper rows of the ties of these numbers are ahead. An error comes only for want of memory.
-fn come_by_ties(facts: &Facts, walk: &mut Walk, ties: &[usize]) -> Result<(), AllocError> {
-    for i in ties {
-        if *i < facts.ties.len() {
-            come(walk, facts.ties[*i].upper.0 as usize)?;
-        }
-    }
-    Ok(())
-}
-
 /// These rows are ahead. An error comes only for want of memory.
 fn come_to_each(walk: &mut Walk, list: &[usize]) -> Result<(), AllocError> {
     for row in list {
@@ -47,70 +37,31 @@ fn come_to_each(walk: &mut Walk, list: &[usize]) -> Result<(), AllocError> {
     Ok(())
 }
 
-/// The `this` of each body that a row has is ahead. An error comes only for want of memory.
-fn come_by_bodies(
-    alloc: Global,
-    index: &Index,
-    walk: &mut Walk,
-    columns: &BitRow,
-) -> Result<(), AllocError> {
-    let list = columns.rising(alloc)?;
-    for d in &list {
-        come_to_each(walk, numbers_at(&index.these, *d as usize))?;
-    }
-    Ok(())
-}
-
 /// What passes on to a row is ahead, and then the walk leaves the row. An error comes only for want of memory.
-fn pass_by(
-    alloc: Global,
-    facts: &Facts,
-    index: &Index,
-    lower: &[Vec<usize>],
-    rows: &[BitRow],
-    walk: &mut Walk,
-    row: usize,
-) -> Result<(), AllocError> {
-    if row >= walk.seen.len() || row >= rows.len() || walk.seen[row] {
+fn pass_by(before: &[Vec<usize>], walk: &mut Walk, row: usize) -> Result<(), AllocError> {
+    if row >= walk.seen.len() || walk.seen[row] {
         return Ok(());
     }
     walk.seen[row] = true;
     walk.ahead.push(Stop { row, leaves: true })?;
-    come_by_ties(facts, walk, numbers_at(lower, row))?;
-    come_by_bodies(alloc, index, walk, row_at(rows, row))
+    come_to_each(walk, numbers_at(before, row))
 }
 
 /// One stop. An error comes only for want of memory.
-fn step(
-    alloc: Global,
-    facts: &Facts,
-    index: &Index,
-    lower: &[Vec<usize>],
-    rows: &[BitRow],
-    walk: &mut Walk,
-    stop: Stop,
-) -> Result<(), AllocError> {
+fn step(before: &[Vec<usize>], walk: &mut Walk, stop: Stop) -> Result<(), AllocError> {
     if stop.leaves {
         walk.left.push(stop.row)?;
         return Ok(());
     }
-    pass_by(alloc, facts, index, lower, rows, walk, stop.row)
+    pass_by(before, walk, stop.row)
 }
 
 /// A walk from a row, unless one came to it. An error comes only for want of memory.
-fn walk_from(
-    alloc: Global,
-    facts: &Facts,
-    index: &Index,
-    lower: &[Vec<usize>],
-    rows: &[BitRow],
-    walk: &mut Walk,
-    row: usize,
-) -> Result<(), AllocError> {
+fn walk_from(before: &[Vec<usize>], walk: &mut Walk, row: usize) -> Result<(), AllocError> {
     come(walk, row)?;
     for _stop in 0..u64::MAX {
         match walk.ahead.pop() {
-            Some(stop) => step(alloc, facts, index, lower, rows, walk, stop)?,
+            Some(stop) => step(before, walk, stop)?,
             None => return Ok(()),
         }
     }
@@ -129,29 +80,62 @@ fn site_rows(alloc: Global, facts: &Facts) -> Result<Vec<bool>, AllocError> {
     Ok(marks)
 }
 
-/// The ties by their lower row. An error comes only for want of memory.
-fn ties_below(alloc: Global, facts: &Facts) -> Result<Vec<Vec<usize>>, AllocError> {
-    let mut lists = empty(alloc, facts.rows.len())?;
-    for i in 0..facts.ties.len() {
-        note(&mut lists, facts.ties[i].lower.0 as usize, i)?;
+/// The upper row of each tie, by the lower. An error comes only for want of memory.
+fn note_ties(facts: &Facts, before: &mut [Vec<usize>]) -> Result<(), AllocError> {
+    for tie in &facts.ties {
+        note(before, tie.lower.0 as usize, tie.upper.0 as usize)?;
     }
-    Ok(lists)
+    Ok(())
+}
+
+/// These rows, by the row that they pass on to. An error comes only for want of memory.
+fn note_each(before: &mut [Vec<usize>], row: usize, list: &[usize]) -> Result<(), AllocError> {
+    for other in list {
+        note(before, row, *other)?;
+    }
+    Ok(())
+}
+
+/// The `this` of each body that a row has, by the row. An error comes only for want of memory.
+fn note_bodies(
+    alloc: Global,
+    index: &Index,
+    before: &mut [Vec<usize>],
+    row: usize,
+    columns: &BitRow,
+) -> Result<(), AllocError> {
+    let list = columns.rising(alloc)?;
+    for d in &list {
+        note_each(before, row, numbers_at(&index.these, *d as usize))?;
+    }
+    Ok(())
+}
+
+/// The rows that pass on to each row. An error comes only for want of memory.
+fn before_of(
+    alloc: Global,
+    facts: &Facts,
+    index: &Index,
+    rows: &[BitRow],
+) -> Result<Vec<Vec<usize>>, AllocError> {
+    let mut before = empty(alloc, facts.rows.len())?;
+    note_ties(facts, &mut before)?;
+    for row in 0..rows.len() {
+        note_bodies(alloc, index, &mut before, row, row_at(rows, row))?;
+    }
+    Ok(before)
 }
 
 /// The rows that are none of a site, or those that are, each after what passes on to it. An error comes only for want of memory.
 fn walk_all(
-    alloc: Global,
-    facts: &Facts,
-    index: &Index,
-    lower: &[Vec<usize>],
-    rows: &[BitRow],
+    before: &[Vec<usize>],
     walk: &mut Walk,
     sites: &[bool],
     wanted: bool,
 ) -> Result<(), AllocError> {
     for row in 0..sites.len() {
         if sites[row] == wanted {
-            walk_from(alloc, facts, index, lower, rows, walk, row)?;
+            walk_from(before, walk, row)?;
         }
     }
     Ok(())
@@ -166,14 +150,14 @@ pub fn order_of(
     rows: &[BitRow],
 ) -> Result<Vec<usize>, AllocError> {
     let sites = site_rows(alloc, facts)?;
-    let lower = ties_below(alloc, facts)?;
+    let before = before_of(alloc, facts, index, rows)?;
     let mut walk = Walk {
         seen: vec![in alloc; false; facts.rows.len()]?,
         ahead: Vec::new(alloc),
         left: Vec::new(alloc),
     };
-    walk_all(alloc, facts, index, &lower, rows, &mut walk, &sites, false)?;
-    walk_all(alloc, facts, index, &lower, rows, &mut walk, &sites, true)?;
+    walk_all(&before, &mut walk, &sites, false)?;
+    walk_all(&before, &mut walk, &sites, true)?;
     let Walk { left, .. } = walk;
     Ok(left)
 }
