@@ -17,8 +17,8 @@ mod subtypes;
 
 pub use checked::Checked;
 pub use classes::{
-    declaration_of, faces_of, field_of, is_subtype, lookup, member_field, nearest_declaration,
-    parent_of, slot_of, super_method,
+    declaration_of, declared_fields, declared_methods, faces_of, field_of, is_subtype, lookup,
+    member_field, nearest_declaration, parent_of, slot_of, super_method,
 };
 use java_lex::Units;
 use kaba_base::{ClassId, MemberId, Name, Place};
