@@ -1,3 +1,4 @@
 pub mod Known
 pub mod Exact
 pub mod Made
+pub mod Lines

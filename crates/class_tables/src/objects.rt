@@ -1,21 +1,28 @@
 //! The fields of objects in their places.
 
-ghost use Rattle.std.specs.Prelude.{◌≡◌, ◌==◌, ◌&&◌, ◌++◌, not, length, map, IfOk, OnOk};
+ghost use Rattle.std.specs.Prelude.{◌≡◌, ◌++◌, ℕ, ◌∷◌, length, map, IfOk, OnOk};
 ghost use Rattle.java_core.specs.Trees.{no_place};
 ghost use Rattle.java_core.specs.Programs.{program_of};
 ghost use Rattle.java_heap.specs.Seen.{value_of};
-ghost use Rattle.java_meaning.specs.Languages.{layout, layout_in, own_fields, own_fields_from, index_of, fresh_of, default_at};
+ghost use Rattle.java_meaning.specs.Languages.{layout, own_fields, fresh_of, default_at};
+ghost use Rattle.class_tables.specs.Lines.{line_in, is_instance};
 
-use java_core::{Field, Program, parent_of};
+use java_core::{Program, declared_fields, parent_of};
 use java_heap::{Value, default_of};
 use kaba_base::ClassId;
 use std::alloc::{AllocError, Global};
 
-/// The fields of a class's objects in their places, those of its superclass first.
+/// The fields of a class's objects in their places, those of its superclass first. Nothing recurs, however long the way upwards is. An error comes only for
+/// want of memory.
 pub fn layout(alloc: Global, p: &Program, class: ClassId) -> Result<Vec<usize>, AllocError>
     ensures { IfOk result (λ v. v.items ≡ layout (program_of no_place p.now) class.0) }
 {
-    layout_within(alloc, p, class, class_count(p))
+    let line = line(alloc, p, class)?;
+    let mut fields = Vec::new(alloc);
+    for i in (0..line.len()).rev() {
+        own_fields(p, line[i], &mut fields)?;
+    }
+    Ok(fields)
 }
 
 /// How many classes and interfaces there are.
@@ -25,52 +32,43 @@ fn class_count(p: &Program) -> usize
     p.classes.len()
 }
 
-/// The same, within so many steps upwards.
-#[cycle(layout)]
-fn layout_within(
-    alloc: Global,
-    p: &Program,
-    class: ClassId,
-    left: usize,
-) -> Result<Vec<usize>, AllocError>
-    ensures { IfOk result (λ v. v.items ≡ layout_in (program_of no_place p.now) left class.0) }
+/// A class and its superclasses, itself first. An error comes only for want of memory.
+fn line(alloc: Global, p: &Program, class: ClassId) -> Result<Vec<ClassId>, AllocError>
+    ensures { IfOk result (λ v. v.items ≡ line_in (program_of no_place p.now) (length (program_of no_place p.now).classes) class) }
 {
-    let mut fields = above(alloc, p, class, left)?;
-    own_fields(p, class, &mut fields)?;
-    Ok(fields)
+    let mut line = Vec::new(alloc);
+    let mut at = class;
+    for _step in 0..class_count(p) {
+        line.push(at)?;
+        match parent_of(p, at) {
+            Some(parent) => at = parent,
+            None => return Ok(line),
+        }
+    }
+    line.push(at)?;
+    Ok(line)
 }
 
-/// The fields that the superclass brings.
-#[cycle(layout)]
-fn above(alloc: Global, p: &Program, class: ClassId, left: usize) -> Result<Vec<usize>, AllocError>
-    ensures { IfOk result (λ v. v.items ++ own_fields (program_of no_place p.now) class.0 ≡ layout_in (program_of no_place p.now) left class.0) }
-{
-    if left == 0 {
-        return Ok(Vec::new(alloc));
-    }
-    match parent_of(p, class) {
-        Some(parent) => layout_within(alloc, p, parent, left - 1),
-        None => Ok(Vec::new(alloc)),
-    }
-}
-
-/// The instance fields that a class itself declares are added.
+/// The instance fields that a class itself declares are added. An error comes only for want of memory.
 fn own_fields(p: &Program, class: ClassId, fields: &mut Vec<usize>) -> Result<(), AllocError>
     ensures { OnOk result (fields.new.items ≡ fields.old.items ++ own_fields (program_of no_place p.now) class.0) }
 {
-    for (at, field) in p.fields.iter().enumerate() {
-        if is_own(field, class) {
-            fields.push(at)?;
+    for at in declared_fields(p, class) {
+        if is_instance(p, *at) {
+            fields.push(*at)?;
         }
     }
     Ok(())
 }
 
-/// Whether an instance field stands in the class.
-fn is_own(field: &Field, class: ClassId) -> bool
-    ensures { result ≡ (field.now.owner.0 == class.0) && not field.now.is_static }
+/// Whether the field of a number is no static one.
+fn is_instance(p: &Program, at: usize) -> bool
+    ensures { result ≡ is_instance p.now.fields.items at }
 {
-    field.owner == class && !field.is_static
+    match p.fields.get(at) {
+        Some(field) => !field.is_static,
+        None => false,
+    }
 }
 
 /// The values of a new object of a class.

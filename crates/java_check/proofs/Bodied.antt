@@ -1,32 +1,66 @@
--- Where each method has a body, no class breaks a rule as a whole.
-use Rattle.std.proofs.Common.{◌≡◌, ◌&&◌, ℕ, zero, suc, ◌<◌, ◌⊎◌, Bool, true, false, not, List, [], ◌∷◌, ◌++◌, Option, Some, None, Ok, Contains, inl, inr, ⊎_elim, refl, sym, ap, ◌∙◌, subst, arith, slice_get}
+-- A class that breaks no rule for the slot of a method without a body breaks none as a whole.
+use Rattle.std.proofs.Common.{◌≡◌, ◌==◌, ◌&&◌, ◌||◌, ℕ, zero, suc, ◌+◌, ◌<◌, ◌⊎◌, Bool, true, false, not, List, [], ◌∷◌, ◌++◌, Option, Some, None, Ok, Contains, length, inl, inr, ⊎_elim, refl, sym, ap, ◌∙◌, subst, arith, slice_get}
 use Rattle.std.specs.Option.{option_map_or, option_to_list, is_some}
-use Rattle.std.proofs.lemmas.Bool.{and_parts, eq-eqb, false≢true}
+use Rattle.std.proofs.lemmas.Bool.{and_parts, eq-eqb, eqb-true, false≢true}
 use Rattle.kaba_base.specs.declared.ClassId.{ClassId}
 use Rattle.java_core.specs.Programs.{Plain, PlainClass, PlainMethod}
 use Rattle.java_core.specs.Classes.{parent_of, faces_of, supers_of, IsSubclass, same_class, through, below, nearest_of, is_slot, has_slot, own_declaration, nearest_declaration, has_body, is_interface, is_concrete}
 use Rattle.java_core.specs.Found.{IsNearest, at_class, above_class}
 use Rattle.java_core.specs.Formed.{IsFormed}
 use Rattle.java_core.specs.Typing.{is_public_method}
-use Rattle.java_core.proofs.Subclasses.{below-subclass, nearest_of-nearest, nearest-nearest_of}
+use Rattle.java_core.proofs.Subclasses.{below-subclass, subclass-below, parent-super, nearest_of-nearest, nearest-nearest_of}
 use Rattle.java_core.proofs.Offered.{contains_cases}
 use Rattle.java_core.proofs.Positions.{position-passes, passes-position}
-use Rattle.java_check.specs.ClassOutcome.{first_rule, below_rule, slot_rule, method_rule, first_some, class_rule, all_bodied}
+use Rattle.java_check.specs.ClassOutcome.{first_rule, below_rule, slot_rule, method_rule, class_rule, is_quiet, is_kept, all_quiet}
+use Rattle.java_check.specs.declared.Kind.{Kind}
 use Rattle.java_check.specs.ProgramOutcome.{classes_answer}
 
-each_bodied : (ks : List PlainMethod) → all_bodied ks ≡ true → (m : ℕ) (k : PlainMethod) → slice_get ks m ≡ Some k → is_some k.body ≡ true
-each_bodied [] all m k at = absurd (cc at)
-each_bodied (x ∷ ks) all zero k at =
-    let same : x ≡ k = cc at in ap (λ (y : PlainMethod). is_some y.body) (sym same) ∙ (and_parts (is_some x.body) (all_bodied ks) all).0
-each_bodied (x ∷ ks) all (suc m) k at = each_bodied ks (and_parts (is_some x.body) (all_bodied ks) all).1 m k at
+-- what a test of each method passes for one
+each_quiet : (P : Plain) (c : ℕ) (ks : List PlainMethod) → is_quiet P c ks ≡ true → (m : ℕ) (k : PlainMethod) → slice_get ks m ≡ Some k
+    → is_some k.body ≡ false → method_rule P c k ≡ None
+each_quiet P c [] all m k at e = absurd (cc at)
+each_quiet P c (x ∷ ks) all zero k at e =
+    let same : x ≡ k = cc at in
+    subst (λ (y : PlainMethod). method_rule P c y ≡ None) same
+    (no_rule (method_rule P c x) (is_some x.body) (ap (λ (y : PlainMethod). is_some y.body) same ∙ e)
+    (and_parts (is_some x.body || not (is_some (method_rule P c x))) (is_quiet P c ks) all).0)
+  where
+    no_rule : (r : Option Kind) (b : Bool) → b ≡ false → b || not (is_some r) ≡ true → r ≡ None
+    no_rule None b e h = refl
+    no_rule (Some x) true e h = absurd (false≢true (sym e))
+    no_rule (Some x) false e h = absurd (false≢true h)
+each_quiet P c (x ∷ ks) all (suc m) k at e =
+    each_quiet P c ks (and_parts (is_some x.body || not (is_some (method_rule P c x))) (is_quiet P c ks) all).1 m k at e
 
-first_fine : (con bod int own p : Bool) → bod ≡ true → own ≡ false → first_rule (con && not bod) (not int && (own && not p)) ≡ None
-first_fine con false int own p e f = absurd (false≢true e)
-first_fine con true int true p e f = absurd (false≢true (sym f))
-first_fine true true true false p e f = refl
-first_fine true true false false p e f = refl
-first_fine false true true false p e f = refl
-first_fine false true false false p e f = refl
+-- and what a test of each class does
+each_kept : (P : Plain) (k : PlainMethod) (n : ℕ) (cs : List PlainClass) → is_kept P k n cs ≡ true → (c : ℕ) → c < length cs
+    → not (is_some (method_rule P (n + c) k)) ≡ true
+each_kept P k n [] all c lt = absurd (omega (arith, lt))
+each_kept P k n (x ∷ cs) all zero lt =
+    subst (λ i. not (is_some (method_rule P i k)) ≡ true) (let z : n ≡ n + 0 = omega arith in z)
+    (and_parts (not (is_some (method_rule P n k))) (is_kept P k (suc n) cs) all).0
+each_kept P k n (x ∷ cs) all (suc c) lt =
+    subst (λ i. not (is_some (method_rule P i k)) ≡ true) (let z : suc n + c ≡ n + suc c = omega arith in z)
+    (each_kept P k (suc n) cs (and_parts (not (is_some (method_rule P n k))) (is_kept P k (suc n) cs) all).1 c (omega (arith, lt)))
+
+class_quiet : (P : Plain) (c : ℕ) (ks : List PlainMethod) → c < length P.classes → all_quiet P ks ≡ true → is_quiet P c ks ≡ true
+class_quiet P c [] lt all = refl
+class_quiet P c (k ∷ ks) lt all =
+    let parts = and_parts (is_some k.body || is_kept P k 0 P.classes) (all_quiet P ks) all in
+    both (or_step (is_some k.body) parts.0 (λ kept. subst (λ i. not (is_some (method_rule P i k)) ≡ true) (let z : 0 + c ≡ c = omega arith in z) (each_kept P k 0 P.classes kept c lt))) (class_quiet P c ks lt parts.1)
+  where
+    or_step : (b : Bool) {x y : Bool} → b || x ≡ true → (x ≡ true → y ≡ true) → b || y ≡ true
+    or_step true h f = refl
+    or_step false h f = f h
+
+    both : {a b : Bool} → a ≡ true → b ≡ true → a && b ≡ true
+    both e f = rw (e, f) refl
+
+first_fine : (con int own p : Bool) → con ≡ false → own ≡ false → first_rule con (not int && (own && not p)) ≡ None
+first_fine true int own p e f = absurd (false≢true (sym e))
+first_fine false int true p e f = absurd (false≢true (sym f))
+first_fine false true false p e f = refl
+first_fine false false false p e f = refl
 
 module _ (P : Plain) (formed : IsFormed P) where
   abbrev IsInterface : ℕ → Type 0
@@ -82,45 +116,91 @@ module _ (P : Plain) (formed : IsFormed P) where
             split (Some y) e = (y, nearest-nearest_of P own formed.acyclic (at_class e))
             split None none = (x, nearest-nearest_of P own formed.acyclic (above_class none up (nearest_of-nearest P own n)))
 
-  module _ (all : all_bodied P.methods ≡ true) where
-    nearest_bodied : (s : ℕ) {c d : ℕ} → IsNearest P (λ x. own_declaration P x s) c d → has_body P d ≡ true
-    nearest_bodied s {c} {d} (at_class e) =
-        let f = position-passes (λ m. has_slot c s m) P.methods d e in rw f.1 (each_bodied P.methods all d f.0 f.1)
-    nearest_bodied s (above_class none up rest) = nearest_bodied s rest
+  -- what is nearest stands at or above the class
+  record IsHeld (own : ℕ → Option ℕ) (c d : ℕ) : Type 0 where
+    holder : ℕ
+    above : IsSubclass P c holder
+    found : own holder ≡ Some d
 
-    method_fine : (c m : ℕ) (k : PlainMethod) → slice_get P.methods m ≡ Some k → method_rule P c k ≡ None
-    unfolding nearest_declaration
-    method_fine c m k at = go k.slot refl (below P c k.owner) refl
+  nearest_held : {own : ℕ → Option ℕ} {c d : ℕ} → IsNearest P own c d → IsHeld own c d
+  nearest_held {c = c} (at_class e) = record { holder = c; above = same_class; found = e }
+  nearest_held {c = c} (above_class {p = p} none up rest) =
+      let h = nearest_held rest in record { holder = h.holder; above = through (parent-super P c p up) h.above; found = h.found }
+
+  module _ (c : ℕ) (quiet : is_quiet P c P.methods ≡ true) where
+    -- a class of which objects are made breaks a rule for a declaration without a body that is nearest to it
+    bare_rule : (h s d : ℕ) (k : PlainMethod) → IsSubclass P c h → has_slot h s k ≡ true → nearest_declaration P c s ≡ Some d
+        → is_concrete P c && not (has_body P d) ≡ true → is_some (method_rule P c k) ≡ true
+    bare_rule h s d k up has near bare =
+        let parts = and_parts (k.owner == h) (is_slot k.slot s) has in
+        rw (slot k.slot parts.1, eqb-true k.owner h parts.0, subclass-below P formed.acyclic up, near, bare) refl
       where
-        body : is_some k.body ≡ true
-        body = each_bodied P.methods all m k at
+        slot : (o : Option ℕ) → is_slot o s ≡ true → o ≡ Some s
+        slot None h = absurd (false≢true h)
+        slot (Some r) h = ap Some (eqb-true r s h)
 
-        class : (b : Bool) → (formed.methods m k at).holder.is_interface ≡ b → is_interface P k.owner ≡ false
-        class false e = rw (formed.methods m k at).stands e
-        class true e = absurd (false≢true (sym (ap is_some ((formed.methods m k at).in_interface e).1) ∙ body))
+    no_body : (d : ℕ) (k : PlainMethod) → slice_get P.methods d ≡ Some k → not (has_body P d) ≡ true → is_some k.body ≡ false
+    no_body d k at e = go (is_some k.body) (ap (λ o. not (option_map_or (λ (x : PlainMethod). is_some x.body) o false)) (sym at) ∙ e)
+      where
+        go : (b : Bool) → not b ≡ true → b ≡ false
+        go false h = refl
+        go true h = absurd (false≢true h)
 
-        no_interface : IsInterface k.owner → ⊥
-        no_interface i = false≢true (sym (class (formed.methods m k at).holder.is_interface refl) ∙ rw i.1 i.2)
+    -- so it has a body where it finds a declaration
+    concrete_bodied : (s d : ℕ) → nearest_declaration P c s ≡ Some d → IsHeld (λ x. own_declaration P x s) c d → is_concrete P c && not (has_body P d) ≡ false
+    concrete_bodied s d near held = go (is_concrete P c && not (has_body P d)) refl
+      where
+        broken : (k : PlainMethod) → method_rule P c k ≡ None → is_some (method_rule P c k) ≡ true → ⊥
+        broken k e h = false≢true (sym (ap is_some e) ∙ h)
 
-        found : (s : ℕ) → k.slot ≡ Some s → below P c k.owner ≡ true → option_map_or (has_body P) (nearest_declaration P c s) false ≡ true
-        found s e h =
-            let own = λ (x : ℕ). own_declaration P x s in
-            let passes : has_slot k.owner s k ≡ true = rw (eq-eqb k.owner k.owner refl, e, eq-eqb s s refl) refl in
-            let there = passes-position (λ m. has_slot k.owner s m) P.methods m k at passes in
-            let near = found_below own (formed.methods m k at).no_object no_interface there.1 (below-subclass P c k.owner h) in
-            rw near.1 (nearest_bodied s (nearest_of-nearest P own near.1))
+        go : (b : Bool) → is_concrete P c && not (has_body P d) ≡ b → is_concrete P c && not (has_body P d) ≡ false
+        go false e = e
+        go true e =
+            let it = position-passes (λ m. has_slot held.holder s m) P.methods d held.found in
+            absurd (broken it.0
+            (each_quiet P c P.methods quiet d it.0 it.1 (no_body d it.0 it.1 (and_parts (is_concrete P c) (not (has_body P d)) e).1))
+            (bare_rule held.holder s d it.0 held.above it.2 near e))
 
-        go : (o : Option ℕ) → k.slot ≡ o → (b : Bool) → below P c k.owner ≡ b → method_rule P c k ≡ None
-        go None e b h = ap (slot_rule P c k.owner) e
-        go (Some s) e false h = ap (slot_rule P c k.owner) e ∙ ap (below_rule P c k.owner s) h
-        go (Some s) e true h = ap (slot_rule P c k.owner) e ∙ ap (below_rule P c k.owner s) h
-            ∙ first_fine (is_concrete P c) (option_map_or (has_body P) (nearest_declaration P c s) false) (is_interface P c) (is_interface P k.owner)
-            (is_public_method P (nearest_declaration P c s)) (found s e h) (class (formed.methods m k at).holder.is_interface refl)
+    method_fine : (m : ℕ) (k : PlainMethod) → slice_get P.methods m ≡ Some k → method_rule P c k ≡ None
+    unfolding nearest_declaration
+    method_fine m k at = by_body (is_some k.body) refl
+      where
+        by_body : (b : Bool) → is_some k.body ≡ b → method_rule P c k ≡ None
+        by_body false bare = each_quiet P c P.methods quiet m k at bare
+        by_body true body = go k.slot refl (below P c k.owner) refl
+          where
+            class : (b : Bool) → (formed.methods m k at).holder.is_interface ≡ b → is_interface P k.owner ≡ false
+            class false e = rw (formed.methods m k at).stands e
+            class true e = absurd (false≢true (sym (ap is_some ((formed.methods m k at).in_interface e).1) ∙ body))
 
-    methods_fine : (c : ℕ) (ks : List PlainMethod) → ((m : ℕ) (k : PlainMethod) → slice_get ks m ≡ Some k → method_rule P c k ≡ None) → class_rule P c ks ≡ None
-    methods_fine c [] each = refl
-    methods_fine c (k ∷ ks) each = rw (each zero k refl) (methods_fine c ks (λ m. each (suc m)))
+            no_interface : IsInterface k.owner → ⊥
+            no_interface i = false≢true (sym (class (formed.methods m k at).holder.is_interface refl) ∙ rw i.1 i.2)
 
-    pub classes_fine : (n : ℕ) (cs : List PlainClass) → classes_answer P n cs ≡ Ok (tt {0})
-    classes_fine n [] = refl
-    classes_fine n (k ∷ cs) = rw (methods_fine n P.methods (method_fine n)) (classes_fine (suc n) cs)
+            found : (s : ℕ) → k.slot ≡ Some s → below P c k.owner ≡ true
+                → is_concrete P c && not (option_map_or (has_body P) (nearest_declaration P c s) false) ≡ false
+            found s e h =
+                let own = λ (x : ℕ). own_declaration P x s in
+                let passes : has_slot k.owner s k ≡ true = rw (eq-eqb k.owner k.owner refl, e, eq-eqb s s refl) refl in
+                let there = passes-position (λ m. has_slot k.owner s m) P.methods m k at passes in
+                let near = found_below own (formed.methods m k at).no_object no_interface there.1 (below-subclass P c k.owner h) in
+                rw near.1 (concrete_bodied s near.0 near.1 (nearest_held (nearest_of-nearest P own near.1)))
+
+            go : (o : Option ℕ) → k.slot ≡ o → (b : Bool) → below P c k.owner ≡ b → method_rule P c k ≡ None
+            go None e b h = ap (slot_rule P c k.owner) e
+            go (Some s) e false h = ap (slot_rule P c k.owner) e ∙ ap (below_rule P c k.owner s) h
+            go (Some s) e true h = ap (slot_rule P c k.owner) e ∙ ap (below_rule P c k.owner s) h
+                ∙ first_fine (is_concrete P c && not (option_map_or (has_body P) (nearest_declaration P c s) false)) (is_interface P c) (is_interface P k.owner)
+                (is_public_method P (nearest_declaration P c s)) (found s e h) (class (formed.methods m k at).holder.is_interface refl)
+
+    methods_fine : (ks : List PlainMethod) → ((m : ℕ) (k : PlainMethod) → slice_get ks m ≡ Some k → method_rule P c k ≡ None) → class_rule P c ks ≡ None
+    methods_fine [] each = refl
+    methods_fine (k ∷ ks) each = rw (each zero k refl) (methods_fine ks (λ m. each (suc m)))
+
+    pub class_fine : class_rule P c P.methods ≡ None
+    class_fine = methods_fine P.methods method_fine
+
+  pub classes_fine : all_quiet P P.methods ≡ true → (n : ℕ) (cs : List PlainClass) → n + length cs ≡ length P.classes → classes_answer P n cs ≡ Ok (tt {0})
+  classes_fine all n [] e = refl
+  classes_fine all n (k ∷ cs) e =
+      let lt : n < length P.classes = omega (arith, e) in
+      rw (class_fine n (class_quiet P n P.methods lt all)) (classes_fine all (suc n) cs (omega (arith, e)))

@@ -7,7 +7,7 @@ use Rattle.java_core.specs.declared.RExpr.{RExpr}
 use Rattle.java_core.specs.declared.RExpr.TheBlock as ex
 use Rattle.java_core.specs.declared.RStmt.{RStmt}
 use Rattle.java_core.specs.declared.RStmt.TheBlock as st
-use Rattle.java_core.specs.Trees.{Tag, Exs, create, Sts, Arms, expr_of, exprs_of, call_of, value_of, target_of, stmt_of, stmts_of, step_of, else_of, arms_of, stmts}
+use Rattle.java_core.specs.Trees.{Tag, Exs, create, Arms, expr_of, exprs_of, call_of, value_of, target_of, stmt_of, stmts_of, step_of, else_of, arms_of, stmts}
 use Rattle.java_core.specs.Programs.{Plain}
 use Rattle.java_core.specs.Types.{Static, Env, or_nothing, class_of, element_of, is_numeric, is_boolean, is_printable, fits, fits_in, call_signature, result_of, field_type, field_in, access_type, static, target_type}
 use Rattle.java_core.specs.Typing.{takes_one, are_related, can_cast, Typed, TypedArgs, TypedTarget, TypedTest, TypedSt, TypedSts, TypedArms, t_number, t_character, t_text, t_truth, t_null, t_this, t_local, t_static_field, t_own_field, t_field, t_index, t_call, t_static_call, t_super_call, t_create, t_create_array, t_cast, t_instance_of, t_unary, t_binary, t_no_ex, t_ex_then, t_to_local, t_to_static, t_to_own, t_to_field, t_to_element, t_always, t_test, t_declare, t_declare_as, t_block, t_assign, t_act, t_print_line, t_print, t_choose, t_loop, t_return_nothing, t_return, t_break, t_continue, t_no_st, t_st_then, t_no_other, t_otherwise, t_arm}

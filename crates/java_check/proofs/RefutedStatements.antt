@@ -6,7 +6,7 @@ use Rattle.java_core.specs.declared.Ty.{Ty}
 use Rattle.java_core.specs.Trees.{Ex, Target, St, Sts, Arms}
 use Rattle.java_core.specs.Programs.{Plain}
 use Rattle.java_core.specs.Types.{Env, fits, static}
-use Rattle.java_core.specs.Typing.{Typed, TypedTarget, t_to_field, t_to_element, t_test, TypedSt, TypedSts, TypedArms, t_declare_as, t_block, t_assign, t_act, t_print, t_choose, t_loop, t_return_nothing, t_return, t_st_then, t_no_other, t_otherwise, t_arm}
+use Rattle.java_core.specs.Typing.{Typed, TypedTarget, t_to_field, t_to_element, t_test, TypedSt, TypedSts, TypedArms, t_declare_as, t_block, t_assign, t_act, t_print, t_choose, t_loop, t_return_nothing, t_return, t_st_then, t_otherwise, t_arm}
 use Rattle.java_check.specs.declared.Kind.{Kind}
 use Rattle.java_check.specs.Fails.{BreaksTarget, no_own_field, bad_element, BreaksSt, bad_initial, bad_target, no_variable, bad_assign, bad_print, bad_loop_test, value_wanted, no_value_wanted, bad_return, HasEx, initial, target_base, element_base, element_at, assigned, acted, printed, loop_test, returned, FailsSt, itself_st, in_ex, in_block, in_choose, in_first, in_step, in_body, FailsSts, here, later, FailsArms, in_else, in_test, bad_test, in_arm, in_more}
 use Rattle.java_check.proofs.Refuted.{clash, fails_untyped}

@@ -1,7 +1,7 @@
 -- What is answered of a class or an interface: the rule that it breaks for the slot of the first method for which it breaks one.
-use Rattle.std.specs.Prelude.{ℕ, ◌&&◌, Bool, true, false, not, List, [], ◌∷◌, Option, Some, None}
+use Rattle.std.specs.Prelude.{ℕ, suc, ◌&&◌, ◌||◌, Bool, true, false, not, List, [], ◌∷◌, Option, Some, None}
 use Rattle.std.specs.Option.{option_map_or, is_some}
-use Rattle.java_core.specs.Programs.{Plain, PlainMethod}
+use Rattle.java_core.specs.Programs.{Plain, PlainClass, PlainMethod}
 use Rattle.java_core.specs.Classes.{below, is_concrete, is_interface, has_body, nearest_declaration}
 use Rattle.java_core.specs.Typing.{is_public_method}
 use Rattle.java_check.specs.declared.Kind.{Kind}
@@ -33,7 +33,17 @@ abbrev pub class_rule : Plain → ℕ → List PlainMethod → Option Kind
 class_rule P c [] = None
 class_rule P c (k ∷ ks) = first_some (method_rule P c k) (class_rule P c ks)
 
--- whether each method has a body
-abbrev pub all_bodied : List PlainMethod → Bool
-all_bodied [] = true
-all_bodied (k ∷ ks) = is_some k.body && all_bodied ks
+-- whether it breaks no rule for the slot of a method without a body
+abbrev pub is_quiet : Plain → ℕ → List PlainMethod → Bool
+is_quiet P c [] = true
+is_quiet P c (k ∷ ks) = (is_some k.body || not (is_some (method_rule P c k))) && is_quiet P c ks
+
+-- whether none of the classes numbered from c breaks a rule for the slot of a method
+abbrev pub is_kept : Plain → PlainMethod → ℕ → List PlainClass → Bool
+is_kept P k c [] = true
+is_kept P k c (x ∷ xs) = not (is_some (method_rule P c k)) && is_kept P k (suc c) xs
+
+-- whether no class breaks a rule for the slot of a method without a body
+abbrev pub all_quiet : Plain → List PlainMethod → Bool
+all_quiet P [] = true
+all_quiet P (k ∷ ks) = (is_some k.body || is_kept P k 0 P.classes) && all_quiet P ks

@@ -1,33 +1,73 @@
 //! The rules of types that a class or an interface keeps as a whole.
 
-ghost use Rattle.std.specs.Prelude.{◌≡◌, Option, false, map};
+ghost use Rattle.std.specs.Prelude.{◌≡◌, ◌<◌, Option, false, length, map};
 ghost use Rattle.std.specs.Option.{option_map, option_map_or};
 ghost use Rattle.java_core.specs.Trees.{no_place};
-ghost use Rattle.java_core.specs.Programs.{program_of, method_seen};
+ghost use Rattle.java_core.specs.Programs.{program_of, class_seen, method_seen};
 ghost use Rattle.java_core.specs.Classes as classes;
 ghost use Rattle.java_core.specs.Typing as typing;
 ghost use Rattle.java_core.specs.Formed.{IsFormed};
-ghost use Rattle.java_check.specs.ClassOutcome.{method_rule, class_rule, all_bodied};
+ghost use Rattle.java_check.specs.ClassOutcome.{method_rule, class_rule, is_quiet, is_kept, all_quiet};
 
 use crate::Kind;
 use crate::expressions::{has_body, is_concrete};
-use java_core::{Method, Program, is_subtype, nearest_declaration};
+use java_core::{Class, Method, Program, is_subtype, nearest_declaration};
 use kaba_base::{ClassId, MemberId};
 
-/// Whether each of the methods has a body.
-pub(crate) fn all_bodied(methods: &[Method]) -> bool
-    ensures { result ≡ all_bodied (map (method_seen no_place) methods.now) }
+/// Whether no class or interface breaks a rule for the slot of a method without a body. Where that is so, none breaks one as a whole, and nothing was asked
+/// of the methods that have one.
+pub(crate) fn all_quiet(p: &Program, methods: &[Method]) -> bool
+    requires { IsFormed (program_of no_place p.now) }
+    ensures { result ≡ all_quiet (program_of no_place p.now) (map (method_seen no_place) methods.now) }
 {
     for method in methods {
-        if method.body.is_none() {
+        if method.body.is_none() && !is_kept(p, method, &p.classes) {
             return false;
         }
     }
     true
 }
 
+/// Whether none of the classes and interfaces breaks a rule for the slot of a method.
+fn is_kept(p: &Program, method: &Method, classes: &[Class]) -> bool
+    requires formed { IsFormed (program_of no_place p.now) }
+    requires few { length classes.now < 4294967295 }
+    ensures { result ≡ is_kept (program_of no_place p.now) (method_seen no_place method.now) 0 (map (class_seen no_place) classes.now) }
+{
+    for (i, _class) in classes.iter().enumerate() {
+        if rule_for(p, ClassId(i as u32), method).is_some() {
+            return false;
+        }
+    }
+    true
+}
+
+/// Whether a class or an interface breaks no rule for the slot of a method without a body.
+fn is_quiet(p: &Program, class: ClassId, methods: &[Method]) -> bool
+    requires { IsFormed (program_of no_place p.now) }
+    ensures { result ≡ is_quiet (program_of no_place p.now) class.0 (map (method_seen no_place) methods.now) }
+{
+    for method in methods {
+        if method.body.is_none() && rule_for(p, class, method).is_some() {
+            return false;
+        }
+    }
+    true
+}
+
+/// The rule that a class or an interface breaks as a whole: none, where it breaks none for the methods without a body.
+pub(crate) fn class_fault(p: &Program, class: ClassId) -> Option<Kind>
+    requires { IsFormed (program_of no_place p.now) }
+    ensures { result ≡ class_rule (program_of no_place p.now) class.0 (program_of no_place p.now).methods }
+{
+    if is_quiet(p, class, &p.methods) {
+        return None;
+    }
+    broken_rule(p, class, &p.methods)
+}
+
 /// The rule that a class or an interface breaks for the slot of one of the methods.
-pub(crate) fn broken_rule(p: &Program, class: ClassId, methods: &[Method]) -> Option<Kind>
+fn broken_rule(p: &Program, class: ClassId, methods: &[Method]) -> Option<Kind>
     requires { IsFormed (program_of no_place p.now) }
     ensures { result ≡ class_rule (program_of no_place p.now) class.0 (map (method_seen no_place) methods.now) }
 {

@@ -10,7 +10,7 @@ ghost use Rattle.java_check.specs.Outcome.{env_in, and_then};
 ghost use Rattle.java_check.specs.ProgramOutcome.{classes_answer, body_answer, methods_answer};
 
 use crate::CheckFault;
-use crate::classes::{all_bodied, broken_rule};
+use crate::classes::{all_quiet, class_fault};
 use crate::statements::check_stmts;
 use java_core::{Checked, Class, Method, Program};
 use kaba_base::{ClassId, MemberId};
@@ -49,22 +49,21 @@ fn first_fault(p: &Program) -> Result<(), CheckFault>
         (program_of at_place p.now).classes) (λ _. methods_answer (program_of no_place p.now) 0
         (program_of at_place p.now).methods) }
 {
-    match check_classes(p, &p.classes) {
+    match check_classes(p) {
         Ok(()) => check_methods(p, &p.methods),
         Err(fault) => Err(fault),
     }
 }
 
-/// The first rule that one of the classes breaks. Where each method has a body, none does.
-fn check_classes(p: &Program, classes: &[Class]) -> Result<(), CheckFault>
-    requires formed { IsFormed (program_of no_place p.now) }
-    requires few { length classes.now < 4294967295 }
-    ensures { result ≡ classes_answer (program_of no_place p.now) 0 (map (class_seen at_place) classes.now) }
+/// The first rule that one of the classes breaks: none, where none is broken for the methods without a body.
+fn check_classes(p: &Program) -> Result<(), CheckFault>
+    requires { IsFormed (program_of no_place p.now) }
+    ensures { result ≡ classes_answer (program_of no_place p.now) 0 (program_of at_place p.now).classes }
 {
-    if all_bodied(&p.methods) {
+    if all_quiet(p, &p.methods) {
         return Ok(());
     }
-    check_each(p, classes)
+    check_each(p, &p.classes)
 }
 
 /// The first rule that one of the classes breaks, each tested.
@@ -74,7 +73,7 @@ fn check_each(p: &Program, classes: &[Class]) -> Result<(), CheckFault>
     ensures { result ≡ classes_answer (program_of no_place p.now) 0 (map (class_seen at_place) classes.now) }
 {
     for (i, class) in classes.iter().enumerate() {
-        if let Some(kind) = broken_rule(p, ClassId(i as u32), &p.methods) {
+        if let Some(kind) = class_fault(p, ClassId(i as u32)) {
             return Err(CheckFault::IllTyped(kind, class.place));
         }
     }

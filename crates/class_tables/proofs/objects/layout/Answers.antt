@@ -1,12 +1,15 @@
-use Rattle.std.proofs.Common.{◌≡◌, subst}
-use Rattle.std.specs.Prelude.{IfOk}
+use Rattle.std.proofs.Common.{◌≡◌, ◌∙◌, ap, drop, length, arith}
 use Rattle.java_core.specs.Trees.{no_place}
 use Rattle.java_core.specs.Programs.{program_of}
-use Rattle.java_meaning.specs.Languages.{layout, layout_in}
+use Rattle.java_meaning.specs.Languages.{layout}
+use Rattle.class_tables.specs.Lines.{fields_down}
+use Rattle.class_tables.proofs.Layouts.{down_layout}
 use Rattle.class_tables.proofs.objects.layout.Goals as goal
 
 pub returns : goal.returns
 unfolding layout
 returns c =
     let P = program_of no_place c.args.p.now in
-    subst (λ k. IfOk c.layout_within.result (λ v. v.items ≡ layout_in P k c.args.class.0)) c.class_count.ensures c.layout_within.ensures
+    let end : c.loop-i.i ≡ 0 = omega (arith, c.loop-i-test.false) in
+    c.loop-i.invariant ∙ ap (λ i. fields_down P (drop i c.in_ok-line.line.items)) end ∙ ap (fields_down P) c.in_ok-line.ensures
+    ∙ down_layout P (length P.classes) c.args.class
