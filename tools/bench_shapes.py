@@ -10,6 +10,18 @@ def chain(count):
     return "class C0 {\n}\n" + "".join(f"class C{n} extends C{n - 1} {{\n}}\n" for n in range(1, count)) + main()
 
 
+def own_members(count):
+    """Classes one below the other, each with a field and a method of its own, and an object of the lowest."""
+    text = "class C0 {\n  int f0;\n  void m0() {\n  }\n}\n"
+    text += "".join(f"class C{n} extends C{n - 1} {{\n  int f{n};\n  void m{n}() {{\n  }}\n}}\n" for n in range(1, count))
+    return text + main(f"    C0 c = new C{count - 1}();\n")
+
+
+def beside_an_interface(count):
+    """The same beside an interface, whose method has no body."""
+    return "interface I {\n  void i();\n}\n" + own_members(count)
+
+
 def overriding(count):
     """Classes one below the other, each with a method that overrides and calls the one above."""
     text = "class C0 {\n  int m(int a) {\n    return a;\n  }\n}\n"
@@ -60,6 +72,8 @@ def blocks(count):
 # The shape, its sizes, and the seconds and megabytes that the greatest may take until it is checked.
 SHAPES = [
     ("classes in a chain", chain, (1000, 2000, 4000, 8000)),
+    ("classes in a chain, each with a field and a method", own_members, (1000, 2000, 4000, 8000)),
+    ("the same beside an interface", beside_an_interface, (1000, 2000, 4000, 8000)),
     ("classes that override and call super", overriding, (188, 375, 750, 1500)),
     ("classes with a field and a method", beside, (2500, 5000, 10000, 20000)),
     ("classes with one static and one instance name", two_names, (1000, 2000, 4000, 8000)),
