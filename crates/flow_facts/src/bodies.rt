@@ -10,6 +10,7 @@ ghost use Rattle.flow_rules.specs.Operands.{operand_of};
 ghost use Rattle.flow_rules.specs.Parts as plain;
 ghost use Rattle.flow_rules.specs.Types.{object_type};
 ghost use Rattle.flow_facts.specs.Views.{parts_seen, static_place, variable_operand};
+ghost use Rattle.flow_facts.specs.Walked.{IsAdded};
 
 use crate::types::{field_object, object_field};
 use crate::walk::{NOTHING, add, is_accessed, this_operand, variable_operand, walk};
@@ -41,9 +42,8 @@ fn walk_set(
     parts: &mut Vec<Part>,
 ) -> Result<(), AllocError>
     requires { IsFormed (program_of no_place program.now) }
-    ensures grown { OnOk result (length parts.new.items ≡ length parts.old.items + (size (expr_of at_place value.now) + 1)) }
-    ensures parts { OnOk result (parts_seen parts.new.items ≡ parts_seen parts.old.items
-        ++ (plain.parts (program_of no_place program.now) (object_type (program_of no_place program.now)
+    ensures { OnOk result (IsAdded parts.old.items parts.new.items (size (expr_of at_place value.now) + 1)
+        (plain.parts (program_of no_place program.now) (object_type (program_of no_place program.now)
         (method_seen at_place method.now)) m (method_seen at_place method.now) false
         (label (length parts.old.items) (expr_of at_place value.now)) ++ plain.a_set target
         (operand_of (program_of no_place program.now) (object_type (program_of no_place program.now)
@@ -51,8 +51,7 @@ fn walk_set(
         (label (length parts.old.items) (expr_of at_place value.now))) ∷ [])) }
 {
     let value = walk(alloc, program, m, method, false, value, parts)?;
-    add(parts, Part::Set(target, value))?;
-    Ok(())
+    add(parts, Part::Set(target, value))
 }
 
 /// Adds the parts of an assignment.
@@ -67,14 +66,13 @@ fn walk_assign(
     parts: &mut Vec<Part>,
 ) -> Result<(), AllocError>
     requires { IsFormed (program_of no_place program.now) }
-    ensures grown { OnOk result (length parts.new.items ≡ length parts.old.items
-        + (size_target (target_of at_place target.now) + size (expr_of at_place value.now) + 1)) }
-    ensures parts { OnOk result (parts_seen parts.new.items ≡ parts_seen parts.old.items ++ plain.parts_assign
+    ensures { OnOk result (IsAdded parts.old.items parts.new.items (size_target (target_of at_place target.now) + size (expr_of at_place value.now) + 1)
+        (plain.parts_assign
         (program_of no_place program.now) (object_type (program_of no_place program.now)
         (method_seen at_place method.now)) m (method_seen at_place method.now) place
         (label_target (length parts.old.items) (target_of at_place target.now))
         (label ((length parts.old.items) + size_target (target_of at_place target.now))
-        (expr_of at_place value.now))) }
+        (expr_of at_place value.now)))) }
 {
     match target {
         RExpr::Local { local, .. } => {
@@ -86,8 +84,7 @@ fn walk_assign(
                 variable_operand(m, method, *local),
                 value,
                 parts,
-            )?;
-            Ok(())
+            )
         }
         RExpr::Static { field, .. } => {
             walk_set(
@@ -98,36 +95,29 @@ fn walk_assign(
                 static_place(program, field.0),
                 value,
                 parts,
-            )?;
-            Ok(())
+            )
         }
         RExpr::Own { field, .. } => {
             let value = walk(alloc, program, m, method, true, value, parts)?;
             add(
                 parts,
                 Part::Store(place, this_operand(m, method), Some(field.0), value),
-            )?;
-            Ok(())
+            )
         }
         RExpr::Field { base, name, .. } => {
             let accessed = is_accessed(base);
             let base = walk(alloc, program, m, method, accessed, base, parts)?;
             let value = walk(alloc, program, m, method, true, value, parts)?;
             let field = object_field(program, base.ty, name);
-            add(parts, Part::Store(place, base, field, value))?;
-            Ok(())
+            add(parts, Part::Store(place, base, field, value))
         }
         RExpr::Index { base, at, .. } => {
             let base = walk(alloc, program, m, method, true, base, parts)?;
             walk(alloc, program, m, method, false, at, parts)?;
             let value = walk(alloc, program, m, method, true, value, parts)?;
-            add(parts, Part::ElementStore(place, base, value))?;
-            Ok(())
+            add(parts, Part::ElementStore(place, base, value))
         }
-        _ => {
-            walk_set(alloc, program, m, method, NOTHING, value, parts)?;
-            Ok(())
-        }
+        _ => { walk_set(alloc, program, m, method, NOTHING, value, parts) }
     }
 }
 
@@ -141,11 +131,11 @@ fn walk_value(
     parts: &mut Vec<Part>,
 ) -> Result<(), AllocError>
     requires { IsFormed (program_of no_place program.now) }
-    ensures grown { OnOk result (length parts.new.items ≡ length parts.old.items + size_if (value_of at_place value.now)) }
-    ensures parts { OnOk result (parts_seen parts.new.items ≡ parts_seen parts.old.items ++ plain.parts_if
+    ensures { OnOk result (IsAdded parts.old.items parts.new.items (size_if (value_of at_place value.now))
+        (plain.parts_if
         (program_of no_place program.now) (object_type (program_of no_place program.now)
         (method_seen at_place method.now)) m (method_seen at_place method.now)
-        (label_if (length parts.old.items) (value_of at_place value.now))) }
+        (label_if (length parts.old.items) (value_of at_place value.now)))) }
 {
     match value {
         Some(value) => {
@@ -183,8 +173,7 @@ fn walk_local(
                 variable_operand(m, method, local),
                 value,
                 parts,
-            )?;
-            Ok(())
+            )
         }
         None => Ok(()),
     }
@@ -200,17 +189,16 @@ fn walk_return(
     parts: &mut Vec<Part>,
 ) -> Result<(), AllocError>
     requires { IsFormed (program_of no_place program.now) }
-    ensures grown { OnOk result (length parts.new.items ≡ length parts.old.items + size_put (value_of at_place value.now)) }
-    ensures parts { OnOk result (parts_seen parts.new.items ≡ parts_seen parts.old.items ++ plain.parts_return
+    ensures { OnOk result (IsAdded parts.old.items parts.new.items (size_put (value_of at_place value.now))
+        (plain.parts_return
         (program_of no_place program.now) (object_type (program_of no_place program.now)
         (method_seen at_place method.now)) m (method_seen at_place method.now)
-        (label_if (length parts.old.items) (value_of at_place value.now))) }
+        (label_if (length parts.old.items) (value_of at_place value.now)))) }
 {
     match value {
         Some(value) => {
             let value = walk(alloc, program, m, method, false, value, parts)?;
-            add(parts, Part::Return(value))?;
-            Ok(())
+            add(parts, Part::Return(value))
         }
         None => Ok(()),
     }
@@ -227,51 +215,37 @@ fn walk_stmt(
     parts: &mut Vec<Part>,
 ) -> Result<(), AllocError>
     requires { IsFormed (program_of no_place program.now) }
-    ensures grown { OnOk result (length parts.new.items ≡ length parts.old.items + size_st (stmt_of at_place s.now)) }
-    ensures parts { OnOk result (parts_seen parts.new.items ≡ parts_seen parts.old.items ++ plain.parts_st
+    ensures { OnOk result (IsAdded parts.old.items parts.new.items (size_st (stmt_of at_place s.now))
+        (plain.parts_st
         (program_of no_place program.now) (object_type (program_of no_place program.now)
         (method_seen at_place method.now)) m (method_seen at_place method.now)
-        (label_st (length parts.old.items) (stmt_of at_place s.now))) }
+        (label_st (length parts.old.items) (stmt_of at_place s.now)))) }
 {
     match s {
         RStmt::Local { local, value, .. } => {
-            walk_local(alloc, program, m, method, *local, value, parts)?;
-            Ok(())
+            walk_local(alloc, program, m, method, *local, value, parts)
         }
-        RStmt::Block { items, .. } => {
-            walk_stmts(alloc, program, m, method, items, parts)?;
-            Ok(())
-        }
+        RStmt::Block { items, .. } => { walk_stmts(alloc, program, m, method, items, parts) }
         RStmt::Assign {
             target,
             value,
             place,
-        } => {
-            walk_assign(alloc, program, m, method, *place, target, value, parts)?;
-            Ok(())
-        }
+        } => { walk_assign(alloc, program, m, method, *place, target, value, parts) }
         RStmt::Do { call, .. } => {
             walk(alloc, program, m, method, false, call, parts)?;
             Ok(())
         }
-        RStmt::Print { value, .. } => {
-            walk_value(alloc, program, m, method, value, parts)?;
-            Ok(())
-        }
+        RStmt::Print { value, .. } => { walk_value(alloc, program, m, method, value, parts) }
         RStmt::If { arms, other, .. } => {
             walk_arms(alloc, program, m, method, arms, other, parts)?;
             match other {
-                Some(body) => {
-                    walk_stmts(alloc, program, m, method, body, parts)?;
-                    Ok(())
-                }
+                Some(body) => { walk_stmts(alloc, program, m, method, body, parts) }
                 None => Ok(()),
             }
         }
         RStmt::While { test, body, .. } => {
             walk(alloc, program, m, method, false, test, parts)?;
-            walk_stmts(alloc, program, m, method, body, parts)?;
-            Ok(())
+            walk_stmts(alloc, program, m, method, body, parts)
         }
         RStmt::For {
             first,
@@ -283,13 +257,9 @@ fn walk_stmt(
             walk_step(alloc, program, m, method, first, parts)?;
             walk_value(alloc, program, m, method, test, parts)?;
             walk_step(alloc, program, m, method, step, parts)?;
-            walk_stmts(alloc, program, m, method, body, parts)?;
-            Ok(())
+            walk_stmts(alloc, program, m, method, body, parts)
         }
-        RStmt::Return { value, .. } => {
-            walk_return(alloc, program, m, method, value, parts)?;
-            Ok(())
-        }
+        RStmt::Return { value, .. } => { walk_return(alloc, program, m, method, value, parts) }
         RStmt::Break { .. } | RStmt::Continue { .. } => Ok(()),
     }
 }
@@ -305,17 +275,14 @@ fn walk_step(
     parts: &mut Vec<Part>,
 ) -> Result<(), AllocError>
     requires { IsFormed (program_of no_place program.now) }
-    ensures grown { OnOk result (length parts.new.items ≡ length parts.old.items + size_sts (step_seen at_place step.now)) }
-    ensures parts { OnOk result (parts_seen parts.new.items ≡ parts_seen parts.old.items ++ plain.parts_sts
+    ensures { OnOk result (IsAdded parts.old.items parts.new.items (size_sts (step_seen at_place step.now))
+        (plain.parts_sts
         (program_of no_place program.now) (object_type (program_of no_place program.now)
         (method_seen at_place method.now)) m (method_seen at_place method.now)
-        (label_sts (length parts.old.items) (step_seen at_place step.now))) }
+        (label_sts (length parts.old.items) (step_seen at_place step.now)))) }
 {
     match step {
-        Some(step) => {
-            walk_stmt(alloc, program, m, method, step, parts)?;
-            Ok(())
-        }
+        Some(step) => { walk_stmt(alloc, program, m, method, step, parts) }
         None => Ok(()),
     }
 }
@@ -331,11 +298,11 @@ fn walk_stmts(
     parts: &mut Vec<Part>,
 ) -> Result<(), AllocError>
     requires { IsFormed (program_of no_place program.now) }
-    ensures grown { OnOk result (length parts.new.items ≡ length parts.old.items + size_sts (stmts at_place body.now.items)) }
-    ensures parts { OnOk result (parts_seen parts.new.items ≡ parts_seen parts.old.items ++ plain.parts_sts
+    ensures { OnOk result (IsAdded parts.old.items parts.new.items (size_sts (stmts at_place body.now.items))
+        (plain.parts_sts
         (program_of no_place program.now) (object_type (program_of no_place program.now)
         (method_seen at_place method.now)) m (method_seen at_place method.now)
-        (label_sts (length parts.old.items) (stmts at_place body.now.items))) }
+        (label_sts (length parts.old.items) (stmts at_place body.now.items)))) }
 {
     for s in body {
         walk_stmt(alloc, program, m, method, s, parts)?;

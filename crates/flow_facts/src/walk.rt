@@ -10,7 +10,7 @@ ghost use Rattle.flow_rules.specs.Operands.{operand_of, operands_of, this_operan
 ghost use Rattle.flow_rules.specs.Parts.{is_accessed};
 ghost use Rattle.flow_rules.specs.Types.{object_type};
 ghost use Rattle.flow_facts.specs.Views.{part_seen, parts_seen, load_operand, call_operand, static_operand, super_operand, variable_operand};
-ghost use Rattle.flow_facts.specs.Walked.{IsWalked};
+ghost use Rattle.flow_facts.specs.Walked.{IsAdded, IsMade, IsWalked, AreWalked, args_from, parts_from, call_from};
 ghost use Rattle.flow_rules.specs.Parts as plain;
 
 use crate::types::{
@@ -117,8 +117,7 @@ pub fn is_accessed(e: &RExpr) -> bool
 
 /// Adds a part.
 pub fn add(parts: &mut Vec<Part>, part: Part) -> Result<(), AllocError>
-    ensures grown { OnOk result (length parts.new.items ≡ length parts.old.items + 1) }
-    ensures parts { OnOk result (parts_seen parts.new.items ≡ parts_seen parts.old.items ++ part_seen part ∷ []) }
+    ensures { OnOk result (IsAdded parts.old.items parts.new.items 1 (part_seen part ∷ [])) }
 {
     parts.push(part)?;
     Ok(())
@@ -173,8 +172,7 @@ pub fn walk(
         RExpr::Field { base, name, place } => {
             let accessed = is_accessed(base);
             let base = walk(alloc, program, m, method, accessed, base, parts)?;
-            let own = add_load(program, m, *place, base, name, parts)?;
-            Ok(own)
+            add_load(program, m, *place, base, name, parts)
         }
         RExpr::Index { base, at, place } => {
             let base = walk(alloc, program, m, method, true, base, parts)?;
@@ -191,26 +189,20 @@ pub fn walk(
         } => match base {
             None => {
                 let this = this_operand(m, method);
-                let own = add_call(alloc, program, m, method, *place, this, name, args, parts)?;
-                Ok(own)
+                add_call(alloc, program, m, method, *place, this, name, args, parts)
             }
             Some(base) => {
                 let base = walk(alloc, program, m, method, true, base, parts)?;
-                let own = add_call(alloc, program, m, method, *place, base, name, args, parts)?;
-                Ok(own)
+                add_call(alloc, program, m, method, *place, base, name, args, parts)
             }
         },
         RExpr::StaticCall {
             method: callee,
             args,
             place,
-        } => {
-            let own = add_static_call(alloc, program, m, method, *place, callee.0, args, parts)?;
-            Ok(own)
-        }
+        } => { add_static_call(alloc, program, m, method, *place, callee.0, args, parts) }
         RExpr::SuperCall { name, args, place } => {
-            let own = add_super_call(alloc, program, m, method, *place, name, args, parts)?;
-            Ok(own)
+            add_super_call(alloc, program, m, method, *place, name, args, parts)
         }
         RExpr::New {
             number,
@@ -288,11 +280,10 @@ fn add_load(
     parts: &mut Vec<Part>,
 ) -> Result<Operand, AllocError>
     requires { IsFormed (program_of no_place program.now) }
-    ensures grown { IfOk result (λ o. length parts.new.items ≡ length parts.old.items + 1) }
-    ensures value { IfOk result (λ o. o ≡ load_operand (program_of no_place program.now) m (length parts.old.items) base.ty name.now) }
-    ensures parts { IfOk result (λ o. parts_seen parts.new.items ≡ parts_seen parts.old.items
-        ++ plain.a_load place base (object_field (program_of no_place program.now) base.ty name.now)
-        (load_operand (program_of no_place program.now) m (length parts.old.items) base.ty name.now) ∷ []) }
+    ensures { IfOk result (λ o. IsMade parts.old.items parts.new.items 1
+        (plain.a_load place base (object_field (program_of no_place program.now) base.ty name.now)
+        (load_operand (program_of no_place program.now) m (length parts.old.items) base.ty name.now) ∷ []) o
+        (load_operand (program_of no_place program.now) m (length parts.old.items) base.ty name.now)) }
 {
     let field = object_field(program, base.ty, name);
     let (row, ty) = match field {
@@ -319,15 +310,8 @@ fn walk_all(
     parts: &mut Vec<Part>,
 ) -> Result<Vec<Operand>, AllocError>
     requires { IsFormed (program_of no_place program.now) }
-    ensures grown { IfOk result (λ o. length parts.new.items ≡ length parts.old.items + sizes (exprs at_place args.now.items)) }
-    ensures value { IfOk result (λ o. o.items ≡ operands_of (program_of no_place program.now)
-        (object_type (program_of no_place program.now) (method_seen at_place method.now)) m
-        (method_seen at_place method.now)
-        (label_all (length parts.old.items) (exprs at_place args.now.items))) }
-    ensures parts { IfOk result (λ o. parts_seen parts.new.items ≡ parts_seen parts.old.items
-        ++ plain.parts_all (program_of no_place program.now) (object_type (program_of no_place program.now)
-        (method_seen at_place method.now)) m (method_seen at_place method.now) used
-        (label_all (length parts.old.items) (exprs at_place args.now.items))) }
+    ensures { IfOk result (λ o. AreWalked (program_of no_place program.now) m (method_seen at_place method.now) used
+        (exprs at_place args.now.items) parts.old.items parts.new.items o.items) }
 {
     let mut list = Vec::new(alloc);
     for e in args {
@@ -350,18 +334,10 @@ fn add_call(
     parts: &mut Vec<Part>,
 ) -> Result<Operand, AllocError>
     requires { IsFormed (program_of no_place program.now) }
-    ensures grown { IfOk result (λ o. length parts.new.items ≡ length parts.old.items + 1 + sizes (exprs at_place args.now.items)) }
-    ensures value { IfOk result (λ o. o ≡ call_operand (program_of no_place program.now) m (length parts.old.items) base.ty name.now) }
-    ensures parts { IfOk result (λ o. parts_seen parts.new.items ≡ parts_seen parts.old.items
-        ++ plain.a_call place base (call_slot (program_of no_place program.now) base.ty name.now)
-        (call_declaration (program_of no_place program.now) base.ty name.now)
-        (operands_of (program_of no_place program.now) (object_type (program_of no_place program.now)
-        (method_seen at_place method.now)) m (method_seen at_place method.now)
-        (label_all (length parts.old.items + 1) (exprs at_place args.now.items)))
-        (call_operand (program_of no_place program.now) m (length parts.old.items) base.ty name.now)
-        ∷ plain.parts_all (program_of no_place program.now) (object_type (program_of no_place program.now)
-        (method_seen at_place method.now)) m (method_seen at_place method.now) true
-        (label_all (length parts.old.items + 1) (exprs at_place args.now.items))) }
+    ensures { IfOk result (λ o. IsMade parts.old.items parts.new.items (1 + sizes (exprs at_place args.now.items))
+        (call_from (program_of no_place program.now) m (method_seen at_place method.now) place base name.now
+        (length parts.old.items) (exprs at_place args.now.items)) o
+        (call_operand (program_of no_place program.now) m (length parts.old.items) base.ty name.now)) }
 {
     let at = parts.len();
     add(parts, Part::Pair(BinOp::Both, NOTHING, NOTHING))?;
@@ -407,17 +383,13 @@ fn add_static_call(
     parts: &mut Vec<Part>,
 ) -> Result<Operand, AllocError>
     requires { IsFormed (program_of no_place program.now) }
-    ensures grown { IfOk result (λ o. length parts.new.items ≡ length parts.old.items + 1 + sizes (exprs at_place args.now.items)) }
-    ensures value { IfOk result (λ o. o ≡ static_operand (program_of no_place program.now) m (length parts.old.items) callee) }
-    ensures parts { IfOk result (λ o. parts_seen parts.new.items ≡ parts_seen parts.old.items
-        ++ plain.a_static_call place callee (operands_of (program_of no_place program.now)
-        (object_type (program_of no_place program.now) (method_seen at_place method.now)) m
-        (method_seen at_place method.now)
-        (label_all (length parts.old.items + 1) (exprs at_place args.now.items)))
-        (static_operand (program_of no_place program.now) m (length parts.old.items) callee) ∷ plain.parts_all
-        (program_of no_place program.now) (object_type (program_of no_place program.now)
-        (method_seen at_place method.now)) m (method_seen at_place method.now) false
-        (label_all (length parts.old.items + 1) (exprs at_place args.now.items))) }
+    ensures { IfOk result (λ o. IsMade parts.old.items parts.new.items (1 + sizes (exprs at_place args.now.items))
+        (plain.a_static_call place callee (args_from (program_of no_place program.now) m (method_seen at_place method.now)
+        (length parts.old.items + 1) (exprs at_place args.now.items))
+        (static_operand (program_of no_place program.now) m (length parts.old.items) callee)
+        ∷ parts_from (program_of no_place program.now) m (method_seen at_place method.now) false
+        (length parts.old.items + 1) (exprs at_place args.now.items)) o
+        (static_operand (program_of no_place program.now) m (length parts.old.items) callee)) }
 {
     let at = parts.len();
     add(parts, Part::Pair(BinOp::Both, NOTHING, NOTHING))?;
@@ -441,19 +413,14 @@ fn add_super_call(
     parts: &mut Vec<Part>,
 ) -> Result<Operand, AllocError>
     requires { IsFormed (program_of no_place program.now) }
-    ensures grown { IfOk result (λ o. length parts.new.items ≡ length parts.old.items + 1 + sizes (exprs at_place args.now.items)) }
-    ensures value { IfOk result (λ o. o ≡ super_operand (program_of no_place program.now) m (length parts.old.items) method.now.owner.0 name.now) }
-    ensures parts { IfOk result (λ o. parts_seen parts.new.items ≡ parts_seen parts.old.items
-        ++ plain.a_super_call place (super_method (program_of no_place program.now) method.now.owner.0
-        name.now) (operands_of (program_of no_place program.now)
-        (object_type (program_of no_place program.now) (method_seen at_place method.now)) m
-        (method_seen at_place method.now)
-        (label_all (length parts.old.items + 1) (exprs at_place args.now.items)))
-        (super_operand (program_of no_place program.now) m (length parts.old.items) method.now.owner.0
-        name.now) ∷ plain.parts_all (program_of no_place program.now)
-        (object_type (program_of no_place program.now) (method_seen at_place method.now)) m
-        (method_seen at_place method.now) false
-        (label_all (length parts.old.items + 1) (exprs at_place args.now.items))) }
+    ensures { IfOk result (λ o. IsMade parts.old.items parts.new.items (1 + sizes (exprs at_place args.now.items))
+        (plain.a_super_call place (super_method (program_of no_place program.now) method.now.owner.0 name.now)
+        (args_from (program_of no_place program.now) m (method_seen at_place method.now)
+        (length parts.old.items + 1) (exprs at_place args.now.items))
+        (super_operand (program_of no_place program.now) m (length parts.old.items) method.now.owner.0 name.now)
+        ∷ parts_from (program_of no_place program.now) m (method_seen at_place method.now) false
+        (length parts.old.items + 1) (exprs at_place args.now.items)) o
+        (super_operand (program_of no_place program.now) m (length parts.old.items) method.now.owner.0 name.now)) }
 {
     let at = parts.len();
     add(parts, Part::Pair(BinOp::Both, NOTHING, NOTHING))?;

@@ -7,83 +7,67 @@ use Rattle.flow_rules.specs.Labels.{label_arms, size_arms}
 use Rattle.flow_rules.specs.Parts.{parts_arms}
 use Rattle.flow_rules.specs.Types.{object_type}
 use Rattle.flow_facts.specs.Views.{parts_seen}
+use Rattle.flow_facts.proofs.Passed.{on_ok, on_both}
 use Rattle.flow_facts.proofs.Forms.{block_form, while_form}
 use Rattle.flow_facts.proofs.Composed.{loop_parts, while_parts}
 use Rattle.flow_facts.proofs.bodies.+statements.Goals as goal
 
-pub walk_stmt-returns-in_ok-walk_local-in-Local-clause-parts : goal.walk_stmt-returns-in_ok-walk_local-in-Local-clause-parts
-walk_stmt-returns-in_ok-walk_local-in-Local-clause-parts t c =
-    let form = ap (stmt_of at_place) c.in-Local.is in rw form (c.in_ok-walk_local-in-Local.ensures.parts (at_place c.in-Local.place))
+pub walk_stmt-returns-in-Local : goal.walk_stmt-returns-in-Local
+walk_stmt-returns-in-Local t c =
+    let form = ap (stmt_of at_place) c.in-Local.is in
+    rw form (on_both c.walk_local.result (λ g h. record { grown = g; parts = h (at_place c.in-Local.place) }) c.walk_local.ensures.grown
+    c.walk_local.ensures.parts)
 
-pub walk_stmt-returns-in_ok-walk_stmts-in-Block-clause-grown : goal.walk_stmt-returns-in_ok-walk_stmts-in-Block-clause-grown
-walk_stmt-returns-in_ok-walk_stmts-in-Block-clause-grown t c = let form = block_form _ _ _ c.in-Block.is in rw form c.in_ok-walk_stmts-in-Block.ensures.grown
+pub walk_stmt-returns-in-Block : goal.walk_stmt-returns-in-Block
+walk_stmt-returns-in-Block t c = let form = block_form _ _ _ c.in-Block.is in rw form c.walk_stmts.ensures
 
-pub walk_stmt-returns-in_ok-walk_stmts-in-Block-clause-parts : goal.walk_stmt-returns-in_ok-walk_stmts-in-Block-clause-parts
-walk_stmt-returns-in_ok-walk_stmts-in-Block-clause-parts t c = let form = block_form _ _ _ c.in-Block.is in rw form c.in_ok-walk_stmts-in-Block.ensures.parts
-
-pub walk_stmt-returns-in_ok-walk_stmts-in-While-clause-grown : goal.walk_stmt-returns-in_ok-walk_stmts-in-While-clause-grown
-walk_stmt-returns-in_ok-walk_stmts-in-While-clause-grown t c =
-    let form = while_form _ _ _ _ c.in-While.is in rw form (omega (arith, c.in_ok-walk-in-While.ensures.grown, c.in_ok-walk_stmts-in-While.ensures.grown))
-
-pub walk_stmt-returns-in_ok-walk_stmts-in-While-clause-parts : goal.walk_stmt-returns-in_ok-walk_stmts-in-While-clause-parts
-walk_stmt-returns-in_ok-walk_stmts-in-While-clause-parts t c =
+pub walk_stmt-returns-in_ok-walk-in-While : goal.walk_stmt-returns-in_ok-walk-in-While
+walk_stmt-returns-in_ok-walk-in-While t c =
     let form = while_form _ _ _ _ c.in-While.is in
-    rw form (while_parts (program_of no_place c.args.program.now) c.args.m (method_seen at_place c.args.method.now) (at_place c.in-While.place)
-    (expr_of at_place c.in-While.test) (stmts at_place c.in-While.body.items) (parts_seen c.args.parts.now.items) _ _
-    (length c.args.parts.now.items) _
-    c.in_ok-walk-in-While.ensures.parts c.in_ok-walk-in-While.ensures.grown c.in_ok-walk_stmts-in-While.ensures.parts)
+    rw form (on_ok c.walk_stmts-in-While.result (λ h. record {
+      grown = omega (arith, c.in_ok-walk-in-While.ensures.grown, h.grown);
+      parts = while_parts (program_of no_place c.args.program.now) c.args.m (method_seen at_place c.args.method.now) (at_place c.in-While.place)
+          (expr_of at_place c.in-While.test) (stmts at_place c.in-While.body.items) (parts_seen c.args.parts.now.items) _ _
+          (length c.args.parts.now.items) _
+          c.in_ok-walk-in-While.ensures.parts c.in_ok-walk-in-While.ensures.grown h.parts;
+    }) c.walk_stmts-in-While.ensures)
 
-pub walk_stmt-returns-in_ok-walk_stmts-in-For-clause-grown : goal.walk_stmt-returns-in_ok-walk_stmts-in-For-clause-grown
-walk_stmt-returns-in_ok-walk_stmts-in-For-clause-grown t c =
+pub walk_stmt-returns-in_ok-walk_step-in-For-2 : goal.walk_stmt-returns-in_ok-walk_step-in-For-2
+walk_stmt-returns-in_ok-walk_step-in-For-2 t c =
     let form = ap (stmt_of at_place) c.in-For.is ∙ for_as at_place c.in-For.first c.in-For.test c.in-For.step c.in-For.body c.in-For.place in
-    rw form (omega (
-      arith,
-      c.in_ok-walk_step-in-For.ensures.grown,
-      c.in_ok-walk_value-in-For.ensures.grown,
-      c.in_ok-walk_step-in-For-2.ensures.grown,
-      c.in_ok-walk_stmts-in-For.ensures.grown,
-    ))
+    let a = c.in_ok-walk_step-in-For.ensures in
+    let b = c.in_ok-walk_value-in-For.ensures in
+    let d = c.in_ok-walk_step-in-For-2.ensures in
+    rw form (on_ok c.walk_stmts-in-For.result (λ h. record {
+      grown = omega (arith, a.grown, b.grown, d.grown, h.grown);
+      parts = loop_parts (program_of no_place c.args.program.now) c.args.m (method_seen at_place c.args.method.now) (at_place c.in-For.place) false
+          (step_seen at_place c.in-For.first) (value_of at_place c.in-For.test) (step_seen at_place c.in-For.step) (stmts at_place c.in-For.body.items)
+          (parts_seen c.args.parts.now.items) _ _ _ _ (length c.args.parts.now.items) _ _ _
+          a.parts a.grown b.parts b.grown d.parts d.grown h.parts;
+    }) c.walk_stmts-in-For.ensures)
 
-pub walk_stmt-returns-in_ok-walk_stmts-in-For-clause-parts : goal.walk_stmt-returns-in_ok-walk_stmts-in-For-clause-parts
-walk_stmt-returns-in_ok-walk_stmts-in-For-clause-parts t c =
-    let form = ap (stmt_of at_place) c.in-For.is ∙ for_as at_place c.in-For.first c.in-For.test c.in-For.step c.in-For.body c.in-For.place in
-    rw form (loop_parts (program_of no_place c.args.program.now) c.args.m (method_seen at_place c.args.method.now) (at_place c.in-For.place) false
-    (step_seen at_place c.in-For.first) (value_of at_place c.in-For.test) (step_seen at_place c.in-For.step) (stmts at_place c.in-For.body.items)
-    (parts_seen c.args.parts.now.items) _ _ _ _ (length c.args.parts.now.items) _ _ _
-    c.in_ok-walk_step-in-For.ensures.parts c.in_ok-walk_step-in-For.ensures.grown c.in_ok-walk_value-in-For.ensures.parts
-    c.in_ok-walk_value-in-For.ensures.grown
-    c.in_ok-walk_step-in-For-2.ensures.parts c.in_ok-walk_step-in-For-2.ensures.grown c.in_ok-walk_stmts-in-For.ensures.parts)
-
-pub walk_stmt-returns-in_ok-walk_stmts-in-Some-clause-grown : goal.walk_stmt-returns-in_ok-walk_stmts-in-Some-clause-grown
-walk_stmt-returns-in_ok-walk_stmts-in-Some-clause-grown t c =
+pub walk_stmt-returns-in-Some : goal.walk_stmt-returns-in-Some
+walk_stmt-returns-in-Some t c =
+    let P = program_of no_place c.args.program.now in
+    let K = method_seen at_place c.args.method.now in
     let form = ap (stmt_of at_place) c.in-If.is ∙ if_as at_place c.in-If.arms c.in-If.other c.in-If.place in
     let same = ap (λ o. size_arms (else_seen at_place o)) c.in-Some.is in
-    rw form (omega (arith, same, c.in_ok-walk_arms-in-If.ensures.grown, c.in_ok-walk_stmts-in-Some.ensures.grown))
-
-pub walk_stmt-returns-in_ok-walk_stmts-in-Some-clause-parts : goal.walk_stmt-returns-in_ok-walk_stmts-in-Some-clause-parts
-walk_stmt-returns-in_ok-walk_stmts-in-Some-clause-parts t c =
-    let P = program_of no_place c.args.program.now in
-    let K = method_seen at_place c.args.method.now in
-    let form = ap (stmt_of at_place) c.in-If.is ∙ if_as at_place c.in-If.arms c.in-If.other c.in-If.place in
-    let all = c.in_ok-walk_stmts-in-Some.ensures.parts
-    ∙ ap (λ o. parts_seen c.walk_arms.new.parts.items ++ parts_arms P (object_type P K) c.args.m K (label_arms (length c.walk_arms.new.parts.items)
+    let all = ap (λ o. parts_seen c.walk_arms.new.parts.items ++ parts_arms P (object_type P K) c.args.m K (label_arms (length c.walk_arms.new.parts.items)
     (else_seen at_place o))) (sym c.in-Some.is)
     ∙ c.in_ok-walk_arms-in-If.ensures.parts in
-    rw form all
+    rw form (on_ok c.walk_stmts-in-Some.result (λ h. record {
+      grown = omega (arith, same, c.in_ok-walk_arms-in-If.ensures.grown, h.grown);
+      parts = h.parts ∙ all;
+    }) c.walk_stmts-in-Some.ensures)
 
-pub walk_stmt-returns-in-None-clause-grown : goal.walk_stmt-returns-in-None-clause-grown
-walk_stmt-returns-in-None-clause-grown t c =
-    let form = ap (stmt_of at_place) c.in-If.is ∙ if_as at_place c.in-If.arms c.in-If.other c.in-If.place in
-    let same = ap (λ o. size_arms (else_seen at_place o)) c.in-None.is in
-    rw form (omega (arith, same, c.in_ok-walk_arms-in-If.ensures.grown))
-
-pub walk_stmt-returns-in-None-clause-parts : goal.walk_stmt-returns-in-None-clause-parts
-walk_stmt-returns-in-None-clause-parts t c =
+pub walk_stmt-returns-in-None : goal.walk_stmt-returns-in-None
+walk_stmt-returns-in-None t c =
     let P = program_of no_place c.args.program.now in
     let K = method_seen at_place c.args.method.now in
     let form = ap (stmt_of at_place) c.in-If.is ∙ if_as at_place c.in-If.arms c.in-If.other c.in-If.place in
+    let same = ap (λ o. size_arms (else_seen at_place o)) c.in-None.is in
     let all = sym (append-nil (parts_seen c.walk_arms.new.parts.items))
     ∙ ap (λ o. parts_seen c.walk_arms.new.parts.items ++ parts_arms P (object_type P K) c.args.m K (label_arms (length c.walk_arms.new.parts.items)
     (else_seen at_place o))) (sym c.in-None.is)
     ∙ c.in_ok-walk_arms-in-If.ensures.parts in
-    rw form all
+    rw form (record { grown = omega (arith, same, c.in_ok-walk_arms-in-If.ensures.grown); parts = all })

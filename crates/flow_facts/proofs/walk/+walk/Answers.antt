@@ -1,5 +1,5 @@
 -- Each form by what stands in it.
-use Rattle.std.proofs.Common.{rules, arith, ◌≡◌, length, sym, ap, ◌∙◌, refl}
+use Rattle.std.proofs.Common.{rules, ◌≡◌, length, sym, ap, ◌∙◌, refl}
 use Rattle.std.specs.Prelude.{Some}
 use Rattle.java_core.specs.Trees.{at_place, no_place, call, field, index, create_array, cast, instance_of, unary, binary, expr_of, exprs}
 use Rattle.java_core.specs.Programs.{program_of, method_seen}
@@ -11,7 +11,7 @@ use Rattle.flow_rules.specs.Parts.{is_accessed}
 use Rattle.flow_rules.specs.Types.{field_object, element_object}
 use Rattle.flow_facts.specs.Views.{labelled_operand}
 use Rattle.flow_facts.proofs.Forms.{own_call, call_on, static_form, super_form, creation_form}
-use Rattle.flow_facts.proofs.Walks.{own_walked, field_walked, index_walked, this_walked, call_walked, static_walked, super_walked, creation_walked, array_walked, cast_walked, test_walked, unary_walked, binary_walked}
+use Rattle.flow_facts.proofs.Walks.{if_ok, own_walked, field_walked, index_walked, this_walked, call_walked, static_walked, super_walked, creation_walked, array_walked, cast_walked, test_walked, unary_walked, binary_walked}
 use Rattle.flow_facts.proofs.walk.+walk.Goals as goal
 
 pub walk-returns-in_ok-add-in-Own : goal.walk-returns-in_ok-add-in-Own
@@ -20,18 +20,17 @@ walk-returns-in_ok-add-in-Own t c =
     let f = c.in-Own.field.0 in
     let value : c.labelled-own.result ≡ labelled_operand c.args.m (length c.args.parts.now.items) (Some (row.Field f)) (field_object P f) = search rules in
     own_walked P c.args.m (method_seen at_place c.args.method.now) (ap (expr_of at_place) c.in-Own.is)
-    (record { grown = c.in_ok-add-in-Own.ensures.grown; parts = c.in_ok-add-in-Own.ensures.parts }) c.this_operand-this.ensures.value value
+    c.in_ok-add-in-Own.ensures c.this_operand-this.ensures.value value
 
-pub walk-returns-in_ok-own-in-Field : goal.walk-returns-in_ok-own-in-Field
-walk-returns-in_ok-own-in-Field t c =
+pub walk-returns-in_ok-base-in-Field : goal.walk-returns-in_ok-base-in-Field
+walk-returns-in_ok-base-in-Field t c =
     let form = ap (expr_of at_place) c.in-Field.is ∙ ap (λ y. field (at_place c.in-Field.place) (expr_of at_place y) c.in-Field.name)
     (sym c.deref-in-Field.ensures) in
     let n = length c.args.parts.now.items in
     let accessed = c.is_accessed-accessed.ensures.value n ∙ ap (λ y. is_accessed (label n (expr_of at_place y))) (c.deref.ensures
     ∙ sym c.deref-in-Field.ensures) in
-    let h = c.in_ok-own-in-Field.ensures in
-    field_walked (program_of no_place c.args.program.now) c.args.m (method_seen at_place c.args.method.now) form accessed
-    c.in_ok-base-in-Field.ensures (record { grown = h.grown; value = h.value; parts = h.parts })
+    if_ok c.add_load.result (λ o h. field_walked (program_of no_place c.args.program.now) c.args.m (method_seen at_place c.args.method.now) form accessed
+    c.in_ok-base-in-Field.ensures h) c.add_load.ensures
 
 pub walk-returns-in_ok-walk-in-Index : goal.walk-returns-in_ok-walk-in-Index
 walk-returns-in_ok-walk-in-Index t c =
@@ -43,35 +42,31 @@ walk-returns-in_ok-walk-in-Index t c =
     (element_object b.ty) = search rules in
     let h = c.in_ok-add-in-Index.ensures in
     index_walked (program_of no_place c.args.program.now) c.args.m (method_seen at_place c.args.method.now) form c.in_ok-base-in-Index.ensures
-    (record { grown = h.grown; parts = h.parts }) value c.in_ok-walk-in-Index.ensures
+    h value c.in_ok-walk-in-Index.ensures
 
-pub walk-returns-in_ok-own-in-None : goal.walk-returns-in_ok-own-in-None
-walk-returns-in_ok-own-in-None t c =
+pub walk-returns-in-None : goal.walk-returns-in-None
+walk-returns-in-None t c =
     let P = program_of no_place c.args.program.now in
     let K = method_seen at_place c.args.method.now in
-    let h = c.in_ok-own-in-None.ensures in
-    call_walked P c.args.m K (own_call _ _ _ _ _ c.in-Call.is c.in-None.is) (this_walked P c.args.m K refl c.this_operand-this-in-None.ensures.value)
-    (record { grown = omega (arith, h.grown); value = h.value; parts = h.parts })
+    if_ok c.add_call.result (λ o h. call_walked P c.args.m K (own_call _ _ _ _ _ c.in-Call.is c.in-None.is)
+    (this_walked P c.args.m K refl c.this_operand-this-in-None.ensures.value) h) c.add_call.ensures
 
-pub walk-returns-in_ok-own-in-Some : goal.walk-returns-in_ok-own-in-Some
-walk-returns-in_ok-own-in-Some t c =
+pub walk-returns-in_ok-base-in-Some : goal.walk-returns-in_ok-base-in-Some
+walk-returns-in_ok-base-in-Some t c =
     let form = call_on c.args.e.now c.in-Call.base c.in-Some.base c.in-Call.name c.in-Call.args c.in-Call.place c.in-Call.is c.in-Some.is
     ∙ ap (λ y. call (at_place c.in-Call.place) (expr_of at_place y) c.in-Call.name (exprs at_place c.in-Call.args.items)) (sym c.deref-in-Some.ensures) in
-    let h = c.in_ok-own-in-Some.ensures in
-    call_walked (program_of no_place c.args.program.now) c.args.m (method_seen at_place c.args.method.now) form c.in_ok-base-in-Some.ensures
-    (record { grown = omega (arith, h.grown); value = h.value; parts = h.parts })
+    if_ok c.add_call-in-Some.result (λ o h. call_walked (program_of no_place c.args.program.now) c.args.m (method_seen at_place c.args.method.now) form
+    c.in_ok-base-in-Some.ensures h) c.add_call-in-Some.ensures
 
-pub walk-returns-in_ok-own-in-StaticCall : goal.walk-returns-in_ok-own-in-StaticCall
-walk-returns-in_ok-own-in-StaticCall t c =
-    let h = c.in_ok-own-in-StaticCall.ensures in
-    static_walked (program_of no_place c.args.program.now) c.args.m (method_seen at_place c.args.method.now) (static_form _ _ _ _ c.in-StaticCall.is)
-    (record { grown = omega (arith, h.grown); value = h.value; parts = h.parts })
+pub walk-returns-in-StaticCall : goal.walk-returns-in-StaticCall
+walk-returns-in-StaticCall t c =
+    if_ok c.add_static_call.result (λ o h. static_walked (program_of no_place c.args.program.now) c.args.m (method_seen at_place c.args.method.now)
+    (static_form _ _ _ _ c.in-StaticCall.is) h) c.add_static_call.ensures
 
-pub walk-returns-in_ok-own-in-SuperCall : goal.walk-returns-in_ok-own-in-SuperCall
-walk-returns-in_ok-own-in-SuperCall t c =
-    let h = c.in_ok-own-in-SuperCall.ensures in
-    super_walked (program_of no_place c.args.program.now) c.args.m (method_seen at_place c.args.method.now) (super_form _ _ _ _ c.in-SuperCall.is)
-    (record { grown = omega (arith, h.grown); value = h.value; parts = h.parts })
+pub walk-returns-in-SuperCall : goal.walk-returns-in-SuperCall
+walk-returns-in-SuperCall t c =
+    if_ok c.add_super_call.result (λ o h. super_walked (program_of no_place c.args.program.now) c.args.m (method_seen at_place c.args.method.now)
+    (super_form _ _ _ _ c.in-SuperCall.is) h) c.add_super_call.ensures
 
 pub walk-returns-in_ok-_args-in-New : goal.walk-returns-in_ok-_args-in-New
 walk-returns-in_ok-_args-in-New t c =
@@ -85,7 +80,7 @@ walk-returns-in_ok-_args-in-New t c =
     let h = c.in_ok-add-in-New.ensures in
     let g = c.in_ok-_args-in-New.ensures in
     creation_walked (program_of no_place c.args.program.now) c.args.m (method_seen at_place c.args.method.now) (creation_form _ _ _ _ _ c.in-New.is)
-    (record { grown = h.grown; parts = h.parts }) value (record { grown = g.grown; value = g.value; parts = g.parts })
+    h value g
 
 pub walk-returns-in_ok-walk-in-NewArray : goal.walk-returns-in_ok-walk-in-NewArray
 walk-returns-in_ok-walk-in-NewArray t c =
@@ -100,7 +95,7 @@ walk-returns-in_ok-walk-in-NewArray t c =
     } = search rules in
     let h = c.in_ok-add-in-NewArray.ensures in
     array_walked (program_of no_place c.args.program.now) c.args.m (method_seen at_place c.args.method.now) form
-    (record { grown = h.grown; parts = h.parts }) value c.in_ok-walk-in-NewArray.ensures
+    h value c.in_ok-walk-in-NewArray.ensures
 
 pub walk-returns-in_ok-value-in-Cast : goal.walk-returns-in_ok-value-in-Cast
 walk-returns-in_ok-value-in-Cast t c =
@@ -111,7 +106,7 @@ walk-returns-in_ok-value-in-Cast t c =
     let at : c.len-at.result ≡ n = search rules in
     let h = c.in_ok-add-in-Cast.ensures in
     cast_walked (program_of no_place c.args.program.now) c.args.m (method_seen at_place c.args.method.now) form
-    (record { grown = h.grown; parts = h.parts }) c.in_ok-value-in-Cast.ensures value c.fill.ensures.grown
+    h c.in_ok-value-in-Cast.ensures value c.fill.ensures.grown
     (λ xs ys q e. c.fill.ensures.parts xs ys q (e ∙ sym at))
 
 pub walk-returns-in_ok-add-in-InstanceOf : goal.walk-returns-in_ok-add-in-InstanceOf
@@ -123,7 +118,7 @@ walk-returns-in_ok-add-in-InstanceOf t c =
     (Some (row.Test c.in-InstanceOf.number)) (class_object c.in-InstanceOf.class.0) = search rules in
     let h = c.in_ok-add-in-InstanceOf.ensures in
     test_walked (program_of no_place c.args.program.now) c.args.m (method_seen at_place c.args.method.now) form c.in_ok-value-in-InstanceOf.ensures
-    (record { grown = h.grown; parts = h.parts }) value refl
+    h value refl
 
 pub walk-returns-in_ok-walk-in-Unary : goal.walk-returns-in_ok-walk-in-Unary
 walk-returns-in_ok-walk-in-Unary t c =
@@ -140,4 +135,4 @@ walk-returns-in_ok-add-in-Binary t c =
     (sym c.deref-in-Binary-2.ensures) in
     let h = c.in_ok-add-in-Binary.ensures in
     binary_walked (program_of no_place c.args.program.now) c.args.m (method_seen at_place c.args.method.now) form c.in_ok-left-in-Binary.ensures
-    c.in_ok-right-in-Binary.ensures (record { grown = h.grown; parts = h.parts }) refl
+    c.in_ok-right-in-Binary.ensures h refl
