@@ -13,3 +13,4 @@ pub mod Ranged
 pub mod Gathers
 pub mod Walks
 pub mod Passed
+pub mod Found

@@ -1,0 +1,24 @@
+-- One more field.
+use Rattle.std.proofs.Common.{◌∙◌}
+use Rattle.java_core.specs.Trees.{at_place}
+use Rattle.java_core.specs.Programs.{field_seen}
+use Rattle.flow_rules.specs.Numbered.{field_rows, field_columns, static_points}
+use Rattle.flow_facts.proofs.Steps.{each_step}
+use Rattle.flow_facts.proofs.survey.survey_fields.Goals as goal
+
+pub loop-f-preserved : goal.loop-f-preserved
+loop-f-preserved c =
+    let all = c.args.program.now.fields.items in
+    let x = c.field-item.result in
+    let s = c.deref-field-items.ensures.value in
+    let h = c.loop-f-test.true in
+    let at = c.field-item.is in
+    let before = c.loop-f.invariant in
+    let now = c.in_ok-survey_field.ensures in
+    record {
+      rows = each_step (field_seen at_place) field_rows all _ _ x _ _ _ s h at before.rows now.rows;
+      columns = each_step (field_seen at_place) field_columns all _ _ x _ _ _ s h at before.columns now.columns;
+      statics = each_step (field_seen at_place) static_points all _ _ x _ _ _ s h at before.statics now.statics;
+      outlines = now.outlines ∙ before.outlines;
+      bodies = now.bodies ∙ before.bodies;
+    }
