@@ -36,6 +36,7 @@ mod lists;
 mod names;
 mod numbering;
 mod ordered;
+mod points;
 mod survey;
 mod ties;
 mod top;

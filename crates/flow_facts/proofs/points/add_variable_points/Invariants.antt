@@ -3,7 +3,7 @@ use Rattle.java_core.specs.Trees.{at_place}
 use Rattle.java_core.specs.Programs.{method_seen, local_seen}
 use Rattle.flow_rules.specs.Ordered.{each}
 use Rattle.flow_rules.specs.Numbered.{variable_points}
-use Rattle.flow_facts.proofs.survey.add_variable_points.Given as goal
+use Rattle.flow_facts.proofs.points.add_variable_points.Given as goal
 
 abbrev pub invariant-loop-local : goal.invariant-loop-local
 invariant-loop-local l =
