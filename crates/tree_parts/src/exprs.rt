@@ -13,6 +13,7 @@ use hier_model::Hier;
 use java_core::{Method, Program, RExpr, static_of};
 use java_tree::{Expr, build};
 use std::alloc::{AllocError, Global};
+use std::mem::drop;
 use tree_forms::{
     Numbering, forms, infix_mark, nowhere, prefix_mark, static_call, static_field, variable_name,
 };
@@ -70,7 +71,7 @@ pub fn expr(
         }
         RExpr::Index { base, at, .. } => {
             let base = expr(alloc, program, numbering, hier, m, method, scope, base)?;
-            let at = expr(alloc, program, numbering, hier, m, method, scope, at)?;
+            let at = made!(expr(alloc, program, numbering, hier, m, method, scope, at); base);
             build::index(alloc, base, at, nowhere())
         }
         RExpr::Call {
@@ -86,7 +87,7 @@ pub fn expr(
             Some(base) => {
                 let found = static_of(program, method, base);
                 let on = expr(alloc, program, numbering, hier, m, method, scope, base)?;
-                let args = all(alloc, program, numbering, hier, m, method, scope, args)?;
+                let args = made!(all(alloc, program, numbering, hier, m, method, scope, args); on);
                 forms::call(alloc, program, numbering, hier, found, name, on, args)
             }
         },
@@ -149,7 +150,10 @@ pub fn expr(
             ..
         } => {
             let left = expr(alloc, program, numbering, hier, m, method, scope, left)?;
-            let right = expr(alloc, program, numbering, hier, m, method, scope, right)?;
+            let right = made!(
+                expr(alloc, program, numbering, hier, m, method, scope, right);
+                left
+            );
             build::binary(alloc, infix_mark(*op), left, right, nowhere())
         }
     }
@@ -174,7 +178,8 @@ fn all(
 {
     let mut done = Vec::new(alloc);
     for one in list {
-        done.push(expr(alloc, program, numbering, hier, m, method, scope, one)?)?;
+        let written = made!(expr(alloc, program, numbering, hier, m, method, scope, one); done);
+        made!(done.push(written) => AllocError; done);
     }
     Ok(done)
 }

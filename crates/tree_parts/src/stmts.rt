@@ -16,6 +16,7 @@ use hier_model::Hier;
 use java_core::{Method, Program, RArm, RExpr, RStmt};
 use java_tree::{Arm, Expr, Stmt, build};
 use std::alloc::{AllocError, Global};
+use std::mem::drop;
 use tree_forms::{Numbering, node_of, nowhere, variable, variable_row, written_type};
 
 /// The locals in scope once more.
@@ -95,14 +96,16 @@ fn declaration(
         (value_of value)) }
 {
     let Some(variable) = variable(method, local) else {
+        drop(value);
         return Ok(build::block(Vec::new(alloc), nowhere()));
     };
     let node = node_of(numbering, hier, variable_row(m, method, local as u64));
-    let ty = written_type(alloc, program, hier, node, variable.ty)?;
+    let ty = made!(written_type(alloc, program, hier, node, variable.ty); value);
+    let name = made!(variable.name.copy(alloc); value, ty);
     Ok(Stmt::Local {
         is_final: false,
         ty,
-        name: variable.name.copy(alloc)?,
+        name,
         value,
         place: nowhere(),
     })
@@ -145,11 +148,19 @@ fn stmt(
             target: to,
             value: given,
             ..
-        } => Ok(Stmt::Assign {
-            target: target(alloc, program, numbering, hier, m, method, scope, to)?,
-            value: expr(alloc, program, numbering, hier, m, method, scope, given)?,
-            place: nowhere(),
-        }),
+        } => {
+            let target = target(alloc, program, numbering, hier, m, method, scope, to)?;
+            let value = made!(
+                expr(alloc, program, numbering, hier, m, method, scope, given);
+                target
+            );
+            let place = nowhere();
+            Ok(Stmt::Assign {
+                target,
+                value,
+                place,
+            })
+        }
         RStmt::Do { call, .. } => Ok(Stmt::Do {
             call: expr(alloc, program, numbering, hier, m, method, scope, call)?,
             place: nowhere(),
@@ -165,7 +176,10 @@ fn stmt(
         }),
         RStmt::If { arms, other, .. } => {
             let arms = all_arms(alloc, program, numbering, hier, m, method, scope, arms)?;
-            let other = otherwise(alloc, program, numbering, hier, m, method, scope, other)?;
+            let other = made!(
+                otherwise(alloc, program, numbering, hier, m, method, scope, other);
+                arms
+            );
             Ok(build::choice(arms, other, nowhere()))
         }
         RStmt::While {
@@ -174,7 +188,7 @@ fn stmt(
             ..
         } => {
             let test = expr(alloc, program, numbering, hier, m, method, scope, test)?;
-            let run = body(alloc, program, numbering, hier, m, method, scope, run)?;
+            let run = made!(body(alloc, program, numbering, hier, m, method, scope, run); test);
             Ok(build::while_loop(test, run, nowhere()))
         }
         RStmt::For {
@@ -185,12 +199,22 @@ fn stmt(
             ..
         } => {
             let mut inner = copy_scope(alloc, scope)?;
-            let first = part(
-                alloc, program, numbering, hier, m, method, &mut inner, first,
-            )?;
-            let test = value(alloc, program, numbering, hier, m, method, &inner, test)?;
-            let step = last(alloc, program, numbering, hier, m, method, &inner, step)?;
-            let run = body(alloc, program, numbering, hier, m, method, &inner, run)?;
+            let first = made!(
+                part(alloc, program, numbering, hier, m, method, &mut inner, first);
+                inner
+            );
+            let test = made!(
+                value(alloc, program, numbering, hier, m, method, &inner, test);
+                inner, first
+            );
+            let step = made!(
+                last(alloc, program, numbering, hier, m, method, &inner, step);
+                inner, first, test
+            );
+            let run = made!(
+                body(alloc, program, numbering, hier, m, method, &inner, run);
+                inner, first, test, step
+            );
             build::for_loop(alloc, first, test, step, run, nowhere())
         }
         RStmt::Return { value: given, .. } => Ok(Stmt::Return {
@@ -300,9 +324,15 @@ fn all_arms(
 {
     let mut done = Vec::new(alloc);
     for one in list {
-        let test = expr(alloc, program, numbering, hier, m, method, scope, &one.test)?;
-        let run = body(alloc, program, numbering, hier, m, method, scope, &one.body)?;
-        done.push(Arm { test, body: run })?;
+        let test = made!(
+            expr(alloc, program, numbering, hier, m, method, scope, &one.test);
+            done
+        );
+        let run = made!(
+            body(alloc, program, numbering, hier, m, method, scope, &one.body);
+            done, test
+        );
+        made!(done.push(Arm { test, body: run }) => AllocError; done);
     }
     Ok(done)
 }
@@ -330,7 +360,11 @@ pub fn body(
     let mut inner = copy_scope(alloc, scope)?;
     let mut done = Vec::new(alloc);
     for one in list {
-        done.push(stmt(alloc, program, numbering, hier, m, method, &mut inner, one)?)?;
+        let written = made!(
+            stmt(alloc, program, numbering, hier, m, method, &mut inner, one);
+            inner, done
+        );
+        made!(done.push(written) => AllocError; inner, done);
     }
     Ok(done)
 }

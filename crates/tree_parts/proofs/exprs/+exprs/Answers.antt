@@ -18,9 +18,9 @@ pub all-loop-one-preserved : goal.all-loop-one-preserved
 all-loop-one-preserved t c =
     all_next (program_of no_place c.args.program.now) (renamed c.args.numbering.now c.args.hier.now) c.args.hier.now c.args.m
     (method_seen no_place c.args.method.now) c.args.scope.now.items
-    c.loop-one.done.items c.push.new.self.items c.deref-one-items.result.now c.loop-one.one-index c.one-item.result c.in_ok-expr.field-0
+    c.loop-one.done.items c.push.new.self.items c.deref-one-items.result.now c.loop-one.one-index c.one-item.result c.in-Ok.made
     c.loop-one-test.true c.one-item.is
-    c.in_ok-expr.ensures.value c.in_ok-push.ensures.items c.loop-one.invariant
+    c.in-Ok.ensures.value c.in-Ok-push.ensures.items c.loop-one.invariant
 
 pub all-returns : goal.all-returns
 all-returns t c =
@@ -34,8 +34,8 @@ all-returns t c =
 pub expr-returns-in_ok-args-in-None : goal.expr-returns-in_ok-args-in-None
 expr-returns-in_ok-args-in-None t c = record { value = let form = own_call c.in-Call.args c.in-Call.is c.in-None.is in rw form (search rules) }
 
-pub expr-returns-in_ok-args-in-Some : goal.expr-returns-in_ok-args-in-Some
-expr-returns-in_ok-args-in-Some t c =
+pub expr-returns-in-Ok-all : goal.expr-returns-in-Ok-all
+expr-returns-in-Ok-all t c =
     let P = program_of no_place c.args.program.now in
     let R = renamed c.args.numbering.now c.args.hier.now in
     let H = c.args.hier.now in
@@ -46,7 +46,7 @@ expr-returns-in_ok-args-in-Some t c =
     ∙ ap (λ y. static P (env_of c.args.m k) (expr_of no_place y)) c.deref-in-Some.ensures) in
     let on = c.in_ok-on-in-Some.ensures.value ∙ ap (λ y. written P R H c.args.m k scope (expr_of no_place y)) c.deref-in-Some-2.ensures in
     let is = call_is P R H c.args.m k scope (no_place c.in-Call.place) (expr_of no_place b) c.in-Call.name (exprs no_place c.in-Call.args.items)
-    on class c.in_ok-args-in-Some.ensures.value in
+    on class c.in-Ok-all.ensures.value in
     let form = call_on c.in-Call.args c.in-Call.is c.in-Some.is in
     record {
       value = IfOk-weaker c.call.result _ _ (λ e h. h ∙ is ∙ sym (ap (written P R H c.args.m k scope) form)) c.call.ensures;

@@ -22,8 +22,8 @@ body-loop-one-preserved t c =
     sts_next (program_of no_place c.args.program.now) (renamed c.args.numbering.now c.args.hier.now) c.args.hier.now c.args.m
     (method_seen no_place c.args.method.now) c.loop-one.inner.items
     c.stmt.new.scope.items c.loop-one.done.items c.push.new.self.items c.deref-one-items.result.now c.loop-one.one-index c.one-item.result
-    c.in_ok-stmt.field-0 c.loop-one-test.true c.one-item.is
-    c.in_ok-stmt.ensures.value c.in_ok-stmt.ensures.scope c.in_ok-push.ensures.items c.loop-one.invariant
+    c.in-Ok.made c.loop-one-test.true c.one-item.is
+    c.in-Ok.ensures.value c.in-Ok.ensures.scope c.in-Ok-push.ensures.items c.loop-one.invariant
 
 pub body-returns : goal.body-returns
 body-returns t c =
@@ -101,8 +101,8 @@ all_arms-loop-one-preserved t c =
     arms_next (program_of no_place c.args.program.now) (renamed c.args.numbering.now c.args.hier.now) c.args.hier.now c.args.m
     (method_seen no_place c.args.method.now) c.args.scope.now.items no_other
     c.loop-one.done.items c.push.new.self.items c.deref-one-items.result.now c.loop-one.one-index c.one-item.result
-    (record { test = c.in_ok-test.test; body = c.in_ok-run.run' }) c.loop-one-test.true
-    c.one-item.is c.in_ok-test.ensures.value c.in_ok-run.ensures.value c.in_ok-push.ensures.items c.loop-one.invariant
+    (record { test = c.in-Ok.made; body = c.in-Ok-body.made }) c.loop-one-test.true
+    c.one-item.is c.in-Ok.ensures.value c.in-Ok-body.ensures.value c.in-Ok-push.ensures.items c.loop-one.invariant
 
 pub all_arms-returns : goal.all_arms-returns
 all_arms-returns t c =
@@ -116,11 +116,11 @@ all_arms-returns t c =
 pub stmt-returns-in_ok-items-in-Block-clause-value : goal.stmt-returns-in_ok-items-in-Block-clause-value
 stmt-returns-in_ok-items-in-Block-clause-value t c = let form = block_form c.in-Block.items c.in-Block.is in rw form (search rules)
 
-pub stmt-returns-in_ok-run-in-While-clause-value : goal.stmt-returns-in_ok-run-in-While-clause-value
-stmt-returns-in_ok-run-in-While-clause-value t c = let form = while_form c.in-While.run' c.in-While.is in rw form (search rules)
+pub stmt-returns-in-Ok-body-clause-value : goal.stmt-returns-in-Ok-body-clause-value
+stmt-returns-in-Ok-body-clause-value t c = let form = while_form c.in-While.run' c.in-While.is in rw form (search rules)
 
-pub stmt-returns-in_ok-other-in-If-clause-value : goal.stmt-returns-in_ok-other-in-If-clause-value
-stmt-returns-in_ok-other-in-If-clause-value t c =
+pub stmt-returns-in-Ok-otherwise-clause-value : goal.stmt-returns-in-Ok-otherwise-clause-value
+stmt-returns-in-Ok-otherwise-clause-value t c =
     let P = program_of no_place c.args.program.now in
     let R = renamed c.args.numbering.now c.args.hier.now in
     let k = method_seen no_place c.args.method.now in
@@ -129,8 +129,8 @@ stmt-returns-in_ok-other-in-If-clause-value t c =
     let last = else_alike P R c.args.hier.now c.args.m k c.args.scope.now.items c.in-If.arms.items (else_seen no_place c.in-If.other) in
     rw (form, arms, last) (search rules)
 
-pub stmt-returns-in_ok-run-in-For-clause-value : goal.stmt-returns-in_ok-run-in-For-clause-value
-stmt-returns-in_ok-run-in-For-clause-value t c =
+pub stmt-returns-in-Ok-body-2-clause-value : goal.stmt-returns-in-Ok-body-2-clause-value
+stmt-returns-in-Ok-body-2-clause-value t c =
     let P = program_of no_place c.args.program.now in
     let R = renamed c.args.numbering.now c.args.hier.now in
     let k = method_seen no_place c.args.method.now in
@@ -138,8 +138,8 @@ stmt-returns-in_ok-run-in-For-clause-value t c =
     let a = c.in-For in
     let is = for_is P R c.args.hier.now c.args.m k scope c.in_ok-inner-in-For.inner.items c.part.new.scope.items (no_place a.place)
     (step_seen no_place a.first) (value_of no_place a.test)
-    (step_seen no_place a.step) (stmts no_place a.run'.items) c.in_ok-inner-in-For.ensures c.in_ok-first-in-For.ensures.scope c.in_ok-first-in-For.ensures.value
-    c.in_ok-test-in-For.ensures.value c.in_ok-step-in-For.ensures.value c.in_ok-run-in-For.ensures.value c.nowhere-in-For.ensures in
+    (step_seen no_place a.step) (stmts no_place a.run'.items) c.in_ok-inner-in-For.ensures c.in-Ok-part.ensures.scope c.in-Ok-part.ensures.value
+    c.in-Ok-value.ensures.value c.in-Ok-last.ensures.value c.in-Ok-body-2.ensures.value c.nowhere-in-For.ensures in
     let form = for_form a.first a.test a.step a.run' a.is in
     IfOk-weaker c.for_loop.result _ _ (λ s h. h ∙ is ∙ sym (ap (written_st P R c.args.hier.now c.args.m k scope) form)) c.for_loop.ensures.value
 

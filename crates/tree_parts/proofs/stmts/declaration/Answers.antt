@@ -11,6 +11,6 @@ returns c =
       value = declared_is (program_of no_place c.args.program.now) (renamed c.args.numbering.now c.args.hier.now) c.args.hier.now c.args.m
           (method_seen no_place c.args.method.now) c.args.local
           (local_seen no_place c.in-Some.variable.now) (option_map (λ d. d.0) c.node_of-node.result) c.variable_row.result c.in-Some.ensures
-          c.nowhere-2.ensures c.in_ok-ty.ensures
-          c.node_of-node.ensures.node c.variable_row.ensures.value c.in_ok-copy.ensures.value;
+          c.nowhere-2.ensures c.in-Ok.ensures
+          c.node_of-node.ensures.node c.variable_row.ensures.value c.in-Ok-copy.ensures.value;
     }
