@@ -6,7 +6,6 @@ use Rattle.std.specs.declared.vec.Vec.{Vec}
 use Rattle.std.specs.declared.alloc.Global.{Global}
 use Rattle.kaba_base.specs.declared.Place.{Place}
 use Rattle.java_tree.specs.declared.TypeName.{TypeName}
-use Rattle.java_tree.specs.Syntax as tree
 use Rattle.java_tree.specs.Syntax.{Expression, Statements, OptionalStatement, LocalOf, BlockOf, ForOf, no_statements, and_arm}
 use Rattle.java_core.specs.declared.RStmt.{RStmt}
 use Rattle.java_core.specs.declared.RArm.{RArm}

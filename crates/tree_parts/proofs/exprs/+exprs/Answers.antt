@@ -1,5 +1,5 @@
 -- A form that holds a list is the tree over the items of the list.
-use Rattle.std.proofs.Common.{rules, arith, ◌≡◌, ◌≤◌, length, sym, ap, ◌∙◌}
+use Rattle.std.proofs.Common.{rules, arith, ◌≤◌, length, sym, ap, ◌∙◌}
 use Rattle.std.proofs.lemmas.Result.{IfOk-weaker}
 use Rattle.java_core.specs.Trees.{no_place, expr_of, exprs}
 use Rattle.java_core.specs.Types.{class_of, static, env_of}
@@ -9,6 +9,7 @@ use Rattle.java_tree.specs.Syntax.{NewArrayOf, CastOf}
 use Rattle.flow_rules.specs.declared.items.RowItem.TheVariants as row
 use Rattle.written_tree.specs.Names.{nowhere}
 use Rattle.tree_forms.specs.Renamed.{renamed, row_typed}
+use Rattle.tree_parts.specs.Written.{expressions}
 use Rattle.tree_parts.proofs.Forms.{own_call, call_on, static_form, super_form, creation_form}
 use Rattle.tree_parts.proofs.Steps.{all_next, all_end}
 use Rattle.tree_parts.proofs.Parts.{call_is}
@@ -28,6 +29,8 @@ all-returns t c =
     record {
       value = all_end (program_of no_place c.args.program.now) (renamed c.args.numbering.now c.args.hier.now) c.args.hier.now c.args.m
           (method_seen no_place c.args.method.now)
+          {o = expressions c.args.program.now c.args.numbering.now c.args.hier.now c.args.m c.args.method.now c.args.scope.now.items
+          (exprs no_place c.args.list.now.items)}
           c.args.scope.now.items c.loop-one.done.items c.deref-one-items.result.now c.loop-one.one-index h c.loop-one.invariant;
     }
 

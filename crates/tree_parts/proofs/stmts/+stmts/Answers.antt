@@ -8,8 +8,9 @@ use Rattle.std.specs.declared.vec.Vec.{Vec}
 use Rattle.std.specs.declared.alloc.Global.{Global}
 use Rattle.java_core.specs.declared.RStmt.{RStmt}
 use Rattle.java_tree.specs.Syntax as tree
-use Rattle.written_tree.specs.Bodies.{written_else, written_st}
+use Rattle.written_tree.specs.Bodies.{written_arms, written_else, written_st}
 use Rattle.tree_forms.specs.Renamed.{renamed}
+use Rattle.tree_parts.specs.Written.{statements}
 use Rattle.tree_parts.proofs.Size.{st_size, sts_size, arms_size}
 use Rattle.tree_parts.proofs.Smaller.{stmt_smaller, arm_smaller, else_smaller, arms_within}
 use Rattle.tree_parts.proofs.Forms.{block_form, if_form, while_form, for_form}
@@ -31,6 +32,8 @@ body-returns t c =
     record {
       value = sts_end (program_of no_place c.args.program.now) (renamed c.args.numbering.now c.args.hier.now) c.args.hier.now c.args.m
           (method_seen no_place c.args.method.now)
+          {o = statements c.args.program.now c.args.numbering.now c.args.hier.now c.args.m c.args.method.now c.args.scope.now.items
+          (stmts no_place c.args.list.now.items)}
           c.loop-one.inner.items c.loop-one.done.items c.deref-one-items.result.now c.loop-one.one-index h c.loop-one.invariant;
     }
 
@@ -110,6 +113,8 @@ all_arms-returns t c =
     record {
       value = arms_end_at (program_of no_place c.args.program.now) (renamed c.args.numbering.now c.args.hier.now) c.args.hier.now c.args.m
           (method_seen no_place c.args.method.now)
+          {o = written_arms (program_of no_place c.args.program.now) (renamed c.args.numbering.now c.args.hier.now) c.args.hier.now c.args.m
+          (method_seen no_place c.args.method.now) c.args.scope.now.items (arms_seen no_place c.args.list.now.items no_other)}
           c.args.scope.now.items c.loop-one.done.items c.deref-one-items.result.now c.loop-one.one-index h c.loop-one.invariant;
     }
 
