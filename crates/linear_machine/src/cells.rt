@@ -35,21 +35,16 @@ pub fn length_of(heap: &Heap, array: Value) -> Found
     ensures { Finds heap.now result (λ s k. with_cell (value_of array) s (λ a d. k (Number (int_of (length d.values))) s)) }
 {
     match array {
-        Value::Ref(at) => length_at(heap, at),
+        Value::Ref(at) => {
+            if heap.cells() <= at as usize {
+                Found::Stuck
+            } else {
+                Found::Value(Value::Int(int_of(heap.len(at))))
+            }
+        }
         Value::Null => Found::Fault(Fault::Null),
         _ => Found::Stuck,
     }
-}
-
-/// How many values a cell has.
-#[inline(always)]
-fn length_at(heap: &Heap, at: u32) -> Found
-    ensures { Finds heap.now result (λ s k. with_some (slice_get s.cells at) s (λ d. k (Number (int_of (length d.values))) s)) }
-{
-    if heap.cells() <= at as usize {
-        return Found::Stuck;
-    }
-    Found::Value(Value::Int(int_of(heap.len(at))))
 }
 
 /// The element of an array at an index.

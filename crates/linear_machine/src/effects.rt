@@ -5,7 +5,7 @@ ghost use Rattle.java_heap.specs.Seen.{value_of};
 ghost use Rattle.java_meaning.specs.Moment.{State, Outcome};
 ghost use Rattle.java_meaning.specs.Meaning.{print_units, write_static};
 ghost use Rattle.java_meaning.specs.Languages.{language_of};
-ghost use Rattle.linear_code.specs.Ops.{act, save, keep_static, keep_element, show, show_end, lacks};
+ghost use Rattle.linear_code.specs.Ops.{act, save, keep_static, keep_element, show, lacks};
 ghost use Rattle.linear_code.specs.Machine.{goes};
 ghost use Rattle.linear_code.specs.Seen.{operand_of, effect_of};
 ghost use Rattle.linear_machine.specs.Run.{plain_of, state_of, config_of};
@@ -28,7 +28,7 @@ pub fn act<'a>(m: &mut Machine<'a>, effect: &Effect) -> Result<Turn, AllocError>
     match effect {
         Effect::KeepStatic(field, value) => keep_static(m, *field, *value),
         Effect::Show(newline, value) => show(m, *newline, *value),
-        Effect::ShowEnd(newline) => show_end(m, *newline),
+        Effect::ShowEnd(newline) => print_all(m, &[], *newline),
         Effect::Lacks(o) => lacks(m, *o),
     }
 }
@@ -164,14 +164,6 @@ fn show<'a>(m: &mut Machine<'a>, newline: bool, value: Operand) -> Result<Turn, 
             }
         }
     }
-}
-
-/// No value is printed.
-fn show_end<'a>(m: &mut Machine<'a>, newline: bool) -> Result<Turn, AllocError>
-    requires { m.old.pc < 2 ^ 63 }
-    ensures { Does (act (show_end newline)) m.old result m.new }
-{
-    print_all(m, &[], newline)
 }
 
 /// A text is printed.
