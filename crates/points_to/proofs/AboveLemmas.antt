@@ -1,17 +1,18 @@
 -- A walk upwards finds the classes at or above one.
 use Rattle.std.proofs.Common.{◌≡◌, ℕ, ◌+◌, ◌<◌, ◌⊎◌, inl, inr, ⊎_elim, Bool, true, false, List, [], ◌∷◌, ◌++◌, length, take, get_or, set, Contains, refl, sym, ap, ◌∙◌, subst, arith}
-use Rattle.std.proofs.lemmas.Bool.{cases_eq}
+use Rattle.std.proofs.lemmas.Bool.{cases_eq, cases_lt, false≢true}
 use Rattle.std.proofs.lemmas.List.{get_or-set_same, get_or-set_other, length-append, length-set}
 use Rattle.std.proofs.lemmas.List.Elements.{Contains-append_left, Contains-append_right, Contains-push, Contains-push_cases, Contains-append_cases}
 use Rattle.std.proofs.Math.Seq.{take-suc}
 use Rattle.std.proofs.Math.Numerals.{add-one}
 use Rattle.kaba_base.specs.declared.ClassId.{ClassId}
-use Rattle.kaba_bits.specs.Sets.{bit, size}
+use Rattle.kaba_bits.specs.Sets.{bit, row, size, IsNoneFrom, GainsBit}
 use Rattle.kaba_bits.proofs.SetLemmas.{bit-below}
 use Rattle.fact_model.specs.declared.facts.Facts.{Facts}
 use Rattle.fact_model.specs.Classes.{supers_of, IsBelow, same, through}
 use Rattle.fact_model.specs.InRange.{IsClass}
-use Rattle.points_to.specs.Above.{class_id, IsAboveRow, Gained, Walked}
+use Rattle.fact_model.specs.Items.{site_class}
+use Rattle.points_to.specs.Above.{class_id, IsAboveRow, AreSitesBelow, HasSite, Gained, Walked}
 
 pub no-member : {X : Type 0} {P : Type 0} (x : X) → Contains ([]) x → P
 no-member x c = let lt = c.1 in absurd (omega (arith, lt))
@@ -50,10 +51,10 @@ gained-had x r w had = record {
   work = omega arith;
 }
 
-set-bits : (r : List Bool) (x y : ℕ) → bit (set r x true) y ≡ true → (bit r y ≡ true) ⊎ (y ≡ x)
+pub set-bits : (r : List Bool) (x y : ℕ) → bit (set r x true) y ≡ true → (bit r y ≡ true) ⊎ (y ≡ x)
 set-bits r x y h = ⊎_elim (λ e. inr e) (λ ne. inl (sym (get_or-set_other r x y true false ne) ∙ h)) (cases_eq y x)
 
-set-kept : (r : List Bool) (x y : ℕ) → x < length r → bit r y ≡ true → bit (set r x true) y ≡ true
+pub set-kept : (r : List Bool) (x y : ℕ) → x < length r → bit r y ≡ true → bit (set r x true) y ≡ true
 set-kept r x y lt h = ⊎_elim (λ e. subst (λ z. bit (set r x true) z ≡ true) (sym e) (get_or-set_same r x true false lt))
     (λ ne. get_or-set_other r x y true false ne ∙ h) (cases_eq y x)
 
@@ -148,3 +149,56 @@ module _ (F : Facts) where
       reached e same = e
       reached e (through {a = x} {c = c} direct rest) =
           reached (⊎_elim (λ k. no-member (class_id x) k) (λ closed. closed c direct) (w.settled x e)) rest
+
+-- ---- the sites at or below a class
+
+-- one class more
+pub site_more : (old mid new : List (List Bool)) (classes : List Bool) (s at k : ℕ) → HasSite old mid classes s at → IsNoneFrom (bit classes) at k
+    → bit classes k ≡ true → length new ≡ length mid → ((j : ℕ) → length (row new j) ≡ length (row mid j)) → GainsBit mid new k s → HasSite old new classes s (k + 1)
+site_more old mid new classes s at k h none here len widths gains = record {
+  len = len ∙ h.len;
+  widths = λ j. widths j ∙ h.widths j;
+  kept = λ j x b. keeps j x (h.kept j x b);
+  gained = λ j x b. ⊎_elim
+      (λ e. ⊎_elim (λ d. inr (d, subst (λ i. bit classes i ≡ true) (sym e) here))
+      (λ ne. h.gained j x (subst (λ i. bit (row mid i) x ≡ true) (sym e) (sym (gains.rest x ne) ∙ subst (λ i. bit (row new i) x ≡ true) e b)))
+      (cases_eq x s))
+      (λ ne. h.gained j x (sym (ap (λ r. bit r x) (gains.others j ne)) ∙ b))
+      (cases_eq j k);
+  all = λ j lt b. ⊎_elim (λ e. subst (λ i. bit (row new i) s ≡ true) (sym e) gains.added)
+      (λ ne. keeps j s (⊎_elim (λ low. h.all j low b) (λ high. absurd (false≢true (sym (none j high (omega (arith, lt, ne))) ∙ b))) (cases_lt j at)))
+      (cases_eq j k);
+}
+  where
+    keeps : (j x : ℕ) → bit (row mid j) x ≡ true → bit (row new j) x ≡ true
+    keeps j x b = ⊎_elim
+        (λ e. ⊎_elim (λ d. subst (λ i. bit (row new i) x ≡ true) (sym e) (subst (λ y. bit (row new k) y ≡ true) (sym d) gains.added))
+        (λ ne. subst (λ i. bit (row new i) x ≡ true) (sym e) (gains.rest x ne ∙ subst (λ i. bit (row mid i) x ≡ true) e b))
+        (cases_eq x s))
+        (λ ne. ap (λ r. bit r x) (gains.others j ne) ∙ b)
+        (cases_eq j k)
+
+-- no class more
+pub site_rest : (old new : List (List Bool)) (classes : List Bool) (s at : ℕ) → HasSite old new classes s at → IsNoneFrom (bit classes) at (length classes)
+    → HasSite old new classes s (length classes)
+site_rest old new classes s at h none = record {
+  len = h.len;
+  widths = h.widths;
+  kept = h.kept;
+  gained = h.gained;
+  all = λ j lt b. ⊎_elim (λ low. h.all j low b) (λ high. absurd (false≢true (sym (none j high lt) ∙ b))) (cases_lt j at);
+}
+
+-- one site more in each row
+pub sites_more : (F : Facts) (old new : List (List Bool)) (classes : List Bool) (s : ℕ) → AreSitesBelow F s old → IsAboveRow F (site_class F s) classes
+    → HasSite old new classes s (length classes) → AreSitesBelow F (s + 1) new
+sites_more F old new classes s before above h = record {
+  len = h.len ∙ before.len;
+  widths = λ k lt. h.widths k ∙ before.widths k (omega (arith, lt, h.len));
+  sound = λ k x b. ⊎_elim (λ a. before.sound k x a) (λ a. subst (λ y. IsBelow F (site_class F y) k) (sym a.0) (above.sound k a.1)) (h.gained k x b);
+  whole = λ k x lt b. ⊎_elim
+      (λ e. let c = above.whole k (subst (λ y. IsBelow F (site_class F y) k) e b) in
+      subst (λ y. bit (row new k) y ≡ true) (sym e) (h.all k (bit-below classes k c) c))
+      (λ ne. h.kept k x (before.whole k x (omega (arith, lt, ne)) b))
+      (cases_eq x s);
+}

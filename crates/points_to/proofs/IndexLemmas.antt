@@ -7,13 +7,8 @@ use Rattle.std.proofs.lemmas.Bool.{cases_lt}
 use Rattle.std.proofs.lemmas.List.{get_or_default}
 use Rattle.fact_model.specs.Items.{cell_at}
 use Rattle.fact_model.specs.declared.facts.Facts.{Facts}
-use Rattle.fact_model.specs.declared.facts.LoadInfo.{LoadInfo}
-use Rattle.fact_model.specs.declared.facts.StoreInfo.{StoreInfo}
-use Rattle.fact_model.specs.declared.facts.CallInfo.{CallInfo}
 use Rattle.fact_model.specs.declared.facts.BodyInfo.{BodyInfo}
-use Rattle.points_to.specs.declared.index.Begin.{Begin}
-use Rattle.points_to.specs.declared.index.Begin.TheVariants.{Load, Store, Call}
-use Rattle.points_to.specs.Begun.{begins_at, numbers_at, IsAt, KeepBegins, KeepNumbers, HaveLoads, HaveStores, HaveCalls, HaveCells, HaveBodies}
+use Rattle.points_to.specs.Listed.{numbers_at, IsAt, KeepNumbers, HaveCells, HaveBodies}
 
 pub at_same : {X : Type 0} (xs : List X) (i : ℕ) (x y : X) → IsAt xs i x → IsAt xs i y → x ≡ y
 at_same xs i x y a b = sym a.1 ∙ (get_or_default xs i x y a.0 ∙ b.1)
@@ -28,34 +23,9 @@ at_all P xs i x all a = subst P a.1 (all i x a.0)
 pub at_get_or : {X : Type 0} (xs : List X) (i : ℕ) (d : X) → i < length xs → IsAt xs i (get_or xs i d)
 at_get_or xs i d lt = (lt, get_or_default xs i (get_or xs i d) d lt)
 
-pub keep_same : (lists : List (Vec Begin Global)) → KeepBegins lists lists
-keep_same lists = record { len = refl; each = λ k x h. h }
-
-pub keep_then : (a b c : List (Vec Begin Global)) → KeepBegins a b → KeepBegins b c → KeepBegins a c
-keep_then a b c p q = record { len = q.len ∙ p.len; each = λ k x h. q.each k x (p.each k x h) }
-
 -- one number on
-next_number : (P : ℕ → Type 0) (i : ℕ) → ((k : ℕ) → k < i → P k) → P i → (k : ℕ) → k < i + 1 → P k
+pub next_number : (P : ℕ → Type 0) (i : ℕ) → ((k : ℕ) → k < i → P k) → P i → (k : ℕ) → k < i + 1 → P k
 next_number P i before here k lt = ⊎_elim (λ b. before k b) (λ past. let e : i ≡ k = omega (arith, past, lt) in subst P e here) (cases_lt k i)
-
-module _ (F : Facts) (old new : List (Vec Begin Global)) (i : ℕ) (kept : KeepBegins old new) where
-  pub loads_more : (y : LoadInfo) → IsAt F.loads.items i y → Contains (begins_at new y.base) (Load i) → HaveLoads F old i → HaveLoads F new (i + 1)
-  loads_more y is here before =
-      next_number (λ k. (x : LoadInfo) → IsAt F.loads.items k x → Contains (begins_at new x.base) (Load k)) i
-      (λ k lt x a. kept.each x.base (Load k) (before k lt x a))
-      (λ x a. subst (λ (z : LoadInfo). Contains (begins_at new z.base) (Load i)) (at_same F.loads.items i y x is a) here)
-
-  pub stores_more : (y : StoreInfo) → IsAt F.stores.items i y → Contains (begins_at new y.base) (Store i) → HaveStores F old i → HaveStores F new (i + 1)
-  stores_more y is here before =
-      next_number (λ k. (x : StoreInfo) → IsAt F.stores.items k x → Contains (begins_at new x.base) (Store k)) i
-      (λ k lt x a. kept.each x.base (Store k) (before k lt x a))
-      (λ x a. subst (λ (z : StoreInfo). Contains (begins_at new z.base) (Store i)) (at_same F.stores.items i y x is a) here)
-
-  pub calls_more : (y : CallInfo) → IsAt F.calls.items i y → Contains (begins_at new y.receiver) (Call i) → HaveCalls F old i → HaveCalls F new (i + 1)
-  calls_more y is here before =
-      next_number (λ k. (x : CallInfo) → IsAt F.calls.items k x → Contains (begins_at new x.receiver) (Call k)) i
-      (λ k lt x a. kept.each x.receiver (Call k) (before k lt x a))
-      (λ x a. subst (λ (z : CallInfo). Contains (begins_at new z.receiver) (Call i)) (at_same F.calls.items i y x is a) here)
 
 module _ (F : Facts) (old new : List (Vec ℕ Global)) (i : ℕ) (kept : KeepNumbers old new) where
   pub cells_more : Contains (numbers_at new (cell_at F i).site.0) i → HaveCells F old i → HaveCells F new (i + 1)

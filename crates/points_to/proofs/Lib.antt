@@ -3,7 +3,8 @@ pub mod LoopLemmas
 pub mod RuleLemmas
 pub mod EdgeLemmas
 pub mod IndexLemmas
-pub mod BegunLemmas
+pub mod AskedLemmas
+pub mod RoundLemmas
 pub mod SolveLemmas
 pub mod ChainLemmas
 pub mod AboveLemmas

@@ -8,8 +8,6 @@ use Rattle.std.proofs.lemmas.List.{get_or_default, get_or_past}
 use Rattle.std.proofs.lemmas.List.Elements.{AllWithin-more}
 use Rattle.kaba_bits.specs.Sets.{bit, IsNoneFrom, IsLeastFrom}
 use Rattle.kaba_bits.proofs.SetLemmas.{bit-below}
-use Rattle.points_to.specs.Work.{IsMore}
-use Rattle.points_to.specs.declared.found.Found.{Found}
 
 -- a loop over a list, one element on, where what held still holds
 pub within_more : {X : Type 0} (P Q : X → Type 0) (xs : List X) (k : ℕ) (d : X) → k < length xs → ((x : X) → P x → Q x) → AllWithin P xs 0 k
@@ -29,12 +27,6 @@ closed_end P n i false le h = λ k lt. h k (omega arith)
 pub all_end : {X : Type 0} (P : X → Type 0) (xs : List X) (i : ℕ) (g : Bool) → length xs ≤ i → OnFalse g (AllWithin P xs 0 i) → OnFalse g (All P xs)
 all_end P xs i true le h = tt
 all_end P xs i false le h = within_all P xs i le h
-
-pub more_same : (a : Found) → IsMore a a
-more_same a = record { edges = λ x h. h; told = λ x h. h }
-
-pub more_then : (a b c : Found) → IsMore a b → IsMore b c → IsMore a c
-more_then a b c p q = record { edges = λ x h. q.edges x (p.edges x h); told = λ x h. q.told x (p.told x h) }
 
 -- the least number below n, from one on, that passes a test, by what is asked of it
 module _ (p : ℕ → Bool) (n w at : ℕ) (len : n ≡ w) where

@@ -7,17 +7,14 @@ use Rattle.derivations.proofs.Derivations.{derivable_least}
 use Rattle.kaba_bits.specs.Sets.{bit, row}
 use Rattle.kaba_bits.proofs.RowLemmas.{bit-row-below}
 use Rattle.fact_model.specs.InRange.{InRange, IsPoint, IsSite, IsClass, IsCol}
-use Rattle.fact_model.specs.Flowing.{Fact, in_point, in_cell, Runs, Inclusion, by_new, by_flow, by_load, by_store, by_this, by_argument, by_result, by_cast, Holds, IsInRow, by_point, by_cell, AreSets}
+use Rattle.fact_model.specs.Flowing.{Fact, in_point, in_cell, Inclusion, by_new, by_flow, by_load, by_store, by_this, by_argument, by_result, by_cast, Holds, IsInRow, by_point, by_cell, AreSets}
 use Rattle.fact_model.specs.declared.facts.Facts.{Facts}
 use Rattle.fact_model.specs.declared.facts.CallInfo.{CallInfo}
 use Rattle.fact_model.specs.declared.facts.BodyInfo.{BodyInfo}
 use Rattle.fact_model.specs.declared.sets.PointsTo.{PointsTo}
 use Rattle.points_to.specs.Sound.{AreSound, ArePoints, AreCells, AreUnions}
-use Rattle.points_to.specs.Work.{IsEdgeClosed, IsShown}
-use Rattle.points_to.specs.Begun.{IsIndex, IsRun}
-use Rattle.points_to.specs.Closed.{IsNewAsked, IsFlowAsked, IsCastAsked, AreClosed, AreSolved, PointsJoined, CellsJoined}
-use Rattle.points_to.specs.declared.index.Begin.TheVariants.{Load, Store, Call}
-use Rattle.points_to.specs.declared.index.Index.{Index}
+use Rattle.points_to.specs.Work.{IsEdgeClosed, IsShown, IsReadClosed, IsWriteClosed, IsRunClosed}
+use Rattle.points_to.specs.Closed.{IsNewAsked, IsFlowAsked, IsCastAsked, IsLoadAsked, IsStoreAsked, IsCallAsked, AreClosed, AreSolved, PointsJoined, CellsJoined}
 use Rattle.points_to.proofs.NodeLemmas.{node_point, node_cell}
 use Rattle.points_to.proofs.RuleLemmas.{point_below, points_of}
 use Rattle.points_to.proofs.EdgeLemmas.{wanted_of}
@@ -27,54 +24,52 @@ abbrev pub IsSeen : Facts → List (List Bool) → Fact → Type 0
 IsSeen F sets (in_point p s) = (p < length F.points.items) × (bit (row sets p) s ≡ true)
 IsSeen F sets (in_cell c s) = (c < length F.cells.items) × (bit (row sets (length F.points.items + c)) s ≡ true)
 
-module _ (F : Facts) (R : InRange F) (index : Index) (is : IsIndex F index) (sets : List (List Bool)) (closed : AreClosed F index sets) where
+module _ (F : Facts) (R : InRange F) (sets : List (List Bool)) (closed : AreClosed F sets) where
   -- the call of a body for an object of the site o
-  run : (call : CallInfo) (o : ℕ) (body : BodyInfo) → Runs F call o body → IsSeen F sets (in_point call.receiver o)
-      → IsRun (IsEdgeClosed F sets) (IsShown sets) call o body
-  run call o body runs h =
-      let at = runs.called in
-      closed.points call.receiver h.0 o h.1 (Call at.0) (is.calls at.0 at.1 call (at.1, at.2)) call (at.1, at.2) refl body runs
+  call : (x : CallInfo) → Contains F.calls.items x → IsCallAsked (IsReadClosed F sets sets) (IsWriteClosed F sets sets) (IsRunClosed F sets sets) x
+  call x c = closed.calls c.0 c.1 x (c.1, c.2)
 
-  this_below : (body : BodyInfo) → Contains F.bodies.items body → body.this < length F.points.items
-  this_below body c =
-      (All-contains (λ x. IsCol F x.column × IsPoint F x.this × All (λ p. IfSome p (IsPoint F)) x.params.items × IfSome x.result (IsPoint F))
-      F.bodies.items body R.bodies c).1
+  body_is : (body : BodyInfo) → Contains F.bodies.items body → IsCol F body.column × IsPoint F body.this
+      × All (λ p. IfSome p (IsPoint F)) body.params.items × IfSome body.result (IsPoint F)
+  body_is body c = All-contains (λ x. IsCol F x.column × IsPoint F x.this × All (λ p. IfSome p (IsPoint F)) x.params.items × IfSome x.result (IsPoint F))
+      F.bodies.items body R.bodies c
 
   closed_under : (ps : List Fact) (f : Fact) → Inclusion F ps f → AllByRecursion (IsSeen F sets) ps → IsSeen F sets f
   closed_under ps f (by_new x c) h = (
     (All-contains (λ x. IsPoint F x.point × IsSite F x.site) F.news.items x R.news c).0,
-    All-contains (IsNewAsked (IsShown sets)) F.news.items x
-        closed.fixed.news c,
+    All-contains (IsNewAsked (IsShown sets)) F.news.items x closed.news c,
   )
   closed_under ps f (by_flow x s c) h = (
     (All-contains (λ x. IsPoint F x.from × IsPoint F x.to) F.flows.items x R.flows c).1,
-    All-contains (IsFlowAsked (IsEdgeClosed F sets))
-        F.flows.items x closed.fixed.flows c s tt h.0.1,
+    All-contains (IsFlowAsked (IsEdgeClosed F sets)) F.flows.items x closed.flows c s tt h.0.1,
   )
   closed_under ps f (by_load x c o s at cell) h = (
     (All-contains (λ x. IsPoint F x.base × IfSome x.column (IsCol F) × IsPoint F x.into) F.loads.items x R.loads at).2,
-    closed.points x.base h.0.0 o h.0.1 (Load at.0) (is.loads at.0 at.1 x (at.1, at.2)) x (at.1, at.2) refl c cell s tt h.1.0.1,
+    All-contains (IsLoadAsked (IsReadClosed F sets sets)) F.loads.items x closed.loads at o (length F.points.items + c) h.0.1
+        (record { cell = c; is = cell; node = refl }) s h.1.0.1,
   )
   closed_under ps f (by_store x c o s at cell fits) h = (
     cell.below,
-    closed.points x.base h.0.0 o h.0.1 (Store at.0) (is.stores at.0 at.1 x (at.1, at.2)) x (at.1, at.2) refl c cell s (wanted_of F x.column s o fits) h.1.0.1,
+    All-contains (IsStoreAsked (IsWriteClosed F sets sets)) F.stores.items x closed.stores at o (length F.points.items + c) s h.0.1
+        (record { cell = c; is = cell; node = refl }) (wanted_of F x.column s o fits) h.1.0.1,
   )
-  closed_under ps f (by_this call o body runs) h = (this_below body runs.listed, (run call o body runs h.0).this)
-  closed_under ps f (by_argument call o body k from to s runs a b) h = (
-    points_of F body.params.items
-        (All-contains (λ x. IsCol F x.column × IsPoint F x.this × All (λ p. IfSome p (IsPoint F)) x.params.items × IfSome x.result (IsPoint F))
-        F.bodies.items body R.bodies runs.listed).2 k to b,
-    (run call o body runs h.0).arguments k (point_below call.args.items k from a) from to a b s tt h.1.0.1,
+  closed_under ps f (by_this x o body runs) h = (
+    (body_is body runs.listed).1,
+    (call x runs.called).run o body.this h.0.1 (record { body = body; listed = runs.listed; found = runs.found; node = refl }),
   )
-  closed_under ps f (by_result call o body from to s runs a b) h = (
+  closed_under ps f (by_argument x o body k from to s runs a b) h = (
+    points_of F body.params.items (body_is body runs.listed).2 k to b,
+    (call x runs.called).arguments k (point_below x.args.items k from a) from a o to s h.0.1
+        (record { body = body; listed = runs.listed; found = runs.found; node = b }) tt h.1.0.1,
+  )
+  closed_under ps f (by_result x o body from to s runs a b) h = (
     subst (λ r. IfSome r (IsPoint F)) b (All-contains (λ x. IsPoint F x.receiver × All (λ p. IfSome p (IsPoint F)) x.args.items
-        × IfSome x.result (IsPoint F)) F.calls.items call R.calls runs.called).2,
-    (run call o body runs h.0).result from to a b s tt h.1.0.1,
+        × IfSome x.result (IsPoint F)) F.calls.items x R.calls runs.called).2,
+    (call x runs.called).result to b o from h.0.1 (record { body = body; listed = runs.listed; found = runs.found; node = a }) s h.1.0.1,
   )
   closed_under ps f (by_cast x s c b) h = (
     (All-contains (λ x. IsPoint F x.from × IsPoint F x.into × IsClass F x.class) F.casts.items x R.casts c).1,
-    All-contains
-        (IsCastAsked (IsEdgeClosed F sets)) F.casts.items x closed.fixed.casts c s b h.0.1,
+    All-contains (IsCastAsked (IsEdgeClosed F sets)) F.casts.items x closed.casts c s b h.0.1,
   )
 
   complete : (f : Fact) → Holds F f → IsSeen F sets f

@@ -1,7 +1,7 @@
 -- The classes at or above a class, found by a walk upwards.
 use Rattle.std.specs.Prelude.{◌≡◌, ℕ, ◌+◌, ◌<◌, ◌≤◌, ◌⊎◌, Bool, true, List, length, Contains}
 use Rattle.kaba_base.specs.declared.ClassId.{ClassId}
-use Rattle.kaba_bits.specs.Sets.{bit, row, size}
+use Rattle.kaba_bits.specs.Sets.{bit, row, size, HasWidth}
 use Rattle.fact_model.specs.declared.facts.Facts.{Facts}
 use Rattle.fact_model.specs.Classes.{supers_of, IsBelow}
 use Rattle.fact_model.specs.InRange.{IsClass}
@@ -16,10 +16,20 @@ pub record IsAboveRow (F : Facts) (a : ℕ) (r : List Bool) : Type 0 where
   pub sound : (b : ℕ) → bit r b ≡ true → IsBelow F a b
   pub whole : (b : ℕ) → IsBelow F a b → bit r b ≡ true
 
--- the rows of the first n sites have the classes at or above that of the site
-pub record AreSitesAbove (F : Facts) (n : ℕ) (rows : List (List Bool)) : Type 0 where
-  pub len : length rows ≡ n
-  pub each : (s : ℕ) → s < n → IsAboveRow F (site_class F s) (row rows s)
+-- the rows of classes have those of the first n sites whose class is at or below
+pub record AreSitesBelow (F : Facts) (n : ℕ) (rows : List (List Bool)) : Type 0 where
+  pub len : length rows ≡ length F.classes.items
+  pub widths : HasWidth (length F.sites.items) rows
+  pub sound : (k s : ℕ) → bit (row rows k) s ≡ true → IsBelow F (site_class F s) k
+  pub whole : (k s : ℕ) → s < n → IsBelow F (site_class F s) k → bit (row rows k) s ≡ true
+
+-- the rows of those of the first n classes that are in a set have gained a site
+pub record HasSite (old new : List (List Bool)) (classes : List Bool) (s n : ℕ) : Type 0 where
+  pub len : length new ≡ length old
+  pub widths : (k : ℕ) → length (row new k) ≡ length (row old k)
+  pub kept : (k x : ℕ) → bit (row old k) x ≡ true → bit (row new k) x ≡ true
+  pub gained : (k x : ℕ) → bit (row new k) x ≡ true → (bit (row old k) x ≡ true) ⊎ ((x ≡ s) × (bit classes k ≡ true))
+  pub all : (k : ℕ) → k < n → bit classes k ≡ true → bit (row new k) s ≡ true
 
 -- a row has gained these classes, and each that is new waits
 pub record Gained (more : List ClassId) (old new : List Bool) (before after : List ClassId) : Type 0 where

@@ -1,16 +1,22 @@
--- Inclusions and sites that the rules ask for, and sets that have them.
-use Rattle.std.specs.Prelude.{◌≡◌, ℕ, ◌+◌, ◌<◌, Bool, true, List, length, All, Contains, Option, Some, None}
-use Rattle.kaba_bits.specs.Sets.{bit, row}
+-- What the rules ask for, and sets that have it.
+use Rattle.std.specs.Prelude.{◌≡◌, ℕ, ◌+◌, ◌<◌, Bool, true, List, length, All, Contains, Option, Some, None, IfSome}
+use Rattle.kaba_bits.specs.Sets.{bit, row, IsSubset}
 use Rattle.kaba_base.specs.declared.ClassId.{ClassId}
 use Rattle.kaba_base.specs.declared.ColId.{ColId}
 use Rattle.fact_model.specs.Items.{site_at, site_class}
-use Rattle.fact_model.specs.Classes.{IsBelow}
+use Rattle.fact_model.specs.Classes.{IsBelow, finds}
+use Rattle.fact_model.specs.Flowing.{IsCell, point_at}
+use Rattle.fact_model.specs.InRange.{IsClass}
 use Rattle.fact_model.specs.declared.facts.Facts.{Facts}
+use Rattle.fact_model.specs.declared.facts.BodyInfo.{BodyInfo}
 use Rattle.points_to.specs.Sound.{node_count, InNode}
 use Rattle.points_to.specs.declared.work.Edge.{Edge}
 use Rattle.points_to.specs.declared.work.Told.{Told}
-use Rattle.points_to.specs.declared.found.Use.{Use}
-use Rattle.points_to.specs.declared.found.Use.TheVariants.{Read, Write}
+use Rattle.points_to.specs.declared.work.Read.{Read}
+use Rattle.points_to.specs.declared.work.Write.{Write}
+use Rattle.points_to.specs.declared.work.Run.{Run}
+use Rattle.points_to.specs.declared.work.Member.{Member}
+use Rattle.points_to.specs.declared.work.Member.TheVariants.{Field, This, Parameter, Returned}
 use Rattle.points_to.specs.declared.found.Found.{Found}
 
 -- where a class is named, that of the site is at or below it
@@ -22,6 +28,7 @@ Passes F (Some k) s = IsBelow F (site_class F s) k.0
 pub record IsEdge (F : Facts) (x : Edge) : Type 0 where
   pub from : x.from < node_count F
   pub to : x.to < node_count F
+  pub class : IfSome x.class (IsClass F)
   pub flows : (s : ℕ) → Passes F x.class s → InNode F x.from s → InNode F x.to s
 
 -- a site that is in a set
@@ -30,36 +37,104 @@ pub record IsTold (F : Facts) (x : Told) : Type 0 where
   pub site : x.site < length F.sites.items
   pub holds : InNode F x.node x.site
 
--- the sets have what passes of one site along an inclusion
-abbrev pub IsPassed : Facts → Edge → List (List Bool) → ℕ → Type 0
-IsPassed F x sets s = Passes F x.class s → bit (row sets x.from) s ≡ true → bit (row sets x.to) s ≡ true
+-- the slot of the body that a member is of; a field has none
+abbrev pub slot_of : Member → Option ℕ
+slot_of (Field column) = None
+slot_of (This slot) = Some slot
+slot_of (Parameter slot k) = Some slot
+slot_of (Returned slot) = Some slot
 
+-- the point of a member of a body
+abbrev pub body_node : Member → BodyInfo → Option ℕ
+body_node (Field column) body = None
+body_node (This slot) body = Some body.this
+body_node (Parameter slot k) body = point_at body.params.items k
+body_node (Returned slot) body = body.result
+
+-- n is the set of the cell of the site o at a column
+pub record IsCellNode (F : Facts) (column : Option ColId) (o n : ℕ) : Type 0 where
+  pub cell : ℕ
+  pub is : IsCell F cell o column
+  pub node : n ≡ length F.points.items + cell
+
+-- n is the point of a member of the body that is run for a slot
+pub record IsBodyNode (F : Facts) (m : Member) (slot o n : ℕ) : Type 0 where
+  pub body : BodyInfo
+  pub listed : Contains F.bodies.items body
+  pub found : finds F (site_class F o) slot ≡ Some body.column.0
+  pub node : body_node m body ≡ Some n
+
+-- n is the set of a member of the site o
+abbrev pub IsTarget : Facts → Member → ℕ → ℕ → Type 0
+IsTarget F (Field column) o n = IsCellNode F column o n
+IsTarget F (This slot) o n = IsBodyNode F (This slot) slot o n
+IsTarget F (Parameter slot k) o n = IsBodyNode F (Parameter slot k) slot o n
+IsTarget F (Returned slot) o n = IsBodyNode F (Returned slot) slot o n
+
+-- exactly the sets of a member of the site o
+pub record AreTargets (F : Facts) (m : Member) (o : ℕ) (xs : List ℕ) : Type 0 where
+  pub sound : All (IsTarget F m o) xs
+  pub whole : (n : ℕ) → IsTarget F m o n → Contains xs n
+
+-- the class that a written value must have: for an element that of the array
+abbrev pub wanted : Facts → Member → ℕ → Option ClassId
+wanted F (Field None) o = Some (site_at F o).class
+wanted F (Field (Some column)) o = None
+wanted F (This slot) o = None
+wanted F (Parameter slot k) o = None
+wanted F (Returned slot) o = None
+
+-- for each site in the base, what is in its member is in a point
+pub record IsRead (F : Facts) (x : Read) : Type 0 where
+  pub base : x.base < node_count F
+  pub into : x.into < node_count F
+  pub flows : (o n s : ℕ) → InNode F x.base o → IsTarget F x.member o n → InNode F n s → InNode F x.into s
+
+-- for each site in the base, what is in a point, and fits, is in its member
+pub record IsWrite (F : Facts) (x : Write) : Type 0 where
+  pub base : x.base < node_count F
+  pub value : x.value < node_count F
+  pub flows : (o n s : ℕ) → InNode F x.base o → IsTarget F x.member o n → Passes F (wanted F x.member o) s → InNode F x.value s → InNode F n s
+
+-- each site in the base is in the `this` of its body
+pub record IsRun (F : Facts) (x : Run) : Type 0 where
+  pub base : x.base < node_count F
+  pub flows : (o n : ℕ) → InNode F x.base o → IsTarget F (This x.slot) o n → InNode F n o
+
+-- the sets have what is asked for
 abbrev pub IsEdgeClosed : Facts → List (List Bool) → Edge → Type 0
-IsEdgeClosed F sets x = (s : ℕ) → IsPassed F x sets s
+IsEdgeClosed F sets x = (s : ℕ) → Passes F x.class s → bit (row sets x.from) s ≡ true → bit (row sets x.to) s ≡ true
 
 abbrev pub IsShown : List (List Bool) → Told → Type 0
 IsShown sets x = bit (row sets x.node) x.site ≡ true
 
--- inclusions and sites that hold
+-- the same of what is asked for the sites that a base has in one family of sets
+abbrev pub IsReadClosed : Facts → List (List Bool) → List (List Bool) → Read → Type 0
+IsReadClosed F bases sets x = (o n : ℕ) → bit (row bases x.base) o ≡ true → IsTarget F x.member o n → IsSubset (row sets n) (row sets x.into)
+
+abbrev pub IsWriteClosed : Facts → List (List Bool) → List (List Bool) → Write → Type 0
+IsWriteClosed F bases sets x = (o n s : ℕ) → bit (row bases x.base) o ≡ true → IsTarget F x.member o n → Passes F (wanted F x.member o) s
+    → bit (row sets x.value) s ≡ true → bit (row sets n) s ≡ true
+
+abbrev pub IsRunClosed : Facts → List (List Bool) → List (List Bool) → Run → Type 0
+IsRunClosed F bases sets x = (o n : ℕ) → bit (row bases x.base) o ≡ true → IsTarget F (This x.slot) o n → bit (row sets n) o ≡ true
+
+-- what is asked for holds
 pub record AreFound (F : Facts) (found : Found) : Type 0 where
   pub edges : All (IsEdge F) found.edges.items
   pub told : All (IsTold F) found.told.items
+  pub reads : All (IsRead F) found.reads.items
+  pub writes : All (IsWrite F) found.writes.items
+  pub runs : All (IsRun F) found.runs.items
 
 -- nothing was lost
 pub record IsMore (old new : Found) : Type 0 where
   pub edges : (x : Edge) → Contains old.edges.items x → Contains new.edges.items x
   pub told : (x : Told) → Contains old.told.items x → Contains new.told.items x
-
--- the class that a stored value must have: for an element that of the array
-abbrev pub wanted : Facts → Option ColId → ℕ → Option ClassId
-wanted F None o = Some (site_at F o).class
-wanted F (Some column) o = None
+  pub reads : (x : Read) → Contains old.reads.items x → Contains new.reads.items x
+  pub writes : (x : Write) → Contains old.writes.items x → Contains new.writes.items x
+  pub runs : (x : Run) → Contains old.runs.items x → Contains new.runs.items x
 
 -- from one point into another
 abbrev pub between : ℕ → ℕ → Edge
 between p q = record { from = p; to = q; class = None }
-
--- a read takes what is in the cell, and a write puts what fits of the value into it
-abbrev pub cell_edge : Facts → Use → Option ColId → ℕ → ℕ → Edge
-cell_edge F (Read q) column o c = record { from = length F.points.items + c; to = q; class = None }
-cell_edge F (Write p) column o c = record { from = p; to = length F.points.items + c; class = wanted F column o }

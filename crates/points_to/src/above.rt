@@ -1,14 +1,16 @@
-//! The classes at or above a class, and at or above that of each site.
+//! The classes at or above a class, and the sites of a class at or below one.
 
 ghost use Rattle.std.specs.Prelude.{◌≡◌, ℕ, ◌<◌, ◌↔◌, ◌∷◌, [], length, All, IsTrue, IfSome, IfOk, OnOk};
 ghost use Rattle.std.specs.Option.{option_to_list};
 ghost use Rattle.fact_model.specs.InRange.{InRange, IsClass};
 ghost use Rattle.fact_model.specs.Classes.{supers_of, IsBelow};
-ghost use Rattle.points_to.specs.Above.{Gained, IsAboveRow, AreSitesAbove};
+ghost use Rattle.kaba_bits.specs.Sets.{row};
+ghost use Rattle.points_to.specs.Above.{Gained, IsAboveRow, AreSitesBelow, HasSite};
 
+use crate::work::site_at;
 use fact_model::{Facts, class_at};
 use kaba_base::ClassId;
-use kaba_bits::BitRow;
+use kaba_bits::{BitRow, empty_rows, set_at};
 use std::alloc::{AllocError, Global};
 
 /// Whether a class is at or below another; the row has what is at or above the one.
@@ -95,14 +97,44 @@ pub fn classes_above(alloc: Global, facts: &Facts, a: ClassId) -> Result<BitRow,
     Ok(row)
 }
 
-/// For each site the classes at or above its class. An error comes only for want of memory.
-pub fn above_sites(alloc: Global, facts: &Facts) -> Result<Vec<BitRow>, AllocError>
-    requires { InRange facts.now }
-    ensures { IfOk result (λ v. AreSitesAbove facts.now (length facts.now.sites.items) v.items) }
+/// A site into the row of each of these classes.
+fn put_site(rows: &mut [BitRow], classes: &BitRow, s: u32)
+    requires len { length rows.old ≡ length classes.now }
+    requires widths { (k : ℕ) → k < length rows.old → s < length (row rows.old k) }
+    ensures rows { HasSite rows.old rows.new classes.now s (length classes.now) }
 {
-    let mut rows = Vec::new(alloc);
-    for s in 0..facts.sites.len() {
-        rows.push(classes_above(alloc, facts, facts.sites[s].class)?)?;
+    let count = classes.width();
+    let mut at = 0;
+    'scan: while at < count {
+        match classes.next(at) {
+            Some(k) => {
+                set_at(rows, k as usize, s);
+                at = k + 1;
+            }
+            None => return,
+        }
     }
+}
+
+/// Each site into the rows of the classes at or above its own. An error comes only for want of memory.
+fn put_sites(alloc: Global, facts: &Facts, rows: &mut [BitRow]) -> Result<(), AllocError>
+    requires facts { InRange facts.now }
+    requires rows { AreSitesBelow facts.now 0 rows.old }
+    ensures { OnOk result (AreSitesBelow facts.now (length facts.now.sites.items) rows.new) }
+{
+    for s in 0..facts.sites.len() as u32 {
+        let classes = classes_above(alloc, facts, site_at(facts, s).class)?;
+        put_site(rows, &classes, s);
+    }
+    Ok(())
+}
+
+/// For each class the sites of a class at or below it. An error comes only for want of memory.
+pub fn sites_below(alloc: Global, facts: &Facts) -> Result<Vec<BitRow>, AllocError>
+    requires { InRange facts.now }
+    ensures { IfOk result (λ v. AreSitesBelow facts.now (length facts.now.sites.items) v.items) }
+{
+    let mut rows = empty_rows(alloc, facts.classes.len(), facts.sites.len() as u32)?;
+    put_sites(alloc, facts, &mut rows)?;
     Ok(rows)
 }

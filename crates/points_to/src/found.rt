@@ -1,40 +1,33 @@
-//! What the rules ask for: inclusions, and sites that are in a set.
+//! What the rules ask for, in lists.
 
-ghost use Rattle.std.specs.Prelude.{◌≡◌, ℕ, ◌+◌, ◌<◌, ◌↔◌, length, Contains, IsTrue, IfOk, OnOk, Option, All, []};
-ghost use Rattle.kaba_base.specs.declared.ColId.{ColId};
-ghost use Rattle.fact_model.specs.Items.{cell_at, site_at};
-ghost use Rattle.fact_model.specs.InRange.{InRange};
-ghost use Rattle.fact_model.specs.Flowing.{IsCell};
-ghost use Rattle.points_to.specs.Work.{IsEdge, IsTold, AreFound, IsMore, wanted, cell_edge};
+ghost use Rattle.std.specs.Prelude.{◌≡◌, Contains, OnOk, []};
+ghost use Rattle.points_to.specs.Work.{IsEdge, IsTold, IsRead, IsWrite, IsRun, AreFound, IsMore};
 
-use crate::index::cell_at;
-use crate::work::{Edge, Told, site_at};
-use fact_model::{CellInfo, Facts};
-use kaba_base::{ClassId, ColId};
+use crate::work::{Edge, Member, Read, Run, Told, Write};
+use fact_model::Facts;
 use std::alloc::{AllocError, Global};
 
-/// Inclusions, and sites that are in a set.
+/// Inclusions, sites that are in a set, and what is asked for each site of a base.
 #[derive(Drop)]
 pub struct Found {
     pub edges: Vec<Edge>,
     pub told: Vec<Told>,
-}
-
-/// A read of a cell into a point, or a write of a point's value.
-#[derive(Clone, Copy)]
-pub enum Use {
-    Read(u32),
-    Write(u32),
+    pub reads: Vec<Read>,
+    pub writes: Vec<Write>,
+    pub runs: Vec<Run>,
 }
 
 /// Nothing so far.
-pub fn nothing(alloc: Global) -> Found
-    ensures edges { result.edges.items ≡ [] }
-    ensures told { result.told.items ≡ [] }
+pub fn nothing(alloc: Global, facts: &Facts) -> Found
+    ensures { AreFound facts.now result }
 {
+    let _ = facts;
     Found {
         edges: Vec::new(alloc),
         told: Vec::new(alloc),
+        reads: Vec::new(alloc),
+        writes: Vec::new(alloc),
+        runs: Vec::new(alloc),
     }
 }
 
@@ -62,99 +55,62 @@ pub fn tell(facts: &Facts, found: &mut Found, x: Told) -> Result<(), AllocError>
     Ok(())
 }
 
-/// Whether two columns are one.
-fn is_same_column(a: Option<ColId>, b: Option<ColId>) -> bool
-    ensures { IsTrue result ↔ (a ≡ b) }
-{
-    a == b
-}
-
-/// Whether a cell is the one of a site at a column.
-fn is_cell_of(cell: CellInfo, o: u32, column: Option<ColId>) -> bool
-    ensures { IsTrue result ↔ ((cell.site.0 ≡ o) × (cell.column ≡ column)) }
-{
-    cell.site.0 == o && is_same_column(cell.column, column)
-}
-
-/// The class that a stored value must have: for an element that of the array.
-fn wanted(facts: &Facts, column: Option<ColId>, o: u32) -> Option<ClassId>
-    requires { o < length facts.now.sites.items }
-    ensures { result ≡ wanted facts.now column o }
-{
-    match column {
-        Some(_) => None,
-        None => Some(site_at(facts, o).class),
-    }
-}
-
-/// The inclusion of a read or write of a cell of the site `o`.
-fn cell_edge(facts: &Facts, usage: Use, column: Option<ColId>, o: u32, c: usize) -> Edge
-    requires facts { InRange facts.now }
-    requires site { o < length facts.now.sites.items }
-    requires cell { c < length facts.now.cells.items }
-    ensures { result ≡ cell_edge facts.now usage column o c }
-{
-    let cell = facts.points.len() + c;
-    match usage {
-        Use::Read(q) => Edge {
-            from: cell,
-            to: q as usize,
-            class: None,
-        },
-        Use::Write(p) => Edge {
-            from: p as usize,
-            to: cell,
-            class: wanted(facts, column, o),
-        },
-    }
-}
-
-/// The inclusion at one cell, where that is the one of the site `o` at the column. An error comes only for want of memory.
-fn ask_cell(
-    facts: &Facts,
-    found: &mut Found,
-    usage: Use,
-    column: Option<ColId>,
-    o: u32,
-    c: usize,
-) -> Result<(), AllocError>
-    requires facts { InRange facts.now }
+/// One read more. An error comes only for want of memory.
+pub fn ask_read(facts: &Facts, found: &mut Found, x: Read) -> Result<(), AllocError>
     requires found { AreFound facts.now found.old }
-    requires site { o < length facts.now.sites.items }
-    requires edges { (c : ℕ) → IsCell facts.now c o column → IsEdge facts.now (cell_edge facts.now usage column o c) }
+    requires read { IsRead facts.now x }
     ensures found { OnOk result (AreFound facts.now found.new) }
     ensures kept { OnOk result (IsMore found.old found.new) }
-    ensures here { OnOk result (IsCell facts.now c o column → Contains found.new.edges.items (cell_edge facts.now usage column o c)) }
+    ensures here { OnOk result (Contains found.new.reads.items x) }
 {
-    if c >= facts.cells.len() {
-        return Ok(());
-    }
-    if !is_cell_of(cell_at(facts, c), o, column) {
-        return Ok(());
-    }
-    ask(facts, found, cell_edge(facts, usage, column, o, c))?;
+    found.reads.push(x)?;
     Ok(())
 }
 
-/// The inclusion at each of a list of cells. An error comes only for want of memory.
-pub fn ask_cells(
-    facts: &Facts,
-    found: &mut Found,
-    usage: Use,
-    column: Option<ColId>,
-    o: u32,
-    list: &[usize],
-) -> Result<(), AllocError>
-    requires facts { InRange facts.now }
+/// One write more. An error comes only for want of memory.
+pub fn ask_write(facts: &Facts, found: &mut Found, x: Write) -> Result<(), AllocError>
     requires found { AreFound facts.now found.old }
-    requires site { o < length facts.now.sites.items }
-    requires edges { (c : ℕ) → IsCell facts.now c o column → IsEdge facts.now (cell_edge facts.now usage column o c) }
+    requires write { IsWrite facts.now x }
     ensures found { OnOk result (AreFound facts.now found.new) }
     ensures kept { OnOk result (IsMore found.old found.new) }
-    ensures here { OnOk result (All (λ c. IsCell facts.now c o column → Contains found.new.edges.items (cell_edge facts.now usage column o c)) list.now) }
+    ensures here { OnOk result (Contains found.new.writes.items x) }
 {
-    for c in list {
-        ask_cell(facts, found, usage, column, o, *c)?;
+    found.writes.push(x)?;
+    Ok(())
+}
+
+/// One run more. An error comes only for want of memory.
+pub fn ask_run(facts: &Facts, found: &mut Found, x: Run) -> Result<(), AllocError>
+    requires found { AreFound facts.now found.old }
+    requires run { IsRun facts.now x }
+    ensures found { OnOk result (AreFound facts.now found.new) }
+    ensures kept { OnOk result (IsMore found.old found.new) }
+    ensures here { OnOk result (Contains found.new.runs.items x) }
+{
+    found.runs.push(x)?;
+    Ok(())
+}
+
+/// Numbers by which members are in order: what they are of, and which parameter.
+fn order_of(member: Member) -> (u8, u32, usize) {
+    match member {
+        Member::Field(None) => (0, 0, 0),
+        Member::Field(Some(column)) => (1, column.0, 0),
+        Member::This(slot) => (2, slot, 0),
+        Member::Parameter(slot, k) => (3, slot, k),
+        Member::Returned(slot) => (4, slot, 0),
     }
+}
+
+/// The reads, writes and runs of one member stand together, and among them those of one base. An error comes only for want of memory.
+pub fn put_in_order(facts: &Facts, found: &mut Found) -> Result<(), AllocError>
+    requires found { AreFound facts.now found.old }
+    ensures found { OnOk result (AreFound facts.now found.new) }
+    ensures kept { OnOk result (IsMore found.old found.new) }
+{
+    let _ = facts;
+    found.reads.sort_by_key(|x| (order_of(x.member), x.base))?;
+    found.writes.sort_by_key(|x| (order_of(x.member), x.base))?;
+    found.runs.sort_by_key(|x| (x.slot, x.base))?;
     Ok(())
 }

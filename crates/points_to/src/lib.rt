@@ -6,26 +6,29 @@ ghost use Rattle.std.specs.Prelude.{◌≡◌, ℕ, ◌+◌, ◌<◌, length, Co
 ghost use Rattle.fact_model.specs.InRange.{InRange};
 ghost use Rattle.fact_model.specs.Flowing.{AreSets};
 ghost use Rattle.points_to.specs.Sound.{AreSound};
-ghost use Rattle.points_to.specs.Chains.{AreBodies};
 ghost use Rattle.points_to.specs.Work.{AreFound};
-ghost use Rattle.points_to.specs.Begun.{IsIndex};
-ghost use Rattle.points_to.specs.Closed.{AreFixed, AreClosed, AreSolved};
+ghost use Rattle.points_to.specs.Listed.{IsIndex};
+ghost use Rattle.points_to.specs.Closed.{AreAsked, AreClosed, AreSolved};
 
 use fact_model::{Facts, PointsTo};
 use kaba_bits::{BitRow, empty_rows};
 use std::alloc::{AllocError, Global};
 
 mod above;
-mod begins;
 mod bodies;
 mod closing;
 mod fixed;
 mod found;
 mod index;
-mod known;
+mod news;
+mod reads;
+mod runs;
+mod targets;
 mod turns;
 mod unions;
+mod uses;
 mod work;
+mod writes;
 
 pub use above::{classes_above, is_below};
 pub use bodies::{Bodies, bodies_of, find_body};
@@ -78,11 +81,21 @@ fn fill(alloc: Global, facts: &Facts, sets: &mut [BitRow]) -> Result<(), AllocEr
     ensures { OnOk result (AreSolved facts.now sets.new) }
 {
     let index = index_of(alloc, facts)?;
-    let bodies = bodies_of(alloc, facts)?;
-    let fixed = fixed(alloc, facts)?;
-    grow(alloc, facts, &index, &bodies, &fixed, sets)?;
-    run_rounds(alloc, facts, &index, &bodies, &fixed, sets)?;
+    let found = fixed(alloc, facts)?;
+    let mut grown = BitRow::new(alloc, node_count(facts))?;
+    grow(alloc, facts, &index, &found, sets, &mut grown)?;
+    run_rounds(alloc, facts, &index, &found, sets, &mut grown)?;
     Ok(())
+}
+
+/// How many sets there are, as far as a row can number them.
+fn node_count(facts: &Facts) -> u32 {
+    let count = facts.points.len().saturating_add(facts.cells.len());
+    if count < u32::MAX as usize {
+        count as u32
+    } else {
+        u32::MAX
+    }
 }
 
 /// Turns over everything, until nothing is new. An error comes only for want of memory.
@@ -90,21 +103,20 @@ fn run_rounds(
     alloc: Global,
     facts: &Facts,
     index: &Index,
-    bodies: &Bodies,
-    fixed: &Found,
+    found: &Found,
     sets: &mut [BitRow],
+    grown: &mut BitRow,
 ) -> Result<(), AllocError>
     requires facts { InRange facts.now }
     requires index { IsIndex facts.now index.now }
-    requires bodies { AreBodies facts.now bodies.now }
-    requires found { AreFound facts.now fixed.now }
-    requires fixed { AreFixed facts.now (Contains fixed.now.edges.items) (Contains fixed.now.told.items) }
+    requires found { AreFound facts.now found.now }
+    requires asked { AreAsked facts.now found.now }
     requires sets { AreSound facts.now sets.old }
     ensures sets { OnOk result (AreSound facts.now sets.new) }
-    ensures closed { OnOk result (AreClosed facts.now index.now sets.new) }
+    ensures closed { OnOk result (AreClosed facts.now sets.new) }
 {
     loop {
-        let more = close_all(alloc, facts, index, bodies, fixed, sets)?;
+        let more = close_all(alloc, facts, index, found, sets, grown)?;
         if !more {
             return Ok(());
         }

@@ -1,218 +1,104 @@
-//! Sets by a worklist: what grew is passed on, and a site that is new in a point begins what it can.
+//! Sets by a worklist: what grew is passed along the inclusions, and when no more passes there, the reads, writes and runs that
+//! it concerns are gone over once.
 
-ghost use Rattle.std.specs.Prelude.{◌≡◌, ℕ, ◌<◌, [], length, All, Some, IfSome, IfOk, OnOk};
+ghost use Rattle.std.specs.Prelude.{◌≡◌, ℕ, ◌<◌, length, All, IfOk, IfSome, OnOk};
 ghost use Rattle.fact_model.specs.InRange.{InRange};
-ghost use Rattle.points_to.specs.Above.{AreSitesAbove};
 ghost use Rattle.points_to.specs.Sound.{AreSound};
-ghost use Rattle.points_to.specs.Chains.{AreBodies};
-ghost use Rattle.points_to.specs.Work.{AreFound, IsEdge, IsTold};
-ghost use Rattle.points_to.specs.Begun.{IsIndex};
+ghost use Rattle.points_to.specs.Listed.{IsIndex};
+ghost use Rattle.points_to.specs.Work.{AreFound, IsEdge, IsRead, IsWrite, IsRun};
 
-use crate::begins::begin_sites;
-use crate::bodies::Bodies;
-use crate::found::{Found, nothing};
-use crate::index::{Index, begins_at, empty, note, numbers_at};
-use crate::known::{Known, is_known, link, nothing_known};
-use crate::work::{Edge, Told, pass, pass_site, show};
+use crate::closing::close_told;
+use crate::found::Found;
+use crate::index::{Index, numbers_at};
+use crate::news::{Bases, load_news, load_whole, no_bases};
+use crate::reads::close_reads;
+use crate::runs::close_runs;
+use crate::uses::{Due, Uses, clear, is_nothing, nothing_due, uses_of, wake};
+use crate::work::{Edge, Read, Run, Write, pass};
+use crate::writes::close_writes;
 use fact_model::Facts;
-use kaba_base::ClassId;
-use kaba_bits::{BitRow, empty_rows, row_at};
+use kaba_bits::BitRow;
 use std::alloc::{AllocError, Global};
-use std::collections::VecDeque;
 
-/// The sets that grew and were not gone over since, each once; the inclusions found, their numbers by the set that they
-/// begin in and by both ends; the points in which one begins that asks for a class; and of each point the sites that were
-/// gone over.
-#[derive(Drop)]
-struct Lists {
-    waiting: VecDeque<usize>,
-    waits: Vec<bool>,
-    edges: Vec<Edge>,
-    of_sets: Vec<Vec<usize>>,
-    known: Known,
-    asks: Vec<bool>,
-    begun: Vec<BitRow>,
-}
-
-/// A set waits, unless it does already. An error comes only for want of memory.
-fn wake(lists: &mut Lists, n: usize) -> Result<(), AllocError>
-    ensures { lists.new.edges ≡ lists.old.edges }
-{
-    if n < lists.waits.len() && !lists.waits[n] {
-        lists.waits[n] = true;
-        lists.waiting.push_back(n)?;
+/// Takes out the first set that grew, from one on or else of all.
+fn next(grown: &mut BitRow, at: u32) -> Option<u32> {
+    let n = match grown.next(at) {
+        Some(n) => n,
+        None => grown.next(0)?,
+    };
+    if n < grown.width() {
+        grown.remove(n);
     }
-    Ok(())
+    Some(n)
 }
 
 /// The inclusion of a number.
-fn edge_at(facts: &Facts, lists: &Lists, i: usize) -> Option<Edge>
-    requires { All (IsEdge facts.now) lists.now.edges.items }
+fn edge_at(facts: &Facts, found: &Found, i: usize) -> Option<Edge>
+    requires { AreFound facts.now found.now }
     ensures { IfSome result (IsEdge facts.now) }
 {
     let _ = facts;
-    if i < lists.edges.len() {
-        Some(lists.edges[i])
+    if i < found.edges.len() {
+        Some(found.edges[i])
     } else {
         None
     }
 }
 
-/// Notes the number of an inclusion. An error comes only for want of memory.
-fn note_edge(alloc: Global, lists: &mut Lists, x: Edge, at: usize) -> Result<(), AllocError>
-    ensures { lists.new.edges ≡ lists.old.edges }
-{
-    note(&mut lists.of_sets, x.from, at)?;
-    if x.class.is_some() && x.from < lists.asks.len() {
-        lists.asks[x.from] = true;
-    }
-    link(alloc, &mut lists.known, &lists.edges)
-}
-
-/// Keeps an inclusion for what comes later. An error comes only for want of memory.
-fn keep(alloc: Global, facts: &Facts, lists: &mut Lists, x: Edge) -> Result<(), AllocError>
-    requires edges { All (IsEdge facts.now) lists.old.edges.items }
-    requires edge { IsEdge facts.now x }
-    ensures { OnOk result (All (IsEdge facts.now) lists.new.edges.items) }
-{
-    let at = lists.edges.len();
-    lists.edges.push(x)?;
-    note_edge(alloc, lists, x, at)?;
-    Ok(())
-}
-
-/// An inclusion that was found: what is there is passed on, and it is kept. An error comes only for want of memory.
-fn take_edge(
+/// What is in a set along each inclusion that begins there. An error comes only for want of memory.
+fn pass_all(
     alloc: Global,
     facts: &Facts,
-    above: &[BitRow],
-    sets: &mut [BitRow],
-    lists: &mut Lists,
-    x: Edge,
-) -> Result<(), AllocError>
-    requires facts { InRange facts.now }
-    requires above { AreSitesAbove facts.now (length facts.now.sites.items) above.now }
-    requires sets { AreSound facts.now sets.old }
-    requires edges { All (IsEdge facts.now) lists.old.edges.items }
-    requires edge { IsEdge facts.now x }
-    ensures sets { OnOk result (AreSound facts.now sets.new) }
-    ensures edges { OnOk result (All (IsEdge facts.now) lists.new.edges.items) }
-{
-    if is_known(&lists.known, &lists.edges, x) {
-        return Ok(());
-    }
-    keep(alloc, facts, lists, x)?;
-    if pass(facts, above, sets, x) {
-        wake(lists, x.to)?;
-    }
-    Ok(())
-}
-
-/// Each inclusion of a list. An error comes only for want of memory.
-fn take_edges(
-    alloc: Global,
-    facts: &Facts,
-    above: &[BitRow],
-    sets: &mut [BitRow],
-    lists: &mut Lists,
-    list: &[Edge],
-) -> Result<(), AllocError>
-    requires facts { InRange facts.now }
-    requires above { AreSitesAbove facts.now (length facts.now.sites.items) above.now }
-    requires sets { AreSound facts.now sets.old }
-    requires edges { All (IsEdge facts.now) lists.old.edges.items }
-    requires list { All (IsEdge facts.now) list.now }
-    ensures sets { OnOk result (AreSound facts.now sets.new) }
-    ensures edges { OnOk result (All (IsEdge facts.now) lists.new.edges.items) }
-{
-    for x in list {
-        take_edge(alloc, facts, above, sets, lists, *x)?;
-    }
-    Ok(())
-}
-
-/// Each site of a list. An error comes only for want of memory.
-fn take_told(
-    facts: &Facts,
-    sets: &mut [BitRow],
-    lists: &mut Lists,
-    list: &[Told],
-) -> Result<(), AllocError>
-    requires facts { InRange facts.now }
-    requires sets { AreSound facts.now sets.old }
-    requires edges { All (IsEdge facts.now) lists.old.edges.items }
-    requires list { All (IsTold facts.now) list.now }
-    ensures sets { OnOk result (AreSound facts.now sets.new) }
-    ensures edges { OnOk result (All (IsEdge facts.now) lists.new.edges.items) }
-{
-    for x in list {
-        if show(facts, sets, *x) {
-            wake(lists, x.node)?;
-        }
-    }
-    Ok(())
-}
-
-/// What was found. An error comes only for want of memory.
-fn take(
-    alloc: Global,
-    facts: &Facts,
-    above: &[BitRow],
-    sets: &mut [BitRow],
-    lists: &mut Lists,
-    found: &Found,
-) -> Result<(), AllocError>
-    requires facts { InRange facts.now }
-    requires above { AreSitesAbove facts.now (length facts.now.sites.items) above.now }
-    requires sets { AreSound facts.now sets.old }
-    requires edges { All (IsEdge facts.now) lists.old.edges.items }
-    requires found { AreFound facts.now found.now }
-    ensures sets { OnOk result (AreSound facts.now sets.new) }
-    ensures edges { OnOk result (All (IsEdge facts.now) lists.new.edges.items) }
-{
-    take_edges(alloc, facts, above, sets, lists, &found.edges)?;
-    take_told(facts, sets, lists, &found.told)?;
-    Ok(())
-}
-
-/// Whether sites that are new in a set are gone over one by one.
-fn has_use(index: &Index, lists: &Lists, n: usize) -> bool {
-    begins_at(&index.begins, n).len() > 0 || (n < lists.asks.len() && lists.asks[n])
-}
-
-/// The sites of a point that were not gone over, where some use is made of them. From then on they were. An error comes only for want of memory.
-fn take_news(
-    alloc: Global,
     index: &Index,
-    sets: &[BitRow],
-    lists: &mut Lists,
-    p: usize,
-) -> Result<Vec<u32>, AllocError>
-    ensures { lists.new.edges ≡ lists.old.edges }
+    found: &Found,
+    sets: &mut [BitRow],
+    grown: &mut BitRow,
+    list: &[usize],
+) -> Result<(), AllocError>
+    requires index { IsIndex facts.now index.now }
+    requires found { AreFound facts.now found.now }
+    requires sets { AreSound facts.now sets.old }
+    ensures { OnOk result (AreSound facts.now sets.new) }
 {
-    let mut news = Vec::new(alloc);
-    if has_use(index, lists, p) && p < lists.begun.len() && p < sets.len() {
-        let begun = &mut lists.begun[p];
-        let set = row_at(sets, p);
-        if begun.width() == set.width() {
-            list_news(set, begun, &mut news)?;
-            begun.or_into(set);
+    for i in list {
+        if let Some(edge) = edge_at(facts, found, *i) {
+            pass(alloc, facts, &index.below, sets, grown, edge)?;
         }
     }
-    Ok(news)
+    Ok(())
 }
 
-/// The numbers of a set that are not in another, at the end of a list. An error comes only for want of memory.
-fn list_news(set: &BitRow, begun: &BitRow, news: &mut Vec<u32>) -> Result<(), AllocError>
-    requires { length set.now ≡ length begun.now }
+/// Passes on what grew, until nothing passes any more, and notes what else it concerns. An error comes only for want of memory.
+fn flow(
+    alloc: Global,
+    facts: &Facts,
+    index: &Index,
+    found: &Found,
+    uses: &Uses,
+    sets: &mut [BitRow],
+    grown: &mut BitRow,
+    due: &mut Due,
+) -> Result<(), AllocError>
+    requires index { IsIndex facts.now index.now }
+    requires found { AreFound facts.now found.now }
+    requires sets { AreSound facts.now sets.old }
+    ensures { OnOk result (AreSound facts.now sets.new) }
 {
-    let width = set.width();
     let mut at = 0;
-    'scan: while at < width {
-        match set.next_beyond(begun, at) {
-            Some(s) => {
-                news.push(s)?;
-                at = s + 1;
+    for _turn in 0..u64::MAX {
+        match next(grown, at) {
+            Some(n) => {
+                at = n;
+                wake(uses, due, n as usize);
+                pass_all(
+                    alloc,
+                    facts,
+                    index,
+                    found,
+                    sets,
+                    grown,
+                    numbers_at(&uses.edges, n as usize),
+                )?;
             }
             None => return Ok(()),
         }
@@ -220,177 +106,293 @@ fn list_news(set: &BitRow, begun: &BitRow, news: &mut Vec<u32>) -> Result<(), Al
     Ok(())
 }
 
-/// Sites that are new in a set along an inclusion that asks for a class, and whether one is new where it ends.
-fn pass_news(
-    facts: &Facts,
-    above: &[BitRow],
-    sets: &mut [BitRow],
-    edge: Edge,
-    class: ClassId,
-    news: &[u32],
-) -> bool
-    requires above { AreSitesAbove facts.now (length facts.now.sites.items) above.now }
-    requires sets { AreSound facts.now sets.old }
-    requires edge { IsEdge facts.now edge }
-    requires class { edge.class ≡ Some class }
-    ensures { AreSound facts.now sets.new }
+/// The read of a number.
+fn read_at(facts: &Facts, found: &Found, k: usize) -> Option<Read>
+    requires { AreFound facts.now found.now }
+    ensures { IfSome result (IsRead facts.now) }
 {
-    let mut grew = false;
-    for s in news {
-        grew |= pass_site(facts, above, sets, edge, class, *s);
-    }
-    grew
-}
-
-/// What is in a set along one of its inclusions, or where that asks for a class what is new, and whether it is new where it ends.
-fn pass_on(facts: &Facts, above: &[BitRow], sets: &mut [BitRow], edge: Edge, news: &[u32]) -> bool
-    requires facts { InRange facts.now }
-    requires above { AreSitesAbove facts.now (length facts.now.sites.items) above.now }
-    requires sets { AreSound facts.now sets.old }
-    requires edge { IsEdge facts.now edge }
-    ensures { AreSound facts.now sets.new }
-{
-    match edge.class {
-        Some(class) => pass_news(facts, above, sets, edge, class, news),
-        None => pass(facts, above, sets, edge),
+    let _ = facts;
+    if k < found.reads.len() {
+        Some(found.reads[k])
+    } else {
+        None
     }
 }
 
-/// The number of the inclusion that was noted at the place `k` of a set.
-fn noted_at(lists: &Lists, n: usize, k: usize) -> usize {
-    let list = numbers_at(&lists.of_sets, n);
-    if k < list.len() { list[k] } else { usize::MAX }
-}
-
-/// What is in a set along each inclusion that begins there. An error comes only for want of memory.
-fn pass_all(
-    facts: &Facts,
-    above: &[BitRow],
-    sets: &mut [BitRow],
-    lists: &mut Lists,
-    n: usize,
-    news: &[u32],
-) -> Result<(), AllocError>
-    requires facts { InRange facts.now }
-    requires above { AreSitesAbove facts.now (length facts.now.sites.items) above.now }
-    requires sets { AreSound facts.now sets.old }
-    requires edges { All (IsEdge facts.now) lists.old.edges.items }
-    ensures sets { OnOk result (AreSound facts.now sets.new) }
-    ensures edges { OnOk result (All (IsEdge facts.now) lists.new.edges.items) }
+/// The read of a number at the end of a list. An error comes only for want of memory.
+fn add_read(facts: &Facts, found: &Found, list: &mut Vec<Read>, k: usize) -> Result<(), AllocError>
+    requires found { AreFound facts.now found.now }
+    requires list { All (IsRead facts.now) list.old.items }
+    ensures { OnOk result (All (IsRead facts.now) list.new.items) }
 {
-    for k in 0..numbers_at(&lists.of_sets, n).len() {
-        let at = noted_at(lists, n, k);
-        if let Some(edge) = edge_at(facts, lists, at) {
-            if pass_on(facts, above, sets, edge, news) {
-                wake(lists, edge.to)?;
-            }
-        }
+    if let Some(x) = read_at(facts, found, k) {
+        list.push(x)?;
     }
     Ok(())
 }
 
-/// What sites that are new in a point begin. An error comes only for want of memory.
-fn begin_news(
+/// The reads of these numbers. An error comes only for want of memory.
+fn reads_of(
+    alloc: Global,
+    facts: &Facts,
+    found: &Found,
+    due: &BitRow,
+) -> Result<Vec<Read>, AllocError>
+    requires { AreFound facts.now found.now }
+    ensures { IfOk result (λ v. All (IsRead facts.now) v.items) }
+{
+    let numbers = due.rising(alloc)?;
+    let mut list = Vec::new(alloc);
+    for k in &numbers {
+        add_read(facts, found, &mut list, *k as usize)?;
+    }
+    Ok(list)
+}
+
+/// The write of a number.
+fn write_at(facts: &Facts, found: &Found, k: usize) -> Option<Write>
+    requires { AreFound facts.now found.now }
+    ensures { IfSome result (IsWrite facts.now) }
+{
+    let _ = facts;
+    if k < found.writes.len() {
+        Some(found.writes[k])
+    } else {
+        None
+    }
+}
+
+/// The write of a number at the end of a list. An error comes only for want of memory.
+fn add_write(
+    facts: &Facts,
+    found: &Found,
+    list: &mut Vec<Write>,
+    k: usize,
+) -> Result<(), AllocError>
+    requires found { AreFound facts.now found.now }
+    requires list { All (IsWrite facts.now) list.old.items }
+    ensures { OnOk result (All (IsWrite facts.now) list.new.items) }
+{
+    if let Some(x) = write_at(facts, found, k) {
+        list.push(x)?;
+    }
+    Ok(())
+}
+
+/// The writes of these numbers. An error comes only for want of memory.
+fn writes_of(
+    alloc: Global,
+    facts: &Facts,
+    found: &Found,
+    due: &BitRow,
+) -> Result<Vec<Write>, AllocError>
+    requires { AreFound facts.now found.now }
+    ensures { IfOk result (λ v. All (IsWrite facts.now) v.items) }
+{
+    let numbers = due.rising(alloc)?;
+    let mut list = Vec::new(alloc);
+    for k in &numbers {
+        add_write(facts, found, &mut list, *k as usize)?;
+    }
+    Ok(list)
+}
+
+/// The run of a number.
+fn run_at(facts: &Facts, found: &Found, k: usize) -> Option<Run>
+    requires { AreFound facts.now found.now }
+    ensures { IfSome result (IsRun facts.now) }
+{
+    let _ = facts;
+    if k < found.runs.len() {
+        Some(found.runs[k])
+    } else {
+        None
+    }
+}
+
+/// The run of a number at the end of a list. An error comes only for want of memory.
+fn add_run(facts: &Facts, found: &Found, list: &mut Vec<Run>, k: usize) -> Result<(), AllocError>
+    requires found { AreFound facts.now found.now }
+    requires list { All (IsRun facts.now) list.old.items }
+    ensures { OnOk result (All (IsRun facts.now) list.new.items) }
+{
+    if let Some(x) = run_at(facts, found, k) {
+        list.push(x)?;
+    }
+    Ok(())
+}
+
+/// The runs of these numbers. An error comes only for want of memory.
+fn runs_of(
+    alloc: Global,
+    facts: &Facts,
+    found: &Found,
+    due: &BitRow,
+) -> Result<Vec<Run>, AllocError>
+    requires { AreFound facts.now found.now }
+    ensures { IfOk result (λ v. All (IsRun facts.now) v.items) }
+{
+    let numbers = due.rising(alloc)?;
+    let mut list = Vec::new(alloc);
+    for k in &numbers {
+        add_run(facts, found, &mut list, *k as usize)?;
+    }
+    Ok(list)
+}
+
+/// What is new in the bases that grew. An error comes only for want of memory.
+fn load_bases(
+    alloc: Global,
+    facts: &Facts,
+    sets: &[BitRow],
+    bases: &mut Bases,
+    due: &BitRow,
+) -> Result<(), AllocError>
+    requires facts { InRange facts.now }
+    requires sets { AreSound facts.now sets.now }
+    requires now { AreSound facts.now bases.old.now.items }
+    ensures { OnOk result (AreSound facts.now bases.new.now.items) }
+{
+    let numbers = due.rising(alloc)?;
+    for p in &numbers {
+        load_news(facts, sets, bases, *p as usize);
+    }
+    Ok(())
+}
+
+/// The reads, writes and runs of bases that grew, for what is new there. An error comes only for want of memory.
+fn turn_news(
     alloc: Global,
     facts: &Facts,
     index: &Index,
-    bodies: &Bodies,
+    found: &Found,
+    bases: &mut Bases,
     sets: &mut [BitRow],
-    lists: &mut Lists,
-    p: usize,
-    news: &[u32],
+    grown: &mut BitRow,
+    due: &Due,
 ) -> Result<(), AllocError>
     requires facts { InRange facts.now }
     requires index { IsIndex facts.now index.now }
-    requires bodies { AreBodies facts.now bodies.now }
+    requires found { AreFound facts.now found.now }
+    requires now { AreSound facts.now bases.old.now.items }
     requires sets { AreSound facts.now sets.old }
-    requires edges { All (IsEdge facts.now) lists.old.edges.items }
+    ensures now { OnOk result (AreSound facts.now bases.new.now.items) }
     ensures sets { OnOk result (AreSound facts.now sets.new) }
-    ensures edges { OnOk result (All (IsEdge facts.now) lists.new.edges.items) }
 {
-    if p < facts.points.len() && begins_at(&index.begins, p).len() > 0 {
-        let mut found = nothing(alloc);
-        begin_sites(facts, index, bodies, sets, &mut found, p as u32, news)?;
-        take(alloc, facts, &index.above, sets, lists, &found)?;
-    }
+    let reads = reads_of(alloc, facts, found, &due.reads)?;
+    let writes = writes_of(alloc, facts, found, &due.writes)?;
+    let runs = runs_of(alloc, facts, found, &due.runs)?;
+    load_bases(alloc, facts, sets, bases, &due.bases)?;
+    close_reads(alloc, facts, index, &bases.now, sets, grown, &reads)?;
+    close_writes(alloc, facts, index, &bases.now, sets, grown, &writes)?;
+    close_runs(alloc, facts, index, &bases.now, sets, grown, &runs)?;
     Ok(())
 }
 
-/// One turn: what is in a set is passed on, and what is new in a point begins what it can. An error comes only for want of memory.
+/// All that is in the base of each read.
+fn load_reads(facts: &Facts, sets: &[BitRow], bases: &mut Bases, reads: &[Read])
+    requires facts { InRange facts.now }
+    requires sets { AreSound facts.now sets.now }
+    requires now { AreSound facts.now bases.old.now.items }
+    ensures { AreSound facts.now bases.new.now.items }
+{
+    for x in reads {
+        load_whole(facts, sets, bases, x.base as usize);
+    }
+}
+
+/// All that is in the base of each write.
+fn load_writes(facts: &Facts, sets: &[BitRow], bases: &mut Bases, writes: &[Write])
+    requires facts { InRange facts.now }
+    requires sets { AreSound facts.now sets.now }
+    requires now { AreSound facts.now bases.old.now.items }
+    ensures { AreSound facts.now bases.new.now.items }
+{
+    for x in writes {
+        load_whole(facts, sets, bases, x.base as usize);
+    }
+}
+
+/// The reads of members that grew, and the writes of values that did. An error comes only for want of memory.
+fn turn_whole(
+    alloc: Global,
+    facts: &Facts,
+    index: &Index,
+    found: &Found,
+    bases: &mut Bases,
+    sets: &mut [BitRow],
+    grown: &mut BitRow,
+    due: &Due,
+) -> Result<(), AllocError>
+    requires facts { InRange facts.now }
+    requires index { IsIndex facts.now index.now }
+    requires found { AreFound facts.now found.now }
+    requires now { AreSound facts.now bases.old.now.items }
+    requires sets { AreSound facts.now sets.old }
+    ensures now { OnOk result (AreSound facts.now bases.new.now.items) }
+    ensures sets { OnOk result (AreSound facts.now sets.new) }
+{
+    let reads = reads_of(alloc, facts, found, &due.whole_reads)?;
+    let writes = writes_of(alloc, facts, found, &due.whole_writes)?;
+    load_reads(facts, sets, bases, &reads);
+    load_writes(facts, sets, bases, &writes);
+    close_reads(alloc, facts, index, &bases.now, sets, grown, &reads)?;
+    close_writes(alloc, facts, index, &bases.now, sets, grown, &writes)?;
+    Ok(())
+}
+
+/// What has to be gone over. An error comes only for want of memory.
 fn turn(
     alloc: Global,
     facts: &Facts,
     index: &Index,
-    bodies: &Bodies,
+    found: &Found,
+    bases: &mut Bases,
     sets: &mut [BitRow],
-    lists: &mut Lists,
-    n: usize,
+    grown: &mut BitRow,
+    due: &mut Due,
 ) -> Result<(), AllocError>
     requires facts { InRange facts.now }
     requires index { IsIndex facts.now index.now }
-    requires bodies { AreBodies facts.now bodies.now }
+    requires found { AreFound facts.now found.now }
+    requires now { AreSound facts.now bases.old.now.items }
     requires sets { AreSound facts.now sets.old }
-    requires edges { All (IsEdge facts.now) lists.old.edges.items }
+    ensures now { OnOk result (AreSound facts.now bases.new.now.items) }
     ensures sets { OnOk result (AreSound facts.now sets.new) }
-    ensures edges { OnOk result (All (IsEdge facts.now) lists.new.edges.items) }
 {
-    let news = take_news(alloc, index, sets, lists, n)?;
-    pass_all(facts, &index.above, sets, lists, n, &news)?;
-    begin_news(alloc, facts, index, bodies, sets, lists, n, &news)?;
+    turn_news(alloc, facts, index, found, bases, sets, grown, due)?;
+    turn_whole(alloc, facts, index, found, bases, sets, grown, due)?;
+    clear(due);
     Ok(())
 }
 
-/// Takes out the set that began to wait first.
-fn next(lists: &mut Lists) -> Option<usize>
-    ensures { lists.new.edges ≡ lists.old.edges }
-{
-    let n = lists.waiting.pop_front()?;
-    if n < lists.waits.len() {
-        lists.waits[n] = false;
-    }
-    Some(n)
-}
-
-/// Turns, until nothing waits. An error comes only for want of memory.
+/// Turns, until nothing has to be gone over. An error comes only for want of memory.
 fn run(
     alloc: Global,
     facts: &Facts,
     index: &Index,
-    bodies: &Bodies,
+    found: &Found,
+    uses: &Uses,
+    bases: &mut Bases,
     sets: &mut [BitRow],
-    lists: &mut Lists,
+    grown: &mut BitRow,
+    due: &mut Due,
 ) -> Result<(), AllocError>
     requires facts { InRange facts.now }
+    requires now { AreSound facts.now bases.old.now.items }
     requires index { IsIndex facts.now index.now }
-    requires bodies { AreBodies facts.now bodies.now }
+    requires found { AreFound facts.now found.now }
     requires sets { AreSound facts.now sets.old }
-    requires edges { All (IsEdge facts.now) lists.old.edges.items }
     ensures { OnOk result (AreSound facts.now sets.new) }
 {
     for _turn in 0..u64::MAX {
-        match next(lists) {
-            Some(n) => turn(alloc, facts, index, bodies, sets, lists, n)?,
-            None => return Ok(()),
+        flow(alloc, facts, index, found, uses, sets, grown, due)?;
+        if is_nothing(due) {
+            return Ok(());
         }
+        turn(alloc, facts, index, found, bases, sets, grown, due)?;
     }
     Ok(())
-}
-
-/// Nothing found so far. An error comes only for want of memory.
-fn empty_lists(alloc: Global, facts: &Facts) -> Result<Lists, AllocError>
-    requires { InRange facts.now }
-    ensures { IfOk result (λ x. x.edges.items ≡ []) }
-{
-    let count = facts.points.len() + facts.cells.len();
-    Ok(Lists {
-        waiting: VecDeque::new(alloc),
-        waits: vec![in alloc; false; count]?,
-        edges: Vec::new(alloc),
-        of_sets: empty(alloc, count)?,
-        known: nothing_known(alloc),
-        asks: vec![in alloc; false; count]?,
-        begun: empty_rows(alloc, facts.points.len(), facts.sites.len() as u32)?,
-    })
 }
 
 /// The sets, as far as the worklist finds them. An error comes only for want of memory.
@@ -398,19 +400,22 @@ pub fn grow(
     alloc: Global,
     facts: &Facts,
     index: &Index,
-    bodies: &Bodies,
-    fixed: &Found,
+    found: &Found,
     sets: &mut [BitRow],
+    grown: &mut BitRow,
 ) -> Result<(), AllocError>
     requires facts { InRange facts.now }
     requires index { IsIndex facts.now index.now }
-    requires bodies { AreBodies facts.now bodies.now }
-    requires fixed { AreFound facts.now fixed.now }
+    requires found { AreFound facts.now found.now }
     requires sets { AreSound facts.now sets.old }
     ensures { OnOk result (AreSound facts.now sets.new) }
 {
-    let mut lists = empty_lists(alloc, facts)?;
-    take(alloc, facts, &index.above, sets, &mut lists, fixed)?;
-    run(alloc, facts, index, bodies, sets, &mut lists)?;
+    close_told(facts, sets, grown, &found.told);
+    let uses = uses_of(alloc, facts, found)?;
+    let mut due = nothing_due(alloc, found, &uses)?;
+    let mut bases = no_bases(alloc, facts)?;
+    run(
+        alloc, facts, index, found, &uses, &mut bases, sets, grown, &mut due,
+    )?;
     Ok(())
 }

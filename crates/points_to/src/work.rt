@@ -1,19 +1,19 @@
-//! The inclusions that the rules ask for, and what passes along one.
+//! What the rules ask for, and what it adds to the sets.
 
-ghost use Rattle.std.specs.Prelude.{◌≡◌, ℕ, ◌+◌, ◌<◌, ◌≤◌, ◌↔◌, true, length, Some, IsTrue, IfSome, MatchOption};
+ghost use Rattle.std.specs.Prelude.{◌≡◌, ℕ, ◌<◌, ◌↔◌, true, length, IfOk, OnOk};
 ghost use Rattle.std.specs.Bool.{OnFalse};
-ghost use Rattle.kaba_bits.specs.Sets.{bit, row, IsSubset, IsStep, IsNoneFrom};
+ghost use Rattle.kaba_bits.specs.Sets.{bit, row, IsSubset, IsStep};
 ghost use Rattle.fact_model.specs.Items.{site_at, site_class};
 ghost use Rattle.fact_model.specs.Classes.{IsBelow};
-ghost use Rattle.fact_model.specs.InRange.{InRange};
-ghost use Rattle.points_to.specs.Above.{AreSitesAbove};
+ghost use Rattle.fact_model.specs.InRange.{IsClass};
+ghost use Rattle.points_to.specs.Above.{AreSitesBelow};
 ghost use Rattle.points_to.specs.Sound.{node_count, AreSound, InNode};
-ghost use Rattle.points_to.specs.Work.{Passes, IsEdge, IsPassed, IsEdgeClosed, IsTold, IsShown};
+ghost use Rattle.points_to.specs.Work.{IsEdge, IsEdgeClosed, IsTold, IsShown};
 
-use crate::above::is_below;
 use fact_model::{Facts, SiteInfo};
-use kaba_base::ClassId;
-use kaba_bits::{BitRow, join, row_at, set_at};
+use kaba_base::{ClassId, ColId};
+use kaba_bits::{BitRow, join, join_with, row_at, set_at};
+use std::alloc::{AllocError, Global};
 
 /// What is in the one set, and has a class at or below the one named, is in the other. Sets are numbered: first those
 /// of the points, and then those of the cells.
@@ -31,6 +31,39 @@ pub struct Told {
     pub site: u32,
 }
 
+/// What belongs to a site and is read or written: its cell at a field, or with no column that of its elements, and of the body that
+/// its class runs for a slot the `this`, a parameter, and the result.
+#[derive(Clone, Copy, PartialEq, Eq)]
+pub enum Member {
+    Field(Option<ColId>),
+    This(u32),
+    Parameter(u32, usize),
+    Returned(u32),
+}
+
+/// For each site in the base, what is in its member is in a point.
+#[derive(Clone, Copy)]
+pub struct Read {
+    pub base: u32,
+    pub member: Member,
+    pub into: u32,
+}
+
+/// For each site in the base, what is in a point, and fits, is in its member.
+#[derive(Clone, Copy)]
+pub struct Write {
+    pub base: u32,
+    pub member: Member,
+    pub value: u32,
+}
+
+/// Each site in the base is in the `this` of the body that its class runs for the slot.
+#[derive(Clone, Copy)]
+pub struct Run {
+    pub base: u32,
+    pub slot: u32,
+}
+
 /// One site.
 pub fn site_at(facts: &Facts, s: u32) -> SiteInfo
     requires { s < length facts.now.sites.items }
@@ -39,25 +72,15 @@ pub fn site_at(facts: &Facts, s: u32) -> SiteInfo
     facts.sites[s as usize]
 }
 
-/// Whether a site is in a set, and its class is at or below another. The rows have what is at or above the class of each site.
-fn passes(facts: &Facts, above: &[BitRow], set: &BitRow, s: u32, class: ClassId) -> bool
-    requires above { AreSitesAbove facts.now (length facts.now.sites.items) above.now }
-    requires width { length set.now ≡ length facts.now.sites.items }
-    ensures { IsTrue result ↔ ((bit set.now s ≡ true) × IsBelow facts.now (site_class facts.now s) class.0) }
-{
-    if (s as usize) >= facts.sites.len() || !set.has(s) {
-        return false;
+/// Marks a set that grew.
+fn mark(grown: &mut BitRow, n: usize) {
+    if n < grown.width() as usize {
+        grown.set(n as u32);
     }
-    is_below(
-        facts,
-        row_at(above, s as usize),
-        site_at(facts, s).class,
-        class,
-    )
 }
 
 /// One site into a set, and whether it is new there.
-fn put(facts: &Facts, sets: &mut [BitRow], n: usize, s: u32) -> bool
+pub fn put(facts: &Facts, sets: &mut [BitRow], grown: &mut BitRow, n: usize, s: u32) -> bool
     requires sets { AreSound facts.now sets.old }
     requires node { n < node_count facts.now }
     requires site { s < length facts.now.sites.items }
@@ -66,11 +89,15 @@ fn put(facts: &Facts, sets: &mut [BitRow], n: usize, s: u32) -> bool
     ensures step { IsStep sets.old sets.new result }
     ensures has { bit (row sets.new n) s ≡ true }
 {
-    set_at(sets, n, s)
+    let grew = set_at(sets, n, s);
+    if grew {
+        mark(grown, n);
+    }
+    grew
 }
 
 /// One set into another, and whether that grew.
-fn include(facts: &Facts, sets: &mut [BitRow], from: usize, to: usize) -> bool
+fn include(facts: &Facts, sets: &mut [BitRow], grown: &mut BitRow, from: usize, to: usize) -> bool
     requires sets { AreSound facts.now sets.old }
     requires from { from < node_count facts.now }
     requires to { to < node_count facts.now }
@@ -79,99 +106,108 @@ fn include(facts: &Facts, sets: &mut [BitRow], from: usize, to: usize) -> bool
     ensures step { IsStep sets.old sets.new result }
     ensures closed { OnFalse result (IsSubset (row sets.new from) (row sets.new to)) }
 {
-    join(sets, from, to)
-}
-
-/// The least site of a set from one on.
-fn next_site(facts: &Facts, sets: &[BitRow], n: usize, at: u32) -> Option<u32>
-    requires sets { AreSound facts.now sets.now }
-    requires node { n < node_count facts.now }
-    ensures low { IfSome result (λ s. at ≤ s) }
-    ensures site { IfSome result (λ s. s < length facts.now.sites.items) }
-    ensures least { MatchOption result (IsNoneFrom (bit (row sets.now n)) at (length facts.now.sites.items)) (λ s. IsNoneFrom (bit (row sets.now n)) at s) }
-{
-    let _ = facts;
-    row_at(sets, n).next(at)
-}
-
-/// One site along an inclusion that asks for a class.
-pub fn pass_site(
-    facts: &Facts,
-    above: &[BitRow],
-    sets: &mut [BitRow],
-    edge: Edge,
-    class: ClassId,
-    s: u32,
-) -> bool
-    requires above { AreSitesAbove facts.now (length facts.now.sites.items) above.now }
-    requires sets { AreSound facts.now sets.old }
-    requires edge { IsEdge facts.now edge }
-    requires class { edge.class ≡ Some class }
-    ensures sets { AreSound facts.now sets.new }
-    ensures step { IsStep sets.old sets.new result }
-    ensures closed { OnFalse result (IsPassed facts.now edge sets.new s) }
-{
-    if !passes(facts, above, row_at(sets, edge.from), s, class) {
-        return false;
-    }
-    put(facts, sets, edge.to, s)
-}
-
-/// Each site of a set along an inclusion that asks for a class.
-fn pass_fitting(
-    facts: &Facts,
-    above: &[BitRow],
-    sets: &mut [BitRow],
-    edge: Edge,
-    class: ClassId,
-) -> bool
-    requires facts { InRange facts.now }
-    requires above { AreSitesAbove facts.now (length facts.now.sites.items) above.now }
-    requires sets { AreSound facts.now sets.old }
-    requires edge { IsEdge facts.now edge }
-    requires class { edge.class ≡ Some class }
-    ensures sets { AreSound facts.now sets.new }
-    ensures step { IsStep sets.old sets.new result }
-    ensures closed { OnFalse result (IsEdgeClosed facts.now sets.new edge) }
-{
-    let width = facts.sites.len() as u32;
-    let mut grew = false;
-    let mut at = 0;
-    'scan: while at < width {
-        match next_site(facts, sets, edge.from, at) {
-            Some(s) => {
-                grew |= pass_site(facts, above, sets, edge, class, s);
-                at = s + 1;
-            }
-            None => return grew,
-        }
+    let grew = join(sets, from, to);
+    if grew {
+        mark(grown, to);
     }
     grew
 }
 
-/// What is in the set so far along an inclusion, and whether it is new there.
-pub fn pass(facts: &Facts, above: &[BitRow], sets: &mut [BitRow], edge: Edge) -> bool
-    requires facts { InRange facts.now }
-    requires above { AreSitesAbove facts.now (length facts.now.sites.items) above.now }
+/// A row of sites into a set, and whether that grew.
+pub fn include_row(
+    facts: &Facts,
+    sets: &mut [BitRow],
+    grown: &mut BitRow,
+    extra: &BitRow,
+    to: usize,
+) -> bool
     requires sets { AreSound facts.now sets.old }
-    requires edge { IsEdge facts.now edge }
+    requires width { length extra.now ≡ length facts.now.sites.items }
+    requires to { to < node_count facts.now }
+    requires holds { (s : ℕ) → bit extra.now s ≡ true → InNode facts.now to s }
     ensures sets { AreSound facts.now sets.new }
     ensures step { IsStep sets.old sets.new result }
-    ensures closed { OnFalse result (IsEdgeClosed facts.now sets.new edge) }
+    ensures closed { OnFalse result (IsSubset extra.now (row sets.new to)) }
+{
+    let grew = join_with(sets, to, extra);
+    if grew {
+        mark(grown, to);
+    }
+    grew
+}
+
+/// Those of a set whose class is at or below one. An error comes only for want of memory.
+pub fn fit(
+    alloc: Global,
+    facts: &Facts,
+    below: &[BitRow],
+    set: &BitRow,
+    class: ClassId,
+) -> Result<BitRow, AllocError>
+    requires below { AreSitesBelow facts.now (length facts.now.sites.items) below.now }
+    requires class { IsClass facts.now class }
+    requires width { length set.now ≡ length facts.now.sites.items }
+    ensures width { IfOk result (λ r. length r ≡ length facts.now.sites.items) }
+    ensures sound { IfOk result (λ r. (s : ℕ) → bit r s ≡ true → (bit set.now s ≡ true) × IsBelow facts.now (site_class facts.now s) class.0) }
+    ensures whole { IfOk result (λ r. (s : ℕ) → bit set.now s ≡ true → IsBelow facts.now (site_class facts.now s) class.0 → bit r s ≡ true) }
+{
+    let _ = facts;
+    let mut row = set.copy(alloc)?;
+    row.and_into(row_at(below, class.0 as usize));
+    Ok(row)
+}
+
+/// What fits of a set along an inclusion that asks for a class, and whether it is new there. An error comes only for want of memory.
+fn pass_fitting(
+    alloc: Global,
+    facts: &Facts,
+    below: &[BitRow],
+    sets: &mut [BitRow],
+    grown: &mut BitRow,
+    edge: Edge,
+    class: ClassId,
+) -> Result<bool, AllocError>
+    requires below { AreSitesBelow facts.now (length facts.now.sites.items) below.now }
+    requires sets { AreSound facts.now sets.old }
+    requires edge { IsEdge facts.now edge }
+    requires class { edge.class ≡ Some class }
+    ensures sets { OnOk result (AreSound facts.now sets.new) }
+    ensures step { IfOk result (IsStep sets.old sets.new) }
+    ensures closed { IfOk result (λ grew. OnFalse grew (IsEdgeClosed facts.now sets.new edge)) }
+{
+    let row = fit(alloc, facts, below, row_at(sets, edge.from), class)?;
+    Ok(include_row(facts, sets, grown, &row, edge.to))
+}
+
+/// What is in the set so far along an inclusion, and whether it is new there. An error comes only for want of memory.
+pub fn pass(
+    alloc: Global,
+    facts: &Facts,
+    below: &[BitRow],
+    sets: &mut [BitRow],
+    grown: &mut BitRow,
+    edge: Edge,
+) -> Result<bool, AllocError>
+    requires below { AreSitesBelow facts.now (length facts.now.sites.items) below.now }
+    requires sets { AreSound facts.now sets.old }
+    requires edge { IsEdge facts.now edge }
+    ensures sets { OnOk result (AreSound facts.now sets.new) }
+    ensures step { IfOk result (IsStep sets.old sets.new) }
+    ensures closed { IfOk result (λ grew. OnFalse grew (IsEdgeClosed facts.now sets.new edge)) }
 {
     match edge.class {
-        Some(class) => pass_fitting(facts, above, sets, edge, class),
-        None => include(facts, sets, edge.from, edge.to),
+        Some(class) => pass_fitting(alloc, facts, below, sets, grown, edge, class),
+        None => Ok(include(facts, sets, grown, edge.from, edge.to)),
     }
 }
 
 /// One site into its set, and whether it is new there.
-pub fn show(facts: &Facts, sets: &mut [BitRow], x: Told) -> bool
+pub fn show(facts: &Facts, sets: &mut [BitRow], grown: &mut BitRow, x: Told) -> bool
     requires sets { AreSound facts.now sets.old }
     requires told { IsTold facts.now x }
     ensures sets { AreSound facts.now sets.new }
     ensures step { IsStep sets.old sets.new result }
     ensures shown { OnFalse result (IsShown sets.new x) }
 {
-    put(facts, sets, x.node, x.site)
+    put(facts, sets, grown, x.node, x.site)
 }

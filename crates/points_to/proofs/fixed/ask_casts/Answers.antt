@@ -2,7 +2,8 @@ use Rattle.std.proofs.Common.{◌<◌, length, Contains, arith}
 use Rattle.std.proofs.lemmas.Grind.{common_steps}
 use Rattle.fact_model.specs.declared.facts.CastInfo.{CastInfo}
 use Rattle.points_to.specs.Closed.{IsCastAsked}
-use Rattle.points_to.proofs.LoopLemmas.{within_more, more_then}
+use Rattle.points_to.proofs.LoopLemmas.{within_more}
+use Rattle.points_to.proofs.AskedLemmas.{more_then}
 use Rattle.points_to.proofs.fixed.ask_casts.Goals as goal
 
 pub loop-x-preserved : goal.loop-x-preserved

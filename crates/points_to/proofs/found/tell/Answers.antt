@@ -5,11 +5,12 @@ use Rattle.points_to.proofs.found.tell.Goals as goal
 
 pub returns : goal.returns
 returns c =
+    let before = c.requires.found in
     let xs = c.args.found.now.told.items in
     let x = c.args.x in
     let e = c.in_ok-push.ensures.items in
     record {
-      found = record { edges = c.requires.found.edges; told = rw e (All-push (IsTold c.args.facts.now) xs x c.requires.found.told c.requires.told) };
-      kept = record { edges = λ y h. h; told = λ y h. rw e (Contains-append_left xs (x ∷ []) y h) };
+      found = record { edges = before.edges; told = rw e (All-push (IsTold c.args.facts.now) xs x before.told c.requires.told); reads = before.reads; writes = before.writes; runs = before.runs };
+      kept = record { edges = λ y h. h; told = λ y h. rw e (Contains-append_left xs (x ∷ []) y h); reads = λ y h. h; writes = λ y h. h; runs = λ y h. h };
       here = rw e (Contains-push xs x);
     }

@@ -1,4 +1,4 @@
-use Rattle.points_to.specs.Begun.{KeepNumbers, HaveBodies}
+use Rattle.points_to.specs.Listed.{KeepNumbers, HaveBodies}
 use Rattle.points_to.proofs.index.note_bodies.Given as goal
 
 abbrev pub invariant-loop-b : goal.invariant-loop-b

@@ -1,4 +1,4 @@
-use Rattle.points_to.specs.Begun.{KeepNumbers, HaveCells}
+use Rattle.points_to.specs.Listed.{KeepNumbers, HaveCells}
 use Rattle.points_to.proofs.index.note_cells.Given as goal
 
 abbrev pub invariant-loop-c : goal.invariant-loop-c

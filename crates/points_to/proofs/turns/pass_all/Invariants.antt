@@ -1,10 +1,5 @@
-use Rattle.std.specs.List.{All}
 use Rattle.points_to.specs.Sound.{AreSound}
-use Rattle.points_to.specs.Work.{IsEdge}
 use Rattle.points_to.proofs.turns.pass_all.Given as goal
 
-abbrev pub invariant-loop-k : goal.invariant-loop-k
-invariant-loop-k l = record {
-  sets : AreSound l.facts l.sets;
-  edges : All (IsEdge l.facts) l.lists.edges.items;
-}
+abbrev pub invariant-loop-i : goal.invariant-loop-i
+invariant-loop-i l = AreSound l.facts l.sets

@@ -1,10 +1,8 @@
-use Rattle.std.specs.List.{All}
 use Rattle.points_to.specs.Sound.{AreSound}
-use Rattle.points_to.specs.Work.{IsEdge}
 use Rattle.points_to.proofs.turns.run.Given as goal
 
 abbrev pub invariant-loop-turn : goal.invariant-loop-turn
 invariant-loop-turn l = record {
+  now : AreSound l.facts l.bases.now.items;
   sets : AreSound l.facts l.sets;
-  edges : All (IsEdge l.facts) l.lists.edges.items;
 }

@@ -1,8 +1,0 @@
-use Rattle.points_to.specs.Begun.{KeepBegins, HaveLoads}
-use Rattle.points_to.proofs.index.note_loads.Given as goal
-
-abbrev pub invariant-loop-i : goal.invariant-loop-i
-invariant-loop-i l = record {
-  kept : KeepBegins l.fn.lists l.lists;
-  here : HaveLoads l.facts l.lists l.i;
-}

@@ -1,0 +1,11 @@
+use Rattle.std.proofs.Common.{◌∙◌, sym, arith}
+use Rattle.points_to.proofs.RoundLemmas.{on_true_then}
+use Rattle.points_to.proofs.writes.is_alike.Goals as goal
+
+pub is_same_set-same-requires : goal.is_same_set-same-requires
+is_same_set-same-requires c =
+    let sets = c.requires.bases in
+    rw c.row_at.ensures (c.requires.pending.sites ∙ sym (sets.widths c.args.x.base (omega (arith, c.requires.write.base, sets.len))))
+
+pub returns : goal.returns
+returns c = on_true_then c.is_same_set-same.result (λ s. (c.is_same_member-alike.ensures.0 c.if-not-alike.false, s ∙ c.row_at.ensures)) c.is_same_set-same.ensures

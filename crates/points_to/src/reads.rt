@@ -1,0 +1,207 @@
+//! Reads: what is in a member of the sites of a base. The union over a set of sites is kept from one read to the next, for those of
+//! the same member whose base has all of these sites.
+
+ghost use Rattle.std.specs.Prelude.{◌≡◌, ℕ, ◌<◌, ◌⊎◌, ◌↔◌, Bool, true, List, length, slice_set, All, IsTrue, IfOk, OnOk};
+ghost use Rattle.std.specs.Bool.{OnFalse};
+ghost use Rattle.kaba_bits.specs.Sets.{bit, row, IsSubset, IsStep};
+ghost use Rattle.fact_model.specs.InRange.{InRange};
+ghost use Rattle.points_to.specs.Sound.{node_count, AreSound};
+ghost use Rattle.points_to.specs.Listed.{IsIndex};
+ghost use Rattle.points_to.specs.Work.{IsRead, IsReadClosed};
+ghost use Rattle.points_to.specs.Rounds.{IsIn, IsNextBeyond, IsGathered, IsWhole};
+
+use crate::index::Index;
+use crate::targets::list_targets;
+use crate::work::{Member, Read, include_row};
+use fact_model::Facts;
+use kaba_bits::{BitRow, row_at};
+use std::alloc::{AllocError, Global};
+
+/// What is in a member of these sites.
+#[derive(Drop)]
+pub struct Union {
+    member: Member,
+    sites: BitRow,
+    held: BitRow,
+}
+
+/// That of no sites. An error comes only for want of memory.
+fn no_union(alloc: Global, facts: &Facts) -> Result<Union, AllocError>
+    requires { InRange facts.now }
+    ensures gathered { IfOk result (IsGathered facts.now) }
+    ensures whole { IfOk result (λ u. (sets : List (List Bool)) → IsWhole facts.now sets u) }
+{
+    let width = facts.sites.len() as u32;
+    Ok(Union {
+        member: Member::Field(None),
+        sites: BitRow::new(alloc, width)?,
+        held: BitRow::new(alloc, width)?,
+    })
+}
+
+/// Whether two members are one.
+pub fn is_same_member(a: Member, b: Member) -> bool
+    ensures { IsTrue result ↔ (a ≡ b) }
+{
+    a == b
+}
+
+/// Begins anew, where the union is of another member or of sites beside those of a set.
+fn turn_to(facts: &Facts, union: &mut Union, member: Member, set: &BitRow)
+    requires gathered { IsGathered facts.now union.old }
+    requires width { length set.now ≡ length facts.now.sites.items }
+    ensures gathered { IsGathered facts.now union.new }
+    ensures member { union.new.member ≡ member }
+    ensures within { IsSubset union.new.sites set.now }
+    ensures whole { (sets : List (List Bool)) → IsWhole facts.now sets union.old → IsWhole facts.now sets union.new }
+{
+    let _ = facts;
+    if !is_same_member(union.member, member) || !union.sites.is_subset(set) {
+        union.member = member;
+        union.sites.clear();
+        union.held.clear();
+    }
+}
+
+/// What is in one of these sets too.
+fn hold_all(facts: &Facts, sets: &[BitRow], held: &mut BitRow, list: &[usize])
+    requires sets { AreSound facts.now sets.now }
+    requires width { length held.old ≡ length facts.now.sites.items }
+    requires list { All (λ n. n < node_count facts.now) list.now }
+    ensures width { length held.new ≡ length facts.now.sites.items }
+    ensures kept { IsSubset held.old held.new }
+    ensures gained { (s : ℕ) → bit held.new s ≡ true → (bit held.old s ≡ true) ⊎ IsIn sets.now list.now s }
+    ensures whole { All (λ n. IsSubset (row sets.now n) held.new) list.now }
+{
+    let _ = facts;
+    for n in list {
+        held.or_into(row_at(sets, *n));
+    }
+}
+
+/// One site more. An error comes only for want of memory.
+fn gather_site(
+    facts: &Facts,
+    index: &Index,
+    sets: &[BitRow],
+    union: &mut Union,
+    list: &mut Vec<usize>,
+    o: u32,
+) -> Result<(), AllocError>
+    requires facts { InRange facts.now }
+    requires index { IsIndex facts.now index.now }
+    requires sets { AreSound facts.now sets.now }
+    requires gathered { IsGathered facts.now union.old }
+    requires site { o < length facts.now.sites.items }
+    ensures gathered { OnOk result (IsGathered facts.now union.new) }
+    ensures member { OnOk result (union.new.member ≡ union.old.member) }
+    ensures sites { OnOk result (union.new.sites ≡ slice_set union.old.sites o true) }
+    ensures whole { OnOk result (IsWhole facts.now sets.now union.old → IsWhole facts.now sets.now union.new) }
+{
+    list_targets(facts, index, list, union.member, o)?;
+    union.sites.set(o);
+    hold_all(facts, sets, &mut union.held, list);
+    Ok(())
+}
+
+/// The least site of a set, from one on, that is not in another.
+pub fn next_site(facts: &Facts, set: &BitRow, sites: &BitRow, at: u32) -> Option<u32>
+    requires set { length set.now ≡ length facts.now.sites.items }
+    requires sites { length sites.now ≡ length facts.now.sites.items }
+    ensures { IsNextBeyond (length facts.now.sites.items) set.now sites.now at result }
+{
+    let _ = facts;
+    set.next_beyond(sites, at)
+}
+
+/// The sites of a set too. An error comes only for want of memory.
+fn gather(
+    facts: &Facts,
+    index: &Index,
+    sets: &[BitRow],
+    union: &mut Union,
+    list: &mut Vec<usize>,
+    set: &BitRow,
+) -> Result<(), AllocError>
+    requires facts { InRange facts.now }
+    requires index { IsIndex facts.now index.now }
+    requires sets { AreSound facts.now sets.now }
+    requires gathered { IsGathered facts.now union.old }
+    requires width { length set.now ≡ length facts.now.sites.items }
+    requires within { IsSubset union.old.sites set.now }
+    ensures gathered { OnOk result (IsGathered facts.now union.new) }
+    ensures member { OnOk result (union.new.member ≡ union.old.member) }
+    ensures within { OnOk result (IsSubset union.new.sites set.now) }
+    ensures all { OnOk result (IsSubset set.now union.new.sites) }
+    ensures whole { OnOk result (IsWhole facts.now sets.now union.old → IsWhole facts.now sets.now union.new) }
+{
+    let width = facts.sites.len() as u32;
+    let mut at = 0;
+    'scan: while at < width {
+        match next_site(facts, set, &union.sites, at) {
+            Some(o) => {
+                gather_site(facts, index, sets, union, list, o)?;
+                at = o + 1;
+            }
+            None => return Ok(()),
+        }
+    }
+    Ok(())
+}
+
+/// One read, and whether anything was new. An error comes only for want of memory.
+fn close_read(
+    facts: &Facts,
+    index: &Index,
+    bases: &[BitRow],
+    sets: &mut [BitRow],
+    grown: &mut BitRow,
+    union: &mut Union,
+    list: &mut Vec<usize>,
+    x: Read,
+) -> Result<bool, AllocError>
+    requires facts { InRange facts.now }
+    requires index { IsIndex facts.now index.now }
+    requires bases { AreSound facts.now bases.now }
+    requires sets { AreSound facts.now sets.old }
+    requires gathered { IsGathered facts.now union.old }
+    requires read { IsRead facts.now x }
+    ensures sets { OnOk result (AreSound facts.now sets.new) }
+    ensures gathered { OnOk result (IsGathered facts.now union.new) }
+    ensures step { IfOk result (IsStep sets.old sets.new) }
+    ensures closed { IfOk result (λ grew. OnFalse grew (IsWhole facts.now sets.old union.old → IsWhole facts.now sets.new union.new × IsReadClosed facts.now bases.now sets.new x)) }
+{
+    let set = row_at(bases, x.base as usize);
+    turn_to(facts, union, x.member, set);
+    gather(facts, index, sets, union, list, set)?;
+    Ok(include_row(facts, sets, grown, &union.held, x.into as usize))
+}
+
+/// Each read, and whether anything was new. An error comes only for want of memory.
+pub fn close_reads(
+    alloc: Global,
+    facts: &Facts,
+    index: &Index,
+    bases: &[BitRow],
+    sets: &mut [BitRow],
+    grown: &mut BitRow,
+    reads: &[Read],
+) -> Result<bool, AllocError>
+    requires facts { InRange facts.now }
+    requires index { IsIndex facts.now index.now }
+    requires bases { AreSound facts.now bases.now }
+    requires sets { AreSound facts.now sets.old }
+    requires reads { All (IsRead facts.now) reads.now }
+    ensures sets { OnOk result (AreSound facts.now sets.new) }
+    ensures step { IfOk result (IsStep sets.old sets.new) }
+    ensures closed { IfOk result (λ grew. OnFalse grew (All (IsReadClosed facts.now bases.now sets.new) reads.now)) }
+{
+    let mut union = no_union(alloc, facts)?;
+    let mut list = Vec::new(alloc);
+    let mut grew = false;
+    for x in reads {
+        let more = close_read(facts, index, bases, sets, grown, &mut union, &mut list, *x)?;
+        grew |= more;
+    }
+    Ok(grew)
+}

@@ -1,0 +1,331 @@
+//! Writes: into a member of the sites of a base. Values that are written into the same member of the same sites are put together first.
+
+ghost use Rattle.std.specs.Prelude.{◌≡◌, ℕ, ◌<◌, true, length, All, Some, IfOk, OnOk};
+ghost use Rattle.std.specs.Bool.{OnTrue, OnFalse};
+ghost use Rattle.kaba_bits.specs.Sets.{bit, row, IsStep};
+ghost use Rattle.fact_model.specs.InRange.{InRange};
+ghost use Rattle.points_to.specs.Sound.{node_count, AreSound, InNode};
+ghost use Rattle.points_to.specs.Listed.{IsIndex};
+ghost use Rattle.points_to.specs.Work.{IsWrite, IsWriteClosed, AreTargets, wanted};
+ghost use Rattle.points_to.specs.declared.work.Write.{Write};
+ghost use Rattle.points_to.specs.Rounds.{IsPending, IsFlushedAt, IsFlushed, IsPended, IsDone, HasRow};
+
+use crate::index::Index;
+use crate::reads::{is_same_member, next_site};
+use crate::targets::list_targets;
+use crate::work::{Member, Write, fit, include_row, site_at};
+use fact_model::Facts;
+use kaba_base::ClassId;
+use kaba_bits::{BitRow, row_at};
+use std::alloc::{AllocError, Global};
+
+/// Values that are to be written into a member of these sites.
+#[derive(Drop)]
+pub struct Pending {
+    member: Member,
+    sites: BitRow,
+    values: BitRow,
+}
+
+/// Nothing to be written. An error comes only for want of memory.
+fn nothing_pending(alloc: Global, facts: &Facts) -> Result<Pending, AllocError>
+    requires { InRange facts.now }
+    ensures { IfOk result (IsPending facts.now) }
+{
+    let width = facts.sites.len() as u32;
+    Ok(Pending {
+        member: Member::Field(None),
+        sites: BitRow::new(alloc, width)?,
+        values: BitRow::new(alloc, width)?,
+    })
+}
+
+/// The class that a value written must have: for an element that of the array.
+fn wanted(facts: &Facts, member: Member, o: u32) -> Option<ClassId>
+    requires { o < length facts.now.sites.items }
+    ensures { result ≡ wanted facts.now member o }
+{
+    match member {
+        Member::Field(None) => Some(site_at(facts, o).class),
+        _ => None,
+    }
+}
+
+/// A row of sites into each of these sets, and whether one grew.
+fn include_all(
+    facts: &Facts,
+    sets: &mut [BitRow],
+    grown: &mut BitRow,
+    extra: &BitRow,
+    list: &[usize],
+) -> bool
+    requires sets { AreSound facts.now sets.old }
+    requires width { length extra.now ≡ length facts.now.sites.items }
+    requires list { All (λ n. n < node_count facts.now) list.now }
+    requires holds { All (λ n. (s : ℕ) → bit extra.now s ≡ true → InNode facts.now n s) list.now }
+    ensures sets { AreSound facts.now sets.new }
+    ensures step { IsStep sets.old sets.new result }
+    ensures closed { OnFalse result (All (HasRow sets.new extra.now) list.now) }
+{
+    let mut grew = false;
+    for n in list {
+        grew |= include_row(facts, sets, grown, extra, *n);
+    }
+    grew
+}
+
+/// Those values whose class is at or below one into the sets of a member of a site, and whether one grew. An error comes only for want of
+/// memory.
+fn write_fitting(
+    alloc: Global,
+    facts: &Facts,
+    index: &Index,
+    sets: &mut [BitRow],
+    grown: &mut BitRow,
+    pending: &Pending,
+    list: &[usize],
+    o: u32,
+    class: ClassId,
+) -> Result<bool, AllocError>
+    requires facts { InRange facts.now }
+    requires index { IsIndex facts.now index.now }
+    requires sets { AreSound facts.now sets.old }
+    requires pending { IsPending facts.now pending.now }
+    requires site { bit pending.now.sites o ≡ true }
+    requires list { AreTargets facts.now pending.now.member o list.now }
+    requires class { wanted facts.now pending.now.member o ≡ Some class }
+    ensures sets { OnOk result (AreSound facts.now sets.new) }
+    ensures step { IfOk result (IsStep sets.old sets.new) }
+    ensures closed { IfOk result (λ grew. OnFalse grew (IsFlushedAt facts.now sets.new pending.now o)) }
+{
+    let row = fit(alloc, facts, &index.below, &pending.values, class)?;
+    Ok(include_all(facts, sets, grown, &row, list))
+}
+
+/// What fits of the values into the sets of a member of a site, and whether one grew. An error comes only for want of memory.
+fn write_into(
+    alloc: Global,
+    facts: &Facts,
+    index: &Index,
+    sets: &mut [BitRow],
+    grown: &mut BitRow,
+    pending: &Pending,
+    list: &[usize],
+    o: u32,
+) -> Result<bool, AllocError>
+    requires facts { InRange facts.now }
+    requires index { IsIndex facts.now index.now }
+    requires sets { AreSound facts.now sets.old }
+    requires pending { IsPending facts.now pending.now }
+    requires site { bit pending.now.sites o ≡ true }
+    requires list { AreTargets facts.now pending.now.member o list.now }
+    ensures sets { OnOk result (AreSound facts.now sets.new) }
+    ensures step { IfOk result (IsStep sets.old sets.new) }
+    ensures closed { IfOk result (λ grew. OnFalse grew (IsFlushedAt facts.now sets.new pending.now o)) }
+{
+    match wanted(facts, pending.member, o) {
+        Some(class) => { write_fitting(alloc, facts, index, sets, grown, pending, list, o, class) }
+        None => Ok(include_all(facts, sets, grown, &pending.values, list)),
+    }
+}
+
+/// The values into a member of one site, and whether anything was new. An error comes only for want of memory.
+fn flush_site(
+    alloc: Global,
+    facts: &Facts,
+    index: &Index,
+    sets: &mut [BitRow],
+    grown: &mut BitRow,
+    pending: &Pending,
+    list: &mut Vec<usize>,
+    o: u32,
+) -> Result<bool, AllocError>
+    requires facts { InRange facts.now }
+    requires index { IsIndex facts.now index.now }
+    requires sets { AreSound facts.now sets.old }
+    requires pending { IsPending facts.now pending.now }
+    requires site { bit pending.now.sites o ≡ true }
+    ensures sets { OnOk result (AreSound facts.now sets.new) }
+    ensures step { IfOk result (IsStep sets.old sets.new) }
+    ensures closed { IfOk result (λ grew. OnFalse grew (IsFlushedAt facts.now sets.new pending.now o)) }
+{
+    list_targets(facts, index, list, pending.member, o)?;
+    write_into(alloc, facts, index, sets, grown, pending, list, o)
+}
+
+/// The values into the member of each site, and whether anything was new. An error comes only for want of memory.
+fn flush(
+    alloc: Global,
+    facts: &Facts,
+    index: &Index,
+    sets: &mut [BitRow],
+    grown: &mut BitRow,
+    pending: &Pending,
+    list: &mut Vec<usize>,
+) -> Result<bool, AllocError>
+    requires facts { InRange facts.now }
+    requires index { IsIndex facts.now index.now }
+    requires sets { AreSound facts.now sets.old }
+    requires pending { IsPending facts.now pending.now }
+    ensures sets { OnOk result (AreSound facts.now sets.new) }
+    ensures step { IfOk result (IsStep sets.old sets.new) }
+    ensures closed { IfOk result (λ grew. OnFalse grew (IsFlushed facts.now sets.new pending.now)) }
+{
+    let width = facts.sites.len() as u32;
+    let mut grew = false;
+    let mut at = 0;
+    'scan: while at < width {
+        match pending.sites.next(at) {
+            Some(o) => {
+                let more = flush_site(alloc, facts, index, sets, grown, pending, list, o)?;
+                grew |= more;
+                at = o + 1;
+            }
+            None => return Ok(grew),
+        }
+    }
+    Ok(grew)
+}
+
+/// Whether two sets are one.
+fn is_same_set(a: &BitRow, b: &BitRow) -> bool
+    requires { length a.now ≡ length b.now }
+    ensures { OnTrue result (a.now ≡ b.now) }
+{
+    let within = a.is_subset(b);
+    if !within {
+        return false;
+    }
+    let back = b.is_subset(a);
+    back
+}
+
+/// Whether a write is into the same member of the same sites.
+fn is_alike(facts: &Facts, bases: &[BitRow], pending: &Pending, x: Write) -> bool
+    requires bases { AreSound facts.now bases.now }
+    requires pending { IsPending facts.now pending.now }
+    requires write { IsWrite facts.now x }
+    ensures { OnTrue result ((pending.now.member ≡ x.member) × (pending.now.sites ≡ row bases.now x.base)) }
+{
+    let _ = facts;
+    let alike = is_same_member(pending.member, x.member);
+    if !alike {
+        return false;
+    }
+    let same = is_same_set(&pending.sites, row_at(bases, x.base as usize));
+    same
+}
+
+/// A write in place of what was pending. An error comes only for want of memory.
+fn begin_write(
+    alloc: Global,
+    facts: &Facts,
+    bases: &[BitRow],
+    sets: &[BitRow],
+    x: Write,
+) -> Result<Pending, AllocError>
+    requires bases { AreSound facts.now bases.now }
+    requires sets { AreSound facts.now sets.now }
+    requires write { IsWrite facts.now x }
+    ensures pending { IfOk result (IsPending facts.now) }
+    ensures here { IfOk result (λ p. IsPended bases.now sets.now p x) }
+{
+    let _ = facts;
+    Ok(Pending {
+        member: x.member,
+        sites: row_at(bases, x.base as usize).copy(alloc)?,
+        values: row_at(sets, x.value as usize).copy(alloc)?,
+    })
+}
+
+/// A write into the same member of the same sites is pending too.
+fn put_beside(facts: &Facts, bases: &[BitRow], sets: &[BitRow], pending: &mut Pending, x: Write)
+    requires bases { AreSound facts.now bases.now }
+    requires sets { AreSound facts.now sets.now }
+    requires pending { IsPending facts.now pending.old }
+    requires write { IsWrite facts.now x }
+    requires member { pending.old.member ≡ x.member }
+    requires sites { pending.old.sites ≡ row bases.now x.base }
+    ensures pending { IsPending facts.now pending.new }
+    ensures kept { (y : Write) → IsDone facts.now bases.now sets.now pending.old y → IsDone facts.now bases.now sets.now pending.new y }
+    ensures here { IsDone facts.now bases.now sets.now pending.new x }
+{
+    let _ = facts;
+    let _ = bases;
+    pending.values.or_into(row_at(sets, x.value as usize));
+}
+
+/// A write is pending too, or else what was pending is written first; and whether anything was new. An error comes only for want of memory.
+fn take_write(
+    alloc: Global,
+    facts: &Facts,
+    index: &Index,
+    bases: &[BitRow],
+    sets: &mut [BitRow],
+    grown: &mut BitRow,
+    pending: &mut Pending,
+    list: &mut Vec<usize>,
+    x: Write,
+) -> Result<bool, AllocError>
+    requires facts { InRange facts.now }
+    requires index { IsIndex facts.now index.now }
+    requires bases { AreSound facts.now bases.now }
+    requires sets { AreSound facts.now sets.old }
+    requires pending { IsPending facts.now pending.old }
+    requires write { IsWrite facts.now x }
+    ensures sets { OnOk result (AreSound facts.now sets.new) }
+    ensures pending { OnOk result (IsPending facts.now pending.new) }
+    ensures step { IfOk result (IsStep sets.old sets.new) }
+    ensures kept { IfOk result (λ grew. OnFalse grew ((y : Write) → IsDone facts.now bases.now sets.old pending.old y → IsDone facts.now bases.now sets.new pending.new y)) }
+    ensures here { IfOk result (λ grew. OnFalse grew (IsDone facts.now bases.now sets.new pending.new x)) }
+{
+    let alike = is_alike(facts, bases, pending, x);
+    if alike {
+        put_beside(facts, bases, sets, pending, x);
+        return Ok(false);
+    }
+    let grew = flush(alloc, facts, index, sets, grown, pending, list)?;
+    let next = begin_write(alloc, facts, bases, sets, x)?;
+    *pending = next;
+    Ok(grew)
+}
+
+/// Each write, and whether anything was new. An error comes only for want of memory.
+pub fn close_writes(
+    alloc: Global,
+    facts: &Facts,
+    index: &Index,
+    bases: &[BitRow],
+    sets: &mut [BitRow],
+    grown: &mut BitRow,
+    writes: &[Write],
+) -> Result<bool, AllocError>
+    requires facts { InRange facts.now }
+    requires index { IsIndex facts.now index.now }
+    requires bases { AreSound facts.now bases.now }
+    requires sets { AreSound facts.now sets.old }
+    requires writes { All (IsWrite facts.now) writes.now }
+    ensures sets { OnOk result (AreSound facts.now sets.new) }
+    ensures step { IfOk result (IsStep sets.old sets.new) }
+    ensures closed { IfOk result (λ grew. OnFalse grew (All (IsWriteClosed facts.now bases.now sets.new) writes.now)) }
+{
+    let mut pending = nothing_pending(alloc, facts)?;
+    let mut list = Vec::new(alloc);
+    let mut grew = false;
+    for x in writes {
+        let more = take_write(
+            alloc,
+            facts,
+            index,
+            bases,
+            sets,
+            grown,
+            &mut pending,
+            &mut list,
+            *x,
+        )?;
+        grew |= more;
+    }
+    let last = flush(alloc, facts, index, sets, grown, &pending, &mut list)?;
+    Ok(grew | last)
+}
