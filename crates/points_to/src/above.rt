@@ -101,7 +101,7 @@ pub fn classes_above(alloc: Global, facts: &Facts, a: ClassId) -> Result<BitRow,
 fn put_site(rows: &mut [BitRow], classes: &BitRow, s: u32)
     requires len { length rows.old ≡ length classes.now }
     requires widths { (k : ℕ) → k < length rows.old → s < length (row rows.old k) }
-    ensures rows { HasSite rows.old rows.new classes.now s (length classes.now) }
+    ensures { HasSite rows.old rows.new classes.now s (length classes.now) }
 {
     let count = classes.width();
     let mut at = 0;

@@ -74,6 +74,31 @@ fn put_news(
     }
 }
 
+/// Those sites of a set that are not in another, in place of what was there.
+fn put_base(
+    facts: &Facts,
+    now: &mut [BitRow],
+    none: &mut BitRow,
+    set: &BitRow,
+    seen: &BitRow,
+    p: usize,
+)
+    requires facts { InRange facts.now }
+    requires base { p < node_count facts.now }
+    requires now { AreSound facts.now now.old }
+    requires set { length set.now ≡ length facts.now.sites.items }
+    requires seen { length seen.now ≡ length facts.now.sites.items }
+    requires holds { (s : ℕ) → bit set.now s ≡ true → InNode facts.now p s }
+    ensures { AreSound facts.now now.new }
+{
+    clear_base(facts, now, p);
+    if seen.is_empty() {
+        include_row(facts, now, none, set, p);
+    } else {
+        put_news(facts, now, none, set, seen, p);
+    }
+}
+
 /// What of a set is new since it was asked for last.
 pub fn load_news(facts: &Facts, sets: &[BitRow], bases: &mut Bases, p: usize)
     requires facts { InRange facts.now }
@@ -88,19 +113,8 @@ pub fn load_news(facts: &Facts, sets: &[BitRow], bases: &mut Bases, p: usize)
     if bases.seen[p].width() != set.width() {
         return;
     }
-    clear_base(facts, &mut bases.now, p);
-    if bases.seen[p].is_empty() {
-        include_row(facts, &mut bases.now, &mut bases.none, set, p);
-    } else {
-        put_news(
-            facts,
-            &mut bases.now,
-            &mut bases.none,
-            set,
-            &bases.seen[p],
-            p,
-        );
-    }
+    let seen = row_at(&bases.seen, p);
+    put_base(facts, &mut bases.now, &mut bases.none, set, seen, p);
     bases.seen[p].or_into(set);
 }
 
