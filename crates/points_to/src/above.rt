@@ -1,10 +1,10 @@
 //! The classes at or above a class, and the sites of a class at or below one.
 
-ghost use Rattle.std.specs.Prelude.{◌≡◌, ℕ, ◌<◌, ◌↔◌, ◌∷◌, [], length, All, IsTrue, IfSome, IfOk, OnOk};
+ghost use Rattle.std.specs.Prelude.{◌≡◌, ℕ, ◌<◌, ◌↔◌, ◌∷◌, [], false, length, All, IsTrue, IfSome, IfOk, OnOk};
 ghost use Rattle.std.specs.Option.{option_to_list};
 ghost use Rattle.fact_model.specs.InRange.{InRange, IsClass};
 ghost use Rattle.fact_model.specs.Classes.{supers_of, IsBelow};
-ghost use Rattle.kaba_bits.specs.Sets.{row};
+ghost use Rattle.kaba_bits.specs.Sets.{row, bit, HasWidth};
 ghost use Rattle.points_to.specs.Above.{Gained, IsAboveRow, AreSitesBelow, HasSite};
 
 use crate::work::site_at;
@@ -129,12 +129,22 @@ fn put_sites(alloc: Global, facts: &Facts, rows: &mut [BitRow]) -> Result<(), Al
     Ok(())
 }
 
+/// For each class no sites. An error comes only for want of memory.
+fn no_sites(alloc: Global, facts: &Facts) -> Result<Vec<BitRow>, AllocError>
+    requires { InRange facts.now }
+    ensures len { IfOk result (λ v. length v.items ≡ length facts.now.classes.items) }
+    ensures widths { IfOk result (λ v. HasWidth (length facts.now.sites.items) v.items) }
+    ensures empty { IfOk result (λ v. (k s : ℕ) → bit (row v.items k) s ≡ false) }
+{
+    empty_rows(alloc, facts.classes.len(), facts.sites.len() as u32)
+}
+
 /// For each class the sites of a class at or below it. An error comes only for want of memory.
 pub fn sites_below(alloc: Global, facts: &Facts) -> Result<Vec<BitRow>, AllocError>
     requires { InRange facts.now }
     ensures { IfOk result (λ v. AreSitesBelow facts.now (length facts.now.sites.items) v.items) }
 {
-    let mut rows = empty_rows(alloc, facts.classes.len(), facts.sites.len() as u32)?;
+    let mut rows = no_sites(alloc, facts)?;
     put_sites(alloc, facts, &mut rows)?;
     Ok(rows)
 }

@@ -1,12 +1,13 @@
-use Rattle.std.proofs.Common.{◌∙◌, sym, arith}
+use Rattle.std.proofs.Common.{◌∙◌, sym, subst, arith}
 use Rattle.std.proofs.lemmas.Bool.{false≢true}
 use Rattle.std.proofs.lemmas.List.{with_items_is}
+use Rattle.points_to.specs.Above.{AreSitesBelow}
 use Rattle.points_to.proofs.above.sites_below.Goals as goal
 
 pub put_sites-requires-clause-rows : goal.put_sites-requires-clause-rows
 put_sites-requires-clause-rows c =
     let empty = c.in_ok-rows.ensures in
-    rw c.deref_mut.ensures.value (record {
+    subst (AreSitesBelow c.args.facts.now 0) (sym c.deref_mut.ensures.value) (record {
       len = empty.len;
       widths = empty.widths;
       sound = λ k s b. absurd (false≢true (sym (empty.empty k s) ∙ b));
