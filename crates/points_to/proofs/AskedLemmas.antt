@@ -1,5 +1,5 @@
 -- What was found stays found, and where that is closed, the sets are closed.
-use Rattle.std.proofs.Common.{◌≡◌, ℕ, ◌+◌, ◌<◌, Bool, true, false, ◌||◌, List, length, get_or, Some, Contains, sym, ◌∙◌, subst}
+use Rattle.std.proofs.Common.{◌≡◌, ℕ, ◌+◌, Bool, true, false, ◌||◌, List, get_or, Some, Contains, sym, ◌∙◌, subst}
 use Rattle.std.specs.Bool.{OnFalse}
 use Rattle.std.specs.List.{All}
 use Rattle.std.proofs.lemmas.List.Elements.{All-contains}
@@ -10,9 +10,7 @@ use Rattle.fact_model.specs.Items.{site_class}
 use Rattle.fact_model.specs.Classes.{finds}
 use Rattle.points_to.specs.Work.{IsMore, slot_of, IsBodyNode, AreTargets, IsEdgeClosed, IsShown, IsReadClosed, IsWriteClosed, IsRunClosed}
 use Rattle.points_to.specs.Listed.{numbers_at, IsAt, IsIndex, HasBody}
-use Rattle.points_to.specs.Closed.{IsCallAsked, AreFixed, AreAsked, AreCallsAsked, AreClosed}
-use Rattle.points_to.specs.declared.work.Edge.{Edge}
-use Rattle.points_to.specs.declared.work.Told.{Told}
+use Rattle.points_to.specs.Closed.{IsCallAsked, AreAsked, AreCallsAsked, AreClosed}
 use Rattle.points_to.specs.declared.work.Read.{Read}
 use Rattle.points_to.specs.declared.work.Write.{Write}
 use Rattle.points_to.specs.declared.work.Run.{Run}

@@ -1,5 +1,5 @@
 -- Turns over reads, writes and runs: one element on, and at their end.
-use Rattle.std.proofs.Common.{◌≡◌, ℕ, ◌+◌, ◌<◌, ◌≤◌, ◌⊎◌, inl, inr, ⊎_elim, Bool, true, false, ◌||◌, List, length, get_or, set, Option, Some, None, Contains, refl, sym, ap, ◌∙◌, subst, arith}
+use Rattle.std.proofs.Common.{◌≡◌, ℕ, ◌+◌, ◌<◌, ◌≤◌, ◌⊎◌, inl, inr, ⊎_elim, Bool, true, false, ◌||◌, List, length, get_or, set, Some, None, refl, sym, ap, ◌∙◌, subst, arith}
 use Rattle.std.specs.Bool.{OnTrue, OnFalse}
 use Rattle.std.specs.List.{All, AllWithin}
 use Rattle.std.proofs.lemmas.Bool.{cases_eq, cases_lt}
@@ -10,11 +10,11 @@ use Rattle.kaba_bits.specs.Sets.{bit, row, IsSubset, IsStep}
 use Rattle.kaba_bits.proofs.SetLemmas.{bit-below}
 use Rattle.kaba_bits.proofs.RowLemmas.{bit-row-below}
 use Rattle.kaba_bits.proofs.StepLemmas.{closed_more}
-use Rattle.fact_model.specs.InRange.{InRange, IsClass, IsRow}
+use Rattle.fact_model.specs.InRange.{InRange, IsClass}
 use Rattle.fact_model.specs.declared.facts.Facts.{Facts}
 use Rattle.points_to.specs.Sound.{node_count, InNode, AreSound}
-use Rattle.points_to.specs.Work.{Passes, IsTarget, AreTargets, wanted, IsRead, IsWrite, IsRun, IsReadClosed, IsWriteClosed, IsRunClosed}
-use Rattle.points_to.specs.Rounds.{IsIn, IsHeld, IsGathered, IsWhole, IsPending, IsFlushedAt, IsFlushed, IsPended, IsDone, HasRow, HasSite, IsRunAt, AreBegun}
+use Rattle.points_to.specs.Work.{Passes, IsTarget, AreTargets, wanted, IsRead, IsWrite, IsReadClosed, IsWriteClosed, IsRunClosed}
+use Rattle.points_to.specs.Rounds.{IsIn, IsGathered, IsWhole, IsPending, IsFlushedAt, IsFlushed, IsDone, HasRow, HasSite, IsRunAt, AreBegun}
 use Rattle.points_to.specs.declared.work.Member.{Member}
 use Rattle.points_to.specs.declared.work.Member.TheVariants.{Field, This, Parameter, Returned}
 use Rattle.points_to.specs.declared.work.Read.{Read}

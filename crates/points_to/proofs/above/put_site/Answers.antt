@@ -1,4 +1,4 @@
-use Rattle.std.proofs.Common.{arith, refl, inl, ◌∙◌}
+use Rattle.std.proofs.Common.{arith, refl, inl}
 use Rattle.kaba_bits.proofs.SetLemmas.{bit-below}
 use Rattle.points_to.proofs.AboveLemmas.{site_more, site_rest}
 use Rattle.points_to.proofs.above.put_site.Goals as goal

@@ -1,4 +1,4 @@
-use Rattle.std.proofs.Common.{ℕ, ◌<◌, ◌-◌}
+use Rattle.std.proofs.Common.{◌-◌}
 use Rattle.points_to.specs.Above.{HasSite}
 use Rattle.points_to.proofs.above.put_site.Given as goal
 

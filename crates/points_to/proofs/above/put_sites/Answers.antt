@@ -1,4 +1,4 @@
-use Rattle.std.proofs.Common.{◌≡◌, length, sym, ◌∙◌, arith}
+use Rattle.std.proofs.Common.{sym, ◌∙◌, arith}
 use Rattle.points_to.proofs.AboveLemmas.{sites_more}
 use Rattle.points_to.proofs.above.put_sites.Goals as goal
 

@@ -1,7 +1,7 @@
-use Rattle.std.proofs.Common.{◌≡◌, ℕ, ◌<◌, length, ap, ◌∙◌, true, refl, sym, subst, ⊎_elim, arith}
+use Rattle.std.proofs.Common.{◌≡◌, ◌<◌, length, ap, ◌∙◌, true, refl, subst, ⊎_elim, arith}
 use Rattle.std.proofs.lemmas.Bool.{cases_lt}
 use Rattle.std.proofs.lemmas.List.{length-set}
-use Rattle.kaba_bits.specs.Sets.{bit, row, IsSubset}
+use Rattle.kaba_bits.specs.Sets.{bit, IsSubset}
 use Rattle.kaba_bits.proofs.StepLemmas.{IsStep-then}
 use Rattle.points_to.proofs.RoundLemmas.{begun_more, covered_more, site_below, run_closed}
 use Rattle.points_to.proofs.runs.close_run.Goals as goal
