@@ -1,17 +1,17 @@
 -- Chains of bodies: one column on, and what a walk along one finds.
-use Rattle.std.proofs.Common.{◌≡◌, ℕ, ◌+◌, ◌-◌, ◌<◌, ◌≤◌, Bool, true, false, ◌&&◌, eqb, nat_lt, cond, List, [], length, get_or, set, Option, Some, None, refl, sym, ◌∙◌, subst, arith, ⊎_elim}
+use Rattle.std.proofs.Common.{◌≡◌, ℕ, ◌+◌, ◌-◌, ◌<◌, ◌≤◌, Bool, true, false, ◌&&◌, eqb, nat_lt, cond, List, length, get_or, set, Option, Some, None, refl, sym, ap, ◌∙◌, subst, arith, ⊎_elim}
 use Rattle.std.specs.List.{position, position_or_len}
-use Rattle.std.proofs.lemmas.Bool.{cases_lt, cases_eq, cases_Bool, false≢true, and_parts, eqb-true, eq-eqb}
+use Rattle.std.specs.Option.{unwrap_or}
+use Rattle.std.proofs.lemmas.Bool.{cases_lt, cases_eq, cases_Bool, false≢true, and_parts, eqb-true}
 use Rattle.std.proofs.lemmas.Bool.Decides.{nat_tests}
 use Rattle.std.proofs.lemmas.List.{get_or-set_same, get_or-set_other, length-set}
 use Rattle.std.proofs.lemmas.List.Sums.{position_or_len_is}
 use Rattle.fact_model.specs.Items.{column_at, column_class, column_kind, column_slot}
 use Rattle.fact_model.specs.Classes.{is_def, is_slot, is_body, own_body}
-use Rattle.fact_model.specs.InRange.{InRange}
 use Rattle.fact_model.specs.declared.facts.Facts.{Facts}
 use Rattle.fact_model.specs.declared.facts.ColKind.{ColKind}
 use Rattle.fact_model.specs.declared.facts.ColKind.TheVariants.{Fld, Dcl, Def, Is}
-use Rattle.points_to.specs.Chains.{IsBodyOf, IsFirstAt, IsFirst, AreChained, IsWalk}
+use Rattle.points_to.specs.Chains.{column_bucket, bucket_in, IsBodyOf, IsFirstAt, IsFirst, AreChained, IsWalk}
 
 pub position_found : {X : Type 0} (p : X → Bool) (xs : List X) (i : ℕ) (d : X) → i < length xs → p (get_or xs i d) ≡ true
     → ((k : ℕ) → k < i → p (get_or xs k d) ≡ false) → position p xs ≡ Some i
@@ -31,10 +31,7 @@ position_missing p xs d before =
     past n = grind (arith, nat_tests)
 
 module _ (F : Facts) where
-  pub class_below : InRange F → (c : ℕ) → c < length F.columns.items → column_class F c < length F.classes.items
-  class_below R c lt = R.columns c (record { kind = Is; class = record { 0 = 0 }; slot = None; name = []; label = [] }) lt
-
-  -- one column on, that is no body of the class
+  -- one column on, that is no body of the number
   pub first_more : (a c : ℕ) (o : Option ℕ) → (IsBodyOf F a c → ⊥) → IsFirst F a (c + 1) o → IsFirst F a c o
   first_more a c o lacks x = record {
     some = λ d e.
@@ -48,7 +45,7 @@ module _ (F : Facts) where
     none = λ e k le lt b. ⊎_elim (λ same. lacks (subst (IsBodyOf F a) same b)) (λ ne. x.none e k (omega (arith, le, ne)) lt b) (cases_eq k c);
   }
 
-  -- a body of the class is the first from itself on
+  -- a body of the number is the first from itself on
   pub first_here : (a c : ℕ) → c < length F.columns.items → IsBodyOf F a c → IsFirst F a c (Some c)
   first_here a c lt b = record {
     some = λ d e. let same : c ≡ d = cc in subst (IsFirstAt F a c) same
@@ -56,41 +53,41 @@ module _ (F : Facts) where
     none = λ e. absurd (cc (e));
   }
 
-  module _ (first next : List (Option ℕ)) (c : ℕ) (lt : c < length F.columns.items) (in_class : column_class F c < length F.classes.items)
+  module _ (first next : List (Option ℕ)) (c : ℕ) (lt : c < length F.columns.items) (in_range : column_bucket F c < length F.columns.items + 1)
       (old : AreChained F first next (c + 1)) where
     next_more : (k : ℕ) → c ≤ k → k < length F.columns.items
-        → IsFirst F (column_class F k) (k + 1) (get_or (set next c (get_or first (column_class F c) None)) k None)
+        → IsFirst F (column_bucket F k) (k + 1) (get_or (set next c (get_or first (column_bucket F c) None)) k None)
     next_more k le high =
         ⊎_elim
-        (λ same. subst (λ j. IsFirst F (column_class F j) (j + 1) (get_or (set next c (get_or first (column_class F c) None)) j None)) (sym same)
-        (rw (get_or-set_same next c (get_or first (column_class F c) None) None (omega (arith, lt, old.next_len))) (old.firsts (column_class F c) in_class)))
-        (λ ne. rw (get_or-set_other next c k (get_or first (column_class F c) None) None ne) (old.nexts k (omega (arith, le, ne)) high))
+        (λ same. subst (λ j. IsFirst F (column_bucket F j) (j + 1) (get_or (set next c (get_or first (column_bucket F c) None)) j None)) (sym same)
+        (rw (get_or-set_same next c (get_or first (column_bucket F c) None) None (omega (arith, lt, old.next_len))) (old.firsts (column_bucket F c) in_range)))
+        (λ ne. rw (get_or-set_other next c k (get_or first (column_bucket F c) None) None ne) (old.nexts k (omega (arith, le, ne)) high))
         (cases_eq k c)
 
-    pub chained_body : column_kind F c ≡ Def → AreChained F (set first (column_class F c) (Some c)) (set next c (get_or first (column_class F c) None)) c
+    pub chained_body : column_kind F c ≡ Def → AreChained F (set first (column_bucket F c) (Some c)) (set next c (get_or first (column_bucket F c) None)) c
     chained_body def = record {
-      first_len = length-set first (column_class F c) (Some c) ∙ old.first_len;
-      next_len = length-set next c (get_or first (column_class F c) None) ∙ old.next_len;
+      first_len = length-set first (column_bucket F c) (Some c) ∙ old.first_len;
+      next_len = length-set next c (get_or first (column_bucket F c) None) ∙ old.next_len;
       firsts = λ a la.
           ⊎_elim
-          (λ same. subst (λ j. IsFirst F j c (get_or (set first (column_class F c) (Some c)) j None)) (sym same)
-          (rw (get_or-set_same first (column_class F c) (Some c) None (omega (arith, in_class, old.first_len)))
-          (first_here (column_class F c) c lt (record { kind = def; class = refl }))))
-          (λ ne. rw (get_or-set_other first (column_class F c) a (Some c) None ne) (first_more a c _ (λ b. ne (sym b.class)) (old.firsts a la)))
-          (cases_eq a (column_class F c));
+          (λ same. subst (λ j. IsFirst F j c (get_or (set first (column_bucket F c) (Some c)) j None)) (sym same)
+          (rw (get_or-set_same first (column_bucket F c) (Some c) None (omega (arith, in_range, old.first_len)))
+          (first_here (column_bucket F c) c lt (record { kind = def; bucket = refl }))))
+          (λ ne. rw (get_or-set_other first (column_bucket F c) a (Some c) None ne) (first_more a c _ (λ b. ne (sym b.bucket)) (old.firsts a la)))
+          (cases_eq a (column_bucket F c));
       nexts = next_more;
     }
 
-    pub chained_other : (column_kind F c ≡ Def → ⊥) → AreChained F first (set next c (get_or first (column_class F c) None)) c
+    pub chained_other : (column_kind F c ≡ Def → ⊥) → AreChained F first (set next c (get_or first (column_bucket F c) None)) c
     chained_other other = record {
       first_len = old.first_len;
-      next_len = length-set next c (get_or first (column_class F c) None) ∙ old.next_len;
+      next_len = length-set next c (get_or first (column_bucket F c) None) ∙ old.next_len;
       firsts = λ a la. first_more a c _ (λ b. other b.kind) (old.firsts a la);
       nexts = next_more;
     }
 
   -- before the walk begins, and past the last column
-  pub chained_none : (first next : List (Option ℕ)) → length first ≡ length F.classes.items → length next ≡ length F.columns.items
+  pub chained_none : (first next : List (Option ℕ)) → length first ≡ length F.columns.items + 1 → length next ≡ length F.columns.items
       → ((a : ℕ) → get_or first a None ≡ None) → AreChained F first next (length F.columns.items)
   chained_none first next lf ln all = record {
     first_len = lf;
@@ -105,32 +102,36 @@ module _ (F : Facts) where
   def_is Dcl h = absurd (false≢true h)
   def_is Is h = absurd (false≢true h)
 
-  -- what is a body of a slot in a class is a body of the class
-  no_body : (a x k : ℕ) → (IsBodyOf F a k → ⊥) → is_body a x (column_at F k) ≡ false
+  slot_is : (o : Option ℕ) (x : ℕ) → is_slot o x ≡ true → unwrap_or o 0 ≡ x
+  slot_is None x h = absurd (false≢true h)
+  slot_is (Some y) x h = eqb-true y x h
+
+  -- what is a body of a slot in a class is a body of their number
+  no_body : (a x k : ℕ) → (IsBodyOf F (bucket_in F a x) k → ⊥) → is_body a x (column_at F k) ≡ false
   no_body a x k lacks =
       ⊎_elim
       (λ t.
       let p = and_parts (is_def (column_kind F k)) (eqb (column_class F k) a && is_slot (column_slot F k) x) t in
       let q = and_parts (eqb (column_class F k) a) (is_slot (column_slot F k) x) p.1 in
-      absurd (lacks (record { kind = def_is (column_kind F k) p.0; class = eqb-true (column_class F k) a q.0 })))
+      absurd (lacks (record {
+        kind = def_is (column_kind F k) p.0;
+        bucket = ap (λ i. bucket_in F i (unwrap_or (column_slot F k) 0)) (eqb-true (column_class F k) a q.0) ∙ ap (bucket_in F a) (slot_is (column_slot F k) x q.1);
+      })))
       (λ f. f)
       (cases_Bool (is_body a x (column_at F k)))
 
-  pub slot_missing : (a x k : ℕ) → is_slot (column_slot F k) x ≡ false → is_body a x (column_at F k) ≡ false
-  slot_missing a x k none =
+  pub own_missing : (a x k : ℕ) → eqb (column_class F k) a && is_slot (column_slot F k) x ≡ false → is_body a x (column_at F k) ≡ false
+  own_missing a x k none =
       ⊎_elim
-      (λ t.
-      let p = and_parts (is_def (column_kind F k)) (eqb (column_class F k) a && is_slot (column_slot F k) x) t in
-      let q = and_parts (eqb (column_class F k) a) (is_slot (column_slot F k) x) p.1 in
-      absurd (false≢true (sym none ∙ q.1)))
+      (λ t. absurd (false≢true (sym none ∙ (and_parts (is_def (column_kind F k)) (eqb (column_class F k) a && is_slot (column_slot F k) x) t).1)))
       (λ f. f)
       (cases_Bool (is_body a x (column_at F k)))
 
-  slot_found : (a x k : ℕ) → IsBodyOf F a k → is_slot (column_slot F k) x ≡ true → is_body a x (column_at F k) ≡ true
-  slot_found a x k b s = rw (b.kind, s, eq-eqb (column_class F k) a b.class) refl
+  own_found : (a x k : ℕ) → column_kind F k ≡ Def → eqb (column_class F k) a && is_slot (column_slot F k) x ≡ true → is_body a x (column_at F k) ≡ true
+  own_found a x k def own = rw def own
 
   -- a walk on the first body at or after a number, where none before it is one of the slot
-  pub walk_from : (a x from : ℕ) (o : Option ℕ) → IsFirst F a from o → ((k : ℕ) → k < from → is_body a x (column_at F k) ≡ false) → IsWalk F a x o
+  pub walk_from : (a x from : ℕ) (o : Option ℕ) → IsFirst F (bucket_in F a x) from o → ((k : ℕ) → k < from → is_body a x (column_at F k) ≡ false) → IsWalk F a x o
   walk_from a x from o f none = record {
     high = λ d e. (f.some d e).high;
     body = λ d e. (f.some d e).body;
@@ -139,16 +140,17 @@ module _ (F : Facts) where
   }
 
   -- the walk one step on
-  pub walk_on : (a x d : ℕ) (first next : List (Option ℕ)) → AreChained F first next 0 → IsWalk F a x (Some d) → is_slot (column_slot F d) x ≡ false
+  pub walk_on : (a x d : ℕ) (first next : List (Option ℕ)) → AreChained F first next 0 → IsWalk F a x (Some d)
+      → eqb (column_class F d) a && is_slot (column_slot F d) x ≡ false
       → IsWalk F a x (get_or next d None)
   walk_on a x d first next chained w none =
       walk_from a x (d + 1) (get_or next d None)
-      (subst (λ b. IsFirst F b (d + 1) (get_or next d None)) ((w.body d refl).class) (chained.nexts d (omega arith) (w.high d refl)))
-      (λ k lt. ⊎_elim (λ same. subst (λ j. is_body a x (column_at F j) ≡ false) (sym same) (slot_missing a x d none))
+      (subst (λ b. IsFirst F b (d + 1) (get_or next d None)) ((w.body d refl).bucket) (chained.nexts d (omega arith) (w.high d refl)))
+      (λ k lt. ⊎_elim (λ same. subst (λ j. is_body a x (column_at F j) ≡ false) (sym same) (own_missing a x d none))
       (λ ne. w.before d k refl (omega (arith, lt, ne))) (cases_eq k d))
 
-  pub walk_found : (a x d : ℕ) → IsWalk F a x (Some d) → is_slot (column_slot F d) x ≡ true → own_body F a x ≡ Some d
-  walk_found a x d w s = position_found (λ k. is_body a x k) F.columns.items d _ (w.high d refl) (slot_found a x d (w.body d refl) s)
+  pub walk_found : (a x d : ℕ) → IsWalk F a x (Some d) → eqb (column_class F d) a && is_slot (column_slot F d) x ≡ true → own_body F a x ≡ Some d
+  walk_found a x d w s = position_found (λ k. is_body a x k) F.columns.items d _ (w.high d refl) (own_found a x d (w.body d refl).kind s)
       (λ k lt. w.before d k refl lt)
 
   pub walk_missing : (a x : ℕ) → IsWalk F a x None → own_body F a x ≡ None
