@@ -10,7 +10,7 @@ use Rattle.kaba_bits.proofs.RowLemmas.{HasWidth-kept, GainsRow-keeps}
 use Rattle.fact_model.specs.declared.facts.Facts.{Facts}
 use Rattle.fact_model.specs.Entries.{IsEntry}
 use Rattle.fact_model.specs.Items.{column_slot}
-use Rattle.points_to.specs.Begun.{numbers_at}
+use Rattle.points_to.specs.Listed.{numbers_at}
 use Rattle.table_rules.specs.Marks.{Marked, Grow, AreEntries}
 use Rattle.table_rules.specs.Closed.{ColumnFlows}
 use Rattle.table_rules.specs.Asked.{ArePairs, AreAsked, IsMethod, HaveMethods, place_of, IsNoted, IsMetAt, IsPlain, is_beyond}

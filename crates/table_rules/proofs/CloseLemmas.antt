@@ -26,7 +26,7 @@ use Rattle.table_rules.specs.Marks.{Marked, AreEntries}
 use Rattle.table_rules.specs.Closed.{RowFlows, ColumnFlows, IsTieClosed, IsSiteClosed, AreClosed}
 use Rattle.table_rules.specs.Asked.{AreAsked, IsIndex, IsMet, IsThisClosed, IsClosedAt, IsRowClosed}
 use Rattle.table_rules.specs.declared.index.Index.{Index}
-use Rattle.points_to.specs.Begun.{numbers_at}
+use Rattle.points_to.specs.Listed.{numbers_at}
 use Rattle.table_rules.proofs.RawLemmas.{sized}
 
 -- an entry is in a row and in a column of the table

@@ -14,7 +14,7 @@ use Rattle.fact_model.specs.InRange.{InRange, IsCol}
 use Rattle.fact_model.specs.Entries.{Hides}
 use Rattle.fact_model.specs.declared.facts.Facts.{Facts}
 use Rattle.fact_model.proofs.RangeLemmas.{this-below}
-use Rattle.points_to.specs.Begun.{numbers_at, KeepNumbers}
+use Rattle.points_to.specs.Listed.{numbers_at, KeepNumbers}
 use Rattle.table_rules.specs.Asked.{place_of, IsMethod, IsThisNoted, HaveMethods, HaveThese, AreHidden, IsPlain}
 
 pub place-below : (n : ℕ) (slot : Option ℕ) → 0 < n → place_of n slot < n

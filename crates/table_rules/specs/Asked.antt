@@ -8,7 +8,7 @@ use Rattle.fact_model.specs.Items.{column_kind, column_slot, row_this}
 use Rattle.fact_model.specs.Entries.{IsDeclaredBy, Hides}
 use Rattle.fact_model.specs.declared.facts.Facts.{Facts}
 use Rattle.fact_model.specs.declared.facts.ColKind.TheVariants.{Dcl, Def}
-use Rattle.points_to.specs.Begun.{numbers_at}
+use Rattle.points_to.specs.Listed.{numbers_at}
 use Rattle.table_rules.specs.Marks.{Marked, AreEntries}
 use Rattle.table_rules.specs.Closed.{ColumnFlows}
 use Rattle.table_rules.specs.declared.index.Index.{Index}

@@ -2,7 +2,7 @@
 
 ghost use Rattle.std.specs.Prelude.{◌≡◌, ℕ, ◌<◌, ◌+◌, length, IfOk, OnOk};
 ghost use Rattle.fact_model.specs.InRange.{InRange};
-ghost use Rattle.points_to.specs.Begun.{KeepNumbers};
+ghost use Rattle.points_to.specs.Listed.{KeepNumbers};
 ghost use Rattle.table_rules.specs.Asked.{place_of, AreHidden, HaveMethods, HaveThese, IsThisNoted, IsPlain, IsIndex};
 
 use crate::columns::{is_method, slot_of, this_of};

@@ -1,6 +1,6 @@
 use Rattle.std.proofs.Common.{◌≡◌, Contains, ◌∙◌, sym, subst, arith}
 use Rattle.kaba_base.specs.declared.ColId.{ColId}
-use Rattle.points_to.specs.Begun.{numbers_at}
+use Rattle.points_to.specs.Listed.{numbers_at}
 use Rattle.table_rules.proofs.IndexLemmas.{these_more, keep_same, this-column}
 use Rattle.table_rules.proofs.index.note_this.Goals as goal
 
