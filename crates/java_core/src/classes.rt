@@ -1,6 +1,6 @@
 //! Subtyping, and the members that a class or an interface has.
 
-ghost use Rattle.std.specs.Prelude.{◌≡◌, ℕ, ◌<◌, ◌↔◌, ◌&&◌, length, map, IsTrue, Option, Some, IfSome, IfNone, slice_get, position};
+ghost use Rattle.std.specs.Prelude.{◌≡◌, ℕ, ◌<◌, ◌↔◌, ◌&&◌, length, IsTrue, Option, Some, IfSome, IfNone, slice_get, position};
 ghost use Rattle.std.specs.Option.{option_map, is_some};
 ghost use Rattle.std.specs.List.{list_any, flat_map};
 ghost use Rattle.java_core.specs.Trees.{no_place};
@@ -8,7 +8,7 @@ ghost use Rattle.java_core.specs.Programs.{program_of, field_seen, method_seen};
 ghost use Rattle.java_core.specs.Classes.{IsSubclass, below, parent_of, faces_of, is_field_of, own_field_of, field_of, member_field, is_static_field, is_method_of, own_method, nearest, faces_above, first_or, first_found, declaration_of, slot_of_method, slot_of, is_slot, has_slot, own_declaration, own_body, lookup, nearest_declaration, super_method, has_body};
 ghost use Rattle.java_core.specs.Found.{Runs, IsOffered};
 ghost use Rattle.java_core.specs.Own.{own_named, own_of_slot};
-ghost use Rattle.java_core.specs.Owned.{owned_from, passes, first_among};
+ghost use Rattle.java_core.specs.Owned.{passes, first_among};
 ghost use Rattle.java_core.specs.Formed.{IsFormed};
 
 use crate::owned::listed;
@@ -236,20 +236,6 @@ fn own_method(p: &Program, class: ClassId, name: &Name) -> Option<MemberId>
     ensures { option_map (λ d. d.0) result ≡ own_method (program_of no_place p.now) class.0 name.now }
 {
     member(own_method_at(p, class, name))
-}
-
-/// The numbers of the fields that a class declares itself, static ones too, in rising order.
-pub fn declared_fields(p: &Program, class: ClassId) -> &[usize]
-    ensures { result.now ≡ owned_from 0 class.0 (map (λ f. f.owner.0) p.now.fields.items) }
-{
-    listed(&p.own_fields, class)
-}
-
-/// The numbers of the methods that a class or an interface declares itself, in rising order.
-pub fn declared_methods(p: &Program, class: ClassId) -> &[usize]
-    ensures { result.now ≡ owned_from 0 class.0 (map (λ m. m.owner.0) p.now.methods.items) }
-{
-    listed(&p.own_methods, class)
 }
 
 /// The member of a number.

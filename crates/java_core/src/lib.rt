@@ -17,11 +17,12 @@ mod subtypes;
 
 pub use checked::Checked;
 pub use classes::{
-    declaration_of, declared_fields, declared_methods, faces_of, field_of, is_subtype, lookup,
-    member_field, nearest_declaration, parent_of, slot_of, super_method,
+    declaration_of, faces_of, field_of, is_subtype, lookup, member_field, nearest_declaration,
+    parent_of, slot_of, super_method,
 };
 use java_lex::Units;
 use kaba_base::{ClassId, MemberId, Name, Place};
+pub use owned::declared_fields;
 pub use statics::{
     Static, StringMethod, access_type, binary_type, class_in, class_of, element_in, element_of,
     field_in, field_type, given_of, is_length, is_string, local_type, plain_type, slot_in,

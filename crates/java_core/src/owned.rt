@@ -2,9 +2,9 @@
 #![tactic(auto)]
 
 ghost use Rattle.std.specs.Prelude.{◌≡◌, ℕ, ◌<◌, ◌++◌, ◌∷◌, ◌==◌, [], cond, length, map, IfOk, OnOk};
-ghost use Rattle.java_core.specs.Owned.{AreOwned, listed};
+ghost use Rattle.java_core.specs.Owned.{AreOwned, listed, owned_from};
 
-use crate::{Field, Method};
+use crate::{Field, Method, Program};
 use kaba_base::ClassId;
 use std::alloc::{AllocError, Global};
 
@@ -72,4 +72,11 @@ pub fn listed(lists: &Vec<Vec<usize>>, class: ClassId) -> &[usize]
         Some(list) => list.as_slice(),
         None => &[],
     }
+}
+
+/// The numbers of the fields that a class declares itself, static ones too, in rising order.
+pub fn declared_fields(p: &Program, class: ClassId) -> &[usize]
+    ensures { result.now ≡ owned_from 0 class.0 (map (λ f. f.owner.0) p.now.fields.items) }
+{
+    listed(&p.own_fields, class)
 }
