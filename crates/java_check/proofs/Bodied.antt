@@ -9,7 +9,7 @@ use Rattle.java_core.specs.Found.{IsNearest, at_class, above_class}
 use Rattle.java_core.specs.Formed.{IsFormed}
 use Rattle.java_core.specs.Typing.{is_public_method}
 use Rattle.java_core.proofs.Subclasses.{below-subclass, subclass-below, parent-super, nearest_of-nearest, nearest-nearest_of}
-use Rattle.java_core.proofs.Offered.{contains_cases}
+use Rattle.java_core.proofs.Upwards.{IsAbove, chain-above, along, chain-there}
 use Rattle.java_core.proofs.Positions.{position-passes, passes-position}
 use Rattle.java_check.specs.ClassOutcome.{first_rule, below_rule, slot_rule, method_rule, class_rule, is_quiet, is_kept, all_quiet}
 use Rattle.java_check.specs.declared.Kind.{Kind}
@@ -63,70 +63,6 @@ first_fine false true false p e f = refl
 first_fine false false false p e f = refl
 
 module _ (P : Plain) (formed : IsFormed P) where
-  abbrev IsInterface : ℕ → Type 0
-  IsInterface c = (k : PlainClass) × (slice_get P.classes c ≡ Some k) × (k.is_interface ≡ true)
-
-  super_cases : (c : ℕ) (k : ClassId) → Contains (supers_of P c) k → (parent_of P c ≡ Some k) ⊎ Contains (faces_of P c) k
-  super_cases c k h = cases (parent_of P c) refl h
-    where
-      cases : (p : Option ClassId) → parent_of P c ≡ p → Contains (option_to_list p ++ faces_of P c) k → (parent_of P c ≡ Some k) ⊎ Contains (faces_of P c) k
-      cases None e h = inr h
-      cases (Some q) e h = ⊎_elim (λ s. inl (e ∙ ap Some s)) (λ f. inr f) (contains_cases q (faces_of P c) k h)
-
-  no_super : (c : ClassId) → Contains (supers_of P 0) c → ⊥
-  no_super c h = let lt : h.0 < 0 = rw (formed.object.first, formed.object.parent, formed.object.faces) at h.1 in omega (arith, lt)
-
-  face_interface : (c : ℕ) (f : ClassId) → Contains (faces_of P c) f → IsInterface f.0
-  face_interface c f h = go c (slice_get P.classes c) refl h
-    where
-      go : (c : ℕ) (o : Option PlainClass) → slice_get P.classes c ≡ o → Contains (faces_of P c) f → IsInterface f.0
-      go c None at h = let lt : h.0 < 0 = rw at at h.1 in absurd (omega (arith, lt))
-      go zero (Some k) at h = let lt : h.0 < 0 = rw (formed.object.first, formed.object.faces) at h.1 in absurd (omega (arith, lt))
-      go (suc c) (Some k) at h = (formed.classes c k at).faces f (rw at at h)
-
-  interface_parent : (c : ℕ) (p : ClassId) → IsInterface c → parent_of P c ≡ Some p → p.0 ≡ 0
-  interface_parent zero p i up = cc (formed.object.first, formed.object.class, i.1, i.2)
-  interface_parent (suc c) p i up =
-      let f = formed.classes c i.0 i.1 in
-      let same : Some f.parent ≡ Some p = sym f.has_parent ∙ sym (rw i.1 refl) ∙ up in
-      subst (λ (q : ClassId). q.0 ≡ 0) (let e : f.parent ≡ p = cc in e) (f.interface_parent i.2)
-
-  above_object : {c b : ℕ} → c ≡ 0 → IsSubclass P c b → b ≡ 0
-  above_object e same_class = e
-  above_object e (through {c = k} direct rest) = absurd (no_super k (subst (λ z. Contains (supers_of P z) k) e direct))
-
-  -- above an interface stand interfaces and Object
-  above_interface : {c b : ℕ} → IsInterface c → IsSubclass P c b → (b ≡ 0) ⊎ IsInterface b
-  above_interface i same_class = inr i
-  above_interface {c} {b} i (through {c = k} direct rest) =
-      ⊎_elim (λ up. inl (above_object (interface_parent c k i up) rest)) (λ f. above_interface (face_interface c k f) rest) (super_cases c k direct)
-
-  module _ (own : ℕ → Option ℕ) where
-    -- what a class with members has of its own, each class below it finds, that or another
-    found_below : {c h d : ℕ} → ((h ≡ 0) → ⊥) → (IsInterface h → ⊥) → own h ≡ Some d → IsSubclass P c h → (x : ℕ) × (nearest_of P own c ≡ Some x)
-    found_below {d = d} o i e same_class = (d, nearest-nearest_of P own formed.acyclic (at_class e))
-    found_below {c} o i e (through {c = k} direct rest) =
-        ⊎_elim (λ up. step k up (found_below o i e rest)) (λ f. absurd (⊎_elim o i (above_interface (face_interface c k f) rest)))
-        (super_cases c k direct)
-      where
-        step : (k : ClassId) → parent_of P c ≡ Some k → (x : ℕ) × (nearest_of P own k.0 ≡ Some x) → (x : ℕ) × (nearest_of P own c ≡ Some x)
-        step k up (x, n) = split (own c) refl
-          where
-            split : (a : Option ℕ) → own c ≡ a → (x : ℕ) × (nearest_of P own c ≡ Some x)
-            split (Some y) e = (y, nearest-nearest_of P own formed.acyclic (at_class e))
-            split None none = (x, nearest-nearest_of P own formed.acyclic (above_class none up (nearest_of-nearest P own n)))
-
-  -- what is nearest stands at or above the class
-  record IsHeld (own : ℕ → Option ℕ) (c d : ℕ) : Type 0 where
-    holder : ℕ
-    above : IsSubclass P c holder
-    found : own holder ≡ Some d
-
-  nearest_held : {own : ℕ → Option ℕ} {c d : ℕ} → IsNearest P own c d → IsHeld own c d
-  nearest_held {c = c} (at_class e) = record { holder = c; above = same_class; found = e }
-  nearest_held {c = c} (above_class {p = p} none up rest) =
-      let h = nearest_held rest in record { holder = h.holder; above = through (parent-super P c p up) h.above; found = h.found }
-
   module _ (c : ℕ) (quiet : is_quiet P c P.methods ≡ true) where
     -- a class of which objects are made breaks a rule for a declaration without a body that is nearest to it
     bare_rule : (h s d : ℕ) (k : PlainMethod) → IsSubclass P c h → has_slot h s k ≡ true → nearest_declaration P c s ≡ Some d
@@ -147,7 +83,7 @@ module _ (P : Plain) (formed : IsFormed P) where
         go true h = absurd (false≢true h)
 
     -- so it has a body where it finds a declaration
-    concrete_bodied : (s d : ℕ) → nearest_declaration P c s ≡ Some d → IsHeld (λ x. own_declaration P x s) c d → is_concrete P c && not (has_body P d) ≡ false
+    concrete_bodied : (s d : ℕ) → nearest_declaration P c s ≡ Some d → IsAbove P (λ x. own_declaration P x s) c d → is_concrete P c && not (has_body P d) ≡ false
     concrete_bodied s d near held = go (is_concrete P c && not (has_body P d)) refl
       where
         broken : (k : PlainMethod) → method_rule P c k ≡ None → is_some (method_rule P c k) ≡ true → ⊥
@@ -173,17 +109,17 @@ module _ (P : Plain) (formed : IsFormed P) where
             class false e = rw (formed.methods m k at).stands e
             class true e = absurd (false≢true (sym (ap is_some ((formed.methods m k at).in_interface e).1) ∙ body))
 
-            no_interface : IsInterface k.owner → ⊥
-            no_interface i = false≢true (sym (class (formed.methods m k at).holder.is_interface refl) ∙ rw i.1 i.2)
-
             found : (s : ℕ) → k.slot ≡ Some s → below P c k.owner ≡ true
                 → is_concrete P c && not (option_map_or (has_body P) (nearest_declaration P c s) false) ≡ false
             found s e h =
                 let own = λ (x : ℕ). own_declaration P x s in
                 let passes : has_slot k.owner s k ≡ true = rw (eq-eqb k.owner k.owner refl, e, eq-eqb s s refl) refl in
                 let there = passes-position (λ m. has_slot k.owner s m) P.methods m k at passes in
-                let near = found_below own (formed.methods m k at).no_object no_interface there.1 (below-subclass P c k.owner h) in
-                rw near.1 (concrete_bodied s near.0 near.1 (nearest_held (nearest_of-nearest P own near.1)))
+                let f = formed.methods m k at in
+                let interface = class f.holder.is_interface refl in
+                let member = record { class = f.holder; stands = f.stands; no_interface = sym (rw f.stands refl) ∙ interface; no_object = f.no_object } in
+                let near = chain-there P formed own (along P formed member (below-subclass P c k.owner h)) there.1 in
+                rw near.1 (concrete_bodied s near.0 near.1 (chain-above P own (nearest_of-nearest P own near.1)))
 
             go : (o : Option ℕ) → k.slot ≡ o → (b : Bool) → below P c k.owner ≡ b → method_rule P c k ≡ None
             go None e b h = ap (slot_rule P c k.owner) e

@@ -2,6 +2,7 @@ pub mod Rows
 pub mod Subclasses
 pub mod Positions
 pub mod SearchOrder
+pub mod Upwards
 pub mod Offered
 pub mod Words
 pub mod Locals

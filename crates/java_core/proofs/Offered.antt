@@ -11,27 +11,15 @@ use Rattle.java_core.specs.Classes.{parent_of, faces_of, supers_of, IsSubclass, 
 use Rattle.java_core.specs.Found.{IsNearest, at_class, above_class, IsOffered}
 use Rattle.java_core.specs.Formed.{IsFormed}
 use Rattle.java_core.proofs.Subclasses.{IsAcyclic, subclass-then, parent-super, nearest_of-nearest, nearest-nearest_of, ArePassed, passed_more, none_passed, one_left}
+use Rattle.java_core.proofs.Upwards.{contains_cases, IsThere, super_cases, IsAbove, further, chain-above, face_interface, interface_parent, above_object, nearest-there, nearest-up}
 use Rattle.java_core.proofs.SearchOrder.{first_found-append, declaration_of-found}
 use Rattle.java_core.proofs.Positions.{position-passes, passes-position}
-
-pub contains_cases : {X : Type 0} (x : X) (xs : List X) (y : X) → Contains (x ∷ xs) y → (x ≡ y) ⊎ Contains xs y
-contains_cases x xs y (zero, lt, e) = inl e
-contains_cases x xs y (suc k, lt, e) = inr (k, omega (arith, lt), e)
 
 first_or_cases : (a b : Option ℕ) (d : ℕ) → first_or a b ≡ Some d → (a ≡ Some d) ⊎ (b ≡ Some d)
 first_or_cases (Some x) b d e = inl e
 first_or_cases None b d e = inr e
 
 module _ (P : Plain) (own : ℕ → Option ℕ) where
-  -- d is what some class at or above c has
-  pub record IsAbove (c d : ℕ) : Type 0 where
-    pub holder : ℕ
-    pub above : IsSubclass P c holder
-    pub found : own holder ≡ Some d
-
-  further : {b c d : ℕ} → IsSubclass P b c → IsAbove c d → IsAbove b d
-  further h k = record { holder = k.holder; above = subclass-then P h k.above; found = k.found }
-
   face-super : (c : ℕ) (k : ClassId) → Contains (faces_of P c) k → Contains (supers_of P c) k
   face-super c k h = face (parent_of P c) h
     where
@@ -40,25 +28,21 @@ module _ (P : Plain) (own : ℕ → Option ℕ) where
       face (Some q) h = (suc h.0, omega (arith, h.1), h.2)
 
   in_faces : (n c d : ℕ) (xs : List ClassId) → ((k : ClassId) → Contains xs k → IsSubclass P c k.0)
-      → ((k : ClassId) → first_found own (faces_above P n k.0) ≡ Some d → IsAbove k.0 d)
-      → first_found own (flat_map (λ k. k.0 ∷ faces_above P n k.0) xs) ≡ Some d → IsAbove c d
+      → ((k : ClassId) → first_found own (faces_above P n k.0) ≡ Some d → IsAbove P own k.0 d)
+      → first_found own (flat_map (λ k. k.0 ∷ faces_above P n k.0) xs) ≡ Some d → IsAbove P own c d
   in_faces n c d [] up more e = absurd (cc e)
   in_faces n c d (k ∷ xs) up more e =
       let direct = up k (0, omega arith, refl) in
       ⊎_elim
-      (λ here. ⊎_elim (λ it. record { holder = k.0; above = direct; found = it }) (λ above. further direct (more k above))
+      (λ here. ⊎_elim (λ it. record { holder = k.0; above = direct; found = it }) (λ above. further P own direct (more k above))
       (first_or_cases (own k.0) (first_found own (faces_above P n k.0)) d here))
       (λ later. in_faces n c d xs (λ j h. up j (suc h.0, omega (arith, h.1), h.2)) more later)
       (first_or_cases (first_found own (k.0 ∷ faces_above P n k.0)) (first_found own (flat_map (λ k. k.0 ∷ faces_above P n k.0) xs)) d
       (sym (first_found-append own (k.0 ∷ faces_above P n k.0) (flat_map (λ k. k.0 ∷ faces_above P n k.0) xs)) ∙ e))
 
-  faces-above : (n c d : ℕ) → first_found own (faces_above P n c) ≡ Some d → IsAbove c d
+  faces-above : (n c d : ℕ) → first_found own (faces_above P n c) ≡ Some d → IsAbove P own c d
   faces-above zero c d e = absurd (cc e)
   faces-above (suc n) c d e = in_faces n c d (faces_of P c) (λ k h. through (face-super c k h) same_class) (λ k. faces-above n k.0 d) e
-
-  chain-above : {c d : ℕ} → IsNearest P own c d → IsAbove c d
-  chain-above {c} (at_class e) = record { holder = c; above = same_class; found = e }
-  chain-above {c} (above_class {p = p} none e up) = further (through (parent-super P c p e) same_class) (chain-above up)
 
 nearest-face : (P : Plain) (own : ℕ → Option ℕ) {c d : ℕ} → IsNearest P (λ k. first_found own (faces_above P (length P.classes) k)) c d → IsAbove P own c d
 nearest-face P own {c} {d} (at_class e) = faces-above P own (length P.classes) c d e
@@ -74,10 +58,6 @@ declaration-above P c x m e =
     (λ far. nearest-face P own (nearest_of-nearest P faces far))
     (first_or_cases (nearest_of P own c) (nearest_of P faces c) m (sym (declaration_of-found P c x) ∙ e))
 
--- some number is there
-abbrev pub IsThere : Option ℕ → Type 0
-IsThere o = (d : ℕ) × (o ≡ Some d)
-
 or_there : (a b : Option ℕ) → IsThere b → IsThere (first_or a b)
 or_there (Some x) b h = (x, refl)
 or_there None b h = h
@@ -85,25 +65,9 @@ or_there None b h = h
 there_or : (a b : Option ℕ) → IsThere a → IsThere (first_or a b)
 there_or a b (x, e) = (x, rw e)
 
--- classes as a formed program has them, as far as what is above them goes
-pub record AreHeld (P : Plain) (own : ℕ → Option ℕ) : Type 0 where
-  acyclic : IsAcyclic P
-  object : (c : ClassId) → Contains (supers_of P 0) c → ⊥
-  no_member : own 0 ≡ None
-  parent : (c : ℕ) (k : PlainClass) (p : ClassId) → slice_get P.classes c ≡ Some k → k.is_interface ≡ true → parent_of P c ≡ Some p → p.0 ≡ 0
-  faces : (c : ℕ) (f : ClassId) → Contains (faces_of P c) f → (k : PlainClass) × (slice_get P.classes f.0 ≡ Some k) × (k.is_interface ≡ true)
-
-module _ (P : Plain) (own : ℕ → Option ℕ) (held : AreHeld P own) where
-  above_object : {b d : ℕ} → IsSubclass P 0 b → own b ≡ Some d → ⊥
-  above_object same_class e = cc (held.no_member, e)
-  above_object (through {c = c} direct rest) e = absurd (held.object c direct)
-
-  super_cases : (c : ℕ) (k : ClassId) → Contains (supers_of P c) k → (parent_of P c ≡ Some k) ⊎ Contains (faces_of P c) k
-  super_cases c k h = cases (parent_of P c) refl h
-    where
-      cases : (p : Option ClassId) → parent_of P c ≡ p → Contains (option_to_list p ++ faces_of P c) k → (parent_of P c ≡ Some k) ⊎ Contains (faces_of P c) k
-      cases None e h = inr h
-      cases (Some q) e h = ⊎_elim (λ s. inl (e ∙ ap Some s)) (λ f. inr f) (contains_cases q (faces_of P c) k h)
+module _ (P : Plain) (own : ℕ → Option ℕ) (formed : IsFormed P) (no_member : own 0 ≡ None) where
+  none_above : {c b d : ℕ} → c ≡ 0 → IsSubclass P c b → own b ≡ Some d → ⊥
+  none_above e up found = let z = above_object P formed e up in cc (no_member, z, found)
 
   listed : (n : ℕ) (xs : List ClassId) (k : ClassId) → Contains xs k → IsThere (first_found own (k.0 ∷ faces_above P n k.0))
       → IsThere (first_found own (flat_map (λ k. k.0 ∷ faces_above P n k.0) xs))
@@ -119,38 +83,27 @@ module _ (P : Plain) (own : ℕ → Option ℕ) (held : AreHeld P own) where
 
   face-found : (n c : ℕ) (seen : List ℕ) (k : ClassId) {b d : ℕ} → n + length seen ≡ length P.classes → ArePassed P seen c → Contains (faces_of P c) k
       → IsSubclass P k.0 b → own b ≡ Some d → IsThere (first_found own (faces_above P n c))
-  face-found zero c seen k e h direct up found = absurd (one_left P held.acyclic seen (face-super P own c k direct) h e)
+  face-found zero c seen k e h direct up found = absurd (one_left P formed.acyclic seen (face-super P own c k direct) h e)
   face-found (suc n) c seen k {d = d} e h direct same_class found =
       listed n (faces_of P c) k direct (there_or (own k.0) (first_found own (faces_above P n k.0)) (d, found))
   face-found (suc n) c seen k {b} e h direct (through {c = j} more up) found =
       ⊎_elim
-      (λ parent. let face = held.faces c k direct in absurd
-      (above_object (subst (λ i. IsSubclass P i b) (held.parent k.0 face.0 j face.1 face.2 parent) up) found))
+      (λ parent. absurd (none_above (interface_parent P formed k.0 j (face_interface P formed c k direct) parent) up found))
       (λ face. listed n (faces_of P c) k direct
       (or_there (own k.0) (first_found own (faces_above P n k.0))
-      (face-found n k.0 (c ∷ seen) j (omega (arith, e)) (passed_more P held.acyclic seen (face-super P own c k direct) h) face up found)))
-      (super_cases k.0 j more)
-
-  nearest-there : (f : ℕ → Option ℕ) (c : ℕ) → IsThere (f c) → IsThere (nearest_of P f c)
-  nearest-there f c (d, e) = (d, nearest-nearest_of P f held.acyclic (at_class e))
-
-  nearest-up : (f : ℕ → Option ℕ) (c : ℕ) (p : ClassId) → parent_of P c ≡ Some p → IsThere (nearest_of P f p.0) → IsThere (nearest_of P f c)
-  nearest-up f c p up (d, e) = split (f c) refl
-    where
-      split : (o : Option ℕ) → f c ≡ o → IsThere (nearest_of P f c)
-      split (Some y) e = nearest-there f c (y, e)
-      split None none = (d, nearest-nearest_of P f held.acyclic (above_class none up (nearest_of-nearest P f e)))
+      (face-found n k.0 (c ∷ seen) j (omega (arith, e)) (passed_more P formed.acyclic seen (face-super P own c k direct) h) face up found)))
+      (super_cases P k.0 j more)
 
   -- what some class at or above has is found, along the superclasses or in their interfaces
   above-found : {c b d : ℕ} → IsSubclass P c b → own b ≡ Some d → IsThere (nearest_of P own c)
       ⊎ IsThere (nearest_of P (λ k. first_found own (faces_above P (length P.classes) k)) c)
-  above-found {c} {d = d} same_class found = inl (nearest-there own c (d, found))
+  above-found {c} {d = d} same_class found = inl (nearest-there P formed own c (d, found))
   above-found {c} (through {c = k} direct up) found =
       let faces = λ (k : ℕ). first_found own (faces_above P (length P.classes) k) in
       ⊎_elim
-      (λ parent. ⊎_elim (λ h. inl (nearest-up own c k parent h)) (λ h. inr (nearest-up faces c k parent h)) (above-found up found))
-      (λ face. inr (nearest-there faces c (face-found (length P.classes) c [] k (omega arith) (none_passed P c) face up found)))
-      (super_cases c k direct)
+      (λ parent. ⊎_elim (λ h. inl (nearest-up P formed own c k parent h)) (λ h. inr (nearest-up P formed faces c k parent h)) (above-found up found))
+      (λ face. inr (nearest-there P formed faces c (face-found (length P.classes) c [] k (omega arith) (none_passed P c) face up found)))
+      (super_cases P c k direct)
 
 -- a method that a class itself declares
 pub record IsOwn (P : Plain) (c : ℕ) (x : List ℕ) (m : ℕ) : Type 0 where
@@ -185,31 +138,13 @@ own-own_method P c x m h =
     let passes : is_method_of c x k ≡ true = rw (eq-eqb k.owner c h.owner, h.instance, (bytes_eq-Decides k.name x).1 h.name) refl in
     passes-position (λ k. is_method_of c x k) P.methods m k h.stands passes
 
-pub held : (P : Plain) (x : List ℕ) → IsFormed P → AreHeld P (λ k. own_method P k x)
-held P x formed = record {
-  acyclic = formed.acyclic;
-  object = λ c h. let lt : h.0 < 0 = rw (formed.object.first, formed.object.parent, formed.object.faces) at h.1 in omega (arith, lt);
-  no_member = none (own_method P 0 x) refl;
-  parent = λ c k p at face up. interface c k p at face up;
-  faces = λ c f h. face c (slice_get P.classes c) refl f h;
-}
+-- Object has no members
+no_own : (P : Plain) (x : List ℕ) → IsFormed P → own_method P 0 x ≡ None
+no_own P x formed = none (own_method P 0 x) refl
   where
     none : (o : Option ℕ) → own_method P 0 x ≡ o → own_method P 0 x ≡ None
     none None e = e
     none (Some m) e = let o = own_method-own P 0 x m e in absurd ((formed.methods m o.method o.stands).no_object o.owner)
-
-    interface : (c : ℕ) (k : PlainClass) (p : ClassId) → slice_get P.classes c ≡ Some k → k.is_interface ≡ true → parent_of P c ≡ Some p → p.0 ≡ 0
-    interface zero k p at face up = cc (formed.object.first, formed.object.class)
-    interface (suc c) k p at face up =
-        let f = formed.classes c k at in
-        let same : Some f.parent ≡ Some p = sym f.has_parent ∙ sym (rw at refl) ∙ up in
-        subst (λ (q : ClassId). q.0 ≡ 0) (let e : f.parent ≡ p = cc in e) (f.interface_parent face)
-
-    face : (c : ℕ) (o : Option PlainClass) → slice_get P.classes c ≡ o → (f : ClassId) → Contains (faces_of P c) f → (k : PlainClass)
-        × (slice_get P.classes f.0 ≡ Some k) × (k.is_interface ≡ true)
-    face c None at f h = let lt : h.0 < 0 = rw at at h.1 in absurd (omega (arith, lt))
-    face zero (Some k) at f h = let lt : h.0 < 0 = rw (formed.object.first, formed.object.faces) at h.1 in absurd (omega (arith, lt))
-    face (suc c) (Some k) at f h = (formed.classes c k at).faces f (rw at at h)
 
 module _ (P : Plain) (formed : IsFormed P) where
   -- where a type has an instance method of the name, a declaration is found, and it has a slot
@@ -222,7 +157,7 @@ module _ (P : Plain) (formed : IsFormed P) where
       (⊎_elim
       (λ near. there_or (nearest_of P own c) (nearest_of P (λ k. first_found own (faces_above P (length P.classes) k)) c) near)
       (λ far. or_there (nearest_of P own c) (nearest_of P (λ k. first_found own (faces_above P (length P.classes) k)) c) far)
-      (above-found P own (held P x formed) o.above there.1))
+      (above-found P own formed (no_own P x formed) o.above there.1))
 
   pub slot_of-offered : (c : ℕ) (x : List ℕ) (s : ℕ) → slot_of P c x ≡ Some s → IsOffered P c x s
   slot_of-offered c x s e = declared (declaration_of P c x) refl e

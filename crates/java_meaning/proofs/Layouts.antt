@@ -14,7 +14,7 @@ use Rattle.java_core.specs.Found.{IsNearest, at_class, above_class}
 use Rattle.java_core.specs.Formed.{IsFormed}
 use Rattle.java_core.proofs.Subclasses.{subclass-then, below-subclass, parent-super, nearest_of-nearest, ArePassed, passed_more, none_passed, one_left}
 use Rattle.java_core.proofs.Positions.{position-passes, passes-position}
-use Rattle.java_core.proofs.Offered.{contains_cases}
+use Rattle.java_core.proofs.Upwards.{IsOnChain, chain_here, chain_up, chain-above, along}
 use Rattle.java_meaning.specs.Moment.{Nothing}
 use Rattle.java_meaning.specs.Values.{default_of}
 use Rattle.java_meaning.specs.Languages.{own_fields_from, own_fields, layout_in, layout, default_at, index_of, fresh_of}
@@ -106,62 +106,8 @@ module _ (P : Plain) where
   statics f t e = let k = mapped_some (λ k. k.ty) (slice_get P.fields f) t e in slice_get-map (λ f. default_of f.ty) P.fields f
       ∙ ap (option_map (λ f. default_of f.ty)) k.1 ∙ ap (λ z. Some (default_of z)) k.2
 
-  -- a class along the superclasses
-  data IsChain : ℕ → ℕ → Type 0 where
-    chain_here : {c : ℕ} → IsChain c c
-    chain_up : {c h : ℕ} {p : ClassId} → parent_of P c ≡ Some p → IsChain p.0 h → IsChain c h
-
-  -- what is nearest stands above
-  pub nearest_above : (own : ℕ → Option ℕ) {c d : ℕ} → IsNearest P own c d → (h : ℕ) × IsSubclass P c h × (own h ≡ Some d)
-  nearest_above own {c} (at_class e) = (c, same_class, e)
-  nearest_above own {c} (above_class {p = p} none e up) = let r = nearest_above own up in (r.0, through (parent-super P c p e) r.1, r.2)
-
-  super_cases : (c : ℕ) (k : ClassId) → Contains (supers_of P c) k → (parent_of P c ≡ Some k) ⊎ Contains (faces_of P c) k
-  super_cases c k h = cases (parent_of P c) refl h
-    where
-      cases : (p : Option ClassId) → parent_of P c ≡ p → Contains (option_to_list p ++ faces_of P c) k → (parent_of P c ≡ Some k) ⊎ Contains (faces_of P c) k
-      cases None e h = inr h
-      cases (Some q) e h = ⊎_elim (λ s. inl (e ∙ ap Some s)) (λ f. inr f) (contains_cases q (faces_of P c) k h)
-
   module _ (formed : IsFormed P) where
-    abbrev IsInterface : ℕ → Type 0
-    IsInterface c = (k : PlainClass) × (slice_get P.classes c ≡ Some k) × (k.is_interface ≡ true)
-
-    no_super : (c : ClassId) → Contains (supers_of P 0) c → ⊥
-    no_super c h = let lt : h.0 < 0 = rw (formed.object.first, formed.object.parent, formed.object.faces) at h.1 in omega (arith, lt)
-
-    face_interface : (c : ℕ) (f : ClassId) → Contains (faces_of P c) f → IsInterface f.0
-    face_interface c f h = go c (slice_get P.classes c) refl h
-      where
-        go : (c : ℕ) (o : Option PlainClass) → slice_get P.classes c ≡ o → Contains (faces_of P c) f → IsInterface f.0
-        go c None at h = let lt : h.0 < 0 = rw at at h.1 in absurd (omega (arith, lt))
-        go zero (Some k) at h = let lt : h.0 < 0 = rw (formed.object.first, formed.object.faces) at h.1 in absurd (omega (arith, lt))
-        go (suc c) (Some k) at h = (formed.classes c k at).faces f (rw at at h)
-
-    interface_parent : (c : ℕ) (p : ClassId) → IsInterface c → parent_of P c ≡ Some p → p.0 ≡ 0
-    interface_parent zero p i up = cc (formed.object.first, formed.object.class, i.1, i.2)
-    interface_parent (suc c) p i up =
-        let f = formed.classes c i.0 i.1 in
-        let same : Some f.parent ≡ Some p = sym f.has_parent ∙ sym (rw i.1 refl) ∙ up in
-        subst (λ (q : ClassId). q.0 ≡ 0) (let e : f.parent ≡ p = cc in e) (f.interface_parent i.2)
-
-    above_object : {c b : ℕ} → c ≡ 0 → IsSubclass P c b → b ≡ 0
-    above_object e same_class = e
-    above_object e (through {c = k} direct rest) = absurd (no_super k (subst (λ z. Contains (supers_of P z) k) e direct))
-
-    -- above an interface stand interfaces and Object
-    above_interface : {c b : ℕ} → IsInterface c → IsSubclass P c b → (b ≡ 0) ⊎ IsInterface b
-    above_interface i same_class = inr i
-    above_interface {c} {b} i (through {c = k} direct rest) =
-        ⊎_elim (λ up. inl (above_object (interface_parent c k i up) rest)) (λ f. above_interface (face_interface c k f) rest) (super_cases c k direct)
-
-    -- a class with members stands along the superclasses
-    chain_of : {c h : ℕ} → ((h ≡ 0) → ⊥) → (IsInterface h → ⊥) → IsSubclass P c h → IsChain c h
-    chain_of o i same_class = chain_here
-    chain_of {c} o i (through {c = k} direct rest) =
-        ⊎_elim (λ up. chain_up up (chain_of o i rest)) (λ f. absurd (⊎_elim o i (above_interface (face_interface c k f) rest))) (super_cases c k direct)
-
-    in_layout : (n : ℕ) (seen : List ℕ) {c h : ℕ} (f : ℕ) → IsChain c h → IsIn (own_fields P h) f → n + length seen ≡ length P.classes
+    in_layout : (n : ℕ) (seen : List ℕ) {c h : ℕ} (f : ℕ) → IsOnChain P c h → IsIn (own_fields P h) f → n + length seen ≡ length P.classes
         → ArePassed P seen c → IsIn (layout_in P n c) f
     in_layout zero seen f chain_here there e k = there
     in_layout (suc n) seen {c} f chain_here there e k = in_right (option_map_or (λ p. layout_in P n p.0) (parent_of P c) []) (own_fields P c) f there
@@ -185,20 +131,22 @@ module _ (P : Plain) where
     unfolding member_field field_of layout
     members c d x f bel e =
         let i = instance_found f (field_of P d x) e in
-        let n = nearest_above (λ k. own_field_of P k x) (nearest_of-nearest P (λ k. own_field_of P k x) i.0) in
-        let k = position-passes (λ z. is_field_of n.0 x z) P.fields f n.2 in
-        let parts = and_parts (eqb k.0.owner n.0) (bytes_eq k.0.name x) k.2 in
-        let owner : k.0.owner ≡ n.0 = eqb-true k.0.owner n.0 parts.0 in
+        let n = chain-above P (λ k. own_field_of P k x) (nearest_of-nearest P (λ k. own_field_of P k x) i.0) in
+        let k = position-passes (λ z. is_field_of n.holder x z) P.fields f n.found in
+        let parts = and_parts (eqb k.0.owner n.holder) (bytes_eq k.0.name x) k.2 in
+        let owner : k.0.owner ≡ n.holder = eqb-true k.0.owner n.holder parts.0 in
         let own = formed.fields f k.0 k.1 in
         let static : k.0.is_static ≡ false = sym (ap (λ z. option_map_or (λ y. y.is_static) z false) k.1) ∙ i.1 in
-        let up = subclass-then P (below-subclass P c d bel) n.1 in
-        let chain = chain_of (λ z. own.no_object (owner ∙ z)) (λ z. no_face (owner ∙ refl) own.holder own.stands own.class z) up in
-        let listed = own_listed n.0 0 P.fields f k.0 k.1 owner static in
-        let there = in_layout (length P.classes) [] f chain (subst (λ z. IsIn (own_fields P n.0) z) (let z : 0 + f ≡ f = omega arith in z) listed)
+        let up = subclass-then P (below-subclass P c d bel) n.above in
+        let member = record {
+          class = own.holder;
+          stands = subst (λ z. slice_get P.classes z ≡ Some own.holder) owner own.stands;
+          no_interface = own.class;
+          no_object = λ z. own.no_object (owner ∙ z);
+        } in
+        let chain = along P formed member up in
+        let listed = own_listed n.holder 0 P.fields f k.0 k.1 owner static in
+        let there = in_layout (length P.classes) [] f chain (subst (λ z. IsIn (own_fields P n.holder) z) (let z : 0 + f ≡ f = omega arith in z) listed)
         (omega arith) (none_passed P c) in
         let p = passes-position (λ g. g == f) (layout P c) there.0 f there.1 (eq-eqb f f refl) in
         ap is_some p.1
-      where
-        no_face : {a b : ℕ} → a ≡ b → (h : PlainClass) → slice_get P.classes a ≡ Some h → h.is_interface ≡ false → IsInterface b → ⊥
-        no_face e h at class i = false≢true (sym class
-            ∙ ap (λ (z : PlainClass). z.is_interface) (same_Some _ _ (sym at ∙ ap (slice_get P.classes) e ∙ i.1)) ∙ i.2)

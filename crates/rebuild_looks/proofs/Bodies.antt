@@ -9,6 +9,7 @@ use Rattle.java_core.specs.Programs.{Plain, PlainMethod, PlainSlot}
 use Rattle.java_core.specs.Classes.{IsSubclass, IsProperSubclass, nearest_of, own_method, own_body, has_slot, is_slot, lookup, super_method, has_body, slot_of_method, slot_of}
 use Rattle.java_core.proofs.Positions.{position-passes, passes-position}
 use Rattle.java_core.proofs.Subclasses.{proper-subclass, subclass-then, nearest-nearest_of}
+use Rattle.java_core.proofs.Upwards.{IsOnChain, along}
 use Rattle.java_core.proofs.Offered.{IsOwn, own_method-own, own-own_method, slot_of-offered}
 use Rattle.kaba_order.specs.Orders.{is_le, is_live}
 use Rattle.fact_model.specs.declared.facts.Facts.{Facts}
@@ -16,9 +17,8 @@ use Rattle.hier_model.specs.Hierarchies.{Hierarchy, is_class_node, offers_slot}
 use Rattle.flow_rules.specs.declared.items.ColumnItem.TheVariants as column
 use Rattle.rebuild_model.specs.Renaming.{Places, Renaming, renaming_of}
 use Rattle.rebuild_model.specs.Members.{is_made_at, offers_body, is_headed, is_filled, StandsAt}
-use Rattle.rebuild_looks.specs.Chains.{IsOnChain}
 use Rattle.rebuild_looks.specs.Known.{Known, Offers}
-use Rattle.rebuild_looks.proofs.Along.{OneOnWay, along, nearest_on_way, nearest_strictly}
+use Rattle.rebuild_looks.proofs.Along.{OneOnWay, nearest_on_way, nearest_strictly}
 use Rattle.rebuild_looks.proofs.Nodes.{subclass_of, le_of, stands_once, offers_own, class_node, member_class}
 use Rattle.rebuild_looks.proofs.Slots.{same_name, OffersSlot, offers_item, asked_body}
 use Rattle.rebuild_looks.proofs.Methods.{Sort, a_body, a_head, a_filler}
@@ -152,9 +152,9 @@ module _ (P Q : Plain) (F : Facts) (H : Hierarchy) (W : Plain) (K : Known P Q F 
       finds_body q slot =
           let own = is_own (T.type_of o.node) q number
           (record { method = body.method; stands = body.stands; owner = body.owner; slot = slot; body = is_bodied }) in
-          nearest-nearest_of W (λ k. own_body W k q) K.new.acyclic (nearest_on_way W K.new (λ k. own_body W k q) chain own one)
+          nearest-nearest_of W (λ k. own_body W k q) K.new.acyclic (nearest_on_way W (λ k. own_body W k q) chain own one)
         where
-          one : OneOnWay W K.new (λ k. own_body W k q) (T.type_of n) (T.type_of o.node) number
+          one : OneOnWay W (λ k. own_body W k q) (T.type_of n) (T.type_of o.node) number
           one e y down up h =
               let own = own_is e q y h in
               let in_slot = ((K.new.methods y own.method own.stands).slots q).0 own.slot in
@@ -189,7 +189,7 @@ module _ (P Q : Plain) (F : Facts) (H : Hierarchy) (W : Plain) (K : Known P Q F 
           let own = own_named (T.type_of o.node) number (R.method_name d)
           (record { method = body.method; stands = body.stands; owner = body.owner; instance = body.is.instance; name = body.is.name }) in
           let apart : T.type_of n ≢ T.type_of o.node = λ e. other (K.rebuilt.types.nodes_once n o.node live at_live e) in
-          let x = nearest_strictly W K.new (λ k. own_method W k (R.method_name d)) chain apart own way in
+          let x = nearest_strictly W (λ k. own_method W k (R.method_name d)) chain apart own way in
           ap (option_and_then (λ (p : ClassId). nearest_of W (λ k. own_method W k (R.method_name d)) p.0)) x.above
           ∙ nearest-nearest_of W (λ k. own_method W k (R.method_name d)) K.new.acyclic x.nearest
         where

@@ -18,7 +18,8 @@ use Rattle.flow_rules.specs.Facts.{is_holder}
 use Rattle.rebuild_model.specs.Renaming.{Places}
 use Rattle.rebuild_model.specs.Members.{is_made_at, offers_body, is_headed}
 use Rattle.rebuild_looks.specs.Known.{Known}
-use Rattle.rebuild_looks.proofs.Along.{above_object, along, nearest_below}
+use Rattle.java_core.proofs.Upwards.{above_object, along}
+use Rattle.rebuild_looks.proofs.Along.{nearest_below}
 use Rattle.rebuild_looks.proofs.Nodes.{subclass_of, le_of, no_holder, offers_own, class_node, made_class, member_class}
 use Rattle.rebuild_looks.proofs.Slots.{method_of_slot, same_name, OffersSlot, slot_below, asked_slot, OffersBody, body_asked, asked_body}
 use Rattle.rebuild_looks.proofs.Methods.{Sort, a_body, a_head, a_filler, IsNewMethod, new_method}
@@ -117,7 +118,7 @@ module _ (P Q : Plain) (F : Facts) (H : Hierarchy) (W : Plain) (K : Known P Q F 
         let there = is_own (T.type_of j) q g.0 (record { method = g.1.method; stands = g.1.stands; owner = g.1.owner; slot = slot }) in
         let class = class_node P Q F H W K j (column.Def b.method) refl (offers_own P Q F H W K j (column.Def b.method) b.offers.stands) in
         let chain = along W K.new (member_class P Q F H W K j (K.order.upper_lives n j b.offers.above) class) (subclass_of P Q F H W K n j b.offers.above) in
-        let near = nearest_below W K.new (λ k. own_declaration W k q) chain there.1 in
+        let near = nearest_below W (λ k. own_declaration W k q) chain there.1 in
         let own = own_is near.holder q near.number near.found in
         let y = other near.number near.holder own near.above in
         let owner : near.holder ≡ T.type_of y.is.node = sym own.owner ∙ ap (λ (z : PlainMethod). z.owner) (same_Some _ _ (sym own.stands ∙ y.stands))

@@ -20,7 +20,8 @@ use Rattle.flow_rules.specs.Facts.{numbers, is_holder}
 use Rattle.rebuild_model.specs.Renaming.{Places, Renaming, renaming_of}
 use Rattle.rebuild_model.specs.Members.{StandsAt, IsField}
 use Rattle.rebuild_looks.specs.Known.{Known, Offers}
-use Rattle.rebuild_looks.proofs.Along.{OneOnWay, along, nearest_on_way}
+use Rattle.java_core.proofs.Upwards.{along}
+use Rattle.rebuild_looks.proofs.Along.{OneOnWay, nearest_on_way}
 use Rattle.java_meaning.specs.Languages.{index_of}
 use Rattle.java_meaning.proofs.Layouts.{members, places}
 use Rattle.rebuild_looks.proofs.Nodes.{subclass_of, below_is, class_node, member_class, le_of, is_offered_at, offers_own, offers_below, stands_live, stands_once, no_holder}
@@ -163,7 +164,7 @@ module _ (P Q : Plain) (F : Facts) (H : Hierarchy) (W : Plain) (K : Known P Q F 
         (offers_below P Q F H W K n h.node (column.Fld z.0) low (offers_own P Q F H W K h.node (column.Fld z.0) h.stands)) o (sym h.name ∙ named) in
         one_field f y there (subst (λ z. IsNewField z y) one (record { field = k; stands = at; is = h })) (new_field f o.node o.stands).1
 
-    one_on_way : OneOnWay W K.new (λ k. own_field_of W k name) (T.type_of n) (T.type_of o.node) there
+    one_on_way : OneOnWay W (λ k. own_field_of W k name) (T.type_of n) (T.type_of o.node) there
     one_on_way e y down up h =
         let own = own_is e y name h in
         ⊎_elim (λ s. absurd (no_static e y own.field own.stands own.owner s up)) (λ s. is_it e y own.field own.stands own.owner own.name s down)
@@ -177,7 +178,7 @@ module _ (P Q : Plain) (F : Facts) (H : Hierarchy) (W : Plain) (K : Known P Q F 
         let class = member_class P Q F H W K o.node at_live
         (class_node P Q F H W K o.node (column.Fld f) refl (offers_own P Q F H W K o.node (column.Fld f) o.stands)) in
         let own = is_own (T.type_of o.node) there name (record { field = it.field; stands = it.stands; owner = it.is.owner ∙ at; name = it.is.name }) in
-        let near = nearest_on_way W K.new (λ k. own_field_of W k name) (along W K.new class (subclass_of P Q F H W K n o.node o.above)) own one_on_way in
+        let near = nearest_on_way W (λ k. own_field_of W k name) (along W K.new class (subclass_of P Q F H W K n o.node o.above)) own one_on_way in
         ap (when_instance W) (nearest-nearest_of W (λ k. own_field_of W k name) K.new.acyclic near) ∙ static_is there it.field it.stands it.is.instance
 
     -- each object below has a place for it

@@ -10,7 +10,7 @@ use Rattle.java_core.specs.Programs.{Plain}
 use Rattle.java_core.specs.Classes.{supers_of, IsSubclass, same_class, through, below, is_concrete}
 use Rattle.java_core.specs.Types.{is_subtype}
 use Rattle.java_core.proofs.Subclasses.{below-subclass, subclass-below}
-use Rattle.java_core.proofs.Offered.{contains_cases}
+use Rattle.java_core.proofs.Upwards.{contains_cases, IsOnChain, IsMemberClass, above_object, along, on_chain}
 use Rattle.kaba_order.specs.Orders.{is_le, is_live}
 use Rattle.fact_model.specs.Items.{site_at, site_row, column_kind}
 use Rattle.fact_model.specs.declared.facts.Facts.{Facts}
@@ -20,9 +20,7 @@ use Rattle.flow_rules.specs.Facts.{numbers, kind_of, is_holder}
 use Rattle.flow_rules.specs.declared.items.ColumnItem.{ColumnItem}
 use Rattle.rebuild_model.specs.Renaming.{Places}
 use Rattle.rebuild_model.specs.Members.{is_made_at, StandsAt}
-use Rattle.rebuild_looks.specs.Chains.{IsOnChain}
 use Rattle.rebuild_looks.specs.Known.{Known, Offers}
-use Rattle.rebuild_looks.proofs.Along.{IsMemberClass, above_object, along, on_chain}
 
 module _ (P Q : Plain) (F : Facts) (H : Hierarchy) (W : Plain) (K : Known P Q F H W) where
   abbrev T : Places

@@ -7,7 +7,7 @@ use Rattle.kaba_bits.specs.Sets.{when}
 use Rattle.kaba_bits.proofs.FirstLemmas.{first_below_Some, first_below_None, when-Some, when-None}
 use Rattle.kaba_bits.proofs.SetLemmas.{bit-below}
 use Rattle.kaba_order.specs.Orders.{IsPartialOrder, is_le}
-use Rattle.java_core.proofs.Offered.{contains_cases}
+use Rattle.java_core.proofs.Upwards.{contains_cases}
 use Rattle.fact_model.specs.declared.facts.Facts.{Facts}
 use Rattle.fact_model.specs.declared.sets.PointsTo.{PointsTo}
 use Rattle.hier_model.specs.Hierarchies.{Hierarchy, any_below, is_class_node}

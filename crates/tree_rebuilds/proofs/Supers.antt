@@ -9,7 +9,7 @@ use Rattle.java_tree.specs.Syntax.{DeclTree}
 use Rattle.java_core.specs.Programs.{Plain, PlainClass}
 use Rattle.java_core.specs.Classes.{supers_of, IsSubclass, same_class, through}
 use Rattle.java_core.specs.Formed.{IsFormed}
-use Rattle.java_core.proofs.Offered.{contains_cases}
+use Rattle.java_core.proofs.Upwards.{contains_cases}
 use Rattle.name_rules.specs.Outline.{parent_named, faces_named, parent_meant, id_meant, types_in}
 use Rattle.name_rules.specs.Resolves.{Resolves}
 use Rattle.run_cover.specs.Untagged.{untagged}
