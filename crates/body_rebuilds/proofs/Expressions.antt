@@ -22,7 +22,7 @@ use Rattle.flow_rules.specs.declared.items.RowItem.TheVariants as row
 use Rattle.flow_rules.specs.Operands.{object_of, operand_of, test_operand, type_in}
 use Rattle.flow_rules.specs.Parts.{Part, a_creation, a_test, is_accessed, parts, parts_all, parts_of}
 use Rattle.run_cover.specs.Untagged.{untag_method, untagged}
-use Rattle.run_cover.proofs.Sites.{first, more}
+use Rattle.flow_rules.proofs.Listed.{first, more}
 use Rattle.run_cover.proofs.Included.{then_some}
 use Rattle.run_cover.proofs.Types.{class_apart, slot_called}
 use Rattle.name_rules.specs.declared.parts.Bound.{Bound}

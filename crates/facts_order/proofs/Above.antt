@@ -15,7 +15,7 @@ use Rattle.flow_rules.specs.declared.items.ObjectType.{ObjectType}
 use Rattle.flow_rules.specs.declared.items.ColumnItem.TheVariants as column
 use Rattle.flow_rules.specs.Operands.{class_at, object_field, call_declaration}
 use Rattle.flow_rules.specs.Facts.{owner_of}
-use Rattle.facts_order.proofs.Listed.{position_at}
+use Rattle.flow_rules.proofs.Listed.{position_at}
 use Rattle.facts_order.proofs.Pairs.{IsPlaced}
 
 and_left : (a b : Bool) → (a && b) ≡ true → a ≡ true

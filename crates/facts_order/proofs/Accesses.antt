@@ -17,7 +17,7 @@ use Rattle.flow_rules.specs.Parts.{Part, a_load, a_call, a_store, parts_of}
 use Rattle.flow_rules.specs.Numbered.{column_number}
 use Rattle.flow_rules.specs.Lists.{row_at, accessed, accesses_of}
 use Rattle.flow_rules.specs.Facts.{numbers, column_info, IsFactsOf}
-use Rattle.facts_order.proofs.Listed.{one_from, all_of}
+use Rattle.flow_rules.proofs.Listed.{one_from, all_of}
 use Rattle.facts_order.proofs.Columns.{numbered_column}
 use Rattle.facts_order.proofs.Pairs.{IsPlaced}
 use Rattle.facts_order.proofs.Classes.{subclass_below}

@@ -27,7 +27,7 @@ use Rattle.flow_rules.specs.Numbered.{rows_of}
 use Rattle.flow_rules.specs.Facts.{IsFactsOf}
 use Rattle.flow_rules.proofs.TypeLemmas.{types_are}
 use Rattle.run_cover.proofs.Untagging.{unlabel}
-use Rattle.facts_order.proofs.Listed.{first}
+use Rattle.flow_rules.proofs.Listed.{first}
 use Rattle.facts_order.proofs.Pairs.{IsPlaced}
 use Rattle.facts_order.proofs.Rows.{own_of, row_types}
 use Rattle.facts_order.proofs.Sites.{own_typed}

@@ -18,7 +18,7 @@ use Rattle.fact_model.specs.declared.facts.ColKind.TheVariants as kind
 use Rattle.flow_rules.specs.declared.items.ColumnItem.{ColumnItem}
 use Rattle.flow_rules.specs.Ordered.{each}
 use Rattle.flow_rules.specs.Facts.{ClassFacts, class_seen, is_holder, owner_of, kind_of, IsFactsOf}
-use Rattle.facts_order.proofs.Listed.{below_at, at_map, map_at}
+use Rattle.flow_rules.proofs.Listed.{below_at, at_map, map_at}
 use Rattle.facts_order.proofs.Pairs.{IsPlaced}
 use Rattle.facts_order.proofs.Columns.{Stands, for_field, for_declaration, for_body, for_mark, item_of}
 

@@ -19,7 +19,7 @@ use Rattle.flow_rules.specs.declared.items.Site.{Site}
 use Rattle.flow_rules.specs.Parts.{a_creation}
 use Rattle.flow_rules.specs.Numbered.{columns_of, sites_of, row_number, column_number}
 use Rattle.flow_rules.specs.Facts.{FieldCell, numbers, field_if, field_at, fields_of, field_cell, array_cell, site_cells, site_info, cells_of, owner_of, IsFactsOf}
-use Rattle.facts_order.proofs.Listed.{at_map, below_at, contains_at, index_at, one_from, flat_from, when_from, each_from_zero}
+use Rattle.flow_rules.proofs.Listed.{at_map, below_at, contains_at, index_at, one_from, flat_from, when_from, each_from_zero}
 use Rattle.facts_order.proofs.Items.{column_back}
 use Rattle.facts_order.proofs.Pairs.{IsPlaced}
 use Rattle.facts_order.proofs.Classes.{subclass_below}

@@ -30,7 +30,7 @@ use Rattle.flow_rules.specs.Lists.{is_comparison}
 use Rattle.flow_rules.specs.Facts.{owner_of, IsFactsOf}
 use Rattle.flow_rules.proofs.TypeLemmas.{class_is, object_field_is}
 use Rattle.run_cover.proofs.Types.{class_apart, slot_called}
-use Rattle.facts_order.proofs.Listed.{first, more, one_from}
+use Rattle.flow_rules.proofs.Listed.{first, more, one_from}
 use Rattle.facts_order.proofs.Pairs.{IsPlaced}
 use Rattle.facts_order.proofs.Forms.{own, own_assign, From, from_ex, from_assign, from_declare, from_return}
 use Rattle.facts_order.proofs.Rows.{part_from}

@@ -37,7 +37,7 @@ use Rattle.flow_rules.specs.Lists.{point_at, site_in, created, moved, news_of, f
 use Rattle.flow_rules.specs.Numbered.{column_number, site_number, point_number}
 use Rattle.flow_rules.specs.Facts.{numbers, owner_of, IsFactsOf}
 use Rattle.run_cover.proofs.Kinded.{site_type}
-use Rattle.facts_order.proofs.Listed.{each_from_zero}
+use Rattle.flow_rules.proofs.Listed.{each_from_zero}
 use Rattle.facts_order.proofs.Items.{column_at}
 use Rattle.facts_order.proofs.Pairs.{IsPlaced}
 use Rattle.facts_order.proofs.Classes.{below_subclass}

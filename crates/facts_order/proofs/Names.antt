@@ -24,7 +24,7 @@ use Rattle.fact_model.specs.declared.facts.ColKind.TheVariants as kind
 use Rattle.flow_rules.specs.declared.items.ColumnItem.{ColumnItem}
 use Rattle.flow_rules.specs.Ordered.{once}
 use Rattle.flow_rules.specs.Facts.{kind_of, name_in, is_holder, all_names, all_variables, variable_names, IsFactsOf, AreNamesOf}
-use Rattle.facts_order.proofs.Listed.{more, first, contains_at, at_contains, map_has, map_from, flat_has, flat_from, all_of, once_has, once_from}
+use Rattle.flow_rules.proofs.Listed.{more, first, contains_at, at_contains, map_has, map_from, flat_has, flat_from, all_of, once_has, once_from}
 use Rattle.facts_order.proofs.Pairs.{IsPlaced}
 use Rattle.facts_order.proofs.Columns.{Stands, for_field, for_declaration, for_body, for_mark, item_of}
 use Rattle.facts_order.proofs.Classes.{class_at}

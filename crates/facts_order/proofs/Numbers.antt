@@ -16,7 +16,7 @@ use Rattle.flow_rules.specs.declared.items.RowItem.TheVariants as row
 use Rattle.flow_rules.specs.Labels.{size, label, label_all, size_if, label_if, size_target, label_target, size_st, size_sts, label_st, label_sts, label_arms}
 use Rattle.flow_rules.specs.Parts.{Part, a_load, an_element, a_creation, a_call, a_static_call, a_super_call, a_test, is_accessed, parts, parts_all, parts_if, parts_set, parts_return, parts_assign, parts_st, parts_sts, parts_arms, parts_body, parts_of}
 use Rattle.flow_rules.specs.Operands.{type_in}
-use Rattle.facts_order.proofs.Listed.{at_contains, at_below, flat_has}
+use Rattle.flow_rules.proofs.Listed.{at_contains, at_below, flat_has}
 use Rattle.facts_order.proofs.Pairs.{IsPlaced}
 
 -- the number of what has a row of its own

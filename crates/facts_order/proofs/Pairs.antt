@@ -12,7 +12,7 @@ use Rattle.java_core.specs.Types.{types_of}
 use Rattle.java_core.specs.Programs.{Plain, PlainClass, PlainField, PlainMethod, local_seen, class_seen, field_seen, method_seen, program_of}
 use Rattle.java_meaning.specs.Watched.{bare_sts}
 use Rattle.java_meaning.proofs.Placed.{bare_list}
-use Rattle.facts_order.proofs.Listed.{at_map, map_at}
+use Rattle.flow_rules.proofs.Listed.{at_map, map_at}
 
 -- a field with its place, and without
 pub record IsFieldOf (P : Plain) (f : ℕ) (k : PlainField) : Type 0 where

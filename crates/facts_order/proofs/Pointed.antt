@@ -23,7 +23,7 @@ use Rattle.flow_rules.specs.Lists.{point_in, point_at}
 use Rattle.flow_rules.specs.Numbered.{row_number, sites_of, site_number, points_of, point_number}
 use Rattle.flow_rules.specs.Facts.{site_info, numbers, IsFactsOf}
 use Rattle.run_cover.proofs.Kinded.{site_type}
-use Rattle.facts_order.proofs.Listed.{at_map, map_at, below_at, index_at}
+use Rattle.flow_rules.proofs.Listed.{at_map, map_at, below_at, index_at}
 use Rattle.facts_order.proofs.Items.{site_at, point_at as item_at}
 use Rattle.facts_order.proofs.Pairs.{IsPlaced}
 use Rattle.facts_order.proofs.Rows.{row_types}

@@ -21,7 +21,7 @@ use Rattle.flow_rules.specs.Operands.{variable_row, result_in}
 use Rattle.flow_rules.specs.Parts.{Part, a_load, an_element, a_creation, a_call, a_static_call, a_super_call, a_test, parts_of}
 use Rattle.flow_rules.specs.Numbered.{Outline, own_point, point_of_form, form_points, static_points, variable_points, method_points, outline_if, point_with, listed, row_number, points_of, point_number}
 use Rattle.flow_rules.specs.Facts.{IsFactsOf}
-use Rattle.facts_order.proofs.Listed.{first, at_below, at_map, index_at, each_has, each_from, each_from_zero, flat_has, flat_from, place_has, place_from, when_has, when_from, one_from}
+use Rattle.flow_rules.proofs.Listed.{first, at_below, at_map, index_at, each_has, each_from, each_from_zero, flat_has, flat_from, place_has, place_from, when_has, when_from, one_from}
 use Rattle.facts_order.proofs.Items.{point_at, point_raw, point_there}
 
 -- what a part gives, where that can be a flow point

@@ -24,7 +24,7 @@ use Rattle.flow_rules.specs.Operands.{object_of, object_if, class_object, variab
 use Rattle.flow_rules.specs.Parts.{Part, a_creation, a_test, parts_body, parts_of}
 use Rattle.flow_rules.specs.Numbered.{row_if, own_row, form_rows, field_rows, this_rows, result_rows, variable_rows, method_rows, is_first, rows_of, row_number}
 use Rattle.flow_rules.specs.Facts.{row_info, numbers, IsFactsOf}
-use Rattle.facts_order.proofs.Listed.{first, at_below, below_at, at_map, map_at, index_at, index_past, each_has, each_from, each_from_zero, flat_from, when_has, when_from, one_from}
+use Rattle.flow_rules.proofs.Listed.{first, at_below, below_at, at_map, map_at, index_at, index_past, each_has, each_from, each_from_zero, flat_from, when_has, when_from, one_from}
 use Rattle.facts_order.proofs.Items.{row_at, row_raw, row_there}
 use Rattle.facts_order.proofs.Pairs.{IsPlaced}
 use Rattle.facts_order.proofs.Numbers.{front, back}

@@ -24,7 +24,7 @@ use Rattle.flow_rules.specs.Operands.{result_in, variable_in, type_in}
 use Rattle.flow_rules.specs.Parts.{Part, a_load, an_element, a_creation, a_call, a_static_call, a_super_call, a_test, a_pair, a_set, a_store, an_element_store, a_return, parts_of}
 use Rattle.flow_rules.specs.Numbered.{Body, rows_of, row_number, number_if, site_if, form_sites, bodies_of, body_at, sites_of, site_number}
 use Rattle.flow_rules.specs.Facts.{site_info, site_of_row, numbers, IsFactsOf}
-use Rattle.facts_order.proofs.Listed.{below_at, at_map, map_at, index_at, each_has, each_from_zero, flat_has, flat_from, one_from, first}
+use Rattle.flow_rules.proofs.Listed.{below_at, at_map, map_at, index_at, each_has, each_from_zero, flat_has, flat_from, one_from, first}
 use Rattle.facts_order.proofs.Items.{site_at, site_back, site_raw, site_there, row_back}
 use Rattle.facts_order.proofs.Pairs.{IsPlaced}
 use Rattle.facts_order.proofs.Numbers.{number_in, part_number, IsPart, number_apart}

@@ -28,7 +28,7 @@ use Rattle.flow_rules.specs.Parts.{Part, a_load, an_element, a_creation, parts, 
 use Rattle.flow_rules.specs.Lists.{is_this}
 use Rattle.flow_rules.specs.Numbered.{rows_of}
 use Rattle.flow_rules.specs.Facts.{IsFactsOf}
-use Rattle.facts_order.proofs.Listed.{first, more}
+use Rattle.flow_rules.proofs.Listed.{first, more}
 use Rattle.facts_order.proofs.Pairs.{IsPlaced}
 use Rattle.facts_order.proofs.Labels.{label_in, part_label, label_apart}
 use Rattle.facts_order.proofs.Points.{given_by}

@@ -28,7 +28,7 @@ use Rattle.flow_rules.specs.Facts.{numbers, this_of_row, owner_of, IsFactsOf}
 use Rattle.run_cover.specs.Untagged.{untagged}
 use Rattle.run_cover.proofs.Found.{same_length}
 use Rattle.run_cover.proofs.Bodies.{finds_some}
-use Rattle.facts_order.proofs.Listed.{all_of, position_at}
+use Rattle.flow_rules.proofs.Listed.{all_of, position_at}
 use Rattle.facts_order.proofs.Pairs.{IsPlaced}
 use Rattle.facts_order.proofs.Columns.{numbered_column, body_column}
 use Rattle.facts_order.proofs.Classes.{subclass_below, parent_same}

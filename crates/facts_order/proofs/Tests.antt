@@ -33,7 +33,7 @@ use Rattle.flow_rules.specs.Numbered.{Body, body_at, bodies_of, own_point, array
 use Rattle.flow_rules.specs.Lists.{both, these, point_in, row_in, point_at, row_at, tests_of, casts_of}
 use Rattle.java_core.specs.Classes.{below}
 use Rattle.flow_rules.specs.Facts.{numbers, gathered, cells_of, FieldCell, fields_of, field_cell, array_cell, site_cells, IsFactsOf}
-use Rattle.facts_order.proofs.Listed.{first, at_below, index_at, below_at, contains_at, at_contains, each_has, each_from, each_from_zero, flat_has, flat_from, place_from, one_from, when_has, when_from, all_of}
+use Rattle.flow_rules.proofs.Listed.{first, at_below, index_at, below_at, contains_at, at_contains, each_has, each_from, each_from_zero, flat_has, flat_from, place_from, one_from, when_has, when_from, all_of}
 use Rattle.facts_order.proofs.Pairs.{IsPlaced}
 use Rattle.facts_order.proofs.Columns.{numbered_column, part_column}
 use Rattle.facts_order.proofs.Labels.{label_in, part_label, label_apart}

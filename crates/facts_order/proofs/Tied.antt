@@ -24,7 +24,7 @@ use Rattle.flow_rules.specs.Parts.{Part, a_call, a_static_call, a_super_call, a_
 use Rattle.flow_rules.specs.Lists.{tied, row_at, row_in, is_this, is_comparison, same_type, left_is_lower, narrower, is_left_lower, param_row, pair_ties, test_ties, slot_ties, method_ties, ties_of}
 use Rattle.flow_rules.specs.Numbered.{row_number}
 use Rattle.flow_rules.specs.Facts.{numbers, IsFactsOf}
-use Rattle.facts_order.proofs.Listed.{all_of, when_from, each_from_zero}
+use Rattle.flow_rules.proofs.Listed.{all_of, when_from, each_from_zero}
 use Rattle.facts_order.proofs.Pairs.{IsPlaced}
 use Rattle.facts_order.proofs.Tests.{gathered_from, row_item, both_from}
 use Rattle.facts_order.proofs.Classes.{subclass_below}

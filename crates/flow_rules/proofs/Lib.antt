@@ -1,3 +1,5 @@
 pub mod TypeLemmas
 pub mod Same
 pub mod Examples
+pub mod Listed
+pub mod Keys

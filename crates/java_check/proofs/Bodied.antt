@@ -1,14 +1,12 @@
 -- A class that breaks no rule for the slot of a method without a body breaks none as a whole.
-use Rattle.std.proofs.Common.{◌≡◌, ◌==◌, ◌&&◌, ◌||◌, ℕ, zero, suc, ◌+◌, ◌<◌, ◌⊎◌, Bool, true, false, not, List, [], ◌∷◌, ◌++◌, Option, Some, None, Ok, Contains, length, inl, inr, ⊎_elim, refl, sym, ap, ◌∙◌, subst, arith, slice_get}
-use Rattle.std.specs.Option.{option_map_or, option_to_list, is_some}
+use Rattle.std.proofs.Common.{◌≡◌, ◌==◌, ◌&&◌, ◌||◌, ℕ, zero, suc, ◌+◌, ◌<◌, Bool, true, false, not, List, [], ◌∷◌, Option, Some, None, Ok, length, refl, sym, ap, ◌∙◌, subst, arith, slice_get}
+use Rattle.std.specs.Option.{option_map_or, is_some}
 use Rattle.std.proofs.lemmas.Bool.{and_parts, eq-eqb, eqb-true, false≢true}
-use Rattle.kaba_base.specs.declared.ClassId.{ClassId}
 use Rattle.java_core.specs.Programs.{Plain, PlainClass, PlainMethod}
-use Rattle.java_core.specs.Classes.{parent_of, faces_of, supers_of, IsSubclass, same_class, through, below, nearest_of, is_slot, has_slot, own_declaration, nearest_declaration, has_body, is_interface, is_concrete}
-use Rattle.java_core.specs.Found.{IsNearest, at_class, above_class}
+use Rattle.java_core.specs.Classes.{IsSubclass, below, is_slot, has_slot, own_declaration, nearest_declaration, has_body, is_interface, is_concrete}
 use Rattle.java_core.specs.Formed.{IsFormed}
 use Rattle.java_core.specs.Typing.{is_public_method}
-use Rattle.java_core.proofs.Subclasses.{below-subclass, subclass-below, parent-super, nearest_of-nearest, nearest-nearest_of}
+use Rattle.java_core.proofs.Subclasses.{below-subclass, subclass-below, nearest_of-nearest}
 use Rattle.java_core.proofs.Upwards.{IsAbove, chain-above, along, chain-there}
 use Rattle.java_core.proofs.Positions.{position-passes, passes-position}
 use Rattle.java_check.specs.ClassOutcome.{first_rule, below_rule, slot_rule, method_rule, class_rule, is_quiet, is_kept, all_quiet}

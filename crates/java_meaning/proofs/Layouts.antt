@@ -1,16 +1,15 @@
 -- Objects of a formed program have each field that a class at or above theirs offers, each in a place of its own.
-use Rattle.std.proofs.Common.{◌≡◌, ℕ, zero, suc, ◌+◌, ◌<◌, ◌⊎◌, ◌&&◌, List, [], ◌∷◌, ◌++◌, Option, Some, None, length, Contains, eqb, refl, sym, ap, ◌∙◌, subst, ⊎_elim, inl, inr, arith}
+use Rattle.std.proofs.Common.{◌≡◌, ℕ, zero, suc, ◌+◌, ◌⊎◌, ◌&&◌, List, [], ◌∷◌, ◌++◌, Option, Some, None, length, eqb, refl, sym, ap, ◌∙◌, subst, ⊎_elim, inl, inr, arith}
 use Rattle.std.specs.Prelude.{Bool, true, false, not, ◌==◌, if◌then◌else◌, map, slice_get}
-use Rattle.std.specs.Option.{is_some, option_map, option_map_or, option_to_list}
+use Rattle.std.specs.Option.{is_some, option_map, option_map_or}
 use Rattle.std.specs.Str.{bytes_eq}
-use Rattle.std.proofs.lemmas.Bool.{false≢true, and_parts, eqb-true, eq-eqb}
+use Rattle.std.proofs.lemmas.Bool.{and_parts, eqb-true, eq-eqb}
 use Rattle.std.proofs.lemmas.Option.{same_Some, slice_get-map}
 use Rattle.kaba_base.specs.declared.ClassId.{ClassId}
 use Rattle.java_core.specs.declared.Ty.{Ty}
-use Rattle.java_core.specs.Programs.{Plain, PlainClass, PlainField}
-use Rattle.java_core.specs.Classes.{parent_of, faces_of, supers_of, IsSubclass, same_class, through, below, is_field_of, own_field_of, field_of, is_static_field, if_instance, when_instance, member_field}
+use Rattle.java_core.specs.Programs.{Plain, PlainField}
+use Rattle.java_core.specs.Classes.{parent_of, below, is_field_of, own_field_of, field_of, is_static_field, if_instance, when_instance, member_field}
 use Rattle.java_core.specs.Types.{field_type}
-use Rattle.java_core.specs.Found.{IsNearest, at_class, above_class}
 use Rattle.java_core.specs.Formed.{IsFormed}
 use Rattle.java_core.proofs.Subclasses.{subclass-then, below-subclass, parent-super, nearest_of-nearest, ArePassed, passed_more, none_passed, one_left}
 use Rattle.java_core.proofs.Positions.{position-passes, passes-position}

@@ -46,7 +46,7 @@ use Rattle.run_cover.specs.Untagged.{untag_local, untag_body, untag_method, unta
 use Rattle.run_cover.proofs.Included.{map_some}
 use Rattle.run_cover.proofs.Untagging.{untyped_params}
 use Rattle.run_cover.proofs.HasRows.{method_of, of_field}
-use Rattle.facts_order.proofs.Listed.{first, each_has, when_has}
+use Rattle.flow_rules.proofs.Listed.{first, each_has, when_has}
 use Rattle.facts_order.proofs.Pairs.{IsPlaced}
 use Rattle.facts_order.proofs.Columns.{field_column, body_column}
 use Rattle.facts_order.proofs.Tests.{gathered_has}

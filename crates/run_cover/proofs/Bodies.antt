@@ -26,10 +26,10 @@ use Rattle.flow_rules.specs.Numbered.{same_column, columns_of, column_number, fi
 use Rattle.flow_rules.specs.Facts.{PlainBody, body_seen, body_if, column_body, param_points, column_info, owner_of, slot_in, numbers, IsFactsOf}
 use Rattle.run_cover.specs.Untagged.{untag_body, untag_method, untagged}
 use Rattle.run_cover.proofs.Kinded.{FindsBody}
-use Rattle.run_cover.proofs.Sites.{one, more, each_has, map_from}
+use Rattle.flow_rules.proofs.Listed.{one, more, each_has, map_from, when_has, position_there}
 use Rattle.run_cover.proofs.Included.{get_map, map_some}
-use Rattle.run_cover.proofs.Listed.{when_has, position_there}
-use Rattle.run_cover.proofs.HasNumbers.{column_exact, column_alike, column_there}
+use Rattle.flow_rules.proofs.Keys.{column_exact, column_alike}
+use Rattle.run_cover.proofs.HasNumbers.{column_there}
 use Rattle.run_cover.proofs.HasRows.{method_of, of_method, in_slot, this_point_of}
 use Rattle.java_core.specs.declared.TyBase.TheVariants.{Int}
 use Rattle.java_core.proofs.Positions.{position-map}

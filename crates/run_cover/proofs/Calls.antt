@@ -27,7 +27,7 @@ use Rattle.flow_rules.specs.Lists.{PlainCall, Placed, point_at, created, moved, 
 use Rattle.flow_rules.specs.Facts.{numbers, gathered, call_seen, IsFactsOf}
 use Rattle.run_cover.specs.Covers.{Sets, has, at_point}
 use Rattle.run_cover.proofs.Kinded.{IsKindedCall, FindsBody}
-use Rattle.run_cover.proofs.Sites.{map_has, map_from, flat_has, each_has, place_has, one}
+use Rattle.flow_rules.proofs.Listed.{map_has, map_from, flat_has, each_has, place_has, one}
 use Rattle.run_cover.proofs.Flows.{body_of, body_there, when_object, when_some, when_is, value_sites, looks_in, at_is, is_at, IsUsed, HasTypes, used_at, value_typed, point_sites_of, operand_goes, flow_goes}
 
 listed_map : {A : Type 0} (f : A → Option ℕ) (xs : List A) (i : ℕ) (x : A) → slice_get xs i ≡ Some x → listed_at (map f xs) i ≡ f x

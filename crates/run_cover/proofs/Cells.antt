@@ -26,10 +26,10 @@ use Rattle.flow_rules.specs.Facts.{field_cell as cell_for}
 use Rattle.run_cover.specs.Untagged.{untagged}
 use Rattle.run_cover.specs.Covers.{is_cell, cell_number, field_cell, element_cell}
 use Rattle.run_cover.proofs.Kinded.{site_type}
-use Rattle.run_cover.proofs.Sites.{one, flat_has, each_has}
+use Rattle.flow_rules.proofs.Listed.{one, flat_has, each_has, when_has, position_there}
 use Rattle.run_cover.proofs.Included.{get_map, map_some}
-use Rattle.run_cover.proofs.Listed.{when_has, position_there}
-use Rattle.run_cover.proofs.HasNumbers.{column_exact, field_column}
+use Rattle.flow_rules.proofs.Keys.{column_exact}
+use Rattle.run_cover.proofs.HasNumbers.{field_column}
 use Rattle.run_cover.proofs.HasRows.{of_field, field_row_of}
 use Rattle.run_cover.proofs.Truths.{both_hold}
 

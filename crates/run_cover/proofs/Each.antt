@@ -2,7 +2,7 @@
 use Rattle.std.proofs.Common.{zero, suc, List, [], ◌∷◌, ◌++◌, subst, arith, ⊎_elim}
 use Rattle.std.specs.Prelude.{Contains}
 use Rattle.std.proofs.lemmas.List.Elements.{Contains-append_left, Contains-append_right, Contains-append_cases}
-use Rattle.run_cover.proofs.Sites.{first, more}
+use Rattle.flow_rules.proofs.Listed.{first, more}
 
 -- a predicate holds of each item
 abbrev Each : {A : Type 0} → (A → Type 0) → List A → Type 0

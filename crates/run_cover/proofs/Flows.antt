@@ -27,7 +27,7 @@ use Rattle.flow_rules.specs.Lists.{both, these, point_at, site_in, created, move
 use Rattle.flow_rules.specs.Facts.{numbers, gathered, IsFactsOf}
 use Rattle.run_cover.specs.Covers.{Sets, has, is_site, is_column, is_cell, passes, cell_number, field_cell, element_cell, at_point, at_cell, or_itself}
 use Rattle.run_cover.proofs.Kinded.{site_type, IsPoint, HasPoint, IsCreation, IsBase}
-use Rattle.run_cover.proofs.Sites.{one, flat_has, each_has}
+use Rattle.flow_rules.proofs.Listed.{one, flat_has, each_has}
 use Rattle.run_cover.proofs.Truths.{both_hold}
 
 -- the body of a method, with its parts

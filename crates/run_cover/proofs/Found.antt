@@ -10,7 +10,7 @@ use Rattle.std.proofs.lemmas.List.Elements.{Contains-append_cases}
 use Rattle.kaba_base.specs.declared.ClassId.{ClassId}
 use Rattle.java_core.specs.Programs.{Plain, PlainClass, PlainField, PlainMethod}
 use Rattle.java_core.specs.Classes as java
-use Rattle.java_core.specs.Classes.{IsSubclass, same_class, through, first_or, nearest, lookup, has_slot}
+use Rattle.java_core.specs.Classes.{IsSubclass, same_class, through, first_or, nearest}
 use Rattle.java_core.proofs.Subclasses.{below-subclass, supers-within}
 use Rattle.fact_model.specs.Classes.{IsBelow, parent_of, faces_of, supers_of}
 use Rattle.fact_model.specs.Classes.{same as same_below, through as through_below}
@@ -25,7 +25,7 @@ use Rattle.flow_rules.specs.Ordered.{put_in, by_place, once_after, each, when}
 use Rattle.flow_rules.specs.Numbered.{same_column, columns_of, field_columns, method_columns, mark, array_mark, form_columns}
 use Rattle.flow_rules.specs.Facts.{ClassFacts, class_seen, class_facts, is_holder, IsFactsOf}
 use Rattle.run_cover.specs.Untagged.{untag_class, untagged}
-use Rattle.run_cover.proofs.Sites.{more}
+use Rattle.flow_rules.proofs.Listed.{more}
 use Rattle.run_cover.proofs.Included.{get_map, map_some}
 
 -- one item for each

@@ -4,7 +4,6 @@ pub mod Held
 pub mod CoveredSteps
 pub mod Cover
 pub mod Kinded
-pub mod Sites
 pub mod Each
 pub mod Flows
 pub mod Calls
@@ -13,7 +12,6 @@ pub mod Included
 pub mod IncludedExpressions
 pub mod IncludedBodies
 pub mod Escapes
-pub mod Listed
 pub mod HasNumbers
 pub mod Untagging
 pub mod HasRows

@@ -21,7 +21,7 @@ use Rattle.flow_rules.specs.Facts.{numbers}
 use Rattle.run_cover.specs.Untagged.{untag_method, untagged, HaveSlots}
 use Rattle.java_meaning.specs.Watched.{bare, bare_if, bare_target, bare_st, bare_sts, bare_arms}
 use Rattle.run_cover.proofs.Kinded.{site_type, IsBase, IsKindedPart}
-use Rattle.run_cover.proofs.Sites.{one, more}
+use Rattle.flow_rules.proofs.Listed.{one, more}
 use Rattle.run_cover.proofs.Included.{object_or}
 use Rattle.run_cover.proofs.Untagging.{unlabel_sts}
 use Rattle.java_meaning.proofs.WatchedPrograms.{bare_static}

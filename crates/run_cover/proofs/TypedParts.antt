@@ -34,9 +34,8 @@ use Rattle.flow_rules.specs.Facts.{numbers}
 use Rattle.run_cover.specs.Untagged.{untag_method, untagged, HaveSlots}
 use Rattle.java_meaning.specs.Watched.{bare, bare_all}
 use Rattle.run_cover.proofs.Kinded.{site_type, IsPoint, IsCreation}
-use Rattle.run_cover.proofs.Sites.{one, first, more}
+use Rattle.flow_rules.proofs.Listed.{one, first, more, when_has}
 use Rattle.run_cover.proofs.Included.{get_map, object_or, class_object, then_some, map_some}
-use Rattle.run_cover.proofs.Listed.{when_has}
 use Rattle.run_cover.proofs.Untagging.{untyped_params}
 use Rattle.java_meaning.proofs.WatchedPrograms.{bare_static}
 use Rattle.run_cover.proofs.HasNumbers.{this_row, form_row, site_there, form_point, own_listed}

@@ -22,7 +22,7 @@ use Rattle.flow_rules.specs.Facts.{IsFactsOf}
 use Rattle.run_cover.specs.Untagged.{untag_body, untag_method, untagged}
 use Rattle.java_meaning.specs.Watched.{bare, bare_all, bare_if, bare_target, bare_st, bare_sts, bare_arms}
 use Rattle.run_cover.proofs.Kinded.{site_type}
-use Rattle.run_cover.proofs.Sites.{first, more, each_has}
+use Rattle.flow_rules.proofs.Listed.{first, more, each_has}
 use Rattle.run_cover.proofs.Included.{get_map}
 use Rattle.run_cover.proofs.Untagging.{unlabel_sts}
 use Rattle.run_cover.proofs.Found.{each_from, place_from, once_from}

@@ -52,7 +52,7 @@ use Rattle.facts_order.proofs.Columns.{Stands, for_field, for_declaration, for_b
 use Rattle.facts_order.proofs.Items.{column_at, site_at as site_listed}
 use Rattle.facts_order.proofs.Pairs.{IsPlaced}
 use Rattle.facts_order.proofs.Sites.{site_types, site_part, created_row}
-use Rattle.facts_order.proofs.Listed.{at_map, at_below}
+use Rattle.flow_rules.proofs.Listed.{at_map, at_below}
 use Rattle.rebuild_model.specs.Renaming.{Places, Renaming, renaming_of, retyped}
 use Rattle.rebuild_looks.specs.Known.{Known, Offers}
 use Rattle.rebuild_looks.proofs.Fields as fields

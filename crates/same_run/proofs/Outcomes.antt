@@ -47,9 +47,8 @@ use Rattle.flow_rules.specs.Facts.{numbers, gathered, IsFactsOf}
 use Rattle.run_cover.specs.Covers.{passes, point_sites, held_sites, held_in, or_itself, solved}
 use Rattle.run_cover.specs.Untagged.{untagged}
 use Rattle.run_cover.proofs.Kinded.{site_type}
-use Rattle.run_cover.proofs.Sites.{one}
+use Rattle.flow_rules.proofs.Listed.{one, place_has, below_at, index_at, contains_at}
 use Rattle.facts_order.proofs.Classes.{subclass_below, below_subclass}
-use Rattle.facts_order.proofs.Listed.{place_has, below_at, index_at, contains_at}
 use Rattle.facts_order.proofs.Pairs.{IsPlaced}
 use Rattle.facts_order.proofs.Sites.{site_types}
 use Rattle.facts_order.proofs.Tests.{gathered_has}

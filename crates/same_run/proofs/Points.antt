@@ -18,7 +18,7 @@ use Rattle.flow_rules.specs.Operands.{object_field, call_slot, call_declaration,
 use Rattle.flow_rules.specs.Parts.{Part, a_load, an_element, a_creation, a_call, a_static_call, a_super_call, a_test, is_accessed, parts, parts_all, parts_of}
 use Rattle.flow_rules.specs.Lists.{point_at, row_at, row_in, point_in}
 use Rattle.flow_rules.specs.Facts.{numbers, IsFactsOf}
-use Rattle.run_cover.proofs.Sites.{first}
+use Rattle.flow_rules.proofs.Listed.{first}
 use Rattle.std.proofs.lemmas.List.Elements.{Contains-append_right}
 use Rattle.facts_order.proofs.Pairs.{IsPlaced}
 use Rattle.facts_order.proofs.Points.{given_by, Follows, a_static, a_this, a_variable, a_result, a_form, point_of, item_point}

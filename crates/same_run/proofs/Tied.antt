@@ -48,9 +48,8 @@ use Rattle.run_cover.proofs.Found.{same_length}
 use Rattle.run_cover.proofs.HasRows.{method_of, of_field}
 use Rattle.run_cover.proofs.Included.{then_some, map_some}
 use Rattle.run_cover.proofs.Kinded.{site_type}
-use Rattle.run_cover.proofs.Sites.{one}
+use Rattle.flow_rules.proofs.Listed.{one, map_has, map_from, place_has}
 use Rattle.facts_order.proofs.Columns.{field_column, body_column}
-use Rattle.facts_order.proofs.Listed.{map_has, map_from, place_has}
 use Rattle.facts_order.proofs.Pairs.{IsPlaced}
 use Rattle.facts_order.proofs.Tests.{gathered_has}
 use Rattle.rebuild_model.specs.Renaming.{Places, Renaming, renaming_of}
@@ -60,7 +59,7 @@ use Rattle.rebuild_looks.proofs.Declared.{new_body}
 use Rattle.rebuild_looks.proofs.Fields.{finds_field}
 use Rattle.rebuild_given.proofs.Rest.{half}
 use Rattle.rebuild_given.proofs.Needed as needed
-use Rattle.rebuild_given.proofs.Needed.{need_of, need_offers, needed_body, super_offers, super_slot, super_of, super_body}
+use Rattle.rebuild_given.proofs.Needed.{need_offers, needed_body, super_offers, super_body}
 use Rattle.rebuild_types.proofs.Asked.{new_class, HasSlot}
 use Rattle.rebuild_types.proofs.Served.{row_of_class, row_in_is}
 use Rattle.same_run.proofs.Ties as ties

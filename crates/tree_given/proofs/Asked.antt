@@ -29,7 +29,7 @@ use Rattle.flow_rules.specs.Lists.{Numbers, both, accessed, row_at, accesses_of,
 use Rattle.flow_rules.specs.Facts.{numbers}
 use Rattle.run_cover.specs.Untagged.{untagged}
 use Rattle.run_cover.proofs.HasRows.{of_field}
-use Rattle.facts_order.proofs.Listed.{first}
+use Rattle.flow_rules.proofs.Listed.{first}
 use Rattle.facts_order.proofs.Columns.{field_column, body_column}
 use Rattle.facts_order.proofs.Tests.{gathered_has}
 use Rattle.rebuild_model.specs.Renaming.{Renaming}

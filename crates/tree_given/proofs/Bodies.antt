@@ -26,7 +26,7 @@ use Rattle.flow_rules.specs.Labels.{label_sts}
 use Rattle.flow_rules.specs.Parts.{Part, a_load, a_store, is_accessed, parts, parts_all, parts_if, parts_assign, parts_st, parts_sts, parts_arms, parts_body, parts_of}
 use Rattle.run_cover.specs.Untagged.{untag_method, untagged}
 use Rattle.run_cover.proofs.Untagging.{unlabel_sts}
-use Rattle.facts_order.proofs.Listed.{contains_at, first, more}
+use Rattle.flow_rules.proofs.Listed.{contains_at, first, more}
 use Rattle.rebuild_model.specs.Renaming.{Renaming}
 use Rattle.rebuild_types.proofs.Statements.{fits_some}
 use Rattle.written_tree.specs.Names.{nowhere, written_type}

@@ -38,7 +38,7 @@ use Rattle.run_cover.proofs.Types.{class_apart, slot_called}
 use Rattle.run_cover.proofs.TypedParts as typed_parts
 use Rattle.run_cover.proofs.Kinded.{site_type}
 use Rattle.run_cover.proofs.Unique.{creation_type}
-use Rattle.facts_order.proofs.Listed.{at_below, below_at, contains_at}
+use Rattle.flow_rules.proofs.Listed.{at_below, below_at, contains_at}
 use Rattle.rebuild_model.specs.Renaming.{Renaming}
 use Rattle.rebuild_types.proofs.Retyped.{class_typed}
 use Rattle.rebuild_types.proofs.Finding.{access_found, found_instance}

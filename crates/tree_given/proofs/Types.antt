@@ -21,7 +21,7 @@ use Rattle.flow_rules.specs.declared.items.RowItem.{RowItem}
 use Rattle.flow_rules.specs.Numbered.{row_number}
 use Rattle.flow_rules.specs.Facts.{numbers}
 use Rattle.run_cover.specs.Untagged.{untagged}
-use Rattle.facts_order.proofs.Listed.{below_at}
+use Rattle.flow_rules.proofs.Listed.{below_at}
 use Rattle.rebuild_model.specs.Renaming.{Renaming, renaming_of}
 use Rattle.written_tree.specs.Names.{class_name, row_name, written_base}
 use Rattle.tree_rebuilds.proofs.Nodes.{by_node}

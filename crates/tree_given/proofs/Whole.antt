@@ -40,7 +40,7 @@ use Rattle.flow_rules.specs.Facts.{numbers, kind_of, slot_in}
 use Rattle.run_cover.specs.Untagged.{untag_body, untag_method, untagged}
 use Rattle.run_cover.proofs.Untagging.{same_env}
 use Rattle.run_cover.proofs.HasRows.{method_of, of_method}
-use Rattle.facts_order.proofs.Listed.{first, more, at_contains, contains_at, index_at, map_at, map_from, each_from_zero, when_from, one_from}
+use Rattle.flow_rules.proofs.Listed.{first, more, at_contains, contains_at, index_at, map_at, map_from, each_from_zero, when_from, one_from}
 use Rattle.facts_order.proofs.Items.{column_back}
 use Rattle.rebuild_model.specs.Renaming.{Renaming}
 use Rattle.rebuild_model.specs.Members.{is_made_at, offers_body, is_filled}

@@ -16,7 +16,7 @@ use Rattle.flow_rules.specs.declared.items.ColumnItem.{ColumnItem}
 use Rattle.flow_rules.specs.declared.items.ColumnItem.TheVariants as column
 use Rattle.flow_rules.specs.declared.items.RowItem.TheVariants as row
 use Rattle.flow_rules.specs.Facts.{numbers, is_holder, column_info}
-use Rattle.facts_order.proofs.Listed.{first, one_from, when_from, when_has}
+use Rattle.flow_rules.proofs.Listed.{first, one_from, when_from, when_has}
 use Rattle.facts_order.proofs.Columns.{Stands as IsOfText, for_field, for_declaration, for_body, for_mark, column_stands}
 use Rattle.facts_order.proofs.Items.{column_at}
 use Rattle.rebuild_model.specs.Renaming.{Renaming, renaming_of}

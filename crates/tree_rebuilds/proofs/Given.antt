@@ -17,7 +17,7 @@ use Rattle.hier_rules.specs.First.{first_broken}
 use Rattle.flow_rules.specs.declared.items.ColumnItem.{ColumnItem}
 use Rattle.flow_rules.specs.Numbered.{columns_of}
 use Rattle.flow_rules.specs.Facts.{numbers, column_info, kind_of, IsFactsOf}
-use Rattle.facts_order.proofs.Listed.{at_map, map_at, at_below}
+use Rattle.flow_rules.proofs.Listed.{at_map, map_at, at_below}
 use Rattle.facts_order.proofs.Pairs.{IsPlaced}
 use Rattle.facts_order.proofs.Items.{column_at, column_back}
 use Rattle.rebuild_model.specs.Renaming.{Places, Renaming, renaming_of}

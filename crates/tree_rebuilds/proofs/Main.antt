@@ -17,7 +17,7 @@ use Rattle.hier_model.specs.Hierarchies.{Hierarchy}
 use Rattle.flow_rules.specs.Operands.{variable_row}
 use Rattle.flow_rules.specs.Ordered.{each, when}
 use Rattle.flow_rules.specs.Facts.{is_holder}
-use Rattle.facts_order.proofs.Listed.{first, at_contains, each_has, when_has}
+use Rattle.flow_rules.proofs.Listed.{first, at_contains, each_has, when_has}
 use Rattle.rebuild_model.specs.Renaming.{reclassed, retyped, retyped_if, renaming_of}
 use Rattle.rebuild_model.specs.Matches.{IsStaticMethod}
 use Rattle.rebuild_model.specs.Members.{new_types}

@@ -14,7 +14,7 @@ use Rattle.hier_model.specs.Hierarchies.{Hierarchy, stands_at}
 use Rattle.flow_rules.specs.declared.items.ColumnItem.{ColumnItem}
 use Rattle.flow_rules.specs.declared.items.ColumnItem.TheVariants as column
 use Rattle.flow_rules.specs.Ordered.{each, when}
-use Rattle.facts_order.proofs.Listed.{first, each_has, each_from_zero, when_has, when_from, one_from, map_has, map_from}
+use Rattle.flow_rules.proofs.Listed.{first, each_has, each_from_zero, when_has, when_from, one_from, map_has, map_from}
 use Rattle.rebuild_model.specs.Renaming.{Renaming}
 use Rattle.rebuild_model.specs.Members.{is_headed, is_filled}
 use Rattle.written_tree.specs.Names.{nowhere, modifier}

@@ -19,7 +19,7 @@ use Rattle.fact_model.specs.declared.sets.PointsTo.{PointsTo}
 use Rattle.hier_model.specs.Hierarchies.{Hierarchy, place_of_row, type_name}
 use Rattle.flow_rules.specs.declared.items.RowItem.{RowItem}
 use Rattle.flow_rules.specs.Facts.{numbers, is_holder}
-use Rattle.facts_order.proofs.Listed.{at_map, map_at, contains_at, position_at, position_there}
+use Rattle.flow_rules.proofs.Listed.{at_map, map_at, contains_at, position_at, position_there}
 use Rattle.rebuild_model.specs.Renaming.{renaming_of}
 use Rattle.rebuild_model.specs.Matches.{IsStaticField, IsStaticMethod}
 use Rattle.written_tree.specs.Names.{class_name}

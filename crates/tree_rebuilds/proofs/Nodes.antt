@@ -21,7 +21,7 @@ use Rattle.flow_rules.specs.declared.items.ColumnItem.{ColumnItem}
 use Rattle.flow_rules.specs.Ordered.{when}
 use Rattle.flow_rules.specs.Numbered.{columns_of}
 use Rattle.flow_rules.specs.Facts.{is_holder, IsFactsOf}
-use Rattle.facts_order.proofs.Listed.{first, at_contains, contains_at, index_at, each_has, each_from_zero, when_has, when_from, one_from, at_map}
+use Rattle.flow_rules.proofs.Listed.{first, at_contains, contains_at, index_at, each_has, each_from_zero, when_has, when_from, one_from, at_map}
 use Rattle.facts_order.proofs.Pairs.{IsPlaced}
 use Rattle.rebuild_model.specs.Renaming.{Places, Renaming, renaming_of}
 use Rattle.rebuild_model.specs.Members.{is_made_at}

@@ -13,7 +13,7 @@ use Rattle.fact_model.specs.declared.sets.PointsTo.{PointsTo}
 use Rattle.hier_model.specs.Hierarchies.{Hierarchy, any_below, is_class_node}
 use Rattle.hier_model.proofs.AnyLemmas.{any_below_some, any_below_none}
 use Rattle.hier_rules.specs.First.{first_broken}
-use Rattle.facts_order.proofs.Listed.{first, more}
+use Rattle.flow_rules.proofs.Listed.{first, more}
 use Rattle.written_tree.specs.Supers.{is_above, is_cover, nodes_that, is_class_above, is_superclass, superclass}
 use Rattle.tree_rebuilds.specs.Supertypes.{IsOrder, IsCover, IsLowestClass}
 

@@ -17,7 +17,7 @@ use Rattle.fact_model.specs.declared.sets.PointsTo.{PointsTo}
 use Rattle.hier_model.specs.Hierarchies.{Hierarchy, is_class_node}
 use Rattle.flow_rules.specs.declared.items.ColumnItem.TheVariants as column
 use Rattle.flow_rules.specs.Facts.{is_holder}
-use Rattle.facts_order.proofs.Listed.{first, one_from, map_from, when_from, when_has}
+use Rattle.flow_rules.proofs.Listed.{first, one_from, map_from, when_from, when_has}
 use Rattle.rebuild_model.specs.Renaming.{Renaming, renaming_of}
 use Rattle.rebuild_model.specs.Members.{IsStaticMethodOf}
 use Rattle.written_tree.specs.Names.{nowhere, modifier}

@@ -25,7 +25,7 @@ use Rattle.flow_rules.specs.declared.items.ColumnItem.{ColumnItem}
 use Rattle.flow_rules.specs.declared.items.ColumnItem.TheVariants as column
 use Rattle.flow_rules.specs.Operands.{result_in}
 use Rattle.flow_rules.specs.Facts.{kind_of, slot_in}
-use Rattle.facts_order.proofs.Listed.{one_from, map_from, when_from}
+use Rattle.flow_rules.proofs.Listed.{one_from, map_from, when_from}
 use Rattle.rebuild_model.specs.Renaming.{Renaming, renaming_of, retyped_if}
 use Rattle.rebuild_model.specs.Members.{is_made_at, is_filled, offers_body, IsFiller}
 use Rattle.rebuild_model.specs.Rebuilds.{IsNodeType}

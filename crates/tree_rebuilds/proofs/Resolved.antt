@@ -23,7 +23,7 @@ use Rattle.flow_rules.specs.declared.items.ObjectType.{ObjectType}
 use Rattle.flow_rules.specs.declared.items.RowItem.TheVariants as row
 use Rattle.flow_rules.specs.Operands.{object_of, object_if, variable_in, variable_row, result_in}
 use Rattle.flow_rules.specs.Ordered.{each}
-use Rattle.facts_order.proofs.Listed.{at_below}
+use Rattle.flow_rules.proofs.Listed.{at_below}
 use Rattle.rebuild_model.specs.Renaming.{retyped, retyped_if}
 use Rattle.rebuild_model.specs.Matches.{MatchesSts}
 use Rattle.rebuild_model.specs.Members.{new_types, slot_types, HasTypes, HasSlotTypes, HasCode}

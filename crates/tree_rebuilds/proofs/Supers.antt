@@ -18,7 +18,7 @@ use Rattle.fact_model.specs.declared.sets.PointsTo.{PointsTo}
 use Rattle.hier_model.specs.Hierarchies.{Hierarchy, is_class_node}
 use Rattle.hier_rules.specs.First.{first_broken}
 use Rattle.flow_rules.specs.Facts.{IsFactsOf}
-use Rattle.facts_order.proofs.Listed.{first, more, map_has, map_from}
+use Rattle.flow_rules.proofs.Listed.{first, more, map_has, map_from}
 use Rattle.facts_order.proofs.Pairs.{IsPlaced}
 use Rattle.rebuild_looks.proofs.Along.{above_object}
 use Rattle.written_tree.specs.Supers.{is_cover, nodes_that, superclass, type_id}

@@ -31,7 +31,7 @@ use Rattle.flow_rules.specs.declared.items.ColumnItem.{ColumnItem}
 use Rattle.flow_rules.specs.declared.items.ColumnItem.TheVariants as column
 use Rattle.flow_rules.specs.Ordered.{each, when}
 use Rattle.flow_rules.specs.Facts.{slot_in, kind_of}
-use Rattle.facts_order.proofs.Listed.{index_at, map_from, when_from, each_from_zero, one_from}
+use Rattle.flow_rules.proofs.Listed.{index_at, map_from, when_from, each_from_zero, one_from}
 use Rattle.rebuild_looks.specs.Known.{AreColumns}
 use Rattle.rebuild_given.proofs.Given.{columns as columns_are}
 use Rattle.rebuild_given.proofs.Apart.{names_apart}

@@ -7,7 +7,7 @@ use Rattle.java_core.specs.Programs.{Plain}
 use Rattle.fact_model.specs.declared.facts.Facts.{Facts}
 use Rattle.fact_model.specs.declared.sets.PointsTo.{PointsTo}
 use Rattle.hier_model.specs.Hierarchies.{Hierarchy}
-use Rattle.facts_order.proofs.Listed.{at_contains, contains_at}
+use Rattle.flow_rules.proofs.Listed.{at_contains, contains_at}
 use Rattle.name_rules.specs.Outline.{MethodAt, methods_in, is_private}
 use Rattle.name_rules.specs.Conditions.{unknown, type_twice, known_twice, super_twice, field_twice, method_twice, param_twice, loop, overload, type_as_field, type_as_param, face_as_parent, class_as_face, private_reused, no_main, modifiers_disagree, modifier_unfit, wrong_body, in_body}
 use Rattle.name_rules.specs.Causes.{HasNoCondition}

@@ -2,7 +2,7 @@
 use Rattle.std.proofs.Common.{◌≡◌, ℕ, suc, true, List, [], ◌∷◌, Some, None, Contains, refl, sym, ap, ◌∙◌, arith}
 use Rattle.std.specs.Prelude.{slice_get}
 use Rattle.java_tree.specs.Syntax.{HeadTree, MemberTree, FieldTree, MethodTree, DeclTree, ClassTree, InterfaceTree}
-use Rattle.facts_order.proofs.Listed.{map_from, one_from}
+use Rattle.flow_rules.proofs.Listed.{map_from, one_from}
 use Rattle.name_rules.specs.declared.parts.Kind.TheVariants as kinds
 use Rattle.name_rules.specs.Outline.{FieldAt, MethodAt, field_member, method_member, fields_of, methods_of, fields_declared, methods_declared, fields_from, methods_from, has_word, is_abstract_word}
 use Rattle.tree_rebuilds.proofs.Outlined.{field_from, method_from, member_field_from, member_method_from}

@@ -22,7 +22,7 @@ use Rattle.flow_rules.specs.Numbered.{form_rows, own_row}
 use Rattle.run_cover.proofs.HasNumbers.{form_row}
 use Rattle.run_cover.proofs.Untagging.{unlabel_sts}
 use Rattle.flow_rules.specs.Labels.{label_sts}
-use Rattle.facts_order.proofs.Listed.{first, more}
+use Rattle.flow_rules.proofs.Listed.{first, more}
 use Rattle.name_rules.specs.Outline.{outline}
 use Rattle.name_rules.specs.Conditions.{no_such_cast}
 use Rattle.name_rules.specs.Meanings.{class_named}

@@ -21,7 +21,7 @@ use Rattle.fact_model.specs.declared.sets.PointsTo.{PointsTo}
 use Rattle.hier_model.specs.Hierarchies.{Hierarchy, is_class_node}
 use Rattle.flow_rules.specs.declared.items.RowItem.TheVariants as row
 use Rattle.flow_rules.specs.Facts.{is_holder}
-use Rattle.facts_order.proofs.Listed.{first, at_contains, contains_at, at_map, map_at, map_has, when_has, position_at, position_there, one_from}
+use Rattle.flow_rules.proofs.Listed.{first, at_contains, contains_at, at_map, map_at, map_has, when_has, position_at, position_there, one_from}
 use Rattle.name_rules.specs.declared.parts.Here.{Here}
 use Rattle.name_rules.specs.Outline.{FieldAt, MethodAt, name_of, fields_in, methods_in, types_in, type_named, is_known, is_type_name, is_static, outline, field_outline, method_outline, fields_declared, methods_declared}
 use Rattle.name_rules.specs.Meanings.{class_named, IsMet}

@@ -15,7 +15,7 @@ use Rattle.fact_model.specs.declared.sets.PointsTo.{PointsTo}
 use Rattle.hier_model.specs.Hierarchies.{Hierarchy}
 use Rattle.flow_rules.specs.Operands.{variable_row, result_in}
 use Rattle.flow_rules.specs.Ordered.{each}
-use Rattle.facts_order.proofs.Listed.{first, when_has}
+use Rattle.flow_rules.proofs.Listed.{first, when_has}
 use Rattle.name_rules.specs.declared.parts.Kind.TheVariants as kinds
 use Rattle.name_rules.specs.Outline.{MethodAt, types_in, type_meant, class_at, type_named, outline, method_outline, param_outline, methods_declared}
 use Rattle.written_tree.specs.Names.{nowhere, written_type}

@@ -18,7 +18,7 @@ use Rattle.flow_rules.specs.declared.items.ColumnItem.{ColumnItem}
 use Rattle.flow_rules.specs.declared.items.ColumnItem.TheVariants as column
 use Rattle.flow_rules.specs.Numbered.{columns_of}
 use Rattle.flow_rules.specs.Facts.{IsFactsOf, AreNamesOf}
-use Rattle.facts_order.proofs.Listed.{at_contains, map_at}
+use Rattle.flow_rules.proofs.Listed.{at_contains, map_at}
 use Rattle.facts_order.proofs.Pairs.{IsPlaced}
 use Rattle.facts_order.proofs.Columns.{Stands as IsOfText, for_field, for_declaration, for_body, for_mark, column_stands}
 use Rattle.name_rules.specs.declared.parts.Kind.{Kind}

@@ -24,7 +24,7 @@ use Rattle.flow_rules.specs.Operands.{object_of, object_in, object_if, variable_
 use Rattle.flow_rules.specs.Numbered.{row_number}
 use Rattle.flow_rules.specs.Facts.{numbers}
 use Rattle.run_cover.proofs.HasRows.{get_left}
-use Rattle.facts_order.proofs.Listed.{at_contains}
+use Rattle.flow_rules.proofs.Listed.{at_contains}
 use Rattle.name_rules.specs.Outline.{FieldAt, MethodAt, is_text_type, outline}
 use Rattle.name_rules.specs.Meanings.{class_named}
 use Rattle.name_rules.specs.Asked.{IsDeclared, of_field, of_param, of_result, Asks, by_super, by_type}

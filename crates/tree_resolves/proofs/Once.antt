@@ -5,7 +5,7 @@ use Rattle.std.specs.List.{range_with_len}
 use Rattle.std.proofs.lemmas.Option.{same_Some}
 use Rattle.std.proofs.lemmas.List.Elements.{Contains-append_cases}
 use Rattle.flow_rules.specs.Ordered.{each, when}
-use Rattle.facts_order.proofs.Listed.{first, more, contains_at, each_from, map_from, one_from}
+use Rattle.flow_rules.proofs.Listed.{first, more, contains_at, each_from, map_from, one_from}
 use Rattle.tree_rebuilds.proofs.Order.{filter_from}
 
 abbrev pub Once : {A : Type 0} → (A → A → Type 0) → List A → Type 0

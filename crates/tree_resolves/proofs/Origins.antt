@@ -15,7 +15,7 @@ use Rattle.flow_rules.specs.Facts.{is_holder}
 use Rattle.name_rules.specs.declared.parts.Kind.TheVariants as kinds
 use Rattle.name_rules.specs.Outline.{FieldAt, MethodAt, fields_in, methods_in, fields_declared, methods_declared, has_word, is_abstract_word}
 use Rattle.name_rules.specs.Outline as outline
-use Rattle.facts_order.proofs.Listed.{map_from, when_from, one_from}
+use Rattle.flow_rules.proofs.Listed.{map_from, when_from, one_from}
 use Rattle.rebuild_model.specs.Renaming.{Renaming}
 use Rattle.rebuild_model.specs.Members.{is_made_at, is_filled}
 use Rattle.written_tree.specs.Names.{nowhere, modifier, written_type}

@@ -25,7 +25,7 @@ use Rattle.flow_rules.specs.declared.items.RowItem.TheVariants as row
 use Rattle.flow_rules.specs.declared.items.ColumnItem.TheVariants as column
 use Rattle.flow_rules.specs.Operands.{variable_row, variable_in, result_in}
 use Rattle.flow_rules.specs.Ordered.{each}
-use Rattle.facts_order.proofs.Listed.{at_below, map_at, contains_at, one_from, index_at}
+use Rattle.flow_rules.proofs.Listed.{at_below, map_at, contains_at, one_from, index_at}
 use Rattle.rebuild_looks.specs.Known.{AreColumns}
 use Rattle.rebuild_given.proofs.Given.{columns as columns_are}
 use Rattle.name_rules.specs.Outline.{MethodAt, methods_in, method_outline, param_outline, types_in, type_meant, class_outline, name_of, outline, is_static, is_static_word, has_word}

@@ -9,7 +9,7 @@ use Rattle.fact_model.specs.declared.facts.Facts.{Facts}
 use Rattle.fact_model.specs.declared.sets.PointsTo.{PointsTo}
 use Rattle.hier_model.specs.Hierarchies.{Hierarchy, is_class_node}
 use Rattle.flow_rules.specs.Ordered.{each}
-use Rattle.facts_order.proofs.Listed.{when_from, one_from, each_from_zero}
+use Rattle.flow_rules.proofs.Listed.{when_from, one_from, each_from_zero}
 use Rattle.name_rules.specs.Outline.{FieldAt, MethodAt, fields_in, methods_in}
 use Rattle.flow_rules.specs.declared.items.RowItem.TheVariants as row
 use Rattle.written_tree.specs.Names.{nowhere, written_type}

@@ -7,7 +7,7 @@ use Rattle.java_core.specs.Formed.{variables_of, numbers_below}
 use Rattle.hier_model.specs.Hierarchies.{Hierarchy}
 use Rattle.flow_rules.specs.Ordered.{each}
 use Rattle.run_cover.proofs.HasRows.{get_left}
-use Rattle.facts_order.proofs.Listed.{first, more, one_from, below_at}
+use Rattle.flow_rules.proofs.Listed.{first, more, one_from, below_at}
 use Rattle.std.proofs.lemmas.List.Elements.{Contains-append_cases}
 use Rattle.std.proofs.lemmas.Bool.{cases_lt}
 use Rattle.rebuild_model.specs.Renaming.{Renaming}

@@ -17,7 +17,7 @@ use Rattle.fact_model.specs.declared.facts.Facts.{Facts}
 use Rattle.fact_model.specs.declared.sets.PointsTo.{PointsTo}
 use Rattle.hier_model.specs.Hierarchies.{Hierarchy, type_name, is_class_node}
 use Rattle.flow_rules.specs.Facts.{is_holder}
-use Rattle.facts_order.proofs.Listed.{first, more, at_contains, contains_at, at_map, map_at, map_from, one_from}
+use Rattle.flow_rules.proofs.Listed.{first, more, at_contains, contains_at, at_map, map_at, map_from, one_from}
 use Rattle.name_rules.specs.Outline.{name_of, types_in, type_named, class_at, class_outline, id_meant, parent_meant, parent_named, faces_named, outline}
 use Rattle.name_rules.specs.Meanings.{type_names, class_named}
 use Rattle.name_rules.specs.Asked.{IsSuper, a_parent, a_face}

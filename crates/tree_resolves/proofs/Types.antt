@@ -15,7 +15,7 @@ use Rattle.hier_model.specs.Hierarchies.{Hierarchy, type_name, is_class_node}
 use Rattle.hier_rules.specs.Names.{known_names}
 use Rattle.flow_rules.specs.Ordered.{each, when}
 use Rattle.flow_rules.specs.Facts.{is_holder}
-use Rattle.facts_order.proofs.Listed.{at_contains, at_map, each_from_zero, index_at, when_from, one_from}
+use Rattle.flow_rules.proofs.Listed.{at_contains, at_map, each_from_zero, index_at, when_from, one_from}
 use Rattle.name_rules.specs.Outline.{name_of, is_known}
 use Rattle.written_tree.specs.Written.{java_tree}
 use Rattle.tree_rebuilds.proofs.Apart.{any_at, types_apart, unreserved, no_holder}

@@ -16,7 +16,7 @@ use Rattle.java_meaning.specs.Watched.{bare_sts}
 use Rattle.fact_model.specs.declared.facts.Facts.{Facts}
 use Rattle.fact_model.specs.declared.sets.PointsTo.{PointsTo}
 use Rattle.hier_model.specs.Hierarchies.{Hierarchy}
-use Rattle.facts_order.proofs.Listed.{contains_at}
+use Rattle.flow_rules.proofs.Listed.{contains_at}
 use Rattle.name_rules.specs.declared.parts.Here.{Here}
 use Rattle.name_rules.specs.declared.Refusal.{Refusal}
 use Rattle.name_rules.specs.Outline.{MethodAt, methods_in, outline, is_type_name}

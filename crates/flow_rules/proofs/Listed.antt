@@ -13,6 +13,9 @@ use Rattle.flow_rules.specs.Ordered.{put_in, by_place, once_after, once, each, w
 pub first : {A : Type 0} (x : A) (xs : List A) → Contains (x ∷ xs) x
 first x xs = (0, omega arith, refl)
 
+pub one : {A : Type 0} (x : A) → Contains (x ∷ []) x
+one x = (0, omega arith, refl)
+
 pub more : {A : Type 0} (x y : A) (xs : List A) → Contains xs x → Contains (y ∷ xs) x
 more x y xs c = (suc c.0, omega (arith, c.1), c.2)
 
@@ -78,6 +81,14 @@ each_has f n [] i x y e j d c = absurd (cc)
 each_has f n (z ∷ zs) zero x y e j d c = Contains-append_left (f n z) (each f (n + 1) zs) y (subst (λ w. Contains (f n w) y) (sym (same_Some z x e))
     (subst (λ w. Contains (f w x) y) (omega (arith, d)) c))
 each_has f n (z ∷ zs) (suc i) x y e j d c = Contains-append_right (f n z) (each f (n + 1) zs) y (each_has f (n + 1) zs i x y e j (omega (arith, d)) c)
+
+-- what an item of one of two lists gives, numbered on
+pub two_have : {A B : Type 0} (f : ℕ → A → List B) (n l : ℕ) (xs ys : List A) (i : ℕ) (x : A) (y : B) → slice_get (xs ++ ys) i ≡ Some x
+    → l ≡ n + length xs → (j : ℕ) → j ≡ n + i → Contains (f j x) y → Contains (each f n xs) y ⊎ Contains (each f l ys) y
+two_have f n l [] ys i x y e h j d c = inr (each_has f l ys i x y e j (omega (arith, h, d)) c)
+two_have f n l (z ∷ zs) ys zero x y e h j d c = inl (each_has f n (z ∷ zs) zero x y e j d c)
+two_have f n l (z ∷ zs) ys (suc i) x y e h j d c = ⊎_elim (λ w. inl (Contains-append_right (f n z) (each f (n + 1) zs) y w)) (λ w. inr w)
+    (two_have f (n + 1) l zs ys i x y e (omega (arith, h)) j (omega (arith, d)) c)
 
 pub each_from : {A B : Type 0} (f : ℕ → A → List B) (n : ℕ) (xs : List A) (y : B) → Contains (each f n xs) y → (i : ℕ) × (j : ℕ) × (x : A)
     × (slice_get xs i ≡ Some x) × (j ≡ n + i) × Contains (f j x) y
