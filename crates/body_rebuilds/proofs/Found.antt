@@ -4,7 +4,7 @@ use Rattle.std.specs.Prelude.{◌&&◌, not, eqb, Bool, true, false, nat_lt, sli
 use Rattle.std.specs.Option.{option_map, option_map_or}
 use Rattle.std.specs.List.{list_any}
 use Rattle.std.specs.Str.{bytes_eq}
-use Rattle.std.proofs.lemmas.Bool.{false≢true, and_parts, eqb-true, or_from}
+use Rattle.std.proofs.lemmas.Bool.{and_parts, eqb-true, or_from, not-true}
 use Rattle.std.proofs.lemmas.Option.{same_Some, slice_get_within, get_or_from_slice_get}
 use Rattle.std.proofs.lemmas.List.{length-map}
 use Rattle.std.proofs.lemmas.Slice.Eq.{bytes_eq-Decides}
@@ -55,10 +55,6 @@ first_nearest P f (suc n) c d e = ap (λ z. first_or z (option_and_then (λ p. n
 none_any : (p : ℕ → Bool) (xs : List ℕ) → ((i : ℕ) → p i ≡ false) → list_any p xs ≡ false
 none_any p [] h = refl
 none_any p (x ∷ xs) h = or_from (p x) (list_any p xs) (h x) (none_any p xs h)
-
-not_true : (b : Bool) → not b ≡ true → b ≡ false
-not_true false e = refl
-not_true true e = absurd (false≢true e)
 
 -- the nearest field of a class is its own, where it has one
 pub own_nearest : (O : Plain) (c f : ℕ) (x : List ℕ) → own_field_of O c x ≡ Some f → field_of O c x ≡ Some f
@@ -190,7 +186,7 @@ module _ (Q : Plain) (H : Hierarchy) (U O : Plain) (T : Places) (K : KnowsNames 
             static_here = static ∙ a.0;
             at = owner a.0 ∙ ap T.holder_of (eqb-true old.owner c b.0);
             free =
-                s.absent x (not_true (is_in_scope old scope x) b.1);
+                s.absent x (not-true (is_in_scope old scope x) b.1);
           }
 
       pub static_field_met : (f : ℕ) → IsStaticField P f → (d : Ex) → ResolvesTo O here bs (static_field_name P old scope f) d

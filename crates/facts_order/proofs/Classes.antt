@@ -1,8 +1,8 @@
 -- The classes and interfaces of a program's facts: subtyping is that of the program.
 use Rattle.std.proofs.Common.{◌≡◌, ℕ, zero, suc, ◌+◌, List, [], ◌∷◌, ◌++◌, Option, Some, None, length, refl, sym, ap, ◌∙◌, subst, arith, inl, inr, ⊎_elim}
-use Rattle.std.specs.Prelude.{◌⊎◌, ◌<◌, Bool, true, false, Contains, slice_get}
+use Rattle.std.specs.Prelude.{◌⊎◌, ◌<◌, true, false, Contains, slice_get}
 use Rattle.std.specs.Option.{option_map_or, option_and_then, option_to_list, is_some}
-use Rattle.std.proofs.lemmas.Bool.{false≢true}
+use Rattle.std.proofs.lemmas.Bool.{false≢true, false_from_ne_true}
 use Rattle.std.proofs.lemmas.Option.{same_Some}
 use Rattle.kaba_base.specs.declared.ClassId.{ClassId}
 use Rattle.java_core.specs.Programs.{Plain, PlainClass}
@@ -196,15 +196,12 @@ module _ (P Q : Plain) (placed : IsPlaced P Q) (F : Facts) (facts : IsFactsOf P 
         let y = formed.methods m z.plain z.stands in
         ap (λ o. is_interface F (option_map_or (λ k. k.owner) o 0)) e ∙ ap (is_interface F) (sym z.owner)
         ∙ interface_same z.plain.owner y.holder y.stands
-        ∙ no_interface y.holder.is_interface (λ i. bodied z.plain.body (z.bodied ∙ b) (y.in_interface i).1)
+        ∙ false_from_ne_true y.holder.is_interface (λ i. bodied z.plain.body (z.bodied ∙ b) (y.in_interface i).1)
       where
         bodied : {A : Type 0} (o : Option A) → is_some o ≡ true → o ≡ None → ⊥
         bodied None p q = false≢true p
         bodied (Some x) p q = cc
 
-        no_interface : (b : Bool) → (b ≡ true → ⊥) → b ≡ false
-        no_interface true h = absurd (h refl)
-        no_interface false h = refl
     holder_class _ (for_declaration m k e s) h = ⊎_elim (λ d. absurd (cc)) (λ d. absurd (cc)) h
     holder_class _ (for_mark c) h = ⊎_elim (λ d. absurd (cc)) (λ d. absurd (cc)) h
 

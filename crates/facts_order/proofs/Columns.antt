@@ -1,9 +1,9 @@
 -- The columns of a program's facts: what each stands for.
 use Rattle.std.proofs.Common.{◌≡◌, ℕ, List, [], ◌∷◌, Option, Some, None, length, refl, sym, ap, ◌∙◌, subst, arith, ⊎_elim}
-use Rattle.std.specs.Prelude.{◌<◌, ◌==◌, Bool, true, false, not, Contains, slice_get}
+use Rattle.std.specs.Prelude.{◌<◌, ◌==◌, true, false, not, Contains, slice_get}
 use Rattle.std.specs.Option.{is_some}
 use Rattle.std.specs.List.{flat_map}
-use Rattle.std.proofs.lemmas.Bool.{false≢true}
+use Rattle.std.proofs.lemmas.Bool.{not-true}
 use Rattle.std.proofs.lemmas.List.Elements.{Contains-append_left, Contains-append_right, Contains-append_cases}
 use Rattle.kaba_base.specs.declared.Place.{Place}
 use Rattle.kaba_base.specs.declared.ClassId.{ClassId}
@@ -29,10 +29,6 @@ pub data Stands (Q : Plain) : ColumnItem → Type 0 where
   for_body : (m : ℕ) (k : PlainMethod) → slice_get Q.methods m ≡ Some k → k.is_static ≡ false → is_some k.body ≡ true → Stands Q (column.Def m)
   for_mark : (c : ClassId) → Stands Q (column.Is c)
 
-no_static : (b : Bool) → not b ≡ true → b ≡ false
-no_static false e = refl
-no_static true e = absurd (false≢true e)
-
 module _ (P Q : Plain) where
   stands_as : (i j : ColumnItem) → i ≡ j → Stands Q i → Stands Q j
   stands_as i j e s = subst (λ z. Stands Q z) e s
@@ -52,7 +48,7 @@ module _ (P Q : Plain) where
 
   field_stands : (f : ℕ) (k : PlainField) (x : Column) → slice_get Q.fields f ≡ Some k → Contains (field_columns f k) x → Stands Q x.item
   field_stands f k x e c = let z = when_from (not k.is_static) _ x c in stands_as _ _ (ap (λ z. z.item) (one_from _ x z.1))
-      (for_field f k e (no_static k.is_static z.0))
+      (for_field f k e (not-true k.is_static z.0))
 
   unfoldable pub members : ℕ → PlainMethod → List Column
   members m k = when (not k.is_static) (record { item = column.Dcl m; place = k.tag.place } ∷ when (is_some k.body)
@@ -62,7 +58,7 @@ module _ (P Q : Plain) where
   unfolding members
   member_stands m k x e c =
       let z = when_from (not k.is_static) _ x c in
-      let s = no_static k.is_static z.0 in
+      let s = not-true k.is_static z.0 in
       ⊎_elim (λ d. stands_as _ _ (ap (λ z. z.item) (one_from _ x d)) (for_declaration m k e s))
       (λ d. let w = when_from (is_some k.body) _ x d in stands_as _ _ (ap (λ z. z.item) (one_from _ x w.1)) (for_body m k e s w.0))
       (Contains-append_cases (record { item = column.Dcl m; place = k.tag.place } ∷ [])

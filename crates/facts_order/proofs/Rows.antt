@@ -3,7 +3,7 @@ use Rattle.std.proofs.Common.{◌≡◌, ℕ, [], ◌++◌, Option, Some, None, 
 use Rattle.std.specs.Prelude.{◌⊎◌, ◌<◌, ◌&&◌, ◌||◌, nat_lt, Bool, true, false, not, Contains, slice_get}
 use Rattle.std.specs.Option.{option_map, is_some}
 use Rattle.std.specs.List.{flat_map}
-use Rattle.std.proofs.lemmas.Bool.{false≢true}
+use Rattle.std.proofs.lemmas.Bool.{false≢true, not-true}
 use Rattle.std.proofs.lemmas.List.Elements.{Contains-append_left, Contains-append_right, Contains-append_cases}
 use Rattle.kaba_base.specs.declared.Place.{Place}
 use Rattle.java_core.specs.Trees.{Sts}
@@ -29,10 +29,6 @@ use Rattle.facts_order.proofs.Items.{row_at, row_raw, row_there}
 use Rattle.facts_order.proofs.Pairs.{IsPlaced}
 use Rattle.facts_order.proofs.Numbers.{front, back}
 use Rattle.facts_order.proofs.Forms.{From, sts_from}
-
-no_static : (b : Bool) → not b ≡ true → b ≡ false
-no_static false e = refl
-no_static true e = absurd (false≢true e)
 
 and_left : (a b : Bool) → (a && b) ≡ true → a ≡ true
 and_left true b e = refl
@@ -88,7 +84,7 @@ module _ (P Q : Plain) where
     this_types c =
         let w = when_from (is_some k.body && not k.is_static) _ x c in
         let z = row_in (row.This m) k.tag.place (class_object k.owner) x w.1 in
-        for_this m k e (and_left (is_some k.body) (not k.is_static) w.0) (no_static k.is_static (and_right (is_some k.body) (not k.is_static) w.0)) z.0 z.1
+        for_this m k e (and_left (is_some k.body) (not k.is_static) w.0) (not-true k.is_static (and_right (is_some k.body) (not k.is_static) w.0)) z.0 z.1
 
     result_types : Contains (result_rows P Q m k) x → Types x
     result_types c =

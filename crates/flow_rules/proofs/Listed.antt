@@ -1,10 +1,10 @@
 -- What lists in the order of places, and of each item once, hold.
 use Rattle.std.proofs.Common.{◌≡◌, ℕ, zero, suc, ◌+◌, List, [], ◌∷◌, ◌++◌, Some, None, refl, sym, ap, ◌∙◌, subst, arith, inl, inr, ⊎_elim}
-use Rattle.std.specs.Prelude.{◌⊎◌, ◌<◌, if◌then◌else◌, nat_lt, length, Bool, true, false, ◌||◌, Contains, map, slice_get, slice_index_or, position}
+use Rattle.std.specs.Prelude.{◌⊎◌, ◌<◌, if◌then◌else◌, nat_lt, length, Bool, true, false, Contains, map, slice_get, slice_index_or, position}
 use Rattle.std.specs.List.{All, list_any, flat_map, position_or_len}
 use Rattle.std.proofs.lemmas.List.Folds.{list_any-append}
 use Rattle.std.proofs.lemmas.List.Elements.{Contains-append_left, Contains-append_right, Contains-append_cases}
-use Rattle.std.proofs.lemmas.Bool.{false≢true}
+use Rattle.std.proofs.lemmas.Bool.{false≢true, or_left, or_right, or_cases}
 use Rattle.std.proofs.lemmas.Option.{same_Some, slice_get-get_or}
 use Rattle.std.proofs.lemmas.List.Quantifiers.{position-Some}
 use Rattle.indexmap.specs.IndexSet.{insert_key}
@@ -165,14 +165,6 @@ pub either : (b : Bool) → (b ≡ true) ⊎ (b ≡ false)
 either true = inl refl
 either false = inr refl
 
-or_left : (a b : Bool) → a ≡ true → (a || b) ≡ true
-or_left true b e = refl
-or_left false b e = absurd (false≢true e)
-
-or_right : (a b : Bool) → b ≡ true → (a || b) ≡ true
-or_right true b e = refl
-or_right false b e = e
-
 end_passes : {A : Type 0} (f : A → Bool) (xs : List A) (y : A) → f y ≡ true → list_any f (xs ++ y ∷ []) ≡ true
 end_passes f xs y e = list_any-append f xs (y ∷ []) ∙ or_right (list_any f xs) (list_any f (y ∷ [])) (or_left (f y) false e)
 
@@ -241,10 +233,6 @@ module _ {A K : Type 0} (eq : K → K → Bool) (exact : (x y : K) → eq x y �
 
   Kept : List K → List A → A → Type 0
   Kept seen ys x = (list_any (eq (key x)) seen ≡ true) ⊎ ((z : A) × Contains ys z × (key z ≡ key x))
-
-  or_cases : (a b : Bool) → (a || b) ≡ true → (a ≡ true) ⊎ (b ≡ true)
-  or_cases true b e = inl refl
-  or_cases false b e = inr e
 
   insert_cases : (ks : List K) (k q : K) → list_any (eq q) (insert_key eq ks k) ≡ true → (list_any (eq q) ks ≡ true) ⊎ (q ≡ k)
   insert_cases ks k q e = go (list_any (eq k) ks) e

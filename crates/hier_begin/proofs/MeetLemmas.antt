@@ -1,22 +1,21 @@
 -- What the halves of the obligations say as no first instance.
-use Rattle.std.proofs.Common.{◌≡◌, ◌≢◌, ℕ, ◌+◌, ◌<◌, ◌⊎◌, ◌&&◌, ◌||◌, eqb, Bool, true, false, cond, length, Option, Some, None, refl, sym, ap, ◌∙◌, subst, arith, ⊎_elim, inl, inr}
+use Rattle.std.proofs.Common.{◌≡◌, ◌≢◌, ℕ, ◌⊎◌, ◌&&◌, ◌||◌, eqb, Bool, true, false, cond, length, Option, Some, None, refl, sym, ap, ◌∙◌, subst, arith, ⊎_elim, inl, inr}
 use Rattle.std.specs.Prelude.{nat_lt, not}
 use Rattle.std.specs.Option.{option_map, option_and_then}
-use Rattle.std.proofs.lemmas.Bool.{cases_Bool, false≢true, and_parts, and_from, or_cases, eqb-true, eq-eqb, ltb-true}
+use Rattle.std.proofs.lemmas.Bool.{false≢true, and_parts, and_from, or_cases, eqb-true, eq-eqb, ltb-true}
 use Rattle.kaba_base.specs.declared.NodeId.{NodeId}
 use Rattle.kaba_bits.specs.Sets.{bit, row, or_else, first_below, when}
 use Rattle.kaba_bits.proofs.FirstLemmas.{first_below_clear}
-use Rattle.kaba_order.specs.Orders.{Ordered, is_le}
+use Rattle.kaba_order.specs.Orders.{is_le}
 use Rattle.fact_model.specs.Items.{site_class, site_row, row_class, column_kind, column_class, column_slot}
 use Rattle.fact_model.specs.Classes.{is_def, is_slot, below, finds}
 use Rattle.fact_model.specs.declared.facts.Facts.{Facts}
 use Rattle.fact_model.specs.declared.sets.PointsTo.{PointsTo}
 use Rattle.fact_model.specs.declared.sets.Table.{Table}
-use Rattle.hier_model.specs.Hierarchies.{Hierarchy, place_of_column, place_of_row, is_above, is_at, stands_at, is_offered, any_below}
+use Rattle.hier_model.specs.Hierarchies.{Hierarchy, place_of_column, place_of_row, is_above, is_at, stands_at, is_offered}
 use Rattle.hier_model.proofs.AnyLemmas.{any_below_some, any_below_has}
 use Rattle.hier_laws.specs.Shapes.{Given, Shape, Offers}
 use Rattle.hier_laws.specs.Obligations.{IsOther, Half, Rest}
-use Rattle.hier_rules.specs.declared.broken.Broken.{Broken}
 use Rattle.hier_rules.specs.declared.broken.Rule.TheVariants.{B2, B3, B4, B5, B6, B7}
 use Rattle.hier_rules.specs.Asked.{is_tie, is_super, is_called, slots_of, is_one_slot, is_other_body, meets, places_of}
 use Rattle.hier_rules.specs.Instances.{of_both, of_row, of_column}
@@ -31,10 +30,6 @@ none_by false v n = refl
 
 pub none_both : {B : Type 0} (x y : Option B) → x ≡ None → y ≡ None → or_else x y ≡ None
 none_both x y e f = rw (e, f) refl
-
-not_true : (b : Bool) → not b ≡ true → b ≡ false
-not_true true h = absurd (false≢true h)
-not_true false h = refl
 
 pub refuted : {A : Type 0} (b : Bool) → not b ≡ true → b ≡ true → A
 refuted true h k = absurd (false≢true h)

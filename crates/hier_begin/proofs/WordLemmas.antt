@@ -1,11 +1,11 @@
 -- Names that are made: they are identifiers, none of those taken, and none that the language has.
-use Rattle.std.proofs.Common.{◌≡◌, ◌≢◌, ℕ, suc, zero, ◌+◌, ◌^◌, ◌<◌, ◌≤◌, ◌⊎◌, ◌&&◌, ◌||◌, eqb, Bool, true, false, List, [], ◌∷◌, ◌++◌, length, get_or, Option, Some, None, Contains, refl, sym, ap, ◌∙◌, subst, arith, ⊎_elim, inl, inr}
-use Rattle.std.specs.Prelude.{not, max, unwrap_or, codes, replicate}
+use Rattle.std.proofs.Common.{◌≡◌, ◌≢◌, ℕ, suc, zero, ◌+◌, ◌^◌, ◌<◌, ◌≤◌, ◌⊎◌, ◌||◌, eqb, Bool, true, false, List, [], ◌∷◌, ◌++◌, length, Option, Some, None, Contains, refl, sym, ap, ◌∙◌, subst, arith, ⊎_elim}
+use Rattle.std.specs.Prelude.{not, unwrap_or, codes, replicate}
 use Rattle.std.specs.List.{list_any, list_all}
 use Rattle.std.specs.Str.{bytes_eq}
 use Rattle.std.specs.Char.{is_ascii_digit}
 use Rattle.std.specs.Fmt.{decimal}
-use Rattle.std.proofs.lemmas.Bool.{cases_Bool, or_cases, or_left, or_right, and_parts, and_from, eqb-true, eq-eqb, false≢true}
+use Rattle.std.proofs.lemmas.Bool.{cases_Bool, or_cases, or_left, or_right, and_parts, and_from, eqb-true, false≢true, not-true, or_parts}
 use Rattle.std.proofs.lemmas.List.{length-replicate, length-append}
 use Rattle.std.proofs.lemmas.List.Folds.{list_all-append, list_any-append, list_any_at}
 use Rattle.std.proofs.lemmas.Slice.Eq.{bytes_eq-Decides}
@@ -29,10 +29,6 @@ taken_short (x ∷ taken) name h =
     (λ b. let rest = taken_short taken name b in omega (arith, rest))
     (or_cases (bytes_eq name x) (is_taken taken name) h)
 
-not_false : (b : Bool) → not b ≡ true → b ≡ false
-not_false true h = absurd (false≢true h)
-not_false false h = refl
-
 long_free : (taken : List (List ℕ)) (name : List ℕ) → not (is_taken taken (lengthened name (longest taken + 1))) ≡ true
 long_free taken name =
     ⊎_elim
@@ -52,7 +48,7 @@ free taken name = at (first_below (longest taken + 2) f) refl
         let s = first_below_Some f (longest taken + 2) x e in
         let w = when-Some (not (is_taken taken (lengthened name s.0))) s.0 x s.2 in
         subst (λ o. is_taken taken (lengthened name (unwrap_or o 0)) ≡ false) (sym e)
-        (subst (λ k. is_taken taken (lengthened name k) ≡ false) w.1 (not_false (is_taken taken (lengthened name s.0)) w.0))
+        (subst (λ k. is_taken taken (lengthened name k) ≡ false) w.1 (not-true (is_taken taken (lengthened name s.0)) w.0))
     at None e =
         let none = first_below_None f (longest taken + 2) (longest taken + 1) e (omega arith) in
         absurd (cc (none, ap (λ b. when b (longest taken + 1)) (long_free taken name)))
@@ -64,12 +60,8 @@ not_taken taken name x h c e =
     false≢true (sym h ∙ list_any_at (bytes_eq name) taken c.0 x c.1 (subst (λ y. bytes_eq name y ≡ true) (sym c.2) has))
 
 pub taken_left : (xs ys : List (List ℕ)) (name : List ℕ) → is_taken (xs ++ ys) name ≡ false → (is_taken xs name ≡ false) × (is_taken ys name ≡ false)
-taken_left xs ys name h = parts (is_taken xs name) (is_taken ys name) (sym (list_any-append (bytes_eq name) xs ys) ∙ h)
+taken_left xs ys name h = or_parts (is_taken xs name) (is_taken ys name) (sym (list_any-append (bytes_eq name) xs ys) ∙ h)
   where
-    parts : (a b : Bool) → (a || b) ≡ false → (a ≡ false) × (b ≡ false)
-    parts true b k = absurd (false≢true (sym k))
-    parts false b k = (refl, k)
-
 -- whether a name has an underscore
 abbrev pub has_mark : List ℕ → Bool
 has_mark cs = list_any (eqb 95) cs
@@ -111,7 +103,7 @@ no_key (k ∷ ks) name all mark long =
     ⊎_elim
     (λ e. absurd (let same = (bytes_eq-Decides (key_text k) name).0 e in
     ⊎_elim
-    (λ no. false≢true (sym (not_false (has_mark (key_text k)) no) ∙ ap has_mark same ∙ mark))
+    (λ no. false≢true (sym (not-true (has_mark (key_text k)) no) ∙ ap has_mark same ∙ mark))
     (λ one. let l = eqb-true (length (key_text k)) 1 one in let m = ap length same in omega (arith, l, m, long))
     (or_cases (not (has_mark (key_text k))) (eqb (length (key_text k)) 1) p.0)))
     (λ e. rw e (no_key ks name p.1 mark long))

@@ -2,7 +2,7 @@
 use Rattle.std.proofs.Common.{◌≡◌, ℕ, zero, suc, ◌+◌, ◌<◌, ◌==◌, ◌&&◌, not, Bool, true, false, List, [], ◌∷◌, length, map, get_or, Option, Some, None, All, Contains, refl, sym, ap, ◌∙◌, subst, arith, eq-eqb, eqb-true}
 use Rattle.std.specs.Prelude.{nat_lt, filter}
 use Rattle.std.specs.List.{range_with_len}
-use Rattle.std.proofs.lemmas.Bool.{false≢true, and_parts, and_from, or_left, or_right}
+use Rattle.std.proofs.lemmas.Bool.{false≢true, and_parts, and_from, or_left, or_right, not-true}
 use Rattle.std.proofs.lemmas.Option.{same_Some}
 use Rattle.std.proofs.lemmas.List.Elements.{All-map, filter_passes, Contains-get_or}
 use Rattle.std.proofs.lemmas.List.FromFn.{get_or-range_with_len, length-range_with_len}
@@ -22,10 +22,6 @@ use Rattle.hier_rules.specs.Instances.{of_three}
 use Rattle.hier_rules.specs.Obligations.{is_class_above, unchained, first_unchained}
 use Rattle.hier_tree.specs.declared.Conflict.{Conflict}
 use Rattle.hier_tree.specs.Trees.{conflict_of, is_from, nodes_from}
-
-no_not : (b : Bool) → not b ≡ true → b ≡ false
-no_not true h = absurd (false≢true h)
-no_not false h = refl
 
 -- two nodes at or above one that are not ordered
 pub record IsConflict (H : Hierarchy) (c : Conflict) : Type 0 where
@@ -51,7 +47,7 @@ conflict_says F H b h =
     let up = (and_parts (is_class_node F H n.0 && is_class_node F H x.0) (is_le H.order n.0 x.0) p.0).1 in
     let other = (and_parts (is_class_node F H n.0 && is_class_node F H y.0) (is_le H.order n.0 y.0) s.0).1 in
     subst (λ (z : Broken). IsConflict H (conflict_of z)) same
-    (record { first = up; second = other; apart = no_not (is_le H.order x.0 y.0) r.1; also = no_not (is_le H.order y.0 x.0) q.1 })
+    (record { first = up; second = other; apart = not-true (is_le H.order x.0 y.0) r.1; also = not-true (is_le H.order y.0 x.0) q.1 })
 
 pub from_says : (k : ClassId) (o : Option ClassId) → is_from k o ≡ true → o ≡ Some k
 from_says k None h = absurd (false≢true h)

@@ -5,7 +5,7 @@ use Rattle.std.specs.List.{list_any, list_all}
 use Rattle.std.specs.Str.{bytes_eq, all_scalars, IsAscii}
 use Rattle.std.specs.Char.{is_ascii_digit}
 use Rattle.std.specs.Fmt.{decimal}
-use Rattle.std.proofs.lemmas.Bool.{cases_Bool, and_parts, and_from, or_right, false≢true}
+use Rattle.std.proofs.lemmas.Bool.{cases_Bool, and_parts, and_from, or_right, false≢true, not-true}
 use Rattle.std.proofs.lemmas.Fmt.{decimal_nonempty, IsAscii-decimal}
 use Rattle.std.proofs.lemmas.Slice.Eq.{bytes_eq-Decides}
 use Rattle.std.proofs.lemmas.Str.{scalars-chars, chars-IsAscii, IsUtf8-from_ascii}
@@ -26,17 +26,13 @@ plain_keys : list_all (λ k. not (has_digit (key_text k))) KEYWORDS ≡ true
 unfolding key_text
 plain_keys = refl
 
-not_false : (b : Bool) → not b ≡ true → b ≡ false
-not_false true h = absurd (false≢true h)
-not_false false h = refl
-
 no_key : (ks : List Keyword) (name : List ℕ) → list_all (λ k. not (has_digit (key_text k))) ks ≡ true → has_digit name ≡ true
     → is_none (first_that (λ k. bytes_eq (key_text k) name) ks) ≡ true
 no_key [] name all digit = refl
 no_key (k ∷ ks) name all digit =
     let p = and_parts (not (has_digit (key_text k))) (list_all (λ k. not (has_digit (key_text k))) ks) all in
     ⊎_elim
-    (λ e. absurd (false≢true (sym (not_false (has_digit (key_text k)) p.0) ∙ ap has_digit ((bytes_eq-Decides (key_text k) name).0 e) ∙ digit)))
+    (λ e. absurd (false≢true (sym (not-true (has_digit (key_text k)) p.0) ∙ ap has_digit ((bytes_eq-Decides (key_text k) name).0 e) ∙ digit)))
     (λ e. rw e (no_key ks name p.1 digit))
     (cases_Bool (bytes_eq (key_text k) name))
 

@@ -1,8 +1,9 @@
 -- The types of nodes in a program that rebuilds another: their order, which of them are classes, and that no holder stands between them.
 use Rattle.std.proofs.Common.{◌≡◌, ℕ, ◌&&◌, ◌↔◌, eqb, [], ◌∷◌, Option, Some, None, Contains, refl, sym, ap, ◌∙◌, subst, ⊎_elim, arith}
-use Rattle.std.specs.Prelude.{Bool, true, false, not, length}
+use Rattle.std.specs.Prelude.{true, false, not, length}
 use Rattle.std.proofs.lemmas.Bool.{false≢true, and_from, and_parts, or_left, or_right, eqb-true}
 use Rattle.std.proofs.lemmas.Option.{same_Some}
+use Rattle.std.specs.Cmp.{both_ways}
 use Rattle.kaba_base.specs.declared.NodeId.{NodeId}
 use Rattle.kaba_base.specs.declared.ClassId.{ClassId}
 use Rattle.java_core.specs.declared.TyBase.TheVariants.{Class}
@@ -36,14 +37,9 @@ module _ (P Q : Plain) (F : Facts) (H : Hierarchy) (W : Plain) (K : Known P Q F 
   pub le_of : (a b : ℕ) → is_node a → is_node b → IsSubclass W (T.type_of a) (T.type_of b) → is_le H.order a b ≡ true
   le_of a b la lb h = (K.rebuilt.order a b la lb).0 h
 
-  same_test : (a b : Bool) → (a ≡ true → b ≡ true) → (b ≡ true → a ≡ true) → a ≡ b
-  same_test true b f g = sym (f refl)
-  same_test false true f g = g refl
-  same_test false false f g = refl
-
   pub below_is : (a b : ℕ) → is_node a → is_node b → below W (T.type_of a) (T.type_of b) ≡ is_le H.order a b
   below_is a b la lb =
-      same_test (below W (T.type_of a) (T.type_of b)) (is_le H.order a b)
+      both_ways (below W (T.type_of a) (T.type_of b)) (is_le H.order a b)
       (λ h. le_of a b la lb (below-subclass W (T.type_of a) (T.type_of b) h))
       (λ h. subclass-below W K.new.acyclic (subclass_of a b h))
 

@@ -3,7 +3,7 @@ use Rattle.std.proofs.Common.{◌≡◌, ◌≢◌, ℕ, zero, suc, ◌<◌, ◌
 use Rattle.std.specs.Prelude.{not, codes, slice_get}
 use Rattle.std.specs.List.{list_any}
 use Rattle.std.specs.Str.{bytes_eq}
-use Rattle.std.proofs.lemmas.Bool.{false≢true, and_parts, or_parts}
+use Rattle.std.proofs.lemmas.Bool.{false≢true, and_parts, or_parts, not-true}
 use Rattle.std.proofs.lemmas.Option.{same_Some}
 use Rattle.std.proofs.lemmas.Slice.Eq.{bytes_eq-Decides}
 use Rattle.kaba_base.specs.declared.ClassId.{ClassId}
@@ -45,10 +45,6 @@ not_in x [] h i y e = absurd (cc e)
 not_in x (z ∷ xs) h zero y e = let p = or_parts (bytes_eq x z) (list_any (bytes_eq x) xs) h in subst (λ w. x ≢ w) (same_Some _ _ e) (differ x z p.0)
 not_in x (z ∷ xs) h (suc i) y e = not_in x xs (or_parts (bytes_eq x z) (list_any (bytes_eq x) xs) h).1 i y e
 
-unnegated : (b : Bool) → not b ≡ true → b ≡ false
-unnegated true h = absurd (false≢true h)
-unnegated false h = refl
-
 pub once_each : (xs : List (List ℕ)) → are_different xs ≡ true → HasNoTwice xs
 unfolding HasNoTwice
 once_each xs h i j x e d = go xs h i j e d
@@ -57,9 +53,9 @@ once_each xs h i j x e d = go xs h i j e d
     go [] h i j e d = absurd (cc e)
     go (y ∷ ys) h zero zero e d = refl
     go (y ∷ ys) h zero (suc j) e d = let p = and_parts (not (list_any (bytes_eq y) ys)) (are_different ys) h in
-        absurd (not_in y ys (unnegated (list_any (bytes_eq y) ys) p.0) j x d (same_Some _ _ e))
+        absurd (not_in y ys (not-true (list_any (bytes_eq y) ys) p.0) j x d (same_Some _ _ e))
     go (y ∷ ys) h (suc i) zero e d = let p = and_parts (not (list_any (bytes_eq y) ys)) (are_different ys) h in
-        absurd (not_in y ys (unnegated (list_any (bytes_eq y) ys) p.0) i x e (same_Some _ _ d))
+        absurd (not_in y ys (not-true (list_any (bytes_eq y) ys) p.0) i x e (same_Some _ _ d))
     go (y ∷ ys) h (suc i) (suc j) e d = ap suc (go ys (and_parts (not (list_any (bytes_eq y) ys)) (are_different ys) h).1 i j e d)
 
 pub no_twice : (A : Type 0) → HasNoTwice {A = A} []

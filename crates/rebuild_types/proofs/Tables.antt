@@ -1,19 +1,12 @@
 -- A hierarchy's table is each closed table of its facts.
 use Rattle.std.proofs.Common.{◌≡◌, ℕ, suc, List, [], ◌∷◌, length, refl, sym, ap, ◌∙◌, subst, arith}
-use Rattle.std.specs.Prelude.{Bool, true, false}
-use Rattle.std.proofs.lemmas.Bool.{false≢true}
+use Rattle.std.specs.Prelude.{Bool}
+use Rattle.std.specs.Cmp.{both_ways}
 use Rattle.kaba_bits.specs.Sets.{bit, row, HasWidth}
 use Rattle.fact_model.specs.Entries.{IsTable}
 use Rattle.fact_model.specs.declared.facts.Facts.{Facts}
 use Rattle.fact_model.specs.declared.sets.Table.{Table}
 use Rattle.hier_model.specs.Hierarchies.{Hierarchy, KeepsTable}
-
--- two truths that hold of the same are one
-alike : (a b : Bool) → (a ≡ true → b ≡ true) → (b ≡ true → a ≡ true) → a ≡ b
-alike true true f g = refl
-alike true false f g = absurd (false≢true (f refl))
-alike false true f g = absurd (false≢true (g refl))
-alike false false f g = refl
 
 same_bits : (xs ys : List Bool) → length xs ≡ length ys → ((i : ℕ) → bit xs i ≡ bit ys i) → xs ≡ ys
 same_bits [] [] n e = refl
@@ -35,5 +28,5 @@ pub same_table : (F : Facts) (H : Hierarchy) (t : Table) → KeepsTable F H.tabl
 same_table F H t k is =
     same_rows (length F.columns.items) H.table t.rows.items (k.rows ∙ sym is.sized.rows) k.widths
     (subst (λ n. HasWidth n t.rows.items) is.sized.columns is.sized.widths)
-    (λ r c. alike (bit (row H.table r) c) (bit (row t.rows.items r) c) (λ h. (is.entries r c).1 ((k.entries r c).0 h))
+    (λ r c. both_ways (bit (row H.table r) c) (bit (row t.rows.items r) c) (λ h. (is.entries r c).1 ((k.entries r c).0 h))
     (λ h. (k.entries r c).1 ((is.entries r c).0 h)))

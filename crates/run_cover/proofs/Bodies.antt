@@ -3,7 +3,7 @@ use Rattle.std.proofs.Common.{◌≡◌, ℕ, zero, suc, List, [], ◌∷◌, Op
 use Rattle.std.specs.Prelude.{◌⊎◌, ◌<◌, ◌==◌, ◌&&◌, not, get_or, Bool, true, false, slice_get, Contains, map, position}
 use Rattle.std.specs.Option.{option_map_or, option_and_then, is_some}
 use Rattle.std.specs.List.{flat_map}
-use Rattle.std.proofs.lemmas.Bool.{false≢true, eqb-true, eq-eqb}
+use Rattle.std.proofs.lemmas.Bool.{false≢true, eqb-true, eq-eqb, and_from}
 use Rattle.std.proofs.lemmas.Option.{same_Some, slice_get_within, get_or_from_slice_get, slice_get-get_or}
 use Rattle.std.proofs.lemmas.List.Elements.{Contains-append_right, Contains-append_left}
 use Rattle.std.proofs.lemmas.List.Quantifiers.{position-Some}
@@ -35,9 +35,6 @@ use Rattle.java_core.specs.declared.TyBase.TheVariants.{Int}
 use Rattle.java_core.proofs.Positions.{position-map}
 use Rattle.run_cover.proofs.Found.{each_get, same_parent, same_length, body_listed, nearest_some}
 use Rattle.run_cover.proofs.Truths.{both_hold}
-
-both : (x y : Bool) → x ≡ true → y ≡ true → (x && y) ≡ true
-both x y e d = rw e d
 
 slot_is : (o : Option ℕ) (x : ℕ) → is_slot o x ≡ true → o ≡ Some x
 slot_is None x e = absurd (false≢true e)
@@ -99,7 +96,7 @@ module _ (Q : Plain) (F : Facts) (formed : IsFormed (untagged Q)) (facts : IsFac
       }
 
   own_item : (a x m : ℕ) → IsOwn a x m → is_body a x (column_info Q (column.Def m)) ≡ true
-  own_item a x m h = both (owner_of Q (column.Def m) == a) (is_slot (slot_in Q (column.Def m)) x)
+  own_item a x m h = and_from (owner_of Q (column.Def m) == a) (is_slot (slot_in Q (column.Def m)) x)
       (eq-eqb (owner_of Q (column.Def m)) a (ap (λ z. option_map_or (λ (k : PlainMethod). k.owner) z 0) h.there ∙ h.owner))
       (ap (λ z. is_slot (option_and_then (λ (k : PlainMethod). k.slot) z) x) h.there ∙ ap (λ z. is_slot z x) h.slot ∙ eq-eqb x x refl)
 
@@ -141,7 +138,7 @@ module _ (Q : Plain) (F : Facts) (formed : IsFormed (untagged Q)) (facts : IsFac
   own_java : (a x m : ℕ) (h : IsOwn a x m) → is_some h.method.body ≡ true → (n : ℕ) × (java.own_body P a x ≡ Some n)
   own_java a x m h b = position_there (λ m. has_slot a x m && is_some m.body) P.methods (untag_method h.method)
       (there_at P.methods m (untag_method h.method) (method_of Q formed m h.method h.there))
-      (both (has_slot a x (untag_method h.method)) (is_some (untag_body h.method.body)) (both (h.method.owner == a) (java.is_slot h.method.slot x)
+      (and_from (has_slot a x (untag_method h.method)) (is_some (untag_body h.method.body)) (and_from (h.method.owner == a) (java.is_slot h.method.slot x)
       (eq-eqb h.method.owner a h.owner) (ap (λ z. java.is_slot z x) h.slot ∙ eq-eqb x x refl)) (with_body h.method.body b))
     where
       with_body : (b : _) → is_some b ≡ true → is_some (untag_body b) ≡ true

@@ -1,9 +1,9 @@
 -- The fields of an object and the elements of an array of a site have their cells.
 use Rattle.std.proofs.Common.{◌≡◌, ℕ, zero, suc, ◌+◌, List, [], ◌∷◌, ◌++◌, Option, Some, None, length, refl, sym, ap, ◌∙◌, subst, arith, ⊎_elim}
-use Rattle.std.specs.Prelude.{◌==◌, ◌&&◌, ◌||◌, if◌then◌else◌, nat_eq, not, get_or, Bool, true, false, slice_get, Contains, map}
+use Rattle.std.specs.Prelude.{◌==◌, ◌&&◌, if◌then◌else◌, nat_eq, not, get_or, Bool, true, false, slice_get, Contains, map}
 use Rattle.std.specs.Option.{option_map, option_map_or, option_and_then, option_to_list}
 use Rattle.std.specs.List.{list_any, flat_map}
-use Rattle.std.proofs.lemmas.Bool.{false≢true, eqb-true, eq-eqb}
+use Rattle.std.proofs.lemmas.Bool.{eqb-true, eq-eqb, not-true, or_left, or_right, and_from}
 use Rattle.std.proofs.lemmas.Option.{same_Some, get_or_from_slice_get, slice_get-get_or}
 use Rattle.std.proofs.lemmas.List.Elements.{Contains-append_cases}
 use Rattle.std.proofs.lemmas.List.Quantifiers.{position-Some}
@@ -33,18 +33,6 @@ use Rattle.run_cover.proofs.HasNumbers.{field_column}
 use Rattle.run_cover.proofs.HasRows.{of_field, field_row_of}
 use Rattle.run_cover.proofs.Truths.{both_hold}
 
-or_right : (a b : Bool) → b ≡ true → (a || b) ≡ true
-or_right true b e = refl
-or_right false b e = e
-
-or_left : (a b : Bool) → a ≡ true → (a || b) ≡ true
-or_left true b e = refl
-or_left false b e = absurd (false≢true e)
-
-no_not : (b : Bool) → not b ≡ true → b ≡ false
-no_not true e = absurd (false≢true e)
-no_not false e = refl
-
 -- the fields of a class's objects are instance fields of a class at or above it
 record IsLaid (fs : List PlainField) (c f : ℕ) : Type 0 where
   field : PlainField
@@ -66,7 +54,7 @@ own_from c n (k ∷ fs) f h = ⊎_elim (λ d. here d) (λ d. past (own_from c (s
       where
         go : (b : Bool) → ((k.owner == c) && not k.is_static) ≡ b → Contains (if b then n ∷ [] else []) f → (i : ℕ) × (f ≡ n + i) × IsLaid (k ∷ fs) c i
         go true e w = let t = both_hold (k.owner == c) (not k.is_static) e in
-            (0, omega (arith, single w), record { field = k; there = refl; instance = no_not k.is_static t.1; owner = eqb-true k.owner c t.0 })
+            (0, omega (arith, single w), record { field = k; there = refl; instance = not-true k.is_static t.1; owner = eqb-true k.owner c t.0 })
         go false e w = absurd (omega (arith, w.1))
 
     past : (i : ℕ) × (f ≡ suc n + i) × IsLaid fs c i → (i : ℕ) × (f ≡ n + i) × IsLaid (k ∷ fs) c i
@@ -174,12 +162,9 @@ module _ (Q : Plain) (F : Facts) (formed : IsFormed (untagged Q)) (facts : IsFac
       let in_site : Contains (site_cells P (fields_of (numbers P Q) Q (columns_of P Q)) s x.site) y = subst
       (λ z. Contains (if z.dim == 0 then flat_map (cell_for P s z.class.0) (fields_of (numbers P Q) Q (columns_of P Q)) else array_cell s
       x.site.row) y) (sym ty) in_object in
-      let q = cell_there s x.site (Some col.0) y x.there in_site (both (s == s) (col.0 == col.0) (eq-eqb s s refl) (eq-eqb col.0 col.0 refl)) in
+      let q = cell_there s x.site (Some col.0) y x.there in_site (and_from (s == s) (col.0 == col.0) (eq-eqb s s refl) (eq-eqb col.0 col.0 refl)) in
       (q.0, ap (λ z. option_and_then (λ c. cell_number P Q F s (Some c)) z) col.1 ∙ q.1)
     where
-      both : (x y : Bool) → x ≡ true → y ≡ true → (x && y) ≡ true
-      both x y e d = rw e d
-
   pub element_has_cell : (n s c d : ℕ) → (numbers P Q).site n ≡ Some s → site_type F s ≡ record { class = record { 0 = c }; dim = d } → (d ≡ 0 → ⊥)
       → (q : ℕ) × (element_cell P Q F s ≡ Some q)
   unfolding numbers
@@ -188,11 +173,8 @@ module _ (Q : Plain) (F : Facts) (formed : IsFormed (untagged Q)) (facts : IsFac
       let dim : x.site.ty.dim ≡ d = ap (λ z. z.dim) (sym x.type ∙ et) in
       let y : CellInfo = record { site = record { 0 = s }; column = None; row = record { 0 = x.site.row } } in
       cell_there s x.site None y x.there (array _ _ (x.site.ty.dim == 0) refl (λ h. nd (sym dim ∙ eqb-true x.site.ty.dim 0 h)) y (one y))
-      (both (s == s) true (eq-eqb s s refl) refl)
+      (and_from (s == s) true (eq-eqb s s refl) refl)
     where
-      both : (x y : Bool) → x ≡ true → y ≡ true → (x && y) ≡ true
-      both x y e d = rw e d
-
       array : (xs ys : List CellInfo) (b : Bool) → b ≡ b → (b ≡ true → ⊥) → (y : CellInfo) → Contains ys y → Contains (if b then xs else ys) y
       array xs ys true e h y c = absurd (h refl)
       array xs ys false e h y c = c

@@ -1,9 +1,9 @@
 -- No run of a program under the watch of closed sets escapes.
 use Rattle.std.proofs.Common.{◌≡◌, ℕ, suc, ◌+◌, List, [], ◌∷◌, Option, Some, None, refl, sym, ◌∙◌, subst, arith}
-use Rattle.std.specs.Prelude.{◌≢◌, ◌==◌, ◌&&◌, Bool, true, false, slice_get, map}
+use Rattle.std.specs.Prelude.{◌≢◌, ◌==◌, true, false, slice_get, map}
 use Rattle.std.specs.Option.{option_map_or, option_and_then}
 use Rattle.std.specs.List.{AllByRecursion}
-use Rattle.std.proofs.lemmas.Bool.{eqb-true}
+use Rattle.std.proofs.lemmas.Bool.{eqb-true, and_from}
 use Rattle.std.proofs.lemmas.List.Quantifiers.{position-Some}
 use Rattle.java_core.specs.declared.Ty.{Ty}
 use Rattle.java_core.specs.Programs.{Plain}
@@ -73,13 +73,10 @@ module _ (P Q : Plain) (F : Facts) (S : Sets) where
   value_seen p Nothing h o = refl
   value_seen p (Text a) h o = refl
 
-  both : (x y : Bool) → x ≡ true → y ≡ true → (x && y) ≡ true
-  both x y e d = rw e d
-
   all_seen : (b i : ℕ) (vs : List Value) (h : List Cell) → ((x y : ℕ) (v : Value) → y ≡ i + x → slice_get vs x ≡ Some v
       → Of h v ((family P Q F S).spot (bound b y))) → are_seen P Q F S b i vs h ≡ true
   all_seen b i [] h p = refl
-  all_seen b i (v ∷ vs) h p = both (is_seen P Q F S (spot_set P Q F S (bound b i)) v h) (are_seen P Q F S b (suc i) vs h)
+  all_seen b i (v ∷ vs) h p = and_from (is_seen P Q F S (spot_set P Q F S (bound b i)) v h) (are_seen P Q F S b (suc i) vs h)
       (value_seen (bound b i) v h (p 0 i v (omega arith) refl)) (all_seen b (suc i) vs h (λ x y w e d. p (suc x) y w (omega (arith, e)) d))
 
   watches : IsWatched (watched P Q F S) (family P Q F S)

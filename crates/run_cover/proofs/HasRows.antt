@@ -2,7 +2,7 @@
 use Rattle.std.proofs.Common.{◌≡◌, ℕ, zero, suc, List, [], ◌∷◌, ◌++◌, Option, Some, None, length, refl, sym, ap, ◌∙◌, subst, arith}
 use Rattle.std.specs.Prelude.{◌<◌, ◌||◌, nat_lt, not, Bool, true, false, slice_get}
 use Rattle.std.specs.Option.{option_map, option_map_or, is_some}
-use Rattle.std.proofs.lemmas.Bool.{false≢true, eq-eqb}
+use Rattle.std.proofs.lemmas.Bool.{eq-eqb, or_left, or_right}
 use Rattle.std.proofs.lemmas.Option.{same_Some, slice_get_within}
 use Rattle.java_core.specs.declared.Ty.{Ty}
 use Rattle.java_core.specs.Programs.{Plain, PlainField, PlainMethod, PlainLocal, PlainSlot}
@@ -116,14 +116,6 @@ module _ (Q : Plain) (formed : IsFormed (untagged Q)) where
       own : (v : PlainLocal) → slice_get (k.params ++ k.locals) i ≡ Some v → object_of v.ty ≡ Some t
           → (is_first P m k || not (nat_lt i (length k.params))) ≡ true → (r : ℕ) × (row_number P Q (variable_row m k i) ≡ Some r)
       own v ev ov f = own_variable_row P Q m k e i v t ev ov f
-
-      or_right : (a b : Bool) → b ≡ true → (a || b) ≡ true
-      or_right true b h = refl
-      or_right false b h = h
-
-      or_left : (a b : Bool) → a ≡ true → (a || b) ≡ true
-      or_left true b h = refl
-      or_left false b h = absurd (false≢true h)
 
       go : (v : PlainLocal) → slice_get (k.params ++ k.locals) i ≡ Some v → object_of v.ty ≡ Some t → (z : Option ℕ) (b : Bool) → k.slot ≡ z
           → nat_lt i (length k.params) ≡ b → (r : ℕ) × (row_number P Q (variable_row m k i) ≡ Some r)

@@ -5,6 +5,7 @@ use Rattle.std.proofs.lemmas.Option.{same_Some}
 use Rattle.std.proofs.lemmas.Bool.{false≢true, and_from, eq-eqb, or_left, or_right, lt-ltb, eqb-true}
 use Rattle.std.proofs.lemmas.List.Elements.{All-contains}
 use Rattle.std.proofs.lemmas.List.Folds.{list_any-from_Any}
+use Rattle.std.specs.Cmp.{both_ways}
 use Rattle.kaba_base.specs.declared.ClassId.{ClassId}
 use Rattle.kaba_base.specs.declared.Place.{Place}
 use Rattle.kaba_bits.specs.Sets.{bit, row as bits}
@@ -61,12 +62,6 @@ use Rattle.rebuild_types.proofs.Served.{row_of_class, row_in_is}
 use Rattle.same_run.proofs.Ties.{type_at, type_over}
 use Rattle.same_run.proofs.Sited.{MadeAs, node_of, and_false, free_apart, IsMet, met_at, met_passing}
 
--- two truths that follow from each other
-same_truth : (a b : Bool) → (a ≡ true → b ≡ true) → (b ≡ true → a ≡ true) → a ≡ b
-same_truth true b f g = sym (f refl)
-same_truth false true f g = absurd (false≢true (g refl))
-same_truth false false f g = refl
-
 module _ (Q : Plain) (F : Facts) (H : Hierarchy) (W : Plain) (K : Known (untagged Q) Q F H W) (placed : IsPlaced (untagged Q) Q) (typed : IsTyped (untagged Q))
     (facts : IsFactsOf (untagged Q) Q F) (pt : PointsTo) (t : Table)
     (A : InRange F) (O : InOrder F) (S : AreSets F pt) (B : IsTable F t) (table : H.table ≡ t.rows.items) (none : first_broken F pt H ≡ None)
@@ -92,7 +87,7 @@ module _ (Q : Plain) (F : Facts) (H : Hierarchy) (W : Plain) (K : Known (untagge
       → below P (site_class F s) c ≡ below W (T.type_of (node s)) (T.type_of (place_of_row H r))
   met_same s r c ls lr m e =
       let lives = hierarchy.placed.rows (site_row F s) (A.sites s (record { row = record { 0 = 0 }; class = record { 0 = 0 }; dim = 0 }) ls).0 in
-      same_truth (below P (site_class F s) c) (is_le H.order (node s) (place_of_row H r))
+      both_ways (below P (site_class F s) c) (is_le H.order (node s) (place_of_row H r))
       (λ h. (half F pt t A O S B H table none).passes s r m (ap (λ z. facts_below F (site_class F s) z) e ∙ in_facts (site_class F s) c h))
       (λ h. in_program (site_class F s) c (sym (ap (λ z. facts_below F (site_class F s) z) e) ∙ fails F pt t A O S B H table none s r m h))
       ∙ sym (nodes.below_is P Q F H W K (node s) (place_of_row H r) lives (hierarchy.placed.rows r lr))

@@ -1,6 +1,6 @@
 -- The number of pairs of nodes that are not ordered falls where two of them become one, or one is put below another.
 use Rattle.std.proofs.Common.{◌≡◌, ℕ, zero, suc, ◌+◌, ◌<◌, ◌≤◌, ⊎_elim, ◌==◌, ◌&&◌, ◌||◌, not, Bool, true, false, List, length, refl, sym, ap, ◌∙◌, subst, arith, eqb-true}
-use Rattle.std.proofs.lemmas.Bool.{cases_Bool, cases_eq, false≢true, and_parts, and_from}
+use Rattle.std.proofs.lemmas.Bool.{cases_eq, false≢true, and_parts, and_from, not-true, or_left, or_right, false_from_ne_true}
 use Rattle.kaba_base.specs.declared.NodeId.{NodeId}
 use Rattle.kaba_bits.specs.Sets.{bit}
 use Rattle.kaba_bits.proofs.SetLemmas.{bit-below}
@@ -45,23 +45,9 @@ fewer old new len only x y was is =
     (λ a. sum_le N (λ b. one_if (is_apart new a b)) (λ b. one_if (is_apart old a b)) (each a)) row_lt in
     subst (λ M. sum_below M (λ a. sum_below M (λ b. one_if (is_apart new a b))) < unordered old) (sym len) less
 
-is_not : (b : Bool) → not b ≡ true → b ≡ false
-is_not true h = absurd (false≢true h)
-is_not false h = refl
-
 and_false : (a b : Bool) → b ≡ false → (a && b) ≡ false
 and_false true b h = h
 and_false false b h = refl
-
-or_true : (a b : Bool) → a ≡ true → (a || b) ≡ true
-or_true a b h = ap (λ c. c || b) h
-
-or_other : (a b : Bool) → b ≡ true → (a || b) ≡ true
-or_other true b h = refl
-or_other false b h = h
-
-none_false : (x : Bool) → (x ≡ true → ⊥) → x ≡ false
-none_false x n = ⊎_elim (λ t. absurd (n t)) (λ f. f) (cases_Bool x)
 
 module _ (o : Ordered) (p : IsPartialOrder o) where
   was_apart : (new : Ordered) → ((a : ℕ) → is_live new a ≡ true → is_live o a ≡ true)
@@ -70,7 +56,7 @@ module _ (o : Ordered) (p : IsPartialOrder o) where
   was_apart new lives holds a b h =
       let x = and_parts (is_live new a && is_live new b) (not (is_le new a b)) h in
       let y = and_parts (is_live new a) (is_live new b) x.0 in
-      let apart : is_le o a b ≡ false = none_false (is_le o a b) (λ t. false≢true (sym (is_not (is_le new a b) x.1) ∙ holds a b y.0 y.1 t)) in
+      let apart : is_le o a b ≡ false = false_from_ne_true (is_le o a b) (λ t. false≢true (sym (not-true (is_le new a b) x.1) ∙ holds a b y.0 y.1 t)) in
       and_from (is_live o a && is_live o b) (not (is_le o a b)) (and_from (is_live o a) (is_live o b) (lives a y.0) (lives b y.1)) (ap not apart)
 
   apart_from : (x y : ℕ) → is_live o x ≡ true → is_live o y ≡ true → is_le o x y ≡ false → is_apart o x y ≡ true
@@ -80,11 +66,11 @@ module _ (o : Ordered) (p : IsPartialOrder o) where
   under_fewer l h ll lh apart =
       let new = under_order o l h in
       let pair : is_le new l h ≡ true =
-      under_pairs o p l h l h ∙ or_other (is_le o l h) (is_le o l l && is_le o h h)
+      under_pairs o p l h l h ∙ or_right (is_le o l h) (is_le o l l && is_le o h h)
       (and_from (is_le o l l) (is_le o h h) (p.reflexive l ll) (p.reflexive h lh)) in
       fewer o new (ap length (under_live o p l h))
       (was_apart new (λ a e. sym (ap (λ v. bit v a) (under_live o p l h)) ∙ e)
-      (λ a b la lb e. under_pairs o p l h a b ∙ or_true (is_le o a b) (is_le o a l && is_le o h b) e))
+      (λ a b la lb e. under_pairs o p l h a b ∙ or_left (is_le o a b) (is_le o a l && is_le o h b) e))
       l h (apart_from l h ll lh apart) (and_false (is_live new l && is_live new h) (not (is_le new l h)) (ap not pair))
 
   module _ (set : List NodeId) (m : ℕ) (has : is_among set m ≡ true) (live : (s : ℕ) → is_among set s ≡ true → is_live o s ≡ true)
@@ -109,9 +95,9 @@ module _ (o : Ordered) (p : IsPartialOrder o) where
         let pair = is_le o a b || (is_below_some o set a && is_above_some o set b) in
         pairs a b
         ∙ and_from (pair && stays set m a) (stays set m b)
-        (and_from pair (stays set m a) (or_true (is_le o a b) (is_below_some o set a && is_above_some o set b) e) (parts a la).1) (parts b lb).1))
+        (and_from pair (stays set m a) (or_left (is_le o a b) (is_below_some o set a && is_above_some o set b) e) (parts a la).1) (parts b lb).1))
         x y (apart_from x y (live x ax) (live y ay) apart)
-        (none_false (is_apart new x y) (λ t.
+        (false_from_ne_true (is_apart new x y) (λ t.
         let u = and_parts (is_live new x && is_live new y) (not (is_le new x y)) t in
         let v = and_parts (is_live new x) (is_live new y) u.0 in
         false≢true (sym apart ∙ subst (λ z. is_le o x z ≡ true) (same v.0 v.1) (p.reflexive x (live x ax)))))

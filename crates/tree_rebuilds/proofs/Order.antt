@@ -2,7 +2,7 @@
 use Rattle.std.proofs.Common.{◌≡◌, ◌≢◌, ℕ, zero, suc, ◌+◌, ◌<◌, ◌&&◌, Bool, true, false, List, [], ◌∷◌, Option, Some, None, Contains, refl, sym, ap, ◌∙◌, subst, arith, inl, inr, ⊎_elim}
 use Rattle.std.specs.Prelude.{not, length, filter, ◌==◌}
 use Rattle.std.specs.List.{range_with_len}
-use Rattle.std.proofs.lemmas.Bool.{false≢true, and_from, and_parts, cases_Bool, cases_eq, ne_eqb, eq-eqb}
+use Rattle.std.proofs.lemmas.Bool.{false≢true, and_from, and_parts, cases_Bool, cases_eq, ne_eqb, eq-eqb, not-true}
 use Rattle.kaba_bits.specs.Sets.{when}
 use Rattle.kaba_bits.proofs.FirstLemmas.{first_below_Some, first_below_None, when-Some, when-None}
 use Rattle.kaba_bits.proofs.SetLemmas.{bit-below}
@@ -80,10 +80,6 @@ module _ (F : Facts) (H : Hierarchy) (order : IsPartialOrder H.order) (pt : Poin
   above_from : (a b : ℕ) → le a b ≡ true → a ≢ b → is_above H.order a b ≡ true
   above_from a b h other = and_from (le a b) (not (a == b)) h (ap not (ne_eqb a b other))
 
-  negated : (b : Bool) → not b ≡ true → b ≡ false
-  negated true h = absurd (false≢true h)
-  negated false h = refl
-
   pub cover_from : (a b : ℕ) → is_cover H.order a b ≡ true → IsCover le a b
   cover_from a b h =
       let p = and_parts (is_above H.order a b) (not (any_below N (λ k. is_above H.order a k && is_above H.order k b))) h in
@@ -92,7 +88,7 @@ module _ (F : Facts) (H : Hierarchy) (order : IsPartialOrder H.order) (pt : Poin
         above = up.0;
         other = up.1;
         next = λ x ax xb. ⊎_elim (λ e. inl (sym e)) (λ na. ⊎_elim (λ e. inr e) (λ nb.
-            let no = any_below_none (λ k. is_above H.order a k && is_above H.order k b) N x (negated _ p.1) (ordered.upper a x ax) in
+            let no = any_below_none (λ k. is_above H.order a k && is_above H.order k b) N x (not-true _ p.1) (ordered.upper a x ax) in
             absurd (false≢true (sym no ∙ and_from (is_above H.order a x) (is_above H.order x b) (above_from a x ax na) (above_from x b xb nb))))
             (cases_eq x b)) (cases_eq a x);
       }
@@ -120,7 +116,7 @@ module _ (F : Facts) (H : Hierarchy) (order : IsPartialOrder H.order) (pt : Poin
         above = up.0;
         other = up.1;
         lowest = λ x cx ax other. ⊎_elim (λ t. t) (λ f.
-            let no = any_below_none (λ x. is_class_above F H a x && not (le b x)) N x (negated _ p.1) (ordered.upper a x ax) in
+            let no = any_below_none (λ x. is_class_above F H a x && not (le b x)) N x (not-true _ p.1) (ordered.upper a x ax) in
             absurd (false≢true (sym no ∙ and_from (is_class_above F H a x) (not (le b x))
             (and_from (is_above H.order a x) (class x) (above_from a x ax other) cx) (ap not f)))) (cases_Bool (le b x));
       }

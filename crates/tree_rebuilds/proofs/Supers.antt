@@ -2,7 +2,7 @@
 use Rattle.std.proofs.Common.{◌≡◌, ◌≢◌, ◌↔◌, ℕ, suc, ◌+◌, ◌&&◌, Bool, true, false, List, [], ◌∷◌, ◌++◌, Option, Some, None, Contains, refl, sym, ap, ◌∙◌, subst, arith, inl, inr, ⊎_elim}
 use Rattle.std.specs.Prelude.{◌⊎◌, not, length, map, option_and_then}
 use Rattle.std.specs.Option.{option_map, option_map_or, option_to_list}
-use Rattle.std.proofs.lemmas.Bool.{false≢true, and_from, and_parts, cases_Bool}
+use Rattle.std.proofs.lemmas.Bool.{false≢true, and_from, and_parts, cases_Bool, not-true}
 use Rattle.kaba_base.specs.declared.ClassId.{ClassId}
 use Rattle.kaba_order.specs.Orders.{IsPartialOrder, is_le, is_live}
 use Rattle.java_tree.specs.Syntax.{DeclTree}
@@ -75,14 +75,10 @@ module _ (P Q : Plain) (F : Facts) (H : Hierarchy) (V : Plain) (resolves : Resol
       let w = map_from (type_id F H) (nodes_that H.order p) z.0 z.1 in
       inr (w.0, f w.0 (among_from F H order pt none p w.0 w.1), ap (λ z. z.0) (sym z.2) ∙ ap (λ y. (id_meant types y).0) (sym w.2) ∙ meant w.0)
 
-  negated : (b : Bool) → not b ≡ true → b ≡ false
-  negated true h = absurd (false≢true h)
-  negated false h = refl
-
   face_cover : (n m : ℕ) → (is_cover H.order n m && not (class m)) ≡ true → Names le class n m
   face_cover n m h =
       let p = and_parts (is_cover H.order n m) (not (class m)) h in
-      implements (negated (class m) p.1) (cover_from F H order pt none n m p.0)
+      implements (not-true (class m) p.1) (cover_from F H order pt none n m p.0)
 
   -- what stands above an interface is one
   above_interface : (n m : ℕ) → class n ≡ false → le n m ≡ true → class m ≡ false

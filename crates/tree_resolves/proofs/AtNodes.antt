@@ -2,7 +2,7 @@
 use Rattle.std.proofs.Common.{◌≡◌, ℕ, ◌+◌, ◌<◌, ◌&&◌, ◌||◌, Bool, true, false, List, [], ◌∷◌, Option, Some, None, Contains, refl, sym, ap, ◌∙◌, subst, arith, inl, inr, ⊎_elim}
 use Rattle.std.specs.Prelude.{◌⊎◌, nat_lt, not, map, slice_get, length, option_and_then}
 use Rattle.std.specs.Option.{option_map_or}
-use Rattle.std.proofs.lemmas.Bool.{false≢true, and_from, and_parts, eq-eqb, lt-ltb}
+use Rattle.std.proofs.lemmas.Bool.{false≢true, and_from, and_parts, eq-eqb, lt-ltb, not-true}
 use Rattle.std.proofs.lemmas.List.Elements.{Contains-append_cases}
 use Rattle.java_tree.specs.declared.Modifier.{Modifier}
 use Rattle.java_tree.specs.Syntax.{HeadTree, MemberTree, FieldTree, MethodTree, Statements}
@@ -74,10 +74,6 @@ headed_parts true false false e h = (refl, refl)
 headed_parts true false true e h = absurd (false≢true h)
 headed_parts true true bodied e h = absurd (false≢true h)
 headed_parts false made bodied e h = absurd (false≢true e)
-
-not_of : (b : Bool) → not b ≡ true → b ≡ false
-not_of false h = refl
-not_of true h = absurd (false≢true h)
 
 pub declaration_kind : (k : ColKind) → is_declaration k ≡ true → k ≡ kind.Dcl
 declaration_kind kind.Dcl h = refl
@@ -159,7 +155,7 @@ module _ (P Q : Plain) (F : Facts) (pt : PointsTo) (H : Hierarchy) (G : Given P 
   two_heads n c d h k lt a b e =
       let same = one_slot P Q F pt H G n a.slot b.slot k.name (subst (Offers n a.slot) e a.offers) b.offers in
       let slot : is_slot (column_slot F c) b.slot ≡ true = ap (λ o. is_slot o b.slot) (a.of_slot ∙ ap Some same) ∙ eq-eqb b.slot b.slot refl in
-      false≢true (sym (not_of _ b.leading)
+      false≢true (sym (not-true _ b.leading)
       ∙ any_below_has (λ e. is_declaration (column_kind F e) && (is_slot (column_slot F e) b.slot && stands_at H n e)) d c lt
       (and_from (is_declaration (column_kind F c)) (is_slot (column_slot F c) b.slot && stands_at H n c) (ap is_declaration a.kind)
       (and_from (is_slot (column_slot F c) b.slot) (stands_at H n c) slot a.at)))
@@ -389,7 +385,7 @@ module _ (P Q : Plain) (F : Facts) (pt : PointsTo) (H : Hierarchy) (G : Given P 
   column_filler n c s x y live class (inr a) b e =
       let w = and_parts (is_made_at F H n) (offers_slot F H n s && not (offers_body F H n s)) b.filled in
       let v = and_parts (offers_slot F H n s) (not (offers_body F H n s)) w.1 in
-      own_filler n c s b.head b.body x live (not_of _ v.1) b.offers a (subst (λ z. SameMember x z) (sym b.is) e)
+      own_filler n c s b.head b.body x live (not-true _ v.1) b.offers a (subst (λ z. SameMember x z) (sym b.is) e)
 
   pub class_once : (n : ℕ) → is_live H.order n ≡ true → is_class_node F H n ≡ true
       → Once SameMember (class_members P (R P Q F H) F H (items P Q F H) n)

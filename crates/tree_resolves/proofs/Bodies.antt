@@ -2,8 +2,8 @@
 use Rattle.std.proofs.Common.{◌≡◌, ℕ, ◌&&◌, ◌==◌, Bool, true, false, List, [], ◌∷◌, ◌++◌, Option, Some, None, refl, sym, ap, ◌∙◌, subst}
 use Rattle.std.specs.Prelude.{not, slice_get}
 use Rattle.std.specs.Option.{option_map_or, is_none}
-use Rattle.std.proofs.lemmas.Bool.{false≢true, and_parts, eqb-true}
-use Rattle.java_tree.specs.Syntax.{Expression, NameRef, FieldOf, ThisRef, Expressions, Statement, LocalOf, BlockOf, Statements, and_then, Else, OptionalStatement, absent, present, NullLit, no_statements}
+use Rattle.std.proofs.lemmas.Bool.{false≢true, and_parts, eqb-true, not-true}
+use Rattle.java_tree.specs.Syntax.{Expression, NameRef, FieldOf, ThisRef, Expressions, LocalOf, BlockOf, Statements, OptionalStatement, absent, present, NullLit, no_statements}
 use Rattle.java_tree.specs.Syntax as tree
 use Rattle.java_core.specs.Programs.{Plain, PlainField, PlainLocal, PlainMethod}
 use Rattle.java_core.specs.Trees.{Ex, Exs, Target, St, Sts, Arms, no_st, st_then, arm}
@@ -32,12 +32,8 @@ module _ (P : Plain) (R : Renaming) (H : Hierarchy) (m : ℕ) (k : PlainMethod) 
   simple_parts scope owner x h =
       let a = and_parts k.is_static ((k.owner == owner) && not (is_in_scope k scope x)) h in
       let b = and_parts (k.owner == owner) (not (is_in_scope k scope x)) a.1 in
-      (a.0, eqb-true k.owner owner b.0, not_true (is_in_scope k scope x) b.1)
+      (a.0, eqb-true k.owner owner b.0, not-true (is_in_scope k scope x) b.1)
     where
-      not_true : (b : Bool) → not b ≡ true → b ≡ false
-      not_true true e = absurd (false≢true e)
-      not_true false e = refl
-
   module _ {formed scope : List ℕ} {names : List (List ℕ)} (s : IsScope k formed scope names) where
     holder_name : (c : ℕ) (h : HasHolder P k O here c) → is_class_name O here.owner names (NameRef (class_name P c) nowhere) ≡ true
     holder_name c h =

@@ -3,7 +3,7 @@ use Rattle.std.proofs.Common.{◌≡◌, ◌≢◌, ℕ, zero, suc, ◌<◌, ◌
 use Rattle.std.specs.Prelude.{◌⊎◌, not, map, slice_get, codes, length}
 use Rattle.std.specs.Option.{option_map, option_map_or, option_to_list, option_and_then}
 use Rattle.std.specs.List.{range_with_len}
-use Rattle.std.proofs.lemmas.Bool.{false≢true, and_parts, cases_Bool, cases_order}
+use Rattle.std.proofs.lemmas.Bool.{false≢true, and_parts, cases_Bool, cases_order, not-true}
 use Rattle.std.proofs.lemmas.Option.{same_Some}
 use Rattle.std.proofs.lemmas.List.Elements.{Contains-append_cases}
 use Rattle.kaba_base.specs.declared.ClassId.{ClassId}
@@ -126,10 +126,6 @@ module _ (P Q : Plain) (F : Facts) (pt : PointsTo) (H : Hierarchy) (G : Given P 
           { node = m; is = same_Some _ i q; above = z.above; other = z.other; kind = z.class }
   parent_is false n i k e = absurd (cc e)
 
-  no_true : (b : Bool) → not b ≡ true → b ≡ false
-  no_true true h = absurd (false≢true h)
-  no_true false h = refl
-
   interface_above : (n m : ℕ) → class n ≡ false → is_le H.order n m ≡ true → class m ≡ false
   interface_above n m k h = ⊎_elim (λ c. absurd (false≢true (sym k ∙ class_down F H G.hierarchy.sized.order n m h c))) (λ f. f) (cases_Bool (class m))
 
@@ -139,7 +135,7 @@ module _ (P Q : Plain) (F : Facts) (pt : PointsTo) (H : Hierarchy) (G : Given P 
       let z = map_from (type_id F H) (nodes_that H.order test) i c in
       let p = and_parts (is_cover H.order n z.0) (not (class z.0)) (among_from F H G.hierarchy.sized.order pt G.unbroken test z.0 z.1) in
       let u = cover_from F H G.hierarchy.sized.order pt G.unbroken n z.0 p.0 in
-      record { node = z.0; is = z.2; above = u.above; other = u.other; kind = no_true (class z.0) p.1 }
+      record { node = z.0; is = z.2; above = u.above; other = u.other; kind = not-true (class z.0) p.1 }
   faces_is false n i k c =
       let test : ℕ → Bool = λ a. is_cover H.order n a in
       let z = map_from (type_id F H) (nodes_that H.order test) i c in
