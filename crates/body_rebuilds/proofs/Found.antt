@@ -1,6 +1,6 @@
 -- What the names of a body find: rows, holders and static members.
-use Rattle.std.proofs.Common.{◌≡◌, ℕ, zero, suc, List, [], ◌∷◌, ◌++◌, Option, Some, None, length, refl, sym, ap, ◌∙◌, subst}
-use Rattle.std.specs.Prelude.{◌&&◌, not, eqb, Bool, true, false, nat_lt, slice_get, Contains, option_and_then}
+use Rattle.std.proofs.Common.{◌≡◌, ℕ, List, [], ◌∷◌, ◌++◌, Option, Some, None, length, refl, sym, ap, ◌∙◌, subst}
+use Rattle.std.specs.Prelude.{◌&&◌, not, eqb, Bool, true, false, nat_lt, slice_get, Contains}
 use Rattle.std.specs.Option.{option_map, option_map_or}
 use Rattle.std.specs.List.{list_any}
 use Rattle.std.specs.Str.{bytes_eq}
@@ -14,10 +14,11 @@ use Rattle.java_tree.specs.Syntax.{Expression, NullLit, NameRef, Expressions}
 use Rattle.java_core.specs.declared.TyBase.TheVariants.{Class}
 use Rattle.java_core.specs.Trees.{at_place, Ex, Exs, static_field, static_call}
 use Rattle.java_core.specs.Programs.{Plain, PlainClass, PlainField, PlainMethod, PlainLocal}
-use Rattle.java_core.specs.Classes.{own_field_of, is_field_of, field_of, nearest, first_or, parent_of}
+use Rattle.java_core.specs.Classes.{own_field_of, is_field_of, field_of, nearest}
 use Rattle.java_core.specs.Types.{types_of}
 use Rattle.java_core.specs.Formed.{IsFormed, IsStaticField, IsStaticMethod, variables_of}
 use Rattle.java_core.proofs.Positions.{position-passes}
+use Rattle.java_core.proofs.Subclasses.{nearest-here}
 use Rattle.kaba_order.specs.Orders.{is_live}
 use Rattle.hier_model.specs.Hierarchies.{Hierarchy, place_of_row}
 use Rattle.flow_rules.specs.declared.items.ObjectType.{ObjectType}
@@ -48,10 +49,6 @@ use Rattle.body_rebuilds.specs.Known.{KnowsNames}
 use Rattle.body_rebuilds.proofs.Scopes.{Scoped}
 use Rattle.body_rebuilds.proofs.Inverse.{no_variable, at_static, at_class_field, at_own_call, at_class_call}
 
-first_nearest : (P : Plain) (f : ℕ → Option ℕ) (n c d : ℕ) → f c ≡ Some d → nearest P f n c ≡ Some d
-first_nearest P f zero c d e = e
-first_nearest P f (suc n) c d e = ap (λ z. first_or z (option_and_then (λ p. nearest P f n p.0) (parent_of P c))) e
-
 none_any : (p : ℕ → Bool) (xs : List ℕ) → ((i : ℕ) → p i ≡ false) → list_any p xs ≡ false
 none_any p [] h = refl
 none_any p (x ∷ xs) h = or_from (p x) (list_any p xs) (h x) (none_any p xs h)
@@ -59,7 +56,7 @@ none_any p (x ∷ xs) h = or_from (p x) (list_any p xs) (h x) (none_any p xs h)
 -- the nearest field of a class is its own, where it has one
 pub own_nearest : (O : Plain) (c f : ℕ) (x : List ℕ) → own_field_of O c x ≡ Some f → field_of O c x ≡ Some f
 unfolding field_of
-own_nearest O c f x e = first_nearest O (λ k. own_field_of O k x) (length O.classes) c f e
+own_nearest O c f x e = nearest-here O (λ k. own_field_of O k x) (length O.classes) c f e
 
 -- a name that no field has is found in no class
 no_field_of : (O : Plain) (c : ℕ) (x : List ℕ) → ((f : ℕ) (k : PlainField) → slice_get O.fields f ≡ Some k → k.name ≡ x → ⊥) → field_of O c x ≡ None

@@ -8,9 +8,9 @@ use Rattle.std.proofs.lemmas.Bool.{false≢true, or_parts}
 use Rattle.std.proofs.lemmas.Option.{same_Some}
 use Rattle.std.proofs.lemmas.List.Folds.{list_any-append}
 use Rattle.std.proofs.lemmas.Slice.Eq.{bytes_eq-Decides}
+use Rattle.flow_rules.proofs.Listed.{at_left}
 use Rattle.java_core.specs.Programs.{PlainLocal, PlainMethod}
 use Rattle.java_core.specs.Formed.{variables_of, numbers_below}
-use Rattle.run_cover.proofs.HasRows.{get_left}
 use Rattle.name_rules.specs.declared.parts.Bound.{Bound}
 use Rattle.name_rules.specs.Meanings.{local_of, in_scope, is_bound, bound_names}
 use Rattle.name_rules.specs.Resolves.{bound, params_from}
@@ -151,12 +151,12 @@ pub scoped_params : (k : PlainMethod) (ps : List PlainLocal) → map (λ v. v.na
 scoped_params k ps same once = record {
   found = λ i c.
       let v = get_there k.params i (below_of (length k.params) i c) in
-      ap (λ z. local_of (option_map_or (λ (v : PlainLocal). v.name) z []) (params_from 0 ps)) (get_left k.params k.locals i v.0 v.1)
+      ap (λ z. local_of (option_map_or (λ (v : PlainLocal). v.name) z []) (params_from 0 ps)) (at_left k.params k.locals i v.0 v.1)
       ∙ ap (λ z. local_of v.0.name z) (params_named 0 ps ∙ ap (named 0) same)
       ∙ name_found 0 (map (λ v. v.name) k.params) i v.0.name once (get_name k.params i v.0 v.1)
       ∙ ap Some (let z : 0 + i ≡ i = omega arith in z);
   absent = λ x e.
       ap (local_of x) (params_named 0 ps ∙ ap (named 0) same ∙ sym (params_named 0 k.params))
       ∙ name_absent (is_named k x) 0 k.params x (λ j v ej. ap (is_named k x) (let z : 0 + j ≡ j = omega arith in z)
-      ∙ ap (λ z. option_map_or (λ (v : PlainLocal). bytes_eq v.name x) z false) (get_left k.params k.locals j v ej)) e;
+      ∙ ap (λ z. option_map_or (λ (v : PlainLocal). bytes_eq v.name x) z false) (at_left k.params k.locals j v ej)) e;
 }

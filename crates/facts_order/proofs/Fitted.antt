@@ -1,7 +1,6 @@
 -- What typing gives of each part of a body: what is put somewhere has a type at or below that of the place.
 use Rattle.std.proofs.Common.{◌≡◌, ℕ, zero, suc, ◌+◌, List, [], ◌∷◌, ◌++◌, Option, Some, None, length, refl, sym, ap, ◌∙◌, subst, arith}
 use Rattle.std.specs.Prelude.{◌<◌, nat_lt, Bool, true, false, Contains, slice_get, option_and_then}
-use Rattle.std.specs.Option.{option_map}
 use Rattle.std.proofs.lemmas.Option.{same_Some}
 use Rattle.std.proofs.lemmas.List.{length-map}
 use Rattle.std.proofs.lemmas.List.Elements.{Contains-append_left, Contains-append_right}
@@ -14,6 +13,8 @@ use Rattle.java_core.specs.Types.{Static, a_value, or_nothing, Env, env_of, type
 use Rattle.java_core.specs.Typing.{IsTyped, Typed, t_this, t_field, t_local, t_static_field, t_index, t_call, t_static_call, t_super_call, t_cast, t_instance_of, t_binary, TypedArgs, t_ex_then, t_to_field, t_to_element, TypedSt, t_declare_as, t_assign, t_return}
 use Rattle.java_core.specs.Formed.{IsFormed, IsOwnField, FormedSt, f_assign, f_to_own, FormedEx, f_own_field, f_create, f_create_array, f_cast, f_instance_of}
 use Rattle.java_meaning.specs.Watched.{bare, bare_all, bare_target}
+use Rattle.java_meaning.proofs.Moves.{then_some}
+use Rattle.java_meaning.proofs.Calls.{mapped_some}
 use Rattle.fact_model.specs.declared.facts.Facts.{Facts}
 use Rattle.flow_rules.specs.declared.items.ObjectType.{ObjectType}
 use Rattle.flow_rules.specs.declared.items.Operand.{Operand}
@@ -39,14 +40,6 @@ use Rattle.facts_order.proofs.Above.{field_above, object_field_above, call_above
 use Rattle.facts_order.proofs.Fits.{known_type, known_cast, IsUnder, ArePaired, class_dim, fits_in_under, takes_paired, related_paired, cast_paired}
 use Rattle.facts_order.proofs.Classed.{static_as, as_object, many_dims}
 use Rattle.facts_order.proofs.Sound.{is_apart, variable_apart, item_type, IsSound, sound, test_sound}
-
-and_some : {A B : Type 0} (f : A → Option B) (o : Option A) (b : B) → option_and_then f o ≡ Some b → (a : A) × (o ≡ Some a) × (f a ≡ Some b)
-and_some f None b e = absurd (cc)
-and_some f (Some a) b e = (a, refl, e)
-
-map_of : {A B : Type 0} (f : A → B) (o : Option A) (b : B) → option_map f o ≡ Some b → (a : A) × (o ≡ Some a) × (f a ≡ b)
-map_of f None b e = absurd (cc)
-map_of f (Some a) b e = (a, refl, same_Some _ _ e)
 
 module _ (P Q : Plain) (placed : IsPlaced P Q) (formed : IsFormed P) (typed : IsTyped P) (F : Facts) (facts : IsFactsOf P Q F) (m : ℕ)
     (k : PlainMethod) (stands : slice_get Q.methods m ≡ Some k) where
@@ -162,7 +155,7 @@ module _ (P Q : Plain) (placed : IsPlaced P Q) (formed : IsFormed P) (typed : Is
       → AreValues (operands_of P type m k (label_all n es)) (is_variable_of d)
   method_values n u es d s e t w i a h =
       let z = args_values n u es s.params t w i a h in
-      let x = map_of (λ (k : PlainMethod). record { params = types_of k.params; result = k.result }) (slice_get P.methods d) s e in
+      let x = mapped_some (λ (k : PlainMethod). record { params = types_of k.params; result = k.result }) (slice_get P.methods d) s e in
       let y = placed.placed_method d x.0 x.1 in
       let v = placed.methods d y.0 y.1 in
       let same : s.params ≡ types_of y.0.params = sym (ap (λ z. z.params) x.2) ∙ ap (λ z. types_of z.params) (same_Some _ _ (sym x.1 ∙ v.stands)) ∙ v.params in
@@ -181,7 +174,7 @@ module _ (P Q : Plain) (placed : IsPlaced P Q) (formed : IsFormed P) (typed : Is
   slot_values n e x l es s j c t w h i a d =
       let found : option_and_then (λ c. slot_of P c x) (class_of (static P g (bare e))) ≡ Some j = ap (option_and_then (λ c. slot_of P c x))
       (sym (class_is (static P g (bare e)))) ∙ ap (λ t. call_slot P t x) (as_type n e) ∙ h in
-      let y = and_some (λ c. slot_of P c x) (class_of (static P g (bare e))) j found in
+      let y = then_some (λ c. slot_of P c x) (class_of (static P g (bare e))) j found in
       let z = slot_called P (static P g (bare e)) x s c (class_apart (static P g (bare e)) y.0 y.1).1 in
       let same : z.number ≡ j = same_Some _ _ (sym z.found ∙ found) in
       let v = args_values l true es s.params t w i a d in
@@ -190,7 +183,7 @@ module _ (P Q : Plain) (placed : IsPlaced P Q) (formed : IsFormed P) (typed : Is
 
   object_called : (n : ℕ) (e : Ex) (x : List ℕ) (j : ℕ) → call_slot P (type (label n e)) x ≡ Some j → (t : ObjectType) → type (label n e) ≡ Some t → t.dim ≡ 0
   object_called n e x j h t d =
-      let y = and_some (λ c. slot_of P c x) (class_at t) j (sym (ap (λ t. call_slot P t x) d) ∙ h) in (class_dim t y.0 y.1).1
+      let y = then_some (λ c. slot_of P c x) (class_at t) j (sym (ap (λ t. call_slot P t x) d) ∙ h) in (class_dim t y.0 y.1).1
 
   apart_as : (o : Operand) (i : RowItem) → o.row ≡ Some i → is_apart i ≡ true → IsApart o
   apart_as o i e h j d = ap is_apart (same_Some j i (sym d ∙ e)) ∙ h

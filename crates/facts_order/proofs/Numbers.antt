@@ -16,7 +16,7 @@ use Rattle.flow_rules.specs.declared.items.RowItem.TheVariants as row
 use Rattle.flow_rules.specs.Labels.{size, label, label_all, size_if, label_if, size_target, label_target, size_st, size_sts, label_st, label_sts, label_arms}
 use Rattle.flow_rules.specs.Parts.{Part, a_load, an_element, a_creation, a_call, a_static_call, a_super_call, a_test, is_accessed, parts, parts_all, parts_if, parts_set, parts_return, parts_assign, parts_st, parts_sts, parts_arms, parts_body, parts_of}
 use Rattle.flow_rules.specs.Operands.{type_in}
-use Rattle.flow_rules.proofs.Listed.{at_contains, at_below, flat_has}
+use Rattle.flow_rules.proofs.Listed.{at_contains, at_below, flat_has, at_left}
 use Rattle.facts_order.proofs.Pairs.{IsPlaced}
 
 -- the number of what has a row of its own
@@ -180,18 +180,13 @@ method_numbers P m k = body_numbers P (type_in P m k) m k k.body
 
 -- where no two places of a joined list hold the same
 module _ {A : Type 0} where
-  pub front : (xs ys : List A) (i : ℕ) (x : A) → slice_get xs i ≡ Some x → slice_get (xs ++ ys) i ≡ Some x
-  front [] ys i x e = absurd (cc)
-  front (z ∷ zs) ys zero x e = e
-  front (z ∷ zs) ys (suc i) x e = front zs ys i x e
-
   pub back : (xs ys : List A) (i : ℕ) (x : A) → slice_get ys i ≡ Some x → slice_get (xs ++ ys) (length xs + i) ≡ Some x
   back [] ys i x e = subst (λ z. slice_get ys z ≡ Some x) {x = i} (omega arith) e
   back (z ∷ zs) ys i x e = subst (λ w. slice_get (z ∷ (zs ++ ys)) w ≡ Some x) {x = suc (length zs + i)} (omega arith) (back zs ys i x e)
 
   pub twice_front : (xs ys : List A) → HasNoTwice (xs ++ ys) → HasNoTwice xs
   unfolding HasNoTwice
-  twice_front xs ys h i j x e d = h i j x (front xs ys i x e) (front xs ys j x d)
+  twice_front xs ys h i j x e d = h i j x (at_left xs ys i x e) (at_left xs ys j x d)
 
   pub twice_back : (xs ys : List A) → HasNoTwice (xs ++ ys) → HasNoTwice ys
   unfolding HasNoTwice
@@ -202,7 +197,7 @@ module _ {A : Type 0} where
   twice_apart xs ys x h c d =
       let a = at_contains xs x c in
       let b = at_contains ys x d in
-      absurd (omega (arith, at_below xs a.0 x a.1, h a.0 (length xs + b.0) x (front xs ys a.0 x a.1) (back xs ys b.0 x b.1)))
+      absurd (omega (arith, at_below xs a.0 x a.1, h a.0 (length xs + b.0) x (at_left xs ys a.0 x a.1) (back xs ys b.0 x b.1)))
 
 -- two parts of a list with one number are one
 one_part : (ps : List Part) (p q : Part) (n : ℕ) → HasNoTwice (numbers_in ps) → Contains ps p → Contains ps q → Contains (part_number p) n

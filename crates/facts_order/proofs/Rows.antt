@@ -24,10 +24,10 @@ use Rattle.flow_rules.specs.Operands.{object_of, object_if, class_object, variab
 use Rattle.flow_rules.specs.Parts.{Part, a_creation, a_test, parts_body, parts_of}
 use Rattle.flow_rules.specs.Numbered.{row_if, own_row, form_rows, field_rows, this_rows, result_rows, variable_rows, method_rows, is_first, rows_of, row_number}
 use Rattle.flow_rules.specs.Facts.{row_info, numbers, IsFactsOf}
-use Rattle.flow_rules.proofs.Listed.{first, at_below, below_at, at_map, map_at, index_at, index_past, each_has, each_from, each_from_zero, flat_from, when_has, when_from, one_from}
+use Rattle.flow_rules.proofs.Listed.{first, at_below, below_at, at_map, map_at, index_at, index_past, each_has, each_from, each_from_zero, flat_from, when_has, when_from, one_from, at_left}
 use Rattle.facts_order.proofs.Items.{row_at, row_raw, row_there}
 use Rattle.facts_order.proofs.Pairs.{IsPlaced}
-use Rattle.facts_order.proofs.Numbers.{front, back}
+use Rattle.facts_order.proofs.Numbers.{back}
 use Rattle.facts_order.proofs.Forms.{From, sts_from}
 
 and_left : (a b : Bool) → (a && b) ≡ true → a ≡ true
@@ -99,7 +99,7 @@ module _ (P Q : Plain) where
         for_variable m k i v e d z.0 z.1
 
     param_types : Contains (each (variable_rows P Q m k) 0 k.params) x → Types x
-    param_types c = let z = each_from_zero (variable_rows P Q m k) k.params x c in variable_types z.0 z.1 (front k.params k.locals z.0 z.1 z.2) z.3
+    param_types c = let z = each_from_zero (variable_rows P Q m k) k.params x c in variable_types z.0 z.1 (at_left k.params k.locals z.0 z.1 z.2) z.3
 
     local_types : Contains (each (variable_rows P Q m k) (length k.params) k.locals) x → Types x
     local_types c =

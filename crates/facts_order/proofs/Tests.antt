@@ -5,6 +5,7 @@ use Rattle.std.specs.Option.{is_some}
 use Rattle.std.specs.List.{flat_map}
 use Rattle.std.proofs.lemmas.Option.{same_Some}
 use Rattle.std.proofs.lemmas.Bool.{ne_eqb}
+use Rattle.run_cover.proofs.Flows.{these_has}
 use Rattle.kaba_base.specs.declared.Place.{Place}
 use Rattle.kaba_base.specs.declared.ClassId.{ClassId}
 use Rattle.java_core.specs.Trees.{Sts, Ex}
@@ -109,10 +110,6 @@ these_from (Some a) (Some b) (Some c) f x d = (a, b, c, refl, refl, refl, one_fr
 these_from (Some a) (Some b) None f x d = absurd (omega (arith, d.1))
 these_from (Some a) None c f x d = absurd (omega (arith, d.1))
 these_from None b c f x d = absurd (omega (arith, d.1))
-
-these_has : {A B C D : Type 0} (a : Option A) (b : Option B) (c : Option C) (f : A → B → C → D) (y : A) (z : B) (w : C) → a ≡ Some y → b ≡ Some z
-    → c ≡ Some w → Contains (these a b c f) (f y z w)
-these_has a b c f y z w d e g = rw (d, e, g) (first (f y z w) [])
 
 own_point_has : (w : Place) (i : Option PointItem) (r : Option RowItem) (t : Option ObjectType) (j : PointItem) (s : RowItem) (u : ObjectType)
     → i ≡ Some j → r ≡ Some s → t ≡ Some u → Contains (own_point w i r t) (record { item = j; place = w; row = s })

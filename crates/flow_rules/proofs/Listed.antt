@@ -49,6 +49,11 @@ map_at f [] i y e = absurd (cc)
 map_at f (x ∷ xs) zero y e = (x, refl, same_Some (f x) y e)
 map_at f (x ∷ xs) (suc i) y e = map_at f xs i y e
 
+pub at_left : {A : Type 0} (xs ys : List A) (i : ℕ) (x : A) → slice_get xs i ≡ Some x → slice_get (xs ++ ys) i ≡ Some x
+at_left [] ys i x e = absurd (cc)
+at_left (y ∷ xs) ys zero x e = e
+at_left (y ∷ xs) ys (suc i) x e = at_left xs ys i x e
+
 pub index_at : {A : Type 0} (xs : List A) (i : ℕ) (d x : A) → slice_get xs i ≡ Some x → slice_index_or xs i d ≡ x
 index_at [] i d x e = absurd (cc)
 index_at (y ∷ ys) zero d x e = same_Some y x e

@@ -11,16 +11,12 @@ use Rattle.java_core.specs.Programs.{Plain, PlainClass, PlainField, PlainMethod}
 use Rattle.java_core.specs.Classes.{parent_of, supers_of, IsSubclass, IsProperSubclass, reaches, below, first_or, nearest, nearest_of, is_field_of, own_field_of, field_of, is_static_field, when_instance, if_instance, member_field, is_method_of, own_method, chain, search_order, first_found, declaration_of, slot_of_method, has_slot, own_declaration, nearest_declaration, super_method, has_body, is_interface}
 use Rattle.java_core.specs.Types.{a_value, class_type, types_of, Signature, signature_of_slot, signature_of_method, call_signature, super_signature, field_type, field_in, value_type, access_type}
 use Rattle.java_core.proofs.Positions.{position-passes, passes-position}
-use Rattle.java_core.proofs.Subclasses.{subclass_cases, below-subclass}
+use Rattle.java_core.proofs.Subclasses.{subclass_cases, below-subclass, nearest-here}
 use Rattle.name_rules.specs.Outline.{class_id}
 use Rattle.kaba_work.specs.Sample.{field_name, extra_name, method_name}
 use Rattle.kaba_work.specs.Program.{int, class_made, main_class_made, field_made, method_made, main_made, sample_program}
 use Rattle.kaba_work.proofs.Places.{at_contains, StandsAt, is_row, is_last, stands, row_at, last_at, PairAt, is_first, is_second, pair_stands, first_at, second_at}
 use Rattle.kaba_work.proofs.Apart.{of_same}
-
-first_nearest : (P : Plain) (f : ℕ → Option ℕ) (k c d : ℕ) → f c ≡ Some d → nearest P f k c ≡ Some d
-first_nearest P f zero c d e = e
-first_nearest P f (suc k) c d e = ap (λ z. first_or z (option_and_then (λ p. nearest P f k p.0) (parent_of P c))) e
 
 first_of_chain : (P : Plain) (f : ℕ → Option ℕ) (k c d : ℕ) (more : List ℕ) → f c ≡ Some d → first_found f (chain P k c ++ more) ≡ Some d
 first_of_chain P f zero c d more e = ap (λ z. first_or z (first_found f more)) e
@@ -101,7 +97,7 @@ module _ (n : ℕ) where
       let static : is_static_field P z.0 ≡ false = ap (λ o. option_map_or (λ (f : PlainField). f.is_static) o false) k.1 ∙ m.0 in
       record {
         number = z.0;
-        found = ap (when_instance P) (first_nearest P own (length P.classes) (suc i) z.0 z.1) ∙ ap (if_instance z.0) static;
+        found = ap (when_instance P) (nearest-here P own (length P.classes) (suc i) z.0 z.1) ∙ ap (if_instance z.0) static;
         type = ap (option_map (λ (f : PlainField). f.ty)) k.1 ∙ ap Some m.1;
       }
 
@@ -207,7 +203,7 @@ module _ (n : ℕ) where
       let parent : parent_of P (suc (suc i)) ≡ Some (class_id (suc i)) = ap (option_and_then (λ (k : PlainClass). k.parent)) (class_stands (suc i) h) in
       let own = λ (k : ℕ). own_method P k method_name in
       let found : super_method P (suc (suc i)) method_name ≡ Some f.number =
-      ap (option_and_then (λ (p : ClassId). nearest_of P own p.0)) parent ∙ first_nearest P own (length P.classes) (suc i) f.number f.own in
+      ap (option_and_then (λ (p : ClassId). nearest_of P own p.0)) parent ∙ nearest-here P own (length P.classes) (suc i) f.number f.own in
       record {
         number = f.number;
         found = found;
@@ -225,7 +221,7 @@ module _ (n : ℕ) where
       let z = passes-position test P.methods i (method_made i) (method_row i h) (and_from (suc i == suc i) true (eq-eqb (suc i) (suc i) refl) refl) in
       let k = position-passes test P.methods z.0 z.1 in (
         z.0,
-        first_nearest P (λ c. own_declaration P c 0) (length P.classes) (suc i) z.0 z.1,
+        nearest-here P (λ c. own_declaration P c 0) (length P.classes) (suc i) z.0 z.1,
         made_body z.0
             (chosen test z.0 k.0 (none (suc n == suc i)) k.1 k.2),
       )

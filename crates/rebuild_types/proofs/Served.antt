@@ -6,6 +6,7 @@ use Rattle.std.proofs.lemmas.Bool.{false≢true, and_from, eq-eqb}
 use Rattle.std.proofs.lemmas.Option.{same_Some}
 use Rattle.std.proofs.lemmas.List.{length-map}
 use Rattle.std.proofs.lemmas.List.Folds.{list_any-from_Any}
+use Rattle.java_meaning.proofs.Calls.{mapped_some}
 use Rattle.kaba_base.specs.declared.Place.{Place}
 use Rattle.kaba_base.specs.declared.SiteId.{SiteId}
 use Rattle.java_core.specs.declared.Ty.{Ty}
@@ -43,7 +44,6 @@ use Rattle.flow_rules.specs.Numbered.{row_number}
 use Rattle.flow_rules.specs.Lists.{both, row_at, row_in, tied, accessed, is_comparison, is_left_lower, param_row, pair_ties, test_ties, slot_ties, method_ties, ties_of, accesses_of, supers_of}
 use Rattle.flow_rules.specs.Facts.{numbers, IsFactsOf}
 use Rattle.run_cover.specs.Untagged.{untag_local, untag_body, untag_method, untagged}
-use Rattle.run_cover.proofs.Included.{map_some}
 use Rattle.run_cover.proofs.Untagging.{untyped_params}
 use Rattle.run_cover.proofs.HasRows.{method_of, of_field}
 use Rattle.flow_rules.proofs.Listed.{first, each_has, when_has}
@@ -128,7 +128,7 @@ module _ (Q : Plain) (F : Facts) (H : Hierarchy) (W : Plain) (K : Known (untagge
   pub row_of_class : (i : Option RowItem) (c : ℕ) → C i ≡ Some c → IsRowOf i c
   unfolding renaming_of numbers
   row_of_class None c e = absurd (cc)
-  row_of_class (Some i) c e = let z = map_some (λ r. T.type_of (place_of_row H r))
+  row_of_class (Some i) c e = let z = mapped_some (λ r. T.type_of (place_of_row H r))
       (row_number P Q i) c e in record { item = i; is = refl; number = z.0; numbered = z.1; class = z.2 }
 
   pub row_in_is : (i : Option RowItem) (c : ℕ) (w : IsRowOf i c) → row_in (numbers P Q) i ≡ Some w.number

@@ -7,6 +7,7 @@ use Rattle.std.proofs.lemmas.Bool.{false≢true, eqb-true, eq-eqb, and_from}
 use Rattle.std.proofs.lemmas.Option.{same_Some, slice_get_within, get_or_from_slice_get, slice_get-get_or}
 use Rattle.std.proofs.lemmas.List.Elements.{Contains-append_right, Contains-append_left}
 use Rattle.std.proofs.lemmas.List.Quantifiers.{position-Some}
+use Rattle.java_meaning.proofs.Calls.{mapped_some}
 use Rattle.kaba_base.specs.declared.ClassId.{ClassId}
 use Rattle.kaba_bits.specs.Sets.{or_else}
 use Rattle.java_core.specs.Programs.{Plain, PlainMethod}
@@ -27,7 +28,7 @@ use Rattle.flow_rules.specs.Facts.{PlainBody, body_seen, body_if, column_body, p
 use Rattle.run_cover.specs.Untagged.{untag_body, untag_method, untagged}
 use Rattle.run_cover.proofs.Kinded.{FindsBody}
 use Rattle.flow_rules.proofs.Listed.{one, more, each_has, map_from, when_has, position_there}
-use Rattle.run_cover.proofs.Included.{get_map, map_some}
+use Rattle.run_cover.proofs.Included.{get_map}
 use Rattle.flow_rules.proofs.Keys.{column_exact, column_alike}
 use Rattle.run_cover.proofs.HasNumbers.{column_there}
 use Rattle.run_cover.proofs.HasRows.{method_of, of_method, in_slot, this_point_of}
@@ -243,7 +244,7 @@ module _ (Q : Plain) (F : Facts) (formed : IsFormed (untagged Q)) (facts : IsFac
       let f = finds_some (length P.classes) c j m e in
       let this = this_point_of Q formed m k ek b i.instance in
       let at = def_at m f.0 f.2 in
-      let col = map_some (λ (c : Column). c.item) (slice_get (columns_of P Q) f.0) (column.Def m)
+      let col = mapped_some (λ (c : Column). c.item) (slice_get (columns_of P Q) f.0) (column.Def m)
       (sym (get_map (λ (c : Column). c.item) (columns_of P Q) f.0) ∙ at.0) in
       let x : PlainBody = record { column = f.0; this = this.0; params = param_points (numbers P Q) Q m k; result = point_number P Q (point.Result m) } in
       let listed = each_has (λ c k. column_body (numbers P Q) Q c k.item) 0 (columns_of P Q) f.0 col.0 x col.1 f.0 (omega arith)

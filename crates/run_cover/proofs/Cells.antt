@@ -11,6 +11,7 @@ use Rattle.kaba_base.specs.declared.ClassId.{ClassId}
 use Rattle.java_core.specs.Programs.{Plain, PlainField}
 use Rattle.java_core.specs.Classes.{below, reaches, parent_of, faces_of, supers_of}
 use Rattle.java_meaning.specs.Languages.{own_fields_from, own_fields, layout_in, layout, index_of}
+use Rattle.java_meaning.proofs.Calls.{mapped_some}
 use Rattle.fact_model.specs.declared.facts.Facts.{Facts}
 use Rattle.fact_model.specs.declared.facts.SiteInfo.{SiteInfo}
 use Rattle.fact_model.specs.declared.facts.CellInfo.{CellInfo}
@@ -27,7 +28,7 @@ use Rattle.run_cover.specs.Untagged.{untagged}
 use Rattle.run_cover.specs.Covers.{is_cell, cell_number, field_cell, element_cell}
 use Rattle.run_cover.proofs.Kinded.{site_type}
 use Rattle.flow_rules.proofs.Listed.{one, flat_has, each_has, when_has, position_there}
-use Rattle.run_cover.proofs.Included.{get_map, map_some}
+use Rattle.run_cover.proofs.Included.{get_map}
 use Rattle.flow_rules.proofs.Keys.{column_exact}
 use Rattle.run_cover.proofs.HasNumbers.{field_column}
 use Rattle.run_cover.proofs.HasRows.{of_field, field_row_of}
@@ -121,7 +122,7 @@ module _ (Q : Plain) (F : Facts) (formed : IsFormed (untagged Q)) (facts : IsFac
   site_of n s e =
       let p = position-Some (nat_eq n) (map (λ (s : Site). s.number) (sites_of P Q)) s 0 e in
       let at = slice_get-get_or (map (λ (s : Site). s.number) (sites_of P Q)) s 0 p.0 in
-      let x = map_some (λ (s : Site). s.number) (slice_get (sites_of P Q) s) (get_or (map (λ (s : Site). s.number) (sites_of P Q)) s 0)
+      let x = mapped_some (λ (s : Site). s.number) (slice_get (sites_of P Q) s) (get_or (map (λ (s : Site). s.number) (sites_of P Q)) s 0)
       (sym (get_map (λ (s : Site). s.number) (sites_of P Q) s) ∙ at) in
       let listed : slice_get F.sites.items s ≡ Some (site_info x.0) = ap (λ z. slice_get z s) facts.sites ∙ get_map (site_info) (sites_of P Q) s
       ∙ ap (λ z. option_map (site_info) z) x.1 in
@@ -144,7 +145,7 @@ module _ (Q : Plain) (F : Facts) (formed : IsFormed (untagged Q)) (facts : IsFac
       let col = field_column P Q f k.0 k.1 (ap (λ z. z.is_static) k.2 ∙ l.instance) in
       let r = field_row_of Q formed f t ot in
       let at = position-Some (same_column (column.Fld f)) (map (λ (c : Column). c.item) (columns_of P Q)) col.0 (column.Fld f) col.1 in
-      let item = map_some (λ (c : Column). c.item) (slice_get (columns_of P Q) col.0) (column.Fld f)
+      let item = mapped_some (λ (c : Column). c.item) (slice_get (columns_of P Q) col.0) (column.Fld f)
       (sym (get_map (λ (c : Column). c.item) (columns_of P Q) col.0) ∙ slice_get-get_or (map (λ (c : Column). c.item) (columns_of P Q)) col.0
       (column.Fld f) at.0 ∙ ap (λ z. Some z) (sym (column_exact (column.Fld f) _ at.1))) in
       let ty : x.site.ty ≡ record { class = record { 0 = c }; dim = 0 } = sym x.type ∙ et in

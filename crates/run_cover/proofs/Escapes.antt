@@ -12,6 +12,8 @@ use Rattle.java_core.specs.Types.{field_type, types_of}
 use Rattle.java_meaning.specs.Moment.{Value, Number, Truth, CodeUnit, Nothing, Text, Object, Cell, Spot, held, bound, self_of, result_of, set_static, kept, put_in, touched, tested, ran, End, Escaped, Body}
 use Rattle.java_meaning.specs.Values.{default_of}
 use Rattle.java_meaning.specs.Languages.{layout, default_at, index_of, body_with}
+use Rattle.java_meaning.proofs.Moves.{then_some}
+use Rattle.java_meaning.proofs.Calls.{mapped_some}
 use Rattle.fact_model.specs.Flowing.{Fact, Inclusion}
 use Rattle.fact_model.specs.declared.facts.Facts.{Facts}
 use Rattle.flow_rules.specs.declared.items.Operand.{Operand}
@@ -28,14 +30,14 @@ use Rattle.run_cover.proofs.Cover.{run_stays}
 use Rattle.run_cover.proofs.Kinded.{IsKinded}
 use Rattle.run_cover.proofs.Flows.{when_some, looks_in}
 use Rattle.run_cover.proofs.Calls.{local_object, result_object}
-use Rattle.run_cover.proofs.Included.{passes_map, get_map, then_some, map_some, MadeAs, typed_sites, family}
+use Rattle.run_cover.proofs.Included.{passes_map, get_map, MadeAs, typed_sites, family}
 use Rattle.run_cover.proofs.IncludedBodies.{included_code}
 
 default_no_object : (t : Ty) (a : ℕ) → default_of t ≡ Object a → ⊥
 default_no_object t a e = default_plain t.base t.dim a e
 
 map_plain : {A : Type 0} (f : A → Value) (xs : List A) → ((x : A) (a : ℕ) → f x ≡ Object a → ⊥) → ArePlain (map f xs)
-map_plain f xs p i a e = let z = map_some f (slice_get xs i) (Object a) (sym (get_map f xs i) ∙ e) in p z.0 a z.2
+map_plain f xs p i a e = let z = mapped_some f (slice_get xs i) (Object a) (sym (get_map f xs i) ∙ e) in p z.0 a z.2
 
 optional_default : (t : Option Ty) (a : ℕ) → option_map_or default_of t Nothing ≡ Object a → ⊥
 optional_default None a e = cc
@@ -92,7 +94,7 @@ module _ (P Q : Plain) (F : Facts) (S : Sets) where
     unfolding labelled_body
     body_included c b e =
         let h = then_some (labelled_with P Q F S c) (slice_get Q.methods c) b e in
-        let y = map_some (λ xs. body_with c h.0 (label_sts 0 xs)) h.0.body b h.2 in
+        let y = mapped_some (λ xs. body_with c h.0 (label_sts 0 xs)) h.0.body b h.2 in
         subst (λ z. IsIncluded (watched P Q F S) (MadeAs P Q F S) (family P Q F S) z) y.2 (record {
           code = included_code P Q F S closed facts kinded c h.0 h.1 y.0 y.1;
           rest = map_plain default_of (types_of h.0.locals) default_no_object;

@@ -5,6 +5,7 @@ use Rattle.std.specs.Option.{option_and_then}
 use Rattle.std.specs.List.{flat_map, AllByRecursion}
 use Rattle.std.proofs.lemmas.Bool.{false≢true, eqb-true, eq-eqb}
 use Rattle.std.proofs.lemmas.List.Quantifiers.{position-Some}
+use Rattle.java_meaning.proofs.Moves.{then_some}
 use Rattle.kaba_base.specs.declared.ColId.{ColId}
 use Rattle.kaba_base.specs.declared.Place.{Place}
 use Rattle.java_core.specs.Programs.{Plain, PlainMethod}
@@ -56,10 +57,6 @@ both_has x y f a b e d = subst (λ z. Contains (both z y f) (f a b)) (sym e) (su
 pub these_has : {A B C D : Type 0} (x : Option A) (y : Option B) (z : Option C) (f : A → B → C → D) (a : A) (b : B) (c : C) → x ≡ Some a → y ≡ Some b
     → z ≡ Some c → Contains (these x y z f) (f a b c)
 these_has x y z f a b c e d g = subst (λ w. Contains (these w y z f) (f a b c)) (sym e) (both_has y z (f a) b c d g)
-
-then_some : {A B : Type 0} (f : A → Option B) (o : Option A) (b : B) → option_and_then f o ≡ Some b → (a : A) × (o ≡ Some a) × (f a ≡ Some b)
-then_some f None b e = absurd (cc)
-then_some f (Some a) b e = (a, refl, e)
 
 -- the column of a cell
 abbrev as_column : Option ℕ → Option ColId

@@ -4,6 +4,7 @@ use Rattle.std.specs.Prelude.{◌<◌, ◌||◌, nat_lt, not, Bool, true, false,
 use Rattle.std.specs.Option.{option_map, option_map_or, is_some}
 use Rattle.std.proofs.lemmas.Bool.{eq-eqb, or_left, or_right}
 use Rattle.std.proofs.lemmas.Option.{same_Some, slice_get_within}
+use Rattle.java_meaning.proofs.Calls.{mapped_some}
 use Rattle.java_core.specs.declared.Ty.{Ty}
 use Rattle.java_core.specs.Programs.{Plain, PlainField, PlainMethod, PlainLocal, PlainSlot}
 use Rattle.java_core.specs.Types.{types_of}
@@ -14,19 +15,15 @@ use Rattle.flow_rules.specs.declared.items.PointItem.TheVariants as point
 use Rattle.flow_rules.specs.Operands.{object_of, object_if, variable_in, variable_row, result_in}
 use Rattle.flow_rules.specs.Types.{field_object, variable_object}
 use Rattle.flow_rules.specs.Numbered.{is_first_in, is_first, row_number, point_number}
+use Rattle.flow_rules.proofs.Listed.{at_left}
 use Rattle.run_cover.specs.Untagged.{untag_field, untag_method, untagged}
-use Rattle.run_cover.proofs.Included.{get_map, map_some}
+use Rattle.run_cover.proofs.Included.{get_map}
 use Rattle.run_cover.proofs.Untagging.{untyped_params}
 use Rattle.run_cover.proofs.HasNumbers.{field_row, this_row, result_row, own_variable_row, static_point, this_point, variable_point, result_point}
 
 pub object_there : (o : Option Ty) (t : ObjectType) → object_if o ≡ Some t → (u : Ty) × (o ≡ Some u) × (object_of u ≡ Some t)
 object_there None t e = absurd (cc)
 object_there (Some u) t e = (u, refl, e)
-
-pub get_left : {A : Type 0} (xs ys : List A) (i : ℕ) (v : A) → slice_get xs i ≡ Some v → slice_get (xs ++ ys) i ≡ Some v
-get_left [] ys i v e = absurd (cc)
-get_left (x ∷ xs) ys zero v e = e
-get_left (x ∷ xs) ys (suc i) v e = get_left xs ys i v e
 
 get_within : {A : Type 0} (xs ys : List A) (i : ℕ) → i < length xs → slice_get (xs ++ ys) i ≡ slice_get xs i
 get_within [] ys i h = absurd (omega (arith, h))
@@ -47,15 +44,15 @@ module _ (Q : Plain) (formed : IsFormed (untagged Q)) where
   method_of m k e = get_map untag_method Q.methods m ∙ ap (λ z. option_map untag_method z) e
 
   pub of_method : (m : ℕ) (h : PlainMethod) → slice_get P.methods m ≡ Some h → (k : PlainMethod) × (slice_get Q.methods m ≡ Some k) × (untag_method k ≡ h)
-  of_method m h e = map_some untag_method (slice_get Q.methods m) h (sym (get_map untag_method Q.methods m) ∙ e)
+  of_method m h e = mapped_some untag_method (slice_get Q.methods m) h (sym (get_map untag_method Q.methods m) ∙ e)
 
   pub of_field : (f : ℕ) (h : PlainField) → slice_get P.fields f ≡ Some h → (k : PlainField) × (slice_get Q.fields f ≡ Some k) × (untag_field k ≡ h)
-  of_field f h e = map_some untag_field (slice_get Q.fields f) h (sym (get_map untag_field Q.fields f) ∙ e)
+  of_field f h e = mapped_some untag_field (slice_get Q.fields f) h (sym (get_map untag_field Q.fields f) ∙ e)
 
   pub field_row_of : (f : ℕ) (t : ObjectType) → field_object P f ≡ Some t → (r : ℕ) × (row_number P Q (row.Field f) ≡ Some r)
   field_row_of f t e =
       let u = object_there (option_map (λ k. k.ty) (slice_get P.fields f)) t e in
-      let h = map_some (λ (k : PlainField). k.ty) (slice_get P.fields f) u.0 u.1 in
+      let h = mapped_some (λ (k : PlainField). k.ty) (slice_get P.fields f) u.0 u.1 in
       let k = of_field f h.0 h.1 in
       field_row P Q f k.0 t k.1 (ap (λ z. object_of z.ty) k.2 ∙ ap (λ z. object_of z) h.2 ∙ u.2)
 
@@ -110,7 +107,7 @@ module _ (Q : Plain) (formed : IsFormed (untagged Q)) where
       → (r : ℕ) × (row_number P Q (variable_row m k i) ≡ Some r)
   variable_row_of m k i t e o =
       let u = object_there (option_map (λ v. v.ty) (slice_get (k.params ++ k.locals) i)) t o in
-      let v = map_some (λ (v : PlainLocal). v.ty) (slice_get (k.params ++ k.locals) i) u.0 u.1 in
+      let v = mapped_some (λ (v : PlainLocal). v.ty) (slice_get (k.params ++ k.locals) i) u.0 u.1 in
       go v.0 v.1 (ap (λ z. object_of z) v.2 ∙ u.2) k.slot (nat_lt i (length k.params)) refl refl
     where
       own : (v : PlainLocal) → slice_get (k.params ++ k.locals) i ≡ Some v → object_of v.ty ≡ Some t
@@ -128,8 +125,8 @@ module _ (Q : Plain) (formed : IsFormed (untagged Q)) where
           let here : slice_get (types_of k.params) i ≡ Some v.ty = get_map (λ v. v.ty) k.params i
           ∙ ap (λ z. option_map (λ v. v.ty) z) (sym (get_within k.params k.locals i (lt_of i (length k.params) l)) ∙ ev) in
           let there : slice_get (types_of f.method.params) i ≡ Some v.ty = ap (λ z. slice_get z i) (f.params ∙ sym j.params ∙ untyped_params k.params) ∙ here in
-          let w = map_some (λ (v : PlainLocal). v.ty) (slice_get f.method.params i) v.ty (sym (get_map (λ v. v.ty) f.method.params i) ∙ there) in
-          let r = own_variable_row P Q j.slot.first f.method f.there i w.0 t (get_left f.method.params f.method.locals i w.0 w.1)
+          let w = mapped_some (λ (v : PlainLocal). v.ty) (slice_get f.method.params i) v.ty (sym (get_map (λ v. v.ty) f.method.params i) ∙ there) in
+          let r = own_variable_row P Q j.slot.first f.method f.there i w.0 t (at_left f.method.params f.method.locals i w.0 w.1)
           (ap (λ z. object_of z) w.2 ∙ ov)
           (or_left (is_first P j.slot.first f.method) (not (nat_lt i (length f.method.params))) f.first) in
           let within = of_lt i (length f.method.params) (slice_get_within f.method.params i w.0 w.1) in (
@@ -145,7 +142,7 @@ module _ (Q : Plain) (formed : IsFormed (untagged Q)) where
       → variable_object k i ≡ Some t → (q : ℕ) × (point_number P Q (point.Local m i) ≡ Some q)
   variable_point_of m k e b i t o =
       let u = object_there (option_map (λ v. v.ty) (slice_get (k.params ++ k.locals) i)) t o in
-      let v = map_some (λ (v : PlainLocal). v.ty) (slice_get (k.params ++ k.locals) i) u.0 u.1 in
+      let v = mapped_some (λ (v : PlainLocal). v.ty) (slice_get (k.params ++ k.locals) i) u.0 u.1 in
       let r = variable_row_of m k i t e o in
       variable_point P Q m k e b i v.0 v.1 r.0 r.1
 

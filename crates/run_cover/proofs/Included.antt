@@ -74,14 +74,6 @@ class_object (a_value t) = class_object_in t.base t.dim
 class_object null_value = refl
 class_object no_value = refl
 
-pub then_some : {A B : Type 0} (f : A → Option B) (o : Option A) (b : B) → option_and_then f o ≡ Some b → (a : A) × (o ≡ Some a) × (f a ≡ Some b)
-then_some f None b e = absurd (cc)
-then_some f (Some a) b e = (a, refl, e)
-
-pub map_some : {A B : Type 0} (f : A → B) (o : Option A) (b : B) → option_map f o ≡ Some b → (a : A) × (o ≡ Some a) × (f a ≡ b)
-map_some f None b e = absurd (cc)
-map_some f (Some a) b e = (a, refl, same_Some (f a) b e)
-
 abbrev pub exs_at : Exs → ℕ → Option Ex
 exs_at no_ex i = None
 exs_at (ex_then e es) zero = Some e

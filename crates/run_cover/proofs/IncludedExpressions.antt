@@ -13,6 +13,8 @@ use Rattle.java_core.specs.Classes.{lookup, super_method}
 use Rattle.java_core.specs.Types.{Env, env_of, types_of, class_type, field_type}
 use Rattle.java_meaning.specs.Moment.{Kind, an_object, an_array, own_type, Spot, held, bound, self_of, result_of, set_static, Body, Lang}
 use Rattle.java_meaning.specs.Languages.{body_with}
+use Rattle.java_meaning.proofs.Moves.{then_some}
+use Rattle.java_meaning.proofs.Calls.{mapped_some}
 use Rattle.fact_model.specs.Items.{site_class}
 use Rattle.fact_model.specs.Flowing.{Fact, Inclusion}
 use Rattle.fact_model.specs.declared.facts.Facts.{Facts}
@@ -32,7 +34,7 @@ use Rattle.run_cover.proofs.SeenOperands.{at_seen, part_at, plain}
 use Rattle.run_cover.proofs.Each.{left, right, past, here}
 use Rattle.run_cover.proofs.Flows.{when_object, value_in, value_sites, looks_in, IsUsed, HasTypes, creation_looks, cast_goes}
 use Rattle.run_cover.proofs.Calls.{local_is, local_object, local_sites, result_sites, call_goes, StaticGoes, static_goes, super_goes, super_self}
-use Rattle.run_cover.proofs.Included.{sub_sites, passes_all, object_or, get_map, then_some, map_some, exs_at}
+use Rattle.run_cover.proofs.Included.{sub_sites, passes_all, object_or, get_map, exs_at}
 use Rattle.run_cover.proofs.Included as sets
 
 module _ (P Q : Plain) (F : Facts) (S : Sets) where
@@ -91,7 +93,7 @@ module _ (P Q : Plain) (F : Facts) (S : Sets) where
     unfolding labelled_body
     found c b e =
         let h = then_some (labelled_with P Q F S c) (slice_get Q.methods c) b e in
-        let y = map_some (λ xs. body_with c h.0 (label_sts 0 xs)) h.0.body b h.2 in
+        let y = mapped_some (λ xs. body_with c h.0 (label_sts 0 xs)) h.0.body b h.2 in
         record { method = h.0; there = h.1; has_body = subst (λ z. is_some z ≡ true) (sym y.1) refl; body_is = sym (ap (λ z. z.env.body) y.2) }
 
     used_seen : (e : Ex) → IsUsed P Q F S (at e) → IsUsed P Q F S (seen e)

@@ -25,8 +25,8 @@ use Rattle.flow_rules.specs.Numbered.{own_row, number_if, row_number, site_numbe
 use Rattle.flow_rules.specs.Facts.{numbers}
 use Rattle.run_cover.specs.Untagged.{untag_method, untagged, HaveSlots}
 use Rattle.java_meaning.specs.Watched.{bare, bare_all}
+use Rattle.java_meaning.proofs.Moves.{then_some}
 use Rattle.run_cover.proofs.Kinded.{site_type, HasPoint, IsCreation, IsBase, IsKindedPart}
-use Rattle.run_cover.proofs.Included.{then_some}
 use Rattle.run_cover.proofs.Untagging.{untyped_params}
 use Rattle.run_cover.proofs.HasRows.{field_row_of, in_slot, return_row, this_point_of}
 use Rattle.run_cover.proofs.Types.{element_typed, class_apart, class_dim, slot_called}

@@ -34,12 +34,14 @@ use Rattle.flow_rules.specs.Facts.{numbers}
 use Rattle.run_cover.specs.Untagged.{untag_method, untagged, HaveSlots}
 use Rattle.java_meaning.specs.Watched.{bare, bare_all}
 use Rattle.run_cover.proofs.Kinded.{site_type, IsPoint, IsCreation}
-use Rattle.flow_rules.proofs.Listed.{one, first, more, when_has}
-use Rattle.run_cover.proofs.Included.{get_map, object_or, class_object, then_some, map_some}
+use Rattle.flow_rules.proofs.Listed.{one, first, more, when_has, at_left}
+use Rattle.run_cover.proofs.Included.{get_map, object_or, class_object}
 use Rattle.run_cover.proofs.Untagging.{untyped_params}
 use Rattle.java_meaning.proofs.WatchedPrograms.{bare_static}
+use Rattle.java_meaning.proofs.Moves.{then_some}
+use Rattle.java_meaning.proofs.Calls.{mapped_some}
 use Rattle.run_cover.proofs.HasNumbers.{this_row, form_row, site_there, form_point, own_listed}
-use Rattle.run_cover.proofs.HasRows.{get_left, method_of, of_method, field_row_of, in_slot, return_row, result_row_of, variable_row_of}
+use Rattle.run_cover.proofs.HasRows.{method_of, of_method, field_row_of, in_slot, return_row, result_row_of, variable_row_of}
 use Rattle.run_cover.proofs.Types.{unary_none, binary_none, fits_object, of_element, class_apart, object_called}
 use Rattle.run_cover.proofs.Found.{nearest_some}
 
@@ -168,7 +170,7 @@ module _ (Q : Plain) (F : Facts) (formed : IsFormed (untagged Q)) (slots : HaveS
   pub method_sig : (c : ℕ) (sig : Signature) → signature_of_method P c ≡ Some sig → (h : PlainMethod) × (slice_get Q.methods c ≡ Some h)
       × (sig.params ≡ types_of h.params) × (sig.result ≡ h.result)
   method_sig c sig e =
-      let z = map_some (λ (k : PlainMethod). record { params = types_of k.params; result = k.result }) (slice_get P.methods c) sig e in
+      let z = mapped_some (λ (k : PlainMethod). record { params = types_of k.params; result = k.result }) (slice_get P.methods c) sig e in
       let h = of_method Q formed c z.0 z.1 in (
         h.0,
         h.1,
@@ -295,9 +297,9 @@ module _ (Q : Plain) (F : Facts) (formed : IsFormed (untagged Q)) (slots : HaveS
   pub param_typed : (h : PlainMethod) (i : ℕ) (u : Ty) (r : ObjectType) → slice_get (types_of h.params) i ≡ Some u → object_of u ≡ Some r
       → (w : ObjectType) × (variable_object h i ≡ Some w) × (i < length h.params)
   param_typed h i u r e o =
-      let v = map_some (λ (v : PlainLocal). v.ty) (slice_get h.params i) u (sym (get_map (λ v. v.ty) h.params i) ∙ e) in (
+      let v = mapped_some (λ (v : PlainLocal). v.ty) (slice_get h.params i) u (sym (get_map (λ v. v.ty) h.params i) ∙ e) in (
         r,
-        ap (λ z. object_if (option_map (λ v. v.ty) z)) (get_left h.params h.locals i v.0 v.1) ∙ ap (λ z. object_of z) v.2
+        ap (λ z. object_if (option_map (λ v. v.ty) z)) (at_left h.params h.locals i v.0 v.1) ∙ ap (λ z. object_of z) v.2
             ∙ o,
         slice_get_within h.params i v.0 v.1,
       )

@@ -4,6 +4,8 @@ use Rattle.std.specs.Prelude.{◌⊎◌, ◌<◌, ◌==◌, ◌&&◌, if◌then�
 use Rattle.std.specs.Option.{option_map, option_and_then, is_some}
 use Rattle.std.proofs.lemmas.Bool.{false≢true, or_cases}
 use Rattle.std.proofs.lemmas.Option.{same_Some}
+use Rattle.java_meaning.proofs.Moves.{then_some}
+use Rattle.java_meaning.proofs.Calls.{mapped_some}
 use Rattle.java_core.specs.declared.Ty.{Ty}
 use Rattle.java_core.specs.declared.TyBase.{TyBase}
 use Rattle.java_core.specs.declared.TyBase.TheVariants.{Int, Boolean, Char, Str, Class}
@@ -16,7 +18,6 @@ use Rattle.java_core.specs.Classes.{slot_of}
 use Rattle.java_core.specs.Types.{Static, a_value, null_value, no_value, or_nothing, class_in, class_of, element_in, element_of, is_base, is_only, is_string, is_sub_base, is_subtype, fits, StringMethod, LengthOf, CharAt, Equals, string_method, string_result, Signature, signature_of_slot, signature_of_string, object_signature, call_signature, unary_type, sum_type, binary_type}
 use Rattle.flow_rules.specs.declared.items.ObjectType.{ObjectType}
 use Rattle.flow_rules.specs.Operands.{object_in, object_of, object_if, object_static}
-use Rattle.run_cover.proofs.Included.{then_some, map_some}
 use Rattle.run_cover.proofs.Truths.{both_hold}
 
 pub unary_none : (o : UnOp) → object_of (unary_type o) ≡ None
@@ -128,7 +129,7 @@ pub record SlotOf (P : Plain) (s : Static) (x : List ℕ) (sig : Signature) : Ty
 
 slot_signature : (P : Plain) (j : ℕ) (sig : Signature) → signature_of_slot P j ≡ Some sig → (slot : PlainSlot) × (slice_get P.slots j ≡ Some slot)
     × (sig.params ≡ slot.params) × (sig.result ≡ slot.result)
-slot_signature P j sig e = let z = map_some (λ (k : PlainSlot). record { params = k.params; result = k.result }) (slice_get P.slots j) sig e in
+slot_signature P j sig e = let z = mapped_some (λ (k : PlainSlot). record { params = k.params; result = k.result }) (slice_get P.slots j) sig e in
     (z.0, z.1, sym (ap (λ w. w.params) z.2), sym (ap (λ w. w.result) z.2))
 
 class_slot : (P : Plain) (s : Static) (c : Option ℕ) (x : List ℕ) (sig : Signature) → class_of s ≡ c → object_signature P c x ≡ Some sig → SlotOf P s x sig

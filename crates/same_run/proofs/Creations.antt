@@ -1,5 +1,5 @@
 -- Creations make objects with the same values in the fields that they keep, and arrays of the same elements.
-use Rattle.std.proofs.Common.{◌≡◌, ℕ, zero, suc, ◌<◌, Option, Some, None, length, refl, sym, ap, ◌∙◌, subst}
+use Rattle.std.proofs.Common.{◌≡◌, ℕ, ◌<◌, Option, Some, None, length, refl, sym, ap, ◌∙◌, subst}
 use Rattle.std.specs.Prelude.{Bool, true, false, ◌==◌, slice_get, Contains}
 use Rattle.std.specs.Option.{option_map, option_map_or, is_some}
 use Rattle.std.specs.Str.{bytes_eq}
@@ -12,10 +12,10 @@ use Rattle.java_core.specs.declared.Ty.{Ty}
 use Rattle.java_core.specs.declared.TyBase.{TyBase}
 use Rattle.java_core.specs.declared.TyBase.TheVariants.{Int, Boolean, Char, Str, Class}
 use Rattle.java_core.specs.Programs.{Plain, PlainField, PlainMethod}
-use Rattle.java_core.specs.Classes.{below, is_field_of, own_field_of, field_of, member_field, nearest}
+use Rattle.java_core.specs.Classes.{below, is_field_of, own_field_of, field_of, member_field}
 use Rattle.java_core.specs.Typing.{IsTyped}
 use Rattle.java_core.proofs.Positions.{passes-position, position-passes}
-use Rattle.java_core.proofs.Subclasses.{subclass-below}
+use Rattle.java_core.proofs.Subclasses.{subclass-below, nearest-here}
 use Rattle.java_meaning.specs.Moment.{Kind, an_array, Body}
 use Rattle.java_meaning.specs.Values.{default_of}
 use Rattle.java_meaning.specs.Languages.{index_of, fresh_of, language_of}
@@ -65,11 +65,6 @@ use Rattle.same_run.proofs.Ties.{type_at, type_over, CreationTied}
 use Rattle.same_run.proofs.Sited.{MadeAs, has, has_in, new_field, new_field_is, node_of, has_offered, some_test}
 use Rattle.same_run.proofs.Shapes.{shape_kept}
 
--- a field of a class itself is the nearest
-own_nearest : (P : Plain) (f : ℕ → Option ℕ) (n c d : ℕ) → f c ≡ Some d → nearest P f n c ≡ Some d
-own_nearest P f zero c d e = e
-own_nearest P f (suc n) c d e = rw e refl
-
 type_of_class : (v : Ty) (x : ObjectType) → object_of v ≡ Some x → v ≡ type_at x
 type_of_class v x e = go v.base v.dim e
   where
@@ -116,7 +111,7 @@ module _ (Q : Plain) (F : Facts) (H : Hierarchy) (W : Plain) (K : Known (untagge
       let other = position-passes (λ z. is_field_of k.owner k.name z) P.fields there.0 there.1 in
       let parts = and_parts (other.0.owner == k.owner) (bytes_eq other.0.name k.name) other.2 in
       let same = K.old.field_names there.0 f other.0 k other.1 e (eqb-true other.0.owner k.owner parts.0) ((bytes_eq-Decides other.0.name k.name).0 parts.1) in
-      rw (own_nearest P (λ c. own_field_of P c k.name) (length P.classes) k.owner f (there.1 ∙ ap (λ z. Some z) same), e, s) refl
+      rw (nearest-here P (λ c. own_field_of P c k.name) (length P.classes) k.owner f (there.1 ∙ ap (λ z. Some z) same), e, s) refl
 
   field_stands : (i : ColumnItem) → Stands Q i → (f : ℕ) → i ≡ column.Fld f → (k : PlainField) × (slice_get Q.fields f ≡ Some k) × (k.is_static ≡ false)
   field_stands _ (for_field g k e s) f h = let same : g ≡ f = cc in (k, ap (λ z. slice_get Q.fields z) (sym same) ∙ e, s)

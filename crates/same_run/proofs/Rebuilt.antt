@@ -15,6 +15,7 @@ use Rattle.java_meaning.specs.Meaning.{run_in}
 use Rattle.java_meaning.specs.Languages.{body_with, language_of, statics_of}
 use Rattle.java_meaning.specs.Watched.{bare_sts}
 use Rattle.java_meaning.proofs.Layouts.{places}
+use Rattle.java_meaning.proofs.Moves.{then_some}
 use Rattle.fact_model.specs.InRange.{InRange}
 use Rattle.fact_model.specs.InOrder.{InOrder}
 use Rattle.fact_model.specs.Flowing.{AreSets}
@@ -38,7 +39,6 @@ use Rattle.run_cover.specs.Watched.{Of}
 use Rattle.run_cover.proofs.Covered.{method_parts}
 use Rattle.run_cover.proofs.HasRows.{method_of, of_method}
 use Rattle.run_cover.proofs.Held.{default_plain}
-use Rattle.run_cover.proofs.Included.{then_some}
 use Rattle.run_cover.proofs.Untagging.{same_env, untyped_params}
 use Rattle.facts_order.proofs.Pairs.{IsPlaced}
 use Rattle.rebuild_model.specs.Renaming.{Places, Renaming, renaming_of, retyped, retyped_if}

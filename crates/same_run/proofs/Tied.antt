@@ -16,6 +16,8 @@ use Rattle.java_core.specs.Classes.{member_field, slot_of, lookup, super_method}
 use Rattle.java_core.specs.Types.{class_type}
 use Rattle.java_meaning.specs.Moment.{Kind, an_object, Body}
 use Rattle.java_meaning.specs.Languages.{body_of, body_with}
+use Rattle.java_meaning.proofs.Moves.{then_some}
+use Rattle.java_meaning.proofs.Calls.{mapped_some}
 use Rattle.fact_model.specs.Items.{site_row, site_class, point_row}
 use Rattle.fact_model.specs.Classes.{finds, finds_within, is_slot}
 use Rattle.fact_model.specs.InRange.{InRange}
@@ -46,7 +48,6 @@ use Rattle.run_cover.specs.Untagged.{untag_method, untagged}
 use Rattle.run_cover.proofs.Bodies.{finds_some}
 use Rattle.run_cover.proofs.Found.{same_length}
 use Rattle.run_cover.proofs.HasRows.{method_of, of_field}
-use Rattle.run_cover.proofs.Included.{then_some, map_some}
 use Rattle.run_cover.proofs.Kinded.{site_type}
 use Rattle.flow_rules.proofs.Listed.{one, map_has, map_from, place_has}
 use Rattle.facts_order.proofs.Columns.{field_column, body_column}
@@ -277,7 +278,7 @@ module _ (Q : Plain) (F : Facts) (H : Hierarchy) (W : Plain) (K : Known (untagge
       super_tied w d es o i c x self instance ex =
           let a = row_of_class Q F H W K (Some (row.This m)) c self in
           let body = then_some (labelled_with P Q F (solved pt) d) (slice_get Q.methods d) x ex in
-          let code = map_some _ body.0.body x body.2 in
+          let code = mapped_some _ body.0.body x body.2 in
           let l = body_column P Q d body.0 body.1 (instance body.0 body.1) (ap is_some code.1) in
           let z : SuperInfo = record { row = record { 0 = a.number }; column = record { 0 = l.0 } } in
           let is = subst (λ v. Contains (both v ((numbers P Q).column (column.Def d)) (λ a b. record { row = record { 0 = a }; column = record { 0 = b } })) z)

@@ -1,5 +1,5 @@
 -- A method to which a declaration resolves: its owner, name and types, and its code.
-use Rattle.std.proofs.Common.{◌≡◌, ℕ, zero, suc, ◌+◌, ◌<◌, true, false, List, [], ◌∷◌, ◌++◌, Option, Some, None, refl, sym, ap, ◌∙◌, subst, arith}
+use Rattle.std.proofs.Common.{◌≡◌, ℕ, suc, ◌+◌, ◌<◌, true, false, List, [], ◌∷◌, Option, Some, None, refl, sym, ap, ◌∙◌, subst, arith}
 use Rattle.std.specs.Prelude.{length, map, slice_get, nat_lt}
 use Rattle.std.specs.Option.{option_map, is_some}
 use Rattle.std.proofs.lemmas.Bool.{lt-ltb}
@@ -23,7 +23,7 @@ use Rattle.flow_rules.specs.declared.items.ObjectType.{ObjectType}
 use Rattle.flow_rules.specs.declared.items.RowItem.TheVariants as row
 use Rattle.flow_rules.specs.Operands.{object_of, object_if, variable_in, variable_row, result_in}
 use Rattle.flow_rules.specs.Ordered.{each}
-use Rattle.flow_rules.proofs.Listed.{at_below}
+use Rattle.flow_rules.proofs.Listed.{at_below, at_left}
 use Rattle.rebuild_model.specs.Renaming.{retyped, retyped_if}
 use Rattle.rebuild_model.specs.Matches.{MatchesSts}
 use Rattle.rebuild_model.specs.Members.{new_types, slot_types, HasTypes, HasSlotTypes, HasCode}
@@ -39,11 +39,6 @@ use Rattle.tree_rebuilds.proofs.Given.{Given, T, R}
 untagged_types : (vs : List PlainLocal) → types_of (map untag_local vs) ≡ types_of vs
 untagged_types [] = refl
 untagged_types (v ∷ vs) = ap (λ z. v.ty ∷ z) (untagged_types vs)
-
-get_left : {A : Type 0} (xs ys : List A) (i : ℕ) (x : A) → slice_get xs i ≡ Some x → slice_get (xs ++ ys) i ≡ Some x
-get_left [] ys i x e = absurd (cc e)
-get_left (y ∷ xs) ys zero x e = e
-get_left (y ∷ xs) ys (suc i) x e = get_left xs ys i x e
 
 module _ (P Q : Plain) (F : Facts) (pt : PointsTo) (H : Hierarchy) (V : Plain) (G : Given P Q F pt H V) where
   abbrev types : List (List ℕ)
@@ -84,7 +79,7 @@ module _ (P Q : Plain) (F : Facts) (pt : PointsTo) (H : Hierarchy) (V : Plain) (
   head_params : (m : ℕ) (k : PlainMethod) → slice_get P.methods m ≡ Some k
       → types_of (map (param_outline types) (each (λ i v. param P (by_node P Q F H) H m k i v ∷ []) 0 k.params)) ≡ new_types (R P Q F pt H V G) m k 0 k.params
   head_params m k e = param_types m k 0 k.params (λ i j v d s t o.
-      variable_has_row P Q G.same G.formed m k j v e (get_left k.params k.locals j v (ap (slice_get k.params) (omega (arith, d)) ∙ s)) t o)
+      variable_has_row P Q G.same G.formed m k j v e (at_left k.params k.locals j v (ap (slice_get k.params) (omega (arith, d)) ∙ s)) t o)
 
   head_result : (m : ℕ) (k : PlainMethod) → slice_get P.methods m ≡ Some k
       → option_map (type_meant types) (option_map (written_type P H ((by_node P Q F H).row_type (result_in k.slot m))) k.result) ≡ retyped_if

@@ -23,8 +23,7 @@ use Rattle.flow_rules.specs.declared.items.RowItem.TheVariants as row
 use Rattle.flow_rules.specs.Operands.{object_of, object_in, object_if, variable_row, result_in}
 use Rattle.flow_rules.specs.Numbered.{row_number}
 use Rattle.flow_rules.specs.Facts.{numbers}
-use Rattle.run_cover.proofs.HasRows.{get_left}
-use Rattle.flow_rules.proofs.Listed.{at_contains}
+use Rattle.flow_rules.proofs.Listed.{at_contains, at_left}
 use Rattle.name_rules.specs.Outline.{FieldAt, MethodAt, is_text_type, outline}
 use Rattle.name_rules.specs.Meanings.{class_named}
 use Rattle.name_rules.specs.Asked.{IsDeclared, of_field, of_param, of_result, Asks, by_super, by_type}
@@ -87,7 +86,7 @@ module _ (P Q : Plain) (F : Facts) (pt : PointsTo) (H : Hierarchy) (G : Given P 
       let v = param_of P Q F pt H G x.head t z.0 q z.1 in
       subst (IsKnownType O) (ap (λ (y : Param). y.ty) v.2)
       (type_known (variable_row t.number t.method z.0) v.0.ty
-      (λ o h. variable_has_row P Q G.same G.formed t.number t.method z.0 v.0 t.stands (get_left t.method.params t.method.locals z.0 v.0 v.1) o h))
+      (λ o h. variable_has_row P Q G.same G.formed t.number t.method z.0 v.0 t.stands (at_left t.method.params t.method.locals z.0 v.0 v.1) o h))
 
   result_known : (x : MethodAt) (u : TypeName) → HasMethod P Q F H x → x.head.type ≡ Some u → IsKnownType O u
   result_known x u m e =

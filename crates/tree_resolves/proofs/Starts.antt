@@ -6,8 +6,7 @@ use Rattle.java_core.specs.Programs.{Plain, PlainLocal, PlainMethod}
 use Rattle.java_core.specs.Formed.{variables_of, numbers_below}
 use Rattle.hier_model.specs.Hierarchies.{Hierarchy}
 use Rattle.flow_rules.specs.Ordered.{each}
-use Rattle.run_cover.proofs.HasRows.{get_left}
-use Rattle.flow_rules.proofs.Listed.{first, more, one_from, below_at}
+use Rattle.flow_rules.proofs.Listed.{first, more, one_from, below_at, at_left}
 use Rattle.std.proofs.lemmas.List.Elements.{Contains-append_cases}
 use Rattle.std.proofs.lemmas.Bool.{cases_lt}
 use Rattle.rebuild_model.specs.Renaming.{Renaming}
@@ -57,10 +56,10 @@ module _ (P : Plain) (R : Renaming) (H : Hierarchy) (m : ℕ) (k : PlainMethod) 
   start = record {
     are = names_of 0 k.params ∙ sym (numbered_names 0 k.params (λ i j v e d.
         let s : i ≡ j = omega (arith, d) in
-        name_is k j v (subst (λ z. slice_get (variables_of k) z ≡ Some v) s (get_left k.params k.locals i v e))));
+        name_is k j v (subst (λ z. slice_get (variables_of k) z ≡ Some v) s (at_left k.params k.locals i v e))));
     there = λ i c. let l = parameters_from 0 k.params i c in
         let z = below_at k.params i (omega (arith, l)) in
-        (z.0, get_left k.params k.locals i z.0 z.1);
+        (z.0, at_left k.params k.locals i z.0 z.1);
     into = λ i c. parameters_has 0 k.params i i (has_below (length k.params) i c) (omega arith);
     back = λ i c. let l = parameters_from 0 k.params i c in below_has (length k.params) i (omega (arith, l));
   }
