@@ -1,6 +1,6 @@
 -- The parameters and locals in scope, by their numbers in the old body and by their names in the new one.
 use Rattle.std.proofs.Common.{◌≡◌, ℕ, zero, suc, ◌+◌, List, [], ◌∷◌, ◌++◌, Option, Some, None, length, refl, sym, ap, ◌∙◌, subst, arith, ⊎_elim, inl, inr}
-use Rattle.std.specs.Prelude.{◌⊎◌, ◌<◌, ◌||◌, Bool, true, false, if◌then◌else◌, map, get_or, slice_get, Contains}
+use Rattle.std.specs.Prelude.{◌⊎◌, ◌<◌, ◌||◌, Bool, true, false, if◌then◌else◌, map, slice_get, Contains}
 use Rattle.std.specs.Option.{option_map_or, is_some}
 use Rattle.std.specs.List.{list_any}
 use Rattle.std.specs.Str.{bytes_eq}
@@ -11,6 +11,7 @@ use Rattle.std.proofs.lemmas.Slice.Eq.{bytes_eq-Decides}
 use Rattle.flow_rules.proofs.Listed.{at_left}
 use Rattle.java_core.specs.Programs.{PlainLocal, PlainMethod}
 use Rattle.java_core.specs.Formed.{variables_of, numbers_below}
+use Rattle.java_core.proofs.Upwards.{contains_cases}
 use Rattle.name_rules.specs.declared.parts.Bound.{Bound}
 use Rattle.name_rules.specs.Meanings.{local_of, in_scope, is_bound, bound_names}
 use Rattle.name_rules.specs.Resolves.{bound, params_from}
@@ -54,13 +55,6 @@ added (x ∷ bs) b n e = go (bytes_eq x.name n) (added bs b n) e
     go true r h = absurd (cc)
     go false r h = r h
 
-pub contains_cases : (xs : List ℕ) (i j : ℕ) → Contains (i ∷ xs) j → (i ≡ j) ⊎ Contains xs j
-contains_cases xs i j h = go h.0 h.1 h.2
-  where
-    go : (a : ℕ) → a < length (i ∷ xs) → get_or (i ∷ xs) a j ≡ j → (i ≡ j) ⊎ Contains xs j
-    go zero l e = inl e
-    go (suc a) l e = inr (a, (let m = l in omega (arith, m)), e)
-
 -- what is in scope of the old body is found by its name, and a name that none of the numbers has is not found
 pub record Scoped (k : PlainMethod) (inner scope : List ℕ) (bs : List Bound) : Type 0 where
   pub found : (i : ℕ) → Contains inner i → in_scope bs (variable_name k i) ≡ Some i
@@ -72,7 +66,7 @@ pub scoped_more : (k : PlainMethod) (inner scope : List ℕ) (bs : List Bound) (
     → is_bound (bound_names bs) v.name ≡ false → Scoped k (i ∷ inner) (scope ++ i ∷ []) (bound bs v.name i)
 scoped_more k inner scope bs i v s e fresh = record {
   found = λ j c. ⊎_elim (λ h. subst (λ z. local_of (variable_name k z) (bound bs v.name i) ≡ Some z) h own)
-      (λ d. kept bs b (variable_name k j) j (s.found j d)) (contains_cases inner i j c);
+      (λ d. kept bs b (variable_name k j) j (s.found j d)) (contains_cases i inner j c);
   absent = none;
 }
   where
@@ -127,7 +121,7 @@ name_absent p c (v ∷ ps) x h e =
 
 below_of : (n j : ℕ) → Contains (numbers_below n) j → j < n
 below_of zero j h = absurd (let l = h.1 in omega (arith, l))
-below_of (suc n) j h = go (contains_cases (numbers_below n) n j h) (λ d. below_of n j d)
+below_of (suc n) j h = go (contains_cases n (numbers_below n) j h) (λ d. below_of n j d)
   where
     go : (n ≡ j) ⊎ Contains (numbers_below n) j → (Contains (numbers_below n) j → j < n) → j < suc n
     go (inl e) r = omega (arith, e)

@@ -10,12 +10,12 @@ use Rattle.java_core.specs.Classes.{IsSubclass, field_of, member_field, when_ins
 use Rattle.java_core.specs.Formed.{IsFormed}
 use Rattle.java_core.proofs.Subclasses.{nearest_of-nearest}
 use Rattle.java_core.proofs.Offered.{declaration-above, own_method-own}
+use Rattle.java_core.proofs.Positions.{position-passes}
 use Rattle.java_meaning.proofs.Layouts.{nearest_above}
 use Rattle.flow_rules.specs.declared.items.ObjectType.{ObjectType}
 use Rattle.flow_rules.specs.declared.items.ColumnItem.TheVariants as column
 use Rattle.flow_rules.specs.Operands.{class_at, object_field, call_declaration}
 use Rattle.flow_rules.specs.Facts.{owner_of}
-use Rattle.flow_rules.proofs.Listed.{position_at}
 use Rattle.facts_order.proofs.Pairs.{IsPlaced}
 
 and_left : (a b : Bool) → (a && b) ≡ true → a ≡ true
@@ -36,7 +36,7 @@ module _ (P Q : Plain) (placed : IsPlaced P Q) (formed : IsFormed P) where
   unfolding field_of
   field_above c f x e =
       let n = nearest_above P (λ k. own_field_of P k x) (nearest_of-nearest P (λ k. own_field_of P k x) e) in
-      let z = position_at (λ f. is_field_of n.0 x f) P.fields f n.2 in
+      let z = position-passes (λ f. is_field_of n.0 x f) P.fields f n.2 in
       let q = placed.placed_field f z.0 z.1 in
       let w = placed.fields f q.0 q.1 in
       let o = eqb-true z.0.owner n.0 (and_left (z.0.owner == n.0) (bytes_eq z.0.name x) z.2) in

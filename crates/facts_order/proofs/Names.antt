@@ -4,7 +4,7 @@ use Rattle.std.specs.Prelude.{◌≢◌, ◌<◌, ◌==◌, ◌&&◌, Bool, true
 use Rattle.std.specs.Option.{option_map_or}
 use Rattle.std.specs.List.{flat_map, list_any}
 use Rattle.std.specs.Str.{bytes_eq, chars, encode_utf8_all}
-use Rattle.std.proofs.lemmas.Bool.{false≢true, eqb-true, or_cases}
+use Rattle.std.proofs.lemmas.Bool.{false≢true, eqb-true, or_cases, and_parts}
 use Rattle.std.proofs.lemmas.Option.{same_Some}
 use Rattle.std.proofs.lemmas.Str.{chars-encodes}
 use Rattle.std.proofs.lemmas.Slice.Eq.{bytes_eq-Decides}
@@ -46,10 +46,6 @@ at_drop (y ∷ ys) i x e = e
 any_at : {A : Type 0} (f : A → Bool) (xs : List A) → list_any f xs ≡ true → (x : A) × Contains xs x × (f x ≡ true)
 any_at f [] e = absurd (false≢true e)
 any_at f (x ∷ xs) e = ⊎_elim (λ h. (x, first x xs, h)) (λ h. let z = any_at f xs h in (z.0, more z.0 x xs z.1, z.2)) (or_cases (f x) (list_any f xs) e)
-
-and_right : (a b : Bool) → (a && b) ≡ true → b ≡ true
-and_right true b e = e
-and_right false b e = absurd (false≢true e)
 
 module _ (P Q : Plain) (placed : IsPlaced P Q) (formed : IsFormed P) where
   abbrev class_names : List (List ℕ)
@@ -146,9 +142,9 @@ module _ (P Q : Plain) (placed : IsPlaced P Q) (formed : IsFormed P) where
     holding : (c : ℕ) → is_holder Q c ≡ true → c ≢ 0
     holding c h e = ⊎_elim
         (λ d. let z = any_at (λ f. f.is_static && (f.owner == c)) Q.fields d in let w = at_contains Q.fields z.0 z.1 in let y = placed.fields w.0 z.0 w.1 in
-        (formed.fields w.0 y.plain y.stands).no_object (y.owner ∙ eqb-true z.0.owner c (and_right z.0.is_static (z.0.owner == c) z.2) ∙ e))
+        (formed.fields w.0 y.plain y.stands).no_object (y.owner ∙ eqb-true z.0.owner c (and_parts z.0.is_static (z.0.owner == c) z.2).1 ∙ e))
         (λ d. let z = any_at (λ m. m.is_static && (m.owner == c)) Q.methods d in let w = at_contains Q.methods z.0 z.1 in let y = placed.methods w.0 z.0 w.1 in
-        (formed.methods w.0 y.plain y.stands).no_object (y.owner ∙ eqb-true z.0.owner c (and_right z.0.is_static (z.0.owner == c) z.2) ∙ e))
+        (formed.methods w.0 y.plain y.stands).no_object (y.owner ∙ eqb-true z.0.owner c (and_parts z.0.is_static (z.0.owner == c) z.2).1 ∙ e))
         (or_cases (list_any (λ f. f.is_static && (f.owner == c)) Q.fields) (list_any (λ m. m.is_static && (m.owner == c)) Q.methods) h)
 
     holder_name : (c : ℕ) (k : PlainClass) → slice_get Q.classes c ≡ Some k → (c ≢ 0) → Contains (all_names Q) k.name

@@ -1,9 +1,9 @@
 -- The rows of a program's facts: what each types, and the type that it has.
 use Rattle.std.proofs.Common.{◌≡◌, ℕ, [], ◌++◌, Option, Some, None, length, refl, sym, ap, subst, arith, inl, inr, ⊎_elim}
-use Rattle.std.specs.Prelude.{◌⊎◌, ◌<◌, ◌&&◌, ◌||◌, nat_lt, Bool, true, false, not, Contains, slice_get}
+use Rattle.std.specs.Prelude.{◌⊎◌, ◌<◌, ◌&&◌, ◌||◌, nat_lt, true, false, not, Contains, slice_get}
 use Rattle.std.specs.Option.{option_map, is_some}
 use Rattle.std.specs.List.{flat_map}
-use Rattle.std.proofs.lemmas.Bool.{false≢true, not-true}
+use Rattle.std.proofs.lemmas.Bool.{not-true, and_parts}
 use Rattle.std.proofs.lemmas.List.Elements.{Contains-append_left, Contains-append_right, Contains-append_cases}
 use Rattle.kaba_base.specs.declared.Place.{Place}
 use Rattle.java_core.specs.Trees.{Sts}
@@ -29,14 +29,6 @@ use Rattle.facts_order.proofs.Items.{row_at, row_raw, row_there}
 use Rattle.facts_order.proofs.Pairs.{IsPlaced}
 use Rattle.facts_order.proofs.Numbers.{back}
 use Rattle.facts_order.proofs.Forms.{From, sts_from}
-
-and_left : (a b : Bool) → (a && b) ≡ true → a ≡ true
-and_left true b e = refl
-and_left false b e = absurd (false≢true e)
-
-and_right : (a b : Bool) → (a && b) ≡ true → b ≡ true
-and_right true b e = e
-and_right false b e = absurd (false≢true e)
 
 -- the item and the type of a row, where it has one
 row_in : (i : RowItem) (p : Place) (t : Option ObjectType) (x : Row) → Contains (row_if i p t) x → (x.item ≡ i) × (t ≡ Some x.ty)
@@ -84,7 +76,7 @@ module _ (P Q : Plain) where
     this_types c =
         let w = when_from (is_some k.body && not k.is_static) _ x c in
         let z = row_in (row.This m) k.tag.place (class_object k.owner) x w.1 in
-        for_this m k e (and_left (is_some k.body) (not k.is_static) w.0) (not-true k.is_static (and_right (is_some k.body) (not k.is_static) w.0)) z.0 z.1
+        for_this m k e (and_parts (is_some k.body) (not k.is_static) w.0).0 (not-true k.is_static (and_parts (is_some k.body) (not k.is_static) w.0).1) z.0 z.1
 
     result_types : Contains (result_rows P Q m k) x → Types x
     result_types c =

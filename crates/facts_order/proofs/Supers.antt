@@ -11,7 +11,7 @@ use Rattle.java_core.specs.Found.{IsNearest, at_class, above_class}
 use Rattle.java_core.specs.Typing.{IsTyped}
 use Rattle.java_core.specs.Formed.{IsFormed, IsInSlot}
 use Rattle.java_core.proofs.Subclasses.{nearest_of-nearest, nearest-nearest_of, parent-super}
-use Rattle.java_core.proofs.Positions.{passes-position}
+use Rattle.java_core.proofs.Positions.{passes-position, position-passes}
 use Rattle.java_core.proofs.Offered.{own_method-own, own-own_method}
 use Rattle.java_meaning.proofs.Layouts.{nearest_above}
 use Rattle.fact_model.specs.Items.{row_class, row_this, column_class}
@@ -28,7 +28,7 @@ use Rattle.flow_rules.specs.Facts.{numbers, this_of_row, owner_of, IsFactsOf}
 use Rattle.run_cover.specs.Untagged.{untagged}
 use Rattle.run_cover.proofs.Found.{same_length}
 use Rattle.run_cover.proofs.Bodies.{finds_some}
-use Rattle.flow_rules.proofs.Listed.{all_of, position_at}
+use Rattle.flow_rules.proofs.Listed.{all_of}
 use Rattle.facts_order.proofs.Pairs.{IsPlaced}
 use Rattle.facts_order.proofs.Columns.{numbered_column, body_column}
 use Rattle.facts_order.proofs.Classes.{subclass_below, parent_same}
@@ -92,7 +92,7 @@ module _ (P Q : Plain) (placed : IsPlaced P Q) (formed : IsFormed P) (typed : Is
 
   own_body_method : (c s e : ℕ) → own_body P c s ≡ Some e → (k : PlainMethod) × (slice_get P.methods e ≡ Some k) × (k.owner ≡ c) × (k.slot ≡ Some s)
   own_body_method c s e h =
-      let z = position_at (λ m. has_slot c s m && is_some m.body) P.methods e h in
+      let z = position-passes (λ m. has_slot c s m && is_some m.body) P.methods e h in
       let w = and_parts (z.0.owner == c) (is_slot z.0.slot s) (and_parts (has_slot c s z.0) (is_some z.0.body) z.2).0 in
       (z.0, z.1, eqb-true z.0.owner c w.0, slot_is z.0.slot s w.1)
 

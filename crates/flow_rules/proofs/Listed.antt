@@ -1,12 +1,12 @@
 -- What lists in the order of places, and of each item once, hold.
 use Rattle.std.proofs.Common.{◌≡◌, ℕ, zero, suc, ◌+◌, List, [], ◌∷◌, ◌++◌, Some, None, refl, sym, ap, ◌∙◌, subst, arith, inl, inr, ⊎_elim}
 use Rattle.std.specs.Prelude.{◌⊎◌, ◌<◌, if◌then◌else◌, nat_lt, length, Bool, true, false, Contains, map, slice_get, slice_index_or, position}
-use Rattle.std.specs.List.{All, list_any, flat_map, position_or_len}
+use Rattle.std.specs.List.{All, list_any, flat_map}
 use Rattle.std.proofs.lemmas.List.Folds.{list_any-append}
 use Rattle.std.proofs.lemmas.List.Elements.{Contains-append_left, Contains-append_right, Contains-append_cases}
 use Rattle.std.proofs.lemmas.Bool.{false≢true, or_left, or_right, or_cases}
-use Rattle.std.proofs.lemmas.Option.{same_Some, slice_get-get_or}
-use Rattle.std.proofs.lemmas.List.Quantifiers.{position-Some}
+use Rattle.std.proofs.lemmas.Option.{same_Some}
+use Rattle.java_core.proofs.Positions.{position-passes, passes-position}
 use Rattle.indexmap.specs.IndexSet.{insert_key}
 use Rattle.flow_rules.specs.Ordered.{put_in, by_place, once_after, once, each, when}
 
@@ -157,19 +157,6 @@ pub place_from : {A : Type 0} (at : A → ℕ) (xs : List A) (y : A) → Contain
 place_from at [] y c = c
 place_from at (x ∷ xs) y c = ⊎_elim (λ e. (0, omega arith, e)) (λ d. more y x xs (place_from at xs y d)) (put_from at x (by_place at xs) y c)
 
--- the first that passes
-pub position_at : {A : Type 0} (p : A → Bool) (xs : List A) (i : ℕ) → position p xs ≡ Some i → (x : A) × (slice_get xs i ≡ Some x) × (p x ≡ true)
-position_at p [] i e = absurd (cc)
-position_at p (x ∷ xs) i e = let z = position-Some p (x ∷ xs) i x e in (_, slice_get-get_or (x ∷ xs) i x z.0, z.1)
-
-if_true : {A : Type 0} (x y : A) (b : Bool) → b ≡ true → (if b then x else y) ≡ x
-if_true x y true e = refl
-if_true x y false e = absurd (false≢true e)
-
-pub either : (b : Bool) → (b ≡ true) ⊎ (b ≡ false)
-either true = inl refl
-either false = inr refl
-
 end_passes : {A : Type 0} (f : A → Bool) (xs : List A) (y : A) → f y ≡ true → list_any f (xs ++ y ∷ []) ≡ true
 end_passes f xs y e = list_any-append f xs (y ∷ []) ∙ or_right (list_any f xs) (list_any f (y ∷ [])) (or_left (f y) false e)
 
@@ -281,24 +268,14 @@ module _ {A K : Type 0} (eq : K → K → Bool) (exact : (x y : K) → eq x y �
   unfolding Kept
   once_has xs x c = ⊎_elim (λ h. absurd (false≢true h)) (λ h. h) (once_kept [] xs x c)
 
-found_before : {A : Type 0} (p : A → Bool) (xs : List A) (y : A) → Contains xs y → p y ≡ true → position_or_len p xs < length xs
-found_before p [] y c e = absurd (omega (arith, c.1))
-found_before p (x ∷ xs) y (zero, lt, d) e = let f = ap p d ∙ e in rw f (omega arith)
-found_before p (x ∷ xs) y (suc k, lt, d) e =
-    let r = found_before p xs y (k, omega (arith, lt), d) e in
-    ⊎_elim (λ t. rw t (omega arith)) (λ f. rw f (omega (arith, r))) (either (p x))
-
-if_before : (n l : ℕ) → n < l → (if nat_lt n l then Some n else None) ≡ Some n
-if_before n l h = if_true (Some n) None (nat_lt n l) (grind (arith, h))
-
 pub position_there : {A : Type 0} (p : A → Bool) (xs : List A) (y : A) → Contains xs y → p y ≡ true → (i : ℕ) × (position p xs ≡ Some i)
-position_there p xs y c e = (position_or_len p xs, if_before (position_or_len p xs) (length xs) (found_before p xs y c e))
+position_there p xs y c e = let z = at_contains xs y c in passes-position p xs z.0 y z.1 e
 
 -- the number of a key among those of a list of each once
 module _ {A K : Type 0} (eq : K → K → Bool) (exact : (x y : K) → eq x y ≡ true → x ≡ y) (alike : (x : K) → eq x x ≡ true) (key : A → K) (xs : List A) where
   pub number_at : (i : K) (n : ℕ) → position (eq i) (map key (once eq key xs)) ≡ Some n → (x : A) × (slice_get (once eq key xs) n ≡ Some x) × (key x ≡ i)
   number_at i n e =
-      let z = position_at (eq i) (map key (once eq key xs)) n e in
+      let z = position-passes (eq i) (map key (once eq key xs)) n e in
       let w = map_at key (once eq key xs) n z.0 z.1 in
       (w.0, w.1, w.2 ∙ sym (exact i z.0 z.2))
 

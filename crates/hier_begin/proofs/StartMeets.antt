@@ -1,17 +1,16 @@
 -- The start meets B2 to B8.
-use Rattle.std.proofs.Common.{◌≡◌, ◌≢◌, ℕ, ◌+◌, ◌^◌, ◌<◌, ◌&&◌, ◌||◌, eqb, Bool, true, false, List, length, map, Option, Some, None, refl, sym, ap, ◌∙◌, subst, arith, ⊎_elim}
+use Rattle.std.proofs.Common.{◌≡◌, ◌≢◌, ℕ, ◌^◌, ◌<◌, ◌&&◌, ◌||◌, eqb, true, false, List, length, map, Option, Some, None, refl, sym, ◌∙◌, arith, ⊎_elim}
 use Rattle.std.specs.Prelude.{not}
 use Rattle.std.specs.Str.{bytes_eq}
-use Rattle.std.proofs.lemmas.Bool.{false≢true, and_parts, or_cases, eq-eqb, eqb-true}
+use Rattle.std.proofs.lemmas.Bool.{false≢true, and_parts, or_cases, eq-eqb}
 use Rattle.std.proofs.lemmas.List.{length-map}
 use Rattle.std.proofs.lemmas.Slice.Eq.{bytes_eq-Decides}
 use Rattle.kaba_base.specs.Words.{is_name}
-use Rattle.kaba_bits.specs.Sets.{bit, row, or_else, first_below, when}
+use Rattle.kaba_bits.specs.Sets.{bit, row, or_else, first_below}
 use Rattle.kaba_bits.proofs.SetLemmas.{bit-below}
 use Rattle.kaba_bits.proofs.FirstLemmas.{first_below_clear}
 use Rattle.kaba_order.specs.Orders.{is_live}
 use Rattle.fact_model.specs.Items.{row_class, column_kind, column_class, column_slot}
-use Rattle.fact_model.specs.Classes.{IsBelow, below}
 use Rattle.fact_model.specs.Concepts.{Pair, pair_of}
 use Rattle.fact_model.specs.InOrder.{name_of}
 use Rattle.fact_model.specs.declared.facts.Facts.{Facts}
@@ -23,8 +22,8 @@ use Rattle.fact_model.specs.declared.sets.Lattice.{Lattice}
 use Rattle.fact_model.proofs.ClassLemmas.{below-exact}
 use Rattle.hier_model.specs.Hierarchies.{Hierarchy, stands_at, is_offered, type_name, member_name, any_below}
 use Rattle.hier_model.proofs.AnyLemmas.{any_below_some}
-use Rattle.hier_model.specs.Start.{is_filled, order_of, start_origin, origins_of, start_from}
-use Rattle.hier_model.specs.Names.{is_field, is_shared, member_names, type_names}
+use Rattle.hier_model.specs.Start.{is_filled, start_origin, origins_of, start_from}
+use Rattle.hier_model.specs.Names.{is_field, is_shared}
 use Rattle.hier_laws.specs.Shapes.{Given, Offers}
 use Rattle.hier_laws.specs.Starts.{IsClosed, AreInOrder, IsStart}
 use Rattle.hier_laws.proofs.Begins.{start_half, start_rest, offered_row, start_fields}
@@ -46,7 +45,7 @@ member_kind Dcl h e = cc e
 member_kind Def h e = cc e
 member_kind Is h e = false≢true h
 
-two_slots : (a b : Option ℕ) → are_two_slots a b ≡ true → (x : ℕ) × (y : ℕ) × (a ≡ Some x) × (b ≡ Some y) × (x ≢ y)
+pub two_slots : (a b : Option ℕ) → are_two_slots a b ≡ true → (x : ℕ) × (y : ℕ) × (a ≡ Some x) × (b ≡ Some y) × (x ≢ y)
 two_slots None b h = absurd (false≢true h)
 two_slots (Some x) None h = absurd (false≢true h)
 two_slots (Some x) (Some y) h = (x, y, refl, refl, λ e. refuted (eqb x y) h (eq-eqb x y e))

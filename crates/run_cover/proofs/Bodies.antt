@@ -3,7 +3,7 @@ use Rattle.std.proofs.Common.{◌≡◌, ℕ, zero, suc, List, [], ◌∷◌, Op
 use Rattle.std.specs.Prelude.{◌⊎◌, ◌<◌, ◌==◌, ◌&&◌, not, get_or, Bool, true, false, slice_get, Contains, map, position}
 use Rattle.std.specs.Option.{option_map_or, option_and_then, is_some}
 use Rattle.std.specs.List.{flat_map}
-use Rattle.std.proofs.lemmas.Bool.{false≢true, eqb-true, eq-eqb, and_from}
+use Rattle.std.proofs.lemmas.Bool.{false≢true, eqb-true, eq-eqb, and_from, and_parts}
 use Rattle.std.proofs.lemmas.Option.{same_Some, slice_get_within, get_or_from_slice_get, slice_get-get_or}
 use Rattle.std.proofs.lemmas.List.Elements.{Contains-append_right, Contains-append_left}
 use Rattle.std.proofs.lemmas.List.Quantifiers.{position-Some}
@@ -35,7 +35,6 @@ use Rattle.run_cover.proofs.HasRows.{method_of, of_method, in_slot, this_point_o
 use Rattle.java_core.specs.declared.TyBase.TheVariants.{Int}
 use Rattle.java_core.proofs.Positions.{position-map}
 use Rattle.run_cover.proofs.Found.{each_get, same_parent, same_length, body_listed, nearest_some}
-use Rattle.run_cover.proofs.Truths.{both_hold}
 
 slot_is : (o : Option ℕ) (x : ℕ) → is_slot o x ≡ true → o ≡ Some x
 slot_is None x e = absurd (false≢true e)
@@ -84,7 +83,7 @@ module _ (Q : Plain) (F : Facts) (formed : IsFormed (untagged Q)) (facts : IsFac
   item_own a x (column.Dcl f) e = absurd (false≢true e)
   item_own a x (column.Is f) e = absurd (false≢true e)
   item_own a x (column.Def m) e =
-      (m, refl, go (slice_get Q.methods m) refl (both_hold (owner_of Q (column.Def m) == a) (is_slot (slot_in Q (column.Def m)) x) e))
+      (m, refl, go (slice_get Q.methods m) refl (and_parts (owner_of Q (column.Def m) == a) (is_slot (slot_in Q (column.Def m)) x) e))
     where
       go : (z : Option PlainMethod) → slice_get Q.methods m ≡ z → ((owner_of Q (column.Def m) == a) ≡ true)
           × (is_slot (slot_in Q (column.Def m)) x ≡ true) → IsOwn a x m
@@ -120,8 +119,8 @@ module _ (Q : Plain) (F : Facts) (formed : IsFormed (untagged Q)) (facts : IsFac
       let p = position-Some (λ m. has_slot a x m && is_some m.body) P.methods m d e in
       let s = slice_get-get_or P.methods m d p.0 in
       let h = of_method Q formed m (get_or P.methods m d) s in
-      let t = both_hold (has_slot a x (get_or P.methods m d)) (is_some (get_or P.methods m d).body) p.1 in
-      let o = both_hold ((get_or P.methods m d).owner == a) (java.is_slot (get_or P.methods m d).slot x) t.0 in (
+      let t = and_parts (has_slot a x (get_or P.methods m d)) (is_some (get_or P.methods m d).body) p.1 in
+      let o = and_parts ((get_or P.methods m d).owner == a) (java.is_slot (get_or P.methods m d).slot x) t.0 in (
         record {
           method = h.0;
           there = h.1;

@@ -3,7 +3,7 @@ use Rattle.std.proofs.Common.{◌≡◌, ℕ, zero, suc, ◌+◌, List, [], ◌�
 use Rattle.std.specs.Prelude.{◌==◌, ◌&&◌, if◌then◌else◌, nat_eq, not, get_or, Bool, true, false, slice_get, Contains, map}
 use Rattle.std.specs.Option.{option_map, option_map_or, option_and_then, option_to_list}
 use Rattle.std.specs.List.{list_any, flat_map}
-use Rattle.std.proofs.lemmas.Bool.{eqb-true, eq-eqb, not-true, or_left, or_right, and_from}
+use Rattle.std.proofs.lemmas.Bool.{eqb-true, eq-eqb, not-true, or_left, or_right, and_from, and_parts}
 use Rattle.std.proofs.lemmas.Option.{same_Some, get_or_from_slice_get, slice_get-get_or}
 use Rattle.std.proofs.lemmas.List.Elements.{Contains-append_cases}
 use Rattle.std.proofs.lemmas.List.Quantifiers.{position-Some}
@@ -32,7 +32,6 @@ use Rattle.run_cover.proofs.Included.{get_map}
 use Rattle.flow_rules.proofs.Keys.{column_exact}
 use Rattle.run_cover.proofs.HasNumbers.{field_column}
 use Rattle.run_cover.proofs.HasRows.{of_field, field_row_of}
-use Rattle.run_cover.proofs.Truths.{both_hold}
 
 -- the fields of a class's objects are instance fields of a class at or above it
 record IsLaid (fs : List PlainField) (c f : ℕ) : Type 0 where
@@ -54,7 +53,7 @@ own_from c n (k ∷ fs) f h = ⊎_elim (λ d. here d) (λ d. past (own_from c (s
     here d = go ((k.owner == c) && not k.is_static) refl d
       where
         go : (b : Bool) → ((k.owner == c) && not k.is_static) ≡ b → Contains (if b then n ∷ [] else []) f → (i : ℕ) × (f ≡ n + i) × IsLaid (k ∷ fs) c i
-        go true e w = let t = both_hold (k.owner == c) (not k.is_static) e in
+        go true e w = let t = and_parts (k.owner == c) (not k.is_static) e in
             (0, omega (arith, single w), record { field = k; there = refl; instance = not-true k.is_static t.1; owner = eqb-true k.owner c t.0 })
         go false e w = absurd (omega (arith, w.1))
 

@@ -3,7 +3,7 @@ use Rattle.std.proofs.Common.{◌≡◌, ℕ, List, [], ◌∷◌, Option, Some,
 use Rattle.std.specs.Prelude.{◌==◌, Bool, true, false, slice_get, Contains}
 use Rattle.std.specs.Option.{option_and_then}
 use Rattle.std.specs.List.{flat_map, AllByRecursion}
-use Rattle.std.proofs.lemmas.Bool.{false≢true, eqb-true, eq-eqb}
+use Rattle.std.proofs.lemmas.Bool.{false≢true, eqb-true, eq-eqb, and_parts}
 use Rattle.std.proofs.lemmas.List.Quantifiers.{position-Some}
 use Rattle.java_meaning.proofs.Moves.{then_some}
 use Rattle.kaba_base.specs.declared.ColId.{ColId}
@@ -29,7 +29,6 @@ use Rattle.flow_rules.specs.Facts.{numbers, gathered, IsFactsOf}
 use Rattle.run_cover.specs.Covers.{Sets, has, is_site, is_column, is_cell, passes, cell_number, field_cell, element_cell, at_point, at_cell, or_itself}
 use Rattle.run_cover.proofs.Kinded.{site_type, IsPoint, HasPoint, IsCreation, IsBase}
 use Rattle.flow_rules.proofs.Listed.{one, flat_has, each_has}
-use Rattle.run_cover.proofs.Truths.{both_hold}
 
 -- the body of a method, with its parts
 abbrev pub body_of : Plain → ℕ → PlainMethod → Body
@@ -147,7 +146,7 @@ module _ (P Q : Plain) (F : Facts) (S : Sets) where
   cell_found : (s c : ℕ) (col : Option ℕ) → cell_number P Q F s col ≡ Some c → IsCell F c s (as_column col)
   cell_found s c col e =
       let p = position-Some (is_cell s col) F.cells.items c (record { site = record { 0 = 0 }; column = None; row = record { 0 = 0 } }) e in
-      let q = both_hold ((cell_at F c).site.0 == s) (is_column (cell_at F c).column col) p.1 in
+      let q = and_parts ((cell_at F c).site.0 == s) (is_column (cell_at F c).column col) p.1 in
       record { below = p.0; site_is = eqb-true (cell_at F c).site.0 s q.0; column_is = column_is (cell_at F c).column col q.1 }
 
   module _ (closed : (ps : List Fact) (f : Fact) → Inclusion F ps f → AllByRecursion (λ p. has S p ≡ true) ps → has S f ≡ true) (facts : IsFactsOf P Q F) where

@@ -4,7 +4,7 @@ use Rattle.std.specs.Prelude.{if◌then◌else◌, ◌==◌, Bool, true, false, 
 use Rattle.std.specs.Option.{option_map, option_and_then}
 use Rattle.std.specs.List.{AllByRecursion}
 use Rattle.std.proofs.lemmas.Option.{same_Some}
-use Rattle.std.proofs.lemmas.Bool.{false≢true, eqb-true}
+use Rattle.std.proofs.lemmas.Bool.{false≢true, eqb-true, and_parts}
 use Rattle.kaba_base.specs.declared.Place.{Place}
 use Rattle.java_core.specs.declared.Ty.{Ty}
 use Rattle.java_core.specs.declared.TyBase.{TyBase}
@@ -34,7 +34,6 @@ use Rattle.run_cover.proofs.SeenOperands.{at_seen, part_at}
 use Rattle.run_cover.proofs.Each.{here}
 use Rattle.run_cover.proofs.Flows.{when_object, value_sites, looks_in, field_sites, element_sites, is_at, IsUsed, HasTypes, used_at, creation_used, load_goes, element_goes, store_goes, element_store_goes}
 use Rattle.run_cover.proofs.Calls.{local_sites, result_sites}
-use Rattle.run_cover.proofs.Truths.{both_hold}
 
 pub passes_map : (X Y : ℕ → Bool) (z : Option ℕ) → ((s : ℕ) → X s ≡ true → Y s ≡ true) → passes X z ≡ true → passes Y z ≡ true
 passes_map X Y None f h = refl
@@ -269,7 +268,7 @@ module _ (P Q : Plain) (F : Facts) (S : Sets) where
 
     pub subtype_object : (a b : Ty) (t : ObjectType) → is_subtype P a b ≡ true → object_of a ≡ Some t → (u : ObjectType) × (object_of b ≡ Some u)
         × (below P t.class.0 u.class.0 ≡ true)
-    subtype_object a b t s o = let p = both_hold (a.dim == b.dim) (is_sub_base P a.base b.base) s in sub_object a.base b.base a.dim b.dim t
+    subtype_object a b t s o = let p = and_parts (a.dim == b.dim) (is_sub_base P a.base b.base) s in sub_object a.base b.base a.dim b.dim t
         (eqb-true a.dim b.dim p.0) p.1 o
 
     -- the array type over the type of its elements

@@ -1,4 +1,3 @@
-pub mod Truths
 pub mod Lists
 pub mod Held
 pub mod CoveredSteps

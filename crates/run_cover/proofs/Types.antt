@@ -2,7 +2,7 @@
 use Rattle.std.proofs.Common.{◌≡◌, ℕ, zero, suc, List, Option, Some, None, refl, sym, ap, ◌∙◌, subst, arith, ⊎_elim}
 use Rattle.std.specs.Prelude.{◌⊎◌, ◌<◌, ◌==◌, ◌&&◌, if◌then◌else◌, Bool, true, false, slice_get}
 use Rattle.std.specs.Option.{option_map, option_and_then, is_some}
-use Rattle.std.proofs.lemmas.Bool.{false≢true, or_cases}
+use Rattle.std.proofs.lemmas.Bool.{false≢true, or_cases, and_parts}
 use Rattle.std.proofs.lemmas.Option.{same_Some}
 use Rattle.java_meaning.proofs.Moves.{then_some}
 use Rattle.java_meaning.proofs.Calls.{mapped_some}
@@ -18,7 +18,6 @@ use Rattle.java_core.specs.Classes.{slot_of}
 use Rattle.java_core.specs.Types.{Static, a_value, null_value, no_value, or_nothing, class_in, class_of, element_in, element_of, is_base, is_only, is_string, is_sub_base, is_subtype, fits, StringMethod, LengthOf, CharAt, Equals, string_method, string_result, Signature, signature_of_slot, signature_of_string, object_signature, call_signature, unary_type, sum_type, binary_type}
 use Rattle.flow_rules.specs.declared.items.ObjectType.{ObjectType}
 use Rattle.flow_rules.specs.Operands.{object_in, object_of, object_if, object_static}
-use Rattle.run_cover.proofs.Truths.{both_hold}
 
 pub unary_none : (o : UnOp) → object_of (unary_type o) ≡ None
 unary_none un.Plus = refl
@@ -60,9 +59,9 @@ module _ (P : Plain) where
 
   pub fits_object : (s : Static) (u : Ty) (t : ObjectType) → fits P s u ≡ true → object_static s ≡ Some t → (r : ObjectType) × (object_of u ≡ Some r)
   fits_object (a_value a) u t e o = ⊎_elim
-      (λ h. base_object a.base u.base a.dim u.dim t (both_hold (a.dim == u.dim) (is_sub_base P a.base u.base) h).1 o)
-      (λ h. absurd (char_none a.base a.dim t (both_hold (is_base a.base Char) (a.dim == 0)
-      (both_hold (is_only Char (a_value a)) (is_only Int (a_value u)) h).0).0 o))
+      (λ h. base_object a.base u.base a.dim u.dim t (and_parts (a.dim == u.dim) (is_sub_base P a.base u.base) h).1 o)
+      (λ h. absurd (char_none a.base a.dim t (and_parts (is_base a.base Char) (a.dim == 0)
+      (and_parts (is_only Char (a_value a)) (is_only Int (a_value u)) h).0).0 o))
       (or_cases (is_subtype P a u) (is_only Char (a_value a) && is_only Int (a_value u)) e)
   fits_object null_value u t e o = absurd (cc)
   fits_object no_value u t e o = absurd (cc)

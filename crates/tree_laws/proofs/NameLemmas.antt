@@ -1,8 +1,8 @@
 -- The names of the nodes and members that are left meet what was asked of them.
-use Rattle.std.proofs.Common.{◌≡◌, ◌≢◌, ℕ, ◌<◌, ◌&&◌, ◌||◌, eqb, true, List, length, Option, Some, None, refl, sym, ap, ◌∙◌, subst, arith, ⊎_elim}
+use Rattle.std.proofs.Common.{◌≡◌, ◌≢◌, ℕ, ◌<◌, ◌&&◌, ◌||◌, eqb, true, List, length, Some, None, sym, ap, ◌∙◌, subst, arith, ⊎_elim}
 use Rattle.std.specs.Prelude.{not}
 use Rattle.std.specs.Str.{bytes_eq}
-use Rattle.std.proofs.lemmas.Bool.{false≢true, and_parts, and_from, or_cases, or_left, or_right, eq-eqb}
+use Rattle.std.proofs.lemmas.Bool.{false≢true, and_parts, and_from, or_cases, or_left, or_right}
 use Rattle.std.proofs.lemmas.Slice.Eq.{bytes_eq-Decides}
 use Rattle.kaba_base.specs.Words.{is_name}
 use Rattle.kaba_bits.specs.Sets.{or_else, first_below}
@@ -21,7 +21,8 @@ use Rattle.hier_rules.specs.Asked.{are_two_slots}
 use Rattle.hier_rules.specs.Instances.{of_node, of_column}
 use Rattle.hier_rules.specs.Names.{is_member, is_reserved, is_variable, is_named, unwritable_type, is_unwritable, unwritable, first_unwritable, is_other_type, is_taken_type, taken_type, first_taken_type, is_type, is_taken_name, taken_field, first_taken_field, clash, is_confused, confused, first_confused, first_misnamed}
 use Rattle.hier_begin.proofs.ShapeLemmas.{shape}
-use Rattle.hier_begin.proofs.MeetLemmas.{none_by, none_both, refuted, offered_says}
+use Rattle.hier_begin.proofs.MeetLemmas.{none_by, none_both, offered_says}
+use Rattle.hier_begin.proofs.StartMeets.{two_slots}
 use Rattle.tree_laws.specs.Kept.{field_at, slot_at}
 use Rattle.tree_laws.proofs.ReadLemmas.{none_when}
 
@@ -32,11 +33,6 @@ pub record AreNamesLeft (H New : Hierarchy) : Type 0 where
   pub types : New.types ≡ H.types
   pub members : New.members ≡ H.members
   pub stands : (n c : ℕ) → stands_at New n c ≡ true → (k : ℕ) × (k < length H.order.live) × (stands_at H k c ≡ true)
-
-two_slots : (a b : Option ℕ) → are_two_slots a b ≡ true → (x : ℕ) × (y : ℕ) × (a ≡ Some x) × (b ≡ Some y) × (x ≢ y)
-two_slots None b h = absurd (false≢true h)
-two_slots (Some x) None h = absurd (false≢true h)
-two_slots (Some x) (Some y) h = (x, y, refl, refl, λ e. refuted (eqb x y) h (eq-eqb x y e))
 
 module _ (F : Facts) (H New : Hierarchy) (L : AreNamesLeft H New) where
   abbrev C : ℕ

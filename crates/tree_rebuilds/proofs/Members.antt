@@ -24,7 +24,7 @@ option_from : {A B : Type 0} (g : A → B) (o : Option A) (x : B) → Contains (
 option_from g None x c = absurd (omega (arith, c.1))
 option_from g (Some k) x c = (k, refl, one_from (g k) x c)
 
-flat_option_from : {A B : Type 0} (g : A → List B) (o : Option A) (x : B) → Contains (option_map_or g o []) x → (k : A) × (o ≡ Some k) × Contains (g k) x
+pub flat_option_from : {A B : Type 0} (g : A → List B) (o : Option A) (x : B) → Contains (option_map_or g o []) x → (k : A) × (o ≡ Some k) × Contains (g k) x
 flat_option_from g None x c = absurd (omega (arith, c.1))
 flat_option_from g (Some k) x c = (k, refl, c)
 

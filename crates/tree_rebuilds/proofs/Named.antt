@@ -10,6 +10,7 @@ use Rattle.kaba_order.specs.Orders.{is_live}
 use Rattle.java_tree.specs.Syntax.{DeclTree}
 use Rattle.java_core.specs.Programs.{Plain, PlainClass, PlainField, PlainMethod}
 use Rattle.java_core.specs.Classes.{is_field_of, own_field_of}
+use Rattle.java_core.proofs.Positions.{position-passes}
 use Rattle.name_rules.specs.Outline.{name_of, is_text_type, types_in, class_outline, outline}
 use Rattle.name_rules.specs.Meanings.{type_names, class_named}
 use Rattle.name_rules.specs.Resolves.{heading_of}
@@ -19,7 +20,7 @@ use Rattle.fact_model.specs.declared.sets.PointsTo.{PointsTo}
 use Rattle.hier_model.specs.Hierarchies.{Hierarchy, place_of_row, type_name}
 use Rattle.flow_rules.specs.declared.items.RowItem.{RowItem}
 use Rattle.flow_rules.specs.Facts.{numbers, is_holder}
-use Rattle.flow_rules.proofs.Listed.{at_map, map_at, contains_at, position_at, position_there}
+use Rattle.flow_rules.proofs.Listed.{at_map, map_at, contains_at, position_there}
 use Rattle.rebuild_model.specs.Renaming.{renaming_of}
 use Rattle.rebuild_model.specs.Matches.{IsStaticField, IsStaticMethod}
 use Rattle.written_tree.specs.Names.{class_name}
@@ -31,7 +32,7 @@ use Rattle.tree_rebuilds.proofs.Retyped.{row_live}
 use Rattle.tree_rebuilds.proofs.Given.{Given, T}
 use Rattle.tree_rebuilds.proofs.Fields.{each_static_field}
 
-names_are : (types : List (List ℕ)) (ds : List DeclTree) → map (λ (k : PlainClass). k.name) (map (class_outline types) ds) ≡ map name_of ds
+pub names_are : (types : List (List ℕ)) (ds : List DeclTree) → map (λ (k : PlainClass). k.name) (map (class_outline types) ds) ≡ map name_of ds
 names_are types [] = refl
 names_are types (d ∷ ds) = ap (λ z. name_of d ∷ z) (names_are types ds)
 
@@ -86,7 +87,7 @@ module _ (P Q : Plain) (F : Facts) (pt : PointsTo) (H : Hierarchy) (V : Plain) (
       let passes : p h.0 ≡ true = and_from (h.0.owner == c) (bytes_eq h.0.name new.name) (eq-eqb h.0.owner c (ap (λ (y : PlainField). y.owner) h.2 ∙ ow))
       ((bytes_eq-Decides h.0.name new.name).1 (ap (λ (y : PlainField). y.name) h.2)) in
       let z = position_there p O.fields h.0 (contains_at O.fields g h.0 h.1) passes in
-      let w = position_at p O.fields z.0 z.1 in
+      let w = position-passes p O.fields z.0 z.1 in
       let q = and_parts (w.0.owner == c) (bytes_eq w.0.name new.name) w.2 in
       z.1 ∙ ap Some (G.new.field_names z.0 g (untag_field w.0) new (field_at z.0 w.0 w.1) e (eqb-true w.0.owner c q.0 ∙ sym ow)
       ((bytes_eq-Decides w.0.name new.name).0 q.1))

@@ -8,10 +8,11 @@ use Rattle.std.proofs.lemmas.Slice.Eq.{bytes_eq-Decides}
 use Rattle.java_tree.specs.Syntax.{MemberTree, DeclTree}
 use Rattle.java_core.specs.Programs.{Plain, PlainClass, PlainField, PlainMethod}
 use Rattle.java_core.specs.Formed.{IsFormed, HasNoTwice}
+use Rattle.java_core.proofs.Positions.{position-passes}
 use Rattle.name_rules.specs.Outline.{FieldAt, MethodAt, name_of, types_in, type_named, class_at, field_member, method_member, fields_of, methods_of, fields_declared, methods_declared, fields_from, methods_from, fields_in, methods_in, object, class_outline, field_outline, method_outline, outline}
 use Rattle.name_rules.specs.Resolves.{BodyResolves, BodiesResolve, r_no_methods, r_method, heading_of, Resolves}
 use Rattle.run_cover.specs.Untagged.{untag_class, untag_field, untag_method, untagged}
-use Rattle.flow_rules.proofs.Listed.{first, more, contains_at, at_contains, at_map, map_at, position_at, position_there}
+use Rattle.flow_rules.proofs.Listed.{first, more, contains_at, at_contains, at_map, map_at, position_there}
 
 -- ---- what declarations have
 
@@ -91,7 +92,7 @@ pub named_at : (types : List (List ℕ)) → HasNoTwice types → (i : ℕ) (x :
 unfolding HasNoTwice
 named_at types once i x e =
     let z = position_there (λ m. bytes_eq m x) types x (contains_at types i x e) ((bytes_eq-Decides x x).1 refl) in
-    let w = position_at (λ m. bytes_eq m x) types z.0 z.1 in
+    let w = position-passes (λ m. bytes_eq m x) types z.0 z.1 in
     let same : w.0 ≡ x = (bytes_eq-Decides w.0 x).0 w.2 in
     z.1 ∙ ap Some (once z.0 i x (w.1 ∙ ap Some same) e)
 

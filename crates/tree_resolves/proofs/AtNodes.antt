@@ -40,7 +40,7 @@ use Rattle.written_tree.specs.Names.{nowhere}
 use Rattle.written_tree.specs.Members.{is_declaration, filling, head, first_head, slot_head, field_member, body_member, bodyless, is_first_there, heads_of_slot, column_heads, own_member, column_members, filler, class_members, interface_heads}
 use Rattle.tree_rebuilds.proofs.Nodes.{items}
 use Rattle.tree_rebuilds.proofs.Methods.{slot_is}
-use Rattle.tree_rebuilds.proofs.Members.{IsHeadTree, first_head_from, in_class, as_filler}
+use Rattle.tree_rebuilds.proofs.Members.{IsHeadTree, first_head_from, in_class, as_filler, flat_option_from}
 use Rattle.tree_resolves.proofs.Origins.{R}
 use Rattle.tree_resolves.proofs.Modifiers.{Given}
 use Rattle.tree_resolves.proofs.Variables.{column_number, field_name_is}
@@ -51,10 +51,6 @@ use Rattle.tree_resolves.proofs.Declared.{SameMember, SameHead}
 pub option_once : {A B : Type 0} (agree : B → B → Type 0) (g : A → List B) (o : Option A) → ((k : A) → Once agree (g k)) → Once agree (option_map_or g o [])
 option_once agree g None h = tt
 option_once agree g (Some k) h = h k
-
-pub option_from : {A B : Type 0} (g : A → List B) (o : Option A) (x : B) → Contains (option_map_or g o []) x → (k : A) × (o ≡ Some k) × Contains (g k) x
-option_from g None x c = absurd (let l = c.1 in omega (arith, l))
-option_from g (Some k) x c = (k, refl, c)
 
 pub all_once : {A B : Type 0} (agree : B → B → Type 0) (f : ℕ → A → List B) (xs : List A)
     → ((i : ℕ) (x : A) → slice_get xs i ≡ Some x → Once agree (f i x))
@@ -117,7 +113,7 @@ module _ (P Q : Plain) (F : Facts) (pt : PointsTo) (H : Hierarchy) (G : Given P 
       go (Some s) p q x =
           let z = when_from (is_headed F H n s && is_first_there F H n c s) (slot_head P (R P Q F H) H mods s) h x in
           let w = and_parts (is_headed F H n s) (is_first_there F H n c s) z.0 in
-          let y = option_from (first_head P (R P Q F H) H mods) (slice_get P.slots s) h z.1 in
+          let y = flat_option_from (first_head P (R P Q F H) H mods) (slice_get P.slots s) h z.1 in
           let t : IsHeadTree P (R P Q F H) F H mods s h = first_head_from P (R P Q F H) F H mods s y.0 h y.1 y.2 in
           let info = index_at F.columns.items c (record { kind = kind.Is; class = record { 0 = 0 }; slot = None; name = []; label = [] }) k e in
           let kinded : column_kind F c ≡ kind.Dcl = ap (λ (i : ColumnInfo). i.kind) info ∙ declaration_kind k.kind q in
@@ -180,12 +176,12 @@ module _ (P Q : Plain) (F : Facts) (pt : PointsTo) (H : Hierarchy) (G : Given P 
   own_in : (n c : ℕ) (o : Option ColumnItem) (x : MemberTree) → is_live H.order n ≡ true → slice_get (items P Q F H) c ≡ o → stands_at H n c ≡ true
       → Contains (own_member P (R P Q F H) F H o) x → OwnAt n c x
   own_in n c (Some (column.Fld f)) x live e at d =
-      let z = option_from (λ k. field_member P (R P Q F H) H f k ∷ []) (slice_get P.fields f) x d in
+      let z = flat_option_from (λ k. field_member P (R P Q F H) H f k ∷ []) (slice_get P.fields f) x d in
       let number = column_number P Q F pt H G c (column.Fld f) e in
       subst (OwnAt n c) (one_from _ x z.2)
       (field_at f z.0 (columns.kind (column.Fld f) c number) at (field_name_is P Q F pt H G c f number))
   own_in n c (Some (column.Def m)) x live e at d =
-      let z = option_from (λ k. body_member P (R P Q F H) H m k ∷ []) (slice_get P.methods m) x d in
+      let z = flat_option_from (λ k. body_member P (R P Q F H) H m k ∷ []) (slice_get P.methods m) x d in
       let number = column_number P Q F pt H G c (column.Def m) e in
       let slot = columns.slotted (column.Def m) c number refl in
       subst (OwnAt n c) (one_from _ x z.2)
@@ -345,7 +341,7 @@ module _ (P Q : Plain) (F : Facts) (pt : PointsTo) (H : Hierarchy) (G : Given P 
       let z = when_from (is_filled F H n s)
       (map (λ h. MethodTree h (Some (filling sig.result)) nowhere) (first_head P (R P Q F H) H (as_filler P (R P Q F H) F H) sig)) x d in
       let y = map_from (λ h. MethodTree h (Some (filling sig.result)) nowhere) (first_head P (R P Q F H) H (as_filler P (R P Q F H) F H) sig) x z.1 in
-      let o = option_from (λ k. head P (R P Q F H) H (as_filler P (R P Q F H) F H) ((R P Q F H).method_name sig.first) sig.first k ∷ [])
+      let o = flat_option_from (λ k. head P (R P Q F H) H (as_filler P (R P Q F H) F H) ((R P Q F H).method_name sig.first) sig.first k ∷ [])
       (slice_get P.methods sig.first) y.0 y.1 in
       record {
         filled = z.0;

@@ -13,6 +13,7 @@ use Rattle.java_core.specs.Classes.{field_of, own_field_of, is_field_of, supers_
 use Rattle.java_core.specs.Formed.{variables_of}
 use Rattle.java_core.proofs.Subclasses.{nearest_of-nearest, nearest-here}
 use Rattle.java_core.specs.Found.{IsNearest, at_class, above_class}
+use Rattle.java_core.proofs.Positions.{position-passes}
 use Rattle.kaba_base.specs.declared.ClassId.{ClassId}
 use Rattle.kaba_order.specs.Orders.{is_live}
 use Rattle.name_rules.specs.declared.parts.Kind.TheVariants as kinds
@@ -21,7 +22,7 @@ use Rattle.fact_model.specs.declared.sets.PointsTo.{PointsTo}
 use Rattle.hier_model.specs.Hierarchies.{Hierarchy, is_class_node}
 use Rattle.flow_rules.specs.declared.items.RowItem.TheVariants as row
 use Rattle.flow_rules.specs.Facts.{is_holder}
-use Rattle.flow_rules.proofs.Listed.{first, at_contains, contains_at, at_map, map_at, map_has, when_has, position_at, position_there, one_from}
+use Rattle.flow_rules.proofs.Listed.{first, at_contains, contains_at, at_map, map_at, map_has, when_has, position_there, one_from}
 use Rattle.name_rules.specs.declared.parts.Here.{Here}
 use Rattle.name_rules.specs.Outline.{FieldAt, MethodAt, name_of, fields_in, methods_in, types_in, type_named, is_known, is_type_name, is_static, outline, field_outline, method_outline, fields_declared, methods_declared}
 use Rattle.name_rules.specs.Meanings.{class_named, IsMet}
@@ -107,7 +108,7 @@ module _ (P Q : Plain) (F : Facts) (pt : PointsTo) (H : Hierarchy) (G : Given P 
       go None e = e
       go (Some f) e =
           let n = found_in O (λ k. own_field_of O k x) c f (nearest_of-nearest O (λ k. own_field_of O k x) e) in
-          let p = position_at (λ g. is_field_of n.0 x g) O.fields f n.1 in
+          let p = position-passes (λ g. is_field_of n.0 x g) O.fields f n.1 in
           let y = field_at f p.0 p.1 in
           let name = (bytes_eq-Decides p.0.name x).0 (and_parts (p.0.owner == n.0) (bytes_eq p.0.name x) p.2).1 in
           absurd (false≢true (sym (field_free P Q F pt H G y.0 y.1) ∙ ap (is_type_name types) (ap (λ (z : PlainField). z.name) y.2 ∙ name) ∙ h))
@@ -190,7 +191,7 @@ module _ (P Q : Plain) (F : Facts) (pt : PointsTo) (H : Hierarchy) (G : Given P 
       let test = and_from (suc h.index == suc h.index) (bytes_eq old.name old.name) (eq-eqb (suc h.index) (suc h.index) refl)
       ((bytes_eq-Decides old.name old.name).1 refl) in
       let g = position_there (λ k. is_field_of (suc h.index) old.name k) O.fields (field_outline types x) c test in
-      let p = position_at (λ k. is_field_of (suc h.index) old.name k) O.fields g.0 g.1 in
+      let p = position-passes (λ k. is_field_of (suc h.index) old.name k) O.fields g.0 g.1 in
       let owner = eqb-true p.0.owner (suc h.index) (and_parts (p.0.owner == suc h.index) (bytes_eq p.0.name old.name) p.2).0 in
       let w = field_at g.0 p.0 p.1 in (
         g.0,

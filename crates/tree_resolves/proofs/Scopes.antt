@@ -1,5 +1,5 @@
 -- The names in scope of a written body are those of the variables in scope of the old one.
-use Rattle.std.proofs.Common.{◌≡◌, ◌≢◌, ℕ, zero, suc, ◌<◌, Bool, true, false, List, [], ◌∷◌, ◌++◌, length, get_or, Some, Contains, refl, sym, ap, ◌∙◌, subst, arith, inl, inr, ⊎_elim}
+use Rattle.std.proofs.Common.{◌≡◌, ◌≢◌, ℕ, suc, Bool, true, false, List, [], ◌∷◌, ◌++◌, Some, Contains, refl, sym, ap, ◌∙◌, subst, arith, ⊎_elim}
 use Rattle.std.specs.Prelude.{◌⊎◌, ◌||◌, map, slice_get}
 use Rattle.std.specs.List.{list_any}
 use Rattle.std.specs.Str.{bytes_eq}
@@ -10,6 +10,7 @@ use Rattle.std.proofs.lemmas.List.Elements.{Contains-append_left, Contains-appen
 use Rattle.std.proofs.lemmas.Slice.Eq.{bytes_eq-Decides}
 use Rattle.java_core.specs.Programs.{PlainLocal, PlainMethod}
 use Rattle.java_core.specs.Formed.{variables_of}
+use Rattle.java_core.proofs.Upwards.{contains_cases}
 use Rattle.name_rules.specs.Meanings.{is_bound}
 use Rattle.written_tree.specs.Bodies.{variable_name, is_named, is_in_scope}
 
@@ -21,13 +22,6 @@ contains_more xs i j h = (suc h.0, (let l = h.1 in omega (arith, l)), h.2)
 contains_first : (xs : List ℕ) (i : ℕ) → Contains (i ∷ xs) i
 contains_first xs i = (0, omega arith, refl)
 
-contains_cases : (xs : List ℕ) (i j : ℕ) → Contains (i ∷ xs) j → (i ≡ j) ⊎ Contains xs j
-contains_cases xs i j h = go h.0 h.1 h.2
-  where
-    go : (a : ℕ) → a < length (i ∷ xs) → get_or (i ∷ xs) a j ≡ j → (i ≡ j) ⊎ Contains xs j
-    go zero l e = inl e
-    go (suc a) l e = inr (a, (let m = l in omega (arith, m)), e)
-
 contains_none : (j : ℕ) → Contains [] j → ⊥
 contains_none j h = let l = h.1 in omega (arith, l)
 
@@ -36,7 +30,7 @@ any_number : (p : ℕ → Bool) (xs : List ℕ) (i : ℕ) → Contains xs i → 
 any_number p [] i h e = absurd (contains_none i h)
 any_number p (x ∷ xs) i h e =
     ⊎_elim (λ same. or_left (p x) (list_any p xs) (ap p same ∙ e)) (λ more. or_right (p x) (list_any p xs) (any_number p xs i more e))
-    (contains_cases xs x i h)
+    (contains_cases x xs i h)
 
 some_number : (p : ℕ → Bool) (xs : List ℕ) → list_any p xs ≡ true → (i : ℕ) × Contains xs i × (p i ≡ true)
 some_number p [] h = absurd (false≢true h)
@@ -97,15 +91,15 @@ module _ (k : PlainMethod) where
           ∙ sym (map-append (variable_name k) scope (i ∷ []));
       there = λ j h. ⊎_elim
           (λ a. s.there j a)
-          (λ b. ⊎_elim (λ same. (v, subst (λ z. slice_get (variables_of k) z ≡ Some v) same e)) (λ x. absurd (contains_none j x)) (contains_cases [] i j b))
+          (λ b. ⊎_elim (λ same. (v, subst (λ z. slice_get (variables_of k) z ≡ Some v) same e)) (λ x. absurd (contains_none j x)) (contains_cases i [] j b))
           (Contains-append_cases scope (i ∷ []) j h);
       into = λ j h. ⊎_elim
           (λ same. Contains-append_right scope (i ∷ []) j (subst (λ z. Contains (i ∷ []) z) same (contains_first [] i)))
           (λ a. Contains-append_left scope (i ∷ []) j (s.into j a))
-          (contains_cases formed i j h);
+          (contains_cases i formed j h);
       back = λ j h. ⊎_elim
           (λ a. contains_more formed i j (s.back j a))
           (λ b. ⊎_elim (λ same. subst (λ z. Contains (i ∷ formed) z) same (contains_first formed i)) (λ x. absurd (contains_none j x))
-          (contains_cases [] i j b))
+          (contains_cases i [] j b))
           (Contains-append_cases scope (i ∷ []) j h);
     }

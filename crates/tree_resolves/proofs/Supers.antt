@@ -28,14 +28,11 @@ use Rattle.tree_rebuilds.proofs.Chains.{class_down}
 use Rattle.tree_rebuilds.proofs.Order.{cover_from, superclass_from, among_from}
 use Rattle.tree_rebuilds.proofs.Outlined.{named_at}
 use Rattle.tree_rebuilds.proofs.Nodes.{items, tree, node_tree, old_tree, node_at, holder_at, tree_name, Declares, a_node, a_holder, declares}
+use Rattle.tree_rebuilds.proofs.Named.{names_are}
 use Rattle.tree_resolves.proofs.Modifiers.{Given}
 use Rattle.tree_resolves.proofs.Origins.{R}
 use Rattle.tree_resolves.proofs.Once.{Once, once_at, map_once, filter_once, range_once}
 use Rattle.tree_resolves.proofs.Types.{type_once, type_is_new}
-
-outline_names : (types : List (List ℕ)) (ds : List DeclTree) → map (λ (k : PlainClass). k.name) (map (class_outline types) ds) ≡ map name_of ds
-outline_names types [] = refl
-outline_names types (d ∷ ds) = ap (λ z. name_of d ∷ z) (outline_names types ds)
 
 -- what agrees only where it is the same agrees never in a list without repetition
 once_within : {A : Type 0} (agree same : A → A → Type 0) (xs : List A) → ((x y : A) → Contains xs x → Contains xs y → agree x y → same x y) → Once same xs
@@ -64,7 +61,7 @@ module _ (P Q : Plain) (F : Facts) (pt : PointsTo) (H : Hierarchy) (G : Given P 
 
   pub types_are : type_names O ≡ types
   unfolding outline
-  types_are = ap (λ z. codes "Object" ∷ z) (outline_names types T)
+  types_are = ap (λ z. codes "Object" ∷ z) (names_are types T)
 
   no_first : (j : ℕ) (x : List ℕ) → x ≡ codes "Object" → slice_get (map name_of T) j ≡ Some x → ⊥
   no_first j x e h = let z = map_at name_of T j x h in type_is_new P Q F pt H G z.0 (contains_at T j z.0 z.1) (inl (z.2 ∙ e))

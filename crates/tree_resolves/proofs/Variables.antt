@@ -18,6 +18,7 @@ use Rattle.java_tree.specs.declared.Param.{Param}
 use Rattle.java_tree.specs.Syntax.{HeadTree, DeclTree}
 use Rattle.java_core.specs.Programs.{Plain, PlainClass, PlainField, PlainLocal, PlainMethod}
 use Rattle.java_core.specs.Formed.{HasNoTwice, IsVariableName, variables_of}
+use Rattle.java_core.proofs.Positions.{position-passes}
 use Rattle.fact_model.specs.Items.{column_kind}
 use Rattle.fact_model.specs.declared.facts.Facts.{Facts}
 use Rattle.fact_model.specs.declared.sets.PointsTo.{PointsTo}
@@ -34,7 +35,7 @@ use Rattle.flow_rules.specs.declared.items.ColumnItem.TheVariants as column
 use Rattle.flow_rules.specs.Numbered.{columns_of}
 use Rattle.flow_rules.specs.Facts.{numbers, is_holder, all_variables, variable_names}
 use Rattle.flow_rules.specs.Ordered.{each}
-use Rattle.flow_rules.proofs.Listed.{at_contains, contains_at, at_map, map_at, map_has, flat_has, position_at}
+use Rattle.flow_rules.proofs.Listed.{at_contains, contains_at, at_map, map_at, map_has, flat_has}
 use Rattle.facts_order.proofs.Items.{column_back}
 use Rattle.facts_order.proofs.Classes.{class_at, class_there}
 use Rattle.name_rules.specs.Outline.{FieldAt, MethodAt, fields_in, methods_in, name_of, types_in, type_named, is_known, is_type_name}
@@ -75,7 +76,7 @@ module _ (P Q : Plain) (F : Facts) (pt : PointsTo) (H : Hierarchy) (G : Given P 
 
       go : (o : Option ℕ) → type_named types x ≡ o → (is_some (type_named types x) || is_known x) ≡ false
       go None e = ap (λ z. is_some z || is_known x) e ∙ known
-      go (Some i) e = let z = position_at (λ m. bytes_eq m x) types i e in absurd (at i z.0 z.1 ((bytes_eq-Decides z.0 x).0 z.2))
+      go (Some i) e = let z = position-passes (λ m. bytes_eq m x) types i e in absurd (at i z.0 z.1 ((bytes_eq-Decides z.0 x).0 z.2))
 
   unequal : (a x : List ℕ) → x ≢ a → bytes_eq a x ≡ false
   unequal a x h = ⊎_elim (λ e. absurd (h (sym ((bytes_eq-Decides a x).0 e)))) (λ f. f) (cases_Bool (bytes_eq a x))
