@@ -11,7 +11,7 @@ use Rattle.java_core.specs.Formed.{IsFormed}
 use Rattle.java_core.proofs.Subclasses.{nearest_of-nearest}
 use Rattle.java_core.proofs.Offered.{declaration-above, own_method-own}
 use Rattle.java_core.proofs.Positions.{position-passes}
-use Rattle.java_meaning.proofs.Layouts.{nearest_above}
+use Rattle.java_core.proofs.Upwards.{chain-above}
 use Rattle.flow_rules.specs.declared.items.ObjectType.{ObjectType}
 use Rattle.flow_rules.specs.declared.items.ColumnItem.TheVariants as column
 use Rattle.flow_rules.specs.Operands.{class_at, object_field, call_declaration}
@@ -35,13 +35,13 @@ module _ (P Q : Plain) (placed : IsPlaced P Q) (formed : IsFormed P) where
   pub field_above : (c f : ℕ) (x : List ℕ) → field_of P c x ≡ Some f → IsSubclass P c (owner_of Q (column.Fld f))
   unfolding field_of
   field_above c f x e =
-      let n = nearest_above P (λ k. own_field_of P k x) (nearest_of-nearest P (λ k. own_field_of P k x) e) in
-      let z = position-passes (λ f. is_field_of n.0 x f) P.fields f n.2 in
+      let n = chain-above P (λ k. own_field_of P k x) (nearest_of-nearest P (λ k. own_field_of P k x) e) in
+      let z = position-passes (λ f. is_field_of n.holder x f) P.fields f n.found in
       let q = placed.placed_field f z.0 z.1 in
       let w = placed.fields f q.0 q.1 in
-      let o = eqb-true z.0.owner n.0 (and_left (z.0.owner == n.0) (bytes_eq z.0.name x) z.2) in
+      let o = eqb-true z.0.owner n.holder (and_left (z.0.owner == n.holder) (bytes_eq z.0.name x) z.2) in
       subst (λ y. IsSubclass P c y) (sym o ∙ ap (λ k. k.owner) (same_Some _ _ (sym z.1 ∙ w.stands)) ∙ w.owner
-      ∙ sym (ap (λ y. option_map_or (λ k. k.owner) y 0) q.1)) n.1
+      ∙ sym (ap (λ y. option_map_or (λ k. k.owner) y 0) q.1)) n.above
 
   instance_found : (o : Option ℕ) (f : ℕ) → when_instance P o ≡ Some f → o ≡ Some f
   instance_found None f e = absurd (cc)

@@ -13,7 +13,7 @@ use Rattle.java_core.specs.Formed.{IsFormed, IsInSlot}
 use Rattle.java_core.proofs.Subclasses.{nearest_of-nearest, nearest-nearest_of, parent-super}
 use Rattle.java_core.proofs.Positions.{passes-position, position-passes}
 use Rattle.java_core.proofs.Offered.{own_method-own, own-own_method}
-use Rattle.java_meaning.proofs.Layouts.{nearest_above}
+use Rattle.java_core.proofs.Upwards.{chain-above}
 use Rattle.fact_model.specs.Items.{row_class, row_this, column_class}
 use Rattle.fact_model.specs.Classes.{IsBelow, finds, finds_within}
 use Rattle.fact_model.specs.InOrder.{IsDef, IsNearestAbove}
@@ -66,9 +66,9 @@ module _ (P Q : Plain) (placed : IsPlaced P Q) (formed : IsFormed P) (typed : Is
 
   method_held : (c d : ℕ) (x : List ℕ) → nearest_of P (λ k. own_method P k x) c ≡ Some d → IsHeld c d x
   method_held c d x e =
-      let n = nearest_above P (λ k. own_method P k x) (nearest_of-nearest P (λ k. own_method P k x) e) in
-      let z = own_method-own P n.0 x d n.2 in
-      record { method = z.method; stands = z.stands; above = subst (λ y. IsSubclass P c y) (sym z.owner) n.1; instance = z.instance; name = z.name }
+      let n = chain-above P (λ k. own_method P k x) (nearest_of-nearest P (λ k. own_method P k x) e) in
+      let z = own_method-own P n.holder x d n.found in
+      record { method = z.method; stands = z.stands; above = subst (λ y. IsSubclass P c y) (sym z.owner) n.above; instance = z.instance; name = z.name }
 
   owner_as : (d : ℕ) (h : PlainMethod) → slice_get P.methods d ≡ Some h → owner_of Q (column.Def d) ≡ h.owner
   owner_as d h e =

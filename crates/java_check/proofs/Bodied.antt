@@ -7,7 +7,7 @@ use Rattle.java_core.specs.Classes.{IsSubclass, below, is_slot, has_slot, own_de
 use Rattle.java_core.specs.Formed.{IsFormed}
 use Rattle.java_core.specs.Typing.{is_public_method}
 use Rattle.java_core.proofs.Subclasses.{below-subclass, subclass-below, nearest_of-nearest}
-use Rattle.java_core.proofs.Upwards.{IsAbove, chain-above, along, chain-there}
+use Rattle.java_core.proofs.Upwards.{IsAbove, IsMemberClass, chain-above, along, chain-there}
 use Rattle.java_core.proofs.Positions.{position-passes, passes-position}
 use Rattle.java_check.specs.ClassOutcome.{first_rule, below_rule, slot_rule, method_rule, class_rule, is_quiet, is_kept, all_quiet}
 use Rattle.java_check.specs.declared.Kind.{Kind}
@@ -114,8 +114,9 @@ module _ (P : Plain) (formed : IsFormed P) where
                 let passes : has_slot k.owner s k ≡ true = rw (eq-eqb k.owner k.owner refl, e, eq-eqb s s refl) refl in
                 let there = passes-position (λ m. has_slot k.owner s m) P.methods m k at passes in
                 let f = formed.methods m k at in
-                let interface = class f.holder.is_interface refl in
-                let member = record { class = f.holder; stands = f.stands; no_interface = sym (rw f.stands refl) ∙ interface; no_object = f.no_object } in
+                let shown : is_interface P k.owner ≡ f.holder.is_interface = rw f.stands refl in
+                let plain = sym shown ∙ class f.holder.is_interface refl in
+                let member : IsMemberClass P k.owner = record { class = f.holder; stands = f.stands; no_interface = plain; no_object = f.no_object } in
                 let near = chain-there P formed own (along P formed member (below-subclass P c k.owner h)) there.1 in
                 rw near.1 (concrete_bodied s near.0 near.1 (chain-above P own (nearest_of-nearest P own near.1)))
 

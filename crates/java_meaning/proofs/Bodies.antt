@@ -15,6 +15,7 @@ use Rattle.java_core.specs.Found.{IsNearest, at_class, above_class}
 use Rattle.java_core.specs.Formed.{IsFormed}
 use Rattle.java_core.proofs.Subclasses.{subclass-then, below-subclass, subclass-below, parent-super, nearest_of-nearest, nearest-nearest_of}
 use Rattle.java_core.proofs.Positions.{position-passes, passes-position}
+use Rattle.java_core.proofs.Upwards.{chain-above}
 use Rattle.java_core.proofs.Offered.{own_method-own, slot_of-offered}
 use Rattle.java_meaning.specs.Moment.{Nothing}
 use Rattle.java_meaning.specs.Values.{default_of}
@@ -24,7 +25,6 @@ use Rattle.java_meaning.proofs.Holds.{some_there}
 use Rattle.java_meaning.proofs.Moves.{then_some}
 use Rattle.java_meaning.proofs.Calls.{mapped_some}
 use Rattle.java_meaning.proofs.FormedBodies.{stands_sts}
-use Rattle.java_meaning.proofs.Layouts.{nearest_above}
 
 abbrev signature_at : List Ty → Option Ty → Signature
 signature_at ps r = record { params = ps; result = r }
@@ -89,10 +89,10 @@ module _ (P : Plain) (formed : IsFormed P) (typed : IsTyped P) where
   unfolding super_method
   super_above c m x k e at =
       let p = then_some (λ p. nearest_of P (λ z. own_method P z x) p.0) (parent_of P c) m e in
-      let n = nearest_above P (λ z. own_method P z x) (nearest_of-nearest P (λ z. own_method P z x) p.2) in
-      let o = own_method-own P n.0 x m n.2 in
+      let n = chain-above P (λ z. own_method P z x) (nearest_of-nearest P (λ z. own_method P z x) p.2) in
+      let o = own_method-own P n.holder x m n.found in
       let same : o.method ≡ k = same_Some _ _ (sym o.stands ∙ at) in
-      subst (λ z. IsSubclass P c z) (sym o.owner ∙ ap (λ (z : PlainMethod). z.owner) same) (through (parent-super P c p.0 p.1) n.1)
+      subst (λ z. IsSubclass P c z) (sym o.owner ∙ ap (λ (z : PlainMethod). z.owner) same) (through (parent-super P c p.0 p.1) n.above)
 
   pub super_bodies : (c m : ℕ) (x : List ℕ) (sig : Signature) → super_method P c x ≡ Some m → has_body P m ≡ true → signature_of_method P m ≡ Some sig
       → HasBody P (option_and_then (body_of P) (super_method P c x)) c sig
@@ -154,10 +154,10 @@ module _ (P : Plain) (formed : IsFormed P) (typed : IsTyped P) where
             (subclass-then P (below-subclass P c d bel) o.above);
       }) in
       let near = nearest_body j (nearest_of-nearest P (λ z. own_declaration P z j) declared.1) declared.2 in
-      let up = nearest_above P (λ z. own_body P z j) near.1 in
-      let p = position-passes (λ m. has_slot up.0 j m && is_some m.body) P.methods near.0 up.2 in
-      let parts = and_parts (has_slot up.0 j p.0) (is_some p.0.body) p.2 in
-      let outer = and_parts (eqb p.0.owner up.0) (is_slot p.0.slot j) parts.0 in
+      let up = chain-above P (λ z. own_body P z j) near.1 in
+      let p = position-passes (λ m. has_slot up.holder j m && is_some m.body) P.methods near.0 up.found in
+      let parts = and_parts (has_slot up.holder j p.0) (is_some p.0.body) p.2 in
+      let outer = and_parts (eqb p.0.owner up.holder) (is_slot p.0.slot j) parts.0 in
       let xs = some_there p.0.body parts.1 in
       has_body_of (lookup P c j) c near.0 p.0 xs.0 sig (nearest-nearest_of P (λ z. own_body P z j) formed.acyclic near.1) p.1 xs.1
-      (slot_signature near.0 j p.0 sig p.1 (slot_some p.0.slot j outer.1) s) (subst (λ z. IsSubclass P c z) (sym (eqb-true p.0.owner up.0 outer.0)) up.1)
+      (slot_signature near.0 j p.0 sig p.1 (slot_some p.0.slot j outer.1) s) (subst (λ z. IsSubclass P c z) (sym (eqb-true p.0.owner up.holder outer.0)) up.above)

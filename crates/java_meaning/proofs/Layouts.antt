@@ -13,7 +13,7 @@ use Rattle.java_core.specs.Types.{field_type}
 use Rattle.java_core.specs.Formed.{IsFormed}
 use Rattle.java_core.proofs.Subclasses.{subclass-then, below-subclass, parent-super, nearest_of-nearest, ArePassed, passed_more, none_passed, one_left}
 use Rattle.java_core.proofs.Positions.{position-passes, passes-position}
-use Rattle.java_core.proofs.Upwards.{IsOnChain, chain_here, chain_up, chain-above, along}
+use Rattle.java_core.proofs.Upwards.{IsOnChain, IsMemberClass, chain_here, chain_up, chain-above, along}
 use Rattle.java_meaning.specs.Moment.{Nothing}
 use Rattle.java_meaning.specs.Values.{default_of}
 use Rattle.java_meaning.specs.Languages.{own_fields_from, own_fields, layout_in, layout, default_at, index_of, fresh_of}
@@ -137,7 +137,7 @@ module _ (P : Plain) where
         let own = formed.fields f k.0 k.1 in
         let static : k.0.is_static ≡ false = sym (ap (λ z. option_map_or (λ y. y.is_static) z false) k.1) ∙ i.1 in
         let up = subclass-then P (below-subclass P c d bel) n.above in
-        let member = record {
+        let member : IsMemberClass P n.holder = record {
           class = own.holder;
           stands = subst (λ z. slice_get P.classes z ≡ Some own.holder) owner own.stands;
           no_interface = own.class;
