@@ -201,7 +201,6 @@ module _ (P Q : Plain) (placed : IsPlaced P Q) (F : Facts) (facts : IsFactsOf P 
         bodied : {A : Type 0} (o : Option A) → is_some o ≡ true → o ≡ None → ⊥
         bodied None p q = false≢true p
         bodied (Some x) p q = cc
-
     holder_class _ (for_declaration m k e s) h = ⊎_elim (λ d. absurd (cc)) (λ d. absurd (cc)) h
     holder_class _ (for_mark c) h = ⊎_elim (λ d. absurd (cc)) (λ d. absurd (cc)) h
 

@@ -61,7 +61,7 @@ not_taken taken name x h c e =
 
 pub taken_left : (xs ys : List (List ℕ)) (name : List ℕ) → is_taken (xs ++ ys) name ≡ false → (is_taken xs name ≡ false) × (is_taken ys name ≡ false)
 taken_left xs ys name h = or_parts (is_taken xs name) (is_taken ys name) (sym (list_any-append (bytes_eq name) xs ys) ∙ h)
-  where
+
 -- whether a name has an underscore
 abbrev pub has_mark : List ℕ → Bool
 has_mark cs = list_any (eqb 95) cs

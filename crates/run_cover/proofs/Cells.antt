@@ -164,7 +164,7 @@ module _ (Q : Plain) (F : Facts) (formed : IsFormed (untagged Q)) (facts : IsFac
       x.site.row) y) (sym ty) in_object in
       let q = cell_there s x.site (Some col.0) y x.there in_site (and_from (s == s) (col.0 == col.0) (eq-eqb s s refl) (eq-eqb col.0 col.0 refl)) in
       (q.0, ap (λ z. option_and_then (λ c. cell_number P Q F s (Some c)) z) col.1 ∙ q.1)
-    where
+
   pub element_has_cell : (n s c d : ℕ) → (numbers P Q).site n ≡ Some s → site_type F s ≡ record { class = record { 0 = c }; dim = d } → (d ≡ 0 → ⊥)
       → (q : ℕ) × (element_cell P Q F s ≡ Some q)
   unfolding numbers

@@ -33,7 +33,7 @@ module _ (P : Plain) (R : Renaming) (H : Hierarchy) (m : ℕ) (k : PlainMethod) 
       let a = and_parts k.is_static ((k.owner == owner) && not (is_in_scope k scope x)) h in
       let b = and_parts (k.owner == owner) (not (is_in_scope k scope x)) a.1 in
       (a.0, eqb-true k.owner owner b.0, not-true (is_in_scope k scope x) b.1)
-    where
+
   module _ {formed scope : List ℕ} {names : List (List ℕ)} (s : IsScope k formed scope names) where
     holder_name : (c : ℕ) (h : HasHolder P k O here c) → is_class_name O here.owner names (NameRef (class_name P c) nowhere) ≡ true
     holder_name c h =
