@@ -9,7 +9,7 @@ use Rattle.java_tree.specs.Syntax.{DeclTree}
 use Rattle.java_core.specs.Programs.{Plain, PlainClass}
 use Rattle.java_core.specs.Classes.{supers_of, IsSubclass, same_class, through}
 use Rattle.java_core.specs.Formed.{IsFormed}
-use Rattle.java_core.proofs.Upwards.{contains_cases}
+use Rattle.java_core.proofs.Upwards.{contains_cases, above_object}
 use Rattle.name_rules.specs.Outline.{parent_named, faces_named, parent_meant, id_meant, types_in}
 use Rattle.name_rules.specs.Resolves.{Resolves}
 use Rattle.run_cover.specs.Untagged.{untagged}
@@ -20,7 +20,6 @@ use Rattle.hier_rules.specs.First.{first_broken}
 use Rattle.flow_rules.specs.Facts.{IsFactsOf}
 use Rattle.flow_rules.proofs.Listed.{first, more, map_has, map_from}
 use Rattle.facts_order.proofs.Pairs.{IsPlaced}
-use Rattle.rebuild_looks.proofs.Along.{above_object}
 use Rattle.written_tree.specs.Supers.{is_cover, nodes_that, superclass, type_id}
 use Rattle.written_tree.specs.Written.{type_tree, java_tree}
 use Rattle.tree_rebuilds.specs.Supertypes.{Names, extends, implements, Subtype, itself, by_name}
