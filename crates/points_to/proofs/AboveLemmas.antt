@@ -154,7 +154,8 @@ module _ (F : Facts) where
 
 -- one class more
 pub site_more : (old mid new : List (List Bool)) (classes : List Bool) (s at k : ℕ) → HasSite old mid classes s at → IsNoneFrom (bit classes) at k
-    → bit classes k ≡ true → length new ≡ length mid → ((j : ℕ) → length (row new j) ≡ length (row mid j)) → GainsBit mid new k s → HasSite old new classes s (k + 1)
+    → bit classes k ≡ true → length new ≡ length mid → ((j : ℕ) → length (row new j) ≡ length (row mid j)) → GainsBit mid new k s
+    → HasSite old new classes s (k + 1)
 site_more old mid new classes s at k h none here len widths gains = record {
   len = len ∙ h.len;
   widths = λ j. widths j ∙ h.widths j;

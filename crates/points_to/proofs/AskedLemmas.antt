@@ -53,7 +53,8 @@ calls_more F old new i y m at here before =
 
 -- where all that was found is closed, the sets are
 pub asked_closed : (F : Facts) (x : Found) (sets : List (List Bool)) → AreAsked F x → All (IsEdgeClosed F sets) x.edges.items → All (IsShown sets) x.told.items
-    → All (IsReadClosed F sets sets) x.reads.items → All (IsWriteClosed F sets sets) x.writes.items → All (IsRunClosed F sets sets) x.runs.items → AreClosed F sets
+    → All (IsReadClosed F sets sets) x.reads.items → All (IsWriteClosed F sets sets) x.writes.items → All (IsRunClosed F sets sets) x.runs.items
+    → AreClosed F sets
 asked_closed F x sets a edges told reads writes runs = record {
   news = λ k d lt. All-contains (IsShown sets) x.told.items _ told (a.news k d lt);
   flows = λ k d lt. All-contains (IsEdgeClosed F sets) x.edges.items _ edges (a.flows k d lt);
@@ -61,7 +62,8 @@ asked_closed F x sets a edges told reads writes runs = record {
   loads = λ k d lt. All-contains (IsReadClosed F sets sets) x.reads.items _ reads (a.loads k d lt);
   stores = λ k d lt. All-contains (IsWriteClosed F sets sets) x.writes.items _ writes (a.stores k d lt);
   calls = λ i lt y at. call_map (λ z c. All-contains (IsReadClosed F sets sets) x.reads.items z reads c)
-      (λ z c. All-contains (IsWriteClosed F sets sets) x.writes.items z writes c) (λ z c. All-contains (IsRunClosed F sets sets) x.runs.items z runs c) y (a.calls i lt y at);
+      (λ z c. All-contains (IsWriteClosed F sets sets) x.writes.items z writes c) (λ z c. All-contains (IsRunClosed F sets sets) x.runs.items z runs
+      c) y (a.calls i lt y at);
 }
 
 -- a turn over all that was found
@@ -86,7 +88,8 @@ module _ (F : Facts) (x : Found) (s1 s2 s3 s4 s5 : List (List Bool)) (asked : Ar
 
 -- the members of a body that was found
 pub found_targets : (F : Facts) (index : Index) → IsIndex F index → (m : Member) (slot o d : ℕ) (list : List ℕ) → slot_of m ≡ Some slot
-    → finds F (site_class F o) slot ≡ Some d → All (IsBodyNode F m slot o) list → All (HasBody F m d list) (numbers_at index.bodies.items d) → AreTargets F m o list
+    → finds F (site_class F o) slot ≡ Some d → All (IsBodyNode F m slot o) list → All (HasBody F m d list) (numbers_at index.bodies.items d)
+    → AreTargets F m o list
 found_targets F index is m slot o d list e found sound here = record {
   sound = λ k n lt. body_target F m slot o (get_or list k n) e (sound k n lt);
   whole = λ n t.

@@ -115,7 +115,8 @@ module _ (F : Facts) where
       let q = and_parts (eqb (column_class F k) a) (is_slot (column_slot F k) x) p.1 in
       absurd (lacks (record {
         kind = def_is (column_kind F k) p.0;
-        bucket = ap (λ i. bucket_in F i (unwrap_or (column_slot F k) 0)) (eqb-true (column_class F k) a q.0) ∙ ap (bucket_in F a) (slot_is (column_slot F k) x q.1);
+        bucket = ap (λ i. bucket_in F i (unwrap_or (column_slot F k) 0)) (eqb-true (column_class F k) a q.0)
+            ∙ ap (bucket_in F a) (slot_is (column_slot F k) x q.1);
       })))
       (λ f. f)
       (cases_Bool (is_body a x (column_at F k)))
@@ -131,7 +132,8 @@ module _ (F : Facts) where
   own_found a x k def own = rw def own
 
   -- a walk on the first body at or after a number, where none before it is one of the slot
-  pub walk_from : (a x from : ℕ) (o : Option ℕ) → IsFirst F (bucket_in F a x) from o → ((k : ℕ) → k < from → is_body a x (column_at F k) ≡ false) → IsWalk F a x o
+  pub walk_from : (a x from : ℕ) (o : Option ℕ) → IsFirst F (bucket_in F a x) from o → ((k : ℕ) → k < from → is_body a x (column_at F k) ≡ false)
+      → IsWalk F a x o
   walk_from a x from o f none = record {
     high = λ d e. (f.some d e).high;
     body = λ d e. (f.some d e).body;

@@ -105,7 +105,8 @@ module _ (F : Facts) where
           base = omega (arith, p.0);
           value = omega (arith, p.2);
           flows = λ o n s base t b h. subst (λ k. InNode F k s) (sym t.node)
-              (cell_node F t.cell s (store_holds F x t.cell o s is t.is (fits_of x.column s o b) (node_point F x.base o p.0 base) (node_point F x.value s p.2 h)));
+              (cell_node F t.cell s (store_holds F x t.cell o s is t.is (fits_of x.column s o b) (node_point F x.base o p.0 base)
+              (node_point F x.value s p.2 h)));
         }
 
     module _ (call : CallInfo) (is : Contains F.calls.items call) where

@@ -151,7 +151,8 @@ module _ (F : Facts) where
 
   module _ (p : Pending) (o : ℕ) (list : List ℕ) (extra : List Bool) (t : AreTargets F p.member o list) where
     pub into_holds : IsPending F p → bit p.sites o ≡ true
-        → ((s : ℕ) → bit extra s ≡ true → (bit p.values s ≡ true) × Passes F (wanted F p.member o) s) → All (λ n. (s : ℕ) → bit extra s ≡ true → InNode F n s) list
+        → ((s : ℕ) → bit extra s ≡ true → (bit p.values s ≡ true) × Passes F (wanted F p.member o) s) → All (λ n. (s : ℕ) → bit extra s ≡ true
+        → InNode F n s) list
     into_holds is site f = λ k d lt s h. let x = f s h in is.sound o s (get_or list k d) site x.0 (t.sound k d lt) x.1
 
     pub into_flushed : (new : List (List Bool)) (g : Bool) → ((s : ℕ) → bit p.values s ≡ true → Passes F (wanted F p.member o) s → bit extra s ≡ true)

@@ -8,7 +8,8 @@ returns-then-is_def c =
     let F = c.args.facts.now in
     record {
       chained = rw c.bucket_of-at.ensures.value (chained_body F c.args.first.now c.args.next.now c.args.c c.requires.column
-          (subst (λ k. k < length F.columns.items + 1) c.bucket_of-at.ensures.value c.bucket_of-at.ensures.below) c.requires.chained (c.if-is_def.ensures.0 refl));
+          (subst (λ k. k < length F.columns.items + 1) c.bucket_of-at.ensures.value c.bucket_of-at.ensures.below) c.requires.chained
+          (c.if-is_def.ensures.0 refl));
     }
 
 pub returns-else-is_def : goal.returns-else-is_def
@@ -16,5 +17,6 @@ returns-else-is_def c =
     let F = c.args.facts.now in
     record {
       chained = rw c.bucket_of-at.ensures.value (chained_other F c.args.first.now c.args.next.now c.args.c c.requires.column
-          (subst (λ k. k < length F.columns.items + 1) c.bucket_of-at.ensures.value c.bucket_of-at.ensures.below) c.requires.chained (λ d. false≢true (c.if-is_def.ensures.1 d)));
+          (subst (λ k. k < length F.columns.items + 1) c.bucket_of-at.ensures.value c.bucket_of-at.ensures.below) c.requires.chained
+          (λ d. false≢true (c.if-is_def.ensures.1 d)));
     }

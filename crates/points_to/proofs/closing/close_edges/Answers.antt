@@ -25,4 +25,5 @@ loop-x-preserved c =
     }
 
 pub returns-clause-closed : goal.returns-clause-closed
-returns-clause-closed c = all_end (IsEdgeClosed c.args.facts.now c.loop-x.sets) c.args.edges.now c.loop-x.x-index c.loop-x.grew (omega arith) c.loop-x.invariant.closed
+returns-clause-closed c = all_end (IsEdgeClosed c.args.facts.now c.loop-x.sets) c.args.edges.now c.loop-x.x-index c.loop-x.grew (omega arith)
+    c.loop-x.invariant.closed

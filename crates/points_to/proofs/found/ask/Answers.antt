@@ -10,7 +10,13 @@ returns c =
     let x = c.args.x in
     let e = c.in_ok-push.ensures.items in
     record {
-      found = record { edges = rw e (All-push (IsEdge c.args.facts.now) xs x before.edges c.requires.edge); told = before.told; reads = before.reads; writes = before.writes; runs = before.runs };
+      found = record {
+        edges = rw e (All-push (IsEdge c.args.facts.now) xs x before.edges c.requires.edge);
+        told = before.told;
+        reads = before.reads;
+        writes = before.writes;
+        runs = before.runs;
+      };
       kept = record { edges = λ y h. rw e (Contains-append_left xs (x ∷ []) y h); told = λ y h. h; reads = λ y h. h; writes = λ y h. h; runs = λ y h. h };
       here = rw e (Contains-push xs x);
     }

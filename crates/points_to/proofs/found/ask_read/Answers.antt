@@ -10,7 +10,13 @@ returns c =
     let x = c.args.x in
     let e = c.in_ok-push.ensures.items in
     record {
-      found = record { edges = before.edges; told = before.told; reads = rw e (All-push (IsRead c.args.facts.now) xs x before.reads c.requires.read); writes = before.writes; runs = before.runs };
+      found = record {
+        edges = before.edges;
+        told = before.told;
+        reads = rw e (All-push (IsRead c.args.facts.now) xs x before.reads c.requires.read);
+        writes = before.writes;
+        runs = before.runs;
+      };
       kept = record { edges = λ y h. h; told = λ y h. h; reads = λ y h. rw e (Contains-append_left xs (x ∷ []) y h); writes = λ y h. h; runs = λ y h. h };
       here = rw e (Contains-push xs x);
     }

@@ -10,7 +10,14 @@ returns c =
     let x = c.args.x in
     let e = c.in_ok-push.ensures.items in
     record {
-      found = record { edges = before.edges; told = before.told; reads = before.reads; writes = before.writes; runs = rw e (All-push (IsRun c.args.facts.now) xs x before.runs c.requires.run) };
+      found = record {
+        edges = before.edges;
+        told = before.told;
+        reads = before.reads;
+        writes = before.writes;
+        runs = rw e
+            (All-push (IsRun c.args.facts.now) xs x before.runs c.requires.run);
+      };
       kept = record { edges = λ y h. h; told = λ y h. h; reads = λ y h. h; writes = λ y h. h; runs = λ y h. rw e (Contains-append_left xs (x ∷ []) y h) };
       here = rw e (Contains-push xs x);
     }

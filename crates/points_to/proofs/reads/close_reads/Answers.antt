@@ -31,4 +31,5 @@ loop-x-preserved c =
     }
 
 pub returns-clause-closed : goal.returns-clause-closed
-returns-clause-closed c = all_end (IsReadClosed c.args.facts.now c.args.bases.now c.loop-x.sets) c.args.reads.now c.loop-x.x-index c.loop-x.grew (omega arith) c.loop-x.invariant.closed
+returns-clause-closed c = all_end (IsReadClosed c.args.facts.now c.args.bases.now c.loop-x.sets) c.args.reads.now c.loop-x.x-index c.loop-x.grew
+    (omega arith) c.loop-x.invariant.closed

@@ -22,7 +22,8 @@ loop-x-preserved c =
       sets = step.sets;
       pending = step.pending;
       step = IsStep-then c.args.sets.now old new c.loop-x.grew more before.step step.step;
-      done = done_step (IsDone F B old c.loop-x.pending) (IsDone F B new c.take_write.new.pending) xs k no_write c.loop-x.grew more lt step.kept step.here before.done;
+      done = done_step (IsDone F B old c.loop-x.pending) (IsDone F B new c.take_write.new.pending) xs k no_write c.loop-x.grew more lt step.kept
+          step.here before.done;
     }
 
 pub returns-clause-closed : goal.returns-clause-closed

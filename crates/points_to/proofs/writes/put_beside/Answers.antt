@@ -22,7 +22,8 @@ returns c =
     let kept : IsSubset old new = λ s h. join s ∙ or_left (bit old s) (bit extra s) h in
     let has : IsSubset extra new = λ s h. join s ∙ or_right (bit old s) (bit extra s) h in
     record {
-      pending = pending_more F c.args.bases.now sets p _ x c.requires.bases c.requires.sets c.requires.pending c.requires.write c.requires.member c.requires.sites
+      pending = pending_more F c.args.bases.now sets p _ x c.requires.bases c.requires.sets c.requires.pending c.requires.write c.requires.member
+          c.requires.sites
           refl refl
           (c.or_into.ensures.width ∙ c.requires.pending.values) (λ s h. or_cases (bit old s) (bit extra s) (sym (join s) ∙ h));
       kept = λ y d. done_more F c.args.bases.now sets p _ y refl refl kept d;

@@ -7,7 +7,8 @@ use Rattle.points_to.proofs.writes.write_fitting.Goals as goal
 pub fit-requires-clause-class : goal.fit-requires-clause-class
 fit-requires-clause-class c =
     let lt = bit-below c.args.pending.now.sites c.args.o c.requires.site in
-    wanted_class c.args.facts.now c.requires.facts c.args.pending.now.member c.args.o c.args.class (omega (arith, lt, c.requires.pending.sites)) c.requires.class
+    wanted_class c.args.facts.now c.requires.facts c.args.pending.now.member c.args.o c.args.class (omega (arith, lt, c.requires.pending.sites))
+    c.requires.class
 
 pub include_all-requires-clause-list : goal.include_all-requires-clause-list
 include_all-requires-clause-list c = targets_below c.args.facts.now c.requires.facts c.args.pending.now.member c.args.o c.args.list.now c.requires.list
