@@ -62,6 +62,11 @@ def parameters(count):
     return text + main("    int sum = P.m(" + ", ".join(str(n) for n in range(count)) + ");\n")
 
 
+def locals_of_a_body(count):
+    """A body with so many locals."""
+    return main("".join(f"    int l{n} = {n};\n" for n in range(count)))
+
+
 def blocks(count):
     """So many locals, and so many blocks under them, each with a local of its own."""
     body = "".join(f"    int l{n} = {n};\n" for n in range(count))
@@ -80,6 +85,7 @@ SHAPES = [
     ("levels of interfaces that name two above", diamonds, (8, 15, 30, 60)),
     ("fields and as many methods in one class", members, (625, 1250, 2500, 5000)),
     ("parameters of one method", parameters, (375, 750, 1500, 3000)),
+    ("locals in one body", locals_of_a_body, (3500, 7000, 14000, 28000)),
     ("blocks under as many locals", blocks, (250, 500, 1000, 2000)),
 ]
 SECONDS, MEGABYTES, STACK = 5, 500, 256 << 10
