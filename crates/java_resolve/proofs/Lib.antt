@@ -45,3 +45,5 @@ pub mod OnlyWhole
 pub mod SpotLemmas
 pub mod ClashSpots
 pub mod OwnedLemmas
+pub mod ScopeTable
+pub mod ParamScopes

@@ -21,7 +21,7 @@ use Rattle.java_resolve.specs.Classes.{know_named}
 use Rattle.java_resolve.proofs.Runs.{position-from}
 
 -- a text is a name's exactly where it has the name's characters
-same-text : (n : List ℕ) (s : String Global) → bytes_eq (encode_utf8_all n) (string_bytes s) ≡ bytes_eq (chars (string_bytes s)) n
+pub same-text : (n : List ℕ) (s : String Global) → bytes_eq (encode_utf8_all n) (string_bytes s) ≡ bytes_eq (chars (string_bytes s)) n
 same-text n s =
     let good = IsUtf8-had (string_bytes s) s.ok in
     both_ways (bytes_eq (encode_utf8_all n) (string_bytes s)) (bytes_eq (chars (string_bytes s)) n)

@@ -12,3 +12,4 @@ pub mod Unique
 pub mod Clashes
 pub mod Owned
 pub mod Found
+pub mod Scopes

@@ -13,7 +13,7 @@ use Rattle.name_rules.specs.declared.Refusal.TheVariants.{TwoKinds, Twice, NotIn
 use Rattle.name_rules.specs.declared.parts.Bound.{Bound}
 use Rattle.name_rules.specs.declared.parts.Here.{Here}
 use Rattle.name_rules.specs.Resolves.{target, bound}
-use Rattle.java_resolve.specs.declared.stmts.Body.{Body}
+use Rattle.java_resolve.specs.declared.locals.Body.{Body}
 use Rattle.java_resolve.specs.Answers.{with, unless}
 use Rattle.java_resolve.specs.Names.{type_of, names_type}
 use Rattle.java_resolve.specs.Tables.{Table}

@@ -10,7 +10,6 @@ ghost use Rattle.java_core.specs.Trees.{at_place, Sts};
 ghost use Rattle.java_core.specs.declared.Method.{Method};
 ghost use Rattle.java_core.specs.declared.Local.{Local};
 ghost use Rattle.java_core.specs.declared.RStmt.{RStmt};
-ghost use Rattle.name_rules.specs.declared.parts.Bound.{Bound};
 ghost use Rattle.java_core.specs.Programs.{PlainLocal, PlainMethod, local_seen, method_seen};
 ghost use Rattle.java_resolve.specs.Answers.{Gives, run};
 ghost use Rattle.java_resolve.specs.Tables.{table_of};
@@ -20,13 +19,16 @@ use crate::Refusal;
 use crate::classes::after;
 use crate::declarations::Tables;
 use crate::flags::flags_of;
-use crate::members::{number_at, params_of, result_of};
-use crate::stmts::{Body, statements};
+use crate::locals::Body;
+use crate::members::{number_at, result_of};
+use crate::parameters::params_in;
+use crate::scope::Scope;
+use crate::stmts::statements;
 use crate::tables::Heading;
 use java_core::{Local, Method, RStmt};
 use java_tree::{Decl, Head, Member, Stmt};
 use kaba_base::ClassId;
-use name_rules::{Bound, Here, Kind};
+use name_rules::{Here, Kind};
 use std::alloc::Global;
 
 /// The methods so far, and the next free number of a creation, a cast or an `instanceof`.
@@ -36,31 +38,17 @@ pub struct Written {
     pub number: u32,
 }
 
-/// The parameters in scope.
-fn bounds(alloc: Global, params: &Vec<Local>) -> Result<Vec<Bound>, Refusal>
-    ensures { Gives {A = Vec Bound Global} {B = List Bound} (λ v. v.items) result (Ok (bounds_from 0 params.now.items)) }
-{
-    let mut scope = Vec::new(alloc);
-    let mut number = 0;
-    for param in params {
-        scope.push(Bound {
-            name: param.name.copy(alloc)?,
-            number,
-        })?;
-        number = after(number)?;
-    }
-    Ok(scope)
-}
-
-/// The locals and the body of a method; `number` is the next free number.
+/// The locals and the body of a method with its parameters in scope; `number` is the next free number.
 fn body_of(
     alloc: Global,
     tables: &Tables,
     here: Here,
     params: &Vec<Local>,
+    scope: &Scope,
     number: &mut u32,
     tree: &Option<Vec<Stmt>>,
 ) -> Result<(Vec<Local>, Option<Vec<RStmt>>), Refusal>
+    requires bound { scope.now ≡ bounds_from 0 params.now.items }
     ensures { Gives {A = Vec Local Global × Option (Vec RStmt Global)} {B = List PlainLocal × Option Sts × ℕ}
         (λ b. (map (local_seen at_place) b.0.items, core.body_seen at_place b.1, number.new)) result
         (body_of (table_of tables.now) here params.now.items number.old (body_seen tree.now)) }
@@ -68,13 +56,12 @@ fn body_of(
     match tree {
         None => Ok((Vec::new(alloc), None)),
         Some(list) => {
-            let scope = bounds(alloc, params)?;
             let mut body = Body {
                 locals: Vec::new(alloc),
                 count: number_at(params.len())?,
                 number: *number,
             };
-            let run = statements(alloc, tables, here, false, &scope, &mut body, list)?;
+            let run = statements(alloc, tables, here, false, scope, &mut body, list)?;
             *number = body.number;
             Ok((body.locals, Some(run)))
         }
@@ -104,13 +91,22 @@ fn method_step(
         (methods_seen written.old) (head_of head.now) (body_seen tree.now)) }
 {
     let flags = flags_of(kind, head.mods.as_slice())?;
-    let params = params_of(alloc, &tables.known, head.params.as_slice())?;
+    let mut scope = Scope::new(alloc);
+    let params = params_in(alloc, &tables.known, &mut scope, head.params.as_slice())?;
     let outcome = result_of(alloc, &tables.known, &head.result)?;
     let here = Here {
         owner,
         is_static: flags.is_static,
     };
-    let (locals, body) = body_of(alloc, tables, here, &params, &mut written.number, tree)?;
+    let (locals, body) = body_of(
+        alloc,
+        tables,
+        here,
+        &params,
+        &scope,
+        &mut written.number,
+        tree,
+    )?;
     let slot = slot_at(tables.headings.as_slice(), written.methods.len());
     written.methods.push(Method {
         owner: ClassId(owner),

@@ -1,29 +1,29 @@
 //! Fields, methods and slots.
 #![tactic(auto)]
 
-ghost use Rattle.std.specs.Prelude.{◌≡◌, ℕ, ◌+◌, List, Option, IfOk, OnOk, Ok, false, is_some};
+ghost use Rattle.std.specs.Prelude.{◌≡◌, ℕ, ◌+◌, Option, IfOk, OnOk, Ok, false, is_some};
 ghost use Rattle.std.specs.declared.vec.Vec.{Vec};
 ghost use Rattle.std.specs.declared.alloc.Global.{Global};
 ghost use Rattle.java_tree.specs.Syntax.{head_of, member_of, members, heads, decl_of, decls};
 ghost use Rattle.java_tree.specs.declared.Head.{Head};
 ghost use Rattle.java_core.specs.declared.Ty.{Ty};
-ghost use Rattle.java_core.specs.declared.Local.{Local};
 ghost use Rattle.java_resolve.specs.declared.members.Draft.{Draft};
 ghost use Rattle.java_resolve.specs.Answers.{Gives, run};
 ghost use Rattle.java_resolve.specs.Found.{AreFound, with_method, with_field, slot_of};
 ghost use Rattle.java_resolve.specs.Tables.{field_from, method_from};
-ghost use Rattle.java_resolve.specs.Members.{Members, members_seen, has_local, param, params_of, result_of, is_texts, takes_texts, is_main, add_heading, head_step, is_wrong_body, field_step, member_step, interface_step, decl_step, members_of, no_members};
+ghost use Rattle.java_resolve.specs.Members.{Members, members_seen, result_of, is_texts, takes_texts, is_main, add_heading, head_step, is_wrong_body, field_step, member_step, interface_step, decl_step, members_of, no_members};
 
 use crate::classes::after;
 use crate::flags::{Flags, flags_of};
-use crate::names::{Types, is_same, is_text, names_type, type_of};
+use crate::names::{Types, is_text, names_type, type_of};
 use crate::owned::Owned;
+use crate::parameters::params_of;
 use crate::slots::{is_base, slotted};
 use crate::spots::Spots;
 use crate::tables::Heading;
 use crate::{Form, Refusal};
 use java_core::{Field, Local, Slot, Ty, TyBase};
-use java_tree::{Decl, Head, Member, Param, Stmt, TypeName};
+use java_tree::{Decl, Head, Member, Stmt, TypeName};
 use kaba_base::{ClassId, Name, Place};
 use name_rules::Kind;
 use std::alloc::{AllocError, Global};
@@ -42,47 +42,6 @@ pub struct Draft {
     pub method_spots: Spots,
     /// Where the slots of each name stand.
     pub slot_spots: Spots,
-}
-
-fn has_local(name: &Name, list: &[Local]) -> bool
-    ensures { result ≡ has_local name.now list.now }
-{
-    for local in list {
-        if is_same(&local.name, name) {
-            return true;
-        }
-    }
-    false
-}
-
-/// One parameter more.
-fn param(alloc: Global, known: &Types, locals: &mut Vec<Local>, one: &Param) -> Result<(), Refusal>
-    ensures { Gives (λ _. locals.new.items) result (param known.now locals.old.items one.now) }
-{
-    let ty = type_of(alloc, known, &one.ty)?;
-    if names_type(alloc, known, &one.name)? {
-        return Err(Refusal::TwoKinds(one.name.copy(alloc)?, one.place));
-    }
-    if has_local(&one.name, locals.as_slice()) {
-        return Err(Refusal::Twice(one.name.copy(alloc)?, one.place));
-    }
-    locals.push(Local {
-        name: one.name.copy(alloc)?,
-        ty,
-        place: one.place,
-    })?;
-    Ok(())
-}
-
-/// The parameters of a method.
-pub fn params_of(alloc: Global, known: &Types, list: &[Param]) -> Result<Vec<Local>, Refusal>
-    ensures { Gives {A = Vec Local Global} {B = List Local} (λ v. v.items) result (params_of known.now list.now) }
-{
-    let mut locals = Vec::new(alloc);
-    for one in list {
-        param(alloc, known, &mut locals, one)?;
-    }
-    Ok(locals)
 }
 
 /// What a method gives back.

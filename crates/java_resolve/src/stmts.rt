@@ -1,11 +1,11 @@
 //! The names of statements.
 #![tactic(auto)]
 
-ghost use Rattle.std.specs.Prelude.{◌≡◌, ℕ, true, false, IfOk, Option, List};
+ghost use Rattle.std.specs.Prelude.{true, false, Option, List};
 ghost use Rattle.std.specs.declared.vec.Vec.{Vec};
 ghost use Rattle.std.specs.declared.boxed.Box.{Box};
 ghost use Rattle.std.specs.declared.alloc.Global.{Global};
-ghost use Rattle.java_tree.specs.Syntax.{expr_of, value_of, stmt_of, stmts, arms_seen, else_seen, boxed_step, AssignOf, BlockOf, WhileOf};
+ghost use Rattle.java_tree.specs.Syntax.{expr_of, stmt_of, stmts, arms_seen, else_seen, boxed_step, AssignOf, BlockOf, WhileOf};
 ghost use Rattle.java_core.specs.Trees as core;
 ghost use Rattle.java_core.specs.Trees.{at_place, Ex, St, Sts, Arms, no_st, no_other, choose, loop};
 ghost use Rattle.java_core.specs.declared.RExpr.{RExpr};
@@ -14,140 +14,17 @@ ghost use Rattle.java_core.specs.declared.RArm.{RArm};
 ghost use Rattle.name_rules.specs.declared.parts.Bound.{Bound};
 ghost use Rattle.java_resolve.specs.Answers.{Gives};
 ghost use Rattle.java_resolve.specs.Tables.{table_of};
-ghost use Rattle.java_resolve.specs.Statements.{State, state_of, kept, ending, clash, walk_expr, walk_value, walk_local, walk_arm, walk_st, walk_sts, walk_arms, walk_else, walk_optional};
+ghost use Rattle.java_resolve.specs.Statements.{State, state_of, kept, ending, walk_arm, walk_st, walk_sts, walk_arms, walk_else, walk_optional};
 
 use crate::declarations::Tables;
-use crate::exprs::{expr, next};
-use crate::names::{names_type, type_of};
-use crate::tables::local_of;
+use crate::locals::{Body, declaration, part, value};
+use crate::scope::Scope;
 use crate::{Form, Refusal, make};
-use java_core::{Local, RArm, RExpr, RStmt};
-use java_tree::{Arm, Expr, Stmt, TypeName};
-use kaba_base::{Name, Place};
-use name_rules::{Bound, Here};
-use std::alloc::{AllocError, Global};
-
-/// The locals of a method so far, how many parameters and locals there are, and the next free number
-/// of a creation, a cast or an `instanceof`.
-#[derive(Drop)]
-pub struct Body {
-    pub locals: Vec<Local>,
-    pub count: u32,
-    pub number: u32,
-}
-
-/// The scope once more.
-fn copy_scope(alloc: Global, scope: &Vec<Bound>) -> Result<Vec<Bound>, AllocError>
-    ensures { IfOk result (λ v. v.items ≡ scope.now.items) }
-{
-    let mut copy = Vec::new(alloc);
-    for bound in scope {
-        copy.push(Bound {
-            name: bound.name.copy(alloc)?,
-            number: bound.number,
-        })?;
-    }
-    Ok(copy)
-}
-
-/// Why no parameter and no local can have this name.
-pub fn clash(
-    alloc: Global,
-    tables: &Tables,
-    scope: &[Bound],
-    name: &Name,
-    place: Place,
-) -> Result<Option<Refusal>, AllocError>
-    ensures { IfOk result (λ r. r ≡ clash (table_of tables.now) scope.now name.now place) }
-{
-    if names_type(alloc, &tables.known, name)? {
-        return Ok(Some(Refusal::TwoKinds(name.copy(alloc)?, place)));
-    }
-    if local_of(scope, name).is_some() {
-        return Ok(Some(Refusal::Twice(name.copy(alloc)?, place)));
-    }
-    Ok(None)
-}
-
-/// An expression of a statement.
-fn part(
-    alloc: Global,
-    tables: &Tables,
-    here: Here,
-    scope: &Vec<Bound>,
-    body: &mut Body,
-    tree: &Expr,
-) -> Result<RExpr, Refusal>
-    ensures given { Gives {A = RExpr} {B = Ex × State} (λ e. (core.expr_of at_place e, state_of body.new))
-        result (walk_expr (table_of tables.now) here scope.now.items (state_of body.old) (expr_of tree.now)) }
-{
-    expr(
-        alloc,
-        tables,
-        here,
-        scope.as_slice(),
-        &mut body.number,
-        tree,
-    )
-}
-
-/// An expression that may be left out.
-fn value(
-    alloc: Global,
-    tables: &Tables,
-    here: Here,
-    scope: &Vec<Bound>,
-    body: &mut Body,
-    tree: &Option<Expr>,
-) -> Result<Option<RExpr>, Refusal>
-    ensures given { Gives {A = Option RExpr} {B = Option Ex × State}
-        (λ e. (core.value_of at_place e, state_of body.new)) result
-        (walk_value (table_of tables.now) here scope.now.items (state_of body.old) (value_of tree.now)) }
-{
-    match tree {
-        None => Ok(None),
-        Some(tree) => Ok(Some(part(alloc, tables, here, scope, body, tree)?)),
-    }
-}
-
-/// The declaration of a local of this type.
-fn declaration(
-    alloc: Global,
-    tables: &Tables,
-    here: Here,
-    scope: &mut Vec<Bound>,
-    body: &mut Body,
-    ty: &TypeName,
-    name: &Name,
-    first: &Option<Expr>,
-    place: Place,
-) -> Result<RStmt, Refusal>
-    ensures given { Gives {A = RStmt} {B = St × List Bound × State}
-        (λ s. (core.stmt_of at_place s, scope.new.items, state_of body.new)) result
-        (walk_local (table_of tables.now) here scope.old.items (state_of body.old) ty.now name.now
-        (value_of first.now) place) }
-{
-    let ty = type_of(alloc, &tables.known, ty)?;
-    if let Some(refusal) = clash(alloc, tables, scope.as_slice(), name, place)? {
-        return Err(refusal);
-    }
-    let number = next(&mut body.count)?;
-    scope.push(Bound {
-        name: name.copy(alloc)?,
-        number,
-    })?;
-    body.locals.push(Local {
-        name: name.copy(alloc)?,
-        ty,
-        place,
-    })?;
-    let value = value(alloc, tables, here, scope, body, first)?;
-    Ok(RStmt::Local {
-        local: number,
-        value,
-        place,
-    })
-}
+use java_core::{RArm, RExpr, RStmt};
+use java_tree::{Arm, Expr, Stmt};
+use kaba_base::Place;
+use name_rules::Here;
+use std::alloc::Global;
 
 /// A statement. `inside` says whether a loop is about it.
 #[cycle(stmts)]
@@ -156,13 +33,13 @@ fn stmt(
     tables: &Tables,
     here: Here,
     inside: bool,
-    scope: &mut Vec<Bound>,
+    scope: &mut Scope,
     body: &mut Body,
     tree: &Stmt,
 ) -> Result<RStmt, Refusal>
     ensures given { Gives {A = RStmt} {B = St × List Bound × State}
-        (λ s. (core.stmt_of at_place s, scope.new.items, state_of body.new)) result
-        (walk_st (table_of tables.now) here inside scope.old.items (state_of body.old) (stmt_of tree.now)) }
+        (λ s. (core.stmt_of at_place s, scope.new, state_of body.new)) result
+        (walk_st (table_of tables.now) here inside scope.old (state_of body.old) (stmt_of tree.now)) }
 {
     match tree {
         Stmt::Local {
@@ -221,7 +98,7 @@ fn stmt(
             body: run,
             place,
         } => {
-            let mut inner = copy_scope(alloc, scope)?;
+            let mut inner = Scope::within(alloc, &*scope);
             let first = optional(alloc, tables, here, inside, &mut inner, body, first)?;
             let test = value(alloc, tables, here, &inner, body, test)?;
             match optional(alloc, tables, here, inside, &mut inner, body, step) {
@@ -264,15 +141,15 @@ fn assign(
     alloc: Global,
     tables: &Tables,
     here: Here,
-    scope: &Vec<Bound>,
+    scope: &Scope,
     body: &mut Body,
     target: &Expr,
     value: &Expr,
     place: Place,
 ) -> Result<RStmt, Refusal>
     ensures given { Gives {A = RStmt} {B = St × List Bound × State}
-        (λ s. (core.stmt_of at_place s, scope.now.items, state_of body.new)) result
-        (walk_st (table_of tables.now) here true scope.now.items (state_of body.old)
+        (λ s. (core.stmt_of at_place s, scope.now, state_of body.new)) result
+        (walk_st (table_of tables.now) here true scope.now (state_of body.old)
         (AssignOf (expr_of target.now) (expr_of value.now) place)) }
 {
     let target = part(alloc, tables, here, scope, body, target)?;
@@ -291,14 +168,14 @@ fn block(
     tables: &Tables,
     here: Here,
     inside: bool,
-    scope: &Vec<Bound>,
+    scope: &Scope,
     body: &mut Body,
     items: &Vec<Stmt>,
     place: Place,
 ) -> Result<RStmt, Refusal>
     ensures given { Gives {A = RStmt} {B = St × List Bound × State}
-        (λ s. (core.stmt_of at_place s, scope.now.items, state_of body.new)) result
-        (walk_st (table_of tables.now) here inside scope.now.items (state_of body.old)
+        (λ s. (core.stmt_of at_place s, scope.now, state_of body.new)) result
+        (walk_st (table_of tables.now) here inside scope.now (state_of body.old)
         (BlockOf (stmts items.now.items) place)) }
 {
     let items = statements(alloc, tables, here, inside, scope, body, items)?;
@@ -313,16 +190,16 @@ fn choice(
     tables: &Tables,
     here: Here,
     inside: bool,
-    scope: &Vec<Bound>,
+    scope: &Scope,
     body: &mut Body,
     arms: Vec<RArm>,
     other: &Option<Vec<Stmt>>,
     place: Place,
 ) -> Result<RStmt, Refusal>
     ensures given { Gives {A = RStmt} {B = St × List Bound × State}
-        (λ s. (core.stmt_of at_place s, scope.now.items, state_of body.new)) result
-        (kept (walk_else (table_of tables.now) here inside scope.now.items (state_of body.old)
-        (else_seen other.now)) scope.now.items
+        (λ s. (core.stmt_of at_place s, scope.now, state_of body.new)) result
+        (kept (walk_else (table_of tables.now) here inside scope.now (state_of body.old)
+        (else_seen other.now)) scope.now
         (λ o. choose (at_place place) (ending (core.arms_seen at_place arms.items no_other) o))) }
 {
     let other = otherwise(alloc, tables, here, inside, scope, body, other)?;
@@ -335,15 +212,15 @@ fn while_loop(
     alloc: Global,
     tables: &Tables,
     here: Here,
-    scope: &Vec<Bound>,
+    scope: &Scope,
     body: &mut Body,
     test: &Expr,
     run: &Vec<Stmt>,
     place: Place,
 ) -> Result<RStmt, Refusal>
     ensures given { Gives {A = RStmt} {B = St × List Bound × State}
-        (λ s. (core.stmt_of at_place s, scope.now.items, state_of body.new)) result
-        (walk_st (table_of tables.now) here true scope.now.items (state_of body.old)
+        (λ s. (core.stmt_of at_place s, scope.now, state_of body.new)) result
+        (walk_st (table_of tables.now) here true scope.now (state_of body.old)
         (WhileOf (expr_of test.now) (stmts run.now.items) place)) }
 {
     let test = part(alloc, tables, here, scope, body, test)?;
@@ -357,7 +234,7 @@ fn for_body(
     alloc: Global,
     tables: &Tables,
     here: Here,
-    inner: &Vec<Bound>,
+    inner: &Scope,
     body: &mut Body,
     first: Option<Box<RStmt>>,
     test: Option<RExpr>,
@@ -367,7 +244,7 @@ fn for_body(
 ) -> Result<RStmt, Refusal>
     ensures given { (outer : List Bound) → Gives {A = RStmt} {B = St × List Bound × State}
         (λ s. (core.stmt_of at_place s, outer, state_of body.new)) result
-        (kept (walk_sts (table_of tables.now) here true no_st inner.now.items (state_of body.old)
+        (kept (walk_sts (table_of tables.now) here true no_st inner.now (state_of body.old)
         (stmts run.now.items)) outer (loop (at_place place) false (core.step_seen at_place first)
         (core.value_of at_place test) (core.step_seen at_place step))) }
 {
@@ -382,13 +259,13 @@ fn optional(
     tables: &Tables,
     here: Here,
     inside: bool,
-    scope: &mut Vec<Bound>,
+    scope: &mut Scope,
     body: &mut Body,
     tree: &Option<Box<Stmt>>,
 ) -> Result<Option<Box<RStmt>>, Refusal>
     ensures given { Gives {A = Option (Box RStmt Global)} {B = Sts × List Bound × State}
-        (λ s. (core.step_seen at_place s, scope.new.items, state_of body.new)) result
-        (walk_optional (table_of tables.now) here inside scope.old.items (state_of body.old)
+        (λ s. (core.step_seen at_place s, scope.new, state_of body.new)) result
+        (walk_optional (table_of tables.now) here inside scope.old (state_of body.old)
         (boxed_step tree.now)) }
 {
     match tree {
@@ -407,13 +284,13 @@ fn otherwise(
     tables: &Tables,
     here: Here,
     inside: bool,
-    scope: &Vec<Bound>,
+    scope: &Scope,
     body: &mut Body,
     tree: &Option<Vec<Stmt>>,
 ) -> Result<Option<Vec<RStmt>>, Refusal>
     ensures given { Gives {A = Option (Vec RStmt Global)} {B = Arms × State}
         (λ o. (core.else_seen at_place o, state_of body.new)) result
-        (walk_else (table_of tables.now) here inside scope.now.items (state_of body.old)
+        (walk_else (table_of tables.now) here inside scope.now (state_of body.old)
         (else_seen tree.now)) }
 {
     match tree {
@@ -429,13 +306,13 @@ fn arm(
     tables: &Tables,
     here: Here,
     inside: bool,
-    scope: &Vec<Bound>,
+    scope: &Scope,
     body: &mut Body,
     tree: &Arm,
 ) -> Result<RArm, Refusal>
     ensures given { Gives {A = RArm} {B = Ex × Sts × State}
         (λ a. (core.expr_of at_place a.test, core.stmts at_place a.body.items, state_of body.new)) result
-        (walk_arm (table_of tables.now) here inside scope.now.items (state_of body.old)
+        (walk_arm (table_of tables.now) here inside scope.now (state_of body.old)
         (expr_of tree.now.test) (stmts tree.now.body.items)) }
 {
     let test = part(alloc, tables, here, scope, body, &tree.test)?;
@@ -450,13 +327,13 @@ fn all_arms(
     tables: &Tables,
     here: Here,
     inside: bool,
-    scope: &Vec<Bound>,
+    scope: &Scope,
     body: &mut Body,
     list: &Vec<Arm>,
 ) -> Result<Vec<RArm>, Refusal>
     ensures given { Gives {A = Vec RArm Global} {B = Arms × State}
         (λ v. (core.arms_seen at_place v.items no_other, state_of body.new)) result
-        (walk_arms (table_of tables.now) here inside no_other scope.now.items (state_of body.old)
+        (walk_arms (table_of tables.now) here inside no_other scope.now (state_of body.old)
         (arms_seen list.now.items)) }
 {
     let mut done = Vec::new(alloc);
@@ -476,16 +353,16 @@ pub fn statements(
     tables: &Tables,
     here: Here,
     inside: bool,
-    scope: &Vec<Bound>,
+    scope: &Scope,
     body: &mut Body,
     list: &Vec<Stmt>,
 ) -> Result<Vec<RStmt>, Refusal>
     ensures given { Gives {A = Vec RStmt Global} {B = Sts × State}
         (λ v. (core.stmts at_place v.items, state_of body.new)) result
-        (walk_sts (table_of tables.now) here inside no_st scope.now.items (state_of body.old)
+        (walk_sts (table_of tables.now) here inside no_st scope.now (state_of body.old)
         (stmts list.now.items)) }
 {
-    let mut inner = copy_scope(alloc, scope)?;
+    let mut inner = Scope::within(alloc, &*scope);
     let mut done = Vec::new(alloc);
     for one in list {
         done.push(stmt(alloc, tables, here, inside, &mut inner, body, one)?)?;

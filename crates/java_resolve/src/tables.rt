@@ -4,13 +4,10 @@
 ghost use Rattle.std.specs.Prelude.{◌≡◌, slice_get};
 ghost use Rattle.java_resolve.specs.Spots.{passes, first_among};
 ghost use Rattle.java_resolve.specs.Tables.{table_of, is_above, parent_of, own_field, nearest_field, own_method, method_met};
-ghost use Rattle.name_rules.specs.Meanings.{local_of};
 
 use crate::declarations::Tables;
-use crate::names::is_same;
 use java_core::Hierarchy;
 use kaba_base::{ClassId, Name, Place};
-use name_rules::Bound;
 
 /// A method as the bodies and the other methods know it.
 #[derive(Drop)]
@@ -108,16 +105,4 @@ pub fn method_met(tables: &Tables, class: u32, name: &Name) -> Option<usize>
         tables.method_spots.at(name),
         class,
     )
-}
-
-/// The number of the local in scope under a name.
-pub fn local_of(scope: &[Bound], name: &Name) -> Option<u32>
-    ensures { result ≡ local_of name.now scope.now }
-{
-    for bound in scope {
-        if is_same(&bound.name, name) {
-            return Some(bound.number);
-        }
-    }
-    None
 }

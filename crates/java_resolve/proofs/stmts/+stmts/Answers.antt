@@ -12,31 +12,31 @@ use Rattle.java_resolve.proofs.stmts.+stmts.Goals as goal
 
 pub statements-loop-one-preserved : goal.statements-loop-one-preserved
 statements-loop-one-preserved t c =
-    sts_next (table_of c.args.tables.now) c.args.here c.args.inside c.loop-one.inner.items c.stmt.new.scope.items (state_of c.loop-one.body)
+    sts_next (table_of c.args.tables.now) c.args.here c.args.inside c.loop-one.inner c.stmt.new.scope (state_of c.loop-one.body)
     (state_of c.stmt.new.body) c.loop-one.done.items c.push.new.self.items c.deref-one-items.result.now c.loop-one.one-index c.one-item.result
     c.in_ok-stmt.field-0 _ c.loop-one-test.true c.one-item.is c.in_ok-stmt.ensures.given c.in_ok-push.ensures.items c.loop-one.invariant
 
 pub stmt-returns-in-Block : goal.stmt-returns-in-Block
 stmt-returns-in-Block t c =
     record {
-      given = carry_st (λ s. (core.stmt_of at_place s, c.args.scope.now.items, state_of c.block.new.body)) c.block.result
-          (table_of c.args.tables.now) c.args.here c.args.inside c.args.scope.now.items (state_of c.args.body.now) (block_shown _ _ _ c.in-Block.is)
+      given = carry_st (λ s. (core.stmt_of at_place s, c.args.scope.now, state_of c.block.new.body)) c.block.result
+          (table_of c.args.tables.now) c.args.here c.args.inside c.args.scope.now (state_of c.args.body.now) (block_shown _ _ _ c.in-Block.is)
           c.block.ensures.given;
     }
 
 pub stmt-returns-in-While : goal.stmt-returns-in-While
 stmt-returns-in-While t c =
     record {
-      given = carry_st (λ s. (core.stmt_of at_place s, c.args.scope.now.items, state_of c.while_loop.new.body)) c.while_loop.result
-          (table_of c.args.tables.now) c.args.here c.args.inside c.args.scope.now.items (state_of c.args.body.now) (while_shown _ _ _ _ c.in-While.is)
+      given = carry_st (λ s. (core.stmt_of at_place s, c.args.scope.now, state_of c.while_loop.new.body)) c.while_loop.result
+          (table_of c.args.tables.now) c.args.here c.args.inside c.args.scope.now (state_of c.args.body.now) (while_shown _ _ _ _ c.in-While.is)
           c.while_loop.ensures.given;
     }
 
 pub stmt-returns-in-Ok : goal.stmt-returns-in-Ok
 stmt-returns-in-Ok t c =
     record {
-      given = if_given (λ s. (core.stmt_of at_place s, c.args.scope.now.items, state_of c.choice.new.body)) c.choice.result
-          (table_of c.args.tables.now) c.args.here c.args.inside c.args.scope.now.items (state_of c.args.body.now) (state_of c.all_arms.new.body)
+      given = if_given (λ s. (core.stmt_of at_place s, c.args.scope.now, state_of c.choice.new.body)) c.choice.result
+          (table_of c.args.tables.now) c.args.here c.args.inside c.args.scope.now (state_of c.args.body.now) (state_of c.all_arms.new.body)
           (core.arms_seen at_place c.in-Ok.done.items no_other)
           (if_shown _ _ _ _ c.in-If.is) c.in-Ok.ensures.given c.choice.ensures.given;
     }
@@ -44,32 +44,32 @@ stmt-returns-in-Ok t c =
 pub stmt-returns-in-If : goal.stmt-returns-in-If
 stmt-returns-in-If t c =
     record {
-      given = if_fault c.in-Err.refusal (table_of c.args.tables.now) c.args.here c.args.inside c.args.scope.now.items
+      given = if_fault c.in-Err.refusal (table_of c.args.tables.now) c.args.here c.args.inside c.args.scope.now
           (state_of c.args.body.now) (if_shown _ _ _ _ c.in-If.is) c.in-Err.ensures.given;
     }
 
 pub stmt-returns-in-Ok-optional : goal.stmt-returns-in-Ok-optional
 stmt-returns-in-Ok-optional t c =
     record {
-      given = for_given (λ s. (core.stmt_of at_place s, c.args.scope.now.items, state_of c.for_body.new.body)) c.for_body.result
-          (table_of c.args.tables.now) c.args.here c.args.inside c.args.scope.now.items c.in_ok-inner-in-For.inner.items (state_of c.args.body.now)
-          (core.step_seen at_place c.in_ok-first-in-For.first, c.optional.new.scope.items, state_of c.optional.new.body)
+      given = for_given (λ s. (core.stmt_of at_place s, c.args.scope.now, state_of c.for_body.new.body)) c.for_body.result
+          (table_of c.args.tables.now) c.args.here c.args.inside c.args.scope.now c.within-inner-in-For.result (state_of c.args.body.now)
+          (core.step_seen at_place c.in_ok-first-in-For.first, c.optional.new.scope, state_of c.optional.new.body)
           (core.value_of at_place c.in_ok-test-in-For.test, state_of c.value-in-For.new.body)
-          (core.step_seen at_place c.in-Ok-optional.last, c.optional-in-For.new.scope.items, state_of c.optional-in-For.new.body)
-          (for_shown _ _ _ _ _ _ c.in-For.is) c.in_ok-inner-in-For.ensures c.in_ok-first-in-For.ensures.given c.in_ok-test-in-For.ensures.given
-          c.in-Ok-optional.ensures.given (c.for_body.ensures.given c.args.scope.now.items);
+          (core.step_seen at_place c.in-Ok-optional.last, c.optional-in-For.new.scope, state_of c.optional-in-For.new.body)
+          (for_shown _ _ _ _ _ _ c.in-For.is) c.within-inner-in-For.ensures.value c.in_ok-first-in-For.ensures.given c.in_ok-test-in-For.ensures.given
+          c.in-Ok-optional.ensures.given (c.for_body.ensures.given c.args.scope.now);
     }
 
 pub all_arms-loop-one-preserved : goal.all_arms-loop-one-preserved
 all_arms-loop-one-preserved t c =
-    arms_next (table_of c.args.tables.now) c.args.here c.args.inside c.args.scope.now.items (state_of c.loop-one.body) (state_of c.arm.new.body)
+    arms_next (table_of c.args.tables.now) c.args.here c.args.inside c.args.scope.now (state_of c.loop-one.body) (state_of c.arm.new.body)
     c.loop-one.done.items c.push.new.self.items c.deref-one-items.result.now c.loop-one.one-index c.one-item.result c.in-Ok.arm _
     c.loop-one-test.true c.one-item.is c.in-Ok.ensures.given c.in_ok-push-in-Ok.ensures.items c.loop-one.invariant
 
 pub all_arms-returns-in-Err : goal.all_arms-returns-in-Err
 all_arms-returns-in-Err t c =
     record {
-      given = arms_fault (table_of c.args.tables.now) c.args.here c.args.inside c.in-Err.refusal c.args.scope.now.items
+      given = arms_fault (table_of c.args.tables.now) c.args.here c.args.inside c.in-Err.refusal c.args.scope.now
           (state_of c.loop-one.body) c.loop-one.done.items c.deref-one-items.result.now c.loop-one.one-index c.one-item.result _ c.loop-one-test.true
           c.one-item.is c.in-Err.ensures.given c.loop-one.invariant;
     }

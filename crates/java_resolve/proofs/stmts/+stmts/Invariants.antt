@@ -11,15 +11,15 @@ use Rattle.java_resolve.proofs.stmts.+stmts.Given as goal
 -- what the arms so far and the rest resolve to is what all resolve to
 abbrev pub invariant-all_arms-loop-one : goal.invariant-all_arms-loop-one
 invariant-all_arms-loop-one l =
-    walk_arms (table_of l.tables) l.here l.inside (core.arms_seen at_place l.done.items no_other) l.scope.items (state_of l.body)
+    walk_arms (table_of l.tables) l.here l.inside (core.arms_seen at_place l.done.items no_other) l.scope (state_of l.body)
     (arms_seen (drop l.one-index l.one-items))
-    ≡ walk_arms (table_of l.tables) l.here l.inside no_other l.scope.items (state_of l.fn.body) (arms_seen l.list.items)
+    ≡ walk_arms (table_of l.tables) l.here l.inside no_other l.scope (state_of l.fn.body) (arms_seen l.list.items)
 
 -- what the statements so far and the rest resolve to is what all resolve to
 abbrev pub invariant-statements-loop-one : goal.invariant-statements-loop-one
 invariant-statements-loop-one l =
-    walk_sts (table_of l.tables) l.here l.inside (core.stmts at_place l.done.items) l.inner.items (state_of l.body) (stmts (drop l.one-index l.one-items))
-    ≡ walk_sts (table_of l.tables) l.here l.inside no_st l.scope.items (state_of l.fn.body) (stmts l.list.items)
+    walk_sts (table_of l.tables) l.here l.inside (core.stmts at_place l.done.items) l.inner (state_of l.body) (stmts (drop l.one-index l.one-items))
+    ≡ walk_sts (table_of l.tables) l.here l.inside no_st l.scope (state_of l.fn.body) (stmts l.list.items)
 
 abbrev pub decreases-stmt : goal.decreases-stmt
 decreases-stmt l = 4 * stmt_size (stmt_of l.tree.now)
