@@ -1,5 +1,5 @@
 -- The parameters of a method in scope.
-use Rattle.std.proofs.Common.{◌≡◌, ℕ, ◌+◌, Bool, true, false, cond, List, [], ◌∷◌, ◌++◌, length, Option, Some, None, refl, sym, ap, ◌∙◌, arith}
+use Rattle.std.proofs.Common.{◌≡◌, ℕ, ◌+◌, Bool, true, false, List, [], ◌∷◌, ◌++◌, length, Some, refl, ap, ◌∙◌, arith}
 use Rattle.std.specs.Prelude.{is_some, if◌then◌else◌}
 use Rattle.std.specs.Str.{bytes_eq}
 use Rattle.java_core.specs.declared.Local.{Local}
@@ -23,7 +23,3 @@ pub bounds_more : (k : ℕ) (ls : List Local) (l : Local) → bounds_from k (ls 
 bounds_more k [] l = ap (λ j. record { name = l.name; number = j } ∷ []) (omega arith)
 bounds_more k (x ∷ ls) l =
     ap (λ z. record { name = x.name; number = k } ∷ z) (bounds_more (k + 1) ls l ∙ ap (bound (bounds_from (k + 1) ls) l.name) (omega arith))
-
-pub not-in : (o : Option ℕ) → is_some o ≡ false → o ≡ None
-not-in None e = refl
-not-in (Some k) e = absurd (cc e)

@@ -125,3 +125,17 @@ for_given f r t h inside scope inner k a b c {u = u} {w = w} {v = v} {ss = ss} {
     (subst (λ o. Gives f r (with o (λ b. with (walk_optional t h inside a.1 b.1 w) (λ c. kept (walk_sts t h true no_st c.1 c.2 ss) scope
     (loop (at_place p) false a.0 b.0 c.0))))) (sym test)
     (subst (λ o. Gives f r (with o (λ c. kept (walk_sts t h true no_st c.1 c.2 ss) scope (loop (at_place p) false a.0 b.0 c.0)))) (sym last) g)))
+
+-- a fault of its last part
+pub for_fault : (r : Refusal) (t : Table) (h : Here) (inside : Bool) (scope inner : List Bound) (k : State) (a : Sts × List Bound × State)
+    (b : Option Ex × State) {x : tree.Statement} {u w : tree.OptionalStatement} {v : Option tree.Expression} {ss : tree.Statements} {p : Place}
+    → x ≡ tree.ForOf u v w ss p → inner ≡ scope → walk_optional t h inside inner k u ≡ Ok a → walk_value t h a.1 a.2 v ≡ Ok b →
+    IsRefused r (walk_optional t h inside a.1 b.1 w) → IsRefused r (walk_st t h inside scope k x)
+for_fault r t h inside scope inner k a b {u = u} {w = w} {v = v} {ss = ss} {p = p} shown same first test g =
+    subst (λ z. IsRefused r (walk_st t h inside scope k z)) (sym shown)
+    (subst (λ o. IsRefused r (with o (λ a. with (walk_value t h a.1 a.2 v) (λ b. with (walk_optional t h inside a.1 b.1 w)
+    (λ c. kept (walk_sts t h true no_st c.1 c.2 ss) scope (loop (at_place p) false a.0 b.0 c.0)))))) (sym first
+    ∙ ap (λ i. walk_optional t h inside i k u) same)
+    (subst (λ o. IsRefused r (with o (λ b. with (walk_optional t h inside a.1 b.1 w) (λ c. kept (walk_sts t h true no_st c.1 c.2 ss) scope
+    (loop (at_place p) false a.0 b.0 c.0))))) (sym test)
+    (passes r (walk_optional t h inside a.1 b.1 w) (λ c. kept (walk_sts t h true no_st c.1 c.2 ss) scope (loop (at_place p) false a.0 b.0 c.0)) g)))

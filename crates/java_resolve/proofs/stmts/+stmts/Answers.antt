@@ -7,7 +7,7 @@ use Rattle.java_tree.proofs.Sizes.{test_positive}
 use Rattle.java_resolve.specs.Tables.{table_of}
 use Rattle.java_resolve.specs.Statements.{state_of}
 use Rattle.java_resolve.proofs.StatementRows.{block_shown, while_shown, if_shown, for_shown}
-use Rattle.java_resolve.proofs.StatementSteps.{sts_next, arms_next, arms_fault, if_fault, if_given, for_given, carry_st, stmt_within, arm_within}
+use Rattle.java_resolve.proofs.StatementSteps.{sts_next, arms_next, arms_fault, if_fault, if_given, for_given, for_fault, carry_st, stmt_within, arm_within}
 use Rattle.java_resolve.proofs.stmts.+stmts.Goals as goal
 
 pub statements-loop-one-preserved : goal.statements-loop-one-preserved
@@ -52,12 +52,21 @@ pub stmt-returns-in-Ok-optional : goal.stmt-returns-in-Ok-optional
 stmt-returns-in-Ok-optional t c =
     record {
       given = for_given (λ s. (core.stmt_of at_place s, c.args.scope.now, state_of c.for_body.new.body)) c.for_body.result
-          (table_of c.args.tables.now) c.args.here c.args.inside c.args.scope.now c.within-inner-in-For.result (state_of c.args.body.now)
+          (table_of c.args.tables.now) c.args.here c.args.inside c.args.scope.now c.within-inner.result (state_of c.args.body.now)
           (core.step_seen at_place c.in_ok-first-in-For.first, c.optional.new.scope, state_of c.optional.new.body)
           (core.value_of at_place c.in_ok-test-in-For.test, state_of c.value-in-For.new.body)
           (core.step_seen at_place c.in-Ok-optional.last, c.optional-in-For.new.scope, state_of c.optional-in-For.new.body)
-          (for_shown _ _ _ _ _ _ c.in-For.is) c.within-inner-in-For.ensures.value c.in_ok-first-in-For.ensures.given c.in_ok-test-in-For.ensures.given
+          (for_shown _ _ _ _ _ _ c.in-For.is) c.within-inner.ensures.value c.in_ok-first-in-For.ensures.given c.in_ok-test-in-For.ensures.given
           c.in-Ok-optional.ensures.given (c.for_body.ensures.given c.args.scope.now);
+    }
+
+pub stmt-returns-in-For : goal.stmt-returns-in-For
+stmt-returns-in-For t c =
+    record {
+      given = for_fault c.in-Err-optional.refusal (table_of c.args.tables.now) c.args.here c.args.inside c.args.scope.now c.within-inner.result
+          (state_of c.args.body.now) (core.step_seen at_place c.in_ok-first-in-For.first, c.optional.new.scope, state_of c.optional.new.body)
+          (core.value_of at_place c.in_ok-test-in-For.test, state_of c.value-in-For.new.body) (for_shown _ _ _ _ _ _ c.in-For.is)
+          c.within-inner.ensures.value c.in_ok-first-in-For.ensures.given c.in_ok-test-in-For.ensures.given c.in-Err-optional.ensures.given;
     }
 
 pub all_arms-loop-one-preserved : goal.all_arms-loop-one-preserved
