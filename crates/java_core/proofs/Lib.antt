@@ -7,6 +7,7 @@ pub mod Offered
 pub mod Words
 pub mod Locals
 pub mod OwnedLemmas
+pub mod Buckets
 pub mod Meets
 pub mod Reached
 pub mod SquareLemmas

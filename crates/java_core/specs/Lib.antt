@@ -5,6 +5,7 @@ pub mod Classes
 pub mod Found
 pub mod Own
 pub mod Owned
+pub mod Tables
 pub mod Types
 pub mod Statics
 pub mod Typing

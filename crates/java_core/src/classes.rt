@@ -1,18 +1,16 @@
 //! Subtyping, and the members that a class or an interface has.
 
-ghost use Rattle.std.specs.Prelude.{◌≡◌, ℕ, ◌<◌, ◌↔◌, ◌&&◌, length, IsTrue, Option, Some, IfSome, IfNone, slice_get, position};
-ghost use Rattle.std.specs.Option.{option_map, is_some};
-ghost use Rattle.std.specs.List.{list_any, flat_map};
+ghost use Rattle.std.specs.Prelude.{◌≡◌, ℕ, ◌<◌, ◌↔◌, length, IsTrue, Option, Some, IfSome, IfNone};
+ghost use Rattle.std.specs.Option.{option_map};
 ghost use Rattle.java_core.specs.Trees.{no_place};
-ghost use Rattle.java_core.specs.Programs.{program_of, field_seen, method_seen};
-ghost use Rattle.java_core.specs.Classes.{IsSubclass, below, parent_of, faces_of, is_field_of, own_field_of, field_of, member_field, is_static_field, is_method_of, own_method, nearest, faces_above, first_or, first_found, declaration_of, slot_of_method, slot_of, is_slot, has_slot, own_declaration, own_body, lookup, nearest_declaration, super_method, has_body};
+ghost use Rattle.java_core.specs.Programs.{program_of};
+ghost use Rattle.java_core.specs.Classes.{IsSubclass, below, parent_of, faces_of, field_of, member_field, is_static_field, own_method, nearest, faces_above, first_or, first_found, declaration_of, slot_of_method, slot_of, lookup, nearest_declaration, super_method};
 ghost use Rattle.java_core.specs.Found.{Runs, IsOffered};
 ghost use Rattle.java_core.specs.Own.{own_named, own_of_slot};
-ghost use Rattle.java_core.specs.Owned.{passes, first_among};
 ghost use Rattle.java_core.specs.Formed.{IsFormed};
 
-use crate::owned::listed;
-use crate::{Class, Field, Method, Program};
+use crate::Program;
+use crate::own::{own_body_at, own_declaration_at, own_field_at, own_method_at};
 use kaba_base::{ClassId, MemberId, Name};
 
 /// Whether a class or interface is at or below another (Java Language Specification, 4.10.2).
@@ -249,80 +247,6 @@ fn member(at: Option<usize>) -> Option<MemberId>
     }
 }
 
-/// The first field of a name among these in a class.
-fn field_among(p: &Program, list: &[usize], class: ClassId, name: &Name) -> Option<usize>
-    ensures { result ≡ first_among (λ f. is_field_of class.0 name.now (field_seen no_place f)) p.now.fields.items list.now }
-{
-    for at in list {
-        if is_field_at(p, *at, class, name) {
-            return Some(*at);
-        }
-    }
-    None
-}
-
-/// The number of the field of a name in a class itself.
-fn own_field_at(p: &Program, class: ClassId, name: &Name) -> Option<usize>
-    ensures value { result ≡ position (λ f. is_field_of class.0 name.now (field_seen no_place f)) p.now.fields.items }
-    ensures within { IfSome result (λ i. i < length p.now.fields.items) }
-{
-    field_among(p, listed(&p.own_fields, class), class, name)
-}
-
-/// The first instance method of a name among these in a class.
-fn method_among(p: &Program, list: &[usize], class: ClassId, name: &Name) -> Option<usize>
-    ensures { result ≡ first_among (λ m. is_method_of class.0 name.now (method_seen no_place m)) p.now.methods.items list.now }
-{
-    for at in list {
-        if is_method_at(p, *at, class, name) {
-            return Some(*at);
-        }
-    }
-    None
-}
-
-/// The number of the instance method of a name that a class itself declares.
-fn own_method_at(p: &Program, class: ClassId, name: &Name) -> Option<usize>
-    ensures value { result ≡ position (λ m. is_method_of class.0 name.now (method_seen no_place m)) p.now.methods.items }
-    ensures within { IfSome result (λ i. i < length p.now.methods.items) }
-{
-    method_among(p, listed(&p.own_methods, class), class, name)
-}
-
-/// Whether the field of a number stands in the class and has the name.
-fn is_field_at(p: &Program, at: usize, class: ClassId, name: &Name) -> bool
-    ensures { result ≡ passes (λ f. is_field_of class.0 name.now (field_seen no_place f)) (slice_get p.now.fields.items at) }
-{
-    match p.fields.get(at) {
-        Some(field) => is_field_of(field, class, name),
-        None => false,
-    }
-}
-
-/// Whether the method of a number is an instance method that stands in the class and has the name.
-fn is_method_at(p: &Program, at: usize, class: ClassId, name: &Name) -> bool
-    ensures { result ≡ passes (λ m. is_method_of class.0 name.now (method_seen no_place m)) (slice_get p.now.methods.items at) }
-{
-    match p.methods.get(at) {
-        Some(method) => is_method_of(method, class, name),
-        None => false,
-    }
-}
-
-/// Whether a field stands in the class and has the name.
-fn is_field_of(field: &Field, class: ClassId, name: &Name) -> bool
-    ensures { result ≡ is_field_of class.0 name.now (field_seen no_place field.now) }
-{
-    field.owner == class && field.name.same(name)
-}
-
-/// Whether an instance method stands in the class and has the name.
-fn is_method_of(method: &Method, class: ClassId, name: &Name) -> bool
-    ensures { result ≡ is_method_of class.0 name.now (method_seen no_place method.now) }
-{
-    method.owner == class && !method.is_static && method.name.same(name)
-}
-
 /// What is looked for by a slot.
 #[derive(Clone, Copy)]
 enum OfSlot {
@@ -362,78 +286,4 @@ fn own_of_slot(p: &Program, class: ClassId, slot: u32, kind: OfSlot) -> Option<M
         OfSlot::Declaration => member(own_declaration_at(p, class, slot)),
         OfSlot::Body => member(own_body_at(p, class, slot)),
     }
-}
-
-/// The first method of a slot among these in a class.
-fn declaration_among(p: &Program, list: &[usize], class: ClassId, slot: u32) -> Option<usize>
-    ensures { result ≡ first_among (λ m. has_slot class.0 slot (method_seen no_place m)) p.now.methods.items list.now }
-{
-    for at in list {
-        if is_declaration_at(p, *at, class, slot) {
-            return Some(*at);
-        }
-    }
-    None
-}
-
-/// The number of the method of a slot that a class itself declares.
-fn own_declaration_at(p: &Program, class: ClassId, slot: u32) -> Option<usize>
-    ensures value { result ≡ position (λ m. has_slot class.0 slot (method_seen no_place m)) p.now.methods.items }
-    ensures within { IfSome result (λ i. i < length p.now.methods.items) }
-{
-    declaration_among(p, listed(&p.own_methods, class), class, slot)
-}
-
-/// The first body of a slot among these in a class.
-fn body_among(p: &Program, list: &[usize], class: ClassId, slot: u32) -> Option<usize>
-    ensures { result ≡ first_among (λ m. has_slot class.0 slot (method_seen no_place m) && is_some (method_seen no_place m).body) p.now.methods.items list.now }
-{
-    for at in list {
-        if is_body_at(p, *at, class, slot) {
-            return Some(*at);
-        }
-    }
-    None
-}
-
-/// The number of the body of a slot that a class itself has.
-fn own_body_at(p: &Program, class: ClassId, slot: u32) -> Option<usize>
-    ensures value { result ≡ position (λ m. has_slot class.0 slot (method_seen no_place m) && is_some (method_seen no_place m).body) p.now.methods.items }
-    ensures within { IfSome result (λ i. i < length p.now.methods.items) }
-{
-    body_among(p, listed(&p.own_methods, class), class, slot)
-}
-
-/// Whether the method of a number stands in the class and is of the slot.
-fn is_declaration_at(p: &Program, at: usize, class: ClassId, slot: u32) -> bool
-    ensures { result ≡ passes (λ m. has_slot class.0 slot (method_seen no_place m)) (slice_get p.now.methods.items at) }
-{
-    match p.methods.get(at) {
-        Some(method) => is_declaration_of(method, class, slot),
-        None => false,
-    }
-}
-
-/// Whether the method of a number stands in the class, is of the slot and has a body.
-fn is_body_at(p: &Program, at: usize, class: ClassId, slot: u32) -> bool
-    ensures { result ≡ passes (λ m. has_slot class.0 slot (method_seen no_place m) && is_some (method_seen no_place m).body) (slice_get p.now.methods.items at) }
-{
-    match p.methods.get(at) {
-        Some(method) => is_body_of(method, class, slot),
-        None => false,
-    }
-}
-
-/// Whether a method stands in the class and is of the slot.
-fn is_declaration_of(method: &Method, class: ClassId, slot: u32) -> bool
-    ensures { result ≡ has_slot class.0 slot (method_seen no_place method.now) }
-{
-    method.owner == class && method.slot == Some(slot)
-}
-
-/// Whether a method stands in the class, is of the slot and has a body.
-fn is_body_of(method: &Method, class: ClassId, slot: u32) -> bool
-    ensures { result ≡ has_slot class.0 slot (method_seen no_place method.now) && is_some (method_seen no_place method.now).body }
-{
-    is_declaration_of(method, class, slot) && method.body.is_some()
 }

@@ -4,16 +4,18 @@
 ghost use Rattle.std.specs.Prelude.{◌≡◌, map};
 ghost use Rattle.java_core.specs.Trees.{at_place};
 ghost use Rattle.java_core.specs.Plain.{class_seen};
-ghost use Rattle.java_core.specs.Owned.{AreOwned};
+ghost use Rattle.java_core.specs.Tables.{AreTables};
 ghost use Rattle.java_core.specs.Subtypes.{subtype_rows};
 
 mod checked;
 mod classes;
 mod direct;
 mod made;
+mod own;
 mod owned;
 mod statics;
 mod subtypes;
+mod tables;
 
 pub use checked::Checked;
 pub use classes::{
@@ -29,6 +31,7 @@ pub use statics::{
     static_of, string_method, string_result, type_at, unary_type, value_type,
 };
 pub use subtypes::{Hierarchy, subtypes_of};
+use tables::Tables;
 
 /// What an array's elements are, or a type that is no array.
 #[derive(Clone, Copy, Debug, PartialEq, Eq)]
@@ -397,13 +400,10 @@ pub struct Program {
     pub slots: Vec<Slot>,
     /// The method that a run begins with.
     pub main: MemberId,
-    /// For each class the numbers of the fields that it declares itself.
-    own_fields: Vec<Vec<usize>>,
-    /// For each class or interface the numbers of the methods that it declares itself.
-    own_methods: Vec<Vec<usize>>,
+    /// The numbers of the fields and methods by owner, name and slot.
+    tables: Tables,
     /// Which classes and interfaces are above which.
     above: Hierarchy,
-    ghost fields_owned: { AreOwned (map (λ f. f.owner.0) fields.items) own_fields.items },
-    ghost methods_owned: { AreOwned (map (λ m. m.owner.0) methods.items) own_methods.items },
+    ghost tables_shown: { AreTables fields.items methods.items tables },
     ghost above_shown: { above ≡ subtype_rows (map (class_seen at_place) classes.items) },
 }

@@ -7,7 +7,7 @@ ghost use Rattle.java_core.specs.Plain.{class_seen};
 ghost use Rattle.java_core.specs.Subtypes.{subtype_rows};
 ghost use Rattle.java_core.specs.Programs.{IsMadeOf};
 
-use crate::owned::{own_fields, own_methods};
+use crate::tables::Tables;
 use crate::{Class, Field, Hierarchy, Method, Program, Slot};
 use kaba_base::MemberId;
 use std::alloc::{AllocError, Global};
@@ -27,27 +27,23 @@ impl Program {
         requires { above ≡ subtype_rows (map (class_seen at_place) classes.items) }
         ensures { IfOk result (λ p. IsMadeOf classes fields methods slots main p) }
     {
-        match (
-            own_fields(alloc, fields.as_slice()),
-            own_methods(alloc, methods.as_slice()),
-        ) {
-            (Ok(own_fields), Ok(own_methods)) => Ok(Program {
+        match Tables::new(alloc, fields.as_slice(), methods.as_slice()) {
+            Ok(tables) => Ok(Program {
                 classes,
                 fields,
                 methods,
                 slots,
                 main,
                 above,
-                own_fields,
-                own_methods,
+                tables,
             }),
-            _ => {
+            Err(error) => {
                 drop(classes);
                 drop(fields);
                 drop(methods);
                 drop(slots);
                 drop(above);
-                Err(AllocError)
+                Err(error)
             }
         }
     }

@@ -28,16 +28,15 @@ fn put(lists: &mut Vec<Vec<usize>>, at: usize, number: usize) -> Result<(), Allo
     Ok(())
 }
 
-/// One member more, of this owner and this number.
-fn note(
+/// One number more in the list of a number; `AllocError` where memory is short.
+pub fn note(
     alloc: Global,
     lists: &mut Vec<Vec<usize>>,
-    owner: ClassId,
+    at: usize,
     number: usize,
 ) -> Result<(), AllocError>
-    ensures { OnOk result ((c : ℕ) → listed lists.new.items c ≡ cond (owner.0 == c) (listed lists.old.items c ++ number ∷ []) (listed lists.old.items c)) }
+    ensures { OnOk result ((c : ℕ) → listed lists.new.items c ≡ cond (at == c) (listed lists.old.items c ++ number ∷ []) (listed lists.old.items c)) }
 {
-    let at = owner.0 as usize;
     reach(alloc, lists, at)?;
     put(lists, at, number)
 }
@@ -48,7 +47,7 @@ pub fn own_fields(alloc: Global, list: &[Field]) -> Result<Vec<Vec<usize>>, Allo
 {
     let mut lists = Vec::new(alloc);
     for k in 0..list.len() {
-        note(alloc, &mut lists, list[k].owner, k)?;
+        note(alloc, &mut lists, list[k].owner.0 as usize, k)?;
     }
     Ok(lists)
 }
@@ -59,16 +58,16 @@ pub fn own_methods(alloc: Global, list: &[Method]) -> Result<Vec<Vec<usize>>, Al
 {
     let mut lists = Vec::new(alloc);
     for k in 0..list.len() {
-        note(alloc, &mut lists, list[k].owner, k)?;
+        note(alloc, &mut lists, list[k].owner.0 as usize, k)?;
     }
     Ok(lists)
 }
 
-/// The numbers of a list.
-pub fn listed(lists: &Vec<Vec<usize>>, class: ClassId) -> &[usize]
-    ensures { result.now ≡ listed lists.now.items class.0 }
+/// The numbers that lists have under a number.
+pub fn listed(lists: &Vec<Vec<usize>>, at: usize) -> &[usize]
+    ensures { result.now ≡ listed lists.now.items at }
 {
-    match lists.get(class.0 as usize) {
+    match lists.get(at) {
         Some(list) => list.as_slice(),
         None => &[],
     }
@@ -78,5 +77,5 @@ pub fn listed(lists: &Vec<Vec<usize>>, class: ClassId) -> &[usize]
 pub fn declared_fields(p: &Program, class: ClassId) -> &[usize]
     ensures { result.now ≡ owned_from 0 class.0 (map (λ f. f.owner.0) p.now.fields.items) }
 {
-    listed(&p.own_fields, class)
+    listed(&p.tables.own_fields, class.0 as usize)
 }

@@ -3,7 +3,7 @@ use Rattle.java_core.specs.Trees.{no_place}
 use Rattle.java_core.specs.Programs.{method_seen}
 use Rattle.java_core.specs.Classes.{has_slot}
 use Rattle.java_core.specs.Owned.{first_among}
-use Rattle.java_core.proofs.classes.declaration_among.Given as goal
+use Rattle.java_core.proofs.own.declaration_among.Given as goal
 
 -- none so far
 abbrev pub invariant-loop-at : goal.invariant-loop-at

@@ -1,0 +1,61 @@
+-- What is found in the bucket of a name or a slot is what is found by going over all.
+use Rattle.std.proofs.Common.{◌≡◌, ℕ, Bool, true, ◌&&◌, not, List, map, Option, Some, None, ap, ap₂, ◌∙◌}
+use Rattle.std.specs.Prelude.{◌==◌}
+use Rattle.std.specs.List.{position}
+use Rattle.std.specs.Option.{is_some}
+use Rattle.std.specs.Str.{bytes_eq}
+use Rattle.std.specs.declared.vec.Vec.{Vec}
+use Rattle.std.specs.declared.alloc.Global.{Global}
+use Rattle.std.proofs.lemmas.Bool.{and_parts, eqb-true, eq-eqb, false≢true}
+use Rattle.std.proofs.lemmas.Slice.Eq.{bytes_eq-Decides}
+use Rattle.java_core.specs.declared.Field.{Field}
+use Rattle.java_core.specs.declared.Method.{Method}
+use Rattle.java_core.specs.Trees.{no_place}
+use Rattle.java_core.specs.Programs.{field_seen, method_seen}
+use Rattle.java_core.specs.Classes.{is_field_of, is_method_of, has_slot, is_slot}
+use Rattle.java_core.specs.Owned.{AreOwned, listed, first_among}
+use Rattle.java_core.specs.Tables.{name_bucket, slot_bucket, field_bucket, method_bucket, method_slot_bucket}
+use Rattle.java_core.proofs.OwnedLemmas.{own-position}
+
+-- lists by a key have under a key the first item of each test that only items of the key pass
+pub keyed : {A : Type 0} (key : A → ℕ) (p : A → Bool) (c : ℕ) (items : List A) (lists : List (Vec ℕ Global)) → AreOwned (map key items) lists
+    → ((x : A) → p x ≡ true → key x ≡ c) → first_among p items (listed lists c) ≡ position p items
+keyed key p c items lists owned own =
+    ap (first_among p items) (owned.exact c) ∙ own-position key p c (λ x e. eq-eqb (key x) c (own x e)) items
+
+same_slot : (n c s : ℕ) (o : Option ℕ) → is_slot o s ≡ true → slot_bucket n c o ≡ slot_bucket n c (Some s)
+same_slot n c s None e = absurd (false≢true e)
+same_slot n c s (Some r) e = ap (λ i. slot_bucket n c (Some i)) (eqb-true r s e)
+
+-- a field of a name in a class is in the bucket of the two
+pub field_there : (n c : ℕ) (x : List ℕ) (f : Field) → is_field_of c x (field_seen no_place f) ≡ true → field_bucket n f ≡ name_bucket n c x
+field_there n c x f e =
+    let z = and_parts (f.owner.0 == c) (bytes_eq f.name x) e in
+    ap₂ (name_bucket n) (eqb-true f.owner.0 c z.0) ((bytes_eq-Decides f.name x).0 z.1)
+
+-- an instance method of a name in a class is in the bucket of the two
+pub method_there : (n c : ℕ) (x : List ℕ) (m : Method) → is_method_of c x (method_seen no_place m) ≡ true → method_bucket n m ≡ name_bucket n c x
+method_there n c x m e =
+    let z = and_parts (m.owner.0 == c) (not m.is_static && bytes_eq m.name x) e in
+    ap₂ (name_bucket n) (eqb-true m.owner.0 c z.0) ((bytes_eq-Decides m.name x).0 (and_parts (not m.is_static) (bytes_eq m.name x) z.1).1)
+
+-- a method of a slot in a class is in the bucket of the two
+pub slot_there : (n c s : ℕ) (m : Method) → has_slot c s (method_seen no_place m) ≡ true → method_slot_bucket n m ≡ slot_bucket n c (Some s)
+slot_there n c s m e =
+    let z = and_parts (m.owner.0 == c) (is_slot m.slot s) e in
+    ap (λ k. slot_bucket n k m.slot) (eqb-true m.owner.0 c z.0) ∙ same_slot n c s m.slot z.1
+
+-- the owner of a field of a name in a class, of such a method, of a method of a slot
+pub field_owner : (c : ℕ) (x : List ℕ) (f : Field) → is_field_of c x (field_seen no_place f) ≡ true → f.owner.0 ≡ c
+field_owner c x f e = eqb-true f.owner.0 c (and_parts (f.owner.0 == c) (bytes_eq f.name x) e).0
+
+pub method_owner : (c : ℕ) (x : List ℕ) (m : Method) → is_method_of c x (method_seen no_place m) ≡ true → m.owner.0 ≡ c
+method_owner c x m e = eqb-true m.owner.0 c (and_parts (m.owner.0 == c) (not m.is_static && bytes_eq m.name x) e).0
+
+pub slot_owner : (c s : ℕ) (m : Method) → has_slot c s (method_seen no_place m) ≡ true → m.owner.0 ≡ c
+slot_owner c s m e = eqb-true m.owner.0 c (and_parts (m.owner.0 == c) (is_slot m.slot s) e).0
+
+-- a body of a slot in a class is of the slot
+pub body_slot : (c s : ℕ) (m : Method) → (has_slot c s (method_seen no_place m) && is_some (method_seen no_place m).body) ≡ true
+    → has_slot c s (method_seen no_place m) ≡ true
+body_slot c s m e = (and_parts ((m.owner.0 == c) && is_slot m.slot s) (is_some (method_seen no_place m).body) e).0

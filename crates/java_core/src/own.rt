@@ -1,0 +1,213 @@
+//! The members that a class or an interface itself has, by name and by slot.
+#![tactic(auto)]
+
+ghost use Rattle.std.specs.Prelude.{◌≡◌, ◌<◌, ◌&&◌, length, IfSome, slice_get, position};
+ghost use Rattle.std.specs.Option.{is_some};
+ghost use Rattle.java_core.specs.Trees.{no_place};
+ghost use Rattle.java_core.specs.Programs.{field_seen, method_seen};
+ghost use Rattle.java_core.specs.Classes.{is_field_of, is_method_of, has_slot};
+ghost use Rattle.java_core.specs.Owned.{passes, first_among};
+
+use crate::owned::listed;
+use crate::tables::{name_bucket, slot_bucket};
+use crate::{Field, Method, Program};
+use kaba_base::{ClassId, Name};
+
+/// How many members of a class are looked through one by one; those of a class with more are looked up by name or slot.
+const FEW: usize = 32;
+
+/// The fields among which the one of a name in a class is, if it has one.
+fn fields_of<'a>(p: &'a Program, class: ClassId, name: &Name) -> &'a [usize]
+    ensures { first_among (λ f. is_field_of class.0 name.now (field_seen no_place f)) p.now.fields.items result.now
+        ≡ position (λ f. is_field_of class.0 name.now (field_seen no_place f)) p.now.fields.items }
+{
+    let own = listed(&p.tables.own_fields, class.0 as usize);
+    if own.len() <= FEW {
+        return own;
+    }
+    listed(
+        &p.tables.fields_by_name,
+        name_bucket(p.fields.len(), class, name),
+    )
+}
+
+/// The methods among which the instance method of a name in a class is, if it has one.
+fn methods_of<'a>(p: &'a Program, class: ClassId, name: &Name) -> &'a [usize]
+    ensures { first_among (λ m. is_method_of class.0 name.now (method_seen no_place m)) p.now.methods.items result.now
+        ≡ position (λ m. is_method_of class.0 name.now (method_seen no_place m)) p.now.methods.items }
+{
+    let own = listed(&p.tables.own_methods, class.0 as usize);
+    if own.len() <= FEW {
+        return own;
+    }
+    listed(
+        &p.tables.methods_by_name,
+        name_bucket(p.methods.len(), class, name),
+    )
+}
+
+/// The methods among which each of a slot in a class is.
+fn methods_in(p: &Program, class: ClassId, slot: u32) -> &[usize]
+    ensures declaration { first_among (λ m. has_slot class.0 slot (method_seen no_place m)) p.now.methods.items result.now
+        ≡ position (λ m. has_slot class.0 slot (method_seen no_place m)) p.now.methods.items }
+    ensures body { first_among (λ m. has_slot class.0 slot (method_seen no_place m) && is_some (method_seen no_place m).body) p.now.methods.items result.now
+        ≡ position (λ m. has_slot class.0 slot (method_seen no_place m) && is_some (method_seen no_place m).body) p.now.methods.items }
+{
+    let own = listed(&p.tables.own_methods, class.0 as usize);
+    if own.len() <= FEW {
+        return own;
+    }
+    listed(
+        &p.tables.methods_by_slot,
+        slot_bucket(p.methods.len(), class, Some(slot)),
+    )
+}
+
+/// The first field of a name among these in a class.
+fn field_among(p: &Program, list: &[usize], class: ClassId, name: &Name) -> Option<usize>
+    ensures { result ≡ first_among (λ f. is_field_of class.0 name.now (field_seen no_place f)) p.now.fields.items list.now }
+{
+    for at in list {
+        if is_field_at(p, *at, class, name) {
+            return Some(*at);
+        }
+    }
+    None
+}
+
+/// The number of the field of a name in a class itself.
+pub fn own_field_at(p: &Program, class: ClassId, name: &Name) -> Option<usize>
+    ensures value { result ≡ position (λ f. is_field_of class.0 name.now (field_seen no_place f)) p.now.fields.items }
+    ensures within { IfSome result (λ i. i < length p.now.fields.items) }
+{
+    field_among(p, fields_of(p, class, name), class, name)
+}
+
+/// The first instance method of a name among these in a class.
+fn method_among(p: &Program, list: &[usize], class: ClassId, name: &Name) -> Option<usize>
+    ensures { result ≡ first_among (λ m. is_method_of class.0 name.now (method_seen no_place m)) p.now.methods.items list.now }
+{
+    for at in list {
+        if is_method_at(p, *at, class, name) {
+            return Some(*at);
+        }
+    }
+    None
+}
+
+/// The number of the instance method of a name that a class itself declares.
+pub fn own_method_at(p: &Program, class: ClassId, name: &Name) -> Option<usize>
+    ensures value { result ≡ position (λ m. is_method_of class.0 name.now (method_seen no_place m)) p.now.methods.items }
+    ensures within { IfSome result (λ i. i < length p.now.methods.items) }
+{
+    method_among(p, methods_of(p, class, name), class, name)
+}
+
+/// Whether the field of a number stands in the class and has the name.
+fn is_field_at(p: &Program, at: usize, class: ClassId, name: &Name) -> bool
+    ensures { result ≡ passes (λ f. is_field_of class.0 name.now (field_seen no_place f)) (slice_get p.now.fields.items at) }
+{
+    match p.fields.get(at) {
+        Some(field) => is_field_of(field, class, name),
+        None => false,
+    }
+}
+
+/// Whether the method of a number is an instance method that stands in the class and has the name.
+fn is_method_at(p: &Program, at: usize, class: ClassId, name: &Name) -> bool
+    ensures { result ≡ passes (λ m. is_method_of class.0 name.now (method_seen no_place m)) (slice_get p.now.methods.items at) }
+{
+    match p.methods.get(at) {
+        Some(method) => is_method_of(method, class, name),
+        None => false,
+    }
+}
+
+/// Whether a field stands in the class and has the name.
+fn is_field_of(field: &Field, class: ClassId, name: &Name) -> bool
+    ensures { result ≡ is_field_of class.0 name.now (field_seen no_place field.now) }
+{
+    field.owner == class && field.name.same(name)
+}
+
+/// Whether an instance method stands in the class and has the name.
+fn is_method_of(method: &Method, class: ClassId, name: &Name) -> bool
+    ensures { result ≡ is_method_of class.0 name.now (method_seen no_place method.now) }
+{
+    method.owner == class && !method.is_static && method.name.same(name)
+}
+
+/// The first method of a slot among these in a class.
+fn declaration_among(p: &Program, list: &[usize], class: ClassId, slot: u32) -> Option<usize>
+    ensures { result ≡ first_among (λ m. has_slot class.0 slot (method_seen no_place m)) p.now.methods.items list.now }
+{
+    for at in list {
+        if is_declaration_at(p, *at, class, slot) {
+            return Some(*at);
+        }
+    }
+    None
+}
+
+/// The number of the method of a slot that a class itself declares.
+pub fn own_declaration_at(p: &Program, class: ClassId, slot: u32) -> Option<usize>
+    ensures value { result ≡ position (λ m. has_slot class.0 slot (method_seen no_place m)) p.now.methods.items }
+    ensures within { IfSome result (λ i. i < length p.now.methods.items) }
+{
+    declaration_among(p, methods_in(p, class, slot), class, slot)
+}
+
+/// The first body of a slot among these in a class.
+fn body_among(p: &Program, list: &[usize], class: ClassId, slot: u32) -> Option<usize>
+    ensures { result ≡ first_among (λ m. has_slot class.0 slot (method_seen no_place m) && is_some (method_seen no_place m).body) p.now.methods.items list.now }
+{
+    for at in list {
+        if is_body_at(p, *at, class, slot) {
+            return Some(*at);
+        }
+    }
+    None
+}
+
+/// The number of the body of a slot that a class itself has.
+pub fn own_body_at(p: &Program, class: ClassId, slot: u32) -> Option<usize>
+    ensures value { result ≡ position (λ m. has_slot class.0 slot (method_seen no_place m) && is_some (method_seen no_place m).body) p.now.methods.items }
+    ensures within { IfSome result (λ i. i < length p.now.methods.items) }
+{
+    body_among(p, methods_in(p, class, slot), class, slot)
+}
+
+/// Whether the method of a number stands in the class and is of the slot.
+fn is_declaration_at(p: &Program, at: usize, class: ClassId, slot: u32) -> bool
+    ensures { result ≡ passes (λ m. has_slot class.0 slot (method_seen no_place m)) (slice_get p.now.methods.items at) }
+{
+    match p.methods.get(at) {
+        Some(method) => is_declaration_of(method, class, slot),
+        None => false,
+    }
+}
+
+/// Whether the method of a number stands in the class, is of the slot and has a body.
+fn is_body_at(p: &Program, at: usize, class: ClassId, slot: u32) -> bool
+    ensures { result ≡ passes (λ m. has_slot class.0 slot (method_seen no_place m) && is_some (method_seen no_place m).body)
+        (slice_get p.now.methods.items at) }
+{
+    match p.methods.get(at) {
+        Some(method) => is_body_of(method, class, slot),
+        None => false,
+    }
+}
+
+/// Whether a method stands in the class and is of the slot.
+fn is_declaration_of(method: &Method, class: ClassId, slot: u32) -> bool
+    ensures { result ≡ has_slot class.0 slot (method_seen no_place method.now) }
+{
+    method.owner == class && method.slot == Some(slot)
+}
+
+/// Whether a method stands in the class, is of the slot and has a body.
+fn is_body_of(method: &Method, class: ClassId, slot: u32) -> bool
+    ensures { result ≡ has_slot class.0 slot (method_seen no_place method.now) && is_some (method_seen no_place method.now).body }
+{
+    is_declaration_of(method, class, slot) && method.body.is_some()
+}
