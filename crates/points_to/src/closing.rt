@@ -12,6 +12,7 @@ ghost use Rattle.points_to.specs.Closed.{AreAsked, AreClosed};
 
 use crate::found::Found;
 use crate::index::Index;
+use crate::queue::Queue;
 use crate::reads::close_reads;
 use crate::runs::close_runs;
 use crate::work::{Edge, Told, pass, show};
@@ -26,7 +27,7 @@ fn close_edges(
     facts: &Facts,
     below: &[BitRow],
     sets: &mut [BitRow],
-    grown: &mut BitRow,
+    grown: &mut Queue,
     edges: &[Edge],
 ) -> Result<bool, AllocError>
     requires below { AreSitesBelow facts.now (length facts.now.sites.items) below.now }
@@ -45,7 +46,7 @@ fn close_edges(
 }
 
 /// Each site of a list.
-pub fn close_told(facts: &Facts, sets: &mut [BitRow], grown: &mut BitRow, told: &[Told]) -> bool
+pub fn close_told(facts: &Facts, sets: &mut [BitRow], grown: &mut Queue, told: &[Told]) -> bool
     requires sets { AreSound facts.now sets.old }
     requires told { All (IsTold facts.now) told.now }
     ensures sets { AreSound facts.now sets.new }
@@ -66,7 +67,7 @@ pub fn close_all(
     index: &Index,
     found: &Found,
     sets: &mut [BitRow],
-    grown: &mut BitRow,
+    grown: &mut Queue,
 ) -> Result<bool, AllocError>
     requires facts { InRange facts.now }
     requires index { IsIndex facts.now index.now }

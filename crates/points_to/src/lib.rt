@@ -21,6 +21,8 @@ mod fixed;
 mod found;
 mod index;
 mod news;
+mod order;
+mod queue;
 mod reads;
 mod runs;
 mod targets;
@@ -37,8 +39,12 @@ use fixed::fixed;
 use found::Found;
 pub use index::{empty, note, numbers_at};
 use index::{Index, index_of};
+pub use order::order_of;
+use queue::queue_of_sets;
+pub use queue::{Queue, queue_of, take, wait};
 use turns::grow;
 use unions::unions;
+pub use writes::is_same_set;
 
 /// The points-to sets of the facts, for each point, cell and row: a site is in a set exactly where a derivation by
 /// the inclusions ends in it. An error comes only for want of memory.
@@ -82,20 +88,10 @@ fn fill(alloc: Global, facts: &Facts, sets: &mut [BitRow]) -> Result<(), AllocEr
 {
     let index = index_of(alloc, facts)?;
     let found = fixed(alloc, facts)?;
-    let mut grown = BitRow::new(alloc, node_count(facts))?;
+    let mut grown = queue_of_sets(alloc, facts, &found)?;
     grow(alloc, facts, &index, &found, sets, &mut grown)?;
     run_rounds(alloc, facts, &index, &found, sets, &mut grown)?;
     Ok(())
-}
-
-/// How many sets there are, as far as a row can number them.
-fn node_count(facts: &Facts) -> u32 {
-    let count = facts.points.len().saturating_add(facts.cells.len());
-    if count < u32::MAX as usize {
-        count as u32
-    } else {
-        u32::MAX
-    }
 }
 
 /// Turns over everything, until nothing is new. An error comes only for want of memory.
@@ -105,7 +101,7 @@ fn run_rounds(
     index: &Index,
     found: &Found,
     sets: &mut [BitRow],
-    grown: &mut BitRow,
+    grown: &mut Queue,
 ) -> Result<(), AllocError>
     requires facts { InRange facts.now }
     requires index { IsIndex facts.now index.now }

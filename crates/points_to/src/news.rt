@@ -5,18 +5,19 @@ ghost use Rattle.kaba_bits.specs.Sets.{bit, IsEmpty};
 ghost use Rattle.fact_model.specs.InRange.{InRange};
 ghost use Rattle.points_to.specs.Sound.{node_count, AreSound, InNode};
 
+use crate::queue::{Queue, queue_of};
 use crate::reads::next_site;
 use crate::work::{include_row, put};
 use fact_model::Facts;
 use kaba_bits::{BitRow, empty_rows, row_at};
 use std::alloc::{AllocError, Global};
 
-/// For each point and cell the sites that are to be gone over, and those that were; and a row that takes no number.
+/// For each point and cell the sites that are to be gone over, and those that were; and a queue that takes no number.
 #[derive(Drop)]
 pub struct Bases {
     pub now: Vec<BitRow>,
     seen: Vec<BitRow>,
-    none: BitRow,
+    none: Queue,
 }
 
 /// No sites. An error comes only for want of memory.
@@ -29,7 +30,7 @@ pub fn no_bases(alloc: Global, facts: &Facts) -> Result<Bases, AllocError>
     Ok(Bases {
         now: empty_rows(alloc, count, width)?,
         seen: empty_rows(alloc, count, width)?,
-        none: BitRow::new(alloc, 0)?,
+        none: queue_of(alloc, Vec::new(alloc), 0)?,
     })
 }
 
@@ -48,7 +49,7 @@ fn clear_base(facts: &Facts, now: &mut [BitRow], p: usize)
 fn put_news(
     facts: &Facts,
     now: &mut [BitRow],
-    none: &mut BitRow,
+    none: &mut Queue,
     set: &BitRow,
     seen: &BitRow,
     p: usize,
@@ -78,7 +79,7 @@ fn put_news(
 fn put_base(
     facts: &Facts,
     now: &mut [BitRow],
-    none: &mut BitRow,
+    none: &mut Queue,
     set: &BitRow,
     seen: &BitRow,
     p: usize,

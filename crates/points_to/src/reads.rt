@@ -11,6 +11,7 @@ ghost use Rattle.points_to.specs.Work.{IsRead, IsReadClosed};
 ghost use Rattle.points_to.specs.Rounds.{IsIn, IsNextBeyond, IsGathered, IsWhole};
 
 use crate::index::Index;
+use crate::queue::Queue;
 use crate::targets::list_targets;
 use crate::work::{Member, Read, include_row};
 use fact_model::Facts;
@@ -155,7 +156,7 @@ fn close_read(
     index: &Index,
     bases: &[BitRow],
     sets: &mut [BitRow],
-    grown: &mut BitRow,
+    grown: &mut Queue,
     union: &mut Union,
     list: &mut Vec<usize>,
     x: Read,
@@ -184,7 +185,7 @@ pub fn close_reads(
     index: &Index,
     bases: &[BitRow],
     sets: &mut [BitRow],
-    grown: &mut BitRow,
+    grown: &mut Queue,
     reads: &[Read],
 ) -> Result<bool, AllocError>
     requires facts { InRange facts.now }

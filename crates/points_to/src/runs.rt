@@ -10,6 +10,7 @@ ghost use Rattle.points_to.specs.Work.{IsRun, IsRunClosed};
 ghost use Rattle.points_to.specs.Rounds.{HasSite, IsRunAt, AreBegun};
 
 use crate::index::Index;
+use crate::queue::Queue;
 use crate::reads::next_site;
 use crate::targets::list_targets;
 use crate::work::{Member, Run, put};
@@ -25,7 +26,7 @@ pub struct Begun {
 }
 
 /// One site into each of these sets, and whether it is new in one.
-fn put_all(facts: &Facts, sets: &mut [BitRow], grown: &mut BitRow, list: &[usize], o: u32) -> bool
+fn put_all(facts: &Facts, sets: &mut [BitRow], grown: &mut Queue, list: &[usize], o: u32) -> bool
     requires sets { AreSound facts.now sets.old }
     requires site { o < length facts.now.sites.items }
     requires list { All (λ n. n < node_count facts.now) list.now }
@@ -46,7 +47,7 @@ fn run_site(
     facts: &Facts,
     index: &Index,
     sets: &mut [BitRow],
-    grown: &mut BitRow,
+    grown: &mut Queue,
     list: &mut Vec<usize>,
     x: Run,
     o: u32,
@@ -85,7 +86,7 @@ fn close_run(
     index: &Index,
     bases: &[BitRow],
     sets: &mut [BitRow],
-    grown: &mut BitRow,
+    grown: &mut Queue,
     begun: &mut Begun,
     list: &mut Vec<usize>,
     x: Run,
@@ -127,7 +128,7 @@ pub fn close_runs(
     index: &Index,
     bases: &[BitRow],
     sets: &mut [BitRow],
-    grown: &mut BitRow,
+    grown: &mut Queue,
     runs: &[Run],
 ) -> Result<bool, AllocError>
     requires facts { InRange facts.now }

@@ -11,26 +11,15 @@ use crate::closing::close_told;
 use crate::found::Found;
 use crate::index::{Index, numbers_at};
 use crate::news::{Bases, load_news, load_whole, no_bases};
+use crate::queue::{Queue, take};
 use crate::reads::close_reads;
 use crate::runs::close_runs;
-use crate::uses::{Due, Uses, clear, is_nothing, nothing_due, uses_of, wake};
+use crate::uses::{Due, Uses, clear, concerns, is_nothing, nothing_due, uses_of, wake};
 use crate::work::{Edge, Read, Run, Write, pass};
 use crate::writes::close_writes;
 use fact_model::Facts;
 use kaba_bits::BitRow;
 use std::alloc::{AllocError, Global};
-
-/// Takes out the first set that grew, from one on or else of all.
-fn next(grown: &mut BitRow, at: u32) -> Option<u32> {
-    let n = match grown.next(at) {
-        Some(n) => n,
-        None => grown.next(0)?,
-    };
-    if n < grown.width() {
-        grown.remove(n);
-    }
-    Some(n)
-}
 
 /// The inclusion of a number.
 fn edge_at(facts: &Facts, found: &Found, i: usize) -> Option<Edge>
@@ -52,7 +41,7 @@ fn pass_all(
     index: &Index,
     found: &Found,
     sets: &mut [BitRow],
-    grown: &mut BitRow,
+    grown: &mut Queue,
     list: &[usize],
 ) -> Result<(), AllocError>
     requires index { IsIndex facts.now index.now }
@@ -76,7 +65,7 @@ fn flow(
     found: &Found,
     uses: &Uses,
     sets: &mut [BitRow],
-    grown: &mut BitRow,
+    grown: &mut Queue,
     due: &mut Due,
 ) -> Result<(), AllocError>
     requires index { IsIndex facts.now index.now }
@@ -84,21 +73,12 @@ fn flow(
     requires sets { AreSound facts.now sets.old }
     ensures { OnOk result (AreSound facts.now sets.new) }
 {
-    let mut at = 0;
     for _turn in 0..u64::MAX {
-        match next(grown, at) {
+        match take(grown) {
             Some(n) => {
-                at = n;
-                wake(uses, due, n as usize);
-                pass_all(
-                    alloc,
-                    facts,
-                    index,
-                    found,
-                    sets,
-                    grown,
-                    numbers_at(&uses.edges, n as usize),
-                )?;
+                wake(index, uses, due, n);
+                let list = numbers_at(&uses.edges, n);
+                pass_all(alloc, facts, index, found, sets, grown, list)?;
             }
             None => return Ok(()),
         }
@@ -145,6 +125,46 @@ fn reads_of(
     let mut list = Vec::new(alloc);
     for k in &numbers {
         add_read(facts, found, &mut list, *k as usize)?;
+    }
+    Ok(list)
+}
+
+/// The read of a number at the end of a list, where its base has a site with a member that grew. An error comes only for want of memory.
+fn add_whole_read(
+    facts: &Facts,
+    found: &Found,
+    sets: &[BitRow],
+    due: &Due,
+    list: &mut Vec<Read>,
+    k: usize,
+) -> Result<(), AllocError>
+    requires found { AreFound facts.now found.now }
+    requires list { All (IsRead facts.now) list.old.items }
+    ensures { OnOk result (All (IsRead facts.now) list.new.items) }
+{
+    if let Some(x) = read_at(facts, found, k) {
+        if concerns(due, sets, x) {
+            list.push(x)?;
+        }
+    }
+    Ok(())
+}
+
+/// The reads of members that grew, those whose base has a site with one. An error comes only for want of memory.
+fn whole_reads_of(
+    alloc: Global,
+    facts: &Facts,
+    found: &Found,
+    sets: &[BitRow],
+    due: &Due,
+) -> Result<Vec<Read>, AllocError>
+    requires { AreFound facts.now found.now }
+    ensures { IfOk result (λ v. All (IsRead facts.now) v.items) }
+{
+    let numbers = due.whole_reads.rising(alloc)?;
+    let mut list = Vec::new(alloc);
+    for k in &numbers {
+        add_whole_read(facts, found, sets, due, &mut list, *k as usize)?;
     }
     Ok(list)
 }
@@ -268,7 +288,7 @@ fn turn_news(
     found: &Found,
     bases: &mut Bases,
     sets: &mut [BitRow],
-    grown: &mut BitRow,
+    grown: &mut Queue,
     due: &Due,
 ) -> Result<(), AllocError>
     requires facts { InRange facts.now }
@@ -321,7 +341,7 @@ fn turn_whole(
     found: &Found,
     bases: &mut Bases,
     sets: &mut [BitRow],
-    grown: &mut BitRow,
+    grown: &mut Queue,
     due: &Due,
 ) -> Result<(), AllocError>
     requires facts { InRange facts.now }
@@ -332,7 +352,7 @@ fn turn_whole(
     ensures now { OnOk result (AreSound facts.now bases.new.now.items) }
     ensures sets { OnOk result (AreSound facts.now sets.new) }
 {
-    let reads = reads_of(alloc, facts, found, &due.whole_reads)?;
+    let reads = whole_reads_of(alloc, facts, found, sets, due)?;
     let writes = writes_of(alloc, facts, found, &due.whole_writes)?;
     load_reads(facts, sets, bases, &reads);
     load_writes(facts, sets, bases, &writes);
@@ -349,7 +369,7 @@ fn turn(
     found: &Found,
     bases: &mut Bases,
     sets: &mut [BitRow],
-    grown: &mut BitRow,
+    grown: &mut Queue,
     due: &mut Due,
 ) -> Result<(), AllocError>
     requires facts { InRange facts.now }
@@ -375,7 +395,7 @@ fn run(
     uses: &Uses,
     bases: &mut Bases,
     sets: &mut [BitRow],
-    grown: &mut BitRow,
+    grown: &mut Queue,
     due: &mut Due,
 ) -> Result<(), AllocError>
     requires facts { InRange facts.now }
@@ -402,7 +422,7 @@ pub fn grow(
     index: &Index,
     found: &Found,
     sets: &mut [BitRow],
-    grown: &mut BitRow,
+    grown: &mut Queue,
 ) -> Result<(), AllocError>
     requires facts { InRange facts.now }
     requires index { IsIndex facts.now index.now }
@@ -412,7 +432,7 @@ pub fn grow(
 {
     close_told(facts, sets, grown, &found.told);
     let uses = uses_of(alloc, facts, found)?;
-    let mut due = nothing_due(alloc, found, &uses)?;
+    let mut due = nothing_due(alloc, facts, found, &uses)?;
     let mut bases = no_bases(alloc, facts)?;
     run(
         alloc, facts, index, found, &uses, &mut bases, sets, grown, &mut due,

@@ -1,14 +1,26 @@
 //! What has to be gone over again where a set grew.
 
 use crate::found::Found;
-use crate::index::{empty, note, numbers_at};
-use crate::work::Member;
+use crate::index::{Index, empty, note, numbers_at};
+use crate::work::{Member, Read};
 use fact_model::Facts;
+use kaba_base::ClassId;
 use kaba_bits::BitRow;
 use std::alloc::{AllocError, Global};
 
+/// The sites whose member a set is.
+#[derive(Clone, Copy)]
+enum Home {
+    /// None: it is the set of a variable or an expression.
+    None,
+    /// One: it is a cell of the site.
+    Site(u32),
+    /// Those of a class at or below one, or some of them: it is the result of a body of the class.
+    Below(ClassId),
+}
+
 /// The numbers of inclusions by where they begin, of reads, writes and runs by their base, of writes by their value, and of reads by
-/// their member; and of each set the member that it is one of.
+/// their member; and of each set the member that it is one of, and the sites whose.
 #[derive(Drop)]
 pub struct Uses {
     pub edges: Vec<Vec<usize>>,
@@ -18,10 +30,11 @@ pub struct Uses {
     runs: Vec<Vec<usize>>,
     alike: Vec<Vec<usize>>,
     members: Vec<usize>,
+    homes: Vec<Home>,
 }
 
 /// What has to be gone over: bases that grew, with the numbers of reads, writes and runs of them, for which what is new there is enough;
-/// members that grew, and reads and writes that have to be gone over for each site of their base.
+/// members that grew, and sites that have one that did; and reads and writes that have to be gone over for each site of their base.
 #[derive(Drop)]
 pub struct Due {
     pub bases: BitRow,
@@ -29,6 +42,7 @@ pub struct Due {
     pub writes: BitRow,
     pub runs: BitRow,
     members: BitRow,
+    sites: BitRow,
     pub whole_reads: BitRow,
     pub whole_writes: BitRow,
 }
@@ -44,39 +58,41 @@ fn number_of(facts: &Facts, member: Member) -> usize {
     }
 }
 
-/// Notes of a set which member it is one of.
-fn note_member(members: &mut [usize], n: usize, member: usize) {
-    if n < members.len() {
-        members[n] = member;
+/// Notes of a set which member it is one of, and of which sites.
+fn note_member(uses: &mut Uses, n: usize, member: usize, home: Home) {
+    if n < uses.members.len() && n < uses.homes.len() {
+        uses.members[n] = member;
+        uses.homes[n] = home;
     }
 }
 
 /// Which member each cell is.
-fn note_cells(facts: &Facts, members: &mut [usize]) {
+fn note_cells(facts: &Facts, uses: &mut Uses) {
     for c in 0..facts.cells.len() {
-        let member = number_of(facts, Member::Field(facts.cells[c].column));
-        note_member(members, facts.points.len().saturating_add(c), member);
+        let cell = facts.cells[c];
+        let member = number_of(facts, Member::Field(cell.column));
+        let n = facts.points.len().saturating_add(c);
+        note_member(uses, n, member, Home::Site(cell.site.0));
     }
 }
 
-/// The slot of a column.
-fn slot_at(facts: &Facts, d: usize) -> Option<u32> {
+/// Which member a set is that is the result of a body of a column.
+fn note_result(facts: &Facts, uses: &mut Uses, n: usize, d: usize) {
     if d < facts.columns.len() {
-        facts.columns[d].slot
-    } else {
-        None
+        let column = &facts.columns[d];
+        if let Some(slot) = column.slot {
+            let member = number_of(facts, Member::Returned(slot));
+            note_member(uses, n, member, Home::Below(column.class));
+        }
     }
 }
 
 /// Which member the result of each body is.
-fn note_results(facts: &Facts, members: &mut [usize]) {
+fn note_results(facts: &Facts, uses: &mut Uses) {
     for b in 0..facts.bodies.len() {
         let body = &facts.bodies[b];
         if let Some(n) = body.result {
-            if let Some(slot) = slot_at(facts, body.column.0 as usize) {
-                let member = number_of(facts, Member::Returned(slot));
-                note_member(members, n as usize, member);
-            }
+            note_result(facts, uses, n as usize, body.column.0 as usize);
         }
     }
 }
@@ -120,9 +136,6 @@ fn note_runs(found: &Found, uses: &mut Uses) -> Result<(), AllocError> {
 /// All of it. An error comes only for want of memory.
 pub fn uses_of(alloc: Global, facts: &Facts, found: &Found) -> Result<Uses, AllocError> {
     let count = facts.points.len().saturating_add(facts.cells.len());
-    let mut members = vec![in alloc; usize::MAX; count]?;
-    note_cells(facts, &mut members);
-    note_results(facts, &mut members);
     let members_count = facts.columns.len().saturating_mul(2).saturating_add(1);
     let mut uses = Uses {
         edges: empty(alloc, count)?,
@@ -131,8 +144,11 @@ pub fn uses_of(alloc: Global, facts: &Facts, found: &Found) -> Result<Uses, Allo
         values: empty(alloc, count)?,
         runs: empty(alloc, count)?,
         alike: empty(alloc, members_count)?,
-        members,
+        members: vec![in alloc; usize::MAX; count]?,
+        homes: vec![in alloc; Home::None; count]?,
     };
+    note_cells(facts, &mut uses);
+    note_results(facts, &mut uses);
     note_edges(found, &mut uses)?;
     note_reads(facts, found, &mut uses)?;
     note_writes(found, &mut uses)?;
@@ -150,13 +166,19 @@ fn row_of(alloc: Global, count: usize) -> Result<BitRow, AllocError> {
 }
 
 /// Nothing has to be gone over. An error comes only for want of memory.
-pub fn nothing_due(alloc: Global, found: &Found, uses: &Uses) -> Result<Due, AllocError> {
+pub fn nothing_due(
+    alloc: Global,
+    facts: &Facts,
+    found: &Found,
+    uses: &Uses,
+) -> Result<Due, AllocError> {
     Ok(Due {
         bases: row_of(alloc, uses.reads.len())?,
         reads: row_of(alloc, found.reads.len())?,
         writes: row_of(alloc, found.writes.len())?,
         runs: row_of(alloc, found.runs.len())?,
         members: row_of(alloc, uses.alike.len())?,
+        sites: row_of(alloc, facts.sites.len())?,
         whole_reads: row_of(alloc, found.reads.len())?,
         whole_writes: row_of(alloc, found.writes.len())?,
     })
@@ -182,9 +204,28 @@ fn wake_base(uses: &Uses, due: &mut Due, n: usize) {
     set_all(&mut due.runs, numbers_at(&uses.runs, n));
 }
 
+/// A row into another of its width.
+fn add_row(row: &mut BitRow, rows: &[BitRow], k: usize) {
+    if k < rows.len() && rows[k].width() == row.width() {
+        row.or_into(&rows[k]);
+    }
+}
+
+/// These sites have a member that grew.
+fn wake_sites(index: &Index, due: &mut Due, home: Home) {
+    match home {
+        Home::None => {}
+        Home::Site(o) => {
+            is_new(&mut due.sites, o as usize);
+        }
+        Home::Below(class) => add_row(&mut due.sites, &index.below, class.0 as usize),
+    }
+}
+
 /// What has to be gone over since one of the sets of a member grew.
-fn wake_member(uses: &Uses, due: &mut Due, n: usize) {
-    if n < uses.members.len() {
+fn wake_member(index: &Index, uses: &Uses, due: &mut Due, n: usize) {
+    if n < uses.members.len() && n < uses.homes.len() {
+        wake_sites(index, due, uses.homes[n]);
         let member = uses.members[n];
         if is_new(&mut due.members, member) {
             set_all(&mut due.whole_reads, numbers_at(&uses.alike, member));
@@ -193,10 +234,16 @@ fn wake_member(uses: &Uses, due: &mut Due, n: usize) {
 }
 
 /// What has to be gone over since a set grew.
-pub fn wake(uses: &Uses, due: &mut Due, n: usize) {
+pub fn wake(index: &Index, uses: &Uses, due: &mut Due, n: usize) {
     wake_base(uses, due, n);
     set_all(&mut due.whole_writes, numbers_at(&uses.values, n));
-    wake_member(uses, due, n);
+    wake_member(index, uses, due, n);
+}
+
+/// Whether the base of a read has a site with a member that grew.
+pub fn concerns(due: &Due, sets: &[BitRow], x: Read) -> bool {
+    let base = x.base as usize;
+    base < sets.len() && sets[base].width() == due.sites.width() && sets[base].meets(&due.sites)
 }
 
 /// Whether nothing has to be gone over.
@@ -215,6 +262,7 @@ pub fn clear(due: &mut Due) {
     due.writes.clear();
     due.runs.clear();
     due.members.clear();
+    due.sites.clear();
     due.whole_reads.clear();
     due.whole_writes.clear();
 }

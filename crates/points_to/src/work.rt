@@ -10,6 +10,7 @@ ghost use Rattle.points_to.specs.Above.{AreSitesBelow};
 ghost use Rattle.points_to.specs.Sound.{node_count, AreSound, InNode};
 ghost use Rattle.points_to.specs.Work.{IsEdge, IsEdgeClosed, IsTold, IsShown};
 
+use crate::queue::{Queue, wait};
 use fact_model::{Facts, SiteInfo};
 use kaba_base::{ClassId, ColId};
 use kaba_bits::{BitRow, join, join_with, row_at, set_at};
@@ -72,15 +73,8 @@ pub fn site_at(facts: &Facts, s: u32) -> SiteInfo
     facts.sites[s as usize]
 }
 
-/// Marks a set that grew.
-fn mark(grown: &mut BitRow, n: usize) {
-    if n < grown.width() as usize {
-        grown.set(n as u32);
-    }
-}
-
 /// One site into a set, and whether it is new there.
-pub fn put(facts: &Facts, sets: &mut [BitRow], grown: &mut BitRow, n: usize, s: u32) -> bool
+pub fn put(facts: &Facts, sets: &mut [BitRow], grown: &mut Queue, n: usize, s: u32) -> bool
     requires sets { AreSound facts.now sets.old }
     requires node { n < node_count facts.now }
     requires site { s < length facts.now.sites.items }
@@ -91,13 +85,13 @@ pub fn put(facts: &Facts, sets: &mut [BitRow], grown: &mut BitRow, n: usize, s: 
 {
     let grew = set_at(sets, n, s);
     if grew {
-        mark(grown, n);
+        wait(grown, n);
     }
     grew
 }
 
 /// One set into another, and whether that grew.
-fn include(facts: &Facts, sets: &mut [BitRow], grown: &mut BitRow, from: usize, to: usize) -> bool
+fn include(facts: &Facts, sets: &mut [BitRow], grown: &mut Queue, from: usize, to: usize) -> bool
     requires sets { AreSound facts.now sets.old }
     requires from { from < node_count facts.now }
     requires to { to < node_count facts.now }
@@ -108,7 +102,7 @@ fn include(facts: &Facts, sets: &mut [BitRow], grown: &mut BitRow, from: usize, 
 {
     let grew = join(sets, from, to);
     if grew {
-        mark(grown, to);
+        wait(grown, to);
     }
     grew
 }
@@ -117,7 +111,7 @@ fn include(facts: &Facts, sets: &mut [BitRow], grown: &mut BitRow, from: usize, 
 pub fn include_row(
     facts: &Facts,
     sets: &mut [BitRow],
-    grown: &mut BitRow,
+    grown: &mut Queue,
     extra: &BitRow,
     to: usize,
 ) -> bool
@@ -131,7 +125,7 @@ pub fn include_row(
 {
     let grew = join_with(sets, to, extra);
     if grew {
-        mark(grown, to);
+        wait(grown, to);
     }
     grew
 }
@@ -163,7 +157,7 @@ fn pass_fitting(
     facts: &Facts,
     below: &[BitRow],
     sets: &mut [BitRow],
-    grown: &mut BitRow,
+    grown: &mut Queue,
     edge: Edge,
     class: ClassId,
 ) -> Result<bool, AllocError>
@@ -185,7 +179,7 @@ pub fn pass(
     facts: &Facts,
     below: &[BitRow],
     sets: &mut [BitRow],
-    grown: &mut BitRow,
+    grown: &mut Queue,
     edge: Edge,
 ) -> Result<bool, AllocError>
     requires below { AreSitesBelow facts.now (length facts.now.sites.items) below.now }
@@ -202,7 +196,7 @@ pub fn pass(
 }
 
 /// One site into its set, and whether it is new there.
-pub fn show(facts: &Facts, sets: &mut [BitRow], grown: &mut BitRow, x: Told) -> bool
+pub fn show(facts: &Facts, sets: &mut [BitRow], grown: &mut Queue, x: Told) -> bool
     requires sets { AreSound facts.now sets.old }
     requires told { IsTold facts.now x }
     ensures sets { AreSound facts.now sets.new }

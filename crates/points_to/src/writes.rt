@@ -11,6 +11,7 @@ ghost use Rattle.points_to.specs.declared.work.Write.{Write};
 ghost use Rattle.points_to.specs.Rounds.{IsPending, IsFlushedAt, IsFlushed, IsPended, IsDone, HasRow};
 
 use crate::index::Index;
+use crate::queue::Queue;
 use crate::reads::{is_same_member, next_site};
 use crate::targets::list_targets;
 use crate::work::{Member, Write, fit, include_row, site_at};
@@ -55,7 +56,7 @@ fn wanted(facts: &Facts, member: Member, o: u32) -> Option<ClassId>
 fn include_all(
     facts: &Facts,
     sets: &mut [BitRow],
-    grown: &mut BitRow,
+    grown: &mut Queue,
     extra: &BitRow,
     list: &[usize],
 ) -> bool
@@ -81,7 +82,7 @@ fn write_fitting(
     facts: &Facts,
     index: &Index,
     sets: &mut [BitRow],
-    grown: &mut BitRow,
+    grown: &mut Queue,
     pending: &Pending,
     list: &[usize],
     o: u32,
@@ -108,7 +109,7 @@ fn write_into(
     facts: &Facts,
     index: &Index,
     sets: &mut [BitRow],
-    grown: &mut BitRow,
+    grown: &mut Queue,
     pending: &Pending,
     list: &[usize],
     o: u32,
@@ -135,7 +136,7 @@ fn flush_site(
     facts: &Facts,
     index: &Index,
     sets: &mut [BitRow],
-    grown: &mut BitRow,
+    grown: &mut Queue,
     pending: &Pending,
     list: &mut Vec<usize>,
     o: u32,
@@ -159,7 +160,7 @@ fn flush(
     facts: &Facts,
     index: &Index,
     sets: &mut [BitRow],
-    grown: &mut BitRow,
+    grown: &mut Queue,
     pending: &Pending,
     list: &mut Vec<usize>,
 ) -> Result<bool, AllocError>
@@ -187,8 +188,8 @@ fn flush(
     Ok(grew)
 }
 
-/// Whether two sets are one.
-fn is_same_set(a: &BitRow, b: &BitRow) -> bool
+/// Whether two sets of one width are one.
+pub fn is_same_set(a: &BitRow, b: &BitRow) -> bool
     requires { length a.now ≡ length b.now }
     ensures { OnTrue result (a.now ≡ b.now) }
 {
@@ -262,7 +263,7 @@ fn take_write(
     index: &Index,
     bases: &[BitRow],
     sets: &mut [BitRow],
-    grown: &mut BitRow,
+    grown: &mut Queue,
     pending: &mut Pending,
     list: &mut Vec<usize>,
     x: Write,
@@ -297,7 +298,7 @@ pub fn close_writes(
     index: &Index,
     bases: &[BitRow],
     sets: &mut [BitRow],
-    grown: &mut BitRow,
+    grown: &mut Queue,
     writes: &[Write],
 ) -> Result<bool, AllocError>
     requires facts { InRange facts.now }
