@@ -13,7 +13,7 @@ use Rattle.fact_model.specs.Items.{column_slot}
 use Rattle.points_to.specs.Listed.{numbers_at}
 use Rattle.table_rules.specs.Marks.{Marked, Grow, AreEntries}
 use Rattle.table_rules.specs.Closed.{ColumnFlows}
-use Rattle.table_rules.specs.Asked.{ArePairs, AreAsked, IsMethod, HaveMethods, place_of, IsNoted, IsMetAt, IsPlain, is_beyond}
+use Rattle.table_rules.specs.Asked.{ArePairs, AreAsked, IsMethod, HaveMethods, place_of, IsNoted, IsMetAt, IsRowAsked, IsPlain, is_beyond}
 use Rattle.table_rules.proofs.CloseLemmas.{marked-column}
 
 module _ (F : Facts) (a b : List (List Bool)) (grows : Grow a b) where
@@ -22,6 +22,9 @@ module _ (F : Facts) (a b : List (List Bool)) (grows : Grow a b) where
 
   pub met_more : (rows : List (List Bool)) (q d : ℕ) → IsMetAt F rows a q d → IsMetAt F rows b q d
   met_more rows q d met m c by h = grows d c (met m c by h)
+
+  pub row_asked_more : (rows : List (List Bool)) (q : ℕ) → IsRowAsked F rows a q → IsRowAsked F rows b q
+  row_asked_more rows q is = record { met = λ d. met_more rows q d (is.met d); this = λ d t c m. grows d.0 c (is.this d t c m) }
 
 pub grow_then : (a b c : List (List Bool)) → Grow a b → Grow b c → Grow a c
 grow_then a b c p q r i h = q r i (p r i h)

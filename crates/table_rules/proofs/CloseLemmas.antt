@@ -1,14 +1,12 @@
 -- What each rule with premises gives, and that a sound and closed table is the least one.
-use Rattle.std.proofs.Common.{◌≡◌, ℕ, ◌<◌, ⊎_elim, Bool, true, false, ◌||◌, List, [], ◌∷◌, length, Some, Contains, refl, sym, ◌∙◌, subst, arith}
+use Rattle.std.proofs.Common.{◌≡◌, ℕ, ◌<◌, ⊎_elim, Bool, true, false, ◌||◌, List, [], ◌∷◌, length, Some, Contains, sym, ◌∙◌, subst, arith}
 use Rattle.std.specs.Bool.{OnFalse}
-use Rattle.std.specs.declared.vec.Vec.{Vec}
-use Rattle.std.specs.declared.alloc.Global.{Global}
 use Rattle.std.specs.List.{All, AllByRecursion}
 use Rattle.std.proofs.lemmas.Bool.{cases_lt, false≢true}
 use Rattle.std.proofs.lemmas.List.{get_or_past}
 use Rattle.std.proofs.lemmas.List.Elements.{All-contains}
 use Rattle.derivations.proofs.Derivations.{derivable_by, derivable_least}
-use Rattle.kaba_bits.specs.Sets.{row, IsSubset, HasWidth, IsStep}
+use Rattle.kaba_bits.specs.Sets.{bit, row, IsSubset, HasWidth, IsStep}
 use Rattle.kaba_bits.proofs.SetLemmas.{bit-below}
 use Rattle.kaba_base.specs.declared.ColId.{ColId}
 use Rattle.fact_model.specs.Items.{site_row, row_this}
@@ -20,13 +18,11 @@ use Rattle.fact_model.specs.declared.facts.Facts.{Facts}
 use Rattle.fact_model.specs.declared.facts.TieInfo.{TieInfo}
 use Rattle.fact_model.specs.declared.sets.PointsTo.{PointsTo}
 use Rattle.fact_model.specs.declared.sets.Table.{Table}
-use Rattle.fact_model.proofs.RangeLemmas.{this-below, member-below}
+use Rattle.fact_model.proofs.RangeLemmas.{member-below}
 use Rattle.fact_model.proofs.OrderLemmas.{column-above, body-own}
 use Rattle.table_rules.specs.Marks.{Marked, AreEntries}
 use Rattle.table_rules.specs.Closed.{RowFlows, ColumnFlows, IsTieClosed, IsSiteClosed, AreClosed}
-use Rattle.table_rules.specs.Asked.{AreAsked, IsIndex, IsMet, IsThisClosed, IsClosedAt, IsRowClosed}
-use Rattle.table_rules.specs.declared.index.Index.{Index}
-use Rattle.points_to.specs.Listed.{numbers_at}
+use Rattle.table_rules.specs.Asked.{AreAsked, IsRowAsked, IsRowClosed}
 use Rattle.table_rules.proofs.RawLemmas.{sized}
 
 -- an entry is in a row and in a column of the table
@@ -47,52 +43,54 @@ module _ (F : Facts) where
   pub body_flows : (r v : ℕ) (d : ColId) → row_this F v ≡ Some d → IsEntry F r d.0 → RowFlows F v r
   body_flows r v d t has c h = derivable_by (Entails F) ((r, d.0) ∷ (v, c) ∷ []) (r, c) (by_body r v c d t) (has, (h, tt))
 
+  pub body_asks : (v : ℕ) (d : ColId) → row_this F v ≡ Some d → (c : ℕ) → IsEntry F v c → ColumnFlows F d.0 c
+  body_asks v d t c h r has = body_flows r v d t has c h
+
   pub declared_flows : (d c : ℕ) → c < length F.columns.items → IsDeclaredBy F d c → ColumnFlows F d c
   declared_flows d c lt by r h = derivable_by (Entails F) ((r, d) ∷ []) (r, c) (by_declared r d c lt by) (h, tt)
 
   pub hidden_flows : (q d c : ℕ) → Hides F d c → IsEntry F q d → IsEntry F q c → ColumnFlows F d c
   hidden_flows q d c by one two r h = derivable_by (Entails F) ((q, d) ∷ (q, c) ∷ (r, d) ∷ []) (r, c) (by_hiding q r d c by) (one, (two, (h, tt)))
 
--- what a column asks for, where neither of two steps changed anything
-pub column_closed : (F : Facts) (these : List (Vec ℕ Global)) (asked : List (List Bool)) (r d : ℕ) (old new : List (List Bool)) (g h : Bool)
-    → IsStep old new h → OnFalse g (IsSubset (row asked d) (row old r)) → OnFalse h (All (IsThisClosed F new r d) (numbers_at these d))
-    → OnFalse (g || h) (IsClosedAt F these asked r new d)
-column_closed F these asked r d old new true h s p q = tt
-column_closed F these asked r d old new false true s p q = tt
-column_closed F these asked r d old new false false s p q = λ m. record { columns = subst (λ rows. IsSubset (row asked d) (row rows r)) (sym s) p; bodies = q }
+-- what holds where a step changed nothing holds under a premise
+pub under : (M X : Type 0) (g : Bool) → OnFalse g X → OnFalse g (M → X)
+under M X true h = tt
+under M X false h = λ m. h
 
-module _ (F : Facts) (sets asked rows : List (List Bool)) (index : Index) (is : IsIndex F index) (are : AreEntries F rows) (flows : AreAsked F asked) where
+-- a row with the columns of a closed one is closed
+pub closed_alike : (asked rows : List (List Bool)) (p r : ℕ) → row rows p ≡ row rows r → IsRowClosed asked rows p → IsRowClosed asked rows r
+closed_alike asked rows p r e closed d m = subst (λ s. IsSubset (row asked d) s) e (closed d (subst (λ s. bit s d ≡ true) (sym e) m))
+
+module _ (F : Facts) (sets asked rows : List (List Bool)) (are : AreEntries F rows) (flows : AreAsked F asked) where
   -- a table whose rows have what their columns ask for is closed, where all was asked for
-  pub all_closed : ((q : ℕ) → q < length F.rows.items → IsMet F rows asked q)
-      → ((r : ℕ) → r < length F.rows.items → IsRowClosed F index.these.items asked rows r) → All (IsTieClosed rows) F.ties.items
+  pub all_closed : ((q : ℕ) → q < length F.rows.items → IsRowAsked F rows asked q)
+      → ((r : ℕ) → r < length F.rows.items → IsRowClosed asked rows r) → All (IsTieClosed rows) F.ties.items
       → ((v : ℕ) → v < length F.rows.items → IsSiteClosed F sets rows v) → AreClosed F sets rows
   all_closed met closed ties sites =
       let held : (r c : ℕ) → Marked rows r c → r < length F.rows.items = λ r c h. subst (λ n. r < n) are.len (marked-row rows r c h) in
       record {
-        declared = λ r d c lt by m. (closed r (held r d m) d m).columns c
+        declared = λ r d c lt by m. closed r (held r d m) d m c
             (flows.declared d c (marked-column (length F.columns.items) rows r d are.widths m) lt by);
-        bodies = λ r v c d t m mv.
-            All-contains (IsThisClosed F rows r d.0) (numbers_at index.these.items d.0) v (closed r (held r d.0 m) d.0 m).bodies
-            (is.these v (this-below F v d t) d t) d t refl c mv;
+        bodies = λ r v c d t m mv. closed r (held r d.0 m) d.0 m c ((met v (held v c mv)).this d t c mv);
         ties = ties;
         sites = sites;
-        hidden = λ q r d c by one two m. (closed r (held r d m) d m).columns c (met q (held q d one) d one c by two);
+        hidden = λ q r d c by one two m. closed r (held r d m) d m c ((met q (held q d one)).met d one c by two);
       }
 
 -- the same after three steps that changed nothing
-pub round_closed : (F : Facts) (sets asked rows after ties_done new : List (List Bool)) (index : Index) (g t s : Bool) → IsIndex F index → AreAsked F asked
-    → ((q : ℕ) → q < length F.rows.items → IsMet F rows asked q)
-    → IsStep rows after g → OnFalse g ((r : ℕ) → r < length F.rows.items → IsRowClosed F index.these.items asked after r)
+pub round_closed : (F : Facts) (sets asked rows after ties_done new : List (List Bool)) (g t s : Bool) → AreAsked F asked
+    → ((q : ℕ) → q < length F.rows.items → IsRowAsked F rows asked q)
+    → IsStep rows after g → OnFalse g ((r : ℕ) → r < length F.rows.items → IsRowClosed asked after r)
     → IsStep after ties_done t → OnFalse t (All (IsTieClosed ties_done) F.ties.items)
     → IsStep ties_done new s → OnFalse s ((v : ℕ) → v < length F.rows.items → IsSiteClosed F sets new v)
     → AreEntries F new → OnFalse ((g || t) || s) (AreClosed F sets new)
-round_closed F sets asked rows after ties_done new index true t s is flows met e1 p1 e2 p2 e3 p3 are = tt
-round_closed F sets asked rows after ties_done new index false true s is flows met e1 p1 e2 p2 e3 p3 are = tt
-round_closed F sets asked rows after ties_done new index false false true is flows met e1 p1 e2 p2 e3 p3 are = tt
-round_closed F sets asked rows after ties_done new index false false false is flows met e1 p1 e2 p2 e3 p3 are =
-    all_closed F sets asked new index is are flows
-    (subst (λ x. (q : ℕ) → q < length F.rows.items → IsMet F x asked q) (sym (e3 ∙ e2 ∙ e1)) met)
-    (subst (λ x. (r : ℕ) → r < length F.rows.items → IsRowClosed F index.these.items asked x r) (sym (e3 ∙ e2)) p1)
+round_closed F sets asked rows after ties_done new true t s flows met e1 p1 e2 p2 e3 p3 are = tt
+round_closed F sets asked rows after ties_done new false true s flows met e1 p1 e2 p2 e3 p3 are = tt
+round_closed F sets asked rows after ties_done new false false true flows met e1 p1 e2 p2 e3 p3 are = tt
+round_closed F sets asked rows after ties_done new false false false flows met e1 p1 e2 p2 e3 p3 are =
+    all_closed F sets asked new are flows
+    (subst (λ x. (q : ℕ) → q < length F.rows.items → IsRowAsked F x asked q) (sym (e3 ∙ e2 ∙ e1)) met)
+    (subst (λ x. (r : ℕ) → r < length F.rows.items → IsRowClosed asked x r) (sym (e3 ∙ e2)) p1)
     (subst (λ x. All (IsTieClosed x) F.ties.items) (sym e3) p2)
     p3
 

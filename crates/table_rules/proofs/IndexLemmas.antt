@@ -15,7 +15,7 @@ use Rattle.fact_model.specs.Entries.{Hides}
 use Rattle.fact_model.specs.declared.facts.Facts.{Facts}
 use Rattle.fact_model.proofs.RangeLemmas.{this-below}
 use Rattle.points_to.specs.Listed.{numbers_at, KeepNumbers}
-use Rattle.table_rules.specs.Asked.{place_of, IsMethod, IsThisNoted, HaveMethods, HaveThese, AreHidden, IsPlain}
+use Rattle.table_rules.specs.Asked.{place_of, IsMethod, HaveMethods, AreHidden, IsPlain}
 
 pub place-below : (n : ℕ) (slot : Option ℕ) → 0 < n → place_of n slot < n
 place-below n None lt = lt
@@ -40,9 +40,6 @@ module _ (F : Facts) (old new : List (Vec ℕ Global)) (kept : KeepNumbers old n
       same : (k : ℕ) → Contains (numbers_at new (place_of (length old) (column_slot F k))) k
           → Contains (numbers_at new (place_of (length new) (column_slot F k))) k
       same k h = subst (λ n. Contains (numbers_at new (place_of n (column_slot F k))) k) (sym kept.len) h
-
-  pub these_more : HaveThese F old i → IsThisNoted F new i → HaveThese F new (i + 1)
-  these_more before here = below_more (IsThisNoted F new) i (λ k lt d t. kept.each d.0 k (before k lt d t)) here
 
 -- a set of columns that hide none, and one more
 module _ (F : Facts) (hidden : List (List Bool)) (are : AreHidden F hidden) (plain : List Bool) (is : IsPlain F plain) where

@@ -1,5 +1,5 @@
--- What a column asks of the rows that have it: further columns, and those of a `this`.
-use Rattle.std.specs.Prelude.{◌≡◌, ℕ, ◌%◌, ◌<◌, ◌⊎◌, ◌&&◌, not, Bool, true, List, length, All, Contains, Option, Some, None}
+-- What a column asks of the rows that have it: further columns, those of a `this` among them.
+use Rattle.std.specs.Prelude.{◌≡◌, ℕ, ◌%◌, ◌<◌, ◌⊎◌, ◌&&◌, not, Bool, true, List, length, Contains, Option, Some, None}
 use Rattle.std.specs.declared.vec.Vec.{Vec}
 use Rattle.std.specs.declared.alloc.Global.{Global}
 use Rattle.kaba_bits.specs.Sets.{bit, row, IsSubset, HasWidth}
@@ -51,14 +51,6 @@ IsMethod F c = (column_kind F c ≡ Def) ⊎ (column_kind F c ≡ Dcl)
 abbrev pub HaveMethods : Facts → List (Vec ℕ Global) → ℕ → Type 0
 HaveMethods F lists n = (c : ℕ) → c < n → IsMethod F c → Contains (numbers_at lists (place_of (length lists) (column_slot F c))) c
 
--- the row, where it is a `this`, is listed by its body
-abbrev pub IsThisNoted : Facts → List (Vec ℕ Global) → ℕ → Type 0
-IsThisNoted F lists v = (d : ColId) → row_this F v ≡ Some d → Contains (numbers_at lists d.0) v
-
--- each of the first n rows is
-abbrev pub HaveThese : Facts → List (Vec ℕ Global) → ℕ → Type 0
-HaveThese F lists n = (v : ℕ) → v < n → IsThisNoted F lists v
-
 -- a column of the row r that is not in a set
 abbrev pub is_beyond : List Bool → List (List Bool) → ℕ → ℕ → Bool
 is_beyond plain rows r d = bit (row rows r) d && not (bit plain d)
@@ -69,7 +61,6 @@ pub record IsPlain (F : Facts) (plain : List Bool) : Type 0 where
   pub none : (d c : ℕ) → bit plain d ≡ true → c < length F.columns.items → Hides F d c → ⊥
 
 pub record IsIndex (F : Facts) (index : Index) : Type 0 where
-  pub these : HaveThese F index.these.items (length F.rows.items)
   pub hidden : AreHidden F index.hidden.items
   pub plain : IsPlain F index.plain
 
@@ -80,21 +71,22 @@ IsMetAt F rows asked q d = Marked rows q d → (c : ℕ) → Hides F d c → Mar
 abbrev pub IsMet : Facts → List (List Bool) → List (List Bool) → ℕ → Type 0
 IsMet F rows asked q = (d : ℕ) → IsMetAt F rows asked q d
 
--- where v is the `this` of the body d, the row r has all columns of v
-abbrev pub IsThisClosed : Facts → List (List Bool) → ℕ → ℕ → ℕ → Type 0
-IsThisClosed F rows r d v = (b : ColId) → row_this F v ≡ Some b → b.0 ≡ d → IsSubset (row rows v) (row rows r)
+-- what the row v has, where it is a `this`, is asked for by its body
+abbrev pub IsThisAsked : Facts → List (List Bool) → List (List Bool) → ℕ → Type 0
+IsThisAsked F rows asked v = (d : ColId) → row_this F v ≡ Some d → IsSubset (row rows v) (row asked d.0)
+
+-- what the row q has is asked for, where it is a `this` or its columns hide that
+pub record IsRowAsked (F : Facts) (rows asked : List (List Bool)) (q : ℕ) : Type 0 where
+  pub met : IsMet F rows asked q
+  pub this : IsThisAsked F rows asked q
 
 -- the row r has what its column d asks for
-pub record IsColumnClosed (F : Facts) (these : List (Vec ℕ Global)) (asked rows : List (List Bool)) (r d : ℕ) : Type 0 where
-  pub columns : IsSubset (row asked d) (row rows r)
-  pub bodies : All (IsThisClosed F rows r d) (numbers_at these d)
-
-abbrev pub IsClosedAt : Facts → List (Vec ℕ Global) → List (List Bool) → ℕ → List (List Bool) → ℕ → Type 0
-IsClosedAt F these asked r rows d = Marked rows r d → IsColumnClosed F these asked rows r d
+abbrev pub IsClosedAt : List (List Bool) → ℕ → List (List Bool) → ℕ → Type 0
+IsClosedAt asked r rows d = Marked rows r d → IsSubset (row asked d) (row rows r)
 
 -- the row r has what its columns ask for
-abbrev pub IsRowClosed : Facts → List (Vec ℕ Global) → List (List Bool) → List (List Bool) → ℕ → Type 0
-IsRowClosed F these asked rows r = (d : ℕ) → IsClosedAt F these asked r rows d
+abbrev pub IsRowClosed : List (List Bool) → List (List Bool) → ℕ → Type 0
+IsRowClosed asked rows r = (d : ℕ) → IsClosedAt asked r rows d
 
 -- a table so far, what its columns are known to ask for, and a set of their width
 pub record AreOpen (F : Facts) (asked : List (List Bool)) (both : List Bool) (rows : List (List Bool)) : Type 0 where

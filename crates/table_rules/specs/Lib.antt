@@ -2,3 +2,4 @@ pub mod Marks
 pub mod Closed
 pub mod Asked
 pub mod Above
+pub mod Gathered

@@ -1,21 +1,22 @@
-//! What a column asks of each row that has it: the declaration of a body, and of the columns that it hides those that
-//! some row has beside it.
+//! What a column asks of each row that has it: the declaration of a body and what its `this` has, and of the columns that it hides
+//! those that some row has beside it.
 
-ghost use Rattle.std.specs.Prelude.{◌≡◌, ℕ, ◌<◌, ◌&&◌, length, All, IfOk};
-ghost use Rattle.kaba_bits.specs.Sets.{bit, row};
+ghost use Rattle.std.specs.Prelude.{◌≡◌, ℕ, ◌<◌, ◌&&◌, length, All, Some, IfOk};
+ghost use Rattle.kaba_bits.specs.Sets.{bit, row, IsSubset};
 ghost use Rattle.fact_model.specs.InRange.{InRange};
 ghost use Rattle.fact_model.specs.Entries.{IsEntry, IsDeclaredBy, Hides};
 ghost use Rattle.table_rules.specs.Marks.{Marked, AreEntries, Grow};
 ghost use Rattle.table_rules.specs.Closed.{ColumnFlows};
-ghost use Rattle.fact_model.specs.Items.{column_at};
+ghost use Rattle.fact_model.specs.Items.{column_at, row_this};
 ghost use Rattle.points_to.specs.Above.{IsAboveRow};
 ghost use Rattle.table_rules.specs.Above.{AreAbove};
-ghost use Rattle.table_rules.specs.Asked.{ArePairs, AreAsked, AreHidden, HaveAll, HaveMethods, IsMethod, IsNoted, IsMetAt};
+ghost use Rattle.table_rules.specs.Asked.{ArePairs, AreAsked, AreHidden, HaveAll, HaveMethods, IsMethod, IsNoted, IsMetAt, IsThisAsked};
 
 use crate::above::above_of;
-use crate::columns::{hides, is_declared_by, is_method, slot_of};
+use crate::columns::{hides, is_declared_by, is_method, slot_of, this_of};
 use crate::index::{methods_of, place_of};
 use fact_model::Facts;
+use kaba_base::ColId;
 use kaba_bits::{BitRow, empty_rows, join_with, row_at, set_at};
 use points_to::numbers_at;
 use std::alloc::{AllocError, Global};
@@ -251,4 +252,33 @@ pub fn meet_at(
     }
     meet_into(both, row, hides);
     join_with(asked, d as usize, both)
+}
+
+/// T6: what the `this` of a body has is asked for by the body. Answers whether that is more than was.
+pub fn ask_body(facts: &Facts, rows: &[BitRow], asked: &mut [BitRow], v: usize, d: ColId) -> bool
+    requires facts { InRange facts.now }
+    requires rows { AreEntries facts.now rows.now }
+    requires asked { AreAsked facts.now asked.old }
+    requires row { v < length facts.now.rows.items }
+    requires this { row_this facts.now v ≡ Some d }
+    ensures asked { AreAsked facts.now asked.new }
+    ensures grows { Grow asked.old asked.new }
+    ensures here { IsSubset (row rows.now v) (row asked.new d.0) }
+{
+    join_with(asked, d.0 as usize, row_at(rows, v))
+}
+
+/// T6: what a row has that is a `this` is asked for by its body.
+pub fn ask_this(facts: &Facts, rows: &[BitRow], asked: &mut [BitRow], v: usize)
+    requires facts { InRange facts.now }
+    requires rows { AreEntries facts.now rows.now }
+    requires asked { AreAsked facts.now asked.old }
+    requires row { v < length facts.now.rows.items }
+    ensures asked { AreAsked facts.now asked.new }
+    ensures grows { Grow asked.old asked.new }
+    ensures here { IsThisAsked facts.now rows.now asked.new v }
+{
+    if let Some(d) = this_of(facts, v) {
+        ask_body(facts, rows, asked, v, d);
+    }
 }

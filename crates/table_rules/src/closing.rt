@@ -1,8 +1,8 @@
 //! The least table that holds the raw one and is closed under T5, T6, T8, T9 and T10. A worklist passes on what rows
 //! gain; one turn over what is in the table then shows that nothing was left out.
 
-ghost use Rattle.std.specs.Prelude.{◌≡◌, ℕ, ◌<◌, ◌≤◌, length, All, Contains, Some, IfOk, IfSome, MatchOption, OnOk};
-ghost use Rattle.std.specs.Bool.{OnFalse};
+ghost use Rattle.std.specs.Prelude.{◌≡◌, ℕ, ◌<◌, ◌≤◌, ◌-◌, length, All, Contains, Some, IfOk, IfSome, MatchOption, OnOk};
+ghost use Rattle.std.specs.Bool.{OnTrue, OnFalse};
 ghost use Rattle.kaba_bits.specs.Sets.{bit, row, IsStep, IsNoneFrom};
 ghost use Rattle.fact_model.specs.InRange.{InRange};
 ghost use Rattle.fact_model.specs.InOrder.{InOrder, ColumnsStandAbove, BodiesAreOwn};
@@ -10,16 +10,16 @@ ghost use Rattle.fact_model.specs.Flowing.{AreSets, IsInRow};
 ghost use Rattle.fact_model.specs.Entries.{IsRawTable, IsTable, IsEntry};
 ghost use Rattle.table_rules.specs.Marks.{AreEntries, Grow};
 ghost use Rattle.table_rules.specs.Closed.{IsTieClosed, IsSiteClosedAt, IsSiteClosed, AreClosed};
-ghost use Rattle.table_rules.specs.Asked.{AreAsked, AreOpen, is_beyond, IsIndex, IsMet, IsThisClosed, IsClosedAt, IsRowClosed};
+ghost use Rattle.table_rules.specs.Asked.{AreAsked, AreOpen, is_beyond, IsIndex, IsMet, IsRowAsked, IsRowClosed};
 
-use crate::asked::{Columns, columns_of, meet_at};
-use crate::columns::{site_at, this_of};
+use crate::asked::{Columns, ask_this, columns_of, meet_at};
+use crate::columns::site_at;
+use crate::groups::are_alike;
 use crate::index::{Index, index_of};
 use crate::marks::{join_asked, join_rows};
 use crate::turns::grow;
 use fact_model::{Facts, PointsTo, Table, TieInfo};
 use kaba_bits::{BitRow, row_at};
-use points_to::numbers_at;
 use std::alloc::{AllocError, Global};
 
 /// The least table that holds the raw one and is closed under T5, T6, T8, T9 and T10. The sets and the raw table are
@@ -116,8 +116,8 @@ fn round(
     ensures step { IsStep rows.old rows.new result }
     ensures closed { OnFalse result (AreClosed facts.now pt.now.rows.items rows.new) }
 {
-    meet_rows(facts, index, rows, asked, both);
-    let columns = close_rows(facts, &index.these, asked, rows);
+    ask_rows(facts, index, rows, asked, both);
+    let columns = close_rows(facts, asked, rows);
     let ties = pass_ties(facts, rows);
     let sites = pass_sites(facts, pt, rows);
     columns | ties | sites
@@ -180,99 +180,49 @@ fn meet_row(
     }
 }
 
-/// T10: what a row has, and its columns hide, is asked for, for each row.
-fn meet_rows(facts: &Facts, index: &Index, rows: &[BitRow], asked: &mut [BitRow], both: &mut BitRow)
+/// T6 and T10: what a row has, where it is a `this` or its columns hide that, is asked for.
+fn ask_row(
+    facts: &Facts,
+    index: &Index,
+    rows: &[BitRow],
+    asked: &mut [BitRow],
+    both: &mut BitRow,
+    q: usize,
+)
+    requires facts { InRange facts.now }
+    requires index { IsIndex facts.now index.now }
+    requires state { AreOpen facts.now asked.old both.old rows.now }
+    requires row { q < length facts.now.rows.items }
+    ensures state { AreOpen facts.now asked.new both.new rows.now }
+    ensures grows { Grow asked.old asked.new }
+    ensures asked { IsRowAsked facts.now rows.now asked.new q }
+{
+    meet_row(facts, index, rows, asked, both, q);
+    ask_this(facts, rows, asked, q);
+}
+
+/// T6 and T10 for each row.
+fn ask_rows(facts: &Facts, index: &Index, rows: &[BitRow], asked: &mut [BitRow], both: &mut BitRow)
     requires facts { InRange facts.now }
     requires index { IsIndex facts.now index.now }
     requires state { AreOpen facts.now asked.old both.old rows.now }
     ensures state { AreOpen facts.now asked.new both.new rows.now }
-    ensures met { (q : ℕ) → q < length facts.now.rows.items → IsMet facts.now rows.now asked.new q }
+    ensures asked { (q : ℕ) → q < length facts.now.rows.items → IsRowAsked facts.now rows.now asked.new q }
 {
     for q in 0..facts.rows.len() {
-        meet_row(facts, index, rows, asked, both, q);
+        ask_row(facts, index, rows, asked, both, q);
     }
-}
-
-/// T6 for a row with a body, and a row that may be its `this`.
-pub fn close_this(facts: &Facts, rows: &mut [BitRow], r: usize, d: u32, v: usize) -> bool
-    requires facts { InRange facts.now }
-    requires rows { AreEntries facts.now rows.old }
-    requires row { r < length facts.now.rows.items }
-    requires entry { IsEntry facts.now r d }
-    ensures rows { AreEntries facts.now rows.new }
-    ensures step { IsStep rows.old rows.new result }
-    ensures closed { OnFalse result (IsThisClosed facts.now rows.new r d v) }
-{
-    if v >= facts.rows.len() {
-        return false;
-    }
-    match this_of(facts, v) {
-        Some(b) => {
-            if b.0 != d {
-                return false;
-            }
-            join_rows(facts, rows, v, r)
-        }
-        None => false,
-    }
-}
-
-/// T6 for a row with a body, and each of a list of rows.
-fn close_these(facts: &Facts, rows: &mut [BitRow], r: usize, d: u32, list: &[usize]) -> bool
-    requires facts { InRange facts.now }
-    requires rows { AreEntries facts.now rows.old }
-    requires row { r < length facts.now.rows.items }
-    requires entry { IsEntry facts.now r d }
-    ensures rows { AreEntries facts.now rows.new }
-    ensures step { IsStep rows.old rows.new result }
-    ensures closed { OnFalse result (All (IsThisClosed facts.now rows.new r d) list.now) }
-{
-    let mut grew = false;
-    for v in list {
-        grew |= close_this(facts, rows, r, d, *v);
-    }
-    grew
-}
-
-/// What a column of a row asks for.
-pub fn close_column(
-    facts: &Facts,
-    these: &[Vec<usize>],
-    asked: &[BitRow],
-    rows: &mut [BitRow],
-    r: usize,
-    d: u32,
-) -> bool
-    requires facts { InRange facts.now }
-    requires asked { AreAsked facts.now asked.now }
-    requires rows { AreEntries facts.now rows.old }
-    requires row { r < length facts.now.rows.items }
-    requires column { d < length facts.now.columns.items }
-    requires entry { IsEntry facts.now r d }
-    ensures rows { AreEntries facts.now rows.new }
-    ensures step { IsStep rows.old rows.new result }
-    ensures closed { OnFalse result (IsClosedAt facts.now these.now asked.now r rows.new d) }
-{
-    let columns = join_asked(facts, asked, rows, r, d);
-    let bodies = close_these(facts, rows, r, d, numbers_at(these, d as usize));
-    columns | bodies
 }
 
 /// What the columns of a row ask for.
-fn close_row(
-    facts: &Facts,
-    these: &[Vec<usize>],
-    asked: &[BitRow],
-    rows: &mut [BitRow],
-    r: usize,
-) -> bool
+fn close_row(facts: &Facts, asked: &[BitRow], rows: &mut [BitRow], r: usize) -> bool
     requires facts { InRange facts.now }
     requires asked { AreAsked facts.now asked.now }
     requires rows { AreEntries facts.now rows.old }
     requires row { r < length facts.now.rows.items }
     ensures rows { AreEntries facts.now rows.new }
     ensures step { IsStep rows.old rows.new result }
-    ensures closed { OnFalse result (IsRowClosed facts.now these.now asked.now rows.new r) }
+    ensures closed { OnFalse result (IsRowClosed asked.now rows.new r) }
 {
     let width = facts.columns.len() as u32;
     let mut grew = false;
@@ -280,7 +230,7 @@ fn close_row(
     'scan: while at < width {
         match next_column(facts, rows, r, at) {
             Some(d) => {
-                grew |= close_column(facts, these, asked, rows, r, d);
+                grew |= join_asked(facts, asked, rows, r, d);
                 at = d + 1;
             }
             None => return grew,
@@ -289,18 +239,29 @@ fn close_row(
     grew
 }
 
+/// Whether a row has the columns of the one before it.
+fn is_as_before(rows: &[BitRow], r: usize) -> bool
+    ensures one { OnTrue result (0 < r) }
+    ensures same { OnTrue result (row rows.now (r - 1) ≡ row rows.now r) }
+{
+    r > 0 && are_alike(rows, r - 1, r)
+}
+
 /// What the columns of each row ask for.
-fn close_rows(facts: &Facts, these: &[Vec<usize>], asked: &[BitRow], rows: &mut [BitRow]) -> bool
+fn close_rows(facts: &Facts, asked: &[BitRow], rows: &mut [BitRow]) -> bool
     requires facts { InRange facts.now }
     requires asked { AreAsked facts.now asked.now }
     requires rows { AreEntries facts.now rows.old }
     ensures rows { AreEntries facts.now rows.new }
     ensures step { IsStep rows.old rows.new result }
-    ensures closed { OnFalse result ((r : ℕ) → r < length facts.now.rows.items → IsRowClosed facts.now these.now asked.now rows.new r) }
+    ensures closed { OnFalse result ((r : ℕ) → r < length facts.now.rows.items → IsRowClosed asked.now rows.new r) }
 {
     let mut grew = false;
     for r in 0..facts.rows.len() {
-        grew |= close_row(facts, these, asked, rows, r);
+        if !grew && is_as_before(rows, r) {
+            continue;
+        }
+        grew |= close_row(facts, asked, rows, r);
     }
     grew
 }
@@ -347,7 +308,7 @@ pub fn next_site(facts: &Facts, pt: &PointsTo, v: usize, at: u32) -> Option<u32>
 }
 
 /// T9 for one row and one site.
-pub fn join_site(facts: &Facts, pt: &PointsTo, rows: &mut [BitRow], v: usize, o: u32) -> bool
+fn join_site(facts: &Facts, pt: &PointsTo, rows: &mut [BitRow], v: usize, o: u32) -> bool
     requires facts { InRange facts.now }
     requires sets { AreSets facts.now pt.now }
     requires rows { AreEntries facts.now rows.old }

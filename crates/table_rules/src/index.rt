@@ -3,9 +3,9 @@
 ghost use Rattle.std.specs.Prelude.{◌≡◌, ℕ, ◌<◌, ◌+◌, length, IfOk, OnOk};
 ghost use Rattle.fact_model.specs.InRange.{InRange};
 ghost use Rattle.points_to.specs.Listed.{KeepNumbers};
-ghost use Rattle.table_rules.specs.Asked.{place_of, AreHidden, HaveMethods, HaveThese, IsThisNoted, IsPlain, IsIndex};
+ghost use Rattle.table_rules.specs.Asked.{place_of, AreHidden, HaveMethods, IsPlain, IsIndex};
 
-use crate::columns::{is_method, slot_of, this_of};
+use crate::columns::{is_method, slot_of};
 use fact_model::Facts;
 use kaba_bits::{BitRow, row_at};
 use points_to::{empty, note};
@@ -71,43 +71,14 @@ pub fn methods_of(alloc: Global, facts: &Facts) -> Result<Vec<Vec<usize>>, Alloc
     Ok(lists)
 }
 
-/// One row, where it is a `this`. An error comes only for want of memory.
-fn note_this(facts: &Facts, lists: &mut [Vec<usize>], v: usize) -> Result<(), AllocError>
-    requires facts { InRange facts.now }
-    requires row { v < length facts.now.rows.items }
-    requires count { length lists.old ≡ length facts.now.columns.items }
-    requires before { HaveThese facts.now lists.old v }
-    ensures count { OnOk result (length lists.new ≡ length facts.now.columns.items) }
-    ensures here { OnOk result (HaveThese facts.now lists.new (v + 1)) }
-{
-    match this_of(facts, v) {
-        Some(d) => {
-            note(lists, d.0 as usize, v)?;
-            Ok(())
-        }
-        None => Ok(()),
-    }
-}
-
-/// Each row that is a `this`. An error comes only for want of memory.
-fn note_these(facts: &Facts, lists: &mut [Vec<usize>]) -> Result<(), AllocError>
-    requires facts { InRange facts.now }
-    requires count { length lists.old ≡ length facts.now.columns.items }
-    ensures { OnOk result (HaveThese facts.now lists.new (length facts.now.rows.items)) }
-{
-    for v in 0..facts.rows.len() {
-        note_this(facts, lists, v)?;
-    }
-    Ok(())
-}
-
 /// The rows that are a `this`, by their body. An error comes only for want of memory.
-fn these_of(alloc: Global, facts: &Facts) -> Result<Vec<Vec<usize>>, AllocError>
-    requires { InRange facts.now }
-    ensures { IfOk result (λ v. HaveThese facts.now v.items (length facts.now.rows.items)) }
-{
+fn these_of(alloc: Global, facts: &Facts) -> Result<Vec<Vec<usize>>, AllocError> {
     let mut lists = empty(alloc, facts.columns.len())?;
-    note_these(facts, &mut lists)?;
+    for v in 0..facts.rows.len() {
+        if let Some(d) = facts.rows[v].this_of {
+            note(&mut lists, d.0 as usize, v)?;
+        }
+    }
     Ok(lists)
 }
 

@@ -6,11 +6,13 @@ mod above;
 mod asked;
 mod closing;
 mod columns;
+mod groups;
 mod index;
 mod lists;
 mod marks;
 mod order;
 mod raw_table;
+mod sites;
 mod turns;
 
 pub use closing::close;

@@ -37,6 +37,19 @@ pub fn join_rows(facts: &Facts, rows: &mut [BitRow], from: usize, into: usize) -
     join(rows, from, into)
 }
 
+/// Columns that a row must have.
+pub fn join_columns(facts: &Facts, rows: &mut [BitRow], columns: &BitRow, into: usize) -> bool
+    requires rows { AreEntries facts.now rows.old }
+    requires into { into < length facts.now.rows.items }
+    requires width { length columns.now ≡ length facts.now.columns.items }
+    requires entries { (c : ℕ) → bit columns.now c ≡ true → IsEntry facts.now into c }
+    ensures rows { AreEntries facts.now rows.new }
+    ensures step { IsStep rows.old rows.new result }
+    ensures closed { OnFalse result (IsSubset columns.now (row rows.new into)) }
+{
+    join_with(rows, into, columns)
+}
+
 /// All columns that one column asks for, into a row that has it.
 pub fn join_asked(facts: &Facts, asked: &[BitRow], rows: &mut [BitRow], r: usize, d: u32) -> bool
     requires asked { AreAsked facts.now asked.now }
@@ -48,5 +61,5 @@ pub fn join_asked(facts: &Facts, asked: &[BitRow], rows: &mut [BitRow], r: usize
     ensures step { IsStep rows.old rows.new result }
     ensures closed { OnFalse result (IsSubset (row asked.now d) (row rows.new r)) }
 {
-    join_with(rows, r, row_at(asked, d as usize))
+    join_columns(facts, rows, row_at(asked, d as usize), r)
 }

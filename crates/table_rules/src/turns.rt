@@ -3,22 +3,22 @@
 ghost use Rattle.std.specs.Prelude.{◌≡◌, ℕ, ◌<◌, length, OnOk};
 ghost use Rattle.std.specs.Bool.{OnTrue};
 ghost use Rattle.fact_model.specs.InRange.{InRange};
-ghost use Rattle.fact_model.specs.Flowing.{AreSets, IsInRow};
+ghost use Rattle.fact_model.specs.Flowing.{AreSets};
 ghost use Rattle.fact_model.specs.Entries.{IsEntry};
 ghost use Rattle.table_rules.specs.Marks.{AreEntries};
 ghost use Rattle.table_rules.specs.Asked.{AreAsked, AreOpen, IsIndex};
 
-use crate::asked::meet_at;
-use crate::closing::{
-    close_column, close_this, join_site, join_tie, next_beyond, next_column, next_site,
-};
-use crate::columns::{site_at, this_of};
+use crate::asked::{ask_body, meet_at};
+use crate::closing::{join_tie, next_beyond, next_column};
+use crate::columns::this_of;
+use crate::groups::group_of;
 use crate::index::Index;
-use crate::lists::{Lists, all_wait, holders_of, is_first, next, wake};
+use crate::lists::{Lists, all_wait, holders_of, is_first, wake};
 use crate::marks::join_asked;
+use crate::sites::pass_group;
 use fact_model::{Facts, PointsTo};
 use kaba_bits::{BitRow, row_at};
-use points_to::numbers_at;
+use points_to::{numbers_at, take, wait};
 use std::alloc::{AllocError, Global};
 
 /// Whether a row is there and has a column.
@@ -70,14 +70,12 @@ fn spread(
 /// What a column asks for, where it is new in a row.
 fn begin_column(
     facts: &Facts,
-    index: &Index,
     asked: &[BitRow],
     rows: &mut [BitRow],
     lists: &mut Lists,
     r: usize,
     d: u32,
 )
-    requires facts { InRange facts.now }
     requires asked { AreAsked facts.now asked.now }
     requires rows { AreEntries facts.now rows.old }
     requires row { r < length facts.now.rows.items }
@@ -88,20 +86,13 @@ fn begin_column(
     if !is_first(lists, d, r) {
         return;
     }
-    if close_column(facts, &index.these, asked, rows, r, d) {
+    if join_asked(facts, asked, rows, r, d) {
         wake(lists, r);
     }
 }
 
 /// What the columns ask for that are new in a row.
-fn begin(
-    facts: &Facts,
-    index: &Index,
-    asked: &[BitRow],
-    rows: &mut [BitRow],
-    lists: &mut Lists,
-    r: usize,
-)
+fn begin(facts: &Facts, asked: &[BitRow], rows: &mut [BitRow], lists: &mut Lists, r: usize)
     requires facts { InRange facts.now }
     requires asked { AreAsked facts.now asked.now }
     requires rows { AreEntries facts.now rows.old }
@@ -113,7 +104,7 @@ fn begin(
     'scan: while at < width {
         match next_column(facts, rows, r, at) {
             Some(d) => {
-                begin_column(facts, index, asked, rows, lists, r, d);
+                begin_column(facts, asked, rows, lists, r, d);
                 at = d + 1;
             }
             None => return,
@@ -202,99 +193,52 @@ fn pass_ties(facts: &Facts, rows: &mut [BitRow], lists: &mut Lists, list: &[usiz
     }
 }
 
-/// T9: what a row has, into the row of a site of its set.
-fn pass_site(facts: &Facts, pt: &PointsTo, rows: &mut [BitRow], lists: &mut Lists, v: usize, o: u32)
-    requires facts { InRange facts.now }
-    requires sets { AreSets facts.now pt.now }
-    requires rows { AreEntries facts.now rows.old }
-    requires row { v < length facts.now.rows.items }
-    requires site { o < length facts.now.sites.items }
-    requires member { IsInRow facts.now v o }
-    ensures { AreEntries facts.now rows.new }
-{
-    if join_site(facts, pt, rows, v, o) {
-        wake(lists, site_at(facts, o).row.0 as usize);
-    }
-}
-
-/// T9: what a row has, into the row of each site of its set.
-fn pass_sites(facts: &Facts, pt: &PointsTo, rows: &mut [BitRow], lists: &mut Lists, v: usize)
-    requires facts { InRange facts.now }
-    requires sets { AreSets facts.now pt.now }
-    requires rows { AreEntries facts.now rows.old }
-    requires row { v < length facts.now.rows.items }
-    ensures { AreEntries facts.now rows.new }
-{
-    let width = facts.sites.len() as u32;
-    let mut at = 0;
-    'scan: while at < width {
-        match next_site(facts, pt, v, at) {
-            Some(o) => {
-                pass_site(facts, pt, rows, lists, v, o);
-                at = o + 1;
-            }
-            None => return,
-        }
-    }
-}
-
-/// T6: what the `this` of a body has, into a row that may have the body.
-fn pass_body(facts: &Facts, rows: &mut [BitRow], lists: &mut Lists, v: usize, d: u32, r: u32)
-    requires facts { InRange facts.now }
-    requires rows { AreEntries facts.now rows.old }
-    requires column { d < length facts.now.columns.items }
-    ensures { AreEntries facts.now rows.new }
-{
-    if !has(facts, rows, r, d) {
-        return;
-    }
-    if close_this(facts, rows, r as usize, d, v) {
-        wake(lists, r as usize);
-    }
-}
-
-/// T6: what the `this` of a body has, into each row that has the body. An error comes only for want of memory.
-fn pass_bodies(
+/// T6: what the `this` of a body has is asked for by the body, and goes into each row that has it. An error comes only for want of memory.
+fn pass_body(
     alloc: Global,
     facts: &Facts,
+    asked: &mut [BitRow],
     rows: &mut [BitRow],
     lists: &mut Lists,
     v: usize,
-    d: u32,
 ) -> Result<(), AllocError>
     requires facts { InRange facts.now }
+    requires asked { AreAsked facts.now asked.old }
     requires rows { AreEntries facts.now rows.old }
-    requires column { d < length facts.now.columns.items }
-    ensures { OnOk result (AreEntries facts.now rows.new) }
+    requires row { v < length facts.now.rows.items }
+    ensures asked { OnOk result (AreAsked facts.now asked.new) }
+    ensures rows { OnOk result (AreEntries facts.now rows.new) }
 {
-    let holders = holders_of(alloc, lists, d)?;
-    for r in &holders {
-        pass_body(facts, rows, lists, v, d, *r);
+    if let Some(d) = this_of(facts, v) {
+        if ask_body(facts, rows, asked, v, d) {
+            spread(alloc, facts, asked, rows, lists, d.0)?;
+        }
     }
     Ok(())
 }
 
-/// What a row has, into the rows that get all of it. An error comes only for want of memory.
+/// What a row has, into the rows that get all of it; into those of the sites of its set when no row waits any more. An error comes only for want
+/// of memory.
 fn pass(
     alloc: Global,
     facts: &Facts,
-    pt: &PointsTo,
     index: &Index,
+    asked: &mut [BitRow],
     rows: &mut [BitRow],
     lists: &mut Lists,
     v: usize,
 ) -> Result<(), AllocError>
     requires facts { InRange facts.now }
-    requires sets { AreSets facts.now pt.now }
+    requires asked { AreAsked facts.now asked.old }
     requires rows { AreEntries facts.now rows.old }
     requires row { v < length facts.now.rows.items }
-    ensures { OnOk result (AreEntries facts.now rows.new) }
+    ensures asked { OnOk result (AreAsked facts.now asked.new) }
+    ensures rows { OnOk result (AreEntries facts.now rows.new) }
 {
     pass_ties(facts, rows, lists, numbers_at(&index.ties, v));
-    pass_sites(facts, pt, rows, lists, v);
-    if let Some(d) = this_of(facts, v) {
-        pass_bodies(alloc, facts, rows, lists, v, d.0)?;
-    }
+    let group = group_of(&lists.groups, v);
+    wait(&mut lists.waiting, group);
+    pass_body(alloc, facts, asked, rows, lists, v)?;
     Ok(())
 }
 
@@ -302,7 +246,6 @@ fn pass(
 fn turn(
     alloc: Global,
     facts: &Facts,
-    pt: &PointsTo,
     index: &Index,
     asked: &mut [BitRow],
     both: &mut BitRow,
@@ -311,16 +254,47 @@ fn turn(
     r: usize,
 ) -> Result<(), AllocError>
     requires facts { InRange facts.now }
-    requires sets { AreSets facts.now pt.now }
     requires index { IsIndex facts.now index.now }
     requires state { AreOpen facts.now asked.old both.old rows.old }
     requires row { r < length facts.now.rows.items }
     ensures { OnOk result (AreOpen facts.now asked.new both.new rows.new) }
 {
-    begin(facts, index, asked, rows, lists, r);
+    begin(facts, asked, rows, lists, r);
     meet_columns(alloc, facts, index, asked, both, rows, lists, r)?;
-    pass(alloc, facts, pt, index, rows, lists, r)?;
+    pass(alloc, facts, index, asked, rows, lists, r)?;
     Ok(())
+}
+
+/// The turn of a row that waits, or else of a group; answers whether there was one. An error comes only for want of memory.
+fn next_turn(
+    alloc: Global,
+    facts: &Facts,
+    pt: &PointsTo,
+    index: &Index,
+    asked: &mut [BitRow],
+    both: &mut BitRow,
+    rows: &mut [BitRow],
+    lists: &mut Lists,
+) -> Result<bool, AllocError>
+    requires facts { InRange facts.now }
+    requires sets { AreSets facts.now pt.now }
+    requires index { IsIndex facts.now index.now }
+    requires state { AreOpen facts.now asked.old both.old rows.old }
+    ensures { OnOk result (AreOpen facts.now asked.new both.new rows.new) }
+{
+    if let Some(r) = take(&mut lists.rows) {
+        if r < facts.rows.len() {
+            turn(alloc, facts, index, asked, both, rows, lists, r)?;
+        }
+        return Ok(true);
+    }
+    if let Some(group) = take(&mut lists.waiting) {
+        if group < facts.rows.len() {
+            pass_group(facts, pt, both, rows, lists, group);
+        }
+        return Ok(true);
+    }
+    Ok(false)
 }
 
 /// Turns, until nothing waits. An error comes only for want of memory.
@@ -341,13 +315,9 @@ fn run(
     ensures { OnOk result (AreOpen facts.now asked.new both.new rows.new) }
 {
     for _turn in 0..u64::MAX {
-        match next(lists) {
-            Some(r) => {
-                if r < facts.rows.len() {
-                    turn(alloc, facts, pt, index, asked, both, rows, lists, r)?;
-                }
-            }
-            None => return Ok(()),
+        let more = next_turn(alloc, facts, pt, index, asked, both, rows, lists)?;
+        if !more {
+            return Ok(());
         }
     }
     Ok(())
@@ -369,7 +339,7 @@ pub fn grow(
     requires state { AreOpen facts.now asked.old both.old rows.old }
     ensures { OnOk result (AreOpen facts.now asked.new both.new rows.new) }
 {
-    let mut lists = all_wait(alloc, facts, index, rows)?;
+    let mut lists = all_wait(alloc, facts, pt, index, rows)?;
     run(alloc, facts, pt, index, asked, both, rows, &mut lists)?;
     Ok(())
 }

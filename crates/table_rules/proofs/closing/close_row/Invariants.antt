@@ -9,7 +9,7 @@ abbrev pub invariant-scan : goal.invariant-scan
 invariant-scan l = record {
   rows : AreEntries l.facts l.rows;
   step : IsStep l.fn.rows l.rows l.grew;
-  closed : OnFalse l.grew ((d : ℕ) → d < l.at → IsClosedAt l.facts l.these l.asked l.r l.rows d);
+  closed : OnFalse l.grew ((d : ℕ) → d < l.at → IsClosedAt l.asked l.r l.rows d);
 }
 
 abbrev pub decreases-scan : goal.decreases-scan

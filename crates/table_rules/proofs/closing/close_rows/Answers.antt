@@ -4,7 +4,7 @@ use Rattle.table_rules.proofs.closing.close_rows.Goals as goal
 
 pub loop-r-preserved : goal.loop-r-preserved
 loop-r-preserved c =
-    let P = IsRowClosed c.args.facts.now c.args.these.now c.args.asked.now in
+    let P = IsRowClosed c.args.asked.now in
     let r = c.loop-r.r in
     let old = c.loop-r.rows in
     let step = c.close_row-grew in

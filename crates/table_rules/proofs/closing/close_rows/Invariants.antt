@@ -9,5 +9,5 @@ abbrev pub invariant-loop-r : goal.invariant-loop-r
 invariant-loop-r l = record {
   rows : AreEntries l.facts l.rows;
   step : IsStep l.fn.rows l.rows l.grew;
-  closed : OnFalse l.grew ((k : ℕ) → k < l.r → IsRowClosed l.facts l.these l.asked l.rows k);
+  closed : OnFalse l.grew ((k : ℕ) → k < l.r → IsRowClosed l.asked l.rows k);
 }

@@ -1,6 +1,6 @@
 use Rattle.std.proofs.Common.{◌-◌}
 use Rattle.table_rules.specs.Marks.{AreEntries}
-use Rattle.table_rules.proofs.turns.pass_sites.Given as goal
+use Rattle.table_rules.proofs.sites.give_sites.Given as goal
 
 abbrev pub invariant-scan : goal.invariant-scan
 invariant-scan l = AreEntries l.facts l.rows

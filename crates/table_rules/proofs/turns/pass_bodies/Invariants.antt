@@ -1,5 +1,0 @@
-use Rattle.table_rules.specs.Marks.{AreEntries}
-use Rattle.table_rules.proofs.turns.pass_bodies.Given as goal
-
-abbrev pub invariant-loop-r : goal.invariant-loop-r
-invariant-loop-r l = AreEntries l.facts l.rows
