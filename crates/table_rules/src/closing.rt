@@ -332,6 +332,9 @@ fn join_sites(facts: &Facts, pt: &PointsTo, rows: &mut [BitRow], v: usize) -> bo
     ensures step { IsStep rows.old rows.new result }
     ensures closed { OnFalse result (IsSiteClosed facts.now pt.now.rows.items rows.new v) }
 {
+    if row_at(rows, v).is_empty() {
+        return false;
+    }
     let width = facts.sites.len() as u32;
     let mut grew = false;
     let mut at = 0;

@@ -130,5 +130,7 @@ pub fn pass_group(
         group,
         members_of(&lists.groups, group),
     );
-    give_sites(facts, pt, rows, lists, both, group);
+    if !both.is_empty() {
+        give_sites(facts, pt, rows, lists, both, group);
+    }
 }

@@ -1,10 +1,15 @@
-use Rattle.std.proofs.Common.{◌∙◌, sym}
+use Rattle.std.proofs.Common.{◌∙◌, refl, sym}
 use Rattle.std.proofs.lemmas.Bool.{false≢true}
 use Rattle.kaba_bits.specs.Sets.{row}
 use Rattle.kaba_bits.proofs.StepLemmas.{IsStep-then, closed_below, closed-both}
 use Rattle.points_to.proofs.LoopLemmas.{skip_to}
 use Rattle.table_rules.specs.Closed.{IsSiteClosedAt}
 use Rattle.table_rules.proofs.closing.join_sites.Goals as goal
+
+pub returns-then-is_empty-clause-closed : goal.returns-then-is_empty-clause-closed
+returns-then-is_empty-clause-closed c =
+    let empty = rw c.row_at.ensures at (c.if-is_empty.ensures.empty.0 refl) in
+    λ o lt m k h. absurd (false≢true (sym (empty k) ∙ h))
 
 pub scan-preserved : goal.scan-preserved
 scan-preserved c =
