@@ -70,3 +70,6 @@ FLOWS = [
     ("bodies of a method, with ten times as many calls", bodies, (250, 500, 1000, 2000)),
     ("variables that have each of as many fields", each_with_all, (500, 1000, 2000, 4000)),
 ]
+
+# Those whose table tools/bench-baselines/flows.cpp works out too.
+IN_CPP = {against, along, around, followed, walked, methods}
