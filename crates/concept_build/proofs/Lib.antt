@@ -11,3 +11,5 @@ pub mod NearLemmas
 pub mod StandLemmas
 pub mod ExampleLemmas
 pub mod ColumnLemmas
+pub mod Ordered
+pub mod Uniqueness

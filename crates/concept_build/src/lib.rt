@@ -7,6 +7,7 @@ ghost use Rattle.fact_model.specs.declared.sets.Concept.{Concept};
 ghost use Rattle.fact_model.specs.Concepts.{Pair, pair_of, AreAllConcepts, IsPlaced, IsLatticeOf};
 ghost use Rattle.concept_build.specs.Tables.{IsCounted};
 ghost use Rattle.concept_build.specs.Lists.{IsFaultOf, extents_of, columns_of, lists_of};
+ghost use Rattle.concept_build.specs.Laws.{OneLattice, NotBoth};
 
 use fact_model::{Concept, Lattice, Table};
 use indexmap::IndexSet;
@@ -68,6 +69,13 @@ pub fn concepts(alloc: Global, table: &Table, bound: u32) -> Result<Lattice, Lat
     let concepts = placed_items(alloc, &table.rows, &counts, &items, &places, table.width)?;
     Ok(Lattice { concepts })
 }
+
+/// A table has one lattice: two that are its lattice hold the same concepts in the same order, each with the same
+/// upper covers, rows and columns. And it has not both a lattice within a bound and more concepts than the bound.
+pub fn one_lattice()
+    ensures lattice { OneLattice }
+    ensures apart { NotBoth }
+{}
 
 /// Each concept with what is told of it.
 fn placed_items(
