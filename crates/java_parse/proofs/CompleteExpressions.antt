@@ -12,18 +12,17 @@ use Rattle.java_tree.specs.declared.TypeBase.{TypeBase}
 use Rattle.java_tree.specs.declared.TypeBase.TheVariants as bases
 use Rattle.java_tree.specs.declared.TypeName.{TypeName}
 use Rattle.java_tree.specs.Syntax.{Expression, NewArrayOf, Expressions, no_more, and_more}
-use Rattle.java_tree.specs.Tokens.{token, mark, key, word, level, is_sign, casts}
+use Rattle.java_tree.specs.Tokens.{token, mark, key, word, level, casts}
 use Rattle.java_parse.specs.declared.End.{End}
 use Rattle.java_parse.specs.declared.End.TheVariants as ends
-use Rattle.java_parse.specs.Want.{NExpr, NMore, NPrefixed, NPost, NNew, NSized, NDims, NType, NTail, NArgs, NMoreArgs}
-use Rattle.java_parse.specs.Front.{after, word_next, operator, instance_next, least_next, sign_next, cast_next, base_next, index_next, is_array, expr_snoc, stepping_next}
-use Rattle.java_tree.specs.Expressions.{IsBase, named_base, IsDims, no_dims, one_dim, IsType, a_type, IsExpr, binary, instance_of, operand, IsPrefixed, signed, least, cast_named, cast_int, cast_char, bare, IsPost, field, call_on, index, name, call, super_call, round, new_object, new_array, IsArgs, no_args, some_args, IsMoreArgs, last_arg, next_arg}
+use Rattle.java_parse.specs.Want.{NExpr, NMore, NPrefixed, NPost, NAtom, NNew, NSized, NDims, NType, NTail, NArgs, NMoreArgs}
+use Rattle.java_tree.specs.Expressions.{IsBase, named_base, IsDims, no_dims, one_dim, IsType, a_type, IsExpr, binary, instance_of, operand, IsPrefixed, signed, least, cast_named, cast_int, cast_char, bare, IsPost, field, call_on, index, name, call, super_call, round, new_object, new_array, IsArgs, no_args, some_args, IsMoreArgs, last_arg, next_arg, int_base, boolean_base, char_base, int_literal, char_literal, string_literal, true_literal, false_literal, null_literal, this_word}
+use Rattle.java_parse.specs.Front.{after, word_next, operator, instance_next, cast_next, base_next, literal_next, index_next, is_array, expr_snoc, after_key_by, operator_by, cast_by, cast_end, base_by}
 use Rattle.java_parse.proofs.Fronts.{option_cases, after_is}
+use Rattle.java_parse.proofs.Begins.{begins_post, begins, no_round, post_begins, prefixed_begins, expr_begins, signed_not_least, sign_here, post_none}
 use Rattle.std.proofs.lemmas.Bool.{le-leb, lt-leb}
 use Rattle.std.specs.Prelude.{nat_lt, nat_le}
 use Rattle.java_tree.specs.Nesting.{next_is}
-use Rattle.java_parse.specs.Front.{after_key_by, operator_by, least_by, least_kind, cast_by, cast_end, base_by, index_next, closes}
-use Rattle.java_tree.specs.Expressions.{int_base, boolean_base, char_base, int_literal, char_literal, string_literal, true_literal, false_literal, null_literal, this_word}
 use Rattle.java_parse.specs.Reading.{Outcome, Reads}
 use Rattle.java_parse.proofs.Post.{expr_append}
 use Rattle.java_parse.proofs.SoundExpressions.{expr_append-none, expr_append-snoc}
@@ -137,148 +136,6 @@ stops_semi = record { below = omega arith; ends_ = record { dot = refl; round = 
 pub stops_comma : {p : Place} {us : List Token} → Stops 1 (mark marks.Comma p ∷ us)
 stops_comma = record { below = omega arith; ends_ = record { dot = refl; round = refl; square = refl; cast = refl } }
 
--- the tokens that begin an expression without prefix operators
-abbrev pub begins_post : TokenKind → Bool
-begins_post (kinds.Word n) = true
-begins_post (kinds.Int v) = true
-begins_post (kinds.Char c) = true
-begins_post (kinds.Str u) = true
-begins_post (kinds.Mark marks.OpenRound) = true
-begins_post (kinds.Key keys.This) = true
-begins_post (kinds.Key keys.Super) = true
-begins_post (kinds.Key keys.New) = true
-begins_post (kinds.Key keys.True) = true
-begins_post (kinds.Key keys.False) = true
-begins_post (kinds.Key keys.Null) = true
-begins_post _ = false
-
--- and any expression
-abbrev pub begins_mark : Mark → Bool
-begins_mark marks.OpenRound = true
-begins_mark m = is_sign m
-
-abbrev pub begins : TokenKind → Bool
-begins (kinds.Mark m) = begins_mark m
-begins k = begins_post k
-
-pub post_begins : {b : Bool} {ts rest : List Token} {e : Expression} → IsPost b ts rest e → next_is begins_post ts ≡ true
-post_begins (field d) = post_begins d
-post_begins (call_on d a) = post_begins d
-post_begins (index d i) = post_begins d
-post_begins int_literal = refl
-post_begins char_literal = refl
-post_begins string_literal = refl
-post_begins true_literal = refl
-post_begins false_literal = refl
-post_begins null_literal = refl
-post_begins this_word = refl
-post_begins name = refl
-post_begins (call a) = refl
-post_begins (super_call a) = refl
-post_begins (round d) = refl
-post_begins (new_object a) = refl
-post_begins (new_array b e d) = refl
-
-wider_mark : (m : Mark) → begins_post (kinds.Mark m) ≡ true → begins_mark m ≡ true
-wider_mark marks.OpenRound h = refl
-wider_mark _ h = cc
-
-wider : (k : TokenKind) → begins_post k ≡ true → begins k ≡ true
-wider (kinds.Mark m) h = wider_mark m h
-wider (kinds.Word n) h = refl
-wider (kinds.Int v) h = refl
-wider kinds.Least h = h
-wider (kinds.Char c) h = refl
-wider (kinds.Str u) h = refl
-wider (kinds.Key k) h = h
-
-widen : (ts : List Token) → next_is begins_post ts ≡ true → next_is begins ts ≡ true
-widen [] h = h
-widen (t ∷ ts) h = wider t.kind h
-
-sign_begins : (m : Mark) → is_sign m ≡ true → begins_mark m ≡ true
-sign_begins marks.OpenRound h = refl
-sign_begins m h = h
-
-pub prefixed_begins : {ts rest : List Token} {e : Expression} → IsPrefixed ts rest e → next_is begins ts ≡ true
-prefixed_begins (signed {m = m} h d) = sign_begins m h
-prefixed_begins least = refl
-prefixed_begins (cast_named h d) = refl
-prefixed_begins (cast_int d) = refl
-prefixed_begins (cast_char d) = refl
-prefixed_begins (bare {ts = ts} d) = widen ts (post_begins d)
-
-pub expr_begins : {l : ℕ} {ts rest : List Token} {e : Expression} → IsExpr l ts rest e → next_is begins ts ≡ true
-expr_begins (binary a b d e) = expr_begins d
-expr_begins (instance_of a d) = expr_begins d
-expr_begins (operand d) = prefixed_begins d
-
-no_round_mark : (m : Mark) (p : Place) (ts : List Token) → begins_mark m ≡ true → after marks.CloseRound (mark m p ∷ ts) ≡ None
-no_round_mark marks.CloseRound p ts h = cc
-no_round_mark _ p ts h = refl
-
-no_round_kind : (k : TokenKind) (p : Place) (ts : List Token) → begins k ≡ true → after marks.CloseRound (token k p ∷ ts) ≡ None
-no_round_kind (kinds.Mark m) p ts h = no_round_mark m p ts h
-no_round_kind _ p ts h = refl
-
-pub no_round : (ts : List Token) → next_is begins ts ≡ true → after marks.CloseRound ts ≡ None
-no_round [] h = refl
-no_round (t ∷ ts) h = no_round_kind t.kind t.place ts h
-
-no_semi_mark : (m : Mark) (p : Place) (ts : List Token) → begins_mark m ≡ true → after marks.Semi (mark m p ∷ ts) ≡ None
-no_semi_mark marks.Semi p ts h = cc
-no_semi_mark _ p ts h = refl
-
-no_semi_kind : (k : TokenKind) (p : Place) (ts : List Token) → begins k ≡ true → after marks.Semi (token k p ∷ ts) ≡ None
-no_semi_kind (kinds.Mark m) p ts h = no_semi_mark m p ts h
-no_semi_kind _ p ts h = refl
-
-pub no_semi : (ts : List Token) → next_is begins ts ≡ true → after marks.Semi ts ≡ None
-no_semi [] h = refl
-no_semi (t ∷ ts) h = no_semi_kind t.kind t.place ts h
-
-no_closes_mark : (m : Mark) (p : Place) (ts : List Token) → begins_mark m ≡ true → closes (mark m p ∷ ts) ≡ false
-no_closes_mark marks.CloseSquare p ts h = cc
-no_closes_mark _ p ts h = refl
-
-no_closes_kind : (k : TokenKind) (p : Place) (ts : List Token) → begins k ≡ true → closes (token k p ∷ ts) ≡ false
-no_closes_kind (kinds.Mark m) p ts h = no_closes_mark m p ts h
-no_closes_kind _ p ts h = refl
-
-pub no_closes : (ts : List Token) → next_is begins ts ≡ true → closes ts ≡ false
-no_closes [] h = refl
-no_closes (t ∷ ts) h = no_closes_kind t.kind t.place ts h
-
--- a sign before an expression is no minus before 2147483648
-not_least_kind : (k : TokenKind) (p : Place) (ts : List Token) → begins k ≡ true → least_kind k p ts ≡ None
-not_least_kind kinds.Least p ts h = cc
-not_least_kind _ p ts h = refl
-
-not_least_by : (p : Place) (ts : List Token) → next_is begins ts ≡ true → least_by p ts ≡ None
-not_least_by p [] h = refl
-not_least_by p (t ∷ ts) h = not_least_kind t.kind p ts h
-
-signed_not_least : (m : Mark) (p : Place) (ts : List Token) → next_is begins ts ≡ true → least_next (mark m p ∷ ts) ≡ None
-signed_not_least marks.Minus p ts h = not_least_by p ts h
-signed_not_least _ p ts h = refl
-
-sign_here : (m : Mark) (p : Place) (ts : List Token) → is_sign m ≡ true → sign_next (mark m p ∷ ts) ≡ Some (m, p, ts)
-sign_here m p ts h = rw h refl
-
-post_mark_none : (m : Mark) (p : Place) (ts : List Token) → begins_post (kinds.Mark m) ≡ true → (least_next (mark m p ∷ ts) ≡ None)
-    × (sign_next (mark m p ∷ ts) ≡ None) × (stepping_next (mark m p ∷ ts) ≡ None)
-post_mark_none marks.OpenRound p ts h = (refl, refl, refl)
-post_mark_none _ p ts h = cc
-
-post_kind_none : (k : TokenKind) (p : Place) (ts : List Token) → begins_post k ≡ true → (least_next (token k p ∷ ts) ≡ None)
-    × (sign_next (token k p ∷ ts) ≡ None) × (stepping_next (token k p ∷ ts) ≡ None)
-post_kind_none (kinds.Mark m) p ts h = post_mark_none m p ts h
-post_kind_none _ p ts h = (refl, refl, refl)
-
-pub post_none : (ts : List Token) → next_is begins_post ts ≡ true → (least_next ts ≡ None) × (sign_next ts ≡ None) × (stepping_next ts ≡ None)
-post_none [] h = (refl, refl, refl)
-post_none (t ∷ ts) h = post_kind_none t.kind t.place ts h
-
 abbrev rest_of : List Token → List Token
 rest_of [] = []
 rest_of (t ∷ ts) = ts
@@ -390,6 +247,17 @@ pub record PostRead (b : Bool) (ts rest : List Token) (e : Expression) : Type 0 
   pub kind : b ≡ true → is_array end_ ≡ false
   pub goes : (o : Outcome (Expression × End)) → Reads (NTail e end_) rest o → Reads NPost ts o
 
+read_up_to : {b : Bool} {ts rest : List Token} {e : Expression} (z : End) → (b ≡ true → is_array z ≡ false)
+    → ((o : Outcome (Expression × End)) → Reads (NTail e z) rest o → Reads NPost ts o) → PostRead b ts rest e
+read_up_to z k g = record { end_ = z; kind = k; goes = g }
+
+atom_reads : {b : Bool} {ts rest : List Token} {e : Expression} (z : End) → (b ≡ true → is_array z ≡ false) → Reads NAtom ts (Ok ((e, z), rest))
+    → PostRead b ts rest e
+atom_reads z k a = read_up_to z k (λ o q. x.post_steps a q)
+
+literal_reads : {b : Bool} {ts rest : List Token} {e : Expression} → literal_next ts ≡ Some (e, rest) → PostRead b ts rest e
+literal_reads h = atom_reads ends.Other (λ h. refl) (x.atom_literal h)
+
 pub dims_read : {ts rest : List Token} {d : ℕ} → IsDims ts rest d → after marks.OpenSquare rest ≡ None → (n : ℕ) → Reads (NDims n) ts (Ok (n + d, rest))
 dims_read {rest = rest} no_dims h n = let e : n ≡ n + 0 = omega arith in subst (λ (d : ℕ). Reads (NDims n) rest (Ok (d, rest))) e (x.dims_ends h)
 dims_read {rest = rest} (one_dim {ts = ts} {d = d} p q r) h n =
@@ -418,18 +286,13 @@ array_reads {ts = ts} {rest = rest} {b = b} {e = e} {d = d} {p = p} {q = q} h a 
     let f : 1 + d ≡ suc d = omega arith in
     subst (λ (k : ℕ). Reads (NNew p) ts (Ok ((NewArrayOf (record { base = b; dim = k; place = q }) e p, ends.Array), rest))) f (based h a)
 
-le1 : 1 ≤ 1
-le1 = omega arith
-
-le11 : 1 ≤ 11
-le11 = omega arith
-
-two : {rest : List Token} → Stops 1 rest → Stops 2 rest
-two s = looser (omega arith) s
-
 -- an expression that ends here is read as it is
 stops_more : {rest : List Token} {e : Expression} → Stops 1 rest → (c : ℕ) → 1 ≤ c → Reads (NMore 1 c e) rest (Ok (e, rest))
 stops_more {rest = rest} s c h = x.more_ends (op_none 1 c rest s.below) (inst_none 1 c rest s.below)
+
+closed : {ts rest : List Token} {e : Expression} → ((k : ℕ) → k ≤ 1 → 1 ≤ 11 → Stops (suc 1) rest → (o : Outcome Expression)
+    → ((c : ℕ) → 1 ≤ c → Reads (NMore k c e) rest o) → Reads (NExpr k) ts o) → Stops 1 rest → Reads (NExpr 1) ts (Ok (e, rest))
+closed read s = read 1 (omega arith) (omega arith) (looser (omega arith) s) _ (stops_more s)
 
 mutual
   unfolding expr_append
@@ -462,78 +325,39 @@ mutual
 
   pub post_reads : {b : Bool} {ts rest : List Token} {e : Expression} → IsPost b ts rest e → after marks.OpenRound rest ≡ None
       → (b ≡ false → after marks.OpenSquare rest ≡ None) → PostRead b ts rest e
-  post_reads (field d) s t = let r = post_reads d refl (λ h. refl) in record {
-    end_ = ends.Target;
-    kind = λ h. refl;
-    goes = λ o q. r.goes o
-        (x.tail_field refl refl s q);
-  }
-  post_reads (call_on d a) s t = let r = post_reads d refl (λ h. refl) in record {
-    end_ = ends.Call;
-    kind = λ h. refl;
-    goes = λ o q. r.goes o
-        (x.tail_call refl refl refl (args_reads a) q);
-  }
-  post_reads (index {p = p} {us = us} d i) s t =
-      let r = post_reads d refl (λ h. no h) in record {
-        end_ = ends.Target;
-        kind = λ h. refl;
-        goes = λ o q. r.goes o
-            (x.tail_index refl (index_here r.end_ p us (r.kind refl)) (expr_reads i 1 le1 le11 (two stops_square) _ (stops_more stops_square)) refl q);
-      }
-  post_reads int_literal s t = record { end_ = ends.Other; kind = λ h. refl; goes = λ o q. x.post_steps (x.atom_literal refl) q }
-  post_reads char_literal s t = record { end_ = ends.Other; kind = λ h. refl; goes = λ o q. x.post_steps (x.atom_literal refl) q }
-  post_reads string_literal s t = record { end_ = ends.Other; kind = λ h. refl; goes = λ o q. x.post_steps (x.atom_literal refl) q }
-  post_reads true_literal s t = record { end_ = ends.Other; kind = λ h. refl; goes = λ o q. x.post_steps (x.atom_literal refl) q }
-  post_reads false_literal s t = record { end_ = ends.Other; kind = λ h. refl; goes = λ o q. x.post_steps (x.atom_literal refl) q }
-  post_reads null_literal s t = record { end_ = ends.Other; kind = λ h. refl; goes = λ o q. x.post_steps (x.atom_literal refl) q }
-  post_reads this_word s t = record { end_ = ends.Other; kind = λ h. refl; goes = λ o q. x.post_steps (x.atom_literal refl) q }
-  post_reads name s t = record { end_ = ends.Name; kind = λ h. refl; goes = λ o q. x.post_steps (x.atom_name refl refl s) q }
-  post_reads (call a) s t = record { end_ = ends.Call; kind = λ h. refl; goes = λ o q. x.post_steps (x.atom_call refl refl refl (args_reads a)) q }
-  post_reads (super_call a) s t =
-      record {
-        end_ = ends.Call;
-        kind = λ h. refl;
-        goes = λ o q. x.post_steps
-            (x.atom_super refl refl refl refl refl (x.super_call refl refl refl (args_reads a))) q;
-      }
-  post_reads (round d) s t = record {
-    end_ = ends.Other;
-    kind = λ h. refl;
-    goes = λ o q. x.post_steps
-        (x.atom_round refl refl refl (expr_reads d 1 le1 le11 (two stops_round) _ (stops_more stops_round)) refl) q;
-  }
-  post_reads (new_object a) s t =
-      record {
-        end_ = ends.New;
-        kind = λ h. refl;
-        goes = λ o q. x.post_steps (x.atom_new refl refl refl refl (x.new_object refl refl (args_reads a)))
-            q;
-      }
-  post_reads (new_array {ts = ts} {us = us} b e d) s t =
-      record {
-        end_ = ends.Array;
-        kind = λ h. no (sym h);
-        goes = λ o q. x.post_steps
-            (x.atom_new refl refl refl refl (array_reads b (x.sized_array refl (expr_reads e 1 le1 le11 (two stops_square) _ (stops_more stops_square)) refl
-            (dims_read d (t refl) 1)))) q;
-      }
+  post_reads (field d) s t = let r = post_reads d refl (λ h. refl) in read_up_to ends.Target (λ h. refl) (λ o q. r.goes o (x.tail_field refl refl s q))
+  post_reads (call_on d a) s t = let r = post_reads d refl (λ h. refl) in read_up_to ends.Call (λ h. refl)
+      (λ o q. r.goes o (x.tail_call refl refl refl (args_reads a) q))
+  post_reads (index {p = p} {us = us} d i) s t = let r = post_reads d refl (λ h. no h) in read_up_to ends.Target (λ h. refl)
+      (λ o q. r.goes o (x.tail_index refl (index_here r.end_ p us (r.kind refl)) (closed (expr_reads i) stops_square) refl q))
+  post_reads int_literal s t = literal_reads refl
+  post_reads char_literal s t = literal_reads refl
+  post_reads string_literal s t = literal_reads refl
+  post_reads true_literal s t = literal_reads refl
+  post_reads false_literal s t = literal_reads refl
+  post_reads null_literal s t = literal_reads refl
+  post_reads this_word s t = literal_reads refl
+  post_reads name s t = atom_reads ends.Name (λ h. refl) (x.atom_name refl refl s)
+  post_reads (call a) s t = atom_reads ends.Call (λ h. refl) (x.atom_call refl refl refl (args_reads a))
+  post_reads (super_call a) s t = atom_reads ends.Call (λ h. refl) (x.atom_super refl refl refl refl refl (x.super_call refl refl refl (args_reads a)))
+  post_reads (round d) s t = atom_reads ends.Other (λ h. refl) (x.atom_round refl refl refl (closed (expr_reads d) stops_round) refl)
+  post_reads (new_object a) s t = atom_reads ends.New (λ h. refl) (x.atom_new refl refl refl refl (x.new_object refl refl (args_reads a)))
+  post_reads (new_array b e d) s t = atom_reads ends.Array (λ h. no (sym h))
+      (x.atom_new refl refl refl refl (array_reads b (x.sized_array refl (closed (expr_reads e) stops_square) refl (dims_read d (t refl) 1))))
 
   pub args_reads : {us rest : List Token} {es : Expressions} → IsArgs us rest es → Reads NArgs us (Ok (es, rest))
   args_reads no_args = x.args_none refl
   args_reads (some_args {ts = ts} d m) =
-      x.args_some (no_round ts (expr_begins d)) (expr_reads d 1 le1 le11 (two (more_stops m)) _ (stops_more (more_stops m)))
-      (more_reads m (and_more _ no_more))
+      x.args_some (no_round ts (expr_begins d)) (closed (expr_reads d) (more_stops m)) (more_reads m (and_more _ no_more))
 
   more_reads : {us rest : List Token} {es : Expressions} → IsMoreArgs us rest es → (before : Expressions)
       → Reads (NMoreArgs before) us (Ok (expr_append before es, rest))
   more_reads last_arg before = rw expr_append-none (x.more_args_end refl)
   more_reads (next_arg {e = e} {es = es} d m) before =
-      rw (← expr_append-snoc before e es) (x.more_args_next refl refl (expr_reads d 1 le1 le11 (two (more_stops m)) _ (stops_more (more_stops m)))
-      (more_reads m (expr_snoc before e)))
+      rw (← expr_append-snoc before e es) (x.more_args_next refl refl (closed (expr_reads d) (more_stops m)) (more_reads m (expr_snoc before e)))
 
 pub closed_reads : {ts rest : List Token} {e : Expression} → IsExpr 1 ts rest e → Stops 1 rest → Reads (NExpr 1) ts (Ok (e, rest))
-closed_reads d s = expr_reads d 1 le1 le11 (two s) _ (stops_more s)
+closed_reads d s = closed (expr_reads d) s
 
 pub type_reads : {ts rest : List Token} {t : TypeName} → IsType ts rest t → after marks.OpenSquare rest ≡ None → Reads NType ts (Ok (t, rest))
 type_reads {rest = rest} (a_type {ts = ts} {us = us} {b = b} {p = p} {d = d} h r) s =

@@ -25,7 +25,8 @@ use Rattle.java_tree.specs.Expressions.{int_base, boolean_base, char_base, int_l
 use Rattle.java_parse.specs.Reading.{Reads}
 use Rattle.java_parse.proofs.Post.{stmt_append, arm_append}
 use Rattle.java_parse.proofs.SoundStatements.{stmt_append-none, stmt_append-snoc, arm_append-snoc, arm_append-one}
-use Rattle.java_parse.proofs.CompleteExpressions.{Ends, Stops, stops_round, stops_square, stops_semi, begins_post, post_begins, expr_begins, no_semi, no_closes, post_none, index_none, post_reads, closed_reads, args_reads, type_reads}
+use Rattle.java_parse.proofs.Begins.{begins_post, post_begins, expr_begins, no_semi, no_closes, post_none}
+use Rattle.java_parse.proofs.CompleteExpressions.{Ends, Stops, stops_round, stops_square, stops_semi, index_none, post_reads, closed_reads, args_reads, type_reads}
 use Rattle.java_tree.specs.Statements.{not_final, is_final}
 use Rattle.java_parse.proofs.ExpressionSteps as x
 use Rattle.java_parse.proofs.StatementSteps as y

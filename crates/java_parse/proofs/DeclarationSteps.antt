@@ -10,643 +10,299 @@ use Rattle.java_tree.specs.declared.Modifier.{Modifier}
 use Rattle.java_tree.specs.declared.TypeName.{TypeName}
 use Rattle.java_tree.specs.declared.Param.{Param}
 use Rattle.java_tree.specs.Syntax.{Statements, no_statements, HeadTree, MemberTree, FieldTree, MethodTree, DeclTree, ClassTree, InterfaceTree}
-use Rattle.java_parse.specs.Want.{NType, NItems, NMods, NIds, NParent, NList, NParam, NParams, NMoreParams, NResult, NHead, NBody, NMember, NMethod, NMembers, NHeads, NClass, NInterface, NDecl, NDecls, Give, Fail, Ask}
-use Rattle.java_parse.specs.Front.{after, after_key, word_next, final_of, modifier_next, id_next, at_end}
-use Rattle.java_parse.proofs.Runs.{told, run}
+use Rattle.java_parse.specs.Want.{NType, NItems, NMods, NIds, NParent, NList, NParam, NParams, NMoreParams, NResult, NHead, NBody, NMember, NMethod, NMembers, NHeads, NClass, NInterface, NDecl, NDecls}
+use Rattle.java_parse.specs.Front.{after, after_key, word_next, final_of, modifier_next, at_end}
+use Rattle.java_parse.proofs.Runs.{reads, run, found, missed}
 use Rattle.java_parse.specs.Reading.{Fault, Left, Outcome, give, fail, ask, ask_fails, Reads}
 use Rattle.java_parse.specs.ReadDeclarations.{mods_step, ids_step, parent_step, list_step, params_step, more_params_step, result_type_step, body_step, members_step, heads_step, class_step, interface_step, decls_step}
 
 pub mods_next : {ms : List Modifier} {ts : List Token} {m : Modifier} {us : List Token} {o : Outcome (List Modifier)}
     → modifier_next ts ≡ Some (m, us) → Reads (NMods (ms ++ m ∷ [])) us o → Reads (NMods ms) ts o
-mods_next {ms = ms} {ts = ts} {o = Ok given} h0 a1 = record { runs = told (NMods ms) ts (Ok given) (rw (h0, mods_step) (ask (run a1) give)) }
-mods_next {ms = ms} {ts = ts} {o = Err fault} h0 a1 = record { runs = told (NMods ms) ts (Err fault) (rw (h0, mods_step) (ask_fails (run a1))) }
+mods_next {o = Ok given} h0 a1 = reads (rw (h0, mods_step) (ask (run a1) give))
+mods_next {o = Err fault} h0 a1 = reads (rw (h0, mods_step) (ask_fails (run a1)))
 
 pub mods_end : {ms : List Modifier} {ts : List Token} → modifier_next ts ≡ None → Reads (NMods ms) ts (Ok (ms, ts))
-mods_end {ms = ms} {ts = ts} h0 = record { runs = told (NMods ms) ts (Ok (ms, ts)) (rw (h0, mods_step) give) }
+mods_end h0 = reads (rw (h0, mods_step) give)
 
-pub ids_next : {is : List Id} {ts : List Token} {i : Id} {us : List Token} {p : Place} {vs : List Token} {o : Outcome (List Id)}
-    → id_next ts ≡ Some (i, us) → after marks.Comma us ≡ Some (p, vs) → Reads (NIds (is ++ i ∷ [])) vs o → Reads (NIds is) ts o
-ids_next {is = is} {ts = ts} {o = Ok given} h0 h1 a2 = record { runs = told (NIds is) ts (Ok given) (rw (h0, ids_step) (rw h1 (ask (run a2) give))) }
-ids_next {is = is} {ts = ts} {o = Err fault} h0 h1 a2 = record { runs = told (NIds is) ts (Err fault) (rw (h0, ids_step) (rw h1 (ask_fails (run a2)))) }
+pub ids_next : {is : List Id} {ts : List Token} {n : List ℕ} {q : Place} {us : List Token} {p : Place} {vs : List Token} {o : Outcome (List Id)}
+    → word_next ts ≡ Some (n, q, us) → after marks.Comma us ≡ Some (p, vs) → Reads (NIds (is ++ record { name = n; place = q } ∷ [])) vs o
+    → Reads (NIds is) ts o
+ids_next {o = Ok given} h0 h1 a2 = reads (rw (h0, ids_step, h1) (ask (run a2) give))
+ids_next {o = Err fault} h0 h1 a2 = reads (rw (h0, ids_step, h1) (ask_fails (run a2)))
 
-pub ids_end : {is : List Id} {ts : List Token} {i : Id} {us : List Token} → id_next ts ≡ Some (i, us) → after marks.Comma us ≡ None
-    → Reads (NIds is) ts (Ok (is ++ i ∷ [], us))
-ids_end {is = is} {ts = ts} {i = i} {us = us} h0 h1 = record { runs = told (NIds is) ts (Ok (is ++ i ∷ [], us)) (rw (h0, ids_step) (rw h1 give)) }
+pub ids_end : {is : List Id} {ts : List Token} {n : List ℕ} {q : Place} {us : List Token} → word_next ts ≡ Some (n, q, us)
+    → after marks.Comma us ≡ None → Reads (NIds is) ts (Ok (is ++ record { name = n; place = q } ∷ [], us))
+ids_end h0 h1 = reads (rw (h0, ids_step, h1) give)
 
-pub ids_none : {is : List Id} {ts : List Token} → id_next ts ≡ None → Reads (NIds is) ts (Err (Left ts))
-ids_none {is = is} {ts = ts} h0 = record { runs = told (NIds is) ts (Err (Left ts)) (rw (h0, ids_step) fail) }
+pub ids_none : {is : List Id} {ts : List Token} → word_next ts ≡ None → Reads (NIds is) ts (Err (Left ts))
+ids_none h0 = reads (rw (h0, ids_step) fail)
 
-pub parent_some : {ts : List Token} {p : Place} {us : List Token} {i : Id} {vs : List Token} → after_key keys.Extends ts ≡ Some (p, us)
-    → id_next us ≡ Some (i, vs) → Reads NParent ts (Ok (Some i, vs))
-parent_some {ts = ts} {i = i} {vs = vs} h0 h1 = record { runs = told NParent ts (Ok (Some i, vs)) (rw (h0, parent_step) (rw h1 give)) }
+pub parent_some : {ts : List Token} {p : Place} {us : List Token} {n : List ℕ} {q : Place} {vs : List Token} → after_key keys.Extends ts ≡ Some (p, us)
+    → word_next us ≡ Some (n, q, vs) → Reads NParent ts (Ok (Some (record { name = n; place = q }), vs))
+parent_some h0 h1 = reads (rw (h0, parent_step, h1) give)
 
-pub parent_no_name : {ts : List Token} {p : Place} {us : List Token} → after_key keys.Extends ts ≡ Some (p, us) → id_next us ≡ None
+pub parent_no_name : {ts : List Token} {p : Place} {us : List Token} → after_key keys.Extends ts ≡ Some (p, us) → word_next us ≡ None
     → Reads NParent ts (Err (Left us))
-parent_no_name {ts = ts} {us = us} h0 h1 = record { runs = told NParent ts (Err (Left us)) (rw (h0, parent_step) (rw h1 fail)) }
+parent_no_name h0 h1 = reads (rw (h0, parent_step, h1) fail)
 
 pub parent_none : {ts : List Token} → after_key keys.Extends ts ≡ None → Reads NParent ts (Ok (None, ts))
-parent_none {ts = ts} h0 = record { runs = told NParent ts (Ok (None, ts)) (rw (h0, parent_step) give) }
+parent_none h0 = reads (rw (h0, parent_step) give)
 
 pub list_some : {k : Keyword} {ts : List Token} {p : Place} {us : List Token} {o : Outcome (List Id)} → after_key k ts ≡ Some (p, us)
     → Reads (NIds []) us o → Reads (NList k) ts o
-list_some {k = k} {ts = ts} {o = Ok given} h0 a1 = record { runs = told (NList k) ts (Ok given) (rw (h0, list_step) (ask (run a1) give)) }
-list_some {k = k} {ts = ts} {o = Err fault} h0 a1 = record { runs = told (NList k) ts (Err fault) (rw (h0, list_step) (ask_fails (run a1))) }
+list_some {o = Ok given} h0 a1 = reads (rw (h0, list_step) (ask (run a1) give))
+list_some {o = Err fault} h0 a1 = reads (rw (h0, list_step) (ask_fails (run a1)))
 
 pub list_none : {k : Keyword} {ts : List Token} → after_key k ts ≡ None → Reads (NList k) ts (Ok ([], ts))
-list_none {k = k} {ts = ts} h0 = record { runs = told (NList k) ts (Ok ([], ts)) (rw (h0, list_step) give) }
+list_none h0 = reads (rw (h0, list_step) give)
 
 pub param_is_fails : {ts : List Token} {fl : Fault} → Reads NType ((final_of ts).1) (Err fl) → Reads NParam ts (Err fl)
-param_is_fails {ts = ts} {fl = fl} a0 = record { runs = told NParam ts (Err fl) (ask_fails (run a0)) }
+param_is_fails a0 = reads (ask_fails (run a0))
 
 pub param_is : {ts : List Token} {t : TypeName} {us : List Token} {n : List ℕ} {p : Place} {vs : List Token}
     → Reads NType ((final_of ts).1) (Ok (t, us)) → word_next us ≡ Some (n, p, vs)
     → Reads NParam ts (Ok (record { is_final = (final_of ts).0; ty = t; name = n; place = p }, vs))
-param_is {ts = ts} {t = t} {n = n} {p = p} {vs = vs} a0 h1 =
-    record {
-      runs = told NParam ts (Ok (record { is_final = (final_of ts).0; ty = t; name = n; place = p }, vs))
-          (ask {m = NParam} {n = NType}
-          {k = λ x0 r0. elim (word_next r0) [
-            | Some w1 ↦ Give (record { is_final = (final_of ts).0; ty = x0; name = w1.0; place = w1.1 }) w1.2
-            | None ↦ Fail
-                r0
-          ]} {o = (Ok (record { is_final = (final_of ts).0; ty = t; name = n; place = p }, vs))} (run a0) (rw h1 give));
-    }
+param_is a0 h1 = reads (ask (run a0) (rw h1 give))
 
 pub param_no_name : {ts : List Token} {t : TypeName} {us : List Token} → Reads NType ((final_of ts).1) (Ok (t, us)) → word_next us ≡ None
     → Reads NParam ts (Err (Left us))
-param_no_name {ts = ts} {us = us} a0 h1 =
-    record {
-      runs = told NParam ts (Err (Left us))
-          (ask {m = NParam} {n = NType}
-          {k = λ x0 r0. elim (word_next r0) [
-            | Some w1 ↦ Give (record { is_final = (final_of ts).0; ty = x0; name = w1.0; place = w1.1 }) w1.2
-            | None ↦ Fail
-                r0
-          ]} {o = (Err (Left us))} (run a0) (rw h1 fail));
-    }
+param_no_name a0 h1 = reads (ask (run a0) (rw h1 fail))
 
 pub params_none : {ts : List Token} {p : Place} {us : List Token} → after marks.CloseRound ts ≡ Some (p, us) → Reads NParams ts (Ok ([], us))
-params_none {ts = ts} {us = us} h0 = record { runs = told NParams ts (Ok ([], us)) (rw (h0, params_step) give) }
+params_none h0 = reads (rw (h0, params_step) give)
 
 pub params_some_fails : {ts : List Token} {fl : Fault} → after marks.CloseRound ts ≡ None → Reads NParam ts (Err fl) → Reads NParams ts (Err fl)
-params_some_fails {ts = ts} {fl = fl} h0 a1 = record { runs = told NParams ts (Err fl) (rw (h0, params_step) (ask_fails (run a1))) }
+params_some_fails h0 a1 = reads (rw (h0, params_step) (ask_fails (run a1)))
 
 pub params_some : {ts : List Token} {q : Param} {us : List Token} {o : Outcome (List Param)} → after marks.CloseRound ts ≡ None
     → Reads NParam ts (Ok (q, us)) → Reads (NMoreParams (q ∷ [])) us o → Reads NParams ts o
-params_some {ts = ts} {o = Ok given} h0 a1 a2 = record { runs = told NParams ts (Ok given) (rw (h0, params_step) (ask (run a1) (ask (run a2) give))) }
-params_some {ts = ts} {o = Err fault} h0 a1 a2 = record { runs = told NParams ts (Err fault) (rw (h0, params_step) (ask (run a1) (ask_fails (run a2)))) }
+params_some {o = Ok given} h0 a1 a2 = reads (rw (h0, params_step) (ask (run a1) (ask (run a2) give)))
+params_some {o = Err fault} h0 a1 a2 = reads (rw (h0, params_step) (ask (run a1) (ask_fails (run a2))))
 
 pub more_params_end : {qs : List Param} {ts : List Token} {p : Place} {us : List Token} → after marks.CloseRound ts ≡ Some (p, us)
     → Reads (NMoreParams qs) ts (Ok (qs, us))
-more_params_end {qs = qs} {ts = ts} {us = us} h0 = record { runs = told (NMoreParams qs) ts (Ok (qs, us)) (rw (h0, more_params_step) give) }
+more_params_end h0 = reads (rw (h0, more_params_step) give)
 
 pub more_params_next_fails : {qs : List Param} {ts : List Token} {p : Place} {us : List Token} {fl : Fault} → after marks.CloseRound ts ≡ None
     → after marks.Comma ts ≡ Some (p, us) → Reads NParam us (Err fl) → Reads (NMoreParams qs) ts (Err fl)
-more_params_next_fails {qs = qs} {ts = ts} {fl = fl} h0 h1 a2 =
-    record { runs = told (NMoreParams qs) ts (Err fl) (rw (h0, more_params_step) (rw h1 (ask_fails (run a2)))) }
+more_params_next_fails h0 h1 a2 = reads (rw (h0, more_params_step, h1) (ask_fails (run a2)))
 
 pub more_params_next : {qs : List Param} {ts : List Token} {p : Place} {us : List Token} {q : Param} {vs : List Token} {o : Outcome (List Param)}
     → after marks.CloseRound ts ≡ None → after marks.Comma ts ≡ Some (p, us) → Reads NParam us (Ok (q, vs)) → Reads (NMoreParams (qs ++ q ∷ [])) vs o
     → Reads (NMoreParams qs) ts o
-more_params_next {qs = qs} {ts = ts} {o = Ok given} h0 h1 a2 a3 =
-    record { runs = told (NMoreParams qs) ts (Ok given) (rw (h0, more_params_step) (rw h1 (ask (run a2) (ask (run a3) give)))) }
-more_params_next {qs = qs} {ts = ts} {o = Err fault} h0 h1 a2 a3 =
-    record { runs = told (NMoreParams qs) ts (Err fault) (rw (h0, more_params_step) (rw h1 (ask (run a2) (ask_fails (run a3))))) }
+more_params_next {o = Ok given} h0 h1 a2 a3 = reads (rw (h0, more_params_step, h1) (ask (run a2) (ask (run a3) give)))
+more_params_next {o = Err fault} h0 h1 a2 a3 = reads (rw (h0, more_params_step, h1) (ask (run a2) (ask_fails (run a3))))
 
 pub more_params_open : {qs : List Param} {ts : List Token} → after marks.CloseRound ts ≡ None → after marks.Comma ts ≡ None
     → Reads (NMoreParams qs) ts (Err (Left ts))
-more_params_open {qs = qs} {ts = ts} h0 h1 = record { runs = told (NMoreParams qs) ts (Err (Left ts)) (rw (h0, more_params_step) (rw h1 fail)) }
+more_params_open h0 h1 = reads (rw (h0, more_params_step, h1) fail)
 
 pub result_type_void : {ts : List Token} {p : Place} {us : List Token} → after_key keys.Void ts ≡ Some (p, us) → Reads NResult ts (Ok (None, us))
-result_type_void {ts = ts} {us = us} h0 = record { runs = told NResult ts (Ok (None, us)) (rw (h0, result_type_step) give) }
+result_type_void h0 = reads (rw (h0, result_type_step) give)
 
 pub result_type_type_fails : {ts : List Token} {fl : Fault} → after_key keys.Void ts ≡ None → Reads NType ts (Err fl) → Reads NResult ts (Err fl)
-result_type_type_fails {ts = ts} {fl = fl} h0 a1 = record { runs = told NResult ts (Err fl) (rw (h0, result_type_step) (ask_fails (run a1))) }
+result_type_type_fails h0 a1 = reads (rw (h0, result_type_step) (ask_fails (run a1)))
 
 pub result_type_type : {ts : List Token} {t : TypeName} {us : List Token} → after_key keys.Void ts ≡ None → Reads NType ts (Ok (t, us))
     → Reads NResult ts (Ok (Some t, us))
-result_type_type {ts = ts} {t = t} {us = us} h0 a1 = record { runs = told NResult ts (Ok (Some t, us)) (rw (h0, result_type_step) (ask (run a1) give)) }
+result_type_type h0 a1 = reads (rw (h0, result_type_step) (ask (run a1) give))
 
 pub head_is_fails : {ts : List Token} {fl : Fault} → Reads (NMods []) ts (Err fl) → Reads NHead ts (Err fl)
-head_is_fails {ts = ts} {fl = fl} a0 = record { runs = told NHead ts (Err fl) (ask_fails (run a0)) }
+head_is_fails a0 = reads (ask_fails (run a0))
 
 pub head_is_fails2 : {ts : List Token} {ms : List Modifier} {us : List Token} {fl : Fault} → Reads (NMods []) ts (Ok (ms, us))
     → Reads NResult us (Err fl) → Reads NHead ts (Err fl)
-head_is_fails2 {ts = ts} {fl = fl} a0 a1 = record { runs = told NHead ts (Err fl) (ask (run a0) (ask_fails (run a1))) }
+head_is_fails2 a0 a1 = reads (ask (run a0) (ask_fails (run a1)))
 
 pub head_is_fails3 : {ts : List Token} {ms : List Modifier} {us : List Token} {t : Option TypeName} {vs : List Token} {n : List ℕ} {p : Place}
     {ws : List Token} {q : Place} {xs : List Token} {fl : Fault} → Reads (NMods []) ts (Ok (ms, us)) → Reads NResult us (Ok (t, vs))
     → word_next vs ≡ Some (n, p, ws) → after marks.OpenRound ws ≡ Some (q, xs) → Reads NParams xs (Err fl) → Reads NHead ts (Err fl)
-head_is_fails3 {ts = ts} {ms = ms} {fl = fl} a0 a1 h2 h3 a4 =
-    record {
-      runs = told NHead ts (Err fl)
-          (ask {m = NHead} {n = (NMods [])}
-          {k = λ x0 r0. Ask NResult r0 (λ x1 r2. elim (word_next r2) [
-            | Some w3 ↦ elim (after marks.OpenRound w3.2)
-                [ Some w4 ↦ Ask NParams w4.1 (λ x5 r6. Give (record { mods = x0; type = x1; name = w3.0; params = x5; place = w3.1 }) r6) | None ↦ Fail w3.2 ]
-            | None ↦ Fail r2
-          ])} {o = (Err fl)} (run a0)
-          (ask {m = NHead} {n = NResult}
-          {k = λ x0 r0. elim (word_next r0) [
-            | Some w1 ↦ elim (after marks.OpenRound w1.2)
-                [ Some w2 ↦ Ask NParams w2.1 (λ x3 r4. Give (record { mods = ms; type = x0; name = w1.0; params = x3; place = w1.1 }) r4) | None ↦ Fail w1.2 ]
-            | None ↦ Fail r0
-          ]} {o = (Err fl)} (run a1) (rw h2 (rw h3 (ask_fails (run a4))))));
-    }
+head_is_fails3 a0 a1 h2 h3 a4 = reads (ask (run a0) (ask (run a1) (rw (h2, h3) (ask_fails (run a4)))))
 
 pub head_is : {ts : List Token} {ms : List Modifier} {us : List Token} {t : Option TypeName} {vs : List Token} {n : List ℕ} {p : Place}
     {ws : List Token} {q : Place} {xs : List Token} {ps : List Param} {end : List Token} → Reads (NMods []) ts (Ok (ms, us))
     → Reads NResult us (Ok (t, vs)) → word_next vs ≡ Some (n, p, ws) → after marks.OpenRound ws ≡ Some (q, xs) → Reads NParams xs (Ok (ps, end))
     → Reads NHead ts (Ok (record { mods = ms; type = t; name = n; params = ps; place = p }, end))
-head_is {ts = ts} {ms = ms} {t = t} {n = n} {p = p} {ps = ps} {end = end} a0 a1 h2 h3 a4 =
-    record {
-      runs = told NHead ts (Ok (record { mods = ms; type = t; name = n; params = ps; place = p }, end))
-          (ask {m = NHead} {n = (NMods [])}
-          {k = λ x0 r0. Ask NResult r0 (λ x1 r2. elim (word_next r2) [
-            | Some w3 ↦ elim (after marks.OpenRound w3.2)
-                [ Some w4 ↦ Ask NParams w4.1 (λ x5 r6. Give (record { mods = x0; type = x1; name = w3.0; params = x5; place = w3.1 }) r6) | None ↦ Fail w3.2 ]
-            | None ↦ Fail r2
-          ])} {o = (Ok (record { mods = ms; type = t; name = n; params = ps; place = p }, end))} (run a0)
-          (ask {m = NHead} {n = NResult}
-          {k = λ x0 r0. elim (word_next r0) [
-            | Some w1 ↦ elim (after marks.OpenRound w1.2)
-                [ Some w2 ↦ Ask NParams w2.1 (λ x3 r4. Give (record { mods = ms; type = x0; name = w1.0; params = x3; place = w1.1 }) r4) | None ↦ Fail w1.2 ]
-            | None ↦ Fail r0
-          ]} {o = (Ok (record { mods = ms; type = t; name = n; params = ps; place = p }, end))} (run a1)
-          (rw h2 (rw h3 (ask (run a4) give)))));
-    }
+head_is a0 a1 h2 h3 a4 = reads (ask (run a0) (ask (run a1) (rw (h2, h3) (ask (run a4) give))))
 
 pub head_no_params : {ts : List Token} {ms : List Modifier} {us : List Token} {t : Option TypeName} {vs : List Token} {n : List ℕ} {p : Place}
     {ws : List Token} → Reads (NMods []) ts (Ok (ms, us)) → Reads NResult us (Ok (t, vs)) → word_next vs ≡ Some (n, p, ws) → after marks.OpenRound ws
     ≡ None → Reads NHead ts (Err (Left ws))
-head_no_params {ts = ts} {ms = ms} {ws = ws} a0 a1 h2 h3 =
-    record {
-      runs = told NHead ts (Err (Left ws))
-          (ask {m = NHead} {n = (NMods [])}
-          {k = λ x0 r0. Ask NResult r0 (λ x1 r2. elim (word_next r2) [
-            | Some w3 ↦ elim (after marks.OpenRound w3.2)
-                [ Some w4 ↦ Ask NParams w4.1 (λ x5 r6. Give (record { mods = x0; type = x1; name = w3.0; params = x5; place = w3.1 }) r6) | None ↦ Fail w3.2 ]
-            | None ↦ Fail r2
-          ])} {o = (Err (Left ws))} (run a0)
-          (ask {m = NHead} {n = NResult}
-          {k = λ x0 r0. elim (word_next r0) [
-            | Some w1 ↦ elim (after marks.OpenRound w1.2)
-                [ Some w2 ↦ Ask NParams w2.1 (λ x3 r4. Give (record { mods = ms; type = x0; name = w1.0; params = x3; place = w1.1 }) r4) | None ↦ Fail w1.2 ]
-            | None ↦ Fail r0
-          ]} {o = (Err (Left ws))} (run a1) (rw h2 (rw h3 fail))));
-    }
+head_no_params a0 a1 h2 h3 = reads (ask (run a0) (ask (run a1) (rw (h2, h3) fail)))
 
 pub head_no_name : {ts : List Token} {ms : List Modifier} {us : List Token} {t : Option TypeName} {vs : List Token}
     → Reads (NMods []) ts (Ok (ms, us)) → Reads NResult us (Ok (t, vs)) → word_next vs ≡ None → Reads NHead ts (Err (Left vs))
-head_no_name {ts = ts} {ms = ms} {vs = vs} a0 a1 h2 =
-    record {
-      runs = told NHead ts (Err (Left vs))
-          (ask {m = NHead} {n = (NMods [])}
-          {k = λ x0 r0. Ask NResult r0 (λ x1 r2. elim (word_next r2) [
-            | Some w3 ↦ elim (after marks.OpenRound w3.2)
-                [ Some w4 ↦ Ask NParams w4.1 (λ x5 r6. Give (record { mods = x0; type = x1; name = w3.0; params = x5; place = w3.1 }) r6) | None ↦ Fail w3.2 ]
-            | None ↦ Fail r2
-          ])} {o = (Err (Left vs))} (run a0)
-          (ask {m = NHead} {n = NResult}
-          {k = λ x0 r0. elim (word_next r0) [
-            | Some w1 ↦ elim (after marks.OpenRound w1.2)
-                [ Some w2 ↦ Ask NParams w2.1 (λ x3 r4. Give (record { mods = ms; type = x0; name = w1.0; params = x3; place = w1.1 }) r4) | None ↦ Fail w1.2 ]
-            | None ↦ Fail r0
-          ]} {o = (Err (Left vs))} (run a1) (rw h2 fail)));
-    }
+head_no_name a0 a1 h2 = reads (ask (run a0) (ask (run a1) (rw h2 fail)))
 
 pub body_none : {ts : List Token} {p : Place} {us : List Token} → after marks.Semi ts ≡ Some (p, us) → Reads NBody ts (Ok (None, us))
-body_none {ts = ts} {us = us} h0 = record { runs = told NBody ts (Ok (None, us)) (rw (h0, body_step) give) }
+body_none h0 = reads (rw (h0, body_step) give)
 
 pub body_some_fails : {ts : List Token} {p : Place} {us : List Token} {fl : Fault} → after marks.Semi ts ≡ None → after marks.OpenBrace ts
     ≡ Some (p, us) → Reads (NItems no_statements) us (Err fl) → Reads NBody ts (Err fl)
-body_some_fails {ts = ts} {fl = fl} h0 h1 a2 = record { runs = told NBody ts (Err fl) (rw (h0, body_step) (rw h1 (ask_fails (run a2)))) }
+body_some_fails h0 h1 a2 = reads (rw (h0, body_step, h1) (ask_fails (run a2)))
 
 pub body_some : {ts : List Token} {p : Place} {us : List Token} {ss : Statements} {vs : List Token} → after marks.Semi ts ≡ None
     → after marks.OpenBrace ts ≡ Some (p, us) → Reads (NItems no_statements) us (Ok (ss, vs)) → Reads NBody ts (Ok (Some ss, vs))
-body_some {ts = ts} {ss = ss} {vs = vs} h0 h1 a2 = record { runs = told NBody ts (Ok (Some ss, vs)) (rw (h0, body_step) (rw h1 (ask (run a2) give))) }
+body_some h0 h1 a2 = reads (rw (h0, body_step, h1) (ask (run a2) give))
 
 pub body_open : {ts : List Token} → after marks.Semi ts ≡ None → after marks.OpenBrace ts ≡ None → Reads NBody ts (Err (Left ts))
-body_open {ts = ts} h0 h1 = record { runs = told NBody ts (Err (Left ts)) (rw (h0, body_step) (rw h1 fail)) }
+body_open h0 h1 = reads (rw (h0, body_step, h1) fail)
 
 pub member_method_fails : {ts : List Token} {fl : Fault} → Reads (NMods []) ts (Err fl) → Reads NMember ts (Err fl)
-member_method_fails {ts = ts} {fl = fl} a0 = record { runs = told NMember ts (Err fl) (ask_fails (run a0)) }
+member_method_fails a0 = reads (ask_fails (run a0))
 
 pub member_method_fails2 : {ts : List Token} {ms : List Modifier} {us : List Token} {fl : Fault} → Reads (NMods []) ts (Ok (ms, us))
     → Reads NResult us (Err fl) → Reads NMember ts (Err fl)
-member_method_fails2 {ts = ts} {fl = fl} a0 a1 = record { runs = told NMember ts (Err fl) (ask (run a0) (ask_fails (run a1))) }
+member_method_fails2 a0 a1 = reads (ask (run a0) (ask_fails (run a1)))
 
 pub member_method : {ts : List Token} {ms : List Modifier} {us : List Token} {t : Option TypeName} {vs : List Token} {n : List ℕ} {p : Place}
     {ws : List Token} {q : Place} {xs : List Token} {o : Outcome MemberTree} → Reads (NMods []) ts (Ok (ms, us)) → Reads NResult us (Ok (t, vs))
     → word_next vs ≡ Some (n, p, ws) → after marks.OpenRound ws ≡ Some (q, xs) → Reads (NMethod ms t n p) xs o → Reads NMember ts o
-member_method {ts = ts} {ms = ms} {o = Ok given} a0 a1 h2 h3 a4 =
-    record {
-      runs = told NMember ts (Ok given)
-          (ask {m = NMember} {n = (NMods [])}
-          {k = λ x0 r0. Ask NResult r0 (λ x1 r2. elim (word_next r2) [
-            | Some w3 ↦ elim (after marks.OpenRound w3.2) [
-              | Some w4 ↦ Ask (NMethod x0 x1 w3.0 w3.1) w4.1 Give
-              | None ↦ elim (x1) [
-                | Some w5 ↦ elim (after marks.Semi w3.2)
-                    [ Some w6 ↦ Give (FieldTree x0 w5 w3.0 w3.1) w6.1 | None ↦ Fail w3.2 ]
-                | None ↦ Fail w3.2
-              ]
-            ]
-            | None ↦ Fail r2
-          ])} {o = Ok given} (run a0)
-          (ask {m = NMember} {n = NResult}
-          {k = λ x0 r0. elim (word_next r0) [
-            | Some w1 ↦ elim (after marks.OpenRound w1.2) [
-              | Some w2 ↦ Ask (NMethod ms x0 w1.0 w1.1) w2.1 Give
-              | None ↦ elim
-                  (x0) [ Some w3 ↦ elim (after marks.Semi w1.2) [ Some w4 ↦ Give (FieldTree ms w3 w1.0 w1.1) w4.1 | None ↦ Fail w1.2 ] | None ↦ Fail w1.2 ]
-            ]
-            | None
-                ↦ Fail r0
-          ]} {o = Ok given} (run a1) (rw h2 (rw h3 (ask (run a4) give)))));
-    }
-member_method {ts = ts} {ms = ms} {o = Err fault} a0 a1 h2 h3 a4 =
-    record {
-      runs = told NMember ts (Err fault)
-          (ask {m = NMember} {n = (NMods [])}
-          {k = λ x0 r0. Ask NResult r0 (λ x1 r2. elim (word_next r2) [
-            | Some w3 ↦ elim (after marks.OpenRound w3.2) [
-              | Some w4 ↦ Ask (NMethod x0 x1 w3.0 w3.1) w4.1 Give
-              | None ↦ elim (x1) [
-                | Some w5 ↦ elim (after marks.Semi w3.2)
-                    [ Some w6 ↦ Give (FieldTree x0 w5 w3.0 w3.1) w6.1 | None ↦ Fail w3.2 ]
-                | None ↦ Fail w3.2
-              ]
-            ]
-            | None ↦ Fail r2
-          ])} {o = Err fault} (run a0)
-          (ask {m = NMember} {n = NResult}
-          {k = λ x0 r0. elim (word_next r0) [
-            | Some w1 ↦ elim (after marks.OpenRound w1.2) [
-              | Some w2 ↦ Ask (NMethod ms x0 w1.0 w1.1) w2.1 Give
-              | None ↦ elim
-                  (x0) [ Some w3 ↦ elim (after marks.Semi w1.2) [ Some w4 ↦ Give (FieldTree ms w3 w1.0 w1.1) w4.1 | None ↦ Fail w1.2 ] | None ↦ Fail w1.2 ]
-            ]
-            | None
-                ↦ Fail r0
-          ]} {o = Err fault} (run a1) (rw h2 (rw h3 (ask_fails (run a4))))));
-    }
+member_method {o = Ok given} a0 a1 h2 h3 a4 = reads (ask (run a0) (ask (run a1) (rw (h2, h3) (ask (run a4) give))))
+member_method {o = Err fault} a0 a1 h2 h3 a4 = reads (ask (run a0) (ask (run a1) (rw (h2, h3) (ask_fails (run a4)))))
 
 pub member_field : {ts : List Token} {ms : List Modifier} {us : List Token} {t : Option TypeName} {vs : List Token} {n : List ℕ} {p : Place}
     {ws : List Token} {u : TypeName} {q : Place} {xs : List Token} → Reads (NMods []) ts (Ok (ms, us)) → Reads NResult us (Ok (t, vs))
     → word_next vs ≡ Some (n, p, ws) → after marks.OpenRound ws ≡ None → t ≡ Some u → after marks.Semi ws ≡ Some (q, xs)
     → Reads NMember ts (Ok (FieldTree ms u n p, xs))
-member_field {ts = ts} {ms = ms} {n = n} {p = p} {u = u} {xs = xs} a0 a1 h2 h3 h4 h5 =
-    record {
-      runs = told NMember ts (Ok (FieldTree ms u n p, xs))
-          (ask {m = NMember} {n = (NMods [])}
-          {k = λ x0 r0. Ask NResult r0 (λ x1 r2. elim (word_next r2) [
-            | Some w3 ↦ elim (after marks.OpenRound w3.2) [
-              | Some w4 ↦ Ask (NMethod x0 x1 w3.0 w3.1) w4.1 Give
-              | None ↦ elim (x1) [
-                | Some w5 ↦ elim (after marks.Semi w3.2)
-                    [ Some w6 ↦ Give (FieldTree x0 w5 w3.0 w3.1) w6.1 | None ↦ Fail w3.2 ]
-                | None ↦ Fail w3.2
-              ]
-            ]
-            | None ↦ Fail r2
-          ])}
-          {o = (Ok (FieldTree ms u n p, xs))} (run a0)
-          (ask {m = NMember} {n = NResult}
-          {k = λ x0 r0. elim (word_next r0) [
-            | Some w1 ↦ elim (after marks.OpenRound w1.2) [
-              | Some w2 ↦ Ask (NMethod ms x0 w1.0 w1.1) w2.1 Give
-              | None ↦ elim
-                  (x0) [ Some w3 ↦ elim (after marks.Semi w1.2) [ Some w4 ↦ Give (FieldTree ms w3 w1.0 w1.1) w4.1 | None ↦ Fail w1.2 ] | None ↦ Fail w1.2 ]
-            ]
-            | None
-                ↦ Fail r0
-          ]} {o = (Ok (FieldTree ms u n p, xs))} (run a1) (rw h2 (rw h3 (rw h4 (rw h5 give))))));
-    }
+member_field a0 a1 h2 h3 h4 h5 = reads (ask (run a0) (ask (run a1) (rw (h2, h3, h4, h5) give)))
 
 pub member_field_open : {ts : List Token} {ms : List Modifier} {us : List Token} {t : Option TypeName} {vs : List Token} {n : List ℕ} {p : Place}
     {ws : List Token} {u : TypeName} → Reads (NMods []) ts (Ok (ms, us)) → Reads NResult us (Ok (t, vs)) → word_next vs ≡ Some (n, p, ws)
     → after marks.OpenRound ws ≡ None → t ≡ Some u → after marks.Semi ws ≡ None → Reads NMember ts (Err (Left ws))
-member_field_open {ts = ts} {ms = ms} {ws = ws} a0 a1 h2 h3 h4 h5 =
-    record {
-      runs = told NMember ts (Err (Left ws))
-          (ask {m = NMember} {n = (NMods [])}
-          {k = λ x0 r0. Ask NResult r0 (λ x1 r2. elim (word_next r2) [
-            | Some w3 ↦ elim (after marks.OpenRound w3.2) [
-              | Some w4 ↦ Ask (NMethod x0 x1 w3.0 w3.1) w4.1 Give
-              | None ↦ elim (x1) [
-                | Some w5 ↦ elim (after marks.Semi w3.2)
-                    [ Some w6 ↦ Give (FieldTree x0 w5 w3.0 w3.1) w6.1 | None ↦ Fail w3.2 ]
-                | None ↦ Fail w3.2
-              ]
-            ]
-            | None ↦ Fail r2
-          ])} {o = (Err (Left ws))} (run a0)
-          (ask {m = NMember} {n = NResult}
-          {k = λ x0 r0. elim (word_next r0) [
-            | Some w1 ↦ elim (after marks.OpenRound w1.2) [
-              | Some w2 ↦ Ask (NMethod ms x0 w1.0 w1.1) w2.1 Give
-              | None ↦ elim
-                  (x0) [ Some w3 ↦ elim (after marks.Semi w1.2) [ Some w4 ↦ Give (FieldTree ms w3 w1.0 w1.1) w4.1 | None ↦ Fail w1.2 ] | None ↦ Fail w1.2 ]
-            ]
-            | None
-                ↦ Fail r0
-          ]} {o = (Err (Left ws))} (run a1) (rw h2 (rw h3 (rw h4 (rw h5 fail))))));
-    }
+member_field_open a0 a1 h2 h3 h4 h5 = reads (ask (run a0) (ask (run a1) (rw (h2, h3, h4, h5) fail)))
 
 pub member_void_field : {ts : List Token} {ms : List Modifier} {us : List Token} {t : Option TypeName} {vs : List Token} {n : List ℕ} {p : Place}
     {ws : List Token} → Reads (NMods []) ts (Ok (ms, us)) → Reads NResult us (Ok (t, vs)) → word_next vs ≡ Some (n, p, ws) → after marks.OpenRound ws
     ≡ None → t ≡ None → Reads NMember ts (Err (Left ws))
-member_void_field {ts = ts} {ms = ms} {ws = ws} a0 a1 h2 h3 h4 =
-    record {
-      runs = told NMember ts (Err (Left ws))
-          (ask {m = NMember} {n = (NMods [])}
-          {k = λ x0 r0. Ask NResult r0 (λ x1 r2. elim (word_next r2) [
-            | Some w3 ↦ elim (after marks.OpenRound w3.2) [
-              | Some w4 ↦ Ask (NMethod x0 x1 w3.0 w3.1) w4.1 Give
-              | None ↦ elim (x1) [
-                | Some w5 ↦ elim (after marks.Semi w3.2)
-                    [ Some w6 ↦ Give (FieldTree x0 w5 w3.0 w3.1) w6.1 | None ↦ Fail w3.2 ]
-                | None ↦ Fail w3.2
-              ]
-            ]
-            | None ↦ Fail r2
-          ])} {o = (Err (Left ws))} (run a0)
-          (ask {m = NMember} {n = NResult}
-          {k = λ x0 r0. elim (word_next r0) [
-            | Some w1 ↦ elim (after marks.OpenRound w1.2) [
-              | Some w2 ↦ Ask (NMethod ms x0 w1.0 w1.1) w2.1 Give
-              | None ↦ elim
-                  (x0) [ Some w3 ↦ elim (after marks.Semi w1.2) [ Some w4 ↦ Give (FieldTree ms w3 w1.0 w1.1) w4.1 | None ↦ Fail w1.2 ] | None ↦ Fail w1.2 ]
-            ]
-            | None
-                ↦ Fail r0
-          ]} {o = (Err (Left ws))} (run a1) (rw h2 (rw h3 (rw h4 fail)))));
-    }
+member_void_field a0 a1 h2 h3 h4 = reads (ask (run a0) (ask (run a1) (rw (h2, h3, h4) fail)))
 
 pub member_no_name : {ts : List Token} {ms : List Modifier} {us : List Token} {t : Option TypeName} {vs : List Token}
     → Reads (NMods []) ts (Ok (ms, us)) → Reads NResult us (Ok (t, vs)) → word_next vs ≡ None → Reads NMember ts (Err (Left vs))
-member_no_name {ts = ts} {ms = ms} {vs = vs} a0 a1 h2 =
-    record {
-      runs = told NMember ts (Err (Left vs))
-          (ask {m = NMember} {n = (NMods [])}
-          {k = λ x0 r0. Ask NResult r0 (λ x1 r2. elim (word_next r2) [
-            | Some w3 ↦ elim (after marks.OpenRound w3.2) [
-              | Some w4 ↦ Ask (NMethod x0 x1 w3.0 w3.1) w4.1 Give
-              | None ↦ elim (x1) [
-                | Some w5 ↦ elim (after marks.Semi w3.2)
-                    [ Some w6 ↦ Give (FieldTree x0 w5 w3.0 w3.1) w6.1 | None ↦ Fail w3.2 ]
-                | None ↦ Fail w3.2
-              ]
-            ]
-            | None ↦ Fail r2
-          ])} {o = (Err (Left vs))} (run a0)
-          (ask {m = NMember} {n = NResult}
-          {k = λ x0 r0. elim (word_next r0) [
-            | Some w1 ↦ elim (after marks.OpenRound w1.2) [
-              | Some w2 ↦ Ask (NMethod ms x0 w1.0 w1.1) w2.1 Give
-              | None ↦ elim
-                  (x0) [ Some w3 ↦ elim (after marks.Semi w1.2) [ Some w4 ↦ Give (FieldTree ms w3 w1.0 w1.1) w4.1 | None ↦ Fail w1.2 ] | None ↦ Fail w1.2 ]
-            ]
-            | None
-                ↦ Fail r0
-          ]} {o = (Err (Left vs))} (run a1) (rw h2 fail)));
-    }
+member_no_name a0 a1 h2 = reads (ask (run a0) (ask (run a1) (rw h2 fail)))
 
 pub method_is_fails : {ms : List Modifier} {t : Option TypeName} {n : List ℕ} {p : Place} {ts : List Token} {fl : Fault} → Reads NParams ts (Err fl)
     → Reads (NMethod ms t n p) ts (Err fl)
-method_is_fails {ms = ms} {t = t} {n = n} {p = p} {ts = ts} {fl = fl} a0 = record { runs = told (NMethod ms t n p) ts (Err fl) (ask_fails (run a0)) }
+method_is_fails a0 = reads (ask_fails (run a0))
 
 pub method_is_fails2 : {ms : List Modifier} {t : Option TypeName} {n : List ℕ} {p : Place} {ts : List Token} {ps : List Param} {us : List Token}
     {fl : Fault} → Reads NParams ts (Ok (ps, us)) → Reads NBody us (Err fl) → Reads (NMethod ms t n p) ts (Err fl)
-method_is_fails2 {ms = ms} {t = t} {n = n} {p = p} {ts = ts} {fl = fl} a0 a1 =
-    record { runs = told (NMethod ms t n p) ts (Err fl) (ask (run a0) (ask_fails (run a1))) }
+method_is_fails2 a0 a1 = reads (ask (run a0) (ask_fails (run a1)))
 
 pub method_is : {ms : List Modifier} {t : Option TypeName} {n : List ℕ} {p : Place} {ts : List Token} {ps : List Param} {us : List Token}
     {b : Option Statements} {vs : List Token} → Reads NParams ts (Ok (ps, us)) → Reads NBody us (Ok (b, vs))
     → Reads (NMethod ms t n p) ts (Ok (MethodTree (record { mods = ms; type = t; name = n; params = ps; place = p }) b p, vs))
-method_is {ms = ms} {t = t} {n = n} {p = p} {ts = ts} {ps = ps} {b = b} {vs = vs} a0 a1 =
-    record {
-      runs = told (NMethod ms t n p) ts (Ok (MethodTree (record { mods = ms; type = t; name = n; params = ps; place = p }) b p, vs))
-          (ask (run a0) (ask (run a1) give));
-    }
+method_is a0 a1 = reads (ask (run a0) (ask (run a1) give))
 
 pub members_end : {bs : List MemberTree} {ts : List Token} {p : Place} {us : List Token} → after marks.CloseBrace ts ≡ Some (p, us)
     → Reads (NMembers bs) ts (Ok (bs, us))
-members_end {bs = bs} {ts = ts} {us = us} h0 = record { runs = told (NMembers bs) ts (Ok (bs, us)) (rw (h0, members_step) give) }
+members_end h0 = reads (rw (h0, members_step) give)
 
 pub members_next_fails : {bs : List MemberTree} {ts : List Token} {fl : Fault} → after marks.CloseBrace ts ≡ None → Reads NMember ts (Err fl)
     → Reads (NMembers bs) ts (Err fl)
-members_next_fails {bs = bs} {ts = ts} {fl = fl} h0 a1 = record { runs = told (NMembers bs) ts (Err fl) (rw (h0, members_step) (ask_fails (run a1))) }
+members_next_fails h0 a1 = reads (rw (h0, members_step) (ask_fails (run a1)))
 
 pub members_next : {bs : List MemberTree} {ts : List Token} {b : MemberTree} {us : List Token} {o : Outcome (List MemberTree)}
     → after marks.CloseBrace ts ≡ None → Reads NMember ts (Ok (b, us)) → Reads (NMembers (bs ++ b ∷ [])) us o → Reads (NMembers bs) ts o
-members_next {bs = bs} {ts = ts} {o = Ok given} h0 a1 a2 =
-    record { runs = told (NMembers bs) ts (Ok given) (rw (h0, members_step) (ask (run a1) (ask (run a2) give))) }
-members_next {bs = bs} {ts = ts} {o = Err fault} h0 a1 a2 =
-    record { runs = told (NMembers bs) ts (Err fault) (rw (h0, members_step) (ask (run a1) (ask_fails (run a2)))) }
+members_next {o = Ok given} h0 a1 a2 = reads (rw (h0, members_step) (ask (run a1) (ask (run a2) give)))
+members_next {o = Err fault} h0 a1 a2 = reads (rw (h0, members_step) (ask (run a1) (ask_fails (run a2))))
 
 pub heads_end : {hs : List HeadTree} {ts : List Token} {p : Place} {us : List Token} → after marks.CloseBrace ts ≡ Some (p, us)
     → Reads (NHeads hs) ts (Ok (hs, us))
-heads_end {hs = hs} {ts = ts} {us = us} h0 = record { runs = told (NHeads hs) ts (Ok (hs, us)) (rw (h0, heads_step) give) }
+heads_end h0 = reads (rw (h0, heads_step) give)
 
 pub heads_next_fails : {hs : List HeadTree} {ts : List Token} {fl : Fault} → after marks.CloseBrace ts ≡ None → Reads NHead ts (Err fl)
     → Reads (NHeads hs) ts (Err fl)
-heads_next_fails {hs = hs} {ts = ts} {fl = fl} h0 a1 = record { runs = told (NHeads hs) ts (Err fl) (rw (h0, heads_step) (ask_fails (run a1))) }
+heads_next_fails h0 a1 = reads (rw (h0, heads_step) (ask_fails (run a1)))
 
 pub heads_next : {hs : List HeadTree} {ts : List Token} {h : HeadTree} {us : List Token} {p : Place} {vs : List Token} {o : Outcome (List HeadTree)}
     → after marks.CloseBrace ts ≡ None → Reads NHead ts (Ok (h, us)) → after marks.Semi us ≡ Some (p, vs) → Reads (NHeads (hs ++ h ∷ [])) vs o
     → Reads (NHeads hs) ts o
-heads_next {hs = hs} {ts = ts} {o = Ok given} h0 a1 h2 a3 =
-    record {
-      runs = told (NHeads hs) ts (Ok given)
-          (rw (h0, heads_step) (ask {m = (NHeads hs)} {n = NHead} {k = λ x0 r0. elim (after marks.Semi r0)
-          [ Some w1 ↦ Ask (NHeads (hs ++ x0 ∷ [])) w1.1 Give | None ↦ Fail r0 ]} {o = Ok given} (run a1) (rw h2 (ask (run a3) give))));
-    }
-heads_next {hs = hs} {ts = ts} {o = Err fault} h0 a1 h2 a3 =
-    record {
-      runs = told (NHeads hs) ts (Err fault)
-          (rw (h0, heads_step) (ask {m = (NHeads hs)} {n = NHead} {k = λ x0 r0. elim (after marks.Semi r0)
-          [ Some w1 ↦ Ask (NHeads (hs ++ x0 ∷ [])) w1.1 Give | None ↦ Fail r0 ]} {o = Err fault} (run a1) (rw h2 (ask_fails (run a3)))));
-    }
+heads_next {o = Ok given} h0 a1 h2 a3 = reads (rw (h0, heads_step) (ask (run a1) (found _ _ h2 (ask (run a3) give))))
+heads_next {o = Err fault} h0 a1 h2 a3 = reads (rw (h0, heads_step) (ask (run a1) (found _ _ h2 (ask_fails (run a3)))))
 
 pub heads_open : {hs : List HeadTree} {ts : List Token} {h : HeadTree} {us : List Token} → after marks.CloseBrace ts ≡ None
     → Reads NHead ts (Ok (h, us)) → after marks.Semi us ≡ None → Reads (NHeads hs) ts (Err (Left us))
-heads_open {hs = hs} {ts = ts} {us = us} h0 a1 h2 =
-    record {
-      runs = told (NHeads hs) ts (Err (Left us))
-          (rw (h0, heads_step) (ask {m = (NHeads hs)} {n = NHead} {k = λ x0 r0. elim (after marks.Semi r0)
-          [ Some w1 ↦ Ask (NHeads (hs ++ x0 ∷ [])) w1.1 Give | None ↦ Fail r0 ]} {o = (Err (Left us))} (run a1) (rw h2 fail)));
-    }
+heads_open h0 a1 h2 = reads (rw (h0, heads_step) (ask (run a1) (missed _ h2 fail)))
 
 pub class_is_fails : {ms : List Modifier} {ts : List Token} {n : List ℕ} {p : Place} {us : List Token} {fl : Fault} → word_next ts ≡ Some (n, p, us)
     → Reads NParent us (Err fl) → Reads (NClass ms) ts (Err fl)
-class_is_fails {ms = ms} {ts = ts} {fl = fl} h0 a1 = record { runs = told (NClass ms) ts (Err fl) (rw (h0, class_step) (ask_fails (run a1))) }
+class_is_fails h0 a1 = reads (rw (h0, class_step) (ask_fails (run a1)))
 
 pub class_is_fails2 : {ms : List Modifier} {ts : List Token} {n : List ℕ} {p : Place} {us : List Token} {i : Option Id} {vs : List Token} {fl : Fault}
     → word_next ts ≡ Some (n, p, us) → Reads NParent us (Ok (i, vs)) → Reads (NList keys.Implements) vs (Err fl) → Reads (NClass ms) ts (Err fl)
-class_is_fails2 {ms = ms} {ts = ts} {fl = fl} h0 a1 a2 =
-    record { runs = told (NClass ms) ts (Err fl) (rw (h0, class_step) (ask (run a1) (ask_fails (run a2)))) }
+class_is_fails2 h0 a1 a2 = reads (rw (h0, class_step) (ask (run a1) (ask_fails (run a2))))
 
 pub class_is_fails3 : {ms : List Modifier} {ts : List Token} {n : List ℕ} {p : Place} {us : List Token} {i : Option Id} {vs : List Token}
     {fs : List Id} {ws : List Token} {q : Place} {xs : List Token} {fl : Fault} → word_next ts ≡ Some (n, p, us) → Reads NParent us (Ok (i, vs))
     → Reads (NList keys.Implements) vs (Ok (fs, ws)) → after marks.OpenBrace ws ≡ Some (q, xs) → Reads (NMembers []) xs (Err fl)
     → Reads (NClass ms) ts (Err fl)
-class_is_fails3 {ms = ms} {ts = ts} {n = n} {p = p} {i = i} {fl = fl} h0 a1 a2 h3 a4 =
-    record {
-      runs = told (NClass ms) ts (Err fl)
-          (rw (h0, class_step) (ask {m = (NClass ms)} {n = NParent} {k = λ x0 r0. Ask (NList keys.Implements) r0 (λ x1 r2. elim (after marks.OpenBrace r2)
-          [ Some w3 ↦ Ask (NMembers []) w3.1 (λ x4 r5. Give (ClassTree ms n x0 x1 x4 p) r5) | None ↦ Fail r2 ])} {o = (Err fl)} (run a1)
-          (ask {m = (NClass ms)} {n = (NList keys.Implements)} {k = λ x0 r0. elim (after marks.OpenBrace r0)
-          [ Some w1 ↦ Ask (NMembers []) w1.1 (λ x2 r3. Give (ClassTree ms n i x0 x2 p) r3) | None ↦ Fail r0 ]} {o =
-          (Err fl)} (run a2) (rw h3 (ask_fails (run a4))))));
-    }
+class_is_fails3 h0 a1 a2 h3 a4 = reads (rw (h0, class_step) (ask (run a1) (ask (run a2) (found _ _ h3 (ask_fails (run a4))))))
 
 pub class_is : {ms : List Modifier} {ts : List Token} {n : List ℕ} {p : Place} {us : List Token} {i : Option Id} {vs : List Token} {fs : List Id}
     {ws : List Token} {q : Place} {xs : List Token} {bs : List MemberTree} {end : List Token} → word_next ts ≡ Some (n, p, us)
     → Reads NParent us (Ok (i, vs)) → Reads (NList keys.Implements) vs (Ok (fs, ws)) → after marks.OpenBrace ws ≡ Some (q, xs)
     → Reads (NMembers []) xs (Ok (bs, end)) → Reads (NClass ms) ts (Ok (ClassTree ms n i fs bs p, end))
-class_is {ms = ms} {ts = ts} {n = n} {p = p} {i = i} {fs = fs} {bs = bs} {end = end} h0 a1 a2 h3 a4 =
-    record {
-      runs = told (NClass ms) ts (Ok (ClassTree ms n i fs bs p, end))
-          (rw (h0, class_step) (ask {m = (NClass ms)} {n = NParent} {k = λ x0 r0. Ask (NList keys.Implements) r0 (λ x1 r2. elim (after marks.OpenBrace r2)
-          [ Some w3 ↦ Ask (NMembers []) w3.1 (λ x4 r5. Give (ClassTree ms n x0 x1 x4 p) r5) | None ↦ Fail r2 ])} {o = (Ok (ClassTree ms n i fs bs p, end))}
-          (run a1) (ask {m = (NClass ms)} {n = (NList keys.Implements)} {k = λ x0 r0. elim (after marks.OpenBrace r0)
-          [ Some w1 ↦ Ask (NMembers []) w1.1 (λ x2 r3. Give (ClassTree ms n i x0 x2 p) r3) | None ↦ Fail r0 ]} {o = (Ok (ClassTree ms n i fs bs p, end))}
-          (run a2) (rw h3 (ask (run a4) give)))));
-    }
+class_is h0 a1 a2 h3 a4 = reads (rw (h0, class_step) (ask (run a1) (ask (run a2) (found _ _ h3 (ask (run a4) give)))))
 
 pub class_no_body : {ms : List Modifier} {ts : List Token} {n : List ℕ} {p : Place} {us : List Token} {i : Option Id} {vs : List Token} {fs : List Id}
     {ws : List Token} → word_next ts ≡ Some (n, p, us) → Reads NParent us (Ok (i, vs)) → Reads (NList keys.Implements) vs (Ok (fs, ws))
     → after marks.OpenBrace ws ≡ None → Reads (NClass ms) ts (Err (Left ws))
-class_no_body {ms = ms} {ts = ts} {n = n} {p = p} {i = i} {ws = ws} h0 a1 a2 h3 =
-    record {
-      runs = told (NClass ms) ts (Err (Left ws))
-          (rw (h0, class_step) (ask {m = (NClass ms)} {n = NParent} {k = λ x0 r0. Ask (NList keys.Implements) r0 (λ x1 r2. elim (after marks.OpenBrace r2)
-          [ Some w3 ↦ Ask (NMembers []) w3.1 (λ x4 r5. Give (ClassTree ms n x0 x1 x4 p) r5) | None ↦ Fail r2 ])} {o = (Err (Left ws))} (run a1)
-          (ask {m = (NClass ms)} {n = (NList keys.Implements)} {k = λ x0 r0. elim (after marks.OpenBrace r0)
-          [ Some w1 ↦ Ask (NMembers []) w1.1 (λ x2 r3. Give (ClassTree ms n i x0 x2 p) r3) | None ↦ Fail r0 ]} {o = (Err (Left ws))} (run a2)
-          (rw h3 fail))));
-    }
+class_no_body h0 a1 a2 h3 = reads (rw (h0, class_step) (ask (run a1) (ask (run a2) (missed _ h3 fail))))
 
 pub class_no_name : {ms : List Modifier} {ts : List Token} → word_next ts ≡ None → Reads (NClass ms) ts (Err (Left ts))
-class_no_name {ms = ms} {ts = ts} h0 = record { runs = told (NClass ms) ts (Err (Left ts)) (rw (h0, class_step) fail) }
+class_no_name h0 = reads (rw (h0, class_step) fail)
 
 pub interface_is_fails : {ms : List Modifier} {ts : List Token} {n : List ℕ} {p : Place} {us : List Token} {fl : Fault}
     → word_next ts ≡ Some (n, p, us) → Reads (NList keys.Extends) us (Err fl) → Reads (NInterface ms) ts (Err fl)
-interface_is_fails {ms = ms} {ts = ts} {fl = fl} h0 a1 = record { runs = told (NInterface ms) ts (Err fl) (rw (h0, interface_step) (ask_fails (run a1))) }
+interface_is_fails h0 a1 = reads (rw (h0, interface_step) (ask_fails (run a1)))
 
 pub interface_is_fails2 : {ms : List Modifier} {ts : List Token} {n : List ℕ} {p : Place} {us : List Token} {fs : List Id} {ws : List Token}
     {q : Place} {xs : List Token} {fl : Fault} → word_next ts ≡ Some (n, p, us) → Reads (NList keys.Extends) us (Ok (fs, ws))
     → after marks.OpenBrace ws ≡ Some (q, xs) → Reads (NHeads []) xs (Err fl) → Reads (NInterface ms) ts (Err fl)
-interface_is_fails2 {ms = ms} {ts = ts} {n = n} {p = p} {fl = fl} h0 a1 h2 a3 =
-    record {
-      runs = told (NInterface ms) ts (Err fl)
-          (rw (h0, interface_step) (ask {m = (NInterface ms)} {n = (NList keys.Extends)} {k = λ x0 r0. elim (after marks.OpenBrace r0)
-          [ Some w1 ↦ Ask (NHeads []) w1.1 (λ x2 r3. Give (InterfaceTree ms n x0 x2 p) r3) | None ↦ Fail r0 ]} {o =
-          (Err fl)} (run a1) (rw h2 (ask_fails (run a3)))));
-    }
+interface_is_fails2 h0 a1 h2 a3 = reads (rw (h0, interface_step) (ask (run a1) (found _ _ h2 (ask_fails (run a3)))))
 
 pub interface_is : {ms : List Modifier} {ts : List Token} {n : List ℕ} {p : Place} {us : List Token} {fs : List Id} {ws : List Token} {q : Place}
     {xs : List Token} {hs : List HeadTree} {end : List Token} → word_next ts ≡ Some (n, p, us) → Reads (NList keys.Extends) us (Ok (fs, ws))
     → after marks.OpenBrace ws ≡ Some (q, xs) → Reads (NHeads []) xs (Ok (hs, end)) → Reads (NInterface ms) ts (Ok (InterfaceTree ms n fs hs p, end))
-interface_is {ms = ms} {ts = ts} {n = n} {p = p} {fs = fs} {hs = hs} {end = end} h0 a1 h2 a3 =
-    record {
-      runs = told (NInterface ms) ts (Ok (InterfaceTree ms n fs hs p, end))
-          (rw (h0, interface_step) (ask {m = (NInterface ms)} {n = (NList keys.Extends)} {k = λ x0 r0. elim (after marks.OpenBrace r0)
-          [ Some w1 ↦ Ask (NHeads []) w1.1 (λ x2 r3. Give (InterfaceTree ms n x0 x2 p) r3) | None ↦ Fail r0 ]} {o = (Ok (InterfaceTree ms n fs hs p, end))}
-          (run a1) (rw h2 (ask (run a3) give))));
-    }
+interface_is h0 a1 h2 a3 = reads (rw (h0, interface_step) (ask (run a1) (found _ _ h2 (ask (run a3) give))))
 
 pub interface_no_body : {ms : List Modifier} {ts : List Token} {n : List ℕ} {p : Place} {us : List Token} {fs : List Id} {ws : List Token}
     → word_next ts ≡ Some (n, p, us) → Reads (NList keys.Extends) us (Ok (fs, ws)) → after marks.OpenBrace ws ≡ None
     → Reads (NInterface ms) ts (Err (Left ws))
-interface_no_body {ms = ms} {ts = ts} {n = n} {p = p} {ws = ws} h0 a1 h2 =
-    record {
-      runs = told (NInterface ms) ts (Err (Left ws))
-          (rw (h0, interface_step) (ask {m = (NInterface ms)} {n = (NList keys.Extends)} {k = λ x0 r0. elim (after marks.OpenBrace r0)
-          [ Some w1 ↦ Ask (NHeads []) w1.1 (λ x2 r3. Give (InterfaceTree ms n x0 x2 p) r3) | None ↦ Fail r0 ]} {o = (Err (Left ws))} (run a1)
-          (rw h2 fail)));
-    }
+interface_no_body h0 a1 h2 = reads (rw (h0, interface_step) (ask (run a1) (missed _ h2 fail)))
 
 pub interface_no_name : {ms : List Modifier} {ts : List Token} → word_next ts ≡ None → Reads (NInterface ms) ts (Err (Left ts))
-interface_no_name {ms = ms} {ts = ts} h0 = record { runs = told (NInterface ms) ts (Err (Left ts)) (rw (h0, interface_step) fail) }
+interface_no_name h0 = reads (rw (h0, interface_step) fail)
 
 pub decl_class_fails : {ts : List Token} {fl : Fault} → Reads (NMods []) ts (Err fl) → Reads NDecl ts (Err fl)
-decl_class_fails {ts = ts} {fl = fl} a0 = record { runs = told NDecl ts (Err fl) (ask_fails (run a0)) }
+decl_class_fails a0 = reads (ask_fails (run a0))
 
 pub decl_class : {ts : List Token} {ms : List Modifier} {us : List Token} {p : Place} {vs : List Token} {o : Outcome DeclTree}
     → Reads (NMods []) ts (Ok (ms, us)) → after_key keys.Class us ≡ Some (p, vs) → Reads (NClass ms) vs o → Reads NDecl ts o
-decl_class {ts = ts} {o = Ok given} a0 h1 a2 =
-    record {
-      runs = told NDecl ts (Ok given)
-          (ask {m = NDecl} {n = (NMods [])} {k = λ x0 r0. elim (after_key keys.Class r0) [
-            | Some w1 ↦ Ask (NClass x0) w1.1 Give
-            | None ↦ elim
-                (after_key keys.Interface r0) [ Some w2 ↦ Ask (NInterface x0) w2.1 Give | None ↦ Fail r0 ]
-          ]} {o = Ok given} (run a0)
-          (rw h1 (ask (run a2) give)));
-    }
-decl_class {ts = ts} {o = Err fault} a0 h1 a2 =
-    record {
-      runs = told NDecl ts (Err fault)
-          (ask {m = NDecl} {n = (NMods [])} {k = λ x0 r0. elim (after_key keys.Class r0) [
-            | Some w1 ↦ Ask (NClass x0) w1.1 Give
-            | None ↦ elim
-                (after_key keys.Interface r0) [ Some w2 ↦ Ask (NInterface x0) w2.1 Give | None ↦ Fail r0 ]
-          ]} {o = Err fault} (run a0)
-          (rw h1 (ask_fails (run a2))));
-    }
+decl_class {o = Ok given} a0 h1 a2 = reads (ask (run a0) (rw h1 (ask (run a2) give)))
+decl_class {o = Err fault} a0 h1 a2 = reads (ask (run a0) (rw h1 (ask_fails (run a2))))
 
 pub decl_interface : {ts : List Token} {ms : List Modifier} {us : List Token} {p : Place} {vs : List Token} {o : Outcome DeclTree}
     → Reads (NMods []) ts (Ok (ms, us)) → after_key keys.Class us ≡ None → after_key keys.Interface us ≡ Some (p, vs) → Reads (NInterface ms) vs o
     → Reads NDecl ts o
-decl_interface {ts = ts} {o = Ok given} a0 h1 h2 a3 =
-    record {
-      runs = told NDecl ts (Ok given)
-          (ask {m = NDecl} {n = (NMods [])} {k = λ x0 r0. elim (after_key keys.Class r0) [
-            | Some w1 ↦ Ask (NClass x0) w1.1 Give
-            | None ↦ elim
-                (after_key keys.Interface r0) [ Some w2 ↦ Ask (NInterface x0) w2.1 Give | None ↦ Fail r0 ]
-          ]} {o = Ok given} (run a0)
-          (rw h1 (rw h2 (ask (run a3) give))));
-    }
-decl_interface {ts = ts} {o = Err fault} a0 h1 h2 a3 =
-    record {
-      runs = told NDecl ts (Err fault)
-          (ask {m = NDecl} {n = (NMods [])} {k = λ x0 r0. elim (after_key keys.Class r0) [
-            | Some w1 ↦ Ask (NClass x0) w1.1 Give
-            | None ↦ elim
-                (after_key keys.Interface r0) [ Some w2 ↦ Ask (NInterface x0) w2.1 Give | None ↦ Fail r0 ]
-          ]} {o = Err fault} (run a0)
-          (rw h1 (rw h2 (ask_fails (run a3)))));
-    }
+decl_interface {o = Ok given} a0 h1 h2 a3 = reads (ask (run a0) (rw (h1, h2) (ask (run a3) give)))
+decl_interface {o = Err fault} a0 h1 h2 a3 = reads (ask (run a0) (rw (h1, h2) (ask_fails (run a3))))
 
 pub decl_none : {ts : List Token} {ms : List Modifier} {us : List Token} → Reads (NMods []) ts (Ok (ms, us)) → after_key keys.Class us ≡ None
     → after_key keys.Interface us ≡ None → Reads NDecl ts (Err (Left us))
-decl_none {ts = ts} {us = us} a0 h1 h2 =
-    record {
-      runs = told NDecl ts (Err (Left us))
-          (ask {m = NDecl} {n = (NMods [])} {k = λ x0 r0. elim (after_key keys.Class r0) [
-            | Some w1 ↦ Ask (NClass x0) w1.1 Give
-            | None ↦ elim
-                (after_key keys.Interface r0) [ Some w2 ↦ Ask (NInterface x0) w2.1 Give | None ↦ Fail r0 ]
-          ]} {o = (Err (Left us))} (run a0)
-          (rw h1 (rw h2 fail)));
-    }
+decl_none a0 h1 h2 = reads (ask (run a0) (rw (h1, h2) fail))
 
 pub decls_end : {ds : List DeclTree} {ts : List Token} → at_end ts ≡ true → Reads (NDecls ds) ts (Ok (ds, ts))
-decls_end {ds = ds} {ts = ts} h0 = record { runs = told (NDecls ds) ts (Ok (ds, ts)) (rw (h0, decls_step) give) }
+decls_end h0 = reads (rw (h0, decls_step) give)
 
 pub decls_next_fails : {ds : List DeclTree} {ts : List Token} {fl : Fault} → at_end ts ≡ false → Reads NDecl ts (Err fl) → Reads (NDecls ds) ts (Err fl)
-decls_next_fails {ds = ds} {ts = ts} {fl = fl} h0 a1 = record { runs = told (NDecls ds) ts (Err fl) (rw (h0, decls_step) (ask_fails (run a1))) }
+decls_next_fails h0 a1 = reads (rw (h0, decls_step) (ask_fails (run a1)))
 
 pub decls_next : {ds : List DeclTree} {ts : List Token} {d : DeclTree} {us : List Token} {o : Outcome (List DeclTree)} → at_end ts ≡ false
     → Reads NDecl ts (Ok (d, us)) → Reads (NDecls (ds ++ d ∷ [])) us o → Reads (NDecls ds) ts o
-decls_next {ds = ds} {ts = ts} {o = Ok given} h0 a1 a2 =
-    record { runs = told (NDecls ds) ts (Ok given) (rw (h0, decls_step) (ask (run a1) (ask (run a2) give))) }
-decls_next {ds = ds} {ts = ts} {o = Err fault} h0 a1 a2 =
-    record { runs = told (NDecls ds) ts (Err fault) (rw (h0, decls_step) (ask (run a1) (ask_fails (run a2)))) }
+decls_next {o = Ok given} h0 a1 a2 = reads (rw (h0, decls_step) (ask (run a1) (ask (run a2) give)))
+decls_next {o = Err fault} h0 a1 a2 = reads (rw (h0, decls_step) (ask (run a1) (ask_fails (run a2))))
 
 pub ruleset declaration_steps = (
   mods_next,

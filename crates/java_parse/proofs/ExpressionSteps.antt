@@ -12,47 +12,42 @@ use Rattle.java_tree.specs.Syntax.{Expression, IntLit, NameRef, FieldOf, IndexOf
 use Rattle.java_tree.specs.Tokens.{level}
 use Rattle.java_parse.specs.declared.End.{End}
 use Rattle.java_parse.specs.declared.End.TheVariants as ends
-use Rattle.java_parse.specs.Want.{NExpr, NMore, NPrefixed, NPost, NAtom, NSuper, NNew, NSized, NDims, NType, NTail, NArgs, NMoreArgs, Give, Fail, Ask}
+use Rattle.java_parse.specs.Want.{NExpr, NMore, NPrefixed, NPost, NAtom, NSuper, NNew, NSized, NDims, NType, NTail, NArgs, NMoreArgs}
 use Rattle.java_parse.specs.Front.{after, after_key, word_next, operator, instance_next, least_next, sign_next, cast_next, base_next, literal_next, index_next, expr_snoc}
-use Rattle.java_parse.proofs.Runs.{told, run}
+use Rattle.java_parse.proofs.Runs.{reads, run, found, missed}
 use Rattle.java_parse.specs.Reading.{Fault, Left, Outcome, give, fail, ask, ask_fails, Reads}
 use Rattle.java_parse.specs.ReadExpressions.{more_step, prefixed_step, atom_step, super_step, new_step, sized_step, dims_step, type_step, tail_step, args_step, more_args_step}
 
 pub expr_steps_fails : {l : ℕ} {ts : List Token} {fl : Fault} → Reads NPrefixed ts (Err fl) → Reads (NExpr l) ts (Err fl)
-expr_steps_fails {l = l} {ts = ts} {fl = fl} a0 = record { runs = told (NExpr l) ts (Err fl) (ask_fails (run a0)) }
+expr_steps_fails a0 = reads (ask_fails (run a0))
 
 pub expr_steps : {l : ℕ} {ts : List Token} {e : Expression} {us : List Token} {o : Outcome Expression} → Reads NPrefixed ts (Ok (e, us))
     → Reads (NMore l 11 e) us o → Reads (NExpr l) ts o
-expr_steps {l = l} {ts = ts} {o = Ok given} a0 a1 = record { runs = told (NExpr l) ts (Ok given) (ask (run a0) (ask (run a1) give)) }
-expr_steps {l = l} {ts = ts} {o = Err fault} a0 a1 = record { runs = told (NExpr l) ts (Err fault) (ask (run a0) (ask_fails (run a1))) }
+expr_steps {o = Ok given} a0 a1 = reads (ask (run a0) (ask (run a1) give))
+expr_steps {o = Err fault} a0 a1 = reads (ask (run a0) (ask_fails (run a1)))
 
 pub more_binary_fails : {l : ℕ} {c : ℕ} {e : Expression} {ts : List Token} {m : Mark} {p : Place} {us : List Token} {fl : Fault}
     → operator l c ts ≡ Some (m, p, us) → Reads (NExpr (suc (level m))) us (Err fl) → Reads (NMore l c e) ts (Err fl)
-more_binary_fails {l = l} {c = c} {e = e} {ts = ts} {fl = fl} h0 a1 = record { runs = told (NMore l c e) ts (Err fl) (rw (h0, more_step) (ask_fails (run a1))) }
+more_binary_fails h0 a1 = reads (rw (h0, more_step) (ask_fails (run a1)))
 
 pub more_binary : {l : ℕ} {c : ℕ} {e : Expression} {ts : List Token} {m : Mark} {p : Place} {us : List Token} {b : Expression} {vs : List Token}
     {o : Outcome Expression} → operator l c ts ≡ Some (m, p, us) → Reads (NExpr (suc (level m))) us (Ok (b, vs))
     → Reads (NMore l (level m) (BinaryOf m e b p)) vs o → Reads (NMore l c e) ts o
-more_binary {l = l} {c = c} {e = e} {ts = ts} {o = Ok given} h0 a1 a2 =
-    record { runs = told (NMore l c e) ts (Ok given) (rw (h0, more_step) (ask (run a1) (ask (run a2) give))) }
-more_binary {l = l} {c = c} {e = e} {ts = ts} {o = Err fault} h0 a1 a2 =
-    record { runs = told (NMore l c e) ts (Err fault) (rw (h0, more_step) (ask (run a1) (ask_fails (run a2)))) }
+more_binary {o = Ok given} h0 a1 a2 = reads (rw (h0, more_step) (ask (run a1) (ask (run a2) give)))
+more_binary {o = Err fault} h0 a1 a2 = reads (rw (h0, more_step) (ask (run a1) (ask_fails (run a2))))
 
 pub more_instance : {l : ℕ} {c : ℕ} {e : Expression} {ts : List Token} {p : Place} {us : List Token} {n : List ℕ} {q : Place} {vs : List Token}
     {o : Outcome Expression} → operator l c ts ≡ None → instance_next l c ts ≡ Some (p, us) → word_next us ≡ Some (n, q, vs)
     → Reads (NMore l 7 (InstanceOfClass e (record { name = n; place = q }) p)) vs o → Reads (NMore l c e) ts o
-more_instance {l = l} {c = c} {e = e} {ts = ts} {o = Ok given} h0 h1 h2 a3 =
-    record { runs = told (NMore l c e) ts (Ok given) (rw (h0, more_step) (rw h1 (rw h2 (ask (run a3) give)))) }
-more_instance {l = l} {c = c} {e = e} {ts = ts} {o = Err fault} h0 h1 h2 a3 =
-    record { runs = told (NMore l c e) ts (Err fault) (rw (h0, more_step) (rw h1 (rw h2 (ask_fails (run a3))))) }
+more_instance {o = Ok given} h0 h1 h2 a3 = reads (rw (h0, more_step, h1, h2) (ask (run a3) give))
+more_instance {o = Err fault} h0 h1 h2 a3 = reads (rw (h0, more_step, h1, h2) (ask_fails (run a3)))
 
 pub more_no_class : {l : ℕ} {c : ℕ} {e : Expression} {ts : List Token} {p : Place} {us : List Token} → operator l c ts ≡ None
     → instance_next l c ts ≡ Some (p, us) → word_next us ≡ None → Reads (NMore l c e) ts (Err (Left us))
-more_no_class {l = l} {c = c} {e = e} {ts = ts} {us = us} h0 h1 h2 =
-    record { runs = told (NMore l c e) ts (Err (Left us)) (rw (h0, more_step) (rw h1 (rw h2 fail))) }
+more_no_class h0 h1 h2 = reads (rw (h0, more_step, h1, h2) fail)
 
 pub more_ends : {l : ℕ} {c : ℕ} {e : Expression} {ts : List Token} → operator l c ts ≡ None → instance_next l c ts ≡ None → Reads (NMore l c e) ts (Ok (e, ts))
-more_ends {l = l} {c = c} {e = e} {ts = ts} h0 h1 = record { runs = told (NMore l c e) ts (Ok (e, ts)) (rw (h0, more_step) (rw h1 give)) }
+more_ends h0 h1 = reads (rw (h0, more_step, h1) give)
 
 -- the same, with the level as the program has it
 pub more_operator : {l c i : ℕ} {e b : Expression} {ts us vs : List Token} {m : Mark} {p : Place} {o : Outcome Expression}
@@ -65,203 +60,159 @@ pub more_operator_fails : {l c i : ℕ} {e : Expression} {ts us : List Token} {m
 more_operator_fails h w a = more_binary_fails h (rw (w, add-one) at a)
 
 pub prefixed_least : {ts : List Token} {p : Place} {us : List Token} → least_next ts ≡ Some (p, us) → Reads NPrefixed ts (Ok (IntLit (negsuc 2147483647) p, us))
-prefixed_least {ts = ts} {p = p} {us = us} h0 = record { runs = told NPrefixed ts (Ok (IntLit (negsuc 2147483647) p, us)) (rw (h0, prefixed_step) give) }
+prefixed_least h0 = reads (rw (h0, prefixed_step) give)
 
 pub prefixed_signed_fails : {ts : List Token} {m : Mark} {p : Place} {us : List Token} {fl : Fault} → least_next ts ≡ None
     → sign_next ts ≡ Some (m, p, us) → Reads NPrefixed us (Err fl) → Reads NPrefixed ts (Err fl)
-prefixed_signed_fails {ts = ts} {fl = fl} h0 h1 a2 = record { runs = told NPrefixed ts (Err fl) (rw (h0, prefixed_step) (rw h1 (ask_fails (run a2)))) }
+prefixed_signed_fails h0 h1 a2 = reads (rw (h0, prefixed_step, h1) (ask_fails (run a2)))
 
 pub prefixed_signed : {ts : List Token} {m : Mark} {p : Place} {us : List Token} {e : Expression} {vs : List Token} → least_next ts ≡ None
     → sign_next ts ≡ Some (m, p, us) → Reads NPrefixed us (Ok (e, vs)) → Reads NPrefixed ts (Ok (UnaryOf m e p, vs))
-prefixed_signed {ts = ts} {m = m} {p = p} {e = e} {vs = vs} h0 h1 a2 =
-    record { runs = told NPrefixed ts (Ok (UnaryOf m e p, vs)) (rw (h0, prefixed_step) (rw h1 (ask (run a2) give))) }
+prefixed_signed h0 h1 a2 = reads (rw (h0, prefixed_step, h1) (ask (run a2) give))
 
 pub prefixed_cast_fails : {ts : List Token} {t : TypeName} {p : Place} {us : List Token} {fl : Fault} → least_next ts ≡ None → sign_next ts ≡ None
     → cast_next ts ≡ Some (t, p, us) → Reads NPrefixed us (Err fl) → Reads NPrefixed ts (Err fl)
-prefixed_cast_fails {ts = ts} {fl = fl} h0 h1 h2 a3 = record { runs = told NPrefixed ts (Err fl) (rw (h0, prefixed_step) (rw h1 (rw h2 (ask_fails (run a3))))) }
+prefixed_cast_fails h0 h1 h2 a3 = reads (rw (h0, prefixed_step, h1, h2) (ask_fails (run a3)))
 
 pub prefixed_cast : {ts : List Token} {t : TypeName} {p : Place} {us : List Token} {e : Expression} {vs : List Token} → least_next ts ≡ None
     → sign_next ts ≡ None → cast_next ts ≡ Some (t, p, us) → Reads NPrefixed us (Ok (e, vs)) → Reads NPrefixed ts (Ok (CastOf t e p, vs))
-prefixed_cast {ts = ts} {t = t} {p = p} {e = e} {vs = vs} h0 h1 h2 a3 =
-    record { runs = told NPrefixed ts (Ok (CastOf t e p, vs)) (rw (h0, prefixed_step) (rw h1 (rw h2 (ask (run a3) give)))) }
+prefixed_cast h0 h1 h2 a3 = reads (rw (h0, prefixed_step, h1, h2) (ask (run a3) give))
 
 pub prefixed_bare_fails : {ts : List Token} {fl : Fault} → least_next ts ≡ None → sign_next ts ≡ None → cast_next ts ≡ None → Reads NPost ts (Err fl)
     → Reads NPrefixed ts (Err fl)
-prefixed_bare_fails {ts = ts} {fl = fl} h0 h1 h2 a3 = record { runs = told NPrefixed ts (Err fl) (rw (h0, prefixed_step) (rw h1 (rw h2 (ask_fails (run a3))))) }
+prefixed_bare_fails h0 h1 h2 a3 = reads (rw (h0, prefixed_step, h1, h2) (ask_fails (run a3)))
 
 pub prefixed_bare : {ts : List Token} {e : Expression} {z : End} {vs : List Token} → least_next ts ≡ None → sign_next ts ≡ None → cast_next ts ≡ None
     → Reads NPost ts (Ok ((e, z), vs)) → Reads NPrefixed ts (Ok (e, vs))
-prefixed_bare {ts = ts} {e = e} {vs = vs} h0 h1 h2 a3 =
-    record { runs = told NPrefixed ts (Ok (e, vs)) (rw (h0, prefixed_step) (rw h1 (rw h2 (ask (run a3) give)))) }
+prefixed_bare h0 h1 h2 a3 = reads (rw (h0, prefixed_step, h1, h2) (ask (run a3) give))
 
 pub post_steps_fails : {ts : List Token} {fl : Fault} → Reads NAtom ts (Err fl) → Reads NPost ts (Err fl)
-post_steps_fails {ts = ts} {fl = fl} a0 = record { runs = told NPost ts (Err fl) (ask_fails (run a0)) }
+post_steps_fails a0 = reads (ask_fails (run a0))
 
 pub post_steps : {ts : List Token} {e : Expression} {z : End} {us : List Token} {o : Outcome (Expression × End)} → Reads NAtom ts (Ok ((e, z), us))
     → Reads (NTail e z) us o → Reads NPost ts o
-post_steps {ts = ts} {o = Ok given} a0 a1 = record { runs = told NPost ts (Ok given) (ask (run a0) (ask (run a1) give)) }
-post_steps {ts = ts} {o = Err fault} a0 a1 = record { runs = told NPost ts (Err fault) (ask (run a0) (ask_fails (run a1))) }
+post_steps {o = Ok given} a0 a1 = reads (ask (run a0) (ask (run a1) give))
+post_steps {o = Err fault} a0 a1 = reads (ask (run a0) (ask_fails (run a1)))
 
 pub atom_literal : {ts : List Token} {e : Expression} {us : List Token} → literal_next ts ≡ Some (e, us) → Reads NAtom ts (Ok ((e, ends.Other), us))
-atom_literal {ts = ts} {e = e} {us = us} h0 = record { runs = told NAtom ts (Ok ((e, ends.Other), us)) (rw (h0, atom_step) give) }
+atom_literal h0 = reads (rw (h0, atom_step) give)
 
 pub atom_call_fails : {ts : List Token} {n : List ℕ} {p : Place} {us : List Token} {q : Place} {vs : List Token} {fl : Fault} → literal_next ts ≡ None
     → word_next ts ≡ Some (n, p, us) → after marks.OpenRound us ≡ Some (q, vs) → Reads NArgs vs (Err fl) → Reads NAtom ts (Err fl)
-atom_call_fails {ts = ts} {fl = fl} h0 h1 h2 a3 = record { runs = told NAtom ts (Err fl) (rw (h0, atom_step) (rw h1 (rw h2 (ask_fails (run a3))))) }
+atom_call_fails h0 h1 h2 a3 = reads (rw (h0, atom_step, h1, h2) (ask_fails (run a3)))
 
 pub atom_call : {ts : List Token} {n : List ℕ} {p : Place} {us : List Token} {q : Place} {vs : List Token} {es : Expressions} {ws : List Token}
     → literal_next ts ≡ None → word_next ts ≡ Some (n, p, us) → after marks.OpenRound us ≡ Some (q, vs) → Reads NArgs vs (Ok (es, ws))
     → Reads NAtom ts (Ok ((CallOf n es p, ends.Call), ws))
-atom_call {ts = ts} {n = n} {p = p} {es = es} {ws = ws} h0 h1 h2 a3 =
-    record { runs = told NAtom ts (Ok ((CallOf n es p, ends.Call), ws)) (rw (h0, atom_step) (rw h1 (rw h2 (ask (run a3) give)))) }
+atom_call h0 h1 h2 a3 = reads (rw (h0, atom_step, h1, h2) (ask (run a3) give))
 
 pub atom_name : {ts : List Token} {n : List ℕ} {p : Place} {us : List Token} → literal_next ts ≡ None → word_next ts ≡ Some (n, p, us)
     → after marks.OpenRound us ≡ None → Reads NAtom ts (Ok ((NameRef n p, ends.Name), us))
-atom_name {ts = ts} {n = n} {p = p} {us = us} h0 h1 h2 =
-    record { runs = told NAtom ts (Ok ((NameRef n p, ends.Name), us)) (rw (h0, atom_step) (rw h1 (rw h2 give))) }
+atom_name h0 h1 h2 = reads (rw (h0, atom_step, h1, h2) give)
 
 pub atom_round_fails : {ts : List Token} {p : Place} {us : List Token} {fl : Fault} → literal_next ts ≡ None → word_next ts ≡ None
     → after marks.OpenRound ts ≡ Some (p, us) → Reads (NExpr 1) us (Err fl) → Reads NAtom ts (Err fl)
-atom_round_fails {ts = ts} {fl = fl} h0 h1 h2 a3 = record { runs = told NAtom ts (Err fl) (rw (h0, atom_step) (rw h1 (rw h2 (ask_fails (run a3))))) }
+atom_round_fails h0 h1 h2 a3 = reads (rw (h0, atom_step, h1, h2) (ask_fails (run a3)))
 
 pub atom_round : {ts : List Token} {p : Place} {us : List Token} {e : Expression} {vs : List Token} {zq : Place} {ws : List Token}
     → literal_next ts ≡ None → word_next ts ≡ None → after marks.OpenRound ts ≡ Some (p, us) → Reads (NExpr 1) us (Ok (e, vs))
     → after marks.CloseRound vs ≡ Some (zq, ws) → Reads NAtom ts (Ok ((e, ends.Other), ws))
-atom_round {ts = ts} {e = e} {ws = ws} h0 h1 h2 a3 h4 =
-    record {
-      runs = told NAtom ts (Ok ((e, ends.Other), ws))
-          (rw (h0, atom_step) (rw h1 (rw h2
-          (ask {m = NAtom} {n = (NExpr 1)} {k = λ x0 r0. elim (after marks.CloseRound r0) [ Some w1 ↦ Give (x0, ends.Other) w1.1 | None ↦ Fail r0 ]}
-          {o = (Ok ((e, ends.Other), ws))} (run a3) (rw h4 give)))));
-    }
+atom_round h0 h1 h2 a3 h4 = reads (rw (h0, atom_step, h1, h2) (ask (run a3) (found _ _ h4 give)))
 
 pub atom_open : {ts : List Token} {p : Place} {us : List Token} {e : Expression} {vs : List Token} → literal_next ts ≡ None → word_next ts ≡ None
     → after marks.OpenRound ts ≡ Some (p, us) → Reads (NExpr 1) us (Ok (e, vs)) → after marks.CloseRound vs ≡ None → Reads NAtom ts (Err (Left vs))
-atom_open {ts = ts} {vs = vs} h0 h1 h2 a3 h4 =
-    record {
-      runs = told NAtom ts (Err (Left vs))
-          (rw (h0, atom_step) (rw h1 (rw h2
-          (ask {m = NAtom} {n = (NExpr 1)} {k = λ x0 r0. elim (after marks.CloseRound r0) [ Some w1 ↦ Give (x0, ends.Other) w1.1 | None ↦ Fail r0 ]}
-          {o = (Err (Left vs))} (run a3) (rw h4 fail)))));
-    }
+atom_open h0 h1 h2 a3 h4 = reads (rw (h0, atom_step, h1, h2) (ask (run a3) (missed _ h4 fail)))
 
 pub atom_new : {ts : List Token} {p : Place} {us : List Token} {o : Outcome (Expression × End)} → literal_next ts ≡ None → word_next ts ≡ None
     → after marks.OpenRound ts ≡ None → after_key keys.New ts ≡ Some (p, us) → Reads (NNew p) us o → Reads NAtom ts o
-atom_new {ts = ts} {o = Ok given} h0 h1 h2 h3 a4 = record { runs = told NAtom ts (Ok given) (rw (h0, atom_step) (rw h1 (rw h2 (rw h3 (ask (run a4) give))))) }
-atom_new {ts = ts} {o = Err fault} h0 h1 h2 h3 a4 =
-    record { runs = told NAtom ts (Err fault) (rw (h0, atom_step) (rw h1 (rw h2 (rw h3 (ask_fails (run a4)))))) }
+atom_new {o = Ok given} h0 h1 h2 h3 a4 = reads (rw (h0, atom_step, h1, h2, h3) (ask (run a4) give))
+atom_new {o = Err fault} h0 h1 h2 h3 a4 = reads (rw (h0, atom_step, h1, h2, h3) (ask_fails (run a4)))
 
 pub atom_super : {ts : List Token} {p : Place} {us : List Token} {o : Outcome (Expression × End)} → literal_next ts ≡ None → word_next ts ≡ None
     → after marks.OpenRound ts ≡ None → after_key keys.New ts ≡ None → after_key keys.Super ts ≡ Some (p, us) → Reads NSuper us o → Reads NAtom ts o
-atom_super {ts = ts} {o = Ok given} h0 h1 h2 h3 h4 a5 =
-    record { runs = told NAtom ts (Ok given) (rw (h0, atom_step) (rw h1 (rw h2 (rw h3 (rw h4 (ask (run a5) give)))))) }
-atom_super {ts = ts} {o = Err fault} h0 h1 h2 h3 h4 a5 =
-    record { runs = told NAtom ts (Err fault) (rw (h0, atom_step) (rw h1 (rw h2 (rw h3 (rw h4 (ask_fails (run a5))))))) }
+atom_super {o = Ok given} h0 h1 h2 h3 h4 a5 = reads (rw (h0, atom_step, h1, h2, h3, h4) (ask (run a5) give))
+atom_super {o = Err fault} h0 h1 h2 h3 h4 a5 = reads (rw (h0, atom_step, h1, h2, h3, h4) (ask_fails (run a5)))
 
 pub atom_none : {ts : List Token} → literal_next ts ≡ None → word_next ts ≡ None → after marks.OpenRound ts ≡ None → after_key keys.New ts ≡ None
     → after_key keys.Super ts ≡ None → Reads NAtom ts (Err (Left ts))
-atom_none {ts = ts} h0 h1 h2 h3 h4 = record { runs = told NAtom ts (Err (Left ts)) (rw (h0, atom_step) (rw h1 (rw h2 (rw h3 (rw h4 fail))))) }
+atom_none h0 h1 h2 h3 h4 = reads (rw (h0, atom_step, h1, h2, h3, h4) fail)
 
 pub super_call_fails : {ts : List Token} {q : Place} {us : List Token} {n : List ℕ} {p : Place} {vs : List Token} {r : Place} {ws : List Token}
     {fl : Fault} → after marks.Dot ts ≡ Some (q, us) → word_next us ≡ Some (n, p, vs) → after marks.OpenRound vs ≡ Some (r, ws)
     → Reads NArgs ws (Err fl) → Reads NSuper ts (Err fl)
-super_call_fails {ts = ts} {fl = fl} h0 h1 h2 a3 = record { runs = told NSuper ts (Err fl) (rw (h0, super_step) (rw h1 (rw h2 (ask_fails (run a3))))) }
+super_call_fails h0 h1 h2 a3 = reads (rw (h0, super_step, h1, h2) (ask_fails (run a3)))
 
 pub super_call : {ts : List Token} {q : Place} {us : List Token} {n : List ℕ} {p : Place} {vs : List Token} {r : Place} {ws : List Token}
     {es : Expressions} {xs : List Token} → after marks.Dot ts ≡ Some (q, us) → word_next us ≡ Some (n, p, vs) → after marks.OpenRound vs
     ≡ Some (r, ws) → Reads NArgs ws (Ok (es, xs)) → Reads NSuper ts (Ok ((SuperCallOf n es p, ends.Call), xs))
-super_call {ts = ts} {n = n} {p = p} {es = es} {xs = xs} h0 h1 h2 a3 =
-    record { runs = told NSuper ts (Ok ((SuperCallOf n es p, ends.Call), xs)) (rw (h0, super_step) (rw h1 (rw h2 (ask (run a3) give)))) }
+super_call h0 h1 h2 a3 = reads (rw (h0, super_step, h1, h2) (ask (run a3) give))
 
 pub super_no_args : {ts : List Token} {q : Place} {us : List Token} {n : List ℕ} {p : Place} {vs : List Token} → after marks.Dot ts ≡ Some (q, us)
     → word_next us ≡ Some (n, p, vs) → after marks.OpenRound vs ≡ None → Reads NSuper ts (Err (Left vs))
-super_no_args {ts = ts} {vs = vs} h0 h1 h2 = record { runs = told NSuper ts (Err (Left vs)) (rw (h0, super_step) (rw h1 (rw h2 fail))) }
+super_no_args h0 h1 h2 = reads (rw (h0, super_step, h1, h2) fail)
 
 pub super_no_name : {ts : List Token} {q : Place} {us : List Token} → after marks.Dot ts ≡ Some (q, us) → word_next us ≡ None → Reads NSuper ts (Err (Left us))
-super_no_name {ts = ts} {us = us} h0 h1 = record { runs = told NSuper ts (Err (Left us)) (rw (h0, super_step) (rw h1 fail)) }
+super_no_name h0 h1 = reads (rw (h0, super_step, h1) fail)
 
 pub super_no_dot : {ts : List Token} → after marks.Dot ts ≡ None → Reads NSuper ts (Err (Left ts))
-super_no_dot {ts = ts} h0 = record { runs = told NSuper ts (Err (Left ts)) (rw (h0, super_step) fail) }
+super_no_dot h0 = reads (rw (h0, super_step) fail)
 
 pub new_object_fails : {p : Place} {ts : List Token} {n : List ℕ} {q : Place} {us : List Token} {r : Place} {vs : List Token} {fl : Fault}
     → word_next ts ≡ Some (n, q, us) → after marks.OpenRound us ≡ Some (r, vs) → Reads NArgs vs (Err fl) → Reads (NNew p) ts (Err fl)
-new_object_fails {p = p} {ts = ts} {fl = fl} h0 h1 a2 = record { runs = told (NNew p) ts (Err fl) (rw (h0, new_step) (rw h1 (ask_fails (run a2)))) }
+new_object_fails h0 h1 a2 = reads (rw (h0, new_step, h1) (ask_fails (run a2)))
 
 pub new_object : {p : Place} {ts : List Token} {n : List ℕ} {q : Place} {us : List Token} {r : Place} {vs : List Token} {es : Expressions}
     {ws : List Token} → word_next ts ≡ Some (n, q, us) → after marks.OpenRound us ≡ Some (r, vs) → Reads NArgs vs (Ok (es, ws))
     → Reads (NNew p) ts (Ok ((NewOf (record { name = n; place = q }) es p, ends.New), ws))
-new_object {p = p} {ts = ts} {n = n} {q = q} {es = es} {ws = ws} h0 h1 a2 =
-    record {
-      runs = told (NNew p) ts (Ok ((NewOf (record { name = n; place = q }) es p, ends.New), ws))
-          (rw (h0, new_step) (rw h1 (ask (run a2) give)));
-    }
+new_object h0 h1 a2 = reads (rw (h0, new_step, h1) (ask (run a2) give))
 
 pub new_named : {p : Place} {ts : List Token} {n : List ℕ} {q : Place} {us : List Token} {o : Outcome (Expression × End)}
     → word_next ts ≡ Some (n, q, us) → after marks.OpenRound us ≡ None → Reads (NSized p (bases.Named n) q) us o → Reads (NNew p) ts o
-new_named {p = p} {ts = ts} {o = Ok given} h0 h1 a2 = record { runs = told (NNew p) ts (Ok given) (rw (h0, new_step) (rw h1 (ask (run a2) give))) }
-new_named {p = p} {ts = ts} {o = Err fault} h0 h1 a2 = record { runs = told (NNew p) ts (Err fault) (rw (h0, new_step) (rw h1 (ask_fails (run a2)))) }
+new_named {o = Ok given} h0 h1 a2 = reads (rw (h0, new_step, h1) (ask (run a2) give))
+new_named {o = Err fault} h0 h1 a2 = reads (rw (h0, new_step, h1) (ask_fails (run a2)))
 
 pub new_base : {p : Place} {ts : List Token} {b : TypeBase} {q : Place} {us : List Token} {o : Outcome (Expression × End)} → word_next ts ≡ None
     → base_next ts ≡ Some (b, q, us) → Reads (NSized p b q) us o → Reads (NNew p) ts o
-new_base {p = p} {ts = ts} {o = Ok given} h0 h1 a2 = record { runs = told (NNew p) ts (Ok given) (rw (h0, new_step) (rw h1 (ask (run a2) give))) }
-new_base {p = p} {ts = ts} {o = Err fault} h0 h1 a2 = record { runs = told (NNew p) ts (Err fault) (rw (h0, new_step) (rw h1 (ask_fails (run a2)))) }
+new_base {o = Ok given} h0 h1 a2 = reads (rw (h0, new_step, h1) (ask (run a2) give))
+new_base {o = Err fault} h0 h1 a2 = reads (rw (h0, new_step, h1) (ask_fails (run a2)))
 
 pub new_none : {p : Place} {ts : List Token} → word_next ts ≡ None → base_next ts ≡ None → Reads (NNew p) ts (Err (Left ts))
-new_none {p = p} {ts = ts} h0 h1 = record { runs = told (NNew p) ts (Err (Left ts)) (rw (h0, new_step) (rw h1 fail)) }
+new_none h0 h1 = reads (rw (h0, new_step, h1) fail)
 
 pub sized_array_fails : {p : Place} {b : TypeBase} {q : Place} {ts : List Token} {r : Place} {us : List Token} {fl : Fault}
     → after marks.OpenSquare ts ≡ Some (r, us) → Reads (NExpr 1) us (Err fl) → Reads (NSized p b q) ts (Err fl)
-sized_array_fails {p = p} {b = b} {q = q} {ts = ts} {fl = fl} h0 a1 =
-    record { runs = told (NSized p b q) ts (Err fl) (rw (h0, sized_step) (ask_fails (run a1))) }
+sized_array_fails h0 a1 = reads (rw (h0, sized_step) (ask_fails (run a1)))
 
 pub sized_array_fails2 : {p : Place} {b : TypeBase} {q : Place} {ts : List Token} {r : Place} {us : List Token} {e : Expression} {vs : List Token}
     {zq : Place} {ws : List Token} {fl : Fault} → after marks.OpenSquare ts ≡ Some (r, us) → Reads (NExpr 1) us (Ok (e, vs))
     → after marks.CloseSquare vs ≡ Some (zq, ws) → Reads (NDims 1) ws (Err fl) → Reads (NSized p b q) ts (Err fl)
-sized_array_fails2 {p = p} {b = b} {q = q} {ts = ts} {fl = fl} h0 a1 h2 a3 =
-    record {
-      runs = told (NSized p b q) ts (Err fl)
-          (rw (h0, sized_step) (ask {m = (NSized p b q)} {n = (NExpr 1)} {k = λ x0 r0. elim (after marks.CloseSquare r0)
-          [ Some w1 ↦ Ask (NDims 1) w1.1 (λ x2 r3. Give (NewArrayOf (record { base = b; dim = x2; place = q }) x0 p, ends.Array) r3) | None ↦ Fail r0 ]}
-          {o = (Err fl)} (run a1) (rw h2 (ask_fails (run a3)))));
-    }
+sized_array_fails2 h0 a1 h2 a3 = reads (rw (h0, sized_step) (ask (run a1) (found _ _ h2 (ask_fails (run a3)))))
 
 pub sized_array : {p : Place} {b : TypeBase} {q : Place} {ts : List Token} {r : Place} {us : List Token} {e : Expression} {vs : List Token}
     {zq : Place} {ws : List Token} {d : ℕ} {xs : List Token} → after marks.OpenSquare ts ≡ Some (r, us) → Reads (NExpr 1) us (Ok (e, vs))
     → after marks.CloseSquare vs ≡ Some (zq, ws) → Reads (NDims 1) ws (Ok (d, xs))
     → Reads (NSized p b q) ts (Ok ((NewArrayOf (record { base = b; dim = d; place = q }) e p, ends.Array), xs))
-sized_array {p = p} {b = b} {q = q} {ts = ts} {e = e} {d = d} {xs = xs} h0 a1 h2 a3 =
-    record {
-      runs = told (NSized p b q) ts (Ok ((NewArrayOf (record { base = b; dim = d; place = q }) e p, ends.Array), xs))
-          (rw (h0, sized_step) (ask {m = (NSized p b q)} {n = (NExpr 1)} {k = λ x0 r0. elim (after marks.CloseSquare r0)
-          [ Some w1 ↦ Ask (NDims 1) w1.1 (λ x2 r3. Give (NewArrayOf (record { base = b; dim = x2; place = q }) x0 p, ends.Array) r3) | None ↦ Fail r0 ]}
-          {o = (Ok ((NewArrayOf (record { base = b; dim = d; place = q }) e p, ends.Array), xs))} (run a1) (rw h2 (ask (run a3) give))));
-    }
+sized_array h0 a1 h2 a3 = reads (rw (h0, sized_step) (ask (run a1) (found _ _ h2 (ask (run a3) give))))
 
 pub sized_open : {p : Place} {b : TypeBase} {q : Place} {ts : List Token} {r : Place} {us : List Token} {e : Expression} {vs : List Token}
     → after marks.OpenSquare ts ≡ Some (r, us) → Reads (NExpr 1) us (Ok (e, vs)) → after marks.CloseSquare vs ≡ None
     → Reads (NSized p b q) ts (Err (Left vs))
-sized_open {p = p} {b = b} {q = q} {ts = ts} {vs = vs} h0 a1 h2 =
-    record {
-      runs = told (NSized p b q) ts (Err (Left vs))
-          (rw (h0, sized_step) (ask {m = (NSized p b q)} {n = (NExpr 1)} {k = λ x0 r0. elim (after marks.CloseSquare r0)
-          [ Some w1 ↦ Ask (NDims 1) w1.1 (λ x2 r3. Give (NewArrayOf (record { base = b; dim = x2; place = q }) x0 p, ends.Array) r3) | None ↦ Fail r0 ]}
-          {o = (Err (Left vs))} (run a1) (rw h2 fail)));
-    }
+sized_open h0 a1 h2 = reads (rw (h0, sized_step) (ask (run a1) (missed _ h2 fail)))
 
 pub sized_none : {p : Place} {b : TypeBase} {q : Place} {ts : List Token} → after marks.OpenSquare ts ≡ None → Reads (NSized p b q) ts (Err (Left ts))
-sized_none {p = p} {b = b} {q = q} {ts = ts} h0 = record { runs = told (NSized p b q) ts (Err (Left ts)) (rw (h0, sized_step) fail) }
+sized_none h0 = reads (rw (h0, sized_step) fail)
 
 pub dims_more : {d : ℕ} {ts : List Token} {p : Place} {us : List Token} {zq : Place} {vs : List Token} {o : Outcome ℕ} → after marks.OpenSquare ts
     ≡ Some (p, us) → after marks.CloseSquare us ≡ Some (zq, vs) → Reads (NDims (suc d)) vs o → Reads (NDims d) ts o
-dims_more {d = d} {ts = ts} {o = Ok given} h0 h1 a2 = record { runs = told (NDims d) ts (Ok given) (rw (h0, dims_step) (rw h1 (ask (run a2) give))) }
-dims_more {d = d} {ts = ts} {o = Err fault} h0 h1 a2 = record { runs = told (NDims d) ts (Err fault) (rw (h0, dims_step) (rw h1 (ask_fails (run a2)))) }
+dims_more {o = Ok given} h0 h1 a2 = reads (rw (h0, dims_step, h1) (ask (run a2) give))
+dims_more {o = Err fault} h0 h1 a2 = reads (rw (h0, dims_step, h1) (ask_fails (run a2)))
 
 pub dims_open : {d : ℕ} {ts : List Token} {p : Place} {us : List Token} → after marks.OpenSquare ts ≡ Some (p, us) → after marks.CloseSquare us ≡ None
     → Reads (NDims d) ts (Err (Left us))
-dims_open {d = d} {ts = ts} {us = us} h0 h1 = record { runs = told (NDims d) ts (Err (Left us)) (rw (h0, dims_step) (rw h1 fail)) }
+dims_open h0 h1 = reads (rw (h0, dims_step, h1) fail)
 
 pub dims_ends : {d : ℕ} {ts : List Token} → after marks.OpenSquare ts ≡ None → Reads (NDims d) ts (Ok (d, ts))
-dims_ends {d = d} {ts = ts} h0 = record { runs = told (NDims d) ts (Ok (d, ts)) (rw (h0, dims_step) give) }
+dims_ends h0 = reads (rw (h0, dims_step) give)
 
 -- the same, with the number as the program has it
 pub dims_again : {d : ℕ} {ts : List Token} {p : Place} {us : List Token} {zq : Place} {vs : List Token} {o : Outcome ℕ} → after marks.OpenSquare ts
@@ -270,107 +221,83 @@ dims_again h k a = dims_more h k (rw add-one at a)
 
 pub type_is_fails : {ts : List Token} {b : TypeBase} {p : Place} {us : List Token} {fl : Fault} → base_next ts ≡ Some (b, p, us)
     → Reads (NDims 0) us (Err fl) → Reads NType ts (Err fl)
-type_is_fails {ts = ts} {fl = fl} h0 a1 = record { runs = told NType ts (Err fl) (rw (h0, type_step) (ask_fails (run a1))) }
+type_is_fails h0 a1 = reads (rw (h0, type_step) (ask_fails (run a1)))
 
 pub type_is : {ts : List Token} {b : TypeBase} {p : Place} {us : List Token} {d : ℕ} {vs : List Token} → base_next ts ≡ Some (b, p, us)
     → Reads (NDims 0) us (Ok (d, vs)) → Reads NType ts (Ok (record { base = b; dim = d; place = p }, vs))
-type_is {ts = ts} {b = b} {p = p} {d = d} {vs = vs} h0 a1 =
-    record { runs = told NType ts (Ok (record { base = b; dim = d; place = p }, vs)) (rw (h0, type_step) (ask (run a1) give)) }
+type_is h0 a1 = reads (rw (h0, type_step) (ask (run a1) give))
 
 pub type_none : {ts : List Token} → base_next ts ≡ None → Reads NType ts (Err (Left ts))
-type_none {ts = ts} h0 = record { runs = told NType ts (Err (Left ts)) (rw (h0, type_step) fail) }
+type_none h0 = reads (rw (h0, type_step) fail)
 
 pub tail_call_fails : {e : Expression} {z : End} {ts : List Token} {p : Place} {us : List Token} {n : List ℕ} {q : Place} {vs : List Token}
     {r : Place} {ws : List Token} {fl : Fault} → after marks.Dot ts ≡ Some (p, us) → word_next us ≡ Some (n, q, vs) → after marks.OpenRound vs
     ≡ Some (r, ws) → Reads NArgs ws (Err fl) → Reads (NTail e z) ts (Err fl)
-tail_call_fails {e = e} {z = z} {ts = ts} {fl = fl} h0 h1 h2 a3 =
-    record { runs = told (NTail e z) ts (Err fl) (rw (h0, tail_step) (rw h1 (rw h2 (ask_fails (run a3))))) }
+tail_call_fails h0 h1 h2 a3 = reads (rw (h0, tail_step, h1, h2) (ask_fails (run a3)))
 
 pub tail_call : {e : Expression} {z : End} {ts : List Token} {p : Place} {us : List Token} {n : List ℕ} {q : Place} {vs : List Token} {r : Place}
     {ws : List Token} {es : Expressions} {xs : List Token} {o : Outcome (Expression × End)} → after marks.Dot ts ≡ Some (p, us)
     → word_next us ≡ Some (n, q, vs) → after marks.OpenRound vs ≡ Some (r, ws) → Reads NArgs ws (Ok (es, xs))
     → Reads (NTail (CallOn e n es q) ends.Call) xs o → Reads (NTail e z) ts o
-tail_call {e = e} {z = z} {ts = ts} {o = Ok given} h0 h1 h2 a3 a4 =
-    record { runs = told (NTail e z) ts (Ok given) (rw (h0, tail_step) (rw h1 (rw h2 (ask (run a3) (ask (run a4) give))))) }
-tail_call {e = e} {z = z} {ts = ts} {o = Err fault} h0 h1 h2 a3 a4 =
-    record { runs = told (NTail e z) ts (Err fault) (rw (h0, tail_step) (rw h1 (rw h2 (ask (run a3) (ask_fails (run a4)))))) }
+tail_call {o = Ok given} h0 h1 h2 a3 a4 = reads (rw (h0, tail_step, h1, h2) (ask (run a3) (ask (run a4) give)))
+tail_call {o = Err fault} h0 h1 h2 a3 a4 = reads (rw (h0, tail_step, h1, h2) (ask (run a3) (ask_fails (run a4))))
 
 pub tail_field : {e : Expression} {z : End} {ts : List Token} {p : Place} {us : List Token} {n : List ℕ} {q : Place} {vs : List Token}
     {o : Outcome (Expression × End)} → after marks.Dot ts ≡ Some (p, us) → word_next us ≡ Some (n, q, vs) → after marks.OpenRound vs ≡ None
     → Reads (NTail (FieldOf e n q) ends.Target) vs o → Reads (NTail e z) ts o
-tail_field {e = e} {z = z} {ts = ts} {o = Ok given} h0 h1 h2 a3 =
-    record { runs = told (NTail e z) ts (Ok given) (rw (h0, tail_step) (rw h1 (rw h2 (ask (run a3) give)))) }
-tail_field {e = e} {z = z} {ts = ts} {o = Err fault} h0 h1 h2 a3 =
-    record { runs = told (NTail e z) ts (Err fault) (rw (h0, tail_step) (rw h1 (rw h2 (ask_fails (run a3))))) }
+tail_field {o = Ok given} h0 h1 h2 a3 = reads (rw (h0, tail_step, h1, h2) (ask (run a3) give))
+tail_field {o = Err fault} h0 h1 h2 a3 = reads (rw (h0, tail_step, h1, h2) (ask_fails (run a3)))
 
 pub tail_no_name : {e : Expression} {z : End} {ts : List Token} {p : Place} {us : List Token} → after marks.Dot ts ≡ Some (p, us)
     → word_next us ≡ None → Reads (NTail e z) ts (Err (Left us))
-tail_no_name {e = e} {z = z} {ts = ts} {us = us} h0 h1 = record { runs = told (NTail e z) ts (Err (Left us)) (rw (h0, tail_step) (rw h1 fail)) }
+tail_no_name h0 h1 = reads (rw (h0, tail_step, h1) fail)
 
 pub tail_index_fails : {e : Expression} {z : End} {ts : List Token} {p : Place} {us : List Token} {fl : Fault} → after marks.Dot ts ≡ None
     → index_next z ts ≡ Some (p, us) → Reads (NExpr 1) us (Err fl) → Reads (NTail e z) ts (Err fl)
-tail_index_fails {e = e} {z = z} {ts = ts} {fl = fl} h0 h1 a2 = record { runs = told (NTail e z) ts (Err fl) (rw (h0, tail_step) (rw h1 (ask_fails (run a2)))) }
+tail_index_fails h0 h1 a2 = reads (rw (h0, tail_step, h1) (ask_fails (run a2)))
 
 pub tail_index : {e : Expression} {z : End} {ts : List Token} {p : Place} {us : List Token} {i : Expression} {vs : List Token} {zq : Place}
     {ws : List Token} {o : Outcome (Expression × End)} → after marks.Dot ts ≡ None → index_next z ts ≡ Some (p, us) → Reads (NExpr 1) us (Ok (i, vs))
     → after marks.CloseSquare vs ≡ Some (zq, ws) → Reads (NTail (IndexOf e i p) ends.Target) ws o → Reads (NTail e z) ts o
-tail_index {e = e} {z = z} {ts = ts} {p = p} {o = Ok given} h0 h1 a2 h3 a4 =
-    record {
-      runs = told (NTail e z) ts (Ok given)
-          (rw (h0, tail_step) (rw h1 (ask {m = (NTail e z)} {n = (NExpr 1)} {k = λ x0 r0. elim (after marks.CloseSquare r0)
-          [ Some w1 ↦ Ask (NTail (IndexOf e x0 p) ends.Target) w1.1 Give | None ↦ Fail r0 ]} {o = Ok given} (run a2) (rw h3 (ask (run a4) give)))));
-    }
-tail_index {e = e} {z = z} {ts = ts} {p = p} {o = Err fault} h0 h1 a2 h3 a4 =
-    record {
-      runs = told (NTail e z) ts (Err fault)
-          (rw (h0, tail_step) (rw h1 (ask {m = (NTail e z)} {n = (NExpr 1)} {k = λ x0 r0. elim (after marks.CloseSquare r0)
-          [ Some w1 ↦ Ask (NTail (IndexOf e x0 p) ends.Target) w1.1 Give | None ↦ Fail r0 ]} {o = Err fault} (run a2) (rw h3 (ask_fails (run a4))))));
-    }
+tail_index {o = Ok given} h0 h1 a2 h3 a4 = reads (rw (h0, tail_step, h1) (ask (run a2) (found _ _ h3 (ask (run a4) give))))
+tail_index {o = Err fault} h0 h1 a2 h3 a4 = reads (rw (h0, tail_step, h1) (ask (run a2) (found _ _ h3 (ask_fails (run a4)))))
 
 pub tail_open : {e : Expression} {z : End} {ts : List Token} {p : Place} {us : List Token} {i : Expression} {vs : List Token}
     → after marks.Dot ts ≡ None → index_next z ts ≡ Some (p, us) → Reads (NExpr 1) us (Ok (i, vs)) → after marks.CloseSquare vs ≡ None
     → Reads (NTail e z) ts (Err (Left vs))
-tail_open {e = e} {z = z} {ts = ts} {p = p} {vs = vs} h0 h1 a2 h3 =
-    record {
-      runs = told (NTail e z) ts (Err (Left vs))
-          (rw (h0, tail_step) (rw h1 (ask {m = (NTail e z)} {n = (NExpr 1)} {k = λ x0 r0. elim (after marks.CloseSquare r0)
-          [ Some w1 ↦ Ask (NTail (IndexOf e x0 p) ends.Target) w1.1 Give | None ↦ Fail r0 ]} {o = (Err (Left vs))} (run a2) (rw h3 fail))));
-    }
+tail_open h0 h1 a2 h3 = reads (rw (h0, tail_step, h1) (ask (run a2) (missed _ h3 fail)))
 
 pub tail_ends : {e : Expression} {z : End} {ts : List Token} → after marks.Dot ts ≡ None → index_next z ts ≡ None → Reads (NTail e z) ts (Ok ((e, z), ts))
-tail_ends {e = e} {z = z} {ts = ts} h0 h1 = record { runs = told (NTail e z) ts (Ok ((e, z), ts)) (rw (h0, tail_step) (rw h1 give)) }
+tail_ends h0 h1 = reads (rw (h0, tail_step, h1) give)
 
 pub args_none : {ts : List Token} {p : Place} {us : List Token} → after marks.CloseRound ts ≡ Some (p, us) → Reads NArgs ts (Ok (no_more, us))
-args_none {ts = ts} {us = us} h0 = record { runs = told NArgs ts (Ok (no_more, us)) (rw (h0, args_step) give) }
+args_none h0 = reads (rw (h0, args_step) give)
 
 pub args_some_fails : {ts : List Token} {fl : Fault} → after marks.CloseRound ts ≡ None → Reads (NExpr 1) ts (Err fl) → Reads NArgs ts (Err fl)
-args_some_fails {ts = ts} {fl = fl} h0 a1 = record { runs = told NArgs ts (Err fl) (rw (h0, args_step) (ask_fails (run a1))) }
+args_some_fails h0 a1 = reads (rw (h0, args_step) (ask_fails (run a1)))
 
 pub args_some : {ts : List Token} {e : Expression} {us : List Token} {o : Outcome Expressions} → after marks.CloseRound ts ≡ None
     → Reads (NExpr 1) ts (Ok (e, us)) → Reads (NMoreArgs (and_more e no_more)) us o → Reads NArgs ts o
-args_some {ts = ts} {o = Ok given} h0 a1 a2 = record { runs = told NArgs ts (Ok given) (rw (h0, args_step) (ask (run a1) (ask (run a2) give))) }
-args_some {ts = ts} {o = Err fault} h0 a1 a2 = record { runs = told NArgs ts (Err fault) (rw (h0, args_step) (ask (run a1) (ask_fails (run a2)))) }
+args_some {o = Ok given} h0 a1 a2 = reads (rw (h0, args_step) (ask (run a1) (ask (run a2) give)))
+args_some {o = Err fault} h0 a1 a2 = reads (rw (h0, args_step) (ask (run a1) (ask_fails (run a2))))
 
 pub more_args_end : {es : Expressions} {ts : List Token} {p : Place} {us : List Token} → after marks.CloseRound ts ≡ Some (p, us)
     → Reads (NMoreArgs es) ts (Ok (es, us))
-more_args_end {es = es} {ts = ts} {us = us} h0 = record { runs = told (NMoreArgs es) ts (Ok (es, us)) (rw (h0, more_args_step) give) }
+more_args_end h0 = reads (rw (h0, more_args_step) give)
 
 pub more_args_next_fails : {es : Expressions} {ts : List Token} {p : Place} {us : List Token} {fl : Fault} → after marks.CloseRound ts ≡ None
     → after marks.Comma ts ≡ Some (p, us) → Reads (NExpr 1) us (Err fl) → Reads (NMoreArgs es) ts (Err fl)
-more_args_next_fails {es = es} {ts = ts} {fl = fl} h0 h1 a2 =
-    record { runs = told (NMoreArgs es) ts (Err fl) (rw (h0, more_args_step) (rw h1 (ask_fails (run a2)))) }
+more_args_next_fails h0 h1 a2 = reads (rw (h0, more_args_step, h1) (ask_fails (run a2)))
 
 pub more_args_next : {es : Expressions} {ts : List Token} {p : Place} {us : List Token} {e : Expression} {vs : List Token} {o : Outcome Expressions}
     → after marks.CloseRound ts ≡ None → after marks.Comma ts ≡ Some (p, us) → Reads (NExpr 1) us (Ok (e, vs))
     → Reads (NMoreArgs (expr_snoc es e)) vs o → Reads (NMoreArgs es) ts o
-more_args_next {es = es} {ts = ts} {o = Ok given} h0 h1 a2 a3 =
-    record { runs = told (NMoreArgs es) ts (Ok given) (rw (h0, more_args_step) (rw h1 (ask (run a2) (ask (run a3) give)))) }
-more_args_next {es = es} {ts = ts} {o = Err fault} h0 h1 a2 a3 =
-    record { runs = told (NMoreArgs es) ts (Err fault) (rw (h0, more_args_step) (rw h1 (ask (run a2) (ask_fails (run a3))))) }
+more_args_next {o = Ok given} h0 h1 a2 a3 = reads (rw (h0, more_args_step, h1) (ask (run a2) (ask (run a3) give)))
+more_args_next {o = Err fault} h0 h1 a2 a3 = reads (rw (h0, more_args_step, h1) (ask (run a2) (ask_fails (run a3))))
 
 pub more_args_open : {es : Expressions} {ts : List Token} → after marks.CloseRound ts ≡ None → after marks.Comma ts ≡ None
     → Reads (NMoreArgs es) ts (Err (Left ts))
-more_args_open {es = es} {ts = ts} h0 h1 = record { runs = told (NMoreArgs es) ts (Err (Left ts)) (rw (h0, more_args_step) (rw h1 fail)) }
+more_args_open h0 h1 = reads (rw (h0, more_args_step, h1) fail)
 
 pub ruleset expression_steps = (
   expr_steps_fails,

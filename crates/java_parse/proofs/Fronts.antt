@@ -10,7 +10,6 @@ use Rattle.java_lex.specs.declared.TokenKind.{TokenKind}
 use Rattle.java_lex.specs.declared.TokenKind.TheVariants as kinds
 use Rattle.java_lex.specs.declared.Mark.{Mark}
 use Rattle.java_lex.specs.declared.Mark.TheVariants as marks
-use Rattle.java_tree.specs.declared.Id.{Id}
 use Rattle.java_tree.specs.declared.Modifier.{Modifier}
 use Rattle.java_tree.specs.declared.TypeBase.{TypeBase}
 use Rattle.java_tree.specs.declared.TypeName.{TypeName}
@@ -19,7 +18,7 @@ use Rattle.java_tree.specs.Tokens.{token, mark, key, word, level, is_sign, compo
 use Rattle.java_tree.specs.Expressions.{IsBase, int_base, boolean_base, char_base, named_base, IsPrefixed, cast_named, cast_int, cast_char, IsPost, int_literal, char_literal, string_literal, true_literal, false_literal, null_literal, this_word}
 use Rattle.java_tree.specs.Statements.{IsFinal, not_final, is_final}
 use Rattle.java_parse.specs.declared.End.{End}
-use Rattle.java_parse.specs.Front.{after, after_by, after_key, after_key_by, word_next, word_by, operator, operator_by, instance_next, least_next, least_by, least_kind, sign_next, sign_by, cast_next, may_cast, base_next, base_by, literal_next, literal_by, index_next, is_array, final_of, stepping_next, stepping_by, compound_next, compound_by, operator_of, Start, SBlock, SEmpty, SIf, SWhile, SFor, SReturn, SBreak, SContinue, SOther, start, start_by, modifier_next, modifier_by, id_next, id_by}
+use Rattle.java_parse.specs.Front.{after, after_by, after_key, after_key_by, word_next, word_by, operator, operator_by, instance_next, least_next, least_by, least_kind, sign_next, sign_by, cast_next, may_cast, base_next, base_by, literal_next, literal_by, index_next, is_array, final_of, stepping_next, stepping_by, compound_next, compound_by, operator_of, Start, SBlock, SEmpty, SIf, SWhile, SFor, SReturn, SBreak, SContinue, SOther, start, start_by, modifier_next, modifier_by}
 use denote.Enum.Bare.{sameb, same_true}
 use Rattle.java_lex.specs.contracts.Mark.{the_type as mark_type}
 use Rattle.kaba_base.specs.contracts.words.Keyword.{the_type as key_type}
@@ -244,15 +243,6 @@ pub modifier_is : (ts : List Token) (w : Modifier × List Token) → modifier_ne
     × (is_modifier w.0.word ≡ true)
 modifier_is [] w h = cc
 modifier_is (t ∷ ts) w h = modifier_kind t.kind t.place ts w h
-
-id_kind : (k : TokenKind) (p : Place) (ts : List Token) (w : Id × List Token) → id_by k p ts ≡ Some w → token k p ∷ ts ≡ word w.0.name w.0.place ∷ w.1
-id_kind (kinds.Word n) p ts w h = let e : (record { name = n; place = p }, ts) ≡ w = cc in subst (λ (w : Id × List Token). word n p ∷ ts
-    ≡ word w.0.name w.0.place ∷ w.1) e refl
-id_kind _ p ts w h = cc
-
-pub id_is : (ts : List Token) (w : Id × List Token) → id_next ts ≡ Some w → ts ≡ word w.0.name w.0.place ∷ w.1
-id_is [] w h = cc
-id_is (t ∷ ts) w h = id_kind t.kind t.place ts w h
 
 pub start_cases : {P : Type 0} (s : Start) → ((p : Place) (us : List Token) → s ≡ SBlock p us → P) → ((p : Place) (us : List Token) → s ≡ SEmpty p us → P) →
     ((p : Place) (us : List Token) → s ≡ SIf p us → P) → ((p : Place) (us : List Token) → s ≡ SWhile p us → P)

@@ -8,6 +8,7 @@ pub mod SoundExpressions
 pub mod SoundStatements
 pub mod SoundDeclarations
 pub mod Sound
+pub mod Begins
 pub mod CompleteExpressions
 pub mod CompleteStatements
 pub mod CompleteDeclarations

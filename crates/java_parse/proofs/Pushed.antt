@@ -1,6 +1,6 @@
 -- What a vector holds after a push.
 use Rattle.std.proofs.Common.{◌≡◌, List, [], ◌∷◌, ◌++◌, refl, ap, ◌∙◌}
-use Rattle.java_tree.specs.Syntax.{Statements, and_more, and_then, and_arm, expr_of, exprs, stmt_of, stmts, arms_seen, head_of, heads, member_of, members, decl_of, decls}
+use Rattle.java_tree.specs.Syntax.{Expression, Statements, and_more, and_then, and_arm, expr_of, exprs, stmt_of, stmts, arms_seen, head_of, heads, member_of, members, decl_of, decls}
 use Rattle.java_tree.specs.declared.Expr.{Expr}
 use Rattle.java_tree.specs.declared.Stmt.{Stmt}
 use Rattle.java_tree.specs.declared.Arm.{Arm}
@@ -27,9 +27,10 @@ arms-snoc : (xs : List Arm) (a : Arm) → arms_seen (xs ++ a ∷ []) ≡ arm_sno
 arms-snoc [] a = refl
 arms-snoc (x ∷ xs) a = ap (and_arm (expr_of x.test) (stmts x.body.items)) (arms-snoc xs a)
 
-pub pushed_arm : (xs ys : List Arm) (a : Arm) (ss : Statements) → ys ≡ xs ++ a ∷ [] → stmts a.body.items ≡ ss
-    → arms_seen ys ≡ arm_snoc (arms_seen xs) (expr_of a.test) ss
-pushed_arm xs ys a ss h e = ap arms_seen h ∙ arms-snoc xs a ∙ ap (arm_snoc (arms_seen xs) (expr_of a.test)) e
+pub pushed_arm : (xs ys : List Arm) (a : Arm) (e : Expression) (ss : Statements) → ys ≡ xs ++ a ∷ [] → expr_of a.test ≡ e → stmts a.body.items ≡ ss
+    → arms_seen ys ≡ arm_snoc (arms_seen xs) e ss
+pushed_arm xs ys a e ss h f g = ap arms_seen h ∙ arms-snoc xs a ∙ ap (λ (e : Expression). arm_snoc (arms_seen xs) e (stmts a.body.items)) f
+    ∙ ap (arm_snoc (arms_seen xs) e) g
 
 heads-snoc : (xs : List Head) (a : Head) → heads (xs ++ a ∷ []) ≡ heads xs ++ head_of a ∷ []
 heads-snoc [] a = refl

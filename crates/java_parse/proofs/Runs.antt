@@ -1,5 +1,5 @@
 -- A reading has one outcome.
-use Rattle.std.proofs.Common.{◌≡◌, List, Ok, Err, refl}
+use Rattle.std.proofs.Common.{◌≡◌, List, Option, Some, None, Ok, Err, refl}
 use Rattle.java_lex.specs.declared.Token.{Token}
 use Rattle.java_parse.specs.Want.{Want, Val, Step, Give, Fail, Ask}
 use Rattle.java_parse.specs.Reading.{Fault, Left, NoMemory, Outcome, body, Runs, give, fail, short, ask, ask_fails, Told, Reads}
@@ -16,6 +16,18 @@ runs_of n ts (Err NoMemory) a = short
 
 pub run : {n : Want} {ts : List Token} {o : Outcome (Val n)} → Reads n ts o → Runs n (body n ts) o
 run {n = n} {ts = ts} {o = o} a = runs_of n ts o a.runs
+
+pub reads : {n : Want} {ts : List Token} {o : Outcome (Val n)} → Runs n (body n ts) o → Reads n ts o
+reads {n = n} {ts = ts} {o = o} a = record { runs = told n ts o a }
+
+-- where this is next, the reading goes on with it
+pub found : {A : Type 0} {m : Want} {x : Option A} {a : A} (f : A → Step (Val m)) (s : Step (Val m)) {o : Outcome (Val m)} → x ≡ Some a
+    → Runs m (f a) o → Runs m (elim x [ Some w ↦ f w | None ↦ s ]) o
+found f s h r = rw h r
+
+pub missed : {A : Type 0} {m : Want} {x : Option A} (f : A → Step (Val m)) {s : Step (Val m)} {o : Outcome (Val m)} → x ≡ None
+    → Runs m s o → Runs m (elim x [ Some w ↦ f w | None ↦ s ]) o
+missed f h r = rw h r
 
 -- two outcomes agree: they are equal, or memory was short in one
 pub data Agrees {A : Type 0} : Outcome A → Outcome A → Type 0 where

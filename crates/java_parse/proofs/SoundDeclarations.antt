@@ -12,10 +12,10 @@ use Rattle.java_tree.specs.declared.Param.{Param}
 use Rattle.java_tree.specs.Syntax.{HeadTree, MemberTree, FieldTree, DeclTree}
 use Rattle.java_tree.specs.Tokens.{mark, word}
 use Rattle.java_parse.specs.Want.{NMods, NIds, NParent, NList, NParam, NParams, NMoreParams, NResult, NHead, NBody, NMember, NMethod, NMembers, NHeads, NClass, NInterface, NDecl, NDecls}
-use Rattle.java_parse.specs.Front.{after, after_key, word_next, modifier_next, id_next, at_end}
+use Rattle.java_parse.specs.Front.{after, after_key, word_next, modifier_next, at_end}
 use Rattle.java_tree.specs.Expressions.{IsType}
 use Rattle.java_tree.specs.Declarations.{IsMods, no_mods, next_mod, IsIds, last_id, next_id, no_parent, a_parent, no_list, a_list, IsParam, a_param, last_param, next_param, IsParams, no_params, some_params, IsResult, no_result, a_result, a_head, no_body, a_body, IsMember, a_field, a_method, IsMembers, no_members, next_member, IsHeads, no_heads, next_head, a_class, an_interface, no_decls, next_decl}
-use Rattle.java_parse.proofs.Fronts.{option_cases, bool_cases, after_is, after_key_is, word_is, final_is, modifier_is, id_is}
+use Rattle.java_parse.proofs.Fronts.{option_cases, bool_cases, after_is, after_key_is, word_is, final_is, modifier_is}
 use Rattle.java_parse.proofs.Post.{Modded, Listed, MoreParams, Membered, Heads, Post}
 use Rattle.java_parse.proofs.Runs.{Good}
 use Rattle.java_parse.specs.ReadDeclarations.{mods_step, ids_step, parent_step, list_step, param_step, params_step, more_params_step, result_type_step, head_step, body_step, member_step, method_step, members_step, heads_step, class_step, interface_step, decl_step, decls_step}
@@ -59,23 +59,23 @@ mods_good ms ts = option_cases (modifier_next ts)
     }))
 
 pub ids_good : (is : List Id) (ts : List Token) → Good Post (ids_step is ts) (Post (NIds is) ts)
-ids_good is ts = option_cases (id_next ts)
+ids_good is ts = option_cases (word_next ts)
     (λ n0. rw (n0, ids_step) tt)
-    (λ w0 y0. let e0 = id_is ts w0 y0 in rw (y0, ids_step) (option_cases (after marks.Comma w0.1)
-    (λ n1. rw n1 (record { more = w0.0 ∷ []; is = refl; ids = rw e0 last_id }))
-    (λ w1 y1. let e1 = after_is marks.Comma w0.1 w1 y1 in rw y1 (λ v r d. record {
-      more = w0.0 ∷ d.more;
+    (λ w0 y0. let e0 = word_is ts w0 y0 in rw (y0, ids_step) (option_cases (after marks.Comma w0.2)
+    (λ n1. rw n1 (record { more = record { name = w0.0; place = w0.1 } ∷ []; is = refl; ids = rw e0 last_id }))
+    (λ w1 y1. let e1 = after_is marks.Comma w0.2 w1 y1 in rw y1 (λ v r d. record {
+      more = record { name = w0.0; place = w0.1 } ∷ d.more;
       is = d.is
-          ∙ append_assoc is (w0.0 ∷ []) d.more;
+          ∙ append_assoc is (record { name = w0.0; place = w0.1 } ∷ []) d.more;
       ids = rw (e0, e1) (next_id d.ids);
     }))))
 
 pub parent_good : (ts : List Token) → Good Post (parent_step ts) (Post NParent ts)
 parent_good ts = option_cases (after_key keys.Extends ts)
     (λ n0. rw (n0, parent_step) no_parent)
-    (λ w0 y0. let e0 = after_key_is keys.Extends ts w0 y0 in rw (y0, parent_step) (option_cases (id_next w0.1)
+    (λ w0 y0. let e0 = after_key_is keys.Extends ts w0 y0 in rw (y0, parent_step) (option_cases (word_next w0.1)
     (λ n1. rw n1 tt)
-    (λ w1 y1. let e1 = id_is w0.1 w1 y1 in rw y1 (rw (e0, e1) a_parent))))
+    (λ w1 y1. let e1 = word_is w0.1 w1 y1 in rw y1 (rw (e0, e1) a_parent))))
 
 pub list_good : (k : Keyword) (ts : List Token) → Good Post (list_step k ts) (Post (NList k) ts)
 list_good k ts = option_cases (after_key k ts)

@@ -8,7 +8,6 @@ use Rattle.java_lex.specs.declared.TokenKind.{TokenKind}
 use Rattle.java_lex.specs.declared.TokenKind.TheVariants as kinds
 use Rattle.java_lex.specs.declared.Mark.{Mark}
 use Rattle.java_lex.specs.declared.Mark.TheVariants as marks
-use Rattle.java_tree.specs.declared.Id.{Id}
 use Rattle.java_tree.specs.declared.Modifier.{Modifier}
 use Rattle.java_tree.specs.declared.TypeBase.{TypeBase}
 use Rattle.java_tree.specs.declared.TypeBase.TheVariants as bases
@@ -269,15 +268,6 @@ modifier_by _ p ts = None
 abbrev pub modifier_next : List Token → Option (Modifier × List Token)
 modifier_next [] = None
 modifier_next (t ∷ ts) = modifier_by t.kind t.place ts
-
--- a name with its place, and the rest
-abbrev pub id_by : TokenKind → Place → List Token → Option (Id × List Token)
-id_by (kinds.Word n) p ts = Some (record { name = n; place = p }, ts)
-id_by _ p ts = None
-
-abbrev pub id_next : List Token → Option (Id × List Token)
-id_next [] = None
-id_next (t ∷ ts) = id_by t.kind t.place ts
 
 abbrev pub at_end : List Token → Bool
 at_end [] = true

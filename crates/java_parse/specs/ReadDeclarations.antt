@@ -11,7 +11,7 @@ use Rattle.java_tree.specs.declared.TypeName.{TypeName}
 use Rattle.java_tree.specs.declared.Param.{Param}
 use Rattle.java_tree.specs.Syntax.{Statements, no_statements, HeadTree, MemberTree, FieldTree, MethodTree, DeclTree, ClassTree, InterfaceTree}
 use Rattle.java_parse.specs.Want.{NType, NItems, NMods, NIds, NParent, NList, NParam, NParams, NMoreParams, NResult, NHead, NBody, NMember, NMethod, NMembers, NHeads, NClass, NInterface, NDecl, NDecls, Step, Give, Fail, Ask}
-use Rattle.java_parse.specs.Front.{after, after_key, word_next, final_of, modifier_next, id_next, at_end}
+use Rattle.java_parse.specs.Front.{after, after_key, word_next, final_of, modifier_next, at_end}
 
 abbrev pub mods_step : List Modifier → List Token → Step (List Modifier)
 mods_step ms ts = elim (modifier_next ts) [
@@ -20,18 +20,18 @@ mods_step ms ts = elim (modifier_next ts) [
 ]
 
 abbrev pub ids_step : List Id → List Token → Step (List Id)
-ids_step is ts = elim (id_next ts) [
-  | Some w1 ↦ elim (after marks.Comma w1.1) [
-    | Some w2 ↦ Ask (NIds (is ++ w1.0 ∷ [])) w2.1 Give
-    | None ↦ Give (is ++ w1.0 ∷ []) w1.1
+ids_step is ts = elim (word_next ts) [
+  | Some w1 ↦ elim (after marks.Comma w1.2) [
+    | Some w2 ↦ Ask (NIds (is ++ record { name = w1.0; place = w1.1 } ∷ [])) w2.1 Give
+    | None ↦ Give (is ++ record { name = w1.0; place = w1.1 } ∷ []) w1.2
   ]
   | None ↦ Fail ts
 ]
 
 abbrev pub parent_step : List Token → Step (Option Id)
 parent_step ts = elim (after_key keys.Extends ts) [
-  | Some w1 ↦ elim (id_next w1.1) [
-    | Some w2 ↦ Give (Some w2.0) w2.1
+  | Some w1 ↦ elim (word_next w1.1) [
+    | Some w2 ↦ Give (Some (record { name = w2.0; place = w2.1 })) w2.2
     | None ↦ Fail w1.1
   ]
   | None ↦ Give None ts

@@ -1,5 +1,5 @@
 -- What the parser's functions give, as plain data.
-use Rattle.std.specs.Prelude.{ℕ, List, Option, Result, Ok, Err}
+use Rattle.std.specs.Prelude.{ℕ, List, Option, Some, None, Result, Ok, Err}
 use Rattle.std.specs.Borrow.{Bor}
 use Rattle.std.specs.declared.vec.Vec.{Vec}
 use Rattle.std.specs.declared.alloc.Global.{Global}
@@ -8,13 +8,22 @@ use Rattle.java_lex.specs.declared.Token.{Token}
 use Rattle.java_tree.specs.declared.Expr.{Expr}
 use Rattle.java_tree.specs.declared.Stmt.{Stmt}
 use Rattle.java_tree.specs.declared.Arm.{Arm}
-use Rattle.java_tree.specs.Syntax.{Expression, Arms, Else, OptionalStatement, expr_of, arms_seen, else_seen, value_of, step_seen}
+use Rattle.java_tree.specs.declared.TypeBase.{TypeBase}
+use Rattle.java_tree.specs.declared.TypeBase.TheVariants as bases
+use Rattle.java_tree.specs.declared.TypeName.{TypeName}
+use Rattle.java_tree.specs.Syntax.{Expression, IntLit, CharLit, StrLit, BoolLit, NullLit, ThisRef, Arms, Else, OptionalStatement, expr_of, arms_seen, else_seen, value_of, step_seen}
 use Rattle.java_parse.specs.declared.End.{End}
 use Rattle.java_parse.specs.declared.Stop.{Stop}
 use Rattle.java_parse.specs.declared.Stop.TheVariants as stops
 use Rattle.java_parse.specs.declared.opening.Begin.{Begin}
 use Rattle.java_parse.specs.declared.opening.Begin.TheVariants as begins
-use Rattle.java_parse.specs.Front.{Start, SBlock, SEmpty, SIf, SWhile, SFor, SReturn, SBreak, SContinue, SOther}
+use Rattle.java_parse.specs.declared.parts.Base.{Base}
+use Rattle.java_parse.specs.declared.parts.Base.TheVariants as plain
+use Rattle.java_parse.specs.declared.parts.Literal.{Literal}
+use Rattle.java_parse.specs.declared.parts.Literal.TheVariants as literals
+use Rattle.java_parse.specs.declared.parts.ForHead.{ForHead}
+use Rattle.java_lex.specs.declared.Mark.{Mark}
+use Rattle.java_parse.specs.Front.{after, Start, SBlock, SEmpty, SIf, SWhile, SFor, SReturn, SBreak, SContinue, SOther}
 use Rattle.java_parse.specs.Reading.{Fault, Left, NoMemory, Outcome}
 
 abbrev pub fault_of : Stop → Fault
@@ -39,8 +48,30 @@ seen_word (n, p, ts) = (n.now, p, ts.now)
 abbrev pub seen_one : {A : Type 0} → A × Bor (List Token) → A × List Token
 seen_one (m, ts) = (m, ts.now)
 
-abbrev pub seen_literal : Expr × Bor (List Token) → Expression × List Token
-seen_literal (e, ts) = (expr_of e, ts.now)
+-- the type without brackets that a token has
+abbrev pub base_seen : Base → TypeBase
+base_seen plain.Int = bases.Int
+base_seen plain.Boolean = bases.Boolean
+base_seen plain.Char = bases.Char
+base_seen (plain.Named n) = bases.Named n.now
+
+-- the literal or `this` that a token has
+abbrev pub literal_seen : Literal → Place → Expression
+literal_seen (literals.Int v) p = IntLit v p
+literal_seen (literals.Char c) p = CharLit c p
+literal_seen (literals.Str u) p = StrLit u.now p
+literal_seen (literals.Bool b) p = BoolLit b p
+literal_seen literals.Null p = NullLit p
+literal_seen literals.This p = ThisRef p
+
+abbrev pub seen_base : Base × Place × Bor (List Token) → TypeBase × Place × List Token
+seen_base (b, p, ts) = (base_seen b, p, ts.now)
+
+abbrev pub seen_cast : Base × Place × Place × Bor (List Token) → TypeName × Place × List Token
+seen_cast (b, q, p, ts) = (record { base = base_seen b; dim = 0; place = q }, p, ts.now)
+
+abbrev pub seen_literal : Literal × Place × Bor (List Token) → Expression × List Token
+seen_literal (l, p, ts) = (literal_seen l p, ts.now)
 
 abbrev pub seen_name : Bor (List ℕ) × Place → List ℕ × Place
 seen_name (n, p) = (n.now, p)
@@ -51,8 +82,8 @@ seen_post (e, z) = (expr_of e, z)
 abbrev pub seen_branches : Vec Arm Global × Option (Vec Stmt Global) → Arms × Else
 seen_branches (a, o) = (arms_seen a.items, else_seen o)
 
-abbrev pub seen_steps : Option Stmt × Option Expr × Option Stmt → OptionalStatement × Option Expression × OptionalStatement
-seen_steps (f, v, g) = (step_seen f, value_of v, step_seen g)
+abbrev pub seen_steps : ForHead → OptionalStatement × Option Expression × OptionalStatement
+seen_steps h = (step_seen h.first, value_of h.test, step_seen h.step)
 
 abbrev pub start_seen : Begin → Start
 start_seen (begins.Block p ts) = SBlock p ts.now
@@ -64,3 +95,11 @@ start_seen (begins.Return p ts) = SReturn p ts.now
 start_seen (begins.Break p ts) = SBreak p ts.now
 start_seen (begins.Continue p ts) = SContinue p ts.now
 start_seen begins.Other = SOther
+
+-- what reading a part comes to that this mark closes, once the tree is read
+abbrev pub before_by : {A : Type 0} → A → List Token → Option (Place × List Token) → Outcome A
+before_by v ts (Some end) = Ok (v, end.1)
+before_by v ts None = Err (Left ts)
+
+abbrev pub before : {A : Type 0} → Mark → A → List Token → Outcome A
+before m v ts = before_by v ts (after m ts)

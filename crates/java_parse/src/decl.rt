@@ -19,7 +19,7 @@ ghost use Rattle.java_parse.specs.Seen.{seen};
 
 use crate::Stop;
 use crate::expr::type_at;
-use crate::front::{final_at, id_at, key_at, mark_at, modifier_at, word_at};
+use crate::front::{final_at, key_at, mark_at, modifier_at, word_at};
 use crate::stmt::items;
 use java_lex::{Mark, Token};
 use java_tree::{Decl, Head, Id, Member, Modifier, Param, Stmt, TypeName};
@@ -51,10 +51,11 @@ fn names(alloc: Global, tokens: &[Token]) -> Result<(Vec<Id>, &[Token]), Stop<'_
     let mut all = Vec::new(alloc);
     let mut rest = tokens;
     'more: loop {
-        let Some((next, behind)) = id_at(alloc, rest)? else {
+        let Some((found, place, behind)) = word_at(rest) else {
             return Err(Stop::At(rest));
         };
-        all.push(next)?;
+        let name = found.copy(alloc)?;
+        all.push(Id { name, place })?;
         let Some((_, after)) = mark_at(Mark::Comma, behind) else {
             return Ok((all, behind));
         };
@@ -70,10 +71,11 @@ fn parent(alloc: Global, tokens: &[Token]) -> Result<(Option<Id>, &[Token]), Sto
     let Some((_, inner)) = key_at(Keyword::Extends, tokens) else {
         return Ok((None, tokens));
     };
-    let Some((name, rest)) = id_at(alloc, inner)? else {
+    let Some((found, place, rest)) = word_at(inner) else {
         return Err(Stop::At(inner));
     };
-    Ok((Some(name), rest))
+    let name = found.copy(alloc)?;
+    Ok((Some(Id { name, place }), rest))
 }
 
 // The names behind a keyword, if that is next.
@@ -95,9 +97,13 @@ fn param(alloc: Global, tokens: &[Token]) -> Result<(Param, &[Token]), Stop<'_>>
     let (is_final, rest) = final_at(tokens);
     let (ty, rest) = type_at(alloc, rest)?;
     let Some((found, place, behind)) = word_at(rest) else {
+        drop(ty);
         return Err(Stop::At(rest));
     };
-    let name = found.copy(alloc)?;
+    let Ok(name) = found.copy(alloc) else {
+        drop(ty);
+        return Err(Stop::Memory);
+    };
     Ok((
         Param {
             is_final,
@@ -115,21 +121,20 @@ fn params(alloc: Global, tokens: &[Token]) -> Result<(Vec<Param>, &[Token]), Sto
     ensures reads { Reads NParams tokens.now (seen (λ (v : Vec Param Global). v.items) result) }
     ensures shorter { IfOk result (λ x. length x.1.now < length tokens.now) }
 {
-    let mut all = Vec::new(alloc);
     if let Some((_, rest)) = mark_at(Mark::CloseRound, tokens) {
-        return Ok((all, rest));
+        return Ok((Vec::new(alloc), rest));
     }
-    let (first, mut rest) = param(alloc, tokens)?;
-    all.push(first)?;
+    let mut all = Vec::new(alloc);
+    let mut rest = tokens;
     'more: loop {
-        if let Some((_, end)) = mark_at(Mark::CloseRound, rest) {
+        let (next, behind) = param(alloc, rest)?;
+        all.push(next)?;
+        if let Some((_, end)) = mark_at(Mark::CloseRound, behind) {
             return Ok((all, end));
         }
-        let Some((_, comma)) = mark_at(Mark::Comma, rest) else {
-            return Err(Stop::At(rest));
+        let Some((_, after)) = mark_at(Mark::Comma, behind) else {
+            return Err(Stop::At(behind));
         };
-        let (next, after) = param(alloc, comma)?;
-        all.push(next)?;
         rest = after;
     }
 }

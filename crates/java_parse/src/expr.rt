@@ -9,19 +9,20 @@ ghost use Rattle.java_tree.specs.declared.TypeName.{TypeName};
 ghost use Rattle.java_tree.specs.Syntax.{expr_of, exprs};
 ghost use Rattle.java_parse.specs.Want.{NExpr, NMore, NPrefixed, NPost, NAtom, NSuper, NNew, NSized, NDims, NType, NTail, NArgs};
 ghost use Rattle.java_parse.specs.Reading.{Reads};
-ghost use Rattle.java_parse.specs.Seen.{seen, seen_post};
+ghost use Rattle.java_parse.specs.Seen.{base_seen, seen, seen_post};
 
 use crate::front::{
     base_at, cast_at, index_at, instance_at, key_at, least_at, level_of, literal_at, mark_at,
     operator_at, sign_at, word_at,
 };
+use crate::parts::{
+    Base, base_of, call_of, call_on_of, cast_of, field_of, instance_of_named, literal_of, name_of,
+    new_array_of, new_object_of, super_call_of,
+};
 use crate::{End, Stop};
 use java_lex::{Mark, Token};
-use java_tree::build::{
-    binary, call, call_on, cast, field, index, instance_of, new_array, new_object, super_call,
-    unary,
-};
-use java_tree::{Expr, Id, TypeBase, TypeName};
+use java_tree::build::{binary, index, unary};
+use java_tree::{Expr, TypeName};
 use kaba_base::{Keyword, Place};
 use std::alloc::Global;
 use std::mem::drop;
@@ -49,10 +50,11 @@ pub fn type_at(alloc: Global, tokens: &[Token]) -> Result<(TypeName, &[Token]), 
     ensures reads { Reads NType tokens.now (seen (λ (t : TypeName). t) result) }
     ensures shorter { IfOk result (λ x. length x.1.now < length tokens.now) }
 {
-    let Some((base, place, rest)) = base_at(alloc, tokens)? else {
+    let Some((base, place, rest)) = base_at(tokens) else {
         return Err(Stop::At(tokens));
     };
     let (dim, rest) = dims(0, rest)?;
+    let base = base_of(alloc, base)?;
     Ok((TypeName { base, dim, place }, rest))
 }
 
@@ -101,11 +103,7 @@ fn more(
         drop(left);
         return Err(Stop::At(rest));
     };
-    let Ok(name) = found.copy(alloc) else {
-        drop(left);
-        return Err(Stop::Memory);
-    };
-    let whole = instance_of(alloc, left, Id { name, place: at }, place)?;
+    let whole = instance_of_named(alloc, left, found, at, place)?;
     more(alloc, at_least, 7, whole, rest)
 }
 
@@ -129,9 +127,9 @@ fn prefixed(alloc: Global, tokens: &[Token]) -> Result<(Expr, &[Token]), Stop<'_
         let whole = unary(alloc, mark, value, place)?;
         return Ok((whole, rest));
     }
-    if let Some((ty, place, rest)) = cast_at(alloc, tokens)? {
+    if let Some((base, at, place, rest)) = cast_at(tokens) {
         let (value, rest) = prefixed(alloc, rest)?;
-        let whole = cast(alloc, ty, value, place)?;
+        let whole = cast_of(alloc, base, at, value, place)?;
         return Ok((whole, rest));
     }
     let ((whole, _), rest) = post(alloc, tokens)?;
@@ -155,16 +153,18 @@ fn atom(alloc: Global, tokens: &[Token]) -> Result<((Expr, End), &[Token]), Stop
     ensures reads { Reads NAtom tokens.now (seen seen_post result) }
     ensures shorter { IfOk result (λ x. length x.1.now < length tokens.now) }
 {
-    if let Some((whole, rest)) = literal_at(alloc, tokens)? {
+    if let Some((literal, place, rest)) = literal_at(tokens) {
+        let whole = literal_of(alloc, literal, place)?;
         return Ok(((whole, End::Other), rest));
     }
     if let Some((found, place, rest)) = word_at(tokens) {
-        let name = found.copy(alloc)?;
         let Some((_, inner)) = mark_at(Mark::OpenRound, rest) else {
-            return Ok(((Expr::Name { name, place }, End::Name), rest));
+            let whole = name_of(alloc, found, place)?;
+            return Ok(((whole, End::Name), rest));
         };
         let (args, rest) = args(alloc, inner)?;
-        return Ok(((call(name, args, place), End::Call), rest));
+        let whole = call_of(alloc, found, args, place)?;
+        return Ok(((whole, End::Call), rest));
     }
     if let Some((_, inner)) = mark_at(Mark::OpenRound, tokens) {
         let (whole, behind) = expr(alloc, 1, inner)?;
@@ -200,8 +200,8 @@ fn above(alloc: Global, tokens: &[Token]) -> Result<((Expr, End), &[Token]), Sto
         return Err(Stop::At(behind));
     };
     let (args, rest) = args(alloc, inner)?;
-    let name = found.copy(alloc)?;
-    Ok(((super_call(name, args, place), End::Call), rest))
+    let whole = super_call_of(alloc, found, args, place)?;
+    Ok(((whole, End::Call), rest))
 }
 
 // What follows `new`, which stands at this place.
@@ -216,31 +216,30 @@ fn created(
     ensures shorter { IfOk result (λ x. length x.1.now < length tokens.now) }
 {
     let Some((found, at, behind)) = word_at(tokens) else {
-        let Some((base, at, rest)) = base_at(alloc, tokens)? else {
+        let Some((base, at, rest)) = base_at(tokens) else {
             return Err(Stop::At(tokens));
         };
         return sized(alloc, place, base, at, rest);
     };
-    let name = found.copy(alloc)?;
     let Some((_, inner)) = mark_at(Mark::OpenRound, behind) else {
-        return sized(alloc, place, TypeBase::Named(name), at, behind);
+        return sized(alloc, place, Base::Named(found), at, behind);
     };
     let (args, rest) = args(alloc, inner)?;
-    let class = Id { name, place: at };
-    Ok(((new_object(class, args, place), End::New), rest))
+    let whole = new_object_of(alloc, found, at, args, place)?;
+    Ok(((whole, End::New), rest))
 }
 
 // The size and the further brackets of a new array.
 #[cycle(reading)]
-fn sized(
+fn sized<'a>(
     alloc: Global,
     place: Place,
-    base: TypeBase,
+    base: Base<'_>,
     at: Place,
-    tokens: &[Token],
-) -> Result<((Expr, End), &[Token]), Stop<'_>>
+    tokens: &'a [Token],
+) -> Result<((Expr, End), &'a [Token]), Stop<'a>>
     requires room { length tokens.now < 2 ^ 32 }
-    ensures reads { Reads (NSized place base at) tokens.now (seen seen_post result) }
+    ensures reads { Reads (NSized place (base_seen base.entry) at) tokens.now (seen seen_post result) }
     ensures shorter { IfOk result (λ x. length x.1.now < length tokens.now) }
 {
     let Some((_, inner)) = mark_at(Mark::OpenSquare, tokens) else {
@@ -258,12 +257,7 @@ fn sized(
             return Err(stop);
         }
     };
-    let ty = TypeName {
-        base,
-        dim,
-        place: at,
-    };
-    let whole = new_array(alloc, ty, size, place)?;
+    let whole = new_array_of(alloc, base, at, dim, size, place)?;
     Ok(((whole, End::Array), rest))
 }
 
@@ -284,12 +278,8 @@ fn tail(
             drop(base);
             return Err(Stop::At(dotted));
         };
-        let Ok(name) = found.copy(alloc) else {
-            drop(base);
-            return Err(Stop::Memory);
-        };
         let Some((_, inner)) = mark_at(Mark::OpenRound, behind) else {
-            let whole = field(alloc, base, name, place)?;
+            let whole = field_of(alloc, base, found, place)?;
             return tail(alloc, whole, End::Target, behind);
         };
         let (args, rest) = match args(alloc, inner) {
@@ -299,7 +289,7 @@ fn tail(
                 return Err(stop);
             }
         };
-        let whole = call_on(alloc, base, name, args, place)?;
+        let whole = call_on_of(alloc, base, found, args, place)?;
         return tail(alloc, whole, End::Call, rest);
     }
     let Some((place, inner)) = index_at(end, tokens) else {
@@ -328,21 +318,20 @@ pub fn args(alloc: Global, tokens: &[Token]) -> Result<(Vec<Expr>, &[Token]), St
     ensures reads { Reads NArgs tokens.now (seen (λ (v : Vec Expr Global). exprs v.items) result) }
     ensures shorter { IfOk result (λ x. length x.1.now < length tokens.now) }
 {
-    let mut all = Vec::new(alloc);
     if let Some((_, rest)) = mark_at(Mark::CloseRound, tokens) {
-        return Ok((all, rest));
+        return Ok((Vec::new(alloc), rest));
     }
-    let (first, mut rest) = expr(alloc, 1, tokens)?;
-    all.push(first)?;
+    let mut all = Vec::new(alloc);
+    let mut rest = tokens;
     'more: loop {
-        if let Some((_, end)) = mark_at(Mark::CloseRound, rest) {
+        let (next, behind) = expr(alloc, 1, rest)?;
+        all.push(next)?;
+        if let Some((_, end)) = mark_at(Mark::CloseRound, behind) {
             return Ok((all, end));
         }
-        let Some((_, comma)) = mark_at(Mark::Comma, rest) else {
-            return Err(Stop::At(rest));
+        let Some((_, after)) = mark_at(Mark::Comma, behind) else {
+            return Err(Stop::At(behind));
         };
-        let (next, after) = expr(alloc, 1, comma)?;
-        all.push(next)?;
         rest = after;
     }
 }

@@ -1,22 +1,20 @@
 //! What stands at the front of a list of tokens, and what follows it.
 #![tactic(auto)]
 
-ghost use Rattle.std.specs.Prelude.{◌≡◌, ◌<◌, ◌≤◌, length, List, IfOk, IfSome, Bool, Option, Some, None, ℕ};
+ghost use Rattle.std.specs.Prelude.{◌≡◌, ◌<◌, ◌≤◌, length, IfSome};
 ghost use Rattle.std.specs.Option.{option_map};
 ghost use Rattle.std.specs.Borrow.{Bor};
 ghost use Rattle.java_lex.specs.declared.Token.{Token};
 ghost use Rattle.java_lex.specs.declared.Mark.{Mark};
 ghost use Rattle.java_tree.specs.Tokens.{level, casts};
-ghost use Rattle.java_tree.specs.Syntax.{expr_of};
-ghost use Rattle.java_parse.specs.Front.{after, after_key, word_next, operator, instance_next, least_next, sign_next, cast_next, base_next, literal_next, index_next, final_of, modifier_next, id_next, done};
-ghost use Rattle.java_parse.specs.Seen.{seen_at, seen_two, seen_word, seen_one, seen_literal};
+ghost use Rattle.java_parse.specs.Front.{may_cast, after, after_key, word_next, operator, instance_next, least_next, sign_next, cast_next, base_next, literal_next, index_next, final_of, modifier_next};
+ghost use Rattle.java_parse.specs.Seen.{base_seen, seen_at, seen_two, seen_word, seen_one, seen_base, seen_cast, seen_literal};
 
 use crate::End;
+use crate::parts::{Base, Literal};
 use java_lex::{Mark, Token, TokenKind};
-use java_tree::{Expr, Id, Modifier, TypeBase, TypeName};
+use java_tree::Modifier;
 use kaba_base::{Keyword, Name, Place};
-use std::alloc::{AllocError, Global};
-use std::mem::drop;
 
 /// The place of the mark and what follows it, if it is at the front.
 pub fn mark_at(mark: Mark, tokens: &[Token]) -> Option<(Place, &[Token])>
@@ -137,27 +135,21 @@ pub fn least_at(tokens: &[Token]) -> Option<(Place, &[Token])>
     None
 }
 
-/// A type without brackets at the front. `AllocError` where memory is short.
-pub fn base_at(
-    alloc: Global,
-    tokens: &[Token],
-) -> Result<Option<(TypeBase, Place, &[Token])>, AllocError>
-    ensures value { IfOk result (λ o. option_map seen_two o ≡ base_next tokens.now) }
-    ensures shorter { IfOk result (λ o. IfSome o (λ x. length x.2.now < length tokens.now)) }
+/// A type without brackets at the front.
+pub fn base_at(tokens: &[Token]) -> Option<(Base<'_>, Place, &[Token])>
+    ensures value { option_map seen_base result ≡ base_next tokens.now }
+    ensures shorter { IfSome result (λ x. length x.2.now < length tokens.now) }
 {
     if let [first, rest @ ..] = tokens {
         return match &first.kind {
-            TokenKind::Word(name) => {
-                let name = name.copy(alloc)?;
-                Ok(Some((TypeBase::Named(name), first.place, rest)))
-            }
-            TokenKind::Key(Keyword::Int) => Ok(Some((TypeBase::Int, first.place, rest))),
-            TokenKind::Key(Keyword::Boolean) => Ok(Some((TypeBase::Boolean, first.place, rest))),
-            TokenKind::Key(Keyword::Char) => Ok(Some((TypeBase::Char, first.place, rest))),
-            _ => Ok(None),
+            TokenKind::Word(name) => Some((Base::Named(name), first.place, rest)),
+            TokenKind::Key(Keyword::Int) => Some((Base::Int, first.place, rest)),
+            TokenKind::Key(Keyword::Boolean) => Some((Base::Boolean, first.place, rest)),
+            TokenKind::Key(Keyword::Char) => Some((Base::Char, first.place, rest)),
+            _ => None,
         };
     }
-    Ok(None)
+    None
 }
 
 /// Whether the token at the front makes a name in round brackets before it a cast.
@@ -183,84 +175,50 @@ pub fn makes_cast(tokens: &[Token]) -> bool
     false
 }
 
-/// A type in round brackets that casts what follows it. `AllocError` where memory is short.
-pub fn cast_at(
-    alloc: Global,
-    tokens: &[Token],
-) -> Result<Option<(TypeName, Place, &[Token])>, AllocError>
-    ensures value { IfOk result (λ o. option_map seen_two o ≡ cast_next tokens.now) }
-    ensures shorter { IfOk result (λ o. IfSome o (λ x. length x.2.now < length tokens.now)) }
+// Whether this type in round brackets may cast what follows.
+fn casts_to(base: &Base<'_>, tokens: &[Token]) -> bool
+    ensures value { result ≡ may_cast (base_seen base.now) tokens.now }
 {
-    let Some((open, inner)) = mark_at(Mark::OpenRound, tokens) else {
-        return Ok(None);
-    };
-    let Some((base, place, behind)) = base_at(alloc, inner)? else {
-        return Ok(None);
-    };
-    let Some((_, rest)) = mark_at(Mark::CloseRound, behind) else {
-        drop(base);
-        return Ok(None);
-    };
-    let casts = match &base {
-        TypeBase::Int | TypeBase::Char => true,
-        TypeBase::Boolean => false,
-        TypeBase::Named(_) => makes_cast(rest),
-    };
-    if casts {
-        return Ok(Some((
-            TypeName {
-                base,
-                dim: 0,
-                place,
-            },
-            open,
-            rest,
-        )));
+    match base {
+        Base::Int | Base::Char => true,
+        Base::Boolean => false,
+        Base::Named(_) => makes_cast(tokens),
     }
-    drop(base);
-    Ok(None)
 }
 
-/// A literal or `this` at the front. `AllocError` where memory is short.
-pub fn literal_at(alloc: Global, tokens: &[Token]) -> Result<Option<(Expr, &[Token])>, AllocError>
-    ensures value { IfOk result (λ o. option_map seen_literal o ≡ literal_next tokens.now) }
-    ensures shorter { IfOk result (λ o. IfSome o (λ x. length x.1.now < length tokens.now)) }
+/// A type in round brackets that casts what follows it: the type, its place and that of the bracket.
+pub fn cast_at(tokens: &[Token]) -> Option<(Base<'_>, Place, Place, &[Token])>
+    ensures value { option_map seen_cast result ≡ cast_next tokens.now }
+    ensures shorter { IfSome result (λ x. length x.3.now < length tokens.now) }
+{
+    let (open, inner) = mark_at(Mark::OpenRound, tokens)?;
+    let (base, place, behind) = base_at(inner)?;
+    let (_, rest) = mark_at(Mark::CloseRound, behind)?;
+    if casts_to(&base, rest) {
+        return Some((base, place, open, rest));
+    }
+    None
+}
+
+/// A literal or `this` at the front.
+pub fn literal_at(tokens: &[Token]) -> Option<(Literal<'_>, Place, &[Token])>
+    ensures value { option_map seen_literal result ≡ literal_next tokens.now }
+    ensures shorter { IfSome result (λ x. length x.2.now < length tokens.now) }
 {
     if let [first, rest @ ..] = tokens {
         let place = first.place;
         return match &first.kind {
-            TokenKind::Int(value) => Ok(Some((
-                Expr::Int {
-                    value: *value,
-                    place,
-                },
-                rest,
-            ))),
-            TokenKind::Char(value) => Ok(Some((
-                Expr::Char {
-                    value: *value,
-                    place,
-                },
-                rest,
-            ))),
-            TokenKind::Str(units) => {
-                let units = units.copy(alloc)?;
-                Ok(Some((Expr::Str { units, place }, rest)))
-            }
-            TokenKind::Key(Keyword::True) => Ok(Some((Expr::Bool { value: true, place }, rest))),
-            TokenKind::Key(Keyword::False) => Ok(Some((
-                Expr::Bool {
-                    value: false,
-                    place,
-                },
-                rest,
-            ))),
-            TokenKind::Key(Keyword::Null) => Ok(Some((Expr::Null { place }, rest))),
-            TokenKind::Key(Keyword::This) => Ok(Some((Expr::This { place }, rest))),
-            _ => Ok(None),
+            TokenKind::Int(value) => Some((Literal::Int(*value), place, rest)),
+            TokenKind::Char(value) => Some((Literal::Char(*value), place, rest)),
+            TokenKind::Str(units) => Some((Literal::Str(units), place, rest)),
+            TokenKind::Key(Keyword::True) => Some((Literal::Bool(true), place, rest)),
+            TokenKind::Key(Keyword::False) => Some((Literal::Bool(false), place, rest)),
+            TokenKind::Key(Keyword::Null) => Some((Literal::Null, place, rest)),
+            TokenKind::Key(Keyword::This) => Some((Literal::This, place, rest)),
+            _ => None,
         };
     }
-    Ok(None)
+    None
 }
 
 /// The opening bracket of an index at the front, which no new array takes.
@@ -310,24 +268,4 @@ pub fn modifier_at(tokens: &[Token]) -> Option<(Modifier, &[Token])>
         }
     }
     None
-}
-
-/// The name at the front with its place. `AllocError` where memory is short.
-pub fn id_at(alloc: Global, tokens: &[Token]) -> Result<Option<(Id, &[Token])>, AllocError>
-    ensures value { IfOk result (λ o. option_map seen_one o ≡ id_next tokens.now) }
-    ensures shorter { IfOk result (λ o. IfSome o (λ x. length x.1.now < length tokens.now)) }
-{
-    if let [first, rest @ ..] = tokens {
-        if let TokenKind::Word(name) = &first.kind {
-            let name = name.copy(alloc)?;
-            return Ok(Some((
-                Id {
-                    name,
-                    place: first.place,
-                },
-                rest,
-            )));
-        }
-    }
-    Ok(None)
 }

@@ -15,6 +15,7 @@ mod expr;
 mod front;
 mod nest;
 mod opening;
+mod parts;
 mod stmt;
 
 use decl::all_decls;
@@ -25,7 +26,7 @@ use std::alloc::{AllocError, AllocFailed, Global};
 use thiserror::Error;
 
 /// How an expression ends, where that decides what may follow it.
-#[derive(Clone, Copy, Debug, PartialEq, Eq)]
+#[derive(Clone, Copy)]
 pub(crate) enum End {
     Name,
     Target,

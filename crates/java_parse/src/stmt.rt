@@ -5,36 +5,37 @@ ghost use Rattle.std.specs.Prelude.{◌≡◌, ◌+◌, ◌^◌, ◌<◌, ◌≤
 ghost use Rattle.std.specs.declared.vec.Vec.{Vec};
 ghost use Rattle.std.specs.declared.alloc.Global.{Global};
 ghost use Rattle.java_lex.specs.declared.Token.{Token};
+ghost use Rattle.java_lex.specs.declared.Mark.TheVariants as marks;
 ghost use Rattle.java_tree.specs.declared.Stmt.{Stmt};
 ghost use Rattle.java_tree.specs.Syntax.{expr_of, stmt_of, stmts, value_of, step_seen, no_statements, no_arms};
-ghost use Rattle.java_tree.specs.Statements.{as_body};
 ghost use Rattle.java_parse.specs.Front.{done, stepped};
 ghost use Rattle.java_parse.specs.Want.{NInit, NLocal, NValue, NAct, NActRest, NTested, NItem, NItems, NStmt, NForHead, NFirst, NStep, NBranches};
 ghost use Rattle.java_parse.specs.Reading.{Reads};
-ghost use Rattle.java_parse.specs.Seen.{seen, seen_branches, seen_steps};
+ghost use Rattle.java_parse.specs.Seen.{before, seen, seen_branches, seen_steps};
 
 use crate::acts::{calls, compound_assignment, finished, steps_of, targets};
 use crate::expr::{expr, post, type_at};
 use crate::front::{final_at, key_at, mark_at, word_at};
 use crate::opening::{Begin, begin_of, begins_local, compound_at, named_by, stepping_at};
+use crate::parts::{ForHead, arm_of, body_of, for_of, while_of};
 use crate::{End, Stop};
 use java_lex::{Mark, Token};
-use java_tree::build::{block, choice, for_loop, while_loop};
+use java_tree::build::{block, choice};
 use java_tree::{Arm, Expr, Stmt};
 use kaba_base::Keyword;
-use std::alloc::{AllocError, Global};
+use std::alloc::Global;
 use std::mem::drop;
 
-// A block gives its list, another statement is a list of one.
-fn body_of(alloc: Global, stmt: Stmt) -> Result<Vec<Stmt>, AllocError>
-    ensures value { IfOk result (λ v. stmts v.items ≡ as_body (stmt_of stmt)) }
+// The statement, where a semicolon is next.
+fn ended<'a>(whole: Stmt, tokens: &'a [Token]) -> Result<(Stmt, &'a [Token]), Stop<'a>>
+    ensures value { seen stmt_of result ≡ before marks.Semi (stmt_of whole) tokens.now }
+    ensures shorter { IfOk result (λ x. length x.1.now < length tokens.now) }
 {
-    match stmt {
-        Stmt::Block { items, .. } => Ok(items),
-        other => {
-            let mut all = Vec::new(alloc);
-            all.push(other)?;
-            Ok(all)
+    match mark_at(Mark::Semi, tokens) {
+        Some((_, rest)) => Ok((whole, rest)),
+        None => {
+            drop(whole);
+            Err(Stop::At(tokens))
         }
     }
 }
@@ -61,10 +62,21 @@ fn local(alloc: Global, tokens: &[Token]) -> Result<(Stmt, &[Token]), Stop<'_>>
     let (is_final, rest) = final_at(tokens);
     let (ty, rest) = type_at(alloc, rest)?;
     let Some((found, place, behind)) = word_at(rest) else {
+        drop(ty);
         return Err(Stop::At(rest));
     };
-    let name = found.copy(alloc)?;
-    let (value, rest) = init(alloc, behind)?;
+    let (value, rest) = match init(alloc, behind) {
+        Ok(read) => read,
+        Err(stop) => {
+            drop(ty);
+            return Err(stop);
+        }
+    };
+    let Ok(name) = found.copy(alloc) else {
+        drop(ty);
+        drop(value);
+        return Err(Stop::Memory);
+    };
     Ok((
         Stmt::Local {
             is_final,
@@ -222,10 +234,7 @@ fn next_step(alloc: Global, tokens: &[Token]) -> Result<(Option<Stmt>, &[Token])
 }
 
 // What stands in the round brackets of a `for`.
-fn for_head(
-    alloc: Global,
-    tokens: &[Token],
-) -> Result<((Option<Stmt>, Option<Expr>, Option<Stmt>), &[Token]), Stop<'_>>
+fn for_head(alloc: Global, tokens: &[Token]) -> Result<(ForHead, &[Token]), Stop<'_>>
     requires room { length tokens.now < 2 ^ 32 }
     ensures reads { Reads NForHead tokens.now (seen seen_steps result) }
     ensures shorter { IfOk result (λ x. length x.1.now < length tokens.now) }
@@ -264,7 +273,7 @@ fn for_head(
         drop(step);
         return Err(Stop::At(rest));
     };
-    Ok(((first, test, step), end))
+    Ok((ForHead { first, test, step }, end))
 }
 
 #[cycle(stmts)]
@@ -275,11 +284,7 @@ fn item(alloc: Global, tokens: &[Token]) -> Result<(Stmt, &[Token]), Stop<'_>>
 {
     if begins_local(tokens) {
         let (whole, rest) = local(alloc, tokens)?;
-        let Some((_, end)) = mark_at(Mark::Semi, rest) else {
-            drop(whole);
-            return Err(Stop::At(rest));
-        };
-        return Ok((whole, end));
+        return ended(whole, rest);
     }
     stmt(alloc, tokens)
 }
@@ -321,66 +326,37 @@ fn stmt(alloc: Global, tokens: &[Token]) -> Result<(Stmt, &[Token]), Stop<'_>>
         }
         Begin::While(place, inner) => {
             let (test, behind) = tested(alloc, inner)?;
-            let (whole, rest) = match stmt(alloc, behind) {
+            let (body, rest) = match stmt(alloc, behind) {
                 Ok(read) => read,
                 Err(stop) => {
                     drop(test);
                     return Err(stop);
                 }
             };
-            let Ok(body) = body_of(alloc, whole) else {
-                drop(test);
-                return Err(Stop::Memory);
-            };
-            Ok((while_loop(test, body, place), rest))
+            let whole = while_of(alloc, test, body, place)?;
+            Ok((whole, rest))
         }
         Begin::For(place, inner) => {
-            let ((first, test, step), behind) = for_head(alloc, inner)?;
-            let (whole, rest) = match stmt(alloc, behind) {
+            let (head, behind) = for_head(alloc, inner)?;
+            let (body, rest) = match stmt(alloc, behind) {
                 Ok(read) => read,
                 Err(stop) => {
-                    drop(first);
-                    drop(test);
-                    drop(step);
+                    drop(head);
                     return Err(stop);
                 }
             };
-            let Ok(body) = body_of(alloc, whole) else {
-                drop(first);
-                drop(test);
-                drop(step);
-                return Err(Stop::Memory);
-            };
-            let whole = for_loop(alloc, first, test, step, body, place)?;
+            let whole = for_of(alloc, head, body, place)?;
             Ok((whole, rest))
         }
         Begin::Return(place, inner) => {
             let (value, rest) = value(alloc, inner)?;
-            let Some((_, end)) = mark_at(Mark::Semi, rest) else {
-                drop(value);
-                return Err(Stop::At(rest));
-            };
-            Ok((Stmt::Return { value, place }, end))
+            ended(Stmt::Return { value, place }, rest)
         }
-        Begin::Break(place, rest) => {
-            let Some((_, end)) = mark_at(Mark::Semi, rest) else {
-                return Err(Stop::At(rest));
-            };
-            Ok((Stmt::Break { place }, end))
-        }
-        Begin::Continue(place, rest) => {
-            let Some((_, end)) = mark_at(Mark::Semi, rest) else {
-                return Err(Stop::At(rest));
-            };
-            Ok((Stmt::Continue { place }, end))
-        }
+        Begin::Break(place, rest) => ended(Stmt::Break { place }, rest),
+        Begin::Continue(place, rest) => ended(Stmt::Continue { place }, rest),
         Begin::Other => {
             let (whole, rest) = act(alloc, tokens)?;
-            let Some((_, end)) = mark_at(Mark::Semi, rest) else {
-                drop(whole);
-                return Err(Stop::At(rest));
-            };
-            Ok((whole, end))
+            ended(whole, rest)
         }
     }
 }
@@ -406,11 +382,8 @@ fn branches(
                 return Err(stop);
             }
         };
-        let Ok(body) = body_of(alloc, whole) else {
-            drop(test);
-            return Err(Stop::Memory);
-        };
-        arms.push(Arm { test, body })?;
+        let next = arm_of(alloc, test, whole)?;
+        arms.push(next)?;
         let Some((_, more)) = key_at(Keyword::Else, after) else {
             return Ok(((arms, None), after));
         };

@@ -1,7 +1,9 @@
-use Rattle.std.proofs.Common.{◌+◌, ◌*◌, ◌<◌, length}
-use Rattle.java_tree.specs.Syntax.{Expressions, exprs}
-use Rattle.java_parse.specs.Want.{NArgs, NMoreArgs}
-use Rattle.java_parse.specs.Reading.{Outcome, Reads}
+use Rattle.std.proofs.Common.{◌+◌, ◌*◌, ◌≤◌, length, List, Ok, Err}
+use Rattle.java_lex.specs.declared.Token.{Token}
+use Rattle.java_tree.specs.Syntax.{Expression, Expressions, exprs}
+use Rattle.java_parse.specs.Want.{NExpr, NArgs, NMoreArgs}
+use Rattle.java_parse.specs.Reading.{Fault, Outcome, Reads}
+use Rattle.java_parse.specs.Front.{expr_snoc}
 use Rattle.java_parse.proofs.expr.+reading.Given as goal
 
 abbrev pub decreases-args : goal.decreases-args
@@ -34,11 +36,13 @@ decreases-more l = 8 * length l.tokens.now + 1
 abbrev pub decreases-tail : goal.decreases-tail
 decreases-tail l = 8 * length l.tokens.now + 1
 
--- what the rest comes to with the arguments so far, the whole comes to
+-- the next argument, and what follows it with the arguments so far, comes to what the whole comes to
 abbrev pub invariant-args-more : goal.invariant-args-more
 invariant-args-more l = record {
-  so_far : (o : Outcome Expressions) → Reads (NMoreArgs (exprs l.all.items)) l.rest o → Reads NArgs l.fn.tokens o;
-  shorter : length l.rest < length l.fn.tokens;
+  so_far : (e : Expression) (us : List Token) (o : Outcome Expressions) → Reads (NExpr 1) l.rest (Ok (e, us))
+      → Reads (NMoreArgs (expr_snoc (exprs l.all.items) e)) us o → Reads NArgs l.fn.tokens o;
+  fails : (f : Fault) → Reads (NExpr 1) l.rest (Err f) → Reads NArgs l.fn.tokens (Err f);
+  shorter : length l.rest ≤ length l.fn.tokens;
 }
 
 abbrev pub decreases-args-more : goal.decreases-args-more

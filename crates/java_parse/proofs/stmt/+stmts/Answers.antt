@@ -21,17 +21,17 @@ items-more-preserved t c = record {
 pub branches-returns-in-Err-clause-reads : goal.branches-returns-in-Err-clause-reads
 branches-returns-in-Err-clause-reads t c = c.arms.invariant.so_far _ (branches_again_fails2 c.in_ok-test.ensures.reads c.in-Err.ensures.reads)
 
-pub branches-returns-in_default-key_at-clause-reads : goal.branches-returns-in_default-key_at-clause-reads
-branches-returns-in_default-key_at-clause-reads t c = c.arms.invariant.so_far _
+pub branches-returns-in_default-clause-reads : goal.branches-returns-in_default-clause-reads
+branches-returns-in_default-clause-reads t c = c.arms.invariant.so_far _
     (subst (λ (a : Arms). Reads (NBranches (arms_seen c.arms.arms.items)) c.arms.rest.now (Ok ((a, no_else), c.in-Ok.read.1.now)))
-    (sym (pushed_arm _ _ _ _ c.in_ok-push.ensures.items c.in-Ok-body_of.ensures.value))
+    (sym (pushed_arm _ _ _ _ _ c.in_ok-push.ensures.items c.in_ok-next.ensures.test c.in_ok-next.ensures.body))
     (branches_end c.in_ok-test.ensures.reads c.in-Ok.ensures.reads (search rules)))
 
-pub branches-returns-in_default-key_at-2-clause-reads : goal.branches-returns-in_default-key_at-2-clause-reads
-branches-returns-in_default-key_at-2-clause-reads t c = c.arms.invariant.so_far _
+pub branches-returns-in_default-key_at-clause-reads : goal.branches-returns-in_default-key_at-clause-reads
+branches-returns-in_default-key_at-clause-reads t c = c.arms.invariant.so_far _
     (subst (λ (a : Arms). Reads (NBranches (arms_seen c.arms.arms.items)) c.arms.rest.now
     (Ok ((a, otherwise (stmts c.in_ok-other.other.items)), c.in_ok-whole.end.now)))
-    (sym (pushed_arm _ _ _ _ c.in_ok-push.ensures.items c.in-Ok-body_of.ensures.value))
+    (sym (pushed_arm _ _ _ _ _ c.in_ok-push.ensures.items c.in_ok-next.ensures.test c.in_ok-next.ensures.body))
     (subst (λ (b : Statements). Reads (NBranches (arms_seen c.arms.arms.items)) c.arms.rest.now
     (Ok (
       (arm_snoc (arms_seen c.arms.arms.items) (expr_of c.in_ok-test.test) (as_body (stmt_of c.in-Ok.read.0)), otherwise b),
@@ -43,6 +43,6 @@ pub branches-arms-preserved : goal.branches-arms-preserved
 branches-arms-preserved t c = record {
   so_far = λ o h. c.arms.invariant.so_far o (branches_again c.in_ok-test.ensures.reads c.in-Ok.ensures.reads (sym c.in-Some.ensures.value)
       (sym c.in-Some-key_at.ensures.value) (subst (λ (a : Arms). Reads (NBranches a) c.in-Some-key_at.again.now o)
-      (pushed_arm _ _ _ _ c.in_ok-push.ensures.items c.in-Ok-body_of.ensures.value) h));
+      (pushed_arm _ _ _ _ _ c.in_ok-push.ensures.items c.in_ok-next.ensures.test c.in_ok-next.ensures.body) h));
   shorter = omega (arith, c.in-Some-key_at.ensures.shorter, c.in-Some.ensures.shorter, c.in-Ok.ensures.shorter, c.in_ok-test.ensures.shorter);
 }

@@ -3,7 +3,7 @@ use Rattle.java_tree.specs.declared.Stmt.{Stmt}
 use Rattle.java_tree.specs.Syntax.{stmt_of}
 use Rattle.java_tree.specs.Statements.{as_body}
 use Rattle.java_tree.proofs.Rows.{stmts_vec}
-use Rattle.java_parse.proofs.stmt.body_of.Goals as goal
+use Rattle.java_parse.proofs.parts.body_of.Goals as goal
 
 pub returns-in-Block : goal.returns-in-Block
 returns-in-Block c = record { value = sym (stmts_vec c.in-Block.items) ∙ ap (λ (s : Stmt). as_body (stmt_of s)) (sym c.in-Block.is) }
