@@ -172,7 +172,7 @@ impl Heap {
     }
 
     /// What a cell is; `None` where there is none.
-    #[inline]
+    #[inline(always)]
     pub fn find(&self, at: u32) -> Option<CellKind>
         ensures value { option_map kind_of result ≡ option_map (λ c. c.kind) (slice_get self.now.cells at) }
     {
@@ -180,7 +180,7 @@ impl Heap {
     }
 
     /// How many values a cell has.
-    #[inline]
+    #[inline(always)]
     pub fn len(&self, at: u32) -> usize
         requires { at < length self.now.cells }
         ensures value { option_map (λ c. length c.values) (slice_get self.now.cells at) ≡ Some result }
@@ -189,7 +189,7 @@ impl Heap {
     }
 
     /// A value of a cell; `None` where the cell or the place in it is not there.
-    #[inline]
+    #[inline(always)]
     pub fn value(&self, at: u32, place: u32) -> Option<Value>
         ensures value { option_map value_of result ≡ option_and_then (λ c. slice_get c.values place) (slice_get self.now.cells at) }
     {
@@ -200,7 +200,7 @@ impl Heap {
     }
 
     /// Puts a value into a cell.
-    #[inline]
+    #[inline(always)]
     pub fn set(&mut self, at: u32, place: u32, value: Value)
         requires cell { at < length self.old.cells }
         requires place { IfSome (slice_get self.old.cells at) (λ c. place < length c.values) }
@@ -250,7 +250,7 @@ fn push_cell(
 }
 
 /// What a cell is; `None` where there is none.
-#[inline]
+#[inline(always)]
 fn kind_at(labels: &[Label], at: u32) -> Option<CellKind>
     ensures { result ≡ option_map (λ l. l.kind) (slice_get labels.now at) }
 {
@@ -261,7 +261,7 @@ fn kind_at(labels: &[Label], at: u32) -> Option<CellKind>
 }
 
 /// Where the values of a cell are; `None` where there is none.
-#[inline]
+#[inline(always)]
 fn span_at(spans: &[Span], at: u32) -> Option<Span>
     ensures { result ≡ slice_get spans.now at }
 {
@@ -272,7 +272,7 @@ fn span_at(spans: &[Span], at: u32) -> Option<Span>
 }
 
 /// A value of a cell, whose values are there; `None` where it has fewer.
-#[inline]
+#[inline(always)]
 fn value_in(values: &[Value], span: Span, place: u32) -> Option<Value>
     requires { span.start + span.len ≤ length values.now }
     ensures { option_map value_of result ≡ slice_get (map value_of (values_in values.now span)) place }

@@ -9,6 +9,7 @@ use java_core::{BinOp, Fault, Op, TyBase, UnOp};
 
 /// What an operator that gives an `int` makes of two numbers, in 32 bits of two's complement;
 /// `DivZero` exactly for `/` and `%` by zero (Java Language Specification, 15.17 to 15.19, 15.22).
+#[inline(always)]
 pub fn arith(op: Op, a: i32, b: i32) -> Result<i32, Fault>
     ensures value { result ≡ arith_of op a b }
 {

@@ -46,6 +46,7 @@ pub fn default_of(ty: Ty) -> Value
 
 /// What a value is once it flows into something of the type: a `char` becomes an `int` in an `int`
 /// (Java Language Specification, 5.1.2).
+#[inline(always)]
 pub fn convert(ty: Ty, value: Value) -> Value
     ensures value { value_of result ≡ converted ty (value_of value) }
 {
@@ -56,6 +57,7 @@ pub fn convert(ty: Ty, value: Value) -> Value
 }
 
 /// A character in something of the type.
+#[inline(never)]
 fn widened(ty: Ty, unit: u16) -> Value
     ensures { value_of result ≡ converted ty (value_of (Value.Char unit)) }
 {
@@ -77,6 +79,7 @@ impl Value {
     ghost use Rattle.java_meaning.specs.Values.{number_of, truth_of};
 
     /// The number that an `int` or a `char` is.
+    #[inline(always)]
     pub fn number(self) -> Option<i32>
         ensures value { result ≡ number_of (value_of self) }
     {
@@ -91,6 +94,7 @@ impl Value {
     }
 
     /// What a `boolean` is.
+    #[inline(always)]
     pub fn truth(self) -> Option<bool>
         ensures value { result ≡ truth_of (value_of self) }
     {
