@@ -6,6 +6,7 @@ ghost use Rattle.linear_code.specs.Ops.{Op};
 ghost use Rattle.linear_code.specs.Seen.{op_of, calc_of};
 ghost use Rattle.linear_code.specs.Code.{moved};
 
+use crate::special::special;
 use linear_code::{Calc, Instr, Operand};
 use std::alloc::{AllocError, Global};
 use std::marker::Model;
@@ -40,7 +41,7 @@ impl Code {
     pub fn put(&mut self, instr: Instr) -> Result<(), AllocError>
         ensures { OnOk result (self.new ≡ op_of instr ∷ self.old) }
     {
-        match self.items.push(instr) {
+        match self.items.push(special(instr)) {
             Ok(()) => Ok(()),
             Err(_) => Err(AllocError),
         }
@@ -99,7 +100,7 @@ impl Code {
         ensures grown { length self.new ≡ length self.old }
         ensures code { (xs ys : List Op) (x : Op) → length ys ≡ last → self.old ≡ xs ++ x ∷ ys → self.new ≡ xs ++ op_of instr ∷ ys }
     {
-        self.items[last] = instr;
+        self.items[last] = special(instr);
     }
 }
 

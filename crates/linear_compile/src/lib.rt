@@ -18,6 +18,7 @@ mod jumps;
 mod operands;
 mod places;
 mod scope;
+mod special;
 mod statements;
 
 use crate::bodies::add_method;

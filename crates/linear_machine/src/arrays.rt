@@ -41,7 +41,7 @@ pub fn make<'a>(
         (to_slot m.old is_int slot go)) m.old result m.new }
 {
     if m.left == 0 {
-        return Ok(Turn::Stopped(Ending::Unfinished));
+        return stop!(m, Ending::Unfinished);
     }
     m.left -= 1;
     let at = m.classes.make(&mut m.heap, SiteId(number), class)?;
@@ -64,9 +64,9 @@ pub fn new_array<'a>(
         (to_slot m.old is_int slot go)) m.old result m.new }
 {
     match element_in(ty) {
-        None => Ok(Turn::Stopped(Ending::Stuck)),
+        None => stop!(m, Ending::Stuck),
         Some(_) => match natural(size) {
-            None => Ok(Turn::Stopped(Ending::Faulty(Fault::NegativeSize))),
+            None => stop!(m, Ending::Faulty(Fault::NegativeSize)),
             Some(count) => add_array(m, is_int, slot, number, ty, count),
         },
     }
@@ -88,7 +88,7 @@ fn add_array<'a>(
         (record { site = Some number; kind = an_array ty; values = defaults u count }) s (to_slot m.old is_int slot go))) m.old result m.new }
 {
     if m.left == 0 {
-        return Ok(Turn::Stopped(Ending::Unfinished));
+        return stop!(m, Ending::Unfinished);
     }
     m.left -= 1;
     let at = m.heap.array(Some(SiteId(number)), ty, count as usize)?;

@@ -41,12 +41,12 @@ pub fn call<'a>(
 {
     match m.slots.get(m.base as usize + slot as usize) {
         Some(Value::Ref(at)) => match class_at(&m.heap, at) {
-            None => Ok(Turn::Stopped(Ending::Stuck)),
+            None => stop!(m, Ending::Stuck),
             Some(class) => call_object(image, m, class, slot, method, many),
         },
-        Some(Value::Null) => Ok(Turn::Stopped(Ending::Faulty(Fault::Null))),
-        Some(_) => Ok(Turn::Stopped(Ending::Stuck)),
-        None => Ok(Turn::Stopped(Ending::Stuck)),
+        Some(Value::Null) => stop!(m, Ending::Faulty(Fault::Null)),
+        Some(_) => stop!(m, Ending::Stuck),
+        None => stop!(m, Ending::Stuck),
     }
 }
 
@@ -64,7 +64,7 @@ fn call_object<'a>(
         (lookup (plain_of m.old) class method) many s go)) m.old result m.new }
 {
     if m.left == 0 {
-        return Ok(Turn::Stopped(Ending::Unfinished));
+        return stop!(m, Ending::Unfinished);
     }
     m.left -= 1;
     let found = m.classes.body(class, method)?;
@@ -78,16 +78,16 @@ pub fn enter<'a>(
     slot: u32,
     method: Option<u32>,
     many: u32,
-    this: Operand,
+    this: &Operand,
 ) -> Result<Turn, AllocError>
     requires { m.old.pc < 2 ^ 63 }
-    ensures { DoesIn (tables_of image.now) (enter slot method many (operand_of this)) m.old result m.new }
+    ensures { DoesIn (tables_of image.now) (enter slot method many (operand_of this.now)) m.old result m.new }
 {
     match m.slots.read(m.base, this) {
-        None => Ok(Turn::Stopped(Ending::Stuck)),
+        None => stop!(m, Ending::Stuck),
         Some(this) => {
             if m.left == 0 {
-                return Ok(Turn::Stopped(Ending::Unfinished));
+                return stop!(m, Ending::Unfinished);
             }
             m.left -= 1;
             m.slots.put(m.base as usize + slot as usize, this)?;
@@ -124,7 +124,7 @@ fn begin_some<'a>(
         (state_of m.old) go) m.old result m.new }
 {
     match entry_at(image, method) {
-        None => Ok(Turn::Stopped(Ending::Stuck)),
+        None => stop!(m, Ending::Stuck),
         Some(entry) => begin(m, entry, slot, many),
     }
 }

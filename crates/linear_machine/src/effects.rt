@@ -2,7 +2,6 @@
 
 ghost use Rattle.std.specs.Prelude.{◌≡◌, ◌^◌, ◌<◌, [], map, slice_get, slice_set, IfOk, IfSome, OnOk};
 ghost use Rattle.java_heap.specs.Seen.{value_of};
-ghost use Rattle.java_meaning.specs.Moment.{State, Outcome};
 ghost use Rattle.java_meaning.specs.Meaning.{print_units, write_static};
 ghost use Rattle.java_meaning.specs.Languages.{language_of};
 ghost use Rattle.linear_code.specs.Ops.{act, save, keep_static, keep_element, show, lacks};
@@ -26,10 +25,10 @@ pub fn act<'a>(m: &mut Machine<'a>, effect: &Effect) -> Result<Turn, AllocError>
     ensures { Does (act (effect_of effect.now)) m.old result m.new }
 {
     match effect {
-        Effect::KeepStatic(field, value) => keep_static(m, *field, *value),
-        Effect::Show(newline, value) => show(m, *newline, *value),
+        Effect::KeepStatic(field, value) => keep_static(m, *field, value),
+        Effect::Show(newline, value) => show(m, *newline, value),
         Effect::ShowEnd(newline) => print_all(m, &[], *newline),
-        Effect::Lacks(o) => lacks(m, *o),
+        Effect::Lacks(o) => lacks(m, o),
     }
 }
 
@@ -41,8 +40,8 @@ fn done<'a>(m: &mut Machine<'a>, kept: Kept) -> Result<Turn, AllocError>
 {
     match kept {
         Kept::Done => next(m),
-        Kept::Fault(fault) => Ok(Turn::Stopped(Ending::Faulty(fault))),
-        Kept::Stuck => Ok(Turn::Stopped(Ending::Stuck)),
+        Kept::Fault(fault) => stop!(m, Ending::Faulty(fault)),
+        Kept::Stuck => stop!(m, Ending::Stuck),
     }
 }
 
@@ -52,18 +51,18 @@ ghost use Rattle.std.specs.Prelude.{◌+◌};
 #[inline(always)]
 pub fn save<'a>(
     m: &mut Machine<'a>,
-    o: Operand,
+    o: &Operand,
     place: u32,
     is_int: bool,
-    value: Operand,
+    value: &Operand,
 ) -> Result<Turn, AllocError>
     requires { m.old.pc < 2 ^ 63 }
-    ensures { Does (act (save (operand_of o) place is_int (operand_of value))) m.old result m.new }
+    ensures { Does (act (save (operand_of o.now) place is_int (operand_of value.now))) m.old result m.new }
 {
     match m.slots.read(m.base, o) {
-        None => Ok(Turn::Stopped(Ending::Stuck)),
+        None => stop!(m, Ending::Stuck),
         Some(object) => match m.slots.read(m.base, value) {
-            None => Ok(Turn::Stopped(Ending::Stuck)),
+            None => stop!(m, Ending::Stuck),
             Some(value) => {
                 let kept = saved(&mut m.heap, object, place, as_int(is_int, value));
                 done(m, kept)
@@ -73,12 +72,12 @@ pub fn save<'a>(
 }
 
 /// A static field is set.
-fn keep_static<'a>(m: &mut Machine<'a>, field: u32, value: Operand) -> Result<Turn, AllocError>
+fn keep_static<'a>(m: &mut Machine<'a>, field: u32, value: &Operand) -> Result<Turn, AllocError>
     requires { m.old.pc < 2 ^ 63 }
-    ensures { Does (act (keep_static field (operand_of value))) m.old result m.new }
+    ensures { Does (act (keep_static field (operand_of value.now))) m.old result m.new }
 {
     match m.slots.read(m.base, value) {
-        None => Ok(Turn::Stopped(Ending::Stuck)),
+        None => stop!(m, Ending::Stuck),
         Some(value) => write_static(m, field, value),
     }
 }
@@ -89,13 +88,13 @@ fn write_static<'a>(m: &mut Machine<'a>, field: u32, value: Value) -> Result<Tur
     ensures { Turns (λ go. write_static (language_of (plain_of m.old)) field (value_of value) (state_of m.old) (to_next m.old go)) m.old result m.new }
 {
     match m.classes.field_type(field) {
-        None => Ok(Turn::Stopped(Ending::Stuck)),
+        None => stop!(m, Ending::Stuck),
         Some(ty) => {
             if (field as usize) < m.statics.len() {
                 m.statics[field as usize] = convert(ty, value);
                 next(m)
             } else {
-                Ok(Turn::Stopped(Ending::Stuck))
+                stop!(m, Ending::Stuck)
             }
         }
     }
@@ -105,19 +104,19 @@ fn write_static<'a>(m: &mut Machine<'a>, field: u32, value: Value) -> Result<Tur
 #[inline(always)]
 pub fn keep_element<'a>(
     m: &mut Machine<'a>,
-    o: Operand,
-    at: Operand,
-    value: Operand,
+    o: &Operand,
+    at: &Operand,
+    value: &Operand,
 ) -> Result<Turn, AllocError>
     requires { m.old.pc < 2 ^ 63 }
-    ensures { Does (act (keep_element (operand_of o) (operand_of at) (operand_of value))) m.old result m.new }
+    ensures { Does (act (keep_element (operand_of o.now) (operand_of at.now) (operand_of value.now))) m.old result m.new }
 {
     match m.slots.read(m.base, o) {
-        None => Ok(Turn::Stopped(Ending::Stuck)),
+        None => stop!(m, Ending::Stuck),
         Some(array) => match m.slots.read(m.base, at) {
-            None => Ok(Turn::Stopped(Ending::Stuck)),
+            None => stop!(m, Ending::Stuck),
             Some(index) => match m.slots.read(m.base, value) {
-                None => Ok(Turn::Stopped(Ending::Stuck)),
+                None => stop!(m, Ending::Stuck),
                 Some(value) => put_element(m, array, index, value),
             },
         },
@@ -141,7 +140,7 @@ fn put_element<'a>(
         (λ n. write_element (language_of (plain_of m.old)) (value_of array) n (value_of value) (state_of m.old) (to_next m.old go))) m.old result m.new }
 {
     match index.number() {
-        None => Ok(Turn::Stopped(Ending::Stuck)),
+        None => stop!(m, Ending::Stuck),
         Some(index) => {
             let kept = write_element(&mut m.classes, &mut m.heap, array, index, value)?;
             done(m, kept)
@@ -150,16 +149,16 @@ fn put_element<'a>(
 }
 
 /// A value is printed.
-fn show<'a>(m: &mut Machine<'a>, newline: bool, value: Operand) -> Result<Turn, AllocError>
+fn show<'a>(m: &mut Machine<'a>, newline: bool, value: &Operand) -> Result<Turn, AllocError>
     requires { m.old.pc < 2 ^ 63 }
-    ensures { Does (act (show newline (operand_of value))) m.old result m.new }
+    ensures { Does (act (show newline (operand_of value.now))) m.old result m.new }
 {
     match m.slots.read(m.base, value) {
-        None => Ok(Turn::Stopped(Ending::Stuck)),
+        None => stop!(m, Ending::Stuck),
         Some(value) => {
             let text = text_of(m.alloc, &m.heap, value)?;
             match text {
-                None => Ok(Turn::Stopped(Ending::Stuck)),
+                None => stop!(m, Ending::Stuck),
                 Some(units) => print_all(m, &units, newline),
             }
         }
@@ -176,26 +175,13 @@ fn print_all<'a>(m: &mut Machine<'a>, units: &[u16], newline: bool) -> Result<Tu
 }
 
 /// An object is asked for what its static type does not offer.
-fn lacks<'a>(m: &mut Machine<'a>, o: Operand) -> Result<Turn, AllocError>
+fn lacks<'a>(m: &mut Machine<'a>, o: &Operand) -> Result<Turn, AllocError>
     requires { m.old.pc < 2 ^ 63 }
-    ensures { Does (act (lacks (operand_of o))) m.old result m.new }
+    ensures { Does (act (lacks (operand_of o.now))) m.old result m.new }
 {
     match m.slots.read(m.base, o) {
-        None => Ok(Turn::Stopped(Ending::Stuck)),
-        Some(value) => Ok(Turn::Stopped(lacking(value))),
-    }
-}
-
-ghost use Rattle.java_meaning.specs.Moment.{stop, Wrong};
-ghost use Rattle.java_meaning.specs.Meaning.{with_cell};
-ghost use Rattle.linear_machine.specs.Run.{end_of};
-
-/// How the run ends where a value is asked for what it has not.
-fn lacking(value: Value) -> Ending
-    ensures { (s : State) → with_cell (value_of value) s (λ a d. stop Wrong s) ≡ stop (end_of result) s }
-{
-    match value {
-        Value::Null => Ending::Faulty(Fault::Null),
-        _ => Ending::Stuck,
+        None => stop!(m, Ending::Stuck),
+        Some(Value::Null) => stop!(m, Ending::Faulty(Fault::Null)),
+        Some(_) => stop!(m, Ending::Stuck),
     }
 }

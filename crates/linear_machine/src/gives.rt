@@ -15,11 +15,11 @@ use std::alloc::AllocError;
 
 /// A body is left with a value, as an `int` where so it is said.
 #[inline(always)]
-pub fn give<'a>(m: &mut Machine<'a>, is_int: bool, o: Operand) -> Result<Turn, AllocError>
-    ensures { Does (give is_int (operand_of o)) m.old result m.new }
+pub fn give<'a>(m: &mut Machine<'a>, is_int: bool, o: &Operand) -> Result<Turn, AllocError>
+    ensures { Does (give is_int (operand_of o.now)) m.old result m.new }
 {
     match m.slots.read(m.base, o) {
-        None => Ok(Turn::Stopped(Ending::Stuck)),
+        None => stop!(m, Ending::Stuck),
         Some(value) => leave(m, as_int(is_int, value)),
     }
 }
@@ -30,7 +30,7 @@ fn leave<'a>(m: &mut Machine<'a>, value: Value) -> Result<Turn, AllocError>
     ensures { Turns (λ go. returns (config_of m.old).backs (value_of value) (config_of m.old) go) m.old result m.new }
 {
     match m.backs.pop() {
-        None => Ok(Turn::Stopped(Ending::Done)),
+        None => stop!(m, Ending::Done),
         Some(back) => {
             m.slots.put(m.base as usize, value)?;
             m.pc = back.pc;

@@ -3,6 +3,14 @@
 //! All bodies share one list of slots, and each thing that the machine does is one function.
 #![tactic(auto)]
 
+/// The run ends so.
+macro_rules! stop {
+    ($machine:ident, $ending:expr) => {{
+        $machine.ending = $ending;
+        Ok(Turn::Stopped)
+    }};
+}
+
 mod arrays;
 mod calcs;
 mod calls;

@@ -37,6 +37,8 @@ pub struct Machine<'a> {
     pub out: Vec<u8>,
     /// How many steps are left.
     pub left: u32,
+    /// How the run ends, once it has ended.
+    pub ending: Ending,
     pub classes: Classes<'a>,
 }
 
@@ -53,7 +55,7 @@ pub enum Ending {
 #[derive(Clone, Copy)]
 pub enum Turn {
     On,
-    Stopped(Ending),
+    Stopped,
 }
 
 /// What is found for an operation on values.
@@ -146,8 +148,8 @@ pub fn answer<'a>(
 {
     match found {
         Found::Value(value) => keep(m, is_int, slot, value),
-        Found::Fault(fault) => Ok(Turn::Stopped(Ending::Faulty(fault))),
-        Found::Stuck => Ok(Turn::Stopped(Ending::Stuck)),
+        Found::Fault(fault) => stop!(m, Ending::Faulty(fault)),
+        Found::Stuck => stop!(m, Ending::Stuck),
     }
 }
 
@@ -178,8 +180,8 @@ pub fn settle<'a>(
     match made {
         Made::Value(value) => keep(m, is_int, slot, value),
         Made::Text(units) => new_string(m, is_int, slot, units),
-        Made::Fault(fault) => Ok(Turn::Stopped(Ending::Faulty(fault))),
-        Made::Stuck => Ok(Turn::Stopped(Ending::Stuck)),
+        Made::Fault(fault) => stop!(m, Ending::Faulty(fault)),
+        Made::Stuck => stop!(m, Ending::Stuck),
     }
 }
 
@@ -210,7 +212,7 @@ pub fn go_back<'a>(m: &mut Machine<'a>, many: u32) -> Result<Turn, AllocError>
     ensures { Turns (λ go. step (state_of m.old) (λ s. go (goes (config_of m.old) (m.old.pc - many) s))) m.old result m.new }
 {
     if m.left == 0 {
-        return Ok(Turn::Stopped(Ending::Unfinished));
+        return stop!(m, Ending::Unfinished);
     }
     m.left -= 1;
     m.pc = m.pc.saturating_sub(many as usize);

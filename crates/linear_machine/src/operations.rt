@@ -31,16 +31,6 @@ pub fn unary_value(op: UnOp, value: Value) -> Option<Value>
     }
 }
 
-/// A value, where there is one.
-pub fn found_of(value: Option<Value>) -> Found
-    ensures { (s : State) (k : ToValue) → with_some (option_map value_of value) s (λ u. k u s) ≡ gives result s k }
-{
-    match value {
-        Some(value) => Found::Value(value),
-        None => Found::Stuck,
-    }
-}
-
 /// What is made where so much is found.
 #[inline(always)]
 fn made_of(found: Found) -> Made

@@ -1,6 +1,6 @@
 //! A stack, seen as the list of its items, the topmost first.
 
-ghost use Rattle.std.specs.Prelude.{◌≡◌, List, [], ◌∷◌, reverse, take, drop, length, MatchOption, OnOk, IfOk};
+ghost use Rattle.std.specs.Prelude.{◌≡◌, List, [], ◌∷◌, reverse, MatchOption, OnOk};
 
 use std::alloc::{AllocError, Global};
 use std::marker::Model;
@@ -44,22 +44,5 @@ impl<T: Drop> Stack<T> {
         ensures { MatchOption result ((self.old ≡ []) × (self.new ≡ [])) (λ item. self.old ≡ item ∷ self.new) }
     {
         self.items.pop()
-    }
-
-    /// Keeps so many of the lowest items, and gives those above them, the lowest first.
-    pub fn cut(&mut self, height: usize) -> Result<Vec<T>, AllocError>
-        ensures above { IfOk result (λ v. v.items ≡ drop height (reverse self.old)) }
-        ensures below { OnOk result (self.new ≡ reverse (take height (reverse self.old))) }
-    {
-        let len = self.items.len();
-        self.items
-            .split_off(if height < len { height } else { len })
-    }
-
-    /// How many items there are.
-    pub fn len(&self) -> usize
-        ensures { result ≡ length self.now }
-    {
-        self.items.len()
     }
 }

@@ -10,7 +10,7 @@ ghost use Rattle.linear_code.specs.Seen.{entry_of};
 ghost use Rattle.linear_machine.specs.Run.{config_of};
 ghost use Rattle.linear_machine.specs.Words.{units_of};
 
-use crate::machine::Machine;
+use crate::machine::{Ending, Machine};
 use crate::slots::Slots;
 use crate::stack::Stack;
 use crate::texts::words_heap;
@@ -70,6 +70,7 @@ pub fn start<'a>(
         statics: statics(alloc, p)?,
         out: Vec::new(alloc),
         left: bound,
+        ending: Ending::Done,
         classes,
     })
 }

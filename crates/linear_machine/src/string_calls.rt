@@ -89,12 +89,12 @@ pub fn text_call<'a>(
     match m.slots.get(m.base as usize + slot as usize) {
         Some(Value::Str(at)) => text_call_at(m, at, slot, method, many),
         Some(Value::Ref(at)) => match class_at(&m.heap, at) {
-            None => Ok(Turn::Stopped(Ending::Stuck)),
+            None => stop!(m, Ending::Stuck),
             Some(_) => step_and_stop(m),
         },
-        Some(Value::Null) => Ok(Turn::Stopped(Ending::Faulty(Fault::Null))),
-        Some(_) => Ok(Turn::Stopped(Ending::Stuck)),
-        None => Ok(Turn::Stopped(Ending::Stuck)),
+        Some(Value::Null) => stop!(m, Ending::Faulty(Fault::Null)),
+        Some(_) => stop!(m, Ending::Stuck),
+        None => stop!(m, Ending::Stuck),
     }
 }
 
@@ -109,10 +109,10 @@ fn step_and_stop<'a>(m: &mut Machine<'a>) -> Result<Turn, AllocError>
     ensures { Turns (λ go. step (state_of m.old) (λ s. stop Wrong s)) m.old result m.new }
 {
     if m.left == 0 {
-        return Ok(Turn::Stopped(Ending::Unfinished));
+        return stop!(m, Ending::Unfinished);
     }
     m.left -= 1;
-    Ok(Turn::Stopped(Ending::Stuck))
+    stop!(m, Ending::Stuck)
 }
 
 /// A call of a method of a string, if it is one.
@@ -130,7 +130,7 @@ fn text_call_at<'a>(
         (λ vs. string_call q u vs (state_of m.old) (to_slot m.old false slot go))))) m.old result m.new }
 {
     match method {
-        None => Ok(Turn::Stopped(Ending::Stuck)),
+        None => stop!(m, Ending::Stuck),
         Some(method) => {
             let found = called(m, at, slot, method, many);
             answer(m, false, slot, found)
