@@ -1,5 +1,5 @@
 -- A class that breaks no rule for the slot of a method without a body breaks none as a whole.
-use Rattle.std.proofs.Common.{◌≡◌, ◌==◌, ◌&&◌, ◌||◌, ℕ, zero, suc, ◌+◌, ◌<◌, Bool, true, false, not, List, [], ◌∷◌, Option, Some, None, Ok, length, refl, sym, ap, ◌∙◌, subst, arith, slice_get}
+use Rattle.std.proofs.Common.{◌≡◌, ◌==◌, ◌&&◌, ◌||◌, ℕ, zero, suc, ◌+◌, ◌<◌, Bool, true, false, not, List, [], ◌∷◌, Option, Some, None, length, refl, sym, ap, ◌∙◌, subst, arith, slice_get}
 use Rattle.std.specs.Option.{option_map_or, is_some}
 use Rattle.std.proofs.lemmas.Bool.{and_parts, eq-eqb, eqb-true, false≢true}
 use Rattle.java_core.specs.Programs.{Plain, PlainClass, PlainMethod}
@@ -11,7 +11,6 @@ use Rattle.java_core.proofs.Upwards.{IsAbove, IsMemberClass, chain-above, along,
 use Rattle.java_core.proofs.Positions.{position-passes, passes-position}
 use Rattle.java_check.specs.ClassOutcome.{first_rule, below_rule, slot_rule, method_rule, class_rule, is_quiet, is_kept, all_quiet}
 use Rattle.java_check.specs.declared.Kind.{Kind}
-use Rattle.java_check.specs.ProgramOutcome.{classes_answer}
 
 -- what a test of each method passes for one
 each_quiet : (P : Plain) (c : ℕ) (ks : List PlainMethod) → is_quiet P c ks ≡ true → (m : ℕ) (k : PlainMethod) → slice_get ks m ≡ Some k
@@ -134,8 +133,6 @@ module _ (P : Plain) (formed : IsFormed P) where
     pub class_fine : class_rule P c P.methods ≡ None
     class_fine = methods_fine P.methods method_fine
 
-  pub classes_fine : all_quiet P P.methods ≡ true → (n : ℕ) (cs : List PlainClass) → n + length cs ≡ length P.classes → classes_answer P n cs ≡ Ok (tt {0})
-  classes_fine all n [] e = refl
-  classes_fine all n (k ∷ cs) e =
-      let lt : n < length P.classes = omega (arith, e) in
-      rw (class_fine n (class_quiet P n P.methods lt all)) (classes_fine all (suc n) cs (omega (arith, e)))
+  -- where no class breaks a rule for the slot of a method without a body, none breaks one as a whole
+  pub classes_fine : all_quiet P P.methods ≡ true → (c : ℕ) → c < length P.classes → class_rule P c P.methods ≡ None
+  classes_fine all c lt = class_fine c (class_quiet P c P.methods lt all)

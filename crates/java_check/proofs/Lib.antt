@@ -8,3 +8,5 @@ pub mod Forms
 pub mod JudgedClasses
 pub mod JudgedPrograms
 pub mod Bodied
+pub mod Slotted
+pub mod Fine

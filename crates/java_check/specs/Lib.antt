@@ -5,3 +5,4 @@ pub mod StatementOutcome
 pub mod Size
 pub mod ClassOutcome
 pub mod ProgramOutcome
+pub mod SlotOutcome

@@ -80,7 +80,7 @@ fn broken_rule(p: &Program, class: ClassId, methods: &[Method]) -> Option<Kind>
 }
 
 /// The rule that a class or an interface breaks for the slot of a method that stands at or above it.
-fn rule_for(p: &Program, class: ClassId, method: &Method) -> Option<Kind>
+pub(crate) fn rule_for(p: &Program, class: ClassId, method: &Method) -> Option<Kind>
     requires { IsFormed (program_of no_place p.now) }
     ensures { result ≡ method_rule (program_of no_place p.now) class.0 (method_seen no_place method.now) }
 {
@@ -100,7 +100,7 @@ fn rule_for(p: &Program, class: ClassId, method: &Method) -> Option<Kind>
 }
 
 /// Whether it is an interface.
-fn is_interface(p: &Program, class: ClassId) -> bool
+pub(crate) fn is_interface(p: &Program, class: ClassId) -> bool
     ensures { result ≡ classes.is_interface (program_of no_place p.now) class.0 }
 {
     match p.classes.get(class.0 as usize) {

@@ -5,6 +5,7 @@ mod callees;
 mod classes;
 mod expressions;
 mod programs;
+mod slots;
 mod statements;
 mod types;
 

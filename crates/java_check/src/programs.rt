@@ -1,17 +1,21 @@
 //! The rules of types of a whole program.
 
-ghost use Rattle.std.specs.Prelude.{◌≡◌, ◌<◌, length, map, IfOk, IfErr};
+ghost use Rattle.std.specs.Prelude.{◌≡◌, ℕ, ◌<◌, None, length, map, IfOk, IfErr};
 ghost use Rattle.java_core.specs.Trees.{at_place, no_place, body_seen};
 ghost use Rattle.java_core.specs.Programs.{program_of, class_seen, method_seen};
 ghost use Rattle.java_core.specs.Formed.{IsFormed};
 ghost use Rattle.java_core.specs.Typing.{IsTyped};
 ghost use Rattle.java_check.specs.Fails.{IsRefused};
 ghost use Rattle.java_check.specs.Outcome.{env_in, and_then};
+ghost use Rattle.java_core.specs.Owned.{AreOwned};
+ghost use Rattle.java_check.specs.ClassOutcome.{class_rule};
+ghost use Rattle.java_check.specs.SlotOutcome.{bare_place};
 ghost use Rattle.java_check.specs.ProgramOutcome.{classes_answer, body_answer, methods_answer};
 
-use crate::CheckFault;
 use crate::classes::{all_quiet, class_fault};
+use crate::slots::{bare_of_slots, fine_for_all, methods_of_slots};
 use crate::statements::check_stmts;
+use crate::{CheckFault, Kind};
 use java_core::{Checked, Class, Method, Program};
 use kaba_base::{ClassId, MemberId};
 use std::alloc::Global;
@@ -19,65 +23,110 @@ use std::alloc::Global;
 /// The program as one that is known to be typed; or a rule of types that fails in it, and where: exactly
 /// where the rules of types refuse the program (Java Language Specification, chapters 8, 14 and 15,
 /// the subset's part). Want of memory never comes.
-pub fn check(_alloc: Global, program: Program) -> Result<Checked, CheckFault>
+pub fn check(alloc: Global, program: Program) -> Result<Checked, CheckFault>
     requires { IsFormed (program_of no_place program) }
     ensures given { IfOk result (λ checked. checked ≡ program) }
     ensures typed { IfOk result (λ _. IsTyped (program_of no_place program)) }
     ensures refused { IfErr result (λ fault. IsRefused program fault) }
     ensures untyped { IfErr result (λ _. IsTyped (program_of no_place program) → ⊥) }
 {
-    match check_program(&program) {
+    match check_program(alloc, &program) {
         Ok(()) => Ok(Checked::new(program)),
         Err(fault) => Err(fault),
     }
 }
 
 /// The first rule that fails in a program.
-fn check_program(p: &Program) -> Result<(), CheckFault>
+fn check_program(alloc: Global, p: &Program) -> Result<(), CheckFault>
     requires { IsFormed (program_of no_place p.now) }
     ensures typed { IfOk result (λ _. IsTyped (program_of no_place p.now)) }
     ensures refused { IfErr result (λ fault. IsRefused p.now fault) }
     ensures untyped { IfErr result (λ _. IsTyped (program_of no_place p.now) → ⊥) }
 {
-    first_fault(p)
+    first_fault(alloc, p)
 }
 
 /// The first rule that fails: in the classes, then in the bodies.
-fn first_fault(p: &Program) -> Result<(), CheckFault>
+fn first_fault(alloc: Global, p: &Program) -> Result<(), CheckFault>
     requires { IsFormed (program_of no_place p.now) }
     ensures { result ≡ and_then (classes_answer (program_of no_place p.now) 0
         (program_of at_place p.now).classes) (λ _. methods_answer (program_of no_place p.now) 0
         (program_of at_place p.now).methods) }
 {
-    match check_classes(p) {
+    match check_classes(alloc, p) {
         Ok(()) => check_methods(p, &p.methods),
         Err(fault) => Err(fault),
     }
 }
 
-/// The first rule that one of the classes breaks: none, where none is broken for the methods without a body.
-fn check_classes(p: &Program) -> Result<(), CheckFault>
+/// The first rule that one of the classes breaks.
+fn check_classes(alloc: Global, p: &Program) -> Result<(), CheckFault>
     requires { IsFormed (program_of no_place p.now) }
     ensures { result ≡ classes_answer (program_of no_place p.now) 0 (program_of at_place p.now).classes }
 {
-    if all_quiet(p, &p.methods) {
-        return Ok(());
-    }
-    check_each(p, &p.classes)
+    check_each(p, &p.classes, fine_classes(alloc, p))
 }
 
-/// The first rule that one of the classes breaks, each tested.
-fn check_each(p: &Program, classes: &[Class]) -> Result<(), CheckFault>
+/// How many of the first classes are known to break no rule.
+fn fine_classes(alloc: Global, p: &Program) -> usize
+    requires { IsFormed (program_of no_place p.now) }
+    ensures { (c : ℕ) → c < result → class_rule (program_of no_place p.now) c (program_of no_place p.now).methods ≡ None }
+{
+    match bare_of_slots(alloc, p.slots.len(), &p.methods) {
+        Ok(bare) => fine_with(alloc, p, &bare),
+        Err(_) => quiet_classes(p),
+    }
+}
+
+/// How many of the first classes are known to break no rule, where the methods without a body are listed.
+fn fine_with(alloc: Global, p: &Program, bare: &Vec<Vec<usize>>) -> usize
+    requires formed { IsFormed (program_of no_place p.now) }
+    requires bare { AreOwned (map (λ m. bare_place (length p.now.slots.items) m) p.now.methods.items) bare.now.items }
+    ensures { (c : ℕ) → c < result → class_rule (program_of no_place p.now) c (program_of no_place p.now).methods ≡ None }
+{
+    match methods_of_slots(alloc, p.slots.len(), &p.methods) {
+        Ok(lists) => fine_for_all(p, bare, &lists),
+        Err(_) => quiet_classes(p),
+    }
+}
+
+/// All classes, where none breaks a rule for the slot of a method without a body; else none.
+fn quiet_classes(p: &Program) -> usize
+    requires { IsFormed (program_of no_place p.now) }
+    ensures { (c : ℕ) → c < result → class_rule (program_of no_place p.now) c (program_of no_place p.now).methods ≡ None }
+{
+    if all_quiet(p, &p.methods) {
+        p.classes.len()
+    } else {
+        0
+    }
+}
+
+/// The first rule that one of the classes breaks, each tested but so many first ones that break none.
+fn check_each(p: &Program, classes: &[Class], fine: usize) -> Result<(), CheckFault>
     requires formed { IsFormed (program_of no_place p.now) }
     requires few { length classes.now < 4294967295 }
+    requires fine { (c : ℕ) → c < fine → class_rule (program_of no_place p.now) c (program_of no_place p.now).methods ≡ None }
     ensures { result ≡ classes_answer (program_of no_place p.now) 0 (map (class_seen at_place) classes.now) }
 {
     for (i, class) in classes.iter().enumerate() {
-        if let Some(kind) = class_fault(p, ClassId(i as u32)) {
+        if let Some(kind) = fault_of(p, ClassId(i as u32), fine) {
             return Err(CheckFault::IllTyped(kind, class.place));
         }
     }
     Ok(())
+}
+
+/// The rule that a class breaks as a whole, where so many first ones break none.
+fn fault_of(p: &Program, class: ClassId, fine: usize) -> Option<Kind>
+    requires formed { IsFormed (program_of no_place p.now) }
+    requires fine { (c : ℕ) → c < fine → class_rule (program_of no_place p.now) c (program_of no_place p.now).methods ≡ None }
+    ensures { result ≡ class_rule (program_of no_place p.now) class.0 (program_of no_place p.now).methods }
+{
+    if (class.0 as usize) < fine {
+        return None;
+    }
+    class_fault(p, class)
 }
 
 /// The first rule that fails in the bodies of the methods.

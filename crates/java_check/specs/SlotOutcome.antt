@@ -1,0 +1,100 @@
+-- What is answered of a class and the methods of one slot.
+use Rattle.std.specs.Prelude.{ℕ, ◌&&◌, ◌||◌, Bool, true, false, not, List, [], ◌∷◌, Option, Some, None, slice_get, if◌then◌else◌}
+use Rattle.std.specs.Option.{is_some}
+use Rattle.java_core.specs.declared.Method.{Method}
+use Rattle.java_core.specs.Programs.{Plain, PlainMethod}
+use Rattle.java_core.specs.Classes.{below, is_concrete, is_interface}
+use Rattle.java_check.specs.ClassOutcome.{method_rule}
+
+-- the number under which the methods of a slot are listed; those without one come behind so many slots
+abbrev pub slot_place : ℕ → Option ℕ → ℕ
+slot_place slots None = slots
+slot_place slots (Some s) = s
+
+abbrev pub method_place : ℕ → Method → ℕ
+method_place slots m = slot_place slots m.slot
+
+-- the same for those without a body; one with a body comes behind so many slots
+abbrev pub bare_place : ℕ → Method → ℕ
+bare_place slots m = if is_some m.body then slots else slot_place slots m.slot
+
+-- whether a method stands in a class at or above c
+abbrev pub stands_above : Plain → ℕ → PlainMethod → Bool
+stands_above P c k = not (is_interface P k.owner) && below P c k.owner
+
+-- whether c is at or below the class of a method, where there is one
+abbrev pub below_method : Plain → ℕ → Option PlainMethod → Bool
+below_method P c None = true
+below_method P c (Some k) = below P c k.owner
+
+abbrev pub is_lower : Plain → ℕ → Option ℕ → Bool
+is_lower P c None = true
+is_lower P c (Some d) = below_method P c (slice_get P.methods d)
+
+abbrev pub lower_of : Plain → ℕ → Option ℕ → ℕ → Option PlainMethod → Option ℕ
+lower_of P c near m None = near
+lower_of P c near m (Some k) = if stands_above P c k && is_lower P k.owner near then Some m else near
+
+-- the nearer to c of the method m and of the nearest so far
+abbrev pub lower : Plain → ℕ → Option ℕ → ℕ → Option ℕ
+lower P c near m = lower_of P c near m (slice_get P.methods m)
+
+-- the nearest to c of these methods and of the nearest so far
+abbrev pub lowest : Plain → ℕ → Option ℕ → List ℕ → Option ℕ
+lowest P c near [] = near
+lowest P c near (m ∷ ms) = lowest P c (lower P c near m) ms
+
+abbrev pub bodied_in : Option PlainMethod → Bool
+bodied_in None = false
+bodied_in (Some k) = is_some k.body
+
+abbrev pub bodied_at : Plain → Option ℕ → Bool
+bodied_at P None = false
+bodied_at P (Some m) = bodied_in (slice_get P.methods m)
+
+abbrev pub shown_in : Option PlainMethod → Bool
+shown_in None = true
+shown_in (Some k) = k.is_public
+
+abbrev pub shown_at : Plain → Option ℕ → Bool
+shown_at P None = true
+shown_at P (Some m) = shown_in (slice_get P.methods m)
+
+-- whether a method stands at or above c
+abbrev pub offered_by : Plain → ℕ → Option PlainMethod → Bool
+offered_by P c None = false
+offered_by P c (Some k) = below P c k.owner
+
+abbrev pub is_offered : Plain → ℕ → List ℕ → Bool
+is_offered P c [] = false
+is_offered P c (m ∷ ms) = offered_by P c (slice_get P.methods m) || is_offered P c ms
+
+-- whether a method stands in an interface at or above c
+abbrev pub faced_by : Plain → ℕ → Option PlainMethod → Bool
+faced_by P c None = false
+faced_by P c (Some k) = is_interface P k.owner && below P c k.owner
+
+abbrev pub is_faced : Plain → ℕ → List ℕ → Bool
+is_faced P c [] = false
+is_faced P c (m ∷ ms) = faced_by P c (slice_get P.methods m) || is_faced P c ms
+
+-- whether c breaks no rule for these methods of a slot without a body; the slot has the methods ms
+abbrev pub is_quiet_for : Plain → ℕ → List ℕ → List ℕ → Bool
+is_quiet_for P c bare ms =
+    (is_interface P c || not (is_offered P c bare))
+    || ((bodied_at P (lowest P c None ms) || not (is_concrete P c))
+    && (shown_at P (lowest P c None ms) || not (is_faced P c bare)))
+
+-- whether c breaks a rule for a method
+abbrev pub breaks_in : Plain → ℕ → Option PlainMethod → Bool
+breaks_in P c None = false
+breaks_in P c (Some k) = is_some (method_rule P c k)
+
+-- whether c breaks no rule for one of these methods
+abbrev pub is_kept_for : Plain → ℕ → List ℕ → Bool
+is_kept_for P c [] = true
+is_kept_for P c (m ∷ ms) = not (breaks_in P c (slice_get P.methods m)) && is_kept_for P c ms
+
+-- either of the two, by how many methods the slot has
+abbrev pub is_fine_for : Plain → ℕ → List ℕ → List ℕ → Bool
+is_fine_for P c bare ms = is_kept_for P c bare || is_quiet_for P c bare ms
