@@ -76,7 +76,7 @@ fn flow(
     for _turn in 0..u64::MAX {
         match take(grown) {
             Some(n) => {
-                wake(index, uses, due, n);
+                wake(alloc, index, uses, due, sets, n)?;
                 let list = numbers_at(&uses.edges, n);
                 pass_all(alloc, facts, index, found, sets, grown, list)?;
             }

@@ -20,7 +20,7 @@ enum Home {
 }
 
 /// The numbers of inclusions by where they begin, of reads, writes and runs by their base, of writes by their value, and of reads by
-/// their member; and of each set the member that it is one of, and the sites whose.
+/// their member; of each read the member; and of each set the member that it is one of, and the sites whose.
 #[derive(Drop)]
 pub struct Uses {
     pub edges: Vec<Vec<usize>>,
@@ -29,12 +29,27 @@ pub struct Uses {
     values: Vec<Vec<usize>>,
     runs: Vec<Vec<usize>>,
     alike: Vec<Vec<usize>>,
+    read_members: Vec<usize>,
     members: Vec<usize>,
     homes: Vec<Home>,
 }
 
+/// How many sites a base has, at the most, by each of which it is listed.
+const FEW: u32 = 16;
+
+/// The bases of reads that have few sites, by these, and the sites by which each is listed; which bases have more, and the reads of these by
+/// their member.
+#[derive(Drop)]
+struct Readers {
+    by_site: Vec<Vec<usize>>,
+    listed: Vec<Vec<usize>>,
+    is_large: Vec<bool>,
+    large: Vec<Vec<usize>>,
+}
+
 /// What has to be gone over: bases that grew, with the numbers of reads, writes and runs of them, for which what is new there is enough;
-/// members that grew, and sites that have one that did; and reads and writes that have to be gone over for each site of their base.
+/// members that grew, and sites that have one that did; reads and writes that have to be gone over for each site of their base; and by which
+/// sites the reads are found.
 #[derive(Drop)]
 pub struct Due {
     pub bases: BitRow,
@@ -45,6 +60,7 @@ pub struct Due {
     sites: BitRow,
     pub whole_reads: BitRow,
     pub whole_writes: BitRow,
+    readers: Readers,
 }
 
 /// A number for a member that is read: one for each column, one for elements, and one for each slot.
@@ -110,7 +126,9 @@ fn note_reads(facts: &Facts, found: &Found, uses: &mut Uses) -> Result<(), Alloc
     for k in 0..found.reads.len() {
         let read = found.reads[k];
         note(&mut uses.reads, read.base as usize, k)?;
-        note(&mut uses.alike, number_of(facts, read.member), k)?;
+        let member = number_of(facts, read.member);
+        note(&mut uses.alike, member, k)?;
+        uses.read_members.push(member)?;
     }
     Ok(())
 }
@@ -144,6 +162,7 @@ pub fn uses_of(alloc: Global, facts: &Facts, found: &Found) -> Result<Uses, Allo
         values: empty(alloc, count)?,
         runs: empty(alloc, count)?,
         alike: empty(alloc, members_count)?,
+        read_members: Vec::new(alloc),
         members: vec![in alloc; usize::MAX; count]?,
         homes: vec![in alloc; Home::None; count]?,
     };
@@ -181,6 +200,12 @@ pub fn nothing_due(
         sites: row_of(alloc, facts.sites.len())?,
         whole_reads: row_of(alloc, found.reads.len())?,
         whole_writes: row_of(alloc, found.writes.len())?,
+        readers: Readers {
+            by_site: empty(alloc, facts.sites.len())?,
+            listed: empty(alloc, uses.reads.len())?,
+            is_large: vec![in alloc; false; uses.reads.len()]?,
+            large: empty(alloc, uses.alike.len())?,
+        },
     })
 }
 
@@ -211,33 +236,111 @@ fn add_row(row: &mut BitRow, rows: &[BitRow], k: usize) {
     }
 }
 
-/// These sites have a member that grew.
-fn wake_sites(index: &Index, due: &mut Due, home: Home) {
-    match home {
+/// The reads of these bases.
+fn wake_bases(uses: &Uses, due: &mut BitRow, list: &[usize]) {
+    for n in list {
+        set_all(due, numbers_at(&uses.reads, *n));
+    }
+}
+
+/// What has to be gone over since one of the sets of a member grew: the reads of bases with its site, or with one of its sites.
+fn wake_member(index: &Index, uses: &Uses, due: &mut Due, n: usize) {
+    if n >= uses.members.len() || n >= uses.homes.len() {
+        return;
+    }
+    let member = uses.members[n];
+    match uses.homes[n] {
         Home::None => {}
         Home::Site(o) => {
             is_new(&mut due.sites, o as usize);
+            let bases = numbers_at(&due.readers.by_site, o as usize);
+            wake_bases(uses, &mut due.whole_reads, bases);
+            if is_new(&mut due.members, member) {
+                let large = numbers_at(&due.readers.large, member);
+                set_all(&mut due.whole_reads, large);
+            }
         }
-        Home::Below(class) => add_row(&mut due.sites, &index.below, class.0 as usize),
+        Home::Below(class) => {
+            add_row(&mut due.sites, &index.below, class.0 as usize);
+            if is_new(&mut due.members, member) {
+                set_all(&mut due.whole_reads, numbers_at(&uses.alike, member));
+            }
+        }
     }
 }
 
-/// What has to be gone over since one of the sets of a member grew.
-fn wake_member(index: &Index, uses: &Uses, due: &mut Due, n: usize) {
-    if n < uses.members.len() && n < uses.homes.len() {
-        wake_sites(index, due, uses.homes[n]);
-        let member = uses.members[n];
-        if is_new(&mut due.members, member) {
-            set_all(&mut due.whole_reads, numbers_at(&uses.alike, member));
+/// Whether a list has a number.
+fn lists(list: &[usize], x: usize) -> bool {
+    for y in list {
+        if *y == x {
+            return true;
         }
     }
+    false
 }
 
-/// What has to be gone over since a set grew.
-pub fn wake(index: &Index, uses: &Uses, due: &mut Due, n: usize) {
+/// Lists a base by a site, unless it is. An error comes only for want of memory.
+fn list_base(readers: &mut Readers, n: usize, o: usize) -> Result<(), AllocError> {
+    if lists(numbers_at(&readers.listed, n), o) {
+        return Ok(());
+    }
+    note(&mut readers.listed, n, o)?;
+    note(&mut readers.by_site, o, n)
+}
+
+/// Lists the reads of a base that has many sites by their member. An error comes only for want of memory.
+fn list_large(uses: &Uses, readers: &mut Readers, n: usize) -> Result<(), AllocError> {
+    if n < readers.is_large.len() {
+        readers.is_large[n] = true;
+    }
+    for k in numbers_at(&uses.reads, n) {
+        if *k < uses.read_members.len() {
+            note(&mut readers.large, uses.read_members[*k], *k)?;
+        }
+    }
+    Ok(())
+}
+
+/// Lists a base of reads by its sites while it has few, and its reads by their member from when it has more. An error comes only for want of memory.
+fn list_reader(
+    alloc: Global,
+    uses: &Uses,
+    due: &mut Due,
+    set: &BitRow,
+    n: usize,
+) -> Result<(), AllocError> {
+    if numbers_at(&uses.reads, n).is_empty() || n >= due.readers.is_large.len() {
+        return Ok(());
+    }
+    if due.readers.is_large[n] {
+        return Ok(());
+    }
+    if set.count() > FEW {
+        return list_large(uses, &mut due.readers, n);
+    }
+    let sites = set.rising(alloc)?;
+    for o in &sites {
+        list_base(&mut due.readers, n, *o as usize)?;
+    }
+    Ok(())
+}
+
+/// What has to be gone over since a set grew. An error comes only for want of memory.
+pub fn wake(
+    alloc: Global,
+    index: &Index,
+    uses: &Uses,
+    due: &mut Due,
+    sets: &[BitRow],
+    n: usize,
+) -> Result<(), AllocError> {
     wake_base(uses, due, n);
     set_all(&mut due.whole_writes, numbers_at(&uses.values, n));
     wake_member(index, uses, due, n);
+    if n < sets.len() {
+        list_reader(alloc, uses, due, &sets[n], n)?;
+    }
+    Ok(())
 }
 
 /// Whether the base of a read has a site with a member that grew.
