@@ -74,6 +74,40 @@ def blocks(count):
     return main(body)
 
 
+def bare(count):
+    """So many methods without a body."""
+    return "".join(f"  void m{n}();\n" for n in range(count))
+
+
+def bodies(count):
+    """Their bodies."""
+    return "".join(f"  public void m{n}() {{\n  }}\n" for n in range(count))
+
+
+def abstract_chain(count):
+    """An interface above a chain of abstract classes, and a class with all bodies below them: so many methods and classes."""
+    text = f"interface I {{\n{bare(count)}}}\nabstract class C0 implements I {{\n}}\n"
+    text += "".join(f"abstract class C{n} extends C{n - 1} {{\n}}\n" for n in range(1, count))
+    return text + f"class C extends C{count - 1} {{\n{bodies(count)}}}\n" + main()
+
+
+def concrete_chain(count):
+    """A class with the bodies of an interface, above a chain of classes: so many methods and classes."""
+    text = f"interface I {{\n{bare(count)}}}\nclass C0 implements I {{\n{bodies(count)}}}\n"
+    return text + "".join(f"class C{n} extends C{n - 1} {{\n}}\n" for n in range(1, count)) + main()
+
+
+def aside(count):
+    """An interface with so many methods, and as many classes that have nothing to do with it."""
+    return f"interface I {{\n{bare(count)}}}\n" + "".join(f"class C{n} {{\n}}\n" for n in range(count)) + main()
+
+
+def many_faces(count):
+    """So many interfaces with a method each, and a class with the bodies of all."""
+    text = "".join(f"interface I{n} {{\n  void m{n}();\n}}\n" for n in range(count))
+    return text + f"class C implements {', '.join(f'I{n}' for n in range(count))} {{\n{bodies(count)}}}\n" + main()
+
+
 # The shape, its sizes, and the seconds and megabytes that the greatest may take until it is checked.
 SHAPES = [
     ("classes in a chain", chain, (1000, 2000, 4000, 8000)),
@@ -87,5 +121,9 @@ SHAPES = [
     ("parameters of one method", parameters, (375, 750, 1500, 3000)),
     ("locals in one body", locals_of_a_body, (3500, 7000, 14000, 28000)),
     ("blocks under as many locals", blocks, (250, 500, 1000, 2000)),
+    ("methods of an interface, abstract classes in a chain below it, and a class with the bodies", abstract_chain, (1250, 2500, 5000, 10000)),
+    ("methods of an interface, their bodies, and classes in a chain below them", concrete_chain, (1250, 2500, 5000, 10000)),
+    ("methods of an interface beside as many classes", aside, (2500, 5000, 10000, 20000)),
+    ("interfaces with a method each, and a class with the bodies", many_faces, (1250, 2500, 5000, 10000)),
 ]
 SECONDS, MEGABYTES, STACK = 5, 500, 256 << 10
