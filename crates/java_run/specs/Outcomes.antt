@@ -3,7 +3,7 @@ use Rattle.std.specs.Prelude.{◌≡◌, ℕ, ◌+◌, List, map}
 use Rattle.java_core.specs.Programs.{Plain}
 use Rattle.java_meaning.specs.Moment as meaning
 use Rattle.java_meaning.specs.Languages as languages
-use Rattle.linear_machine.specs.Words.{units_of}
+use Rattle.linear_state.specs.Words.{units_of}
 use Rattle.java_run.specs.declared.runs.End.{End}
 use Rattle.java_run.specs.declared.runs.End.TheVariants as ends
 use Rattle.java_run.specs.declared.runs.Outcome.{Outcome}

@@ -8,7 +8,7 @@ ghost use Rattle.java_core.specs.Formed.{IsFormed};
 ghost use Rattle.java_core.specs.Typing.{IsTyped};
 ghost use Rattle.linear_code.specs.Fits.{Fits};
 ghost use Rattle.linear_code.specs.Seen.{entry_of, tables_of};
-ghost use Rattle.linear_machine.specs.Run.{end_of};
+ghost use Rattle.linear_state.specs.Run.{end_of};
 ghost use Rattle.java_run.specs.Outcomes.{IsOutcomeOf};
 ghost use Rattle.java_run.specs.Outcomes as outcomes;
 
@@ -16,7 +16,8 @@ use class_tables::Classes;
 use java_core::{Checked, Fault, Program};
 use linear_code::{Entry, Image};
 use linear_compile::compile;
-use linear_machine::{Ending, go, start};
+use linear_machine::go;
+use linear_state::{Ending, start};
 use std::alloc::{AllocError, Global};
 
 /// How a run of a program ends.

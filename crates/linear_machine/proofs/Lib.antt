@@ -1,11 +1,2 @@
-pub mod Works
-pub mod Turned
-pub mod Moves
-pub mod Branches
-pub mod Setting
-pub mod Operators
-pub mod StartLemmas
 pub mod Follows
-pub mod NewCells
-pub mod Stores
 pub mod Lists

@@ -7,13 +7,13 @@ ghost use Rattle.java_meaning.specs.Moment.{own_class, step};
 ghost use Rattle.linear_code.specs.Ops.{call, enter};
 ghost use Rattle.linear_code.specs.Machine.{begins, enters};
 ghost use Rattle.linear_code.specs.Seen.{operand_of, entry_of, tables_of};
-ghost use Rattle.linear_machine.specs.Run.{plain_of, state_of, config_of};
-ghost use Rattle.linear_machine.specs.Turns.{Turns, TurnsPaid, DoesIn};
+ghost use Rattle.linear_state.specs.Run.{plain_of, state_of, config_of};
+ghost use Rattle.linear_state.specs.Turns.{Turns, TurnsPaid, DoesIn};
 
-use crate::machine::{Back, Ending, Machine, Turn};
 use java_core::Fault;
 use java_heap::{CellKind, Heap, Value};
 use linear_code::{Entry, Image, Operand};
+use linear_state::{Back, Ending, Machine, Turn};
 use std::alloc::AllocError;
 
 /// The class of the object in a cell.

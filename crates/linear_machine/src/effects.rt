@@ -7,16 +7,14 @@ ghost use Rattle.java_meaning.specs.Languages.{language_of};
 ghost use Rattle.linear_code.specs.Ops.{act, save, keep_static, keep_element, show, lacks};
 ghost use Rattle.linear_code.specs.Machine.{goes};
 ghost use Rattle.linear_code.specs.Seen.{operand_of, effect_of};
-ghost use Rattle.linear_machine.specs.Run.{plain_of, state_of, config_of};
-ghost use Rattle.linear_machine.specs.Founds.{keeps};
-ghost use Rattle.linear_machine.specs.Turns.{to_next, Turns, Does};
+ghost use Rattle.linear_state.specs.Run.{plain_of, state_of, config_of};
+ghost use Rattle.linear_state.specs.Founds.{keeps};
+ghost use Rattle.linear_state.specs.Turns.{to_next, Turns, Does};
 
-use crate::arrays::write_element;
-use crate::cells::saved;
-use crate::machine::{Ending, Kept, Machine, Turn, as_int, next};
 use java_core::Fault;
 use java_heap::{Value, convert, print, text_of};
 use linear_code::{Effect, Operand};
+use linear_state::{Ending, Kept, Machine, Turn, as_int, next, saved, write_element};
 use std::alloc::AllocError;
 
 /// What changes no slot is done.

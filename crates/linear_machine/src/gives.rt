@@ -5,12 +5,12 @@ ghost use Rattle.java_heap.specs.Seen.{value_of};
 ghost use Rattle.linear_code.specs.Ops.{give};
 ghost use Rattle.linear_code.specs.Machine.{as_int, returns};
 ghost use Rattle.linear_code.specs.Seen.{operand_of};
-ghost use Rattle.linear_machine.specs.Run.{config_of};
-ghost use Rattle.linear_machine.specs.Turns.{Turns, Does};
+ghost use Rattle.linear_state.specs.Run.{config_of};
+ghost use Rattle.linear_state.specs.Turns.{Turns, Does};
 
-use crate::machine::{Ending, Machine, Turn, as_int};
 use java_heap::Value;
 use linear_code::Operand;
+use linear_state::{Ending, Machine, Turn, as_int};
 use std::alloc::AllocError;
 
 /// A body is left with a value, as an `int` where so it is said.

@@ -1,6 +1,6 @@
 //! The machine that runs linear code.
 //!
-//! All bodies share one list of slots, and each thing that the machine does is one function.
+//! Each thing that the machine does is one function on its state, and a run does one thing after the other.
 #![tactic(auto)]
 
 /// The run ends so.
@@ -11,26 +11,12 @@ macro_rules! stop {
     }};
 }
 
-mod arrays;
 mod calcs;
 mod calls;
-mod casts;
-mod cells;
-mod counts;
 mod effects;
 mod gives;
 mod jumps;
-mod machine;
-mod operations;
 mod runs;
-mod slots;
-mod stack;
-mod starts;
 mod string_calls;
-mod texts;
 
-pub use machine::{Back, Ending, Machine};
 pub use runs::go;
-pub use slots::Slots;
-pub use stack::Stack;
-pub use starts::start;

@@ -10,14 +10,13 @@ ghost use Rattle.java_meaning.specs.Moment.{State, CodeUnit, with_some, or_fault
 ghost use Rattle.java_meaning.specs.Values.{natural_of};
 ghost use Rattle.java_meaning.specs.Meaning.{ToValue, string_call};
 ghost use Rattle.linear_code.specs.Ops.{text_call};
-ghost use Rattle.linear_machine.specs.Founds.{gives, Finds};
-ghost use Rattle.linear_machine.specs.Turns.{to_slot, Does};
+ghost use Rattle.linear_state.specs.Founds.{gives, Finds};
+ghost use Rattle.linear_state.specs.Turns.{to_slot, Does};
 
 use crate::calls::class_at;
-use crate::counts::int_of;
-use crate::machine::{Ending, Found, Machine, Turn, answer};
 use java_core::{Fault, StringMethod};
 use java_heap::{Heap, Value, equals};
+use linear_state::{Ending, Found, Machine, Turn, answer, int_of};
 use std::alloc::AllocError;
 
 /// The unit at an index.
@@ -100,8 +99,8 @@ pub fn text_call<'a>(
 
 ghost use Rattle.java_meaning.specs.Moment.{step, stop, Wrong};
 ghost use Rattle.linear_code.specs.Machine.{taken};
-ghost use Rattle.linear_machine.specs.Run.{state_of};
-ghost use Rattle.linear_machine.specs.Turns.{Turns};
+ghost use Rattle.linear_state.specs.Run.{state_of};
+ghost use Rattle.linear_state.specs.Turns.{Turns};
 ghost use Rattle.std.specs.Prelude.{ℕ, ◌+◌, List, Bool, false, IfOk};
 
 /// A step, after which no rule says how it goes on.

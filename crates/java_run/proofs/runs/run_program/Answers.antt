@@ -2,7 +2,7 @@ use Rattle.std.proofs.Common.{◌≡◌, ◌≤◌, ap, ◌∙◌, refl, arith, 
 use Rattle.java_core.specs.Trees.{no_place}
 use Rattle.java_core.specs.Programs.{program_of}
 use Rattle.linear_code.specs.Seen.{entry_of, tables_of}
-use Rattle.linear_machine.specs.Run.{config_of}
+use Rattle.linear_state.specs.Run.{config_of}
 use Rattle.java_run.proofs.Starts.{same_program, meant_so, never_stuck, outcome_so, going_used}
 use Rattle.java_run.proofs.runs.run_program.Goals as goal
 

@@ -2,7 +2,7 @@ use Rattle.std.proofs.Common.{◌+◌, map, ap, ◌∙◌, arith}
 use Rattle.java_heap.specs.Seen.{value_of}
 use Rattle.linear_code.specs.Seen.{entry_of}
 use Rattle.linear_code.specs.Machine.{put_all}
-use Rattle.linear_machine.proofs.Moves.{began}
+use Rattle.linear_state.proofs.Moves.{began}
 use Rattle.linear_machine.proofs.calls.begin.Goals as goal
 
 pub returns : goal.returns

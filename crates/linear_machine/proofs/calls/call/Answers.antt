@@ -5,9 +5,9 @@ use Rattle.java_heap.specs.Seen.{value_of}
 use Rattle.java_meaning.specs.Moment.{Cell, own_class, step}
 use Rattle.linear_code.specs.Seen.{tables_of}
 use Rattle.linear_code.specs.Machine.{begins}
-use Rattle.linear_machine.specs.Run.{plain_of, state_of, config_of}
-use Rattle.linear_machine.proofs.Turned.{turned}
-use Rattle.linear_machine.proofs.Branches.{some_is, within}
+use Rattle.linear_state.specs.Run.{plain_of, state_of, config_of}
+use Rattle.linear_state.proofs.Turned.{turned}
+use Rattle.linear_state.proofs.Branches.{some_is, within}
 use Rattle.linear_machine.proofs.calls.call.Goals as goal
 
 pub returns-in-Some-class_at : goal.returns-in-Some-class_at

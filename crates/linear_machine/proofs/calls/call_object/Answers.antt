@@ -4,9 +4,9 @@ use Rattle.java_core.specs.Programs.{program_of}
 use Rattle.java_core.specs.Classes.{lookup}
 use Rattle.linear_code.specs.Seen.{tables_of}
 use Rattle.linear_code.specs.Machine.{begins}
-use Rattle.linear_machine.specs.Run.{plain_of, state_of, config_of}
-use Rattle.linear_machine.proofs.Turned.{paid}
-use Rattle.linear_machine.proofs.Branches.{one_step}
+use Rattle.linear_state.specs.Run.{plain_of, state_of, config_of}
+use Rattle.linear_state.proofs.Turned.{paid}
+use Rattle.linear_state.proofs.Branches.{one_step}
 use Rattle.linear_machine.proofs.calls.call_object.Goals as goal
 
 pub returns : goal.returns

@@ -2,9 +2,9 @@ use Rattle.std.proofs.Common.{◌+◌, ◌-◌, ap, sym, ◌∙◌, refl, arith}
 use Rattle.java_heap.specs.Seen.{value_of}
 use Rattle.linear_code.specs.Seen.{tables_of}
 use Rattle.linear_code.specs.Machine.{put, begins}
-use Rattle.linear_machine.specs.Run.{plain_of, state_of, config_of}
-use Rattle.linear_machine.proofs.Turned.{paid}
-use Rattle.linear_machine.proofs.Branches.{one_step, some_is}
+use Rattle.linear_state.specs.Run.{plain_of, state_of, config_of}
+use Rattle.linear_state.proofs.Turned.{paid}
+use Rattle.linear_state.proofs.Branches.{one_step, some_is}
 use Rattle.linear_machine.proofs.calls.enter.Goals as goal
 
 pub returns-in_ok-put-in-Some : goal.returns-in_ok-put-in-Some

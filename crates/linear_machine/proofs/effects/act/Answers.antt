@@ -2,8 +2,8 @@ use Rattle.std.proofs.Common.{ap}
 use Rattle.linear_code.specs.Ops.{act}
 use Rattle.linear_code.specs.Machine.{does}
 use Rattle.linear_code.specs.Seen.{effect_of}
-use Rattle.linear_machine.specs.Run.{plain_of, config_of}
-use Rattle.linear_machine.proofs.Turned.{turned}
+use Rattle.linear_state.specs.Run.{plain_of, config_of}
+use Rattle.linear_state.proofs.Turned.{turned}
 use Rattle.linear_machine.proofs.effects.act.Goals as goal
 
 pub returns-in-ShowEnd : goal.returns-in-ShowEnd

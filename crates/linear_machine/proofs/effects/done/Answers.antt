@@ -1,8 +1,8 @@
 use Rattle.std.proofs.Common.{◌+◌, ap}
 use Rattle.linear_code.specs.Machine.{goes}
-use Rattle.linear_machine.specs.Run.{state_of, config_of}
-use Rattle.linear_machine.proofs.Turned.{turned}
-use Rattle.linear_machine.specs.Founds.{keeps}
+use Rattle.linear_state.specs.Run.{state_of, config_of}
+use Rattle.linear_state.proofs.Turned.{turned}
+use Rattle.linear_state.specs.Founds.{keeps}
 use Rattle.linear_machine.proofs.effects.done.Goals as goal
 
 pub returns-in-Done : goal.returns-in-Done

@@ -1,7 +1,7 @@
 use Rattle.std.proofs.Common.{◌+◌, ap, sym}
 use Rattle.linear_code.specs.Machine.{goes}
-use Rattle.linear_machine.specs.Run.{state_of, config_of}
-use Rattle.linear_machine.proofs.Turned.{turned}
+use Rattle.linear_state.specs.Run.{state_of, config_of}
+use Rattle.linear_state.proofs.Turned.{turned}
 use Rattle.linear_machine.proofs.effects.print_all.Goals as goal
 
 pub returns : goal.returns

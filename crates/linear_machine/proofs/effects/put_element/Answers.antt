@@ -1,8 +1,8 @@
 use Rattle.std.proofs.Common.{ap, sym, ◌∙◌, rules}
-use Rattle.linear_machine.specs.Turns.{to_next}
-use Rattle.linear_machine.specs.Run.{plain_of, state_of}
-use Rattle.linear_machine.proofs.Turned.{turned_in}
-use Rattle.linear_machine.proofs.Branches.{some_is}
+use Rattle.linear_state.specs.Turns.{to_next}
+use Rattle.linear_state.specs.Run.{plain_of, state_of}
+use Rattle.linear_state.proofs.Turned.{turned_in}
+use Rattle.linear_state.proofs.Branches.{some_is}
 use mir.Syntax.{w32}
 use mir.Val.{SFits}
 use Rattle.java_core.specs.Trees.{no_place}
@@ -10,8 +10,8 @@ use Rattle.java_core.specs.Programs.{program_of}
 use Rattle.java_heap.specs.Seen.{value_of}
 use Rattle.java_meaning.specs.Meaning.{write_element}
 use Rattle.java_meaning.specs.Languages.{language_of}
-use Rattle.linear_machine.proofs.Branches.{keeps_same}
-use Rattle.linear_machine.proofs.Operators.{passed}
+use Rattle.linear_state.proofs.Branches.{keeps_same}
+use Rattle.linear_state.proofs.Operators.{passed}
 use Rattle.linear_machine.proofs.effects.put_element.Goals as goal
 
 pub returns-in_ok-kept-in-Some : goal.returns-in_ok-kept-in-Some

@@ -1,14 +1,14 @@
 use Rattle.std.proofs.Common.{◌+◌, ap, sym, ◌∙◌}
 use Rattle.linear_code.specs.Machine.{goes}
-use Rattle.linear_machine.specs.Turns.{to_next}
-use Rattle.linear_machine.specs.Run.{state_of, config_of}
-use Rattle.linear_machine.proofs.Turned.{turned}
-use Rattle.linear_machine.proofs.Branches.{some_is}
+use Rattle.linear_state.specs.Turns.{to_next}
+use Rattle.linear_state.specs.Run.{state_of, config_of}
+use Rattle.linear_state.proofs.Turned.{turned}
+use Rattle.linear_state.proofs.Branches.{some_is}
 use Rattle.std.specs.Prelude.{slice_get}
 use Rattle.java_heap.specs.Seen.{value_of}
 use Rattle.java_meaning.specs.Moment.{with_some}
 use Rattle.java_meaning.specs.Meaning.{with_cell, set_value}
-use Rattle.linear_machine.proofs.Branches.{keeps_same}
+use Rattle.linear_state.proofs.Branches.{keeps_same}
 use Rattle.linear_machine.proofs.effects.save.Goals as goal
 
 pub returns-in-Some-read : goal.returns-in-Some-read

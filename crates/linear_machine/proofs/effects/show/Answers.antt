@@ -1,8 +1,8 @@
 use Rattle.std.proofs.Common.{ap, sym, ◌∙◌}
-use Rattle.linear_machine.specs.Turns.{to_next}
-use Rattle.linear_machine.specs.Run.{state_of}
-use Rattle.linear_machine.proofs.Turned.{turned}
-use Rattle.linear_machine.proofs.Branches.{some_is}
+use Rattle.linear_state.specs.Turns.{to_next}
+use Rattle.linear_state.specs.Run.{state_of}
+use Rattle.linear_state.proofs.Turned.{turned}
+use Rattle.linear_state.proofs.Branches.{some_is}
 use Rattle.std.specs.Option.{option_map}
 use Rattle.java_meaning.specs.Meaning.{print_units}
 use Rattle.linear_machine.proofs.effects.show.Goals as goal

@@ -1,8 +1,8 @@
 use Rattle.std.proofs.Common.{◌+◌, ◌<◌, ◌≤◌, length, ap, sym, ◌∙◌, arith}
 use Rattle.linear_code.specs.Machine.{goes}
-use Rattle.linear_machine.specs.Run.{state_of, config_of}
-use Rattle.linear_machine.proofs.Turned.{turned}
-use Rattle.linear_machine.proofs.Branches.{some_is, none_is}
+use Rattle.linear_state.specs.Run.{state_of, config_of}
+use Rattle.linear_state.proofs.Turned.{turned}
+use Rattle.linear_state.proofs.Branches.{some_is, none_is}
 use Rattle.linear_machine.proofs.Lists.{there_in, past_in, set_in}
 use Rattle.linear_machine.proofs.effects.write_static.Goals as goal
 

@@ -1,8 +1,8 @@
 use Rattle.std.proofs.Common.{ap, sym, ◌∙◌}
 use Rattle.linear_code.specs.Machine.{returns}
-use Rattle.linear_machine.specs.Run.{config_of}
-use Rattle.linear_machine.proofs.Turned.{turned}
-use Rattle.linear_machine.proofs.Branches.{some_is}
+use Rattle.linear_state.specs.Run.{config_of}
+use Rattle.linear_state.proofs.Turned.{turned}
+use Rattle.linear_state.proofs.Branches.{some_is}
 use Rattle.linear_machine.proofs.gives.give.Goals as goal
 
 pub returns-in-Some : goal.returns-in-Some

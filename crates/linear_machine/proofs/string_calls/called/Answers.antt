@@ -1,8 +1,8 @@
 use Rattle.std.proofs.Common.{◌+◌, sym, ◌∙◌}
 use Rattle.java_core.specs.Statics.{string_seen}
 use Rattle.java_heap.specs.Seen.{value_of}
-use Rattle.linear_machine.specs.Run.{state_of}
-use Rattle.linear_machine.proofs.Branches.{some_is}
+use Rattle.linear_state.specs.Run.{state_of}
+use Rattle.linear_state.proofs.Branches.{some_is}
 use Rattle.linear_machine.proofs.Lists.{taken_one, too_many}
 use Rattle.linear_machine.proofs.string_calls.called.Goals as goal
 

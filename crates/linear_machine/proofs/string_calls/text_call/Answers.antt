@@ -2,9 +2,9 @@ use Rattle.std.proofs.Common.{ap, sym, ◌∙◌, Some}
 use Rattle.std.specs.Prelude.{slice_get}
 use Rattle.java_heap.specs.Seen.{value_of}
 use Rattle.java_meaning.specs.Moment.{Cell, Wrong, own_class, step, stop}
-use Rattle.linear_machine.specs.Run.{state_of}
-use Rattle.linear_machine.proofs.Turned.{turned}
-use Rattle.linear_machine.proofs.Branches.{some_is, within}
+use Rattle.linear_state.specs.Run.{state_of}
+use Rattle.linear_state.proofs.Turned.{turned}
+use Rattle.linear_state.proofs.Branches.{some_is, within}
 use Rattle.linear_machine.proofs.string_calls.text_call.Goals as goal
 
 pub returns-in-Some-Str : goal.returns-in-Some-Str

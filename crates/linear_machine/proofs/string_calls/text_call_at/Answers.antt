@@ -5,9 +5,9 @@ use Rattle.java_core.specs.Statics.{string_seen}
 use Rattle.java_meaning.specs.Moment.{with_some}
 use Rattle.java_meaning.specs.Meaning.{string_call}
 use Rattle.linear_code.specs.Machine.{taken}
-use Rattle.linear_machine.specs.Turns.{to_slot}
-use Rattle.linear_machine.specs.Run.{state_of}
-use Rattle.linear_machine.proofs.Turned.{turned}
+use Rattle.linear_state.specs.Turns.{to_slot}
+use Rattle.linear_state.specs.Run.{state_of}
+use Rattle.linear_state.proofs.Turned.{turned}
 use Rattle.linear_machine.proofs.string_calls.text_call_at.Goals as goal
 
 pub returns-in-Some : goal.returns-in-Some

@@ -1,0 +1,9 @@
+pub mod Works
+pub mod Turned
+pub mod Moves
+pub mod Branches
+pub mod Setting
+pub mod Operators
+pub mod StartLemmas
+pub mod NewCells
+pub mod Stores

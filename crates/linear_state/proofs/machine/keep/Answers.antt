@@ -1,0 +1,10 @@
+use Rattle.std.proofs.Common.{◌+◌, ap, ◌∙◌}
+use Rattle.java_heap.specs.Seen.{value_of}
+use Rattle.linear_code.specs.Machine.{put}
+use Rattle.linear_state.proofs.Moves.{kept_on}
+use Rattle.linear_state.proofs.machine.keep.Goals as goal
+
+pub returns : goal.returns
+returns c =
+    let m = c.args.m.now in
+    kept_on m c.args.is_int c.args.slot (value_of c.args.value) c.put.new.self (c.in_ok-put.ensures ∙ ap (put m.slots (m.base + c.args.slot)) c.as_int.ensures)

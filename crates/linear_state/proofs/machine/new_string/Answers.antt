@@ -1,0 +1,12 @@
+use Rattle.linear_state.specs.Turns.{to_slot}
+use Rattle.linear_state.specs.Run.{state_of}
+use Rattle.linear_state.proofs.Turned.{turned}
+use Rattle.linear_state.proofs.Branches.{string_is}
+use Rattle.linear_state.proofs.machine.new_string.Goals as goal
+
+pub returns : goal.returns
+returns c =
+    let m = c.args.m.now in
+    turned _ _ _ _ _ _ _ _ c.keep.ensures
+    (λ go. string_is c.args.units.items (state_of m)
+    (to_slot m c.args.is_int c.args.slot go) c.in_ok-at.at c.string.new.self c.in_ok-at.ensures.place c.in_ok-at.ensures.strings)
