@@ -4,7 +4,7 @@ use Rattle.std.specs.Prelude.{if◌then◌else◌}
 use Rattle.std.specs.Option.{option_map, option_map_or, is_some}
 use Rattle.std.specs.declared.vec.Vec.{Vec}
 use Rattle.std.specs.declared.alloc.Global.{Global}
-use Rattle.std.proofs.lemmas.Bool.{and_parts, or_cases, or_left, or_right, false≢true}
+use Rattle.std.proofs.lemmas.Bool.{and_parts, or_left, or_right, false≢true}
 use Rattle.std.proofs.lemmas.List.{length-map}
 use Rattle.std.proofs.lemmas.Option.{same_Some, slice_get-map, slice_get_within}
 use Rattle.java_core.specs.declared.Method.{Method}
@@ -18,7 +18,7 @@ use Rattle.java_core.specs.Formed.{IsFormed}
 use Rattle.java_core.specs.Typing.{is_public_method}
 use Rattle.java_core.proofs.Upwards.{contains_cases}
 use Rattle.java_check.specs.ClassOutcome.{first_rule, below_rule, slot_rule, method_rule, class_rule, is_quiet}
-use Rattle.java_check.specs.SlotOutcome.{slot_place, method_place, lowest, bodied_in, bodied_at, shown_in, shown_at, offered_by, is_offered, faced_by, is_faced, bare_place, breaks_in, is_kept_for, is_quiet_for, is_fine_for}
+use Rattle.java_check.specs.SlotOutcome.{slot_place, method_place, lowest, bodied_in, bodied_at, shown_in, shown_at, offered_by, is_offered, faced_by, is_faced, bare_place, breaks_in, is_kept_for, is_quiet_for, is_few, is_fine_for}
 use Rattle.java_check.specs.declared.Kind.{Kind}
 use Rattle.java_check.proofs.Bodied.{class_fine}
 use Rattle.java_check.proofs.Slotted.{AreOfSlot, owned-every, owned-only, lowest-nearest}
@@ -149,9 +149,12 @@ module _ (P : Plain) where
 
     fine_rule : (c : ℕ) → is_fine_for P c bare ms ≡ true → (m : ℕ) (k : PlainMethod) → slice_get P.methods m ≡ Some k → k.slot ≡ Some s
         → is_some k.body ≡ false → method_rule P c k ≡ None
-    fine_rule c fine m k at e none =
-        ⊎_elim (λ kept. kept_one c m k bare (every m k at e none) at kept) (λ quiet. quiet_rule c quiet m k at e none)
-        (or_cases (is_kept_for P c bare) (is_quiet_for P c bare ms) fine)
+    fine_rule c fine m k at e none = go (is_few ms) refl
+      where
+        go : (b : Bool) → is_few ms ≡ b → method_rule P c k ≡ None
+        go true f = quiet_rule c (sym (ap (λ b. if b then is_quiet_for P c bare ms else is_kept_for P c bare) f) ∙ fine) m k at e none
+        go false f =
+            kept_one c m k bare (every m k at e none) at (sym (ap (λ b. if b then is_quiet_for P c bare ms else is_kept_for P c bare) f) ∙ fine)
 
   quiet_each : (c : ℕ) (ks : List PlainMethod) → ((m : ℕ) (k : PlainMethod) → slice_get ks m ≡ Some k → is_some k.body ≡ false → method_rule P c k ≡ None)
       → is_quiet P c ks ≡ true

@@ -10,3 +10,4 @@ pub mod JudgedPrograms
 pub mod Bodied
 pub mod Slotted
 pub mod Fine
+pub mod Same

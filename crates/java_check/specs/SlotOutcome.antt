@@ -1,5 +1,5 @@
 -- What is answered of a class and the methods of one slot.
-use Rattle.std.specs.Prelude.{ℕ, ◌&&◌, ◌||◌, Bool, true, false, not, List, [], ◌∷◌, Option, Some, None, slice_get, if◌then◌else◌}
+use Rattle.std.specs.Prelude.{ℕ, ◌==◌, ◌&&◌, ◌||◌, nat_le, Bool, true, false, not, List, [], ◌∷◌, length, Option, Some, None, slice_get, if◌then◌else◌}
 use Rattle.std.specs.Option.{is_some}
 use Rattle.java_core.specs.declared.Method.{Method}
 use Rattle.java_core.specs.Programs.{Plain, PlainMethod}
@@ -95,6 +95,37 @@ abbrev pub is_kept_for : Plain → ℕ → List ℕ → Bool
 is_kept_for P c [] = true
 is_kept_for P c (m ∷ ms) = not (breaks_in P c (slice_get P.methods m)) && is_kept_for P c ms
 
--- either of the two, by how many methods the slot has
+-- whether so few methods of a slot are gone through for the nearest of them
+abbrev pub is_few : List ℕ → Bool
+is_few ms = nat_le (length ms) 64
+
+-- one of the two, by how many methods the slot has
 abbrev pub is_fine_for : Plain → ℕ → List ℕ → List ℕ → Bool
-is_fine_for P c bare ms = is_kept_for P c bare || is_quiet_for P c bare ms
+is_fine_for P c bare ms = if is_few ms then is_quiet_for P c bare ms else is_kept_for P c bare
+
+-- whether both hold or neither does
+abbrev pub agree : Bool → Bool → Bool
+agree one other = if one then other else not other
+
+-- whether two methods stand in one class, both with a body or both without, both public or neither
+abbrev pub is_alike : PlainMethod → PlainMethod → Bool
+is_alike k j = (k.owner == j.owner) && (agree (is_some k.body) (is_some j.body) && agree k.is_public j.is_public)
+
+abbrev pub alike_with : PlainMethod → Option PlainMethod → Bool
+alike_with k None = false
+alike_with k (Some j) = is_alike k j
+
+abbrev pub alike_in : Option PlainMethod → Option PlainMethod → Bool
+alike_in None other = false
+alike_in (Some k) other = alike_with k other
+
+-- whether as many methods are alike place by place
+abbrev pub are_alike : Plain → List ℕ → List ℕ → Bool
+are_alike P [] [] = true
+are_alike P [] (n ∷ ns) = false
+are_alike P (m ∷ ms) [] = false
+are_alike P (m ∷ ms) (n ∷ ns) = alike_in (slice_get P.methods m) (slice_get P.methods n) && are_alike P ms ns
+
+-- whether two slots of few methods have alike methods, and alike ones without a body
+abbrev pub is_same : Plain → List ℕ → List ℕ → List ℕ → List ℕ → Bool
+is_same P bare ms other_bare other = (is_few ms && is_few other) && (are_alike P ms other && are_alike P bare other_bare)

@@ -1,20 +1,20 @@
 //! The rules of types for the slots of methods without a body, slot by slot: how many of the first classes break none.
 
 ghost use Rattle.std.specs.Prelude.{◌≡◌, ℕ, ◌<◌, ◌≤◌, ◌++◌, ◌∷◌, ◌==◌, [], true, false, None, cond, length, map, slice_get, IfOk, OnOk};
+ghost use Rattle.std.specs.Option.{is_some};
 ghost use Rattle.java_core.specs.Trees.{no_place};
 ghost use Rattle.java_core.specs.Programs.{program_of, method_seen};
 ghost use Rattle.java_core.specs.Owned.{AreOwned, listed};
 ghost use Rattle.java_core.specs.Formed.{IsFormed};
+ghost use Rattle.java_check.specs.ClassOutcome.{method_rule};
 ghost use Rattle.java_check.specs.SlotOutcome.{slot_place, method_place, stands_above, is_lower, lower, lowest, bodied_at, shown_at, offered_by, is_offered, faced_by, is_faced, bare_place, breaks_in, is_kept_for, is_quiet_for, is_fine_for};
 
+use crate::alike::{is_few, is_same};
 use crate::classes::{is_interface, rule_for};
 use crate::expressions::is_concrete;
 use java_core::{Method, Program, is_subtype};
 use kaba_base::ClassId;
 use std::alloc::{AllocError, Global};
-
-/// How many methods of a slot are gone through for the nearest of them; where a slot has more, each class looks for it upwards.
-const FEW: usize = 64;
 
 /// Lists up to the one of a number at least.
 fn reach(alloc: Global, lists: &mut Vec<Vec<usize>>, at: usize) -> Result<(), AllocError>
@@ -244,30 +244,6 @@ fn is_quiet_for(p: &Program, class: ClassId, bare: &[usize], list: &[usize]) -> 
         && (shown_at(p, nearest) || !is_faced(p, class, bare))
 }
 
-/// Whether a class or an interface breaks a rule for a method.
-fn breaks_at(p: &Program, class: ClassId, at: usize) -> bool
-    requires { IsFormed (program_of no_place p.now) }
-    ensures { result ≡ breaks_in (program_of no_place p.now) class.0 (slice_get (program_of no_place p.now).methods at) }
-{
-    match p.methods.get(at) {
-        Some(method) => rule_for(p, class, method).is_some(),
-        None => false,
-    }
-}
-
-/// Whether a class or an interface breaks no rule for one of these methods.
-fn is_kept_for(p: &Program, class: ClassId, bare: &[usize]) -> bool
-    requires { IsFormed (program_of no_place p.now) }
-    ensures { result ≡ is_kept_for (program_of no_place p.now) class.0 bare.now }
-{
-    for at in bare {
-        if breaks_at(p, class, *at) {
-            return false;
-        }
-    }
-    true
-}
-
 /// How many of so many first classes break no rule for these methods of a slot without a body; the slot has those of the list.
 fn fine_for_few(p: &Program, bare: &[usize], list: &[usize], until: usize) -> usize
     requires formed { IsFormed (program_of no_place p.now) }
@@ -283,6 +259,34 @@ fn fine_for_few(p: &Program, bare: &[usize], list: &[usize], until: usize) -> us
     until
 }
 
+/// How many of so many first classes break no rule for a method.
+fn fine_for_method(p: &Program, method: &Method, until: usize) -> usize
+    requires formed { IsFormed (program_of no_place p.now) }
+    requires few { until ≤ length p.now.classes.items }
+    ensures within { result ≤ until }
+    ensures fine { (c : ℕ) → c < result → is_some (method_rule (program_of no_place p.now) c (method_seen no_place method.now)) ≡ false }
+{
+    for class in 0..until {
+        if rule_for(p, ClassId(class as u32), method).is_some() {
+            return class;
+        }
+    }
+    until
+}
+
+/// The same for the method of a number; all, where there is none.
+fn fine_for_one(p: &Program, at: usize, until: usize) -> usize
+    requires formed { IsFormed (program_of no_place p.now) }
+    requires few { until ≤ length p.now.classes.items }
+    ensures within { result ≤ until }
+    ensures fine { (c : ℕ) → c < result → breaks_in (program_of no_place p.now) c (slice_get (program_of no_place p.now).methods at) ≡ false }
+{
+    match p.methods.get(at) {
+        Some(method) => fine_for_method(p, method, until),
+        None => until,
+    }
+}
+
 /// How many of so many first classes break no rule for these methods, each looked up.
 fn fine_for_many(p: &Program, bare: &[usize], until: usize) -> usize
     requires formed { IsFormed (program_of no_place p.now) }
@@ -290,12 +294,11 @@ fn fine_for_many(p: &Program, bare: &[usize], until: usize) -> usize
     ensures within { result ≤ until }
     ensures fine { (c : ℕ) → c < result → is_kept_for (program_of no_place p.now) c bare.now ≡ true }
 {
-    for class in 0..until {
-        if !is_kept_for(p, ClassId(class as u32), bare) {
-            return class;
-        }
+    let mut fine = until;
+    for at in bare {
+        fine = fine_for_one(p, *at, fine);
     }
-    until
+    fine
 }
 
 /// How many of so many first classes break no rule for these methods of a slot without a body; the slot has those of the list.
@@ -308,11 +311,43 @@ fn fine_for(p: &Program, bare: &[usize], list: &[usize], until: usize) -> usize
     if bare.is_empty() {
         return until;
     }
-    if list.len() <= FEW {
+    if is_few(list) {
         fine_for_few(p, bare, list, until)
     } else {
         fine_for_many(p, bare, until)
     }
+}
+
+/// How many of so many first classes break no rule for a slot, where they break none for the slots before it.
+fn fine_at(
+    p: &Program,
+    bare: &Vec<Vec<usize>>,
+    lists: &Vec<Vec<usize>>,
+    slot: usize,
+    until: usize,
+) -> usize
+    requires formed { IsFormed (program_of no_place p.now) }
+    requires few { until ≤ length p.now.classes.items }
+    requires before { (s c : ℕ) → s < slot → c < until
+        → is_fine_for (program_of no_place p.now) c (listed bare.now.items s) (listed lists.now.items s) ≡ true }
+    ensures within { result ≤ until }
+    ensures fine { (c : ℕ) → c < result
+        → is_fine_for (program_of no_place p.now) c (listed bare.now.items slot) (listed lists.now.items slot) ≡ true }
+{
+    let without = listed(bare, slot);
+    let all = listed(lists, slot);
+    if slot > 0
+        && is_same(
+            p,
+            listed(bare, slot - 1),
+            listed(lists, slot - 1),
+            without,
+            all,
+        )
+    {
+        return until;
+    }
+    fine_for(p, without, all, until)
 }
 
 /// How many of the first classes and interfaces break no rule for a slot of a method without a body.
@@ -323,9 +358,7 @@ pub(crate) fn fine_for_all(p: &Program, bare: &Vec<Vec<usize>>, lists: &Vec<Vec<
 {
     let mut until = p.classes.len();
     for slot in 0..p.slots.len() {
-        let without = listed(bare, slot);
-        let all = listed(lists, slot);
-        until = fine_for(p, without, all, until);
+        until = fine_at(p, bare, lists, slot, until);
     }
     until
 }

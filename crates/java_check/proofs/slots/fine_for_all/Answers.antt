@@ -11,14 +11,12 @@ loop-slot-preserved c =
     let P = program_of no_place c.args.p.now in
     let bare = c.args.bare.now.items in
     let lists = c.args.lists.now.items in
-    let until = c.fine_for-until.result in
-    let within = c.fine_for-until.ensures.within in (
+    let until = c.fine_at-until.result in
+    let within = c.fine_at-until.ensures.within in (
       omega (arith, within, c.loop-slot.invariant.0),
       λ s k lt few.
           ⊎_elim (λ less. c.loop-slot.invariant.1 s k less (omega (arith, few, within)))
           (λ more. let same : c.loop-slot.slot ≡ s = omega (arith, lt, more) in
-          subst (λ i. is_fine_for P k (listed bare i) (listed lists i) ≡ true) same
-          (subst (λ ms. is_fine_for P k (listed bare c.loop-slot.slot) ms ≡ true) c.listed-all.ensures
-          (subst (λ ms. is_fine_for P k ms c.listed-all.result.now ≡ true) c.listed-without.ensures (c.fine_for-until.ensures.fine k few))))
+          subst (λ i. is_fine_for P k (listed bare i) (listed lists i) ≡ true) same (c.fine_at-until.ensures.fine k few))
           (cases_lt s c.loop-slot.slot),
     )
