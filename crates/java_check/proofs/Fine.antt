@@ -37,7 +37,7 @@ quiet_first false bod false true false e f = absurd (false≢true f)
 quiet_first false bod false false p e f = refl
 
 module _ (P : Plain) where
-  bodied_same : (o : Option ℕ) → bodied_at P o ≡ option_map_or (has_body P) o false
+  pub bodied_same : (o : Option ℕ) → bodied_at P o ≡ option_map_or (has_body P) o false
   bodied_same None = refl
   bodied_same (Some d) = go (slice_get P.methods d)
     where
@@ -45,7 +45,7 @@ module _ (P : Plain) where
       go None = refl
       go (Some k) = refl
 
-  shown_same : (o : Option ℕ) → shown_at P o ≡ is_public_method P o
+  pub shown_same : (o : Option ℕ) → shown_at P o ≡ is_public_method P o
   shown_same None = refl
   shown_same (Some d) = go (slice_get P.methods d) refl
     where
@@ -209,6 +209,14 @@ module _ (p : Program) where
       slotted : (o : Option ℕ) → slot_place (length p.slots.items) o ≡ s → o ≡ Some s
       slotted None e = absurd (omega (arith, lt, e))
       slotted (Some r) e = ap Some e
+
+  -- the nearest declaration is found among the listed methods of the slot
+  pub listed_nearest : IsFormed (program_of no_place p) → (lists : List (Vec ℕ Global))
+      → AreOwned (map (λ m. method_place (length p.slots.items) m) p.methods.items) lists → (s : ℕ) → s < length p.slots.items
+      → (c : ℕ) → is_interface (program_of no_place p) c ≡ false
+      → nearest_declaration (program_of no_place p) c s ≡ lowest (program_of no_place p) c None (listed lists s)
+  unfolding P places
+  listed_nearest formed lists owned s few c class = lowest-nearest P formed s c (listed lists s) (of_slot lists owned s few) class
 
   bare_places : List ℕ
   bare_places = map (λ m. bare_place (length p.slots.items) m) p.methods.items

@@ -5,6 +5,7 @@ mod alike;
 mod callees;
 mod classes;
 mod expressions;
+mod nearest;
 mod programs;
 mod slots;
 mod statements;

@@ -101,7 +101,7 @@ pub(crate) fn bare_of_slots(
 }
 
 /// The numbers that lists have under a number.
-fn listed(lists: &Vec<Vec<usize>>, at: usize) -> &[usize]
+pub(crate) fn listed(lists: &Vec<Vec<usize>>, at: usize) -> &[usize]
     ensures { result.now ≡ listed lists.now.items at }
 {
     match lists.get(at) {
@@ -146,7 +146,7 @@ fn lower(p: &Program, class: ClassId, nearest: Option<usize>, at: usize) -> Opti
 }
 
 /// The nearest of the methods of a slot in a class and its superclasses.
-fn lowest(p: &Program, class: ClassId, list: &[usize]) -> Option<usize>
+pub(crate) fn lowest(p: &Program, class: ClassId, list: &[usize]) -> Option<usize>
     requires { IsFormed (program_of no_place p.now) }
     ensures { result ≡ lowest (program_of no_place p.now) class.0 None list.now }
 {
@@ -158,7 +158,7 @@ fn lowest(p: &Program, class: ClassId, list: &[usize]) -> Option<usize>
 }
 
 /// Whether there is a method, and it has a body.
-fn bodied_at(p: &Program, at: Option<usize>) -> bool
+pub(crate) fn bodied_at(p: &Program, at: Option<usize>) -> bool
     ensures { result ≡ bodied_at (program_of no_place p.now) at }
 {
     match at {
@@ -171,7 +171,7 @@ fn bodied_at(p: &Program, at: Option<usize>) -> bool
 }
 
 /// Whether a method, where there is one, is public.
-fn shown_at(p: &Program, at: Option<usize>) -> bool
+pub(crate) fn shown_at(p: &Program, at: Option<usize>) -> bool
     ensures { result ≡ shown_at (program_of no_place p.now) at }
 {
     match at {
