@@ -18,7 +18,7 @@ use Rattle.java_core.specs.Formed.{IsFormed}
 use Rattle.java_core.specs.Typing.{is_public_method}
 use Rattle.java_core.proofs.Upwards.{contains_cases}
 use Rattle.java_check.specs.ClassOutcome.{first_rule, below_rule, slot_rule, method_rule, class_rule, is_quiet}
-use Rattle.java_check.specs.SlotOutcome.{slot_place, method_place, lowest, bodied_in, bodied_at, shown_in, shown_at, offered_by, is_offered, faced_by, is_faced, bare_place, breaks_in, is_kept_for, is_quiet_for, is_few, is_fine_for}
+use Rattle.java_check.specs.SlotOutcome.{slot_place, method_place, lowest, bodied_in, bodied_at, shown_in, shown_at, offered_by, is_offered, faced_by, is_faced, bare_place, breaks_in, is_kept_for, is_quiet_for, is_few, is_fine_for, is_asked}
 use Rattle.java_check.specs.declared.Kind.{Kind}
 use Rattle.java_check.proofs.Bodied.{class_fine}
 use Rattle.java_check.proofs.Slotted.{AreOfSlot, owned-every, owned-only, lowest-nearest}
@@ -35,6 +35,16 @@ quiet_first false bod true own p e f = refl
 quiet_first false bod false true true e f = refl
 quiet_first false bod false true false e f = absurd (false≢true f)
 quiet_first false bod false false p e f = refl
+
+-- nor where nothing is asked
+unasked_first : (con bod int own p : Bool) → (int ≡ true → con ≡ false) → not int && (own || con) ≡ false
+    → first_rule (con && not bod) (not int && (own && not p)) ≡ None
+unasked_first true bod true own p h e = absurd (false≢true (sym (h refl)))
+unasked_first false bod true own p h e = refl
+unasked_first true bod false true p h e = absurd (false≢true (sym e))
+unasked_first true bod false false p h e = absurd (false≢true (sym e))
+unasked_first false bod false true p h e = absurd (false≢true (sym e))
+unasked_first false bod false false p h e = refl
 
 module _ (P : Plain) where
   pub bodied_same : (o : Option ℕ) → bodied_at P o ≡ option_map_or (has_body P) o false
@@ -95,6 +105,20 @@ module _ (P : Plain) where
       go : (o : Option PlainClass) → slice_get P.classes c ≡ o → is_concrete P c ≡ false
       go None at = rw at refl
       go (Some k) at = rw at (named k k.is_interface refl (let f : k.is_interface ≡ is_interface P c = sym (rw at refl) in f ∙ e))
+
+  -- a class of which nothing is asked breaks no rule for a method
+  pub unasked : (c : ℕ) (k : PlainMethod) → is_asked P c (is_interface P k.owner) ≡ false → method_rule P c k ≡ None
+  unasked c k e = by_slot k.slot
+    where
+      by_below : (s : ℕ) (b : Bool) → below_rule P c k.owner s b ≡ None
+      by_below s false = refl
+      by_below s true =
+          unasked_first (is_concrete P c) (option_map_or (has_body P) (nearest_declaration P c s) false) (is_interface P c) (is_interface P k.owner)
+          (is_public_method P (nearest_declaration P c s)) (no_objects c) e
+
+      by_slot : (o : Option ℕ) → slot_rule P c k.owner o ≡ None
+      by_slot None = refl
+      by_slot (Some s) = by_below s (below P c k.owner)
 
   and_true : {a b : Bool} → a ≡ true → b ≡ true → a && b ≡ true
   and_true e f = rw (e, f) refl

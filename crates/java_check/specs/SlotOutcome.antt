@@ -85,6 +85,10 @@ is_quiet_for P c bare ms =
     || ((bodied_at P (lowest P c None ms) || not (is_concrete P c))
     && (shown_at P (lowest P c None ms) || not (is_faced P c bare)))
 
+-- whether c can break a rule for a method of an interface, or else of a class
+abbrev pub is_asked : Plain → ℕ → Bool → Bool
+is_asked P c of_interface = not (is_interface P c) && (of_interface || is_concrete P c)
+
 -- whether c breaks a rule for a method
 abbrev pub breaks_in : Plain → ℕ → Option PlainMethod → Bool
 breaks_in P c None = false

@@ -5,9 +5,10 @@ ghost use Rattle.std.specs.Option.{is_some};
 ghost use Rattle.java_core.specs.Trees.{no_place};
 ghost use Rattle.java_core.specs.Programs.{program_of, method_seen};
 ghost use Rattle.java_core.specs.Owned.{AreOwned, listed};
+ghost use Rattle.java_core.specs.Classes as classes;
 ghost use Rattle.java_core.specs.Formed.{IsFormed};
 ghost use Rattle.java_check.specs.ClassOutcome.{method_rule};
-ghost use Rattle.java_check.specs.SlotOutcome.{slot_place, method_place, stands_above, is_lower, lower, lowest, bodied_at, shown_at, offered_by, is_offered, faced_by, is_faced, bare_place, breaks_in, is_kept_for, is_quiet_for, is_fine_for};
+ghost use Rattle.java_check.specs.SlotOutcome.{slot_place, method_place, stands_above, is_lower, lower, lowest, bodied_at, shown_at, offered_by, is_offered, faced_by, is_faced, bare_place, breaks_in, is_kept_for, is_quiet_for, is_fine_for, is_asked};
 
 use crate::alike::{is_few, is_same};
 use crate::classes::{is_interface, rule_for};
@@ -259,6 +260,26 @@ fn fine_for_few(p: &Program, bare: &[usize], list: &[usize], until: usize) -> us
     until
 }
 
+/// Whether a class can break a rule for a method of an interface, or else of a class: an interface breaks none, and a class of which
+/// no objects are made none for a method of a class.
+fn is_asked(p: &Program, class: ClassId, of_interface: bool) -> bool
+    ensures { result ≡ is_asked (program_of no_place p.now) class.0 of_interface }
+{
+    !is_interface(p, class) && (of_interface || is_concrete(p, class))
+}
+
+/// Whether a class or an interface breaks a rule for a method, which stands in an interface or not.
+fn is_broken(p: &Program, class: ClassId, method: &Method, of_interface: bool) -> bool
+    requires formed { IsFormed (program_of no_place p.now) }
+    requires owner { of_interface ≡ classes.is_interface (program_of no_place p.now) method.now.owner.0 }
+    ensures { result ≡ is_some (method_rule (program_of no_place p.now) class.0 (method_seen no_place method.now)) }
+{
+    if !is_asked(p, class, of_interface) {
+        return false;
+    }
+    rule_for(p, class, method).is_some()
+}
+
 /// How many of so many first classes break no rule for a method.
 fn fine_for_method(p: &Program, method: &Method, until: usize) -> usize
     requires formed { IsFormed (program_of no_place p.now) }
@@ -266,8 +287,9 @@ fn fine_for_method(p: &Program, method: &Method, until: usize) -> usize
     ensures within { result ≤ until }
     ensures fine { (c : ℕ) → c < result → is_some (method_rule (program_of no_place p.now) c (method_seen no_place method.now)) ≡ false }
 {
+    let of_interface = is_interface(p, method.owner);
     for class in 0..until {
-        if rule_for(p, ClassId(class as u32), method).is_some() {
+        if is_broken(p, ClassId(class as u32), method, of_interface) {
             return class;
         }
     }

@@ -1,4 +1,4 @@
-use Rattle.std.proofs.Common.{◌≡◌, false, sym, ◌∙◌, ap, subst, ⊎_elim, arith}
+use Rattle.std.proofs.Common.{◌≡◌, false, sym, ◌∙◌, subst, ⊎_elim, arith}
 use Rattle.std.proofs.lemmas.Bool.{cases_lt}
 use Rattle.std.specs.Option.{is_some}
 use Rattle.java_core.specs.Trees.{no_place}
@@ -10,7 +10,7 @@ pub loop-class-preserved : goal.loop-class-preserved
 loop-class-preserved c = λ k lt.
     let P = program_of no_place c.args.p.now in
     let m = method_seen no_place c.args.method.now in
-    let none : is_some (method_rule P c.loop-class.class m) ≡ false = ap is_some (sym c.rule_for.ensures) ∙ (sym c.is_some.ensures ∙ c.if-is_some.false) in
+    let none : is_some (method_rule P c.loop-class.class m) ≡ false = sym c.is_broken.ensures ∙ c.if-is_broken.false in
     ⊎_elim (λ less. c.loop-class.invariant k less)
     (λ more. let same : c.loop-class.class ≡ k = omega (arith, lt, more) in subst (λ i. is_some (method_rule P i m) ≡ false) same none)
     (cases_lt k c.loop-class.class)
