@@ -120,6 +120,14 @@ module _ (P : Plain) where
       by_slot None = refl
       by_slot (Some s) = by_below s (below P c k.owner)
 
+  -- nor does one that is not at or below its class
+  pub unoffered : (c : ℕ) (k : PlainMethod) → below P c k.owner ≡ false → method_rule P c k ≡ None
+  unoffered c k e = by_slot k.slot
+    where
+      by_slot : (o : Option ℕ) → slot_rule P c k.owner o ≡ None
+      by_slot None = refl
+      by_slot (Some s) = ap (below_rule P c k.owner s) e
+
   and_true : {a b : Bool} → a ≡ true → b ≡ true → a && b ≡ true
   and_true e f = rw (e, f) refl
 

@@ -1,5 +1,5 @@
 -- Slots whose methods look the same: a class keeps the rules of both or of none.
-use Rattle.std.proofs.Common.{◌≡◌, ◌==◌, ◌&&◌, ◌||◌, ◌∷◌, ℕ, suc, Bool, true, false, not, List, [], Option, Some, None, length, refl, sym, ap, ◌∙◌, slice_get}
+use Rattle.std.proofs.Common.{◌≡◌, ◌==◌, ◌&&◌, ◌||◌, ◌∷◌, ℕ, suc, Bool, true, false, not, List, [], Option, Some, None, length, refl, sym, ap, ◌∙◌, arith, slice_get, slice_index_or}
 use Rattle.std.specs.Prelude.{if◌then◌else◌}
 use Rattle.std.specs.Option.{is_some}
 use Rattle.std.proofs.lemmas.Bool.{and_parts, eqb-true, false≢true}
@@ -40,7 +40,17 @@ and_no : (b : Bool) → b && false ≡ false
 and_no true = refl
 and_no false = refl
 
+or_no : (b : Bool) → b || false ≡ b
+or_no true = refl
+or_no false = refl
+
 module _ (P : Plain) where
+  -- of one method alone only that one is offered
+  pub offered_alone : (ms : List ℕ) → length ms ≡ 1 → (c : ℕ) → is_offered P c ms ≡ offered_by P c (slice_get P.methods (slice_index_or ms 0 0))
+  offered_alone [] e c = absurd (omega (arith, e))
+  offered_alone (m ∷ []) e c = or_no (offered_by P c (slice_get P.methods m))
+  offered_alone (m ∷ (n ∷ ms)) e c = absurd (omega (arith, e))
+
   -- lists of other lengths are not alike
   pub unlike : (ms ns : List ℕ) → (length ms ≡ length ns → ⊥) → are_alike P ms ns ≡ false
   unlike [] [] h = absurd (h refl)

@@ -1,11 +1,12 @@
 //! The rules of types for the slots of methods without a body, slot by slot: how many of the first classes break none.
 
-ghost use Rattle.std.specs.Prelude.{◌≡◌, ℕ, ◌<◌, ◌≤◌, ◌++◌, ◌∷◌, ◌==◌, [], true, false, None, cond, length, map, slice_get, IfOk, OnOk};
+ghost use Rattle.std.specs.Prelude.{◌≡◌, ℕ, ◌<◌, ◌≤◌, ◌++◌, ◌∷◌, ◌==◌, [], true, false, None, cond, length, map, slice_get, IfOk, IfSome, OnOk};
 ghost use Rattle.std.specs.Option.{is_some};
 ghost use Rattle.java_core.specs.Trees.{no_place};
 ghost use Rattle.java_core.specs.Programs.{program_of, method_seen};
 ghost use Rattle.java_core.specs.Owned.{AreOwned, listed};
 ghost use Rattle.java_core.specs.Classes as classes;
+ghost use Rattle.java_core.specs.Classes.{below};
 ghost use Rattle.java_core.specs.Formed.{IsFormed};
 ghost use Rattle.java_check.specs.ClassOutcome.{method_rule};
 ghost use Rattle.java_check.specs.SlotOutcome.{slot_place, method_place, stands_above, is_lower, lower, lowest, bodied_at, shown_at, offered_by, is_offered, faced_by, is_faced, bare_place, breaks_in, is_kept_for, is_quiet_for, is_fine_for, is_asked};
@@ -245,6 +246,47 @@ fn is_quiet_for(p: &Program, class: ClassId, bare: &[usize], list: &[usize]) -> 
         && (shown_at(p, nearest) || !is_faced(p, class, bare))
 }
 
+/// The class or interface in which the method of a number stands.
+fn owner_at(p: &Program, at: usize) -> Option<ClassId>
+    ensures { IfSome result (λ o. (c : ℕ) → offered_by (program_of no_place p.now) c (slice_get (program_of no_place p.now).methods at)
+        ≡ below (program_of no_place p.now) c o.0) }
+{
+    match p.methods.get(at) {
+        Some(method) => Some(method.owner),
+        None => None,
+    }
+}
+
+/// The class or interface of the one method, where there is only one.
+fn only_owner(p: &Program, bare: &[usize]) -> Option<ClassId>
+    ensures { IfSome result (λ o. (c : ℕ) → is_offered (program_of no_place p.now) c bare.now ≡ below (program_of no_place p.now) c o.0) }
+{
+    if bare.len() != 1 {
+        return None;
+    }
+    owner_at(p, bare[0])
+}
+
+/// The same as `is_quiet_for`, sooner where the one method without a body stands in a class that is known.
+fn is_quiet_under(
+    p: &Program,
+    class: ClassId,
+    only: Option<ClassId>,
+    bare: &[usize],
+    list: &[usize],
+) -> bool
+    requires formed { IsFormed (program_of no_place p.now) }
+    requires only { IfSome only (λ o. (c : ℕ) → is_offered (program_of no_place p.now) c bare.now ≡ below (program_of no_place p.now) c o.0) }
+    ensures { result ≡ is_quiet_for (program_of no_place p.now) class.0 bare.now list.now }
+{
+    if let Some(owner) = only {
+        if !is_subtype(p, class, owner) {
+            return true;
+        }
+    }
+    is_quiet_for(p, class, bare, list)
+}
+
 /// How many of so many first classes break no rule for these methods of a slot without a body; the slot has those of the list.
 fn fine_for_few(p: &Program, bare: &[usize], list: &[usize], until: usize) -> usize
     requires formed { IsFormed (program_of no_place p.now) }
@@ -252,8 +294,9 @@ fn fine_for_few(p: &Program, bare: &[usize], list: &[usize], until: usize) -> us
     ensures within { result ≤ until }
     ensures fine { (c : ℕ) → c < result → is_quiet_for (program_of no_place p.now) c bare.now list.now ≡ true }
 {
+    let only = only_owner(p, bare);
     for class in 0..until {
-        if !is_quiet_for(p, ClassId(class as u32), bare, list) {
+        if !is_quiet_under(p, ClassId(class as u32), only, bare, list) {
             return class;
         }
     }
@@ -274,6 +317,9 @@ fn is_broken(p: &Program, class: ClassId, method: &Method, of_interface: bool) -
     requires owner { of_interface ≡ classes.is_interface (program_of no_place p.now) method.now.owner.0 }
     ensures { result ≡ is_some (method_rule (program_of no_place p.now) class.0 (method_seen no_place method.now)) }
 {
+    if !is_subtype(p, class, method.owner) {
+        return false;
+    }
     if !is_asked(p, class, of_interface) {
         return false;
     }
