@@ -1,6 +1,6 @@
 //! Slots whose methods look the same to the rules of types, so that each class keeps the rules of both or of none.
 
-ghost use Rattle.std.specs.Prelude.{◌≡◌, true, slice_get};
+ghost use Rattle.std.specs.Prelude.{◌≡◌, slice_get};
 ghost use Rattle.java_core.specs.Trees.{no_place};
 ghost use Rattle.java_core.specs.Programs.{program_of, method_seen};
 ghost use Rattle.java_check.specs.SlotOutcome.{is_few, agree, is_alike, alike_in, are_alike, is_same};
