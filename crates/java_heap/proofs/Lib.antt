@@ -3,3 +3,4 @@ pub mod Lying
 pub mod Paired
 pub mod Stored
 pub mod Units
+pub mod Unpacked

@@ -1,7 +1,7 @@
 -- The heap after a cell is added or a value is put, and what is read of it.
-use Rattle.std.proofs.Common.{◌≡◌, ℕ, ◌+◌, ◌<◌, ◌≤◌, List, [], ◌∷◌, ◌++◌, Option, Some, None, length, get_or, take, drop, ap, refl, sym, subst, ◌∙◌, arith, length-append}
+use Rattle.std.proofs.Common.{◌≡◌, ℕ, ◌+◌, ◌<◌, ◌≤◌, List, [], ◌∷◌, ◌++◌, Option, Some, None, length, get_or, ap, refl, sym, subst, ◌∙◌, arith, length-append}
 use Rattle.std.proofs.Math.ListN.{set}
-use Rattle.std.proofs.lemmas.List.{length-map, map-append, length-take, length-set, take_all, get_or-take, get_or-drop}
+use Rattle.std.proofs.lemmas.List.{length-map, map-append, length-set}
 use Rattle.std.proofs.lemmas.Option.{slice_get-map, slice_get-get_or}
 use Rattle.std.specs.Prelude.{map, replicate, slice_get}
 use Rattle.std.specs.Option.{option_map, option_and_then, IfSome}
@@ -169,8 +169,5 @@ module _ (ls ms : List Label) (ss rs : List Span) (vs ws ys : List Value) (is : 
       }
 
 -- so many copies of a value are added
-pub filled : (vs ws : List Value) (end m : ℕ) (x : Value) → ws ≡ take end vs ++ replicate m x → length vs ≤ end → ws ≡ vs ++ replicate m x
-filled vs ws end m x w le = w ∙ ap (λ l. l ++ replicate m x) (take_all end vs le)
-
 pub copies_of : (m count : ℕ) (x : Value) (d : moment.Value) → m ≡ count → value_of x ≡ d → map value_of (replicate m x) ≡ replicate count d
 copies_of m count x d e q = map_replicate value_of m x ∙ ap (λ n. replicate n (value_of x)) e ∙ ap (replicate count) q

@@ -5,6 +5,7 @@ ghost use Rattle.std.specs.Option.{option_map};
 ghost use Rattle.java_heap.specs.Seen.{value_of};
 ghost use Rattle.java_heap.specs.Cells.{values_in};
 
+use crate::packed::Packed;
 use crate::values::{Value, default_of};
 use java_core::{Fault, Ty};
 use kaba_base::{ClassId, SiteId};
@@ -42,7 +43,7 @@ pub struct Heap {
     labels: Vec<Label>,
     spans: Vec<Span>,
     /// The values of all cells, those of one behind those of the cells before it.
-    values: Vec<Value>,
+    values: Packed,
 }
 
 impl Model for Heap {
@@ -51,9 +52,9 @@ impl Model for Heap {
 
     ghost Value = { Store };
 
-    ghost view = { λ h. record { strings = map (λ u. u.items) h.texts.items; cells = cells_of h.labels.items h.spans.items h.values.items } };
+    ghost view = { λ h. record { strings = map (λ u. u.items) h.texts.items; cells = cells_of h.labels.items h.spans.items h.values } };
 
-    ghost invariant = { λ h. IsHeap h.labels.items h.spans.items h.values.items };
+    ghost invariant = { λ h. IsHeap h.labels.items h.spans.items h.values };
 }
 
 impl Heap {
@@ -72,7 +73,7 @@ impl Heap {
             texts: Vec::new(alloc),
             labels: Vec::new(alloc),
             spans: Vec::new(alloc),
-            values: Vec::new(alloc),
+            values: Packed::new(alloc),
         }
     }
 
@@ -151,7 +152,7 @@ impl Heap {
         let at = place(self.labels.len())?;
         let start = place(self.values.len())?;
         let len = place(values.len())?;
-        self.values.extend_from_slice(values)?;
+        self.values.extend(values)?;
         push_cell(
             &mut self.labels,
             &mut self.spans,
@@ -207,7 +208,7 @@ impl Heap {
         ensures value { IfSome (slice_get self.old.cells at) (λ c. self.new ≡ record self.old { cells = slice_set self.old.cells at (record c { values = slice_set c.values place (value_of value) }) }) }
     {
         let start = self.spans[at as usize].start;
-        self.values[start as usize + place as usize] = value;
+        self.values.set(start as usize + place as usize, value);
     }
 
     /// The units of a string; `None` where there is none.
@@ -273,12 +274,12 @@ fn span_at(spans: &[Span], at: u32) -> Option<Span>
 
 /// A value of a cell, whose values are there; `None` where it has fewer.
 #[inline(always)]
-fn value_in(values: &[Value], span: Span, place: u32) -> Option<Value>
+fn value_in(values: &Packed, span: Span, place: u32) -> Option<Value>
     requires { span.start + span.len ≤ length values.now }
     ensures { option_map value_of result ≡ slice_get (map value_of (values_in values.now span)) place }
 {
     if place < span.len {
-        Some(values[span.start as usize + place as usize])
+        Some(values.get(span.start as usize + place as usize))
     } else {
         None
     }

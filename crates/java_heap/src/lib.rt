@@ -4,6 +4,7 @@
 
 mod heap;
 mod numbers;
+mod packed;
 mod printing;
 mod values;
 

@@ -9,7 +9,7 @@ pub returns : goal.returns
 returns c =
     let ls = c.self.inside.labels.items in
     let ss = c.self.inside.spans.items in
-    let vs = c.self.inside.values.items in
+    let vs = c.self.inside.values in
     record {
       value =
           kind_found _ c.args.self.now ls ss vs c.self.view_is c.self.invariant c.args.at c.kind_at.result

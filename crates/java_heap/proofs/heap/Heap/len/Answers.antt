@@ -6,7 +6,7 @@ pub index-requires : goal.index-requires
 index-requires c =
     let ls = c.self.inside.labels.items in
     let ss = c.self.inside.spans.items in
-    let vs = c.self.inside.values.items in
+    let vs = c.self.inside.values in
     let within : c.args.at < length ss = span_within _ c.args.self.now ls ss vs c.self.view_is c.self.invariant c.args.at c.requires in
     omega (arith, c.self.inside.spans.ok.0)
 
@@ -14,5 +14,5 @@ pub returns : goal.returns
 returns c =
     let ls = c.self.inside.labels.items in
     let ss = c.self.inside.spans.items in
-    let vs = c.self.inside.values.items in
+    let vs = c.self.inside.values in
     record { value = count_there _ c.args.self.now ls ss vs c.self.view_is c.self.invariant c.args.at c.index.result.now c.requires c.index.ensures }
