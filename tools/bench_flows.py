@@ -1,4 +1,5 @@
 """Texts of one shape each, near the limits of the program, that the analysis meets, at four sizes."""
+from bench_shapes import overriding
 
 SECONDS, MEGABYTES = 60, 2048
 
@@ -69,6 +70,7 @@ FLOWS = [
     ("methods of a class, each called on twice as many objects", methods, (500, 1000, 2000, 4000)),
     ("bodies of a method, with ten times as many calls", bodies, (250, 500, 1000, 2000)),
     ("variables that have each of as many fields", each_with_all, (500, 1000, 2000, 4000)),
+    ("classes one below the other, each with a method that overrides and calls the one above", overriding, (500, 1000, 2000, 4000)),
 ]
 
 # Those whose table tools/bench-baselines/flows.cpp works out too.
