@@ -5,12 +5,12 @@ use Rattle.std.specs.Str.{bytes_eq}
 use Rattle.std.proofs.lemmas.Bool.{eqb-true, eqb-false, eq-eqb, lt-ltb, ltb-true}
 use Rattle.std.proofs.lemmas.List.{append_assoc, length-append}
 use Rattle.name_rules.specs.declared.Refusal.{Refusal}
-use Rattle.java_resolve.specs.declared.tables.Heading.{Heading}
-use Rattle.java_resolve.specs.Answers.{run, with, unless}
-use Rattle.java_resolve.specs.Members.{clash_of, clash_with, earlier_step}
+use Rattle.name_outcome.specs.declared.parts.Heading.{Heading}
+use Rattle.name_outcome.specs.Answers.{run, with, unless}
+use Rattle.name_outcome.specs.Members.{clash_of, clash_with, earlier_step}
 use Rattle.java_resolve.specs.Clashes.{clash_at, or_clash, clash_among, clash_after}
 use Rattle.java_resolve.specs.Spots.{spots_from}
-use Rattle.java_resolve.proofs.Runs.{middle-stands}
+use Rattle.name_outcome.proofs.Runs.{middle-stands}
 
 not-below : (i k : ℕ) → k ≤ i → nat_lt i k ≡ false
 not-below i k le = go (nat_lt i k) refl

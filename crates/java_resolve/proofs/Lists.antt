@@ -5,11 +5,11 @@ use Rattle.java_tree.specs.Syntax as tree
 use Rattle.java_core.specs.declared.RExpr.{RExpr}
 use Rattle.java_core.specs.Trees.{at_place, Exs, expr_of, exprs}
 use Rattle.name_rules.specs.declared.Refusal.{Refusal}
-use Rattle.java_resolve.specs.Tables.{Table}
+use Rattle.name_outcome.specs.Tables.{Table}
 use Rattle.name_rules.specs.declared.parts.Bound.{Bound}
 use Rattle.name_rules.specs.declared.parts.Here.{Here}
-use Rattle.java_resolve.specs.Answers.{with}
-use Rattle.java_resolve.specs.Expressions.{walk, walk_all, ex_last}
+use Rattle.name_outcome.specs.Answers.{with}
+use Rattle.name_outcome.specs.Expressions.{walk, walk_all, ex_last}
 use Rattle.java_resolve.proofs.Rows.{exprs_push}
 use Rattle.java_resolve.proofs.Steps.{next_at}
 

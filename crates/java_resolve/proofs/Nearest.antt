@@ -2,7 +2,7 @@
 use Rattle.std.proofs.Common.{◌≡◌, ℕ, ◌+◌, ◌<◌, ◌≤◌, drop-cons, List, ◌∷◌, length, drop, get_or, Option, Some, None, sym, ap, ◌∙◌, add-one}
 use Rattle.std.proofs.lemmas.List.{drop_all}
 use Rattle.kaba_base.specs.declared.ClassId.{ClassId}
-use Rattle.java_resolve.specs.Tables.{Table, own_field, parent_of, or_above, nearest_in}
+use Rattle.name_outcome.specs.Tables.{Table, own_field, parent_of, or_above, nearest_in}
 
 split : (t : Table) (n : List ℕ) (steps : List (Option ClassId)) (i c : ℕ) → i < length steps →
     nearest_in t n (drop i steps) c ≡ or_above (own_field t c n) (parent_of t.parents c) (λ p. nearest_in t n (drop (i + 1) steps) p)

@@ -10,9 +10,9 @@ use Rattle.std.proofs.lemmas.Slice.Eq.{bytes_eq-Decides}
 use Rattle.indexmap.specs.IndexMap.{get}
 use Rattle.java_resolve.specs.Owned.{AreOwned, owned_from, owned_in, fields_owned, methods_owned}
 use Rattle.java_core.specs.declared.Field.{Field}
-use Rattle.java_resolve.specs.declared.tables.Heading.{Heading}
+use Rattle.name_outcome.specs.declared.parts.Heading.{Heading}
 use Rattle.java_resolve.specs.declared.owned.Owned.{Owned}
-use Rattle.java_resolve.specs.Tables.{field_from, method_from}
+use Rattle.name_outcome.specs.Tables.{field_from, method_from}
 use Rattle.java_resolve.proofs.SpotLemmas.{text_test}
 
 -- ---- the table

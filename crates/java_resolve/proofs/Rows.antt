@@ -14,9 +14,9 @@ use Rattle.std.specs.declared.alloc.Global.{Global}
 use Rattle.name_rules.specs.declared.Refusal.{Refusal}
 use Rattle.name_rules.specs.declared.parts.Bound.{Bound}
 use Rattle.name_rules.specs.declared.parts.Here.{Here}
-use Rattle.java_resolve.specs.Tables.{Table}
-use Rattle.java_resolve.specs.Answers.{Gives, with}
-use Rattle.java_resolve.specs.Expressions.{ex_last, Receiver, receiver, class_before, called_on, after, walk, walk_all}
+use Rattle.name_outcome.specs.Tables.{Table}
+use Rattle.name_outcome.specs.Answers.{Gives, with}
+use Rattle.name_outcome.specs.Expressions.{ex_last, Receiver, receiver, class_before, called_on, after, walk, walk_all}
 
 pub exprs-items : {n : _} (k : Row_of-RExpr n) → exprs_of at_place k ≡ exprs at_place (items-the_row-RExpr _ k)
 exprs-items end_of-RExpr = refl

@@ -1,6 +1,6 @@
 -- Where names stand: what is found by a name's numbers is what is found by going over all.
-use Rattle.std.proofs.Common.{◌≡◌, ℕ, ◌+◌, suc, Bool, true, false, ◌&&◌, cond, List, [], ◌∷◌, ◌++◌, map, length, Option, Some, None, Result, Ok, Err, arith, refl, sym, ap, ◌∙◌, subst}
-use Rattle.std.specs.Prelude.{slice_get, ◌==◌, if◌then◌else◌}
+use Rattle.std.proofs.Common.{◌≡◌, ℕ, ◌+◌, suc, Bool, true, false, ◌&&◌, cond, List, [], ◌∷◌, ◌++◌, map, length, Option, Some, Result, Ok, Err, arith, refl, sym, ap, ◌∙◌, subst}
+use Rattle.std.specs.Prelude.{slice_get, if◌then◌else◌}
 use Rattle.std.specs.List.{position_from}
 use Rattle.std.specs.Option.{option_map_or}
 use Rattle.std.specs.declared.vec.Vec.{Vec}
@@ -15,10 +15,10 @@ use Rattle.java_core.specs.declared.Slot.{Slot}
 use Rattle.java_core.specs.declared.Ty.{Ty}
 use Rattle.java_core.specs.Trees.{at_place}
 use Rattle.java_core.specs.Programs.{slot_seen}
-use Rattle.java_resolve.specs.Members.{have_types, same_result, slot_from}
+use Rattle.name_outcome.specs.Members.{have_types, same_result, slot_from}
 use Rattle.java_resolve.specs.Found.{fits}
-use Rattle.java_resolve.specs.declared.tables.Heading.{Heading}
-use Rattle.java_resolve.specs.Tables.{is_above, met_from}
+use Rattle.name_outcome.specs.declared.parts.Heading.{Heading}
+use Rattle.name_outcome.specs.Tables.{is_above, met_from}
 use Rattle.java_resolve.specs.declared.spots.Spots.{Spots}
 use Rattle.java_resolve.specs.Spots.{AreSpots, spots_from, spots_of, passes, first_among}
 

@@ -11,7 +11,7 @@ use Rattle.java_tree.specs.declared.Stmt.{Stmt, Block, If, While, For}
 use Rattle.java_tree.specs.declared.Stmt.TheBlock.{hidden-the_row-Stmt-0}
 use Rattle.java_tree.specs.Syntax as tree
 use Rattle.java_tree.proofs.Rows as tree_rows
-use Rattle.java_resolve.specs.Statements.{st_last, arm_last, ending}
+use Rattle.name_outcome.specs.Statements.{st_last, arm_last, ending}
 use Rattle.name_rules.specs.Resolves.{target}
 
 pub stmts-items : {n : _} (k : Row_of-RStmt n) → stmts_of at_place k ≡ stmts at_place (items-the_row-RStmt _ k)

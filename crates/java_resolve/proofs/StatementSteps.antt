@@ -10,11 +10,11 @@ use Rattle.java_core.specs.declared.RArm.{RArm}
 use Rattle.kaba_base.specs.declared.Place.{Place}
 use Rattle.java_core.specs.Trees.{at_place, Ex, St, no_other, choose, loop, Sts, Arms, no_st, expr_of, stmt_of, stmts, arms_seen}
 use Rattle.name_rules.specs.declared.Refusal.{Refusal}
-use Rattle.java_resolve.specs.Tables.{Table}
+use Rattle.name_outcome.specs.Tables.{Table}
 use Rattle.name_rules.specs.declared.parts.Bound.{Bound}
 use Rattle.name_rules.specs.declared.parts.Here.{Here}
-use Rattle.java_resolve.specs.Answers.{with, IsRefused, Gives}
-use Rattle.java_resolve.specs.Statements.{State, walk_expr, walk_st, walk_sts, walk_arm, walk_arms, walk_else, walk_value, walk_optional, st_last, arm_last, ending, kept}
+use Rattle.name_outcome.specs.Answers.{with, IsRefused, Gives}
+use Rattle.name_outcome.specs.Statements.{State, walk_expr, walk_st, walk_sts, walk_arm, walk_arms, walk_else, walk_value, walk_optional, st_last, arm_last, ending, kept}
 use Rattle.java_resolve.proofs.StatementRows.{stmts_push, arms_push}
 use Rattle.java_resolve.proofs.Steps.{next_at, passes}
 use Rattle.std.proofs.Common.{subst}

@@ -3,7 +3,7 @@ use Rattle.std.proofs.Common.{◌≡◌, ℕ, ◌+◌, ◌<◌, ◌≤◌, drop-
 use Rattle.std.proofs.lemmas.List.{drop_all}
 use Rattle.name_rules.specs.declared.Refusal.{Refusal}
 use Rattle.name_rules.specs.declared.Refusal.TheVariants as refusals
-use Rattle.java_resolve.specs.Answers.{with, run, IsRefused}
+use Rattle.name_outcome.specs.Answers.{with, run, IsRefused}
 
 pub next_at : {A : Type 0} (list : List A) (n : ℕ) (s : A) → n < length list → s ≡ get_or list n s → drop n list ≡ s ∷ drop (n + 1) list
 next_at list n s below at = drop-cons list n s below ∙ ap (λ x. x ∷ drop (suc n) list) (sym at) ∙ ap (λ k. s ∷ drop k list) (sym (add-one n))

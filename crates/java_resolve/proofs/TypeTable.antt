@@ -16,9 +16,9 @@ use Rattle.indexmap.specs.IndexMap.{insert_entry}
 use Rattle.kaba_base.specs.declared.Place.{Place}
 use Rattle.name_rules.specs.declared.Refusal.TheVariants.{Twice}
 use Rattle.java_resolve.specs.Known.{known_seen}
-use Rattle.java_resolve.specs.Names.{is_apart, number_from, number_of}
-use Rattle.java_resolve.specs.Classes.{know_named}
-use Rattle.java_resolve.proofs.Runs.{position-from}
+use Rattle.name_outcome.specs.Names.{is_apart, number_from, number_of}
+use Rattle.name_outcome.specs.Classes.{know_named}
+use Rattle.name_outcome.proofs.Runs.{position-from}
 
 -- a text is a name's exactly where it has the name's characters
 pub same-text : (n : List ℕ) (s : String Global) → bytes_eq (encode_utf8_all n) (string_bytes s) ≡ bytes_eq (chars (string_bytes s)) n

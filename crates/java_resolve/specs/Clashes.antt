@@ -1,9 +1,9 @@
 -- Clashes of a method with those of its name that stand before it.
 use Rattle.std.specs.Prelude.{ℕ, ◌+◌, Bool, List, [], ◌∷◌, Option, Some, None, Result, Ok, nat_lt, slice_get, if◌then◌else◌}
 use Rattle.name_rules.specs.declared.Refusal.{Refusal}
-use Rattle.java_resolve.specs.declared.tables.Heading.{Heading}
-use Rattle.java_resolve.specs.Answers.{unless}
-use Rattle.java_resolve.specs.Members.{clash_of}
+use Rattle.name_outcome.specs.declared.parts.Heading.{Heading}
+use Rattle.name_outcome.specs.Answers.{unless}
+use Rattle.name_outcome.specs.Members.{clash_of}
 
 -- why a method cannot stand after another of its name
 abbrev pub clash_at : List (List Bool) → Heading → Option Heading → Option Refusal

@@ -5,8 +5,8 @@ use Rattle.java_core.specs.declared.Field.{Field}
 use Rattle.java_core.specs.declared.Local.{Local}
 use Rattle.java_core.specs.declared.Slot.{Slot}
 use Rattle.java_resolve.specs.declared.members.Draft.{Draft}
-use Rattle.java_resolve.specs.declared.tables.Heading.{Heading}
-use Rattle.java_resolve.specs.Members.{Members, have_types, same_result, slotted}
+use Rattle.name_outcome.specs.declared.parts.Heading.{Heading}
+use Rattle.name_outcome.specs.Members.{Members, have_types, same_result, slotted}
 use Rattle.java_resolve.specs.Owned.{AreOwned, fields_owned, methods_owned}
 use Rattle.java_resolve.specs.Spots.{AreSpots}
 

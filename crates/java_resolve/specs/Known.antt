@@ -1,12 +1,9 @@
--- A class or an interface as the other declarations know it.
-use Rattle.std.specs.Prelude.{ℕ, Bool, List, string_bytes}
+-- What an entry of the table of types says.
+use Rattle.std.specs.Prelude.{Bool, string_bytes}
 use Rattle.std.specs.Str.{chars}
 use Rattle.std.specs.declared.alloc.Global.{Global}
 use Rattle.std.specs.declared.string.String.{String}
-
-pub record Known : Type 0 where
-  pub name : List ℕ
-  pub is_interface : Bool
+use Rattle.name_outcome.specs.Known.{Known}
 
 -- an entry of the table of types
 abbrev pub known_seen : String Global × Bool → Known

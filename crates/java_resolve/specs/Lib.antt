@@ -1,13 +1,6 @@
 pub mod Known
-pub mod Answers
-pub mod Names
-pub mod Tables
-pub mod Expressions
+pub mod Views
 pub mod Spots
-pub mod Statements
-pub mod Classes
-pub mod Members
-pub mod Resolved
 pub mod Unique
 pub mod Clashes
 pub mod Owned

@@ -4,7 +4,7 @@ use Rattle.std.specs.Option.{option_map_or}
 use Rattle.std.specs.Str.{bytes_eq, encode_utf8_all}
 use Rattle.indexmap.specs.IndexMap.{get, get_by_text}
 use Rattle.java_core.specs.declared.Field.{Field}
-use Rattle.java_resolve.specs.declared.tables.Heading.{Heading}
+use Rattle.name_outcome.specs.declared.parts.Heading.{Heading}
 use Rattle.java_resolve.specs.declared.owned.Owned.{Owned}
 
 -- the number of the first of these classes and names that is this class and this name, the first of them numbered k

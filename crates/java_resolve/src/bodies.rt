@@ -11,9 +11,10 @@ ghost use Rattle.java_core.specs.declared.Method.{Method};
 ghost use Rattle.java_core.specs.declared.Local.{Local};
 ghost use Rattle.java_core.specs.declared.RStmt.{RStmt};
 ghost use Rattle.java_core.specs.Programs.{PlainLocal, PlainMethod, local_seen, method_seen};
-ghost use Rattle.java_resolve.specs.Answers.{Gives, run};
-ghost use Rattle.java_resolve.specs.Tables.{table_of};
-ghost use Rattle.java_resolve.specs.Resolved.{Methods, methods_seen, bounds_from, body_of, method_step, body_step, head_body_step, decl_bodies, methods_of, slot_at};
+ghost use Rattle.name_outcome.specs.Answers.{Gives, run};
+ghost use Rattle.java_resolve.specs.Views.{table_of};
+ghost use Rattle.name_outcome.specs.Resolved.{Methods, bounds_from, body_of, method_step, body_step, head_body_step, decl_bodies, methods_of, slot_at};
+ghost use Rattle.java_resolve.specs.Views.{methods_seen};
 
 use crate::Refusal;
 use crate::classes::after;
@@ -24,10 +25,10 @@ use crate::members::{number_at, result_of};
 use crate::parameters::params_in;
 use crate::scope::Scope;
 use crate::stmts::statements;
-use crate::tables::Heading;
 use java_core::{Local, Method, RStmt};
 use java_tree::{Decl, Head, Member, Stmt};
 use kaba_base::ClassId;
+use name_outcome::Heading;
 use name_rules::{Here, Kind};
 use std::alloc::Global;
 

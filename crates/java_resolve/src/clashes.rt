@@ -2,9 +2,9 @@
 #![tactic(auto)]
 
 ghost use Rattle.std.specs.Prelude.{◌≡◌, ◌&&◌, ◌||◌, not, nat_lt, map, slice_get, IfOk};
-ghost use Rattle.java_resolve.specs.Answers.{Gives};
-ghost use Rattle.java_resolve.specs.Tables.{is_above};
-ghost use Rattle.java_resolve.specs.Members.{meet, same_slot, clash_of, clash_step, clashes_of, main_from, main_of};
+ghost use Rattle.name_outcome.specs.Answers.{Gives};
+ghost use Rattle.name_outcome.specs.Tables.{is_above};
+ghost use Rattle.name_outcome.specs.Members.{meet, same_slot, clash_of, clash_step, clashes_of, main_from, main_of};
 ghost use Rattle.java_resolve.specs.Clashes.{clash_at, clash_among, clash_after};
 ghost use Rattle.java_resolve.specs.Spots.{AreSpots, spots_of};
 
@@ -12,8 +12,8 @@ use crate::Refusal;
 use crate::classes::after;
 use crate::members::number_at;
 use crate::spots::Spots;
-use crate::tables::Heading;
 use java_core::Hierarchy;
+use name_outcome::Heading;
 use std::alloc::{AllocError, Global};
 
 fn same_slot(a: Option<u32>, b: Option<u32>) -> bool

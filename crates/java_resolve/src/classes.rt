@@ -10,8 +10,8 @@ ghost use Rattle.java_core.specs.Trees.{at_place};
 ghost use Rattle.java_core.specs.Programs.{PlainClass, class_seen};
 ghost use Rattle.java_core.specs.declared.Class.{Class};
 ghost use Rattle.java_core.specs.Subtypes.{subtype_rows};
-ghost use Rattle.java_resolve.specs.Answers.{Gives};
-ghost use Rattle.java_resolve.specs.Classes.{object_class, known_of, parent_tree, has_id, face, faces_of, class_tree, classes_of, above_of, any_above, above_by, loops_of};
+ghost use Rattle.name_outcome.specs.Answers.{Gives};
+ghost use Rattle.name_outcome.specs.Classes.{object_class, known_of, parent_tree, has_id, face, faces_of, class_tree, classes_of, above_of, any_above, above_by, loops_of};
 
 use crate::Refusal;
 use crate::flags::flags_of;
@@ -164,7 +164,7 @@ pub fn classes_of(alloc: Global, known: &Types, list: &[Decl]) -> Result<Vec<Cla
 }
 
 /// Which types are above which.
-#[tactic(auto, unfolding(crate::specs::Classes::above_of))]
+#[tactic(auto, unfolding(name_outcome::specs::Classes::above_of))]
 pub fn above_of(alloc: Global, all: &Vec<Class>) -> Result<Hierarchy, Refusal>
     ensures gives { Gives {A = List (List Bool)} {B = List (List Bool)} (λ r. r) result (above_of (map (class_seen at_place) all.now.items)) }
     ensures rows { IfOk result (λ r. r ≡ subtype_rows (map (class_seen at_place) all.now.items)) }

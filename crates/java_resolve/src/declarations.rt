@@ -8,9 +8,9 @@ ghost use Rattle.java_resolve.specs.Spots.{AreSpots};
 use crate::names::Types;
 use crate::owned::Owned;
 use crate::spots::Spots;
-use crate::tables::Heading;
 use java_core::{Field, Hierarchy};
 use kaba_base::ClassId;
+use name_outcome::Heading;
 
 /// All declarations, without the bodies of methods. The number of each is its place in its list.
 #[derive(Drop)]

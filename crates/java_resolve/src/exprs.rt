@@ -9,9 +9,10 @@ ghost use Rattle.java_core.specs.declared.RExpr.{RExpr};
 ghost use Rattle.java_resolve.specs.declared.exprs.Callee.{Callee};
 ghost use Rattle.std.specs.declared.vec.Vec.{Vec};
 ghost use Rattle.std.specs.declared.alloc.Global.{Global};
-ghost use Rattle.java_resolve.specs.Answers.{Gives};
-ghost use Rattle.java_resolve.specs.Tables.{table_of};
-ghost use Rattle.java_resolve.specs.Expressions.{class_before, Receiver, receiver, receiver_of, called_on, after, walk, walk_all};
+ghost use Rattle.name_outcome.specs.Answers.{Gives};
+ghost use Rattle.java_resolve.specs.Views.{table_of};
+ghost use Rattle.name_outcome.specs.Expressions.{class_before, Receiver, receiver, called_on, after, walk, walk_all};
+ghost use Rattle.java_resolve.specs.Views.{receiver_of};
 ghost use Rattle.name_rules.specs.Resolves.{un_op, bin_op};
 
 use crate::declarations::Tables;

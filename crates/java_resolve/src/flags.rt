@@ -2,24 +2,14 @@
 #![tactic(auto)]
 
 ghost use Rattle.std.specs.Prelude.{◌≡◌};
-ghost use Rattle.java_resolve.specs.Answers.{Gives};
-ghost use Rattle.java_resolve.specs.Classes.{no_static, is_head, is_field, is_misplaced, noted, flag, flags_of};
+ghost use Rattle.name_outcome.specs.Answers.{Gives};
+ghost use Rattle.name_outcome.specs.Classes.{no_static, is_head, is_field, is_misplaced, noted, flag, flags_of};
 
 use crate::{Form, Refusal};
 use java_tree::Modifier;
 use kaba_base::Keyword;
+use name_outcome::Flags;
 use name_rules::Kind;
-
-/// Which modifiers stand before something.
-#[derive(Clone, Copy)]
-pub struct Flags {
-    pub is_public: bool,
-    pub is_protected: bool,
-    pub is_private: bool,
-    pub is_abstract: bool,
-    pub is_static: bool,
-    pub is_final: bool,
-}
 
 /// Whether `static` cannot stand there.
 fn no_static(kind: Kind) -> bool

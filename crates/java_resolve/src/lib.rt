@@ -32,10 +32,10 @@ ghost use Rattle.name_rules.specs.Causes.{IsCause, HasNoCondition};
 ghost use Rattle.java_core.specs.Programs.{Plain, program_of, class_seen};
 ghost use Rattle.java_core.specs.declared.Program.{Program};
 ghost use Rattle.java_core.specs.Subtypes.{subtype_rows};
-ghost use Rattle.java_resolve.specs.Answers.{Gives};
-ghost use Rattle.java_resolve.specs.Members.{members_seen};
+ghost use Rattle.name_outcome.specs.Answers.{Gives};
+ghost use Rattle.java_resolve.specs.Views.{members_seen};
 ghost use Rattle.java_resolve.specs.Found.{AreFound};
-ghost use Rattle.java_resolve.specs.Resolved.{resolved, with_bodies, parents_of};
+ghost use Rattle.name_outcome.specs.Resolved.{resolved, with_bodies, parents_of};
 
 use bodies::methods_of;
 use clashes::{clashes_of, main_of};
@@ -111,7 +111,7 @@ fn with_bodies(
 }
 
 /// The program that the rules make of a tree, or the first refusal that they meet.
-#[tactic(auto, unfolding(crate::specs::Resolved::resolved))]
+#[tactic(auto, unfolding(name_outcome::specs::Resolved::resolved))]
 fn resolve_tree(alloc: Global, tree: &Tree) -> Result<Program, Refusal>
     ensures program { Gives {A = Program} {B = Plain} (program_of at_place) result (resolved (tree_of tree.now)) }
 {

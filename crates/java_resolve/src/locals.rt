@@ -8,9 +8,10 @@ ghost use Rattle.java_core.specs.Trees.{at_place, Ex, St};
 ghost use Rattle.java_core.specs.declared.RExpr.{RExpr};
 ghost use Rattle.java_core.specs.declared.RStmt.{RStmt};
 ghost use Rattle.name_rules.specs.declared.parts.Bound.{Bound};
-ghost use Rattle.java_resolve.specs.Answers.{Gives};
-ghost use Rattle.java_resolve.specs.Tables.{table_of};
-ghost use Rattle.java_resolve.specs.Statements.{State, state_of, clash, walk_expr, walk_value, walk_local};
+ghost use Rattle.name_outcome.specs.Answers.{Gives};
+ghost use Rattle.java_resolve.specs.Views.{table_of};
+ghost use Rattle.name_outcome.specs.Statements.{State, clash, walk_expr, walk_value, walk_local};
+ghost use Rattle.java_resolve.specs.Views.{state_of};
 
 use crate::Refusal;
 use crate::declarations::Tables;

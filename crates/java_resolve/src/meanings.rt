@@ -5,10 +5,10 @@ ghost use Rattle.std.specs.Prelude.{◌≡◌, ℕ, Ok, suc};
 ghost use Rattle.java_tree.specs.Syntax.{expr_of};
 ghost use Rattle.java_core.specs.Trees as core;
 ghost use Rattle.java_core.specs.Trees.{at_place};
-ghost use Rattle.java_resolve.specs.Answers.{Gives};
-ghost use Rattle.java_resolve.specs.Tables.{table_of};
-ghost use Rattle.java_resolve.specs.Expressions.{cast_type, cast_base, name_meaning, is_variable, class_before, static_field_of, static_method_of, call_meaning};
-ghost use Rattle.java_resolve.specs.Expressions as spec;
+ghost use Rattle.name_outcome.specs.Answers.{Gives};
+ghost use Rattle.java_resolve.specs.Views.{table_of};
+ghost use Rattle.name_outcome.specs.Expressions.{cast_type, cast_base, name_meaning, is_variable, class_before, static_field_of, static_method_of, call_meaning};
+ghost use Rattle.name_outcome.specs.Expressions as spec;
 
 use crate::declarations::Tables;
 use crate::names::asked;
@@ -97,7 +97,7 @@ fn field_named(
 }
 
 /// What a simple name means.
-#[tactic(auto, unfolding(crate::specs::Expressions::name_meaning))]
+#[tactic(auto, unfolding(name_outcome::specs::Expressions::name_meaning))]
 pub fn name_meaning(
     alloc: Global,
     tables: &Tables,
@@ -118,7 +118,7 @@ pub fn name_meaning(
 }
 
 /// Whether the name is that of a local, a parameter or a field.
-#[tactic(auto, unfolding(crate::specs::Expressions::is_variable))]
+#[tactic(auto, unfolding(name_outcome::specs::Expressions::is_variable))]
 fn is_variable(tables: &Tables, here: Here, scope: &Scope, name: &Name) -> bool
     ensures { result ≡ is_variable (table_of tables.now) here scope.now name.now }
 {
@@ -228,7 +228,7 @@ fn method_named(
 }
 
 /// The static method that a call by a simple name calls; `None` is one on `this`.
-#[tactic(auto, unfolding(crate::specs::Expressions::call_meaning))]
+#[tactic(auto, unfolding(name_outcome::specs::Expressions::call_meaning))]
 pub fn call_meaning(
     alloc: Global,
     tables: &Tables,

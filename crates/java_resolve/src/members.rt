@@ -8,23 +8,24 @@ ghost use Rattle.java_tree.specs.Syntax.{head_of, member_of, members, heads, dec
 ghost use Rattle.java_tree.specs.declared.Head.{Head};
 ghost use Rattle.java_core.specs.declared.Ty.{Ty};
 ghost use Rattle.java_resolve.specs.declared.members.Draft.{Draft};
-ghost use Rattle.java_resolve.specs.Answers.{Gives, run};
+ghost use Rattle.name_outcome.specs.Answers.{Gives, run};
 ghost use Rattle.java_resolve.specs.Found.{AreFound, with_method, with_field, slot_of};
-ghost use Rattle.java_resolve.specs.Tables.{field_from, method_from};
-ghost use Rattle.java_resolve.specs.Members.{Members, members_seen, result_of, is_texts, takes_texts, is_main, add_heading, head_step, is_wrong_body, field_step, member_step, interface_step, decl_step, members_of, no_members};
+ghost use Rattle.name_outcome.specs.Tables.{field_from, method_from};
+ghost use Rattle.name_outcome.specs.Members.{Members, result_of, is_texts, takes_texts, is_main, add_heading, head_step, is_wrong_body, field_step, member_step, interface_step, decl_step, members_of, no_members};
+ghost use Rattle.java_resolve.specs.Views.{members_seen};
 
 use crate::classes::after;
-use crate::flags::{Flags, flags_of};
+use crate::flags::flags_of;
 use crate::names::{Types, is_text, names_type, type_of};
 use crate::owned::Owned;
 use crate::parameters::params_of;
 use crate::slots::{is_base, slotted};
 use crate::spots::Spots;
-use crate::tables::Heading;
 use crate::{Form, Refusal};
 use java_core::{Field, Local, Slot, Ty, TyBase};
 use java_tree::{Decl, Head, Member, Stmt, TypeName};
 use kaba_base::{ClassId, Name, Place};
+use name_outcome::{Flags, Heading};
 use name_rules::Kind;
 use std::alloc::{AllocError, Global};
 

@@ -5,9 +5,9 @@ ghost use Rattle.std.specs.Prelude.{◌≡◌, List, [], IfOk, OnOk};
 ghost use Rattle.std.specs.declared.vec.Vec.{Vec};
 ghost use Rattle.std.specs.declared.alloc.Global.{Global};
 ghost use Rattle.java_core.specs.declared.Local.{Local};
-ghost use Rattle.java_resolve.specs.Answers.{Gives};
-ghost use Rattle.java_resolve.specs.Members.{param, params_of};
-ghost use Rattle.java_resolve.specs.Resolved.{bounds_from};
+ghost use Rattle.name_outcome.specs.Answers.{Gives};
+ghost use Rattle.name_outcome.specs.Members.{param, params_of};
+ghost use Rattle.name_outcome.specs.Resolved.{bounds_from};
 
 use crate::Refusal;
 use crate::members::number_at;

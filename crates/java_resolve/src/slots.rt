@@ -5,10 +5,10 @@ ghost use Rattle.std.specs.Prelude.{◌≡◌, ℕ, List, IfOk, OnOk, Ok, map, s
 ghost use Rattle.java_core.specs.Types.{is_base};
 ghost use Rattle.java_core.specs.Trees.{at_place};
 ghost use Rattle.java_core.specs.Programs.{PlainSlot, slot_seen};
-ghost use Rattle.java_resolve.specs.Answers.{Gives};
+ghost use Rattle.name_outcome.specs.Answers.{Gives};
 ghost use Rattle.java_resolve.specs.Spots.{AreSpots, passes, first_among};
 ghost use Rattle.java_resolve.specs.Found.{fits};
-ghost use Rattle.java_resolve.specs.Members.{same_type, same_result, have_types, slot_from, slotted};
+ghost use Rattle.name_outcome.specs.Members.{same_type, same_result, have_types, slot_from, slotted};
 
 use crate::Refusal;
 use crate::members::number_at;

@@ -12,9 +12,10 @@ ghost use Rattle.java_core.specs.declared.RExpr.{RExpr};
 ghost use Rattle.java_core.specs.declared.RStmt.{RStmt};
 ghost use Rattle.java_core.specs.declared.RArm.{RArm};
 ghost use Rattle.name_rules.specs.declared.parts.Bound.{Bound};
-ghost use Rattle.java_resolve.specs.Answers.{Gives};
-ghost use Rattle.java_resolve.specs.Tables.{table_of};
-ghost use Rattle.java_resolve.specs.Statements.{State, state_of, kept, ending, walk_arm, walk_st, walk_sts, walk_arms, walk_else, walk_optional};
+ghost use Rattle.name_outcome.specs.Answers.{Gives};
+ghost use Rattle.java_resolve.specs.Views.{table_of};
+ghost use Rattle.name_outcome.specs.Statements.{State, kept, ending, walk_arm, walk_st, walk_sts, walk_arms, walk_else, walk_optional};
+ghost use Rattle.java_resolve.specs.Views.{state_of};
 
 use crate::declarations::Tables;
 use crate::locals::{Body, declaration, part, value};

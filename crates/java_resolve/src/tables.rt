@@ -3,24 +3,13 @@
 
 ghost use Rattle.std.specs.Prelude.{◌≡◌, slice_get};
 ghost use Rattle.java_resolve.specs.Spots.{passes, first_among};
-ghost use Rattle.java_resolve.specs.Tables.{table_of, is_above, parent_of, own_field, nearest_field, own_method, method_met};
+ghost use Rattle.name_outcome.specs.Tables.{is_above, parent_of, own_field, nearest_field, own_method, method_met};
+ghost use Rattle.java_resolve.specs.Views.{table_of};
 
 use crate::declarations::Tables;
 use java_core::Hierarchy;
-use kaba_base::{ClassId, Name, Place};
-
-/// A method as the bodies and the other methods know it.
-#[derive(Drop)]
-pub struct Heading {
-    pub owner: u32,
-    pub name: Name,
-    pub is_static: bool,
-    pub is_private: bool,
-    /// Whether it is `static void main(String[] ..)`.
-    pub is_main: bool,
-    pub slot: Option<u32>,
-    pub place: Place,
-}
+use kaba_base::{ClassId, Name};
+use name_outcome::Heading;
 
 /// The superclass of a class.
 pub fn parent_of(parents: &[Option<ClassId>], class: u32) -> Option<ClassId>
@@ -66,7 +55,7 @@ pub fn own_field(tables: &Tables, class: u32, name: &Name) -> Option<usize>
 }
 
 /// The number of the nearest field of a name upwards.
-#[tactic(auto, unfolding(crate::specs::Tables::nearest_field))]
+#[tactic(auto, unfolding(name_outcome::specs::Tables::nearest_field))]
 pub fn nearest_field(tables: &Tables, class: u32, name: &Name) -> Option<usize>
     ensures { result ≡ nearest_field (table_of tables.now) class name.now }
 {
@@ -84,7 +73,7 @@ pub fn nearest_field(tables: &Tables, class: u32, name: &Name) -> Option<usize>
 }
 
 /// The number of the method of a name that a class itself declares.
-#[tactic(auto, using(crate::proofs::OwnedLemmas::method_owned), unfolding(crate::specs::Tables::own_method))]
+#[tactic(auto, using(crate::proofs::OwnedLemmas::method_owned), unfolding(name_outcome::specs::Tables::own_method))]
 pub fn own_method(tables: &Tables, class: u32, name: &Name) -> Option<usize>
     ensures { result ≡ own_method (table_of tables.now) class name.now }
 {
@@ -95,7 +84,7 @@ pub fn own_method(tables: &Tables, class: u32, name: &Name) -> Option<usize>
 }
 
 /// The number of the first method of a name in a class and its ancestors.
-#[tactic(auto, unfolding(crate::specs::Tables::method_met))]
+#[tactic(auto, unfolding(name_outcome::specs::Tables::method_met))]
 pub fn method_met(tables: &Tables, class: u32, name: &Name) -> Option<usize>
     ensures { result ≡ method_met (table_of tables.now) class name.now }
 {

@@ -6,8 +6,8 @@ use Rattle.java_core.specs.Trees.{at_place, no_place, number, create, no_ex, cal
 use Rattle.java_core.specs.Programs.{Plain, PlainLocal, PlainClass, PlainField, PlainMethod, program_of}
 use Rattle.java_core.specs.Typing.{IsTyped}
 use Rattle.name_rules.specs.Outline.{object}
-use Rattle.java_resolve.proofs.Bare.{bare_sts, bare_local, bare_class, bare_field, bare_method, bare_program, bare-program}
-use Rattle.java_resolve.proofs.OnlyWhole.{only}
+use Rattle.name_outcome.proofs.Bare.{bare_sts, bare_local, bare_class, bare_field, bare_method, bare_program, bare-program}
+use Rattle.name_outcome.proofs.OnlyWhole.{only}
 use Rattle.kaba_work.specs.Sample.{field_name, extra_name, method_name, sample_tree}
 use Rattle.kaba_work.specs.Program.{tag, class_made, main_class_made, field_made, method_made, sum_made, variable_made, extra_made, main_body_made, local_made, main_made, slot_made, sample_program}
 use Rattle.kaba_work.specs.Laws.{SampleResolves, SampleHasProgram, SampleIsTyped}

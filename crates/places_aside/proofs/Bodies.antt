@@ -16,8 +16,8 @@ use Rattle.name_rules.specs.declared.parts.Here.{Here}
 use Rattle.name_rules.specs.Outline.{MethodAt, is_static_word, is_type_name}
 use Rattle.name_rules.specs.Meanings.{bound_names}
 use Rattle.name_rules.specs.Resolves.{target, bound, Counts, ResolvesTo, r_number, r_character, r_text, r_truth, r_null, r_this, r_local, r_static_field, r_own_field, r_class_field, r_field, r_index, r_own_static_call, r_own_call, r_static_call, r_call, r_super_call, r_create, r_create_array, r_cast, r_instance_of, r_unary, r_binary, AllResolve, r_no_more, r_and_more, ResolvesIf, r_none, r_some, scope_after, scope_after_part, IsLocal, StResolves, r_declare, r_block, r_assign, r_act, r_print, r_choose, r_while, r_for, r_return, r_break, r_continue, StsResolve, r_no_statements, r_and_then, ArmsResolve, r_no_else, r_else, r_arm, PartResolves, r_absent, r_present, declares, declares_all, declares_arms, params_from, here_of, BodyResolves, r_no_body, r_body, BodiesResolve, r_no_methods, r_method}
-use Rattle.java_resolve.proofs.Bare.{bare_tag, bare, bare_all, bare_if, bare_target, bare_st, bare_sts, bare_arms, bare_local, bare_method, bare_program}
-use Rattle.java_resolve.proofs.Runs.{stands-map}
+use Rattle.name_outcome.proofs.Bare.{bare_tag, bare, bare_all, bare_if, bare_target, bare_st, bare_sts, bare_arms, bare_local, bare_method, bare_program}
+use Rattle.name_outcome.proofs.Runs.{stands-map}
 use Rattle.places_aside.proofs.Outlines.{ap2, word-same, method_at_unplaced}
 use Rattle.places_aside.proofs.Meanings.{variables-same, names-same, named-same, means, means-cast, class-name-same, static-field, static-method, nearest-field, met}
 

@@ -13,8 +13,8 @@ use Rattle.name_rules.specs.Meanings.{class_named}
 use Rattle.name_rules.specs.Resolves.{here_of}
 use Rattle.name_rules.specs.Conditions.{StsFault, disagree, is_unfit, kind_of, HasModifiers, of_type, of_field, of_method, HasWrongBody, missing, superfluous, in_concrete, AreOneSlot, unknown, type_twice, known_twice, super_twice, field_twice, method_twice, param_twice, loop, overload, type_as_field, type_as_param, face_as_parent, class_as_face, private_reused, no_main, modifiers_disagree, modifier_unfit, wrong_body, in_body}
 use Rattle.name_rules.specs.Causes.{HasNoCondition}
-use Rattle.java_resolve.proofs.Bare.{bare_class, bare_method, bare_program}
-use Rattle.java_resolve.proofs.Runs.{map-stands, stands-map}
+use Rattle.name_outcome.proofs.Bare.{bare_class, bare_method, bare_program}
+use Rattle.name_outcome.proofs.Runs.{map-stands, stands-map}
 use Rattle.places_aside.proofs.Outlines.{ap2, word-same, name-same, types-same, same-all, field_at_unplaced, method_at_unplaced, fields-same, methods-same, outline-same}
 use Rattle.places_aside.proofs.Meanings.{named-same, supers-same, below-back}
 use Rattle.places_aside.proofs.Resolved.{all-mapped, from-map, from-all, from-maybe, parent-unplaced, faces-unplaced, method-back, asked-back, param-types-same, main-bare}

@@ -18,8 +18,8 @@ use Rattle.java_core.specs.Formed.{variables_of}
 use Rattle.java_core.proofs.Positions.{position-map}
 use Rattle.name_rules.specs.Outline.{type_named}
 use Rattle.name_rules.specs.Meanings.{type_names, class_named, MeansBase, an_int, a_boolean, a_char, a_text, a_class, Means, MeansCastBase, to_int, to_boolean, to_char, to_class, MeansCast, is_bound, is_class_name, IsStaticFieldOf, IsStaticMethodOf, IsNearestField, IsMet}
-use Rattle.java_resolve.proofs.Bare.{bare_local, bare_class, bare_field, bare_method, bare_program}
-use Rattle.java_resolve.proofs.Runs.{map-stands, stands-map}
+use Rattle.name_outcome.proofs.Bare.{bare_local, bare_class, bare_field, bare_method, bare_program}
+use Rattle.name_outcome.proofs.Runs.{map-stands, stands-map}
 use Rattle.places_aside.proofs.Outlines.{ap2}
 
 -- what is looked for in each item is found in its image

@@ -11,7 +11,7 @@ use Rattle.java_tree.specs.Syntax.{MemberTree, FieldTree, MethodTree, DeclTree, 
 use Rattle.java_tree.specs.Places.{nowhere, all_unplaced, may_unplaced, id_unplaced, modifier_unplaced, type_unplaced, param_unplaced, stmts_unplaced, head_unplaced, member_unplaced, decl_unplaced, unplaced}
 use Rattle.name_rules.specs.declared.parts.Kind.TheVariants as kinds
 use Rattle.name_rules.specs.Outline.{FieldAt, MethodAt, name_of, has_word, is_abstract_word, is_static_word, is_public_word, types_in, type_meant, id_meant, class_id, fields_of, methods_of, fields_declared, methods_declared, fields_from, methods_from, fields_in, methods_in, object, parent_meant, class_outline, field_outline, param_outline, method_outline, outline}
-use Rattle.java_resolve.proofs.Bare.{bare_tag, bare_local, bare_class, bare_field, bare_method, bare_program}
+use Rattle.name_outcome.proofs.Bare.{bare_tag, bare_local, bare_class, bare_field, bare_method, bare_program}
 
 pub ap2 : {A B C : Type 0} (f : A → B → C) {a b : A} {c d : B} → a ≡ b → c ≡ d → f a c ≡ f b d
 ap2 f {b = b} {c = c} p q = ap (λ z. f z c) p ∙ ap (λ z. f b z) q

@@ -10,8 +10,8 @@ use Rattle.java_core.specs.Trees.{at_place}
 use Rattle.java_core.specs.Programs.{Plain, program_of}
 use Rattle.name_rules.specs.Resolves.{Resolves}
 use Rattle.name_rules.specs.Causes.{HasNoCondition}
-use Rattle.java_resolve.proofs.Bare.{bare_program, bare-program}
-use Rattle.java_resolve.proofs.OnlyWhole.{only}
+use Rattle.name_outcome.proofs.Bare.{bare_program, bare-program}
+use Rattle.name_outcome.proofs.OnlyWhole.{only}
 use Rattle.places_aside.specs.Laws.{NoConditionAside, PlacesAside, HasOneProgram}
 use Rattle.places_aside.proofs.Conditions.{no_condition}
 use Rattle.places_aside.proofs.Resolved.{resolves-bare}

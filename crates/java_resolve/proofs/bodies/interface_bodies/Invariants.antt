@@ -1,8 +1,9 @@
 use Rattle.std.proofs.Common.{◌≡◌, drop}
 use Rattle.java_tree.specs.Syntax.{heads}
-use Rattle.java_resolve.specs.Answers.{run}
-use Rattle.java_resolve.specs.Tables.{table_of}
-use Rattle.java_resolve.specs.Resolved.{methods_seen, head_body_step}
+use Rattle.name_outcome.specs.Answers.{run}
+use Rattle.java_resolve.specs.Views.{table_of}
+use Rattle.name_outcome.specs.Resolved.{head_body_step}
+use Rattle.java_resolve.specs.Views.{methods_seen}
 use Rattle.java_resolve.proofs.bodies.interface_bodies.Given as goal
 
 -- the methods so far, and then the rest

@@ -1,5 +1,5 @@
 use Rattle.std.proofs.Common.{[], refl, sym, ap, subst, ◌∙◌, arith}
-use Rattle.java_resolve.specs.Answers.{Gives}
+use Rattle.name_outcome.specs.Answers.{Gives}
 use Rattle.java_resolve.specs.Clashes.{clash_after}
 use Rattle.java_resolve.proofs.ClashSpots.{earlier}
 use Rattle.java_resolve.proofs.clashes.clash_step.Goals as goal

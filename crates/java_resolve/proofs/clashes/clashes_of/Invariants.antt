@@ -1,6 +1,6 @@
 use Rattle.std.proofs.Common.{◌≡◌, drop}
-use Rattle.java_resolve.specs.Answers.{run}
-use Rattle.java_resolve.specs.Members.{clash_step, clashes_of}
+use Rattle.name_outcome.specs.Answers.{run}
+use Rattle.name_outcome.specs.Members.{clash_step, clashes_of}
 use Rattle.java_resolve.proofs.clashes.clashes_of.Given as goal
 
 -- no clash so far, and then the rest

@@ -1,5 +1,5 @@
 use Rattle.std.proofs.Common.{◌≡◌, drop}
-use Rattle.java_resolve.specs.Members.{main_from}
+use Rattle.name_outcome.specs.Members.{main_from}
 use Rattle.java_resolve.proofs.clashes.main_from.Given as goal
 
 -- the first main is among those that are left

@@ -1,5 +1,5 @@
 use Rattle.std.proofs.Common.{◌≡◌, drop}
-use Rattle.java_resolve.specs.Classes.{any_above}
+use Rattle.name_outcome.specs.Classes.{any_above}
 use Rattle.java_resolve.proofs.classes.any_above.Given as goal
 
 -- one is among those that are left, if at all

@@ -3,8 +3,8 @@ use Rattle.std.specs.Prelude.{map}
 use Rattle.java_tree.specs.Syntax.{decls}
 use Rattle.java_core.specs.Trees.{at_place}
 use Rattle.java_core.specs.Programs.{class_seen}
-use Rattle.java_resolve.specs.Answers.{run}
-use Rattle.java_resolve.specs.Classes.{class_step, classes_of}
+use Rattle.name_outcome.specs.Answers.{run}
+use Rattle.name_outcome.specs.Classes.{class_step, classes_of}
 use Rattle.java_resolve.proofs.classes.classes_of.Given as goal
 
 -- the classes so far, and then the rest

@@ -1,5 +1,5 @@
 use Rattle.std.proofs.Common.{◌≡◌, drop}
-use Rattle.java_resolve.specs.Classes.{has_id}
+use Rattle.name_outcome.specs.Classes.{has_id}
 use Rattle.java_resolve.proofs.classes.has_id.Given as goal
 
 -- it is among those that are left, if at all

@@ -1,7 +1,7 @@
 use Rattle.std.proofs.Common.{◌≡◌, drop}
 use Rattle.java_tree.specs.Syntax.{decls}
-use Rattle.java_resolve.specs.Answers.{run}
-use Rattle.java_resolve.specs.Classes.{know, known_of}
+use Rattle.name_outcome.specs.Answers.{run}
+use Rattle.name_outcome.specs.Classes.{know, known_of}
 use Rattle.java_resolve.proofs.classes.known_of.Given as goal
 
 -- the types so far, and then the rest

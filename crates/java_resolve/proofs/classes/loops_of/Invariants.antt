@@ -2,8 +2,8 @@ use Rattle.std.proofs.Common.{◌≡◌, drop}
 use Rattle.std.specs.Prelude.{map}
 use Rattle.java_core.specs.Trees.{at_place}
 use Rattle.java_core.specs.Programs.{class_seen}
-use Rattle.java_resolve.specs.Answers.{run}
-use Rattle.java_resolve.specs.Classes.{loop_step, loops_of}
+use Rattle.name_outcome.specs.Answers.{run}
+use Rattle.name_outcome.specs.Classes.{loop_step, loops_of}
 use Rattle.java_resolve.proofs.classes.loops_of.Given as goal
 
 -- the classes so far are no loops, and then the rest

@@ -2,8 +2,8 @@ use Rattle.std.proofs.Common.{ap}
 use Rattle.java_tree.specs.Syntax as tree
 use Rattle.java_core.specs.Trees as core
 use Rattle.java_core.specs.Trees.{at_place}
-use Rattle.java_resolve.specs.Tables.{table_of}
-use Rattle.java_resolve.specs.Expressions.{receiver_of}
+use Rattle.java_resolve.specs.Views.{table_of}
+use Rattle.java_resolve.specs.Views.{receiver_of}
 use Rattle.java_resolve.proofs.Rows.{carry, on_given, call_shown, on_shown, super_shown, new_shown}
 use Rattle.java_resolve.proofs.Lists.{all_next}
 use Rattle.java_resolve.proofs.exprs.+exprs.Goals as goal

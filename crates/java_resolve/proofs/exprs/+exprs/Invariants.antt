@@ -2,8 +2,8 @@ use Rattle.std.proofs.Common.{◌≡◌, drop}
 use Rattle.java_tree.specs.Syntax.{exprs}
 use Rattle.java_core.specs.Trees as core
 use Rattle.java_core.specs.Trees.{at_place, no_ex}
-use Rattle.java_resolve.specs.Tables.{table_of}
-use Rattle.java_resolve.specs.Expressions.{walk_all}
+use Rattle.java_resolve.specs.Views.{table_of}
+use Rattle.name_outcome.specs.Expressions.{walk_all}
 use Rattle.java_resolve.proofs.exprs.+exprs.Given as goal
 
 -- what the arguments so far and the rest resolve to is what all resolve to

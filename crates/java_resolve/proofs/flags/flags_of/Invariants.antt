@@ -1,6 +1,6 @@
 use Rattle.std.proofs.Common.{◌≡◌, drop}
-use Rattle.java_resolve.specs.Answers.{run}
-use Rattle.java_resolve.specs.Classes.{flag, flags_of}
+use Rattle.name_outcome.specs.Answers.{run}
+use Rattle.name_outcome.specs.Classes.{flag, flags_of}
 use Rattle.java_resolve.proofs.flags.flags_of.Given as goal
 
 -- the modifiers so far, and then the rest

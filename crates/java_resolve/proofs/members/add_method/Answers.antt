@@ -1,5 +1,5 @@
 use Rattle.std.proofs.Common.{◌≡◌, arith, length}
-use Rattle.java_resolve.specs.declared.tables.Heading.{Heading}
+use Rattle.name_outcome.specs.declared.parts.Heading.{Heading}
 use Rattle.java_resolve.proofs.SpotLemmas.{same_ok, spots_noted}
 use Rattle.java_resolve.proofs.OwnedLemmas.{noted_more, method_owned, not-there}
 use Rattle.java_resolve.proofs.members.add_method.Goals as goal

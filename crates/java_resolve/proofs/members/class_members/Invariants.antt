@@ -1,7 +1,8 @@
 use Rattle.std.proofs.Common.{◌≡◌, drop}
 use Rattle.java_tree.specs.Syntax.{members}
-use Rattle.java_resolve.specs.Answers.{run}
-use Rattle.java_resolve.specs.Members.{members_seen, member_step}
+use Rattle.name_outcome.specs.Answers.{run}
+use Rattle.name_outcome.specs.Members.{member_step}
+use Rattle.java_resolve.specs.Views.{members_seen}
 use Rattle.java_resolve.specs.Found.{AreFound}
 use Rattle.java_resolve.proofs.members.class_members.Given as goal
 

@@ -4,8 +4,8 @@ use Rattle.java_tree.specs.Size.{stmt_size, stmts_size, arms_size}
 use Rattle.java_core.specs.Trees as core
 use Rattle.java_core.specs.Trees.{at_place, no_other}
 use Rattle.java_tree.proofs.Sizes.{test_positive}
-use Rattle.java_resolve.specs.Tables.{table_of}
-use Rattle.java_resolve.specs.Statements.{state_of}
+use Rattle.java_resolve.specs.Views.{table_of}
+use Rattle.java_resolve.specs.Views.{state_of}
 use Rattle.java_resolve.proofs.StatementRows.{block_shown, while_shown, if_shown, for_shown}
 use Rattle.java_resolve.proofs.StatementSteps.{sts_next, arms_next, arms_fault, if_fault, if_given, for_given, for_fault, carry_st, stmt_within, arm_within}
 use Rattle.java_resolve.proofs.stmts.+stmts.Goals as goal

@@ -4,8 +4,9 @@ use Rattle.java_tree.specs.Size.{stmt_size, stmts_size, arms_size, else_size, st
 use Rattle.java_tree.specs.Arms.{arm_size}
 use Rattle.java_core.specs.Trees as core
 use Rattle.java_core.specs.Trees.{at_place, no_st, no_other}
-use Rattle.java_resolve.specs.Tables.{table_of}
-use Rattle.java_resolve.specs.Statements.{state_of, walk_sts, walk_arms}
+use Rattle.java_resolve.specs.Views.{table_of}
+use Rattle.name_outcome.specs.Statements.{walk_sts, walk_arms}
+use Rattle.java_resolve.specs.Views.{state_of}
 use Rattle.java_resolve.proofs.stmts.+stmts.Given as goal
 
 -- what the arms so far and the rest resolve to is what all resolve to

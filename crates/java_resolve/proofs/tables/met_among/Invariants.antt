@@ -1,5 +1,5 @@
 use Rattle.std.proofs.Common.{◌≡◌, drop}
-use Rattle.java_resolve.specs.Tables.{is_above}
+use Rattle.name_outcome.specs.Tables.{is_above}
 use Rattle.java_resolve.specs.Spots.{first_among}
 use Rattle.java_resolve.proofs.tables.met_among.Given as goal
 

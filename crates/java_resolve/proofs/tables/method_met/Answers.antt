@@ -1,6 +1,6 @@
 use Rattle.std.proofs.Common.{[], refl, sym, ap, ◌∙◌}
 use Rattle.java_resolve.specs.Spots.{first_among}
-use Rattle.java_resolve.specs.Tables.{is_above, method_met}
+use Rattle.name_outcome.specs.Tables.{is_above, method_met}
 use Rattle.java_resolve.proofs.SpotLemmas.{among, met-position}
 use Rattle.java_resolve.proofs.tables.method_met.Goals as goal
 

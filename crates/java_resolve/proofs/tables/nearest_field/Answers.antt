@@ -1,5 +1,6 @@
 use Rattle.std.proofs.Common.{sym, ap, ◌∙◌}
-use Rattle.java_resolve.specs.Tables.{table_of, parent_of, nearest_field}
+use Rattle.name_outcome.specs.Tables.{parent_of, nearest_field}
+use Rattle.java_resolve.specs.Views.{table_of}
 use Rattle.java_resolve.proofs.Nearest.{nearest_here, nearest_none, nearest_next}
 use Rattle.java_resolve.proofs.tables.nearest_field.Goals as goal
 

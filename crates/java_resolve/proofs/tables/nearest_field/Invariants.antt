@@ -1,5 +1,6 @@
 use Rattle.std.proofs.Common.{◌≡◌, drop}
-use Rattle.java_resolve.specs.Tables.{table_of, nearest_in}
+use Rattle.name_outcome.specs.Tables.{nearest_in}
+use Rattle.java_resolve.specs.Views.{table_of}
 use Rattle.java_resolve.proofs.tables.nearest_field.Given as goal
 
 -- what is nearest from here, in the steps that are left

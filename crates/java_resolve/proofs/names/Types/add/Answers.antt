@@ -1,8 +1,8 @@
 use Rattle.std.proofs.Common.{◌||◌, map, Ok, sym, ap, ◌∙◌}
 use Rattle.std.specs.Option.{is_some}
 use Rattle.java_resolve.specs.Known.{known_seen}
-use Rattle.java_resolve.specs.Names.{is_apart, number_of}
-use Rattle.java_resolve.specs.Classes.{know_named}
+use Rattle.name_outcome.specs.Names.{is_apart, number_of}
+use Rattle.name_outcome.specs.Classes.{know_named}
 use Rattle.java_resolve.proofs.TypeTable.{known-added}
 use Rattle.java_resolve.proofs.names.Types.add.Goals as goal
 

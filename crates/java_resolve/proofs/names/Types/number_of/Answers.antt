@@ -2,7 +2,7 @@ use Rattle.std.proofs.Common.{ap, ◌∙◌}
 use Rattle.std.specs.Prelude.{position, string_bytes}
 use Rattle.std.specs.Str.{bytes_eq}
 use Rattle.std.specs.Map.{keys_of}
-use Rattle.java_resolve.specs.Names.{number_of}
+use Rattle.name_outcome.specs.Names.{number_of}
 use Rattle.java_resolve.proofs.TypeTable.{found}
 use Rattle.java_resolve.proofs.names.Types.number_of.Goals as goal
 

@@ -1,0 +1,89 @@
+-- Steps over lists that stop at the first fault, and what stands where in a list.
+use Rattle.std.proofs.Common.{◌≡◌, ℕ, zero, suc, ◌<◌, ◌⊎◌, inl, inr, ⊎_elim, Bool, true, List, [], ◌∷◌, ◌++◌, map, length, get_or, Some, None, Result, Contains, refl, sym, ap, ◌∙◌, subst, arith}
+use Rattle.std.specs.Prelude.{slice_get, position}
+use Rattle.std.specs.List.{position_from}
+use Rattle.std.specs.Option.{option_map}
+use Rattle.std.proofs.lemmas.List.{append-nil, append_assoc}
+use Rattle.std.proofs.lemmas.Option.{slice_get-map}
+use Rattle.std.proofs.lemmas.Iterator.Adapters.{position_from-zero}
+use Rattle.java_core.proofs.Positions.{passes-position}
+use Rattle.java_core.specs.Formed.{HasNoTwice}
+use Rattle.name_rules.specs.declared.Refusal.{Refusal}
+use Rattle.name_outcome.specs.Answers.{run}
+use Rattle.name_outcome.proofs.Sees.{Tells, tell, same_some}
+
+-- what each step keeps holds at the end
+pub run-tells : {A S : Type 0} (F : Refusal → Type 0) (whole : List A) (f : S → A → Result S Refusal) (I : List A → S → Type 0) →
+    ((done rest : List A) (x : A) (s : S) → whole ≡ done ++ x ∷ rest → I done s → Tells (I (done ++ x ∷ [])) F (f s x)) →
+    (done xs : List A) (s : S) → whole ≡ done ++ xs → I done s → Tells (I whole) F (run f s xs)
+run-tells F whole f I step done [] s e h = subst (λ z. I z s) (sym (e ∙ append-nil done)) h
+run-tells F whole f I step done (x ∷ xs) s e h =
+    tell (I whole) F (f s x) (λ t. run f t xs) (step done xs x s e h) (λ t k. run-tells F whole f I step (done ++ x ∷ []) xs t (e
+    ∙ sym (append_assoc done (x ∷ []) xs)) k) (λ r q. q)
+
+-- ---- what stands where
+
+pub middle-stands : {A : Type 0} (xs : List A) (v : A) (ys : List A) → slice_get (xs ++ v ∷ ys) (length xs) ≡ Some v
+middle-stands [] v ys = refl
+middle-stands (x ∷ xs) v ys = middle-stands xs v ys
+
+pub stands-at : {A : Type 0} {whole : List A} (done : List A) (x : A) (rest : List A) → whole ≡ done ++ x ∷ rest → slice_get whole (length done) ≡ Some x
+stands-at done x rest e = ap (λ z. slice_get z (length done)) e ∙ middle-stands done x rest
+
+pub stands-within : {A : Type 0} (xs : List A) (i : ℕ) (x : A) → slice_get xs i ≡ Some x → i < length xs
+stands-within [] i x e = absurd (cc e)
+stands-within (y ∷ ys) zero x e = omega arith
+stands-within (y ∷ ys) (suc i) x e = let h = stands-within ys i x e in omega (arith, h)
+
+pub stands-front : {A : Type 0} (xs ys : List A) (i : ℕ) (x : A) → slice_get xs i ≡ Some x → slice_get (xs ++ ys) i ≡ Some x
+stands-front [] ys i x e = absurd (cc e)
+stands-front (z ∷ xs) ys zero x e = e
+stands-front (z ∷ xs) ys (suc i) x e = stands-front xs ys i x e
+
+pub earlier-stands : {A : Type 0} {whole : List A} (done rest : List A) → whole ≡ done ++ rest → (i : ℕ) (x : A) → slice_get done i ≡ Some x
+    → slice_get whole i ≡ Some x
+earlier-stands done rest e i x h = ap (λ z. slice_get z i) e ∙ stands-front done rest i x h
+
+pub push-cases : {A : Type 0} (xs : List A) (y : A) (i : ℕ) (x : A) → slice_get (xs ++ y ∷ []) i ≡ Some x → (slice_get xs i ≡ Some x)
+    ⊎ ((i ≡ length xs) × (y ≡ x))
+push-cases [] y zero x e = inr (refl, same_some e)
+push-cases [] y (suc i) x e = absurd (cc e)
+push-cases (z ∷ xs) y zero x e = inl e
+push-cases (z ∷ xs) y (suc i) x e = ⊎_elim (λ h. inl h) (λ h. inr (ap suc h.0, h.1)) (push-cases xs y i x e)
+
+pub member-at : {A : Type 0} (xs : List A) (i : ℕ) (x : A) → slice_get xs i ≡ Some x → Contains xs x
+member-at [] i x e = absurd (cc e)
+member-at (y ∷ ys) zero x e = (0, omega arith, same_some e)
+member-at (y ∷ ys) (suc i) x e = let h = member-at ys i x e in (suc h.0, (let k = h.1 in omega (arith, k)), h.2)
+
+pub member-stands : {A : Type 0} (xs : List A) (x : A) → Contains xs x → (i : ℕ) × (slice_get xs i ≡ Some x)
+member-stands xs x h = (h.0, go xs h.0 h.1 h.2)
+  where
+    go : (ys : List _) (i : ℕ) → i < length ys → get_or ys i x ≡ x → slice_get ys i ≡ Some x
+    go [] i lt e = absurd (omega (arith, lt))
+    go (y ∷ ys) zero lt e = ap Some e
+    go (y ∷ ys) (suc i) lt e = go ys i (omega (arith, lt)) e
+
+pub map-stands : {A B : Type 0} (f : A → B) (xs : List A) (i : ℕ) (y : B) → slice_get (map f xs) i ≡ Some y → (x : A) × (slice_get xs i ≡ Some x) × (f x ≡ y)
+map-stands f [] i y e = absurd (cc e)
+map-stands f (x ∷ xs) zero y e = (x, refl, same_some e)
+map-stands f (x ∷ xs) (suc i) y e = map-stands f xs i y e
+
+pub stands-map : {A B : Type 0} (f : A → B) (xs : List A) (i : ℕ) (x : A) → slice_get xs i ≡ Some x → slice_get (map f xs) i ≡ Some (f x)
+stands-map f xs i x e = slice_get-map f xs i ∙ ap (option_map f) e
+
+pub once-push : {A : Type 0} (xs : List A) (y : A) → HasNoTwice xs → ((i : ℕ) → slice_get xs i ≡ Some y → ⊥) → HasNoTwice (xs ++ y ∷ [])
+unfolding HasNoTwice
+once-push xs y once fresh i j x a b =
+    ⊎_elim
+    (λ h. ⊎_elim (λ k. once i j x h k) (λ k. absurd (fresh i (h ∙ ap Some (sym k.1)))) (push-cases xs y j x b))
+    (λ h. ⊎_elim (λ k. absurd (fresh j (k ∙ ap Some (sym h.1)))) (λ k. h.0 ∙ sym k.0) (push-cases xs y j x b))
+    (push-cases xs y i x a)
+
+-- ---- the first that passes
+
+pub position-from : {A : Type 0} (p : A → Bool) (xs : List A) → position p xs ≡ position_from p 0 xs
+position-from p xs = position_from-zero p xs
+
+pub none-passes : {A : Type 0} (p : A → Bool) (xs : List A) → position p xs ≡ None → (i : ℕ) (x : A) → slice_get xs i ≡ Some x → p x ≡ true → ⊥
+none-passes p xs none i x e h = let found = passes-position p xs i x e h in cc (sym none ∙ found.1)

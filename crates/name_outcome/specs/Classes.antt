@@ -1,0 +1,233 @@
+-- The classes and interfaces of a tree: their names, modifiers and supertypes, and which are above which.
+use Rattle.std.specs.Prelude.{ℕ, ◌+◌, ◌||◌, ◌==◌, not, Bool, true, false, List, [], ◌∷◌, ◌++◌, Option, Some, None, is_some, Result, Ok, Err, codes, if◌then◌else◌, slice_get}
+use Rattle.std.specs.Str.{chars}
+use Rattle.kaba_base.specs.declared.Place.{Place}
+use Rattle.kaba_base.specs.declared.ClassId.{ClassId}
+use Rattle.kaba_base.specs.declared.words.Keyword.{Keyword}
+use Rattle.kaba_base.specs.declared.words.Keyword.TheVariants as keys
+use Rattle.java_tree.specs.declared.Id.{Id}
+use Rattle.java_tree.specs.declared.Modifier.{Modifier}
+use Rattle.java_tree.specs.Syntax.{DeclTree, ClassTree, InterfaceTree}
+use Rattle.java_core.specs.Trees.{at_place}
+use Rattle.java_core.specs.Programs.{PlainClass}
+use Rattle.name_rules.specs.declared.Form.TheVariants as forms
+use Rattle.name_rules.specs.declared.Refusal.{Refusal}
+use Rattle.name_rules.specs.declared.Refusal.TheVariants.{Twice, TwoKinds, Loop, NotInProfile}
+use Rattle.name_outcome.specs.Known.{Known}
+use Rattle.name_rules.specs.declared.parts.Kind.{Kind}
+use Rattle.name_rules.specs.declared.parts.Kind.TheVariants as kinds
+use Rattle.name_outcome.specs.declared.parts.Flags.{Flags}
+use Rattle.name_outcome.specs.Answers.{with, run}
+use Rattle.name_outcome.specs.Names.{is_apart, number_of, asked}
+use Rattle.name_outcome.specs.Tables.{is_above}
+pub use Rattle.java_core.specs.Subtypes.{of_classes, class_id, subtype_rows}
+
+abbrev pub decl_name : DeclTree → List ℕ
+decl_name (ClassTree mods n parent faces ms p) = n
+decl_name (InterfaceTree mods n parents hs p) = n
+
+abbrev pub decl_place : DeclTree → Place
+decl_place (ClassTree mods n parent faces ms p) = p
+decl_place (InterfaceTree mods n parents hs p) = p
+
+abbrev pub is_interface_tree : DeclTree → Bool
+is_interface_tree (ClassTree mods n parent faces ms p) = false
+is_interface_tree (InterfaceTree mods n parents hs p) = true
+
+abbrev pub object_known : Known
+object_known = record { name = chars (codes "Object"); is_interface = false }
+
+-- the types so far, and one more; a class of a known name is there twice
+abbrev pub know_named : List Known → List ℕ → Bool → Place → Result (List Known) Refusal
+know_named ks n interface p = if is_apart n || is_some (number_of ks n) then Err (Twice n p) else Ok (ks ++ record { name = n; is_interface = interface } ∷ [])
+
+abbrev pub know : List Known → DeclTree → Result (List Known) Refusal
+know ks d = know_named ks (decl_name d) (is_interface_tree d) (decl_place d)
+
+-- the names of all types, Object first
+abbrev pub known_of : List DeclTree → Result (List Known) Refusal
+known_of tree = run know (object_known ∷ []) tree
+
+-- ---- modifiers
+
+abbrev pub no_flags : Flags
+no_flags = record { is_public = false; is_protected = false; is_private = false; is_abstract = false; is_static = false; is_final = false }
+
+-- where `static` cannot stand
+abbrev pub no_static : Kind → Bool
+no_static kinds.Class = true
+no_static kinds.Interface = true
+no_static kinds.Head = true
+no_static kinds.Field = false
+no_static kinds.Method = false
+
+-- members of interfaces have no other modifiers than `public` and `abstract`
+abbrev pub is_head : Kind → Bool
+is_head kinds.Head = true
+is_head kinds.Class = false
+is_head kinds.Interface = false
+is_head kinds.Field = false
+is_head kinds.Method = false
+
+abbrev pub is_field : Kind → Bool
+is_field kinds.Field = true
+is_field kinds.Class = false
+is_field kinds.Interface = false
+is_field kinds.Head = false
+is_field kinds.Method = false
+
+-- whether a modifier stands twice or does not fit: `abstract` with `static` or `private` or on a field, `static` on a class or an interface, any but
+-- `public` and `abstract` in an interface
+abbrev pub is_misplaced : Kind → Flags → Keyword → Bool
+is_misplaced k f keys.Public = f.is_public
+is_misplaced k f keys.Protected = f.is_protected || is_head k
+is_misplaced k f keys.Private = (f.is_private || f.is_abstract) || is_head k
+is_misplaced k f keys.Abstract = ((f.is_abstract || f.is_private) || f.is_static) || is_field k
+is_misplaced k f keys.Static = (f.is_static || f.is_abstract) || no_static k
+is_misplaced k f keys.Final = f.is_final || is_head k
+is_misplaced k f _ = false
+
+-- one modifier more
+abbrev pub noted : Flags → Keyword → Flags
+noted f keys.Public = record {
+  is_public = true;
+  is_protected = f.is_protected;
+  is_private = f.is_private;
+  is_abstract = f.is_abstract;
+  is_static =
+      f.is_static;
+  is_final = f.is_final;
+}
+noted f keys.Protected = record {
+  is_public = f.is_public;
+  is_protected = true;
+  is_private = f.is_private;
+  is_abstract = f.is_abstract;
+  is_static =
+      f.is_static;
+  is_final = f.is_final;
+}
+noted f keys.Private = record {
+  is_public = f.is_public;
+  is_protected = f.is_protected;
+  is_private = true;
+  is_abstract = f.is_abstract;
+  is_static =
+      f.is_static;
+  is_final = f.is_final;
+}
+noted f keys.Abstract = record {
+  is_public = f.is_public;
+  is_protected = f.is_protected;
+  is_private = f.is_private;
+  is_abstract = true;
+  is_static =
+      f.is_static;
+  is_final = f.is_final;
+}
+noted f keys.Static = record {
+  is_public = f.is_public;
+  is_protected = f.is_protected;
+  is_private = f.is_private;
+  is_abstract = f.is_abstract;
+  is_static = true;
+  is_final = f.is_final;
+}
+noted f keys.Final = record {
+  is_public = f.is_public;
+  is_protected = f.is_protected;
+  is_private = f.is_private;
+  is_abstract = f.is_abstract;
+  is_static = f.is_static;
+  is_final = true;
+}
+noted f _ = f
+
+abbrev pub flag : Kind → Flags → Modifier → Result Flags Refusal
+flag k f m = if is_misplaced k f m.word then Err (NotInProfile forms.Modifier m.place) else Ok (noted f m.word)
+
+abbrev pub flags_of : Kind → List Modifier → Result Flags Refusal
+flags_of k mods = run (flag k) no_flags mods
+
+-- ---- supertypes
+
+abbrev pub is_face_in : Option Known → Bool
+is_face_in None = false
+is_face_in (Some k) = k.is_interface
+
+-- whether the type of this number is an interface
+abbrev pub is_face : List Known → ℕ → Bool
+is_face known k = is_face_in (slice_get known k)
+
+-- the superclass: Object where none is named; an interface is none
+abbrev pub parent_tree : List Known → Option Id → Result ℕ Refusal
+parent_tree known None = Ok 0
+parent_tree known (Some i) = with (asked known i.name i.place) (λ k. if is_face known k then Err (TwoKinds i.name i.place) else Ok k)
+
+abbrev pub has_id : List ClassId → ℕ → Bool
+has_id [] k = false
+has_id (c ∷ cs) k = if c.0 == k then true else has_id cs k
+
+-- the interfaces so far, and one more, which is no class and not there yet
+abbrev pub face : List Known → List ClassId → Id → Result (List ClassId) Refusal
+face known fs i = with (asked known i.name i.place) (λ k. if not (is_face known k) then Err (TwoKinds i.name i.place) else if has_id fs k then Err
+    (Twice i.name i.place) else Ok (fs ++ class_id k ∷ []))
+
+abbrev pub faces_of : List Known → List Id → Result (List ClassId) Refusal
+faces_of known ids = run (face known) [] ids
+
+abbrev pub plain_class : List ℕ → Bool → Bool → Option ClassId → List ClassId → Place → PlainClass
+plain_class n interface abstract parent faces p =
+    record { name = n; is_interface = interface; is_abstract = abstract; parent = parent; faces = faces; tag = at_place p }
+
+-- the class or interface of a declaration
+abbrev pub class_tree : List Known → DeclTree → Result PlainClass Refusal
+class_tree known (ClassTree mods n parent faces ms p) =
+    with (flags_of kinds.Class mods)
+    (λ f. with (parent_tree known parent)
+    (λ c. with (faces_of known faces) (λ fs. Ok (plain_class n false f.is_abstract (Some (class_id c)) fs p))))
+class_tree known (InterfaceTree mods n parents hs p) =
+    with (flags_of kinds.Interface mods) (λ f. with (faces_of known parents) (λ fs. Ok (plain_class n true f.is_abstract (Some (class_id 0)) fs p)))
+
+abbrev pub class_step : List Known → List PlainClass → DeclTree → Result (List PlainClass) Refusal
+class_step known cs d = with (class_tree known d) (λ c. Ok (cs ++ c ∷ []))
+
+-- Object: its place is that of nothing
+abbrev pub object_class : PlainClass
+object_class = record {
+  name = chars (codes "Object");
+  is_interface = false;
+  is_abstract = false;
+  parent = None;
+  faces = [];
+  tag = at_place
+      (record { at = 0; line = 0 });
+}
+
+abbrev pub classes_of : List Known → List DeclTree → Result (List PlainClass) Refusal
+classes_of known tree = run (class_step known) (object_class ∷ []) tree
+
+-- ---- which types are above which
+
+-- whether something directly above a type is at or below b
+abbrev pub any_above : List (List Bool) → List ClassId → ℕ → Bool
+any_above rows [] b = false
+any_above rows (c ∷ cs) b = if is_above rows c.0 b then true else any_above rows cs b
+
+abbrev pub by_parent : List (List Bool) → Option ClassId → ℕ → Bool
+by_parent rows None b = false
+by_parent rows (Some c) b = is_above rows c.0 b
+
+abbrev pub above_by : List (List Bool) → PlainClass → ℕ → Bool
+above_by rows c b = by_parent rows c.parent b || any_above rows c.faces b
+
+-- the types at or above each type: no way upwards is longer than the list of types
+unfoldable pub above_of : List PlainClass → Result (List (List Bool)) Refusal
+above_of all = Ok (subtype_rows all)
+
+-- a class that is its own ancestor
+abbrev pub loop_step : List (List Bool) → ℕ → PlainClass → Result ℕ Refusal
+loop_step rows a c = if above_by rows c a then Err (Loop c.name c.tag.place) else Ok (a + 1)
+
+abbrev pub loops_of : List (List Bool) → List PlainClass → Result ℕ Refusal
+loops_of rows all = run (loop_step rows) 0 all

@@ -1,0 +1,6 @@
+-- A class or an interface as the other declarations know it.
+use Rattle.std.specs.Prelude.{ℕ, Bool, List}
+
+pub record Known : Type 0 where
+  pub name : List ℕ
+  pub is_interface : Bool

@@ -1,0 +1,9 @@
+pub mod Known
+pub mod Answers
+pub mod Names
+pub mod Tables
+pub mod Expressions
+pub mod Statements
+pub mod Classes
+pub mod Members
+pub mod Resolved

@@ -1,0 +1,63 @@
+-- What a body sees of the declarations: types, superclasses, fields and methods.
+use Rattle.std.specs.Prelude.{ℕ, suc, ◌&&◌, ◌==◌, Bool, List, [], ◌∷◌, Option, Some, None, if◌then◌else◌, slice_get}
+use Rattle.std.specs.Str.{bytes_eq}
+use Rattle.kaba_base.specs.declared.ClassId.{ClassId}
+use Rattle.java_core.specs.declared.Field.{Field}
+use Rattle.name_outcome.specs.Known.{Known}
+use Rattle.name_outcome.specs.declared.parts.Heading.{Heading}
+pub use Rattle.java_core.specs.Squares.{bit_in, row_in, is_above}
+
+-- the declarations: types, superclasses, which types are at or above which, fields and methods
+pub record Table : Type 0 where
+  pub known : List Known
+  pub parents : List (Option ClassId)
+  pub above : List (List Bool)
+  pub fields : List Field
+  pub headings : List Heading
+
+-- the superclass of a class
+abbrev pub parent_in : Option (Option ClassId) → Option ClassId
+parent_in None = None
+parent_in (Some c) = c
+
+abbrev pub parent_of : List (Option ClassId) → ℕ → Option ClassId
+parent_of parents c = parent_in (slice_get parents c)
+
+-- the number of the first field of a class with a name, the first field numbered k
+abbrev pub field_from : ℕ → ℕ → List ℕ → List Field → Option ℕ
+field_from k c n [] = None
+field_from k c n (f ∷ fs) = if (f.owner.0 == c) && bytes_eq f.name n then Some k else field_from (suc k) c n fs
+
+-- the field of a name that a class itself declares
+abbrev pub own_field : Table → ℕ → List ℕ → Option ℕ
+own_field t c n = field_from 0 c n t.fields
+
+-- the first of the two that is there, the second at the superclass
+abbrev pub or_above : Option ℕ → Option ClassId → (ℕ → Option ℕ) → Option ℕ
+or_above (Some f) above go = Some f
+or_above None None go = None
+or_above None (Some p) go = go p.0
+
+-- the nearest field of a name upwards, within as many steps as the list is long
+abbrev pub nearest_in : Table → List ℕ → List (Option ClassId) → ℕ → Option ℕ
+nearest_in t n [] c = own_field t c n
+nearest_in t n (_ ∷ steps) c = or_above (own_field t c n) (parent_of t.parents c) (λ p. nearest_in t n steps p)
+
+unfoldable pub nearest_field : Table → ℕ → List ℕ → Option ℕ
+nearest_field t c n = nearest_in t n t.parents c
+
+-- the number of the first method of a class with a name
+abbrev pub method_from : ℕ → ℕ → List ℕ → List Heading → Option ℕ
+method_from k c n [] = None
+method_from k c n (m ∷ ms) = if (m.owner == c) && bytes_eq m.name n then Some k else method_from (suc k) c n ms
+
+unfoldable pub own_method : Table → ℕ → List ℕ → Option ℕ
+own_method t c n = method_from 0 c n t.headings
+
+-- the number of the first method with a name in a class and its ancestors
+abbrev pub met_from : List (List Bool) → ℕ → ℕ → List ℕ → List Heading → Option ℕ
+met_from rows k c n [] = None
+met_from rows k c n (m ∷ ms) = if is_above rows c m.owner && bytes_eq m.name n then Some k else met_from rows (suc k) c n ms
+
+unfoldable pub method_met : Table → ℕ → List ℕ → Option ℕ
+method_met t c n = met_from t.above 0 c n t.headings
