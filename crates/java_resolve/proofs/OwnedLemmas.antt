@@ -1,18 +1,18 @@
 -- Where a class's own members stand: the table of them, and one member more.
-use Rattle.std.proofs.Common.{◌≡◌, ℕ, ◌+◌, suc, Bool, true, false, ◌&&◌, cond, List, [], ◌∷◌, ◌++◌, map, length, Option, Some, None, arith, refl, sym, ap, ◌∙◌, subst}
-use Rattle.std.specs.Prelude.{nat_eq, is_some, ◌==◌, if◌then◌else◌}
+use Rattle.std.proofs.Common.{◌≡◌, ℕ, ◌+◌, Bool, true, false, ◌&&◌, cond, List, [], ◌∷◌, ◌++◌, length, Option, Some, None, arith, refl, sym, ap, ◌∙◌}
+use Rattle.std.specs.Prelude.{nat_eq, is_some, position, ◌==◌}
+use Rattle.std.specs.List.{position_from}
 use Rattle.std.specs.Option.{option_map_or}
 use Rattle.std.specs.Str.{bytes_eq, encode_utf8_all}
 use Rattle.std.specs.HashMap.{HashMap}
+use Rattle.std.proofs.lemmas.Bool.{and_parts}
+use Rattle.std.proofs.lemmas.Iterator.Adapters.{position_from-zero}
 use Rattle.std.proofs.lemmas.Bool.Decides.{Decides-eqb}
-use Rattle.std.proofs.lemmas.List.{length-map, map-append}
 use Rattle.std.proofs.lemmas.Slice.Eq.{bytes_eq-Decides}
 use Rattle.indexmap.specs.IndexMap.{get}
-use Rattle.java_resolve.specs.Owned.{AreOwned, owned_from, owned_in, fields_owned, methods_owned}
-use Rattle.java_core.specs.declared.Field.{Field}
-use Rattle.name_outcome.specs.declared.parts.Heading.{Heading}
+use Rattle.java_core.specs.Classes.{first_or}
+use Rattle.java_resolve.specs.Owned.{AreOwned, owned_in}
 use Rattle.java_resolve.specs.declared.owned.Owned.{Owned}
-use Rattle.name_outcome.specs.Tables.{field_from, method_from}
 use Rattle.java_resolve.proofs.SpotLemmas.{text_test}
 
 -- ---- the table
@@ -42,65 +42,50 @@ put_back false false k old own mid more new e f g h = h ∙ f
 
 -- ---- one member more
 
-abbrev first : Option ℕ → Option ℕ → Option ℕ
-first (Some k) o = Some k
-first None o = o
+not-there : (o : Option ℕ) → is_some o ≡ false → o ≡ None
+not-there None e = refl
+not-there (Some k) e = absurd (cc e)
 
-more : (k c : ℕ) (n : List ℕ) (ms : List (ℕ × List ℕ)) (m : ℕ × List ℕ) → owned_from k c n (ms ++ m ∷ [])
-    ≡ first (owned_from k c n ms) (if (m.0 == c) && bytes_eq m.1 n then Some (k + length ms) else None)
-more k c n [] m = ap (λ j. if (m.0 == c) && bytes_eq m.1 n then Some j else None) (omega arith)
-more k c n (x ∷ ms) m =
-    go ((x.0 == c) && bytes_eq x.1 n) (owned_from (suc k) c n (ms ++ m ∷ [])) (owned_from (suc k) c n ms) _ (more (suc k) c n ms m
-    ∙ ap (λ j. first (owned_from (suc k) c n ms) (if (m.0 == c) && bytes_eq m.1 n then Some j else None)) (omega arith))
+-- what is found with one member more
+position-push : {A : Type 0} (p : A → Bool) (k : ℕ) (xs : List A) (x : A) → position_from p k (xs ++ x ∷ [])
+    ≡ first_or (position_from p k xs) (cond (p x) (Some (k + length xs)) None)
+position-push p k [] x = ap (λ j. cond (p x) (Some j) None) (omega arith)
+position-push p k (y ∷ xs) x =
+    go (p y) (position-push p (k + 1) xs x ∙ ap (λ j. first_or (position_from p (k + 1) xs) (cond (p x) (Some j) None)) (omega arith))
   where
-    go : (b : Bool) (o p q : Option ℕ) → o ≡ first p q → (if b then Some k else o) ≡ first (if b then Some k else p) q
-    go true o p q h = refl
-    go false o p q h = h
+    go : (b : Bool) {o q r : Option ℕ} → o ≡ first_or q r → cond b (Some k) o ≡ first_or (cond b (Some k) q) r
+    go true h = refl
+    go false h = h
 
--- a table that was right is right with one member more, which the class did not have
-noted : (ms : List (ℕ × List ℕ)) (c : ℕ) (x : List ℕ) (k : ℕ) (old new : Owned) → AreOwned ms old → k ≡ length ms → owned_from 0 c x ms ≡ None
-    → ((d : ℕ) (n : List ℕ) → owned_in new d n ≡ cond ((c == d) && bytes_eq x n) (Some k) (owned_in old d n))
-    → AreOwned (ms ++ (c, x) ∷ []) new
-noted ms c x k old new are long none put = record {
-  exact = λ d n. put d n ∙ ap (cond ((c == d) && bytes_eq x n) (Some k)) (are.exact d n)
-      ∙ go ((c == d) && bytes_eq x n) d n refl ∙ sym (more 0 d n ms (c, x));
-}
-  where
-    both : (a b : Bool) → a && b ≡ true → (a ≡ true) × (b ≡ true)
-    both true true e = (refl, refl)
-    both true false e = absurd (cc e)
-    both false b e = absurd (cc e)
+-- a table that was right is right with one member more, which its class did not have
+module _ {A : Type 0} (owner : A → ℕ) (name : A → List ℕ) where
+  abbrev pub find : List A → ℕ → List ℕ → Option ℕ
+  find xs c n = position (λ x. (owner x == c) && bytes_eq (name x) n) xs
 
-    end : (o : Option ℕ) → o ≡ first o None
-    end None = refl
-    end (Some j) = refl
+  pub noted_more : (xs ys : List A) (x : A) (k : ℕ) (old new : Owned) → ys ≡ xs ++ x ∷ [] → AreOwned (find xs) old
+      → k ≡ length xs → is_some (find xs (owner x) (name x)) ≡ false
+      → ((c : ℕ) (n : List ℕ) → owned_in new c n ≡ cond ((owner x == c) && bytes_eq (name x) n) (Some k) (owned_in old c n)) → AreOwned (find ys) new
+  noted_more xs ys x k old new push are long fresh put = record {
+    exact = λ c n. put c n ∙ ap (cond ((owner x == c) && bytes_eq (name x) n) (Some k)) (are.exact c n)
+        ∙ go ((owner x == c) && bytes_eq (name x) n) c n refl
+        ∙ sym (ap (λ z. find z c n) push ∙ position_from-zero (λ y. (owner y == c) && bytes_eq (name y) n) (xs ++ x ∷ [])
+        ∙ position-push (λ y. (owner y == c) && bytes_eq (name y) n) 0 xs x
+        ∙ ap (λ o. first_or o (cond ((owner x == c) && bytes_eq (name x) n) (Some (0 + length xs)) None))
+        (sym (position_from-zero (λ y. (owner y == c) && bytes_eq (name y) n) xs)));
+  }
+    where
+      none : find xs (owner x) (name x) ≡ None
+      none = not-there (find xs (owner x) (name x)) fresh
 
-    go : (b : Bool) (d : ℕ) (n : List ℕ) → (c == d) && bytes_eq x n ≡ b
-        → cond b (Some k) (owned_from 0 d n ms) ≡ first (owned_from 0 d n ms) (if b then Some (0 + length ms) else None)
-    go true d n e =
-        let h = both (c == d) (bytes_eq x n) e in
-        ap Some (long ∙ omega arith)
-        ∙ ap (λ o. first o (Some (0 + length ms))) (sym none ∙ ap (λ z. owned_from 0 z x ms) ((Decides-eqb c d).0 h.0)
-        ∙ ap (λ z. owned_from 0 d z ms) ((bytes_eq-Decides x n).0 h.1))
-    go false d n e = end (owned_from 0 d n ms)
+      end : (o : Option ℕ) → o ≡ first_or o None
+      end None = refl
+      end (Some j) = refl
 
-pub noted_more : {A : Type 0} (g : A → ℕ × List ℕ) (xs ys : List A) (x : A) (k : ℕ) (old new : Owned) → ys ≡ xs ++ x ∷ [] → AreOwned (map g xs) old
-    → k ≡ length xs → owned_from 0 (g x).0 (g x).1 (map g xs) ≡ None
-    → ((c : ℕ) (n : List ℕ) → owned_in new c n ≡ cond (((g x).0 == c) && bytes_eq (g x).1 n) (Some k) (owned_in old c n)) → AreOwned (map g ys) new
-noted_more g xs ys x k old new push are long none put =
-    subst (λ z. AreOwned z new) (sym (ap (map g) push ∙ map-append g xs (x ∷ [])))
-    (noted (map g xs) (g x).0 (g x).1 k old new are (long ∙ sym (length-map xs g)) none put)
-
-pub not-there : (o p : Option ℕ) → o ≡ p → is_some p ≡ false → o ≡ None
-not-there o None e f = e
-not-there o (Some k) e f = absurd (cc f)
-
--- ---- the same in the words of the tables
-
-pub field_owned : (k c : ℕ) (n : List ℕ) (fs : List Field) → owned_from k c n (fields_owned fs) ≡ field_from k c n fs
-field_owned k c n [] = refl
-field_owned k c n (f ∷ fs) = ap (λ o. if (f.owner.0 == c) && bytes_eq f.name n then Some k else o) (field_owned (suc k) c n fs)
-
-pub method_owned : (k c : ℕ) (n : List ℕ) (hs : List Heading) → owned_from k c n (methods_owned hs) ≡ method_from k c n hs
-method_owned k c n [] = refl
-method_owned k c n (h ∷ hs) = ap (λ o. if (h.owner == c) && bytes_eq h.name n then Some k else o) (method_owned (suc k) c n hs)
+      go : (b : Bool) (c : ℕ) (n : List ℕ) → (owner x == c) && bytes_eq (name x) n ≡ b
+          → cond b (Some k) (find xs c n) ≡ first_or (find xs c n) (cond b (Some (0 + length xs)) None)
+      go true c n e =
+          let h = and_parts (owner x == c) (bytes_eq (name x) n) e in
+          ap Some (long ∙ omega arith)
+          ∙ ap (λ o. first_or o (Some (0 + length xs))) (sym none ∙ ap (λ z. find xs z (name x)) ((Decides-eqb (owner x) c).0 h.0)
+          ∙ ap (find xs c) ((bytes_eq-Decides (name x) n).0 h.1))
+      go false c n e = end (find xs c n)

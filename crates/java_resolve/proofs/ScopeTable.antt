@@ -7,17 +7,13 @@ use Rattle.std.specs.declared.alloc.Global.{Global}
 use Rattle.std.proofs.lemmas.Str.{chars_from_encodes, IsUtf8-had}
 use Rattle.std.proofs.lemmas.List.{append_assoc, map-append}
 use Rattle.indexmap.specs.IndexMap.{insert_entry}
+use Rattle.java_core.specs.Classes.{first_or}
 use Rattle.name_rules.specs.declared.parts.Bound.{Bound}
 use Rattle.name_rules.specs.Meanings.{local_of}
 use Rattle.name_rules.specs.Resolves.{bound}
 use Rattle.java_resolve.specs.declared.scope.Block.{Block, Block', None', Some', out-Block, roll-Block}
 use Rattle.java_resolve.specs.Scopes.{bound_seen, own_bounds, bounds_in}
 use Rattle.java_resolve.proofs.TypeTable.{same-text}
-
--- the first of the two that is there
-abbrev pub first : Option ℕ → Option ℕ → Option ℕ
-first (Some k) o = Some k
-first None o = o
 
 -- a name is found under its number
 pub bound-found : (n : List ℕ) (es : List (String Global × ℕ)) → lookup (λ s. bytes_eq (encode_utf8_all n) (string_bytes s)) es
@@ -51,11 +47,11 @@ bound-added n text k es is none =
     (sym (chars_from_encodes n (string_bytes text) (IsUtf8-had (string_bytes text) text.ok) (sym is)))
 
 -- what is in scope around comes first
-pub in_both : (n : List ℕ) (xs ys : List Bound) → local_of n (xs ++ ys) ≡ first (local_of n xs) (local_of n ys)
+pub in_both : (n : List ℕ) (xs ys : List Bound) → local_of n (xs ++ ys) ≡ first_or (local_of n xs) (local_of n ys)
 in_both n [] ys = refl
 in_both n (x ∷ xs) ys = go (bytes_eq x.name n) (local_of n (xs ++ ys)) (local_of n xs) (in_both n xs ys)
   where
-    go : (b : Bool) (o p : Option ℕ) → o ≡ first p (local_of n ys) → cond b (Some x.number) o ≡ first (cond b (Some x.number) p) (local_of n ys)
+    go : (b : Bool) (o p : Option ℕ) → o ≡ first_or p (local_of n ys) → cond b (Some x.number) o ≡ first_or (cond b (Some x.number) p) (local_of n ys)
     go true o p h = refl
     go false o p h = h
 
@@ -71,7 +67,7 @@ unfolding out-Block denote.Hole.Carrier.out
 within (Block' own None') o p e = absurd (cc e)
 within (Block' own (Some' q inner)) o p e = ap (λ x. bounds_in x ++ map bound_seen own.entries) (ap (λ z. elim z [ Some x ↦ x.now | None ↦ inner ]) e)
 
-none_second : (o p : Option ℕ) → first o p ≡ None → p ≡ None
+none_second : (o p : Option ℕ) → first_or o p ≡ None → p ≡ None
 none_second None p e = e
 none_second (Some k) p e = absurd (cc e)
 

@@ -1,5 +1,5 @@
 -- Where names stand: what is found by a name's numbers is what is found by going over all.
-use Rattle.std.proofs.Common.{◌≡◌, ℕ, ◌+◌, suc, Bool, true, false, ◌&&◌, cond, List, [], ◌∷◌, ◌++◌, map, length, Option, Some, Result, Ok, Err, arith, refl, sym, ap, ◌∙◌, subst}
+use Rattle.std.proofs.Common.{◌≡◌, ℕ, ◌+◌, Bool, true, false, ◌&&◌, cond, List, [], ◌∷◌, ◌++◌, map, length, Option, Some, Result, Ok, Err, arith, refl, sym, ap, ◌∙◌, subst}
 use Rattle.std.specs.Prelude.{slice_get, if◌then◌else◌}
 use Rattle.std.specs.List.{position_from}
 use Rattle.std.specs.Option.{option_map_or}
@@ -7,39 +7,23 @@ use Rattle.std.specs.declared.vec.Vec.{Vec}
 use Rattle.std.specs.declared.alloc.Global.{Global}
 use Rattle.std.specs.Str.{bytes_eq, encode_utf8_all}
 use Rattle.std.proofs.lemmas.List.{append_assoc, length-append, length-map, map-append}
-use Rattle.std.proofs.lemmas.Slice.Eq.{bytes_eq-Decides}
-use Rattle.std.proofs.lemmas.Str.{cons_from_encodes}
-use Rattle.std.proofs.Math.Numerals.{add-one}
+use Rattle.std.proofs.lemmas.Iterator.Adapters.{position_from-zero}
 use Rattle.java_core.specs.declared.Local.{Local}
 use Rattle.java_core.specs.declared.Slot.{Slot}
 use Rattle.java_core.specs.declared.Ty.{Ty}
 use Rattle.java_core.specs.Trees.{at_place}
 use Rattle.java_core.specs.Programs.{slot_seen}
-use Rattle.name_outcome.specs.Members.{have_types, same_result, slot_from}
+use Rattle.name_outcome.specs.Members.{have_types, same_result, is_signature, slot_in}
 use Rattle.java_resolve.specs.Found.{fits}
-use Rattle.name_outcome.specs.declared.parts.Heading.{Heading}
-use Rattle.name_outcome.specs.Tables.{is_above, met_from}
 use Rattle.java_resolve.specs.declared.spots.Spots.{Spots}
-use Rattle.java_resolve.specs.Spots.{AreSpots, spots_from, spots_of, passes, first_among}
-
-same_test : (a b : Bool) → (a ≡ true → b ≡ true) → (b ≡ true → a ≡ true) → a ≡ b
-same_test true b h k = sym (h refl)
-same_test false true h k = k refl
-same_test false false h k = refl
-
-encodes-same : (xs ws : List ℕ) → encode_utf8_all xs ≡ encode_utf8_all ws → xs ≡ ws
-encodes-same [] [] e = refl
-encodes-same (x ∷ xs) [] e = let h = cons_from_encodes [] (encode_utf8_all xs) x (sym e) in cc h.1
-encodes-same xs (w ∷ ws) e =
-    let h = cons_from_encodes xs (encode_utf8_all ws) w e in
-    h.1 ∙ ap (λ rest. w ∷ rest) (encodes-same h.0 ws h.2)
+use Rattle.java_core.specs.Owned.{passes, first_among}
+use Rattle.java_core.proofs.Words.{is_word-same}
+use Rattle.name_outcome.proofs.Runs.{middle-stands}
+use Rattle.java_resolve.specs.Spots.{AreSpots, spots_from, spots_of}
 
 -- texts are the same exactly where their names are
 pub text_test : (a b : List ℕ) → bytes_eq (encode_utf8_all a) (encode_utf8_all b) ≡ bytes_eq a b
-text_test a b =
-    same_test (bytes_eq (encode_utf8_all a) (encode_utf8_all b)) (bytes_eq a b)
-    (λ h. (bytes_eq-Decides a b).1 (encodes-same a b ((bytes_eq-Decides (encode_utf8_all a) (encode_utf8_all b)).0 h)))
-    (λ h. (bytes_eq-Decides (encode_utf8_all a) (encode_utf8_all b)).1 (ap encode_utf8_all ((bytes_eq-Decides a b).0 h)))
+text_test a b = is_word-same a b (encode_utf8_all a) (encode_utf8_all b) refl refl
 
 pub same_ok : {A E : Type 0} (a b : A) → ◌≡◌ {A = Result A E} (Ok a) (Ok b) → a ≡ b
 same_ok a b e = ap (λ o. elim o [ Ok x ↦ x | Err r ↦ a ]) e
@@ -84,17 +68,13 @@ pub found_items : (b : Bool) (w o : Option (Vec ℕ Global)) → option_map_or (
 found_items true w o = refl
 found_items false w o = refl
 
-middle : {A : Type 0} (done : List A) (x : A) (rest : List A) → slice_get (done ++ x ∷ rest) (length done) ≡ Some x
-middle [] x rest = refl
-middle (y ∷ done) x rest = middle done x rest
-
 module _ {A : Type 0} (name : A → List ℕ) (p : A → Bool) (n : List ℕ) where
   -- what passes among those of a name is what passes and has the name
   pub among : (done rest : List A) (k : ℕ) → length done ≡ k → first_among p (done ++ rest) (spots_from k n (map name rest))
       ≡ position_from (λ x. p x && bytes_eq (name x) n) k rest
   among done [] k e = refl
   among done (x ∷ rest) k e =
-      by_name (bytes_eq (name x) n) (p x) (ap (passes p) (subst (λ i. slice_get (done ++ x ∷ rest) i ≡ Some x) e (middle done x rest)))
+      by_name (bytes_eq (name x) n) (p x) (ap (passes p) (subst (λ i. slice_get (done ++ x ∷ rest) i ≡ Some x) e (middle-stands done x rest)))
       (ap (λ w. first_among p w (spots_from (k + 1) n (map name rest))) (sym (append_assoc done (x ∷ []) rest))
       ∙ among (done ++ x ∷ []) rest (k + 1) (length-append done (x ∷ []) ∙ ap (λ i. i + 1) e))
     where
@@ -109,13 +89,6 @@ module _ {A : Type 0} (name : A → List ℕ) (p : A → Bool) (n : List ℕ) wh
 
 -- ---- the same in the words of the tables
 
-pub met-position : (rows : List (List Bool)) (k c : ℕ) (n : List ℕ) (hs : List Heading) → met_from rows k c n hs
-    ≡ position_from (λ h. is_above rows c h.owner && bytes_eq h.name n) k hs
-met-position rows k c n [] = refl
-met-position rows k c n (h ∷ hs) =
-    ap (λ o. if is_above rows c h.owner && bytes_eq h.name n then Some k else o)
-    (met-position rows (suc k) c n hs ∙ ap (λ i. position_from (λ h. is_above rows c h.owner && bytes_eq h.name n) i hs) (sym (add-one k)))
-
 by-name : (a b c : Bool) → (a && b) && c ≡ (b && c) && a
 by-name true true true = refl
 by-name true true false = refl
@@ -124,11 +97,14 @@ by-name false true true = refl
 by-name false true false = refl
 by-name false false c = refl
 
-pub slot-position : (k : ℕ) (n : List ℕ) (ls : List Local) (r : Option Ty) (ss : List Slot) → slot_from k n ls r (map (slot_seen at_place) ss)
-    ≡ position_from (λ s. fits ls r s && bytes_eq s.name n) k ss
-slot-position k n ls r [] = refl
-slot-position k n ls r (s ∷ ss) =
-    ap (λ b. if b then Some k else slot_from (suc k) n ls r (map (slot_seen at_place) ss))
-    (by-name (bytes_eq s.name n) (have_types ls s.params.items) (same_result r s.result))
-    ∙ ap (λ o. if fits ls r s && bytes_eq s.name n then Some k else o)
-    (slot-position (suc k) n ls r ss ∙ ap (λ i. position_from (λ s. fits ls r s && bytes_eq s.name n) i ss) (sym (add-one k)))
+pub slot-position : (n : List ℕ) (ls : List Local) (r : Option Ty) (ss : List Slot) → slot_in n ls r (map (slot_seen at_place) ss)
+    ≡ position_from (λ s. fits ls r s && bytes_eq s.name n) 0 ss
+slot-position n ls r ss = position_from-zero (is_signature n ls r) (map (slot_seen at_place) ss) ∙ from 0 ss
+  where
+    from : (k : ℕ) (ss : List Slot) → position_from (is_signature n ls r) k (map (slot_seen at_place) ss)
+        ≡ position_from (λ s. fits ls r s && bytes_eq s.name n) k ss
+    from k [] = refl
+    from k (s ∷ ss) =
+        ap (λ b. cond b (Some k) (position_from (is_signature n ls r) (k + 1) (map (slot_seen at_place) ss)))
+        (by-name (bytes_eq s.name n) (have_types ls s.params.items) (same_result r s.result))
+        ∙ ap (cond (fits ls r s && bytes_eq s.name n) (Some k)) (from (k + 1) ss)

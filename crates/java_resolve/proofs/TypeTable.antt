@@ -1,5 +1,5 @@
 -- What the table of types finds is what the list of its types says.
-use Rattle.std.proofs.Common.{◌≡◌, ℕ, suc, ◌+◌, ◌||◌, Bool, true, false, List, [], ◌∷◌, ◌++◌, map, Option, Some, None, Ok, Err, refl, sym, ap, ◌∙◌, cond}
+use Rattle.std.proofs.Common.{◌≡◌, ℕ, ◌+◌, ◌||◌, Bool, true, false, List, [], ◌∷◌, ◌++◌, map, Option, Some, None, Ok, Err, refl, sym, ap, ◌∙◌, cond}
 use Rattle.std.specs.Prelude.{String, position, string_bytes, string_eq}
 use Rattle.std.specs.List.{position_from}
 use Rattle.std.specs.Option.{is_some}
@@ -11,12 +11,11 @@ use Rattle.std.proofs.lemmas.Bool.{false≢true}
 use Rattle.std.proofs.lemmas.Slice.Eq.{bytes_eq-Decides}
 use Rattle.std.proofs.lemmas.Str.{chars_from_encodes, encodes-chars, IsUtf8-had}
 use Rattle.std.proofs.lemmas.List.{map-append}
-use Rattle.std.proofs.Math.Numerals.{add-one}
 use Rattle.indexmap.specs.IndexMap.{insert_entry}
 use Rattle.kaba_base.specs.declared.Place.{Place}
 use Rattle.name_rules.specs.declared.Refusal.TheVariants.{Twice}
 use Rattle.java_resolve.specs.Known.{known_seen}
-use Rattle.name_outcome.specs.Names.{is_apart, number_from, number_of}
+use Rattle.name_outcome.specs.Names.{is_apart, number_of}
 use Rattle.name_outcome.specs.Classes.{know_named}
 use Rattle.name_outcome.proofs.Runs.{position-from}
 
@@ -30,40 +29,40 @@ same-text n s =
     (λ e. (bytes_eq-Decides (encode_utf8_all n) (string_bytes s)).1 (ap encode_utf8_all (sym ((bytes_eq-Decides (chars (string_bytes s)) n).0 e))
     ∙ encodes-chars (string_bytes s) good))
 
-found-from : (k : ℕ) (n : List ℕ) (es : List (String Global × Bool)) → position_from (λ s. bytes_eq (encode_utf8_all n) (string_bytes s)) k
-    (keys_of es) ≡ number_from k n (map known_seen es)
-found-from k n [] = refl
-found-from k n (e ∷ es) =
-    ap (λ b. cond b (Some k) (position_from (λ s. bytes_eq (encode_utf8_all n) (string_bytes s)) (k + 1) (keys_of es))) (same-text n e.0)
-    ∙ ap (cond (bytes_eq (chars (string_bytes e.0)) n) (Some k))
-    (ap (λ i. position_from (λ s. bytes_eq (encode_utf8_all n) (string_bytes s)) i (keys_of es)) (add-one k) ∙ found-from (suc k) n es)
-
 -- a name is found under its number
 pub found : (n : List ℕ) (es : List (String Global × Bool)) → position (λ s. bytes_eq (encode_utf8_all n) (string_bytes s)) (keys_of es)
     ≡ number_of (map known_seen es) n
-found n es = position-from (λ s. bytes_eq (encode_utf8_all n) (string_bytes s)) (keys_of es) ∙ found-from 0 n es
+found n es = position-from (λ s. bytes_eq (encode_utf8_all n) (string_bytes s)) (keys_of es) ∙ from 0 es
+    ∙ sym (position-from (λ k. bytes_eq k.name n) (map known_seen es))
+  where
+    from : (k : ℕ) (es : List (String Global × Bool)) → position_from (λ s. bytes_eq (encode_utf8_all n) (string_bytes s)) k (keys_of es)
+        ≡ position_from (λ k. bytes_eq k.name n) k (map known_seen es)
+    from k [] = refl
+    from k (e ∷ es) =
+        ap (λ b. cond b (Some k) (position_from (λ s. bytes_eq (encode_utf8_all n) (string_bytes s)) (k + 1) (keys_of es))) (same-text n e.0)
+        ∙ ap (cond (bytes_eq (chars (string_bytes e.0)) n) (Some k)) (from (k + 1) es)
 
 -- a new name goes last
 appended : (k : ℕ) (n : List ℕ) (text : String Global) (b : Bool) (es : List (String Global × Bool)) → string_bytes text ≡ encode_utf8_all n
-    → number_from k n (map known_seen es) ≡ None → insert_entry string_eq es text b ≡ es ++ (text, b) ∷ []
+    → position_from (λ k. bytes_eq k.name n) k (map known_seen es) ≡ None → insert_entry string_eq es text b ≡ es ++ (text, b) ∷ []
 appended k n text b [] is none = refl
-appended k n text b (e ∷ es) is none = go (bytes_eq (chars (string_bytes e.0)) n) refl (appended (suc k) n text b es is)
+appended k n text b (e ∷ es) is none = go (bytes_eq (chars (string_bytes e.0)) n) refl (appended (k + 1) n text b es is)
   where
     other : string_eq text e.0 ≡ bytes_eq (chars (string_bytes e.0)) n
     other = ap (λ z. bytes_eq z (string_bytes e.0)) is ∙ same-text n e.0
 
-    go : (c : Bool) → bytes_eq (chars (string_bytes e.0)) n ≡ c → (number_from (suc k) n (map known_seen es) ≡ None → insert_entry string_eq es text b
+    go : (c : Bool) → bytes_eq (chars (string_bytes e.0)) n ≡ c → (position_from (λ k. bytes_eq k.name n) (k + 1) (map known_seen es) ≡ None → insert_entry string_eq es text b
         ≡ es ++ (text, b) ∷ []) → insert_entry string_eq (e ∷ es) text b ≡ e ∷ (es ++ (text, b) ∷ [])
-    go true f more = absurd (cc (sym (ap (λ z. cond z (Some k) (number_from (suc k) n (map known_seen es))) f) ∙ none))
+    go true f more = absurd (cc (sym (ap (λ z. cond z (Some k) (position_from (λ k. bytes_eq k.name n) (k + 1) (map known_seen es))) f) ∙ none))
     go false f more =
         ap (λ z. cond z ((e.0, b) ∷ es) (e ∷ insert_entry string_eq es text b)) (other ∙ f)
-        ∙ ap (λ z. e ∷ z) (more (sym (ap (λ z. cond z (Some k) (number_from (suc k) n (map known_seen es))) f) ∙ none))
+        ∙ ap (λ z. e ∷ z) (more (sym (ap (λ z. cond z (Some k) (position_from (λ k. bytes_eq k.name n) (k + 1) (map known_seen es))) f) ∙ none))
 
 known-more : (n : List ℕ) (text : String Global) (b : Bool) (es : List (String Global × Bool)) → string_bytes text ≡ encode_utf8_all n
     → number_of (map known_seen es) n ≡ None
     → map known_seen (insert_entry string_eq es text b) ≡ map known_seen es ++ record { name = n; is_interface = b } ∷ []
 known-more n text b es is none =
-    ap (map known_seen) (appended 0 n text b es is none) ∙ map-append known_seen es ((text, b) ∷ [])
+    ap (map known_seen) (appended 0 n text b es is (sym (position-from (λ k. bytes_eq k.name n) (map known_seen es)) ∙ none)) ∙ map-append known_seen es ((text, b) ∷ [])
     ∙ ap (λ z. map known_seen es ++ record { name = z; is_interface = b } ∷ [])
     (sym (chars_from_encodes n (string_bytes text) (IsUtf8-had (string_bytes text) text.ok) (sym is)))
 

@@ -7,7 +7,8 @@ use Rattle.java_core.specs.declared.Slot.{Slot}
 use Rattle.java_resolve.specs.declared.members.Draft.{Draft}
 use Rattle.name_outcome.specs.declared.parts.Heading.{Heading}
 use Rattle.name_outcome.specs.Members.{Members, have_types, same_result, slotted}
-use Rattle.java_resolve.specs.Owned.{AreOwned, fields_owned, methods_owned}
+use Rattle.name_outcome.specs.Tables.{field_in, method_in}
+use Rattle.java_resolve.specs.Owned.{AreOwned}
 use Rattle.java_resolve.specs.Spots.{AreSpots}
 
 -- whether a slot has these parameters and this result
@@ -29,7 +30,7 @@ slot_of static n ls r m =
 
 -- the fields and methods of each class, and the methods and slots of each name, stand where the draft says
 pub record AreFound (d : Draft) : Type 0 where
-  pub fields : AreOwned (fields_owned d.fields.items) d.own_fields
-  pub owned : AreOwned (methods_owned d.headings.items) d.own_methods
+  pub fields : AreOwned (field_in d.fields.items) d.own_fields
+  pub owned : AreOwned (method_in d.headings.items) d.own_methods
   pub methods : AreSpots (map (λ h. h.name) d.headings.items) d.method_spots
   pub slots : AreSpots (map (λ s. s.name) d.slots.items) d.slot_spots

@@ -1,5 +1,5 @@
 -- Where each name stands in a list of names.
-use Rattle.std.specs.Prelude.{◌≡◌, ℕ, ◌+◌, Bool, false, cond, List, [], ◌∷◌, Option, Some, None, slice_get, if◌then◌else◌}
+use Rattle.std.specs.Prelude.{◌≡◌, ℕ, ◌+◌, cond, List, [], ◌∷◌}
 use Rattle.std.specs.Option.{option_map_or}
 use Rattle.std.specs.Str.{bytes_eq, encode_utf8_all}
 use Rattle.indexmap.specs.IndexMap.{get_by_text}
@@ -17,12 +17,3 @@ spots_of s n = option_map_or (λ v. v.items) (get_by_text s.places (encode_utf8_
 -- the table has for each name where it stands
 pub record AreSpots (names : List (List ℕ)) (s : Spots) : Type 0 where
   pub exact : (n : List ℕ) → spots_of s n ≡ spots_from 0 n names
-
-abbrev pub passes : {A : Type 0} → (A → Bool) → Option A → Bool
-passes p None = false
-passes p (Some x) = p x
-
--- the first of these numbers whose item passes a test
-abbrev pub first_among : {A : Type 0} → (A → Bool) → List A → List ℕ → Option ℕ
-first_among p xs [] = None
-first_among p xs (k ∷ ks) = if passes p (slice_get xs k) then Some k else first_among p xs ks

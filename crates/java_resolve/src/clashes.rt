@@ -1,10 +1,10 @@
 //! Where methods of one name meet, and the main method.
 #![tactic(auto)]
 
-ghost use Rattle.std.specs.Prelude.{◌≡◌, ◌&&◌, ◌||◌, not, nat_lt, map, slice_get, IfOk};
+ghost use Rattle.std.specs.Prelude.{◌≡◌, ◌&&◌, ◌||◌, not, nat_lt, map, position, slice_get, IfOk};
 ghost use Rattle.name_outcome.specs.Answers.{Gives};
 ghost use Rattle.name_outcome.specs.Tables.{is_above};
-ghost use Rattle.name_outcome.specs.Members.{meet, same_slot, clash_of, clash_step, clashes_of, main_from, main_of};
+ghost use Rattle.name_outcome.specs.Members.{meet, same_slot, clash_of, clash_step, clashes_of, main_of};
 ghost use Rattle.java_resolve.specs.Clashes.{clash_at, clash_among, clash_after};
 ghost use Rattle.java_resolve.specs.Spots.{AreSpots, spots_of};
 
@@ -161,7 +161,7 @@ pub fn clashes_of(
 }
 
 fn main_from(all: &Vec<Heading>) -> Option<usize>
-    ensures { result ≡ main_from 0 all.now.items }
+    ensures { result ≡ position (λ h. h.is_main) all.now.items }
 {
     for (i, heading) in all.iter().enumerate() {
         if heading.is_main {

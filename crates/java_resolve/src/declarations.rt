@@ -2,7 +2,8 @@
 #![tactic(auto)]
 
 ghost use Rattle.std.specs.Prelude.{map};
-ghost use Rattle.java_resolve.specs.Owned.{AreOwned, fields_owned, methods_owned};
+ghost use Rattle.name_outcome.specs.Tables.{field_in, method_in};
+ghost use Rattle.java_resolve.specs.Owned.{AreOwned};
 ghost use Rattle.java_resolve.specs.Spots.{AreSpots};
 
 use crate::names::Types;
@@ -28,7 +29,7 @@ pub struct Tables {
     pub own_methods: Owned,
     /// Where the methods of each name stand.
     pub method_spots: Spots,
-    ghost fields_found: { AreOwned (fields_owned fields.items) own_fields },
-    ghost own_found: { AreOwned (methods_owned headings.items) own_methods },
+    ghost fields_found: { AreOwned (field_in fields.items) own_fields },
+    ghost own_found: { AreOwned (method_in headings.items) own_methods },
     ghost methods_found: { AreSpots (map (λ h. h.name) headings.items) method_spots },
 }

@@ -3,7 +3,8 @@
 
 ghost use Rattle.std.specs.Prelude.{◌≡◌};
 ghost use Rattle.name_outcome.specs.Answers.{Gives};
-ghost use Rattle.name_outcome.specs.Classes.{no_static, is_head, is_field, is_misplaced, noted, flag, flags_of};
+ghost use Rattle.name_outcome.specs.Classes.{is_taken, noted, flag, flags_of};
+ghost use Rattle.name_rules.specs.Conditions.{is_unfit};
 
 use crate::{Form, Refusal};
 use java_tree::Modifier;
@@ -11,57 +12,33 @@ use kaba_base::Keyword;
 use name_outcome::Flags;
 use name_rules::Kind;
 
-/// Whether `static` cannot stand there.
-fn no_static(kind: Kind) -> bool
-    ensures { result ≡ no_static kind }
+/// Whether the modifier cannot stand there.
+fn is_unfit(kind: Kind, word: Keyword) -> bool
+    ensures { result ≡ is_unfit kind word }
 {
     match kind {
-        Kind::Class => true,
-        Kind::Interface => true,
-        Kind::Head => true,
-        Kind::Field => false,
+        Kind::Class => matches!(word, Keyword::Static),
+        Kind::Interface => matches!(word, Keyword::Static),
+        Kind::Field => matches!(word, Keyword::Abstract),
+        Kind::Head => matches!(
+            word,
+            Keyword::Protected | Keyword::Private | Keyword::Static | Keyword::Final
+        ),
         Kind::Method => false,
     }
 }
 
-fn is_head(kind: Kind) -> bool
-    ensures { result ≡ is_head kind }
+/// Whether the modifier stands already, or one that disagrees with it.
+fn is_taken(flags: Flags, word: Keyword) -> bool
+    ensures { result ≡ is_taken flags word }
 {
-    match kind {
-        Kind::Head => true,
-        Kind::Class => false,
-        Kind::Interface => false,
-        Kind::Field => false,
-        Kind::Method => false,
-    }
-}
-
-fn is_field(kind: Kind) -> bool
-    ensures { result ≡ is_field kind }
-{
-    match kind {
-        Kind::Field => true,
-        Kind::Class => false,
-        Kind::Interface => false,
-        Kind::Head => false,
-        Kind::Method => false,
-    }
-}
-
-/// Whether the modifier stands twice or does not fit.
-fn is_misplaced(kind: Kind, flags: Flags, word: Keyword) -> bool
-    ensures { result ≡ is_misplaced kind flags word }
-{
-    let head = is_head(kind);
     match word {
         Keyword::Public => flags.is_public,
-        Keyword::Protected => flags.is_protected | head,
-        Keyword::Private => flags.is_private | flags.is_abstract | head,
-        Keyword::Abstract => {
-            flags.is_abstract | flags.is_private | flags.is_static | is_field(kind)
-        }
-        Keyword::Static => flags.is_static | flags.is_abstract | no_static(kind),
-        Keyword::Final => flags.is_final | head,
+        Keyword::Protected => flags.is_protected,
+        Keyword::Private => flags.is_private | flags.is_abstract,
+        Keyword::Abstract => flags.is_abstract | flags.is_private | flags.is_static,
+        Keyword::Static => flags.is_static | flags.is_abstract,
+        Keyword::Final => flags.is_final,
         _ => false,
     }
 }
@@ -87,7 +64,7 @@ fn noted(flags: Flags, word: Keyword) -> Flags
 fn flag(kind: Kind, flags: Flags, modifier: &Modifier) -> Result<Flags, Refusal>
     ensures { Gives (λ f. f) result (flag kind flags modifier.now) }
 {
-    if is_misplaced(kind, flags, modifier.word) {
+    if is_taken(flags, modifier.word) | is_unfit(kind, modifier.word) {
         return Err(Refusal::NotInProfile(Form::Modifier, modifier.place));
     }
     Ok(noted(flags, modifier.word))

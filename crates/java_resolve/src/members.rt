@@ -10,7 +10,7 @@ ghost use Rattle.java_core.specs.declared.Ty.{Ty};
 ghost use Rattle.java_resolve.specs.declared.members.Draft.{Draft};
 ghost use Rattle.name_outcome.specs.Answers.{Gives, run};
 ghost use Rattle.java_resolve.specs.Found.{AreFound, with_method, with_field, slot_of};
-ghost use Rattle.name_outcome.specs.Tables.{field_from, method_from};
+ghost use Rattle.name_outcome.specs.Tables.{field_in, method_in};
 ghost use Rattle.name_outcome.specs.Members.{Members, result_of, is_texts, takes_texts, is_main, add_heading, head_step, is_wrong_body, field_step, member_step, interface_step, decl_step, members_of, no_members};
 ghost use Rattle.java_resolve.specs.Views.{members_seen};
 
@@ -93,7 +93,7 @@ fn is_main(
 /// Whether a class has a method of this name.
 fn has_method(draft: &Draft, owner: u32, name: &Name) -> bool
     requires { AreFound draft.now }
-    ensures { result ≡ is_some (method_from 0 owner name.now draft.now.headings.items) }
+    ensures { result ≡ is_some (method_in draft.now.headings.items owner name.now) }
 {
     draft.own_methods.at(owner, name).is_some()
 }
@@ -101,7 +101,7 @@ fn has_method(draft: &Draft, owner: u32, name: &Name) -> bool
 /// Whether a class has a field of this name.
 fn has_field(draft: &Draft, owner: u32, name: &Name) -> bool
     requires { AreFound draft.now }
-    ensures { result ≡ is_some (field_from 0 owner name.now draft.now.fields.items) }
+    ensures { result ≡ is_some (field_in draft.now.fields.items owner name.now) }
 {
     draft.own_fields.at(owner, name).is_some()
 }
@@ -109,7 +109,7 @@ fn has_field(draft: &Draft, owner: u32, name: &Name) -> bool
 /// One method more, which its class does not have yet.
 fn add_method(alloc: Global, draft: &mut Draft, heading: Heading) -> Result<(), Refusal>
     requires found { AreFound draft.old }
-    requires fresh { is_some (method_from 0 heading.owner heading.name draft.old.headings.items) ≡ false }
+    requires fresh { is_some (method_in draft.old.headings.items heading.owner heading.name) ≡ false }
     ensures given { Gives (λ _. members_seen draft.new) result (Ok (with_method (members_seen draft.old) heading)) }
     ensures found { OnOk result (AreFound draft.new) }
 {
@@ -125,7 +125,7 @@ fn add_method(alloc: Global, draft: &mut Draft, heading: Heading) -> Result<(), 
 /// One field more, which its class does not have yet.
 fn add_field(alloc: Global, draft: &mut Draft, field: Field) -> Result<(), Refusal>
     requires found { AreFound draft.old }
-    requires fresh { is_some (field_from 0 field.owner.0 field.name draft.old.fields.items) ≡ false }
+    requires fresh { is_some (field_in draft.old.fields.items field.owner.0 field.name) ≡ false }
     ensures given { Gives (λ _. members_seen draft.new) result (Ok (with_field (members_seen draft.old) field)) }
     ensures found { OnOk result (AreFound draft.new) }
 {

@@ -19,7 +19,7 @@ pub struct Owned {
 impl Owned {
     /// Of no member.
     pub fn new(alloc: Global) -> Owned
-        ensures { AreOwned [] result }
+        ensures { AreOwned (λ _ _. None) result }
     {
         Owned {
             numbers: IndexMap::new(alloc),

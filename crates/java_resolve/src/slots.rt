@@ -6,9 +6,10 @@ ghost use Rattle.java_core.specs.Types.{is_base};
 ghost use Rattle.java_core.specs.Trees.{at_place};
 ghost use Rattle.java_core.specs.Programs.{PlainSlot, slot_seen};
 ghost use Rattle.name_outcome.specs.Answers.{Gives};
-ghost use Rattle.java_resolve.specs.Spots.{AreSpots, passes, first_among};
+ghost use Rattle.java_core.specs.Owned.{passes, first_among};
+ghost use Rattle.java_resolve.specs.Spots.{AreSpots};
 ghost use Rattle.java_resolve.specs.Found.{fits};
-ghost use Rattle.name_outcome.specs.Members.{same_type, same_result, have_types, slot_from, slotted};
+ghost use Rattle.name_outcome.specs.Members.{same_type, same_result, have_types, slot_in, slotted};
 
 use crate::Refusal;
 use crate::members::number_at;
@@ -106,7 +107,7 @@ fn slot_among(
 }
 
 /// The slot of a name, parameters and a result.
-fn slot_from(
+fn slot_in(
     slots: &Vec<Slot>,
     spots: &Spots,
     name: &Name,
@@ -114,7 +115,7 @@ fn slot_from(
     outcome: Option<Ty>,
 ) -> Option<usize>
     requires { AreSpots (map (λ s. s.name) slots.now.items) spots.now }
-    ensures { result ≡ slot_from 0 name.now locals.now outcome (map (slot_seen at_place) slots.now.items) }
+    ensures { result ≡ slot_in name.now locals.now outcome (map (slot_seen at_place) slots.now.items) }
 {
     slot_among(slots, spots.at(name), locals, outcome)
 }
@@ -145,7 +146,7 @@ pub fn slotted(
         result (Ok (slotted name.now locals.now outcome first (map (slot_seen at_place) slots.old.items))) }
     ensures found { OnOk result (AreSpots (map (λ s. s.name) slots.new.items) spots.new) }
 {
-    if let Some(slot) = slot_from(slots, spots, name, locals, outcome) {
+    if let Some(slot) = slot_in(slots, spots, name, locals, outcome) {
         return number_at(slot);
     }
     let number = number_at(slots.len())?;

@@ -2,7 +2,7 @@
 #![tactic(auto)]
 
 ghost use Rattle.std.specs.Prelude.{◌≡◌, slice_get};
-ghost use Rattle.java_resolve.specs.Spots.{passes, first_among};
+ghost use Rattle.java_core.specs.Owned.{passes, first_among};
 ghost use Rattle.name_outcome.specs.Tables.{is_above, parent_of, own_field, nearest_field, own_method, method_met};
 ghost use Rattle.java_resolve.specs.Views.{table_of};
 
@@ -44,7 +44,6 @@ fn met_among(rows: &Hierarchy, headings: &Vec<Heading>, list: &[u32], class: u32
 }
 
 /// The number of the field of a name that a class itself declares.
-#[tactic(auto, using(crate::proofs::OwnedLemmas::field_owned))]
 pub fn own_field(tables: &Tables, class: u32, name: &Name) -> Option<usize>
     ensures { result ≡ own_field (table_of tables.now) class name.now }
 {
@@ -73,7 +72,7 @@ pub fn nearest_field(tables: &Tables, class: u32, name: &Name) -> Option<usize>
 }
 
 /// The number of the method of a name that a class itself declares.
-#[tactic(auto, using(crate::proofs::OwnedLemmas::method_owned), unfolding(name_outcome::specs::Tables::own_method))]
+#[tactic(auto, unfolding(name_outcome::specs::Tables::own_method))]
 pub fn own_method(tables: &Tables, class: u32, name: &Name) -> Option<usize>
     ensures { result ≡ own_method (table_of tables.now) class name.now }
 {

@@ -2,8 +2,9 @@
 use Rattle.std.proofs.Common.{◌≡◌, ℕ, suc, ◌+◌, Bool, true, false, not, ◌||◌, List, [], ◌∷◌, ◌++◌, length, Option, Some, None, Err, Contains, refl, sym, ap, ◌∙◌, subst, arith}
 use Rattle.std.specs.Prelude.{if◌then◌else◌}
 use Rattle.std.specs.Option.{is_some}
-use Rattle.std.proofs.lemmas.Bool.{false≢true}
+use Rattle.std.proofs.lemmas.Bool.{false≢true, not-true}
 use Rattle.std.proofs.lemmas.List.{map-append, append-nil, append_assoc, length-append}
+use Rattle.std.proofs.Math.Bool.{or-true}
 use Rattle.java_tree.specs.Syntax.{Statements, HeadTree, MemberTree, FieldTree, MethodTree, DeclTree, ClassTree, InterfaceTree}
 use Rattle.name_rules.specs.declared.Form.TheVariants as forms
 use Rattle.name_rules.specs.declared.Refusal.TheVariants.{NotInProfile}
@@ -52,11 +53,7 @@ module _ (tree : List DeclTree) (known : List Known) (are : AreKnown tree known)
     where
       go : (b : Bool) → is_some n.body ≡ b → HasWrongBody n
       go true f = superfluous e f
-      go false f = in_concrete e (no_true n.in_abstract (sym (ap (λ z. z || not n.in_abstract) f) ∙ w))
-        where
-          no_true : (b : Bool) → not b ≡ true → b ≡ false
-          no_true true e = absurd (false≢true e)
-          no_true false e = refl
+      go false f = in_concrete e (not-true n.in_abstract (sym (ap (λ z. z || not n.in_abstract) f) ∙ w))
   wrong n false e k w = missing k e (none n.body w)
     where
       none : (o : Option Statements) → not (is_some o) ≡ true → o ≡ None
@@ -68,11 +65,7 @@ module _ (tree : List DeclTree) (known : List Known) (are : AreKnown tree known)
   right n a e w (superfluous f g) = false≢true (sym w ∙ ap (λ z. is_wrong_body n.in_abstract z (is_some n.body)) (sym e ∙ f)
       ∙ ap (λ z. z || not n.in_abstract) g)
   right n a e w (in_concrete f g) = false≢true (sym w ∙ ap (λ z. is_wrong_body n.in_abstract z (is_some n.body)) (sym e ∙ f)
-      ∙ ap (λ z. is_some n.body || not z) g ∙ at (is_some n.body))
-    where
-      at : (b : Bool) → b || true ≡ true
-      at true = refl
-      at false = refl
+      ∙ ap (λ z. is_some n.body || not z) g ∙ or-true (is_some n.body))
 
   member-tells : (c : ℕ) (a : Bool) (fs frest : List FieldAt) (ms mrest : List MethodAt) (x : MemberTree) (m : Members)
       → fields_in tree ≡ fs ++ (field_member c x ++ frest) → methods_in tree ≡ ms ++ (method_member c a x ++ mrest)
@@ -134,9 +127,6 @@ module _ (tree : List DeclTree) (known : List Known) (are : AreKnown tree known)
       run-tells (ConditionAt tree) hs (interface_step known c) (λ done m. AreAll fs (ms ++ heads_of c done) m) step [] hs m refl
       (subst (λ z. AreAll fs z m) (sym (append-nil ms)) h)
     where
-      one : HeadTree → MethodAt
-      one h = record { owner = c; kind = kinds.Head; in_abstract = true; head = h; body = None }
-
       no_wrong : (h : HeadTree) → HasWrongBody (record { owner = c; kind = kinds.Head; in_abstract = true; head = h; body = None }) → ⊥
       no_wrong h (missing k e b) = cc k
       no_wrong h (superfluous e b) = false≢true b

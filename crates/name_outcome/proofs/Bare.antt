@@ -208,68 +208,17 @@ map-both f g h e (x ∷ xs) = ap2 (λ y ys. y ∷ ys) (e x) (map-both f g h e xs
 
 bare-method : (m : Method) → bare_method (method_seen at_place m) ≡ method_seen no_place m
 bare-method m =
-    ap (λ z. record {
-      owner = m.owner.0;
-      name = m.name;
-      is_static = m.is_static;
-      is_public = m.is_public;
-      slot = m.slot;
-      params = z;
-      locals = map
-          bare_local (map (local_seen at_place) m.locals.items);
-      result = m.result;
-      body = option_map bare_sts (body_seen at_place m.body);
-      tag =
-          bare_tag;
-    }) (map-both (local_seen at_place) bare_local (local_seen no_place) (λ l. refl) m.params.items)
-    ∙ ap (λ z. record {
-      owner = m.owner.0;
-      name = m.name;
-      is_static = m.is_static;
-      is_public = m.is_public;
-      slot = m.slot;
-      params = map
-          (local_seen no_place) m.params.items;
-      locals = z;
-      result = m.result;
-      body = option_map bare_sts (body_seen at_place m.body);
-      tag = bare_tag;
-    })
-    (map-both (local_seen at_place) bare_local (local_seen no_place) (λ l. refl) m.locals.items)
-    ∙ ap (λ z. record {
-      owner = m.owner.0;
-      name = m.name;
-      is_static = m.is_static;
-      is_public = m.is_public;
-      slot = m.slot;
-      params = map
-          (local_seen no_place) m.params.items;
-      locals = map (local_seen no_place) m.locals.items;
-      result = m.result;
-      body = z;
-      tag = bare_tag;
-    })
-    (bare_seen at_place m.body)
+    rw (
+      map-both (local_seen at_place) bare_local (local_seen no_place) (λ l. refl) m.params.items,
+      map-both (local_seen at_place) bare_local (local_seen no_place) (λ l. refl) m.locals.items,
+      bare_seen at_place m.body,
+    ) refl
 
 -- the program without places
 pub bare-program : (p : Program) → bare_program (program_of at_place p) ≡ program_of no_place p
 bare-program p =
-    ap2 (λ y z. record {
-      classes = y;
-      fields = z;
-      methods = map bare_method (map (method_seen at_place) p.methods.items);
-      slots =
-          (program_of at_place p).slots;
-      main = p.main.0;
-    })
-    (map-both (class_seen at_place) bare_class (class_seen no_place) (λ c. refl) p.classes.items) (map-both (field_seen at_place) bare_field
-    (field_seen no_place) (λ f. refl) p.fields.items)
-    ∙ ap (λ z. record {
-      classes = (program_of no_place p).classes;
-      fields = (program_of no_place p).fields;
-      methods = z;
-      slots =
-          (program_of at_place p).slots;
-      main = p.main.0;
-    }) (map-both (method_seen at_place) bare_method (method_seen no_place) bare-method
-    p.methods.items)
+    rw (
+      map-both (class_seen at_place) bare_class (class_seen no_place) (λ c. refl) p.classes.items,
+      map-both (field_seen at_place) bare_field (field_seen no_place) (λ f. refl) p.fields.items,
+      map-both (method_seen at_place) bare_method (method_seen no_place) bare-method p.methods.items,
+    ) refl

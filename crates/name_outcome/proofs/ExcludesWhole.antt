@@ -15,30 +15,21 @@ use Rattle.java_core.specs.Formed.{HasNoTwice}
 use Rattle.name_rules.specs.declared.Refusal.{Refusal}
 use Rattle.name_rules.specs.declared.Refusal.TheVariants.{PrivateReused}
 use Rattle.name_rules.specs.declared.parts.Kind.{Kind}
-use Rattle.name_outcome.specs.Known.{Known}
 use Rattle.name_outcome.specs.declared.parts.Heading.{Heading}
 use Rattle.name_outcome.specs.Tables.{is_above}
-use Rattle.name_outcome.specs.Members.{Members}
-use Rattle.name_outcome.specs.Resolved as resolved_by
 use Rattle.name_rules.specs.Outline.{MethodAt, name_of, class_at, type_named, id_meant, faces_named, is_private, fields_in, methods_in, types_in, param_outline, method_outline, outline}
 use Rattle.name_rules.specs.Meanings.{class_named, bound_names}
-use Rattle.java_print.specs.Formed.{IsFormedTree}
 use Rattle.name_rules.specs.Resolves.{HasSlot, no_slot, a_slot, StsResolve, params_from, here_of, heading_of, BodyResolves, r_no_body, r_body, Resolves}
 use Rattle.name_rules.specs.Conditions.{ConditionAt, unknown, type_twice, known_twice, super_twice, field_twice, method_twice, param_twice, loop, overload, type_as_field, type_as_param, face_as_parent, class_as_face, private_reused, no_main, modifiers_disagree, modifier_unfit, wrong_body, in_body, AreOneSlot, StsFault, HasModifiers, of_type, of_field, of_method}
 use Rattle.name_outcome.proofs.Sees.{same_some}
-use Rattle.name_outcome.proofs.Runs.{stands-within, member-stands, map-stands, stands-map}
-use Rattle.name_outcome.proofs.KnownTypes.{AreKnown}
+use Rattle.name_outcome.proofs.Runs.{stands-within, member-stands, map-stands, stands-map, stands-beside}
 use Rattle.name_outcome.proofs.Modifiers.{AreFit}
-use Rattle.name_outcome.proofs.KnownClasses.{StandsNamed, AreClasses}
-use Rattle.name_outcome.proofs.Reached.{AreAbove}
-use Rattle.name_outcome.proofs.Loops.{NoLoops}
-use Rattle.name_outcome.proofs.KnownMembers.{AreMembers, HeadIs, some-stands}
-use Rattle.name_outcome.proofs.MethodClashes.{classes-count, owner-within, method_at-outline, NoClash}
-use Rattle.name_outcome.proofs.SeesOutline.{sees-outline}
-use Rattle.name_outcome.proofs.MethodBodies.{BodiesAre}
-use Rattle.name_outcome.proofs.Bridge.{of-main}
+use Rattle.name_outcome.proofs.KnownClasses.{StandsNamed}
+use Rattle.name_outcome.proofs.KnownMembers.{HeadIs}
+use Rattle.name_outcome.proofs.MethodClashes.{classes-count, owner-within, method_at-outline}
+use Rattle.name_outcome.proofs.Bridge.{Steps, P, program-resolves, of-main}
 use Rattle.name_outcome.proofs.FormedMembers.{body-at}
-use Rattle.name_outcome.proofs.FormedWhole.{PP, one-slot}
+use Rattle.name_outcome.proofs.FormedWhole.{one-slot}
 use Rattle.name_outcome.proofs.Excludes.{one-met}
 use Rattle.name_outcome.proofs.ExcludesStatements.{sts-holds}
 
@@ -69,60 +60,55 @@ agree P h k a b e (a_slot {slot = x} s n at of) (a_slot {slot = y} t m there on)
     let same : x ≡ y = same_some (sym at ∙ ap (slice_get P.slots) (same_some (sym n ∙ e ∙ m)) ∙ there) in
     (of.params ∙ ap (λ z. z.params) same ∙ sym on.params, of.result ∙ ap (λ z. z.result) same ∙ sym on.result)
 
-module _ (tree : List DeclTree) (formed : IsFormedTree tree) (known : List Known) (are : AreKnown tree known) (cs : List PlainClass)
-    (classes : AreClasses tree known are tree cs) (number : ℕ) (loops : NoLoops tree (outline tree).classes number)
-    (m : Members) (members : AreMembers tree known are (fields_in tree) (methods_in tree) m) (rows : List (List Bool))
-    (above : AreAbove (outline tree) rows) (ks : List PlainMethod) (n : ℕ)
-    (written : BodiesAre tree known are (resolved_by.table known (outline tree).classes rows m) refl
-    (sees-outline tree known are rows above m members) (methods_in tree) (ks, n)) (main : ℕ)
-    (count : ℕ) (clash : NoClash tree known are rows above (fields_in tree) m members m.headings count)
-    (res : Resolves tree (PP tree formed known are cs classes number loops m members rows above ks n written main)) where
+module _ (tree : List DeclTree) (s : Steps tree) where
+  res : Resolves tree (P tree s)
+  res = program-resolves tree s
+
   -- a method of the outline is one of the program's
-  method-of : (i : ℕ) (h : PlainMethod) → slice_get (outline tree).methods i ≡ Some h → (k : PlainMethod) × (slice_get ks i ≡ Some k) × (heading_of k ≡ h)
-  method-of i h e = map-stands heading_of ks i h (ap (λ z. slice_get z i) res.headings ∙ e)
+  method-of : (i : ℕ) (h : PlainMethod) → slice_get (outline tree).methods i ≡ Some h → (k : PlainMethod) × (slice_get s.methods i ≡ Some k) × (heading_of k ≡ h)
+  method-of i h e = map-stands heading_of s.methods i h (ap (λ z. slice_get z i) res.headings ∙ e)
 
   -- two methods of one name that meet are of one slot
   are-one : (c i j : ℕ) (h k : PlainMethod) → slice_get (outline tree).methods i ≡ Some h → slice_get (outline tree).methods j ≡ Some k → i < j
       → h.name ≡ k.name → IsSubclass (outline tree) c h.owner → IsSubclass (outline tree) c k.owner → AreOneSlot h k
   are-one c i j h k p q lt same u v =
       let a = method-of i h p in let b = method-of j k q in
-      let s = one-slot tree formed known are cs classes number loops m members rows above ks n written main count clash res c i j a.0 b.0 a.1 b.1 lt
+      let o = one-slot tree s c i j a.0 b.0 a.1 b.1 lt
       (subst (λ z. IsSubclass (outline tree) c z.owner) (sym a.2) u) (subst (λ z. IsSubclass (outline tree) c z.owner) (sym b.2) v)
       (ap (λ z. z.name) a.2 ∙ same ∙ sym (ap (λ z. z.name) b.2)) in
-      let g = agree (PP tree formed known are cs classes number loops m members rows above ks n written main) a.0 b.0 s.0 s.2 s.1
-      (res.slots.each i a.0 a.1) (res.slots.each j b.0 b.1) in
+      let g = agree (P tree s) a.0 b.0 o.0 o.2 o.1 (res.slots.each i a.0 a.1) (res.slots.each j b.0 b.1) in
       record {
-        first = sym (ap (λ z. z.is_static) a.2) ∙ s.0;
-        second = sym (ap (λ z. z.is_static) b.2) ∙ s.2;
+        first = sym (ap (λ z. z.is_static) a.2) ∙ o.0;
+        second = sym (ap (λ z. z.is_static) b.2) ∙ o.2;
         params = sym (ap (λ z. types_of z.params) a.2) ∙ g.0 ∙ ap (λ z. types_of z.params) b.2;
         result = sym (ap (λ z. z.result) a.2) ∙ g.1 ∙ ap (λ z. z.result) b.2;
       }
 
   fits : (kind : Kind) (mods : List Modifier) → HasModifiers tree kind mods → AreFit kind mods
-  fits kind mods (of_type {d = d} at) = let s = member-stands tree d at in (classes.supers s.0 d s.1).fit
-  fits kind mods (of_field {f = f} at) = let s = member-stands (fields_in tree) f at in (members.good_field s.0 f s.1).fit
-  fits kind mods (of_method {m = x} at) = let s = member-stands (methods_in tree) x at in (members.good s.0 x s.1).fit
+  fits kind mods (of_type {d = d} at) = let a = member-stands tree d at in (s.supers a.0 d a.1).fit
+  fits kind mods (of_field {f = f} at) = let a = member-stands (fields_in tree) f at in (s.members.good_field a.0 f a.1).fit
+  fits kind mods (of_method {m = x} at) = let a = member-stands (methods_in tree) x at in (s.members.good a.0 x a.1).fit
 
   -- the name of a private method again
   reused : (i j : ℕ) (x y : MethodAt) → slice_get (methods_in tree) i ≡ Some x → slice_get (methods_in tree) j ≡ Some y → i < j
       → x.head.name ≡ y.head.name → is_private x || is_private y ≡ true
       → IsSubclass (outline tree) x.owner y.owner ⊎ IsSubclass (outline tree) y.owner x.owner → ⊥
   reused i j x y p q lt same private related =
-      caught (bytes_eq a.name b.name) (a.is_private || b.is_private) (is_above rows a.owner b.owner || is_above rows b.owner a.owner)
+      caught (bytes_eq a.name b.name) (a.is_private || b.is_private) (is_above s.rows a.owner b.owner || is_above s.rows b.owner a.owner)
       (PrivateReused b.name b.place) _
       ((bytes_eq-Decides a.name b.name).1 (hx.name ∙ same ∙ sym hy.name))
       (ap (λ z. z || b.is_private) hx.private ∙ ap (λ z. is_private x || z) hy.private ∙ private)
       (⊎_elim
-      (λ u. or_left (is_above rows a.owner b.owner) (is_above rows b.owner a.owner) (up b a y x hy hx (owner-within tree j y q) u))
-      (λ u. or_right (is_above rows a.owner b.owner) (is_above rows b.owner a.owner) (up a b x y hx hy (owner-within tree i x p) u))
+      (λ u. or_left (is_above s.rows a.owner b.owner) (is_above s.rows b.owner a.owner) (up b a y x hy hx (owner-within tree j y q) u))
+      (λ u. or_right (is_above s.rows a.owner b.owner) (is_above s.rows b.owner a.owner) (up a b x y hx hy (owner-within tree i x p) u))
       related)
-      (clash.none i j a b at.1 there.1 lt)
+      (s.clash.none i j a b at.1 there.1 lt)
     where
-      at : (h : Heading) × (slice_get m.headings i ≡ Some h)
-      at = some-stands tree known are m.headings i (let l = stands-within (methods_in tree) i x p in let c = members.count in omega (arith, l, c))
+      at : (h : Heading) × (slice_get s.draft.headings i ≡ Some h)
+      at = stands-beside (methods_in tree) s.draft.headings (sym s.members.count) i x p
 
-      there : (h : Heading) × (slice_get m.headings j ≡ Some h)
-      there = some-stands tree known are m.headings j (let l = stands-within (methods_in tree) j y q in let c = members.count in omega (arith, l, c))
+      there : (h : Heading) × (slice_get s.draft.headings j ≡ Some h)
+      there = stands-beside (methods_in tree) s.draft.headings (sym s.members.count) j y q
 
       a : Heading
       a = at.0
@@ -130,21 +116,21 @@ module _ (tree : List DeclTree) (formed : IsFormedTree tree) (known : List Known
       b : Heading
       b = there.0
 
-      hx : HeadIs tree known are a x
-      hx = members.heads i a x at.1 p
+      hx : HeadIs tree s.known s.are a x
+      hx = s.members.heads i a x at.1 p
 
-      hy : HeadIs tree known are b y
-      hy = members.heads j b y there.1 q
+      hy : HeadIs tree s.known s.are b y
+      hy = s.members.heads j b y there.1 q
 
-      up : (a b : Heading) (x y : MethodAt) → HeadIs tree known are a x → HeadIs tree known are b y → x.owner < length (outline tree).classes
-          → IsSubclass (outline tree) y.owner x.owner → is_above rows b.owner a.owner ≡ true
-      up a b x y hx hy lt u = ap (λ z. is_above rows z a.owner) hy.owner ∙ ap (is_above rows y.owner) hx.owner ∙ above.whole y.owner x.owner lt u
+      up : (a b : Heading) (x y : MethodAt) → HeadIs tree s.known s.are a x → HeadIs tree s.known s.are b y → x.owner < length (outline tree).classes
+          → IsSubclass (outline tree) y.owner x.owner → is_above s.rows b.owner a.owner ≡ true
+      up a b x y hx hy lt u = ap (λ z. is_above s.rows z a.owner) hy.owner ∙ ap (is_above s.rows y.owner) hx.owner ∙ s.above.whole y.owner x.owner lt u
 
   body-holds : (i : ℕ) (x : MethodAt) (ss : Statements) (r : Refusal) → slice_get (methods_in tree) i ≡ Some x → x.body ≡ Some ss
       → StsFault (outline tree) (here_of x) false (map (λ q. q.name) x.head.params) ss r → ⊥
   body-holds i x ss r at e f = go (body-at res.bodies i x k.0 at k.1)
     where
-      k : (k : PlainMethod) × (slice_get ks i ≡ Some k) × (heading_of k ≡ method_outline (types_in tree) x)
+      k : (k : PlainMethod) × (slice_get s.methods i ≡ Some k) × (heading_of k ≡ method_outline (types_in tree) x)
       k = method-of i (method_outline (types_in tree) x) (method_at-outline tree i x at)
 
       names : map (λ q. q.name) x.head.params ≡ bound_names (params_from 0 k.0.params)
@@ -161,41 +147,41 @@ module _ (tree : List DeclTree) (formed : IsFormedTree tree) (known : List Known
   unfolding HasNoTwice
   none-holds r (unknown {n = x} {p = p} asks none) = false≢true (sym (ap is_some none) ∙ res.known x p asks)
   none-holds r (type_twice {i = i} {j = j} {c = c} {d = d} p q lt same) =
-      let e : suc i ≡ suc j = are.once (suc i) (suc j) (name_of d) (stands-map name_of tree i c p ∙ ap Some same) (stands-map name_of tree j d q) in
+      let e : suc i ≡ suc j = s.are.once (suc i) (suc j) (name_of d) (stands-map name_of tree i c p ∙ ap Some same) (stands-map name_of tree j d q) in
       omega (arith, e, lt)
   none-holds r (known_twice {d = d} at (inl e)) =
-      let s = member-stands tree d at in let t : zero ≡ suc s.0 = are.once 0 (suc s.0) (name_of d) (ap Some (sym e))
-      (stands-map name_of tree s.0 d s.1) in omega (arith, t)
-  none-holds r (known_twice {d = d} at (inr e)) = let s = member-stands tree d at in false≢true (sym (are.apart s.0 d s.1) ∙ e)
-  none-holds r (super_twice {d = d} {i = i} {j = j} {a = a} {b = b} at p q lt same) =
-      let s = member-stands tree d at in
-      let e = (classes.supers s.0 d s.1).once i j (id_meant (types_in tree) a) (stands-map (id_meant (types_in tree)) (faces_named d) i a p)
-      (stands-map (id_meant (types_in tree)) (faces_named d) j b q ∙ ap (λ z. Some (class_at (type_named (types_in tree) z))) (sym same)) in
+      let a = member-stands tree d at in let t : zero ≡ suc a.0 = s.are.once 0 (suc a.0) (name_of d) (ap Some (sym e))
+      (stands-map name_of tree a.0 d a.1) in omega (arith, t)
+  none-holds r (known_twice {d = d} at (inr e)) = let a = member-stands tree d at in false≢true (sym (s.are.apart a.0 d a.1) ∙ e)
+  none-holds r (super_twice {d = d} {i = i} {j = j} {a = f} {b = g} at p q lt same) =
+      let a = member-stands tree d at in
+      let e = (s.supers a.0 d a.1).once i j (id_meant (types_in tree) f) (stands-map (id_meant (types_in tree)) (faces_named d) i f p)
+      (stands-map (id_meant (types_in tree)) (faces_named d) j g q ∙ ap (λ z. Some (class_at (type_named (types_in tree) z))) (sym same)) in
       omega (arith, e, lt)
-  none-holds r (field_twice {i = i} {j = j} {f = f} {g = g} p q lt own same) = let e = members.field_once i j f g p q own same in omega (arith, e, lt)
-  none-holds r (method_twice {i = i} {j = j} {h = h} {k = k} p q lt own same) = let e = members.method_once i j h k p q own same in omega (arith, e, lt)
-  none-holds r (param_twice {m = x} {i = i} {j = j} {a = a} {b = b} at p q lt same) =
-      let s = member-stands (methods_in tree) x at in
-      let e = (members.good s.0 x s.1).params.once i j a.name (stands-map (λ q. q.name) x.head.params i a p)
-      (stands-map (λ q. q.name) x.head.params j b q ∙ ap Some (sym same)) in
+  none-holds r (field_twice {i = i} {j = j} {f = f} {g = g} p q lt own same) = let e = s.members.field_once i j f g p q own same in omega (arith, e, lt)
+  none-holds r (method_twice {i = i} {j = j} {h = h} {k = k} p q lt own same) = let e = s.members.method_once i j h k p q own same in omega (arith, e, lt)
+  none-holds r (param_twice {m = x} {i = i} {j = j} {a = f} {b = g} at p q lt same) =
+      let a = member-stands (methods_in tree) x at in
+      let e = (s.members.good a.0 x a.1).params.once i j f.name (stands-map (λ q. q.name) x.head.params i f p)
+      (stands-map (λ q. q.name) x.head.params j g q ∙ ap Some (sym same)) in
       omega (arith, e, lt)
-  none-holds r (loop {c = c} {d = d} at h) = loops.none (suc c) (let l = stands-within tree c d at in let s = classes-count tree in omega (arith, l, s)) h
+  none-holds r (loop {c = c} {d = d} at h) = s.acyclic (suc c) (let l = stands-within tree c d at in let n = classes-count tree in omega (arith, l, n)) h
   none-holds r (overload {i = i} {j = j} {c = c} {h = h} {k = k} p q lt same u v other) = other (are-one c i j h k p q lt same u v)
-  none-holds r (type_as_field {f = f} at e) = let s = member-stands (fields_in tree) f at in false≢true (sym (members.good_field s.0 f s.1).free ∙ e)
+  none-holds r (type_as_field {f = f} at e) = let a = member-stands (fields_in tree) f at in false≢true (sym (s.members.good_field a.0 f a.1).free ∙ e)
   none-holds r (type_as_param {m = x} {q = q} at has e) =
-      let s = member-stands (methods_in tree) x at in let t = member-stands x.head.params q has in false≢true
-      (sym ((members.good s.0 x s.1).params.free t.0 q t.1) ∙ e)
+      let a = member-stands (methods_in tree) x at in let t = member-stands x.head.params q has in false≢true
+      (sym ((s.members.good a.0 x a.1).params.free t.0 q t.1) ∙ e)
   none-holds r (face_as_parent {d = d} {i = i} {c = c} {k = k} at e named stands face) =
-      let s = member-stands tree d at in false≢true (sym (one-kind ((classes.supers s.0 d s.1).parent i e) c k named stands) ∙ face)
+      let a = member-stands tree d at in false≢true (sym (one-kind ((s.supers a.0 d a.1).parent i e) c k named stands) ∙ face)
   none-holds r (class_as_face {d = d} {i = i} {c = c} {k = k} at has named stands class) =
-      let s = member-stands tree d at in let t = member-stands (faces_named d) i has in false≢true (sym class
-      ∙ one-kind ((classes.supers s.0 d s.1).faces t.0 i t.1) c k named stands)
+      let a = member-stands tree d at in let t = member-stands (faces_named d) i has in false≢true (sym class
+      ∙ one-kind ((s.supers a.0 d a.1).faces t.0 i t.1) c k named stands)
   none-holds r (private_reused {i = i} {j = j} {h = x} {k = y} p q lt same apart private related) = reused i j x y p q lt same private related
-  none-holds r (no_main none) = none main (heading_of res.main) (ap (λ z. slice_get z main) (sym res.headings)
-      ∙ stands-map heading_of ks main res.main res.main_stands) (of-main refl res.main_is)
+  none-holds r (no_main none) = none s.main (heading_of res.main) (ap (λ z. slice_get z s.main) (sym res.headings)
+      ∙ stands-map heading_of s.methods s.main res.main res.main_stands) (of-main refl res.main_is)
   none-holds r (modifiers_disagree {kind = kind} {mods = mods} {i = i} {j = j} {a = a} {b = b} has p q lt d) =
       false≢true (sym ((fits kind mods has).agree i j a b p q lt) ∙ d)
-  none-holds r (modifier_unfit {kind = kind} {mods = mods} {a = a} has at u) =
-      let s = member-stands mods a at in false≢true (sym ((fits kind mods has).fit s.0 a s.1) ∙ u)
-  none-holds r (wrong_body {m = x} at w) = let s = member-stands (methods_in tree) x at in (members.good s.0 x s.1).body w
-  none-holds r (in_body {m = x} {ss = ss} at e f) = let s = member-stands (methods_in tree) x at in body-holds s.0 x ss r s.1 e f
+  none-holds r (modifier_unfit {kind = kind} {mods = mods} {a = m} has at u) =
+      let a = member-stands mods m at in false≢true (sym ((fits kind mods has).fit a.0 m a.1) ∙ u)
+  none-holds r (wrong_body {m = x} at w) = let a = member-stands (methods_in tree) x at in (s.members.good a.0 x a.1).body w
+  none-holds r (in_body {m = x} {ss = ss} at e f) = let a = member-stands (methods_in tree) x at in body-holds a.0 x ss r a.1 e f

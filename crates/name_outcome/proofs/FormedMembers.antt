@@ -5,38 +5,27 @@ use Rattle.std.specs.Str.{bytes_eq}
 use Rattle.std.proofs.lemmas.Bool.{or_left, or_right, cases_lt}
 use Rattle.std.proofs.lemmas.List.{map-append, length-map, length-append}
 use Rattle.std.proofs.lemmas.Slice.Eq.{bytes_eq-Decides}
-use Rattle.java_lex.specs.Writable.{IsName}
-use Rattle.java_tree.specs.declared.TypeName.{TypeName}
 use Rattle.java_tree.specs.Syntax.{DeclTree}
-use Rattle.java_core.specs.declared.Ty.{Ty}
-use Rattle.java_core.specs.Programs.{Plain, PlainClass, PlainField, PlainMethod, PlainLocal}
+use Rattle.java_core.specs.Programs.{Plain, PlainField, PlainMethod, PlainLocal}
 use Rattle.java_core.specs.Classes.{own_field_of, field_of, is_field_of}
-use Rattle.java_core.specs.Formed.{IsType, IsVariableName, variables_of, IsFormedField, numbers_below}
+use Rattle.java_core.specs.Types.{types_of}
+use Rattle.java_core.specs.Formed.{variables_of, IsFormedField, numbers_below}
 use Rattle.java_core.proofs.Positions.{position-passes}
 use Rattle.java_core.proofs.Subclasses.{nearest_of-nearest}
-use Rattle.name_outcome.specs.Known.{Known}
 use Rattle.name_rules.specs.Meanings.{local_of}
-use Rattle.name_outcome.specs.Members.{Members}
-use Rattle.name_outcome.specs.Resolved.{program}
-use Rattle.name_outcome.specs.Resolved as resolved_by
-use Rattle.name_rules.specs.Outline.{FieldAt, MethodAt, fields_in, methods_in, types_in, is_type_name, type_meant, class_outline, field_outline, method_outline, outline}
-use Rattle.name_rules.specs.Meanings.{Means, is_bound, bound_names, IsNearestField}
-use Rattle.java_print.specs.Formed.{IsFormedTree}
+use Rattle.name_rules.specs.Outline.{FieldAt, MethodAt, fields_in, methods_in, types_in, class_outline, field_outline, method_outline, outline}
+use Rattle.name_rules.specs.Meanings.{is_bound, bound_names, IsNearestField}
 use Rattle.name_rules.specs.Resolves.{here_of, params_from, heading_of, BodyResolves, BodiesResolve, r_no_methods, r_method}
 use Rattle.name_outcome.proofs.Sees.{same_some}
-use Rattle.name_outcome.proofs.Runs.{stands-within, map-stands, stands-map}
-use Rattle.name_outcome.proofs.KnownTypes.{AreKnown}
-use Rattle.name_outcome.proofs.KnownClasses.{AreClasses, class_at-outline}
-use Rattle.name_outcome.proofs.Reached.{AreAbove}
-use Rattle.name_outcome.proofs.Loops.{NoLoops}
-use Rattle.name_outcome.proofs.KnownMembers.{AreMembers, some-stands, both-true}
-use Rattle.name_outcome.proofs.SeesOutline.{nearest-own, fields-are, sees-outline}
-use Rattle.name_outcome.proofs.MethodBodies.{BodiesAre}
+use Rattle.name_outcome.proofs.Runs.{map-stands, stands-map}
+use Rattle.name_outcome.proofs.KnownClasses.{class_at-outline}
+use Rattle.name_outcome.proofs.KnownMembers.{both-true}
+use Rattle.name_outcome.proofs.SeesOutline.{nearest-own, fields-are}
 use Rattle.name_outcome.proofs.MethodClashes.{outline-method}
-use Rattle.name_outcome.proofs.Bridge.{whole, size}
-use Rattle.name_outcome.proofs.Bare.{bare_local, bare_class, bare_field, bare_method, bare_program}
+use Rattle.name_outcome.proofs.Bridge.{Steps, P, whole, size}
+use Rattle.name_outcome.proofs.Bare.{bare_local, bare_class, bare_field, bare_method}
 use Rattle.name_outcome.proofs.FormedBodies.{Suits, ScopeIs, contains-more, contains-cases}
-use Rattle.name_outcome.proofs.FormedProgram.{class-in, within-classes, free-name, meant-type, same-field, alike-field}
+use Rattle.name_outcome.proofs.FormedProgram.{R, class-in, within-classes, free-name, meant-type, same-field, alike-field}
 use Rattle.name_outcome.proofs.MembersOf.{field-in}
 
 pub body-at : {O : Plain} {ms : List MethodAt} {ks : List PlainMethod} → BodiesResolve O ms ks → (j : ℕ) (m : MethodAt) (k : PlainMethod)
@@ -88,6 +77,10 @@ back-stands (x ∷ xs) ys j = ap (slice_get (x ∷ (xs ++ ys))) (let e : suc (le
 pub bare-variables : (K : PlainMethod) → variables_of (bare_method K) ≡ map bare_local (variables_of K)
 bare-variables K = sym (map-append bare_local K.params K.locals)
 
+pub bare-types : (vs : List PlainLocal) → types_of (map bare_local vs) ≡ types_of vs
+bare-types [] = refl
+bare-types (v ∷ vs) = ap (λ z. v.ty ∷ z) (bare-types vs)
+
 pub scope-params : (K : PlainMethod) → ScopeIs (bare_method K) (params_from 0 K.params) (numbers_below (length (bare_method K).params))
 scope-params K = record {
   found = λ n i e.
@@ -100,66 +93,48 @@ scope-params K = record {
       subst (λ z. is_bound (bound_names (params_from 0 K.params)) z ≡ true) (ap (λ z. z.name) a.2) (params-bound 0 K.params j a.0 a.1);
 }
 
-module _ (tree : List DeclTree) (formed : IsFormedTree tree) (known : List Known) (are : AreKnown tree known) (cs : List PlainClass)
-    (classes : AreClasses tree known are tree cs) (number : ℕ) (loops : NoLoops tree (outline tree).classes number)
-    (m : Members) (members : AreMembers tree known are (fields_in tree) (methods_in tree) m) (rows : List (List Bool))
-    (above : AreAbove (outline tree) rows) (ks : List PlainMethod) (n : ℕ)
-    (written : BodiesAre tree known are (resolved_by.table known (outline tree).classes rows m) refl
-    (sees-outline tree known are rows above m members) (methods_in tree) (ks, n)) (main : ℕ) where
-  abbrev pub P : Plain
-  P = program (outline tree).classes m main ks
+module _ (tree : List DeclTree) (s : Steps tree) where
+  pub fields-same : (P tree s).fields ≡ (outline tree).fields
+  fields-same = sym (fields-are tree s.known s.are s.rows s.above s.draft s.members)
 
-  pub fields-same : P.fields ≡ (outline tree).fields
-  fields-same = sym (fields-are tree known are rows above m members)
-
-  abbrev pub R : Plain
-  R = bare_program P
-
-  pub holder : (j : ℕ) (d : DeclTree) → slice_get tree j ≡ Some d → slice_get R.classes (suc j) ≡ Some (bare_class (class_outline (types_in tree) d))
-  holder j d e = class-in tree formed known are cs classes number loops P refl fields-same (suc j) (class_outline (types_in tree) d)
-      (class_at-outline tree j d e)
-
-  pub meant : (u : TypeName) (t : Ty) → Means (outline tree) u t → IsType R (type_meant (types_in tree) u)
-  meant u t h = meant-type tree formed known are cs classes number loops P refl fields-same u t h
-
-  pub free : (x : List ℕ) → IsName x → is_type_name (types_in tree) x ≡ false → IsVariableName R x
-  free x name e = free-name tree formed known are cs classes number loops P refl fields-same x name e
+  pub holder : (j : ℕ) (d : DeclTree) → slice_get tree j ≡ Some d → slice_get (R tree s).classes (suc j) ≡ Some (bare_class (class_outline (types_in tree) d))
+  holder j d e = class-in tree s (suc j) (class_outline (types_in tree) d) (class_at-outline tree j d e)
 
   -- ---- fields
 
-  field-at : (f : ℕ) (k : PlainField) → slice_get R.fields f ≡ Some k → (x : FieldAt) × (slice_get (fields_in tree) f ≡ Some x)
+  field-at : (f : ℕ) (k : PlainField) → slice_get (R tree s).fields f ≡ Some k → (x : FieldAt) × (slice_get (fields_in tree) f ≡ Some x)
       × (bare_field (field_outline (types_in tree) x) ≡ k)
   field-at f k e =
-      let a = map-stands bare_field P.fields f k e in
-      let b = map-stands (field_outline (types_in tree)) (fields_in tree) f a.0 (ap (λ z. slice_get z f) (sym members.fields) ∙ a.1) in
+      let a = map-stands bare_field (P tree s).fields f k e in
+      let b = map-stands (field_outline (types_in tree)) (fields_in tree) f a.0 (ap (λ z. slice_get z f) (sym s.members.fields) ∙ a.1) in
       (b.0, b.1, ap bare_field b.2 ∙ a.2)
 
-  pub formed-field : (f : ℕ) (k : PlainField) → slice_get R.fields f ≡ Some k → IsFormedField R k
+  pub formed-field : (f : ℕ) (k : PlainField) → slice_get (R tree s).fields f ≡ Some k → IsFormedField (R tree s) k
   formed-field f k e =
       let a = field-at f k e in
-      let g = members.good_field f a.0 a.1 in
-      let at = field-in 1 tree formed f a.0 a.1 in
+      let g = s.members.good_field f a.0 a.1 in
+      let at = field-in 1 tree s.formed f a.0 a.1 in
       let own : a.0.owner ≡ suc at.index = let o = at.owner in omega (arith, o) in
-      subst (IsFormedField R) a.2 (record {
-        name = free a.0.name at.name g.free;
-        type = meant a.0.type g.type g.means;
+      subst (IsFormedField (R tree s)) a.2 (record {
+        name = free-name tree s a.0.name at.name g.free;
+        type = meant-type tree s a.0.type g.type g.means;
         no_object = λ z. omega (arith, z, own);
         holder = bare_class (class_outline (types_in tree) at.decl);
-        stands = ap (slice_get R.classes) own ∙ holder at.index at.decl at.stands;
+        stands = ap (slice_get (R tree s).classes) own ∙ holder at.index at.decl at.stands;
         class = at.class;
       })
 
-  pub formed-field_names : (f g : ℕ) (h k : PlainField) → slice_get R.fields f ≡ Some h → slice_get R.fields g ≡ Some k → h.owner ≡ k.owner
+  pub formed-field_names : (f g : ℕ) (h k : PlainField) → slice_get (R tree s).fields f ≡ Some h → slice_get (R tree s).fields g ≡ Some k → h.owner ≡ k.owner
       → h.name ≡ k.name → f ≡ g
-  formed-field_names f g h k e d o s =
+  formed-field_names f g h k e d o same =
       let a = field-at f h e in let b = field-at g k d in
-      members.field_once f g a.0 b.0 a.1 b.1 (ap (λ z. z.owner) a.2 ∙ o ∙ sym (ap (λ z. z.owner) b.2)) (ap (λ z. z.name) a.2 ∙ s ∙ sym (ap (λ z. z.name) b.2))
+      s.members.field_once f g a.0 b.0 a.1 b.1 (ap (λ z. z.owner) a.2 ∙ o ∙ sym (ap (λ z. z.owner) b.2)) (ap (λ z. z.name) a.2 ∙ same ∙ sym (ap (λ z. z.name) b.2))
 
   -- ---- methods
 
-  pub method-seen : (i : ℕ) (K : PlainMethod) → slice_get ks i ≡ Some K → (x : MethodAt) × (slice_get (methods_in tree) i ≡ Some x)
+  pub method-seen : (i : ℕ) (K : PlainMethod) → slice_get s.methods i ≡ Some K → (x : MethodAt) × (slice_get (methods_in tree) i ≡ Some x)
       × (heading_of K ≡ method_outline (types_in tree) x)
-  method-seen i K e = let w = whole tree known are cs classes m members rows above ks n written i K e in (w.1, w.3, w.4)
+  method-seen i K e = let w = whole tree s i K e in (w.1, w.3, w.4)
 
   nearest-name : (c : ℕ) (x : List ℕ) (f : ℕ) (k : PlainField) → IsNearestField (outline tree) c x f k → k.name ≡ x
   unfolding field_of
@@ -169,32 +144,30 @@ module _ (tree : List DeclTree) (formed : IsFormedTree tree) (known : List Known
       let b = position-passes (λ z. is_field_of a.0 x z) (outline tree).fields f a.1 in
       ap (λ z. z.name) (same_some (sym h.stands ∙ b.1)) ∙ (both-true b.0.owner a.0 b.0.name x b.2).1
 
-  field-there : (f : ℕ) (x : PlainField) → slice_get (outline tree).fields f ≡ Some x → slice_get R.fields f ≡ Some (bare_field x)
-  field-there f x e = stands-map bare_field P.fields f x (ap (λ z. slice_get z f) fields-same ∙ e)
+  field-there : (f : ℕ) (x : PlainField) → slice_get (outline tree).fields f ≡ Some x → slice_get (R tree s).fields f ≡ Some (bare_field x)
+  field-there f x e = stands-map bare_field (P tree s).fields f x (ap (λ z. slice_get z f) fields-same ∙ e)
 
-  pub suits : (i : ℕ) (K : PlainMethod) (x : MethodAt) → slice_get ks i ≡ Some K → heading_of K ≡ method_outline (types_in tree) x
-      → Suits (outline tree) (here_of x) K R (bare_method K)
+  pub suits : (i : ℕ) (K : PlainMethod) (x : MethodAt) → slice_get s.methods i ≡ Some K → heading_of K ≡ method_outline (types_in tree) x
+      → Suits (outline tree) (here_of x) K (R tree s) (bare_method K)
   suits i K x e h = record {
-    classes = within-classes tree formed known are cs classes number loops P refl fields-same;
-    static_field = λ f y at s. record { member = bare_field y; stands = field-there f y at; kind = s };
-    own = λ z f y near s. record {
+    classes = within-classes tree s;
+    static_field = λ f y at st. record { member = bare_field y; stands = field-there f y at; kind = st };
+    own = λ z f y near st. record {
       member = bare_field y;
       stands = field-there f y near.stands;
-      kind = s;
-      nearest = same-field P K.owner y.name ∙ alike-field P (outline tree) refl fields-same K.owner y.name
+      kind = st;
+      nearest = same-field (P tree s) K.owner y.name ∙ alike-field (P tree s) (outline tree) refl fields-same K.owner y.name
           ∙ ap (λ o. field_of (outline tree) o y.name) (ap (λ o. o.owner) h) ∙ ap (field_of (outline tree) x.owner) (nearest-name x.owner z f y near)
           ∙ near.nearest;
     };
-    static_method = λ l y at s.
+    static_method = λ l y at st.
         let a = outline-method tree l y at in
-        let b = some-stands tree known are ks l (let t = stands-within (methods_in tree) l a.0 a.1 in let u = members.count in
-        let v = size tree known are cs classes m members rows above ks n written in omega (arith, t, u, v)) in
+        let b = stands-beside (methods_in tree) s.methods (size tree s) l a.0 a.1 in
         let c = method-seen l b.0 b.1 in
         record {
           member = bare_method b.0;
-          stands = stands-map bare_method ks l b.0 b.1;
-          kind = ap (λ z. z.is_static) (c.2
-              ∙ ap (method_outline (types_in tree)) (same_some (sym c.1 ∙ a.1)) ∙ a.2) ∙ s;
+          stands = stands-map bare_method s.methods l b.0 b.1;
+          kind = ap (λ z. z.is_static) (c.2 ∙ ap (method_outline (types_in tree)) (same_some (sym c.1 ∙ a.1)) ∙ a.2) ∙ st;
         };
     static = ap (λ z. z.is_static) h;
     params = length-map K.params bare_local;

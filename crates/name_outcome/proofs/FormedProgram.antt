@@ -1,9 +1,9 @@
 -- The program that a tree resolves to is formed.
-use Rattle.std.proofs.Common.{◌≡◌, ℕ, zero, suc, Bool, true, false, ◌||◌, List, [], ◌∷◌, ◌++◌, map, length, Option, Some, None, Contains, refl, sym, ap, ◌∙◌, subst, arith}
+use Rattle.std.proofs.Common.{◌≡◌, ℕ, zero, suc, Bool, true, false, List, [], ◌∷◌, ◌++◌, map, length, Option, Some, None, Contains, refl, sym, ap, ◌∙◌, subst, arith}
 use Rattle.std.specs.Prelude.{slice_get, position, codes}
 use Rattle.std.specs.Option.{is_some, option_map, option_and_then, option_map_or, option_to_list}
 use Rattle.std.specs.Str.{bytes_eq}
-use Rattle.std.proofs.lemmas.Bool.{false≢true}
+use Rattle.std.proofs.lemmas.Bool.{false≢true, or_parts}
 use Rattle.std.proofs.lemmas.List.{length-map}
 use Rattle.std.proofs.lemmas.Option.{slice_get-map}
 use Rattle.std.proofs.lemmas.Slice.Eq.{bytes_eq-Decides}
@@ -21,17 +21,39 @@ use Rattle.java_core.specs.Classes.{parent_of, faces_of, supers_of, IsSubclass, 
 use Rattle.java_core.specs.Formed.{IsClass, IsKnownBase, IsType, IsVariableName, HasObject, IsFormedClass, HasNoTwice}
 use Rattle.java_core.proofs.Positions.{position-map}
 use Rattle.java_core.proofs.Subclasses.{supers-within}
-use Rattle.name_outcome.specs.Known.{Known}
 use Rattle.name_rules.specs.Outline.{types_in, type_named, is_known, is_type_name, id_meant, parent_named, faces_named, parent_meant, type_meant, name_of, is_interface_of, object, class_outline, outline}
 use Rattle.name_rules.specs.Meanings.{type_names, class_named, Means, MeansBase, an_int, a_boolean, a_char, a_text, a_class}
 use Rattle.name_outcome.proofs.TypeNames.{type-meant}
-use Rattle.java_print.specs.Formed.{Each, IsFormedTree, IsFormedDecl}
+use Rattle.java_print.specs.Formed.{Each, IsFormedDecl}
 use Rattle.name_outcome.proofs.Sees.{same_some}
 use Rattle.name_outcome.proofs.Runs.{stands-within, member-stands, map-stands, stands-map}
-use Rattle.name_outcome.proofs.KnownTypes.{AreKnown, named-stands, unnamed-stands}
-use Rattle.name_outcome.proofs.KnownClasses.{StandsNamed, AreClasses, type_names-outline, id-meant}
-use Rattle.name_outcome.proofs.Loops.{NoLoops, class_stands}
+use Rattle.name_outcome.proofs.KnownTypes.{named-stands, unnamed-stands}
+use Rattle.name_outcome.proofs.KnownClasses.{StandsNamed, type_names-outline, id-meant}
+use Rattle.name_outcome.proofs.Loops.{class_stands}
+use Rattle.name_outcome.proofs.Bridge.{Steps, P}
 use Rattle.name_outcome.proofs.Bare.{bare_class, bare_field, bare_program}
+
+-- ---- programs that have the same superclasses and the same own fields find the same fields
+
+alike-nearest : (P O : Plain) (n : List ℕ) → ((c : ℕ) → own_field_of P c n ≡ own_field_of O c n) → ((c : ℕ) → parent_of P c ≡ parent_of O c) → (s c : ℕ)
+    → nearest P (λ k. own_field_of P k n) s c ≡ nearest O (λ k. own_field_of O k n) s c
+alike-nearest P O n own up zero c = own c
+alike-nearest P O n own up (suc s) c =
+    ap (λ z. first_or z (option_and_then (λ p. nearest P (λ k. own_field_of P k n) s p.0) (parent_of P c))) (own c)
+    ∙ ap (λ z. first_or (own_field_of O c n) (option_and_then (λ p. nearest P (λ k. own_field_of P k n) s p.0) z)) (up c)
+    ∙ ap (first_or (own_field_of O c n)) (go (parent_of O c) (λ p. alike-nearest P O n own up s p))
+  where
+    go : (o : Option ClassId) → ((p : ℕ) → nearest P (λ k. own_field_of P k n) s p ≡ nearest O (λ k. own_field_of O k n) s p)
+        → option_and_then (λ p. nearest P (λ k. own_field_of P k n) s p.0) o ≡ option_and_then (λ p. nearest O (λ k. own_field_of O k n) s p.0) o
+    go None more = refl
+    go (Some p) more = more p.0
+
+pub alike-field : (P O : Plain) → P.classes ≡ O.classes → P.fields ≡ O.fields → (c : ℕ) (n : List ℕ) → field_of P c n ≡ field_of O c n
+unfolding field_of
+alike-field P O classes fields c n =
+    alike-nearest P O n (λ c. ap (position (λ f. is_field_of c n f)) fields)
+    (λ c. ap (λ z. option_and_then (λ k. k.parent) (slice_get z c)) classes) (length P.classes) c
+    ∙ ap (λ z. nearest O (λ k. own_field_of O k n) (length z) c) classes
 
 -- ---- without places all is as with them
 
@@ -60,51 +82,10 @@ module _ (P : Plain) where
   pub bare-proper : {a b : ℕ} → IsProperSubclass (bare_program P) a b → IsProperSubclass P a b
   bare-proper {a} h = record { by = h.by; direct = subst (λ z. Contains z h.by) (same-supers a) h.direct; rest = bare-subclass h.rest }
 
-  same-own : (c : ℕ) (n : List ℕ) → own_field_of (bare_program P) c n ≡ own_field_of P c n
-  same-own c n = position-map bare_field (λ f. is_field_of c n f) P.fields
-
-  same-nearest : (n : List ℕ) (s : ℕ) (c : ℕ) → nearest (bare_program P) (λ k. own_field_of (bare_program P) k n) s c ≡ nearest P (λ k. own_field_of P k n) s c
-  same-nearest n zero c = same-own c n
-  same-nearest n (suc s) c =
-      ap (λ z. first_or z (option_and_then (λ p. nearest (bare_program P) (λ k. own_field_of (bare_program P) k n) s p.0)
-      (parent_of (bare_program P) c))) (same-own c n)
-      ∙ ap (λ z. first_or (own_field_of P c n) (option_and_then (λ p. nearest (bare_program P) (λ k. own_field_of (bare_program P) k n) s p.0) z))
-      (same-parent c)
-      ∙ ap (first_or (own_field_of P c n)) (go (parent_of P c) (λ p. same-nearest n s p))
-    where
-      go : (o : Option ClassId) → ((p : ℕ) → nearest (bare_program P) (λ k. own_field_of (bare_program P) k n) s p ≡ nearest P (λ k. own_field_of P k n) s p)
-          → option_and_then (λ p. nearest (bare_program P) (λ k. own_field_of (bare_program P) k n) s p.0) o
-          ≡ option_and_then (λ p. nearest P (λ k. own_field_of P k n) s p.0) o
-      go None more = refl
-      go (Some p) more = more p.0
-
   pub same-field : (c : ℕ) (n : List ℕ) → field_of (bare_program P) c n ≡ field_of P c n
   unfolding field_of
   same-field c n = ap (λ z. nearest (bare_program P) (λ k. own_field_of (bare_program P) k n) z c) (length-map P.classes _)
-      ∙ same-nearest n (length P.classes) c
-
--- a program with the classes and fields of another finds the same fields
-pub alike-field : (P O : Plain) → P.classes ≡ O.classes → P.fields ≡ O.fields → (c : ℕ) (n : List ℕ) → field_of P c n ≡ field_of O c n
-unfolding field_of
-alike-field P O classes fields c n = at (length P.classes) c ∙ ap (λ z. nearest O (λ k. own_field_of O k n) (length z) c) classes
-  where
-    own : (c : ℕ) → own_field_of P c n ≡ own_field_of O c n
-    own c = ap (position (λ f. is_field_of c n f)) fields
-
-    up : (c : ℕ) → parent_of P c ≡ parent_of O c
-    up c = ap (λ z. option_and_then (λ k. k.parent) (slice_get z c)) classes
-
-    at : (s c : ℕ) → nearest P (λ k. own_field_of P k n) s c ≡ nearest O (λ k. own_field_of O k n) s c
-    at zero c = own c
-    at (suc s) c =
-        ap (λ z. first_or z (option_and_then (λ p. nearest P (λ k. own_field_of P k n) s p.0) (parent_of P c))) (own c)
-        ∙ ap (λ z. first_or (own_field_of O c n) (option_and_then (λ p. nearest P (λ k. own_field_of P k n) s p.0) z)) (up c)
-        ∙ ap (first_or (own_field_of O c n)) (go (parent_of O c) (λ p. at s p))
-      where
-        go : (o : Option ClassId) → ((p : ℕ) → nearest P (λ k. own_field_of P k n) s p ≡ nearest O (λ k. own_field_of O k n) s p)
-            → option_and_then (λ p. nearest P (λ k. own_field_of P k n) s p.0) o ≡ option_and_then (λ p. nearest O (λ k. own_field_of O k n) s p.0) o
-        go None more = refl
-        go (Some p) more = more p.0
+      ∙ alike-nearest (bare_program P) P n (λ c. position-map bare_field (λ f. is_field_of c n f) P.fields) same-parent (length P.classes) c
 
 pub classes-subclass : (P O : Plain) → P.classes ≡ O.classes → {a b : ℕ} → IsSubclass P a b → IsSubclass O a b
 classes-subclass P O e same_class = same_class
@@ -121,11 +102,7 @@ classes-proper P O e {a} h =
       rest = classes-subclass P O e h.rest;
     }
 
-pub neither : (a b : Bool) → a || b ≡ false → (a ≡ false) × (b ≡ false)
-neither true b e = absurd (false≢true (sym e))
-neither false b e = (refl, e)
-
-pub none-of : {A : Type 0} (o : Option A) → is_some o ≡ false → o ≡ None
+none-of : {A : Type 0} (o : Option A) → is_some o ≡ false → o ≡ None
 none-of None e = refl
 none-of (Some a) e = absurd (false≢true (sym e))
 
@@ -138,63 +115,58 @@ decl-name : (d : DeclTree) → IsFormedDecl d → IsName (name_of d)
 decl-name (ClassTree mods n parent faces xs p) g = g.1
 decl-name (InterfaceTree mods n parents hs p) g = g.1
 
-module _ (tree : List DeclTree) (formed : IsFormedTree tree) (known : List Known) (are : AreKnown tree known) (cs : List PlainClass)
-    (classes : AreClasses tree known are tree cs) (number : ℕ) (loops : NoLoops tree (outline tree).classes number)
-    (P : Plain) (same-classes : P.classes ≡ (outline tree).classes) (same-fields : P.fields ≡ (outline tree).fields) where
-  abbrev pub Q : Plain
-  Q = bare_program P
+module _ (tree : List DeclTree) (s : Steps tree) where
+  abbrev pub R : Plain
+  R = bare_program (P tree s)
 
-  classes-are : Q.classes ≡ map bare_class (outline tree).classes
-  classes-are = ap (map bare_class) same-classes
+  pub class-in : (c : ℕ) (k : PlainClass) → slice_get (outline tree).classes c ≡ Some k → slice_get R.classes c ≡ Some (bare_class k)
+  class-in c k e = stands-map bare_class (outline tree).classes c k e
 
-  pub class-in : (c : ℕ) (k : PlainClass) → slice_get (outline tree).classes c ≡ Some k → slice_get Q.classes c ≡ Some (bare_class k)
-  class-in c k e = ap (λ z. slice_get z c) classes-are ∙ stands-map bare_class (outline tree).classes c k e
-
-  names-are : map (λ k. k.name) Q.classes ≡ types_in tree
-  names-are = ap (map (λ k. k.name)) classes-are ∙ twice (outline tree).classes ∙ type_names-outline tree
+  names-are : map (λ k. k.name) R.classes ≡ types_in tree
+  names-are = twice (outline tree).classes ∙ type_names-outline tree
     where
       twice : (xs : List PlainClass) → map (λ k. k.name) (map bare_class xs) ≡ map (λ k. k.name) xs
       twice [] = refl
       twice (x ∷ xs) = ap (λ z. x.name ∷ z) (twice xs)
 
-  pub within-classes : (n : List ℕ) (c : ℕ) → class_named (outline tree) n ≡ Some c → IsClass Q c
+  pub within-classes : (n : List ℕ) (c : ℕ) → class_named (outline tree) n ≡ Some c → IsClass R c
   within-classes n c e =
       let a = stands-within (type_names (outline tree)) c n (named-stands (type_names (outline tree)) n c e) in
-      let b = length-map (outline tree).classes (λ k. k.name) in let d = ap length classes-are ∙ length-map (outline tree).classes bare_class in omega
+      let b = length-map (outline tree).classes (λ k. k.name) in let d = length-map (outline tree).classes bare_class in omega
       (arith, a, b, d)
 
   -- a name that no type has
-  pub free-name : (x : List ℕ) → IsName x → is_type_name (types_in tree) x ≡ false → IsVariableName Q x
+  pub free-name : (x : List ℕ) → IsName x → is_type_name (types_in tree) x ≡ false → IsVariableName R x
   free-name x name e =
-      let a = neither (is_some (type_named (types_in tree) x)) (is_known x) e in
-      let b = neither (bytes_eq (codes "String") x) (bytes_eq (codes "System") x) a.1 in
+      let a = or_parts (is_some (type_named (types_in tree) x)) (is_known x) e in
+      let b = or_parts (bytes_eq (codes "String") x) (bytes_eq (codes "System") x) a.1 in
       record {
         name = name;
         no_class = λ c k at same. unnamed-stands (types_in tree) x (none-of (type_named (types_in tree) x) a.0) c
-            (ap (λ z. slice_get z c) (sym names-are) ∙ stands-map (λ k. k.name) Q.classes c k at ∙ ap Some same);
+            (ap (λ z. slice_get z c) (sym names-are) ∙ stands-map (λ k. k.name) R.classes c k at ∙ ap Some same);
         no_string = λ same. false≢true (sym b.0 ∙ (bytes_eq-Decides (codes "String") x).1 (sym same));
         no_system = λ same. false≢true (sym b.1 ∙ (bytes_eq-Decides (codes "System") x).1 (sym same));
       }
 
-  pub formed-object : HasObject Q
+  pub formed-object : HasObject R
   unfolding outline
   formed-object = record { object = bare_class object; first = class-in 0 object refl; name = refl; class = refl; concrete = refl; parent = refl; faces = refl }
 
-  named-in : {n : List ℕ} {kind : Bool} (s : StandsNamed tree n kind) → slice_get Q.classes s.number ≡ Some (bare_class s.class)
-  named-in s = class-in s.number s.class s.stands
+  named-in : {n : List ℕ} {kind : Bool} (a : StandsNamed tree n kind) → slice_get R.classes a.number ≡ Some (bare_class a.class)
+  named-in a = class-in a.number a.class a.stands
 
-  pub formed-class : (c : ℕ) (k : PlainClass) → slice_get Q.classes (suc c) ≡ Some k → IsFormedClass Q k
+  pub formed-class : (c : ℕ) (k : PlainClass) → slice_get R.classes (suc c) ≡ Some k → IsFormedClass R k
   formed-class c k e =
-      let a = map-stands bare_class (outline tree).classes (suc c) k (ap (λ z. slice_get z (suc c)) (sym classes-are) ∙ e) in
+      let a = map-stands bare_class (outline tree).classes (suc c) k e in
       let b = class_stands tree c a.0 a.1 in
-      subst (IsFormedClass Q) (ap bare_class b.2 ∙ a.2) (of-decl b.0 c b.1)
+      subst (IsFormedClass R) (ap bare_class b.2 ∙ a.2) (of-decl b.0 c b.1)
     where
-      of-decl : (d : DeclTree) (j : ℕ) → slice_get tree j ≡ Some d → IsFormedClass Q (bare_class (class_outline (types_in tree) d))
+      of-decl : (d : DeclTree) (j : ℕ) → slice_get tree j ≡ Some d → IsFormedClass R (bare_class (class_outline (types_in tree) d))
       of-decl d j at =
-          let u = neither (bytes_eq (codes "String") (name_of d)) (bytes_eq (codes "System") (name_of d)) (are.apart j d at) in
+          let u = or_parts (bytes_eq (codes "String") (name_of d)) (bytes_eq (codes "System") (name_of d)) (s.are.apart j d at) in
           let p = up (parent_named d) refl in
           record {
-            name = decl-name d (each-of IsFormedDecl tree j d formed at);
+            name = decl-name d (each-of IsFormedDecl tree j d s.formed at);
             no_string = λ same. false≢true (sym u.0 ∙ (bytes_eq-Decides (codes "String") (name_of d)).1 (sym same));
             no_system = λ same. false≢true (sym u.1 ∙ (bytes_eq-Decides (codes "System") (name_of d)).1 (sym same));
             parent = parent_meant (types_in tree) (parent_named d);
@@ -206,31 +178,31 @@ module _ (tree : List DeclTree) (formed : IsFormedTree tree) (known : List Known
             faces = λ f has.
                 let x = member-stands (map (id_meant (types_in tree)) (faces_named d)) f has in
                 let y = map-stands (id_meant (types_in tree)) (faces_named d) x.0 f x.1 in
-                let s = (classes.supers j d at).faces x.0 y.0 y.1 in
-                (bare_class s.class, ap (λ z. slice_get Q.classes z.0) (sym y.2 ∙ id-meant tree known are y.0 s.number s.named) ∙ named-in s, s.kind);
-            faces_once = (classes.supers j d at).once;
+                let a = (s.supers j d at).faces x.0 y.0 y.1 in
+                (bare_class a.class, ap (λ z. slice_get R.classes z.0) (sym y.2 ∙ id-meant tree s.known s.are y.0 a.number a.named) ∙ named-in a, a.kind);
+            faces_once = (s.supers j d at).once;
           }
         where
           of-interface : (d : DeclTree) → is_interface_of d ≡ true → (parent_meant (types_in tree) (parent_named d)).0 ≡ 0
           of-interface (ClassTree mods n parent faces xs p) e = absurd (false≢true e)
           of-interface (InterfaceTree mods n parents hs p) e = refl
 
-          up : (o : Option Id) → parent_named d ≡ o → (k : PlainClass) × (slice_get Q.classes (parent_meant (types_in tree) o).0 ≡ Some k)
+          up : (o : Option Id) → parent_named d ≡ o → (k : PlainClass) × (slice_get R.classes (parent_meant (types_in tree) o).0 ≡ Some k)
               × (k.is_interface ≡ false)
           up None e = (formed-object.object, formed-object.first, formed-object.class)
           up (Some i) e =
-              let s = (classes.supers j d at).parent i e in
-              (bare_class s.class, ap (λ z. slice_get Q.classes z.0) (id-meant tree known are i s.number s.named) ∙ named-in s, s.kind)
+              let a = (s.supers j d at).parent i e in
+              (bare_class a.class, ap (λ z. slice_get R.classes z.0) (id-meant tree s.known s.are i a.number a.named) ∙ named-in a, a.kind)
 
-  pub formed-names : HasNoTwice (map (λ k. k.name) Q.classes)
-  formed-names = subst HasNoTwice (sym names-are) are.once
+  pub formed-names : HasNoTwice (map (λ k. k.name) R.classes)
+  formed-names = subst HasNoTwice (sym names-are) s.are.once
 
-  pub formed-acyclic : (c : ℕ) → IsProperSubclass Q c c → ⊥
+  pub formed-acyclic : (c : ℕ) → IsProperSubclass R c c → ⊥
   formed-acyclic c h =
-      let g = classes-proper P (outline tree) same-classes (bare-proper P h) in
-      loops.none c (supers-within (outline tree) c g.by g.direct) g
+      let g = classes-proper (P tree s) (outline tree) refl (bare-proper (P tree s) h) in
+      s.acyclic c (supers-within (outline tree) c g.by g.direct) g
 
-  pub known-base : (b : TypeBase) (x : TyBase) → MeansBase (outline tree) b x → IsKnownBase Q x
+  pub known-base : (b : TypeBase) (x : TyBase) → MeansBase (outline tree) b x → IsKnownBase R x
   known-base bases.Int x an_int = tt
   known-base bases.Boolean x a_boolean = tt
   known-base bases.Char x a_char = tt
@@ -238,5 +210,5 @@ module _ (tree : List DeclTree) (formed : IsFormedTree tree) (known : List Known
   known-base (bases.Named n) x (a_class {c = c} e f) = within-classes n c f
 
   -- the type that the outline has for a name is one of the program
-  pub meant-type : (u : TypeName) (t : Ty) → Means (outline tree) u t → IsType Q (type_meant (types_in tree) u)
-  meant-type u t m = subst (IsType Q) (type-meant (outline tree) u t m ∙ ap (λ z. type_meant z u) (type_names-outline tree)) (known-base u.base t.base m.base)
+  pub meant-type : (u : TypeName) (t : Ty) → Means (outline tree) u t → IsType R (type_meant (types_in tree) u)
+  meant-type u t m = subst (IsType R) (type-meant (outline tree) u t m ∙ ap (λ z. type_meant z u) (type_names-outline tree)) (known-base u.base t.base m.base)

@@ -1,13 +1,11 @@
 -- Fields and methods: they are those of the outline, each name once in its class, or a condition holds.
-use Rattle.std.proofs.Common.{◌≡◌, ℕ, zero, suc, ◌+◌, ◌<◌, ⊎_elim, Bool, true, false, ◌&&◌, List, [], ◌∷◌, ◌++◌, map, length, Option, Some, None, Ok, Err, Contains, refl, sym, ap, ◌∙◌, subst, arith, cond}
+use Rattle.std.proofs.Common.{◌≡◌, ℕ, suc, ◌+◌, ⊎_elim, Bool, true, false, ◌&&◌, List, [], ◌∷◌, ◌++◌, map, length, Option, Some, None, Ok, Err, Contains, refl, sym, ap, ◌∙◌, subst, arith}
 use Rattle.std.specs.Prelude.{slice_get, position, if◌then◌else◌, ◌==◌}
-use Rattle.std.specs.List.{position_from}
 use Rattle.std.specs.Option.{is_some, option_map}
 use Rattle.std.specs.Str.{bytes_eq}
 use Rattle.std.proofs.lemmas.Bool.{false≢true, eqb-true, eq-eqb}
 use Rattle.std.proofs.lemmas.List.{map-append, append_assoc, length-append}
 use Rattle.std.proofs.lemmas.Slice.Eq.{bytes_eq-Decides}
-use Rattle.std.proofs.Math.Numerals.{add-one}
 use Rattle.java_tree.specs.declared.TypeName.{TypeName}
 use Rattle.java_tree.specs.Syntax.{MemberTree, DeclTree}
 use Rattle.java_core.specs.declared.Ty.{Ty}
@@ -25,16 +23,15 @@ use Rattle.name_outcome.specs.Known.{Known}
 use Rattle.name_outcome.specs.declared.parts.Heading.{Heading}
 use Rattle.name_outcome.specs.Answers.{with}
 use Rattle.name_outcome.specs.Names.{names_type, type_of}
-use Rattle.name_outcome.specs.Tables.{field_from, method_from}
-use Rattle.name_outcome.specs.Classes.{is_head}
-use Rattle.name_outcome.specs.Members.{Members, params_of, result_of, slot_from, with_slot, slotted, heading, add_heading, head_step, field_step}
+use Rattle.name_outcome.specs.Tables.{field_in, method_in}
+use Rattle.name_outcome.specs.Members.{Members, params_of, result_of, slot_in, with_slot, slotted, heading, add_heading, head_step, field_step}
 use Rattle.name_rules.specs.Outline.{FieldAt, MethodAt, field_member, method_member, fields_of, methods_of, fields_declared, methods_declared, fields_from, methods_from, fields_in, methods_in, is_static, is_private, has_word, is_abstract_word, types_in, is_type_name, type_meant, field_outline, param_outline, method_outline, outline}
 use Rattle.name_rules.specs.Meanings.{Means}
 use Rattle.name_rules.specs.Asked.{of_field}
 use Rattle.name_rules.specs.Resolves.{IsOfSlot}
 use Rattle.name_rules.specs.Conditions.{ConditionAt, type_as_field, field_twice, method_twice, HasWrongBody}
 use Rattle.name_outcome.proofs.Sees.{Tells, tell}
-use Rattle.name_outcome.proofs.Runs.{stands-at, stands-within, earlier-stands, push-cases, member-at, map-stands, stands-map, position-from, none-passes}
+use Rattle.name_outcome.proofs.Runs.{stands-at, stands-within, earlier-stands, push-cases, member-at, map-stands, stands-map, none-passes, stands-beside, once-more}
 use Rattle.name_outcome.proofs.KnownTypes.{AreKnown}
 use Rattle.name_outcome.proofs.Modifiers.{FlagsAre, NoStatic, AreFit}
 use Rattle.name_outcome.proofs.Params.{AreParams, declared-tells, type_name-known, params-tells, result-tells}
@@ -43,24 +40,6 @@ use Rattle.name_outcome.proofs.SlotsOf.{none_of, one_of, SlotsAre, slots-old, sl
 use Rattle.name_outcome.proofs.Mains.{main-begins, begins-main}
 
 -- ---- the first of a class and a name
-
-field-position : (k c : ℕ) (n : List ℕ) (fs : List Field) → field_from k c n fs ≡ position_from (λ f. (f.owner.0 == c) && bytes_eq f.name n) k fs
-field-position k c n [] = refl
-field-position k c n (f ∷ fs) =
-    ap (cond ((f.owner.0 == c) && bytes_eq f.name n) (Some k)) (field-position (suc k) c n fs
-    ∙ ap (λ i. position_from (λ f. (f.owner.0 == c) && bytes_eq f.name n) i fs) (sym (add-one k)))
-
-pub field_from-position : (c : ℕ) (n : List ℕ) (fs : List Field) → field_from 0 c n fs ≡ position (λ f. (f.owner.0 == c) && bytes_eq f.name n) fs
-field_from-position c n fs = field-position 0 c n fs ∙ sym (position-from (λ f. (f.owner.0 == c) && bytes_eq f.name n) fs)
-
-method-position : (k c : ℕ) (n : List ℕ) (hs : List Heading) → method_from k c n hs ≡ position_from (λ h. (h.owner == c) && bytes_eq h.name n) k hs
-method-position k c n [] = refl
-method-position k c n (h ∷ hs) =
-    ap (cond ((h.owner == c) && bytes_eq h.name n) (Some k)) (method-position (suc k) c n hs
-    ∙ ap (λ i. position_from (λ h. (h.owner == c) && bytes_eq h.name n) i hs) (sym (add-one k)))
-
-pub method_from-position : (c : ℕ) (n : List ℕ) (hs : List Heading) → method_from 0 c n hs ≡ position (λ h. (h.owner == c) && bytes_eq h.name n) hs
-method_from-position c n hs = method-position 0 c n hs ∙ sym (position-from (λ h. (h.owner == c) && bytes_eq h.name n) hs)
 
 pub both-true : (a : ℕ) (c : ℕ) (m n : List ℕ) → (a == c) && bytes_eq m n ≡ true → (a ≡ c) × (m ≡ n)
 both-true a c m n e = go (a == c) refl
@@ -136,22 +115,6 @@ module _ (tree : List DeclTree) (known : List Known) (are : AreKnown tree known)
     pub good : (i : ℕ) (n : MethodAt) → slice_get ms i ≡ Some n → GoodMethod n
     pub slots : SlotsAre (types_in tree) ms m.headings m.slots
 
-  -- one more behind those that differ from it
-  once-more : {A : Type 0} (xs : List A) (x : A) (Same : A → A → Type 0) → ((a b : A) → Same a b → Same b a)
-      → ((i j : ℕ) (a b : A) → slice_get xs i ≡ Some a → slice_get xs j ≡ Some b → Same a b → i ≡ j)
-      → ((i : ℕ) (a : A) → slice_get xs i ≡ Some a → Same a x → ⊥) → (i j : ℕ) (a b : A) → slice_get (xs ++ x ∷ []) i ≡ Some a
-      → slice_get (xs ++ x ∷ []) j ≡ Some b → Same a b → i ≡ j
-  once-more xs x Same turned once fresh i j a b p q s =
-      ⊎_elim
-      (λ u. ⊎_elim (λ v. once i j a b u v s) (λ v. absurd (fresh i a u (subst (λ z. Same a z) (sym v.1) s))) (push-cases xs x j b q))
-      (λ u. ⊎_elim (λ v. absurd (fresh j b v (subst (λ z. Same b z) (sym u.1) (turned a b s)))) (λ v. u.0 ∙ sym v.0) (push-cases xs x j b q))
-      (push-cases xs x i a p)
-
-  pub some-stands : {A : Type 0} (xs : List A) (i : ℕ) → i < length xs → (x : A) × (slice_get xs i ≡ Some x)
-  some-stands [] i lt = absurd (omega (arith, lt))
-  some-stands (x ∷ xs) zero lt = (x, refl)
-  some-stands (x ∷ xs) (suc i) lt = some-stands xs i (omega (arith, lt))
-
   -- ---- fields
 
   pub field-tells : (fs rest : List FieldAt) (f : FieldAt) (ms : List MethodAt) (m : Members) (g : Flags) → fields_in tree ≡ fs ++ f ∷ rest
@@ -159,8 +122,7 @@ module _ (tree : List DeclTree) (known : List Known) (are : AreKnown tree known)
       → Tells (AreMembers (fs ++ f ∷ []) ms) (ConditionAt tree) (field_step known f.owner m g f.type f.name f.place)
   field-tells fs rest f ms m g e hg fit h =
       tell (AreMembers (fs ++ f ∷ []) ms) (ConditionAt tree) (type_of known f.type) _ (declared-tells tree known are f.type (of_field has))
-      (λ t k. go t k (names_type known f.name) (type_name-known tree known are f.name) (field_from 0 f.owner f.name m.fields)
-      (field_from-position f.owner f.name m.fields)) (λ r q. q)
+      (λ t k. go t k (names_type known f.name) (type_name-known tree known are f.name) (field_in m.fields f.owner f.name) refl) (λ r q. q)
     where
       here : slice_get (fields_in tree) (length fs) ≡ Some f
       here = stands-at fs f rest e
@@ -204,22 +166,8 @@ module _ (tree : List DeclTree) (known : List Known) (are : AreKnown tree known)
           let x : Field = record { owner = record { 0 = f.owner }; name = f.name; is_static = g.is_static; ty = t; place = f.place } in
           record {
             fields = map-append (field_seen at_place) m.fields (x ∷ []) ∙ ap (λ z. z ++ field_seen at_place x ∷ []) h.fields
-                ∙ ap (λ z. map (field_outline (types_in tree)) fs ++ record {
-                  owner = f.owner;
-                  name = f.name;
-                  is_static = g.is_static;
-                  ty = z;
-                  tag =
-                      at_place f.place;
-                } ∷ []) k.0
-                ∙ ap (λ z. map (field_outline (types_in tree)) fs ++ record {
-                  owner = f.owner;
-                  name = f.name;
-                  is_static = z;
-                  ty = type_meant
-                      (types_in tree) f.type;
-                  tag = at_place f.place;
-                } ∷ []) hg.static
+                ∙ ap (λ z. map (field_outline (types_in tree)) fs ++ record (field_outline (types_in tree) f) { ty = z; is_static = g.is_static } ∷ []) k.0
+                ∙ ap (λ z. map (field_outline (types_in tree)) fs ++ record (field_outline (types_in tree) f) { is_static = z } ∷ []) hg.static
                 ∙ sym (map-append (field_outline (types_in tree)) fs (f ∷ []));
             field_once = λ i j a b u v s w. once-more fs f (λ a b. (a.owner ≡ b.owner) × (a.name ≡ b.name)) (λ a b s. (sym s.0, sym s.1))
                 (λ i j a b u v s. h.field_once i j a b u v s.0 s.1)
@@ -263,7 +211,7 @@ module _ (tree : List DeclTree) (known : List Known) (are : AreKnown tree known)
   pub head-tells : (fs : List FieldAt) (ms rest : List MethodAt) (n : MethodAt) (m : Members) (f : Flags) → methods_in tree ≡ ms ++ n ∷ rest
       → FlagsAre n.head.mods f → NoStatic n.kind f → AreFit n.kind n.head.mods → (HasWrongBody n → ⊥) → AreMembers fs ms m
       → Tells (AreMembers fs (ms ++ n ∷ [])) (ConditionAt tree) (head_step known n.owner m n.head f)
-  head-tells fs ms rest n m f e hf static fit body h = go (method_from 0 n.owner n.head.name m.headings) (method_from-position n.owner n.head.name m.headings)
+  head-tells fs ms rest n m f e hf static fit body h = go (method_in m.headings n.owner n.head.name) refl
     where
       here : slice_get (methods_in tree) (length ms) ≡ Some n
       here = stands-at ms n rest e
@@ -310,7 +258,7 @@ module _ (tree : List DeclTree) (known : List Known) (are : AreKnown tree known)
             params = p;
             result = q.1;
             body = body;
-            head = λ k. sym hf.static ∙ static.head (ap is_head k);
+            head = λ k. sym hf.static ∙ static.head k;
             no_static = λ a. sym hf.static ∙ static.abstract (hf.abstract ∙ a);
             fit = fit;
           }
@@ -322,7 +270,7 @@ module _ (tree : List DeclTree) (known : List Known) (are : AreKnown tree known)
           signed : (s : PlainSlot) → HasSignature n.head.name ls r s → IsOfSlot s (method_outline (types_in tree) n)
           signed s g = record { name = sym g.name; params = ap types_of (sym p.same) ∙ map-twice ls ∙ sym g.params; result = sym q.0 ∙ sym g.result }
 
-          by_slot : f.is_static ≡ false → (o : Option ℕ) → slot_from 0 n.head.name ls r m.slots ≡ o
+          by_slot : f.is_static ≡ false → (o : Option ℕ) → slot_in n.head.name ls r m.slots ≡ o
               → AreMembers fs (ms ++ n ∷ []) (let s = with_slot o n.head.name ls r (length m.headings) m.slots in record
               { fields = m.fields; headings = m.headings ++ heading n.owner n.head f ls r (Some s.0) ∷ []; slots = s.1 })
           by_slot st (Some k) at =
@@ -354,7 +302,7 @@ module _ (tree : List DeclTree) (known : List Known) (are : AreKnown tree known)
           by_static true st =
               add fs ms n m (heading n.owner n.head f ls r None) m.slots h (heads_it ls r None p q.0) good fresh
               (slots-old (types_in tree) ms m.headings n (heading n.owner n.head f ls r None) h.count m.slots h.slots (none_of (sym hf.static ∙ st) refl))
-          by_static false st = by_slot st (slot_from 0 n.head.name ls r m.slots) refl
+          by_static false st = by_slot st (slot_in n.head.name ls r m.slots) refl
 
       go : (o : Option ℕ) → o ≡ position (λ x. (x.owner == n.owner) && bytes_eq x.name n.head.name) m.headings
           → Tells (AreMembers fs (ms ++ n ∷ [])) (ConditionAt tree) (if is_some o then Err (Twice n.head.name n.head.place) else with
@@ -362,7 +310,7 @@ module _ (tree : List DeclTree) (known : List Known) (are : AreKnown tree known)
       go (Some i) z =
           let a = position-passes (λ x. (x.owner == n.owner) && bytes_eq x.name n.head.name) m.headings i (sym z) in
           let b = both-true a.0.owner n.owner a.0.name n.head.name a.2 in
-          let c = some-stands ms i (let l = stands-within m.headings i a.0 a.1 in let d = h.count in omega (arith, l, d)) in
+          let c = stands-beside m.headings ms h.count i a.0 a.1 in
           let d = h.heads i a.0 c.0 a.1 c.1 in
           method_twice (earlier-stands ms (n ∷ rest) e i c.0 c.1) here (stands-within ms i c.0 c.1) (sym d.owner ∙ b.0) (sym d.name ∙ b.1)
       go None z =
@@ -373,7 +321,7 @@ module _ (tree : List DeclTree) (known : List Known) (are : AreKnown tree known)
         where
           fresh : (i : ℕ) (a : MethodAt) → slice_get ms i ≡ Some a → a.owner ≡ n.owner → a.head.name ≡ n.head.name → ⊥
           fresh i a at u v =
-              let c = some-stands m.headings i (let l = stands-within ms i a at in let d = h.count in omega (arith, l, d)) in
+              let c = stands-beside ms m.headings (sym h.count) i a at in
               let d = h.heads i c.0 a c.1 at in
               none-passes (λ x. (x.owner == n.owner) && bytes_eq x.name n.head.name) m.headings (sym z) i c.0 c.1
               (true-both c.0.owner n.owner c.0.name n.head.name (d.owner ∙ u) (d.name ∙ v))

@@ -1,30 +1,23 @@
 -- The names of the types: all are there once, or one is there twice.
-use Rattle.std.proofs.Common.{◌≡◌, ℕ, zero, suc, inl, inr, ⊎_elim, Bool, true, false, List, [], ◌∷◌, ◌++◌, map, length, Option, Some, None, refl, sym, ap, ◌∙◌, subst, cond}
+use Rattle.std.proofs.Common.{◌≡◌, ℕ, zero, suc, inl, inr, ⊎_elim, Bool, true, false, List, [], ◌∷◌, ◌++◌, map, length, Option, Some, None, refl, sym, ap, ◌∙◌, subst}
 use Rattle.std.specs.Prelude.{slice_get, codes}
-use Rattle.std.specs.List.{position_from}
 use Rattle.std.specs.Str.{bytes_eq, chars}
 use Rattle.std.proofs.lemmas.List.{map-append}
 use Rattle.std.proofs.lemmas.Slice.Eq.{bytes_eq-Decides}
-use Rattle.std.proofs.Math.Numerals.{add-one}
 use Rattle.java_tree.specs.Syntax.{DeclTree}
 use Rattle.java_core.specs.Formed.{HasNoTwice}
-use Rattle.java_core.proofs.Positions.{position-passes}
+use Rattle.java_core.proofs.Positions.{position-map, position-passes}
 use Rattle.name_rules.specs.declared.Refusal.TheVariants.{Twice}
 use Rattle.name_outcome.specs.Known.{Known}
-use Rattle.name_outcome.specs.Names.{number_from, number_of}
-use Rattle.name_outcome.specs.Classes.{decl_name, object_known, know_named, know, known_of}
+use Rattle.name_outcome.specs.Names.{number_of}
+use Rattle.name_outcome.specs.Classes.{object_known, know_named, know, known_of}
 use Rattle.name_rules.specs.Outline.{name_of, place_of, is_interface_of, is_known, types_in, type_named}
 use Rattle.name_rules.specs.Conditions.{ConditionAt, type_twice, known_twice}
 use Rattle.name_outcome.proofs.Sees.{Tells}
-use Rattle.name_outcome.proofs.Runs.{run-tells, stands-at, stands-within, earlier-stands, push-cases, member-at, map-stands, once-push, position-from, none-passes}
-
-numbered : (k : ℕ) (n : List ℕ) (ks : List Known) → number_from k n ks ≡ position_from (λ m. bytes_eq m n) k (map (λ x. x.name) ks)
-numbered k n [] = refl
-numbered k n (x ∷ xs) = ap (cond (bytes_eq x.name n) (Some k)) (numbered (suc k) n xs
-    ∙ ap (λ i. position_from (λ m. bytes_eq m n) i (map (λ y. y.name) xs)) (sym (add-one k)))
+use Rattle.name_outcome.proofs.Runs.{run-tells, stands-at, stands-within, earlier-stands, push-cases, member-at, map-stands, once-push, none-passes}
 
 pub number_of-named : (ks : List Known) (n : List ℕ) → number_of ks n ≡ type_named (map (λ x. x.name) ks) n
-number_of-named ks n = numbered 0 n ks ∙ sym (position-from (λ m. bytes_eq m n) (map (λ x. x.name) ks))
+number_of-named ks n = sym (position-map (λ x. x.name) (λ m. bytes_eq m n) ks)
 
 -- the type of a name stands under it
 pub named-stands : (types : List (List ℕ)) (n : List ℕ) (i : ℕ) → type_named types n ≡ Some i → slice_get types i ≡ Some n
@@ -32,9 +25,6 @@ named-stands types n i e = let h = position-passes (λ m. bytes_eq m n) types i 
 
 pub unnamed-stands : (types : List (List ℕ)) (n : List ℕ) → type_named types n ≡ None → (i : ℕ) → slice_get types i ≡ Some n → ⊥
 unnamed-stands types n e i h = none-passes (λ m. bytes_eq m n) types e i n h ((bytes_eq-Decides n n).1 refl)
-
-same_name : (d : DeclTree) → decl_name d ≡ name_of d
-same_name d = refl
 
 -- the types of the declarations so far
 pub record AreKnown (done : List DeclTree) (ks : List Known) : Type 0 where

@@ -1,5 +1,5 @@
 -- Where the fields and methods of a tree stand: in which declaration, and of what form.
-use Rattle.std.proofs.Common.{◌≡◌, ℕ, zero, suc, ◌+◌, ◌<◌, ◌≤◌, ◌⊎◌, inl, inr, ⊎_elim, Bool, true, false, List, [], ◌∷◌, ◌++◌, length, Some, None, refl, sym, ap, subst, arith}
+use Rattle.std.proofs.Common.{◌≡◌, ℕ, zero, suc, ◌+◌, ◌≤◌, ◌⊎◌, inl, inr, ⊎_elim, Bool, true, false, List, [], ◌∷◌, length, Some, None, refl, sym, ap, subst, arith}
 use Rattle.std.specs.Prelude.{slice_get}
 use Rattle.java_lex.specs.Writable.{IsName}
 use Rattle.java_tree.specs.Syntax.{HeadTree, MemberTree, FieldTree, MethodTree, DeclTree, ClassTree, InterfaceTree}
@@ -7,7 +7,8 @@ use Rattle.name_rules.specs.declared.parts.Kind.TheVariants as kinds
 use Rattle.name_rules.specs.Outline.{FieldAt, MethodAt, fields_of, methods_of, heads_of, fields_declared, methods_declared, fields_from, methods_from, has_word, is_abstract_word, mods_of, is_interface_of}
 use Rattle.java_print.specs.Formed.{Each, IsFormedBase, IsFormedHead, IsFormedBody, IsFormedMember, IsFormedDecl}
 use Rattle.name_outcome.proofs.Sees.{same_some}
-use Rattle.name_outcome.proofs.MethodClashes.{front-or-back}
+use Rattle.name_outcome.proofs.MethodClashes.{owner-declared}
+use Rattle.name_outcome.proofs.Runs.{append-cases, stands-within}
 
 -- the field stands in this declaration, which is a class
 pub record FieldIn (c : ℕ) (ds : List DeclTree) (f : FieldAt) : Type 0 where
@@ -100,84 +101,53 @@ method-declared c (InterfaceTree mods n parents hs p) g ds i m e =
 
 pub field-in : (c : ℕ) (ds : List DeclTree) → Each IsFormedDecl ds → (i : ℕ) (f : FieldAt) → slice_get (fields_from c ds) i ≡ Some f → FieldIn c ds f
 field-in c [] g i f e = absurd (cc e)
-field-in c (d ∷ ds) g i f e = go (front-or-back (fields_declared c d) (fields_from (suc c) ds) i f e) (λ j h. field-in (suc c) ds g.1 j f h)
-  where
-    go : ((j : ℕ) × (slice_get (fields_declared c d) j ≡ Some f)) ⊎ ((j : ℕ) × (slice_get (fields_from (suc c) ds) j ≡ Some f))
-        → ((j : ℕ) → slice_get (fields_from (suc c) ds) j ≡ Some f → FieldIn (suc c) ds f) → FieldIn c (d ∷ ds) f
-    go (inl h) more = let k = field-declared c d g.0 h.0 f h.1 in record {
-      index = 0;
-      decl = d;
-      stands = refl;
-      owner = let o = k.0 in omega
-          (arith, o);
-      class = k.3;
-      name = k.1;
-      type = k.2;
-    }
-    go (inr h) more = let k = more h.0 h.1 in record {
+field-in c (d ∷ ds) g i f e =
+    ⊎_elim
+    (λ h. let k = field-declared c d g.0 i f h in
+    record { index = 0; decl = d; stands = refl; owner = (let o = k.0 in omega (arith, o)); class = k.3; name = k.1; type = k.2 })
+    (λ h. let k = field-in (suc c) ds g.1 h.0 f h.2 in record {
       index = suc k.index;
       decl = k.decl;
       stands = k.stands;
-      owner = let o = k.owner in omega
-          (arith, o);
+      owner = (let o = k.owner in omega (arith, o));
       class = k.class;
       name = k.name;
       type = k.type;
-    }
+    })
+    (append-cases (fields_declared c d) (fields_from (suc c) ds) i f e)
 
 pub method-in : (c : ℕ) (ds : List DeclTree) → Each IsFormedDecl ds → (i : ℕ) (m : MethodAt) → slice_get (methods_from c ds) i ≡ Some m → MethodIn c ds m
 method-in c [] g i m e = absurd (cc e)
-method-in c (d ∷ ds) g i m e = go (front-or-back (methods_declared c d) (methods_from (suc c) ds) i m e) (λ j h. method-in (suc c) ds g.1 j m h)
-  where
-    go : ((j : ℕ) × (slice_get (methods_declared c d) j ≡ Some m)) ⊎ ((j : ℕ) × (slice_get (methods_from (suc c) ds) j ≡ Some m))
-        → ((j : ℕ) → slice_get (methods_from (suc c) ds) j ≡ Some m → MethodIn (suc c) ds m) → MethodIn c (d ∷ ds) m
-    go (inl h) more = method-declared c d g.0 ds h.0 m h.1
-    go (inr h) more = let k = more h.0 h.1 in record {
+method-in c (d ∷ ds) g i m e =
+    ⊎_elim (λ h. method-declared c d g.0 ds i m h)
+    (λ h. let k = method-in (suc c) ds g.1 h.0 m h.2 in record {
       index = suc k.index;
       decl = k.decl;
       stands = k.stands;
-      owner = let o = k.owner in omega
-          (arith, o);
+      owner = (let o = k.owner in omega (arith, o));
       head = k.head;
       body = k.body;
       in_interface = k.in_interface;
       in_class = k.in_class;
-    }
+    })
+    (append-cases (methods_declared c d) (methods_from (suc c) ds) i m e)
 
 -- methods stand in the order of their owners
 least-owner : (c : ℕ) (ds : List DeclTree) → Each IsFormedDecl ds → (i : ℕ) (m : MethodAt) → slice_get (methods_from c ds) i ≡ Some m → c ≤ m.owner
 least-owner c ds g i m e = let h = (method-in c ds g i m e).owner in omega (arith, h)
 
-back-split : {A : Type 0} (xs ys : List A) (i : ℕ) (x : A) → slice_get (xs ++ ys) i ≡ Some x → (slice_get xs i ≡ Some x)
-    ⊎ ((j : ℕ) × (i ≡ length xs + j) × (slice_get ys j ≡ Some x))
-back-split [] ys i x e = inr (i, omega arith, e)
-back-split (z ∷ xs) ys zero x e = inl e
-back-split (z ∷ xs) ys (suc i) x e = ⊎_elim (λ h. inl h) (λ h. inr (h.0, (let k = h.1 in omega (arith, k)), h.2)) (back-split xs ys i x e)
-
-length-stands : {A : Type 0} (xs : List A) (i : ℕ) (x : A) → slice_get xs i ≡ Some x → i < length xs
-length-stands [] i x e = absurd (cc e)
-length-stands (y ∷ xs) zero x e = omega arith
-length-stands (y ∷ xs) (suc i) x e = let h = length-stands xs i x e in omega (arith, h)
-
 pub owners-rise : (c : ℕ) (ds : List DeclTree) → Each IsFormedDecl ds → (i j : ℕ) (a b : MethodAt) → slice_get (methods_from c ds) i ≡ Some a
     → slice_get (methods_from c ds) j ≡ Some b → i ≤ j → a.owner ≤ b.owner
 owners-rise c [] g i j a b e f lt = absurd (cc e)
 owners-rise c (d ∷ ds) g i j a b e f lt =
-    go (back-split (methods_declared c d) (methods_from (suc c) ds) i a e) (back-split (methods_declared c d) (methods_from (suc c) ds) j b f)
+    go (append-cases (methods_declared c d) (methods_from (suc c) ds) i a e) (append-cases (methods_declared c d) (methods_from (suc c) ds) j b f)
     (λ k l p q r. owners-rise (suc c) ds g.1 k l a b p q r)
   where
-    here : (i : ℕ) (m : MethodAt) → slice_get (methods_declared c d) i ≡ Some m → m.owner ≡ c
-    here i m e = at d g.0 e
-      where
-        at : (d : DeclTree) → IsFormedDecl d → slice_get (methods_declared c d) i ≡ Some m → m.owner ≡ c
-        at (ClassTree mods n parent faces xs p) g e = (class-method c (has_word is_abstract_word mods) xs g.4 i m e).0
-        at (InterfaceTree mods n parents hs p) g e = (interface-method c hs g.3 i m e).0
-
     go : (slice_get (methods_declared c d) i ≡ Some a) ⊎ ((k : ℕ) × (i ≡ length (methods_declared c d) + k) × (slice_get (methods_from (suc c) ds) k ≡ Some a))
         → (slice_get (methods_declared c d) j ≡ Some b) ⊎ ((k : ℕ) × (j ≡ length (methods_declared c d) + k) × (slice_get (methods_from (suc c) ds) k ≡ Some b))
         → ((k l : ℕ) → slice_get (methods_from (suc c) ds) k ≡ Some a → slice_get (methods_from (suc c) ds) l ≡ Some b → k ≤ l → a.owner ≤ b.owner)
         → a.owner ≤ b.owner
-    go (inl p) (inl q) more = let x = here i a p in let y = here j b q in omega (arith, x, y)
-    go (inl p) (inr q) more = let x = here i a p in let y = least-owner (suc c) ds g.1 q.0 b q.2 in omega (arith, x, y)
-    go (inr p) (inl q) more = absurd (let l = length-stands (methods_declared c d) j b q in let m = p.1 in omega (arith, l, m, lt))
+    go (inl p) (inl q) more = let x = owner-declared c d i a p in let y = owner-declared c d j b q in omega (arith, x, y)
+    go (inl p) (inr q) more = let x = owner-declared c d i a p in let y = least-owner (suc c) ds g.1 q.0 b q.2 in omega (arith, x, y)
+    go (inr p) (inl q) more = absurd (let l = stands-within (methods_declared c d) j b q in let m = p.1 in omega (arith, l, m, lt))
     go (inr p) (inr q) more = more p.0 q.0 p.2 q.2 (let l = p.1 in let m = q.1 in omega (arith, l, m, lt))

@@ -1,12 +1,10 @@
 -- Methods of one name that meet in a type: of one slot, or a condition holds. And the main method.
-use Rattle.std.proofs.Common.{◌≡◌, ℕ, zero, suc, ◌+◌, ◌<◌, ◌≤◌, ◌⊎◌, inl, inr, ⊎_elim, Bool, true, false, not, ◌||◌, ◌&&◌, List, [], ◌∷◌, ◌++◌, length, Option, Some, None, Ok, refl, sym, ap, ◌∙◌, subst, arith, cond}
+use Rattle.std.proofs.Common.{◌≡◌, ℕ, zero, suc, ◌+◌, ◌<◌, ◌≤◌, ◌⊎◌, inl, inr, ⊎_elim, Bool, true, false, not, ◌||◌, ◌&&◌, List, [], ◌∷◌, ◌++◌, length, Option, Some, None, Ok, refl, sym, ap, ◌∙◌, subst, arith}
 use Rattle.std.specs.Prelude.{slice_get, if◌then◌else◌, ◌==◌, position}
-use Rattle.std.specs.List.{position_from}
 use Rattle.std.specs.Str.{bytes_eq}
-use Rattle.std.proofs.lemmas.Bool.{false≢true, eqb-true, eq-eqb, eqb-false, or_cases}
+use Rattle.std.proofs.lemmas.Bool.{false≢true, and_parts, not-true, eqb-true, eq-eqb, eqb-false, or_cases}
 use Rattle.std.proofs.lemmas.List.{length-append, length-map}
 use Rattle.std.proofs.lemmas.Slice.Eq.{bytes_eq-Decides}
-use Rattle.std.proofs.Math.Numerals.{add-one}
 use Rattle.java_tree.specs.Syntax.{DeclTree, HeadTree, MemberTree, FieldTree, MethodTree, ClassTree, InterfaceTree}
 use Rattle.java_core.specs.Programs.{PlainMethod}
 use Rattle.java_core.specs.Classes.{IsSubclass}
@@ -18,24 +16,18 @@ use Rattle.name_outcome.specs.Known.{Known}
 use Rattle.name_outcome.specs.declared.parts.Heading.{Heading}
 use Rattle.name_outcome.specs.Answers.{unless, run}
 use Rattle.name_outcome.specs.Tables.{is_above}
-use Rattle.name_outcome.specs.Members.{Members, meet, same_slot, clash_of, clash_with, earlier_step, clash_step, clashes_of, main_from, or_no_main, main_of}
+use Rattle.name_outcome.specs.Members.{Members, meet, same_slot, clash_of, clash_with, earlier_step, clash_step, clashes_of, or_no_main, main_of}
 use Rattle.name_rules.specs.Outline.{MethodAt, is_private, methods_of, heads_of, methods_declared, methods_from, methods_in, types_in, method_outline, outline}
 use Rattle.name_rules.specs.Conditions.{ConditionAt, overload, private_reused, no_main, AreOneSlot}
 use Rattle.name_outcome.proofs.Sees.{Tells, tell, same_some}
-use Rattle.name_outcome.proofs.Runs.{run-tells, stands-at, stands-within, push-cases, map-stands, stands-map, position-from, none-passes}
+use Rattle.name_outcome.proofs.Runs.{run-tells, append-cases, stands-at, push-cases, map-stands, stands-map, none-passes, stands-beside}
 use Rattle.name_outcome.proofs.KnownTypes.{AreKnown}
 use Rattle.name_outcome.proofs.Reached.{AreAbove}
 use Rattle.java_core.proofs.Meets.{meet-stands}
 use Rattle.name_outcome.proofs.SlotsOf.{SlotOf, none_of, one_of}
-use Rattle.name_outcome.proofs.KnownMembers.{AreMembers, HeadIs, some-stands}
+use Rattle.name_outcome.proofs.KnownMembers.{AreMembers, HeadIs}
 
 -- ---- owners are types of the tree
-
-pub front-or-back : {A : Type 0} (xs ys : List A) (i : ℕ) (x : A) → slice_get (xs ++ ys) i ≡ Some x → ((j : ℕ) × (slice_get xs j ≡ Some x))
-    ⊎ ((j : ℕ) × (slice_get ys j ≡ Some x))
-front-or-back [] ys i x e = inr (i, e)
-front-or-back (z ∷ xs) ys zero x e = inl (0, e)
-front-or-back (z ∷ xs) ys (suc i) x e = ⊎_elim (λ h. inl (suc h.0, h.1)) (λ h. inr h) (front-or-back xs ys i x e)
 
 owner-member : (c : ℕ) (a : Bool) (xs : List MemberTree) (i : ℕ) (m : MethodAt) → slice_get (methods_of c a xs) i ≡ Some m → m.owner ≡ c
 owner-member c a [] i m e = absurd (cc e)
@@ -48,18 +40,15 @@ owner-head c [] i m e = absurd (cc e)
 owner-head c (h ∷ hs) zero m e = ap (λ z. z.owner) (sym (same_some e))
 owner-head c (h ∷ hs) (suc i) m e = owner-head c hs i m e
 
-owner-declared : (c : ℕ) (d : DeclTree) (i : ℕ) (m : MethodAt) → slice_get (methods_declared c d) i ≡ Some m → m.owner ≡ c
+pub owner-declared : (c : ℕ) (d : DeclTree) (i : ℕ) (m : MethodAt) → slice_get (methods_declared c d) i ≡ Some m → m.owner ≡ c
 owner-declared c (ClassTree mods n parent faces xs p) i m e = owner-member c _ xs i m e
 owner-declared c (InterfaceTree mods n parents hs p) i m e = owner-head c hs i m e
 
 owner-from : (c : ℕ) (ds : List DeclTree) (i : ℕ) (m : MethodAt) → slice_get (methods_from c ds) i ≡ Some m → m.owner < c + length ds
 owner-from c [] i m e = absurd (cc e)
-owner-from c (d ∷ ds) i m e = go (front-or-back (methods_declared c d) (methods_from (suc c) ds) i m e) (λ j f. owner-from (suc c) ds j m f)
-  where
-    go : ((j : ℕ) × (slice_get (methods_declared c d) j ≡ Some m)) ⊎ ((j : ℕ) × (slice_get (methods_from (suc c) ds) j ≡ Some m))
-        → ((j : ℕ) → slice_get (methods_from (suc c) ds) j ≡ Some m → m.owner < suc c + length ds) → m.owner < c + suc (length ds)
-    go (inl h) more = let a = owner-declared c d h.0 m h.1 in omega (arith, a)
-    go (inr h) more = let a = more h.0 h.1 in omega (arith, a)
+owner-from c (d ∷ ds) i m e =
+    ⊎_elim (λ h. let a = owner-declared c d i m h in omega (arith, a)) (λ h. let a = owner-from (suc c) ds h.0 m h.2 in omega (arith, a))
+    (append-cases (methods_declared c d) (methods_from (suc c) ds) i m e)
 
 pub classes-count : (tree : List DeclTree) → length (outline tree).classes ≡ suc (length tree)
 unfolding outline
@@ -77,14 +66,6 @@ pub outline-method : (tree : List DeclTree) (i : ℕ) (k : PlainMethod) → slic
     × (slice_get (methods_in tree) i ≡ Some m) × (method_outline (types_in tree) m ≡ k)
 unfolding outline
 outline-method tree i k e = map-stands (method_outline (types_in tree)) (methods_in tree) i k e
-
-pub and-true : (a b : Bool) → a && b ≡ true → (a ≡ true) × (b ≡ true)
-and-true true b e = (refl, e)
-and-true false b e = absurd (false≢true e)
-
-not-true' : (a : Bool) → not a ≡ true → a ≡ false
-not-true' true e = absurd (false≢true e)
-not-true' false e = refl
 
 -- ---- clashes
 
@@ -108,10 +89,10 @@ module _ (tree : List DeclTree) (known : List Known) (are : AreKnown tree known)
   clash-tells i j a b p q lt r e = by_name (bytes_eq a.name b.name) refl
     where
       x : (n : MethodAt) × (slice_get (methods_in tree) i ≡ Some n)
-      x = some-stands tree known are (methods_in tree) i (let l = stands-within m.headings i a p in let c = members.count in omega (arith, l, c))
+      x = stands-beside m.headings (methods_in tree) members.count i a p
 
       y : (n : MethodAt) × (slice_get (methods_in tree) j ≡ Some n)
-      y = some-stands tree known are (methods_in tree) j (let l = stands-within m.headings j b q in let c = members.count in omega (arith, l, c))
+      y = stands-beside m.headings (methods_in tree) members.count j b q
 
       hx : HeadIs tree known are a x.0
       hx = members.heads i a x.0 p x.1
@@ -142,7 +123,7 @@ module _ (tree : List DeclTree) (known : List Known) (are : AreKnown tree known)
           by_private : (c : Bool) → (a.is_private || b.is_private) && (is_above rows a.owner b.owner || is_above rows b.owner a.owner) ≡ c
               → (d : Bool) → not (same_slot a.slot b.slot) && meet rows a.owner b.owner ≡ d → ConditionAt tree r
           by_private true g d h =
-              let k = and-true (a.is_private || b.is_private) (is_above rows a.owner b.owner || is_above rows b.owner a.owner) g in
+              let k = and_parts (a.is_private || b.is_private) (is_above rows a.owner b.owner || is_above rows b.owner a.owner) g in
               let same : PrivateReused b.name b.place ≡ r =
               same_some (sym (ap (λ z. if z then Some (PrivateReused b.name b.place) else if not (same_slot a.slot b.slot) && meet rows a.owner
               b.owner then Some (Overload b.name b.place) else None) g) ∙ is) in
@@ -155,7 +136,7 @@ module _ (tree : List DeclTree) (known : List Known) (are : AreKnown tree known)
               (or_cases (is_above rows a.owner b.owner) (is_above rows b.owner a.owner) k.1)) in
               subst (ConditionAt tree) (ap (λ z. PrivateReused z y.0.head.place) (sym hy.name) ∙ ap (λ z. PrivateReused b.name z) (sym hy.place) ∙ same) l
           by_private false g true h =
-              let k = and-true (not (same_slot a.slot b.slot)) (meet rows a.owner b.owner) h in
+              let k = and_parts (not (same_slot a.slot b.slot)) (meet rows a.owner b.owner) h in
               let same : Overload b.name b.place ≡ r =
               same_some (sym (ap (λ z. if z then Some (PrivateReused b.name b.place) else if not (same_slot a.slot b.slot) && meet rows a.owner
               b.owner then Some (Overload b.name b.place) else None) g
@@ -164,7 +145,7 @@ module _ (tree : List DeclTree) (known : List Known) (are : AreKnown tree known)
               let l = overload (method_at-outline tree i x.0 x.1) (method_at-outline tree j y.0 y.1) lt names
               (subst (λ z. IsSubclass (outline tree) w.0 z) hx.owner (above-sound w.0 a.owner x-within w.1))
               (subst (λ z. IsSubclass (outline tree) w.0 z) hy.owner (above-sound w.0 b.owner y-within w.2))
-              (λ o. false≢true (sym (not-true' (same_slot a.slot b.slot) k.0) ∙ one-slot i j a b x.0 y.0 p q x.1 y.1 names o)) in
+              (λ o. false≢true (sym (not-true (same_slot a.slot b.slot) k.0) ∙ one-slot i j a b x.0 y.0 p q x.1 y.1 names o)) in
               subst (ConditionAt tree) (ap (λ z. Overload z y.0.head.place) (sym hy.name) ∙ ap (λ z. Overload b.name z) (sym hy.place) ∙ same) l
           by_private false g false h =
               absurd (cc (sym (ap (λ z. if z then Some (PrivateReused b.name b.place) else if not (same_slot a.slot b.slot) && meet rows a.owner
@@ -236,10 +217,6 @@ module _ (tree : List DeclTree) (known : List Known) (are : AreKnown tree known)
 
   -- ---- the main method
 
-  main-position : (k : ℕ) (hs : List Heading) → main_from k hs ≡ position_from (λ h. h.is_main) k hs
-  main-position k [] = refl
-  main-position k (h ∷ hs) = ap (cond h.is_main (Some k)) (main-position (suc k) hs ∙ ap (λ i. position_from (λ h. h.is_main) i hs) (sym (add-one k)))
-
   pub record IsFirstMain (i : ℕ) : Type 0 where
     pub method : MethodAt
     pub stands : slice_get (methods_in tree) i ≡ Some method
@@ -247,14 +224,14 @@ module _ (tree : List DeclTree) (known : List Known) (are : AreKnown tree known)
     pub first : position (λ h. h.is_main) m.headings ≡ Some i
 
   pub main-tells : Tells IsFirstMain (ConditionAt tree) (main_of m.headings)
-  main-tells = go (main_from 0 m.headings) (main-position 0 m.headings ∙ sym (position-from (λ h. h.is_main) m.headings))
+  main-tells = go (position (λ h. h.is_main) m.headings) refl
     where
       go : (o : Option ℕ) → o ≡ position (λ h. h.is_main) m.headings → Tells IsFirstMain (ConditionAt tree) (or_no_main o)
       go (Some i) e =
           let a = position-passes (λ h. h.is_main) m.headings i (sym e) in
-          let x = some-stands tree known are (methods_in tree) i (let l = stands-within m.headings i a.0 a.1 in let c = members.count in omega (arith, l, c)) in
+          let x = stands-beside m.headings (methods_in tree) members.count i a.0 a.1 in
           record { method = x.0; stands = x.1; is = (members.heads i a.0 x.0 a.1 x.1).main a.2; first = sym e }
       go None e = no_main (λ i k at is.
           let x = outline-method tree i k at in
-          let a = some-stands tree known are m.headings i (let l = stands-within (methods_in tree) i x.0 x.1 in let c = members.count in omega (arith, l, c)) in
+          let a = stands-beside (methods_in tree) m.headings (sym members.count) i x.0 x.1 in
           none-passes (λ h. h.is_main) m.headings (sym e) i a.0 a.1 ((members.heads i a.0 x.0 a.1 x.1).no_main (subst IsMain (sym x.2) is)))

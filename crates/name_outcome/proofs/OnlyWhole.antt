@@ -1,8 +1,9 @@
 -- A tree of which no condition holds resolves to one program.
-use Rattle.std.proofs.Common.{◌≡◌, ℕ, zero, suc, ◌+◌, ◌<◌, ◌≤◌, ◌⊎◌, inl, inr, false, List, [], ◌∷◌, map, length, Option, Some, None, refl, sym, ap, ◌∙◌, subst, arith}
+use Rattle.std.proofs.Common.{◌≡◌, ℕ, zero, suc, ◌+◌, ◌<◌, ◌≤◌, ◌⊎◌, inl, inr, false, List, [], ◌∷◌, map, length, Option, Some, refl, sym, ap, ◌∙◌, subst, arith}
 use Rattle.std.specs.Prelude.{slice_get}
 use Rattle.std.proofs.lemmas.Bool.{false≢true, cases_lt}
 use Rattle.std.proofs.lemmas.List.{length-append}
+use Rattle.std.proofs.lemmas.Option.{slice_get_past}
 use Rattle.java_tree.specs.Syntax.{DeclTree}
 use Rattle.java_core.specs.Trees.{Sts}
 use Rattle.java_core.specs.Programs.{Plain, PlainMethod, PlainLocal, PlainSlot}
@@ -113,10 +114,8 @@ slot-there P Q same p q s a e =
   where
     slot-is : (b a : PlainSlot) → b.name ≡ a.name → b.params ≡ a.params → b.result ≡ a.result → b.first ≡ a.first → b ≡ a
     slot-is b a n o r f =
-        ap (λ z. record { name = z; params = b.params; result = b.result; first = b.first }) n
-        ∙ ap (λ z. record { name = a.name; params = z; result = b.result; first = b.first }) o
-        ∙ ap (λ z. record { name = a.name; params = a.params; result = z; first = b.first }) r
-        ∙ ap (λ z. record { name = a.name; params = a.params; result = a.result; first = z }) f
+        ap (λ z. record b { name = z }) n ∙ ap (λ z. record b { name = a.name; params = z }) o
+        ∙ ap (λ z. record a { result = z; first = b.first }) r ∙ ap (λ z. record a { first = z }) f
 
 slots-only : (P Q : Plain) → map heading_of P.methods ≡ map heading_of Q.methods → AreSlots P → AreSlots Q → P.slots ≡ Q.slots
 slots-only P Q same p q = same-slots P.slots Q.slots p.order q.order (slot-there P Q same p q) (slot-there Q P (sym same) q p)
@@ -137,19 +136,7 @@ behind [] = []
 behind (x ∷ xs) = xs
 
 abbrev rebuilt : PlainMethod → Option ℕ → List PlainLocal → Option Sts → PlainMethod
-rebuilt k s ls b = record {
-  owner = k.owner;
-  name = k.name;
-  is_static = k.is_static;
-  is_public = k.is_public;
-  slot = s;
-  params = k.params;
-  locals =
-      ls;
-  result = k.result;
-  body = b;
-  tag = k.tag;
-}
+rebuilt k s ls b = record k { slot = s; locals = ls; body = b }
 
 method-is : (k l : PlainMethod) → heading_of k ≡ heading_of l → k.slot ≡ l.slot → k.body ≡ l.body → k.locals ≡ l.locals → k ≡ l
 method-is k l h s b ls = ap (λ z. rebuilt z k.slot k.locals k.body) h ∙ ap (λ z. rebuilt (heading_of l) z k.locals k.body) s
@@ -184,12 +171,7 @@ module _ (O : Plain) (one : OneMet O) where
               sym (back-stands k.params k.locals i)
               ∙ agree-at k l w g (length k.params + i) (omega arith) (let x = length-append k.params k.locals in omega (arith, x, lt))
               ∙ ap (λ z. slice_get (variables_of l) (z + i)) sizes.0 ∙ back-stands l.params l.locals i
-          at i (inr le) = past k.locals i le ∙ sym (past l.locals i (let s = sizes.1 in omega (arith, le, s)))
-            where
-              past : {A : Type 0} (xs : List A) (i : ℕ) → length xs ≤ i → slice_get xs i ≡ None
-              past [] i le = refl
-              past (x ∷ xs) zero le = absurd (omega (arith, le))
-              past (x ∷ xs) (suc i) le = past xs i (omega (arith, le))
+          at i (inr le) = slice_get_past k.locals i le ∙ sym (slice_get_past l.locals i (let n = sizes.1 in omega (arith, le, n)))
 
   -- each method with its slot, its body and its locals
   methods-only : {ms : List MethodAt} {ks ls : List PlainMethod} (a i j : ℕ) → ((n : ℕ) (m : MethodAt) → slice_get ms n ≡ Some m
@@ -233,8 +215,6 @@ module _ (tree : List DeclTree) (formed : IsFormedTree tree) (none : HasNoCondit
 
       plain : P.classes ≡ Q.classes → P.fields ≡ Q.fields → P.methods ≡ Q.methods → P.slots ≡ Q.slots → P.main ≡ Q.main → P ≡ Q
       plain a b c d e =
-          ap (λ z. record { classes = z; fields = P.fields; methods = P.methods; slots = P.slots; main = P.main }) a
-          ∙ ap (λ z. record { classes = Q.classes; fields = z; methods = P.methods; slots = P.slots; main = P.main }) b
-          ∙ ap (λ z. record { classes = Q.classes; fields = Q.fields; methods = z; slots = P.slots; main = P.main }) c
-          ∙ ap (λ z. record { classes = Q.classes; fields = Q.fields; methods = Q.methods; slots = z; main = P.main }) d
-          ∙ ap (λ z. record { classes = Q.classes; fields = Q.fields; methods = Q.methods; slots = Q.slots; main = z }) e
+          ap (λ z. record P { classes = z }) a ∙ ap (λ z. record P { classes = Q.classes; fields = z }) b
+          ∙ ap (λ z. record Q { methods = z; slots = P.slots; main = P.main }) c
+          ∙ ap (λ z. record Q { slots = z; main = P.main }) d ∙ ap (λ z. record Q { main = z }) e

@@ -1,5 +1,5 @@
 -- Steps over lists that stop at the first fault, and what stands where in a list.
-use Rattle.std.proofs.Common.{◌≡◌, ℕ, zero, suc, ◌<◌, ◌⊎◌, inl, inr, ⊎_elim, Bool, true, List, [], ◌∷◌, ◌++◌, map, length, get_or, Some, None, Result, Contains, refl, sym, ap, ◌∙◌, subst, arith}
+use Rattle.std.proofs.Common.{◌≡◌, ℕ, zero, suc, ◌+◌, ◌<◌, ◌⊎◌, inl, inr, ⊎_elim, Bool, true, List, [], ◌∷◌, ◌++◌, map, length, get_or, Some, None, Result, Contains, refl, sym, ap, ◌∙◌, subst, arith}
 use Rattle.std.specs.Prelude.{slice_get, position}
 use Rattle.std.specs.List.{position_from}
 use Rattle.std.specs.Option.{option_map}
@@ -51,6 +51,12 @@ push-cases [] y (suc i) x e = absurd (cc e)
 push-cases (z ∷ xs) y zero x e = inl e
 push-cases (z ∷ xs) y (suc i) x e = ⊎_elim (λ h. inl h) (λ h. inr (ap suc h.0, h.1)) (push-cases xs y i x e)
 
+pub append-cases : {A : Type 0} (xs ys : List A) (i : ℕ) (x : A) → slice_get (xs ++ ys) i ≡ Some x → (slice_get xs i ≡ Some x)
+    ⊎ ((j : ℕ) × (i ≡ length xs + j) × (slice_get ys j ≡ Some x))
+append-cases [] ys i x e = inr (i, omega arith, e)
+append-cases (z ∷ xs) ys zero x e = inl e
+append-cases (z ∷ xs) ys (suc i) x e = ⊎_elim (λ h. inl h) (λ h. inr (h.0, (let k = h.1 in omega (arith, k)), h.2)) (append-cases xs ys i x e)
+
 pub member-at : {A : Type 0} (xs : List A) (i : ℕ) (x : A) → slice_get xs i ≡ Some x → Contains xs x
 member-at [] i x e = absurd (cc e)
 member-at (y ∷ ys) zero x e = (0, omega arith, same_some e)
@@ -64,6 +70,16 @@ member-stands xs x h = (h.0, go xs h.0 h.1 h.2)
     go (y ∷ ys) zero lt e = ap Some e
     go (y ∷ ys) (suc i) lt e = go ys i (omega (arith, lt)) e
 
+pub some-stands : {A : Type 0} (xs : List A) (i : ℕ) → i < length xs → (x : A) × (slice_get xs i ≡ Some x)
+some-stands [] i lt = absurd (omega (arith, lt))
+some-stands (x ∷ xs) zero lt = (x, refl)
+some-stands (x ∷ xs) (suc i) lt = some-stands xs i (omega (arith, lt))
+
+-- what stands beside it in a list of the same length
+pub stands-beside : {A B : Type 0} (xs : List A) (ys : List B) → length xs ≡ length ys → (i : ℕ) (x : A) → slice_get xs i ≡ Some x
+    → (y : B) × (slice_get ys i ≡ Some y)
+stands-beside xs ys e i x at = some-stands ys i (let l = stands-within xs i x at in omega (arith, l, e))
+
 pub map-stands : {A B : Type 0} (f : A → B) (xs : List A) (i : ℕ) (y : B) → slice_get (map f xs) i ≡ Some y → (x : A) × (slice_get xs i ≡ Some x) × (f x ≡ y)
 map-stands f [] i y e = absurd (cc e)
 map-stands f (x ∷ xs) zero y e = (x, refl, same_some e)
@@ -71,6 +87,17 @@ map-stands f (x ∷ xs) (suc i) y e = map-stands f xs i y e
 
 pub stands-map : {A B : Type 0} (f : A → B) (xs : List A) (i : ℕ) (x : A) → slice_get xs i ≡ Some x → slice_get (map f xs) i ≡ Some (f x)
 stands-map f xs i x e = slice_get-map f xs i ∙ ap (option_map f) e
+
+-- one more behind those that differ from it
+pub once-more : {A : Type 0} (xs : List A) (x : A) (Same : A → A → Type 0) → ((a b : A) → Same a b → Same b a)
+    → ((i j : ℕ) (a b : A) → slice_get xs i ≡ Some a → slice_get xs j ≡ Some b → Same a b → i ≡ j)
+    → ((i : ℕ) (a : A) → slice_get xs i ≡ Some a → Same a x → ⊥) → (i j : ℕ) (a b : A) → slice_get (xs ++ x ∷ []) i ≡ Some a
+    → slice_get (xs ++ x ∷ []) j ≡ Some b → Same a b → i ≡ j
+once-more xs x Same turned once fresh i j a b p q s =
+    ⊎_elim
+    (λ u. ⊎_elim (λ v. once i j a b u v s) (λ v. absurd (fresh i a u (subst (λ z. Same a z) (sym v.1) s))) (push-cases xs x j b q))
+    (λ u. ⊎_elim (λ v. absurd (fresh j b v (subst (λ z. Same b z) (sym u.1) (turned a b s)))) (λ v. u.0 ∙ sym v.0) (push-cases xs x j b q))
+    (push-cases xs x i a p)
 
 pub once-push : {A : Type 0} (xs : List A) (y : A) → HasNoTwice xs → ((i : ℕ) → slice_get xs i ≡ Some y → ⊥) → HasNoTwice (xs ++ y ∷ [])
 unfolding HasNoTwice

@@ -1,11 +1,9 @@
 -- Types, results and parameter lists that agree, as tests and as equations.
-use Rattle.std.proofs.Common.{◌≡◌, ℕ, suc, Bool, true, false, ◌&&◌, List, [], ◌∷◌, map, Option, Some, None, refl, sym, ap, ◌∙◌, subst, cond}
-use Rattle.std.specs.Prelude.{slice_get, position, ◌==◌}
-use Rattle.std.specs.List.{position_from}
+use Rattle.std.proofs.Common.{◌≡◌, ℕ, true, false, ◌&&◌, List, [], ◌∷◌, map, Option, Some, None, refl, sym, ap, ◌∙◌, subst}
+use Rattle.std.specs.Prelude.{slice_get, ◌==◌}
 use Rattle.std.specs.Str.{bytes_eq}
-use Rattle.std.proofs.lemmas.Bool.{eqb-true, eq-eqb, false≢true}
+use Rattle.std.proofs.lemmas.Bool.{eqb-true, eq-eqb, false≢true, and_parts, and_from}
 use Rattle.std.proofs.lemmas.Slice.Eq.{bytes_eq-Decides}
-use Rattle.std.proofs.Math.Numerals.{add-one}
 use Rattle.java_core.specs.declared.Ty.{Ty}
 use Rattle.java_core.specs.declared.TyBase.{TyBase}
 use Rattle.java_core.specs.declared.TyBase.TheVariants.{Int, Boolean, Char, Str, Class}
@@ -13,15 +11,8 @@ use Rattle.java_core.specs.declared.Local.{Local}
 use Rattle.java_core.specs.Types.{is_base}
 use Rattle.java_core.specs.Programs.{PlainSlot}
 use Rattle.java_core.proofs.Positions.{position-passes}
-use Rattle.name_outcome.specs.Members.{same_type, same_result, have_types, slot_from}
-use Rattle.name_outcome.proofs.Runs.{position-from, none-passes}
-
-both : (a b : Bool) → a && b ≡ true → (a ≡ true) × (b ≡ true)
-both true b e = (refl, e)
-both false b e = absurd (false≢true e)
-
-join : (a b : Bool) → a ≡ true → b ≡ true → a && b ≡ true
-join a b e f = ap (λ z. z && b) e ∙ f
+use Rattle.name_outcome.specs.Members.{same_type, same_result, have_types, is_signature, slot_in}
+use Rattle.name_outcome.proofs.Runs.{none-passes}
 
 base-same : (b c : TyBase) → is_base b c ≡ true → b ≡ c
 base-same Int Int e = refl
@@ -40,11 +31,11 @@ same-base (Class c) = eq-eqb c.0 c.0 refl
 
 pub type-same : (t u : Ty) → same_type t u ≡ true → t ≡ u
 type-same t u e =
-    let h = both (is_base t.base u.base) (t.dim == u.dim) e in
+    let h = and_parts (is_base t.base u.base) (t.dim == u.dim) e in
     ap (λ b. record { base = b; dim = t.dim }) (base-same t.base u.base h.0) ∙ ap (λ d. record { base = u.base; dim = d }) (eqb-true t.dim u.dim h.1)
 
 pub same-type : (t : Ty) → same_type t t ≡ true
-same-type t = join (is_base t.base t.base) (t.dim == t.dim) (same-base t.base) (eq-eqb t.dim t.dim refl)
+same-type t = and_from (is_base t.base t.base) (t.dim == t.dim) (same-base t.base) (eq-eqb t.dim t.dim refl)
 
 pub result-same : (r s : Option Ty) → same_result r s ≡ true → r ≡ s
 result-same None None e = refl
@@ -61,27 +52,14 @@ types-same [] [] e = refl
 types-same [] (t ∷ ts) e = absurd (false≢true e)
 types-same (l ∷ ls) [] e = absurd (false≢true e)
 types-same (l ∷ ls) (t ∷ ts) e =
-    let h = both (same_type l.ty t) (have_types ls ts) e in
+    let h = and_parts (same_type l.ty t) (have_types ls ts) e in
     ap (λ z. z ∷ map (λ k. k.ty) ls) (type-same l.ty t h.0) ∙ ap (λ z. t ∷ z) (types-same ls ts h.1)
 
 pub same-types : (ls : List Local) → have_types ls (map (λ l. l.ty) ls) ≡ true
 same-types [] = refl
-same-types (l ∷ ls) = join (same_type l.ty l.ty) (have_types ls (map (λ k. k.ty) ls)) (same-type l.ty) (same-types ls)
+same-types (l ∷ ls) = and_from (same_type l.ty l.ty) (have_types ls (map (λ k. k.ty) ls)) (same-type l.ty) (same-types ls)
 
 -- ---- the slot of a name, parameters and result
-
-is_signature : List ℕ → List Local → Option Ty → PlainSlot → Bool
-is_signature n ls r s = (bytes_eq s.name n && have_types ls s.params) && same_result r s.result
-
-from-position : (k : ℕ) (n : List ℕ) (ls : List Local) (r : Option Ty) (ss : List PlainSlot) → slot_from k n ls r ss ≡ position_from (is_signature n ls r) k ss
-unfolding is_signature
-from-position k n ls r [] = refl
-from-position k n ls r (s ∷ ss) =
-    ap (cond ((bytes_eq s.name n && have_types ls s.params) && same_result r s.result) (Some k)) (from-position (suc k) n ls r ss
-    ∙ ap (λ i. position_from (λ s. (bytes_eq s.name n && have_types ls s.params) && same_result r s.result) i ss) (sym (add-one k)))
-
-slot-position : (n : List ℕ) (ls : List Local) (r : Option Ty) (ss : List PlainSlot) → slot_from 0 n ls r ss ≡ position (is_signature n ls r) ss
-slot-position n ls r ss = from-position 0 n ls r ss ∙ sym (position-from (is_signature n ls r) ss)
 
 -- the slot has this name, these parameter types and this result
 pub record HasSignature (n : List ℕ) (ls : List Local) (r : Option Ty) (s : PlainSlot) : Type 0 where
@@ -89,21 +67,19 @@ pub record HasSignature (n : List ℕ) (ls : List Local) (r : Option Ty) (s : Pl
   pub params : s.params ≡ map (λ l. l.ty) ls
   pub result : s.result ≡ r
 
-pub slot-found : (n : List ℕ) (ls : List Local) (r : Option Ty) (ss : List PlainSlot) (i : ℕ) → slot_from 0 n ls r ss ≡ Some i → (s : PlainSlot)
+pub slot-found : (n : List ℕ) (ls : List Local) (r : Option Ty) (ss : List PlainSlot) (i : ℕ) → slot_in n ls r ss ≡ Some i → (s : PlainSlot)
     × (slice_get ss i ≡ Some s) × HasSignature n ls r s
-unfolding is_signature
 slot-found n ls r ss i e =
-    let f = position-passes (is_signature n ls r) ss i (sym (slot-position n ls r ss) ∙ e) in
-    let g = both (bytes_eq f.0.name n && have_types ls f.0.params) (same_result r f.0.result) f.2 in
-    let h = both (bytes_eq f.0.name n) (have_types ls f.0.params) g.0 in
+    let f = position-passes (is_signature n ls r) ss i e in
+    let g = and_parts (bytes_eq f.0.name n && have_types ls f.0.params) (same_result r f.0.result) f.2 in
+    let h = and_parts (bytes_eq f.0.name n) (have_types ls f.0.params) g.0 in
     (f.0, f.1, record { name = (bytes_eq-Decides f.0.name n).0 h.0; params = sym (types-same ls f.0.params h.1); result = sym (result-same r f.0.result g.1) })
 
-pub slot-none : (n : List ℕ) (ls : List Local) (r : Option Ty) (ss : List PlainSlot) → slot_from 0 n ls r ss ≡ None → (i : ℕ) (s : PlainSlot)
+pub slot-none : (n : List ℕ) (ls : List Local) (r : Option Ty) (ss : List PlainSlot) → slot_in n ls r ss ≡ None → (i : ℕ) (s : PlainSlot)
     → slice_get ss i ≡ Some s → HasSignature n ls r s → ⊥
-unfolding is_signature
 slot-none n ls r ss e i s at h =
-    none-passes (is_signature n ls r) ss (sym (slot-position n ls r ss) ∙ e) i s at
-    (join (bytes_eq s.name n && have_types ls s.params) (same_result r s.result)
-    (join (bytes_eq s.name n) (have_types ls s.params) ((bytes_eq-Decides s.name n).1 h.name) (subst (λ z. have_types ls z ≡ true) (sym h.params)
+    none-passes (is_signature n ls r) ss e i s at
+    (and_from (bytes_eq s.name n && have_types ls s.params) (same_result r s.result)
+    (and_from (bytes_eq s.name n) (have_types ls s.params) ((bytes_eq-Decides s.name n).1 h.name) (subst (λ z. have_types ls z ≡ true) (sym h.params)
     (same-types ls)))
     (subst (λ z. same_result r z ≡ true) (sym h.result) (same-result r)))

@@ -1,14 +1,12 @@
 -- The tables of the declarations see what the outline has.
-use Rattle.std.proofs.Common.{◌≡◌, ℕ, suc, ◌<◌, Bool, true, false, ◌&&◌, List, [], ◌∷◌, map, length, Option, Some, None, refl, sym, ap, ◌∙◌, subst, arith, cond}
+use Rattle.std.proofs.Common.{◌≡◌, ℕ, ◌<◌, Bool, ◌&&◌, List, [], ◌∷◌, map, length, Option, Some, None, refl, sym, ap, ◌∙◌, subst, arith}
 use Rattle.std.specs.Prelude.{slice_get, ◌==◌, position}
-use Rattle.std.specs.List.{position_from}
 use Rattle.std.specs.Option.{option_map, option_and_then}
 use Rattle.std.specs.Str.{bytes_eq}
-use Rattle.std.proofs.lemmas.Bool.{false≢true}
+use Rattle.std.proofs.lemmas.Bool.{and_parts}
 use Rattle.std.proofs.lemmas.List.{length-map}
 use Rattle.std.proofs.lemmas.Option.{slice_get-map}
 use Rattle.std.proofs.lemmas.Slice.Eq.{bytes_eq-Decides}
-use Rattle.std.proofs.Math.Numerals.{add-one}
 use Rattle.kaba_base.specs.declared.ClassId.{ClassId}
 use Rattle.java_tree.specs.Syntax.{DeclTree}
 use Rattle.java_core.specs.Trees.{at_place}
@@ -20,22 +18,18 @@ use Rattle.java_core.proofs.Subclasses.{nearest_of-nearest}
 use Rattle.name_outcome.specs.Known.{Known}
 use Rattle.name_outcome.specs.declared.parts.Heading.{Heading}
 use Rattle.name_outcome.specs.Tables as table
-use Rattle.name_outcome.specs.Tables.{Table, parent_in, or_above, nearest_in, nearest_field, own_field, own_method, met_from, method_met, is_above}
+use Rattle.name_outcome.specs.Tables.{Table, parent_in, or_above, nearest_in, nearest_field, own_field, own_method, method_met, is_above}
 use Rattle.name_outcome.specs.Members.{Members}
 use Rattle.name_outcome.specs.Resolved as resolved
 use Rattle.name_rules.specs.Outline.{MethodAt, fields_in, methods_in, types_in, method_outline, outline}
 use Rattle.name_rules.specs.Meanings.{IsStaticMethodOf, IsMet}
 use Rattle.name_outcome.proofs.Sees.{Sees, StandsField, StandsMethod, OwnMethod, MetMethod}
-use Rattle.name_outcome.proofs.Runs.{stands-within, map-stands, position-from, none-passes}
+use Rattle.name_outcome.proofs.Runs.{map-stands, none-passes, stands-beside}
 use Rattle.name_outcome.proofs.KnownTypes.{AreKnown}
 use Rattle.name_outcome.proofs.KnownClasses.{known-named}
 use Rattle.name_outcome.proofs.Reached.{AreAbove}
-use Rattle.name_outcome.proofs.KnownMembers.{AreMembers, some-stands, field_from-position, method_from-position, both-true, true-both}
+use Rattle.name_outcome.proofs.KnownMembers.{AreMembers, both-true, true-both}
 use Rattle.name_outcome.proofs.MethodClashes.{owner-within, method_at-outline, outline-method}
-
-and-both : (a b : Bool) → a && b ≡ true → (a ≡ true) × (b ≡ true)
-and-both true b e = (refl, e)
-and-both false b e = absurd (false≢true e)
 
 pub nearest-own : (P : Plain) (own : ℕ → Option ℕ) {a d : ℕ} → IsNearest P own a d → (c : ℕ) × (own c ≡ Some d)
 nearest-own P own (at_class {c = c} e) = (c, e)
@@ -54,7 +48,7 @@ module _ (tree : List DeclTree) (known : List Known) (are : AreKnown tree known)
   fields-are = sym members.fields
 
   own-same : (c : ℕ) (n : List ℕ) → own_field T c n ≡ own_field_of O c n
-  own-same c n = field_from-position c n m.fields ∙ sym (position-map (field_seen at_place) (λ f. is_field_of c n f) m.fields)
+  own-same c n = sym (position-map (field_seen at_place) (λ f. is_field_of c n f) m.fields)
       ∙ ap (position (λ f. is_field_of c n f)) (sym fields-are)
 
   own-stands : (c : ℕ) (n : List ℕ) (f : ℕ) → own_field_of O c n ≡ Some f → StandsField T O f
@@ -104,7 +98,7 @@ module _ (tree : List DeclTree) (known : List Known) (are : AreKnown tree known)
 
   method-stands : (i : ℕ) (h : Heading) → slice_get m.headings i ≡ Some h → (s : StandsMethod T O i) × (s.member.owner ≡ h.owner) × (s.member.name ≡ h.name)
   method-stands i h e =
-      let a = some-stands tree known are (methods_in tree) i (let l = stands-within m.headings i h e in let c = members.count in omega (arith, l, c)) in
+      let a = stands-beside m.headings (methods_in tree) members.count i h e in
       let d = members.heads i h a.0 e a.1 in (
         record {
           seen = h;
@@ -122,14 +116,14 @@ module _ (tree : List DeclTree) (known : List Known) (are : AreKnown tree known)
       × (slice_get (methods_in tree) i ≡ Some n) × (k.owner ≡ h.owner) × (k.name ≡ h.name) × (n.owner ≡ k.owner) × (n.head.name ≡ k.name)
   heading-stands i k e =
       let a = outline-method tree i k e in
-      let b = some-stands tree known are m.headings i (let l = stands-within (methods_in tree) i a.0 a.1 in let c = members.count in omega (arith, l, c)) in
+      let b = stands-beside (methods_in tree) m.headings (sym members.count) i a.0 a.1 in
       let d = members.heads i b.0 a.0 b.1 a.1 in
       (b.0, a.0, b.1, a.1, ap (λ z. z.owner) (sym a.2) ∙ sym d.owner, ap (λ z. z.name) (sym a.2) ∙ sym d.name, ap (λ z. z.owner) a.2, ap (λ z. z.name) a.2)
 
   own-found : (c : ℕ) (n : List ℕ) (i : ℕ) → own_method T c n ≡ Some i → OwnMethod T O c n i
   unfolding own_method
   own-found c n i e =
-      let a = position-passes (λ h. (h.owner == c) && bytes_eq h.name n) m.headings i (sym (method_from-position c n m.headings) ∙ e) in
+      let a = position-passes (λ h. (h.owner == c) && bytes_eq h.name n) m.headings i e in
       let b = both-true a.0.owner c a.0.name n a.2 in
       let s = method-stands i a.0 a.1 in
       record { at = s.0; owner = s.1 ∙ b.0; name = s.2 ∙ b.1 }
@@ -142,30 +136,21 @@ module _ (tree : List DeclTree) (known : List Known) (are : AreKnown tree known)
       (sym a.5 ∙ s.name)) in
       let d = position-passes (λ h. (h.owner == c) && bytes_eq h.name n) m.headings b.0 b.1 in
       let e = both-true d.0.owner c d.0.name n d.2 in
-      let x = some-stands tree known are (methods_in tree) b.0 (let l = stands-within m.headings b.0 d.0 d.1 in let k = members.count in omega (arith, l, k)) in
+      let x = stands-beside m.headings (methods_in tree) members.count b.0 d.0 d.1 in
       let y = members.heads b.0 d.0 x.0 d.1 x.1 in
-      method_from-position c n m.headings ∙ b.1 ∙ ap Some (members.method_once b.0 i x.0 a.1 x.1 a.3 (sym y.owner ∙ e.0 ∙ sym (a.6 ∙ s.owner))
+      b.1 ∙ ap Some (members.method_once b.0 i x.0 a.1 x.1 a.3 (sym y.owner ∙ e.0 ∙ sym (a.6 ∙ s.owner))
       (sym y.name ∙ e.1 ∙ sym (a.7 ∙ s.name)))
-
-  met-position : (k c : ℕ) (n : List ℕ) (hs : List Heading) → met_from rows k c n hs ≡ position_from (λ h. is_above rows c h.owner && bytes_eq h.name n) k hs
-  met-position k c n [] = refl
-  met-position k c n (h ∷ hs) =
-      ap (cond (is_above rows c h.owner && bytes_eq h.name n) (Some k)) (met-position (suc k) c n hs
-      ∙ ap (λ i. position_from (λ h. is_above rows c h.owner && bytes_eq h.name n) i hs) (sym (add-one k)))
-
-  met-first : (c : ℕ) (n : List ℕ) → method_met T c n ≡ position (λ h. is_above rows c h.owner && bytes_eq h.name n) m.headings
-  unfolding method_met
-  met-first c n = met-position 0 c n m.headings ∙ sym (position-from (λ h. is_above rows c h.owner && bytes_eq h.name n) m.headings)
 
   within-owner : (i : ℕ) (h : Heading) → slice_get m.headings i ≡ Some h → h.owner < length O.classes
   within-owner i h e =
-      let a = some-stands tree known are (methods_in tree) i (let l = stands-within m.headings i h e in let c = members.count in omega (arith, l, c)) in
+      let a = stands-beside m.headings (methods_in tree) members.count i h e in
       let d = (members.heads i h a.0 e a.1).owner in let w = owner-within tree i a.0 a.1 in omega (arith, d, w)
 
   met-found : (c : ℕ) (n : List ℕ) (i : ℕ) → method_met T c n ≡ Some i → MetMethod T O c n i
+  unfolding method_met
   met-found c n i e =
-      let a = position-passes (λ h. is_above rows c h.owner && bytes_eq h.name n) m.headings i (sym (met-first c n) ∙ e) in
-      let b = and-both (is_above rows c a.0.owner) (bytes_eq a.0.name n) a.2 in
+      let a = position-passes (λ h. is_above rows c h.owner && bytes_eq h.name n) m.headings i e in
+      let b = and_parts (is_above rows c a.0.owner) (bytes_eq a.0.name n) a.2 in
       let s = method-stands i a.0 a.1 in
       record {
         at = s.0;
@@ -175,9 +160,10 @@ module _ (tree : List DeclTree) (known : List Known) (are : AreKnown tree known)
       }
 
   met-none : (c : ℕ) (n : List ℕ) → method_met T c n ≡ None → (i : ℕ) (k : PlainMethod) → IsMet O c n i k → ⊥
+  unfolding method_met
   met-none c n e i k h =
       let a = heading-stands i k h.stands in
-      none-passes (λ h. is_above rows c h.owner && bytes_eq h.name n) m.headings (sym (met-first c n) ∙ e) i a.0 a.2
+      none-passes (λ h. is_above rows c h.owner && bytes_eq h.name n) m.headings e i a.0 a.2
       (ap (λ z. z && bytes_eq a.0.name n) (above.whole c a.0.owner (within-owner i a.0 a.2) (subst (λ z. IsSubclass O c z) a.4 h.above))
       ∙ (bytes_eq-Decides a.0.name n).1 (sym a.5 ∙ h.name))
 

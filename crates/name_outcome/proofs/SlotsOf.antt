@@ -1,12 +1,12 @@
 -- The slots of methods: one for each name, parameter types and result, in the order of the first methods.
-use Rattle.std.proofs.Common.{◌≡◌, ℕ, zero, suc, ◌<◌, ◌≤◌, ⊎_elim, true, false, List, [], ◌∷◌, ◌++◌, length, Some, None, refl, sym, ap, ◌∙◌, subst, arith}
+use Rattle.std.proofs.Common.{◌≡◌, ℕ, ◌<◌, ◌≤◌, ⊎_elim, true, false, List, [], ◌∷◌, ◌++◌, length, Some, None, sym, ap, ◌∙◌, subst, arith}
 use Rattle.std.specs.Prelude.{slice_get}
 use Rattle.java_core.specs.Programs.{PlainSlot}
 use Rattle.name_outcome.specs.declared.parts.Heading.{Heading}
 use Rattle.name_rules.specs.Outline.{MethodAt, is_static, method_outline}
 use Rattle.name_rules.specs.Resolves.{IsOfSlot}
 use Rattle.name_outcome.proofs.Sees.{same_some}
-use Rattle.name_outcome.proofs.Runs.{push-cases, stands-front, stands-within, middle-stands}
+use Rattle.name_outcome.proofs.Runs.{push-cases, stands-beside, stands-front, stands-within, middle-stands}
 
 module _ (types : List (List ℕ)) where
   -- which slot a heading has
@@ -87,15 +87,7 @@ module _ (types : List (List ℕ)) where
           (push-cases ss new r a x);
     }
       where
-        some_method : (i : ℕ) → i < length ms → (n : MethodAt) × (slice_get ms i ≡ Some n)
-        some_method i lt = go ms i lt
-          where
-            go : (xs : List MethodAt) (i : ℕ) → i < length xs → (n : MethodAt) × (slice_get xs i ≡ Some n)
-            go [] i lt = absurd (omega (arith, lt))
-            go (x ∷ xs) zero lt = (x, refl)
-            go (x ∷ xs) (suc i) lt = go xs i (omega (arith, lt))
-
         old : (i : ℕ) (g : Heading) → slice_get hs i ≡ Some g → (s : ℕ) → g.slot ≡ Some s → s ≡ length ss → ⊥
         old i g y s c e =
-            let n = some_method i (let l = stands-within hs i g y in omega (arith, l, count)) in
+            let n = stands-beside hs ms count i g y in
             let l = slot_in (are.each i g n.0 y n.1) s c in omega (arith, l, e)

@@ -11,6 +11,8 @@ use Rattle.java_tree.specs.Syntax.{DeclTree, ClassTree, InterfaceTree}
 use Rattle.java_core.specs.Trees.{at_place}
 use Rattle.java_core.specs.Programs.{PlainClass}
 use Rattle.name_rules.specs.declared.Form.TheVariants as forms
+use Rattle.name_rules.specs.Outline.{name_of, place_of, is_interface_of}
+use Rattle.name_rules.specs.Conditions.{is_unfit}
 use Rattle.name_rules.specs.declared.Refusal.{Refusal}
 use Rattle.name_rules.specs.declared.Refusal.TheVariants.{Twice, TwoKinds, Loop, NotInProfile}
 use Rattle.name_outcome.specs.Known.{Known}
@@ -22,18 +24,6 @@ use Rattle.name_outcome.specs.Names.{is_apart, number_of, asked}
 use Rattle.name_outcome.specs.Tables.{is_above}
 pub use Rattle.java_core.specs.Subtypes.{of_classes, class_id, subtype_rows}
 
-abbrev pub decl_name : DeclTree → List ℕ
-decl_name (ClassTree mods n parent faces ms p) = n
-decl_name (InterfaceTree mods n parents hs p) = n
-
-abbrev pub decl_place : DeclTree → Place
-decl_place (ClassTree mods n parent faces ms p) = p
-decl_place (InterfaceTree mods n parents hs p) = p
-
-abbrev pub is_interface_tree : DeclTree → Bool
-is_interface_tree (ClassTree mods n parent faces ms p) = false
-is_interface_tree (InterfaceTree mods n parents hs p) = true
-
 abbrev pub object_known : Known
 object_known = record { name = chars (codes "Object"); is_interface = false }
 
@@ -42,7 +32,7 @@ abbrev pub know_named : List Known → List ℕ → Bool → Place → Result (L
 know_named ks n interface p = if is_apart n || is_some (number_of ks n) then Err (Twice n p) else Ok (ks ++ record { name = n; is_interface = interface } ∷ [])
 
 abbrev pub know : List Known → DeclTree → Result (List Known) Refusal
-know ks d = know_named ks (decl_name d) (is_interface_tree d) (decl_place d)
+know ks d = know_named ks (name_of d) (is_interface_of d) (place_of d)
 
 -- the names of all types, Object first
 abbrev pub known_of : List DeclTree → Result (List Known) Refusal
@@ -53,98 +43,29 @@ known_of tree = run know (object_known ∷ []) tree
 abbrev pub no_flags : Flags
 no_flags = record { is_public = false; is_protected = false; is_private = false; is_abstract = false; is_static = false; is_final = false }
 
--- where `static` cannot stand
-abbrev pub no_static : Kind → Bool
-no_static kinds.Class = true
-no_static kinds.Interface = true
-no_static kinds.Head = true
-no_static kinds.Field = false
-no_static kinds.Method = false
-
--- members of interfaces have no other modifiers than `public` and `abstract`
-abbrev pub is_head : Kind → Bool
-is_head kinds.Head = true
-is_head kinds.Class = false
-is_head kinds.Interface = false
-is_head kinds.Field = false
-is_head kinds.Method = false
-
-abbrev pub is_field : Kind → Bool
-is_field kinds.Field = true
-is_field kinds.Class = false
-is_field kinds.Interface = false
-is_field kinds.Head = false
-is_field kinds.Method = false
-
--- whether a modifier stands twice or does not fit: `abstract` with `static` or `private` or on a field, `static` on a class or an interface, any but
--- `public` and `abstract` in an interface
-abbrev pub is_misplaced : Kind → Flags → Keyword → Bool
-is_misplaced k f keys.Public = f.is_public
-is_misplaced k f keys.Protected = f.is_protected || is_head k
-is_misplaced k f keys.Private = (f.is_private || f.is_abstract) || is_head k
-is_misplaced k f keys.Abstract = ((f.is_abstract || f.is_private) || f.is_static) || is_field k
-is_misplaced k f keys.Static = (f.is_static || f.is_abstract) || no_static k
-is_misplaced k f keys.Final = f.is_final || is_head k
-is_misplaced k f _ = false
+-- whether a modifier stands already, or one that disagrees with it
+abbrev pub is_taken : Flags → Keyword → Bool
+is_taken f keys.Public = f.is_public
+is_taken f keys.Protected = f.is_protected
+is_taken f keys.Private = f.is_private || f.is_abstract
+is_taken f keys.Abstract = (f.is_abstract || f.is_private) || f.is_static
+is_taken f keys.Static = f.is_static || f.is_abstract
+is_taken f keys.Final = f.is_final
+is_taken f _ = false
 
 -- one modifier more
 abbrev pub noted : Flags → Keyword → Flags
-noted f keys.Public = record {
-  is_public = true;
-  is_protected = f.is_protected;
-  is_private = f.is_private;
-  is_abstract = f.is_abstract;
-  is_static =
-      f.is_static;
-  is_final = f.is_final;
-}
-noted f keys.Protected = record {
-  is_public = f.is_public;
-  is_protected = true;
-  is_private = f.is_private;
-  is_abstract = f.is_abstract;
-  is_static =
-      f.is_static;
-  is_final = f.is_final;
-}
-noted f keys.Private = record {
-  is_public = f.is_public;
-  is_protected = f.is_protected;
-  is_private = true;
-  is_abstract = f.is_abstract;
-  is_static =
-      f.is_static;
-  is_final = f.is_final;
-}
-noted f keys.Abstract = record {
-  is_public = f.is_public;
-  is_protected = f.is_protected;
-  is_private = f.is_private;
-  is_abstract = true;
-  is_static =
-      f.is_static;
-  is_final = f.is_final;
-}
-noted f keys.Static = record {
-  is_public = f.is_public;
-  is_protected = f.is_protected;
-  is_private = f.is_private;
-  is_abstract = f.is_abstract;
-  is_static = true;
-  is_final = f.is_final;
-}
-noted f keys.Final = record {
-  is_public = f.is_public;
-  is_protected = f.is_protected;
-  is_private = f.is_private;
-  is_abstract = f.is_abstract;
-  is_static = f.is_static;
-  is_final = true;
-}
+noted f keys.Public = record f { is_public = true }
+noted f keys.Protected = record f { is_protected = true }
+noted f keys.Private = record f { is_private = true }
+noted f keys.Abstract = record f { is_abstract = true }
+noted f keys.Static = record f { is_static = true }
+noted f keys.Final = record f { is_final = true }
 noted f _ = f
 
+-- the modifiers so far, and one more, which fits there and agrees with them
 abbrev pub flag : Kind → Flags → Modifier → Result Flags Refusal
-flag k f m = if is_misplaced k f m.word then Err (NotInProfile forms.Modifier m.place) else Ok (noted f m.word)
+flag k f m = if is_taken f m.word || is_unfit k m.word then Err (NotInProfile forms.Modifier m.place) else Ok (noted f m.word)
 
 abbrev pub flags_of : Kind → List Modifier → Result Flags Refusal
 flags_of k mods = run (flag k) no_flags mods

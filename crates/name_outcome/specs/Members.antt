@@ -1,5 +1,5 @@
 -- The fields, methods and slots of a tree, and where methods of one name meet.
-use Rattle.std.specs.Prelude.{ℕ, suc, ◌+◌, ◌||◌, ◌&&◌, ◌==◌, not, Bool, true, false, List, [], ◌∷◌, ◌++◌, length, Option, Some, None, is_some, is_none, Result, Ok, Err, codes, if◌then◌else◌, map}
+use Rattle.std.specs.Prelude.{ℕ, ◌+◌, ◌||◌, ◌&&◌, ◌==◌, not, Bool, true, false, List, [], ◌∷◌, ◌++◌, length, Option, Some, None, is_some, is_none, position, Result, Ok, Err, codes, if◌then◌else◌, map}
 use Rattle.std.specs.Str.{bytes_eq, chars}
 use Rattle.kaba_base.specs.declared.Place.{Place}
 use Rattle.java_tree.specs.declared.TypeName.{TypeName}
@@ -20,7 +20,7 @@ use Rattle.name_outcome.specs.declared.parts.Flags.{Flags}
 use Rattle.name_outcome.specs.declared.parts.Heading.{Heading}
 use Rattle.name_outcome.specs.Answers.{with, unless, run}
 use Rattle.name_outcome.specs.Names.{type_of, names_type}
-use Rattle.name_outcome.specs.Tables.{is_above, field_from, method_from}
+use Rattle.name_outcome.specs.Tables.{is_above, field_in, method_in}
 use Rattle.name_outcome.specs.Classes.{flags_of}
 pub use Rattle.java_core.specs.Squares.{meet}
 
@@ -67,10 +67,13 @@ have_types (l ∷ ls) (t ∷ ts) = same_type l.ty t && have_types ls ts
 have_types [] (t ∷ ts) = false
 have_types (l ∷ ls) [] = false
 
--- the slot of a name, parameter types and result, the first slot numbered k
-abbrev pub slot_from : ℕ → List ℕ → List Local → Option Ty → List PlainSlot → Option ℕ
-slot_from k n ls r [] = None
-slot_from k n ls r (s ∷ ss) = if (bytes_eq s.name n && have_types ls s.params) && same_result r s.result then Some k else slot_from (suc k) n ls r ss
+-- whether a slot has this name, these parameter types and this result
+abbrev pub is_signature : List ℕ → List Local → Option Ty → PlainSlot → Bool
+is_signature n ls r s = (bytes_eq s.name n && have_types ls s.params) && same_result r s.result
+
+-- the slot of a name, parameter types and result
+abbrev pub slot_in : List ℕ → List Local → Option Ty → List PlainSlot → Option ℕ
+slot_in n ls r ss = position (is_signature n ls r) ss
 
 -- a slot, and the slots with it
 abbrev pub with_slot : Option ℕ → List ℕ → List Local → Option Ty → ℕ → List PlainSlot → ℕ × List PlainSlot
@@ -78,7 +81,7 @@ with_slot (Some k) n ls r first ss = (k, ss)
 with_slot None n ls r first ss = (length ss, ss ++ record { name = n; params = map (λ l. l.ty) ls; result = r; first = first } ∷ [])
 
 abbrev pub slotted : List ℕ → List Local → Option Ty → ℕ → List PlainSlot → ℕ × List PlainSlot
-slotted n ls r first ss = with_slot (slot_from 0 n ls r ss) n ls r first ss
+slotted n ls r first ss = with_slot (slot_in n ls r ss) n ls r first ss
 
 -- ---- methods
 
@@ -120,7 +123,7 @@ add_heading m owner h f ls r =
 -- a method that is not there yet
 abbrev pub head_step : List Known → ℕ → Members → HeadTree → Flags → Result Members Refusal
 head_step known owner m h f =
-    if is_some (method_from 0 owner h.name m.headings) then Err (Twice h.name h.place)
+    if is_some (method_in m.headings owner h.name) then Err (Twice h.name h.place)
     else with (params_of known h.params) (λ ls. with (result_of known h.type) (λ r. Ok (add_heading m owner h f ls r)))
 
 -- a method without body that is not abstract, or an abstract one with a body or in a class that is not abstract
@@ -129,7 +132,7 @@ is_wrong_body in_abstract abstract body = if abstract then body || not in_abstra
 
 abbrev pub field_step : List Known → ℕ → Members → Flags → TypeName → List ℕ → Place → Result Members Refusal
 field_step known owner m f u n p =
-    with (type_of known u) (λ u. if names_type known n then Err (TwoKinds n p) else if is_some (field_from 0 owner n m.fields) then Err (Twice n p)
+    with (type_of known u) (λ u. if names_type known n then Err (TwoKinds n p) else if is_some (field_in m.fields owner n) then Err (Twice n p)
     else Ok (record {
       fields = m.fields ++ record { owner = record { 0 = owner }; name = n; is_static = f.is_static; ty = u; place = p }
           ∷ [];
@@ -188,14 +191,10 @@ clash_step rows all k b = with (run (earlier_step rows k b) 0 all) (λ _. Ok (k 
 abbrev pub clashes_of : List (List Bool) → List Heading → Result ℕ Refusal
 clashes_of rows all = run (clash_step rows all) 0 all
 
--- the main method: the first of its kind
-abbrev pub main_from : ℕ → List Heading → Option ℕ
-main_from k [] = None
-main_from k (h ∷ hs) = if h.is_main then Some k else main_from (suc k) hs
-
 abbrev pub or_no_main : Option ℕ → Result ℕ Refusal
 or_no_main None = Err NoMain
 or_no_main (Some k) = Ok k
 
+-- the main method: the first of its kind
 abbrev pub main_of : List Heading → Result ℕ Refusal
-main_of hs = or_no_main (main_from 0 hs)
+main_of hs = or_no_main (position (λ h. h.is_main) hs)

@@ -1,5 +1,5 @@
 -- Names of types.
-use Rattle.std.specs.Prelude.{ℕ, suc, ◌||◌, Bool, List, [], ◌∷◌, Option, Some, None, is_some, Result, Ok, Err, codes, if◌then◌else◌}
+use Rattle.std.specs.Prelude.{ℕ, ◌||◌, Bool, List, Option, Some, None, is_some, position, Result, Ok, Err, codes, if◌then◌else◌}
 use Rattle.std.specs.Str.{bytes_eq, chars}
 use Rattle.kaba_base.specs.declared.Place.{Place}
 use Rattle.java_tree.specs.declared.TypeName.{TypeName}
@@ -17,14 +17,9 @@ use Rattle.name_outcome.specs.Answers.{with}
 abbrev pub is_apart : List ℕ → Bool
 is_apart n = bytes_eq (chars (codes "String")) n || bytes_eq (chars (codes "System")) n
 
--- the number of the first class or interface of a name, the first of them numbered k
-abbrev pub number_from : ℕ → List ℕ → List Known → Option ℕ
-number_from k n [] = None
-number_from k n (x ∷ xs) = if bytes_eq x.name n then Some k else number_from (suc k) n xs
-
 -- the class or interface of a name
 abbrev pub number_of : List Known → List ℕ → Option ℕ
-number_of known n = number_from 0 n known
+number_of known n = position (λ k. bytes_eq k.name n) known
 
 -- whether it names a type, so that no variable and no field can have it
 abbrev pub names_type : List Known → List ℕ → Bool

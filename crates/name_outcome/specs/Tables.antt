@@ -1,5 +1,5 @@
 -- What a body sees of the declarations: types, superclasses, fields and methods.
-use Rattle.std.specs.Prelude.{ℕ, suc, ◌&&◌, ◌==◌, Bool, List, [], ◌∷◌, Option, Some, None, if◌then◌else◌, slice_get}
+use Rattle.std.specs.Prelude.{ℕ, ◌&&◌, ◌==◌, Bool, List, [], ◌∷◌, Option, Some, None, position, slice_get}
 use Rattle.std.specs.Str.{bytes_eq}
 use Rattle.kaba_base.specs.declared.ClassId.{ClassId}
 use Rattle.java_core.specs.declared.Field.{Field}
@@ -23,14 +23,16 @@ parent_in (Some c) = c
 abbrev pub parent_of : List (Option ClassId) → ℕ → Option ClassId
 parent_of parents c = parent_in (slice_get parents c)
 
--- the number of the first field of a class with a name, the first field numbered k
-abbrev pub field_from : ℕ → ℕ → List ℕ → List Field → Option ℕ
-field_from k c n [] = None
-field_from k c n (f ∷ fs) = if (f.owner.0 == c) && bytes_eq f.name n then Some k else field_from (suc k) c n fs
+-- the number of the first field of a class with a name, and of the first method
+abbrev pub field_in : List Field → ℕ → List ℕ → Option ℕ
+field_in fs c n = position (λ f. (f.owner.0 == c) && bytes_eq f.name n) fs
+
+abbrev pub method_in : List Heading → ℕ → List ℕ → Option ℕ
+method_in hs c n = position (λ h. (h.owner == c) && bytes_eq h.name n) hs
 
 -- the field of a name that a class itself declares
 abbrev pub own_field : Table → ℕ → List ℕ → Option ℕ
-own_field t c n = field_from 0 c n t.fields
+own_field t c n = field_in t.fields c n
 
 -- the first of the two that is there, the second at the superclass
 abbrev pub or_above : Option ℕ → Option ClassId → (ℕ → Option ℕ) → Option ℕ
@@ -46,18 +48,10 @@ nearest_in t n (_ ∷ steps) c = or_above (own_field t c n) (parent_of t.parents
 unfoldable pub nearest_field : Table → ℕ → List ℕ → Option ℕ
 nearest_field t c n = nearest_in t n t.parents c
 
--- the number of the first method of a class with a name
-abbrev pub method_from : ℕ → ℕ → List ℕ → List Heading → Option ℕ
-method_from k c n [] = None
-method_from k c n (m ∷ ms) = if (m.owner == c) && bytes_eq m.name n then Some k else method_from (suc k) c n ms
-
+-- the method of a name that a class itself declares
 unfoldable pub own_method : Table → ℕ → List ℕ → Option ℕ
-own_method t c n = method_from 0 c n t.headings
+own_method t c n = method_in t.headings c n
 
 -- the number of the first method with a name in a class and its ancestors
-abbrev pub met_from : List (List Bool) → ℕ → ℕ → List ℕ → List Heading → Option ℕ
-met_from rows k c n [] = None
-met_from rows k c n (m ∷ ms) = if is_above rows c m.owner && bytes_eq m.name n then Some k else met_from rows (suc k) c n ms
-
 unfoldable pub method_met : Table → ℕ → List ℕ → Option ℕ
-method_met t c n = met_from t.above 0 c n t.headings
+method_met t c n = position (λ h. is_above t.above c h.owner && bytes_eq h.name n) t.headings

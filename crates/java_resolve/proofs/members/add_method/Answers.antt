@@ -1,7 +1,7 @@
 use Rattle.std.proofs.Common.{◌≡◌, arith, length}
 use Rattle.name_outcome.specs.declared.parts.Heading.{Heading}
 use Rattle.java_resolve.proofs.SpotLemmas.{same_ok, spots_noted}
-use Rattle.java_resolve.proofs.OwnedLemmas.{noted_more, method_owned, not-there}
+use Rattle.java_resolve.proofs.OwnedLemmas.{noted_more}
 use Rattle.java_resolve.proofs.members.add_method.Goals as goal
 
 pub returns-clause-found : goal.returns-clause-found
@@ -10,10 +10,9 @@ returns-clause-found c =
     let count : c.in_ok-number.number ≡ length c.args.draft.now.headings.items = omega (arith, same, c.len.ensures, c.args.draft.now.headings.ok.0) in
     record {
       fields = c.requires.found.fields;
-      owned = noted_more {A = Heading} (λ h. (h.owner, h.name)) c.args.draft.now.headings.items c.push.new.self.items c.args.heading
+      owned = noted_more {A = Heading} (λ h. h.owner) (λ h. h.name) c.args.draft.now.headings.items c.push.new.self.items c.args.heading
           c.in_ok-number.number c.args.draft.now.own_methods c.note.new.self c.in_ok-push.ensures.items c.requires.found.owned count
-          (not-there _ _ (method_owned 0 c.args.heading.owner c.args.heading.name c.args.draft.now.headings.items) c.requires.fresh)
-          c.in_ok-note.ensures;
+          c.requires.fresh c.in_ok-note.ensures;
       methods = spots_noted {A = Heading} (λ h. h.name) c.args.draft.now.headings.items c.push.new.self.items c.args.heading c.in_ok-number.number
           c.args.draft.now.method_spots c.note-2.new.self c.in_ok-push.ensures.items c.requires.found.methods count c.in_ok-note-2.ensures;
       slots = c.requires.found.slots;

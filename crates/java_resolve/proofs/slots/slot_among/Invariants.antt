@@ -1,5 +1,5 @@
 use Rattle.std.proofs.Common.{◌≡◌, drop}
-use Rattle.java_resolve.specs.Spots.{first_among}
+use Rattle.java_core.specs.Owned.{first_among}
 use Rattle.java_resolve.specs.Found.{fits}
 use Rattle.java_resolve.proofs.slots.slot_among.Given as goal
 

@@ -1,6 +1,6 @@
 use Rattle.std.proofs.Common.{◌≡◌, drop}
 use Rattle.name_outcome.specs.Tables.{is_above}
-use Rattle.java_resolve.specs.Spots.{first_among}
+use Rattle.java_core.specs.Owned.{first_among}
 use Rattle.java_resolve.proofs.tables.met_among.Given as goal
 
 -- none so far

@@ -1,7 +1,9 @@
-use Rattle.std.proofs.Common.{[], refl, sym, ap, ◌∙◌}
-use Rattle.java_resolve.specs.Spots.{first_among}
+use Rattle.std.proofs.Common.{◌&&◌, [], refl, sym, ap, ◌∙◌}
+use Rattle.std.specs.Str.{bytes_eq}
+use Rattle.java_core.specs.Owned.{first_among}
 use Rattle.name_outcome.specs.Tables.{is_above, method_met}
-use Rattle.java_resolve.proofs.SpotLemmas.{among, met-position}
+use Rattle.name_outcome.proofs.Runs.{position-from}
+use Rattle.java_resolve.proofs.SpotLemmas.{among}
 use Rattle.java_resolve.proofs.tables.method_met.Goals as goal
 
 pub returns : goal.returns
@@ -10,4 +12,4 @@ returns c =
     c.met_among.ensures ∙ ap (first_among (λ h. is_above c.args.tables.now.above c.args.class h.owner) c.args.tables.now.headings.items)
     (c.at.ensures ∙ c.args.tables.now.methods_found.exact c.args.name.now)
     ∙ among (λ h. h.name) (λ h. is_above c.args.tables.now.above c.args.class h.owner) c.args.name.now [] c.args.tables.now.headings.items 0
-    refl ∙ sym (met-position c.args.tables.now.above 0 c.args.class c.args.name.now c.args.tables.now.headings.items)
+    refl ∙ sym (position-from (λ h. is_above c.args.tables.now.above c.args.class h.owner && bytes_eq h.name c.args.name.now) c.args.tables.now.headings.items)

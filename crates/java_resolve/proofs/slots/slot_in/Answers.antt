@@ -1,12 +1,12 @@
 use Rattle.std.proofs.Common.{[], refl, sym, ap, ◌∙◌}
-use Rattle.java_resolve.specs.Spots.{first_among}
+use Rattle.java_core.specs.Owned.{first_among}
 use Rattle.java_resolve.specs.Found.{fits}
 use Rattle.java_resolve.proofs.SpotLemmas.{among, slot-position}
-use Rattle.java_resolve.proofs.slots.slot_from.Goals as goal
+use Rattle.java_resolve.proofs.slots.slot_in.Goals as goal
 
 pub returns : goal.returns
 returns c =
     c.slot_among.ensures ∙ ap (first_among (fits c.args.locals.now c.args.outcome) c.args.slots.now.items) (c.at.ensures
     ∙ c.requires.exact c.args.name.now)
     ∙ among (λ s. s.name) (fits c.args.locals.now c.args.outcome) c.args.name.now [] c.args.slots.now.items 0 refl
-    ∙ sym (slot-position 0 c.args.name.now c.args.locals.now c.args.outcome c.args.slots.now.items)
+    ∙ sym (slot-position c.args.name.now c.args.locals.now c.args.outcome c.args.slots.now.items)
