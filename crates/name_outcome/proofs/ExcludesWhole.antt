@@ -30,8 +30,7 @@ use Rattle.name_outcome.proofs.MethodClashes.{classes-count, owner-within, metho
 use Rattle.name_outcome.proofs.Bridge.{Steps, P, program-resolves, of-main}
 use Rattle.name_outcome.proofs.FormedMembers.{body-at}
 use Rattle.name_outcome.proofs.FormedWhole.{one-slot}
-use Rattle.name_outcome.proofs.Excludes.{one-met}
-use Rattle.name_outcome.proofs.ExcludesStatements.{sts-holds}
+use Rattle.name_outcome.proofs.Excludes.{one-met, sts-holds}
 
 params-names : (c : ℕ) (types : List (List ℕ)) (qs : List Param) → bound_names (params_from c (map (param_outline types) qs)) ≡ map (λ q. q.name) qs
 params-names c types [] = refl

@@ -29,7 +29,7 @@ use Rattle.name_outcome.proofs.Sees.{same_some}
 use Rattle.name_outcome.proofs.Runs.{stands-within, member-stands, map-stands, stands-map}
 use Rattle.name_outcome.proofs.KnownTypes.{named-stands, unnamed-stands}
 use Rattle.name_outcome.proofs.KnownClasses.{StandsNamed, type_names-outline, id-meant}
-use Rattle.name_outcome.proofs.Loops.{class_stands}
+use Rattle.name_outcome.proofs.Reached.{class_stands}
 use Rattle.name_outcome.proofs.Bridge.{Steps, P}
 use Rattle.name_outcome.proofs.Bare.{bare_class, bare_field, bare_program}
 

@@ -1,6 +1,7 @@
 -- The program that a tree resolves to is formed, whole.
 use Rattle.std.proofs.Common.{◌≡◌, ℕ, ◌<◌, ◌≤◌, ◌⊎◌, inl, inr, ⊎_elim, Bool, true, false, not, ◌&&◌, List, Option, Some, None, refl, sym, ap, ◌∙◌, subst, arith}
 use Rattle.std.specs.Prelude.{slice_get, if◌then◌else◌}
+use Rattle.std.specs.Str.{bytes_eq}
 use Rattle.std.proofs.lemmas.Bool.{false≢true, eqb-true, cases_lt}
 use Rattle.std.proofs.lemmas.Slice.Eq.{bytes_eq-Decides}
 use Rattle.java_tree.specs.Syntax.{DeclTree}
@@ -22,8 +23,7 @@ use Rattle.name_outcome.proofs.Bridge.{Steps, P, whole, program-resolves}
 use Rattle.name_outcome.proofs.Bare.{bare_method}
 use Rattle.name_outcome.proofs.BareNumbers.{methods-same, counts-once}
 use Rattle.name_outcome.proofs.FormedProgram.{R, bare-subclass, classes-subclass, formed-object, formed-class, formed-names, formed-acyclic}
-use Rattle.name_outcome.proofs.FormedMembers.{bare-types, formed-field, formed-field_names, method-seen}
-use Rattle.name_outcome.proofs.FormedMethods.{formed-method}
+use Rattle.name_outcome.proofs.FormedMembers.{bare-types, formed-field, formed-field_names, method-seen, formed-method}
 use Rattle.name_outcome.proofs.MembersOf.{owners-rise}
 
 same-slots : (a b : Option ℕ) → same_slot a b ≡ true → (s : ℕ) × (a ≡ Some s) × (b ≡ Some s)
@@ -85,7 +85,7 @@ module _ (tree : List DeclTree) (s : Steps tree) where
       names = (s.members.heads i a wh.1 wh.2 wh.3).name ∙ ap (λ z. z.name) (sym wh.4) ∙ same ∙ sym ((s.members.heads j b wk.1 wk.2 wk.3).name
           ∙ ap (λ z. z.name) (sym wk.4))
 
-        above-a : is_above s.rows c a.owner ≡ true
+      above-a : is_above s.rows c a.owner ≡ true
       above-a = s.above.whole c a.owner (let w = owner-within tree i wh.1 wh.3 in let o = (s.members.heads i a wh.1 wh.2 wh.3).owner in omega
           (arith, w, o)) (subst (λ z. IsSubclass (outline tree) c z) (sym own-a) u)
 

@@ -35,9 +35,8 @@ use Rattle.name_outcome.proofs.Runs.{stands-at, stands-within, earlier-stands, p
 use Rattle.name_outcome.proofs.KnownTypes.{AreKnown}
 use Rattle.name_outcome.proofs.Modifiers.{FlagsAre, NoStatic, AreFit}
 use Rattle.name_outcome.proofs.Params.{AreParams, declared-tells, type_name-known, params-tells, result-tells}
-use Rattle.name_outcome.proofs.SameTypes.{HasSignature, slot-found, slot-none}
+use Rattle.name_outcome.proofs.SameTypes.{HasSignature, slot-found, slot-none, main-begins, begins-main}
 use Rattle.name_outcome.proofs.SlotsOf.{none_of, one_of, SlotsAre, slots-old, slots-new}
-use Rattle.name_outcome.proofs.Mains.{main-begins, begins-main}
 
 -- ---- the first of a class and a name
 

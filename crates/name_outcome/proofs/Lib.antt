@@ -8,11 +8,9 @@ pub mod KnownTypes
 pub mod Modifiers
 pub mod KnownClasses
 pub mod Reached
-pub mod Loops
 pub mod SameTypes
 pub mod Params
 pub mod SlotsOf
-pub mod Mains
 pub mod KnownMembers
 pub mod AllMembers
 pub mod MethodClashes
@@ -24,13 +22,10 @@ pub mod FormedBodies
 pub mod MembersOf
 pub mod FormedProgram
 pub mod FormedMembers
-pub mod FormedMethods
 pub mod BareNumbers
 pub mod FormedWhole
 pub mod Excludes
-pub mod ExcludesStatements
 pub mod ExcludesWhole
 pub mod Whole
 pub mod Only
-pub mod OnlyStatements
 pub mod OnlyWhole

@@ -1,25 +1,28 @@
--- An expression resolves to one tree, if its numbers are given out in one count.
-use Rattle.std.proofs.Common.{◌≡◌, ℕ, suc, true, false, List, [], ◌∷◌, ◌++◌, Option, Some, ⊎_elim, refl, sym, ap, ◌∙◌, subst}
+-- An expression resolves to one tree, and a body to one tree with one list of locals, where numbers and locals are given out in one count each.
+use Rattle.std.proofs.Common.{◌≡◌, ℕ, suc, true, false, List, [], ◌∷◌, ◌++◌, Option, Some, ⊎_elim, refl, sym, ap, ◌∙◌, subst, ◌<◌, ◌≤◌, Bool, arith}
 use Rattle.std.specs.Prelude.{slice_get}
-use Rattle.std.proofs.lemmas.Bool.{false≢true}
+use Rattle.std.proofs.lemmas.Bool.{false≢true, cases_lt}
 use Rattle.kaba_base.specs.declared.Place.{Place}
 use Rattle.java_tree.specs.declared.TypeBase.{TypeBase}
 use Rattle.java_tree.specs.declared.TypeBase.TheVariants as bases
 use Rattle.java_tree.specs.declared.TypeName.{TypeName}
-use Rattle.java_tree.specs.Syntax.{Expression, NameRef, Expressions}
+use Rattle.java_tree.specs.Syntax.{Expression, NameRef, Expressions, Statement, Statements, Else, OptionalStatement, absent, present}
 use Rattle.java_core.specs.declared.Ty.{Ty}
 use Rattle.java_core.specs.declared.TyBase.{TyBase}
-use Rattle.java_core.specs.Trees.{at_place, Ex, local, static_field, own_field, Exs}
+use Rattle.java_core.specs.Trees.{at_place, Ex, local, static_field, own_field, Exs, St, Sts, Arms}
 use Rattle.java_core.specs.Programs.{Plain, PlainField, PlainMethod}
 use Rattle.java_core.specs.Classes.{IsSubclass, same_class}
-use Rattle.java_core.specs.Formed.{numbers, numbers_all, numbers_if}
+use Rattle.java_core.specs.Formed.{numbers, numbers_all, numbers_if, variables_of, numbers_target, numbers_st, numbers_sts, numbers_arms}
 use Rattle.name_rules.specs.declared.parts.Bound.{Bound}
 use Rattle.name_rules.specs.declared.parts.Here.{Here}
 use Rattle.name_rules.specs.Meanings.{MeansCastBase, to_int, to_boolean, to_char, to_class, MeansCast, IsStaticFieldOf, IsStaticMethodOf, IsNearestField, IsMet}
-use Rattle.name_rules.specs.Resolves.{Counts, no_number, next_number, ResolvesTo, r_number, r_character, r_text, r_truth, r_null, r_this, r_local, r_static_field, r_own_field, r_class_field, r_field, r_index, r_own_static_call, r_own_call, r_static_call, r_call, r_super_call, r_create, r_create_array, r_cast, r_instance_of, r_unary, r_binary, AllResolve, r_no_more, r_and_more, ResolvesIf, r_none, r_some}
+use Rattle.name_rules.specs.Resolves.{Counts, no_number, next_number, ResolvesTo, r_number, r_character, r_text, r_truth, r_null, r_this, r_local, r_static_field, r_own_field, r_class_field, r_field, r_index, r_own_static_call, r_own_call, r_static_call, r_call, r_super_call, r_create, r_create_array, r_cast, r_instance_of, r_unary, r_binary, AllResolve, r_no_more, r_and_more, ResolvesIf, r_none, r_some, target, bound, scope_after, scope_after_part, StResolves, r_declare, r_block, r_assign, r_act, r_print, r_choose, r_while, r_for, r_return, r_break, r_continue, StsResolve, r_no_statements, r_and_then, ArmsResolve, r_no_else, r_else, r_arm, PartResolves, r_absent, r_present, declares, declares_all, declares_arms}
 use Rattle.name_outcome.proofs.Sees.{same_some}
 use Rattle.name_outcome.proofs.TypeNames.{type-meant}
 use Rattle.name_outcome.proofs.Excludes.{OneMet, name-class, one-nearest}
+use Rattle.java_tree.specs.Syntax as tree
+use Rattle.java_print.specs.Formed.{IsFormedStmt, AreFormedStmts, AreFormedArms, IsFormedElse, IsFormedFirst, IsFormedStep}
+use Rattle.name_outcome.proofs.Statements.{numbers-target}
 
 -- ---- numbers
 
@@ -156,3 +159,133 @@ module _ (O : Plain) (one : OneMet O) where
         → Counts k (numbers_if x) i → Counts k (numbers_if y) j → (x ≡ y) × (i ≡ j)
     if-only r_none r_none c d = (refl, none-only c d)
     if-only (r_some h) (r_some g) c d = let a = ex-only h g c d in (ap Some a.0, a.1)
+
+counts-as : {k i : ℕ} {ms ns : List ℕ} → ms ≡ ns → Counts k ms i → Counts k ns i
+counts-as {k} {i} e c = subst (λ z. Counts k z i) e c
+
+-- what stands in the head of a `for`
+abbrev pub IsFormedPart : OptionalStatement → Type 0
+IsFormedPart absent = Unit {0}
+IsFormedPart (present s) = IsFormedStmt s
+
+first-part : (s : OptionalStatement) → IsFormedFirst s → IsFormedPart s
+first-part absent f = tt
+first-part (present s) f = f.1
+
+step-part : (s : OptionalStatement) → IsFormedStep s → IsFormedPart s
+step-part absent f = tt
+step-part (present s) f = f.1
+
+-- two methods have the same variables of these numbers
+abbrev pub Agree : PlainMethod → PlainMethod → List ℕ → Type 0
+Agree k l [] = Unit {0}
+Agree k l (i ∷ is) = (slice_get (variables_of k) i ≡ slice_get (variables_of l) i) × Agree k l is
+
+agree-append : (k l : PlainMethod) (is js : List ℕ) → Agree k l is → Agree k l js → Agree k l (is ++ js)
+agree-append k l [] js a b = b
+agree-append k l (i ∷ is) js a b = (a.0, agree-append k l is js a.1 b)
+
+pub agree-at : (k l : PlainMethod) {a b : ℕ} {is : List ℕ} → Counts a is b → Agree k l is → (i : ℕ) → a ≤ i → i < b → slice_get (variables_of k) i
+    ≡ slice_get (variables_of l) i
+agree-at k l no_number g i le lt = absurd (omega (arith, le, lt))
+agree-at k l {a} (next_number c) g i le lt =
+    ⊎_elim (λ more. agree-at k l c g.1 i (omega (arith, more)) lt) (λ same. let e : a ≡ i = omega (arith, le, same) in subst
+    (λ z. slice_get (variables_of k) z ≡ slice_get (variables_of l) z) e g.0) (cases_lt a i)
+
+module _ (O : Plain) (one : OneMet O) (here : Here) (k l : PlainMethod) where
+  -- one tree, with the numbers and the locals counted to the same ends, and one meaning of its locals
+  abbrev pub Same : {A : Type 0} → A → A → ℕ → ℕ → ℕ → ℕ → List ℕ → Type 0
+  Same x y i j m n is = (x ≡ y) × (i ≡ j) × (m ≡ n) × Agree k l is
+
+  mutual
+    pub st-only : {inside : Bool} {scope : List Bound} {s : Statement} {x y : St} {a i j b m n : ℕ} → IsFormedStmt s
+        → StResolves O here k inside scope s x → StResolves O here l inside scope s y
+        → Counts a (numbers_st x) i → Counts a (numbers_st y) j → Counts b (declares x) m → Counts b (declares y) n → Same x y i j m n (declares x)
+    st-only {scope = scope} f (r_declare {u = u} {n = n} {v = v} {x = x} {p = at} h e) (r_declare {x = y} g w) c d p q =
+        let s = counts-next p in let t = counts-next q in let i = sym s.0 ∙ t.0 in
+        let a = if-only O one here _ e (subst (λ z. ResolvesIf O here (bound scope n z) v y) (sym i) w) c d in
+        let ty = type-meant O u h.ty h.means ∙ sym (type-meant O u g.ty g.means) in (
+          rw (i, a.0) refl,
+          a.1,
+          none-only s.1 t.1,
+          (
+            h.stands ∙ ap (λ z. Some (record { name = n; ty = z; tag = at_place at })) ty ∙ sym g.stands
+                ∙ ap (slice_get (variables_of l)) (sym i),
+            tt,
+          ),
+        )
+    st-only f (r_block h) (r_block g) c d p q = let a = sts-only f h g c d p q in (rw a.0 refl, a.1, a.2, a.3)
+    st-only f (r_assign {e = e} {x = x} {y = y} h i) (r_assign {x = u} {y = v} g j) c d p q =
+        let s = counts-split (numbers_target (target x)) (numbers y) c in let t = counts-split (numbers_target (target u)) (numbers v) d in
+        let a = ex-only O one here _ h g (counts-as (numbers-target e x f.0 h) s.1) (counts-as (numbers-target e u f.0 g) t.1) in
+        let b = ex-only O one here _ i j s.2 (from a.1 t.2) in (rw (a.0, b.0) refl, b.1, none-only p q, tt)
+    st-only f (r_act h) (r_act g) c d p q = let a = ex-only O one here _ h g c d in (rw a.0 refl, a.1, none-only p q, tt)
+    st-only f (r_print h) (r_print g) c d p q = let a = if-only O one here _ h g c d in (rw a.0 refl, a.1, none-only p q, tt)
+    st-only f (r_choose h) (r_choose g) c d p q = let a = arms-only f.1 f.2 h g c d p q in (rw a.0 refl, a.1, a.2, a.3)
+    st-only f (r_while {x = x} {xs = xs} h hs) (r_while {x = u} {xs = us} g gs) c d p q =
+        let c2 = counts-split (numbers x ++ []) (numbers_sts xs) c in let d2 = counts-split (numbers u ++ []) (numbers_sts us) d in
+        let c1 = counts-split (numbers x) [] c2.1 in let d1 = counts-split (numbers u) [] d2.1 in
+        let a = ex-only O one here _ h g c1.1 d1.1 in let b = sts-only f.1 hs gs c2.2 (from (none-only c1.2 (from a.1 d1.2)) d2.2) p q in
+        (rw (a.0, b.0) refl, b.1, b.2, b.3)
+    st-only {inside = inside} {scope = scope} f (r_for {f = first} {g = last} {v = v} {x = x} {ss = ss} {first = x1} {step = x2} {xs = xs} h t w hs)
+        (r_for {x = u} {first = u1} {step = u2} {xs = us} g r wu gs) c d p q =
+        let c3 = counts-split (numbers_sts x1 ++ numbers_if x ++ numbers_sts x2) (numbers_sts xs) c in
+        let d3 = counts-split (numbers_sts u1 ++ numbers_if u ++ numbers_sts u2) (numbers_sts us) d in
+        let c2 = counts-split (numbers_sts x1 ++ numbers_if x) (numbers_sts x2) c3.1 in let d2 = counts-split (numbers_sts u1 ++ numbers_if u)
+        (numbers_sts u2) d3.1 in
+        let c1 = counts-split (numbers_sts x1) (numbers_if x) c2.1 in let d1 = counts-split (numbers_sts u1) (numbers_if u) d2.1 in
+        let p2 = counts-split (declares_all x1 ++ declares_all x2) (declares_all xs) p in let q2 = counts-split (declares_all u1 ++ declares_all u2)
+        (declares_all us) q in
+        let p1 = counts-split (declares_all x1) (declares_all x2) p2.1 in let q1 = counts-split (declares_all u1) (declares_all u2) q2.1 in
+        let a = part-only (first-part first f.0) h g c1.1 d1.1 p1.1 q1.1 in
+        let after : scope_after_part scope first u1 ≡ scope_after_part scope first x1 = ap (scope_after_part scope first) (sym a.0) in
+        let b = if-only O one here _ t (subst (λ z. ResolvesIf O here z v u) after r) c1.2 (from a.1 d1.2) in
+        let e = part-only (step-part last f.2) w (subst (λ z. PartResolves O here l inside z last u2) after wu) c2.2 (from b.1 d2.2) p1.2 (from a.2 q1.2) in
+        let y = sts-only f.3 hs (subst (λ z. StsResolve O here l true z ss us) after gs) c3.2 (from e.1 d3.2) p2.2 (from e.2 q2.2) in (
+          rw (a.0, b.0, e.0, y.0) refl,
+          y.1,
+          y.2,
+          agree-append k l (declares_all x1 ++ declares_all x2) (declares_all xs)
+              (agree-append k l (declares_all x1) (declares_all x2) a.3 e.3) y.3,
+        )
+    st-only f (r_return h) (r_return g) c d p q = let a = if-only O one here _ h g c d in (rw a.0 refl, a.1, none-only p q, tt)
+    st-only f r_break r_break c d p q = (refl, none-only c d, none-only p q, tt)
+    st-only f r_continue r_continue c d p q = (refl, none-only c d, none-only p q, tt)
+
+    pub sts-only : {inside : Bool} {scope : List Bound} {ss : Statements} {x y : Sts} {a i j b m n : ℕ} → AreFormedStmts ss
+        → StsResolve O here k inside scope ss x → StsResolve O here l inside scope ss y
+        → Counts a (numbers_sts x) i → Counts a (numbers_sts y) j → Counts b (declares_all x) m → Counts b (declares_all y) n
+        → Same x y i j m n (declares_all x)
+    sts-only f r_no_statements r_no_statements c d p q = (refl, none-only c d, none-only p q, tt)
+    sts-only {inside = inside} {scope = scope} f (r_and_then {s = s} {x = x} {ss = ss} {xs = xs} h hs) (r_and_then {x = u} {xs = us} g gs) c d p q =
+        let c1 = counts-split (numbers_st x) (numbers_sts xs) c in let d1 = counts-split (numbers_st u) (numbers_sts us) d in
+        let p1 = counts-split (declares x) (declares_all xs) p in let q1 = counts-split (declares u) (declares_all us) q in
+        let a = st-only f.0 h g c1.1 d1.1 p1.1 q1.1 in
+        let b = sts-only f.1 hs (subst (λ z. StsResolve O here l inside (scope_after scope s z) ss us) (sym a.0) gs) c1.2 (from a.1 d1.2) p1.2
+        (from a.2 q1.2) in
+        (rw (a.0, b.0) refl, b.1, b.2, agree-append k l (declares x) (declares_all xs) a.3 b.3)
+
+    arms-only : {inside : Bool} {scope : List Bound} {arms : tree.Arms} {o : Else} {x y : Arms} {a i j b m n : ℕ} → AreFormedArms arms
+        → IsFormedElse o → ArmsResolve O here k inside scope arms o x → ArmsResolve O here l inside scope arms o y
+        → Counts a (numbers_arms x) i → Counts a (numbers_arms y) j → Counts b (declares_arms x) m → Counts b (declares_arms y) n
+        → Same x y i j m n (declares_arms x)
+    arms-only f g r_no_else r_no_else c d p q = (refl, none-only c d, none-only p q, tt)
+    arms-only f g (r_else h) (r_else i) c d p q = let a = sts-only g h i c d p q in (rw a.0 refl, a.1, a.2, a.3)
+    arms-only f g (r_arm {x = x} {xs = xs} {more = xm} h hs hm) (r_arm {x = u} {xs = us} {more = um} t ts tm) c d p q =
+        let c2 = counts-split (numbers x ++ numbers_sts xs) (numbers_arms xm) c in let d2 = counts-split (numbers u ++ numbers_sts us) (numbers_arms um) d in
+        let c1 = counts-split (numbers x) (numbers_sts xs) c2.1 in let d1 = counts-split (numbers u) (numbers_sts us) d2.1 in
+        let p2 = counts-split (declares_all xs) (declares_arms xm) p in let q2 = counts-split (declares_all us) (declares_arms um) q in
+        let a = ex-only O one here _ h t c1.1 d1.1 in let b = sts-only f.1 hs ts c1.2 (from a.1 d1.2) p2.1 q2.1 in let e = arms-only f.2 g hm tm c2.2
+        (from b.1 d2.2) p2.2 (from b.2 q2.2) in
+        (rw (a.0, b.0, e.0) refl, e.1, e.2, agree-append k l (declares_all xs) (declares_arms xm) b.3 e.3)
+
+    part-only : {inside : Bool} {scope : List Bound} {s : OptionalStatement} {x y : Sts} {a i j b m n : ℕ} → IsFormedPart s
+        → PartResolves O here k inside scope s x → PartResolves O here l inside scope s y
+        → Counts a (numbers_sts x) i → Counts a (numbers_sts y) j → Counts b (declares_all x) m → Counts b (declares_all y) n
+        → Same x y i j m n (declares_all x)
+    part-only f r_absent r_absent c d p q = (refl, none-only c d, none-only p q, tt)
+    part-only f (r_present {x = x} h) (r_present {x = u} g) c d p q =
+        let c1 = counts-split (numbers_st x) [] c in let d1 = counts-split (numbers_st u) [] d in let p1 = counts-split (declares x) [] p in
+        let q1 = counts-split (declares u) [] q in
+        let a = st-only f h g c1.1 d1.1 p1.1 q1.1 in
+        (rw a.0 refl, none-only c1.2 (from a.1 d1.2), none-only p1.2 (from a.2 q1.2), agree-append k l (declares x) [] a.3 tt)

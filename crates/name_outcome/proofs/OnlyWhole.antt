@@ -20,8 +20,7 @@ use Rattle.name_outcome.proofs.Bridge.{main-of, of-main}
 use Rattle.name_outcome.proofs.FormedMembers.{back-stands}
 use Rattle.name_outcome.proofs.MembersOf.{method-in}
 use Rattle.name_outcome.proofs.Excludes.{OneMet, one-met}
-use Rattle.name_outcome.proofs.Only.{none-only, counts-split, from}
-use Rattle.name_outcome.proofs.OnlyStatements.{Agree, agree-at, sts-only}
+use Rattle.name_outcome.proofs.Only.{none-only, counts-split, from, Agree, agree-at, sts-only}
 
 -- ---- lists
 

@@ -1,7 +1,7 @@
--- Types, results and parameter lists that agree, as tests and as equations.
-use Rattle.std.proofs.Common.{◌≡◌, ℕ, true, false, ◌&&◌, List, [], ◌∷◌, map, Option, Some, None, refl, sym, ap, ◌∙◌, subst}
-use Rattle.std.specs.Prelude.{slice_get, ◌==◌}
-use Rattle.std.specs.Str.{bytes_eq}
+-- Types, results, parameter lists and the main method, as tests and as equations.
+use Rattle.std.proofs.Common.{◌≡◌, ℕ, true, false, ◌&&◌, List, [], ◌∷◌, map, Option, Some, None, refl, sym, ap, ◌∙◌, subst, Bool}
+use Rattle.std.specs.Prelude.{slice_get, ◌==◌, codes}
+use Rattle.std.specs.Str.{bytes_eq, chars}
 use Rattle.std.proofs.lemmas.Bool.{eqb-true, eq-eqb, false≢true, and_parts, and_from}
 use Rattle.std.proofs.lemmas.Slice.Eq.{bytes_eq-Decides}
 use Rattle.java_core.specs.declared.Ty.{Ty}
@@ -11,7 +11,7 @@ use Rattle.java_core.specs.declared.Local.{Local}
 use Rattle.java_core.specs.Types.{is_base}
 use Rattle.java_core.specs.Programs.{PlainSlot}
 use Rattle.java_core.proofs.Positions.{position-passes}
-use Rattle.name_outcome.specs.Members.{same_type, same_result, have_types, is_signature, slot_in}
+use Rattle.name_outcome.specs.Members.{same_type, same_result, have_types, is_signature, slot_in, is_texts, takes_texts, is_main}
 use Rattle.name_outcome.proofs.Runs.{none-passes}
 
 base-same : (b c : TyBase) → is_base b c ≡ true → b ≡ c
@@ -83,3 +83,43 @@ slot-none n ls r ss e i s at h =
     (and_from (bytes_eq s.name n) (have_types ls s.params) ((bytes_eq-Decides s.name n).1 h.name) (subst (λ z. have_types ls z ≡ true) (sym h.params)
     (same-types ls)))
     (subst (λ z. same_result r z ≡ true) (sym h.result) (same-result r)))
+
+texts : Ty
+texts = record { base = Str; dim = 1 }
+
+takes-one : (ls : List Local) → takes_texts ls ≡ true → map (λ l. l.ty) ls ≡ record { base = Str; dim = 1 } ∷ []
+takes-one [] e = absurd (false≢true e)
+takes-one (l ∷ []) e = ap (λ t. t ∷ []) (type-same l.ty (record { base = Str; dim = 1 }) e)
+takes-one (l ∷ k ∷ ls) e = absurd (false≢true e)
+
+one-takes : (ls : List Local) → map (λ l. l.ty) ls ≡ record { base = Str; dim = 1 } ∷ [] → takes_texts ls ≡ true
+one-takes [] e = absurd (cc e)
+one-takes (l ∷ []) e = let f : l.ty ≡ record { base = Str; dim = 1 } = cc in ap is_texts f
+one-takes (l ∷ k ∷ ls) e = absurd (cc e)
+
+-- a static void method of one String[], called main
+pub record Begins (static : Bool) (n : List ℕ) (ls : List Local) (r : Option Ty) : Type 0 where
+  pub is_static : static ≡ true
+  pub name : n ≡ codes "main"
+  pub params : map (λ l. l.ty) ls ≡ record { base = Str; dim = 1 } ∷ []
+  pub result : r ≡ None
+
+pub main-begins : (static : Bool) (n : List ℕ) (ls : List Local) (r : Option Ty) → is_main static n ls r ≡ true → Begins static n ls r
+unfolding chars
+main-begins true n ls None e = go (bytes_eq (codes "main") n) refl
+  where
+    go : (b : Bool) → bytes_eq (codes "main") n ≡ b → Begins true n ls None
+    go true f = record {
+      is_static = refl;
+      name = sym ((bytes_eq-Decides (codes "main") n).0 f);
+      params = takes-one ls
+          (sym (ap (λ z. z && takes_texts ls) f) ∙ e);
+      result = refl;
+    }
+    go false f = absurd (false≢true (sym (ap (λ z. z && takes_texts ls) f) ∙ e))
+main-begins true n ls (Some t) e = absurd (false≢true e)
+main-begins false n ls r e = absurd (false≢true e)
+
+pub begins-main : (static : Bool) (n : List ℕ) (ls : List Local) (r : Option Ty) → Begins static n ls r → is_main static n ls r ≡ true
+unfolding chars
+begins-main static n ls r b = rw (b.is_static, b.result, (bytes_eq-Decides (codes "main") n).1 (sym b.name), one-takes ls b.params) refl

@@ -18,8 +18,7 @@ use Rattle.name_rules.specs.Causes.{HasNoCondition}
 use Rattle.name_outcome.proofs.Sees.{Tells, tell}
 use Rattle.name_outcome.proofs.KnownTypes.{AreKnown, known-tells}
 use Rattle.name_outcome.proofs.KnownClasses.{HasSupers, classes-tells, classes-outline}
-use Rattle.name_outcome.proofs.Reached.{above-tells}
-use Rattle.name_outcome.proofs.Loops.{loops-tells}
+use Rattle.name_outcome.proofs.Reached.{above-tells, loops-tells}
 use Rattle.name_outcome.proofs.AllMembers.{members-tells}
 use Rattle.name_outcome.proofs.MethodClashes.{clashes-tells, main-tells}
 use Rattle.name_outcome.proofs.SeesOutline.{sees-outline}
