@@ -31,6 +31,7 @@ use Rattle.java_print.specs.Formed.{IsNumber, a_small, the_least, IsCastBase, is
 use Rattle.name_rules.specs.Resolves.{Counts, no_number, next_number, ResolvesTo, r_number, r_character, r_text, r_truth, r_null, r_this, r_local, r_static_field, r_own_field, r_class_field, r_field, r_index, r_own_static_call, r_own_call, r_static_call, r_call, r_super_call, r_create, r_create_array, r_cast, r_instance_of, r_unary, r_binary, AllResolve, r_no_more, r_and_more, ResolvesIf, r_none, r_some, scope_after, scope_after_part, IsLocal, StResolves, r_declare, r_block, r_assign, r_act, r_print, r_choose, r_while, r_for, r_return, r_break, r_continue, StsResolve, r_no_statements, r_and_then, ArmsResolve, r_no_else, r_else, r_arm, PartResolves, r_absent, r_present, declares, declares_all, declares_arms}
 use Rattle.name_outcome.proofs.Runs.{stands-within}
 use Rattle.name_outcome.proofs.Sees.{same_some}
+use Rattle.name_outcome.proofs.Statements.{IsFormedPart, of-first, of-step}
 use Rattle.name_outcome.proofs.Bare.{bare_tag, bare, bare_all, bare_if, bare_target, bare_st, bare_sts, bare_arms}
 
 -- a program and a method of it, seen from the outline and the method with places
@@ -260,12 +261,12 @@ module _ (O : Plain) (here : Here) (K : PlainMethod) (Q : Plain) (k : PlainMetho
     formed-st (r_print {line = line} h) s g b = f_print (printed line h g.0) (formed-if _ _ s h g.1)
     formed-st (r_choose h) s g b = some-arm h s g b
     formed-st (r_while {x = x} h i) s g b = f_loop of_while refl refl f_no_st (f_some (formed _ _ s h g.0)) f_no_st (formed-sts i s g.1 b)
-    formed-st (r_for {first = first} {step = step} {xs = xs} f v t h) s g b =
+    formed-st (r_for {f = begin} {g = next} {first = first} {step = step} {xs = xs} f v t h) s g b =
         let u = part-scope f s in
         f_loop of_for (first-part f g.0) (last-part t g.2)
-        (formed-first f s g.0 (behind-left (declares_all first) (declares_all step) (behind-left (declares_all first ++ declares_all step)
+        (formed-part f s (of-first begin g.0) (behind-left (declares_all first) (declares_all step) (behind-left (declares_all first ++ declares_all step)
         (declares_all xs) b)))
-        (formed-if _ _ u v g.1) (formed-step t u g.2 (behind-right (declares_all first) (declares_all step)
+        (formed-if _ _ u v g.1) (formed-part t u (of-step next g.2) (behind-right (declares_all first) (declares_all step)
         (behind-left (declares_all first ++ declares_all step) (declares_all xs) b)))
         (formed-sts h u g.3 (behind-right (declares_all first ++ declares_all step) (declares_all xs) b))
     formed-st (r_return h) s g b = f_return (formed-if _ _ s h g)
@@ -297,15 +298,10 @@ module _ (O : Plain) (here : Here) (K : PlainMethod) (Q : Plain) (k : PlainMetho
         f_choose (f_arm (formed _ _ s h g.1.0) (formed-sts i s g.1.1 (behind-left (declares_all xs) (declares_arms more) b))
         (formed-arms hs s g.1.2 g.2 (behind-right (declares_all xs) (declares_arms more) b)))
 
-    formed-first : {in_loop : Bool} {scope : List Bound} {nums : List ℕ} {x : OptionalStatement} {ys : Sts} → PartResolves O here K in_loop scope x ys
-        → ScopeIs k scope nums → IsFormedFirst x → Behind (declares_all ys) → FormedSts Q k in_loop nums (bare_sts ys)
-    formed-first r_absent s g b = f_no_st
-    formed-first (r_present {x = x} h) s g b = f_st_then (formed-st h s g.1 (behind-left (declares x) [] b)) f_no_st
-
-    formed-step : {in_loop : Bool} {scope : List Bound} {nums : List ℕ} {x : OptionalStatement} {ys : Sts} → PartResolves O here K in_loop scope x ys
-        → ScopeIs k scope nums → IsFormedStep x → Behind (declares_all ys) → FormedSts Q k in_loop nums (bare_sts ys)
-    formed-step r_absent s g b = f_no_st
-    formed-step (r_present {x = x} h) s g b = f_st_then (formed-st h s g.1 (behind-left (declares x) [] b)) f_no_st
+    formed-part : {in_loop : Bool} {scope : List Bound} {nums : List ℕ} {x : OptionalStatement} {ys : Sts} → PartResolves O here K in_loop scope x ys
+        → ScopeIs k scope nums → IsFormedPart x → Behind (declares_all ys) → FormedSts Q k in_loop nums (bare_sts ys)
+    formed-part r_absent s g b = f_no_st
+    formed-part (r_present {x = x} h) s g b = f_st_then (formed-st h s g (behind-left (declares x) [] b)) f_no_st
 
     first-part : {in_loop : Bool} {scope : List Bound} {x : OptionalStatement} {ys : Sts} → PartResolves O here K in_loop scope x ys → IsFormedFirst x
         → is_at_most_one is_first (bare_sts ys) ≡ true
@@ -345,8 +341,8 @@ module _ (O : Plain) (here : Here) (K : PlainMethod) (Q : Plain) (k : PlainMetho
     good-st (r_print h) g = tt
     good-st (r_choose h) g = good-arms h g.1 g.2
     good-st (r_while {xs = xs} h i) g = good-sts i g.1
-    good-st (r_for {first = first} {step = step} {xs = xs} f v t h) g = good-both (declares_all first ++ declares_all step) (declares_all xs)
-        (good-both (declares_all first) (declares_all step) (good-first f g.0) (good-step t g.2)) (good-sts h g.3)
+    good-st (r_for {f = begin} {g = next} {first = first} {step = step} {xs = xs} f v t h) g = good-both (declares_all first ++ declares_all step) (declares_all xs)
+        (good-both (declares_all first) (declares_all step) (good-part f (of-first begin g.0)) (good-part t (of-step next g.2))) (good-sts h g.3)
     good-st (r_return h) g = tt
     good-st r_break g = tt
     good-st r_continue g = tt
@@ -362,15 +358,10 @@ module _ (O : Plain) (here : Here) (K : PlainMethod) (Q : Plain) (k : PlainMetho
     good-arms (r_else h) g e = good-sts h e
     good-arms (r_arm {xs = xs} {more = more} h i hs) g e = good-both (declares_all xs) (declares_arms more) (good-sts i g.1) (good-arms hs g.2 e)
 
-    good-first : {in_loop : Bool} {scope : List Bound} {x : OptionalStatement} {ys : Sts} → PartResolves O here K in_loop scope x ys → IsFormedFirst x
+    good-part : {in_loop : Bool} {scope : List Bound} {x : OptionalStatement} {ys : Sts} → PartResolves O here K in_loop scope x ys → IsFormedPart x
         → Good (declares_all ys)
-    good-first r_absent g = tt
-    good-first (r_present {x = x} h) g = good-both (declares x) [] (good-st h g.1) tt
-
-    good-step : {in_loop : Bool} {scope : List Bound} {x : OptionalStatement} {ys : Sts} → PartResolves O here K in_loop scope x ys → IsFormedStep x
-        → Good (declares_all ys)
-    good-step r_absent g = tt
-    good-step (r_present {x = x} h) g = good-both (declares x) [] (good-st h g.1) tt
+    good-part r_absent g = tt
+    good-part (r_present {x = x} h) g = good-both (declares x) [] (good-st h g) tt
 
   -- numbers that count reach each number between
   pub counts-each : {a b : ℕ} {ns : List ℕ} → Counts a ns b → Good ns → (i : ℕ) → a ≤ i → i < b → GoodLocal O Q K i

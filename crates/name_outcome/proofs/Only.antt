@@ -6,7 +6,7 @@ use Rattle.kaba_base.specs.declared.Place.{Place}
 use Rattle.java_tree.specs.declared.TypeBase.{TypeBase}
 use Rattle.java_tree.specs.declared.TypeBase.TheVariants as bases
 use Rattle.java_tree.specs.declared.TypeName.{TypeName}
-use Rattle.java_tree.specs.Syntax.{Expression, NameRef, Expressions, Statement, Statements, Else, OptionalStatement, absent, present}
+use Rattle.java_tree.specs.Syntax.{Expression, NameRef, Expressions, Statement, Statements, Else, OptionalStatement}
 use Rattle.java_core.specs.declared.Ty.{Ty}
 use Rattle.java_core.specs.declared.TyBase.{TyBase}
 use Rattle.java_core.specs.Trees.{at_place, Ex, local, static_field, own_field, Exs, St, Sts, Arms}
@@ -21,8 +21,8 @@ use Rattle.name_outcome.proofs.Sees.{same_some}
 use Rattle.name_outcome.proofs.TypeNames.{type-meant}
 use Rattle.name_outcome.proofs.Excludes.{OneMet, name-class, one-nearest}
 use Rattle.java_tree.specs.Syntax as tree
-use Rattle.java_print.specs.Formed.{IsFormedStmt, AreFormedStmts, AreFormedArms, IsFormedElse, IsFormedFirst, IsFormedStep}
-use Rattle.name_outcome.proofs.Statements.{numbers-target}
+use Rattle.java_print.specs.Formed.{IsFormedStmt, AreFormedStmts, AreFormedArms, IsFormedElse}
+use Rattle.name_outcome.proofs.Statements.{numbers-target, IsFormedPart, of-first, of-step}
 
 -- ---- numbers
 
@@ -163,19 +163,6 @@ module _ (O : Plain) (one : OneMet O) where
 counts-as : {k i : ℕ} {ms ns : List ℕ} → ms ≡ ns → Counts k ms i → Counts k ns i
 counts-as {k} {i} e c = subst (λ z. Counts k z i) e c
 
--- what stands in the head of a `for`
-abbrev pub IsFormedPart : OptionalStatement → Type 0
-IsFormedPart absent = Unit {0}
-IsFormedPart (present s) = IsFormedStmt s
-
-first-part : (s : OptionalStatement) → IsFormedFirst s → IsFormedPart s
-first-part absent f = tt
-first-part (present s) f = f.1
-
-step-part : (s : OptionalStatement) → IsFormedStep s → IsFormedPart s
-step-part absent f = tt
-step-part (present s) f = f.1
-
 -- two methods have the same variables of these numbers
 abbrev pub Agree : PlainMethod → PlainMethod → List ℕ → Type 0
 Agree k l [] = Unit {0}
@@ -237,10 +224,10 @@ module _ (O : Plain) (one : OneMet O) (here : Here) (k l : PlainMethod) where
         let p2 = counts-split (declares_all x1 ++ declares_all x2) (declares_all xs) p in let q2 = counts-split (declares_all u1 ++ declares_all u2)
         (declares_all us) q in
         let p1 = counts-split (declares_all x1) (declares_all x2) p2.1 in let q1 = counts-split (declares_all u1) (declares_all u2) q2.1 in
-        let a = part-only (first-part first f.0) h g c1.1 d1.1 p1.1 q1.1 in
+        let a = part-only (of-first first f.0) h g c1.1 d1.1 p1.1 q1.1 in
         let after : scope_after_part scope first u1 ≡ scope_after_part scope first x1 = ap (scope_after_part scope first) (sym a.0) in
         let b = if-only O one here _ t (subst (λ z. ResolvesIf O here z v u) after r) c1.2 (from a.1 d1.2) in
-        let e = part-only (step-part last f.2) w (subst (λ z. PartResolves O here l inside z last u2) after wu) c2.2 (from b.1 d2.2) p1.2 (from a.2 q1.2) in
+        let e = part-only (of-step last f.2) w (subst (λ z. PartResolves O here l inside z last u2) after wu) c2.2 (from b.1 d2.2) p1.2 (from a.2 q1.2) in
         let y = sts-only f.3 hs (subst (λ z. StsResolve O here l true z ss us) after gs) c3.2 (from e.1 d3.2) p2.2 (from e.2 q2.2) in (
           rw (a.0, b.0, e.0, y.0) refl,
           y.1,

@@ -104,6 +104,19 @@ at-middle : {A : Type 0} (xs : List A) (v : A) (ys : List A) (i : ℕ) → i ≡
 at-middle [] v ys i e = rw e refl
 at-middle (x ∷ xs) v ys i e = rw e (at-middle xs v ys (length xs) refl)
 
+-- what stands in the head of a `for`
+abbrev pub IsFormedPart : OptionalStatement → Type 0
+IsFormedPart absent = Unit {0}
+IsFormedPart (present s) = IsFormedStmt s
+
+pub of-first : (s : OptionalStatement) → IsFormedFirst s → IsFormedPart s
+of-first absent f = tt
+of-first (present s) f = f.1
+
+pub of-step : (s : OptionalStatement) → IsFormedStep s → IsFormedPart s
+of-step absent f = tt
+of-step (present s) f = f.1
+
 -- the step of a `for` declares nothing
 act-scope : (x : Statement) (st : St) (scope : List Bound) → is_act x ≡ true → scope_after scope x st ≡ scope
 act-scope (LocalOf f u n v p) st scope e = absurd (cc e)
@@ -337,11 +350,11 @@ module _ (t : Table) (O : Plain) (sees : Sees t O) (here : Here) where
         (λ r f. in_while_test f)
     st-tells inside scope s (ForOf f v g ss p) gr =
         tell (StWalks inside scope s (ForOf f v g ss p)) (StFault O here inside (bound_names scope) (ForOf f v g ss p))
-        (walk_optional t here inside scope s f) _ (first-tells inside scope s f gr.0)
+        (walk_optional t here inside scope s f) _ (part-tells inside scope s f (of-first f gr.0))
         (λ a ha. tell (StWalks inside scope s (ForOf f v g ss p)) (StFault O here inside (bound_names scope) (ForOf f v g ss p))
         (walk_value t here a.1 a.2 v) _ (value-tells a.1 a.2 v)
         (λ b hb. tell (StWalks inside scope s (ForOf f v g ss p)) (StFault O here inside (bound_names scope) (ForOf f v g ss p))
-        (walk_optional t here inside a.1 b.1 g) _ (step-tells inside a.1 b.1 g gr.2)
+        (walk_optional t here inside a.1 b.1 g) _ (part-tells inside a.1 b.1 g (of-step g gr.2))
         (λ c hc. let same : c.1 ≡ a.1 = hc.scope_then ∙ step-scope g c.0 a.1 gr.2 in
         tell (StWalks inside scope s (ForOf f v g ss p)) (StFault O here inside (bound_names scope) (ForOf f v g ss p))
         (walk_sts t here true no_st c.1 c.2 ss) _ (sts-tells true no_st c.1 c.2 ss gr.3)
@@ -414,28 +427,12 @@ module _ (t : Table) (O : Plain) (sees : Sees t O) (here : Here) where
         (walk_sts t here inside no_st scope s ss) _ (sts-tells inside no_st scope s ss g)
         (λ x h. record { grown = whole-grown h; to = λ k w. r_else (whole-to h k w) }) (λ r f. f)
 
-    first-tells : (inside : Bool) (scope : List Bound) (s : State) (x : OptionalStatement) → IsFormedFirst x
+    part-tells : (inside : Bool) (scope : List Bound) (s : State) (x : OptionalStatement) → IsFormedPart x
         → Tells (PartWalks inside scope s x) (PartFault O here inside (bound_names scope) x) (walk_optional t here inside scope s x)
-    first-tells inside scope s absent g = record { grown = grown-same s; scope_then = refl; names_then = refl; to = λ k w. r_absent }
-    first-tells inside scope s (present x) g =
+    part-tells inside scope s absent g = record { grown = grown-same s; scope_then = refl; names_then = refl; to = λ k w. r_absent }
+    part-tells inside scope s (present x) g =
         tell (PartWalks inside scope s (present x)) (PartFault O here inside (bound_names scope) (present x)) (walk_st t here inside scope s x) _
-        (st-tells inside scope s x g.1)
-        (λ r h. record {
-          grown = subst (λ z. Grown s r.2 z (numbers_st r.0 ++ [])) (sym (append-nil (declares r.0)))
-              (subst (λ z. Grown s r.2 (declares r.0) z) (sym (append-nil (numbers_st r.0))) h.grown);
-          scope_then = h.scope_then;
-          names_then =
-              h.names_then;
-          to = λ k w. r_present (h.to k w);
-        })
-        (λ r f. in_part f)
-
-    step-tells : (inside : Bool) (scope : List Bound) (s : State) (x : OptionalStatement) → IsFormedStep x
-        → Tells (PartWalks inside scope s x) (PartFault O here inside (bound_names scope) x) (walk_optional t here inside scope s x)
-    step-tells inside scope s absent g = record { grown = grown-same s; scope_then = refl; names_then = refl; to = λ k w. r_absent }
-    step-tells inside scope s (present x) g =
-        tell (PartWalks inside scope s (present x)) (PartFault O here inside (bound_names scope) (present x)) (walk_st t here inside scope s x) _
-        (st-tells inside scope s x g.1)
+        (st-tells inside scope s x g)
         (λ r h. record {
           grown = subst (λ z. Grown s r.2 z (numbers_st r.0 ++ [])) (sym (append-nil (declares r.0)))
               (subst (λ z. Grown s r.2 (declares r.0) z) (sym (append-nil (numbers_st r.0))) h.grown);
