@@ -1,17 +1,17 @@
 -- The declaration found for a name is one at or above the type, and where there is one, one is found.
-use Rattle.std.proofs.Common.{◌≡◌, ℕ, suc, zero, ◌+◌, ◌<◌, ◌⊎◌, ◌&&◌, Bool, true, false, not, List, [], ◌∷◌, ◌++◌, eqb, length, Option, Some, None, Contains, refl, sym, ap, ◌∙◌, subst, arith, ⊎_elim, inl, inr, IfSome, IfNone, slice_get}
+use Rattle.std.proofs.Common.{◌≡◌, ℕ, suc, zero, ◌+◌, ◌⊎◌, ◌&&◌, Bool, true, false, not, List, [], ◌∷◌, ◌++◌, eqb, length, Option, Some, None, Contains, refl, sym, ap, ◌∙◌, subst, arith, ⊎_elim, inl, inr, IfSome, IfNone, slice_get}
 use Rattle.std.specs.List.{flat_map}
 use Rattle.std.specs.Option.{option_and_then, option_to_list}
 use Rattle.std.specs.Str.{bytes_eq}
 use Rattle.std.proofs.lemmas.Bool.{and_parts, eqb-true, eq-eqb}
 use Rattle.std.proofs.lemmas.Slice.Eq.{bytes_eq-Decides}
 use Rattle.kaba_base.specs.declared.ClassId.{ClassId}
-use Rattle.java_core.specs.Programs.{Plain, PlainClass, PlainMethod}
+use Rattle.java_core.specs.Programs.{Plain, PlainMethod}
 use Rattle.java_core.specs.Classes.{parent_of, faces_of, supers_of, IsSubclass, same_class, through, first_or, nearest_of, is_method_of, own_method, faces_above, first_found, declaration_of, slot_of_method, slot_of}
 use Rattle.java_core.specs.Found.{IsNearest, at_class, above_class, IsOffered}
 use Rattle.java_core.specs.Formed.{IsFormed}
-use Rattle.java_core.proofs.Subclasses.{IsAcyclic, subclass-then, parent-super, nearest_of-nearest, nearest-nearest_of, ArePassed, passed_more, none_passed, one_left}
-use Rattle.java_core.proofs.Upwards.{contains_cases, IsThere, super_cases, IsAbove, further, chain-above, face_interface, interface_parent, above_object, nearest-there, nearest-up}
+use Rattle.java_core.proofs.Subclasses.{parent-super, nearest_of-nearest, ArePassed, passed_more, none_passed, one_left}
+use Rattle.java_core.proofs.Upwards.{contains_cases, IsThere, super_cases, IsAbove, further, chain-above, face_interface, interface_parent, above_object, nearest-there, there-up}
 use Rattle.java_core.proofs.SearchOrder.{first_found-append, declaration_of-found}
 use Rattle.java_core.proofs.Positions.{position-passes, passes-position}
 
@@ -101,7 +101,7 @@ module _ (P : Plain) (own : ℕ → Option ℕ) (formed : IsFormed P) (no_member
   above-found {c} (through {c = k} direct up) found =
       let faces = λ (k : ℕ). first_found own (faces_above P (length P.classes) k) in
       ⊎_elim
-      (λ parent. ⊎_elim (λ h. inl (nearest-up P formed own c k parent h)) (λ h. inr (nearest-up P formed faces c k parent h)) (above-found up found))
+      (λ parent. ⊎_elim (λ h. inl (there-up P formed own c k parent h)) (λ h. inr (there-up P formed faces c k parent h)) (above-found up found))
       (λ face. inr (nearest-there P formed faces c (face-found (length P.classes) c [] k (omega arith) (none_passed P c) face up found)))
       (super_cases P c k direct)
 

@@ -206,13 +206,18 @@ fn nearest_named(
     requires { IsFormed (program_of no_place p.now) }
     ensures { option_map (λ d. d.0) result ≡ nearest (program_of no_place p.now) (λ k. own_named (program_of no_place p.now) kind k name.now) left class.0 }
 {
-    let own = own_named(p, class, name, kind);
-    if own.is_some() || left == 0 {
-        return own;
-    }
-    match parent_of(p, class) {
-        Some(parent) => nearest_named(p, parent, name, kind, left - 1),
-        None => None,
+    let mut at = class;
+    let mut steps = left;
+    'up: loop {
+        let own = own_named(p, at, name, kind);
+        if own.is_some() || steps == 0 {
+            return own;
+        }
+        let Some(parent) = parent_of(p, at) else {
+            return None;
+        };
+        at = parent;
+        steps -= 1;
     }
 }
 
@@ -267,13 +272,18 @@ fn nearest_of_slot(
     requires { IsFormed (program_of no_place p.now) }
     ensures { option_map (λ d. d.0) result ≡ nearest (program_of no_place p.now) (λ k. own_of_slot (program_of no_place p.now) kind k slot) left class.0 }
 {
-    let own = own_of_slot(p, class, slot, kind);
-    if own.is_some() || left == 0 {
-        return own;
-    }
-    match parent_of(p, class) {
-        Some(parent) => nearest_of_slot(p, parent, slot, kind, left - 1),
-        None => None,
+    let mut at = class;
+    let mut steps = left;
+    'up: loop {
+        let own = own_of_slot(p, at, slot, kind);
+        if own.is_some() || steps == 0 {
+            return own;
+        }
+        let Some(parent) = parent_of(p, at) else {
+            return None;
+        };
+        at = parent;
+        steps -= 1;
     }
 }
 

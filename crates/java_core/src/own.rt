@@ -8,7 +8,7 @@ ghost use Rattle.java_core.specs.Programs.{field_seen, method_seen};
 ghost use Rattle.java_core.specs.Classes.{is_field_of, is_method_of, has_slot};
 ghost use Rattle.java_core.specs.Owned.{passes, first_among};
 
-use crate::owned::listed;
+use crate::owned::listed_under;
 use crate::tables::{name_bucket, slot_bucket};
 use crate::{Field, Method, Program};
 use kaba_base::{ClassId, Name};
@@ -21,11 +21,11 @@ fn fields_of<'a>(p: &'a Program, class: ClassId, name: &Name) -> &'a [usize]
     ensures { first_among (λ f. is_field_of class.0 name.now (field_seen no_place f)) p.now.fields.items result.now
         ≡ position (λ f. is_field_of class.0 name.now (field_seen no_place f)) p.now.fields.items }
 {
-    let own = listed(&p.tables.own_fields, class.0 as usize);
+    let own = listed_under(&p.tables.own_fields, class.0 as usize);
     if own.len() <= FEW {
         return own;
     }
-    listed(
+    listed_under(
         &p.tables.fields_by_name,
         name_bucket(p.fields.len(), class, name),
     )
@@ -36,11 +36,11 @@ fn methods_of<'a>(p: &'a Program, class: ClassId, name: &Name) -> &'a [usize]
     ensures { first_among (λ m. is_method_of class.0 name.now (method_seen no_place m)) p.now.methods.items result.now
         ≡ position (λ m. is_method_of class.0 name.now (method_seen no_place m)) p.now.methods.items }
 {
-    let own = listed(&p.tables.own_methods, class.0 as usize);
+    let own = listed_under(&p.tables.own_methods, class.0 as usize);
     if own.len() <= FEW {
         return own;
     }
-    listed(
+    listed_under(
         &p.tables.methods_by_name,
         name_bucket(p.methods.len(), class, name),
     )
@@ -53,11 +53,11 @@ fn methods_in(p: &Program, class: ClassId, slot: u32) -> &[usize]
     ensures body { first_among (λ m. has_slot class.0 slot (method_seen no_place m) && is_some (method_seen no_place m).body) p.now.methods.items result.now
         ≡ position (λ m. has_slot class.0 slot (method_seen no_place m) && is_some (method_seen no_place m).body) p.now.methods.items }
 {
-    let own = listed(&p.tables.own_methods, class.0 as usize);
+    let own = listed_under(&p.tables.own_methods, class.0 as usize);
     if own.len() <= FEW {
         return own;
     }
-    listed(
+    listed_under(
         &p.tables.methods_by_slot,
         slot_bucket(p.methods.len(), class, Some(slot)),
     )

@@ -5,7 +5,7 @@ ghost use Rattle.std.specs.Prelude.{◌≡◌, ◌+◌, ◌/◌, ◌<◌, length
 ghost use Rattle.java_core.specs.Owned.{AreOwned};
 ghost use Rattle.java_core.specs.Tables.{AreTables, mixed, mixed_all, name_bucket, slot_bucket, field_bucket, method_bucket, method_slot_bucket};
 
-use crate::owned::{note, own_fields, own_methods};
+use crate::owned::{note_under, own_fields, own_methods};
 use crate::{Field, Method};
 use kaba_base::{ClassId, Name};
 use std::alloc::{AllocError, Global};
@@ -86,7 +86,7 @@ fn fields_by_name(alloc: Global, list: &[Field]) -> Result<Vec<Vec<usize>>, Allo
 {
     let mut lists = Vec::new(alloc);
     for k in 0..list.len() {
-        note(
+        note_under(
             alloc,
             &mut lists,
             name_bucket(list.len(), list[k].owner, &list[k].name),
@@ -102,7 +102,7 @@ fn methods_by_name(alloc: Global, list: &[Method]) -> Result<Vec<Vec<usize>>, Al
 {
     let mut lists = Vec::new(alloc);
     for k in 0..list.len() {
-        note(
+        note_under(
             alloc,
             &mut lists,
             name_bucket(list.len(), list[k].owner, &list[k].name),
@@ -118,7 +118,7 @@ fn methods_by_slot(alloc: Global, list: &[Method]) -> Result<Vec<Vec<usize>>, Al
 {
     let mut lists = Vec::new(alloc);
     for k in 0..list.len() {
-        note(
+        note_under(
             alloc,
             &mut lists,
             slot_bucket(list.len(), list[k].owner, list[k].slot),
