@@ -11,10 +11,11 @@ use Rattle.std.proofs.lemmas.Slice.Eq.{bytes_eq-Decides}
 use Rattle.java_core.specs.declared.Field.{Field}
 use Rattle.java_core.specs.declared.Method.{Method}
 use Rattle.java_core.specs.Trees.{no_place}
-use Rattle.java_core.specs.Programs.{field_seen, method_seen}
-use Rattle.java_core.specs.Classes.{is_field_of, is_method_of, has_slot, is_slot}
+use Rattle.java_core.specs.Programs.{Plain, field_seen, method_seen}
+use Rattle.java_core.specs.Own.{offers}
+use Rattle.java_core.specs.Classes.{below, is_field_of, is_method_of, has_slot, is_slot}
 use Rattle.java_core.specs.Owned.{AreOwned, listed, first_among}
-use Rattle.java_core.specs.Tables.{name_bucket, slot_bucket, field_bucket, method_bucket, method_slot_bucket}
+use Rattle.java_core.specs.Tables.{name_bucket, slot_bucket, field_bucket, method_bucket, method_name_bucket, method_slot_bucket}
 use Rattle.java_core.proofs.OwnedLemmas.{own-position}
 
 -- lists by a key have under a key the first item of each test that only items of the key pass
@@ -44,6 +45,13 @@ pub slot_there : (n c s : ℕ) (m : Method) → has_slot c s (method_seen no_pla
 slot_there n c s m e =
     let z = and_parts (m.owner.0 == c) (is_slot m.slot s) e in
     ap (λ k. slot_bucket n k m.slot) (eqb-true m.owner.0 c z.0) ∙ same_slot n c s m.slot z.1
+
+-- an instance method of a name at or above a type is in the bucket of the name
+pub offer_there : (n : ℕ) (P : Plain) (c : ℕ) (x : List ℕ) (m : Method) → offers P c x (method_seen no_place m) ≡ true
+    → method_name_bucket n m ≡ name_bucket n 0 x
+offer_there n P c x m e =
+    let z = and_parts (not m.is_static && bytes_eq m.name x) (below P c m.owner.0) e in
+    ap (name_bucket n 0) ((bytes_eq-Decides m.name x).0 (and_parts (not m.is_static) (bytes_eq m.name x) z.0).1)
 
 -- the owner of a field of a name in a class, of such a method, of a method of a slot
 pub field_owner : (c : ℕ) (x : List ℕ) (f : Field) → is_field_of c x (field_seen no_place f) ≡ true → f.owner.0 ≡ c

@@ -1,5 +1,5 @@
 -- What is found first in the order in which declarations are looked for.
-use Rattle.std.proofs.Common.{◌≡◌, ℕ, suc, zero, ◌+◌, ◌<◌, List, [], ◌∷◌, ◌++◌, length, drop, get_or, Option, Some, None, refl, sym, ap, ◌∙◌, add-one, drop-cons}
+use Rattle.std.proofs.Common.{◌≡◌, ℕ, suc, zero, ◌+◌, List, [], ◌∷◌, ◌++◌, length, Option, Some, None, refl, sym, ap, ◌∙◌}
 use Rattle.std.specs.List.{flat_map}
 use Rattle.std.specs.Option.{option_map, option_map_or, option_and_then}
 use Rattle.kaba_base.specs.declared.ClassId.{ClassId}
@@ -61,17 +61,6 @@ module _ (f : ℕ → Option ℕ) where
         ∙ ap (λ o. first_or o (first_found f (flat_map (λ k. faces_above P n k) (chain P n c)))) (sym (first_found-each (chain P n c))
         ∙ first_found-chain (λ k. k ∷ []) n c ∙ nearest-same (λ k. first_or (f k) None) f (λ k. first_or-none (f k)) n c)
         ∙ ap (first_or (nearest P f n c)) (first_found-chain (λ k. faces_above P n k) n c)
-
-    pub faces_step : (n : ℕ) (xs : List ClassId) (i : ℕ) (d : ClassId) → i < length xs
-        → first_found f (flat_map (λ k. k.0 ∷ faces_above P n k.0) (drop i xs))
-        ≡ first_or (first_or (f (get_or xs i d).0) (first_found f (faces_above P n (get_or xs i d).0)))
-        (first_found f (flat_map (λ k. k.0 ∷ faces_above P n k.0) (drop (i + 1) xs)))
-    faces_step n xs i d h =
-        let k = get_or xs i d in
-        rw (add-one, drop-cons xs i d)
-        (ap (first_or (f k.0)) (first_found-append (faces_above P n k.0) (flat_map (λ k. k.0 ∷ faces_above P n k.0) (drop (suc i) xs)))
-        ∙ sym (first_or-assoc (f k.0) (first_found f (faces_above P n k.0))
-        (first_found f (flat_map (λ k. k.0 ∷ faces_above P n k.0) (drop (suc i) xs)))))
 
 pub declaration_of-found : (P : Plain) (c : ℕ) (x : List ℕ)
     → declaration_of P c x ≡ first_or (nearest_of P (λ k. own_method P k x) c)

@@ -1,7 +1,7 @@
 -- Subtyping as a test and as a relation, and what is nearest along the superclasses: each way is the other.
 use Rattle.std.proofs.Common.{◌≡◌, ℕ, suc, zero, ◌+◌, ◌-◌, ◌<◌, ◌≤◌, ◌⊎◌, true, false, List, [], ◌∷◌, eqb, length, Option, Some, None, Contains, refl, sym, ◌∙◌, subst, arith, ⊎_elim, inl, inr}
 use Rattle.std.specs.List.{IsDistinct, AllByRecursion, list_any}
-use Rattle.std.specs.Option.{option_and_then}
+use Rattle.std.specs.Option.{option_and_then, option_map, is_some}
 use Rattle.std.proofs.lemmas.Bool.{or_cases, or_left, or_right, eqb-true, eq-eqb, ne_eqb, false≢true, cases_lt}
 use Rattle.std.proofs.lemmas.List.Folds.{Any-from_list_any, list_any-from_Any}
 use Rattle.std.proofs.lemmas.Map.Keys.{IsDistinct-cons}
@@ -137,14 +137,12 @@ module _ (P : Plain) where
     nearest-nearest_of acyclic {a} h = nearest-all acyclic (length P.classes) [] h (omega arith) (none_passed a)
 
     -- where a class has nothing of its own, what its superclass has
-    pub nearest-up : (n a : ℕ) (p : ClassId) → 0 < n → own a ≡ None → parent_of P a ≡ Some p → nearest P own n a ≡ nearest P own (n - 1) p.0
-    nearest-up zero a p lt none at = absurd (omega (arith, lt))
-    nearest-up (suc n) a p lt none at = let one : suc n - 1 ≡ n = omega arith in rw (none, at, one) refl
+    pub nearest-up : {D : Type 0} (number : D → ℕ) (n a : ℕ) (o : Option D) (p : ClassId) → (n ≡ 0 → ⊥) → option_map number o ≡ own a → is_some o ≡ false
+        → parent_of P a ≡ Some p → nearest P own (n - 1) p.0 ≡ nearest P own n a
+    nearest-up number n a (Some d) p more here none at = absurd (cc none)
+    nearest-up number zero a None p more here none at = absurd (more refl)
+    nearest-up number (suc n) a None p more here none at = let one : suc n - 1 ≡ n = omega arith in rw (sym here, at, one) refl
 
     pub nearest-here : (n a d : ℕ) → own a ≡ Some d → nearest P own n a ≡ Some d
     nearest-here zero a d e = e
     nearest-here (suc n) a d e = rw e
-
-    pub nearest-none : (n a : ℕ) → own a ≡ None → (n ≡ 0) ⊎ (parent_of P a ≡ None) → nearest P own n a ≡ None
-    nearest-none zero a none h = none
-    nearest-none (suc n) a none h = rw none (⊎_elim (λ e. absurd (omega (arith, e))) (λ e. rw e) h)

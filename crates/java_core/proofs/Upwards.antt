@@ -104,8 +104,8 @@ module _ (P : Plain) where
       pub nearest-there : (c : ℕ) → IsThere (own c) → IsThere (nearest_of P own c)
       nearest-there c (d, e) = (d, nearest-nearest_of P own formed.acyclic (at_class e))
 
-      pub nearest-up : (c : ℕ) (p : ClassId) → parent_of P c ≡ Some p → IsThere (nearest_of P own p.0) → IsThere (nearest_of P own c)
-      nearest-up c p up (d, e) = split (own c) refl
+      pub there-up : (c : ℕ) (p : ClassId) → parent_of P c ≡ Some p → IsThere (nearest_of P own p.0) → IsThere (nearest_of P own c)
+      there-up c p up (d, e) = split (own c) refl
         where
           split : (o : Option ℕ) → own c ≡ o → IsThere (nearest_of P own c)
           split (Some y) e = nearest-there c (y, e)
@@ -114,4 +114,4 @@ module _ (P : Plain) where
       -- what a class with members has of its own, each class below it finds, that or another
       pub chain-there : {c h d : ℕ} → IsOnChain c h → own h ≡ Some d → IsThere (nearest_of P own c)
       chain-there {c} {d = d} chain_here e = nearest-there c (d, e)
-      chain-there {c} (chain_up {p = p} up rest) e = nearest-up c p up (chain-there rest e)
+      chain-there {c} (chain_up {p = p} up rest) e = there-up c p up (chain-there rest e)

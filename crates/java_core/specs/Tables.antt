@@ -30,6 +30,10 @@ field_bucket members f = name_bucket members f.owner.0 f.name
 abbrev pub method_bucket : ℕ → Method → ℕ
 method_bucket members m = name_bucket members m.owner.0 m.name
 
+-- that of a method's name alone
+abbrev pub method_name_bucket : ℕ → Method → ℕ
+method_name_bucket members m = name_bucket members 0 m.name
+
 abbrev pub method_slot_bucket : ℕ → Method → ℕ
 method_slot_bucket members m = slot_bucket members m.owner.0 m.slot
 
@@ -40,3 +44,4 @@ pub record AreTables (fields : List Field) (methods : List Method) (t : Tables) 
   pub fields_by_name : AreOwned (map (λ f. field_bucket (length fields) f) fields) t.fields_by_name.items
   pub methods_by_name : AreOwned (map (λ m. method_bucket (length methods) m) methods) t.methods_by_name.items
   pub methods_by_slot : AreOwned (map (λ m. method_slot_bucket (length methods) m) methods) t.methods_by_slot.items
+  pub methods_named : AreOwned (map (λ m. method_name_bucket (length methods) m) methods) t.methods_named.items

@@ -4,13 +4,13 @@ ghost use Rattle.std.specs.Prelude.{◌≡◌, ℕ, ◌<◌, ◌↔◌, length, 
 ghost use Rattle.std.specs.Option.{option_map};
 ghost use Rattle.java_core.specs.Trees.{no_place};
 ghost use Rattle.java_core.specs.Programs.{program_of};
-ghost use Rattle.java_core.specs.Classes.{IsSubclass, below, parent_of, faces_of, field_of, member_field, is_static_field, own_method, nearest, faces_above, first_or, first_found, declaration_of, slot_of_method, slot_of, lookup, nearest_declaration, super_method};
+ghost use Rattle.java_core.specs.Classes.{IsSubclass, below, parent_of, faces_of, field_of, member_field, is_static_field, own_method, nearest, faces_above, first_found, declaration_of, slot_of_method, slot_of, lookup, nearest_declaration, super_method};
 ghost use Rattle.java_core.specs.Found.{Runs, IsOffered};
-ghost use Rattle.java_core.specs.Own.{own_named, own_of_slot};
+ghost use Rattle.java_core.specs.Own.{own_named, own_of_slot, towards};
 ghost use Rattle.java_core.specs.Formed.{IsFormed};
 
 use crate::Program;
-use crate::own::{own_body_at, own_declaration_at, own_field_at, own_method_at};
+use crate::own::{offered_at, own_body_at, own_declaration_at, own_field_at, own_method_at};
 use kaba_base::{ClassId, MemberId, Name};
 
 /// Whether a class or interface is at or below another (Java Language Specification, 4.10.2).
@@ -124,33 +124,41 @@ pub fn declaration_of(p: &Program, class: ClassId, name: &Name) -> Option<Member
     }
 }
 
-/// What an interface and those above it declare of a name, within so many steps upwards.
-#[cycle(in_faces)]
-fn in_face(p: &Program, face: ClassId, name: &Name, left: usize) -> Option<MemberId>
+/// The first of the interfaces directly above one at or above which an instance method of the name stands.
+fn face_towards(p: &Program, class: ClassId, name: &Name) -> Option<ClassId>
     requires { IsFormed (program_of no_place p.now) }
-    ensures { option_map (λ d. d.0) result ≡ first_or (own_method (program_of no_place p.now) face.0 name.now) (first_found (λ k. own_method (program_of no_place p.now) k name.now) (faces_above (program_of no_place p.now) left face.0)) }
+    ensures { result ≡ towards (program_of no_place p.now) name.now (faces_of (program_of no_place p.now) class.0) }
 {
-    match own_method(p, face, name) {
-        Some(own) => Some(own),
-        None => in_faces(p, face, name, left),
-    }
-}
-
-/// What the interfaces above a class or an interface declare of a name, within so many steps upwards.
-#[cycle(in_faces)]
-fn in_faces(p: &Program, class: ClassId, name: &Name, left: usize) -> Option<MemberId>
-    requires { IsFormed (program_of no_place p.now) }
-    ensures { option_map (λ d. d.0) result ≡ first_found (λ k. own_method (program_of no_place p.now) k name.now) (faces_above (program_of no_place p.now) left class.0) }
-{
-    if left == 0 {
-        return None;
-    }
     for face in faces_of(p, class) {
-        if let Some(found) = in_face(p, *face, name, left - 1) {
-            return Some(found);
+        if offered_at(p, *face, name).is_some() {
+            return Some(*face);
         }
     }
     None
+}
+
+/// What the interfaces above a class or an interface declare of a name, the first in the order of the search.
+fn in_faces(p: &Program, class: ClassId, name: &Name) -> Option<MemberId>
+    requires { IsFormed (program_of no_place p.now) }
+    ensures { option_map (λ d. d.0) result ≡ first_found (λ k. own_method (program_of no_place p.now) k name.now)
+        (faces_above (program_of no_place p.now) (length (program_of no_place p.now).classes) class.0) }
+{
+    let mut at = class;
+    let mut steps = class_count(p);
+    'up: loop {
+        if steps == 0 {
+            return None;
+        }
+        let Some(face) = face_towards(p, at, name) else {
+            return None;
+        };
+        let own = own_method(p, face, name);
+        if own.is_some() {
+            return own;
+        }
+        at = face;
+        steps -= 1;
+    }
 }
 
 /// The slot that a type offers under a name.
@@ -163,22 +171,25 @@ pub fn slot_of(p: &Program, class: ClassId, name: &Name) -> Option<u32>
     declared_slot(p, class, name)
 }
 
-/// The slot of the declaration found.
+/// The slot that a type offers under a name: that of its own method, else of any at or above it, since these are all of one slot.
 fn declared_slot(p: &Program, class: ClassId, name: &Name) -> Option<u32>
     requires { IsFormed (program_of no_place p.now) }
     ensures { result ≡ slot_of (program_of no_place p.now) class.0 name.now }
 {
-    match declaration_of(p, class, name) {
-        Some(method) => slot_of_method(p, method),
+    if let Some(own) = own_method(p, class, name) {
+        return slot_of_method(p, own.0 as usize);
+    }
+    match offered_at(p, class, name) {
+        Some(at) => slot_of_method(p, at),
         None => None,
     }
 }
 
 /// The slot of an instance method.
-fn slot_of_method(p: &Program, method: MemberId) -> Option<u32>
-    ensures { result ≡ slot_of_method (program_of no_place p.now) method.0 }
+fn slot_of_method(p: &Program, at: usize) -> Option<u32>
+    ensures { result ≡ slot_of_method (program_of no_place p.now) at }
 {
-    match p.methods.get(method.0 as usize) {
+    match p.methods.get(at) {
         Some(method) => method.slot,
         None => None,
     }
@@ -206,13 +217,18 @@ fn nearest_named(
     requires { IsFormed (program_of no_place p.now) }
     ensures { option_map (λ d. d.0) result ≡ nearest (program_of no_place p.now) (λ k. own_named (program_of no_place p.now) kind k name.now) left class.0 }
 {
-    let own = own_named(p, class, name, kind);
-    if own.is_some() || left == 0 {
-        return own;
-    }
-    match parent_of(p, class) {
-        Some(parent) => nearest_named(p, parent, name, kind, left - 1),
-        None => None,
+    let mut at = class;
+    let mut steps = left;
+    'up: loop {
+        let own = own_named(p, at, name, kind);
+        if own.is_some() || steps == 0 {
+            return own;
+        }
+        let Some(parent) = parent_of(p, at) else {
+            return None;
+        };
+        at = parent;
+        steps -= 1;
     }
 }
 
@@ -224,7 +240,7 @@ fn own_named(p: &Program, class: ClassId, name: &Name, kind: Named) -> Option<Me
     match kind {
         Named::Field => member(own_field_at(p, class, name)),
         Named::Method => own_method(p, class, name),
-        Named::OfFaces => in_faces(p, class, name, class_count(p)),
+        Named::OfFaces => in_faces(p, class, name),
     }
 }
 
@@ -267,13 +283,18 @@ fn nearest_of_slot(
     requires { IsFormed (program_of no_place p.now) }
     ensures { option_map (λ d. d.0) result ≡ nearest (program_of no_place p.now) (λ k. own_of_slot (program_of no_place p.now) kind k slot) left class.0 }
 {
-    let own = own_of_slot(p, class, slot, kind);
-    if own.is_some() || left == 0 {
-        return own;
-    }
-    match parent_of(p, class) {
-        Some(parent) => nearest_of_slot(p, parent, slot, kind, left - 1),
-        None => None,
+    let mut at = class;
+    let mut steps = left;
+    'up: loop {
+        let own = own_of_slot(p, at, slot, kind);
+        if own.is_some() || steps == 0 {
+            return own;
+        }
+        let Some(parent) = parent_of(p, at) else {
+            return None;
+        };
+        at = parent;
+        steps -= 1;
     }
 }
 

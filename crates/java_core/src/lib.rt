@@ -24,7 +24,7 @@ pub use classes::{
 };
 use java_lex::Units;
 use kaba_base::{ClassId, MemberId, Name, Place};
-pub use owned::declared_fields;
+pub use owned::{declared_fields, listed_under, note_under};
 pub use statics::{
     Static, StringMethod, access_type, binary_type, class_in, class_of, element_in, element_of,
     field_in, field_type, given_of, is_length, is_string, local_type, plain_type, slot_in,

@@ -1,14 +1,17 @@
 //! The members that a class or an interface itself has, by name and by slot.
 #![tactic(auto)]
 
-ghost use Rattle.std.specs.Prelude.{◌≡◌, ◌<◌, ◌&&◌, length, IfSome, slice_get, position};
+ghost use Rattle.std.specs.Prelude.{◌≡◌, ℕ, ◌<◌, ◌&&◌, length, IfSome, slice_get, position};
 ghost use Rattle.std.specs.Option.{is_some};
 ghost use Rattle.java_core.specs.Trees.{no_place};
-ghost use Rattle.java_core.specs.Programs.{field_seen, method_seen};
+ghost use Rattle.java_core.specs.Programs.{program_of, field_seen, method_seen};
 ghost use Rattle.java_core.specs.Classes.{is_field_of, is_method_of, has_slot};
+ghost use Rattle.java_core.specs.Own.{offers, offered};
 ghost use Rattle.java_core.specs.Owned.{passes, first_among};
+ghost use Rattle.java_core.specs.Formed.{IsFormed};
 
-use crate::owned::listed;
+use crate::classes::is_subtype;
+use crate::owned::listed_under;
 use crate::tables::{name_bucket, slot_bucket};
 use crate::{Field, Method, Program};
 use kaba_base::{ClassId, Name};
@@ -21,11 +24,11 @@ fn fields_of<'a>(p: &'a Program, class: ClassId, name: &Name) -> &'a [usize]
     ensures { first_among (λ f. is_field_of class.0 name.now (field_seen no_place f)) p.now.fields.items result.now
         ≡ position (λ f. is_field_of class.0 name.now (field_seen no_place f)) p.now.fields.items }
 {
-    let own = listed(&p.tables.own_fields, class.0 as usize);
+    let own = listed_under(&p.tables.own_fields, class.0 as usize);
     if own.len() <= FEW {
         return own;
     }
-    listed(
+    listed_under(
         &p.tables.fields_by_name,
         name_bucket(p.fields.len(), class, name),
     )
@@ -36,11 +39,11 @@ fn methods_of<'a>(p: &'a Program, class: ClassId, name: &Name) -> &'a [usize]
     ensures { first_among (λ m. is_method_of class.0 name.now (method_seen no_place m)) p.now.methods.items result.now
         ≡ position (λ m. is_method_of class.0 name.now (method_seen no_place m)) p.now.methods.items }
 {
-    let own = listed(&p.tables.own_methods, class.0 as usize);
+    let own = listed_under(&p.tables.own_methods, class.0 as usize);
     if own.len() <= FEW {
         return own;
     }
-    listed(
+    listed_under(
         &p.tables.methods_by_name,
         name_bucket(p.methods.len(), class, name),
     )
@@ -53,11 +56,11 @@ fn methods_in(p: &Program, class: ClassId, slot: u32) -> &[usize]
     ensures body { first_among (λ m. has_slot class.0 slot (method_seen no_place m) && is_some (method_seen no_place m).body) p.now.methods.items result.now
         ≡ position (λ m. has_slot class.0 slot (method_seen no_place m) && is_some (method_seen no_place m).body) p.now.methods.items }
 {
-    let own = listed(&p.tables.own_methods, class.0 as usize);
+    let own = listed_under(&p.tables.own_methods, class.0 as usize);
     if own.len() <= FEW {
         return own;
     }
-    listed(
+    listed_under(
         &p.tables.methods_by_slot,
         slot_bucket(p.methods.len(), class, Some(slot)),
     )
@@ -210,4 +213,55 @@ fn is_body_of(method: &Method, class: ClassId, slot: u32) -> bool
     ensures { result ≡ has_slot class.0 slot (method_seen no_place method.now) && is_some (method_seen no_place method.now).body }
 {
     is_declaration_of(method, class, slot) && method.body.is_some()
+}
+
+/// The methods among which each instance method of a name is.
+fn methods_named<'a>(p: &'a Program, name: &Name) -> &'a [usize]
+    ensures { (c : ℕ) → first_among (λ m. offers (program_of no_place p.now) c name.now (method_seen no_place m)) p.now.methods.items result.now
+        ≡ position (λ m. offers (program_of no_place p.now) c name.now (method_seen no_place m)) p.now.methods.items }
+{
+    listed_under(
+        &p.tables.methods_named,
+        name_bucket(p.methods.len(), ClassId(0), name),
+    )
+}
+
+/// Whether a method is an instance method of the name that stands at or above a type.
+fn offers(p: &Program, method: &Method, class: ClassId, name: &Name) -> bool
+    requires { IsFormed (program_of no_place p.now) }
+    ensures { result ≡ offers (program_of no_place p.now) class.0 name.now (method_seen no_place method.now) }
+{
+    !method.is_static && method.name.same(name) && is_subtype(p, class, method.owner)
+}
+
+/// The same of the method of a number.
+fn offers_at(p: &Program, at: usize, class: ClassId, name: &Name) -> bool
+    requires { IsFormed (program_of no_place p.now) }
+    ensures { result ≡ passes (λ m. offers (program_of no_place p.now) class.0 name.now (method_seen no_place m)) (slice_get p.now.methods.items at) }
+{
+    match p.methods.get(at) {
+        Some(method) => offers(p, method, class, name),
+        None => false,
+    }
+}
+
+/// The first of these methods that is an instance method of the name and stands at or above a type.
+fn offered_among(p: &Program, list: &[usize], class: ClassId, name: &Name) -> Option<usize>
+    requires { IsFormed (program_of no_place p.now) }
+    ensures { result ≡ first_among (λ m. offers (program_of no_place p.now) class.0 name.now (method_seen no_place m)) p.now.methods.items list.now }
+{
+    for at in list {
+        if offers_at(p, *at, class, name) {
+            return Some(*at);
+        }
+    }
+    None
+}
+
+/// The number of the first instance method of a name that stands at or above a type.
+pub fn offered_at(p: &Program, class: ClassId, name: &Name) -> Option<usize>
+    requires { IsFormed (program_of no_place p.now) }
+    ensures { result ≡ offered (program_of no_place p.now) class.0 name.now }
+{
+    offered_among(p, methods_named(p, name), class, name)
 }

@@ -29,7 +29,7 @@ fn put(lists: &mut Vec<Vec<usize>>, at: usize, number: usize) -> Result<(), Allo
 }
 
 /// One number more in the list of a number; `AllocError` where memory is short.
-pub fn note(
+pub fn note_under(
     alloc: Global,
     lists: &mut Vec<Vec<usize>>,
     at: usize,
@@ -47,7 +47,7 @@ pub fn own_fields(alloc: Global, list: &[Field]) -> Result<Vec<Vec<usize>>, Allo
 {
     let mut lists = Vec::new(alloc);
     for k in 0..list.len() {
-        note(alloc, &mut lists, list[k].owner.0 as usize, k)?;
+        note_under(alloc, &mut lists, list[k].owner.0 as usize, k)?;
     }
     Ok(lists)
 }
@@ -58,13 +58,13 @@ pub fn own_methods(alloc: Global, list: &[Method]) -> Result<Vec<Vec<usize>>, Al
 {
     let mut lists = Vec::new(alloc);
     for k in 0..list.len() {
-        note(alloc, &mut lists, list[k].owner.0 as usize, k)?;
+        note_under(alloc, &mut lists, list[k].owner.0 as usize, k)?;
     }
     Ok(lists)
 }
 
 /// The numbers that lists have under a number.
-pub fn listed(lists: &Vec<Vec<usize>>, at: usize) -> &[usize]
+pub fn listed_under(lists: &Vec<Vec<usize>>, at: usize) -> &[usize]
     ensures { result.now ≡ listed lists.now.items at }
 {
     match lists.get(at) {
@@ -77,5 +77,5 @@ pub fn listed(lists: &Vec<Vec<usize>>, at: usize) -> &[usize]
 pub fn declared_fields(p: &Program, class: ClassId) -> &[usize]
     ensures { result.now ≡ owned_from 0 class.0 (map (λ f. f.owner.0) p.now.fields.items) }
 {
-    listed(&p.tables.own_fields, class.0 as usize)
+    listed_under(&p.tables.own_fields, class.0 as usize)
 }

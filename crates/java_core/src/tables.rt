@@ -1,11 +1,11 @@
-//! The members of a program by owner, by owner and name, and by owner and slot.
+//! The members of a program by owner, by owner and name, and by owner and slot, and the methods by name.
 #![tactic(auto)]
 
 ghost use Rattle.std.specs.Prelude.{◌≡◌, ◌+◌, ◌/◌, ◌<◌, length, map, IfOk};
 ghost use Rattle.java_core.specs.Owned.{AreOwned};
-ghost use Rattle.java_core.specs.Tables.{AreTables, mixed, mixed_all, name_bucket, slot_bucket, field_bucket, method_bucket, method_slot_bucket};
+ghost use Rattle.java_core.specs.Tables.{AreTables, mixed, mixed_all, name_bucket, slot_bucket, field_bucket, method_bucket, method_name_bucket, method_slot_bucket};
 
-use crate::owned::{note, own_fields, own_methods};
+use crate::owned::{note_under, own_fields, own_methods};
 use crate::{Field, Method};
 use kaba_base::{ClassId, Name};
 use std::alloc::{AllocError, Global};
@@ -23,6 +23,8 @@ pub struct Tables {
     pub methods_by_name: Vec<Vec<usize>>,
     /// For each bucket the methods of its owners and slots.
     pub methods_by_slot: Vec<Vec<usize>>,
+    /// For each bucket the methods of its names.
+    pub methods_named: Vec<Vec<usize>>,
 }
 
 impl Tables {
@@ -36,6 +38,7 @@ impl Tables {
             fields_by_name: fields_by_name(alloc, fields)?,
             methods_by_name: methods_by_name(alloc, methods)?,
             methods_by_slot: methods_by_slot(alloc, methods)?,
+            methods_named: methods_named(alloc, methods)?,
         })
     }
 }
@@ -86,7 +89,7 @@ fn fields_by_name(alloc: Global, list: &[Field]) -> Result<Vec<Vec<usize>>, Allo
 {
     let mut lists = Vec::new(alloc);
     for k in 0..list.len() {
-        note(
+        note_under(
             alloc,
             &mut lists,
             name_bucket(list.len(), list[k].owner, &list[k].name),
@@ -102,7 +105,7 @@ fn methods_by_name(alloc: Global, list: &[Method]) -> Result<Vec<Vec<usize>>, Al
 {
     let mut lists = Vec::new(alloc);
     for k in 0..list.len() {
-        note(
+        note_under(
             alloc,
             &mut lists,
             name_bucket(list.len(), list[k].owner, &list[k].name),
@@ -118,10 +121,26 @@ fn methods_by_slot(alloc: Global, list: &[Method]) -> Result<Vec<Vec<usize>>, Al
 {
     let mut lists = Vec::new(alloc);
     for k in 0..list.len() {
-        note(
+        note_under(
             alloc,
             &mut lists,
             slot_bucket(list.len(), list[k].owner, list[k].slot),
+            k,
+        )?;
+    }
+    Ok(lists)
+}
+
+/// The methods by name; `AllocError` where memory is short.
+fn methods_named(alloc: Global, list: &[Method]) -> Result<Vec<Vec<usize>>, AllocError>
+    ensures { IfOk result (λ v. AreOwned (map (λ m. method_name_bucket (length list.now) m) list.now) v.items) }
+{
+    let mut lists = Vec::new(alloc);
+    for k in 0..list.len() {
+        note_under(
+            alloc,
+            &mut lists,
+            name_bucket(list.len(), ClassId(0), &list[k].name),
             k,
         )?;
     }

@@ -11,7 +11,7 @@ use Rattle.java_core.proofs.own.fields_of.Goals as goal
 pub returns-then-own-le-FEW : goal.returns-then-own-le-FEW
 returns-then-own-le-FEW c =
     let p : Field → Bool = λ f. is_field_of c.args.class.0 c.args.name.now (field_seen no_place f) in
-    ap (first_among p c.args.p.now.fields.items) c.listed-own.ensures
+    ap (first_among p c.args.p.now.fields.items) c.listed_under-own.ensures
     ∙ keyed (λ f. f.owner.0) p c.args.class.0 c.args.p.now.fields.items c.args.p.now.tables.own_fields.items c.args.p.now.tables_shown.own_fields
     (field_owner c.args.class.0 c.args.name.now)
 
@@ -22,7 +22,7 @@ returns c =
     let many : vec_len c.args.p.now.fields ≡ length c.args.p.now.fields.items = search rules in
     let bucket = name_bucket n c.args.class.0 c.args.name.now in
     let lists = c.args.p.now.tables.fields_by_name.items in
-    ap (first_among p c.args.p.now.fields.items) (c.listed.ensures
+    ap (first_among p c.args.p.now.fields.items) (c.listed_under.ensures
     ∙ ap (listed lists) (c.name_bucket.ensures ∙ ap (λ k. name_bucket k c.args.class.0 c.args.name.now) (c.len.ensures ∙ many)))
     ∙ keyed (field_bucket n) p bucket c.args.p.now.fields.items lists c.args.p.now.tables_shown.fields_by_name
     (field_there n c.args.class.0 c.args.name.now)

@@ -12,14 +12,14 @@ use Rattle.java_core.proofs.own.methods_in.Goals as goal
 pub returns-then-own-le-FEW-clause-declaration : goal.returns-then-own-le-FEW-clause-declaration
 returns-then-own-le-FEW-clause-declaration c =
     let p : Method → Bool = λ m. has_slot c.args.class.0 c.args.slot (method_seen no_place m) in
-    ap (first_among p c.args.p.now.methods.items) c.listed-own.ensures
+    ap (first_among p c.args.p.now.methods.items) c.listed_under-own.ensures
     ∙ keyed (λ m. m.owner.0) p c.args.class.0 c.args.p.now.methods.items c.args.p.now.tables.own_methods.items c.args.p.now.tables_shown.own_methods
     (slot_owner c.args.class.0 c.args.slot)
 
 pub returns-then-own-le-FEW-clause-body : goal.returns-then-own-le-FEW-clause-body
 returns-then-own-le-FEW-clause-body c =
     let p : Method → Bool = λ m. has_slot c.args.class.0 c.args.slot (method_seen no_place m) && is_some (method_seen no_place m).body in
-    ap (first_among p c.args.p.now.methods.items) c.listed-own.ensures
+    ap (first_among p c.args.p.now.methods.items) c.listed_under-own.ensures
     ∙ keyed (λ m. m.owner.0) p c.args.class.0 c.args.p.now.methods.items c.args.p.now.tables.own_methods.items c.args.p.now.tables_shown.own_methods
     (λ m e. slot_owner c.args.class.0 c.args.slot m (body_slot c.args.class.0 c.args.slot m e))
 
@@ -30,7 +30,7 @@ returns-clause-declaration c =
     let many : vec_len c.args.p.now.methods ≡ length c.args.p.now.methods.items = search rules in
     let bucket = slot_bucket n c.args.class.0 (Some c.args.slot) in
     let lists = c.args.p.now.tables.methods_by_slot.items in
-    ap (first_among p c.args.p.now.methods.items) (c.listed.ensures
+    ap (first_among p c.args.p.now.methods.items) (c.listed_under.ensures
     ∙ ap (listed lists) (c.slot_bucket.ensures ∙ ap (λ k. slot_bucket k c.args.class.0 (Some c.args.slot)) (c.len.ensures ∙ many)))
     ∙ keyed (method_slot_bucket n) p bucket c.args.p.now.methods.items lists c.args.p.now.tables_shown.methods_by_slot
     (slot_there n c.args.class.0 c.args.slot)
@@ -42,7 +42,7 @@ returns-clause-body c =
     let many : vec_len c.args.p.now.methods ≡ length c.args.p.now.methods.items = search rules in
     let bucket = slot_bucket n c.args.class.0 (Some c.args.slot) in
     let lists = c.args.p.now.tables.methods_by_slot.items in
-    ap (first_among p c.args.p.now.methods.items) (c.listed.ensures
+    ap (first_among p c.args.p.now.methods.items) (c.listed_under.ensures
     ∙ ap (listed lists) (c.slot_bucket.ensures ∙ ap (λ k. slot_bucket k c.args.class.0 (Some c.args.slot)) (c.len.ensures ∙ many)))
     ∙ keyed (method_slot_bucket n) p bucket c.args.p.now.methods.items lists c.args.p.now.tables_shown.methods_by_slot
     (λ m e. slot_there n c.args.class.0 c.args.slot m (body_slot c.args.class.0 c.args.slot m e))

@@ -11,7 +11,7 @@ use Rattle.java_core.proofs.own.methods_of.Goals as goal
 pub returns-then-own-le-FEW : goal.returns-then-own-le-FEW
 returns-then-own-le-FEW c =
     let p : Method → Bool = λ m. is_method_of c.args.class.0 c.args.name.now (method_seen no_place m) in
-    ap (first_among p c.args.p.now.methods.items) c.listed-own.ensures
+    ap (first_among p c.args.p.now.methods.items) c.listed_under-own.ensures
     ∙ keyed (λ m. m.owner.0) p c.args.class.0 c.args.p.now.methods.items c.args.p.now.tables.own_methods.items c.args.p.now.tables_shown.own_methods
     (method_owner c.args.class.0 c.args.name.now)
 
@@ -22,7 +22,7 @@ returns c =
     let many : vec_len c.args.p.now.methods ≡ length c.args.p.now.methods.items = search rules in
     let bucket = name_bucket n c.args.class.0 c.args.name.now in
     let lists = c.args.p.now.tables.methods_by_name.items in
-    ap (first_among p c.args.p.now.methods.items) (c.listed.ensures
+    ap (first_among p c.args.p.now.methods.items) (c.listed_under.ensures
     ∙ ap (listed lists) (c.name_bucket.ensures ∙ ap (λ k. name_bucket k c.args.class.0 c.args.name.now) (c.len.ensures ∙ many)))
     ∙ keyed (method_bucket n) p bucket c.args.p.now.methods.items lists c.args.p.now.tables_shown.methods_by_name
     (method_there n c.args.class.0 c.args.name.now)
