@@ -51,7 +51,8 @@ appended k n text b (e ∷ es) is none = go (bytes_eq (chars (string_bytes e.0))
     other : string_eq text e.0 ≡ bytes_eq (chars (string_bytes e.0)) n
     other = ap (λ z. bytes_eq z (string_bytes e.0)) is ∙ same-text n e.0
 
-    go : (c : Bool) → bytes_eq (chars (string_bytes e.0)) n ≡ c → (position_from (λ k. bytes_eq k.name n) (k + 1) (map known_seen es) ≡ None → insert_entry string_eq es text b
+    go : (c : Bool) → bytes_eq (chars (string_bytes e.0)) n ≡ c → (position_from (λ k. bytes_eq k.name n) (k + 1) (map known_seen es) ≡ None
+        → insert_entry string_eq es text b
         ≡ es ++ (text, b) ∷ []) → insert_entry string_eq (e ∷ es) text b ≡ e ∷ (es ++ (text, b) ∷ [])
     go true f more = absurd (cc (sym (ap (λ z. cond z (Some k) (position_from (λ k. bytes_eq k.name n) (k + 1) (map known_seen es))) f) ∙ none))
     go false f more =
@@ -62,7 +63,8 @@ known-more : (n : List ℕ) (text : String Global) (b : Bool) (es : List (String
     → number_of (map known_seen es) n ≡ None
     → map known_seen (insert_entry string_eq es text b) ≡ map known_seen es ++ record { name = n; is_interface = b } ∷ []
 known-more n text b es is none =
-    ap (map known_seen) (appended 0 n text b es is (sym (position-from (λ k. bytes_eq k.name n) (map known_seen es)) ∙ none)) ∙ map-append known_seen es ((text, b) ∷ [])
+    ap (map known_seen) (appended 0 n text b es is (sym (position-from (λ k. bytes_eq k.name n) (map known_seen es)) ∙ none))
+    ∙ map-append known_seen es ((text, b) ∷ [])
     ∙ ap (λ z. map known_seen es ++ record { name = z; is_interface = b } ∷ [])
     (sym (chars_from_encodes n (string_bytes text) (IsUtf8-had (string_bytes text) text.ok) (sym is)))
 

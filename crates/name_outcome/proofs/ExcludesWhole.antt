@@ -64,7 +64,8 @@ module _ (tree : List DeclTree) (s : Steps tree) where
   res = program-resolves tree s
 
   -- a method of the outline is one of the program's
-  method-of : (i : ℕ) (h : PlainMethod) → slice_get (outline tree).methods i ≡ Some h → (k : PlainMethod) × (slice_get s.methods i ≡ Some k) × (heading_of k ≡ h)
+  method-of : (i : ℕ) (h : PlainMethod) → slice_get (outline tree).methods i ≡ Some h → (k : PlainMethod) × (slice_get s.methods i ≡ Some k)
+      × (heading_of k ≡ h)
   method-of i h e = map-stands heading_of s.methods i h (ap (λ z. slice_get z i) res.headings ∙ e)
 
   -- two methods of one name that meet are of one slot

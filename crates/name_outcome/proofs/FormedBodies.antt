@@ -341,7 +341,8 @@ module _ (O : Plain) (here : Here) (K : PlainMethod) (Q : Plain) (k : PlainMetho
     good-st (r_print h) g = tt
     good-st (r_choose h) g = good-arms h g.1 g.2
     good-st (r_while {xs = xs} h i) g = good-sts i g.1
-    good-st (r_for {f = begin} {g = next} {first = first} {step = step} {xs = xs} f v t h) g = good-both (declares_all first ++ declares_all step) (declares_all xs)
+    good-st (r_for {f = begin} {g = next} {first = first} {step = step} {xs = xs} f v t h) g =
+        good-both (declares_all first ++ declares_all step) (declares_all xs)
         (good-both (declares_all first) (declares_all step) (good-part f (of-first begin g.0)) (good-part t (of-step next g.2))) (good-sts h g.3)
     good-st (r_return h) g = tt
     good-st r_break g = tt

@@ -135,7 +135,8 @@ module _ (tree : List DeclTree) (s : Steps tree) where
       → h.name ≡ k.name → f ≡ g
   formed-field_names f g h k e d o same =
       let a = field-at f h e in let b = field-at g k d in
-      s.members.field_once f g a.0 b.0 a.1 b.1 (ap (λ z. z.owner) a.2 ∙ o ∙ sym (ap (λ z. z.owner) b.2)) (ap (λ z. z.name) a.2 ∙ same ∙ sym (ap (λ z. z.name) b.2))
+      s.members.field_once f g a.0 b.0 a.1 b.1 (ap (λ z. z.owner) a.2 ∙ o ∙ sym (ap (λ z. z.owner) b.2)) (ap (λ z. z.name) a.2 ∙ same
+      ∙ sym (ap (λ z. z.name) b.2))
 
   -- ---- methods
 

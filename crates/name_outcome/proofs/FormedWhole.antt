@@ -103,7 +103,8 @@ module _ (tree : List DeclTree) (s : Steps tree) where
       static-of h x k n e (none_of f g) t = absurd (cc (sym g ∙ t))
       static-of h x k n e (one_of f g d o) t = ap (λ z. z.is_static) e ∙ f
 
-  all-one-slot : (c i j : ℕ) (h k : PlainMethod) → slice_get (R tree s).methods i ≡ Some h → slice_get (R tree s).methods j ≡ Some k → IsSubclass (R tree s) c h.owner
+  all-one-slot : (c i j : ℕ) (h k : PlainMethod) → slice_get (R tree s).methods i ≡ Some h → slice_get (R tree s).methods j ≡ Some k
+      → IsSubclass (R tree s) c h.owner
       → IsSubclass (R tree s) c k.owner → h.name ≡ k.name → (i ≡ j) ⊎ ((h.is_static ≡ false) × (h.slot ≡ k.slot))
   all-one-slot c i j h k e f u v same =
       let a = method-of i h e in let b = method-of j k f in
