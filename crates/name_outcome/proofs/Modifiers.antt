@@ -89,6 +89,9 @@ noted-taken f keys.Abstract keys.Private = or-true f.is_private
 noted-taken f keys.Abstract keys.Static = or-true f.is_static
 noted-taken f keys.Private keys.Abstract = ap (λ z. z || f.is_static) (or-true f.is_abstract)
 noted-taken f keys.Static keys.Abstract = or-true (f.is_abstract || f.is_private)
+noted-taken f keys.Public keys.Public = refl
+noted-taken f keys.Protected keys.Protected = refl
+noted-taken f keys.Final keys.Final = refl
 noted-taken f _ _ = refl
 
 flags-push : (mods : List Modifier) (f : Flags) (m : Modifier) → FlagsAre mods f → FlagsAre (mods ++ m ∷ []) (noted f m.word)
