@@ -51,11 +51,13 @@ position-push : {A : Type 0} (p : A → Bool) (k : ℕ) (xs : List A) (x : A) �
     ≡ first_or (position_from p k xs) (cond (p x) (Some (k + length xs)) None)
 position-push p k [] x = ap (λ j. cond (p x) (Some j) None) (omega arith)
 position-push p k (y ∷ xs) x =
-    go (p y) (position-push p (k + 1) xs x ∙ ap (λ j. first_or (position_from p (k + 1) xs) (cond (p x) (Some j) None)) (omega arith))
+    let e : (k + 1) + length xs ≡ k + length (y ∷ xs) = omega arith in
+    go (p y) (position_from p (k + 1) (xs ++ x ∷ [])) (position_from p (k + 1) xs) (cond (p x) (Some (k + length (y ∷ xs))) None)
+    (position-push p (k + 1) xs x ∙ ap (λ j. first_or (position_from p (k + 1) xs) (cond (p x) (Some j) None)) e)
   where
-    go : (b : Bool) {o q r : Option ℕ} → o ≡ first_or q r → cond b (Some k) o ≡ first_or (cond b (Some k) q) r
-    go true h = refl
-    go false h = h
+    go : (b : Bool) (o q r : Option ℕ) → o ≡ first_or q r → cond b (Some k) o ≡ first_or (cond b (Some k) q) r
+    go true o q r h = refl
+    go false o q r h = h
 
 -- a table that was right is right with one member more, which its class did not have
 module _ {A : Type 0} (owner : A → ℕ) (name : A → List ℕ) where
