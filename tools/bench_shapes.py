@@ -49,6 +49,34 @@ def diamonds(levels):
     return text + f"class C implements A{last}, B{last} {{\n}}\n" + main(f"    A0 a = new C();\n    C c = (C) a;\n    B0 b = c;\n")
 
 
+def behind_diamonds(levels):
+    """The same levels, and a call of a method that stands in an interface named behind the last two."""
+    text = "interface Z {\n  void z();\n}\ninterface A0 {\n}\ninterface B0 {\n}\n"
+    for n in range(1, levels):
+        text += "".join(f"interface {name}{n} extends A{n - 1}, B{n - 1} {{\n}}\n" for name in "AB")
+    text += f"interface E extends A{levels - 1}, B{levels - 1}, Z {{\n}}\nclass C implements E {{\n  public void z() {{\n  }}\n}}\n"
+    return text + main("    E e = new C();\n    e.z();\n")
+
+
+def faces_in_a_chain(count):
+    """Interfaces one below the other, and a call through the lowest of the method of the highest."""
+    text = "interface I0 {\n  void m();\n}\n" + "".join(f"interface I{n} extends I{n - 1} {{\n}}\n" for n in range(1, count))
+    return text + f"class C implements I{count - 1} {{\n  public void m() {{\n  }}\n}}\n" + main(f"    I{count - 1} i = new C();\n    i.m();\n")
+
+
+def calls_below_a_chain(count):
+    """Classes one below the other, and as many calls through the lowest of the method of the highest."""
+    text = "class C0 {\n  void m() {\n  }\n}\n" + "".join(f"class C{n} extends C{n - 1} {{\n}}\n" for n in range(1, count))
+    return text + main(f"    C{count - 1} c = new C{count - 1}();\n" + "    c.m();\n" * count)
+
+
+def namesakes(count):
+    """Classes side by side with a method of one name, and as many calls of that name through an interface below the one that has it."""
+    text = "".join(f"class C{n} {{\n  void m() {{\n  }}\n}}\n" for n in range(count))
+    text += "interface J {\n  void m();\n}\ninterface I extends J {\n}\nclass C implements I {\n  public void m() {\n  }\n}\n"
+    return text + main("    I i = new C();\n" + "    i.m();\n" * count)
+
+
 def members(count):
     """A class with so many fields and methods, each of them used."""
     text = "class P {\n" + "".join(f"  int f{n};\n  int m{n}() {{\n    return f{n};\n  }}\n" for n in range(count)) + "}\n"
@@ -117,6 +145,10 @@ SHAPES = [
     ("classes with a field and a method", beside, (2500, 5000, 10000, 20000)),
     ("classes with one static and one instance name", two_names, (1000, 2000, 4000, 8000)),
     ("levels of interfaces that name two above", diamonds, (8, 15, 30, 60)),
+    ("such levels, and a call of a method behind them", behind_diamonds, (8, 15, 30, 60)),
+    ("interfaces in a chain, and a call of the method of the highest", faces_in_a_chain, (3625, 7250, 14500, 29000)),
+    ("classes in a chain, and as many calls of the method of the highest", calls_below_a_chain, (3000, 6000, 12000, 24000)),
+    ("methods of one name, and as many calls through an interface", namesakes, (2500, 5000, 10000, 20000)),
     ("fields and as many methods in one class", members, (625, 1250, 2500, 5000)),
     ("parameters of one method", parameters, (375, 750, 1500, 3000)),
     ("locals in one body", locals_of_a_body, (3500, 7000, 14000, 28000)),

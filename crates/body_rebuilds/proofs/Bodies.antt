@@ -8,13 +8,12 @@ use Rattle.java_core.specs.Programs.{Plain, PlainLocal, PlainMethod}
 use Rattle.java_core.specs.Types.{types_of, env_of}
 use Rattle.java_core.specs.Typing.{IsTyped, IsTypedMethod, TypedSts}
 use Rattle.java_core.specs.Formed.{IsFormed, HasNoTwice, FormedSts, variables_of, numbers_below}
-use Rattle.java_meaning.specs.Watched.{bare_sts}
+use Rattle.java_core.specs.Untagged.{bare_sts, untag_body, untag_method, untagged}
 use Rattle.hier_model.specs.Hierarchies.{Hierarchy}
 use Rattle.flow_rules.specs.Labels.{label_sts}
 use Rattle.flow_rules.specs.Operands.{variable_row, type_in}
 use Rattle.flow_rules.specs.Ordered.{each}
 use Rattle.flow_rules.specs.Parts.{Part, parts_sts, parts_body, parts_of}
-use Rattle.run_cover.specs.Untagged.{untag_body, untag_method, untagged}
 use Rattle.run_cover.proofs.Untagging.{unlabel_sts}
 use Rattle.run_cover.proofs.HasRows.{method_of, of_method}
 use Rattle.name_rules.specs.declared.parts.Here.{Here}

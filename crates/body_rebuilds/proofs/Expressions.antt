@@ -14,7 +14,7 @@ use Rattle.java_core.specs.Classes.{field_of, slot_of, slot_of_method, declarati
 use Rattle.java_core.specs.Types.{Static, Env, env_of, class_of, element_of, is_string, field_type, value_type, length_or, field_in, access_type, Signature, call_signature, static}
 use Rattle.java_core.specs.Typing.{Typed, TypedArgs, t_field, t_index, t_call, t_static_call, t_super_call, t_create_array, t_cast, t_instance_of, t_unary, t_binary, t_ex_then}
 use Rattle.java_core.specs.Formed.{IsFormed, FormedEx, FormedExs, f_local, f_static_field, f_field, f_index, f_call, f_static_call, f_super_call, f_create_array, f_cast, f_instance_of, f_unary, f_binary, f_ex_then}
-use Rattle.java_meaning.specs.Watched.{bare_tag, bare, bare_all}
+use Rattle.java_core.specs.Untagged.{bare_tag, bare, bare_all, untag_method, untagged}
 use Rattle.java_meaning.proofs.Moves.{then_some}
 use Rattle.hier_model.specs.Hierarchies.{Hierarchy}
 use Rattle.flow_rules.specs.declared.items.ObjectType.{ObjectType}
@@ -22,7 +22,6 @@ use Rattle.flow_rules.specs.declared.items.RowItem.{RowItem}
 use Rattle.flow_rules.specs.declared.items.RowItem.TheVariants as row
 use Rattle.flow_rules.specs.Operands.{object_of, operand_of, test_operand, type_in}
 use Rattle.flow_rules.specs.Parts.{Part, a_creation, a_test, is_accessed, parts, parts_all, parts_of}
-use Rattle.run_cover.specs.Untagged.{untag_method, untagged}
 use Rattle.flow_rules.proofs.Listed.{first, more}
 use Rattle.run_cover.proofs.Types.{class_apart, slot_called}
 use Rattle.name_rules.specs.declared.parts.Bound.{Bound}

@@ -29,7 +29,7 @@ use Rattle.flow_rules.specs.Types.{variable_object}
 use Rattle.flow_rules.specs.Parts.{Part, parts_of}
 use Rattle.flow_rules.specs.Numbered.{row_if, form_rows, row_number}
 use Rattle.flow_rules.specs.Facts.{is_holder, numbers}
-use Rattle.run_cover.specs.Untagged.{untag_local, untag_method, untagged}
+use Rattle.java_core.specs.Untagged.{untag_local, untag_method, untagged}
 use Rattle.flow_rules.proofs.Listed.{one}
 use Rattle.run_cover.proofs.Included.{get_map}
 use Rattle.run_cover.proofs.Untagging.{same_env}

@@ -7,9 +7,8 @@ use Rattle.java_tree.specs.Syntax.{DeclTree}
 use Rattle.java_core.specs.Trees.{St, Sts, Arms, declare, block, assign, act, print, choose, loop, return, break, continue, no_st, st_then, no_other, otherwise, arm}
 use Rattle.java_core.specs.Programs.{Plain, PlainLocal, PlainMethod}
 use Rattle.java_core.specs.Formed.{variables_of}
-use Rattle.java_meaning.specs.Watched.{bare_st, bare_sts, bare_arms}
+use Rattle.java_core.specs.Untagged.{bare_st, bare_sts, bare_arms, untag_local, untag_method, untagged}
 use Rattle.java_meaning.proofs.Calls.{mapped_some}
-use Rattle.run_cover.specs.Untagged.{untag_local, untag_method, untagged}
 use Rattle.run_cover.proofs.Included.{get_map}
 use Rattle.name_rules.specs.Outline.{MethodAt, outline, methods_in}
 use Rattle.name_rules.specs.Resolves.{Counts, declares, declares_all, declares_arms, BodyResolves, r_no_body, r_body, BodiesResolve, r_no_methods, r_method, Resolves}

@@ -10,14 +10,13 @@ use Rattle.java_tree.specs.Syntax.{Expression, Statement, LocalOf, BlockOf, ForO
 use Rattle.java_core.specs.Trees.{Tag, at_place, Ex, Target, to_local, to_static, to_own, to_field, to_element, no_target, this, St, Sts, Arms, declare, block, assign, act, print, choose, loop, return, break, continue, no_st, st_then, no_other, otherwise, arm}
 use Rattle.java_core.specs.Programs.{Plain, PlainLocal, PlainMethod}
 use Rattle.java_core.specs.Types.{Env, env_of, field_in, static}
-use Rattle.java_core.specs.Typing.{TypedTarget, TypedTest, TypedSt, TypedSts, TypedArms, t_to_field, t_to_element, t_test, t_declare_as, t_block, t_assign, t_act, t_print, t_choose, t_loop, t_return, t_st_then, t_no_other, t_otherwise, t_arm}
+use Rattle.java_core.specs.Typing.{TypedTarget, TypedTest, TypedSt, TypedSts, TypedArms, t_to_field, t_to_element, t_test, t_declare_as, t_block, t_assign, t_act, t_print, t_choose, t_loop, t_return, t_st_then, t_otherwise, t_arm}
 use Rattle.java_core.specs.Formed as formed_names
 use Rattle.java_core.specs.Formed.{IsHead, of_while, of_for, IsFormed, FormedTarget, FormedOption, FormedSt, FormedSts, FormedArms, variables_of, scope_after_all, is_at_most_one, f_to_local, f_to_static, f_to_field, f_to_element, f_some, f_declare, f_block, f_assign, f_act, f_print, f_choose, f_loop, f_return, f_st_then, f_otherwise, f_arm}
-use Rattle.java_meaning.specs.Watched.{bare_tag, bare, bare_if, bare_target, bare_st, bare_sts, bare_arms}
+use Rattle.java_core.specs.Untagged.{bare_tag, bare, bare_if, bare_target, bare_st, bare_sts, bare_arms, untag_method, untagged}
 use Rattle.hier_model.specs.Hierarchies.{Hierarchy}
 use Rattle.flow_rules.specs.Operands.{variable_row, type_in}
 use Rattle.flow_rules.specs.Parts.{Part, is_accessed, parts_if, parts_assign, parts_st, parts_sts, parts_arms, parts_of}
-use Rattle.run_cover.specs.Untagged.{untag_method, untagged}
 use Rattle.name_rules.specs.declared.parts.Bound.{Bound}
 use Rattle.name_rules.specs.declared.parts.Here.{Here}
 use Rattle.name_rules.specs.Resolves as names

@@ -7,7 +7,7 @@ use Rattle.java_core.specs.Trees.{Sts, declare, block, no_st, st_then}
 use Rattle.java_core.specs.Programs.{Plain, PlainLocal, PlainMethod}
 use Rattle.java_core.specs.Types.{plain_type}
 use Rattle.java_core.specs.Formed.{variables_of}
-use Rattle.java_meaning.specs.Watched.{bare_tag}
+use Rattle.java_core.specs.Untagged.{bare_tag}
 use Rattle.name_rules.specs.Resolves.{Counts, no_number, next_number, declares_all}
 use Rattle.body_rebuilds.specs.Known.{HasLocalsInOrder}
 

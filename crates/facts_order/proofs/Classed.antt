@@ -11,7 +11,7 @@ use Rattle.java_core.specs.Classes.{super_method, slot_of_method}
 use Rattle.java_core.specs.Types.{Env, env_of, types_of, element_of, static}
 use Rattle.java_core.specs.Typing.{IsTyped, Typed, t_index}
 use Rattle.java_core.specs.Formed.{IsFormed}
-use Rattle.java_meaning.specs.Watched.{bare}
+use Rattle.java_core.specs.Untagged.{bare}
 use Rattle.java_meaning.proofs.WatchedPrograms.{bare_static}
 use Rattle.fact_model.specs.declared.facts.Facts.{Facts}
 use Rattle.flow_rules.specs.declared.items.ObjectType.{ObjectType}

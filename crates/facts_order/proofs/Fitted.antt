@@ -12,7 +12,7 @@ use Rattle.java_core.specs.Classes.{IsSubclass, super_method, has_body, slot_of}
 use Rattle.java_core.specs.Types.{Static, a_value, or_nothing, Env, env_of, types_of, class_of, class_type, fits_in, field_in, field_type, Signature, call_signature, super_signature, signature_of_method, static, target_type}
 use Rattle.java_core.specs.Typing.{IsTyped, Typed, t_this, t_field, t_local, t_static_field, t_index, t_call, t_static_call, t_super_call, t_cast, t_instance_of, t_binary, TypedArgs, t_ex_then, t_to_field, t_to_element, TypedSt, t_declare_as, t_assign, t_return}
 use Rattle.java_core.specs.Formed.{IsFormed, IsOwnField, FormedSt, f_assign, f_to_own, FormedEx, f_own_field, f_create, f_create_array, f_cast, f_instance_of}
-use Rattle.java_meaning.specs.Watched.{bare, bare_all, bare_target}
+use Rattle.java_core.specs.Untagged.{bare, bare_all, bare_target}
 use Rattle.java_meaning.proofs.Moves.{then_some}
 use Rattle.java_meaning.proofs.Calls.{mapped_some}
 use Rattle.fact_model.specs.declared.facts.Facts.{Facts}

@@ -9,7 +9,7 @@ use Rattle.java_core.specs.Classes.{super_method}
 use Rattle.java_core.specs.Types.{Env, env_of}
 use Rattle.java_core.specs.Typing.{Typed, t_field, t_index, t_call, t_static_call, t_super_call, t_create, t_create_array, t_cast, t_instance_of, t_unary, t_binary, TypedArgs, t_ex_then, t_to_field, t_to_element, TypedTest, t_test, TypedSt, t_declare_as, t_block, t_assign, t_act, t_print, t_choose, t_loop, t_return, TypedSts, t_st_then, TypedArms, t_otherwise, t_arm}
 use Rattle.java_core.specs.Formed.{FormedEx, f_field, f_index, f_call, f_static_call, f_super_call, f_create, f_create_array, f_cast, f_instance_of, f_unary, f_binary, FormedExs, f_ex_then, f_to_field, f_to_element, FormedOption, f_some, FormedSt, f_declare, f_block, f_assign, f_act, f_print, f_choose, f_loop, f_return, FormedSts, f_st_then, FormedArms, f_otherwise, f_arm}
-use Rattle.java_meaning.specs.Watched.{bare, bare_all, bare_if, bare_target, bare_st, bare_sts, bare_arms}
+use Rattle.java_core.specs.Untagged.{bare, bare_all, bare_if, bare_target, bare_st, bare_sts, bare_arms}
 use Rattle.flow_rules.specs.declared.items.ObjectType.{ObjectType}
 use Rattle.flow_rules.specs.declared.items.Operand.{Operand}
 use Rattle.java_core.specs.declared.Ty.{Ty}

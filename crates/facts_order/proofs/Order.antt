@@ -17,7 +17,7 @@ use Rattle.flow_rules.specs.declared.faults.Counted.TheVariants as counted
 use Rattle.flow_rules.specs.declared.items.Point.{Point}
 use Rattle.flow_rules.specs.Numbered.{rows_of, columns_of, sites_of, points_of}
 use Rattle.flow_rules.specs.Facts.{TooMany, row_info, column_info, site_info, numbers, cells_of, over, too_many, IsFactsOf, AreNamesOf}
-use Rattle.run_cover.proofs.Programs.{same_program}
+use Rattle.java_core.proofs.Untagged.{same_program}
 use Rattle.flow_rules.proofs.Listed.{below_at, at_below}
 use Rattle.facts_order.proofs.Pairs.{IsPlaced, placed}
 use Rattle.facts_order.proofs.Classes.{class_at, classes_in_order}

@@ -10,8 +10,8 @@ use Rattle.java_core.specs.declared.RStmt.{RStmt}
 use Rattle.java_core.specs.Trees.{at_place, no_place, body_seen}
 use Rattle.java_core.specs.Types.{types_of}
 use Rattle.java_core.specs.Programs.{Plain, PlainClass, PlainField, PlainMethod, local_seen, class_seen, field_seen, method_seen, program_of}
-use Rattle.java_meaning.specs.Watched.{bare_sts}
-use Rattle.java_meaning.proofs.Placed.{bare_list}
+use Rattle.java_core.specs.Untagged.{bare_sts}
+use Rattle.java_core.proofs.Untagged.{bare_list}
 use Rattle.flow_rules.proofs.Listed.{at_map, map_at}
 
 -- a field with its place, and without

@@ -12,7 +12,7 @@ use Rattle.java_core.specs.Types.{Env, env_of}
 use Rattle.java_core.specs.Typing.{IsTyped, Typed, t_index}
 use Rattle.java_core.specs.Formed.{IsFormed}
 use Rattle.java_core.proofs.Upwards.{contains_cases}
-use Rattle.java_meaning.specs.Watched.{bare}
+use Rattle.java_core.specs.Untagged.{bare}
 use Rattle.fact_model.specs.declared.facts.Facts.{Facts}
 use Rattle.flow_rules.specs.declared.items.ObjectType.{ObjectType}
 use Rattle.flow_rules.specs.declared.items.Operand.{Operand}

@@ -25,7 +25,7 @@ use Rattle.flow_rules.specs.Parts.{Part, a_super_call, parts_of}
 use Rattle.flow_rules.specs.Numbered.{row_number, column_number}
 use Rattle.flow_rules.specs.Lists.{supers_of}
 use Rattle.flow_rules.specs.Facts.{numbers, this_of_row, owner_of, IsFactsOf}
-use Rattle.run_cover.specs.Untagged.{untagged}
+use Rattle.java_core.specs.Untagged.{untagged}
 use Rattle.run_cover.proofs.Found.{same_length}
 use Rattle.run_cover.proofs.Bodies.{finds_some}
 use Rattle.flow_rules.proofs.Listed.{all_of}

@@ -50,8 +50,8 @@ slot_there n c s m e =
 pub offer_there : (n : ℕ) (P : Plain) (c : ℕ) (x : List ℕ) (m : Method) → offers P c x (method_seen no_place m) ≡ true
     → method_name_bucket n m ≡ name_bucket n 0 x
 offer_there n P c x m e =
-    let z = and_parts (not m.is_static && bytes_eq m.name x) (below P c m.owner.0) e in
-    ap (name_bucket n 0) ((bytes_eq-Decides m.name x).0 (and_parts (not m.is_static) (bytes_eq m.name x) z.0).1)
+    let z = and_parts (below P c m.owner.0) (not m.is_static && bytes_eq m.name x) e in
+    ap (name_bucket n 0) ((bytes_eq-Decides m.name x).0 (and_parts (not m.is_static) (bytes_eq m.name x) z.1).1)
 
 -- the owner of a field of a name in a class, of such a method, of a method of a slot
 pub field_owner : (c : ℕ) (x : List ℕ) (f : Field) → is_field_of c x (field_seen no_place f) ≡ true → f.owner.0 ≡ c

@@ -4,6 +4,7 @@ pub mod Positions
 pub mod SearchOrder
 pub mod Upwards
 pub mod Offered
+pub mod Untagged
 pub mod Words
 pub mod Locals
 pub mod OwnedLemmas

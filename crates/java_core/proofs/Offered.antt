@@ -7,12 +7,13 @@ use Rattle.std.specs.Str.{bytes_eq}
 use Rattle.std.proofs.lemmas.Bool.{and_parts, eqb-true, eq-eqb, false≢true}
 use Rattle.std.proofs.lemmas.Slice.Eq.{bytes_eq-Decides}
 use Rattle.kaba_base.specs.declared.ClassId.{ClassId}
+use Rattle.kaba_base.specs.declared.MemberId.{MemberId}
 use Rattle.java_core.specs.Programs.{Plain, PlainMethod}
 use Rattle.java_core.specs.Classes.{parent_of, faces_of, supers_of, IsSubclass, same_class, through, below, first_or, nearest_of, is_method_of, own_method, faces_above, first_found, declaration_of, slot_of_method, slot_of}
 use Rattle.java_core.specs.Found.{IsNearest, at_class, above_class, IsOffered}
 use Rattle.java_core.specs.Own.{offers, offered, towards}
 use Rattle.java_core.specs.Formed.{IsFormed}
-use Rattle.java_core.proofs.Subclasses.{parent-super, subclass-below, below-subclass, nearest_of-nearest, ArePassed, passed_more, none_passed, one_left}
+use Rattle.java_core.proofs.Subclasses.{parent-super, subclass-then, subclass-below, below-subclass, nearest_of-nearest, ArePassed, passed_more, none_passed, one_left}
 use Rattle.java_core.proofs.Upwards.{contains_cases, IsThere, super_cases, IsAbove, further, chain-above, face_interface, interface_parent, above_object, nearest-there, there-up}
 use Rattle.java_core.proofs.SearchOrder.{first_found-append, declaration_of-found}
 use Rattle.java_core.proofs.Positions.{position-passes, passes-position}
@@ -226,8 +227,8 @@ module _ (P : Plain) (formed : IsFormed P) (x : List ℕ) where
   offered-own c m e =
       let found = position-passes (λ k. offers P c x k) P.methods m e in
       let k = found.0 in
-      let outer = and_parts (not k.is_static && bytes_eq k.name x) (below P c k.owner) found.2 in
-      let inner = and_parts (not k.is_static) (bytes_eq k.name x) outer.0 in
+      let outer = and_parts (below P c k.owner) (not k.is_static && bytes_eq k.name x) found.2 in
+      let inner = and_parts (not k.is_static) (bytes_eq k.name x) outer.1 in
       let it : IsOwn P k.owner x m = record {
         method = k;
         stands = found.1;
@@ -235,14 +236,14 @@ module _ (P : Plain) (formed : IsFormed P) (x : List ℕ) where
         instance = not-true k.is_static inner.0;
         name = (bytes_eq-Decides k.name x).0 inner.1;
       } in
-      (k.owner, it, below-subclass P c k.owner outer.1)
+      (k.owner, it, below-subclass P c k.owner outer.0)
 
   own-offered : (c b m : ℕ) → IsSubclass P c b → own b ≡ Some m → IsThere (offered P c x)
   own-offered c b m up e =
       let h = own_method-own P b x m e in
       let k = h.method in
       let above = subclass-below P formed.acyclic (subst (λ z. IsSubclass P c z) (sym h.owner) up) in
-      let passes : offers P c x k ≡ true = rw (h.instance, (bytes_eq-Decides k.name x).1 h.name, above) refl in
+      let passes : offers P c x k ≡ true = rw (above, h.instance, (bytes_eq-Decides k.name x).1 h.name) refl in
       passes-position (λ k. offers P c x k) P.methods m k h.stands passes
 
   part-above : (n : ℕ) (k : ClassId) (d : ℕ) → part n k ≡ Some d → IsAbove P own k.0 d
@@ -361,8 +362,13 @@ module _ (P : Plain) (formed : IsFormed P) (x : List ℕ) where
       } in
       rw o.stands (s.1 ∙ sym (offered-slot_of P formed c x s.0 offer))
 
-  pub own-slot : (c m : ℕ) → own c ≡ Some m → slot_of_method P m ≡ slot_of P c x
-  own-slot c m e = held-slot c c m (own_method-own P c x m e) same_class
+  pub own-slot : (c b m : ℕ) → IsSubclass P c b → own b ≡ Some m → slot_of_method P m ≡ slot_of P c x
+  own-slot c b m up e = held-slot c b m (own_method-own P b x m e) up
+
+  pub met-slot : (c b : ℕ) (o : Option MemberId) → IsSubclass P c b → option_map (λ (d : MemberId). d.0) o ≡ own b
+      → IfSome o (λ (d : MemberId). slot_of_method P d.0 ≡ slot_of P c x)
+  met-slot c b None up e = tt
+  met-slot c b (Some d) up e = own-slot c b d.0 up (sym e)
 
   pub offered-slot : (c m : ℕ) → offered P c x ≡ Some m → slot_of_method P m ≡ slot_of P c x
   offered-slot c m e = let z = offered-own c m e in held-slot c z.0 m z.1 z.2
@@ -377,3 +383,6 @@ module _ (P : Plain) (formed : IsFormed P) (x : List ℕ) where
           let it = own-own_method P o.method.owner x o.number
           (record { method = o.method; stands = o.stands; owner = refl; instance = o.instance; name = o.name }) in
           absurd (cc (e, (own-offered c o.method.owner it.0 o.above it.1).1))
+
+pub one_up : (P : Plain) (c a : ℕ) (k : ClassId) → IsSubclass P c a → Contains (supers_of P a) k → IsSubclass P c k.0
+one_up P c a k up h = subclass-then P up (through h same_class)

@@ -1,6 +1,7 @@
 pub mod Trees
 pub mod Plain
 pub mod Programs
+pub mod Untagged
 pub mod Classes
 pub mod Found
 pub mod Own

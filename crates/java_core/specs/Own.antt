@@ -21,7 +21,7 @@ own_of_slot P of_slot.Body c s = own_body P c s
 
 -- whether a method is an instance method of the name that stands at or above a type
 abbrev pub offers : Plain → ℕ → List ℕ → PlainMethod → Bool
-offers P c x m = (not m.is_static && bytes_eq m.name x) && below P c m.owner
+offers P c x m = below P c m.owner && (not m.is_static && bytes_eq m.name x)
 
 -- the first such method
 abbrev pub offered : Plain → ℕ → List ℕ → Option ℕ

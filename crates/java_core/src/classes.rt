@@ -1,16 +1,18 @@
 //! Subtyping, and the members that a class or an interface has.
 
-ghost use Rattle.std.specs.Prelude.{◌≡◌, ℕ, ◌<◌, ◌↔◌, length, IsTrue, Option, Some, IfSome, IfNone};
+ghost use Rattle.std.specs.Prelude.{◌≡◌, ℕ, ◌<◌, ◌↔◌, length, IsTrue, Option, Some, IfSome, IfNone, Contains};
 ghost use Rattle.std.specs.Option.{option_map};
 ghost use Rattle.java_core.specs.Trees.{no_place};
 ghost use Rattle.java_core.specs.Programs.{program_of};
-ghost use Rattle.java_core.specs.Classes.{IsSubclass, below, parent_of, faces_of, field_of, member_field, is_static_field, own_method, nearest, faces_above, first_found, declaration_of, slot_of_method, slot_of, lookup, nearest_declaration, super_method};
+ghost use Rattle.java_core.specs.Classes.{IsSubclass, below, parent_of, faces_of, supers_of, field_of, member_field, is_static_field, own_method, nearest, faces_above, first_found, declaration_of, slot_of_method, slot_of, lookup, nearest_declaration, super_method};
 ghost use Rattle.java_core.specs.Found.{Runs, IsOffered};
 ghost use Rattle.java_core.specs.Own.{own_named, own_of_slot, towards};
 ghost use Rattle.java_core.specs.Formed.{IsFormed};
 
 use crate::Program;
-use crate::own::{offered_at, own_body_at, own_declaration_at, own_field_at, own_method_at};
+use crate::own::{
+    methods_named, offered_at, own_body_at, own_declaration_at, own_field_at, own_method_at,
+};
 use kaba_base::{ClassId, MemberId, Name};
 
 /// Whether a class or interface is at or below another (Java Language Specification, 4.10.2).
@@ -171,13 +173,53 @@ pub fn slot_of(p: &Program, class: ClassId, name: &Name) -> Option<u32>
     declared_slot(p, class, name)
 }
 
-/// The slot that a type offers under a name: that of its own method, else of any at or above it, since these are all of one slot.
+/// A type directly above one: the superclass, or else the first interface.
+fn one_above(p: &Program, class: ClassId) -> Option<ClassId>
+    ensures { IfSome result (λ k. Contains (supers_of (program_of no_place p.now) class.0) k) }
+{
+    match parent_of(p, class) {
+        Some(parent) if parent.0 != 0 => Some(parent),
+        _ => first_face(p, class),
+    }
+}
+
+/// The first of the interfaces directly above a type.
+fn first_face(p: &Program, class: ClassId) -> Option<ClassId>
+    ensures { IfSome result (λ k. Contains (supers_of (program_of no_place p.now) class.0) k) }
+{
+    match faces_of(p, class).get(0) {
+        Some(face) => Some(*face),
+        None => None,
+    }
+}
+
+/// An instance method of a name in a type or on the way up through superclasses and first interfaces, no farther than there are methods of the name.
+fn met_upwards(p: &Program, class: ClassId, name: &Name) -> Option<MemberId>
+    requires { IsFormed (program_of no_place p.now) }
+    ensures { IfSome result (λ d. slot_of_method (program_of no_place p.now) d.0 ≡ slot_of (program_of no_place p.now) class.0 name.now) }
+{
+    let mut at = class;
+    let mut steps = methods_named(p, name).len();
+    'up: loop {
+        let own = own_method(p, at, name);
+        if own.is_some() || steps == 0 {
+            return own;
+        }
+        let Some(above) = one_above(p, at) else {
+            return None;
+        };
+        at = above;
+        steps -= 1;
+    }
+}
+
+/// The slot that a type offers under a name: that of any method of the name at or above it, since these are all of one slot.
 fn declared_slot(p: &Program, class: ClassId, name: &Name) -> Option<u32>
     requires { IsFormed (program_of no_place p.now) }
     ensures { result ≡ slot_of (program_of no_place p.now) class.0 name.now }
 {
-    if let Some(own) = own_method(p, class, name) {
-        return slot_of_method(p, own.0 as usize);
+    if let Some(met) = met_upwards(p, class, name) {
+        return slot_of_method(p, met.0 as usize);
     }
     match offered_at(p, class, name) {
         Some(at) => slot_of_method(p, at),

@@ -216,7 +216,7 @@ fn is_body_of(method: &Method, class: ClassId, slot: u32) -> bool
 }
 
 /// The methods among which each instance method of a name is.
-fn methods_named<'a>(p: &'a Program, name: &Name) -> &'a [usize]
+pub fn methods_named<'a>(p: &'a Program, name: &Name) -> &'a [usize]
     ensures { (c : ℕ) → first_among (λ m. offers (program_of no_place p.now) c name.now (method_seen no_place m)) p.now.methods.items result.now
         ≡ position (λ m. offers (program_of no_place p.now) c name.now (method_seen no_place m)) p.now.methods.items }
 {
@@ -231,7 +231,7 @@ fn offers(p: &Program, method: &Method, class: ClassId, name: &Name) -> bool
     requires { IsFormed (program_of no_place p.now) }
     ensures { result ≡ offers (program_of no_place p.now) class.0 name.now (method_seen no_place method.now) }
 {
-    !method.is_static && method.name.same(name) && is_subtype(p, class, method.owner)
+    is_subtype(p, class, method.owner) && !method.is_static && method.name.same(name)
 }
 
 /// The same of the method of a number.

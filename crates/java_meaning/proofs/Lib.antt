@@ -15,6 +15,5 @@ pub mod Bodies
 pub mod TypedPrograms
 pub mod Unwatched
 pub mod Plain
-pub mod Placed
 pub mod WatchedPrograms
 mod Looks

@@ -9,7 +9,8 @@ use Rattle.java_core.specs.Types.{Env, class_type, element_in}
 use Rattle.java_meaning.specs.Moment.{Value, Number, Truth, CodeUnit, Nothing, Text, Object, Kind, an_object, an_array, Cell, own_type, own_class, Spot, held, bound, self_of, result_of, set_static, kept, put_in, touched, tested, ran, Met, State, Frame, Ended, Faulted, Going, Wrong, Escaped, Outcome, stop, Body, Lang, with_some, on_bool, look, look_all}
 use Rattle.java_meaning.specs.Values.{int_of, default_of, convert, arguments, number_of, natural_of, text_of, unary_value, cast_number, defaults}
 use Rattle.java_meaning.specs.Meaning.{Next, Broke, Continued, Gave, ToValue, ToFlow, Later, add_cell, set_value, set_local, write_static, read_field, write_field, names_length, read_member, element_type, place_in, read_element, on_fitting, write_element, given, enter, call_object, text_method, call_on, call_static, call_super, make_cell, make_object, make_array, is_number_type, cast_object, cast_to, test_class, write_local, value, values, run_test, run_print, run_initial, run_return, run_assign, run_one, run_all, run_arms, meaning, words_cell, start, run_in}
-use Rattle.java_meaning.specs.Watched.{bare_tag, bare, bare_all, bare_if, bare_target, bare_st, bare_sts, bare_arms, bare_body, IsBare, EscapesOrIs}
+use Rattle.java_core.specs.Untagged.{bare_tag, bare, bare_all, bare_if, bare_target, bare_st, bare_sts, bare_arms}
+use Rattle.java_meaning.specs.Watched.{bare_body, IsBare, EscapesOrIs}
 use Rattle.java_meaning.proofs.Unwatched.{re, OrIs, is_stop, escapes, KS, KV, KL, KF, some_r, some_as, fault_r, cell_r, bool_r, test_r, step_r, one_r, turn_r, give_r, string_r, left_r, operate_r}
 
 -- the value of a call is looked at

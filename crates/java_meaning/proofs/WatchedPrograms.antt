@@ -11,9 +11,10 @@ use Rattle.java_core.specs.Programs.{Plain, PlainMethod, method_seen, program_of
 use Rattle.java_core.specs.Classes.{slot_of, lookup, super_method}
 use Rattle.java_core.specs.Types.{Env, class_of, element_of, or_nothing, field_in, access_type, call_signature, result_of, binary_type, a_value, static}
 use Rattle.java_meaning.specs.Languages.{body_with, body_of, language_of, run}
-use Rattle.java_meaning.specs.Watched.{bare, bare_sts, bare_body, with_code, IsBare, Eyes, coded_body, watched, IsCodeOf, EscapesOrIs, watched_run}
+use Rattle.java_core.specs.Untagged.{bare, bare_sts}
+use Rattle.java_meaning.specs.Watched.{bare_body, with_code, IsBare, Eyes, coded_body, watched, IsCodeOf, EscapesOrIs, watched_run}
 use Rattle.java_meaning.proofs.Plain.{run_r}
-use Rattle.java_meaning.proofs.Placed.{bare_seen}
+use Rattle.java_core.proofs.Untagged.{bare_seen}
 
 -- the static type of an expression does not depend on its tags
 pub bare_static : (P : Plain) (g : Env) (e : Ex) → static P g (bare e) ≡ static P g e

@@ -7,7 +7,7 @@ use Rattle.java_core.specs.Typing.{IsTyped}
 use Rattle.fact_model.specs.declared.facts.Facts.{Facts}
 use Rattle.flow_rules.specs.Facts.{IsFactsOf}
 use Rattle.run_cover.specs.Covers.{solved, CoversProgram}
-use Rattle.run_cover.specs.Untagged.{HaveSlots}
+use Rattle.run_cover.specs.Slotted.{HaveSlots}
 use Rattle.run_cover.proofs.Solved.{solved_closed, solved_covers}
 use Rattle.run_cover.proofs.Programs.{program_covers}
 use Rattle.program_facts.specs.Solved.{HasCoveringSets}

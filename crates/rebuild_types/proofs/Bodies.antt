@@ -9,7 +9,7 @@ use Rattle.java_core.specs.Trees.{Sts}
 use Rattle.java_core.specs.Programs.{Plain, PlainLocal, PlainMethod}
 use Rattle.java_core.specs.Types.{Env, types_of, env_of}
 use Rattle.java_core.specs.Typing.{IsTyped, IsTypedMethod, TypedSts, t_number, t_truth, t_null, t_cast, t_return, t_no_st, t_st_then}
-use Rattle.java_meaning.specs.Watched.{bare_sts}
+use Rattle.java_core.specs.Untagged.{bare_sts, untag_body, untag_method, untagged}
 use Rattle.fact_model.specs.Items.{row_this}
 use Rattle.fact_model.specs.InRange.{InRange}
 use Rattle.fact_model.specs.InOrder.{InOrder}
@@ -25,7 +25,7 @@ use Rattle.flow_rules.specs.declared.items.ColumnItem.TheVariants as column
 use Rattle.flow_rules.specs.Ordered.{each}
 use Rattle.flow_rules.specs.Operands.{variable_row}
 use Rattle.flow_rules.specs.Facts.{numbers, this_of_row, IsFactsOf}
-use Rattle.run_cover.specs.Untagged.{untag_body, untag_method, untagged, HaveSlots}
+use Rattle.run_cover.specs.Slotted.{HaveSlots}
 use Rattle.run_cover.proofs.Untagging.{same_env}
 use Rattle.run_cover.proofs.HasNumbers.{this_row}
 use Rattle.run_cover.proofs.HasRows.{method_of, of_method}

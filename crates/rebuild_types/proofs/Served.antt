@@ -43,7 +43,7 @@ use Rattle.flow_rules.specs.Parts.{Part, a_load, an_element, a_creation, a_call,
 use Rattle.flow_rules.specs.Numbered.{row_number}
 use Rattle.flow_rules.specs.Lists.{both, row_at, row_in, tied, accessed, is_comparison, is_left_lower, param_row, pair_ties, test_ties, slot_ties, method_ties, ties_of, accesses_of, supers_of}
 use Rattle.flow_rules.specs.Facts.{numbers, IsFactsOf}
-use Rattle.run_cover.specs.Untagged.{untag_local, untag_body, untag_method, untagged}
+use Rattle.java_core.specs.Untagged.{untag_local, untag_body, untag_method, untagged}
 use Rattle.run_cover.proofs.Untagging.{untyped_params}
 use Rattle.run_cover.proofs.HasRows.{method_of, of_field}
 use Rattle.flow_rules.proofs.Listed.{first, each_has, when_has}

@@ -10,7 +10,7 @@ use Rattle.java_core.specs.Programs.{Plain, PlainMethod}
 use Rattle.java_core.specs.Types.{Static, or_nothing, Env, env_of, element_of, is_numeric, is_boolean, is_printable, field_type, value_type, fits, fits_in, static, target_type}
 use Rattle.java_core.specs.Typing.{Typed, TypedTarget, TypedTest, TypedSt, TypedSts, TypedArms, t_this, t_to_local, t_to_static, t_to_field, t_to_element, t_always, t_test, t_declare, t_declare_as, t_block, t_assign, t_act, t_print_line, t_print, t_choose, t_loop, t_return_nothing, t_return, t_break, t_continue, t_no_st, t_st_then, t_no_other, t_otherwise, t_arm}
 use Rattle.java_core.specs.Formed.{IsFormed, FormedEx, FormedTarget, FormedOption, FormedSt, FormedSts, FormedArms, numbers_below, f_to_own, f_to_field, f_to_element, f_some, f_declare, f_block, f_assign, f_act, f_print, f_choose, f_loop, f_return, f_st_then, f_otherwise, f_arm}
-use Rattle.java_meaning.specs.Watched.{bare, bare_if, bare_target, bare_st, bare_sts, bare_arms}
+use Rattle.java_core.specs.Untagged.{bare, bare_if, bare_target, bare_st, bare_sts, bare_arms, untag_method, untagged}
 use Rattle.fact_model.specs.declared.facts.Facts.{Facts}
 use Rattle.flow_rules.specs.declared.items.ObjectType.{ObjectType}
 use Rattle.flow_rules.specs.declared.items.Operand.{Operand}
@@ -20,7 +20,7 @@ use Rattle.flow_rules.specs.Operands.{object_of, object_if, object_static, objec
 use Rattle.flow_rules.specs.Labels.{label_sts}
 use Rattle.flow_rules.specs.Parts.{Part, a_store, an_element_store, a_set, a_return, is_accessed, parts_if, parts_assign, parts_st, parts_sts, parts_arms, parts_body, parts_of}
 use Rattle.flow_rules.specs.Facts.{IsFactsOf}
-use Rattle.run_cover.specs.Untagged.{untag_method, untagged, HaveSlots}
+use Rattle.run_cover.specs.Slotted.{HaveSlots}
 use Rattle.run_cover.proofs.Included.{get_map, object_or}
 use Rattle.run_cover.proofs.Untagging.{unlabel_sts}
 use Rattle.run_cover.proofs.HasRows.{field_row_of, result_row_of, variable_row_of}

@@ -19,7 +19,7 @@ use Rattle.fact_model.specs.declared.sets.Table.{Table}
 use Rattle.hier_model.specs.Hierarchies.{Hierarchy, IsHierarchyOf}
 use Rattle.hier_rules.specs.First.{first_broken}
 use Rattle.flow_rules.specs.Facts.{IsFactsOf}
-use Rattle.run_cover.specs.Untagged.{untagged}
+use Rattle.java_core.specs.Untagged.{untagged}
 use Rattle.facts_order.proofs.Pairs.{IsPlaced}
 use Rattle.rebuild_model.specs.Written.{IsWritten}
 use Rattle.rebuild_looks.specs.Known.{Known}

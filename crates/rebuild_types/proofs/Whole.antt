@@ -8,8 +8,8 @@ use Rattle.fact_model.specs.declared.facts.Facts.{Facts}
 use Rattle.fact_model.specs.declared.sets.PointsTo.{PointsTo}
 use Rattle.fact_model.specs.declared.sets.Table.{Table}
 use Rattle.hier_model.specs.Hierarchies.{Hierarchy}
-use Rattle.run_cover.specs.Untagged.{untagged}
-use Rattle.run_cover.proofs.Programs.{same_program}
+use Rattle.java_core.specs.Untagged.{untagged}
+use Rattle.java_core.proofs.Untagged.{same_program}
 use Rattle.facts_order.proofs.Pairs.{IsPlaced, placed}
 use Rattle.rebuild_model.specs.Rebuilds.{Rebuilds}
 use Rattle.rebuild_model.specs.Written.{IsWritten}

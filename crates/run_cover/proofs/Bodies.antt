@@ -25,7 +25,7 @@ use Rattle.flow_rules.specs.Parts.{parts_of}
 use Rattle.flow_rules.specs.Ordered.{each, when}
 use Rattle.flow_rules.specs.Numbered.{same_column, columns_of, column_number, field_columns, method_columns, form_columns, point_number}
 use Rattle.flow_rules.specs.Facts.{PlainBody, body_seen, body_if, column_body, param_points, column_info, owner_of, slot_in, numbers, IsFactsOf}
-use Rattle.run_cover.specs.Untagged.{untag_body, untag_method, untagged}
+use Rattle.java_core.specs.Untagged.{untag_body, untag_method, untagged}
 use Rattle.run_cover.proofs.Kinded.{FindsBody}
 use Rattle.flow_rules.proofs.Listed.{one, more, each_has, map_from, when_has, position_there}
 use Rattle.run_cover.proofs.Included.{get_map}

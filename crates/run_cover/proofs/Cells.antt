@@ -24,7 +24,7 @@ use Rattle.flow_rules.specs.Types.{field_object}
 use Rattle.flow_rules.specs.Numbered.{same_column, columns_of, column_number, sites_of, site_number}
 use Rattle.flow_rules.specs.Facts.{FieldCell, owner_of, site_info, field_if, field_at, fields_of, array_cell, site_cells, cells_of, numbers, IsFactsOf}
 use Rattle.flow_rules.specs.Facts.{field_cell as cell_for}
-use Rattle.run_cover.specs.Untagged.{untagged}
+use Rattle.java_core.specs.Untagged.{untagged}
 use Rattle.run_cover.specs.Covers.{is_cell, cell_number, field_cell, element_cell}
 use Rattle.run_cover.proofs.Kinded.{site_type}
 use Rattle.flow_rules.proofs.Listed.{one, flat_has, each_has, when_has, position_there}

@@ -11,8 +11,8 @@ use Rattle.flow_rules.specs.Operands.{type_in}
 use Rattle.flow_rules.specs.Parts.{Part, parts_body, parts_of}
 use Rattle.flow_rules.specs.Facts.{numbers, IsFactsOf}
 use Rattle.run_cover.specs.Covers.{CoversEachRun}
-use Rattle.run_cover.specs.Untagged.{untag_body, untag_method, untagged, HaveSlots}
-use Rattle.java_meaning.specs.Watched.{bare_sts}
+use Rattle.java_core.specs.Untagged.{untag_body, untag_method, untagged, bare_sts}
+use Rattle.run_cover.specs.Slotted.{HaveSlots}
 use Rattle.run_cover.proofs.Kinded.{IsKindedPart, IsKinded}
 use Rattle.run_cover.proofs.Untagging.{same_env}
 use Rattle.run_cover.proofs.HasRows.{method_of, variable_point_of}

@@ -7,7 +7,7 @@ use Rattle.java_core.specs.Trees.{no_ex, create, Sts, declare, no_st, st_then}
 use Rattle.java_core.specs.Programs.{Plain, PlainClass, PlainMethod, PlainLocal}
 use Rattle.java_meaning.specs.Moment.{Object, Cell, Spot, held, bound, self_of, result_of, set_static, kept as kept_in, put_in, touched, tested, ran, Ended, Escaped}
 use Rattle.java_meaning.specs.Meaning.{run_in}
-use Rattle.java_meaning.specs.Watched.{bare_tag}
+use Rattle.java_core.specs.Untagged.{bare_tag, untagged}
 use Rattle.fact_model.specs.declared.facts.Facts.{Facts}
 use Rattle.flow_rules.specs.Operands.{type_in}
 use Rattle.flow_rules.specs.Parts.{parts_of}
@@ -16,7 +16,6 @@ use Rattle.flow_rules.specs.Facts.{numbers}
 use Rattle.flow_rules.specs.declared.items.Operand.{Operand}
 use Rattle.flow_rules.specs.Lists.{point_at, site_in}
 use Rattle.run_cover.specs.Covers.{Sets, operand_at, passes, at_point, at_cell, or_itself, held_in, sites_at, spot_set, is_seen, labelled_body, watched}
-use Rattle.run_cover.specs.Untagged.{untagged}
 
 object : PlainClass
 object = record { name = codes "Object"; is_interface = false; is_abstract = false; parent = None; faces = []; tag = bare_tag }

@@ -25,7 +25,7 @@ use Rattle.flow_rules.specs.declared.items.Column.{Column}
 use Rattle.flow_rules.specs.Ordered.{put_in, by_place, once_after, each, when}
 use Rattle.flow_rules.specs.Numbered.{same_column, columns_of, field_columns, method_columns, mark, array_mark, form_columns}
 use Rattle.flow_rules.specs.Facts.{ClassFacts, class_seen, class_facts, is_holder, IsFactsOf}
-use Rattle.run_cover.specs.Untagged.{untag_class, untagged}
+use Rattle.java_core.specs.Untagged.{untag_class, untagged}
 use Rattle.flow_rules.proofs.Listed.{more}
 use Rattle.run_cover.proofs.Included.{get_map}
 

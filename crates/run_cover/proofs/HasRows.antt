@@ -16,7 +16,7 @@ use Rattle.flow_rules.specs.Operands.{object_of, object_if, variable_in, variabl
 use Rattle.flow_rules.specs.Types.{field_object, variable_object}
 use Rattle.flow_rules.specs.Numbered.{is_first_in, is_first, row_number, point_number}
 use Rattle.flow_rules.proofs.Listed.{at_left}
-use Rattle.run_cover.specs.Untagged.{untag_field, untag_method, untagged}
+use Rattle.java_core.specs.Untagged.{untag_field, untag_method, untagged}
 use Rattle.run_cover.proofs.Included.{get_map}
 use Rattle.run_cover.proofs.Untagging.{untyped_params}
 use Rattle.run_cover.proofs.HasNumbers.{field_row, this_row, result_row, own_variable_row, static_point, this_point, variable_point, result_point}

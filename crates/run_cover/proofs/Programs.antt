@@ -1,12 +1,10 @@
 -- The same of a resolved program; and its watched run is its run.
-use Rattle.std.proofs.Common.{◌≡◌, ℕ, List, [], ◌∷◌, Option, Some, None, refl, sym, ap, ◌∙◌, subst, ⊎_elim}
+use Rattle.std.proofs.Common.{◌≡◌, ℕ, Option, Some, None, refl, sym, ap, ◌∙◌, subst, ⊎_elim}
 use Rattle.std.specs.Prelude.{◌≢◌, slice_get, map}
 use Rattle.std.specs.Option.{option_map, option_map_or, option_and_then}
-use Rattle.java_core.specs.declared.Method.{Method}
 use Rattle.java_core.specs.declared.Program.{Program}
 use Rattle.java_core.specs.Trees.{Sts, at_place, no_place}
-use Rattle.java_core.specs.Trees.{body_seen}
-use Rattle.java_core.specs.Programs.{Plain, PlainMethod, local_seen, class_seen, field_seen, method_seen, slot_seen, program_of}
+use Rattle.java_core.specs.Programs.{Plain, PlainMethod, program_of}
 use Rattle.java_core.specs.Classes.{slot_of, lookup, super_method}
 use Rattle.java_core.specs.Types.{env_of, class_of, field_in, types_of}
 use Rattle.java_core.specs.Typing.{IsTyped}
@@ -15,104 +13,19 @@ use Rattle.java_meaning.specs.Moment.{Nothing, Outcome, unnoted, Escaped}
 use Rattle.java_meaning.specs.Values.{default_of}
 use Rattle.java_meaning.specs.Meaning.{run_in}
 use Rattle.java_meaning.specs.Languages.{body_with, body_of, language_of, run}
-use Rattle.java_meaning.specs.Watched.{bare_sts, bare_body, IsBare, EscapesOrIs}
+use Rattle.java_core.proofs.Untagged.{same_program}
+use Rattle.java_core.specs.Untagged.{bare_sts, untag_body, untag_local, untag_method, untagged}
+use Rattle.java_meaning.specs.Watched.{bare_body, IsBare, EscapesOrIs}
 use Rattle.java_meaning.proofs.Plain.{run_r}
-use Rattle.java_meaning.proofs.Placed.{bare_seen}
 use Rattle.java_meaning.proofs.WatchedPrograms.{bare_static}
 use Rattle.fact_model.specs.declared.facts.Facts.{Facts}
 use Rattle.flow_rules.specs.Labels.{label_sts}
 use Rattle.flow_rules.specs.Facts.{IsFactsOf}
 use Rattle.run_cover.specs.Covers.{Sets, labelled_with, labelled_body, watched, CoversEachRun, CoversProgram}
-use Rattle.run_cover.specs.Untagged.{untag_body, untag_local, untag_class, untag_field, untag_method, untagged, HaveSlots}
+use Rattle.run_cover.specs.Slotted.{HaveSlots}
 use Rattle.run_cover.proofs.Included.{get_map}
 use Rattle.run_cover.proofs.Untagging.{unlabel_sts, same_env, untyped_params}
 use Rattle.run_cover.proofs.Covered.{typed_covers}
-
-maps : {A B C : Type 0} (f : B → C) (g : A → B) (h : A → C) (xs : List A) → ((x : A) → f (g x) ≡ h x) → map f (map g xs) ≡ map h xs
-maps f g h [] e = refl
-maps f g h (x ∷ xs) e = subst (λ z. f (g x) ∷ map f (map g xs) ≡ z ∷ map h xs) (e x) (ap (λ z. f (g x) ∷ z) (maps f g h xs e))
-
-same_body : (b : Option Sts) → untag_body b ≡ option_map bare_sts b
-same_body None = refl
-same_body (Some xs) = refl
-
-same_method : (m : Method) → untag_method (method_seen at_place m) ≡ method_seen no_place m
-same_method m =
-    ap (λ z. record {
-      owner = m.owner.0;
-      name = m.name;
-      is_static = m.is_static;
-      is_public = m.is_public;
-      slot = m.slot;
-      params = z;
-      locals = map
-          untag_local (map (local_seen at_place) m.locals.items);
-      result = m.result;
-      body = untag_body (body_seen at_place m.body);
-      tag =
-          no_place m.place;
-    })
-    (maps untag_local (local_seen at_place) (local_seen no_place) m.params.items (λ l. refl))
-    ∙ ap (λ z. record {
-      owner = m.owner.0;
-      name = m.name;
-      is_static = m.is_static;
-      is_public = m.is_public;
-      slot = m.slot;
-      params = map
-          (local_seen no_place) m.params.items;
-      locals = z;
-      result = m.result;
-      body = untag_body (body_seen at_place m.body);
-      tag = no_place m.place;
-    })
-    (maps untag_local (local_seen at_place) (local_seen no_place) m.locals.items (λ l. refl))
-    ∙ ap (λ z. record {
-      owner = m.owner.0;
-      name = m.name;
-      is_static = m.is_static;
-      is_public = m.is_public;
-      slot = m.slot;
-      params = map
-          (local_seen no_place) m.params.items;
-      locals = map (local_seen no_place) m.locals.items;
-      result = m.result;
-      body = z;
-      tag =
-          no_place m.place;
-    })
-    (same_body (body_seen at_place m.body) ∙ bare_seen at_place m.body)
-
--- a program without places is the one with places, its tags taken off
-pub same_program : (p : Program) → untagged (program_of at_place p) ≡ program_of no_place p
-same_program p =
-    ap (λ z. record {
-      classes = z;
-      fields = map untag_field (map (field_seen at_place) p.fields.items);
-      methods = map untag_method
-          (map (method_seen at_place) p.methods.items);
-      slots = map (slot_seen at_place) p.slots.items;
-      main = p.main.0;
-    })
-    (maps untag_class (class_seen at_place) (class_seen no_place) p.classes.items (λ c. refl))
-    ∙ ap (λ z. record {
-      classes = map (class_seen no_place) p.classes.items;
-      fields = z;
-      methods = map untag_method
-          (map (method_seen at_place) p.methods.items);
-      slots = map (slot_seen at_place) p.slots.items;
-      main = p.main.0;
-    })
-    (maps untag_field (field_seen at_place) (field_seen no_place) p.fields.items (λ f. refl))
-    ∙ ap (λ z. record {
-      classes = map (class_seen no_place) p.classes.items;
-      fields = map (field_seen no_place) p.fields.items;
-      methods = z;
-      slots =
-          map (slot_seen at_place) p.slots.items;
-      main = p.main.0;
-    })
-    (maps untag_method (method_seen at_place) (method_seen no_place) p.methods.items same_method)
 
 -- the watched run of a program without tags is its run, unless it escapes
 module _ (Q : Plain) (F : Facts) (S : Sets) where

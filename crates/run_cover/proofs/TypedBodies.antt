@@ -18,8 +18,8 @@ use Rattle.flow_rules.specs.Labels.{label_sts}
 use Rattle.flow_rules.specs.Parts.{Part, a_creation, a_set, a_store, an_element_store, a_return, is_accessed, parts, parts_if, parts_assign, parts_st, parts_sts, parts_arms, parts_body, parts_of}
 use Rattle.flow_rules.specs.Numbered.{site_number}
 use Rattle.flow_rules.specs.Facts.{numbers}
-use Rattle.run_cover.specs.Untagged.{untag_method, untagged, HaveSlots}
-use Rattle.java_meaning.specs.Watched.{bare, bare_if, bare_target, bare_st, bare_sts, bare_arms}
+use Rattle.java_core.specs.Untagged.{untag_method, untagged, bare, bare_if, bare_target, bare_st, bare_sts, bare_arms}
+use Rattle.run_cover.specs.Slotted.{HaveSlots}
 use Rattle.run_cover.proofs.Kinded.{site_type, IsBase, IsKindedPart}
 use Rattle.flow_rules.proofs.Listed.{one, more}
 use Rattle.run_cover.proofs.Included.{object_or}

@@ -23,8 +23,8 @@ use Rattle.flow_rules.specs.Parts.{Part, a_load, an_element, a_creation, a_call,
 use Rattle.java_core.specs.declared.BinOp.{BinOp}
 use Rattle.flow_rules.specs.Numbered.{own_row, number_if, row_number, site_number}
 use Rattle.flow_rules.specs.Facts.{numbers}
-use Rattle.run_cover.specs.Untagged.{untag_method, untagged, HaveSlots}
-use Rattle.java_meaning.specs.Watched.{bare, bare_all}
+use Rattle.java_core.specs.Untagged.{untag_method, untagged, bare, bare_all}
+use Rattle.run_cover.specs.Slotted.{HaveSlots}
 use Rattle.java_meaning.proofs.Moves.{then_some}
 use Rattle.run_cover.proofs.Kinded.{site_type, HasPoint, IsCreation, IsBase, IsKindedPart}
 use Rattle.run_cover.proofs.Untagging.{untyped_params}

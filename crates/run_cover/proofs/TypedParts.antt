@@ -31,8 +31,8 @@ use Rattle.flow_rules.specs.Parts.{Part, a_creation, a_test, parts, parts_of}
 use Rattle.flow_rules.specs.Lists.{point_in}
 use Rattle.flow_rules.specs.Numbered.{form_rows, own_row, number_if, site_if, point_of_form, form_points, row_number, site_number, point_number}
 use Rattle.flow_rules.specs.Facts.{numbers}
-use Rattle.run_cover.specs.Untagged.{untag_method, untagged, HaveSlots}
-use Rattle.java_meaning.specs.Watched.{bare, bare_all}
+use Rattle.java_core.specs.Untagged.{untag_method, untagged, bare, bare_all}
+use Rattle.run_cover.specs.Slotted.{HaveSlots}
 use Rattle.run_cover.proofs.Kinded.{site_type, IsPoint, IsCreation}
 use Rattle.flow_rules.proofs.Listed.{one, first, more, when_has, at_left}
 use Rattle.run_cover.proofs.Included.{get_map, object_or, class_object}

@@ -19,8 +19,7 @@ use Rattle.flow_rules.specs.Ordered.{by_place, each}
 use Rattle.flow_rules.specs.Parts.{Part, a_load, an_element, a_creation, a_call, a_static_call, a_super_call, a_test, a_pair, a_set, a_store, an_element_store, a_return, is_accessed, parts, parts_all, parts_if, parts_set, parts_return, parts_assign, parts_st, parts_sts, parts_arms, parts_body, parts_of}
 use Rattle.flow_rules.specs.Numbered.{Body, body_at, bodies_of, site_if, form_sites, row_number, sites_of, site_number}
 use Rattle.flow_rules.specs.Facts.{IsFactsOf}
-use Rattle.run_cover.specs.Untagged.{untag_body, untag_method, untagged}
-use Rattle.java_meaning.specs.Watched.{bare, bare_all, bare_if, bare_target, bare_st, bare_sts, bare_arms}
+use Rattle.java_core.specs.Untagged.{untag_body, untag_method, untagged, bare, bare_all, bare_if, bare_target, bare_st, bare_sts, bare_arms}
 use Rattle.run_cover.proofs.Kinded.{site_type}
 use Rattle.flow_rules.proofs.Listed.{first, more, each_has}
 use Rattle.run_cover.proofs.Included.{get_map}

@@ -5,8 +5,7 @@ use Rattle.java_core.specs.Trees.{Ex, Exs, no_ex, ex_then, number, character, te
 use Rattle.java_core.specs.Programs.{PlainMethod, PlainLocal}
 use Rattle.java_core.specs.Types.{env_of, types_of}
 use Rattle.flow_rules.specs.Labels.{label, label_all, label_if, label_target, label_st, label_sts, label_arms, size, size_target, size_st, size_sts, size_if}
-use Rattle.run_cover.specs.Untagged.{untag_local, untag_method}
-use Rattle.java_meaning.specs.Watched.{bare, bare_all, bare_if, bare_target, bare_st, bare_sts, bare_arms}
+use Rattle.java_core.specs.Untagged.{untag_local, untag_method, bare, bare_all, bare_if, bare_target, bare_st, bare_sts, bare_arms}
 
 mutual
   pub unlabel : (n : ℕ) (e : Ex) → bare (label n e) ≡ bare e

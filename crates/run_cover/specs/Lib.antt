@@ -1,4 +1,4 @@
 pub mod Families
 pub mod Watched
 pub mod Covers
-pub mod Untagged
+pub mod Slotted

@@ -42,7 +42,8 @@ use Rattle.flow_rules.specs.Parts.{a_creation, parts_of}
 use Rattle.flow_rules.specs.Numbered.{row_number, site_number, sites_of}
 use Rattle.flow_rules.specs.Facts.{numbers, site_info, IsFactsOf}
 use Rattle.run_cover.specs.Covers.{solved}
-use Rattle.run_cover.specs.Untagged.{untagged, untag_field, HaveSlots}
+use Rattle.java_core.specs.Untagged.{untagged, untag_field}
+use Rattle.run_cover.specs.Slotted.{HaveSlots}
 use Rattle.run_cover.proofs.Included.{get_map}
 use Rattle.run_cover.proofs.Kinded.{site_type, IsCreation, IsKindedPart}
 use Rattle.run_cover.proofs.Covered.{method_parts}

@@ -46,7 +46,7 @@ use Rattle.flow_rules.specs.Parts.{Part, a_test, an_element_store, parts_of}
 use Rattle.flow_rules.specs.Lists.{both, these, point_at, row_at, site_in, stores_of, tests_of}
 use Rattle.flow_rules.specs.Facts.{numbers, gathered, IsFactsOf}
 use Rattle.run_cover.specs.Covers.{passes, point_sites, held_sites, held_in, or_itself, solved}
-use Rattle.run_cover.specs.Untagged.{untagged}
+use Rattle.java_core.specs.Untagged.{untagged}
 use Rattle.run_cover.proofs.Kinded.{site_type}
 use Rattle.flow_rules.proofs.Listed.{one, place_has, below_at, index_at, contains_at}
 use Rattle.facts_order.proofs.Classes.{subclass_below, below_subclass}

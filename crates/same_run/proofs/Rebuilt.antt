@@ -13,7 +13,7 @@ use Rattle.java_meaning.specs.Moment.{Value, Number, Truth, CodeUnit, Nothing, T
 use Rattle.java_meaning.specs.Values.{default_of}
 use Rattle.java_meaning.specs.Meaning.{run_in}
 use Rattle.java_meaning.specs.Languages.{body_with, language_of, statics_of}
-use Rattle.java_meaning.specs.Watched.{bare_sts}
+use Rattle.java_core.specs.Untagged.{bare_sts, untag_body, untag_method, untagged}
 use Rattle.java_meaning.proofs.Layouts.{places}
 use Rattle.java_meaning.proofs.Moves.{then_some}
 use Rattle.fact_model.specs.InRange.{InRange}
@@ -34,7 +34,6 @@ use Rattle.flow_rules.specs.Lists.{site_in}
 use Rattle.flow_rules.specs.Facts.{numbers, IsFactsOf}
 use Rattle.run_cover.specs.Covers.{Sets, solved, is_seen, are_seen, spot_set, labelled_with, labelled_body, watched}
 use Rattle.run_cover.specs.Families.{Set, ArePlain}
-use Rattle.run_cover.specs.Untagged.{untag_body, untag_method, untagged}
 use Rattle.run_cover.specs.Watched.{Of}
 use Rattle.run_cover.proofs.Covered.{method_parts}
 use Rattle.run_cover.proofs.HasRows.{method_of, of_method}

@@ -32,7 +32,7 @@ use Rattle.flow_rules.specs.Operands.{object_of, object_in}
 use Rattle.flow_rules.specs.Lists.{point_at, site_in}
 use Rattle.flow_rules.specs.Facts.{numbers}
 use Rattle.run_cover.specs.Covers.{point_sites, at_point, solved, passes}
-use Rattle.run_cover.specs.Untagged.{untagged}
+use Rattle.java_core.specs.Untagged.{untagged}
 use Rattle.run_cover.proofs.Kinded.{site_type}
 use Rattle.rebuild_model.specs.Renaming.{Places, Renaming, renaming_of}
 use Rattle.rebuild_looks.specs.Known.{Known, Offers}

@@ -7,10 +7,10 @@ use Rattle.kaba_base.specs.declared.Place.{Place}
 use Rattle.java_core.specs.Trees.{Ex, Exs, Target, to_local, to_static, to_own, to_field, to_element, no_target, St, Sts, Arms, declare, block, assign, act, print, choose, loop, return, break, continue, no_st, st_then, no_other, otherwise, arm}
 use Rattle.java_core.specs.Programs.{Plain, PlainMethod}
 use Rattle.java_core.specs.Types.{Static, Env, env_of, field_type, fits_in, target_type, static}
-use Rattle.java_core.specs.Typing.{Typed, TypedTarget, TypedTest, TypedSt, TypedSts, TypedArms, t_to_field, t_to_element, t_test, t_declare_as, t_block, t_assign, t_act, t_print, t_choose, t_loop, t_return, t_st_then, t_no_other, t_otherwise, t_arm}
-use Rattle.java_core.specs.Formed.{IsFormed, FormedEx, FormedTarget, FormedOption, FormedSt, FormedSts, FormedArms, numbers_below, f_to_own, f_to_field, f_to_element, f_some, f_declare, f_block, f_assign, f_act, f_print, f_choose, f_loop, f_return, f_st_then, f_no_other, f_otherwise, f_arm}
+use Rattle.java_core.specs.Typing.{Typed, TypedTarget, TypedTest, TypedSt, TypedSts, TypedArms, t_to_field, t_to_element, t_test, t_declare_as, t_block, t_assign, t_act, t_print, t_choose, t_loop, t_return, t_st_then, t_otherwise, t_arm}
+use Rattle.java_core.specs.Formed.{IsFormed, FormedEx, FormedTarget, FormedOption, FormedSt, FormedSts, FormedArms, numbers_below, f_to_own, f_to_field, f_to_element, f_some, f_declare, f_block, f_assign, f_act, f_print, f_choose, f_loop, f_return, f_st_then, f_otherwise, f_arm}
 use Rattle.java_meaning.specs.Moment.{Kind, Body, Lang}
-use Rattle.java_meaning.specs.Watched.{bare, bare_if, bare_target, bare_st, bare_sts, bare_arms}
+use Rattle.java_core.specs.Untagged.{bare, bare_if, bare_target, bare_st, bare_sts, bare_arms, untag_method, untagged}
 use Rattle.fact_model.specs.declared.facts.Facts.{Facts}
 use Rattle.flow_rules.specs.declared.items.ObjectType.{ObjectType}
 use Rattle.flow_rules.specs.declared.items.Operand.{Operand}
@@ -20,7 +20,7 @@ use Rattle.flow_rules.specs.Operands.{object_field, row_of, operand_of, operands
 use Rattle.flow_rules.specs.Parts.{Part, a_store, an_element_store, is_accessed, parts, parts_all, parts_if, parts_assign, parts_st, parts_sts, parts_arms, parts_body, parts_of}
 use Rattle.flow_rules.specs.Facts.{IsFactsOf}
 use Rattle.run_cover.specs.Covers.{Sets}
-use Rattle.run_cover.specs.Untagged.{untag_method, untagged, HaveSlots}
+use Rattle.run_cover.specs.Slotted.{HaveSlots}
 use Rattle.run_cover.proofs.Untagging.{unlabel_sts}
 use Rattle.rebuild_model.specs.Renaming.{Renaming}
 use Rattle.rebuild_model.specs.Matches.{Matches, MatchesIf, MatchesTarget, MatchesSt, MatchesSts, MatchesArms, m_none, m_some, m_to_local, m_to_static, m_to_own, m_to_field, m_to_element, m_declare, m_block, m_assign, m_act, m_print, m_choose, m_loop, m_return, m_break, m_continue, m_no_st, m_st_then, m_no_other, m_otherwise, m_arm}
@@ -29,7 +29,7 @@ use Rattle.twin_runs.specs.Twins.{Link, SameIf, same_none, same_some, Same, Same
 use Rattle.twin_runs.specs.Twins.{same_to_local, same_to_static, same_to_own, same_to_field, same_to_element, same_declare, same_block, same_assign, same_act, same_print, same_choose, same_loop, same_return, same_break, same_continue, same_no_st, same_st_then, same_no_other, same_otherwise, same_arm}
 use Rattle.rebuild_types.proofs.Statements.{fits_some}
 use Rattle.same_run.proofs.Ties as tied
-use Rattle.same_run.proofs.Ties.{type_at, type_over, FieldTied, CallTied, CreationTied, TestTied, Ties, BodyTied}
+use Rattle.same_run.proofs.Ties.{FieldTied, Ties, BodyTied}
 use Rattle.same_run.proofs.Walk as walk
 
 module _ (Q W : Plain) (F : Facts) (formed : IsFormed (untagged Q)) (slots : HaveSlots (untagged Q)) (facts : IsFactsOf (untagged Q) Q F) (R : Renaming)

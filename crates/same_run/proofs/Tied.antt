@@ -44,7 +44,7 @@ use Rattle.flow_rules.specs.Parts.{Part, a_call, a_super_call, parts_of}
 use Rattle.flow_rules.specs.Lists.{Placed, PlainCall, both, accessed, point_at, row_at, site_in, accesses_of, calls_of, supers_of}
 use Rattle.flow_rules.specs.Facts.{numbers, call_seen, gathered, IsFactsOf}
 use Rattle.run_cover.specs.Covers.{solved, labelled_with, labelled_body}
-use Rattle.run_cover.specs.Untagged.{untag_method, untagged}
+use Rattle.java_core.specs.Untagged.{untag_method, untagged}
 use Rattle.run_cover.proofs.Bodies.{finds_some}
 use Rattle.run_cover.proofs.Found.{same_length}
 use Rattle.run_cover.proofs.HasRows.{method_of, of_field}

@@ -8,7 +8,7 @@ use Rattle.java_core.specs.Trees.{Ex}
 use Rattle.java_core.specs.Types.{Env, env_of, is_subtype, static}
 use Rattle.java_core.specs.Typing.{Typed}
 use Rattle.java_core.specs.Formed.{FormedEx}
-use Rattle.java_meaning.specs.Watched.{bare}
+use Rattle.java_core.specs.Untagged.{bare, untag_method, untagged}
 use Rattle.java_meaning.specs.Moment.{Kind, an_object, own_type, Body, Lang}
 use Rattle.java_meaning.specs.Meaning.{element_type}
 use Rattle.java_meaning.specs.Languages.{body_of, language_of}
@@ -24,7 +24,6 @@ use Rattle.flow_rules.specs.Parts.{Part, a_load, an_element, a_creation, a_call,
 use Rattle.flow_rules.specs.Lists.{site_in, point_at, row_at}
 use Rattle.flow_rules.specs.Facts.{numbers}
 use Rattle.run_cover.specs.Covers.{Sets, passes, point_sites, held_sites, spot_set, labelled_body, watched}
-use Rattle.run_cover.specs.Untagged.{untag_method, untagged}
 use Rattle.run_cover.proofs.Kinded.{IsKindedPart}
 use Rattle.rebuild_model.specs.Renaming.{Renaming, retyped}
 use Rattle.rebuild_model.specs.Matches.{IsStaticField, IsStaticMethod, Matches}

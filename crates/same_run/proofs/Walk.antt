@@ -16,7 +16,7 @@ use Rattle.java_core.specs.Typing.{Typed, TypedArgs, t_field, t_index, t_call, t
 use Rattle.java_core.specs.Formed.{IsFormed, FormedEx, FormedExs, f_own_field, f_field, f_index, f_call, f_static_call, f_super_call, f_create_array, f_cast, f_instance_of, f_unary, f_binary, f_ex_then}
 use Rattle.java_meaning.specs.Moment.{Kind, own_type, Body, Lang}
 use Rattle.java_meaning.specs.Meaning.{is_number_type, names_length, text_method}
-use Rattle.java_meaning.specs.Watched.{bare, bare_all}
+use Rattle.java_core.specs.Untagged.{bare, bare_all, untag_method, untagged}
 use Rattle.java_meaning.proofs.Holds.{some_there}
 use Rattle.java_meaning.proofs.Moves.{then_some, element_class, string_class}
 use Rattle.java_meaning.proofs.WatchedPrograms.{bare_static}
@@ -31,7 +31,7 @@ use Rattle.flow_rules.specs.Parts.{Part, nothing, a_load, a_creation, a_call, a_
 use Rattle.flow_rules.specs.Lists.{site_in, point_at}
 use Rattle.flow_rules.specs.Facts.{numbers, IsFactsOf}
 use Rattle.run_cover.specs.Covers.{Sets, passes, operand_at, point_sites, held_sites, labelled_body}
-use Rattle.run_cover.specs.Untagged.{untag_method, untagged, HaveSlots}
+use Rattle.run_cover.specs.Slotted.{HaveSlots}
 use Rattle.run_cover.proofs.Included.{class_object}
 use Rattle.run_cover.proofs.Kinded.{site_type, IsKindedPart}
 use Rattle.run_cover.proofs.Types.{class_apart}

@@ -13,8 +13,10 @@ use Rattle.fact_model.specs.declared.sets.PointsTo.{PointsTo}
 use Rattle.fact_model.specs.declared.sets.Table.{Table}
 use Rattle.hier_model.specs.Hierarchies.{Hierarchy}
 use Rattle.run_cover.specs.Covers.{solved, watched, CoversProgram}
-use Rattle.run_cover.specs.Untagged.{untagged, HaveSlots}
-use Rattle.run_cover.proofs.Programs.{same_program, untagged_covers}
+use Rattle.java_core.specs.Untagged.{untagged}
+use Rattle.run_cover.specs.Slotted.{HaveSlots}
+use Rattle.java_core.proofs.Untagged.{same_program}
+use Rattle.run_cover.proofs.Programs.{untagged_covers}
 use Rattle.run_cover.proofs.Solved.{solved_closed, solved_covers}
 use Rattle.facts_order.proofs.Pairs.{IsPlaced, placed}
 use Rattle.rebuild_model.specs.Rebuilds.{Rebuilds}

@@ -27,7 +27,7 @@ use Rattle.flow_rules.specs.declared.items.RowItem.TheVariants as row
 use Rattle.flow_rules.specs.Parts.{Part, a_super_call, parts_of}
 use Rattle.flow_rules.specs.Lists.{Numbers, both, accessed, row_at, accesses_of, supers_of}
 use Rattle.flow_rules.specs.Facts.{numbers}
-use Rattle.run_cover.specs.Untagged.{untagged}
+use Rattle.java_core.specs.Untagged.{untagged}
 use Rattle.run_cover.proofs.HasRows.{of_field}
 use Rattle.flow_rules.proofs.Listed.{first}
 use Rattle.facts_order.proofs.Columns.{field_column, body_column}

@@ -15,7 +15,7 @@ use Rattle.java_core.specs.Types.{Static, Env, env_of, field_type, value_type, s
 use Rattle.java_core.specs.Typing.{Typed, TypedArgs, TypedTarget, TypedTest, TypedSt, TypedSts, TypedArms, t_field, t_index, t_call, t_static_call, t_super_call, t_create_array, t_cast, t_instance_of, t_unary, t_binary, t_ex_then, t_to_field, t_to_element, t_test, t_declare_as, t_block, t_assign, t_act, t_print, t_choose, t_loop, t_return, t_st_then, t_otherwise, t_arm}
 use Rattle.java_core.specs.Formed as core
 use Rattle.java_core.specs.Formed.{IsNewLocal, variables_of, numbers_below, is_at_most_one, is_first, FormedEx, FormedExs, FormedTarget, FormedOption, FormedSt, FormedSts, FormedArms, f_number, f_character, f_text, f_local, f_static_field, f_own_field, f_field, f_index, f_call, f_static_call, f_super_call, f_create, f_create_array, f_cast, f_instance_of, f_unary, f_binary, f_ex_then, f_to_local, f_to_static, f_to_own, f_to_field, f_to_element, f_some, f_declare, f_block, f_assign, f_act, f_print, f_choose, f_loop, f_return, f_st_then, f_otherwise, f_arm}
-use Rattle.java_meaning.specs.Watched.{bare, bare_all, bare_if, bare_target, bare_st, bare_sts, bare_arms}
+use Rattle.java_core.specs.Untagged.{bare, bare_all, bare_if, bare_target, bare_st, bare_sts, bare_arms, untag_method, untagged}
 use Rattle.fact_model.specs.declared.facts.Facts.{Facts}
 use Rattle.hier_model.specs.Hierarchies.{Hierarchy}
 use Rattle.flow_rules.specs.declared.items.ObjectType.{ObjectType}
@@ -24,7 +24,6 @@ use Rattle.flow_rules.specs.declared.items.RowItem.TheVariants as row
 use Rattle.flow_rules.specs.Operands.{object_field, variable_row, operand_of, this_operand, type_in}
 use Rattle.flow_rules.specs.Labels.{label_sts}
 use Rattle.flow_rules.specs.Parts.{Part, a_load, a_store, is_accessed, parts, parts_all, parts_if, parts_assign, parts_st, parts_sts, parts_arms, parts_body, parts_of}
-use Rattle.run_cover.specs.Untagged.{untag_method, untagged}
 use Rattle.run_cover.proofs.Untagging.{unlabel_sts}
 use Rattle.flow_rules.proofs.Listed.{contains_at, first, more}
 use Rattle.rebuild_model.specs.Renaming.{Renaming}

@@ -1,5 +1,5 @@
 -- The laws, of a program with its places.
-use Rattle.std.proofs.Common.{subst}
+use Rattle.std.proofs.Common.{sym, subst}
 use Rattle.java_print.specs.Formed.{IsFormedTree}
 use Rattle.java_print.proofs.DeclParsed.{formed_given}
 use Rattle.java_core.specs.Trees.{at_place, no_place}
@@ -8,13 +8,13 @@ use Rattle.fact_model.specs.declared.facts.Facts.{Facts}
 use Rattle.fact_model.specs.declared.sets.PointsTo.{PointsTo}
 use Rattle.fact_model.specs.declared.sets.Table.{Table}
 use Rattle.hier_model.specs.Hierarchies.{Hierarchy}
-use Rattle.run_cover.specs.Untagged.{untagged}
-use Rattle.run_cover.proofs.Programs.{same_program}
+use Rattle.java_core.specs.Untagged.{untagged}
+use Rattle.java_core.proofs.Untagged.{same_program}
 use Rattle.facts_order.proofs.Pairs.{IsPlaced, placed}
 use Rattle.rebuild_types.specs.Laws.{IsReady}
 use Rattle.written_tree.specs.Written.{java_tree}
 use Rattle.tree_given.specs.Laws.{TreeIsFormed, TreeIsGiven}
-use Rattle.tree_given.proofs.Unplaced.{without_places}
+use Rattle.tree_given.proofs.Unplaced.{places_aside}
 use Rattle.tree_given.proofs.Whole.{tree_formed}
 
 untagged_formed : (Q : Plain) (F : Facts) (s : PointsTo) (t : Table) (H : Hierarchy) → IsPlaced (untagged Q) Q → IsReady (untagged Q) Q F s t H
@@ -32,4 +32,4 @@ pub tree_is_given : TreeIsGiven
 unfolding TreeIsGiven TreeIsFormed
 tree_is_given p F s t H ready =
     let tree = java_tree (program_of no_place p) (program_of at_place p) F H in
-    formed_given tree (without_places tree (tree_is_formed p F s t H ready))
+    formed_given tree (subst (λ (A : Type 0). A) (sym (places_aside tree)) (tree_is_formed p F s t H ready))

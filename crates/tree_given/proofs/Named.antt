@@ -14,7 +14,7 @@ use Rattle.java_core.specs.Classes.{slot_of, slot_of_method, declaration_of, sup
 use Rattle.java_core.specs.Types.{Static, Env, env_of, class_of, field_in, field_type, access_type, Signature, call_signature, super_signature, static}
 use Rattle.java_core.specs.Typing.{Typed}
 use Rattle.java_core.specs.Formed.{IsClass, IsType, IsOwnField, IsFormedMethod, IsStaticField, IsStaticMethod, variables_of, FormedEx}
-use Rattle.java_meaning.specs.Watched.{bare}
+use Rattle.java_core.specs.Untagged.{bare, untag_body, untag_method, untagged}
 use Rattle.java_meaning.proofs.WatchedPrograms.{bare_static}
 use Rattle.fact_model.specs.declared.facts.Facts.{Facts}
 use Rattle.fact_model.specs.declared.facts.AccessInfo.{AccessInfo}
@@ -29,7 +29,7 @@ use Rattle.flow_rules.specs.Parts.{Part, a_creation, a_call, a_super_call, parts
 use Rattle.flow_rules.specs.Numbered.{row_number, number_if, site_number}
 use Rattle.flow_rules.specs.Lists.{Numbers, accessed, row_in, row_at, accesses_of}
 use Rattle.flow_rules.specs.Facts.{numbers}
-use Rattle.run_cover.specs.Untagged.{untag_body, untag_method, untagged, HaveSlots}
+use Rattle.run_cover.specs.Slotted.{HaveSlots}
 use Rattle.run_cover.proofs.Included.{class_object}
 use Rattle.run_cover.proofs.Untagging.{same_env}
 use Rattle.run_cover.proofs.HasNumbers.{this_row}

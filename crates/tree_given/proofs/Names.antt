@@ -27,7 +27,7 @@ use Rattle.hier_rules.specs.First.{first_of_edit, first_changed_run}
 use Rattle.hier_begin.proofs.ShapeLemmas.{shape, placed}
 use Rattle.flow_rules.specs.declared.items.ColumnItem.TheVariants as column
 use Rattle.flow_rules.specs.Facts.{numbers}
-use Rattle.run_cover.specs.Untagged.{untagged}
+use Rattle.java_core.specs.Untagged.{untagged}
 use Rattle.rebuild_model.specs.Renaming.{Renaming, renaming_of}
 use Rattle.rebuild_looks.specs.Known.{AreColumns}
 use Rattle.rebuild_given.proofs.Given.{columns as columns_are}

@@ -20,7 +20,7 @@ use Rattle.hier_model.specs.Hierarchies.{Hierarchy, place_of_row}
 use Rattle.flow_rules.specs.declared.items.RowItem.{RowItem}
 use Rattle.flow_rules.specs.Numbered.{row_number}
 use Rattle.flow_rules.specs.Facts.{numbers}
-use Rattle.run_cover.specs.Untagged.{untagged}
+use Rattle.java_core.specs.Untagged.{untagged}
 use Rattle.flow_rules.proofs.Listed.{below_at}
 use Rattle.rebuild_model.specs.Renaming.{Renaming, renaming_of}
 use Rattle.written_tree.specs.Names.{class_name, row_name, written_base}

@@ -1,33 +1,34 @@
--- A tree whose parts are such as the grammar gives has them without its places too.
-use Rattle.std.proofs.Common.{◌≡◌, ◌||◌, Bool, List, [], ◌∷◌, Option, Some, None, refl, ◌∙◌, is_some}
+-- Places do not matter to what parts the grammar gives a tree.
+use Rattle.std.proofs.Common.{◌≡◌, ◌||◌, Bool, List, [], ◌∷◌, Option, Some, None, refl, is_some}
 use Rattle.java_tree.specs.declared.Id.{Id}
+use Rattle.java_tree.specs.declared.Modifier.{Modifier}
 use Rattle.java_tree.specs.declared.TypeName.{TypeName}
 use Rattle.java_tree.specs.Syntax.{Expression, NameRef, FieldOf, IndexOf, CallOf, CallOn, SuperCallOf, NewOf, NewArrayOf, CastOf, InstanceOfClass, UnaryOf, BinaryOf, Expressions, no_more, and_more, Statement, LocalOf, BlockOf, AssignOf, DoOf, PrintOf, IfOf, WhileOf, ForOf, ReturnOf, BreakOf, Statements, no_statements, and_then, Arms, no_arms, and_arm, Else, no_else, otherwise, OptionalStatement, absent, present, HeadTree, MemberTree, FieldTree, MethodTree, DeclTree, ClassTree, InterfaceTree}
 use Rattle.java_tree.specs.Places.{expr_unplaced, exprs_unplaced, value_unplaced, stmt_unplaced, stmts_unplaced, arms_unplaced, else_unplaced, step_unplaced, all_unplaced, may_unplaced, id_unplaced, modifier_unplaced, type_unplaced, param_unplaced, head_unplaced, member_unplaced, decl_unplaced, unplaced}
 use Rattle.java_print.specs.Formed.{is_target, is_call, IsFormed, AreFormed, IsFormedValue, is_act, is_simple, has_arm, IsFormedStmt, AreFormedStmts, AreFormedArms, IsFormedElse, IsFormedFirst, IsFormedStep, Each, IsFormedMod, IsFormedId, IsFormedParam, IsFormedResult, IsFormedHead, IsFormedBody, IsFormedMember, IsFormedParent, IsFormedDecl, IsFormedTree}
 
 mutual
-  expr : (e : Expression) → IsFormed e → IsFormed (expr_unplaced e)
-  expr (FieldOf e n p) h = (expr e h.0, h.1)
-  expr (IndexOf e i p) h = (expr e h.0, expr i h.1)
-  expr (CallOf n es p) h = (h.0, exprs es h.1)
-  expr (CallOn e n es p) h = (expr e h.0, h.1, exprs es h.2)
-  expr (SuperCallOf n es p) h = (h.0, exprs es h.1)
-  expr (NewOf c es p) h = (h.0, exprs es h.1)
-  expr (NewArrayOf t e p) h = (h.0, h.1, expr e h.2)
-  expr (CastOf t e p) h = (h.0, h.1, expr e h.2)
-  expr (InstanceOfClass e c p) h = (expr e h.0, h.1)
-  expr (UnaryOf m e p) h = (h.0, expr e h.1)
-  expr (BinaryOf m a b p) h = (h.0, expr a h.1, expr b h.2)
-  expr _ h = h
+  expr : (e : Expression) → IsFormed (expr_unplaced e) ≡ IsFormed e
+  expr (FieldOf e n p) = rw (expr e) refl
+  expr (IndexOf e i p) = rw (expr e, expr i) refl
+  expr (CallOf n es p) = rw (exprs es) refl
+  expr (CallOn e n es p) = rw (expr e, exprs es) refl
+  expr (SuperCallOf n es p) = rw (exprs es) refl
+  expr (NewOf c es p) = rw (exprs es) refl
+  expr (NewArrayOf t e p) = rw (expr e) refl
+  expr (CastOf t e p) = rw (expr e) refl
+  expr (InstanceOfClass e c p) = rw (expr e) refl
+  expr (UnaryOf m e p) = rw (expr e) refl
+  expr (BinaryOf m a b p) = rw (expr a, expr b) refl
+  expr _ = refl
 
-  exprs : (es : Expressions) → AreFormed es → AreFormed (exprs_unplaced es)
-  exprs no_more h = h
-  exprs (and_more e es) h = (expr e h.0, exprs es h.1)
+  exprs : (es : Expressions) → AreFormed (exprs_unplaced es) ≡ AreFormed es
+  exprs no_more = refl
+  exprs (and_more e es) = rw (expr e, exprs es) refl
 
-value : (v : Option Expression) → IsFormedValue v → IsFormedValue (value_unplaced v)
-value None h = h
-value (Some e) h = expr e h
+value : (v : Option Expression) → IsFormedValue (value_unplaced v) ≡ IsFormedValue v
+value None = refl
+value (Some e) = expr e
 
 -- what a statement or an expression is does not depend on places
 target : (e : Expression) → is_target (expr_unplaced e) ≡ is_target e
@@ -55,74 +56,72 @@ printed l None = refl
 printed l (Some e) = refl
 
 mutual
-  stmt : (s : Statement) → IsFormedStmt s → IsFormedStmt (stmt_unplaced s)
-  stmt (LocalOf f t n v p) h = (h.0, h.1, value v h.2)
-  stmt (BlockOf ss p) h = stmts ss h
-  stmt (AssignOf t v p) h = (target t ∙ h.0, expr t h.1, expr v h.2)
-  stmt (DoOf c p) h = (call c ∙ h.0, expr c h.1)
-  stmt (PrintOf l v p) h = (printed l v ∙ h.0, value v h.1)
-  stmt (IfOf a l p) h = (arm a ∙ h.0, arms a h.1, else l h.2)
-  stmt (WhileOf e ss p) h = (expr e h.0, stmts ss h.1)
-  stmt (ForOf f v g ss p) h = (first f h.0, value v h.1, step g h.2, stmts ss h.3)
-  stmt (ReturnOf v p) h = value v h
-  stmt _ h = h
+  stmt : (s : Statement) → IsFormedStmt (stmt_unplaced s) ≡ IsFormedStmt s
+  stmt (LocalOf f t n v p) = rw (value v) refl
+  stmt (BlockOf ss p) = stmts ss
+  stmt (AssignOf t v p) = rw (target t, expr t, expr v) refl
+  stmt (DoOf c p) = rw (call c, expr c) refl
+  stmt (PrintOf l v p) = rw (printed l v, value v) refl
+  stmt (IfOf a l p) = rw (arm a, arms a, else l) refl
+  stmt (WhileOf e ss p) = rw (expr e, stmts ss) refl
+  stmt (ForOf f v g ss p) = rw (first f, value v, step g, stmts ss) refl
+  stmt (ReturnOf v p) = value v
+  stmt _ = refl
 
-  stmts : (ss : Statements) → AreFormedStmts ss → AreFormedStmts (stmts_unplaced ss)
-  stmts no_statements h = h
-  stmts (and_then s ss) h = (stmt s h.0, stmts ss h.1)
+  stmts : (ss : Statements) → AreFormedStmts (stmts_unplaced ss) ≡ AreFormedStmts ss
+  stmts no_statements = refl
+  stmts (and_then s ss) = rw (stmt s, stmts ss) refl
 
-  arms : (a : Arms) → AreFormedArms a → AreFormedArms (arms_unplaced a)
-  arms no_arms h = h
-  arms (and_arm e ss a) h = (expr e h.0, stmts ss h.1, arms a h.2)
+  arms : (a : Arms) → AreFormedArms (arms_unplaced a) ≡ AreFormedArms a
+  arms no_arms = refl
+  arms (and_arm e ss a) = rw (expr e, stmts ss, arms a) refl
 
-  else : (l : Else) → IsFormedElse l → IsFormedElse (else_unplaced l)
-  else no_else h = h
-  else (otherwise ss) h = stmts ss h
+  else : (l : Else) → IsFormedElse (else_unplaced l) ≡ IsFormedElse l
+  else no_else = refl
+  else (otherwise ss) = stmts ss
 
-  first : (f : OptionalStatement) → IsFormedFirst f → IsFormedFirst (step_unplaced f)
-  first absent h = h
-  first (present s) h = (simple s ∙ h.0, stmt s h.1)
+  first : (f : OptionalStatement) → IsFormedFirst (step_unplaced f) ≡ IsFormedFirst f
+  first absent = refl
+  first (present s) = rw (simple s, stmt s) refl
 
-  step : (f : OptionalStatement) → IsFormedStep f → IsFormedStep (step_unplaced f)
-  step absent h = h
-  step (present s) h = (act s ∙ h.0, stmt s h.1)
+  step : (f : OptionalStatement) → IsFormedStep (step_unplaced f) ≡ IsFormedStep f
+  step absent = refl
+  step (present s) = rw (act s, stmt s) refl
 
--- each item of a list, where a part that is formed with its place is formed without it
-each : {A : Type 0} (P : A → Type 0) (f : A → A) → ((x : A) → P x → P (f x)) → (xs : List A) → Each P xs → Each P (all_unplaced f xs)
-each P f k [] h = h
-each P f k (x ∷ xs) h = (k x h.0, each P f k xs h.1)
+-- each item of a list, where the same is asked of a part with its place and without it
+each : {A : Type 0} (P : A → Type 0) (f : A → A) → ((x : A) → P (f x) ≡ P x) → (xs : List A) → Each P (all_unplaced f xs) ≡ Each P xs
+each P f k [] = refl
+each P f k (x ∷ xs) = rw (k x, each P f k xs) refl
 
-body : (b : Option Statements) → IsFormedBody b → IsFormedBody (may_unplaced stmts_unplaced b)
-body None h = h
-body (Some ss) h = stmts ss h
+mods : (ms : List Modifier) → Each IsFormedMod (all_unplaced modifier_unplaced ms) ≡ Each IsFormedMod ms
+mods ms = each IsFormedMod modifier_unplaced (λ m. refl) ms
 
-result : (t : Option TypeName) → IsFormedResult t → IsFormedResult (may_unplaced type_unplaced t)
-result None h = h
-result (Some t) h = h
+body : (b : Option Statements) → IsFormedBody (may_unplaced stmts_unplaced b) ≡ IsFormedBody b
+body None = refl
+body (Some ss) = stmts ss
 
-head : (d : HeadTree) → IsFormedHead d → IsFormedHead (head_unplaced d)
-head d h =
-    (each IsFormedMod modifier_unplaced (λ m f. f) d.mods h.0, result d.type h.1, h.2, each IsFormedParam param_unplaced (λ q f. f) d.params h.3)
+result : (t : Option TypeName) → IsFormedResult (may_unplaced type_unplaced t) ≡ IsFormedResult t
+result None = refl
+result (Some t) = refl
 
-member : (m : MemberTree) → IsFormedMember m → IsFormedMember (member_unplaced m)
-member (FieldTree ms t n p) h = (each IsFormedMod modifier_unplaced (λ m f. f) ms h.0, h.1, h.2)
-member (MethodTree d b p) h = (head d h.0, body b h.1)
+head : (d : HeadTree) → IsFormedHead (head_unplaced d) ≡ IsFormedHead d
+head d = rw (mods d.mods, result d.type, each IsFormedParam param_unplaced (λ q. refl) d.params) refl
 
-parent : (c : Option Id) → IsFormedParent c → IsFormedParent (may_unplaced id_unplaced c)
-parent None h = h
-parent (Some i) h = h
+member : (m : MemberTree) → IsFormedMember (member_unplaced m) ≡ IsFormedMember m
+member (FieldTree ms t n p) = rw (mods ms) refl
+member (MethodTree d b p) = rw (head d, body b) refl
 
-decl : (d : DeclTree) → IsFormedDecl d → IsFormedDecl (decl_unplaced d)
-decl (ClassTree ms n c fs bs p) h = (
-  each IsFormedMod modifier_unplaced (λ m f. f) ms h.0,
-  h.1,
-  parent c h.2,
-  each IsFormedId id_unplaced (λ i f. f) fs h.3,
-  each IsFormedMember member_unplaced member bs h.4,
-)
-decl (InterfaceTree ms n fs hs p) h =
-    (each IsFormedMod modifier_unplaced (λ m f. f) ms h.0, h.1, each IsFormedId id_unplaced (λ i f. f) fs h.2, each IsFormedHead head_unplaced head hs h.3)
+parent : (c : Option Id) → IsFormedParent (may_unplaced id_unplaced c) ≡ IsFormedParent c
+parent None = refl
+parent (Some i) = refl
 
--- a formed tree is formed without its places
-pub without_places : (ds : List DeclTree) → IsFormedTree ds → IsFormedTree (unplaced ds)
-without_places ds h = each IsFormedDecl decl_unplaced decl ds h
+faces : (fs : List Id) → Each IsFormedId (all_unplaced id_unplaced fs) ≡ Each IsFormedId fs
+faces fs = each IsFormedId id_unplaced (λ i. refl) fs
+
+decl : (d : DeclTree) → IsFormedDecl (decl_unplaced d) ≡ IsFormedDecl d
+decl (ClassTree ms n c fs bs p) = rw (mods ms, parent c, faces fs, each IsFormedMember member_unplaced member bs) refl
+decl (InterfaceTree ms n fs hs p) = rw (mods ms, faces fs, each IsFormedHead head_unplaced head hs) refl
+
+-- the same is asked of a tree with its places and without them
+pub places_aside : (ds : List DeclTree) → IsFormedTree (unplaced ds) ≡ IsFormedTree ds
+places_aside ds = each IsFormedDecl decl_unplaced decl ds

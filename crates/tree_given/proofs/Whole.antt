@@ -20,7 +20,7 @@ use Rattle.java_core.specs.Classes.{slot_of_method}
 use Rattle.java_core.specs.Types.{env_of}
 use Rattle.java_core.specs.Typing.{IsTypedMethod, TypedSts}
 use Rattle.java_core.specs.Formed.{IsKnownResult}
-use Rattle.java_meaning.specs.Watched.{bare_sts}
+use Rattle.java_core.specs.Untagged.{bare_sts, untag_body, untag_method, untagged}
 use Rattle.fact_model.specs.Items.{column_kind, column_slot}
 use Rattle.fact_model.specs.Classes.{is_slot}
 use Rattle.fact_model.specs.declared.facts.Facts.{Facts}
@@ -37,7 +37,6 @@ use Rattle.flow_rules.specs.Ordered.{each}
 use Rattle.flow_rules.specs.Operands.{variable_row, result_in}
 use Rattle.flow_rules.specs.Numbered.{columns_of}
 use Rattle.flow_rules.specs.Facts.{numbers, kind_of, slot_in}
-use Rattle.run_cover.specs.Untagged.{untag_body, untag_method, untagged}
 use Rattle.run_cover.proofs.Untagging.{same_env}
 use Rattle.run_cover.proofs.HasRows.{method_of, of_method}
 use Rattle.flow_rules.proofs.Listed.{first, more, at_contains, contains_at, index_at, map_at, map_from, each_from_zero, when_from, one_from}

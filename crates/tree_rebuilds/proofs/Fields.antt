@@ -8,7 +8,7 @@ use Rattle.kaba_base.specs.declared.words.Keyword.TheVariants.{Public, Static}
 use Rattle.java_tree.specs.Syntax.{MemberTree, FieldTree, DeclTree}
 use Rattle.java_core.specs.Programs.{Plain, PlainClass, PlainField, PlainMethod}
 use Rattle.name_rules.specs.Outline.{FieldAt, fields_declared, field_member as declared_field, field_outline, types_in}
-use Rattle.run_cover.specs.Untagged.{untag_field, untagged}
+use Rattle.java_core.specs.Untagged.{untag_field, untagged}
 use Rattle.fact_model.specs.declared.facts.Facts.{Facts}
 use Rattle.fact_model.specs.declared.sets.PointsTo.{PointsTo}
 use Rattle.hier_model.specs.Hierarchies.{Hierarchy, is_class_node}

@@ -10,7 +10,7 @@ use Rattle.java_core.specs.declared.TyBase.TheVariants.{Int, Boolean, Char, Str,
 use Rattle.java_core.specs.Trees.{Ex, number, cast, Sts}
 use Rattle.java_core.specs.Programs.{Plain, PlainMethod}
 use Rattle.java_core.specs.Types.{plain_type, is_class, is_object, is_base, is_reference}
-use Rattle.java_meaning.specs.Watched.{bare_tag, bare, bare_sts}
+use Rattle.java_core.specs.Untagged.{bare_tag, bare, bare_sts}
 use Rattle.name_rules.specs.declared.parts.Here.{Here}
 use Rattle.name_rules.specs.declared.parts.Bound.{Bound}
 use Rattle.name_rules.specs.Meanings.{MeansCastBase, to_char, MeansCast}

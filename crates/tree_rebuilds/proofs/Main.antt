@@ -10,7 +10,7 @@ use Rattle.java_core.specs.Programs.{Plain, PlainClass, PlainLocal, PlainMethod}
 use Rattle.java_core.specs.Types.{types_of}
 use Rattle.java_core.specs.Formed.{IsMain}
 use Rattle.java_tree.specs.Syntax.{DeclTree}
-use Rattle.run_cover.specs.Untagged.{untagged}
+use Rattle.java_core.specs.Untagged.{untagged}
 use Rattle.fact_model.specs.declared.facts.Facts.{Facts}
 use Rattle.fact_model.specs.declared.sets.PointsTo.{PointsTo}
 use Rattle.hier_model.specs.Hierarchies.{Hierarchy}

@@ -13,7 +13,7 @@ use Rattle.java_core.specs.Programs.{Plain, PlainMethod, PlainSlot}
 use Rattle.java_core.specs.Classes.{slot_of_method}
 use Rattle.name_rules.specs.declared.parts.Kind.TheVariants as kinds
 use Rattle.name_rules.specs.Outline.{MethodAt, methods_declared, has_word, is_static_word, is_abstract_word}
-use Rattle.run_cover.specs.Untagged.{untag_method, untagged}
+use Rattle.java_core.specs.Untagged.{untag_method, untagged}
 use Rattle.fact_model.specs.Items.{site_at, site_row, column_kind, column_slot}
 use Rattle.fact_model.specs.Classes.{is_slot}
 use Rattle.fact_model.specs.declared.facts.Facts.{Facts}

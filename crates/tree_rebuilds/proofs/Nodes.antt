@@ -12,7 +12,7 @@ use Rattle.java_core.specs.Programs.{Plain, PlainClass}
 use Rattle.java_core.specs.Formed.{IsFormed, HasNoTwice}
 use Rattle.name_rules.specs.Outline.{name_of, is_interface_of, mods_of, has_word, is_abstract_word, types_in, class_outline, type_named}
 use Rattle.name_rules.specs.Resolves.{Resolves}
-use Rattle.run_cover.specs.Untagged.{untag_class, untagged}
+use Rattle.java_core.specs.Untagged.{untag_class, untagged}
 use Rattle.fact_model.specs.declared.facts.Facts.{Facts}
 use Rattle.fact_model.specs.declared.sets.PointsTo.{PointsTo}
 use Rattle.hier_model.specs.Hierarchies.{Hierarchy, type_name, is_class_node}

@@ -11,7 +11,7 @@ use Rattle.java_tree.specs.Syntax.{MemberTree, MethodTree, Statements, DeclTree}
 use Rattle.java_core.specs.Trees.{Sts}
 use Rattle.java_core.specs.Programs.{Plain, PlainClass, PlainField, PlainMethod}
 use Rattle.name_rules.specs.Outline.{MethodAt, methods_declared, method_member}
-use Rattle.run_cover.specs.Untagged.{untag_method, untagged}
+use Rattle.java_core.specs.Untagged.{untag_method, untagged}
 use Rattle.fact_model.specs.declared.facts.Facts.{Facts}
 use Rattle.fact_model.specs.declared.sets.PointsTo.{PointsTo}
 use Rattle.hier_model.specs.Hierarchies.{Hierarchy, is_class_node}

@@ -11,7 +11,7 @@ use Rattle.java_core.specs.Formed.{IsFormed, HasNoTwice}
 use Rattle.java_core.proofs.Positions.{position-passes}
 use Rattle.name_rules.specs.Outline.{FieldAt, MethodAt, name_of, types_in, type_named, class_at, field_member, method_member, fields_of, methods_of, fields_declared, methods_declared, fields_from, methods_from, fields_in, methods_in, object, class_outline, field_outline, method_outline, outline}
 use Rattle.name_rules.specs.Resolves.{BodyResolves, BodiesResolve, r_no_methods, r_method, heading_of, Resolves}
-use Rattle.run_cover.specs.Untagged.{untag_class, untag_field, untag_method, untagged}
+use Rattle.java_core.specs.Untagged.{untag_class, untag_field, untag_method, untagged}
 use Rattle.flow_rules.proofs.Listed.{first, more, contains_at, at_contains, at_map, map_at, position_there}
 
 -- ---- what declarations have

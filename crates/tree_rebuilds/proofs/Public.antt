@@ -10,10 +10,9 @@ use Rattle.java_tree.specs.Syntax.{HeadTree, MemberTree, DeclTree}
 use Rattle.java_core.specs.Trees.{Sts}
 use Rattle.java_core.specs.Programs.{Plain, PlainClass, PlainMethod, PlainSlot}
 use Rattle.java_core.specs.Classes.{is_interface, slot_of_method}
-use Rattle.java_meaning.specs.Watched.{bare_sts}
+use Rattle.java_core.specs.Untagged.{bare_sts, untag_body, untag_method, untagged}
 use Rattle.name_rules.specs.Outline.{MethodAt, methods_declared, method_member, is_public_word, has_word, outline}
 use Rattle.name_rules.specs.Resolves.{BodyResolves, r_no_body, r_body, StsResolve, here_of, params_from}
-use Rattle.run_cover.specs.Untagged.{untag_body, untag_method, untagged}
 use Rattle.fact_model.specs.Items.{column_kind, column_slot}
 use Rattle.fact_model.specs.Classes.{is_def, is_slot}
 use Rattle.fact_model.specs.declared.facts.Facts.{Facts}

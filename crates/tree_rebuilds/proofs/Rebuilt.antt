@@ -1,6 +1,6 @@
 -- A program to which the written tree resolves rebuilds the old one, where its bodies match.
 use Rattle.java_core.specs.Programs.{Plain}
-use Rattle.run_cover.specs.Untagged.{untagged}
+use Rattle.java_core.specs.Untagged.{untagged}
 use Rattle.fact_model.specs.declared.facts.Facts.{Facts}
 use Rattle.fact_model.specs.declared.sets.PointsTo.{PointsTo}
 use Rattle.hier_model.specs.Hierarchies.{Hierarchy}

@@ -11,11 +11,10 @@ use Rattle.java_core.specs.Trees.{Sts}
 use Rattle.java_core.specs.Programs.{Plain, PlainLocal, PlainMethod, PlainSlot}
 use Rattle.java_core.specs.Types.{types_of, env_of}
 use Rattle.java_core.specs.Formed.{variables_of}
-use Rattle.java_meaning.specs.Watched.{bare_sts}
+use Rattle.java_core.specs.Untagged.{bare_sts, untag_local, untag_method, untag_body, untagged}
 use Rattle.name_rules.specs.declared.parts.Here.{Here}
 use Rattle.name_rules.specs.Outline.{MethodAt, is_static, is_public_word, has_word, types_in, type_meant, param_outline, outline}
 use Rattle.name_rules.specs.Resolves.{StsResolve, Counts, declares_all, params_from, here_of, BodyResolves, r_no_body, r_body}
-use Rattle.run_cover.specs.Untagged.{untag_local, untag_method, untag_body, untagged}
 use Rattle.fact_model.specs.declared.facts.Facts.{Facts}
 use Rattle.fact_model.specs.declared.sets.PointsTo.{PointsTo}
 use Rattle.hier_model.specs.Hierarchies.{Hierarchy}

@@ -11,7 +11,7 @@ use Rattle.java_core.specs.Programs.{Plain, PlainField, PlainLocal, PlainMethod}
 use Rattle.java_core.specs.Formed.{IsFormed, variables_of}
 use Rattle.name_rules.specs.Outline.{types_in, type_named, class_at, base_meant, type_meant}
 use Rattle.name_rules.specs.Resolves.{Resolves}
-use Rattle.run_cover.specs.Untagged.{untag_local, untag_method, untagged}
+use Rattle.java_core.specs.Untagged.{untag_local, untag_method, untagged}
 use Rattle.run_cover.proofs.HasRows.{field_row_of, result_row_of, variable_row_of, of_method}
 use Rattle.fact_model.specs.declared.facts.Facts.{Facts}
 use Rattle.fact_model.specs.declared.sets.PointsTo.{PointsTo}

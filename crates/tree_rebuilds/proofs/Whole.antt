@@ -6,8 +6,8 @@ use Rattle.java_core.specs.Typing.{IsTyped}
 use Rattle.java_core.specs.Formed.{IsFormed}
 use Rattle.name_rules.specs.Outline.{outline}
 use Rattle.name_rules.specs.Resolves.{Resolves}
-use Rattle.run_cover.specs.Untagged.{untagged}
-use Rattle.run_cover.proofs.Programs.{same_program}
+use Rattle.java_core.specs.Untagged.{untagged}
+use Rattle.java_core.proofs.Untagged.{same_program}
 use Rattle.facts_order.proofs.Pairs.{IsPlaced, placed}
 use Rattle.fact_model.specs.declared.facts.Facts.{Facts}
 use Rattle.fact_model.specs.declared.sets.PointsTo.{PointsTo}

@@ -3,8 +3,8 @@ use Rattle.std.proofs.Common.{refl, subst}
 use Rattle.java_core.specs.Trees.{at_place}
 use Rattle.java_core.specs.Programs.{Plain, program_of}
 use Rattle.name_rules.specs.Causes.{HasNoCondition}
-use Rattle.run_cover.specs.Untagged.{untagged}
-use Rattle.run_cover.proofs.Programs.{same_program}
+use Rattle.java_core.specs.Untagged.{untagged}
+use Rattle.java_core.proofs.Untagged.{same_program}
 use Rattle.facts_order.proofs.Pairs.{IsPlaced, placed}
 use Rattle.fact_model.specs.declared.facts.Facts.{Facts}
 use Rattle.fact_model.specs.declared.sets.PointsTo.{PointsTo}

@@ -13,7 +13,7 @@ use Rattle.fact_model.specs.declared.facts.Facts.{Facts}
 use Rattle.fact_model.specs.declared.sets.PointsTo.{PointsTo}
 use Rattle.hier_model.specs.Hierarchies.{Hierarchy, IsHierarchyOf, is_class_node}
 use Rattle.hier_rules.specs.First.{first_broken}
-use Rattle.run_cover.specs.Untagged.{untagged}
+use Rattle.java_core.specs.Untagged.{untagged}
 use Rattle.flow_rules.specs.declared.items.ColumnItem.{ColumnItem}
 use Rattle.flow_rules.specs.declared.items.ColumnItem.TheVariants as column
 use Rattle.flow_rules.specs.Numbered.{columns_of}

@@ -12,7 +12,7 @@ use Rattle.java_core.specs.declared.TyBase.TheVariants.{Int, Boolean, Char, Str,
 use Rattle.java_core.specs.Programs.{Plain, PlainClass, PlainMethod}
 use Rattle.java_core.specs.Trees.{Sts}
 use Rattle.java_core.specs.Formed.{FormedSts, numbers_below}
-use Rattle.java_meaning.specs.Watched.{bare_sts}
+use Rattle.java_core.specs.Untagged.{bare_sts}
 use Rattle.fact_model.specs.declared.facts.Facts.{Facts}
 use Rattle.fact_model.specs.declared.sets.PointsTo.{PointsTo}
 use Rattle.hier_model.specs.Hierarchies.{Hierarchy}

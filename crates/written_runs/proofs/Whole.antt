@@ -1,10 +1,9 @@
 -- The laws of the crates below, put together.
-use Rattle.std.proofs.Common.{◌≡◌, sym, subst}
+use Rattle.std.proofs.Common.{sym, subst}
 use Rattle.java_core.specs.Trees.{at_place, no_place}
-use Rattle.java_core.specs.Programs.{Plain, program_of}
+use Rattle.java_core.specs.Programs.{program_of}
 use Rattle.java_core.specs.Formed.{IsFormed}
-use Rattle.run_cover.specs.Untagged.{untagged}
-use Rattle.run_cover.proofs.Programs.{same_program}
+use Rattle.java_core.proofs.Untagged.{same_program}
 use Rattle.body_rebuilds.specs.Known.{HasLocalsInOrder}
 use Rattle.body_rebuilds.proofs.InOrder.{resolved_in_order}
 use Rattle.tree_rebuilds.specs.Laws.{TreeRebuilds, IsRebuilt}

@@ -1,12 +1,11 @@
 use Rattle.std.proofs.Common.{sym, ◌∙◌}
 use Rattle.java_core.specs.Trees.{no_place}
 use Rattle.java_core.specs.Programs.{program_of}
-use Rattle.java_core.proofs.Offered.{own-slot, offered-slot, no_offer-slot}
+use Rattle.java_core.proofs.Offered.{offered-slot, no_offer-slot}
 use Rattle.java_core.proofs.classes.declared_slot.Goals as goal
 
 pub returns-in-Some : goal.returns-in-Some
-returns-in-Some c = c.slot_of_method.ensures
-    ∙ own-slot (program_of no_place c.args.p.now) c.requires c.args.name.now c.args.class.0 c.in-Some.own.0 (sym c.in-Some.ensures)
+returns-in-Some c = c.slot_of_method.ensures ∙ c.in-Some.ensures
 
 pub returns-in-Some-offered_at : goal.returns-in-Some-offered_at
 returns-in-Some-offered_at c = c.slot_of_method-in-Some-offered_at.ensures

@@ -1,5 +1,5 @@
--- A tree of a program with places, without them, is that tree of the program without places.
-use Rattle.std.proofs.Common.{◌≡◌, ℕ, true, false, List, [], ◌∷◌, Option, Some, None, refl, ap, ◌∙◌}
+-- A program with places, its tags taken off, is the program without places.
+use Rattle.std.proofs.Common.{◌≡◌, ℕ, true, false, List, [], ◌∷◌, Option, Some, None, refl, ap, subst, ◌∙◌}
 use Rattle.std.specs.Option.{option_map}
 use Rattle.kaba_base.specs.declared.Place.{Place}
 use Rattle.java_core.specs.declared.RExpr.{RExpr}
@@ -8,8 +8,13 @@ use Rattle.java_core.specs.declared.RStmt.{RStmt}
 use Rattle.java_core.specs.declared.RStmt.TheBlock as st
 use Rattle.std.specs.declared.vec.Vec.{Vec}
 use Rattle.std.specs.declared.alloc.Global.{Global}
-use Rattle.java_core.specs.Trees.{Tag, Ex, Exs, ex_then, field, index, call, static_call, super_call, create, create_array, cast, instance_of, unary, binary, to_field, to_element, Sts, declare, block, assign, act, print, choose, loop, return, st_then, Arms, no_other, otherwise, arm, no_place, expr_of, call_of, exprs_of, value_of, target_of, stmt_of, else_of, step_of, stmts_of, arms_of, stmts, body_seen, no_st}
-use Rattle.java_meaning.specs.Watched.{bare_tag, bare, bare_all, bare_if, bare_target, bare_st, bare_sts, bare_arms}
+use Rattle.java_core.specs.Trees.{Tag, Ex, Exs, ex_then, field, index, call, static_call, super_call, create, create_array, cast, instance_of, unary, binary, to_field, to_element, Sts, declare, block, assign, act, print, choose, loop, return, st_then, Arms, otherwise, arm, at_place, no_place, expr_of, call_of, exprs_of, value_of, target_of, stmt_of, else_of, step_of, stmts_of, arms_of, stmts, body_seen, no_st}
+use Rattle.std.specs.Prelude.{map}
+use Rattle.java_core.specs.declared.Local.{Local}
+use Rattle.java_core.specs.declared.Method.{Method}
+use Rattle.java_core.specs.declared.Program.{Program}
+use Rattle.java_core.specs.Programs.{local_seen, class_seen, field_seen, method_seen, program_of}
+use Rattle.java_core.specs.Untagged.{bare_tag, bare, bare_all, bare_if, bare_target, bare_st, bare_sts, bare_arms, untag_body, untag_local, untag_class, untag_field, untag_method, untagged}
 
 -- pairs and longer, part by part
 ap2 : {A B C : Type 0} (f : A → B → C) {a b : A} {c d : B} → a ≡ b → c ≡ d → f a c ≡ f b d
@@ -98,3 +103,26 @@ module _ (tag : Place → Tag) where
   pub bare_seen : (b : Option (Vec RStmt Global)) → option_map bare_sts (body_seen tag b) ≡ body_seen no_place b
   bare_seen None = refl
   bare_seen (Some v) = ap Some (bare_list v.items)
+
+maps : {A B C : Type 0} (f : B → C) (g : A → B) (h : A → C) (xs : List A) → ((x : A) → f (g x) ≡ h x) → map f (map g xs) ≡ map h xs
+maps f g h [] e = refl
+maps f g h (x ∷ xs) e = subst (λ z. f (g x) ∷ map f (map g xs) ≡ z ∷ map h xs) (e x) (ap (λ z. f (g x) ∷ z) (maps f g h xs e))
+
+locals : (vs : List Local) → map untag_local (map (local_seen at_place) vs) ≡ map (local_seen no_place) vs
+locals vs = maps untag_local (local_seen at_place) (local_seen no_place) vs (λ v. refl)
+
+same_body : (b : Option Sts) → untag_body b ≡ option_map bare_sts b
+same_body None = refl
+same_body (Some xs) = refl
+
+same_method : (m : Method) → untag_method (method_seen at_place m) ≡ method_seen no_place m
+same_method m = rw (locals m.params.items, locals m.locals.items, same_body (body_seen at_place m.body), bare_seen at_place m.body) refl
+
+-- a program without places is the one with places, its tags taken off
+pub same_program : (p : Program) → untagged (program_of at_place p) ≡ program_of no_place p
+same_program p =
+    rw (
+      maps untag_class (class_seen at_place) (class_seen no_place) p.classes.items (λ c. refl),
+      maps untag_field (field_seen at_place) (field_seen no_place) p.fields.items (λ f. refl),
+      maps untag_method (method_seen at_place) (method_seen no_place) p.methods.items same_method,
+    ) refl
