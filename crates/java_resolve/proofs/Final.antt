@@ -16,7 +16,7 @@ use Rattle.name_rules.specs.Resolves.{Resolves}
 use Rattle.name_rules.specs.Conditions.{ConditionAt}
 use Rattle.name_rules.specs.Causes.{IsCause, HasNoCondition}
 use Rattle.name_outcome.proofs.Sees.{Tells}
-use Rattle.name_outcome.proofs.Bare.{bare-program}
+use Rattle.java_core.proofs.Untagged.{same_program}
 use Rattle.name_outcome.proofs.Whole.{ResolvesFormed, resolved-formed}
 
 told : (tree : List DeclTree) (o : Result Plain Refusal) → IsFormedTree tree → resolved tree ≡ o → Tells (ResolvesFormed tree) (ConditionAt tree) o
@@ -27,7 +27,7 @@ resolves_ok tree p g e = (told tree (Ok (program_of at_place p)) g e).resolves
 
 pub formed_ok : (tree : List DeclTree) (p : Program) → IsFormedTree tree → resolved tree ≡ Ok (program_of at_place p)
     → AreCounted (program_of no_place p) → IsFormed (program_of no_place p)
-formed_ok tree p g e c = subst IsFormed (bare-program p) ((told tree (Ok (program_of at_place p)) g e).formed (subst AreCounted (sym (bare-program p)) c))
+formed_ok tree p g e c = subst IsFormed (same_program p) ((told tree (Ok (program_of at_place p)) g e).formed (subst AreCounted (sym (same_program p)) c))
 
 pub none_ok : (tree : List DeclTree) (p : Program) → IsFormedTree tree → resolved tree ≡ Ok (program_of at_place p) → HasNoCondition tree
 none_ok tree p g e = (told tree (Ok (program_of at_place p)) g e).none

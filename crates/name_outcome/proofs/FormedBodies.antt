@@ -32,7 +32,7 @@ use Rattle.name_rules.specs.Resolves.{Counts, no_number, next_number, ResolvesTo
 use Rattle.name_outcome.proofs.Runs.{stands-within}
 use Rattle.name_outcome.proofs.Sees.{same_some}
 use Rattle.name_outcome.proofs.Statements.{IsFormedPart, of-first, of-step}
-use Rattle.name_outcome.proofs.Bare.{bare_tag, bare, bare_all, bare_if, bare_target, bare_st, bare_sts, bare_arms}
+use Rattle.java_core.specs.Untagged.{bare_tag, bare, bare_all, bare_if, bare_target, bare_st, bare_sts, bare_arms}
 
 -- a program and a method of it, seen from the outline and the method with places
 pub record Suits (O : Plain) (here : Here) (K : PlainMethod) (Q : Plain) (k : PlainMethod) : Type 0 where

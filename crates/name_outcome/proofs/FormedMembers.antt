@@ -22,7 +22,7 @@ use Rattle.name_outcome.proofs.KnownMembers.{both-true, GoodMethod}
 use Rattle.name_outcome.proofs.SeesOutline.{nearest-own, fields-are}
 use Rattle.name_outcome.proofs.MethodClashes.{outline-method}
 use Rattle.name_outcome.proofs.Bridge.{Steps, P, whole, size, slots-are}
-use Rattle.name_outcome.proofs.Bare.{bare_local, bare_class, bare_field, bare_method, bare_sts}
+use Rattle.java_core.specs.Untagged.{untag_local, untag_class, untag_field, untag_method, untag_body}
 use Rattle.name_outcome.proofs.FormedBodies.{Suits, ScopeIs, contains-more, contains-cases, formed-sts, good-sts, counts-each, counts-behind}
 use Rattle.name_outcome.proofs.FormedProgram.{R, class-in, within-classes, free-name, meant-type, same-field, alike-field, each-of}
 use Rattle.name_outcome.proofs.MembersOf.{field-in, MethodIn, method-in}
@@ -81,22 +81,22 @@ pub back-stands : {A : Type 0} (xs ys : List A) (j : ℕ) → slice_get (xs ++ y
 back-stands [] ys j = ap (slice_get ys) (let e : 0 + j ≡ j = omega arith in e)
 back-stands (x ∷ xs) ys j = ap (slice_get (x ∷ (xs ++ ys))) (let e : suc (length xs) + j ≡ suc (length xs + j) = omega arith in e) ∙ back-stands xs ys j
 
-pub bare-variables : (K : PlainMethod) → variables_of (bare_method K) ≡ map bare_local (variables_of K)
-bare-variables K = sym (map-append bare_local K.params K.locals)
+pub bare-variables : (K : PlainMethod) → variables_of (untag_method K) ≡ map untag_local (variables_of K)
+bare-variables K = sym (map-append untag_local K.params K.locals)
 
-pub bare-types : (vs : List PlainLocal) → types_of (map bare_local vs) ≡ types_of vs
+pub bare-types : (vs : List PlainLocal) → types_of (map untag_local vs) ≡ types_of vs
 bare-types [] = refl
 bare-types (v ∷ vs) = ap (λ z. v.ty ∷ z) (bare-types vs)
 
-pub scope-params : (K : PlainMethod) → ScopeIs (bare_method K) (params_from 0 K.params) (numbers_below (length (bare_method K).params))
+pub scope-params : (K : PlainMethod) → ScopeIs (untag_method K) (params_from 0 K.params) (numbers_below (length (untag_method K).params))
 scope-params K = record {
   found = λ n i e.
-      let l = params-found 0 K.params n i e in let s = length-map K.params bare_local in let t = ap length (bare-variables K)
-      ∙ length-map (variables_of K) bare_local ∙ length-append K.params K.locals in
-      (below-has (length (map bare_local K.params)) i (omega (arith, l, s)), omega (arith, l, t));
+      let l = params-found 0 K.params n i e in let s = length-map K.params untag_local in let t = ap length (bare-variables K)
+      ∙ length-map (variables_of K) untag_local ∙ length-append K.params K.locals in
+      (below-has (length (map untag_local K.params)) i (omega (arith, l, s)), omega (arith, l, t));
   named = λ j v c e.
-      let l = has-below (length (map bare_local K.params)) j c in
-      let a = map-stands bare_local K.params j v (front-stands (map bare_local K.params) (map bare_local K.locals) j v l e) in
+      let l = has-below (length (map untag_local K.params)) j c in
+      let a = map-stands untag_local K.params j v (front-stands (map untag_local K.params) (map untag_local K.locals) j v l e) in
       subst (λ z. is_bound (bound_names (params_from 0 K.params)) z ≡ true) (ap (λ z. z.name) a.2) (params-bound 0 K.params j a.0 a.1);
 }
 
@@ -104,17 +104,17 @@ module _ (tree : List DeclTree) (s : Steps tree) where
   pub fields-same : (P tree s).fields ≡ (outline tree).fields
   fields-same = sym (fields-are tree s.known s.are s.rows s.above s.draft s.members)
 
-  pub holder : (j : ℕ) (d : DeclTree) → slice_get tree j ≡ Some d → slice_get (R tree s).classes (suc j) ≡ Some (bare_class (class_outline (types_in tree) d))
+  pub holder : (j : ℕ) (d : DeclTree) → slice_get tree j ≡ Some d → slice_get (R tree s).classes (suc j) ≡ Some (untag_class (class_outline (types_in tree) d))
   holder j d e = class-in tree s (suc j) (class_outline (types_in tree) d) (class_at-outline tree j d e)
 
   -- ---- fields
 
   field-at : (f : ℕ) (k : PlainField) → slice_get (R tree s).fields f ≡ Some k → (x : FieldAt) × (slice_get (fields_in tree) f ≡ Some x)
-      × (bare_field (field_outline (types_in tree) x) ≡ k)
+      × (untag_field (field_outline (types_in tree) x) ≡ k)
   field-at f k e =
-      let a = map-stands bare_field (P tree s).fields f k e in
+      let a = map-stands untag_field (P tree s).fields f k e in
       let b = map-stands (field_outline (types_in tree)) (fields_in tree) f a.0 (ap (λ z. slice_get z f) (sym s.members.fields) ∙ a.1) in
-      (b.0, b.1, ap bare_field b.2 ∙ a.2)
+      (b.0, b.1, ap untag_field b.2 ∙ a.2)
 
   pub formed-field : (f : ℕ) (k : PlainField) → slice_get (R tree s).fields f ≡ Some k → IsFormedField (R tree s) k
   formed-field f k e =
@@ -126,7 +126,7 @@ module _ (tree : List DeclTree) (s : Steps tree) where
         name = free-name tree s a.0.name at.name g.free;
         type = meant-type tree s a.0.type g.type g.means;
         no_object = λ z. omega (arith, z, own);
-        holder = bare_class (class_outline (types_in tree) at.decl);
+        holder = untag_class (class_outline (types_in tree) at.decl);
         stands = ap (slice_get (R tree s).classes) own ∙ holder at.index at.decl at.stands;
         class = at.class;
       })
@@ -152,16 +152,16 @@ module _ (tree : List DeclTree) (s : Steps tree) where
       let b = position-passes (λ z. is_field_of a.0 x z) (outline tree).fields f a.1 in
       ap (λ z. z.name) (same_some (sym h.stands ∙ b.1)) ∙ (both-true b.0.owner a.0 b.0.name x b.2).1
 
-  field-there : (f : ℕ) (x : PlainField) → slice_get (outline tree).fields f ≡ Some x → slice_get (R tree s).fields f ≡ Some (bare_field x)
-  field-there f x e = stands-map bare_field (P tree s).fields f x (ap (λ z. slice_get z f) fields-same ∙ e)
+  field-there : (f : ℕ) (x : PlainField) → slice_get (outline tree).fields f ≡ Some x → slice_get (R tree s).fields f ≡ Some (untag_field x)
+  field-there f x e = stands-map untag_field (P tree s).fields f x (ap (λ z. slice_get z f) fields-same ∙ e)
 
   pub suits : (i : ℕ) (K : PlainMethod) (x : MethodAt) → slice_get s.methods i ≡ Some K → heading_of K ≡ method_outline (types_in tree) x
-      → Suits (outline tree) (here_of x) K (R tree s) (bare_method K)
+      → Suits (outline tree) (here_of x) K (R tree s) (untag_method K)
   suits i K x e h = record {
     classes = within-classes tree s;
-    static_field = λ f y at st. record { member = bare_field y; stands = field-there f y at; kind = st };
+    static_field = λ f y at st. record { member = untag_field y; stands = field-there f y at; kind = st };
     own = λ z f y near st. record {
-      member = bare_field y;
+      member = untag_field y;
       stands = field-there f y near.stands;
       kind = st;
       nearest = same-field (P tree s) K.owner y.name ∙ alike-field (P tree s) (outline tree) refl fields-same K.owner y.name
@@ -173,18 +173,18 @@ module _ (tree : List DeclTree) (s : Steps tree) where
         let b = stands-beside (methods_in tree) s.methods (size tree s) l a.0 a.1 in
         let c = method-seen l b.0 b.1 in
         record {
-          member = bare_method b.0;
-          stands = stands-map bare_method s.methods l b.0 b.1;
+          member = untag_method b.0;
+          stands = stands-map untag_method s.methods l b.0 b.1;
           kind = ap (λ z. z.is_static) (c.2 ∙ ap (method_outline (types_in tree)) (same_some (sym c.1 ∙ a.1)) ∙ a.2) ∙ st;
         };
     static = ap (λ z. z.is_static) h;
-    params = length-map K.params bare_local;
-    variable = λ j v at. (bare_local v, ap (λ z. slice_get z j) (bare-variables K) ∙ stands-map bare_local (variables_of K) j v at, refl);
-    back = λ j w at. let a = map-stands bare_local (variables_of K) j w (ap (λ z. slice_get z j) (sym (bare-variables K)) ∙ at) in
+    params = length-map K.params untag_local;
+    variable = λ j v at. (untag_local v, ap (λ z. slice_get z j) (bare-variables K) ∙ stands-map untag_local (variables_of K) j v at, refl);
+    back = λ j w at. let a = map-stands untag_local (variables_of K) j w (ap (λ z. slice_get z j) (sym (bare-variables K)) ∙ at) in
         (a.0, a.1, ap (λ z. z.name) a.2);
   }
 
-params-seen : (types : List (List ℕ)) (qs : List Param) → map (λ v. v.name) (map bare_local (map (param_outline types) qs)) ≡ map (λ q. q.name) qs
+params-seen : (types : List (List ℕ)) (qs : List Param) → map (λ v. v.name) (map untag_local (map (param_outline types) qs)) ≡ map (λ q. q.name) qs
 params-seen types [] = refl
 params-seen types (q ∷ qs) = ap (λ z. q.name ∷ z) (params-seen types qs)
 
@@ -206,69 +206,69 @@ module _ (tree : List DeclTree) (s : Steps tree) (i : ℕ) (K : PlainMethod) (e 
   own = let o = stands.owner in let a = ap (λ z. z.owner) h in omega (arith, o, a)
 
   -- parameters
-  param-good : (v : PlainLocal) → Contains (map bare_local K.params) v → IsFormedLocal (R tree s) v
+  param-good : (v : PlainLocal) → Contains (map untag_local K.params) v → IsFormedLocal (R tree s) v
   param-good v c =
-      let a = member-stands (map bare_local K.params) v c in
-      let b = map-stands bare_local K.params a.0 v a.1 in
+      let a = member-stands (map untag_local K.params) v c in
+      let b = map-stands untag_local K.params a.0 v a.1 in
       let d = map-stands (param_outline (types_in tree)) x.head.params a.0 b.0 (ap (λ z. slice_get z a.0) (sym (ap (λ z. z.params) h)) ∙ b.1) in
       let g = good.params.means a.0 d.0 d.1 in
-      subst (IsFormedLocal (R tree s)) (ap bare_local d.2 ∙ b.2) (record {
+      subst (IsFormedLocal (R tree s)) (ap untag_local d.2 ∙ b.2) (record {
         name = free-name tree s d.0.name
             (each-of IsFormedParam x.head.params a.0 d.0 stands.head.3 d.1).1 (good.params.free a.0 d.0 d.1);
         type = meant-type tree s d.0.ty g.0 g.1;
       })
 
   -- locals
-  local-good : (v : PlainLocal) → Contains (map bare_local K.locals) v → IsFormedLocal (R tree s) v
+  local-good : (v : PlainLocal) → Contains (map untag_local K.locals) v → IsFormedLocal (R tree s) v
   local-good v c = go body
     where
-      a : (j : ℕ) × (slice_get (map bare_local K.locals) j ≡ Some v)
-      a = member-stands (map bare_local K.locals) v c
+      a : (j : ℕ) × (slice_get (map untag_local K.locals) j ≡ Some v)
+      a = member-stands (map untag_local K.locals) v c
 
-      b : (u : PlainLocal) × (slice_get K.locals a.0 ≡ Some u) × (bare_local u ≡ v)
-      b = map-stands bare_local K.locals a.0 v a.1
+      b : (u : PlainLocal) × (slice_get K.locals a.0 ≡ Some u) × (untag_local u ≡ v)
+      b = map-stands untag_local K.locals a.0 v a.1
 
       go : BodyResolves (outline tree) x K → IsFormedLocal (R tree s) v
       go (r_no_body p q r) = absurd (no-some {o = slice_get K.locals a.0} (ap (λ z. slice_get z a.0) r) b.1)
       go (r_body {ss = ss} p q r counts) =
           let lt = stands-within K.locals a.0 b.0 b.1 in
           let size = length-append K.params K.locals in
-          let l = counts-each (outline tree) (here_of x) K (R tree s) (bare_method K) (suits tree s i K x e h) counts
-          (good-sts (outline tree) (here_of x) K (R tree s) (bare_method K) (suits tree s i K x e h) r (subst IsFormedBody p stands.body))
+          let l = counts-each (outline tree) (here_of x) K (R tree s) (untag_method K) (suits tree s i K x e h) counts
+          (good-sts (outline tree) (here_of x) K (R tree s) (untag_method K) (suits tree s i K x e h) r (subst IsFormedBody p stands.body))
           (length K.params + a.0) (omega arith) (omega (arith, lt, size)) in
           let same : l.local ≡ b.0 = same_some (sym l.stands ∙ back-stands K.params K.locals a.0 ∙ b.1) in
-          subst (IsFormedLocal (R tree s)) (ap bare_local same ∙ b.2) (record {
+          subst (IsFormedLocal (R tree s)) (ap untag_local same ∙ b.2) (record {
             name = free-name tree s l.local.name l.name
                 (ap (λ z. is_type_name z l.local.name) (sym (type_names-outline tree)) ∙ l.no_type);
             type = l.type;
           })
 
-  bodyless : (bare_method K).body ≡ None → x.body ≡ None
+  bodyless : (untag_method K).body ≡ None → x.body ≡ None
   bodyless f = go body
     where
       go : BodyResolves (outline tree) x K → x.body ≡ None
       go (r_no_body p q r) = p
-      go (r_body p q r c) = absurd (cc (sym (ap (option_map bare_sts) q) ∙ f))
+      go (r_body p q r c) = absurd (cc (sym (ap untag_body q) ∙ f))
 
-  no-body : x.body ≡ None → (bare_method K).body ≡ None
+  no-body : x.body ≡ None → (untag_method K).body ≡ None
   no-body f = go body
     where
-      go : BodyResolves (outline tree) x K → (bare_method K).body ≡ None
-      go (r_no_body p q r) = ap (option_map bare_sts) q
+      go : BodyResolves (outline tree) x K → (untag_method K).body ≡ None
+      go (r_no_body p q r) = ap untag_body q
       go (r_body p q r c) = absurd (no-some {o = x.body} f p)
 
   static-is : is_static x ≡ K.is_static
   static-is = sym (ap (λ z. z.is_static) h)
 
-  in-interface : is_interface_of stands.decl ≡ true → ((bare_method K).is_static ≡ false) × ((bare_method K).body ≡ None)
+  in-interface : is_interface_of stands.decl ≡ true → ((untag_method K).is_static ≡ false) × ((untag_method K).body ≡ None)
   in-interface f = let g = stands.in_interface f in (sym static-is ∙ good.head g.0, no-body g.1)
 
-  without-body : (bare_method K).body ≡ None → ((bare_method K).is_static ≡ false)
+  without-body : (untag_method K).body ≡ None → ((untag_method K).is_static ≡ false)
       × (is_interface_of stands.decl || has_word is_abstract_word (mods_of stands.decl) ≡ true)
   without-body f = go (is_interface_of stands.decl) refl (has_word is_abstract_word x.head.mods) refl x.in_abstract refl
     where
       go : (b : Bool) → is_interface_of stands.decl ≡ b → (c : Bool) → has_word is_abstract_word x.head.mods ≡ c → (d : Bool) → x.in_abstract ≡ d
-          → ((bare_method K).is_static ≡ false) × (is_interface_of stands.decl || has_word is_abstract_word (mods_of stands.decl) ≡ true)
+          → ((untag_method K).is_static ≡ false) × (is_interface_of stands.decl || has_word is_abstract_word (mods_of stands.decl) ≡ true)
       go true p c q d r = ((in-interface p).0, or_left (is_interface_of stands.decl) (has_word is_abstract_word (mods_of stands.decl)) p)
       go false p false q d r = absurd (good.body (missing (stands.in_class p).0 q (bodyless f)))
       go false p true q false r = absurd (good.body (in_concrete q r))
@@ -278,15 +278,15 @@ module _ (tree : List DeclTree) (s : Steps tree) (i : ℕ) (K : PlainMethod) (e 
             (has_word is_abstract_word (mods_of stands.decl)) (sym (stands.in_class p).1 ∙ r),
       )
 
-  code : (xs : Sts) → (bare_method K).body ≡ Some xs → FormedSts (R tree s) (bare_method K) false (numbers_below (length (bare_method K).params)) xs
+  code : (xs : Sts) → (untag_method K).body ≡ Some xs → FormedSts (R tree s) (untag_method K) false (numbers_below (length (untag_method K).params)) xs
   code xs f = go body
     where
-      go : BodyResolves (outline tree) x K → FormedSts (R tree s) (bare_method K) false (numbers_below (length (bare_method K).params)) xs
-      go (r_no_body p q r) = absurd (no-some {o = (bare_method K).body} (ap (option_map bare_sts) q) f)
+      go : BodyResolves (outline tree) x K → FormedSts (R tree s) (untag_method K) false (numbers_below (length (untag_method K).params)) xs
+      go (r_no_body p q r) = absurd (no-some {o = (untag_method K).body} (ap untag_body q) f)
       go (r_body {xs = ys} p q r counts) =
-          subst (FormedSts (R tree s) (bare_method K) false (numbers_below (length (bare_method K).params)))
-          (same_some (sym (ap (option_map bare_sts) q) ∙ f))
-          (formed-sts (outline tree) (here_of x) K (R tree s) (bare_method K) (suits tree s i K x e h) r (scope-params K)
+          subst (FormedSts (R tree s) (untag_method K) false (numbers_below (length (untag_method K).params)))
+          (same_some (sym (ap untag_body q) ∙ f))
+          (formed-sts (outline tree) (here_of x) K (R tree s) (untag_method K) (suits tree s i K x e h) r (scope-params K)
           (subst IsFormedBody p stands.body) (counts-behind (length K.params) counts (omega arith)))
 
   result : IsKnownResult (R tree s) K.result
@@ -306,31 +306,31 @@ module _ (tree : List DeclTree) (s : Steps tree) (i : ℕ) (K : PlainMethod) (e 
       go (no_slot a b) = absurd (false≢true (sym f ∙ a))
       go (a_slot {s = n} a b c d) = (n, b)
 
-  slot-in : (n : ℕ) → K.slot ≡ Some n ↔ IsInSlot (R tree s) n (bare_method K)
+  slot-in : (n : ℕ) → K.slot ≡ Some n ↔ IsInSlot (R tree s) n (untag_method K)
   slot-in n = (λ f. to f (are-slots.each i K e), λ f. from f (are-slots.each i K e))
     where
-      to : K.slot ≡ Some n → HasSlot (P tree s) K → IsInSlot (R tree s) n (bare_method K)
+      to : K.slot ≡ Some n → HasSlot (P tree s) K → IsInSlot (R tree s) n (untag_method K)
       to f (no_slot a b) = absurd (no-some {o = K.slot} b f)
       to f (a_slot {s = r} {slot = slot} a b c d) =
           let stands = subst (λ z. slice_get s.draft.slots z ≡ Some slot) (same_some (sym b ∙ f)) c in
           record { slot = slot; stands = stands; instance = a; name = d.name; params = bare-types K.params ∙ d.params; result = d.result }
 
-      from : IsInSlot (R tree s) n (bare_method K) → HasSlot (P tree s) K → K.slot ≡ Some n
+      from : IsInSlot (R tree s) n (untag_method K) → HasSlot (P tree s) K → K.slot ≡ Some n
       from f (no_slot a b) = absurd (false≢true (sym f.instance ∙ a))
       from f (a_slot {s = r} {slot = slot} a b c d) =
           b ∙ ap Some (are-slots.apart r n slot f.slot c f.stands (sym d.name ∙ f.name) (sym d.params ∙ sym (bare-types K.params) ∙ f.params)
           (sym d.result ∙ f.result))
 
-  pub formed-method : IsFormedMethod (R tree s) (bare_method K)
+  pub formed-method : IsFormedMethod (R tree s) (untag_method K)
   unfolding HasNoTwice
   formed-method = record {
     name = subst (λ z. IsName z.name) (sym h) stands.head.2;
-    variables = λ v c. ⊎_elim (λ a. param-good v a) (λ a. local-good v a) (Contains-append_cases (map bare_local K.params) (map bare_local K.locals) v c);
-    params = subst HasNoTwice (sym (ap (λ z. map (λ v. v.name) (map bare_local z)) (ap (λ z. z.params) h)
+    variables = λ v c. ⊎_elim (λ a. param-good v a) (λ a. local-good v a) (Contains-append_cases (map untag_local K.params) (map untag_local K.locals) v c);
+    params = subst HasNoTwice (sym (ap (λ z. map (λ v. v.name) (map untag_local z)) (ap (λ z. z.params) h)
         ∙ params-seen (types_in tree) x.head.params)) good.params.once;
     result = result;
     no_object = λ z. let o = own in omega (arith, z, o);
-    holder = bare_class (class_outline (types_in tree) stands.decl);
+    holder = untag_class (class_outline (types_in tree) stands.decl);
     stands = ap (slice_get (R tree s).classes) own ∙ holder tree s stands.index stands.decl stands.stands;
     in_interface = in-interface;
     bodyless = without-body;

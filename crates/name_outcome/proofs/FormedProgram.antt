@@ -31,7 +31,7 @@ use Rattle.name_outcome.proofs.KnownTypes.{named-stands, unnamed-stands}
 use Rattle.name_outcome.proofs.KnownClasses.{StandsNamed, type_names-outline, id-meant}
 use Rattle.name_outcome.proofs.Reached.{class_stands}
 use Rattle.name_outcome.proofs.Bridge.{Steps, P}
-use Rattle.name_outcome.proofs.Bare.{bare_class, bare_field, bare_program}
+use Rattle.java_core.specs.Untagged.{untag_class, untag_field, untagged}
 
 -- ---- programs that have the same superclasses and the same own fields find the same fields
 
@@ -58,34 +58,34 @@ alike-field P O classes fields c n =
 -- ---- without places all is as with them
 
 module _ (P : Plain) where
-  same-parent : (a : ℕ) → parent_of (bare_program P) a ≡ parent_of P a
-  same-parent a = ap (option_and_then (λ k. k.parent)) (slice_get-map bare_class P.classes a) ∙ go (slice_get P.classes a)
+  same-parent : (a : ℕ) → parent_of (untagged P) a ≡ parent_of P a
+  same-parent a = ap (option_and_then (λ k. k.parent)) (slice_get-map untag_class P.classes a) ∙ go (slice_get P.classes a)
     where
-      go : (o : Option PlainClass) → option_and_then (λ k. k.parent) (option_map bare_class o) ≡ option_and_then (λ k. k.parent) o
+      go : (o : Option PlainClass) → option_and_then (λ k. k.parent) (option_map untag_class o) ≡ option_and_then (λ k. k.parent) o
       go None = refl
       go (Some k) = refl
 
-  same-faces : (a : ℕ) → faces_of (bare_program P) a ≡ faces_of P a
-  same-faces a = ap (λ o. option_map_or (λ k. k.faces) o []) (slice_get-map bare_class P.classes a) ∙ go (slice_get P.classes a)
+  same-faces : (a : ℕ) → faces_of (untagged P) a ≡ faces_of P a
+  same-faces a = ap (λ o. option_map_or (λ k. k.faces) o []) (slice_get-map untag_class P.classes a) ∙ go (slice_get P.classes a)
     where
-      go : (o : Option PlainClass) → option_map_or (λ k. k.faces) (option_map bare_class o) [] ≡ option_map_or (λ k. k.faces) o []
+      go : (o : Option PlainClass) → option_map_or (λ k. k.faces) (option_map untag_class o) [] ≡ option_map_or (λ k. k.faces) o []
       go None = refl
       go (Some k) = refl
 
-  same-supers : (a : ℕ) → supers_of (bare_program P) a ≡ supers_of P a
-  same-supers a = ap (λ z. option_to_list z ++ faces_of (bare_program P) a) (same-parent a) ∙ ap (λ z. option_to_list (parent_of P a) ++ z) (same-faces a)
+  same-supers : (a : ℕ) → supers_of (untagged P) a ≡ supers_of P a
+  same-supers a = ap (λ z. option_to_list z ++ faces_of (untagged P) a) (same-parent a) ∙ ap (λ z. option_to_list (parent_of P a) ++ z) (same-faces a)
 
-  pub bare-subclass : {a b : ℕ} → IsSubclass (bare_program P) a b → IsSubclass P a b
+  pub bare-subclass : {a b : ℕ} → IsSubclass (untagged P) a b → IsSubclass P a b
   bare-subclass same_class = same_class
   bare-subclass {a} (through {c = c} direct rest) = through (subst (λ z. Contains z c) (same-supers a) direct) (bare-subclass rest)
 
-  pub bare-proper : {a b : ℕ} → IsProperSubclass (bare_program P) a b → IsProperSubclass P a b
+  pub bare-proper : {a b : ℕ} → IsProperSubclass (untagged P) a b → IsProperSubclass P a b
   bare-proper {a} h = record { by = h.by; direct = subst (λ z. Contains z h.by) (same-supers a) h.direct; rest = bare-subclass h.rest }
 
-  pub same-field : (c : ℕ) (n : List ℕ) → field_of (bare_program P) c n ≡ field_of P c n
+  pub same-field : (c : ℕ) (n : List ℕ) → field_of (untagged P) c n ≡ field_of P c n
   unfolding field_of
-  same-field c n = ap (λ z. nearest (bare_program P) (λ k. own_field_of (bare_program P) k n) z c) (length-map P.classes _)
-      ∙ alike-nearest (bare_program P) P n (λ c. position-map bare_field (λ f. is_field_of c n f) P.fields) same-parent (length P.classes) c
+  same-field c n = ap (λ z. nearest (untagged P) (λ k. own_field_of (untagged P) k n) z c) (length-map P.classes _)
+      ∙ alike-nearest (untagged P) P n (λ c. position-map untag_field (λ f. is_field_of c n f) P.fields) same-parent (length P.classes) c
 
 pub classes-subclass : (P O : Plain) → P.classes ≡ O.classes → {a b : ℕ} → IsSubclass P a b → IsSubclass O a b
 classes-subclass P O e same_class = same_class
@@ -117,22 +117,22 @@ decl-name (InterfaceTree mods n parents hs p) g = g.1
 
 module _ (tree : List DeclTree) (s : Steps tree) where
   abbrev pub R : Plain
-  R = bare_program (P tree s)
+  R = untagged (P tree s)
 
-  pub class-in : (c : ℕ) (k : PlainClass) → slice_get (outline tree).classes c ≡ Some k → slice_get R.classes c ≡ Some (bare_class k)
-  class-in c k e = stands-map bare_class (outline tree).classes c k e
+  pub class-in : (c : ℕ) (k : PlainClass) → slice_get (outline tree).classes c ≡ Some k → slice_get R.classes c ≡ Some (untag_class k)
+  class-in c k e = stands-map untag_class (outline tree).classes c k e
 
   names-are : map (λ k. k.name) R.classes ≡ types_in tree
   names-are = twice (outline tree).classes ∙ type_names-outline tree
     where
-      twice : (xs : List PlainClass) → map (λ k. k.name) (map bare_class xs) ≡ map (λ k. k.name) xs
+      twice : (xs : List PlainClass) → map (λ k. k.name) (map untag_class xs) ≡ map (λ k. k.name) xs
       twice [] = refl
       twice (x ∷ xs) = ap (λ z. x.name ∷ z) (twice xs)
 
   pub within-classes : (n : List ℕ) (c : ℕ) → class_named (outline tree) n ≡ Some c → IsClass R c
   within-classes n c e =
       let a = stands-within (type_names (outline tree)) c n (named-stands (type_names (outline tree)) n c e) in
-      let b = length-map (outline tree).classes (λ k. k.name) in let d = length-map (outline tree).classes bare_class in omega
+      let b = length-map (outline tree).classes (λ k. k.name) in let d = length-map (outline tree).classes untag_class in omega
       (arith, a, b, d)
 
   -- a name that no type has
@@ -150,18 +150,18 @@ module _ (tree : List DeclTree) (s : Steps tree) where
 
   pub formed-object : HasObject R
   unfolding outline
-  formed-object = record { object = bare_class object; first = class-in 0 object refl; name = refl; class = refl; concrete = refl; parent = refl; faces = refl }
+  formed-object = record { object = untag_class object; first = class-in 0 object refl; name = refl; class = refl; concrete = refl; parent = refl; faces = refl }
 
-  named-in : {n : List ℕ} {kind : Bool} (a : StandsNamed tree n kind) → slice_get R.classes a.number ≡ Some (bare_class a.class)
+  named-in : {n : List ℕ} {kind : Bool} (a : StandsNamed tree n kind) → slice_get R.classes a.number ≡ Some (untag_class a.class)
   named-in a = class-in a.number a.class a.stands
 
   pub formed-class : (c : ℕ) (k : PlainClass) → slice_get R.classes (suc c) ≡ Some k → IsFormedClass R k
   formed-class c k e =
-      let a = map-stands bare_class (outline tree).classes (suc c) k e in
+      let a = map-stands untag_class (outline tree).classes (suc c) k e in
       let b = class_stands tree c a.0 a.1 in
-      subst (IsFormedClass R) (ap bare_class b.2 ∙ a.2) (of-decl b.0 c b.1)
+      subst (IsFormedClass R) (ap untag_class b.2 ∙ a.2) (of-decl b.0 c b.1)
     where
-      of-decl : (d : DeclTree) (j : ℕ) → slice_get tree j ≡ Some d → IsFormedClass R (bare_class (class_outline (types_in tree) d))
+      of-decl : (d : DeclTree) (j : ℕ) → slice_get tree j ≡ Some d → IsFormedClass R (untag_class (class_outline (types_in tree) d))
       of-decl d j at =
           let u = or_parts (bytes_eq (codes "String") (name_of d)) (bytes_eq (codes "System") (name_of d)) (s.are.apart j d at) in
           let p = up (parent_named d) refl in
@@ -179,7 +179,7 @@ module _ (tree : List DeclTree) (s : Steps tree) where
                 let x = member-stands (map (id_meant (types_in tree)) (faces_named d)) f has in
                 let y = map-stands (id_meant (types_in tree)) (faces_named d) x.0 f x.1 in
                 let a = (s.supers j d at).faces x.0 y.0 y.1 in
-                (bare_class a.class, ap (λ z. slice_get R.classes z.0) (sym y.2 ∙ id-meant tree s.known s.are y.0 a.number a.named) ∙ named-in a, a.kind);
+                (untag_class a.class, ap (λ z. slice_get R.classes z.0) (sym y.2 ∙ id-meant tree s.known s.are y.0 a.number a.named) ∙ named-in a, a.kind);
             faces_once = (s.supers j d at).once;
           }
         where
@@ -192,7 +192,7 @@ module _ (tree : List DeclTree) (s : Steps tree) where
           up None e = (formed-object.object, formed-object.first, formed-object.class)
           up (Some i) e =
               let a = (s.supers j d at).parent i e in
-              (bare_class a.class, ap (λ z. slice_get R.classes z.0) (id-meant tree s.known s.are i a.number a.named) ∙ named-in a, a.kind)
+              (untag_class a.class, ap (λ z. slice_get R.classes z.0) (id-meant tree s.known s.are i a.number a.named) ∙ named-in a, a.kind)
 
   pub formed-names : HasNoTwice (map (λ k. k.name) R.classes)
   formed-names = subst HasNoTwice (sym names-are) s.are.once

@@ -20,8 +20,8 @@ use Rattle.java_core.proofs.Meets.{meets}
 use Rattle.name_outcome.proofs.SlotsOf.{SlotOf, none_of, one_of}
 use Rattle.name_outcome.proofs.MethodClashes.{owner-within}
 use Rattle.name_outcome.proofs.Bridge.{Steps, P, whole, program-resolves}
-use Rattle.name_outcome.proofs.Bare.{bare_method}
-use Rattle.name_outcome.proofs.BareNumbers.{methods-same, counts-once}
+use Rattle.java_core.specs.Untagged.{untag_method}
+use Rattle.name_outcome.proofs.UntaggedNumbers.{methods-same, counts-once}
 use Rattle.name_outcome.proofs.FormedProgram.{R, bare-subclass, classes-subclass, formed-object, formed-class, formed-names, formed-acyclic}
 use Rattle.name_outcome.proofs.FormedMembers.{bare-types, formed-field, formed-field_names, method-seen, formed-method}
 use Rattle.name_outcome.proofs.MembersOf.{owners-rise}
@@ -45,8 +45,8 @@ module _ (tree : List DeclTree) (s : Steps tree) where
   res = program-resolves tree s
 
   -- the methods of the program and of the text
-  method-of : (i : ℕ) (k : PlainMethod) → slice_get (R tree s).methods i ≡ Some k → (K : PlainMethod) × (slice_get s.methods i ≡ Some K) × (bare_method K ≡ k)
-  method-of i k e = map-stands bare_method s.methods i k e
+  method-of : (i : ℕ) (k : PlainMethod) → slice_get (R tree s).methods i ≡ Some k → (K : PlainMethod) × (slice_get s.methods i ≡ Some K) × (untag_method K ≡ k)
+  method-of i k e = map-stands untag_method s.methods i k e
 
   down : {c a : ℕ} → IsSubclass (R tree s) c a → IsSubclass (outline tree) c a
   down h = classes-subclass (P tree s) (outline tree) refl (bare-subclass (P tree s) h)
@@ -134,16 +134,16 @@ module _ (tree : List DeclTree) (s : Steps tree) where
   formed-slot n slot e =
       let a = res.slots.first n slot e in
       record {
-        method = bare_method a.0;
-        stands = stands-map bare_method s.methods slot.first a.0 a.1;
+        method = untag_method a.0;
+        stands = stands-map untag_method s.methods slot.first a.0 a.1;
         of = a.2;
         least = λ i k f g. let b = method-of i k f in res.slots.least n i slot b.0 e b.1 (ap (λ z. z.slot) b.2 ∙ g);
       }
 
-  bare-main : (K : PlainMethod) → IsMain K → IsMain (bare_method K)
+  bare-main : (K : PlainMethod) → IsMain K → IsMain (untag_method K)
   bare-main K h = record { static = h.static; name = h.name; params = bare-types K.params ∙ h.params; result = h.result }
 
-  main-bare : (K : PlainMethod) → IsMain (bare_method K) → IsMain K
+  main-bare : (K : PlainMethod) → IsMain (untag_method K) → IsMain K
   main-bare K h = record { static = h.static; name = h.name; params = sym (bare-types K.params) ∙ h.params; result = h.result }
 
   main-first : (j : ℕ) (k : PlainMethod) → slice_get (R tree s).methods j ≡ Some k → IsMain k → res.main.owner ≤ k.owner
@@ -169,8 +169,8 @@ module _ (tree : List DeclTree) (s : Steps tree) where
     one_slot = all-one-slot;
     slots = formed-slot;
     numbered = subst HasNoTwice (sym (methods-same s.methods)) (counts-once res.numbers);
-    main = bare_method res.main;
-    main_stands = stands-map bare_method s.methods s.main res.main res.main_stands;
+    main = untag_method res.main;
+    main_stands = stands-map untag_method s.methods s.main res.main res.main_stands;
     main_is = bare-main res.main res.main_is;
     main_first = main-first;
     counted = counted;

@@ -17,12 +17,11 @@ pub mod MethodClashes
 pub mod SeesOutline
 pub mod MethodBodies
 pub mod Bridge
-pub mod Bare
 pub mod FormedBodies
 pub mod MembersOf
 pub mod FormedProgram
 pub mod FormedMembers
-pub mod BareNumbers
+pub mod UntaggedNumbers
 pub mod FormedWhole
 pub mod Excludes
 pub mod ExcludesWhole

@@ -13,7 +13,7 @@ use Rattle.name_rules.specs.Meanings.{class_named}
 use Rattle.name_rules.specs.Resolves.{here_of}
 use Rattle.name_rules.specs.Conditions.{StsFault, disagree, is_unfit, kind_of, HasModifiers, of_type, of_field, of_method, HasWrongBody, missing, superfluous, in_concrete, AreOneSlot, unknown, type_twice, known_twice, super_twice, field_twice, method_twice, param_twice, loop, overload, type_as_field, type_as_param, face_as_parent, class_as_face, private_reused, no_main, modifiers_disagree, modifier_unfit, wrong_body, in_body}
 use Rattle.name_rules.specs.Causes.{HasNoCondition}
-use Rattle.name_outcome.proofs.Bare.{bare_class, bare_method, bare_program}
+use Rattle.java_core.specs.Untagged.{untag_class, untag_method, untagged}
 use Rattle.name_outcome.proofs.Runs.{map-stands, stands-map}
 use Rattle.places_aside.proofs.Outlines.{ap2, word-same, name-same, types-same, same-all, field_at_unplaced, method_at_unplaced, fields-same, methods-same, outline-same}
 use Rattle.places_aside.proofs.Meanings.{named-same, supers-same, below-back}
@@ -45,7 +45,7 @@ module _ (tree : List DeclTree) where
   abbrev O : Plain
   O = outline tree
 
-  same : outline (unplaced tree) ≡ bare_program O
+  same : outline (unplaced tree) ≡ untagged O
   same = outline-same tree
 
   named-in : (n : List ℕ) {c : Option ℕ} → class_named (outline (unplaced tree)) n ≡ c → class_named O n ≡ c
@@ -60,12 +60,12 @@ module _ (tree : List DeclTree) where
       record { by = g.by; direct = subst (λ z. Contains z g.by) (supers-same O a) g.direct; rest = below-back O g.rest }
 
   method-in : (i : ℕ) (k : PlainMethod) → slice_get (outline (unplaced tree)).methods i ≡ Some k
-      → (h : PlainMethod) × (slice_get O.methods i ≡ Some h) × (bare_method h ≡ k)
-  method-in i k e = map-stands bare_method O.methods i k (ap (λ (z : Plain). slice_get z.methods i) (sym same) ∙ e)
+      → (h : PlainMethod) × (slice_get O.methods i ≡ Some h) × (untag_method h ≡ k)
+  method-in i k e = map-stands untag_method O.methods i k (ap (λ (z : Plain). slice_get z.methods i) (sym same) ∙ e)
 
   class-in : (i : ℕ) (k : PlainClass) → slice_get (outline (unplaced tree)).classes i ≡ Some k
-      → (h : PlainClass) × (slice_get O.classes i ≡ Some h) × (bare_class h ≡ k)
-  class-in i k e = map-stands bare_class O.classes i k (ap (λ (z : Plain). slice_get z.classes i) (sym same) ∙ e)
+      → (h : PlainClass) × (slice_get O.classes i ≡ Some h) × (untag_class h ≡ k)
+  class-in i k e = map-stands untag_class O.classes i k (ap (λ (z : Plain). slice_get z.classes i) (sym same) ∙ e)
 
   field-at : (i : ℕ) (f : FieldAt) → slice_get (fields_in (unplaced tree)) i ≡ Some f
       → (g : FieldAt) × (slice_get (fields_in tree) i ≡ Some g) × (field_at_unplaced g ≡ f)
@@ -104,8 +104,8 @@ module _ (tree : List DeclTree) where
         → StsFault (outline (unplaced tree)) (here_of (method_at_unplaced m)) false (map (λ q. q.name) (method_at_unplaced m).head.params) us r → ⊥
     body-back m ss us {r} c b e h =
         sts O (here_of m) ss (λ t g. none t (in_body c b g))
-        (subst (λ z. StsFault (bare_program O) (here_of m) false z (stmts_unplaced ss) r) (names-same m)
-        (subst (λ z. StsFault (bare_program O) z false (map (λ q. q.name) (all_unplaced param_unplaced m.head.params)) (stmts_unplaced ss) r) (here-same m)
+        (subst (λ z. StsFault (untagged O) (here_of m) false z (stmts_unplaced ss) r) (names-same m)
+        (subst (λ z. StsFault (untagged O) z false (map (λ q. q.name) (all_unplaced param_unplaced m.head.params)) (stmts_unplaced ss) r) (here-same m)
         (subst (λ z. StsFault z (here_of (method_at_unplaced m)) false (map (λ q. q.name) (all_unplaced param_unplaced m.head.params))
         (stmts_unplaced ss) r) same
         (subst (λ z. StsFault (outline (unplaced tree)) (here_of (method_at_unplaced m)) false
@@ -144,7 +144,7 @@ module _ (tree : List DeclTree) where
         none _ (overload a.1 b.1 lt (ap (λ z. z.name) a.2 ∙ n ∙ ap (λ z. z.name) (sym b.2))
         (subst (λ z. IsSubclass O c z) (ap (λ z. z.owner) (sym a.2)) (below-in s)) (subst (λ z. IsSubclass O c z) (ap (λ z. z.owner) (sym b.2)) (below-in t))
         (λ o. other (subst (λ z. AreOneSlot z k) a.2
-        (subst (λ z. AreOneSlot (bare_method a.0) z) b.2
+        (subst (λ z. AreOneSlot (untag_method a.0) z) b.2
         (record {
           first = o.first;
           second = o.second;
@@ -176,7 +176,7 @@ module _ (tree : List DeclTree) where
         (⊎_elim (λ u. inl (subst (λ z. IsSubclass O z b.0.owner) (sym first) (subst (λ z. IsSubclass O h.owner z) (sym second) (below-in u))))
         (λ u. inr (subst (λ z. IsSubclass O z a.0.owner) (sym second) (subst (λ z. IsSubclass O k.owner z) (sym first) (below-in u)))) s))
     no_condition r (no_main f) =
-        none _ (no_main (λ m k e h. f m (bare_method k) (ap (λ (z : Plain). slice_get z.methods m) same ∙ stands-map bare_method O.methods m k e)
+        none _ (no_main (λ m k e h. f m (untag_method k) (ap (λ (z : Plain). slice_get z.methods m) same ∙ stands-map untag_method O.methods m k e)
         (main-bare O h)))
     no_condition r (modifiers_disagree {kind = kind} {mods = ms} {i = i} {j = j} {a = x} {b = y} c e f lt d) =
         let a = mods-back kind ms c in

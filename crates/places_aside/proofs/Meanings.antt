@@ -18,7 +18,7 @@ use Rattle.java_core.specs.Formed.{variables_of}
 use Rattle.java_core.proofs.Positions.{position-map}
 use Rattle.name_rules.specs.Outline.{type_named}
 use Rattle.name_rules.specs.Meanings.{type_names, class_named, MeansBase, an_int, a_boolean, a_char, a_text, a_class, Means, MeansCastBase, to_int, to_boolean, to_char, to_class, MeansCast, is_bound, is_class_name, IsStaticFieldOf, IsStaticMethodOf, IsNearestField, IsMet}
-use Rattle.name_outcome.proofs.Bare.{bare_local, bare_class, bare_field, bare_method, bare_program}
+use Rattle.java_core.specs.Untagged.{untag_local, untag_class, untag_field, untag_method, untagged}
 use Rattle.name_outcome.proofs.Runs.{map-stands, stands-map}
 use Rattle.places_aside.proofs.Outlines.{ap2}
 
@@ -28,15 +28,15 @@ maps u f g e [] = refl
 maps u f g e (x ∷ xs) = ap2 (λ y ys. y ∷ ys) (e x) (maps u f g e xs)
 
 -- the variables of a method without their tags
-pub variables-same : (k : PlainMethod) → variables_of (bare_method k) ≡ map bare_local (variables_of k)
-variables-same k = sym (map-append bare_local k.params k.locals)
+pub variables-same : (k : PlainMethod) → variables_of (untag_method k) ≡ map untag_local (variables_of k)
+variables-same k = sym (map-append untag_local k.params k.locals)
 
 module _ (O : Plain) where
   abbrev bare-outline : Plain
-  bare-outline = bare_program O
+  bare-outline = untagged O
 
   pub names-same : type_names bare-outline ≡ type_names O
-  names-same = maps bare_class (λ k. k.name) (λ k. k.name) (λ k. refl) O.classes
+  names-same = maps untag_class (λ k. k.name) (λ k. k.name) (λ k. refl) O.classes
 
   pub named-same : (n : List ℕ) → class_named bare-outline n ≡ class_named O n
   named-same n = ap (λ z. type_named z n) names-same
@@ -63,16 +63,16 @@ module _ (O : Plain) where
   -- ---- classes
 
   parent-same : (a : ℕ) → parent_of bare-outline a ≡ parent_of O a
-  parent-same a = ap (option_and_then (λ k. k.parent)) (slice_get-map bare_class O.classes a) ∙ go (slice_get O.classes a)
+  parent-same a = ap (option_and_then (λ k. k.parent)) (slice_get-map untag_class O.classes a) ∙ go (slice_get O.classes a)
     where
-      go : (k : Option PlainClass) → option_and_then (λ k. k.parent) (option_map bare_class k) ≡ option_and_then (λ k. k.parent) k
+      go : (k : Option PlainClass) → option_and_then (λ k. k.parent) (option_map untag_class k) ≡ option_and_then (λ k. k.parent) k
       go None = refl
       go (Some k) = refl
 
   faces-same : (a : ℕ) → faces_of bare-outline a ≡ faces_of O a
-  faces-same a = ap (λ z. option_map_or (λ k. k.faces) z []) (slice_get-map bare_class O.classes a) ∙ go (slice_get O.classes a)
+  faces-same a = ap (λ z. option_map_or (λ k. k.faces) z []) (slice_get-map untag_class O.classes a) ∙ go (slice_get O.classes a)
     where
-      go : (k : Option PlainClass) → option_map_or (λ k. k.faces) (option_map bare_class k) [] ≡ option_map_or (λ k. k.faces) k []
+      go : (k : Option PlainClass) → option_map_or (λ k. k.faces) (option_map untag_class k) [] ≡ option_map_or (λ k. k.faces) k []
       go None = refl
       go (Some k) = refl
 
@@ -90,7 +90,7 @@ module _ (O : Plain) where
   -- ---- members
 
   own-field-same : (c : ℕ) (n : List ℕ) → own_field_of bare-outline c n ≡ own_field_of O c n
-  own-field-same c n = position-map bare_field (λ f. is_field_of c n f) O.fields
+  own-field-same c n = position-map untag_field (λ f. is_field_of c n f) O.fields
 
   nearest-same : (f g : ℕ → Option ℕ) → ((k : ℕ) → f k ≡ g k) → (n c : ℕ) → nearest bare-outline f n c ≡ nearest O g n c
   nearest-same f g e zero c = e c
@@ -105,7 +105,7 @@ module _ (O : Plain) where
   field-same : (c : ℕ) (n : List ℕ) → field_of bare-outline c n ≡ field_of O c n
   unfolding field_of
   field-same c n =
-      ap (λ z. nearest bare-outline (λ k. own_field_of bare-outline k n) z c) (length-map O.classes bare_class)
+      ap (λ z. nearest bare-outline (λ k. own_field_of bare-outline k n) z c) (length-map O.classes untag_class)
       ∙ nearest-same (λ k. own_field_of bare-outline k n) (λ k. own_field_of O k n) (λ k. own-field-same k n) (length O.classes) c
 
   pub class-name-same : (c : ℕ) (names : List (List ℕ)) (n : List ℕ) (p q : Place)
@@ -114,27 +114,27 @@ module _ (O : Plain) where
 
   pub static-field : {c f : ℕ} {n : List ℕ} → IsStaticFieldOf O c n f → IsStaticFieldOf bare-outline c n f
   static-field {c} {f} {n} s =
-      record { member = bare_field s.member; own = own-field-same c n ∙ s.own; stands = stands-map bare_field O.fields f s.member s.stands; static = s.static }
+      record { member = untag_field s.member; own = own-field-same c n ∙ s.own; stands = stands-map untag_field O.fields f s.member s.stands; static = s.static }
 
   pub static-method : {c m : ℕ} {n : List ℕ} → IsStaticMethodOf O c n m → IsStaticMethodOf bare-outline c n m
   static-method {c} {m} {n} s =
-      record { member = bare_method s.member; stands = stands-map bare_method O.methods m s.member s.stands; owner = s.owner; name = s.name; static = s.static }
+      record { member = untag_method s.member; stands = stands-map untag_method O.methods m s.member s.stands; owner = s.owner; name = s.name; static = s.static }
 
-  pub nearest-field : {c f : ℕ} {n : List ℕ} {k : PlainField} → IsNearestField O c n f k → IsNearestField bare-outline c n f (bare_field k)
-  nearest-field {c} {f} {n} {k} s = record { nearest = field-same c n ∙ s.nearest; stands = stands-map bare_field O.fields f k s.stands }
+  pub nearest-field : {c f : ℕ} {n : List ℕ} {k : PlainField} → IsNearestField O c n f k → IsNearestField bare-outline c n f (untag_field k)
+  nearest-field {c} {f} {n} {k} s = record { nearest = field-same c n ∙ s.nearest; stands = stands-map untag_field O.fields f k s.stands }
 
   pub nearest-back : {c f : ℕ} {n : List ℕ} {k : PlainField} → IsNearestField bare-outline c n f k
-      → (h : PlainField) × IsNearestField O c n f h × (bare_field h ≡ k)
+      → (h : PlainField) × IsNearestField O c n f h × (untag_field h ≡ k)
   nearest-back {c} {f} {n} {k} s =
-      let a = map-stands bare_field O.fields f k s.stands in
+      let a = map-stands untag_field O.fields f k s.stands in
       (a.0, record { nearest = sym (field-same c n) ∙ s.nearest; stands = a.1 }, a.2)
 
-  pub met : {c m : ℕ} {n : List ℕ} {k : PlainMethod} → IsMet O c n m k → IsMet bare-outline c n m (bare_method k)
-  met {c} {m} {n} {k} s = record { stands = stands-map bare_method O.methods m k s.stands; name = s.name; above = below s.above }
+  pub met : {c m : ℕ} {n : List ℕ} {k : PlainMethod} → IsMet O c n m k → IsMet bare-outline c n m (untag_method k)
+  met {c} {m} {n} {k} s = record { stands = stands-map untag_method O.methods m k s.stands; name = s.name; above = below s.above }
 
-  pub met-back : {c m : ℕ} {n : List ℕ} {k : PlainMethod} → IsMet bare-outline c n m k → (h : PlainMethod) × IsMet O c n m h × (bare_method h ≡ k)
+  pub met-back : {c m : ℕ} {n : List ℕ} {k : PlainMethod} → IsMet bare-outline c n m k → (h : PlainMethod) × IsMet O c n m h × (untag_method h ≡ k)
   met-back {c} {m} {n} {k} s =
-      let a = map-stands bare_method O.methods m k s.stands in (
+      let a = map-stands untag_method O.methods m k s.stands in (
         a.0,
         record {
           stands = a.1;

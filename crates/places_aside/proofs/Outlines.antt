@@ -11,7 +11,7 @@ use Rattle.java_tree.specs.Syntax.{MemberTree, FieldTree, MethodTree, DeclTree, 
 use Rattle.java_tree.specs.Places.{nowhere, all_unplaced, may_unplaced, id_unplaced, modifier_unplaced, type_unplaced, param_unplaced, stmts_unplaced, head_unplaced, member_unplaced, decl_unplaced, unplaced}
 use Rattle.name_rules.specs.declared.parts.Kind.TheVariants as kinds
 use Rattle.name_rules.specs.Outline.{FieldAt, MethodAt, name_of, has_word, is_abstract_word, is_static_word, is_public_word, types_in, type_meant, id_meant, class_id, fields_of, methods_of, fields_declared, methods_declared, fields_from, methods_from, fields_in, methods_in, object, parent_meant, class_outline, field_outline, param_outline, method_outline, outline}
-use Rattle.name_outcome.proofs.Bare.{bare_tag, bare_local, bare_class, bare_field, bare_method, bare_program}
+use Rattle.java_core.specs.Untagged.{bare_tag, untag_local, untag_class, untag_field, untag_method, untagged}
 
 pub ap2 : {A B C : Type 0} (f : A → B → C) {a b : A} {c d : B} → a ≡ b → c ≡ d → f a c ≡ f b d
 ap2 f {b = b} {c = c} p q = ap (λ z. f z c) p ∙ ap (λ z. f b z) q
@@ -52,7 +52,7 @@ parent-same : (types : List (List ℕ)) (c : Option Id) → parent_meant types (
 parent-same types None = refl
 parent-same types (Some i) = refl
 
-class-same : (types : List (List ℕ)) (d : DeclTree) → class_outline types (decl_unplaced d) ≡ bare_class (class_outline types d)
+class-same : (types : List (List ℕ)) (d : DeclTree) → class_outline types (decl_unplaced d) ≡ untag_class (class_outline types d)
 class-same types (ClassTree ms n c fs bs p) =
     ap (λ z. record {
       name = n;
@@ -139,7 +139,7 @@ methods-same tree = methods-from 1 tree
 
 -- ---- the whole
 
-field-seen : (types : List (List ℕ)) (f : FieldAt) → field_outline types (field_at_unplaced f) ≡ bare_field (field_outline types f)
+field-seen : (types : List (List ℕ)) (f : FieldAt) → field_outline types (field_at_unplaced f) ≡ untag_field (field_outline types f)
 field-seen types f =
     ap (λ z. record { owner = f.owner; name = f.name; is_static = z; ty = type_meant types f.type; tag = bare_tag }) (word-same is_static_word f.mods)
 
@@ -147,7 +147,7 @@ result-same : (types : List (List ℕ)) (t : Option TypeName) → option_map (ty
 result-same types None = refl
 result-same types (Some t) = refl
 
-method-seen : (types : List (List ℕ)) (m : MethodAt) → method_outline types (method_at_unplaced m) ≡ bare_method (method_outline types m)
+method-seen : (types : List (List ℕ)) (m : MethodAt) → method_outline types (method_at_unplaced m) ≡ untag_method (method_outline types m)
 method-seen types m =
     ap2 (λ s u. record {
       owner = m.owner;
@@ -174,9 +174,9 @@ method-seen types m =
       body = None;
       tag = bare_tag;
     })
-    (seen-all param_unplaced (param_outline types) (param_outline types) bare_local (λ q. refl) m.head.params) (result-same types m.head.type)
+    (seen-all param_unplaced (param_outline types) (param_outline types) untag_local (λ q. refl) m.head.params) (result-same types m.head.type)
 
-pub outline-same : (tree : List DeclTree) → outline (unplaced tree) ≡ bare_program (outline tree)
+pub outline-same : (tree : List DeclTree) → outline (unplaced tree) ≡ untagged (outline tree)
 unfolding outline
 outline-same tree =
     ap (λ t. record {
@@ -187,16 +187,16 @@ outline-same tree =
       main = 0;
     }) (types-same tree)
     ∙ ap2 (λ cs fs. record { classes = object ∷ cs; fields = fs; methods = map (method_outline t) (methods_in (unplaced tree)); slots = []; main = 0 })
-    (seen-all decl_unplaced (class_outline t) (class_outline t) bare_class (class-same t) tree)
-    (ap (map (field_outline t)) (fields-same tree) ∙ both-ways field_at_unplaced (field_outline t) (field_outline t) bare_field (field-seen t) (fields_in tree))
+    (seen-all decl_unplaced (class_outline t) (class_outline t) untag_class (class-same t) tree)
+    (ap (map (field_outline t)) (fields-same tree) ∙ both-ways field_at_unplaced (field_outline t) (field_outline t) untag_field (field-seen t) (fields_in tree))
     ∙ ap (λ ms. record {
-      classes = object ∷ map bare_class (map (class_outline t) tree);
-      fields = map bare_field (map (field_outline t) (fields_in tree));
+      classes = object ∷ map untag_class (map (class_outline t) tree);
+      fields = map untag_field (map (field_outline t) (fields_in tree));
       methods = ms;
       slots = [];
       main = 0;
     })
-    (ap (map (method_outline t)) (methods-same tree) ∙ both-ways method_at_unplaced (method_outline t) (method_outline t) bare_method (method-seen t)
+    (ap (map (method_outline t)) (methods-same tree) ∙ both-ways method_at_unplaced (method_outline t) (method_outline t) untag_method (method-seen t)
     (methods_in tree))
   where
     t : List (List ℕ)

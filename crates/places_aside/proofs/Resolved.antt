@@ -13,7 +13,7 @@ use Rattle.name_rules.specs.Outline.{MethodAt, parent_named, faces_named, fields
 use Rattle.name_rules.specs.Meanings.{class_named}
 use Rattle.name_rules.specs.Asked.{IsSuper, a_parent, a_face, IsDeclared, of_field, of_param, of_result, Asks, by_super, by_type}
 use Rattle.name_rules.specs.Resolves.{Counts, BodiesResolve, heading_of, HasSlot, no_slot, a_slot, AreSlots, Resolves}
-use Rattle.name_outcome.proofs.Bare.{bare_local, bare_class, bare_field, bare_method, bare_program}
+use Rattle.java_core.specs.Untagged.{untag_local, untag_class, untag_field, untag_method, untagged}
 use Rattle.name_outcome.proofs.BareNumbers as numbers
 use Rattle.name_outcome.proofs.Runs.{member-at, member-stands, map-stands, stands-map}
 use Rattle.name_outcome.proofs.Sees.{same_some}
@@ -86,49 +86,49 @@ module _ (tree : List DeclTree) where
 
 -- ---- slots
 
-pub param-types-same : (vs : List PlainLocal) → types_of (map bare_local vs) ≡ types_of vs
-param-types-same vs = maps bare_local (λ v. v.ty) (λ v. v.ty) (λ v. refl) vs
+pub param-types-same : (vs : List PlainLocal) → types_of (map untag_local vs) ≡ types_of vs
+param-types-same vs = maps untag_local (λ v. v.ty) (λ v. v.ty) (λ v. refl) vs
 
 module _ (P : Plain) where
-  has-slot : {k : PlainMethod} → HasSlot P k → HasSlot (bare_program P) (bare_method k)
+  has-slot : {k : PlainMethod} → HasSlot P k → HasSlot (untagged P) (untag_method k)
   has-slot (no_slot s n) = no_slot s n
   has-slot {k} (a_slot s n at of) = a_slot s n at (record { name = of.name; params = param-types-same k.params ∙ of.params; result = of.result })
 
-  slots : AreSlots P → AreSlots (bare_program P)
+  slots : AreSlots P → AreSlots (untagged P)
   slots p = record {
-    each = λ m k e. let a = map-stands bare_method P.methods m k e in subst (HasSlot (bare_program P)) a.2 (has-slot (p.each m a.0 a.1));
-    first = λ s slot e. let a = p.first s slot e in (bare_method a.0, stands-map bare_method P.methods slot.first a.0 a.1, a.2);
-    least = λ s m slot k e h i. let a = map-stands bare_method P.methods m k h in p.least s m slot a.0 e a.1 (ap (λ z. z.slot) a.2 ∙ i);
+    each = λ m k e. let a = map-stands untag_method P.methods m k e in subst (HasSlot (untagged P)) a.2 (has-slot (p.each m a.0 a.1));
+    first = λ s slot e. let a = p.first s slot e in (untag_method a.0, stands-map untag_method P.methods slot.first a.0 a.1, a.2);
+    least = λ s m slot k e h i. let a = map-stands untag_method P.methods m k h in p.least s m slot a.0 e a.1 (ap (λ z. z.slot) a.2 ∙ i);
     apart = p.apart;
     order = p.order;
   }
 
-  pub main-bare : {k : PlainMethod} → IsMain k → IsMain (bare_method k)
+  pub main-bare : {k : PlainMethod} → IsMain k → IsMain (untag_method k)
   main-bare {k} m = record { static = m.static; name = m.name; params = param-types-same k.params ∙ m.params; result = m.result }
 
-  main-back : (k : PlainMethod) → IsMain (bare_method k) → IsMain k
+  main-back : (k : PlainMethod) → IsMain (untag_method k) → IsMain k
   main-back k m = record { static = m.static; name = m.name; params = sym (param-types-same k.params) ∙ m.params; result = m.result }
 
 -- ---- the whole
 
-pub resolves-bare : (tree : List DeclTree) (P : Plain) → Resolves tree P → Resolves (unplaced tree) (bare_program P)
+pub resolves-bare : (tree : List DeclTree) (P : Plain) → Resolves tree P → Resolves (unplaced tree) (untagged P)
 resolves-bare tree P r =
     let same = outline-same tree in record {
       known = λ n p h. let a = asked-back tree n p h in ap (λ z. is_some (class_named z n)) same ∙ ap is_some (named-same (outline tree) n) ∙ r.known n a.0 a.1;
-      classes = ap (map bare_class) r.classes ∙ sym (ap (λ z. z.classes) same);
-      fields = ap (map bare_field) r.fields ∙ sym (ap (λ z. z.fields) same);
-      headings = headings P.methods ∙ ap (map bare_method) r.headings ∙ sym (ap (λ z. z.methods) same);
-      bodies = subst (λ z. BodiesResolve z (methods_in (unplaced tree)) (map bare_method P.methods)) (sym same)
-          (subst (λ z. BodiesResolve (bare_program (outline tree)) z (map bare_method P.methods)) (sym (methods-same tree)) (bodies (outline tree) r.bodies));
+      classes = ap (map untag_class) r.classes ∙ sym (ap (λ z. z.classes) same);
+      fields = ap (map untag_field) r.fields ∙ sym (ap (λ z. z.fields) same);
+      headings = headings P.methods ∙ ap (map untag_method) r.headings ∙ sym (ap (λ z. z.methods) same);
+      bodies = subst (λ z. BodiesResolve z (methods_in (unplaced tree)) (map untag_method P.methods)) (sym same)
+          (subst (λ z. BodiesResolve (untagged (outline tree)) z (map untag_method P.methods)) (sym (methods-same tree)) (bodies (outline tree) r.bodies));
       slots = slots P r.slots;
       last = r.last;
       numbers = subst (λ z. Counts 0 z r.last) (sym (numbers.methods-same P.methods)) r.numbers;
-      main = bare_method r.main;
-      main_stands = stands-map bare_method P.methods P.main r.main r.main_stands;
+      main = untag_method r.main;
+      main_stands = stands-map untag_method P.methods P.main r.main r.main_stands;
       main_is = main-bare P r.main_is;
-      main_first = λ m k e h. let a = map-stands bare_method P.methods m k e in r.main_first m a.0 a.1 (main-back P a.0 (subst IsMain (sym a.2) h));
+      main_first = λ m k e h. let a = map-stands untag_method P.methods m k e in r.main_first m a.0 a.1 (main-back P a.0 (subst IsMain (sym a.2) h));
     }
   where
-    headings : (ks : List PlainMethod) → map heading_of (map bare_method ks) ≡ map bare_method (map heading_of ks)
+    headings : (ks : List PlainMethod) → map heading_of (map untag_method ks) ≡ map untag_method (map heading_of ks)
     headings [] = refl
-    headings (k ∷ ks) = ap (λ z. heading_of (bare_method k) ∷ z) (headings ks)
+    headings (k ∷ ks) = ap (λ z. heading_of (untag_method k) ∷ z) (headings ks)

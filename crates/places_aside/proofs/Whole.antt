@@ -10,7 +10,8 @@ use Rattle.java_core.specs.Trees.{at_place}
 use Rattle.java_core.specs.Programs.{Plain, program_of}
 use Rattle.name_rules.specs.Resolves.{Resolves}
 use Rattle.name_rules.specs.Causes.{HasNoCondition}
-use Rattle.name_outcome.proofs.Bare.{bare_program, bare-program}
+use Rattle.java_core.specs.Untagged.{untagged}
+use Rattle.java_core.proofs.Untagged.{same_program}
 use Rattle.name_outcome.proofs.OnlyWhole.{only}
 use Rattle.places_aside.specs.Laws.{NoConditionAside, PlacesAside, HasOneProgram}
 use Rattle.places_aside.proofs.Conditions.{no_condition}
@@ -22,15 +23,15 @@ no_condition_aside tree none = no_condition tree none
 
 -- two programs of one tree are one, tags aside: without places the tree resolves to both without tags
 bare_only : (tree other : List DeclTree) (P Q : Plain) → unplaced tree ≡ unplaced other → IsFormedTree (unplaced other) → HasNoCondition other
-    → Resolves tree P → Resolves other Q → bare_program P ≡ bare_program Q
+    → Resolves tree P → Resolves other Q → untagged P ≡ untagged Q
 bare_only tree other P Q same formed none p q =
-    only (unplaced other) formed (no_condition other none) (bare_program P) (bare_program Q)
-    (subst (λ z. Resolves z (bare_program P)) same (resolves-bare tree P p)) (resolves-bare other Q q)
+    only (unplaced other) formed (no_condition other none) (untagged P) (untagged Q)
+    (subst (λ z. Resolves z (untagged P)) same (resolves-bare tree P p)) (resolves-bare other Q q)
 
 pub places_aside : PlacesAside
 unfolding PlacesAside
 places_aside tree other p q same given none a b =
-    sym (bare-program p) ∙ bare_only tree other (program_of at_place p) (program_of at_place q) same (given_formed other given) none a b ∙ bare-program q
+    sym (same_program p) ∙ bare_only tree other (program_of at_place p) (program_of at_place q) same (given_formed other given) none a b ∙ same_program q
 
 pub has_one_program : HasOneProgram
 unfolding HasOneProgram PlacesAside

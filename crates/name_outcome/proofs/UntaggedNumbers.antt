@@ -1,13 +1,12 @@
 -- The numbers of creations, casts and instanceof are the same without places.
 use Rattle.std.proofs.Common.{◌≡◌, ℕ, zero, suc, ◌+◌, List, [], ◌∷◌, ◌++◌, map, Option, Some, None, refl, ap, ◌∙◌, arith}
 use Rattle.std.specs.Prelude.{slice_get}
-use Rattle.std.specs.Option.{option_map}
 use Rattle.java_core.specs.Trees.{Ex, Exs, no_ex, ex_then, number, character, text, truth, null, this, local, static_field, own_field, field, index, call, static_call, super_call, create, create_array, cast, instance_of, unary, binary, Target, to_local, to_static, to_own, to_field, to_element, no_target, St, Sts, Arms, declare, block, assign, act, print, choose, loop, return, break, continue, no_st, st_then, no_other, otherwise, arm}
 use Rattle.java_core.specs.Programs.{PlainMethod}
 use Rattle.java_core.specs.Formed.{HasNoTwice, numbers, numbers_all, numbers_if, numbers_target, numbers_st, numbers_sts, numbers_arms, numbers_body, numbers_methods}
 use Rattle.name_rules.specs.Resolves.{Counts, no_number, next_number}
 use Rattle.name_outcome.proofs.Sees.{same_some}
-use Rattle.name_outcome.proofs.Bare.{bare, bare_all, bare_if, bare_target, bare_st, bare_sts, bare_arms, bare_method}
+use Rattle.java_core.specs.Untagged.{bare, bare_all, bare_if, bare_target, bare_st, bare_sts, bare_arms, untag_method, untag_body}
 
 both : {a b c d : List ℕ} → a ≡ b → c ≡ d → a ++ c ≡ b ++ d
 both {b = b} {c = c} p q = ap (λ z. z ++ c) p ∙ ap (λ z. b ++ z) q
@@ -73,11 +72,11 @@ mutual
   arms-same (otherwise xs) = sts-same xs
   arms-same (arm e xs more) = both (both (ex-same e) (sts-same xs)) (arms-same more)
 
-body-same : (b : Option Sts) → numbers_body (option_map bare_sts b) ≡ numbers_body b
+body-same : (b : Option Sts) → numbers_body (untag_body b) ≡ numbers_body b
 body-same None = refl
 body-same (Some xs) = sts-same xs
 
-pub methods-same : (ks : List PlainMethod) → numbers_methods (map bare_method ks) ≡ numbers_methods ks
+pub methods-same : (ks : List PlainMethod) → numbers_methods (map untag_method ks) ≡ numbers_methods ks
 methods-same [] = refl
 methods-same (k ∷ ks) = both (body-same k.body) (methods-same ks)
 
