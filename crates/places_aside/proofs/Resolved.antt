@@ -14,7 +14,7 @@ use Rattle.name_rules.specs.Meanings.{class_named}
 use Rattle.name_rules.specs.Asked.{IsSuper, a_parent, a_face, IsDeclared, of_field, of_param, of_result, Asks, by_super, by_type}
 use Rattle.name_rules.specs.Resolves.{Counts, BodiesResolve, heading_of, HasSlot, no_slot, a_slot, AreSlots, Resolves}
 use Rattle.java_core.specs.Untagged.{untag_local, untag_class, untag_field, untag_method, untagged}
-use Rattle.name_outcome.proofs.BareNumbers as numbers
+use Rattle.name_outcome.proofs.UntaggedNumbers as numbers
 use Rattle.name_outcome.proofs.Runs.{member-at, member-stands, map-stands, stands-map}
 use Rattle.name_outcome.proofs.Sees.{same_some}
 use Rattle.places_aside.proofs.Outlines.{field_at_unplaced, method_at_unplaced, fields-same, methods-same, outline-same}
