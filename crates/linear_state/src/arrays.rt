@@ -147,9 +147,31 @@ fn write_at<'a>(
     }
 }
 
-/// A value is put into a place of an array with elements of a type, where it fits.
+/// A value is put into a place of an array with elements of a type, where it fits, as a number and a `boolean` always do.
 #[inline(always)]
 fn store<'a>(
+    classes: &mut Classes<'a>,
+    heap: &mut Heap,
+    at: u32,
+    place: u32,
+    element: Ty,
+    value: Value,
+) -> Result<Kept, AllocError>
+    ensures same { classes.new ≡ classes.old }
+    ensures kept { IfOk result (λ r. (c : Cell) (u : moment.Value) → slice_get heap.old.cells at ≡ Some c → slice_get c.values place ≡ Some u
+        → Keeps heap.old heap.new r (λ s k. on_fitting (language_of (program_of no_place classes.old)) (value_of value) element s
+        (λ s1. k (set_value at c place (convert element (value_of value)) s1)))) }
+{
+    match value {
+        Value::Int(number) => Ok(put(heap, at, place, Value::Int(number))),
+        Value::Bool(truth) => Ok(put(heap, at, place, Value::Bool(truth))),
+        _ => store_tested(classes, heap, at, place, element, value),
+    }
+}
+
+/// A value is put into a place of an array with elements of a type, where a test says that it fits.
+#[inline(never)]
+fn store_tested<'a>(
     classes: &mut Classes<'a>,
     heap: &mut Heap,
     at: u32,
