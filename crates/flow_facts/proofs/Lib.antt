@@ -13,4 +13,3 @@ pub mod Ranged
 pub mod Gathers
 pub mod Walks
 pub mod Passed
-pub mod Found

@@ -40,9 +40,8 @@ fn without_places(alloc: Global, calls: Vec<PlacedCall>) -> Result<Vec<CallInfo>
 fn calls_in_order(alloc: Global, calls: Vec<PlacedCall>) -> Result<Vec<CallInfo>, AllocError>
     ensures value { IfOk result (λ v. map call_seen v.items ≡ map (λ c. c.item) (by_place (λ c. c.place.at) (calls_seen calls.items))) }
 {
-    let placed = by_place(calls)?;
-    let list = without_places(alloc, placed)?;
-    Ok(list)
+    let placed = made!(by_place(calls));
+    without_places(alloc, placed)
 }
 
 /// What is said of each row, column, site and flow point, and of each body.
@@ -60,7 +59,7 @@ fn list_tables(alloc: Global, program: &Program, numbered: &Numbered) -> Result<
     requires { length numbered.now.columns.items < 4294967295 }
     ensures { IfOk result (λ t. AreTables (program_of at_place program.now) numbered.now t) }
 {
-    let rows = row_infos(alloc, program, &numbered.numbering, &numbered.rows)?;
+    let rows = made!(row_infos(alloc, program, &numbered.numbering, &numbered.rows));
     let columns = made!(column_infos(alloc, program, &numbered.columns); rows);
     let sites = made!(site_infos(alloc, &numbered.sites); rows, columns);
     let points = made!(point_rows(alloc, &numbered.points); rows, columns, sites);
@@ -89,7 +88,7 @@ pub struct Texts {
 fn list_texts(alloc: Global, program: &Program) -> Result<Texts, AllocError>
     ensures { IfOk result (λ t. AreTexts (program_of at_place program.now) t) }
 {
-    let classes = class_infos(alloc, program)?;
+    let classes = made!(class_infos(alloc, program));
     let words = made!(words(alloc, program); classes);
     let variables = made!(variables(alloc, program); classes, words);
     Ok(Texts {
@@ -150,7 +149,7 @@ fn say(alloc: Global, program: &Program, numbered: &Numbered) -> Result<Said, Al
     requires numbered { IsNumbered (program_of no_place program.now) (program_of at_place program.now) numbered.now }
     ensures { IfOk result (λ s. IsSaid (program_of no_place program.now) (program_of at_place program.now) numbered.now s) }
 {
-    let tables = list_tables(alloc, program, numbered)?;
+    let tables = made!(list_tables(alloc, program, numbered));
     let texts = made!(list_texts(alloc, program); tables);
     let lists = made!(
         gather(alloc, program, &numbered.numbering, &numbered.bodies);

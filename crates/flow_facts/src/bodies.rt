@@ -50,7 +50,7 @@ fn walk_set(
         (method_seen at_place method.now)) m (method_seen at_place method.now)
         (label (length parts.old.items) (expr_of at_place value.now))) ∷ [])) }
 {
-    let value = walk(alloc, program, m, method, false, value, parts)?;
+    let value = made!(walk(alloc, program, m, method, false, value, parts));
     add(parts, Part::Set(target, value))
 }
 
@@ -98,7 +98,7 @@ fn walk_assign(
             )
         }
         RExpr::Own { field, .. } => {
-            let value = walk(alloc, program, m, method, true, value, parts)?;
+            let value = made!(walk(alloc, program, m, method, true, value, parts));
             add(
                 parts,
                 Part::Store(place, this_operand(m, method), Some(field.0), value),
@@ -106,15 +106,15 @@ fn walk_assign(
         }
         RExpr::Field { base, name, .. } => {
             let accessed = is_accessed(base);
-            let base = walk(alloc, program, m, method, accessed, base, parts)?;
-            let value = walk(alloc, program, m, method, true, value, parts)?;
+            let base = made!(walk(alloc, program, m, method, accessed, base, parts));
+            let value = made!(walk(alloc, program, m, method, true, value, parts));
             let field = object_field(program, base.ty, name);
             add(parts, Part::Store(place, base, field, value))
         }
         RExpr::Index { base, at, .. } => {
-            let base = walk(alloc, program, m, method, true, base, parts)?;
-            walk(alloc, program, m, method, false, at, parts)?;
-            let value = walk(alloc, program, m, method, true, value, parts)?;
+            let base = made!(walk(alloc, program, m, method, true, base, parts));
+            made!(walk(alloc, program, m, method, false, at, parts));
+            let value = made!(walk(alloc, program, m, method, true, value, parts));
             add(parts, Part::ElementStore(place, base, value))
         }
         _ => { walk_set(alloc, program, m, method, NOTHING, value, parts) }
@@ -139,7 +139,7 @@ fn walk_value(
 {
     match value {
         Some(value) => {
-            walk(alloc, program, m, method, false, value, parts)?;
+            made!(walk(alloc, program, m, method, false, value, parts));
             Ok(())
         }
         None => Ok(()),
@@ -197,7 +197,7 @@ fn walk_return(
 {
     match value {
         Some(value) => {
-            let value = walk(alloc, program, m, method, false, value, parts)?;
+            let value = made!(walk(alloc, program, m, method, false, value, parts));
             add(parts, Part::Return(value))
         }
         None => Ok(()),
@@ -232,19 +232,19 @@ fn walk_stmt(
             place,
         } => { walk_assign(alloc, program, m, method, *place, target, value, parts) }
         RStmt::Do { call, .. } => {
-            walk(alloc, program, m, method, false, call, parts)?;
+            made!(walk(alloc, program, m, method, false, call, parts));
             Ok(())
         }
         RStmt::Print { value, .. } => { walk_value(alloc, program, m, method, value, parts) }
         RStmt::If { arms, other, .. } => {
-            walk_arms(alloc, program, m, method, arms, other, parts)?;
+            made!(walk_arms(alloc, program, m, method, arms, other, parts));
             match other {
                 Some(body) => { walk_stmts(alloc, program, m, method, body, parts) }
                 None => Ok(()),
             }
         }
         RStmt::While { test, body, .. } => {
-            walk(alloc, program, m, method, false, test, parts)?;
+            made!(walk(alloc, program, m, method, false, test, parts));
             walk_stmts(alloc, program, m, method, body, parts)
         }
         RStmt::For {
@@ -254,9 +254,9 @@ fn walk_stmt(
             body,
             ..
         } => {
-            walk_step(alloc, program, m, method, first, parts)?;
-            walk_value(alloc, program, m, method, test, parts)?;
-            walk_step(alloc, program, m, method, step, parts)?;
+            made!(walk_step(alloc, program, m, method, first, parts));
+            made!(walk_value(alloc, program, m, method, test, parts));
+            made!(walk_step(alloc, program, m, method, step, parts));
             walk_stmts(alloc, program, m, method, body, parts)
         }
         RStmt::Return { value, .. } => { walk_return(alloc, program, m, method, value, parts) }
@@ -305,7 +305,7 @@ fn walk_stmts(
         (label_sts (length parts.old.items) (stmts at_place body.now.items)))) }
 {
     for s in body {
-        walk_stmt(alloc, program, m, method, s, parts)?;
+        made!(walk_stmt(alloc, program, m, method, s, parts));
     }
     Ok(())
 }
@@ -336,8 +336,8 @@ fn walk_arms(
 {
     let _ = other;
     for arm in arms {
-        walk(alloc, program, m, method, false, &arm.test, parts)?;
-        walk_stmts(alloc, program, m, method, &arm.body, parts)?;
+        made!(walk(alloc, program, m, method, false, &arm.test, parts));
+        made!(walk_stmts(alloc, program, m, method, &arm.body, parts));
     }
     Ok(())
 }
@@ -355,7 +355,7 @@ pub fn parts_of(
     let mut parts = Vec::new(alloc);
     match &method.body {
         Some(body) => {
-            walk_stmts(alloc, program, m, method, body, &mut parts)?;
+            made!(walk_stmts(alloc, program, m, method, body, &mut parts));
             Ok(parts)
         }
         None => Ok(parts),

@@ -11,6 +11,7 @@ ghost use Rattle.flow_facts.specs.Owned.{AreListed, own_of, own_at, upwards, cel
 ghost use Rattle.flow_facts.specs.Seen.{numbers_seen, field_cell_seen};
 
 use crate::infos::owner_of;
+use crate::lists::put;
 use crate::numbering::Numbering;
 use crate::ordered::by_place;
 use fact_model::CellInfo;
@@ -38,17 +39,16 @@ fn add_field(
     ensures value { OnOk result (map field_cell_seen fields.new.items ≡ map field_cell_seen fields.old.items
         ++ field_at (numbers_seen n.now) (program_of at_place program.now) c item) }
 {
-    if let ColumnItem::Fld(field) = item {
-        if let Some(row) = n.row(RowItem::Field(field)) {
-            let owner = owner_of(program, item);
-            fields.push(FieldCell {
-                column: c,
-                row,
-                owner,
-            })?;
-        }
+    match item {
+        ColumnItem::Fld(field) => match n.row(RowItem::Field(field)) {
+            Some(row) => {
+                let (column, owner) = (c, owner_of(program, item));
+                put(fields, FieldCell { column, row, owner })
+            }
+            None => Ok(()),
+        },
+        _ => Ok(()),
     }
-    Ok(())
 }
 
 /// The fields that have a row, in the order of their columns.
@@ -63,7 +63,7 @@ pub fn fields_of(
 {
     let mut fields = Vec::new(alloc);
     for (c, column) in columns.iter().enumerate() {
-        add_field(program, n, c as u32, column.item, &mut fields)?;
+        made!(add_field(program, n, c as u32, column.item, &mut fields));
     }
     Ok(fields)
 }
@@ -76,7 +76,7 @@ fn no_fields(alloc: Global, count: usize) -> Result<Vec<Vec<FieldCell>>, AllocEr
     let mut own = Vec::new(alloc);
     for class in 0..count {
         let _ = class;
-        own.push(Vec::new(alloc))?;
+        made!(put(&mut own, Vec::new(alloc)));
     }
     Ok(own)
 }
@@ -87,8 +87,7 @@ fn add_own(own: &mut Vec<Vec<FieldCell>>, field: FieldCell) -> Result<(), AllocE
     ensures count { OnOk result (length own.new.items ≡ length own.old.items) }
     ensures value { OnOk result ((c : ℕ) → own_at own.new.items c ≡ own_at own.old.items c ++ when (c == field.owner.0) (field_cell_seen field ∷ [])) }
 {
-    own[field.owner.0 as usize].push(field)?;
-    Ok(())
+    put(&mut own[field.owner.0 as usize], field)
 }
 
 /// The fields of each class itself, in the order of their columns.
@@ -100,9 +99,9 @@ fn fields_by_class(
     requires { AreListed (program_of no_place program.now) 0 (map field_cell_seen fields.now.items) }
     ensures { IfOk result (λ v. (c : ℕ) → own_at v.items c ≡ own_of (map field_cell_seen fields.now.items) c) }
 {
-    let mut own = no_fields(alloc, program.classes.len())?;
+    let mut own = made!(no_fields(alloc, program.classes.len()));
     for field in fields {
-        add_own(&mut own, *field)?;
+        made!(add_own(&mut own, *field));
     }
     Ok(own)
 }
@@ -122,7 +121,7 @@ fn add_all(fields: &[FieldCell], found: &mut Vec<FieldCell>) -> Result<(), Alloc
     ensures value { OnOk result (map field_cell_seen found.new.items ≡ map field_cell_seen found.old.items ++ map field_cell_seen fields.now) }
 {
     for field in fields {
-        found.push(*field)?;
+        made!(put(found, *field));
     }
     Ok(())
 }
@@ -150,13 +149,13 @@ fn fields_above(
         (own_at own.now.items) (suc (length (program_of no_place program.now).classes)) (Some class)) }
 {
     let mut found = Vec::new(alloc);
-    add_fields_of(own, class, &mut found)?;
+    made!(add_fields_of(own, class, &mut found));
     let mut above = parent_of(program, class);
     for step in 0..program.classes.len() {
         let _ = step;
         match above {
             Some(class) => {
-                add_fields_of(own, class, &mut found)?;
+                made!(add_fields_of(own, class, &mut found));
                 let next = parent_of(program, class);
                 above = next;
             }
@@ -171,11 +170,8 @@ fn add_cells(i: u32, fields: &Vec<FieldCell>, cells: &mut Vec<CellInfo>) -> Resu
     ensures { OnOk result (cells.new.items ≡ cells.old.items ++ flat_map (cell_of i) (map field_cell_seen fields.now.items)) }
 {
     for field in fields {
-        cells.push(CellInfo {
-            site: SiteId(i),
-            column: Some(ColId(field.column)),
-            row: RowId(field.row),
-        })?;
+        let (site, column, row) = (SiteId(i), Some(ColId(field.column)), RowId(field.row));
+        made!(put(cells, CellInfo { site, column, row }));
     }
     Ok(())
 }
@@ -198,8 +194,8 @@ fn add_object_cells(
         (map field_cell_seen fields.now.items)) }
 {
     let _ = fields;
-    let above = fields_above(alloc, program, own, class)?;
-    let sorted = by_place(above)?;
+    let above = made!(fields_above(alloc, program, own, class));
+    let sorted = made!(by_place(above));
     add_cells(i, &sorted, cells)
 }
 
@@ -220,15 +216,16 @@ fn add_site_cells(
         (program_of no_place program.now) (map field_cell_seen fields.now.items) i site.now) }
 {
     if site.ty.dim == 0 {
-        add_object_cells(alloc, program, fields, own, i, site.ty.class, cells)?;
-    } else {
-        cells.push(CellInfo {
+        return add_object_cells(alloc, program, fields, own, i, site.ty.class, cells);
+    }
+    put(
+        cells,
+        CellInfo {
             site: SiteId(i),
             column: None,
             row: RowId(site.row),
-        })?;
-    }
-    Ok(())
+        },
+    )
 }
 
 /// The cells, or none where they are more than `most`.
@@ -249,10 +246,10 @@ pub fn cells_of(
         (λ v. v.items ≡ each (site_cells (program_of no_place program.now)
         (map field_cell_seen fields.now.items)) 0 sites.now.items)) }
 {
-    let own = fields_by_class(alloc, program, fields)?;
+    let own = made!(fields_by_class(alloc, program, fields));
     let mut cells = Vec::new(alloc);
     for (i, site) in sites.iter().enumerate() {
-        add_site_cells(alloc, program, fields, &own, i as u32, site, &mut cells)?;
+        made!(add_site_cells(alloc, program, fields, &own, i as u32, site, &mut cells));
         if cells.len() > most {
             return Ok(None);
         }

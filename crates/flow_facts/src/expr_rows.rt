@@ -9,6 +9,7 @@ ghost use Rattle.java_core.specs.Formed.{IsFormed};
 ghost use Rattle.java_core.specs.Statics.{static_seen};
 ghost use Rattle.flow_rules.specs.Operands.{object_static, object_field, call_slot, super_slot, type_in, row_of};
 
+use crate::by_number::method_by_number;
 use crate::types::{object_class, object_field, object_of};
 use crate::walk::{class_object, variable_row};
 use flow_rules::{ObjectType, RowItem};
@@ -81,7 +82,7 @@ fn super_row(program: &Program, class: ClassId, name: &Name) -> Option<RowItem>
     ensures value { result ≡ option_map RowItem.Return (super_slot (program_of no_place program.now) class.0 name.now) }
 {
     match super_method(program, class, name) {
-        Some(method) => match program.methods.get(method.0 as usize) {
+        Some(method) => match method_by_number(program, method.0 as u64) {
             Some(method) => return_row(method.slot),
             None => None,
         },

@@ -50,17 +50,16 @@ fn add_part(
     requires { IsFormed (program_of no_place program.now) }
     ensures { OnOk result (IsPartAdded (numbers_seen n.now) (program_of no_place program.now) m slot (part_seen part.now) lists.old lists.new) }
 {
-    add_news(n, m, part, &mut lists.news)?;
-    add_flows(n, m, part, &mut lists.flows)?;
-    add_loads(n, part, &mut lists.loads)?;
-    add_stores(n, part, &mut lists.stores)?;
-    add_calls(alloc, n, part, &mut lists.calls)?;
-    add_casts(n, part, &mut lists.casts)?;
-    add_tests(n, part, &mut lists.tests)?;
-    add_accesses(n, part, &mut lists.accesses)?;
-    add_supers(n, m, part, &mut lists.supers)?;
-    add_ties(program, n, m, slot, part, &mut lists.ties)?;
-    Ok(())
+    made!(add_news(n, m, part, &mut lists.news));
+    made!(add_flows(n, m, part, &mut lists.flows));
+    made!(add_loads(n, part, &mut lists.loads));
+    made!(add_stores(n, part, &mut lists.stores));
+    made!(add_calls(alloc, n, part, &mut lists.calls));
+    made!(add_casts(n, part, &mut lists.casts));
+    made!(add_tests(n, part, &mut lists.tests));
+    made!(add_accesses(n, part, &mut lists.accesses));
+    made!(add_supers(n, m, part, &mut lists.supers));
+    add_ties(program, n, m, slot, part, &mut lists.ties)
 }
 
 /// Adds what the parts of a method's body give. The slot is the method's.
@@ -77,7 +76,7 @@ fn add_parts(
     ensures { OnOk result (ArePartsAdded (numbers_seen n.now) (program_of no_place program.now) m slot (parts_seen parts.now.items) lists.old lists.new) }
 {
     for part in parts {
-        add_part(alloc, program, n, m, slot, part, lists)?;
+        made!(add_part(alloc, program, n, m, slot, part, lists));
     }
     Ok(())
 }

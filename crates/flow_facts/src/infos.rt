@@ -9,13 +9,16 @@ ghost use Rattle.flow_rules.specs.Ordered.{each};
 ghost use Rattle.flow_rules.specs.Facts.{row_info, site_of_row, this_of_row, column_info, kind_of, owner_of, slot_in, name_in, site_info, field_at, fields_of, field_cell, site_cells, param_points, body_if, column_body, body_seen, class_facts, class_seen, is_holder, variable_names, all_variables};
 ghost use Rattle.flow_facts.specs.Seen.{numbers_seen};
 
+use crate::by_number::{class_by_number, field_by_number, method_by_number};
 use crate::labels::{column_label, row_label};
+use crate::lists::put;
 use crate::numbering::Numbering;
 use fact_model::{BodyInfo, ColKind, ColumnInfo, RowInfo, SiteInfo};
 use flow_rules::{Column, ColumnItem, Point, PointItem, Row, RowItem, Site};
 use java_core::{Method, Program};
 use kaba_base::{ClassId, ColId, Name, RowId, SiteId};
 use std::alloc::{AllocError, Global};
+use std::mem::drop;
 
 /// The site of a creation's row.
 fn site_of_row(n: &Numbering, item: RowItem) -> Option<SiteId>
@@ -54,13 +57,18 @@ pub fn row_infos(
 {
     let mut list = Vec::new(alloc);
     for row in rows {
-        list.push(RowInfo {
-            label: row_label(alloc, program, row)?,
-            class: row.ty.class,
-            dim: row.ty.dim,
-            site: site_of_row(n, row.item),
-            this_of: this_of_row(n, row.item),
-        })?;
+        let (class, dim) = (row.ty.class, row.ty.dim);
+        let site = site_of_row(n, row.item);
+        let this_of = this_of_row(n, row.item);
+        let label = made!(row_label(alloc, program, row); list);
+        let info = RowInfo {
+            label,
+            class,
+            dim,
+            site,
+            this_of,
+        };
+        made!(put(&mut list, info); list);
     }
     Ok(list)
 }
@@ -82,12 +90,12 @@ pub fn owner_of(program: &Program, item: ColumnItem) -> ClassId
     ensures value { result.0 ≡ owner_of (program_of at_place program.now) item }
 {
     match item {
-        ColumnItem::Fld(field) => match program.fields.get(field as usize) {
+        ColumnItem::Fld(field) => match field_by_number(program, field) {
             Some(field) => field.owner,
             None => ClassId(0),
         },
         ColumnItem::Dcl(method) | ColumnItem::Def(method) => {
-            match program.methods.get(method as usize) {
+            match method_by_number(program, method) {
                 Some(method) => method.owner,
                 None => ClassId(0),
             }
@@ -102,7 +110,7 @@ fn slot_in(program: &Program, item: ColumnItem) -> Option<u32>
 {
     match item {
         ColumnItem::Dcl(method) | ColumnItem::Def(method) => {
-            match program.methods.get(method as usize) {
+            match method_by_number(program, method) {
                 Some(method) => method.slot,
                 None => None,
             }
@@ -116,17 +124,17 @@ fn named(program: &Program, item: ColumnItem) -> Option<&Name>
     ensures value { option_map_or (λ x. x.now) result [] ≡ name_in (program_of at_place program.now) item }
 {
     match item {
-        ColumnItem::Fld(field) => match program.fields.get(field as usize) {
+        ColumnItem::Fld(field) => match field_by_number(program, field) {
             Some(field) => Some(&field.name),
             None => None,
         },
         ColumnItem::Dcl(method) | ColumnItem::Def(method) => {
-            match program.methods.get(method as usize) {
+            match method_by_number(program, method) {
                 Some(method) => Some(&method.name),
                 None => None,
             }
         }
-        ColumnItem::Is(class) => match program.classes.get(class.0 as usize) {
+        ColumnItem::Is(class) => match class_by_number(program, class.0 as u64) {
             Some(class) => Some(&class.name),
             None => None,
         },
@@ -154,13 +162,19 @@ pub fn column_infos(
     let mut list = Vec::new(alloc);
     for column in columns {
         let item = column.item;
-        list.push(ColumnInfo {
-            kind: kind_of(item),
-            class: owner_of(program, item),
-            slot: slot_in(program, item),
-            name: name_in(alloc, program, item)?,
-            label: column_label(alloc, program, item)?,
-        })?;
+        let kind = kind_of(item);
+        let class = owner_of(program, item);
+        let slot = slot_in(program, item);
+        let name = made!(name_in(alloc, program, item); list);
+        let label = made!(column_label(alloc, program, item); list, name);
+        let info = ColumnInfo {
+            kind,
+            class,
+            slot,
+            name,
+            label,
+        };
+        made!(put(&mut list, info); list);
     }
     Ok(list)
 }
@@ -171,11 +185,8 @@ pub fn site_infos(alloc: Global, sites: &Vec<Site>) -> Result<Vec<SiteInfo>, All
 {
     let mut list = Vec::new(alloc);
     for site in sites {
-        list.push(SiteInfo {
-            row: RowId(site.row),
-            class: site.ty.class,
-            dim: site.ty.dim,
-        })?;
+        let (row, class, dim) = (RowId(site.row), site.ty.class, site.ty.dim);
+        made!(put(&mut list, SiteInfo { row, class, dim }));
     }
     Ok(list)
 }
@@ -186,7 +197,7 @@ pub fn point_rows(alloc: Global, points: &Vec<Point>) -> Result<Vec<RowId>, Allo
 {
     let mut list = Vec::new(alloc);
     for point in points {
-        list.push(RowId(point.row))?;
+        made!(put(&mut list, RowId(point.row)));
     }
     Ok(list)
 }
@@ -202,7 +213,7 @@ fn param_points(
 {
     let mut list = Vec::new(alloc);
     for (i, _param) in method.params.iter().enumerate() {
-        list.push(n.point(PointItem::Local(m, i as u64)))?;
+        made!(put(&mut list, n.point(PointItem::Local(m, i as u64))));
     }
     Ok(list)
 }
@@ -222,24 +233,20 @@ fn add_method_body(
 {
     match n.point(PointItem::This(m)) {
         Some(this) => {
-            let params = param_points(alloc, n, m, method)?;
-            bodies.push(BodyInfo {
-                column: ColId(c),
-                this,
-                params,
-                result: n.point(PointItem::Result(m)),
-            })?;
-            Ok(())
+            let (column, result) = (ColId(c), n.point(PointItem::Result(m)));
+            let params = made!(param_points(alloc, n, m, method));
+            put(
+                bodies,
+                BodyInfo {
+                    column,
+                    this,
+                    params,
+                    result,
+                },
+            )
         }
         None => Ok(()),
     }
-}
-
-/// A method by its number.
-fn method_at(program: &Program, m: u64) -> Option<&Method>
-    ensures value { option_map (λ k. method_seen at_place k.now) result ≡ slice_get (program_of at_place program.now).methods m }
-{
-    program.methods.get(m as usize)
 }
 
 /// Adds the body of a column.
@@ -255,7 +262,7 @@ fn add_body(
         ++ column_body (numbers_seen n.now) (program_of at_place program.now) c item) }
 {
     match item {
-        ColumnItem::Def(m) => match method_at(program, m) {
+        ColumnItem::Def(m) => match method_by_number(program, m) {
             Some(method) => add_method_body(alloc, n, c, m, method, bodies),
             None => Ok(()),
         },
@@ -277,7 +284,7 @@ pub fn body_infos(
 {
     let mut bodies = Vec::new(alloc);
     for (c, column) in columns.iter().enumerate() {
-        add_body(alloc, program, n, c as u32, column.item, &mut bodies)?;
+        made!(add_body(alloc, program, n, c as u32, column.item, &mut bodies));
     }
     Ok(bodies)
 }

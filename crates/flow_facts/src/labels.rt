@@ -7,6 +7,7 @@ ghost use Rattle.java_core.specs.Trees.{at_place};
 ghost use Rattle.java_core.specs.Programs.{program_of, method_seen, local_seen};
 ghost use Rattle.flow_rules.specs.Facts.{class_text, member_text, field_text, method_text, variable_name, variable_text, brackets, at_line, row_text, row_label, column_text, first_of};
 
+use crate::by_number::{class_by_number, field_by_number, method_by_number, slot_by_number};
 use flow_rules::{ColumnItem, Row, RowItem};
 use java_core::{Local, Method, Program};
 use kaba_base::{Name, Place};
@@ -30,7 +31,7 @@ fn variable_at(method: &Method, i: u64) -> Option<&Local>
 fn variable_name(program: &Program, method: u64, i: u64) -> Option<&Name>
     ensures value { option_map_or (λ x. x.now) result [] ≡ variable_name (program_of at_place program.now) method i }
 {
-    match program.methods.get(method as usize) {
+    match method_by_number(program, method) {
         Some(method) => match variable_at(method, i) {
             Some(variable) => Some(&variable.name),
             None => None,
@@ -50,7 +51,7 @@ fn add_text(more: &str, text: &mut String) -> Result<(), AllocError>
 fn add_class(program: &Program, class: u64, text: &mut String) -> Result<(), AllocError>
     ensures value { OnOk result (string_bytes text.new ≡ string_bytes text.old ++ class_text (program_of at_place program.now) class) }
 {
-    match program.classes.get(class as usize) {
+    match class_by_number(program, class) {
         Some(class) => add_text(class.name.as_str(), text),
         None => Ok(()),
     }
@@ -65,8 +66,8 @@ fn add_member(
 ) -> Result<(), AllocError>
     ensures value { OnOk result (string_bytes text.new ≡ string_bytes text.old ++ member_text (program_of at_place program.now) owner name.now) }
 {
-    add_class(program, owner, text)?;
-    add_text(".", text)?;
+    made!(add_class(program, owner, text));
+    made!(add_text(".", text));
     add_text(name.as_str(), text)
 }
 
@@ -74,7 +75,7 @@ fn add_member(
 fn add_field(program: &Program, field: u64, text: &mut String) -> Result<(), AllocError>
     ensures value { OnOk result (string_bytes text.new ≡ string_bytes text.old ++ field_text (program_of at_place program.now) field) }
 {
-    match program.fields.get(field as usize) {
+    match field_by_number(program, field) {
         Some(field) => add_member(program, field.owner.0 as u64, &field.name, text),
         None => Ok(()),
     }
@@ -84,7 +85,7 @@ fn add_field(program: &Program, field: u64, text: &mut String) -> Result<(), All
 fn add_method(program: &Program, method: u64, text: &mut String) -> Result<(), AllocError>
     ensures value { OnOk result (string_bytes text.new ≡ string_bytes text.old ++ method_text (program_of at_place program.now) method) }
 {
-    match program.methods.get(method as usize) {
+    match method_by_number(program, method) {
         Some(method) => add_member(program, method.owner.0 as u64, &method.name, text),
         None => Ok(()),
     }
@@ -94,8 +95,8 @@ fn add_method(program: &Program, method: u64, text: &mut String) -> Result<(), A
 fn add_variable(program: &Program, method: u64, i: u64, text: &mut String) -> Result<(), AllocError>
     ensures value { OnOk result (string_bytes text.new ≡ string_bytes text.old ++ variable_text (program_of at_place program.now) method i) }
 {
-    add_method(program, method, text)?;
-    add_text(".", text)?;
+    made!(add_method(program, method, text));
+    made!(add_text(".", text));
     match variable_name(program, method, i) {
         Some(name) => add_text(name.as_str(), text),
         None => Ok(()),
@@ -106,7 +107,7 @@ fn add_variable(program: &Program, method: u64, i: u64, text: &mut String) -> Re
 fn first_of(program: &Program, slot: u64) -> u64
     ensures value { result ≡ first_of (program_of at_place program.now) slot }
 {
-    match program.slots.get(slot as usize) {
+    match slot_by_number(program, slot) {
         Some(slot) => slot.first.0 as u64,
         None => 0,
     }
@@ -118,7 +119,7 @@ fn add_brackets(count: u32, text: &mut String) -> Result<(), AllocError>
 {
     for i in 0..count {
         let _ = i;
-        add_text("[]", text)?;
+        made!(add_text("[]", text));
     }
     Ok(())
 }
@@ -127,8 +128,8 @@ fn add_brackets(count: u32, text: &mut String) -> Result<(), AllocError>
 fn add_line(alloc: Global, place: Place, text: &mut String) -> Result<(), AllocError>
     ensures value { OnOk result (string_bytes text.new ≡ string_bytes text.old ++ at_line place) }
 {
+    made!(add_text("@", text));
     let line = format!(in alloc; "{}", place.line)?;
-    add_text("@", text)?;
     add_text(line.as_str(), text)
 }
 
@@ -141,7 +142,7 @@ fn add_of_method(
 ) -> Result<(), AllocError>
     ensures value { OnOk result (string_bytes text.new ≡ string_bytes text.old ++ method_text (program_of at_place program.now) method ++ end.now) }
 {
-    add_method(program, method, text)?;
+    made!(add_method(program, method, text));
     add_text(end, text)
 }
 
@@ -154,7 +155,7 @@ fn add_of_class(
 ) -> Result<(), AllocError>
     ensures value { OnOk result (string_bytes text.new ≡ string_bytes text.old ++ (word.now ++ class_text (program_of at_place program.now) class)) }
 {
-    add_text(word, text)?;
+    made!(add_text(word, text));
     add_class(program, class, text)
 }
 
@@ -169,7 +170,7 @@ fn add_test(
     ensures value { OnOk result (string_bytes text.new ≡ string_bytes text.old
         ++ (word.now ++ class_text (program_of at_place program.now) row.now.ty.class.0 ++ at_line row.now.place)) }
 {
-    add_of_class(program, word, row.ty.class.0 as u64, text)?;
+    made!(add_of_class(program, word, row.ty.class.0 as u64, text));
     add_line(alloc, row.place, text)
 }
 
@@ -183,8 +184,8 @@ fn add_creation(
     ensures value { OnOk result (string_bytes text.new ≡ string_bytes text.old ++ (codes "new "
         ++ class_text (program_of at_place program.now) row.now.ty.class.0 ++ brackets row.now.ty.dim ++ at_line row.now.place)) }
 {
-    add_of_class(program, "new ", row.ty.class.0 as u64, text)?;
-    add_brackets(row.ty.dim, text)?;
+    made!(add_of_class(program, "new ", row.ty.class.0 as u64, text));
+    made!(add_brackets(row.ty.dim, text));
     add_line(alloc, row.place, text)
 }
 
@@ -217,9 +218,8 @@ pub fn row_label(alloc: Global, program: &Program, row: &Row) -> Result<Name, Al
     ensures value { IfOk result (λ x. x ≡ row_label (program_of at_place program.now) row.now) }
 {
     let mut text = String::new(alloc);
-    add_row_text(alloc, program, row, &mut text)?;
-    let label = Name::new(alloc, text.as_str())?;
-    Ok(label)
+    made!(add_row_text(alloc, program, row, &mut text));
+    Name::new(alloc, text.as_str())
 }
 
 /// Adds the name of what a column is of.
@@ -228,15 +228,15 @@ fn add_column_item(program: &Program, item: ColumnItem, text: &mut String) -> Re
 {
     match item {
         ColumnItem::Fld(field) => {
-            add_text("fld(", text)?;
+            made!(add_text("fld(", text));
             add_field(program, field, text)
         }
         ColumnItem::Dcl(method) => {
-            add_text("dcl(", text)?;
+            made!(add_text("dcl(", text));
             add_method(program, method, text)
         }
         ColumnItem::Def(method) => {
-            add_text("def(", text)?;
+            made!(add_text("def(", text));
             add_method(program, method, text)
         }
         ColumnItem::Is(class) => add_of_class(program, "is(", class.0 as u64, text),
@@ -248,8 +248,7 @@ pub fn column_label(alloc: Global, program: &Program, item: ColumnItem) -> Resul
     ensures value { IfOk result (λ x. x ≡ chars (column_text (program_of at_place program.now) item)) }
 {
     let mut text = String::new(alloc);
-    add_column_item(program, item, &mut text)?;
-    add_text(")", &mut text)?;
-    let label = Name::new(alloc, text.as_str())?;
-    Ok(label)
+    made!(add_column_item(program, item, &mut text));
+    made!(add_text(")", &mut text));
+    Name::new(alloc, text.as_str())
 }

@@ -2,8 +2,15 @@
 #![tactic(auto)]
 
 /// What a call made; where it made nothing, what is held is let go, and the function ends with the call's error,
-/// or with the error of the named type that comes from it.
+/// or with the error of the named type that comes from it. It is proved in less time than `?`, which asks how an error
+/// comes from itself.
 macro_rules! made {
+    ($call:expr) => {
+        match $call {
+            Ok(made) => made,
+            Err(fault) => return Err(fault),
+        }
+    };
     ($call:expr => $fault:ident; $($held:ident),*) => {
         match $call {
             Ok(made) => made,
@@ -26,6 +33,7 @@ macro_rules! made {
 
 mod assembled;
 mod bodies;
+mod by_number;
 mod cells;
 mod expr_rows;
 mod gathering;

@@ -13,9 +13,8 @@ pub fn list_rows(alloc: Global, rows: Vec<Row>) -> Result<Listed<Row, RowItem>, 
     ensures items { IfOk result (λ l. l.items.items ≡ once same_row (λ r. r.item) (by_place (λ r. r.place.at) rows.items)) }
     ensures keys { IfOk result (λ l. l.keys.keys ≡ map (λ r. r.item) (once same_row (λ r. r.item) (by_place (λ r. r.place.at) rows.items))) }
 {
-    let rows = by_place(rows)?;
-    let listed = once(alloc, &rows)?;
-    Ok(listed)
+    let rows = made!(by_place(rows));
+    once(alloc, &rows)
 }
 
 /// The columns by their place.
@@ -26,9 +25,8 @@ pub fn list_columns(
     ensures items { IfOk result (λ l. l.items.items ≡ once same_column (λ c. c.item) (by_place (λ c. c.place.at) columns.items)) }
     ensures keys { IfOk result (λ l. l.keys.keys ≡ map (λ c. c.item) (once same_column (λ c. c.item) (by_place (λ c. c.place.at) columns.items))) }
 {
-    let columns = by_place(columns)?;
-    let listed = once(alloc, &columns)?;
-    Ok(listed)
+    let columns = made!(by_place(columns));
+    once(alloc, &columns)
 }
 
 /// The sites by their place.
@@ -36,9 +34,8 @@ pub fn list_sites(alloc: Global, sites: Vec<Site>) -> Result<Listed<Site, u64>, 
     ensures items { IfOk result (λ l. l.items.items ≡ once nat_eq (λ s. s.number) (by_place (λ s. s.place.at) sites.items)) }
     ensures keys { IfOk result (λ l. l.keys.keys ≡ map (λ s. s.number) (once nat_eq (λ s. s.number) (by_place (λ s. s.place.at) sites.items))) }
 {
-    let sites = by_place(sites)?;
-    let listed = once(alloc, &sites)?;
-    Ok(listed)
+    let sites = made!(by_place(sites));
+    once(alloc, &sites)
 }
 
 /// The flow points, which are in their order.
@@ -49,6 +46,5 @@ pub fn list_points(
     ensures items { IfOk result (λ l. l.items.items ≡ once same_point (λ p. p.item) points.items) }
     ensures keys { IfOk result (λ l. l.keys.keys ≡ map (λ p. p.item) (once same_point (λ p. p.item) points.items)) }
 {
-    let listed = once(alloc, &points)?;
-    Ok(listed)
+    once(alloc, &points)
 }

@@ -27,6 +27,16 @@ pub struct PlacedCall {
     pub call: CallInfo,
 }
 
+/// Adds an item at the end.
+pub fn put<T: Drop>(list: &mut Vec<T>, item: T) -> Result<(), AllocError>
+    ensures value { OnOk result (list.new.items ≡ list.old.items ++ item ∷ []) }
+{
+    match list.push(item) {
+        Ok(_) => Ok(()),
+        Err(fault) => Err(AllocError::from(fault)),
+    }
+}
+
 /// The number of an operand's flow point.
 fn point_at(n: &Numbering, operand: &Operand) -> Option<u32>
     ensures value { result ≡ point_at (numbers_seen n.now) operand.now }
@@ -63,17 +73,16 @@ fn add_created(
 ) -> Result<(), AllocError>
     ensures value { OnOk result (news.new.items ≡ news.old.items ++ created (numbers_seen n.now) operand.now point) }
 {
-    let site = match operand.created {
-        Some(number) => n.site(number),
-        None => None,
-    };
-    if let (Some(point), Some(site)) = (point, site) {
-        news.push(NewInfo {
-            point,
-            site: SiteId(site),
-        })?;
+    match (point, operand.created) {
+        (Some(point), Some(number)) => match n.site(number) {
+            Some(site) => {
+                let site = SiteId(site);
+                put(news, NewInfo { point, site })
+            }
+            None => Ok(()),
+        },
+        _ => Ok(()),
     }
-    Ok(())
 }
 
 /// Adds a point whose set goes into another's.
@@ -84,10 +93,10 @@ fn add_moved(
 ) -> Result<(), AllocError>
     ensures value { OnOk result (flows.new.items ≡ flows.old.items ++ moved from to) }
 {
-    if let (Some(from), Some(to)) = (from, to) {
-        flows.push(FlowInfo { from, to })?;
+    match (from, to) {
+        (Some(from), Some(to)) => put(flows, FlowInfo { from, to }),
+        _ => Ok(()),
     }
-    Ok(())
 }
 
 /// Adds a lower and an upper row.
@@ -98,13 +107,13 @@ pub fn add_tied(
 ) -> Result<(), AllocError>
     ensures value { OnOk result (ties.new.items ≡ ties.old.items ++ tied lower upper) }
 {
-    if let (Some(lower), Some(upper)) = (lower, upper) {
-        ties.push(TieInfo {
-            lower: RowId(lower),
-            upper: RowId(upper),
-        })?;
+    match (lower, upper) {
+        (Some(lower), Some(upper)) => {
+            let (lower, upper) = (RowId(lower), RowId(upper));
+            put(ties, TieInfo { lower, upper })
+        }
+        _ => Ok(()),
     }
-    Ok(())
 }
 
 /// Adds an access.
@@ -115,13 +124,13 @@ fn add_accessed(
 ) -> Result<(), AllocError>
     ensures value { OnOk result (accesses.new.items ≡ accesses.old.items ++ accessed row column) }
 {
-    if let (Some(row), Some(column)) = (row, column) {
-        accesses.push(AccessInfo {
-            row: RowId(row),
-            column: ColId(column),
-        })?;
+    match (row, column) {
+        (Some(row), Some(column)) => {
+            let (row, column) = (RowId(row), ColId(column));
+            put(accesses, AccessInfo { row, column })
+        }
+        _ => Ok(()),
     }
-    Ok(())
 }
 
 /// Adds the creations among the arguments of the one body of a call.
@@ -134,7 +143,7 @@ fn add_created_args(
     ensures value { OnOk result (news.new.items ≡ news.old.items ++ created_args (numbers_seen n.now) callee args.now.items) }
 {
     for (i, arg) in args.iter().enumerate() {
-        add_created(n, arg, n.point(PointItem::Local(callee, i as u64)), news)?;
+        made!(add_created(n, arg, n.point(PointItem::Local(callee, i as u64)), news));
     }
     Ok(())
 }
@@ -149,11 +158,8 @@ fn add_moved_args(
     ensures value { OnOk result (flows.new.items ≡ flows.old.items ++ moved_args (numbers_seen n.now) callee args.now.items) }
 {
     for (i, arg) in args.iter().enumerate() {
-        add_moved(
-            point_at(n, arg),
-            n.point(PointItem::Local(callee, i as u64)),
-            flows,
-        )?;
+        let parameter = n.point(PointItem::Local(callee, i as u64));
+        made!(add_moved(point_at(n, arg), parameter, flows));
     }
     Ok(())
 }
@@ -196,13 +202,13 @@ pub fn add_flows(
         Part::Return(value) => add_moved(point_at(n, value), n.point(PointItem::Result(m)), flows),
         Part::StaticCall(_, callee, args, own) => {
             let callee = *callee as u64;
-            add_moved_args(n, callee, args, flows)?;
+            made!(add_moved_args(n, callee, args, flows));
             add_moved(n.point(PointItem::Result(callee)), point_at(n, own), flows)
         }
         Part::SuperCall(_, Some(callee), args, own) => {
             let callee = *callee as u64;
-            add_moved_args(n, callee, args, flows)?;
-            add_moved(n.point(PointItem::Result(callee)), point_at(n, own), flows)?;
+            made!(add_moved_args(n, callee, args, flows));
+            made!(add_moved(n.point(PointItem::Result(callee)), point_at(n, own), flows));
             add_moved(
                 n.point(PointItem::This(m)),
                 n.point(PointItem::This(callee)),
@@ -220,29 +226,27 @@ pub fn add_loads(n: &Numbering, part: &Part, loads: &mut Vec<LoadInfo>) -> Resul
     match part {
         Part::Load(_, base, Some(field), own) => {
             let column = n.column(ColumnItem::Fld(*field as u64));
-            if let (Some(base), Some(column), Some(into)) = (
-                point_at(n, base),
-                column,
-                point_at(n, own),
-            ) {
-                loads.push(LoadInfo {
-                    base,
-                    column: Some(ColId(column)),
-                    into,
-                })?;
+            match (point_at(n, base), column, point_at(n, own)) {
+                (Some(base), Some(column), Some(into)) => {
+                    let column = Some(ColId(column));
+                    put(loads, LoadInfo { base, column, into })
+                }
+                _ => Ok(()),
             }
-            Ok(())
         }
-        Part::Element(_, base, own) => {
-            if let (Some(base), Some(into)) = (point_at(n, base), point_at(n, own)) {
-                loads.push(LoadInfo {
-                    base,
-                    column: None,
-                    into,
-                })?;
+        Part::Element(_, base, own) => match (point_at(n, base), point_at(n, own)) {
+            (Some(base), Some(into)) => {
+                put(
+                    loads,
+                    LoadInfo {
+                        base,
+                        column: None,
+                        into,
+                    },
+                )
             }
-            Ok(())
-        }
+            _ => Ok(()),
+        },
         _ => Ok(()),
     }
 }
@@ -254,31 +258,37 @@ pub fn add_stores(n: &Numbering, part: &Part, stores: &mut Vec<StoreInfo>) -> Re
     match part {
         Part::Store(place, base, Some(field), value) => {
             let column = n.column(ColumnItem::Fld(*field as u64));
-            if let (Some(base), Some(column), Some(value)) = (
-                point_at(n, base),
-                column,
-                point_at(n, value),
-            ) {
-                let column = Some(ColId(column));
-                stores.push(StoreInfo {
-                    base,
-                    column,
-                    value,
-                    place: *place,
-                })?;
+            match (point_at(n, base), column, point_at(n, value)) {
+                (Some(base), Some(column), Some(value)) => {
+                    let (column, place) = (Some(ColId(column)), *place);
+                    put(
+                        stores,
+                        StoreInfo {
+                            base,
+                            column,
+                            value,
+                            place,
+                        },
+                    )
+                }
+                _ => Ok(()),
             }
-            Ok(())
         }
         Part::ElementStore(place, base, value) => {
-            if let (Some(base), Some(value)) = (point_at(n, base), point_at(n, value)) {
-                stores.push(StoreInfo {
-                    base,
-                    column: None,
-                    value,
-                    place: *place,
-                })?;
+            match (point_at(n, base), point_at(n, value)) {
+                (Some(base), Some(value)) => {
+                    put(
+                        stores,
+                        StoreInfo {
+                            base,
+                            column: None,
+                            value,
+                            place: *place,
+                        },
+                    )
+                }
+                _ => Ok(()),
             }
-            Ok(())
         }
         _ => Ok(()),
     }
@@ -294,7 +304,7 @@ fn points_at(
 {
     let mut points = Vec::new(alloc);
     for operand in operands {
-        points.push(point_at(n, operand))?;
+        made!(put(&mut points, point_at(n, operand)));
     }
     Ok(points)
 }
@@ -310,21 +320,21 @@ pub fn add_calls(
 {
     match part {
         Part::Call(place, base, Some(slot), _, args, own) => {
-            if let Some(receiver) = point_at(n, base) {
-                let args = points_at(alloc, n, args)?;
-                let result = point_at(n, own);
-                let call = CallInfo {
-                    receiver,
-                    slot: *slot,
-                    args,
-                    result,
-                };
-                calls.push(PlacedCall {
-                    place: *place,
-                    call,
-                })?;
+            match point_at(n, base) {
+                Some(receiver) => {
+                    let result = point_at(n, own);
+                    let args = made!(points_at(alloc, n, args));
+                    let call = CallInfo {
+                        receiver,
+                        slot: *slot,
+                        args,
+                        result,
+                    };
+                    let place = *place;
+                    put(calls, PlacedCall { place, call })
+                }
+                None => Ok(()),
             }
-            Ok(())
         }
         _ => Ok(()),
     }
@@ -336,18 +346,13 @@ pub fn add_casts(n: &Numbering, part: &Part, casts: &mut Vec<CastInfo>) -> Resul
 {
     match part {
         Part::Test(_, operand, own) => {
-            if let (Some(from), Some(into), Some(ty)) = (
-                point_at(n, operand),
-                point_at(n, own),
-                own.ty,
-            ) {
-                casts.push(CastInfo {
-                    from,
-                    into,
-                    class: ty.class,
-                })?;
+            match (point_at(n, operand), point_at(n, own), own.ty) {
+                (Some(from), Some(into), Some(ty)) => {
+                    let class = ty.class;
+                    put(casts, CastInfo { from, into, class })
+                }
+                _ => Ok(()),
             }
-            Ok(())
         }
         _ => Ok(()),
     }
@@ -359,20 +364,21 @@ pub fn add_tests(n: &Numbering, part: &Part, tests: &mut Vec<TestInfo>) -> Resul
 {
     match part {
         Part::Test(place, operand, own) => {
-            if let (Some(from), Some(target), Some(ty)) = (
-                point_at(n, operand),
-                row_at(n, own),
-                own.ty,
-            ) {
-                let target = RowId(target);
-                tests.push(TestInfo {
-                    from,
-                    target,
-                    class: ty.class,
-                    place: *place,
-                })?;
+            match (point_at(n, operand), row_at(n, own), own.ty) {
+                (Some(from), Some(target), Some(ty)) => {
+                    let (target, class, place) = (RowId(target), ty.class, *place);
+                    put(
+                        tests,
+                        TestInfo {
+                            from,
+                            target,
+                            class,
+                            place,
+                        },
+                    )
+                }
+                _ => Ok(()),
             }
-            Ok(())
         }
         _ => Ok(()),
     }
@@ -412,13 +418,13 @@ pub fn add_supers(
         Part::SuperCall(_, Some(callee), _, _) => {
             let row = n.row(RowItem::This(m));
             let column = n.column(ColumnItem::Def(*callee as u64));
-            if let (Some(row), Some(column)) = (row, column) {
-                supers.push(SuperInfo {
-                    row: RowId(row),
-                    column: ColId(column),
-                })?;
+            match (row, column) {
+                (Some(row), Some(column)) => {
+                    let (row, column) = (RowId(row), ColId(column));
+                    put(supers, SuperInfo { row, column })
+                }
+                _ => Ok(()),
             }
-            Ok(())
         }
         _ => Ok(()),
     }

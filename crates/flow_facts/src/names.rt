@@ -10,6 +10,7 @@ ghost use Rattle.flow_rules.specs.Ordered.{each, once, once_after};
 ghost use Rattle.flow_rules.specs.Facts.{class_seen, class_facts, is_holder, all_names, all_variables, variable_names};
 ghost use Rattle.flow_facts.specs.Holders.{AreHolders};
 
+use crate::lists::put;
 use fact_model::ClassInfo;
 use indexmap::IndexSet;
 use java_core::{Class, Local, Program};
@@ -68,7 +69,7 @@ fn class_info(alloc: Global, class: &Class, holder: bool) -> Result<ClassInfo, A
     ensures value { (Q : Plain) (c : ℕ) → holder ≡ is_holder Q c
         → IfOk result (λ x. class_seen x ∷ [] ≡ class_facts Q c (plain_class at_place class.now)) }
 {
-    let name = class.name.copy(alloc)?;
+    let name = made!(class.name.copy(alloc));
     let faces = made!(class.faces.as_slice().to_vec(alloc); name);
     Ok(ClassInfo {
         name,
@@ -92,7 +93,7 @@ fn list_classes(
     let mut list = Vec::new(alloc);
     for (c, class) in program.classes.iter().enumerate() {
         let info = made!(class_info(alloc, class, holders[c]); list);
-        made!(list.push(info) => AllocError; list);
+        made!(put(&mut list, info); list);
     }
     Ok(list)
 }
@@ -102,17 +103,16 @@ pub fn class_infos(alloc: Global, program: &Program) -> Result<Vec<ClassInfo>, A
     ensures value { IfOk result (λ v. map class_seen v.items
         ≡ each (class_facts (program_of at_place program.now)) 0 (program_of at_place program.now).classes) }
 {
-    let holders = holders(alloc, program)?;
-    let list = made!(list_classes(alloc, program, &holders); holders);
-    Ok(list)
+    let holders = made!(holders(alloc, program));
+    list_classes(alloc, program, &holders)
 }
 
 /// Adds a name.
 fn add_name(alloc: Global, name: &Name, names: &mut Vec<Name>) -> Result<(), AllocError>
     ensures value { OnOk result (names.new.items ≡ names.old.items ++ name.now ∷ []) }
 {
-    names.push(name.copy(alloc)?)?;
-    Ok(())
+    let name = made!(name.copy(alloc));
+    put(names, name)
 }
 
 /// Adds the names of parameters or locals.
@@ -124,7 +124,7 @@ fn add_variables(
     ensures value { OnOk result (names.new.items ≡ names.old.items ++ map (λ v. v.name) (map (local_seen at_place) locals.now.items)) }
 {
     for local in locals {
-        add_name(alloc, &local.name, names)?;
+        made!(add_name(alloc, &local.name, names));
     }
     Ok(())
 }
@@ -134,7 +134,7 @@ fn add_fields(alloc: Global, program: &Program, names: &mut Vec<Name>) -> Result
     ensures value { OnOk result (names.new.items ≡ names.old.items ++ map (λ f. f.name) (program_of at_place program.now).fields) }
 {
     for field in &program.fields {
-        add_name(alloc, &field.name, names)?;
+        made!(add_name(alloc, &field.name, names));
     }
     Ok(())
 }
@@ -173,7 +173,7 @@ fn add_types(alloc: Global, program: &Program, names: &mut Vec<Name>) -> Result<
 {
     if let [_, rest @ ..] = program.classes.as_slice() {
         for class in rest {
-            add_name(alloc, &class.name, names)?;
+            made!(add_name(alloc, &class.name, names));
         }
     }
     Ok(())
@@ -184,7 +184,7 @@ fn is_new(alloc: Global, seen: &mut IndexSet<String>, name: &Name) -> Result<boo
     ensures added { IfOk result (λ b. b ≡ not (list_any (bytes_eq (encode_utf8_all name.now)) (map string_bytes seen.old.keys))) }
     ensures keys { IfOk result (λ b. map string_bytes seen.new.keys ≡ insert_key bytes_eq (map string_bytes seen.old.keys) (encode_utf8_all name.now)) }
 {
-    let text = String::from_str(alloc, name.as_str())?;
+    let text = made!(String::from_str(alloc, name.as_str()));
     let (_, added) = seen.insert_full(text)?;
     Ok(added)
 }
@@ -201,9 +201,8 @@ fn add_word(
         ≡ words.old.items ++ once_after bytes_eq encode_utf8_all (map string_bytes seen.old.keys)
         (name.now ∷ rest)) }
 {
-    if is_new(alloc, seen, name)? {
-        add_name(alloc, name, words)?;
-        return Ok(());
+    if made!(is_new(alloc, seen, name)) {
+        return add_name(alloc, name, words);
     }
     Ok(())
 }

@@ -6,6 +6,7 @@ ghost use Rattle.flow_rules.specs.Numbered.{number_among, same_row, same_column,
 ghost use Rattle.flow_rules.specs.Parts as plain;
 ghost use Rattle.flow_facts.specs.Views.{part_seen, parts_seen, body_seen, outline_seen};
 
+use crate::lists::put;
 use flow_rules::{
     Body, ColumnItem, Operand, Outline, Part, Point, PointAt, PointItem, RowItem, Site,
 };
@@ -123,12 +124,15 @@ fn add_site(
         None => None,
     };
     if let (Some(number), Some(ty), Some(row)) = (own.created, own.ty, row) {
-        sites.push(Site {
-            number,
-            place,
-            ty,
-            row,
-        })?;
+        return put(
+            sites,
+            Site {
+                number,
+                place,
+                ty,
+                row,
+            },
+        );
     }
     Ok(())
 }
@@ -159,7 +163,7 @@ fn add_sites(
         ++ flat_map (form_sites (number_among same_row rows.now.keys)) (parts_seen parts.now.items)) }
 {
     for part in parts {
-        add_part_site(rows, part, sites)?;
+        made!(add_part_site(rows, part, sites));
     }
     Ok(())
 }
@@ -177,7 +181,7 @@ pub fn all_sites(
 {
     let mut sites = Vec::new(alloc);
     for body in bodies {
-        add_sites(rows, &body.parts, &mut sites)?;
+        made!(add_sites(rows, &body.parts, &mut sites));
     }
     Ok(sites)
 }
@@ -193,11 +197,8 @@ fn add_point(
 {
     match number_of_row(rows, point.row) {
         Some(row) => {
-            into.push(Point {
-                item: point.item,
-                row,
-            })?;
-            Ok(())
+            let item = point.item;
+            put(into, Point { item, row })
         }
         None => Ok(()),
     }
@@ -213,7 +214,7 @@ fn add_listed(
     ensures value { OnOk result (into.new.items ≡ into.old.items ++ flat_map (listed (number_among same_row rows.now.keys)) points.now.items) }
 {
     for point in points {
-        add_point(rows, point, into)?;
+        made!(add_point(rows, point, into));
     }
     Ok(())
 }
@@ -231,9 +232,9 @@ pub fn all_points(
         (map outline_seen outlines.now.items)) }
 {
     let mut points = Vec::new(alloc);
-    add_listed(rows, statics, &mut points)?;
+    made!(add_listed(rows, statics, &mut points));
     for outline in outlines {
-        add_listed(rows, &outline.points, &mut points)?;
+        made!(add_listed(rows, &outline.points, &mut points));
     }
     Ok(points)
 }

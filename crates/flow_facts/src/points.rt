@@ -9,6 +9,7 @@ ghost use Rattle.flow_rules.specs.Parts as plain;
 ghost use Rattle.flow_rules.specs.Numbered.{own_point, form_points, variable_points, method_points};
 ghost use Rattle.flow_facts.specs.Views.{part_seen, parts_seen};
 
+use crate::lists::put;
 use crate::ordered::by_place;
 use crate::survey::result_row;
 use crate::walk::variable_row;
@@ -22,10 +23,10 @@ use std::mem::drop;
 fn add_own_point(points: &mut Vec<PointAt>, place: Place, own: Operand) -> Result<(), AllocError>
     ensures value { OnOk result (points.new.items ≡ points.old.items ++ own_point place own.point own.row own.ty) }
 {
-    if let (Some(item), Some(row), Some(_)) = (own.point, own.row, own.ty) {
-        points.push(PointAt { item, place, row })?;
+    match (own.point, own.row, own.ty) {
+        (Some(item), Some(row), Some(_)) => put(points, PointAt { item, place, row }),
+        _ => Ok(()),
     }
-    Ok(())
 }
 
 /// Adds what may be the flow point of a part.
@@ -50,10 +51,9 @@ fn form_points(alloc: Global, parts: &Vec<Part>) -> Result<Vec<PointAt>, AllocEr
 {
     let mut points = Vec::new(alloc);
     for part in parts {
-        add_part_point(&mut points, part)?;
+        made!(add_part_point(&mut points, part));
     }
-    let points = by_place(points)?;
-    Ok(points)
+    by_place(points)
 }
 
 /// Adds what may be flow points among parameters or locals, the first of which has the number `first`.
@@ -73,11 +73,8 @@ fn add_variable_points(
     for local in locals {
         let item = PointItem::Local(m as u64, number as u64);
         let row = variable_row(m as u64, method, number as u64);
-        points.push(PointAt {
-            item,
-            place: local.place,
-            row,
-        })?;
+        let place = local.place;
+        made!(put(points, PointAt { item, place, row }));
         number += 1;
     }
     Ok(())
@@ -99,14 +96,14 @@ pub fn method_points(
     if !method.is_static {
         let item = PointItem::This(m as u64);
         let row = RowItem::This(m as u64);
-        made!(points.push(PointAt { item, place, row }) => AllocError; points);
+        made!(put(&mut points, PointAt { item, place, row }); points);
     }
     let count = method.params.len();
     made!(add_variable_points(m, method, &method.params, 0, &mut points); points);
     made!(add_variable_points(m, method, &method.locals, count, &mut points); points);
     let item = PointItem::Result(m as u64);
     let row = result_row(m as u64, method.slot);
-    made!(points.push(PointAt { item, place, row }) => AllocError; points);
+    made!(put(&mut points, PointAt { item, place, row }); points);
     let mut forms = made!(form_points(alloc, parts); points);
     made!(points.append(&mut forms); points, forms);
     Ok(points)

@@ -12,6 +12,8 @@ ghost use Rattle.flow_rules.specs.Operands.{result_in};
 ghost use Rattle.flow_facts.specs.Views.{part_seen, parts_seen, outline_seen, body_seen};
 
 use crate::bodies::parts_of;
+use crate::by_number::slot_by_number;
+use crate::lists::put;
 use crate::points::method_points;
 use crate::types::{object_if, object_of};
 use crate::walk::{class_object, variable_row};
@@ -32,20 +34,20 @@ fn add_row(
 ) -> Result<(), AllocError>
     ensures value { OnOk result (rows.new.items ≡ rows.old.items ++ row_if item place ty) }
 {
-    if let Some(ty) = ty {
-        rows.push(Row { item, place, ty })?;
+    match ty {
+        Some(ty) => put(rows, Row { item, place, ty }),
+        None => Ok(()),
     }
-    Ok(())
 }
 
 /// Adds the row of a form itself.
 fn add_own_row(rows: &mut Vec<Row>, place: Place, own: Operand) -> Result<(), AllocError>
     ensures value { OnOk result (rows.new.items ≡ rows.old.items ++ own_row place own.row own.ty) }
 {
-    if let Some(item) = own.row {
-        add_row(rows, item, place, own.ty)?;
+    match own.row {
+        Some(item) => add_row(rows, item, place, own.ty),
+        None => Ok(()),
     }
-    Ok(())
 }
 
 /// Adds the row of a part.
@@ -63,7 +65,7 @@ fn add_form_rows(rows: &mut Vec<Row>, parts: &Vec<Part>) -> Result<(), AllocErro
     ensures value { OnOk result (rows.new.items ≡ rows.old.items ++ flat_map form_rows (parts_seen parts.now.items)) }
 {
     for part in parts {
-        add_part_row(rows, part)?;
+        made!(add_part_row(rows, part));
     }
     Ok(())
 }
@@ -74,7 +76,7 @@ fn is_first(program: &Program, m: usize, method: &Method) -> bool
 {
     match method.slot {
         None => true,
-        Some(slot) => match program.slots.get(slot as usize) {
+        Some(slot) => match slot_by_number(program, slot as u64) {
             Some(slot) => slot.first.0 as usize == m,
             None => false,
         },
@@ -101,7 +103,7 @@ fn add_variable_rows(
     for local in locals {
         if listed || number >= count {
             let item = variable_row(m as u64, method, number as u64);
-            add_row(rows, item, local.place, object_of(local.ty))?;
+            made!(add_row(rows, item, local.place, object_of(local.ty)));
         }
         number += 1;
     }
@@ -122,32 +124,17 @@ fn add_method_rows(
         (method_seen at_place method.now)) }
 {
     if method.body.is_some() && !method.is_static {
-        add_row(
-            rows,
-            RowItem::This(m as u64),
-            method.place,
-            class_object(method.owner),
-        )?;
+        let (this, class) = (RowItem::This(m as u64), class_object(method.owner));
+        made!(add_row(rows, this, method.place, class));
     }
     if is_first(program, m, method) {
-        add_row(
-            rows,
-            result_row(m as u64, method.slot),
-            method.place,
-            object_if(method.result),
-        )?;
+        let (result, ty) = (result_row(m as u64, method.slot), object_if(method.result));
+        made!(add_row(rows, result, method.place, ty));
     }
-    add_variable_rows(program, m, method, &method.params, 0, rows)?;
-    add_variable_rows(
-        program,
-        m,
-        method,
-        &method.locals,
-        method.params.len(),
-        rows,
-    )?;
-    add_form_rows(rows, parts)?;
-    Ok(())
+    let count = method.params.len();
+    made!(add_variable_rows(program, m, method, &method.params, 0, rows));
+    made!(add_variable_rows(program, m, method, &method.locals, count, rows));
+    add_form_rows(rows, parts)
 }
 
 /// The row of what a method gives back.
@@ -168,13 +155,13 @@ fn add_mark(
 ) -> Result<(), AllocError>
     ensures value { OnOk result (columns.new.items ≡ columns.old.items ++ mark place ty) }
 {
-    if let Some(ty) = ty {
-        columns.push(Column {
-            item: ColumnItem::Is(ty.class),
-            place,
-        })?;
+    match ty {
+        Some(ty) => {
+            let item = ColumnItem::Is(ty.class);
+            put(columns, Column { item, place })
+        }
+        None => Ok(()),
     }
-    Ok(())
 }
 
 /// Adds the column of a part.
@@ -182,17 +169,10 @@ fn add_part_column(columns: &mut Vec<Column>, part: &Part) -> Result<(), AllocEr
     ensures value { OnOk result (columns.new.items ≡ columns.old.items ++ form_columns (part_seen part.now)) }
 {
     match part {
-        Part::New(place, _, own) => {
-            if let Some(ty) = own.ty {
-                if ty.dim != 0 {
-                    columns.push(Column {
-                        item: ColumnItem::Is(ty.class),
-                        place: *place,
-                    })?;
-                }
-            }
-            Ok(())
-        }
+        Part::New(place, _, own) => match own.ty {
+            Some(ty) if ty.dim != 0 => add_mark(columns, *place, own.ty),
+            _ => Ok(()),
+        },
         Part::Test(place, _, own) => add_mark(columns, *place, own.ty),
         _ => Ok(()),
     }
@@ -203,7 +183,7 @@ fn add_form_columns(columns: &mut Vec<Column>, parts: &Vec<Part>) -> Result<(), 
     ensures value { OnOk result (columns.new.items ≡ columns.old.items ++ flat_map form_columns (parts_seen parts.now.items)) }
 {
     for part in parts {
-        add_part_column(columns, part)?;
+        made!(add_part_column(columns, part));
     }
     Ok(())
 }
@@ -221,19 +201,14 @@ fn add_method_columns(
         (method_seen at_place method.now)) }
 {
     if !method.is_static {
-        columns.push(Column {
-            item: ColumnItem::Dcl(m as u64),
-            place: method.place,
-        })?;
+        let (item, place) = (ColumnItem::Dcl(m as u64), method.place);
+        made!(put(columns, Column { item, place }));
         if method.body.is_some() {
-            columns.push(Column {
-                item: ColumnItem::Def(m as u64),
-                place: method.place,
-            })?;
+            let item = ColumnItem::Def(m as u64);
+            made!(put(columns, Column { item, place }));
         }
     }
-    add_form_columns(columns, parts)?;
-    Ok(())
+    add_form_columns(columns, parts)
 }
 
 /// What is numbered, in the order of the program.
@@ -258,7 +233,7 @@ fn survey_fields(program: &Program, survey: &mut Surveyed) -> Result<(), AllocEr
     ensures bodies { OnOk result (survey.new.bodies ≡ survey.old.bodies) }
 {
     for (f, field) in program.fields.iter().enumerate() {
-        survey_field(f, field, survey)?;
+        made!(survey_field(f, field, survey));
     }
     Ok(())
 }
@@ -273,20 +248,13 @@ fn survey_field(f: usize, field: &Field, survey: &mut Surveyed) -> Result<(), Al
 {
     let row = RowItem::Field(f as u64);
     let place = field.place;
-    add_row(&mut survey.rows, row, place, object_of(field.ty))?;
+    made!(add_row(&mut survey.rows, row, place, object_of(field.ty)));
     if field.is_static {
-        survey.statics.push(PointAt {
-            item: PointItem::Static(f as u64),
-            place,
-            row,
-        })?;
-    } else {
-        survey.columns.push(Column {
-            item: ColumnItem::Fld(f as u64),
-            place,
-        })?;
+        let item = PointItem::Static(f as u64);
+        return put(&mut survey.statics, PointAt { item, place, row });
     }
-    Ok(())
+    let item = ColumnItem::Fld(f as u64);
+    put(&mut survey.columns, Column { item, place })
 }
 
 /// Adds the rows, the columns, the outline and the parts of a method.

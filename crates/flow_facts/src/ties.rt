@@ -9,6 +9,7 @@ ghost use Rattle.flow_rules.specs.Lists.{left_is_lower, pair_ties, test_ties, is
 ghost use Rattle.flow_facts.specs.Views.{part_seen};
 ghost use Rattle.flow_facts.specs.Seen.{numbers_seen};
 
+use crate::by_number::method_by_number;
 use crate::lists::{add_tied, row_at, row_in};
 use crate::numbering::Numbering;
 use crate::survey::result_row;
@@ -90,10 +91,9 @@ fn add_pair(
     if let (Some(s), Some(t)) = (left.ty, right.ty) {
         let (l, r) = (row_at(n, left), row_at(n, right));
         if is_left_lower(program, left, right, s, t) {
-            add_tied(l, r, ties)?;
-        } else {
-            add_tied(r, l, ties)?;
+            return add_tied(l, r, ties);
         }
+        return add_tied(r, l, ties);
     }
     Ok(())
 }
@@ -113,10 +113,9 @@ fn add_test(
     if let (Some(s), Some(t)) = (operand.ty, own.ty) {
         let (e, k) = (row_at(n, operand), row_at(n, own));
         if is_subtype(program, s.class, t.class) {
-            add_tied(e, k, ties)?;
-        } else {
-            add_tied(k, e, ties)?;
+            return add_tied(e, k, ties);
         }
+        return add_tied(k, e, ties);
     }
     Ok(())
 }
@@ -125,7 +124,7 @@ fn add_test(
 fn param_row(program: &Program, callee: u64, i: u64) -> Option<RowItem>
     ensures value { result ≡ param_row (program_of no_place program.now) callee i }
 {
-    match program.methods.get(callee as usize) {
+    match method_by_number(program, callee) {
         Some(method) => match method.slot {
             Some(slot) if i < method.params.len() as u64 => { Some(RowItem::Param(slot as u64, i)) }
             _ => Some(RowItem::Local(callee, i)),
@@ -144,7 +143,7 @@ fn add_slot_args(
     ensures value { (P : Plain) → OnOk result (ties.new.items ≡ ties.old.items ++ slot_ties (numbers_seen n.now) P slot args.now.items) }
 {
     for (i, arg) in args.iter().enumerate() {
-        add_tied(row_at(n, arg), n.row(RowItem::Param(slot, i as u64)), ties)?;
+        made!(add_tied(row_at(n, arg), n.row(RowItem::Param(slot, i as u64)), ties));
     }
     Ok(())
 }
@@ -161,7 +160,7 @@ fn add_method_args(
 {
     for (i, arg) in args.iter().enumerate() {
         let parameter = row_in(n, param_row(program, callee, i as u64));
-        add_tied(row_at(n, arg), parameter, ties)?;
+        made!(add_tied(row_at(n, arg), parameter, ties));
     }
     Ok(())
 }

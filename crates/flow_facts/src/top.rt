@@ -67,7 +67,7 @@ fn number_rows(
     ensures most { IfOk result (λ l. length (rows_of (program_of no_place program.now) (program_of at_place program.now)) ≤ 16384) }
     ensures refused { IfErr result (λ e. IsOver (program_of no_place program.now) (program_of at_place program.now) e) }
 {
-    let listed = list_rows(alloc, rows)?;
+    let listed = made!(list_rows(alloc, rows) => FactsFault;);
     made!(within(listed.items.len(), 16384, Counted::Rows); listed);
     Ok(listed)
 }
@@ -87,7 +87,7 @@ fn number_columns(
     ensures most { IfOk result (λ l. length (columns_of (program_of no_place program.now) (program_of at_place program.now)) ≤ 8192) }
     ensures refused { IfErr result (λ e. IsOver (program_of no_place program.now) (program_of at_place program.now) e) }
 {
-    let listed = list_columns(alloc, columns)?;
+    let listed = made!(list_columns(alloc, columns) => FactsFault;);
     made!(within(listed.items.len(), 8192, Counted::Columns); listed);
     Ok(listed)
 }
@@ -108,8 +108,8 @@ fn number_sites(
     ensures most { IfOk result (λ l. length (sites_of (program_of no_place program.now) (program_of at_place program.now)) ≤ 8192) }
     ensures refused { IfErr result (λ e. IsOver (program_of no_place program.now) (program_of at_place program.now) e) }
 {
-    let sites = all_sites(alloc, rows, bodies)?;
-    let listed = list_sites(alloc, sites)?;
+    let sites = made!(all_sites(alloc, rows, bodies) => FactsFault;);
+    let listed = made!(list_sites(alloc, sites) => FactsFault;);
     made!(within(listed.items.len(), 8192, Counted::Sites); listed);
     Ok(listed)
 }
@@ -135,10 +135,15 @@ fn number_points(
     ensures most { IfOk result (λ l. length (points_of (program_of no_place program.now) (program_of at_place program.now)) ≤ 65536) }
     ensures refused { IfErr result (λ e. IsOver (program_of no_place program.now) (program_of at_place program.now) e) }
 {
-    let statics = by_place(statics)?;
-    let outlines = by_place(outlines)?;
-    let points = all_points(alloc, rows, &statics, &outlines)?;
-    let listed = list_points(alloc, points)?;
+    let statics = made!(by_place(statics) => FactsFault; outlines);
+    let outlines = made!(by_place(outlines) => FactsFault; statics);
+    let points = made!(
+        all_points(alloc, rows, &statics, &outlines) => FactsFault;
+        statics, outlines
+    );
+    drop(statics);
+    drop(outlines);
+    let listed = made!(list_points(alloc, points) => FactsFault;);
     made!(within(listed.items.len(), 65536, Counted::Points); listed);
     Ok(listed)
 }
@@ -164,8 +169,8 @@ fn number_cells(
     ensures counts { IfOk result (λ v. too_many (program_of no_place program.now) (program_of at_place program.now) ≡ None) }
     ensures refused { IfErr result (λ e. IsOver (program_of no_place program.now) (program_of at_place program.now) e) }
 {
-    let fields = fields_of(alloc, program, n, columns)?;
-    match cells_of(alloc, program, &fields, sites, most)? {
+    let fields = made!(fields_of(alloc, program, n, columns) => FactsFault;);
+    match made!(cells_of(alloc, program, &fields, sites, most) => FactsFault; fields) {
         None => Err(FactsFault::TooMany(Counted::Points, 65537)),
         Some(cells) => Ok(cells),
     }
@@ -301,7 +306,7 @@ fn number_all(alloc: Global, program: &Program) -> Result<Numbered, FactsFault>
     ensures ok { IfOk result (λ d. IsNumbered (program_of no_place program.now) (program_of at_place program.now) d) }
     ensures refused { IfErr result (λ e. IsOver (program_of no_place program.now) (program_of at_place program.now) e) }
 {
-    let surveyed = survey(alloc, program)?;
+    let surveyed = made!(survey(alloc, program) => FactsFault;);
     let (statics, outlines) = (surveyed.statics, surveyed.outlines);
     let bodies = surveyed.bodies;
     let table = made!(
@@ -329,8 +334,8 @@ pub fn facts(alloc: Global, program: &Program) -> Result<Facts, FactsFault>
     match first_interface(program) {
         Some(name) => Err(FactsFault::HasInterface(name.copy(alloc)?)),
         None => {
-            let numbered = number_all(alloc, program)?;
-            let facts = facts_over(alloc, program, numbered)?;
+            let numbered = made!(number_all(alloc, program));
+            let facts = made!(facts_over(alloc, program, numbered) => FactsFault;);
             Ok(facts)
         }
     }
@@ -348,6 +353,6 @@ pub fn numbering_of(alloc: Global, program: &Program) -> Result<Numbering, Facts
     ensures columns { IfOk result (λ n. n.columns.keys ≡ map (λ c. c.item) (columns_of (program_of no_place program.now) (program_of at_place program.now))) }
     ensures refused { IfErr result (λ e. IsOver (program_of no_place program.now) (program_of at_place program.now) e) }
 {
-    let numbered = number_all(alloc, program)?;
+    let numbered = made!(number_all(alloc, program));
     Ok(numbered.numbering)
 }

@@ -8,6 +8,7 @@ ghost use Rattle.java_core.specs.Formed.{IsFormed};
 ghost use Rattle.flow_rules.specs.Operands.{object_of, object_if, object_class, object_field, call_slot, call_declaration};
 ghost use Rattle.flow_rules.specs.Types.{field_object, slot_object, method_object, variable_object, element_object};
 
+use crate::by_number::{field_by_number, method_by_number, slot_by_number};
 use flow_rules::ObjectType;
 use java_core::{Method, Program, Ty, TyBase, declaration_of, member_field};
 use kaba_base::{ClassId, MemberId, Name};
@@ -36,7 +37,7 @@ pub fn object_if(ty: Option<Ty>) -> Option<ObjectType>
 pub fn field_object(program: &Program, field: u32) -> Option<ObjectType>
     ensures value { result ≡ field_object (program_of no_place program.now) field }
 {
-    match program.fields.get(field as usize) {
+    match field_by_number(program, field as u64) {
         Some(member) => object_of(member.ty),
         None => None,
     }
@@ -46,7 +47,7 @@ pub fn field_object(program: &Program, field: u32) -> Option<ObjectType>
 pub fn slot_object(program: &Program, slot: u32) -> Option<ObjectType>
     ensures value { result ≡ slot_object (program_of no_place program.now) slot }
 {
-    match program.slots.get(slot as usize) {
+    match slot_by_number(program, slot as u64) {
         Some(slot) => object_if(slot.result),
         None => None,
     }
@@ -56,7 +57,7 @@ pub fn slot_object(program: &Program, slot: u32) -> Option<ObjectType>
 pub fn method_object(program: &Program, method: u32) -> Option<ObjectType>
     ensures value { result ≡ method_object (program_of no_place program.now) method }
 {
-    match program.methods.get(method as usize) {
+    match method_by_number(program, method as u64) {
         Some(member) => object_if(member.result),
         None => None,
     }

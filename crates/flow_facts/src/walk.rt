@@ -13,6 +13,8 @@ ghost use Rattle.flow_facts.specs.Views.{part_seen, parts_seen, load_operand, ca
 ghost use Rattle.flow_facts.specs.Walked.{IsAdded, IsMade, IsWalked, AreWalked, args_from, parts_from, call_from};
 ghost use Rattle.flow_rules.specs.Parts as plain;
 
+use crate::by_number::method_by_number;
+use crate::lists::put;
 use crate::types::{
     call_declaration, element_object, field_object, method_object, number_of, object_field,
     object_of, slot_object, variable_object,
@@ -99,8 +101,11 @@ fn creation(m: u64, label: usize, number: u32, ty: Option<ObjectType>) -> Operan
 fn slot_of_method(program: &Program, method: Option<u32>) -> Option<u32>
     ensures value { result ≡ option_and_then (slot_of_method (program_of no_place program.now)) method }
 {
-    match program.methods.get(method? as usize) {
-        Some(member) => member.slot,
+    match method {
+        Some(method) => match method_by_number(program, method as u64) {
+            Some(member) => member.slot,
+            None => None,
+        },
         None => None,
     }
 }
@@ -119,8 +124,7 @@ pub fn is_accessed(e: &RExpr) -> bool
 pub fn add(parts: &mut Vec<Part>, part: Part) -> Result<(), AllocError>
     ensures { OnOk result (IsAdded parts.old.items parts.new.items 1 (part_seen part ∷ [])) }
 {
-    parts.push(part)?;
-    Ok(())
+    put(parts, part)
 }
 
 /// Puts a part in the place of one that was kept free.
@@ -166,19 +170,19 @@ pub fn walk(
             let row = Some(RowItem::Field(field.0 as u64));
             let own = labelled(m, parts.len(), row, field_object(program, field.0));
             let this = this_operand(m, method);
-            add(parts, Part::Load(*place, this, Some(field.0), own))?;
+            made!(add(parts, Part::Load(*place, this, Some(field.0), own)));
             Ok(own)
         }
         RExpr::Field { base, name, place } => {
             let accessed = is_accessed(base);
-            let base = walk(alloc, program, m, method, accessed, base, parts)?;
+            let base = made!(walk(alloc, program, m, method, accessed, base, parts));
             add_load(program, m, *place, base, name, parts)
         }
         RExpr::Index { base, at, place } => {
-            let base = walk(alloc, program, m, method, true, base, parts)?;
+            let base = made!(walk(alloc, program, m, method, true, base, parts));
             let own = labelled(m, parts.len(), base.row, element_object(base.ty));
-            add(parts, Part::Element(*place, base, own))?;
-            walk(alloc, program, m, method, false, at, parts)?;
+            made!(add(parts, Part::Element(*place, base, own)));
+            made!(walk(alloc, program, m, method, false, at, parts));
             Ok(own)
         }
         RExpr::Call {
@@ -192,7 +196,7 @@ pub fn walk(
                 add_call(alloc, program, m, method, *place, this, name, args, parts)
             }
             Some(base) => {
-                let base = walk(alloc, program, m, method, true, base, parts)?;
+                let base = made!(walk(alloc, program, m, method, true, base, parts));
                 add_call(alloc, program, m, method, *place, base, name, args, parts)
             }
         },
@@ -211,8 +215,8 @@ pub fn walk(
             place,
         } => {
             let own = creation(m, parts.len(), *number, class_object(*class));
-            add(parts, Part::New(*place, used, own))?;
-            let _args = walk_all(alloc, program, m, method, false, args, parts)?;
+            made!(add(parts, Part::New(*place, used, own)));
+            let _args = made!(walk_all(alloc, program, m, method, false, args, parts));
             Ok(own)
         }
         RExpr::NewArray {
@@ -222,8 +226,8 @@ pub fn walk(
             place,
         } => {
             let own = creation(m, parts.len(), *number, object_of(*ty));
-            add(parts, Part::New(*place, used, own))?;
-            walk(alloc, program, m, method, false, size, parts)?;
+            made!(add(parts, Part::New(*place, used, own)));
+            made!(walk(alloc, program, m, method, false, size, parts));
             Ok(own)
         }
         RExpr::Cast {
@@ -235,8 +239,8 @@ pub fn walk(
             let row = Some(RowItem::Cast(*number as u64));
             let own = labelled(m, parts.len(), row, object_of(*ty));
             let at = parts.len();
-            add(parts, Part::Test(*place, NOTHING, own))?;
-            let value = walk(alloc, program, m, method, true, value, parts)?;
+            made!(add(parts, Part::Test(*place, NOTHING, own)));
+            let value = made!(walk(alloc, program, m, method, true, value, parts));
             fill(parts, at, Part::Test(*place, value, own));
             Ok(own)
         }
@@ -246,14 +250,14 @@ pub fn walk(
             class,
             place,
         } => {
-            let value = walk(alloc, program, m, method, true, value, parts)?;
+            let value = made!(walk(alloc, program, m, method, true, value, parts));
             let row = Some(RowItem::Test(*number as u64));
             let own = labelled(m, parts.len(), row, class_object(*class));
-            add(parts, Part::Test(*place, value, own))?;
+            made!(add(parts, Part::Test(*place, value, own)));
             Ok(NOTHING)
         }
         RExpr::Unary { value, .. } => {
-            walk(alloc, program, m, method, false, value, parts)?;
+            made!(walk(alloc, program, m, method, false, value, parts));
             Ok(NOTHING)
         }
         RExpr::Binary {
@@ -262,9 +266,9 @@ pub fn walk(
             right,
             ..
         } => {
-            let left = walk(alloc, program, m, method, false, left, parts)?;
-            let right = walk(alloc, program, m, method, false, right, parts)?;
-            add(parts, Part::Pair(*op, left, right))?;
+            let left = made!(walk(alloc, program, m, method, false, left, parts));
+            let right = made!(walk(alloc, program, m, method, false, right, parts));
+            made!(add(parts, Part::Pair(*op, left, right)));
             Ok(NOTHING)
         }
     }
@@ -294,7 +298,7 @@ fn add_load(
         None => (None, None),
     };
     let own = labelled(m, parts.len(), row, ty);
-    add(parts, Part::Load(place, base, field, own))?;
+    made!(add(parts, Part::Load(place, base, field, own)));
     Ok(own)
 }
 
@@ -315,7 +319,8 @@ fn walk_all(
 {
     let mut list = Vec::new(alloc);
     for e in args {
-        list.push(walk(alloc, program, m, method, used, e, parts)?)?;
+        let operand = made!(walk(alloc, program, m, method, used, e, parts));
+        made!(put(&mut list, operand));
     }
     Ok(list)
 }
@@ -340,8 +345,8 @@ fn add_call(
         (call_operand (program_of no_place program.now) m (length parts.old.items) base.ty name.now)) }
 {
     let at = parts.len();
-    add(parts, Part::Pair(BinOp::Both, NOTHING, NOTHING))?;
-    let args = walk_all(alloc, program, m, method, true, args, parts)?;
+    made!(add(parts, Part::Pair(BinOp::Both, NOTHING, NOTHING)));
+    let args = made!(walk_all(alloc, program, m, method, true, args, parts));
     let declaration = call_declaration(program, base.ty, name);
     let slot = slot_of_method(program, declaration);
     let own = call_operand(program, m, at, slot);
@@ -392,8 +397,8 @@ fn add_static_call(
         (static_operand (program_of no_place program.now) m (length parts.old.items) callee)) }
 {
     let at = parts.len();
-    add(parts, Part::Pair(BinOp::Both, NOTHING, NOTHING))?;
-    let args = walk_all(alloc, program, m, method, false, args, parts)?;
+    made!(add(parts, Part::Pair(BinOp::Both, NOTHING, NOTHING)));
+    let args = made!(walk_all(alloc, program, m, method, false, args, parts));
     let row = Some(RowItem::Result(callee as u64));
     let own = labelled(m, at, row, method_object(program, callee));
     fill(parts, at, Part::StaticCall(place, callee, args, own));
@@ -423,8 +428,8 @@ fn add_super_call(
         (super_operand (program_of no_place program.now) m (length parts.old.items) method.now.owner.0 name.now)) }
 {
     let at = parts.len();
-    add(parts, Part::Pair(BinOp::Both, NOTHING, NOTHING))?;
-    let args = walk_all(alloc, program, m, method, false, args, parts)?;
+    made!(add(parts, Part::Pair(BinOp::Both, NOTHING, NOTHING)));
+    let args = made!(walk_all(alloc, program, m, method, false, args, parts));
     let callee = number_of(super_method(program, method.owner, name));
     let own = super_operand(program, m, at, callee);
     fill(parts, at, Part::SuperCall(place, callee, args, own));

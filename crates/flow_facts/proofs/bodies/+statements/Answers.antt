@@ -21,23 +21,23 @@ walk_stmt-returns-in-Local t c =
 pub walk_stmt-returns-in-Block : goal.walk_stmt-returns-in-Block
 walk_stmt-returns-in-Block t c = let form = block_form _ _ _ c.in-Block.is in rw form c.walk_stmts.ensures
 
-pub walk_stmt-returns-in_ok-walk-in-While : goal.walk_stmt-returns-in_ok-walk-in-While
-walk_stmt-returns-in_ok-walk-in-While t c =
+pub walk_stmt-returns-in-Ok-walk : goal.walk_stmt-returns-in-Ok-walk
+walk_stmt-returns-in-Ok-walk t c =
     let form = while_form _ _ _ _ c.in-While.is in
     rw form (on_ok c.walk_stmts-in-While.result (λ h. record {
-      grown = omega (arith, c.in_ok-walk-in-While.ensures.grown, h.grown);
+      grown = omega (arith, c.in-Ok-walk.ensures.grown, h.grown);
       parts = while_parts (program_of no_place c.args.program.now) c.args.m (method_seen at_place c.args.method.now) (at_place c.in-While.place)
           (expr_of at_place c.in-While.test) (stmts at_place c.in-While.body.items) (parts_seen c.args.parts.now.items) _ _
           (length c.args.parts.now.items) _
-          c.in_ok-walk-in-While.ensures.parts c.in_ok-walk-in-While.ensures.grown h.parts;
+          c.in-Ok-walk.ensures.parts c.in-Ok-walk.ensures.grown h.parts;
     }) c.walk_stmts-in-While.ensures)
 
-pub walk_stmt-returns-in_ok-walk_step-in-For-2 : goal.walk_stmt-returns-in_ok-walk_step-in-For-2
-walk_stmt-returns-in_ok-walk_step-in-For-2 t c =
+pub walk_stmt-returns-in-Ok-walk_step-2 : goal.walk_stmt-returns-in-Ok-walk_step-2
+walk_stmt-returns-in-Ok-walk_step-2 t c =
     let form = ap (stmt_of at_place) c.in-For.is ∙ for_as at_place c.in-For.first c.in-For.test c.in-For.step c.in-For.body c.in-For.place in
-    let a = c.in_ok-walk_step-in-For.ensures in
-    let b = c.in_ok-walk_value-in-For.ensures in
-    let d = c.in_ok-walk_step-in-For-2.ensures in
+    let a = c.in-Ok-walk_step.ensures in
+    let b = c.in-Ok-walk_value.ensures in
+    let d = c.in-Ok-walk_step-2.ensures in
     rw form (on_ok c.walk_stmts-in-For.result (λ h. record {
       grown = omega (arith, a.grown, b.grown, d.grown, h.grown);
       parts = loop_parts (program_of no_place c.args.program.now) c.args.m (method_seen at_place c.args.method.now) (at_place c.in-For.place) false
@@ -54,9 +54,9 @@ walk_stmt-returns-in-Some t c =
     let same = ap (λ o. size_arms (else_seen at_place o)) c.in-Some.is in
     let all = ap (λ o. parts_seen c.walk_arms.new.parts.items ++ parts_arms P (object_type P K) c.args.m K (label_arms (length c.walk_arms.new.parts.items)
     (else_seen at_place o))) (sym c.in-Some.is)
-    ∙ c.in_ok-walk_arms-in-If.ensures.parts in
+    ∙ c.in-Ok-walk_arms.ensures.parts in
     rw form (on_ok c.walk_stmts-in-Some.result (λ h. record {
-      grown = omega (arith, same, c.in_ok-walk_arms-in-If.ensures.grown, h.grown);
+      grown = omega (arith, same, c.in-Ok-walk_arms.ensures.grown, h.grown);
       parts = h.parts ∙ all;
     }) c.walk_stmts-in-Some.ensures)
 
@@ -69,5 +69,5 @@ walk_stmt-returns-in-None t c =
     let all = sym (append-nil (parts_seen c.walk_arms.new.parts.items))
     ∙ ap (λ o. parts_seen c.walk_arms.new.parts.items ++ parts_arms P (object_type P K) c.args.m K (label_arms (length c.walk_arms.new.parts.items)
     (else_seen at_place o))) (sym c.in-None.is)
-    ∙ c.in_ok-walk_arms-in-If.ensures.parts in
-    rw form (record { grown = omega (arith, same, c.in_ok-walk_arms-in-If.ensures.grown); parts = all })
+    ∙ c.in-Ok-walk_arms.ensures.parts in
+    rw form (record { grown = omega (arith, same, c.in-Ok-walk_arms.ensures.grown); parts = all })

@@ -9,12 +9,12 @@ use Rattle.flow_facts.specs.Views.{parts_seen}
 use Rattle.flow_rules.proofs.TypeLemmas.{parts_of_some, parts_of_none}
 use Rattle.flow_facts.proofs.bodies.parts_of.Goals as goal
 
-pub returns-in_ok-walk_stmts-in-Some : goal.returns-in_ok-walk_stmts-in-Some
-returns-in_ok-walk_stmts-in-Some c =
+pub returns-in-Ok : goal.returns-in-Ok
+returns-in-Ok c =
     let P = program_of no_place c.args.program.now in
     let K = method_seen at_place c.args.method.now in
     let xs = stmts at_place c.in-Some.body.items in
-    let all = c.in_ok-walk_stmts-in-Some.ensures.parts ∙ ap (λ l. parts_seen l ++ parts_sts P (object_type P K) c.args.m K (label_sts (length l) xs))
+    let all = c.in-Ok.ensures.parts ∙ ap (λ l. parts_seen l ++ parts_sts P (object_type P K) c.args.m K (label_sts (length l) xs))
     c.new-parts.ensures.items in
     record { value = parts_of_some P c.args.m K xs _ (ap (body_seen at_place) c.in-Some.is) all }
 

@@ -6,10 +6,10 @@ use Rattle.flow_facts.proofs.Passed.{on_ok}
 use Rattle.flow_facts.proofs.Composed.{own_store, element_store}
 use Rattle.flow_facts.proofs.bodies.walk_assign.Goals as goal
 
-pub returns-in_ok-value-in-Own : goal.returns-in_ok-value-in-Own
-returns-in_ok-value-in-Own c =
+pub returns-in-Ok : goal.returns-in-Ok
+returns-in-Ok c =
     let form = ap (target_of at_place) c.in-Own.is in
-    let v = c.in_ok-value-in-Own.ensures in
+    let v = c.in-Ok.ensures in
     rw form (on_ok c.add.result (λ h. record {
       grown = omega (arith, v.grown, h.grown);
       parts = own_store (program_of no_place c.args.program.now) c.args.m (method_seen at_place c.args.method.now) (at_place c.in-Own.place)
@@ -17,14 +17,14 @@ returns-in_ok-value-in-Own c =
           (parts_seen c.args.parts.now.items) _ _ (length c.args.parts.now.items) _ _ v.parts v.value c.this_operand.ensures.value h.parts;
     }) c.add.ensures)
 
-pub returns-in_ok-value-in-Index : goal.returns-in_ok-value-in-Index
-returns-in_ok-value-in-Index c =
+pub returns-in-Ok-walk-5 : goal.returns-in-Ok-walk-5
+returns-in-Ok-walk-5 c =
     let form = ap (target_of at_place) c.in-Index.is
     ∙ ap (λ y. to_element (at_place c.in-Index.place) (expr_of at_place y) (expr_of at_place c.in-Index.at.value)) (sym c.deref-in-Index.ensures)
     ∙ ap (λ y. to_element (at_place c.in-Index.place) (expr_of at_place c.deref-in-Index.result.now) (expr_of at_place y)) (sym c.deref-in-Index-2.ensures) in
-    let b = c.in_ok-base-in-Index.ensures in
-    let i = c.in_ok-walk-in-Index.ensures in
-    let v = c.in_ok-value-in-Index.ensures in
+    let b = c.in-Ok-walk-3.ensures in
+    let i = c.in-Ok-walk-4.ensures in
+    let v = c.in-Ok-walk-5.ensures in
     rw form (on_ok c.add-in-Index.result (λ h. record {
       grown = omega (arith, b.grown, i.grown, v.grown, h.grown);
       parts = element_store (program_of no_place c.args.program.now) c.args.m (method_seen at_place c.args.method.now) (at_place c.in-Index.place)

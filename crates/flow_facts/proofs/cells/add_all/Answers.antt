@@ -9,4 +9,4 @@ pub loop-field-preserved : goal.loop-field-preserved
 loop-field-preserved c =
     step (λ f. field_cell_seen f ∷ []) (map field_cell_seen) (map field_cell_seen) (λ _ _. refl) c.args.fields.now _ _ _ _ _ _ refl
     c.loop-field-test.true c.loop-field.invariant
-    (ap (map field_cell_seen) c.in_ok-push.ensures.items ∙ map-append field_cell_seen c.loop-field.found.items (_ ∷ []))
+    (ap (map field_cell_seen) c.in-Ok.ensures.value ∙ map-append field_cell_seen c.loop-field.found.items (_ ∷ []))

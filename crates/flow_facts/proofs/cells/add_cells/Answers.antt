@@ -12,4 +12,4 @@ pub loop-field-preserved : goal.loop-field-preserved
 loop-field-preserved c =
     let all : List FieldCell → List CellInfo = λ l. flat_map (cell_of c.args.i) (map field_cell_seen l) in
     step (λ f. cell_of c.args.i (field_cell_seen f)) all all (λ _ _. refl) c.args.fields.now.items _ _ _ _ _ _ c.deref-field-items.ensures.value
-    c.loop-field-test.true c.loop-field.invariant c.in_ok-push.ensures.items
+    c.loop-field-test.true c.loop-field.invariant c.in-Ok.ensures.value

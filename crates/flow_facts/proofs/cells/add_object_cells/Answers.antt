@@ -15,8 +15,8 @@ returns c =
     let fs = map field_cell_seen c.args.fields.now.items in
     record {
       value = on_ok c.add_cells.result (λ h. h
-          ∙ ap (λ l. c.args.cells.now.items ++ flat_map (cell_of c.args.i) l) (ap (map field_cell_seen) c.in_ok-sorted.ensures.value
-          ∙ map-by_place (λ f. f.column) (λ f. f.column) field_cell_seen (λ _. refl) c.in_ok-above.above.items)
+          ∙ ap (λ l. c.args.cells.now.items ++ flat_map (cell_of c.args.i) l) (ap (map field_cell_seen) c.in-Ok-by_place.ensures.value
+          ∙ map-by_place (λ f. f.column) (λ f. f.column) field_cell_seen (λ _. refl) c.in-Ok.made.items)
           ∙ ap (λ l. c.args.cells.now.items ++ l) (cells_above (program_of no_place c.args.program.now) c.requires.formed fs c.requires.listed
-          (own_at c.args.own.now.items) c.requires.own c.args.i c.args.class _ c.in_ok-above.ensures)) c.add_cells.ensures;
+          (own_at c.args.own.now.items) c.requires.own c.args.i c.args.class _ c.in-Ok.ensures)) c.add_cells.ensures;
     }

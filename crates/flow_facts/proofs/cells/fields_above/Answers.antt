@@ -13,12 +13,12 @@ loop-step-init c = λ r e.
     let P = program_of no_place c.args.program.now in
     let all = length-map c.args.program.now.classes.items (class_seen no_place) in
     begun P (own_at c.args.own.now.items) c.args.class _ _ _ r (length P.classes) (ap (map field_cell_seen) c.new-found.ensures.items)
-    c.in_ok-add_fields_of.ensures.value c.parent_of-above.ensures.value (omega (arith, e, all))
+    c.in-Ok.ensures.value c.parent_of-above.ensures.value (omega (arith, e, all))
 
 pub loop-step-preserved : goal.loop-step-preserved
 loop-step-preserved c = λ r e.
     gone_on (program_of no_place c.args.program.now) (own_at c.args.own.now.items) c.in-Some.class _ _ _ _ _ r c.in-Some.is
-    c.in_ok-add_fields_of-in-Some.ensures.value c.parent_of-next.ensures.value
+    c.in-Ok-add_fields_of.ensures.value c.parent_of-next.ensures.value
     (c.loop-step.invariant (suc r) (omega (arith, e)))
 
 pub returns-in-None : goal.returns-in-None

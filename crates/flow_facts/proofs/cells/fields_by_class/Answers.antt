@@ -18,8 +18,8 @@ add_own-requires c =
 
 pub loop-field-preserved : goal.loop-field-preserved
 loop-field-preserved c = record {
-  count = c.in_ok-add_own.ensures.count ∙ c.loop-field.invariant.count;
+  count = c.in-Ok-add_own.ensures.count ∙ c.loop-field.invariant.count;
   value = λ k. step (λ x. when (k == (field_cell_seen x).owner) (field_cell_seen x ∷ [])) (λ l. own_of (map field_cell_seen l) k)
       (λ l. own_of (map field_cell_seen l) k) (kept_one k) c.args.fields.now.items _ _ _ _ _ _
-      c.deref-field-items.ensures.value c.loop-field-test.true (c.loop-field.invariant.value k) (c.in_ok-add_own.ensures.value k);
+      c.deref-field-items.ensures.value c.loop-field-test.true (c.loop-field.invariant.value k) (c.in-Ok-add_own.ensures.value k);
 }

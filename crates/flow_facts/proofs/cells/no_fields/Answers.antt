@@ -9,6 +9,6 @@ loop-class-init c = record { count = ap length c.new-own.ensures.items; empty = 
 
 pub loop-class-preserved : goal.loop-class-preserved
 loop-class-preserved c = record {
-  count = pushed_count c.loop-class.own.items _ c.in_ok-push.ensures.items c.loop-class.invariant.count;
-  empty = λ k. ap (λ l. own_at l k) c.in_ok-push.ensures.items ∙ own_pushed c.loop-class.own.items _ k c.new.ensures.items (c.loop-class.invariant.empty k);
+  count = pushed_count c.loop-class.own.items _ c.in-Ok.ensures.value c.loop-class.invariant.count;
+  empty = λ k. ap (λ l. own_at l k) c.in-Ok.ensures.value ∙ own_pushed c.loop-class.own.items _ k c.new.ensures.items (c.loop-class.invariant.empty k);
 }

@@ -17,5 +17,5 @@ loop-part-preserved c =
     let x = c.part-item.result in
     let lt : i < length ps = subst (λ l. i < length l) c.deref-part-items.ensures.value c.loop-part-test.true in
     let is : x ≡ get_or ps i x = subst (λ l. x ≡ get_or l i x) c.deref-part-items.ensures.value c.part-item.is in
-    let all = part_more (numbers_seen c.args.n.now) (program_of no_place c.args.program.now) c.loop-part.invariant c.in_ok-add_part.ensures in
+    let all = part_more (numbers_seen c.args.n.now) (program_of no_place c.args.program.now) c.loop-part.invariant c.in-Ok.ensures in
     rw (so_far part_seen ps i x lt is) all

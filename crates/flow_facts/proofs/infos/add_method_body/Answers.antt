@@ -7,6 +7,7 @@ use Rattle.flow_rules.specs.declared.items.PointItem.TheVariants as point
 use Rattle.flow_rules.specs.Lists.{Numbers}
 use Rattle.flow_rules.specs.Facts.{PlainBody, body_seen, body_if, param_points}
 use Rattle.flow_facts.specs.Seen.{numbers_seen}
+use Rattle.flow_facts.proofs.Passed.{on_ok}
 use Rattle.flow_facts.proofs.infos.add_method_body.Goals as goal
 
 added : (N : Numbers) (Q : Plain) (c m : ℕ) (k : PlainMethod) (t : ℕ) (p : List (Option ℕ)) (r : Option ℕ) (old : List PlainBody)
@@ -21,10 +22,9 @@ added N Q c m k t p r old h e g =
 pushed : (old new : List BodyInfo) (b : BodyInfo) → new ≡ old ++ b ∷ [] → map body_seen new ≡ map body_seen old ++ body_seen b ∷ []
 pushed old new b e = ap (map body_seen) e ∙ map-append body_seen old (b ∷ [])
 
-pub returns-in_ok-push-in-Some : goal.returns-in_ok-push-in-Some
-returns-in_ok-push-in-Some c = record {
-  value = λ Q. pushed c.args.bodies.now.items _ _ c.in_ok-push-in-Some.ensures.items
-      ∙ added (numbers_seen c.args.n.now) Q c.args.c c.args.m (method_seen at_place c.args.method.now) c.in-Some.this
-      c.in_ok-params-in-Some.params.items c.point-in-Some.result
-      (map body_seen c.args.bodies.now.items) c.in-Some.ensures.value (c.in_ok-params-in-Some.ensures.value Q) c.point-in-Some.ensures.value;
+pub returns-in-Ok : goal.returns-in-Ok
+returns-in-Ok c = record {
+  value = λ Q. on_ok c.put.result (λ h. pushed c.args.bodies.now.items _ _ h
+      ∙ added (numbers_seen c.args.n.now) Q c.args.c c.args.m (method_seen at_place c.args.method.now) c.in-Some.this c.in-Ok.made.items c.point-result.result
+      (map body_seen c.args.bodies.now.items) c.in-Some.ensures.value (c.in-Ok.ensures.value Q) c.point-result.ensures.value) c.put.ensures.value;
 }

@@ -14,4 +14,4 @@ loop-c-preserved c =
     let i = c.loop-c.c in
     let f : ℕ → Column → List PlainBody = λ j k. column_body (numbers_seen c.args.n.now) (program_of at_place c.args.program.now) j k.item in
     step (f i) (each f i) (each f (i + 1)) (λ _ _. refl) c.args.columns.now.items _ i _ _ _ _ c.deref-column-items.ensures.value c.loop-c-test.true
-    c.loop-c.invariant c.in_ok-add_body.ensures.value
+    c.loop-c.invariant c.in-Ok.ensures.value

@@ -9,4 +9,4 @@ pub loop-point-preserved : goal.loop-point-preserved
 loop-point-preserved c =
     let row : Point → RowId = λ p. record { 0 = p.row } in
     step (λ p. row p ∷ []) (map row) (map row) (λ _ _. refl) c.args.points.now.items _ _ _ _ _ _ c.deref-point-items.ensures.value
-    c.loop-point-test.true c.loop-point.invariant c.in_ok-push.ensures.items
+    c.loop-point-test.true c.loop-point.invariant c.in-Ok.ensures.value

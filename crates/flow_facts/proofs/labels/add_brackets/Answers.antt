@@ -11,6 +11,6 @@ one_more n i h = let e : n - i ≡ suc (n - (i + 1)) = omega arith in ap bracket
 pub loop-i-preserved : goal.loop-i-preserved
 loop-i-preserved c =
     let rest = brackets (c.args.count - (c.loop-i.i + 1)) in
-    let pushed : string_bytes c.add_text.new.text ≡ string_bytes c.loop-i.text ++ codes "[]" = c.in_ok-add_text.ensures.value in
+    let pushed : string_bytes c.add_text.new.text ≡ string_bytes c.loop-i.text ++ codes "[]" = c.in-Ok.ensures.value in
     ap (λ t. t ++ rest) pushed ∙ append_assoc (string_bytes c.loop-i.text) (codes "[]") rest
     ∙ ap (λ b. string_bytes c.loop-i.text ++ b) (sym (one_more c.args.count c.loop-i.i c.loop-i-test.true)) ∙ c.loop-i.invariant

@@ -15,5 +15,5 @@ loop-i-preserved c =
     let i = c.loop-i.i in
     let f : ℕ → Operand → List FlowInfo = λ j o. moved (point_at N o) (N.point (point.Local c.args.callee j)) in
     step (f i) (each f i) (each f (i + 1)) (λ _ _. refl) c.args.args.now.items _ i _ _ _ _ c.deref-arg-items.ensures.value c.loop-i-test.true
-    c.loop-i.invariant (c.in_ok-add_moved.ensures.value ∙ ap (λ u. c.loop-i.flows.items ++ moved c.point_at.result u) c.point.ensures.value
+    c.loop-i.invariant (c.in-Ok.ensures.value ∙ ap (λ u. c.loop-i.flows.items ++ moved c.point_at.result u) c.point-parameter.ensures.value
     ∙ ap (λ l. c.loop-i.flows.items ++ moved l (N.point (point.Local c.args.callee i))) c.point_at.ensures.value)

@@ -10,4 +10,4 @@ loop-operand-preserved c =
     let f = point_at (numbers_seen c.args.n.now) in
     step (λ o. f o ∷ []) (map f) (map f) (λ _ _. refl) c.args.operands.now.items _ _ _ _ _ _ c.deref-operand-items.ensures.value
     c.loop-operand-test.true c.loop-operand.invariant
-    (c.in_ok-push.ensures.items ∙ ap (λ p. c.loop-operand.points.items ++ p ∷ []) c.point_at.ensures.value)
+    (c.in-Ok.ensures.value ∙ ap (λ p. c.loop-operand.points.items ++ p ∷ []) c.point_at.ensures.value)

@@ -7,4 +7,4 @@ use Rattle.flow_facts.proofs.names.add_variables.Goals as goal
 pub loop-local-preserved : goal.loop-local-preserved
 loop-local-preserved c =
     map_step (local_seen at_place) (λ (x : PlainLocal). x.name) c.args.locals.now.items _ _ c.local-item.result _ _ _ c.deref-local-items.ensures.value
-    c.loop-local-test.true c.local-item.is c.loop-local.invariant c.in_ok-add_name.ensures.value
+    c.loop-local-test.true c.local-item.is c.loop-local.invariant c.in-Ok.ensures.value

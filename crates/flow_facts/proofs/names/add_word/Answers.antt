@@ -1,16 +1,17 @@
 use Rattle.std.proofs.Common.{◌++◌, ◌∷◌, [], cond, sym, ap, ◌∙◌}
 use Rattle.std.proofs.lemmas.List.{append-nil}
 use Rattle.std.specs.Str.{bytes_eq, encode_utf8_all}
+use Rattle.flow_facts.proofs.Passed.{on_ok}
 use Rattle.flow_facts.proofs.Steps.{once_step}
 use Rattle.flow_facts.proofs.names.add_word.Goals as goal
 
-pub returns-then-branch : goal.returns-then-branch
-returns-then-branch c =
+pub returns-then-made : goal.returns-then-made
+returns-then-made c =
     let x = c.args.name.now in
     let old = c.args.words.now.items in
     record {
-      value = λ rest. once_step bytes_eq encode_utf8_all x _ _ old _ rest _ c.in_ok-is_new.ensures.added c.in_ok-is_new.ensures.keys
-          (c.in_ok-add_name.ensures.value ∙ sym (ap (λ b. old ++ cond b (x ∷ []) []) c.if-branch.true));
+      value = on_ok c.add_name.result (λ h rest. once_step bytes_eq encode_utf8_all x _ _ old _ rest _ c.in-Ok.ensures.added c.in-Ok.ensures.keys
+          (h ∙ sym (ap (λ b. old ++ cond b (x ∷ []) []) c.if-made.true))) c.add_name.ensures.value;
     }
 
 pub returns : goal.returns
@@ -18,6 +19,6 @@ returns c =
     let x = c.args.name.now in
     let old = c.args.words.now.items in
     record {
-      value = λ rest. once_step bytes_eq encode_utf8_all x _ _ old _ rest _ c.in_ok-is_new.ensures.added c.in_ok-is_new.ensures.keys
-          (sym (append-nil old) ∙ sym (ap (λ b. old ++ cond b (x ∷ []) []) c.if-branch.false));
+      value = λ rest. once_step bytes_eq encode_utf8_all x _ _ old _ rest _ c.in-Ok.ensures.added c.in-Ok.ensures.keys
+          (sym (append-nil old) ∙ sym (ap (λ b. old ++ cond b (x ∷ []) []) c.if-made.false));
     }

@@ -8,10 +8,10 @@ use Rattle.flow_facts.proofs.names.is_new.Goals as goal
 
 pub returns-clause-added : goal.returns-clause-added
 returns-clause-added c =
-    c.in_ok-added.ensures.added ∙ ap not (any_as string_bytes _ (λ _ _. refl) c.in_ok-text.text c.args.seen.now.keys)
-    ∙ ap (λ t. not (list_any (bytes_eq t) (map string_bytes c.args.seen.now.keys))) (c.in_ok-text.ensures.ok ∙ c.as_str.ensures.value)
+    c.in_ok-added.ensures.added ∙ ap not (any_as string_bytes _ (λ _ _. refl) c.in-Ok.made c.args.seen.now.keys)
+    ∙ ap (λ t. not (list_any (bytes_eq t) (map string_bytes c.args.seen.now.keys))) (c.in-Ok.ensures.ok ∙ c.as_str.ensures.value)
 
 pub returns-clause-keys : goal.returns-clause-keys
 returns-clause-keys c =
-    ap (map string_bytes) c.in_ok-added.ensures.keys ∙ inserted_as string_bytes _ (λ _ _. refl) c.in_ok-text.text c.args.seen.now.keys
-    ∙ ap (insert_key bytes_eq (map string_bytes c.args.seen.now.keys)) (c.in_ok-text.ensures.ok ∙ c.as_str.ensures.value)
+    ap (map string_bytes) c.in_ok-added.ensures.keys ∙ inserted_as string_bytes _ (λ _ _. refl) c.in-Ok.made c.args.seen.now.keys
+    ∙ ap (insert_key bytes_eq (map string_bytes c.args.seen.now.keys)) (c.in-Ok.ensures.ok ∙ c.as_str.ensures.value)

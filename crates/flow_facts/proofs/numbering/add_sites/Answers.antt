@@ -7,4 +7,4 @@ use Rattle.flow_facts.proofs.numbering.add_sites.Goals as goal
 pub loop-part-preserved : goal.loop-part-preserved
 loop-part-preserved c =
     flat_step part_seen (form_sites (number_among same_row c.args.rows.now.keys)) c.args.parts.now.items _ _ c.part-item.result _ _ _
-    c.deref-part-items.ensures.value c.loop-part-test.true c.part-item.is c.loop-part.invariant c.in_ok-add_part_site.ensures.value
+    c.deref-part-items.ensures.value c.loop-part-test.true c.part-item.is c.loop-part.invariant c.in-Ok.ensures.value

@@ -9,4 +9,4 @@ pub loop-outline-preserved : goal.loop-outline-preserved
 loop-outline-preserved c =
     flat_step outline_seen (λ (o : Outline). flat_map (listed (number_among same_row c.args.rows.now.keys)) o.points) c.args.outlines.now.items _ _
     c.outline-item.result _ _ _ c.deref-outline-items.ensures.value c.loop-outline-test.true c.outline-item.is c.loop-outline.invariant
-    c.in_ok-add_listed-2.ensures.value
+    c.in-Ok-add_listed.ensures.value

@@ -14,7 +14,7 @@ loop-f-preserved c =
     let h = c.loop-f-test.true in
     let at = c.field-item.is in
     let before = c.loop-f.invariant in
-    let now = c.in_ok-survey_field.ensures in
+    let now = c.in-Ok.ensures in
     record {
       rows = each_step (field_seen at_place) field_rows all _ _ x _ _ _ s h at before.rows now.rows;
       columns = each_step (field_seen at_place) field_columns all _ _ x _ _ _ s h at before.columns now.columns;

@@ -17,6 +17,6 @@ loop-i-preserved c =
     let i = c.loop-i.i in
     let f : ℕ → Operand → List TieInfo = λ j o. tied (row_at N o) (row_in N (param_row P c.args.callee j)) in
     step (f i) (each f i) (each f (i + 1)) (λ _ _. refl) c.args.args.now.items _ i _ _ _ _ c.deref-arg-items.ensures.value c.loop-i-test.true
-    c.loop-i.invariant (c.in_ok-add_tied.ensures.value
+    c.loop-i.invariant (c.in-Ok.ensures.value
     ∙ ap (λ u. c.loop-i.ties.items ++ tied c.row_at.result u) (c.row_in-parameter.ensures.value ∙ ap (row_in N) c.param_row.ensures.value)
     ∙ ap (λ l. c.loop-i.ties.items ++ tied l (row_in N (param_row P c.args.callee i))) c.row_at.ensures.value)

@@ -15,5 +15,5 @@ loop-i-preserved c =
     let i = c.loop-i.i in
     let f : ℕ → Operand → List TieInfo = λ j o. tied (row_at N o) (N.row (row.Param c.args.slot j)) in
     step (f i) (each f i) (each f (i + 1)) (λ _ _. refl) c.args.args.now.items _ i _ _ _ _ c.deref-arg-items.ensures.value c.loop-i-test.true
-    c.loop-i.invariant (c.in_ok-add_tied.ensures.value ∙ ap (λ u. c.loop-i.ties.items ++ tied c.row_at.result u) c.row.ensures.value
+    c.loop-i.invariant (c.in-Ok.ensures.value ∙ ap (λ u. c.loop-i.ties.items ++ tied c.row_at.result u) c.row.ensures.value
     ∙ ap (λ l. c.loop-i.ties.items ++ tied l (N.row (row.Param c.args.slot i))) c.row_at.ensures.value)

@@ -6,29 +6,29 @@ use Rattle.flow_facts.proofs.Counts.{columns_are, over_columns}
 use Rattle.flow_facts.proofs.Refusals.{at_most, refused}
 use Rattle.flow_facts.proofs.top.number_columns.Goals as goal
 
-pub returns-in-Err-clause-refused : goal.returns-in-Err-clause-refused
-returns-in-Err-clause-refused c =
+pub returns-in-Err-within-clause-refused : goal.returns-in-Err-within-clause-refused
+returns-in-Err-within-clause-refused c =
     let P = program_of no_place c.args.program.now in
     let Q = program_of at_place c.args.program.now in
-    let n : c.len.result ≡ length c.in_ok-listed.listed.items.items = omega (arith, c.in_ok-listed.listed.items.ok.0) in
-    refused P Q 8192 counted.Columns c.in-Err.fault n (c.in_ok-listed.ensures.items ∙ columns_are P Q _ c.requires.columns)
-    c.in-Err.ensures.refused (over_columns P Q c.requires.rows)
+    let n : c.len.result ≡ length c.in-Ok.made.items.items = omega (arith, c.in-Ok.made.items.ok.0) in
+    refused P Q 8192 counted.Columns c.in-Err-within.fault n (c.in-Ok.ensures.items ∙ columns_are P Q _ c.requires.columns)
+    c.in-Err-within.ensures.refused (over_columns P Q c.requires.rows)
 
 pub returns-clause-items : goal.returns-clause-items
 returns-clause-items c =
     let P = program_of no_place c.args.program.now in
     let Q = program_of at_place c.args.program.now in
-    (c.in_ok-listed.ensures.items ∙ columns_are P Q _ c.requires.columns)
+    (c.in-Ok.ensures.items ∙ columns_are P Q _ c.requires.columns)
 
 pub returns-clause-keys : goal.returns-clause-keys
 returns-clause-keys c =
     let P = program_of no_place c.args.program.now in
     let Q = program_of at_place c.args.program.now in
-    c.in_ok-listed.ensures.keys ∙ ap (map (λ c. c.item)) (columns_are P Q _ c.requires.columns)
+    c.in-Ok.ensures.keys ∙ ap (map (λ c. c.item)) (columns_are P Q _ c.requires.columns)
 
 pub returns-clause-most : goal.returns-clause-most
 returns-clause-most c =
     let P = program_of no_place c.args.program.now in
     let Q = program_of at_place c.args.program.now in
-    let n : c.len.result ≡ length c.in_ok-listed.listed.items.items = omega (arith, c.in_ok-listed.listed.items.ok.0) in
-    at_most n (c.in_ok-listed.ensures.items ∙ columns_are P Q _ c.requires.columns) c.in-Ok.ensures.ok
+    let n : c.len.result ≡ length c.in-Ok.made.items.items = omega (arith, c.in-Ok.made.items.ok.0) in
+    at_most n (c.in-Ok.ensures.items ∙ columns_are P Q _ c.requires.columns) c.in-Ok-within.ensures.ok

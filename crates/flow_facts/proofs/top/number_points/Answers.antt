@@ -7,37 +7,37 @@ use Rattle.flow_rules.specs.Ordered.{by_place}
 use Rattle.flow_facts.proofs.Refusals.{at_most, refused, too_many_points}
 use Rattle.flow_facts.proofs.top.number_points.Goals as goal
 
-pub returns-in-Err-clause-refused : goal.returns-in-Err-clause-refused
-returns-in-Err-clause-refused c =
+pub returns-in-Err-within-clause-refused : goal.returns-in-Err-within-clause-refused
+returns-in-Err-within-clause-refused c =
     let P = program_of no_place c.args.program.now in
     let Q = program_of at_place c.args.program.now in
-    let n : c.len.result ≡ length c.in_ok-listed.listed.items.items = omega (arith, c.in_ok-listed.listed.items.ok.0) in
-    refused P Q 65536 counted.Points c.in-Err.fault n (c.in_ok-listed.ensures.items
-    ∙ points_are P Q _ _ _ _ c.requires.keys (c.in_ok-statics.ensures.value ∙ ap (by_place (λ p. p.place.at)) c.requires.statics)
-    (outlines_are P Q _ _ c.requires.outlines c.in_ok-outlines.ensures.value) c.in_ok-points.ensures.value) c.in-Err.ensures.refused
+    let n : c.len.result ≡ length c.in-Ok-list_points.made.items.items = omega (arith, c.in-Ok-list_points.made.items.ok.0) in
+    refused P Q 65536 counted.Points c.in-Err-within.fault n (c.in-Ok-list_points.ensures.items
+    ∙ points_are P Q _ _ _ _ c.requires.keys (c.in-Ok.ensures.value ∙ ap (by_place (λ p. p.place.at)) c.requires.statics)
+    (outlines_are P Q _ _ c.requires.outlines c.in-Ok-by_place.ensures.value) c.in-Ok-all_points.ensures.value) c.in-Err-within.ensures.refused
     (too_many_points P Q c.requires.rows c.requires.columns c.requires.sites)
 
 pub returns-clause-items : goal.returns-clause-items
 returns-clause-items c =
     let P = program_of no_place c.args.program.now in
     let Q = program_of at_place c.args.program.now in
-    (c.in_ok-listed.ensures.items ∙ points_are P Q _ _ _ _ c.requires.keys (c.in_ok-statics.ensures.value
-    ∙ ap (by_place (λ p. p.place.at)) c.requires.statics) (outlines_are P Q _ _ c.requires.outlines c.in_ok-outlines.ensures.value)
-    c.in_ok-points.ensures.value)
+    (c.in-Ok-list_points.ensures.items ∙ points_are P Q _ _ _ _ c.requires.keys (c.in-Ok.ensures.value
+    ∙ ap (by_place (λ p. p.place.at)) c.requires.statics) (outlines_are P Q _ _ c.requires.outlines c.in-Ok-by_place.ensures.value)
+    c.in-Ok-all_points.ensures.value)
 
 pub returns-clause-keys : goal.returns-clause-keys
 returns-clause-keys c =
     let P = program_of no_place c.args.program.now in
     let Q = program_of at_place c.args.program.now in
-    c.in_ok-listed.ensures.keys ∙ ap (map (λ p. p.item)) (points_are P Q _ _ _ _ c.requires.keys (c.in_ok-statics.ensures.value
-    ∙ ap (by_place (λ p. p.place.at)) c.requires.statics) (outlines_are P Q _ _ c.requires.outlines c.in_ok-outlines.ensures.value)
-    c.in_ok-points.ensures.value)
+    c.in-Ok-list_points.ensures.keys ∙ ap (map (λ p. p.item)) (points_are P Q _ _ _ _ c.requires.keys (c.in-Ok.ensures.value
+    ∙ ap (by_place (λ p. p.place.at)) c.requires.statics) (outlines_are P Q _ _ c.requires.outlines c.in-Ok-by_place.ensures.value)
+    c.in-Ok-all_points.ensures.value)
 
 pub returns-clause-most : goal.returns-clause-most
 returns-clause-most c =
     let P = program_of no_place c.args.program.now in
     let Q = program_of at_place c.args.program.now in
-    let n : c.len.result ≡ length c.in_ok-listed.listed.items.items = omega (arith, c.in_ok-listed.listed.items.ok.0) in
-    at_most n (c.in_ok-listed.ensures.items ∙ points_are P Q _ _ _ _ c.requires.keys (c.in_ok-statics.ensures.value
-    ∙ ap (by_place (λ p. p.place.at)) c.requires.statics) (outlines_are P Q _ _ c.requires.outlines c.in_ok-outlines.ensures.value)
-    c.in_ok-points.ensures.value) c.in-Ok.ensures.ok
+    let n : c.len.result ≡ length c.in-Ok-list_points.made.items.items = omega (arith, c.in-Ok-list_points.made.items.ok.0) in
+    at_most n (c.in-Ok-list_points.ensures.items ∙ points_are P Q _ _ _ _ c.requires.keys (c.in-Ok.ensures.value
+    ∙ ap (by_place (λ p. p.place.at)) c.requires.statics) (outlines_are P Q _ _ c.requires.outlines c.in-Ok-by_place.ensures.value)
+    c.in-Ok-all_points.ensures.value) c.in-Ok-within.ensures.ok

@@ -6,30 +6,30 @@ use Rattle.flow_facts.proofs.Counts.{sites_are, over_sites}
 use Rattle.flow_facts.proofs.Refusals.{at_most, refused}
 use Rattle.flow_facts.proofs.top.number_sites.Goals as goal
 
-pub returns-in-Err-clause-refused : goal.returns-in-Err-clause-refused
-returns-in-Err-clause-refused c =
+pub returns-in-Err-within-clause-refused : goal.returns-in-Err-within-clause-refused
+returns-in-Err-within-clause-refused c =
     let P = program_of no_place c.args.program.now in
     let Q = program_of at_place c.args.program.now in
-    let n : c.len.result ≡ length c.in_ok-listed.listed.items.items = omega (arith, c.in_ok-listed.listed.items.ok.0) in
-    refused P Q 8192 counted.Sites c.in-Err.fault n (c.in_ok-listed.ensures.items
-    ∙ sites_are P Q _ _ _ c.requires.keys c.requires.bodies c.in_ok-sites.ensures.value) c.in-Err.ensures.refused
+    let n : c.len.result ≡ length c.in-Ok-list_sites.made.items.items = omega (arith, c.in-Ok-list_sites.made.items.ok.0) in
+    refused P Q 8192 counted.Sites c.in-Err-within.fault n (c.in-Ok-list_sites.ensures.items
+    ∙ sites_are P Q _ _ _ c.requires.keys c.requires.bodies c.in-Ok.ensures.value) c.in-Err-within.ensures.refused
     (over_sites P Q c.requires.rows c.requires.columns)
 
 pub returns-clause-items : goal.returns-clause-items
 returns-clause-items c =
     let P = program_of no_place c.args.program.now in
     let Q = program_of at_place c.args.program.now in
-    (c.in_ok-listed.ensures.items ∙ sites_are P Q _ _ _ c.requires.keys c.requires.bodies c.in_ok-sites.ensures.value)
+    (c.in-Ok-list_sites.ensures.items ∙ sites_are P Q _ _ _ c.requires.keys c.requires.bodies c.in-Ok.ensures.value)
 
 pub returns-clause-keys : goal.returns-clause-keys
 returns-clause-keys c =
     let P = program_of no_place c.args.program.now in
     let Q = program_of at_place c.args.program.now in
-    c.in_ok-listed.ensures.keys ∙ ap (map (λ s. s.number)) (sites_are P Q _ _ _ c.requires.keys c.requires.bodies c.in_ok-sites.ensures.value)
+    c.in-Ok-list_sites.ensures.keys ∙ ap (map (λ s. s.number)) (sites_are P Q _ _ _ c.requires.keys c.requires.bodies c.in-Ok.ensures.value)
 
 pub returns-clause-most : goal.returns-clause-most
 returns-clause-most c =
     let P = program_of no_place c.args.program.now in
     let Q = program_of at_place c.args.program.now in
-    let n : c.len.result ≡ length c.in_ok-listed.listed.items.items = omega (arith, c.in_ok-listed.listed.items.ok.0) in
-    at_most n (c.in_ok-listed.ensures.items ∙ sites_are P Q _ _ _ c.requires.keys c.requires.bodies c.in_ok-sites.ensures.value) c.in-Ok.ensures.ok
+    let n : c.len.result ≡ length c.in-Ok-list_sites.made.items.items = omega (arith, c.in-Ok-list_sites.made.items.ok.0) in
+    at_most n (c.in-Ok-list_sites.ensures.items ∙ sites_are P Q _ _ _ c.requires.keys c.requires.bodies c.in-Ok.ensures.value) c.in-Ok-within.ensures.ok
