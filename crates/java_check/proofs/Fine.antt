@@ -17,9 +17,9 @@ use Rattle.java_core.proofs.Upwards.{contains_cases}
 use Rattle.java_core.specs.Typing.{is_public_method}
 use Rattle.java_check.specs.ClassOutcome.{first_rule, below_rule, slot_rule, method_rule, class_rule, is_quiet}
 use Rattle.java_check.specs.SlotOutcome.{bit, word_at, batch_place, method_batch, AreListed, is_told, HasNearest, AreFound, are_apart, is_clear, IsFineFor, is_bare, has_bare}
-use Rattle.java_check.specs.declared.Asked.{Asked}
-use Rattle.java_check.specs.declared.Asked.TheVariants.{Bodied, Public}
-use Rattle.java_check.specs.declared.Found.{Found}
+use Rattle.java_check.specs.declared.tables.Asked.{Asked}
+use Rattle.java_check.specs.declared.tables.Asked.TheVariants.{Bodied, Public}
+use Rattle.java_check.specs.declared.slots.Found.{Found}
 use Rattle.java_check.proofs.Bodied.{class_fine}
 use Rattle.java_check.proofs.Words.{apart-bit}
 

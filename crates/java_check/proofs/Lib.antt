@@ -11,3 +11,4 @@ pub mod Bodied
 pub mod Words
 pub mod Upward
 pub mod Fine
+pub mod Near

@@ -7,9 +7,9 @@ use Rattle.java_core.specs.declared.Method.{Method}
 use Rattle.java_core.specs.Programs.{Plain, PlainMethod}
 use Rattle.java_core.specs.Classes.{parent_of, faces_of, has_slot, below, nearest_declaration, is_concrete, is_interface}
 use Rattle.java_check.specs.ClassOutcome.{method_rule}
-use Rattle.java_check.specs.declared.Asked.{Asked}
-use Rattle.java_check.specs.declared.Asked.TheVariants.{Bodied, Bare, Public, Hidden, Faced}
-use Rattle.java_check.specs.declared.Found.{Found}
+use Rattle.java_check.specs.declared.tables.Asked.{Asked}
+use Rattle.java_check.specs.declared.tables.Asked.TheVariants.{Bodied, Bare, Public, Hidden, Faced}
+use Rattle.java_check.specs.declared.slots.Found.{Found}
 
 -- the number under which the methods of 64 slots are listed; those without a slot come behind all slots
 abbrev pub batch_place : ℕ → Option ℕ → ℕ
@@ -64,13 +64,13 @@ abbrev pub parent_word : Plain → List ℕ → ℕ → ℕ → ℕ
 parent_word P table none c = option_map_or (λ p. word_at table p.0) (parent_of P c) none
 
 -- the bits of c for what is nearest and not what is asked: of its own, and those of its superclass but where c has what is asked
-pub record IsNearestAt (P : Plain) (table yes no : List ℕ) (none c : ℕ) : Type 0 where
-  pub own : IsWithin (own_at no c) (word_at table c)
-  pub above : IsWithin (parent_word P table none c) (bit_or (word_at table c) (own_at yes c))
+pub record IsNearestAt (P : Plain) (table having lacking : List ℕ) (none c : ℕ) : Type 0 where
+  pub own : IsWithin (own_at lacking c) (word_at table c)
+  pub above : IsWithin (parent_word P table none c) (bit_or (word_at table c) (own_at having c))
 
 -- the bits of c for what stands at or above it
-pub record IsAboveAt (P : Plain) (table own : List ℕ) (c : ℕ) : Type 0 where
-  pub own : IsWithin (own_at own c) (word_at table c)
+pub record IsAboveAt (P : Plain) (table start : List ℕ) (c : ℕ) : Type 0 where
+  pub own : IsWithin (own_at start c) (word_at table c)
   pub parent : IsWithin (parent_word P table 0 c) (word_at table c)
   pub faces : (k : ClassId) → Contains (faces_of P c) k → IsWithin (word_at table k.0) (word_at table c)
 
@@ -78,6 +78,16 @@ pub record IsAboveAt (P : Plain) (table own : List ℕ) (c : ℕ) : Type 0 where
 abbrev pub has_faces : List ℕ → ℕ → List ClassId → Bool
 has_faces table w [] = true
 has_faces table w (k ∷ ks) = is_within (word_at table k.0) w && has_faces table w ks
+
+-- the same two as tests
+abbrev pub is_nearest_at : Plain → List ℕ → List ℕ → List ℕ → ℕ → ℕ → Bool
+is_nearest_at P table having lacking none c =
+    is_within (own_at lacking c) (word_at table c) && is_within (parent_word P table none c) (bit_or (word_at table c) (own_at having c))
+
+abbrev pub is_above_at : Plain → List ℕ → List ℕ → ℕ → Bool
+is_above_at P table start c =
+    is_within (own_at start c) (word_at table c)
+    && (is_within (parent_word P table 0 c) (word_at table c) && has_faces table (word_at table c) (faces_of P c))
 
 -- whether the nearest declaration is what is asked; the same is said of none where there is none
 abbrev pub is_told : Plain → Asked → Bool → Option ℕ → Bool

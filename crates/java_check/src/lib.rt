@@ -4,6 +4,7 @@
 mod callees;
 mod classes;
 mod expressions;
+mod nearest;
 mod order;
 mod programs;
 mod slots;

@@ -1,8 +1,8 @@
 //! An order of the classes and interfaces in which each comes behind those that it names as its supertypes. Nothing is promised of it:
 //! what is filled in by it is tested.
 
+use crate::tables::id_of;
 use java_core::{Class, Program, faces_of, listed_under, note_under, parent_of};
-use kaba_base::ClassId;
 use std::alloc::{AllocError, Global};
 
 /// One number more under each supertype that a class or an interface names.
@@ -12,7 +12,7 @@ fn note_supertypes(
     lists: &mut Vec<Vec<usize>>,
     class: usize,
 ) -> Result<(), AllocError> {
-    let id = ClassId(class as u32);
+    let id = id_of(class);
     if let Some(parent) = parent_of(p, id) {
         note_under(alloc, lists, parent.0 as usize, class)?;
     }
@@ -70,7 +70,11 @@ fn is_ready(left: &mut [usize], class: usize) -> bool {
 }
 
 /// One supertype less is left for each of these classes; those that have none more come next.
-fn put_behind(list: &[usize], left: &mut [usize], order: &mut Vec<usize>) -> Result<(), AllocError> {
+fn put_behind(
+    list: &[usize],
+    left: &mut [usize],
+    order: &mut Vec<usize>,
+) -> Result<(), AllocError> {
     for class in list {
         if is_ready(left, *class) {
             order.push(*class)?;

@@ -10,7 +10,8 @@ ghost use Rattle.java_check.specs.Outcome.{env_in, and_then};
 ghost use Rattle.java_check.specs.ClassOutcome.{class_rule};
 ghost use Rattle.java_check.specs.ProgramOutcome.{classes_answer, body_answer, methods_answer};
 
-use crate::classes::{all_quiet, class_fault};
+use crate::classes::all_quiet;
+use crate::nearest::fault_near;
 use crate::slots::fine_classes;
 use crate::statements::check_stmts;
 use crate::{CheckFault, Kind};
@@ -62,7 +63,7 @@ fn check_classes(alloc: Global, p: &Program) -> Result<(), CheckFault>
     requires { IsFormed (program_of no_place p.now) }
     ensures { result ≡ classes_answer (program_of no_place p.now) 0 (program_of at_place p.now).classes }
 {
-    check_each(p, &p.classes, known_classes(alloc, p))
+    check_each(alloc, p, &p.classes, known_classes(alloc, p))
 }
 
 /// How many of the first classes are known to break no rule.
@@ -89,14 +90,14 @@ fn quiet_classes(p: &Program) -> usize
 }
 
 /// The first rule that one of the classes breaks, each tested but so many first ones that break none.
-fn check_each(p: &Program, classes: &[Class], fine: usize) -> Result<(), CheckFault>
+fn check_each(alloc: Global, p: &Program, classes: &[Class], fine: usize) -> Result<(), CheckFault>
     requires formed { IsFormed (program_of no_place p.now) }
     requires few { length classes.now < 4294967295 }
     requires fine { (c : ℕ) → c < fine → class_rule (program_of no_place p.now) c (program_of no_place p.now).methods ≡ None }
     ensures { result ≡ classes_answer (program_of no_place p.now) 0 (map (class_seen at_place) classes.now) }
 {
     for (i, class) in classes.iter().enumerate() {
-        if let Some(kind) = fault_of(p, ClassId(i as u32), fine) {
+        if let Some(kind) = fault_of(alloc, p, ClassId(i as u32), fine) {
             return Err(CheckFault::IllTyped(kind, class.place));
         }
     }
@@ -104,7 +105,7 @@ fn check_each(p: &Program, classes: &[Class], fine: usize) -> Result<(), CheckFa
 }
 
 /// The rule that a class breaks as a whole, where so many first ones break none.
-fn fault_of(p: &Program, class: ClassId, fine: usize) -> Option<Kind>
+fn fault_of(alloc: Global, p: &Program, class: ClassId, fine: usize) -> Option<Kind>
     requires formed { IsFormed (program_of no_place p.now) }
     requires fine { (c : ℕ) → c < fine → class_rule (program_of no_place p.now) c (program_of no_place p.now).methods ≡ None }
     ensures { result ≡ class_rule (program_of no_place p.now) class.0 (program_of no_place p.now).methods }
@@ -112,7 +113,7 @@ fn fault_of(p: &Program, class: ClassId, fine: usize) -> Option<Kind>
     if (class.0 as usize) < fine {
         return None;
     }
-    class_fault(p, class)
+    fault_near(alloc, p, class)
 }
 
 /// The first rule that fails in the bodies of the methods.

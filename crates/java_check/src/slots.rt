@@ -89,8 +89,26 @@ fn found_for(
     ensures { IfOk result (λ found. AreFound (program_of no_place p.now) batch found) }
 {
     Ok(Found {
-        bare: nearest_table(alloc, p, order, list, batch, Asked::Bodied, Asked::Bare, false)?,
-        hidden: nearest_table(alloc, p, order, list, batch, Asked::Public, Asked::Hidden, true)?,
+        bare: nearest_table(
+            alloc,
+            p,
+            order,
+            list,
+            batch,
+            Asked::Bodied,
+            Asked::Bare,
+            false,
+        )?,
+        hidden: nearest_table(
+            alloc,
+            p,
+            order,
+            list,
+            batch,
+            Asked::Public,
+            Asked::Hidden,
+            true,
+        )?,
         offered: above_table(alloc, p, order, list, batch, Asked::Bare)?,
         faced: above_table(alloc, p, order, list, batch, Asked::Faced)?,
     })

@@ -1,6 +1,6 @@
 //! What the classes and interfaces have of 64 slots, a word for each: bit i is for the slot 64 b + i.
 
-ghost use Rattle.std.specs.Prelude.{◌≡◌, ℕ, ◌+◌, ◌*◌, ◌<◌, ◌≤◌, ◌==◌, ◌&&◌, ◌||◌, not, length, cond, IfOk};
+ghost use Rattle.std.specs.Prelude.{◌≡◌, ℕ, ◌+◌, ◌*◌, ◌<◌, ◌≤◌, ◌==◌, ◌&&◌, ◌||◌, true, not, length, cond, IfOk};
 ghost use Rattle.std.specs.Bool.{OnTrue};
 ghost use Rattle.std.specs.List.{list_any};
 ghost use Rattle.java_core.specs.Trees.{no_place};
@@ -8,7 +8,7 @@ ghost use Rattle.java_core.specs.Programs.{program_of, method_seen, PlainMethod}
 ghost use Rattle.java_core.specs.Classes as classes;
 ghost use Rattle.java_core.specs.Classes.{is_slot};
 ghost use Rattle.java_core.specs.Formed.{IsFormed};
-ghost use Rattle.java_check.specs.SlotOutcome.{bit, is_within, has_faces, full, word_at, own_at, answers, says, AreListed, parent_word, IsNearestAt, IsAboveAt, HasNearest, HasAbove};
+ghost use Rattle.java_check.specs.SlotOutcome.{bit, is_within, has_faces, full, word_at, own_at, answers, says, AreListed, parent_word, is_nearest_at, is_above_at, HasNearest, HasAbove};
 
 use crate::classes::is_interface;
 use java_core::{Method, Program, faces_of, parent_of};
@@ -72,7 +72,11 @@ fn set_method(p: &Program, table: &mut [u64], batch: usize, asked: Asked, at: us
     match p.methods.get(at) {
         Some(method) => {
             if answers(p, asked, method) {
-                set_bits(table, method.owner.0 as usize, slot_word(method.slot, batch));
+                set_bits(
+                    table,
+                    method.owner.0 as usize,
+                    slot_word(method.slot, batch),
+                );
             }
         }
         None => {}
@@ -144,6 +148,14 @@ fn parent_word(p: &Program, table: &[u64], none: u64, class: ClassId) -> u64
     }
 }
 
+/// The class or interface of a number; one that is not there, where the number is too large.
+pub(crate) fn id_of(at: usize) -> ClassId {
+    match u32::try_from(at) {
+        Ok(at) => ClassId(at),
+        Err(_) => ClassId(u32::MAX),
+    }
+}
+
 /// Sets the word of a class.
 fn put(table: &mut [u64], class: usize, word: u64)
     ensures { length table.new ≡ length table.old }
@@ -154,33 +166,63 @@ fn put(table: &mut [u64], class: usize, word: u64)
 }
 
 /// Fills in the bits for what is nearest and not what is asked, in an order.
-fn fill_nearest(p: &Program, order: &[usize], table: &mut [u64], yes: &[u64], no: &[u64], none: u64)
+fn fill_nearest(p: &Program, order: &[usize], table: &mut [u64], having: &[u64], lacking: &[u64], none: u64)
     ensures { length table.new ≡ length table.old }
 {
     for at in order {
-        let class = ClassId(*at as u32);
+        let class = id_of(*at);
         let above = parent_word(p, table, none, class);
-        put(table, *at, own_at(no, class) | (above & !own_at(yes, class)));
+        put(
+            table,
+            *at,
+            own_at(lacking, class) | (above & !own_at(having, class)),
+        );
     }
 }
 
+/// A table that is filled in so; `AllocError` where memory is short.
+fn filled_nearest(
+    alloc: Global,
+    p: &Program,
+    order: &[usize],
+    having: &[u64],
+    lacking: &[u64],
+    none: u64,
+) -> Result<Vec<u64>, AllocError>
+    ensures { IfOk result (λ t. length t.items ≡ length p.now.classes.items) }
+{
+    let mut table = vec![in alloc; 0u64; p.classes.len()]?;
+    fill_nearest(p, order, &mut table, having, lacking, none);
+    Ok(table)
+}
+
 /// Whether the word of a class is right where that of its superclass is.
-fn is_nearest_at(p: &Program, table: &[u64], yes: &[u64], no: &[u64], none: u64, class: ClassId) -> bool
-    ensures { OnTrue result (IsNearestAt (program_of no_place p.now) table.now yes.now no.now none class.0) }
+fn is_nearest_at(
+    p: &Program,
+    table: &[u64],
+    having: &[u64],
+    lacking: &[u64],
+    none: u64,
+    class: ClassId,
+) -> bool
+    ensures { result ≡ is_nearest_at (program_of no_place p.now) table.now having.now lacking.now none class.0 }
 {
     let word = word_at(table, class);
-    is_within(own_at(no, class), word)
-        && is_within(parent_word(p, table, none, class), word | own_at(yes, class))
+    is_within(own_at(lacking, class), word)
+        && is_within(
+            parent_word(p, table, none, class),
+            word | own_at(having, class),
+        )
 }
 
 /// Whether each word is.
-fn is_nearest(p: &Program, table: &[u64], yes: &[u64], no: &[u64], none: u64) -> bool
+fn is_nearest(p: &Program, table: &[u64], having: &[u64], lacking: &[u64], none: u64) -> bool
     requires formed { IsFormed (program_of no_place p.now) }
     requires few { length table.now ≤ length p.now.classes.items }
-    ensures { OnTrue result ((c : ℕ) → IsNearestAt (program_of no_place p.now) table.now yes.now no.now none c) }
+    ensures { OnTrue result ((c : ℕ) → c < length table.now → is_nearest_at (program_of no_place p.now) table.now having.now lacking.now none c ≡ true) }
 {
     for class in 0..table.len() {
-        if !is_nearest_at(p, table, yes, no, none, ClassId(class as u32)) {
+        if !is_nearest_at(p, table, having, lacking, none, ClassId(class as u32)) {
             return false;
         }
     }
@@ -210,11 +252,10 @@ pub(crate) fn nearest_table(
     requires other { (k : PlainMethod) → answers (program_of no_place p.now) other k ≡ not (answers (program_of no_place p.now) asked k) }
     ensures { IfOk result (λ t. HasNearest (program_of no_place p.now) asked none batch t.items) }
 {
-    let yes = own_table(alloc, p, list, batch, asked)?;
-    let no = own_table(alloc, p, list, batch, other)?;
-    let mut table = vec![in alloc; 0u64; p.classes.len()]?;
-    fill_nearest(p, order, &mut table, &yes, &no, base_word(none));
-    if is_nearest(p, &table, &yes, &no, base_word(none)) {
+    let having = own_table(alloc, p, list, batch, asked)?;
+    let lacking = own_table(alloc, p, list, batch, other)?;
+    let table = filled_nearest(alloc, p, order, &having, &lacking, base_word(none))?;
+    if is_nearest(p, &table, &having, &lacking, base_word(none)) {
         return Ok(table);
     }
     Ok(Vec::new(alloc))
@@ -234,11 +275,25 @@ fn fill_above(p: &Program, order: &[usize], table: &mut [u64], own: &[u64])
     ensures { length table.new ≡ length table.old }
 {
     for at in order {
-        let class = ClassId(*at as u32);
+        let class = id_of(*at);
         let word = own_at(own, class) | parent_word(p, table, 0, class);
         let word = with_faces(table, faces_of(p, class), word);
         put(table, *at, word);
     }
+}
+
+/// A table that is filled in so; `AllocError` where memory is short.
+fn filled_above(
+    alloc: Global,
+    p: &Program,
+    order: &[usize],
+    own: &[u64],
+) -> Result<Vec<u64>, AllocError>
+    ensures { IfOk result (λ t. length t.items ≡ length p.now.classes.items) }
+{
+    let mut table = vec![in alloc; 0u64; p.classes.len()]?;
+    fill_above(p, order, &mut table, own);
+    Ok(table)
 }
 
 /// Whether a word has the bits of these interfaces.
@@ -255,19 +310,19 @@ fn has_faces(table: &[u64], faces: &[ClassId], word: u64) -> bool
 
 /// Whether the word of a class is right where those of its supertypes are.
 fn is_above_at(p: &Program, table: &[u64], own: &[u64], class: ClassId) -> bool
-    ensures { OnTrue result (IsAboveAt (program_of no_place p.now) table.now own.now class.0) }
+    ensures { result ≡ is_above_at (program_of no_place p.now) table.now own.now class.0 }
 {
     let word = word_at(table, class);
     is_within(own_at(own, class), word)
-        && is_within(parent_word(p, table, 0, class), word)
-        && has_faces(table, faces_of(p, class), word)
+        && (is_within(parent_word(p, table, 0, class), word)
+            && has_faces(table, faces_of(p, class), word))
 }
 
 /// Whether each word is.
 fn is_above(p: &Program, table: &[u64], own: &[u64]) -> bool
     requires formed { IsFormed (program_of no_place p.now) }
     requires few { length table.now ≤ length p.now.classes.items }
-    ensures { OnTrue result ((c : ℕ) → IsAboveAt (program_of no_place p.now) table.now own.now c) }
+    ensures { OnTrue result ((c : ℕ) → c < length table.now → is_above_at (program_of no_place p.now) table.now own.now c ≡ true) }
 {
     for class in 0..table.len() {
         if !is_above_at(p, table, own, ClassId(class as u32)) {
@@ -291,8 +346,7 @@ pub(crate) fn above_table(
     ensures { IfOk result (λ t. HasAbove (program_of no_place p.now) asked batch t.items) }
 {
     let own = own_table(alloc, p, list, batch, asked)?;
-    let mut table = vec![in alloc; 0u64; p.classes.len()]?;
-    fill_above(p, order, &mut table, &own);
+    let table = filled_above(alloc, p, order, &own)?;
     if is_above(p, &table, &own) {
         return Ok(table);
     }
