@@ -1,5 +1,5 @@
 -- A class that is clear by the tables of each 64 slots breaks no rule as a whole.
-use Rattle.std.proofs.Common.{◌≡◌, ◌==◌, ◌&&◌, ◌||◌, ◌∷◌, ℕ, zero, suc, ◌+◌, ◌*◌, ◌/◌, ◌%◌, ◌<◌, Bool, true, false, not, List, [], Option, Some, None, Contains, length, map, refl, sym, ap, ◌∙◌, subst, arith, ⊎_elim, slice_get}
+use Rattle.std.proofs.Common.{◌≡◌, ◌==◌, ◌&&◌, ◌||◌, ◌∷◌, ℕ, zero, suc, ◌+◌, ◌*◌, ◌/◌, ◌%◌, ◌<◌, Bool, true, false, not, cond, List, [], Option, Some, None, Contains, length, map, refl, sym, ap, ◌∙◌, subst, arith, ⊎_elim, slice_get}
 use Rattle.std.specs.Option.{option_map, option_map_or, is_some}
 use Rattle.std.specs.declared.vec.Vec.{Vec}
 use Rattle.std.specs.declared.alloc.Global.{Global}
@@ -98,40 +98,44 @@ module _ (P : Plain) where
 
   module _ (b : ℕ) (found : Found) (are : AreFound P b found) (c m i : ℕ) (k : PlainMethod) (at : slice_get P.methods m ≡ Some k) (lt : i < 64)
       (slot : k.slot ≡ Some (64 * b + i)) (bare : is_some k.body ≡ false) (up : below P c k.owner ≡ true) where
-    s : ℕ
+    abbrev s : ℕ
     s = 64 * b + i
 
     -- what stands above is not nearest where the words are apart
     told : (q : Asked) (none : Bool) (above table : List ℕ) → HasNearest P q none b table → bit (word_at above c) i ≡ true
         → are_apart (word_at above c) (word_at table c) ≡ true → is_told P q none (nearest_declaration P c s) ≡ true
-    unfolding s
     told q none above table near set apart = go (is_told P q none (nearest_declaration P c (64 * b + i))) refl
       where
         go : (x : Bool) → is_told P q none (nearest_declaration P c (64 * b + i)) ≡ x → is_told P q none (nearest_declaration P c (64 * b + i)) ≡ true
         go true e = e
         go false e = absurd (false≢true (sym (apart-bit (word_at above c) (word_at table c) i apart set) ∙ near c i lt e))
 
-    con int own bod pub_near : Bool
+    abbrev con : Bool
     con = is_concrete P c
+
+    abbrev int : Bool
     int = is_interface P c
+
+    abbrev own : Bool
     own = is_interface P k.owner
-    bod = option_map_or (has_body P) (nearest_declaration P c s) false
-    pub_near = is_public_method P (nearest_declaration P c s)
+
+    abbrev bod : Bool
+    bod = option_map_or (has_body P) (nearest_declaration P c (64 * b + i)) false
+
+    abbrev pub_near : Bool
+    pub_near = is_public_method P (nearest_declaration P c (64 * b + i))
 
     has_body_where : (are_apart (word_at found.offered.items c) (word_at found.bare.items c)) ≡ true → bod ≡ true
-    unfolding bod s
     has_body_where apart =
         sym (body_told (nearest_declaration P c (64 * b + i)))
         ∙ told Bodied false found.offered.items found.bare.items are.bare (are.offered c i m k lt at slot (ap not bare) up) apart
 
     is_shown_where : (are_apart (word_at found.faced.items c) (word_at found.hidden.items c)) ≡ true → own ≡ true → pub_near ≡ true
-    unfolding own pub_near s
     is_shown_where apart e =
         sym (public_told (nearest_declaration P c (64 * b + i)))
         ∙ told Public true found.faced.items found.hidden.items are.hidden (are.faced c i m k lt at slot (rw (e, bare) refl) up) apart
 
     of_class : int ≡ false → is_clear P found c ≡ true → first_rule (con && not bod) (not int && (own && not pub_near)) ≡ None
-    unfolding con int
     of_class e clear =
         let parts = and_parts (not con || are_apart (word_at found.offered.items c) (word_at found.bare.items c))
         (are_apart (word_at found.faced.items c) (word_at found.hidden.items c)) (or_told (is_interface P c) _ clear e) in
@@ -147,11 +151,9 @@ module _ (P : Plain) where
         shown true f h = rw (is_shown_where h f) refl
 
     of_interface : int ≡ true → first_rule (con && not bod) (not int && (own && not pub_near)) ≡ None
-    unfolding con int
     of_interface e = rw (e, no_objects c e) refl
 
     clear_below : is_clear P found c ≡ true → below_rule P c k.owner s true ≡ None
-    unfolding con int own bod pub_near
     clear_below clear = go (is_interface P c) refl
       where
         go : (x : Bool) → is_interface P c ≡ x → below_rule P c k.owner s true ≡ None

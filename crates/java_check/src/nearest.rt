@@ -1,6 +1,6 @@
 //! The rule that a class breaks as a whole, with the nearest declaration of each slot found by one walk upwards.
 
-ghost use Rattle.std.specs.Prelude.{◌≡◌, ℕ, ◌<◌, ◌∷◌, [], Some, None, cond, length, map, IfOk};
+ghost use Rattle.std.specs.Prelude.{◌≡◌, ℕ, ◌<◌, ◌∷◌, [], Some, None, false, cond, length, map, IfOk};
 ghost use Rattle.std.specs.Option.{option_and_then, option_map_or};
 ghost use Rattle.java_core.specs.Trees.{no_place};
 ghost use Rattle.java_core.specs.Programs.{program_of, method_seen};

@@ -181,7 +181,8 @@ fn fine_for_all(
 {
     let mut until = p.classes.len();
     for batch in 0..p.slots.len() / 64 + 1 {
-        until = fine_for(alloc, p, order, listed_under(lists, batch), batch, until)?;
+        let fine = fine_for(alloc, p, order, listed_under(lists, batch), batch, until)?;
+        until = fine;
     }
     Ok(until)
 }
@@ -193,5 +194,6 @@ pub(crate) fn fine_classes(alloc: Global, p: &Program) -> Result<usize, AllocErr
 {
     let order = order_of(alloc, p)?;
     let lists = methods_of_batches(alloc, p.slots.len(), &p.methods)?;
-    fine_for_all(alloc, p, &order, &lists)
+    let fine = fine_for_all(alloc, p, &order, &lists)?;
+    Ok(fine)
 }
