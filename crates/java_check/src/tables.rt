@@ -166,7 +166,14 @@ fn put(table: &mut [u64], class: usize, word: u64)
 }
 
 /// Fills in the bits for what is nearest and not what is asked, in an order.
-fn fill_nearest(p: &Program, order: &[usize], table: &mut [u64], having: &[u64], lacking: &[u64], none: u64)
+fn fill_nearest(
+    p: &Program,
+    order: &[usize],
+    table: &mut [u64],
+    having: &[u64],
+    lacking: &[u64],
+    none: u64,
+)
     ensures { length table.new ≡ length table.old }
 {
     for at in order {
