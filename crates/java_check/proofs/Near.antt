@@ -1,5 +1,5 @@
 -- What is kept on a walk upwards from a class is what is nearest to it.
-use Rattle.std.proofs.Common.{◌≡◌, ◌==◌, ◌&&◌, ℕ, zero, suc, ◌+◌, ◌<◌, Bool, true, false, List, [], ◌∷◌, length, map, drop, drop-cons, add-one, Option, Some, None, refl, sym, ap, ◌∙◌, arith, slice_get, slice_index_or}
+use Rattle.std.proofs.Common.{◌≡◌, ◌==◌, ℕ, zero, suc, ◌+◌, ◌<◌, Bool, true, false, List, [], ◌∷◌, length, map, drop, drop-cons, add-one, Option, Some, None, refl, sym, ap, ◌∙◌, arith, slice_get, slice_index_or}
 use Rattle.std.specs.Prelude.{if◌then◌else◌}
 use Rattle.std.specs.Option.{option_and_then}
 use Rattle.std.specs.declared.vec.Vec.{Vec}
@@ -11,7 +11,7 @@ use Rattle.java_core.specs.declared.Method.{Method}
 use Rattle.java_core.specs.declared.Program.{Program}
 use Rattle.java_core.specs.Trees.{no_place}
 use Rattle.java_core.specs.Programs.{Plain, PlainMethod, program_of, method_seen, class_seen}
-use Rattle.java_core.specs.Owned.{AreOwned, listed, owned_from, passes, first_among}
+use Rattle.java_core.specs.Owned.{AreOwned, listed, owned_from, passes}
 use Rattle.java_core.specs.Classes.{parent_of, first_or, nearest, is_slot, has_slot, own_declaration, nearest_declaration}
 use Rattle.java_core.proofs.OwnedLemmas.{own-position}
 use Rattle.java_check.specs.NearOutcome.{method_owner, declared_among, own_of, found_in}
@@ -67,7 +67,8 @@ unfolding nearest_declaration
 walked p class s =
     let all : length p.classes.items + 1 ≡ suc (length p.classes.items) = omega arith in
     let P = program_of no_place p in
-    ap (λ n. found_in P s n (Some class)) all ∙ ap (λ n. nearest P (λ k. own_declaration P k s) n class.0) (sym (length-map p.classes.items (class_seen no_place)))
+    ap (λ n. found_in P s n (Some class)) all ∙ ap (λ n. nearest P (λ k. own_declaration P k s) n class.0)
+    (sym (length-map p.classes.items (class_seen no_place)))
 
 pub owners_seen : (xs : List Method) → map (λ (k : PlainMethod). k.owner) (map (method_seen no_place) xs) ≡ map (λ m. method_owner m) xs
 owners_seen [] = refl

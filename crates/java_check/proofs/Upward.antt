@@ -1,17 +1,17 @@
 -- What the words of the classes tell where each is right by those of its supertypes.
-use Rattle.std.proofs.Common.{◌≡◌, ◌==◌, ◌&&◌, ◌||◌, ℕ, zero, suc, ◌+◌, ◌*◌, ◌<◌, ◌≤◌, Bool, true, false, not, cond, List, [], ◌∷◌, length, Contains, Option, Some, None, refl, sym, ap, ◌∙◌, subst, arith, ⊎_elim, slice_get, get_or}
+use Rattle.std.proofs.Common.{◌≡◌, ◌==◌, ◌&&◌, ◌||◌, ℕ, zero, suc, ◌+◌, ◌*◌, ◌<◌, ◌≤◌, Bool, true, false, not, cond, List, [], ◌∷◌, length, Contains, Option, Some, None, refl, sym, ap, ◌∙◌, subst, arith, ⊎_elim, slice_get}
 use Rattle.std.specs.Prelude.{bit_or}
-use Rattle.std.specs.Option.{option_map_or, option_and_then, is_some}
+use Rattle.std.specs.Option.{option_map_or, option_and_then}
 use Rattle.std.specs.List.{list_any}
 use Rattle.std.proofs.lemmas.Bool.{and_parts, eq-eqb, eqb-true, false≢true, cases_lt}
 use Rattle.std.proofs.lemmas.List.{get_or_past, length-map}
 use Rattle.std.proofs.lemmas.List.Folds.{Any-from_list_any, list_any-from_Any}
-use Rattle.std.proofs.lemmas.Option.{same_Some, slice_get_within}
+use Rattle.std.proofs.lemmas.Option.{slice_get_within}
 use Rattle.kaba_base.specs.declared.ClassId.{ClassId}
 use Rattle.java_core.specs.declared.Program.{Program}
 use Rattle.java_core.specs.Trees.{no_place}
 use Rattle.java_core.specs.Programs.{Plain, PlainMethod, program_of, class_seen}
-use Rattle.java_core.specs.Classes.{parent_of, faces_of, supers_of, IsSubclass, same_class, through, first_or, nearest, is_slot, has_slot, own_declaration, nearest_declaration, below}
+use Rattle.java_core.specs.Classes.{parent_of, faces_of, IsSubclass, same_class, through, first_or, nearest, is_slot, has_slot, own_declaration, nearest_declaration, below}
 use Rattle.java_core.specs.Formed.{IsFormed}
 use Rattle.java_core.proofs.Subclasses.{ArePassed, one_left, passed_more, none_passed, parent-super, below-subclass}
 use Rattle.java_core.proofs.Upwards.{contains_cases, super_cases}
@@ -35,7 +35,8 @@ module _ (P : Plain) where
   pub nearest_past : (table having lacking : List ℕ) (none c : ℕ) → length table ≤ c → IsNearestAt P table having lacking none c
   nearest_past table having lacking none c past = record {
     own = subst (IsWithin (own_at lacking c)) (sym (word_past table c past)) (within-full (own_at lacking c));
-    above = λ i lt h. bit-or (word_at table c) (own_at having c) i ∙ ap (λ w. bit w i || bit (own_at having c) i) (word_past table c past) ∙ ap (λ x. x || bit (own_at having c) i) (bit-full i lt);
+    above = λ i lt h. bit-or (word_at table c) (own_at having c) i ∙ ap (λ w. bit w i || bit (own_at having c) i) (word_past table c past)
+        ∙ ap (λ x. x || bit (own_at having c) i) (bit-full i lt);
   }
 
   pub above_past : (table own : List ℕ) (c : ℕ) → length table ≤ c → IsAboveAt P table own c
@@ -61,9 +62,14 @@ module _ (P : Plain) where
       → (c : ℕ) → IsNearestAt P table having lacking none c
   nearest_all table having lacking none checked c =
       ⊎_elim
-      (λ lt. let parts = and_parts (is_within (own_at lacking c) (word_at table c)) (is_within (parent_word P table none c) (bit_or (word_at table c) (own_at having c)))
+      (λ lt. let parts = and_parts (is_within (own_at lacking c) (word_at table c))
+      (is_within (parent_word P table none c) (bit_or (word_at table c) (own_at having c)))
       (checked c lt) in
-      record { own = within-bits (own_at lacking c) (word_at table c) parts.0; above = within-bits (parent_word P table none c) (bit_or (word_at table c) (own_at having c)) parts.1 })
+      record {
+        own = within-bits (own_at lacking c) (word_at table c) parts.0;
+        above = within-bits (parent_word P table none c)
+            (bit_or (word_at table c) (own_at having c)) parts.1;
+      })
       (λ past. nearest_past table having lacking none c past)
       (cases_lt c (length table))
 
@@ -119,7 +125,8 @@ module _ (P : Plain) where
       pub IsOwn : Asked → List ℕ → Type 0
       IsOwn q own = (c : ℕ) → c < length P.classes → bit (own_at own c) i ≡ list_any (λ m. says P q c s m) ms
 
-      own_none : (q : Asked) (own : List ℕ) → length own ≡ length P.classes → IsOwn q own → (c : ℕ) → own_declaration P c s ≡ None → bit (own_at own c) i ≡ false
+      own_none : (q : Asked) (own : List ℕ) → length own ≡ length P.classes → IsOwn q own → (c : ℕ) → own_declaration P c s ≡ None
+          → bit (own_at own c) i ≡ false
       unfolding IsOwn s
       own_none q own len bits c none =
           ⊎_elim (λ within. bits c within ∙ says_none q c s ms none) (λ past. own_past own c i (omega (arith, len, past))) (cases_lt c (length P.classes))
@@ -151,9 +158,11 @@ module _ (P : Plain) where
             (own_none q having len has c e)
 
         top : (c : ℕ) → own_declaration P c s ≡ None → parent_of P c ≡ None → none ≡ false → bit (word_at table c) i ≡ true
-        top c e p n = up c e (ap (λ o. bit (option_map_or (λ p. word_at table p.0) o (cond none 0 full)) i) p ∙ (ap (λ x. bit (cond x 0 full) i) n ∙ bit-full i lt))
+        top c e p n = up c e (ap (λ o. bit (option_map_or (λ p. word_at table p.0) o (cond none 0 full)) i) p
+            ∙ (ap (λ x. bit (cond x 0 full) i) n ∙ bit-full i lt))
 
-        parent : (c : ℕ) (p : ClassId) → own_declaration P c s ≡ None → parent_of P c ≡ Some p → bit (word_at table p.0) i ≡ true → bit (word_at table c) i ≡ true
+        parent : (c : ℕ) (p : ClassId) → own_declaration P c s ≡ None → parent_of P c ≡ Some p → bit (word_at table p.0) i ≡ true
+            → bit (word_at table c) i ≡ true
         parent c p e at h = up c e (ap (λ o. bit (option_map_or (λ p. word_at table p.0) o (cond none 0 full)) i) at ∙ h)
 
         abbrev near : ℕ → ℕ → Option ℕ

@@ -69,8 +69,10 @@ pub bits_set : (table : List ℕ) (k w : ℕ) → k < length table → (c i : �
     → bit (own_at (set table k (bit_or (own_at table k) w)) c) i ≡ (bit (own_at table c) i || ((k == c) && bit w i))
 bits_set table k w lt c i =
     ⊎_elim
-    (λ (e : c ≡ k). ap (λ n. bit (own_at (set table k (bit_or (own_at table k) w)) n) i) e ∙ (ap (λ x. bit x i) (get_or-set_same table k (bit_or (own_at table k) w) 0 lt)
-    ∙ (bit-or (own_at table k) w i ∙ (ap (λ n. bit (own_at table n) i || bit w i) (sym e) ∙ ap (λ x. bit (own_at table c) i || (x && bit w i)) (sym (eq-eqb k c (sym e)))))))
+    (λ (e : c ≡ k). ap (λ n. bit (own_at (set table k (bit_or (own_at table k) w)) n) i) e
+    ∙ (ap (λ x. bit x i) (get_or-set_same table k (bit_or (own_at table k) w) 0 lt)
+    ∙ (bit-or (own_at table k) w i ∙ (ap (λ n. bit (own_at table n) i || bit w i) (sym e) ∙ ap (λ x. bit (own_at table c) i || (x && bit w i))
+    (sym (eq-eqb k c (sym e)))))))
     (λ (ne : c ≢ k). ap (λ x. bit x i) (get_or-set_other table k c (bit_or (own_at table k) w) 0 ne)
     ∙ (or_false (bit (own_at table c) i) ∙ ap (λ x. bit (own_at table c) i || (x && bit w i)) (sym (ne_eqb k c (λ e. ne (sym e))))))
     (cases_eq c k)

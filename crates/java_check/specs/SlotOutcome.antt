@@ -1,5 +1,5 @@
 -- What is answered of the classes for 64 slots at a time: bit i of the word of a class is for the slot 64 b + i.
-use Rattle.std.specs.Prelude.{◌≡◌, ℕ, ◌+◌, ◌*◌, ◌/◌, ◌<◌, ◌==◌, ◌&&◌, ◌||◌, Bool, true, false, not, List, [], ◌∷◌, Contains, Option, Some, None, slice_get, slice_index_or, bit_or, bit_and, if◌then◌else◌}
+use Rattle.std.specs.Prelude.{◌≡◌, ℕ, ◌+◌, ◌*◌, ◌/◌, ◌<◌, ◌==◌, ◌&&◌, ◌||◌, Bool, true, false, not, List, [], ◌∷◌, Contains, Option, Some, None, slice_get, slice_index_or, bit_or, bit_and}
 use Rattle.std.specs.Option.{option_map_or, is_some}
 use Rattle.std.specs.Int.{bit_at}
 use Rattle.kaba_base.specs.declared.ClassId.{ClassId}
@@ -122,7 +122,8 @@ is_clear P found c =
 
 -- c breaks no rule for a method of the 64 slots that has no body
 abbrev pub IsFineFor : Plain → ℕ → ℕ → Type 0
-IsFineFor P b c = (m i : ℕ) (k : PlainMethod) → slice_get P.methods m ≡ Some k → i < 64 → k.slot ≡ Some (64 * b + i) → is_some k.body ≡ false → method_rule P c k ≡ None
+IsFineFor P b c = (m i : ℕ) (k : PlainMethod) → slice_get P.methods m ≡ Some k → i < 64 → k.slot ≡ Some (64 * b + i) → is_some k.body ≡ false
+    → method_rule P c k ≡ None
 
 -- whether a method has no body, and whether one of these has none
 abbrev pub is_bare : Plain → ℕ → Bool

@@ -1,4 +1,4 @@
-use Rattle.std.proofs.Common.{rules, ◌≡◌, ◌+◌, ◌-◌, ◌≤◌, suc, Some, length, sym, ap, ◌∙◌, arith, vec_len}
+use Rattle.std.proofs.Common.{rules, ◌≡◌, ◌+◌, ◌-◌, suc, length, sym, ap, ◌∙◌, arith, vec_len}
 use Rattle.java_core.specs.Trees.{no_place}
 use Rattle.java_core.specs.Programs.{program_of}
 use Rattle.java_core.specs.Classes.{first_or}

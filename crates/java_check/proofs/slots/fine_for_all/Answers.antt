@@ -1,4 +1,4 @@
-use Rattle.std.proofs.Common.{rules, ◌≡◌, ◌+◌, ◌/◌, ◌<◌, ◌≤◌, length, sym, ◌∙◌, subst, ⊎_elim, arith, vec_len}
+use Rattle.std.proofs.Common.{rules, ◌≡◌, length, sym, ◌∙◌, subst, ⊎_elim, arith, vec_len}
 use Rattle.std.proofs.lemmas.Bool.{cases_lt}
 use Rattle.java_core.specs.Trees.{no_place}
 use Rattle.java_core.specs.Programs.{program_of}

@@ -8,7 +8,9 @@ use Rattle.java_check.proofs.tables.is_nearest.Goals as goal
 pub loop-class-preserved : goal.loop-class-preserved
 loop-class-preserved c = λ k lt.
     let P = program_of no_place c.args.p.now in
-    let right : is_nearest_at P c.args.table.now c.args.having.now c.args.lacking.now c.args.none c.loop-class.class ≡ true = sym c.is_nearest_at.ensures ∙ c.if-not-is_nearest_at.false in
+    let right : is_nearest_at P c.args.table.now c.args.having.now c.args.lacking.now c.args.none c.loop-class.class
+    ≡ true = sym c.is_nearest_at.ensures ∙ c.if-not-is_nearest_at.false in
     ⊎_elim (λ less. c.loop-class.invariant k less)
-    (λ more. let same : c.loop-class.class ≡ k = omega (arith, lt, more) in subst (λ i. is_nearest_at P c.args.table.now c.args.having.now c.args.lacking.now c.args.none i ≡ true) same right)
+    (λ more. let same : c.loop-class.class ≡ k = omega (arith, lt, more) in subst (λ i. is_nearest_at P c.args.table.now c.args.having.now
+    c.args.lacking.now c.args.none i ≡ true) same right)
     (cases_lt k c.loop-class.class)

@@ -6,7 +6,8 @@ use Rattle.java_check.proofs.Upward.{nearest_found, nearest_empty}
 use Rattle.java_check.proofs.tables.nearest_table.Goals as goal
 
 pub returns : goal.returns
-returns c = let e : c.new.result.items ≡ [] = search rules in nearest_empty (program_of no_place c.args.p.now) c.args.asked c.args.none c.args.batch c.new.result.items e
+returns c = let e : c.new.result.items ≡ [] = search rules in nearest_empty (program_of no_place c.args.p.now) c.args.asked c.args.none c.args.batch
+    c.new.result.items e
 
 pub returns-then-is_nearest : goal.returns-then-is_nearest
 returns-then-is_nearest c =

@@ -1,6 +1,6 @@
-use Rattle.std.proofs.Common.{◌≡◌, ◌∙◌, ◌+◌, ◌*◌, ◌%◌, ◌<◌, sym, ap, arith}
+use Rattle.std.proofs.Common.{◌∙◌, ◌+◌, ◌*◌, ◌%◌, ◌<◌, sym, ap, arith}
 use Rattle.java_core.specs.Classes.{is_slot}
-use Rattle.java_check.proofs.Words.{bit-one, slot-here, slot-other, bit-zero}
+use Rattle.java_check.proofs.Words.{bit-one, slot-here}
 use Rattle.java_check.proofs.tables.slot_word.Goals as goal
 
 pub returns-in-Some : goal.returns-in-Some
