@@ -136,6 +136,27 @@ def many_faces(count):
     return text + f"class C implements {', '.join(f'I{n}' for n in range(count))} {{\n{bodies(count)}}}\n" + main()
 
 
+def one_slot(count):
+    """So many interfaces with a method of one slot, a class with its body, and as many classes in a chain below it."""
+    text = "".join(f"interface I{n} {{\n  void m();\n}}\n" for n in range(count))
+    text += f"class C0 implements {', '.join(f'I{n}' for n in range(count))} {{\n  public void m() {{\n  }}\n}}\n"
+    return text + "".join(f"class C{n} extends C{n - 1} {{\n}}\n" for n in range(1, count)) + main()
+
+
+def one_slot_upwards(count):
+    """The same with each class before the one that it extends, and the interfaces last."""
+    text = "".join(f"class C{n} extends C{n - 1} {{\n}}\n" for n in range(count - 1, 0, -1))
+    text += f"class C0 implements {', '.join(f'I{n}' for n in range(count))} {{\n  public void m() {{\n  }}\n}}\n"
+    return text + "".join(f"interface I{n} {{\n  void m();\n}}\n" for n in range(count)) + main()
+
+
+def by_turns(count):
+    """An interface with so many methods, an abstract class that declares every other again, and as many abstract classes in a chain below it."""
+    again = "".join(f"  public abstract void m{n}();\n" for n in range(0, count, 2))
+    text = f"interface I {{\n{bare(count)}}}\nabstract class C0 implements I {{\n{again}}}\n"
+    return text + "".join(f"abstract class C{n} extends C{n - 1} {{\n}}\n" for n in range(1, count)) + main()
+
+
 # The shape, its sizes, and the seconds and megabytes that the greatest may take until it is checked.
 SHAPES = [
     ("classes in a chain", chain, (1000, 2000, 4000, 8000)),
@@ -157,5 +178,8 @@ SHAPES = [
     ("methods of an interface, their bodies, and classes in a chain below them", concrete_chain, (1250, 2500, 5000, 10000)),
     ("methods of an interface beside as many classes", aside, (2500, 5000, 10000, 20000)),
     ("interfaces with a method each, and a class with the bodies", many_faces, (1250, 2500, 5000, 10000)),
+    ("interfaces with a method of one slot, its body, and classes in a chain below it", one_slot, (1600, 3200, 6400, 12800)),
+    ("the same with each class before the one that it extends", one_slot_upwards, (1600, 3200, 6400, 12800)),
+    ("methods of an interface, every other declared again, and abstract classes in a chain below it", by_turns, (1600, 3200, 6400, 12800)),
 ]
 SECONDS, MEGABYTES, STACK = 5, 500, 256 << 10

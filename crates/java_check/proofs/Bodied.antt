@@ -44,7 +44,8 @@ class_quiet : (P : Plain) (c : ℕ) (ks : List PlainMethod) → c < length P.cla
 class_quiet P c [] lt all = refl
 class_quiet P c (k ∷ ks) lt all =
     let parts = and_parts (is_some k.body || is_kept P k 0 P.classes) (all_quiet P ks) all in
-    both (or_step (is_some k.body) parts.0 (λ kept. subst (λ i. not (is_some (method_rule P i k)) ≡ true) (let z : 0 + c ≡ c = omega arith in z) (each_kept P k 0 P.classes kept c lt))) (class_quiet P c ks lt parts.1)
+    both (or_step (is_some k.body) parts.0 (λ kept. subst (λ i. not (is_some (method_rule P i k)) ≡ true) (let z : 0 + c ≡ c = omega arith in z)
+    (each_kept P k 0 P.classes kept c lt))) (class_quiet P c ks lt parts.1)
   where
     or_step : (b : Bool) {x y : Bool} → b || x ≡ true → (x ≡ true → y ≡ true) → b || y ≡ true
     or_step true h f = refl
@@ -80,7 +81,8 @@ module _ (P : Plain) (formed : IsFormed P) where
         go true h = absurd (false≢true h)
 
     -- so it has a body where it finds a declaration
-    concrete_bodied : (s d : ℕ) → nearest_declaration P c s ≡ Some d → IsAbove P (λ x. own_declaration P x s) c d → is_concrete P c && not (has_body P d) ≡ false
+    concrete_bodied : (s d : ℕ) → nearest_declaration P c s ≡ Some d → IsAbove P (λ x. own_declaration P x s) c d
+        → is_concrete P c && not (has_body P d) ≡ false
     concrete_bodied s d near held = go (is_concrete P c && not (has_body P d)) refl
       where
         broken : (k : PlainMethod) → method_rule P c k ≡ None → is_some (method_rule P c k) ≡ true → ⊥

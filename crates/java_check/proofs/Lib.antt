@@ -8,6 +8,7 @@ pub mod Forms
 pub mod JudgedClasses
 pub mod JudgedPrograms
 pub mod Bodied
-pub mod Slotted
+pub mod Words
+pub mod Upward
 pub mod Fine
-pub mod Same
+pub mod Near

@@ -6,3 +6,4 @@ pub mod Size
 pub mod ClassOutcome
 pub mod ProgramOutcome
 pub mod SlotOutcome
+pub mod NearOutcome

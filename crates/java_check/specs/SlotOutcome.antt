@@ -1,135 +1,134 @@
--- What is answered of a class and the methods of one slot.
-use Rattle.std.specs.Prelude.{ℕ, ◌==◌, ◌&&◌, ◌||◌, nat_le, Bool, true, false, not, List, [], ◌∷◌, length, Option, Some, None, slice_get, if◌then◌else◌}
-use Rattle.std.specs.Option.{is_some}
+-- What is answered of the classes for 64 slots at a time: bit i of the word of a class is for the slot 64 b + i.
+use Rattle.std.specs.Prelude.{◌≡◌, ℕ, ◌+◌, ◌*◌, ◌/◌, ◌<◌, ◌==◌, ◌&&◌, ◌||◌, Bool, true, false, not, List, [], ◌∷◌, Contains, Option, Some, None, slice_get, slice_index_or, bit_or, bit_and}
+use Rattle.std.specs.Option.{option_map_or, is_some}
+use Rattle.std.specs.Int.{bit_at}
+use Rattle.kaba_base.specs.declared.ClassId.{ClassId}
 use Rattle.java_core.specs.declared.Method.{Method}
 use Rattle.java_core.specs.Programs.{Plain, PlainMethod}
-use Rattle.java_core.specs.Classes.{below, is_concrete, is_interface}
+use Rattle.java_core.specs.Classes.{parent_of, faces_of, has_slot, below, nearest_declaration, is_concrete, is_interface}
 use Rattle.java_check.specs.ClassOutcome.{method_rule}
+use Rattle.java_check.specs.declared.tables.Asked.{Asked}
+use Rattle.java_check.specs.declared.tables.Asked.TheVariants.{Bodied, Bare, Public, Hidden, Faced}
+use Rattle.java_check.specs.declared.slots.Found.{Found}
 
--- the number under which the methods of a slot are listed; those without one come behind so many slots
-abbrev pub slot_place : ℕ → Option ℕ → ℕ
-slot_place slots None = slots
-slot_place slots (Some s) = s
+-- the number under which the methods of 64 slots are listed; those without a slot come behind all slots
+abbrev pub batch_place : ℕ → Option ℕ → ℕ
+batch_place slots None = slots / 64 + 1
+batch_place slots (Some s) = s / 64
 
-abbrev pub method_place : ℕ → Method → ℕ
-method_place slots m = slot_place slots m.slot
+abbrev pub method_batch : ℕ → Method → ℕ
+method_batch slots m = batch_place slots m.slot
 
--- the same for those without a body; one with a body comes behind so many slots
-abbrev pub bare_place : ℕ → Method → ℕ
-bare_place slots m = if is_some m.body then slots else slot_place slots m.slot
+-- whether bit i of a word is set
+abbrev pub bit : ℕ → ℕ → Bool
+bit w i = bit_at w i == 1
 
--- whether a method stands in a class at or above c
-abbrev pub stands_above : Plain → ℕ → PlainMethod → Bool
-stands_above P c k = not (is_interface P k.owner) && below P c k.owner
+-- each of 64 bits that is set in one word is set in the other
+abbrev pub IsWithin : ℕ → ℕ → Type 0
+IsWithin a b = (i : ℕ) → i < 64 → bit a i ≡ true → bit b i ≡ true
 
--- whether c is at or below the class of a method, where there is one
-abbrev pub below_method : Plain → ℕ → Option PlainMethod → Bool
-below_method P c None = true
-below_method P c (Some k) = below P c k.owner
+-- the same as a test of the whole words
+abbrev pub is_within : ℕ → ℕ → Bool
+is_within a b = bit_or a b == b
 
-abbrev pub is_lower : Plain → ℕ → Option ℕ → Bool
-is_lower P c None = true
-is_lower P c (Some d) = below_method P c (slice_get P.methods d)
+-- the word in which all bits are set
+abbrev pub full : ℕ
+full = 18446744073709551615
 
-abbrev pub lower_of : Plain → ℕ → Option ℕ → ℕ → Option PlainMethod → Option ℕ
-lower_of P c near m None = near
-lower_of P c near m (Some k) = if stands_above P c k && is_lower P k.owner near then Some m else near
+-- the word of a class in a table; where there is none, all bits are set
+abbrev pub word_at : List ℕ → ℕ → ℕ
+word_at table c = slice_index_or table c full
 
--- the nearer to c of the method m and of the nearest so far
-abbrev pub lower : Plain → ℕ → Option ℕ → ℕ → Option ℕ
-lower P c near m = lower_of P c near m (slice_get P.methods m)
+-- the same where no bit is set of a class that has no word
+abbrev pub own_at : List ℕ → ℕ → ℕ
+own_at table c = slice_index_or table c 0
 
--- the nearest to c of these methods and of the nearest so far
-abbrev pub lowest : Plain → ℕ → Option ℕ → List ℕ → Option ℕ
-lowest P c near [] = near
-lowest P c near (m ∷ ms) = lowest P c (lower P c near m) ms
+-- whether a method is what is asked
+abbrev pub answers : Plain → Asked → PlainMethod → Bool
+answers P Bodied k = is_some k.body
+answers P Bare k = not (is_some k.body)
+answers P Public k = k.is_public
+answers P Hidden k = not k.is_public
+answers P Faced k = is_interface P k.owner && not (is_some k.body)
 
-abbrev pub bodied_in : Option PlainMethod → Bool
-bodied_in None = false
-bodied_in (Some k) = is_some k.body
+-- whether the method m is one that c declares for the slot s, and what is asked
+abbrev pub says : Plain → Asked → ℕ → ℕ → ℕ → Bool
+says P q c s m = option_map_or (λ k. has_slot c s k && answers P q k) (slice_get P.methods m) false
 
-abbrev pub bodied_at : Plain → Option ℕ → Bool
-bodied_at P None = false
-bodied_at P (Some m) = bodied_in (slice_get P.methods m)
+-- the methods of 64 slots are among these
+abbrev pub AreListed : Plain → ℕ → List ℕ → Type 0
+AreListed P b ms = (m i : ℕ) (k : PlainMethod) → slice_get P.methods m ≡ Some k → i < 64 → k.slot ≡ Some (64 * b + i) → Contains ms m
 
-abbrev pub shown_in : Option PlainMethod → Bool
-shown_in None = true
-shown_in (Some k) = k.is_public
+-- the word of the superclass, or another one where there is none
+abbrev pub parent_word : Plain → List ℕ → ℕ → ℕ → ℕ
+parent_word P table none c = option_map_or (λ p. word_at table p.0) (parent_of P c) none
 
-abbrev pub shown_at : Plain → Option ℕ → Bool
-shown_at P None = true
-shown_at P (Some m) = shown_in (slice_get P.methods m)
+-- the bits of c for what is nearest and not what is asked: of its own, and those of its superclass but where c has what is asked
+pub record IsNearestAt (P : Plain) (table having lacking : List ℕ) (none c : ℕ) : Type 0 where
+  pub own : IsWithin (own_at lacking c) (word_at table c)
+  pub above : IsWithin (parent_word P table none c) (bit_or (word_at table c) (own_at having c))
 
--- whether a method stands at or above c
-abbrev pub offered_by : Plain → ℕ → Option PlainMethod → Bool
-offered_by P c None = false
-offered_by P c (Some k) = below P c k.owner
+-- the bits of c for what stands at or above it
+pub record IsAboveAt (P : Plain) (table start : List ℕ) (c : ℕ) : Type 0 where
+  pub own : IsWithin (own_at start c) (word_at table c)
+  pub parent : IsWithin (parent_word P table 0 c) (word_at table c)
+  pub faces : (k : ClassId) → Contains (faces_of P c) k → IsWithin (word_at table k.0) (word_at table c)
 
-abbrev pub is_offered : Plain → ℕ → List ℕ → Bool
-is_offered P c [] = false
-is_offered P c (m ∷ ms) = offered_by P c (slice_get P.methods m) || is_offered P c ms
+-- whether a word has the bits of each of these interfaces
+abbrev pub has_faces : List ℕ → ℕ → List ClassId → Bool
+has_faces table w [] = true
+has_faces table w (k ∷ ks) = is_within (word_at table k.0) w && has_faces table w ks
 
--- whether a method stands in an interface at or above c
-abbrev pub faced_by : Plain → ℕ → Option PlainMethod → Bool
-faced_by P c None = false
-faced_by P c (Some k) = is_interface P k.owner && below P c k.owner
+-- the same two as tests
+abbrev pub is_nearest_at : Plain → List ℕ → List ℕ → List ℕ → ℕ → ℕ → Bool
+is_nearest_at P table having lacking none c =
+    is_within (own_at lacking c) (word_at table c) && is_within (parent_word P table none c) (bit_or (word_at table c) (own_at having c))
 
-abbrev pub is_faced : Plain → ℕ → List ℕ → Bool
-is_faced P c [] = false
-is_faced P c (m ∷ ms) = faced_by P c (slice_get P.methods m) || is_faced P c ms
+abbrev pub is_above_at : Plain → List ℕ → List ℕ → ℕ → Bool
+is_above_at P table start c =
+    is_within (own_at start c) (word_at table c)
+    && (is_within (parent_word P table 0 c) (word_at table c) && has_faces table (word_at table c) (faces_of P c))
 
--- whether c breaks no rule for these methods of a slot without a body; the slot has the methods ms
-abbrev pub is_quiet_for : Plain → ℕ → List ℕ → List ℕ → Bool
-is_quiet_for P c bare ms =
-    (is_interface P c || not (is_offered P c bare))
-    || ((bodied_at P (lowest P c None ms) || not (is_concrete P c))
-    && (shown_at P (lowest P c None ms) || not (is_faced P c bare)))
+-- whether the nearest declaration is what is asked; the same is said of none where there is none
+abbrev pub is_told : Plain → Asked → Bool → Option ℕ → Bool
+is_told P q none o = option_map_or (λ m. option_map_or (answers P q) (slice_get P.methods m) none) o none
 
--- whether c can break a rule for a method of an interface, or else of a class
-abbrev pub is_asked : Plain → ℕ → Bool → Bool
-is_asked P c of_interface = not (is_interface P c) && (of_interface || is_concrete P c)
+-- a bit is set where the nearest declaration is not what is asked
+abbrev pub HasNearest : Plain → Asked → Bool → ℕ → List ℕ → Type 0
+HasNearest P q none b table = (c i : ℕ) → i < 64 → is_told P q none (nearest_declaration P c (64 * b + i)) ≡ false → bit (word_at table c) i ≡ true
 
--- whether c breaks a rule for a method
-abbrev pub breaks_in : Plain → ℕ → Option PlainMethod → Bool
-breaks_in P c None = false
-breaks_in P c (Some k) = is_some (method_rule P c k)
+-- a bit is set where a method that is what is asked stands at or above the class
+abbrev pub HasAbove : Plain → Asked → ℕ → List ℕ → Type 0
+HasAbove P q b table = (c i m : ℕ) (k : PlainMethod) → i < 64 → slice_get P.methods m ≡ Some k → k.slot ≡ Some (64 * b + i) → answers P q k ≡ true
+    → below P c k.owner ≡ true → bit (word_at table c) i ≡ true
 
--- whether c breaks no rule for one of these methods
-abbrev pub is_kept_for : Plain → ℕ → List ℕ → Bool
-is_kept_for P c [] = true
-is_kept_for P c (m ∷ ms) = not (breaks_in P c (slice_get P.methods m)) && is_kept_for P c ms
+-- what the tables have of 64 slots
+pub record AreFound (P : Plain) (b : ℕ) (found : Found) : Type 0 where
+  pub bare : HasNearest P Bodied false b found.bare.items
+  pub hidden : HasNearest P Public true b found.hidden.items
+  pub offered : HasAbove P Bare b found.offered.items
+  pub faced : HasAbove P Faced b found.faced.items
 
--- whether so few methods of a slot are gone through for the nearest of them
-abbrev pub is_few : List ℕ → Bool
-is_few ms = nat_le (length ms) 64
+-- whether no bit is set in both words
+abbrev pub are_apart : ℕ → ℕ → Bool
+are_apart a b = bit_and a b == 0
 
--- one of the two, by how many methods the slot has
-abbrev pub is_fine_for : Plain → ℕ → List ℕ → List ℕ → Bool
-is_fine_for P c bare ms = if is_few ms then is_quiet_for P c bare ms else is_kept_for P c bare
+-- whether by the tables a class breaks no rule for the 64 slots
+abbrev pub is_clear : Plain → Found → ℕ → Bool
+is_clear P found c =
+    is_interface P c
+    || ((not (is_concrete P c) || are_apart (word_at found.offered.items c) (word_at found.bare.items c))
+    && are_apart (word_at found.faced.items c) (word_at found.hidden.items c))
 
--- whether both hold or neither does
-abbrev pub agree : Bool → Bool → Bool
-agree one other = if one then other else not other
+-- c breaks no rule for a method of the 64 slots that has no body
+abbrev pub IsFineFor : Plain → ℕ → ℕ → Type 0
+IsFineFor P b c = (m i : ℕ) (k : PlainMethod) → slice_get P.methods m ≡ Some k → i < 64 → k.slot ≡ Some (64 * b + i) → is_some k.body ≡ false
+    → method_rule P c k ≡ None
 
--- whether two methods stand in one class, both with a body or both without, both public or neither
-abbrev pub is_alike : PlainMethod → PlainMethod → Bool
-is_alike k j = (k.owner == j.owner) && (agree (is_some k.body) (is_some j.body) && agree k.is_public j.is_public)
+-- whether a method has no body, and whether one of these has none
+abbrev pub is_bare : Plain → ℕ → Bool
+is_bare P m = option_map_or (λ k. not (is_some k.body)) (slice_get P.methods m) false
 
-abbrev pub alike_with : PlainMethod → Option PlainMethod → Bool
-alike_with k None = false
-alike_with k (Some j) = is_alike k j
-
-abbrev pub alike_in : Option PlainMethod → Option PlainMethod → Bool
-alike_in None other = false
-alike_in (Some k) other = alike_with k other
-
--- whether as many methods are alike place by place
-abbrev pub are_alike : Plain → List ℕ → List ℕ → Bool
-are_alike P [] [] = true
-are_alike P [] (n ∷ ns) = false
-are_alike P (m ∷ ms) [] = false
-are_alike P (m ∷ ms) (n ∷ ns) = alike_in (slice_get P.methods m) (slice_get P.methods n) && are_alike P ms ns
-
--- whether two slots of few methods have alike methods, and alike ones without a body
-abbrev pub is_same : Plain → List ℕ → List ℕ → List ℕ → List ℕ → Bool
-is_same P bare ms other_bare other = (is_few ms && is_few other) && (are_alike P ms other && are_alike P bare other_bare)
+abbrev pub has_bare : Plain → List ℕ → Bool
+has_bare P [] = false
+has_bare P (m ∷ ms) = is_bare P m || has_bare P ms

@@ -1,14 +1,15 @@
 //! The rules of types of a resolved program (Java Language Specification, chapters 8, 14 and 15, the subset's part).
 #![tactic(auto)]
 
-mod alike;
 mod callees;
 mod classes;
 mod expressions;
 mod nearest;
+mod order;
 mod programs;
 mod slots;
 mod statements;
+mod tables;
 mod types;
 
 pub use java_core::{Checked, Program};

@@ -7,14 +7,12 @@ ghost use Rattle.java_core.specs.Formed.{IsFormed};
 ghost use Rattle.java_core.specs.Typing.{IsTyped};
 ghost use Rattle.java_check.specs.Fails.{IsRefused};
 ghost use Rattle.java_check.specs.Outcome.{env_in, and_then};
-ghost use Rattle.java_core.specs.Owned.{AreOwned};
 ghost use Rattle.java_check.specs.ClassOutcome.{class_rule};
-ghost use Rattle.java_check.specs.SlotOutcome.{method_place};
 ghost use Rattle.java_check.specs.ProgramOutcome.{classes_answer, body_answer, methods_answer};
 
-use crate::classes::{all_quiet, class_fault};
-use crate::nearest::broken_listed;
-use crate::slots::{bare_of_slots, fine_for_all, methods_of_slots};
+use crate::classes::all_quiet;
+use crate::nearest::fault_near;
+use crate::slots::fine_classes;
 use crate::statements::check_stmts;
 use crate::{CheckFault, Kind};
 use java_core::{Checked, Class, Method, Program};
@@ -65,29 +63,16 @@ fn check_classes(alloc: Global, p: &Program) -> Result<(), CheckFault>
     requires { IsFormed (program_of no_place p.now) }
     ensures { result ≡ classes_answer (program_of no_place p.now) 0 (program_of at_place p.now).classes }
 {
-    match methods_of_slots(alloc, p.slots.len(), &p.methods) {
-        Ok(lists) => check_listed(alloc, p, &lists),
-        Err(_) => check_each(p, &p.classes, quiet_classes(p)),
-    }
+    check_each(alloc, p, &p.classes, known_classes(alloc, p))
 }
 
-/// The first rule that one of the classes breaks, where the methods of each slot are listed.
-fn check_listed(alloc: Global, p: &Program, lists: &Vec<Vec<usize>>) -> Result<(), CheckFault>
-    requires formed { IsFormed (program_of no_place p.now) }
-    requires owned { AreOwned (map (λ m. method_place (length p.now.slots.items) m) p.now.methods.items) lists.now.items }
-    ensures { result ≡ classes_answer (program_of no_place p.now) 0 (program_of at_place p.now).classes }
-{
-    check_each_listed(p, lists, &p.classes, fine_classes(alloc, p, lists))
-}
-
-/// How many of the first classes are known to break no rule, where the methods of each slot are listed.
-fn fine_classes(alloc: Global, p: &Program, lists: &Vec<Vec<usize>>) -> usize
-    requires formed { IsFormed (program_of no_place p.now) }
-    requires owned { AreOwned (map (λ m. method_place (length p.now.slots.items) m) p.now.methods.items) lists.now.items }
+/// How many of the first classes are known to break no rule.
+fn known_classes(alloc: Global, p: &Program) -> usize
+    requires { IsFormed (program_of no_place p.now) }
     ensures { (c : ℕ) → c < result → class_rule (program_of no_place p.now) c (program_of no_place p.now).methods ≡ None }
 {
-    match bare_of_slots(alloc, p.slots.len(), &p.methods) {
-        Ok(bare) => fine_for_all(p, &bare, lists),
+    match fine_classes(alloc, p) {
+        Ok(fine) => fine,
         Err(_) => quiet_classes(p),
     }
 }
@@ -105,14 +90,14 @@ fn quiet_classes(p: &Program) -> usize
 }
 
 /// The first rule that one of the classes breaks, each tested but so many first ones that break none.
-fn check_each(p: &Program, classes: &[Class], fine: usize) -> Result<(), CheckFault>
+fn check_each(alloc: Global, p: &Program, classes: &[Class], fine: usize) -> Result<(), CheckFault>
     requires formed { IsFormed (program_of no_place p.now) }
     requires few { length classes.now < 4294967295 }
     requires fine { (c : ℕ) → c < fine → class_rule (program_of no_place p.now) c (program_of no_place p.now).methods ≡ None }
     ensures { result ≡ classes_answer (program_of no_place p.now) 0 (map (class_seen at_place) classes.now) }
 {
     for (i, class) in classes.iter().enumerate() {
-        if let Some(kind) = fault_of(p, ClassId(i as u32), fine) {
+        if let Some(kind) = fault_of(alloc, p, ClassId(i as u32), fine) {
             return Err(CheckFault::IllTyped(kind, class.place));
         }
     }
@@ -120,7 +105,7 @@ fn check_each(p: &Program, classes: &[Class], fine: usize) -> Result<(), CheckFa
 }
 
 /// The rule that a class breaks as a whole, where so many first ones break none.
-fn fault_of(p: &Program, class: ClassId, fine: usize) -> Option<Kind>
+fn fault_of(alloc: Global, p: &Program, class: ClassId, fine: usize) -> Option<Kind>
     requires formed { IsFormed (program_of no_place p.now) }
     requires fine { (c : ℕ) → c < fine → class_rule (program_of no_place p.now) c (program_of no_place p.now).methods ≡ None }
     ensures { result ≡ class_rule (program_of no_place p.now) class.0 (program_of no_place p.now).methods }
@@ -128,41 +113,7 @@ fn fault_of(p: &Program, class: ClassId, fine: usize) -> Option<Kind>
     if (class.0 as usize) < fine {
         return None;
     }
-    class_fault(p, class)
-}
-
-/// The same, where the methods of each slot are listed.
-fn check_each_listed(
-    p: &Program,
-    lists: &Vec<Vec<usize>>,
-    classes: &[Class],
-    fine: usize,
-) -> Result<(), CheckFault>
-    requires formed { IsFormed (program_of no_place p.now) }
-    requires owned { AreOwned (map (λ m. method_place (length p.now.slots.items) m) p.now.methods.items) lists.now.items }
-    requires few { length classes.now < 4294967295 }
-    requires fine { (c : ℕ) → c < fine → class_rule (program_of no_place p.now) c (program_of no_place p.now).methods ≡ None }
-    ensures { result ≡ classes_answer (program_of no_place p.now) 0 (map (class_seen at_place) classes.now) }
-{
-    for (i, class) in classes.iter().enumerate() {
-        if let Some(kind) = fault_listed(p, lists, ClassId(i as u32), fine) {
-            return Err(CheckFault::IllTyped(kind, class.place));
-        }
-    }
-    Ok(())
-}
-
-/// The rule that a class breaks as a whole, where so many first ones break none, and the methods of each slot are listed.
-fn fault_listed(p: &Program, lists: &Vec<Vec<usize>>, class: ClassId, fine: usize) -> Option<Kind>
-    requires formed { IsFormed (program_of no_place p.now) }
-    requires owned { AreOwned (map (λ m. method_place (length p.now.slots.items) m) p.now.methods.items) lists.now.items }
-    requires fine { (c : ℕ) → c < fine → class_rule (program_of no_place p.now) c (program_of no_place p.now).methods ≡ None }
-    ensures { result ≡ class_rule (program_of no_place p.now) class.0 (program_of no_place p.now).methods }
-{
-    if (class.0 as usize) < fine {
-        return None;
-    }
-    broken_listed(p, lists, class, &p.methods)
+    fault_near(alloc, p, class)
 }
 
 /// The first rule that fails in the bodies of the methods.

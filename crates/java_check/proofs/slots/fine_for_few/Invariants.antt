@@ -1,8 +1,0 @@
-use Rattle.std.proofs.Common.{◌≡◌, ◌<◌, ℕ, true}
-use Rattle.java_core.specs.Trees.{no_place}
-use Rattle.java_core.specs.Programs.{program_of}
-use Rattle.java_check.specs.SlotOutcome.{is_quiet_for}
-use Rattle.java_check.proofs.slots.fine_for_few.Given as goal
-
-abbrev pub invariant-loop-class : goal.invariant-loop-class
-invariant-loop-class l = (c : ℕ) → c < l.class → is_quiet_for (program_of no_place l.p) c l.bare l.list ≡ true
