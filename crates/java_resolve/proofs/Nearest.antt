@@ -1,5 +1,9 @@
 -- The walk to the nearest field.
-use Rattle.std.proofs.Common.{◌≡◌, ℕ, ◌+◌, ◌<◌, ◌≤◌, drop-cons, List, ◌∷◌, length, drop, get_or, Option, Some, None, sym, ap, ◌∙◌, add-one}
+use Rattle.std.proofs.Common.{◌≡◌, ℕ, ◌+◌, ◌<◌, ◌≤◌, drop-cons, List, [], ◌∷◌, length, drop, get_or, Option, Some, None, ◌≢◌, refl, sym, ap, ◌∙◌, add-one, arith}
+use Rattle.std.specs.Prelude.{nat_eq, slice_get}
+use Rattle.std.specs.HashMap.{HashMap, get}
+use Rattle.std.specs.Map.{lookup}
+use Rattle.std.proofs.lemmas.Bool.{ne_eqb}
 use Rattle.std.proofs.lemmas.List.{drop_all}
 use Rattle.kaba_base.specs.declared.ClassId.{ClassId}
 use Rattle.name_outcome.specs.Tables.{Table, own_field, parent_of, or_above, nearest_in}
@@ -32,3 +36,23 @@ nearest_none t n steps i c o below none up before =
 pub nearest_last : (t : Table) (n : List ℕ) (steps : List (Option ClassId)) (i c : ℕ) (o : Option ℕ) → length steps ≤ i
     → nearest_in t n (drop i steps) c ≡ o → own_field t c n ≡ o
 nearest_last t n steps i c o above before = ap (λ xs. nearest_in t n xs c) (sym (drop_all i steps above)) ∙ before
+
+-- where no class has a field of the name, none is found
+pub nearest_nowhere : (t : Table) (n : List ℕ) (steps : List (Option ClassId)) (c : ℕ) → ((k : ℕ) → own_field t k n ≡ None) → None ≡ nearest_in t n steps c
+nearest_nowhere t n [] c none = sym (none c)
+nearest_nowhere t n (_ ∷ steps) c none = upwards (parent_of t.parents c) (λ p. nearest_nowhere t n steps p none)
+    ∙ ap (λ f. or_above f (parent_of t.parents c) (λ p. nearest_in t n steps p)) (sym (none c))
+  where
+    upwards : (p : Option ClassId) → ((p : ℕ) → None ≡ nearest_in t n steps p) → None ≡ or_above None p (λ p. nearest_in t n steps p)
+    upwards None later = refl
+    upwards (Some p) later = later p.0
+
+-- a table of one entry has nothing under another key
+pub only_other : {S : Type 0} (m : HashMap ℕ ℕ S) (c : ℕ) → length m.entries ≡ 1 → ((e : ℕ × ℕ) → slice_get m.entries 0 ≡ Some e → e.0 ≢ c)
+    → None ≡ get nat_eq m c
+only_other m c one other = go m.entries one other
+  where
+    go : (es : List (ℕ × ℕ)) → length es ≡ 1 → ((e : ℕ × ℕ) → slice_get es 0 ≡ Some e → e.0 ≢ c) → None ≡ lookup (nat_eq c) es
+    go [] l o = absurd (omega (arith, l))
+    go (e ∷ []) l o = rw (ne_eqb c e.0 (λ s. o e refl (sym s))) refl
+    go (e ∷ f ∷ es) l o = absurd (omega (arith, l))

@@ -2,6 +2,7 @@
 #![tactic(auto)]
 
 ghost use Rattle.std.specs.Prelude.{◌≡◌, ◌&&◌, ◌==◌, ℕ, List, [], None, Some, nat_eq, cond, OnOk};
+ghost use Rattle.std.specs.Option.{option_map_or};
 ghost use Rattle.std.specs.Str.{bytes_eq};
 ghost use Rattle.indexmap.specs.IndexMap.{get};
 ghost use Rattle.java_resolve.specs.Owned.{AreOwned, owned_in};
@@ -34,6 +35,13 @@ impl Owned {
             Some(numbers) => numbers.get(&class).copied(),
             None => None,
         }
+    }
+
+    /// The numbers of the members that have a name, by their classes.
+    pub fn named(&self, name: &Name) -> Option<&IndexMap<u32, u32>>
+        ensures { (c : ℕ) → option_map_or (λ m. get nat_eq m.now c) result None ≡ owned_in self.now c name.now }
+    {
+        self.numbers.get(name.as_str())
     }
 
     /// The numbers of a name, which has none from then on.
