@@ -7,7 +7,6 @@ ghost use Rattle.java_core.specs.Formed.{IsFormed};
 ghost use Rattle.java_core.specs.Classes.{super_method, slot_of_method};
 ghost use Rattle.flow_rules.specs.Labels.{size, sizes, label, label_all};
 ghost use Rattle.flow_rules.specs.Operands.{operand_of, operands_of, this_operand, class_object, variable_row, object_field, call_slot, call_declaration};
-ghost use Rattle.flow_rules.specs.Parts.{is_accessed};
 ghost use Rattle.flow_rules.specs.Types.{object_type};
 ghost use Rattle.flow_facts.specs.Views.{part_seen, parts_seen, load_operand, call_operand, static_operand, super_operand, variable_operand};
 ghost use Rattle.flow_facts.specs.Walked.{IsAdded, IsMade, IsWalked, AreWalked, args_from, parts_from, call_from};
@@ -112,7 +111,7 @@ fn slot_of_method(program: &Program, method: Option<u32>) -> Option<u32>
 
 /// Whether a creation there is the base of a field access: `.length` of an array is none.
 pub fn is_accessed(e: &RExpr) -> bool
-    ensures value { (n : ℕ) → result ≡ is_accessed (label n (expr_of at_place e.now)) }
+    ensures value { (n : ℕ) → result ≡ plain.is_accessed (label n (expr_of at_place e.now)) }
 {
     match e {
         RExpr::NewArray { .. } => false,
@@ -365,12 +364,10 @@ fn call_operand(program: &Program, m: u64, label: usize, slot: Option<u32>) -> O
         → result ≡ call_operand (program_of no_place program.now) m label s x }
 {
     match slot {
-        Some(slot) => labelled(
-            m,
-            label,
-            Some(RowItem::Return(slot as u64)),
-            slot_object(program, slot),
-        ),
+        Some(slot) => {
+            let row = Some(RowItem::Return(slot as u64));
+            labelled(m, label, row, slot_object(program, slot))
+        }
         None => labelled(m, label, None, None),
     }
 }
