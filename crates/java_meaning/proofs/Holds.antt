@@ -232,29 +232,17 @@ module _ (P : Plain) where
   comparable_held no_value t p q e = absurd (false≢true e)
 
   -- subtypes are references and objects alike
-  sub_class : (b c : TyBase) → is_sub_base P b c ≡ true → is_class b ≡ is_class c
-  sub_class (Class a) (Class c) p = refl
-  sub_class (Class a) Int p = absurd (false≢true p)
-  sub_class (Class a) Boolean p = absurd (false≢true p)
-  sub_class (Class a) Char p = absurd (false≢true p)
-  sub_class (Class a) Str p = absurd (false≢true p)
-  sub_class Int Int p = refl
-  sub_class Boolean Boolean p = refl
-  sub_class Char Char p = refl
-  sub_class Str Str p = refl
-  sub_class _ _ p = absurd (false≢true p)
-
-  sub_string : (b c : TyBase) → is_sub_base P b c ≡ true → is_base b Str ≡ is_base c Str
-  sub_string (Class a) (Class c) p = refl
-  sub_string (Class a) Int p = absurd (false≢true p)
-  sub_string (Class a) Boolean p = absurd (false≢true p)
-  sub_string (Class a) Char p = absurd (false≢true p)
-  sub_string (Class a) Str p = absurd (false≢true p)
-  sub_string Int Int p = refl
-  sub_string Boolean Boolean p = refl
-  sub_string Char Char p = refl
-  sub_string Str Str p = refl
-  sub_string _ _ p = absurd (false≢true p)
+  sub_alike : (b c : TyBase) → is_sub_base P b c ≡ true → (is_class b ≡ is_class c) × (is_base b Str ≡ is_base c Str)
+  sub_alike (Class a) (Class c) p = (refl, refl)
+  sub_alike (Class a) Int p = absurd (false≢true p)
+  sub_alike (Class a) Boolean p = absurd (false≢true p)
+  sub_alike (Class a) Char p = absurd (false≢true p)
+  sub_alike (Class a) Str p = absurd (false≢true p)
+  sub_alike Int Int p = (refl, refl)
+  sub_alike Boolean Boolean p = (refl, refl)
+  sub_alike Char Char p = (refl, refl)
+  sub_alike Str Str p = (refl, refl)
+  sub_alike _ _ p = absurd (false≢true p)
 
   pub sub_parts : (s t : Ty) → is_subtype P s t ≡ true → (s.dim ≡ t.dim) × (is_sub_base P s.base t.base ≡ true)
   sub_parts s t p = let q = both_hold (s.dim == t.dim) (is_sub_base P s.base t.base) p in (eqb-true s.dim t.dim q.0, q.1)
@@ -264,13 +252,13 @@ module _ (P : Plain) where
 
   pub sub_object : (s t : Ty) → is_subtype P s t ≡ true → is_object s ≡ true → is_object t ≡ true
   sub_object s t p e = let q = sub_parts s t p in subst (λ z. not (z == 0) || is_class t.base ≡ true) q.0 (subst (λ z. not (s.dim == 0) || z ≡ true)
-      (sub_class s.base t.base q.1) e)
+      (sub_alike s.base t.base q.1).0 e)
 
   pub sub_reference : (s t : Ty) → is_subtype P s t ≡ true → is_reference s ≡ true → is_reference t ≡ true
   sub_reference s t p e = let q = sub_parts s t p in
       subst (λ z. (not (z == 0) || is_class t.base) || is_base t.base Str ≡ true) q.0 (subst (λ z. (not (s.dim == 0) || z) || is_base t.base Str
-      ≡ true) (sub_class s.base t.base q.1)
-      (subst (λ z. (not (s.dim == 0) || is_class s.base) || z ≡ true) (sub_string s.base t.base q.1) e))
+      ≡ true) (sub_alike s.base t.base q.1).0
+      (subst (λ z. (not (s.dim == 0) || is_class s.base) || z ≡ true) (sub_alike s.base t.base q.1).1 e))
 
   sub_flat : (b : TyBase) (t : Ty) → is_class b ≡ false → ((0 == t.dim) && is_base b t.base) ≡ true → plain_type b ≡ t
   sub_flat b t c p = let q = both_hold (0 == t.dim) (is_base b t.base) p in flat_type b t.base t.dim (same_base b t.base c q.1) (sym (eqb-true 0 t.dim q.0))
@@ -286,12 +274,12 @@ module _ (P : Plain) where
   sub_reference_back : (s t : Ty) → is_subtype P s t ≡ true → is_reference t ≡ true → is_reference s ≡ true
   sub_reference_back s t p e = let q = sub_parts s t p in
       subst (λ z. (not (z == 0) || is_class s.base) || is_base s.base Str ≡ true) (sym q.0) (subst (λ z. (not (t.dim == 0) || z) || is_base s.base Str
-      ≡ true) (sym (sub_class s.base t.base q.1))
-      (subst (λ z. (not (t.dim == 0) || is_class t.base) || z ≡ true) (sym (sub_string s.base t.base q.1)) e))
+      ≡ true) (sym (sub_alike s.base t.base q.1).0)
+      (subst (λ z. (not (t.dim == 0) || is_class t.base) || z ≡ true) (sym (sub_alike s.base t.base q.1).1) e))
 
   sub_back : (s t : Ty) → is_subtype P s t ≡ true → is_class t.base ≡ false → s ≡ t
   sub_back s t p c = let q = sub_parts s t p in
-      pair s.base t.base s.dim t.dim (same_class_base s.base t.base (sub_class s.base t.base q.1 ∙ c) q.1) q.0
+      pair s.base t.base s.dim t.dim (same_class_base s.base t.base ((sub_alike s.base t.base q.1).0 ∙ c) q.1) q.0
     where
       pair : (a b : TyBase) (d e : ℕ) → a ≡ b → d ≡ e → type a d ≡ type b e
       pair a b d e x y = subst (λ z. type a d ≡ type b z) y (ap (λ z. type z d) x)

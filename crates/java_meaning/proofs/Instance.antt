@@ -26,22 +26,22 @@ use Rattle.java_meaning.proofs.Examples.{object, class, under, variable, countin
 use Rattle.java_meaning.proofs.TypedPrograms.{never_wrong}
 
 -- names
-differ : (x y : List ℕ) → bytes_eq x y ≡ false → x ≢ y
+pub differ : (x y : List ℕ) → bytes_eq x y ≡ false → x ≢ y
 differ x y e d = false≢true (sym e ∙ (bytes_eq-Decides x y).1 d)
 
-name_object : IsName (codes "Object")
+pub name_object : IsName (codes "Object")
 unfolding is_xid_start is_xid_continue in_ranges xid_start_ranges xid_continue_ranges key_text
 name_object = record { named = refl; scalars = refl }
 
-name_class : IsName (codes "Main")
+pub name_class : IsName (codes "Main")
 unfolding is_xid_start is_xid_continue in_ranges xid_start_ranges xid_continue_ranges key_text
 name_class = record { named = refl; scalars = refl }
 
-name_main : IsName (codes "main")
+pub name_main : IsName (codes "main")
 unfolding is_xid_start is_xid_continue in_ranges xid_start_ranges xid_continue_ranges key_text
 name_main = record { named = refl; scalars = refl }
 
-name_words : IsName (codes "args")
+pub name_words : IsName (codes "args")
 unfolding is_xid_start is_xid_continue in_ranges xid_start_ranges xid_continue_ranges key_text
 name_words = record { named = refl; scalars = refl }
 
@@ -50,11 +50,11 @@ unfolding is_xid_start is_xid_continue in_ranges xid_start_ranges xid_continue_r
 name_local = record { named = refl; scalars = refl }
 
 -- lists
-no_twice : (A : Type 0) → HasNoTwice {A = A} []
+pub no_twice : (A : Type 0) → HasNoTwice {A = A} []
 unfolding HasNoTwice
 no_twice A i j x e d = absurd (cc)
 
-one_once : {A : Type 0} (a : A) → HasNoTwice (a ∷ [])
+pub one_once : {A : Type 0} (a : A) → HasNoTwice (a ∷ [])
 unfolding HasNoTwice
 one_once a zero zero x e d = refl
 one_once a zero (suc j) x e d = absurd (cc)

@@ -1,5 +1,5 @@
-mod Examples
-mod Instance
+pub mod Examples
+pub mod Instance
 pub mod Alike
 pub mod Depth
 pub mod Holds

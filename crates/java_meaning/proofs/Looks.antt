@@ -1,7 +1,7 @@
 -- Each look of a watched run looks: of one program, at each of its looks, a watch that does not let the object pass there lets the run escape, and no
 -- other does.
 use Rattle.std.proofs.Common.{◌≡◌, ℕ, refl}
-use Rattle.std.specs.Prelude.{pos, ◌==◌, ◌&&◌, Bool, true, false, not, List, [], ◌∷◌, Option, Some, None, slice_get, codes}
+use Rattle.std.specs.Prelude.{pos, ◌==◌, ◌&&◌, Bool, true, false, not, List, [], ◌∷◌, Option, Some, None, slice_get, codes, map}
 use Rattle.std.specs.Option.{option_map_or, option_and_then}
 use Rattle.std.specs.List.{list_any}
 use Rattle.java_core.specs.declared.Ty.{Ty}
@@ -185,89 +185,13 @@ unfolding run_in layout below field_in member_field field_of search_order declar
 passes = refl
 
 -- the object of the first creation, at one look after the other
-looks_at_create : ends_without 0 of_create no_body ≡ Escaped
-unfolding run_in layout below field_in member_field field_of search_order declaration_of lookup super_method
-looks_at_create = refl
+abbrev looks : List (Spot → Bool)
+looks = of_create ∷ at_local ∷ at_static ∷ at_written ∷ at_field ∷ at_read ∷ of_field ∷ at_element ∷ of_index ∷ at_receiver ∷ at_self 1
+    ∷ at_self 0 ∷ at_result 0 ∷ of_super_call ∷ at_result 1 ∷ of_call ∷ at_result 2 ∷ of_static_call ∷ at_cast ∷ of_cast ∷ at_test ∷ []
 
-looks_at_local : ends_without 0 at_local no_body ≡ Escaped
+looks_at_each : map (λ p. ends_without 0 p no_body) looks ≡ map (λ p. Escaped) looks
 unfolding run_in layout below field_in member_field field_of search_order declaration_of lookup super_method
-looks_at_local = refl
-
-looks_at_static : ends_without 0 at_static no_body ≡ Escaped
-unfolding run_in layout below field_in member_field field_of search_order declaration_of lookup super_method
-looks_at_static = refl
-
-looks_at_written : ends_without 0 at_written no_body ≡ Escaped
-unfolding run_in layout below field_in member_field field_of search_order declaration_of lookup super_method
-looks_at_written = refl
-
-looks_at_field : ends_without 0 at_field no_body ≡ Escaped
-unfolding run_in layout below field_in member_field field_of search_order declaration_of lookup super_method
-looks_at_field = refl
-
-looks_at_read : ends_without 0 at_read no_body ≡ Escaped
-unfolding run_in layout below field_in member_field field_of search_order declaration_of lookup super_method
-looks_at_read = refl
-
-looks_at_field_value : ends_without 0 of_field no_body ≡ Escaped
-unfolding run_in layout below field_in member_field field_of search_order declaration_of lookup super_method
-looks_at_field_value = refl
-
-looks_at_element : ends_without 0 at_element no_body ≡ Escaped
-unfolding run_in layout below field_in member_field field_of search_order declaration_of lookup super_method
-looks_at_element = refl
-
-looks_at_element_value : ends_without 0 of_index no_body ≡ Escaped
-unfolding run_in layout below field_in member_field field_of search_order declaration_of lookup super_method
-looks_at_element_value = refl
-
-looks_at_receiver : ends_without 0 at_receiver no_body ≡ Escaped
-unfolding run_in layout below field_in member_field field_of search_order declaration_of lookup super_method
-looks_at_receiver = refl
-
-looks_at_self : ends_without 0 (at_self 1) no_body ≡ Escaped
-unfolding run_in layout below field_in member_field field_of search_order declaration_of lookup super_method
-looks_at_self = refl
-
-looks_at_super_self : ends_without 0 (at_self 0) no_body ≡ Escaped
-unfolding run_in layout below field_in member_field field_of search_order declaration_of lookup super_method
-looks_at_super_self = refl
-
-looks_at_super_result : ends_without 0 (at_result 0) no_body ≡ Escaped
-unfolding run_in layout below field_in member_field field_of search_order declaration_of lookup super_method
-looks_at_super_result = refl
-
-looks_at_super_value : ends_without 0 of_super_call no_body ≡ Escaped
-unfolding run_in layout below field_in member_field field_of search_order declaration_of lookup super_method
-looks_at_super_value = refl
-
-looks_at_result : ends_without 0 (at_result 1) no_body ≡ Escaped
-unfolding run_in layout below field_in member_field field_of search_order declaration_of lookup super_method
-looks_at_result = refl
-
-looks_at_call_value : ends_without 0 of_call no_body ≡ Escaped
-unfolding run_in layout below field_in member_field field_of search_order declaration_of lookup super_method
-looks_at_call_value = refl
-
-looks_at_static_result : ends_without 0 (at_result 2) no_body ≡ Escaped
-unfolding run_in layout below field_in member_field field_of search_order declaration_of lookup super_method
-looks_at_static_result = refl
-
-looks_at_static_value : ends_without 0 of_static_call no_body ≡ Escaped
-unfolding run_in layout below field_in member_field field_of search_order declaration_of lookup super_method
-looks_at_static_value = refl
-
-looks_at_cast : ends_without 0 at_cast no_body ≡ Escaped
-unfolding run_in layout below field_in member_field field_of search_order declaration_of lookup super_method
-looks_at_cast = refl
-
-looks_at_cast_value : ends_without 0 of_cast no_body ≡ Escaped
-unfolding run_in layout below field_in member_field field_of search_order declaration_of lookup super_method
-looks_at_cast_value = refl
-
-looks_at_test : ends_without 0 at_test no_body ≡ Escaped
-unfolding run_in layout below field_in member_field field_of search_order declaration_of lookup super_method
-looks_at_test = refl
+looks_at_each = refl
 
 looks_at_arguments : ends_without 0 nowhere runs_same ≡ Escaped
 unfolding run_in layout below field_in member_field field_of search_order declaration_of lookup super_method

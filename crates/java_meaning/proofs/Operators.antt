@@ -31,7 +31,7 @@ numeric_no_string no_value p = refl
 string_printable : (s : Static) → is_string s ≡ true → is_printable s ≡ true
 string_printable s e = or_right (is_numeric s) (is_boolean s || is_string s) (or_right (is_boolean s) (is_string s) e)
 
-and_false : (b c : Bool) → c ≡ false → (b && c) ≡ false
+pub and_false : (b c : Bool) → c ≡ false → (b && c) ≡ false
 and_false true c e = e
 and_false false c e = refl
 

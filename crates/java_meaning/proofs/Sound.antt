@@ -30,7 +30,7 @@ pub get_last : {A : Type 0} (h : List A) (c : A) → slice_get (h ++ c ∷ []) (
 get_last [] c = refl
 get_last (x ∷ h) c = get_last h c
 
-get_added : {A : Type 0} (h : List A) (c d : A) (a : ℕ) → slice_get (h ++ c ∷ []) a ≡ Some d → (slice_get h a ≡ Some d) ⊎ (c ≡ d)
+pub get_added : {A : Type 0} (h : List A) (c d : A) (a : ℕ) → slice_get (h ++ c ∷ []) a ≡ Some d → (slice_get h a ≡ Some d) ⊎ (c ≡ d)
 get_added [] c d zero e = inr (same_Some _ _ e)
 get_added [] c d (suc a) e = absurd (cc)
 get_added (x ∷ h) c d zero e = inl e

@@ -4,13 +4,12 @@ use Rattle.std.specs.Prelude.{pos, Bool, true, false, ◌==◌, ◌&&◌, slice_
 use Rattle.std.specs.Option.{option_map, option_map_or}
 use Rattle.std.proofs.lemmas.Bool.{false≢true, and_parts, eqb-true}
 use Rattle.std.proofs.lemmas.Option.{same_Some}
-use Rattle.kaba_base.specs.declared.ClassId.{ClassId}
 use Rattle.java_core.specs.declared.Ty.{Ty}
-use Rattle.java_core.specs.declared.TyBase.TheVariants.{Int, Str, Class}
+use Rattle.java_core.specs.declared.TyBase.TheVariants.{Int, Str}
 use Rattle.java_core.specs.declared.BinOp.TheVariants as bin
 use Rattle.java_core.specs.declared.Op.TheVariants as op
-use Rattle.java_core.specs.Trees.{Tag, no_ex, number, text, this, local, own_field, field, index, call, super_call, create, create_array, cast, binary, to_field, to_element, Sts, declare, assign, print, return, no_st, st_then}
-use Rattle.java_core.specs.Programs.{Plain, PlainClass, PlainMethod, PlainLocal}
+use Rattle.java_core.specs.Trees.{no_ex, number, text, this, local, own_field, field, index, call, super_call, create, create_array, cast, binary, to_field, to_element, Sts, declare, assign, print, return, no_st, st_then}
+use Rattle.java_core.specs.Programs.{Plain, PlainMethod, PlainLocal}
 use Rattle.java_core.specs.Classes.{below, field_of, member_field, search_order, declaration_of, lookup, super_method}
 use Rattle.java_core.specs.Types.{plain_type, class_type, field_in}
 use Rattle.java_meaning.specs.Moment.{Value, Number, Truth, CodeUnit, Nothing, Text, Object, Kind, an_object, an_array, Cell, own_type, own_class, Spot, touched, Ended, unnoted, Body, Lang}
@@ -21,52 +20,10 @@ use Rattle.run_cover.specs.Watched.{Of}
 use Rattle.twin_runs.specs.Twins.{shape_of, Link, value_at, same_number, same_text, same_local, same_own_field, same_field, same_index, same_call, same_super_call, same_create, same_create_array, same_cast, same_binary, same_no_ex, same_some, same_to_field, same_to_element, same_declare, same_assign, same_print, same_return, same_no_st, same_st_then, HasPair, SameBody, AreTwins}
 use Rattle.twin_runs.proofs.States.{Alike}
 use Rattle.twin_runs.proofs.SameRun.{same_run}
-
-abbrev tag : Tag
-tag = record { label = 0; place = record { at = 0; line = 0 } }
-
-abbrev variable : List ℕ → Ty → PlainLocal
-variable x t = record { name = x; ty = t; tag = tag }
-
-abbrev class : List ℕ → Option ClassId → PlainClass
-class x p = record { name = x; is_interface = false; is_abstract = false; parent = p; faces = []; tag = tag }
-
-abbrev under : ℕ → Option ClassId
-under c = Some (record { 0 = c })
-
-abbrev many : ℕ → Ty
-many c = record { base = Class (record { 0 = c }); dim = 1 }
+use Rattle.java_meaning.proofs.Examples.{tag, variable, class, under, many, main_of, method as method_of}
 
 abbrev method : ℕ → List ℕ → Sts → PlainMethod
-method c x xs =
-    record {
-      owner = c;
-      name = x;
-      is_static = false;
-      is_public = true;
-      slot = Some 0;
-      params = [];
-      locals = [];
-      result = Some
-          (plain_type Int);
-      body = Some xs;
-      tag = tag;
-    }
-
-abbrev main_of : ℕ → List PlainLocal → Sts → PlainMethod
-main_of c ls xs =
-    record {
-      owner = c;
-      name = codes "main";
-      is_static = true;
-      is_public = true;
-      slot = None;
-      params = variable (codes "args") words_type ∷ [];
-      locals = ls;
-      result = None;
-      body = Some xs;
-      tag = tag;
-    }
+method c x xs = method_of c x [] [] (Some (plain_type Int)) (Some 0) xs
 
 -- the code of `main`, over the classes a and b and the names f and m: b x = new b(); a[] y = new a[1]; x.f = 5; y[0] = x; b z = (b) y[0];
 -- System.out.println(z.m()); System.out.println(y.length); System.out.println("ab".length());
