@@ -1,21 +1,19 @@
 -- Facts in order, their sets and their closed table as what the obligations are asked of.
-use Rattle.std.proofs.Common.{◌≡◌, ◌≢◌, ℕ, suc, zero, ◌+◌, ◌<◌, ◌⊎◌, ◌&&◌, ◌||◌, Bool, true, false, List, [], ◌∷◌, length, eqb, get_or, map, Option, Some, None, Contains, refl, sym, ap, ◌∙◌, subst, arith, ⊎_elim, inl, inr}
-use Rattle.std.specs.Prelude.{nat_lt, is_some, All}
+use Rattle.std.proofs.Common.{◌≡◌, ◌≢◌, ℕ, ◌<◌, ◌⊎◌, ◌&&◌, true, false, length, eqb, Option, Some, None, Contains, refl, sym, ap, ◌∙◌, subst, arith, ⊎_elim, inl, inr}
+use Rattle.std.specs.Prelude.{nat_lt, is_some}
 use Rattle.std.specs.Option.{option_map}
-use Rattle.std.specs.List.{list_any, position}
-use Rattle.std.proofs.lemmas.Bool.{cases_Bool, cases_eq, or_cases, or_left, or_right, and_parts, and_from, eqb-true, eq-eqb, false≢true, ltb-true, lt-ltb}
+use Rattle.std.proofs.lemmas.Bool.{or_cases, and_parts, eqb-true, eq-eqb, false≢true, ltb-true, lt-ltb}
 use Rattle.std.proofs.lemmas.List.Folds.{Any-from_list_any}
 use Rattle.std.proofs.lemmas.List.Elements.{All-contains}
 use Rattle.kaba_bits.specs.Sets.{bit, row}
-use Rattle.kaba_bits.proofs.SetLemmas.{bit-below}
 use Rattle.kaba_bits.proofs.RowLemmas.{bit-row-below}
 use Rattle.kaba_base.specs.declared.ColId.{ColId}
 use Rattle.kaba_base.specs.declared.ClassId.{ClassId}
-use Rattle.fact_model.specs.Items.{site_at, site_class, site_row, row_class, row_at, row_this, is_object_row, column_at, column_class, column_kind, column_slot, cell_at, point_row, IsColumn}
-use Rattle.fact_model.specs.Classes.{IsBelow, same, through, IsStrictlyBelow, below, is_def, is_slot, is_body, is_interface, parent_of, faces_of, supers_of, own_body, finds, Finds, own, inherited}
-use Rattle.fact_model.specs.InRange.{InRange, IsRow, IsCol, IsClass, IsSite, IsPoint}
-use Rattle.fact_model.specs.InOrder.{InOrder, IsDef, IsThisOf, IsNearestAbove, HasOneThis, HasCast, HasOneCell, HasMark}
-use Rattle.fact_model.specs.Flowing.{AreSets, in_point, IsInRow, IsCell, Fits}
+use Rattle.fact_model.specs.Items.{site_at, site_class, site_row, row_class, row_at, row_this, is_object_row, column_class, column_kind, column_slot}
+use Rattle.fact_model.specs.Classes.{IsBelow, below, is_def, is_slot, is_body, finds, own}
+use Rattle.fact_model.specs.InRange.{InRange, IsRow, IsClass, IsPoint}
+use Rattle.fact_model.specs.InOrder.{InOrder, IsDef, IsThisOf, IsNearestAbove, HasOneThis, HasCast, HasMark}
+use Rattle.fact_model.specs.Flowing.{AreSets, in_point, IsCell, Fits}
 use Rattle.fact_model.specs.Entries.{IsTable}
 use Rattle.fact_model.specs.declared.facts.Facts.{Facts}
 use Rattle.fact_model.specs.declared.facts.TieInfo.{TieInfo}
@@ -23,14 +21,13 @@ use Rattle.fact_model.specs.declared.facts.CallInfo.{CallInfo}
 use Rattle.fact_model.specs.declared.facts.SuperInfo.{SuperInfo}
 use Rattle.fact_model.specs.declared.facts.TestInfo.{TestInfo}
 use Rattle.fact_model.specs.declared.facts.StoreInfo.{StoreInfo}
-use Rattle.fact_model.specs.declared.facts.SiteInfo.{SiteInfo}
 use Rattle.fact_model.specs.declared.facts.ColKind.{ColKind}
 use Rattle.fact_model.specs.declared.facts.ColKind.TheVariants.{Fld, Dcl, Def, Is}
 use Rattle.fact_model.specs.declared.sets.PointsTo.{PointsTo}
 use Rattle.fact_model.specs.declared.sets.Table.{Table}
-use Rattle.fact_model.proofs.ClassLemmas.{below-exact, below-both, below-then, strictly-below, strictly-then, strictly-exact, parent-super, finds-exact, finds-found, IsBodyOf}
+use Rattle.fact_model.proofs.ClassLemmas.{below-exact, below-both, finds-found, IsBodyOf}
 use Rattle.fact_model.proofs.NearestLemmas.{finds_nearest, found_above, found_other}
-use Rattle.fact_model.proofs.RangeLemmas.{member-below, site-below, column-below, this-below}
+use Rattle.fact_model.proofs.RangeLemmas.{member-below, site-below, column-below}
 use Rattle.fact_model.proofs.OrderLemmas.{column-above, body-own}
 use Rattle.fact_model.proofs.EntryLemmas.{this_entry, body_entry, super_entry, tie_entry, test_entry, array_entry, need_entry, site_entry}
 use Rattle.fact_model.proofs.ShownLemmas.{cast_shown, store_shown, point_row_shown, cell_row_shown}
@@ -40,7 +37,7 @@ use Rattle.hier_laws.specs.Shapes.{Given}
 use Rattle.hier_laws.specs.Starts.{Roles, IsClosed, AreInOrder}
 use Rattle.hier_rules.specs.Asked.{is_pair, is_tie, is_super, is_called, is_element, is_array_at, has_array, is_test_at, is_store_at, is_tested, is_stored, meets, places_of}
 
-def_is : (k : ColKind) → is_def k ≡ true → k ≡ Def
+pub def_is : (k : ColKind) → is_def k ≡ true → k ≡ Def
 def_is Def e = refl
 def_is Fld e = absurd (false≢true e)
 def_is Dcl e = absurd (false≢true e)

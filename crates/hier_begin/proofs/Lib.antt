@@ -1,3 +1,4 @@
+pub mod Unbroken
 pub mod ConceptLemmas
 pub mod StartLemmas
 pub mod GivenLemmas

@@ -1,11 +1,11 @@
 -- The names of the start: what each is, and that no two types, and no member and a type, have one.
-use Rattle.std.proofs.Common.{◌≡◌, ◌≢◌, ℕ, suc, zero, ◌+◌, ◌^◌, ◌<◌, ◌≤◌, ◌⊎◌, ◌&&◌, ◌||◌, cond, eqb, Bool, true, false, List, [], ◌∷◌, ◌++◌, length, get_or, Option, Some, None, Contains, refl, sym, ap, ◌∙◌, subst, arith, ⊎_elim, inl, inr}
-use Rattle.std.specs.Prelude.{if◌then◌else◌, slice_get, All, not, codes}
+use Rattle.std.proofs.Common.{◌≡◌, ◌≢◌, ℕ, suc, zero, ◌+◌, ◌^◌, ◌<◌, ◌≤◌, ◌⊎◌, ◌&&◌, ◌||◌, eqb, Bool, true, false, List, [], ◌∷◌, ◌++◌, length, get_or, Option, Some, None, Contains, refl, sym, ap, ◌∙◌, subst, arith, ⊎_elim, inl, inr}
+use Rattle.std.specs.Prelude.{slice_get, not, codes}
 use Rattle.std.specs.Option.{option_map_or}
 use Rattle.std.specs.Fmt.{decimal}
 use Rattle.std.specs.Str.{bytes_eq}
 use Rattle.std.specs.List.{list_any, list_all}
-use Rattle.std.proofs.lemmas.Bool.{cases_Bool, cases_lt, cases_order, cases_eq, false≢true, and_parts, and_from, eq-eqb, ne_eqb}
+use Rattle.std.proofs.lemmas.Bool.{cases_Bool, cases_lt, cases_order, false≢true, and_parts, and_from, ne_eqb}
 use Rattle.std.proofs.lemmas.List.{get_or_append_left, get_or_push, length_push, get_or_past}
 use Rattle.std.proofs.lemmas.List.Elements.{Contains-get_or, All-contains}
 use Rattle.std.proofs.lemmas.Fmt.{decimal_nonempty}
@@ -13,10 +13,10 @@ use Rattle.std.proofs.lemmas.Option.{slice_get_within, get_or_from_slice_get}
 use Rattle.std.proofs.lemmas.Slice.Eq.{bytes_eq-Decides}
 use Rattle.kaba_base.specs.Words.{is_word, is_name, is_none, key_of, is_part}
 use Rattle.kaba_base.specs.declared.ClassId.{ClassId}
-use Rattle.fact_model.specs.Items.{column_at, column_kind, column_class}
-use Rattle.fact_model.specs.Classes.{IsBelow, below, is_interface}
+use Rattle.fact_model.specs.Items.{column_kind, column_class}
+use Rattle.fact_model.specs.Classes.{IsBelow, below}
 use Rattle.fact_model.specs.InRange.{InRange}
-use Rattle.fact_model.specs.InOrder.{InOrder, IsMember, name_of}
+use Rattle.fact_model.specs.InOrder.{InOrder, name_of}
 use Rattle.fact_model.specs.declared.facts.Facts.{Facts}
 use Rattle.fact_model.specs.declared.facts.ClassInfo.{ClassInfo}
 use Rattle.fact_model.specs.declared.facts.ColumnInfo.{ColumnInfo}
@@ -26,7 +26,7 @@ use Rattle.fact_model.proofs.ClassLemmas.{below-exact}
 use Rattle.fact_model.proofs.ChainLemmas.{chain}
 use Rattle.fact_model.proofs.RangeLemmas.{column-below}
 use Rattle.hier_model.specs.Hierarchies.{any_below}
-use Rattle.hier_model.proofs.AnyLemmas.{any_below_some, any_below_has}
+use Rattle.hier_model.proofs.AnyLemmas.{any_below_has}
 use Rattle.hier_model.specs.Names.{is_taken, free_name, is_field, is_strictly_above, is_namesake_above, is_shared, class_name, joined, named_member, member_names, naming_class, named_type, type_names}
 use Rattle.hier_laws.specs.Starts.{AreNamed}
 use Rattle.hier_rules.specs.Names.{is_reserved, is_variable, known_names}
@@ -36,7 +36,7 @@ use Rattle.fact_model.specs.Closures.{IsPlainClass}
 use Rattle.hier_begin.proofs.GivenLemmas.{given}
 use Rattle.hier_begin.proofs.WordLemmas.{free, not_taken, taken_left, has_mark, made_mark, known_unmarked, word_parts, made_name, decimal_parts}
 
-field_is : (k : ColKind) → is_field k ≡ true → k ≡ Fld
+pub field_is : (k : ColKind) → is_field k ≡ true → k ≡ Fld
 field_is Fld e = refl
 field_is Dcl e = absurd (false≢true e)
 field_is Def e = absurd (false≢true e)

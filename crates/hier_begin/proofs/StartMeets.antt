@@ -50,7 +50,7 @@ two_slots None b h = absurd (false≢true h)
 two_slots (Some x) None h = absurd (false≢true h)
 two_slots (Some x) (Some y) h = (x, y, refl, refl, λ e. refuted (eqb x y) h (eq-eqb x y e))
 
-slot_of_method : (k : ColKind) (slot : Option ℕ) (x : ℕ) → method_slot k slot ≡ Some x → (is_field k ≡ false) × (slot ≡ Some x)
+pub slot_of_method : (k : ColKind) (slot : Option ℕ) (x : ℕ) → method_slot k slot ≡ Some x → (is_field k ≡ false) × (slot ≡ Some x)
 slot_of_method Fld slot x h = absurd (cc h)
 slot_of_method Dcl slot x h = (refl, h)
 slot_of_method Def slot x h = (refl, h)

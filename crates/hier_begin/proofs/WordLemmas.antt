@@ -1,5 +1,5 @@
 -- Names that are made: they are identifiers, none of those taken, and none that the language has.
-use Rattle.std.proofs.Common.{◌≡◌, ◌≢◌, ℕ, suc, zero, ◌+◌, ◌^◌, ◌<◌, ◌≤◌, ◌⊎◌, ◌||◌, eqb, Bool, true, false, List, [], ◌∷◌, ◌++◌, length, Option, Some, None, Contains, refl, sym, ap, ◌∙◌, subst, arith, ⊎_elim}
+use Rattle.std.proofs.Common.{◌≡◌, ◌≢◌, ℕ, suc, zero, ◌+◌, ◌^◌, ◌<◌, ◌⊎◌, ◌||◌, eqb, Bool, true, false, List, [], ◌∷◌, ◌++◌, length, Option, Some, None, Contains, refl, sym, ap, ◌∙◌, subst, arith, ⊎_elim}
 use Rattle.std.specs.Prelude.{not, unwrap_or, codes, replicate}
 use Rattle.std.specs.List.{list_any, list_all}
 use Rattle.std.specs.Str.{bytes_eq}
@@ -19,15 +19,7 @@ use Rattle.kaba_base.proofs.Texts.{start_is_part}
 use Rattle.java_lex.proofs.Numbers.{digit_is_part, all_digits}
 use Rattle.hier_model.specs.Names.{is_taken, longest, lengthened, underscores, free_name, joined}
 use Rattle.hier_rules.specs.Names.{known_names}
-
--- a taken name is no longer than the longest
-taken_short : (taken : List (List ℕ)) (name : List ℕ) → is_taken taken name ≡ true → length name ≤ longest taken
-taken_short [] name h = absurd (false≢true h)
-taken_short (x ∷ taken) name h =
-    ⊎_elim
-    (λ a. let e = ap length ((bytes_eq-Decides name x).0 a) in omega (arith, e))
-    (λ b. let rest = taken_short taken name b in omega (arith, rest))
-    (or_cases (bytes_eq name x) (is_taken taken name) h)
+use Rattle.hier_model.proofs.NameLemmas.{taken_short}
 
 long_free : (taken : List (List ℕ)) (name : List ℕ) → not (is_taken taken (lengthened name (longest taken + 1))) ≡ true
 long_free taken name =

@@ -5,8 +5,8 @@ use Rattle.std.specs.Str.{bytes_eq}
 use Rattle.std.proofs.lemmas.Bool.{false≢true, and_from, or_left, or_right, ne_eqb, cases_eq, cases_order}
 use Rattle.std.proofs.lemmas.Slice.Eq.{bytes_eq-Decides}
 use Rattle.kaba_base.specs.declared.NodeId.{NodeId}
-use Rattle.kaba_bits.specs.Sets.{or_else, first_below}
-use Rattle.kaba_bits.proofs.FirstLemmas.{first_below_None, or_else-None, when-None}
+use Rattle.kaba_bits.specs.Sets.{first_below}
+use Rattle.kaba_bits.proofs.FirstLemmas.{first_below_None, when-None}
 use Rattle.kaba_bits.proofs.SetLemmas.{bit-below}
 use Rattle.kaba_order.specs.Orders.{IsPartialOrder}
 use Rattle.fact_model.specs.Items.{column_kind, column_slot}
@@ -20,11 +20,11 @@ use Rattle.hier_model.proofs.AnyLemmas.{any_below_none}
 use Rattle.hier_rules.specs.declared.broken.Rule.TheVariants.{B8}
 use Rattle.hier_rules.specs.Asked.{are_two_slots}
 use Rattle.hier_rules.specs.Instances.{of_column}
-use Rattle.hier_rules.specs.Names.{method_slot, clash, is_confused, confused, first_confused, first_taken_field, first_taken_type, first_unwritable, first_misnamed}
-use Rattle.hier_rules.specs.First.{first_of_edit, first_changed_run, first_broken}
-use Rattle.hier_rules.specs.Obligations.{first_unoffered, first_untied, first_unchained}
+use Rattle.hier_rules.specs.Names.{method_slot, clash, is_confused, confused}
+use Rattle.hier_rules.specs.First.{first_broken}
 use Rattle.fact_model.proofs.RangeLemmas.{column-below}
 use Rattle.rebuild_looks.specs.Known.{AreNamesApart}
+use Rattle.hier_begin.proofs.Unbroken.{none_broken}
 
 slot_there : (k : ColKind) (o : Option ℕ) → is_method k ≡ true → method_slot k o ≡ o
 slot_there Dcl o h = refl
@@ -39,16 +39,6 @@ method_kind Fld h e = absurd (false≢true h)
 method_kind Is h e = absurd (false≢true h)
 
 module _ (F : Facts) (pt : PointsTo) (H : Hierarchy) (order : IsPartialOrder H.order) (none : first_broken F pt H ≡ None) where
-  confused_none : first_confused F H ≡ None
-  confused_none =
-      let edit = (or_else-None (first_of_edit F pt H) (first_unchained F H) none).0 in
-      let two = (or_else-None (first_unoffered F H) (or_else (first_untied F pt H) (or_else (first_changed_run F pt H) (first_misnamed F H))) edit).1 in
-      let three = (or_else-None (first_untied F pt H) (or_else (first_changed_run F pt H) (first_misnamed F H)) two).1 in
-      let names = (or_else-None (first_changed_run F pt H) (first_misnamed F H) three).1 in
-      let later = (or_else-None (first_unwritable F H) (or_else (first_taken_type F H) (or_else (first_taken_field F H) (first_confused F H))) names).1 in
-      (or_else-None (first_taken_field F H) (first_confused F H)
-      (or_else-None (first_taken_type F H) (or_else (first_taken_field F H) (first_confused F H)) later).1).1
-
   node_below : (n c : ℕ) → is_offered H n c ≡ true → n < length H.order.live
   node_below n c h = go (place_of_column H c) h
     where
@@ -58,7 +48,8 @@ module _ (F : Facts) (pt : PointsTo) (H : Hierarchy) (order : IsPartialOrder H.o
 
   no_clash : (n c d : ℕ) → c < d → d < length F.columns.items → is_offered H n c ≡ true → is_offered H n d ≡ true → clash F H c d ≡ true → ⊥
   no_clash n c d lt ld a b h =
-      let one = first_below_None (λ n. first_below (length F.columns.items) (confused F H n)) (length H.order.live) n confused_none (node_below n c a) in
+      let one = first_below_None (λ n. first_below (length F.columns.items) (confused F H n)) (length H.order.live) n
+      (none_broken F pt H none).names.apart (node_below n c a) in
       let two = first_below_None (confused F H n) (length F.columns.items) d one ld in
       let no : is_confused F H n d ≡ false = when-None (is_confused F H n d) (of_column B8 n d) two in
       let rest : any_below d (λ c. is_offered H n c && clash F H c d) ≡ false = sym (ap (λ z. z && any_below d (λ c. is_offered H n c && clash F H c d)) b)

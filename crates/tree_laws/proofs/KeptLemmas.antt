@@ -8,7 +8,6 @@ use Rattle.kaba_base.specs.declared.NodeId.{NodeId}
 use Rattle.kaba_base.specs.declared.ClassId.{ClassId}
 use Rattle.kaba_bits.specs.Sets.{bit, or_else}
 use Rattle.kaba_bits.proofs.SetLemmas.{bit-below}
-use Rattle.kaba_bits.proofs.FirstLemmas.{or_else-None}
 use Rattle.kaba_order.specs.Orders.{is_le, is_live, is_among}
 use Rattle.kaba_order.proofs.MergeLemmas.{among-All}
 use Rattle.fact_model.specs.Classes.{same, below}
@@ -41,6 +40,7 @@ use Rattle.tree_laws.proofs.GrownLemmas.{fields_apart, slots_apart, rest_of_half
 use Rattle.tree_laws.proofs.ReadLemmas.{half_of, own_of}
 use Rattle.tree_laws.proofs.MadeLemmas.{put_under, made_one, merged_lives, merged_count, same_origin, least, least_there}
 use Rattle.tree_laws.proofs.NameLemmas.{AreNamesLeft, names_left, confused_none}
+use Rattle.hier_begin.proofs.Unbroken.{none_of_edit}
 
 -- the same origins
 keeps_as : (G : Given) (S : Shape) (o p : ℕ → ℕ) → ((n : ℕ) → p n ≡ o n) → Keeps G S o → Keeps G S p
@@ -78,29 +78,13 @@ module _ (F : Facts) (pt : PointsTo) (t : Table) (R : InRange F) (O : InOrder F)
   self_below k = facts.le F pt t R O S T k k same
 
   module _ (H : Hierarchy) (K : IsKept F pt t H) where
-    rest_of : (first_unoffered F H ≡ None) × (or_else (first_untied F pt H) (or_else (first_changed_run F pt H) (first_misnamed F H)) ≡ None)
-    rest_of = or_else-None (first_unoffered F H) (or_else (first_untied F pt H) (or_else (first_changed_run F pt H) (first_misnamed F H))) K.meets
-
-    ties_of : (first_untied F pt H ≡ None) × (or_else (first_changed_run F pt H) (first_misnamed F H) ≡ None)
-    ties_of = or_else-None (first_untied F pt H) (or_else (first_changed_run F pt H) (first_misnamed F H)) rest_of.1
-
-    runs_of : (first_changed_run F pt H ≡ None) × (first_misnamed F H ≡ None)
-    runs_of = or_else-None (first_changed_run F pt H) (first_misnamed F H) ties_of.1
-
-    needs_of : (first_wrong_need F pt H ≡ None) × (or_else (first_wrong_super F H) (or_else (first_two_bodies F H) (first_wrong_outcome F pt H)) ≡ None)
-    needs_of = or_else-None (first_wrong_need F pt H) (or_else (first_wrong_super F H) (or_else (first_two_bodies F H) (first_wrong_outcome F pt H))) runs_of.0
-
-    supers_of : (first_wrong_super F H ≡ None) × (or_else (first_two_bodies F H) (first_wrong_outcome F pt H) ≡ None)
-    supers_of = or_else-None (first_wrong_super F H) (or_else (first_two_bodies F H) (first_wrong_outcome F pt H)) needs_of.1
-
-    outcomes_of : (first_two_bodies F H ≡ None) × (first_wrong_outcome F pt H ≡ None)
-    outcomes_of = or_else-None (first_two_bodies F H) (first_wrong_outcome F pt H) supers_of.1
+    open none_of_edit F pt H K.meets use {offered, tied, needs, supers, outcomes, misnamed}
 
     half : Half G (shape H)
-    half = half_of F pt t R O S T H K.table rest_of.0 ties_of.0 needs_of.0 supers_of.0 outcomes_of.1
+    half = half_of F pt t R O S T H K.table offered tied needs supers outcomes
 
     own : NoneIsOwn G (shape H)
-    own = own_of F pt t R O S T H K.table rest_of.0 ties_of.0 needs_of.0 supers_of.0 outcomes_of.1
+    own = own_of F pt t R O S T H K.table offered tied needs supers outcomes
 
     -- a hierarchy that keeps the halves that grow, and the last words of B5, is kept
     kept_by : (New : Hierarchy) → IsHierarchyOf F New → New.table ≡ t.rows.items → ((n : ℕ) → is_live New.order n ≡ true → is_some (origin_of New n) ≡ true)
@@ -120,7 +104,7 @@ module _ (F : Facts) (pt : PointsTo) (t : Table) (R : InRange F) (O : InOrder F)
         let meets : first_of_edit F pt New ≡ None =
         none_both (first_unoffered F New) (or_else (first_untied F pt New) (or_else (first_changed_run F pt New) (first_misnamed F New))) r.0
         (none_both (first_untied F pt New) (or_else (first_changed_run F pt New) (first_misnamed F New)) r.1
-        (none_both (first_changed_run F pt New) (first_misnamed F New) run (names_left F H New left runs_of.1 apart))) in
+        (none_both (first_changed_run F pt New) (first_misnamed F New) run (names_left F H New left misnamed apart))) in
         record { fits = fits; table = table; there = there; origins = keeps; names = names; meets = meets }
 
     -- where a column stands there is a node

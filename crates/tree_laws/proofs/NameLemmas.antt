@@ -24,7 +24,8 @@ use Rattle.hier_begin.proofs.ShapeLemmas.{shape}
 use Rattle.hier_begin.proofs.MeetLemmas.{none_by, none_both, offered_says}
 use Rattle.hier_begin.proofs.StartMeets.{two_slots}
 use Rattle.tree_laws.specs.Kept.{field_at, slot_at}
-use Rattle.tree_laws.proofs.ReadLemmas.{none_when}
+use Rattle.kaba_bits.proofs.FirstLemmas.{when-None as none_when}
+use Rattle.hier_begin.proofs.Unbroken.{none_misnamed}
 
 -- the nodes are some of those of before, and the members that stand somewhere stood somewhere
 pub record AreNamesLeft (H New : Hierarchy) : Type 0 where
@@ -130,12 +131,10 @@ module _ (F : Facts) (H New : Hierarchy) (L : AreNamesLeft H New) where
   -- with members apart at each node
   pub names_left : first_misnamed F H ≡ None → first_confused F New ≡ None → first_misnamed F New ≡ None
   names_left none apart =
-      let a = or_else-None (first_unwritable F H) (or_else (first_taken_type F H) (or_else (first_taken_field F H) (first_confused F H))) none in
-      let b = or_else-None (first_taken_type F H) (or_else (first_taken_field F H) (first_confused F H)) a.1 in
-      let c = or_else-None (first_taken_field F H) (first_confused F H) b.1 in
-      none_both (first_unwritable F New) (or_else (first_taken_type F New) (or_else (first_taken_field F New) (first_confused F New))) (unwritable_left a.0)
-      (none_both (first_taken_type F New) (or_else (first_taken_field F New) (first_confused F New)) (taken_left b.0)
-      (none_both (first_taken_field F New) (first_confused F New) (field_left c.0) apart))
+      let old = none_misnamed F H none in
+      none_both (first_unwritable F New) (or_else (first_taken_type F New) (or_else (first_taken_field F New) (first_confused F New)))
+      (unwritable_left old.written) (none_both (first_taken_type F New) (or_else (first_taken_field F New) (first_confused F New)) (taken_left old.types)
+      (none_both (first_taken_field F New) (first_confused F New) (field_left old.fields) apart))
 
 module _ (F : Facts) (pt : PointsTo) (t : Table) (H : Hierarchy) (table : H.table ≡ t.rows.items) where
   abbrev S : Shape

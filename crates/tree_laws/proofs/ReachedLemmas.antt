@@ -37,6 +37,7 @@ use Rattle.tree_laws.specs.Kept.{field_at, slot_at, origin_at, IsKept}
 use Rattle.tree_laws.specs.Reached.{IsFresh}
 use Rattle.tree_laws.proofs.OriginLemmas.{drop_keeps, drop_names}
 use Rattle.tree_laws.proofs.MadeLemmas.{without}
+use Rattle.hier_begin.proofs.NamedLemmas.{field_is as is_fld}
 
 -- an accepted change was made, and meets the obligations
 pub accepted : (F : Facts) (pt : PointsTo) (r : Result Hierarchy ChangeFault) (h : Hierarchy) → outcome F pt r ≡ Ok h → (r ≡ Ok h)
@@ -86,12 +87,6 @@ one_slot_says : (a b : Option ℕ) → is_one_slot a b ≡ true → a ≡ b
 one_slot_says None b h = absurd (false≢true h)
 one_slot_says (Some x) None h = absurd (false≢true h)
 one_slot_says (Some x) (Some y) h = ap Some (eqb-true x y h)
-
-is_fld : (k : ColKind) → is_field k ≡ true → k ≡ Fld
-is_fld Fld h = refl
-is_fld Dcl h = absurd (false≢true h)
-is_fld Def h = absurd (false≢true h)
-is_fld Is h = absurd (false≢true h)
 
 -- a field has no slot
 field_slot : (F : Facts) → InOrder F → (c : ℕ) → is_field (column_kind F c) ≡ true → column_slot F c ≡ None

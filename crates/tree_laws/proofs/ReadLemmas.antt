@@ -4,8 +4,8 @@ use Rattle.std.specs.Prelude.{not}
 use Rattle.std.specs.Option.{option_and_then}
 use Rattle.std.proofs.lemmas.Bool.{false≢true, and_parts, and_from, or_right, or_parts, eq-eqb, ne_eqb}
 use Rattle.std.proofs.lemmas.List.Elements.{All-contains}
-use Rattle.kaba_bits.specs.Sets.{bit, row, first_below, when}
-use Rattle.kaba_bits.proofs.FirstLemmas.{first_below_None, or_else-None}
+use Rattle.kaba_bits.specs.Sets.{bit, row, first_below}
+use Rattle.kaba_bits.proofs.FirstLemmas.{first_below_None, or_else-None, when-None as none_when}
 use Rattle.kaba_bits.proofs.SetLemmas.{bit-below}
 use Rattle.kaba_bits.proofs.RowLemmas.{bit-row-below}
 use Rattle.kaba_order.specs.Orders.{is_le}
@@ -22,8 +22,7 @@ use Rattle.fact_model.specs.declared.facts.SuperInfo.{SuperInfo}
 use Rattle.fact_model.specs.declared.sets.PointsTo.{PointsTo}
 use Rattle.fact_model.specs.declared.sets.Table.{Table}
 use Rattle.fact_model.proofs.RangeLemmas.{column-below}
-use Rattle.fact_model.specs.declared.facts.ColKind.{ColKind}
-use Rattle.fact_model.specs.declared.facts.ColKind.TheVariants.{Fld, Dcl, Def, Is}
+use Rattle.fact_model.specs.declared.facts.ColKind.TheVariants.{Def}
 use Rattle.hier_model.specs.Hierarchies.{Hierarchy, place_of_row, is_offered}
 use Rattle.hier_model.proofs.AnyLemmas.{any_below_some, any_below_has}
 use Rattle.hier_laws.specs.Shapes.{Given, Offers}
@@ -34,12 +33,8 @@ use Rattle.hier_rules.specs.Instances.{of_both, of_row}
 use Rattle.hier_rules.specs.Obligations.{differ, row_le, column_le, place_of_site, has_nearer, wrong_body, wrong_need, first_wrong_need, is_between, has_between, wrong_super, first_wrong_super, first_unoffered, untied, unheld, first_untied, wrong_outcome, first_wrong_outcome}
 use Rattle.hier_rules.specs.Obligations as rule
 use Rattle.hier_begin.proofs.ShapeLemmas.{shape}
-use Rattle.hier_begin.proofs.GivenLemmas.{given, row_below, site_below, point_site, tie_at, super_at, called_at, found_at, super_fact, met, meet_site, meet_target}
+use Rattle.hier_begin.proofs.GivenLemmas.{given, row_below, site_below, point_site, tie_at, super_at, called_at, found_at, super_fact, met, meet_site, meet_target, def_is as def_kind}
 use Rattle.hier_begin.proofs.MeetLemmas.{offered_says, above_says, above_test}
-
-pub none_when : {B : Type 0} (b : Bool) (x : B) → when b x ≡ None → b ≡ false
-none_when true x h = absurd (cc h)
-none_when false x h = refl
 
 -- what is asked, and whose answer must not be missed
 pub asked : (a b : Bool) → (a && not b) ≡ false → a ≡ true → b ≡ true
@@ -65,14 +60,8 @@ bound_above f [] x h = absurd (omega (arith, h.1))
 bound_above f (y ∷ xs) x (zero, lt, e) = let k : f y ≡ f x = ap f e in omega (arith, k)
 bound_above f (y ∷ xs) x (suc i, lt, e) = let k = bound_above f xs x (i, omega (arith, lt), e) in omega (arith, k)
 
-one_slot_test : (a b : Option ℕ) (x : ℕ) → a ≡ Some x → b ≡ a → is_one_slot a b ≡ true
+pub one_slot_test : (a b : Option ℕ) (x : ℕ) → a ≡ Some x → b ≡ a → is_one_slot a b ≡ true
 one_slot_test a b x e f = rw (f, e) (eq-eqb x x refl)
-
-def_kind : (k : ColKind) → is_def k ≡ true → k ≡ Def
-def_kind Def h = refl
-def_kind Fld h = absurd (false≢true h)
-def_kind Dcl h = absurd (false≢true h)
-def_kind Is h = absurd (false≢true h)
 
 body_below : (F : Facts) (e : ℕ) → is_def (column_kind F e) ≡ true → e < length F.columns.items
 body_below F e b = column-below F e Def (def_kind (column_kind F e) b) (λ x. cc x)
@@ -121,8 +110,9 @@ module _ (F : Facts) (pt : PointsTo) (t : Table) (R : InRange F) (O : InOrder F)
         asked (bit (row pt.rows.items v) o) (row_le H (site_row F o) v)
         (none_when (bit (row pt.rows.items v) o && not (row_le H (site_row F o) v)) (of_row B3 (place_of_site F H o) (place_of_row H v) (site_row F o)) two) h
 
-    needed : (s x d : ℕ) → G.needs s x d ≡ true → Offers (shape H) (place_of_row H (site_row F s)) d
-    needed s x d h =
+    pub need_right : (s x d : ℕ) → G.needs s x d ≡ true
+        → (is_offered H (place_of_site F H s) d ≡ true) × (has_nearer F H (place_of_site F H s) d ≡ false)
+    need_right s x d h =
         let both = and_parts (is_called F pt s x) (is_slot (finds F (site_class F s) x) d) h in
         let k = called_at F pt t R O S T s x both.0 in
         let ls = point_site F pt t R O S T k.0.receiver s k.2 in
@@ -135,10 +125,13 @@ module _ (F : Facts) (pt : PointsTo) (t : Table) (R : InRange F) (O : InOrder F)
         ∙ (sym (ap (λ b. cond b (option_and_then (wrong_body F H s) (finds F (site_class F s) x)) None) both.0) ∙ two) in
         let no = none_when (not (is_offered H (place_of_site F H s) d) || has_nearer F H (place_of_site F H s) d)
         (of_both B4 (place_of_site F H s) (site_row F s) d) right in
-        offered_says F pt t H table (place_of_row H (site_row F s)) d (no_not (is_offered H (place_of_site F H s) d)
-        (or_parts (not (is_offered H (place_of_site F H s) d)) (has_nearer F H (place_of_site F H s) d) no).0)
+        let rest = or_parts (not (is_offered H (place_of_site F H s) d)) (has_nearer F H (place_of_site F H s) d) no in
+        (no_not (is_offered H (place_of_site F H s) d) rest.0, rest.1)
 
-    super_right : (r d : ℕ) → is_super F r d ≡ true → (rule.is_above H (place_of_row H r) d ≡ true) × (has_between F H r d ≡ false)
+    needed : (s x d : ℕ) → G.needs s x d ≡ true → Offers (shape H) (place_of_row H (site_row F s)) d
+    needed s x d h = offered_says F pt t H table (place_of_row H (site_row F s)) d (need_right s x d h).0
+
+    pub super_right : (r d : ℕ) → is_super F r d ≡ true → (rule.is_above H (place_of_row H r) d ≡ true) × (has_between F H r d ≡ false)
     super_right r d h =
         let x = super_at F pt t R O S T r d h in
         let range = All-contains (λ (y : SuperInfo). IsRow F y.row × IsCol F y.column) F.supers.items x.0 R.supers x.1 in
@@ -155,9 +148,8 @@ module _ (F : Facts) (pt : PointsTo) (t : Table) (R : InRange F) (O : InOrder F)
         let m = above_says F pt t H table (place_of_row H r) d (super_right r d h).0 in
         record { at = m.0; stands = m.1; above = m.2 }
 
-    passes : (s k : ℕ) → G.meets s k ≡ true → below F (site_class F s) (row_class F k) ≡ true
-        → is_le H.order (place_of_row H (site_row F s)) (place_of_row H k) ≡ true
-    passes s k h up =
+    pub same_outcome : (s k : ℕ) → G.meets s k ≡ true → differ (row_le H (site_row F s) k) (below F (site_class F s) (row_class F k)) ≡ false
+    same_outcome s k h =
         let p = any_below_some (λ p. meets F pt p k s) (places_of F) h in
         let m = met F pt t R O S T s k h in
         let one = first_below_None (λ p. first_below (length F.rows.items) (λ k. first_below (length F.sites.items) (wrong_outcome F pt H p k)))
@@ -167,8 +159,11 @@ module _ (F : Facts) (pt : PointsTo) (t : Table) (R : InRange F) (O : InOrder F)
         let three = first_below_None (wrong_outcome F pt H p.0 k) (length F.sites.items) s two (meet_site F pt t R O S T s k m) in
         let no = none_when (meets F pt p.0 k s && differ (row_le H (site_row F s) k) (below F (site_class F s) (row_class F k)))
         (of_row B7 (place_of_site F H s) (place_of_row H k) (site_row F s)) three in
-        same_answers (row_le H (site_row F s) k) (below F (site_class F s) (row_class F k))
-        (asked_also (meets F pt p.0 k s) (differ (row_le H (site_row F s) k) (below F (site_class F s) (row_class F k))) no p.2) up
+        asked_also (meets F pt p.0 k s) (differ (row_le H (site_row F s) k) (below F (site_class F s) (row_class F k))) no p.2
+
+    passes : (s k : ℕ) → G.meets s k ≡ true → below F (site_class F s) (row_class F k) ≡ true
+        → is_le H.order (place_of_row H (site_row F s)) (place_of_row H k) ≡ true
+    passes s k h up = same_answers (row_le H (site_row F s) k) (below F (site_class F s) (row_class F k)) (same_outcome s k h) up
 
     pub half_of : Half (given F pt t) (shape H)
     half_of = record { offered = offered; tied = tied; held = held; needed = needed; ran = ran; passes = passes }

@@ -19,15 +19,14 @@ use Rattle.fact_model.specs.InRange.{IsClass}
 use Rattle.fact_model.specs.InOrder.{name_of}
 use Rattle.fact_model.specs.declared.facts.Facts.{Facts}
 use Rattle.fact_model.specs.declared.facts.RowInfo.{RowInfo}
-use Rattle.fact_model.specs.declared.facts.ColKind.{ColKind}
-use Rattle.fact_model.specs.declared.facts.ColKind.TheVariants.{Fld, Dcl, Def, Is}
+use Rattle.fact_model.specs.declared.facts.ColKind.TheVariants.{Is}
 use Rattle.fact_model.specs.declared.sets.PointsTo.{PointsTo}
 use Rattle.fact_model.specs.declared.sets.Table.{Table}
 use Rattle.fact_model.specs.declared.sets.Lattice.{Lattice}
 use Rattle.fact_model.proofs.ChainLemmas.{chain}
 use Rattle.fact_model.proofs.ClassLemmas.{below-then}
 use Rattle.hier_model.specs.Hierarchies.{Hierarchy, node, origin_of, member_name, IsHierarchyOf}
-use Rattle.hier_model.specs.Names.{is_field, is_shared}
+use Rattle.hier_model.specs.Names.{is_shared}
 use Rattle.hier_model.specs.Start.{is_filled, is_subset, concept_at, column_place, is_below_all, lowest, owners, start_origin, start_from}
 use Rattle.hier_model.proofs.MergedLemmas.{cases_Option}
 use Rattle.hier_model.proofs.LowestLemmas.{list_all-at}
@@ -37,13 +36,12 @@ use Rattle.hier_model.proofs.BeginLemmas.{keeps_table, start_fits}
 use Rattle.hier_laws.specs.Shapes.{Given}
 use Rattle.hier_laws.specs.Starts.{IsClosed, IsStart}
 use Rattle.hier_laws.proofs.Begins.{named_apart}
-use Rattle.hier_rules.specs.Names.{method_slot}
 use Rattle.hier_begin.specs.Laws.{AreAnalysed}
 use Rattle.hier_begin.proofs.GivenLemmas as facts
 use Rattle.hier_begin.proofs.GivenLemmas.{given, roles, is_closed, in_order}
 use Rattle.hier_begin.proofs.ShapeLemmas.{shape, placed, start_shape}
 use Rattle.hier_begin.proofs.NamedLemmas.{new_name, fields_named, method_name}
-use Rattle.hier_begin.proofs.StartMeets.{edit_none}
+use Rattle.hier_begin.proofs.StartMeets.{edit_none, slot_of_method as field_not}
 use Rattle.tree_laws.specs.Origins.{AreStartOrigins, AreNamesApart}
 use Rattle.tree_laws.specs.Kept.{origin_at, field_at, slot_at, IsKept, HasNoInterface}
 use Rattle.tree_laws.proofs.OriginLemmas.{start_keeps}
@@ -107,12 +105,6 @@ first_none p (x ∷ xs) k e h t =
 below_all : (F : Facts) (k : ClassId) (ks : List ClassId) → ((x : ClassId) → Contains ks x → below F k.0 x.0 ≡ true) → is_below_all F ks k ≡ true
 below_all F k [] h = refl
 below_all F k (x ∷ ks) h = and_from (below F k.0 x.0) (is_below_all F ks k) (h x (0, omega arith, refl)) (below_all F k ks (λ y c. h y (shift x ks y c)))
-
-field_not : (k : ColKind) (slot : Option ℕ) (x : ℕ) → method_slot k slot ≡ Some x → (is_field k ≡ false) × (slot ≡ Some x)
-field_not Fld slot x h = absurd (cc h)
-field_not Dcl slot x h = (refl, h)
-field_not Def slot x h = (refl, h)
-field_not Is slot x h = absurd (cc h)
 
 module _ (F : Facts) (pt : PointsTo) (t : Table) (l : Lattice) (A : AreAnalysed F pt t l) (W : HasNoInterface F) where
   abbrev ps : List Pair
