@@ -3,7 +3,6 @@ use Rattle.std.proofs.Common.{◌≡◌, ℕ, List, [], ◌∷◌, ◌++◌, Opt
 use Rattle.std.specs.Prelude.{◌&&◌, Bool, true, false, not, slice_get, Contains, option_and_then}
 use Rattle.std.specs.Option.{option_map_or, is_some, is_none}
 use Rattle.std.proofs.lemmas.Bool.{false≢true}
-use Rattle.std.proofs.lemmas.List.Elements.{Contains-append_left, Contains-append_right}
 use Rattle.java_tree.specs.Syntax.{Expression, NullLit, Expressions}
 use Rattle.java_core.specs.declared.Ty.{Ty}
 use Rattle.java_core.specs.declared.TyBase.{TyBase}
@@ -17,12 +16,11 @@ use Rattle.java_core.specs.Formed.{IsFormed, FormedEx, FormedExs, f_local, f_sta
 use Rattle.java_core.specs.Untagged.{bare_tag, bare, bare_all, untag_method, untagged}
 use Rattle.java_meaning.proofs.Moves.{then_some}
 use Rattle.hier_model.specs.Hierarchies.{Hierarchy}
-use Rattle.flow_rules.specs.declared.items.ObjectType.{ObjectType}
 use Rattle.flow_rules.specs.declared.items.RowItem.{RowItem}
 use Rattle.flow_rules.specs.declared.items.RowItem.TheVariants as row
 use Rattle.flow_rules.specs.Operands.{object_of, operand_of, test_operand, type_in}
-use Rattle.flow_rules.specs.Parts.{Part, a_creation, a_test, is_accessed, parts, parts_all, parts_of}
-use Rattle.flow_rules.proofs.Listed.{first, more}
+use Rattle.flow_rules.specs.Parts.{Part, a_creation, a_test, is_accessed, parts_all, parts_of}
+use Rattle.flow_rules.proofs.Listed.{first}
 use Rattle.run_cover.proofs.Types.{class_apart, slot_called}
 use Rattle.name_rules.specs.declared.parts.Bound.{Bound}
 use Rattle.name_rules.specs.declared.parts.Here.{Here}
@@ -38,6 +36,8 @@ use Rattle.body_rebuilds.proofs.Meant.{prefix_read, infix_read, HasNode, means_i
 use Rattle.body_rebuilds.proofs.Inverse.{at_local, at_field, at_call}
 use Rattle.body_rebuilds.proofs.Found as found
 use Rattle.body_rebuilds.proofs.Found.{own_nearest, row_type_is, field_name_is, method_name_is}
+use Rattle.run_cover.proofs.Walked.{walked}
+use Rattle.run_cover.proofs.Each.{left, right, past}
 
 none_field : (b : Bool) (o : Option ℕ) (f : ℕ) → o ≡ Some f → (not b && is_none o) ≡ false
 none_field true o f e = refl
@@ -61,14 +61,7 @@ module _ (Q : Plain) (H : Hierarchy) (U O : Plain) (T : Places) (K : KnowsNames 
   abbrev R : Renaming
   R = renaming_of (untagged Q) Q H T
 
-  abbrev type : Ex → Option ObjectType
-  type e = type_in P m k e
-
-  abbrev pub tree : Bool → Ex → List Part
-  tree u e = parts P (type_in P m k) m k u e
-
-  abbrev pub Stands : List Part → Type 0
-  Stands ps = (p : Part) → Contains ps p → Contains (parts_of P m k) p
+  open walked P m k use {type, tree, Stands}
 
   abbrev pub IsTyped : Ex → Type 0
   IsTyped e = Typed P g (bare e)
@@ -84,15 +77,6 @@ module _ (Q : Plain) (H : Hierarchy) (U O : Plain) (T : Places) (K : KnowsNames 
 
   abbrev HasRow : RowItem → Type 0
   HasRow i = found.HasRow Q H U O T K formed i
-
-  pub left : (ps qs : List Part) → Stands (ps ++ qs) → Stands ps
-  left ps qs st p c = st p (Contains-append_left ps qs p c)
-
-  pub right : (ps qs : List Part) → Stands (ps ++ qs) → Stands qs
-  right ps qs st p c = st p (Contains-append_right ps qs p c)
-
-  past : (p : Part) (qs : List Part) → Stands (p ∷ qs) → Stands qs
-  past p qs st x c = st x (more x p qs c)
 
   front : (p : Part) (qs : List Part) → Stands (p ∷ qs) → Contains (parts_of P m k) p
   front p qs st = st p (first p qs)

@@ -8,7 +8,7 @@ use Rattle.std.proofs.lemmas.Bool.{false≢true, or_parts}
 use Rattle.std.proofs.lemmas.Option.{same_Some}
 use Rattle.std.proofs.lemmas.List.Folds.{list_any-append}
 use Rattle.std.proofs.lemmas.Slice.Eq.{bytes_eq-Decides}
-use Rattle.flow_rules.proofs.Listed.{at_left}
+use Rattle.flow_rules.proofs.Listed.{at_left, below_at as get_there}
 use Rattle.java_core.specs.Programs.{PlainLocal, PlainMethod}
 use Rattle.java_core.specs.Formed.{variables_of, numbers_below}
 use Rattle.java_core.proofs.Upwards.{contains_cases}
@@ -126,11 +126,6 @@ below_of (suc n) j h = go (contains_cases n (numbers_below n) j h) (λ d. below_
     go : (n ≡ j) ⊎ Contains (numbers_below n) j → (Contains (numbers_below n) j → j < n) → j < suc n
     go (inl e) r = omega (arith, e)
     go (inr d) r = let l = r d in omega (arith, l)
-
-get_there : {A : Type 0} (xs : List A) (i : ℕ) → i < length xs → (x : A) × (slice_get xs i ≡ Some x)
-get_there [] i h = absurd (omega (arith, h))
-get_there (x ∷ xs) zero h = (x, refl)
-get_there (x ∷ xs) (suc i) h = get_there xs i (let z = h in omega (arith, z))
 
 get_name : (ps : List PlainLocal) (i : ℕ) (v : PlainLocal) → slice_get ps i ≡ Some v → slice_get (map (λ (v : PlainLocal). v.name) ps) i ≡ Some v.name
 get_name [] i v e = absurd (cc)

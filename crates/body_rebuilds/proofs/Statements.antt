@@ -1,6 +1,6 @@
 -- What a written body resolves to matches the old one, with the same numbers of locals and the types of their rows.
 use Rattle.std.proofs.Common.{◌≡◌, ℕ, List, [], ◌∷◌, ◌++◌, Option, Some, None, refl, sym, ap, ◌∙◌, subst}
-use Rattle.std.specs.Prelude.{Bool, true, false, slice_get, Contains}
+use Rattle.std.specs.Prelude.{Bool, true, false, slice_get}
 use Rattle.std.specs.Option.{option_map_or, is_some}
 use Rattle.std.proofs.lemmas.Bool.{false≢true}
 use Rattle.std.proofs.lemmas.Option.{same_Some}
@@ -16,7 +16,7 @@ use Rattle.java_core.specs.Formed.{IsHead, of_while, of_for, IsFormed, FormedTar
 use Rattle.java_core.specs.Untagged.{bare_tag, bare, bare_if, bare_target, bare_st, bare_sts, bare_arms, untag_method, untagged}
 use Rattle.hier_model.specs.Hierarchies.{Hierarchy}
 use Rattle.flow_rules.specs.Operands.{variable_row, type_in}
-use Rattle.flow_rules.specs.Parts.{Part, is_accessed, parts_if, parts_assign, parts_st, parts_sts, parts_arms, parts_of}
+use Rattle.flow_rules.specs.Parts.{Part, is_accessed, parts_if, parts_assign, parts_st, parts_arms}
 use Rattle.name_rules.specs.declared.parts.Bound.{Bound}
 use Rattle.name_rules.specs.declared.parts.Here.{Here}
 use Rattle.name_rules.specs.Resolves as names
@@ -34,6 +34,8 @@ use Rattle.body_rebuilds.proofs.Inverse.{at_local, at_field}
 use Rattle.body_rebuilds.proofs.Found as found
 use Rattle.body_rebuilds.proofs.Found.{row_type_is, field_name_is}
 use Rattle.body_rebuilds.proofs.Expressions as ex
+use Rattle.run_cover.proofs.Walked.{walked}
+use Rattle.run_cover.proofs.Each.{left, right}
 
 module _ (Q : Plain) (H : Hierarchy) (U O : Plain) (T : Places) (K : KnowsNames (untagged Q) Q H U O T) (formed : IsFormed (untagged Q))
     (m : ℕ) (k : PlainMethod) (stands : slice_get Q.methods m ≡ Some k) (here : Here) (static_here : here.is_static ≡ k.is_static)
@@ -53,11 +55,7 @@ module _ (Q : Plain) (H : Hierarchy) (U O : Plain) (T : Places) (K : KnowsNames 
   abbrev R : Renaming
   R = renaming_of (untagged Q) Q H T
 
-  abbrev tree : Bool → Ex → List Part
-  tree u e = ex.tree Q H U O T K formed m k stands here static_here owner u e
-
-  abbrev Stands : List Part → Type 0
-  Stands ps = (p : Part) → Contains ps p → Contains (parts_of P m k) p
+  open walked P m k use {tree, Stands, tree_sts as sts_parts}
 
   abbrev IsTyped : Ex → Type 0
   IsTyped e = ex.IsTyped Q H U O T K formed m k stands here static_here owner e
@@ -67,12 +65,6 @@ module _ (Q : Plain) (H : Hierarchy) (U O : Plain) (T : Places) (K : KnowsNames 
 
   abbrev Copies : Ex → Ex → Type 0
   Copies e d = Matches P U R g (bare e) (bare d)
-
-  left : (ps qs : List Part) → Stands (ps ++ qs) → Stands ps
-  left ps qs st = ex.left Q H U O T K formed m k stands here static_here owner ps qs st
-
-  right : (ps qs : List Part) → Stands (ps ++ qs) → Stands qs
-  right ps qs st = ex.right Q H U O T K formed m k stands here static_here owner ps qs st
 
   -- the new method has a local with the type of the old one's row
   pub record IsRetyped (i : ℕ) : Type 0 where
@@ -247,9 +239,6 @@ module _ (Q : Plain) (H : Hierarchy) (U O : Plain) (T : Places) (K : KnowsNames 
   loop_scope true bs absent None h ss y = refl
   loop_scope true bs (present s) v h ss y = refl
   loop_scope false bs f v h ss y = refl
-
-  abbrev sts_parts : Sts → List Part
-  sts_parts xs = parts_sts P (type_in P m k) m k xs
 
   abbrev arms_parts : Arms → List Part
   arms_parts xs = parts_arms P (type_in P m k) m k xs

@@ -37,8 +37,9 @@ use Rattle.facts_order.proofs.Columns.{Stands, for_field, for_declaration, for_b
 use Rattle.facts_order.proofs.Numbers.{IsPart, number_in}
 use Rattle.facts_order.proofs.Sites.{numbered_own, part_numbered}
 use Rattle.facts_order.proofs.Forms.{own, own_assign, From, from_ex, from_assign, from_declare, from_return}
-use Rattle.facts_order.proofs.Rows.{Types, for_field as types_field, for_this as types_this, for_result as types_result, for_variable as types_variable, for_part as types_part, row_types, part_from, item_row, row_cases, this_row}
-use Rattle.facts_order.proofs.Points.{given_by, IsGiven, Follows, a_static, a_this, a_variable, a_result, a_form, point_of, this_point, item_point}
+use Rattle.facts_order.proofs.Rows.{Types, for_field as types_field, for_this as types_this, for_result as types_result, for_variable as types_variable, for_part as types_part, row_types, part_from, item_row, row_cases}
+use Rattle.facts_order.proofs.Points.{given_by, IsGiven, Follows, a_static, a_this, a_variable, a_result, a_form, point_of, item_point}
+use Rattle.run_cover.proofs.HasNumbers.{this_row, this_point}
 
 -- a part that gives something gives it at a label of the method
 abbrev pub HasLabel : ℕ → Option Operand → Type 0

@@ -80,12 +80,6 @@ module _ (P Q : Plain) where
   column_stands n x e = raw_stands x (column_raw P Q n x e)
 
   -- what stands in the text has a column
-  pub field_column : (f : ℕ) (k : PlainField) → slice_get Q.fields f ≡ Some k → k.is_static ≡ false → (c : ℕ) × (column_number P Q (column.Fld f) ≡ Some c)
-  field_column f k e s =
-      let x : Column = record { item = column.Fld f; place = k.tag.place } in
-      column_there P Q x (Contains-append_left (each field_columns 0 Q.fields) (each (method_columns P Q) 0 Q.methods) x
-      (each_has field_columns 0 Q.fields f k x e f (omega arith) (when_has (not k.is_static) _ x (rw s refl) (first x []))))
-
   pub in_method : (m : ℕ) (k : PlainMethod) (x : Column) → slice_get Q.methods m ≡ Some k → Contains (method_columns P Q m k) x
       → (c : ℕ) × (column_number P Q x.item ≡ Some c)
   in_method m k x e d = column_there P Q x (Contains-append_right (each field_columns 0 Q.fields) (each (method_columns P Q) 0 Q.methods) x

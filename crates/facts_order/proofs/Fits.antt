@@ -10,11 +10,11 @@ use Rattle.java_core.specs.declared.TyBase.TheVariants.{Int, Boolean, Char, Str,
 use Rattle.java_core.specs.declared.BinOp.{BinOp}
 use Rattle.java_core.specs.declared.BinOp.TheVariants as bin
 use Rattle.java_core.specs.Programs.{Plain}
-use Rattle.java_core.specs.Classes.{IsSubclass, below}
+use Rattle.java_core.specs.Classes.{IsSubclass, same_class, below}
 use Rattle.java_core.specs.Types.{Static, a_value, null_value, no_value, class_in, class_of, element_in, element_of, is_numeric, is_boolean, is_object, is_sub_base, is_subtype, is_only, fits, fits_in, are_comparable}
 use Rattle.java_core.specs.Typing.{takes_two, are_related, can_cast}
 use Rattle.java_core.specs.Formed.{IsKnownBase, IsType, IsCastType, to_int, to_char, to_class}
-use Rattle.java_core.proofs.Subclasses.{below-subclass}
+use Rattle.java_core.proofs.Subclasses.{below-subclass, subclass-then}
 use Rattle.flow_rules.specs.declared.items.ObjectType.{ObjectType}
 use Rattle.flow_rules.specs.Operands.{object_in, object_of, object_static, object_class, class_at}
 use Rattle.flow_rules.specs.Types.{element_in as element_in_type}
@@ -126,6 +126,9 @@ module _ (P : Plain) where
   abbrev pub ArePaired : ObjectType → ObjectType → Type 0
   ArePaired s t = (IsUnder s t) ⊎ (IsUnder t s)
 
+  pub paired_dim : (s t : ObjectType) → ArePaired s t → s.dim ≡ t.dim
+  paired_dim s t p = ⊎_elim (λ u. u.dim) (λ u. sym u.dim) p
+
   no_plain : (b : TyBase) (d : ℕ) (t : ObjectType) → object_in b d ≡ Some t → (is_numeric (a_value (record { base = b; dim = d })) ≡ false)
       × (is_boolean (a_value (record { base = b; dim = d })) ≡ false)
   no_plain (Class c) d t h = (refl, refl)
@@ -184,3 +187,13 @@ module _ (P : Plain) where
       ⊎_elim (λ w. absurd (false≢true (sym (no_plain u.base u.dim t g).0 ∙ (and_parts (is_numeric (a_value u)) (is_numeric s) w).0)))
       (λ w. related_paired s (a_value u) b t w h g)
       (or_cases (is_numeric (a_value u) && is_numeric s) (are_related P (class_of s) (class_in u.base u.dim)) e)
+
+module _ {P : Plain} where
+  pub under_same : (t : ObjectType) → IsUnder P t t
+  under_same t = record { class = same_class; dim = refl }
+
+  pub under_then : {s t u : ObjectType} → IsUnder P s t → IsUnder P t u → IsUnder P s u
+  under_then a b = record { class = subclass-then P a.class b.class; dim = a.dim ∙ b.dim }
+
+  pub under_as : {s t u : ObjectType} → IsUnder P s t → t ≡ u → IsUnder P s u
+  under_as {s} a e = subst (λ z. IsUnder P s z) e a

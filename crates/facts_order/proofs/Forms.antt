@@ -117,6 +117,10 @@ module _ (P : Plain) (type : Ex → Option ObjectType) (m : ℕ) (k h : PlainMet
   unless : {p : Part} {R : Type 0} → Contains [] p → R
   unless c = absurd (omega (arith, c.1))
 
+  of_form : {p : Part} {scope : List ℕ} (n : ℕ) (u : Bool) (e : Ex) → Typed P g (bare e) → FormedEx P h scope (bare e)
+      → Into (parts P type m k u (label n e)) ps → Contains (own u (label n e)) p → FromEx p
+  of_form n u e a f into z = record { form = e; number = n; used = u; scope = _; typed = a; formed = f; inside = into; own_part = z }
+
   mutual
     ex_from : {p : Part} {scope : List ℕ} (n : ℕ) (u : Bool) (e : Ex) → Typed P g (bare e) → FormedEx P h scope (bare e)
         → Into (parts P type m k u (label n e)) ps → Contains (parts P type m k u (label n e)) p → FromEx p
@@ -129,110 +133,44 @@ module _ (P : Plain) (type : Ex → Option ObjectType) (m : ℕ) (k h : PlainMet
     ex_from n u (local t i) a f into c = unless c
     ex_from n u (static_field t i) a f into c = unless c
     ex_from n u (own_field t i) a f into c =
-        record { form = own_field t i; number = n; used = u; scope = _; typed = a; formed = f; inside = into; own_part = c }
+        of_form n u (own_field t i) a f into c
     ex_from n u (field t e x) (t_field a b) (f_field d i) into c =
         split (parts P type m k (is_accessed (label n e)) (label n e)) (own u (label n (field t e x))) into c
-        (λ way z. ex_from n (is_accessed (label n e)) e a d way z)
-        (λ way z. record { form = field t e x; number = n; used = u; scope = _; typed = t_field a b; formed = f_field d i; inside = into; own_part = z })
+        (λ way z. ex_from n (is_accessed (label n e)) e a d way z) (λ way z. of_form n u (field t e x) (t_field a b) (f_field d i) into z)
     ex_from n u (index t e i) (t_index a b v w) (f_index d q) into c =
         split (parts P type m k true (label n e)) (own u (label n (index t e i)) ++ parts P type m k false (label (n + size e + 1) i)) into c
         (λ way z. ex_from n true e a d way z)
         (λ way z. split (own u (label n (index t e i))) (parts P type m k false (label (n + size e + 1) i)) way z
-        (λ way z. record {
-          form = index t e i;
-          number = n;
-          used = u;
-          scope = _;
-          typed = t_index a b v w;
-          formed = f_index d q;
-          inside = into;
-          own_part = z;
-        }) (λ way z. ex_from (n + size e + 1) false i v q way z))
+        (λ way z. of_form n u (index t e i) (t_index a b v w) (f_index d q) into z) (λ way z. ex_from (n + size e + 1) false i v q way z))
     ex_from n u (call t e x es) (t_call a b v) (f_call d i q) into c =
         split (parts P type m k true (label n e)) (own u (label n (call t e x es)) ++ parts_all P type m k true (label_all (n + size e + 1) es)) into
         c (λ way z. ex_from n true e a d way z)
         (λ way z. split (own u (label n (call t e x es))) (parts_all P type m k true (label_all (n + size e + 1) es)) way z
-        (λ way z. record {
-          form = call t e x es;
-          number = n;
-          used = u;
-          scope = _;
-          typed = t_call a b v;
-          formed = f_call d i q;
-          inside = into;
-          own_part = z;
-        }) (λ way z. all_from (n + size e + 1) true es v q way z))
+        (λ way z. of_form n u (call t e x es) (t_call a b v) (f_call d i q) into z) (λ way z. all_from (n + size e + 1) true es v q way z))
     ex_from n u (static_call t d es) (t_static_call a b) (f_static_call i q) into c =
         split (own u (label n (static_call t d es))) (parts_all P type m k false (label_all (n + 1) es)) into c
-        (λ way z. record {
-          form = static_call t d es;
-          number = n;
-          used = u;
-          scope = _;
-          typed = t_static_call a b;
-          formed = f_static_call i q;
-          inside =
-              into;
-          own_part = z;
-        }) (λ way z. all_from (n + 1) false es b q way z)
+        (λ way z. of_form n u (static_call t d es) (t_static_call a b) (f_static_call i q) into z) (λ way z. all_from (n + 1) false es b q way z)
     ex_from n u (super_call t x es) (t_super_call a b v w) (f_super_call i j q) into c =
         split (own u (label n (super_call t x es))) (parts_all P type m k false (label_all (n + 1) es)) into c
-        (λ way z. record {
-          form = super_call t x es;
-          number = n;
-          used = u;
-          scope = _;
-          typed = t_super_call a b v w;
-          formed = f_super_call i j q;
-          inside = into;
-          own_part = z;
-        }) (λ way z. all_from (n + 1) false es w q way z)
+        (λ way z. of_form n u (super_call t x es) (t_super_call a b v w) (f_super_call i j q) into z) (λ way z. all_from (n + 1) false es w q way z)
     ex_from n u (create t i d no_ex) (t_create a) (f_create b q) into c =
-        record { form = create t i d no_ex; number = n; used = u; scope = _; typed = t_create a; formed = f_create b q; inside = into; own_part = c }
+        of_form n u (create t i d no_ex) (t_create a) (f_create b q) into c
     ex_from n u (create t i d (ex_then e es)) a f into c = elim a [ ]
     ex_from n u (create_array t i v e) (t_create_array a b) (f_create_array d q r) into c =
         split (own u (label n (create_array t i v e))) (parts P type m k false (label (n + 1) e)) into c
-        (λ way z. record {
-          form = create_array t i v e;
-          number = n;
-          used = u;
-          scope = _;
-          typed = t_create_array a b;
-          formed = f_create_array d q r;
-          inside = into;
-          own_part = z;
-        }) (λ way z. ex_from (n + 1) false e a r way z)
+        (λ way z. of_form n u (create_array t i v e) (t_create_array a b) (f_create_array d q r) into z) (λ way z. ex_from (n + 1) false e a r way z)
     ex_from n u (cast t i v e) (t_cast a b) (f_cast d q) into c =
         split (own u (label n (cast t i v e))) (parts P type m k true (label (n + 1) e)) into c
-        (λ way z. record {
-          form = cast t i v e;
-          number = n;
-          used = u;
-          scope = _;
-          typed = t_cast a b;
-          formed = f_cast d q;
-          inside = into;
-          own_part =
-              z;
-        }) (λ way z. ex_from (n + 1) true e a q way z)
+        (λ way z. of_form n u (cast t i v e) (t_cast a b) (f_cast d q) into z) (λ way z. ex_from (n + 1) true e a q way z)
     ex_from n u (instance_of t i e v) (t_instance_of a b) (f_instance_of d q) into c =
         split (parts P type m k true (label n e)) (own u (label n (instance_of t i e v))) into c (λ way z. ex_from n true e a d way z)
-        (λ way z. record {
-          form = instance_of t i e v;
-          number = n;
-          used = u;
-          scope = _;
-          typed = t_instance_of a b;
-          formed = f_instance_of d q;
-          inside = into;
-          own_part = z;
-        })
+        (λ way z. of_form n u (instance_of t i e v) (t_instance_of a b) (f_instance_of d q) into z)
     ex_from n u (unary t o e) (t_unary a b) (f_unary d) into c = ex_from n false e a d into c
     ex_from n u (binary t o e i) (t_binary a b v) (f_binary d q) into c =
         split (parts P type m k false (label n e) ++ parts P type m k false (label (n + size e) i)) (own u (label n (binary t o e i))) into c
         (λ way z. split (parts P type m k false (label n e)) (parts P type m k false (label (n + size e) i)) way z
         (λ way z. ex_from n false e a d way z) (λ way z. ex_from (n + size e) false i b q way z))
-        (λ way z. record { form = binary t o e i; number = n; used = u; scope = _; typed = t_binary a b v; formed = f_binary d q; inside = into; own_part = z })
+        (λ way z. of_form n u (binary t o e i) (t_binary a b v) (f_binary d q) into z)
 
     all_from : {p : Part} {scope : List ℕ} {us : List Ty} (n : ℕ) (u : Bool) (es : Exs) → TypedArgs P g (bare_all es) us
         → FormedExs P h scope (bare_all es) → Into (parts_all P type m k u (label_all n es)) ps → Contains (parts_all P type m k u (label_all n es)) p

@@ -43,11 +43,11 @@ use Rattle.facts_order.proofs.Pairs.{IsPlaced}
 use Rattle.facts_order.proofs.Classes.{below_subclass}
 use Rattle.facts_order.proofs.Tests.{gathered_from, both_from, these_from}
 use Rattle.facts_order.proofs.Operands.{param_object, slot_param}
-use Rattle.facts_order.proofs.Fits.{IsUnder, ArePaired, element_some, element_parts}
+use Rattle.facts_order.proofs.Fits.{IsUnder, under_same, under_then, under_as, paired_dim, element_some, element_parts}
 use Rattle.facts_order.proofs.Sound.{item_type, IsSound}
 use Rattle.facts_order.proofs.Fitted.{IsFitted, IsValue, part_fitted}
 use Rattle.facts_order.proofs.Supers.{super_above}
-use Rattle.facts_order.proofs.Pointed.{under_same, under_then, under_as, point_type, number_type, point_item_of, operand_type, made_type, has_type}
+use Rattle.facts_order.proofs.Pointed.{point_type, number_type, point_item_of, operand_type, made_type, has_type}
 use Rattle.facts_order.proofs.Called.{runs_body, arg_at, param_at}
 
 field_number : ColumnItem → Option ℕ
@@ -72,12 +72,6 @@ module _ (P Q : Plain) (placed : IsPlaced P Q) (formed : IsFormed P) (typed : Is
   abbrev pub IsHeld : Fact → Type 0
   IsHeld (in_point q s) = (t : ObjectType) → types_at q ≡ Some t → Under s t
   IsHeld (in_cell c s) = InCell c s
-
-  then_under : {s t u : ObjectType} → IsUnder P s t → IsUnder P t u → IsUnder P s u
-  then_under a b = under_then P Q placed formed typed F facts a b
-
-  as_under : {s t u : ObjectType} → IsUnder P s t → t ≡ u → IsUnder P s u
-  as_under a e = under_as P Q placed formed typed F facts a e
 
   number_types : (i : PointItem) (q : ℕ) → point_number P Q i ≡ Some q → types_at q ≡ item_type P Q i
   number_types i q e = number_type P Q placed formed typed F facts i q e
@@ -139,7 +133,7 @@ module _ (P Q : Plain) (placed : IsPlaced P Q) (formed : IsFormed P) (typed : Is
     -- what a value holds goes where the value goes
     value_goes : (o : Operand) (t : Option ObjectType) (q s : ℕ) → Value o t → point_at (numbers P Q) o ≡ Some q → IsHeld (in_point q s)
         → (u : ObjectType) → t ≡ Some u → Under s u
-    value_goes o t q s v e h u d = let z = typed_operand o q v.good e in then_under (h z.0 z.1) (v.under z.0 u z.2 d)
+    value_goes o t q s v e h u d = let z = typed_operand o q v.good e in under_then (h z.0 z.1) (v.under z.0 u z.2 d)
 
     -- what a point takes is what a type takes
     Takes : Option ℕ → Option ObjectType → Type 0
@@ -169,7 +163,7 @@ module _ (P Q : Plain) (placed : IsPlaced P Q) (formed : IsFormed P) (typed : Is
     self_value : (o : Operand) → IsGood o → Value o o.ty
     self_value o g = record {
       good = g;
-      under = λ b u x y. under_as P Q placed formed typed F facts (under_same P Q placed formed typed F facts b)
+      under = λ b u x y. under_as (under_same b)
           (same_Some b u (sym x ∙ y));
     }
 
@@ -207,7 +201,7 @@ module _ (P Q : Plain) (placed : IsPlaced P Q) (formed : IsFormed P) (typed : Is
     result_flow d o x s g e c h u y =
         let z = moved_from (point_number P Q (point.Result d)) (point_at (numbers P Q) o) x c in
         let t = typed_item (point.Result d) x.from z.0 in
-        as_under (h t.0 t.1) (same_Some _ _ (sym (result_same d t.0 t.2) ∙ sym e ∙ sym (operand_types o x.to g z.1) ∙ y))
+        under_as (h t.0 t.1) (same_Some _ _ (sym (result_same d t.0 t.2) ∙ sym e ∙ sym (operand_types o x.to g z.1) ∙ y))
 
     this_flow : (d : ℕ) (x : FlowInfo) (s : ℕ) → IsSubclass P k.owner (owner_of Q (column.Def d))
         → Contains (moved (point_number P Q (point.This m)) (point_number P Q (point.This d))) x → IsHeld (in_point x.from s)
@@ -215,7 +209,7 @@ module _ (P Q : Plain) (placed : IsPlaced P Q) (formed : IsFormed P) (typed : Is
     this_flow d x s b c h u y =
         let z = moved_from (point_number P Q (point.This m)) (point_number P Q (point.This d)) x c in
         let w = this_parts (slice_get Q.methods d) refl (sym (number_types (point.This d) x.to z.1) ∙ y) in
-        then_under (h (record { class = record { 0 = k.owner }; dim = 0 }) (number_types (point.This m) x.from z.0
+        under_then (h (record { class = record { 0 = k.owner }; dim = 0 }) (number_types (point.This m) x.from z.0
         ∙ ap (option_and_then (λ k. class_object k.owner)) stands)) (subst (λ v. IsUnder P (record { class = record { 0 = k.owner }; dim = 0 }) v)
         w (record { class = b; dim = refl }))
       where
@@ -306,9 +300,6 @@ module _ (P Q : Plain) (placed : IsPlaced P Q) (formed : IsFormed P) (typed : Is
         (subst (λ y. IsCell F c o y) (sym (ap (λ y. y.column) z.4)) i) (subst (λ y. Fits F y s o) (sym (ap (λ y. y.column) z.4)) r) h v
     part_store _ x c o s g e i r h v = absurd (omega (arith, e.1))
 
-    paired_dims : (s t : ObjectType) → ArePaired P s t → s.dim ≡ t.dim
-    paired_dims s t p = ⊎_elim (λ u. u.dim) (λ u. sym u.dim) p
-
     part_cast : (p : Part) (x : CastInfo) (s : ℕ) → Fitted p → Contains (casts_of (numbers P Q) p) x → IsBelow F (site_class F s) x.class.0
         → IsHeld (in_point x.from s) → IsHeld (in_point x.into s)
     part_cast (a_test w e q) x s g c b h u d =
@@ -317,7 +308,7 @@ module _ (P Q : Plain) (placed : IsPlaced P Q) (formed : IsFormed P) (typed : Is
         let t : z.2 ≡ u = same_Some _ _ (sym z.5 ∙ sym (operand_types q x.into g.1 (z.4 ∙ ap (λ y. Some y.into) z.6)) ∙ d) in
         record {
           class = subst (λ n. IsSubclass P (site_class F s) n) (sym (ap (λ y. y.class.0) z.6) ∙ ap (λ y. y.class.0) t) (below_subclass P Q placed F facts b);
-          dim = (h y.0 y.1).dim ∙ paired_dims y.0 z.2 (g.3 y.0 z.2 y.2 z.5) ∙ ap (λ y. y.dim) t;
+          dim = (h y.0 y.1).dim ∙ paired_dim P y.0 z.2 (g.3 y.0 z.2 y.2 z.5) ∙ ap (λ y. y.dim) t;
         }
     part_cast _ x s g c r h u d = absurd (omega (arith, c.1))
 
@@ -333,7 +324,7 @@ module _ (P Q : Plain) (placed : IsPlaced P Q) (formed : IsFormed P) (typed : Is
       let t = typed_operand c.number c.method c.stands c.base call.receiver c.base_good c.receiver in
       let s : record { class = record { 0 = e.method.owner }; dim = 0 } ≡ u = same_Some _ u (sym (number_types (point.This e.number) body.this e.this
       ∙ ap (option_and_then (λ k. class_object k.owner)) e.stands) ∙ d) in
-      as_under (record { class = w.above; dim = (h t.0 t.1).dim ∙ c.object t.0 t.2 }) s
+      under_as (record { class = w.above; dim = (h t.0 t.1).dim ∙ c.object t.0 t.2 }) s
 
   argument_held : (call : CallInfo) (o : ℕ) (body : BodyInfo) (i from to s : ℕ) → Runs F call o body → listed_at call.args.items i ≡ Some from
       → listed_at body.params.items i ≡ Some to → IsHeld (in_point from s) → IsHeld (in_point to s)
@@ -358,7 +349,7 @@ module _ (P Q : Plain) (placed : IsPlaced P Q) (formed : IsFormed P) (typed : Is
       let t = typed_item (point.Result e.number) from (sym e.result ∙ a) in
       let same : object_if e.method.result ≡ slot_object P call.slot = ap object_if (sym z.result ∙ y.result)
       ∙ sym (ap (λ o. object_if (option_and_then (λ k. k.result) o)) y.stands) in
-      as_under (h t.0 t.1) (same_Some _ _ (sym t.2 ∙ ap (option_and_then (λ k. object_if k.result)) e.stands ∙ same ∙ sym c.gives
+      under_as (h t.0 t.1) (same_Some _ _ (sym t.2 ∙ ap (option_and_then (λ k. object_if k.result)) e.stands ∙ same ∙ sym c.gives
       ∙ sym (operand_types c.number c.method c.stands c.own to c.own_good (sym c.result ∙ p)) ∙ d))
 
   closed : (ps : List Fact) (f : Fact) → Inclusion F ps f → AllByRecursion IsHeld ps → IsHeld f

@@ -20,7 +20,7 @@ use Rattle.flow_rules.specs.Numbered.{rows_of}
 use Rattle.facts_order.proofs.Pairs.{IsPlaced}
 use Rattle.facts_order.proofs.Numbers.{number_in}
 use Rattle.facts_order.proofs.Rows.{IsOwn, Types, for_field, for_this, for_result, for_variable, for_part, row_types}
-use Rattle.facts_order.proofs.Sites.{numbered_own, part_numbered}
+use Rattle.facts_order.proofs.Sites.{numbered_own, part_numbered, variable_numberless as variable_none}
 
 abbrev field_number : RowItem → Option ℕ
 field_number (row.Field f) = Some f
@@ -83,11 +83,6 @@ variable_is : (s : Option ℕ) (b : Bool) (m i : ℕ) → is_variable (variable_
 variable_is None b m i = refl
 variable_is (Some s) true m i = refl
 variable_is (Some s) false m i = refl
-
-variable_none : (s : Option ℕ) (b : Bool) (m i : ℕ) → number_in (Some (variable_in s b m i)) ≡ []
-variable_none None b m i = refl
-variable_none (Some s) true m i = refl
-variable_none (Some s) false m i = refl
 
 -- the type of a parameter of a slot
 abbrev pub param_object : Plain → ℕ → ℕ → Option ObjectType

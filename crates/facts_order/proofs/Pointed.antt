@@ -3,10 +3,8 @@ use Rattle.std.proofs.Common.{◌≡◌, ℕ, Option, Some, None, length, refl, 
 use Rattle.std.specs.Prelude.{◌<◌, ◌≤◌, slice_get, option_and_then}
 use Rattle.std.proofs.lemmas.Option.{same_Some}
 use Rattle.java_core.specs.Programs.{Plain, PlainMethod}
-use Rattle.java_core.specs.Classes.{same_class}
 use Rattle.java_core.specs.Typing.{IsTyped}
 use Rattle.java_core.specs.Formed.{IsFormed}
-use Rattle.java_core.proofs.Subclasses.{subclass-then}
 use Rattle.fact_model.specs.Items.{row_class, point_row}
 use Rattle.fact_model.specs.declared.facts.Facts.{Facts}
 use Rattle.flow_rules.specs.declared.items.ObjectType.{ObjectType}
@@ -31,7 +29,6 @@ use Rattle.facts_order.proofs.Sites.{own_typed, own_type, site_part}
 use Rattle.facts_order.proofs.Bodies.{this_method}
 use Rattle.facts_order.proofs.Points.{given_by, Follows, a_static, a_this, a_variable, a_result, a_form, point_of}
 use Rattle.facts_order.proofs.Operands.{field_type, variable_type}
-use Rattle.facts_order.proofs.Fits.{IsUnder}
 use Rattle.facts_order.proofs.Classed.{Typing}
 use Rattle.facts_order.proofs.Sound.{item_type, IsSound}
 use Rattle.facts_order.proofs.Fitted.{IsFitted, part_fitted}
@@ -39,15 +36,6 @@ use Rattle.facts_order.proofs.Owners.{IsRowAt, row_there, class_of_row}
 use Rattle.facts_order.proofs.Tied.{result_row_type}
 
 module _ (P Q : Plain) (placed : IsPlaced P Q) (formed : IsFormed P) (typed : IsTyped P) (F : Facts) (facts : IsFactsOf P Q F) where
-  pub under_same : (t : ObjectType) → IsUnder P t t
-  under_same t = record { class = same_class; dim = refl }
-
-  pub under_then : {s t u : ObjectType} → IsUnder P s t → IsUnder P t u → IsUnder P s u
-  under_then a b = record { class = subclass-then P a.class b.class; dim = a.dim ∙ b.dim }
-
-  pub under_as : {s t u : ObjectType} → IsUnder P s t → t ≡ u → IsUnder P s u
-  under_as {s} a e = subst (λ z. IsUnder P s z) e a
-
   -- the type of what a flow point holds
   abbrev pub point_type : ℕ → Option ObjectType
   point_type q = option_and_then (λ x. item_type P Q x.item) (slice_get (points_of P Q) q)

@@ -1,9 +1,9 @@
 -- The flow points of a program's facts: what each follows, and its row.
 use Rattle.std.proofs.Common.{◌≡◌, ℕ, List, [], ◌∷◌, ◌++◌, Option, Some, None, length, refl, sym, ap, subst, arith, ⊎_elim}
-use Rattle.std.specs.Prelude.{◌<◌, true, false, not, Contains, slice_get}
+use Rattle.std.specs.Prelude.{◌<◌, true, not, Contains, slice_get}
 use Rattle.std.specs.Option.{is_some}
 use Rattle.std.specs.List.{flat_map}
-use Rattle.std.proofs.lemmas.List.Elements.{Contains-append_left, Contains-append_right, Contains-append_cases}
+use Rattle.std.proofs.lemmas.List.Elements.{Contains-append_right, Contains-append_cases}
 use Rattle.kaba_base.specs.declared.Place.{Place}
 use Rattle.java_core.specs.Programs.{Plain, PlainField, PlainMethod, PlainLocal}
 use Rattle.fact_model.specs.Items.{point_row}
@@ -21,8 +21,9 @@ use Rattle.flow_rules.specs.Operands.{variable_row, result_in}
 use Rattle.flow_rules.specs.Parts.{Part, a_load, an_element, a_creation, a_call, a_static_call, a_super_call, a_test, parts_of}
 use Rattle.flow_rules.specs.Numbered.{Outline, own_point, point_of_form, form_points, static_points, variable_points, method_points, outline_if, point_with, listed, row_number, points_of, point_number}
 use Rattle.flow_rules.specs.Facts.{IsFactsOf}
-use Rattle.flow_rules.proofs.Listed.{first, at_below, at_map, index_at, each_has, each_from, each_from_zero, flat_has, flat_from, place_has, place_from, when_has, when_from, one_from}
-use Rattle.facts_order.proofs.Items.{point_at, point_raw, point_there}
+use Rattle.flow_rules.proofs.Listed.{at_below, at_map, index_at, each_from, each_from_zero, flat_has, flat_from, place_has, place_from, when_from, one_from}
+use Rattle.facts_order.proofs.Items.{point_at, point_raw}
+use Rattle.run_cover.proofs.HasNumbers.{in_body}
 
 -- what a part gives, where that can be a flow point
 abbrev pub given_by : Part → Option Operand
@@ -111,14 +112,6 @@ module _ (P Q : Plain) where
         k z.0 e z.1 (form_from z.0 a z.2))
         (Contains-append_cases (((this_points ++ param_points) ++ local_points) ++ result_points) part_points a c)
 
-    this_at : k.is_static ≡ false → Contains (method_points P Q m k) (record { item = point.This m; place = k.tag.place; row = row.This m })
-    this_at s =
-        let a : PointAt = record { item = point.This m; place = k.tag.place; row = row.This m } in
-        Contains-append_left (((this_points ++ param_points) ++ local_points) ++ result_points) part_points a
-        (Contains-append_left ((this_points ++ param_points) ++ local_points) result_points a
-        (Contains-append_left (this_points ++ param_points) local_points a (Contains-append_left this_points param_points a
-        (when_has (not k.is_static) _ a (rw s refl) (first a [])))))
-
     part_at : (p : Part) (a : PointAt) → Contains (parts_of P m k) p → Contains (form_points p) a → Contains (method_points P Q m k) a
     part_at p a c d = Contains-append_right (((this_points ++ param_points) ++ local_points) ++ result_points) part_points a
         (place_has (λ p. p.place.at) (flat_map form_points (parts_of P m k)) a (flat_has form_points (parts_of P m k) p a c d))
@@ -158,25 +151,10 @@ module _ (P Q : Plain) where
       record { at = z.0; item = w.0; number = w.1; follows = method_follows y.0 y.1 y.2 z.0 (subst (λ v. Contains v.points z.0) (sym d) z.1) })
       (Contains-append_cases (flat_map (listed (row_number P Q)) statics) (flat_map in_outline outlines) x (point_raw P Q q x e))
 
-  -- what a body's outline has is a point, where it has a row
-  in_body : (m : ℕ) (k : PlainMethod) → slice_get Q.methods m ≡ Some k → is_some k.body ≡ true → (a : PointAt) → Contains (method_points P Q m k) a
-      → (r : ℕ) → row_number P Q a.row ≡ Some r → (q : ℕ) × (point_number P Q a.item ≡ Some q)
-  in_body m k e b a c r n =
-      let x : Point = record { item = a.item; row = r } in
-      let o : Outline = record { place = k.tag.place; points = method_points P Q m k } in
-      point_there P Q x (Contains-append_right (flat_map (listed (row_number P Q)) statics) (flat_map in_outline outlines) x
-      (flat_has in_outline outlines o x (place_has (λ o. o.place.at) (each (outline_if P Q) 0 Q.methods) o
-      (each_has (outline_if P Q) 0 Q.methods m k o e m (omega arith) (when_has (is_some k.body) _ o b (first o []))))
-      (flat_has (listed (row_number P Q)) (method_points P Q m k) a x c (subst (λ v. Contains (point_with a v) x) (sym n) (first x [])))))
-
-  pub this_point : (m : ℕ) (k : PlainMethod) → slice_get Q.methods m ≡ Some k → is_some k.body ≡ true → k.is_static ≡ false → (r : ℕ)
-      → row_number P Q (row.This m) ≡ Some r → (q : ℕ) × (point_number P Q (point.This m) ≡ Some q)
-  this_point m k e b s r n = in_body m k e b (record { item = point.This m; place = k.tag.place; row = row.This m }) (this_at m k e s) r n
-
   pub part_point : (m : ℕ) (k : PlainMethod) → slice_get Q.methods m ≡ Some k → is_some k.body ≡ true → (p : Part) (a : PointAt)
       → Contains (parts_of P m k) p → Contains (form_points p) a → (r : ℕ) → row_number P Q a.row ≡ Some r
       → (q : ℕ) × (point_number P Q a.item ≡ Some q)
-  part_point m k e b p a c d r n = in_body m k e b a (part_at m k e p a c d) r n
+  part_point m k e b p a c d r n = in_body P Q m k e b a r n (part_at m k e p a c d)
 
   module _ (F : Facts) (facts : IsFactsOf P Q F) where
     pub item_point : (i : PointItem) (q : ℕ) → point_number P Q i ≡ Some q → (x : Point) × (slice_get (points_of P Q) q ≡ Some x) × (x.item ≡ i)

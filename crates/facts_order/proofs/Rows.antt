@@ -4,7 +4,7 @@ use Rattle.std.specs.Prelude.{◌⊎◌, ◌<◌, ◌&&◌, ◌||◌, nat_lt, tr
 use Rattle.std.specs.Option.{option_map, is_some}
 use Rattle.std.specs.List.{flat_map}
 use Rattle.std.proofs.lemmas.Bool.{not-true, and_parts}
-use Rattle.std.proofs.lemmas.List.Elements.{Contains-append_left, Contains-append_right, Contains-append_cases}
+use Rattle.std.proofs.lemmas.List.Elements.{Contains-append_cases}
 use Rattle.kaba_base.specs.declared.Place.{Place}
 use Rattle.java_core.specs.Trees.{Sts}
 use Rattle.java_core.specs.Programs.{Plain, PlainField, PlainMethod, PlainLocal}
@@ -24,8 +24,8 @@ use Rattle.flow_rules.specs.Operands.{object_of, object_if, class_object, variab
 use Rattle.flow_rules.specs.Parts.{Part, a_creation, a_test, parts_body, parts_of}
 use Rattle.flow_rules.specs.Numbered.{row_if, own_row, form_rows, field_rows, this_rows, result_rows, variable_rows, method_rows, is_first, rows_of, row_number}
 use Rattle.flow_rules.specs.Facts.{row_info, numbers, IsFactsOf}
-use Rattle.flow_rules.proofs.Listed.{first, at_below, below_at, at_map, map_at, index_at, index_past, each_has, each_from, each_from_zero, flat_from, when_has, when_from, one_from, at_left}
-use Rattle.facts_order.proofs.Items.{row_at, row_raw, row_there}
+use Rattle.flow_rules.proofs.Listed.{at_below, below_at, at_map, map_at, index_at, index_past, each_from, each_from_zero, flat_from, when_from, one_from, at_left}
+use Rattle.facts_order.proofs.Items.{row_at, row_raw}
 use Rattle.facts_order.proofs.Pairs.{IsPlaced}
 use Rattle.facts_order.proofs.Numbers.{back}
 use Rattle.facts_order.proofs.Forms.{From, sts_from}
@@ -116,21 +116,6 @@ module _ (P Q : Plain) where
       ⊎_elim (λ d. let z = each_from_zero field_rows Q.fields x d in field_types z.0 z.1 x z.2 z.3)
       (λ d. let z = each_from_zero (method_rows P Q) Q.methods x d in method_types z.0 z.1 x z.2 z.3)
       (Contains-append_cases (each field_rows 0 Q.fields) (each (method_rows P Q) 0 Q.methods) x (row_raw P Q r x e))
-
-  -- the row of a `this`
-  pub this_row : (m : ℕ) (k : PlainMethod) → slice_get Q.methods m ≡ Some k → is_some k.body ≡ true → k.is_static ≡ false
-      → (r : ℕ) × (row_number P Q (row.This m) ≡ Some r)
-  this_row m k e b s =
-      let x : Row = record { item = row.This m; place = k.tag.place; ty = record { class = record { 0 = k.owner }; dim = 0 } } in
-      let one = this_rows m k in
-      let two = result_rows P Q m k in
-      let three = each (variable_rows P Q m k) 0 k.params in
-      let four = each (variable_rows P Q m k) (length k.params) k.locals in
-      row_there P Q x (Contains-append_right (each field_rows 0 Q.fields) (each (method_rows P Q) 0 Q.methods) x
-      (each_has (method_rows P Q) 0 Q.methods m k x e m (omega arith)
-      (Contains-append_left (((one ++ two) ++ three) ++ four) (flat_map form_rows (parts_of P m k)) x
-      (Contains-append_left ((one ++ two) ++ three) four x (Contains-append_left (one ++ two) three x (Contains-append_left one two x
-      (when_has (is_some k.body && not k.is_static) _ x (rw (b, s) refl) (first x []))))))))
 
   module _ (F : Facts) (facts : IsFactsOf P Q F) where
     pub record HasRow (r : ℕ) : Type 0 where

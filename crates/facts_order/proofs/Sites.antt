@@ -106,7 +106,7 @@ result_numberless : (s : Option ℕ) (m : ℕ) → number_in (Some (result_in s 
 result_numberless None m = refl
 result_numberless (Some s) m = refl
 
-variable_numberless : (s : Option ℕ) (b : Bool) (m i : ℕ) → number_in (Some (variable_in s b m i)) ≡ []
+pub variable_numberless : (s : Option ℕ) (b : Bool) (m i : ℕ) → number_in (Some (variable_in s b m i)) ≡ []
 variable_numberless None b m i = refl
 variable_numberless (Some s) true m i = refl
 variable_numberless (Some s) false m i = refl

@@ -29,10 +29,11 @@ use Rattle.facts_order.proofs.Pairs.{IsPlaced}
 use Rattle.facts_order.proofs.Tests.{gathered_from, row_item, both_from}
 use Rattle.facts_order.proofs.Classes.{subclass_below}
 use Rattle.facts_order.proofs.Operands.{field_type, return_type, result_type, variable_type, param_type, param_object}
-use Rattle.facts_order.proofs.Fits.{IsUnder, ArePaired, element_some}
+use Rattle.facts_order.proofs.Fits.{IsUnder, ArePaired, paired_dim, element_some}
 use Rattle.facts_order.proofs.Sound.{is_apart, variable_apart, IsSound, Standing, apart, deep, itself, made}
 use Rattle.facts_order.proofs.Fitted.{IsFitted, IsValue, is_variable_of, part_fitted}
 use Rattle.facts_order.proofs.Owners.{IsRowAt, row_there, class_of_row, IsFree, apart_free, deep_free, HasRow, row_of_operand, row_standing, value_below, creation_object}
+use Rattle.java_meaning.proofs.Holds.{some_there as some_of}
 
 tied_from : (r q : Option ℕ) (x : TieInfo) → Contains (tied r q) x → (r ≡ Some x.lower.0) × (q ≡ Some x.upper.0)
 tied_from r q x d = let z = both_from r q (λ a b. record { lower = record { 0 = a }; upper = record { 0 = b } }) x d in (
@@ -71,10 +72,6 @@ upper_made : (a b c d : Bool) → left_is_lower a b c d ≡ false → a ≡ true
 upper_made a b true d e h = refl
 upper_made true b false d e h = absurd (false≢true (sym e))
 upper_made false b false d e h = absurd (false≢true h)
-
-some_of : {A : Type 0} (o : Option A) → is_some o ≡ true → (x : A) × (o ≡ Some x)
-some_of None e = absurd (false≢true e)
-some_of (Some x) e = (x, refl)
 
 module _ (P Q : Plain) (placed : IsPlaced P Q) (formed : IsFormed P) (typed : IsTyped P) (F : Facts) (facts : IsFactsOf P Q F) where
   abbrev IsFreeRow : ℕ → Type 0
@@ -322,62 +319,44 @@ module _ (P Q : Plain) (placed : IsPlaced P Q) (formed : IsFormed P) (typed : Is
             absurd (false≢true (sym (sym (ap (λ z. if z then left_lower l r else narrower P s t) d) ∙ e)
             ∙ and_from (s.dim == t.dim) (below P s.class.0 t.class.0) (eq-eqb s.dim t.dim u.dim) (under_below s t u)))
 
-    paired_dim : (s t : ObjectType) → ArePaired P s t → s.dim ≡ t.dim
-    paired_dim s t p = ⊎_elim (λ u. u.dim) (λ u. sym u.dim) p
-
     -- which is the lower, where both have one type
     lower_is : (l r : Operand) (s t : ObjectType) (b : Bool) → is_left_lower P l r s t ≡ b → ArePaired P s t → s.class.0 ≡ t.class.0 → left_lower l r ≡ b
-    lower_is l r s t b e p c = sym (ap (λ z. if z then left_lower l r else narrower P s t) (same_types s t c (paired_dim s t p))) ∙ e
+    lower_is l r s t b e p c = sym (ap (λ z. if z then left_lower l r else narrower P s t) (same_types s t c (paired_dim P s t p))) ∙ e
+
+    -- the row of l is tied to that of r, whose type it is under; what holds where both are of one class
+    tie_from : (l r : Operand) (s t : ObjectType) (x : TieInfo) → IsGood l → IsGood r → l.ty ≡ Some s → r.ty ≡ Some t → s.dim ≡ t.dim → IsUnder P s t
+        → (s.class.0 ≡ t.class.0 → (is_this r.point ≡ true → (is_some l.created ≡ true) ⊎ (is_this l.point ≡ true))
+        × (is_some r.created ≡ true → is_some l.created ≡ true))
+        → Contains (tied (row_at (numbers P Q) l) (row_at (numbers P Q) r)) x → IsTied x.lower.0 x.upper.0
+    tie_from l r s t x g h ls rt dim under alike c =
+        let w = both_rows l r x g h c in
+        let u = same_Some _ _ (sym w.left.stated ∙ ls) in
+        let v = same_Some _ _ (sym w.right.stated ∙ rt) in
+        let like : Alike l r x.lower.0 x.upper.0 =
+        record { lower = g; upper = h; left = w.left; right = w.right; dim = ap (λ z. z.dim) u ∙ dim ∙ sym (ap (λ z. z.dim) v) } in
+        let lc = w.left.class ∙ ap (λ z. z.class.0) u in
+        let rc = w.right.class ∙ ap (λ z. z.class.0) v in
+        record {
+          lower = w.left.at.below;
+          upper = w.right.at.below;
+          below = rows_below s t x.lower.0 x.upper.0 under lc rc;
+          free = λ n c o. let e = alike (sym lc ∙ c ∙ rc) in pair_free l r x.lower.0 x.upper.0 like n o e.0 e.1;
+        }
 
     pair_tie : (l r : Operand) (s t : ObjectType) (x : TieInfo) → IsGood l → IsGood r → l.ty ≡ Some s → r.ty ≡ Some t → ArePaired P s t → (b : Bool)
         → is_left_lower P l r s t ≡ b
         → Contains (if b then tied (row_at (numbers P Q) l) (row_at (numbers P Q) r) else tied (row_at (numbers P Q) r) (row_at (numbers P Q) l)) x
         → IsTied x.lower.0 x.upper.0
     pair_tie l r s t x g h ls rt p true b c =
-        let w = both_rows l r x g h c in
-        let u = same_Some _ _ (sym w.left.stated ∙ ls) in
-        let v = same_Some _ _ (sym w.right.stated ∙ rt) in
-        let like : Alike l r x.lower.0 x.upper.0 = record {
-          lower = g;
-          upper = h;
-          left = w.left;
-          right = w.right;
-          dim = ap (λ z. z.dim) u
-              ∙ paired_dim s t p ∙ sym (ap (λ z. z.dim) v);
-        } in
-        let lc = w.left.class ∙ ap (λ z. z.class.0) u in
-        let rc = w.right.class ∙ ap (λ z. z.class.0) v in
-        record {
-          lower = w.left.at.below;
-          upper = w.right.at.below;
-          below = rows_below s t x.lower.0 x.upper.0 (lower_under l r s t b p) lc rc;
-          free = λ n c o. let e = lower_is l r s t true b p (sym lc ∙ c ∙ rc) in
-              pair_free l r x.lower.0 x.upper.0 like n o
-              (λ d. inl (lower_self (is_some l.created) (is_this l.point) (is_some r.created) (is_this r.point) e d))
-              (λ d. absurd (lower_made (is_some l.created) (is_this l.point) (is_some r.created) (is_this r.point) e d));
-        }
+        tie_from l r s t x g h ls rt (paired_dim P s t p) (lower_under l r s t b p) (λ k. let e = lower_is l r s t true b p k in (
+          λ d. inl (lower_self (is_some l.created) (is_this l.point) (is_some r.created) (is_this r.point) e d),
+          λ d. absurd (lower_made (is_some l.created) (is_this l.point) (is_some r.created) (is_this r.point) e d),
+        )) c
     pair_tie l r s t x g h ls rt p false b c =
-        let w = both_rows r l x h g c in
-        let u = same_Some _ _ (sym w.left.stated ∙ rt) in
-        let v = same_Some _ _ (sym w.right.stated ∙ ls) in
-        let like : Alike r l x.lower.0 x.upper.0 = record {
-          lower = h;
-          upper = g;
-          left = w.left;
-          right = w.right;
-          dim = ap (λ z. z.dim) u
-              ∙ sym (paired_dim s t p) ∙ sym (ap (λ z. z.dim) v);
-        } in
-        let lc = w.left.class ∙ ap (λ z. z.class.0) u in
-        let rc = w.right.class ∙ ap (λ z. z.class.0) v in
-        record {
-          lower = w.left.at.below;
-          upper = w.right.at.below;
-          below = rows_below t s x.lower.0 x.upper.0 (upper_under l r s t b p) lc rc;
-          free = λ n c o. let e = lower_is l r s t false b p (sym (sym lc ∙ c ∙ rc)) in
-              pair_free r l x.lower.0 x.upper.0 like n o (λ d. upper_self (is_some l.created) (is_this l.point) (is_some r.created) (is_this r.point)
-              e d) (λ d. upper_made (is_some l.created) (is_this l.point) (is_some r.created) (is_this r.point) e d);
-        }
+        tie_from r l t s x h g rt ls (sym (paired_dim P s t p)) (upper_under l r s t b p) (λ k. let e = lower_is l r s t false b p (sym k) in (
+          λ d. upper_self (is_some l.created) (is_this l.point) (is_some r.created) (is_this r.point) e d,
+          λ d. upper_made (is_some l.created) (is_this l.point) (is_some r.created) (is_this r.point) e d,
+        )) c
 
     pair_ties_tied : (l r : Operand) (x : TieInfo) → IsGood l → IsGood r → ((s t : ObjectType) → l.ty ≡ Some s → r.ty ≡ Some t → ArePaired P s t)
         → (a b : Option ObjectType) → l.ty ≡ a → r.ty ≡ b → Contains (pair_ties (numbers P Q) P l r a b) x → IsTied x.lower.0 x.upper.0

@@ -26,22 +26,17 @@ use Rattle.hier_begin.proofs.GivenLemmas.{given, super_fact}
 use Rattle.flow_rules.specs.declared.items.ColumnItem.{ColumnItem}
 use Rattle.flow_rules.specs.declared.items.ColumnItem.TheVariants as column
 use Rattle.flow_rules.specs.Facts.{numbers}
-use Rattle.rebuild_model.specs.Renaming.{Places, Renaming, renaming_of}
 use Rattle.rebuild_model.specs.Members.{StandsAt}
 use Rattle.rebuild_looks.specs.Known as known
-use Rattle.rebuild_looks.specs.Known.{Known}
+use Rattle.rebuild_looks.specs.Known.{Known, sides}
 use Rattle.rebuild_looks.proofs.Bodies.{number, finds_super, runs_body}
 use Rattle.rebuild_given.proofs.Rest.{half, need_slot, nearest, above, between}
 
-module _ (P Q : Plain) (F : Facts) (H : Hierarchy) (W : Plain) (K : Known P Q F H W) where
-  abbrev T : Places
-  T = K.rebuilt.places
-
-  abbrev R : Renaming
-  R = renaming_of P Q H T
+module _ {P Q : Plain} {F : Facts} {H : Hierarchy} {W : Plain} (K : Known P Q F H W) where
+  open sides K use {places as T, renaming as R}
 
   -- a node offers an item where it offers the item's column
-  pub offers_item : (n c : ℕ) (i : ColumnItem) → (numbers P Q).column i ≡ Some c → Offers (shape H) n c → known.Offers P Q F H W K n i
+  pub offers_item : (n c : ℕ) (i : ColumnItem) → (numbers P Q).column i ≡ Some c → Offers (shape H) n c → known.Offers K n i
   offers_item n c i e o = record {
     node = o.at;
     stands = record { number = c; numbered = e; place = record { 0 = o.at }; placed = placed H c o.at o.stands; at = refl };
@@ -73,7 +68,7 @@ module _ (P Q : Plain) (F : Facts) (H : Hierarchy) (W : Plain) (K : Known P Q F 
       pub need_of : slot_of_method P d ≡ Some x
       need_of = sym (K.columns.slot (column.Def d) c e) ∙ need_slot F pt t A O S B H table none s x c need
 
-      pub need_offers : known.Offers P Q F H W K (place_of_row H (site_row F s)) (column.Def d)
+      pub need_offers : known.Offers K (place_of_row H (site_row F s)) (column.Def d)
       need_offers = offers_item n c (column.Def d) e ((half F pt t A O S B H table none).needed s x c need)
 
       none_nearer : (k j : ℕ) → slot_of_method P k ≡ Some x → StandsAt P Q F H W T (column.Def k) j → is_le H.order n j ≡ true
@@ -89,11 +84,11 @@ module _ (P Q : Plain) (F : Facts) (H : Hierarchy) (W : Plain) (K : Known P Q F 
 
       -- an object of the site runs the new body, for the slot that a call finds by the name of a method of the old slot
       pub needed_body : (v m q : ℕ) → is_le H.order n v ≡ true → slot_of_method P m ≡ Some x → slot_of W (T.type_of v) (R.method_name m) ≡ Some q
-          → lookup W (T.type_of (place_of_row H (site_row F s))) q ≡ Some (number P Q F H W K (place_of_row H (site_row F s)) d x need_of need_offers)
-      needed_body v m q up of found = runs_body P Q F H W K n d x need_of need_offers none_nearer v m q up of found
+          → lookup W (T.type_of (place_of_row H (site_row F s))) q ≡ Some (number K (place_of_row H (site_row F s)) d x need_of need_offers)
+      needed_body v m q up of found = runs_body K n d x need_of need_offers none_nearer v m q up of found
 
     module _ (r c d : ℕ) (run : is_super F r c ≡ true) (e : (numbers P Q).column (column.Def d) ≡ Some c) where
-      pub super_offers : known.Offers P Q F H W K (place_of_row H r) (column.Def d)
+      pub super_offers : known.Offers K (place_of_row H r) (column.Def d)
       super_offers = offers_item (place_of_row H r) c (column.Def d) e ((half F pt t A O S B H table none).ran r c run)
 
       pub super_slot : ℕ
@@ -126,5 +121,5 @@ module _ (P Q : Plain) (F : Facts) (H : Hierarchy) (W : Plain) (K : Known P Q F 
 
       -- a super call in the method whose `this` is the row finds the new body
       pub super_body : super_method W (T.type_of (place_of_row H r)) (R.method_name d) ≡ Some
-          (number P Q F H W K (place_of_row H r) d super_slot super_of super_offers)
-      super_body = finds_super P Q F H W K (place_of_row H r) d super_slot super_of super_offers not_there none_between
+          (number K (place_of_row H r) d super_slot super_of super_offers)
+      super_body = finds_super K (place_of_row H r) d super_slot super_of super_offers not_there none_between

@@ -15,9 +15,8 @@ use Rattle.kaba_order.specs.Orders.{is_le, is_live}
 use Rattle.fact_model.specs.declared.facts.Facts.{Facts}
 use Rattle.hier_model.specs.Hierarchies.{Hierarchy, is_class_node, offers_slot}
 use Rattle.flow_rules.specs.declared.items.ColumnItem.TheVariants as column
-use Rattle.rebuild_model.specs.Renaming.{Places, Renaming, renaming_of}
 use Rattle.rebuild_model.specs.Members.{is_made_at, offers_body, is_headed, is_filled, StandsAt}
-use Rattle.rebuild_looks.specs.Known.{Known, Offers}
+use Rattle.rebuild_looks.specs.Known.{Known, Offers, sides}
 use Rattle.rebuild_looks.proofs.Along.{OneOnWay, nearest_on_way, nearest_strictly}
 use Rattle.rebuild_looks.proofs.Nodes.{subclass_of, le_of, stands_once, offers_own, class_node, member_class}
 use Rattle.rebuild_looks.proofs.Slots.{same_name, OffersSlot, offers_item, asked_body}
@@ -34,19 +33,14 @@ no_head true false true h e f = false≢true h
 no_head true false false h e f = false≢true f
 no_head false b c h e f = false≢true e
 
-module _ (P Q : Plain) (F : Facts) (H : Hierarchy) (W : Plain) (K : Known P Q F H W) where
-  abbrev T : Places
-  T = K.rebuilt.places
-
-  abbrev R : Renaming
-  R = renaming_of P Q H T
+module _ {P Q : Plain} {F : Facts} {H : Hierarchy} {W : Plain} (K : Known P Q F H W) where
+  open sides K use {places as T, renaming as R}
 
   -- the new body of an old method is one
-  pub one_body : (m a b g h : ℕ) → IsNewBody P Q F H W K m a g → IsNewBody P Q F H W K m b h → g ≡ h
+  pub one_body : (m a b g h : ℕ) → IsNewBody K m a g → IsNewBody K m b h → g ≡ h
   one_body m a b g h x y =
       K.new.method_names g h x.method y.method x.stands y.stands
-      (x.is.owner ∙ ap T.type_of (stands_once P Q F H W K x.is.node y.is.node (column.Def m) x.is.stands y.is.stands) ∙ sym y.is.owner)
-      (x.is.name ∙ sym y.is.name)
+      (x.is.owner ∙ ap T.type_of (stands_once K x.is.node y.is.node (column.Def m) x.is.stands y.is.stands) ∙ sym y.is.owner) (x.is.name ∙ sym y.is.name)
 
   -- the body of a slot that a class itself has
   record IsOwnBody (c q g : ℕ) : Type 0 where
@@ -87,12 +81,12 @@ module _ (P Q : Plain) (F : Facts) (H : Hierarchy) (W : Plain) (K : Known P Q F 
       there.1 ∙ ap Some (K.new.method_names there.0 g other.method o.method other.stands o.stands (other.owner ∙ sym o.owner) (other.name ∙ sym o.name))
 
   -- the node n offers the body of the old method d
-  module _ (n d s : ℕ) (of : slot_of_method P d ≡ Some s) (o : Offers P Q F H W K n (column.Def d)) where
+  module _ (n d s : ℕ) (of : slot_of_method P d ≡ Some s) (o : Offers K n (column.Def d)) where
     abbrev pub number : ℕ
-    number = (new_body P Q F H W K d o.node o.stands).0
+    number = (new_body K d o.node o.stands).0
 
-    abbrev body : IsNewBody P Q F H W K d o.node (new_body P Q F H W K d o.node o.stands).0
-    body = (new_body P Q F H W K d o.node o.stands).1
+    abbrev body : IsNewBody K d o.node (new_body K d o.node o.stands).0
+    body = (new_body K d o.node o.stands).1
 
     live : is_live H.order n ≡ true
     live = K.order.lower_lives n o.node o.above
@@ -100,8 +94,8 @@ module _ (P Q : Plain) (F : Facts) (H : Hierarchy) (W : Plain) (K : Known P Q F 
     at_live : is_live H.order o.node ≡ true
     at_live = K.order.upper_lives n o.node o.above
 
-    offered : OffersSlot P Q F H W K n s
-    offered = offers_item P Q F H W K n s (column.Def d) refl of o
+    offered : OffersSlot K n s
+    offered = offers_item K n s (column.Def d) refl of o
 
     pub is_bodied : is_some body.method.body ≡ true
     is_bodied = ap is_some body.is.code.new_code
@@ -112,7 +106,7 @@ module _ (P Q : Plain) (F : Facts) (H : Hierarchy) (W : Plain) (K : Known P Q F 
     -- what of the slot stands at a node between is the body, where no other body is
     module _ (j : ℕ) (high : is_le H.order j o.node ≡ true) (only : (k : ℕ) → slot_of_method P k ≡ Some s → StandsAt P Q F H W T (column.Def k) j → k ≡ d) where
       offered_there : offers_body F H j s ≡ true
-      offered_there = asked_body P Q F H W K j s (record { method = d; of = of; offers = record { node = o.node; stands = o.stands; above = high } })
+      offered_there = asked_body K j s (record { method = d; of = of; offers = record { node = o.node; stands = o.stands; above = high } })
 
       no_filler : is_filled F H j s ≡ true → ⊥
       no_filler f =
@@ -122,12 +116,12 @@ module _ (P Q : Plain) (F : Facts) (H : Hierarchy) (W : Plain) (K : Known P Q F 
       no_head_there : is_headed F H j s ≡ true → ⊥
       no_head_there h =
           no_head (is_class_node F H j) (is_made_at F H j) (offers_body F H j s) h
-          (class_node P Q F H W K j (column.Def d) refl (record { node = o.node; stands = o.stands; above = high })) offered_there
+          (class_node K j (column.Def d) refl (record { node = o.node; stands = o.stands; above = high })) offered_there
 
-      by_sort : (y : ℕ) (new : PlainMethod) → slice_get W.methods y ≡ Some new → Sort P Q F H W K j s new → y ≡ number
+      by_sort : (y : ℕ) (new : PlainMethod) → slice_get W.methods y ≡ Some new → Sort K j s new → y ≡ number
       by_sort y new at (a_body m b st e) =
           one_body d b.node o.node y number
-          (subst (λ z. IsNewBody P Q F H W K z b.node y) (only m e st) (record { method = new; stands = at; is = b; owner = b.owner })) body
+          (subst (λ z. IsNewBody K z b.node y) (only m e st) (record { method = new; stands = at; is = b; owner = b.owner })) body
       by_sort y new at (a_head h none) = absurd (no_head_there h)
       by_sort y new at (a_filler f b) = absurd (no_filler f)
 
@@ -136,13 +130,13 @@ module _ (P Q : Plain) (F : Facts) (H : Hierarchy) (W : Plain) (K : Known P Q F 
         → (y : ℕ) (new : PlainMethod) → slice_get W.methods y ≡ Some new → new.is_static ≡ false → new.name ≡ R.method_name d
         → IsSubclass W (T.type_of n) new.owner → IsSubclass W new.owner (T.type_of o.node) → y ≡ number
     on_way only y new at instance named down up =
-        let x = of_slot P Q F H W K n s d y new offered of at instance named down live in
-        let high = le_of P Q F H W K x.0.node o.node x.0.live at_live (subst (λ z. IsSubclass W z (T.type_of o.node)) x.0.owner up) in
-        by_sort x.0.node high (λ k e st. only k x.0.node e st x.2 high) y new at (subst (λ z. Sort P Q F H W K x.0.node z new) x.1 x.0.sort)
+        let x = of_slot K n s d y new offered of at instance named down live in
+        let high = le_of K x.0.node o.node x.0.live at_live (subst (λ z. IsSubclass W z (T.type_of o.node)) x.0.owner up) in
+        by_sort x.0.node high (λ k e st. only k x.0.node e st x.2 high) y new at (subst (λ z. Sort K x.0.node z new) x.1 x.0.sort)
 
     pub chain : IsOnChain W (T.type_of n) (T.type_of o.node)
-    chain = along W K.new (member_class P Q F H W K o.node at_live
-        (class_node P Q F H W K o.node (column.Def d) refl (offers_own P Q F H W K o.node (column.Def d) o.stands))) (subclass_of P Q F H W K n o.node o.above)
+    chain = along W K.new (member_class K o.node at_live
+        (class_node K o.node (column.Def d) refl (offers_own K o.node (column.Def d) o.stands))) (subclass_of K n o.node o.above)
 
     -- an object of the node runs the body, where no other one that it offers is nearer
     module _ (nearest : (k j : ℕ) → slot_of_method P k ≡ Some s → StandsAt P Q F H W T (column.Def k) j → is_le H.order n j ≡ true
@@ -172,13 +166,13 @@ module _ (P Q : Plain) (F : Facts) (H : Hierarchy) (W : Plain) (K : Known P Q F 
           slot_is v m q up e h =
               let x = slot_of-offered W K.new (T.type_of v) (R.method_name m) q h in
               let down : IsSubclass W (T.type_of n) body.method.owner =
-              subst (λ z. IsSubclass W (T.type_of n) z) (sym body.owner) (subclass_of P Q F H W K n o.node o.above) in
-              let over : IsSubclass W (T.type_of n) x.method.owner = subclass-then W (subclass_of P Q F H W K n v up) x.above in
+              subst (λ z. IsSubclass W (T.type_of n) z) (sym body.owner) (subclass_of K n o.node o.above) in
+              let over : IsSubclass W (T.type_of n) x.method.owner = subclass-then W (subclass_of K n v up) x.above in
               ⊎_elim
               (λ same. ap (λ (z : PlainMethod). z.slot) (same_Some _ _ (sym body.stands ∙ ap (slice_get W.methods) same ∙ x.stands)) ∙ x.slot)
               (λ slots. slots.1 ∙ x.slot)
               (K.new.one_slot (T.type_of n) number x.number body.method x.method body.stands x.stands down over
-              (body.is.name ∙ same_name P Q F H W K d m s of e ∙ sym x.name))
+              (body.is.name ∙ same_name K d m s of e ∙ sym x.name))
 
     -- a super call at the node finds the body, where it stands strictly above and no other one is between
     module _ (other : n ≢ o.node) (between : (k j : ℕ) → slot_of_method P k ≡ Some s → StandsAt P Q F H W T (column.Def k) j
@@ -197,10 +191,10 @@ module _ (P Q : Plain) (F : Facts) (H : Hierarchy) (W : Plain) (K : Known P Q F 
           way e y down up h =
               let own = own_method-own W e (R.method_name d) y h in
               let under = subst (λ z. IsSubclass W (T.type_of n) z) (sym own.owner) (proper-subclass W down) in
-              let x = of_slot P Q F H W K n s d y own.method offered of own.stands own.instance own.name under live in
+              let x = of_slot K n s d y own.method offered of own.stands own.instance own.name under live in
               let owner : e ≡ T.type_of x.0.node = sym own.owner ∙ x.0.owner in
-              let high = le_of P Q F H W K x.0.node o.node x.0.live at_live (subst (λ z. IsSubclass W z (T.type_of o.node)) owner up) in
+              let high = le_of K x.0.node o.node x.0.live at_live (subst (λ z. IsSubclass W z (T.type_of o.node)) owner up) in
               let strict : n ≢ x.0.node =
               λ same. K.new.acyclic (T.type_of n) (subst (λ z. IsProperSubclass W (T.type_of n) z) (owner ∙ ap T.type_of (sym same)) down) in
               by_sort x.0.node high (λ k f st. between k x.0.node f st x.2 strict high) y own.method own.stands
-              (subst (λ z. Sort P Q F H W K x.0.node z own.method) x.1 x.0.sort)
+              (subst (λ z. Sort K x.0.node z own.method) x.1 x.0.sort)

@@ -15,7 +15,6 @@ use Rattle.fact_model.specs.declared.facts.Facts.{Facts}
 use Rattle.hier_model.specs.Hierarchies.{Hierarchy, is_class_node, offers_slot}
 use Rattle.flow_rules.specs.declared.items.ColumnItem.TheVariants as column
 use Rattle.flow_rules.specs.Facts.{is_holder}
-use Rattle.rebuild_model.specs.Renaming.{Places}
 use Rattle.rebuild_model.specs.Members.{is_made_at, offers_body, is_headed}
 use Rattle.rebuild_looks.specs.Known.{Known}
 use Rattle.java_core.proofs.Upwards.{above_object, along}
@@ -35,9 +34,8 @@ no_not : (b : Bool) → not (not b) ≡ true → b ≡ true
 no_not true h = refl
 no_not false h = absurd (false≢true h)
 
-module _ (P Q : Plain) (F : Facts) (H : Hierarchy) (W : Plain) (K : Known P Q F H W) where
-  abbrev T : Places
-  T = K.rebuilt.places
+module _ {P Q : Plain} {F : Facts} {H : Hierarchy} {W : Plain} (K : Known P Q F H W) where
+  open K.rebuilt use {places as T}
 
   -- the method of a slot that a class itself declares
   record IsOwn (c q g : ℕ) : Type 0 where
@@ -60,7 +58,7 @@ module _ (P Q : Plain) (F : Facts) (H : Hierarchy) (W : Plain) (K : Known P Q F 
   is_bodied : (g : ℕ) (k : PlainMethod) → slice_get W.methods g ≡ Some k → is_some k.body ≡ true → has_body W g ≡ true
   is_bodied g k e h = ap (λ z. option_map_or (λ (k : PlainMethod). is_some k.body) z false) e ∙ h
 
-  by_sort : (g k s : ℕ) (new : PlainMethod) → slice_get W.methods g ≡ Some new → Sort P Q F H W K k s new → (is_headed F H k s ≡ true → ⊥) → has_body W g ≡ true
+  by_sort : (g k s : ℕ) (new : PlainMethod) → slice_get W.methods g ≡ Some new → Sort K k s new → (is_headed F H k s ≡ true → ⊥) → has_body W g ≡ true
   by_sort g k s new e (a_body m b st of) headless = is_bodied g new e (ap is_some b.code.new_code)
   by_sort g k s new e (a_head h none) headless = absurd (headless h)
   by_sort g k s new e (a_filler f b) headless = is_bodied g new e b
@@ -73,25 +71,25 @@ module _ (P Q : Plain) (F : Facts) (H : Hierarchy) (W : Plain) (K : Known P Q F 
     instance : o.method.is_static ≡ false
     instance = (((K.new.methods m o.method o.stands).slots q).0 o.slot).instance
 
-    x : IsNewMethod P Q F H W K o.method
-    x = new_method P Q F H W K m o.method o.stands instance
+    x : IsNewMethod K o.method
+    x = new_method K m o.method o.stands instance
 
-    offered : OffersSlot P Q F H W K n x.slot
-    offered = slot_below P Q F H W K n x.node x.slot (le_of P Q F H W K n x.node live x.live (subst (λ z. IsSubclass W (T.type_of n) z) x.owner up)) x.offered
+    offered : OffersSlot K n x.slot
+    offered = slot_below K n x.node x.slot (le_of K n x.node live x.live (subst (λ z. IsSubclass W (T.type_of n) z) x.owner up)) x.offered
 
     -- another method of the slot, at or above, is of the same old slot
     record IsOther (y : ℕ) : Type 0 where
       method : PlainMethod
       stands : slice_get W.methods y ≡ Some method
-      is : IsNewMethod P Q F H W K method
+      is : IsNewMethod K method
       slot : is.slot ≡ x.slot
       low : is_le H.order n is.node ≡ true
 
     other : (y e : ℕ) → IsOwn e q y → IsSubclass W (T.type_of n) e → IsOther y
     other y e own down =
         let in_slot = ((K.new.methods y own.method own.stands).slots q).0 own.slot in
-        let named = slot_named P Q F H W K q y m own.method o.method own.stands o.stands own.slot o.slot ∙ x.name in
-        let z = of_slot P Q F H W K n x.slot x.method y own.method offered x.of own.stands in_slot.instance named
+        let named = slot_named K q y m own.method o.method own.stands o.stands own.slot o.slot ∙ x.name in
+        let z = of_slot K n x.slot x.method y own.method offered x.of own.stands in_slot.instance named
         (subst (λ z. IsSubclass W (T.type_of n) z) (sym own.owner) down) live in
         record { method = own.method; stands = own.stands; is = z.0; slot = z.1; low = z.2 }
 
@@ -108,28 +106,26 @@ module _ (P Q : Plain) (F : Facts) (H : Hierarchy) (W : Plain) (K : Known P Q F 
     HasBody = (d : ℕ) × (nearest_declaration W (T.type_of n) q ≡ Some d) × (has_body W d ≡ true)
 
     -- where a body is offered, the nearest declaration stands at or below it
-    with_body : OffersBody P Q F H W K n x.slot → HasBody
+    with_body : OffersBody K n x.slot → HasBody
     unfolding nearest_declaration
     with_body b =
         let j = b.offers.node in
-        let g = new_body P Q F H W K b.method j b.offers.stands in
-        let above = subst (λ z. IsSubclass W (T.type_of n) z) (sym g.1.owner) (subclass_of P Q F H W K n j b.offers.above) in
-        let slot = in_slot g.0 g.1.method g.1.stands (g.1.is.name ∙ same_name P Q F H W K b.method x.method x.slot b.of x.of ∙ sym x.name) above in
+        let g = new_body K b.method j b.offers.stands in
+        let above = subst (λ z. IsSubclass W (T.type_of n) z) (sym g.1.owner) (subclass_of K n j b.offers.above) in
+        let slot = in_slot g.0 g.1.method g.1.stands (g.1.is.name ∙ same_name K b.method x.method x.slot b.of x.of ∙ sym x.name) above in
         let there = is_own (T.type_of j) q g.0 (record { method = g.1.method; stands = g.1.stands; owner = g.1.owner; slot = slot }) in
-        let class = class_node P Q F H W K j (column.Def b.method) refl (offers_own P Q F H W K j (column.Def b.method) b.offers.stands) in
-        let chain = along W K.new (member_class P Q F H W K j (K.order.upper_lives n j b.offers.above) class) (subclass_of P Q F H W K n j b.offers.above) in
+        let class = class_node K j (column.Def b.method) refl (offers_own K j (column.Def b.method) b.offers.stands) in
+        let chain = along W K.new (member_class K j (K.order.upper_lives n j b.offers.above) class) (subclass_of K n j b.offers.above) in
         let near = nearest_below W (λ k. own_declaration W k q) chain there.1 in
         let own = own_is near.holder q near.number near.found in
         let y = other near.number near.holder own near.above in
         let owner : near.holder ≡ T.type_of y.is.node = sym own.owner ∙ ap (λ (z : PlainMethod). z.owner) (same_Some _ _ (sym own.stands ∙ y.stands))
         ∙ y.is.owner in
-        let high = le_of P Q F H W K y.is.node j y.is.live (K.order.upper_lives n j b.offers.above)
-        (subst (λ z. IsSubclass W z (T.type_of j)) owner near.below) in
-        let body : OffersBody P Q F H W K y.is.node y.is.slot =
+        let high = le_of K y.is.node j y.is.live (K.order.upper_lives n j b.offers.above) (subst (λ z. IsSubclass W z (T.type_of j)) owner near.below) in
+        let body : OffersBody K y.is.node y.is.slot =
         record { method = b.method; of = b.of ∙ ap Some (sym y.slot); offers = record { node = j; stands = b.offers.stands; above = high } } in
         let headless = λ (h : is_headed F H y.is.node y.is.slot ≡ true). no_head (is_class_node F H y.is.node) (is_made_at F H y.is.node)
-        (offers_body F H y.is.node y.is.slot) h
-        (class_node P Q F H W K y.is.node (column.Def b.method) refl body.offers) (asked_body P Q F H W K y.is.node y.is.slot body) in (
+        (offers_body F H y.is.node y.is.slot) h (class_node K y.is.node (column.Def b.method) refl body.offers) (asked_body K y.is.node y.is.slot body) in (
           near.number,
           nearest-nearest_of W
               (λ k. own_declaration W k q) K.new.acyclic near.nearest,
@@ -141,7 +137,7 @@ module _ (P Q : Plain) (F : Facts) (H : Hierarchy) (W : Plain) (K : Known P Q F 
     unfolding nearest_declaration
     with_filler none =
         let filled = and_from (is_made_at F H n) (offers_slot F H n x.slot && not (offers_body F H n x.slot)) made
-        (and_from (offers_slot F H n x.slot) (not (offers_body F H n x.slot)) (asked_slot P Q F H W K n x.slot offered) (ap not none)) in
+        (and_from (offers_slot F H n x.slot) (not (offers_body F H n x.slot)) (asked_slot K n x.slot offered) (ap not none)) in
         let old = method_of_slot P x.method x.slot x.of in
         let g = K.rebuilt.members.each_filler x.method n x.slot old.method live old.stands old.slot filled in
         let slot = in_slot g.0 g.1 g.2 (g.3.name ∙ sym x.name) (subst (λ z. IsSubclass W (T.type_of n) z) (sym g.3.owner) same_class) in
@@ -152,7 +148,7 @@ module _ (P Q : Plain) (F : Facts) (H : Hierarchy) (W : Plain) (K : Known P Q F 
         ∙ y.is.owner in
         let node : n ≡ y.is.node = K.rebuilt.types.nodes_once n y.is.node live y.is.live owner in
         let headless = λ (h : is_headed F H y.is.node y.is.slot ≡ true). no_head_made (is_class_node F H n) (is_made_at F H n) (offers_body F H n y.is.slot)
-        (subst (λ z. is_headed F H z y.is.slot ≡ true) (sym node) h) (made_class P Q F H W K n live made) made in (
+        (subst (λ z. is_headed F H z y.is.slot ≡ true) (sym node) h) (made_class K n live made) made in (
           there.0,
           nearest-nearest_of W (λ k. own_declaration W k q) K.new.acyclic
               (at_class there.1),
@@ -160,7 +156,7 @@ module _ (P Q : Plain) (F : Facts) (H : Hierarchy) (W : Plain) (K : Known P Q F 
         )
 
     has_one : HasBody
-    has_one = ⊎_elim (λ b. with_body (body_asked P Q F H W K n x.slot b)) with_filler (cases_Bool (offers_body F H n x.slot))
+    has_one = ⊎_elim (λ b. with_body (body_asked K n x.slot b)) with_filler (cases_Bool (offers_body F H n x.slot))
 
   -- a concrete node type is that of a node with objects
   made_there : (n : ℕ) → is_live H.order n ≡ true → is_concrete W (T.type_of n) ≡ true → is_made_at F H n ≡ true
@@ -175,9 +171,8 @@ module _ (P Q : Plain) (F : Facts) (H : Hierarchy) (W : Plain) (K : Known P Q F 
   of_holder : (c q m : ℕ) → is_holder P c ≡ true → Offers W (T.holder_of c) q m → ⊥
   of_holder c q m holder o =
       let instance = (((K.new.methods m o.method o.stands).slots q).0 o.slot).instance in
-      let x = new_method P Q F H W K m o.method o.stands instance in
-      no_holder P Q F H W K c x.node holder x.live
-      (subst (λ z. IsSubclass W (T.holder_of c) z) x.owner (below-subclass W (T.holder_of c) o.method.owner o.above))
+      let x = new_method K m o.method o.stands instance in
+      no_holder K c x.node holder x.live (subst (λ z. IsSubclass W (T.holder_of c) z) x.owner (below-subclass W (T.holder_of c) o.method.owner o.above))
 
   of_object : (c q m : ℕ) → c ≡ 0 → Offers W c q m → ⊥
   of_object c q m e o = (K.new.methods m o.method o.stands).no_object (above_object W K.new e (below-subclass W c o.method.owner o.above))

@@ -14,9 +14,9 @@ use Rattle.hier_model.specs.Hierarchies.{Hierarchy, is_class_node, offers_slot}
 use Rattle.flow_rules.specs.declared.items.RowItem.TheVariants as row
 use Rattle.flow_rules.specs.declared.items.ColumnItem.{ColumnItem}
 use Rattle.flow_rules.specs.declared.items.ColumnItem.TheVariants as column
-use Rattle.rebuild_model.specs.Renaming.{Places, Renaming, renaming_of, retyped_if}
+use Rattle.rebuild_model.specs.Renaming.{retyped_if}
 use Rattle.rebuild_model.specs.Members.{is_made_at, offers_body, is_headed, slot_types, StandsAt, IsBody}
-use Rattle.rebuild_looks.specs.Known.{Known, Offers}
+use Rattle.rebuild_looks.specs.Known.{Known, Offers, sides}
 use Rattle.rebuild_looks.proofs.Nodes.{subclass_of, le_of, stands_once, stands_live, offers_own}
 use Rattle.rebuild_looks.proofs.Slots.{HasSlot, method_of_slot, IsMethodItem, a_declaration, a_body, same_name, OffersSlot, offers_item, slot_below, slots_apart, slot_item, asked_slot, OffersBody, body_asked}
 use Rattle.rebuild_looks.proofs.Methods.{IsNewMethod, new_method}
@@ -27,12 +27,8 @@ not_headed true false true h = inr refl
 not_headed true false false h = absurd (false≢true (sym h))
 not_headed false b c h = absurd (false≢true (sym h))
 
-module _ (P Q : Plain) (F : Facts) (H : Hierarchy) (W : Plain) (K : Known P Q F H W) where
-  abbrev T : Places
-  T = K.rebuilt.places
-
-  abbrev R : Renaming
-  R = renaming_of P Q H T
+module _ {P Q : Plain} {F : Facts} {H : Hierarchy} {W : Plain} (K : Known P Q F H W) where
+  open sides K use {places as T, renaming as R}
 
   -- a new method that is the body of the old method m, at a node
   pub record IsNewBody (m n g : ℕ) : Type 0 where
@@ -44,7 +40,7 @@ module _ (P Q : Plain) (F : Facts) (H : Hierarchy) (W : Plain) (K : Known P Q F 
   pub new_body : (m n : ℕ) → StandsAt P Q F H W T (column.Def m) n → (g : ℕ) × IsNewBody m n g
   new_body m n s =
       let x = K.rebuilt.members.each_body m n s in
-      (x.0, record { method = x.1; stands = x.2; is = x.3; owner = x.3.owner ∙ ap T.type_of (stands_once P Q F H W K x.3.node n (column.Def m) x.3.stands s) })
+      (x.0, record { method = x.1; stands = x.2; is = x.3; owner = x.3.owner ∙ ap T.type_of (stands_once K x.3.node n (column.Def m) x.3.stands s) })
 
   -- a method of the new name stands at or above the type of a node
   pub record IsDeclared (n m : ℕ) : Type 0 where
@@ -56,9 +52,9 @@ module _ (P Q : Plain) (F : Facts) (H : Hierarchy) (W : Plain) (K : Known P Q F 
     pub above : IsSubclass W (T.type_of n) method.owner
 
   up_to : (n j c : ℕ) → is_le H.order n j ≡ true → c ≡ T.type_of j → IsSubclass W (T.type_of n) c
-  up_to n j c h e = subst (λ z. IsSubclass W (T.type_of n) z) (sym e) (subclass_of P Q F H W K n j h)
+  up_to n j c h e = subst (λ z. IsSubclass W (T.type_of n) z) (sym e) (subclass_of K n j h)
 
-  by_body : (n j m s : ℕ) → is_le H.order n j ≡ true → slot_of_method P m ≡ Some s → OffersBody P Q F H W K j s → IsDeclared n m
+  by_body : (n j m s : ℕ) → is_le H.order n j ≡ true → slot_of_method P m ≡ Some s → OffersBody K j s → IsDeclared n m
   by_body n j m s h e o =
       let x = new_body o.method o.offers.node o.offers.stands in
       record {
@@ -66,7 +62,7 @@ module _ (P Q : Plain) (F : Facts) (H : Hierarchy) (W : Plain) (K : Known P Q F 
         method = x.1.method;
         stands = x.1.stands;
         instance = x.1.is.instance;
-        name = x.1.is.name ∙ same_name P Q F H W K o.method m s o.of e;
+        name = x.1.is.name ∙ same_name K o.method m s o.of e;
         above = up_to n o.offers.node x.1.method.owner (K.order.transitive n j o.offers.node h o.offers.above) x.1.owner;
       }
 
@@ -82,57 +78,51 @@ module _ (P Q : Plain) (F : Facts) (H : Hierarchy) (W : Plain) (K : Known P Q F 
           method = x.1;
           stands = x.2;
           instance = x.4.instance;
-          name = x.4.name
-              ∙ same_name P Q F H W K k m s of_k e;
+          name = x.4.name ∙ same_name K k m s of_k e;
           above = up_to n at x.1.owner up x.4.owner;
         }
 
     by_filler : StandsAt P Q F H W T (column.Dcl k) at → is_made_at F H at ≡ true → offers_body F H at s ≡ false → IsDeclared n m
     by_filler stands made none =
-        let offered = asked_slot P Q F H W K at s (offers_item P Q F H W K at s (column.Dcl k) refl of_k (offers_own P Q F H W K at (column.Dcl k) stands)) in
+        let offered = asked_slot K at s (offers_item K at s (column.Dcl k) refl of_k (offers_own K at (column.Dcl k) stands)) in
         let filled = and_from (is_made_at F H at) (offers_slot F H at s && not (offers_body F H at s)) made
         (and_from (offers_slot F H at s) (not (offers_body F H at s)) offered (ap not none)) in
-        let x = K.rebuilt.members.each_filler k at s old.method (stands_live P Q F H W K at (column.Dcl k) stands) old.stands old.slot filled in
+        let x = K.rebuilt.members.each_filler k at s old.method (stands_live K at (column.Dcl k) stands) old.stands old.slot filled in
         record {
           number = x.0;
           method = x.1;
           stands = x.2;
           instance = x.3.instance;
-          name = x.3.name
-              ∙ same_name P Q F H W K k m s of_k e;
+          name = x.3.name ∙ same_name K k m s of_k e;
           above = up_to n at x.1.owner up x.3.owner;
         }
 
     by_declaration : StandsAt P Q F H W T (column.Dcl k) at → IsDeclared n m
     by_declaration stands =
-        ⊎_elim
-        (λ b. by_body n at m s up e (body_asked P Q F H W K at s b))
-        (λ none. ⊎_elim
-        (λ headed. by_head stands headed)
+        ⊎_elim (λ b. by_body n at m s up e (body_asked K at s b)) (λ none. ⊎_elim (λ headed. by_head stands headed)
         (λ no. by_filler stands (⊎_elim (λ made. made) (λ b. absurd (false≢true (sym none ∙ b)))
         (not_headed (is_class_node F H at) (is_made_at F H at) (offers_body F H at s) no)) none)
         (cases_Bool (is_headed F H at s)))
         (cases_Bool (offers_body F H at s))
 
   -- each offered slot is declared at the node or above it
-  pub declared : (n s m : ℕ) → OffersSlot P Q F H W K n s → slot_of_method P m ≡ Some s → IsDeclared n m
+  pub declared : (n s m : ℕ) → OffersSlot K n s → slot_of_method P m ≡ Some s → IsDeclared n m
   declared n s m o e =
-      let i = slot_item P Q F H W K n s o in
+      let i = slot_item K n s o in
       by_item i.0 i.1 i.2 i.3 i.4
     where
-      by_item : (i : ColumnItem) (k : ℕ) → IsMethodItem i k → slot_of_method P k ≡ Some s → Offers P Q F H W K n i → IsDeclared n m
+      by_item : (i : ColumnItem) (k : ℕ) → IsMethodItem i k → slot_of_method P k ≡ Some s → Offers K n i → IsDeclared n m
       by_item _ k a_declaration h x = by_declaration n x.node m k s x.above e (method_of_slot P k s h) x.stands
       by_item _ k a_body h x = by_body n n m s (K.order.reflexive n (K.order.lower_lives n x.node x.above)) e (record { method = k; of = h; offers = x })
 
   -- an instance method at or above the type of a node, of the new name of a slot that the node offers, is of this slot
-  pub of_slot : (n s m g : ℕ) (new : PlainMethod) → OffersSlot P Q F H W K n s → slot_of_method P m ≡ Some s
-      → slice_get W.methods g ≡ Some new → new.is_static ≡ false
+  pub of_slot : (n s m g : ℕ) (new : PlainMethod) → OffersSlot K n s → slot_of_method P m ≡ Some s → slice_get W.methods g ≡ Some new → new.is_static ≡ false
       → new.name ≡ R.method_name m → IsSubclass W (T.type_of n) new.owner → is_live H.order n ≡ true
-      → (x : IsNewMethod P Q F H W K new) × (x.slot ≡ s) × (is_le H.order n x.node ≡ true)
+      → (x : IsNewMethod K new) × (x.slot ≡ s) × (is_le H.order n x.node ≡ true)
   of_slot n s m g new o e at instance named up live =
-      let x = new_method P Q F H W K g new at instance in
-      let low = le_of P Q F H W K n x.node live x.live (subst (λ z. IsSubclass W (T.type_of n) z) x.owner up) in
-      (x, slots_apart P Q F H W K n x.slot s x.method m (slot_below P Q F H W K n x.node x.slot low x.offered) o x.of e (sym x.name ∙ named), low)
+      let x = new_method K g new at instance in
+      let low = le_of K n x.node live x.live (subst (λ z. IsSubclass W (T.type_of n) z) x.owner up) in
+      (x, slots_apart K n x.slot s x.method m (slot_below K n x.node x.slot low x.offered) o x.of e (sym x.name ∙ named), low)
 
   -- what is found for the name
   pub record IsFound (n s m d : ℕ) : Type 0 where
@@ -142,10 +132,10 @@ module _ (P Q : Plain) (F : Facts) (H : Hierarchy) (W : Plain) (K : Known P Q F 
     pub instance : method.is_static ≡ false
     pub name : method.name ≡ R.method_name m
     pub above : IsSubclass W (T.type_of n) method.owner
-    pub is : IsNewMethod P Q F H W K method
+    pub is : IsNewMethod K method
     pub slot : is.slot ≡ s
 
-  module _ (n s m : ℕ) (live : is_live H.order n ≡ true) (o : OffersSlot P Q F H W K n s) (e : slot_of_method P m ≡ Some s) where
+  module _ (n s m : ℕ) (live : is_live H.order n ≡ true) (o : OffersSlot K n s) (e : slot_of_method P m ≡ Some s) where
     pub finds_declaration : (d : ℕ) × IsFound n s m d
     finds_declaration =
         let x = declared n s m o e in

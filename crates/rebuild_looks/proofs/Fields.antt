@@ -17,9 +17,9 @@ use Rattle.fact_model.specs.declared.facts.Facts.{Facts}
 use Rattle.hier_model.specs.Hierarchies.{Hierarchy, member_name}
 use Rattle.flow_rules.specs.declared.items.ColumnItem.TheVariants as column
 use Rattle.flow_rules.specs.Facts.{numbers, is_holder}
-use Rattle.rebuild_model.specs.Renaming.{Places, Renaming, renaming_of}
+use Rattle.rebuild_model.specs.Renaming.{renaming_of}
 use Rattle.rebuild_model.specs.Members.{StandsAt, IsField}
-use Rattle.rebuild_looks.specs.Known.{Known, Offers}
+use Rattle.rebuild_looks.specs.Known.{Known, Offers, sides}
 use Rattle.java_core.proofs.Upwards.{along}
 use Rattle.rebuild_looks.proofs.Along.{OneOnWay, nearest_on_way}
 use Rattle.java_meaning.specs.Languages.{index_of}
@@ -47,12 +47,8 @@ method_holder P m k e s =
           (eq-eqb k.owner k.owner refl),
     ))
 
-module _ (P Q : Plain) (F : Facts) (H : Hierarchy) (W : Plain) (K : Known P Q F H W) where
-  abbrev T : Places
-  T = K.rebuilt.places
-
-  abbrev R : Renaming
-  R = renaming_of P Q H T
+module _ {P Q : Plain} {F : Facts} {H : Hierarchy} {W : Plain} (K : Known P Q F H W) where
+  open sides K use {places as T, renaming as R}
 
   -- the field's new name is that of its column
   pub field_name_is : (f c : ℕ) → (numbers P Q).column (column.Fld f) ≡ Some c → R.field_name f ≡ member_name H c
@@ -72,16 +68,15 @@ module _ (P Q : Plain) (F : Facts) (H : Hierarchy) (W : Plain) (K : Known P Q F 
   pub one_field : (f g h : ℕ) → IsNewField f g → IsNewField f h → g ≡ h
   one_field f g h a b =
       K.new.field_names g h a.field b.field a.stands b.stands
-      (a.is.owner ∙ ap T.type_of (stands_once P Q F H W K a.is.node b.is.node (column.Fld f) a.is.stands b.is.stands) ∙ sym b.is.owner)
-      (a.is.name ∙ sym b.is.name)
+      (a.is.owner ∙ ap T.type_of (stands_once K a.is.node b.is.node (column.Fld f) a.is.stands b.is.stands) ∙ sym b.is.owner) (a.is.name ∙ sym b.is.name)
 
   -- what a node offers has different names
-  pub fields_apart : (e f n : ℕ) → Offers P Q F H W K n (column.Fld e) → Offers P Q F H W K n (column.Fld f) → R.field_name e ≡ R.field_name f → e ≡ f
+  pub fields_apart : (e f n : ℕ) → Offers K n (column.Fld e) → Offers K n (column.Fld f) → R.field_name e ≡ R.field_name f → e ≡ f
   fields_apart e f n a b same =
       let c = a.stands.number in
       let d = b.stands.number in
       let one = K.apart.fields n c d (K.columns.kind (column.Fld e) c a.stands.numbered) (K.columns.kind (column.Fld f) d b.stands.numbered)
-      (is_offered_at P Q F H W K n (column.Fld e) c a.stands.numbered a) (is_offered_at P Q F H W K n (column.Fld f) d b.stands.numbered b)
+      (is_offered_at K n (column.Fld e) c a.stands.numbered a) (is_offered_at K n (column.Fld f) d b.stands.numbered b)
       (sym (field_name_is e c a.stands.numbered) ∙ same ∙ field_name_is f d b.stands.numbered) in
       number_of (K.columns.one (column.Fld e) (column.Fld f) d (a.stands.numbered ∙ ap Some one) b.stands.numbered)
     where
@@ -95,11 +90,9 @@ module _ (P Q : Plain) (F : Facts) (H : Hierarchy) (W : Plain) (K : Known P Q F 
       let t = b.is.stands in
       let same : a.field ≡ b.field = same_Some _ _ (sym a.stands ∙ b.stands) in
       let owner : T.type_of a.is.node ≡ T.type_of b.is.node = sym a.is.owner ∙ ap (λ (z : PlainField). z.owner) same ∙ b.is.owner in
-      let node = K.rebuilt.types.nodes_once a.is.node b.is.node (stands_live P Q F H W K a.is.node (column.Fld e) s)
-      (stands_live P Q F H W K b.is.node (column.Fld f) t) owner in
-      fields_apart e f b.is.node (offers_own P Q F H W K b.is.node (column.Fld e) (subst (λ z. StandsAt P Q F H W T (column.Fld e) z) node s))
-      (offers_own P Q F H W K b.is.node (column.Fld f) t)
-      (sym a.is.name ∙ ap (λ (z : PlainField). z.name) same ∙ b.is.name)
+      let node = K.rebuilt.types.nodes_once a.is.node b.is.node (stands_live K a.is.node (column.Fld e) s) (stands_live K b.is.node (column.Fld f) t) owner in
+      fields_apart e f b.is.node (offers_own K b.is.node (column.Fld e) (subst (λ z. StandsAt P Q F H W T (column.Fld e) z) node s))
+      (offers_own K b.is.node (column.Fld f) t) (sym a.is.name ∙ ap (λ (z : PlainField). z.name) same ∙ b.is.name)
 
   holder_is : (c : ℕ) → R.holder_of c ≡ T.holder_of c
   unfolding renaming_of
@@ -128,7 +121,7 @@ module _ (P Q : Plain) (F : Facts) (H : Hierarchy) (W : Plain) (K : Known P Q F 
   static_is : (g : ℕ) (k : PlainField) → slice_get W.fields g ≡ Some k → k.is_static ≡ false → when_instance W (Some g) ≡ Some g
   static_is g k e s = rw (e, s) refl
 
-  module _ (f n : ℕ) (o : Offers P Q F H W K n (column.Fld f)) where
+  module _ (f n : ℕ) (o : Offers K n (column.Fld f)) where
     abbrev there : ℕ
     there = (new_field f o.node o.stands).0
 
@@ -148,7 +141,7 @@ module _ (P Q : Plain) (F : Facts) (H : Hierarchy) (W : Plain) (K : Known P Q F 
         let s = z.1.same in
         let same : s.new ≡ k = same_Some _ _ (sym s.new_stands ∙ at) in
         let holder : T.holder_of s.old.owner ≡ e = sym (holder_is s.old.owner) ∙ sym s.owner ∙ ap (λ (z : PlainField). z.owner) same ∙ owner in
-        no_holder P Q F H W K s.old.owner o.node (field_holder P z.0 s.old s.old_stands s.old_static) at_live
+        no_holder K s.old.owner o.node (field_holder P z.0 s.old s.old_stands s.old_static) at_live
         (subst (λ z. IsSubclass W z (T.type_of o.node)) (sym holder) up)
 
     -- an instance field of the name is the field
@@ -158,10 +151,9 @@ module _ (P Q : Plain) (F : Facts) (H : Hierarchy) (W : Plain) (K : Known P Q F 
         let z = K.rebuilt.members.fields y k at instance in
         let h = z.1 in
         let low : is_le H.order n h.node ≡ true =
-        le_of P Q F H W K n h.node live (stands_live P Q F H W K h.node (column.Fld z.0) h.stands)
-        (subst (λ z. IsSubclass W (T.type_of n) z) (sym owner ∙ h.owner) down) in
+        le_of K n h.node live (stands_live K h.node (column.Fld z.0) h.stands) (subst (λ z. IsSubclass W (T.type_of n) z) (sym owner ∙ h.owner) down) in
         let one : z.0 ≡ f = fields_apart z.0 f n
-        (offers_below P Q F H W K n h.node (column.Fld z.0) low (offers_own P Q F H W K h.node (column.Fld z.0) h.stands)) o (sym h.name ∙ named) in
+        (offers_below K n h.node (column.Fld z.0) low (offers_own K h.node (column.Fld z.0) h.stands)) o (sym h.name ∙ named) in
         one_field f y there (subst (λ z. IsNewField z y) one (record { field = k; stands = at; is = h })) (new_field f o.node o.stands).1
 
     one_on_way : OneOnWay W (λ k. own_field_of W k name) (T.type_of n) (T.type_of o.node) there
@@ -174,16 +166,15 @@ module _ (P Q : Plain) (F : Facts) (H : Hierarchy) (W : Plain) (K : Known P Q F 
     unfolding member_field field_of
     finds_field =
         let it = (new_field f o.node o.stands).1 in
-        let at : T.type_of it.is.node ≡ T.type_of o.node = ap T.type_of (stands_once P Q F H W K it.is.node o.node (column.Fld f) it.is.stands o.stands) in
-        let class = member_class P Q F H W K o.node at_live
-        (class_node P Q F H W K o.node (column.Fld f) refl (offers_own P Q F H W K o.node (column.Fld f) o.stands)) in
+        let at : T.type_of it.is.node ≡ T.type_of o.node = ap T.type_of (stands_once K it.is.node o.node (column.Fld f) it.is.stands o.stands) in
+        let class = member_class K o.node at_live (class_node K o.node (column.Fld f) refl (offers_own K o.node (column.Fld f) o.stands)) in
         let own = is_own (T.type_of o.node) there name (record { field = it.field; stands = it.stands; owner = it.is.owner ∙ at; name = it.is.name }) in
-        let near = nearest_on_way W (λ k. own_field_of W k name) (along W K.new class (subclass_of P Q F H W K n o.node o.above)) own one_on_way in
+        let near = nearest_on_way W (λ k. own_field_of W k name) (along W K.new class (subclass_of K n o.node o.above)) own one_on_way in
         ap (when_instance W) (nearest-nearest_of W (λ k. own_field_of W k name) K.new.acyclic near) ∙ static_is there it.field it.stands it.is.instance
 
     -- each object below has a place for it
     pub has_place : (m : ℕ) → is_le H.order m n ≡ true → is_some (index_of W (T.type_of m) there) ≡ true
-    has_place m h = members W K.new (T.type_of m) (T.type_of n) name there (below_is P Q F H W K m n (K.order.lower_lives m n h) live ∙ h) finds_field
+    has_place m h = members W K.new (T.type_of m) (T.type_of n) name there (below_is K m n (K.order.lower_lives m n h) live ∙ h) finds_field
 
   -- different fields of one object have different places
   pub places_apart : (m c d e f i : ℕ) → IsNewField e c → IsNewField f d → index_of W (T.type_of m) c ≡ Some i → index_of W (T.type_of m) d ≡ Some i → e ≡ f

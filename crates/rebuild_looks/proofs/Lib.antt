@@ -8,6 +8,7 @@ pub mod Bodies
 pub mod Statics
 pub mod Concrete
 mod Small
+mod WorkedParts
 mod FormedOld
 mod FormedNew
 mod TryKnown

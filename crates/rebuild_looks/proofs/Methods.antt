@@ -14,9 +14,9 @@ use Rattle.flow_rules.specs.declared.items.RowItem.TheVariants as row
 use Rattle.flow_rules.specs.declared.items.ColumnItem.TheVariants as column
 use Rattle.flow_rules.specs.Ordered.{each}
 use Rattle.flow_rules.specs.Operands.{variable_row, variable_in, result_in}
-use Rattle.rebuild_model.specs.Renaming.{Places, Renaming, renaming_of, retyped, retyped_if}
+use Rattle.rebuild_model.specs.Renaming.{Renaming, retyped, retyped_if}
 use Rattle.rebuild_model.specs.Members.{is_made_at, offers_body, is_headed, is_filled, new_types, slot_types, HasTypes, HasSlotTypes, StandsAt, IsBody, IsOfSlot, IsHead, IsFiller}
-use Rattle.rebuild_looks.specs.Known.{Known}
+use Rattle.rebuild_looks.specs.Known.{Known, sides}
 use Rattle.rebuild_looks.proofs.Nodes.{stands_live, offers_own}
 use Rattle.rebuild_looks.proofs.Slots.{OffersSlot, offers_item, slot_asked}
 
@@ -38,12 +38,8 @@ module _ (R : Renaming) (m s : ℕ) (old : PlainMethod) (slot : old.slot ≡ Som
     result = t.result ∙ ap (λ z. retyped_if (R.row_type (result_in z m)) old.result) slot ∙ ap (retyped_if (R.row_type (row.Return s))) in_slot.result;
   }
 
-module _ (P Q : Plain) (F : Facts) (H : Hierarchy) (W : Plain) (K : Known P Q F H W) where
-  abbrev T : Places
-  T = K.rebuilt.places
-
-  abbrev R : Renaming
-  R = renaming_of P Q H T
+module _ {P Q : Plain} {F : Facts} {H : Hierarchy} {W : Plain} (K : Known P Q F H W) where
+  open sides K use {places as T, renaming as R}
 
   -- why it stands at the node: as the body of an old method, as a head, or as a filler
   pub data Sort (n s : ℕ) (new : PlainMethod) : Type 0 where
@@ -63,7 +59,7 @@ module _ (P Q : Plain) (F : Facts) (H : Hierarchy) (W : Plain) (K : Known P Q F 
     pub signature : PlainSlot
     pub slot_stands : slice_get P.slots slot ≡ Some signature
     pub types : HasSlotTypes R slot signature new
-    pub offered : OffersSlot P Q F H W K node slot
+    pub offered : OffersSlot K node slot
     pub sort : Sort node slot new
 
   from_body : (m : ℕ) (new : PlainMethod) → IsBody P Q F H W T m new → IsNewMethod new
@@ -73,7 +69,7 @@ module _ (P Q : Plain) (F : Facts) (H : Hierarchy) (W : Plain) (K : Known P Q F 
       let in_slot = ((K.old.methods m b.old b.old_stands).slots s.0).0 slot in
       record {
         node = b.node;
-        live = stands_live P Q F H W K b.node (column.Def m) b.stands;
+        live = stands_live K b.node (column.Def m) b.stands;
         owner = b.owner;
         method = m;
         slot = s.0;
@@ -82,11 +78,11 @@ module _ (P Q : Plain) (F : Facts) (H : Hierarchy) (W : Plain) (K : Known P Q F 
         signature = in_slot.slot;
         slot_stands = in_slot.stands;
         types = body_types R m s.0 b.old slot P new b.types in_slot;
-        offered = offers_item P Q F H W K b.node s.0 (column.Def m) refl s.1 (offers_own P Q F H W K b.node (column.Def m) b.stands);
+        offered = offers_item K b.node s.0 (column.Def m) refl s.1 (offers_own K b.node (column.Def m) b.stands);
         sort = a_body m b b.stands s.1;
       }
 
-  from_slot : (n m : ℕ) (new : PlainMethod) (o : IsOfSlot P Q F H W T n m new) → is_live H.order n ≡ true → OffersSlot P Q F H W K n o.slot
+  from_slot : (n m : ℕ) (new : PlainMethod) (o : IsOfSlot P Q F H W T n m new) → is_live H.order n ≡ true → OffersSlot K n o.slot
       → Sort n o.slot new → IsNewMethod new
   from_slot n m new o live offered sort = record {
     node = n;
@@ -106,13 +102,13 @@ module _ (P Q : Plain) (F : Facts) (H : Hierarchy) (W : Plain) (K : Known P Q F 
   from_head : (n m : ℕ) (new : PlainMethod) → IsHead P Q F H W T n m new → IsNewMethod new
   from_head n m new h =
       let of : slot_of_method P m ≡ Some h.of.slot = ap (option_and_then (λ (k : PlainMethod). k.slot)) h.of.old_stands ∙ h.of.of_slot in
-      from_slot n m new h.of (stands_live P Q F H W K n (column.Dcl m) h.stands)
-      (offers_item P Q F H W K n h.of.slot (column.Dcl m) refl of (offers_own P Q F H W K n (column.Dcl m) h.stands)) (a_head h.headed h.bodyless)
+      from_slot n m new h.of (stands_live K n (column.Dcl m) h.stands)
+      (offers_item K n h.of.slot (column.Dcl m) refl of (offers_own K n (column.Dcl m) h.stands)) (a_head h.headed h.bodyless)
 
   from_filler : (n m : ℕ) (new : PlainMethod) → IsFiller P Q F H W T n m new → IsNewMethod new
   from_filler n m new f =
       let parts = and_parts (is_made_at F H n) (offers_slot F H n f.of.slot && not (offers_body F H n f.of.slot)) f.filled in
-      from_slot n m new f.of f.live (slot_asked P Q F H W K n f.of.slot
+      from_slot n m new f.of f.live (slot_asked K n f.of.slot
       (and_parts (offers_slot F H n f.of.slot) (not (offers_body F H n f.of.slot)) parts.1).0) (a_filler f.filled f.bodied)
 
   pub new_method : (g : ℕ) (new : PlainMethod) → slice_get W.methods g ≡ Some new → new.is_static ≡ false → IsNewMethod new

@@ -19,13 +19,11 @@ use Rattle.hier_model.specs.Hierarchies.{Hierarchy, place_of_column, place_of_ro
 use Rattle.hier_model.proofs.AnyLemmas.{any_below_some, any_below_has}
 use Rattle.flow_rules.specs.Facts.{numbers, kind_of, is_holder}
 use Rattle.flow_rules.specs.declared.items.ColumnItem.{ColumnItem}
-use Rattle.rebuild_model.specs.Renaming.{Places}
 use Rattle.rebuild_model.specs.Members.{is_made_at, StandsAt}
 use Rattle.rebuild_looks.specs.Known.{Known, Offers}
 
-module _ (P Q : Plain) (F : Facts) (H : Hierarchy) (W : Plain) (K : Known P Q F H W) where
-  abbrev T : Places
-  T = K.rebuilt.places
+module _ {P Q : Plain} {F : Facts} {H : Hierarchy} {W : Plain} (K : Known P Q F H W) where
+  open K.rebuilt use {places as T}
 
   abbrev is_node : ℕ → Type 0
   is_node n = is_live H.order n ≡ true
@@ -50,26 +48,26 @@ module _ (P Q : Plain) (F : Facts) (H : Hierarchy) (W : Plain) (K : Known P Q F 
   subtype_is a b d e la lb = ap (λ z. eqb d e && z) (below_is a b la lb)
 
   -- a node at or below a class node with a member is a class
-  pub is_offered_at : (n : ℕ) (i : ColumnItem) (c : ℕ) → (numbers P Q).column i ≡ Some c → Offers P Q F H W K n i → is_offered H n c ≡ true
+  pub is_offered_at : (n : ℕ) (i : ColumnItem) (c : ℕ) → (numbers P Q).column i ≡ Some c → Offers K n i → is_offered H n c ≡ true
   is_offered_at n i c e o =
       let same : o.stands.number ≡ c = same_Some _ _ (sym o.stands.numbered ∙ e) in
       let at : place_of_column H c ≡ Some o.stands.place = subst (λ z. place_of_column H z ≡ Some o.stands.place) same o.stands.placed in
       rw at (subst (λ z. is_le H.order n z ≡ true) (sym o.stands.at) o.above)
 
-  pub offers_at : (n : ℕ) (i : ColumnItem) (c : ℕ) → (numbers P Q).column i ≡ Some c → is_offered H n c ≡ true → Offers P Q F H W K n i
+  pub offers_at : (n : ℕ) (i : ColumnItem) (c : ℕ) → (numbers P Q).column i ≡ Some c → is_offered H n c ≡ true → Offers K n i
   offers_at n i c e h = at (place_of_column H c) refl h
     where
-      at : (o : Option NodeId) → place_of_column H c ≡ o → is_above H.order n o ≡ true → Offers P Q F H W K n i
+      at : (o : Option NodeId) → place_of_column H c ≡ o → is_above H.order n o ≡ true → Offers K n i
       at None d k = absurd (false≢true k)
       at (Some p) d k = record { node = p.0; stands = record { number = c; numbered = e; place = p; placed = d; at = refl }; above = k }
 
   pub stands_live : (n : ℕ) (i : ColumnItem) → StandsAt P Q F H W T i n → is_node n
   stands_live n i s = subst is_node s.at (K.placed s.number s.place s.placed)
 
-  pub offers_own : (n : ℕ) (i : ColumnItem) → StandsAt P Q F H W T i n → Offers P Q F H W K n i
+  pub offers_own : (n : ℕ) (i : ColumnItem) → StandsAt P Q F H W T i n → Offers K n i
   offers_own n i s = record { node = n; stands = s; above = K.order.reflexive n (stands_live n i s) }
 
-  pub offers_below : (n m : ℕ) (i : ColumnItem) → is_le H.order n m ≡ true → Offers P Q F H W K m i → Offers P Q F H W K n i
+  pub offers_below : (n m : ℕ) (i : ColumnItem) → is_le H.order n m ≡ true → Offers K m i → Offers K n i
   offers_below n m i h o = record { node = o.node; stands = o.stands; above = K.order.transitive n m o.node h o.above }
 
   -- an item stands at one node
@@ -80,7 +78,7 @@ module _ (P Q : Plain) (F : Facts) (H : Hierarchy) (W : Plain) (K : Known P Q F 
       sym a.at ∙ ap (λ (z : NodeId). z.0) place ∙ b.at
 
   -- what offers a field or a body is a class node
-  pub class_node : (n : ℕ) (i : ColumnItem) → is_of_class (kind_of i) ≡ true → Offers P Q F H W K n i → is_class_node F H n ≡ true
+  pub class_node : (n : ℕ) (i : ColumnItem) → is_of_class (kind_of i) ≡ true → Offers K n i → is_class_node F H n ≡ true
   class_node n i k o =
       let s = o.stands in
       or_left (has_class_member F H n) (has_object F H n)

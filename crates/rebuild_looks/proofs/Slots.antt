@@ -15,9 +15,9 @@ use Rattle.hier_model.proofs.AnyLemmas.{any_below_some, any_below_has}
 use Rattle.flow_rules.specs.declared.items.ColumnItem.{ColumnItem}
 use Rattle.flow_rules.specs.declared.items.ColumnItem.TheVariants as column
 use Rattle.flow_rules.specs.Facts.{numbers, kind_of, slot_in}
-use Rattle.rebuild_model.specs.Renaming.{Places, Renaming, renaming_of}
+use Rattle.rebuild_model.specs.Renaming.{renaming_of}
 use Rattle.rebuild_model.specs.Members.{offers_body}
-use Rattle.rebuild_looks.specs.Known.{Known, Offers}
+use Rattle.rebuild_looks.specs.Known.{Known, Offers, sides}
 use Rattle.rebuild_looks.proofs.Nodes.{is_offered_at, offers_at}
 
 -- the test of a slot, and what it says
@@ -46,12 +46,8 @@ pub data IsMethodItem : ColumnItem → ℕ → Type 0 where
   a_declaration : {m : ℕ} → IsMethodItem (column.Dcl m) m
   a_body : {m : ℕ} → IsMethodItem (column.Def m) m
 
-module _ (P Q : Plain) (F : Facts) (H : Hierarchy) (W : Plain) (K : Known P Q F H W) where
-  abbrev T : Places
-  T = K.rebuilt.places
-
-  abbrev R : Renaming
-  R = renaming_of P Q H T
+module _ {P Q : Plain} {F : Facts} {H : Hierarchy} {W : Plain} (K : Known P Q F H W) where
+  open sides K use {renaming as R}
 
   -- the new name of a method is that of each column of its slot
   pub slot_name : (m s c : ℕ) → slot_of_method P m ≡ Some s → is_method (column_kind F c) ≡ true → column_slot F c ≡ Some s → R.method_name m ≡ member_name H c
@@ -77,13 +73,13 @@ module _ (P Q : Plain) (F : Facts) (H : Hierarchy) (W : Plain) (K : Known P Q F 
     pub slot : column_slot F column ≡ Some s
     pub offered : is_offered H n column ≡ true
 
-  pub offers_item : (n s : ℕ) (i : ColumnItem) → is_method (kind_of i) ≡ true → slot_in P i ≡ Some s → Offers P Q F H W K n i → OffersSlot n s
+  pub offers_item : (n s : ℕ) (i : ColumnItem) → is_method (kind_of i) ≡ true → slot_in P i ≡ Some s → Offers K n i → OffersSlot n s
   offers_item n s i k e o = record {
     column = o.stands.number;
     below = K.columns.below i o.stands.number o.stands.numbered;
     method = ap is_method (K.columns.kind i o.stands.number o.stands.numbered) ∙ k;
     slot = K.columns.slot i o.stands.number o.stands.numbered ∙ e;
-    offered = is_offered_at P Q F H W K n i o.stands.number o.stands.numbered o;
+    offered = is_offered_at K n i o.stands.number o.stands.numbered o;
   }
 
   offered_below : (n m c : ℕ) → is_le H.order n m ≡ true → is_offered H m c ≡ true → is_offered H n c ≡ true
@@ -109,11 +105,11 @@ module _ (P Q : Plain) (F : Facts) (H : Hierarchy) (W : Plain) (K : Known P Q F 
   method_item (column.Def m) s h = (m, a_body, h, refl)
   method_item (column.Is c) s h = absurd (cc h)
 
-  pub slot_item : (n s : ℕ) → OffersSlot n s → (i : ColumnItem) × (m : ℕ) × IsMethodItem i m × (slot_of_method P m ≡ Some s) × Offers P Q F H W K n i
+  pub slot_item : (n s : ℕ) → OffersSlot n s → (i : ColumnItem) × (m : ℕ) × IsMethodItem i m × (slot_of_method P m ≡ Some s) × Offers K n i
   slot_item n s o =
       let i = K.columns.item o.column o.below in
       let m = method_item i.0 s (sym (K.columns.slot i.0 o.column i.1) ∙ o.slot) in
-      (i.0, m.0, m.1, m.2, offers_at P Q F H W K n i.0 o.column i.1 o.offered)
+      (i.0, m.0, m.1, m.2, offers_at K n i.0 o.column i.1 o.offered)
 
   -- the tests of the hierarchy
   pub slot_asked : (n s : ℕ) → offers_slot F H n s ≡ true → OffersSlot n s
@@ -134,7 +130,7 @@ module _ (P Q : Plain) (F : Facts) (H : Hierarchy) (W : Plain) (K : Known P Q F 
   pub record OffersBody (n s : ℕ) : Type 0 where
     pub method : ℕ
     pub of : slot_of_method P method ≡ Some s
-    pub offers : Offers P Q F H W K n (column.Def method)
+    pub offers : Offers K n (column.Def method)
 
   pub body_asked : (n s : ℕ) → offers_body F H n s ≡ true → OffersBody n s
   body_asked n s h =
@@ -149,7 +145,7 @@ module _ (P Q : Plain) (F : Facts) (H : Hierarchy) (W : Plain) (K : Known P Q F 
           → is_offered H n c ≡ true → OffersBody n s
       body (column.Fld f) c e k x o = absurd (false≢true k)
       body (column.Dcl m) c e k x o = absurd (false≢true k)
-      body (column.Def m) c e k x o = record { method = m; of = x; offers = offers_at P Q F H W K n (column.Def m) c e o }
+      body (column.Def m) c e k x o = record { method = m; of = x; offers = offers_at K n (column.Def m) c e o }
       body (column.Is a) c e k x o = absurd (false≢true k)
 
   pub asked_body : (n s : ℕ) → OffersBody n s → offers_body F H n s ≡ true
@@ -161,5 +157,4 @@ module _ (P Q : Plain) (F : Facts) (H : Hierarchy) (W : Plain) (K : Known P Q F 
       (and_from (is_def (column_kind F c)) (is_slot (column_slot F c) s && is_offered H n c)
       (ap is_def (K.columns.kind (column.Def o.method) c e))
       (and_from (is_slot (column_slot F c) s) (is_offered H n c)
-      (slot_test (column_slot F c) s (K.columns.slot (column.Def o.method) c e ∙ o.of))
-      (is_offered_at P Q F H W K n (column.Def o.method) c e o.offers)))
+      (slot_test (column_slot F c) s (K.columns.slot (column.Def o.method) c e ∙ o.of)) (is_offered_at K n (column.Def o.method) c e o.offers)))

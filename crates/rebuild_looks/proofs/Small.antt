@@ -1,11 +1,10 @@
 -- How small programs are shown to be formed: their names, their classes and their members, one by one.
-use Rattle.std.proofs.Common.{◌≡◌, ◌≢◌, ℕ, zero, suc, ◌<◌, ◌≤◌, ◌&&◌, Bool, true, false, List, [], ◌∷◌, Some, Contains, refl, sym, ap, ◌∙◌, subst, arith}
+use Rattle.std.proofs.Common.{◌≡◌, ◌≢◌, ℕ, zero, suc, ◌<◌, ◌≤◌, ◌&&◌, Bool, true, false, List, [], ◌∷◌, Some, Contains, refl, ap, subst, arith}
 use Rattle.std.specs.Prelude.{not, codes, slice_get}
 use Rattle.std.specs.List.{list_any}
 use Rattle.std.specs.Str.{bytes_eq}
-use Rattle.std.proofs.lemmas.Bool.{false≢true, and_parts, or_parts, not-true}
+use Rattle.std.proofs.lemmas.Bool.{and_parts, or_parts, not-true}
 use Rattle.std.proofs.lemmas.Option.{same_Some}
-use Rattle.std.proofs.lemmas.Slice.Eq.{bytes_eq-Decides}
 use Rattle.kaba_base.specs.declared.ClassId.{ClassId}
 use Rattle.kaba_base.specs.Words.{key_text}
 use Rattle.ucd_derived.specs.Binary.{is_xid_start, is_xid_continue}
@@ -16,6 +15,7 @@ use Rattle.java_lex.specs.Writable.{IsName}
 use Rattle.java_core.specs.Programs.{Plain, PlainClass}
 use Rattle.java_core.specs.Classes.{supers_of, IsSubclass, same_class, through, IsProperSubclass}
 use Rattle.java_core.specs.Formed.{HasNoTwice, IsVariableName}
+use Rattle.java_meaning.proofs.Instance.{differ}
 
 -- each item of a list has a property
 abbrev pub Each : {A : Type 0} → (A → Type 0) → List A → Type 0
@@ -31,10 +31,6 @@ pub each_in : {A : Type 0} (q : A → Type 0) (xs : List A) (x : A) → Each q x
 each_in q [] x h c = absurd (omega (arith, c.1))
 each_in q (y ∷ xs) x h (zero, lt, e) = subst q e h.0
 each_in q (y ∷ xs) x h (suc i, lt, e) = each_in q xs x h.1 (i, omega (arith, lt), e)
-
--- names
-pub differ : (x y : List ℕ) → bytes_eq x y ≡ false → x ≢ y
-differ x y e d = false≢true (sym e ∙ (bytes_eq-Decides x y).1 d)
 
 abbrev pub are_different : List (List ℕ) → Bool
 are_different [] = true
@@ -57,16 +53,6 @@ once_each xs h i j x e d = go xs h i j e d
     go (y ∷ ys) h (suc i) zero e d = let p = and_parts (not (list_any (bytes_eq y) ys)) (are_different ys) h in
         absurd (not_in y ys (not-true (list_any (bytes_eq y) ys) p.0) i x e (same_Some _ _ d))
     go (y ∷ ys) h (suc i) (suc j) e d = ap suc (go ys (and_parts (not (list_any (bytes_eq y) ys)) (are_different ys) h).1 i j e d)
-
-pub no_twice : (A : Type 0) → HasNoTwice {A = A} []
-unfolding HasNoTwice
-no_twice A i j x e d = absurd (cc e)
-
-pub one_once : {A : Type 0} (a : A) → HasNoTwice (a ∷ [])
-unfolding HasNoTwice
-one_once a zero zero x e d = refl
-one_once a zero (suc j) x e d = absurd (cc d)
-one_once a (suc i) j x e d = absurd (cc e)
 
 pub variable_name : (P : Plain) (x : List ℕ) → IsName x → list_any (λ (k : PlainClass). bytes_eq k.name x) P.classes ≡ false
     → bytes_eq x (codes "String") ≡ false → bytes_eq x (codes "System") ≡ false → IsVariableName P x
@@ -96,14 +82,6 @@ pub name_a_1 : IsName (codes "A_1")
 unfolding is_xid_start is_xid_continue in_ranges xid_start_ranges xid_continue_ranges key_text
 name_a_1 = record { named = refl; scalars = refl }
 
-pub name_holder : IsName (codes "Main")
-unfolding is_xid_start is_xid_continue in_ranges xid_start_ranges xid_continue_ranges key_text
-name_holder = record { named = refl; scalars = refl }
-
-pub name_main : IsName (codes "main")
-unfolding is_xid_start is_xid_continue in_ranges xid_start_ranges xid_continue_ranges key_text
-name_main = record { named = refl; scalars = refl }
-
 pub name_f : IsName (codes "f")
 unfolding is_xid_start is_xid_continue in_ranges xid_start_ranges xid_continue_ranges key_text
 name_f = record { named = refl; scalars = refl }
@@ -111,10 +89,6 @@ name_f = record { named = refl; scalars = refl }
 pub name_m : IsName (codes "m")
 unfolding is_xid_start is_xid_continue in_ranges xid_start_ranges xid_continue_ranges key_text
 name_m = record { named = refl; scalars = refl }
-
-pub name_args : IsName (codes "args")
-unfolding is_xid_start is_xid_continue in_ranges xid_start_ranges xid_continue_ranges key_text
-name_args = record { named = refl; scalars = refl }
 
 pub name_x : IsName (codes "x")
 unfolding is_xid_start is_xid_continue in_ranges xid_start_ranges xid_continue_ranges key_text

@@ -10,18 +10,14 @@ use Rattle.fact_model.specs.declared.facts.Facts.{Facts}
 use Rattle.hier_model.specs.Hierarchies.{Hierarchy}
 use Rattle.flow_rules.specs.declared.items.RowItem.TheVariants as row
 use Rattle.flow_rules.specs.Operands.{result_in}
-use Rattle.rebuild_model.specs.Renaming.{Places, Renaming, renaming_of, retyped, retyped_if}
+use Rattle.rebuild_model.specs.Renaming.{renaming_of, retyped, retyped_if}
 use Rattle.rebuild_model.specs.Matches.{IsStaticField, IsStaticMethod}
 use Rattle.rebuild_model.specs.Members.{new_types, IsStaticFieldOf, IsStaticMethodOf}
-use Rattle.rebuild_looks.specs.Known.{Known}
+use Rattle.rebuild_looks.specs.Known.{Known, sides}
 use Rattle.rebuild_looks.proofs.Fields.{field_holder, method_holder}
 
-module _ (P Q : Plain) (F : Facts) (H : Hierarchy) (W : Plain) (K : Known P Q F H W) where
-  abbrev T : Places
-  T = K.rebuilt.places
-
-  abbrev R : Renaming
-  R = renaming_of P Q H T
+module _ {P Q : Plain} {F : Facts} {H : Hierarchy} {W : Plain} (K : Known P Q F H W) where
+  open sides K use {places as T, renaming as R}
 
   holder_is : (c : ℕ) → R.holder_of c ≡ T.holder_of c
   unfolding renaming_of

@@ -204,7 +204,7 @@ module _ (others : Facts) where
   }
 
   -- the object of node 1, called by the type of node 0, runs the body of m: by the theorem, and as the look-up computes
-  offers_body : Offers old old (facts others) hierarchy new worked_known 1 (column.Def 0)
+  offers_body : Offers worked_known 1 (column.Def 0)
   unfolding worked_known rebuilds
   offers_body = record { node = 1; stands = record { number = 2; numbered = column_body; place = record { 0 = 1 }; placed = refl; at = refl }; above = refl }
 
@@ -219,15 +219,14 @@ module _ (others : Facts) where
   unfolding declaration_of search_order
   slot_found = refl
 
-  runs_the_body : lookup new 2 0 ≡ Some (number old old (facts others) hierarchy new worked_known 1 0 0 refl offers_body)
+  runs_the_body : lookup new 2 0 ≡ Some (number worked_known 1 0 0 refl offers_body)
   unfolding worked_known rebuilds
   runs_the_body =
-      runs_body old old (facts others) hierarchy new worked_known 1 0 0 refl offers_body the_only 0 0 0 refl refl
-      (subst (λ x. slot_of new 1 x ≡ Some 0) name_m slot_found)
+      runs_body worked_known 1 0 0 refl offers_body the_only 0 0 0 refl refl (subst (λ x. slot_of new 1 x ≡ Some 0) name_m slot_found)
 
   computed : lookup new 2 0 ≡ Some 1
   unfolding lookup
   computed = refl
 
-  same_body : number old old (facts others) hierarchy new worked_known 1 0 0 refl offers_body ≡ 1
+  same_body : number worked_known 1 0 0 refl offers_body ≡ 1
   same_body = same_Some _ _ (sym runs_the_body ∙ computed)

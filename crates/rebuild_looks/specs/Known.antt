@@ -13,6 +13,7 @@ use Rattle.flow_rules.specs.declared.items.ColumnItem.{ColumnItem}
 use Rattle.flow_rules.specs.declared.items.ColumnItem.TheVariants as column
 use Rattle.flow_rules.specs.Facts.{numbers, kind_of, slot_in}
 use Rattle.rebuild_model.specs.Members.{StandsAt}
+use Rattle.rebuild_model.specs.Renaming.{Places, Renaming, renaming_of}
 use Rattle.rebuild_model.specs.Rebuilds.{Rebuilds}
 
 -- the columns of the facts are those of the program's items, one for each
@@ -44,9 +45,17 @@ pub record Known (P Q : Plain) (F : Facts) (H : Hierarchy) (W : Plain) : Type 0 
   pub names : SlotsHaveOneName F H
   pub apart : AreNamesApart F H
 
-module _ (P Q : Plain) (F : Facts) (H : Hierarchy) (W : Plain) (K : Known P Q F H W) where
+-- where the members of the old program are in the new one, and what they are called there
+pub record Sides : Type 0 where
+  pub places : Places
+  pub renaming : Renaming
+
+module _ {P Q : Plain} {F : Facts} {H : Hierarchy} {W : Plain} (K : Known P Q F H W) where
   -- a node offers the column of an item: it stands there or above
   pub record Offers (n : ℕ) (i : ColumnItem) : Type 0 where
     pub node : ℕ
     pub stands : StandsAt P Q F H W K.rebuilt.places i node
     pub above : is_le H.order n node ≡ true
+
+  abbrev pub sides : Sides
+  sides = record { places = K.rebuilt.places; renaming = renaming_of P Q H K.rebuilt.places }

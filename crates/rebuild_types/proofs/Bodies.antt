@@ -31,12 +31,14 @@ use Rattle.run_cover.proofs.HasNumbers.{this_row}
 use Rattle.run_cover.proofs.HasRows.{method_of, of_method}
 use Rattle.facts_order.proofs.Pairs.{IsPlaced}
 use Rattle.facts_order.proofs.Owners.{row_there}
-use Rattle.rebuild_model.specs.Renaming.{Places, Renaming, renaming_of, retyped, retyped_if}
+use Rattle.rebuild_model.specs.Renaming.{retyped, retyped_if}
 use Rattle.rebuild_model.specs.Matches.{MatchesSts}
 use Rattle.rebuild_model.specs.Members.{new_types, HasTypes, HasCode, StandsAt, IsBody, IsHead, IsFiller}
 use Rattle.rebuild_model.specs.Written.{zero_int, no_truth, zero_char, no_object, IsFilling, fills_nothing, fills, IsWritten}
-use Rattle.rebuild_looks.specs.Known.{Known}
+use Rattle.rebuild_looks.specs.Known.{Known, sides}
 use Rattle.rebuild_types.proofs.Asked.{retypes, SeesNew}
+use Rattle.run_cover.proofs.TypedParts.{TypedBody}
+use Rattle.rebuild_types.proofs.Walk.{CopiedBody}
 use Rattle.rebuild_types.proofs.Statements.{again_body}
 use Rattle.rebuild_types.proofs.Served.{each_retypes, variables_after, same_variable, row_class_is, renewed, served}
 
@@ -79,18 +81,14 @@ filled_typed W g r xs (fills {e = d} no_truth) e = t_st_then (t_return t_truth e
 filled_typed W g r xs (fills {e = d} zero_char) e = t_st_then (t_return (t_cast t_number refl) e refl) t_no_st
 filled_typed W g r xs (fills {e = d} (no_object f)) e = t_st_then (t_return t_null e f) t_no_st
 
-module _ (Q : Plain) (F : Facts) (H : Hierarchy) (W : Plain) (K : Known (untagged Q) Q F H W) (placed : IsPlaced (untagged Q) Q)
+module _ {Q : Plain} {F : Facts} {H : Hierarchy} {W : Plain} (K : Known (untagged Q) Q F H W) (placed : IsPlaced (untagged Q) Q)
     (typed : IsTyped (untagged Q)) (facts : IsFactsOf (untagged Q) Q F) (pt : PointsTo) (t : Table)
     (A : InRange F) (O : InOrder F) (S : AreSets F pt) (B : IsTable F t) (table : H.table ≡ t.rows.items) (none : first_broken F pt H ≡ None)
     (hierarchy : IsHierarchyOf F H) where
   abbrev P : Plain
   P = untagged Q
 
-  abbrev T : Places
-  T = K.rebuilt.places
-
-  abbrev R : Renaming
-  R = renaming_of P Q H T
+  open sides K use {places as T, renaming as R}
 
   pub have_slots : HaveSlots P
   unfolding HaveSlots
@@ -120,8 +118,12 @@ module _ (Q : Plain) (F : Facts) (H : Hierarchy) (W : Plain) (K : Known (untagge
       let at = method_of Q K.old m k stands in
       let written : code.written ≡ ys = same_Some code.written ys (sym code.new_code ∙ e) in
       let sees : SeesNew P Q W R m k (env_of g new) = record { self = self; locals = copied_locals m k new types code; result = types.result } in
-      again_body Q W F K.old have_slots facts R (renewed Q F H W K) m k stands (ap is_some xs.1) (env_of g new) sees
-      (served Q F H W K placed typed facts pt t A O S B table none hierarchy m k stands new.owner self) xs.0 ys xs.1
+      let there : is_some k.body ≡ true = ap is_some xs.1 in
+      let body : TypedBody =
+      record { program = Q; facts = F; formed = K.old; slots = have_slots; are_facts = facts; number = m; method = k; stands = stands; bodied = there } in
+      let serves = served K placed typed facts pt t A O S B table none hierarchy m k stands new.owner self in
+      let copied : CopiedBody = record { body = body; written = W; renaming = R; renewed = renewed K; env = env_of g new; sees = sees; serves = serves } in
+      again_body copied xs.0 ys xs.1
       (subst (λ g. TypedSts P g (bare_sts xs.0)) (same_env m k) (typed.methods m (untag_method k) at (bare_sts xs.0) (ap untag_body xs.1)))
       ((K.old.methods m (untag_method k) at).code (bare_sts xs.0) (ap untag_body xs.1))
       (subst (λ z. MatchesSts P W R (env_of m k) z ys) xs.2
@@ -137,7 +139,7 @@ module _ (Q : Plain) (F : Facts) (H : Hierarchy) (W : Plain) (K : Known (untagge
       ∙ ap (option_map (λ c. record { 0 = c })) st.numbered in
       let place = hierarchy.placed.these r.0 (record { 0 = st.number }) this in
       let same : node (place_of_row H r.0) ≡ st.place = same_Some (node (place_of_row H r.0)) st.place (sym place ∙ st.placed) in
-      row_class_is Q F H W K (row.This m) r.0 r.1 ∙ ap (λ z. Some (T.type_of z)) (ap (λ z. z.0) same ∙ st.at)
+      row_class_is K (row.This m) r.0 r.1 ∙ ap (λ z. Some (T.type_of z)) (ap (λ z. z.0) same ∙ st.at)
 
   old_of : (m : ℕ) (old : PlainMethod) → slice_get P.methods m ≡ Some old
       → (k : PlainMethod) × (slice_get Q.methods m ≡ Some k) × (untag_method k ≡ old)

@@ -48,13 +48,14 @@ use Rattle.run_cover.proofs.Untagging.{untyped_params}
 use Rattle.run_cover.proofs.HasRows.{method_of, of_field}
 use Rattle.flow_rules.proofs.Listed.{first, each_has, when_has}
 use Rattle.facts_order.proofs.Pairs.{IsPlaced}
-use Rattle.facts_order.proofs.Columns.{field_column, body_column}
+use Rattle.run_cover.proofs.HasNumbers.{field_column}
+use Rattle.facts_order.proofs.Columns.{body_column}
 use Rattle.facts_order.proofs.Tests.{gathered_has}
 use Rattle.facts_order.proofs.Owners.{row_of_operand, creation_object}
 use Rattle.facts_order.proofs.Fitted.{part_fitted}
-use Rattle.rebuild_model.specs.Renaming.{Places, Renaming, renaming_of, retyped, retyped_if}
+use Rattle.rebuild_model.specs.Renaming.{renaming_of, retyped, retyped_if}
 use Rattle.rebuild_model.specs.Members.{is_made_at, new_types, HasTypes}
-use Rattle.rebuild_looks.specs.Known.{Known, Offers}
+use Rattle.rebuild_looks.specs.Known.{Known, Offers, sides}
 use Rattle.rebuild_looks.proofs.Nodes.{below_is, concrete}
 use Rattle.rebuild_looks.proofs.Fields.{new_field, finds_field}
 use Rattle.rebuild_looks.proofs.Slots.{method_of_slot, offers_item}
@@ -100,15 +101,11 @@ variables_after p n (v ∷ vs) = ap (λ z. retyped (p n) v.ty ∷ z) (variables_
 pub same_variable : (d : ℕ) (k : PlainMethod) (i : ℕ) → variable_row d (untag_method k) i ≡ variable_row d k i
 same_variable d k i = ap (λ n. variable_in k.slot (nat_lt i n) d i) (length-map k.params untag_local)
 
-module _ (Q : Plain) (F : Facts) (H : Hierarchy) (W : Plain) (K : Known (untagged Q) Q F H W) where
+module _ {Q : Plain} {F : Facts} {H : Hierarchy} {W : Plain} (K : Known (untagged Q) Q F H W) where
   abbrev P : Plain
   P = untagged Q
 
-  abbrev T : Places
-  T = K.rebuilt.places
-
-  abbrev R : Renaming
-  R = renaming_of P Q H T
+  open sides K use {places as T, renaming as R}
 
   abbrev C : Option RowItem → Option ℕ
   C i = new_class P Q W R i
@@ -156,30 +153,29 @@ module _ (Q : Plain) (F : Facts) (H : Hierarchy) (W : Plain) (K : Known (untagge
   renewed = record {
     numbered = λ i r e. (T.type_of (place_of_row H r), row_class_is i r e);
     static_fields = λ f g s.
-        let x = static_field_is P Q F H W K f g s in
-        static_field_type P Q F H W K f g x
-        ∙ sym (ap (λ z. retyped_if (R.row_type (row.Field f)) (option_map (λ (k : PlainField). k.ty) z)) x.same.old_stands);
+        let x = static_field_is K f g s in
+        static_field_type K f g x ∙ sym (ap (λ z. retyped_if (R.row_type (row.Field f)) (option_map (λ (k : PlainField). k.ty) z)) x.same.old_stands);
     static_methods = λ d g s k e. let x =
-        static_method_is P Q F H W K d g s in method_types d k e x.same.old x.same.new x.same.old_stands x.types g x.same.new_stands;
+        static_method_is K d g s in method_types d k e x.same.old x.same.new x.same.old_stands x.types g x.same.new_stands;
   }
 
   -- a node that offers a field finds it
-  field_found : (n f : ℕ) → Offers P Q F H W K n (column.Fld f) → FindsField P Q W R (T.type_of n) f
+  field_found : (n f : ℕ) → Offers K n (column.Fld f) → FindsField P Q W R (T.type_of n) f
   field_found n f o =
-      let x = (new_field P Q F H W K f o.node o.stands).1 in
+      let x = (new_field K f o.node o.stands).1 in
       record {
-        number = (new_field P Q F H W K f o.node o.stands).0;
-        found = finds_field P Q F H W K f n o;
+        number = (new_field K f o.node o.stands).0;
+        found = finds_field K f n o;
         type = ap (option_map (λ (k : PlainField). k.ty)) x.stands ∙ ap Some x.is.type
             ∙ sym (ap (λ z. retyped_if (R.row_type (row.Field f)) (option_map (λ (k : PlainField). k.ty) z)) x.is.old_stands);
       }
 
   -- and one that offers a declaration its slot
-  slot_found : (n s d : ℕ) → slot_of_method P d ≡ Some s → Offers P Q F H W K n (column.Dcl d) → FindsSlot P Q W R (T.type_of n) s d
+  slot_found : (n s d : ℕ) → slot_of_method P d ≡ Some s → Offers K n (column.Dcl d) → FindsSlot P Q W R (T.type_of n) s d
   slot_found n s d e o =
       let m = method_of_slot P d s e in
       let i = ((K.old.methods d m.method m.stands).slots s).0 m.slot in
-      let x = finds_slot P Q F H W K n s d (K.order.lower_lives n o.node o.above) (offers_item P Q F H W K n s (column.Dcl d) refl e o) e i.slot i.stands in
+      let x = finds_slot K n s d (K.order.lower_lives n o.node o.above) (offers_item K n s (column.Dcl d) refl e o) e i.slot i.stands in
       record {
         number = x.0;
         found = x.1.found;
@@ -200,7 +196,7 @@ module _ (Q : Plain) (F : Facts) (H : Hierarchy) (W : Plain) (K : Known (untagge
         let is : is_tie F l u ≡ true = list_any-from_Any (λ (y : TieInfo). is_pair y.lower.0 y.upper.0 l u) F.ties.items
         (c.0, x, c.1, c.2, and_from (l == l) (u == u) (eq-eqb l l refl) (eq-eqb u u refl)) in
         let le = (half F pt t A O S B H table none).tied l u is in
-        below_is P Q F H W K (place_of_row H l) (place_of_row H u) (K.order.lower_lives (place_of_row H l) (place_of_row H u) le)
+        below_is K (place_of_row H l) (place_of_row H u) (K.order.lower_lives (place_of_row H l) (place_of_row H u) le)
         (K.order.upper_lives (place_of_row H l) (place_of_row H u) le) ∙ le
 
     under : (i j : Option RowItem) → ((x : TieInfo) → Contains (tied (row_in (numbers P Q) i) (row_in (numbers P Q) j)) x → Contains F.ties.items x)
@@ -217,7 +213,7 @@ module _ (Q : Plain) (F : Facts) (H : Hierarchy) (W : Plain) (K : Known (untagge
     record IsOffered (i : ColumnItem) (c : ℕ) : Type 0 where
       node : ℕ
       class : T.type_of node ≡ c
-      offers : Offers P Q F H W K node i
+      offers : Offers K node i
 
     accessed_at : (i : Option RowItem) (q : ColumnItem) (l : ℕ) → (numbers P Q).column q ≡ Some l
         → ((x : AccessInfo) → Contains (accessed (row_in (numbers P Q) i) ((numbers P Q).column q)) x → Contains F.accesses.items x) → (c : ℕ)
@@ -232,7 +228,7 @@ module _ (Q : Plain) (F : Facts) (H : Hierarchy) (W : Plain) (K : Known (untagge
           node = place_of_row H a.number;
           class = a.class;
           offers =
-              needed.offers_item P Q F H W K (place_of_row H a.number) l q e ((half F pt t A O S B H table none).offered a.number l has);
+              needed.offers_item K (place_of_row H a.number) l q e ((half F pt t A O S B H table none).offered a.number l has);
         }
 
     has_field : (b : Operand) (f : ℕ) → ((x : AccessInfo) → Contains (accessed (row_at (numbers P Q) b) ((numbers P Q).column (column.Fld f))) x
@@ -309,8 +305,7 @@ module _ (Q : Plain) (F : Facts) (H : Hierarchy) (W : Plain) (K : Known (untagge
       created o a hc object =
           let w = row_of_class o.row a hc in
           let q = object w.number (row_in_is o.row a w) in
-          subst (λ z. is_concrete W z ≡ true) w.class (concrete P Q F H W K (place_of_row H w.number) (hierarchy.placed.rows w.number q.0)
-          (made_row w.number q.0 q.1))
+          subst (λ z. is_concrete W z ≡ true) w.class (concrete K (place_of_row H w.number) (hierarchy.placed.rows w.number q.0) (made_row w.number q.0 q.1))
 
       object_there : (w : Place) (u : Bool) (o : Operand) → InBody (a_creation w u o) → (n : ℕ) → o.created ≡ Some n → (y : ObjectType)
           → o.ty ≡ Some y → y.dim ≡ 0 → (r : ℕ) → row_at (numbers P Q) o ≡ Some r
@@ -347,16 +342,15 @@ module _ (Q : Plain) (F : Facts) (H : Hierarchy) (W : Plain) (K : Known (untagge
           let listed = super_of_part (a_super_call w (Some d) es o) i x is in
           let run : is_super F a.number l.0 ≡ true = list_any-from_Any (λ (y : SuperInfo). is_pair y.row.0 y.column.0 a.number l.0) F.supers.items
           (listed.0, x, listed.1, listed.2, and_from (a.number == a.number) (l.0 == l.0) (eq-eqb a.number a.number refl) (eq-eqb l.0 l.0 refl)) in
-          let slot = super_slot P Q F H W K pt t A O S B table none a.number l.0 d run l.1 in
-          let of = super_of P Q F H W K pt t A O S B table none a.number l.0 d run l.1 in
-          let offers = super_offers P Q F H W K pt t A O S B table none a.number l.0 d run l.1 in
-          let y = (new_body P Q F H W K d offers.node offers.stands).1 in
+          let slot = super_slot K pt t A O S B table none a.number l.0 d run l.1 in
+          let of = super_of K pt t A O S B table none a.number l.0 d run l.1 in
+          let offers = super_offers K pt t A O S B table none a.number l.0 d run l.1 in
+          let y = (new_body K d offers.node offers.stands).1 in
           subst (λ z. FindsSuper P Q W R z d) a.class (record {
-            number = number P Q F H W K (place_of_row H a.number) d slot of offers;
-            found = super_body P Q F H W K pt t A O S B table none a.number l.0 d run l.1;
-            bodied = bodied_there P Q F H W K (place_of_row H a.number) d slot of offers;
-            type = λ k at. method_types d k at y.is.old y.method y.is.old_stands y.is.types
-                (number P Q F H W K (place_of_row H a.number) d slot of offers) y.stands;
+            number = number K (place_of_row H a.number) d slot of offers;
+            found = super_body K pt t A O S B table none a.number l.0 d run l.1;
+            bodied = bodied_there K (place_of_row H a.number) d slot of offers;
+            type = λ k at. method_types d k at y.is.old y.method y.is.old_stands y.is.types (number K (place_of_row H a.number) d slot of offers) y.stands;
           })
 
       -- what each part of a body asks is there

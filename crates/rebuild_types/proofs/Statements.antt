@@ -6,94 +6,47 @@ use Rattle.std.proofs.lemmas.Bool.{false≢true}
 use Rattle.kaba_base.specs.declared.Place.{Place}
 use Rattle.java_core.specs.declared.Ty.{Ty}
 use Rattle.java_core.specs.Trees.{Tag, Ex, this, local, static_field, Target, to_local, to_static, to_own, to_field, to_element, no_target, St, Sts, Arms, declare, block, assign, act, print, choose, loop, return, break, continue, no_st, st_then, no_other, otherwise, arm}
-use Rattle.java_core.specs.Programs.{Plain, PlainMethod}
-use Rattle.java_core.specs.Types.{Static, or_nothing, Env, env_of, element_of, is_numeric, is_boolean, is_printable, field_type, value_type, fits, fits_in, static, target_type}
+use Rattle.java_core.specs.Programs.{Plain}
+use Rattle.java_core.specs.Types.{Static, or_nothing, element_of, is_numeric, is_boolean, is_printable, field_type, value_type, fits, fits_in, static, target_type}
 use Rattle.java_core.specs.Typing.{Typed, TypedTarget, TypedTest, TypedSt, TypedSts, TypedArms, t_this, t_to_local, t_to_static, t_to_field, t_to_element, t_always, t_test, t_declare, t_declare_as, t_block, t_assign, t_act, t_print_line, t_print, t_choose, t_loop, t_return_nothing, t_return, t_break, t_continue, t_no_st, t_st_then, t_no_other, t_otherwise, t_arm}
-use Rattle.java_core.specs.Formed.{IsFormed, FormedEx, FormedTarget, FormedOption, FormedSt, FormedSts, FormedArms, numbers_below, f_to_own, f_to_field, f_to_element, f_some, f_declare, f_block, f_assign, f_act, f_print, f_choose, f_loop, f_return, f_st_then, f_otherwise, f_arm}
-use Rattle.java_core.specs.Untagged.{bare, bare_if, bare_target, bare_st, bare_sts, bare_arms, untag_method, untagged}
-use Rattle.fact_model.specs.declared.facts.Facts.{Facts}
-use Rattle.flow_rules.specs.declared.items.ObjectType.{ObjectType}
-use Rattle.flow_rules.specs.declared.items.Operand.{Operand}
+use Rattle.java_core.specs.Formed.{IsFormed, FormedTarget, FormedOption, FormedSt, FormedSts, FormedArms, numbers_below, f_to_own, f_to_field, f_to_element, f_some, f_declare, f_block, f_assign, f_act, f_print, f_choose, f_loop, f_return, f_st_then, f_otherwise, f_arm}
+use Rattle.java_core.specs.Untagged.{bare_if, bare_target, bare_st, bare_sts, bare_arms, untag_method, untagged}
 use Rattle.flow_rules.specs.declared.items.RowItem.{RowItem}
 use Rattle.flow_rules.specs.declared.items.RowItem.TheVariants as row
 use Rattle.flow_rules.specs.Operands.{object_of, object_if, object_static, object_field, variable_row, result_in, this_operand, type_in}
 use Rattle.flow_rules.specs.Labels.{label_sts}
-use Rattle.flow_rules.specs.Parts.{Part, a_store, an_element_store, a_set, a_return, is_accessed, parts_if, parts_assign, parts_st, parts_sts, parts_arms, parts_body, parts_of}
-use Rattle.flow_rules.specs.Facts.{IsFactsOf}
-use Rattle.run_cover.specs.Slotted.{HaveSlots}
+use Rattle.flow_rules.specs.Parts.{a_store, an_element_store, a_set, a_return, is_accessed, parts_assign, parts_st, parts_arms, parts_body, parts_of}
 use Rattle.run_cover.proofs.Included.{get_map, object_or}
 use Rattle.run_cover.proofs.Untagging.{unlabel_sts}
 use Rattle.run_cover.proofs.HasRows.{field_row_of, result_row_of, variable_row_of}
 use Rattle.run_cover.proofs.Types.{of_element}
-use Rattle.rebuild_model.specs.Renaming.{Renaming, retyped, retyped_if}
-use Rattle.rebuild_model.specs.Matches.{Matches, MatchesIf, MatchesTarget, MatchesSt, MatchesSts, MatchesArms, m_none, m_some, m_to_local, m_to_static, m_to_own, m_to_field, m_to_element, m_declare, m_block, m_assign, m_act, m_print, m_choose, m_loop, m_return, m_break, m_continue, m_no_st, m_st_then, m_no_other, m_otherwise, m_arm}
+use Rattle.rebuild_model.specs.Renaming.{retyped, retyped_if}
+use Rattle.rebuild_model.specs.Matches.{MatchesIf, MatchesTarget, MatchesSt, MatchesSts, MatchesArms, m_none, m_some, m_to_local, m_to_static, m_to_own, m_to_field, m_to_element, m_declare, m_block, m_assign, m_act, m_print, m_choose, m_loop, m_return, m_break, m_continue, m_no_st, m_st_then, m_no_other, m_otherwise, m_arm}
 use Rattle.rebuild_types.proofs.Retyped.{retyped_static, HasClass, IsUnder, retyped_or, numeric_kept, boolean_kept, printable_kept, element_kept, some_kept, fits_kept, fits_in_kept}
-use Rattle.rebuild_types.proofs.Asked.{Serves, AreRenewed, SeesNew}
+use Rattle.rebuild_types.proofs.Asked.{Serves}
 use Rattle.rebuild_types.proofs.Walk as walk
 use Rattle.rebuild_types.proofs.Finding.{field_class, found_instance}
-use Rattle.rebuild_types.proofs.Walk.{Again, again}
+use Rattle.rebuild_types.proofs.Walk.{CopiedBody, copying, again}
+use Rattle.run_cover.proofs.Walked.{walked}
+use Rattle.run_cover.proofs.Each.{left, right}
 
 pub fits_some : (P : Plain) (s : Static) (t : Option Ty) → fits_in P s (or_nothing t) ≡ true → is_some t ≡ true
 fits_some P s None e = absurd (false≢true e)
 fits_some P s (Some u) e = refl
 
-module _ (Q W : Plain) (F : Facts) (formed : IsFormed (untagged Q)) (slots : HaveSlots (untagged Q)) (facts : IsFactsOf (untagged Q) Q F)
-    (R : Renaming) (N : AreRenewed (untagged Q) Q W R)
-    (m : ℕ) (k : PlainMethod) (stands : slice_get Q.methods m ≡ Some k) (body : is_some k.body ≡ true) (h : Env) (sees : SeesNew (untagged Q) Q W R m k h)
-    (serves : (p : Part) → Contains (parts_of (untagged Q) m k) p → Serves (untagged Q) Q W R m k h.self p) where
+module _ (A : CopiedBody) where
+  open A use {body as B, written as W, renaming as R, renewed as N, env as h, sees}
+  open B use {program as Q, formed, number as m, method as k, stands}
+  open copying B W R use {class_at as C, IsCopy}
+
   abbrev P : Plain
   P = untagged Q
 
-  abbrev g : Env
-  g = env_of m k
-
-  abbrev type : Ex → Option ObjectType
-  type e = type_in P m k e
-
-  abbrev C : Option RowItem → Option ℕ
-  C i = walk.C Q W F formed slots facts R N m k stands body h sees serves i
-
-  abbrev row_at : Ex → Option RowItem
-  row_at e = walk.row_at Q W F formed slots facts R N m k stands body h sees serves e
-
-  abbrev O : Ex → Operand
-  O e = walk.O Q W F formed slots facts R N m k stands body h sees serves e
-
-  abbrev tree : Bool → Ex → List Part
-  tree u e = walk.tree Q W F formed slots facts R N m k stands body h sees serves u e
-
-  abbrev Stands : List Part → Type 0
-  Stands ps = (p : Part) → Contains ps p → Contains (parts_of P m k) p
-
-  abbrev IsTyped : Ex → Type 0
-  IsTyped e = Typed P g (bare e)
-
-  abbrev IsFormedEx : List ℕ → Ex → Type 0
-  IsFormedEx scope e = FormedEx P (untag_method k) scope (bare e)
-
-  abbrev IsCopy : Ex → Ex → Type 0
-  IsCopy e d = Matches P W R g (bare e) d
-
-  abbrev old : Ex → Static
-  old e = static P g (bare e)
-
-  abbrev Same : Ex → Ex → Type 0
-  Same e d = Again Q W F formed slots facts R N m k stands body h sees serves e d
-
-  same : (u : Bool) (sc : List ℕ) (e d : Ex) → IsTyped e → IsFormedEx sc e → Stands (tree u e) → IsCopy e d → Same e d
-  same u sc e d ty fo st me = again Q W F formed slots facts R N m k stands body h sees serves u sc e d ty fo st me
+  open walked P m k use {env as g, type, row_at, operand as O, tree, Stands, IsTyped, IsFormed as IsFormedEx, static as old}
+  open walked P m k use {tree_if as if_there, tree_sts as sts}
 
   classed : (u : Bool) (sc : List ℕ) (e : Ex) → IsTyped e → IsFormedEx sc e → Stands (tree u e) → HasClass (object_static (old e)) (C (row_at e))
-  classed u sc e ty fo st = walk.classed Q W F formed slots facts R N m k stands body h sees serves u sc e ty fo st
-
-  left : (ps qs : List Part) → Stands (ps ++ qs) → Stands ps
-  left ps qs st = walk.left Q W F formed slots facts R N m k stands body h sees serves ps qs st
-
-  right : (ps qs : List Part) → Stands (ps ++ qs) → Stands qs
-  right ps qs st = walk.right Q W F formed slots facts R N m k stands body h sees serves ps qs st
-
-  asked : (p : Part) (qs : List Part) → Stands (p ∷ qs) → Serves P Q W R m k h.self p
-  asked p qs st = walk.asked Q W F formed slots facts R N m k stands body h sees serves p qs st
+  classed u sc e ty fo st = walk.classed A u sc e ty fo st
 
   -- rows of fields, variables and the result
   field_classed : (f : ℕ) → HasClass (object_static (or_nothing (field_type P f))) (R.row_type (row.Field f))
@@ -118,7 +71,7 @@ module _ (Q W : Plain) (F : Facts) (formed : IsFormed (untagged Q)) (slots : Hav
       → IsCopy e d → IsUnder W (C (row_at e)) (C i)
       → fits_in P (old e) (target_type P g (bare_target b)) ≡ true → (Typed W h d) × (fits_in W (static W h d) (target_type W h c) ≡ true)
   put sc u b c i e d t te fe st me under fit =
-      let a = same u sc e d te fe st me in (
+      let a = again A u sc e d te fe st me in (
         a.typed,
         subst (λ z. fits_in W z (target_type W h c) ≡ true) (sym a.type)
             (subst (λ z. fits_in W (retyped_static (C (row_at e)) (old e)) z ≡ true) (sym t.type)
@@ -140,7 +93,7 @@ module _ (Q W : Plain) (F : Facts) (formed : IsFormed (untagged Q)) (slots : Hav
   assigned sc p (to_local t i) c e d s tb te fit fb fe st (m_to_local {u = v}) me =
       let x = local_target t v i in
       let y = put sc false (to_local t i) (to_local v i) (Some (variable_row m k i)) e d x te fe (left (tree false e) _ st) me
-      (asked (a_set (O (local t i)) (O e)) [] (right (tree false e) _ st)) fit in
+      (walk.asked A (a_set (O (local t i)) (O e)) [] (right (tree false e) _ st)) fit in
       t_assign x.typed y.0 y.1
   assigned sc p (to_static t f) c e d s tb te fit fb fe st (m_to_static {u = v} {h = n} is) me =
       let x : AgainTarget (to_static t f) (to_static v n) (Some (row.Field f)) =
@@ -151,13 +104,11 @@ module _ (Q W : Plain) (F : Facts) (formed : IsFormed (untagged Q)) (slots : Hav
         classed = field_classed f;
       } in
       let y = put sc false (to_static t f) (to_static v n) (Some (row.Field f)) e d x te fe (left (tree false e) _ st) me
-      (asked (a_set (O (static_field t f)) (O e)) [] (right (tree false e) _ st)) fit in
+      (walk.asked A (a_set (O (static_field t f)) (O e)) [] (right (tree false e) _ st)) fit in
       t_assign x.typed y.0 y.1
   assigned sc p (to_own t f) c e d s tb te fit (f_to_own inst own) fe st (m_to_own {u = v} {v = w}) me =
-      let has = asked (a_store p (this_operand m k) (Some f) (O e)) [] (right (tree true e) _ st) in
-      let r = walk.read Q W F formed slots facts R N m k stands body h sees serves (this w) h.self f refl
-      (has.0 own.member own.stands own.kind h.self (sees.self inst))
-      (walk.field_some Q W F formed slots facts R N m k stands body h sees serves f own.member own.stands) in
+      let has = walk.asked A (a_store p (this_operand m k) (Some f) (O e)) [] (right (tree true e) _ st) in
+      let r = walk.read A (this w) h.self f refl (has.0 own.member own.stands own.kind h.self (sees.self inst)) (walk.field_some A f own.member own.stands) in
       let x : AgainTarget (to_own t f) (to_field v (this w) (R.field_name f)) (Some (row.Field f)) =
       record { typed = t_to_field t_this r.found; type = r.value; classed = field_classed f } in
       let y = put sc true (to_own t f) (to_field v (this w) (R.field_name f)) (Some (row.Field f)) e d x te fe (left (tree true e) _ st) me has.1 fit in
@@ -165,17 +116,16 @@ module _ (Q W : Plain) (F : Facts) (formed : IsFormed (untagged Q)) (slots : Hav
   assigned sc p (to_field t b x) c e d s (t_to_field tb some) te fit (f_to_field fb n) fe st (m_to_field {u = v} {d = b2} {f = f} mb l) me =
       let both = left (tree (is_accessed b) b ++ tree true e) _ st in
       let inner = left (tree (is_accessed b) b) (tree true e) both in
-      let a = same (is_accessed b) sc b b2 tb fb inner mb in
+      let a = again A (is_accessed b) sc b b2 tb fb inner mb in
       let cls = field_class P (old b) x f l in
-      let base = walk.based Q W F formed slots facts R N m k stands body h sees serves (is_accessed b) sc b b2 cls.0 tb fb inner a cls.1 in
-      let seen = walk.field_seen Q W F formed slots facts R N m k stands body h sees serves b x f l in
+      let base = walk.based A (is_accessed b) sc b b2 cls.0 tb fb inner a cls.1 in
+      let seen = walk.field_seen A b x f l in
       let has = subst (λ z. Serves P Q W R m k h.self (a_store p (O b) z (O e))) seen
-      (asked (a_store p (O b) (object_field P (type b) x) (O e)) [] (right (tree (is_accessed b) b ++ tree true e) _ st)) in
+      (walk.asked A (a_store p (O b) (object_field P (type b) x) (O e)) [] (right (tree (is_accessed b) b ++ tree true e) _ st)) in
       let is : or_nothing (value_type P (old b) x) ≡ or_nothing (field_type P f) = ap (λ z. or_nothing (option_and_then (field_type P) z)) l in
       let some_type = fits_some P (old e) (field_type P f) (ap (fits_in P (old e)) (sym is) ∙ fit) in
       let w = found_instance P (old b) x f l some_type in
-      let r = walk.read Q W F formed slots facts R N m k stands body h sees serves b2 base.class f base.new
-      (has.0 w.0 w.1 w.2 base.class base.row_is) some_type in
+      let r = walk.read A b2 base.class f base.new (has.0 w.0 w.1 w.2 base.class base.row_is) some_type in
       let y : AgainTarget (to_field t b x) (to_field v b2 (R.field_name f)) (Some (row.Field f)) = record {
         typed = t_to_field a.typed r.found;
         type = r.value ∙ ap (retyped_static (R.row_type (row.Field f))) (sym is);
@@ -188,8 +138,8 @@ module _ (Q W : Plain) (F : Facts) (formed : IsFormed (untagged Q)) (slots : Hav
       let three = left (tree true b ++ tree false i ++ tree true e) _ st in
       let two = left (tree true b ++ tree false i) (tree true e) three in
       let sb = left (tree true b) (tree false i) two in
-      let a = same true sc b b2 tb fb sb mb in
-      let q = same false sc i j ti fi (right (tree true b) (tree false i) two) mi in
+      let a = again A true sc b b2 tb fb sb mb in
+      let q = again A false sc i j ti fi (right (tree true b) (tree false i) two) mi in
       let is = ap element_of a.type ∙ element_kept (C (row_at b)) (old b) in
       let x : AgainTarget (to_element t b i) (to_element v b2 j) (row_at b) = record {
         typed = t_to_element a.typed (ap is_some is ∙ some_kept (C (row_at b)) (element_of (old b)) ∙ some) q.typed
@@ -198,21 +148,15 @@ module _ (Q W : Plain) (F : Facts) (formed : IsFormed (untagged Q)) (slots : Hav
         classed = λ o ho. let w = of_element (old b) o ho in classed true sc b tb fb sb w.0 w.1;
       } in
       let y = put sc true (to_element t b i) (to_element v b2 j) (row_at b) e d x te fe (right (tree true b ++ tree false i) (tree true e) three) me
-      (asked (an_element_store p (O b) (O e)) [] (right (tree true b ++ tree false i ++ tree true e) _ st)) fit in
+      (walk.asked A (an_element_store p (O b) (O e)) [] (right (tree true b ++ tree false i ++ tree true e) _ st)) fit in
       t_assign x.typed y.0 y.1
   assigned sc p no_target c e d s tb te fit fb fe st mt me = elim tb [ ]
-
-  abbrev if_there : Option Ex → List Part
-  if_there e = parts_if P (type_in P m k) m k e
-
-  abbrev sts : Sts → List Part
-  sts xs = parts_sts P (type_in P m k) m k xs
 
   tested : (sc : List ℕ) (e d : Option Ex) → TypedTest P g (bare_if e) → FormedOption P (untag_method k) sc (bare_if e) → Stands (if_there e)
       → MatchesIf P W R g (bare_if e) d → TypedTest W h d
   tested sc None d ty fo st m_none = t_always
   tested sc (Some e) d (t_test te b) (f_some fe) st (m_some {d = c} me) =
-      let a = same false sc e c te fe st me in t_test a.typed (ap is_boolean a.type ∙ boolean_kept (C (row_at e)) (old e) ∙ b)
+      let a = again A false sc e c te fe st me in t_test a.typed (ap is_boolean a.type ∙ boolean_kept (C (row_at e)) (old e) ∙ b)
 
   mutual
     again_st : (l : Bool) (sc : List ℕ) (x y : St) → TypedSt P g (bare_st x) → FormedSt P (untag_method k) l sc (bare_st x)
@@ -221,15 +165,15 @@ module _ (Q W : Plain) (F : Facts) (formed : IsFormed (untagged Q)) (slots : Hav
     again_st l sc (declare t i (Some e)) y (t_declare_as te fit) (f_declare new (f_some fe)) st (m_declare {u = u} (m_some {d = d} me)) =
         let x = local_target t u i in
         let z = put (i ∷ sc) false (to_local t i) (to_local u i) (Some (variable_row m k i)) e d x te fe (left (tree false e) _ st) me
-        (asked (a_set (O (local t i)) (O e)) [] (right (tree false e) _ st)) fit in
+        (walk.asked A (a_set (O (local t i)) (O e)) [] (right (tree false e) _ st)) fit in
         t_declare_as z.0 z.1
     again_st l sc (block t xs) y (t_block txs) (f_block fxs) st (m_block {ys = ys} ms) = t_block (again_sts l sc xs ys txs fxs st ms)
     again_st l sc (assign t b e) y (t_assign tb te fit) (f_assign fb fe) st (m_assign {u = u} {c = c} {d = d} mb me) =
         assigned sc t.place b c e d u tb te fit fb fe st mb me
-    again_st l sc (act t e) y (t_act te) (f_act q fe) st (m_act {d = d} me) = t_act (same false sc e d te fe st me).typed
+    again_st l sc (act t e) y (t_act te) (f_act q fe) st (m_act {d = d} me) = t_act (again A false sc e d te fe st me).typed
     again_st l sc (print t n None) y ty fo st (m_print m_none) = t_print_line
     again_st l sc (print t n (Some e)) y (t_print te pr) (f_print or (f_some fe)) st (m_print (m_some {d = d} me)) =
-        let a = same false sc e d te fe st me in t_print a.typed (ap is_printable a.type ∙ printable_kept (C (row_at e)) (old e) ∙ pr)
+        let a = again A false sc e d te fe st me in t_print a.typed (ap is_printable a.type ∙ printable_kept (C (row_at e)) (old e) ∙ pr)
     again_st l sc (choose t no_other) y ty fo st mx = elim fo [ ]
     again_st l sc (choose t (otherwise xs)) y ty fo st mx = elim fo [ ]
     again_st l sc (choose t (arm e xs more)) y (t_choose ty) (f_choose fo) st (m_choose {b = b} ma) = t_choose (again_arms l sc (arm e xs more) b ty fo st ma)
@@ -244,11 +188,11 @@ module _ (Q W : Plain) (F : Facts) (formed : IsFormed (untagged Q)) (slots : Hav
         t_return_nothing (sees.result ∙ ap (retyped_if (R.row_type (result_in k.slot m))) r)
     again_st l sc (return t (Some e)) y (t_return {u = u} te r fit) (f_return (f_some fe)) st (m_return (m_some {d = d} me)) =
         let inner = left (tree false e) _ st in
-        let a = same false sc e d te fe inner me in
+        let a = again A false sc e d te fe inner me in
         let i = R.row_type (result_in k.slot m) in
         t_return a.typed (sees.result ∙ ap (retyped_if i) r) (subst (λ z. fits W z (retyped i u) ≡ true) (sym a.type)
         (fits_kept P W (old e) u (C (row_at e)) i (classed false sc e te fe inner) (result_classed u r)
-        (asked (a_return (O e)) [] (right (tree false e) _ st)) fit))
+        (walk.asked A (a_return (O e)) [] (right (tree false e) _ st)) fit))
     again_st l sc (break t) y ty fo st m_break = t_break
     again_st l sc (continue t) y ty fo st m_continue = t_continue
 
@@ -265,7 +209,7 @@ module _ (Q W : Plain) (F : Facts) (formed : IsFormed (untagged Q)) (slots : Hav
     again_arms l sc (otherwise xs) ys (t_otherwise ty) (f_otherwise fo) st (m_otherwise {ys = zs} mx) = t_otherwise (again_sts l sc xs zs ty fo st mx)
     again_arms l sc (arm e xs more) ys (t_arm te b txs tm) (f_arm fe fxs fm) st (m_arm {d = d} {ys = zs} {b = rest} me mx mm) =
         let both = left (tree false e ++ sts xs) (parts_arms P (type_in P m k) m k more) st in
-        let a = same false sc e d te fe (left (tree false e) (sts xs) both) me in
+        let a = again A false sc e d te fe (left (tree false e) (sts xs) both) me in
         t_arm a.typed (ap is_boolean a.type ∙ boolean_kept (C (row_at e)) (old e) ∙ b) (again_sts l sc xs zs txs fxs (right (tree false e) (sts xs) both)
         mx)
         (again_arms l sc more rest tm fm (right (tree false e ++ sts xs) (parts_arms P (type_in P m k) m k more) st) mm)

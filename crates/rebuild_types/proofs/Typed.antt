@@ -27,7 +27,7 @@ use Rattle.rebuild_looks.proofs.Slots.{slot_says}
 use Rattle.rebuild_looks.proofs.Concrete.{concrete_bodies}
 use Rattle.rebuild_types.proofs.Bodies.{methods_typed}
 
-module _ (Q : Plain) (F : Facts) (H : Hierarchy) (W : Plain) (K : Known (untagged Q) Q F H W) (written : IsWritten (untagged Q) Q F H W K.rebuilt.places) where
+module _ {Q : Plain} {F : Facts} {H : Hierarchy} {W : Plain} (K : Known (untagged Q) Q F H W) (written : IsWritten (untagged Q) Q F H W K.rebuilt.places) where
   open_method : (d : ℕ) (k : PlainMethod) (s : ℕ) → slice_get W.methods d ≡ Some k → k.slot ≡ Some s → is_interface W k.owner ≡ false
       → is_public_method W (Some d) ≡ true
   open_method d k s e h c = rw e (written.public d k e (((K.new.methods d k e).slots s).0 h).instance c)
@@ -78,6 +78,6 @@ module _ (Q : Plain) (F : Facts) (H : Hierarchy) (W : Plain) (K : Known (untagge
   pub written_typed : IsPlaced (untagged Q) Q → IsTyped (untagged Q) → IsFactsOf (untagged Q) Q F → (pt : PointsTo) (t : Table) → InRange F
       → InOrder F → AreSets F pt → IsTable F t → H.table ≡ t.rows.items → first_broken F pt H ≡ None → IsHierarchyOf F H → IsTyped W
   written_typed placed typed facts pt t A O S B table none hierarchy = record {
-    classes = λ c k e. record { bodies = λ concrete. concrete_bodies (untagged Q) Q F H W K c concrete; public_methods = λ i. public_methods c i };
-    methods = methods_typed Q F H W K placed typed facts pt t A O S B table none hierarchy written;
+    classes = λ c k e. record { bodies = λ concrete. concrete_bodies K c concrete; public_methods = λ i. public_methods c i };
+    methods = methods_typed K placed typed facts pt t A O S B table none hierarchy written;
   }

@@ -1,90 +1,73 @@
 -- A copy of a typed body is typed, where its parts find what they ask.
-use Rattle.std.proofs.Common.{◌≡◌, ℕ, suc, List, [], ◌∷◌, ◌++◌, Option, Some, None, refl, sym, ap, ◌∙◌, subst, arith}
-use Rattle.std.specs.Prelude.{◌<◌, nat_lt, length, Bool, true, false, slice_get, Contains}
+use Rattle.std.proofs.Common.{◌≡◌, ℕ, suc, List, [], ◌∷◌, ◌++◌, Option, Some, None, refl, sym, ap, ◌∙◌, subst}
+use Rattle.std.specs.Prelude.{nat_lt, length, Bool, true, false, slice_get, Contains}
 use Rattle.std.specs.Option.{option_map, option_and_then, is_some}
 use Rattle.std.proofs.lemmas.Option.{same_Some}
-use Rattle.kaba_base.specs.declared.Place.{Place}
 use Rattle.java_core.specs.declared.Ty.{Ty}
 use Rattle.java_core.specs.declared.UnOp.{UnOp}
 use Rattle.java_core.specs.declared.BinOp.{BinOp}
 use Rattle.java_core.specs.Trees.{Tag, Ex, Exs, no_ex, ex_then, number, character, text, truth, null, this, local, static_field, own_field, field, index, call, static_call, super_call, create, create_array, cast, instance_of, unary, binary}
 use Rattle.java_core.specs.Programs.{Plain, PlainMethod, PlainField, PlainSlot}
 use Rattle.java_core.specs.Classes.{slot_of, slot_of_method, super_method, declaration_of, has_body, is_concrete}
-use Rattle.java_core.specs.Types.{Static, a_value, or_nothing, Env, env_of, types_of, class_type, class_of, element_of, is_numeric, is_string, field_type, value_type, field_in, access_type, fits, string_method, string_params, signature_of_string, call_signature, result_of, unary_type, binary_type, static}
+use Rattle.java_core.specs.Types.{Static, a_value, or_nothing, Env, types_of, class_type, class_of, element_of, is_numeric, is_string, field_type, value_type, field_in, access_type, fits, string_method, string_params, signature_of_string, call_signature, result_of, unary_type, binary_type, static}
 use Rattle.java_core.specs.Typing.{Typed, TypedArgs, t_number, t_character, t_text, t_truth, t_null, t_this, t_local, t_static_field, t_field, t_index, t_call, t_static_call, t_super_call, t_create, t_create_array, t_cast, t_instance_of, t_unary, t_binary, t_no_ex, t_ex_then, are_related, takes_one, takes_two, can_cast}
-use Rattle.java_core.specs.Formed.{IsFormed, FormedEx, FormedExs, f_this, f_own_field, f_field, f_index, f_call, f_static_call, f_super_call, f_create_array, f_cast, f_instance_of, f_unary, f_binary, f_ex_then}
+use Rattle.java_core.specs.Formed.{IsFormed, FormedExs, f_this, f_own_field, f_field, f_index, f_call, f_static_call, f_super_call, f_create_array, f_cast, f_instance_of, f_unary, f_binary, f_ex_then}
 use Rattle.java_core.specs.Untagged.{bare, bare_all, untag_method, untagged}
 use Rattle.java_meaning.proofs.WatchedPrograms.{bare_static}
-use Rattle.fact_model.specs.declared.facts.Facts.{Facts}
 use Rattle.flow_rules.specs.declared.items.ObjectType.{ObjectType}
 use Rattle.flow_rules.specs.declared.items.Operand.{Operand}
 use Rattle.flow_rules.specs.declared.items.RowItem.{RowItem}
 use Rattle.flow_rules.specs.declared.items.RowItem.TheVariants as row
-use Rattle.flow_rules.specs.Operands.{object_of, object_static, object_field, call_slot, call_declaration, super_slot, variable_in, variable_row, result_in, row_of, operand_of, operands_of, this_operand, test_operand, type_in}
-use Rattle.flow_rules.specs.Numbered.{row_number, site_number, number_if}
-use Rattle.flow_rules.specs.Parts.{Part, a_load, a_creation, a_call, a_static_call, a_super_call, a_test, a_pair, is_accessed, parts, parts_all, parts_of}
+use Rattle.flow_rules.specs.Operands.{object_of, object_static, object_field, call_slot, call_declaration, super_slot, variable_in, variable_row, result_in, this_operand, test_operand, type_in}
+use Rattle.flow_rules.specs.Numbered.{row_number, number_if}
+use Rattle.flow_rules.specs.Parts.{Part, a_load, a_creation, a_call, a_static_call, a_super_call, a_test, a_pair, is_accessed, parts_of}
 use Rattle.flow_rules.specs.Lists.{is_comparison}
-use Rattle.flow_rules.specs.Facts.{IsFactsOf}
 use Rattle.run_cover.specs.Slotted.{HaveSlots}
 use Rattle.run_cover.proofs.Included.{class_object}
 use Rattle.run_cover.proofs.Untagging.{untyped_params}
-use Rattle.run_cover.proofs.HasRows.{method_of, of_method, in_slot, variable_row_of}
+use Rattle.run_cover.proofs.HasRows.{method_of, of_method, in_slot, variable_row_of, of_lt}
 use Rattle.run_cover.proofs.Types.{class_apart, slot_called}
 use Rattle.run_cover.proofs.TypedParts as typed_parts
-use Rattle.run_cover.proofs.Kinded.{site_type}
-use Rattle.run_cover.proofs.Unique.{creation_type}
+use Rattle.run_cover.proofs.TypedParts.{TypedBody}
 use Rattle.rebuild_model.specs.Renaming.{Renaming, retyped, retyped_if}
 use Rattle.rebuild_model.specs.Matches.{Matches, MatchesAll, m_number, m_character, m_text, m_truth, m_null, m_this, m_local, m_static_field, m_own_field, m_field, m_length, m_index, m_call, m_string_call, m_static_call, m_super_call, m_create, m_create_array, m_cast, m_instance_of, m_unary, m_binary, m_no_ex, m_ex_then}
 use Rattle.rebuild_types.proofs.Retyped.{retyped_static, HasClass, IsUnder, AreNearIf, retyped_or, numeric_kept, string_kept, element_kept, some_kept, class_new, class_typed, takes_one_kept, binary_kept, fits_kept, takes_two_kept, related_kept, cast_kept}
 use Rattle.rebuild_types.proofs.Finding.{field_class, access_found, field_at, found_instance, length_type, length_there, is_its_length, called_at, string_called, super_called, string_plain, string_classless, string_found, retyped_string, plain_kept}
 use Rattle.rebuild_types.proofs.Asked.{retypes, new_class, FindsField, Serves, AreRenewed, SeesNew, slot_signature}
+use Rattle.run_cover.proofs.Walked.{walked}
+use Rattle.run_cover.proofs.Each.{left, right, past, here}
 
-of_lt : (a b : ℕ) → a < b → nat_lt a b ≡ true
-of_lt a b e = grind (arith, e)
+-- a body of a formed program, and what a copy of it over new classes sees; what the body's parts ask is served
+pub record CopiedBody : Type 0 where
+  pub body : TypedBody
+  pub written : Plain
+  pub renaming : Renaming
+  pub renewed : AreRenewed (untagged body.program) body.program written renaming
+  pub env : Env
+  pub sees : SeesNew (untagged body.program) body.program written renaming body.number body.method env
+  pub serves : (p : Part) → Contains (parts_of (untagged body.program) body.number body.method) p
+      → Serves (untagged body.program) body.program written renaming body.number body.method env.self p
 
-module _ (Q W : Plain) (F : Facts) (formed : IsFormed (untagged Q)) (slots : HaveSlots (untagged Q)) (facts : IsFactsOf (untagged Q) Q F)
-    (R : Renaming) (N : AreRenewed (untagged Q) Q W R)
-    (m : ℕ) (k : PlainMethod) (stands : slice_get Q.methods m ≡ Some k) (body : is_some k.body ≡ true) (h : Env) (sees : SeesNew (untagged Q) Q W R m k h)
-    (serves : (p : Part) → Contains (parts_of (untagged Q) m k) p → Serves (untagged Q) Q W R m k h.self p) where
+-- the class of a row in the new program, and the copies of an expression
+pub record Copying : Type 1 where
+  pub class_at : Option RowItem → Option ℕ
+  pub IsCopy : Ex → Ex → Type 0
+
+abbrev pub copying : TypedBody → Plain → Renaming → Copying
+copying B W R = record {
+  class_at = new_class (untagged B.program) B.program W R;
+  IsCopy = λ e d. Matches (untagged B.program) W R (env_of B.number B.method) (bare e) d;
+}
+
+module _ (A : CopiedBody) where
+  open A use {body as B, written as W, renaming as R, renewed as N, env as h, sees, serves}
+  open B use {program as Q, formed, slots, number as m, method as k}
+  open copying B W R use {class_at as C, IsCopy}
+
   abbrev pub P : Plain
   P = untagged Q
 
-  abbrev pub g : Env
-  g = env_of m k
-
-  abbrev pub C : Option RowItem → Option ℕ
-  C i = new_class P Q W R i
-
-  unique : (q : Place) (u : Bool) (o : Operand) (n s : ℕ) → Contains (parts_of P m k) (a_creation q u o) → o.created ≡ Some n
-      → site_number P Q n ≡ Some s → o.ty ≡ Some (site_type F s)
-  unique q u o n s c ec es = creation_type Q F formed facts m k stands q u o n s c ec es
-
-  abbrev pub type : Ex → Option ObjectType
-  type e = type_in P m k e
-
-  abbrev pub row_at : Ex → Option RowItem
-  row_at e = row_of P (type_in P m k) m k e
-
-  abbrev pub O : Ex → Operand
-  O e = operand_of P (type_in P m k) m k e
-
-  abbrev pub tree : Bool → Ex → List Part
-  tree u e = parts P (type_in P m k) m k u e
-
-  abbrev pub Stands : List Part → Type 0
-  Stands ps = (p : Part) → Contains ps p → Contains (parts_of P m k) p
-
-  abbrev pub IsTyped : Ex → Type 0
-  IsTyped e = Typed P g (bare e)
-
-  abbrev pub IsFormedEx : List ℕ → Ex → Type 0
-  IsFormedEx scope e = FormedEx P (untag_method k) scope (bare e)
-
-  abbrev pub IsCopy : Ex → Ex → Type 0
-  IsCopy e d = Matches P W R g (bare e) d
-
-  abbrev pub old : Ex → Static
-  old e = static P g (bare e)
+  open walked P m k use {env as g, type, row_at, operand as O, tree, Stands, IsTyped, IsFormed as IsFormedEx, static as old, operands, tree_all}
 
   -- an expression of a type of a row has the class of its row
   class_there : (i : Option RowItem) (r : ℕ) → number_if (row_number P Q) i ≡ Some r → (c : ℕ) × (C i ≡ Some c)
@@ -93,21 +76,11 @@ module _ (Q W : Plain) (F : Facts) (formed : IsFormed (untagged Q)) (slots : Hav
 
   pub classed : (u : Bool) (sc : List ℕ) (e : Ex) → IsTyped e → IsFormedEx sc e → Stands (tree u e) → HasClass (object_static (old e)) (C (row_at e))
   classed u sc e ty fo st t h =
-      let r = typed_parts.row_listed Q F formed slots m k stands body unique u sc e ty fo st t
-      (typed_parts.of_typed Q F formed slots m k stands body unique e t h) in
+      let r = typed_parts.row_listed B u sc e ty fo st t (typed_parts.of_typed B e t h) in
       class_there (row_at e) r.0 r.1
 
-  pub left : (ps qs : List Part) → Stands (ps ++ qs) → Stands ps
-  left ps qs st = typed_parts.left Q F formed slots m k stands body unique ps qs st
-
-  pub right : (ps qs : List Part) → Stands (ps ++ qs) → Stands qs
-  right ps qs st = typed_parts.right Q F formed slots m k stands body unique ps qs st
-
-  pub past : (p : Part) (qs : List Part) → Stands (p ∷ qs) → Stands qs
-  past p qs st = typed_parts.past Q F formed slots m k stands body unique p qs st
-
   pub asked : (p : Part) (qs : List Part) → Stands (p ∷ qs) → Serves P Q W R m k h.self p
-  asked p qs st = serves p (typed_parts.here Q F formed slots m k stands body unique p qs st)
+  asked p qs st = serves p (here p qs st)
 
   -- the copy is typed, and gives the same in the class of the row
   pub record Again (e d : Ex) : Type 0 where
@@ -146,10 +119,10 @@ module _ (Q W : Plain) (F : Facts) (formed : IsFormed (untagged Q)) (slots : Hav
       }
 
   pub field_seen : (e : Ex) (x : List ℕ) (f : ℕ) → field_in P (old e) x ≡ Some f → object_field P (type e) x ≡ Some f
-  field_seen e x f l = typed_parts.field_found Q F formed slots m k stands body unique e x ∙ ap (λ z. field_in P z x) (sym (bare_static P g e)) ∙ l
+  field_seen e x f l = typed_parts.field_found B e x ∙ ap (λ z. field_in P z x) (sym (bare_static P g e)) ∙ l
 
   slot_seen : (e : Ex) (x : List ℕ) (j : ℕ) → option_and_then (λ c. slot_of P c x) (class_of (old e)) ≡ Some j → call_slot P (type e) x ≡ Some j
-  slot_seen e x j l = typed_parts.slot_found Q F formed slots m k stands body unique e x ∙ l
+  slot_seen e x j l = typed_parts.slot_found B e x ∙ l
 
   declaration_seen : (e : Ex) (x : List ℕ) (c d : ℕ) → class_of (old e) ≡ Some c → declaration_of P c x ≡ Some d
       → call_declaration P (type e) x ≡ Some d
@@ -164,15 +137,9 @@ module _ (Q W : Plain) (F : Facts) (formed : IsFormed (untagged Q)) (slots : Hav
   param_classed : (d : ℕ) (f : PlainMethod) → slice_get Q.methods d ≡ Some f → (i : ℕ) (u : Ty) → slice_get (types_of f.params) i ≡ Some u
       → HasClass (object_of u) (R.row_type (variable_row d f i))
   param_classed d f e i u a t o =
-      let w = typed_parts.param_typed Q F formed slots m k stands body unique f i u t a o in
+      let w = typed_parts.param_typed B f i u t a o in
       let r = variable_row_of Q formed d f i w.0 e w.1 in
       N.numbered (variable_row d f i) r.0 r.1
-
-  abbrev operands : Exs → List Operand
-  operands es = operands_of P (type_in P m k) m k es
-
-  abbrev tree_all : Bool → Exs → List Part
-  tree_all u es = parts_all P (type_in P m k) m k u es
 
   retyped_result : (i : Option RowItem) (k : Option ℕ) (t : Option Ty) → C i ≡ k → or_nothing (retyped_if k t) ≡ retyped_static (C i) (or_nothing t)
   retyped_result i k t e = sym (retyped_or k t) ∙ ap (λ z. retyped_static z (or_nothing t)) (sym e)
@@ -196,7 +163,7 @@ module _ (Q W : Plain) (F : Facts) (formed : IsFormed (untagged Q)) (slots : Hav
       let j = in_slot Q formed slot.first q.0 q.1 s of in
       let same : j.slot ≡ slot = same_Some j.slot slot (sym j.stands ∙ e) in
       let at = ap (λ z. slice_get z i) (sym (untyped_params q.0.params) ∙ j.params ∙ ap (λ z. z.params) same) ∙ a in
-      let within = of_lt i (length q.0.params) (typed_parts.param_typed Q F formed slots m k stands body unique q.0 i u t at o).2 in
+      let within = of_lt i (length q.0.params) (typed_parts.param_typed B q.0 i u t at o).2 in
       let r = param_classed slot.first q.0 q.1 i u at t o in (
         r.0,
         ap (λ z. R.row_type (variable_in (Some s) z slot.first i)) (sym within)
@@ -207,7 +174,7 @@ module _ (Q W : Plain) (F : Facts) (formed : IsFormed (untagged Q)) (slots : Hav
       → C (option_map row.Return (super_slot P k.owner x)) ≡ R.row_type (result_in q.slot f)
   unfolding HaveSlots
   super_row f x q e found =
-      let s = slots f (untag_method q) (method_of Q formed f q e) (typed_parts.super_instance Q F formed slots m k stands body unique k.owner x f found q e) in
+      let s = slots f (untag_method q) (method_of Q formed f q e) (typed_parts.super_instance B k.owner x f found q e) in
       ap (λ z. C (option_map row.Return (option_and_then (slot_of_method P) z))) found
       ∙ ap (λ z. C (option_map row.Return (option_and_then (λ (k : PlainMethod). k.slot) z))) (method_of Q formed f q e)
       ∙ ap (λ z. C (option_map row.Return z)) s.1 ∙ sym (ap (λ z. R.row_type (result_in z f)) s.1)
@@ -217,11 +184,10 @@ module _ (Q W : Plain) (F : Facts) (formed : IsFormed (untagged Q)) (slots : Hav
   create_typed t n c es = refl
 
   near_old : (e : Ex) (t : Option ObjectType) (a b : Option ℕ) → AreNearIf W (type e) t a b → AreNearIf W (object_static (old e)) t a b
-  near_old e t a b near x y hx hy = near x y (typed_parts.of_typed Q F formed slots m k stands body unique e x hx) hy
+  near_old e t a b near x y hx hy = near x y (typed_parts.of_typed B e x hx) hy
 
   pub near_both : (e d : Ex) (a b : Option ℕ) → AreNearIf W (type e) (type d) a b → AreNearIf W (object_static (old e)) (object_static (old d)) a b
-  near_both e d a b near x y hx hy = near x y (typed_parts.of_typed Q F formed slots m k stands body unique e x hx)
-      (typed_parts.of_typed Q F formed slots m k stands body unique d y hy)
+  near_both e d a b near x y hx hy = near x y (typed_parts.of_typed B e x hx) (typed_parts.of_typed B d y hy)
 
   cast_asked : (t : Tag) (n : ℕ) (v : Ty) (e : Ex) {a b : Option ℕ} → AreNearIf W (type e) (type (cast t n v e)) a b
       → AreNearIf W (type e) (object_of v) a b
@@ -333,11 +299,11 @@ module _ (Q W : Plain) (F : Facts) (formed : IsFormed (untagged Q)) (slots : Hav
               ∙ ap (λ z. retyped_static (C (row_at (call t e x es))) (result_of z)) (sym called);
         }
     again u sc (static_call t f es) d (t_static_call {s = sig} called args) (f_static_call s fes) st (m_static_call {n = n} {ds = ds} same mes) =
-        let o = typed_parts.method_sig Q F formed slots m k stands body unique f sig called in
+        let o = typed_parts.method_sig B f sig called in
         let is = N.static_methods f n same o.0 o.1 in
         let there = of_method Q formed f s.member s.stands in
         let static_is = ap (λ z. z.is_static) (same_Some o.0 there.0 (sym o.1 ∙ there.1)) ∙ ap (λ z. z.is_static) there.2 ∙ s.kind in
-        let none = typed_parts.static_slot Q F formed slots m k stands body unique f o.0 o.1 static_is in
+        let none = typed_parts.static_slot B f o.0 o.1 static_is in
         record {
           typed = t_static_call is (agains false sc es ds (types_of o.0.params) (λ i. R.row_type (variable_row f o.0 i))
               (subst (λ z. TypedArgs P g (bare_all es) z) o.2 args) fes (past _ _ st) mes (param_classed f o.0 o.1)
@@ -349,11 +315,11 @@ module _ (Q W : Plain) (F : Facts) (formed : IsFormed (untagged Q)) (slots : Hav
         }
     again u sc (super_call t x es) d (t_super_call {m = found_method} {s = sig} found bodied called args) (f_super_call inst n fes) st
         (m_super_call {m = f} {ds = ds} found_here mes) =
-        let o = typed_parts.method_sig Q F formed slots m k stands body unique f sig (sym (super_called P k.owner x f found_here) ∙ called) in
+        let o = typed_parts.method_sig B f sig (sym (super_called P k.owner x f found_here) ∙ called) in
         let has = subst (λ z. Serves P Q W R m k h.self (a_super_call t.place z (operands es) (O (super_call t x es)))) found_here
         (asked (a_super_call t.place (super_method P k.owner x) (operands es) (O (super_call t x es))) _ st) in
         let w = has.0 inst (subst (λ z. has_body P z ≡ true) (same_Some found_method f (sym found ∙ found_here)) bodied) o.0 o.1
-        (typed_parts.super_instance Q F formed slots m k stands body unique k.owner x f found_here o.0 o.1) in
+        (typed_parts.super_instance B k.owner x f found_here o.0 o.1) in
         let is = super_called W h.self (R.method_name f) w.number w.found ∙ w.type o.0 o.1 in
         let row_is = super_row f x o.0 o.1 found_here in
         record {

@@ -37,13 +37,12 @@ module _ (P Q : Plain) (F : Facts) (s : PointsTo) (t : Table) (H : Hierarchy) (W
   }
 
   rows : OffersRows P Q F H W b.places
-  rows = rows_offered P Q F H W known s t ready.in_range ready.in_order ready.sets ready.table
-      (same_table F H t ready.hierarchy.table ready.table) ready.unbroken
+  rows = rows_offered known s t ready.in_range ready.in_order ready.sets ready.table (same_table F H t ready.hierarchy.table ready.table) ready.unbroken
 
 untagged_typed : (Q : Plain) (F : Facts) (s : PointsTo) (t : Table) (H : Hierarchy) (W : Plain) → IsPlaced (untagged Q) Q
     → IsReady (untagged Q) Q F s t H → IsFormed W → (b : Rebuilds (untagged Q) Q F H W) → IsWritten (untagged Q) Q F H W b.places → IsTyped W
 untagged_typed Q F s t H W pairs ready new b written =
-    written_typed Q F H W
+    written_typed
     (known (untagged Q) Q F s t H W pairs ready new b) written pairs ready.typed ready.facts s t ready.in_range ready.in_order ready.sets ready.table
     (same_table F H t ready.hierarchy.table ready.table) ready.unbroken ready.hierarchy
 

@@ -4,7 +4,7 @@ use Rattle.std.specs.Prelude.{◌⊎◌, ◌<◌, ◌==◌, ◌&&◌, not, get_o
 use Rattle.std.specs.Option.{option_map_or, option_and_then, is_some}
 use Rattle.std.specs.List.{flat_map}
 use Rattle.std.proofs.lemmas.Bool.{false≢true, eqb-true, eq-eqb, and_from, and_parts}
-use Rattle.std.proofs.lemmas.Option.{same_Some, slice_get_within, get_or_from_slice_get, slice_get-get_or}
+use Rattle.std.proofs.lemmas.Option.{same_Some, get_or_from_slice_get, slice_get-get_or}
 use Rattle.std.proofs.lemmas.List.Elements.{Contains-append_right, Contains-append_left}
 use Rattle.std.proofs.lemmas.List.Quantifiers.{position-Some}
 use Rattle.java_meaning.proofs.Calls.{mapped_some}
@@ -27,7 +27,7 @@ use Rattle.flow_rules.specs.Numbered.{same_column, columns_of, column_number, fi
 use Rattle.flow_rules.specs.Facts.{PlainBody, body_seen, body_if, column_body, param_points, column_info, owner_of, slot_in, numbers, IsFactsOf}
 use Rattle.java_core.specs.Untagged.{untag_body, untag_method, untagged}
 use Rattle.run_cover.proofs.Kinded.{FindsBody}
-use Rattle.flow_rules.proofs.Listed.{one, more, each_has, map_from, when_has, position_there}
+use Rattle.flow_rules.proofs.Listed.{one, more, each_has, map_from, when_has, position_there, contains_at as there_at}
 use Rattle.run_cover.proofs.Included.{get_map}
 use Rattle.flow_rules.proofs.Keys.{column_exact, column_alike}
 use Rattle.run_cover.proofs.HasNumbers.{column_there}
@@ -43,9 +43,6 @@ slot_is (Some y) x e = ap (λ z. Some z) (eqb-true y x e)
 java_slot_is : (o : Option ℕ) (x : ℕ) → java.is_slot o x ≡ true → o ≡ Some x
 java_slot_is None x e = absurd (false≢true e)
 java_slot_is (Some y) x e = ap (λ z. Some z) (eqb-true y x e)
-
-there_at : {A : Type 0} (xs : List A) (i : ℕ) (x : A) → slice_get xs i ≡ Some x → Contains xs x
-there_at xs i x e = (i, slice_get_within xs i x e, get_or_from_slice_get xs i x x e)
 
 order : (i j : ℕ) → (i < j) ⊎ ((j < i) ⊎ (i ≡ j))
 order zero zero = inr (inr refl)

@@ -20,8 +20,8 @@ use Rattle.run_cover.proofs.TypedBodies.{body_kinds}
 use Rattle.run_cover.proofs.Found.{is_below}
 use Rattle.run_cover.proofs.Bodies.{finds_body}
 use Rattle.run_cover.proofs.Cells.{field_has_cell, element_has_cell}
-use Rattle.run_cover.proofs.Unique.{creation_type}
 use Rattle.run_cover.proofs.Escapes.{kinded_covers}
+use Rattle.run_cover.proofs.TypedParts.{TypedBody}
 
 module _ (Q : Plain) (F : Facts) (formed : IsFormed (untagged Q)) (typed : IsTyped (untagged Q)) (slots : HaveSlots (untagged Q))
     (facts : IsFactsOf (untagged Q) Q F) where
@@ -36,9 +36,10 @@ module _ (Q : Plain) (F : Facts) (formed : IsFormed (untagged Q)) (typed : IsTyp
       go None h = absurd (let z : Contains (parts_body P (type_in P m k) m k None) p = subst (λ z. Contains (parts_body P (type_in P m k) m k z) p) h
           c in omega (arith, z.1))
       go (Some xs) h =
-          body_kinds Q F formed slots m k e (subst (λ z. is_some z ≡ true) (sym h) refl) (λ q u o n s c ec es. creation_type Q F formed facts m k e q
-          u o n s c ec es) xs h
-          (subst (λ g. TypedSts P g (bare_sts xs)) (same_env m k) (typed.methods m (untag_method k) (method_of Q formed m k e) (bare_sts xs)
+          let body = subst (λ z. is_some z ≡ true) (sym h) refl in
+          let B : TypedBody =
+          record { program = Q; facts = F; formed = formed; slots = slots; are_facts = facts; number = m; method = k; stands = e; bodied = body } in
+          body_kinds B xs h (subst (λ g. TypedSts P g (bare_sts xs)) (same_env m k) (typed.methods m (untag_method k) (method_of Q formed m k e) (bare_sts xs)
           (ap (λ z. untag_body z) h)))
           ((formed.methods m (untag_method k) (method_of Q formed m k e)).code (bare_sts xs) (ap (λ z. untag_body z) h)) p c
 

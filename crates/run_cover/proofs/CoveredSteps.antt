@@ -19,7 +19,9 @@ use Rattle.java_meaning.specs.Values.{default_of, convert, number_of, truth_of, 
 use Rattle.java_meaning.specs.Meaning.{Flow, Next, Broke, Continued, Gave, ToValue, ToFlow, add_cell, set_value, set_local, give_string, write_static, read_field, write_field, names_length, read_member, element_type, place_in, read_element, on_fitting, write_element, given, string_call, make_cell, make_object, make_array, is_number_type, cast_object, cast_to, test_class, after_left, join_values, compute, operate, write_local, after_one, after_turn}
 use Rattle.run_cover.specs.Families.{Set, Family, ArePlain, Reads, Writes, ReadsElement, WritesElement, Passes, Makes, Tests, Casts, AreIncluded}
 use Rattle.run_cover.specs.Watched.{Of, IsWatched}
-use Rattle.run_cover.proofs.Lists.{set_cases, get_last, get_added}
+use Rattle.run_cover.proofs.Lists.{set_cases}
+use Rattle.java_meaning.proofs.Sound.{get_last}
+use Rattle.java_meaning.proofs.Sound.{get_added}
 use Rattle.run_cover.proofs.Held.{of_sub, Keeps, of_kept, keeps_same, keeps_on, keeps_set, keeps_add, member_of, plain_of, of_convert, default_plain, replicate_plain, own_object, own_array, in_values, ArgsIn, args_get, Fine, fine_stop, bool_fine, test_fine, some_fine, fault_fine, result_fine, step_fine, cell_fine}
 
 module _ (L : Lang) (Made : Option ℕ → Kind → Type 0) (V : Family) (inc : AreIncluded L Made V) (hooks : IsWatched L V) where

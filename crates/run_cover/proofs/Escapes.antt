@@ -1,17 +1,16 @@
 -- No run of a program under the watch of closed sets escapes.
 use Rattle.std.proofs.Common.{◌≡◌, ℕ, suc, ◌+◌, List, [], ◌∷◌, Option, Some, None, refl, sym, ◌∙◌, subst, arith}
-use Rattle.std.specs.Prelude.{◌≢◌, ◌==◌, true, false, slice_get, map}
+use Rattle.std.specs.Prelude.{◌≢◌, true, false, slice_get, map}
 use Rattle.std.specs.Option.{option_map_or, option_and_then}
 use Rattle.std.specs.List.{AllByRecursion}
-use Rattle.std.proofs.lemmas.Bool.{eqb-true, and_from}
-use Rattle.std.proofs.lemmas.List.Quantifiers.{position-Some}
+use Rattle.std.proofs.lemmas.Bool.{and_from}
 use Rattle.java_core.specs.declared.Ty.{Ty}
 use Rattle.java_core.specs.Programs.{Plain}
 use Rattle.java_core.specs.Classes.{lookup, super_method}
 use Rattle.java_core.specs.Types.{field_type, types_of}
 use Rattle.java_meaning.specs.Moment.{Value, Number, Truth, CodeUnit, Nothing, Text, Object, Cell, Spot, held, bound, self_of, result_of, set_static, kept, put_in, touched, tested, ran, End, Escaped, Body}
 use Rattle.java_meaning.specs.Values.{default_of}
-use Rattle.java_meaning.specs.Languages.{layout, default_at, index_of, body_with}
+use Rattle.java_meaning.specs.Languages.{layout, default_at, body_with}
 use Rattle.java_meaning.proofs.Moves.{then_some}
 use Rattle.java_meaning.proofs.Calls.{mapped_some}
 use Rattle.fact_model.specs.Flowing.{Fact, Inclusion}
@@ -30,8 +29,9 @@ use Rattle.run_cover.proofs.Cover.{run_stays}
 use Rattle.run_cover.proofs.Kinded.{IsKinded}
 use Rattle.run_cover.proofs.Flows.{when_some, looks_in}
 use Rattle.run_cover.proofs.Calls.{local_object, result_object}
-use Rattle.run_cover.proofs.Included.{passes_map, get_map, MadeAs, typed_sites, family}
+use Rattle.run_cover.proofs.Included.{passes_map, get_map, MadeAs, typed_sites, family, ClosedBody}
 use Rattle.run_cover.proofs.IncludedBodies.{included_code}
+use Rattle.java_meaning.proofs.Layouts.{places as same_place}
 
 default_no_object : (t : Ty) (a : ℕ) → default_of t ≡ Object a → ⊥
 default_no_object t a e = default_plain t.base t.dim a e
@@ -42,11 +42,6 @@ map_plain f xs p i a e = let z = mapped_some f (slice_get xs i) (Object a) (sym 
 optional_default : (t : Option Ty) (a : ℕ) → option_map_or default_of t Nothing ≡ Object a → ⊥
 optional_default None a e = cc
 optional_default (Some t) a e = default_no_object t a e
-
-same_place : (P : Plain) (c f h i : ℕ) → index_of P c f ≡ Some i → index_of P c h ≡ Some i → f ≡ h
-same_place P c f h i e d =
-    let p = position-Some (λ g. g == f) (layout P c) i 0 e in let q = position-Some (λ g. g == h) (layout P c) i 0 d in
-    sym (eqb-true _ f p.1) ∙ eqb-true _ h q.1
 
 module _ (P Q : Plain) (F : Facts) (S : Sets) where
   looks_held : (c : Option ℕ) (o : Operand) (s : ℕ) → looks_in P Q F S c o s ≡ true → held_in P Q F S c o s ≡ true
@@ -95,8 +90,10 @@ module _ (P Q : Plain) (F : Facts) (S : Sets) where
     body_included c b e =
         let h = then_some (labelled_with P Q F S c) (slice_get Q.methods c) b e in
         let y = mapped_some (λ xs. body_with c h.0 (label_sts 0 xs)) h.0.body b h.2 in
+        let B : ClosedBody =
+        record { plain = P; placed = Q; facts = F; sets = S; closed = closed; are_facts = facts; kinded = kinded; number = c; method = h.0; stands = h.1 } in
         subst (λ z. IsIncluded (watched P Q F S) (MadeAs P Q F S) (family P Q F S) z) y.2 (record {
-          code = included_code P Q F S closed facts kinded c h.0 h.1 y.0 y.1;
+          code = included_code B y.0 y.1;
           rest = map_plain default_of (types_of h.0.locals) default_no_object;
           ends = optional_default h.0.result;
         })

@@ -26,7 +26,7 @@ use Rattle.flow_rules.specs.Ordered.{put_in, by_place, once_after, each, when}
 use Rattle.flow_rules.specs.Numbered.{same_column, columns_of, field_columns, method_columns, mark, array_mark, form_columns}
 use Rattle.flow_rules.specs.Facts.{ClassFacts, class_seen, class_facts, is_holder, IsFactsOf}
 use Rattle.java_core.specs.Untagged.{untag_class, untagged}
-use Rattle.flow_rules.proofs.Listed.{more}
+use Rattle.flow_rules.proofs.Listed.{more, when_from, place_from}
 use Rattle.run_cover.proofs.Included.{get_map}
 
 -- one item for each
@@ -136,14 +136,6 @@ put_from at x (z ∷ zs) y c = go (nat_lt (at z) (at x)) (λ d. put_from at x zs
     go true r (suc k, lt, e) = swap (r (k, omega (arith, lt), e))
     go false r d = d
 
-pub place_from : {A : Type 0} (at : A → ℕ) (xs : List A) (y : A) → Contains (by_place at xs) y → Contains xs y
-place_from at [] y c = c
-place_from at (x ∷ xs) y c = go (put_from at x (by_place at xs) y c) (λ d. place_from at xs y d)
-  where
-    go : Contains (x ∷ by_place at xs) y → (Contains (by_place at xs) y → Contains xs y) → Contains (x ∷ xs) y
-    go (zero, lt, e) r = (0, omega arith, e)
-    go (suc k, lt, e) r = more y x xs (r (k, omega (arith, lt), e))
-
 pub once_from : {A K : Type 0} (eq : K → K → Bool) (key : A → K) (seen : List K) (xs : List A) (y : A) → Contains (once_after eq key seen xs) y → Contains xs y
 once_from eq key seen [] y c = c
 once_from eq key seen (x ∷ xs) y c = go (list_any (eq (key x)) seen) c (λ d. once_from eq key (insert_key eq seen (key x)) xs y d)
@@ -166,10 +158,6 @@ each_from f n (x ∷ xs) y c = ⊎_elim
 pub flat_from : {A B : Type 0} (f : A → List B) (xs : List A) (y : B) → Contains (flat_map f xs) y → (x : A) × Contains (f x) y
 flat_from f [] y c = absurd (omega (arith, c.1))
 flat_from f (x ∷ xs) y c = ⊎_elim (λ d. (x, d)) (λ d. flat_from f xs y d) (Contains-append_cases (f x) (flat_map f xs) y c)
-
-pub when_from : {A : Type 0} (b : Bool) (xs : List A) (y : A) → Contains (when b xs) y → (b ≡ true) × Contains xs y
-when_from true xs y c = (refl, c)
-when_from false xs y c = absurd (omega (arith, c.1))
 
 -- a column of a body stands only where the method has one
 mark_apart : (p : Place) (o : Option ObjectType) (y : Column) (m : ℕ) → Contains (mark p o) y → y.item ≡ column.Def m → ⊥

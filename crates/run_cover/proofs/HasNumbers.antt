@@ -128,7 +128,7 @@ module _ (P Q : Plain) where
       (when_has k.is_static _ p s (one p)))) (with_row p r h)))
 
   module _ (m : ℕ) (k : PlainMethod) (stands : slice_get Q.methods m ≡ Some k) (body : is_some k.body ≡ true) where
-    in_body : (p : PointAt) (r : ℕ) → row_number P Q p.row ≡ Some r → Contains (method_points P Q m k) p → (q : ℕ) × (point_number P Q p.item ≡ Some q)
+    pub in_body : (p : PointAt) (r : ℕ) → row_number P Q p.row ≡ Some r → Contains (method_points P Q m k) p → (q : ℕ) × (point_number P Q p.item ≡ Some q)
     in_body p r h c =
         let o : Outline = record { place = k.tag.place; points = method_points P Q m k } in
         let x : Point = record { item = p.item; row = r } in

@@ -33,7 +33,7 @@ get_within (x ∷ xs) ys (suc i) h = get_within xs ys i (omega (arith, h))
 lt_of : (a b : ℕ) → nat_lt a b ≡ true → a < b
 lt_of a b e = grind (arith, e)
 
-of_lt : (a b : ℕ) → a < b → nat_lt a b ≡ true
+pub of_lt : (a b : ℕ) → a < b → nat_lt a b ≡ true
 of_lt a b e = grind (arith, e)
 
 module _ (Q : Plain) (formed : IsFormed (untagged Q)) where

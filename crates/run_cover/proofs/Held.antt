@@ -16,7 +16,8 @@ use Rattle.java_meaning.specs.Values.{default_in, widened, convert, and_argument
 use Rattle.java_meaning.specs.Meaning.{on_test, with_cell, element_type, texts}
 use Rattle.run_cover.specs.Families.{Set, Sub, ArePlain}
 use Rattle.run_cover.specs.Watched.{IsOf, Of}
-use Rattle.run_cover.proofs.Lists.{set_stays, get_add}
+use Rattle.run_cover.proofs.Lists.{set_stays}
+use Rattle.java_meaning.proofs.Sound.{get_add}
 
 abbrev pub Stays : End → Type 0
 Stays Escaped = ⊥

@@ -12,7 +12,7 @@ use Rattle.java_core.specs.declared.TyBase.TheVariants.{Int, Boolean, Char, Str,
 use Rattle.java_core.specs.Trees.{Ex, Exs, no_ex, ex_then, create, create_array}
 use Rattle.java_core.specs.Programs.{Plain, PlainMethod}
 use Rattle.java_core.specs.Classes.{below, member_field, slot_of}
-use Rattle.java_core.specs.Types.{Static, a_value, null_value, no_value, or_nothing, Env, env_of, class_in, class_of, element_in, field_in, is_subtype, is_sub_base, static}
+use Rattle.java_core.specs.Types.{Static, a_value, null_value, no_value, or_nothing, class_in, class_of, element_in, field_in, is_subtype, is_sub_base, static}
 use Rattle.java_meaning.specs.Moment.{Kind, an_object, own_type, Spot, held, bound, self_of, result_of, set_static, kept, put_in, touched, tested, ran, Lang}
 use Rattle.java_meaning.specs.Languages.{slot_in}
 use Rattle.fact_model.specs.Items.{site_class}
@@ -22,9 +22,9 @@ use Rattle.fact_model.specs.declared.facts.Facts.{Facts}
 use Rattle.flow_rules.specs.declared.items.ObjectType.{ObjectType}
 use Rattle.flow_rules.specs.declared.items.Operand.{Operand}
 use Rattle.flow_rules.specs.declared.items.PointItem.TheVariants as point
-use Rattle.flow_rules.specs.Operands.{object_in, object_of, object_if, object_static, object_class, object_field, call_slot, operand_of, type_in}
+use Rattle.flow_rules.specs.Operands.{object_in, object_of, object_if, object_static, object_class, object_field, call_slot, type_in}
 use Rattle.flow_rules.specs.Types.{field_object}
-use Rattle.flow_rules.specs.Parts.{Part, a_load, an_element, a_creation, a_store, an_element_store, is_accessed, parts, parts_of}
+use Rattle.flow_rules.specs.Parts.{a_load, an_element, a_creation, a_store, an_element_store, is_accessed, parts, parts_of}
 use Rattle.flow_rules.specs.Lists.{point_at, site_in}
 use Rattle.flow_rules.specs.Facts.{numbers, IsFactsOf}
 use Rattle.run_cover.specs.Families.{Sub, Family, Gives, Reads, Writes, ReadsElement, WritesElement}
@@ -34,6 +34,7 @@ use Rattle.run_cover.proofs.SeenOperands.{at_seen, part_at}
 use Rattle.run_cover.proofs.Each.{here}
 use Rattle.run_cover.proofs.Flows.{when_object, value_sites, looks_in, field_sites, element_sites, is_at, IsUsed, HasTypes, used_at, creation_used, load_goes, element_goes, store_goes, element_store_goes}
 use Rattle.run_cover.proofs.Calls.{local_sites, result_sites}
+use Rattle.run_cover.proofs.Walked.{walked}
 
 pub passes_map : (X Y : ℕ → Bool) (z : Option ℕ) → ((s : ℕ) → X s ≡ true → Y s ≡ true) → passes X z ≡ true → passes Y z ≡ true
 passes_map X Y None f h = refl
@@ -103,202 +104,213 @@ module _ (P Q : Plain) (F : Facts) (S : Sets) where
     spot = λ p q. passes (typed_sites p) (site_in (numbers P Q) q);
   }
 
-  module _ (closed : (ps : List Fact) (f : Fact) → Inclusion F ps f → AllByRecursion (λ p. has S p ≡ true) ps → has S f ≡ true)
-      (facts : IsFactsOf P Q F) (kinded : IsKinded P Q F) (m : ℕ) (k : PlainMethod) (stands : slice_get Q.methods m ≡ Some k) where
-    abbrev g : Env
-    g = env_of m k
+-- a body of a program whose parts are kinded, with sets that the inclusions of the program's facts close
+pub record ClosedBody : Type 0 where
+  pub plain : Plain
+  pub placed : Plain
+  pub facts : Facts
+  pub sets : Sets
+  pub closed : (ps : List Fact) (f : Fact) → Inclusion facts ps f → AllByRecursion (λ p. has sets p ≡ true) ps → has sets f ≡ true
+  pub are_facts : IsFactsOf plain placed facts
+  pub kinded : IsKinded plain placed facts
+  pub number : ℕ
+  pub method : PlainMethod
+  pub stands : slice_get placed.methods number ≡ Some method
 
-    abbrev seen : Ex → Operand
-    seen e = operand_of P (type_in P m k) m k e
+-- the labelled operands of its forms, and the run that the sets watch
+pub record Watch : Type 1 where
+  pub at : Ex → Operand
+  pub lang : Lang
+  pub Made : Option ℕ → Kind → Type 0
+  pub sites : Spot → ℕ → Bool
+  pub spots : Family
 
-    abbrev at : Ex → Operand
-    at e = operand_at P Q m e
+abbrev pub watch : ClosedBody → Watch
+watch B = record {
+  at = operand_at B.plain B.placed B.number;
+  lang = watched B.plain B.placed B.facts B.sets;
+  Made = MadeAs B.plain B.placed B.facts B.sets;
+  sites = typed_sites B.plain B.placed B.facts B.sets;
+  spots = family B.plain B.placed B.facts B.sets;
+}
 
-    abbrev Stands : List Part → Type 0
-    Stands ps = (p : Part) → Contains ps p → Contains (parts_of P m k) p
+module _ (B : ClosedBody) where
+  open B use {plain as P, placed as Q, facts as F, sets as S, closed, are_facts as facts, kinded, number as m, method as k, stands}
+  open watch B use {at, lang as L, Made, sites, spots as V}
+  open walked P m k use {env as g, operand as seen, Stands}
 
-    pub plain_used : (o : Operand) → o.created ≡ None → IsUsed P Q F S o
-    plain_used o e = record { used = λ n s d f. absurd (let z = sym e ∙ d in cc) }
+  pub plain_used : (o : Operand) → o.created ≡ None → IsUsed P Q F S o
+  plain_used o e = record { used = λ n s d f. absurd (let z = sym e ∙ d in cc) }
 
-    plain_types : (o : Operand) → o.created ≡ None → HasTypes P Q F S o
-    unfolding HasTypes
-    plain_types o e n s d f = absurd (let z = sym e ∙ d in cc)
+  plain_types : (o : Operand) → o.created ≡ None → HasTypes P Q F S o
+  unfolding HasTypes
+  plain_types o e n s d f = absurd (let z = sym e ∙ d in cc)
 
-    pub made_at : (p : Place) (u : Bool) (e : Ex) → Contains (parts_of P m k) (a_creation p u (seen e)) → Contains (parts_of P m k) (a_creation p u (at e))
-    made_at p u e c = part_at P Q m k stands (λ o z. a_creation p u o) e e c
+  pub made_at : (p : Place) (u : Bool) (e : Ex) → Contains (parts_of P m k) (a_creation p u (seen e)) → Contains (parts_of P m k) (a_creation p u (at e))
+  made_at p u e c = part_at P Q m k stands (λ o z. a_creation p u o) e e c
 
-    pub creation : (p : Place) (u : Bool) (e : Ex) → Contains (parts_of P m k) (a_creation p u (at e)) → IsCreation P Q F u (at e)
-    unfolding IsKindedPart
-    creation p u e c = kinded.parts m k stands (a_creation p u (at e)) c
+  pub creation : (p : Place) (u : Bool) (e : Ex) → Contains (parts_of P m k) (a_creation p u (at e)) → IsCreation P Q F u (at e)
+  unfolding IsKindedPart
+  creation p u e c = kinded.parts m k stands (a_creation p u (at e)) c
 
-    -- what an expression gives has a type, and is a point where it is used
-    pub is_used : (e : Ex) → Stands (parts P (type_in P m k) m k true e) → IsUsed P Q F S (at e)
-    unfolding IsBase
-    is_used (create t n c es) st =
-        let w = made_at t.place true (create t n c es) (here _ _ st) in
-        let i = creation t.place true (create t n c es) w in
-        creation_used P Q F S closed facts m k stands t.place true (at (create t n c es)) w i (i.point refl)
-    is_used (create_array t n u e) st =
-        let w = made_at t.place true (create_array t n u e) (here _ _ st) in
-        let i = creation t.place true (create_array t n u e) w in
-        creation_used P Q F S closed facts m k stands t.place true (at (create_array t n u e)) w i (i.point refl)
-    is_used e st = plain_used (at e) (ap (λ z. z.created) (at_seen P Q m k stands e))
+  -- what an expression gives has a type, and is a point where it is used
+  pub is_used : (e : Ex) → Stands (parts P (type_in P m k) m k true e) → IsUsed P Q F S (at e)
+  unfolding IsBase
+  is_used (create t n c es) st =
+      let w = made_at t.place true (create t n c es) (here _ _ st) in
+      let i = creation t.place true (create t n c es) w in
+      creation_used P Q F S closed facts m k stands t.place true (at (create t n c es)) w i (i.point refl)
+  is_used (create_array t n u e) st =
+      let w = made_at t.place true (create_array t n u e) (here _ _ st) in
+      let i = creation t.place true (create_array t n u e) w in
+      creation_used P Q F S closed facts m k stands t.place true (at (create_array t n u e)) w i (i.point refl)
+  is_used e st = plain_used (at e) (ap (λ z. z.created) (at_seen P Q m k stands e))
 
-    pub base_used : (e : Ex) → Stands (parts P (type_in P m k) m k (is_accessed e) e) → IsBase P Q F (at e) → IsUsed P Q F S (at e)
-    base_used (create t n c es) st b =
-        let w = made_at t.place true (create t n c es) (here _ _ st) in
-        creation_used P Q F S closed facts m k stands t.place true (at (create t n c es)) w (creation t.place true (create t n c es) w) b
-    base_used (create_array t n u e) st b =
-        let w = made_at t.place false (create_array t n u e) (here _ _ st) in
-        creation_used P Q F S closed facts m k stands t.place false (at (create_array t n u e)) w (creation t.place false (create_array t n u e) w) b
-    base_used e st b = plain_used (at e) (ap (λ z. z.created) (at_seen P Q m k stands e))
+  pub base_used : (e : Ex) → Stands (parts P (type_in P m k) m k (is_accessed e) e) → IsBase P Q F (at e) → IsUsed P Q F S (at e)
+  base_used (create t n c es) st b =
+      let w = made_at t.place true (create t n c es) (here _ _ st) in
+      creation_used P Q F S closed facts m k stands t.place true (at (create t n c es)) w (creation t.place true (create t n c es) w) b
+  base_used (create_array t n u e) st b =
+      let w = made_at t.place false (create_array t n u e) (here _ _ st) in
+      creation_used P Q F S closed facts m k stands t.place false (at (create_array t n u e)) w (creation t.place false (create_array t n u e) w) b
+  base_used e st b = plain_used (at e) (ap (λ z. z.created) (at_seen P Q m k stands e))
 
-    pub has_types : (u : Bool) (e : Ex) → Stands (parts P (type_in P m k) m k u e) → HasTypes P Q F S (at e)
-    unfolding HasTypes
-    has_types u (create t n c es) st = λ i s d f. let w = made_at t.place u (create t n c es) (here _ _ st) in
-        (site_type F s, (creation t.place u (create t n c es) w).typed i s d f)
-    has_types u (create_array t n v e) st = λ i s d f. let w = made_at t.place u (create_array t n v e) (here _ _ st) in
-        (site_type F s, (creation t.place u (create_array t n v e) w).typed i s d f)
-    has_types u e st = plain_types (at e) (ap (λ z. z.created) (at_seen P Q m k stands e))
+  pub has_types : (u : Bool) (e : Ex) → Stands (parts P (type_in P m k) m k u e) → HasTypes P Q F S (at e)
+  unfolding HasTypes
+  has_types u (create t n c es) st = λ i s d f. let w = made_at t.place u (create t n c es) (here _ _ st) in
+      (site_type F s, (creation t.place u (create t n c es) w).typed i s d f)
+  has_types u (create_array t n v e) st = λ i s d f. let w = made_at t.place u (create_array t n v e) (here _ _ st) in
+      (site_type F s, (creation t.place u (create_array t n v e) w).typed i s d f)
+  has_types u e st = plain_types (at e) (ap (λ z. z.created) (at_seen P Q m k stands e))
 
-    -- an expression's static type, as one of a row
-    pub field_seen : (e : Ex) (x : List ℕ) → object_field P (type_in P m k e) x ≡ field_in P (static P g e) x
-    unfolding type_in field_in
-    field_seen e x = ap (λ z. option_and_then (λ c. member_field P c x) z) (class_object (static P g e))
+  -- an expression's static type, as one of a row
+  pub field_seen : (e : Ex) (x : List ℕ) → object_field P (type_in P m k e) x ≡ field_in P (static P g e) x
+  unfolding type_in field_in
+  field_seen e x = ap (λ z. option_and_then (λ c. member_field P c x) z) (class_object (static P g e))
 
-    pub slot_seen : (e : Ex) (x : List ℕ) → call_slot P (type_in P m k e) x ≡ slot_in P g e x
-    unfolding type_in
-    slot_seen e x = ap (λ z. option_and_then (λ c. slot_of P c x) z) (class_object (static P g e))
+  pub slot_seen : (e : Ex) (x : List ℕ) → call_slot P (type_in P m k e) x ≡ slot_in P g e x
+  unfolding type_in
+  slot_seen e x = ap (λ z. option_and_then (λ c. slot_of P c x) z) (class_object (static P g e))
 
-    abbrev V : Family
-    V = family
+  pub gives : (d : Ex) (X : ℕ → Bool) → ((s : ℕ) → X s ≡ true → (looks_in P Q F S (at d).created (at d) s ≡ true)
+      × (value_sites P Q F S (at d) s ≡ true)) → Gives L Made V g d (λ q. passes X (site_in (numbers P Q) q))
+  gives d X f = record {
+    looks = sub_sites P Q X (sites (held m d)) (λ s h. (f s h).0);
+    holds = sub_sites P Q X (value_sites P Q F S (at d)) (λ s h. (f s h).1);
+  }
 
-    abbrev L : Lang
-    L = watched P Q F S
+  -- a base that is used is in its point
+  pub base_at : (e : Ex) (z : Option ℕ) → IsUsed P Q F S (at e) → passes (value_sites P Q F S (at e)) z ≡ true → passes (point_sites P Q F S (at e)) z ≡ true
+  base_at e z u h = passes_map (value_sites P Q F S (at e)) (point_sites P Q F S (at e)) z
+      (λ s v. let a = (used_at P Q F S (at e) s u v).1 in is_at P Q F S (point_at (numbers P Q) (at e)) a.number s a.there a.holds) h
 
-    pub gives : (d : Ex) (X : ℕ → Bool) → ((s : ℕ) → X s ≡ true → (looks_in P Q F S (at d).created (at d) s ≡ true)
-        × (value_sites P Q F S (at d) s ≡ true)) → Gives L MadeAs V g d (λ q. passes X (site_in (numbers P Q) q))
-    gives d X f = record {
-      looks = sub_sites P Q X (typed_sites (held m d)) (λ s h. (f s h).0);
-      holds = sub_sites P Q X (value_sites P Q F S (at d))
-          (λ s h. (f s h).1);
-    }
+  load_kind : (p : Place) (b o : Operand) (f : ℕ) → Contains (parts_of P m k) (a_load p b (Some f) o) → IsKindedLoad P Q F b f o
+  unfolding IsKindedPart
+  load_kind p b o f c = kinded.parts m k stands (a_load p b (Some f) o) c
 
-    -- a base that is used is in its point
-    pub base_at : (e : Ex) (z : Option ℕ) → IsUsed P Q F S (at e) → passes (value_sites P Q F S (at e)) z ≡ true → passes (point_sites P Q F S (at e)) z ≡ true
-    base_at e z u h = passes_map (value_sites P Q F S (at e)) (point_sites P Q F S (at e)) z
-        (λ s v. let a = (used_at P Q F S (at e) s u v).1 in is_at P Q F S (point_at (numbers P Q) (at e)) a.number s a.there a.holds) h
+  store_kind : (p : Place) (b o : Operand) (f : ℕ) → Contains (parts_of P m k) (a_store p b (Some f) o) → IsKindedStore P Q F b f o
+  unfolding IsKindedPart
+  store_kind p b o f c = kinded.parts m k stands (a_store p b (Some f) o) c
 
-    load_kind : (p : Place) (b o : Operand) (f : ℕ) → Contains (parts_of P m k) (a_load p b (Some f) o) → IsKindedLoad P Q F b f o
-    unfolding IsKindedPart
-    load_kind p b o f c = kinded.parts m k stands (a_load p b (Some f) o) c
+  pub reads : (p : Place) (e d : Ex) (x : Option ℕ) → (at d).created ≡ None
+      → ((j : ℕ) → x ≡ Some j → Contains (parts_of P m k) (a_load p (at e) (Some j) (at d)) × (IsBase P Q F (at e) → IsUsed P Q F S (at e)))
+      → Reads L Made V g e d x
+  unfolding Reads
+  reads p e d x pl h = λ j ej o c i made ix v.
+      let w = h j ej in
+      let kind = load_kind p (at e) (at d) j w.0 in
+      let u = w.1 kind.base in
+      record {
+        base = base_at e (site_in (numbers P Q) o) u v;
+        gives = gives d (field_sites P Q F S j (site_in (numbers P Q) o)) (λ s r. load_goes P Q F S closed facts m k stands p (at e) j
+            (at d) w.0 kind.gives u pl (site_in (numbers P Q) o) v s r);
+      }
 
-    store_kind : (p : Place) (b o : Operand) (f : ℕ) → Contains (parts_of P m k) (a_store p b (Some f) o) → IsKindedStore P Q F b f o
-    unfolding IsKindedPart
-    store_kind p b o f c = kinded.parts m k stands (a_store p b (Some f) o) c
+  site_some : (o : Option ℕ) (s : ℕ) → site_in (numbers P Q) o ≡ Some s → (n : ℕ) × ((numbers P Q).site n ≡ Some s)
+  site_some None s e = absurd (cc)
+  site_some (Some n) s e = (n, e)
 
-    pub reads : (p : Place) (e d : Ex) (x : Option ℕ) → (at d).created ≡ None
-        → ((j : ℕ) → x ≡ Some j → Contains (parts_of P m k) (a_load p (at e) (Some j) (at d)) × (IsBase P Q F (at e) → IsUsed P Q F S (at e)))
-        → Reads L MadeAs V g e d x
-    unfolding Reads
-    reads p e d x pl h = λ j ej o c i made ix v.
-        let w = h j ej in
-        let kind = load_kind p (at e) (at d) j w.0 in
-        let u = w.1 kind.base in
-        record {
-          base = base_at e (site_in (numbers P Q) o) u v;
-          gives = gives d (field_sites P Q F S j (site_in (numbers P Q) o)) (λ s r. load_goes P Q F S closed facts m k stands p (at e) j
-              (at d) w.0 kind.gives u pl (site_in (numbers P Q) o) v s r);
-        }
+  -- the site of an object, with its class
+  pub object_site : (o : Option ℕ) (c : ℕ) → Made o (an_object c) → (s : ℕ) × (site_in (numbers P Q) o ≡ Some s)
+      × (site_type F s ≡ record { class = record { 0 = c }; dim = 0 })
+  object_site o c made = let s = made.sited (record { class = record { 0 = c }; dim = 0 }) refl in (s.0, s.1, sym (same_Some _ _ (made.typed s.0 s.1)))
 
-    site_some : (o : Option ℕ) (s : ℕ) → site_in (numbers P Q) o ≡ Some s → (n : ℕ) × ((numbers P Q).site n ≡ Some s)
-    site_some None s e = absurd (cc)
-    site_some (Some n) s e = (n, e)
+  pub writes : (p : Place) (e d : Ex) (x : Option ℕ) → ((j : ℕ) → x ≡ Some j → Contains (parts_of P m k) (a_store p (at e) (Some j) (at d))
+      × (IsBase P Q F (at e) → IsUsed P Q F S (at e))) → IsUsed P Q F S (at d) → Writes L Made V g e d x
+  unfolding Writes
+  writes p e d x h ud = λ j ej o c i made ix v.
+      let w = h j ej in
+      let kind = store_kind p (at e) (at d) j w.0 in
+      let u = w.1 kind.base in
+      let site = object_site o c made in
+      let base : value_sites P Q F S (at e) site.0 ≡ true = subst (λ z. passes (value_sites P Q F S (at e)) z ≡ true) site.1 v in
+      record {
+        base = base_at e (site_in (numbers P Q) o) u v;
+        gives = sub_sites P Q (value_sites P Q F S (at d)) (field_sites P Q F S j (site_in (numbers P Q) o))
+            (λ s r. subst (λ z. field_sites P Q F S j z s ≡ true) (sym site.1)
+            (store_goes P Q F S closed facts m k stands p (at e) j (at d) w.0 kind.takes u ud site.0 base
+            (λ t et. kinded.fields j (site_some o site.0 site.1).0 site.0 c i t (site_some o site.0 site.1).1 site.2 ix et) s r));
+      }
 
-    -- the site of an object, with its class
-    pub object_site : (o : Option ℕ) (c : ℕ) → MadeAs o (an_object c) → (s : ℕ) × (site_in (numbers P Q) o ≡ Some s)
-        × (site_type F s ≡ record { class = record { 0 = c }; dim = 0 })
-    object_site o c made = let s = made.sited (record { class = record { 0 = c }; dim = 0 }) refl in (s.0, s.1, sym (same_Some _ _ (made.typed s.0 s.1)))
+  element_kind : (p : Place) (b o : Operand) → Contains (parts_of P m k) (an_element p b o) → (t : ObjectType) → b.ty ≡ Some t → IsPoint P Q F o
+  unfolding IsKindedPart
+  element_kind p b o c = kinded.parts m k stands (an_element p b o) c
 
-    pub writes : (p : Place) (e d : Ex) (x : Option ℕ) → ((j : ℕ) → x ≡ Some j → Contains (parts_of P m k) (a_store p (at e) (Some j) (at d))
-        × (IsBase P Q F (at e) → IsUsed P Q F S (at e))) → IsUsed P Q F S (at d) → Writes L MadeAs V g e d x
-    unfolding Writes
-    writes p e d x h ud = λ j ej o c i made ix v.
-        let w = h j ej in
-        let kind = store_kind p (at e) (at d) j w.0 in
-        let u = w.1 kind.base in
-        let site = object_site o c made in
-        let base : value_sites P Q F S (at e) site.0 ≡ true = subst (λ z. passes (value_sites P Q F S (at e)) z ≡ true) site.1 v in
-        record {
-          base = base_at e (site_in (numbers P Q) o) u v;
-          gives = sub_sites P Q (value_sites P Q F S (at d)) (field_sites P Q F S j (site_in (numbers P Q) o))
-              (λ s r. subst (λ z. field_sites P Q F S j z s ≡ true) (sym site.1)
-              (store_goes P Q F S closed facts m k stands p (at e) j (at d) w.0 kind.takes u ud site.0 base
-              (λ t et. kinded.fields j (site_some o site.0 site.1).0 site.0 c i t (site_some o site.0 site.1).1 site.2 ix et) s r));
-        }
+  pub reads_element : (p : Place) (e d : Ex) → (at d).created ≡ None → Contains (parts_of P m k) (an_element p (at e) (at d)) → IsUsed P Q F S (at e)
+      → ReadsElement L Made V g e d
+  unfolding ReadsElement
+  reads_element p e d pl c u = λ o t w made et v.
+      gives d (element_sites P Q F S (site_in (numbers P Q) o)) (λ s r. element_goes P Q F S closed facts m k stands p (at e) (at d) c
+      (element_kind p (at e) (at d) c) u pl (site_in (numbers P Q) o) v s r)
 
-    element_kind : (p : Place) (b o : Operand) → Contains (parts_of P m k) (an_element p b o) → (t : ObjectType) → b.ty ≡ Some t → IsPoint P Q F o
-    unfolding IsKindedPart
-    element_kind p b o c = kinded.parts m k stands (an_element p b o) c
+  -- a subtype of an object's type is one of its class
+  sub_object : (b c : TyBase) (d n : ℕ) (t : ObjectType) → d ≡ n → is_sub_base P b c ≡ true → object_in b d ≡ Some t → (u : ObjectType)
+      × (object_in c n ≡ Some u) × (below P t.class.0 u.class.0 ≡ true)
+  sub_object (Class b) (Class c) d n t e s o = (
+    record { class = c; dim = n },
+    refl,
+    subst (λ z. below P z c.0 ≡ true) (ap (λ z. z.class.0) (same_Some (record { class = b; dim = d }) t o)) s,
+  )
+  sub_object (Class b) Int d n t e s o = absurd (false≢true s)
+  sub_object (Class b) Boolean d n t e s o = absurd (false≢true s)
+  sub_object (Class b) Char d n t e s o = absurd (false≢true s)
+  sub_object (Class b) Str d n t e s o = absurd (false≢true s)
+  sub_object Int c d n t e s o = absurd (cc)
+  sub_object Boolean c d n t e s o = absurd (cc)
+  sub_object Char c d n t e s o = absurd (cc)
+  sub_object Str c d n t e s o = absurd (cc)
 
-    pub reads_element : (p : Place) (e d : Ex) → (at d).created ≡ None → Contains (parts_of P m k) (an_element p (at e) (at d)) → IsUsed P Q F S (at e)
-        → ReadsElement L MadeAs V g e d
-    unfolding ReadsElement
-    reads_element p e d pl c u = λ o t w made et v.
-        gives d (element_sites P Q F S (site_in (numbers P Q) o)) (λ s r. element_goes P Q F S closed facts m k stands p (at e) (at d) c
-        (element_kind p (at e) (at d) c) u pl (site_in (numbers P Q) o) v s r)
+  pub subtype_object : (a b : Ty) (t : ObjectType) → is_subtype P a b ≡ true → object_of a ≡ Some t → (u : ObjectType) × (object_of b ≡ Some u)
+      × (below P t.class.0 u.class.0 ≡ true)
+  subtype_object a b t s o = let p = and_parts (a.dim == b.dim) (is_sub_base P a.base b.base) s in sub_object a.base b.base a.dim b.dim t
+      (eqb-true a.dim b.dim p.0) p.1 o
 
-    -- a subtype of an object's type is one of its class
-    sub_object : (b c : TyBase) (d n : ℕ) (t : ObjectType) → d ≡ n → is_sub_base P b c ≡ true → object_in b d ≡ Some t → (u : ObjectType)
-        × (object_in c n ≡ Some u) × (below P t.class.0 u.class.0 ≡ true)
-    sub_object (Class b) (Class c) d n t e s o = (
-      record { class = c; dim = n },
-      refl,
-      subst (λ z. below P z c.0 ≡ true) (ap (λ z. z.class.0) (same_Some (record { class = b; dim = d }) t o))
-          s,
-    )
-    sub_object (Class b) Int d n t e s o = absurd (false≢true s)
-    sub_object (Class b) Boolean d n t e s o = absurd (false≢true s)
-    sub_object (Class b) Char d n t e s o = absurd (false≢true s)
-    sub_object (Class b) Str d n t e s o = absurd (false≢true s)
-    sub_object Int c d n t e s o = absurd (cc)
-    sub_object Boolean c d n t e s o = absurd (cc)
-    sub_object Char c d n t e s o = absurd (cc)
-    sub_object Str c d n t e s o = absurd (cc)
+  -- the array type over the type of its elements
+  array_object : (b : TyBase) (d : ℕ) (u : Ty) (t : ObjectType) → element_in b d ≡ Some u → object_of u ≡ Some t
+      → (object_in b d ≡ Some (record { class = t.class; dim = d })) × (d ≡ 0 → ⊥)
+  array_object b zero u t e o = absurd (cc)
+  array_object (Class c) (suc d) u t e o = (
+    ap (λ z. Some (record { class = z; dim = suc d }))
+        (ap (λ z. z.class) (same_Some (record { class = c; dim = d }) t (ap (λ z. object_of z) (same_Some (record { base = Class c; dim = d }) u e) ∙ o))),
+    (λ z. absurd (omega (arith, z))),
+  )
+  array_object Int (suc d) u t e o = absurd (let z = ap (λ z. object_of z) (same_Some (record { base = Int; dim = d }) u e) ∙ o in cc)
+  array_object Boolean (suc d) u t e o = absurd (let z = ap (λ z. object_of z) (same_Some (record { base = Boolean; dim = d }) u e) ∙ o in cc)
+  array_object Char (suc d) u t e o = absurd (let z = ap (λ z. object_of z) (same_Some (record { base = Char; dim = d }) u e) ∙ o in cc)
+  array_object Str (suc d) u t e o = absurd (let z = ap (λ z. object_of z) (same_Some (record { base = Str; dim = d }) u e) ∙ o in cc)
 
-    pub subtype_object : (a b : Ty) (t : ObjectType) → is_subtype P a b ≡ true → object_of a ≡ Some t → (u : ObjectType) × (object_of b ≡ Some u)
-        × (below P t.class.0 u.class.0 ≡ true)
-    subtype_object a b t s o = let p = and_parts (a.dim == b.dim) (is_sub_base P a.base b.base) s in sub_object a.base b.base a.dim b.dim t
-        (eqb-true a.dim b.dim p.0) p.1 o
-
-    -- the array type over the type of its elements
-    array_object : (b : TyBase) (d : ℕ) (u : Ty) (t : ObjectType) → element_in b d ≡ Some u → object_of u ≡ Some t
-        → (object_in b d ≡ Some (record { class = t.class; dim = d })) × (d ≡ 0 → ⊥)
-    array_object b zero u t e o = absurd (cc)
-    array_object (Class c) (suc d) u t e o = (
-      ap (λ z. Some (record { class = z; dim = suc d }))
-          (ap (λ z. z.class) (same_Some (record { class = c; dim = d }) t (ap (λ z. object_of z) (same_Some (record { base = Class c; dim = d }) u e)
-          ∙ o))),
-      (λ z. absurd (omega (arith, z))),
-    )
-    array_object Int (suc d) u t e o = absurd (let z = ap (λ z. object_of z) (same_Some (record { base = Int; dim = d }) u e) ∙ o in cc)
-    array_object Boolean (suc d) u t e o = absurd (let z = ap (λ z. object_of z) (same_Some (record { base = Boolean; dim = d }) u e) ∙ o in cc)
-    array_object Char (suc d) u t e o = absurd (let z = ap (λ z. object_of z) (same_Some (record { base = Char; dim = d }) u e) ∙ o in cc)
-    array_object Str (suc d) u t e o = absurd (let z = ap (λ z. object_of z) (same_Some (record { base = Str; dim = d }) u e) ∙ o in cc)
-
-    pub writes_element : (p : Place) (e d : Ex) → Contains (parts_of P m k) (an_element_store p (at e) (at d)) → IsUsed P Q F S (at e)
-        → IsUsed P Q F S (at d) → WritesElement L MadeAs V g e d
-    unfolding WritesElement
-    writes_element p e d c ue ud = λ o q t u h made et mq sub v w.
-        passes_all (element_sites P Q F S (site_in (numbers P Q) o)) (site_in (numbers P Q) q) (λ i ei.
-        let own = mq.typed i ei in
-        let up = subtype_object (own_type h) u (site_type F i) sub own in
-        let array = array_object t.base t.dim u up.0 et up.1 in
-        let site = made.sited (record { class = up.0.class; dim = t.dim }) array.0 in
-        let type : site_type F site.0 ≡ record { class = up.0.class; dim = t.dim } = sym (same_Some _ _ (sym array.0 ∙ made.typed site.0 site.1)) in
-        let cell = kinded.elements (site_some o site.0 site.1).0 site.0 up.0.class.0 t.dim (site_some o site.0 site.1).1 type array.1 in
-        let less : IsBelow F (site_class F i) (site_class F site.0) = kinded.below (site_class F i) (site_class F site.0)
-        (subst (λ z. below P (site_class F i) z ≡ true) (sym (ap (λ z. z.class.0) type)) up.2) in
-        subst (λ z. element_sites P Q F S z i ≡ true) (sym site.1) (element_store_goes P Q F S closed facts m k stands p (at e) (at d) c ue ud site.0
-        (subst (λ z. passes (value_sites P Q F S (at e)) z ≡ true) site.1 v) cell.0 cell.1 i less
-        (subst (λ z. passes (value_sites P Q F S (at d)) z ≡ true) ei w)))
+  pub writes_element : (p : Place) (e d : Ex) → Contains (parts_of P m k) (an_element_store p (at e) (at d)) → IsUsed P Q F S (at e)
+      → IsUsed P Q F S (at d) → WritesElement L Made V g e d
+  unfolding WritesElement
+  writes_element p e d c ue ud = λ o q t u h made et mq sub v w. passes_all (element_sites P Q F S (site_in (numbers P Q) o)) (site_in (numbers P Q) q) (λ i ei.
+      let own = mq.typed i ei in
+      let up = subtype_object (own_type h) u (site_type F i) sub own in
+      let array = array_object t.base t.dim u up.0 et up.1 in
+      let site = made.sited (record { class = up.0.class; dim = t.dim }) array.0 in
+      let type : site_type F site.0 ≡ record { class = up.0.class; dim = t.dim } = sym (same_Some _ _ (sym array.0 ∙ made.typed site.0 site.1)) in
+      let cell = kinded.elements (site_some o site.0 site.1).0 site.0 up.0.class.0 t.dim (site_some o site.0 site.1).1 type array.1 in
+      let less : IsBelow F (site_class F i) (site_class F site.0) = kinded.below (site_class F i) (site_class F site.0)
+      (subst (λ z. below P (site_class F i) z ≡ true) (sym (ap (λ z. z.class.0) type)) up.2) in
+      subst (λ z. element_sites P Q F S z i ≡ true) (sym site.1) (element_store_goes P Q F S closed facts m k stands p (at e) (at d) c ue ud site.0
+      (subst (λ z. passes (value_sites P Q F S (at e)) z ≡ true) site.1 v) cell.0 cell.1 i less
+      (subst (λ z. passes (value_sites P Q F S (at d)) z ≡ true) ei w)))

@@ -1,213 +1,170 @@
 -- All that the bodies of a program do stays in the typed sets of a family that the inclusions of its facts close.
-use Rattle.std.proofs.Common.{◌≡◌, ℕ, List, [], ◌∷◌, ◌++◌, Option, Some, None, refl, sym, ap, ◌∙◌, subst}
-use Rattle.std.specs.Prelude.{Bool, true, false, slice_get, Contains}
-use Rattle.std.specs.List.{AllByRecursion}
+use Rattle.std.proofs.Common.{◌≡◌, ℕ, [], ◌∷◌, ◌++◌, Option, Some, None, refl, sym, ap, ◌∙◌, subst}
+use Rattle.std.specs.Prelude.{true, false, Contains}
 use Rattle.kaba_base.specs.declared.Place.{Place}
 use Rattle.java_core.specs.Trees.{Tag, Ex, this, local, static_field, Target, to_local, to_static, to_own, to_field, to_element, no_target, St, Sts, Arms, declare, block, assign, act, print, choose, loop, return, break, continue, no_st, st_then, no_other, otherwise, arm}
-use Rattle.java_core.specs.Programs.{Plain, PlainMethod}
-use Rattle.java_core.specs.Types.{Env, env_of}
-use Rattle.java_meaning.specs.Moment.{Kind, Spot, bound, result_of, set_static, Lang}
-use Rattle.fact_model.specs.Flowing.{Fact, Inclusion}
-use Rattle.fact_model.specs.declared.facts.Facts.{Facts}
+use Rattle.java_meaning.specs.Moment.{bound, result_of, set_static}
 use Rattle.flow_rules.specs.declared.items.ObjectType.{ObjectType}
 use Rattle.flow_rules.specs.declared.items.Operand.{Operand}
 use Rattle.flow_rules.specs.declared.items.PointItem.TheVariants as point
-use Rattle.flow_rules.specs.Operands.{operand_of, type_in}
+use Rattle.flow_rules.specs.Operands.{type_in}
 use Rattle.flow_rules.specs.Labels.{label_sts}
-use Rattle.flow_rules.specs.Parts.{Part, a_set, a_store, an_element_store, a_return, is_accessed, parts, parts_if, parts_set, parts_return, parts_assign, parts_st, parts_sts, parts_arms, parts_body, parts_of}
+use Rattle.flow_rules.specs.Parts.{a_set, a_store, an_element_store, a_return, is_accessed, parts_if, parts_set, parts_return, parts_assign, parts_st, parts_arms, parts_body, parts_of}
 use Rattle.flow_rules.specs.Lists.{point_at}
-use Rattle.flow_rules.specs.Facts.{numbers, IsFactsOf}
-use Rattle.run_cover.specs.Families.{Sub, Family, Included, IncludedIf, Sets as SetsTo, Assigns, IncludedSt, IncludedSts, IncludedArms}
-use Rattle.run_cover.specs.Covers.{Sets, has, operand_at, at_point, watched}
-use Rattle.run_cover.proofs.Kinded.{IsPoint, IsKindedReturn, IsKindedPart, IsKinded}
+use Rattle.flow_rules.specs.Facts.{numbers}
+use Rattle.run_cover.specs.Families.{Sub, Included, IncludedIf, Sets as SetsTo, Assigns, IncludedSt, IncludedSts, IncludedArms}
+use Rattle.run_cover.specs.Covers.{at_point}
+use Rattle.run_cover.proofs.Kinded.{IsPoint, IsKindedReturn, IsKindedPart}
 use Rattle.run_cover.proofs.SeenOperands.{at_seen, part_at, plain}
 use Rattle.run_cover.proofs.Each.{left, right, here}
 use Rattle.run_cover.proofs.Flows.{when_object, when_is, value_sites, is_at, HasTypes, value_typed, operand_goes}
 use Rattle.run_cover.proofs.Calls.{result_is, result_object}
-use Rattle.run_cover.proofs.Included.{sub_sites}
+use Rattle.run_cover.proofs.Included.{ClosedBody, watch, sub_sites}
 use Rattle.run_cover.proofs.Included as sets
 use Rattle.run_cover.proofs.IncludedExpressions as expressions
+use Rattle.run_cover.proofs.Walked.{walked}
 
-module _ (P Q : Plain) (F : Facts) (S : Sets) where
-  module _ (closed : (ps : List Fact) (f : Fact) → Inclusion F ps f → AllByRecursion (λ p. has S p ≡ true) ps → has S f ≡ true)
-      (facts : IsFactsOf P Q F) (kinded : IsKinded P Q F) (m : ℕ) (k : PlainMethod) (stands : slice_get Q.methods m ≡ Some k) where
-    abbrev g : Env
-    g = env_of m k
+module _ (B : ClosedBody) where
+  open B use {plain as P, placed as Q, facts as F, sets as S, closed, are_facts as facts, kinded, number as m, method as k, stands}
+  open watch B use {at, lang as L, Made, sites, spots as V}
+  open walked P m k use {env as g, operand as seen, Stands, tree, tree_sts as sts, tree_if as if_there}
 
-    abbrev seen : Ex → Operand
-    seen e = operand_of P (type_in P m k) m k e
+  -- a value that is put in a local or a static field, and one that is given back
+  set_kind : (v o : Operand) → Contains (parts_of P m k) (a_set v o) → (t : ObjectType) → o.ty ≡ Some t → IsPoint P Q F v
+  unfolding IsKindedPart
+  set_kind v o c = kinded.parts m k stands (a_set v o) c
 
-    abbrev at : Ex → Operand
-    at e = operand_at P Q m e
+  return_kind : (o : Operand) → Contains (parts_of P m k) (a_return o) → (t : ObjectType) → o.ty ≡ Some t → IsKindedReturn P Q F m k
+  unfolding IsKindedPart
+  return_kind o c = kinded.parts m k stands (a_return o) c
 
-    abbrev V : Family
-    V = sets.family P Q F S
+  set_goes : (v e : Ex) → Contains (parts_of P m k) (a_set (at v) (at e)) → HasTypes P Q F S (at e) → (s : ℕ) → value_sites P Q F S (at e) s ≡ true
+      → when_object (type_in P m k v) (at_point P Q F S (point_at (numbers P Q) (seen v))) s ≡ true
+  set_goes v e c h s w =
+      let t = value_typed P Q F S (at e) s h w in
+      let q = set_kind (at v) (at e) c t.0 t.1 in
+      when_is (type_in P m k v) q.type (at_point P Q F S (point_at (numbers P Q) (seen v))) s (ap (λ z. z.ty) (sym (at_seen P Q m k stands v)) ∙ q.typed)
+      (is_at P Q F S (point_at (numbers P Q) (seen v)) q.number s (ap (λ z. point_at (numbers P Q) z) (sym (at_seen P Q m k stands v)) ∙ q.point)
+      (operand_goes P Q F S closed facts m k stands (a_set (at v) (at e)) c (at e) (point_at (numbers P Q) (at v)) q.number s (λ x d. d) (λ x d. d) q.point w))
 
-    abbrev L : Lang
-    L = watched P Q F S
+  set_part : (v e : Ex) → Contains (parts_of P m k) (a_set (seen v) (seen e)) → Contains (parts_of P m k) (a_set (at v) (at e))
+  set_part v e c = part_at P Q m k stands (λ o z. a_set o z) v e c
 
-    abbrev MadeAs : Option ℕ → Kind → Type 0
-    MadeAs = sets.MadeAs P Q F S
+  sets_local : (t : Tag) (i : ℕ) (e : Ex) → Stands (tree false e ++ a_set (seen (local t i)) (seen e) ∷ []) → Included L Made V g e
+      × Sub (V.value m e) (V.spot (bound m i))
+  sets_local t i e st = (
+    expressions.included B false e (left (tree false e) _ st),
+    sub_sites P Q (value_sites P Q F S (at e)) (sites (bound m i))
+        (λ s h. subst (λ z. when_object z (at_point P Q F S ((numbers P Q).point (point.Local m i))) s ≡ true) (expressions.local_seen B t i)
+        (set_goes (local t i) e (set_part (local t i) e (here _ [] (right (tree false e) _ st))) (sets.has_types B false e (left (tree false e) _ st)) s h)),
+  )
 
-    abbrev typed_sites : Spot → ℕ → Bool
-    typed_sites p = sets.typed_sites P Q F S p
+  sets_static : (t : Tag) (f : ℕ) (e : Ex) → Stands (tree false e ++ a_set (seen (static_field t f)) (seen e) ∷ []) → Included L Made V g e
+      × Sub (V.value m e) (V.spot (set_static f))
+  sets_static t f e st = (
+    expressions.included B false e (left (tree false e) _ st),
+    sub_sites P Q (value_sites P Q F S (at e)) (sites (set_static f))
+        (λ s h. subst (λ z. when_object z (at_point P Q F S ((numbers P Q).point (point.Static f))) s ≡ true) (expressions.static_seen B t f)
+        (set_goes (static_field t f) e (set_part (static_field t f) e (here _ [] (right (tree false e) _ st)))
+        (sets.has_types B false e (left (tree false e) _ st)) s h)),
+  )
 
-    abbrev Stands : List Part → Type 0
-    Stands ps = (p : Part) → Contains ps p → Contains (parts_of P m k) p
+  sets_initial : (t : Tag) (i : ℕ) (e : Option Ex) → Stands (parts_set P (type_in P m k) m k (local t i) e) → SetsTo L Made V g e (bound m i)
+  sets_initial t i None st = tt
+  sets_initial t i (Some e) st = sets_local t i e st
 
-    abbrev tree : Bool → Ex → List Part
-    tree u e = parts P (type_in P m k) m k u e
-
-    -- a value that is put in a local or a static field, and one that is given back
-    set_kind : (v o : Operand) → Contains (parts_of P m k) (a_set v o) → (t : ObjectType) → o.ty ≡ Some t → IsPoint P Q F v
-    unfolding IsKindedPart
-    set_kind v o c = kinded.parts m k stands (a_set v o) c
-
-    return_kind : (o : Operand) → Contains (parts_of P m k) (a_return o) → (t : ObjectType) → o.ty ≡ Some t → IsKindedReturn P Q F m k
-    unfolding IsKindedPart
-    return_kind o c = kinded.parts m k stands (a_return o) c
-
-    set_goes : (v e : Ex) → Contains (parts_of P m k) (a_set (at v) (at e)) → HasTypes P Q F S (at e) → (s : ℕ) → value_sites P Q F S (at e) s ≡ true
-        → when_object (type_in P m k v) (at_point P Q F S (point_at (numbers P Q) (seen v))) s ≡ true
-    set_goes v e c h s w =
-        let t = value_typed P Q F S (at e) s h w in
-        let q = set_kind (at v) (at e) c t.0 t.1 in
-        when_is (type_in P m k v) q.type (at_point P Q F S (point_at (numbers P Q) (seen v))) s
-        (ap (λ z. z.ty) (sym (at_seen P Q m k stands v)) ∙ q.typed)
-        (is_at P Q F S (point_at (numbers P Q) (seen v)) q.number s
-        (ap (λ z. point_at (numbers P Q) z) (sym (at_seen P Q m k stands v)) ∙ q.point)
-        (operand_goes P Q F S closed facts m k stands (a_set (at v) (at e)) c (at e) (point_at (numbers P Q) (at v)) q.number s (λ x d. d)
-        (λ x d. d) q.point w))
-
-    set_part : (v e : Ex) → Contains (parts_of P m k) (a_set (seen v) (seen e)) → Contains (parts_of P m k) (a_set (at v) (at e))
-    set_part v e c = part_at P Q m k stands (λ o z. a_set o z) v e c
-
-    sets_local : (t : Tag) (i : ℕ) (e : Ex) → Stands (tree false e ++ a_set (seen (local t i)) (seen e) ∷ []) → Included L MadeAs V g e
-        × Sub (V.value m e) (V.spot (bound m i))
-    sets_local t i e st = (
-      expressions.included P Q F S closed facts kinded m k stands false e (left (tree false e) _ st),
-      sub_sites P Q (value_sites P Q F S (at e)) (typed_sites (bound m i))
-          (λ s h. subst (λ z. when_object z (at_point P Q F S ((numbers P Q).point (point.Local m i))) s ≡ true)
-          (expressions.local_seen P Q F S closed facts kinded m k stands t i)
-          (set_goes (local t i) e (set_part (local t i) e (here _ [] (right (tree false e) _ st)))
-          (sets.has_types P Q F S closed facts kinded m k stands false e (left (tree false e) _ st)) s h)),
-    )
-
-    sets_static : (t : Tag) (f : ℕ) (e : Ex) → Stands (tree false e ++ a_set (seen (static_field t f)) (seen e) ∷ []) → Included L MadeAs V g e
-        × Sub (V.value m e) (V.spot (set_static f))
-    sets_static t f e st = (
-      expressions.included P Q F S closed facts kinded m k stands false e (left (tree false e) _ st),
-      sub_sites P Q (value_sites P Q F S (at e)) (typed_sites (set_static f))
-          (λ s h. subst (λ z. when_object z (at_point P Q F S ((numbers P Q).point (point.Static f))) s ≡ true)
-          (expressions.static_seen P Q F S closed facts kinded m k stands t f)
-          (set_goes (static_field t f) e (set_part (static_field t f) e (here _ [] (right (tree false e) _ st)))
-          (sets.has_types P Q F S closed facts kinded m k stands false e (left (tree false e) _ st)) s h)),
-    )
-
-    sets_initial : (t : Tag) (i : ℕ) (e : Option Ex) → Stands (parts_set P (type_in P m k) m k (local t i) e) → SetsTo L MadeAs V g e (bound m i)
-    sets_initial t i None st = tt
-    sets_initial t i (Some e) st = sets_local t i e st
-
-    sets_result : (e : Option Ex) → Stands (parts_return P (type_in P m k) m k e) → SetsTo L MadeAs V g e (result_of m)
-    sets_result None st = tt
-    sets_result (Some e) st =
-        let c = part_at P Q m k stands (λ o z. a_return o) e e (here _ [] (right (tree false e) _ st)) in (
-          expressions.included P Q F S closed facts kinded m k stands false e (left (tree false e) _ st),
-          sub_sites P Q (value_sites P Q F S (at e)) (typed_sites (result_of m)) (λ s w.
-              let t = value_typed P Q F S (at e) s (sets.has_types P Q F S closed facts kinded m k stands false e (left (tree false e) _ st)) w in
-              let q = return_kind (at e) c t.0 t.1 in
-              when_is (result_object P Q F S m) q.type (at_point P Q F S ((numbers P Q).point (point.Result m))) s (result_is P Q F S m k stands ∙ q.typed)
-              (is_at P Q F S ((numbers P Q).point (point.Result m)) q.number s q.point
-              (operand_goes P Q F S closed facts m k stands (a_return (at e)) c (at e) ((numbers P Q).point (point.Result m)) q.number s (λ x d. d)
-              (λ x d. d) q.point w))),
-        )
-
-    included_if : (e : Option Ex) → Stands (parts_if P (type_in P m k) m k e) → IncludedIf L MadeAs V g e
-    included_if None st = tt
-    included_if (Some e) st = expressions.included P Q F S closed facts kinded m k stands false e st
-
-    assigns : (p : Place) (b : Target) (d : Ex) → Stands (parts_assign P (type_in P m k) m k p b d) → Assigns L MadeAs V g b d
-    assigns p (to_local t i) d st = sets_local t i d st
-    assigns p (to_static t f) d st = sets_static t f d st
-    assigns p (to_own t f) d st = (
-      expressions.included P Q F S closed facts kinded m k stands true d (left (tree true d) _ st),
-      expressions.this_sub P Q F S closed facts kinded m k stands t,
-      sets.writes P Q F S closed facts kinded m k stands p (this t) d (Some f) (λ j e. (
-        expressions.one_some P Q F S closed facts kinded m k stands (λ j. Contains (parts_of P m k) (a_store p (at (this t)) (Some j) (at d))) f j e
-            (expressions.own_store P Q F S closed facts kinded m k stands t p f d (here _ [] (right (tree true d) _ st))),
-        (λ b. sets.plain_used P Q F S closed facts kinded m k stands (at (this t)) (plain P Q m k stands (this t) refl)),
-      )) (sets.is_used P Q F S closed facts kinded m k stands d (left (tree true d) _ st)),
-    )
-    assigns p (to_field t e x) d st =
-        let se = left (tree (is_accessed e) e) (tree true d) (left (tree (is_accessed e) e ++ tree true d) _ st) in
-        let sd = right (tree (is_accessed e) e) (tree true d) (left (tree (is_accessed e) e ++ tree true d) _ st) in (
-          expressions.included P Q F S closed facts kinded m k stands (is_accessed e) e se,
-          expressions.included P Q F S closed facts kinded m k stands true d sd,
-          sets.writes P Q F S closed facts kinded m k stands p e d (L.field g e x) (λ j ej. (
-            part_at P Q m k stands (λ o z. a_store p o (Some j) z) e d
-                (subst (λ z. Contains (parts_of P m k) (a_store p (seen e) z (seen d))) (sets.field_seen P Q F S closed facts kinded m k stands e x
-                ∙ ej) (here _ [] (right (tree (is_accessed e) e ++ tree true d) _ st))),
-            (λ b. sets.base_used P Q F S closed facts kinded m k stands e se b),
-          )) (sets.is_used P Q F S closed facts kinded m k stands d sd),
-        )
-    assigns p (to_element t e i) d st =
-        let first3 = left (tree true e ++ tree false i ++ tree true d) _ st in
-        let first2 = left (tree true e ++ tree false i) (tree true d) first3 in
-        let se = left (tree true e) (tree false i) first2 in
-        let sd = right (tree true e ++ tree false i) (tree true d) first3 in (
-          expressions.included P Q F S closed facts kinded m k stands true e se,
-          expressions.included P Q F S closed facts kinded m k stands false i (right (tree true e) (tree false i) first2),
-          expressions.included P Q F S closed facts kinded m k stands true d sd,
-          sets.writes_element P Q F S closed facts kinded m k stands p e d (part_at P Q m k stands (λ o z. an_element_store p o z) e d
-              (here _ [] (right (tree true e ++ tree false i ++ tree true d) _ st))) (sets.is_used P Q F S closed facts kinded m k stands e se)
-              (sets.is_used P Q F S closed facts kinded m k stands d sd),
-        )
-    assigns p no_target d st = tt
-
-    abbrev sts : Sts → List Part
-    sts xs = parts_sts P (type_in P m k) m k xs
-
-    abbrev if_there : Option Ex → List Part
-    if_there e = parts_if P (type_in P m k) m k e
-
-    mutual
-      included_st : (x : St) → Stands (parts_st P (type_in P m k) m k x) → IncludedSt L MadeAs V g x
-      included_st (declare t i e) st = sets_initial t i e st
-      included_st (block t xs) st = included_sts xs st
-      included_st (assign t b e) st = assigns t.place b e st
-      included_st (act t e) st = expressions.included P Q F S closed facts kinded m k stands false e st
-      included_st (print t n e) st = included_if e st
-      included_st (choose t xs) st = included_arms xs st
-      included_st (loop t is_while first test step body) st =
-          let first3 = left (sts first ++ if_there test ++ sts step) (sts body) st in
-          let first2 = left (sts first ++ if_there test) (sts step) first3 in (
-            included_sts first (left (sts first) (if_there test) first2),
-            included_if test (right (sts first) (if_there test) first2),
-            included_sts step (right (sts first ++ if_there test) (sts step) first3),
-            included_sts body (right (sts first ++ if_there test ++ sts step) (sts body) st),
-          )
-      included_st (return t e) st = sets_result e st
-      included_st (break t) st = tt
-      included_st (continue t) st = tt
-
-      included_sts : (xs : Sts) → Stands (sts xs) → IncludedSts L MadeAs V g xs
-      included_sts no_st st = tt
-      included_sts (st_then x xs) st = (
-        included_st x (left (parts_st P (type_in P m k) m k x) (sts xs) st),
-        included_sts xs
-            (right (parts_st P (type_in P m k) m k x) (sts xs) st),
+  sets_result : (e : Option Ex) → Stands (parts_return P (type_in P m k) m k e) → SetsTo L Made V g e (result_of m)
+  sets_result None st = tt
+  sets_result (Some e) st =
+      let c = part_at P Q m k stands (λ o z. a_return o) e e (here _ [] (right (tree false e) _ st)) in (
+        expressions.included B false e (left (tree false e) _ st),
+        sub_sites P Q (value_sites P Q F S (at e)) (sites (result_of m)) (λ s w.
+            let t = value_typed P Q F S (at e) s (sets.has_types B false e (left (tree false e) _ st)) w in
+            let q = return_kind (at e) c t.0 t.1 in
+            when_is (result_object P Q F S m) q.type (at_point P Q F S ((numbers P Q).point (point.Result m))) s (result_is P Q F S m k stands ∙ q.typed)
+            (is_at P Q F S ((numbers P Q).point (point.Result m)) q.number s q.point
+            (operand_goes P Q F S closed facts m k stands (a_return (at e)) c (at e) ((numbers P Q).point (point.Result m)) q.number s (λ x d. d)
+            (λ x d. d) q.point w))),
       )
 
-      included_arms : (xs : Arms) → Stands (parts_arms P (type_in P m k) m k xs) → IncludedArms L MadeAs V g xs
-      included_arms no_other st = tt
-      included_arms (otherwise xs) st = included_sts xs st
-      included_arms (arm e xs more) st =
-          let first2 = left (tree false e ++ sts xs) (parts_arms P (type_in P m k) m k more) st in (
-            expressions.included P Q F S closed facts kinded m k stands false e (left (tree false e) (sts xs) first2),
-            included_sts xs (right (tree false e) (sts xs) first2),
-            included_arms more (right (tree false e ++ sts xs) (parts_arms P (type_in P m k) m k more) st),
-          )
+  included_if : (e : Option Ex) → Stands (parts_if P (type_in P m k) m k e) → IncludedIf L Made V g e
+  included_if None st = tt
+  included_if (Some e) st = expressions.included B false e st
 
-    pub included_code : (xs : Sts) → k.body ≡ Some xs → IncludedSts L MadeAs V g (label_sts 0 xs)
-    unfolding parts_of
-    included_code xs e = included_sts (label_sts 0 xs) (λ p c. subst (λ z. Contains (parts_body P (type_in P m k) m k z) p) (sym e) c)
+  assigns : (p : Place) (b : Target) (d : Ex) → Stands (parts_assign P (type_in P m k) m k p b d) → Assigns L Made V g b d
+  assigns p (to_local t i) d st = sets_local t i d st
+  assigns p (to_static t f) d st = sets_static t f d st
+  assigns p (to_own t f) d st = (
+    expressions.included B true d (left (tree true d) _ st),
+    expressions.this_sub B t,
+    sets.writes B p (this t) d (Some f) (λ j e. (
+      expressions.one_some B (λ j. Contains (parts_of P m k) (a_store p (at (this t)) (Some j) (at d))) f j e
+          (expressions.own_store B t p f d (here _ [] (right (tree true d) _ st))),
+      (λ b. sets.plain_used B (at (this t)) (plain P Q m k stands (this t) refl)),
+    )) (sets.is_used B d (left (tree true d) _ st)),
+  )
+  assigns p (to_field t e x) d st =
+      let se = left (tree (is_accessed e) e) (tree true d) (left (tree (is_accessed e) e ++ tree true d) _ st) in
+      let sd = right (tree (is_accessed e) e) (tree true d) (left (tree (is_accessed e) e ++ tree true d) _ st) in (
+        expressions.included B (is_accessed e) e se,
+        expressions.included B true d sd,
+        sets.writes B p e d (L.field g e x) (λ j ej. (
+          part_at P Q m k stands (λ o z. a_store p o (Some j) z) e d
+              (subst (λ z. Contains (parts_of P m k) (a_store p (seen e) z (seen d))) (sets.field_seen B e x
+              ∙ ej) (here _ [] (right (tree (is_accessed e) e ++ tree true d) _ st))),
+          (λ b. sets.base_used B e se b),
+        )) (sets.is_used B d sd),
+      )
+  assigns p (to_element t e i) d st =
+      let first3 = left (tree true e ++ tree false i ++ tree true d) _ st in
+      let first2 = left (tree true e ++ tree false i) (tree true d) first3 in
+      let se = left (tree true e) (tree false i) first2 in
+      let sd = right (tree true e ++ tree false i) (tree true d) first3 in (
+        expressions.included B true e se,
+        expressions.included B false i (right (tree true e) (tree false i) first2),
+        expressions.included B true d sd,
+        sets.writes_element B p e d (part_at P Q m k stands (λ o z. an_element_store p o z) e d
+            (here _ [] (right (tree true e ++ tree false i ++ tree true d) _ st))) (sets.is_used B e se) (sets.is_used B d sd),
+      )
+  assigns p no_target d st = tt
+
+  mutual
+    included_st : (x : St) → Stands (parts_st P (type_in P m k) m k x) → IncludedSt L Made V g x
+    included_st (declare t i e) st = sets_initial t i e st
+    included_st (block t xs) st = included_sts xs st
+    included_st (assign t b e) st = assigns t.place b e st
+    included_st (act t e) st = expressions.included B false e st
+    included_st (print t n e) st = included_if e st
+    included_st (choose t xs) st = included_arms xs st
+    included_st (loop t is_while first test step body) st =
+        let first3 = left (sts first ++ if_there test ++ sts step) (sts body) st in
+        let first2 = left (sts first ++ if_there test) (sts step) first3 in (
+          included_sts first (left (sts first) (if_there test) first2),
+          included_if test (right (sts first) (if_there test) first2),
+          included_sts step (right (sts first ++ if_there test) (sts step) first3),
+          included_sts body (right (sts first ++ if_there test ++ sts step) (sts body) st),
+        )
+    included_st (return t e) st = sets_result e st
+    included_st (break t) st = tt
+    included_st (continue t) st = tt
+
+    included_sts : (xs : Sts) → Stands (sts xs) → IncludedSts L Made V g xs
+    included_sts no_st st = tt
+    included_sts (st_then x xs) st = (
+      included_st x (left (parts_st P (type_in P m k) m k x) (sts xs) st),
+      included_sts xs (right (parts_st P (type_in P m k) m k x) (sts xs) st),
+    )
+
+    included_arms : (xs : Arms) → Stands (parts_arms P (type_in P m k) m k xs) → IncludedArms L Made V g xs
+    included_arms no_other st = tt
+    included_arms (otherwise xs) st = included_sts xs st
+    included_arms (arm e xs more) st =
+        let first2 = left (tree false e ++ sts xs) (parts_arms P (type_in P m k) m k more) st in (
+          expressions.included B false e (left (tree false e) (sts xs) first2),
+          included_sts xs (right (tree false e) (sts xs) first2),
+          included_arms more (right (tree false e ++ sts xs) (parts_arms P (type_in P m k) m k more) st),
+        )
+
+  pub included_code : (xs : Sts) → k.body ≡ Some xs → IncludedSts L Made V g (label_sts 0 xs)
+  unfolding parts_of
+  included_code xs e = included_sts (label_sts 0 xs) (λ p c. subst (λ z. Contains (parts_body P (type_in P m k) m k z) p) (sym e) c)

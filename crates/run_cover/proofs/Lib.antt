@@ -7,6 +7,7 @@ pub mod Each
 pub mod Flows
 pub mod Calls
 pub mod SeenOperands
+pub mod Walked
 pub mod Included
 pub mod IncludedExpressions
 pub mod IncludedBodies

@@ -1,5 +1,5 @@
 -- Lists by place: what stands where after a change.
-use Rattle.std.proofs.Common.{◌≡◌, ℕ, zero, suc, List, [], ◌∷◌, ◌++◌, Some, length, refl, ap, ⊎_elim, inl, inr}
+use Rattle.std.proofs.Common.{◌≡◌, ℕ, zero, suc, List, [], ◌∷◌, Some, refl, ap, ⊎_elim, inl, inr}
 use Rattle.std.specs.Prelude.{◌⊎◌, slice_get, slice_set}
 use Rattle.std.proofs.lemmas.Option.{same_Some}
 
@@ -19,18 +19,3 @@ set_stays (x ∷ xs) zero zero u v e = inr (refl, refl)
 set_stays (x ∷ xs) zero (suc k) u v e = inl e
 set_stays (x ∷ xs) (suc i) zero u v e = inl e
 set_stays (x ∷ xs) (suc i) (suc k) u v e = ⊎_elim (λ p. inl p) (λ p. inr (ap suc p.0, p.1)) (set_stays xs i k u v e)
-
-pub get_add : {A : Type 0} (h : List A) (c d : A) (a : ℕ) → slice_get h a ≡ Some d → slice_get (h ++ c ∷ []) a ≡ Some d
-get_add [] c d a e = absurd (cc)
-get_add (x ∷ h) c d zero e = e
-get_add (x ∷ h) c d (suc a) e = get_add h c d a e
-
-pub get_last : {A : Type 0} (h : List A) (c : A) → slice_get (h ++ c ∷ []) (length h) ≡ Some c
-get_last [] c = refl
-get_last (x ∷ h) c = get_last h c
-
-pub get_added : {A : Type 0} (h : List A) (c d : A) (a : ℕ) → slice_get (h ++ c ∷ []) a ≡ Some d → (slice_get h a ≡ Some d) ⊎ (c ≡ d)
-get_added [] c d zero e = inr (same_Some _ _ e)
-get_added [] c d (suc a) e = absurd (cc)
-get_added (x ∷ h) c d zero e = inl e
-get_added (x ∷ h) c d (suc a) e = get_added h c d a e

@@ -8,75 +8,52 @@ use Rattle.java_core.specs.declared.Ty.{Ty}
 use Rattle.java_core.specs.Trees.{Tag, Ex, Exs, no_ex, ex_then, number, character, text, truth, null, this, local, static_field, own_field, field, index, call, static_call, super_call, create, create_array, cast, instance_of, unary, binary}
 use Rattle.java_core.specs.Programs.{Plain, PlainMethod}
 use Rattle.java_core.specs.Classes.{super_method, slot_of}
-use Rattle.java_core.specs.Types.{a_value, Env, env_of, types_of, class_of, element_of, Signature, signature_of_method, call_signature, super_signature, static}
-use Rattle.java_core.specs.Typing.{Typed, TypedArgs, t_field, t_index, t_call, t_static_call, t_super_call, t_create_array, t_cast, t_instance_of, t_unary, t_binary, t_ex_then}
-use Rattle.java_core.specs.Formed.{IsFormed, FormedEx, FormedExs, IsStaticMethod, f_field, f_index, f_call, f_static_call, f_super_call, f_create_array, f_cast, f_instance_of, f_unary, f_binary, f_ex_then}
-use Rattle.fact_model.specs.declared.facts.Facts.{Facts}
+use Rattle.java_core.specs.Types.{a_value, types_of, class_of, element_of, Signature, signature_of_method, call_signature, super_signature, static}
+use Rattle.java_core.specs.Typing.{TypedArgs, t_field, t_index, t_call, t_static_call, t_super_call, t_create_array, t_cast, t_instance_of, t_unary, t_binary, t_ex_then}
+use Rattle.java_core.specs.Formed.{IsFormed, FormedExs, IsStaticMethod, f_field, f_index, f_call, f_static_call, f_super_call, f_create_array, f_cast, f_instance_of, f_unary, f_binary, f_ex_then}
 use Rattle.flow_rules.specs.declared.items.ObjectType.{ObjectType}
 use Rattle.flow_rules.specs.declared.items.Operand.{Operand}
 use Rattle.flow_rules.specs.declared.items.RowItem.{RowItem}
 use Rattle.flow_rules.specs.declared.items.RowItem.TheVariants as row
 use Rattle.flow_rules.specs.declared.items.PointItem.TheVariants as point
-use Rattle.flow_rules.specs.Operands.{object_if, object_field, call_slot, call_declaration, operand_of, operands_of, type_in}
+use Rattle.flow_rules.specs.Operands.{object_if, object_field, call_slot, call_declaration, operands_of, type_in}
 use Rattle.flow_rules.specs.Types.{variable_object}
-use Rattle.flow_rules.specs.Parts.{Part, a_load, an_element, a_creation, a_call, a_static_call, a_super_call, a_test, a_pair, is_accessed, parts, parts_all, parts_of}
+use Rattle.flow_rules.specs.Parts.{Part, a_load, an_element, a_creation, a_call, a_static_call, a_super_call, a_test, a_pair, is_accessed, parts_all, parts_of}
 use Rattle.java_core.specs.declared.BinOp.{BinOp}
-use Rattle.flow_rules.specs.Numbered.{own_row, number_if, row_number, site_number}
+use Rattle.flow_rules.specs.Numbered.{own_row, number_if, row_number}
 use Rattle.flow_rules.specs.Facts.{numbers}
 use Rattle.java_core.specs.Untagged.{untag_method, untagged, bare, bare_all}
-use Rattle.run_cover.specs.Slotted.{HaveSlots}
 use Rattle.java_meaning.proofs.Moves.{then_some}
-use Rattle.run_cover.proofs.Kinded.{site_type, HasPoint, IsCreation, IsBase, IsKindedPart}
+use Rattle.run_cover.proofs.Kinded.{HasPoint, IsCreation, IsBase, IsKindedPart}
 use Rattle.run_cover.proofs.Untagging.{untyped_params}
 use Rattle.run_cover.proofs.HasRows.{field_row_of, in_slot, return_row, this_point_of}
 use Rattle.run_cover.proofs.Types.{element_typed, class_apart, class_dim, slot_called}
 use Rattle.run_cover.proofs.Each.{left, right, past, here, of_nil, of_cons, of_append}
 use Rattle.run_cover.proofs.TypedParts as typed_parts
+use Rattle.run_cover.proofs.TypedParts.{TypedBody}
+use Rattle.run_cover.proofs.Walked.{walked}
 
-module _ (Q : Plain) (F : Facts) (formed : IsFormed (untagged Q)) (slots : HaveSlots (untagged Q)) (m : ℕ) (k : PlainMethod)
-    (stands : slice_get Q.methods m ≡ Some k) (body : is_some k.body ≡ true)
-    (unique : (q : Place) (u : Bool) (o : Operand) (n s : ℕ) → Contains (parts_of (untagged Q) m k) (a_creation q u o) → o.created ≡ Some n
-    → site_number (untagged Q) Q n ≡ Some s → o.ty ≡ Some (site_type F s)) where
+module _ (B : TypedBody) where
+  open B use {program as Q, facts as F, formed, number as m, method as k}
+
   abbrev P : Plain
   P = untagged Q
 
-  abbrev g : Env
-  g = env_of m k
-
-  abbrev T : Ex → Option ObjectType
-  T e = type_in P m k e
-
-  abbrev O : Ex → Operand
-  O e = operand_of P (type_in P m k) m k e
-
-  abbrev Stands : List Part → Type 0
-  Stands ps = (p : Part) → Contains ps p → Contains (parts_of P m k) p
-
-  abbrev IsTyped : Ex → Type 0
-  IsTyped e = Typed P g (bare e)
-
-  abbrev IsFormedEx : List ℕ → Ex → Type 0
-  IsFormedEx scope e = FormedEx P (untag_method k) scope (bare e)
-
-  abbrev tree : Bool → Ex → List Part
-  tree u e = parts P (type_in P m k) m k u e
+  open walked P m k use {env as g, type as T, operand as O, Stands, IsTyped, IsFormed as IsFormedEx, tree}
 
   -- what holds of all parts of a list
   abbrev K : List Part → Type 0
   K ps = (p : Part) → Contains ps p → IsKindedPart P Q F m k p
 
   creation_there : (u : Bool) (t : Tag) (n c : ℕ) (es : Exs) → Stands (tree u (create t n c es)) → IsCreation P Q F u (O (create t n c es))
-  creation_there u t n c es st = typed_parts.is_creation Q F formed slots m k stands body unique t.place u (O (create t n c es)) n
-      (point.Expr m t.label) (here _ _ st) refl refl refl
+  creation_there u t n c es st = typed_parts.is_creation B t.place u (O (create t n c es)) n (point.Expr m t.label) (here _ _ st) refl refl refl
 
   array_there : (u : Bool) (t : Tag) (n : ℕ) (v : Ty) (e : Ex) → Stands (tree u (create_array t n v e)) → IsCreation P Q F u (O (create_array t n v e))
-  array_there u t n v e st = typed_parts.is_creation Q F formed slots m k stands body unique t.place u (O (create_array t n v e)) n
-      (point.Expr m t.label) (here _ _ st) refl refl refl
+  array_there u t n v e st = typed_parts.is_creation B t.place u (O (create_array t n v e)) n (point.Expr m t.label) (here _ _ st) refl refl refl
 
   array_field : (t : Tag) (n : ℕ) (v : Ty) (e : Ex) (x : List ℕ) (f : ℕ) → 0 < v.dim → object_field P (T (create_array t n v e)) x ≡ Some f → ⊥
   array_field t n v e x f d h =
-      let c = typed_parts.field_class Q F formed slots m k stands body unique (a_value v) x f
-      (sym (typed_parts.field_found Q F formed slots m k stands body unique (create_array t n v e) x) ∙ h) in class_dim v.base v.dim c.0 d c.1
+      let c = typed_parts.field_class B (a_value v) x f (sym (typed_parts.field_found B (create_array t n v e) x) ∙ h) in class_dim v.base v.dim c.0 d c.1
 
   pub base_point : (sc : List ℕ) (e : Ex) (x : List ℕ) (f : ℕ) → IsFormedEx sc e → Stands (tree (is_accessed e) e) → object_field P (T e) x ≡ Some f
       → IsBase P Q F (O e)
@@ -95,9 +72,9 @@ module _ (Q : Plain) (F : Facts) (formed : IsFormed (untagged Q)) (slots : HaveS
       go None h = tt
       go (Some f) h = record {
         base = base_point sc e x f fo st h;
-        gives = λ o ho. typed_parts.is_point Q F formed slots m k stands body unique (a_load t.place (O e) (object_field P (T e) x) (O (field t e x)))
+        gives = λ o ho. typed_parts.is_point B (a_load t.place (O e) (object_field P (T e) x) (O (field t e x)))
             t.place (O (field t e x)) (point.Expr m t.label) o
-            there (λ y d. d) refl (typed_parts.access_object Q F formed slots m k stands body unique t e x f h ∙ ho)
+            there (λ y d. d) refl (typed_parts.access_object B t e x f h ∙ ho)
             (let r = field_row_of Q formed f o ho in (r.0, ap (λ z. number_if (row_number P Q) (option_map row.Field z)) h ∙ r.1));
       }
 
@@ -106,9 +83,8 @@ module _ (Q : Plain) (F : Facts) (formed : IsFormed (untagged Q)) (slots : HaveS
   unfolding IsKindedPart IsBase
   own_load_kind t f b eb there = record {
     base = λ j s ej es. absurd (let z = sym eb ∙ ej in cc);
-    gives = λ o ho. typed_parts.is_point Q F formed slots m k stands body unique (a_load t.place b (Some f) (O (own_field t f))) t.place
-        (O (own_field t f)) (point.Expr m t.label) o there
-        (λ y d. d) refl (typed_parts.own_type Q F formed slots m k stands body unique t f ∙ ho) (field_row_of Q formed f o ho);
+    gives = λ o ho. typed_parts.is_point B (a_load t.place b (Some f) (O (own_field t f))) t.place (O (own_field t f)) (point.Expr m t.label) o there
+        (λ y d. d) refl (typed_parts.own_type B t f ∙ ho) (field_row_of Q formed f o ho);
   }
 
   element_kind : (sc : List ℕ) (t : Tag) (e i : Ex) → IsTyped e → IsFormedEx sc e → is_some (element_of (static P g (bare e))) ≡ true
@@ -116,18 +92,16 @@ module _ (Q : Plain) (F : Facts) (formed : IsFormed (untagged Q)) (slots : HaveS
       → IsKindedPart P Q F m k (an_element t.place (O e) (O (index t e i)))
   unfolding IsKindedPart
   element_kind sc t e i ty fo some st there = λ o ho.
-      let r = element_typed (static P g (bare e)) o (typed_parts.typed_of Q F formed slots m k stands body unique e o ho) some in
-      typed_parts.is_point Q F formed slots m k stands body unique (an_element t.place (O e) (O (index t e i))) t.place (O (index t e i))
-      (point.Expr m t.label) r.0 there (λ y d. d) refl
-      (typed_parts.index_type Q F formed slots m k stands body unique t e i ∙ r.1) (typed_parts.row_listed Q F formed slots m k stands body unique
-      true sc e ty fo st o ho)
+      let r = element_typed (static P g (bare e)) o (typed_parts.typed_of B e o ho) some in
+      typed_parts.is_point B (an_element t.place (O e) (O (index t e i))) t.place (O (index t e i)) (point.Expr m t.label) r.0 there (λ y d. d) refl
+      (typed_parts.index_type B t e i ∙ r.1) (typed_parts.row_listed B true sc e ty fo st o ho)
 
   -- arguments
   method_args : (es : Exs) (us : List Ty) (h : PlainMethod) → TypedArgs P g (bare_all es) us → us ≡ types_of h.params
       → (i : ℕ) (a : Operand) (t : ObjectType) → slice_get (operands_of P (type_in P m k) m k es) i ≡ Some a → a.ty ≡ Some t → (w : ObjectType)
       × (variable_object h i ≡ Some w) × (i < length h.params)
-  method_args es us h ty e i a t ea et = let u = typed_parts.args_typed Q F formed slots m k stands body unique es us ty i a t ea et in
-      typed_parts.param_typed Q F formed slots m k stands body unique h i u.0 u.2.0 (ap (λ z. slice_get z i) (sym e) ∙ u.1) u.2.1
+  method_args es us h ty e i a t ea et = let u = typed_parts.args_typed B es us ty i a t ea et in
+      typed_parts.param_typed B h i u.0 u.2.0 (ap (λ z. slice_get z i) (sym e) ∙ u.1) u.2.1
 
   call_kind : (t : Tag) (e : Ex) (x : List ℕ) (es : Exs) (sig : Signature) → call_signature P (static P g (bare e)) x ≡ Some sig
       → TypedArgs P g (bare_all es) sig.params
@@ -142,7 +116,7 @@ module _ (Q : Plain) (F : Facts) (formed : IsFormed (untagged Q)) (slots : HaveS
           → IsKindedPart P Q F m k (a_call t.place (O e) z (call_declaration P (T e) x) (operands_of P (type_in P m k) m k es) (O (call t e x es)))
       go None h = tt
       go (Some j) h = λ c f ef sf.
-          let w = sym (typed_parts.slot_found Q F formed slots m k stands body unique e x) ∙ h in
+          let w = sym (typed_parts.slot_found B e x) ∙ h in
           let cl = then_some (λ c. slot_of P c x) (class_of (static P g (bare e))) j w in
           let s = slot_called P (static P g (bare e)) x sig called (class_apart (static P g (bare e)) cl.0 cl.1).1 in
           let n : s.number ≡ j = same_Some s.number j (sym s.found ∙ w) in
@@ -150,10 +124,9 @@ module _ (Q : Plain) (F : Facts) (formed : IsFormed (untagged Q)) (slots : HaveS
           let same : s.slot ≡ i.slot = same_Some s.slot i.slot (sym s.stands ∙ ap (λ z. slice_get P.slots z) n ∙ i.stands) in
           record {
             args = method_args es sig.params f args (s.params ∙ ap (λ z. z.params) same ∙ sym i.params ∙ untyped_params f.params);
-            result = λ o ho. typed_parts.is_point Q F formed slots m k stands body unique (a_call t.place (O e) (call_slot P (T e) x)
+            result = λ o ho. typed_parts.is_point B (a_call t.place (O e) (call_slot P (T e) x)
                 (call_declaration P (T e) x) (operands_of P (type_in P m k) m k es)
-                (O (call t e x es))) t.place (O (call t e x es)) (point.Expr m t.label) o there (λ y d. d) refl
-                (typed_parts.call_type Q F formed slots m k stands body unique t e x es sig called
+                (O (call t e x es))) t.place (O (call t e x es)) (point.Expr m t.label) o there (λ y d. d) refl (typed_parts.call_type B t e x es sig called
                 ∙ ap (λ z. object_if z) (s.result ∙ ap (λ z. z.result) same ∙ sym i.result) ∙ ho)
                 (let r = return_row Q formed j i.slot o i.stands (ap (λ z. object_if z) (sym i.result) ∙ ho) in
                 (r.0, ap (λ z. number_if (row_number P Q) (option_map row.Return z)) h ∙ r.1));
@@ -164,16 +137,14 @@ module _ (Q : Plain) (F : Facts) (formed : IsFormed (untagged Q)) (slots : HaveS
       → IsKindedPart P Q F m k (a_static_call t.place d (operands_of P (type_in P m k) m k es) (O (static_call t d es)))
   unfolding IsKindedPart
   static_kind t d es sig called args s there = λ h eh.
-      let f = typed_parts.method_sig Q F formed slots m k stands body unique d sig called in
+      let f = typed_parts.method_sig B d sig called in
       let same : f.0 ≡ h = same_Some f.0 h (sym f.1 ∙ eh) in
       record {
         args = method_args es sig.params h args (f.2 ∙ ap (λ z. types_of z.params) same);
         result = λ o ho.
-            let et = typed_parts.static_call_type Q F formed slots m k stands body unique t d es sig called
-            ∙ ap (λ z. object_if z) (f.3 ∙ ap (λ z. z.result) same) ∙ ho in
-            typed_parts.is_point Q F formed slots m k stands body unique (a_static_call t.place d (operands_of P (type_in P m k) m k es)
-            (O (static_call t d es))) t.place (O (static_call t d es))
-            (point.Expr m t.label) o there (λ y d. d) refl et (typed_parts.static_listed Q F formed slots m k stands body unique t d es sig o called s et);
+            let et = typed_parts.static_call_type B t d es sig called ∙ ap (λ z. object_if z) (f.3 ∙ ap (λ z. z.result) same) ∙ ho in
+            typed_parts.is_point B (a_static_call t.place d (operands_of P (type_in P m k) m k es) (O (static_call t d es))) t.place (O (static_call t d es))
+            (point.Expr m t.label) o there (λ y d. d) refl et (typed_parts.static_listed B t d es sig o called s et);
       }
 
   super_kind : (t : Tag) (x : List ℕ) (es : Exs) (c : ℕ) (sig : Signature) → super_method P k.owner x ≡ Some c → super_signature P k.owner x
@@ -184,29 +155,25 @@ module _ (Q : Plain) (F : Facts) (formed : IsFormed (untagged Q)) (slots : HaveS
   super_kind t x es c sig found called args there =
       subst (λ z. IsKindedPart P Q F m k (a_super_call t.place z (operands_of P (type_in P m k) m k es) (O (super_call t x es))))
       (sym found) (λ h eh hb.
-      let f = typed_parts.method_sig Q F formed slots m k stands body unique c sig
-      (sym (typed_parts.super_sig Q F formed slots m k stands body unique x c found) ∙ called) in
+      let f = typed_parts.method_sig B c sig (sym (typed_parts.super_sig B x c found) ∙ called) in
       let same : f.0 ≡ h = same_Some f.0 h (sym f.1 ∙ eh) in (
         record {
           args = method_args es sig.params h args (f.2 ∙ ap (λ z. types_of z.params) same);
           result = λ o ho.
-              let et = typed_parts.super_call_type Q F formed slots m k stands body unique t x es sig called
-              ∙ ap (λ z. object_if z) (f.3 ∙ ap (λ z. z.result) same) ∙ ho in
-              typed_parts.is_point Q F formed slots m k stands body unique (a_super_call t.place (super_method P k.owner x)
-              (operands_of P (type_in P m k) m k es) (O (super_call t x es))) t.place
-              (O (super_call t x es)) (point.Expr m t.label) o there (λ y d. d) refl et (typed_parts.super_listed Q F formed slots m k stands body
-              unique t x es c sig o found called et);
+              let et = typed_parts.super_call_type B t x es sig called ∙ ap (λ z. object_if z) (f.3 ∙ ap (λ z. z.result) same) ∙ ho in
+              typed_parts.is_point B (a_super_call t.place (super_method P k.owner x) (operands_of P (type_in P m k) m k es) (O (super_call t x es))) t.place
+              (O (super_call t x es)) (point.Expr m t.label) o there (λ y d. d) refl et (typed_parts.super_listed B t x es c sig o found called et);
         },
-        this_point_of Q formed c h eh hb (typed_parts.super_instance Q F formed slots m k stands body unique k.owner x c found h eh),
+        this_point_of Q formed c h eh hb (typed_parts.super_instance B k.owner x c found h eh),
       ))
 
   test_kind : (t : Tag) (e : Ex) (o : Operand) (i : RowItem) → o.row ≡ Some i → o.point ≡ Some (point.Expr m t.label)
       → Contains (parts_of P m k) (a_test t.place (O e) o) → IsKindedPart P Q F m k (a_test t.place (O e) o)
   unfolding IsKindedPart HasPoint
   test_kind t e o i er ep there = λ y hy.
-      let r = typed_parts.own_row_there Q F formed slots m k stands body unique (a_test t.place (O e) o) t.place i o.ty y there
+      let r = typed_parts.own_row_there B (a_test t.place (O e) o) t.place i o.ty y there
       (λ x d. subst (λ z. Contains (own_row t.place z o.ty) x) (sym er) d) hy in
-      let w = typed_parts.is_point Q F formed slots m k stands body unique (a_test t.place (O e) o) t.place o (point.Expr m t.label) y there (λ x d. d) ep hy
+      let w = typed_parts.is_point B (a_test t.place (O e) o) t.place o (point.Expr m t.label) y there (λ x d. d) ep hy
       (r.0, ap (λ z. number_if (row_number P Q) z) er ∙ r.1) in
       (w.number, w.point)
 

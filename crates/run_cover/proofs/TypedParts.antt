@@ -5,7 +5,6 @@ use Rattle.std.specs.Option.{option_map, option_and_then, is_some}
 use Rattle.std.specs.Str.{bytes_eq}
 use Rattle.std.proofs.lemmas.Option.{same_Some, slice_get_within, get_or_from_slice_get}
 use Rattle.std.proofs.lemmas.List.Quantifiers.{position-Some}
-use Rattle.std.proofs.lemmas.List.Elements.{Contains-append_left, Contains-append_right}
 use Rattle.kaba_base.specs.declared.Place.{Place}
 use Rattle.java_core.specs.declared.Ty.{Ty}
 use Rattle.java_core.specs.declared.TyBase.TheVariants.{Int}
@@ -13,9 +12,9 @@ use Rattle.std.proofs.lemmas.Bool.{false≢true}
 use Rattle.java_core.specs.Trees.{Tag, Ex, Exs, no_ex, ex_then, number, character, text, truth, null, this, local, static_field, own_field, field, index, call, static_call, super_call, create, create_array, cast, instance_of, unary, binary}
 use Rattle.java_core.specs.Programs.{Plain, PlainMethod, PlainLocal}
 use Rattle.java_core.specs.Classes.{super_method, nearest_of, parent_of, own_method, is_method_of, member_field, slot_of, slot_of_method}
-use Rattle.java_core.specs.Types.{Static, or_nothing, Env, env_of, types_of, plain_type, is_length, class_of, element_of, length_or, field_type, field_in, access_type, Signature, signature_of_method, call_signature, super_signature, result_of, static}
-use Rattle.java_core.specs.Typing.{Typed, TypedArgs, t_index, t_call, t_static_call, t_super_call, t_ex_then}
-use Rattle.java_core.specs.Formed.{IsFormed, FormedEx, IsStaticMethod, f_this, f_index, f_static_call}
+use Rattle.java_core.specs.Types.{Static, or_nothing, types_of, plain_type, is_length, class_of, element_of, length_or, field_type, field_in, access_type, Signature, signature_of_method, call_signature, super_signature, result_of, static}
+use Rattle.java_core.specs.Typing.{TypedArgs, t_index, t_call, t_static_call, t_super_call, t_ex_then}
+use Rattle.java_core.specs.Formed.{IsFormed, IsStaticMethod, f_this, f_index, f_static_call}
 use Rattle.fact_model.specs.declared.facts.Facts.{Facts}
 use Rattle.flow_rules.specs.declared.items.ObjectType.{ObjectType}
 use Rattle.flow_rules.specs.declared.items.Operand.{Operand}
@@ -25,18 +24,19 @@ use Rattle.flow_rules.specs.declared.items.PointItem.{PointItem}
 use Rattle.flow_rules.specs.declared.items.Row.{Row}
 use Rattle.flow_rules.specs.declared.items.PointAt.{PointAt}
 use Rattle.flow_rules.specs.declared.items.Site.{Site}
-use Rattle.flow_rules.specs.Operands.{object_of, object_if, object_static, object_field, call_slot, super_slot, result_in, row_of, operand_of, operands_of, type_in}
+use Rattle.flow_rules.specs.Operands.{object_of, object_if, object_static, object_field, call_slot, super_slot, result_in, row_of, operands_of, type_in}
 use Rattle.flow_rules.specs.Types.{field_object, variable_object}
-use Rattle.flow_rules.specs.Parts.{Part, a_creation, a_test, parts, parts_of}
+use Rattle.flow_rules.specs.Parts.{Part, a_creation, a_test, parts_of}
 use Rattle.flow_rules.specs.Lists.{point_in}
-use Rattle.flow_rules.specs.Numbered.{form_rows, own_row, number_if, site_if, point_of_form, form_points, row_number, site_number, point_number}
-use Rattle.flow_rules.specs.Facts.{numbers}
+use Rattle.flow_rules.specs.Numbered.{form_rows, own_row, number_if, site_if, point_of_form, form_points, row_number, point_number}
+use Rattle.flow_rules.specs.Facts.{numbers, IsFactsOf}
 use Rattle.java_core.specs.Untagged.{untag_method, untagged, bare, bare_all}
 use Rattle.run_cover.specs.Slotted.{HaveSlots}
 use Rattle.run_cover.proofs.Kinded.{site_type, IsPoint, IsCreation}
-use Rattle.flow_rules.proofs.Listed.{one, first, more, when_has, at_left}
+use Rattle.flow_rules.proofs.Listed.{one, when_has, at_left}
 use Rattle.run_cover.proofs.Included.{get_map, object_or, class_object}
 use Rattle.run_cover.proofs.Untagging.{untyped_params}
+use Rattle.run_cover.proofs.Unique.{creation_type}
 use Rattle.java_meaning.proofs.WatchedPrograms.{bare_static}
 use Rattle.java_meaning.proofs.Moves.{then_some}
 use Rattle.java_meaning.proofs.Calls.{mapped_some}
@@ -44,43 +44,28 @@ use Rattle.run_cover.proofs.HasNumbers.{this_row, form_row, site_there, form_poi
 use Rattle.run_cover.proofs.HasRows.{method_of, of_method, field_row_of, in_slot, return_row, result_row_of, variable_row_of}
 use Rattle.run_cover.proofs.Types.{unary_none, binary_none, fits_object, of_element, class_apart, object_called}
 use Rattle.run_cover.proofs.Found.{nearest_some}
+use Rattle.run_cover.proofs.Walked.{walked}
+use Rattle.run_cover.proofs.Each.{left, here}
 
-module _ (Q : Plain) (F : Facts) (formed : IsFormed (untagged Q)) (slots : HaveSlots (untagged Q)) (m : ℕ) (k : PlainMethod)
-    (stands : slice_get Q.methods m ≡ Some k) (body : is_some k.body ≡ true)
-    (unique : (q : Place) (u : Bool) (o : Operand) (n s : ℕ) → Contains (parts_of (untagged Q) m k) (a_creation q u o) → o.created ≡ Some n
-    → site_number (untagged Q) Q n ≡ Some s → o.ty ≡ Some (site_type F s)) where
+-- a body of a formed program, with the facts of the program
+pub record TypedBody : Type 0 where
+  pub program : Plain
+  pub facts : Facts
+  pub formed : IsFormed (untagged program)
+  pub slots : HaveSlots (untagged program)
+  pub are_facts : IsFactsOf (untagged program) program facts
+  pub number : ℕ
+  pub method : PlainMethod
+  pub stands : slice_get program.methods number ≡ Some method
+  pub bodied : is_some method.body ≡ true
+
+module _ (B : TypedBody) where
+  open B use {program as Q, facts as F, formed, slots, number as m, method as k, stands, bodied as body}
+
   abbrev P : Plain
   P = untagged Q
 
-  abbrev g : Env
-  g = env_of m k
-
-  abbrev pub T : Ex → Option ObjectType
-  T e = type_in P m k e
-
-  abbrev pub O : Ex → Operand
-  O e = operand_of P (type_in P m k) m k e
-
-  abbrev pub Stands : List Part → Type 0
-  Stands ps = (p : Part) → Contains ps p → Contains (parts_of P m k) p
-
-  abbrev pub IsTyped : Ex → Type 0
-  IsTyped e = Typed P g (bare e)
-
-  abbrev pub IsFormedEx : List ℕ → Ex → Type 0
-  IsFormedEx scope e = FormedEx P (untag_method k) scope (bare e)
-
-  pub left : (ps qs : List Part) → Stands (ps ++ qs) → Stands ps
-  left ps qs st p c = st p (Contains-append_left ps qs p c)
-
-  pub right : (ps qs : List Part) → Stands (ps ++ qs) → Stands qs
-  right ps qs st p c = st p (Contains-append_right ps qs p c)
-
-  pub past : (p : Part) (qs : List Part) → Stands (p ∷ qs) → Stands qs
-  past p qs st x c = st x (more x p qs c)
-
-  pub here : (p : Part) (qs : List Part) → Stands (p ∷ qs) → Contains (parts_of P m k) p
-  here p qs st = st p (first p qs)
+  open walked P m k use {env as g, type as T, operand as O, Stands, IsTyped, IsFormed as IsFormedEx, tree}
 
   -- types
   pub typed_of : (e : Ex) (t : ObjectType) → T e ≡ Some t → object_static (static P g (bare e)) ≡ Some t
@@ -189,9 +174,6 @@ module _ (Q : Plain) (F : Facts) (formed : IsFormed (untagged Q)) (slots : HaveS
   none_typed : {A : Type 0} (e : Ex) (t : ObjectType) → object_static (static P g e) ≡ None → T e ≡ Some t → A
   unfolding type_in
   none_typed e t h d = absurd (let z = sym h ∙ d in cc)
-
-  abbrev pub tree : Bool → Ex → List Part
-  tree u e = parts P (type_in P m k) m k u e
 
   field_listed : (t : Tag) (e : Ex) (x : List ℕ) (o : ObjectType) → T (field t e x) ≡ Some o
       → (r : ℕ) × (number_if (row_number P Q) (option_map row.Field (object_field P (T e) x)) ≡ Some r)
@@ -328,9 +310,9 @@ module _ (Q : Plain) (F : Facts) (formed : IsFormed (untagged Q)) (slots : HaveS
             site_there P Q m k stands (a_creation q u o) c x (subst (λ z. Contains (site_if q z o.ty (number_if (row_number P Q) o.row)) x) (sym ej)
             (subst (λ z. Contains (site_if q (Some j) z (number_if (row_number P Q) o.row)) x) (sym et)
             (subst (λ z. Contains (site_if q (Some j) (Some t) z) x) (sym r.1) (one x))));
-        typed = λ j s ej es. unique q u o j s c ej es;
+        typed = λ j s ej es. creation_type Q F formed B.are_facts m k stands q u o j s c ej es;
         point = λ eu j s ej es.
-            let et = unique q u o j s c ej es in
+            let et = creation_type Q F formed B.are_facts m k stands q u o j s c ej es in
             let w = is_point (a_creation q u o) q o i (site_type F s) c (λ x d. when_has u _ x eu d) ep et (listed (site_type F s) et) in
             (w.number, w.point);
       }

@@ -16,7 +16,7 @@ use Rattle.flow_rules.specs.declared.items.Site.{Site}
 use Rattle.flow_rules.specs.Labels.{label_sts}
 use Rattle.flow_rules.specs.Operands.{operand_of, type_in}
 use Rattle.flow_rules.specs.Ordered.{by_place, each}
-use Rattle.flow_rules.specs.Parts.{Part, a_load, an_element, a_creation, a_call, a_static_call, a_super_call, a_test, a_pair, a_set, a_store, an_element_store, a_return, is_accessed, parts, parts_all, parts_if, parts_set, parts_return, parts_assign, parts_st, parts_sts, parts_arms, parts_body, parts_of}
+use Rattle.flow_rules.specs.Parts.{Part, a_load, an_element, a_creation, a_call, a_static_call, a_super_call, a_test, a_pair, a_set, a_store, an_element_store, a_return, is_accessed, parts_all, parts_if, parts_set, parts_return, parts_assign, parts_st, parts_arms, parts_body, parts_of}
 use Rattle.flow_rules.specs.Numbered.{Body, body_at, bodies_of, site_if, form_sites, row_number, sites_of, site_number}
 use Rattle.flow_rules.specs.Facts.{IsFactsOf}
 use Rattle.java_core.specs.Untagged.{untag_body, untag_method, untagged, bare, bare_all, bare_if, bare_target, bare_st, bare_sts, bare_arms}
@@ -24,8 +24,10 @@ use Rattle.run_cover.proofs.Kinded.{site_type}
 use Rattle.flow_rules.proofs.Listed.{first, more, each_has}
 use Rattle.run_cover.proofs.Included.{get_map}
 use Rattle.run_cover.proofs.Untagging.{unlabel_sts}
-use Rattle.run_cover.proofs.Found.{each_from, place_from, once_from}
+use Rattle.run_cover.proofs.Found.{each_from, once_from}
+use Rattle.flow_rules.proofs.Listed.{place_from}
 use Rattle.run_cover.proofs.Cells.{site_of}
+use Rattle.run_cover.proofs.Walked.{walked}
 
 -- a numbered form and the type of what it makes
 pub record Made : Type 0 where
@@ -220,11 +222,7 @@ module _ (T : Ex → Option ObjectType) where
 
 -- in a method
 module _ (P : Plain) (m : ℕ) (k : PlainMethod) where
-  abbrev T : Ex → Option ObjectType
-  T e = type_in P m k e
-
-  abbrev tree : Bool → Ex → List Part
-  tree u e = parts P (type_in P m k) m k u e
+  open walked P m k use {type as T, tree, tree_sts as sts}
 
   mutual
     tree_among : (u : Bool) (e : Ex) → M T (tree u e) (made T e)
@@ -286,9 +284,6 @@ module _ (P : Plain) (m : ℕ) (k : PlainMethod) where
       (m_append T (tree true b ++ tree false i) (tree true e) (made T b ++ made T i) (made T e) (m_append T (tree true b) (tree false i) (made T b)
       (made T i) (tree_among true b) (tree_among false i)) (tree_among true e)) tt
   assign_among p no_target e = m_end T (tree false e) _ (made T e) (tree_among false e) tt
-
-  abbrev sts : Sts → List Part
-  sts xs = parts_sts P (type_in P m k) m k xs
 
   mutual
     st_among : (x : St) → M T (parts_st P (type_in P m k) m k x) (made_st T x)

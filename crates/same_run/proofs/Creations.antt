@@ -54,8 +54,8 @@ use Rattle.facts_order.proofs.Items.{column_at, site_at as site_listed}
 use Rattle.facts_order.proofs.Pairs.{IsPlaced}
 use Rattle.facts_order.proofs.Sites.{site_types, site_part, created_row}
 use Rattle.flow_rules.proofs.Listed.{at_map, at_below}
-use Rattle.rebuild_model.specs.Renaming.{Places, Renaming, renaming_of, retyped}
-use Rattle.rebuild_looks.specs.Known.{Known, Offers}
+use Rattle.rebuild_model.specs.Renaming.{retyped}
+use Rattle.rebuild_looks.specs.Known.{Known, Offers, sides}
 use Rattle.rebuild_looks.proofs.Fields as fields
 use Rattle.rebuild_looks.proofs.Fields.{has_place}
 use Rattle.rebuild_types.proofs.Served.{IsRowOf, row_of_class, row_class_is}
@@ -87,21 +87,17 @@ retyped_free (Some w) v e = go v.base v.dim e
     go Str d h = refl
     go (Class c) d h = absurd (cc)
 
-module _ (Q : Plain) (F : Facts) (H : Hierarchy) (W : Plain) (K : Known (untagged Q) Q F H W) (placed : IsPlaced (untagged Q) Q) (typed : IsTyped (untagged Q))
+module _ {Q : Plain} {F : Facts} {H : Hierarchy} {W : Plain} (K : Known (untagged Q) Q F H W) (placed : IsPlaced (untagged Q) Q) (typed : IsTyped (untagged Q))
     (facts : IsFactsOf (untagged Q) Q F) (pt : PointsTo) (t : Table)
     (A : InRange F) (O : InOrder F) (S : AreSets F pt) (B : IsTable F t) (table : H.table ≡ t.rows.items) (none : first_broken F pt H ≡ None)
     (hierarchy : IsHierarchyOf F H) where
   abbrev P : Plain
   P = untagged Q
 
-  abbrev T : Places
-  T = K.rebuilt.places
-
-  abbrev R : Renaming
-  R = renaming_of P Q H T
+  open sides K use {places as T, renaming as R}
 
   abbrev node : ℕ → ℕ
-  node s = node_of Q F H W K t s
+  node s = node_of K t s
 
   -- an instance field of a class itself is its member
   own_member : (f : ℕ) (k : PlainField) → slice_get P.fields f ≡ Some k → k.is_static ≡ false → member_field P k.owner k.name ≡ Some f
@@ -128,12 +124,12 @@ module _ (Q : Plain) (F : Facts) (H : Hierarchy) (W : Plain) (K : Known (untagge
       ap (λ z. z.is_static) (same_Some k (untag_field y.0) (sym at ∙ get_map untag_field Q.fields f ∙ ap (option_map untag_field) y.1)) ∙ y.2
 
   -- an object has each field that the row of its site has
-  field_there : (s f : ℕ) → s < length F.sites.items → has_in Q F H W K t s f ≡ true → (o : Offers P Q F H W K (node s) (column.Fld f))
+  field_there : (s f : ℕ) → s < length F.sites.items → has_in K t s f ≡ true → (o : Offers K (node s) (column.Fld f))
       → is_some (index_of P (site_class F s) f) ≡ true
   unfolding numbers
   field_there s f ls h o =
       let c = some_test ((numbers P Q).column (column.Fld f)) (λ c. bit (bits t.rows.items (site_row F s)) c) h in
-      let x = fields.new_field P Q F H W K f o.node o.stands in
+      let x = fields.new_field K f o.node o.stands in
       let k = x.1.is.old in
       let info = numbered_column P Q F facts (column.Fld f) c.0 c.1 in
       let above = column-above F A O (site_row F s) c.0 ((B.entries (site_row F s) c.0).0 c.2) in
@@ -151,15 +147,15 @@ module _ (Q : Plain) (F : Facts) (H : Hierarchy) (W : Plain) (K : Known (untagge
           go (Some y) q = ap (λ z. z.owner) (same_Some (untag_field y) k q)
 
   -- a new object has one value in each field that it keeps
-  first_values : (s f : ℕ) → s < length F.sites.items → has_in Q F H W K t s f ≡ true
-      → value_at (language_of P) (site_class F s) f (fresh_of P (site_class F s)) ≡ value_at (language_of W) (T.type_of (node s)) (new_field Q F H W K t f)
+  first_values : (s f : ℕ) → s < length F.sites.items → has_in K t s f ≡ true
+      → value_at (language_of P) (site_class F s) f (fresh_of P (site_class F s)) ≡ value_at (language_of W) (T.type_of (node s)) (new_field K t f)
       (fresh_of W (T.type_of (node s)))
   first_values s f ls h =
-      let o = has_offered Q F H W K t pt A O S B table none s f h in
-      let x = fields.new_field P Q F H W K f o.node o.stands in
+      let o = has_offered K t pt A O S B table none s f h in
+      let x = fields.new_field K f o.node o.stands in
       let live = K.order.lower_lives (node s) o.node o.above in
       let i = some_there (index_of P (site_class F s) f) (field_there s f ls h o) in
-      let j = some_there (index_of W (T.type_of (node s)) x.0) (has_place P Q F H W K f (node s) o (node s) (K.order.reflexive (node s) live)) in
+      let j = some_there (index_of W (T.type_of (node s)) x.0) (has_place K f (node s) o (node s) (K.order.reflexive (node s) live)) in
       let a = fresh P (site_class F s) f i.0 i.1 in
       let b = fresh W (T.type_of (node s)) x.0 j.0 j.1 in
       let old : a.0 ≡ x.1.is.old.ty = same_Some a.0 x.1.is.old.ty (sym a.1 ∙ ap (option_map (λ (z : PlainField). z.ty)) x.1.is.old_stands) in
@@ -168,15 +164,15 @@ module _ (Q : Plain) (F : Facts) (H : Hierarchy) (W : Plain) (K : Known (untagge
       ∙ ap (λ z. Some (default_of z)) old
       ∙ ap (λ z. Some z) (same_default x.1.is.old.ty (retyped (R.row_type (row.Field f)) x.1.is.old.ty) (shape_kept (R.row_type (row.Field f)) x.1.is.old.ty))
       ∙ ap (λ z. Some (default_of z)) (sym (new ∙ x.1.is.type))
-      ∙ sym (ap (λ z. value_at (language_of W) (T.type_of (node s)) z (fresh_of W (T.type_of (node s)))) (new_field_is Q F H W K t f (node s) o)
+      ∙ sym (ap (λ z. value_at (language_of W) (T.type_of (node s)) z (fresh_of W (T.type_of (node s)))) (new_field_is K t f (node s) o)
       ∙ at_place (language_of W) (T.type_of (node s)) x.0 j.0 (fresh_of W (T.type_of (node s))) (default_of b.0) j.1 b.2)
 
   module _ (new_static : ℕ → ℕ) (Pair : Body → Body → Type 0) (m : ℕ) (k : PlainMethod) (stands : slice_get Q.methods m ≡ Some k) (slots : HaveSlots P) where
     abbrev Made : Option ℕ → Kind → Kind → Type 0
-    Made o a b = MadeAs Q F H W K t o a b
+    Made o a b = MadeAs K t o a b
 
     pub created : (w : Place) (u : Bool) (o : Operand) → Contains (parts_of P m k) (a_creation w u o)
-        → CreationTied Q W F (solved pt) R (has Q F H W K t) (new_field Q F H W K t) new_static Made Pair o
+        → CreationTied Q W F (solved pt) R (has K t) (new_field K t) new_static Made Pair o
     unfolding IsKindedPart numbers
     created w u o i =
         let kind : IsCreation P Q F u o = method_parts Q F K.old typed slots facts m k stands (a_creation w u o) i in
@@ -188,7 +184,7 @@ module _ (Q : Plain) (F : Facts) (H : Hierarchy) (W : Plain) (K : Known (untagge
           object = λ n c y ec ey dim hc.
               let s = kind.sited n y ec ey in
               let is : y ≡ site_type F s.0 = same_Some y (site_type F s.0) (sym ey ∙ type n s.0 ec s.1) in
-              let a = row_of_class Q F H W K (Some (row.New n)) c hc in
+              let a = row_of_class K (Some (row.New n)) c hc in
               let class_is : T.type_of (node s.0) ≡ c = ap (λ z. T.type_of (place_of_row H z)) (row_is n a.number s.0 (numbered_new n c a) s.1) ∙ a.class in
               record {
                 made = record {
@@ -213,7 +209,7 @@ module _ (Q : Plain) (F : Facts) (H : Hierarchy) (W : Plain) (K : Known (untagge
           };
         }
       where
-        numbered_new : (n c : ℕ) (a : IsRowOf Q F H W K (Some (row.New n)) c) → row_number P Q (row.New n) ≡ Some a.number
+        numbered_new : (n c : ℕ) (a : IsRowOf K (Some (row.New n)) c) → row_number P Q (row.New n) ≡ Some a.number
         numbered_new n c a = ap (row_number P Q) (same_Some (row.New n) a.item a.is) ∙ a.numbered
 
         site_below : (n s : ℕ) → site_number P Q n ≡ Some s → s < length F.sites.items
@@ -222,13 +218,13 @@ module _ (Q : Plain) (F : Facts) (H : Hierarchy) (W : Plain) (K : Known (untagge
             (subst (λ z. slice_get z s ≡ Some (site_info x.0)) (sym facts.sites) (at_map site_info (sites_of P Q) s x.0 x.1))
 
         values_of : (n : ℕ) (y : ObjectType) (c s : ℕ) → site_number P Q n ≡ Some s → y ≡ site_type F s → T.type_of (node s) ≡ c → (f : ℕ)
-            → has Q F H W K t (Some n) f ≡ true
-            → value_at (language_of P) y.class.0 f (fresh_of P y.class.0) ≡ value_at (language_of W) c (new_field Q F H W K t f) (fresh_of W c)
+            → has K t (Some n) f ≡ true
+            → value_at (language_of P) y.class.0 f (fresh_of P y.class.0) ≡ value_at (language_of W) c (new_field K t f) (fresh_of W c)
         values_of n y c s es is at f h =
             let ls = site_below n s es in
-            let hs = sym (ap (λ z. option_map_or (λ s. has_in Q F H W K t s f) z false) es) ∙ h in
+            let hs = sym (ap (λ z. option_map_or (λ s. has_in K t s f) z false) es) ∙ h in
             ap (λ z. value_at (language_of P) z.class.0 f (fresh_of P z.class.0)) is ∙ first_values s f ls hs
-            ∙ ap (λ z. value_at (language_of W) z (new_field Q F H W K t f) (fresh_of W z)) at
+            ∙ ap (λ z. value_at (language_of W) z (new_field K t f) (fresh_of W z)) at
 
         array_over : (n s : ℕ) (v : Ty) → v ≡ type_at (site_type F s) → site_number P Q n ≡ Some s
             → retyped (R.row_type (row.New n)) v ≡ type_over (T.type_of (node s)) (site_type F s)
@@ -237,7 +233,7 @@ module _ (Q : Plain) (F : Facts) (H : Hierarchy) (W : Plain) (K : Known (untagge
             let p = site_part P Q placed K.old typed s x.0 x.1 in
             let row_n : row_number P Q (row.New n) ≡ Some x.0.row = ap (λ z. row_number P Q (row.New z)) (sym x.2) ∙ p.row_number_is in
             let at = created_row P Q placed K.old typed F facts n x.0.row (record { 0 = s }) row_n es in
-            ap (λ z. retyped z v) (row_class_is Q F H W K (row.New n) x.0.row row_n) ∙ ap (λ z. retyped (Some (T.type_of (place_of_row H x.0.row))) z) is
+            ap (λ z. retyped z v) (row_class_is K (row.New n) x.0.row row_n) ∙ ap (λ z. retyped (Some (T.type_of (place_of_row H x.0.row))) z) is
             ∙ ap (λ z. type_over (T.type_of (place_of_row H z)) (site_type F s)) (sym at)
 
         no_site : (n : ℕ) (v : Ty) → ((y : ObjectType) → object_of v ≡ Some y → ⊥) → object_of v ≡ None

@@ -53,27 +53,27 @@ use Rattle.facts_order.proofs.Classes.{subclass_below, below_subclass}
 use Rattle.facts_order.proofs.Pairs.{IsPlaced}
 use Rattle.facts_order.proofs.Sites.{site_types}
 use Rattle.facts_order.proofs.Tests.{gathered_has}
-use Rattle.rebuild_model.specs.Renaming.{Places, renaming_of}
+use Rattle.rebuild_model.specs.Renaming.{renaming_of}
 use Rattle.rebuild_looks.specs.Known.{Known}
 use Rattle.rebuild_looks.proofs.Nodes as nodes
 use Rattle.rebuild_given.proofs.Rest.{half, fails}
 use Rattle.rebuild_types.proofs.Asked.{new_class}
 use Rattle.rebuild_types.proofs.Served.{row_of_class, row_in_is}
 use Rattle.same_run.proofs.Ties.{type_at, type_over}
-use Rattle.same_run.proofs.Sited.{MadeAs, node_of, and_false, free_apart, IsMet, met_at, met_passing}
+use Rattle.same_run.proofs.Sited.{MadeAs, node_of, free_apart, IsMet, met_at, met_passing}
+use Rattle.java_meaning.proofs.Operators.{and_false}
 
-module _ (Q : Plain) (F : Facts) (H : Hierarchy) (W : Plain) (K : Known (untagged Q) Q F H W) (placed : IsPlaced (untagged Q) Q) (typed : IsTyped (untagged Q))
+module _ {Q : Plain} {F : Facts} {H : Hierarchy} {W : Plain} (K : Known (untagged Q) Q F H W) (placed : IsPlaced (untagged Q) Q) (typed : IsTyped (untagged Q))
     (facts : IsFactsOf (untagged Q) Q F) (pt : PointsTo) (t : Table)
     (A : InRange F) (O : InOrder F) (S : AreSets F pt) (B : IsTable F t) (table : H.table ≡ t.rows.items) (none : first_broken F pt H ≡ None)
     (hierarchy : IsHierarchyOf F H) where
   abbrev P : Plain
   P = untagged Q
 
-  abbrev T : Places
-  T = K.rebuilt.places
+  open K.rebuilt use {places as T}
 
   abbrev node : ℕ → ℕ
-  node s = node_of Q F H W K t s
+  node s = node_of K t s
 
   -- classes are below in the facts where they are in the program
   in_facts : (a b : ℕ) → below P a b ≡ true → facts_below F a b ≡ true
@@ -90,7 +90,7 @@ module _ (Q : Plain) (F : Facts) (H : Hierarchy) (W : Plain) (K : Known (untagge
       both_ways (below P (site_class F s) c) (is_le H.order (node s) (place_of_row H r))
       (λ h. (half F pt t A O S B H table none).passes s r m (ap (λ z. facts_below F (site_class F s) z) e ∙ in_facts (site_class F s) c h))
       (λ h. in_program (site_class F s) c (sym (ap (λ z. facts_below F (site_class F s) z) e) ∙ fails F pt t A O S B H table none s r m h))
-      ∙ sym (nodes.below_is P Q F H W K (node s) (place_of_row H r) lives (hierarchy.placed.rows r lr))
+      ∙ sym (nodes.below_is K (node s) (place_of_row H r) lives (hierarchy.placed.rows r lr))
 
   at_most : (a b c : ℕ) → c < a → c < max a b
   at_most a b c e = omega (arith, e)
@@ -99,7 +99,7 @@ module _ (Q : Plain) (F : Facts) (H : Hierarchy) (W : Plain) (K : Known (untagge
   at_least a b c e = omega (arith, e)
 
   abbrev Made : Option ℕ → Kind → Kind → Type 0
-  Made o k l = MadeAs Q F H W K t o k l
+  Made o k l = MadeAs K t o k l
 
   -- types that are classes of one dimension each
   by_classes : (d e a b x y : ℕ) → ((d ≡ e) → below P a b ≡ below W x y) → ((d == e) && below P a b) ≡ ((d == e) && below W x y)
@@ -190,10 +190,10 @@ module _ (Q : Plain) (F : Facts) (H : Hierarchy) (W : Plain) (K : Known (untagge
             ∙ ap (λ v. is_subtype W (own_type v) (type_over c y)) (sym z.1)
         go (Some s) h =
             let z = made.sited s h in
-            let x = met_passing Q F H W K t pt A O S B table none e q s h may in
-            let r = row_of_class Q F H W K o.row c hc in
+            let x = met_passing K t pt A O S B table none e q s h may in
+            let r = row_of_class K o.row c hc in
             let ls = point_site F pt t A O S B x.point s x.held in
-            let m = test_met w e o i x.point r.number s y x.point_is (row_in_is Q F H W K o.row c r) ey x.held in
+            let m = test_met w e o i x.point r.number s y x.point_is (row_in_is K o.row c r) ey x.held in
             ap (λ v. is_subtype P v (type_at y)) z.0
             ∙ by_classes (site_at F s).dim y.dim (site_class F s) y.class.0 (T.type_of (node s)) c
             (λ d. met_same s r.number y.class.0 ls m.2 m.0 m.1 ∙ ap (λ v. below W (T.type_of (node s)) v) r.class)
@@ -201,18 +201,18 @@ module _ (Q : Plain) (F : Facts) (H : Hierarchy) (W : Plain) (K : Known (untagge
 
     held_point : (b : Operand) (o : Option ℕ) (s : ℕ)
         → ((n s : ℕ) → b.created ≡ Some n → (numbers P Q).site n ≡ Some s → (q : ℕ) × (point_at (numbers P Q) b ≡ Some q)) → site_in (numbers P Q) o ≡ Some s
-        → passes (held_sites P Q F (solved pt) b) (site_in (numbers P Q) o) ≡ true → IsMet Q F H W K t pt A O S B table none b s
+        → passes (held_sites P Q F (solved pt) b) (site_in (numbers P Q) o) ≡ true → IsMet K t pt A O S B table none b s
     held_point b o s point e q = go b.created refl (subst (λ z. passes (held_sites P Q F (solved pt) b) z ≡ true) e q)
       where
         -- a creation that is no point is itself alone
         itself : (n : ℕ) (z r : Option ℕ) → b.created ≡ Some n → point_at (numbers P Q) b ≡ z → (numbers P Q).site n ≡ r
-            → or_itself P Q F (solved pt) z r s ≡ true → IsMet Q F H W K t pt A O S B table none b s
+            → or_itself P Q F (solved pt) z r s ≡ true → IsMet K t pt A O S B table none b s
         itself n (Some p) r c ep er h = record { point = p; point_is = ep; held = h }
         itself n None None c ep er h = absurd (false≢true h)
         itself n None (Some r) c ep er h = let p = point n r c er in absurd (let z = sym ep ∙ p.1 in cc)
 
-        go : (c : Option ℕ) → b.created ≡ c → held_in P Q F (solved pt) c b s ≡ true → IsMet Q F H W K t pt A O S B table none b s
-        go None c h = met_at Q F H W K t pt A O S B table none b s h
+        go : (c : Option ℕ) → b.created ≡ c → held_in P Q F (solved pt) c b s ≡ true → IsMet K t pt A O S B table none b s
+        go None c h = met_at K t pt A O S B table none b s h
         go (Some n) c h = itself n (point_at (numbers P Q) b) ((numbers P Q).site n) c refl refl h
 
     -- an array and its elements

@@ -1,8 +1,8 @@
 -- The row of the flow point of an operand is the operand's own.
-use Rattle.std.proofs.Common.{◌≡◌, ℕ, ◌<◌, List, [], ◌∷◌, ◌++◌, Some, None, length, refl, sym, ap, ◌∙◌}
+use Rattle.std.proofs.Common.{◌≡◌, ℕ, ◌<◌, List, [], ◌∷◌, Some, None, length, refl, sym, ap, ◌∙◌}
 use Rattle.std.specs.Prelude.{Bool, true, false, slice_get, Contains}
 use Rattle.std.proofs.lemmas.Option.{same_Some}
-use Rattle.java_core.specs.Trees.{Ex, Exs, number, character, text, truth, null, this, local, static_field, own_field, field, index, call, static_call, super_call, create, create_array, cast, instance_of, unary, binary}
+use Rattle.java_core.specs.Trees.{Ex, number, character, text, truth, null, this, local, static_field, own_field, field, index, call, static_call, super_call, create, create_array, cast, instance_of, unary, binary}
 use Rattle.java_core.specs.Programs.{Plain, PlainMethod}
 use Rattle.java_core.specs.Classes.{super_method}
 use Rattle.java_core.specs.Typing.{IsTyped}
@@ -14,16 +14,16 @@ use Rattle.flow_rules.specs.declared.items.PointAt.{PointAt}
 use Rattle.flow_rules.specs.declared.items.PointItem.{PointItem}
 use Rattle.flow_rules.specs.declared.items.PointItem.TheVariants as point
 use Rattle.flow_rules.specs.declared.items.RowItem.TheVariants as row
-use Rattle.flow_rules.specs.Operands.{object_field, call_slot, call_declaration, operand_of, operands_of, this_operand, variable_row, type_in}
-use Rattle.flow_rules.specs.Parts.{Part, a_load, an_element, a_creation, a_call, a_static_call, a_super_call, a_test, is_accessed, parts, parts_all, parts_of}
+use Rattle.flow_rules.specs.Operands.{object_field, call_slot, call_declaration, operands_of, this_operand, variable_row, type_in}
+use Rattle.flow_rules.specs.Parts.{Part, a_load, an_element, a_creation, a_call, a_static_call, a_super_call, a_test, is_accessed, parts_of}
 use Rattle.flow_rules.specs.Lists.{point_at, row_at, row_in, point_in}
 use Rattle.flow_rules.specs.Facts.{numbers, IsFactsOf}
-use Rattle.flow_rules.proofs.Listed.{first}
-use Rattle.std.proofs.lemmas.List.Elements.{Contains-append_right}
 use Rattle.facts_order.proofs.Pairs.{IsPlaced}
 use Rattle.facts_order.proofs.Points.{given_by, Follows, a_static, a_this, a_variable, a_result, a_form, point_of, item_point}
 use Rattle.facts_order.proofs.Tests.{part_follows}
 use Rattle.facts_order.proofs.Bodies.{given_labelled}
+use Rattle.run_cover.proofs.Walked.{walked}
+use Rattle.run_cover.proofs.Each.{right, here}
 
 module _ (P Q : Plain) (placed : IsPlaced P Q) (formed : IsFormed P) (typed : IsTyped P) (F : Facts) (facts : IsFactsOf P Q F) where
   -- the rows of variables, `this` and static fields
@@ -53,26 +53,13 @@ module _ (P Q : Plain) (placed : IsPlaced P Q) (formed : IsFormed P) (typed : Is
   local_row m k x a e (a_form n j p d c g) h = absurd (let d = sym (given_labelled P Q placed formed typed n j p a d c g).1 ∙ h in cc)
 
   module _ (m : ℕ) (k : PlainMethod) (stands : slice_get Q.methods m ≡ Some k) where
-    abbrev O : Ex → Operand
-    O e = operand_of P (type_in P m k) m k e
-
-    abbrev tree : Bool → Ex → List Part
-    tree u e = parts P (type_in P m k) m k u e
-
-    abbrev tree_all : Bool → Exs → List Part
-    tree_all u es = parts_all P (type_in P m k) m k u es
+    open walked P m k use {operand as O, tree, tree_all}
 
     abbrev InBody : Part → Type 0
     InBody p = Contains (parts_of P m k) p
 
     abbrev Stands : List Part → Type 0
     Stands ps = (p : Part) → Contains ps p → InBody p
-
-    right : (ps qs : List Part) → Stands (ps ++ qs) → Stands qs
-    right ps qs st p c = st p (Contains-append_right ps qs p c)
-
-    here : (p : Part) (qs : List Part) → Stands (p ∷ qs) → InBody p
-    here p qs st = st p (first p qs)
 
     -- where the row of each point of an item is that of the operand
     at_item : (o : Operand) (i : PointItem) → o.point ≡ Some i → ((a : PointAt) → Follows P Q a → a.item ≡ i → o.row ≡ Some a.row) → (q : ℕ)

@@ -40,17 +40,18 @@ use Rattle.run_cover.proofs.HasRows.{method_of, of_method}
 use Rattle.run_cover.proofs.Held.{default_plain}
 use Rattle.run_cover.proofs.Untagging.{same_env, untyped_params}
 use Rattle.facts_order.proofs.Pairs.{IsPlaced}
-use Rattle.rebuild_model.specs.Renaming.{Places, Renaming, renaming_of, retyped, retyped_if}
+use Rattle.rebuild_model.specs.Renaming.{Renaming, retyped, retyped_if}
 use Rattle.rebuild_model.specs.Matches.{IsStaticField, IsStaticMethod, MatchesSts}
 use Rattle.rebuild_model.specs.Members.{HasTypes, HasCode, new_types}
-use Rattle.rebuild_looks.specs.Known.{Known, Offers}
+use Rattle.rebuild_looks.specs.Known.{Known, Offers, sides}
 use Rattle.rebuild_looks.proofs.Fields as fields
 use Rattle.rebuild_looks.proofs.Fields.{one_old_field}
 use Rattle.rebuild_looks.proofs.Statics.{one_static_field, one_old_static_field, static_field_is, static_method_is}
 use Rattle.rebuild_types.proofs.Asked.{SeesNew}
 use Rattle.rebuild_types.proofs.Bodies.{have_slots, body_some, copied_locals, this_class}
 use Rattle.rebuild_types.proofs.Served.{renewed, served, has_slot}
-use Rattle.rebuild_types.proofs.Walk.{again}
+use Rattle.run_cover.proofs.TypedParts.{TypedBody}
+use Rattle.rebuild_types.proofs.Walk.{CopiedBody, again}
 use Rattle.twin_runs.specs.Twins.{shape_of, Link, BothPair, SameBody, AreTwins}
 use Rattle.twin_runs.proofs.SameRun.{same_run}
 use Rattle.twin_runs.proofs.States.{Alike}
@@ -63,6 +64,7 @@ use Rattle.same_run.proofs.Outcomes.{test_same, store_same}
 use Rattle.same_run.proofs.Creations.{created}
 use Rattle.same_run.proofs.Points.{at_operand, at_this}
 use Rattle.same_run.proofs.Shapes.{shape_kept}
+use Rattle.same_run.proofs.Walk.{TwinBody}
 use Rattle.same_run.proofs.Statements.{twin_body}
 
 -- what the watch of sets lets pass is of the sets
@@ -115,24 +117,20 @@ first_plain [] i a e = absurd (cc)
 first_plain (f ∷ fs) zero a e = default_plain f.ty.base f.ty.dim a (same_Some (default_of f.ty) (Object a) e)
 first_plain (f ∷ fs) (suc i) a e = first_plain fs i a e
 
-module _ (Q : Plain) (F : Facts) (H : Hierarchy) (W : Plain) (K : Known (untagged Q) Q F H W) (placed : IsPlaced (untagged Q) Q) (typed : IsTyped (untagged Q))
+module _ {Q : Plain} {F : Facts} {H : Hierarchy} {W : Plain} (K : Known (untagged Q) Q F H W) (placed : IsPlaced (untagged Q) Q) (typed : IsTyped (untagged Q))
     (facts : IsFactsOf (untagged Q) Q F) (pt : PointsTo) (t : Table)
     (A : InRange F) (O : InOrder F) (S : AreSets F pt) (B : IsTable F t) (table : H.table ≡ t.rows.items) (none : first_broken F pt H ≡ None)
     (hierarchy : IsHierarchyOf F H) where
   abbrev P : Plain
   P = untagged Q
 
-  abbrev T : Places
-  T = K.rebuilt.places
-
-  abbrev R : Renaming
-  R = renaming_of P Q H T
+  open sides K use {renaming as R}
 
   abbrev Made : Option ℕ → Kind → Kind → Type 0
-  Made o a b = MadeAs Q F H W K t o a b
+  Made o a b = MadeAs K t o a b
 
   abbrev Pair : Body → Body → Type 0
-  Pair b c = IsCopyOf Q F H W K placed facts pt t A O S B table none b c
+  Pair b c = IsCopyOf K placed facts pt t A O S B table none b c
 
   -- the new number of a static field
   static_by : (f : ℕ) (k : PlainField) → slice_get P.fields f ≡ Some k → (b : Bool) → k.is_static ≡ b → ℕ
@@ -172,18 +170,18 @@ module _ (Q : Plain) (F : Facts) (H : Hierarchy) (W : Plain) (K : Known (untagge
   M = language_of W
 
   abbrev link : Link
-  link = ties.link Q W F (solved pt) R (has Q F H W K t) (new_field Q F H W K t) new_static Made Pair
+  link = ties.link Q W F (solved pt) R (has K t) (new_field K t) new_static Made Pair
 
   -- static members
   method_copied : (d n : ℕ) → IsStaticMethod P W R d n → BothPair L M link Made Pair (L.static_body d) (M.static_body n)
   unfolding labelled_body
   method_copied d n same b eb =
-      let x = static_method_is P Q F H W K d n same in
+      let x = static_method_is K d n same in
       let k = of_method Q K.old d x.same.old x.same.old_stands in
       let body = then_some (labelled_with P Q F (solved pt) d) (slice_get Q.methods d) b eb in
       let one : k.0 ≡ body.0 = same_Some k.0 body.0 (sym k.1 ∙ body.1) in
       let old : x.same.old ≡ untag_method body.0 = sym k.2 ∙ ap untag_method one in
-      let is = body_is Q F H W K placed facts pt t A O S B table none n x.same.new x.code.written x.same.new_stands x.code.new_code in
+      let is = body_is K placed facts pt t A O S B table none n x.same.new x.code.written x.same.new_stands x.code.new_code in
       record {
         body = body_with n x.same.new x.code.written;
         found = is;
@@ -202,38 +200,38 @@ module _ (Q : Plain) (F : Facts) (H : Hierarchy) (W : Plain) (K : Known (untagge
         };
       }
 
-  statics : StaticsTied Q W F (solved pt) R (has Q F H W K t) (new_field Q F H W K t) new_static Made Pair
+  statics : StaticsTied Q W F (solved pt) R (has K t) (new_field K t) new_static Made Pair
   statics = record {
-    fields = λ f j a. record { static = static_old f j a; new = one_static_field P Q F H W K f j (new_static f) a (new_static_is f (static_old f j a)) };
+    fields = λ f j a. record { static = static_old f j a; new = one_static_field K f j (new_static f) a (new_static_is f (static_old f j a)) };
     methods = method_copied;
   }
 
   -- what each part of a body gives
   tied : (m : ℕ) (k : PlainMethod) (e : slice_get Q.methods m ≡ Some k) (c : ℕ) (p : Part) → Contains (parts_of P m k) p
-      → Ties Q W F (solved pt) R (has Q F H W K t) (new_field Q F H W K t) new_static Made Pair m c p
-  tied m k e c (a_load w b (Some f) o) i = field_tied Q F H W K placed facts pt t A O S B table none new_static b f
-      (access_of Q F H W K placed facts pt t A O S B table none new_static m k e (a_load w b (Some f) o) i)
+      → Ties Q W F (solved pt) R (has K t) (new_field K t) new_static Made Pair m c p
+  tied m k e c (a_load w b (Some f) o) i = field_tied K placed facts pt t A O S B table none new_static b f
+      (access_of K placed facts pt t A O S B table none new_static m k e (a_load w b (Some f) o) i)
   tied m k e c (a_load w b None o) i = tt
   tied m k e c (an_element w b o) i = tt
-  tied m k e c (a_creation w u o) i = created Q F H W K placed typed facts pt t A O S B table none hierarchy new_static Pair m k e
-      (have_slots Q F H W K placed typed facts pt t A O S B table none hierarchy) w u o i
-  tied m k e c (a_call w b (Some s) (Some d) es o) i = call_tied Q F H W K placed facts pt t A O S B table none new_static m k e w b s d es o i
-      (has_slot Q F H W K placed typed facts pt t A O S B table none hierarchy b s d
-      (access_of Q F H W K placed facts pt t A O S B table none new_static m k e (a_call w b (Some s) (Some d) es o) i))
+  tied m k e c (a_creation w u o) i = created K placed typed facts pt t A O S B table none hierarchy new_static Pair m k e
+      (have_slots K placed typed facts pt t A O S B table none hierarchy) w u o i
+  tied m k e c (a_call w b (Some s) (Some d) es o) i = call_tied K placed facts pt t A O S B table none new_static m k e w b s d es o i
+      (has_slot K placed typed facts pt t A O S B table none hierarchy b s d
+      (access_of K placed facts pt t A O S B table none new_static m k e (a_call w b (Some s) (Some d) es o) i))
   tied m k e c (a_call w b (Some s) None es o) i = tt
   tied m k e c (a_call w b None d es o) i = tt
   tied m k e c (a_static_call w d es o) i = tt
   tied m k e c (a_super_call w (Some d) es o) i = λ x self instance ex.
-      super_tied Q F H W K placed facts pt t A O S B table none new_static m k e w d es o i c x self instance ex
+      super_tied K placed facts pt t A O S B table none new_static m k e w d es o i c x self instance ex
   tied m k e c (a_super_call w None es o) i = tt
-  tied m k e c (a_test w x o) i = record { same = test_same Q F H W K placed typed facts pt t A O S B table none hierarchy m k e w x o i }
+  tied m k e c (a_test w x o) i = record { same = test_same K placed typed facts pt t A O S B table none hierarchy m k e w x o i }
   tied m k e c (a_pair b l r) i = tt
   tied m k e c (a_set v o) i = tt
-  tied m k e c (a_store w b (Some f) o) i = field_tied Q F H W K placed facts pt t A O S B table none new_static b f
-      (access_of Q F H W K placed facts pt t A O S B table none new_static m k e (a_store w b (Some f) o) i)
+  tied m k e c (a_store w b (Some f) o) i = field_tied K placed facts pt t A O S B table none new_static b f
+      (access_of K placed facts pt t A O S B table none new_static m k e (a_store w b (Some f) o) i)
   tied m k e c (a_store w b None o) i = tt
   tied m k e c (an_element_store w b o) i = λ pb po.
-      record { same = store_same Q F H W K placed typed facts pt t A O S B table none hierarchy m k e w b o i pb po }
+      record { same = store_same K placed typed facts pt t A O S B table none hierarchy m k e w b o i pb po }
   tied m k e c (a_return o) i = tt
 
   -- a copy is the twin of its body
@@ -251,16 +249,44 @@ module _ (Q : Plain) (F : Facts) (H : Hierarchy) (W : Plain) (K : Known (untagge
       (sym (ap (option_and_then (λ (z : PlainMethod). option_map (λ xs. body_with p.copy z xs) z.body)) p.new_stands
       ∙ ap (option_map (λ xs. body_with p.copy p.new xs)) code.new_code) ∙ p.new_body) in
       let self : k.is_static ≡ false → R.row_type (row.This m) ≡ Some p.new.owner = λ i.
-      let n = p.self i in this_class Q F H W K placed typed facts pt t A O S B table none hierarchy m k n.0 p.stands (ap is_some xs.1) i n.1
+      let n = p.self i in this_class K placed typed facts pt t A O S B table none hierarchy m k n.0 p.stands (ap is_some xs.1) i n.1
       ∙ ap (λ z. Some z) (sym n.2) in
-      let slots = have_slots Q F H W K placed typed facts pt t A O S B table none hierarchy in
+      let slots = have_slots K placed typed facts pt t A O S B table none hierarchy in
       let sees : SeesNew P Q W R m k (env_of p.copy p.new) = record
-      { self = self; locals = copied_locals Q F H W K placed typed facts pt t A O S B table none hierarchy m k p.new p.types code; result = p.types.result }
+      { self = self; locals = copied_locals K placed typed facts pt t A O S B table none hierarchy m k p.new p.types code; result = p.types.result }
       in
       let params : map shape_of (types_of k.params) ≡ map shape_of (types_of p.new.params) =
       ap (map shape_of) (sym (untyped_params k.params)) ∙ sym (ap (map shape_of) p.types.params ∙ new_shapes R m (untag_method k) 0 (untag_method k).params) in
       let locals : map shape_of (types_of k.locals) ≡ map shape_of (types_of p.new.locals) =
       ap (map shape_of) (sym (untyped_params k.locals)) ∙ sym (ap (map shape_of) code.locals ∙ new_shapes R m (untag_method k) _ (untag_method k).locals) in
+      let h = env_of p.copy p.new in
+      let there : is_some k.body ≡ true = ap is_some xs.1 in
+      let body : TypedBody =
+      record { program = Q; facts = F; formed = K.old; slots = slots; are_facts = facts; number = m; method = k; stands = p.stands; bodied = there } in
+      let serves = served K placed typed facts pt t A O S B table none hierarchy m k p.stands p.new.owner self in
+      let copied : CopiedBody = record { body = body; written = W; renaming = R; renewed = renewed K; env = h; sees = sees; serves = serves } in
+      let twin : TwinBody = record {
+        body = body;
+        written = W;
+        renaming = R;
+        sets = solved pt;
+        has = has K t;
+        new_field = new_field K t;
+        new_static = new_static;
+        Made = Made;
+        Pair = Pair;
+        env = h;
+        tie = record {
+          numbered = λ i r e. (renewed K).numbered i r e;
+          statics = statics;
+          self = self;
+          copied = λ u sc e d te fe st me. (again copied u sc e d te fe st me).type;
+          at = at_operand P Q placed K.old typed F facts m k p.stands;
+          at_this = at_this P Q placed K.old typed F facts m k p.stands;
+          kinded = method_parts Q F K.old typed slots facts m k p.stands;
+          ties = tied m k p.stands p.new.owner;
+        };
+      } in
       subst (λ z. SameBody L M link Made Pair z c) old (subst (λ z. SameBody L M link Made Pair (body_with m k (label_sts 0 xs.0)) z) new (record {
         env = record {
           locals = map_join k.params k.locals ∙ ap (λ z. z ++ map shape_of (types_of k.locals)) params
@@ -271,20 +297,7 @@ module _ (Q : Plain) (F : Facts) (H : Hierarchy) (W : Plain) (K : Known (untagge
         rest = same_defaults (types_of k.locals) (types_of p.new.locals) locals;
         plain = defaults_plain (types_of k.locals);
         ends = result_ends (R.row_type (result_in k.slot m)) k.result ∙ ap (λ z. option_map_or default_of z Nothing) (sym p.types.result);
-        code = twin_body Q W F K.old slots facts R (solved pt) (has Q F H W K t) (new_field Q F H W K t) new_static Made Pair m k p.stands (ap is_some xs.1)
-            (env_of p.copy p.new)
-            (record {
-              numbered = λ i r e. (renewed Q F H W K).numbered i r e;
-              statics = statics;
-              self = self;
-              copied = λ u sc e d te fe st me. (again Q W F K.old slots facts R (renewed Q F H W K) m k p.stands (ap is_some xs.1) (env_of p.copy p.new) sees
-                  (served Q F H W K placed typed facts pt t A O S B table none hierarchy m k p.stands p.new.owner self) u sc e d te fe st me).type;
-              at = at_operand P Q placed K.old typed F facts m k p.stands;
-              at_this = at_this P Q placed K.old typed F facts m k p.stands;
-              kinded = method_parts Q F K.old typed slots facts m k p.stands;
-              ties = tied m k p.stands p.new.owner;
-            })
-            xs.0 code.written xs.1 (subst (λ g. TypedSts P g (bare_sts xs.0)) (same_env m k)
+        code = twin_body twin xs.0 code.written xs.1 (subst (λ g. TypedSts P g (bare_sts xs.0)) (same_env m k)
             (typed.methods m (untag_method k) at (bare_sts xs.0) (ap untag_body xs.1)))
             ((K.old.methods m (untag_method k) at).code (bare_sts xs.0) (ap untag_body xs.1))
             (subst (λ z. MatchesSts P W R (env_of m k) z code.written) xs.2
@@ -294,20 +307,20 @@ module _ (Q : Plain) (F : Facts) (H : Hierarchy) (W : Plain) (K : Known (untagge
   -- a field that objects of a creation keep is offered where they stand
   record IsKept (o : Option ℕ) (f : ℕ) : Type 0 where
     node : ℕ
-    offers : Offers P Q F H W K node (column.Fld f)
+    offers : Offers K node (column.Fld f)
 
-  kept : (o : Option ℕ) (f : ℕ) → has Q F H W K t o f ≡ true → IsKept o f
+  kept : (o : Option ℕ) (f : ℕ) → has K t o f ≡ true → IsKept o f
   kept o f h = let s = some_test (site_in (numbers P Q) o)
-      (λ s. has_in Q F H W K t s f) h in record { node = node_of Q F H W K t s.0; offers = has_offered Q F H W K t pt A O S B table none s.0 f s.2 }
+      (λ s. has_in K t s f) h in record { node = node_of K t s.0; offers = has_offered K t pt A O S B table none s.0 f s.2 }
 
-  kept_apart : (o : Option ℕ) (f g : ℕ) → has Q F H W K t o f ≡ true → has Q F H W K t o g ≡ true → new_field Q F H W K t f ≡ new_field Q F H W K t g → f ≡ g
+  kept_apart : (o : Option ℕ) (f g : ℕ) → has K t o f ≡ true → has K t o g ≡ true → new_field K t f ≡ new_field K t g → f ≡ g
   kept_apart o f g hf hg e =
       let a = kept o f hf in
       let b = kept o g hg in
-      let x = fields.new_field P Q F H W K f a.offers.node a.offers.stands in
-      let y = fields.new_field P Q F H W K g b.offers.node b.offers.stands in
-      let same : x.0 ≡ y.0 = sym (new_field_is Q F H W K t f a.node a.offers) ∙ e ∙ new_field_is Q F H W K t g b.node b.offers in
-      one_old_field P Q F H W K f g y.0 (subst (λ z. fields.IsNewField P Q F H W K f z) same x.1) y.1
+      let x = fields.new_field K f a.offers.node a.offers.stands in
+      let y = fields.new_field K g b.offers.node b.offers.stands in
+      let same : x.0 ≡ y.0 = sym (new_field_is K t f a.node a.offers) ∙ e ∙ new_field_is K t g b.node b.offers in
+      one_old_field K f g y.0 (subst (λ z. fields.IsNewField K f z) same x.1) y.1
 
   -- a field of the type of another over another class has the shape of its type
   field_shape : (f g : ℕ) (old new : PlainField) (k : Option ℕ) → slice_get P.fields f ≡ Some old → slice_get W.fields g ≡ Some new
@@ -316,22 +329,21 @@ module _ (Q : Plain) (F : Facts) (H : Hierarchy) (W : Plain) (K : Known (untagge
       ap (λ z. option_map shape_of (option_map (λ (z : PlainField). z.ty) z)) eo ∙ ap (λ z. Some z) (shape_kept k old.ty)
       ∙ ap (λ z. Some (shape_of z)) (sym ty) ∙ sym (ap (λ z. option_map shape_of (option_map (λ (z : PlainField). z.ty) z)) en)
 
-  kept_shapes : (o : Option ℕ) (f : ℕ) → has Q F H W K t o f ≡ true
-      → option_map shape_of (field_type P f) ≡ option_map shape_of (field_type W (new_field Q F H W K t f))
+  kept_shapes : (o : Option ℕ) (f : ℕ) → has K t o f ≡ true → option_map shape_of (field_type P f) ≡ option_map shape_of (field_type W (new_field K t f))
   kept_shapes o f h =
       let a = kept o f h in
-      let x = fields.new_field P Q F H W K f a.offers.node a.offers.stands in
+      let x = fields.new_field K f a.offers.node a.offers.stands in
       field_shape f x.0 x.1.is.old x.1.field (R.row_type (row.Field f)) x.1.is.old_stands x.1.stands x.1.is.type
-      ∙ ap (λ z. option_map shape_of (field_type W z)) (sym (new_field_is Q F H W K t f a.node a.offers))
+      ∙ ap (λ z. option_map shape_of (field_type W z)) (sym (new_field_is K t f a.node a.offers))
 
   static_shapes : (f : ℕ) → is_static_field P f ≡ true → option_map shape_of (field_type P f) ≡ option_map shape_of (field_type W (new_static f))
   static_shapes f h =
-      let x = static_field_is P Q F H W K f (new_static f) (new_static_is f h) in
+      let x = static_field_is K f (new_static f) (new_static_is f h) in
       field_shape f (new_static f) x.same.old x.same.new (R.row_type (row.Field f)) x.same.old_stands x.same.new_stands x.type
 
   statics_begin : (f : ℕ) → is_static_field P f ≡ true → slice_get (statics_of P) f ≡ slice_get (statics_of W) (new_static f)
   statics_begin f h =
-      let x = static_field_is P Q F H W K f (new_static f) (new_static_is f h) in
+      let x = static_field_is K f (new_static f) (new_static_is f h) in
       slice_get-map (λ (z : PlainField). default_of z.ty) P.fields f ∙ ap (option_map (λ (z : PlainField). default_of z.ty)) x.same.old_stands
       ∙ ap (λ z. Some z) (same_default x.same.old.ty (retyped (R.row_type (row.Field f)) x.same.old.ty) (shape_kept (R.row_type (row.Field f)) x.same.old.ty))
       ∙ ap (λ z. Some (default_of z)) (sym x.type)
@@ -345,13 +357,12 @@ module _ (Q : Plain) (F : Facts) (H : Hierarchy) (W : Plain) (K : Known (untagge
     sees_all = λ b vs h e i v d. all_of P Q F (solved pt) b 0 vs h e i i (from_nothing i) v d;
     passes = λ p v h. refl;
     passes_all = λ b vs h. refl;
-    words = words_made Q F H W K t;
+    words = words_made K t;
     old_places = places P;
     new_places = places W;
     fields_apart = kept_apart;
     field_shapes = kept_shapes;
-    statics_apart = λ f g hf hg e. one_old_static_field P Q F H W K f g (new_static g) (subst (λ z. IsStaticField P W R f z) e (new_static_is f hf))
-        (new_static_is g hg);
+    statics_apart = λ f g hf hg e. one_old_static_field K f g (new_static g) (subst (λ z. IsStaticField P W R f z) e (new_static_is f hf)) (new_static_is g hg);
     static_shapes = static_shapes;
     statics = statics_begin;
     plain_statics = first_plain P.fields;

@@ -1,6 +1,6 @@
 -- What the creations of a program make in the program that rebuilds it, which fields their objects keep, and which numbers these have.
 use Rattle.std.proofs.Common.{◌≡◌, ℕ, ◌<◌, Option, Some, None, length, refl, ap, ◌∙◌, subst}
-use Rattle.std.specs.Prelude.{Bool, true, false, ◌==◌, ◌&&◌}
+use Rattle.std.specs.Prelude.{Bool, true, false, ◌==◌}
 use Rattle.std.specs.Option.{option_map_or, unwrap_or}
 use Rattle.std.proofs.lemmas.Bool.{false≢true}
 use Rattle.kaba_base.specs.declared.NodeId.{NodeId}
@@ -34,14 +34,14 @@ use Rattle.flow_rules.specs.Facts.{numbers}
 use Rattle.run_cover.specs.Covers.{point_sites, at_point, solved, passes}
 use Rattle.java_core.specs.Untagged.{untagged}
 use Rattle.run_cover.proofs.Kinded.{site_type}
-use Rattle.rebuild_model.specs.Renaming.{Places, Renaming, renaming_of}
-use Rattle.rebuild_looks.specs.Known.{Known, Offers}
+use Rattle.rebuild_looks.specs.Known.{Known, Offers, sides}
 use Rattle.rebuild_looks.proofs.Nodes.{offers_own}
 use Rattle.rebuild_looks.proofs.Fields as fields
 use Rattle.rebuild_looks.proofs.Fields.{finds_field, one_field}
 use Rattle.rebuild_given.proofs.Rest.{half}
 use Rattle.rebuild_given.proofs.Needed as needed
 use Rattle.same_run.proofs.Ties.{type_at, type_over}
+use Rattle.java_meaning.proofs.Operators.{and_false}
 
 -- what a test of an option found
 pub some_test : {A : Type 0} (o : Option A) (f : A → Bool) → option_map_or f o false ≡ true → (a : A) × (o ≡ Some a) × (f a ≡ true)
@@ -56,22 +56,14 @@ class_free P Char d t e = refl
 class_free P Str d t e = refl
 class_free P (Class c) d t e = absurd (cc)
 
-pub and_false : (b c : Bool) → c ≡ false → (b && c) ≡ false
-and_false true c e = e
-and_false false c e = refl
-
 pub free_apart : (P : Plain) (s : Ty) (t : ObjectType) → object_of s ≡ None → is_subtype P s (type_at t) ≡ false
 free_apart P s t e = and_false (s.dim == t.dim) (is_sub_base P s.base (Class t.class)) (class_free P s.base s.dim t e)
 
-module _ (Q : Plain) (F : Facts) (H : Hierarchy) (W : Plain) (K : Known (untagged Q) Q F H W) (t : Table) where
+module _ {Q : Plain} {F : Facts} {H : Hierarchy} {W : Plain} (K : Known (untagged Q) Q F H W) (t : Table) where
   abbrev P : Plain
   P = untagged Q
 
-  abbrev T : Places
-  T = K.rebuilt.places
-
-  abbrev R : Renaming
-  R = renaming_of P Q H T
+  open sides K use {places as T, renaming as R}
 
   -- the node of a site
   abbrev pub node_of : ℕ → ℕ
@@ -97,16 +89,15 @@ module _ (Q : Plain) (F : Facts) (H : Hierarchy) (W : Plain) (K : Known (untagge
   unfoldable pub new_field : ℕ → ℕ
   new_field f = option_map_or (λ c. option_map_or (λ (p : NodeId). found_at p.0 f) (place_of_column H c) 0) ((numbers P Q).column (column.Fld f)) 0
 
-  pub new_field_is : (f n : ℕ) (o : Offers P Q F H W K n (column.Fld f)) → new_field f ≡ (fields.new_field P Q F H W K f o.node o.stands).0
+  pub new_field_is : (f n : ℕ) (o : Offers K n (column.Fld f)) → new_field f ≡ (fields.new_field K f o.node o.stands).0
   unfolding new_field
   new_field_is f n o =
-      let own = offers_own P Q F H W K o.node (column.Fld f) o.stands in
+      let own = offers_own K o.node (column.Fld f) o.stands in
       ap (λ z. option_map_or (λ c. option_map_or (λ (p : NodeId). found_at p.0 f) (place_of_column H c) 0) z 0) o.stands.numbered
       ∙ ap (λ z. option_map_or (λ (p : NodeId). found_at p.0 f) z 0) o.stands.placed
-      ∙ ap (λ z. found_at z f) o.stands.at
-      ∙ ap (λ z. unwrap_or z 0) (finds_field P Q F H W K f o.node own)
-      ∙ one_field P Q F H W K f (fields.new_field P Q F H W K f own.node own.stands).0 (fields.new_field P Q F H W K f o.node o.stands).0
-      (fields.new_field P Q F H W K f own.node own.stands).1 (fields.new_field P Q F H W K f o.node o.stands).1
+      ∙ ap (λ z. found_at z f) o.stands.at ∙ ap (λ z. unwrap_or z 0) (finds_field K f o.node own)
+      ∙ one_field K f (fields.new_field K f own.node own.stands).0 (fields.new_field K f o.node o.stands).0
+      (fields.new_field K f own.node own.stands).1 (fields.new_field K f o.node o.stands).1
 
   -- the words
   pub words_made : MadeAs None (an_array words_type) (an_array words_type)
@@ -115,10 +106,10 @@ module _ (Q : Plain) (F : Facts) (H : Hierarchy) (W : Plain) (K : Known (untagge
   module _ (pt : PointsTo) (A : InRange F) (O : InOrder F) (S : AreSets F pt) (B : IsTable F t) (table : H.table ≡ t.rows.items)
       (none : first_broken F pt H ≡ None) where
     -- a field that a site's row has is offered at the site's node
-    pub has_offered : (s f : ℕ) → has_in s f ≡ true → Offers P Q F H W K (node_of s) (column.Fld f)
+    pub has_offered : (s f : ℕ) → has_in s f ≡ true → Offers K (node_of s) (column.Fld f)
     has_offered s f e =
         let c = some_test ((numbers P Q).column (column.Fld f)) (λ c. bit (bits t.rows.items (site_row F s)) c) e in
-        needed.offers_item P Q F H W K (node_of s) c.0 (column.Fld f) c.1 ((half F pt t A O S B H table none).offered (site_row F s) c.0 c.2)
+        needed.offers_item K (node_of s) c.0 (column.Fld f) c.1 ((half F pt t A O S B H table none).offered (site_row F s) c.0 c.2)
 
     -- a site that an operand meets is at a point of the operand's row
     pub record IsMet (b : Operand) (s : ℕ) : Type 0 where

@@ -1,167 +1,78 @@
 -- The same of targets, statements and bodies.
 use Rattle.std.proofs.Common.{◌≡◌, ℕ, List, [], ◌∷◌, ◌++◌, Option, Some, None, refl, sym, ap, ◌∙◌, subst, length}
-use Rattle.std.specs.Prelude.{Bool, true, false, slice_get, Contains}
-use Rattle.std.specs.Option.{is_some}
+use Rattle.std.specs.Prelude.{Bool, true, false, Contains}
 use Rattle.std.proofs.lemmas.Option.{same_Some}
 use Rattle.kaba_base.specs.declared.Place.{Place}
-use Rattle.java_core.specs.Trees.{Ex, Exs, Target, to_local, to_static, to_own, to_field, to_element, no_target, St, Sts, Arms, declare, block, assign, act, print, choose, loop, return, break, continue, no_st, st_then, no_other, otherwise, arm}
-use Rattle.java_core.specs.Programs.{Plain, PlainMethod}
-use Rattle.java_core.specs.Types.{Static, Env, env_of, field_type, fits_in, target_type, static}
-use Rattle.java_core.specs.Typing.{Typed, TypedTarget, TypedTest, TypedSt, TypedSts, TypedArms, t_to_field, t_to_element, t_test, t_declare_as, t_block, t_assign, t_act, t_print, t_choose, t_loop, t_return, t_st_then, t_otherwise, t_arm}
-use Rattle.java_core.specs.Formed.{IsFormed, FormedEx, FormedTarget, FormedOption, FormedSt, FormedSts, FormedArms, numbers_below, f_to_own, f_to_field, f_to_element, f_some, f_declare, f_block, f_assign, f_act, f_print, f_choose, f_loop, f_return, f_st_then, f_otherwise, f_arm}
-use Rattle.java_meaning.specs.Moment.{Kind, Body, Lang}
-use Rattle.java_core.specs.Untagged.{bare, bare_if, bare_target, bare_st, bare_sts, bare_arms, untag_method, untagged}
-use Rattle.fact_model.specs.declared.facts.Facts.{Facts}
-use Rattle.flow_rules.specs.declared.items.ObjectType.{ObjectType}
-use Rattle.flow_rules.specs.declared.items.Operand.{Operand}
-use Rattle.flow_rules.specs.declared.items.RowItem.{RowItem}
+use Rattle.java_core.specs.Trees.{Ex, Target, to_local, to_static, to_own, to_field, to_element, no_target, St, Sts, Arms, declare, block, assign, act, print, choose, loop, return, break, continue, no_st, st_then, no_other, otherwise, arm}
+use Rattle.java_core.specs.Programs.{Plain}
+use Rattle.java_core.specs.Types.{field_type, fits_in, target_type, static}
+use Rattle.java_core.specs.Typing.{TypedTarget, TypedTest, TypedSt, TypedSts, TypedArms, t_to_field, t_to_element, t_test, t_declare_as, t_block, t_assign, t_act, t_print, t_choose, t_loop, t_return, t_st_then, t_otherwise, t_arm}
+use Rattle.java_core.specs.Formed.{IsFormed, FormedTarget, FormedOption, FormedSt, FormedSts, FormedArms, numbers_below, f_to_own, f_to_field, f_to_element, f_some, f_declare, f_block, f_assign, f_act, f_print, f_choose, f_loop, f_return, f_st_then, f_otherwise, f_arm}
+use Rattle.java_core.specs.Untagged.{bare_if, bare_target, bare_st, bare_sts, bare_arms, untag_method, untagged}
 use Rattle.flow_rules.specs.Labels.{label_sts}
-use Rattle.flow_rules.specs.Operands.{object_field, row_of, operand_of, operands_of, this_operand, type_in}
-use Rattle.flow_rules.specs.Parts.{Part, a_store, an_element_store, is_accessed, parts, parts_all, parts_if, parts_assign, parts_st, parts_sts, parts_arms, parts_body, parts_of}
-use Rattle.flow_rules.specs.Facts.{IsFactsOf}
-use Rattle.run_cover.specs.Covers.{Sets}
-use Rattle.run_cover.specs.Slotted.{HaveSlots}
+use Rattle.flow_rules.specs.Operands.{object_field, this_operand, type_in}
+use Rattle.flow_rules.specs.Parts.{a_store, an_element_store, is_accessed, parts_if, parts_assign, parts_st, parts_arms, parts_body, parts_of}
 use Rattle.run_cover.proofs.Untagging.{unlabel_sts}
-use Rattle.rebuild_model.specs.Renaming.{Renaming}
-use Rattle.rebuild_model.specs.Matches.{Matches, MatchesIf, MatchesTarget, MatchesSt, MatchesSts, MatchesArms, m_none, m_some, m_to_local, m_to_static, m_to_own, m_to_field, m_to_element, m_declare, m_block, m_assign, m_act, m_print, m_choose, m_loop, m_return, m_break, m_continue, m_no_st, m_st_then, m_no_other, m_otherwise, m_arm}
-use Rattle.rebuild_types.proofs.Asked.{new_class}
-use Rattle.twin_runs.specs.Twins.{Link, SameIf, same_none, same_some, Same, SameTarget, SameSt, SameSts, SameArms}
+use Rattle.rebuild_model.specs.Matches.{MatchesIf, MatchesTarget, MatchesSt, MatchesSts, MatchesArms, m_none, m_some, m_to_local, m_to_static, m_to_own, m_to_field, m_to_element, m_declare, m_block, m_assign, m_act, m_print, m_choose, m_loop, m_return, m_break, m_continue, m_no_st, m_st_then, m_no_other, m_otherwise, m_arm}
+use Rattle.rebuild_types.proofs.Walk.{copying}
+use Rattle.twin_runs.specs.Twins.{SameIf, same_none, same_some, SameTarget, SameSt, SameSts, SameArms}
 use Rattle.twin_runs.specs.Twins.{same_to_local, same_to_static, same_to_own, same_to_field, same_to_element, same_declare, same_block, same_assign, same_act, same_print, same_choose, same_loop, same_return, same_break, same_continue, same_no_st, same_st_then, same_no_other, same_otherwise, same_arm}
 use Rattle.rebuild_types.proofs.Statements.{fits_some}
-use Rattle.same_run.proofs.Ties as tied
-use Rattle.same_run.proofs.Ties.{FieldTied, Ties, BodyTied}
 use Rattle.same_run.proofs.Walk as walk
+use Rattle.same_run.proofs.Walk.{TwinBody, twins}
+use Rattle.run_cover.proofs.Walked.{walked}
+use Rattle.run_cover.proofs.Each.{left, right}
 
-module _ (Q W : Plain) (F : Facts) (formed : IsFormed (untagged Q)) (slots : HaveSlots (untagged Q)) (facts : IsFactsOf (untagged Q) Q F) (R : Renaming)
-    (S : Sets) (has : Option ℕ → ℕ → Bool) (new_field new_static : ℕ → ℕ) (Made : Option ℕ → Kind → Kind → Type 0) (Pair : Body → Body → Type 0)
-    (m : ℕ) (k : PlainMethod) (stands : slice_get Q.methods m ≡ Some k) (body : is_some k.body ≡ true) (h : Env)
-    (tie : BodyTied Q W F S R has new_field new_static Made Pair m k h) where
+module _ (A : TwinBody) where
+  open A use {body as B, written as W, renaming as R, Made, Pair, env as h, tie}
+  open B use {program as Q, number as m, method as k}
+  open copying B W R use {IsCopy}
+  open twins A use {lang as L, written as M, link as K, Twin}
+
   abbrev P : Plain
   P = untagged Q
 
-  abbrev g : Env
-  g = env_of m k
-
-  abbrev L : Lang
-  L = tied.L Q W F S R has new_field new_static Made Pair
-
-  abbrev M : Lang
-  M = tied.M Q W F S R has new_field new_static Made Pair
-
-  abbrev K : Link
-  K = tied.link Q W F S R has new_field new_static Made Pair
-
-  abbrev C : Option RowItem → Option ℕ
-  C i = new_class P Q W R i
-
-  abbrev type : Ex → Option ObjectType
-  type e = type_in P m k e
-
-  abbrev row_at : Ex → Option RowItem
-  row_at e = row_of P (type_in P m k) m k e
-
-  abbrev O : Ex → Operand
-  O e = operand_of P (type_in P m k) m k e
-
-  abbrev operands : Exs → List Operand
-  operands es = operands_of P (type_in P m k) m k es
-
-  abbrev tree : Bool → Ex → List Part
-  tree u e = parts P (type_in P m k) m k u e
-
-  abbrev tree_all : Bool → Exs → List Part
-  tree_all u es = parts_all P (type_in P m k) m k u es
-
-  abbrev Stands : List Part → Type 0
-  Stands ps = (p : Part) → Contains ps p → Contains (parts_of P m k) p
-
-  abbrev IsTyped : Ex → Type 0
-  IsTyped e = Typed P g (bare e)
-
-  abbrev IsFormedEx : List ℕ → Ex → Type 0
-  IsFormedEx scope e = FormedEx P (untag_method k) scope (bare e)
-
-  abbrev IsCopy : Ex → Ex → Type 0
-  IsCopy e d = Matches P W R g (bare e) d
-
-  abbrev old : Ex → Static
-  old e = static P g (bare e)
-
-  abbrev Twin : Ex → Ex → Type 0
-  Twin e d = Same L M K Made Pair g h e d
-
-  abbrev Field : Operand → ℕ → Type 0
-  Field b f = FieldTied Q W F S R has new_field new_static Made Pair b f
-
-  abbrev Tied : Part → Type 0
-  Tied p = Ties Q W F S R has new_field new_static Made Pair m h.self p
-
-  left : (ps qs : List Part) → Stands (ps ++ qs) → Stands ps
-  left ps qs st = walk.left Q W F formed slots facts R S has new_field new_static Made Pair m k stands body h tie ps qs st
-
-  right : (ps qs : List Part) → Stands (ps ++ qs) → Stands qs
-  right ps qs st = walk.right Q W F formed slots facts R S has new_field new_static Made Pair m k stands body h tie ps qs st
-
-  asked : (p : Part) (qs : List Part) → Stands (p ∷ qs) → Tied p
-  asked p qs st = walk.asked Q W F formed slots facts R S has new_field new_static Made Pair m k stands body h tie p qs st
-
-  twin : (u : Bool) (sc : List ℕ) (e d : Ex) → IsTyped e → IsFormedEx sc e → Stands (tree u e) → IsCopy e d → Twin e d
-  twin u sc e d ty fo st me = walk.twin Q W F formed slots facts R S has new_field new_static Made Pair m k stands body h tie u sc e d ty fo st me
+  open walked P m k use {env as g, type, operand as O, tree, Stands, IsTyped, IsFormed as IsFormedEx, static as old, tree_if as if_there, tree_sts as sts}
 
   twin_if : (sc : List ℕ) (e d : Option Ex) → ((x : Ex) → e ≡ Some x → IsTyped x) → FormedOption P (untag_method k) sc (bare_if e)
       → Stands (parts_if P (type_in P m k) m k e) → MatchesIf P W R g (bare_if e) d → SameIf L M K Made Pair g h e d
   twin_if sc None d ty fo st m_none = same_none
-  twin_if sc (Some e) d ty (f_some fe) st (m_some {d = c} me) = same_some (twin false sc e c (ty e refl) fe st me)
+  twin_if sc (Some e) d ty (f_some fe) st (m_some {d = c} me) = same_some (walk.twin A false sc e c (ty e refl) fe st me)
 
   assigned : (sc : List ℕ) (p : Place) (b c : Target) (e d : Ex) → TypedTarget P g (bare_target b) → IsTyped e
       → fits_in P (old e) (target_type P g (bare_target b)) ≡ true → FormedTarget P (untag_method k) sc (bare_target b) → IsFormedEx sc e
       → Stands (parts_assign P (type_in P m k) m k p b e) → MatchesTarget P W R g (bare_target b) c → IsCopy e d
       → SameTarget L M K Made Pair g h e b c × Twin e d
-  assigned sc p (to_local t i) c e d tb te fit fb fe st m_to_local me = (same_to_local, twin false sc e d te fe (left (tree false e) _ st) me)
+  assigned sc p (to_local t i) c e d tb te fit fb fe st m_to_local me = (same_to_local, walk.twin A false sc e d te fe (left (tree false e) _ st) me)
   assigned sc p (to_static t f) c e d tb te fit fb fe st (m_to_static {h = n} s) me =
-      (same_to_static (tie.statics.fields f n s), twin false sc e d te fe (left (tree false e) _ st) me)
+      (same_to_static (tie.statics.fields f n s), walk.twin A false sc e d te fe (left (tree false e) _ st) me)
   assigned sc p (to_own t f) c e d tb te fit (f_to_own inst own) fe st (m_to_own {v = v}) me = (
-    same_to_own (walk.own_twin Q W F formed slots facts R S has new_field new_static Made Pair m k stands body h tie t v f (tie.self inst)
-        (asked (a_store p (this_operand m k) (Some f) (O e)) [] (right (tree true e) _ st) tie.at_this own.member own.stands own.kind)),
-    twin true sc e d te fe (left (tree true e) _ st) me,
+    same_to_own (walk.own_twin A t v f (tie.self inst)
+        (walk.asked A (a_store p (this_operand m k) (Some f) (O e)) [] (right (tree true e) _ st) tie.at_this own.member own.stands own.kind)),
+    walk.twin A true sc e d te fe (left (tree true e) _ st) me,
   )
   assigned sc p (to_field t b x) c e d (t_to_field tb some) te fit (f_to_field fb n) fe st (m_to_field {d = b2} {f = f} mb l) me =
       let both = left (tree (is_accessed b) b ++ tree true e) _ st in
       let inner = left (tree (is_accessed b) b) (tree true e) both in
-      let cls = walk.base_class Q W F formed slots facts R S has new_field new_static Made Pair m k stands body h tie b x f l in
-      let base = walk.based Q W F formed slots facts R S has new_field new_static Made Pair m k stands body h tie
-      (is_accessed b) sc b b2 cls.0 tb fb inner mb cls.1 in (
-        same_to_field (twin (is_accessed b) sc b b2 tb fb inner mb)
-            (walk.field_twin Q W F formed slots facts R S has new_field new_static Made Pair m k stands body h tie b b2 x f base.class l base.row_is base.new
-            (walk.store_tie Q W F formed slots facts R S has new_field new_static Made Pair m k stands body h tie p b e x f l
-            (fits_some P (old e) (field_type P f)
-            (ap (fits_in P (old e)) (sym (walk.value_is Q W F formed slots facts R S has new_field new_static Made Pair m k stands body h tie b x f l))
+      let cls = walk.base_class A b x f l in
+      let base = walk.based A (is_accessed b) sc b b2 cls.0 tb fb inner mb cls.1 in (
+        same_to_field (walk.twin A (is_accessed b) sc b b2 tb fb inner mb) (walk.field_twin A b b2 x f base.class l base.row_is base.new
+            (walk.store_tie A p b e x f l (fits_some P (old e) (field_type P f) (ap (fits_in P (old e)) (sym (walk.value_is A b x f l))
             ∙ fit)) (tie.at (is_accessed b) b inner)
-            (asked (a_store p (O b) (object_field P (type b) x) (O e)) [] (right (tree (is_accessed b) b ++ tree true e) _ st)))),
-        twin true sc e d te fe (right (tree (is_accessed b) b) (tree true e) both) me,
+            (walk.asked A (a_store p (O b) (object_field P (type b) x) (O e)) [] (right (tree (is_accessed b) b ++ tree true e) _ st)))),
+        walk.twin A true sc e d te fe (right (tree (is_accessed b) b) (tree true e) both) me,
       )
   assigned sc p (to_element t b i) c e d (t_to_element tb some ti num) te fit (f_to_element fb fi) fe st (m_to_element {d = b2} {j = j} mb mi) me =
       let three = left (tree true b ++ tree false i ++ tree true e) _ st in
       let two = left (tree true b ++ tree false i) (tree true e) three in
-      let q = asked (an_element_store p (O b) (O e)) [] (right (tree true b ++ tree false i ++ tree true e) _ st) in (
-        same_to_element (twin true sc b b2 tb fb (left (tree true b) (tree false i) two) mb)
-            (twin false sc i j ti fi (right (tree true b) (tree false i) two) mi)
-            (λ o r x y z w s1 s2 made held et eu mo mr.
-            (q (walk.pointed Q W F formed slots facts R S has new_field new_static Made Pair m k stands body h tie b
-            (left (tree true b) (tree false i) two))
-            (walk.pointed Q W F formed slots facts R S has new_field new_static Made Pair m k stands body h tie e
-            (right (tree true b ++ tree false i) (tree true e) three))).same o r x y z w s1 s2 made held et eu
-            (walk.at_spot Q W F formed slots facts R S has new_field new_static Made Pair m k stands body h tie b o mo)
-            (walk.at_spot Q W F formed slots facts R S has new_field new_static Made Pair m k stands body h tie e r mr)),
-        twin true sc e d te fe (right (tree true b ++ tree false i) (tree true e) three) me,
+      let q = walk.asked A (an_element_store p (O b) (O e)) [] (right (tree true b ++ tree false i ++ tree true e) _ st) in (
+        same_to_element (walk.twin A true sc b b2 tb fb (left (tree true b) (tree false i) two) mb)
+            (walk.twin A false sc i j ti fi (right (tree true b) (tree false i) two) mi) (λ o r x y z w s1 s2 made held et eu mo mr. (q (walk.pointed A b
+            (left (tree true b) (tree false i) two)) (walk.pointed A e
+            (right (tree true b ++ tree false i) (tree true e) three))).same o r x y z w s1 s2 made held et eu (walk.at_spot A b o mo) (walk.at_spot A e r mr)),
+        walk.twin A true sc e d te fe (right (tree true b ++ tree false i) (tree true e) three) me,
       )
   assigned sc p no_target c e d tb te fit fb fe st mb me = elim tb [ ]
-
-  abbrev if_there : Option Ex → List Part
-  if_there e = parts_if P (type_in P m k) m k e
-
-  abbrev sts : Sts → List Part
-  sts xs = parts_sts P (type_in P m k) m k xs
 
   test_typed : (e : Option Ex) → TypedTest P g (bare_if e) → (x : Ex) → e ≡ Some x → IsTyped x
   test_typed None ty x q = absurd (cc)
@@ -173,14 +84,14 @@ module _ (Q W : Plain) (F : Facts) (formed : IsFormed (untagged Q)) (slots : Hav
         → SameSt L M K Made Pair g h x y
     twin_st l sc (declare t i None) y ty fo st (m_declare m_none) = same_declare same_none
     twin_st l sc (declare t i (Some e)) y (t_declare_as te fit) (f_declare new (f_some fe)) st (m_declare (m_some {d = d} me)) =
-        same_declare (same_some (twin false (i ∷ sc) e d te fe (left (tree false e) _ st) me))
+        same_declare (same_some (walk.twin A false (i ∷ sc) e d te fe (left (tree false e) _ st) me))
     twin_st l sc (block t xs) y (t_block txs) (f_block fxs) st (m_block {ys = ys} ms) = same_block (twin_sts l sc xs ys txs fxs st ms)
     twin_st l sc (assign t b e) y (t_assign tb te fit) (f_assign fb fe) st
         (m_assign {c = c} {d = d} mb me) = let z = assigned sc t.place b c e d tb te fit fb fe st mb me in same_assign z.0 z.1
-    twin_st l sc (act t e) y (t_act te) (f_act q fe) st (m_act {d = d} me) = same_act (twin false sc e d te fe st me)
+    twin_st l sc (act t e) y (t_act te) (f_act q fe) st (m_act {d = d} me) = same_act (walk.twin A false sc e d te fe st me)
     twin_st l sc (print t n None) y ty fo st (m_print m_none) = same_print same_none
     twin_st l sc (print t n (Some e)) y (t_print te pr) (f_print or (f_some fe)) st (m_print (m_some {d = d} me)) = same_print
-        (same_some (twin false sc e d te fe st me))
+        (same_some (walk.twin A false sc e d te fe st me))
     twin_st l sc (choose t no_other) y ty fo st mx = elim fo [ ]
     twin_st l sc (choose t (otherwise xs)) y ty fo st mx = elim fo [ ]
     twin_st l sc (choose t (arm e xs more)) y (t_choose ty) (f_choose fo) st (m_choose {b = b} ma) = same_choose (twin_arms l sc (arm e xs more) b ty fo st ma)
@@ -194,7 +105,7 @@ module _ (Q W : Plain) (F : Facts) (formed : IsFormed (untagged Q)) (slots : Hav
         (twin_sts _ _ code written tb fb (right (sts head ++ if_there test ++ sts step) (sts code) st) mb)
     twin_st l sc (return t None) y ty fo st (m_return m_none) = same_return same_none
     twin_st l sc (return t (Some e)) y (t_return te r fit) (f_return (f_some fe)) st (m_return (m_some {d = d} me)) = same_return
-        (same_some (twin false sc e d te fe (left (tree false e) _ st) me))
+        (same_some (walk.twin A false sc e d te fe (left (tree false e) _ st) me))
     twin_st l sc (break t) y ty fo st m_break = same_break
     twin_st l sc (continue t) y ty fo st m_continue = same_continue
 
@@ -212,7 +123,7 @@ module _ (Q W : Plain) (F : Facts) (formed : IsFormed (untagged Q)) (slots : Hav
     twin_arms l sc (otherwise xs) ys (t_otherwise ty) (f_otherwise fo) st (m_otherwise {ys = zs} mx) = same_otherwise (twin_sts l sc xs zs ty fo st mx)
     twin_arms l sc (arm e xs more) ys (t_arm te b txs tm) (f_arm fe fxs fm) st (m_arm {d = d} {ys = zs} {b = rest} me mx mm) =
         let both = left (tree false e ++ sts xs) (parts_arms P (type_in P m k) m k more) st in
-        same_arm (twin false sc e d te fe (left (tree false e) (sts xs) both) me) (twin_sts l sc xs zs txs fxs (right (tree false e) (sts xs) both) mx)
+        same_arm (walk.twin A false sc e d te fe (left (tree false e) (sts xs) both) me) (twin_sts l sc xs zs txs fxs (right (tree false e) (sts xs) both) mx)
         (twin_arms l sc more rest tm fm (right (tree false e ++ sts xs) (parts_arms P (type_in P m k) m k more) st) mm)
 
   -- the copy of a typed body is its twin

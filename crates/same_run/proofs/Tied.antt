@@ -50,12 +50,12 @@ use Rattle.run_cover.proofs.Found.{same_length}
 use Rattle.run_cover.proofs.HasRows.{method_of, of_field}
 use Rattle.run_cover.proofs.Kinded.{site_type}
 use Rattle.flow_rules.proofs.Listed.{one, map_has, map_from, place_has}
-use Rattle.facts_order.proofs.Columns.{field_column, body_column}
+use Rattle.run_cover.proofs.HasNumbers.{field_column}
+use Rattle.facts_order.proofs.Columns.{body_column}
 use Rattle.facts_order.proofs.Pairs.{IsPlaced}
 use Rattle.facts_order.proofs.Tests.{gathered_has}
-use Rattle.rebuild_model.specs.Renaming.{Places, Renaming, renaming_of}
 use Rattle.rebuild_model.specs.Members.{HasTypes, HasCode, StandsAt}
-use Rattle.rebuild_looks.specs.Known.{Known, Offers}
+use Rattle.rebuild_looks.specs.Known.{Known, Offers, sides}
 use Rattle.rebuild_looks.proofs.Declared.{new_body}
 use Rattle.rebuild_looks.proofs.Fields.{finds_field}
 use Rattle.rebuild_given.proofs.Rest.{half}
@@ -74,23 +74,19 @@ class_number Boolean = 0
 class_number Char = 0
 class_number Str = 0
 
-module _ (Q : Plain) (F : Facts) (H : Hierarchy) (W : Plain) (K : Known (untagged Q) Q F H W) (placed : IsPlaced (untagged Q) Q)
+module _ {Q : Plain} {F : Facts} {H : Hierarchy} {W : Plain} (K : Known (untagged Q) Q F H W) (placed : IsPlaced (untagged Q) Q)
     (facts : IsFactsOf (untagged Q) Q F) (pt : PointsTo) (t : Table)
     (A : InRange F) (O : InOrder F) (S : AreSets F pt) (B : IsTable F t) (table : H.table ≡ t.rows.items) (none : first_broken F pt H ≡ None) where
   abbrev P : Plain
   P = untagged Q
 
-  abbrev T : Places
-  T = K.rebuilt.places
-
-  abbrev R : Renaming
-  R = renaming_of P Q H T
+  open sides K use {places as T, renaming as R}
 
   abbrev C : Option RowItem → Option ℕ
   C i = new_class P Q W R i
 
   abbrev Made : Option ℕ → Kind → Kind → Type 0
-  Made o k l = MadeAs Q F H W K t o k l
+  Made o k l = MadeAs K t o k l
 
   -- the copies of old bodies
   pub record IsCopyOf (b c : Body) : Type 0 where
@@ -111,7 +107,7 @@ module _ (Q : Plain) (F : Facts) (H : Hierarchy) (W : Plain) (K : Known (untagge
     site : ℕ
     is : site_in (numbers P Q) o ≡ Some site
     old : c ≡ site_class F site
-    new : k ≡ T.type_of (node_of Q F H W K t site)
+    new : k ≡ T.type_of (node_of K t site)
 
   sited : (o : Option ℕ) (c k : ℕ) → Made o (an_object c) (an_object k) → IsSited o c k
   sited o c k made = go (site_in (numbers P Q) o) refl
@@ -126,11 +122,11 @@ module _ (Q : Plain) (F : Facts) (H : Hierarchy) (W : Plain) (K : Known (untagge
       go None e = absurd (let z = (made.free e).0 in cc)
       go (Some s) e =
           let z = made.sited s e in record
-          { site = s; is = e; old = old_is c (site_type F s) z.0; new = class_is k (T.type_of (node_of Q F H W K t s)) (site_type F s) z.1 }
+          { site = s; is = e; old = old_is c (site_type F s) z.0; new = class_is k (T.type_of (node_of K t s)) (site_type F s) z.1 }
 
-  new_is : (a f n : ℕ) (o : Offers P Q F H W K n (column.Fld f)) → T.type_of n ≡ a → member_field W a (R.field_name f) ≡ Some (new_field Q F H W K t f)
+  new_is : (a f n : ℕ) (o : Offers K n (column.Fld f)) → T.type_of n ≡ a → member_field W a (R.field_name f) ≡ Some (new_field K t f)
   new_is a f n o at =
-      ap (λ z. member_field W z (R.field_name f)) (sym at) ∙ finds_field P Q F H W K f n o ∙ ap (λ z. Some z) (sym (new_field_is Q F H W K t f n o))
+      ap (λ z. member_field W z (R.field_name f)) (sym at) ∙ finds_field K f n o ∙ ap (λ z. Some z) (sym (new_field_is K t f n o))
 
   -- the body of a method with code
   pub body_is : (g : ℕ) (k : PlainMethod) (xs : Sts) → slice_get W.methods g ≡ Some k → k.body ≡ Some xs → body_of W g ≡ Some (body_with g k xs)
@@ -142,10 +138,10 @@ module _ (Q : Plain) (F : Facts) (H : Hierarchy) (W : Plain) (K : Known (untagge
     Pair b c = IsCopyOf b c
 
     abbrev HasField : Operand → ℕ → Type 0
-    HasField b f = FieldTied Q W F (solved pt) R (has Q F H W K t) (new_field Q F H W K t) new_static Made Pair b f
+    HasField b f = FieldTied Q W F (solved pt) R (has K t) (new_field K t) new_static Made Pair b f
 
     abbrev At : Operand → Type 0
-    At b = ties.IsAt Q W F (solved pt) R (has Q F H W K t) (new_field Q F H W K t) new_static Made Pair b
+    At b = ties.IsAt Q W F (solved pt) R (has K t) (new_field K t) new_static Made Pair b
 
     pub field_tied : (b : Operand) (f : ℕ)
         → ((x : AccessInfo) → Contains (accessed (row_at (numbers P Q) b) ((numbers P Q).column (column.Fld f))) x → Contains F.accesses.items x) → At b
@@ -161,39 +157,38 @@ module _ (Q : Plain) (F : Facts) (H : Hierarchy) (W : Plain) (K : Known (untagge
         (subst (λ z. Contains (accessed (Some r) z) x) (sym l.1) (one x)))) in
         record {
           new = λ c hc.
-              let a = row_of_class Q F H W K b.row c hc in
-              let o = needed.offers_item P Q F H W K (place_of_row H a.number) l.0 (column.Fld f) l.1
-              ((half F pt t A O S B H table none).offered a.number l.0 (entry a.number (row_in_is Q F H W K b.row c a))) in
+              let a = row_of_class K b.row c hc in
+              let o = needed.offers_item K (place_of_row H a.number) l.0 (column.Fld f) l.1
+              ((half F pt t A O S B H table none).offered a.number l.0 (entry a.number (row_in_is K b.row c a))) in
               new_is c f (place_of_row H a.number) o a.class;
           had = λ o c j made may.
               let s = sited o c j made in
-              let m = met_passing Q F H W K t pt A O S B table none b o s.site s.is may in
+              let m = met_passing K t pt A O S B table none b o s.site s.is may in
               let y = here m.point m.point_is in
-              let has_it = row_has Q F H W K t pt A O S B table none m.point s.site l.0 y.1 m.held (entry (point_row F m.point) y.0) in
-              ap (λ z. option_map_or (λ s. has_in Q F H W K t s f) z false) s.is
+              let has_it = row_has K t pt A O S B table none m.point s.site l.0 y.1 m.held (entry (point_row F m.point) y.0) in
+              ap (λ z. option_map_or (λ s. has_in K t s f) z false) s.is
               ∙ ap (λ z. option_map_or (λ c. bit (bits t.rows.items (site_row F s.site)) c) z false) l.1 ∙ has_it;
         }
 
     abbrev HasCopy : Body → Option Body → Type 0
-    HasCopy b q = ties.Paired Q W F (solved pt) R (has Q F H W K t) (new_field Q F H W K t) new_static Made Pair b q
+    HasCopy b q = ties.Paired Q W F (solved pt) R (has K t) (new_field K t) new_static Made Pair b q
 
     -- the copy of a body that stands at a node
     copied : (d : ℕ) (method : PlainMethod) (n : ℕ) (st : StandsAt P Q F H W T (column.Def d) n) → slice_get Q.methods d ≡ Some method → (x : Body)
-        → labelled_with P Q F (solved pt) d method ≡ Some x
-        → (q : Option Body) → q ≡ body_of W (new_body P Q F H W K d n st).0 → HasCopy x q
+        → labelled_with P Q F (solved pt) d method ≡ Some x → (q : Option Body) → q ≡ body_of W (new_body K d n st).0 → HasCopy x q
     copied d method n st e x ex q eq =
-        let g = (new_body P Q F H W K d n st).1 in
-        let is = body_is (new_body P Q F H W K d n st).0 g.method g.is.code.written g.stands g.is.code.new_code in
+        let g = (new_body K d n st).1 in
+        let is = body_is (new_body K d n st).0 g.method g.is.code.written g.stands g.is.code.new_code in
         let same : g.is.old ≡ untag_method method = same_Some g.is.old (untag_method method) (sym g.is.old_stands ∙ method_of Q K.old d method e) in
         record {
-          body = body_with (new_body P Q F H W K d n st).0 g.method g.is.code.written;
+          body = body_with (new_body K d n st).0 g.method g.is.code.written;
           found = eq ∙ is;
           pair = record {
             number = d;
             method = method;
             stands = e;
             old_body = ex;
-            copy = (new_body P Q F H W K d n st).0;
+            copy = (new_body K d n st).0;
             new = g.method;
             new_stands = g.stands;
             new_body = is;
@@ -240,29 +235,28 @@ module _ (Q : Plain) (F : Facts) (H : Hierarchy) (W : Plain) (K : Known (untagge
           )
 
       pub call_tied : (w : Place) (b : Operand) (s d : ℕ) (es : List Operand) (o : Operand) → InBody (a_call w b (Some s) (Some d) es o)
-          → HasSlot P Q W R b s d → At b
-          → CallTied Q W F (solved pt) R (has Q F H W K t) (new_field Q F H W K t) new_static Made Pair b s d
+          → HasSlot P Q W R b s d → At b → CallTied Q W F (solved pt) R (has K t) (new_field K t) new_static Made Pair b s d
       unfolding labelled_body lookup numbers
       call_tied w b s d es o c slot here = record {
         bodies = λ i v old new x of hv made ex may.
             let q = slot of v hv in
             let j = q.number in
             let at = sited i old new made in
-            let m = met_passing Q F H W K t pt A O S B table none b i at.site at.is may in
+            let m = met_passing K t pt A O S B table none b i at.site at.is may in
             let row_is = here m.point m.point_is in
-            let a = row_of_class Q F H W K b.row v hv in
-            let number_is : point_row F m.point ≡ a.number = same_Some (point_row F m.point) a.number (sym row_is.0 ∙ row_in_is Q F H W K b.row v a) in
-            let le = subst (λ z. is_le H.order (node_of Q F H W K t at.site) (place_of_row H z) ≡ true) number_is
-            (below_row Q F H W K t pt A O S B table none m.point at.site row_is.1 m.held) in
+            let a = row_of_class K b.row v hv in
+            let number_is : point_row F m.point ≡ a.number = same_Some (point_row F m.point) a.number (sym row_is.0 ∙ row_in_is K b.row v a) in
+            let le = subst (λ z. is_le H.order (node_of K t at.site) (place_of_row H z) ≡ true) number_is
+            (below_row K t pt A O S B table none m.point at.site row_is.1 m.held) in
             let found = then_some (labelled_body P Q F (solved pt)) (lookup P old s) x ex in
             let body = then_some (labelled_with P Q F (solved pt) found.0) (slice_get Q.methods found.0) x found.2 in
             let f = finds_some Q F K.old facts (length P.classes) (site_class F at.site) s found.0 (ap (λ z. lookup P z s) (sym at.old) ∙ found.1) in
             let finds_it : finds F (site_class F at.site) s ≡ Some f.0 = ap (λ z. finds_within F z (site_class F at.site) s) (same_length Q F facts) ∙ f.1 in
             let need = and_from (is_called F pt at.site s) (is_slot (finds F (site_class F at.site) s) f.0)
             (called_there w b s (Some d) es o c m.point at.site m.point_is m.held) (ap (λ z. is_slot z f.0) finds_it ∙ eq-eqb f.0 f.0 refl) in
-            let ran = needed_body P Q F H W K pt t A O S B table none at.site s f.0 found.0 need f.2 (place_of_row H a.number) d j le of
+            let ran = needed_body K pt t A O S B table none at.site s f.0 found.0 need f.2 (place_of_row H a.number) d j le of
             (ap (λ z. slot_of W z (R.method_name d)) a.class ∙ q.found) in
-            let offers = need_offers P Q F H W K pt t A O S B table none at.site s f.0 found.0 need f.2 in
+            let offers = need_offers K pt t A O S B table none at.site s f.0 found.0 need f.2 in
             record {
               slot = j;
               found = q.found;
@@ -276,18 +270,18 @@ module _ (Q : Plain) (F : Facts) (H : Hierarchy) (W : Plain) (K : Known (untagge
           → labelled_body P Q F (solved pt) d ≡ Some x → HasCopy x (option_and_then (body_of W) (super_method W c (R.method_name d)))
       unfolding labelled_body numbers
       super_tied w d es o i c x self instance ex =
-          let a = row_of_class Q F H W K (Some (row.This m)) c self in
+          let a = row_of_class K (Some (row.This m)) c self in
           let body = then_some (labelled_with P Q F (solved pt) d) (slice_get Q.methods d) x ex in
           let code = mapped_some _ body.0.body x body.2 in
           let l = body_column P Q d body.0 body.1 (instance body.0 body.1) (ap is_some code.1) in
           let z : SuperInfo = record { row = record { 0 = a.number }; column = record { 0 = l.0 } } in
           let is = subst (λ v. Contains (both v ((numbers P Q).column (column.Def d)) (λ a b. record { row = record { 0 = a }; column = record { 0 = b } })) z)
-          (sym (row_in_is Q F H W K (Some (row.This m)) c a))
+          (sym (row_in_is K (Some (row.This m)) c a))
           (subst (λ v. Contains (both (Some a.number) v (λ a b. record { row = record { 0 = a }; column = record { 0 = b } })) z) (sym l.1) (one z)) in
           let listed = super_of_part (a_super_call w (Some d) es o) i z is in
           let run : is_super F a.number l.0 ≡ true = list_any-from_Any (λ (v : SuperInfo). is_pair v.row.0 v.column.0 a.number l.0) F.supers.items
           (listed.0, z, listed.1, listed.2, and_from (a.number == a.number) (l.0 == l.0) (eq-eqb a.number a.number refl) (eq-eqb l.0 l.0 refl)) in
-          let offers = super_offers P Q F H W K pt t A O S B table none a.number l.0 d run l.1 in
-          let found = super_body P Q F H W K pt t A O S B table none a.number l.0 d run l.1 in
+          let offers = super_offers K pt t A O S B table none a.number l.0 d run l.1 in
+          let found = super_body K pt t A O S B table none a.number l.0 d run l.1 in
           copied d body.0 offers.node offers.stands body.1 x body.2 (option_and_then (body_of W) (super_method W c (R.method_name d)))
           (ap (λ v. option_and_then (body_of W) (super_method W v (R.method_name d))) (sym a.class) ∙ ap (λ v. option_and_then (body_of W) v) found)

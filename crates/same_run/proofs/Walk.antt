@@ -1,6 +1,6 @@
 -- A copy of a typed expression over new classes is its twin, where the parts of the body are tied: by induction on the expression.
 use Rattle.std.proofs.Common.{◌≡◌, ℕ, zero, suc, ◌<◌, List, [], ◌∷◌, ◌++◌, Option, Some, None, refl, sym, ap, ◌∙◌, subst}
-use Rattle.std.specs.Prelude.{Bool, true, false, if◌then◌else◌, slice_get, Contains, option_and_then}
+use Rattle.std.specs.Prelude.{Bool, true, false, if◌then◌else◌, option_and_then}
 use Rattle.std.specs.Option.{option_map, option_map_or, is_some}
 use Rattle.std.proofs.lemmas.Option.{same_Some}
 use Rattle.std.proofs.lemmas.Bool.{false≢true}
@@ -9,124 +9,96 @@ use Rattle.java_core.specs.declared.Ty.{Ty}
 use Rattle.java_core.specs.declared.TyBase.{TyBase}
 use Rattle.java_core.specs.declared.TyBase.TheVariants.{Int, Boolean, Char, Str, Class}
 use Rattle.java_core.specs.Trees.{Tag, Ex, Exs, no_ex, ex_then, number, character, text, truth, null, this, local, static_field, own_field, field, index, call, static_call, super_call, create, create_array, cast, instance_of, unary, binary}
-use Rattle.java_core.specs.Programs.{Plain, PlainMethod}
+use Rattle.java_core.specs.Programs.{Plain}
 use Rattle.java_core.specs.Classes.{member_field, slot_of, slot_of_method, declaration_of, super_method}
-use Rattle.java_core.specs.Types.{Static, Env, env_of, class_in, class_of, element_of, is_string, is_length, is_subtype, field_in, field_type, value_type, or_nothing, StringMethod, string_method, Signature, signature_of_slot, signature_of_string, object_signature, call_signature, static}
-use Rattle.java_core.specs.Typing.{Typed, TypedArgs, t_field, t_index, t_call, t_static_call, t_super_call, t_create_array, t_cast, t_instance_of, t_unary, t_binary, t_ex_then, can_cast}
-use Rattle.java_core.specs.Formed.{IsFormed, FormedEx, FormedExs, f_own_field, f_field, f_index, f_call, f_static_call, f_super_call, f_create_array, f_cast, f_instance_of, f_unary, f_binary, f_ex_then}
+use Rattle.java_core.specs.Types.{Env, class_in, class_of, element_of, is_string, is_length, is_subtype, field_in, field_type, value_type, or_nothing, StringMethod, string_method, Signature, signature_of_slot, signature_of_string, object_signature, call_signature, static}
+use Rattle.java_core.specs.Typing.{TypedArgs, t_field, t_index, t_call, t_static_call, t_super_call, t_create_array, t_cast, t_instance_of, t_unary, t_binary, t_ex_then, can_cast}
+use Rattle.java_core.specs.Formed.{IsFormed, FormedExs, f_own_field, f_field, f_index, f_call, f_static_call, f_super_call, f_create_array, f_cast, f_instance_of, f_unary, f_binary, f_ex_then}
 use Rattle.java_meaning.specs.Moment.{Kind, own_type, Body, Lang}
+use Rattle.java_meaning.specs.Languages.{language_of}
 use Rattle.java_meaning.specs.Meaning.{is_number_type, names_length, text_method}
-use Rattle.java_core.specs.Untagged.{bare, bare_all, untag_method, untagged}
+use Rattle.java_core.specs.Untagged.{bare_all, untag_method, untagged}
 use Rattle.java_meaning.proofs.Holds.{some_there}
 use Rattle.java_meaning.proofs.Moves.{then_some, element_class, string_class}
 use Rattle.java_meaning.proofs.WatchedPrograms.{bare_static}
-use Rattle.fact_model.specs.declared.facts.Facts.{Facts}
 use Rattle.flow_rules.specs.declared.items.ObjectType.{ObjectType}
 use Rattle.flow_rules.specs.declared.items.Operand.{Operand}
 use Rattle.flow_rules.specs.declared.items.RowItem.{RowItem}
 use Rattle.flow_rules.specs.declared.items.RowItem.TheVariants as row
-use Rattle.flow_rules.specs.Operands.{object_in, object_field, call_slot, call_declaration, row_of, operand_of, operands_of, this_operand, test_operand, type_in}
-use Rattle.flow_rules.specs.Numbered.{row_number, number_if, site_number}
-use Rattle.flow_rules.specs.Parts.{Part, nothing, a_load, a_creation, a_call, a_super_call, a_test, a_store, is_accessed, parts, parts_all, parts_of}
+use Rattle.flow_rules.specs.Operands.{object_in, object_field, call_slot, call_declaration, operand_of, this_operand, test_operand, type_in}
+use Rattle.flow_rules.specs.Numbered.{row_number, number_if}
+use Rattle.flow_rules.specs.Parts.{Part, nothing, a_load, a_creation, a_call, a_super_call, a_test, a_store, is_accessed}
 use Rattle.flow_rules.specs.Lists.{site_in, point_at}
-use Rattle.flow_rules.specs.Facts.{numbers, IsFactsOf}
-use Rattle.run_cover.specs.Covers.{Sets, passes, operand_at, point_sites, held_sites, labelled_body}
-use Rattle.run_cover.specs.Slotted.{HaveSlots}
+use Rattle.flow_rules.specs.Facts.{numbers}
+use Rattle.run_cover.specs.Covers.{Sets, passes, operand_at, point_sites, held_sites, labelled_body, watched}
 use Rattle.run_cover.proofs.Included.{class_object}
-use Rattle.run_cover.proofs.Kinded.{site_type, IsKindedPart}
+use Rattle.run_cover.proofs.Kinded.{IsKindedPart}
 use Rattle.run_cover.proofs.Types.{class_apart}
 use Rattle.run_cover.proofs.TypedParts as typed_parts
-use Rattle.run_cover.proofs.Unique.{creation_type}
+use Rattle.run_cover.proofs.TypedParts.{TypedBody}
 use Rattle.rebuild_model.specs.Renaming.{Renaming, retyped}
-use Rattle.rebuild_model.specs.Matches.{Matches, MatchesAll, m_number, m_character, m_text, m_truth, m_null, m_this, m_local, m_static_field, m_own_field, m_field, m_length, m_index, m_call, m_string_call, m_static_call, m_super_call, m_create, m_create_array, m_cast, m_instance_of, m_unary, m_binary, m_no_ex, m_ex_then}
+use Rattle.rebuild_model.specs.Matches.{MatchesAll, m_number, m_character, m_text, m_truth, m_null, m_this, m_local, m_static_field, m_own_field, m_field, m_length, m_index, m_call, m_string_call, m_static_call, m_super_call, m_create, m_create_array, m_cast, m_instance_of, m_unary, m_binary, m_no_ex, m_ex_then}
 use Rattle.rebuild_types.proofs.Retyped.{retyped_static, class_new, class_typed}
-use Rattle.rebuild_types.proofs.Asked.{new_class}
+use Rattle.rebuild_types.proofs.Walk.{copying}
 use Rattle.rebuild_types.proofs.Finding.{access_found, found_instance}
 use Rattle.twin_runs.specs.Twins.{Link, spot_of, SameField, SameLength, SameCall, SameTest, Same, SameAll}
 use Rattle.twin_runs.specs.Twins.{same_number, same_character, same_text, same_truth, same_null, same_this, same_local, same_static_field, same_own_field, same_field, same_index, same_call, same_static_call, same_super_call, same_create, same_create_array, same_cast, same_instance_of, same_unary, same_binary, same_no_ex, same_ex_then}
 use Rattle.same_run.proofs.Ties as tied
 use Rattle.same_run.proofs.Ties.{type_at, type_over, FieldTied, CallTied, CreationTied, TestTied, Ties, BodyTied}
 use Rattle.same_run.proofs.Shapes.{shape_kept, cast_class, classless}
+use Rattle.run_cover.proofs.Walked.{walked}
+use Rattle.run_cover.proofs.Each.{left, right, past, here}
 
-module _ (Q W : Plain) (F : Facts) (formed : IsFormed (untagged Q)) (slots : HaveSlots (untagged Q)) (facts : IsFactsOf (untagged Q) Q F) (R : Renaming)
-    (S : Sets) (has : Option ℕ → ℕ → Bool) (new_field new_static : ℕ → ℕ) (Made : Option ℕ → Kind → Kind → Type 0) (Pair : Body → Body → Type 0)
-    (m : ℕ) (k : PlainMethod) (stands : slice_get Q.methods m ≡ Some k) (body : is_some k.body ≡ true) (h : Env)
-    (tie : BodyTied Q W F S R has new_field new_static Made Pair m k h) where
+-- a body of a formed program, whose parts are tied to the new program, in which a copy of it sees h
+pub record TwinBody : Type 1 where
+  pub body : TypedBody
+  pub written : Plain
+  pub renaming : Renaming
+  pub sets : Sets
+  pub has : Option ℕ → ℕ → Bool
+  pub new_field : ℕ → ℕ
+  pub new_static : ℕ → ℕ
+  pub Made : Option ℕ → Kind → Kind → Type 0
+  pub Pair : Body → Body → Type 0
+  pub env : Env
+  pub tie : BodyTied body.program written body.facts sets renaming has new_field new_static Made Pair body.number body.method env
+
+-- the twins of its expressions, and what ties its fields and its parts
+pub record Twins : Type 1 where
+  pub lang : Lang
+  pub written : Lang
+  pub link : Link
+  pub Twin : Ex → Ex → Type 0
+  pub HasField : Operand → ℕ → Type 0
+  pub IsTied : Part → Type 0
+
+module _ (A : TwinBody) where
+  open A use {body as B, written as W, renaming as R, sets as S, has, new_field, new_static, Made, Pair, env as h}
+  open B use {program as Q, facts as F, number as m, method as k}
+
+  abbrev pub twins : Twins
+  twins = record {
+    lang = watched (untagged Q) Q F S;
+    written = language_of W;
+    link = tied.link Q W F S R has new_field new_static Made Pair;
+    Twin = Same (watched (untagged Q) Q F S) (language_of W) (tied.link Q W F S R has new_field new_static Made Pair) Made Pair (env_of m k) h;
+    HasField = FieldTied Q W F S R has new_field new_static Made Pair;
+    IsTied = Ties Q W F S R has new_field new_static Made Pair m h.self;
+  }
+
+module _ (A : TwinBody) where
+  open A use {body as B, written as W, renaming as R, sets as S, has, new_field, new_static, Made, Pair, env as h, tie}
+  open B use {program as Q, facts as F, number as m, method as k, stands}
+  open copying B W R use {class_at as C, IsCopy}
+  open twins A use {lang as L, written as M, link as K, Twin, HasField as Field, IsTied as Tied}
+
   abbrev P : Plain
   P = untagged Q
 
-  abbrev g : Env
-  g = env_of m k
-
-  abbrev L : Lang
-  L = tied.L Q W F S R has new_field new_static Made Pair
-
-  abbrev M : Lang
-  M = tied.M Q W F S R has new_field new_static Made Pair
-
-  abbrev K : Link
-  K = tied.link Q W F S R has new_field new_static Made Pair
-
-  abbrev C : Option RowItem → Option ℕ
-  C i = new_class P Q W R i
-
-  abbrev type : Ex → Option ObjectType
-  type e = type_in P m k e
-
-  abbrev row_at : Ex → Option RowItem
-  row_at e = row_of P (type_in P m k) m k e
-
-  abbrev O : Ex → Operand
-  O e = operand_of P (type_in P m k) m k e
-
-  abbrev operands : Exs → List Operand
-  operands es = operands_of P (type_in P m k) m k es
-
-  abbrev tree : Bool → Ex → List Part
-  tree u e = parts P (type_in P m k) m k u e
-
-  abbrev tree_all : Bool → Exs → List Part
-  tree_all u es = parts_all P (type_in P m k) m k u es
-
-  abbrev Stands : List Part → Type 0
-  Stands ps = (p : Part) → Contains ps p → Contains (parts_of P m k) p
-
-  abbrev IsTyped : Ex → Type 0
-  IsTyped e = Typed P g (bare e)
-
-  abbrev IsFormedEx : List ℕ → Ex → Type 0
-  IsFormedEx scope e = FormedEx P (untag_method k) scope (bare e)
-
-  abbrev IsCopy : Ex → Ex → Type 0
-  IsCopy e d = Matches P W R g (bare e) d
-
-  abbrev old : Ex → Static
-  old e = static P g (bare e)
-
-  abbrev Twin : Ex → Ex → Type 0
-  Twin e d = Same L M K Made Pair g h e d
-
-  abbrev Field : Operand → ℕ → Type 0
-  Field b f = FieldTied Q W F S R has new_field new_static Made Pair b f
-
-  abbrev Tied : Part → Type 0
-  Tied p = Ties Q W F S R has new_field new_static Made Pair m h.self p
-
-  unique : (q : Place) (u : Bool) (o : Operand) (n s : ℕ) → Contains (parts_of P m k) (a_creation q u o) → o.created ≡ Some n → site_number P Q n ≡ Some s
-      → o.ty ≡ Some (site_type F s)
-  unique q u o n s c ec es = creation_type Q F formed facts m k stands q u o n s c ec es
-
-  pub left : (ps qs : List Part) → Stands (ps ++ qs) → Stands ps
-  left ps qs st = typed_parts.left Q F formed slots m k stands body unique ps qs st
-
-  pub right : (ps qs : List Part) → Stands (ps ++ qs) → Stands qs
-  right ps qs st = typed_parts.right Q F formed slots m k stands body unique ps qs st
-
-  past : (p : Part) (qs : List Part) → Stands (p ∷ qs) → Stands qs
-  past p qs st = typed_parts.past Q F formed slots m k stands body unique p qs st
+  open walked P m k use {env as g, type, row_at, operand as O, operands, tree, tree_all, Stands, IsTyped, IsFormed as IsFormedEx, static as old}
 
   pub asked : (p : Part) (qs : List Part) → Stands (p ∷ qs) → Tied p
-  asked p qs st = tie.ties p (typed_parts.here Q F formed slots m k stands body unique p qs st)
+  asked p qs st = tie.ties p (here p qs st)
 
   -- the class of a receiver or base
   pub record IsBase (e d : Ex) : Type 0 where
@@ -140,13 +112,13 @@ module _ (Q W : Plain) (F : Facts) (formed : IsFormed (untagged Q)) (slots : Hav
 
   classed : (u : Bool) (sc : List ℕ) (e : Ex) → IsTyped e → IsFormedEx sc e → Stands (tree u e) → (t : ObjectType) → type e ≡ Some t
       → (c : ℕ) × (C (row_at e) ≡ Some c)
-  classed u sc e ty fo st t s = let r = typed_parts.row_listed Q F formed slots m k stands body unique u sc e ty fo st t s in class_there (row_at e) r.0 r.1
+  classed u sc e ty fo st t s = let r = typed_parts.row_listed B u sc e ty fo st t s in class_there (row_at e) r.0 r.1
 
   pub based : (u : Bool) (sc : List ℕ) (e d : Ex) (c : ℕ) → IsTyped e → IsFormedEx sc e → Stands (tree u e) → IsCopy e d → class_of (old e) ≡ Some c
       → IsBase e d
   based u sc e d c ty fo st me s =
       let r = classed u sc e ty fo st (record { class = record { 0 = c }; dim = 0 })
-      (typed_parts.of_typed Q F formed slots m k stands body unique e (record { class = record { 0 = c }; dim = 0 }) (class_typed (old e) c s)) in
+      (typed_parts.of_typed B e (record { class = record { 0 = c }; dim = 0 }) (class_typed (old e) c s)) in
       record {
         class = r.0;
         row_is = r.1;
@@ -191,7 +163,7 @@ module _ (Q W : Plain) (F : Facts) (formed : IsFormed (untagged Q)) (slots : Hav
 
   -- the class where a field is found
   pub base_class : (e : Ex) (x : List ℕ) (f : ℕ) → field_in P (old e) x ≡ Some f → (c : ℕ) × (class_of (old e) ≡ Some c)
-  base_class e x f l = typed_parts.field_class Q F formed slots m k stands body unique (old e) x f l
+  base_class e x f l = typed_parts.field_class B (old e) x f l
 
   -- fields
   pub field_twin : (e b : Ex) (x : List ℕ) (f c : ℕ) → field_in P (old e) x ≡ Some f → C (row_at e) ≡ Some c → class_of (static W h b) ≡ Some c → Field (O e) f
@@ -219,7 +191,7 @@ module _ (Q W : Plain) (F : Facts) (formed : IsFormed (untagged Q)) (slots : Hav
     where
       none : (f : ℕ) → L.field g e x ≡ Some f → ⊥
       none f ef =
-          let c = typed_parts.field_class Q F formed slots m k stands body unique (old e) x f (ap (λ z. field_in P z x) (bare_static P g e) ∙ ef) in
+          let c = typed_parts.field_class B (old e) x f (ap (λ z. field_in P z x) (bare_static P g e) ∙ ef) in
           false≢true (sym (ap is_some (class_apart (old e) c.0 c.1).0) ∙ array)
 
   -- a field is no length, and the length of an array is one in both
@@ -241,12 +213,12 @@ module _ (Q W : Plain) (F : Facts) (formed : IsFormed (untagged Q)) (slots : Hav
   field_tie : (p : Place) (e d : Ex) (x : List ℕ) (f : ℕ) → field_in P (old e) x ≡ Some f → is_some (field_type P f) ≡ true
       → tied.IsAt Q W F S R has new_field new_static Made Pair (O e) → Tied (a_load p (O e) (object_field P (type e) x) (O d)) → Field (O e) f
   field_tie p e d x f l there here q = let w = found_instance P (old e) x f l there in subst (λ z. Tied (a_load p (O e) z (O d)))
-      (typed_parts.field_found Q F formed slots m k stands body unique e x ∙ ap (λ z. field_in P z x) (sym (bare_static P g e)) ∙ l) q here w.0 w.1 w.2
+      (typed_parts.field_found B e x ∙ ap (λ z. field_in P z x) (sym (bare_static P g e)) ∙ l) q here w.0 w.1 w.2
 
   pub store_tie : (p : Place) (e d : Ex) (x : List ℕ) (f : ℕ) → field_in P (old e) x ≡ Some f → is_some (field_type P f) ≡ true
       → tied.IsAt Q W F S R has new_field new_static Made Pair (O e) → Tied (a_store p (O e) (object_field P (type e) x) (O d)) → Field (O e) f
   store_tie p e d x f l there here q = let w = found_instance P (old e) x f l there in subst (λ z. Tied (a_store p (O e) z (O d)))
-      (typed_parts.field_found Q F formed slots m k stands body unique e x ∙ ap (λ z. field_in P z x) (sym (bare_static P g e)) ∙ l) q here w.0 w.1 w.2
+      (typed_parts.field_found B e x ∙ ap (λ z. field_in P z x) (sym (bare_static P g e)) ∙ l) q here w.0 w.1 w.2
 
   pub value_is : (b : Ex) (x : List ℕ) (f : ℕ) → field_in P (old b) x ≡ Some f → or_nothing (value_type P (old b) x) ≡ or_nothing (field_type P f)
   value_is b x f l = ap (λ z. or_nothing (option_and_then (field_type P) z)) l
@@ -256,15 +228,14 @@ module _ (Q W : Plain) (F : Facts) (formed : IsFormed (untagged Q)) (slots : Hav
       → (q : ℕ) × (point_at (numbers P Q) (O e) ≡ Some q)
   unfolding IsKindedPart
   pointed (create t n c es) st i s e d =
-      (tie.kinded (a_creation t.place true (O (create t n c es))) (typed_parts.here Q F formed slots m k stands body unique _ _ st)).point refl i s e d
+      (tie.kinded (a_creation t.place true (O (create t n c es))) (here _ _ st)).point refl i s e d
   pointed (create_array t n v e) st i s h d =
-      (tie.kinded (a_creation t.place true (O (create_array t n v e))) (typed_parts.here Q F formed slots m k stands body unique _ _ st)).point refl i s h d
+      (tie.kinded (a_creation t.place true (O (create_array t n v e))) (here _ _ st)).point refl i s h d
   pointed _ st i s e d = absurd (cc)
 
   -- calls
   slot_seen : (e : Ex) (x : List ℕ) (i : ℕ) → L.slot g e x ≡ Some i → call_slot P (type e) x ≡ Some i
-  slot_seen e x i q = typed_parts.slot_found Q F formed slots m k stands body unique e x
-      ∙ ap (λ z. option_and_then (λ c. slot_of P c x) (class_of z)) (bare_static P g e) ∙ q
+  slot_seen e x i q = typed_parts.slot_found B e x ∙ ap (λ z. option_and_then (λ c. slot_of P c x) (class_of z)) (bare_static P g e) ∙ q
 
   declaration_seen : (e : Ex) (x : List ℕ) (c d : ℕ) → class_of (old e) ≡ Some c → declaration_of P c x ≡ Some d → call_declaration P (type e) x ≡ Some d
   unfolding type_in
@@ -369,7 +340,7 @@ module _ (Q W : Plain) (F : Facts) (formed : IsFormed (untagged Q)) (slots : Hav
         (asked (a_load t.place (this_operand m k) (Some f) (O (own_field t f))) [] st tie.at_this own.member own.stands own.kind))
     twin u sc (field t e x) d (t_field te some) (f_field fe n) st (m_field {d = b} {f = f} me l) =
         let inner = left (tree (is_accessed e) e) _ st in
-        let c = typed_parts.field_class Q F formed slots m k stands body unique (old e) x f l in
+        let c = typed_parts.field_class B (old e) x f l in
         let base = based (is_accessed e) sc e b c.0 te fe inner me c.1 in
         same_field (twin (is_accessed e) sc e b te fe inner me)
         (field_twin e b x f base.class l base.row_is base.new
@@ -402,8 +373,7 @@ module _ (Q W : Plain) (F : Facts) (formed : IsFormed (untagged Q)) (slots : Hav
     twin u sc (super_call t x es) d (t_super_call found bodied called args) (f_super_call inst n fes) st (m_super_call {m = f} {ds = ds} here mes) =
         let q = subst (λ z. Tied (a_super_call t.place z (operands es) (O (super_call t x es)))) here
         (asked (a_super_call t.place (super_method P k.owner x) (operands es) (O (super_call t x es))) _ st) in
-        same_super_call (twins false sc es ds _ args fes (past _ _ st) mes)
-        (λ y ey. q y (tie.self inst) (typed_parts.super_instance Q F formed slots m k stands body unique k.owner x f here)
+        same_super_call (twins false sc es ds _ args fes (past _ _ st) mes) (λ y ey. q y (tie.self inst) (typed_parts.super_instance B k.owner x f here)
         (ap (λ z. option_and_then (labelled_body P Q F S) z) (sym here) ∙ ey))
     twin u sc (create t n c no_ex) d ty fo st (m_create {k = a} at m_no_ex) =
         same_create same_no_ex (object_made t n c no_ex a (asked (a_creation t.place u (O (create t n c no_ex))) [] st) at)

@@ -56,8 +56,7 @@ module _ (Q : Plain) (F : Facts) (s : PointsTo) (t : Table) (H : Hierarchy) (W :
 
   runs_alike : (words : List (List ℕ)) (n : ℕ) → unnoted (watched_run words n) ≡ unnoted (run W words n)
   runs_alike words n =
-      use_alike (watched_run words n) (run W words n)
-      (watched_same Q F H W K pairs ready.typed ready.facts s t ready.in_range ready.in_order ready.sets ready.table
+      use_alike (watched_run words n) (run W words n) (watched_same K pairs ready.typed ready.facts s t ready.in_range ready.in_order ready.sets ready.table
       (same_table F H t ready.hierarchy.table ready.table) ready.unbroken ready.hierarchy words n)
       (λ e. never_wrong P ready.formed ready.typed words n (sym (ap (λ o. o.end) (is_run words n)) ∙ e))
       (solved_covers F s ready.sets P Q covers.covers words n)

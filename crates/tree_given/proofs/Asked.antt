@@ -6,14 +6,13 @@ use Rattle.std.proofs.lemmas.Bool.{and_from, eq-eqb}
 use Rattle.std.proofs.lemmas.List.Folds.{list_any-from_Any}
 use Rattle.kaba_base.specs.declared.Place.{Place}
 use Rattle.java_lex.specs.Writable.{IsName}
-use Rattle.java_core.specs.Programs.{Plain, PlainField, PlainMethod}
+use Rattle.java_core.specs.Programs.{PlainField, PlainMethod}
 use Rattle.java_core.specs.Classes.{slot_of_method}
 use Rattle.fact_model.specs.Items.{column_kind}
-use Rattle.fact_model.specs.declared.facts.Facts.{Facts}
 use Rattle.fact_model.specs.declared.facts.AccessInfo.{AccessInfo}
 use Rattle.fact_model.specs.declared.facts.SuperInfo.{SuperInfo}
 use Rattle.fact_model.proofs.EntryLemmas.{access_entry}
-use Rattle.hier_model.specs.Hierarchies.{Hierarchy, place_of_row, is_method}
+use Rattle.hier_model.specs.Hierarchies.{place_of_row, is_method}
 use Rattle.hier_laws.specs.Shapes.{Offers}
 use Rattle.hier_laws.specs.Obligations.{Half}
 use Rattle.hier_rules.specs.Asked.{is_pair, is_super}
@@ -25,38 +24,21 @@ use Rattle.flow_rules.specs.declared.items.ColumnItem.{ColumnItem}
 use Rattle.flow_rules.specs.declared.items.ColumnItem.TheVariants as column
 use Rattle.flow_rules.specs.declared.items.RowItem.TheVariants as row
 use Rattle.flow_rules.specs.Parts.{Part, a_super_call, parts_of}
-use Rattle.flow_rules.specs.Lists.{Numbers, both, accessed, row_at, accesses_of, supers_of}
+use Rattle.flow_rules.specs.Lists.{both, accessed, row_at, accesses_of, supers_of}
 use Rattle.flow_rules.specs.Facts.{numbers}
-use Rattle.java_core.specs.Untagged.{untagged}
 use Rattle.run_cover.proofs.HasRows.{of_field}
 use Rattle.flow_rules.proofs.Listed.{first}
-use Rattle.facts_order.proofs.Columns.{field_column, body_column}
+use Rattle.run_cover.proofs.HasNumbers.{field_column}
+use Rattle.facts_order.proofs.Columns.{body_column}
 use Rattle.facts_order.proofs.Tests.{gathered_has}
-use Rattle.rebuild_model.specs.Renaming.{Renaming}
 use Rattle.rebuild_given.proofs.Rest.{half}
 use Rattle.rebuild_types.proofs.Tables.{same_table}
-use Rattle.tree_rebuilds.proofs.Nodes.{by_node}
-use Rattle.tree_given.proofs.Given.{Given}
+use Rattle.tree_given.proofs.Given.{Given, words}
 use Rattle.tree_given.proofs.Names.{columns, method_member, offered_named, field_name_is, method_name_is}
 
 module _ (C : Given) where
-  abbrev Q : Plain
-  Q = C.program
-
-  abbrev P : Plain
-  P = untagged C.program
-
-  abbrev F : Facts
-  F = C.facts
-
-  abbrev H : Hierarchy
-  H = C.hierarchy
-
-  abbrev R : Renaming
-  R = by_node (untagged C.program) C.program C.facts C.hierarchy
-
-  abbrev N : Numbers
-  N = numbers P Q
+  open C use {program as Q, facts as F, hierarchy as H}
+  open words C use {plain as P, renaming as R, numbers as N}
 
   kept : Half (given F C.sets C.table) (shape H)
   kept =

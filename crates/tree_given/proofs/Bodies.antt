@@ -3,103 +3,45 @@ use Rattle.std.proofs.Common.{◌≡◌, ℕ, Bool, true, false, List, [], ◌�
 use Rattle.std.specs.Prelude.{option_and_then}
 use Rattle.std.specs.Option.{is_some, option_map_or}
 use Rattle.std.proofs.lemmas.Bool.{false≢true}
-use Rattle.std.proofs.lemmas.List.Elements.{Contains-append_left, Contains-append_right}
 use Rattle.kaba_base.specs.declared.Place.{Place}
 use Rattle.java_tree.specs.Syntax.{Expression, Statement, LocalOf, BlockOf, Statements, no_statements}
 use Rattle.java_print.specs.Formed as printed
 use Rattle.java_print.specs.Formed.{is_target, IsFormed, AreFormed, IsFormedValue, IsFormedStmt, AreFormedStmts, AreFormedArms, IsFormedElse, IsFormedFirst, IsFormedStep}
 use Rattle.java_core.specs.declared.Ty.{Ty}
 use Rattle.java_core.specs.Trees.{Ex, Exs, no_ex, ex_then, number, character, text, truth, null, this, local, static_field, own_field, field, index, call, static_call, super_call, create, create_array, cast, instance_of, unary, binary, Target, to_local, to_static, to_own, to_field, to_element, no_target, St, Sts, Arms, declare, block, assign, act, print, choose, loop, return, break, continue, no_st, st_then, no_other, otherwise, arm}
-use Rattle.java_core.specs.Programs.{Plain, PlainLocal, PlainMethod}
-use Rattle.java_core.specs.Types.{Static, Env, env_of, field_type, value_type, static, fits_in, target_type}
-use Rattle.java_core.specs.Typing.{Typed, TypedArgs, TypedTarget, TypedTest, TypedSt, TypedSts, TypedArms, t_field, t_index, t_call, t_static_call, t_super_call, t_create_array, t_cast, t_instance_of, t_unary, t_binary, t_ex_then, t_to_field, t_to_element, t_test, t_declare_as, t_block, t_assign, t_act, t_print, t_choose, t_loop, t_return, t_st_then, t_otherwise, t_arm}
+use Rattle.java_core.specs.Programs.{PlainLocal, PlainMethod}
+use Rattle.java_core.specs.Types.{field_type, value_type, static, fits_in, target_type}
+use Rattle.java_core.specs.Typing.{TypedArgs, TypedTarget, TypedTest, TypedSt, TypedSts, TypedArms, t_field, t_index, t_call, t_static_call, t_super_call, t_create_array, t_cast, t_instance_of, t_unary, t_binary, t_ex_then, t_to_field, t_to_element, t_test, t_declare_as, t_block, t_assign, t_act, t_print, t_choose, t_loop, t_return, t_st_then, t_otherwise, t_arm}
 use Rattle.java_core.specs.Formed as core
 use Rattle.java_core.specs.Formed.{IsNewLocal, variables_of, numbers_below, is_at_most_one, is_first, FormedEx, FormedExs, FormedTarget, FormedOption, FormedSt, FormedSts, FormedArms, f_number, f_character, f_text, f_local, f_static_field, f_own_field, f_field, f_index, f_call, f_static_call, f_super_call, f_create, f_create_array, f_cast, f_instance_of, f_unary, f_binary, f_ex_then, f_to_local, f_to_static, f_to_own, f_to_field, f_to_element, f_some, f_declare, f_block, f_assign, f_act, f_print, f_choose, f_loop, f_return, f_st_then, f_otherwise, f_arm}
-use Rattle.java_core.specs.Untagged.{bare, bare_all, bare_if, bare_target, bare_st, bare_sts, bare_arms, untag_method, untagged}
-use Rattle.fact_model.specs.declared.facts.Facts.{Facts}
-use Rattle.hier_model.specs.Hierarchies.{Hierarchy}
-use Rattle.flow_rules.specs.declared.items.ObjectType.{ObjectType}
-use Rattle.flow_rules.specs.declared.items.Operand.{Operand}
+use Rattle.java_core.specs.Untagged.{bare, bare_all, bare_if, bare_target, bare_st, bare_sts, bare_arms, untag_method}
 use Rattle.flow_rules.specs.declared.items.RowItem.TheVariants as row
-use Rattle.flow_rules.specs.Operands.{object_field, variable_row, operand_of, this_operand, type_in}
+use Rattle.flow_rules.specs.Operands.{object_field, variable_row, this_operand, type_in}
 use Rattle.flow_rules.specs.Labels.{label_sts}
-use Rattle.flow_rules.specs.Parts.{Part, a_load, a_store, is_accessed, parts, parts_all, parts_if, parts_assign, parts_st, parts_sts, parts_arms, parts_body, parts_of}
+use Rattle.flow_rules.specs.Parts.{a_load, a_store, is_accessed, parts_if, parts_assign, parts_st, parts_arms, parts_body, parts_of}
 use Rattle.run_cover.proofs.Untagging.{unlabel_sts}
-use Rattle.flow_rules.proofs.Listed.{contains_at, first, more}
-use Rattle.rebuild_model.specs.Renaming.{Renaming}
+use Rattle.flow_rules.proofs.Listed.{contains_at, more}
 use Rattle.rebuild_types.proofs.Statements.{fits_some}
 use Rattle.written_tree.specs.Names.{nowhere, written_type}
 use Rattle.written_tree.specs.Bodies.{scope_after_part, written, written_all, written_if, written_target, declared, written_st, written_sts, written_part, written_arms, written_else}
-use Rattle.tree_rebuilds.proofs.Nodes.{by_node}
-use Rattle.tree_given.proofs.Given.{Given, Bodied}
+use Rattle.tree_given.proofs.Given.{Given, Bodied, words}
 use Rattle.tree_given.proofs.Types.{cast_formed}
 use Rattle.tree_given.proofs.Forms.{literal, sign, infix_level, loop_formed}
 use Rattle.tree_given.proofs.Named as named
+use Rattle.run_cover.proofs.Walked.{walked}
+use Rattle.run_cover.proofs.Each.{left, right, past, here}
 
 module _ (C : Given) (B : Bodied C) where
-  abbrev Q : Plain
-  Q = C.program
-
-  abbrev P : Plain
-  P = untagged C.program
-
-  abbrev F : Facts
-  F = C.facts
-
-  abbrev H : Hierarchy
-  H = C.hierarchy
-
-  abbrev R : Renaming
-  R = by_node (untagged C.program) C.program C.facts C.hierarchy
-
-  abbrev m : ℕ
-  m = B.number
-
-  abbrev k : PlainMethod
-  k = B.method
+  open C use {hierarchy as H}
+  open words C use {plain as P, renaming as R}
+  open B use {number as m, method as k}
 
   -- the method without its places
   abbrev h : PlainMethod
   h = untag_method k
 
-  abbrev g : Env
-  g = env_of m k
-
-  abbrev type : Ex → Option ObjectType
-  type = type_in P m k
-
-  abbrev O : Ex → Operand
-  O e = operand_of P (type_in P m k) m k e
-
-  abbrev tree : Bool → Ex → List Part
-  tree u e = parts P (type_in P m k) m k u e
-
-  abbrev all : Bool → Exs → List Part
-  all u es = parts_all P (type_in P m k) m k u es
-
-  abbrev Stands : List Part → Type 0
-  Stands ps = (p : Part) → Contains ps p → Contains (parts_of P m k) p
-
-  left : (ps qs : List Part) → Stands (ps ++ qs) → Stands ps
-  left ps qs st p c = st p (Contains-append_left ps qs p c)
-
-  right : (ps qs : List Part) → Stands (ps ++ qs) → Stands qs
-  right ps qs st p c = st p (Contains-append_right ps qs p c)
-
-  past : (p : Part) (qs : List Part) → Stands (p ∷ qs) → Stands qs
-  past p qs st x c = st x (more x p qs c)
-
-  here : (p : Part) (qs : List Part) → Stands (p ∷ qs) → Contains (parts_of P m k) p
-  here p qs st = st p (first p qs)
-
-  abbrev IsTyped : Ex → Type 0
-  IsTyped e = Typed P g (bare e)
-
-  abbrev IsFormedEx : List ℕ → Ex → Type 0
-  IsFormedEx sc e = FormedEx P h sc (bare e)
-
-  abbrev old : Ex → Static
-  old e = static P g (bare e)
+  open walked P m k use {env as g, type, operand as O, tree, tree_all as all, Stands, IsTyped, IsFormed as IsFormedEx}
+  open walked P m k use {static as old, tree_sts as sts, tree_if as if_there}
 
   -- how an expression is written
   abbrev E : List ℕ → Ex → Expression
@@ -246,12 +188,6 @@ module _ (C : Given) (B : Bodied C) where
   step_formed wr no_st one w = tt
   step_formed wr (st_then x no_st) one w = (act_written wr x one, w.0)
   step_formed wr (st_then x (st_then y ys)) one w = absurd (false≢true one)
-
-  abbrev sts : Sts → List Part
-  sts xs = parts_sts P (type_in P m k) m k xs
-
-  abbrev if_there : Option Ex → List Part
-  if_there e = parts_if P (type_in P m k) m k e
 
   abbrev Ss : List ℕ → Sts → Statements
   Ss wr xs = written_sts P R H m h wr xs

@@ -7,6 +7,10 @@ use Rattle.fact_model.specs.declared.sets.PointsTo.{PointsTo}
 use Rattle.fact_model.specs.declared.sets.Table.{Table}
 use Rattle.hier_model.specs.Hierarchies.{Hierarchy}
 use Rattle.java_core.specs.Untagged.{untagged}
+use Rattle.flow_rules.specs.Lists.{Numbers}
+use Rattle.flow_rules.specs.Facts.{numbers}
+use Rattle.rebuild_model.specs.Renaming.{Renaming}
+use Rattle.tree_rebuilds.proofs.Nodes.{by_node}
 use Rattle.facts_order.proofs.Pairs.{IsPlaced}
 use Rattle.rebuild_types.specs.Laws.{IsReady}
 
@@ -25,3 +29,16 @@ pub record Bodied (C : Given) : Type 0 where
   pub method : PlainMethod
   pub stands : slice_get C.program.methods number ≡ Some method
   pub bodied : is_some method.body ≡ true
+
+-- the program without its places, the numbers of its rows and columns, and the names of the written tree
+pub record Words : Type 0 where
+  pub plain : Plain
+  pub numbers : Numbers
+  pub renaming : Renaming
+
+abbrev pub words : Given → Words
+words C = record {
+  plain = untagged C.program;
+  numbers = numbers (untagged C.program) C.program;
+  renaming = by_node (untagged C.program) C.program C.facts C.hierarchy;
+}

@@ -2,32 +2,26 @@
 use Rattle.std.proofs.Common.{◌≡◌, ℕ, ◌<◌, Bool, true, false, List, [], length, Option, Some, None, Contains, refl, sym, ap, ◌∙◌, subst}
 use Rattle.std.specs.Prelude.{option_and_then}
 use Rattle.std.specs.Option.{is_some, option_map_or}
-use Rattle.kaba_base.specs.declared.Place.{Place}
 use Rattle.java_lex.specs.Writable.{IsName}
 use Rattle.java_tree.specs.Syntax.{NullLit, Expressions}
 use Rattle.java_print.specs.Formed as printed
 use Rattle.java_print.specs.Formed.{is_target, IsFormed, AreFormed, IsFormedBase}
 use Rattle.java_core.specs.declared.Ty.{Ty}
 use Rattle.java_core.specs.Trees.{Tag, Ex, Exs, call, super_call, Sts}
-use Rattle.java_core.specs.Programs.{Plain, PlainLocal, PlainField, PlainMethod}
+use Rattle.java_core.specs.Programs.{PlainLocal, PlainField, PlainMethod}
 use Rattle.java_core.specs.Classes.{slot_of, slot_of_method, declaration_of, super_method, has_body}
-use Rattle.java_core.specs.Types.{Static, Env, env_of, class_of, field_in, field_type, access_type, Signature, call_signature, super_signature, static}
-use Rattle.java_core.specs.Typing.{Typed}
-use Rattle.java_core.specs.Formed.{IsClass, IsType, IsOwnField, IsFormedMethod, IsStaticField, IsStaticMethod, variables_of, FormedEx}
-use Rattle.java_core.specs.Untagged.{bare, untag_body, untag_method, untagged}
+use Rattle.java_core.specs.Types.{Static, env_of, class_of, field_in, field_type, access_type, Signature, call_signature, super_signature, static}
+use Rattle.java_core.specs.Formed.{IsClass, IsType, IsOwnField, IsFormedMethod, IsStaticField, IsStaticMethod, variables_of}
+use Rattle.java_core.specs.Untagged.{bare, untag_body, untag_method}
 use Rattle.java_meaning.proofs.WatchedPrograms.{bare_static}
-use Rattle.fact_model.specs.declared.facts.Facts.{Facts}
 use Rattle.fact_model.specs.declared.facts.AccessInfo.{AccessInfo}
-use Rattle.hier_model.specs.Hierarchies.{Hierarchy}
-use Rattle.flow_rules.specs.declared.items.ObjectType.{ObjectType}
-use Rattle.flow_rules.specs.declared.items.Operand.{Operand}
 use Rattle.flow_rules.specs.declared.items.ColumnItem.TheVariants as column
 use Rattle.flow_rules.specs.declared.items.RowItem.{RowItem}
 use Rattle.flow_rules.specs.declared.items.RowItem.TheVariants as row
-use Rattle.flow_rules.specs.Operands.{object_field, call_slot, call_declaration, row_of, operand_of, operands_of, this_operand, type_in}
-use Rattle.flow_rules.specs.Parts.{Part, a_creation, a_call, a_super_call, parts, parts_all, parts_of}
-use Rattle.flow_rules.specs.Numbered.{row_number, number_if, site_number}
-use Rattle.flow_rules.specs.Lists.{Numbers, accessed, row_in, row_at, accesses_of}
+use Rattle.flow_rules.specs.Operands.{object_field, call_slot, call_declaration, row_of, this_operand, type_in}
+use Rattle.flow_rules.specs.Parts.{Part, a_call, a_super_call, parts_of}
+use Rattle.flow_rules.specs.Numbered.{row_number, number_if}
+use Rattle.flow_rules.specs.Lists.{accessed, row_in, row_at, accesses_of}
 use Rattle.flow_rules.specs.Facts.{numbers}
 use Rattle.run_cover.specs.Slotted.{HaveSlots}
 use Rattle.run_cover.proofs.Included.{class_object}
@@ -36,51 +30,28 @@ use Rattle.run_cover.proofs.HasNumbers.{this_row}
 use Rattle.run_cover.proofs.HasRows.{method_of}
 use Rattle.run_cover.proofs.Types.{class_apart, slot_called}
 use Rattle.run_cover.proofs.TypedParts as typed_parts
-use Rattle.run_cover.proofs.Kinded.{site_type}
-use Rattle.run_cover.proofs.Unique.{creation_type}
+use Rattle.run_cover.proofs.TypedParts.{TypedBody}
 use Rattle.flow_rules.proofs.Listed.{at_below, below_at, contains_at}
-use Rattle.rebuild_model.specs.Renaming.{Renaming}
 use Rattle.rebuild_types.proofs.Retyped.{class_typed}
 use Rattle.rebuild_types.proofs.Finding.{access_found, found_instance}
 use Rattle.written_tree.specs.Names.{nowhere, class_name, row_name, written_base}
 use Rattle.written_tree.specs.Bodies.{static_field_tree, static_call_tree, static_field_name, static_call_name, variable_name, is_simple}
-use Rattle.tree_rebuilds.proofs.Nodes.{by_node}
-use Rattle.tree_given.proofs.Given.{Given, Bodied}
+use Rattle.tree_given.proofs.Given.{Given, Bodied, words}
 use Rattle.tree_given.proofs.Types.{known_class_named, row_named, base_formed}
 use Rattle.tree_given.proofs.Asked.{field_asked, call_asked, access_of, super_asked}
 use Rattle.tree_given.proofs.Forms.{field_tree, call_tree}
+use Rattle.run_cover.proofs.Walked.{walked}
 
 module _ (C : Given) (B : Bodied C) where
-  abbrev Q : Plain
-  Q = C.program
-
-  abbrev P : Plain
-  P = untagged C.program
-
-  abbrev F : Facts
-  F = C.facts
-
-  abbrev H : Hierarchy
-  H = C.hierarchy
-
-  abbrev R : Renaming
-  R = by_node (untagged C.program) C.program C.facts C.hierarchy
-
-  abbrev m : ℕ
-  m = B.number
-
-  abbrev k : PlainMethod
-  k = B.method
-
-  abbrev N : Numbers
-  N = numbers P Q
+  open C use {program as Q, facts as F, hierarchy as H}
+  open words C use {plain as P, renaming as R, numbers as N}
+  open B use {number as m, method as k}
 
   -- the method without its places
   abbrev h : PlainMethod
   h = untag_method k
 
-  abbrev g : Env
-  g = env_of m k
+  open walked P m k use {env as g, type, operand as O, tree, Stands, IsTyped, IsFormed as IsFormedEx, static as old, operands}
 
   pub plain_method : IsFormedMethod P h
   plain_method = C.ready.formed.methods m h (method_of Q C.ready.formed m k B.stands)
@@ -89,33 +60,9 @@ module _ (C : Given) (B : Bodied C) where
   unfolding HaveSlots
   slots d f e i = (C.ready.formed.methods d f e).slotted i
 
-  pub unique : (q : Place) (u : Bool) (o : Operand) (n s : ℕ) → Contains (parts_of P m k) (a_creation q u o) → o.created ≡ Some n
-      → site_number P Q n ≡ Some s → o.ty ≡ Some (site_type F s)
-  unique q u o n s c ec es = creation_type Q F C.ready.formed C.ready.facts m k B.stands q u o n s c ec es
-
-  abbrev type : Ex → Option ObjectType
-  type = type_in P m k
-
-  abbrev O : Ex → Operand
-  O e = operand_of P (type_in P m k) m k e
-
-  abbrev tree : Bool → Ex → List Part
-  tree u e = parts P (type_in P m k) m k u e
-
-  abbrev all : Bool → Exs → List Part
-  all u es = parts_all P (type_in P m k) m k u es
-
-  abbrev Stands : List Part → Type 0
-  Stands ps = (p : Part) → Contains ps p → Contains (parts_of P m k) p
-
-  abbrev IsTyped : Ex → Type 0
-  IsTyped e = Typed P g (bare e)
-
-  abbrev IsFormedEx : List ℕ → Ex → Type 0
-  IsFormedEx sc e = FormedEx P h sc (bare e)
-
-  abbrev old : Ex → Static
-  old e = static P g (bare e)
+  abbrev T : TypedBody
+  T = let r = C.ready in
+      record { program = Q; facts = F; formed = r.formed; slots = slots; are_facts = r.facts; number = m; method = k; stands = B.stands; bodied = B.bodied }
 
   -- ---- names
 
@@ -156,8 +103,8 @@ module _ (C : Given) (B : Bodied C) where
   base_row : (u : Bool) (sc : List ℕ) (e : Ex) (c : ℕ) → IsTyped e → IsFormedEx sc e → Stands (tree u e) → class_of (old e) ≡ Some c
       → (r : ℕ) × (row_at N (O e) ≡ Some r)
   base_row u sc e c ty fo st s =
-      let r = typed_parts.row_listed Q F C.ready.formed slots m k B.stands B.bodied unique u sc e ty fo st (record { class = record { 0 = c }; dim = 0 })
-      (typed_parts.of_typed Q F C.ready.formed slots m k B.stands B.bodied unique e (record { class = record { 0 = c }; dim = 0 }) (class_typed (old e) c s)) in
+      let r = typed_parts.row_listed T u sc e ty fo st (record { class = record { 0 = c }; dim = 0 })
+      (typed_parts.of_typed T e (record { class = record { 0 = c }; dim = 0 }) (class_typed (old e) c s)) in
       (r.0, same_number (row_of P (type_in P m k) m k e) ∙ r.1)
 
   self_row : k.is_static ≡ false → (r : ℕ) × (row_at N (this_operand m k) ≡ Some r)
@@ -165,16 +112,13 @@ module _ (C : Given) (B : Bodied C) where
 
   field_seen : (e : Ex) (x : List ℕ) (f : ℕ) → field_in P (old e) x ≡ Some f → object_field P (type e) x ≡ Some f
   field_seen e x f l =
-      typed_parts.field_found Q F C.ready.formed slots m k B.stands B.bodied unique e x ∙ ap (λ z. field_in P z x) (sym (bare_static P g e)) ∙ l
+      typed_parts.field_found T e x ∙ ap (λ z. field_in P z x) (sym (bare_static P g e)) ∙ l
 
   declaration_seen : (e : Ex) (x : List ℕ) (c d : ℕ) → class_of (old e) ≡ Some c → declaration_of P c x ≡ Some d
       → call_declaration P (type e) x ≡ Some d
   unfolding type_in
   declaration_seen e x c d l f =
       ap (λ z. option_and_then (λ c. declaration_of P c x) z) (class_object (static P g e) ∙ ap class_of (sym (bare_static P g e)) ∙ l) ∙ f
-
-  abbrev operands : Exs → List Operand
-  operands es = operands_of P (type_in P m k) m k es
 
   -- the field that a part asks for; where an access finds none, as for the length of an array, the name stays
   pub field_named : (u : Bool) (sc : List ℕ) (e : Ex) (x : List ℕ) (part : Option ℕ → Part) → IsTyped e → IsFormedEx sc e
@@ -188,7 +132,7 @@ module _ (C : Given) (B : Bodied C) where
       go : (o : Option ℕ) → field_in P (old e) x ≡ o → IsName (option_map_or R.field_name o x)
       go None l = n
       go (Some f) l =
-          let c = typed_parts.field_class Q F C.ready.formed slots m k B.stands B.bodied unique (old e) x f l in
+          let c = typed_parts.field_class T (old e) x f l in
           let r = base_row u sc e c.0 ty fo st c.1 in
           let w = found_instance P (old e) x f l (some f l) in
           let in_body = subst (λ z. Contains (parts_of P m k) (part z)) (field_seen e x f l) there in
@@ -239,13 +183,12 @@ module _ (C : Given) (B : Bodied C) where
       → Contains (parts_of P m k) (a_super_call t.place (super_method P k.owner x) (operands es) (O (super_call t x es)))
       → IsName (option_map_or R.method_name (super_method P k.owner x) x)
   super_named t x es d sig instance found bodied called there =
-      let o = typed_parts.method_sig Q F C.ready.formed slots m k B.stands B.bodied unique d sig
-      (sym (typed_parts.super_sig Q F C.ready.formed slots m k B.stands B.bodied unique x d found) ∙ called) in
+      let o = typed_parts.method_sig T d sig (sym (typed_parts.super_sig T x d found) ∙ called) in
       let r = self_row instance in
       subst (λ z. IsName (option_map_or R.method_name z x)) (sym found)
       (super_asked C m k B.stands t.place d (operands es) (O (super_call t x es))
       (subst (λ z. Contains (parts_of P m k) (a_super_call t.place z (operands es) (O (super_call t x es)))) found there) r.0 r.1 o.0 o.1
-      (typed_parts.super_instance Q F C.ready.formed slots m k B.stands B.bodied unique k.owner x d found o.0 o.1)
+      (typed_parts.super_instance T k.owner x d found o.0 o.1)
       (same_some o.0.body ∙ sym (ap (λ z. option_map_or (λ (k : PlainMethod). is_some k.body) z false) (method_of Q C.ready.formed d o.0 o.1)) ∙ bodied))
     where
       same_some : (o : Option Sts) → is_some o ≡ is_some (untag_body o)

@@ -10,30 +10,25 @@ use Rattle.kaba_bits.proofs.FirstLemmas.{first_below_None, or_else-None, when-No
 use Rattle.kaba_bits.proofs.SetLemmas.{bit-below}
 use Rattle.kaba_order.specs.Orders.{is_live}
 use Rattle.java_lex.specs.Writable.{IsName}
-use Rattle.java_core.specs.Programs.{Plain}
 use Rattle.java_core.specs.Classes.{slot_of_method}
 use Rattle.fact_model.specs.Items.{column_kind, column_slot}
-use Rattle.fact_model.specs.declared.facts.Facts.{Facts}
 use Rattle.fact_model.specs.declared.facts.ColKind.{ColKind}
 use Rattle.fact_model.specs.declared.facts.ColKind.TheVariants.{Fld, Dcl, Def, Is}
 use Rattle.fact_model.proofs.RangeLemmas.{column-below}
-use Rattle.hier_model.specs.Hierarchies.{Hierarchy, place_of_column, is_at, stands_at, is_method, type_name, member_name}
+use Rattle.hier_model.specs.Hierarchies.{place_of_column, is_at, stands_at, is_method, type_name, member_name}
 use Rattle.hier_laws.specs.Shapes.{Offers}
 use Rattle.hier_rules.specs.declared.broken.Rule.TheVariants.{B8}
 use Rattle.hier_rules.specs.Instances.{of_column, of_node}
-use Rattle.hier_rules.specs.Names.{is_member, unwritable_type, is_unwritable, unwritable, first_unwritable, first_taken_type, first_taken_field, first_confused, first_misnamed}
-use Rattle.hier_rules.specs.Obligations.{first_unoffered, first_untied, first_unchained}
-use Rattle.hier_rules.specs.First.{first_of_edit, first_changed_run}
+use Rattle.hier_rules.specs.Names.{is_member, unwritable_type, is_unwritable, unwritable}
 use Rattle.hier_begin.proofs.ShapeLemmas.{shape, placed}
 use Rattle.flow_rules.specs.declared.items.ColumnItem.TheVariants as column
 use Rattle.flow_rules.specs.Facts.{numbers}
-use Rattle.java_core.specs.Untagged.{untagged}
-use Rattle.rebuild_model.specs.Renaming.{Renaming, renaming_of}
+use Rattle.rebuild_model.specs.Renaming.{renaming_of}
 use Rattle.rebuild_looks.specs.Known.{AreColumns}
 use Rattle.rebuild_given.proofs.Given.{columns as columns_are}
-use Rattle.tree_rebuilds.proofs.Nodes.{by_node}
-use Rattle.tree_given.proofs.Given.{Given}
+use Rattle.tree_given.proofs.Given.{Given, words}
 use Rattle.tree_given.proofs.Letters.{named}
+use Rattle.hier_begin.proofs.Unbroken.{none_broken}
 
 passes : (b c : Bool) → b ≡ true → (b && not c) ≡ false → c ≡ true
 passes true true e h = refl
@@ -47,35 +42,15 @@ method_member Def h = refl
 method_member Is h = h
 
 module _ (C : Given) where
-  abbrev Q : Plain
-  Q = C.program
-
-  abbrev P : Plain
-  P = untagged C.program
-
-  abbrev F : Facts
-  F = C.facts
-
-  abbrev H : Hierarchy
-  H = C.hierarchy
-
-  abbrev R : Renaming
-  R = by_node (untagged C.program) C.program C.facts C.hierarchy
-
-  all_written : first_unwritable F H ≡ None
-  all_written =
-      let edit = (or_else-None (first_of_edit F C.sets H) (first_unchained F H) C.ready.unbroken).0 in
-      let two = (or_else-None (first_unoffered F H) (or_else (first_untied F C.sets H) (or_else (first_changed_run F C.sets H) (first_misnamed F H))) edit).1 in
-      let three = (or_else-None (first_untied F C.sets H) (or_else (first_changed_run F C.sets H) (first_misnamed F H)) two).1 in
-      let names = (or_else-None (first_changed_run F C.sets H) (first_misnamed F H) three).1 in
-      (or_else-None (first_unwritable F H) (or_else (first_taken_type F H) (or_else (first_taken_field F H) (first_confused F H))) names).0
+  open C use {program as Q, facts as F, hierarchy as H}
+  open words C use {plain as P, renaming as R}
 
   at_node : (n : ℕ) → is_live H.order n ≡ true
       → (unwritable_type F H n ≡ None) × (first_below (length F.columns.items) (unwritable F H n) ≡ None)
   at_node n live =
       or_else-None (unwritable_type F H n) (first_below (length F.columns.items) (unwritable F H n))
       (first_below_None (λ n. or_else (unwritable_type F H n) (first_below (length F.columns.items) (unwritable F H n))) (length H.order.live) n
-      all_written (bit-below H.order.live n live))
+      (none_broken F C.sets H C.ready.unbroken).names.written (bit-below H.order.live n live))
 
   -- the name of a live node
   pub type_named : (n : ℕ) → is_live H.order n ≡ true → IsName (type_name H n)

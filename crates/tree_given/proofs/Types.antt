@@ -13,45 +13,27 @@ use Rattle.java_print.specs.Formed.{IsFormedBase, IsCastBase}
 use Rattle.java_core.specs.declared.Ty.{Ty}
 use Rattle.java_core.specs.declared.TyBase.{TyBase}
 use Rattle.java_core.specs.declared.TyBase.TheVariants.{Int, Boolean, Char, Str, Class}
-use Rattle.java_core.specs.Programs.{Plain, PlainClass}
+use Rattle.java_core.specs.Programs.{PlainClass}
 use Rattle.java_core.specs.Formed.{IsClass, IsKnownBase, IsCastType, to_int, to_char, to_class}
-use Rattle.fact_model.specs.declared.facts.Facts.{Facts}
-use Rattle.hier_model.specs.Hierarchies.{Hierarchy, place_of_row}
+use Rattle.hier_model.specs.Hierarchies.{place_of_row}
 use Rattle.flow_rules.specs.declared.items.RowItem.{RowItem}
 use Rattle.flow_rules.specs.Numbered.{row_number}
 use Rattle.flow_rules.specs.Facts.{numbers}
-use Rattle.java_core.specs.Untagged.{untagged}
 use Rattle.flow_rules.proofs.Listed.{below_at}
-use Rattle.rebuild_model.specs.Renaming.{Renaming, renaming_of}
+use Rattle.rebuild_model.specs.Renaming.{renaming_of}
 use Rattle.written_tree.specs.Names.{class_name, row_name, written_base}
-use Rattle.tree_rebuilds.proofs.Nodes.{by_node}
 use Rattle.tree_rebuilds.proofs.Retyped.{row_live}
-use Rattle.tree_given.proofs.Given.{Given}
+use Rattle.tree_given.proofs.Given.{Given, words}
 use Rattle.tree_given.proofs.Names.{type_named}
+use Rattle.java_meaning.proofs.Instance.{name_object as object_named}
 
 text_named : IsName (codes "String")
 unfolding is_xid_start is_xid_continue in_ranges xid_start_ranges xid_continue_ranges key_text
 text_named = record { named = refl; scalars = refl }
 
-object_named : IsName (codes "Object")
-unfolding is_xid_start is_xid_continue in_ranges xid_start_ranges xid_continue_ranges key_text
-object_named = record { named = refl; scalars = refl }
-
 module _ (C : Given) where
-  abbrev Q : Plain
-  Q = C.program
-
-  abbrev P : Plain
-  P = untagged C.program
-
-  abbrev F : Facts
-  F = C.facts
-
-  abbrev H : Hierarchy
-  H = C.hierarchy
-
-  abbrev R : Renaming
-  R = by_node (untagged C.program) C.program C.facts C.hierarchy
+  open C use {program as Q, facts as F, hierarchy as H}
+  open words C use {plain as P, renaming as R}
 
   -- a class of the program
   pub class_named : (c : ℕ) (k : PlainClass) → slice_get P.classes c ≡ Some k → IsName k.name

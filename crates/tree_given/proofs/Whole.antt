@@ -20,14 +20,13 @@ use Rattle.java_core.specs.Classes.{slot_of_method}
 use Rattle.java_core.specs.Types.{env_of}
 use Rattle.java_core.specs.Typing.{IsTypedMethod, TypedSts}
 use Rattle.java_core.specs.Formed.{IsKnownResult}
-use Rattle.java_core.specs.Untagged.{bare_sts, untag_body, untag_method, untagged}
+use Rattle.java_core.specs.Untagged.{bare_sts, untag_body, untag_method}
 use Rattle.fact_model.specs.Items.{column_kind, column_slot}
 use Rattle.fact_model.specs.Classes.{is_slot}
-use Rattle.fact_model.specs.declared.facts.Facts.{Facts}
 use Rattle.fact_model.specs.declared.facts.ColumnInfo.{ColumnInfo}
 use Rattle.fact_model.specs.declared.facts.ColKind.{ColKind}
 use Rattle.fact_model.specs.declared.facts.ColKind.TheVariants as kind
-use Rattle.hier_model.specs.Hierarchies.{Hierarchy, place_of_column, type_name, is_at, is_above, stands_at, is_offered, is_method, offers_slot, is_class_node}
+use Rattle.hier_model.specs.Hierarchies.{Hierarchy, place_of_column, is_at, is_above, stands_at, is_offered, is_method, offers_slot, is_class_node}
 use Rattle.hier_model.proofs.AnyLemmas.{any_below_some}
 use Rattle.hier_rules.specs.Names.{is_member}
 use Rattle.flow_rules.specs.declared.items.ColumnItem.{ColumnItem}
@@ -41,18 +40,17 @@ use Rattle.run_cover.proofs.Untagging.{same_env}
 use Rattle.run_cover.proofs.HasRows.{method_of, of_method}
 use Rattle.flow_rules.proofs.Listed.{first, more, at_contains, contains_at, index_at, map_at, map_from, each_from_zero, when_from, one_from}
 use Rattle.facts_order.proofs.Items.{column_back}
-use Rattle.rebuild_model.specs.Renaming.{Renaming}
 use Rattle.rebuild_model.specs.Members.{is_made_at, offers_body, is_filled}
 use Rattle.written_tree.specs.Names.{modifier, written_type}
 use Rattle.written_tree.specs.Bodies.{written_sts}
 use Rattle.written_tree.specs.Members.{is_declaration, value_of_none, filling, parameters, param, head, body, holder_members, class_members, interface_heads}
 use Rattle.written_tree.specs.Supers.{is_cover, nodes_that, superclass, type_id, extended}
 use Rattle.written_tree.specs.Written.{class_modifiers, type_tree}
-use Rattle.tree_rebuilds.proofs.Methods.{slot_is}
+use Rattle.rebuild_looks.proofs.Slots.{slot_says as slot_is}
 use Rattle.tree_rebuilds.proofs.Members.{IsHeadTree, IsHeadAt, IsMember, a_field, a_body, a_head, a_filler, class_from, interface_from, IsStatic, a_static_field, a_static_method, holder_from}
-use Rattle.tree_rebuilds.proofs.Nodes.{items, by_node, tree, Declares, a_node, a_holder, declares}
+use Rattle.tree_rebuilds.proofs.Nodes.{items, tree, Declares, a_node, a_holder, declares}
 use Rattle.tree_rebuilds.proofs.Order.{superclass_from, cover_from, among_from}
-use Rattle.tree_given.proofs.Given.{Given}
+use Rattle.tree_given.proofs.Given.{Given, words}
 use Rattle.tree_given.proofs.Names.{columns, method_member, type_named, member_named, field_name_is, method_name_is}
 use Rattle.tree_given.proofs.Types.{class_named, base_formed}
 use Rattle.tree_given.proofs.Bodies.{body_formed}
@@ -97,20 +95,8 @@ offered_at H n c h = go (place_of_column H c) h
     go (Some p) e = (p.0, eq-eqb p.0 p.0 refl)
 
 module _ (C : Given) where
-  abbrev Q : Plain
-  Q = C.program
-
-  abbrev P : Plain
-  P = untagged C.program
-
-  abbrev F : Facts
-  F = C.facts
-
-  abbrev H : Hierarchy
-  H = C.hierarchy
-
-  abbrev R : Renaming
-  R = by_node (untagged C.program) C.program C.facts C.hierarchy
+  open C use {program as Q, facts as F, hierarchy as H}
+  open words C use {plain as P, renaming as R}
 
   abbrev order : IsPartialOrder H.order
   order = C.ready.hierarchy.sized.order
@@ -229,15 +215,12 @@ module _ (C : Given) where
 
   -- ---- declarations
 
-  node_named : (n : ℕ) → is_live H.order n ≡ true → IsName (type_name H n)
-  node_named n live = type_named C n live
-
   parent_formed : (n : ℕ) → IsFormedParent (extended F H n)
   parent_formed n = go (superclass F H n) refl
     where
       go : (o : Option ℕ) → superclass F H n ≡ o → IsFormedParent (option_map (type_id F H) o)
       go None e = tt
-      go (Some a) e = node_named a (order.upper_lives n a (superclass_from F H order C.sets C.ready.unbroken n a e).above)
+      go (Some a) e = type_named C a (order.upper_lives n a (superclass_from F H order C.sets C.ready.unbroken n a e).above)
 
   among_formed : (n : ℕ) (p : ℕ → Bool) → ((a : ℕ) → p a ≡ true → is_cover H.order n a ≡ true)
       → Each IsFormedId (map (type_id F H) (nodes_that H.order p))
@@ -247,12 +230,12 @@ module _ (C : Given) where
       let z = map_from (type_id F H) (nodes_that H.order p) x c in
       let up = cover_from F H order C.sets C.ready.unbroken n z.0
       (covers z.0 (among_from F H order C.sets C.ready.unbroken p z.0 z.1)) in
-      subst IsFormedId z.2 (node_named z.0 (order.upper_lives n z.0 up.above)))
+      subst IsFormedId z.2 (type_named C z.0 (order.upper_lives n z.0 up.above)))
 
   type_formed : (b : Bool) (n : ℕ) → is_live H.order n ≡ true → IsFormedDecl (type_tree P R F H (items P Q F H) b n)
   type_formed true n live = (
     made_modifiers (is_made_at F H n),
-    node_named n live,
+    type_named C n live,
     parent_formed n,
     among_formed n (λ a. is_cover H.order n a && not (is_class_node F H a))
         (λ a h. (and_parts (is_cover H.order n a) (not (is_class_node F H a)) h).0),
@@ -260,7 +243,7 @@ module _ (C : Given) where
   )
   type_formed false n live = (
     tt,
-    node_named n live,
+    type_named C n live,
     among_formed n (λ a. is_cover H.order n a) (λ a h. h),
     each_of IsFormedHead (interface_heads P R F H n) (λ x c. head_at [] n x tt (interface_from P R F H n x c)),
   )
