@@ -6,8 +6,7 @@ use Rattle.std.specs.Str.{bytes_eq}
 use Rattle.std.proofs.lemmas.Bool.{false≢true, and_from, and_parts, or_left, or_right, or_parts, ne_eqb, cases_eq, cases_Bool, or_cases, eqb-true}
 use Rattle.std.proofs.lemmas.Option.{same_Some}
 use Rattle.std.proofs.lemmas.Slice.Eq.{bytes_eq-Decides}
-use Rattle.kaba_bits.specs.Sets.{or_else}
-use Rattle.kaba_bits.proofs.FirstLemmas.{first_below_None, or_else-None, when-None}
+use Rattle.kaba_bits.proofs.FirstLemmas.{first_below_None, when-None}
 use Rattle.kaba_bits.proofs.SetLemmas.{bit-below}
 use Rattle.kaba_order.specs.Orders.{is_live}
 use Rattle.java_core.specs.Programs.{Plain, PlainClass, PlainField, PlainMethod}
@@ -18,12 +17,12 @@ use Rattle.hier_model.specs.Hierarchies.{Hierarchy, type_name}
 use Rattle.hier_model.proofs.AnyLemmas.{any_below_none}
 use Rattle.hier_rules.specs.declared.broken.Rule.TheVariants.{B8}
 use Rattle.hier_rules.specs.Instances.{of_node}
-use Rattle.hier_rules.specs.Names.{known_names, is_reserved, is_variable, is_named, is_other_type, is_taken_type, taken_type, first_taken_type, first_unwritable, first_taken_field, first_confused, first_misnamed}
-use Rattle.hier_rules.specs.Obligations.{first_unoffered, first_untied, first_unchained}
-use Rattle.hier_rules.specs.First.{first_of_edit, first_changed_run, first_broken}
+use Rattle.hier_rules.specs.Names.{known_names, is_reserved, is_variable, is_named, is_other_type, is_taken_type, taken_type}
+use Rattle.hier_rules.specs.First.{first_broken}
 use Rattle.flow_rules.specs.Facts.{is_holder, IsFactsOf}
 use Rattle.facts_order.proofs.Pairs.{IsPlaced}
 use Rattle.facts_order.proofs.Classes.{class_at, class_there}
+use Rattle.hier_begin.proofs.Unbroken.{none_broken}
 
 -- a test holds somewhere in a list
 pub any_at : {A : Type 0} (p : A → Bool) (xs : List A) → list_any p xs ≡ true → (i : ℕ) × (x : A) × (slice_get xs i ≡ Some x) × (p x ≡ true)
@@ -78,18 +77,9 @@ holder_placed P Q placed c h =
     (list_any (λ (f : PlainMethod). f.is_static && (f.owner == c)) P.methods) h)
 
 module _ (F : Facts) (pt : PointsTo) (H : Hierarchy) (none : first_broken F pt H ≡ None) where
-  taken_none : first_taken_type F H ≡ None
-  taken_none =
-      let edit = (or_else-None (first_of_edit F pt H) (first_unchained F H) none).0 in
-      let two = (or_else-None (first_unoffered F H) (or_else (first_untied F pt H) (or_else (first_changed_run F pt H) (first_misnamed F H))) edit).1 in
-      let three = (or_else-None (first_untied F pt H) (or_else (first_changed_run F pt H) (first_misnamed F H)) two).1 in
-      let names = (or_else-None (first_changed_run F pt H) (first_misnamed F H) three).1 in
-      let later = (or_else-None (first_unwritable F H) (or_else (first_taken_type F H) (or_else (first_taken_field F H) (first_confused F H))) names).1 in
-      (or_else-None (first_taken_type F H) (or_else (first_taken_field F H) (first_confused F H)) later).0
-
   not_taken : (n : ℕ) → is_live H.order n ≡ true → is_taken_type F H n ≡ false
   not_taken n h =
-      let one = first_below_None (taken_type F H) (length H.order.live) n taken_none (bit-below H.order.live n h) in
+      let one = first_below_None (taken_type F H) (length H.order.live) n (none_broken F pt H none).names.types (bit-below H.order.live n h) in
       sym (ap (λ z. z && is_taken_type F H n) h) ∙ when-None (is_live H.order n && is_taken_type F H n) (of_node B8 n) one
 
   pub taken_parts : (n : ℕ) → is_live H.order n ≡ true → ((is_other_type F H n (type_name H n) || is_reserved F (type_name H n)) ≡ false) ×

@@ -31,7 +31,7 @@ use Rattle.tree_rebuilds.proofs.Members.{IsMember, a_field, a_body, a_head, a_fi
 use Rattle.tree_rebuilds.proofs.Retyped.{field_row, type_is}
 use Rattle.tree_rebuilds.proofs.Given.{Given, T, Stands, stands_from, column_there, class_there}
 
-module _ (P Q : Plain) (F : Facts) (pt : PointsTo) (H : Hierarchy) (V : Plain) (G : Given P Q F pt H V) where
+module _ {P Q : Plain} {F : Facts} {pt : PointsTo} {H : Hierarchy} {V : Plain} (G : Given P Q F pt H V) where
   abbrev types : List (List ℕ)
   types = types_in (java_tree P Q F H)
 
@@ -42,10 +42,10 @@ module _ (P Q : Plain) (F : Facts) (pt : PointsTo) (H : Hierarchy) (V : Plain) (
   R₀ = by_node P Q F H
 
   abbrev IsOldField : ℕ → PlainField → Type 0
-  IsOldField f k = IsField P Q F H U (T P Q F pt H V G) f k
+  IsOldField f k = IsField P Q F H U (T G) f k
 
   abbrev IsOldStatic : ℕ → ℕ → Type 0
-  IsOldStatic f g = IsStaticFieldOf P Q F H U (T P Q F pt H V G) f g
+  IsOldStatic f g = IsStaticFieldOf P Q F H U (T G) f g
 
   -- the declarations of a field in the type of a node, and in a holder
   abbrev of_node : ℕ → ℕ → PlainField → FieldAt
@@ -63,7 +63,7 @@ module _ (P Q : Plain) (F : Facts) (pt : PointsTo) (H : Hierarchy) (V : Plain) (
 
   -- a field of a node
   node_field : (n i f : ℕ) (old : PlainField) (x : FieldAt) (new : PlainField) → slice_get (tree P Q F H) i ≡ Some (node_tree P Q F H n)
-      → Stands P Q F pt H V G (column.Fld f) n
+      → Stands G (column.Fld f) n
       → slice_get P.fields f ≡ Some old → Contains (declared_field (suc i) (field_member P R₀ H f old)) x → untag_field (field_outline types x) ≡ new
       → IsOldField f new
   unfolding renaming_of
@@ -101,7 +101,7 @@ module _ (P Q : Plain) (F : Facts) (pt : PointsTo) (H : Hierarchy) (V : Plain) (
           new_stands = at ∙ ap Some (sym made);
           old_static = p.0;
           new_static = refl;
-          owner = sym (holder_number P Q F H V G.resolves G.new c i k d e) ∙ ap (λ y. (T P Q F pt H V G).holder_of y) (sym (eqb-true old.owner c p.1));
+          owner = sym (holder_number P Q F H V G.resolves G.new c i k d e) ∙ ap (λ y. (T G).holder_of y) (sym (eqb-true old.owner c p.1));
           name = refl;
         };
         type = type_is P Q F G.facts H G.hierarchy V G.resolves G.new pt G.unbroken (row.Field f) old.ty (field_row P Q G.same G.formed f old o);
@@ -114,7 +114,7 @@ module _ (P Q : Plain) (F : Facts) (pt : PointsTo) (H : Hierarchy) (V : Plain) (
   in_class : (n i g : ℕ) (x : FieldAt) (new : PlainField) (m : MemberTree) → slice_get (tree P Q F H) i ≡ Some (node_tree P Q F H n)
       → IsMember P R₀ F H (items P Q F H) n m
       → Contains (declared_field (suc i) m) x → untag_field (field_outline types x) ≡ new → Origin g new
-  in_class n i g x new _ e (a_field c f k d at o) h is = inl (f, node_field n i f k x new e (stands_from P Q F pt H V G c (column.Fld f) n d at) o h is)
+  in_class n i g x new _ e (a_field c f k d at o) h is = inl (f, node_field n i f k x new e (stands_from G c (column.Fld f) n d at) o h is)
   in_class n i g x new _ e (a_body c f k d at o) h is = absurd (omega (arith, h.1))
   in_class n i g x new _ e (a_head t d) h is = absurd (omega (arith, h.1))
   in_class n i g x new _ e (a_filler s t d o) h is = absurd (omega (arith, h.1))
@@ -157,7 +157,7 @@ module _ (P Q : Plain) (F : Facts) (pt : PointsTo) (H : Hierarchy) (V : Plain) (
   static_field g new e h = ⊎_elim (λ z. absurd (false≢true (sym z.1.instance ∙ h))) (λ z. z) (origin g new e)
 
   -- the field of a column is an old one
-  old_field : (f n : ℕ) → Stands P Q F pt H V G (column.Fld f) n → (k : PlainField) × (slice_get P.fields f ≡ Some k)
+  old_field : (f n : ℕ) → Stands G (column.Fld f) n → (k : PlainField) × (slice_get P.fields f ≡ Some k)
   unfolding numbers
   old_field f n s =
       let x = column_at P Q (column.Fld f) s.number s.numbered in
@@ -169,12 +169,12 @@ module _ (P Q : Plain) (F : Facts) (pt : PointsTo) (H : Hierarchy) (V : Plain) (
       go _ (for_body m k e h b) d = absurd (cc d)
       go _ (for_mark c) d = absurd (cc d)
 
-  pub each_field : (f n : ℕ) → Stands P Q F pt H V G (column.Fld f) n → (g : ℕ) × (new : PlainField) × (slice_get U.fields g ≡ Some new) × IsOldField f new
+  pub each_field : (f n : ℕ) → Stands G (column.Fld f) n → (g : ℕ) × (new : PlainField) × (slice_get U.fields g ≡ Some new) × IsOldField f new
   each_field f n s =
-      let c = column_there P Q F pt H V G (column.Fld f) n s in
+      let c = column_there G (column.Fld f) n s in
       let k = old_field f n s in
       let z = node_at P Q F H n c.live in
-      let is_class = class_there P Q F pt H V G (column.Fld f) n s refl in
+      let is_class = class_there G (column.Fld f) n s refl in
       let x : FieldAt = of_node z.0 f k.0 in
       let m = field_has P R₀ F H (items P Q F H) n c.number f (column_info Q (column.Fld f)) k.0 c.info c.at c.item k.1 in
       let d : Contains (fields_declared (suc z.0) (node_tree P Q F H n)) x =

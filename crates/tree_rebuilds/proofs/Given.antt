@@ -37,7 +37,7 @@ pub record Given (P Q : Plain) (F : Facts) (pt : PointsTo) (H : Hierarchy) (V : 
   pub resolves : Resolves (java_tree P Q F H) V
   pub new : IsFormed (untagged V)
 
-module _ (P Q : Plain) (F : Facts) (pt : PointsTo) (H : Hierarchy) (V : Plain) (G : Given P Q F pt H V) where
+module _ {P Q : Plain} {F : Facts} {pt : PointsTo} {H : Hierarchy} {V : Plain} (G : Given P Q F pt H V) where
   abbrev pub T : Places
   T = places P Q F H V G.resolves G.new
 

@@ -110,7 +110,7 @@ unfolding strings
 from_strings o t e = ap (λ (b : TyBase). record { base = b; dim = t.dim }) (base_strings o t.base (ap (λ (z : Ty). z.base) e))
     ∙ ap (λ (d : ℕ). record { base = Str; dim = d }) (ap (λ (z : Ty). z.dim) e)
 
-module _ (P Q : Plain) (F : Facts) (pt : PointsTo) (H : Hierarchy) (V : Plain) (G : Given P Q F pt H V) (match : BodiesMatch P Q F pt H V G) where
+module _ {P Q : Plain} {F : Facts} {pt : PointsTo} {H : Hierarchy} {V : Plain} (G : Given P Q F pt H V) (match : BodiesMatch G) where
   abbrev U : Plain
   U = untagged V
 
@@ -123,7 +123,7 @@ module _ (P Q : Plain) (F : Facts) (pt : PointsTo) (H : Hierarchy) (V : Plain) (
   in_tree i d e = ap (λ w. slice_get w (length (nodes P Q F H) + i)) (tree_is P Q F H)
       ∙ get_right (nodes P Q F H) (holders P Q F H) i (length (nodes P Q F H) + i) refl ∙ e
 
-  pub holder_order : (c d : ℕ) → is_holder P c ≡ true → is_holder P d ≡ true → c < d → (T P Q F pt H V G).holder_of c < (T P Q F pt H V G).holder_of d
+  pub holder_order : (c d : ℕ) → is_holder P c ≡ true → is_holder P d ≡ true → c < d → (T G).holder_of c < (T G).holder_of d
   holder_order c d a b lt =
       let k = holder_class P G.formed c a in
       let h = holder_class P G.formed d b in
@@ -133,10 +133,10 @@ module _ (P Q : Plain) (F : Facts) (pt : PointsTo) (H : Hierarchy) (V : Plain) (
       let turn = t.turn in
       omega (arith, x, y, turn)
 
-  main_params : (m : ℕ) (k : PlainMethod) (vs : List PlainLocal) → types_of vs ≡ strings ∷ [] → new_types (R P Q F pt H V G) m k 0 vs ≡ strings ∷ []
+  main_params : (m : ℕ) (k : PlainMethod) (vs : List PlainLocal) → types_of vs ≡ strings ∷ [] → new_types (R G) m k 0 vs ≡ strings ∷ []
   main_params m k [] e = absurd (cc e)
   main_params m k (v ∷ []) e =
-      let o = (R P Q F pt H V G).row_type (variable_row m k 0) in
+      let o = (R G).row_type (variable_row m k 0) in
       let same : v.ty ≡ strings = head_same e in
       ap (λ t. retyped o t ∷ []) same ∙ ap (λ t. t ∷ []) (retyped_strings o)
     where
@@ -144,14 +144,13 @@ module _ (P Q : Plain) (F : Facts) (pt : PointsTo) (H : Hierarchy) (V : Plain) (
       head_same e = cc e
   main_params m k (v ∷ w ∷ vs) e = absurd (cc e)
 
-  old_params : (m : ℕ) (k : PlainMethod) (vs : List PlainLocal) → new_types (R P Q F pt H V G) m k 0 vs ≡ strings ∷ [] → types_of vs ≡ strings ∷ []
+  old_params : (m : ℕ) (k : PlainMethod) (vs : List PlainLocal) → new_types (R G) m k 0 vs ≡ strings ∷ [] → types_of vs ≡ strings ∷ []
   old_params m k [] e = absurd (cc e)
   old_params m k (v ∷ []) e =
-      let o = (R P Q F pt H V G).row_type (variable_row m k 0) in
+      let o = (R G).row_type (variable_row m k 0) in
       ap (λ t. t ∷ []) (from_strings o v.ty (head_same e))
     where
-      head_same : retyped ((R P Q F pt H V G).row_type (variable_row m k 0)) v.ty ∷ [] ≡ strings ∷ []
-          → retyped ((R P Q F pt H V G).row_type (variable_row m k 0)) v.ty ≡ strings
+      head_same : retyped ((R G).row_type (variable_row m k 0)) v.ty ∷ [] ≡ strings ∷ [] → retyped ((R G).row_type (variable_row m k 0)) v.ty ≡ strings
       head_same e = cc e
   old_params m k (v ∷ w ∷ vs) e = absurd (cc e)
 
@@ -163,14 +162,14 @@ module _ (P Q : Plain) (F : Facts) (pt : PointsTo) (H : Hierarchy) (V : Plain) (
   unfolding strings
   strings_is = refl
 
-  holder_is : (c o : ℕ) → o ≡ (R P Q F pt H V G).holder_of c → o ≡ (T P Q F pt H V G).holder_of c
+  holder_is : (c o : ℕ) → o ≡ (R G).holder_of c → o ≡ (T G).holder_of c
   unfolding renaming_of
   holder_is c o e = e
 
-  pub main_is : IsStaticMethod P U (R P Q F pt H V G) P.main U.main
+  pub main_is : IsStaticMethod P U (R G) P.main U.main
   main_is =
       let N = G.new in
-      let z = static_method P Q F pt H V G match U.main N.main N.main_stands N.main_is.static in
+      let z = static_method G match U.main N.main N.main_stands N.main_is.static in
       let s = z.1.same in
       let made : s.new ≡ N.main = same_Some _ _ (sym s.new_stands ∙ N.main_stands) in
       let old : IsMain s.old = record {
@@ -181,7 +180,7 @@ module _ (P Q : Plain) (F : Facts) (pt : PointsTo) (H : Hierarchy) (V : Plain) (
         result = old_result _ s.old.result (sym z.1.types.result ∙ ap (λ (y : PlainMethod). y.result) made ∙ N.main_is.result);
       } in
       let M = G.formed.main in
-      let w = each_static_method P Q F pt H V G match P.main M G.formed.main_stands G.formed.main_is.static in
+      let w = each_static_method G match P.main M G.formed.main_stands G.formed.main_is.static in
       let t = w.1.same in
       let mine : t.old ≡ M = same_Some _ _ (sym t.old_stands ∙ G.formed.main_stands) in
       let new_main : IsMain t.new = record {
@@ -193,12 +192,10 @@ module _ (P Q : Plain) (F : Facts) (pt : PointsTo) (H : Hierarchy) (V : Plain) (
       } in
       let below = G.formed.main_first z.0 s.old s.old_stands old in
       let above = N.main_first w.0 t.new t.new_stands new_main in
-      let ho = is_holder_of P Q F pt H V G match z.0 s.old s.old_stands s.old_static in
-      let hm = is_holder_of P Q F pt H V G match P.main M G.formed.main_stands G.formed.main_is.static in
-      let so : N.main.owner ≡ (T P Q F pt H V G).holder_of s.old.owner = ap (λ (y : PlainMethod). y.owner) (sym made)
-      ∙ holder_is s.old.owner s.new.owner s.owner in
-      let sm : t.new.owner ≡ (T P Q F pt H V G).holder_of M.owner = holder_is t.old.owner t.new.owner t.owner
-      ∙ ap (λ (y : PlainMethod). (T P Q F pt H V G).holder_of y.owner) mine in
+      let ho = is_holder_of G match z.0 s.old s.old_stands s.old_static in
+      let hm = is_holder_of G match P.main M G.formed.main_stands G.formed.main_is.static in
+      let so : N.main.owner ≡ (T G).holder_of s.old.owner = ap (λ (y : PlainMethod). y.owner) (sym made) ∙ holder_is s.old.owner s.new.owner s.owner in
+      let sm : t.new.owner ≡ (T G).holder_of M.owner = holder_is t.old.owner t.new.owner t.owner ∙ ap (λ (y : PlainMethod). (T G).holder_of y.owner) mine in
       let one : z.0 ≡ P.main =
       ⊎_elim
       (λ same. G.formed.method_names z.0 P.main s.old M s.old_stands G.formed.main_stands (sym same) (old.name ∙ sym G.formed.main_is.name))
@@ -206,4 +203,4 @@ module _ (P Q : Plain) (F : Facts) (pt : PointsTo) (H : Hierarchy) (V : Plain) (
       (λ lt. absurd (let o = holder_order M.owner s.old.owner hm ho lt in omega (arith, o, above, so, sm)))
       (λ gt. absurd (omega (arith, gt, below))) other)
       (cases_order M.owner s.old.owner) in
-      subst (λ m. IsStaticMethod P U (R P Q F pt H V G) m U.main) one s
+      subst (λ m. IsStaticMethod P U (R G) m U.main) one s

@@ -38,6 +38,7 @@ use Rattle.tree_rebuilds.proofs.Nodes.{by_node, items, tree, node_tree, node_at,
 use Rattle.tree_rebuilds.proofs.Members.{IsHeadTree, IsHeadAt, body_has, head_has, filler_has, interface_has, in_class, as_filler}
 use Rattle.tree_rebuilds.proofs.Given.{Given, T, Stands, columns, at_from, column_there, class_there}
 use Rattle.tree_rebuilds.proofs.Resolved.{BodiesMatch, owner_is, name_is, static_is, bodyless, bodied, types_are, slot_types_are, code_is}
+use Rattle.rebuild_looks.proofs.Slots.{slot_says as slot_is}
 
 -- the least number of those that pass a test
 pub least_below : (p : ℕ → Bool) (n : ℕ) → any_below n p ≡ true → (k : ℕ) × (k < n) × (p k ≡ true) × (any_below k p ≡ false)
@@ -45,10 +46,6 @@ least_below p zero h = absurd (false≢true h)
 least_below p (suc n) h =
     ⊎_elim (λ t. let z = least_below p n t in (z.0, omega (arith, z.1), z.2, z.3)) (λ f. (n, omega arith, sym (ap (λ b. b || p n) f) ∙ h, f))
     (cases_Bool (any_below n p))
-
-pub slot_is : (o : Option ℕ) (s : ℕ) → is_slot o s ≡ true → o ≡ Some s
-slot_is None s h = absurd (false≢true h)
-slot_is (Some r) s h = ap Some (eqb-true r s h)
 
 -- the declaration of a method in the class of a node
 abbrev pub as_method : ℕ → Bool → HeadTree → Option Statements → MethodAt
@@ -58,7 +55,7 @@ as_method i a h b = record { owner = suc i; kind = kinds.Method; in_abstract = a
 abbrev pub as_head : ℕ → HeadTree → MethodAt
 as_head i h = record { owner = suc i; kind = kinds.Head; in_abstract = true; head = h; body = None }
 
-module _ (P Q : Plain) (F : Facts) (pt : PointsTo) (H : Hierarchy) (V : Plain) (G : Given P Q F pt H V) where
+module _ {P Q : Plain} {F : Facts} {pt : PointsTo} {H : Hierarchy} {V : Plain} (G : Given P Q F pt H V) where
   abbrev U : Plain
   U = untagged V
 
@@ -69,16 +66,16 @@ module _ (P Q : Plain) (F : Facts) (pt : PointsTo) (H : Hierarchy) (V : Plain) (
   Rs m g = IsResolved (java_tree P Q F H) V G.resolves G.new m g
 
   abbrev pub IsOldBody : ℕ → PlainMethod → Type 0
-  IsOldBody m k = IsBody P Q F H U (T P Q F pt H V G) m k
+  IsOldBody m k = IsBody P Q F H U (T G) m k
 
   abbrev pub IsMemberOf : ℕ → ℕ → PlainMethod → Type 0
-  IsMemberOf n m k = IsOfSlot P Q F H U (T P Q F pt H V G) n m k
+  IsMemberOf n m k = IsOfSlot P Q F H U (T G) n m k
 
   abbrev pub IsOldHead : ℕ → ℕ → PlainMethod → Type 0
-  IsOldHead n m k = IsHead P Q F H U (T P Q F pt H V G) n m k
+  IsOldHead n m k = IsHead P Q F H U (T G) n m k
 
   abbrev pub IsOldFiller : ℕ → ℕ → PlainMethod → Type 0
-  IsOldFiller n m k = IsFiller P Q F H U (T P Q F pt H V G) n m k
+  IsOldFiller n m k = IsFiller P Q F H U (T G) n m k
 
   -- ---- names of a slot
 
@@ -89,7 +86,7 @@ module _ (P Q : Plain) (F : Facts) (pt : PointsTo) (H : Hierarchy) (V : Plain) (
       (column_slot F c ≡ Some s)
   unfolding renaming_of
   declared_name m s h =
-      let C = columns P Q F pt H V G in
+      let C = columns G in
       let c = C.declared m s h in
       (c.0, ap (column_name H) c.1, ap is_method (C.kind (column.Dcl m) c.0 c.1), C.slot (column.Dcl m) c.0 c.1 ∙ h)
 
@@ -102,8 +99,8 @@ module _ (P Q : Plain) (F : Facts) (pt : PointsTo) (H : Hierarchy) (V : Plain) (
   -- ---- what a declaration of a node resolves to
 
   -- a body
-  pub node_body : (match : BodiesMatch P Q F pt H V G) (n i m g : ℕ) (a : Bool) (old : PlainMethod) (xs : Sts)
-      → slice_get (tree P Q F H) i ≡ Some (node_tree P Q F H n) → Stands P Q F pt H V G (column.Def m) n
+  pub node_body : (match : BodiesMatch G) (n i m g : ℕ) (a : Bool) (old : PlainMethod) (xs : Sts)
+      → slice_get (tree P Q F H) i ≡ Some (node_tree P Q F H n) → Stands G (column.Def m) n
       → slice_get P.methods m ≡ Some old → old.is_static ≡ false → old.body ≡ Some xs
       → (r : Rs (as_method i a (head P R₀ H (modifier Public ∷ []) (R₀.method_name m) m old) (body P R₀ H m old)) g) → IsOldBody m (untag_method r.method)
   unfolding renaming_of
@@ -114,12 +111,11 @@ module _ (P Q : Plain) (F : Facts) (pt : PointsTo) (H : Hierarchy) (V : Plain) (
         old_stands = o;
         node = n;
         stands = s;
-        instance = static_is P Q F pt H V G at g r;
-        owner = owner_is P Q F pt H V G at g r ∙ sym (node_number P Q F H V G.resolves G.new n i e);
-        name = name_is P Q F pt H V G at g r;
-        types = types_are P Q F pt H V G at g r (modifier Public ∷ []) (R₀.method_name m) m old o refl;
-        code = code_is P Q F pt H V G at g r match (modifier Public ∷ []) (R₀.method_name m) m old xs o b refl refl (sym st)
-            (λ h. absurd (false≢true (sym st ∙ h)));
+        instance = static_is G at g r;
+        owner = owner_is G at g r ∙ sym (node_number P Q F H V G.resolves G.new n i e);
+        name = name_is G at g r;
+        types = types_are G at g r (modifier Public ∷ []) (R₀.method_name m) m old o refl;
+        code = code_is G at g r match (modifier Public ∷ []) (R₀.method_name m) m old xs o b refl refl (sym st) (λ h. absurd (false≢true (sym st ∙ h)));
       }
 
   -- a head or a filler
@@ -141,12 +137,11 @@ module _ (P Q : Plain) (F : Facts) (pt : PointsTo) (H : Hierarchy) (V : Plain) (
         of_slot = os;
         signature = t.signature;
         slot_stands = t.slot_stands;
-        instance = static_is P Q F pt H V G at g r ∙ ap (λ (h : HeadTree). has_word is_static_word h.mods) (sym t.is) ∙ st;
-        owner = owner_is P Q F pt H V G at g r ∙ ow ∙ sym (node_number P Q F H V G.resolves G.new n i e);
-        name = name_is P Q F pt H V G at g r ∙ ap (λ (h : HeadTree). h.name) (sym t.is)
+        instance = static_is G at g r ∙ ap (λ (h : HeadTree). has_word is_static_word h.mods) (sym t.is) ∙ st;
+        owner = owner_is G at g r ∙ ow ∙ sym (node_number P Q F H V G.resolves G.new n i e);
+        name = name_is G at g r ∙ ap (λ (h : HeadTree). h.name) (sym t.is)
             ∙ one_name t.signature.first m s (method_slot t.signature.first s t.first t.first_stands of) (method_slot m s old o os);
-        types = slot_types_are P Q F pt H V G at g r mods (R₀.method_name t.signature.first) t.signature.first s t.first t.signature t.first_stands
-            (sym t.is) of
+        types = slot_types_are G at g r mods (R₀.method_name t.signature.first) t.signature.first s t.first t.signature t.first_stands (sym t.is) of
             (sig.params ∙ ap (λ (y : PlainSlot). y.params) same) (sig.result ∙ ap (λ (y : PlainSlot). y.result) same);
       }
 
@@ -171,11 +166,11 @@ module _ (P Q : Plain) (F : Facts) (pt : PointsTo) (H : Hierarchy) (V : Plain) (
     pub old : PlainMethod
     pub old_stands : slice_get P.methods number ≡ Some old
     pub of_slot : old.slot ≡ Some s
-    pub stands : Stands P Q F pt H V G (column.Dcl number) n
+    pub stands : Stands G (column.Dcl number) n
 
   declared_at : (mods : List Modifier) (n : ℕ) (h : HeadTree) (t : IsHeadAt P R₀ F H mods n h) → IsDeclaredAt n t.slot
   declared_at mods n h t =
-      let C = columns P Q F pt H V G in
+      let C = columns G in
       let i = C.item t.number (at_below F.columns.items t.number t.info t.info_stands) in
       let info = index_at F.columns.items t.number (record { kind = kind.Is; class = record { 0 = 0 }; slot = None; name = []; label = [] }) t.info
       t.info_stands in
@@ -184,7 +179,7 @@ module _ (P Q : Plain) (F : Facts) (pt : PointsTo) (H : Hierarchy) (V : Plain) (
       let at : (numbers P Q).column (column.Dcl m.0) ≡ Some t.number = ap (λ j. (numbers P Q).column j) (sym m.1) ∙ i.1 in
       let slot : slot_of_method P m.0 ≡ Some t.slot = sym (C.slot (column.Dcl m.0) t.number at) ∙ ap (λ (z : ColumnInfo). z.slot) info ∙ t.of_slot in
       let old = slotted_method m.0 t.slot slot in
-      let p = at_from P Q F pt H V G n _ t.at in
+      let p = at_from G n _ t.at in
       record {
         number = m.0;
         old = old.0;
@@ -204,7 +199,7 @@ module _ (P Q : Plain) (F : Facts) (pt : PointsTo) (H : Hierarchy) (V : Plain) (
           of = node_member n i d.number t.slot g mods at d.old e ow st t.tree d.old_stands d.of_slot r;
           stands = d.stands;
           headed = t.headed;
-          bodyless = bodyless P Q F pt H V G at g r b;
+          bodyless = bodyless G at g r b;
         },
       )
 
@@ -222,7 +217,7 @@ module _ (P Q : Plain) (F : Facts) (pt : PointsTo) (H : Hierarchy) (V : Plain) (
     of = node_member n i t.signature.first s g (as_filler P R₀ F H) at t.first e ow refl t t.first_stands (first_method s at.head (as_filler P R₀ F H) t) r;
     live = live;
     filled = h;
-    bodied = bodied P Q F pt H V G at g r ss b;
+    bodied = bodied G at g r ss b;
   }
 
   -- ---- what the columns and slots of a node give
@@ -274,20 +269,19 @@ module _ (P Q : Plain) (F : Facts) (pt : PointsTo) (H : Hierarchy) (V : Plain) (
   text_body m _ (for_declaration d k e h) q = absurd (cc q)
   text_body m _ (for_mark c) q = absurd (cc q)
 
-  pub old_method : (m n : ℕ) → Stands P Q F pt H V G (column.Def m) n → IsOldMethod m
+  pub old_method : (m n : ℕ) → Stands G (column.Def m) n → IsOldMethod m
   unfolding numbers
   old_method m n s =
       let x = column_at P Q (column.Def m) s.number s.numbered in
       text_body m x.0.item (column_stands P Q s.number x.0 x.1) x.2
 
-  pub each_body : BodiesMatch P Q F pt H V G → (m n : ℕ) → Stands P Q F pt H V G (column.Def m) n
-      → (g : ℕ) × (new : PlainMethod) × (slice_get U.methods g ≡ Some new) × IsOldBody m new
+  pub each_body : BodiesMatch G → (m n : ℕ) → Stands G (column.Def m) n → (g : ℕ) × (new : PlainMethod) × (slice_get U.methods g ≡ Some new) × IsOldBody m new
   each_body match m n s =
-      let c = column_there P Q F pt H V G (column.Def m) n s in
+      let c = column_there G (column.Def m) n s in
       let o = old_method m n s in
       let z = node_at P Q F H n c.live in
       let h = head P R₀ H (modifier Public ∷ []) (R₀.method_name m) m o.old in
-      let r = class_method n z.0 h (body P R₀ H m o.old) z.1 (class_there P Q F pt H V G (column.Def m) n s refl)
+      let r = class_method n z.0 h (body P R₀ H m o.old) z.1 (class_there G (column.Def m) n s refl)
       (body_has P R₀ F H (items P Q F H) n c.number m (column_info Q (column.Def m)) o.old c.info c.at c.item o.stands) in
       (r.0, untag_method r.1.method, stands_made _ r.0 r.1, node_body match n z.0 m r.0 (is_abstract n) o.old o.code z.1 s o.stands o.instance o.body r.1)
 
@@ -301,10 +295,10 @@ module _ (P Q : Plain) (F : Facts) (pt : PointsTo) (H : Hierarchy) (V : Plain) (
     pub of_slot : info.slot ≡ Some s
     pub first : is_first_there F H n number s ≡ true
 
-  first_column : (m n s : ℕ) → Stands P Q F pt H V G (column.Dcl m) n → slot_of_method P m ≡ Some s → IsFirstColumn n s
+  first_column : (m n s : ℕ) → Stands G (column.Dcl m) n → slot_of_method P m ≡ Some s → IsFirstColumn n s
   first_column m n s st slot =
-      let C = columns P Q F pt H V G in
-      let c = column_there P Q F pt H V G (column.Dcl m) n st in
+      let C = columns G in
+      let c = column_there G (column.Dcl m) n st in
       let p : ℕ → Bool = λ d. is_declaration (column_kind F d) && (is_slot (column_slot F d) s && stands_at H n d) in
       let here : p c.number ≡ true = and_from (is_declaration (column_kind F c.number)) (is_slot (column_slot F c.number) s && stands_at H n c.number)
       (ap is_declaration (C.kind (column.Dcl m) c.number c.numbered))
@@ -334,11 +328,10 @@ module _ (P Q : Plain) (F : Facts) (pt : PointsTo) (H : Hierarchy) (V : Plain) (
       let f = G.formed.slots s z.slot z.stands in
       (z.slot, z.stands, f.method, f.stands)
 
-  pub each_head : (m n s : ℕ) (old : PlainMethod) → Stands P Q F pt H V G (column.Dcl m) n → slice_get P.methods m ≡ Some old → old.slot ≡ Some s
-      → is_headed F H n s ≡ true
+  pub each_head : (m n s : ℕ) (old : PlainMethod) → Stands G (column.Dcl m) n → slice_get P.methods m ≡ Some old → old.slot ≡ Some s → is_headed F H n s ≡ true
       → (g : ℕ) × (new : PlainMethod) × (slice_get U.methods g ≡ Some new) × (new.body ≡ None) × IsMemberOf n m new
   each_head m n s old st o os h =
-      let live = (column_there P Q F pt H V G (column.Dcl m) n st).live in
+      let live = (column_there G (column.Dcl m) n st).live in
       let c = first_column m n s st (method_slot m s old o os) in
       let q = slot_parts s m old o os in
       let z = node_at P Q F H n live in
@@ -351,7 +344,7 @@ module _ (P Q : Plain) (F : Facts) (pt : PointsTo) (H : Hierarchy) (V : Plain) (
         r.0,
         untag_method r.1.method,
         stands_made at r.0 r.1,
-        bodyless P Q F pt H V G at r.0 r.1 refl,
+        bodyless G at r.0 r.1 refl,
         node_member n z.0 m s r.0 (in_class P R₀ F H) at old z.1 refl refl
             (record { signature = q.0; slot_stands = q.1; first = q.2; first_stands = q.3; is = refl }) o os r.1,
       ))
@@ -363,7 +356,7 @@ module _ (P Q : Plain) (F : Facts) (pt : PointsTo) (H : Hierarchy) (V : Plain) (
         r.0,
         untag_method r.1.method,
         stands_made at r.0 r.1,
-        bodyless P Q F pt H V G at r.0 r.1 refl,
+        bodyless G at r.0 r.1 refl,
         node_member n z.0 m s r.0 [] at old z.1 refl refl (record { signature = q.0; slot_stands = q.1; first = q.2; first_stands = q.3; is = refl }) o os r.1,
       ))
       (cases_Bool (is_class_node F H n))

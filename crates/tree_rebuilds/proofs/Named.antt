@@ -40,7 +40,7 @@ outline_types : (ds : List DeclTree) → type_names (outline ds) ≡ types_in ds
 unfolding outline
 outline_types ds = ap (λ z. codes "Object" ∷ z) (names_are (types_in ds) ds)
 
-module _ (P Q : Plain) (F : Facts) (pt : PointsTo) (H : Hierarchy) (V : Plain) (G : Given P Q F pt H V) where
+module _ {P Q : Plain} {F : Facts} {pt : PointsTo} {H : Hierarchy} {V : Plain} (G : Given P Q F pt H V) where
   abbrev U : Plain
   U = untagged V
 
@@ -51,13 +51,13 @@ module _ (P Q : Plain) (F : Facts) (pt : PointsTo) (H : Hierarchy) (V : Plain) (
   unfolding numbers
   named_row i r e = row_live P Q F G.facts H G.hierarchy i r e
 
-  pub named_node : (n : ℕ) → is_live H.order n ≡ true → class_named O (type_name H n) ≡ Some ((T P Q F pt H V G).type_of n)
+  pub named_node : (n : ℕ) → is_live H.order n ≡ true → class_named O (type_name H n) ≡ Some ((T G).type_of n)
   named_node n h = ap (λ z. position (λ m. bytes_eq m (type_name H n)) z) (outline_types (java_tree P Q F H)) ∙ node_named P Q F H V G.resolves G.new n h
 
   pub node_no_text : (n : ℕ) → is_live H.order n ≡ true → is_text_type (type_name H n) ≡ false
   node_no_text n h = no_text F pt H G.unbroken n h
 
-  pub named_holder : (c : ℕ) → is_holder P c ≡ true → class_named O (class_name P c) ≡ Some ((T P Q F pt H V G).holder_of c)
+  pub named_holder : (c : ℕ) → is_holder P c ≡ true → class_named O (class_name P c) ≡ Some ((T G).holder_of c)
   named_holder c h =
       let k = holder_class P G.formed c h in
       ap (λ z. position (λ m. bytes_eq m (class_name P c)) z) (outline_types (java_tree P Q F H)) ∙ holder_named P Q F H V G.resolves G.new c k.0 k.1 h
@@ -93,23 +93,21 @@ module _ (P Q : Plain) (F : Facts) (pt : PointsTo) (H : Hierarchy) (V : Plain) (
       ((bytes_eq-Decides w.0.name new.name).0 q.1))
 
   pub named_static_field : (f : ℕ) (old : PlainField) → slice_get P.fields f ≡ Some old → old.is_static ≡ true
-      → (g : ℕ) × (own_field_of O ((T P Q F pt H V G).holder_of old.owner) old.name ≡ Some g) × IsStaticField P U (renaming_of P Q H (T P Q F pt H V G)) f g
+      → (g : ℕ) × (own_field_of O ((T G).holder_of old.owner) old.name ≡ Some g) × IsStaticField P U (renaming_of P Q H (T G)) f g
   unfolding renaming_of
   named_static_field f old e h =
-      let z = each_static_field P Q F pt H V G f old e h in
+      let z = each_static_field G f old e h in
       let s = z.1.same in
       let same : s.old ≡ old = same_Some _ _ (sym s.old_stands ∙ e) in
-      let ow : s.new.owner ≡ (T P Q F pt H V G).holder_of old.owner = s.owner ∙ ap (λ (y : PlainField). (T P Q F pt H V G).holder_of y.owner) same in
+      let ow : s.new.owner ≡ (T G).holder_of old.owner = s.owner ∙ ap (λ (y : PlainField). (T G).holder_of y.owner) same in
       let name : s.new.name ≡ old.name = s.name ∙ ap (λ (y : PlainField). y.name) same in (
         z.0,
-        ap (own_field_of O ((T P Q F pt H V G).holder_of old.owner)) (sym name)
-            ∙ one_static ((T P Q F pt H V G).holder_of old.owner) z.0 s.new s.new_stands ow,
+        ap (own_field_of O ((T G).holder_of old.owner)) (sym name) ∙ one_static ((T G).holder_of old.owner) z.0 s.new s.new_stands ow,
         s,
       )
 
   pub named_static_method : (m g : ℕ) (old new : PlainMethod) → slice_get P.methods m ≡ Some old → old.is_static ≡ true → slice_get O.methods g ≡ Some new
-      → new.is_static ≡ true
-      → new.owner ≡ (T P Q F pt H V G).holder_of old.owner → new.name ≡ old.name → IsStaticMethod P U (renaming_of P Q H (T P Q F pt H V G)) m g
+      → new.is_static ≡ true → new.owner ≡ (T G).holder_of old.owner → new.name ≡ old.name → IsStaticMethod P U (renaming_of P Q H (T G)) m g
   unfolding renaming_of
   named_static_method m g old new e h d st ow name =
       let z = map_at heading_of V.methods g new (ap (λ w. slice_get w g) G.resolves.headings ∙ d) in

@@ -31,7 +31,7 @@ use Rattle.tree_rebuilds.proofs.Given.{Given, T, stands_from}
 use Rattle.tree_rebuilds.proofs.Resolved.{BodiesMatch, owner_is, name_is, static_is, types_are, code_is}
 use Rattle.tree_rebuilds.proofs.Methods.{as_method, as_head, IsOldBody, IsOldHead, IsOldFiller, node_body, node_head, node_filler, is_abstract, stands_made, old_method}
 
-module _ (P Q : Plain) (F : Facts) (pt : PointsTo) (H : Hierarchy) (V : Plain) (G : Given P Q F pt H V) (match : BodiesMatch P Q F pt H V G) where
+module _ {P Q : Plain} {F : Facts} {pt : PointsTo} {H : Hierarchy} {V : Plain} (G : Given P Q F pt H V) (match : BodiesMatch G) where
   abbrev U : Plain
   U = untagged V
 
@@ -42,7 +42,7 @@ module _ (P Q : Plain) (F : Facts) (pt : PointsTo) (H : Hierarchy) (V : Plain) (
   Rs m g = IsResolved (java_tree P Q F H) V G.resolves G.new m g
 
   abbrev pub IsOldStatic : ℕ → ℕ → Type 0
-  IsOldStatic m g = IsStaticMethodOf P Q F H U (T P Q F pt H V G) m g
+  IsOldStatic m g = IsStaticMethodOf P Q F H U (T G) m g
 
   -- the declaration of a static method
   abbrev pub as_static : ℕ → ℕ → PlainMethod → MethodAt
@@ -56,21 +56,21 @@ module _ (P Q : Plain) (F : Facts) (pt : PointsTo) (H : Hierarchy) (V : Plain) (
   holder_method c i m g k old xs e d o h b r =
       let p = and_parts old.is_static (old.owner == c) h in
       let at : MethodAt = as_static i m old in
-      let ow : at.owner ≡ (T P Q F pt H V G).holder_of old.owner = sym (holder_number P Q F H V G.resolves G.new c i k d e)
-      ∙ ap (λ y. (T P Q F pt H V G).holder_of y) (sym (eqb-true old.owner c p.1)) in
+      let ow : at.owner ≡ (T G).holder_of old.owner = sym (holder_number P Q F H V G.resolves G.new c i k d e)
+      ∙ ap (λ y. (T G).holder_of y) (sym (eqb-true old.owner c p.1)) in
       record {
         same = record {
           old = old;
           new = untag_method r.method;
           old_stands = o;
-          new_stands = stands_made P Q F pt H V G at g r;
+          new_stands = stands_made G at g r;
           old_static = p.0;
-          new_static = static_is P Q F pt H V G at g r;
-          owner = owner_is P Q F pt H V G at g r ∙ ow;
-          name = name_is P Q F pt H V G at g r;
+          new_static = static_is G at g r;
+          owner = owner_is G at g r ∙ ow;
+          name = name_is G at g r;
         };
-        types = types_are P Q F pt H V G at g r (modifier Public ∷ modifier Static ∷ []) old.name m old o refl;
-        code = code_is P Q F pt H V G at g r match (modifier Public ∷ modifier Static ∷ []) old.name m old xs o b refl refl (sym p.0) (λ s. ow);
+        types = types_are G at g r (modifier Public ∷ modifier Static ∷ []) old.name m old o refl;
+        code = code_is G at g r match (modifier Public ∷ modifier Static ∷ []) old.name m old xs o b refl refl (sym p.0) (λ s. ow);
       }
 
   -- a static method has a body
@@ -83,42 +83,40 @@ module _ (P Q : Plain) (F : Facts) (pt : PointsTo) (H : Hierarchy) (V : Plain) (
 
   -- what a method of the new program is
   abbrev pub Origin : ℕ → PlainMethod → Type 0
-  Origin g new = (((m : ℕ) × IsOldBody P Q F pt H V G m new) ⊎ ((n : ℕ) × (m : ℕ) ×
-      (IsOldHead P Q F pt H V G n m new ⊎ IsOldFiller P Q F pt H V G n m new))) ⊎ ((m : ℕ) × IsOldStatic m g)
+  Origin g new = (((m : ℕ) × IsOldBody G m new) ⊎ ((n : ℕ) × (m : ℕ) × (IsOldHead G n m new ⊎ IsOldFiller G n m new))) ⊎ ((m : ℕ) × IsOldStatic m g)
 
   abbrev Made : ℕ → MethodAt → Type 0
   Made g x = (r : Rs x g) → Origin g (untag_method r.method)
 
   in_class : (n i g : ℕ) (x : MethodAt) (m : MemberTree) → is_live H.order n ≡ true → slice_get (tree P Q F H) i ≡ Some (node_tree P Q F H n)
-      → IsMember P R₀ F H (items P Q F H) n m
-      → Contains (method_member (suc i) (is_abstract P Q F pt H V G n) m) x → Made g x
+      → IsMember P R₀ F H (items P Q F H) n m → Contains (method_member (suc i) (is_abstract G n) m) x → Made g x
   in_class n i g x _ live e (a_field c f k d at o) h = absurd (omega (arith, h.1))
   in_class n i g x _ live e (a_body c f k d at o) h =
-      let s = stands_from P Q F pt H V G c (column.Def f) n d at in
-      let z = old_method P Q F pt H V G f n s in
+      let s = stands_from G c (column.Def f) n d at in
+      let z = old_method G f n s in
       let same : z.old ≡ k = same_Some _ _ (sym z.stands ∙ o) in
-      let y : MethodAt = as_method i (is_abstract P Q F pt H V G n) (head P R₀ H (modifier Public ∷ []) (R₀.method_name f) f k) (body P R₀ H f k) in
+      let y : MethodAt = as_method i (is_abstract G n) (head P R₀ H (modifier Public ∷ []) (R₀.method_name f) f k) (body P R₀ H f k) in
       subst (Made g) (one_from y x h) (λ r. inl (inl (
         f,
-        node_body P Q F pt H V G match n i f g (is_abstract P Q F pt H V G n) k z.code e s o
+        node_body G match n i f g (is_abstract G n) k z.code e s o
             (ap (λ (w : PlainMethod). w.is_static) (sym same) ∙ z.instance) (ap (λ (w : PlainMethod). w.body) (sym same) ∙ z.body) r,
       )))
   in_class n i g x _ live e (a_head t d) h =
-      let y : MethodAt = as_method i (is_abstract P Q F pt H V G n) t None in
-      subst (Made g) (one_from y x h) (λ r. let z = node_head P Q F pt H V G n i g (class_mods P R₀ F H) y e refl refl refl d r in inl (inr (n, z.0, inl z.1)))
+      let y : MethodAt = as_method i (is_abstract G n) t None in
+      subst (Made g) (one_from y x h) (λ r. let z = node_head G n i g (class_mods P R₀ F H) y e refl refl refl d r in inl (inr (n, z.0, inl z.1)))
   in_class n i g x _ live e (a_filler s t d o) h =
       let ss : Statements = filling o.signature.result in
-      let y : MethodAt = as_method i (is_abstract P Q F pt H V G n) t (Some ss) in
-      subst (Made g) (one_from y x h) (λ r. inl (inr (n, o.signature.first, inr (node_filler P Q F pt H V G n i s g y ss live e refl refl d o r))))
+      let y : MethodAt = as_method i (is_abstract G n) t (Some ss) in
+      subst (Made g) (one_from y x h) (λ r. inl (inr (n, o.signature.first, inr (node_filler G n i s g y ss live e refl refl d o r))))
 
   in_node : (b : Bool) (n i g : ℕ) (x : MethodAt) → is_live H.order n ≡ true → slice_get (tree P Q F H) i ≡ Some (node_tree P Q F H n)
       → Contains (methods_declared (suc i) (type_tree P R₀ F H (items P Q F H) b n)) x → Made g x
   in_node true n i g x live e h =
-      let z = member_method_from (suc i) (is_abstract P Q F pt H V G n) (class_members P R₀ F H (items P Q F H) n) x h in
+      let z = member_method_from (suc i) (is_abstract G n) (class_members P R₀ F H (items P Q F H) n) x h in
       in_class n i g x z.0 live e (class_from P R₀ F H (items P Q F H) n z.0 z.1) z.2
   in_node false n i g x live e h =
       let z = map_from (λ h. as_head i h) (interface_heads P R₀ F H n) x h in
-      subst (Made g) z.2 (λ r. let w = node_head P Q F pt H V G n i g [] (as_head i z.0) e refl refl refl (interface_from P R₀ F H n z.0 z.1) r in inl
+      subst (Made g) z.2 (λ r. let w = node_head G n i g [] (as_head i z.0) e refl refl refl (interface_from P R₀ F H n z.0 z.1) r in inl
       (inr (n, w.0, inl w.1)))
 
   in_holder : (c i g : ℕ) (k : PlainClass) (x : MethodAt) (m : MemberTree) → slice_get (tree P Q F H) i ≡ Some (old_tree P Q F H c k)
@@ -145,12 +143,12 @@ module _ (P Q : Plain) (F : Facts) (pt : PointsTo) (H : Hierarchy) (V : Plain) (
       let z = method_back (tree P Q F H) V G.resolves G.new g new e in
       subst (Origin g) z.is (by_declaration z.number g z.declaration z.method z.stands (declares P Q F H z.number z.declaration z.stands) z.declared z.resolved)
 
-  instance_of : (new : PlainMethod) → ((m : ℕ) × IsOldBody P Q F pt H V G m new) ⊎
-      ((n : ℕ) × (m : ℕ) × (IsOldHead P Q F pt H V G n m new ⊎ IsOldFiller P Q F pt H V G n m new)) → new.is_static ≡ false
+  instance_of : (new : PlainMethod) → ((m : ℕ) × IsOldBody G m new) ⊎
+      ((n : ℕ) × (m : ℕ) × (IsOldHead G n m new ⊎ IsOldFiller G n m new)) → new.is_static ≡ false
   instance_of new z = ⊎_elim (λ b. b.1.instance) (λ b. ⊎_elim (λ h. h.of.instance) (λ f. f.of.instance) b.2) z
 
   pub instance_method : (g : ℕ) (new : PlainMethod) → slice_get U.methods g ≡ Some new → new.is_static ≡ false
-      → ((m : ℕ) × IsOldBody P Q F pt H V G m new) ⊎ ((n : ℕ) × (m : ℕ) × (IsOldHead P Q F pt H V G n m new ⊎ IsOldFiller P Q F pt H V G n m new))
+      → ((m : ℕ) × IsOldBody G m new) ⊎ ((n : ℕ) × (m : ℕ) × (IsOldHead G n m new ⊎ IsOldFiller G n m new))
   instance_method g new e h =
       ⊎_elim (λ z. z) (λ z. let s = z.1.same in
       absurd (false≢true (sym h ∙ ap (λ (o : Option PlainMethod). option_map_or (λ (k : PlainMethod). k.is_static) o false) (sym e ∙ s.new_stands)

@@ -1,6 +1,6 @@
 -- What a program has to which a tree resolves: its classes, fields and methods, one for each declaration of the tree.
 use Rattle.std.proofs.Common.{◌≡◌, ℕ, zero, suc, ◌+◌, List, [], ◌∷◌, Some, Contains, refl, sym, ap, ◌∙◌, subst, arith, inl, inr, ⊎_elim}
-use Rattle.std.specs.Prelude.{◌⊎◌, map, slice_get, codes}
+use Rattle.std.specs.Prelude.{◌⊎◌, ◌++◌, map, slice_get, codes}
 use Rattle.std.specs.Str.{bytes_eq}
 use Rattle.std.proofs.lemmas.List.Elements.{Contains-append_left, Contains-append_right, Contains-append_cases}
 use Rattle.std.proofs.lemmas.Option.{same_Some}
@@ -12,43 +12,35 @@ use Rattle.java_core.proofs.Positions.{position-passes}
 use Rattle.name_rules.specs.Outline.{FieldAt, MethodAt, name_of, types_in, type_named, class_at, field_member, method_member, fields_of, methods_of, fields_declared, methods_declared, fields_from, methods_from, fields_in, methods_in, object, class_outline, field_outline, method_outline, outline}
 use Rattle.name_rules.specs.Resolves.{BodyResolves, BodiesResolve, r_no_methods, r_method, heading_of, Resolves}
 use Rattle.java_core.specs.Untagged.{untag_class, untag_field, untag_method, untagged}
-use Rattle.flow_rules.proofs.Listed.{first, more, contains_at, at_contains, at_map, map_at, position_there}
+use Rattle.flow_rules.specs.Ordered.{each}
+use Rattle.flow_rules.proofs.Listed.{each_from, each_has, first, more, contains_at, at_contains, at_map, map_at, position_there}
 
 -- ---- what declarations have
 
+as_each : {A : Type 0} (of : ℕ → DeclTree → List A) (from : ℕ → List DeclTree → List A) → ((c : ℕ) → from c [] ≡ [])
+    → ((c : ℕ) (d : DeclTree) (ds : List DeclTree) → from c (d ∷ ds) ≡ of c d ++ from (suc c) ds) → (c : ℕ) (ds : List DeclTree) → from c ds ≡ each of c ds
+as_each of from none some c [] = none c
+as_each of from none some c (d ∷ ds) =
+    let e : suc c ≡ c + 1 = omega arith in
+    some c d ds ∙ ap (λ z. of c d ++ z) (as_each of from none some (suc c) ds ∙ ap (λ n. each of n ds) e)
+
 pub field_from : (c : ℕ) (ds : List DeclTree) (f : FieldAt) → Contains (fields_from c ds) f
     → (i : ℕ) × (j : ℕ) × (d : DeclTree) × (slice_get ds i ≡ Some d) × (j ≡ c + i) × Contains (fields_declared j d) f
-field_from c [] f h = absurd (omega (arith, h.1))
-field_from c (d ∷ ds) f h =
-    ⊎_elim (λ x. (0, c, d, refl, omega arith, x)) (λ x. let z = field_from (suc c) ds f x in (suc z.0, z.1, z.2, z.3, omega (arith, z.4), z.5))
-    (Contains-append_cases (fields_declared c d) (fields_from (suc c) ds) f h)
+field_from c ds f h = each_from fields_declared c ds f (subst (λ z. Contains z f) (as_each fields_declared fields_from (λ c. refl) (λ c d ds. refl) c ds) h)
 
 pub field_has : (c : ℕ) (ds : List DeclTree) (f : FieldAt) (i j : ℕ) (d : DeclTree) → slice_get ds i ≡ Some d → j ≡ c + i → Contains (fields_declared j d) f
     → Contains (fields_from c ds) f
-field_has c [] f i j d e h k = absurd (cc e)
-field_has c (x ∷ ds) f zero j d e h k =
-    let at : j ≡ c = omega (arith, h) in
-    Contains-append_left (fields_declared c x) (fields_from (suc c) ds) f
-    (subst (λ z. Contains (fields_declared c z) f) (sym (same_Some x d e)) (subst (λ z. Contains (fields_declared z d) f) at k))
-field_has c (x ∷ ds) f (suc i) j d e h k = Contains-append_right (fields_declared c x) (fields_from (suc c) ds) f
-    (field_has (suc c) ds f i j d e (omega (arith, h)) k)
+field_has c ds f i j d e h k = subst (λ z. Contains z f) (sym (as_each fields_declared fields_from (λ c. refl) (λ c d ds. refl) c ds))
+    (each_has fields_declared c ds i d f e j h k)
 
 pub method_from : (c : ℕ) (ds : List DeclTree) (f : MethodAt) → Contains (methods_from c ds) f
     → (i : ℕ) × (j : ℕ) × (d : DeclTree) × (slice_get ds i ≡ Some d) × (j ≡ c + i) × Contains (methods_declared j d) f
-method_from c [] f h = absurd (omega (arith, h.1))
-method_from c (d ∷ ds) f h =
-    ⊎_elim (λ x. (0, c, d, refl, omega arith, x)) (λ x. let z = method_from (suc c) ds f x in (suc z.0, z.1, z.2, z.3, omega (arith, z.4), z.5))
-    (Contains-append_cases (methods_declared c d) (methods_from (suc c) ds) f h)
+method_from c ds f h = each_from methods_declared c ds f (subst (λ z. Contains z f) (as_each methods_declared methods_from (λ c. refl) (λ c d ds. refl) c ds) h)
 
 pub method_has : (c : ℕ) (ds : List DeclTree) (f : MethodAt) (i j : ℕ) (d : DeclTree) → slice_get ds i ≡ Some d → j ≡ c + i → Contains (methods_declared j d) f
     → Contains (methods_from c ds) f
-method_has c [] f i j d e h k = absurd (cc e)
-method_has c (x ∷ ds) f zero j d e h k =
-    let at : j ≡ c = omega (arith, h) in
-    Contains-append_left (methods_declared c x) (methods_from (suc c) ds) f
-    (subst (λ z. Contains (methods_declared c z) f) (sym (same_Some x d e)) (subst (λ z. Contains (methods_declared z d) f) at k))
-method_has c (x ∷ ds) f (suc i) j d e h k = Contains-append_right (methods_declared c x) (methods_from (suc c) ds) f
-    (method_has (suc c) ds f i j d e (omega (arith, h)) k)
+method_has c ds f i j d e h k = subst (λ z. Contains z f) (sym (as_each methods_declared methods_from (λ c. refl) (λ c d ds. refl) c ds))
+    (each_has methods_declared c ds i d f e j h k)
 
 -- ---- what members have
 

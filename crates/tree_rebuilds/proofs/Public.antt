@@ -38,10 +38,11 @@ use Rattle.tree_rebuilds.proofs.Nodes.{by_node, items, tree, node_tree, node_num
 use Rattle.tree_rebuilds.proofs.Members.{IsHeadTree, IsMember, a_field, a_body, a_head, a_filler, class_from, as_filler, IsStatic, a_static_field, a_static_method, holder_from}
 use Rattle.tree_rebuilds.proofs.Given.{Given, T, R, Stands, columns, stands_from, column_there, offered_there}
 use Rattle.tree_rebuilds.proofs.Resolved.{owner_is, name_is, static_is, public_is, bodyless, types_are}
-use Rattle.tree_rebuilds.proofs.Methods.{slot_is, as_method, as_head, is_abstract, declared_name, method_slot, first_method, old_method}
+use Rattle.tree_rebuilds.proofs.Methods.{as_method, as_head, is_abstract, declared_name, method_slot, first_method, old_method}
+use Rattle.rebuild_looks.proofs.Slots.{slot_says as slot_is}
 use Rattle.tree_rebuilds.proofs.Filled.{filling_is}
 
-module _ (P Q : Plain) (F : Facts) (pt : PointsTo) (H : Hierarchy) (V : Plain) (G : Given P Q F pt H V) where
+module _ {P Q : Plain} {F : Facts} {pt : PointsTo} {H : Hierarchy} {V : Plain} (G : Given P Q F pt H V) where
   abbrev U : Plain
   U = untagged V
 
@@ -52,29 +53,29 @@ module _ (P Q : Plain) (F : Facts) (pt : PointsTo) (H : Hierarchy) (V : Plain) (
   IsOpen x = has_word is_public_word x.head.mods ≡ true
 
   member_open : (n i : ℕ) (x : MethodAt) (m : MemberTree) → IsMember P R₀ F H (items P Q F H) n m
-      → Contains (method_member (suc i) (is_abstract P Q F pt H V G n) m) x → IsOpen x
+      → Contains (method_member (suc i) (is_abstract G n) m) x → IsOpen x
   member_open n i x _ (a_field c f k d at o) h = absurd (omega (arith, h.1))
   member_open n i x _ (a_body c f k d at o) h =
-      subst IsOpen (one_from (as_method i (is_abstract P Q F pt H V G n) (head P R₀ H (modifier Public ∷ []) (R₀.method_name f) f k) (body P R₀ H f k)) x
+      subst IsOpen (one_from (as_method i (is_abstract G n) (head P R₀ H (modifier Public ∷ []) (R₀.method_name f) f k) (body P R₀ H f k)) x
       h) refl
   member_open n i x _ (a_head t d) h =
-      subst IsOpen (one_from (as_method i (is_abstract P Q F pt H V G n) t None) x h) (ap (λ (y : HeadTree). has_word is_public_word y.mods) (sym d.tree.is))
+      subst IsOpen (one_from (as_method i (is_abstract G n) t None) x h) (ap (λ (y : HeadTree). has_word is_public_word y.mods) (sym d.tree.is))
   member_open n i x _ (a_filler s t d o) h =
-      subst IsOpen (one_from (as_method i (is_abstract P Q F pt H V G n) t (Some (filling o.signature.result))) x h)
+      subst IsOpen (one_from (as_method i (is_abstract G n) t (Some (filling o.signature.result))) x h)
       (ap (λ (y : HeadTree). has_word is_public_word y.mods) (sym o.is))
 
   -- in an interface
   face_owner : (n i : ℕ) (x : MethodAt) → is_live H.order n ≡ true → slice_get (tree P Q F H) i ≡ Some (node_tree P Q F H n) → is_class_node F H n ≡ false
       → x.owner ≡ suc i → is_interface U x.owner ≡ true
   face_owner n i x live e c ow =
-      let t : IsNodeType P Q F H U (T P Q F pt H V G) n = node_type P Q F H V G.resolves G.new n live in
+      let t : IsNodeType P Q F H U (T G) n = node_type P Q F H V G.resolves G.new n live in
       ap (is_interface U) (ow ∙ sym (node_number P Q F H V G.resolves G.new n i e))
       ∙ ap (λ o. option_map_or (λ (k : PlainClass). k.is_interface) o false) t.stands ∙ t.kind ∙ ap not c
 
   node_open : (b : Bool) (n i : ℕ) (x : MethodAt) → is_class_node F H n ≡ b → is_live H.order n ≡ true → slice_get (tree P Q F H) i ≡ Some (node_tree P Q F H n)
       → Contains (methods_declared (suc i) (type_tree P R₀ F H (items P Q F H) b n)) x → is_interface U x.owner ≡ false → IsOpen x
   node_open true n i x c live e h free =
-      let z = member_method_from (suc i) (is_abstract P Q F pt H V G n) (class_members P R₀ F H (items P Q F H) n) x h in
+      let z = member_method_from (suc i) (is_abstract G n) (class_members P R₀ F H (items P Q F H) n) x h in
       member_open n i x z.0 (class_from P R₀ F H (items P Q F H) n z.0 z.1) z.2
   node_open false n i x c live e h free =
       let z = map_from (λ h. as_head i h) (interface_heads P R₀ F H n) x h in
@@ -100,8 +101,8 @@ module _ (P Q : Plain) (F : Facts) (pt : PointsTo) (H : Hierarchy) (V : Plain) (
       → new.is_public ≡ true
   public_method g new e h free =
       let z = method_back (tree P Q F H) V G.resolves G.new g new e in
-      let ow : new.owner ≡ z.method.owner = ap (λ (y : PlainMethod). y.owner) (sym z.is) ∙ owner_is P Q F pt H V G z.method g z.resolved in
-      ap (λ (y : PlainMethod). y.is_public) (sym z.is) ∙ public_is P Q F pt H V G z.method g z.resolved
+      let ow : new.owner ≡ z.method.owner = ap (λ (y : PlainMethod). y.owner) (sym z.is) ∙ owner_is G z.method g z.resolved in
+      ap (λ (y : PlainMethod). y.is_public) (sym z.is) ∙ public_is G z.method g z.resolved
       ∙ declared_open z.number z.declaration z.method z.stands (declares P Q F H z.number z.declaration z.stands) z.declared
       (ap (is_interface U) (sym ow) ∙ free)
 
@@ -111,7 +112,7 @@ module _ (P Q : Plain) (F : Facts) (pt : PointsTo) (H : Hierarchy) (V : Plain) (
   method_name_is : (m s c : ℕ) → slot_of_method P m ≡ Some s → is_method (column_kind F c) ≡ true → column_slot F c ≡ Some s
       → R₀.method_name m ≡ member_name H c
   method_name_is m s c h k o =
-      let a = declared_name P Q F pt H V G m s h in
+      let a = declared_name G m s h in
       a.1 ∙ G.hierarchy.names a.0 c s a.2 k a.3 o
 
   slotted_kind : (i : ColumnItem) (s : ℕ) → slot_in P i ≡ Some s → is_method (kind_of i) ≡ true
@@ -121,11 +122,11 @@ module _ (P Q : Plain) (F : Facts) (pt : PointsTo) (H : Hierarchy) (V : Plain) (
   slotted_kind (column.Is c) s h = absurd (cc h)
 
   -- a node that is filled in has no body of a slot of that name
-  no_body : (n m d s x : ℕ) (k : PlainMethod) → is_filled F H n s ≡ true → slot_of_method P m ≡ Some s → Stands P Q F pt H V G (column.Def d) n
+  no_body : (n m d s x : ℕ) (k : PlainMethod) → is_filled F H n s ≡ true → slot_of_method P m ≡ Some s → Stands G (column.Def d) n
       → slice_get P.methods d ≡ Some k → k.slot ≡ Some x
       → R₀.method_name d ≡ R₀.method_name m → ⊥
   no_body n m d s x k h slot st e o name =
-      let C = columns P Q F pt H V G in
+      let C = columns G in
       let offers = and_parts (offers_slot F H n s) (not (offers_body F H n s))
       (and_parts (is_made_at F H n) (offers_slot F H n s && not (offers_body F H n s)) h).1 in
       let c = any_below_some (λ c. is_slot (column_slot F c) s && is_offered H n c) (length F.columns.items) offers.0 in
@@ -133,11 +134,11 @@ module _ (P Q : Plain) (F : Facts) (pt : PointsTo) (H : Hierarchy) (V : Plain) (
       let of : column_slot F c.0 ≡ Some s = slot_is (column_slot F c.0) s p.0 in
       let i = C.item c.0 c.1 in
       let method : is_method (column_kind F c.0) ≡ true = ap is_method (C.kind i.0 c.0 i.1) ∙ slotted_kind i.0 s (sym (C.slot i.0 c.0 i.1) ∙ of) in
-      let t = column_there P Q F pt H V G (column.Def d) n st in
-      let own : slot_of_method P d ≡ Some x = method_slot P Q F pt H V G d x k e o in
+      let t = column_there G (column.Def d) n st in
+      let own : slot_of_method P d ≡ Some x = method_slot G d x k e o in
       let kind : column_kind F t.number ≡ Def = C.kind (column.Def d) t.number t.numbered in
       let at : column_slot F t.number ≡ Some x = C.slot (column.Def d) t.number t.numbered ∙ own in
-      let offered = offered_there P Q F pt H V G n t.number t.live t.at in
+      let offered = offered_there G n t.number t.live t.at in
       let same : x ≡ s = (names_apart F pt H G.hierarchy.sized.order G.unbroken).slots n t.number c.0 x s (ap is_method kind) method at of offered p.1
       (sym (method_name_is d x t.number own (ap is_method kind) at) ∙ name ∙ method_name_is m s c.0 slot method of) in
       let there = any_below_has (λ c. is_def (column_kind F c) && (is_slot (column_slot F c) s && is_offered H n c)) (length F.columns.items) t.number
@@ -147,8 +148,8 @@ module _ (P Q : Plain) (F : Facts) (pt : PointsTo) (H : Hierarchy) (V : Plain) (
       false≢true (sym (ap not there) ∙ offers.1)
 
   abbrev Fills : ℕ → MethodAt → Type 0
-  Fills g x = (r : IsResolved (java_tree P Q F H) V G.resolves G.new x g) → (n m : ℕ) → IsFiller P Q F H U (T P Q F pt H V G) n m (untag_method r.method)
-      → HasFilling P Q F H U (T P Q F pt H V G) (untag_method r.method)
+  Fills g x = (r : IsResolved (java_tree P Q F H) V G.resolves G.new x g) → (n m : ℕ) → IsFiller P Q F H U (T G) n m (untag_method r.method)
+      → HasFilling P Q F H U (T G) (untag_method r.method)
 
   no_code : {A : Type 0} (o : Option Sts) → o ≡ None → is_some o ≡ true → A
   no_code None e h = absurd (false≢true h)
@@ -160,15 +161,15 @@ module _ (P Q : Plain) (F : Facts) (pt : PointsTo) (H : Hierarchy) (V : Plain) (
     where
       sig_result : o.first.result ≡ o.signature.result
       sig_result =
-          let y = ((G.formed.methods o.signature.first o.first o.first_stands).slots s).0 (first_method P Q F pt H V G s x.head (as_filler P R₀ F H) o) in
+          let y = ((G.formed.methods o.signature.first o.first o.first_stands).slots s).0 (first_method G s x.head (as_filler P R₀ F H) o) in
           y.result ∙ ap (λ (z : PlainSlot). z.result) (same_Some _ _ (sym y.stands ∙ o.slot_stands))
 
-      result : r.method.result ≡ retyped_if ((R P Q F pt H V G).row_type (result_in o.first.slot o.signature.first)) o.signature.result
+      result : r.method.result ≡ retyped_if ((R G).row_type (result_in o.first.slot o.signature.first)) o.signature.result
       result =
-          (types_are P Q F pt H V G x g r (as_filler P R₀ F H) (R₀.method_name o.signature.first) o.signature.first o.first o.first_stands (sym o.is)).result
-          ∙ ap (retyped_if ((R P Q F pt H V G).row_type (result_in o.first.slot o.signature.first))) sig_result
+          (types_are G x g r (as_filler P R₀ F H) (R₀.method_name o.signature.first) o.signature.first o.first o.first_stands (sym o.is)).result
+          ∙ ap (retyped_if ((R G).row_type (result_in o.first.slot o.signature.first))) sig_result
 
-      go : BodyResolves (outline (java_tree P Q F H)) x r.method → HasFilling P Q F H U (T P Q F pt H V G) (untag_method r.method)
+      go : BodyResolves (outline (java_tree P Q F H)) x r.method → HasFilling P Q F H U (T G) (untag_method r.method)
       go (r_no_body a _ _) = absurd (cc (a, b))
       go (r_body {ss = ss} {xs = ys} a d res counts) =
           let same : ss ≡ filling o.signature.result = same_Some _ _ (sym a ∙ b) in
@@ -177,49 +178,46 @@ module _ (P Q : Plain) (F : Facts) (pt : PointsTo) (H : Hierarchy) (V : Plain) (
             is = ap untag_body d;
             fills = subst (λ w. IsFilling w (bare_sts ys)) (sym result)
                 (filling_is (outline (java_tree P Q F H)) (here_of x) r.method false (params_from 0 r.method.params)
-                ((R P Q F pt H V G).row_type (result_in o.first.slot o.signature.first)) o.signature.result ys
+                ((R G).row_type (result_in o.first.slot o.signature.first)) o.signature.result ys
                 (subst (λ w. StsResolve (outline (java_tree P Q F H)) (here_of x) r.method false (params_from 0 r.method.params) w ys) same res));
           }
 
   -- the body of a column is no filler
   body_fills : (a i g f : ℕ) (b : Bool) (k : PlainMethod) → is_live H.order a ≡ true → slice_get (tree P Q F H) i ≡ Some (node_tree P Q F H a)
-      → Stands P Q F pt H V G (column.Def f) a → slice_get P.methods f ≡ Some k
+      → Stands G (column.Def f) a → slice_get P.methods f ≡ Some k
       → Fills g (as_method i b (head P R₀ H (modifier Public ∷ []) (R₀.method_name f) f k) (body P R₀ H f k))
   unfolding renaming_of
   body_fills a i g f b k live e st o r n m q =
       let x : MethodAt = as_method i b (head P R₀ H (modifier Public ∷ []) (R₀.method_name f) f k) (body P R₀ H f k) in
-      let old = old_method P Q F pt H V G f a st in
+      let old = old_method G f a st in
       let same : old.old ≡ k = same_Some _ _ (sym old.stands ∙ o) in
       let s = (G.formed.methods f k o).slotted (ap (λ (y : PlainMethod). y.is_static) (sym same) ∙ old.instance) in
-      let ow : (T P Q F pt H V G).type_of a ≡ (T P Q F pt H V G).type_of n = node_number P Q F H V G.resolves G.new a i e
-      ∙ sym (owner_is P Q F pt H V G x g r) ∙ q.of.owner in
+      let ow : (T G).type_of a ≡ (T G).type_of n = node_number P Q F H V G.resolves G.new a i e ∙ sym (owner_is G x g r) ∙ q.of.owner in
       let one : a ≡ n = nodes_once P Q F H V G.resolves G.new G.formed G.placed G.facts pt G.unbroken a n live q.live ow in
-      absurd (no_body n m f q.of.slot s.0 k q.filled (method_slot P Q F pt H V G m q.of.slot q.of.old q.of.old_stands q.of.of_slot)
-      (subst (Stands P Q F pt H V G (column.Def f)) one st) o s.1
-      (sym (name_is P Q F pt H V G x g r) ∙ q.of.name))
+      absurd (no_body n m f q.of.slot s.0 k q.filled (method_slot G m q.of.slot q.of.old q.of.old_stands q.of.of_slot)
+      (subst (Stands G (column.Def f)) one st) o s.1 (sym (name_is G x g r) ∙ q.of.name))
 
   member_fills : (n i g : ℕ) (x : MethodAt) (m : MemberTree) → is_live H.order n ≡ true → slice_get (tree P Q F H) i ≡ Some (node_tree P Q F H n)
-      → IsMember P R₀ F H (items P Q F H) n m
-      → Contains (method_member (suc i) (is_abstract P Q F pt H V G n) m) x → Fills g x
+      → IsMember P R₀ F H (items P Q F H) n m → Contains (method_member (suc i) (is_abstract G n) m) x → Fills g x
   member_fills n i g x _ live e (a_field c f k d at o) h = absurd (omega (arith, h.1))
   member_fills n i g x _ live e (a_body c f k d at o) h =
-      let y : MethodAt = as_method i (is_abstract P Q F pt H V G n) (head P R₀ H (modifier Public ∷ []) (R₀.method_name f) f k) (body P R₀ H f k) in
-      subst (Fills g) (one_from y x h) (body_fills n i g f (is_abstract P Q F pt H V G n) k live e (stands_from P Q F pt H V G c (column.Def f) n d at) o)
+      let y : MethodAt = as_method i (is_abstract G n) (head P R₀ H (modifier Public ∷ []) (R₀.method_name f) f k) (body P R₀ H f k) in
+      subst (Fills g) (one_from y x h) (body_fills n i g f (is_abstract G n) k live e (stands_from G c (column.Def f) n d at) o)
   member_fills n i g x _ live e (a_head t d) h =
-      let y : MethodAt = as_method i (is_abstract P Q F pt H V G n) t None in
-      subst (Fills g) (one_from y x h) (λ r a m q. no_code (untag_method r.method).body (bodyless P Q F pt H V G y g r refl) q.bodied)
+      let y : MethodAt = as_method i (is_abstract G n) t None in
+      subst (Fills g) (one_from y x h) (λ r a m q. no_code (untag_method r.method).body (bodyless G y g r refl) q.bodied)
   member_fills n i g x _ live e (a_filler s t d o) h =
-      let y : MethodAt = as_method i (is_abstract P Q F pt H V G n) t (Some (filling o.signature.result)) in
+      let y : MethodAt = as_method i (is_abstract G n) t (Some (filling o.signature.result)) in
       subst (Fills g) (one_from y x h) (filler_fills g y s o refl)
 
   node_fills : (b : Bool) (n i g : ℕ) (x : MethodAt) → is_live H.order n ≡ true → slice_get (tree P Q F H) i ≡ Some (node_tree P Q F H n)
       → Contains (methods_declared (suc i) (type_tree P R₀ F H (items P Q F H) b n)) x → Fills g x
   node_fills true n i g x live e h =
-      let z = member_method_from (suc i) (is_abstract P Q F pt H V G n) (class_members P R₀ F H (items P Q F H) n) x h in
+      let z = member_method_from (suc i) (is_abstract G n) (class_members P R₀ F H (items P Q F H) n) x h in
       member_fills n i g x z.0 live e (class_from P R₀ F H (items P Q F H) n z.0 z.1) z.2
   node_fills false n i g x live e h =
       let z = map_from (λ h. as_head i h) (interface_heads P R₀ F H n) x h in
-      subst (Fills g) z.2 (λ r a m q. no_code (untag_method r.method).body (bodyless P Q F pt H V G (as_head i z.0) g r refl) q.bodied)
+      subst (Fills g) z.2 (λ r a m q. no_code (untag_method r.method).body (bodyless G (as_head i z.0) g r refl) q.bodied)
 
   static_fills : (c i g : ℕ) (x : MethodAt) (m : MemberTree) → IsStatic P R₀ H c m → Contains (method_member (suc i) false m) x → Fills g x
   static_fills c i g x m (a_static_field f old _ o h y) z =
@@ -229,7 +227,7 @@ module _ (P Q : Plain) (F : Facts) (pt : PointsTo) (H : Hierarchy) (V : Plain) (
       let w = when_from (old.is_static && (old.owner == c)) _ m y in
       let t : MethodAt = as_method i false (head P R₀ H (modifier Public ∷ modifier Static ∷ []) old.name f old) (body P R₀ H f old) in
       subst (Fills g) (one_from t x (subst (λ v. Contains (method_member (suc i) false v) x) (sym (one_from _ m w.1)) z))
-      (λ r a b q. absurd (false≢true (sym q.of.instance ∙ static_is P Q F pt H V G t g r)))
+      (λ r a b q. absurd (false≢true (sym q.of.instance ∙ static_is G t g r)))
 
   declared_fills : (i g : ℕ) (d : DeclTree) (x : MethodAt) → slice_get (tree P Q F H) i ≡ Some d → Declares P Q F H d
       → Contains (methods_declared (suc i) d) x → Fills g x
@@ -238,12 +236,12 @@ module _ (P Q : Plain) (F : Facts) (pt : PointsTo) (H : Hierarchy) (V : Plain) (
       let z = member_method_from (suc i) false (holder_members P R₀ H c) x h in
       static_fills c i g x z.0 (holder_from P R₀ H c z.0 z.1) z.2
 
-  pub written : IsWritten P Q F H U (T P Q F pt H V G)
+  pub written : IsWritten P Q F H U (T G)
   written = record {
     public = public_method;
     fillers = λ g n m new e f.
         let z = method_back (tree P Q F H) V G.resolves G.new g new e in
-        subst (HasFilling P Q F H U (T P Q F pt H V G)) z.is
+        subst (HasFilling P Q F H U (T G)) z.is
         (declared_fills z.number g z.declaration z.method z.stands (declares P Q F H z.number z.declaration z.stands) z.declared z.resolved n m
-        (subst (IsFiller P Q F H U (T P Q F pt H V G) n m) (sym z.is) f));
+        (subst (IsFiller P Q F H U (T G) n m) (sym z.is) f));
   }

@@ -14,25 +14,25 @@ use Rattle.tree_rebuilds.proofs.Methods.{each_body, each_head, each_filler}
 use Rattle.tree_rebuilds.proofs.Origins.{instance_method, static_method, each_static_method}
 use Rattle.tree_rebuilds.proofs.Main.{main_is}
 
-module _ (P Q : Plain) (F : Facts) (pt : PointsTo) (H : Hierarchy) (V : Plain) (G : Given P Q F pt H V) (match : BodiesMatch P Q F pt H V G) where
+module _ {P Q : Plain} {F : Facts} {pt : PointsTo} {H : Hierarchy} {V : Plain} (G : Given P Q F pt H V) (match : BodiesMatch G) where
   unfoldable pub rebuilt : Rebuilds P Q F H (untagged V)
   rebuilt = record {
-    places = T P Q F pt H V G;
+    places = T G;
     types = are_types P Q F H V G.resolves G.new G.formed G.placed G.facts pt G.unbroken;
     order = order_is P Q F H V G.resolves G.new G.hierarchy.sized.order pt G.unbroken G.formed G.placed G.facts;
     members = record {
-      fields = instance_field P Q F pt H V G;
-      each_field = each_field P Q F pt H V G;
-      methods = instance_method P Q F pt H V G match;
-      each_body = each_body P Q F pt H V G match;
-      each_head = each_head P Q F pt H V G;
-      each_filler = each_filler P Q F pt H V G;
+      fields = instance_field G;
+      each_field = each_field G;
+      methods = instance_method G match;
+      each_body = each_body G match;
+      each_head = each_head G;
+      each_filler = each_filler G;
     };
     statics = record {
-      fields = static_field P Q F pt H V G;
-      each_field = each_static_field P Q F pt H V G;
-      methods = static_method P Q F pt H V G match;
-      each_method = each_static_method P Q F pt H V G match;
+      fields = static_field G;
+      each_field = each_static_field G;
+      methods = static_method G match;
+      each_method = each_static_method G match;
     };
-    main = main_is P Q F pt H V G match;
+    main = main_is G match;
   }

@@ -11,7 +11,7 @@ use Rattle.java_core.specs.Trees.{Sts}
 use Rattle.java_core.specs.Programs.{Plain, PlainLocal, PlainMethod, PlainSlot}
 use Rattle.java_core.specs.Types.{types_of, env_of}
 use Rattle.java_core.specs.Formed.{variables_of}
-use Rattle.java_core.specs.Untagged.{bare_sts, untag_local, untag_method, untag_body, untagged}
+use Rattle.java_core.specs.Untagged.{bare_sts, untag_method, untag_body, untagged}
 use Rattle.name_rules.specs.declared.parts.Here.{Here}
 use Rattle.name_rules.specs.Outline.{MethodAt, is_static, is_public_word, has_word, types_in, type_meant, param_outline, outline}
 use Rattle.name_rules.specs.Resolves.{StsResolve, Counts, declares_all, params_from, here_of, BodyResolves, r_no_body, r_body}
@@ -34,12 +34,9 @@ use Rattle.tree_rebuilds.proofs.Outlined.{IsResolved}
 use Rattle.tree_rebuilds.proofs.Nodes.{by_node}
 use Rattle.tree_rebuilds.proofs.Retyped.{HasRow, variable_has_row, result_has_row, type_is}
 use Rattle.tree_rebuilds.proofs.Given.{Given, T, R}
+use Rattle.run_cover.proofs.Untagging.{untyped_params as untagged_types}
 
-untagged_types : (vs : List PlainLocal) → types_of (map untag_local vs) ≡ types_of vs
-untagged_types [] = refl
-untagged_types (v ∷ vs) = ap (λ z. v.ty ∷ z) (untagged_types vs)
-
-module _ (P Q : Plain) (F : Facts) (pt : PointsTo) (H : Hierarchy) (V : Plain) (G : Given P Q F pt H V) where
+module _ {P Q : Plain} {F : Facts} {pt : PointsTo} {H : Hierarchy} {V : Plain} (G : Given P Q F pt H V) where
   abbrev types : List (List ℕ)
   types = types_in (java_tree P Q F H)
 
@@ -52,11 +49,10 @@ module _ (P Q : Plain) (F : Facts) (pt : PointsTo) (H : Hierarchy) (V : Plain) (
   -- what is asked of the bodies: a body that is written of an old one and resolves is the old one in the new names and types
   unfoldable pub BodiesMatch : Type 0
   BodiesMatch = (m : ℕ) (k : PlainMethod) (xs : Sts) (here : Here) (new : PlainMethod) (ys : Sts) → slice_get P.methods m ≡ Some k → k.body ≡ Some xs
-      → here.is_static ≡ k.is_static → (k.is_static ≡ true → here.owner ≡ (T P Q F pt H V G).holder_of k.owner)
-      → map (λ v. v.name) new.params ≡ map (λ v. v.name) k.params
+      → here.is_static ≡ k.is_static → (k.is_static ≡ true → here.owner ≡ (T G).holder_of k.owner) → map (λ v. v.name) new.params ≡ map (λ v. v.name) k.params
       → StsResolve O here new false (params_from 0 new.params) (written_sts P (by_node P Q F H) H m k (parameters 0 k.params) xs) ys
       → Counts (length new.params) (declares_all ys) (length (variables_of new))
-      → MatchesSts P U (R P Q F pt H V G) (env_of m k) xs (bare_sts ys) × (types_of new.locals ≡ new_types (R P Q F pt H V G) m k (length k.params) k.locals)
+      → MatchesSts P U (R G) (env_of m k) xs (bare_sts ys) × (types_of new.locals ≡ new_types (R G) m k (length k.params) k.locals)
 
   -- ---- the types of a head
 
@@ -67,26 +63,25 @@ module _ (P Q : Plain) (F : Facts) (pt : PointsTo) (H : Hierarchy) (V : Plain) (
 
   param_types : (m : ℕ) (k : PlainMethod) (n : ℕ) (vs : List PlainLocal)
       → ((i j : ℕ) (v : PlainLocal) → j ≡ n + i → slice_get vs i ≡ Some v → (t : ObjectType) → object_of v.ty ≡ Some t → HasRow P Q (variable_row m k j))
-      → types_of (map (param_outline types) (each (λ i v. param P (by_node P Q F H) H m k i v ∷ []) n vs)) ≡ new_types (R P Q F pt H V G) m k n vs
+      → types_of (map (param_outline types) (each (λ i v. param P (by_node P Q F H) H m k i v ∷ []) n vs)) ≡ new_types (R G) m k n vs
   param_types m k n [] f = refl
   param_types m k n (v ∷ vs) f =
       ap (λ t. t ∷ types_of (map (param_outline types) (each (λ i v. param P (by_node P Q F H) H m k i v ∷ []) (n + 1) vs)))
       (type_is P Q F G.facts H G.hierarchy V G.resolves G.new pt G.unbroken (variable_row m k n) v.ty (f 0 n v (omega arith) refl))
-      ∙ ap (λ z. retyped ((R P Q F pt H V G).row_type (variable_row m k n)) v.ty ∷ z)
-      (param_types m k (n + 1) vs (λ i j w e d. f (suc i) j w (omega (arith, e)) d))
+      ∙ ap (λ z. retyped ((R G).row_type (variable_row m k n)) v.ty ∷ z) (param_types m k (n + 1) vs (λ i j w e d. f (suc i) j w (omega (arith, e)) d))
 
   head_params : (m : ℕ) (k : PlainMethod) → slice_get P.methods m ≡ Some k
-      → types_of (map (param_outline types) (each (λ i v. param P (by_node P Q F H) H m k i v ∷ []) 0 k.params)) ≡ new_types (R P Q F pt H V G) m k 0 k.params
+      → types_of (map (param_outline types) (each (λ i v. param P (by_node P Q F H) H m k i v ∷ []) 0 k.params)) ≡ new_types (R G) m k 0 k.params
   head_params m k e = param_types m k 0 k.params (λ i j v d s t o.
       variable_has_row P Q G.same G.formed m k j v e (at_left k.params k.locals j v (ap (slice_get k.params) (omega (arith, d)) ∙ s)) t o)
 
   head_result : (m : ℕ) (k : PlainMethod) → slice_get P.methods m ≡ Some k
       → option_map (type_meant types) (option_map (written_type P H ((by_node P Q F H).row_type (result_in k.slot m))) k.result) ≡ retyped_if
-      ((R P Q F pt H V G).row_type (result_in k.slot m)) k.result
+      ((R G).row_type (result_in k.slot m)) k.result
   head_result m k e = go k.result refl
     where
       go : (o : Option Ty) → k.result ≡ o → option_map (type_meant types)
-          (option_map (written_type P H ((by_node P Q F H).row_type (result_in k.slot m))) o) ≡ retyped_if ((R P Q F pt H V G).row_type (result_in k.slot m)) o
+          (option_map (written_type P H ((by_node P Q F H).row_type (result_in k.slot m))) o) ≡ retyped_if ((R G).row_type (result_in k.slot m)) o
       go None d = refl
       go (Some u) d = ap Some (type_is P Q F G.facts H G.hierarchy V G.resolves G.new pt G.unbroken (result_in k.slot m) u
           (λ t o. result_has_row P Q G.same G.formed m k e t (ap (λ z. object_if z) d ∙ o)))
@@ -97,15 +92,13 @@ module _ (P Q : Plain) (F : Facts) (pt : PointsTo) (H : Hierarchy) (V : Plain) (
 
   slot_params : (m s : ℕ) (k : PlainMethod) (n : ℕ) (vs : List PlainLocal)
       → ((i j : ℕ) (v : PlainLocal) → j ≡ n + i → slice_get vs i ≡ Some v → variable_row m k j ≡ row.Param s j)
-      → new_types (R P Q F pt H V G) m k n vs ≡ each (λ i t. retyped ((R P Q F pt H V G).row_type (row.Param s i)) t ∷ []) n (types_of vs)
+      → new_types (R G) m k n vs ≡ each (λ i t. retyped ((R G).row_type (row.Param s i)) t ∷ []) n (types_of vs)
   slot_params m s k n [] f = refl
   slot_params m s k n (v ∷ vs) f =
-      ap (λ i. retyped ((R P Q F pt H V G).row_type i) v.ty ∷ new_types (R P Q F pt H V G) m k (n + 1) vs) (f 0 n v (omega arith) refl)
-      ∙ ap (λ z. retyped ((R P Q F pt H V G).row_type (row.Param s n)) v.ty ∷ z)
-      (slot_params m s k (n + 1) vs (λ i j w e d. f (suc i) j w (omega (arith, e)) d))
+      ap (λ i. retyped ((R G).row_type i) v.ty ∷ new_types (R G) m k (n + 1) vs) (f 0 n v (omega arith) refl)
+      ∙ ap (λ z. retyped ((R G).row_type (row.Param s n)) v.ty ∷ z) (slot_params m s k (n + 1) vs (λ i j w e d. f (suc i) j w (omega (arith, e)) d))
 
-  of_slot_params : (m s : ℕ) (k : PlainMethod) → k.slot ≡ Some s
-      → new_types (R P Q F pt H V G) m k 0 k.params ≡ slot_types (R P Q F pt H V G) s (types_of k.params)
+  of_slot_params : (m s : ℕ) (k : PlainMethod) → k.slot ≡ Some s → new_types (R G) m k 0 k.params ≡ slot_types (R G) s (types_of k.params)
   of_slot_params m s k e = slot_params m s k 0 k.params (λ i j v d h. slot_param m s j k e (let lt = at_below k.params i v h in omega (arith, d, lt)))
 
   -- ---- a resolved method
@@ -147,8 +140,7 @@ module _ (P Q : Plain) (F : Facts) (pt : PointsTo) (H : Hierarchy) (V : Plain) (
         go (r_body a b c d) = ap (λ o. is_some (untag_body o)) b
 
     pub types_are : (mods : List Modifier) (name : List ℕ) (m : ℕ) (k : PlainMethod) → slice_get P.methods m ≡ Some k
-        → at.head ≡ head P (by_node P Q F H) H mods name m k
-        → HasTypes (R P Q F pt H V G) m k made
+        → at.head ≡ head P (by_node P Q F H) H mods name m k → HasTypes (R G) m k made
     types_are mods name m k e h = record {
       params = params_is ∙ ap (λ (z : HeadTree). types_of (map (param_outline types) z.params)) h ∙ head_params m k e;
       result = result_is ∙ ap (λ (z : HeadTree). option_map (type_meant types) z.type) h ∙ head_result m k e;
@@ -156,13 +148,12 @@ module _ (P Q : Plain) (F : Facts) (pt : PointsTo) (H : Hierarchy) (V : Plain) (
 
     pub slot_types_are : (mods : List Modifier) (name : List ℕ) (m s : ℕ) (k : PlainMethod) (slot : PlainSlot) → slice_get P.methods m ≡ Some k
         → at.head ≡ head P (by_node P Q F H) H mods name m k
-        → k.slot ≡ Some s → types_of k.params ≡ slot.params → k.result ≡ slot.result → HasSlotTypes (R P Q F pt H V G) s slot made
+        → k.slot ≡ Some s → types_of k.params ≡ slot.params → k.result ≡ slot.result → HasSlotTypes (R G) s slot made
     slot_types_are mods name m s k slot e h o p q =
         let t = types_are mods name m k e h in
         record {
-          params = t.params ∙ of_slot_params m s k o ∙ ap (slot_types (R P Q F pt H V G) s) p;
-          result = t.result ∙ ap (λ z. retyped_if ((R P Q F pt H V G).row_type (result_in z m)) k.result) o
-              ∙ ap (retyped_if ((R P Q F pt H V G).row_type (row.Return s))) q;
+          params = t.params ∙ of_slot_params m s k o ∙ ap (slot_types (R G) s) p;
+          result = t.result ∙ ap (λ z. retyped_if ((R G).row_type (result_in z m)) k.result) o ∙ ap (retyped_if ((R G).row_type (row.Return s))) q;
         }
 
     param_names_are : (mods : List Modifier) (name : List ℕ) (m : ℕ) (k : PlainMethod) → at.head ≡ head P (by_node P Q F H) H mods name m k
@@ -173,15 +164,14 @@ module _ (P Q : Plain) (F : Facts) (pt : PointsTo) (H : Hierarchy) (V : Plain) (
 
     pub code_is : BodiesMatch → (mods : List Modifier) (name : List ℕ) (m : ℕ) (k : PlainMethod) (xs : Sts) → slice_get P.methods m ≡ Some k → k.body ≡ Some xs
         → at.head ≡ head P (by_node P Q F H) H mods name m k → at.body ≡ body P (by_node P Q F H) H m k → is_static at ≡ k.is_static
-        → (k.is_static ≡ true → at.owner ≡ (T P Q F pt H V G).holder_of k.owner)
-        → HasCode P U (R P Q F pt H V G) m k made
+        → (k.is_static ≡ true → at.owner ≡ (T G).holder_of k.owner) → HasCode P U (R G) m k made
     unfolding BodiesMatch
     code_is match mods name m k xs e b h c st ow = go r.body
       where
         is : at.body ≡ Some (written_sts P (by_node P Q F H) H m k (parameters 0 k.params) xs)
         is = c ∙ ap (option_map (written_sts P (by_node P Q F H) H m k (parameters 0 k.params))) b
 
-        go : BodyResolves O at r.method → HasCode P U (R P Q F pt H V G) m k made
+        go : BodyResolves O at r.method → HasCode P U (R G) m k made
         go (r_no_body a _ _) = absurd (cc (is, a))
         go (r_body {ss = ss} {xs = ys} a d resolved counts) =
             let same : ss ≡ written_sts P (by_node P Q F H) H m k (parameters 0 k.params) xs = same_Some _ _ (sym a ∙ is) in

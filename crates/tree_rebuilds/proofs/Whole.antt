@@ -22,38 +22,36 @@ use Rattle.tree_rebuilds.proofs.Named.{named_row, named_node, node_no_text, name
 use Rattle.tree_rebuilds.proofs.Rebuilt.{rebuilt}
 use Rattle.tree_rebuilds.proofs.Public.{written}
 
-module _ (Q : Plain) (F : Facts) (pt : PointsTo) (H : Hierarchy) (V : Plain) (G : Given (untagged Q) Q F pt H V) where
-  knows : KnowsNames (untagged Q) Q H (untagged V) (outline (java_tree (untagged Q) Q F H)) (T (untagged Q) Q F pt H V G)
+module _ {Q : Plain} {F : Facts} {pt : PointsTo} {H : Hierarchy} {V : Plain} (G : Given (untagged Q) Q F pt H V) where
+  knows : KnowsNames (untagged Q) Q H (untagged V) (outline (java_tree (untagged Q) Q F H)) (T G)
   knows = record {
-    row_live = named_row (untagged Q) Q F pt H V G;
-    type = named_node (untagged Q) Q F pt H V G;
-    no_text = node_no_text (untagged Q) Q F pt H V G;
-    holder = named_holder (untagged Q) Q F pt H V G;
-    no_field = no_field_holder (untagged Q) Q F pt H V G;
-    static_field = named_static_field (untagged Q) Q F pt H V G;
-    static_method = named_static_method (untagged Q) Q F pt H V G;
+    row_live = named_row G;
+    type = named_node G;
+    no_text = node_no_text G;
+    holder = named_holder G;
+    no_field = no_field_holder G;
+    static_field = named_static_field G;
+    static_method = named_static_method G;
   }
 
-  bodies_match : IsTyped (untagged Q) → HasLocalsInOrder (untagged Q) → BodiesMatch (untagged Q) Q F pt H V G
+  bodies_match : IsTyped (untagged Q) → HasLocalsInOrder (untagged Q) → BodiesMatch G
   unfolding BodiesMatch
   bodies_match typed locals m k xs here new ys e b st ow names resolved counts =
-      let z = body_matched Q H (untagged V) (outline (java_tree (untagged Q) Q F H))
-      (T (untagged Q) Q F pt H V G) knows G.formed typed locals m k new here xs ys e
+      let z = body_matched Q H (untagged V) (outline (java_tree (untagged Q) Q F H)) (T G) knows G.formed typed locals m k new here xs ys e
       (record { body = b; names = names; static = st; owner = ow; resolves = resolved; counts = counts }) in
       (z.matches, z.locals)
 
   is_rebuilt : IsTyped (untagged Q) → HasLocalsInOrder (untagged Q) → IsRebuilt (untagged Q) Q F H (untagged V)
   unfolding rebuilt
   is_rebuilt typed locals = record {
-    rebuilds = rebuilt (untagged Q) Q F pt H V G (bodies_match typed locals);
-    written = written (untagged Q) Q F pt H V G;
+    rebuilds = rebuilt G (bodies_match typed locals);
+    written = written G;
   }
 
 untagged_rebuilt : (Q : Plain) (F : Facts) (s : PointsTo) (H : Hierarchy) (W : Plain) → IsPlaced (untagged Q) Q → IsReady (untagged Q) Q F s H
     → Resolves (java_tree (untagged Q) Q F H) W → IsFormed (untagged W) → IsRebuilt (untagged Q) Q F H (untagged W)
 untagged_rebuilt Q F s H W pairs ready resolves new =
-    is_rebuilt Q F s H W
-    (record {
+    let G : Given (untagged Q) Q F s H W = record {
       formed = ready.formed;
       placed = pairs;
       same = refl;
@@ -62,8 +60,7 @@ untagged_rebuilt Q F s H W pairs ready resolves new =
       unbroken = ready.unbroken;
       resolves = resolves;
       new = new;
-    })
-    ready.typed ready.locals
+    } in is_rebuilt G ready.typed ready.locals
 
 pub tree_rebuilds : TreeRebuilds
 unfolding TreeRebuilds

@@ -9,8 +9,8 @@ use Rattle.java_tree.specs.Syntax.{HeadTree, MemberTree, FieldTree, MethodTree, 
 use Rattle.java_core.specs.Programs.{Plain, PlainField, PlainMethod, PlainSlot}
 use Rattle.java_core.specs.Classes.{slot_of_method}
 use Rattle.kaba_order.specs.Orders.{is_live}
-use Rattle.kaba_bits.specs.Sets.{or_else, first_below}
-use Rattle.kaba_bits.proofs.FirstLemmas.{first_below_None, or_else-None, when-None}
+use Rattle.kaba_bits.specs.Sets.{first_below}
+use Rattle.kaba_bits.proofs.FirstLemmas.{first_below_None, when-None}
 use Rattle.kaba_bits.proofs.SetLemmas.{bit-below}
 use Rattle.fact_model.specs.Items.{column_kind, column_slot}
 use Rattle.fact_model.specs.Classes.{is_def, is_slot}
@@ -24,9 +24,7 @@ use Rattle.hier_model.proofs.AnyLemmas.{any_below_some, any_below_has}
 use Rattle.hier_rules.specs.declared.broken.Rule.TheVariants.{B6}
 use Rattle.hier_rules.specs.Asked.{is_one_slot}
 use Rattle.hier_rules.specs.Instances.{of_column}
-use Rattle.hier_rules.specs.Names.{first_misnamed}
-use Rattle.hier_rules.specs.Obligations.{is_body_at, two_bodies, first_unoffered, first_untied, first_wrong_need, first_wrong_super, first_two_bodies, first_wrong_outcome, first_unchained}
-use Rattle.hier_rules.specs.First.{first_of_edit, first_changed_run}
+use Rattle.hier_rules.specs.Obligations.{is_body_at, two_bodies}
 use Rattle.flow_rules.specs.declared.items.ColumnItem.{ColumnItem}
 use Rattle.flow_rules.specs.declared.items.ColumnItem.TheVariants as column
 use Rattle.flow_rules.specs.Ordered.{each, when}
@@ -39,7 +37,7 @@ use Rattle.rebuild_model.specs.Members.{is_made_at, offers_body, is_headed, is_f
 use Rattle.written_tree.specs.Names.{nowhere}
 use Rattle.written_tree.specs.Members.{is_declaration, filling, head, first_head, slot_head, field_member, body_member, bodyless, is_first_there, heads_of_slot, column_heads, own_member, column_members, filler, class_members, interface_heads}
 use Rattle.tree_rebuilds.proofs.Nodes.{items}
-use Rattle.tree_rebuilds.proofs.Methods.{slot_is}
+use Rattle.rebuild_looks.proofs.Slots.{slot_says as slot_is}
 use Rattle.tree_rebuilds.proofs.Members.{IsHeadTree, first_head_from, in_class, as_filler, flat_option_from}
 use Rattle.tree_resolves.proofs.Origins.{R}
 use Rattle.tree_resolves.proofs.Modifiers.{Given}
@@ -47,6 +45,7 @@ use Rattle.tree_resolves.proofs.Variables.{column_number, field_name_is}
 use Rattle.tree_resolves.proofs.Instances.{OffersSlot, one_slot, offered_there, name_is, body_offers}
 use Rattle.tree_resolves.proofs.Once.{Once, append_once, each_once, one_once, when_once, map_once}
 use Rattle.tree_resolves.proofs.Declared.{SameMember, SameHead}
+use Rattle.hier_begin.proofs.Unbroken.{none_broken}
 
 pub option_once : {A B : Type 0} (agree : B → B → Type 0) (g : A → List B) (o : Option A) → ((k : A) → Once agree (g k)) → Once agree (option_map_or g o [])
 option_once agree g None h = tt
@@ -83,12 +82,12 @@ method_item P (column.Def m) s h = refl
 method_item P (column.Fld m) s h = absurd (cc h)
 method_item P (column.Is m) s h = absurd (cc h)
 
-module _ (P Q : Plain) (F : Facts) (pt : PointsTo) (H : Hierarchy) (G : Given P Q F pt H) where
+module _ {P Q : Plain} {F : Facts} {pt : PointsTo} {H : Hierarchy} (G : Given P Q F pt H) where
   columns : AreColumns P Q F
   columns = columns_are P Q G.placed G.formed F G.facts
 
   abbrev Offers : ℕ → ℕ → List ℕ → Type 0
-  Offers n s x = OffersSlot P Q F pt H G n s x
+  Offers n s x = OffersSlot G n s x
 
   pub slot_first : (s : ℕ) (sig : PlainSlot) → slice_get P.slots s ≡ Some sig → slot_of_method P sig.first ≡ Some s
   slot_first s sig e = let z = G.formed.slots s sig e in ap (option_and_then (λ (y : PlainMethod). y.slot)) z.stands ∙ z.of
@@ -129,9 +128,9 @@ module _ (P Q : Plain) (F : Facts) (pt : PointsTo) (H : Hierarchy) (G : Given P 
               number = c;
               kind = ap is_method kinded;
               slot = slotted;
-              offered = offered_there P Q F pt H G n c live at;
+              offered = offered_there G n c live at;
               name = ap (λ (i : HeadTree). i.name) (sym t.is)
-                  ∙ name_is P Q F pt H G t.signature.first s c (slot_first s t.signature t.slot_stands) (ap is_method kinded) slotted;
+                  ∙ name_is G t.signature.first s c (slot_first s t.signature t.slot_stands) (ap is_method kinded) slotted;
             };
           }
 
@@ -149,7 +148,7 @@ module _ (P Q : Plain) (F : Facts) (pt : PointsTo) (H : Hierarchy) (G : Given P 
   -- two columns give no two heads of one name
   two_heads : (n c d : ℕ) (h k : HeadTree) → c < d → HeadAt n c h → HeadAt n d k → h.name ≡ k.name → ⊥
   two_heads n c d h k lt a b e =
-      let same = one_slot P Q F pt H G n a.slot b.slot k.name (subst (Offers n a.slot) e a.offers) b.offers in
+      let same = one_slot G n a.slot b.slot k.name (subst (Offers n a.slot) e a.offers) b.offers in
       let slot : is_slot (column_slot F c) b.slot ≡ true = ap (λ o. is_slot o b.slot) (a.of_slot ∙ ap Some same) ∙ eq-eqb b.slot b.slot refl in
       false≢true (sym (not-true _ b.leading)
       ∙ any_below_has (λ e. is_declaration (column_kind F e) && (is_slot (column_slot F e) b.slot && stands_at H n e)) d c lt
@@ -177,16 +176,15 @@ module _ (P Q : Plain) (F : Facts) (pt : PointsTo) (H : Hierarchy) (G : Given P 
       → Contains (own_member P (R P Q F H) F H o) x → OwnAt n c x
   own_in n c (Some (column.Fld f)) x live e at d =
       let z = flat_option_from (λ k. field_member P (R P Q F H) H f k ∷ []) (slice_get P.fields f) x d in
-      let number = column_number P Q F pt H G c (column.Fld f) e in
-      subst (OwnAt n c) (one_from _ x z.2)
-      (field_at f z.0 (columns.kind (column.Fld f) c number) at (field_name_is P Q F pt H G c f number))
+      let number = column_number G c (column.Fld f) e in
+      subst (OwnAt n c) (one_from _ x z.2) (field_at f z.0 (columns.kind (column.Fld f) c number) at (field_name_is G c f number))
   own_in n c (Some (column.Def m)) x live e at d =
       let z = flat_option_from (λ k. body_member P (R P Q F H) H m k ∷ []) (slice_get P.methods m) x d in
-      let number = column_number P Q F pt H G c (column.Def m) e in
+      let number = column_number G c (column.Def m) e in
       let slot = columns.slotted (column.Def m) c number refl in
       subst (OwnAt n c) (one_from _ x z.2)
       (body_at m slot.0 z.0 (columns.kind (column.Def m) c number) (columns.slot (column.Def m) c number ∙ slot.1) at
-      (columns.below (column.Def m) c number) (body_offers P Q F pt H G n c m slot.0 live e at slot.1))
+      (columns.below (column.Def m) c number) (body_offers G n c m slot.0 live e at slot.1))
   own_in n c (Some (column.Dcl m)) x live e at d = absurd (let l = d.1 in omega (arith, l))
   own_in n c (Some (column.Is k)) x live e at d = absurd (let l = d.1 in omega (arith, l))
   own_in n c None x live e at d = absurd (let l = d.1 in omega (arith, l))
@@ -202,23 +200,12 @@ module _ (P Q : Plain) (F : Facts) (pt : PointsTo) (H : Hierarchy) (G : Given P 
   own_once (Some (column.Is k)) = tt
   own_once None = tt
 
-  bodies_none : first_two_bodies F H ≡ None
-  bodies_none =
-      let edit = (or_else-None (first_of_edit F pt H) (first_unchained F H) G.unbroken).0 in
-      let two = (or_else-None (first_unoffered F H) (or_else (first_untied F pt H) (or_else (first_changed_run F pt H) (first_misnamed F H))) edit).1 in
-      let three = (or_else-None (first_untied F pt H) (or_else (first_changed_run F pt H) (first_misnamed F H)) two).1 in
-      let run = (or_else-None (first_changed_run F pt H) (first_misnamed F H) three).0 in
-      let super = (or_else-None (first_wrong_need F pt H)
-      (or_else (first_wrong_super F H) (or_else (first_two_bodies F H) (first_wrong_outcome F pt H))) run).1 in
-      let bodies = (or_else-None (first_wrong_super F H) (or_else (first_two_bodies F H) (first_wrong_outcome F pt H)) super).1 in
-      (or_else-None (first_two_bodies F H) (first_wrong_outcome F pt H) bodies).0
-
   -- no node has two bodies of one slot
   two_at : (n c d s : ℕ) → is_live H.order n ≡ true → c < d → d < length F.columns.items → column_kind F c ≡ kind.Def → column_kind F d ≡ kind.Def
       → column_slot F c ≡ Some s → column_slot F d ≡ Some s → stands_at H n c ≡ true → stands_at H n d ≡ true → ⊥
   two_at n c d s live lt below k l a b u v =
       let one = first_below_None (λ n. first_below (length F.columns.items) (λ c. first_below (length F.columns.items) (two_bodies F H n c)))
-      (length H.order.live) n bodies_none (bit-below H.order.live n live) in
+      (length H.order.live) n (none_broken F pt H G.unbroken).bodies (bit-below H.order.live n live) in
       let two = first_below_None (λ c. first_below (length F.columns.items) (two_bodies F H n c)) (length F.columns.items) c one
       (let m = below in omega (arith, lt, m)) in
       let three = first_below_None (two_bodies F H n c) (length F.columns.items) d two below in
@@ -234,13 +221,13 @@ module _ (P Q : Plain) (F : Facts) (pt : PointsTo) (H : Hierarchy) (G : Given P 
 
   two_own : (n c d : ℕ) (x y : MemberTree) → is_live H.order n ≡ true → c < d → OwnAt n c x → OwnAt n d y → SameMember x y → ⊥
   two_own n c d _ _ live lt (field_at f k kd at name) (field_at g l ld there other) e =
-      let same = (names_apart F pt H G.hierarchy.sized.order G.unbroken).fields n c d kd ld (offered_there P Q F pt H G n c live at)
-      (offered_there P Q F pt H G n d live there) (sym name ∙ e ∙ other) in
+      let same = (names_apart F pt H G.hierarchy.sized.order G.unbroken).fields n c d kd ld (offered_there G n c live at)
+      (offered_there G n d live there) (sym name ∙ e ∙ other) in
       omega (arith, lt, same)
   two_own n c d _ _ live lt (field_at f k kd at name) (body_at m s l ld sl there below off) e = e
   two_own n c d _ _ live lt (body_at m s k kd sl at below off) (field_at g l ld there other) e = e
   two_own n c d _ _ live lt (body_at m s k kd sl at below off) (body_at g t l ld tl there under oft) e =
-      let same = one_slot P Q F pt H G n s t ((R P Q F H).method_name g) (subst (Offers n s) e off) oft in
+      let same = one_slot G n s t ((R P Q F H).method_name g) (subst (Offers n s) e off) oft in
       two_at n c d t live lt under kd ld (sl ∙ ap Some same) tl at there
 
   -- a body at a node is offered there
@@ -249,7 +236,7 @@ module _ (P Q : Plain) (F : Facts) (pt : PointsTo) (H : Hierarchy) (G : Given P 
   body_offered n c s live k e at below =
       any_below_has (λ c. is_def (column_kind F c) && (is_slot (column_slot F c) s && is_offered H n c)) (length F.columns.items) c below
       (and_from (is_def (column_kind F c)) (is_slot (column_slot F c) s && is_offered H n c) (ap is_def k)
-      (and_from (is_slot (column_slot F c) s) (is_offered H n c) (ap (λ o. is_slot o s) e ∙ eq-eqb s s refl) (offered_there P Q F pt H G n c live at)))
+      (and_from (is_slot (column_slot F c) s) (is_offered H n c) (ap (λ o. is_slot o s) e ∙ eq-eqb s s refl) (offered_there G n c live at)))
 
   head_is_bodyless : (n c : ℕ) (h : HeadTree) → is_class_node F H n ≡ true → (a : HeadAt n c h)
       → (is_made_at F H n ≡ false) × (offers_body F H n a.slot ≡ false)
@@ -260,7 +247,7 @@ module _ (P Q : Plain) (F : Facts) (pt : PointsTo) (H : Hierarchy) (G : Given P 
       → SameMember (bodyless h) x → ⊥
   head_own n c d h _ live class a (field_at f k kd at name) e = e
   head_own n c d h _ live class a (body_at m s k kd sl at below off) e =
-      let same = one_slot P Q F pt H G n a.slot s ((R P Q F H).method_name m) (subst (Offers n a.slot) e a.offers) off in
+      let same = one_slot G n a.slot s ((R P Q F H).method_name m) (subst (Offers n a.slot) e a.offers) off in
       false≢true (sym (head_is_bodyless n c h class a).1 ∙ ap (offers_body F H n) same ∙ body_offered n d s live kd sl at below)
 
   turned : (x y : MemberTree) → SameMember x y → SameMember y x
@@ -333,7 +320,7 @@ module _ (P Q : Plain) (F : Facts) (pt : PointsTo) (H : Hierarchy) (G : Given P 
         kind = method;
         slot = slot;
         offered = u.1;
-        name = name ∙ name_is P Q F pt H G sig.first s c.0 (slot_first s sig e) method slot;
+        name = name ∙ name_is G sig.first s c.0 (slot_first s sig e) method slot;
       }
 
   filler_in : (n s : ℕ) (sig : PlainSlot) (x : MemberTree) → slice_get P.slots s ≡ Some sig → Contains (filler P (R P Q F H) F H n s sig) x → FillerAt n s x
@@ -361,7 +348,7 @@ module _ (P Q : Plain) (F : Facts) (pt : PointsTo) (H : Hierarchy) (G : Given P 
 
   two_fillers : (n s t : ℕ) (x y : MemberTree) → s < t → FillerAt n s x → FillerAt n t y → SameMember x y → ⊥
   two_fillers n s t x y lt a b e =
-      let same = one_slot P Q F pt H G n s t b.head.name
+      let same = one_slot G n s t b.head.name
       (subst (Offers n s) (subst (λ z. SameMember (MethodTree a.head (Some a.body) nowhere) z) (sym b.is) (subst (λ z. SameMember z y) (sym a.is) e)) a.offers)
       b.offers in
       omega (arith, lt, same)
@@ -370,7 +357,7 @@ module _ (P Q : Plain) (F : Facts) (pt : PointsTo) (H : Hierarchy) (G : Given P 
       → OwnAt n c x → SameMember x (MethodTree h (Some b) nowhere) → ⊥
   own_filler n c s h b _ live none o (field_at f k kd at name) e = e
   own_filler n c s h b _ live none o (body_at m t k kd sl at below off) e =
-      let same = one_slot P Q F pt H G n s t ((R P Q F H).method_name m) (subst (Offers n s) (sym e) o) off in
+      let same = one_slot G n s t ((R P Q F H).method_name m) (subst (Offers n s) (sym e) o) off in
       false≢true (sym none ∙ ap (offers_body F H n) same ∙ body_offered n c t live kd sl at below)
 
   column_filler : (n c s : ℕ) (x y : MemberTree) → is_live H.order n ≡ true → is_class_node F H n ≡ true → AtColumn n c x → FillerAt n s y

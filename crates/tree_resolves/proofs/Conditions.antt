@@ -22,34 +22,34 @@ use Rattle.tree_resolves.proofs.Main.{has_main}
 use Rattle.tree_resolves.proofs.Separate.{fields_are_apart, methods_are_apart}
 use Rattle.tree_resolves.proofs.Overloads.{slots_are_apart}
 
-module _ (P Q : Plain) (F : Facts) (pt : PointsTo) (H : Hierarchy) (G : Given P Q F pt H) where
+module _ {P Q : Plain} {F : Facts} {pt : PointsTo} {H : Hierarchy} (G : Given P Q F pt H) where
   abbrev T : List DeclTree
   T = tree P Q F H
 
   no_private : (i : ℕ) (x : MethodAt) → slice_get (methods_in T) i ≡ Some x → is_private x ≡ false
-  no_private i x e = (method_sound P Q F pt H G x (contains_at (methods_in T) i x e)).open_to_all
+  no_private i x e = (method_sound G x (contains_at (methods_in T) i x e)).open_to_all
 
   -- the program can be read again
   pub no_condition : HasNoCondition T
-  no_condition _ (unknown {n = n} {p = p} asks none) = all_known P Q F pt H G n p asks none
-  no_condition _ (type_twice {i = i} {j = j} {c = c} {d = d} a b lt e) = type_once P Q F pt H G i j c d a b lt e
-  no_condition _ (known_twice {d = d} c h) = type_is_new P Q F pt H G d c h
-  no_condition _ (super_twice {d = d} {i = i} {j = j} {a = a} {b = b} c p q lt e) = super_once P Q F pt H G d i j a b c p q lt e
-  no_condition _ (field_twice {i = i} {j = j} {f = f} {g = g} p q lt o e) = fields_are_apart P Q F pt H G i j f g p q lt o e
-  no_condition _ (method_twice {i = i} {j = j} {h = h} {k = k} p q lt o e) = methods_are_apart P Q F pt H G i j h k p q lt o e
-  no_condition _ (param_twice {m = m} {i = i} {j = j} {a = a} {b = b} c p q lt e) = param_once P Q F pt H G m i j a b c p q lt e
-  no_condition _ (loop {c = c} {d = d} e p) = no_loop P Q F pt H G c d e p
-  no_condition _ (overload {i = i} {j = j} {c = c} {h = h} {k = k} p q lt e a b n) = n (slots_are_apart P Q F pt H G i j c h k p q lt e a b)
-  no_condition _ (type_as_field {f = f} c h) = false≢true (sym (field_free P Q F pt H G f c) ∙ h)
-  no_condition _ (type_as_param {m = m} {q = q} c d h) = false≢true (sym (param_free P Q F pt H G m q c d) ∙ h)
-  no_condition _ (face_as_parent {d = d} {i = i} {c = c} {k = k} a b e f h) = no_face_as_parent P Q F pt H G d i c k a b e f h
-  no_condition _ (class_as_face {d = d} {i = i} {c = c} {k = k} a b e f h) = no_class_as_face P Q F pt H G d i c k a b e f h
+  no_condition _ (unknown {n = n} {p = p} asks none) = all_known G n p asks none
+  no_condition _ (type_twice {i = i} {j = j} {c = c} {d = d} a b lt e) = type_once G i j c d a b lt e
+  no_condition _ (known_twice {d = d} c h) = type_is_new G d c h
+  no_condition _ (super_twice {d = d} {i = i} {j = j} {a = a} {b = b} c p q lt e) = super_once G d i j a b c p q lt e
+  no_condition _ (field_twice {i = i} {j = j} {f = f} {g = g} p q lt o e) = fields_are_apart G i j f g p q lt o e
+  no_condition _ (method_twice {i = i} {j = j} {h = h} {k = k} p q lt o e) = methods_are_apart G i j h k p q lt o e
+  no_condition _ (param_twice {m = m} {i = i} {j = j} {a = a} {b = b} c p q lt e) = param_once G m i j a b c p q lt e
+  no_condition _ (loop {c = c} {d = d} e p) = no_loop G c d e p
+  no_condition _ (overload {i = i} {j = j} {c = c} {h = h} {k = k} p q lt e a b n) = n (slots_are_apart G i j c h k p q lt e a b)
+  no_condition _ (type_as_field {f = f} c h) = false≢true (sym (field_free G f c) ∙ h)
+  no_condition _ (type_as_param {m = m} {q = q} c d h) = false≢true (sym (param_free G m q c d) ∙ h)
+  no_condition _ (face_as_parent {d = d} {i = i} {c = c} {k = k} a b e f h) = no_face_as_parent G d i c k a b e f h
+  no_condition _ (class_as_face {d = d} {i = i} {c = c} {k = k} a b e f h) = no_class_as_face G d i c k a b e f h
   no_condition _ (private_reused {i = i} {j = j} {h = h} {k = k} p q lt e o v s) =
       ⊎_elim (λ x. false≢true (sym (no_private i h p) ∙ x)) (λ x. false≢true (sym (no_private j k q) ∙ x)) (or_cases (is_private h) (is_private k) v)
-  no_condition _ (no_main none) = let z = has_main P Q F pt H G in none z.0 z.1 z.2 z.3
+  no_condition _ (no_main none) = let z = has_main G in none z.0 z.1 z.2 z.3
   no_condition _ (modifiers_disagree {kind = kind} {mods = mods} {i = i} {j = j} {a = a} {b = b} h p q lt d) =
-      false≢true (sym ((modifiers_fit P Q F pt H G kind mods h).apart i j a b p q lt) ∙ d)
+      false≢true (sym ((modifiers_fit G kind mods h).apart i j a b p q lt) ∙ d)
   no_condition _ (modifier_unfit {kind = kind} {mods = mods} {a = a} h c u) =
-      let z = at_contains mods a c in false≢true (sym ((modifiers_fit P Q F pt H G kind mods h).each z.0 a z.1) ∙ u)
-  no_condition _ (wrong_body {m = m} c w) = (method_sound P Q F pt H G m c).body w
-  no_condition r (in_body {m = m} {ss = ss} c b x) = body_has_none P Q F pt H G m ss r c b x
+      let z = at_contains mods a c in false≢true (sym ((modifiers_fit G kind mods h).each z.0 a z.1) ∙ u)
+  no_condition _ (wrong_body {m = m} c w) = (method_sound G m c).body w
+  no_condition r (in_body {m = m} {ss = ss} c b x) = body_has_none G m ss r c b x

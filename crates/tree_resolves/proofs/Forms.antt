@@ -35,7 +35,7 @@ use Rattle.tree_resolves.proofs.Origins.{R}
 use Rattle.tree_resolves.proofs.Modifiers.{Given}
 use Rattle.tree_resolves.proofs.Named.{row_known, type_known}
 
-module _ (P Q : Plain) (F : Facts) (pt : PointsTo) (H : Hierarchy) (G : Given P Q F pt H) (m : ℕ) (h k : PlainMethod)
+module _ {P Q : Plain} {F : Facts} {pt : PointsTo} {H : Hierarchy} (G : Given P Q F pt H) (m : ℕ) (h k : PlainMethod)
     (at : slice_get P.methods m ≡ Some k) where
   abbrev O : Plain
   O = outline (tree P Q F H)
@@ -68,7 +68,7 @@ module _ (P Q : Plain) (F : Facts) (pt : PointsTo) (H : Hierarchy) (G : Given P 
   cast_known i _ to_int f r (no_such_cast b none) = absurd (cc b)
   cast_known i _ to_char f r (no_such_cast b none) = absurd (cc b)
   cast_known i _ (to_class {c = c} lt) f r (no_such_cast {n = n} b none) =
-      row_known P Q F pt H G i c.0 (f (record { class = c; dim = 0 }) refl) (ap (class_named O) (named_is (row_name P H (R₀.row_type i) c.0) n b) ∙ none)
+      row_known G i c.0 (f (record { class = c; dim = 0 }) refl) (ap (class_named O) (named_is (row_name P H (R₀.row_type i) c.0) n b) ∙ none)
     where
       named_is : (a b : List ℕ) → base.Named a ≡ base.Named b → a ≡ b
       named_is a b h = cc
@@ -119,13 +119,13 @@ module _ (P Q : Plain) (F : Facts) (pt : PointsTo) (H : Hierarchy) (G : Given P 
     ex_known u (static_call t d es) (f_static_call a b) r = exs_known false es b (tail _ (all false es) r)
     ex_known u (super_call t x es) (f_super_call a b c) r = exs_known false es c (tail _ (all false es) r)
     ex_known u (create t n c es) (f_create a b) r =
-        (row_known P Q F pt H G (row.New n) c (create_row t.place u t n c es (all false es) r), exs_known false es b (tail _ (all false es) r))
+        (row_known G (row.New n) c (create_row t.place u t n c es (all false es) r), exs_known false es b (tail _ (all false es) r))
     ex_known u (create_array t n v e) (f_create_array a b c) r =
-        (type_known P Q F pt H G (row.New n) v (λ o d. array_row t.place u t n v e (ps false e) o d r), ex_known false e c (tail _ (ps false e) r))
+        (type_known G (row.New n) v (λ o d. array_row t.place u t n v e (ps false e) o d r), ex_known false e c (tail _ (ps false e) r))
     ex_known u (cast t n v e) (f_cast a b) r =
         (cast_known (row.Cast n) v a (λ o d. cast_row t.place t n v e (ps true e) o d r), ex_known true e b (tail _ (ps true e) r))
     ex_known u (instance_of t n e c) (f_instance_of a b) r =
-        (row_known P Q F pt H G (row.Test n) c (test_row t.place t n c e (right (ps true e) _ r)), ex_known true e a (left (ps true e) _ r))
+        (row_known G (row.Test n) c (test_row t.place t n c e (right (ps true e) _ r)), ex_known true e a (left (ps true e) _ r))
     ex_known u (unary t o e) (f_unary a) r = ex_known false e a r
     ex_known u (binary t o e d) (f_binary a b) r = (
       ex_known false e a (left (ps false e) (ps false d) (left (ps false e ++ ps false d) _ r)),
@@ -167,7 +167,7 @@ module _ (P Q : Plain) (F : Facts) (pt : PointsTo) (H : Hierarchy) (G : Given P 
   assign_known q no_target e f g r = (tt, ex_known false e g (left (ps false e) _ r))
 
   variable_known : (i : ℕ) → KnownVariable P R₀ H m k O i
-  variable_known i v e = type_known P Q F pt H G (variable_row m k i) v.ty (λ o d. variable_has_row P Q G.same G.formed m k i v at e o d)
+  variable_known i v e = type_known G (variable_row m k i) v.ty (λ o d. variable_has_row P Q G.same G.formed m k i v at e o d)
 
   mutual
     st_known : {l : Bool} {s : List ℕ} (x : St) → FormedSt P k l s (bare_st x) → Rows (parts_st P type m h x) → KnownSt P R₀ H m k O (bare_st x)

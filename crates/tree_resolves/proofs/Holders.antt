@@ -43,7 +43,7 @@ found_in : (P : Plain) (f : ℕ → Option ℕ) (a d : ℕ) → IsNearest P f a 
 found_in P f a d (at_class e) = (a, e)
 found_in P f a d (above_class {p = p} e up n) = found_in P f p.0 d n
 
-module _ (P Q : Plain) (F : Facts) (pt : PointsTo) (H : Hierarchy) (G : Given P Q F pt H) where
+module _ {P Q : Plain} {F : Facts} {pt : PointsTo} {H : Hierarchy} (G : Given P Q F pt H) where
   abbrev T : List DeclTree
   T = tree P Q F H
 
@@ -86,7 +86,7 @@ module _ (P Q : Plain) (F : Facts) (pt : PointsTo) (H : Hierarchy) (G : Given P 
   pub holder_of : (c : ℕ) → is_holder P c ≡ true → IsHolder c
   holder_of c h =
       let k = holder_class P G.formed c h in
-      let z = holder_named P Q F pt H G c k.0 k.1 h in
+      let z = holder_named G c k.0 k.1 h in
       let name : class_name P c ≡ k.0.name = ap (λ o. option_map_or (λ (k : PlainClass). k.name) o []) k.1 in
       record {
         class = k.0;
@@ -96,7 +96,7 @@ module _ (P Q : Plain) (F : Facts) (pt : PointsTo) (H : Hierarchy) (G : Given P 
         stands = z.1;
         named = ap (class_named O) name ∙ z.2;
         type = ap (is_type_name types) name
-            ∙ or_left (is_some (type_named types k.0.name)) (is_known k.0.name) (ap is_some (type_number P Q F pt H G z.0 (old_tree P Q F H c k.0) z.1));
+            ∙ or_left (is_some (type_named types k.0.name)) (is_known k.0.name) (ap is_some (type_number G z.0 (old_tree P Q F H c k.0) z.1));
       }
 
   -- no field is found under a type's name
@@ -111,15 +111,14 @@ module _ (P Q : Plain) (F : Facts) (pt : PointsTo) (H : Hierarchy) (G : Given P 
           let p = position-passes (λ g. is_field_of n.0 x g) O.fields f n.1 in
           let y = field_at f p.0 p.1 in
           let name = (bytes_eq-Decides p.0.name x).0 (and_parts (p.0.owner == n.0) (bytes_eq p.0.name x) p.2).1 in
-          absurd (false≢true (sym (field_free P Q F pt H G y.0 y.1) ∙ ap (is_type_name types) (ap (λ (z : PlainField). z.name) y.2 ∙ name) ∙ h))
+          absurd (false≢true (sym (field_free G y.0 y.1) ∙ ap (is_type_name types) (ap (λ (z : PlainField). z.name) y.2 ∙ name) ∙ h))
 
   pub has_holder : (m : ℕ) (k : PlainMethod) → slice_get P.methods m ≡ Some k → (here : Here) (c : ℕ) → IsHolder c → HasHolder P k O here c
   has_holder m k e here c h = record {
     number = suc h.index;
     named = h.named;
     no_field = no_field here.owner (class_name P c) h.type;
-    no_variable = λ i v at same.
-        false≢true (sym (local_free P Q F pt H G m k v e (contains_at (variables_of k) i v at)) ∙ ap (is_type_name types) same ∙ h.type);
+    no_variable = λ i v at same. false≢true (sym (local_free G m k v e (contains_at (variables_of k) i v at)) ∙ ap (is_type_name types) same ∙ h.type);
   }
 
   -- a number is not that of a node and of a holder
@@ -263,8 +262,8 @@ module _ (P Q : Plain) (F : Facts) (pt : PointsTo) (H : Hierarchy) (G : Given P 
     above_holder : (h : IsHolder k.owner) (x y : ℕ) → x ≡ suc h.index → IsSubclass O x y → (y ≡ suc h.index) ⊎ (y ≡ 0)
     above_holder h x _ e same_class = inl e
     above_holder h x y e (through {c = c} direct rest) =
-        let d = subst (λ z. Contains z c) (ap (supers_of O) e ∙ supers_are P Q F pt H G h.index (old_tree P Q F H k.owner h.class) h.stands) direct in
-        inr (above_object P Q F pt H G c.0 y rest (ap (λ (x : ClassId). x.0) (sym (one_from _ c d))))
+        let d = subst (λ z. Contains z c) (ap (supers_of O) e ∙ supers_are G h.index (old_tree P Q F H k.owner h.class) h.stands) direct in
+        inr (above_object G c.0 y rest (ap (λ (x : ClassId). x.0) (sym (one_from _ c d))))
 
     pub holder_met : k.is_static ≡ true → (x : List ℕ) (g : ℕ) (new : PlainMethod) → IsMet O here.owner x g new
         → (new.is_static ≡ true) × (new.owner ≡ here.owner)

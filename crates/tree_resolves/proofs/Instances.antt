@@ -21,7 +21,7 @@ use Rattle.tree_resolves.proofs.Origins.{R}
 use Rattle.tree_resolves.proofs.Modifiers.{Given}
 use Rattle.tree_resolves.proofs.Variables.{column_number}
 
-module _ (P Q : Plain) (F : Facts) (pt : PointsTo) (H : Hierarchy) (G : Given P Q F pt H) where
+module _ {P Q : Plain} {F : Facts} {pt : PointsTo} {H : Hierarchy} (G : Given P Q F pt H) where
   columns : AreColumns P Q F
   columns = columns_are P Q G.placed G.formed F G.facts
 
@@ -61,7 +61,7 @@ module _ (P Q : Plain) (F : Facts) (pt : PointsTo) (H : Hierarchy) (G : Given P 
       → slot_of_method P m ≡ Some s
       → OffersSlot n s ((R P Q F H).method_name m)
   body_offers n c m s live e at slot =
-      let number = column_number P Q F pt H G c (column.Def m) e in
+      let number = column_number G c (column.Def m) e in
       let kind = ap is_method (columns.kind (column.Def m) c number) in
       let of = columns.slot (column.Def m) c number ∙ slot in
       record { number = c; kind = kind; slot = of; offered = offered_there n c live at; name = name_is m s c slot kind of }

@@ -11,13 +11,13 @@ use Rattle.fact_model.specs.declared.sets.PointsTo.{PointsTo}
 use Rattle.hier_model.specs.Hierarchies.{Hierarchy}
 use Rattle.written_tree.specs.Written.{java_tree}
 use Rattle.tree_resolves.specs.Laws.{IsNamed, TreeResolves}
+use Rattle.tree_resolves.proofs.Modifiers.{Given}
 use Rattle.tree_resolves.proofs.Conditions.{no_condition}
 
 untagged_resolves : (Q : Plain) (F : Facts) (s : PointsTo) (H : Hierarchy) → IsPlaced (untagged Q) Q → IsNamed (untagged Q) Q F s H
     → HasNoCondition (java_tree (untagged Q) Q F H)
 untagged_resolves Q F s H pairs named =
-    no_condition (untagged Q) Q F s H
-    (record {
+    let G : Given (untagged Q) Q F s H = record {
       formed = named.formed;
       placed = pairs;
       same = refl;
@@ -25,7 +25,7 @@ untagged_resolves Q F s H pairs named =
       words = named.words;
       hierarchy = named.hierarchy;
       unbroken = named.unbroken;
-    })
+    } in no_condition G
 
 pub tree_resolves : TreeResolves
 unfolding TreeResolves

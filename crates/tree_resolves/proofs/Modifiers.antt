@@ -117,7 +117,7 @@ head_body x kind plain (missing p q r) = absurd (cc (p, kind))
 head_body x kind plain (superfluous p q) = false≢true (sym plain ∙ p)
 head_body x kind plain (in_concrete p q) = false≢true (sym plain ∙ p)
 
-module _ (P Q : Plain) (F : Facts) (pt : PointsTo) (H : Hierarchy) (G : Given P Q F pt H) where
+module _ {P Q : Plain} {F : Facts} {pt : PointsTo} {H : Hierarchy} (G : Given P Q F pt H) where
   -- the body of a column is there
   pub body_there : (c m : ℕ) (k : PlainMethod) → slice_get (items P Q F H) c ≡ Some (column.Def m) → slice_get P.methods m ≡ Some k
       → (is_some k.body ≡ true) × (k.is_static ≡ false)

@@ -38,7 +38,7 @@ use Rattle.tree_resolves.proofs.Modifiers.{Given}
 use Rattle.tree_resolves.proofs.Supers.{node_named, super_known}
 use Rattle.tree_resolves.proofs.Variables.{HasHead, head_of, param_of}
 
-module _ (P Q : Plain) (F : Facts) (pt : PointsTo) (H : Hierarchy) (G : Given P Q F pt H) where
+module _ {P Q : Plain} {F : Facts} {pt : PointsTo} {H : Hierarchy} (G : Given P Q F pt H) where
   abbrev O : Plain
   O = outline (tree P Q F H)
 
@@ -49,7 +49,7 @@ module _ (P Q : Plain) (F : Facts) (pt : PointsTo) (H : Hierarchy) (G : Given P 
   -- a class is written by the name of a type where its item has a row
   pub row_known : (i : RowItem) (c : ℕ) → HasRow P Q i → IsKnownName O (row_name P H ((R P Q F H).row_type i) c)
   row_known i c r e =
-      let z = node_named P Q F pt H G (place_of_row H r.0) (row_live P Q F G.facts H G.hierarchy i r.0 r.1) in
+      let z = node_named G (place_of_row H r.0) (row_live P Q F G.facts H G.hierarchy i r.0 r.1) in
       absurd (cc (sym z.2 ∙ ap (λ o. class_named O (row_name P H o c)) (sym (row_is i r.0 r.1)) ∙ e))
 
   is_text : is_text_type (codes "String") ≡ true
@@ -81,19 +81,19 @@ module _ (P Q : Plain) (F : Facts) (pt : PointsTo) (H : Hierarchy) (G : Given P 
 
   param_known : (x : MethodAt) (q : Param) → HasMethod P Q F H x → Contains x.head.params q → IsKnownType O q.ty
   param_known x q m c =
-      let t = head_of P Q F pt H G x m in
+      let t = head_of G x m in
       let z = at_contains x.head.params q c in
-      let v = param_of P Q F pt H G x.head t z.0 q z.1 in
+      let v = param_of G x.head t z.0 q z.1 in
       subst (IsKnownType O) (ap (λ (y : Param). y.ty) v.2)
       (type_known (variable_row t.number t.method z.0) v.0.ty
       (λ o h. variable_has_row P Q G.same G.formed t.number t.method z.0 v.0 t.stands (at_left t.method.params t.method.locals z.0 v.0 v.1) o h))
 
   result_known : (x : MethodAt) (u : TypeName) → HasMethod P Q F H x → x.head.type ≡ Some u → IsKnownType O u
   result_known x u m e =
-      let t = head_of P Q F pt H G x m in
+      let t = head_of G x m in
       go t t.method.result refl (ap (λ (y : HeadTree). y.type) t.is ∙ e)
     where
-      go : (t : HasHead P Q F pt H G x.head) (o : Option Ty) → t.method.result ≡ o
+      go : (t : HasHead G x.head) (o : Option Ty) → t.method.result ≡ o
           → option_map (written_type P H ((R P Q F H).row_type (result_in t.method.slot t.number))) t.method.result ≡ Some u → IsKnownType O u
       go t None p q = absurd (cc (p, q))
       go t (Some y) p q =
@@ -110,5 +110,5 @@ module _ (P Q : Plain) (F : Facts) (pt : PointsTo) (H : Hierarchy) (G : Given P 
 
   -- each type that is asked for is there
   pub all_known : (n : List ℕ) (p : Place) → Asks (tree P Q F H) n p → class_named O n ≢ None
-  all_known _ _ (by_super {i = i} s) e = super_known P Q F pt H G i s e
+  all_known _ _ (by_super {i = i} s) e = super_known G i s e
   all_known n _ (by_type {u = u} d b text) e = declared_known u d _ (no_such_type b text e)

@@ -43,7 +43,7 @@ use Rattle.tree_resolves.proofs.Instances.{OffersSlot, one_slot, offered_there, 
 use Rattle.tree_resolves.proofs.AtNodes.{slot_first, filler_offers, declaration_kind}
 use Rattle.tree_resolves.proofs.Separate.{methods_are_apart}
 
-module _ (P Q : Plain) (F : Facts) (pt : PointsTo) (H : Hierarchy) (G : Given P Q F pt H) where
+module _ {P Q : Plain} {F : Facts} {pt : PointsTo} {H : Hierarchy} (G : Given P Q F pt H) where
   abbrev T : List DeclTree
   T = tree P Q F H
 
@@ -79,8 +79,8 @@ module _ (P Q : Plain) (F : Facts) (pt : PointsTo) (H : Hierarchy) (G : Given P 
   pub record IsOfSlot (x : MethodAt) : Type 0 where
     pub node : ℕ
     pub slot : ℕ
-    pub at : IsNumber P Q F pt H G x.owner node
-    pub offers : OffersSlot P Q F pt H G node slot x.head.name
+    pub at : IsNumber G x.owner node
+    pub offers : OffersSlot G node slot x.head.name
     pub instance : is_static x ≡ false
     pub signature : PlainSlot
     pub stands : slice_get P.slots slot ≡ Some signature
@@ -127,7 +127,7 @@ module _ (P Q : Plain) (F : Facts) (pt : PointsTo) (H : Hierarchy) (G : Given P 
   columns = columns_are P Q G.placed G.formed F G.facts
 
   head_offers : (mods : List Modifier) (n : ℕ) (h : HeadTree) → is_live H.order n ≡ true → (a : IsHeadAt P (R P Q F H) F H mods n h)
-      → OffersSlot P Q F pt H G n a.slot h.name
+      → OffersSlot G n a.slot h.name
   head_offers mods n h live a =
       let info = index_at F.columns.items a.number (record { kind = kind.Is; class = record { 0 = 0 }; slot = None; name = []; label = [] }) a.info
       a.info_stands in
@@ -138,13 +138,12 @@ module _ (P Q : Plain) (F : Facts) (pt : PointsTo) (H : Hierarchy) (G : Given P 
         number = a.number;
         kind = method;
         slot = slotted;
-        offered = offered_there P Q F pt H G n a.number live a.at;
-        name = ap (λ (i : HeadTree). i.name) (sym a.tree.is)
-            ∙ name_is P Q F pt H G a.tree.signature.first a.slot a.number
-            (slot_first P Q F pt H G a.slot a.tree.signature a.tree.slot_stands) method slotted;
+        offered = offered_there G n a.number live a.at;
+        name = ap (λ (i : HeadTree). i.name) (sym a.tree.is) ∙ name_is G a.tree.signature.first a.slot a.number
+            (slot_first G a.slot a.tree.signature a.tree.slot_stands) method slotted;
       }
 
-  numbered : (b : Bool) (n i : ℕ) → IsNodeAt P Q F H b n i → IsNumber P Q F pt H G (suc i) n
+  numbered : (b : Bool) (n i : ℕ) → IsNodeAt P Q F H b n i → IsNumber G (suc i) n
   numbered b n i a = record { number = i; is = refl; stands = a.stands; live = a.live }
 
   abbrev IsOld : MethodAt → Type 0
@@ -152,14 +151,14 @@ module _ (P Q : Plain) (F : Facts) (pt : PointsTo) (H : Hierarchy) (G : Given P 
 
   found : (x : MethodAt) → HasMethod P Q F H x → IsOfSlot x ⊎ IsOld x
   found x (node_body n i c m k a e at o) =
-      let number = column_number P Q F pt H G c (column.Def m) e in
+      let number = column_number G c (column.Def m) e in
       let s = columns.slotted (column.Def m) c number refl in
       let t = head_types [] ((R P Q F H).method_name m) m s.0 k o (sym (ap (option_and_then (λ (z : PlainMethod). z.slot)) o) ∙ s.1) in
       inl (record {
         node = n;
         slot = s.0;
         at = numbered true n i a;
-        offers = body_offers P Q F pt H G n c m s.0 a.live e at s.1;
+        offers = body_offers G n c m s.0 a.live e at s.1;
         instance = refl;
         signature = t.signature;
         stands = t.stands;
@@ -185,7 +184,7 @@ module _ (P Q : Plain) (F : Facts) (pt : PointsTo) (H : Hierarchy) (G : Given P 
         node = n;
         slot = s;
         at = numbered true n i a;
-        offers = filler_offers P Q F pt H G n s h.name d.signature f d.slot_stands (ap (λ (y : HeadTree). y.name) (sym d.is));
+        offers = filler_offers G n s h.name d.signature f d.slot_stands (ap (λ (y : HeadTree). y.name) (sym d.is));
         instance = ap (λ (y : HeadTree). has_word is_static_word y.mods) (sym d.is);
         signature = t.signature;
         stands = t.stands;
@@ -236,24 +235,24 @@ module _ (P Q : Plain) (F : Facts) (pt : PointsTo) (H : Hierarchy) (G : Given P 
       by_class i (Some w) p q = let z = class_from i w q in (i, z.0, p, z.1)
 
       by_number : (n : ℕ) → c ≡ n → (i : ℕ) × (e : DeclTree) × (c ≡ suc i) × (slice_get T i ≡ Some e)
-      by_number zero p = absurd (not_zero y j e (above_object P Q F pt H G c y (through a b) p))
+      by_number zero p = absurd (not_zero y j e (above_object G c y (through a b) p))
       by_number (suc i) p = by_class i (slice_get O.classes (suc i)) p refl
 
   -- above a holder is Object alone
   above_holder : (c y i h : ℕ) (k : PlainClass) → IsSubclass O c y → c ≡ suc i → slice_get T i ≡ Some (old_tree P Q F H h k) → (y ≡ 0 → ⊥) → y ≡ c
   above_holder c _ i h k same_class e t n = refl
   above_holder c y i h k (through {c = w} a b) e t n =
-      let d = subst (λ z. Contains z w) (ap (supers_of O) e ∙ supers_are P Q F pt H G i (old_tree P Q F H h k) t) a in
-      absurd (n (above_object P Q F pt H G w.0 y b (ap (λ (x : ClassId). x.0) (sym (one_from _ w d)))))
+      let d = subst (λ z. Contains z w) (ap (supers_of O) e ∙ supers_are G i (old_tree P Q F H h k) t) a in
+      absurd (n (above_object G w.0 y b (ap (λ (x : ClassId). x.0) (sym (one_from _ w d)))))
 
-  lifted : (n m s : ℕ) (x : List ℕ) → is_le H.order n m ≡ true → OffersSlot P Q F pt H G m s x → OffersSlot P Q F pt H G n s x
+  lifted : (n m s : ℕ) (x : List ℕ) → is_le H.order n m ≡ true → OffersSlot G m s x → OffersSlot G n s x
   lifted n m s x le o = record { number = o.number; kind = o.kind; slot = o.slot; offered = go (place_of_column H o.number) o.offered; name = o.name }
     where
       go : (p : Option NodeId) → is_above H.order m p ≡ true → is_above H.order n p ≡ true
       go None h = absurd (false≢true h)
       go (Some p) h = G.hierarchy.sized.order.transitive n m p.0 le h
 
-  no_old : (x : MethodAt) (m : ℕ) → IsNumber P Q F pt H G x.owner m → IsOld x → ⊥
+  no_old : (x : MethodAt) (m : ℕ) → IsNumber G x.owner m → IsOld x → ⊥
   no_old x m a o =
       let e = suc_same a.number o.1 (sym a.is ∙ o.4) in
       let one : node_tree P Q F H m ≡ old_tree P Q F H o.0 o.2 = same_Some _ _ (sym a.stands ∙ ap (slice_get T) e ∙ o.3.stands) in
@@ -264,18 +263,16 @@ module _ (P Q : Plain) (F : Facts) (pt : PointsTo) (H : Hierarchy) (G : Given P 
       suc_same i j e = omega (arith, e)
 
   -- a method at or above a node's type is of a slot that the node offers
-  in_node : (c n : ℕ) (x : MethodAt) → IsNumber P Q F pt H G c n → IsSubclass O c x.owner → IsOfSlot x ⊎ IsOld x
-      → (a : IsOfSlot x) × OffersSlot P Q F pt H G n a.slot x.head.name
+  in_node : (c n : ℕ) (x : MethodAt) → IsNumber G c n → IsSubclass O c x.owner → IsOfSlot x ⊎ IsOld x → (a : IsOfSlot x) × OffersSlot G n a.slot x.head.name
   in_node c n x a b (inl s) = (
     s,
     ⊎_elim
         (λ zero. absurd (not_zero x.owner s.at.number s.at.is zero))
-        (λ m. lifted n s.node s.slot x.head.name
-        (subst (λ z. is_le H.order n z ≡ true) (same_node P Q F pt H G x.owner m.0 s.node m.1 s.at) m.2) s.offers)
-        (above_node P Q F pt H G c x.owner n a b),
+        (λ m. lifted n s.node s.slot x.head.name (subst (λ z. is_le H.order n z ≡ true) (same_node G x.owner m.0 s.node m.1 s.at) m.2) s.offers)
+        (above_node G c x.owner n a b),
   )
   in_node c n x a b (inr o) =
-      absurd (⊎_elim (λ zero. not_zero x.owner o.1 o.4 zero) (λ m. no_old x m.0 m.1 o) (above_node P Q F pt H G c x.owner n a b))
+      absurd (⊎_elim (λ zero. not_zero x.owner o.1 o.4 zero) (λ m. no_old x m.0 m.1 o) (above_node G c x.owner n a b))
 
   same_slot : (x y : MethodAt) (a : IsOfSlot x) (b : IsOfSlot y) → a.slot ≡ b.slot → AreOneSlot (method_outline types x) (method_outline types y)
   same_slot x y a b e =
@@ -292,17 +289,16 @@ module _ (P Q : Plain) (F : Facts) (pt : PointsTo) (H : Hierarchy) (G : Given P 
       → x.head.name ≡ y.head.name → IsSubclass O c x.owner → IsSubclass O c y.owner → IsOfSlot x ⊎ IsOld x → IsOfSlot y ⊎ IsOld y
       → c ≡ suc r → slice_get T r ≡ Some d → Declares P Q F H d → AreOneSlot (method_outline types x) (method_outline types y)
   in_type i j c r x y _ p q lt e a b u v is at (a_node n live) =
-      let number : IsNumber P Q F pt H G c n = record { number = r; is = is; stands = at; live = live } in
+      let number : IsNumber G c n = record { number = r; is = is; stands = at; live = live } in
       let s = in_node c n x number a u in
       let t = in_node c n y number b v in
-      same_slot x y s.0 t.0
-      (one_slot P Q F pt H G n s.0.slot t.0.slot y.head.name (subst (OffersSlot P Q F pt H G n s.0.slot) e s.1) t.1)
+      same_slot x y s.0 t.0 (one_slot G n s.0.slot t.0.slot y.head.name (subst (OffersSlot G n s.0.slot) e s.1) t.1)
   in_type i j c r x y _ p q lt e a b u v is at (a_holder h k f g) =
       let w = owner_there x u in
       let z = owner_there y v in
       let one = above_holder c x.owner r h k a is at (not_zero x.owner w.0 w.2) in
       let two = above_holder c y.owner r h k b is at (not_zero y.owner z.0 z.2) in
-      absurd (methods_are_apart P Q F pt H G i j x y p q lt (one ∙ sym two) e)
+      absurd (methods_are_apart G i j x y p q lt (one ∙ sym two) e)
 
   at_methods : (i j c : ℕ) (x y : MethodAt) → slice_get (methods_in T) i ≡ Some x → slice_get (methods_in T) j ≡ Some y → i < j
       → x.head.name ≡ y.head.name → IsSubclass O c x.owner → IsSubclass O c y.owner → AreOneSlot (method_outline types x) (method_outline types y)

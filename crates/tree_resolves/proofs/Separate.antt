@@ -25,7 +25,7 @@ use Rattle.tree_resolves.proofs.AtNodes.{all_once, class_once, interface_once}
 same_from : (x y u v : MemberTree) → u ≡ x → v ≡ y → SameMember x y → SameMember u v
 same_from x y u v a b e = subst (λ z. SameMember u z) (sym b) (subst (λ z. SameMember z y) (sym a) e)
 
-module _ (P Q : Plain) (F : Facts) (pt : PointsTo) (H : Hierarchy) (G : Given P Q F pt H) where
+module _ {P Q : Plain} {F : Facts} {pt : PointsTo} {H : Hierarchy} (G : Given P Q F pt H) where
   abbrev T : List DeclTree
   T = tree P Q F H
 
@@ -79,8 +79,8 @@ module _ (P Q : Plain) (F : Facts) (pt : PointsTo) (H : Hierarchy) (G : Given P 
       field_method c u.0 v.0 u.1 v.1 a b u.3 v.3 e)
 
   type_apart : (b : Bool) (n : ℕ) → is_live H.order n ≡ true → is_class_node F H n ≡ b → MembersApart (type_tree P (R P Q F H) F H (items P Q F H) b n)
-  type_apart true n live class = class_once P Q F pt H G n live class
-  type_apart false n live class = interface_once P Q F pt H G n live
+  type_apart true n live class = class_once G n live class
+  type_apart false n live class = interface_once G n live
 
   declared_apart : (d : DeclTree) → Declares P Q F H d → MembersApart d
   declared_apart _ (a_node n live) = type_apart (is_class_node F H n) n live refl

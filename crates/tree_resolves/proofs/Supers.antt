@@ -43,7 +43,7 @@ once_within agree same (x ∷ xs) h o = (
   once_within agree same xs (λ a b c d. h a b (more a x xs c) (more b x xs d)) o.1,
 )
 
-module _ (P Q : Plain) (F : Facts) (pt : PointsTo) (H : Hierarchy) (G : Given P Q F pt H) where
+module _ {P Q : Plain} {F : Facts} {pt : PointsTo} {H : Hierarchy} (G : Given P Q F pt H) where
   abbrev T : List DeclTree
   T = tree P Q F H
 
@@ -64,7 +64,7 @@ module _ (P Q : Plain) (F : Facts) (pt : PointsTo) (H : Hierarchy) (G : Given P 
   types_are = ap (λ z. codes "Object" ∷ z) (names_are types T)
 
   no_first : (j : ℕ) (x : List ℕ) → x ≡ codes "Object" → slice_get (map name_of T) j ≡ Some x → ⊥
-  no_first j x e h = let z = map_at name_of T j x h in type_is_new P Q F pt H G z.0 (contains_at T j z.0 z.1) (inl (z.2 ∙ e))
+  no_first j x e h = let z = map_at name_of T j x h in type_is_new G z.0 (contains_at T j z.0 z.1) (inl (z.2 ∙ e))
 
   pub types_once : HasNoTwice types
   unfolding HasNoTwice
@@ -74,11 +74,8 @@ module _ (P Q : Plain) (F : Facts) (pt : PointsTo) (H : Hierarchy) (G : Given P 
   types_once (suc i) (suc j) x p q =
       let a = map_at name_of T i x p in
       let b = map_at name_of T j x q in
-      ⊎_elim
-      (λ e. ap suc e)
-      (λ o. absurd (⊎_elim (λ lt. type_once P Q F pt H G i j a.0 b.0 a.1 b.1 lt (a.2 ∙ sym b.2))
-      (λ gt. type_once P Q F pt H G j i b.0 a.0 b.1 a.1 gt (b.2 ∙ sym a.2)) o))
-      (cases_order i j)
+      ⊎_elim (λ e. ap suc e) (λ o. absurd (⊎_elim (λ lt. type_once G i j a.0 b.0 a.1 b.1 lt (a.2 ∙ sym b.2))
+      (λ gt. type_once G j i b.0 a.0 b.1 a.1 gt (b.2 ∙ sym a.2)) o)) (cases_order i j)
 
   -- each declaration is found by its name
   pub type_number : (i : ℕ) (d : DeclTree) → slice_get T i ≡ Some d → type_named types (name_of d) ≡ Some (suc i)

@@ -26,7 +26,7 @@ use Rattle.tree_resolves.proofs.Once.{Once, once_at, append_once, each_once, one
 live_at : (bs : List Bool) (n : ℕ) (b : Bool) → slice_get bs n ≡ Some b → b ≡ true → slice_get bs n ≡ Some true
 live_at bs n b e h = e ∙ ap Some h
 
-module _ (P Q : Plain) (F : Facts) (pt : PointsTo) (H : Hierarchy) (G : Given P Q F pt H) where
+module _ {P Q : Plain} {F : Facts} {pt : PointsTo} {H : Hierarchy} (G : Given P Q F pt H) where
   abbrev Alike : DeclTree → DeclTree → Type 0
   Alike c d = name_of c ≡ name_of d
 

@@ -9,8 +9,8 @@ use Rattle.std.proofs.lemmas.Option.{same_Some}
 use Rattle.std.proofs.lemmas.List.{map-append}
 use Rattle.std.proofs.lemmas.List.Elements.{Contains-append_left, Contains-append_right}
 use Rattle.std.proofs.lemmas.Slice.Eq.{bytes_eq-Decides}
-use Rattle.kaba_bits.specs.Sets.{or_else, first_below}
-use Rattle.kaba_bits.proofs.FirstLemmas.{first_below_None, or_else-None, when-None}
+use Rattle.kaba_bits.specs.Sets.{first_below}
+use Rattle.kaba_bits.proofs.FirstLemmas.{first_below_None, when-None}
 use Rattle.kaba_bits.proofs.SetLemmas.{bit-below}
 use Rattle.kaba_order.specs.Orders.{is_live}
 use Rattle.java_tree.specs.declared.Modifier.{Modifier}
@@ -27,9 +27,7 @@ use Rattle.hier_model.specs.Names.{is_field}
 use Rattle.hier_model.proofs.AnyLemmas.{any_below_none}
 use Rattle.hier_rules.specs.declared.broken.Rule.TheVariants.{B8}
 use Rattle.hier_rules.specs.Instances.{of_column}
-use Rattle.hier_rules.specs.Names.{known_names, is_named, is_type, is_reserved, is_taken_name, taken_field, first_taken_field, first_taken_type, first_unwritable, first_confused, first_misnamed}
-use Rattle.hier_rules.specs.Obligations.{first_unoffered, first_untied, first_unchained}
-use Rattle.hier_rules.specs.First.{first_of_edit, first_changed_run}
+use Rattle.hier_rules.specs.Names.{known_names, is_named, is_type, is_reserved, is_taken_name, taken_field}
 use Rattle.flow_rules.specs.declared.items.ColumnItem.{ColumnItem}
 use Rattle.flow_rules.specs.declared.items.ColumnItem.TheVariants as column
 use Rattle.flow_rules.specs.Numbered.{columns_of}
@@ -47,6 +45,7 @@ use Rattle.tree_rebuilds.proofs.Nodes.{items, tree, tree_name, Declares, a_node,
 use Rattle.tree_rebuilds.proofs.Members.{IsHeadTree}
 use Rattle.tree_resolves.proofs.Origins.{R, old_words, HasMethod, node_body, node_head, node_filler, interface_head, static_method, HasField, node_field, static_field, method_origin, field_origin}
 use Rattle.tree_resolves.proofs.Modifiers.{Given}
+use Rattle.hier_begin.proofs.Unbroken.{none_broken}
 
 -- what each gives one of, place by place
 pub each_at : {A B : Type 0} (g : ℕ → A → B) (n : ℕ) (xs : List A) (i : ℕ) (b : B) → slice_get (each (λ i x. g i x ∷ []) n xs) i ≡ Some b
@@ -55,7 +54,7 @@ each_at g n [] i b e = absurd (cc e)
 each_at g n (x ∷ xs) zero b e = (n, x, refl, same_Some (g n x) b e, omega arith)
 each_at g n (x ∷ xs) (suc i) b e = let z = each_at g (n + 1) xs i b e in (z.0, z.1, z.2, z.3, (let d = z.4 in omega (arith, d)))
 
-module _ (P Q : Plain) (F : Facts) (pt : PointsTo) (H : Hierarchy) (G : Given P Q F pt H) where
+module _ {P Q : Plain} {F : Facts} {pt : PointsTo} {H : Hierarchy} (G : Given P Q F pt H) where
   abbrev types : List (List ℕ)
   types = types_in (tree P Q F H)
 
@@ -125,20 +124,11 @@ module _ (P Q : Plain) (F : Facts) (pt : PointsTo) (H : Hierarchy) (G : Given P 
 
   -- ---- fields
 
-  taken_none : first_taken_field F H ≡ None
-  taken_none =
-      let edit = (or_else-None (first_of_edit F pt H) (first_unchained F H) G.unbroken).0 in
-      let two = (or_else-None (first_unoffered F H) (or_else (first_untied F pt H) (or_else (first_changed_run F pt H) (first_misnamed F H))) edit).1 in
-      let three = (or_else-None (first_untied F pt H) (or_else (first_changed_run F pt H) (first_misnamed F H)) two).1 in
-      let names = (or_else-None (first_changed_run F pt H) (first_misnamed F H) three).1 in
-      let later = (or_else-None (first_unwritable F H) (or_else (first_taken_type F H) (or_else (first_taken_field F H) (first_confused F H))) names).1 in
-      (or_else-None (first_taken_field F H) (first_confused F H)
-      (or_else-None (first_taken_type F H) (or_else (first_taken_field F H) (first_confused F H)) later).1).0
-
   not_taken : (n c : ℕ) → is_live H.order n ≡ true → c < length F.columns.items → stands_at H n c ≡ true → is_field (column_kind F c) ≡ true
       → is_taken_name F H c ≡ false
   not_taken n c live lt at kind =
-      let one = first_below_None (λ n. first_below (length F.columns.items) (taken_field F H n)) (length H.order.live) n taken_none
+      let one = first_below_None (λ n. first_below (length F.columns.items) (taken_field F H n)) (length H.order.live) n
+      (none_broken F pt H G.unbroken).names.fields
       (bit-below H.order.live n live) in
       let two = first_below_None (taken_field F H n) (length F.columns.items) c one lt in
       let no = when-None (stands_at H n c && is_field (column_kind F c) && is_taken_name F H c) (of_column B8 n c) two in

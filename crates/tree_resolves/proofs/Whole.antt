@@ -56,7 +56,7 @@ filling_sound O here names None r x = elim x [ ]
 filling_sound O here names (Some t) r (in_statement (in_returned (in_value x))) = value_sound O here names t.base t.dim r x
 filling_sound O here names (Some t) r (in_rest x) = elim x [ ]
 
-module _ (P Q : Plain) (F : Facts) (pt : PointsTo) (H : Hierarchy) (G : Given P Q F pt H) where
+module _ {P Q : Plain} {F : Facts} {pt : PointsTo} {H : Hierarchy} (G : Given P Q F pt H) where
   abbrev O : Plain
   O = outline (tree P Q F H)
 
@@ -64,10 +64,10 @@ module _ (P Q : Plain) (F : Facts) (pt : PointsTo) (H : Hierarchy) (G : Given P 
       → (k.is_static ≡ true → class_named O (class_name P k.owner) ≡ Some here.owner) → IsStage P k O here
   stage m k at here static own = record {
     static = static;
-    fields = finds_field P Q F pt H G m k at here own;
-    methods = finds_method P Q F pt H G m k at here own;
-    met = holder_met P Q F pt H G m k at here own;
-    variables = λ i v e. ap (λ z. is_type_name z v.name) (types_are P Q F pt H G) ∙ local_free P Q F pt H G m k v at (contains_at _ i v e);
+    fields = finds_field G m k at here own;
+    methods = finds_method G m k at here own;
+    met = holder_met G m k at here own;
+    variables = λ i v e. ap (λ z. is_type_name z v.name) (types_are G) ∙ local_free G m k v at (contains_at _ i v e);
   }
 
   -- the body with its places
@@ -97,7 +97,7 @@ module _ (P Q : Plain) (F : Facts) (pt : PointsTo) (H : Hierarchy) (G : Given P 
       let f = (G.formed.methods m k e).code xs b in
       let z = with_places m k xs e b in
       let known = subst (KnownSts P (R P Q F H) H m k O) z.same
-      (body_known P Q F pt H G m z.method k e z.stands z.code z.is (subst (FormedSts P k false (numbers_below (length k.params))) (sym z.same) f)) in
+      (body_known G m z.method k e z.stands z.code z.is (subst (FormedSts P k false (numbers_below (length k.params))) (sym z.same) f)) in
       sts_ok P (R P Q F H) H m k O here (stage m k e here static own) scope f known r x
 
   body_sound : (m : ℕ) (k : PlainMethod) (here : Here) (ss : Statements) (r : Refusal) → slice_get P.methods m ≡ Some k → here.is_static ≡ k.is_static
@@ -113,7 +113,7 @@ module _ (P Q : Plain) (F : Facts) (pt : PointsTo) (H : Hierarchy) (G : Given P 
   sound : (x : MethodAt) → HasMethod P Q F H x → (ss : Statements) (r : Refusal) → x.body ≡ Some ss
       → StsFault O (here_of x) false (map (λ (q : Param). q.name) x.head.params) ss r → ⊥
   sound x (node_body n i c m k a e at o) ss r b y =
-      let instance = (body_there P Q F pt H G c m k e o).1 in
+      let instance = (body_there G c m k e o).1 in
       body_sound m k (here_of x) ss r o (sym instance) (λ s. absurd (false≢true (sym instance ∙ s))) (map (λ (q : Param). q.name) x.head.params)
       (start P (R P Q F H) H m k) b y
   sound x (node_head n i h a t) ss r b y = absurd (cc b)
@@ -124,8 +124,7 @@ module _ (P Q : Plain) (F : Facts) (pt : PointsTo) (H : Hierarchy) (G : Given P 
   sound x (static_method c i m k old a e s o) ss r b y =
       body_sound m old (here_of x) ss r e (sym s)
       (λ st. ap (class_named O) (ap (class_name P) o ∙ ap (λ o. option_map_or (λ (k : PlainClass). k.name) o []) a.class_stands)
-      ∙ named P Q F pt H G i (old_tree P Q F H c k) a.stands)
-      (map (λ (q : Param). q.name) x.head.params) (start P (R P Q F H) H m old) b y
+      ∙ named G i (old_tree P Q F H c k) a.stands) (map (λ (q : Param). q.name) x.head.params) (start P (R P Q F H) H m old) b y
 
   -- no condition holds in a body
   pub body_has_none : (x : MethodAt) (ss : Statements) (r : Refusal) → Contains (methods_in (tree P Q F H)) x → x.body ≡ Some ss
