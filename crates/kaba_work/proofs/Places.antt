@@ -1,13 +1,8 @@
 -- What stands at which place of a list that is made of numbers.
-use Rattle.std.proofs.Common.{◌≡◌, ℕ, zero, suc, ◌+◌, ◌*◌, ◌<◌, ◌⊎◌, inl, inr, List, [], ◌∷◌, ◌++◌, map, Option, Some, Contains, refl, sym, ap, ◌∙◌, arith}
+use Rattle.std.proofs.Common.{◌≡◌, ℕ, zero, suc, ◌+◌, ◌*◌, ◌<◌, ◌⊎◌, inl, inr, [], ◌∷◌, ◌++◌, map, Option, Some, refl, sym, ap, ◌∙◌, arith}
 use Rattle.std.specs.Prelude.{slice_get}
 use Rattle.std.specs.List.{range_with_len, flat_map}
 use Rattle.std.proofs.lemmas.Option.{same_Some}
-
-pub at_contains : {A : Type 0} (xs : List A) (x : A) → Contains xs x → (i : ℕ) × (slice_get xs i ≡ Some x)
-at_contains [] x c = absurd (omega (arith, c.1))
-at_contains (y ∷ ys) x (zero, lt, e) = (0, ap Some e)
-at_contains (y ∷ ys) x (suc k, lt, e) = let z = at_contains ys x (k, omega (arith, lt), e) in (suc z.0, z.1)
 
 -- x stands at i in a list of f 0 to f (n - 1) and z
 pub data StandsAt {A : Type 0} (f : ℕ → A) (z : A) (n i : ℕ) (x : A) : Type 0 where

@@ -18,7 +18,8 @@ use Rattle.name_rules.specs.Resolves.{target, bound, Counts, ResolvesTo, r_numbe
 use Rattle.java_core.specs.Untagged.{bare_tag, bare, bare_all, bare_if, bare_target, bare_st, bare_sts, bare_arms, untag_local, untag_method, untagged, untag_body}
 use Rattle.name_outcome.proofs.Runs.{stands-map}
 use Rattle.places_aside.proofs.Outlines.{ap2, word-same, method_at_unplaced}
-use Rattle.places_aside.proofs.Meanings.{variables-same, names-same, named-same, means, means-cast, class-name-same, static-field, static-method, nearest-field, met}
+use Rattle.places_aside.proofs.Meanings.{names-same, named-same, means, means-cast, class-name-same, static-field, static-method, nearest-field, met}
+use Rattle.name_outcome.proofs.FormedMembers.{bare-variables as variables-same}
 
 target-same : (x : Ex) → target (bare x) ≡ bare_target (target x)
 target-same (local t i) = refl

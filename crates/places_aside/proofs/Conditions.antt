@@ -17,7 +17,8 @@ use Rattle.java_core.specs.Untagged.{untag_class, untag_method, untagged}
 use Rattle.name_outcome.proofs.Runs.{map-stands, stands-map}
 use Rattle.places_aside.proofs.Outlines.{ap2, word-same, name-same, types-same, same-all, field_at_unplaced, method_at_unplaced, fields-same, methods-same, outline-same}
 use Rattle.places_aside.proofs.Meanings.{named-same, supers-same, below-back}
-use Rattle.places_aside.proofs.Resolved.{all-mapped, from-map, from-all, from-maybe, parent-unplaced, faces-unplaced, method-back, asked-back, param-types-same, main-bare}
+use Rattle.places_aside.proofs.Resolved.{all-mapped, from-map, from-all, from-maybe, parent-unplaced, faces-unplaced, method-back, asked-back, main-bare}
+use Rattle.name_outcome.proofs.FormedMembers.{bare-types as param-types-same}
 use Rattle.places_aside.proofs.Faults.{sts}
 
 -- an item of a list without places stands where it stood

@@ -2,7 +2,7 @@
 use Rattle.std.proofs.Common.{◌≡◌, ℕ, zero, suc, ◌&&◌, ◌++◌, not, List, [], ◌∷◌, map, length, Option, Some, None, Contains, refl, sym, ap, ◌∙◌, subst}
 use Rattle.std.specs.Prelude.{slice_get, option_and_then}
 use Rattle.std.specs.Option.{option_map, option_map_or, option_to_list, is_none}
-use Rattle.std.proofs.lemmas.List.{map-append, length-map}
+use Rattle.std.proofs.lemmas.List.{length-map}
 use Rattle.std.proofs.lemmas.Option.{slice_get-map}
 use Rattle.kaba_base.specs.declared.Place.{Place}
 use Rattle.kaba_base.specs.declared.ClassId.{ClassId}
@@ -14,11 +14,10 @@ use Rattle.java_core.specs.declared.Ty.{Ty}
 use Rattle.java_core.specs.declared.TyBase.{TyBase}
 use Rattle.java_core.specs.Programs.{Plain, PlainClass, PlainField, PlainMethod}
 use Rattle.java_core.specs.Classes.{parent_of, faces_of, supers_of, IsSubclass, same_class, through, first_or, nearest, is_field_of, own_field_of, field_of}
-use Rattle.java_core.specs.Formed.{variables_of}
 use Rattle.java_core.proofs.Positions.{position-map}
 use Rattle.name_rules.specs.Outline.{type_named}
 use Rattle.name_rules.specs.Meanings.{type_names, class_named, MeansBase, an_int, a_boolean, a_char, a_text, a_class, Means, MeansCastBase, to_int, to_boolean, to_char, to_class, MeansCast, is_bound, is_class_name, IsStaticFieldOf, IsStaticMethodOf, IsNearestField, IsMet}
-use Rattle.java_core.specs.Untagged.{untag_local, untag_class, untag_field, untag_method, untagged}
+use Rattle.java_core.specs.Untagged.{untag_class, untag_field, untag_method, untagged}
 use Rattle.name_outcome.proofs.Runs.{map-stands, stands-map}
 use Rattle.places_aside.proofs.Outlines.{ap2}
 
@@ -26,10 +25,6 @@ use Rattle.places_aside.proofs.Outlines.{ap2}
 pub maps : {A B C : Type 0} (u : A → B) (f : B → C) (g : A → C) → ((x : A) → f (u x) ≡ g x) → (xs : List A) → map f (map u xs) ≡ map g xs
 maps u f g e [] = refl
 maps u f g e (x ∷ xs) = ap2 (λ y ys. y ∷ ys) (e x) (maps u f g e xs)
-
--- the variables of a method without their tags
-pub variables-same : (k : PlainMethod) → variables_of (untag_method k) ≡ map untag_local (variables_of k)
-variables-same k = sym (map-append untag_local k.params k.locals)
 
 module _ (O : Plain) where
   abbrev bare-outline : Plain

@@ -6,20 +6,20 @@ use Rattle.java_tree.specs.declared.Id.{Id}
 use Rattle.java_tree.specs.declared.TypeName.{TypeName}
 use Rattle.java_tree.specs.Syntax.{DeclTree, ClassTree, InterfaceTree}
 use Rattle.java_tree.specs.Places.{all_unplaced, may_unplaced, id_unplaced, type_unplaced, param_unplaced, decl_unplaced, unplaced}
-use Rattle.java_core.specs.Programs.{Plain, PlainLocal, PlainMethod}
-use Rattle.java_core.specs.Types.{types_of}
+use Rattle.java_core.specs.Programs.{Plain, PlainMethod}
 use Rattle.java_core.specs.Formed.{IsMain}
 use Rattle.name_rules.specs.Outline.{MethodAt, parent_named, faces_named, fields_in, methods_in, outline}
 use Rattle.name_rules.specs.Meanings.{class_named}
 use Rattle.name_rules.specs.Asked.{IsSuper, a_parent, a_face, IsDeclared, of_field, of_param, of_result, Asks, by_super, by_type}
 use Rattle.name_rules.specs.Resolves.{Counts, BodiesResolve, heading_of, HasSlot, no_slot, a_slot, AreSlots, Resolves}
-use Rattle.java_core.specs.Untagged.{untag_local, untag_class, untag_field, untag_method, untagged}
+use Rattle.java_core.specs.Untagged.{untag_class, untag_field, untag_method, untagged}
 use Rattle.name_outcome.proofs.UntaggedNumbers as numbers
 use Rattle.name_outcome.proofs.Runs.{member-at, member-stands, map-stands, stands-map}
 use Rattle.name_outcome.proofs.Sees.{same_some}
 use Rattle.places_aside.proofs.Outlines.{field_at_unplaced, method_at_unplaced, fields-same, methods-same, outline-same}
-use Rattle.places_aside.proofs.Meanings.{maps, named-same}
+use Rattle.places_aside.proofs.Meanings.{named-same}
 use Rattle.places_aside.proofs.Bodies.{bodies}
+use Rattle.name_outcome.proofs.FormedMembers.{bare-types as param-types-same}
 
 -- ---- the types that are asked for
 
@@ -85,9 +85,6 @@ module _ (tree : List DeclTree) where
       (a.0.place, by_type a.1 (a.2 ∙ e) f)
 
 -- ---- slots
-
-pub param-types-same : (vs : List PlainLocal) → types_of (map untag_local vs) ≡ types_of vs
-param-types-same vs = maps untag_local (λ v. v.ty) (λ v. v.ty) (λ v. refl) vs
 
 module _ (P : Plain) where
   has-slot : {k : PlainMethod} → HasSlot P k → HasSlot (untagged P) (untag_method k)
