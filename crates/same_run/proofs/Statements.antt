@@ -19,7 +19,7 @@ use Rattle.twin_runs.specs.Twins.{SameIf, same_none, same_some, SameTarget, Same
 use Rattle.twin_runs.specs.Twins.{same_to_local, same_to_static, same_to_own, same_to_field, same_to_element, same_declare, same_block, same_assign, same_act, same_print, same_choose, same_loop, same_return, same_break, same_continue, same_no_st, same_st_then, same_no_other, same_otherwise, same_arm}
 use Rattle.rebuild_types.proofs.Statements.{fits_some}
 use Rattle.same_run.proofs.Walk as walk
-use Rattle.same_run.proofs.Walk.{TwinBody, twins}
+use Rattle.same_run.proofs.Walk.{TwinBody, twin_words}
 use Rattle.run_cover.proofs.Walked.{walked}
 use Rattle.run_cover.proofs.Each.{left, right}
 
@@ -27,7 +27,7 @@ module _ (A : TwinBody) where
   open A use {body as B, written as W, renaming as R, Made, Pair, env as h, tie}
   open B use {program as Q, number as m, method as k}
   open copying B W R use {IsCopy}
-  open twins A use {lang as L, written as M, link as K, Twin}
+  open twin_words A use {lang as L, written as M, link as K, Twin}
 
   abbrev P : Plain
   P = untagged Q

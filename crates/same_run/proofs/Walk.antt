@@ -11,7 +11,7 @@ use Rattle.java_core.specs.declared.TyBase.TheVariants.{Int, Boolean, Char, Str,
 use Rattle.java_core.specs.Trees.{Tag, Ex, Exs, no_ex, ex_then, number, character, text, truth, null, this, local, static_field, own_field, field, index, call, static_call, super_call, create, create_array, cast, instance_of, unary, binary}
 use Rattle.java_core.specs.Programs.{Plain}
 use Rattle.java_core.specs.Classes.{member_field, slot_of, slot_of_method, declaration_of, super_method}
-use Rattle.java_core.specs.Types.{Env, class_in, class_of, element_of, is_string, is_length, is_subtype, field_in, field_type, value_type, or_nothing, StringMethod, string_method, Signature, signature_of_slot, signature_of_string, object_signature, call_signature, static}
+use Rattle.java_core.specs.Types.{Env, env_of, class_in, class_of, element_of, is_string, is_length, is_subtype, field_in, field_type, value_type, or_nothing, StringMethod, string_method, Signature, signature_of_slot, signature_of_string, object_signature, call_signature, static}
 use Rattle.java_core.specs.Typing.{TypedArgs, t_field, t_index, t_call, t_static_call, t_super_call, t_create_array, t_cast, t_instance_of, t_unary, t_binary, t_ex_then, can_cast}
 use Rattle.java_core.specs.Formed.{IsFormed, FormedExs, f_own_field, f_field, f_index, f_call, f_static_call, f_super_call, f_create_array, f_cast, f_instance_of, f_unary, f_binary, f_ex_then}
 use Rattle.java_meaning.specs.Moment.{Kind, own_type, Body, Lang}
@@ -64,7 +64,7 @@ pub record TwinBody : Type 1 where
   pub tie : BodyTied body.program written body.facts sets renaming has new_field new_static Made Pair body.number body.method env
 
 -- the twins of its expressions, and what ties its fields and its parts
-pub record Twins : Type 1 where
+pub record TwinWords : Type 1 where
   pub lang : Lang
   pub written : Lang
   pub link : Link
@@ -76,8 +76,8 @@ module _ (A : TwinBody) where
   open A use {body as B, written as W, renaming as R, sets as S, has, new_field, new_static, Made, Pair, env as h}
   open B use {program as Q, facts as F, number as m, method as k}
 
-  abbrev pub twins : Twins
-  twins = record {
+  abbrev pub twin_words : TwinWords
+  twin_words = record {
     lang = watched (untagged Q) Q F S;
     written = language_of W;
     link = tied.link Q W F S R has new_field new_static Made Pair;
@@ -90,7 +90,7 @@ module _ (A : TwinBody) where
   open A use {body as B, written as W, renaming as R, sets as S, has, new_field, new_static, Made, Pair, env as h, tie}
   open B use {program as Q, facts as F, number as m, method as k, stands}
   open copying B W R use {class_at as C, IsCopy}
-  open twins A use {lang as L, written as M, link as K, Twin, HasField as Field, IsTied as Tied}
+  open twin_words A use {lang as L, written as M, link as K, Twin, HasField as Field, IsTied as Tied}
 
   abbrev P : Plain
   P = untagged Q
