@@ -15,7 +15,8 @@ use Rattle.java_core.specs.Programs.{Plain, field_seen, method_seen}
 use Rattle.java_core.specs.Own.{offers}
 use Rattle.java_core.specs.Classes.{below, is_field_of, is_method_of, has_slot, is_slot}
 use Rattle.java_core.specs.Owned.{AreOwned, listed, first_among}
-use Rattle.java_core.specs.Tables.{name_bucket, slot_bucket, field_bucket, method_bucket, method_name_bucket, method_slot_bucket}
+use Rattle.java_core.specs.Nearest.{is_named_field, is_named_method}
+use Rattle.java_core.specs.Tables.{name_bucket, slot_bucket, field_bucket, method_bucket, field_name_bucket, method_name_bucket, method_slot_bucket}
 use Rattle.java_core.proofs.OwnedLemmas.{own-position}
 
 -- lists by a key have under a key the first item of each test that only items of the key pass
@@ -67,3 +68,10 @@ slot_owner c s m e = eqb-true m.owner.0 c (and_parts (m.owner.0 == c) (is_slot m
 pub body_slot : (c s : ℕ) (m : Method) → (has_slot c s (method_seen no_place m) && is_some (method_seen no_place m).body) ≡ true
     → has_slot c s (method_seen no_place m) ≡ true
 body_slot c s m e = (and_parts ((m.owner.0 == c) && is_slot m.slot s) (is_some (method_seen no_place m).body) e).0
+
+-- a field of a name, and an instance method of a name, are in the bucket of the name
+pub named_field_there : (n : ℕ) (x : List ℕ) (f : Field) → is_named_field x f ≡ true → field_name_bucket n f ≡ name_bucket n 0 x
+named_field_there n x f e = ap (name_bucket n 0) ((bytes_eq-Decides f.name x).0 e)
+
+pub named_method_there : (n : ℕ) (x : List ℕ) (m : Method) → is_named_method x m ≡ true → method_name_bucket n m ≡ name_bucket n 0 x
+named_method_there n x m e = ap (name_bucket n 0) ((bytes_eq-Decides m.name x).0 (and_parts (not m.is_static) (bytes_eq m.name x) e).1)

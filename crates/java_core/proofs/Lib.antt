@@ -15,3 +15,4 @@ pub mod SquareLemmas
 pub mod Walks
 pub mod Entries
 pub mod SeenClasses
+pub mod NearestLemmas

@@ -30,3 +30,11 @@ passes-within p (y ∷ ys) (suc i) x e h = split (p y) refl (passes-within p ys 
 -- where one passes, one is found
 pub passes-position : {A : Type 0} (p : A → Bool) (xs : List A) (i : ℕ) (x : A) → slice_get xs i ≡ Some x → p x ≡ true → (j : ℕ) × (position p xs ≡ Some j)
 passes-position p xs i x e h = let lt = passes-within p xs i x e h in (position_or_len p xs, rw (lt-ltb _ _ lt) refl)
+
+-- tests that agree find the same
+pub position-same : {A : Type 0} (p q : A → Bool) → ((x : A) → p x ≡ q x) → (xs : List A) → position p xs ≡ position q xs
+position-same {A} p q e xs = rw (lens xs) refl
+  where
+    lens : (xs : List A) → position_or_len p xs ≡ position_or_len q xs
+    lens [] = refl
+    lens (x ∷ xs) = rw (e x, lens xs) refl

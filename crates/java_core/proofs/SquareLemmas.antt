@@ -1,11 +1,11 @@
 -- Rows as the values of a test of two numbers, and what the rows of a hierarchy say.
-use Rattle.std.proofs.Common.{◌≡◌, ℕ, ◌<◌, ◌≤◌, ◌⊎◌, inl, inr, ⊎_elim, Bool, true, false, List, [], ◌∷◌, map, length, Some, None, refl, sym, ap, ◌∙◌, arith}
-use Rattle.std.specs.Prelude.{slice_get, ◌↔◌}
+use Rattle.std.proofs.Common.{◌≡◌, ℕ, ◌<◌, ◌≤◌, ◌⊎◌, inl, inr, ⊎_elim, Bool, true, false, List, [], ◌∷◌, map, length, Option, Some, None, refl, sym, ap, ◌∙◌, arith}
+use Rattle.std.specs.Prelude.{slice_get, ◌↔◌, MatchOption}
 use Rattle.std.specs.List.{range_with_len}
 use Rattle.std.proofs.lemmas.Bool.{false≢true, eqb-true, cases_lt, false_from_ne_true}
 use Rattle.std.proofs.lemmas.List.FromFn.{length-map-range_with_len, get_or-map-range_with_len, fill_by_all}
 use Rattle.std.proofs.lemmas.Option.{slice_get-get_or, slice_get_past}
-use Rattle.kaba_bits.specs.Sets.{row}
+use Rattle.kaba_bits.specs.Sets.{bit, row, IsNoneFrom, IsLeastFrom}
 use Rattle.kaba_bits.proofs.SetLemmas.{bit-below}
 use Rattle.java_core.specs.Squares.{bit_in, row_in, is_above}
 use Rattle.java_core.specs.Squares.{square, in_row, is_below, AreRows}
@@ -56,6 +56,15 @@ square-same n f g same =
     fill_by_all q (map p (range_with_len 0 n)) n [] (length-map-range_with_len p 0 n)
     (λ k lt. get_or-map-range_with_len p 0 n k k [] lt (omega arith) ∙ row-same n (λ y. f k y) (λ y. g k y) (λ b lb. same k b lt lb))
 
+-- the first bit of a row from a number on is the first type at or below the one whose row it is
+pub next-in-row : (r : List Bool) (b from : ℕ) → 0 < length r → (o : Option ℕ)
+    → MatchOption o (IsNoneFrom (bit r) from (length r)) (IsLeastFrom (bit r) from)
+    → MatchOption o ((t : ℕ) → from ≤ t → in_row r t b ≡ false) (IsLeastFrom (λ t. in_row r t b) from)
+next-in-row [] b from some o h = absurd (omega (arith, some))
+next-in-row (x ∷ xs) b from some None h = λ t le. ⊎_elim (λ lt. h t le lt)
+    (λ ge. false_from_ne_true (bit (x ∷ xs) t) (λ e. let k = bit-below (x ∷ xs) t e in omega (arith, k, ge))) (cases_lt t (length (x ∷ xs)))
+next-in-row (x ∷ xs) b from some (Some i) h = h
+
 -- ---- what a hierarchy says
 
 module _ (n : ℕ) (rows self : List (List Bool)) (view : square n (is_below rows) ≡ self) where
@@ -89,3 +98,16 @@ module _ (n : ℕ) (rows self : List (List Bool)) (view : square n (is_below row
         sym (above-in w.0 a (above-within w.0 a w.1).0 la) ∙ w.1,
         sym (above-in w.0 b (above-within w.0 b w.2).0 lb) ∙ w.2,
       ))
+
+  -- the first type from a number on that is at or below b is the first in the row of b
+  pub next-shared : AreRows n rows → (b from : ℕ) → b < n → (o : Option ℕ)
+      → MatchOption o ((t : ℕ) → from ≤ t → in_row (row rows b) t b ≡ false) (IsLeastFrom (λ t. in_row (row rows b) t b) from)
+      → MatchOption o ((t : ℕ) → from ≤ t → is_above self t b ≡ false) (IsLeastFrom (λ t. is_above self t b) from)
+  next-shared formed b from lb None none = λ t le. ⊎_elim (λ lt. above-in t b lt lb ∙ none t le) (λ ge. above-past t b (inl ge)) (cases_lt t n)
+  next-shared formed b from lb (Some t) h =
+      let lt = in-within (row rows b) t b (formed.wide b) lb h.holds in
+      record {
+        low = h.low;
+        holds = above-in t b lt lb ∙ h.holds;
+        least = λ k le less. above-in k b (omega (arith, less, lt)) lb ∙ h.least k le less;
+      }

@@ -6,6 +6,7 @@ pub mod Classes
 pub mod Found
 pub mod Own
 pub mod Owned
+pub mod Nearest
 pub mod Tables
 pub mod Types
 pub mod Statics

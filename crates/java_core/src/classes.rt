@@ -1,19 +1,24 @@
 //! Subtyping, and the members that a class or an interface has.
 
-ghost use Rattle.std.specs.Prelude.{◌≡◌, ℕ, ◌<◌, ◌↔◌, length, IsTrue, Option, Some, IfSome, IfNone, Contains};
+ghost use Rattle.std.specs.Prelude.{◌≡◌, ℕ, ◌<◌, ◌↔◌, length, IsTrue, Option, Some, IfSome, IfNone, Contains, option_and_then};
 ghost use Rattle.std.specs.Option.{option_map};
 ghost use Rattle.java_core.specs.Trees.{no_place};
 ghost use Rattle.java_core.specs.Programs.{program_of};
-ghost use Rattle.java_core.specs.Classes.{IsSubclass, below, parent_of, faces_of, supers_of, field_of, member_field, is_static_field, own_method, nearest, faces_above, first_found, declaration_of, slot_of_method, slot_of, lookup, nearest_declaration, super_method};
+ghost use Rattle.java_core.specs.Classes.{IsSubclass, below, parent_of, faces_of, supers_of, field_of, member_field, is_static_field, own_method, nearest, nearest_of, faces_above, first_found, declaration_of, slot_of_method, slot_of, lookup, nearest_declaration, super_method};
 ghost use Rattle.java_core.specs.Found.{Runs, IsOffered};
+ghost use Rattle.version_map.specs.Held.{holds};
+ghost use Rattle.java_core.specs.Nearest.{IsAbove};
+ghost use Rattle.java_core.specs.declared.classes.Named.TheVariants as named;
 ghost use Rattle.java_core.specs.Own.{own_named, own_of_slot, towards};
 ghost use Rattle.java_core.specs.Formed.{IsFormed};
 
 use crate::Program;
+use crate::nearest::{field_number, method_number};
 use crate::own::{
     methods_named, offered_at, own_body_at, own_declaration_at, own_field_at, own_method_at,
 };
 use kaba_base::{ClassId, MemberId, Name};
+use version_map::VersionMap;
 
 /// Whether a class or interface is at or below another (Java Language Specification, 4.10.2).
 #[tactic(auto, unfolding(crate::specs::Classes::below))]
@@ -58,7 +63,7 @@ pub fn field_of(p: &Program, class: ClassId, name: &Name) -> Option<MemberId>
     requires { IsFormed (program_of no_place p.now) }
     ensures value { option_map (λ d. d.0) result ≡ field_of (program_of no_place p.now) class.0 name.now }
 {
-    nearest_named(p, class, name, Named::Field, class_count(p))
+    nearest_field(p, class, name)
 }
 
 /// The field that an object of the type has under a name: the nearest upwards, where that one is an instance field.
@@ -90,7 +95,7 @@ pub fn super_method(p: &Program, class: ClassId, name: &Name) -> Option<MemberId
     ensures value { option_map (λ d. d.0) result ≡ super_method (program_of no_place p.now) class.0 name.now }
 {
     match parent_of(p, class) {
-        Some(parent) => nearest_named(p, parent, name, Named::Method, class_count(p)),
+        Some(parent) => nearest_method(p, parent, name),
         None => None,
     }
 }
@@ -120,7 +125,7 @@ pub fn declaration_of(p: &Program, class: ClassId, name: &Name) -> Option<Member
     requires { IsFormed (program_of no_place p.now) }
     ensures value { option_map (λ d. d.0) result ≡ declaration_of (program_of no_place p.now) class.0 name.now }
 {
-    match nearest_named(p, class, name, Named::Method, class_count(p)) {
+    match nearest_method(p, class, name) {
         Some(own) => Some(own),
         None => nearest_named(p, class, name, Named::OfFaces, class_count(p)),
     }
@@ -271,6 +276,70 @@ fn nearest_named(
         };
         at = parent;
         steps -= 1;
+    }
+}
+
+/// The version of a class's superclass, where it is known.
+fn version_above<'a>(
+    p: &Program,
+    versions: &'a Vec<Option<VersionMap>>,
+    class: ClassId,
+) -> Option<&'a VersionMap>
+    ensures { IfSome result (λ m. IsAbove (program_of no_place p.now).classes versions.now.items class.0 m.now) }
+{
+    match parent_of(p, class) {
+        Some(parent) => match versions.get(parent.0 as usize) {
+            Some(Some(map)) => Some(map),
+            _ => None,
+        },
+        None => None,
+    }
+}
+
+/// What a version has under a number, if there is one.
+fn numbered(map: &VersionMap, number: Option<usize>) -> Option<MemberId>
+    requires { IfSome number (λ i. i < 4294967296) }
+    ensures { option_map (λ d. d.0) result ≡ option_and_then (holds map.now) number }
+{
+    match number {
+        Some(number) => match map.get(number as u32) {
+            Some(at) => Some(MemberId(at)),
+            None => None,
+        },
+        None => None,
+    }
+}
+
+/// The nearest field of a name upwards.
+fn nearest_field(p: &Program, class: ClassId, name: &Name) -> Option<MemberId>
+    requires { IsFormed (program_of no_place p.now) }
+    ensures { option_map (λ d. d.0) result ≡ nearest_of (program_of no_place p.now) (λ k. own_named (program_of no_place p.now) named.Field k name.now) class.0 }
+{
+    let own = own_named(p, class, name, Named::Field);
+    if own.is_some() {
+        return own;
+    }
+    match version_above(p, &p.tables.nearest_fields, class) {
+        Some(map) => numbered(map, field_number(&p.fields, &p.tables.fields_named, name)),
+        None => nearest_named(p, class, name, Named::Field, class_count(p)),
+    }
+}
+
+/// The nearest instance method of a name upwards.
+fn nearest_method(p: &Program, class: ClassId, name: &Name) -> Option<MemberId>
+    requires { IsFormed (program_of no_place p.now) }
+    ensures { option_map (λ d. d.0) result ≡ nearest_of (program_of no_place p.now) (λ k. own_named (program_of no_place p.now) named.Method k name.now) class.0 }
+{
+    let own = own_named(p, class, name, Named::Method);
+    if own.is_some() {
+        return own;
+    }
+    match version_above(p, &p.tables.nearest_methods, class) {
+        Some(map) => numbered(
+            map,
+            method_number(&p.methods, &p.tables.methods_named, name),
+        ),
+        None => nearest_named(p, class, name, Named::Method, class_count(p)),
     }
 }
 

@@ -11,6 +11,7 @@ mod checked;
 mod classes;
 mod direct;
 mod made;
+mod nearest;
 mod own;
 mod owned;
 mod statics;
@@ -404,6 +405,6 @@ pub struct Program {
     tables: Tables,
     /// Which classes and interfaces are above which.
     above: Hierarchy,
-    ghost tables_shown: { AreTables fields.items methods.items tables },
+    ghost tables_shown: { AreTables classes.items fields.items methods.items tables },
     ghost above_shown: { above ≡ subtype_rows (map (class_seen at_place) classes.items) },
 }

@@ -27,7 +27,12 @@ impl Program {
         requires { above ≡ subtype_rows (map (class_seen at_place) classes.items) }
         ensures { IfOk result (λ p. IsMadeOf classes fields methods slots main p) }
     {
-        match Tables::new(alloc, fields.as_slice(), methods.as_slice()) {
+        match Tables::new(
+            alloc,
+            classes.as_slice(),
+            fields.as_slice(),
+            methods.as_slice(),
+        ) {
             Ok(tables) => Ok(Program {
                 classes,
                 fields,

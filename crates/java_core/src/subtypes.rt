@@ -1,8 +1,8 @@
 //! Which types are above which.
 #![tactic(auto)]
 
-ghost use Rattle.std.specs.Prelude.{◌≡◌, ℕ, ◌+◌, ◌<◌, ◌≤◌, ◌||◌, ◌⊎◌, ◌↔◌, Bool, List, ◌∷◌, [], length, map, IfOk, IsTrue, Contains};
-ghost use Rattle.kaba_bits.specs.Sets.{bit, size};
+ghost use Rattle.std.specs.Prelude.{◌≡◌, ℕ, ◌+◌, ◌<◌, ◌≤◌, ◌||◌, ◌⊎◌, ◌↔◌, Bool, List, ◌∷◌, [], length, map, IfOk, IsTrue, MatchOption, Contains, false};
+ghost use Rattle.kaba_bits.specs.Sets.{bit, size, IsLeastFrom};
 ghost use Rattle.java_core.specs.Trees.{at_place};
 ghost use Rattle.java_core.specs.Plain.{class_seen};
 ghost use Rattle.java_core.specs.Squares.{meet};
@@ -44,6 +44,16 @@ fn is_in(row: &BitRow, a: u32, b: u32) -> bool
     if a < row.width() { row.has(a) } else { false }
 }
 
+/// The first type from a number on that is at or below `b`, whose row this is.
+fn next_in(row: &BitRow, b: u32, from: u32) -> Option<u32>
+    ensures { MatchOption result ((t : ℕ) → from ≤ t → in_row row.now t b ≡ false) (IsLeastFrom (λ t. in_row row.now t b) from) }
+{
+    if row.width() > 0 {
+        return row.next(from);
+    }
+    if from <= b { Some(b) } else { None }
+}
+
 /// Whether some type is at or below both `a` and `b`, whose rows these are.
 fn share(first: &BitRow, second: &BitRow, a: u32, b: u32) -> bool
     requires { (length first.now ≡ 0 → ⊥) → (length second.now ≡ 0 → ⊥) → length first.now ≡ length second.now }
@@ -68,6 +78,16 @@ impl Hierarchy {
             return false;
         }
         is_in(row_at(self.below.as_slice(), b as usize), a, b)
+    }
+
+    /// The first type from a number on that is at or below `b`.
+    pub fn next_below(&self, b: u32, from: u32) -> Option<u32>
+        ensures { MatchOption result ((t : ℕ) → from ≤ t → is_above self.now t b ≡ false) (IsLeastFrom (λ t. is_above self.now t b) from) }
+    {
+        if b as usize >= self.below.len() {
+            return None;
+        }
+        next_in(row_at(self.below.as_slice(), b as usize), b, from)
     }
 
     /// Whether some type is at or below both.

@@ -3,12 +3,14 @@
 
 ghost use Rattle.std.specs.Prelude.{◌≡◌, ◌+◌, ◌/◌, ◌<◌, length, map, IfOk};
 ghost use Rattle.java_core.specs.Owned.{AreOwned};
-ghost use Rattle.java_core.specs.Tables.{AreTables, mixed, mixed_all, name_bucket, slot_bucket, field_bucket, method_bucket, method_name_bucket, method_slot_bucket};
+ghost use Rattle.java_core.specs.Tables.{AreTables, mixed, mixed_all, name_bucket, slot_bucket, field_bucket, method_bucket, method_name_bucket, method_slot_bucket, field_name_bucket};
 
+use crate::nearest::{nearest_fields, nearest_methods};
 use crate::owned::{note_under, own_fields, own_methods};
-use crate::{Field, Method};
+use crate::{Class, Field, Method};
 use kaba_base::{ClassId, Name};
 use std::alloc::{AllocError, Global};
+use version_map::VersionMap;
 
 /// The numbers of members, in rising order in each list.
 #[derive(Drop)]
@@ -23,22 +25,46 @@ pub struct Tables {
     pub methods_by_name: Vec<Vec<usize>>,
     /// For each bucket the methods of its owners and slots.
     pub methods_by_slot: Vec<Vec<usize>>,
+    /// For each bucket the fields of its names.
+    pub fields_named: Vec<Vec<usize>>,
     /// For each bucket the methods of its names.
     pub methods_named: Vec<Vec<usize>>,
+    /// For each class that others extend the fields at or above it by the numbers of their names, the nearest ones.
+    pub nearest_fields: Vec<Option<VersionMap>>,
+    /// For each class that others extend the instance methods at or above it by the numbers of their names, the nearest ones.
+    pub nearest_methods: Vec<Option<VersionMap>>,
 }
 
 impl Tables {
     /// The tables of these members; `AllocError` where memory is short.
-    pub fn new(alloc: Global, fields: &[Field], methods: &[Method]) -> Result<Tables, AllocError>
-        ensures { IfOk result (λ t. AreTables fields.now methods.now t) }
+    pub fn new(
+        alloc: Global,
+        classes: &[Class],
+        fields: &[Field],
+        methods: &[Method],
+    ) -> Result<Tables, AllocError>
+        ensures { IfOk result (λ t. AreTables classes.now fields.now methods.now t) }
     {
+        let own_fields = own_fields(alloc, fields)?;
+        let own_methods = own_methods(alloc, methods)?;
+        let fields_named = fields_named(alloc, fields)?;
+        let methods_named = methods_named(alloc, methods)?;
         Ok(Tables {
-            own_fields: own_fields(alloc, fields)?,
-            own_methods: own_methods(alloc, methods)?,
+            nearest_fields: nearest_fields(alloc, classes, fields, &own_fields, &fields_named)?,
+            nearest_methods: nearest_methods(
+                alloc,
+                classes,
+                methods,
+                &own_methods,
+                &methods_named,
+            )?,
+            own_fields,
+            own_methods,
             fields_by_name: fields_by_name(alloc, fields)?,
             methods_by_name: methods_by_name(alloc, methods)?,
             methods_by_slot: methods_by_slot(alloc, methods)?,
-            methods_named: methods_named(alloc, methods)?,
+            fields_named,
+            methods_named,
         })
     }
 }
@@ -125,6 +151,22 @@ fn methods_by_slot(alloc: Global, list: &[Method]) -> Result<Vec<Vec<usize>>, Al
             alloc,
             &mut lists,
             slot_bucket(list.len(), list[k].owner, list[k].slot),
+            k,
+        )?;
+    }
+    Ok(lists)
+}
+
+/// The fields by name; `AllocError` where memory is short.
+fn fields_named(alloc: Global, list: &[Field]) -> Result<Vec<Vec<usize>>, AllocError>
+    ensures { IfOk result (λ v. AreOwned (map (λ f. field_name_bucket (length list.now) f) list.now) v.items) }
+{
+    let mut lists = Vec::new(alloc);
+    for k in 0..list.len() {
+        note_under(
+            alloc,
+            &mut lists,
+            name_bucket(list.len(), ClassId(0), &list[k].name),
             k,
         )?;
     }

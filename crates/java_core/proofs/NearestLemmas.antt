@@ -1,0 +1,208 @@
+-- What is found by a number of a name is what is found by going upwards.
+use Rattle.std.proofs.Common.{◌≡◌, ℕ, zero, suc, ◌<◌, ◌⊎◌, Bool, true, false, ◌&&◌, List, ◌∷◌, map, length, Option, Some, None, set, inl, inr, ⊎_elim, refl, sym, ap, ◌∙◌, subst, arith, []}
+use Rattle.std.specs.Prelude.{◌==◌, if◌then◌else◌}
+use Rattle.std.specs.List.{position, slice_get}
+use Rattle.std.specs.Option.{option_and_then, option_map, is_some, IfSome}
+use Rattle.std.proofs.Math.Logic.{∥∥₁_elim, ∥∥₁_map}
+use Rattle.std.specs.Str.{bytes_eq}
+use Rattle.std.proofs.Props.{props}
+use Rattle.std.proofs.lemmas.Bool.{and_parts, eqb-true, eq-eqb, false≢true}
+use Rattle.std.proofs.lemmas.Option.{slice_get-map}
+use Rattle.std.proofs.lemmas.Slice.Eq.{bytes_eq-Decides}
+use Rattle.std.specs.declared.vec.Vec.{Vec}
+use Rattle.std.specs.declared.alloc.Global.{Global}
+use Rattle.kaba_base.specs.declared.ClassId.{ClassId}
+use Rattle.version_map.specs.declared.VersionMap.{VersionMap}
+use Rattle.version_map.specs.Held.{holds}
+use Rattle.java_core.specs.Plain.{Plain, PlainClass}
+use Rattle.java_core.specs.Subtypes.{of_classes}
+use Rattle.java_core.specs.Classes.{parent_of, first_or, nearest, nearest_of, is_slot}
+use Rattle.java_core.specs.Found.{IsNearest, at_class, above_class}
+use Rattle.java_core.specs.Owned.{AreOwned, owned_from, listed, passes, first_among}
+use Rattle.java_core.specs.Nearest.{IsFirst, highest, lower, AreVersions, IsVersionAbove, IsAbove, numbered_among}
+use Rattle.java_core.proofs.OwnedLemmas.{owned-position, position-within}
+use Rattle.java_core.proofs.Positions.{position-passes, passes-position}
+use Rattle.java_core.proofs.Subclasses.{IsAcyclic, nearest-here, nearest-nearest_of}
+
+-- ---- along the superclasses
+
+module _ (P : Plain) where
+  first-same : {f g : ℕ → Option ℕ} → ((k : ℕ) → f k ≡ g k) → {c : ℕ} {r : Option ℕ} → IsFirst P.classes f c r → IsFirst P.classes g c r
+  first-same {f} {g} e (highest {c = c} top) = subst (IsFirst P.classes g c) (sym (e c)) (highest top)
+  first-same {f} {g} e (lower {c = c} {p = p} {r = r} up rest) = subst (λ o. IsFirst P.classes g c (first_or o r)) (sym (e c)) (lower up (first-same e rest))
+
+  module _ (own : ℕ → Option ℕ) where
+    one : {c d : ℕ} (o r : Option ℕ) (p : ClassId) → own c ≡ o → parent_of P c ≡ Some p → first_or o r ≡ Some d → (r ≡ Some d → IsNearest P own p.0 d)
+        → IsNearest P own c d
+    one (Some y) r p e up h rest = at_class (e ∙ h)
+    one None r p e up h rest = above_class e up (rest h)
+
+    some : {c d : ℕ} {r : Option ℕ} → IsFirst P.classes own c r → r ≡ Some d → IsNearest P own c d
+    some (highest top) h = at_class h
+    some (lower {c = c} {p = p} {r = r} up rest) h = one (own c) r p refl up h (λ e. some rest e)
+
+    both : (o r : Option ℕ) → first_or o r ≡ None → (o ≡ None) × (r ≡ None)
+    both None r h = (refl, h)
+    both (Some y) r h = absurd (cc h)
+
+    none : {c : ℕ} {r : Option ℕ} → IsFirst P.classes own c r → r ≡ None → (n : ℕ) → nearest P own n c ≡ None
+    none (highest top) h zero = h
+    none (highest top) h (suc n) = rw (h, top) refl
+    none (lower {c = c} {r = r} up rest) h zero = (both (own c) r h).0
+    none (lower {c = c} {r = r} up rest) h (suc n) = let b = both (own c) r h in rw (b.0, up) (none rest b.1 n)
+
+    first-nearest : IsAcyclic P → {c : ℕ} (r : Option ℕ) → IsFirst P.classes own c r → nearest_of P own c ≡ r
+    first-nearest acyclic None h = none h refl (length P.classes)
+    first-nearest acyclic (Some d) h = nearest-nearest_of P own acyclic (some h refl)
+
+    -- where no class has anything, nothing is nearest
+    pub nowhere : ((k : ℕ) → own k ≡ None) → (n c : ℕ) → nearest P own n c ≡ None
+    nowhere e zero c = e c
+    nowhere e (suc n) c = rw (e c) (up n (parent_of P c) (λ k. nowhere e n k))
+      where
+        up : (n : ℕ) (o : Option ClassId) → ((k : ℕ) → nearest P own n k ≡ None) → option_and_then (λ p. nearest P own n p.0) o ≡ None
+        up n None h = refl
+        up n (Some p) h = h p.0
+
+    -- what a class itself has is nearest
+    pub own-nearest : {D : Type 0} (number : D → ℕ) (n c : ℕ) (o : Option D) → is_some o ≡ true → option_map number o ≡ own c
+        → option_map number o ≡ nearest P own n c
+    own-nearest number n c None some e = absurd (cc some)
+    own-nearest number n c (Some d) some e = sym (nearest-here P own n c (number d) (sym e))
+
+    pub nothing-own : {D : Type 0} (number : D → ℕ) (c : ℕ) (o : Option D) → is_some o ≡ false → option_map number o ≡ own c → own c ≡ None
+    nothing-own number c None none e = sym e
+    nothing-own number c (Some d) none e = absurd (cc none)
+
+    -- where a class has nothing of its own, what is first from its superclass is nearest
+    pub first-above : IsAcyclic P → (f : ℕ → Option ℕ) → ((k : ℕ) → f k ≡ own k) → (c : ℕ) (p : ClassId) (r : Option ℕ) → own c ≡ None → parent_of P c ≡ Some p
+        → ∥ IsFirst P.classes f p.0 r ∥₁ → nearest_of P own c ≡ r
+    first-above acyclic f e c p r here up h =
+        ∥∥₁_elim h (hlevel props) (λ h. first-nearest acyclic r (subst (λ o. IsFirst P.classes own c (first_or o r)) here (lower up (first-same e h))))
+
+-- ---- one version more
+
+set_cases : {A : Type 0} (xs : List A) (i c : ℕ) (y z : A) → slice_get (set xs i y) c ≡ Some z → ((c ≡ i) × (z ≡ y)) ⊎ (slice_get xs c ≡ Some z)
+set_cases [] i c y z e = inr e
+set_cases (x ∷ xs) zero zero y z e = inl (refl, cc e)
+set_cases (x ∷ xs) zero (suc c) y z e = inr e
+set_cases (x ∷ xs) (suc i) zero y z e = inr e
+set_cases (x ∷ xs) (suc i) (suc c) y z e = ⊎_elim (λ h. inl (ap suc h.0, h.1)) (λ h. inr h) (set_cases xs i c y z e)
+
+or_none : (o : Option ℕ) → first_or o None ≡ o
+or_none None = refl
+or_none (Some y) = refl
+
+module _ (classes : List PlainClass) (numbers : List (Option ℕ)) (own : List (Vec ℕ Global)) (all : List (Option VersionMap))
+    (v : AreVersions classes numbers own all) (at : ℕ) (map : VersionMap) (h : ℕ → Option ℕ)
+    (is : (i : ℕ) → holds map i ≡ first_or (numbered_among numbers i (listed own at)) (h i)) where
+  first-entered : (o : Option ClassId) → parent_of (of_classes classes) at ≡ o → IsVersionAbove all o h → (i : ℕ)
+      → ∥ IsFirst classes (λ k. numbered_among numbers i (listed own k)) at (holds map i) ∥₁
+  first-entered None e above i =
+      let f : ℕ → Option ℕ = λ k. numbered_among numbers i (listed own k) in
+      ∣ subst (IsFirst classes f at) (sym (is i ∙ ap (first_or (f at)) (above i) ∙ or_none (f at))) (highest e) ∣₁
+  first-entered (Some p) e above i =
+      let f : ℕ → Option ℕ = λ k. numbered_among numbers i (listed own k) in
+      ∥∥₁_map (v.each p.0 above.of above.stands i)
+      (λ g. subst (IsFirst classes f at) (sym (is i ∙ ap (first_or (f at)) (above.same i))) (lower e g))
+
+  pub versions-entered : IsVersionAbove all (parent_of (of_classes classes) at) h → AreVersions classes numbers own (set all at (Some map))
+  versions-entered above = record {
+    each = λ c m e i. ⊎_elim
+        (λ same. subst (λ z. ∥ IsFirst classes (λ k. numbered_among numbers i (listed own k)) z (holds m i) ∥₁) (sym same.0)
+        (subst (λ w. ∥ IsFirst classes (λ k. numbered_among numbers i (listed own k)) at (holds w i) ∥₁) (sym (some-one same.1))
+        (first-entered (parent_of (of_classes classes) at) refl above i)))
+        (λ old. v.each c m old i) (set_cases all at c (Some map) (Some m) e);
+  }
+    where
+      some-one : {m w : VersionMap} → ◌≡◌ {A = Option VersionMap} (Some m) (Some w) → m ≡ w
+      some-one e = cc e
+
+-- ---- numbers of names
+
+first_among-map : {A B : Type 0} (v : A → B) (p : B → Bool) (xs : List A) (ks : List ℕ) → first_among p (map v xs) ks ≡ first_among (λ a. p (v a)) xs ks
+first_among-map v p xs [] = refl
+first_among-map {A} {B} v p xs (k ∷ ks) = rw (ap (passes p) (slice_get-map v xs k) ∙ seen (slice_get xs k), first_among-map v p xs ks) refl
+  where
+    seen : (o : Option A) → passes p (option_map v o) ≡ passes (λ a. p (v a)) o
+    seen None = refl
+    seen (Some a) = refl
+
+first_among-same : {A : Type 0} (p q : A → Bool) → ((a : A) → p a ≡ q a) → (xs : List A) (ks : List ℕ) → first_among p xs ks ≡ first_among q xs ks
+first_among-same p q e xs [] = refl
+first_among-same {A} p q e xs (k ∷ ks) = rw (seen (slice_get xs k), first_among-same p q e xs ks) refl
+  where
+    seen : (o : Option A) → passes p o ≡ passes q o
+    seen None = refl
+    seen (Some a) = e a
+
+-- members with owners and names, of which some count; the number of a name is that of the first that counts and has it
+module _ {A : Type 0} (owner : A → ℕ) (name : A → List ℕ) (counts : A → Bool) (xs : List A) where
+  abbrev pub named : List ℕ → A → Bool
+  named x a = counts a && bytes_eq (name a) x
+
+  abbrev pub number : List ℕ → Option ℕ
+  number x = position (λ a. named x a) xs
+
+  abbrev pub number_of : A → Option ℕ
+  number_of a = if counts a then number (name a) else None
+
+  -- a member has the number of a name where it counts and has the name
+  numbered : (x : List ℕ) (i : ℕ) → number x ≡ Some i → (a : A) → is_slot (number_of a) i ≡ named x a
+  numbered x i e a = by_count (counts a)
+    where
+      other : (b : Bool) → bytes_eq (name a) x ≡ b → (o : Option ℕ) → number (name a) ≡ o → is_slot o i ≡ b
+      other true h o k = let same = (bytes_eq-Decides (name a) x).0 h in rw (sym k ∙ ap number same ∙ e) (eq-eqb i i refl)
+      other false h None k = refl
+      other false h (Some j) k = by_number (j == i) refl
+        where
+          by_number : (b : Bool) → (j == i) ≡ b → b ≡ false
+          by_number false g = refl
+          by_number true g =
+              let mine = position-passes (λ y. named (name a) y) xs i (k ∙ ap Some (eqb-true j i g)) in
+              let its = position-passes (λ y. named x y) xs i e in
+              let y : mine.0 ≡ its.0 = cc (mine.1, its.1) in
+              let m = (bytes_eq-Decides (name mine.0) (name a)).0 (and_parts (counts mine.0) (bytes_eq (name mine.0) (name a)) mine.2).1 in
+              let t = (bytes_eq-Decides (name its.0) x).0 (and_parts (counts its.0) (bytes_eq (name its.0) x) its.2).1 in
+              absurd (false≢true (sym h ∙ (bytes_eq-Decides (name a) x).1 (sym m ∙ ap name y ∙ t)))
+
+      by_count : (b : Bool) → is_slot (if b then number (name a) else None) i ≡ (b && bytes_eq (name a) x)
+      by_count false = refl
+      by_count true = other (bytes_eq (name a) x) refl (number (name a)) refl
+
+  -- what a class itself has under the number of a name is the member of the name that it declares
+  pub own-numbered : (x : List ℕ) (i : ℕ) → number x ≡ Some i → (c : ℕ)
+      → first_among (λ o. is_slot o i) (map number_of xs) (owned_from 0 c (map owner xs)) ≡ position (λ a. (owner a == c) && named x a) xs
+  own-numbered x i e c =
+      first_among-map number_of (λ o. is_slot o i) xs (owned_from 0 c (map owner xs))
+      ∙ first_among-same (λ a. is_slot (number_of a) i) (named x) (numbered x i e) xs (owned_from 0 c (map owner xs))
+      ∙ owned-position owner (named x) c xs
+
+  -- no class has a member of a name without a number
+  pub unnumbered : (x : List ℕ) → number x ≡ None → (c : ℕ) → position (λ a. (owner a == c) && named x a) xs ≡ None
+  unnumbered x e c = go (position (λ a. (owner a == c) && named x a) xs) refl
+    where
+      go : (o : Option ℕ) → position (λ a. (owner a == c) && named x a) xs ≡ o → o ≡ None
+      go None h = refl
+      go (Some j) h =
+          let f = position-passes (λ a. (owner a == c) && named x a) xs j h in
+          let g = passes-position (λ a. named x a) xs j f.0 f.1 (and_parts (owner f.0 == c) (named x f.0) f.2).1 in
+          absurd (cc (e, g.1))
+
+  -- what the version of the superclass has under the number of a name is nearest, where a class has nothing of its own
+  pub numbered-nearest : (P : Plain) → IsAcyclic P → (own : ℕ → Option ℕ) (x : List ℕ)
+      → ((k : ℕ) → position (λ a. (owner a == k) && named x a) xs ≡ own k) → (lists : List (Vec ℕ Global)) → AreOwned (map owner xs) lists
+      → (all : List (Option VersionMap)) → AreVersions P.classes (map number_of xs) lists all → (c : ℕ) (m : VersionMap) → IsAbove P.classes all c m
+      → own c ≡ None → (o : Option ℕ) → o ≡ number x → option_and_then (holds m) o ≡ nearest_of P own c
+  numbered-nearest P acyclic own x is lists owned all v c m a here None e =
+      sym (nowhere P own (λ k. sym (is k) ∙ unnumbered x (sym e) k) (length P.classes) c)
+  numbered-nearest P acyclic own x is lists owned all v c m a here (Some i) e =
+      sym
+      (first-above P own acyclic (λ k. numbered_among (map number_of xs) i (listed lists k))
+      (λ k. ap (numbered_among (map number_of xs) i) (owned.exact k) ∙ own-numbered x i (sym e) k ∙ is k)
+      c a.by (holds m i) here a.parent (v.each a.by.0 m a.stands i))
+
+-- the number of what is found is small, where the list is
+pub number-within : {A : Type 0} (p : A → Bool) (xs : List A) (o : Option ℕ) → o ≡ position p xs → length xs < 4294967295 → IfSome o (λ i. i < 4294967296)
+number-within p xs None e lt = tt
+number-within p xs (Some i) e lt = let w = subst (λ o. IfSome o (λ i. i < length xs)) (sym e) (position-within p xs) in omega (arith, w, lt)

@@ -1,0 +1,72 @@
+-- What stands nearest at or above a class, by numbers of names.
+use Rattle.std.specs.Prelude.{◌≡◌, ℕ, ◌&&◌, not, Bool, List, map, Option, Some, None, slice_get, position, if◌then◌else◌}
+use Rattle.std.specs.Str.{bytes_eq}
+use Rattle.std.specs.declared.vec.Vec.{Vec}
+use Rattle.std.specs.declared.alloc.Global.{Global}
+use Rattle.kaba_base.specs.declared.ClassId.{ClassId}
+use Rattle.version_map.specs.declared.VersionMap.{VersionMap}
+use Rattle.version_map.specs.Held.{holds}
+use Rattle.java_core.specs.declared.Field.{Field}
+use Rattle.java_core.specs.declared.Method.{Method}
+use Rattle.java_core.specs.Plain.{PlainClass}
+use Rattle.java_core.specs.Classes.{parent_of, first_or, is_slot}
+use Rattle.java_core.specs.Owned.{listed, first_among}
+use Rattle.java_core.specs.Subtypes.{of_classes}
+
+-- ---- numbers of names
+
+abbrev pub is_named_field : List ℕ → Field → Bool
+is_named_field x f = bytes_eq f.name x
+
+abbrev pub is_named_method : List ℕ → Method → Bool
+is_named_method x m = not m.is_static && bytes_eq m.name x
+
+-- the number of a name is that of the first field that has it, or of the first instance method
+abbrev pub field_number : List Field → List ℕ → Option ℕ
+field_number fields x = position (λ f. is_named_field x f) fields
+
+abbrev pub method_number : List Method → List ℕ → Option ℕ
+method_number methods x = position (λ m. is_named_method x m) methods
+
+abbrev pub number_of_method : List Method → Method → Option ℕ
+number_of_method methods m = if not m.is_static then method_number methods m.name else None
+
+-- for each member the number of its name
+abbrev pub field_numbers : List Field → List (Option ℕ)
+field_numbers fields = map (λ f. field_number fields f.name) fields
+
+abbrev pub method_numbers : List Method → List (Option ℕ)
+method_numbers methods = map (λ m. number_of_method methods m) methods
+
+-- the first of these members whose name has a number
+abbrev pub numbered_among : List (Option ℕ) → ℕ → List ℕ → Option ℕ
+numbered_among numbers i own = first_among (λ o. is_slot o i) numbers own
+
+-- ---- along the superclasses
+
+-- r is what a class itself has, or where it has nothing what is so found from its superclass
+pub data IsFirst (classes : List PlainClass) (own : ℕ → Option ℕ) : ℕ → Option ℕ → Type 0 where
+  highest : {c : ℕ} → parent_of (of_classes classes) c ≡ None → IsFirst classes own c (own c)
+  lower : {c : ℕ} {p : ClassId} {r : Option ℕ} → parent_of (of_classes classes) c ≡ Some p → IsFirst classes own p.0 r → IsFirst classes own c (first_or (own c) r)
+
+-- the versions that are there have under each number what is first along the superclasses
+pub record AreVersions (classes : List PlainClass) (numbers : List (Option ℕ)) (own : List (Vec ℕ Global)) (all : List (Option VersionMap)) : Type 0 where
+  pub each : (c : ℕ) (m : VersionMap) → slice_get all c ≡ Some (Some m) → (i : ℕ)
+      → ∥ IsFirst classes (λ k. numbered_among numbers i (listed own k)) c (holds m i) ∥₁
+
+-- a map has what the version of a class has
+pub record IsVersion (all : List (Option VersionMap)) (c : ℕ) (h : ℕ → Option ℕ) : Type 0 where
+  pub of : VersionMap
+  pub stands : slice_get all c ≡ Some (Some of)
+  pub same : (i : ℕ) → h i ≡ holds of i
+
+-- a map has what the version of the superclass has, or nothing where there is none
+abbrev pub IsVersionAbove : List (Option VersionMap) → Option ClassId → (ℕ → Option ℕ) → Type 0
+IsVersionAbove all None h = (i : ℕ) → h i ≡ None
+IsVersionAbove all (Some p) h = IsVersion all p.0 h
+
+-- a map is the version of the superclass of a class
+pub record IsAbove (classes : List PlainClass) (all : List (Option VersionMap)) (c : ℕ) (m : VersionMap) : Type 0 where
+  pub by : ClassId
+  pub parent : parent_of (of_classes classes) c ≡ Some by
+  pub stands : slice_get all by.0 ≡ Some (Some m)

@@ -1,0 +1,369 @@
+//! For each class the members that stand nearest at or above it, by numbers of their names.
+#![tactic(auto)]
+
+ghost use Rattle.std.specs.Prelude.{◌≡◌, ℕ, ◌<◌, ◌∷◌, [], length, map, Some, IfOk, IfSome, OnOk, slice_get, set};
+ghost use Rattle.version_map.specs.Held.{holds};
+ghost use Rattle.version_map.specs.declared.VersionMap.{VersionMap};
+ghost use Rattle.java_core.specs.Trees.{no_place};
+ghost use Rattle.java_core.specs.Plain.{class_seen};
+ghost use Rattle.java_core.specs.Classes.{parent_of, first_or, is_slot};
+ghost use Rattle.java_core.specs.Subtypes.{of_classes};
+ghost use Rattle.java_core.specs.Owned.{AreOwned, passes, first_among};
+ghost use Rattle.java_core.specs.Tables.{field_name_bucket, method_name_bucket};
+ghost use Rattle.java_core.specs.Nearest.{is_named_field, is_named_method, field_number, method_number, number_of_method, field_numbers, method_numbers, numbered_among, AreVersions, IsVersion, IsVersionAbove};
+
+use crate::owned::{listed_under, note_under};
+use crate::tables::name_bucket;
+use crate::{Class, Field, Method};
+use kaba_base::{ClassId, Name};
+use std::alloc::{AllocError, Global};
+use version_map::VersionMap;
+
+/// Members are numbered in 32 bits.
+const MANY: usize = 4294967295;
+
+/// Whether a field has the name.
+fn is_named_field(field: &Field, name: &Name) -> bool
+    ensures { result ≡ is_named_field name.now field.now }
+{
+    field.name.same(name)
+}
+
+/// Whether a method is an instance method of the name.
+fn is_named_method(method: &Method, name: &Name) -> bool
+    ensures { result ≡ is_named_method name.now method.now }
+{
+    !method.is_static && method.name.same(name)
+}
+
+/// Whether the field of a number has the name.
+fn is_field_named(fields: &[Field], at: usize, name: &Name) -> bool
+    ensures { result ≡ passes (λ f. is_named_field name.now f) (slice_get fields.now at) }
+{
+    match fields.get(at) {
+        Some(field) => is_named_field(field, name),
+        None => false,
+    }
+}
+
+/// Whether the method of a number is an instance method of the name.
+fn is_method_named(methods: &[Method], at: usize, name: &Name) -> bool
+    ensures { result ≡ passes (λ m. is_named_method name.now m) (slice_get methods.now at) }
+{
+    match methods.get(at) {
+        Some(method) => is_named_method(method, name),
+        None => false,
+    }
+}
+
+/// The first field of a name among these.
+fn field_among(fields: &[Field], list: &[usize], name: &Name) -> Option<usize>
+    ensures { result ≡ first_among (λ f. is_named_field name.now f) fields.now list.now }
+{
+    for at in list {
+        if is_field_named(fields, *at, name) {
+            return Some(*at);
+        }
+    }
+    None
+}
+
+/// The number of a name: that of the first field that has it. The lists are those of the names.
+pub fn field_number(fields: &[Field], lists: &Vec<Vec<usize>>, name: &Name) -> Option<usize>
+    requires { AreOwned (map (λ f. field_name_bucket (length fields.now) f) fields.now) lists.now.items }
+    ensures { result ≡ field_number fields.now name.now }
+{
+    let list = listed_under(lists, name_bucket(fields.len(), ClassId(0), name));
+    field_among(fields, list, name)
+}
+
+/// The first instance method of a name among these.
+fn method_among(methods: &[Method], list: &[usize], name: &Name) -> Option<usize>
+    ensures { result ≡ first_among (λ m. is_named_method name.now m) methods.now list.now }
+{
+    for at in list {
+        if is_method_named(methods, *at, name) {
+            return Some(*at);
+        }
+    }
+    None
+}
+
+/// The number of a name: that of the first instance method that has it. The lists are those of the names.
+pub fn method_number(methods: &[Method], lists: &Vec<Vec<usize>>, name: &Name) -> Option<usize>
+    requires { AreOwned (map (λ m. method_name_bucket (length methods.now) m) methods.now) lists.now.items }
+    ensures { result ≡ method_number methods.now name.now }
+{
+    let list = listed_under(lists, name_bucket(methods.len(), ClassId(0), name));
+    method_among(methods, list, name)
+}
+
+/// A number in 32 bits.
+fn narrow(at: Option<usize>) -> Option<u32>
+    requires { IfSome at (λ i. i < 4294967295) }
+    ensures { result ≡ at }
+{
+    match at {
+        Some(at) => Some(at as u32),
+        None => None,
+    }
+}
+
+/// The number of a method's name, where it is an instance method.
+fn number_of_method(methods: &[Method], lists: &Vec<Vec<usize>>, method: &Method) -> Option<u32>
+    requires few { length methods.now < 4294967295 }
+    requires named { AreOwned (map (λ m. method_name_bucket (length methods.now) m) methods.now) lists.now.items }
+    ensures { result ≡ number_of_method methods.now method.now }
+{
+    if method.is_static {
+        return None;
+    }
+    narrow(method_number(methods, lists, &method.name))
+}
+
+/// For each field the number of its name; `AllocError` where memory is short.
+fn field_numbers(
+    alloc: Global,
+    fields: &[Field],
+    lists: &Vec<Vec<usize>>,
+) -> Result<Vec<Option<u32>>, AllocError>
+    requires few { length fields.now < 4294967295 }
+    requires named { AreOwned (map (λ f. field_name_bucket (length fields.now) f) fields.now) lists.now.items }
+    ensures { IfOk result (λ v. v.items ≡ field_numbers fields.now) }
+{
+    let mut numbers = Vec::new(alloc);
+    for field in fields {
+        numbers.push(narrow(field_number(fields, lists, &field.name)))?;
+    }
+    Ok(numbers)
+}
+
+/// For each method the number of its name; `AllocError` where memory is short.
+fn method_numbers(
+    alloc: Global,
+    methods: &[Method],
+    lists: &Vec<Vec<usize>>,
+) -> Result<Vec<Option<u32>>, AllocError>
+    requires few { length methods.now < 4294967295 }
+    requires named { AreOwned (map (λ m. method_name_bucket (length methods.now) m) methods.now) lists.now.items }
+    ensures { IfOk result (λ v. v.items ≡ method_numbers methods.now) }
+{
+    let mut numbers = Vec::new(alloc);
+    for method in methods {
+        numbers.push(number_of_method(methods, lists, method))?;
+    }
+    Ok(numbers)
+}
+
+/// The number of the name of the member of a number.
+fn number_at(numbers: &[Option<u32>], at: usize) -> Option<u32>
+    ensures value { (i : ℕ) → is_slot result i ≡ passes (λ o. is_slot o i) (slice_get numbers.now at) }
+    ensures within { IfSome result (λ _. at < length numbers.now) }
+{
+    match numbers.get(at) {
+        Some(number) => *number,
+        None => None,
+    }
+}
+
+/// A version with one member more, if its name has a number.
+fn with_member(
+    alloc: Global,
+    map: VersionMap,
+    numbers: &[Option<u32>],
+    at: usize,
+) -> Result<VersionMap, AllocError>
+    requires { length numbers.now < 4294967295 }
+    ensures { IfOk result (λ m. (i : ℕ) → holds m i ≡ first_or (numbered_among numbers.now i (at ∷ [])) (holds map i)) }
+{
+    match number_at(numbers, at) {
+        Some(number) => map.with(alloc, number, at as u32),
+        None => Ok(map),
+    }
+}
+
+/// A version with the members of a class more, of which the first of a name counts.
+fn with_members(
+    alloc: Global,
+    map: VersionMap,
+    numbers: &[Option<u32>],
+    own: &[usize],
+) -> Result<VersionMap, AllocError>
+    requires { length numbers.now < 4294967295 }
+    ensures { IfOk result (λ m. (i : ℕ) → holds m i ≡ first_or (numbered_among numbers.now i own.now) (holds map i)) }
+{
+    let mut now = map;
+    let mut left = own.len();
+    'back: while left > 0 {
+        left -= 1;
+        now = with_member(alloc, now, numbers, own[left])?;
+    }
+    Ok(now)
+}
+
+/// The version of a number once more, where it is known.
+fn version_at(all: &[Option<VersionMap>], at: usize) -> Result<Option<VersionMap>, AllocError>
+    ensures { IfOk result (λ o. IfSome o (λ m. IsVersion all.now at (holds m))) }
+{
+    match all.get(at) {
+        Some(Some(map)) => Ok(Some(map.copy()?)),
+        _ => Ok(None),
+    }
+}
+
+/// The version of a class's superclass, where it is known.
+fn version_above(
+    alloc: Global,
+    parent: Option<ClassId>,
+    all: &[Option<VersionMap>],
+) -> Result<Option<VersionMap>, AllocError>
+    ensures { IfOk result (λ o. IfSome o (λ m. IsVersionAbove all.now parent (holds m))) }
+{
+    match parent {
+        Some(parent) => version_at(all, parent.0 as usize),
+        None => Ok(Some(VersionMap::new(alloc)?)),
+    }
+}
+
+/// The superclass of the class of a number.
+fn parent_in(classes: &[Class], at: usize) -> Option<ClassId>
+    ensures { result ≡ parent_of (of_classes (map (class_seen no_place) classes.now)) at }
+{
+    match classes.get(at) {
+        Some(class) => class.parent,
+        None => None,
+    }
+}
+
+/// The version of a class, if there is room for it.
+fn put(all: &mut [Option<VersionMap>], at: usize, map: VersionMap)
+    ensures { all.new ≡ set all.old at (Some map) }
+{
+    if at < all.len() {
+        all[at] = Some(map);
+    }
+}
+
+/// The version of a class, if that of its superclass is known; `AllocError` where memory is short.
+fn enter(
+    alloc: Global,
+    classes: &[Class],
+    own: &Vec<Vec<usize>>,
+    numbers: &[Option<u32>],
+    all: &mut [Option<VersionMap>],
+    at: usize,
+) -> Result<(), AllocError>
+    requires few { length numbers.now < 4294967295 }
+    requires before { AreVersions (map (class_seen no_place) classes.now) numbers.now own.now.items all.old }
+    ensures { OnOk result (AreVersions (map (class_seen no_place) classes.now) numbers.now own.now.items all.new) }
+{
+    let Some(above) = version_above(alloc, parent_in(classes, at), all)? else {
+        return Ok(());
+    };
+    let map = with_members(alloc, above, numbers, listed_under(own, at))?;
+    put(all, at, map);
+    Ok(())
+}
+
+/// No versions, for each of so many classes; `AllocError` where memory is short.
+fn none_yet(alloc: Global, count: usize) -> Result<Vec<Option<VersionMap>>, AllocError>
+    ensures { IfOk result (λ v. (c : ℕ) (m : VersionMap) → slice_get v.items c ≡ Some (Some m) → ⊥) }
+{
+    let mut all = Vec::new(alloc);
+    for _k in 0..count {
+        all.push(None)?;
+    }
+    Ok(all)
+}
+
+/// Under each class those that extend it; `AllocError` where memory is short. What is made by these is tested.
+fn subclasses(alloc: Global, classes: &[Class]) -> Result<Vec<Vec<usize>>, AllocError> {
+    let mut lists = Vec::new(alloc);
+    for at in 0..classes.len() {
+        if let Some(parent) = classes[at].parent {
+            note_under(alloc, &mut lists, parent.0 as usize, at)?;
+        }
+    }
+    Ok(lists)
+}
+
+/// These classes come next, where something extends them.
+fn put_behind(
+    lists: &Vec<Vec<usize>>,
+    order: &mut Vec<usize>,
+    list: &[usize],
+) -> Result<(), AllocError> {
+    for at in list {
+        if !listed_under(lists, *at).is_empty() {
+            order.push(*at)?;
+        }
+    }
+    Ok(())
+}
+
+/// The classes that others extend, each behind its superclass; `AllocError` where memory is short. `Object` is the first.
+fn order_of(alloc: Global, classes: &[Class]) -> Result<Vec<usize>, AllocError> {
+    let lists = subclasses(alloc, classes)?;
+    let mut order = Vec::new(alloc);
+    order.push(0)?;
+    for at in 0..classes.len() {
+        if at < order.len() {
+            let class = order[at];
+            put_behind(&lists, &mut order, listed_under(&lists, class))?;
+        }
+    }
+    Ok(order)
+}
+
+/// For each class that others extend the members at or above it by the numbers of their names; `AllocError` where memory is short.
+fn versions(
+    alloc: Global,
+    classes: &[Class],
+    own: &Vec<Vec<usize>>,
+    numbers: &[Option<u32>],
+) -> Result<Vec<Option<VersionMap>>, AllocError>
+    requires { length numbers.now < 4294967295 }
+    ensures { IfOk result (λ v. AreVersions (map (class_seen no_place) classes.now) numbers.now own.now.items v.items) }
+{
+    let mut all = none_yet(alloc, classes.len())?;
+    for at in order_of(alloc, classes)?.as_slice() {
+        enter(alloc, classes, own, numbers, all.as_mut_slice(), *at)?;
+    }
+    Ok(all)
+}
+
+/// For each class that others extend the fields at or above it by the numbers of their names; `AllocError` where memory is short.
+pub fn nearest_fields(
+    alloc: Global,
+    classes: &[Class],
+    fields: &[Field],
+    own: &Vec<Vec<usize>>,
+    lists: &Vec<Vec<usize>>,
+) -> Result<Vec<Option<VersionMap>>, AllocError>
+    requires { AreOwned (map (λ f. field_name_bucket (length fields.now) f) fields.now) lists.now.items }
+    ensures { IfOk result (λ v. AreVersions (map (class_seen no_place) classes.now) (field_numbers fields.now) own.now.items v.items) }
+{
+    if fields.len() >= MANY {
+        return none_yet(alloc, 0);
+    }
+    let numbers = field_numbers(alloc, fields, lists)?;
+    versions(alloc, classes, own, numbers.as_slice())
+}
+
+/// For each class that others extend the instance methods at or above it by the numbers of their names; `AllocError` where memory is short.
+pub fn nearest_methods(
+    alloc: Global,
+    classes: &[Class],
+    methods: &[Method],
+    own: &Vec<Vec<usize>>,
+    lists: &Vec<Vec<usize>>,
+) -> Result<Vec<Option<VersionMap>>, AllocError>
+    requires { AreOwned (map (λ m. method_name_bucket (length methods.now) m) methods.now) lists.now.items }
+    ensures { IfOk result (λ v. AreVersions (map (class_seen no_place) classes.now) (method_numbers methods.now) own.now.items v.items) }
+{
+    if methods.len() >= MANY {
+        return none_yet(alloc, 0);
+    }
+    let numbers = method_numbers(alloc, methods, lists)?;
+    versions(alloc, classes, own, numbers.as_slice())
+}
