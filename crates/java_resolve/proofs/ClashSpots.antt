@@ -12,7 +12,8 @@ use Rattle.java_resolve.specs.Clashes.{clash_at, or_clash, clash_among, clash_af
 use Rattle.java_resolve.specs.Spots.{spots_from}
 use Rattle.name_outcome.proofs.Runs.{middle-stands}
 
-not-below : (i k : ℕ) → k ≤ i → nat_lt i k ≡ false
+-- a number is not below one that is no greater
+pub not-below : (i k : ℕ) → k ≤ i → nat_lt i k ≡ false
 not-below i k le = go (nat_lt i k) refl
   where
     go : (c : Bool) → nat_lt i k ≡ c → nat_lt i k ≡ false

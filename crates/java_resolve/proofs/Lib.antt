@@ -11,3 +11,4 @@ pub mod ClashSpots
 pub mod OwnedLemmas
 pub mod ScopeTable
 pub mod ParamScopes
+pub mod MarkLemmas

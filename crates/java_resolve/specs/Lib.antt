@@ -6,3 +6,4 @@ pub mod Clashes
 pub mod Owned
 pub mod Found
 pub mod Scopes
+pub mod Marks

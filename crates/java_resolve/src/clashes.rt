@@ -1,15 +1,17 @@
 //! Where methods of one name meet, and the main method.
 #![tactic(auto)]
 
-ghost use Rattle.std.specs.Prelude.{◌≡◌, ◌&&◌, ◌||◌, not, nat_lt, map, position, slice_get, IfOk};
+ghost use Rattle.std.specs.Prelude.{◌≡◌, ℕ, ◌+◌, ◌&&◌, ◌||◌, not, nat_lt, List, map, position, slice_get, Some, IfOk};
 ghost use Rattle.name_outcome.specs.Answers.{Gives};
 ghost use Rattle.name_outcome.specs.Tables.{is_above};
 ghost use Rattle.name_outcome.specs.Members.{meet, same_slot, clash_of, clash_step, clashes_of, main_of};
 ghost use Rattle.java_resolve.specs.Clashes.{clash_at, clash_among, clash_after};
 ghost use Rattle.java_resolve.specs.Spots.{AreSpots, spots_of};
+ghost use Rattle.java_resolve.specs.Marks.{AreTested};
 
 use crate::Refusal;
 use crate::classes::after;
+use crate::marks::{is_suspect, suspects_of};
 use crate::members::number_at;
 use crate::spots::Spots;
 use java_core::Hierarchy;
@@ -120,7 +122,8 @@ fn clash_after(
     k: u32,
     b: &Heading,
 ) -> Result<u32, Refusal>
-    ensures { Gives (λ n. n) result (clash_after rows.now all.now.items k b.now list.now) }
+    ensures gives { Gives (λ n. n) result (clash_after rows.now all.now.items k b.now list.now) }
+    ensures next { IfOk result (λ n. n ≡ k + 1) }
 {
     if let Some(refusal) = clash_among(alloc, rows, all, list, k, b)? {
         return Err(refusal);
@@ -128,34 +131,43 @@ fn clash_after(
     after(k)
 }
 
-/// The method `b` of number `k` clashes with none of those before it.
+/// The method `b` of number `k` clashes with none of those before it; they are gone through where it is suspected.
 fn clash_step(
     alloc: Global,
     rows: &Hierarchy,
     spots: &Spots,
     all: &Vec<Heading>,
+    suspects: &[bool],
     k: u32,
     b: &Heading,
 ) -> Result<u32, Refusal>
-    requires { AreSpots (map (λ h. h.name) all.now.items) spots.now }
-    ensures { Gives (λ n. n) result (clash_step rows.now all.now.items k b.now) }
+    requires spots { AreSpots (map (λ h. h.name) all.now.items) spots.now }
+    requires tested { (n : List ℕ) → AreTested rows.now all.now.items (spots_of spots.now n) suspects.now }
+    requires stands { slice_get all.now.items k ≡ Some b.now }
+    ensures gives { Gives (λ n. n) result (clash_step rows.now all.now.items k b.now) }
+    ensures next { IfOk result (λ n. n ≡ k + 1) }
 {
-    clash_after(alloc, rows, all, spots.at(&b.name), k, b)
+    if is_suspect(suspects, k) {
+        return clash_after(alloc, rows, all, spots.at(&b.name), k, b);
+    }
+    after(k)
 }
 
-/// `Overload` or `PrivateReused` where a method clashes with one before it.
+/// `Overload` or `PrivateReused` where a method clashes with one before it, of so many types.
 pub fn clashes_of(
     alloc: Global,
     rows: &Hierarchy,
+    count: u32,
     spots: &Spots,
     all: &Vec<Heading>,
 ) -> Result<u32, Refusal>
     requires { AreSpots (map (λ h. h.name) all.now.items) spots.now }
     ensures { Gives (λ n. n) result (clashes_of rows.now all.now.items) }
 {
+    let suspects = suspects_of(alloc, rows, count, spots, all)?;
     let mut k = 0;
     for b in all {
-        k = clash_step(alloc, rows, spots, all, k, b)?;
+        k = clash_step(alloc, rows, spots, all, suspects.as_slice(), k, b)?;
     }
     Ok(k)
 }

@@ -9,6 +9,7 @@ mod exprs;
 mod flags;
 mod locals;
 mod make;
+mod marks;
 mod meanings;
 mod members;
 mod names;
@@ -60,6 +61,15 @@ fn parents_of(alloc: Global, classes: &Vec<Class>) -> Result<Vec<Option<ClassId>
     Ok(parents)
 }
 
+/// A count, as far as 32 bits tell it.
+fn narrowed(count: usize) -> u32 {
+    if count < u32::MAX as usize {
+        count as u32
+    } else {
+        u32::MAX
+    }
+}
+
 /// The program of a tree whose types and members these are.
 fn with_bodies(
     alloc: Global,
@@ -75,7 +85,13 @@ fn with_bodies(
         (with_bodies (decls list.now) known (map (class_seen at_place) classes.items) above
         (members_seen draft)) }
 {
-    let _count = clashes_of(alloc, &above, &draft.method_spots, &draft.headings)?;
+    let _count = clashes_of(
+        alloc,
+        &above,
+        narrowed(classes.len()),
+        &draft.method_spots,
+        &draft.headings,
+    )?;
     let main = main_of(&draft.headings)?;
     let tables = Tables {
         known,
