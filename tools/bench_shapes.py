@@ -157,6 +157,41 @@ def by_turns(count):
     return text + "".join(f"abstract class C{n} extends C{n - 1} {{\n}}\n" for n in range(1, count)) + main()
 
 
+def reads_below_a_chain(count):
+    """Classes one below the other, and three reads for each of a field of the highest from an object of the lowest."""
+    text = "class C0 {\n  int f;\n}\n" + "".join(f"class C{n} extends C{n - 1} {{\n}}\n" for n in range(1, count))
+    return text + main(f"    C{count - 1} c = new C{count - 1}();\n    int x = 0;\n" + "    x = c.f;\n" * (3 * count))
+
+
+def super_calls_below_a_chain(count):
+    """Classes one below the other, and two calls for each of the method of the highest by super."""
+    text = "class C0 {\n  void m() {\n  }\n}\n" + "".join(f"class C{n} extends C{n - 1} {{\n}}\n" for n in range(1, count))
+    return text + f"class D extends C{count - 1} {{\n  void n() {{\n" + "    super.m();\n" * (2 * count) + "  }\n}\n" + main()
+
+
+def namesakes_alone(count):
+    """Classes side by side with a method of one name."""
+    return "".join(f"class C{n} {{\n  void m() {{\n  }}\n}}\n" for n in range(count)) + main()
+
+
+def overloads(count):
+    """Interfaces with a method of one name, each with a class, by turns with a parameter of two types."""
+    text = ""
+    for n in range(count):
+        kind = ("int", "char")[n % 2]
+        text += f"interface I{n} {{ void m({kind} a); }}\nclass C{n} implements I{n} {{ public void m({kind} a) {{ }} }}\n"
+    return text + main()
+
+
+def two_chains(count):
+    """Two chains of classes, each before the one that it extends, with a method of one name and a parameter of its chain's type."""
+    text = ""
+    for name, kind in (("A", "int"), ("B", "char")):
+        text += "".join(f"class {name}{n} extends {name}{n - 1} {{ void m({kind} a) {{ }} }}\n" for n in range(count - 1, 0, -1))
+        text += f"class {name}0 {{ void m({kind} a) {{ }} }}\n"
+    return text + main()
+
+
 # The shape, its sizes, and the seconds and megabytes that the greatest may take until it is checked.
 SHAPES = [
     ("classes in a chain", chain, (1000, 2000, 4000, 8000)),
@@ -169,6 +204,11 @@ SHAPES = [
     ("such levels, and a call of a method behind them", behind_diamonds, (8, 15, 30, 60)),
     ("interfaces in a chain, and a call of the method of the highest", faces_in_a_chain, (3625, 7250, 14500, 29000)),
     ("classes in a chain, and as many calls of the method of the highest", calls_below_a_chain, (3000, 6000, 12000, 24000)),
+    ("classes in a chain, and three times as many reads of a field of the highest", reads_below_a_chain, (1750, 3500, 7000, 14000)),
+    ("classes in a chain, and twice as many calls by super of the method of the highest", super_calls_below_a_chain, (2000, 4000, 8000, 16000)),
+    ("methods of one name in as many classes", namesakes_alone, (3750, 7500, 15000, 30000)),
+    ("interfaces with a method of one name and one of two parameters, and as many classes", overloads, (1250, 2500, 5000, 10000)),
+    ("two chains with methods of one name and a parameter each, each class before the one above", two_chains, (1250, 2500, 5000, 10000)),
     ("methods of one name, and as many calls through an interface", namesakes, (2500, 5000, 10000, 20000)),
     ("fields and as many methods in one class", members, (625, 1250, 2500, 5000)),
     ("parameters of one method", parameters, (375, 750, 1500, 3000)),
