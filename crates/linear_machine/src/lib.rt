@@ -16,6 +16,8 @@ mod calls;
 mod effects;
 mod gives;
 mod jumps;
+mod moves;
+mod quick;
 mod runs;
 mod string_calls;
 

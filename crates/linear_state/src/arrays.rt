@@ -1,15 +1,15 @@
 //! New cells, and writes into arrays.
 
-ghost use Rattle.std.specs.Prelude.{◌≡◌, ◌^◌, ◌<◌, ℕ, ℤ, slice_get, Some, IfOk};
+ghost use Rattle.std.specs.Prelude.{◌≡◌, ◌^◌, ◌<◌, ℕ, ℤ, slice_get, Some, IfOk, IsTrue, IsFalse};
 ghost use Rattle.std.specs.Option.{option_map, option_and_then};
 ghost use Rattle.java_core.specs.Types.{element_in};
 ghost use Rattle.java_core.specs.declared.Ty.{Ty};
 ghost use Rattle.java_core.specs.declared.Fault.TheVariants as fault;
 ghost use Rattle.java_core.specs.Trees.{no_place};
-ghost use Rattle.java_core.specs.Programs.{program_of};
+ghost use Rattle.java_core.specs.Programs.{Plain, program_of};
 ghost use Rattle.java_heap.specs.Seen.{value_of};
 ghost use Rattle.java_meaning.specs.Moment as moment;
-ghost use Rattle.java_meaning.specs.Moment.{State, Outcome, Cell, an_array, step, with_some, or_fault, on_bool, stop, Faulted};
+ghost use Rattle.java_meaning.specs.Moment.{State, Outcome, Cell, Object, an_array, step, with_some, or_fault, on_bool, stop, Faulted};
 ghost use Rattle.java_meaning.specs.Values.{convert, defaults, natural_of, number_of};
 ghost use Rattle.java_meaning.specs.Meaning.{make_cell, make_object, make_array, on_fitting, place_in, set_value, write_element};
 ghost use Rattle.java_meaning.specs.Languages.{language_of};
@@ -212,5 +212,33 @@ fn fits<'a>(
     match value {
         Value::Ref(stored) => is_of(classes, heap, stored, element),
         _ => Ok(Some(true)),
+    }
+}
+
+/// A value that fits anywhere, as a number and a `boolean` do, is put into a place of an array, if it is there: whether it is.
+#[inline(always)]
+pub fn write_there(heap: &mut Heap, at: u32, index: i32, value: Value) -> bool
+    requires fits { (P : Plain) (t : Ty) (s : State) (go : State → Outcome) → on_fitting (language_of P) (value_of value) t s go ≡ go s }
+    requires held { (t : Ty) → convert t (value_of value) ≡ value_of value }
+    ensures done { IsTrue result → (P : Plain) (s : State) (k : State → Outcome)
+        → write_element (language_of P) (Object at) index (value_of value) (at_heap heap.old s) k ≡ k (at_heap heap.new s) }
+    ensures same { IsFalse result → heap.new ≡ heap.old }
+{
+    match heap.find(at) {
+        Some(CellKind::Array(ty)) => match element_in(ty) {
+            None => false,
+            Some(_) => match natural(index) {
+                None => false,
+                Some(place) => match heap.value(at, place) {
+                    None => false,
+                    Some(_) => {
+                        heap.set(at, place, value);
+                        true
+                    }
+                },
+            },
+        },
+        Some(CellKind::Object(_)) => false,
+        None => false,
     }
 }

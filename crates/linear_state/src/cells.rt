@@ -1,13 +1,13 @@
 //! The values of objects and arrays.
 
-ghost use Rattle.std.specs.Prelude.{◌≡◌, length, slice_get};
+ghost use Rattle.std.specs.Prelude.{◌≡◌, length, slice_get, IsTrue, IsFalse};
 ghost use Rattle.std.specs.Option.{option_and_then};
 ghost use Rattle.java_core.specs.declared.Fault.TheVariants as fault;
 ghost use Rattle.java_heap.specs.Seen.{value_of};
-ghost use Rattle.java_meaning.specs.Moment.{Number, with_some, or_fault, stop, Faulted};
+ghost use Rattle.java_meaning.specs.Moment.{Number, State, Outcome, with_some, or_fault, stop, Faulted};
 ghost use Rattle.java_meaning.specs.Values.{int_of, natural_of, number_of};
 ghost use Rattle.java_meaning.specs.Meaning.{with_cell, set_value};
-ghost use Rattle.linear_state.specs.Founds.{Finds, Keeps};
+ghost use Rattle.linear_state.specs.Founds.{at_heap, Finds, Keeps};
 
 use crate::counts::{int_of, natural};
 use crate::machine::{Found, Kept};
@@ -113,6 +113,23 @@ pub fn put(heap: &mut Heap, at: u32, place: u32, value: Value) -> Kept
         Some(_) => {
             heap.set(at, place, value);
             Kept::Done
+        }
+    }
+}
+
+/// A value is put into a cell, if the place is there: whether it is.
+#[inline(always)]
+pub fn save_there(heap: &mut Heap, at: u32, place: u32, value: Value) -> bool
+    ensures done { IsTrue result → (s : State) (k : State → Outcome) → with_some (slice_get heap.old.cells at) (at_heap heap.old s)
+        (λ d. with_some (slice_get d.values place) (at_heap heap.old s) (λ old. k (set_value at d place (value_of value) (at_heap heap.old s))))
+        ≡ k (at_heap heap.new s) }
+    ensures same { IsFalse result → heap.new ≡ heap.old }
+{
+    match heap.value(at, place) {
+        None => false,
+        Some(_) => {
+            heap.set(at, place, value);
+            true
         }
     }
 }

@@ -23,9 +23,9 @@ mod stack;
 mod starts;
 mod texts;
 
-pub use arrays::{make, new_array, write_element};
+pub use arrays::{make, new_array, write_element, write_there};
 pub use casts::{cast_value, has_class};
-pub use cells::{element, length_of, loaded, saved};
+pub use cells::{element, length_of, loaded, save_there, saved};
 pub use counts::int_of;
 pub use machine::{
     Back, Ending, Found, Kept, Machine, Made, Turn, Verdict, answer, as_int, go_back, keep,
