@@ -5,7 +5,6 @@ mod callees;
 mod classes;
 mod expressions;
 mod nearest;
-mod order;
 mod programs;
 mod slots;
 mod statements;

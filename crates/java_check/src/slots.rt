@@ -10,7 +10,6 @@ ghost use Rattle.java_check.specs.SlotOutcome.{batch_place, method_batch, AreLis
 
 use crate::classes::is_interface;
 use crate::expressions::is_concrete;
-use crate::order::order_of;
 use crate::tables::{Asked, above_table, nearest_table, word_at};
 use java_core::{Method, Program, listed_under, note_under};
 use kaba_base::ClassId;
@@ -80,7 +79,7 @@ fn has_bare(p: &Program, list: &[usize]) -> bool
 fn found_for(
     alloc: Global,
     p: &Program,
-    order: &[usize],
+    order: &[u32],
     list: &[usize],
     batch: usize,
 ) -> Result<Found, AllocError>
@@ -150,7 +149,7 @@ fn clear_until(p: &Program, found: &Found, until: usize) -> usize
 fn fine_for(
     alloc: Global,
     p: &Program,
-    order: &[usize],
+    order: &[u32],
     list: &[usize],
     batch: usize,
     until: usize,
@@ -172,7 +171,7 @@ fn fine_for(
 fn fine_for_all(
     alloc: Global,
     p: &Program,
-    order: &[usize],
+    order: &[u32],
     lists: &Vec<Vec<usize>>,
 ) -> Result<usize, AllocError>
     requires formed { IsFormed (program_of no_place p.now) }
@@ -192,8 +191,7 @@ pub(crate) fn fine_classes(alloc: Global, p: &Program) -> Result<usize, AllocErr
     requires { IsFormed (program_of no_place p.now) }
     ensures { IfOk result (λ n. (c : ℕ) → c < n → class_rule (program_of no_place p.now) c (program_of no_place p.now).methods ≡ None) }
 {
-    let order = order_of(alloc, p)?;
     let lists = methods_of_batches(alloc, p.slots.len(), &p.methods)?;
-    let fine = fine_for_all(alloc, p, &order, &lists)?;
+    let fine = fine_for_all(alloc, p, p.supertypes_first(), &lists)?;
     Ok(fine)
 }

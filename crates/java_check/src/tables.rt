@@ -148,14 +148,6 @@ fn parent_word(p: &Program, table: &[u64], none: u64, class: ClassId) -> u64
     }
 }
 
-/// The class or interface of a number; one that is not there, where the number is too large.
-pub(crate) fn id_of(at: usize) -> ClassId {
-    match u32::try_from(at) {
-        Ok(at) => ClassId(at),
-        Err(_) => ClassId(u32::MAX),
-    }
-}
-
 /// Sets the word of a class.
 fn put(table: &mut [u64], class: usize, word: u64)
     ensures { length table.new ≡ length table.old }
@@ -168,7 +160,7 @@ fn put(table: &mut [u64], class: usize, word: u64)
 /// Fills in the bits for what is nearest and not what is asked, in an order.
 fn fill_nearest(
     p: &Program,
-    order: &[usize],
+    order: &[u32],
     table: &mut [u64],
     having: &[u64],
     lacking: &[u64],
@@ -177,11 +169,11 @@ fn fill_nearest(
     ensures { length table.new ≡ length table.old }
 {
     for at in order {
-        let class = id_of(*at);
+        let class = ClassId(*at);
         let above = parent_word(p, table, none, class);
         put(
             table,
-            *at,
+            *at as usize,
             own_at(lacking, class) | (above & !own_at(having, class)),
         );
     }
@@ -191,7 +183,7 @@ fn fill_nearest(
 fn filled_nearest(
     alloc: Global,
     p: &Program,
-    order: &[usize],
+    order: &[u32],
     having: &[u64],
     lacking: &[u64],
     none: u64,
@@ -247,7 +239,7 @@ fn base_word(none: bool) -> u64
 pub(crate) fn nearest_table(
     alloc: Global,
     p: &Program,
-    order: &[usize],
+    order: &[u32],
     list: &[usize],
     batch: usize,
     asked: Asked,
@@ -278,14 +270,14 @@ fn with_faces(table: &[u64], faces: &[ClassId], word: u64) -> u64 {
 }
 
 /// Fills in the bits for what stands at or above each class, in an order.
-fn fill_above(p: &Program, order: &[usize], table: &mut [u64], own: &[u64])
+fn fill_above(p: &Program, order: &[u32], table: &mut [u64], own: &[u64])
     ensures { length table.new ≡ length table.old }
 {
     for at in order {
-        let class = id_of(*at);
+        let class = ClassId(*at);
         let word = own_at(own, class) | parent_word(p, table, 0, class);
         let word = with_faces(table, faces_of(p, class), word);
-        put(table, *at, word);
+        put(table, *at as usize, word);
     }
 }
 
@@ -293,7 +285,7 @@ fn fill_above(p: &Program, order: &[usize], table: &mut [u64], own: &[u64])
 fn filled_above(
     alloc: Global,
     p: &Program,
-    order: &[usize],
+    order: &[u32],
     own: &[u64],
 ) -> Result<Vec<u64>, AllocError>
     ensures { IfOk result (λ t. length t.items ≡ length p.now.classes.items) }
@@ -343,7 +335,7 @@ fn is_above(p: &Program, table: &[u64], own: &[u64]) -> bool
 pub(crate) fn above_table(
     alloc: Global,
     p: &Program,
-    order: &[usize],
+    order: &[u32],
     list: &[usize],
     batch: usize,
     asked: Asked,

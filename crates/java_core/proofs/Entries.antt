@@ -15,7 +15,7 @@ use Rattle.java_core.proofs.Subclasses.{supers-within}
 use Rattle.java_core.specs.Subtypes.{of_classes, class_id, subtype_rows}
 use Rattle.java_core.specs.Squares.{square, is_below}
 use Rattle.java_core.specs.Owned.{listed}
-use Rattle.java_core.specs.Subtypes.{supers_in, IsDirect, Entered, AreDirect, IsUnder, itself, under, AreInside, AreExact}
+use Rattle.java_core.specs.Subtypes.{supers_in, IsDirect, Entered, AreDirect, IsUnder, itself, under, AreInside, AllExact}
 use Rattle.java_core.proofs.SquareLemmas.{square-same}
 use Rattle.java_core.proofs.Reached.{reaches-is}
 
@@ -78,18 +78,18 @@ module _ (all : List PlainClass) (lists : List (Vec ℕ Global)) (d : AreDirect 
 
 -- the rows say what is above what
 pub above-exact : (all : List PlainClass) (lists : List (Vec ℕ Global)) (rows : List (List Bool)) → AreDirect all (length all) lists
-    → AreExact lists (length all) 0 rows → square (length rows) (is_below rows) ≡ subtype_rows all
+    → AllExact lists (length all) rows → square (length rows) (is_below rows) ≡ subtype_rows all
 above-exact all lists rows d e = ap (λ n. square n (is_below rows)) e.len
     ∙ square-same (length all) (is_below rows) (reaches (of_classes all) (length all)) (λ a b la lb. same a b lb)
   where
     same : (a b : ℕ) → b < length all → is_below rows a b ≡ reaches (of_classes all) (length all) a b
     same a b lb =
-        let exact = e.each b (omega arith) lb in
+        let exact = e.each b lb in
         reaches-is (of_classes all) a b (is_below rows a b) lb (λ h. under-subclass all lists d (exact.sound a h))
         (λ h. exact.whole a (subclass-under all lists d lb h))
 
 pub above-given : (all : List PlainClass) (n : ℕ) (lists : List (Vec ℕ Global)) (rows left : List (List Bool)) → length all ≡ n → AreDirect all n lists
-    → AreExact lists n 0 rows → left ≡ rows → square (length left) (is_below left) ≡ subtype_rows all
+    → AllExact lists n rows → left ≡ rows → square (length left) (is_below left) ≡ subtype_rows all
 above-given all n lists rows left e d x k =
     ap (λ l. square (length l) (is_below l)) k
-    ∙ above-exact all lists rows (subst (λ m. AreDirect all m lists) (sym e) d) (subst (λ m. AreExact lists m 0 rows) (sym e) x)
+    ∙ above-exact all lists rows (subst (λ m. AreDirect all m lists) (sym e) d) (subst (λ m. AllExact lists m rows) (sym e) x)

@@ -39,7 +39,8 @@ module _ {A : Type 0} (owner : A → ℕ) (p : A → Bool) (c : ℕ) where
   owned-position items = among [] items 0 refl ∙ sym (position_from-zero (λ x. (owner x == c) && p x) items)
 
   -- where only members of the class pass, it is the first of all
-  pub own-position : ((x : A) → p x ≡ true → (owner x == c) ≡ true) → (items : List A) → first_among p items (owned_from 0 c (map owner items)) ≡ position p items
+  pub own-position : ((x : A) → p x ≡ true → (owner x == c) ≡ true) → (items : List A) → first_among p items (owned_from 0 c (map owner items))
+      ≡ position p items
   own-position own items = owned-position items ∙ position-same (λ x. (owner x == c) && p x) p (λ x. one (owner x == c) (p x) (own x)) items
     where
       one : (b d : Bool) → (d ≡ true → b ≡ true) → (b && d) ≡ d

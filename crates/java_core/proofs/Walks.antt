@@ -2,7 +2,7 @@
 use Rattle.std.proofs.Common.{◌≡◌, ℕ, ◌+◌, ◌<◌, ◌≤◌, ◌⊎◌, inl, inr, ⊎_elim, Bool, true, false, ◌||◌, List, [], ◌∷◌, ◌++◌, length, take, get_or, set, Contains, refl, sym, ap, ◌∙◌, subst, arith}
 use Rattle.std.specs.declared.vec.Vec.{Vec}
 use Rattle.std.specs.declared.alloc.Global.{Global}
-use Rattle.std.proofs.lemmas.Bool.{false≢true, eqb-true, eq-eqb, or_cases, or_left, or_right, cases_eq}
+use Rattle.std.proofs.lemmas.Bool.{false≢true, eqb-true, eq-eqb, or_cases, or_left, or_right, cases_eq, cases_lt}
 use Rattle.std.proofs.lemmas.List.{get_or-set_same, get_or-set_other, length-append, length-set}
 use Rattle.std.proofs.Math.Seq.{take-suc}
 use Rattle.std.proofs.Math.Numerals.{add-one}
@@ -10,7 +10,7 @@ use Rattle.std.proofs.lemmas.List.Elements.{Contains-append_left, Contains-appen
 use Rattle.kaba_bits.specs.Sets.{bit, row, size}
 use Rattle.kaba_bits.proofs.SetLemmas.{bit-below}
 use Rattle.java_core.specs.Squares.{in_row, is_below, AreRows}
-use Rattle.java_core.specs.Subtypes.{IsUnder, itself, under, AreInside, IsOwnRow, IsExact, AreExact, IsHeld, Gained, Walked}
+use Rattle.java_core.specs.Subtypes.{IsUnder, itself, under, AreInside, IsOwnRow, IsExact, AreExact, AllExact, Filled, FilledTo, IsHeld, Gained, Walked}
 use Rattle.java_core.specs.Owned.{listed}
 
 pub no-member : {X : Type 0} {P : Type 0} (x : X) → Contains ([]) x → P
@@ -32,9 +32,9 @@ set-kept : (r : List Bool) (x y : ℕ) → x < length r → bit r y ≡ true →
 set-kept r x y lt h = ⊎_elim (λ e. subst (λ z. bit (set r x true) z ≡ true) (sym e) (get_or-set_same r x true false lt))
     (λ ne. get_or-set_other r x y true false ne ∙ h) (cases_eq y x)
 
-pub gained-wait : (rows : List (List Bool)) (b x : ℕ) (r : List Bool) (w : List ℕ) → x < length r → size (set r x true) ≡ size r + 1
-    → Gained rows b (x ∷ []) r (set r x true) w (w ++ x ∷ [])
-gained-wait rows b x r w lt more = record {
+pub gained-wait : (rows : List (List Bool)) (known : List Bool) (x : ℕ) (r : List Bool) (w : List ℕ) → x < length r → size (set r x true) ≡ size r + 1
+    → Gained rows known (x ∷ []) r (set r x true) w (w ++ x ∷ [])
+gained-wait rows known x r w lt more = record {
   len = length-set r x true;
   kept = λ y h. set-kept r x y lt h;
   news = λ y h. ⊎_elim (λ k. inl k) (λ e. inr (x, one-is x, inl e)) (set-bits r x y lt h);
@@ -45,16 +45,17 @@ gained-wait rows b x r w lt more = record {
   work = let l = length-append w (x ∷ []) in omega (arith, l, more);
 }
 
-pub gained-held : (rows : List (List Bool)) (b x : ℕ) (old new : List Bool) (w : List ℕ) → b < x → x < length old → AreRows (length old) rows
+pub gained-held : (rows : List (List Bool)) (known : List Bool) (x : ℕ) (old new : List Bool) (w : List ℕ) → bit known x ≡ true → x < length old
+    → AreRows (length old) rows
     → length new ≡ length old → ((y : ℕ) → y < length old → bit new y ≡ (bit old y || in_row (row rows x) y x)) → size old ≤ size new
-    → Gained rows b (x ∷ []) old new w w
-gained-held rows b x old new w later inside formed len join work = record {
+    → Gained rows known (x ∷ []) old new w w
+gained-held rows known x old new w is_known inside formed len join work = record {
   len = len;
   kept = λ y h. join y (bit-below old y h) ∙ or_left (bit old y) (in_row (row rows x) y x) h;
-  news = λ y h. ⊎_elim (λ k. inl k) (λ k. inr (x, one-is x, inr (later, k))) (parts y h);
+  news = λ y h. ⊎_elim (λ k. inl k) (λ k. inr (x, one-is x, inr (is_known, k))) (parts y h);
   settled = λ y h. ⊎_elim (λ k. inl k) (λ k. inr (inr (record {
     by = x;
-    later = later;
+    known_by = is_known;
     inside = subst (λ n. x < n) (sym len) inside;
     below = k;
     all = λ z lt q. join z (subst (λ n. z < n) len lt) ∙ or_right (bit old z) (in_row (row rows x) z x) q;
@@ -68,19 +69,19 @@ gained-held rows b x old new w later inside formed len join work = record {
     parts : (y : ℕ) → bit new y ≡ true → (bit old y ≡ true) ⊎ (in_row (row rows x) y x ≡ true)
     parts y h = or_cases (bit old y) (in_row (row rows x) y x) (sym (join y (let k = bit-below new y h in omega (arith, k, len))) ∙ h)
 
-held-kept : (rows : List (List Bool)) (b : ℕ) (r s : List Bool) (y : ℕ) → length s ≡ length r → ((z : ℕ) → bit r z ≡ true → bit s z ≡ true)
-    → IsHeld rows b r y → IsHeld rows b s y
-held-kept rows b r s y len kept h = record {
+held-kept : (rows : List (List Bool)) (known r s : List Bool) (y : ℕ) → length s ≡ length r → ((z : ℕ) → bit r z ≡ true → bit s z ≡ true)
+    → IsHeld rows known r y → IsHeld rows known s y
+held-kept rows known r s y len kept h = record {
   by = h.by;
-  later = h.later;
+  known_by = h.known_by;
   inside = subst (λ n. h.by < n) (sym len) h.inside;
   below = h.below;
   all = λ z lt q. kept z (h.all z (subst (λ n. z < n) len lt) q);
 }
 
-pub gained-then : (rows : List (List Bool)) (b : ℕ) (first second : List ℕ) (r0 r1 r2 : List Bool) (w0 w1 w2 : List ℕ)
-    → Gained rows b first r0 r1 w0 w1 → Gained rows b second r1 r2 w1 w2 → Gained rows b (first ++ second) r0 r2 w0 w2
-gained-then rows b first second r0 r1 r2 w0 w1 w2 g h = record {
+pub gained-then : (rows : List (List Bool)) (known : List Bool) (first second : List ℕ) (r0 r1 r2 : List Bool) (w0 w1 w2 : List ℕ)
+    → Gained rows known first r0 r1 w0 w1 → Gained rows known second r1 r2 w1 w2 → Gained rows known (first ++ second) r0 r2 w0 w2
+gained-then rows known first second r0 r1 r2 w0 w1 w2 g h = record {
   len = h.len ∙ g.len;
   kept = λ y k. h.kept y (g.kept y k);
   news = λ y k. ⊎_elim
@@ -88,7 +89,7 @@ gained-then rows b first second r0 r1 r2 w0 w1 w2 g h = record {
       (λ c. inr (c.0, Contains-append_right first second c.0 c.1, c.2))
       (h.news y k);
   settled = λ y k. ⊎_elim
-      (λ a. ⊎_elim (λ c. inl c) (λ c. inr (⊎_elim (λ d. inl (h.waits y d)) (λ d. inr (held-kept rows b r1 r2 y h.len h.kept d)) c)) (g.settled y a))
+      (λ a. ⊎_elim (λ c. inl c) (λ c. inr (⊎_elim (λ d. inl (h.waits y d)) (λ d. inr (held-kept rows known r1 r2 y h.len h.kept d)) c)) (g.settled y a))
       (λ c. inr c)
       (h.settled y k);
   told = λ x c. ⊎_elim (λ d. h.kept x (g.told x d)) (λ d. h.told x d) (Contains-append_cases first second x c);
@@ -100,10 +101,10 @@ gained-then rows b first second r0 r1 r2 w0 w1 w2 g h = record {
   work = let p = g.work in let q = h.work in omega (arith, p, q);
 }
 
-pub gained-more : (rows : List (List Bool)) (b : ℕ) (xs : List ℕ) (i : ℕ) (r0 r1 r2 : List Bool) (w0 w1 w2 : List ℕ) → i < length xs
-    → Gained rows b (take i xs) r0 r1 w0 w1 → Gained rows b (get_or xs i 0 ∷ []) r1 r2 w1 w2 → Gained rows b (take (i + 1) xs) r0 r2 w0 w2
-gained-more rows b xs i r0 r1 r2 w0 w1 w2 lt g h = subst (λ l. Gained rows b l r0 r2 w0 w2) (sym (ap (λ k. take k xs) (add-one i) ∙ take-suc xs i 0 lt))
-    (gained-then rows b (take i xs) (get_or xs i 0 ∷ []) r0 r1 r2 w0 w1 w2 g h)
+pub gained-more : (rows : List (List Bool)) (known : List Bool) (xs : List ℕ) (i : ℕ) (r0 r1 r2 : List Bool) (w0 w1 w2 : List ℕ) → i < length xs
+    → Gained rows known (take i xs) r0 r1 w0 w1 → Gained rows known (get_or xs i 0 ∷ []) r1 r2 w1 w2 → Gained rows known (take (i + 1) xs) r0 r2 w0 w2
+gained-more rows known xs i r0 r1 r2 w0 w1 w2 lt g h = subst (λ l. Gained rows known l r0 r2 w0 w2) (sym (ap (λ k. take k xs) (add-one i) ∙ take-suc xs i 0 lt))
+    (gained-then rows known (take i xs) (get_or xs i 0 ∷ []) r0 r1 r2 w0 w1 w2 g h)
 
 -- ---- the walk
 
@@ -129,9 +130,9 @@ module _ (lists : List (Vec ℕ Global)) where
     from = λ y c. subst (λ z. IsUnder lists z b) (one-member b y c) itself;
   }
 
-  module _ (n b : ℕ) (inside : AreInside n lists) (rows : List (List Bool)) (exact : AreExact lists n (b + 1) rows) where
+  module _ (n b : ℕ) (inside : AreInside n lists) (known : List Bool) (rows : List (List Bool)) (exact : AreExact lists n known rows) where
     pub walked-step : (r s : List Bool) (rest after : List ℕ) (x : ℕ) → Walked lists n b r (rest ++ x ∷ [])
-        → Gained rows b (listed lists x) r s rest after → Walked lists n b s after
+        → Gained rows known (listed lists x) r s rest after → Walked lists n b s after
     walked-step r s rest after x w g = record {
       len = g.len ∙ w.len;
       start = g.kept b w.start;
@@ -143,12 +144,9 @@ module _ (lists : List (Vec ℕ Global)) where
         here : IsUnder lists x b
         here = w.from x (Contains-push rest x)
 
-        exact-at : (z : ℕ) → b < z → z < n → IsExact lists n z (row rows z)
-        exact-at z later lt = exact.each z (omega (arith, later)) lt
-
-        found : (y z : ℕ) → Contains (listed lists x) z → (y ≡ z) ⊎ ((b < z) × (is_below rows y z ≡ true)) → IsUnder lists y b
+        found : (y z : ℕ) → Contains (listed lists x) z → (y ≡ z) ⊎ ((bit known z ≡ true) × (is_below rows y z ≡ true)) → IsUnder lists y b
         found y z c (inl e) = subst (λ v. IsUnder lists v b) (sym e) (under c here)
-        found y z c (inr k) = under-then ((exact-at z k.0 (inside.each x z c)).sound y k.1) (under c here)
+        found y z c (inr k) = under-then ((exact.each z k.0).sound y k.1) (under c here)
 
         old : (y : ℕ) → Contains (rest ++ x ∷ []) y ⊎ ((z : ℕ) → Contains (listed lists y) z → bit r z ≡ true)
             → Contains after y ⊎ ((z : ℕ) → Contains (listed lists y) z → bit s z ≡ true)
@@ -156,10 +154,9 @@ module _ (lists : List (Vec ℕ Global)) where
             (λ e. inr (λ z d. g.told z (subst (λ v. Contains (listed lists v) z) (sym e) d))) (Contains-push_cases rest x y c)
         old y (inr c) = inr (λ z d. g.kept z (c z d))
 
-        new : (y : ℕ) → IsHeld rows b s y → (z : ℕ) → Contains (listed lists y) z → bit s z ≡ true
+        new : (y : ℕ) → IsHeld rows known s y → (z : ℕ) → Contains (listed lists y) z → bit s z ≡ true
         new y held z c =
-            let lt : held.by < n = let i = held.inside in let p = g.len in let q = w.len in omega (arith, i, p, q) in
-            let e = exact-at held.by held.later lt in
+            let e = exact.each held.by held.known_by in
             let zn = inside.each y z c in
             held.all z (let p = g.len in let q = w.len in omega (arith, zn, p, q)) (e.whole z (under c (e.sound y held.below)))
 
@@ -188,28 +185,51 @@ module _ (lists : List (Vec ℕ Global)) where
       only (under {y = y} {x = x} direct rest) e =
           let same = only rest e in no-member y (subst (λ z. Contains z y) (ap (listed lists) same ∙ e) direct)
 
-  -- ---- the rows, the last first
+  -- ---- the rows, one after the other
 
-  pub exact-more : (n b : ℕ) (rows : List (List Bool)) (r : List Bool) → b < n → AreExact lists n (b + 1) rows → IsExact lists n b r
-      → AreExact lists n b (set rows b r)
-  exact-more n b rows r lt before e = record {
+  pub exact-more : (n b : ℕ) (known : List Bool) (rows : List (List Bool)) (r : List Bool) → b < n → AreExact lists n known rows → IsExact lists n b r
+      → AreExact lists n (set known b true) (set rows b r)
+  exact-more n b known rows r lt before e = record {
     len = length-set rows b r ∙ before.len;
+    wide = length-set known b true ∙ before.wide;
     formed = record {
       wide = λ k. at k (λ z. (length z ≡ 0) ⊎ (length z ≡ n)) (λ i. e.wide) (before.formed.wide k);
       own = λ k lk. at k (λ z. in_row z k k ≡ true) (λ i. subst (λ v. in_row r k v ≡ true) (sym i) (e.whole k (subst (λ v. IsUnder lists k v) i itself)))
           (before.formed.own k lk);
     };
-    each = λ k le lk. ⊎_elim
-        (λ i. subst (λ v. IsExact lists n v (row (set rows b r) v)) (sym i) (subst (IsExact lists n b) (sym here) e))
-        (λ ne. subst (IsExact lists n k) (sym (get_or-set_other rows b k r [] ne)) (before.each k (omega (arith, le, ne)) lk))
-        (cases_eq k b);
+    each = λ k h. ⊎_elim
+        (λ old. ⊎_elim (λ i. there k i) (λ ne. subst (IsExact lists n k) (sym (get_or-set_other rows b k r [] ne)) (before.each k old)) (cases_eq k b))
+        (λ i. there k i)
+        (set-bits known b k (let l = before.wide in omega (arith, l, lt)) h);
   }
     where
       here : row (set rows b r) b ≡ r
       here = get_or-set_same rows b r [] (let l = before.len in omega (arith, l, lt))
+
+      there : (k : ℕ) → k ≡ b → IsExact lists n k (row (set rows b r) k)
+      there k i = subst (λ v. IsExact lists n v (row (set rows b r) v)) (sym i) (subst (IsExact lists n b) (sym here) e)
 
       at : (k : ℕ) (P : List Bool → Type 0) → (k ≡ b → P r) → P (row rows k) → P (row (set rows b r) k)
       at k P new old = ⊎_elim
           (λ i. subst P (sym (ap (row (set rows b r)) i ∙ here)) (new i))
           (λ ne. subst P (sym (get_or-set_other rows b k r [] ne)) old)
           (cases_eq k b)
+
+  pub filled-one : (n b : ℕ) (known : List Bool) (rows : List (List Bool)) (r : List Bool) → b < n → AreExact lists n known rows → IsExact lists n b r
+      → Filled lists n b known (set known b true) (set rows b r)
+  filled-one n b known rows r lt before e = record {
+    exact = exact-more n b known rows r lt before e;
+    kept = λ k h. set-kept known b k (let l = before.wide in omega (arith, l, lt)) h;
+    told = λ _. get_or-set_same known b true false (let l = before.wide in omega (arith, l, lt));
+  }
+
+  pub filled-more : (n k : ℕ) (old new : List Bool) (before after : List (List Bool)) → k < n → FilledTo lists n k old before → Filled lists n k old new after
+      → FilledTo lists n (k + 1) new after
+  filled-more n k old new before after lt f g = record {
+    exact = g.exact;
+    first = λ b lb. ⊎_elim (λ less. g.kept b (f.first b less)) (λ e. subst (λ z. bit new z ≡ true) (sym (let q : b ≡ k = omega (arith, lb, e) in q))
+        (g.told lt)) (cases_lt b k);
+  }
+
+  pub all-filled : (n : ℕ) (known : List Bool) (rows : List (List Bool)) → FilledTo lists n n known rows → AllExact lists n rows
+  all-filled n known rows f = record { len = f.exact.len; formed = f.exact.formed; each = λ b lt. f.exact.each b (f.first b lt) }

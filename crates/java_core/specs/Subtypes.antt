@@ -76,26 +76,44 @@ pub record IsExact (lists : List (Vec ℕ Global)) (n b : ℕ) (r : List Bool) :
   pub sound : (y : ℕ) → in_row r y b ≡ true → IsUnder lists y b
   pub whole : (y : ℕ) → IsUnder lists y b → in_row r y b ≡ true
 
--- the rows of the types from one on have what is at or below each
-pub record AreExact (lists : List (Vec ℕ Global)) (n from : ℕ) (rows : List (List Bool)) : Type 0 where
+-- the rows of the types that are known have what is at or below each
+pub record AreExact (lists : List (Vec ℕ Global)) (n : ℕ) (known : List Bool) (rows : List (List Bool)) : Type 0 where
+  pub len : length rows ≡ n
+  pub wide : length known ≡ n
+  pub formed : AreRows n rows
+  pub each : (b : ℕ) → bit known b ≡ true → IsExact lists n b (row rows b)
+
+-- the rows have for each type what is at or below it
+pub record AllExact (lists : List (Vec ℕ Global)) (n : ℕ) (rows : List (List Bool)) : Type 0 where
   pub len : length rows ≡ n
   pub formed : AreRows n rows
-  pub each : (b : ℕ) → from ≤ b → b < n → IsExact lists n b (row rows b)
+  pub each : (b : ℕ) → b < n → IsExact lists n b (row rows b)
 
--- a row with all that is at or below another type after b, y among it
-pub record IsHeld (rows : List (List Bool)) (b : ℕ) (r : List Bool) (y : ℕ) : Type 0 where
+-- the type of a number is known now, if there is one
+pub record Filled (lists : List (Vec ℕ Global)) (n at : ℕ) (old new : List Bool) (rows : List (List Bool)) : Type 0 where
+  pub exact : AreExact lists n new rows
+  pub kept : (b : ℕ) → bit old b ≡ true → bit new b ≡ true
+  pub told : at < n → bit new at ≡ true
+
+-- so many first types are known
+pub record FilledTo (lists : List (Vec ℕ Global)) (n count : ℕ) (known : List Bool) (rows : List (List Bool)) : Type 0 where
+  pub exact : AreExact lists n known rows
+  pub first : (b : ℕ) → b < count → bit known b ≡ true
+
+-- a row with all that is at or below another type whose row is known, y among it
+pub record IsHeld (rows : List (List Bool)) (known r : List Bool) (y : ℕ) : Type 0 where
   pub by : ℕ
-  pub later : b < by
+  pub known_by : bit known by ≡ true
   pub inside : by < length r
   pub below : is_below rows y by ≡ true
   pub all : (z : ℕ) → z < length r → is_below rows z by ≡ true → bit r z ≡ true
 
--- the row of b has gained these types: with all below it where its row is known, else it waits
-pub record Gained (rows : List (List Bool)) (b : ℕ) (more : List ℕ) (old new : List Bool) (before after : List ℕ) : Type 0 where
+-- a row has gained these types: with all below it where its row is known, else it waits
+pub record Gained (rows : List (List Bool)) (known : List Bool) (more : List ℕ) (old new : List Bool) (before after : List ℕ) : Type 0 where
   pub len : length new ≡ length old
   pub kept : (y : ℕ) → bit old y ≡ true → bit new y ≡ true
-  pub news : (y : ℕ) → bit new y ≡ true → (bit old y ≡ true) ⊎ ((x : ℕ) × Contains more x × ((y ≡ x) ⊎ ((b < x) × (is_below rows y x ≡ true))))
-  pub settled : (y : ℕ) → bit new y ≡ true → (bit old y ≡ true) ⊎ (Contains after y ⊎ IsHeld rows b new y)
+  pub news : (y : ℕ) → bit new y ≡ true → (bit old y ≡ true) ⊎ ((x : ℕ) × Contains more x × ((y ≡ x) ⊎ ((bit known x ≡ true) × (is_below rows y x ≡ true))))
+  pub settled : (y : ℕ) → bit new y ≡ true → (bit old y ≡ true) ⊎ (Contains after y ⊎ IsHeld rows known new y)
   pub told : (x : ℕ) → Contains more x → bit new x ≡ true
   pub waits : (y : ℕ) → Contains before y → Contains after y
   pub comes : (y : ℕ) → Contains after y → Contains before y ⊎ Contains more y

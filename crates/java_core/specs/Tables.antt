@@ -1,9 +1,17 @@
--- The numbers of members by owner, by owner and name, and by owner and slot.
+-- The numbers of members by owner, by owner and name, by owner and slot, and by name.
 use Rattle.std.specs.Prelude.{ℕ, ◌+◌, ◌*◌, ◌/◌, ◌%◌, List, ◌∷◌, length, map, Option, Some, None, []}
 use Rattle.std.specs.Str.{encode_utf8_all}
 use Rattle.java_core.specs.declared.Class.{Class}
 use Rattle.java_core.specs.declared.Field.{Field}
 use Rattle.java_core.specs.declared.Method.{Method}
+use Rattle.std.specs.declared.vec.Vec.{Vec}
+use Rattle.std.specs.declared.alloc.Global.{Global}
+use Rattle.java_core.specs.declared.tables.FieldKey.TheVariants as field_key
+use Rattle.java_core.specs.declared.tables.FieldKey.{FieldKey}
+use Rattle.java_core.specs.declared.tables.MethodKey.TheVariants as method_key
+use Rattle.java_core.specs.declared.tables.MethodKey.{MethodKey}
+use Rattle.java_core.specs.declared.tables.FieldTables.{FieldTables}
+use Rattle.java_core.specs.declared.tables.MethodTables.{MethodTables}
 use Rattle.java_core.specs.declared.tables.Tables.{Tables}
 use Rattle.java_core.specs.Trees.{no_place}
 use Rattle.java_core.specs.Plain.{class_seen}
@@ -28,30 +36,40 @@ abbrev pub slot_bucket : ℕ → ℕ → Option ℕ → ℕ
 slot_bucket members class None = members / 2 + 1
 slot_bucket members class (Some slot) = mixed class slot % (members / 2 + 1)
 
-abbrev pub field_bucket : ℕ → Field → ℕ
-field_bucket members f = name_bucket members f.owner.0 f.name
+-- the place of a field in the lists, of so many fields, by what it is listed
+abbrev pub field_place : FieldKey → ℕ → Field → ℕ
+field_place field_key.Owner members f = f.owner.0
+field_place field_key.OwnerAndName members f = name_bucket members f.owner.0 f.name
+field_place field_key.Name members f = name_bucket members 0 f.name
 
-abbrev pub method_bucket : ℕ → Method → ℕ
-method_bucket members m = name_bucket members m.owner.0 m.name
+abbrev pub method_place : MethodKey → ℕ → Method → ℕ
+method_place method_key.Owner members m = m.owner.0
+method_place method_key.OwnerAndName members m = name_bucket members m.owner.0 m.name
+method_place method_key.OwnerAndSlot members m = slot_bucket members m.owner.0 m.slot
+method_place method_key.Name members m = name_bucket members 0 m.name
 
--- that of a field's name alone, and of a method's
-abbrev pub field_name_bucket : ℕ → Field → ℕ
-field_name_bucket members f = name_bucket members 0 f.name
+-- the lists have each field where it belongs by a key, and each method
+abbrev pub AreFieldsBy : FieldKey → List Field → List (Vec ℕ Global) → Type 0
+AreFieldsBy by fields lists = AreOwned (map (λ f. field_place by (length fields) f) fields) lists
 
-abbrev pub method_name_bucket : ℕ → Method → ℕ
-method_name_bucket members m = name_bucket members 0 m.name
+abbrev pub AreMethodsBy : MethodKey → List Method → List (Vec ℕ Global) → Type 0
+AreMethodsBy by methods lists = AreOwned (map (λ m. method_place by (length methods) m) methods) lists
 
-abbrev pub method_slot_bucket : ℕ → Method → ℕ
-method_slot_bucket members m = slot_bucket members m.owner.0 m.slot
+-- the tables have each field of these where it belongs
+pub record AreFieldTables (classes : List Class) (fields : List Field) (t : FieldTables) : Type 0 where
+  pub own : AreFieldsBy field_key.Owner fields t.own.items
+  pub by_name : AreFieldsBy field_key.OwnerAndName fields t.by_name.items
+  pub named : AreFieldsBy field_key.Name fields t.named.items
+  pub nearest : AreVersions (map (class_seen no_place) classes) (field_numbers fields) t.own.items t.nearest.items
 
--- the tables have each member of these lists where it belongs
-pub record AreTables (classes : List Class) (fields : List Field) (methods : List Method) (t : Tables) : Type 0 where
-  pub own_fields : AreOwned (map (λ f. f.owner.0) fields) t.own_fields.items
-  pub own_methods : AreOwned (map (λ m. m.owner.0) methods) t.own_methods.items
-  pub fields_by_name : AreOwned (map (λ f. field_bucket (length fields) f) fields) t.fields_by_name.items
-  pub methods_by_name : AreOwned (map (λ m. method_bucket (length methods) m) methods) t.methods_by_name.items
-  pub methods_by_slot : AreOwned (map (λ m. method_slot_bucket (length methods) m) methods) t.methods_by_slot.items
-  pub methods_named : AreOwned (map (λ m. method_name_bucket (length methods) m) methods) t.methods_named.items
-  pub fields_named : AreOwned (map (λ f. field_name_bucket (length fields) f) fields) t.fields_named.items
-  pub nearest_fields : AreVersions (map (class_seen no_place) classes) (field_numbers fields) t.own_fields.items t.nearest_fields.items
-  pub nearest_methods : AreVersions (map (class_seen no_place) classes) (method_numbers methods) t.own_methods.items t.nearest_methods.items
+-- the same of methods
+pub record AreMethodTables (classes : List Class) (methods : List Method) (t : MethodTables) : Type 0 where
+  pub own : AreMethodsBy method_key.Owner methods t.own.items
+  pub by_name : AreMethodsBy method_key.OwnerAndName methods t.by_name.items
+  pub by_slot : AreMethodsBy method_key.OwnerAndSlot methods t.by_slot.items
+  pub named : AreMethodsBy method_key.Name methods t.named.items
+  pub nearest : AreVersions (map (class_seen no_place) classes) (method_numbers methods) t.own.items t.nearest.items
+
+pub record AreTables (cs : List Class) (fs : List Field) (ms : List Method) (t : Tables) : Type 0 where
+  pub fields : AreFieldTables cs fs t.fields
+  pub methods : AreMethodTables cs ms t.methods

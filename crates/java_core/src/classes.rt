@@ -319,8 +319,8 @@ fn nearest_field(p: &Program, class: ClassId, name: &Name) -> Option<MemberId>
     if own.is_some() {
         return own;
     }
-    match version_above(p, &p.tables.nearest_fields, class) {
-        Some(map) => numbered(map, field_number(&p.fields, &p.tables.fields_named, name)),
+    match version_above(p, &p.tables.fields.nearest, class) {
+        Some(map) => numbered(map, field_number(&p.fields, &p.tables.fields.named, name)),
         None => nearest_named(p, class, name, Named::Field, class_count(p)),
     }
 }
@@ -334,10 +334,10 @@ fn nearest_method(p: &Program, class: ClassId, name: &Name) -> Option<MemberId>
     if own.is_some() {
         return own;
     }
-    match version_above(p, &p.tables.nearest_methods, class) {
+    match version_above(p, &p.tables.methods.nearest, class) {
         Some(map) => numbered(
             map,
-            method_number(&p.methods, &p.tables.methods_named, name),
+            method_number(&p.methods, &p.tables.methods.named, name),
         ),
         None => nearest_named(p, class, name, Named::Method, class_count(p)),
     }

@@ -12,6 +12,7 @@ mod classes;
 mod direct;
 mod made;
 mod nearest;
+mod order;
 mod own;
 mod owned;
 mod statics;

@@ -32,6 +32,7 @@ impl Program {
             classes.as_slice(),
             fields.as_slice(),
             methods.as_slice(),
+            above.supertypes_first(),
         ) {
             Ok(tables) => Ok(Program {
                 classes,
@@ -51,5 +52,11 @@ impl Program {
                 Err(error)
             }
         }
+    }
+
+    /// The types in an order in which each comes behind those that it names as its supertypes, where there is no cycle. Nothing is
+    /// promised of it: what is filled in by it is tested.
+    pub fn supertypes_first(&self) -> &[u32] {
+        self.above.supertypes_first()
     }
 }

@@ -8,11 +8,13 @@ ghost use Rattle.java_core.specs.Trees.{no_place};
 ghost use Rattle.java_core.specs.Plain.{class_seen};
 ghost use Rattle.java_core.specs.Classes.{parent_of, first_or, is_slot};
 ghost use Rattle.java_core.specs.Subtypes.{of_classes};
-ghost use Rattle.java_core.specs.Owned.{AreOwned, passes, first_among};
-ghost use Rattle.java_core.specs.Tables.{field_name_bucket, method_name_bucket};
+ghost use Rattle.java_core.specs.Owned.{passes, first_among};
+ghost use Rattle.java_core.specs.declared.tables.FieldKey.TheVariants as field_key;
+ghost use Rattle.java_core.specs.declared.tables.MethodKey.TheVariants as method_key;
+ghost use Rattle.java_core.specs.Tables.{AreFieldsBy, AreMethodsBy};
 ghost use Rattle.java_core.specs.Nearest.{is_named_field, is_named_method, field_number, method_number, number_of_method, field_numbers, method_numbers, numbered_among, AreVersions, IsVersion, IsVersionAbove};
 
-use crate::owned::{listed_under, note_under};
+use crate::owned::listed_under;
 use crate::tables::name_bucket;
 use crate::{Class, Field, Method};
 use kaba_base::{ClassId, Name};
@@ -70,7 +72,7 @@ fn field_among(fields: &[Field], list: &[usize], name: &Name) -> Option<usize>
 
 /// The number of a name: that of the first field that has it. The lists are those of the names.
 pub fn field_number(fields: &[Field], lists: &Vec<Vec<usize>>, name: &Name) -> Option<usize>
-    requires { AreOwned (map (λ f. field_name_bucket (length fields.now) f) fields.now) lists.now.items }
+    requires { AreFieldsBy field_key.Name fields.now lists.now.items }
     ensures { result ≡ field_number fields.now name.now }
 {
     let list = listed_under(lists, name_bucket(fields.len(), ClassId(0), name));
@@ -91,7 +93,7 @@ fn method_among(methods: &[Method], list: &[usize], name: &Name) -> Option<usize
 
 /// The number of a name: that of the first instance method that has it. The lists are those of the names.
 pub fn method_number(methods: &[Method], lists: &Vec<Vec<usize>>, name: &Name) -> Option<usize>
-    requires { AreOwned (map (λ m. method_name_bucket (length methods.now) m) methods.now) lists.now.items }
+    requires { AreMethodsBy method_key.Name methods.now lists.now.items }
     ensures { result ≡ method_number methods.now name.now }
 {
     let list = listed_under(lists, name_bucket(methods.len(), ClassId(0), name));
@@ -112,7 +114,7 @@ fn narrow(at: Option<usize>) -> Option<u32>
 /// The number of a method's name, where it is an instance method.
 fn number_of_method(methods: &[Method], lists: &Vec<Vec<usize>>, method: &Method) -> Option<u32>
     requires few { length methods.now < 4294967295 }
-    requires named { AreOwned (map (λ m. method_name_bucket (length methods.now) m) methods.now) lists.now.items }
+    requires named { AreMethodsBy method_key.Name methods.now lists.now.items }
     ensures { result ≡ number_of_method methods.now method.now }
 {
     if method.is_static {
@@ -128,7 +130,7 @@ fn field_numbers(
     lists: &Vec<Vec<usize>>,
 ) -> Result<Vec<Option<u32>>, AllocError>
     requires few { length fields.now < 4294967295 }
-    requires named { AreOwned (map (λ f. field_name_bucket (length fields.now) f) fields.now) lists.now.items }
+    requires named { AreFieldsBy field_key.Name fields.now lists.now.items }
     ensures { IfOk result (λ v. v.items ≡ field_numbers fields.now) }
 {
     let mut numbers = Vec::new(alloc);
@@ -145,7 +147,7 @@ fn method_numbers(
     lists: &Vec<Vec<usize>>,
 ) -> Result<Vec<Option<u32>>, AllocError>
     requires few { length methods.now < 4294967295 }
-    requires named { AreOwned (map (λ m. method_name_bucket (length methods.now) m) methods.now) lists.now.items }
+    requires named { AreMethodsBy method_key.Name methods.now lists.now.items }
     ensures { IfOk result (λ v. v.items ≡ method_numbers methods.now) }
 {
     let mut numbers = Vec::new(alloc);
@@ -276,43 +278,27 @@ fn none_yet(alloc: Global, count: usize) -> Result<Vec<Option<VersionMap>>, Allo
     Ok(all)
 }
 
-/// Under each class those that extend it; `AllocError` where memory is short. What is made by these is tested.
-fn subclasses(alloc: Global, classes: &[Class]) -> Result<Vec<Vec<usize>>, AllocError> {
-    let mut lists = Vec::new(alloc);
-    for at in 0..classes.len() {
-        if let Some(parent) = classes[at].parent {
-            note_under(alloc, &mut lists, parent.0 as usize, at)?;
-        }
+/// Marks the one of a number, if there is one.
+fn mark(marks: &mut [bool], at: usize) {
+    if at < marks.len() {
+        marks[at] = true;
     }
-    Ok(lists)
 }
 
-/// These classes come next, where something extends them.
-fn put_behind(
-    lists: &Vec<Vec<usize>>,
-    order: &mut Vec<usize>,
-    list: &[usize],
-) -> Result<(), AllocError> {
-    for at in list {
-        if !listed_under(lists, *at).is_empty() {
-            order.push(*at)?;
-        }
-    }
-    Ok(())
+/// Whether the one of a number is there and marked.
+fn is_marked(marks: &[bool], at: usize) -> bool {
+    at < marks.len() && marks[at]
 }
 
-/// The classes that others extend, each behind its superclass; `AllocError` where memory is short. `Object` is the first.
-fn order_of(alloc: Global, classes: &[Class]) -> Result<Vec<usize>, AllocError> {
-    let lists = subclasses(alloc, classes)?;
-    let mut order = Vec::new(alloc);
-    order.push(0)?;
-    for at in 0..classes.len() {
-        if at < order.len() {
-            let class = order[at];
-            put_behind(&lists, &mut order, listed_under(&lists, class))?;
+/// Which classes others extend; `AllocError` where memory is short. What is made by it is tested.
+fn extended(alloc: Global, classes: &[Class]) -> Result<Vec<bool>, AllocError> {
+    let mut marks = vec![in alloc; false; classes.len()]?;
+    for class in classes {
+        if let Some(parent) = class.parent {
+            mark(&mut marks, parent.0 as usize);
         }
     }
-    Ok(order)
+    Ok(marks)
 }
 
 /// For each class that others extend the members at or above it by the numbers of their names; `AllocError` where memory is short.
@@ -321,13 +307,24 @@ fn versions(
     classes: &[Class],
     own: &Vec<Vec<usize>>,
     numbers: &[Option<u32>],
+    order: &[u32],
 ) -> Result<Vec<Option<VersionMap>>, AllocError>
     requires { length numbers.now < 4294967295 }
     ensures { IfOk result (λ v. AreVersions (map (class_seen no_place) classes.now) numbers.now own.now.items v.items) }
 {
+    let extended = extended(alloc, classes)?;
     let mut all = none_yet(alloc, classes.len())?;
-    for at in order_of(alloc, classes)?.as_slice() {
-        enter(alloc, classes, own, numbers, all.as_mut_slice(), *at)?;
+    for at in order {
+        if is_marked(&extended, *at as usize) {
+            enter(
+                alloc,
+                classes,
+                own,
+                numbers,
+                all.as_mut_slice(),
+                *at as usize,
+            )?;
+        }
     }
     Ok(all)
 }
@@ -339,15 +336,16 @@ pub fn nearest_fields(
     fields: &[Field],
     own: &Vec<Vec<usize>>,
     lists: &Vec<Vec<usize>>,
+    order: &[u32],
 ) -> Result<Vec<Option<VersionMap>>, AllocError>
-    requires { AreOwned (map (λ f. field_name_bucket (length fields.now) f) fields.now) lists.now.items }
+    requires { AreFieldsBy field_key.Name fields.now lists.now.items }
     ensures { IfOk result (λ v. AreVersions (map (class_seen no_place) classes.now) (field_numbers fields.now) own.now.items v.items) }
 {
     if fields.len() >= MANY {
         return none_yet(alloc, 0);
     }
     let numbers = field_numbers(alloc, fields, lists)?;
-    versions(alloc, classes, own, numbers.as_slice())
+    versions(alloc, classes, own, numbers.as_slice(), order)
 }
 
 /// For each class that others extend the instance methods at or above it by the numbers of their names; `AllocError` where memory is short.
@@ -357,13 +355,14 @@ pub fn nearest_methods(
     methods: &[Method],
     own: &Vec<Vec<usize>>,
     lists: &Vec<Vec<usize>>,
+    order: &[u32],
 ) -> Result<Vec<Option<VersionMap>>, AllocError>
-    requires { AreOwned (map (λ m. method_name_bucket (length methods.now) m) methods.now) lists.now.items }
+    requires { AreMethodsBy method_key.Name methods.now lists.now.items }
     ensures { IfOk result (λ v. AreVersions (map (class_seen no_place) classes.now) (method_numbers methods.now) own.now.items v.items) }
 {
     if methods.len() >= MANY {
         return none_yet(alloc, 0);
     }
     let numbers = method_numbers(alloc, methods, lists)?;
-    versions(alloc, classes, own, numbers.as_slice())
+    versions(alloc, classes, own, numbers.as_slice(), order)
 }

@@ -24,12 +24,12 @@ fn fields_of<'a>(p: &'a Program, class: ClassId, name: &Name) -> &'a [usize]
     ensures { first_among (λ f. is_field_of class.0 name.now (field_seen no_place f)) p.now.fields.items result.now
         ≡ position (λ f. is_field_of class.0 name.now (field_seen no_place f)) p.now.fields.items }
 {
-    let own = listed_under(&p.tables.own_fields, class.0 as usize);
+    let own = listed_under(&p.tables.fields.own, class.0 as usize);
     if own.len() <= FEW {
         return own;
     }
     listed_under(
-        &p.tables.fields_by_name,
+        &p.tables.fields.by_name,
         name_bucket(p.fields.len(), class, name),
     )
 }
@@ -39,12 +39,12 @@ fn methods_of<'a>(p: &'a Program, class: ClassId, name: &Name) -> &'a [usize]
     ensures { first_among (λ m. is_method_of class.0 name.now (method_seen no_place m)) p.now.methods.items result.now
         ≡ position (λ m. is_method_of class.0 name.now (method_seen no_place m)) p.now.methods.items }
 {
-    let own = listed_under(&p.tables.own_methods, class.0 as usize);
+    let own = listed_under(&p.tables.methods.own, class.0 as usize);
     if own.len() <= FEW {
         return own;
     }
     listed_under(
-        &p.tables.methods_by_name,
+        &p.tables.methods.by_name,
         name_bucket(p.methods.len(), class, name),
     )
 }
@@ -56,12 +56,12 @@ fn methods_in(p: &Program, class: ClassId, slot: u32) -> &[usize]
     ensures body { first_among (λ m. has_slot class.0 slot (method_seen no_place m) && is_some (method_seen no_place m).body) p.now.methods.items result.now
         ≡ position (λ m. has_slot class.0 slot (method_seen no_place m) && is_some (method_seen no_place m).body) p.now.methods.items }
 {
-    let own = listed_under(&p.tables.own_methods, class.0 as usize);
+    let own = listed_under(&p.tables.methods.own, class.0 as usize);
     if own.len() <= FEW {
         return own;
     }
     listed_under(
-        &p.tables.methods_by_slot,
+        &p.tables.methods.by_slot,
         slot_bucket(p.methods.len(), class, Some(slot)),
     )
 }
@@ -221,7 +221,7 @@ pub fn methods_named<'a>(p: &'a Program, name: &Name) -> &'a [usize]
         ≡ position (λ m. offers (program_of no_place p.now) c name.now (method_seen no_place m)) p.now.methods.items }
 {
     listed_under(
-        &p.tables.methods_named,
+        &p.tables.methods.named,
         name_bucket(p.methods.len(), ClassId(0), name),
     )
 }

@@ -1,10 +1,10 @@
 //! What each class or interface declares itself.
 #![tactic(auto)]
 
-ghost use Rattle.std.specs.Prelude.{◌≡◌, ℕ, ◌<◌, ◌++◌, ◌∷◌, ◌==◌, [], cond, length, map, IfOk, OnOk};
-ghost use Rattle.java_core.specs.Owned.{AreOwned, listed, owned_from};
+ghost use Rattle.std.specs.Prelude.{◌≡◌, ℕ, ◌<◌, ◌++◌, ◌∷◌, ◌==◌, [], cond, length, map, OnOk};
+ghost use Rattle.java_core.specs.Owned.{listed, owned_from};
 
-use crate::{Field, Method, Program};
+use crate::Program;
 use kaba_base::ClassId;
 use std::alloc::{AllocError, Global};
 
@@ -41,28 +41,6 @@ pub fn note_under(
     put(lists, at, number)
 }
 
-/// For each class the fields that it declares itself; `AllocError` where memory is short.
-pub fn own_fields(alloc: Global, list: &[Field]) -> Result<Vec<Vec<usize>>, AllocError>
-    ensures { IfOk result (λ v. AreOwned (map (λ f. f.owner.0) list.now) v.items) }
-{
-    let mut lists = Vec::new(alloc);
-    for k in 0..list.len() {
-        note_under(alloc, &mut lists, list[k].owner.0 as usize, k)?;
-    }
-    Ok(lists)
-}
-
-/// For each class or interface the methods that it declares itself; `AllocError` where memory is short.
-pub fn own_methods(alloc: Global, list: &[Method]) -> Result<Vec<Vec<usize>>, AllocError>
-    ensures { IfOk result (λ v. AreOwned (map (λ m. m.owner.0) list.now) v.items) }
-{
-    let mut lists = Vec::new(alloc);
-    for k in 0..list.len() {
-        note_under(alloc, &mut lists, list[k].owner.0 as usize, k)?;
-    }
-    Ok(lists)
-}
-
 /// The numbers that lists have under a number.
 pub fn listed_under(lists: &Vec<Vec<usize>>, at: usize) -> &[usize]
     ensures { result.now ≡ listed lists.now.items at }
@@ -77,5 +55,5 @@ pub fn listed_under(lists: &Vec<Vec<usize>>, at: usize) -> &[usize]
 pub fn declared_fields(p: &Program, class: ClassId) -> &[usize]
     ensures { result.now ≡ owned_from 0 class.0 (map (λ f. f.owner.0) p.now.fields.items) }
 {
-    listed_under(&p.tables.own_fields, class.0 as usize)
+    listed_under(&p.tables.fields.own, class.0 as usize)
 }

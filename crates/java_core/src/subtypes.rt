@@ -1,17 +1,18 @@
 //! Which types are above which.
 #![tactic(auto)]
 
-ghost use Rattle.std.specs.Prelude.{◌≡◌, ℕ, ◌+◌, ◌<◌, ◌≤◌, ◌||◌, ◌⊎◌, ◌↔◌, Bool, List, ◌∷◌, [], length, map, IfOk, IsTrue, MatchOption, Contains, false};
+ghost use Rattle.std.specs.Prelude.{◌≡◌, ℕ, ◌<◌, ◌≤◌, ◌||◌, ◌⊎◌, ◌↔◌, Bool, List, ◌∷◌, [], length, map, IfOk, OnOk, IsTrue, MatchOption, Contains, false};
 ghost use Rattle.kaba_bits.specs.Sets.{bit, size, IsLeastFrom};
 ghost use Rattle.java_core.specs.Trees.{at_place};
 ghost use Rattle.java_core.specs.Plain.{class_seen};
 ghost use Rattle.java_core.specs.Squares.{meet};
 ghost use Rattle.java_core.specs.Squares.{in_row, AreRows};
-ghost use Rattle.java_core.specs.Subtypes.{Share, IsOwnRow, AreInside, IsExact, AreExact, Gained, subtype_rows};
+ghost use Rattle.java_core.specs.Subtypes.{Share, IsOwnRow, AreInside, IsExact, AreExact, Gained, Filled, AllExact, subtype_rows};
 ghost use Rattle.java_core.specs.Squares.{is_above};
 
 use crate::Class;
 use crate::direct::{direct_of, listed};
+use crate::order::order_of;
 use kaba_bits::{BitRow, empty_rows, row_at};
 use std::alloc::{AllocError, Global};
 use std::marker::Model;
@@ -21,6 +22,8 @@ use std::marker::Model;
 pub struct Hierarchy {
     /// The row of a type with no other below it is empty.
     below: Vec<BitRow>,
+    /// Types, each behind those that it names as its supertypes.
+    order: Vec<u32>,
 }
 
 impl Model for Hierarchy {
@@ -101,6 +104,12 @@ impl Hierarchy {
         let below = self.below.as_slice();
         share(row_at(below, a as usize), row_at(below, b as usize), a, b)
     }
+
+    /// The types in an order in which each comes behind those that it names as its supertypes, where there is no cycle. Nothing is
+    /// promised of it: what is filled in by it is tested.
+    pub fn supertypes_first(&self) -> &[u32] {
+        self.order.as_slice()
+    }
 }
 
 /// Adds to a row the type `x`, whose row is the other, and what is below it.
@@ -118,23 +127,24 @@ fn add_row(row: &mut BitRow, other: &BitRow, x: u32)
     }
 }
 
-/// Adds to the row of `b` the type `x`: with all below it where the row of `x` is known, else `x` waits.
+/// Adds to a row the type `x`: with all below it where the row of `x` is known, else `x` waits.
 fn reach(
     rows: &[BitRow],
+    known: &BitRow,
     row: &mut BitRow,
     waiting: &mut Vec<u32>,
-    b: u32,
     x: u32,
 ) -> Result<(), AllocError>
     requires x { x < length row.old }
+    requires known { length known.now ≡ length row.old }
     requires len { length rows.now ≡ length row.old }
     requires wide { AreRows (length row.old) rows.now }
-    ensures { IfOk result (λ _. Gained rows.now b (x ∷ []) row.old row.new waiting.old.items waiting.new.items) }
+    ensures { IfOk result (λ _. Gained rows.now known.now (x ∷ []) row.old row.new waiting.old.items waiting.new.items) }
 {
     if row.has(x) {
         return Ok(());
     }
-    if x > b {
+    if known.has(x) {
         add_row(row, row_at(rows, x as usize), x);
     } else {
         row.set(x);
@@ -143,21 +153,22 @@ fn reach(
     Ok(())
 }
 
-/// Adds these types to the row of `b`.
+/// Adds these types to a row.
 fn reach_all(
     rows: &[BitRow],
+    known: &BitRow,
     row: &mut BitRow,
     waiting: &mut Vec<u32>,
-    b: u32,
     more: &[u32],
 ) -> Result<(), AllocError>
     requires inside { (x : ℕ) → Contains more.now x → x < length row.old }
+    requires known { length known.now ≡ length row.old }
     requires len { length rows.now ≡ length row.old }
     requires wide { AreRows (length row.old) rows.now }
-    ensures { IfOk result (λ _. Gained rows.now b more.now row.old row.new waiting.old.items waiting.new.items) }
+    ensures { IfOk result (λ _. Gained rows.now known.now more.now row.old row.new waiting.old.items waiting.new.items) }
 {
     for x in more {
-        reach(rows, row, waiting, b, *x)?;
+        reach(rows, known, row, waiting, *x)?;
     }
     Ok(())
 }
@@ -172,24 +183,25 @@ fn own_row(alloc: Global, count: u32, b: u32) -> Result<BitRow, AllocError>
     Ok(row)
 }
 
-/// The row of a type, found by a walk downwards; the rows of the types after it are known.
+/// The row of a type, found by a walk downwards; the rows of some types are known.
 fn walk(
     alloc: Global,
     lists: &[Vec<u32>],
     rows: &[BitRow],
+    known: &BitRow,
     count: u32,
     b: u32,
 ) -> Result<BitRow, AllocError>
     requires b { b < count }
     requires inside { AreInside count lists.now }
-    requires after { AreExact lists.now count (b + 1) rows.now }
+    requires others { AreExact lists.now count known.now rows.now }
     ensures { IfOk result (λ r. IsExact lists.now count b r) }
 {
     let mut row = own_row(alloc, count, b)?;
     let mut waiting = Vec::new(alloc);
     waiting.push(b)?;
     'walk: while let Some(x) = waiting.pop() {
-        reach_all(rows, &mut row, &mut waiting, b, listed(lists, x))?;
+        reach_all(rows, known, &mut row, &mut waiting, listed(lists, x))?;
     }
     Ok(row)
 }
@@ -199,37 +211,78 @@ fn row_below(
     alloc: Global,
     lists: &[Vec<u32>],
     rows: &[BitRow],
+    known: &BitRow,
     count: u32,
     b: u32,
 ) -> Result<BitRow, AllocError>
     requires b { b < count }
     requires inside { AreInside count lists.now }
-    requires after { AreExact lists.now count (b + 1) rows.now }
+    requires others { AreExact lists.now count known.now rows.now }
     ensures { IfOk result (λ r. IsExact lists.now count b r) }
 {
     if listed(lists, b).is_empty() {
-        let row = BitRow::new(alloc, 0)?;
-        return Ok(row);
+        return BitRow::new(alloc, 0);
     }
-    let row = walk(alloc, lists, rows, count, b)?;
-    Ok(row)
+    walk(alloc, lists, rows, known, count, b)
 }
 
-/// Fills the rows of all types, the last first: a class often stands behind the one that it extends.
+/// Fills the row of a type, if there is one of the number that is not known yet.
+fn fill_one(
+    alloc: Global,
+    lists: &[Vec<u32>],
+    rows: &mut [BitRow],
+    known: &mut BitRow,
+    count: u32,
+    b: u32,
+) -> Result<(), AllocError>
+    requires inside { AreInside count lists.now }
+    requires before { AreExact lists.now count known.old rows.old }
+    ensures { IfOk result (λ _. Filled lists.now count b known.old known.new rows.new) }
+{
+    if b >= count || known.has(b) {
+        return Ok(());
+    }
+    rows[b as usize] = row_below(alloc, lists, rows, known, count, b)?;
+    known.set(b);
+    Ok(())
+}
+
+/// Fills the rows of these types, the last first.
+fn fill_by(
+    alloc: Global,
+    lists: &[Vec<u32>],
+    rows: &mut [BitRow],
+    known: &mut BitRow,
+    count: u32,
+    order: &[u32],
+) -> Result<(), AllocError>
+    requires inside { AreInside count lists.now }
+    requires before { AreExact lists.now count known.old rows.old }
+    ensures { IfOk result (λ _. AreExact lists.now count known.new rows.new) }
+{
+    for k in 0..order.len() {
+        fill_one(alloc, lists, rows, known, count, order[order.len() - 1 - k])?;
+    }
+    Ok(())
+}
+
+/// Fills the rows of all types, by an order in which each comes before those below it; what the order leaves out comes behind.
 fn fill(
     alloc: Global,
     lists: &[Vec<u32>],
     rows: &mut [BitRow],
     count: u32,
+    order: &[u32],
 ) -> Result<(), AllocError>
     requires inside { AreInside count lists.now }
-    requires before { AreExact lists.now count count rows.old }
-    ensures { IfOk result (λ _. AreExact lists.now count 0 rows.new) }
+    requires len { length rows.old ≡ count }
+    requires formed { AreRows count rows.old }
+    ensures { IfOk result (λ _. AllExact lists.now count rows.new) }
 {
-    for k in 0..count {
-        let b = count - 1 - k;
-        let row = row_below(alloc, lists, rows, count, b)?;
-        rows[b as usize] = row;
+    let mut known = BitRow::new(alloc, count)?;
+    fill_by(alloc, lists, rows, &mut known, count, order)?;
+    for b in 0..count {
+        fill_one(alloc, lists, rows, &mut known, count, b)?;
     }
     Ok(())
 }
@@ -240,7 +293,14 @@ pub fn subtypes_of(alloc: Global, all: &Vec<Class>, count: u32) -> Result<Hierar
     ensures { IfOk result (λ r. r ≡ subtype_rows (map (class_seen at_place) all.now.items)) }
 {
     let lists = direct_of(alloc, all, count)?;
+    let order = order_of(alloc, lists.as_slice(), count)?;
     let mut below = empty_rows(alloc, all.len(), 0)?;
-    fill(alloc, lists.as_slice(), below.as_mut_slice(), count)?;
-    Ok(Hierarchy { below })
+    fill(
+        alloc,
+        lists.as_slice(),
+        below.as_mut_slice(),
+        count,
+        order.as_slice(),
+    )?;
+    Ok(Hierarchy { below, order })
 }

@@ -1,71 +1,132 @@
-//! The members of a program by owner, by owner and name, and by owner and slot, and the methods by name.
+//! The members of a program by owner, by owner and name, by owner and slot, and by name.
 #![tactic(auto)]
 
 ghost use Rattle.std.specs.Prelude.{◌≡◌, ◌+◌, ◌/◌, ◌<◌, length, map, IfOk};
 ghost use Rattle.java_core.specs.Owned.{AreOwned};
-ghost use Rattle.java_core.specs.Tables.{AreTables, mixed, mixed_all, name_bucket, slot_bucket, field_bucket, method_bucket, method_name_bucket, method_slot_bucket, field_name_bucket};
+ghost use Rattle.java_core.specs.Tables.{AreFieldTables, AreMethodTables, AreTables, mixed, mixed_all, name_bucket, slot_bucket, field_place, method_place};
 
 use crate::nearest::{nearest_fields, nearest_methods};
-use crate::owned::{note_under, own_fields, own_methods};
+use crate::owned::note_under;
 use crate::{Class, Field, Method};
 use kaba_base::{ClassId, Name};
 use std::alloc::{AllocError, Global};
 use version_map::VersionMap;
 
-/// The numbers of members, in rising order in each list.
+/// By what fields are listed.
+pub enum FieldKey {
+    /// By their class.
+    Owner,
+    /// By their class and their name.
+    OwnerAndName,
+    /// By their name.
+    Name,
+}
+
+/// By what methods are listed.
+pub enum MethodKey {
+    /// By their class or interface.
+    Owner,
+    /// By their class or interface and their name.
+    OwnerAndName,
+    /// By their class or interface and their slot.
+    OwnerAndSlot,
+    /// By their name.
+    Name,
+}
+
+/// The numbers of fields, in rising order in each list.
+#[derive(Drop)]
+pub struct FieldTables {
+    /// For each class the fields that it declares itself.
+    pub own: Vec<Vec<usize>>,
+    /// For each bucket the fields of its owners and names.
+    pub by_name: Vec<Vec<usize>>,
+    /// For each bucket the fields of its names.
+    pub named: Vec<Vec<usize>>,
+    /// For each class that others extend the fields at or above it by the numbers of their names, the nearest ones.
+    pub nearest: Vec<Option<VersionMap>>,
+}
+
+/// The numbers of methods, in rising order in each list.
+#[derive(Drop)]
+pub struct MethodTables {
+    /// For each class or interface the methods that it declares itself.
+    pub own: Vec<Vec<usize>>,
+    /// For each bucket the methods of its owners and names.
+    pub by_name: Vec<Vec<usize>>,
+    /// For each bucket the methods of its owners and slots.
+    pub by_slot: Vec<Vec<usize>>,
+    /// For each bucket the methods of its names.
+    pub named: Vec<Vec<usize>>,
+    /// For each class that others extend the instance methods at or above it by the numbers of their names, the nearest ones.
+    pub nearest: Vec<Option<VersionMap>>,
+}
+
+/// The numbers of members by what they are looked for by.
 #[derive(Drop)]
 pub struct Tables {
-    /// For each class the fields that it declares itself.
-    pub own_fields: Vec<Vec<usize>>,
-    /// For each class or interface the methods that it declares itself.
-    pub own_methods: Vec<Vec<usize>>,
-    /// For each bucket the fields of its owners and names.
-    pub fields_by_name: Vec<Vec<usize>>,
-    /// For each bucket the methods of its owners and names.
-    pub methods_by_name: Vec<Vec<usize>>,
-    /// For each bucket the methods of its owners and slots.
-    pub methods_by_slot: Vec<Vec<usize>>,
-    /// For each bucket the fields of its names.
-    pub fields_named: Vec<Vec<usize>>,
-    /// For each bucket the methods of its names.
-    pub methods_named: Vec<Vec<usize>>,
-    /// For each class that others extend the fields at or above it by the numbers of their names, the nearest ones.
-    pub nearest_fields: Vec<Option<VersionMap>>,
-    /// For each class that others extend the instance methods at or above it by the numbers of their names, the nearest ones.
-    pub nearest_methods: Vec<Option<VersionMap>>,
+    pub fields: FieldTables,
+    pub methods: MethodTables,
+}
+
+impl FieldTables {
+    /// The tables of these fields; `AllocError` where memory is short.
+    fn new(
+        alloc: Global,
+        classes: &[Class],
+        fields: &[Field],
+        order: &[u32],
+    ) -> Result<FieldTables, AllocError>
+        ensures { IfOk result (λ t. AreFieldTables classes.now fields.now t) }
+    {
+        let own = fields_by(alloc, fields, &FieldKey::Owner)?;
+        let named = fields_by(alloc, fields, &FieldKey::Name)?;
+        Ok(FieldTables {
+            nearest: nearest_fields(alloc, classes, fields, &own, &named, order)?,
+            by_name: fields_by(alloc, fields, &FieldKey::OwnerAndName)?,
+            own,
+            named,
+        })
+    }
+}
+
+impl MethodTables {
+    /// The tables of these methods; `AllocError` where memory is short.
+    fn new(
+        alloc: Global,
+        classes: &[Class],
+        methods: &[Method],
+        order: &[u32],
+    ) -> Result<MethodTables, AllocError>
+        ensures { IfOk result (λ t. AreMethodTables classes.now methods.now t) }
+    {
+        let own = methods_by(alloc, methods, &MethodKey::Owner)?;
+        let named = methods_by(alloc, methods, &MethodKey::Name)?;
+        Ok(MethodTables {
+            nearest: nearest_methods(alloc, classes, methods, &own, &named, order)?,
+            by_name: methods_by(alloc, methods, &MethodKey::OwnerAndName)?,
+            by_slot: methods_by(alloc, methods, &MethodKey::OwnerAndSlot)?,
+            own,
+            named,
+        })
+    }
 }
 
 impl Tables {
-    /// The tables of these members; `AllocError` where memory is short.
+    /// The tables of these members, with the types in an order in which each comes behind its supertypes; `AllocError` where memory
+    /// is short.
     pub fn new(
         alloc: Global,
         classes: &[Class],
         fields: &[Field],
         methods: &[Method],
+        order: &[u32],
     ) -> Result<Tables, AllocError>
         ensures { IfOk result (λ t. AreTables classes.now fields.now methods.now t) }
     {
-        let own_fields = own_fields(alloc, fields)?;
-        let own_methods = own_methods(alloc, methods)?;
-        let fields_named = fields_named(alloc, fields)?;
-        let methods_named = methods_named(alloc, methods)?;
-        Ok(Tables {
-            nearest_fields: nearest_fields(alloc, classes, fields, &own_fields, &fields_named)?,
-            nearest_methods: nearest_methods(
-                alloc,
-                classes,
-                methods,
-                &own_methods,
-                &methods_named,
-            )?,
-            own_fields,
-            own_methods,
-            fields_by_name: fields_by_name(alloc, fields)?,
-            methods_by_name: methods_by_name(alloc, methods)?,
-            methods_by_slot: methods_by_slot(alloc, methods)?,
-            fields_named,
-            methods_named,
-        })
+        let fields = FieldTables::new(alloc, classes, fields, order)?;
+        let methods = MethodTables::new(alloc, classes, methods, order)?;
+        Ok(Tables { fields, methods })
     }
 }
 
@@ -109,82 +170,47 @@ pub fn slot_bucket(members: usize, class: ClassId, slot: Option<u32>) -> usize
     }
 }
 
-/// The fields by owner and name; `AllocError` where memory is short.
-fn fields_by_name(alloc: Global, list: &[Field]) -> Result<Vec<Vec<usize>>, AllocError>
-    ensures { IfOk result (λ v. AreOwned (map (λ f. field_bucket (length list.now) f) list.now) v.items) }
+/// The place of a field in the lists, of so many fields.
+fn field_place(by: &FieldKey, members: usize, field: &Field) -> usize
+    ensures { result ≡ field_place by.now members field.now }
+{
+    match by {
+        FieldKey::Owner => field.owner.0 as usize,
+        FieldKey::OwnerAndName => name_bucket(members, field.owner, &field.name),
+        FieldKey::Name => name_bucket(members, ClassId(0), &field.name),
+    }
+}
+
+/// The place of a method in the lists, of so many methods.
+fn method_place(by: &MethodKey, members: usize, method: &Method) -> usize
+    ensures { result ≡ method_place by.now members method.now }
+{
+    match by {
+        MethodKey::Owner => method.owner.0 as usize,
+        MethodKey::OwnerAndName => name_bucket(members, method.owner, &method.name),
+        MethodKey::OwnerAndSlot => slot_bucket(members, method.owner, method.slot),
+        MethodKey::Name => name_bucket(members, ClassId(0), &method.name),
+    }
+}
+
+/// The fields by what is said; `AllocError` where memory is short.
+fn fields_by(alloc: Global, list: &[Field], by: &FieldKey) -> Result<Vec<Vec<usize>>, AllocError>
+    ensures { IfOk result (λ v. AreOwned (map (λ f. field_place by.now (length list.now) f) list.now) v.items) }
 {
     let mut lists = Vec::new(alloc);
     for k in 0..list.len() {
-        note_under(
-            alloc,
-            &mut lists,
-            name_bucket(list.len(), list[k].owner, &list[k].name),
-            k,
-        )?;
+        note_under(alloc, &mut lists, field_place(by, list.len(), &list[k]), k)?;
     }
     Ok(lists)
 }
 
-/// The methods by owner and name; `AllocError` where memory is short.
-fn methods_by_name(alloc: Global, list: &[Method]) -> Result<Vec<Vec<usize>>, AllocError>
-    ensures { IfOk result (λ v. AreOwned (map (λ m. method_bucket (length list.now) m) list.now) v.items) }
+/// The methods by what is said; `AllocError` where memory is short.
+fn methods_by(alloc: Global, list: &[Method], by: &MethodKey) -> Result<Vec<Vec<usize>>, AllocError>
+    ensures { IfOk result (λ v. AreOwned (map (λ m. method_place by.now (length list.now) m) list.now) v.items) }
 {
     let mut lists = Vec::new(alloc);
     for k in 0..list.len() {
-        note_under(
-            alloc,
-            &mut lists,
-            name_bucket(list.len(), list[k].owner, &list[k].name),
-            k,
-        )?;
-    }
-    Ok(lists)
-}
-
-/// The methods by owner and slot; `AllocError` where memory is short.
-fn methods_by_slot(alloc: Global, list: &[Method]) -> Result<Vec<Vec<usize>>, AllocError>
-    ensures { IfOk result (λ v. AreOwned (map (λ m. method_slot_bucket (length list.now) m) list.now) v.items) }
-{
-    let mut lists = Vec::new(alloc);
-    for k in 0..list.len() {
-        note_under(
-            alloc,
-            &mut lists,
-            slot_bucket(list.len(), list[k].owner, list[k].slot),
-            k,
-        )?;
-    }
-    Ok(lists)
-}
-
-/// The fields by name; `AllocError` where memory is short.
-fn fields_named(alloc: Global, list: &[Field]) -> Result<Vec<Vec<usize>>, AllocError>
-    ensures { IfOk result (λ v. AreOwned (map (λ f. field_name_bucket (length list.now) f) list.now) v.items) }
-{
-    let mut lists = Vec::new(alloc);
-    for k in 0..list.len() {
-        note_under(
-            alloc,
-            &mut lists,
-            name_bucket(list.len(), ClassId(0), &list[k].name),
-            k,
-        )?;
-    }
-    Ok(lists)
-}
-
-/// The methods by name; `AllocError` where memory is short.
-fn methods_named(alloc: Global, list: &[Method]) -> Result<Vec<Vec<usize>>, AllocError>
-    ensures { IfOk result (λ v. AreOwned (map (λ m. method_name_bucket (length list.now) m) list.now) v.items) }
-{
-    let mut lists = Vec::new(alloc);
-    for k in 0..list.len() {
-        note_under(
-            alloc,
-            &mut lists,
-            name_bucket(list.len(), ClassId(0), &list[k].name),
-            k,
-        )?;
+        note_under(alloc, &mut lists, method_place(by, list.len(), &list[k]), k)?;
     }
     Ok(lists)
 }

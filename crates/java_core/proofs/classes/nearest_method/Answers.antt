@@ -6,7 +6,8 @@ use Rattle.java_core.specs.Programs.{program_of, method_seen}
 use Rattle.java_core.specs.Classes.{nearest, is_method_of}
 use Rattle.java_core.specs.Own.{own_named}
 use Rattle.java_core.specs.Owned.{AreOwned}
-use Rattle.java_core.specs.Tables.{method_name_bucket}
+use Rattle.java_core.specs.declared.tables.MethodKey.TheVariants as method_key
+use Rattle.java_core.specs.Tables.{method_place}
 use Rattle.std.specs.Option.{IfSome}
 use Rattle.java_core.specs.Nearest.{IsAbove, method_number, is_named_method}
 use Rattle.java_core.proofs.Positions.{position-map}
@@ -20,8 +21,8 @@ returns-then-is_some c =
     (sym c.is_some.ensures ∙ c.if-is_some.true) c.own_named-own.ensures
 
 pub method_number-requires : goal.method_number-requires
-method_number-requires c = subst (λ fs. AreOwned (map (λ f. method_name_bucket (length fs) f) fs) c.args.p.now.tables.methods_named.items)
-    (sym c.deref.ensures.value) c.args.p.now.tables_shown.methods_named
+method_number-requires c = subst (λ fs. AreOwned (map (λ f. method_place method_key.Name (length fs) f) fs) c.args.p.now.tables.methods.named.items)
+    (sym c.deref.ensures.value) c.args.p.now.tables_shown.methods.named
 
 pub numbered-requires : goal.numbered-requires
 numbered-requires c = number-within (λ f. is_named_method c.args.name.now f) c.args.p.now.methods.items c.method_number.result
@@ -34,11 +35,11 @@ returns-in-Some c =
     let x = c.args.name.now in
     let fs = c.args.p.now.methods.items in
     let own : ℕ → Option ℕ = λ k. own_named P named.Method k x in
-    let above = subst (λ o. IfSome o (λ m. IsAbove P.classes c.args.p.now.tables.nearest_methods.items c.args.class.0 m.now)) c.in-Some.is c.version_above.ensures in
+    let above = subst (λ o. IfSome o (λ m. IsAbove P.classes c.args.p.now.tables.methods.nearest.items c.args.class.0 m.now)) c.in-Some.is c.version_above.ensures in
     c.numbered.ensures
     ∙ numbered-nearest (λ f. f.owner.0) (λ f. f.name) (λ m. not m.is_static) fs P c.requires.acyclic own x
-    (λ k. sym (position-map (method_seen no_place) (λ f. is_method_of k x f) fs)) c.args.p.now.tables.own_methods.items
-    c.args.p.now.tables_shown.own_methods c.args.p.now.tables.nearest_methods.items c.args.p.now.tables_shown.nearest_methods c.args.class.0 c.in-Some.map.now above
+    (λ k. sym (position-map (method_seen no_place) (λ f. is_method_of k x f) fs)) c.args.p.now.tables.methods.own.items
+    c.args.p.now.tables_shown.methods.own c.args.p.now.tables.methods.nearest.items c.args.p.now.tables_shown.methods.nearest c.args.class.0 c.in-Some.map.now above
     (nothing-own P own (λ d. d.0) c.args.class.0 c.own_named-own.result (sym c.is_some.ensures ∙ c.if-is_some.false) c.own_named-own.ensures)
     c.method_number.result (c.method_number.ensures ∙ ap (λ fs. method_number fs x) c.deref.ensures.value)
 

@@ -1,6 +1,7 @@
 use Rattle.std.proofs.Common.{length, ap, ◌∙◌}
 use Rattle.java_core.specs.Owned.{listed, first_among}
-use Rattle.java_core.specs.Tables.{name_bucket, method_name_bucket}
+use Rattle.java_core.specs.declared.tables.MethodKey.TheVariants as method_key
+use Rattle.java_core.specs.Tables.{name_bucket, method_place}
 use Rattle.java_core.specs.Nearest.{is_named_method}
 use Rattle.java_core.proofs.Buckets.{keyed, named_method_there}
 use Rattle.java_core.proofs.nearest.method_number.Goals as goal
@@ -12,4 +13,4 @@ returns c =
     let n = length methods in
     c.method_among.ensures
     ∙ ap (first_among (λ m. is_named_method x m) methods) (c.listed_under-list.ensures ∙ ap (listed c.args.lists.now.items) c.name_bucket.ensures)
-    ∙ keyed (method_name_bucket n) (λ m. is_named_method x m) (name_bucket n 0 x) methods c.args.lists.now.items c.requires (named_method_there n x)
+    ∙ keyed (method_place method_key.Name n) (λ m. is_named_method x m) (name_bucket n 0 x) methods c.args.lists.now.items c.requires (named_method_there n x)

@@ -1,7 +1,6 @@
-use Rattle.std.proofs.Common.{◌-◌}
-use Rattle.java_core.specs.Subtypes.{AreExact}
+use Rattle.java_core.specs.Subtypes.{FilledTo}
 use Rattle.java_core.proofs.subtypes.fill.Given as goal
 
--- the rows of the last types are exact
-abbrev pub invariant-loop-k : goal.invariant-loop-k
-invariant-loop-k l = AreExact l.lists l.count (l.count - l.k) l.rows
+-- the rows of the first types are exact
+abbrev pub invariant-loop-b : goal.invariant-loop-b
+invariant-loop-b l = FilledTo l.lists l.count l.b l.known l.rows

@@ -10,5 +10,5 @@ reach-requires-clause-x c =
     omega (arith, inside, len)
 
 pub loop-x-preserved : goal.loop-x-preserved
-loop-x-preserved c = gained-more c.args.rows.now c.args.b c.args.more.now c.loop-x.x-index _ _ _ _ _ _ c.loop-x-test.true c.loop-x.invariant
+loop-x-preserved c = gained-more c.args.rows.now c.args.known.now c.args.more.now c.loop-x.x-index _ _ _ _ _ _ c.loop-x-test.true c.loop-x.invariant
     c.in_ok-reach.ensures

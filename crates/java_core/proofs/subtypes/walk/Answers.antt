@@ -20,10 +20,10 @@ walk-preserved c =
     let lists = c.args.lists.now in
     let rest = c.pop.new.self.items in
     let x = c.in-Some.x in
-    walked-step lists c.args.count c.args.b c.requires.inside c.args.rows.now c.requires.after c.walk.row c.reach_all.new.row rest
+    walked-step lists c.args.count c.args.b c.requires.inside c.args.known.now c.args.rows.now c.requires.others c.walk.row c.reach_all.new.row rest
     c.reach_all.new.waiting.items x
     (subst (Walked lists c.args.count c.args.b c.walk.row) c.in-Some.ensures.items c.walk.invariant)
-    (subst (λ l. Gained c.args.rows.now c.args.b l c.walk.row c.reach_all.new.row rest c.reach_all.new.waiting.items) c.listed.ensures
+    (subst (λ l. Gained c.args.rows.now c.args.known.now l c.walk.row c.reach_all.new.row rest c.reach_all.new.waiting.items) c.listed.ensures
     c.in_ok-reach_all.ensures)
 
 pub returns : goal.returns

@@ -1,8 +1,0 @@
-use Rattle.std.proofs.Common.{◌≡◌, ℕ, ◌++◌, drop, map}
-use Rattle.java_core.specs.Owned.{listed, owned_from}
-use Rattle.java_core.proofs.owned.own_fields.Given as goal
-
--- the numbers so far, and those of the rest
-abbrev pub invariant-loop-k : goal.invariant-loop-k
-invariant-loop-k l = (c : ℕ) → listed l.lists.items c ++ owned_from l.k c (map (λ f. f.owner.0) (drop l.k l.list))
-    ≡ owned_from 0 c (map (λ f. f.owner.0) l.list)
