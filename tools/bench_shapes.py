@@ -10,6 +10,17 @@ def chain(count):
     return "class C0 {\n}\n" + "".join(f"class C{n} extends C{n - 1} {{\n}}\n" for n in range(1, count)) + main()
 
 
+def chain_upwards(count):
+    """The same with each class before the one that it extends."""
+    return "".join(f"class C{n} extends C{n - 1} {{ }}\n" for n in range(count - 1, 0, -1)) + "class C0 { }\n" + main()
+
+
+def named_upwards(count):
+    """The same, each with a method of one name, beside a class with a private one."""
+    text = "".join(f"class C{n} extends C{n - 1} {{ void m() {{ }} }}\n" for n in range(count - 1, 0, -1))
+    return text + "class C0 { void m() { } }\nclass P { private void m() { } }\n" + main()
+
+
 def own_members(count):
     """Classes one below the other, each with a field and a method of its own, and an object of the lowest."""
     text = "class C0 {\n  int f0;\n  void m0() {\n  }\n}\n"
@@ -195,6 +206,8 @@ def two_chains(count):
 # The shape, its sizes, and the seconds and megabytes that the greatest may take until it is checked.
 SHAPES = [
     ("classes in a chain", chain, (1000, 2000, 4000, 8000)),
+    ("classes in a chain, each before the one that it extends", chain_upwards, (4000, 8000, 16000, 32000)),
+    ("the same with a method of one name, beside a private one", named_upwards, (2500, 5000, 10000, 20000)),
     ("classes in a chain, each with a field and a method", own_members, (1000, 2000, 4000, 8000)),
     ("the same beside an interface", beside_an_interface, (1000, 2000, 4000, 8000)),
     ("classes that override and call super", overriding, (188, 375, 750, 1500)),

@@ -15,4 +15,5 @@ pub mod SquareLemmas
 pub mod Walks
 pub mod Entries
 pub mod SeenClasses
+pub mod Chains
 pub mod NearestLemmas

@@ -1,5 +1,5 @@
 -- What is found by a number of a name is what is found by going upwards.
-use Rattle.std.proofs.Common.{◌≡◌, ℕ, zero, suc, ◌<◌, ◌⊎◌, Bool, true, false, ◌&&◌, List, ◌∷◌, map, length, Option, Some, None, set, inl, inr, ⊎_elim, refl, sym, ap, ◌∙◌, subst, arith, []}
+use Rattle.std.proofs.Common.{◌≡◌, ℕ, zero, suc, ◌<◌, ◌≤◌, ◌⊎◌, Bool, true, false, ◌&&◌, List, ◌∷◌, map, length, Option, Some, None, set, inl, inr, ⊎_elim, refl, sym, ap, ◌∙◌, subst, arith, []}
 use Rattle.std.specs.Prelude.{◌==◌, if◌then◌else◌}
 use Rattle.std.specs.List.{position, slice_get}
 use Rattle.std.specs.Option.{option_and_then, option_map, is_some, IfSome}
@@ -8,77 +8,115 @@ use Rattle.std.specs.Str.{bytes_eq}
 use Rattle.std.proofs.Props.{props}
 use Rattle.std.proofs.lemmas.Bool.{and_parts, eqb-true, eq-eqb, false≢true}
 use Rattle.std.proofs.lemmas.Option.{slice_get-map}
+use Rattle.std.proofs.lemmas.List.{length-map}
 use Rattle.std.proofs.lemmas.Slice.Eq.{bytes_eq-Decides}
 use Rattle.std.specs.declared.vec.Vec.{Vec}
 use Rattle.std.specs.declared.alloc.Global.{Global}
 use Rattle.kaba_base.specs.declared.ClassId.{ClassId}
 use Rattle.version_map.specs.declared.VersionMap.{VersionMap}
 use Rattle.version_map.specs.Held.{holds}
-use Rattle.java_core.specs.Plain.{Plain, PlainClass}
+use Rattle.kaba_base.specs.declared.Place.{Place}
+use Rattle.java_core.specs.declared.Class.{Class}
+use Rattle.java_core.specs.Trees.{Tag}
+use Rattle.java_core.specs.Plain.{Plain, class_seen}
 use Rattle.java_core.specs.Subtypes.{of_classes}
 use Rattle.java_core.specs.Classes.{parent_of, first_or, nearest, nearest_of, is_slot}
-use Rattle.java_core.specs.Found.{IsNearest, at_class, above_class}
 use Rattle.java_core.specs.Owned.{AreOwned, owned_from, listed, passes, first_among}
-use Rattle.java_core.specs.Nearest.{IsFirst, highest, lower, AreVersions, IsVersionAbove, IsAbove, numbered_among}
+use Rattle.java_core.specs.Nearest.{superclasses, parent_at, nearest_by, IsFirst, highest, lower, AreVersions, IsVersionAbove, IsAbove, IsNearestBy, numbered_among}
+use Rattle.java_core.proofs.Chains.{Chain, ends, goes_up, short}
 use Rattle.java_core.proofs.OwnedLemmas.{owned-position, position-within}
 use Rattle.java_core.proofs.Positions.{position-passes, passes-position}
-use Rattle.java_core.proofs.Subclasses.{IsAcyclic, nearest-here, nearest-nearest_of}
+use Rattle.java_core.proofs.Subclasses.{nearest-here}
 
 -- ---- along the superclasses
 
-module _ (P : Plain) where
-  first-same : {f g : ℕ → Option ℕ} → ((k : ℕ) → f k ≡ g k) → {c : ℕ} {r : Option ℕ} → IsFirst P.classes f c r → IsFirst P.classes g c r
-  first-same {f} {g} e (highest {c = c} top) = subst (IsFirst P.classes g c) (sym (e c)) (highest top)
-  first-same {f} {g} e (lower {c = c} {p = p} {r = r} up rest) = subst (λ o. IsFirst P.classes g c (first_or o r)) (sym (e c)) (lower up (first-same e rest))
+or_none : (o : Option ℕ) → first_or o None ≡ o
+or_none None = refl
+or_none (Some y) = refl
+
+module _ (parents : List (Option ClassId)) where
+  first-same : {f g : ℕ → Option ℕ} → ((k : ℕ) → f k ≡ g k) → {c : ℕ} {r : Option ℕ} → IsFirst parents f c r → IsFirst parents g c r
+  first-same {f} {g} e (highest {c = c} top) = subst (IsFirst parents g c) (sym (e c)) (highest top)
+  first-same {f} {g} e (lower {c = c} {p = p} {r = r} up rest) = subst (λ o. IsFirst parents g c (first_or o r)) (sym (e c)) (lower up (first-same e rest))
 
   module _ (own : ℕ → Option ℕ) where
-    one : {c d : ℕ} (o r : Option ℕ) (p : ClassId) → own c ≡ o → parent_of P c ≡ Some p → first_or o r ≡ Some d → (r ≡ Some d → IsNearest P own p.0 d)
-        → IsNearest P own c d
-    one (Some y) r p e up h rest = at_class (e ∙ h)
-    one None r p e up h rest = above_class e up (rest h)
+    record Steps (c : ℕ) (r : Option ℕ) : Type 0 where
+      count : ℕ
+      chain : Chain parents c count
+      from : (n : ℕ) → count ≤ n → nearest_by parents own n c ≡ r
 
-    some : {c d : ℕ} {r : Option ℕ} → IsFirst P.classes own c r → r ≡ Some d → IsNearest P own c d
-    some (highest top) h = at_class h
-    some (lower {c = c} {p = p} {r = r} up rest) h = one (own c) r p refl up h (λ e. some rest e)
+    steps : {c : ℕ} {r : Option ℕ} → IsFirst parents own c r → Steps c r
+    steps (highest {c = c} top) = record { count = 0; chain = ends top; from = λ n le. go n }
+      where
+        go : (n : ℕ) → nearest_by parents own n c ≡ own c
+        go zero = refl
+        go (suc n) = rw top (or_none (own c))
+    steps (lower {c = c} {p = p} {r = r} up rest) =
+        let s = steps rest in record { count = suc s.count; chain = goes_up up s.chain; from = λ n le. go s n le }
+      where
+        go : (s : Steps p.0 r) (n : ℕ) → suc s.count ≤ n → nearest_by parents own n c ≡ first_or (own c) r
+        go s zero le = absurd (omega (arith, le))
+        go s (suc n) le = rw (up, s.from n (omega (arith, le))) refl
 
-    both : (o r : Option ℕ) → first_or o r ≡ None → (o ≡ None) × (r ≡ None)
-    both None r h = (refl, h)
-    both (Some y) r h = absurd (cc h)
-
-    none : {c : ℕ} {r : Option ℕ} → IsFirst P.classes own c r → r ≡ None → (n : ℕ) → nearest P own n c ≡ None
-    none (highest top) h zero = h
-    none (highest top) h (suc n) = rw (h, top) refl
-    none (lower {c = c} {r = r} up rest) h zero = (both (own c) r h).0
-    none (lower {c = c} {r = r} up rest) h (suc n) = let b = both (own c) r h in rw (b.0, up) (none rest b.1 n)
-
-    first-nearest : IsAcyclic P → {c : ℕ} (r : Option ℕ) → IsFirst P.classes own c r → nearest_of P own c ≡ r
-    first-nearest acyclic None h = none h refl (length P.classes)
-    first-nearest acyclic (Some d) h = nearest-nearest_of P own acyclic (some h refl)
+    first-nearest : {c : ℕ} {r : Option ℕ} → IsFirst parents own c r → nearest_by parents own (length parents) c ≡ r
+    first-nearest h = let s = steps h in s.from (length parents) (short parents s.chain)
 
     -- where no class has anything, nothing is nearest
-    pub nowhere : ((k : ℕ) → own k ≡ None) → (n c : ℕ) → nearest P own n c ≡ None
+    nowhere : ((k : ℕ) → own k ≡ None) → (n c : ℕ) → nearest_by parents own n c ≡ None
     nowhere e zero c = e c
-    nowhere e (suc n) c = rw (e c) (up n (parent_of P c) (λ k. nowhere e n k))
+    nowhere e (suc n) c = rw (e c) (up n (parent_at parents c) (λ k. nowhere e n k))
       where
-        up : (n : ℕ) (o : Option ClassId) → ((k : ℕ) → nearest P own n k ≡ None) → option_and_then (λ p. nearest P own n p.0) o ≡ None
+        up : (n : ℕ) (o : Option ClassId) → ((k : ℕ) → nearest_by parents own n k ≡ None) → option_and_then (λ p. nearest_by parents own n p.0) o ≡ None
         up n None h = refl
         up n (Some p) h = h p.0
 
-    -- what a class itself has is nearest
-    pub own-nearest : {D : Type 0} (number : D → ℕ) (n c : ℕ) (o : Option D) → is_some o ≡ true → option_map number o ≡ own c
-        → option_map number o ≡ nearest P own n c
-    own-nearest number n c None some e = absurd (cc some)
-    own-nearest number n c (Some d) some e = sym (nearest-here P own n c (number d) (sym e))
-
-    pub nothing-own : {D : Type 0} (number : D → ℕ) (c : ℕ) (o : Option D) → is_some o ≡ false → option_map number o ≡ own c → own c ≡ None
-    nothing-own number c None none e = sym e
-    nothing-own number c (Some d) none e = absurd (cc none)
-
     -- where a class has nothing of its own, what is first from its superclass is nearest
-    pub first-above : IsAcyclic P → (f : ℕ → Option ℕ) → ((k : ℕ) → f k ≡ own k) → (c : ℕ) (p : ClassId) (r : Option ℕ) → own c ≡ None → parent_of P c ≡ Some p
-        → ∥ IsFirst P.classes f p.0 r ∥₁ → nearest_of P own c ≡ r
-    first-above acyclic f e c p r here up h =
-        ∥∥₁_elim h (hlevel props) (λ h. first-nearest acyclic r (subst (λ o. IsFirst P.classes own c (first_or o r)) here (lower up (first-same e h))))
+    first-above : (f : ℕ → Option ℕ) → ((k : ℕ) → f k ≡ own k) → (c : ℕ) (p : ClassId) (r : Option ℕ) → own c ≡ None → parent_at parents c ≡ Some p
+        → ∥ IsFirst parents f p.0 r ∥₁ → nearest_by parents own (length parents) c ≡ r
+    first-above f e c p r here up h =
+        ∥∥₁_elim h (hlevel props) (λ h. first-nearest (subst (λ o. IsFirst parents own c (first_or o r)) here (lower up (first-same e h))))
+
+-- what a program has nearest is what its list of superclasses has
+module _ (tag : Place → Tag) (classes : List Class) where
+  superclass-seen : (c : ℕ) → parent_at (superclasses classes) c ≡ parent_of (of_classes (map (class_seen tag) classes)) c
+  superclass-seen c = ap (option_and_then (λ o. o)) (slice_get-map (λ k. k.parent) classes c) ∙ go (slice_get classes c)
+      ∙ ap (option_and_then (λ k. k.parent)) (sym (slice_get-map (class_seen tag) classes c))
+    where
+      go : (o : Option Class) → option_and_then (λ o. o) (option_map (λ k. k.parent) o) ≡ option_and_then (λ k. k.parent) (option_map (class_seen tag) o)
+      go None = refl
+      go (Some k) = refl
+
+  pub nearest-seen : (P : Plain) → P.classes ≡ map (class_seen tag) classes → (own : ℕ → Option ℕ) (n c : ℕ)
+      → nearest_by (superclasses classes) own n c ≡ nearest P own n c
+  nearest-seen P is own zero c = refl
+  nearest-seen P is own (suc n) c =
+      ap (λ o. first_or (own c) (option_and_then (λ p. nearest_by (superclasses classes) own n p.0) o))
+      (superclass-seen c ∙ ap (λ ks. option_and_then (λ k. k.parent) (slice_get ks c)) (sym is))
+      ∙ ap (first_or (own c)) (up (parent_of P c) (λ k. nearest-seen P is own n k))
+    where
+      up : (o : Option ClassId) → ((k : ℕ) → nearest_by (superclasses classes) own n k ≡ nearest P own n k)
+          → option_and_then (λ p. nearest_by (superclasses classes) own n p.0) o ≡ option_and_then (λ p. nearest P own n p.0) o
+      up None h = refl
+      up (Some p) h = h p.0
+
+  pub nearest-told : (P : Plain) → P.classes ≡ map (class_seen tag) classes → (parents : List (Option ClassId)) → parents ≡ superclasses classes
+      → (own : ℕ → Option ℕ) (c : ℕ) (r : Option ℕ) → IsNearestBy parents own c r → own c ≡ None → r ≡ nearest_of P own c
+  nearest-told P is parents up own c r h here =
+      sym (h here) ∙ ap (λ ps. nearest_by ps own (length ps) c) up
+      ∙ ap (λ n. nearest_by (superclasses classes) own n c)
+      (length-map classes (λ k. k.parent) ∙ sym (length-map classes (class_seen tag)) ∙ ap length (sym is))
+      ∙ nearest-seen P is own (length P.classes) c
+
+module _ (P : Plain) (own : ℕ → Option ℕ) where
+  -- what a class itself has is nearest
+  pub own-nearest : {D : Type 0} (number : D → ℕ) (n c : ℕ) (o : Option D) → is_some o ≡ true → option_map number o ≡ own c
+      → option_map number o ≡ nearest P own n c
+  own-nearest number n c None some e = absurd (cc some)
+  own-nearest number n c (Some d) some e = sym (nearest-here P own n c (number d) (sym e))
+
+  pub nothing-own : {D : Type 0} (number : D → ℕ) (c : ℕ) (o : Option D) → is_some o ≡ false → option_map number o ≡ own c → own c ≡ None
+  nothing-own number c None none e = sym e
+  nothing-own number c (Some d) none e = absurd (cc none)
 
 -- ---- one version more
 
@@ -89,29 +127,25 @@ set_cases (x ∷ xs) zero (suc c) y z e = inr e
 set_cases (x ∷ xs) (suc i) zero y z e = inr e
 set_cases (x ∷ xs) (suc i) (suc c) y z e = ⊎_elim (λ h. inl (ap suc h.0, h.1)) (λ h. inr h) (set_cases xs i c y z e)
 
-or_none : (o : Option ℕ) → first_or o None ≡ o
-or_none None = refl
-or_none (Some y) = refl
-
-module _ (classes : List PlainClass) (numbers : List (Option ℕ)) (own : List (Vec ℕ Global)) (all : List (Option VersionMap))
-    (v : AreVersions classes numbers own all) (at : ℕ) (map : VersionMap) (h : ℕ → Option ℕ)
+module _ (parents : List (Option ClassId)) (numbers : List (Option ℕ)) (own : List (Vec ℕ Global)) (all : List (Option VersionMap))
+    (v : AreVersions parents numbers own all) (at : ℕ) (map : VersionMap) (h : ℕ → Option ℕ)
     (is : (i : ℕ) → holds map i ≡ first_or (numbered_among numbers i (listed own at)) (h i)) where
-  first-entered : (o : Option ClassId) → parent_of (of_classes classes) at ≡ o → IsVersionAbove all o h → (i : ℕ)
-      → ∥ IsFirst classes (λ k. numbered_among numbers i (listed own k)) at (holds map i) ∥₁
+  first-entered : (o : Option ClassId) → parent_at parents at ≡ o → IsVersionAbove all o h → (i : ℕ)
+      → ∥ IsFirst parents (λ k. numbered_among numbers i (listed own k)) at (holds map i) ∥₁
   first-entered None e above i =
       let f : ℕ → Option ℕ = λ k. numbered_among numbers i (listed own k) in
-      ∣ subst (IsFirst classes f at) (sym (is i ∙ ap (first_or (f at)) (above i) ∙ or_none (f at))) (highest e) ∣₁
+      ∣ subst (IsFirst parents f at) (sym (is i ∙ ap (first_or (f at)) (above i) ∙ or_none (f at))) (highest e) ∣₁
   first-entered (Some p) e above i =
       let f : ℕ → Option ℕ = λ k. numbered_among numbers i (listed own k) in
       ∥∥₁_map (v.each p.0 above.of above.stands i)
-      (λ g. subst (IsFirst classes f at) (sym (is i ∙ ap (first_or (f at)) (above.same i))) (lower e g))
+      (λ g. subst (IsFirst parents f at) (sym (is i ∙ ap (first_or (f at)) (above.same i))) (lower e g))
 
-  pub versions-entered : IsVersionAbove all (parent_of (of_classes classes) at) h → AreVersions classes numbers own (set all at (Some map))
+  pub versions-entered : IsVersionAbove all (parent_at parents at) h → AreVersions parents numbers own (set all at (Some map))
   versions-entered above = record {
     each = λ c m e i. ⊎_elim
-        (λ same. subst (λ z. ∥ IsFirst classes (λ k. numbered_among numbers i (listed own k)) z (holds m i) ∥₁) (sym same.0)
-        (subst (λ w. ∥ IsFirst classes (λ k. numbered_among numbers i (listed own k)) at (holds w i) ∥₁) (sym (some-one same.1))
-        (first-entered (parent_of (of_classes classes) at) refl above i)))
+        (λ same. subst (λ z. ∥ IsFirst parents (λ k. numbered_among numbers i (listed own k)) z (holds m i) ∥₁) (sym same.0)
+        (subst (λ w. ∥ IsFirst parents (λ k. numbered_among numbers i (listed own k)) at (holds w i) ∥₁) (sym (some-one same.1))
+        (first-entered (parent_at parents at) refl above i)))
         (λ old. v.each c m old i) (set_cases all at c (Some map) (Some m) e);
   }
     where
@@ -190,17 +224,15 @@ module _ {A : Type 0} (owner : A → ℕ) (name : A → List ℕ) (counts : A �
           absurd (cc (e, g.1))
 
   -- what the version of the superclass has under the number of a name is nearest, where a class has nothing of its own
-  pub numbered-nearest : (P : Plain) → IsAcyclic P → (own : ℕ → Option ℕ) (x : List ℕ)
-      → ((k : ℕ) → position (λ a. (owner a == k) && named x a) xs ≡ own k) → (lists : List (Vec ℕ Global)) → AreOwned (map owner xs) lists
-      → (all : List (Option VersionMap)) → AreVersions P.classes (map number_of xs) lists all → (c : ℕ) (m : VersionMap) → IsAbove P.classes all c m
-      → own c ≡ None → (o : Option ℕ) → o ≡ number x → option_and_then (holds m) o ≡ nearest_of P own c
-  numbered-nearest P acyclic own x is lists owned all v c m a here None e =
-      sym (nowhere P own (λ k. sym (is k) ∙ unnumbered x (sym e) k) (length P.classes) c)
-  numbered-nearest P acyclic own x is lists owned all v c m a here (Some i) e =
-      sym
-      (first-above P own acyclic (λ k. numbered_among (map number_of xs) i (listed lists k))
+  pub numbered-nearest : (parents : List (Option ClassId)) (lists : List (Vec ℕ Global)) → AreOwned (map owner xs) lists
+      → (all : List (Option VersionMap)) → AreVersions parents (map number_of xs) lists all → (c : ℕ) (m : VersionMap) → IsAbove parents all c m
+      → (x : List ℕ) (o : Option ℕ) → o ≡ number x → (own : ℕ → Option ℕ) → ((k : ℕ) → position (λ a. (owner a == k) && named x a) xs ≡ own k)
+      → IsNearestBy parents own c (option_and_then (holds m) o)
+  numbered-nearest parents lists owned all v c m a x None e own is here = nowhere parents own (λ k. sym (is k) ∙ unnumbered x (sym e) k) (length parents) c
+  numbered-nearest parents lists owned all v c m a x (Some i) e own is here =
+      first-above parents own (λ k. numbered_among (map number_of xs) i (listed lists k))
       (λ k. ap (numbered_among (map number_of xs) i) (owned.exact k) ∙ own-numbered x i (sym e) k ∙ is k)
-      c a.by (holds m i) here a.parent (v.each a.by.0 m a.stands i))
+      c a.by (holds m i) here a.parent (v.each a.by.0 m a.stands i)
 
 -- the number of what is found is small, where the list is
 pub number-within : {A : Type 0} (p : A → Bool) (xs : List A) (o : Option ℕ) → o ≡ position p xs → length xs < 4294967295 → IfSome o (λ i. i < 4294967296)

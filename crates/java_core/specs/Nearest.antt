@@ -1,5 +1,6 @@
 -- What stands nearest at or above a class, by numbers of names.
-use Rattle.std.specs.Prelude.{◌≡◌, ℕ, ◌&&◌, not, Bool, List, map, Option, Some, None, slice_get, position, if◌then◌else◌}
+use Rattle.std.specs.Prelude.{◌≡◌, ℕ, zero, suc, ◌&&◌, not, Bool, List, length, map, Option, Some, None, slice_get, position, if◌then◌else◌}
+use Rattle.std.specs.Option.{option_and_then}
 use Rattle.std.specs.Str.{bytes_eq}
 use Rattle.std.specs.declared.vec.Vec.{Vec}
 use Rattle.std.specs.declared.alloc.Global.{Global}
@@ -8,10 +9,9 @@ use Rattle.version_map.specs.declared.VersionMap.{VersionMap}
 use Rattle.version_map.specs.Held.{holds}
 use Rattle.java_core.specs.declared.Field.{Field}
 use Rattle.java_core.specs.declared.Method.{Method}
-use Rattle.java_core.specs.Plain.{PlainClass}
-use Rattle.java_core.specs.Classes.{parent_of, first_or, is_slot}
+use Rattle.java_core.specs.declared.Class.{Class}
+use Rattle.java_core.specs.Classes.{first_or, is_slot}
 use Rattle.java_core.specs.Owned.{listed, first_among}
-use Rattle.java_core.specs.Subtypes.{of_classes}
 
 -- ---- numbers of names
 
@@ -44,15 +44,27 @@ numbered_among numbers i own = first_among (λ o. is_slot o i) numbers own
 
 -- ---- along the superclasses
 
+-- the superclass of each class
+abbrev pub superclasses : List Class → List (Option ClassId)
+superclasses classes = map (λ k. k.parent) classes
+
+abbrev pub parent_at : List (Option ClassId) → ℕ → Option ClassId
+parent_at parents c = option_and_then (λ o. o) (slice_get parents c)
+
+-- what a class has, or where it has nothing what its superclass has, within n steps upwards
+abbrev pub nearest_by : List (Option ClassId) → (ℕ → Option ℕ) → ℕ → ℕ → Option ℕ
+nearest_by parents f zero c = f c
+nearest_by parents f (suc n) c = first_or (f c) (option_and_then (λ p. nearest_by parents f n p.0) (parent_at parents c))
+
 -- r is what a class itself has, or where it has nothing what is so found from its superclass
-pub data IsFirst (classes : List PlainClass) (own : ℕ → Option ℕ) : ℕ → Option ℕ → Type 0 where
-  highest : {c : ℕ} → parent_of (of_classes classes) c ≡ None → IsFirst classes own c (own c)
-  lower : {c : ℕ} {p : ClassId} {r : Option ℕ} → parent_of (of_classes classes) c ≡ Some p → IsFirst classes own p.0 r → IsFirst classes own c (first_or (own c) r)
+pub data IsFirst (parents : List (Option ClassId)) (own : ℕ → Option ℕ) : ℕ → Option ℕ → Type 0 where
+  highest : {c : ℕ} → parent_at parents c ≡ None → IsFirst parents own c (own c)
+  lower : {c : ℕ} {p : ClassId} {r : Option ℕ} → parent_at parents c ≡ Some p → IsFirst parents own p.0 r → IsFirst parents own c (first_or (own c) r)
 
 -- the versions that are there have under each number what is first along the superclasses
-pub record AreVersions (classes : List PlainClass) (numbers : List (Option ℕ)) (own : List (Vec ℕ Global)) (all : List (Option VersionMap)) : Type 0 where
+pub record AreVersions (parents : List (Option ClassId)) (numbers : List (Option ℕ)) (own : List (Vec ℕ Global)) (all : List (Option VersionMap)) : Type 0 where
   pub each : (c : ℕ) (m : VersionMap) → slice_get all c ≡ Some (Some m) → (i : ℕ)
-      → ∥ IsFirst classes (λ k. numbered_among numbers i (listed own k)) c (holds m i) ∥₁
+      → ∥ IsFirst parents (λ k. numbered_among numbers i (listed own k)) c (holds m i) ∥₁
 
 -- a map has what the version of a class has
 pub record IsVersion (all : List (Option VersionMap)) (c : ℕ) (h : ℕ → Option ℕ) : Type 0 where
@@ -66,7 +78,11 @@ IsVersionAbove all None h = (i : ℕ) → h i ≡ None
 IsVersionAbove all (Some p) h = IsVersion all p.0 h
 
 -- a map is the version of the superclass of a class
-pub record IsAbove (classes : List PlainClass) (all : List (Option VersionMap)) (c : ℕ) (m : VersionMap) : Type 0 where
+pub record IsAbove (parents : List (Option ClassId)) (all : List (Option VersionMap)) (c : ℕ) (m : VersionMap) : Type 0 where
   pub by : ClassId
-  pub parent : parent_of (of_classes classes) c ≡ Some by
+  pub parent : parent_at parents c ≡ Some by
   pub stands : slice_get all by.0 ≡ Some (Some m)
+
+-- r is nearest to a class that has nothing itself, of a name that each class has by own
+abbrev pub IsNearestBy : List (Option ClassId) → (ℕ → Option ℕ) → ℕ → Option ℕ → Type 0
+IsNearestBy parents own c r = own c ≡ None → nearest_by parents own (length parents) c ≡ r

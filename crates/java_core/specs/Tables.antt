@@ -1,5 +1,5 @@
 -- The numbers of members by owner, by owner and name, by owner and slot, and by name.
-use Rattle.std.specs.Prelude.{ℕ, ◌+◌, ◌*◌, ◌/◌, ◌%◌, List, ◌∷◌, length, map, Option, Some, None, []}
+use Rattle.std.specs.Prelude.{◌≡◌, ℕ, ◌+◌, ◌*◌, ◌/◌, ◌%◌, List, ◌∷◌, length, map, Option, Some, None, []}
 use Rattle.std.specs.Str.{encode_utf8_all}
 use Rattle.java_core.specs.declared.Class.{Class}
 use Rattle.java_core.specs.declared.Field.{Field}
@@ -13,10 +13,9 @@ use Rattle.java_core.specs.declared.tables.MethodKey.{MethodKey}
 use Rattle.java_core.specs.declared.tables.FieldTables.{FieldTables}
 use Rattle.java_core.specs.declared.tables.MethodTables.{MethodTables}
 use Rattle.java_core.specs.declared.tables.Tables.{Tables}
-use Rattle.java_core.specs.Trees.{no_place}
-use Rattle.java_core.specs.Plain.{class_seen}
+use Rattle.kaba_base.specs.declared.ClassId.{ClassId}
 use Rattle.java_core.specs.Owned.{AreOwned}
-use Rattle.java_core.specs.Nearest.{field_numbers, method_numbers, AreVersions}
+use Rattle.java_core.specs.Nearest.{superclasses, field_numbers, method_numbers, AreVersions}
 
 -- a hash carried on by a number, by the prime of Fowler, Noll and Vo's hash
 abbrev pub mixed : ℕ → ℕ → ℕ
@@ -56,20 +55,21 @@ abbrev pub AreMethodsBy : MethodKey → List Method → List (Vec ℕ Global) �
 AreMethodsBy by methods lists = AreOwned (map (λ m. method_place by (length methods) m) methods) lists
 
 -- the tables have each field of these where it belongs
-pub record AreFieldTables (classes : List Class) (fields : List Field) (t : FieldTables) : Type 0 where
+pub record AreFieldTables (parents : List (Option ClassId)) (fields : List Field) (t : FieldTables) : Type 0 where
   pub own : AreFieldsBy field_key.Owner fields t.own.items
   pub by_name : AreFieldsBy field_key.OwnerAndName fields t.by_name.items
   pub named : AreFieldsBy field_key.Name fields t.named.items
-  pub nearest : AreVersions (map (class_seen no_place) classes) (field_numbers fields) t.own.items t.nearest.items
+  pub nearest : AreVersions parents (field_numbers fields) t.own.items t.nearest.items
 
 -- the same of methods
-pub record AreMethodTables (classes : List Class) (methods : List Method) (t : MethodTables) : Type 0 where
+pub record AreMethodTables (parents : List (Option ClassId)) (methods : List Method) (t : MethodTables) : Type 0 where
   pub own : AreMethodsBy method_key.Owner methods t.own.items
   pub by_name : AreMethodsBy method_key.OwnerAndName methods t.by_name.items
   pub by_slot : AreMethodsBy method_key.OwnerAndSlot methods t.by_slot.items
   pub named : AreMethodsBy method_key.Name methods t.named.items
-  pub nearest : AreVersions (map (class_seen no_place) classes) (method_numbers methods) t.own.items t.nearest.items
+  pub nearest : AreVersions parents (method_numbers methods) t.own.items t.nearest.items
 
 pub record AreTables (cs : List Class) (fs : List Field) (ms : List Method) (t : Tables) : Type 0 where
-  pub fields : AreFieldTables cs fs t.fields
-  pub methods : AreMethodTables cs ms t.methods
+  pub parents : t.parents.items ≡ superclasses cs
+  pub fields : AreFieldTables t.parents.items fs t.fields
+  pub methods : AreMethodTables t.parents.items ms t.methods

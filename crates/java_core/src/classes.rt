@@ -1,24 +1,20 @@
 //! Subtyping, and the members that a class or an interface has.
 
-ghost use Rattle.std.specs.Prelude.{◌≡◌, ℕ, ◌<◌, ◌↔◌, length, IsTrue, Option, Some, IfSome, IfNone, Contains, option_and_then};
+ghost use Rattle.std.specs.Prelude.{◌≡◌, ℕ, ◌<◌, ◌↔◌, length, IsTrue, Option, Some, IfSome, IfNone, Contains};
 ghost use Rattle.std.specs.Option.{option_map};
 ghost use Rattle.java_core.specs.Trees.{no_place};
 ghost use Rattle.java_core.specs.Programs.{program_of};
 ghost use Rattle.java_core.specs.Classes.{IsSubclass, below, parent_of, faces_of, supers_of, field_of, member_field, is_static_field, own_method, nearest, nearest_of, faces_above, first_found, declaration_of, slot_of_method, slot_of, lookup, nearest_declaration, super_method};
 ghost use Rattle.java_core.specs.Found.{Runs, IsOffered};
-ghost use Rattle.version_map.specs.Held.{holds};
-ghost use Rattle.java_core.specs.Nearest.{IsAbove};
 ghost use Rattle.java_core.specs.declared.classes.Named.TheVariants as named;
 ghost use Rattle.java_core.specs.Own.{own_named, own_of_slot, towards};
 ghost use Rattle.java_core.specs.Formed.{IsFormed};
 
 use crate::Program;
-use crate::nearest::{field_number, method_number};
 use crate::own::{
     methods_named, offered_at, own_body_at, own_declaration_at, own_field_at, own_method_at,
 };
 use kaba_base::{ClassId, MemberId, Name};
-use version_map::VersionMap;
 
 /// Whether a class or interface is at or below another (Java Language Specification, 4.10.2).
 #[tactic(auto, unfolding(crate::specs::Classes::below))]
@@ -279,33 +275,12 @@ fn nearest_named(
     }
 }
 
-/// The version of a class's superclass, where it is known.
-fn version_above<'a>(
-    p: &Program,
-    versions: &'a Vec<Option<VersionMap>>,
-    class: ClassId,
-) -> Option<&'a VersionMap>
-    ensures { IfSome result (λ m. IsAbove (program_of no_place p.now).classes versions.now.items class.0 m.now) }
+/// A member of a number, if there is one.
+fn numbered(at: Option<u32>) -> Option<MemberId>
+    ensures { option_map (λ d. d.0) result ≡ at }
 {
-    match parent_of(p, class) {
-        Some(parent) => match versions.get(parent.0 as usize) {
-            Some(Some(map)) => Some(map),
-            _ => None,
-        },
-        None => None,
-    }
-}
-
-/// What a version has under a number, if there is one.
-fn numbered(map: &VersionMap, number: Option<usize>) -> Option<MemberId>
-    requires { IfSome number (λ i. i < 4294967296) }
-    ensures { option_map (λ d. d.0) result ≡ option_and_then (holds map.now) number }
-{
-    match number {
-        Some(number) => match map.get(number as u32) {
-            Some(at) => Some(MemberId(at)),
-            None => None,
-        },
+    match at {
+        Some(at) => Some(MemberId(at)),
         None => None,
     }
 }
@@ -319,8 +294,12 @@ fn nearest_field(p: &Program, class: ClassId, name: &Name) -> Option<MemberId>
     if own.is_some() {
         return own;
     }
-    match version_above(p, &p.tables.fields.nearest, class) {
-        Some(map) => numbered(map, field_number(&p.fields, &p.tables.fields.named, name)),
+    match p
+        .tables
+        .fields
+        .nearest_above(&p.tables.parents, &p.fields, class.0 as usize, name)
+    {
+        Some(at) => numbered(at),
         None => nearest_named(p, class, name, Named::Field, class_count(p)),
     }
 }
@@ -334,11 +313,12 @@ fn nearest_method(p: &Program, class: ClassId, name: &Name) -> Option<MemberId>
     if own.is_some() {
         return own;
     }
-    match version_above(p, &p.tables.methods.nearest, class) {
-        Some(map) => numbered(
-            map,
-            method_number(&p.methods, &p.tables.methods.named, name),
-        ),
+    match p
+        .tables
+        .methods
+        .nearest_above(&p.tables.parents, &p.methods, class.0 as usize, name)
+    {
+        Some(at) => numbered(at),
         None => nearest_named(p, class, name, Named::Method, class_count(p)),
     }
 }

@@ -7,6 +7,7 @@ ghost use Rattle.java_core.specs.Plain.{class_seen};
 ghost use Rattle.java_core.specs.Tables.{AreTables};
 ghost use Rattle.java_core.specs.Subtypes.{subtype_rows};
 
+mod above;
 mod checked;
 mod classes;
 mod direct;
@@ -34,6 +35,7 @@ pub use statics::{
 };
 pub use subtypes::{Hierarchy, subtypes_of};
 use tables::Tables;
+pub use tables::{FieldTables, superclasses};
 
 /// What an array's elements are, or a type that is no array.
 #[derive(Clone, Copy, Debug, PartialEq, Eq)]

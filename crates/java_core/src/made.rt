@@ -4,12 +4,14 @@
 ghost use Rattle.std.specs.Prelude.{◌≡◌, map, IfOk};
 ghost use Rattle.java_core.specs.Trees.{at_place};
 ghost use Rattle.java_core.specs.Plain.{class_seen};
+ghost use Rattle.java_core.specs.Nearest.{superclasses};
+ghost use Rattle.java_core.specs.Tables.{AreFieldTables};
 ghost use Rattle.java_core.specs.Subtypes.{subtype_rows};
 ghost use Rattle.java_core.specs.Programs.{IsMadeOf};
 
-use crate::tables::Tables;
+use crate::tables::{FieldTables, MethodTables, Tables};
 use crate::{Class, Field, Hierarchy, Method, Program, Slot};
-use kaba_base::MemberId;
+use kaba_base::{ClassId, MemberId};
 use std::alloc::{AllocError, Global};
 use std::mem::drop;
 
@@ -23,25 +25,32 @@ impl Program {
         slots: Vec<Slot>,
         main: MemberId,
         above: Hierarchy,
+        parents: Vec<Option<ClassId>>,
+        field_tables: FieldTables,
     ) -> Result<Program, AllocError>
-        requires { above ≡ subtype_rows (map (class_seen at_place) classes.items) }
+        requires above { above ≡ subtype_rows (map (class_seen at_place) classes.items) }
+        requires parents { parents.items ≡ superclasses classes.items }
+        requires tables { AreFieldTables parents.items fields.items field_tables }
         ensures { IfOk result (λ p. IsMadeOf classes fields methods slots main p) }
     {
-        match Tables::new(
+        match MethodTables::new(
             alloc,
-            classes.as_slice(),
-            fields.as_slice(),
+            parents.as_slice(),
             methods.as_slice(),
             above.supertypes_first(),
         ) {
-            Ok(tables) => Ok(Program {
+            Ok(method_tables) => Ok(Program {
                 classes,
                 fields,
                 methods,
                 slots,
                 main,
                 above,
-                tables,
+                tables: Tables {
+                    parents,
+                    fields: field_tables,
+                    methods: method_tables,
+                },
             }),
             Err(error) => {
                 drop(classes);
@@ -49,6 +58,8 @@ impl Program {
                 drop(methods);
                 drop(slots);
                 drop(above);
+                drop(parents);
+                drop(field_tables);
                 Err(error)
             }
         }

@@ -4,25 +4,22 @@
 ghost use Rattle.std.specs.Prelude.{◌≡◌, ℕ, ◌<◌, ◌∷◌, [], length, map, Some, IfOk, IfSome, OnOk, slice_get, set};
 ghost use Rattle.version_map.specs.Held.{holds};
 ghost use Rattle.version_map.specs.declared.VersionMap.{VersionMap};
-ghost use Rattle.java_core.specs.Trees.{no_place};
-ghost use Rattle.java_core.specs.Plain.{class_seen};
-ghost use Rattle.java_core.specs.Classes.{parent_of, first_or, is_slot};
-ghost use Rattle.java_core.specs.Subtypes.{of_classes};
+ghost use Rattle.java_core.specs.Classes.{first_or, is_slot};
 ghost use Rattle.java_core.specs.Owned.{passes, first_among};
 ghost use Rattle.java_core.specs.declared.tables.FieldKey.TheVariants as field_key;
 ghost use Rattle.java_core.specs.declared.tables.MethodKey.TheVariants as method_key;
 ghost use Rattle.java_core.specs.Tables.{AreFieldsBy, AreMethodsBy};
-ghost use Rattle.java_core.specs.Nearest.{is_named_field, is_named_method, field_number, method_number, number_of_method, field_numbers, method_numbers, numbered_among, AreVersions, IsVersion, IsVersionAbove};
+ghost use Rattle.java_core.specs.Nearest.{is_named_field, is_named_method, field_number, method_number, number_of_method, field_numbers, method_numbers, numbered_among, parent_at, AreVersions, IsVersion, IsVersionAbove};
 
 use crate::owned::listed_under;
 use crate::tables::name_bucket;
-use crate::{Class, Field, Method};
+use crate::{Field, Method};
 use kaba_base::{ClassId, Name};
 use std::alloc::{AllocError, Global};
 use version_map::VersionMap;
 
 /// Members are numbered in 32 bits.
-const MANY: usize = 4294967295;
+pub const MANY: usize = 4294967295;
 
 /// Whether a field has the name.
 fn is_named_field(field: &Field, name: &Name) -> bool
@@ -228,11 +225,11 @@ fn version_above(
 }
 
 /// The superclass of the class of a number.
-fn parent_in(classes: &[Class], at: usize) -> Option<ClassId>
-    ensures { result ≡ parent_of (of_classes (map (class_seen no_place) classes.now)) at }
+pub fn parent_at(parents: &[Option<ClassId>], at: usize) -> Option<ClassId>
+    ensures { result ≡ parent_at parents.now at }
 {
-    match classes.get(at) {
-        Some(class) => class.parent,
+    match parents.get(at) {
+        Some(parent) => *parent,
         None => None,
     }
 }
@@ -249,17 +246,17 @@ fn put(all: &mut [Option<VersionMap>], at: usize, map: VersionMap)
 /// The version of a class, if that of its superclass is known; `AllocError` where memory is short.
 fn enter(
     alloc: Global,
-    classes: &[Class],
+    parents: &[Option<ClassId>],
     own: &Vec<Vec<usize>>,
     numbers: &[Option<u32>],
     all: &mut [Option<VersionMap>],
     at: usize,
 ) -> Result<(), AllocError>
     requires few { length numbers.now < 4294967295 }
-    requires before { AreVersions (map (class_seen no_place) classes.now) numbers.now own.now.items all.old }
-    ensures { OnOk result (AreVersions (map (class_seen no_place) classes.now) numbers.now own.now.items all.new) }
+    requires before { AreVersions parents.now numbers.now own.now.items all.old }
+    ensures { OnOk result (AreVersions parents.now numbers.now own.now.items all.new) }
 {
-    let Some(above) = version_above(alloc, parent_in(classes, at), all)? else {
+    let Some(above) = version_above(alloc, parent_at(parents, at), all)? else {
         return Ok(());
     };
     let map = with_members(alloc, above, numbers, listed_under(own, at))?;
@@ -291,10 +288,10 @@ fn is_marked(marks: &[bool], at: usize) -> bool {
 }
 
 /// Which classes others extend; `AllocError` where memory is short. What is made by it is tested.
-fn extended(alloc: Global, classes: &[Class]) -> Result<Vec<bool>, AllocError> {
-    let mut marks = vec![in alloc; false; classes.len()]?;
-    for class in classes {
-        if let Some(parent) = class.parent {
+fn extended(alloc: Global, parents: &[Option<ClassId>]) -> Result<Vec<bool>, AllocError> {
+    let mut marks = vec![in alloc; false; parents.len()]?;
+    for parent in parents {
+        if let Some(parent) = parent {
             mark(&mut marks, parent.0 as usize);
         }
     }
@@ -304,21 +301,21 @@ fn extended(alloc: Global, classes: &[Class]) -> Result<Vec<bool>, AllocError> {
 /// For each class that others extend the members at or above it by the numbers of their names; `AllocError` where memory is short.
 fn versions(
     alloc: Global,
-    classes: &[Class],
+    parents: &[Option<ClassId>],
     own: &Vec<Vec<usize>>,
     numbers: &[Option<u32>],
     order: &[u32],
 ) -> Result<Vec<Option<VersionMap>>, AllocError>
     requires { length numbers.now < 4294967295 }
-    ensures { IfOk result (λ v. AreVersions (map (class_seen no_place) classes.now) numbers.now own.now.items v.items) }
+    ensures { IfOk result (λ v. AreVersions parents.now numbers.now own.now.items v.items) }
 {
-    let extended = extended(alloc, classes)?;
-    let mut all = none_yet(alloc, classes.len())?;
+    let extended = extended(alloc, parents)?;
+    let mut all = none_yet(alloc, parents.len())?;
     for at in order {
         if is_marked(&extended, *at as usize) {
             enter(
                 alloc,
-                classes,
+                parents,
                 own,
                 numbers,
                 all.as_mut_slice(),
@@ -332,37 +329,37 @@ fn versions(
 /// For each class that others extend the fields at or above it by the numbers of their names; `AllocError` where memory is short.
 pub fn nearest_fields(
     alloc: Global,
-    classes: &[Class],
+    parents: &[Option<ClassId>],
     fields: &[Field],
     own: &Vec<Vec<usize>>,
     lists: &Vec<Vec<usize>>,
     order: &[u32],
 ) -> Result<Vec<Option<VersionMap>>, AllocError>
     requires { AreFieldsBy field_key.Name fields.now lists.now.items }
-    ensures { IfOk result (λ v. AreVersions (map (class_seen no_place) classes.now) (field_numbers fields.now) own.now.items v.items) }
+    ensures { IfOk result (λ v. AreVersions parents.now (field_numbers fields.now) own.now.items v.items) }
 {
     if fields.len() >= MANY {
         return none_yet(alloc, 0);
     }
     let numbers = field_numbers(alloc, fields, lists)?;
-    versions(alloc, classes, own, numbers.as_slice(), order)
+    versions(alloc, parents, own, numbers.as_slice(), order)
 }
 
 /// For each class that others extend the instance methods at or above it by the numbers of their names; `AllocError` where memory is short.
 pub fn nearest_methods(
     alloc: Global,
-    classes: &[Class],
+    parents: &[Option<ClassId>],
     methods: &[Method],
     own: &Vec<Vec<usize>>,
     lists: &Vec<Vec<usize>>,
     order: &[u32],
 ) -> Result<Vec<Option<VersionMap>>, AllocError>
     requires { AreMethodsBy method_key.Name methods.now lists.now.items }
-    ensures { IfOk result (λ v. AreVersions (map (class_seen no_place) classes.now) (method_numbers methods.now) own.now.items v.items) }
+    ensures { IfOk result (λ v. AreVersions parents.now (method_numbers methods.now) own.now.items v.items) }
 {
     if methods.len() >= MANY {
         return none_yet(alloc, 0);
     }
     let numbers = method_numbers(alloc, methods, lists)?;
-    versions(alloc, classes, own, numbers.as_slice(), order)
+    versions(alloc, parents, own, numbers.as_slice(), order)
 }

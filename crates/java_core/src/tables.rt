@@ -3,7 +3,8 @@
 
 ghost use Rattle.std.specs.Prelude.{◌≡◌, ◌+◌, ◌/◌, ◌<◌, length, map, IfOk};
 ghost use Rattle.java_core.specs.Owned.{AreOwned};
-ghost use Rattle.java_core.specs.Tables.{AreFieldTables, AreMethodTables, AreTables, mixed, mixed_all, name_bucket, slot_bucket, field_place, method_place};
+ghost use Rattle.java_core.specs.Nearest.{superclasses};
+ghost use Rattle.java_core.specs.Tables.{AreFieldTables, AreMethodTables, mixed, mixed_all, name_bucket, slot_bucket, field_place, method_place};
 
 use crate::nearest::{nearest_fields, nearest_methods};
 use crate::owned::note_under;
@@ -65,24 +66,38 @@ pub struct MethodTables {
 /// The numbers of members by what they are looked for by.
 #[derive(Drop)]
 pub struct Tables {
+    /// The superclass of each class.
+    pub parents: Vec<Option<ClassId>>,
     pub fields: FieldTables,
     pub methods: MethodTables,
 }
 
+/// The superclass of each class; `AllocError` where memory is short.
+pub fn superclasses(alloc: Global, classes: &[Class]) -> Result<Vec<Option<ClassId>>, AllocError>
+    ensures { IfOk result (λ v. v.items ≡ superclasses classes.now) }
+{
+    let mut parents = Vec::new(alloc);
+    for class in classes {
+        parents.push(class.parent)?;
+    }
+    Ok(parents)
+}
+
 impl FieldTables {
-    /// The tables of these fields; `AllocError` where memory is short.
-    fn new(
+    /// The tables of these fields, for classes with these superclasses and types in an order in which each comes behind its supertypes;
+    /// `AllocError` where memory is short.
+    pub fn new(
         alloc: Global,
-        classes: &[Class],
+        parents: &[Option<ClassId>],
         fields: &[Field],
         order: &[u32],
     ) -> Result<FieldTables, AllocError>
-        ensures { IfOk result (λ t. AreFieldTables classes.now fields.now t) }
+        ensures { IfOk result (λ t. AreFieldTables parents.now fields.now t) }
     {
         let own = fields_by(alloc, fields, &FieldKey::Owner)?;
         let named = fields_by(alloc, fields, &FieldKey::Name)?;
         Ok(FieldTables {
-            nearest: nearest_fields(alloc, classes, fields, &own, &named, order)?,
+            nearest: nearest_fields(alloc, parents, fields, &own, &named, order)?,
             by_name: fields_by(alloc, fields, &FieldKey::OwnerAndName)?,
             own,
             named,
@@ -91,42 +106,24 @@ impl FieldTables {
 }
 
 impl MethodTables {
-    /// The tables of these methods; `AllocError` where memory is short.
-    fn new(
+    /// The tables of these methods, as above; `AllocError` where memory is short.
+    pub fn new(
         alloc: Global,
-        classes: &[Class],
+        parents: &[Option<ClassId>],
         methods: &[Method],
         order: &[u32],
     ) -> Result<MethodTables, AllocError>
-        ensures { IfOk result (λ t. AreMethodTables classes.now methods.now t) }
+        ensures { IfOk result (λ t. AreMethodTables parents.now methods.now t) }
     {
         let own = methods_by(alloc, methods, &MethodKey::Owner)?;
         let named = methods_by(alloc, methods, &MethodKey::Name)?;
         Ok(MethodTables {
-            nearest: nearest_methods(alloc, classes, methods, &own, &named, order)?,
+            nearest: nearest_methods(alloc, parents, methods, &own, &named, order)?,
             by_name: methods_by(alloc, methods, &MethodKey::OwnerAndName)?,
             by_slot: methods_by(alloc, methods, &MethodKey::OwnerAndSlot)?,
             own,
             named,
         })
-    }
-}
-
-impl Tables {
-    /// The tables of these members, with the types in an order in which each comes behind its supertypes; `AllocError` where memory
-    /// is short.
-    pub fn new(
-        alloc: Global,
-        classes: &[Class],
-        fields: &[Field],
-        methods: &[Method],
-        order: &[u32],
-    ) -> Result<Tables, AllocError>
-        ensures { IfOk result (λ t. AreTables classes.now fields.now methods.now t) }
-    {
-        let fields = FieldTables::new(alloc, classes, fields, order)?;
-        let methods = MethodTables::new(alloc, classes, methods, order)?;
-        Ok(Tables { fields, methods })
     }
 }
 
