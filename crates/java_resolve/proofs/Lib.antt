@@ -1,14 +1,1 @@
-pub mod Rows
-pub mod Lists
-pub mod StatementRows
-pub mod Steps
-pub mod Nearest
-pub mod StatementSteps
-pub mod TypeTable
 pub mod Final
-pub mod SpotLemmas
-pub mod ClashSpots
-pub mod OwnedLemmas
-pub mod ScopeTable
-pub mod ParamScopes
-pub mod MarkLemmas

@@ -1,26 +1,6 @@
 //! Names resolved: the program of a tree, or which rule of names the tree breaks and where.
 #![tactic(auto)]
 
-mod bodies;
-mod clashes;
-mod classes;
-mod declarations;
-mod exprs;
-mod flags;
-mod locals;
-mod make;
-mod marks;
-mod meanings;
-mod members;
-mod names;
-mod owned;
-mod parameters;
-mod scope;
-mod slots;
-mod spots;
-mod stmts;
-mod tables;
-
 ghost use Rattle.java_tree.specs.Syntax.{decls, tree_of};
 ghost use Rattle.java_core.specs.Trees.{at_place, no_place};
 ghost use Rattle.std.specs.Prelude.{◌≡◌, IfOk, IfErr, map};
@@ -34,20 +14,19 @@ ghost use Rattle.java_core.specs.Programs.{Plain, program_of, class_seen};
 ghost use Rattle.java_core.specs.declared.Program.{Program};
 ghost use Rattle.java_core.specs.Subtypes.{subtype_rows};
 ghost use Rattle.name_outcome.specs.Answers.{Gives};
-ghost use Rattle.java_resolve.specs.Views.{members_seen};
-ghost use Rattle.java_resolve.specs.Found.{AreFound};
+ghost use Rattle.declared_types.specs.Found.{members_seen};
+ghost use Rattle.declared_types.specs.Found.{AreFound};
 ghost use Rattle.name_outcome.specs.Resolved.{resolved, with_bodies, parents_of};
 
-use bodies::methods_of;
-use clashes::{clashes_of, main_of};
-use classes::{above_of, classes_of, known_of, loops_of};
-use declarations::Tables;
+use declared_types::{
+    Draft, above_of, clashes_of, classes_of, known_of, loops_of, main_of, members_of,
+};
 use java_core::{Class, Hierarchy, Program};
 use java_tree::{Decl, Tree};
 use kaba_base::{ClassId, MemberId};
-use members::{Draft, members_of};
 pub use name_rules::{Form, Refusal};
-use names::Types;
+use name_tables::Types;
+use resolved_bodies::{Tables, methods_of};
 use std::alloc::{AllocError, Global};
 
 /// The superclass of each class.

@@ -1,0 +1,3 @@
+pub mod ClashSpots
+pub mod MarkLemmas
+pub mod SlotPlaces

@@ -1,0 +1,160 @@
+//! Slots: the first methods of their names, parameters and results.
+#![tactic(auto)]
+
+ghost use Rattle.std.specs.Prelude.{◌≡◌, ℕ, List, IfOk, OnOk, Ok, map, slice_get};
+ghost use Rattle.java_core.specs.Types.{is_base};
+ghost use Rattle.java_core.specs.Trees.{at_place};
+ghost use Rattle.java_core.specs.Programs.{PlainSlot, slot_seen};
+ghost use Rattle.name_outcome.specs.Answers.{Gives};
+ghost use Rattle.java_core.specs.Owned.{passes, first_among};
+ghost use Rattle.name_tables.specs.Spots.{AreSpots};
+ghost use Rattle.declared_types.specs.Found.{fits};
+ghost use Rattle.name_outcome.specs.Members.{same_type, same_result, have_types, slot_in, slotted};
+
+use java_core::{Local, Slot, Ty, TyBase};
+use kaba_base::{MemberId, Name};
+use name_rules::Refusal;
+use name_tables::{Spots, number_at};
+use std::alloc::{AllocError, Global};
+
+/// Whether the types are the same, without their dimensions.
+pub fn is_base(a: TyBase, b: TyBase) -> bool
+    ensures { result ≡ is_base a b }
+{
+    match a {
+        TyBase::Int => match b {
+            TyBase::Int => true,
+            _ => false,
+        },
+        TyBase::Boolean => match b {
+            TyBase::Boolean => true,
+            _ => false,
+        },
+        TyBase::Char => match b {
+            TyBase::Char => true,
+            _ => false,
+        },
+        TyBase::Str => match b {
+            TyBase::Str => true,
+            _ => false,
+        },
+        TyBase::Class(class) => match b {
+            TyBase::Class(other) => class.0 == other.0,
+            _ => false,
+        },
+    }
+}
+
+fn same_type(a: Ty, b: Ty) -> bool
+    ensures { result ≡ same_type a b }
+{
+    is_base(a.base, b.base) & (a.dim == b.dim)
+}
+
+fn same_result(a: Option<Ty>, b: Option<Ty>) -> bool
+    ensures { result ≡ same_result a b }
+{
+    match a {
+        None => b.is_none(),
+        Some(a) => match b {
+            None => false,
+            Some(b) => same_type(a, b),
+        },
+    }
+}
+
+/// Whether the parameters have these types.
+fn have_types(locals: &[Local], types: &[Ty]) -> bool
+    ensures { result ≡ have_types locals.now types.now }
+{
+    match locals {
+        [] => types.is_empty(),
+        [local, locals @ ..] => match types {
+            [] => false,
+            [ty, types @ ..] => same_type(local.ty, *ty) & have_types(locals, types),
+        },
+    }
+}
+
+/// Whether the slot of this number has these parameters and this result.
+fn is_slot_of(slots: &Vec<Slot>, at: u32, locals: &[Local], outcome: Option<Ty>) -> bool
+    ensures { result ≡ passes (fits locals.now outcome) (slice_get slots.now.items at) }
+{
+    match slots.get(at as usize) {
+        Some(slot) => {
+            have_types(locals, slot.params.as_slice()) & same_result(outcome, slot.result)
+        }
+        None => false,
+    }
+}
+
+/// The first of these slots that has these parameters and this result.
+fn slot_among(
+    slots: &Vec<Slot>,
+    list: &[u32],
+    locals: &[Local],
+    outcome: Option<Ty>,
+) -> Option<usize>
+    ensures { result ≡ first_among (fits locals.now outcome) slots.now.items list.now }
+{
+    for at in list {
+        if is_slot_of(slots, *at, locals, outcome) {
+            return Some(*at as usize);
+        }
+    }
+    None
+}
+
+/// The slot of a name, parameters and a result.
+fn slot_in(
+    slots: &Vec<Slot>,
+    spots: &Spots,
+    name: &Name,
+    locals: &[Local],
+    outcome: Option<Ty>,
+) -> Option<usize>
+    requires { AreSpots (map (λ s. s.name) slots.now.items) spots.now }
+    ensures { result ≡ slot_in name.now locals.now outcome (map (slot_seen at_place) slots.now.items) }
+{
+    slot_among(slots, spots.at(name), locals, outcome)
+}
+
+/// The types of parameters.
+fn types_of(alloc: Global, locals: &[Local]) -> Result<Vec<Ty>, AllocError>
+    ensures { IfOk result (λ v. v.items ≡ map (λ l. l.ty) locals.now) }
+{
+    let mut types = Vec::new(alloc);
+    for local in locals {
+        types.push(local.ty)?;
+    }
+    Ok(types)
+}
+
+/// The slot of an instance method, a new one where there is none like it.
+pub fn slotted(
+    alloc: Global,
+    slots: &mut Vec<Slot>,
+    spots: &mut Spots,
+    name: &Name,
+    locals: &[Local],
+    outcome: Option<Ty>,
+    first: u32,
+) -> Result<u32, Refusal>
+    requires found { AreSpots (map (λ s. s.name) slots.old.items) spots.old }
+    ensures given { Gives {A = ℕ} {B = ℕ × List PlainSlot} (λ k. (k, map (slot_seen at_place) slots.new.items))
+        result (Ok (slotted name.now locals.now outcome first (map (slot_seen at_place) slots.old.items))) }
+    ensures found { OnOk result (AreSpots (map (λ s. s.name) slots.new.items) spots.new) }
+{
+    if let Some(slot) = slot_in(slots, spots, name, locals, outcome) {
+        return number_at(slot);
+    }
+    let number = number_at(slots.len())?;
+    spots.note(alloc, name, number)?;
+    slots.push(Slot {
+        name: name.copy(alloc)?,
+        params: types_of(alloc, locals)?,
+        result: outcome,
+        first: MemberId(first),
+    })?;
+    Ok(number)
+}

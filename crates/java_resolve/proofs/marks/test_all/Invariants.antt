@@ -1,5 +1,0 @@
-use Rattle.java_resolve.specs.Marks.{Testing}
-use Rattle.java_resolve.proofs.marks.test_all.Given as goal
-
-abbrev pub invariant-loop-place : goal.invariant-loop-place
-invariant-loop-place l = Testing l.rows l.all.items l.list l.marks l.initial.suspects l.suspects l.place

@@ -1,0 +1,80 @@
+-- Where names stand: what is found by a name's numbers is what is found by going over all.
+use Rattle.std.proofs.Common.{◌≡◌, ℕ, ◌+◌, Bool, true, false, ◌&&◌, cond, List, [], ◌∷◌, ◌++◌, map, length, Option, Some, Result, Ok, Err, arith, refl, sym, ap, ◌∙◌, subst}
+use Rattle.std.specs.Prelude.{slice_get, if◌then◌else◌}
+use Rattle.std.specs.List.{position_from}
+use Rattle.std.specs.Option.{option_map_or}
+use Rattle.std.specs.declared.vec.Vec.{Vec}
+use Rattle.std.specs.declared.alloc.Global.{Global}
+use Rattle.std.specs.Str.{bytes_eq, encode_utf8_all}
+use Rattle.std.proofs.lemmas.List.{append_assoc, length-append, length-map, map-append}
+use Rattle.name_tables.specs.declared.spots.Spots.{Spots}
+use Rattle.java_core.specs.Owned.{passes, first_among}
+use Rattle.java_core.proofs.Words.{is_word-same}
+use Rattle.name_outcome.proofs.Runs.{middle-stands}
+use Rattle.name_tables.specs.Spots.{AreSpots, spots_from, spots_of}
+
+-- texts are the same exactly where their names are
+pub text_test : (a b : List ℕ) → bytes_eq (encode_utf8_all a) (encode_utf8_all b) ≡ bytes_eq a b
+text_test a b = is_word-same a b (encode_utf8_all a) (encode_utf8_all b) refl refl
+
+pub same_ok : {A E : Type 0} (a b : A) → ◌≡◌ {A = Result A E} (Ok a) (Ok b) → a ≡ b
+same_ok a b e = ap (λ o. elim o [ Ok x ↦ x | Err r ↦ a ]) e
+
+-- a list taken under one name, and put back longer
+pub taken-put : (b : Bool) (old mid new : List ℕ) (k : ℕ) (own : List ℕ) → (b ≡ true → own ≡ old) → mid ≡ cond b [] old
+    → new ≡ cond b (own ++ k ∷ []) mid → new ≡ cond b (old ++ k ∷ []) old
+taken-put true old mid new k own e f g = g ∙ ap (λ l. l ++ k ∷ []) (e refl)
+taken-put false old mid new k own e f g = g ∙ f
+
+-- one name more stands last
+spots-more : (k : ℕ) (names : List (List ℕ)) (x n : List ℕ) → spots_from k n (names ++ x ∷ [])
+    ≡ cond (bytes_eq x n) (spots_from k n names ++ (k + length names) ∷ []) (spots_from k n names)
+spots-more k [] x n = ap (λ j. cond (bytes_eq x n) (j ∷ []) []) (omega arith)
+spots-more k (y ∷ names) x n = go (bytes_eq y n) (bytes_eq x n) (spots-more (k + 1) names x n ∙ ap (λ j. cond (bytes_eq x n)
+    (spots_from (k + 1) n names ++ j ∷ []) (spots_from (k + 1) n names)) (omega arith))
+  where
+    go : (b c : Bool) → spots_from (k + 1) n (names ++ x ∷ [])
+        ≡ cond c (spots_from (k + 1) n names ++ (k + length (y ∷ names)) ∷ []) (spots_from (k + 1) n names)
+        → cond b (k ∷ spots_from (k + 1) n (names ++ x ∷ [])) (spots_from (k + 1) n (names ++ x ∷ []))
+        ≡ cond c (cond b (k ∷ spots_from (k + 1) n names) (spots_from (k + 1) n names) ++ (k + length (y ∷ names)) ∷ [])
+        (cond b (k ∷ spots_from (k + 1) n names) (spots_from (k + 1) n names))
+    go true true h = ap (λ z. k ∷ z) h
+    go true false h = ap (λ z. k ∷ z) h
+    go false true h = h
+    go false false h = h
+
+-- a table that was right is right with one member more
+pub spots_noted : {A : Type 0} (name : A → List ℕ) (xs ys : List A) (x : A) (k : ℕ) (old new : Spots) → ys ≡ xs ++ x ∷ [] → AreSpots (map name xs) old
+    → k ≡ length xs → ((n : List ℕ) → spots_of new n ≡ cond (bytes_eq (name x) n) (spots_of old n ++ k ∷ []) (spots_of old n)) → AreSpots (map name ys) new
+spots_noted name xs ys x k old new push are long put = subst (λ z. AreSpots z new) (sym (ap (map name) push ∙ map-append name xs (x ∷ [])))
+    (record {
+      exact = λ n. put n ∙ ap (λ z. cond (bytes_eq (name x) n) (z ++ k ∷ []) z) (are.exact n)
+          ∙ ap (λ j. cond (bytes_eq (name x) n) (spots_from 0 n (map name xs) ++ j ∷ []) (spots_from 0 n (map name xs)))
+          (long ∙ sym (length-map xs name) ∙ omega arith)
+          ∙ sym (spots-more 0 (map name xs) (name x) n);
+    })
+
+-- the numbers under a name, where the table was changed under one name
+pub found_items : (b : Bool) (w o : Option (Vec ℕ Global)) → option_map_or (λ v. v.items) (cond b w o) [] ≡ cond b (option_map_or (λ v. v.items) w [])
+    (option_map_or (λ v. v.items) o [])
+found_items true w o = refl
+found_items false w o = refl
+
+module _ {A : Type 0} (name : A → List ℕ) (p : A → Bool) (n : List ℕ) where
+  -- what passes among those of a name is what passes and has the name
+  pub among : (done rest : List A) (k : ℕ) → length done ≡ k → first_among p (done ++ rest) (spots_from k n (map name rest))
+      ≡ position_from (λ x. p x && bytes_eq (name x) n) k rest
+  among done [] k e = refl
+  among done (x ∷ rest) k e =
+      by_name (bytes_eq (name x) n) (p x) (ap (passes p) (subst (λ i. slice_get (done ++ x ∷ rest) i ≡ Some x) e (middle-stands done x rest)))
+      (ap (λ w. first_among p w (spots_from (k + 1) n (map name rest))) (sym (append_assoc done (x ∷ []) rest))
+      ∙ among (done ++ x ∷ []) rest (k + 1) (length-append done (x ∷ []) ∙ ap (λ i. i + 1) e))
+    where
+      by_name : (b c : Bool) → passes p (slice_get (done ++ x ∷ rest) k) ≡ c → first_among p (done ++ x ∷ rest) (spots_from (k + 1) n (map name rest))
+          ≡ position_from (λ x. p x && bytes_eq (name x) n) (k + 1) rest
+          → first_among p (done ++ x ∷ rest) (cond b (k ∷ spots_from (k + 1) n (map name rest)) (spots_from (k + 1) n (map name rest)))
+          ≡ cond (c && b) (Some k) (position_from (λ x. p x && bytes_eq (name x) n) (k + 1) rest)
+      by_name true true g h = ap (λ z. if z then Some k else first_among p (done ++ x ∷ rest) (spots_from (k + 1) n (map name rest))) g
+      by_name true false g h = ap (λ z. if z then Some k else first_among p (done ++ x ∷ rest) (spots_from (k + 1) n (map name rest))) g ∙ h
+      by_name false true g h = h
+      by_name false false g h = h

@@ -1,0 +1,4 @@
+pub mod Known
+pub mod Owned
+pub mod Spots
+pub mod Scopes

@@ -1,0 +1,6 @@
+pub mod Rows
+pub mod Lists
+pub mod StatementRows
+pub mod Steps
+pub mod Nearest
+pub mod StatementSteps

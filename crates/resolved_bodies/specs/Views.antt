@@ -1,0 +1,26 @@
+-- What the definitions see of the declarations and of what is made so far of a body.
+use Rattle.std.specs.Prelude.{map}
+use Rattle.java_core.specs.Trees.{at_place, expr_of}
+use Rattle.java_core.specs.Programs.{local_seen, method_seen}
+use Rattle.name_outcome.specs.Tables.{Table}
+use Rattle.name_outcome.specs.Expressions.{Receiver, an_object, no_object}
+use Rattle.name_outcome.specs.Statements.{State}
+use Rattle.name_outcome.specs.Resolved.{Methods}
+use Rattle.resolved_bodies.specs.declared.declarations.Tables.{Tables}
+use Rattle.resolved_bodies.specs.declared.exprs.Callee.{Callee}
+use Rattle.resolved_bodies.specs.declared.exprs.Callee.TheVariants as callee
+use Rattle.resolved_bodies.specs.declared.locals.Body.{Body}
+use Rattle.resolved_bodies.specs.declared.bodies.Written.{Written}
+
+abbrev pub table_of : Tables → Table
+table_of t = record { known = t.known; parents = t.parents.items; above = t.above; fields = t.fields.items; headings = t.headings.items }
+
+abbrev pub receiver_of : Callee → Receiver
+receiver_of (callee.Object e) = an_object (expr_of at_place e)
+receiver_of (callee.Static m) = no_object m
+
+abbrev pub state_of : Body → State
+state_of b = record { locals = map (local_seen at_place) b.locals.items; count = b.count; number = b.number }
+
+abbrev pub methods_seen : Written → Methods
+methods_seen w = (map (method_seen at_place) w.methods.items, w.number)

@@ -1,0 +1,33 @@
+//! All declarations.
+#![tactic(auto)]
+
+ghost use Rattle.std.specs.Prelude.{map};
+ghost use Rattle.name_outcome.specs.Tables.{field_in, method_in};
+ghost use Rattle.name_tables.specs.Owned.{AreOwned};
+ghost use Rattle.name_tables.specs.Spots.{AreSpots};
+
+use java_core::{Field, Hierarchy};
+use kaba_base::ClassId;
+use name_outcome::Heading;
+use name_tables::{Owned, Spots, Types};
+
+/// All declarations, without the bodies of methods. The number of each is its place in its list.
+#[derive(Drop)]
+pub struct Tables {
+    pub known: Types,
+    /// The superclass of each class; that of an interface is `Object`.
+    pub parents: Vec<Option<ClassId>>,
+    /// Which types are at or above which.
+    pub above: Hierarchy,
+    pub fields: Vec<Field>,
+    pub headings: Vec<Heading>,
+    /// Where the fields of each class stand.
+    pub own_fields: Owned,
+    /// Where the methods of each class stand.
+    pub own_methods: Owned,
+    /// Where the methods of each name stand.
+    pub method_spots: Spots,
+    ghost fields_found: { AreOwned (field_in fields.items) own_fields },
+    ghost own_found: { AreOwned (method_in headings.items) own_methods },
+    ghost methods_found: { AreSpots (map (λ h. h.name) headings.items) method_spots },
+}

@@ -1,0 +1,14 @@
+//! The bodies of methods, each name in them resolved by what is declared.
+#![tactic(auto)]
+
+mod bodies;
+mod declarations;
+mod exprs;
+mod locals;
+mod make;
+mod meanings;
+mod stmts;
+mod tables;
+
+pub use bodies::methods_of;
+pub use declarations::Tables;
