@@ -3,12 +3,11 @@
 
 ghost use Rattle.std.specs.Prelude.{◌≡◌, ◌+◌, ◌/◌, ◌<◌, length, map, IfOk};
 ghost use Rattle.java_core.specs.Owned.{AreOwned};
-ghost use Rattle.java_core.specs.Nearest.{superclasses};
 ghost use Rattle.java_core.specs.Tables.{AreFieldTables, AreMethodTables, mixed, mixed_all, name_bucket, slot_bucket, field_place, method_place};
 
 use crate::nearest::{nearest_fields, nearest_methods};
 use crate::owned::note_under;
-use crate::{Class, Field, Method};
+use crate::{Field, Method};
 use kaba_base::{ClassId, Name};
 use std::alloc::{AllocError, Global};
 use version_map::VersionMap;
@@ -70,17 +69,6 @@ pub struct Tables {
     pub parents: Vec<Option<ClassId>>,
     pub fields: FieldTables,
     pub methods: MethodTables,
-}
-
-/// The superclass of each class; `AllocError` where memory is short.
-pub fn superclasses(alloc: Global, classes: &[Class]) -> Result<Vec<Option<ClassId>>, AllocError>
-    ensures { IfOk result (λ v. v.items ≡ superclasses classes.now) }
-{
-    let mut parents = Vec::new(alloc);
-    for class in classes {
-        parents.push(class.parent)?;
-    }
-    Ok(parents)
 }
 
 impl FieldTables {

@@ -13,6 +13,7 @@ ghost use Rattle.name_rules.specs.Causes.{IsCause, HasNoCondition};
 ghost use Rattle.java_core.specs.Programs.{Plain, program_of, class_seen};
 ghost use Rattle.java_core.specs.declared.Program.{Program};
 ghost use Rattle.java_core.specs.Subtypes.{subtype_rows};
+ghost use Rattle.java_core.specs.Nearest.{superclasses};
 ghost use Rattle.name_outcome.specs.Answers.{Gives};
 ghost use Rattle.declared_types.specs.Found.{members_seen};
 ghost use Rattle.declared_types.specs.Found.{AreFound};
@@ -21,7 +22,7 @@ ghost use Rattle.name_outcome.specs.Resolved.{resolved, with_bodies, parents_of}
 use declared_types::{
     Draft, above_of, clashes_of, classes_of, known_of, loops_of, main_of, members_of,
 };
-use java_core::{Class, Hierarchy, Program};
+use java_core::{Class, FieldTables, Hierarchy, Program};
 use java_tree::{Decl, Tree};
 use kaba_base::{ClassId, MemberId};
 pub use name_rules::{Form, Refusal};
@@ -31,7 +32,8 @@ use std::alloc::{AllocError, Global};
 
 /// The superclass of each class.
 fn parents_of(alloc: Global, classes: &Vec<Class>) -> Result<Vec<Option<ClassId>>, AllocError>
-    ensures { IfOk result (λ v. v.items ≡ parents_of (map (class_seen at_place) classes.now.items)) }
+    ensures seen { IfOk result (λ v. v.items ≡ parents_of (map (class_seen at_place) classes.now.items)) }
+    ensures same { IfOk result (λ v. v.items ≡ superclasses classes.now.items) }
 {
     let mut parents = Vec::new(alloc);
     for class in classes {
@@ -72,15 +74,23 @@ fn with_bodies(
         &draft.headings,
     )?;
     let main = main_of(&draft.headings)?;
+    let parents = parents_of(alloc, &classes)?;
+    let field_tables = FieldTables::new(
+        alloc,
+        parents.as_slice(),
+        draft.fields.as_slice(),
+        above.supertypes_first(),
+    )?;
     let tables = Tables {
         known,
-        parents: parents_of(alloc, &classes)?,
+        parents,
         above,
         own_fields: draft.own_fields,
         own_methods: draft.own_methods,
         fields: draft.fields,
         headings: draft.headings,
         method_spots: draft.method_spots,
+        field_tables,
     };
     match methods_of(alloc, &tables, list) {
         Ok(methods) => match Program::new(
@@ -91,6 +101,8 @@ fn with_bodies(
             draft.slots,
             MemberId(main),
             tables.above,
+            tables.parents,
+            tables.field_tables,
         ) {
             Ok(program) => Ok(program),
             Err(_) => Err(Refusal::Memory),

@@ -1,12 +1,15 @@
 -- The walk to the nearest field.
-use Rattle.std.proofs.Common.{◌≡◌, ℕ, ◌+◌, ◌<◌, ◌≤◌, drop-cons, List, [], ◌∷◌, length, drop, get_or, Option, Some, None, ◌≢◌, refl, sym, ap, ◌∙◌, add-one, arith}
+use Rattle.std.proofs.Common.{◌≡◌, ℕ, true, false, ◌+◌, ◌<◌, ◌≤◌, drop-cons, List, [], ◌∷◌, length, drop, get_or, Option, Some, None, ◌≢◌, refl, sym, ap, ◌∙◌, add-one, arith}
 use Rattle.std.specs.Prelude.{nat_eq, slice_get}
 use Rattle.std.specs.HashMap.{HashMap, get}
 use Rattle.std.specs.Map.{lookup}
 use Rattle.std.proofs.lemmas.Bool.{ne_eqb}
 use Rattle.std.proofs.lemmas.List.{drop_all}
 use Rattle.kaba_base.specs.declared.ClassId.{ClassId}
-use Rattle.name_outcome.specs.Tables.{Table, own_field, parent_of, or_above, nearest_in}
+use Rattle.std.specs.Option.{is_some, option_and_then}
+use Rattle.java_core.specs.Classes.{first_or}
+use Rattle.java_core.specs.Nearest.{nearest_by, IsNearestBy}
+use Rattle.name_outcome.specs.Tables.{Table, own_field, parent_in, parent_of, or_above, nearest_in}
 
 split : (t : Table) (n : List ℕ) (steps : List (Option ClassId)) (i c : ℕ) → i < length steps →
     nearest_in t n (drop i steps) c ≡ or_above (own_field t c n) (parent_of t.parents c) (λ p. nearest_in t n (drop (i + 1) steps) p)
@@ -56,3 +59,31 @@ only_other m c one other = go m.entries one other
     go [] l o = absurd (omega (arith, l))
     go (e ∷ []) l o = rw (ne_eqb c e.0 (λ s. o e refl (sym s))) refl
     go (e ∷ f ∷ es) l o = absurd (omega (arith, l))
+
+-- ---- what is found at once
+
+-- what a class itself has is nearest
+pub nearest_own : (t : Table) (n : List ℕ) (steps : List (Option ClassId)) (c : ℕ) (o : Option ℕ) → is_some o ≡ true → o ≡ own_field t c n
+    → o ≡ nearest_in t n steps c
+nearest_own t n [] c o some e = e
+nearest_own t n (_ ∷ steps) c None some e = absurd (cc some)
+nearest_own t n (_ ∷ steps) c (Some f) some e = ap (λ q. or_above q (parent_of t.parents c) (λ p. nearest_in t n steps p)) e
+
+nearest_same : (t : Table) (n : List ℕ) (steps : List (Option ClassId)) (c : ℕ)
+    → nearest_by t.parents (λ k. own_field t k n) (length steps) c ≡ nearest_in t n steps c
+nearest_same t n [] c = refl
+nearest_same t n (_ ∷ steps) c = up (own_field t c n) (slice_get t.parents c) (λ k. nearest_same t n steps k)
+  where
+    up : (o : Option ℕ) (q : Option (Option ClassId)) → ((k : ℕ) → nearest_by t.parents (λ k. own_field t k n) (length steps) k ≡ nearest_in t n steps k)
+        → first_or o (option_and_then (λ p. nearest_by t.parents (λ k. own_field t k n) (length steps) p.0) (option_and_then (λ x. x) q))
+        ≡ or_above o (parent_in q) (λ p. nearest_in t n steps p)
+    up (Some f) q h = refl
+    up None None h = refl
+    up None (Some None) h = refl
+    up None (Some (Some p)) h = h p.0
+
+-- what a list of superclasses tells is what is found
+pub nearest_told : (t : Table) (n : List ℕ) (c : ℕ) (o r : Option ℕ) → is_some o ≡ false → o ≡ own_field t c n
+    → IsNearestBy t.parents (λ k. own_field t k n) c r → r ≡ nearest_in t n t.parents c
+nearest_told t n c (Some f) r none e h = absurd (cc none)
+nearest_told t n c None r none e h = sym (h (sym e)) ∙ nearest_same t n t.parents c

@@ -2,11 +2,12 @@
 #![tactic(auto)]
 
 ghost use Rattle.std.specs.Prelude.{map};
+ghost use Rattle.java_core.specs.Tables.{AreFieldTables};
 ghost use Rattle.name_outcome.specs.Tables.{field_in, method_in};
 ghost use Rattle.name_tables.specs.Owned.{AreOwned};
 ghost use Rattle.name_tables.specs.Spots.{AreSpots};
 
-use java_core::{Field, Hierarchy};
+use java_core::{Field, FieldTables, Hierarchy};
 use kaba_base::ClassId;
 use name_outcome::Heading;
 use name_tables::{Owned, Spots, Types};
@@ -27,7 +28,10 @@ pub struct Tables {
     pub own_methods: Owned,
     /// Where the methods of each name stand.
     pub method_spots: Spots,
+    /// Which fields are nearest above a class.
+    pub field_tables: FieldTables,
     ghost fields_found: { AreOwned (field_in fields.items) own_fields },
+    ghost above_found: { AreFieldTables parents.items fields.items field_tables },
     ghost own_found: { AreOwned (method_in headings.items) own_methods },
     ghost methods_found: { AreSpots (map (λ h. h.name) headings.items) method_spots },
 }

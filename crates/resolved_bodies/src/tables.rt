@@ -84,9 +84,9 @@ fn fields_named<'a>(tables: &'a Tables, name: &Name) -> Option<&'a IndexMap<u32,
     tables.own_fields.named(name)
 }
 
-/// The number of the nearest field of a name upwards.
+/// The number of the nearest field of a name upwards, found class by class.
 #[tactic(auto, unfolding(name_outcome::specs::Tables::nearest_field))]
-pub fn nearest_field(tables: &Tables, class: u32, name: &Name) -> Option<usize>
+fn walked_field(tables: &Tables, class: u32, name: &Name) -> Option<usize>
     ensures { result ≡ nearest_field (table_of tables.now) class name.now }
 {
     let Some(numbers) = fields_named(tables, name) else {
@@ -105,6 +105,34 @@ pub fn nearest_field(tables: &Tables, class: u32, name: &Name) -> Option<usize>
     match number_under(numbers, at) {
         Some(field) => Some(field as usize),
         None => None,
+    }
+}
+
+/// The number of a field, if there is one.
+fn widened(at: Option<u32>) -> Option<usize>
+    ensures { result ≡ at }
+{
+    match at {
+        Some(at) => Some(at as usize),
+        None => None,
+    }
+}
+
+/// The number of the nearest field of a name upwards.
+#[tactic(auto, unfolding(name_outcome::specs::Tables::nearest_field))]
+pub fn nearest_field(tables: &Tables, class: u32, name: &Name) -> Option<usize>
+    ensures { result ≡ nearest_field (table_of tables.now) class name.now }
+{
+    let own = own_field(tables, class, name);
+    if own.is_some() {
+        return own;
+    }
+    match tables
+        .field_tables
+        .nearest_above(&tables.parents, &tables.fields, class as usize, name)
+    {
+        Some(at) => widened(at),
+        None => walked_field(tables, class, name),
     }
 }
 

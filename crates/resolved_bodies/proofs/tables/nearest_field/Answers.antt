@@ -1,30 +1,22 @@
-use Rattle.std.proofs.Common.{sym, ap, ◌∙◌}
-use Rattle.name_outcome.specs.Tables.{parent_of, nearest_field}
+use Rattle.std.proofs.Common.{ℕ, Option, sym, ap, ◌∙◌, subst}
+use Rattle.java_core.specs.Nearest.{IsNearestBy}
+use Rattle.name_outcome.specs.Tables.{nearest_field, field_in, own_field}
 use Rattle.resolved_bodies.specs.Views.{table_of}
-use Rattle.resolved_bodies.proofs.Nearest.{nearest_here, nearest_none, nearest_next, nearest_nowhere}
+use Rattle.resolved_bodies.proofs.Nearest.{nearest_own, nearest_told}
 use Rattle.resolved_bodies.proofs.tables.nearest_field.Goals as goal
 
-pub returns-in_default : goal.returns-in_default
+pub returns-then-is_some : goal.returns-then-is_some
 unfolding nearest_field
-returns-in_default c = nearest_nowhere (table_of c.args.tables.now) c.args.name.now c.args.tables.now.parents.items c.args.class
-    (λ k. sym (c.in_default.ensures k))
+returns-then-is_some c = nearest_own (table_of c.args.tables.now) c.args.name.now c.args.tables.now.parents.items c.args.class c.own_field-own.result
+    (sym c.is_some.ensures ∙ c.if-is_some.true) c.own_field-own.ensures
 
-pub returns-in-Some-number_under : goal.returns-in-Some-number_under
+pub returns-in-Some : goal.returns-in-Some
 unfolding nearest_field
-returns-in-Some-number_under c =
-    nearest_here (table_of c.args.tables.now) c.args.name.now c.deref-step-items.result.now c.loop-step._step-index c.loop-step.at
-    c.in-Some-number_under.field _ c.loop-step-test.true
-    (sym (c.in-Some.ensures c.loop-step.at) ∙ sym c.number_under.ensures ∙ c.in-Some-number_under.is) c.loop-step.invariant
-
-pub returns-in-None-parent_of : goal.returns-in-None-parent_of
-unfolding nearest_field
-returns-in-None-parent_of c =
-    nearest_none (table_of c.args.tables.now) c.args.name.now c.deref-step-items.result.now c.loop-step._step-index c.loop-step.at _
-    c.loop-step-test.true (sym (c.in-Some.ensures c.loop-step.at) ∙ sym c.number_under.ensures ∙ c.in-None.is)
-    (ap (λ xs. parent_of xs c.loop-step.at) (sym c.as_slice.ensures.value) ∙ sym c.parent_of.ensures ∙ c.in-None-parent_of.is) c.loop-step.invariant
-
-pub loop-step-preserved : goal.loop-step-preserved
-loop-step-preserved c =
-    nearest_next (table_of c.args.tables.now) c.args.name.now c.deref-step-items.result.now c.loop-step._step-index c.loop-step.at
-    c.in-Some-parent_of.parent _ c.loop-step-test.true (sym (c.in-Some.ensures c.loop-step.at) ∙ sym c.number_under.ensures ∙ c.in-None.is)
-    (ap (λ xs. parent_of xs c.loop-step.at) (sym c.as_slice.ensures.value) ∙ sym c.parent_of.ensures ∙ c.in-Some-parent_of.is) c.loop-step.invariant
+returns-in-Some c =
+    let t = table_of c.args.tables.now in
+    let n = c.args.name.now in
+    let own : ℕ → Option ℕ = λ k. own_field t k n in
+    c.widened.ensures
+    ∙ nearest_told t n c.args.class c.own_field-own.result c.in-Some.at (sym c.is_some.ensures ∙ c.if-is_some.false) c.own_field-own.ensures
+    (subst (λ ps. IsNearestBy ps own c.args.class c.in-Some.at) c.deref.ensures.value
+    (c.in-Some.ensures own (λ k. ap (λ fs. field_in fs k n) c.deref-2.ensures.value)))

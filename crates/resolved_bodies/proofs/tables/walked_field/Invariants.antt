@@ -1,7 +1,7 @@
 use Rattle.std.proofs.Common.{◌≡◌, drop}
 use Rattle.name_outcome.specs.Tables.{nearest_in}
 use Rattle.resolved_bodies.specs.Views.{table_of}
-use Rattle.resolved_bodies.proofs.tables.nearest_field.Given as goal
+use Rattle.resolved_bodies.proofs.tables.walked_field.Given as goal
 
 -- what is nearest from here, in the steps that are left
 abbrev pub invariant-loop-step : goal.invariant-loop-step
