@@ -1,6 +1,29 @@
 //! Names resolved: the program of a tree, or which rule of names the tree breaks and where.
 #![tactic(auto)]
 
+/// What a call made; where it made nothing, what is held is let go, and the function ends with the call's error,
+/// or with the error of the named type that comes from it.
+macro_rules! made {
+    ($call:expr => $fault:ident; $($held:ident),*) => {
+        match $call {
+            Ok(made) => made,
+            Err(fault) => {
+                $(drop($held);)*
+                return Err($fault::from(fault));
+            }
+        }
+    };
+    ($call:expr; $($held:ident),*) => {
+        match $call {
+            Ok(made) => made,
+            Err(fault) => {
+                $(drop($held);)*
+                return Err(fault);
+            }
+        }
+    };
+}
+
 ghost use Rattle.java_tree.specs.Syntax.{decls, tree_of};
 ghost use Rattle.java_core.specs.Trees.{at_place, no_place};
 ghost use Rattle.std.specs.Prelude.{◌≡◌, IfOk, IfErr, map};
@@ -14,9 +37,9 @@ ghost use Rattle.java_core.specs.Programs.{Plain, program_of, class_seen};
 ghost use Rattle.java_core.specs.declared.Program.{Program};
 ghost use Rattle.java_core.specs.Subtypes.{subtype_rows};
 ghost use Rattle.java_core.specs.Nearest.{superclasses};
-ghost use Rattle.name_outcome.specs.Answers.{Gives};
-ghost use Rattle.declared_types.specs.Found.{members_seen};
-ghost use Rattle.declared_types.specs.Found.{AreFound};
+ghost use Rattle.name_outcome.specs.Answers.{Gives, with};
+ghost use Rattle.name_outcome.specs.Members.{clashes_of, main_of};
+ghost use Rattle.declared_types.specs.Found.{AreFound, members_seen};
 ghost use Rattle.name_outcome.specs.Resolved.{resolved, with_bodies, parents_of};
 
 use declared_types::{
@@ -51,6 +74,15 @@ fn narrowed(count: usize) -> u32 {
     }
 }
 
+/// The number of the main method, where none of the methods clashes with another; there are so many types.
+fn main_number(alloc: Global, above: &Hierarchy, count: u32, draft: &Draft) -> Result<u32, Refusal>
+    requires found { AreFound draft.now }
+    ensures { Gives (λ k. k) result (with (clashes_of above.now draft.now.headings.items) (λ _. main_of draft.now.headings.items)) }
+{
+    let _count = clashes_of(alloc, above, count, &draft.method_spots, &draft.headings)?;
+    main_of(&draft.headings)
+}
+
 /// The program of a tree whose types and members these are.
 fn with_bodies(
     alloc: Global,
@@ -66,21 +98,10 @@ fn with_bodies(
         (with_bodies (decls list.now) known (map (class_seen at_place) classes.items) above
         (members_seen draft)) }
 {
-    let _count = clashes_of(
-        alloc,
-        &above,
-        narrowed(classes.len()),
-        &draft.method_spots,
-        &draft.headings,
-    )?;
-    let main = main_of(&draft.headings)?;
-    let parents = parents_of(alloc, &classes)?;
-    let field_tables = FieldTables::new(
-        alloc,
-        parents.as_slice(),
-        draft.fields.as_slice(),
-        above.supertypes_first(),
-    )?;
+    let count = narrowed(classes.len());
+    let main = made!(main_number(alloc, &above, count, &draft); known, classes, above, draft);
+    let parents = made!(parents_of(alloc, &classes) => Refusal; known, classes, above, draft);
+    let field_tables = made!(FieldTables::new(alloc, parents.as_slice(), draft.fields.as_slice(), above.supertypes_first()) => Refusal; known, classes, above, draft, parents);
     let tables = Tables {
         known,
         parents,
@@ -124,10 +145,10 @@ fn resolve_tree(alloc: Global, tree: &Tree) -> Result<Program, Refusal>
 {
     let list = tree.decls.as_slice();
     let known = known_of(alloc, list)?;
-    let classes = classes_of(alloc, &known, list)?;
-    let above = above_of(alloc, &classes)?;
-    let _count = loops_of(alloc, &above, &classes)?;
-    let draft = members_of(alloc, &known, list)?;
+    let classes = made!(classes_of(alloc, &known, list); known);
+    let above = made!(above_of(alloc, &classes); known, classes);
+    let _count = made!(loops_of(alloc, &above, &classes); known, classes, above);
+    let draft = made!(members_of(alloc, &known, list); known, classes, above);
     with_bodies(alloc, list, known, classes, above, draft)
 }
 

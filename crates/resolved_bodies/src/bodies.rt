@@ -88,13 +88,13 @@ fn method_step(
 {
     let flags = flags_of(kind, head.mods.as_slice())?;
     let mut scope = Scope::new(alloc);
-    let params = params_in(alloc, &tables.known, &mut scope, head.params.as_slice())?;
-    let outcome = result_of(alloc, &tables.known, &head.result)?;
+    let params = made!(params_in(alloc, &tables.known, &mut scope, head.params.as_slice()); scope);
+    let outcome = made!(result_of(alloc, &tables.known, &head.result); params, scope);
     let here = Here {
         owner,
         is_static: flags.is_static,
     };
-    let (locals, body) = body_of(
+    let given = body_of(
         alloc,
         tables,
         here,
@@ -102,11 +102,14 @@ fn method_step(
         &scope,
         &mut written.number,
         tree,
-    )?;
+    );
+    drop(scope);
+    let (locals, body) = made!(given; params);
+    let name = made!(head.name.copy(alloc) => Refusal; params, locals, body);
     let slot = slot_at(tables.headings.as_slice(), written.methods.len());
     written.methods.push(Method {
         owner: ClassId(owner),
-        name: head.name.copy(alloc)?,
+        name,
         is_static: flags.is_static,
         is_public: flags.is_public,
         slot,

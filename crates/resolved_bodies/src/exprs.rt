@@ -115,18 +115,19 @@ pub fn expr(
         Expr::Name { name, place } => name_meaning(alloc, tables, here, scope, name, *place),
         Expr::Field { base, name, place } => {
             if let Some(class) = class_before(alloc, tables, here, scope, base)? {
-                let field = static_field_of(alloc, tables, &class, name, *place)?;
+                let field = made!(static_field_of(alloc, tables, &class, name, *place); class);
                 return Ok(RExpr::Static {
                     field: MemberId(field),
                     place: *place,
                 });
             }
             let base = expr(alloc, tables, here, scope, number, base)?;
-            Ok(make::field(alloc, base, name.copy(alloc)?, *place)?)
+            let name = made!(name.copy(alloc) => Refusal; base);
+            Ok(make::field(alloc, base, name, *place)?)
         }
         Expr::Index { base, at, place } => {
             let base = expr(alloc, tables, here, scope, number, base)?;
-            let at = expr(alloc, tables, here, scope, number, at)?;
+            let at = made!(expr(alloc, tables, here, scope, number, at); base);
             Ok(make::index(alloc, base, at, *place)?)
         }
         Expr::Call {
@@ -165,8 +166,8 @@ pub fn expr(
             place,
         } => {
             let value = expr(alloc, tables, here, scope, number, value)?;
-            let class = asked(alloc, &tables.known, &class.name, class.place)?;
-            let own = next(number)?;
+            let class = made!(asked(alloc, &tables.known, &class.name, class.place); value);
+            let own = made!(next(number); value);
             Ok(make::instance_of(alloc, own, value, class, *place)?)
         }
         Expr::Unary { mark, value, place } => {
@@ -180,7 +181,7 @@ pub fn expr(
             place,
         } => {
             let left = expr(alloc, tables, here, scope, number, left)?;
-            let right = expr(alloc, tables, here, scope, number, right)?;
+            let right = made!(expr(alloc, tables, here, scope, number, right); left);
             Ok(make::binary(alloc, bin_op(*mark), left, right, *place)?)
         }
     }
@@ -206,7 +207,10 @@ fn simple_call(
     let args = all(alloc, tables, here, scope, number, args)?;
     match method {
         Some(method) => Ok(make::static_call(method, args, place)),
-        None => Ok(make::call(name.copy(alloc)?, args, place)),
+        None => {
+            let name = made!(name.copy(alloc) => Refusal; args);
+            Ok(make::call(name, args, place))
+        }
     }
 }
 
@@ -228,7 +232,10 @@ fn callee_of(
         (walk (table_of tables.now) here scope.now number.old (expr_of base.now))) }
 {
     match class_before(alloc, tables, here, scope, base)? {
-        Some(class) => Ok(Callee::Static(static_method_of(alloc, tables, &class, name, place)?)),
+        Some(class) => {
+            let method = made!(static_method_of(alloc, tables, &class, name, place); class);
+            Ok(Callee::Static(method))
+        }
         None => Ok(Callee::Object(expr(alloc, tables, here, scope, number, base)?)),
     }
 }
@@ -250,8 +257,8 @@ fn applied(
         (after (walk_all (table_of tables.now) here scope.now no_ex number.old (exprs args.now.items))
         (λ xs. called_on (receiver_of on) name.now xs place)) }
 {
-    let name = name.copy(alloc)?;
-    let args = all(alloc, tables, here, scope, number, args)?;
+    let name = made!(name.copy(alloc) => Refusal; on);
+    let args = made!(all(alloc, tables, here, scope, number, args); on, name);
     match on {
         Callee::Static(method) => Ok(make::static_call(method, args, place)),
         Callee::Object(base) => Ok(make::call_on(alloc, base, name, args, place)?),
@@ -278,7 +285,8 @@ fn super_call(
         return Err(Refusal::NotInProfile(Form::ThisInStatic, place));
     }
     let args = all(alloc, tables, here, scope, number, args)?;
-    Ok(make::super_call(name.copy(alloc)?, args, place))
+    let name = made!(name.copy(alloc) => Refusal; args);
+    Ok(make::super_call(name, args, place))
 }
 
 /// `new class(args)`

@@ -12,7 +12,7 @@ use std::alloc::{AllocError, Global};
 pub fn field(alloc: Global, base: RExpr, name: Name, place: Place) -> Result<RExpr, AllocError>
     ensures { IfOk result (λ e. expr_of at_place e ≡ field (at_place place) (expr_of at_place base) name) }
 {
-    let base = Box::new(alloc, base)?;
+    let base = made!(Box::new(alloc, base) => AllocError; name);
     Ok(RExpr::Field { base, name, place })
 }
 
@@ -20,8 +20,8 @@ pub fn field(alloc: Global, base: RExpr, name: Name, place: Place) -> Result<REx
 pub fn index(alloc: Global, base: RExpr, at: RExpr, place: Place) -> Result<RExpr, AllocError>
     ensures { IfOk result (λ e. expr_of at_place e ≡ index (at_place place) (expr_of at_place base) (expr_of at_place at)) }
 {
-    let base = Box::new(alloc, base)?;
-    let at = Box::new(alloc, at)?;
+    let base = made!(Box::new(alloc, base) => AllocError; at);
+    let at = made!(Box::new(alloc, at) => AllocError; base);
     Ok(RExpr::Index { base, at, place })
 }
 
@@ -47,9 +47,9 @@ pub fn call_on(
 ) -> Result<RExpr, AllocError>
     ensures { IfOk result (λ e. expr_of at_place e ≡ call (at_place place) (expr_of at_place base) name (exprs at_place args.items)) }
 {
-    let base = Some(Box::new(alloc, base)?);
+    let base = made!(Box::new(alloc, base) => AllocError; name, args);
     Ok(RExpr::Call {
-        base,
+        base: Some(base),
         name,
         args,
         place,
@@ -161,8 +161,8 @@ pub fn binary(
 ) -> Result<RExpr, AllocError>
     ensures { IfOk result (λ e. expr_of at_place e ≡ binary (at_place place) op (expr_of at_place left) (expr_of at_place right)) }
 {
-    let left = Box::new(alloc, left)?;
-    let right = Box::new(alloc, right)?;
+    let left = made!(Box::new(alloc, left) => AllocError; right);
+    let right = made!(Box::new(alloc, right) => AllocError; left);
     Ok(RExpr::Binary {
         op,
         left,

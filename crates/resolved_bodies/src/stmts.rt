@@ -154,7 +154,7 @@ fn assign(
         (AssignOf (expr_of target.now) (expr_of value.now) place)) }
 {
     let target = part(alloc, tables, here, scope, body, target)?;
-    let value = part(alloc, tables, here, scope, body, value)?;
+    let value = made!(part(alloc, tables, here, scope, body, value); target);
     Ok(RStmt::Assign {
         target,
         value,
@@ -203,7 +203,7 @@ fn choice(
         (else_seen other.now)) scope.now
         (λ o. choose (at_place place) (ending (core.arms_seen at_place arms.items no_other) o))) }
 {
-    let other = otherwise(alloc, tables, here, inside, scope, body, other)?;
+    let other = made!(otherwise(alloc, tables, here, inside, scope, body, other); arms);
     Ok(make::choose(arms, other, place))
 }
 
@@ -225,7 +225,7 @@ fn while_loop(
         (WhileOf (expr_of test.now) (stmts run.now.items) place)) }
 {
     let test = part(alloc, tables, here, scope, body, test)?;
-    let run = statements(alloc, tables, here, true, scope, body, run)?;
+    let run = made!(statements(alloc, tables, here, true, scope, body, run); test);
     Ok(make::while_loop(test, run, place))
 }
 
@@ -249,7 +249,7 @@ fn for_body(
         (stmts run.now.items)) outer (loop (at_place place) false (core.step_seen at_place first)
         (core.value_of at_place test) (core.step_seen at_place step))) }
 {
-    let run = statements(alloc, tables, here, true, inner, body, run)?;
+    let run = made!(statements(alloc, tables, here, true, inner, body, run); first, test, step);
     Ok(make::for_loop(first, test, step, run, place))
 }
 
@@ -317,7 +317,7 @@ fn arm(
         (expr_of tree.now.test) (stmts tree.now.body.items)) }
 {
     let test = part(alloc, tables, here, scope, body, &tree.test)?;
-    let run = statements(alloc, tables, here, inside, scope, body, &tree.body)?;
+    let run = made!(statements(alloc, tables, here, inside, scope, body, &tree.body); test);
     Ok(RArm { test, body: run })
 }
 
