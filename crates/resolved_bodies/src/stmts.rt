@@ -108,7 +108,12 @@ fn stmt(
                         alloc, tables, here, &inner, body, first, test, last, run, *place,
                     )
                 }
-                Err(refusal) => Err(refusal),
+                Err(refusal) => {
+                    drop(first);
+                    drop(test);
+                    drop(inner);
+                    Err(refusal)
+                }
             }
         }
         Stmt::Return {

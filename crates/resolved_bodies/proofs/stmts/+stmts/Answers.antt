@@ -41,8 +41,8 @@ stmt-returns-in-Ok t c =
           (if_shown _ _ _ _ c.in-If.is) c.in-Ok.ensures.given c.choice.ensures.given;
     }
 
-pub stmt-returns-in-If : goal.stmt-returns-in-If
-stmt-returns-in-If t c =
+pub stmt-returns-in-Err : goal.stmt-returns-in-Err
+stmt-returns-in-Err t c =
     record {
       given = if_fault c.in-Err.refusal (table_of c.args.tables.now) c.args.here c.args.inside c.args.scope.now
           (state_of c.args.body.now) (if_shown _ _ _ _ c.in-If.is) c.in-Err.ensures.given;
@@ -60,8 +60,8 @@ stmt-returns-in-Ok-optional t c =
           c.in-Ok-optional.ensures.given (c.for_body.ensures.given c.args.scope.now);
     }
 
-pub stmt-returns-in-For : goal.stmt-returns-in-For
-stmt-returns-in-For t c =
+pub stmt-returns-in-Err-optional : goal.stmt-returns-in-Err-optional
+stmt-returns-in-Err-optional t c =
     record {
       given = for_fault c.in-Err-optional.refusal (table_of c.args.tables.now) c.args.here c.args.inside c.args.scope.now c.within-inner.result
           (state_of c.args.body.now) (core.step_seen at_place c.in_ok-first-in-For.first, c.optional.new.scope, state_of c.optional.new.body)
