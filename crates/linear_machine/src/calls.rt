@@ -17,7 +17,7 @@ use linear_state::{Back, Ending, Machine, Turn};
 use std::alloc::AllocError;
 
 /// The class of the object in a cell.
-#[inline]
+#[inline(always)]
 pub fn class_at(heap: &Heap, at: u32) -> Option<u32>
     ensures { result ≡ option_and_then (λ c. own_class c.kind) (slice_get heap.now.cells at) }
 {
@@ -97,8 +97,8 @@ pub fn enter<'a>(
 }
 
 /// Where the code of a method begins.
-#[inline]
-fn entry_at(image: &Image, method: Option<u32>) -> Option<&Entry>
+#[inline(always)]
+pub fn entry_at(image: &Image, method: Option<u32>) -> Option<&Entry>
     ensures { option_map (λ e. entry_of e.now) result ≡ option_and_then (tables_of image.now).entry method }
 {
     match method {

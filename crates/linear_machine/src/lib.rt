@@ -11,6 +11,7 @@ macro_rules! stop {
     }};
 }
 
+mod bodies;
 mod calcs;
 mod calls;
 mod effects;

@@ -1,6 +1,6 @@
 //! A stack, seen as the list of its items, the topmost first.
 
-ghost use Rattle.std.specs.Prelude.{◌≡◌, List, [], ◌∷◌, reverse, MatchOption, OnOk};
+ghost use Rattle.std.specs.Prelude.{◌≡◌, ◌≢◌, List, [], ◌∷◌, reverse, MatchOption, OnOk, IsTrue, IsFalse};
 
 use std::alloc::{AllocError, Global};
 use std::marker::Model;
@@ -36,6 +36,26 @@ impl<T: Drop> Stack<T> {
             Ok(()) => Ok(()),
             Err(_) => Err(AllocError),
         }
+    }
+
+    /// One more item on top, if there is memory for it: whether it is there.
+    #[inline(always)]
+    pub fn add(&mut self, item: T) -> bool
+        ensures done { IsTrue result → self.new ≡ item ∷ self.old }
+        ensures same { IsFalse result → self.new ≡ self.old }
+    {
+        match self.items.push(item) {
+            Ok(()) => true,
+            Err(_) => false,
+        }
+    }
+
+    /// Whether there is no item.
+    #[inline(always)]
+    pub fn is_empty(&self) -> bool
+        ensures { IsFalse result → self.now ≢ [] }
+    {
+        self.items.is_empty()
     }
 
     /// Takes the topmost item.
