@@ -11,6 +11,7 @@ macro_rules! stop {
     }};
 }
 
+mod asking;
 mod bodies;
 mod calcs;
 mod calls;
