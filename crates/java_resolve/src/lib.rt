@@ -101,7 +101,8 @@ fn with_bodies(
     let count = narrowed(classes.len());
     let main = made!(main_number(alloc, &above, count, &draft); known, classes, above, draft);
     let parents = made!(parents_of(alloc, &classes) => Refusal; known, classes, above, draft);
-    let field_tables = made!(FieldTables::new(alloc, parents.as_slice(), draft.fields.as_slice(), above.supertypes_first()) => Refusal; known, classes, above, draft, parents);
+    let field_tables =
+        made!(FieldTables::new(alloc, parents.as_slice(), draft.fields.as_slice(), above.supertypes_first()) => Refusal; known, classes, above, draft, parents);
     let tables = Tables {
         known,
         parents,
