@@ -174,6 +174,13 @@ def reads_below_a_chain(count):
     return text + main(f"    C{count - 1} c = new C{count - 1}();\n    int x = 0;\n" + "    x = c.f;\n" * (3 * count))
 
 
+def simple_names_below_a_chain(count):
+    """A chain of classes under one with a field, and six times as many uses of the field by its simple name in the lowest."""
+    text = "class C0 { int f; }\n" + "".join(f"class C{n} extends C{n - 1} {{ }}\n" for n in range(1, count))
+    bodies = "".join(f"  void m{n}() {{ {'f=1; ' * 100}}}\n" for n in range(6 * count // 100))
+    return text + f"class L extends C{count - 1} {{\n{bodies}}}\n" + main()
+
+
 def super_calls_below_a_chain(count):
     """Classes one below the other, and two calls for each of the method of the highest by super."""
     text = "class C0 {\n  void m() {\n  }\n}\n" + "".join(f"class C{n} extends C{n - 1} {{\n}}\n" for n in range(1, count))
@@ -218,6 +225,7 @@ SHAPES = [
     ("interfaces in a chain, and a call of the method of the highest", faces_in_a_chain, (3625, 7250, 14500, 29000)),
     ("classes in a chain, and as many calls of the method of the highest", calls_below_a_chain, (3000, 6000, 12000, 24000)),
     ("classes in a chain, and three times as many reads of a field of the highest", reads_below_a_chain, (1750, 3500, 7000, 14000)),
+    ("classes in a chain, and six times as many uses of a field of the highest by its simple name", simple_names_below_a_chain, (2000, 4000, 8000, 16000)),
     ("classes in a chain, and twice as many calls by super of the method of the highest", super_calls_below_a_chain, (2000, 4000, 8000, 16000)),
     ("methods of one name in as many classes", namesakes_alone, (3750, 7500, 15000, 30000)),
     ("interfaces with a method of one name and one of two parameters, and as many classes", overloads, (1250, 2500, 5000, 10000)),

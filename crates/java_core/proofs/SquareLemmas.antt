@@ -38,6 +38,10 @@ square-past n f a b (inr le) = ⊎_elim
     (λ ge. ap (λ o. row_in o b) (value-past (λ x. map (λ y. f x y) (range_with_len 0 n)) n a ge))
     (cases_lt a n)
 
+pub square-length : (n : ℕ) (f : ℕ → ℕ → Bool) → length (square n f) ≡ n
+unfolding square
+square-length n f = length-map-range_with_len (λ a. map (λ b. f a b) (range_with_len 0 n)) 0 n
+
 pub square-within : (n : ℕ) (f : ℕ → ℕ → Bool) (a b : ℕ) → is_above (square n f) a b ≡ true → (a < n) × (b < n)
 square-within n f a b e = (
   ⊎_elim (λ lt. lt) (λ ge. absurd (false≢true (sym (square-past n f a b (inl ge)) ∙ e))) (cases_lt a n),
@@ -68,6 +72,9 @@ next-in-row (x ∷ xs) b from some (Some i) h = h
 -- ---- what a hierarchy says
 
 module _ (n : ℕ) (rows self : List (List Bool)) (view : square n (is_below rows) ≡ self) where
+  pub view-length : length self ≡ n
+  view-length = ap length (sym view) ∙ square-length n (is_below rows)
+
   pub above-in : (a b : ℕ) → a < n → b < n → is_above self a b ≡ in_row (row rows b) a b
   above-in a b la lb = ap (λ z. is_above z a b) (sym view) ∙ square-above n (is_below rows) a b la lb
 

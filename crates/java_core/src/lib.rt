@@ -34,8 +34,8 @@ pub use statics::{
     static_of, string_method, string_result, type_at, unary_type, value_type,
 };
 pub use subtypes::{Hierarchy, subtypes_of};
-pub use tables::FieldTables;
 use tables::Tables;
+pub use tables::{FieldTables, mixed, mixed_all};
 
 /// What an array's elements are, or a type that is no array.
 #[derive(Clone, Copy, Debug, PartialEq, Eq)]

@@ -2,7 +2,7 @@
 #![tactic(auto)]
 
 ghost use Rattle.std.specs.Prelude.{◌≡◌, ℕ, ◌<◌, ◌≤◌, ◌||◌, ◌⊎◌, ◌↔◌, Bool, List, ◌∷◌, [], length, map, IfOk, OnOk, IsTrue, MatchOption, Contains, false};
-ghost use Rattle.kaba_bits.specs.Sets.{bit, size, IsLeastFrom};
+ghost use Rattle.kaba_bits.specs.Sets.{bit, size, IsEmpty, IsLeastFrom};
 ghost use Rattle.java_core.specs.Trees.{at_place};
 ghost use Rattle.java_core.specs.Plain.{class_seen};
 ghost use Rattle.java_core.specs.Squares.{meet};
@@ -103,6 +103,28 @@ impl Hierarchy {
         }
         let below = self.below.as_slice();
         share(row_at(below, a as usize), row_at(below, b as usize), a, b)
+    }
+
+    /// A row for all types with none in it; `AllocError` where memory is short.
+    pub fn empty_row(&self, alloc: Global) -> Result<BitRow, AllocError>
+        ensures width { IfOk result (λ r. length r ≡ length self.now) }
+        ensures empty { IfOk result (λ r. IsEmpty r) }
+    {
+        match u32::try_from(self.below.len()) {
+            Ok(count) => BitRow::new(alloc, count),
+            Err(_) => Err(AllocError),
+        }
+    }
+
+    /// Adds to a row for all types those at or below `b`.
+    pub fn add_below(&self, b: u32, row: &mut BitRow)
+        requires { length row.old ≡ length self.now }
+        ensures width { length row.new ≡ length row.old }
+        ensures bits { (t : ℕ) → t < length row.old → bit row.new t ≡ (bit row.old t || is_above self.now t b) }
+    {
+        if (b as usize) < self.below.len() {
+            add_row(row, row_at(self.below.as_slice(), b as usize), b);
+        }
     }
 
     /// The types in an order in which each comes behind those that it names as its supertypes, where there is no cycle. Nothing is

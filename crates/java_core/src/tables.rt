@@ -115,8 +115,8 @@ impl MethodTables {
     }
 }
 
-/// A hash carried on by a number.
-fn mixed(hash: u64, next: u64) -> u64
+/// A hash carried on by a number (Fowler, Noll and Vo's hash, with numbers of 32 bits in place of bytes).
+pub fn mixed(hash: u64, next: u64) -> u64
     requires hash { hash < 4294967296 }
     requires next { next < 4294967296 }
     ensures value { result ≡ mixed hash next }
@@ -126,7 +126,7 @@ fn mixed(hash: u64, next: u64) -> u64
 }
 
 /// A hash carried on by each byte.
-fn mixed_all(hash: u64, bytes: &[u8]) -> u64
+pub fn mixed_all(hash: u64, bytes: &[u8]) -> u64
     requires { hash < 4294967296 }
     ensures { result ≡ mixed_all hash bytes.now }
 {
