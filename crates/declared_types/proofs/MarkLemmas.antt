@@ -19,6 +19,7 @@ use Rattle.declared_types.specs.Clashes.{clash_at, or_clash, clash_among, clash_
 use Rattle.declared_types.proofs.ClashSpots.{not-below}
 use Rattle.name_tables.specs.declared.spots.Spots.{Spots}
 use Rattle.name_tables.specs.Spots.{AreSpots, spots_from, spots_of}
+use Rattle.name_tables.proofs.SpotLemmas.{first-named}
 use Rattle.declared_types.specs.Marks.{mark_of, mark_at, merged, may_join, is_reached, Grows, MarkedFrom, mark_in, is_suspect, clash_between, AreTested, HaveTested, HaveTestedAt, TestedOne, TestedNext, TestedBefore, begins_from, Marking, Testing}
 
 -- ---- one mark
@@ -317,23 +318,9 @@ alike-tested rows all list k ne is suspects p q i j lt e f s = go (slice_get all
 
 -- ---- all names
 
--- the first number of a name's list is that of a method of the name
-spots-holds : (i : ℕ) (n : List ℕ) (names : List (List ℕ)) (f : ℕ) → slice_get (spots_from i n names) 0 ≡ Some f
-    → (d : ℕ) × (f ≡ i + d) × (slice_get names d ≡ Some n)
-spots-holds i n [] f e = absurd (cc e)
-spots-holds i n (x ∷ xs) f e = go (bytes_eq x n) refl e (λ g. spots-holds (i + 1) n xs f g)
-  where
-    go : (b : Bool) → bytes_eq x n ≡ b → slice_get (cond b (i ∷ spots_from (i + 1) n xs) (spots_from (i + 1) n xs)) 0 ≡ Some f
-        → (slice_get (spots_from (i + 1) n xs) 0 ≡ Some f → (d : ℕ) × (f ≡ i + 1 + d) × (slice_get xs d ≡ Some n))
-        → (d : ℕ) × (f ≡ i + d) × (slice_get (x ∷ xs) d ≡ Some n)
-    go true h g more = let same : i ≡ f = cc g in (0, omega (arith, same), ap Some ((bytes_eq-Decides x n).0 h))
-    go false h g more = let r = more g in let k = r.1 in (suc r.0, omega (arith, k), r.2)
-
 module _ (rows : List (List Bool)) (all : List Heading) (spots : Spots) (exact : AreSpots (map (λ h. h.name) all) spots) where
   holds-name : (n : List ℕ) (f : ℕ) → slice_get (spots_of spots n) 0 ≡ Some f → slice_get (map (λ (h : Heading). h.name) all) f ≡ Some n
-  holds-name n f e =
-      let r = spots-holds 0 n (map (λ h. h.name) all) f (subst (λ l. slice_get l 0 ≡ Some f) (exact.exact n) e) in
-      subst (λ z. slice_get (map (λ (h : Heading). h.name) all) z ≡ Some n) (let k = r.1 in omega (arith, k)) r.2
+  holds-name = first-named (λ h. h.name) all spots exact
 
   begins : (l : List ℕ) (k : ℕ) → slice_get l 0 ≡ Some k → begins_from l k ≡ true
   begins [] k e = absurd (cc e)

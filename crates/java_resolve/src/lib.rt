@@ -50,7 +50,7 @@ use java_tree::{Decl, Tree};
 use kaba_base::{ClassId, MemberId};
 pub use name_rules::{Form, Refusal};
 use name_tables::Types;
-use resolved_bodies::{Tables, methods_of};
+use resolved_bodies::{Tables, blocks_of_names, methods_of};
 use std::alloc::{AllocError, Global};
 
 /// The superclass of each class.
@@ -103,6 +103,8 @@ fn with_bodies(
     let parents = made!(parents_of(alloc, &classes) => Refusal; known, classes, above, draft);
     let field_tables =
         made!(FieldTables::new(alloc, parents.as_slice(), draft.fields.as_slice(), above.supertypes_first()) => Refusal; known, classes, above, draft, parents);
+    let blocks =
+        made!(blocks_of_names(alloc, &above, &draft.headings, &draft.method_spots) => Refusal; known, classes, above, draft, parents, field_tables);
     let tables = Tables {
         known,
         parents,
@@ -112,6 +114,7 @@ fn with_bodies(
         fields: draft.fields,
         headings: draft.headings,
         method_spots: draft.method_spots,
+        blocks,
         field_tables,
     };
     match methods_of(alloc, &tables, list) {

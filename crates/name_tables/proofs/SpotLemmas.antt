@@ -1,11 +1,12 @@
 -- Where names stand: what is found by a name's numbers is what is found by going over all.
-use Rattle.std.proofs.Common.{◌≡◌, ℕ, ◌+◌, Bool, true, false, ◌&&◌, cond, List, [], ◌∷◌, ◌++◌, map, length, Option, Some, Result, Ok, Err, arith, refl, sym, ap, ◌∙◌, subst}
+use Rattle.std.proofs.Common.{◌≡◌, ℕ, suc, ◌+◌, Bool, true, false, ◌&&◌, cond, List, [], ◌∷◌, ◌++◌, map, length, Option, Some, Result, Ok, Err, arith, refl, sym, ap, ◌∙◌, subst}
 use Rattle.std.specs.Prelude.{slice_get, if◌then◌else◌}
 use Rattle.std.specs.List.{position_from}
 use Rattle.std.specs.Option.{option_map_or}
 use Rattle.std.specs.declared.vec.Vec.{Vec}
 use Rattle.std.specs.declared.alloc.Global.{Global}
 use Rattle.std.specs.Str.{bytes_eq, encode_utf8_all}
+use Rattle.std.proofs.lemmas.Slice.Eq.{bytes_eq-Decides}
 use Rattle.std.proofs.lemmas.List.{append_assoc, length-append, length-map, map-append}
 use Rattle.name_tables.specs.declared.spots.Spots.{Spots}
 use Rattle.java_core.specs.Owned.{passes, first_among}
@@ -78,3 +79,21 @@ module _ {A : Type 0} (name : A → List ℕ) (p : A → Bool) (n : List ℕ) wh
       by_name true false g h = ap (λ z. if z then Some k else first_among p (done ++ x ∷ rest) (spots_from (k + 1) n (map name rest))) g ∙ h
       by_name false true g h = h
       by_name false false g h = h
+
+-- the first number of a name's list is that of a method of the name
+spots-holds : (i : ℕ) (n : List ℕ) (names : List (List ℕ)) (f : ℕ) → slice_get (spots_from i n names) 0 ≡ Some f
+    → (d : ℕ) × (f ≡ i + d) × (slice_get names d ≡ Some n)
+spots-holds i n [] f e = absurd (cc e)
+spots-holds i n (x ∷ xs) f e = go (bytes_eq x n) refl e (λ g. spots-holds (i + 1) n xs f g)
+  where
+    go : (b : Bool) → bytes_eq x n ≡ b → slice_get (cond b (i ∷ spots_from (i + 1) n xs) (spots_from (i + 1) n xs)) 0 ≡ Some f
+        → (slice_get (spots_from (i + 1) n xs) 0 ≡ Some f → (d : ℕ) × (f ≡ i + 1 + d) × (slice_get xs d ≡ Some n))
+        → (d : ℕ) × (f ≡ i + d) × (slice_get (x ∷ xs) d ≡ Some n)
+    go true h g more = let same : i ≡ f = cc g in (0, omega (arith, same), ap Some ((bytes_eq-Decides x n).0 h))
+    go false h g more = let r = more g in let k = r.1 in (suc r.0, omega (arith, k), r.2)
+
+pub first-named : {A : Type 0} (name : A → List ℕ) (all : List A) (spots : Spots) → AreSpots (map name all) spots → (n : List ℕ) (f : ℕ)
+    → slice_get (spots_of spots n) 0 ≡ Some f → slice_get (map name all) f ≡ Some n
+first-named name all spots exact n f e =
+    let r = spots-holds 0 n (map name all) f (subst (λ l. slice_get l 0 ≡ Some f) (exact.exact n) e) in
+    subst (λ z. slice_get (map name all) z ≡ Some n) (let k = r.1 in omega (arith, k)) r.2

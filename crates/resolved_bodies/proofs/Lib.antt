@@ -2,5 +2,6 @@ pub mod Rows
 pub mod Lists
 pub mod StatementRows
 pub mod Steps
+pub mod MetLemmas
 pub mod Nearest
 pub mod StatementSteps

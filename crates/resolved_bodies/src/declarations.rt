@@ -6,9 +6,11 @@ ghost use Rattle.java_core.specs.Tables.{AreFieldTables};
 ghost use Rattle.name_outcome.specs.Tables.{field_in, method_in};
 ghost use Rattle.name_tables.specs.Owned.{AreOwned};
 ghost use Rattle.name_tables.specs.Spots.{AreSpots};
+ghost use Rattle.resolved_bodies.specs.Met.{AreBlocksOf};
 
 use java_core::{Field, FieldTables, Hierarchy};
 use kaba_base::ClassId;
+use kaba_bits::BitRow;
 use name_outcome::Heading;
 use name_tables::{Owned, Spots, Types};
 
@@ -28,9 +30,12 @@ pub struct Tables {
     pub own_methods: Owned,
     /// Where the methods of each name stand.
     pub method_spots: Spots,
+    /// Which classes meet methods of the names that many have.
+    pub blocks: Vec<Vec<BitRow>>,
     /// Which fields are nearest above a class.
     pub field_tables: FieldTables,
     ghost fields_found: { AreOwned (field_in fields.items) own_fields },
+    ghost blocks_found: { AreBlocksOf above headings.items method_spots blocks.items },
     ghost above_found: { AreFieldTables parents.items fields.items field_tables },
     ghost own_found: { AreOwned (method_in headings.items) own_methods },
     ghost methods_found: { AreSpots (map (λ h. h.name) headings.items) method_spots },

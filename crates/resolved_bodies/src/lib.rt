@@ -30,8 +30,10 @@ mod exprs;
 mod locals;
 mod make;
 mod meanings;
+mod met;
 mod stmts;
 mod tables;
 
 pub use bodies::methods_of;
 pub use declarations::Tables;
+pub use met::blocks_of_names;

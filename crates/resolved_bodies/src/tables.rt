@@ -1,18 +1,16 @@
 //! What a body sees of the declarations.
 #![tactic(auto)]
 
-ghost use Rattle.std.specs.Prelude.{◌≡◌, ℕ, None, slice_get, nat_eq};
+ghost use Rattle.std.specs.Prelude.{◌≡◌, ℕ, None, nat_eq};
 ghost use Rattle.std.specs.Option.{option_map_or};
 ghost use Rattle.indexmap.specs.IndexMap.{get, index_map_len};
-ghost use Rattle.java_core.specs.Owned.{passes, first_among};
-ghost use Rattle.name_outcome.specs.Tables.{is_above, parent_of, own_field, nearest_field, own_method, method_met};
+ghost use Rattle.name_outcome.specs.Tables.{parent_of, own_field, nearest_field, own_method, method_met};
 ghost use Rattle.resolved_bodies.specs.Views.{table_of};
 
 use crate::declarations::Tables;
+use crate::met::{blocks_under, met_among};
 use indexmap::IndexMap;
-use java_core::Hierarchy;
 use kaba_base::{ClassId, Name};
-use name_outcome::Heading;
 
 /// The superclass of a class.
 pub fn parent_of(parents: &[Option<ClassId>], class: u32) -> Option<ClassId>
@@ -22,28 +20,6 @@ pub fn parent_of(parents: &[Option<ClassId>], class: u32) -> Option<ClassId>
         Some(parent) => *parent,
         None => None,
     }
-}
-
-/// Whether a class or an ancestor declares the method of this number.
-fn is_met(rows: &Hierarchy, headings: &Vec<Heading>, at: u32, class: u32) -> bool
-    ensures { result ≡ passes (λ h. is_above rows.now class h.owner) (slice_get headings.now.items at) }
-{
-    match headings.get(at as usize) {
-        Some(heading) => rows.is_above(class, heading.owner),
-        None => false,
-    }
-}
-
-/// The first of these methods that a class or an ancestor declares.
-fn met_among(rows: &Hierarchy, headings: &Vec<Heading>, list: &[u32], class: u32) -> Option<usize>
-    ensures { result ≡ first_among (λ h. is_above rows.now class h.owner) headings.now.items list.now }
-{
-    for at in list {
-        if is_met(rows, headings, *at, class) {
-            return Some(*at as usize);
-        }
-    }
-    None
 }
 
 /// The number of the field of a name that a class itself declares.
@@ -152,10 +128,12 @@ pub fn own_method(tables: &Tables, class: u32, name: &Name) -> Option<usize>
 pub fn method_met(tables: &Tables, class: u32, name: &Name) -> Option<usize>
     ensures { result ≡ method_met (table_of tables.now) class name.now }
 {
+    let list = tables.method_spots.at(name);
     met_among(
         &tables.above,
         &tables.headings,
-        tables.method_spots.at(name),
+        list,
+        blocks_under(&tables.blocks, list),
         class,
     )
 }

@@ -10,6 +10,6 @@ pub returns : goal.returns
 unfolding method_met
 returns c =
     c.met_among.ensures ∙ ap (first_among (λ h. is_above c.args.tables.now.above c.args.class h.owner) c.args.tables.now.headings.items)
-    (c.at.ensures ∙ c.args.tables.now.methods_found.exact c.args.name.now)
+    (c.at-list.ensures ∙ c.args.tables.now.methods_found.exact c.args.name.now)
     ∙ among (λ h. h.name) (λ h. is_above c.args.tables.now.above c.args.class h.owner) c.args.name.now [] c.args.tables.now.headings.items 0
     refl ∙ sym (position-from (λ h. is_above c.args.tables.now.above c.args.class h.owner && bytes_eq h.name c.args.name.now) c.args.tables.now.headings.items)
