@@ -1,5 +1,5 @@
 -- What the definitions see of the members so far, and what is found of them by name.
-use Rattle.std.specs.Prelude.{ℕ, ◌&&◌, Bool, List, [], ◌∷◌, ◌++◌, length, Option, Some, None, map, if◌then◌else◌}
+use Rattle.std.specs.Prelude.{ℕ, Bool, List, [], ◌∷◌, ◌++◌, length, Option, Some, None, map, if◌then◌else◌}
 use Rattle.java_core.specs.declared.Ty.{Ty}
 use Rattle.java_core.specs.declared.Field.{Field}
 use Rattle.java_core.specs.declared.Local.{Local}
@@ -7,8 +7,9 @@ use Rattle.java_core.specs.declared.Slot.{Slot}
 use Rattle.java_core.specs.Trees.{at_place}
 use Rattle.java_core.specs.Programs.{slot_seen}
 use Rattle.declared_types.specs.declared.members.Draft.{Draft}
+use Rattle.declared_types.specs.Keys.{AreKeyed}
 use Rattle.name_outcome.specs.declared.parts.Heading.{Heading}
-use Rattle.name_outcome.specs.Members.{Members, have_types, same_result, slotted}
+use Rattle.name_outcome.specs.Members.{Members, is_signature, slotted}
 use Rattle.name_outcome.specs.Tables.{field_in, method_in}
 use Rattle.name_tables.specs.Owned.{AreOwned}
 use Rattle.name_tables.specs.Spots.{AreSpots}
@@ -17,9 +18,9 @@ use Rattle.name_tables.specs.Spots.{AreSpots}
 abbrev pub members_seen : Draft → Members
 members_seen d = record { fields = d.fields.items; headings = d.headings.items; slots = map (slot_seen at_place) d.slots.items }
 
--- whether a slot has these parameters and this result
-abbrev pub fits : List Local → Option Ty → Slot → Bool
-fits ls r s = have_types ls s.params.items && same_result r s.result
+-- whether a slot has this name, these parameters and this result
+abbrev pub fits : List ℕ → List Local → Option Ty → Slot → Bool
+fits n ls r s = is_signature n ls r (slot_seen at_place s)
 
 -- the members with one method more, and with one field more
 abbrev pub with_method : Members → Heading → Members
@@ -34,9 +35,9 @@ slot_of static n ls r m =
     if static then (None, m)
     else let s = slotted n ls r (length m.headings) m.slots in (Some s.0, record { fields = m.fields; headings = m.headings; slots = s.1 })
 
--- the fields and methods of each class, and the methods and slots of each name, stand where the draft says
+-- the fields and methods of each class, the methods of each name and the slots of each key stand where the draft says
 pub record AreFound (d : Draft) : Type 0 where
   pub fields : AreOwned (field_in d.fields.items) d.own_fields
   pub owned : AreOwned (method_in d.headings.items) d.own_methods
   pub methods : AreSpots (map (λ h. h.name) d.headings.items) d.method_spots
-  pub slots : AreSpots (map (λ s. s.name) d.slots.items) d.slot_spots
+  pub slots : AreKeyed d.slots.items d.keyed_slots.items

@@ -1,3 +1,4 @@
+pub mod Keys
 pub mod Found
 pub mod Clashes
 pub mod Marks

@@ -3,6 +3,7 @@
 
 mod clashes;
 mod classes;
+mod keys;
 mod marks;
 mod members;
 mod slots;

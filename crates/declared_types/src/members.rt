@@ -37,8 +37,8 @@ pub struct Draft {
     pub own_methods: Owned,
     /// Where the methods of each name stand.
     pub method_spots: Spots,
-    /// Where the slots of each name stand.
-    pub slot_spots: Spots,
+    /// Where the slots of each key stand.
+    pub keyed_slots: Vec<Vec<usize>>,
 }
 
 /// Whether the parameters are one `String[]`.
@@ -134,7 +134,7 @@ fn slot_of(
     let slot = slotted(
         alloc,
         &mut draft.slots,
-        &mut draft.slot_spots,
+        &mut draft.keyed_slots,
         name,
         locals,
         outcome,
@@ -366,7 +366,7 @@ pub fn members_of(alloc: Global, known: &Types, list: &[Decl]) -> Result<Draft, 
         own_fields: Owned::new(alloc),
         own_methods: Owned::new(alloc),
         method_spots: Spots::new(alloc),
-        slot_spots: Spots::new(alloc),
+        keyed_slots: Vec::new(alloc),
     };
     match all_members(alloc, known, &mut draft, list) {
         Ok(_) => Ok(draft),

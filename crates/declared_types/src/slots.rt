@@ -7,14 +7,15 @@ ghost use Rattle.java_core.specs.Trees.{at_place};
 ghost use Rattle.java_core.specs.Programs.{PlainSlot, slot_seen};
 ghost use Rattle.name_outcome.specs.Answers.{Gives};
 ghost use Rattle.java_core.specs.Owned.{passes, first_among};
-ghost use Rattle.name_tables.specs.Spots.{AreSpots};
+ghost use Rattle.declared_types.specs.Keys.{AreKeyed};
 ghost use Rattle.declared_types.specs.Found.{fits};
 ghost use Rattle.name_outcome.specs.Members.{same_type, same_result, have_types, slot_in, slotted};
 
-use java_core::{Local, Slot, Ty, TyBase};
+use crate::keys::slot_key;
+use java_core::{Local, Slot, Ty, TyBase, listed_under, note_under};
 use kaba_base::{MemberId, Name};
 use name_rules::Refusal;
-use name_tables::{Spots, number_at};
+use name_tables::number_at;
 use std::alloc::{AllocError, Global};
 
 /// Whether the types are the same, without their dimensions.
@@ -76,30 +77,44 @@ fn have_types(locals: &[Local], types: &[Ty]) -> bool
     }
 }
 
-/// Whether the slot of this number has these parameters and this result.
-fn is_slot_of(slots: &Vec<Slot>, at: u32, locals: &[Local], outcome: Option<Ty>) -> bool
-    ensures { result ≡ passes (fits locals.now outcome) (slice_get slots.now.items at) }
+/// Whether a slot has this name, these parameters and this result.
+fn is_fit(slot: &Slot, name: &Name, locals: &[Local], outcome: Option<Ty>) -> bool
+    ensures { result ≡ fits name.now locals.now outcome slot.now }
 {
-    match slots.get(at as usize) {
-        Some(slot) => {
-            have_types(locals, slot.params.as_slice()) & same_result(outcome, slot.result)
-        }
+    slot.name.same(name)
+        & have_types(locals, slot.params.as_slice())
+        & same_result(outcome, slot.result)
+}
+
+/// Whether the slot of this number has them.
+fn is_slot_of(
+    slots: &Vec<Slot>,
+    at: usize,
+    name: &Name,
+    locals: &[Local],
+    outcome: Option<Ty>,
+) -> bool
+    ensures { result ≡ passes (fits name.now locals.now outcome) (slice_get slots.now.items at) }
+{
+    match slots.get(at) {
+        Some(slot) => is_fit(slot, name, locals, outcome),
         None => false,
     }
 }
 
-/// The first of these slots that has these parameters and this result.
+/// The first of these slots that has them.
 fn slot_among(
     slots: &Vec<Slot>,
-    list: &[u32],
+    list: &[usize],
+    name: &Name,
     locals: &[Local],
     outcome: Option<Ty>,
 ) -> Option<usize>
-    ensures { result ≡ first_among (fits locals.now outcome) slots.now.items list.now }
+    ensures { result ≡ first_among (fits name.now locals.now outcome) slots.now.items list.now }
 {
     for at in list {
-        if is_slot_of(slots, *at, locals, outcome) {
-            return Some(*at as usize);
+        if is_slot_of(slots, *at, name, locals, outcome) {
+            return Some(*at);
         }
     }
     None
@@ -108,15 +123,16 @@ fn slot_among(
 /// The slot of a name, parameters and a result.
 fn slot_in(
     slots: &Vec<Slot>,
-    spots: &Spots,
+    keyed: &Vec<Vec<usize>>,
     name: &Name,
     locals: &[Local],
     outcome: Option<Ty>,
 ) -> Option<usize>
-    requires { AreSpots (map (λ s. s.name) slots.now.items) spots.now }
+    requires { AreKeyed slots.now.items keyed.now.items }
     ensures { result ≡ slot_in name.now locals.now outcome (map (slot_seen at_place) slots.now.items) }
 {
-    slot_among(slots, spots.at(name), locals, outcome)
+    let list = listed_under(keyed, slot_key(name, locals, outcome));
+    slot_among(slots, list, name, locals, outcome)
 }
 
 /// The types of parameters.
@@ -134,22 +150,22 @@ fn types_of(alloc: Global, locals: &[Local]) -> Result<Vec<Ty>, AllocError>
 pub fn slotted(
     alloc: Global,
     slots: &mut Vec<Slot>,
-    spots: &mut Spots,
+    keyed: &mut Vec<Vec<usize>>,
     name: &Name,
     locals: &[Local],
     outcome: Option<Ty>,
     first: u32,
 ) -> Result<u32, Refusal>
-    requires found { AreSpots (map (λ s. s.name) slots.old.items) spots.old }
+    requires found { AreKeyed slots.old.items keyed.old.items }
     ensures given { Gives {A = ℕ} {B = ℕ × List PlainSlot} (λ k. (k, map (slot_seen at_place) slots.new.items))
         result (Ok (slotted name.now locals.now outcome first (map (slot_seen at_place) slots.old.items))) }
-    ensures found { OnOk result (AreSpots (map (λ s. s.name) slots.new.items) spots.new) }
+    ensures found { OnOk result (AreKeyed slots.new.items keyed.new.items) }
 {
-    if let Some(slot) = slot_in(slots, spots, name, locals, outcome) {
+    if let Some(slot) = slot_in(slots, keyed, name, locals, outcome) {
         return number_at(slot);
     }
     let number = number_at(slots.len())?;
-    spots.note(alloc, name, number)?;
+    note_under(alloc, keyed, slot_key(name, locals, outcome), slots.len())?;
     slots.push(Slot {
         name: name.copy(alloc)?,
         params: types_of(alloc, locals)?,

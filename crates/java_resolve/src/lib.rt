@@ -136,7 +136,7 @@ fn with_bodies(
             drop(tables);
             drop(classes);
             drop(draft.slots);
-            drop(draft.slot_spots);
+            drop(draft.keyed_slots);
             Err(refusal)
         }
     }
