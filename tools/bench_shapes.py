@@ -192,6 +192,11 @@ def namesakes_alone(count):
     return "".join(f"class C{n} {{\n  void m() {{\n  }}\n}}\n" for n in range(count)) + main()
 
 
+def own_parameters(count):
+    """Classes side by side with a method of one name, each with a parameter of its own class."""
+    return "".join(f"class C{n} {{ void m(C{n} a) {{ }} }}\n" for n in range(count)) + main()
+
+
 def overloads(count):
     """Interfaces with a method of one name, each with a class, by turns with a parameter of two types."""
     text = ""
@@ -228,6 +233,7 @@ SHAPES = [
     ("classes in a chain, and six times as many uses of a field of the highest by its simple name", simple_names_below_a_chain, (2000, 4000, 8000, 16000)),
     ("classes in a chain, and twice as many calls by super of the method of the highest", super_calls_below_a_chain, (2000, 4000, 8000, 16000)),
     ("methods of one name in as many classes", namesakes_alone, (3750, 7500, 15000, 30000)),
+    ("methods of one name in as many classes, each with a parameter of its class", own_parameters, (3500, 7000, 14000, 28000)),
     ("interfaces with a method of one name and one of two parameters, and as many classes", overloads, (1250, 2500, 5000, 10000)),
     ("two chains with methods of one name and a parameter each, each class before the one above", two_chains, (1250, 2500, 5000, 10000)),
     ("methods of one name, and as many calls through an interface", namesakes, (2500, 5000, 10000, 20000)),
