@@ -6,10 +6,10 @@ use Rattle.java_lex.specs.declared.LexFault.{LexFault}
 use Rattle.java_tree.specs.Syntax.{DeclTree}
 use Rattle.java_tree.specs.Declarations.{IsPlaced, Derives}
 use Rattle.java_parse.proofs.CompleteDeclarations.{one_placed, one_derived}
-use Rattle.java_print.specs.Formed.{IsReadAs}
+use Rattle.java_tree.specs.Formed.{IsReadAs}
 use Rattle.java_print.specs.Layout.{tree_text}
 use Rattle.java_print.proofs.DeclParsed.{text_read}
-use Rattle.java_print.proofs.Gives.{given_formed}
+use Rattle.java_tree.proofs.Gives.{given_formed}
 use Rattle.java_again.specs.Again.{OneText, TextsApart}
 
 same_ok : (ts us : List Token) → ◌≡◌ {A = Result (List Token) LexFault} (Ok ts) (Ok us) → ts ≡ us

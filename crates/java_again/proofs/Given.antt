@@ -6,7 +6,7 @@ use Rattle.java_lex.specs.Lexing.{tokens_of}
 use Rattle.java_tree.specs.Syntax.{DeclTree}
 use Rattle.java_tree.specs.Declarations.{IsPlaced, Derives}
 use Rattle.java_tree.specs.Nesting.{IsTooDeep}
-use Rattle.java_print.specs.Formed.{IsReadAs, IsGiven}
+use Rattle.java_tree.specs.Formed.{IsReadAs, IsGiven}
 use Rattle.java_again.specs.Again.{HasNoTree}
 
 pub is_read : (bytes : List ℕ) (tokens : List Token) (tree : List DeclTree) → tokens_of bytes ≡ Ok tokens → IsPlaced tokens tree → IsReadAs bytes tree

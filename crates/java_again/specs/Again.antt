@@ -7,7 +7,7 @@ use Rattle.java_tree.specs.Syntax.{DeclTree}
 use Rattle.java_tree.specs.Places.{unplaced}
 use Rattle.java_tree.specs.Declarations.{IsPlaced, Derives}
 use Rattle.java_tree.specs.Nesting.{IsTooDeep}
-use Rattle.java_print.specs.Formed.{IsReadAs, IsGiven}
+use Rattle.java_tree.specs.Formed.{IsReadAs, IsGiven}
 use Rattle.java_print.specs.Layout.{tree_text}
 
 -- some tree is what both texts are read as

@@ -17,9 +17,9 @@ use Rattle.java_tree.specs.Syntax.{Statements, HeadTree, MemberTree, FieldTree, 
 use Rattle.java_tree.specs.Places.{nowhere, stmts_unplaced, all_unplaced, may_unplaced, id_unplaced, modifier_unplaced, type_unplaced, param_unplaced, head_unplaced, member_unplaced, decl_unplaced, unplaced}
 use Rattle.java_print.specs.Items.{Item, Space, End, kinds_in}
 use Rattle.java_print.specs.Layout.{mark_then, word_then, type_items, final_items, mods_items, result_items, params_items, head_items, body_items, member_items, members_items, heads_items, ids_items, parent_items, list_items, decl_items, decls_items, tree_text}
-use Rattle.java_print.specs.Formed.{Each, IsFormedMod, IsFormedHead, IsFormedBody, IsFormedMember, IsFormedDecl, IsFormedTree}
+use Rattle.java_tree.specs.Formed.{Each, IsFormedMod, IsFormedHead, IsFormedBody, IsFormedMember, IsFormedDecl, IsFormedTree}
 use Rattle.java_tree.specs.Declarations.{IsMods, no_mods, next_mod, IsIds, last_id, next_id, IsParent, no_parent, a_parent, IsList, no_list, a_list, IsParam, a_param, IsMoreParams, last_param, next_param, IsParams, no_params, some_params, IsResult, no_result, a_result, IsHead, a_head, IsBody, no_body, a_body, IsMember, a_field, a_method, IsMembers, no_members, next_member, IsHeads, no_heads, next_head, IsDecl, a_class, an_interface, no_decls, next_decl, Derives}
-use Rattle.java_print.specs.Formed.{IsReadAs, IsGiven}
+use Rattle.java_tree.specs.Formed.{IsReadAs, IsGiven}
 use Rattle.java_print.proofs.Lexes.{nothing}
 use Rattle.java_print.proofs.TreeLexes as texts
 use Rattle.java_print.proofs.ExprParsed.{Of, none, one, of_tokens, Got, step, type_found}

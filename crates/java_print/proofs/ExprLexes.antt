@@ -18,7 +18,7 @@ use Rattle.java_tree.specs.Places.{expr_unplaced, exprs_unplaced}
 use Rattle.java_tree.specs.Tokens.{level, is_sign}
 use Rattle.java_print.specs.Items.{Item, Lexeme, text}
 use Rattle.java_print.specs.Layout.{rank, sign_of, same_sign, fits, fits_sign, fits_cast, in_round, comma, base_items, dims_items, more_dims_items, type_items, expr_items, args_items}
-use Rattle.java_print.specs.Formed.{IsNumber, a_small, the_least, IsFormedBase, IsCastBase, IsFormed, AreFormed}
+use Rattle.java_tree.specs.Formed.{IsNumber, a_small, the_least, IsFormedBase, IsCastBase, IsFormed, AreFormed}
 use Rattle.java_print.proofs.Lexes.{Lexes, Loose, word, key, small, least, char, string, closed, space, spaced, IsSign, plus, minus, bang, flip, extends, signy, signed, clear, number_head, name_head}
 
 -- an expression before other items, with what its text begins with where no brackets are needed before a postfix

@@ -4,7 +4,6 @@ pub mod TreeLexes
 pub mod ExprParsed
 pub mod TreeParsed
 pub mod DeclParsed
-pub mod Gives
 pub mod Adding
 pub mod Opened
 pub mod StmtAdding

@@ -15,7 +15,7 @@ use Rattle.java_tree.specs.Syntax.{Expression, CallOn, Statement, LocalOf, Block
 use Rattle.java_tree.specs.Places.{expr_unplaced, value_unplaced, stmt_unplaced, stmts_unplaced, arms_unplaced, else_unplaced, step_unplaced, all_unplaced, may_unplaced, id_unplaced, modifier_unplaced, type_unplaced, param_unplaced, head_unplaced, member_unplaced, decl_unplaced, unplaced}
 use Rattle.java_print.specs.Items.{Item}
 use Rattle.java_print.specs.Layout.{expr_items, value_items, spaced_items, init_items, final_items, prints, bracketed_items, call_items, print_name, simple_items, first_items, step_items, else_then, open_body, close_body, stmt_items, stmts_items, arms_items, else_items, mods_items, result_items, params_items, head_items, body_items, member_items, members_items, heads_items, ids_items, parent_items, list_items, decl_items, decls_items}
-use Rattle.java_print.specs.Formed.{IsFormed, IsFormedValue, IsFormedStmt, AreFormedStmts, AreFormedArms, IsFormedElse, IsFormedFirst, IsFormedStep, Each, IsFormedMod, IsFormedId, IsFormedParam, IsFormedResult, IsFormedHead, IsFormedBody, IsFormedMember, IsFormedParent, IsFormedDecl, IsFormedTree}
+use Rattle.java_tree.specs.Formed.{IsFormed, IsFormedValue, IsFormedStmt, AreFormedStmts, AreFormedArms, IsFormedElse, IsFormedFirst, IsFormedStep, Each, IsFormedMod, IsFormedId, IsFormedParam, IsFormedResult, IsFormedHead, IsFormedBody, IsFormedMember, IsFormedParent, IsFormedDecl, IsFormedTree}
 use Rattle.java_print.proofs.Lexes.{Lexes, Loose, word, key, closed, space, line, margin, spaced, system_name, out_name, println_name, print_name as print_named}
 use Rattle.java_print.proofs.ExprLexes.{expr, args, a_type, commas}
 

@@ -14,7 +14,7 @@ use Rattle.java_tree.specs.Syntax.{Expression, NameRef, FieldOf, IndexOf, CallOf
 use Rattle.java_tree.specs.Places.{nowhere, expr_unplaced, exprs_unplaced, value_unplaced, stmt_unplaced, stmts_unplaced, arms_unplaced, else_unplaced, step_unplaced, id_unplaced, type_unplaced}
 use Rattle.java_print.specs.Items.{Item, End, kinds_in}
 use Rattle.java_print.specs.Layout.{expr_items, value_items, spaced_items, init_items, final_items, prints, bracketed_items, call_items, simple_items, first_items, step_items, close_body, stmt_items, stmts_items, arms_items, else_items}
-use Rattle.java_print.specs.Formed.{is_target, is_call, IsFormed, IsFormedValue, is_act, IsFormedStmt, AreFormedStmts, AreFormedArms, IsFormedElse, IsFormedFirst, IsFormedStep}
+use Rattle.java_tree.specs.Formed.{is_target, is_call, IsFormed, IsFormedValue, is_act, IsFormedStmt, AreFormedStmts, AreFormedArms, IsFormedElse, IsFormedFirst, IsFormedStep}
 use Rattle.java_tree.specs.Tokens.{mark, first_place}
 use Rattle.java_tree.specs.Expressions.{IsExpr, operand, bare, field, name, round, no_args, some_args, last_arg}
 use Rattle.java_tree.specs.Statements.{is_called, is_out, as_body, printed_args, printed_by, is_word, printed, IsFinal, not_final, is_final, IsValue, no_value, a_value, IsInit, no_init, an_init, IsLocal, a_local, IsTarget, to_name, to_field, to_index, plain_call, call_upon, call_above, IsAct, assign, do_call, print, do_new, IsFirst, no_first, first_local, first_act, IsStep, no_step, a_step, IsItem, local_item, stmt_item, IsItems, no_items, next_item, IsStmt, block, acting, choice, while_loop, for_loop, return_word, break_word, continue_word, IsArms, last_arm, else_arm, more_arms}

@@ -1,4 +1,3 @@
 pub mod Items
 pub mod Layout
-pub mod Formed
 pub mod Adds

@@ -5,7 +5,7 @@ ghost use Rattle.std.specs.Prelude.{◌≡◌, ◌++◌, IfOk, OnErr, OnOk};
 ghost use Rattle.std.specs.Str.{encode_utf8_all};
 ghost use Rattle.java_tree.specs.Syntax.{tree_of};
 ghost use Rattle.java_print.specs.Layout.{tree_text};
-ghost use Rattle.java_print.specs.Formed.{IsGiven, IsReadAs};
+ghost use Rattle.java_tree.specs.Formed.{IsGiven, IsReadAs};
 
 use java_tree::Tree;
 use std::alloc::{AllocError, Global};

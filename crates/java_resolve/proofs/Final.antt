@@ -3,7 +3,7 @@ use Rattle.std.proofs.Common.{◌≡◌, List, Result, Ok, Err, Bool, true, arit
 use Rattle.std.proofs.lemmas.List.{length-map}
 use Rattle.std.specs.Bool.{OnTrue}
 use Rattle.java_tree.specs.Syntax.{DeclTree}
-use Rattle.java_print.specs.Formed.{IsFormedTree}
+use Rattle.java_tree.specs.Formed.{IsFormedTree}
 use Rattle.java_core.specs.declared.Program.{Program}
 use Rattle.java_core.specs.Trees.{at_place, no_place}
 use Rattle.java_core.specs.Programs.{Plain, program_of, class_seen, field_seen, method_seen, slot_seen}

@@ -1,7 +1,7 @@
 -- A tree has one program.
 use Rattle.std.specs.Prelude.{◌≡◌, List}
 use Rattle.java_tree.specs.Syntax.{DeclTree}
-use Rattle.java_print.specs.Formed.{IsFormedTree}
+use Rattle.java_tree.specs.Formed.{IsFormedTree}
 use Rattle.java_core.specs.Programs.{Plain}
 use Rattle.name_rules.specs.Resolves.{Resolves}
 use Rattle.name_rules.specs.Causes.{HasNoCondition}

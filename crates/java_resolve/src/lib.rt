@@ -28,7 +28,7 @@ ghost use Rattle.java_tree.specs.Syntax.{decls, tree_of};
 ghost use Rattle.java_core.specs.Trees.{at_place, no_place};
 ghost use Rattle.std.specs.Prelude.{◌≡◌, IfOk, IfErr, map};
 ghost use Rattle.std.specs.Bool.{OnTrue};
-ghost use Rattle.java_print.specs.Formed.{IsFormedTree};
+ghost use Rattle.java_tree.specs.Formed.{IsFormedTree};
 ghost use Rattle.java_core.specs.Formed.{AreCounted, IsFormed};
 ghost use Rattle.name_rules.specs.Resolves.{Resolves};
 ghost use Rattle.java_resolve.specs.Unique.{OneProgram};

@@ -4,3 +4,4 @@ pub mod Sameness
 pub mod Decided
 pub mod Parts
 mod Fixed
+pub mod Gives

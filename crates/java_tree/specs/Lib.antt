@@ -6,6 +6,7 @@ pub mod Tokens
 pub mod Expressions
 pub mod Statements
 pub mod Declarations
+pub mod Formed
 pub mod Nesting
 pub mod Arms
 pub mod Laws

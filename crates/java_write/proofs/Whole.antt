@@ -2,7 +2,7 @@
 use Rattle.std.proofs.Common.{◌≡◌, ℕ, List, ◌++◌, Result, Ok, Err, OnOk, refl, subst}
 use Rattle.std.specs.Str.{encode_utf8_all}
 use Rattle.java_tree.specs.Syntax.{DeclTree}
-use Rattle.java_print.specs.Formed.{IsFormedTree, IsGiven, IsReadAs}
+use Rattle.java_tree.specs.Formed.{IsFormedTree, IsGiven, IsReadAs}
 use Rattle.java_print.specs.Layout.{tree_text}
 use Rattle.java_core.specs.declared.Program.{Program}
 use Rattle.java_core.specs.Trees.{at_place, no_place}

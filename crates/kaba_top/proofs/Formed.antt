@@ -4,8 +4,8 @@ use Rattle.java_lex.specs.declared.Token.{Token}
 use Rattle.java_lex.specs.Lexing.{tokens_of}
 use Rattle.java_tree.specs.Syntax.{DeclTree}
 use Rattle.java_tree.specs.Declarations.{IsPlaced}
-use Rattle.java_print.specs.Formed.{IsFormedTree}
-use Rattle.java_print.proofs.Gives.{given_formed}
+use Rattle.java_tree.specs.Formed.{IsFormedTree}
+use Rattle.java_tree.proofs.Gives.{given_formed}
 use Rattle.tree_given.proofs.Unplaced.{places_aside}
 
 -- the tree of a text has the parts that the grammar gives

@@ -1,7 +1,7 @@
 -- What a text is read as is the program to which any tree that it derives resolves, places aside.
 use Rattle.std.proofs.Common.{◌≡◌, ℕ, List, refl}
 use Rattle.java_tree.specs.Syntax.{DeclTree}
-use Rattle.java_print.specs.Formed.{IsReadAs}
+use Rattle.java_tree.specs.Formed.{IsReadAs}
 use Rattle.java_core.specs.declared.Program.{Program}
 use Rattle.java_core.specs.Trees.{at_place, no_place}
 use Rattle.java_core.specs.Programs.{program_of}

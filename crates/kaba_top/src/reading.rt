@@ -3,7 +3,7 @@
 
 ghost use Rattle.std.specs.Prelude.{◌≡◌, ◌≤◌, IfOk, length};
 ghost use Rattle.java_tree.specs.Syntax.{tree_of};
-ghost use Rattle.java_print.specs.Formed.{IsFormedTree};
+ghost use Rattle.java_tree.specs.Formed.{IsFormedTree};
 ghost use Rattle.java_core.specs.Trees.{no_place};
 ghost use Rattle.java_core.specs.Programs.{program_of};
 ghost use Rattle.java_core.specs.Formed.{IsFormed};

@@ -4,7 +4,7 @@ use Rattle.std.specs.Prelude.{pos, codes}
 use Rattle.std.specs.List.{range_with_len, flat_map}
 use Rattle.java_tree.specs.Syntax.{IntLit, and_then, MethodTree, ClassTree}
 use Rattle.java_tree.specs.Places.{stmts_unplaced, decl_unplaced, unplaced}
-use Rattle.java_print.specs.Formed.{Each, IsFormed, a_small, AreFormedStmts, IsFormedMember, IsFormedParent, IsFormedDecl, IsFormedTree, IsGiven}
+use Rattle.java_tree.specs.Formed.{Each, IsFormed, a_small, AreFormedStmts, IsFormedMember, IsFormedParent, IsFormedDecl, IsFormedTree, IsGiven}
 use Rattle.java_print.proofs.DeclParsed.{formed_given}
 use Rattle.kaba_work.specs.Sample.{nowhere, field_name, own_field, extra, total, method_tree, parent_named, class_tree, steps, creation, setting, printing, statements, main_head, main_body, main_tree, sample_tree}
 use Rattle.kaba_work.proofs.Words.{class_word, field_word, extra_word, variable_word, method_word, main_class_word, main_word, args_word, text_word}

@@ -2,7 +2,7 @@
 
 ghost use Rattle.std.specs.Prelude.{◌≡◌, ◌≤◌, ◌<◌, IfOk};
 ghost use Rattle.java_tree.specs.Syntax.{expr_of, stmt_of, stmts, head_of, member_of, members, decl_of, tree_of};
-ghost use Rattle.java_print.specs.Formed.{IsFormedTree, IsGiven};
+ghost use Rattle.java_tree.specs.Formed.{IsFormedTree, IsGiven};
 ghost use Rattle.kaba_work.specs.Sample as sample;
 
 use crate::names::{class_name, extra_name, field_name, id, int_type, method_name, nowhere, word};

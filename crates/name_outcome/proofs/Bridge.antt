@@ -14,7 +14,7 @@ use Rattle.java_core.specs.declared.TyBase.{TyBase}
 use Rattle.java_core.specs.Programs.{Plain, PlainMethod, PlainSlot}
 use Rattle.java_core.specs.Classes.{IsProperSubclass}
 use Rattle.java_core.specs.Formed.{IsMain}
-use Rattle.java_print.specs.Formed.{IsFormedTree}
+use Rattle.java_tree.specs.Formed.{IsFormedTree}
 use Rattle.name_outcome.specs.Known.{Known}
 use Rattle.name_outcome.specs.declared.parts.Heading.{Heading}
 use Rattle.name_outcome.specs.Members.{Members}

@@ -27,7 +27,7 @@ use Rattle.name_rules.specs.Meanings.{local_of}
 use Rattle.name_rules.specs.Resolves.{target, bound}
 use Rattle.name_rules.specs.Outline.{is_type_name}
 use Rattle.name_rules.specs.Meanings.{type_names, class_named, Means, MeansBase, an_int, a_boolean, a_char, a_text, a_class, MeansCast, MeansCastBase, to_int, to_boolean, to_char, to_class, is_bound, bound_names, IsNearestField}
-use Rattle.java_print.specs.Formed.{IsNumber, a_small, the_least, IsCastBase, is_target, is_call, is_act, is_simple, IsFormed, AreFormed, IsFormedValue, IsFormedStmt, AreFormedStmts, AreFormedArms, IsFormedElse, IsFormedFirst, IsFormedStep, has_arm}
+use Rattle.java_tree.specs.Formed.{IsNumber, a_small, the_least, IsCastBase, is_target, is_call, is_act, is_simple, IsFormed, AreFormed, IsFormedValue, IsFormedStmt, AreFormedStmts, AreFormedArms, IsFormedElse, IsFormedFirst, IsFormedStep, has_arm}
 use Rattle.name_rules.specs.Resolves.{Counts, no_number, next_number, ResolvesTo, r_number, r_character, r_text, r_truth, r_null, r_this, r_local, r_static_field, r_own_field, r_class_field, r_field, r_index, r_own_static_call, r_own_call, r_static_call, r_call, r_super_call, r_create, r_create_array, r_cast, r_instance_of, r_unary, r_binary, AllResolve, r_no_more, r_and_more, ResolvesIf, r_none, r_some, scope_after, scope_after_part, IsLocal, StResolves, r_declare, r_block, r_assign, r_act, r_print, r_choose, r_while, r_for, r_return, r_break, r_continue, StsResolve, r_no_statements, r_and_then, ArmsResolve, r_no_else, r_else, r_arm, PartResolves, r_absent, r_present, declares, declares_all, declares_arms}
 use Rattle.name_outcome.proofs.Runs.{stands-within}
 use Rattle.name_outcome.proofs.Sees.{same_some}

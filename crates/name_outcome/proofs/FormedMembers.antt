@@ -32,7 +32,7 @@ use Rattle.java_lex.specs.Writable.{IsName}
 use Rattle.java_tree.specs.declared.TypeName.{TypeName}
 use Rattle.java_tree.specs.declared.Param.{Param}
 use Rattle.java_core.specs.Trees.{Sts}
-use Rattle.java_print.specs.Formed.{IsFormedParam, IsFormedBody}
+use Rattle.java_tree.specs.Formed.{IsFormedParam, IsFormedBody}
 use Rattle.name_rules.specs.Conditions.{missing, in_concrete}
 
 pub body-at : {O : Plain} {ms : List MethodAt} {ks : List PlainMethod} → BodiesResolve O ms ks → (j : ℕ) (m : MethodAt) (k : PlainMethod)

@@ -24,7 +24,7 @@ use Rattle.java_core.proofs.Subclasses.{supers-within}
 use Rattle.name_rules.specs.Outline.{types_in, type_named, is_known, is_type_name, id_meant, parent_named, faces_named, parent_meant, type_meant, name_of, is_interface_of, object, class_outline, outline}
 use Rattle.name_rules.specs.Meanings.{type_names, class_named, Means, MeansBase, an_int, a_boolean, a_char, a_text, a_class}
 use Rattle.name_outcome.proofs.TypeNames.{type-meant}
-use Rattle.java_print.specs.Formed.{Each, IsFormedDecl}
+use Rattle.java_tree.specs.Formed.{Each, IsFormedDecl}
 use Rattle.name_outcome.proofs.Sees.{same_some}
 use Rattle.name_outcome.proofs.Runs.{stands-within, member-stands, map-stands, stands-map}
 use Rattle.name_outcome.proofs.KnownTypes.{named-stands, unnamed-stands}

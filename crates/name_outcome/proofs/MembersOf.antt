@@ -5,7 +5,7 @@ use Rattle.java_lex.specs.Writable.{IsName}
 use Rattle.java_tree.specs.Syntax.{HeadTree, MemberTree, FieldTree, MethodTree, DeclTree, ClassTree, InterfaceTree}
 use Rattle.name_rules.specs.declared.parts.Kind.TheVariants as kinds
 use Rattle.name_rules.specs.Outline.{FieldAt, MethodAt, fields_of, methods_of, heads_of, fields_declared, methods_declared, fields_from, methods_from, has_word, is_abstract_word, mods_of, is_interface_of}
-use Rattle.java_print.specs.Formed.{Each, IsFormedBase, IsFormedHead, IsFormedBody, IsFormedMember, IsFormedDecl}
+use Rattle.java_tree.specs.Formed.{Each, IsFormedBase, IsFormedHead, IsFormedBody, IsFormedMember, IsFormedDecl}
 use Rattle.name_outcome.proofs.Sees.{same_some}
 use Rattle.name_outcome.proofs.MethodClashes.{owner-declared}
 use Rattle.name_outcome.proofs.Runs.{append-cases, stands-within}

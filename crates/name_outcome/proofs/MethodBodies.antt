@@ -23,7 +23,7 @@ use Rattle.name_outcome.specs.Resolved.{bounds_from, slot_at, body_of, Methods, 
 use Rattle.name_outcome.specs.Resolved as resolved
 use Rattle.name_rules.specs.Outline.{MethodAt, method_member, methods_of, heads_of, methods_declared, methods_from, methods_in, has_word, is_abstract_word, types_in, type_meant, method_outline, outline}
 use Rattle.name_rules.specs.Meanings.{bound_names, Means}
-use Rattle.java_print.specs.Formed.{Each, IsFormedBody, IsFormedMember, IsFormedDecl, IsFormedTree}
+use Rattle.java_tree.specs.Formed.{Each, IsFormedBody, IsFormedMember, IsFormedDecl, IsFormedTree}
 use Rattle.name_rules.specs.Resolves.{Counts, no_number, StsResolve, declares_all, params_from, here_of, BodyResolves, r_no_body, r_body, BodiesResolve, r_no_methods, r_method, heading_of}
 use Rattle.name_rules.specs.Conditions.{ConditionAt, StsFault, in_body, of_method}
 use Rattle.name_outcome.proofs.Sees.{Sees, Tells, tell, turn}

@@ -21,7 +21,7 @@ use Rattle.name_outcome.proofs.Sees.{same_some}
 use Rattle.name_outcome.proofs.TypeNames.{type-meant}
 use Rattle.name_outcome.proofs.Excludes.{OneMet, name-class, one-nearest}
 use Rattle.java_tree.specs.Syntax as tree
-use Rattle.java_print.specs.Formed.{IsFormedStmt, AreFormedStmts, AreFormedArms, IsFormedElse}
+use Rattle.java_tree.specs.Formed.{IsFormedStmt, AreFormedStmts, AreFormedArms, IsFormedElse}
 use Rattle.name_outcome.proofs.Statements.{numbers-target, IsFormedPart, of-first, of-step}
 
 -- ---- numbers

@@ -9,7 +9,7 @@ use Rattle.java_core.specs.Trees.{Sts}
 use Rattle.java_core.specs.Programs.{Plain, PlainMethod, PlainLocal, PlainSlot}
 use Rattle.java_core.specs.Types.{types_of}
 use Rattle.java_core.specs.Formed.{variables_of, numbers_body, numbers_methods}
-use Rattle.java_print.specs.Formed.{IsFormedBody, IsFormedTree}
+use Rattle.java_tree.specs.Formed.{IsFormedBody, IsFormedTree}
 use Rattle.name_rules.specs.Outline.{MethodAt, outline}
 use Rattle.name_rules.specs.Resolves.{Counts, StsResolve, declares_all, params_from, here_of, BodyResolves, r_no_body, r_body, BodiesResolve, r_no_methods, r_method, heading_of, IsOfSlot, HasSlot, no_slot, a_slot, AreSlots, Resolves}
 use Rattle.name_rules.specs.Conditions.{overload}

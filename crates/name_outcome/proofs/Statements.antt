@@ -25,7 +25,7 @@ use Rattle.name_outcome.specs.Statements.{State, st_last, arm_last, ending, in_l
 use Rattle.name_rules.specs.Resolves.{target, bound}
 use Rattle.name_rules.specs.Outline.{is_type_name, is_known}
 use Rattle.name_rules.specs.Meanings.{type_names, Means, is_bound, bound_names}
-use Rattle.java_print.specs.Formed.{is_target, is_act, IsFormedStmt, AreFormedStmts, AreFormedArms, IsFormedElse, IsFormedFirst, IsFormedStep}
+use Rattle.java_tree.specs.Formed.{is_target, is_act, IsFormedStmt, AreFormedStmts, AreFormedArms, IsFormedElse, IsFormedFirst, IsFormedStep}
 use Rattle.name_rules.specs.Resolves.{Counts, no_number, next_number, ResolvesTo, r_local, r_static_field, r_own_field, r_class_field, r_field, r_index, ResolvesIf, r_none, r_some, scope_after, scope_after_part, StResolves, r_declare, r_block, r_assign, r_act, r_print, r_choose, r_while, r_for, r_return, r_break, r_continue, StsResolve, r_no_statements, r_and_then, ArmsResolve, r_no_else, r_else, r_arm, PartResolves, r_absent, r_present, declares, declares_all, declares_arms}
 use Rattle.name_rules.specs.Conditions.{FaultIn, FaultInValue, in_value, names_after, names_after_part, StFault, no_type_of_local, type_as_local, local_twice, in_first_value, in_block, in_target, in_assigned, in_call, in_printed, in_choice, in_else, in_while_test, in_while, in_first_part, in_for_test, in_last_part, in_for, in_returned, break_outside, continue_outside, StsFault, in_statement, in_rest, ArmsFault, in_test, in_arm, in_more_arms, PartFault, in_part}
 use Rattle.name_outcome.proofs.TypeNames.{type-tells}

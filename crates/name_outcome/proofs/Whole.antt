@@ -11,7 +11,7 @@ use Rattle.name_outcome.specs.Members.{members_of, clashes_of, main_of}
 use Rattle.name_outcome.specs.Resolved.{with_bodies, resolved}
 use Rattle.name_outcome.specs.Resolved as resolved_by
 use Rattle.name_rules.specs.Outline.{fields_in, outline}
-use Rattle.java_print.specs.Formed.{IsFormedTree}
+use Rattle.java_tree.specs.Formed.{IsFormedTree}
 use Rattle.name_rules.specs.Resolves.{Resolves}
 use Rattle.name_rules.specs.Conditions.{ConditionAt}
 use Rattle.name_rules.specs.Causes.{HasNoCondition}

@@ -4,8 +4,8 @@ use Rattle.java_tree.specs.Syntax.{DeclTree}
 use Rattle.java_tree.specs.Places.{unplaced}
 use Rattle.java_tree.specs.Declarations.{Derives}
 use Rattle.java_parse.proofs.CompleteDeclarations.{one_derived}
-use Rattle.java_print.specs.Formed.{IsFormedTree}
-use Rattle.java_print.proofs.Gives.{given_formed}
+use Rattle.java_tree.specs.Formed.{IsFormedTree}
+use Rattle.java_tree.proofs.Gives.{given_formed}
 use Rattle.java_core.specs.Trees.{at_place}
 use Rattle.java_core.specs.Programs.{Plain, program_of}
 use Rattle.name_rules.specs.Resolves.{Resolves}

@@ -2,7 +2,7 @@
 use Rattle.std.specs.Prelude.{◌≡◌, ℕ, List}
 use Rattle.java_tree.specs.Syntax.{DeclTree}
 use Rattle.java_tree.specs.Places.{unplaced}
-use Rattle.java_print.specs.Formed.{IsGiven, IsReadAs}
+use Rattle.java_tree.specs.Formed.{IsGiven, IsReadAs}
 use Rattle.java_core.specs.declared.Program.{Program}
 use Rattle.java_core.specs.Trees.{at_place, no_place}
 use Rattle.java_core.specs.Programs.{program_of}

@@ -5,8 +5,8 @@ use Rattle.std.specs.Option.{is_some, option_map_or}
 use Rattle.std.proofs.lemmas.Bool.{false≢true}
 use Rattle.kaba_base.specs.declared.Place.{Place}
 use Rattle.java_tree.specs.Syntax.{Expression, Statement, LocalOf, BlockOf, Statements, no_statements}
-use Rattle.java_print.specs.Formed as printed
-use Rattle.java_print.specs.Formed.{is_target, IsFormed, AreFormed, IsFormedValue, IsFormedStmt, AreFormedStmts, AreFormedArms, IsFormedElse, IsFormedFirst, IsFormedStep}
+use Rattle.java_tree.specs.Formed as printed
+use Rattle.java_tree.specs.Formed.{is_target, IsFormed, AreFormed, IsFormedValue, IsFormedStmt, AreFormedStmts, AreFormedArms, IsFormedElse, IsFormedFirst, IsFormedStep}
 use Rattle.java_core.specs.declared.Ty.{Ty}
 use Rattle.java_core.specs.Trees.{Ex, Exs, no_ex, ex_then, number, character, text, truth, null, this, local, static_field, own_field, field, index, call, static_call, super_call, create, create_array, cast, instance_of, unary, binary, Target, to_local, to_static, to_own, to_field, to_element, no_target, St, Sts, Arms, declare, block, assign, act, print, choose, loop, return, break, continue, no_st, st_then, no_other, otherwise, arm}
 use Rattle.java_core.specs.Programs.{PlainLocal, PlainMethod}

@@ -4,8 +4,8 @@ use Rattle.std.specs.Prelude.{ℤ}
 use Rattle.java_lex.specs.Writable.{IsName}
 use Rattle.java_tree.specs.Tokens.{level, is_sign}
 use Rattle.java_tree.specs.Syntax.{Expression, Expressions, OptionalStatement, absent, present, Statements}
-use Rattle.java_print.specs.Formed as printed
-use Rattle.java_print.specs.Formed.{IsNumber, a_small, the_least, is_target, IsFormed, AreFormed, IsFormedValue, IsFormedStmt, AreFormedStmts, IsFormedFirst, IsFormedStep}
+use Rattle.java_tree.specs.Formed as printed
+use Rattle.java_tree.specs.Formed.{IsNumber, a_small, the_least, is_target, IsFormed, AreFormed, IsFormedValue, IsFormedStmt, AreFormedStmts, IsFormedFirst, IsFormedStep}
 use Rattle.java_core.specs.declared.UnOp.{UnOp}
 use Rattle.java_core.specs.declared.UnOp.TheVariants as un
 use Rattle.java_core.specs.declared.BinOp.{BinOp}

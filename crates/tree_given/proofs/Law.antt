@@ -1,6 +1,6 @@
 -- The laws, of a program with its places.
 use Rattle.std.proofs.Common.{sym, subst}
-use Rattle.java_print.specs.Formed.{IsFormedTree}
+use Rattle.java_tree.specs.Formed.{IsFormedTree}
 use Rattle.java_print.proofs.DeclParsed.{formed_given}
 use Rattle.java_core.specs.Trees.{at_place, no_place}
 use Rattle.java_core.specs.Programs.{Plain, program_of}

@@ -4,8 +4,8 @@ use Rattle.std.specs.Prelude.{option_and_then}
 use Rattle.std.specs.Option.{is_some, option_map_or}
 use Rattle.java_lex.specs.Writable.{IsName}
 use Rattle.java_tree.specs.Syntax.{NullLit, Expressions}
-use Rattle.java_print.specs.Formed as printed
-use Rattle.java_print.specs.Formed.{is_target, IsFormed, AreFormed, IsFormedBase}
+use Rattle.java_tree.specs.Formed as printed
+use Rattle.java_tree.specs.Formed.{is_target, IsFormed, AreFormed, IsFormedBase}
 use Rattle.java_core.specs.declared.Ty.{Ty}
 use Rattle.java_core.specs.Trees.{Tag, Ex, Exs, call, super_call, Sts}
 use Rattle.java_core.specs.Programs.{PlainLocal, PlainField, PlainMethod}

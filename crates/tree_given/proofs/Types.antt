@@ -9,7 +9,7 @@ use Rattle.ucd_derived.specs.XidContinueRanges.{xid_continue_ranges}
 use Rattle.ucd_derived.specs.Binary.{is_xid_start, is_xid_continue}
 use Rattle.kaba_base.specs.Words.{key_text}
 use Rattle.java_lex.specs.Writable.{IsName}
-use Rattle.java_print.specs.Formed.{IsFormedBase, IsCastBase}
+use Rattle.java_tree.specs.Formed.{IsFormedBase, IsCastBase}
 use Rattle.java_core.specs.declared.Ty.{Ty}
 use Rattle.java_core.specs.declared.TyBase.{TyBase}
 use Rattle.java_core.specs.declared.TyBase.TheVariants.{Int, Boolean, Char, Str, Class}

@@ -10,7 +10,7 @@ use Rattle.kaba_order.specs.Orders.{is_live, IsPartialOrder}
 use Rattle.java_lex.specs.Writable.{IsName}
 use Rattle.java_tree.specs.declared.Modifier.{Modifier}
 use Rattle.java_tree.specs.Syntax.{HeadTree, MemberTree, DeclTree}
-use Rattle.java_print.specs.Formed.{a_small, Each, IsFormed, AreFormedStmts, IsFormedMod, IsFormedId, IsFormedParam, IsFormedHead, IsFormedResult, IsFormedBody, IsFormedMember, IsFormedParent, IsFormedDecl, IsFormedTree}
+use Rattle.java_tree.specs.Formed.{a_small, Each, IsFormed, AreFormedStmts, IsFormedMod, IsFormedId, IsFormedParam, IsFormedHead, IsFormedResult, IsFormedBody, IsFormedMember, IsFormedParent, IsFormedDecl, IsFormedTree}
 use Rattle.java_core.specs.declared.Ty.{Ty}
 use Rattle.java_core.specs.declared.TyBase.{TyBase}
 use Rattle.java_core.specs.declared.TyBase.TheVariants.{Int, Boolean, Char}

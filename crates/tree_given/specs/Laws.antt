@@ -1,5 +1,5 @@
 -- The tree that is written of a program and a hierarchy is one that the grammar gives.
-use Rattle.java_print.specs.Formed.{IsFormedTree, IsGiven}
+use Rattle.java_tree.specs.Formed.{IsFormedTree, IsGiven}
 use Rattle.java_core.specs.declared.Program.{Program}
 use Rattle.java_core.specs.Trees.{at_place, no_place}
 use Rattle.java_core.specs.Programs.{program_of}

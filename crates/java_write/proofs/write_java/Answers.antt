@@ -1,7 +1,7 @@
 use Rattle.std.proofs.Common.{◌≡◌, ◌++◌, subst, sym}
 use Rattle.std.specs.Str.{encode_utf8_all}
 use Rattle.java_tree.specs.Syntax.{tree_of}
-use Rattle.java_print.specs.Formed.{IsFormedTree, IsGiven, IsReadAs}
+use Rattle.java_tree.specs.Formed.{IsFormedTree, IsGiven, IsReadAs}
 use Rattle.java_print.specs.Layout.{tree_text}
 use Rattle.name_rules.specs.Causes.{HasNoCondition}
 use Rattle.java_write.specs.Written.{Appends}

@@ -1,7 +1,7 @@
 use Rattle.std.proofs.Common.{◌≡◌, sym, subst, arith}
 use Rattle.java_tree.specs.Syntax.{decl_of, tree_of}
 use Rattle.kaba_work.specs.Sample.{class_tree, sample_tree}
-use Rattle.java_print.specs.Formed.{IsFormedTree, IsGiven}
+use Rattle.java_tree.specs.Formed.{IsFormedTree, IsGiven}
 use Rattle.kaba_work.proofs.FormedTree.{sample_formed, sample_given}
 use Rattle.kaba_work.proofs.Ranges.{one_pushed}
 use Rattle.kaba_work.proofs.Listed.{is_sample}
