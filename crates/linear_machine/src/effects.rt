@@ -46,32 +46,8 @@ fn done<'a>(m: &mut Machine<'a>, kept: Kept) -> Result<Turn, AllocError>
 ghost use Rattle.std.specs.Prelude.{◌+◌};
 
 /// A field of an object is set.
-#[inline(always)]
-pub fn save<'a>(
-    m: &mut Machine<'a>,
-    o: &Operand,
-    place: u32,
-    is_int: bool,
-    value: &Operand,
-) -> Result<Turn, AllocError>
-    requires { m.old.pc < 2 ^ 63 }
-    ensures { Does (act (save (operand_of o.now) place is_int (operand_of value.now))) m.old result m.new }
-{
-    match m.slots.cell(m.base, o) {
-        None => save_any(m, o, place, is_int, value),
-        Some(at) => match m.slots.int(m.base, value) {
-            None => save_any(m, o, place, is_int, value),
-            Some(number) => {
-                let kept = saved(&mut m.heap, Value::Ref(at), place, Value::Int(number));
-                done(m, kept)
-            }
-        },
-    }
-}
-
-/// A field of what may be no object is set.
 #[inline(never)]
-fn save_any<'a>(
+pub fn save<'a>(
     m: &mut Machine<'a>,
     o: &Operand,
     place: u32,
@@ -123,31 +99,8 @@ fn write_static<'a>(m: &mut Machine<'a>, field: u32, value: Value) -> Result<Tur
 }
 
 /// An element of an array is set.
-#[inline(always)]
-pub fn keep_element<'a>(
-    m: &mut Machine<'a>,
-    o: &Operand,
-    at: &Operand,
-    value: &Operand,
-) -> Result<Turn, AllocError>
-    requires { m.old.pc < 2 ^ 63 }
-    ensures { Does (act (keep_element (operand_of o.now) (operand_of at.now) (operand_of value.now))) m.old result m.new }
-{
-    match m.slots.cell(m.base, o) {
-        None => keep_any(m, o, at, value),
-        Some(array) => match m.slots.int(m.base, at) {
-            None => keep_any(m, o, at, value),
-            Some(index) => match m.slots.read(m.base, value) {
-                None => stop!(m, Ending::Stuck),
-                Some(value) => put_element(m, Value::Ref(array), Value::Int(index), value),
-            },
-        },
-    }
-}
-
-/// An element of what may be no array is set.
 #[inline(never)]
-fn keep_any<'a>(
+pub fn keep_element<'a>(
     m: &mut Machine<'a>,
     o: &Operand,
     at: &Operand,

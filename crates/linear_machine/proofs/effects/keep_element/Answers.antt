@@ -1,21 +1,9 @@
-use Rattle.std.proofs.Common.{sym, ◌∙◌, rules}
-use mir.Syntax.{w32}
-use mir.Val.{SFits}
-use Rattle.java_heap.specs.Seen.{value_of}
-use Rattle.java_meaning.specs.Moment.{Number, Object}
-use Rattle.linear_code.specs.Ops.{act, keep_element, constant}
-use Rattle.linear_code.specs.Machine.{does}
-use Rattle.linear_state.specs.Run.{plain_of, config_of}
+use Rattle.std.proofs.Common.{sym, ◌∙◌}
 use Rattle.linear_state.proofs.Turned.{turned}
 use Rattle.linear_state.proofs.Branches.{some_is}
-use Rattle.linear_state.proofs.Operators.{passed}
 use Rattle.linear_machine.proofs.effects.keep_element.Goals as goal
 
-pub returns-in-Some-read : goal.returns-in-Some-read
-returns-in-Some-read c =
-    let m = c.args.m.now in
-    let f : SFits w32 c.in-Some-int.index = search rules in
+pub returns-in-Some-read-2 : goal.returns-in-Some-read-2
+returns-in-Some-read-2 c =
     λ T. turned _ _ _ _ _ _ _ _ c.put_element.ensures
-    (λ go. some_is _ _ _ _ c.in-Some.ensures ∙ some_is _ _ _ _ c.in-Some-int.ensures ∙ some_is _ _ _ _ (sym c.in-Some-read.ensures)
-    ∙ passed (λ n. does (plain_of m) T (act (keep_element (constant (Object c.in-Some.array)) (constant (Number n)) (constant (value_of c.in-Some-read.value))))
-    (config_of m) go) c.in-Some-int.index f)
+    (λ go. some_is _ _ _ _ (sym c.in-Some.ensures) ∙ some_is _ _ _ _ (sym c.in-Some-read.ensures) ∙ some_is _ _ _ _ (sym c.in-Some-read-2.ensures))
