@@ -9,6 +9,7 @@ use Rattle.java_core.specs.Types.{Env, class_of, element_in, field_in, field_typ
 use Rattle.java_core.specs.Typing.{TypedSts}
 use Rattle.java_meaning.specs.Moment.{Body, Lang}
 use Rattle.java_meaning.specs.Values.{default_of}
+use Rattle.java_meaning.specs.EachStatement.{OfOption, InSt, InSts, InArms}
 
 -- what a body names is there: its locals, the fields and the static methods
 module _ (P : Plain) (g : Env) where
@@ -40,8 +41,7 @@ module _ (P : Plain) (g : Env) where
     StandAll (ex_then e es) = Stands e × StandAll es
 
   abbrev pub StandsIf : Option Ex → Type 0
-  StandsIf None = Unit {0}
-  StandsIf (Some e) = Stands e
+  StandsIf e = OfOption Stands e
 
   abbrev pub StandsTarget : Target → Type 0
   StandsTarget (to_local t i) = is_some (slice_get g.locals i) ≡ true
@@ -51,27 +51,20 @@ module _ (P : Plain) (g : Env) where
   StandsTarget (to_element t e i) = Stands e × Stands i
   StandsTarget no_target = Unit {0}
 
-  abbrev mutual
-    pub StandsSt : St → Type 0
-    StandsSt (declare t i e) = (is_some (slice_get g.locals i) ≡ true) × StandsIf e
-    StandsSt (block t xs) = StandsSts xs
-    StandsSt (assign t b e) = StandsTarget b × Stands e
-    StandsSt (act t e) = Stands e
-    StandsSt (print t n e) = StandsIf e
-    StandsSt (choose t xs) = StandsArms xs
-    StandsSt (loop t is_while first test step body) = StandsSts first × StandsIf test × StandsSts step × StandsSts body
-    StandsSt (return t e) = StandsIf e
-    StandsSt (break t) = Unit {0}
-    StandsSt (continue t) = Unit {0}
+  abbrev StandsDeclared : ℕ → Option Ex → Type 0
+  StandsDeclared i e = (is_some (slice_get g.locals i) ≡ true) × StandsIf e
 
-    pub StandsSts : Sts → Type 0
-    StandsSts no_st = Unit {0}
-    StandsSts (st_then x xs) = StandsSt x × StandsSts xs
+  abbrev StandsAssigned : Target → Ex → Type 0
+  StandsAssigned b e = StandsTarget b × Stands e
 
-    pub StandsArms : Arms → Type 0
-    StandsArms no_other = Unit {0}
-    StandsArms (otherwise xs) = StandsSts xs
-    StandsArms (arm e xs more) = Stands e × StandsSts xs × StandsArms more
+  abbrev pub StandsSt : St → Type 0
+  StandsSt x = InSt Stands StandsDeclared StandsAssigned StandsIf x
+
+  abbrev pub StandsSts : Sts → Type 0
+  StandsSts xs = InSts Stands StandsDeclared StandsAssigned StandsIf xs
+
+  abbrev pub StandsArms : Arms → Type 0
+  StandsArms a = InArms Stands StandsDeclared StandsAssigned StandsIf a
 
 -- a body of a signature: its locals begin at their defaults, it falls off its end with its result's, and its code is typed
 pub record TypedBody (P : Plain) (b : Body) (sig : Signature) : Type 0 where
