@@ -34,7 +34,7 @@ use Rattle.flow_rules.proofs.Listed.{first, below_at, at_map, index_at, each_has
 use Rattle.facts_order.proofs.Items.{column_at, column_back, row_back}
 use Rattle.facts_order.proofs.Pairs.{IsPlaced}
 use Rattle.facts_order.proofs.Columns.{Stands, for_field, for_declaration, for_body, for_mark, item_of, numbered_column}
-use Rattle.facts_order.proofs.Numbers.{IsPart, number_in}
+use Rattle.run_cover.proofs.Numbers.{IsPart, number_in}
 use Rattle.facts_order.proofs.Sites.{numbered_own, part_numbered}
 use Rattle.facts_order.proofs.Forms.{own, own_assign, From, from_ex, from_assign, from_declare, from_return}
 use Rattle.facts_order.proofs.Rows.{Types, for_field as types_field, for_this as types_this, for_result as types_result, for_variable as types_variable, for_part as types_part, row_types, part_from, item_row, row_cases}
@@ -128,7 +128,7 @@ variable_thisless (Some s) true m i = refl
 variable_thisless (Some s) false m i = refl
 
 module _ (P Q : Plain) (placed : IsPlaced P Q) (formed : IsFormed P) (typed : IsTyped P) where
-  pub part_labelled : (p : Part) → IsPart P Q placed formed p → (m : ℕ) (k : PlainMethod) (e : slice_get Q.methods m ≡ Some k)
+  pub part_labelled : (p : Part) → IsPart P Q p → (m : ℕ) (k : PlainMethod) (e : slice_get Q.methods m ≡ Some k)
       → Contains (parts_of P m k) p → HasLabel m (given_by p)
   part_labelled p a m k e c = from_labelled P (type_in P m k) m k (placed.methods m k e).plain (parts_of P m k) p (part_from P Q placed formed typed m k e p c)
 

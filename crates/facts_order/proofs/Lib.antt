@@ -5,7 +5,6 @@ pub mod Classes
 pub mod Members
 pub mod Names
 pub mod Labels
-pub mod Numbers
 pub mod Forms
 pub mod Rows
 pub mod Sites

@@ -18,7 +18,7 @@ use Rattle.flow_rules.specs.Types.{field_object, slot_object, method_object, var
 use Rattle.flow_rules.specs.Parts.{Part, parts_of}
 use Rattle.flow_rules.specs.Numbered.{rows_of}
 use Rattle.facts_order.proofs.Pairs.{IsPlaced}
-use Rattle.facts_order.proofs.Numbers.{number_in}
+use Rattle.run_cover.proofs.Numbers.{number_in}
 use Rattle.facts_order.proofs.Rows.{IsOwn, Types, for_field, for_this, for_result, for_variable, for_part, row_types}
 use Rattle.facts_order.proofs.Sites.{numbered_own, part_numbered, variable_numberless as variable_none}
 

@@ -27,7 +27,7 @@ use Rattle.flow_rules.specs.Facts.{row_info, numbers, IsFactsOf}
 use Rattle.flow_rules.proofs.Listed.{at_below, below_at, at_map, map_at, index_at, index_past, each_from, each_from_zero, flat_from, when_from, one_from, at_left}
 use Rattle.facts_order.proofs.Items.{row_at, row_raw}
 use Rattle.facts_order.proofs.Pairs.{IsPlaced}
-use Rattle.facts_order.proofs.Numbers.{back}
+use Rattle.run_cover.proofs.Numbers.{back}
 use Rattle.facts_order.proofs.Forms.{From, sts_from}
 
 -- the item and the type of a row, where it has one

@@ -1,7 +1,7 @@
 -- Creations, casts and `instanceof`: each has its row, which has its type, and each creation its site.
 use Rattle.std.proofs.Common.{◌≡◌, ℕ, List, [], ◌∷◌, Option, Some, None, length, refl, sym, ap, ◌∙◌, subst, arith}
 use Rattle.std.specs.Prelude.{◌<◌, nat_lt, Bool, true, false, Contains, slice_get}
-use Rattle.std.specs.Option.{option_map}
+use Rattle.std.specs.Option.{option_map, option_to_list}
 use Rattle.std.specs.List.{flat_map}
 use Rattle.std.proofs.lemmas.Option.{same_Some}
 use Rattle.kaba_base.specs.declared.Place.{Place}
@@ -27,7 +27,7 @@ use Rattle.flow_rules.specs.Facts.{site_info, site_of_row, numbers, IsFactsOf}
 use Rattle.flow_rules.proofs.Listed.{below_at, at_map, map_at, index_at, each_has, each_from_zero, flat_has, flat_from, one_from, first}
 use Rattle.facts_order.proofs.Items.{site_at, site_back, site_raw, site_there, row_back}
 use Rattle.facts_order.proofs.Pairs.{IsPlaced}
-use Rattle.facts_order.proofs.Numbers.{number_in, part_number, IsPart, number_apart}
+use Rattle.run_cover.proofs.Numbers.{number_in, part_number, IsBare, IsPart, number_apart}
 use Rattle.facts_order.proofs.Forms.{own, own_assign, From, from_ex, from_assign, from_declare, from_return}
 use Rattle.facts_order.proofs.Rows.{own_of, IsOwn, Types, for_field, for_this, for_result, for_variable, for_part, row_types, part_from, item_row, row_of}
 
@@ -97,10 +97,14 @@ numbered_own (a_creation p u q) o a e = subst (λ z. HasNumber z.row) (same_Some
 numbered_own (a_test p d q) o a e = subst (λ z. HasNumber z.row) (same_Some q o e) a
 numbered_own _ o a e = absurd (cc)
 
-pub number_own : (p : Part) (o : Operand) → own_of p ≡ Some o → part_number p ≡ number_in o.row
-number_own (a_creation p u q) o e = ap (λ z. number_in z.row) (same_Some q o e)
-number_own (a_test p d q) o e = ap (λ z. number_in z.row) (same_Some q o e)
-number_own _ o e = absurd (cc)
+created_number : (c : Option ℕ) (i : Option RowItem) → i ≡ option_map row.New c → option_to_list c ≡ number_in i
+created_number None i e = ap number_in (sym e)
+created_number (Some n) i e = ap number_in (sym e)
+
+pub number_own : (p : Part) (o : Operand) → IsNumbered p → own_of p ≡ Some o → part_number p ≡ number_in o.row
+number_own (a_creation p u q) o a e = created_number q.created q.row a.1 ∙ ap (λ z. number_in z.row) (same_Some q o e)
+number_own (a_test p d q) o a e = ap (λ z. number_in z.row) (same_Some q o e)
+number_own _ o a e = absurd (cc)
 
 result_numberless : (s : Option ℕ) (m : ℕ) → number_in (Some (result_in s m)) ≡ []
 result_numberless None m = refl
@@ -112,7 +116,10 @@ variable_numberless (Some s) true m i = refl
 variable_numberless (Some s) false m i = refl
 
 module _ (P Q : Plain) (placed : IsPlaced P Q) (formed : IsFormed P) (typed : IsTyped P) where
-  pub part_numbered : (p : Part) → IsPart P Q placed formed p → IsNumbered p
+  bare_method : (m : ℕ) (k : PlainMethod) → slice_get Q.methods m ≡ Some k → IsBare P m k
+  bare_method m k e = let x = placed.methods m k e in record { plain = x.plain; stands = x.stands; body = x.body }
+
+  pub part_numbered : (p : Part) → IsPart P Q p → IsNumbered p
   part_numbered p a = from_numbered P (type_in P a.number a.method) a.number a.method (placed.methods a.number a.method a.stands).plain
       (parts_of P a.number a.method) p (part_from P Q placed formed typed a.number a.method a.stands p a.part)
 
@@ -124,10 +131,10 @@ module _ (P Q : Plain) (placed : IsPlaced P Q) (formed : IsFormed P) (typed : Is
 
   -- the part of a row with a number
   pub numbered_row : (n r : ℕ) (x : Row) → slice_get (rows_of P Q) r ≡ Some x → number_in (Some x.item) ≡ n ∷ [] → (q : Part)
-      × IsPart P Q placed formed q × IsOwn x q
+      × IsPart P Q q × IsOwn x q
   numbered_row n r x e h = go (row_types P Q r x e)
     where
-      go : Types P Q x → (q : Part) × IsPart P Q placed formed q × IsOwn x q
+      go : Types P Q x → (q : Part) × IsPart P Q q × IsOwn x q
       go (for_field f k a b c) = nothing_numbered n (row.Field f) x h b refl
       go (for_this m k a b c d t) = nothing_numbered n (row.This m) x h d refl
       go (for_result m k a b c) = nothing_numbered n (result_in k.slot m) x h b (result_numberless k.slot m)
@@ -136,18 +143,18 @@ module _ (P Q : Plain) (placed : IsPlaced P Q) (formed : IsFormed P) (typed : Is
       go (for_part m k p a b c) = (p, record { number = m; method = k; stands = a; part = b }, c)
 
   -- the row of what a part gives has its type
-  pub own_typed : (p : Part) (o : Operand) (i : RowItem) (r : ℕ) (x : Row) → IsPart P Q placed formed p → own_of p ≡ Some o → o.row ≡ Some i
+  pub own_typed : (p : Part) (o : Operand) (i : RowItem) (r : ℕ) (x : Row) → IsPart P Q p → own_of p ≡ Some o → o.row ≡ Some i
       → slice_get (rows_of P Q) r ≡ Some x → x.item ≡ i → o.ty ≡ Some x.ty
   own_typed p o i r x a b c e f =
       let n = numbered_own p o (part_numbered p a) b in
       let g = ap number_in (ap Some f ∙ sym c) ∙ n.1 in
       let z = numbered_row n.0 r x e g in
-      let one = subst (λ w. Contains w n.0) (sym (number_own p o b ∙ n.1)) (first n.0 []) in
-      let two = subst (λ w. Contains w n.0) (sym (number_own z.0 z.2.operand z.2.own ∙ ap number_in z.2.row_is ∙ g)) (first n.0 []) in
-      let same = number_apart P Q placed formed p z.0 n.0 a z.1 one two in
+      let one = subst (λ w. Contains w n.0) (sym (number_own p o (part_numbered p a) b ∙ n.1)) (first n.0 []) in
+      let two = subst (λ w. Contains w n.0) (sym (number_own z.0 z.2.operand (part_numbered z.0 z.1) z.2.own ∙ ap number_in z.2.row_is ∙ g)) (first n.0 []) in
+      let same = number_apart P Q bare_method formed.numbered p z.0 n.0 a z.1 one two in
       ap (λ w. w.ty) (same_Some _ _ (sym b ∙ ap own_of same ∙ z.2.own)) ∙ z.2.type
 
-  pub own_type : (p : Part) (o : Operand) (i : RowItem) (t : ObjectType) (r : ℕ) (x : Row) → IsPart P Q placed formed p → own_of p ≡ Some o
+  pub own_type : (p : Part) (o : Operand) (i : RowItem) (t : ObjectType) (r : ℕ) (x : Row) → IsPart P Q p → own_of p ≡ Some o
       → o.row ≡ Some i → o.ty ≡ Some t → slice_get (rows_of P Q) r ≡ Some x → x.item ≡ i → x.ty ≡ t
   own_type p o i t r x a b c d e f = same_Some _ _ (sym (own_typed p o i r x a b c e f) ∙ d)
 
@@ -156,7 +163,7 @@ module _ (P Q : Plain) (placed : IsPlaced P Q) (formed : IsFormed P) (typed : Is
     pub place : Place
     pub used : Bool
     pub operand : Operand
-    pub is_part : IsPart P Q placed formed (a_creation place used operand)
+    pub is_part : IsPart P Q (a_creation place used operand)
     pub created : operand.created ≡ Some x.number
     pub type : operand.ty ≡ Some x.ty
     pub row_is : operand.row ≡ Some (row.New x.number)
@@ -169,7 +176,7 @@ module _ (P Q : Plain) (placed : IsPlaced P Q) (formed : IsFormed P) (typed : Is
   site_parts p (Some n) None r x c = absurd (omega (arith, c.1))
   site_parts p None t r x c = absurd (omega (arith, c.1))
 
-  form_site : (p : Part) (x : Site) → IsPart P Q placed formed p → Contains (form_sites (row_number P Q) p) x → IsSitePart x
+  form_site : (p : Part) (x : Site) → IsPart P Q p → Contains (form_sites (row_number P Q) p) x → IsSitePart x
   form_site (a_creation p u o) x a c =
       let z = site_parts p o.created o.ty (number_if (row_number P Q) o.row) x c in
       let e = (part_numbered (a_creation p u o) a).1 ∙ ap (option_map row.New) z.0 in

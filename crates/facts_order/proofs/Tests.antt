@@ -38,7 +38,7 @@ use Rattle.flow_rules.proofs.Listed.{first, at_below, index_at, below_at, contai
 use Rattle.facts_order.proofs.Pairs.{IsPlaced}
 use Rattle.facts_order.proofs.Columns.{numbered_column, part_column}
 use Rattle.facts_order.proofs.Labels.{label_in, part_label, label_apart}
-use Rattle.facts_order.proofs.Numbers.{IsPart}
+use Rattle.run_cover.proofs.Numbers.{IsPart}
 use Rattle.facts_order.proofs.Rows.{item_row}
 use Rattle.facts_order.proofs.Sites.{own_type, site_of, site_part}
 use Rattle.facts_order.proofs.Points.{given_by, Follows, a_static, a_this, a_variable, a_result, a_form, point_of, part_point, item_point}
@@ -200,7 +200,7 @@ module _ (P Q : Plain) (placed : IsPlaced P Q) (formed : IsFormed P) (typed : Is
       (subst (λ w. Contains w x) facts.tests c)) in
       test_part z.0 z.1 z.2 x z.3 z.4 z.5
 
-  part_is : (x : TestInfo) (t : IsTestPart x) → IsPart P Q placed formed (a_test t.place t.operand t.own)
+  part_is : (x : TestInfo) (t : IsTestPart x) → IsPart P Q (a_test t.place t.operand t.own)
   part_is x t = record { number = t.number; method = t.method; stands = t.stands; part = t.part }
 
   targets : All (λ x. row_class F x.target.0 ≡ x.class.0) F.tests.items

@@ -2,7 +2,7 @@
 use Rattle.std.specs.Prelude.{◌≡◌, ℕ, true, List, ◌++◌, map, Option, Some, None, slice_get}
 use Rattle.std.specs.Option.{is_some}
 use Rattle.java_core.specs.declared.Ty.{Ty}
-use Rattle.java_core.specs.Trees.{Ex, Exs, no_ex, ex_then, number, character, text, truth, null, this, local, static_field, own_field, field, index, call, static_call, super_call, create, create_array, cast, instance_of, unary, binary, Target, to_local, to_static, to_own, to_field, to_element, no_target, St, Sts, Arms, declare, block, assign, act, print, choose, loop, return, break, continue, no_st, st_then, no_other, otherwise, arm}
+use Rattle.java_core.specs.Trees.{Ex, Exs, no_ex, ex_then, number, character, text, truth, null, this, local, static_field, own_field, field, index, call, static_call, super_call, create, create_array, cast, instance_of, unary, binary, Target, to_local, to_static, to_own, to_field, to_element, no_target, St, Sts, Arms}
 use Rattle.java_core.specs.Programs.{Plain}
 use Rattle.java_core.specs.Classes.{below, is_concrete, member_field, slot_of, super_method, has_body}
 use Rattle.java_core.specs.Types.{Env, class_of, element_in, field_in, field_type, is_subtype, Signature, signature_of_method, signature_of_slot, static}

@@ -3,7 +3,7 @@ use Rattle.std.specs.Prelude.{◌≡◌, ◌⊎◌, ℕ, Bool, List, Option, Som
 use Rattle.std.specs.Option.{option_map, option_and_then}
 use Rattle.java_core.specs.declared.Ty.{Ty}
 use Rattle.java_core.specs.Types.{Env}
-use Rattle.java_core.specs.Trees.{Ex, field, index, Sts}
+use Rattle.java_core.specs.Trees.{Ex, Sts}
 use Rattle.java_core.specs.Programs.{Plain}
 use Rattle.java_core.specs.Classes.{lookup, super_method}
 use Rattle.java_core.specs.Untagged.{bare, bare_sts}
