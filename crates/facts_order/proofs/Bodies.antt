@@ -31,7 +31,7 @@ use Rattle.flow_rules.specs.Parts.{Part, parts_of}
 use Rattle.flow_rules.specs.Numbered.{row_number, columns_of, column_number, point_number}
 use Rattle.flow_rules.specs.Facts.{this_of_row, site_of_row, column_info, PlainBody, numbers, body_seen, body_if, column_body, param_points, IsFactsOf}
 use Rattle.flow_rules.proofs.Listed.{first, below_at, at_map, index_at, each_has, each_from_zero, map_has, map_from, one_from, all_of}
-use Rattle.facts_order.proofs.Items.{column_at, column_back, row_back}
+use Rattle.facts_order.proofs.Items.{numbered_columns, numbered_rows}
 use Rattle.facts_order.proofs.Pairs.{IsPlaced}
 use Rattle.facts_order.proofs.Columns.{Stands, for_field, for_declaration, for_body, for_mark, item_of, numbered_column}
 use Rattle.run_cover.proofs.Numbers.{IsPart, number_in}
@@ -173,7 +173,7 @@ module _ (P Q : Plain) (placed : IsPlaced P Q) (formed : IsFormed P) (typed : Is
 
     pub this_row_of : (v : ℕ) (d : ColId) → row_this F v ≡ Some d → IsThisRow v d
     this_row_of v d e =
-        ⊎_elim (λ z. this_item v d z.row_is.item (row_back P Q v z.row_is z.stands) (ap (λ i. i.site) z.info) (sym (ap (λ i. i.this_of) z.info) ∙ e))
+        ⊎_elim (λ z. this_item v d z.row_is.item ((numbered_rows P Q).back v z.row_is z.stands) (ap (λ i. i.site) z.info) (sym (ap (λ i. i.this_of) z.info) ∙ e))
         (λ z. absurd (let g = sym (ap (λ i. i.this_of) z) ∙ e in cc)) (row_cases P Q F facts v)
 
     pub this_body : (v : ℕ) (d : ColId) → row_this F v ≡ Some d → IsDef F d.0
@@ -205,7 +205,7 @@ module _ (P Q : Plain) (placed : IsPlaced P Q) (formed : IsFormed P) (typed : Is
         (λ b c. let z = each_from_zero (λ c k. column_body (numbers P Q) Q c k.item) (columns_of P Q) (body_seen b)
         (subst (λ w. Contains w (body_seen b)) facts.bodies (map_has body_seen F.bodies.items b c)) in
         let p = body_part z.0 z.1.item (body_seen b) z.3 in
-        let n = numbered_column P Q F facts z.1.item z.0 (column_back P Q z.0 z.1 z.2) in
+        let n = numbered_column P Q F facts z.1.item z.0 ((numbered_columns P Q).back z.0 z.1 z.2) in
         ap (λ w. column_kind F w) p.2 ∙ ap (λ i. i.kind) n.1 ∙ ap (λ i. (column_info Q i).kind) p.1)
 
     -- the entries rise by column
@@ -291,8 +291,8 @@ module _ (P Q : Plain) (placed : IsPlaced P Q) (formed : IsFormed P) (typed : Is
 
     same_def : (m n d : ℕ) → column_number P Q (column.Def m) ≡ Some d → column_number P Q (column.Def n) ≡ Some d → m ≡ n
     same_def m n d a b =
-        let x = column_at P Q (column.Def m) d a in
-        let y = column_at P Q (column.Def n) d b in
+        let x = (numbered_columns P Q).at (column.Def m) d a in
+        let y = (numbered_columns P Q).at (column.Def n) d b in
         same_Some m n (ap def_number (sym x.2 ∙ ap (λ z. z.item) (same_Some _ _ (sym x.1 ∙ y.1)) ∙ y.2))
 
     pub one_this : (d : ℕ) → d < length F.columns.items → IsDef F d → HasOneThis F d
@@ -305,7 +305,7 @@ module _ (P Q : Plain) (placed : IsPlaced P Q) (formed : IsFormed P) (typed : Is
         let q = this_point P Q m b.plain b.stands b.bodied b.instance r.0 r.1 in
         let x = item_point P Q F facts (point.This m) q.0 q.1 in
         let f = point_of P Q q.0 x.0 x.1 in
-        let col = column_at P Q (column.Def m) d b.number in
+        let col = (numbered_columns P Q).at (column.Def m) d b.number in
         let entry : PlainBody = record {
           column = d;
           this = q.0;

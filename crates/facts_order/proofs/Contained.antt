@@ -20,7 +20,7 @@ use Rattle.flow_rules.specs.Parts.{a_creation}
 use Rattle.flow_rules.specs.Numbered.{columns_of, sites_of, row_number, column_number}
 use Rattle.flow_rules.specs.Facts.{FieldCell, numbers, field_if, field_at, fields_of, field_cell, array_cell, site_cells, site_info, cells_of, owner_of, IsFactsOf}
 use Rattle.flow_rules.proofs.Listed.{at_map, below_at, contains_at, index_at, one_from, flat_from, when_from, each_from_zero}
-use Rattle.facts_order.proofs.Items.{column_back}
+use Rattle.facts_order.proofs.Items.{numbered_columns}
 use Rattle.facts_order.proofs.Pairs.{IsPlaced}
 use Rattle.facts_order.proofs.Classes.{subclass_below}
 use Rattle.facts_order.proofs.Sites.{own_type, site_part}
@@ -57,7 +57,7 @@ module _ (P Q : Plain) (placed : IsPlaced P Q) (formed : IsFormed P) (typed : Is
 
   fields_are : (k : FieldCell) → Contains all_fields k → IsFieldCell k
   fields_are k c = let z = each_from_zero (λ c k. field_at (numbers P Q) Q c k.item) (columns_of P Q) k c in field_cell_at z.0 z.1.item k
-      (column_back P Q z.0 z.1 z.2) z.3
+      ((numbered_columns P Q).back z.0 z.1 z.2) z.3
 
   site_cell : (i : ℕ) (x : Site) (z : CellInfo) (b : Bool) → slice_get (sites_of P Q) i ≡ Some x → (x.ty.dim == 0) ≡ b
       → Contains (if b then flat_map (field_cell P i x.ty.class.0) all_fields else array_cell i x.row) z → IsCellOf z

@@ -1,6 +1,6 @@
 -- Rows, columns, sites and flow points by their numbers: each number has one item, and each item one number.
-use Rattle.std.proofs.Common.{◌≡◌, ℕ, List, ◌++◌, Some}
-use Rattle.std.specs.Prelude.{nat_eq, Contains, slice_get}
+use Rattle.std.proofs.Common.{◌≡◌, ℕ, List, ◌++◌, Option, Some}
+use Rattle.std.specs.Prelude.{nat_eq, Bool, true, Contains, map, position, slice_get}
 use Rattle.std.specs.List.{flat_map}
 use Rattle.java_core.specs.Programs.{Plain}
 use Rattle.flow_rules.specs.declared.items.RowItem.{RowItem}
@@ -10,98 +10,63 @@ use Rattle.flow_rules.specs.declared.items.Row.{Row}
 use Rattle.flow_rules.specs.declared.items.Column.{Column}
 use Rattle.flow_rules.specs.declared.items.Site.{Site}
 use Rattle.flow_rules.specs.declared.items.Point.{Point}
-use Rattle.flow_rules.specs.Ordered.{by_place, each}
+use Rattle.flow_rules.specs.Ordered.{by_place, once, each}
 use Rattle.flow_rules.specs.Numbered.{same_row, same_column, same_point, field_rows, method_rows, rows_of, row_number, field_columns, method_columns, columns_of, column_number, form_sites, bodies_of, sites_of, site_number, listed, static_points, outline_if, points_of, point_number}
 use Rattle.flow_rules.proofs.Keys.{row_exact, row_alike, column_exact, column_alike, point_exact, point_alike, nat_exact, nat_alike}
 use Rattle.flow_rules.proofs.Listed.{place_from, place_has, number_at, number_there, number_back, number_raw}
 
+-- the items of a raw list stand in a list, each key once, and a key has the number of its item
+pub record AreNumbered {A K : Type 0} (key : A → K) (raw items : List A) (number : K → Option ℕ) : Type 0 where
+  pub at : (i : K) (n : ℕ) → number i ≡ Some n → (x : A) × (slice_get items n ≡ Some x) × (key x ≡ i)
+  pub back : (n : ℕ) (x : A) → slice_get items n ≡ Some x → number (key x) ≡ Some n
+  pub from : (n : ℕ) (x : A) → slice_get items n ≡ Some x → Contains raw x
+  pub there : (x : A) → Contains raw x → (n : ℕ) × (number (key x) ≡ Some n)
+
+module _ {A K : Type 0} (eq : K → K → Bool) (exact : (x y : K) → eq x y ≡ true → x ≡ y) (alike : (x : K) → eq x x ≡ true) (key : A → K) where
+  once_numbered : (xs : List A) → AreNumbered key xs (once eq key xs) (λ i. position (eq i) (map key (once eq key xs)))
+  once_numbered xs = record {
+    at = number_at eq exact alike key xs;
+    back = number_back eq exact alike key xs;
+    from = number_raw eq exact alike key xs;
+    there = number_there eq exact alike key xs;
+  }
+
+  -- in the order of their places
+  placed_numbered : (place : A → ℕ) (xs : List A)
+      → AreNumbered key xs (once eq key (by_place place xs)) (λ i. position (eq i) (map key (once eq key (by_place place xs))))
+  placed_numbered place xs = let p = once_numbered (by_place place xs) in record {
+    at = p.at;
+    back = p.back;
+    from = λ n x e. place_from place xs x (p.from n x e);
+    there = λ x c. p.there x (place_has place xs x c);
+  }
+
 module _ (P Q : Plain) where
-  -- rows
   abbrev pub raw_rows : List Row
   raw_rows = each field_rows 0 Q.fields ++ each (method_rows P Q) 0 Q.methods
 
-  abbrev placed_rows : List Row
-  placed_rows = by_place (λ r. r.place.at) raw_rows
-
-  pub row_at : (i : RowItem) (n : ℕ) → row_number P Q i ≡ Some n → (x : Row) × (slice_get (rows_of P Q) n ≡ Some x) × (x.item ≡ i)
+  pub numbered_rows : AreNumbered (λ (r : Row). r.item) raw_rows (rows_of P Q) (row_number P Q)
   unfolding row_number rows_of
-  row_at i n e = number_at same_row row_exact row_alike (λ r. r.item) placed_rows i n e
+  numbered_rows = placed_numbered same_row row_exact row_alike (λ r. r.item) (λ r. r.place.at) raw_rows
 
-  pub row_back : (n : ℕ) (x : Row) → slice_get (rows_of P Q) n ≡ Some x → row_number P Q x.item ≡ Some n
-  unfolding row_number rows_of
-  row_back n x e = number_back same_row row_exact row_alike (λ r. r.item) placed_rows n x e
-
-  pub row_raw : (n : ℕ) (x : Row) → slice_get (rows_of P Q) n ≡ Some x → Contains raw_rows x
-  unfolding rows_of
-  row_raw n x e = place_from (λ r. r.place.at) raw_rows x (number_raw same_row row_exact row_alike (λ r. r.item) placed_rows n x e)
-
-  pub row_there : (x : Row) → Contains raw_rows x → (n : ℕ) × (row_number P Q x.item ≡ Some n)
-  unfolding row_number rows_of
-  row_there x c = number_there same_row row_exact row_alike (λ r. r.item) placed_rows x (place_has (λ r. r.place.at) raw_rows x c)
-
-  -- columns
   abbrev pub raw_columns : List Column
   raw_columns = each field_columns 0 Q.fields ++ each (method_columns P Q) 0 Q.methods
 
-  abbrev placed_columns : List Column
-  placed_columns = by_place (λ c. c.place.at) raw_columns
-
-  pub column_at : (i : ColumnItem) (n : ℕ) → column_number P Q i ≡ Some n → (x : Column) × (slice_get (columns_of P Q) n ≡ Some x) × (x.item ≡ i)
+  pub numbered_columns : AreNumbered (λ (c : Column). c.item) raw_columns (columns_of P Q) (column_number P Q)
   unfolding column_number columns_of
-  column_at i n e = number_at same_column column_exact column_alike (λ c. c.item) placed_columns i n e
+  numbered_columns = placed_numbered same_column column_exact column_alike (λ c. c.item) (λ c. c.place.at) raw_columns
 
-  pub column_back : (n : ℕ) (x : Column) → slice_get (columns_of P Q) n ≡ Some x → column_number P Q x.item ≡ Some n
-  unfolding column_number columns_of
-  column_back n x e = number_back same_column column_exact column_alike (λ c. c.item) placed_columns n x e
-
-  pub column_raw : (n : ℕ) (x : Column) → slice_get (columns_of P Q) n ≡ Some x → Contains raw_columns x
-  unfolding columns_of
-  column_raw n x e = place_from (λ c. c.place.at) raw_columns x (number_raw same_column column_exact column_alike (λ c. c.item) placed_columns n x e)
-
-  pub column_there : (x : Column) → Contains raw_columns x → (n : ℕ) × (column_number P Q x.item ≡ Some n)
-  unfolding column_number columns_of
-  column_there x c = number_there same_column column_exact column_alike (λ c. c.item) placed_columns x (place_has (λ c. c.place.at) raw_columns x c)
-
-  -- sites
   abbrev pub raw_sites : List Site
   raw_sites = flat_map (λ b. flat_map (form_sites (row_number P Q)) b.parts) (bodies_of P Q)
 
-  abbrev placed_sites : List Site
-  placed_sites = by_place (λ s. s.place.at) raw_sites
-
-  pub site_at : (i n : ℕ) → site_number P Q i ≡ Some n → (x : Site) × (slice_get (sites_of P Q) n ≡ Some x) × (x.number ≡ i)
+  pub numbered_sites : AreNumbered (λ (s : Site). s.number) raw_sites (sites_of P Q) (site_number P Q)
   unfolding site_number sites_of
-  site_at i n e = number_at nat_eq nat_exact nat_alike (λ s. s.number) placed_sites i n e
+  numbered_sites = placed_numbered nat_eq nat_exact nat_alike (λ s. s.number) (λ s. s.place.at) raw_sites
 
-  pub site_back : (n : ℕ) (x : Site) → slice_get (sites_of P Q) n ≡ Some x → site_number P Q x.number ≡ Some n
-  unfolding site_number sites_of
-  site_back n x e = number_back nat_eq nat_exact nat_alike (λ s. s.number) placed_sites n x e
-
-  pub site_raw : (n : ℕ) (x : Site) → slice_get (sites_of P Q) n ≡ Some x → Contains raw_sites x
-  unfolding sites_of
-  site_raw n x e = place_from (λ s. s.place.at) raw_sites x (number_raw nat_eq nat_exact nat_alike (λ s. s.number) placed_sites n x e)
-
-  pub site_there : (x : Site) → Contains raw_sites x → (n : ℕ) × (site_number P Q x.number ≡ Some n)
-  unfolding site_number sites_of
-  site_there x c = number_there nat_eq nat_exact nat_alike (λ s. s.number) placed_sites x (place_has (λ s. s.place.at) raw_sites x c)
-
-  -- flow points
   abbrev pub raw_points : List Point
   raw_points = flat_map (listed (row_number P Q)) (by_place (λ p. p.place.at) (each static_points 0 Q.fields))
       ++ flat_map (λ o. flat_map (listed (row_number P Q)) o.points) (by_place (λ o. o.place.at) (each (outline_if P Q) 0 Q.methods))
 
-  pub point_at : (i : PointItem) (n : ℕ) → point_number P Q i ≡ Some n → (x : Point) × (slice_get (points_of P Q) n ≡ Some x) × (x.item ≡ i)
+  pub numbered_points : AreNumbered (λ (p : Point). p.item) raw_points (points_of P Q) (point_number P Q)
   unfolding point_number points_of
-  point_at i n e = number_at same_point point_exact point_alike (λ p. p.item) raw_points i n e
-
-  pub point_back : (n : ℕ) (x : Point) → slice_get (points_of P Q) n ≡ Some x → point_number P Q x.item ≡ Some n
-  unfolding point_number points_of
-  point_back n x e = number_back same_point point_exact point_alike (λ p. p.item) raw_points n x e
-
-  pub point_raw : (n : ℕ) (x : Point) → slice_get (points_of P Q) n ≡ Some x → Contains raw_points x
-  unfolding points_of
-  point_raw n x e = number_raw same_point point_exact point_alike (λ p. p.item) raw_points n x e
-
-  pub point_there : (x : Point) → Contains raw_points x → (n : ℕ) × (point_number P Q x.item ≡ Some n)
-  unfolding point_number points_of
-  point_there x c = number_there same_point point_exact point_alike (λ p. p.item) raw_points x c
+  numbered_points = once_numbered same_point point_exact point_alike (λ p. p.item) raw_points

@@ -22,7 +22,7 @@ use Rattle.flow_rules.specs.Parts.{Part, a_load, an_element, a_creation, a_call,
 use Rattle.flow_rules.specs.Numbered.{Outline, own_point, point_of_form, form_points, static_points, variable_points, method_points, outline_if, point_with, listed, row_number, points_of, point_number}
 use Rattle.flow_rules.specs.Facts.{IsFactsOf}
 use Rattle.flow_rules.proofs.Listed.{at_below, at_map, index_at, each_from, each_from_zero, flat_has, flat_from, place_has, place_from, when_from, one_from}
-use Rattle.facts_order.proofs.Items.{point_at, point_raw}
+use Rattle.facts_order.proofs.Items.{numbered_points}
 use Rattle.run_cover.proofs.HasNumbers.{in_body}
 
 -- what a part gives, where that can be a flow point
@@ -149,7 +149,7 @@ module _ (P Q : Plain) where
       let y = each_from_zero (outline_if P Q) Q.methods o.0 (place_from (λ o. o.place.at) (each (outline_if P Q) 0 Q.methods) o.0 o.1) in
       let d = one_from _ o.0 (when_from (is_some y.1.body) _ o.0 y.3).1 in
       record { at = z.0; item = w.0; number = w.1; follows = method_follows y.0 y.1 y.2 z.0 (subst (λ v. Contains v.points z.0) (sym d) z.1) })
-      (Contains-append_cases (flat_map (listed (row_number P Q)) statics) (flat_map in_outline outlines) x (point_raw P Q q x e))
+      (Contains-append_cases (flat_map (listed (row_number P Q)) statics) (flat_map in_outline outlines) x ((numbered_points P Q).from q x e))
 
   pub part_point : (m : ℕ) (k : PlainMethod) → slice_get Q.methods m ≡ Some k → is_some k.body ≡ true → (p : Part) (a : PointAt)
       → Contains (parts_of P m k) p → Contains (form_points p) a → (r : ℕ) → row_number P Q a.row ≡ Some r
@@ -160,6 +160,6 @@ module _ (P Q : Plain) where
     pub item_point : (i : PointItem) (q : ℕ) → point_number P Q i ≡ Some q → (x : Point) × (slice_get (points_of P Q) q ≡ Some x) × (x.item ≡ i)
         × (point_row F q ≡ x.row) × (q < length F.points.items)
     item_point i q e =
-        let z = point_at P Q i q e in
+        let z = (numbered_points P Q).at i q e in
         let a = subst (λ y. slice_get y q ≡ Some (record { 0 = z.0.row })) (sym facts.points) (at_map (λ p. record { 0 = p.row }) (points_of P Q) q z.0 z.1) in
         (z.0, z.1, z.2, ap (λ y. y.0) (index_at F.points.items q _ _ a), at_below F.points.items q _ a)

@@ -25,7 +25,7 @@ use Rattle.flow_rules.specs.Parts.{Part, a_creation, a_test, parts_body, parts_o
 use Rattle.flow_rules.specs.Numbered.{row_if, own_row, form_rows, field_rows, this_rows, result_rows, variable_rows, method_rows, is_first, rows_of, row_number}
 use Rattle.flow_rules.specs.Facts.{row_info, numbers, IsFactsOf}
 use Rattle.flow_rules.proofs.Listed.{at_below, below_at, at_map, map_at, index_at, index_past, each_from, each_from_zero, flat_from, when_from, one_from, at_left}
-use Rattle.facts_order.proofs.Items.{row_at, row_raw}
+use Rattle.facts_order.proofs.Items.{numbered_rows}
 use Rattle.facts_order.proofs.Pairs.{IsPlaced}
 use Rattle.run_cover.proofs.Numbers.{back}
 use Rattle.facts_order.proofs.Forms.{From, sts_from}
@@ -115,7 +115,7 @@ module _ (P Q : Plain) where
   row_types r x e =
       ⊎_elim (λ d. let z = each_from_zero field_rows Q.fields x d in field_types z.0 z.1 x z.2 z.3)
       (λ d. let z = each_from_zero (method_rows P Q) Q.methods x d in method_types z.0 z.1 x z.2 z.3)
-      (Contains-append_cases (each field_rows 0 Q.fields) (each (method_rows P Q) 0 Q.methods) x (row_raw P Q r x e))
+      (Contains-append_cases (each field_rows 0 Q.fields) (each (method_rows P Q) 0 Q.methods) x ((numbered_rows P Q).from r x e))
 
   module _ (F : Facts) (facts : IsFactsOf P Q F) where
     pub record HasRow (r : ℕ) : Type 0 where
@@ -136,7 +136,7 @@ module _ (P Q : Plain) where
     pub item_row : (i : RowItem) (r : ℕ) → row_number P Q i ≡ Some r → (x : Row) × (slice_get (rows_of P Q) r ≡ Some x) × (x.item ≡ i)
         × (info_at F r ≡ row_info (numbers P Q) Q x) × (r < length F.rows.items)
     item_row i r e =
-        let z = row_at P Q i r e in
+        let z = (numbered_rows P Q).at i r e in
         (z.0, z.1, z.2, index_at F.rows.items r _ _ (info_is r z.0 z.1), at_below F.rows.items r _ (info_is r z.0 z.1))
 
     -- a row with a site or a `this` stands in the list

@@ -25,7 +25,7 @@ use Rattle.flow_rules.specs.Parts.{Part, a_load, an_element, a_creation, a_call,
 use Rattle.flow_rules.specs.Numbered.{Body, rows_of, row_number, number_if, site_if, form_sites, bodies_of, body_at, sites_of, site_number}
 use Rattle.flow_rules.specs.Facts.{site_info, site_of_row, numbers, IsFactsOf}
 use Rattle.flow_rules.proofs.Listed.{below_at, at_map, map_at, index_at, each_has, each_from_zero, flat_has, flat_from, one_from, first}
-use Rattle.facts_order.proofs.Items.{site_at, site_back, site_raw, site_there, row_back}
+use Rattle.facts_order.proofs.Items.{numbered_sites, numbered_rows}
 use Rattle.facts_order.proofs.Pairs.{IsPlaced}
 use Rattle.run_cover.proofs.Numbers.{number_in, part_number, IsBare, IsPart, number_apart}
 use Rattle.facts_order.proofs.Forms.{own, own_assign, From, from_ex, from_assign, from_declare, from_return}
@@ -196,7 +196,7 @@ module _ (P Q : Plain) (placed : IsPlaced P Q) (formed : IsFormed P) (typed : Is
   pub site_part : (s : ℕ) (x : Site) → slice_get (sites_of P Q) s ≡ Some x → IsSitePart x
   unfolding bodies_of
   site_part s x e =
-      let z = flat_from (λ b. flat_map (form_sites (row_number P Q)) b.parts) (bodies_of P Q) x (site_raw P Q s x e) in
+      let z = flat_from (λ b. flat_map (form_sites (row_number P Q)) b.parts) (bodies_of P Q) x ((numbered_sites P Q).from s x e) in
       let b = each_from_zero (body_at P Q) Q.methods z.0 z.1 in
       let c = flat_from (form_sites (row_number P Q)) z.0.parts x z.2 in
       form_site c.0 x (record { number = b.0; method = b.1; stands = b.2; part = subst (λ w. Contains w.parts c.0) (sym (one_from _ z.0 b.3)) c.1 }) c.2
@@ -220,7 +220,7 @@ module _ (P Q : Plain) (placed : IsPlaced P Q) (formed : IsFormed P) (typed : Is
         let p = site_part s z.site z.stands in
         let w = item_row P Q F facts (row.New z.site.number) z.site.row p.row_number_is in
         ap (λ i. (info_at F i.row.0).site) z.info ∙ ap (λ i. i.site) w.3 ∙ ap (site_of_row (numbers P Q)) w.2
-        ∙ ap (λ n. option_map (λ i. record { 0 = i }) n) (site_back P Q s z.site z.stands)
+        ∙ ap (λ n. option_map (λ i. record { 0 = i }) n) ((numbered_sites P Q).back s z.site z.stands)
 
     pub site_types : (s : ℕ) → s < length F.sites.items → site_class F s ≡ row_class F (site_row F s)
     site_types s h =
@@ -235,7 +235,7 @@ module _ (P Q : Plain) (placed : IsPlaced P Q) (formed : IsFormed P) (typed : Is
     pub site_dim : (n r s : ℕ) (x : Row) → slice_get (rows_of P Q) r ≡ Some x → x.item ≡ row.New n → row_number P Q (row.New n) ≡ Some r
         → site_number P Q n ≡ Some s → (site_info_at F s).dim ≡ x.ty.dim
     site_dim n r s x e h a b =
-        let z = site_at P Q n s b in
+        let z = (numbered_sites P Q).at n s b in
         let p = site_part s z.0 z.1 in
         let same : z.0.row ≡ r = same_Some _ _ (sym p.row_number_is ∙ ap (λ i. row_number P Q (row.New i)) z.2 ∙ a) in
         let t = own_type (a_creation p.place p.used p.operand) p.operand (row.New z.0.number) z.0.ty z.0.row x p.is_part refl p.row_is p.type
@@ -252,7 +252,7 @@ module _ (P Q : Plain) (placed : IsPlaced P Q) (formed : IsFormed P) (typed : Is
     made_site m k w u o n r t e c a b d h =
         let x : Site = record { number = n; place = w; ty = t; row = r } in
         let b0 : Body = record { number = m; slot = k.slot; parts = parts_of P m k } in
-        site_there P Q x (flat_has (λ b. flat_map (form_sites (row_number P Q)) b.parts) (bodies_of P Q) b0 x
+        (numbered_sites P Q).there x (flat_has (λ b. flat_map (form_sites (row_number P Q)) b.parts) (bodies_of P Q) b0 x
         (each_has (body_at P Q) 0 Q.methods m k b0 e m (omega arith) (first b0 []))
         (flat_has (form_sites (row_number P Q)) (parts_of P m k) (a_creation w u o) x c
         (subst (λ z. Contains (site_if w z o.ty (number_if (row_number P Q) o.row)) x) (sym a)
@@ -262,7 +262,7 @@ module _ (P Q : Plain) (placed : IsPlaced P Q) (formed : IsFormed P) (typed : Is
     -- the creation of a row with a site
     pub created_row : (n r : ℕ) (s : SiteId) → row_number P Q (row.New n) ≡ Some r → site_number P Q n ≡ Some s.0 → site_row F s.0 ≡ r
     created_row n r s a b =
-        let z = site_at P Q n s.0 b in
+        let z = (numbered_sites P Q).at n s.0 b in
         let p = site_part s.0 z.0 z.1 in
         let i = index_at F.sites.items s.0 _ (site_info z.0) (subst (λ y. slice_get y s.0 ≡ Some (site_info z.0)) (sym facts.sites)
         (at_map (site_info) (sites_of P Q) s.0 z.0 z.1)) in
@@ -280,7 +280,7 @@ module _ (P Q : Plain) (placed : IsPlaced P Q) (formed : IsFormed P) (typed : Is
     back : (r : ℕ) (s : SiteId) → r < length F.rows.items → (info_at F r).site ≡ Some s → site_row F s.0 ≡ r
     back r s h e =
         let z = row_of P Q F facts r h in
-        item_site r z.row_is.item s (row_back P Q r z.row_is z.stands) (sym (ap (λ i. i.site) z.info) ∙ e)
+        item_site r z.row_is.item s ((numbered_rows P Q).back r z.row_is z.stands) (sym (ap (λ i. i.site) z.info) ∙ e)
 
     pub sites_in_order : AreSitesInOrder F
     sites_in_order = record { own = own_row; back = back }

@@ -50,7 +50,7 @@ use Rattle.run_cover.proofs.Covered.{method_parts}
 use Rattle.run_cover.proofs.Unique.{creation_type}
 use Rattle.facts_order.proofs.Classes.{below_subclass}
 use Rattle.facts_order.proofs.Columns.{Stands, for_field, for_declaration, for_body, for_mark, column_stands, numbered_column}
-use Rattle.facts_order.proofs.Items.{column_at, site_at as site_listed}
+use Rattle.facts_order.proofs.Items.{numbered_columns, numbered_sites}
 use Rattle.facts_order.proofs.Pairs.{IsPlaced}
 use Rattle.facts_order.proofs.Sites.{site_types, site_part, created_row}
 use Rattle.flow_rules.proofs.Listed.{at_map, at_below}
@@ -119,7 +119,7 @@ module _ {Q : Plain} {F : Facts} {H : Hierarchy} {W : Plain} (K : Known (untagge
   instance : (f : ℕ) (k : PlainField) (c : ℕ) → (numbers P Q).column (column.Fld f) ≡ Some c → slice_get P.fields f ≡ Some k → k.is_static ≡ false
   unfolding numbers
   instance f k c e at =
-      let x = column_at P Q (column.Fld f) c e in
+      let x = (numbered_columns P Q).at (column.Fld f) c e in
       let y = field_stands x.0.item (column_stands P Q c x.0 x.1) f x.2 in
       ap (λ z. z.is_static) (same_Some k (untag_field y.0) (sym at ∙ get_map untag_field Q.fields f ∙ ap (option_map untag_field) y.1)) ∙ y.2
 
@@ -214,7 +214,7 @@ module _ {Q : Plain} {F : Facts} {H : Hierarchy} {W : Plain} (K : Known (untagge
 
         site_below : (n s : ℕ) → site_number P Q n ≡ Some s → s < length F.sites.items
         site_below n s es =
-            let x = site_listed P Q n s es in at_below F.sites.items s (site_info x.0)
+            let x = (numbered_sites P Q).at n s es in at_below F.sites.items s (site_info x.0)
             (subst (λ z. slice_get z s ≡ Some (site_info x.0)) (sym facts.sites) (at_map site_info (sites_of P Q) s x.0 x.1))
 
         values_of : (n : ℕ) (y : ObjectType) (c s : ℕ) → site_number P Q n ≡ Some s → y ≡ site_type F s → T.type_of (node s) ≡ c → (f : ℕ)
@@ -229,7 +229,7 @@ module _ {Q : Plain} {F : Facts} {H : Hierarchy} {W : Plain} (K : Known (untagge
         array_over : (n s : ℕ) (v : Ty) → v ≡ type_at (site_type F s) → site_number P Q n ≡ Some s
             → retyped (R.row_type (row.New n)) v ≡ type_over (T.type_of (node s)) (site_type F s)
         array_over n s v is es =
-            let x = site_listed P Q n s es in
+            let x = (numbered_sites P Q).at n s es in
             let p = site_part P Q placed K.old typed s x.0 x.1 in
             let row_n : row_number P Q (row.New n) ≡ Some x.0.row = ap (λ z. row_number P Q (row.New z)) (sym x.2) ∙ p.row_number_is in
             let at = created_row P Q placed K.old typed F facts n x.0.row (record { 0 = s }) row_n es in

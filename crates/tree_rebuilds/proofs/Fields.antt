@@ -18,7 +18,7 @@ use Rattle.flow_rules.specs.declared.items.RowItem.TheVariants as row
 use Rattle.flow_rules.specs.Facts.{numbers, is_holder, column_info}
 use Rattle.flow_rules.proofs.Listed.{first, one_from, when_from, when_has}
 use Rattle.facts_order.proofs.Columns.{Stands as IsOfText, for_field, for_declaration, for_body, for_mark, column_stands}
-use Rattle.facts_order.proofs.Items.{column_at}
+use Rattle.facts_order.proofs.Items.{numbered_columns}
 use Rattle.rebuild_model.specs.Renaming.{Renaming, renaming_of}
 use Rattle.rebuild_model.specs.Members.{IsField, IsStaticFieldOf}
 use Rattle.written_tree.specs.Names.{nowhere, modifier, written_type}
@@ -160,7 +160,7 @@ module _ {P Q : Plain} {F : Facts} {pt : PointsTo} {H : Hierarchy} {V : Plain} (
   old_field : (f n : ℕ) → Stands G (column.Fld f) n → (k : PlainField) × (slice_get P.fields f ≡ Some k)
   unfolding numbers
   old_field f n s =
-      let x = column_at P Q (column.Fld f) s.number s.numbered in
+      let x = (numbered_columns P Q).at (column.Fld f) s.number s.numbered in
       go (column.Fld f) (subst (IsOfText Q) x.2 (column_stands P Q s.number x.0 x.1)) refl
     where
       go : (i : ColumnItem) → IsOfText Q i → i ≡ column.Fld f → (k : PlainField) × (slice_get P.fields f ≡ Some k)

@@ -26,7 +26,7 @@ use Rattle.flow_rules.specs.declared.items.ColumnItem.{ColumnItem}
 use Rattle.flow_rules.specs.declared.items.ColumnItem.TheVariants as column
 use Rattle.flow_rules.specs.Facts.{numbers, kind_of, column_info}
 use Rattle.flow_rules.proofs.Listed.{first, at_map, map_has, at_below, below_at, index_at}
-use Rattle.facts_order.proofs.Items.{column_at}
+use Rattle.facts_order.proofs.Items.{numbered_columns}
 use Rattle.facts_order.proofs.Columns.{Stands as IsOfText, for_field, for_declaration, for_body, for_mark, column_stands}
 use Rattle.rebuild_model.specs.Renaming.{Renaming, renaming_of, column_name}
 use Rattle.rebuild_model.specs.Members.{is_made_at, offers_body, is_headed, is_filled, IsBody, IsOfSlot, IsHead, IsFiller}
@@ -272,7 +272,7 @@ module _ {P Q : Plain} {F : Facts} {pt : PointsTo} {H : Hierarchy} {V : Plain} (
   pub old_method : (m n : ℕ) → Stands G (column.Def m) n → IsOldMethod m
   unfolding numbers
   old_method m n s =
-      let x = column_at P Q (column.Def m) s.number s.numbered in
+      let x = (numbered_columns P Q).at (column.Def m) s.number s.numbered in
       text_body m x.0.item (column_stands P Q s.number x.0 x.1) x.2
 
   pub each_body : BodiesMatch G → (m n : ℕ) → Stands G (column.Def m) n → (g : ℕ) × (new : PlainMethod) × (slice_get U.methods g ≡ Some new) × IsOldBody m new
