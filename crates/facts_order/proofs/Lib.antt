@@ -7,8 +7,9 @@ pub mod Names
 pub mod Labels
 pub mod Forms
 pub mod Rows
-pub mod Sites
 pub mod Points
+pub mod OwnParts
+pub mod Sites
 pub mod Bodies
 pub mod Tests
 pub mod Operands

@@ -1,6 +1,6 @@
 -- The rows of a program's facts: what each types, and the type that it has.
 use Rattle.std.proofs.Common.{◌≡◌, ℕ, [], ◌++◌, Option, Some, None, length, refl, sym, ap, subst, arith, inl, inr, ⊎_elim}
-use Rattle.std.specs.Prelude.{◌⊎◌, ◌<◌, ◌&&◌, ◌||◌, nat_lt, true, false, not, Contains, slice_get}
+use Rattle.std.specs.Prelude.{◌⊎◌, ◌<◌, ◌&&◌, ◌||◌, nat_lt, Bool, true, false, not, Contains, slice_get}
 use Rattle.std.specs.Option.{option_map, is_some}
 use Rattle.std.specs.List.{flat_map}
 use Rattle.std.proofs.lemmas.Bool.{not-true, and_parts}
@@ -20,7 +20,7 @@ use Rattle.flow_rules.specs.declared.items.RowItem.{RowItem}
 use Rattle.flow_rules.specs.declared.items.RowItem.TheVariants as row
 use Rattle.flow_rules.specs.declared.items.Row.{Row}
 use Rattle.flow_rules.specs.Ordered.{each}
-use Rattle.flow_rules.specs.Operands.{object_of, object_if, class_object, variable_row, result_in, type_in}
+use Rattle.flow_rules.specs.Operands.{object_of, object_if, class_object, variable_in, variable_row, result_in, type_in}
 use Rattle.flow_rules.specs.Parts.{Part, a_creation, a_test, parts_body, parts_of}
 use Rattle.flow_rules.specs.Numbered.{row_if, own_row, form_rows, field_rows, this_rows, result_rows, variable_rows, method_rows, is_first, rows_of, row_number}
 use Rattle.flow_rules.specs.Facts.{row_info, numbers, IsFactsOf}
@@ -29,6 +29,19 @@ use Rattle.facts_order.proofs.Items.{numbered_rows}
 use Rattle.facts_order.proofs.Pairs.{IsPlaced}
 use Rattle.run_cover.proofs.Numbers.{back}
 use Rattle.facts_order.proofs.Forms.{From, sts_from}
+
+-- what is alike of the rows of returns and of static results holds of the row of a result
+pub all_results : {A : Type 0} (f : RowItem → A) (v : A) → ((s : ℕ) → f (row.Return s) ≡ v) → ((m : ℕ) → f (row.Result m) ≡ v)
+    → (s : Option ℕ) (m : ℕ) → f (result_in s m) ≡ v
+all_results f v h g None m = g m
+all_results f v h g (Some s) m = h s
+
+-- and what is alike of those of parameters and of locals, of the row of a variable
+pub all_variables : {A : Type 0} (f : RowItem → A) (v : A) → ((s i : ℕ) → f (row.Param s i) ≡ v) → ((m i : ℕ) → f (row.Local m i) ≡ v)
+    → (s : Option ℕ) (b : Bool) (m i : ℕ) → f (variable_in s b m i) ≡ v
+all_variables f v h g None b m i = g m i
+all_variables f v h g (Some s) true m i = h s i
+all_variables f v h g (Some s) false m i = g m i
 
 -- the item and the type of a row, where it has one
 row_in : (i : RowItem) (p : Place) (t : Option ObjectType) (x : Row) → Contains (row_if i p t) x → (x.item ≡ i) × (t ≡ Some x.ty)

@@ -28,69 +28,9 @@ use Rattle.flow_rules.proofs.Listed.{below_at, at_map, map_at, index_at, each_ha
 use Rattle.facts_order.proofs.Items.{numbered_sites, numbered_rows}
 use Rattle.facts_order.proofs.Pairs.{IsPlaced}
 use Rattle.run_cover.proofs.Numbers.{number_in, part_number, IsBare, IsPart, number_apart}
-use Rattle.facts_order.proofs.Forms.{own, own_assign, From, from_ex, from_assign, from_declare, from_return}
-use Rattle.facts_order.proofs.Rows.{own_of, IsOwn, Types, for_field, for_this, for_result, for_variable, for_part, row_types, part_from, item_row, row_of}
-
--- the row of a creation is that of its number, and a cast and an `instanceof` have one of their own
-abbrev HasNumber : Option RowItem → Type 0
-HasNumber i = (n : ℕ) × (number_in i ≡ n ∷ [])
-
-abbrev IsNumbered : Part → Type 0
-IsNumbered (a_creation p u o) = HasNumber o.row × (o.row ≡ option_map row.New o.created)
-IsNumbered (a_test p e o) = HasNumber o.row
-IsNumbered (a_load p b f o) = Unit {0}
-IsNumbered (an_element p b o) = Unit {0}
-IsNumbered (a_call p b s d es o) = Unit {0}
-IsNumbered (a_static_call p m es o) = Unit {0}
-IsNumbered (a_super_call p m es o) = Unit {0}
-IsNumbered (a_pair o l r) = Unit {0}
-IsNumbered (a_set v o) = Unit {0}
-IsNumbered (a_store p b f o) = Unit {0}
-IsNumbered (an_element_store p b o) = Unit {0}
-IsNumbered (a_return o) = Unit {0}
-
-module _ (P : Plain) (type : Ex → Option ObjectType) (m : ℕ) (k h : PlainMethod) (ps : List Part) where
-  abbrev in_own : Bool → Ex → List Part
-  in_own u e = own P type m k h ps u e
-
-  is : (q p : Part) → Contains (q ∷ []) p → IsNumbered q → IsNumbered p
-  is q p c n = subst (λ z. IsNumbered z) (one_from q p c) n
-
-  own_numbered : (u : Bool) (e : Ex) (p : Part) → Contains (in_own u e) p → IsNumbered p
-  own_numbered u (number t n) p c = absurd (omega (arith, c.1))
-  own_numbered u (character t n) p c = absurd (omega (arith, c.1))
-  own_numbered u (text t n) p c = absurd (omega (arith, c.1))
-  own_numbered u (truth t n) p c = absurd (omega (arith, c.1))
-  own_numbered u (null t) p c = absurd (omega (arith, c.1))
-  own_numbered u (this t) p c = absurd (omega (arith, c.1))
-  own_numbered u (local t n) p c = absurd (omega (arith, c.1))
-  own_numbered u (static_field t n) p c = absurd (omega (arith, c.1))
-  own_numbered u (own_field t f) p c = is _ p c tt
-  own_numbered u (field t e x) p c = is _ p c tt
-  own_numbered u (index t e i) p c = is _ p c tt
-  own_numbered u (call t e x es) p c = is _ p c tt
-  own_numbered u (static_call t d es) p c = is _ p c tt
-  own_numbered u (super_call t x es) p c = is _ p c tt
-  own_numbered u (create t n d es) p c = is _ p c ((n, refl), refl)
-  own_numbered u (create_array t n v e) p c = is _ p c ((n, refl), refl)
-  own_numbered u (cast t n v e) p c = is _ p c (n, refl)
-  own_numbered u (instance_of t n e d) p c = is _ p c (n, refl)
-  own_numbered u (unary t o e) p c = absurd (omega (arith, c.1))
-  own_numbered u (binary t o e d) p c = is _ p c tt
-
-  assign_numbered : (w : Place) (t : Target) (e : Ex) (p : Part) → Contains (own_assign P type m k h ps w t e) p → IsNumbered p
-  assign_numbered w (to_local t i) e p c = is _ p c tt
-  assign_numbered w (to_static t f) e p c = is _ p c tt
-  assign_numbered w (to_own t f) e p c = is _ p c tt
-  assign_numbered w (to_field t b x) e p c = is _ p c tt
-  assign_numbered w (to_element t b i) e p c = is _ p c tt
-  assign_numbered w no_target e p c = is _ p c tt
-
-  from_numbered : (p : Part) → From P type m k h ps p → IsNumbered p
-  from_numbered p (from_ex z) = own_numbered z.used (label z.number z.form) p z.own_part
-  from_numbered p (from_assign z) = assign_numbered z.place _ _ p z.own_part
-  from_numbered p (from_declare z) = is _ p z.own_part tt
-  from_numbered p (from_return z) = is _ p z.own_part tt
+use Rattle.facts_order.proofs.OwnParts.{HasLabel, HasNumber, IsNumbered, IsMade, from_made}
+use Rattle.facts_order.proofs.Points.{given_by}
+use Rattle.facts_order.proofs.Rows.{own_of, IsOwn, Types, for_field, for_this, for_result, for_variable, for_part, row_types, part_from, item_row, row_of, all_results, all_variables}
 
 pub numbered_own : (p : Part) (o : Operand) → IsNumbered p → own_of p ≡ Some o → HasNumber o.row
 numbered_own (a_creation p u q) o a e = subst (λ z. HasNumber z.row) (same_Some q o e) a.0
@@ -106,22 +46,19 @@ number_own (a_creation p u q) o a e = created_number q.created q.row a.1 ∙ ap 
 number_own (a_test p d q) o a e = ap (λ z. number_in z.row) (same_Some q o e)
 number_own _ o a e = absurd (cc)
 
-result_numberless : (s : Option ℕ) (m : ℕ) → number_in (Some (result_in s m)) ≡ []
-result_numberless None m = refl
-result_numberless (Some s) m = refl
-
-pub variable_numberless : (s : Option ℕ) (b : Bool) (m i : ℕ) → number_in (Some (variable_in s b m i)) ≡ []
-variable_numberless None b m i = refl
-variable_numberless (Some s) true m i = refl
-variable_numberless (Some s) false m i = refl
-
 module _ (P Q : Plain) (placed : IsPlaced P Q) (formed : IsFormed P) (typed : IsTyped P) where
   bare_method : (m : ℕ) (k : PlainMethod) → slice_get Q.methods m ≡ Some k → IsBare P m k
   bare_method m k e = let x = placed.methods m k e in record { plain = x.plain; stands = x.stands; body = x.body }
 
-  pub part_numbered : (p : Part) → IsPart P Q p → IsNumbered p
-  part_numbered p a = from_numbered P (type_in P a.number a.method) a.number a.method (placed.methods a.number a.method a.stands).plain
+  pub part_made : (p : Part) (a : IsPart P Q p) → IsMade a.number p
+  part_made p a = from_made P (type_in P a.number a.method) a.number a.method (placed.methods a.number a.method a.stands).plain
       (parts_of P a.number a.method) p (part_from P Q placed formed typed a.number a.method a.stands p a.part)
+
+  pub part_labelled : (p : Part) (a : IsPart P Q p) → HasLabel a.number (given_by p)
+  part_labelled p a = (part_made p a).0
+
+  pub part_numbered : (p : Part) → IsPart P Q p → IsNumbered p
+  part_numbered p a = (part_made p a).1
 
   nothing_numbered : {R : Type 0} (n : ℕ) (i : RowItem) (x : Row) → number_in (Some x.item) ≡ n ∷ [] → x.item ≡ i → number_in (Some i) ≡ [] → R
   nothing_numbered n i x a e d = absurd (cons_nil (sym a ∙ ap (λ z. number_in (Some z)) e ∙ d))
@@ -137,9 +74,9 @@ module _ (P Q : Plain) (placed : IsPlaced P Q) (formed : IsFormed P) (typed : Is
       go : Types P Q x → (q : Part) × IsPart P Q q × IsOwn x q
       go (for_field f k a b c) = nothing_numbered n (row.Field f) x h b refl
       go (for_this m k a b c d t) = nothing_numbered n (row.This m) x h d refl
-      go (for_result m k a b c) = nothing_numbered n (result_in k.slot m) x h b (result_numberless k.slot m)
+      go (for_result m k a b c) = nothing_numbered n (result_in k.slot m) x h b (all_results (λ i. number_in (Some i)) [] (λ s. refl) (λ m. refl) k.slot m)
       go (for_variable m k i v a b c d) = nothing_numbered n (variable_in k.slot (nat_lt i (length k.params)) m i) x h c
-          (variable_numberless k.slot (nat_lt i (length k.params)) m i)
+          (all_variables (λ i. number_in (Some i)) [] (λ s i. refl) (λ m i. refl) k.slot (nat_lt i (length k.params)) m i)
       go (for_part m k p a b c) = (p, record { number = m; method = k; stands = a; part = b }, c)
 
   -- the row of what a part gives has its type
