@@ -7,17 +7,24 @@ abbrev pub OfOption : (Ex → Type 0) → Option Ex → Type 0
 OfOption Of None = Unit {0}
 OfOption Of (Some e) = Of e
 
-module _ (Of : Ex → Type 0) (Declared : ℕ → Option Ex → Type 0) (Assigned : Target → Ex → Type 0) (Returned : Option Ex → Type 0) where
+-- what is to hold of an expression, a declaration, an assignment and what is returned
+pub record Asked : Type 1 where
+  pub Of : Ex → Type 0
+  pub Declared : ℕ → Option Ex → Type 0
+  pub Assigned : Target → Ex → Type 0
+  pub Returned : Option Ex → Type 0
+
+module _ (A : Asked) where
   abbrev mutual
     pub InSt : St → Type 0
-    InSt (declare t i e) = Declared i e
+    InSt (declare t i e) = A.Declared i e
     InSt (block t xs) = InSts xs
-    InSt (assign t b e) = Assigned b e
-    InSt (act t e) = Of e
-    InSt (print t n e) = OfOption Of e
+    InSt (assign t b e) = A.Assigned b e
+    InSt (act t e) = A.Of e
+    InSt (print t n e) = OfOption A.Of e
     InSt (choose t a) = InArms a
-    InSt (loop t is_while first test step body) = InSts first × OfOption Of test × InSts step × InSts body
-    InSt (return t e) = Returned e
+    InSt (loop t is_while first test step body) = InSts first × OfOption A.Of test × InSts step × InSts body
+    InSt (return t e) = A.Returned e
     InSt (break t) = Unit {0}
     InSt (continue t) = Unit {0}
 
@@ -28,4 +35,4 @@ module _ (Of : Ex → Type 0) (Declared : ℕ → Option Ex → Type 0) (Assigne
     pub InArms : Arms → Type 0
     InArms no_other = Unit {0}
     InArms (otherwise xs) = InSts xs
-    InArms (arm e xs more) = Of e × InSts xs × InArms more
+    InArms (arm e xs more) = A.Of e × InSts xs × InArms more

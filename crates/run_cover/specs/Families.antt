@@ -3,7 +3,7 @@ use Rattle.std.specs.Prelude.{◌≡◌, ℕ, suc, Bool, true, List, Option, Som
 use Rattle.java_core.specs.declared.Ty.{Ty}
 use Rattle.java_core.specs.Trees.{Ex, Exs, no_ex, ex_then, number, character, text, truth, null, this, local, static_field, own_field, field, index, call, static_call, super_call, create, create_array, cast, instance_of, unary, binary, Target, to_local, to_static, to_own, to_field, to_element, no_target, St, Sts, Arms}
 use Rattle.java_core.specs.Types.{Env, class_type, element_in}
-use Rattle.java_meaning.specs.EachStatement.{OfOption, InSt, InSts, InArms}
+use Rattle.java_meaning.specs.EachStatement.{Asked, InSts}
 use Rattle.java_meaning.specs.Moment.{Value, Object, Kind, an_object, an_array, own_type, Spot, held, bound, self_of, result_of, set_static, kept, put_in, touched, tested, ran, Body, Lang}
 use Rattle.java_meaning.specs.Meaning.{words_type}
 
@@ -133,9 +133,6 @@ module _ (L : Lang) (Made : Option ℕ → Kind → Type 0) (V : Family) where
       IncludedAll no_ex = Unit {0}
       IncludedAll (ex_then e es) = Included e × IncludedAll es
 
-    abbrev pub IncludedIf : Option Ex → Type 0
-    IncludedIf e = OfOption Included e
-
     -- what an expression gives, where there is one, goes to a spot
     abbrev pub Sets : Option Ex → Spot → Type 0
     Sets None p = Unit {0}
@@ -149,25 +146,18 @@ module _ (L : Lang) (Made : Option ℕ → Kind → Type 0) (V : Family) where
     Assigns (to_element t e i) d = Included e × Included i × Included d × WritesElement e d
     Assigns no_target d = Unit {0}
 
-    abbrev Declares : ℕ → Option Ex → Type 0
-    Declares x e = Sets e (bound g.body x)
-
-    abbrev Returns : Option Ex → Type 0
-    Returns e = Sets e (result_of g.body)
-
     -- all that statements do stays in the sets
-    abbrev pub IncludedSt : St → Type 0
-    IncludedSt x = InSt Included Declares Assigns Returns x
-
-    abbrev pub IncludedSts : Sts → Type 0
-    IncludedSts xs = InSts Included Declares Assigns Returns xs
-
-    abbrev pub IncludedArms : Arms → Type 0
-    IncludedArms a = InArms Included Declares Assigns Returns a
+    abbrev pub included : Asked
+    included = record {
+      Of = Included;
+      Declared = λ x e. Sets e (bound g.body x);
+      Assigned = Assigns;
+      Returned = λ e. Sets e (result_of g.body);
+    }
 
   -- a body whose code stays in the sets, and that begins and falls off its end with no object
   pub record IsIncluded (b : Body) : Type 0 where
-    pub code : IncludedSts b.env b.code
+    pub code : InSts (included b.env) b.code
     pub rest : ArePlain b.rest
     pub ends : (a : ℕ) → b.ends ≡ Object a → ⊥
 

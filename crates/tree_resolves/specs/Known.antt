@@ -4,7 +4,7 @@ use Rattle.java_tree.specs.declared.TypeName.{TypeName}
 use Rattle.java_core.specs.Programs.{Plain, PlainLocal, PlainMethod}
 use Rattle.java_core.specs.Formed.{variables_of}
 use Rattle.java_core.specs.Trees.{Ex, Exs, no_ex, ex_then, number, character, text, truth, null, this, local, static_field, own_field, field, index, call, static_call, super_call, create, create_array, cast, instance_of, unary, binary, Target, to_local, to_static, to_own, to_field, to_element, no_target, St, Sts, Arms, declare, block, assign, act, print, choose, loop, return, break, continue, no_st, st_then, no_other, otherwise, arm}
-use Rattle.java_meaning.specs.EachStatement.{OfOption, InSt, InSts, InArms}
+use Rattle.java_meaning.specs.EachStatement.{OfOption, Asked}
 use Rattle.hier_model.specs.Hierarchies.{Hierarchy}
 use Rattle.flow_rules.specs.declared.items.RowItem.TheVariants as row
 use Rattle.flow_rules.specs.Operands.{variable_row}
@@ -52,9 +52,6 @@ module _ (P : Plain) (R : Renaming) (H : Hierarchy) (m : ℕ) (k : PlainMethod) 
     KnownExs no_ex = Unit {0}
     KnownExs (ex_then e es) = KnownEx e × KnownExs es
 
-  abbrev pub KnownIf : Option Ex → Type 0
-  KnownIf e = OfOption KnownEx e
-
   abbrev pub KnownTarget : Target → Type 0
   KnownTarget (to_local t i) = Unit {0}
   KnownTarget (to_static t f) = Unit {0}
@@ -67,17 +64,11 @@ module _ (P : Plain) (R : Renaming) (H : Hierarchy) (m : ℕ) (k : PlainMethod) 
   abbrev pub KnownVariable : ℕ → Type 0
   KnownVariable i = (v : PlainLocal) → slice_get (variables_of k) i ≡ Some v → IsKnownType O (written_type P H (R.row_type (variable_row m k i)) v.ty)
 
-  abbrev KnownDeclared : ℕ → Option Ex → Type 0
-  KnownDeclared i e = KnownVariable i × KnownIf e
-
-  abbrev KnownAssigned : Target → Ex → Type 0
-  KnownAssigned b e = KnownTarget b × KnownEx e
-
-  abbrev pub KnownSt : St → Type 0
-  KnownSt x = InSt KnownEx KnownDeclared KnownAssigned KnownIf x
-
-  abbrev pub KnownSts : Sts → Type 0
-  KnownSts xs = InSts KnownEx KnownDeclared KnownAssigned KnownIf xs
-
-  abbrev pub KnownArms : Arms → Type 0
-  KnownArms a = InArms KnownEx KnownDeclared KnownAssigned KnownIf a
+  -- what is asked of the statements of a body
+  abbrev pub known : Asked
+  known = record {
+    Of = KnownEx;
+    Declared = λ i e. KnownVariable i × OfOption KnownEx e;
+    Assigned = λ b e. KnownTarget b × KnownEx e;
+    Returned = OfOption KnownEx;
+  }
