@@ -78,13 +78,22 @@ pub bool_sound : (b : Bool) (s : State) (x y : State → Outcome) → Sound (x s
 bool_sound true s x y h d = h
 bool_sound false s x y h d = d
 
+-- what holds where it faults, and where it goes on
+pub fault_has : {A : Type 0} (Q : Outcome → Type 0) (x : Fault) (o : Option A) (s : State) (k : A → Outcome) → Q (stop (Faulted x) s)
+    → ((a : A) → o ≡ Some a → Q (k a)) → Q (or_fault x o s k)
+fault_has Q x None s k e h = e
+fault_has Q x (Some a) s k e h = h a refl
+
+pub result_has : {A : Type 0} (Q : Outcome → Type 0) (o : Result A Fault) (s : State) (k : A → Outcome) → ((x : Fault) → Q (stop (Faulted x) s))
+    → ((a : A) → Q (k a)) → Q (with_result o s k)
+result_has Q (Err x) s k e h = e x
+result_has Q (Ok a) s k e h = h a
+
 pub fault_sound : {A : Type 0} (x : Fault) (o : Option A) (s : State) (k : A → Outcome) → ((a : A) → o ≡ Some a → Sound (k a)) → Sound (or_fault x o s k)
-fault_sound x None s k h = sound_stop (Faulted x) s tt
-fault_sound x (Some a) s k h = h a refl
+fault_sound x o s k h = fault_has Sound x o s k (sound_stop (Faulted x) s tt) h
 
 pub result_sound : {A : Type 0} (o : Result A Fault) (s : State) (k : A → Outcome) → ((a : A) → Sound (k a)) → Sound (with_result o s k)
-result_sound (Err x) s k h = sound_stop (Faulted x) s tt
-result_sound (Ok a) s k h = h a
+result_sound o s k h = result_has Sound o s k (λ x. sound_stop (Faulted x) s tt) h
 
 pub class_in_type : (b : TyBase) (d c : ℕ) → class_in b d ≡ Some c → class_type c ≡ record { base = b; dim = d }
 class_in_type (Class a) zero c e = ap class_type (sym (same_Some _ _ e))

@@ -16,7 +16,8 @@ use Rattle.flow_rules.specs.declared.items.RowItem.TheVariants as row
 use Rattle.flow_rules.specs.Operands.{object_of, object_if, object_static, object_field, variable_row, result_in, this_operand, type_in}
 use Rattle.flow_rules.specs.Labels.{label_sts}
 use Rattle.flow_rules.specs.Parts.{a_store, an_element_store, a_set, a_return, is_accessed, parts_assign, parts_st, parts_arms, parts_body, parts_of}
-use Rattle.run_cover.proofs.Included.{get_map, object_or}
+use Rattle.std.proofs.lemmas.Option.{slice_get-map}
+use Rattle.flow_rules.proofs.TypeLemmas.{object_or}
 use Rattle.run_cover.proofs.Untagging.{unlabel_sts}
 use Rattle.run_cover.proofs.HasRows.{field_row_of, result_row_of, variable_row_of}
 use Rattle.run_cover.proofs.Types.{of_element}
@@ -54,7 +55,7 @@ module _ (A : CopiedBody) where
 
   variable_classed : (i : ℕ) → HasClass (object_static (or_nothing (slice_get g.locals i))) (R.row_type (variable_row m k i))
   variable_classed i t o =
-      let e = sym (ap object_if (get_map (λ l. l.ty) (k.params ++ k.locals) i)) ∙ sym (object_or (slice_get g.locals i)) ∙ o in
+      let e = sym (ap object_if (slice_get-map (λ l. l.ty) (k.params ++ k.locals) i)) ∙ sym (object_or (slice_get g.locals i)) ∙ o in
       let r = variable_row_of Q formed m k i t stands e in
       N.numbered (variable_row m k i) r.0 r.1
 

@@ -23,7 +23,7 @@ use Rattle.flow_rules.specs.Numbered.{row_number, number_if}
 use Rattle.flow_rules.specs.Parts.{Part, a_load, a_creation, a_call, a_static_call, a_super_call, a_test, a_pair, is_accessed, parts_of}
 use Rattle.flow_rules.specs.Lists.{is_comparison}
 use Rattle.run_cover.specs.Slotted.{HaveSlots}
-use Rattle.run_cover.proofs.Included.{class_object}
+use Rattle.flow_rules.proofs.TypeLemmas.{class_is}
 use Rattle.run_cover.proofs.Untagging.{untyped_params}
 use Rattle.run_cover.proofs.HasRows.{method_of, of_method, in_slot, variable_row_of, of_lt}
 use Rattle.run_cover.proofs.Types.{class_apart, slot_called}
@@ -128,7 +128,7 @@ module _ (A : CopiedBody) where
       → call_declaration P (type e) x ≡ Some d
   unfolding type_in
   declaration_seen e x c d l f =
-      ap (λ z. option_and_then (λ c. declaration_of P c x) z) (class_object (static P g e) ∙ ap class_of (sym (bare_static P g e)) ∙ l) ∙ f
+      ap (λ z. option_and_then (λ c. declaration_of P c x) z) (class_is (static P g e) ∙ ap class_of (sym (bare_static P g e)) ∙ l) ∙ f
 
   pub field_some : (f : ℕ) (w : PlainField) → slice_get P.fields f ≡ Some w → is_some (field_type P f) ≡ true
   field_some f w e = ap (λ z. is_some (option_map (λ (k : PlainField). k.ty) z)) e

@@ -28,7 +28,7 @@ use Rattle.flow_rules.specs.Facts.{PlainBody, body_seen, body_if, column_body, p
 use Rattle.java_core.specs.Untagged.{untag_body, untag_method, untagged}
 use Rattle.run_cover.proofs.Kinded.{FindsBody}
 use Rattle.flow_rules.proofs.Listed.{one, more, each_has, map_from, when_has, position_there, contains_at as there_at}
-use Rattle.run_cover.proofs.Included.{get_map}
+use Rattle.std.proofs.lemmas.Option.{slice_get-map}
 use Rattle.flow_rules.proofs.Keys.{column_exact, column_alike}
 use Rattle.run_cover.proofs.HasNumbers.{column_there}
 use Rattle.run_cover.proofs.HasRows.{method_of, of_method, in_slot, this_point_of}
@@ -241,7 +241,7 @@ module _ (Q : Plain) (F : Facts) (formed : IsFormed (untagged Q)) (facts : IsFac
       let this = this_point_of Q formed m k ek b i.instance in
       let at = def_at m f.0 f.2 in
       let col = mapped_some (λ (c : Column). c.item) (slice_get (columns_of P Q) f.0) (column.Def m)
-      (sym (get_map (λ (c : Column). c.item) (columns_of P Q) f.0) ∙ at.0) in
+      (sym (slice_get-map (λ (c : Column). c.item) (columns_of P Q) f.0) ∙ at.0) in
       let x : PlainBody = record { column = f.0; this = this.0; params = param_points (numbers P Q) Q m k; result = point_number P Q (point.Result m) } in
       let listed = each_has (λ c k. column_body (numbers P Q) Q c k.item) 0 (columns_of P Q) f.0 col.0 x col.1 f.0 (omega arith)
       (subst (λ z. Contains (column_body (numbers P Q) Q f.0 z) x) (sym col.2)

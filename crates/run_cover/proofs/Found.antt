@@ -27,7 +27,7 @@ use Rattle.flow_rules.specs.Numbered.{same_column, columns_of, field_columns, me
 use Rattle.flow_rules.specs.Facts.{ClassFacts, class_seen, class_facts, is_holder, IsFactsOf}
 use Rattle.java_core.specs.Untagged.{untag_class, untagged}
 use Rattle.flow_rules.proofs.Listed.{more, when_from, place_from}
-use Rattle.run_cover.proofs.Included.{get_map}
+use Rattle.std.proofs.lemmas.Option.{slice_get-map}
 
 -- one item for each
 pub each_get : {A B : Type 0} (f : ℕ → A → List B) (h : ℕ → A → B) → ((n : ℕ) (x : A) → f n x ≡ h n x ∷ []) → (n : ℕ) (xs : List A) (i : ℕ) (x : A)
@@ -59,11 +59,11 @@ module _ (Q : Plain) (F : Facts) (facts : IsFactsOf (untagged Q) Q F) where
 
   class_listed : (a : ℕ) (k : PlainClass) → slice_get Q.classes a ≡ Some k → (c : ClassInfo) × (slice_get F.classes.items a ≡ Some c)
       × (class_seen c ≡ facts_at a k)
-  class_listed a k e = mapped_some class_seen (slice_get F.classes.items a) (facts_at a k) (sym (get_map class_seen F.classes.items a)
+  class_listed a k e = mapped_some class_seen (slice_get F.classes.items a) (facts_at a k) (sym (slice_get-map class_seen F.classes.items a)
       ∙ ap (λ z. slice_get z a) facts.classes ∙ each_get (class_facts Q) facts_at (λ n x. refl) 0 Q.classes a k e a (omega arith))
 
   of_class : (a : ℕ) (h : PlainClass) → slice_get P.classes a ≡ Some h → (k : PlainClass) × (slice_get Q.classes a ≡ Some k) × (untag_class k ≡ h)
-  of_class a h e = mapped_some untag_class (slice_get Q.classes a) h (sym (get_map untag_class Q.classes a) ∙ e)
+  of_class a h e = mapped_some untag_class (slice_get Q.classes a) h (sym (slice_get-map untag_class Q.classes a) ∙ e)
 
   pub same_length : length F.classes.items ≡ length P.classes
   same_length = sym (length-map F.classes.items class_seen) ∙ ap (λ z. length z) facts.classes

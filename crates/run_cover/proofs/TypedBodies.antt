@@ -19,7 +19,7 @@ use Rattle.flow_rules.specs.Facts.{numbers}
 use Rattle.java_core.specs.Untagged.{untag_method, untagged, bare, bare_if, bare_target, bare_st, bare_sts, bare_arms}
 use Rattle.run_cover.proofs.Kinded.{IsBase, IsKindedPart}
 use Rattle.flow_rules.proofs.Listed.{one, more}
-use Rattle.run_cover.proofs.Included.{object_or}
+use Rattle.flow_rules.proofs.TypeLemmas.{object_or}
 use Rattle.run_cover.proofs.Untagging.{unlabel_sts}
 use Rattle.java_meaning.proofs.WatchedPrograms.{bare_static}
 use Rattle.run_cover.proofs.HasRows.{variable_point_of, result_point_of, static_point_of}

@@ -19,20 +19,6 @@ use Rattle.java_core.specs.Types.{Static, a_value, null_value, no_value, or_noth
 use Rattle.flow_rules.specs.declared.items.ObjectType.{ObjectType}
 use Rattle.flow_rules.specs.Operands.{object_in, object_of, object_if, object_static}
 
-pub unary_none : (o : UnOp) → object_of (unary_type o) ≡ None
-unary_none un.Plus = refl
-unary_none un.Minus = refl
-unary_none un.Flip = refl
-unary_none un.Not = refl
-
-sum_none : (b : Bool) → object_of (sum_type b) ≡ None
-sum_none true = refl
-sum_none false = refl
-
-pub binary_none : (o : BinOp) (s t : Static) → object_of (binary_type o s t) ≡ None
-binary_none (bin.Int o) s t = sum_none _
-binary_none _ s t = refl
-
 string_none : (m : StringMethod) → object_of (string_result m) ≡ None
 string_none LengthOf = refl
 string_none CharAt = refl

@@ -44,7 +44,7 @@ use Rattle.flow_rules.specs.Facts.{numbers, site_info, IsFactsOf}
 use Rattle.run_cover.specs.Covers.{solved}
 use Rattle.java_core.specs.Untagged.{untagged, untag_field}
 use Rattle.run_cover.specs.Slotted.{HaveSlots}
-use Rattle.run_cover.proofs.Included.{get_map}
+use Rattle.std.proofs.lemmas.Option.{slice_get-map}
 use Rattle.run_cover.proofs.Kinded.{site_type, IsCreation, IsKindedPart}
 use Rattle.run_cover.proofs.Covered.{method_parts}
 use Rattle.run_cover.proofs.Unique.{creation_type}
@@ -121,7 +121,7 @@ module _ {Q : Plain} {F : Facts} {H : Hierarchy} {W : Plain} (K : Known (untagge
   instance f k c e at =
       let x = (numbered_columns P Q).at (column.Fld f) c e in
       let y = field_stands x.0.item (column_stands P Q c x.0 x.1) f x.2 in
-      ap (λ z. z.is_static) (same_Some k (untag_field y.0) (sym at ∙ get_map untag_field Q.fields f ∙ ap (option_map untag_field) y.1)) ∙ y.2
+      ap (λ z. z.is_static) (same_Some k (untag_field y.0) (sym at ∙ slice_get-map untag_field Q.fields f ∙ ap (option_map untag_field) y.1)) ∙ y.2
 
   -- an object has each field that the row of its site has
   field_there : (s f : ℕ) → s < length F.sites.items → has_in K t s f ≡ true → (o : Offers K (node s) (column.Fld f))
@@ -140,7 +140,7 @@ module _ {Q : Plain} {F : Facts} {H : Hierarchy} {W : Plain} (K : Known (untagge
       (own_member f k x.1.is.old_stands (instance f k c.0 c.1 x.1.is.old_stands))
     where
       owner_is : (f : ℕ) (k : PlainField) → slice_get P.fields f ≡ Some k → option_map_or (λ (z : PlainField). z.owner) (slice_get Q.fields f) 0 ≡ k.owner
-      owner_is f k e = go (slice_get Q.fields f) (sym (get_map untag_field Q.fields f) ∙ e)
+      owner_is f k e = go (slice_get Q.fields f) (sym (slice_get-map untag_field Q.fields f) ∙ e)
         where
           go : (z : Option PlainField) → option_map untag_field z ≡ Some k → option_map_or (λ (z : PlainField). z.owner) z 0 ≡ k.owner
           go None q = absurd (cc)

@@ -31,7 +31,7 @@ use Rattle.flow_rules.specs.Parts.{Part, nothing, a_load, a_creation, a_call, a_
 use Rattle.flow_rules.specs.Lists.{site_in, point_at}
 use Rattle.flow_rules.specs.Facts.{numbers}
 use Rattle.run_cover.specs.Covers.{Sets, passes, operand_at, point_sites, held_sites, labelled_body, watched}
-use Rattle.run_cover.proofs.Included.{class_object}
+use Rattle.flow_rules.proofs.TypeLemmas.{class_is}
 use Rattle.run_cover.proofs.Kinded.{IsKindedPart}
 use Rattle.run_cover.proofs.Types.{class_apart}
 use Rattle.run_cover.proofs.TypedParts as typed_parts
@@ -240,7 +240,7 @@ module _ (A : TwinBody) where
   declaration_seen : (e : Ex) (x : List ℕ) (c d : ℕ) → class_of (old e) ≡ Some c → declaration_of P c x ≡ Some d → call_declaration P (type e) x ≡ Some d
   unfolding type_in
   declaration_seen e x c d l f = ap (λ z. option_and_then (λ c. declaration_of P c x) z)
-      (class_object (static P g e) ∙ ap class_of (sym (bare_static P g e)) ∙ l) ∙ f
+      (class_is (static P g e) ∙ ap class_of (sym (bare_static P g e)) ∙ l) ∙ f
 
   slot_is : (e : Ex) (x : List ℕ) (c f i : ℕ) → class_of (old e) ≡ Some c → declaration_of P c x ≡ Some f → L.slot g e x ≡ Some i → slot_of_method P f ≡ Some i
   slot_is e x c f i cls dcl q =
