@@ -31,7 +31,7 @@ use Rattle.flow_rules.specs.Parts.{Part, parts_of}
 use Rattle.flow_rules.specs.Numbered.{row_number, columns_of, column_number, point_number}
 use Rattle.flow_rules.specs.Facts.{this_of_row, site_of_row, column_info, PlainBody, numbers, body_seen, body_if, column_body, param_points, IsFactsOf}
 use Rattle.flow_rules.proofs.Listed.{first, below_at, at_map, index_at, each_has, each_from_zero, map_has, map_from, one_from, all_of}
-use Rattle.facts_order.proofs.Items.{numbered_columns, numbered_rows}
+use Rattle.flow_rules.proofs.NumberedItems.{numbered_columns, numbered_rows}
 use Rattle.facts_order.proofs.Pairs.{IsPlaced}
 use Rattle.facts_order.proofs.Columns.{Stands, for_field, for_declaration, for_body, for_mark, item_of, numbered_column}
 use Rattle.run_cover.proofs.Numbers.{IsPart, number_in}

@@ -24,7 +24,7 @@ use Rattle.flow_rules.specs.Lists.{Placed, PlainCall, point_at, calls_of}
 use Rattle.flow_rules.specs.Numbered.{column_number, columns_of, point_number}
 use Rattle.flow_rules.specs.Facts.{numbers, gathered, body_seen, call_seen, body_if, column_body, param_points, IsFactsOf}
 use Rattle.flow_rules.proofs.Listed.{map_has, map_from, map_at, one_from, each_from_zero, place_from, at_below}
-use Rattle.facts_order.proofs.Items.{numbered_columns}
+use Rattle.flow_rules.proofs.NumberedItems.{numbered_columns}
 use Rattle.facts_order.proofs.Pairs.{IsPlaced}
 use Rattle.facts_order.proofs.Columns.{numbered_column}
 use Rattle.facts_order.proofs.Classes.{at_each, below_subclass}

@@ -20,7 +20,7 @@ use Rattle.flow_rules.specs.Parts.{Part, a_creation, a_test, parts_of}
 use Rattle.flow_rules.specs.Numbered.{mark, array_mark, form_columns, field_columns, method_columns, columns_of, column_number}
 use Rattle.flow_rules.specs.Facts.{column_info, IsFactsOf}
 use Rattle.flow_rules.proofs.Listed.{first, more, at_below, below_at, at_map, map_at, index_at, index_past, each_has, each_from_zero, flat_from, flat_has, when_has, when_from, one_from}
-use Rattle.facts_order.proofs.Items.{raw_columns, numbered_columns}
+use Rattle.flow_rules.proofs.NumberedItems.{raw_columns, numbered_columns}
 
 -- what a column stands for
 pub data Stands (Q : Plain) : ColumnItem → Type 0 where

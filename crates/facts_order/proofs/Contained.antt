@@ -20,7 +20,7 @@ use Rattle.flow_rules.specs.Parts.{a_creation}
 use Rattle.flow_rules.specs.Numbered.{columns_of, sites_of, row_number, column_number}
 use Rattle.flow_rules.specs.Facts.{FieldCell, numbers, field_if, field_at, fields_of, field_cell, array_cell, site_cells, site_info, cells_of, owner_of, IsFactsOf}
 use Rattle.flow_rules.proofs.Listed.{at_map, below_at, contains_at, index_at, one_from, flat_from, when_from, each_from_zero}
-use Rattle.facts_order.proofs.Items.{numbered_columns}
+use Rattle.flow_rules.proofs.NumberedItems.{numbered_columns}
 use Rattle.facts_order.proofs.Pairs.{IsPlaced}
 use Rattle.facts_order.proofs.Classes.{subclass_below}
 use Rattle.facts_order.proofs.Sites.{own_type, site_part}

@@ -38,7 +38,7 @@ use Rattle.flow_rules.specs.Numbered.{column_number, site_number, point_number}
 use Rattle.flow_rules.specs.Facts.{numbers, owner_of, IsFactsOf}
 use Rattle.run_cover.proofs.Kinded.{site_type}
 use Rattle.flow_rules.proofs.Listed.{each_from_zero}
-use Rattle.facts_order.proofs.Items.{numbered_columns}
+use Rattle.flow_rules.proofs.NumberedItems.{numbered_columns}
 use Rattle.facts_order.proofs.Pairs.{IsPlaced}
 use Rattle.facts_order.proofs.Classes.{below_subclass}
 use Rattle.facts_order.proofs.Tests.{gathered_from, both_from, these_from}

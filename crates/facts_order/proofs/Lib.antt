@@ -1,4 +1,3 @@
-pub mod Items
 pub mod Pairs
 pub mod Columns
 pub mod Classes

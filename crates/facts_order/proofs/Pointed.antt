@@ -22,7 +22,7 @@ use Rattle.flow_rules.specs.Numbered.{row_number, sites_of, site_number, points_
 use Rattle.flow_rules.specs.Facts.{site_info, numbers, IsFactsOf}
 use Rattle.run_cover.proofs.Kinded.{site_type}
 use Rattle.flow_rules.proofs.Listed.{at_map, map_at, below_at, index_at}
-use Rattle.facts_order.proofs.Items.{numbered_sites, numbered_points}
+use Rattle.flow_rules.proofs.NumberedItems.{numbered_sites, numbered_points}
 use Rattle.facts_order.proofs.Pairs.{IsPlaced}
 use Rattle.facts_order.proofs.Rows.{row_types}
 use Rattle.facts_order.proofs.Sites.{own_typed, own_type, site_part}

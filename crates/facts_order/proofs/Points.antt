@@ -22,7 +22,7 @@ use Rattle.flow_rules.specs.Parts.{Part, a_load, an_element, a_creation, a_call,
 use Rattle.flow_rules.specs.Numbered.{Outline, own_point, point_of_form, form_points, static_points, variable_points, method_points, outline_if, point_with, listed, row_number, points_of, point_number}
 use Rattle.flow_rules.specs.Facts.{IsFactsOf}
 use Rattle.flow_rules.proofs.Listed.{at_below, at_map, index_at, each_from, each_from_zero, flat_has, flat_from, place_has, place_from, when_from, one_from}
-use Rattle.facts_order.proofs.Items.{numbered_points}
+use Rattle.flow_rules.proofs.NumberedItems.{numbered_points, this_points, param_points, local_points, result_points, part_points}
 use Rattle.run_cover.proofs.HasNumbers.{in_body}
 
 -- what a part gives, where that can be a flow point
@@ -77,21 +77,6 @@ module _ (P Q : Plain) where
   static_follows f k a e c = let d = one_from _ a (when_from k.is_static _ a c).1 in a_static f k e (sym (ap (λ z. z.item) d)) (sym (ap (λ z. z.row) d))
 
   module _ (m : ℕ) (k : PlainMethod) (e : slice_get Q.methods m ≡ Some k) where
-    abbrev this_points : List PointAt
-    this_points = when (not k.is_static) (record { item = point.This m; place = k.tag.place; row = row.This m } ∷ [])
-
-    abbrev param_points : List PointAt
-    param_points = each (variable_points m k) 0 k.params
-
-    abbrev local_points : List PointAt
-    local_points = each (variable_points m k) (length k.params) k.locals
-
-    abbrev result_points : List PointAt
-    result_points = record { item = point.Result m; place = k.tag.place; row = result_in k.slot m } ∷ []
-
-    abbrev part_points : List PointAt
-    part_points = by_place (λ p. p.place.at) (flat_map form_points (parts_of P m k))
-
     -- `this`, parameters and locals, the result, and then the parts
     variable_follows : (i : ℕ) (v : PlainLocal) (a : PointAt) → Contains (variable_points m k i v) a → Follows a
     variable_follows i v a c = let d = one_from _ a c in a_variable m k i e (sym (ap (λ z. z.item) d)) (sym (ap (λ z. z.row) d))
@@ -103,17 +88,17 @@ module _ (P Q : Plain) where
         (λ c. ⊎_elim
         (λ c. ⊎_elim (λ c. let d = one_from _ a (when_from (not k.is_static) _ a c).1 in a_this m k e (sym (ap (λ z. z.item) d))
         (sym (ap (λ z. z.row) d))) (λ c. let z = each_from_zero (variable_points m k) k.params a c in variable_follows z.0 z.1 a z.3)
-        (Contains-append_cases this_points param_points a c))
+        (Contains-append_cases (this_points P Q m k) (param_points P Q m k) a c))
         (λ c. let z = each_from (variable_points m k) (length k.params) k.locals a c in variable_follows z.1 z.2 a z.5)
-        (Contains-append_cases (this_points ++ param_points) local_points a c))
+        (Contains-append_cases ((this_points P Q m k) ++ (param_points P Q m k)) (local_points P Q m k) a c))
         (λ c. let d = one_from _ a c in a_result m k e (sym (ap (λ z. z.item) d)) (sym (ap (λ z. z.row) d)))
-        (Contains-append_cases ((this_points ++ param_points) ++ local_points) result_points a c))
+        (Contains-append_cases (((this_points P Q m k) ++ (param_points P Q m k)) ++ (local_points P Q m k)) (result_points P Q m k) a c))
         (λ c. let z = flat_from form_points (parts_of P m k) a (place_from (λ p. p.place.at) (flat_map form_points (parts_of P m k)) a c) in a_form m
         k z.0 e z.1 (form_from z.0 a z.2))
-        (Contains-append_cases (((this_points ++ param_points) ++ local_points) ++ result_points) part_points a c)
+        (Contains-append_cases ((((this_points P Q m k) ++ (param_points P Q m k)) ++ (local_points P Q m k)) ++ (result_points P Q m k)) (part_points P Q m k) a c)
 
     part_at : (p : Part) (a : PointAt) → Contains (parts_of P m k) p → Contains (form_points p) a → Contains (method_points P Q m k) a
-    part_at p a c d = Contains-append_right (((this_points ++ param_points) ++ local_points) ++ result_points) part_points a
+    part_at p a c d = Contains-append_right ((((this_points P Q m k) ++ (param_points P Q m k)) ++ (local_points P Q m k)) ++ (result_points P Q m k)) (part_points P Q m k) a
         (place_has (λ p. p.place.at) (flat_map form_points (parts_of P m k)) a (flat_has form_points (parts_of P m k) p a c d))
 
   point_in : (a : PointAt) (r : Option ℕ) (x : Point) → Contains (point_with a r) x → (a.item ≡ x.item) × (r ≡ Some x.row)

@@ -40,7 +40,7 @@ use Rattle.flow_rules.specs.Lists.{point_at, row_at, created, moved, news_of, fl
 use Rattle.flow_rules.specs.Numbered.{rows_of, columns_of, sites_of, points_of, row_number, column_number, site_number, point_number, field_columns, method_columns, mark, array_mark, form_columns}
 use Rattle.flow_rules.specs.Facts.{numbers, row_info, column_info, site_info, site_of_row, this_of_row, owner_of, IsFactsOf}
 use Rattle.flow_rules.proofs.Listed.{at_contains, contains_at, at_below, below_at, at_map, map_at, map_from, index_at, one_from, flat_from, when_from, each_from_zero, all_of}
-use Rattle.facts_order.proofs.Items.{numbered_sites, numbered_columns}
+use Rattle.flow_rules.proofs.NumberedItems.{numbered_sites, numbered_columns}
 use Rattle.facts_order.proofs.Pairs.{IsPlaced}
 use Rattle.facts_order.proofs.Columns.{Stands, for_field, for_declaration, for_body, for_mark, members, column_stands, numbered_column}
 use Rattle.facts_order.proofs.Classes.{class_at, class_there, classes_in_order}

@@ -25,7 +25,7 @@ use Rattle.flow_rules.specs.Parts.{Part, a_creation, a_test, parts_body, parts_o
 use Rattle.flow_rules.specs.Numbered.{row_if, own_row, form_rows, field_rows, this_rows, result_rows, variable_rows, method_rows, is_first, rows_of, row_number}
 use Rattle.flow_rules.specs.Facts.{row_info, numbers, IsFactsOf}
 use Rattle.flow_rules.proofs.Listed.{at_below, below_at, at_map, map_at, index_at, index_past, each_from, each_from_zero, flat_from, when_from, one_from, at_left}
-use Rattle.facts_order.proofs.Items.{numbered_rows}
+use Rattle.flow_rules.proofs.NumberedItems.{numbered_rows}
 use Rattle.facts_order.proofs.Pairs.{IsPlaced}
 use Rattle.run_cover.proofs.Numbers.{back}
 use Rattle.facts_order.proofs.Forms.{From, sts_from}

@@ -25,8 +25,9 @@ use Rattle.flow_rules.specs.Parts.{Part, a_load, an_element, a_creation, a_call,
 use Rattle.flow_rules.specs.Numbered.{Body, rows_of, row_number, number_if, site_if, form_sites, bodies_of, body_at, sites_of, site_number}
 use Rattle.flow_rules.specs.Facts.{site_info, site_of_row, numbers, IsFactsOf}
 use Rattle.flow_rules.proofs.Listed.{below_at, at_map, map_at, index_at, each_has, each_from_zero, flat_has, flat_from, one_from, first}
-use Rattle.facts_order.proofs.Items.{numbered_sites, numbered_rows}
+use Rattle.flow_rules.proofs.NumberedItems.{numbered_sites, numbered_rows}
 use Rattle.facts_order.proofs.Pairs.{IsPlaced}
+use Rattle.run_cover.proofs.Unique.{site_created}
 use Rattle.run_cover.proofs.Numbers.{number_in, part_number, IsBare, IsPart, number_apart}
 use Rattle.facts_order.proofs.OwnParts.{HasLabel, HasNumber, IsNumbered, IsMade, from_made}
 use Rattle.facts_order.proofs.Points.{given_by}
@@ -106,37 +107,20 @@ module _ (P Q : Plain) (placed : IsPlaced P Q) (formed : IsFormed P) (typed : Is
     pub row_is : operand.row ≡ Some (row.New x.number)
     pub row_number_is : row_number P Q (row.New x.number) ≡ Some x.row
 
-  site_parts : (p : Place) (n : Option ℕ) (t : Option ObjectType) (r : Option ℕ) (x : Site) → Contains (site_if p n t r) x → (n ≡ Some x.number)
-      × (t ≡ Some x.ty) × (r ≡ Some x.row)
-  site_parts p (Some n) (Some t) (Some r) x c = let e = one_from _ x c in (ap (λ z. Some z.number) e, ap (λ z. Some z.ty) e, ap (λ z. Some z.row) e)
-  site_parts p (Some n) (Some t) None x c = absurd (omega (arith, c.1))
-  site_parts p (Some n) None r x c = absurd (omega (arith, c.1))
-  site_parts p None t r x c = absurd (omega (arith, c.1))
-
-  form_site : (p : Part) (x : Site) → IsPart P Q p → Contains (form_sites (row_number P Q) p) x → IsSitePart x
-  form_site (a_creation p u o) x a c =
-      let z = site_parts p o.created o.ty (number_if (row_number P Q) o.row) x c in
-      let e = (part_numbered (a_creation p u o) a).1 ∙ ap (option_map row.New) z.0 in
-      record {
-        place = p;
-        used = u;
-        operand = o;
-        is_part = a;
-        created = z.0;
-        type = z.1;
-        row_is = e;
-        row_number_is = sym
-            (ap (number_if (row_number P Q)) e) ∙ z.2;
-      }
-  form_site _ x a c = absurd (omega (arith, c.1))
-
   pub site_part : (s : ℕ) (x : Site) → slice_get (sites_of P Q) s ≡ Some x → IsSitePart x
-  unfolding bodies_of
   site_part s x e =
-      let z = flat_from (λ b. flat_map (form_sites (row_number P Q)) b.parts) (bodies_of P Q) x ((numbered_sites P Q).from s x e) in
-      let b = each_from_zero (body_at P Q) Q.methods z.0 z.1 in
-      let c = flat_from (form_sites (row_number P Q)) z.0.parts x z.2 in
-      form_site c.0 x (record { number = b.0; method = b.1; stands = b.2; part = subst (λ w. Contains w.parts c.0) (sym (one_from _ z.0 b.3)) c.1 }) c.2
+      let z = site_created P Q s x e in
+      let row_is = (part_numbered (a_creation z.place z.used z.operand) z.is_part).1 ∙ ap (option_map row.New) z.created in
+      record {
+        place = z.place;
+        used = z.used;
+        operand = z.operand;
+        is_part = z.is_part;
+        created = z.created;
+        type = z.type;
+        row_is = row_is;
+        row_number_is = sym (ap (number_if (row_number P Q)) row_is) ∙ z.numbered;
+      }
 
   module _ (F : Facts) (facts : IsFactsOf P Q F) where
     pub record HasSite (s : ℕ) : Type 0 where

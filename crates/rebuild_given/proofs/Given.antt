@@ -15,7 +15,7 @@ use Rattle.flow_rules.specs.declared.items.ColumnItem.{ColumnItem}
 use Rattle.flow_rules.specs.declared.items.ColumnItem.TheVariants as column
 use Rattle.flow_rules.specs.Facts.{numbers, kind_of, slot_in, IsFactsOf}
 use Rattle.facts_order.proofs.Pairs.{IsPlaced}
-use Rattle.facts_order.proofs.Items.{numbered_columns}
+use Rattle.flow_rules.proofs.NumberedItems.{numbered_columns}
 use Rattle.facts_order.proofs.Columns.{Stands, for_field, for_declaration, for_body, for_mark, column_stands, declaration_column, item_of, numbered_column}
 use Rattle.rebuild_model.specs.Rebuilds.{Rebuilds}
 use Rattle.rebuild_looks.specs.Known.{AreColumns, Known}

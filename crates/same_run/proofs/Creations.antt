@@ -50,7 +50,7 @@ use Rattle.run_cover.proofs.Covered.{method_parts}
 use Rattle.run_cover.proofs.Unique.{creation_type}
 use Rattle.facts_order.proofs.Classes.{below_subclass}
 use Rattle.facts_order.proofs.Columns.{Stands, for_field, for_declaration, for_body, for_mark, column_stands, numbered_column}
-use Rattle.facts_order.proofs.Items.{numbered_columns, numbered_sites}
+use Rattle.flow_rules.proofs.NumberedItems.{numbered_columns, numbered_sites}
 use Rattle.facts_order.proofs.Pairs.{IsPlaced}
 use Rattle.facts_order.proofs.Sites.{site_types, site_part, created_row}
 use Rattle.flow_rules.proofs.Listed.{at_map, at_below}

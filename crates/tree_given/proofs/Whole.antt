@@ -39,7 +39,7 @@ use Rattle.flow_rules.specs.Facts.{numbers, kind_of, slot_in}
 use Rattle.run_cover.proofs.Untagging.{same_env}
 use Rattle.run_cover.proofs.HasRows.{method_of, of_method}
 use Rattle.flow_rules.proofs.Listed.{first, more, at_contains, contains_at, index_at, map_at, map_from, each_from_zero, when_from, one_from}
-use Rattle.facts_order.proofs.Items.{numbered_columns}
+use Rattle.flow_rules.proofs.NumberedItems.{numbered_columns}
 use Rattle.rebuild_model.specs.Members.{is_made_at, offers_body, is_filled}
 use Rattle.written_tree.specs.Names.{modifier, written_type}
 use Rattle.written_tree.specs.Bodies.{written_sts}

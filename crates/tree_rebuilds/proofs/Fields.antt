@@ -18,7 +18,7 @@ use Rattle.flow_rules.specs.declared.items.RowItem.TheVariants as row
 use Rattle.flow_rules.specs.Facts.{numbers, is_holder, column_info}
 use Rattle.flow_rules.proofs.Listed.{first, one_from, when_from, when_has}
 use Rattle.facts_order.proofs.Columns.{Stands as IsOfText, for_field, for_declaration, for_body, for_mark, column_stands}
-use Rattle.facts_order.proofs.Items.{numbered_columns}
+use Rattle.flow_rules.proofs.NumberedItems.{numbered_columns}
 use Rattle.rebuild_model.specs.Renaming.{Renaming, renaming_of}
 use Rattle.rebuild_model.specs.Members.{IsField, IsStaticFieldOf}
 use Rattle.written_tree.specs.Names.{nowhere, modifier, written_type}

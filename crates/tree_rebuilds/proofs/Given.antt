@@ -19,7 +19,7 @@ use Rattle.flow_rules.specs.Numbered.{columns_of}
 use Rattle.flow_rules.specs.Facts.{numbers, column_info, kind_of, IsFactsOf}
 use Rattle.flow_rules.proofs.Listed.{at_map, map_at, at_below}
 use Rattle.facts_order.proofs.Pairs.{IsPlaced}
-use Rattle.facts_order.proofs.Items.{numbered_columns}
+use Rattle.flow_rules.proofs.NumberedItems.{numbered_columns}
 use Rattle.rebuild_model.specs.Renaming.{Places, Renaming, renaming_of}
 use Rattle.rebuild_model.specs.Members.{StandsAt}
 use Rattle.rebuild_looks.specs.Known.{AreColumns}

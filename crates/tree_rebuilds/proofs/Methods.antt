@@ -26,7 +26,7 @@ use Rattle.flow_rules.specs.declared.items.ColumnItem.{ColumnItem}
 use Rattle.flow_rules.specs.declared.items.ColumnItem.TheVariants as column
 use Rattle.flow_rules.specs.Facts.{numbers, kind_of, column_info}
 use Rattle.flow_rules.proofs.Listed.{first, at_map, map_has, at_below, below_at, index_at}
-use Rattle.facts_order.proofs.Items.{numbered_columns}
+use Rattle.flow_rules.proofs.NumberedItems.{numbered_columns}
 use Rattle.facts_order.proofs.Columns.{Stands as IsOfText, for_field, for_declaration, for_body, for_mark, column_stands}
 use Rattle.rebuild_model.specs.Renaming.{Renaming, renaming_of, column_name}
 use Rattle.rebuild_model.specs.Members.{is_made_at, offers_body, is_headed, is_filled, IsBody, IsOfSlot, IsHead, IsFiller}

@@ -24,7 +24,7 @@ use Rattle.flow_rules.specs.Operands.{object_in, object_of, object_if, variable_
 use Rattle.flow_rules.specs.Numbered.{row_number, rows_of}
 use Rattle.flow_rules.specs.Types.{variable_object}
 use Rattle.flow_rules.specs.Facts.{numbers, row_info, IsFactsOf}
-use Rattle.facts_order.proofs.Items.{numbered_rows}
+use Rattle.flow_rules.proofs.NumberedItems.{numbered_rows}
 use Rattle.flow_rules.proofs.Listed.{at_below, at_map}
 use Rattle.rebuild_model.specs.Renaming.{Places, Renaming, renaming_of, reclassed, retyped}
 use Rattle.written_tree.specs.Names.{written_base, written_type}

@@ -34,7 +34,7 @@ use Rattle.flow_rules.specs.Numbered.{columns_of}
 use Rattle.flow_rules.specs.Facts.{numbers, is_holder, all_variables, variable_names}
 use Rattle.flow_rules.specs.Ordered.{each}
 use Rattle.flow_rules.proofs.Listed.{at_contains, contains_at, at_map, map_at, map_has, flat_has}
-use Rattle.facts_order.proofs.Items.{numbered_columns}
+use Rattle.flow_rules.proofs.NumberedItems.{numbered_columns}
 use Rattle.facts_order.proofs.Classes.{class_at, class_there}
 use Rattle.name_rules.specs.Outline.{FieldAt, MethodAt, fields_in, methods_in, name_of, types_in, type_named, is_known, is_type_name}
 use Rattle.rebuild_model.specs.Renaming.{renaming_of}

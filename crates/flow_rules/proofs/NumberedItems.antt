@@ -1,17 +1,22 @@
 -- Rows, columns, sites and flow points by their numbers: each number has one item, and each item one number.
-use Rattle.std.proofs.Common.{◌≡◌, ℕ, List, ◌++◌, Option, Some}
-use Rattle.std.specs.Prelude.{nat_eq, Bool, true, Contains, map, position, slice_get}
+use Rattle.std.proofs.Common.{◌≡◌, ℕ, List, [], ◌∷◌, ◌++◌, Option, Some}
+use Rattle.std.specs.Prelude.{nat_eq, Bool, true, not, length, Contains, map, position, slice_get}
 use Rattle.std.specs.List.{flat_map}
-use Rattle.java_core.specs.Programs.{Plain}
+use Rattle.java_core.specs.Programs.{Plain, PlainMethod}
 use Rattle.flow_rules.specs.declared.items.RowItem.{RowItem}
+use Rattle.flow_rules.specs.declared.items.RowItem.TheVariants as row
 use Rattle.flow_rules.specs.declared.items.ColumnItem.{ColumnItem}
 use Rattle.flow_rules.specs.declared.items.PointItem.{PointItem}
+use Rattle.flow_rules.specs.declared.items.PointItem.TheVariants as point
+use Rattle.flow_rules.specs.declared.items.PointAt.{PointAt}
+use Rattle.flow_rules.specs.Operands.{result_in}
+use Rattle.flow_rules.specs.Parts.{parts_of}
 use Rattle.flow_rules.specs.declared.items.Row.{Row}
 use Rattle.flow_rules.specs.declared.items.Column.{Column}
 use Rattle.flow_rules.specs.declared.items.Site.{Site}
 use Rattle.flow_rules.specs.declared.items.Point.{Point}
-use Rattle.flow_rules.specs.Ordered.{by_place, once, each}
-use Rattle.flow_rules.specs.Numbered.{same_row, same_column, same_point, field_rows, method_rows, rows_of, row_number, field_columns, method_columns, columns_of, column_number, form_sites, bodies_of, sites_of, site_number, listed, static_points, outline_if, points_of, point_number}
+use Rattle.flow_rules.specs.Ordered.{by_place, once, each, when}
+use Rattle.flow_rules.specs.Numbered.{same_row, same_column, same_point, field_rows, method_rows, rows_of, row_number, field_columns, method_columns, columns_of, column_number, form_sites, bodies_of, sites_of, site_number, listed, static_points, variable_points, form_points, outline_if, points_of, point_number}
 use Rattle.flow_rules.proofs.Keys.{row_exact, row_alike, column_exact, column_alike, point_exact, point_alike, nat_exact, nat_alike}
 use Rattle.flow_rules.proofs.Listed.{place_from, place_has, number_at, number_there, number_back, number_raw}
 
@@ -70,3 +75,20 @@ module _ (P Q : Plain) where
   pub numbered_points : AreNumbered (λ (p : Point). p.item) raw_points (points_of P Q) (point_number P Q)
   unfolding point_number points_of
   numbered_points = once_numbered same_point point_exact point_alike (λ p. p.item) raw_points
+
+  -- what the points of a method are joined of
+  module _ (m : ℕ) (k : PlainMethod) where
+    abbrev pub this_points : List PointAt
+    this_points = when (not k.is_static) (record { item = point.This m; place = k.tag.place; row = row.This m } ∷ [])
+
+    abbrev pub param_points : List PointAt
+    param_points = each (variable_points m k) 0 k.params
+
+    abbrev pub local_points : List PointAt
+    local_points = each (variable_points m k) (length k.params) k.locals
+
+    abbrev pub result_points : List PointAt
+    result_points = record { item = point.Result m; place = k.tag.place; row = result_in k.slot m } ∷ []
+
+    abbrev pub part_points : List PointAt
+    part_points = by_place (λ p. p.place.at) (flat_map form_points (parts_of P m k))
