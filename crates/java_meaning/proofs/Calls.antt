@@ -25,21 +25,20 @@ pub mapped_some : {A B : Type 0} (f : A → B) (o : Option A) (y : B) → option
 mapped_some f None y e = absurd (cc)
 mapped_some f (Some x) y e = (x, refl, same_Some _ _ e)
 
+-- a character alone is another value where it is converted
+converted : {A : Type 0} (f : Value → A) (t : Ty) → ((c : ℕ) → f (convert t (CodeUnit c)) ≡ f (CodeUnit c)) → (v : Value) → f (convert t v) ≡ f v
+converted f t h (Number n) = refl
+converted f t h (Truth b) = refl
+converted f t h (CodeUnit c) = h c
+converted f t h Nothing = refl
+converted f t h (Text a) = refl
+converted f t h (Object a) = refl
+
 number_converted : (v : Value) → number_of (convert (plain_type Int) v) ≡ number_of v
-number_converted (Number n) = refl
-number_converted (Truth b) = refl
-number_converted (CodeUnit c) = refl
-number_converted Nothing = refl
-number_converted (Text a) = refl
-number_converted (Object a) = refl
+number_converted = converted number_of (plain_type Int) (λ c. refl)
 
 string_converted : (v : Value) → convert (plain_type Str) v ≡ v
-string_converted (Number n) = refl
-string_converted (Truth b) = refl
-string_converted (CodeUnit c) = refl
-string_converted Nothing = refl
-string_converted (Text a) = refl
-string_converted (Object a) = refl
+string_converted = converted (λ v. v) (plain_type Str) (λ c. refl)
 
 module _ (P : Plain) where
   -- values of types that fit the parameters, and values of the types themselves

@@ -26,7 +26,8 @@ use Rattle.flow_rules.specs.Ordered.{put_in, by_place, once_after, each, when}
 use Rattle.flow_rules.specs.Numbered.{same_column, columns_of, field_columns, method_columns, mark, array_mark, form_columns}
 use Rattle.flow_rules.specs.Facts.{ClassFacts, class_seen, class_facts, is_holder, IsFactsOf}
 use Rattle.java_core.specs.Untagged.{untag_class, untagged}
-use Rattle.flow_rules.proofs.Listed.{more, when_from, place_from}
+use Rattle.flow_rules.proofs.Listed.{at_contains, each_from, flat_from, when_from}
+use Rattle.flow_rules.proofs.NumberedItems.{numbered_columns}
 use Rattle.std.proofs.lemmas.Option.{slice_get-map}
 
 -- one item for each
@@ -121,44 +122,6 @@ nearest_some P f (suc n) c d e = go (f c) refl (java.parent_of P c) (λ p h. nea
     go (Some y) ey o r h = (c, ey ∙ h)
     go None ey o r h = up o r h
 
--- what stands in a list in order, without twice, stood there before
-put_from : {A : Type 0} (at : A → ℕ) (x : A) (xs : List A) (y : A) → Contains (put_in at x xs) y → Contains (x ∷ xs) y
-put_from at x [] y c = c
-put_from at x (z ∷ zs) y c = go (nat_lt (at z) (at x)) (λ d. put_from at x zs y d) c
-  where
-    swap : Contains (x ∷ zs) y → Contains (x ∷ (z ∷ zs)) y
-    swap (zero, lt, e) = (0, omega arith, e)
-    swap (suc k, lt, e) = (suc (suc k), omega (arith, lt), e)
-
-    go : (b : Bool) → (Contains (put_in at x zs) y → Contains (x ∷ zs) y) → Contains (if b then z ∷ put_in at x zs else x ∷ (z ∷ zs)) y
-        → Contains (x ∷ (z ∷ zs)) y
-    go true r (zero, lt, e) = (1, omega arith, e)
-    go true r (suc k, lt, e) = swap (r (k, omega (arith, lt), e))
-    go false r d = d
-
-pub once_from : {A K : Type 0} (eq : K → K → Bool) (key : A → K) (seen : List K) (xs : List A) (y : A) → Contains (once_after eq key seen xs) y → Contains xs y
-once_from eq key seen [] y c = c
-once_from eq key seen (x ∷ xs) y c = go (list_any (eq (key x)) seen) c (λ d. once_from eq key (insert_key eq seen (key x)) xs y d)
-  where
-    go : (b : Bool) → Contains (if b then once_after eq key (insert_key eq seen (key x)) xs else x ∷ once_after eq key (insert_key eq seen (key x))
-        xs) y → (Contains (once_after eq key (insert_key eq seen (key x)) xs) y → Contains xs y) → Contains (x ∷ xs) y
-    go true d r = more y x xs (r d)
-    go false (zero, lt, e) r = (0, omega arith, e)
-    go false (suc k, lt, e) r = more y x xs (r (k, omega (arith, lt), e))
-
-pub each_from : {A B : Type 0} (f : ℕ → A → List B) (n : ℕ) (xs : List A) (y : B) → Contains (each f n xs) y
-    → (i : ℕ) × ((x : A) × (slice_get xs i ≡ Some x) × Contains (f (n + i) x) y)
-each_from f n [] y c = absurd (omega (arith, c.1))
-each_from f n (x ∷ xs) y c = ⊎_elim
-    (λ d. (0, (x, refl, subst (λ z. Contains (f z x) y) (let z : n ≡ n + 0 = omega arith in z) d)))
-    (λ d. let r = each_from f (n + 1) xs y d in
-    (suc r.0, (r.1.0, r.1.1, subst (λ z. Contains (f z r.1.0) y) (let z : n + 1 + r.0 ≡ n + suc r.0 = omega arith in z) r.1.2)))
-    (Contains-append_cases (f n x) (each f (n + 1) xs) y c)
-
-pub flat_from : {A B : Type 0} (f : A → List B) (xs : List A) (y : B) → Contains (flat_map f xs) y → (x : A) × Contains (f x) y
-flat_from f [] y c = absurd (omega (arith, c.1))
-flat_from f (x ∷ xs) y c = ⊎_elim (λ d. (x, d)) (λ d. flat_from f xs y d) (Contains-append_cases (f x) (flat_map f xs) y c)
-
 -- a column of a body stands only where the method has one
 mark_apart : (p : Place) (o : Option ObjectType) (y : Column) (m : ℕ) → Contains (mark p o) y → y.item ≡ column.Def m → ⊥
 mark_apart p None y m c e = omega (arith, c.1)
@@ -194,7 +157,7 @@ module _ (P Q : Plain) where
       → (f ≡ m) × (is_some k.body ≡ true)
   method_apart f k y m c e = ⊎_elim
       (λ d. own_apart f k y m (when_from (not k.is_static) _ y d).1 e)
-      (λ d. let z = flat_from form_columns (parts_of P f k) y d in absurd (form_apart z.0 y m z.1 e))
+      (λ d. let z = flat_from form_columns (parts_of P f k) y d in absurd (form_apart z.0 y m z.2 e))
       (Contains-append_cases (when (not k.is_static) (record { item = column.Dcl f; place = k.tag.place } ∷ when (is_some k.body)
       (record { item = column.Def f; place = k.tag.place } ∷ []))) (flat_map form_columns (parts_of P f k)) y c)
 
@@ -207,11 +170,9 @@ module _ (P Q : Plain) where
 
   pub body_listed : (y : Column) (m : ℕ) → Contains (columns_of P Q) y → y.item ≡ column.Def m → (k : PlainMethod) × (slice_get Q.methods m ≡ Some k)
       × (is_some k.body ≡ true)
-  unfolding columns_of
-  body_listed y m c e = ⊎_elim
-      (λ d. let r = each_from field_columns 0 Q.fields y d in absurd (field_apart (0 + r.0) r.1.0 y m r.1.2 e))
-      (λ d. let r = each_from (method_columns P Q) 0 Q.methods y d in let w = method_apart (0 + r.0) r.1.0 y m r.1.2 e in
-      (r.1.0, subst (λ z. slice_get Q.methods z ≡ Some r.1.0) (let z : r.0 ≡ m = omega (arith, w.0) in z) r.1.1, w.1))
-      (Contains-append_cases (each field_columns 0 Q.fields) (each (method_columns P Q) 0 Q.methods) y
-      (place_from (λ c. c.place.at) (each field_columns 0 Q.fields ++ each (method_columns P Q) 0 Q.methods) y
-      (once_from same_column (λ c. c.item) [] (by_place (λ c. c.place.at) (each field_columns 0 Q.fields ++ each (method_columns P Q) 0 Q.methods)) y c)))
+  body_listed y m c e =
+      let i = at_contains (columns_of P Q) y c in
+      ⊎_elim (λ d. let r = each_from field_columns 0 Q.fields y d in absurd (field_apart r.1 r.2 y m r.5 e))
+      (λ d. let r = each_from (method_columns P Q) 0 Q.methods y d in let w = method_apart r.1 r.2 y m r.5 e in
+      (r.2, subst (λ z. slice_get Q.methods z ≡ Some r.2) (let z : r.0 ≡ m = omega (arith, w.0, r.4) in z) r.3, w.1))
+      (Contains-append_cases (each field_columns 0 Q.fields) (each (method_columns P Q) 0 Q.methods) y ((numbered_columns P Q).from i.0 y i.1))
