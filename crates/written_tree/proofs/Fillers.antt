@@ -25,24 +25,15 @@ use Rattle.flow_rules.specs.Facts.{numbers}
 use Rattle.rebuild_model.specs.Renaming.{renaming_of}
 use Rattle.written_tree.specs.Names.{nowhere, id, modifier}
 use Rattle.written_tree.specs.Written.{java_tree}
-use Rattle.written_tree.proofs.Small.{at, plain, class, under, a_field, variable, a_method, column, site, listed, hierarchy, at_node, type, an_head}
+use Rattle.written_tree.proofs.Small.{at, plain, class, under, a_field, variable, a_method, a_main, column, site, hierarchy, at_node, type, an_head, main_tree}
+use Rattle.rebuild_model.proofs.Worked.{listed}
 
 abbrev the_main : PlainMethod
 the_main =
-    record {
-      owner = 3;
-      name = codes "main";
-      is_static = true;
-      is_public = false;
-      slot = None;
-      params = variable (codes "args") (record { base = ty.Str; dim = 1 }) 92 ∷ [];
-      locals = variable (codes "x") (plain (ty.Class (record { 0 = 1 }))) 100 ∷ variable (codes "y") (plain (ty.Class (record { 0 = 2 }))) 110 ∷ [];
-      result = None;
-      body = Some (st_then (declare (at 100) 1 (Some (create (at 104) 0 1 no_ex))) (st_then (declare (at 110) 2 (Some (create (at 114) 1 2 no_ex)))
+    a_main 3 (variable (codes "x") (plain (ty.Class (record { 0 = 1 }))) 100 ∷ variable (codes "y") (plain (ty.Class (record { 0 = 2 }))) 110 ∷ [])
+      (st_then (declare (at 100) 1 (Some (create (at 104) 0 1 no_ex))) (st_then (declare (at 110) 2 (Some (create (at 114) 1 2 no_ex)))
           (st_then (print (at 120) true (Some (binary (at 126) (bin.Int op.Plus) (call (at 124) (local (at 122) 1) (codes "m") no_ex)
-          (call (at 130) (local (at 128) 2) (codes "n") no_ex)))) no_st)));
-      tag = at 90;
-    }
+          (call (at 130) (local (at 128) 2) (codes "n") no_ex)))) no_st)))
 
 abbrev gives : ℤ → ℕ → Sts
 gives n p = st_then (return (at p) (Some (number (at p) n))) no_st
@@ -86,19 +77,10 @@ expected =
     (Some (type base.Int)) (codes "n") [] ∷ []) nowhere
     ∷ ClassTree [] (codes "A_3") None (id (codes "A_1") ∷ []) (giving (codes "m") (pos 1) ∷ giving (codes "n") (pos 0) ∷ []) nowhere
     ∷ ClassTree [] (codes "B_4") None (id (codes "A_1") ∷ []) (giving (codes "n") (pos 2) ∷ giving (codes "m") (pos 0) ∷ []) nowhere
-    ∷ ClassTree [] (codes "Main") None []
-    (MethodTree (an_head (modifier Public ∷ modifier Static ∷ []) None (codes "main")
-    (record {
-      is_final = false;
-      ty = record { base = base.Named (codes "String"); dim = 1; place = nowhere };
-      name = codes "args";
-      place =
-          nowhere;
-    } ∷ []))
-    (Some (and_then (LocalOf false (type (base.Named (codes "A_1"))) (codes "x") (Some (NewOf (id (codes "A_3")) no_more nowhere)) nowhere)
+    ∷ main_tree (and_then (LocalOf false (type (base.Named (codes "A_1"))) (codes "x") (Some (NewOf (id (codes "A_3")) no_more nowhere)) nowhere)
     (and_then (LocalOf false (type (base.Named (codes "A_1"))) (codes "y") (Some (NewOf (id (codes "B_4")) no_more nowhere)) nowhere)
     (and_then (PrintOf true (Some (BinaryOf marks.Plus (CallOn (NameRef (codes "x") nowhere) (codes "m") no_more nowhere)
-    (CallOn (NameRef (codes "y") nowhere) (codes "n") no_more nowhere) nowhere)) nowhere) no_statements)))) nowhere ∷ []) nowhere
+    (CallOn (NameRef (codes "y") nowhere) (codes "n") no_more nowhere) nowhere)) nowhere) no_statements)))
     ∷ []
 
 tree : (others : Facts) → java_tree program program (facts others) nodes ≡ expected

@@ -25,7 +25,8 @@ use Rattle.flow_rules.specs.Facts.{numbers}
 use Rattle.rebuild_model.specs.Renaming.{renaming_of}
 use Rattle.written_tree.specs.Names.{nowhere, id, modifier}
 use Rattle.written_tree.specs.Written.{java_tree}
-use Rattle.written_tree.proofs.Small.{at, plain, class, under, a_field, variable, a_method, column, site, listed, hierarchy, at_node, type, an_head}
+use Rattle.written_tree.proofs.Small.{at, plain, class, under, a_field, variable, a_method, a_main, column, site, hierarchy, at_node, type, an_head, main_tree}
+use Rattle.rebuild_model.proofs.Worked.{listed}
 
 abbrev sets : ℕ → ℕ → List ℕ → ℤ → St
 sets p i f n = assign (at p) (to_field (at p) (local (at p) i) f) (number (at p) n)
@@ -36,19 +37,9 @@ program shown =
     record {
       classes = class (codes "Object") None 0 ∷ class (codes "P") (under 0) 6 ∷ class (codes "Main") (under 0) 50 ∷ [];
       fields = a_field 1 (codes "a") (plain ty.Int) 20 ∷ a_field 1 (codes "b") (plain ty.Int) 30 ∷ [];
-      methods = record {
-        owner = 2;
-        name = codes "main";
-        is_static = true;
-        is_public = false;
-        slot = None;
-        params = variable (codes "args") (record { base = ty.Str; dim = 1 }) 92 ∷ [];
-        locals = variable (codes "x") (plain (ty.Class (record { 0 = 1 }))) 100 ∷ variable (codes "y") (plain (ty.Class (record { 0 = 1 }))) 110 ∷ [];
-        result = None;
-        body = Some (st_then (declare (at 100) 1 (Some (create (at 104) 0 1 no_ex))) (st_then (declare (at 110) 2 (Some (create (at 114) 1 1 no_ex)))
-            (st_then (sets 120 1 (codes "a") (pos 1)) (st_then (sets 130 2 (codes "b") (pos 2)) (st_then (print (at 140) true (Some shown)) no_st)))));
-        tag = at 90;
-      } ∷ [];
+      methods = a_main 2 (variable (codes "x") (plain (ty.Class (record { 0 = 1 }))) 100 ∷ variable (codes "y") (plain (ty.Class (record { 0 = 1 }))) 110 ∷ [])
+      (st_then (declare (at 100) 1 (Some (create (at 104) 0 1 no_ex))) (st_then (declare (at 110) 2 (Some (create (at 114) 1 1 no_ex)))
+            (st_then (sets 120 1 (codes "a") (pos 1)) (st_then (sets 130 2 (codes "b") (pos 2)) (st_then (print (at 140) true (Some shown)) no_st))))) ∷ [];
       slots = [];
       main = 0;
     }
@@ -85,25 +76,16 @@ makes x c = LocalOf false (type (base.Named c)) x (Some (NewOf (id c) no_more no
 abbrev stores : List ℕ → List ℕ → ℤ → Statement
 stores x f n = AssignOf (FieldOf (NameRef x nowhere) f nowhere) (IntLit n nowhere) nowhere
 
-abbrev main_tree : List ℕ → List ℕ → Expression → DeclTree
-main_tree c d shown =
-    ClassTree [] (codes "Main") None []
-    (MethodTree (an_head (modifier Public ∷ modifier Static ∷ []) None (codes "main")
-    (record {
-      is_final = false;
-      ty = record { base = base.Named (codes "String"); dim = 1; place = nowhere };
-      name = codes "args";
-      place =
-          nowhere;
-    } ∷ []))
-    (Some (and_then (makes (codes "x") c) (and_then (makes (codes "y") d) (and_then (stores (codes "x") (codes "a") (pos 1))
+abbrev shown_tree : List ℕ → List ℕ → Expression → DeclTree
+shown_tree c d shown =
+    main_tree (and_then (makes (codes "x") c) (and_then (makes (codes "y") d) (and_then (stores (codes "x") (codes "a") (pos 1))
     (and_then (stores (codes "y") (codes "b") (pos 2))
-    (and_then (PrintOf true (Some shown) nowhere) no_statements)))))) nowhere ∷ []) nowhere
+    (and_then (PrintOf true (Some shown) nowhere) no_statements)))))
 
 apart : (others : Facts) → java_tree (program sum) (program sum) (facts others) three
     ≡ InterfaceTree [] (codes "Object_0") [] [] nowhere ∷ ClassTree [] (codes "P_1") None (id (codes "Object_0") ∷ []) (an_int (codes "a") ∷ [])
     nowhere ∷ ClassTree [] (codes "P_2") None (id (codes "Object_0") ∷ []) (an_int (codes "b") ∷ []) nowhere
-    ∷ main_tree (codes "P_1") (codes "P_2") (BinaryOf marks.Plus (FieldOf (NameRef (codes "x") nowhere) (codes "a") nowhere)
+    ∷ shown_tree (codes "P_1") (codes "P_2") (BinaryOf marks.Plus (FieldOf (NameRef (codes "x") nowhere) (codes "a") nowhere)
     (FieldOf (NameRef (codes "y") nowhere) (codes "b") nowhere) nowhere) ∷ []
 unfolding java_tree renaming_of numbers rows_of row_number columns_of column_number parts_of type_in call_signature super_signature field_in
     access_type below member_field field_of declaration_of search_order super_method
@@ -112,7 +94,7 @@ apart others = refl
 above : (others : Facts) → java_tree (program same) (program same) (facts others) two
     ≡ ClassTree [] (codes "P_0") None [] (an_int (codes "a") ∷ []) nowhere ∷ ClassTree [] (codes "P_1") (Some (id (codes "P_0"))) []
     (an_int (codes "b") ∷ []) nowhere
-    ∷ main_tree (codes "P_0") (codes "P_1") (BinaryOf marks.Equal (NameRef (codes "x") nowhere) (NameRef (codes "y") nowhere) nowhere) ∷ []
+    ∷ shown_tree (codes "P_0") (codes "P_1") (BinaryOf marks.Equal (NameRef (codes "x") nowhere) (NameRef (codes "y") nowhere) nowhere) ∷ []
 unfolding java_tree renaming_of numbers rows_of row_number columns_of column_number parts_of type_in call_signature super_signature field_in
     access_type below member_field field_of declaration_of search_order super_method
 above others = refl
