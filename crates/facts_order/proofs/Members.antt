@@ -6,15 +6,16 @@ use Rattle.std.proofs.lemmas.Option.{same_Some}
 use Rattle.java_core.specs.Programs.{Plain, PlainMethod}
 use Rattle.java_core.specs.Classes.{IsSubclass}
 use Rattle.java_core.specs.Formed.{IsFormed, IsInSlot}
-use Rattle.fact_model.specs.Items.{column_class, column_kind, column_slot}
+use Rattle.fact_model.specs.Items.{column_at as info_at, column_class, column_kind, column_slot}
 use Rattle.fact_model.specs.Classes.{IsBelow}
 use Rattle.fact_model.specs.InOrder.{IsDef, name_of, AreMembersInOrder}
+use Rattle.fact_model.specs.declared.facts.ColumnInfo.{ColumnInfo}
 use Rattle.fact_model.specs.declared.facts.Facts.{Facts}
 use Rattle.fact_model.specs.declared.facts.ColKind.TheVariants as kind
 use Rattle.flow_rules.specs.declared.items.ColumnItem.{ColumnItem}
 use Rattle.flow_rules.specs.declared.items.ColumnItem.TheVariants as column
 use Rattle.flow_rules.specs.Numbered.{column_number}
-use Rattle.flow_rules.specs.Facts.{kind_of, owner_of, slot_in, name_in, IsFactsOf}
+use Rattle.flow_rules.specs.Facts.{column_info, kind_of, owner_of, slot_in, name_in, IsFactsOf}
 use Rattle.facts_order.proofs.Pairs.{IsPlaced}
 use Rattle.facts_order.proofs.Columns.{Stands, for_field, for_declaration, for_body, for_mark, HasItem, item_of, slot_below}
 use Rattle.facts_order.proofs.Classes.{below_subclass}

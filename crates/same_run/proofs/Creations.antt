@@ -63,7 +63,7 @@ use Rattle.twin_runs.specs.Twins.{value_at}
 use Rattle.twin_runs.proofs.Shapes.{same_default}
 use Rattle.twin_runs.proofs.States.{at_place}
 use Rattle.same_run.proofs.Ties.{type_at, type_over, CreationTied}
-use Rattle.same_run.proofs.Sited.{MadeAs, has, has_in, new_field, new_field_is, node_of, has_offered, some_test}
+use Rattle.same_run.proofs.Sited.{IsGiven, MadeAs, has, has_in, new_field, new_field_is, node_of, has_offered, some_test}
 use Rattle.same_run.proofs.Shapes.{shape_kept}
 
 type_of_class : (v : Ty) (x : ObjectType) → object_of v ≡ Some x → v ≡ type_at x
@@ -87,10 +87,9 @@ retyped_free (Some w) v e = go v.base v.dim e
     go Str d h = refl
     go (Class c) d h = absurd (cc)
 
-module _ {Q : Plain} {F : Facts} {H : Hierarchy} {W : Plain} (K : Known (untagged Q) Q F H W) (placed : IsPlaced (untagged Q) Q) (typed : IsTyped (untagged Q))
-    (facts : IsFactsOf (untagged Q) Q F) (pt : PointsTo) (t : Table)
-    (A : InRange F) (O : InOrder F) (S : AreSets F pt) (B : IsTable F t) (table : H.table ≡ t.rows.items) (none : first_broken F pt H ≡ None)
-    (hierarchy : IsHierarchyOf F H) where
+module _ {Q : Plain} {F : Facts} {H : Hierarchy} {W : Plain} (K : Known (untagged Q) Q F H W) (pt : PointsTo) (t : Table) (X : IsGiven Q F H pt t) where
+  open X use {placed, typed, facts, in_range as A, in_order as O, sets as S, is_table as B, table, none, hierarchy}
+
   abbrev P : Plain
   P = untagged Q
 

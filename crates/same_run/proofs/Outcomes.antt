@@ -60,13 +60,12 @@ use Rattle.rebuild_given.proofs.Rest.{half, fails}
 use Rattle.rebuild_types.proofs.Asked.{new_class}
 use Rattle.rebuild_types.proofs.Served.{row_of_class, row_in_is}
 use Rattle.same_run.proofs.Ties.{type_at, type_over}
-use Rattle.same_run.proofs.Sited.{MadeAs, node_of, free_apart, IsMet, met_at, met_passing}
+use Rattle.same_run.proofs.Sited.{IsGiven, MadeAs, node_of, free_apart, IsMet, met_at, met_passing}
 use Rattle.java_meaning.proofs.Operators.{and_false}
 
-module _ {Q : Plain} {F : Facts} {H : Hierarchy} {W : Plain} (K : Known (untagged Q) Q F H W) (placed : IsPlaced (untagged Q) Q) (typed : IsTyped (untagged Q))
-    (facts : IsFactsOf (untagged Q) Q F) (pt : PointsTo) (t : Table)
-    (A : InRange F) (O : InOrder F) (S : AreSets F pt) (B : IsTable F t) (table : H.table ≡ t.rows.items) (none : first_broken F pt H ≡ None)
-    (hierarchy : IsHierarchyOf F H) where
+module _ {Q : Plain} {F : Facts} {H : Hierarchy} {W : Plain} (K : Known (untagged Q) Q F H W) (pt : PointsTo) (t : Table) (X : IsGiven Q F H pt t) where
+  open X use {placed, typed, facts, in_range as A, in_order as O, sets as S, is_table as B, table, none, hierarchy}
+
   abbrev P : Plain
   P = untagged Q
 

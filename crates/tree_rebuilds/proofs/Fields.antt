@@ -21,6 +21,7 @@ use Rattle.facts_order.proofs.Columns.{Stands as IsOfText, for_field, for_declar
 use Rattle.flow_rules.proofs.NumberedItems.{numbered_columns}
 use Rattle.rebuild_model.specs.Renaming.{Renaming, renaming_of}
 use Rattle.rebuild_model.specs.Members.{IsField, IsStaticFieldOf}
+use Rattle.rebuild_looks.proofs.Fields.{field_holder}
 use Rattle.written_tree.specs.Names.{nowhere, modifier, written_type}
 use Rattle.written_tree.specs.Members.{field_member, static_field_member, class_members, holder_members}
 use Rattle.written_tree.specs.Written.{type_tree, java_tree}
@@ -183,17 +184,10 @@ module _ {P Q : Plain} {F : Facts} {pt : PointsTo} {H : Hierarchy} {V : Plain} (
       let g = field_there (tree P Q F H) V G.resolves G.new z.0 (node_tree P Q F H n) x z.1 d in
       (g.0, untag_field (field_outline types x), g.1, node_field n z.0 f k.0 x (untag_field (field_outline types x)) z.1 s k.1 (first x []) refl)
 
-  is_holder_of : (f : ℕ) (old : PlainField) → slice_get P.fields f ≡ Some old → old.is_static ≡ true → is_holder P old.owner ≡ true
-  is_holder_of f old e h =
-      or_left (list_any (λ (k : PlainField). k.is_static && (k.owner == old.owner)) P.fields)
-      (list_any (λ (k : PlainMethod). k.is_static && (k.owner == old.owner)) P.methods)
-      (any_there (λ (k : PlainField). k.is_static && (k.owner == old.owner)) P.fields f old e
-      (and_from old.is_static (old.owner == old.owner) h (eq-eqb old.owner old.owner refl)))
-
   pub each_static_field : (f : ℕ) (old : PlainField) → slice_get P.fields f ≡ Some old → old.is_static ≡ true → (g : ℕ) × IsOldStatic f g
   each_static_field f old e h =
       let c = old.owner in
-      let holder = is_holder_of f old e h in
+      let holder = field_holder P f old e h in
       let k = holder_class P G.formed c holder in
       let z = holder_at P Q F H c k.0 k.1 holder in
       let mine = and_from old.is_static (c == c) h (eq-eqb c c refl) in

@@ -55,15 +55,21 @@ as_method i a h b = record { owner = suc i; kind = kinds.Method; in_abstract = a
 abbrev pub as_head : ℕ → HeadTree → MethodAt
 as_head i h = record { owner = suc i; kind = kinds.Head; in_abstract = true; head = h; body = None }
 
+-- what the written tree was resolved to, the renaming, and which of its methods are resolved to which
+pub record Read : Type 1 where
+  pub program : Plain
+  pub renaming : Renaming
+  pub Resolved : MethodAt → ℕ → Type 0
+
+abbrev pub read : {P Q : Plain} {F : Facts} {pt : PointsTo} {H : Hierarchy} {V : Plain} → Given P Q F pt H V → Read
+read {P} {Q} {F} {pt} {H} {V} G = record {
+  program = untagged V;
+  renaming = by_node P Q F H;
+  Resolved = λ m g. IsResolved (java_tree P Q F H) V G.resolves G.new m g;
+}
+
 module _ {P Q : Plain} {F : Facts} {pt : PointsTo} {H : Hierarchy} {V : Plain} (G : Given P Q F pt H V) where
-  abbrev U : Plain
-  U = untagged V
-
-  abbrev R₀ : Renaming
-  R₀ = by_node P Q F H
-
-  abbrev Rs : MethodAt → ℕ → Type 0
-  Rs m g = IsResolved (java_tree P Q F H) V G.resolves G.new m g
+  open read G use {program as U, renaming as R₀, Resolved as Rs}
 
   abbrev pub IsOldBody : ℕ → PlainMethod → Type 0
   IsOldBody m k = IsBody P Q F H U (T G) m k

@@ -35,7 +35,7 @@ use Rattle.written_tree.specs.Members.{param, head}
 use Rattle.tree_rebuilds.proofs.Apart.{no_holder}
 use Rattle.tree_rebuilds.proofs.Nodes.{tree, node_tree, old_tree, tree_name, Declares, a_node, a_holder, declares}
 use Rattle.tree_rebuilds.proofs.Members.{IsHeadTree, IsHeadAt}
-use Rattle.tree_resolves.proofs.Origins.{R, IsNodeAt, IsHolderAt, HasMethod, node_body, node_head, node_filler, interface_head, static_method, method_origin}
+use Rattle.tree_resolves.proofs.Origins.{written, R, IsNodeAt, IsHolderAt, HasMethod, node_body, node_head, node_filler, interface_head, static_method, method_origin}
 use Rattle.tree_resolves.proofs.Modifiers.{Given}
 use Rattle.tree_resolves.proofs.Variables.{column_number}
 use Rattle.tree_resolves.proofs.Supers.{IsNumber, above_object, above_node, same_node, supers_are}
@@ -44,14 +44,7 @@ use Rattle.tree_resolves.proofs.AtNodes.{slot_first, filler_offers, declaration_
 use Rattle.tree_resolves.proofs.Separate.{methods_are_apart}
 
 module _ {P Q : Plain} {F : Facts} {pt : PointsTo} {H : Hierarchy} (G : Given P Q F pt H) where
-  abbrev T : List DeclTree
-  T = tree P Q F H
-
-  abbrev types : List (List ℕ)
-  types = types_in T
-
-  abbrev O : Plain
-  O = outline T
+  open written P Q F H use {trees as T, types, program as O}
 
   -- ---- the types of a method of a slot
 
@@ -149,61 +142,32 @@ module _ {P Q : Plain} {F : Facts} {pt : PointsTo} {H : Hierarchy} (G : Given P 
   abbrev IsOld : MethodAt → Type 0
   IsOld x = (c : ℕ) × (i : ℕ) × (k : PlainClass) × IsHolderAt P Q F H c i k × (x.owner ≡ suc i)
 
+  of_types : (x : MethodAt) (n s : ℕ) → IsNumber G x.owner n → OffersSlot G n s x.head.name → is_static x ≡ false → HasTypes s x.head → IsOfSlot x
+  of_types x n s at offers instance t = record {
+    node = n;
+    slot = s;
+    at = at;
+    offers = offers;
+    instance = instance;
+    signature = t.signature;
+    stands = t.stands;
+    params = t.params;
+    result = t.result;
+  }
+
   found : (x : MethodAt) → HasMethod P Q F H x → IsOfSlot x ⊎ IsOld x
   found x (node_body n i c m k a e at o) =
       let number = column_number G c (column.Def m) e in
       let s = columns.slotted (column.Def m) c number refl in
-      let t = head_types [] ((R P Q F H).method_name m) m s.0 k o (sym (ap (option_and_then (λ (z : PlainMethod). z.slot)) o) ∙ s.1) in
-      inl (record {
-        node = n;
-        slot = s.0;
-        at = numbered true n i a;
-        offers = body_offers G n c m s.0 a.live e at s.1;
-        instance = refl;
-        signature = t.signature;
-        stands = t.stands;
-        params = t.params;
-        result = t.result;
-      })
-  found x (node_head n i h a d) =
-      let t = first_types _ d.slot h d.tree in
-      inl (record {
-        node = n;
-        slot = d.slot;
-        at = numbered true n i a;
-        offers = head_offers _ n h a.live d;
-        instance = ap (λ (y : HeadTree). has_word is_static_word y.mods) (sym d.tree.is);
-        signature = t.signature;
-        stands = t.stands;
-        params = t.params;
-        result = t.result;
-      })
-  found x (node_filler n i s h a f d) =
-      let t = first_types _ s h d in
-      inl (record {
-        node = n;
-        slot = s;
-        at = numbered true n i a;
-        offers = filler_offers G n s h.name d.signature f d.slot_stands (ap (λ (y : HeadTree). y.name) (sym d.is));
-        instance = ap (λ (y : HeadTree). has_word is_static_word y.mods) (sym d.is);
-        signature = t.signature;
-        stands = t.stands;
-        params = t.params;
-        result = t.result;
-      })
-  found x (interface_head n i h a d) =
-      let t = first_types _ d.slot h d.tree in
-      inl (record {
-        node = n;
-        slot = d.slot;
-        at = numbered false n i a;
-        offers = head_offers _ n h a.live d;
-        instance = ap (λ (y : HeadTree). has_word is_static_word y.mods) (sym d.tree.is);
-        signature = t.signature;
-        stands = t.stands;
-        params = t.params;
-        result = t.result;
-      })
+      inl (of_types _ n s.0 (numbered true n i a) (body_offers G n c m s.0 a.live e at s.1) refl
+      (head_types [] ((R P Q F H).method_name m) m s.0 k o (sym (ap (option_and_then (λ (z : PlainMethod). z.slot)) o) ∙ s.1)))
+  found x (node_head n i h a d) = inl (of_types _ n d.slot (numbered true n i a) (head_offers _ n h a.live d)
+      (ap (λ (y : HeadTree). has_word is_static_word y.mods) (sym d.tree.is)) (first_types _ d.slot h d.tree))
+  found x (node_filler n i s h a f d) = inl (of_types _ n s (numbered true n i a)
+      (filler_offers G n s h.name d.signature f d.slot_stands (ap (λ (y : HeadTree). y.name) (sym d.is)))
+      (ap (λ (y : HeadTree). has_word is_static_word y.mods) (sym d.is)) (first_types _ s h d))
+  found x (interface_head n i h a d) = inl (of_types _ n d.slot (numbered false n i a) (head_offers _ n h a.live d)
+      (ap (λ (y : HeadTree). has_word is_static_word y.mods) (sym d.tree.is)) (first_types _ d.slot h d.tree))
   found x (static_method c i m k old a e s o) = inr (c, i, k, a, refl)
 
   -- ---- at and above a type

@@ -30,7 +30,7 @@ use Rattle.tree_rebuilds.proofs.Outlined.{named_at}
 use Rattle.tree_rebuilds.proofs.Nodes.{items, tree, node_tree, old_tree, node_at, holder_at, tree_name, Declares, a_node, a_holder, declares}
 use Rattle.tree_rebuilds.proofs.Named.{names_are}
 use Rattle.tree_resolves.proofs.Modifiers.{Given}
-use Rattle.tree_resolves.proofs.Origins.{R}
+use Rattle.tree_resolves.proofs.Origins.{written, R}
 use Rattle.tree_resolves.proofs.Once.{Once, once_at, map_once, filter_once, range_once}
 use Rattle.tree_resolves.proofs.Types.{type_once, type_is_new}
 
@@ -44,14 +44,7 @@ once_within agree same (x ∷ xs) h o = (
 )
 
 module _ {P Q : Plain} {F : Facts} {pt : PointsTo} {H : Hierarchy} (G : Given P Q F pt H) where
-  abbrev T : List DeclTree
-  T = tree P Q F H
-
-  abbrev types : List (List ℕ)
-  types = types_in T
-
-  abbrev O : Plain
-  O = outline T
+  open written P Q F H use {trees as T, types, program as O}
 
   abbrev class : ℕ → Bool
   class = is_class_node F H
