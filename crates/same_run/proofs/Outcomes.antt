@@ -295,28 +295,34 @@ module _ {Q : Plain} {F : Facts} {H : Hierarchy} {W : Plain} (K : Known (untagge
         → is_subtype P (own_type x) u ≡ is_subtype W (own_type y) v
     store_same w b o i pb po q r a c x y u v made held eu ev mq mr = go (site_in (numbers P Q) q) (site_in (numbers P Q) r) refl refl
       where
+        -- the types of the elements, where the array has a site
+        elements : (s : ℕ) → site_in (numbers P Q) q ≡ Some s
+            → ((d : ℕ) × ((site_type F s).dim ≡ suc d) × (u ≡ record { base = Class (site_type F s).class; dim = d }))
+            × ((d : ℕ) × ((site_at F s).dim ≡ suc d) × (v ≡ record { base = Class (record { 0 = T.type_of (node s) }); dim = d }))
+        elements s ez =
+            let old = array_of a u eu in
+            let new = array_of c v ev in
+            let z = made.sited s ez in (
+              element_is old.array u (site_type F s) old.element (ap own_type (sym old.is) ∙ z.0),
+              element_is new.array v (record { class = record { 0 = T.type_of (node s) }; dim = (site_at F s).dim }) new.element (ap own_type (sym new.is) ∙ z.1),
+            )
+
         go : (z s : Option ℕ) → site_in (numbers P Q) q ≡ z → site_in (numbers P Q) r ≡ s → is_subtype P (own_type x) u ≡ is_subtype W (own_type y) v
         go None None ez es = ap (λ k. is_subtype P (own_type x) k) (same_Some u v (sym eu ∙ ap element_type (sym (made.free ez).1) ∙ ev))
             ∙ both_free (own_type x) v ((held.free es).0) ∙ ap (λ k. is_subtype W (own_type k) v) (sym (held.free es).1)
         go None (Some s) ez es = free_store q a c u v made ez eu ev (own_type x) (own_type y) (site_type F s) (T.type_of (node s)) (held.sited s es).0
             (held.sited s es).1
         go (Some s) None ez es =
-            let old = array_of a u eu in
-            let z = made.sited s ez in
-            let e = element_is old.array u (site_type F s) old.element (ap own_type (sym old.is) ∙ z.0) in
-            let new = array_of c v ev in
-            let f = element_is new.array v (record { class = record { 0 = T.type_of (node s) }; dim = (site_at F s).dim }) new.element
-            (ap own_type (sym new.is) ∙ z.1) in
+            let both = elements s ez in
+            let e = both.0 in
+            let f = both.1 in
             ap (λ k. is_subtype P (own_type x) k) e.2 ∙ free_apart P (own_type x) (record { class = (site_at F s).class; dim = e.0 }) (held.free es).0
             ∙ sym (ap (λ k. is_subtype W (own_type k) v) (held.free es).1 ∙ ap (λ k. is_subtype W (own_type x) k) f.2
             ∙ free_apart W (own_type x) (record { class = record { 0 = T.type_of (node s) }; dim = f.0 }) (held.free es).0)
         go (Some s) (Some j) ez es =
-            let old = array_of a u eu in
-            let z = made.sited s ez in
-            let e = element_is old.array u (site_type F s) old.element (ap own_type (sym old.is) ∙ z.0) in
-            let new = array_of c v ev in
-            let f = element_is new.array v (record { class = record { 0 = T.type_of (node s) }; dim = (site_at F s).dim }) new.element
-            (ap own_type (sym new.is) ∙ z.1) in
+            let both = elements s ez in
+            let e = both.0 in
+            let f = both.1 in
             let dims : e.0 ≡ f.0 = same_pred e.0 f.0 (sym e.1 ∙ f.1) in
             let g = held.sited j es in
             let array = held_point b q s pb ez mq in

@@ -4,7 +4,7 @@ use Rattle.std.specs.Prelude.{slice_get, ◌==◌}
 use Rattle.std.proofs.lemmas.Bool.{and_parts, eqb-true}
 use Rattle.kaba_base.specs.declared.words.Keyword.TheVariants.{Public, Static}
 use Rattle.java_tree.specs.declared.Modifier.{Modifier}
-use Rattle.java_tree.specs.Syntax.{HeadTree, MemberTree, Statements}
+use Rattle.java_tree.specs.Syntax.{DeclTree, HeadTree, MemberTree, Statements}
 use Rattle.java_core.specs.Programs.{Plain, PlainClass, PlainField, PlainMethod}
 use Rattle.fact_model.specs.declared.facts.Facts.{Facts}
 use Rattle.kaba_order.specs.Orders.{is_live}

@@ -160,7 +160,7 @@ module _ {P Q : Plain} {F : Facts} {pt : PointsTo} {H : Hierarchy} (G : Given P 
       let number = column_number G c (column.Def m) e in
       let s = columns.slotted (column.Def m) c number refl in
       inl (of_types _ n s.0 (numbered true n i a) (body_offers G n c m s.0 a.live e at s.1) refl
-      (head_types [] ((R P Q F H).method_name m) m s.0 k o (sym (ap (option_and_then (λ (z : PlainMethod). z.slot)) o) ∙ s.1)))
+      (head_types _ ((R P Q F H).method_name m) m s.0 k o (sym (ap (option_and_then (λ (z : PlainMethod). z.slot)) o) ∙ s.1)))
   found x (node_head n i h a d) = inl (of_types _ n d.slot (numbered true n i a) (head_offers _ n h a.live d)
       (ap (λ (y : HeadTree). has_word is_static_word y.mods) (sym d.tree.is)) (first_types _ d.slot h d.tree))
   found x (node_filler n i s h a f d) = inl (of_types _ n s (numbered true n i a)
