@@ -1,11 +1,9 @@
 -- Bodies and their `this`: each body has one, and one entry among the bodies.
 use Rattle.std.proofs.Common.{◌≡◌, ℕ, zero, suc, ◌+◌, List, [], ◌∷◌, ◌++◌, Option, Some, None, length, refl, sym, ap, ◌∙◌, subst, arith, ⊎_elim}
-use Rattle.std.specs.Prelude.{◌≢◌, ◌≤◌, ◌<◌, nat_lt, Bool, true, false, Contains, All, AllPairs, slice_get}
+use Rattle.std.specs.Prelude.{◌≢◌, ◌≤◌, ◌<◌, nat_lt, true, false, Contains, All, AllPairs, slice_get}
 use Rattle.std.specs.Option.{option_map, option_map_or, is_some}
 use Rattle.std.proofs.lemmas.Option.{same_Some}
-use Rattle.kaba_base.specs.declared.Place.{Place}
 use Rattle.kaba_base.specs.declared.ColId.{ColId}
-use Rattle.java_core.specs.Trees.{Ex, number, character, text, truth, null, this, local, static_field, own_field, field, index, call, static_call, super_call, create, create_array, cast, instance_of, unary, binary, Target, to_local, to_static, to_own, to_field, to_element, no_target}
 use Rattle.java_core.specs.Programs.{Plain, PlainMethod}
 use Rattle.java_core.specs.Typing.{IsTyped}
 use Rattle.java_core.specs.Formed.{IsFormed}
@@ -13,8 +11,6 @@ use Rattle.fact_model.specs.Items.{row_at as info_at, row_this, column_kind, poi
 use Rattle.fact_model.specs.InOrder.{IsDef, HasOneThis}
 use Rattle.fact_model.specs.declared.facts.Facts.{Facts}
 use Rattle.fact_model.specs.declared.facts.ColKind.TheVariants as kind
-use Rattle.flow_rules.specs.declared.items.ObjectType.{ObjectType}
-use Rattle.flow_rules.specs.declared.items.Operand.{Operand}
 use Rattle.flow_rules.specs.declared.items.RowItem.{RowItem}
 use Rattle.flow_rules.specs.declared.items.RowItem.TheVariants as row
 use Rattle.flow_rules.specs.declared.items.PointItem.{PointItem}
@@ -25,8 +21,6 @@ use Rattle.flow_rules.specs.declared.items.ColumnItem.{ColumnItem}
 use Rattle.flow_rules.specs.declared.items.ColumnItem.TheVariants as column
 use Rattle.flow_rules.specs.declared.items.Column.{Column}
 use Rattle.flow_rules.specs.Ordered.{each}
-use Rattle.flow_rules.specs.Labels.{label}
-use Rattle.flow_rules.specs.Operands.{variable_in, result_in, type_in}
 use Rattle.flow_rules.specs.Parts.{Part, parts_of}
 use Rattle.flow_rules.specs.Numbered.{row_number, columns_of, column_number, point_number}
 use Rattle.flow_rules.specs.Facts.{this_of_row, site_of_row, column_info, PlainBody, numbers, body_seen, body_if, column_body, param_points, IsFactsOf}
@@ -34,12 +28,11 @@ use Rattle.flow_rules.proofs.Listed.{first, below_at, at_map, index_at, each_has
 use Rattle.flow_rules.proofs.NumberedItems.{numbered_columns, numbered_rows}
 use Rattle.facts_order.proofs.Pairs.{IsPlaced}
 use Rattle.facts_order.proofs.Columns.{Stands, for_field, for_declaration, for_body, for_mark, item_of, numbered_column}
-use Rattle.run_cover.proofs.Numbers.{IsPart, number_in}
+use Rattle.run_cover.proofs.Numbers.{number_in}
 use Rattle.facts_order.proofs.OwnParts.{HasLabel}
 use Rattle.facts_order.proofs.Sites.{numbered_own, part_numbered, part_labelled}
-use Rattle.facts_order.proofs.Forms.{own, own_assign, From, from_ex, from_assign, from_declare, from_return}
-use Rattle.facts_order.proofs.Rows.{Types, for_field as types_field, for_this as types_this, for_result as types_result, for_variable as types_variable, for_part as types_part, row_types, part_from, item_row, row_cases, all_results, all_variables}
-use Rattle.facts_order.proofs.Points.{given_by, IsGiven, Follows, a_static, a_this, a_variable, a_result, a_form, point_of, item_point}
+use Rattle.facts_order.proofs.Rows.{Types, for_field as types_field, for_this as types_this, for_result as types_result, for_variable as types_variable, for_part as types_part, row_types, item_row, row_cases, all_results, all_variables}
+use Rattle.facts_order.proofs.Points.{IsGiven, Follows, a_static, a_this, a_variable, a_result, a_form, point_of, item_point}
 use Rattle.run_cover.proofs.HasNumbers.{this_row, this_point}
 
 -- a list that has at most one item for each number rises
@@ -113,7 +106,8 @@ module _ (P Q : Plain) (placed : IsPlaced P Q) (formed : IsFormed P) (typed : Is
 
     pub this_row_of : (v : ℕ) (d : ColId) → row_this F v ≡ Some d → IsThisRow v d
     this_row_of v d e =
-        ⊎_elim (λ z. this_item v d z.row_is.item ((numbered_rows P Q).back v z.row_is z.stands) (ap (λ i. i.site) z.info) (sym (ap (λ i. i.this_of) z.info) ∙ e))
+        ⊎_elim (λ z. this_item v d z.row_is.item ((numbered_rows P Q).back v z.row_is z.stands) (ap (λ i. i.site) z.info)
+        (sym (ap (λ i. i.this_of) z.info) ∙ e))
         (λ z. absurd (let g = sym (ap (λ i. i.this_of) z) ∙ e in cc)) (row_cases P Q F facts v)
 
     pub this_body : (v : ℕ) (d : ColId) → row_this F v ≡ Some d → IsDef F d.0
@@ -193,9 +187,11 @@ module _ (P Q : Plain) (placed : IsPlaced P Q) (formed : IsFormed P) (typed : Is
         let g = same_Some n m (sym (ap this_number i) ∙ ap this_number h) in
         record { method = l; stands = subst (λ z. slice_get Q.methods z ≡ Some l) g d; bodied = b; instance = s; type = same_Some _ _ (sym t) }
     this_method m x (types_field f l d i t) h = absurd (let g = sym (ap this_number i) ∙ ap this_number h in cc)
-    this_method m x (types_result n l d i t) h = absurd (let g = sym (all_results this_number None (λ s. refl) (λ m. refl) l.slot n) ∙ sym (ap this_number i) ∙ ap this_number h in cc)
+    this_method m x (types_result n l d i t) h =
+        absurd (let g = sym (all_results this_number None (λ s. refl) (λ m. refl) l.slot n) ∙ sym (ap this_number i) ∙ ap this_number h in cc)
     this_method m x (types_variable n l j v d u i t) h =
-        absurd (let g = sym (all_variables this_number None (λ s i. refl) (λ m i. refl) l.slot (nat_lt j (length l.params)) n j) ∙ sym (ap this_number i) ∙ ap this_number h in cc)
+        absurd (let g = sym (all_variables this_number None (λ s i. refl) (λ m i. refl) l.slot (nat_lt j (length l.params)) n j)
+        ∙ sym (ap this_number i) ∙ ap this_number h in cc)
     this_method m x (types_part n l p d c o) h =
         let z = numbered_own p o.operand (part_numbered P Q placed formed typed p (record { number = n; method = l; stands = d; part = c })) o.own in
         absurd (let g : [] ≡ z.0 ∷ [] = sym (ap number_in (o.row_is ∙ ap Some h)) ∙ z.1 in cc)

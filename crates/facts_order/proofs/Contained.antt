@@ -108,8 +108,9 @@ module _ (P Q : Plain) (placed : IsPlaced P Q) (formed : IsFormed P) (typed : Is
   cell_contains c s (of_array x i e n q) w =
       let p = site_part P Q placed formed typed (cell_at F c).site.0 x e in
       let y = row_there P Q placed formed typed F facts (row.New x.number) x.row p.row_number_is in
-      let t = own_type P Q placed formed typed (a_creation p.place p.used p.operand) p.operand (row.New x.number) x.ty x.row y.here p.is_part refl
-      p.row_is p.type y.stands y.item in
+      let t = own_type P Q placed formed typed (a_creation p.of.place p.of.used p.of.operand) p.of.operand (row.New x.number) x.ty x.row y.here
+      p.of.is_part refl
+      p.row_is p.of.type y.stands y.item in
       let z = index_at F.sites.items (cell_at F c).site.0 _ (site_info x) (subst (λ w. slice_get w (cell_at F c).site.0 ≡ Some (site_info x))
       (sym facts.sites) (at_map site_info (sites_of P Q) (cell_at F c).site.0 x e)) in
       let u = held P Q placed formed typed F facts (in_cell c s) w in

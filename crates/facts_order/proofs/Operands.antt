@@ -83,8 +83,11 @@ module _ (P Q : Plain) (placed : IsPlaced P Q) (formed : IsFormed P) (typed : Is
           let z = placed.fields g k d in
           ap (field_object P) (sym s) ∙ ap (λ o. object_if (option_map (λ k. k.ty) o)) z.stands ∙ ap object_of z.type ∙ u
       go (for_this m k d b s i u) = absurd (let g = sym (ap field_number i) ∙ ap field_number h in cc)
-      go (for_result m k d i u) = absurd (let g = sym (all_results field_number None (λ s. refl) (λ m. refl) k.slot m) ∙ sym (ap field_number i) ∙ ap field_number h in cc)
-      go (for_variable m k j v d b i u) = absurd (let g = sym (all_variables field_number None (λ s i. refl) (λ m i. refl) k.slot (nat_lt j (length k.params)) m j) ∙ sym (ap field_number i)
+      go (for_result m k d i u) = absurd (let g = sym (all_results field_number None (λ s. refl) (λ m. refl) k.slot m) ∙ sym (ap field_number i)
+          ∙ ap field_number h in cc)
+      go (for_variable m k j v d b i u) =
+          absurd (let g = sym (all_variables field_number None (λ s i. refl) (λ m i. refl) k.slot (nat_lt j (length k.params)) m j)
+          ∙ sym (ap field_number i)
           ∙ ap field_number h in cc)
       go (for_part m k p d c o) = numberless x (row.Field f) m k p d c o h refl
 
@@ -100,7 +103,9 @@ module _ (P Q : Plain) (placed : IsPlaced P Q) (formed : IsFormed P) (typed : Is
           ap (λ o. object_if (option_and_then (λ k. k.result) o)) y.stands ∙ ap object_if (sym y.result ∙ z.result) ∙ u
       go (for_field g k d i u) = absurd (let g = sym (ap return_number i) ∙ ap return_number h in cc)
       go (for_this m k d b s i u) = absurd (let g = sym (ap return_number i) ∙ ap return_number h in cc)
-      go (for_variable m k j v d b i u) = absurd (let g = sym (all_variables return_number None (λ s i. refl) (λ m i. refl) k.slot (nat_lt j (length k.params)) m j) ∙ sym (ap return_number i)
+      go (for_variable m k j v d b i u) =
+          absurd (let g = sym (all_variables return_number None (λ s i. refl) (λ m i. refl) k.slot (nat_lt j (length k.params)) m j)
+          ∙ sym (ap return_number i)
           ∙ ap return_number h in cc)
       go (for_part m k p d c o) = numberless x (row.Return s) m k p d c o h refl
 
@@ -115,7 +120,9 @@ module _ (P Q : Plain) (placed : IsPlaced P Q) (formed : IsFormed P) (typed : Is
           ap (method_object P) (sym s) ∙ ap (λ o. object_if (option_and_then (λ k. k.result) o)) z.stands ∙ ap object_if z.result ∙ u
       go (for_field g k d i u) = absurd (let g = sym (ap result_number i) ∙ ap result_number h in cc)
       go (for_this n k d b s i u) = absurd (let g = sym (ap result_number i) ∙ ap result_number h in cc)
-      go (for_variable n k j v d b i u) = absurd (let g = sym (all_variables result_number None (λ s i. refl) (λ m i. refl) k.slot (nat_lt j (length k.params)) n j) ∙ sym (ap result_number i)
+      go (for_variable n k j v d b i u) =
+          absurd (let g = sym (all_variables result_number None (λ s i. refl) (λ m i. refl) k.slot (nat_lt j (length k.params)) n j)
+          ∙ sym (ap result_number i)
           ∙ ap result_number h in cc)
       go (for_part n k p d c o) = numberless x (row.Result m) n k p d c o h refl
 
@@ -177,9 +184,13 @@ module _ (P Q : Plain) (placed : IsPlaced P Q) (formed : IsFormed P) (typed : Is
           sym (variable_cases n m j i l k l.slot k.slot _ _ d b refl refl refl refl (sym y ∙ h)) ∙ ap (λ o. object_if (option_map (λ v. v.ty) o)) w ∙ u
       go (for_result n l d y u) = absurd (let g = sym (all_results is_variable false (λ s. refl) (λ m. refl) l.slot n) ∙ ap is_variable (sym y ∙ h)
           ∙ all_variables is_variable true (λ s i. refl) (λ m i. refl) k.slot (nat_lt i (length k.params)) m i in false≢true g)
-      go (for_field g l d y u) = absurd (let g = ap is_variable (sym y ∙ h) ∙ all_variables is_variable true (λ s i. refl) (λ m i. refl) k.slot (nat_lt i (length k.params)) m i in false≢true g)
-      go (for_this n l d c s y u) = absurd (let g = ap is_variable (sym y ∙ h) ∙ all_variables is_variable true (λ s i. refl) (λ m i. refl) k.slot (nat_lt i (length k.params)) m i in false≢true g)
-      go (for_part n l p d c o) = numberless x (variable_row m k i) n l p d c o h (all_variables (λ i. number_in (Some i)) [] (λ s i. refl) (λ m i. refl) k.slot (nat_lt i (length k.params)) m i)
+      go (for_field g l d y u) = absurd (let g = ap is_variable (sym y ∙ h) ∙ all_variables is_variable true (λ s i. refl) (λ m i. refl) k.slot
+          (nat_lt i (length k.params)) m i in false≢true g)
+      go (for_this n l d c s y u) =
+          absurd (let g = ap is_variable (sym y ∙ h) ∙ all_variables is_variable true (λ s i. refl) (λ m i. refl) k.slot (nat_lt i (length k.params))
+          m i in false≢true g)
+      go (for_part n l p d c o) = numberless x (variable_row m k i) n l p d c o h (all_variables (λ i. number_in (Some i)) [] (λ s i. refl)
+          (λ m i. refl) k.slot (nat_lt i (length k.params)) m i)
 
   -- the row of a parameter of a slot has its type
   variable_param : (o : Option ℕ) (b : Bool) (m i s j : ℕ) → variable_in o b m i ≡ row.Param s j → (o ≡ Some s) × (b ≡ true) × (i ≡ j)

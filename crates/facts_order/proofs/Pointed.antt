@@ -84,8 +84,9 @@ module _ (P Q : Plain) (placed : IsPlaced P Q) (formed : IsFormed P) (typed : Is
         let z = (numbered_sites P Q).at n s e in
         let p = site_part P Q placed formed typed s z.0 z.1 in
         let y = row_there P Q placed formed typed F facts (row.New z.0.number) z.0.row p.row_number_is in
-        let t = own_type P Q placed formed typed (a_creation p.place p.used p.operand) p.operand (row.New z.0.number) z.0.ty z.0.row y.here p.is_part
-        refl p.row_is p.type y.stands y.item in
+        let t = own_type P Q placed formed typed (a_creation p.of.place p.of.used p.of.operand) p.of.operand (row.New z.0.number) z.0.ty z.0.row
+        y.here p.of.is_part
+        refl p.row_is p.of.type y.stands y.item in
         let i = index_at F.sites.items s _ (site_info z.0) (subst (λ y. slice_get y s ≡ Some (site_info z.0)) (sym facts.sites)
         (at_map (site_info) (sites_of P Q) s z.0 z.1)) in
         own_typed P Q placed formed typed (a_creation w.place w.used o) o (row.New n) z.0.row y.here
@@ -141,4 +142,5 @@ module _ (P Q : Plain) (placed : IsPlaced P Q) (formed : IsFormed P) (typed : Is
 
   -- a numbered point has a type
   pub has_type : (i : PointItem) (q : ℕ) → point_number P Q i ≡ Some q → (t : ObjectType) × (point_type q ≡ Some t)
-  has_type i q e = let x = (numbered_points P Q).at i q e in let t = point_typed q x.0 x.1 in (t.type, ap (option_and_then (λ x. item_type P Q x.item)) x.1 ∙ t.stated)
+  has_type i q e = let x = (numbered_points P Q).at i q e in let t = point_typed q x.0 x.1 in
+      (t.type, ap (option_and_then (λ x. item_type P Q x.item)) x.1 ∙ t.stated)

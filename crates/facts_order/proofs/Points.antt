@@ -1,5 +1,5 @@
 -- The flow points of a program's facts: what each follows, and its row.
-use Rattle.std.proofs.Common.{◌≡◌, ℕ, List, [], ◌∷◌, ◌++◌, Option, Some, None, length, refl, sym, ap, subst, arith, ⊎_elim}
+use Rattle.std.proofs.Common.{◌≡◌, ℕ, List, ◌++◌, Option, Some, None, length, refl, sym, ap, subst, arith, ⊎_elim}
 use Rattle.std.specs.Prelude.{◌<◌, true, not, Contains, slice_get}
 use Rattle.std.specs.Option.{is_some}
 use Rattle.std.specs.List.{flat_map}
@@ -16,7 +16,7 @@ use Rattle.flow_rules.specs.declared.items.PointItem.{PointItem}
 use Rattle.flow_rules.specs.declared.items.PointItem.TheVariants as point
 use Rattle.flow_rules.specs.declared.items.PointAt.{PointAt}
 use Rattle.flow_rules.specs.declared.items.Point.{Point}
-use Rattle.flow_rules.specs.Ordered.{each, when, by_place}
+use Rattle.flow_rules.specs.Ordered.{each, by_place}
 use Rattle.flow_rules.specs.Operands.{variable_row, result_in}
 use Rattle.flow_rules.specs.Parts.{Part, a_load, an_element, a_creation, a_call, a_static_call, a_super_call, a_test, parts_of}
 use Rattle.flow_rules.specs.Numbered.{Outline, own_point, point_of_form, form_points, static_points, variable_points, method_points, outline_if, point_with, listed, row_number, points_of, point_number}
@@ -95,10 +95,12 @@ module _ (P Q : Plain) where
         (Contains-append_cases (((this_points P Q m k) ++ (param_points P Q m k)) ++ (local_points P Q m k)) (result_points P Q m k) a c))
         (λ c. let z = flat_from form_points (parts_of P m k) a (place_from (λ p. p.place.at) (flat_map form_points (parts_of P m k)) a c) in a_form m
         k z.0 e z.1 (form_from z.0 a z.2))
-        (Contains-append_cases ((((this_points P Q m k) ++ (param_points P Q m k)) ++ (local_points P Q m k)) ++ (result_points P Q m k)) (part_points P Q m k) a c)
+        (Contains-append_cases ((((this_points P Q m k) ++ (param_points P Q m k)) ++ (local_points P Q m k)) ++ (result_points P Q m k))
+        (part_points P Q m k) a c)
 
     part_at : (p : Part) (a : PointAt) → Contains (parts_of P m k) p → Contains (form_points p) a → Contains (method_points P Q m k) a
-    part_at p a c d = Contains-append_right ((((this_points P Q m k) ++ (param_points P Q m k)) ++ (local_points P Q m k)) ++ (result_points P Q m k)) (part_points P Q m k) a
+    part_at p a c d = Contains-append_right ((((this_points P Q m k) ++ (param_points P Q m k)) ++ (local_points P Q m k)) ++ (result_points P Q m k))
+        (part_points P Q m k) a
         (place_has (λ p. p.place.at) (flat_map form_points (parts_of P m k)) a (flat_has form_points (parts_of P m k) p a c d))
 
   point_in : (a : PointAt) (r : Option ℕ) (x : Point) → Contains (point_with a r) x → (a.item ≡ x.item) × (r ≡ Some x.row)

@@ -238,12 +238,13 @@ module _ (P Q : Plain) (placed : IsPlaced P Q) (formed : IsFormed P) (typed : Is
       (λ x c. let z = at_contains F.sites.items x c in
       let w = map_at site_info (sites_of P Q) z.0 x (subst (λ y. slice_get y z.0 ≡ Some x) facts.sites z.1) in
       let p = site_part P Q placed formed typed z.0 w.0 w.1 in
-      let a = p.is_part in
+      let a = p.of.is_part in
       subst (λ s. IsRow F s.row × IsClass F s.class) w.2 (
         row_bound (row.New w.0.number) w.0.row p.row_number_is,
         own_known a.number a.method a.stands
-            (a_creation p.place p.used p.operand) p.operand w.0.ty (fitted_at a.number a.method a.stands (a_creation p.place p.used p.operand) a.part)
-            refl p.type,
+            (a_creation p.of.place p.of.used p.of.operand) p.of.operand w.0.ty
+            (fitted_at a.number a.method a.stands (a_creation p.of.place p.of.used p.of.operand) a.part)
+            refl p.of.type,
       ))
 
   class_known : (c : ℕ) (x : ClassInfo) → slice_get F.classes.items c ≡ Some x → IfSome x.parent (IsClass F) × All (IsClass F) x.faces.items

@@ -1,12 +1,11 @@
 -- Creations, casts and `instanceof`: each has its row, which has its type, and each creation its site.
-use Rattle.std.proofs.Common.{◌≡◌, ℕ, List, [], ◌∷◌, Option, Some, None, length, refl, sym, ap, ◌∙◌, subst, arith}
-use Rattle.std.specs.Prelude.{◌<◌, nat_lt, Bool, true, false, Contains, slice_get}
+use Rattle.std.proofs.Common.{◌≡◌, ℕ, [], ◌∷◌, Option, Some, None, length, refl, sym, ap, ◌∙◌, subst, arith}
+use Rattle.std.specs.Prelude.{◌<◌, nat_lt, Bool, Contains, slice_get}
 use Rattle.std.specs.Option.{option_map, option_to_list}
 use Rattle.std.specs.List.{flat_map}
 use Rattle.std.proofs.lemmas.Option.{same_Some}
 use Rattle.kaba_base.specs.declared.Place.{Place}
 use Rattle.kaba_base.specs.declared.SiteId.{SiteId}
-use Rattle.java_core.specs.Trees.{Ex, number, character, text, truth, null, this, local, static_field, own_field, field, index, call, static_call, super_call, create, create_array, cast, instance_of, unary, binary, Target, to_local, to_static, to_own, to_field, to_element, no_target}
 use Rattle.java_core.specs.Programs.{Plain, PlainMethod}
 use Rattle.java_core.specs.Typing.{IsTyped}
 use Rattle.java_core.specs.Formed.{IsFormed}
@@ -19,15 +18,14 @@ use Rattle.flow_rules.specs.declared.items.RowItem.{RowItem}
 use Rattle.flow_rules.specs.declared.items.RowItem.TheVariants as row
 use Rattle.flow_rules.specs.declared.items.Row.{Row}
 use Rattle.flow_rules.specs.declared.items.Site.{Site}
-use Rattle.flow_rules.specs.Labels.{label}
 use Rattle.flow_rules.specs.Operands.{result_in, variable_in, type_in}
-use Rattle.flow_rules.specs.Parts.{Part, a_load, an_element, a_creation, a_call, a_static_call, a_super_call, a_test, a_pair, a_set, a_store, an_element_store, a_return, parts_of}
+use Rattle.flow_rules.specs.Parts.{Part, a_creation, a_test, parts_of}
 use Rattle.flow_rules.specs.Numbered.{Body, rows_of, row_number, number_if, site_if, form_sites, bodies_of, body_at, sites_of, site_number}
 use Rattle.flow_rules.specs.Facts.{site_info, site_of_row, numbers, IsFactsOf}
-use Rattle.flow_rules.proofs.Listed.{below_at, at_map, map_at, index_at, each_has, each_from_zero, flat_has, flat_from, one_from, first}
+use Rattle.flow_rules.proofs.Listed.{below_at, at_map, map_at, index_at, each_has, flat_has, first}
 use Rattle.flow_rules.proofs.NumberedItems.{numbered_sites, numbered_rows}
 use Rattle.facts_order.proofs.Pairs.{IsPlaced}
-use Rattle.run_cover.proofs.Unique.{site_created}
+use Rattle.run_cover.proofs.Unique.{IsCreated, site_created}
 use Rattle.run_cover.proofs.Numbers.{number_in, part_number, IsBare, IsPart, number_apart}
 use Rattle.facts_order.proofs.OwnParts.{HasLabel, HasNumber, IsNumbered, IsMade, from_made}
 use Rattle.facts_order.proofs.Points.{given_by}
@@ -98,29 +96,15 @@ module _ (P Q : Plain) (placed : IsPlaced P Q) (formed : IsFormed P) (typed : Is
 
   -- the part of a site
   pub record IsSitePart (x : Site) : Type 0 where
-    pub place : Place
-    pub used : Bool
-    pub operand : Operand
-    pub is_part : IsPart P Q (a_creation place used operand)
-    pub created : operand.created ≡ Some x.number
-    pub type : operand.ty ≡ Some x.ty
-    pub row_is : operand.row ≡ Some (row.New x.number)
+    pub of : IsCreated P Q x
+    pub row_is : of.operand.row ≡ Some (row.New x.number)
     pub row_number_is : row_number P Q (row.New x.number) ≡ Some x.row
 
   pub site_part : (s : ℕ) (x : Site) → slice_get (sites_of P Q) s ≡ Some x → IsSitePart x
   site_part s x e =
       let z = site_created P Q s x e in
       let row_is = (part_numbered (a_creation z.place z.used z.operand) z.is_part).1 ∙ ap (option_map row.New) z.created in
-      record {
-        place = z.place;
-        used = z.used;
-        operand = z.operand;
-        is_part = z.is_part;
-        created = z.created;
-        type = z.type;
-        row_is = row_is;
-        row_number_is = sym (ap (number_if (row_number P Q)) row_is) ∙ z.numbered;
-      }
+      record { of = z; row_is = row_is; row_number_is = sym (ap (number_if (row_number P Q)) row_is) ∙ z.numbered }
 
   module _ (F : Facts) (facts : IsFactsOf P Q F) where
     pub record HasSite (s : ℕ) : Type 0 where
@@ -148,8 +132,8 @@ module _ (P Q : Plain) (placed : IsPlaced P Q) (formed : IsFormed P) (typed : Is
         let z = site_of s h in
         let p = site_part s z.site z.stands in
         let w = item_row P Q F facts (row.New z.site.number) z.site.row p.row_number_is in
-        let t = own_type (a_creation p.place p.used p.operand) p.operand (row.New z.site.number) z.site.ty z.site.row w.0 p.is_part refl p.row_is
-        p.type w.1 w.2 in
+        let t = own_type (a_creation p.of.place p.of.used p.of.operand) p.of.operand (row.New z.site.number) z.site.ty z.site.row w.0 p.of.is_part refl p.row_is
+        p.of.type w.1 w.2 in
         ap (λ i. i.class.0) z.info ∙ sym (ap (λ i. row_class F i.row.0) z.info ∙ ap (λ i. i.class.0) w.3 ∙ ap (λ y. y.class.0) t)
 
     -- the site of a creation's row has as many brackets
@@ -159,7 +143,7 @@ module _ (P Q : Plain) (placed : IsPlaced P Q) (formed : IsFormed P) (typed : Is
         let z = (numbered_sites P Q).at n s b in
         let p = site_part s z.0 z.1 in
         let same : z.0.row ≡ r = same_Some _ _ (sym p.row_number_is ∙ ap (λ i. row_number P Q (row.New i)) z.2 ∙ a) in
-        let t = own_type (a_creation p.place p.used p.operand) p.operand (row.New z.0.number) z.0.ty z.0.row x p.is_part refl p.row_is p.type
+        let t = own_type (a_creation p.of.place p.of.used p.of.operand) p.of.operand (row.New z.0.number) z.0.ty z.0.row x p.of.is_part refl p.row_is p.of.type
         (subst (λ i. slice_get (rows_of P Q) i ≡ Some x) (sym same) e) (h ∙ ap row.New (sym z.2)) in
         ap (λ i. i.dim) (index_at F.sites.items s _ (site_info z.0) (subst (λ y. slice_get y s ≡ Some (site_info z.0)) (sym facts.sites)
         (at_map (site_info) (sites_of P Q) s z.0 z.1))) ∙ sym (ap (λ y. y.dim) t)

@@ -279,10 +279,10 @@ module _ (P Q : Plain) (placed : IsPlaced P Q) (formed : IsFormed P) (typed : Is
   array_marks s h d =
       let z = site_of P Q placed formed typed F facts s h in
       let p = site_part P Q placed formed typed s z.site z.stands in
-      let col : Column = record { item = column.Is z.site.ty.class; place = p.place } in
+      let col : Column = record { item = column.Is z.site.ty.class; place = p.of.place } in
       subst (λ c. HasMark F c) (sym (ap (λ i. i.class.0) z.info))
-      (marked p.is_part.number p.is_part.method (a_creation p.place p.used p.operand) col z.site.ty.class p.is_part.stands p.is_part.part
-      (array_part p.place p.used p.operand z.site.ty col p.type (subst (λ n. 0 < n) (ap (λ i. i.dim) z.info) d) refl) refl)
+      (marked p.of.is_part.number p.of.is_part.method (a_creation p.of.place p.of.used p.of.operand) col z.site.ty.class p.of.is_part.stands p.of.is_part.part
+      (array_part p.of.place p.of.used p.of.operand z.site.ty col p.of.type (subst (λ n. 0 < n) (ap (λ i. i.dim) z.info) d) refl) refl)
 
   -- the cells of a site name it
   abbrev all_fields : List FieldCell

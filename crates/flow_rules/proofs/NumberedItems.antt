@@ -3,10 +3,7 @@ use Rattle.std.proofs.Common.{◌≡◌, ℕ, List, [], ◌∷◌, ◌++◌, Opt
 use Rattle.std.specs.Prelude.{nat_eq, Bool, true, not, length, Contains, map, position, slice_get}
 use Rattle.std.specs.List.{flat_map}
 use Rattle.java_core.specs.Programs.{Plain, PlainMethod}
-use Rattle.flow_rules.specs.declared.items.RowItem.{RowItem}
 use Rattle.flow_rules.specs.declared.items.RowItem.TheVariants as row
-use Rattle.flow_rules.specs.declared.items.ColumnItem.{ColumnItem}
-use Rattle.flow_rules.specs.declared.items.PointItem.{PointItem}
 use Rattle.flow_rules.specs.declared.items.PointItem.TheVariants as point
 use Rattle.flow_rules.specs.declared.items.PointAt.{PointAt}
 use Rattle.flow_rules.specs.Operands.{result_in}

@@ -10,7 +10,7 @@ use Rattle.java_tree.specs.declared.TypeName.{TypeName}
 use Rattle.java_tree.specs.Syntax.{MemberTree, FieldTree, MethodTree, DeclTree, ClassTree, InterfaceTree}
 use Rattle.java_tree.specs.Places.{nowhere, all_unplaced, may_unplaced, id_unplaced, modifier_unplaced, type_unplaced, param_unplaced, stmts_unplaced, head_unplaced, member_unplaced, decl_unplaced, unplaced}
 use Rattle.name_rules.specs.declared.parts.Kind.TheVariants as kinds
-use Rattle.name_rules.specs.Outline.{FieldAt, MethodAt, name_of, has_word, is_abstract_word, is_static_word, is_public_word, types_in, type_meant, id_meant, class_id, fields_of, methods_of, fields_declared, methods_declared, fields_from, methods_from, fields_in, methods_in, object, parent_meant, class_outline, field_outline, param_outline, method_outline, outline}
+use Rattle.name_rules.specs.Outline.{FieldAt, MethodAt, name_of, has_word, is_abstract_word, is_static_word, is_public_word, types_in, type_meant, id_meant, fields_of, methods_of, fields_declared, methods_declared, fields_from, methods_from, fields_in, methods_in, object, parent_meant, class_outline, field_outline, param_outline, method_outline, outline}
 use Rattle.kaba_base.specs.declared.ClassId.{ClassId}
 use Rattle.java_core.specs.Programs.{PlainClass}
 use Rattle.java_core.specs.Untagged.{bare_tag, untag_local, untag_class, untag_field, untag_method, untagged}
@@ -165,7 +165,8 @@ outline-same tree =
     }) (types-same tree)
     ∙ ap2 (λ cs fs. record { classes = object ∷ cs; fields = fs; methods = map (method_outline t) (methods_in (unplaced tree)); slots = []; main = 0 })
     (seen-all decl_unplaced (class_outline t) (class_outline t) untag_class (class-same t) tree)
-    (ap (map (field_outline t)) (fields-same tree) ∙ both-ways field_at_unplaced (field_outline t) (field_outline t) untag_field (field-seen t) (fields_in tree))
+    (ap (map (field_outline t)) (fields-same tree) ∙ both-ways field_at_unplaced (field_outline t) (field_outline t) untag_field (field-seen t)
+    (fields_in tree))
     ∙ ap (λ ms. record {
       classes = object ∷ map untag_class (map (class_outline t) tree);
       fields = map untag_field (map (field_outline t) (fields_in tree));

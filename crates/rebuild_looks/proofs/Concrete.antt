@@ -1,11 +1,11 @@
 -- A class of which objects can be made has a body for each slot that it offers: a body or a filler, and no head stands below it.
-use Rattle.std.proofs.Common.{◌≡◌, ℕ, ◌&&◌, ◌||◌, eqb, Option, Some, None, refl, sym, ap, ◌∙◌, subst, ⊎_elim}
+use Rattle.std.proofs.Common.{◌≡◌, ℕ, ◌&&◌, ◌||◌, Option, Some, None, refl, sym, ap, ◌∙◌, subst, ⊎_elim}
 use Rattle.std.specs.Prelude.{Bool, true, false, not, slice_get}
 use Rattle.std.specs.Option.{option_map_or, is_some}
-use Rattle.std.proofs.lemmas.Bool.{false≢true, and_from, and_parts, eqb-true, eq-eqb, cases_Bool}
+use Rattle.std.proofs.lemmas.Bool.{false≢true, and_from, and_parts, cases_Bool}
 use Rattle.std.proofs.lemmas.Option.{same_Some}
 use Rattle.java_core.specs.Programs.{Plain, PlainClass, PlainMethod}
-use Rattle.java_core.specs.Classes.{IsSubclass, same_class, nearest_declaration, own_declaration, has_slot, is_slot, has_body, is_concrete}
+use Rattle.java_core.specs.Classes.{IsSubclass, same_class, nearest_declaration, own_declaration, has_slot, has_body, is_concrete}
 use Rattle.java_core.specs.Found.{at_class}
 use Rattle.java_core.specs.Typing.{Offers, HasBodies}
 use Rattle.java_core.proofs.Positions.{position-passes, passes-position}

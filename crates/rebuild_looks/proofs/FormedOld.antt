@@ -1,5 +1,5 @@
 -- The worked program is formed.
-use Rattle.std.proofs.Common.{◌≡◌, ◌≢◌, ℕ, zero, suc, ◌<◌, ◌≤◌, [], ◌∷◌, Some, None, Contains, refl, sym, ap, ◌∙◌, subst, inl, arith}
+use Rattle.std.proofs.Common.{◌≡◌, ℕ, zero, suc, ◌<◌, ◌≤◌, [], ◌∷◌, Some, None, refl, sym, ap, ◌∙◌, subst, inl, arith}
 use Rattle.std.specs.Prelude.{false, codes, slice_get}
 use Rattle.std.proofs.lemmas.Bool.{false≢true}
 use Rattle.std.proofs.lemmas.Option.{same_Some}
@@ -25,7 +25,8 @@ formed_a : IsFormedClass old (class (codes "A") object 6)
 formed_a = formed_class old top refl refl (class (codes "A") object 6) (named (codes "A") refl) refl refl refl (λ f h. no_item f h) (no_twice ClassId)
 
 formed_holder : IsFormedClass old (class (codes "Main") object 30)
-formed_holder = formed_class old top refl refl (class (codes "Main") object 30) (named (codes "Main") refl) refl refl refl (λ f h. no_item f h) (no_twice ClassId)
+formed_holder = formed_class old top refl refl (class (codes "Main") object 30) (named (codes "Main") refl) refl refl refl (λ f h. no_item f h)
+    (no_twice ClassId)
 
 formed_field : IsFormedField old (the_field 1)
 formed_field = record {

@@ -5,12 +5,10 @@ use Rattle.std.specs.List.{list_any}
 use Rattle.std.specs.Str.{bytes_eq}
 use Rattle.std.proofs.lemmas.Bool.{false≢true}
 use Rattle.std.proofs.lemmas.Option.{same_Some}
-use Rattle.kaba_base.specs.declared.ClassId.{ClassId}
-use Rattle.java_lex.specs.Writable.{IsName}
 use Rattle.java_core.specs.Trees.{Sts}
 use Rattle.java_core.specs.Programs.{Plain, PlainClass, PlainLocal}
-use Rattle.java_core.specs.Formed.{IsFormedClass, IsFormedLocal, IsFormedMethod, IsInSlot, FormedSts, HasNoTwice, numbers_below, f_some, f_no_st, f_st_then, f_declare, f_create, f_no_ex, f_act, f_call, f_local}
-use Rattle.rebuild_model.proofs.Worked.{place, object_of, class, object, method, main, slot, main_code}
+use Rattle.java_core.specs.Formed.{IsFormedLocal, IsFormedMethod, IsInSlot, FormedSts, numbers_below, f_some, f_no_st, f_st_then, f_declare, f_create, f_no_ex, f_act, f_call, f_local}
+use Rattle.rebuild_model.proofs.Worked.{place, object_of, method, main, slot, main_code}
 use Rattle.java_meaning.proofs.Small.{each_in, no_item, no_twice, one_once, named, variable_name, other_name}
 
 -- only one field is there, and only slot 0

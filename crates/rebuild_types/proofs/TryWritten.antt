@@ -1,15 +1,12 @@
 -- The worked program of a hierarchy has what a written one has; and an int that is filled in for is 0.
-use Rattle.std.proofs.Common.{◌≡◌, ℕ, zero, suc, ◌&&◌, ◌||◌, Some, sym, ap}
-use Rattle.std.specs.Prelude.{Bool, true, false, not, slice_get}
+use Rattle.std.proofs.Common.{◌≡◌, ℕ, zero, suc, Some, sym, ap}
+use Rattle.std.specs.Prelude.{true, slice_get}
 use Rattle.std.proofs.lemmas.Option.{same_Some}
 use Rattle.java_core.specs.declared.TyBase.TheVariants.{Int}
 use Rattle.java_core.specs.Trees.{no_st}
 use Rattle.java_core.specs.Programs.{PlainMethod}
 use Rattle.java_core.specs.Types.{plain_type}
-use Rattle.kaba_order.specs.Orders.{is_live}
-use Rattle.fact_model.specs.Classes.{is_slot}
 use Rattle.fact_model.specs.declared.facts.Facts.{Facts}
-use Rattle.rebuild_model.specs.Members.{is_filled}
 use Rattle.rebuild_model.specs.Written.{IsFilling, IsWritten}
 use Rattle.rebuild_model.proofs.Worked.{old, new, hierarchy, places}
 use Rattle.rebuild_model.proofs.WorkedRebuilds.{facts, no_filler}

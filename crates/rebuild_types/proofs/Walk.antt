@@ -11,7 +11,7 @@ use Rattle.java_core.specs.Programs.{Plain, PlainMethod, PlainField, PlainSlot}
 use Rattle.java_core.specs.Classes.{slot_of, slot_of_method, super_method, declaration_of, has_body, is_concrete}
 use Rattle.java_core.specs.Types.{Static, a_value, or_nothing, Env, env_of, types_of, class_type, class_of, element_of, is_numeric, is_string, field_type, value_type, field_in, access_type, fits, string_method, string_params, signature_of_string, call_signature, result_of, unary_type, binary_type, static}
 use Rattle.java_core.specs.Typing.{Typed, TypedArgs, t_number, t_character, t_text, t_truth, t_null, t_this, t_local, t_static_field, t_field, t_index, t_call, t_static_call, t_super_call, t_create, t_create_array, t_cast, t_instance_of, t_unary, t_binary, t_no_ex, t_ex_then, are_related, takes_one, takes_two, can_cast}
-use Rattle.java_core.specs.Formed.{IsFormed, FormedExs, f_this, f_own_field, f_field, f_index, f_call, f_static_call, f_super_call, f_create_array, f_cast, f_instance_of, f_unary, f_binary, f_ex_then}
+use Rattle.java_core.specs.Formed.{FormedExs, f_this, f_own_field, f_field, f_index, f_call, f_static_call, f_super_call, f_create_array, f_cast, f_instance_of, f_unary, f_binary, f_ex_then}
 use Rattle.java_core.specs.Untagged.{bare, bare_all, untag_method, untagged}
 use Rattle.java_meaning.proofs.WatchedPrograms.{bare_static}
 use Rattle.flow_rules.specs.declared.items.ObjectType.{ObjectType}

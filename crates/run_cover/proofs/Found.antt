@@ -1,9 +1,8 @@
 -- Classes, subtypes and bodies that the facts find are those of the program.
 use Rattle.std.proofs.Common.{◌≡◌, ℕ, zero, suc, ◌+◌, List, [], ◌∷◌, ◌++◌, Option, Some, None, length, refl, sym, ap, ◌∙◌, subst, arith, ⊎_elim}
-use Rattle.std.specs.Prelude.{◌==◌, if◌then◌else◌, nat_lt, not, Bool, true, false, slice_get, Contains}
+use Rattle.std.specs.Prelude.{◌==◌, not, true, false, slice_get, Contains}
 use Rattle.std.specs.Option.{option_map_or, option_and_then, option_to_list, is_some}
-use Rattle.std.specs.List.{flat_map, list_any}
-use Rattle.indexmap.specs.IndexSet.{insert_key}
+use Rattle.std.specs.List.{flat_map}
 use Rattle.std.proofs.lemmas.Option.{same_Some, slice_get-get_or}
 use Rattle.std.proofs.lemmas.List.{length-map}
 use Rattle.std.proofs.lemmas.List.Elements.{Contains-append_cases}
@@ -22,8 +21,8 @@ use Rattle.flow_rules.specs.declared.items.ObjectType.{ObjectType}
 use Rattle.flow_rules.specs.Parts.{Part, a_creation, a_test, parts_of}
 use Rattle.flow_rules.specs.declared.items.ColumnItem.TheVariants as column
 use Rattle.flow_rules.specs.declared.items.Column.{Column}
-use Rattle.flow_rules.specs.Ordered.{put_in, by_place, once_after, each, when}
-use Rattle.flow_rules.specs.Numbered.{same_column, columns_of, field_columns, method_columns, mark, array_mark, form_columns}
+use Rattle.flow_rules.specs.Ordered.{each, when}
+use Rattle.flow_rules.specs.Numbered.{columns_of, field_columns, method_columns, mark, array_mark, form_columns}
 use Rattle.flow_rules.specs.Facts.{ClassFacts, class_seen, class_facts, is_holder, IsFactsOf}
 use Rattle.java_core.specs.Untagged.{untag_class, untagged}
 use Rattle.flow_rules.proofs.Listed.{at_contains, each_from, flat_from, when_from}

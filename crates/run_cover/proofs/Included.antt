@@ -1,7 +1,7 @@
 -- The family of typed sets of a program's facts, and what reads and writes at the expressions of a body leave in them.
-use Rattle.std.proofs.Common.{◌≡◌, ℕ, zero, suc, List, [], ◌∷◌, Option, Some, None, refl, sym, ap, ◌∙◌, subst, arith}
-use Rattle.std.specs.Prelude.{if◌then◌else◌, ◌==◌, Bool, true, false, slice_get, Contains, map}
-use Rattle.std.specs.Option.{option_map, option_and_then}
+use Rattle.std.proofs.Common.{◌≡◌, ℕ, zero, suc, List, Option, Some, None, refl, sym, ap, ◌∙◌, subst, arith}
+use Rattle.std.specs.Prelude.{◌==◌, Bool, true, false, slice_get, Contains}
+use Rattle.std.specs.Option.{option_and_then}
 use Rattle.std.specs.List.{AllByRecursion}
 use Rattle.std.proofs.lemmas.Option.{same_Some}
 use Rattle.std.proofs.lemmas.Bool.{false≢true, eqb-true, and_parts}
@@ -12,7 +12,7 @@ use Rattle.java_core.specs.declared.TyBase.TheVariants.{Int, Boolean, Char, Str,
 use Rattle.java_core.specs.Trees.{Ex, Exs, no_ex, ex_then, create, create_array}
 use Rattle.java_core.specs.Programs.{Plain, PlainMethod}
 use Rattle.java_core.specs.Classes.{below, member_field, slot_of}
-use Rattle.java_core.specs.Types.{Static, a_value, null_value, no_value, or_nothing, class_in, class_of, element_in, field_in, is_subtype, is_sub_base, static}
+use Rattle.java_core.specs.Types.{element_in, field_in, is_subtype, is_sub_base, static}
 use Rattle.java_meaning.specs.Moment.{Kind, an_object, own_type, Spot, held, bound, self_of, result_of, set_static, kept, put_in, touched, tested, ran, Lang}
 use Rattle.java_meaning.specs.Languages.{slot_in}
 use Rattle.fact_model.specs.Items.{site_class}
@@ -22,7 +22,7 @@ use Rattle.fact_model.specs.declared.facts.Facts.{Facts}
 use Rattle.flow_rules.specs.declared.items.ObjectType.{ObjectType}
 use Rattle.flow_rules.specs.declared.items.Operand.{Operand}
 use Rattle.flow_rules.specs.declared.items.PointItem.TheVariants as point
-use Rattle.flow_rules.specs.Operands.{object_in, object_of, object_if, object_static, object_class, object_field, call_slot, type_in}
+use Rattle.flow_rules.specs.Operands.{object_in, object_of, object_field, call_slot, type_in}
 use Rattle.flow_rules.specs.Types.{field_object}
 use Rattle.flow_rules.specs.Parts.{a_load, an_element, a_creation, a_store, an_element_store, is_accessed, parts, parts_of}
 use Rattle.flow_rules.specs.Lists.{point_at, site_in}

@@ -5,8 +5,7 @@ use Rattle.std.specs.Option.{option_map, option_map_or, option_and_then}
 use Rattle.java_core.specs.declared.Program.{Program}
 use Rattle.java_core.specs.Trees.{Sts, at_place, no_place}
 use Rattle.java_core.specs.Programs.{Plain, PlainMethod, program_of}
-use Rattle.java_core.specs.Classes.{slot_of, lookup, super_method}
-use Rattle.java_core.specs.Types.{env_of, class_of, field_in, types_of}
+use Rattle.java_core.specs.Types.{env_of, types_of}
 use Rattle.java_core.specs.Typing.{IsTyped}
 use Rattle.java_core.specs.Formed.{IsFormed}
 use Rattle.java_meaning.specs.Moment.{Nothing, Outcome, unnoted, Escaped}
@@ -34,7 +33,8 @@ module _ (Q : Plain) (F : Facts) (S : Sets) where
 
   bodies_same : (m : ℕ) → body_of P m ≡ option_map bare_body (labelled_body P Q F S m)
   unfolding labelled_body
-  bodies_same m = ap (λ z. option_and_then (λ k. option_map (λ xs. body_with m k xs) k.body) z) (slice_get-map untag_method Q.methods m) ∙ go (slice_get Q.methods m)
+  bodies_same m = ap (λ z. option_and_then (λ k. option_map (λ xs. body_with m k xs) k.body) z) (slice_get-map untag_method Q.methods m)
+      ∙ go (slice_get Q.methods m)
     where
       code : (k : PlainMethod) (b : Option Sts) → option_map (λ xs. body_with m (untag_method k) xs) (untag_body b)
           ≡ option_map bare_body (option_map (λ xs. body_with m k (label_sts 0 xs)) b)

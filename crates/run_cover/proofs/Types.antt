@@ -9,13 +9,9 @@ use Rattle.java_meaning.proofs.Calls.{mapped_some}
 use Rattle.java_core.specs.declared.Ty.{Ty}
 use Rattle.java_core.specs.declared.TyBase.{TyBase}
 use Rattle.java_core.specs.declared.TyBase.TheVariants.{Int, Boolean, Char, Str, Class}
-use Rattle.java_core.specs.declared.UnOp.{UnOp}
-use Rattle.java_core.specs.declared.UnOp.TheVariants as un
-use Rattle.java_core.specs.declared.BinOp.{BinOp}
-use Rattle.java_core.specs.declared.BinOp.TheVariants as bin
 use Rattle.java_core.specs.Programs.{Plain, PlainSlot}
 use Rattle.java_core.specs.Classes.{slot_of}
-use Rattle.java_core.specs.Types.{Static, a_value, null_value, no_value, or_nothing, class_in, class_of, element_in, element_of, is_base, is_only, is_string, is_sub_base, is_subtype, fits, StringMethod, LengthOf, CharAt, Equals, string_method, string_result, Signature, signature_of_slot, signature_of_string, object_signature, call_signature, unary_type, sum_type, binary_type}
+use Rattle.java_core.specs.Types.{Static, a_value, null_value, no_value, or_nothing, class_in, class_of, element_in, element_of, is_base, is_only, is_string, is_sub_base, is_subtype, fits, StringMethod, LengthOf, CharAt, Equals, string_method, string_result, Signature, signature_of_slot, signature_of_string, object_signature, call_signature}
 use Rattle.flow_rules.specs.declared.items.ObjectType.{ObjectType}
 use Rattle.flow_rules.specs.Operands.{object_in, object_of, object_if, object_static}
 

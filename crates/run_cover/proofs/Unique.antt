@@ -1,10 +1,8 @@
 -- A site is that of a creation; a creation of a formed program is the one of its number, and its site has its type.
-use Rattle.std.proofs.Common.{◌≡◌, ℕ, zero, suc, ◌+◌, List, [], ◌∷◌, Option, Some, None, refl, sym, ap, ◌∙◌, subst, arith, ⊎_elim}
-use Rattle.std.specs.Prelude.{nat_eq, Bool, slice_get, Contains}
+use Rattle.std.proofs.Common.{◌≡◌, ℕ, [], Option, Some, None, refl, sym, ap, ◌∙◌, subst, arith}
+use Rattle.std.specs.Prelude.{Bool, slice_get, Contains}
 use Rattle.std.specs.Option.{option_map, option_to_list}
 use Rattle.std.specs.List.{flat_map}
-use Rattle.std.proofs.lemmas.Option.{slice_get_within, get_or_from_slice_get}
-use Rattle.std.proofs.lemmas.List.Elements.{Contains-append_cases}
 use Rattle.kaba_base.specs.declared.Place.{Place}
 use Rattle.java_core.specs.Trees.{Sts}
 use Rattle.java_core.specs.Programs.{Plain, PlainMethod}
@@ -13,9 +11,8 @@ use Rattle.fact_model.specs.declared.facts.Facts.{Facts}
 use Rattle.flow_rules.specs.declared.items.ObjectType.{ObjectType}
 use Rattle.flow_rules.specs.declared.items.Operand.{Operand}
 use Rattle.flow_rules.specs.declared.items.Site.{Site}
-use Rattle.flow_rules.specs.Ordered.{by_place, each}
 use Rattle.flow_rules.specs.Parts.{Part, a_creation, parts_of}
-use Rattle.flow_rules.specs.Numbered.{Body, body_at, bodies_of, site_if, form_sites, number_if, row_number, sites_of, site_number}
+use Rattle.flow_rules.specs.Numbered.{body_at, bodies_of, site_if, form_sites, number_if, row_number, sites_of, site_number}
 use Rattle.flow_rules.specs.Facts.{IsFactsOf}
 use Rattle.java_core.specs.Untagged.{untag_body, untag_method, untagged, bare_sts}
 use Rattle.run_cover.proofs.Kinded.{site_type}

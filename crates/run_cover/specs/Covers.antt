@@ -5,11 +5,10 @@ use Rattle.std.specs.List.{AllByRecursion}
 use Rattle.kaba_base.specs.declared.ColId.{ColId}
 use Rattle.java_core.specs.Trees.{Ex, call, cast, instance_of}
 use Rattle.java_core.specs.Programs.{Plain, PlainMethod}
-use Rattle.java_core.specs.Classes.{lookup, super_method}
 use Rattle.java_meaning.specs.Watched.{watched_with}
 use Rattle.java_meaning.specs.Moment.{Value, Number, Truth, CodeUnit, Nothing, Text, Object, Cell, Spot, held, bound, self_of, result_of, set_static, kept, put_in, touched, tested, ran, unnoted, Escaped, Body, Lang}
 use Rattle.java_meaning.specs.Meaning.{run_in}
-use Rattle.java_meaning.specs.Languages.{body_with, language_of, run}
+use Rattle.java_meaning.specs.Languages.{body_with, run}
 use Rattle.fact_model.specs.Flowing.{Fact, in_point, in_cell, Inclusion}
 use Rattle.kaba_bits.specs.Sets.{bit, row}
 use Rattle.fact_model.specs.declared.sets.PointsTo.{PointsTo}

@@ -13,7 +13,6 @@ use Rattle.java_core.specs.declared.TyBase.{TyBase}
 use Rattle.java_core.specs.declared.TyBase.TheVariants.{Int, Boolean, Char, Str, Class}
 use Rattle.java_core.specs.Programs.{Plain, PlainField, PlainMethod}
 use Rattle.java_core.specs.Classes.{below, is_field_of, own_field_of, field_of, member_field}
-use Rattle.java_core.specs.Typing.{IsTyped}
 use Rattle.java_core.proofs.Positions.{passes-position, position-passes}
 use Rattle.java_core.proofs.Subclasses.{subclass-below, nearest-here}
 use Rattle.java_meaning.specs.Moment.{Kind, an_array, Body}
@@ -22,16 +21,11 @@ use Rattle.java_meaning.specs.Languages.{index_of, fresh_of, language_of}
 use Rattle.java_meaning.proofs.Holds.{some_there}
 use Rattle.java_meaning.proofs.Layouts.{members, fresh}
 use Rattle.fact_model.specs.Items.{site_row, site_class, row_class, column_class}
-use Rattle.fact_model.specs.InRange.{InRange}
-use Rattle.fact_model.specs.InOrder.{InOrder}
-use Rattle.fact_model.specs.Flowing.{AreSets}
-use Rattle.fact_model.specs.Entries.{IsTable}
 use Rattle.fact_model.specs.declared.facts.Facts.{Facts}
 use Rattle.fact_model.specs.declared.sets.PointsTo.{PointsTo}
 use Rattle.fact_model.specs.declared.sets.Table.{Table}
 use Rattle.fact_model.proofs.OrderLemmas.{column-above}
-use Rattle.hier_model.specs.Hierarchies.{Hierarchy, IsHierarchyOf, place_of_row}
-use Rattle.hier_rules.specs.First.{first_broken}
+use Rattle.hier_model.specs.Hierarchies.{Hierarchy, place_of_row}
 use Rattle.flow_rules.specs.declared.items.ObjectType.{ObjectType}
 use Rattle.flow_rules.specs.declared.items.Operand.{Operand}
 use Rattle.flow_rules.specs.declared.items.ColumnItem.{ColumnItem}
@@ -40,7 +34,7 @@ use Rattle.flow_rules.specs.declared.items.RowItem.TheVariants as row
 use Rattle.flow_rules.specs.Operands.{object_of, object_in}
 use Rattle.flow_rules.specs.Parts.{a_creation, parts_of}
 use Rattle.flow_rules.specs.Numbered.{row_number, site_number, sites_of}
-use Rattle.flow_rules.specs.Facts.{numbers, site_info, IsFactsOf}
+use Rattle.flow_rules.specs.Facts.{numbers, site_info}
 use Rattle.run_cover.specs.Covers.{solved}
 use Rattle.java_core.specs.Untagged.{untagged, untag_field}
 use Rattle.run_cover.specs.Slotted.{HaveSlots}
@@ -51,7 +45,6 @@ use Rattle.run_cover.proofs.Unique.{creation_type}
 use Rattle.facts_order.proofs.Classes.{below_subclass}
 use Rattle.facts_order.proofs.Columns.{Stands, for_field, for_declaration, for_body, for_mark, column_stands, numbered_column}
 use Rattle.flow_rules.proofs.NumberedItems.{numbered_columns, numbered_sites}
-use Rattle.facts_order.proofs.Pairs.{IsPlaced}
 use Rattle.facts_order.proofs.Sites.{site_types, site_part, created_row}
 use Rattle.flow_rules.proofs.Listed.{at_map, at_below}
 use Rattle.rebuild_model.specs.Renaming.{retyped}

@@ -16,16 +16,12 @@ use Rattle.java_core.specs.declared.TyBase.TheVariants.{Int, Boolean, Char, Str,
 use Rattle.java_core.specs.Programs.{Plain, PlainMethod}
 use Rattle.java_core.specs.Classes.{below}
 use Rattle.java_core.specs.Types.{element_in, is_sub_base, is_subtype}
-use Rattle.java_core.specs.Typing.{IsTyped}
 use Rattle.java_core.proofs.Subclasses.{below-subclass, subclass-below}
 use Rattle.java_meaning.specs.Moment.{Kind, an_object, an_array, own_type}
 use Rattle.java_meaning.specs.Meaning.{element_type}
 use Rattle.fact_model.specs.Items.{site_at, site_row, site_class, row_class}
 use Rattle.fact_model.specs.Classes.{below as facts_below}
-use Rattle.fact_model.specs.InRange.{InRange, IsClass, IsPoint, IsRow}
-use Rattle.fact_model.specs.InOrder.{InOrder}
-use Rattle.fact_model.specs.Flowing.{AreSets}
-use Rattle.fact_model.specs.Entries.{IsTable}
+use Rattle.fact_model.specs.InRange.{IsClass, IsPoint, IsRow}
 use Rattle.fact_model.specs.declared.facts.Facts.{Facts}
 use Rattle.fact_model.specs.declared.facts.TestInfo.{TestInfo}
 use Rattle.fact_model.specs.declared.facts.StoreInfo.{StoreInfo}
@@ -33,10 +29,9 @@ use Rattle.fact_model.specs.declared.facts.SiteInfo.{SiteInfo}
 use Rattle.fact_model.specs.declared.sets.PointsTo.{PointsTo}
 use Rattle.fact_model.specs.declared.sets.Table.{Table}
 use Rattle.fact_model.proofs.ClassLemmas.{below-exact}
-use Rattle.hier_model.specs.Hierarchies.{Hierarchy, IsHierarchyOf, place_of_row, any_below}
+use Rattle.hier_model.specs.Hierarchies.{Hierarchy, place_of_row, any_below}
 use Rattle.hier_model.proofs.AnyLemmas.{any_below_has}
 use Rattle.hier_rules.specs.Asked.{is_test_at, is_array_at, has_array, is_store_at, is_tested, is_stored, is_element, meets, places_of, bound_of}
-use Rattle.hier_rules.specs.First.{first_broken}
 use Rattle.hier_begin.proofs.GivenLemmas.{point_site}
 use Rattle.tree_laws.proofs.ReadLemmas.{bound_above}
 use Rattle.flow_rules.specs.declared.items.ObjectType.{ObjectType}
@@ -44,13 +39,12 @@ use Rattle.flow_rules.specs.declared.items.Operand.{Operand}
 use Rattle.flow_rules.specs.Operands.{object_of, object_in}
 use Rattle.flow_rules.specs.Parts.{Part, a_test, an_element_store, parts_of}
 use Rattle.flow_rules.specs.Lists.{both, these, point_at, row_at, site_in, stores_of, tests_of}
-use Rattle.flow_rules.specs.Facts.{numbers, gathered, IsFactsOf}
+use Rattle.flow_rules.specs.Facts.{numbers, gathered}
 use Rattle.run_cover.specs.Covers.{passes, point_sites, held_sites, held_in, or_itself, solved}
 use Rattle.java_core.specs.Untagged.{untagged}
 use Rattle.run_cover.proofs.Kinded.{site_type}
 use Rattle.flow_rules.proofs.Listed.{one, place_has, below_at, index_at, contains_at}
 use Rattle.facts_order.proofs.Classes.{subclass_below, below_subclass}
-use Rattle.facts_order.proofs.Pairs.{IsPlaced}
 use Rattle.facts_order.proofs.Sites.{site_types}
 use Rattle.facts_order.proofs.Tests.{gathered_has}
 use Rattle.rebuild_model.specs.Renaming.{renaming_of}
@@ -304,7 +298,8 @@ module _ {Q : Plain} {F : Facts} {H : Hierarchy} {W : Plain} (K : Known (untagge
             let new = array_of c v ev in
             let z = made.sited s ez in (
               element_is old.array u (site_type F s) old.element (ap own_type (sym old.is) ∙ z.0),
-              element_is new.array v (record { class = record { 0 = T.type_of (node s) }; dim = (site_at F s).dim }) new.element (ap own_type (sym new.is) ∙ z.1),
+              element_is new.array v (record { class = record { 0 = T.type_of (node s) }; dim = (site_at F s).dim }) new.element
+                  (ap own_type (sym new.is) ∙ z.1),
             )
 
         go : (z s : Option ℕ) → site_in (numbers P Q) q ≡ z → site_in (numbers P Q) r ≡ s → is_subtype P (own_type x) u ≡ is_subtype W (own_type y) v

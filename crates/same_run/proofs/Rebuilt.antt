@@ -8,7 +8,7 @@ use Rattle.java_core.specs.declared.Ty.{Ty}
 use Rattle.java_core.specs.Programs.{Plain, PlainField, PlainMethod, PlainLocal}
 use Rattle.java_core.specs.Classes.{is_static_field}
 use Rattle.java_core.specs.Types.{env_of, types_of, field_type}
-use Rattle.java_core.specs.Typing.{IsTyped, IsTypedMethod, TypedSts}
+use Rattle.java_core.specs.Typing.{IsTypedMethod, TypedSts}
 use Rattle.java_meaning.specs.Moment.{Value, Number, Truth, CodeUnit, Nothing, Text, Object, Kind, Cell, bound, Body, Lang}
 use Rattle.java_meaning.specs.Values.{default_of}
 use Rattle.java_meaning.specs.Meaning.{run_in}
@@ -16,22 +16,17 @@ use Rattle.java_meaning.specs.Languages.{body_with, language_of, statics_of}
 use Rattle.java_core.specs.Untagged.{bare_sts, untag_body, untag_method, untagged}
 use Rattle.java_meaning.proofs.Layouts.{places}
 use Rattle.java_meaning.proofs.Moves.{then_some}
-use Rattle.fact_model.specs.InRange.{InRange}
-use Rattle.fact_model.specs.InOrder.{InOrder}
-use Rattle.fact_model.specs.Flowing.{AreSets}
-use Rattle.fact_model.specs.Entries.{IsTable}
 use Rattle.fact_model.specs.declared.facts.Facts.{Facts}
 use Rattle.fact_model.specs.declared.sets.PointsTo.{PointsTo}
 use Rattle.fact_model.specs.declared.sets.Table.{Table}
-use Rattle.hier_model.specs.Hierarchies.{Hierarchy, IsHierarchyOf}
-use Rattle.hier_rules.specs.First.{first_broken}
+use Rattle.hier_model.specs.Hierarchies.{Hierarchy}
 use Rattle.flow_rules.specs.declared.items.ColumnItem.TheVariants as column
 use Rattle.flow_rules.specs.declared.items.RowItem.TheVariants as row
 use Rattle.flow_rules.specs.Labels.{label_sts}
 use Rattle.flow_rules.specs.Operands.{variable_row, result_in}
 use Rattle.flow_rules.specs.Parts.{Part, a_load, an_element, a_creation, a_call, a_static_call, a_super_call, a_test, a_pair, a_set, a_store, an_element_store, a_return, parts_of}
 use Rattle.flow_rules.specs.Lists.{site_in}
-use Rattle.flow_rules.specs.Facts.{numbers, IsFactsOf}
+use Rattle.flow_rules.specs.Facts.{numbers}
 use Rattle.run_cover.specs.Covers.{Sets, solved, is_seen, are_seen, spot_set, labelled_with, labelled_body, watched}
 use Rattle.run_cover.specs.Families.{Set, ArePlain}
 use Rattle.run_cover.specs.Watched.{Of}
@@ -39,7 +34,6 @@ use Rattle.run_cover.proofs.Covered.{method_parts}
 use Rattle.run_cover.proofs.HasRows.{method_of, of_method}
 use Rattle.run_cover.proofs.Held.{default_plain}
 use Rattle.run_cover.proofs.Untagging.{same_env, untyped_params}
-use Rattle.facts_order.proofs.Pairs.{IsPlaced}
 use Rattle.rebuild_model.specs.Renaming.{Renaming, retyped, retyped_if}
 use Rattle.rebuild_model.specs.Matches.{IsStaticField, IsStaticMethod, MatchesSts}
 use Rattle.rebuild_model.specs.Members.{HasTypes, HasCode, new_types}

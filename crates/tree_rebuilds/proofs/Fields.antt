@@ -1,12 +1,11 @@
 -- The fields of the written program: those that stand at nodes, and the static ones of the holders.
 use Rattle.std.proofs.Common.{◌≡◌, ℕ, suc, ◌&&◌, Bool, true, false, List, [], ◌∷◌, Option, Some, Contains, refl, sym, ap, ◌∙◌, subst, arith, inl, inr, ⊎_elim}
 use Rattle.std.specs.Prelude.{◌⊎◌, slice_get, ◌==◌}
-use Rattle.std.specs.List.{list_any}
 use Rattle.std.specs.Option.{option_map_or}
-use Rattle.std.proofs.lemmas.Bool.{false≢true, and_parts, and_from, or_left, eqb-true, eq-eqb}
+use Rattle.std.proofs.lemmas.Bool.{false≢true, and_parts, and_from, eqb-true, eq-eqb}
 use Rattle.kaba_base.specs.declared.words.Keyword.TheVariants.{Public, Static}
 use Rattle.java_tree.specs.Syntax.{MemberTree, FieldTree, DeclTree}
-use Rattle.java_core.specs.Programs.{Plain, PlainClass, PlainField, PlainMethod}
+use Rattle.java_core.specs.Programs.{Plain, PlainClass, PlainField}
 use Rattle.name_rules.specs.Outline.{FieldAt, fields_declared, field_member as declared_field, field_outline, types_in}
 use Rattle.java_core.specs.Untagged.{untag_field, untagged}
 use Rattle.fact_model.specs.declared.facts.Facts.{Facts}
@@ -15,7 +14,7 @@ use Rattle.hier_model.specs.Hierarchies.{Hierarchy, is_class_node}
 use Rattle.flow_rules.specs.declared.items.ColumnItem.{ColumnItem}
 use Rattle.flow_rules.specs.declared.items.ColumnItem.TheVariants as column
 use Rattle.flow_rules.specs.declared.items.RowItem.TheVariants as row
-use Rattle.flow_rules.specs.Facts.{numbers, is_holder, column_info}
+use Rattle.flow_rules.specs.Facts.{numbers, column_info}
 use Rattle.flow_rules.proofs.Listed.{first, one_from, when_from, when_has}
 use Rattle.facts_order.proofs.Columns.{Stands as IsOfText, for_field, for_declaration, for_body, for_mark, column_stands}
 use Rattle.flow_rules.proofs.NumberedItems.{numbered_columns}
@@ -26,7 +25,7 @@ use Rattle.written_tree.specs.Names.{nowhere, modifier, written_type}
 use Rattle.written_tree.specs.Members.{field_member, static_field_member, class_members, holder_members}
 use Rattle.written_tree.specs.Written.{type_tree, java_tree}
 use Rattle.tree_rebuilds.proofs.Outlined.{field_there, field_back, member_field_from, member_field_has}
-use Rattle.tree_rebuilds.proofs.Apart.{any_there, holder_class}
+use Rattle.tree_rebuilds.proofs.Apart.{holder_class}
 use Rattle.tree_rebuilds.proofs.Nodes.{by_node, items, tree, node_tree, old_tree, node_at, holder_at, node_number, holder_number, Declares, a_node, a_holder, declares}
 use Rattle.tree_rebuilds.proofs.Members.{IsMember, a_field, a_body, a_head, a_filler, class_from, field_has, IsStatic, a_static_field, a_static_method, holder_from, static_field_has}
 use Rattle.tree_rebuilds.proofs.Retyped.{field_row, type_is}

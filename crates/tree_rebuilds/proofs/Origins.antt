@@ -2,31 +2,29 @@
 use Rattle.std.proofs.Common.{◌≡◌, ℕ, suc, ◌&&◌, Bool, true, false, [], ◌∷◌, Option, Some, None, Contains, refl, sym, ap, ◌∙◌, subst, arith, inl, inr, ⊎_elim}
 use Rattle.std.specs.Prelude.{◌⊎◌, ◌==◌, slice_get}
 use Rattle.std.specs.Option.{option_map_or}
-use Rattle.std.specs.List.{list_any}
-use Rattle.std.proofs.lemmas.Bool.{false≢true, and_parts, and_from, or_right, eqb-true, eq-eqb}
+use Rattle.std.proofs.lemmas.Bool.{false≢true, and_parts, and_from, eqb-true, eq-eqb}
 use Rattle.kaba_base.specs.declared.words.Keyword.TheVariants.{Public, Static}
 use Rattle.std.proofs.lemmas.Option.{same_Some}
 use Rattle.kaba_order.specs.Orders.{is_live}
 use Rattle.java_tree.specs.Syntax.{MemberTree, MethodTree, Statements, DeclTree}
 use Rattle.java_core.specs.Trees.{Sts}
-use Rattle.java_core.specs.Programs.{Plain, PlainClass, PlainField, PlainMethod}
+use Rattle.java_core.specs.Programs.{Plain, PlainClass, PlainMethod}
 use Rattle.name_rules.specs.Outline.{MethodAt, methods_declared, method_member}
-use Rattle.java_core.specs.Untagged.{untag_method, untagged}
+use Rattle.java_core.specs.Untagged.{untag_method}
 use Rattle.fact_model.specs.declared.facts.Facts.{Facts}
 use Rattle.fact_model.specs.declared.sets.PointsTo.{PointsTo}
 use Rattle.hier_model.specs.Hierarchies.{Hierarchy, is_class_node}
 use Rattle.flow_rules.specs.declared.items.ColumnItem.TheVariants as column
-use Rattle.flow_rules.specs.Facts.{is_holder}
 use Rattle.flow_rules.proofs.Listed.{first, one_from, map_from, when_from, when_has}
-use Rattle.rebuild_model.specs.Renaming.{Renaming, renaming_of}
+use Rattle.rebuild_model.specs.Renaming.{renaming_of}
 use Rattle.rebuild_model.specs.Members.{IsStaticMethodOf}
 use Rattle.rebuild_looks.proofs.Fields.{method_holder}
 use Rattle.written_tree.specs.Names.{nowhere, modifier}
 use Rattle.written_tree.specs.Members.{filling, head, body, static_method_member, class_members, interface_heads, holder_members}
-use Rattle.written_tree.specs.Written.{type_tree, java_tree}
-use Rattle.tree_rebuilds.proofs.Outlined.{IsResolved, method_there, method_back, member_method_from, member_method_has}
-use Rattle.tree_rebuilds.proofs.Apart.{any_there, holder_class}
-use Rattle.tree_rebuilds.proofs.Nodes.{by_node, items, tree, node_tree, old_tree, holder_at, holder_number, Declares, a_node, a_holder, declares}
+use Rattle.written_tree.specs.Written.{type_tree}
+use Rattle.tree_rebuilds.proofs.Outlined.{method_there, method_back, member_method_from, member_method_has}
+use Rattle.tree_rebuilds.proofs.Apart.{holder_class}
+use Rattle.tree_rebuilds.proofs.Nodes.{items, tree, node_tree, old_tree, holder_at, holder_number, Declares, a_node, a_holder, declares}
 use Rattle.tree_rebuilds.proofs.Members.{IsMember, a_field, a_body, a_head, a_filler, class_from, interface_from, in_class as class_mods, IsStatic, a_static_field, a_static_method, holder_from, static_method_has}
 use Rattle.tree_rebuilds.proofs.Given.{Given, T, stands_from}
 use Rattle.tree_rebuilds.proofs.Resolved.{BodiesMatch, owner_is, name_is, static_is, types_are, code_is}

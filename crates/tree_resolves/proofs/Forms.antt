@@ -144,7 +144,8 @@ module _ {P Q : Plain} {F : Facts} {pt : PointsTo} {H : Hierarchy} (G : Given P 
   if_known None f r = tt
   if_known (Some e) (f_some a) r = ex_known false e a r
 
-  set_known : {s : List ℕ} (v : Ex) (e : Option Ex) → FormedOption P k s (bare_if e) → Rows (parts_set P type m h v e) → OfOption (KnownEx P R₀ H m k O) (bare_if e)
+  set_known : {s : List ℕ} (v : Ex) (e : Option Ex) → FormedOption P k s (bare_if e) → Rows (parts_set P type m h v e)
+      → OfOption (KnownEx P R₀ H m k O) (bare_if e)
   set_known v None f r = tt
   set_known v (Some e) (f_some a) r = ex_known false e a (left (ps false e) _ r)
 
@@ -197,7 +198,8 @@ module _ {P Q : Plain} {F : Facts} {pt : PointsTo} {H : Hierarchy} (G : Given P 
     sts_known no_st f r = tt
     sts_known (st_then x xs) (f_st_then a b) r = (st_known x a (left (parts_st P type m h x) _ r), sts_known xs b (right (parts_st P type m h x) _ r))
 
-    arms_known : {l : Bool} {s : List ℕ} (a : Arms) → FormedArms P k l s (bare_arms a) → Rows (parts_arms P type m h a) → InArms (known P R₀ H m k O) (bare_arms a)
+    arms_known : {l : Bool} {s : List ℕ} (a : Arms) → FormedArms P k l s (bare_arms a) → Rows (parts_arms P type m h a)
+        → InArms (known P R₀ H m k O) (bare_arms a)
     arms_known no_other f r = tt
     arms_known (otherwise xs) (f_otherwise a) r = sts_known xs a r
     arms_known (arm e xs more) (f_arm a b c) r =

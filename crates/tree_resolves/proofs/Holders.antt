@@ -2,12 +2,11 @@
 use Rattle.std.proofs.Common.{◌≡◌, ◌≢◌, ℕ, suc, ◌&&◌, true, false, List, [], ◌∷◌, Option, Some, None, Contains, refl, sym, ap, ◌∙◌, subst, arith, inl, inr, ⊎_elim}
 use Rattle.std.specs.Prelude.{◌⊎◌, ◌==◌, slice_get, length}
 use Rattle.std.specs.Option.{is_some, option_map_or}
-use Rattle.std.specs.List.{list_any}
 use Rattle.std.specs.Str.{bytes_eq}
-use Rattle.std.proofs.lemmas.Bool.{false≢true, and_from, and_parts, or_left, or_right, eqb-true, eq-eqb}
+use Rattle.std.proofs.lemmas.Bool.{false≢true, and_from, and_parts, or_left, eqb-true, eq-eqb}
 use Rattle.std.proofs.lemmas.Option.{same_Some}
 use Rattle.std.proofs.lemmas.Slice.Eq.{bytes_eq-Decides}
-use Rattle.java_tree.specs.Syntax.{DeclTree, MemberTree, FieldTree, MethodTree}
+use Rattle.java_tree.specs.Syntax.{MemberTree, FieldTree, MethodTree}
 use Rattle.java_core.specs.Programs.{Plain, PlainClass, PlainField, PlainMethod}
 use Rattle.java_core.specs.Classes.{field_of, own_field_of, is_field_of, supers_of, IsSubclass, same_class, through}
 use Rattle.java_core.specs.Formed.{variables_of}
@@ -24,14 +23,14 @@ use Rattle.flow_rules.specs.declared.items.RowItem.TheVariants as row
 use Rattle.flow_rules.specs.Facts.{is_holder}
 use Rattle.flow_rules.proofs.Listed.{first, at_contains, contains_at, at_map, map_at, map_has, when_has, position_there, one_from}
 use Rattle.name_rules.specs.declared.parts.Here.{Here}
-use Rattle.name_rules.specs.Outline.{FieldAt, MethodAt, name_of, fields_in, methods_in, types_in, type_named, is_known, is_type_name, is_static, outline, field_outline, method_outline, fields_declared, methods_declared}
+use Rattle.name_rules.specs.Outline.{FieldAt, MethodAt, name_of, fields_in, methods_in, type_named, is_known, is_type_name, is_static, outline, field_outline, method_outline, fields_declared, methods_declared}
 use Rattle.name_rules.specs.Meanings.{class_named, IsMet}
 use Rattle.rebuild_model.specs.Renaming.{Renaming}
 use Rattle.written_tree.specs.Names.{nowhere, class_name, written_type}
 use Rattle.written_tree.specs.Members.{head, body, holder_members, static_field_member, static_method_member}
-use Rattle.tree_rebuilds.proofs.Apart.{any_there, holder_class, no_holder}
+use Rattle.tree_rebuilds.proofs.Apart.{holder_class, no_holder}
 use Rattle.tree_rebuilds.proofs.Outlined.{fields_each, methods_each, declared_has, member_field_has, member_method_has}
-use Rattle.tree_rebuilds.proofs.Nodes.{tree, node_tree, old_tree, tree_name}
+use Rattle.tree_rebuilds.proofs.Nodes.{node_tree, old_tree, tree_name}
 use Rattle.tree_rebuilds.proofs.Members.{static_field_has, static_method_has}
 use Rattle.tree_resolves.specs.Stages.{HasHolder, FindsField, FindsMethod}
 use Rattle.tree_resolves.proofs.Origins.{written, R, old_words, HasMethod, node_body, node_head, node_filler, interface_head, static_method, HasField, node_field, static_field, method_origin, field_origin}
@@ -166,7 +165,8 @@ module _ {P Q : Plain} {F : Facts} {pt : PointsTo} {H : Hierarchy} (G : Given P 
       let y : Contains (static_field_member P R₀ H old.owner f old) t = when_has (old.is_static && (old.owner == old.owner)) (t ∷ []) t mine (first t []) in
       let d : Contains (fields_declared (suc h.index) (old_tree P Q F H old.owner h.class)) x =
       member_field_has (suc h.index) (holder_members P R₀ H old.owner) x t (static_field_has P R₀ H old.owner f old t e y) (first x []) in
-      let c = field_there x (declared_has fields_declared 1 T (fields_each 1 T) x h.index (suc h.index) (old_tree P Q F H old.owner h.class) h.stands (omega arith) d) in
+      let c = field_there x (declared_has fields_declared 1 T (fields_each 1 T) x h.index (suc h.index) (old_tree P Q F H old.owner h.class) h.stands
+      (omega arith) d) in
       let test = and_from (suc h.index == suc h.index) (bytes_eq old.name old.name) (eq-eqb (suc h.index) (suc h.index) refl)
       ((bytes_eq-Decides old.name old.name).1 refl) in
       let g = position_there (λ k. is_field_of (suc h.index) old.name k) O.fields (field_outline types x) c test in
@@ -228,7 +228,8 @@ module _ {P Q : Plain} {F : Facts} {pt : PointsTo} {H : Hierarchy} (G : Given P 
         (first t []) in
         let c : Contains (methods_declared (suc h.index) (old_tree P Q F H old.owner h.class)) x =
         member_method_has (suc h.index) false (holder_members P R₀ H old.owner) x t (static_method_has P R₀ H old.owner d old t e y) (first x []) in
-        let z = method_there x (declared_has methods_declared 1 T (methods_each 1 T) x h.index (suc h.index) (old_tree P Q F H old.owner h.class) h.stands (omega arith) c) in
+        let z = method_there x (declared_has methods_declared 1 T (methods_each 1 T) x h.index (suc h.index) (old_tree P Q F H old.owner h.class)
+        h.stands (omega arith) c) in
         record {
           holder = has_holder m k at here old.owner h;
           method = z.0;

@@ -136,7 +136,8 @@ module _ {P Q : Plain} {F : Facts} {pt : PointsTo} {H : Hierarchy} (G : Given P 
 
   pub column_number : (c : ℕ) (i : ColumnItem) → slice_get (items P Q F H) c ≡ Some i → (numbers P Q).column i ≡ Some c
   unfolding numbers
-  column_number c i e = let z = map_at (λ c. c.item) (columns_of P Q) c i e in ap (λ j. (numbers P Q).column j) (sym z.2) ∙ (numbered_columns P Q).back c z.0 z.1
+  column_number c i e = let z = map_at (λ c. c.item) (columns_of P Q) c i e in ap (λ j. (numbers P Q).column j) (sym z.2)
+      ∙ (numbered_columns P Q).back c z.0 z.1
 
   pub field_name_is : (c f : ℕ) → (numbers P Q).column (column.Fld f) ≡ Some c → (R P Q F H).field_name f ≡ member_name H c
   unfolding renaming_of

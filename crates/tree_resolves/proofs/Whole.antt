@@ -29,7 +29,7 @@ use Rattle.written_tree.specs.Members.{parameters, filling, value_of_none}
 use Rattle.tree_rebuilds.proofs.Nodes.{tree, old_tree}
 use Rattle.tree_resolves.specs.Stages.{IsStage}
 use Rattle.tree_resolves.specs.Known.{known}
-use Rattle.java_meaning.specs.EachStatement.{OfOption, InSt, InSts, InArms}
+use Rattle.java_meaning.specs.EachStatement.{InSts}
 use Rattle.tree_resolves.proofs.Origins.{R, HasMethod, node_body, node_head, node_filler, interface_head, static_method, method_origin}
 use Rattle.tree_resolves.proofs.Modifiers.{Given, body_there}
 use Rattle.tree_resolves.proofs.Supers.{types_are, named}

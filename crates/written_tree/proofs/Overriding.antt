@@ -1,10 +1,8 @@
 -- An overriding method that calls super, and the program that is written of its hierarchy: class A { int f; int m() { return this.f; } }, class B
 -- extends A { int m() { return super.m() + 1; } }, and a main with A x = new B() that prints x.m().
-use Rattle.std.proofs.Common.{◌≡◌, ℕ, Bool, true, false, List, [], ◌∷◌, refl, lit≤}
-use Rattle.std.specs.Prelude.{ℤ, pos, Option, Some, None, codes}
-use Rattle.std.specs.declared.vec.Vec.{Vec}
-use Rattle.std.specs.declared.alloc.Global.{Global}
-use Rattle.kaba_base.specs.declared.words.Keyword.TheVariants.{Public, Abstract, Static}
+use Rattle.std.proofs.Common.{◌≡◌, true, false, List, [], ◌∷◌, refl, lit≤}
+use Rattle.std.specs.Prelude.{pos, Some, None, codes}
+use Rattle.kaba_base.specs.declared.words.Keyword.TheVariants.{Public, Abstract}
 use Rattle.java_lex.specs.declared.Mark.TheVariants as marks
 use Rattle.java_tree.specs.declared.TypeBase.TheVariants as base
 use Rattle.java_tree.specs.Syntax.{IntLit, ThisRef, NameRef, FieldOf, CallOn, SuperCallOf, NewOf, BinaryOf, no_more, LocalOf, PrintOf, ReturnOf, no_statements, and_then, FieldTree, MethodTree, DeclTree, ClassTree, InterfaceTree}
@@ -31,8 +29,8 @@ use Rattle.rebuild_model.proofs.Worked.{listed}
 abbrev the_main : PlainMethod
 the_main =
     a_main 3 (variable (codes "x") (plain (ty.Class (record { 0 = 1 }))) 100 ∷ [])
-      (st_then (declare (at 100) 1 (Some (create (at 104) 0 2 no_ex)))
-          (st_then (print (at 110) true (Some (call (at 122) (local (at 120) 1) (codes "m") no_ex))) no_st))
+    (st_then (declare (at 100) 1 (Some (create (at 104) 0 2 no_ex)))
+    (st_then (print (at 110) true (Some (call (at 122) (local (at 120) 1) (codes "m") no_ex))) no_st))
 
 abbrev program : Plain
 program =

@@ -1,31 +1,28 @@
 -- Two sites of one class, and the types that are written of them: class P { int a; int b; }, and a main with P x = new P(), P y = new P(), x.a = 1,
 -- y.b = 2, that prints x.a + y.b, or x == y.
-use Rattle.std.proofs.Common.{◌≡◌, ℕ, Bool, true, false, List, [], ◌∷◌, refl, lit≤}
-use Rattle.std.specs.Prelude.{ℤ, pos, Option, Some, None, codes}
-use Rattle.std.specs.declared.vec.Vec.{Vec}
-use Rattle.std.specs.declared.alloc.Global.{Global}
-use Rattle.kaba_base.specs.declared.words.Keyword.TheVariants.{Public, Abstract, Static}
+use Rattle.std.proofs.Common.{◌≡◌, ℕ, true, false, List, [], ◌∷◌, refl, lit≤}
+use Rattle.std.specs.Prelude.{ℤ, pos, Some, None, codes}
 use Rattle.java_lex.specs.declared.Mark.TheVariants as marks
 use Rattle.java_tree.specs.declared.TypeBase.TheVariants as base
-use Rattle.java_tree.specs.Syntax.{IntLit, ThisRef, NameRef, FieldOf, CallOn, SuperCallOf, NewOf, BinaryOf, no_more, LocalOf, PrintOf, ReturnOf, no_statements, and_then, Expression, Statement, AssignOf, MemberTree, FieldTree, MethodTree, DeclTree, ClassTree, InterfaceTree}
+use Rattle.java_tree.specs.Syntax.{IntLit, NameRef, FieldOf, NewOf, BinaryOf, no_more, LocalOf, PrintOf, no_statements, and_then, Expression, Statement, AssignOf, MemberTree, FieldTree, DeclTree, ClassTree, InterfaceTree}
 use Rattle.java_core.specs.declared.TyBase.TheVariants as ty
 use Rattle.java_core.specs.declared.BinOp.TheVariants as bin
 use Rattle.java_core.specs.declared.Op.TheVariants as op
-use Rattle.java_core.specs.Trees.{number, this, local, field, call, super_call, create, binary, no_ex, declare, print, return, no_st, st_then, Ex, St, assign, to_field}
-use Rattle.java_core.specs.Programs.{Plain, PlainMethod}
+use Rattle.java_core.specs.Trees.{number, local, field, create, binary, no_ex, declare, print, no_st, st_then, Ex, St, assign, to_field}
+use Rattle.java_core.specs.Programs.{Plain}
 use Rattle.java_core.specs.Classes.{below, member_field, field_of, declaration_of, search_order, super_method}
 use Rattle.java_core.specs.Types.{call_signature, super_signature, field_in, access_type}
 use Rattle.fact_model.specs.declared.facts.Facts.{Facts}
-use Rattle.fact_model.specs.declared.facts.ColKind.TheVariants.{Fld, Dcl, Def}
+use Rattle.fact_model.specs.declared.facts.ColKind.TheVariants.{Fld}
 use Rattle.hier_model.specs.Hierarchies.{Hierarchy, node}
 use Rattle.flow_rules.specs.Operands.{type_in}
 use Rattle.flow_rules.specs.Parts.{parts_of}
 use Rattle.flow_rules.specs.Numbered.{rows_of, columns_of, row_number, column_number}
 use Rattle.flow_rules.specs.Facts.{numbers}
 use Rattle.rebuild_model.specs.Renaming.{renaming_of}
-use Rattle.written_tree.specs.Names.{nowhere, id, modifier}
+use Rattle.written_tree.specs.Names.{nowhere, id}
 use Rattle.written_tree.specs.Written.{java_tree}
-use Rattle.written_tree.proofs.Small.{at, plain, class, under, a_field, variable, a_method, a_main, column, site, hierarchy, at_node, type, an_head, main_tree}
+use Rattle.written_tree.proofs.Small.{at, plain, class, under, a_field, variable, a_main, column, site, hierarchy, at_node, type, main_tree}
 use Rattle.rebuild_model.proofs.Worked.{listed}
 
 abbrev sets : ℕ → ℕ → List ℕ → ℤ → St
@@ -38,8 +35,8 @@ program shown =
       classes = class (codes "Object") None 0 ∷ class (codes "P") (under 0) 6 ∷ class (codes "Main") (under 0) 50 ∷ [];
       fields = a_field 1 (codes "a") (plain ty.Int) 20 ∷ a_field 1 (codes "b") (plain ty.Int) 30 ∷ [];
       methods = a_main 2 (variable (codes "x") (plain (ty.Class (record { 0 = 1 }))) 100 ∷ variable (codes "y") (plain (ty.Class (record { 0 = 1 }))) 110 ∷ [])
-      (st_then (declare (at 100) 1 (Some (create (at 104) 0 1 no_ex))) (st_then (declare (at 110) 2 (Some (create (at 114) 1 1 no_ex)))
-            (st_then (sets 120 1 (codes "a") (pos 1)) (st_then (sets 130 2 (codes "b") (pos 2)) (st_then (print (at 140) true (Some shown)) no_st))))) ∷ [];
+          (st_then (declare (at 100) 1 (Some (create (at 104) 0 1 no_ex))) (st_then (declare (at 110) 2 (Some (create (at 114) 1 1 no_ex)))
+          (st_then (sets 120 1 (codes "a") (pos 1)) (st_then (sets 130 2 (codes "b") (pos 2)) (st_then (print (at 140) true (Some shown)) no_st))))) ∷ [];
       slots = [];
       main = 0;
     }

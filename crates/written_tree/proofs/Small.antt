@@ -1,8 +1,6 @@
 -- Small programs and hierarchies from their parts.
-use Rattle.std.proofs.Common.{◌≡◌, ℕ, Bool, true, false, List, [], ◌∷◌, Option, Some, None, refl, length, ◌≤◌, lit≤, lit<}
+use Rattle.std.proofs.Common.{ℕ, Bool, true, false, List, [], ◌∷◌, Option, Some, None}
 use Rattle.std.specs.Prelude.{codes}
-use Rattle.std.specs.declared.vec.Vec.{Vec}
-use Rattle.std.specs.declared.alloc.Global.{Global}
 use Rattle.kaba_base.specs.declared.NodeId.{NodeId}
 use Rattle.kaba_base.specs.declared.ClassId.{ClassId}
 use Rattle.kaba_base.specs.declared.words.Keyword.TheVariants.{Public, Static}
@@ -17,12 +15,10 @@ use Rattle.java_core.specs.declared.TyBase.{TyBase}
 use Rattle.java_core.specs.declared.TyBase.TheVariants as ty
 use Rattle.java_core.specs.Trees.{Tag, Sts}
 use Rattle.java_core.specs.Programs.{PlainClass, PlainField, PlainLocal, PlainMethod}
-use Rattle.fact_model.specs.declared.facts.ClassInfo.{ClassInfo}
 use Rattle.fact_model.specs.declared.facts.ColumnInfo.{ColumnInfo}
 use Rattle.fact_model.specs.declared.facts.ColKind.{ColKind}
 use Rattle.fact_model.specs.declared.facts.SiteInfo.{SiteInfo}
 use Rattle.hier_model.specs.Hierarchies.{Hierarchy, node}
-use Rattle.kaba_order.specs.Orders.{Ordered}
 use Rattle.written_tree.specs.Names.{nowhere, modifier}
 
 abbrev pub at : ℕ → Tag
