@@ -43,24 +43,27 @@ none_field : (b : Bool) (o : Option ℕ) (f : ℕ) → o ≡ Some f → (not b &
 none_field true o f e = refl
 none_field false o f e = ap is_none e
 
+-- a method that is written: the program and the method without tags, its variables, and the renamings by the numbers of nodes and by the placed types
+pub record BareBody : Type 0 where
+  pub program : Plain
+  pub old : PlainMethod
+  pub env : Env
+  pub by_node : Renaming
+  pub renaming : Renaming
+
+abbrev pub bare_body : Plain → Hierarchy → Places → ℕ → PlainMethod → BareBody
+bare_body Q H T m k = record {
+  program = untagged Q;
+  old = untag_method k;
+  env = env_of m (untag_method k);
+  by_node = renaming_of (untagged Q) Q H by_number;
+  renaming = renaming_of (untagged Q) Q H T;
+}
+
 module _ (Q : Plain) (H : Hierarchy) (U O : Plain) (T : Places) (K : KnowsNames (untagged Q) Q H U O T) (formed : IsFormed (untagged Q))
     (m : ℕ) (k : PlainMethod) (stands : slice_get Q.methods m ≡ Some k) (here : Here) (static_here : here.is_static ≡ k.is_static)
     (owner : k.is_static ≡ true → here.owner ≡ T.holder_of k.owner) where
-  abbrev P : Plain
-  P = untagged Q
-
-  abbrev old : PlainMethod
-  old = untag_method k
-
-  abbrev g : Env
-  g = env_of m (untag_method k)
-
-  abbrev by_node : Renaming
-  by_node = renaming_of (untagged Q) Q H by_number
-
-  abbrev R : Renaming
-  R = renaming_of (untagged Q) Q H T
-
+  open bare_body Q H T m k use {program as P, old, env as g, by_node, renaming as R}
   open walked P m k use {type, tree, Stands}
 
   abbrev pub IsTyped : Ex → Type 0

@@ -31,7 +31,7 @@ use Rattle.flow_rules.specs.Numbered.{row_if, form_rows, row_number}
 use Rattle.flow_rules.specs.Facts.{is_holder, numbers}
 use Rattle.java_core.specs.Untagged.{untag_local, untag_method, untagged}
 use Rattle.flow_rules.proofs.Listed.{one}
-use Rattle.run_cover.proofs.Included.{get_map}
+use Rattle.std.proofs.lemmas.Option.{slice_get-map}
 use Rattle.run_cover.proofs.Untagging.{same_env}
 use Rattle.run_cover.proofs.HasNumbers.{form_row}
 use Rattle.run_cover.proofs.HasRows.{method_of, variable_row_of}
@@ -135,10 +135,10 @@ module _ (Q : Plain) (H : Hierarchy) (U O : Plain) (T : Places) (K : KnowsNames 
     pub variable_has : (i : ℕ) (v : PlainLocal) (c : ClassId) → slice_get (variables_of old) i ≡ Some v → v.ty.base ≡ Class c → HasRow (variable_row m old i)
     variable_has i v c e b =
         let t : ObjectType = record { class = c; dim = v.ty.dim } in
-        let here : slice_get (types_of (variables_of old)) i ≡ Some v.ty = get_map (λ (l : PlainLocal). l.ty) (variables_of old) i
+        let here : slice_get (types_of (variables_of old)) i ≡ Some v.ty = slice_get-map (λ (l : PlainLocal). l.ty) (variables_of old) i
         ∙ ap (option_map (λ (l : PlainLocal). l.ty)) e in
         let there : variable_object k i ≡ Some t =
-        ap object_if (sym (get_map (λ (l : PlainLocal). l.ty) (k.params ++ k.locals) i) ∙ ap (λ g. slice_get g.locals i) (sym (same_env m k)) ∙ here)
+        ap object_if (sym (slice_get-map (λ (l : PlainLocal). l.ty) (k.params ++ k.locals) i) ∙ ap (λ g. slice_get g.locals i) (sym (same_env m k)) ∙ here)
         ∙ ap (λ z. object_if (Some (record { base = z; dim = v.ty.dim }))) b in
         let r = variable_row_of Q formed m k i t stands there in
         has_row (variable_row m old i) r.0 (ap (λ z. row_number P Q (variable_in k.slot (nat_lt i z) m i)) (length-map k.params untag_local) ∙ r.1)

@@ -9,7 +9,7 @@ use Rattle.java_core.specs.Programs.{Plain, PlainLocal, PlainMethod}
 use Rattle.java_core.specs.Formed.{variables_of}
 use Rattle.java_core.specs.Untagged.{bare_st, bare_sts, bare_arms, untag_local, untag_method, untagged}
 use Rattle.java_meaning.proofs.Calls.{mapped_some}
-use Rattle.run_cover.proofs.Included.{get_map}
+use Rattle.std.proofs.lemmas.Option.{slice_get-map}
 use Rattle.name_rules.specs.Outline.{MethodAt, outline, methods_in}
 use Rattle.name_rules.specs.Resolves.{Counts, declares, declares_all, declares_arms, BodyResolves, r_no_body, r_body, BodiesResolve, r_no_methods, r_method, Resolves}
 use Rattle.body_rebuilds.specs.Known.{HasLocalsInOrder}
@@ -60,7 +60,7 @@ same_count xs ys =
 pub resolved_in_order : (declarations : List DeclTree) (V : Plain) → Resolves declarations V → HasLocalsInOrder (untagged V)
 unfolding HasLocalsInOrder
 resolved_in_order declarations V r m k xs e b =
-    let h = mapped_some untag_method (slice_get V.methods m) k (sym (get_map untag_method V.methods m) ∙ e) in
+    let h = mapped_some untag_method (slice_get V.methods m) k (sym (slice_get-map untag_method V.methods m) ∙ e) in
     let z = body_some h.0.body xs (ap (λ (z : PlainMethod). z.body) h.2 ∙ b) in
     let at = body_at (outline declarations) (methods_in declarations) V.methods m h.0 r.bodies h.1 in
     subst (λ z. Counts (length z.params) (declares_all xs) (length (variables_of z))) h.2

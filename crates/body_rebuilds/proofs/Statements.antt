@@ -9,7 +9,7 @@ use Rattle.java_tree.specs.declared.TypeName.{TypeName}
 use Rattle.java_tree.specs.Syntax.{Expression, Statement, LocalOf, BlockOf, ForOf, Statements, no_statements, OptionalStatement, absent, present}
 use Rattle.java_core.specs.Trees.{Tag, at_place, Ex, Target, to_local, to_static, to_own, to_field, to_element, no_target, this, St, Sts, Arms, declare, block, assign, act, print, choose, loop, return, break, continue, no_st, st_then, no_other, otherwise, arm}
 use Rattle.java_core.specs.Programs.{Plain, PlainLocal, PlainMethod}
-use Rattle.java_core.specs.Types.{Env, env_of, field_in, static}
+use Rattle.java_core.specs.Types.{env_of, field_in, static}
 use Rattle.java_core.specs.Typing.{TypedTarget, TypedTest, TypedSt, TypedSts, TypedArms, t_to_field, t_to_element, t_test, t_declare_as, t_block, t_assign, t_act, t_print, t_choose, t_loop, t_return, t_st_then, t_otherwise, t_arm}
 use Rattle.java_core.specs.Formed as formed_names
 use Rattle.java_core.specs.Formed.{IsHead, of_while, of_for, IsFormed, FormedTarget, FormedOption, FormedSt, FormedSts, FormedArms, variables_of, scope_after_all, is_at_most_one, f_to_local, f_to_static, f_to_field, f_to_element, f_some, f_declare, f_block, f_assign, f_act, f_print, f_choose, f_loop, f_return, f_st_then, f_otherwise, f_arm}
@@ -21,10 +21,10 @@ use Rattle.name_rules.specs.declared.parts.Bound.{Bound}
 use Rattle.name_rules.specs.declared.parts.Here.{Here}
 use Rattle.name_rules.specs.Resolves as names
 use Rattle.name_rules.specs.Resolves.{target, bound, Counts, declares, declares_all, declares_arms, ResolvesTo, ResolvesIf, r_none, r_some, r_field, r_this, r_index, IsLocal, StResolves, StsResolve, ArmsResolve, PartResolves, r_declare, r_block, r_assign, r_act, r_print, r_choose, r_while, r_for, r_return, r_break, r_continue, r_no_statements, r_and_then, r_no_else, r_else, r_arm, r_absent, r_present}
-use Rattle.written_tree.specs.Names.{nowhere, by_number, written_type}
+use Rattle.written_tree.specs.Names.{nowhere, written_type}
 use Rattle.written_tree.specs.Bodies as text
 use Rattle.written_tree.specs.Bodies.{variable_name, loop_tree, field_name, written_if, written_target, written_st, written_sts, written_part, written_arms, written_else}
-use Rattle.rebuild_model.specs.Renaming.{Places, Renaming, renaming_of, retyped}
+use Rattle.rebuild_model.specs.Renaming.{Places, renaming_of, retyped}
 use Rattle.rebuild_model.specs.Matches.{Matches, MatchesIf, MatchesTarget, MatchesSt, MatchesSts, MatchesArms, m_none, m_some, m_to_local, m_to_static, m_to_own, m_to_field, m_to_element, m_declare, m_block, m_assign, m_act, m_print, m_choose, m_loop, m_return, m_break, m_continue, m_no_st, m_st_then, m_no_other, m_otherwise, m_arm}
 use Rattle.body_rebuilds.specs.Known.{KnowsNames}
 use Rattle.body_rebuilds.proofs.Scopes.{Scoped, scoped_more}
@@ -34,27 +34,14 @@ use Rattle.body_rebuilds.proofs.Inverse.{at_local, at_field}
 use Rattle.body_rebuilds.proofs.Found as found
 use Rattle.body_rebuilds.proofs.Found.{row_type_is, field_name_is}
 use Rattle.body_rebuilds.proofs.Expressions as ex
+use Rattle.body_rebuilds.proofs.Expressions.{bare_body}
 use Rattle.run_cover.proofs.Walked.{walked}
 use Rattle.run_cover.proofs.Each.{left, right}
 
 module _ (Q : Plain) (H : Hierarchy) (U O : Plain) (T : Places) (K : KnowsNames (untagged Q) Q H U O T) (formed : IsFormed (untagged Q))
     (m : ℕ) (k : PlainMethod) (stands : slice_get Q.methods m ≡ Some k) (here : Here) (static_here : here.is_static ≡ k.is_static)
     (owner : k.is_static ≡ true → here.owner ≡ T.holder_of k.owner) (new : PlainMethod) where
-  abbrev P : Plain
-  P = untagged Q
-
-  abbrev old : PlainMethod
-  old = untag_method k
-
-  abbrev g : Env
-  g = env_of m (untag_method k)
-
-  abbrev by_node : Renaming
-  by_node = renaming_of (untagged Q) Q H by_number
-
-  abbrev R : Renaming
-  R = renaming_of (untagged Q) Q H T
-
+  open bare_body Q H T m k use {program as P, old, env as g, by_node, renaming as R}
   open walked P m k use {tree, Stands, tree_sts as sts_parts}
 
   abbrev IsTyped : Ex → Type 0

@@ -1,11 +1,9 @@
 -- Bodies and their `this`: each body has one, and one entry among the bodies.
 use Rattle.std.proofs.Common.{◌≡◌, ℕ, zero, suc, ◌+◌, List, [], ◌∷◌, ◌++◌, Option, Some, None, length, refl, sym, ap, ◌∙◌, subst, arith, ⊎_elim}
-use Rattle.std.specs.Prelude.{◌≢◌, ◌≤◌, ◌<◌, nat_lt, Bool, true, false, Contains, All, AllPairs, slice_get}
+use Rattle.std.specs.Prelude.{◌≢◌, ◌≤◌, ◌<◌, nat_lt, true, false, Contains, All, AllPairs, slice_get}
 use Rattle.std.specs.Option.{option_map, option_map_or, is_some}
 use Rattle.std.proofs.lemmas.Option.{same_Some}
-use Rattle.kaba_base.specs.declared.Place.{Place}
 use Rattle.kaba_base.specs.declared.ColId.{ColId}
-use Rattle.java_core.specs.Trees.{Ex, number, character, text, truth, null, this, local, static_field, own_field, field, index, call, static_call, super_call, create, create_array, cast, instance_of, unary, binary, Target, to_local, to_static, to_own, to_field, to_element, no_target}
 use Rattle.java_core.specs.Programs.{Plain, PlainMethod}
 use Rattle.java_core.specs.Typing.{IsTyped}
 use Rattle.java_core.specs.Formed.{IsFormed}
@@ -13,8 +11,6 @@ use Rattle.fact_model.specs.Items.{row_at as info_at, row_this, column_kind, poi
 use Rattle.fact_model.specs.InOrder.{IsDef, HasOneThis}
 use Rattle.fact_model.specs.declared.facts.Facts.{Facts}
 use Rattle.fact_model.specs.declared.facts.ColKind.TheVariants as kind
-use Rattle.flow_rules.specs.declared.items.ObjectType.{ObjectType}
-use Rattle.flow_rules.specs.declared.items.Operand.{Operand}
 use Rattle.flow_rules.specs.declared.items.RowItem.{RowItem}
 use Rattle.flow_rules.specs.declared.items.RowItem.TheVariants as row
 use Rattle.flow_rules.specs.declared.items.PointItem.{PointItem}
@@ -25,69 +21,19 @@ use Rattle.flow_rules.specs.declared.items.ColumnItem.{ColumnItem}
 use Rattle.flow_rules.specs.declared.items.ColumnItem.TheVariants as column
 use Rattle.flow_rules.specs.declared.items.Column.{Column}
 use Rattle.flow_rules.specs.Ordered.{each}
-use Rattle.flow_rules.specs.Labels.{label}
-use Rattle.flow_rules.specs.Operands.{variable_in, result_in, type_in}
 use Rattle.flow_rules.specs.Parts.{Part, parts_of}
 use Rattle.flow_rules.specs.Numbered.{row_number, columns_of, column_number, point_number}
 use Rattle.flow_rules.specs.Facts.{this_of_row, site_of_row, column_info, PlainBody, numbers, body_seen, body_if, column_body, param_points, IsFactsOf}
 use Rattle.flow_rules.proofs.Listed.{first, below_at, at_map, index_at, each_has, each_from_zero, map_has, map_from, one_from, all_of}
-use Rattle.facts_order.proofs.Items.{column_at, column_back, row_back}
+use Rattle.flow_rules.proofs.NumberedItems.{numbered_columns, numbered_rows}
 use Rattle.facts_order.proofs.Pairs.{IsPlaced}
 use Rattle.facts_order.proofs.Columns.{Stands, for_field, for_declaration, for_body, for_mark, item_of, numbered_column}
-use Rattle.facts_order.proofs.Numbers.{IsPart, number_in}
-use Rattle.facts_order.proofs.Sites.{numbered_own, part_numbered}
-use Rattle.facts_order.proofs.Forms.{own, own_assign, From, from_ex, from_assign, from_declare, from_return}
-use Rattle.facts_order.proofs.Rows.{Types, for_field as types_field, for_this as types_this, for_result as types_result, for_variable as types_variable, for_part as types_part, row_types, part_from, item_row, row_cases}
-use Rattle.facts_order.proofs.Points.{given_by, IsGiven, Follows, a_static, a_this, a_variable, a_result, a_form, point_of, item_point}
+use Rattle.run_cover.proofs.Numbers.{number_in}
+use Rattle.facts_order.proofs.OwnParts.{HasLabel}
+use Rattle.facts_order.proofs.Sites.{numbered_own, part_numbered, part_labelled}
+use Rattle.facts_order.proofs.Rows.{Types, for_field as types_field, for_this as types_this, for_result as types_result, for_variable as types_variable, for_part as types_part, row_types, item_row, row_cases, all_results, all_variables}
+use Rattle.facts_order.proofs.Points.{IsGiven, Follows, a_static, a_this, a_variable, a_result, a_form, point_of, item_point}
 use Rattle.run_cover.proofs.HasNumbers.{this_row, this_point}
-
--- a part that gives something gives it at a label of the method
-abbrev pub HasLabel : ℕ → Option Operand → Type 0
-HasLabel m None = Unit {0}
-HasLabel m (Some o) = (l : ℕ) × (o.point ≡ Some (point.Expr m l))
-
-module _ (P : Plain) (type : Ex → Option ObjectType) (m : ℕ) (k h : PlainMethod) (ps : List Part) where
-  abbrev in_own : Bool → Ex → List Part
-  in_own u e = own P type m k h ps u e
-
-  is : (q p : Part) → Contains (q ∷ []) p → HasLabel m (given_by q) → HasLabel m (given_by p)
-  is q p c n = subst (λ z. HasLabel m (given_by z)) (one_from q p c) n
-
-  own_labelled : (u : Bool) (e : Ex) (p : Part) → Contains (in_own u e) p → HasLabel m (given_by p)
-  own_labelled u (number t n) p c = absurd (omega (arith, c.1))
-  own_labelled u (character t n) p c = absurd (omega (arith, c.1))
-  own_labelled u (text t n) p c = absurd (omega (arith, c.1))
-  own_labelled u (truth t n) p c = absurd (omega (arith, c.1))
-  own_labelled u (null t) p c = absurd (omega (arith, c.1))
-  own_labelled u (this t) p c = absurd (omega (arith, c.1))
-  own_labelled u (local t n) p c = absurd (omega (arith, c.1))
-  own_labelled u (static_field t n) p c = absurd (omega (arith, c.1))
-  own_labelled u (own_field t f) p c = is _ p c (t.label, refl)
-  own_labelled u (field t e x) p c = is _ p c (t.label, refl)
-  own_labelled u (index t e i) p c = is _ p c (t.label, refl)
-  own_labelled u (call t e x es) p c = is _ p c (t.label, refl)
-  own_labelled u (static_call t d es) p c = is _ p c (t.label, refl)
-  own_labelled u (super_call t x es) p c = is _ p c (t.label, refl)
-  own_labelled u (create t n d es) p c = is _ p c (t.label, refl)
-  own_labelled u (create_array t n v e) p c = is _ p c (t.label, refl)
-  own_labelled u (cast t n v e) p c = is _ p c (t.label, refl)
-  own_labelled u (instance_of t n e d) p c = is _ p c (t.label, refl)
-  own_labelled u (unary t o e) p c = absurd (omega (arith, c.1))
-  own_labelled u (binary t o e d) p c = is _ p c tt
-
-  assign_labelled : (w : Place) (t : Target) (e : Ex) (p : Part) → Contains (own_assign P type m k h ps w t e) p → HasLabel m (given_by p)
-  assign_labelled w (to_local t i) e p c = is _ p c tt
-  assign_labelled w (to_static t f) e p c = is _ p c tt
-  assign_labelled w (to_own t f) e p c = is _ p c tt
-  assign_labelled w (to_field t b x) e p c = is _ p c tt
-  assign_labelled w (to_element t b i) e p c = is _ p c tt
-  assign_labelled w no_target e p c = is _ p c tt
-
-  from_labelled : (p : Part) → From P type m k h ps p → HasLabel m (given_by p)
-  from_labelled p (from_ex z) = own_labelled z.used (label z.number z.form) p z.own_part
-  from_labelled p (from_assign z) = assign_labelled z.place _ _ p z.own_part
-  from_labelled p (from_declare z) = is _ p z.own_part tt
-  from_labelled p (from_return z) = is _ p z.own_part tt
 
 -- a list that has at most one item for each number rises
 module _ {B : Type 0} (key : B → ℕ) where
@@ -118,24 +64,11 @@ abbrev def_number : ColumnItem → Option ℕ
 def_number (column.Def m) = Some m
 def_number _ = None
 
-result_thisless : (s : Option ℕ) (m : ℕ) → this_number (result_in s m) ≡ None
-result_thisless None m = refl
-result_thisless (Some s) m = refl
-
-variable_thisless : (s : Option ℕ) (b : Bool) (m i : ℕ) → this_number (variable_in s b m i) ≡ None
-variable_thisless None b m i = refl
-variable_thisless (Some s) true m i = refl
-variable_thisless (Some s) false m i = refl
-
 module _ (P Q : Plain) (placed : IsPlaced P Q) (formed : IsFormed P) (typed : IsTyped P) where
-  pub part_labelled : (p : Part) → IsPart P Q placed formed p → (m : ℕ) (k : PlainMethod) (e : slice_get Q.methods m ≡ Some k)
-      → Contains (parts_of P m k) p → HasLabel m (given_by p)
-  part_labelled p a m k e c = from_labelled P (type_in P m k) m k (placed.methods m k e).plain (parts_of P m k) p (part_from P Q placed formed typed m k e p c)
-
   pub given_labelled : (m : ℕ) (k : PlainMethod) (p : Part) (a : PointAt) → slice_get Q.methods m ≡ Some k → Contains (parts_of P m k) p → IsGiven a p
       → (l : ℕ) × (a.item ≡ point.Expr m l)
   given_labelled m k p a e c g =
-      let z = subst (λ o. HasLabel m o) g.given (part_labelled p (record { number = m; method = k; stands = e; part = c }) m k e c) in
+      let z = subst (λ o. HasLabel m o) g.given (part_labelled P Q placed formed typed p (record { number = m; method = k; stands = e; part = c })) in
       (z.0, same_Some _ _ (sym g.point_is ∙ z.1))
 
   -- the row of the point of a `this`
@@ -173,7 +106,8 @@ module _ (P Q : Plain) (placed : IsPlaced P Q) (formed : IsFormed P) (typed : Is
 
     pub this_row_of : (v : ℕ) (d : ColId) → row_this F v ≡ Some d → IsThisRow v d
     this_row_of v d e =
-        ⊎_elim (λ z. this_item v d z.row_is.item (row_back P Q v z.row_is z.stands) (ap (λ i. i.site) z.info) (sym (ap (λ i. i.this_of) z.info) ∙ e))
+        ⊎_elim (λ z. this_item v d z.row_is.item ((numbered_rows P Q).back v z.row_is z.stands) (ap (λ i. i.site) z.info)
+        (sym (ap (λ i. i.this_of) z.info) ∙ e))
         (λ z. absurd (let g = sym (ap (λ i. i.this_of) z) ∙ e in cc)) (row_cases P Q F facts v)
 
     pub this_body : (v : ℕ) (d : ColId) → row_this F v ≡ Some d → IsDef F d.0
@@ -205,7 +139,7 @@ module _ (P Q : Plain) (placed : IsPlaced P Q) (formed : IsFormed P) (typed : Is
         (λ b c. let z = each_from_zero (λ c k. column_body (numbers P Q) Q c k.item) (columns_of P Q) (body_seen b)
         (subst (λ w. Contains w (body_seen b)) facts.bodies (map_has body_seen F.bodies.items b c)) in
         let p = body_part z.0 z.1.item (body_seen b) z.3 in
-        let n = numbered_column P Q F facts z.1.item z.0 (column_back P Q z.0 z.1 z.2) in
+        let n = numbered_column P Q F facts z.1.item z.0 ((numbered_columns P Q).back z.0 z.1 z.2) in
         ap (λ w. column_kind F w) p.2 ∙ ap (λ i. i.kind) n.1 ∙ ap (λ i. (column_info Q i).kind) p.1)
 
     -- the entries rise by column
@@ -253,9 +187,11 @@ module _ (P Q : Plain) (placed : IsPlaced P Q) (formed : IsFormed P) (typed : Is
         let g = same_Some n m (sym (ap this_number i) ∙ ap this_number h) in
         record { method = l; stands = subst (λ z. slice_get Q.methods z ≡ Some l) g d; bodied = b; instance = s; type = same_Some _ _ (sym t) }
     this_method m x (types_field f l d i t) h = absurd (let g = sym (ap this_number i) ∙ ap this_number h in cc)
-    this_method m x (types_result n l d i t) h = absurd (let g = sym (result_thisless l.slot n) ∙ sym (ap this_number i) ∙ ap this_number h in cc)
+    this_method m x (types_result n l d i t) h =
+        absurd (let g = sym (all_results this_number None (λ s. refl) (λ m. refl) l.slot n) ∙ sym (ap this_number i) ∙ ap this_number h in cc)
     this_method m x (types_variable n l j v d u i t) h =
-        absurd (let g = sym (variable_thisless l.slot (nat_lt j (length l.params)) n j) ∙ sym (ap this_number i) ∙ ap this_number h in cc)
+        absurd (let g = sym (all_variables this_number None (λ s i. refl) (λ m i. refl) l.slot (nat_lt j (length l.params)) n j)
+        ∙ sym (ap this_number i) ∙ ap this_number h in cc)
     this_method m x (types_part n l p d c o) h =
         let z = numbered_own p o.operand (part_numbered P Q placed formed typed p (record { number = n; method = l; stands = d; part = c })) o.own in
         absurd (let g : [] ≡ z.0 ∷ [] = sym (ap number_in (o.row_is ∙ ap Some h)) ∙ z.1 in cc)
@@ -291,8 +227,8 @@ module _ (P Q : Plain) (placed : IsPlaced P Q) (formed : IsFormed P) (typed : Is
 
     same_def : (m n d : ℕ) → column_number P Q (column.Def m) ≡ Some d → column_number P Q (column.Def n) ≡ Some d → m ≡ n
     same_def m n d a b =
-        let x = column_at P Q (column.Def m) d a in
-        let y = column_at P Q (column.Def n) d b in
+        let x = (numbered_columns P Q).at (column.Def m) d a in
+        let y = (numbered_columns P Q).at (column.Def n) d b in
         same_Some m n (ap def_number (sym x.2 ∙ ap (λ z. z.item) (same_Some _ _ (sym x.1 ∙ y.1)) ∙ y.2))
 
     pub one_this : (d : ℕ) → d < length F.columns.items → IsDef F d → HasOneThis F d
@@ -305,7 +241,7 @@ module _ (P Q : Plain) (placed : IsPlaced P Q) (formed : IsFormed P) (typed : Is
         let q = this_point P Q m b.plain b.stands b.bodied b.instance r.0 r.1 in
         let x = item_point P Q F facts (point.This m) q.0 q.1 in
         let f = point_of P Q q.0 x.0 x.1 in
-        let col = column_at P Q (column.Def m) d b.number in
+        let col = (numbered_columns P Q).at (column.Def m) d b.number in
         let entry : PlainBody = record {
           column = d;
           this = q.0;

@@ -24,7 +24,7 @@ use Rattle.flow_rules.specs.Lists.{Placed, PlainCall, point_at, calls_of}
 use Rattle.flow_rules.specs.Numbered.{column_number, columns_of, point_number}
 use Rattle.flow_rules.specs.Facts.{numbers, gathered, body_seen, call_seen, body_if, column_body, param_points, IsFactsOf}
 use Rattle.flow_rules.proofs.Listed.{map_has, map_from, map_at, one_from, each_from_zero, place_from, at_below}
-use Rattle.facts_order.proofs.Items.{column_back}
+use Rattle.flow_rules.proofs.NumberedItems.{numbered_columns}
 use Rattle.facts_order.proofs.Pairs.{IsPlaced}
 use Rattle.facts_order.proofs.Columns.{numbered_column}
 use Rattle.facts_order.proofs.Classes.{at_each, below_subclass}
@@ -143,7 +143,7 @@ module _ (P Q : Plain) (placed : IsPlaced P Q) (formed : IsFormed P) (typed : Is
   entry_of body c =
       let z = each_from_zero (λ c k. column_body (numbers P Q) Q c k.item) (columns_of P Q) (body_seen body)
       (subst (λ w. Contains w (body_seen body)) facts.bodies (map_has body_seen F.bodies.items body c)) in
-      item_entry z.0 z.1.item body (column_back P Q z.0 z.1 z.2) z.3
+      item_entry z.0 z.1.item body ((numbered_columns P Q).back z.0 z.1 z.2) z.3
 
   -- the body that a call runs for an object
   pub record RunsBody (call : CallInfo) (o : ℕ) (body : BodyInfo) : Type 0 where

@@ -20,7 +20,7 @@ use Rattle.flow_rules.specs.Parts.{Part, a_creation, a_test, parts_of}
 use Rattle.flow_rules.specs.Numbered.{mark, array_mark, form_columns, field_columns, method_columns, columns_of, column_number}
 use Rattle.flow_rules.specs.Facts.{column_info, IsFactsOf}
 use Rattle.flow_rules.proofs.Listed.{first, more, at_below, below_at, at_map, map_at, index_at, index_past, each_has, each_from_zero, flat_from, flat_has, when_has, when_from, one_from}
-use Rattle.facts_order.proofs.Items.{raw_columns, column_at, column_back, column_raw, column_there}
+use Rattle.flow_rules.proofs.NumberedItems.{raw_columns, numbered_columns}
 
 -- what a column stands for
 pub data Stands (Q : Plain) : ColumnItem → Type 0 where
@@ -77,12 +77,12 @@ module _ (P Q : Plain) where
       (Contains-append_cases (each field_columns 0 Q.fields) (each (method_columns P Q) 0 Q.methods) x c)
 
   pub column_stands : (n : ℕ) (x : Column) → slice_get (columns_of P Q) n ≡ Some x → Stands Q x.item
-  column_stands n x e = raw_stands x (column_raw P Q n x e)
+  column_stands n x e = raw_stands x ((numbered_columns P Q).from n x e)
 
   -- what stands in the text has a column
   pub in_method : (m : ℕ) (k : PlainMethod) (x : Column) → slice_get Q.methods m ≡ Some k → Contains (method_columns P Q m k) x
       → (c : ℕ) × (column_number P Q x.item ≡ Some c)
-  in_method m k x e d = column_there P Q x (Contains-append_right (each field_columns 0 Q.fields) (each (method_columns P Q) 0 Q.methods) x
+  in_method m k x e d = (numbered_columns P Q).there x (Contains-append_right (each field_columns 0 Q.fields) (each (method_columns P Q) 0 Q.methods) x
       (each_has (method_columns P Q) 0 Q.methods m k x e m (omega arith) d))
 
   pub declaration_column : (m : ℕ) (k : PlainMethod) → slice_get Q.methods m ≡ Some k → k.is_static ≡ false
@@ -117,7 +117,7 @@ module _ (P Q : Plain) where
     item_at : (c : ℕ) (x : Column) → slice_get (columns_of P Q) c ≡ Some x → HasItem c
     item_at c x e = record {
       item = x.item;
-      number = column_back P Q c x e;
+      number = (numbered_columns P Q).back c x e;
       info = index_at F.columns.items c _ (column_info Q x.item) (subst (λ z. slice_get z c ≡ Some (column_info Q x.item)) (sym facts.columns)
           (at_map (λ c. column_info Q c.item) (columns_of P Q) c x e));
       stands = column_stands c x e;
@@ -132,7 +132,7 @@ module _ (P Q : Plain) where
     -- a numbered column stands in the list
     pub numbered_column : (i : ColumnItem) (c : ℕ) → column_number P Q i ≡ Some c → (c < length F.columns.items) × (info_at F c ≡ column_info Q i)
     numbered_column i c e =
-        let x = column_at P Q i c e in
+        let x = (numbered_columns P Q).at i c e in
         let a = subst (λ z. slice_get z c ≡ Some (column_info Q x.0.item)) (sym facts.columns)
         (at_map (λ c. column_info Q c.item) (columns_of P Q) c x.0 x.1) in
         (at_below F.columns.items c _ a, index_at F.columns.items c _ _ a ∙ ap (column_info Q) x.2)

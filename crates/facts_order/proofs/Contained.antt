@@ -20,7 +20,7 @@ use Rattle.flow_rules.specs.Parts.{a_creation}
 use Rattle.flow_rules.specs.Numbered.{columns_of, sites_of, row_number, column_number}
 use Rattle.flow_rules.specs.Facts.{FieldCell, numbers, field_if, field_at, fields_of, field_cell, array_cell, site_cells, site_info, cells_of, owner_of, IsFactsOf}
 use Rattle.flow_rules.proofs.Listed.{at_map, below_at, contains_at, index_at, one_from, flat_from, when_from, each_from_zero}
-use Rattle.facts_order.proofs.Items.{column_back}
+use Rattle.flow_rules.proofs.NumberedItems.{numbered_columns}
 use Rattle.facts_order.proofs.Pairs.{IsPlaced}
 use Rattle.facts_order.proofs.Classes.{subclass_below}
 use Rattle.facts_order.proofs.Sites.{own_type, site_part}
@@ -57,7 +57,7 @@ module _ (P Q : Plain) (placed : IsPlaced P Q) (formed : IsFormed P) (typed : Is
 
   fields_are : (k : FieldCell) → Contains all_fields k → IsFieldCell k
   fields_are k c = let z = each_from_zero (λ c k. field_at (numbers P Q) Q c k.item) (columns_of P Q) k c in field_cell_at z.0 z.1.item k
-      (column_back P Q z.0 z.1 z.2) z.3
+      ((numbered_columns P Q).back z.0 z.1 z.2) z.3
 
   site_cell : (i : ℕ) (x : Site) (z : CellInfo) (b : Bool) → slice_get (sites_of P Q) i ≡ Some x → (x.ty.dim == 0) ≡ b
       → Contains (if b then flat_map (field_cell P i x.ty.class.0) all_fields else array_cell i x.row) z → IsCellOf z
@@ -108,8 +108,9 @@ module _ (P Q : Plain) (placed : IsPlaced P Q) (formed : IsFormed P) (typed : Is
   cell_contains c s (of_array x i e n q) w =
       let p = site_part P Q placed formed typed (cell_at F c).site.0 x e in
       let y = row_there P Q placed formed typed F facts (row.New x.number) x.row p.row_number_is in
-      let t = own_type P Q placed formed typed (a_creation p.place p.used p.operand) p.operand (row.New x.number) x.ty x.row y.here p.is_part refl
-      p.row_is p.type y.stands y.item in
+      let t = own_type P Q placed formed typed (a_creation p.of.place p.of.used p.of.operand) p.of.operand (row.New x.number) x.ty x.row y.here
+      p.of.is_part refl
+      p.row_is p.of.type y.stands y.item in
       let z = index_at F.sites.items (cell_at F c).site.0 _ (site_info x) (subst (λ w. slice_get w (cell_at F c).site.0 ≡ Some (site_info x))
       (sym facts.sites) (at_map site_info (sites_of P Q) (cell_at F c).site.0 x e)) in
       let u = held P Q placed formed typed F facts (in_cell c s) w in

@@ -38,7 +38,7 @@ use Rattle.flow_rules.specs.Numbered.{column_number, site_number, point_number}
 use Rattle.flow_rules.specs.Facts.{numbers, owner_of, IsFactsOf}
 use Rattle.run_cover.proofs.Kinded.{site_type}
 use Rattle.flow_rules.proofs.Listed.{each_from_zero}
-use Rattle.facts_order.proofs.Items.{column_at}
+use Rattle.flow_rules.proofs.NumberedItems.{numbered_columns}
 use Rattle.facts_order.proofs.Pairs.{IsPlaced}
 use Rattle.facts_order.proofs.Classes.{below_subclass}
 use Rattle.facts_order.proofs.Tests.{gathered_from, both_from, these_from}
@@ -106,8 +106,8 @@ module _ (P Q : Plain) (placed : IsPlaced P Q) (formed : IsFormed P) (typed : Is
   same_field : (f g c : ℕ) → column_number P Q (column.Fld f) ≡ Some c → column_number P Q (column.Fld g) ≡ Some c → f ≡ g
   unfolding field_number
   same_field f g c a b =
-      let x = column_at P Q (column.Fld f) c a in
-      let y = column_at P Q (column.Fld g) c b in
+      let x = (numbered_columns P Q).at (column.Fld f) c a in
+      let y = (numbered_columns P Q).at (column.Fld g) c b in
       same_Some f g (ap field_number (sym x.2 ∙ ap (λ z. z.item) (same_Some _ _ (sym x.1 ∙ y.1)) ∙ y.2))
 
   module _ (m : ℕ) (k : PlainMethod) (stands : slice_get Q.methods m ≡ Some k) where

@@ -87,9 +87,6 @@ module _ (P : Plain) (type : Ex → Option ObjectType) (m : ℕ) (k : PlainMetho
   abbrev in_ex : Bool → Ex → List Part
   in_ex u e = parts P type m k u e
 
-  abbrev in_all : Bool → Exs → List Part
-  in_all u es = parts_all P type m k u es
-
   mutual
     ex_labels : (n : ℕ) (u : Bool) (e : Ex) → Labelled n (in_ex u (label n e)) (n + size e)
     ex_labels n u (number t i) = none (omega arith)
@@ -114,7 +111,7 @@ module _ (P : Plain) (type : Ex → Option ObjectType) (m : ℕ) (k : PlainMetho
     ex_labels n u (unary t o e) = ex_labels n false e
     ex_labels n u (binary t o e d) = join (join (ex_labels n false e) (ex_labels (n + size e) false d)) (plain refl (none (omega arith)))
 
-    all_labels : (n : ℕ) (u : Bool) (es : Exs) → Labelled n (in_all u (label_all n es)) (n + sizes es)
+    all_labels : (n : ℕ) (u : Bool) (es : Exs) → Labelled n (parts_all P type m k u (label_all n es)) (n + sizes es)
     all_labels n u no_ex = none (omega arith)
     all_labels n u (ex_then e es) = upto (omega arith) (join (ex_labels n u e) (all_labels (n + size e) u es))
 

@@ -1,15 +1,14 @@
-pub mod Items
 pub mod Pairs
 pub mod Columns
 pub mod Classes
 pub mod Members
 pub mod Names
 pub mod Labels
-pub mod Numbers
 pub mod Forms
 pub mod Rows
-pub mod Sites
 pub mod Points
+pub mod OwnParts
+pub mod Sites
 pub mod Bodies
 pub mod Tests
 pub mod Operands

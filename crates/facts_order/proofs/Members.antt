@@ -6,15 +6,16 @@ use Rattle.std.proofs.lemmas.Option.{same_Some}
 use Rattle.java_core.specs.Programs.{Plain, PlainMethod}
 use Rattle.java_core.specs.Classes.{IsSubclass}
 use Rattle.java_core.specs.Formed.{IsFormed, IsInSlot}
-use Rattle.fact_model.specs.Items.{column_class, column_kind, column_slot}
+use Rattle.fact_model.specs.Items.{column_at as info_at, column_class, column_kind, column_slot}
 use Rattle.fact_model.specs.Classes.{IsBelow}
 use Rattle.fact_model.specs.InOrder.{IsDef, name_of, AreMembersInOrder}
+use Rattle.fact_model.specs.declared.facts.ColumnInfo.{ColumnInfo}
 use Rattle.fact_model.specs.declared.facts.Facts.{Facts}
 use Rattle.fact_model.specs.declared.facts.ColKind.TheVariants as kind
 use Rattle.flow_rules.specs.declared.items.ColumnItem.{ColumnItem}
 use Rattle.flow_rules.specs.declared.items.ColumnItem.TheVariants as column
 use Rattle.flow_rules.specs.Numbered.{column_number}
-use Rattle.flow_rules.specs.Facts.{kind_of, owner_of, slot_in, name_in, IsFactsOf}
+use Rattle.flow_rules.specs.Facts.{column_info, kind_of, owner_of, slot_in, name_in, IsFactsOf}
 use Rattle.facts_order.proofs.Pairs.{IsPlaced}
 use Rattle.facts_order.proofs.Columns.{Stands, for_field, for_declaration, for_body, for_mark, HasItem, item_of, slot_below}
 use Rattle.facts_order.proofs.Classes.{below_subclass}
@@ -104,6 +105,11 @@ module _ (P Q : Plain) (placed : IsPlaced P Q) (formed : IsFormed P) where
     pub same_column : (c d : ℕ) (a : HasItem P Q F facts c) (b : HasItem P Q F facts d) → a.item ≡ b.item → c ≡ d
     same_column c d a b e = same_Some c d (sym a.number ∙ ap (column_number P Q) e ∙ b.number)
 
+    -- what two columns have alike, their items have
+    alike : {A : Type 0} (f : ColumnInfo → A) (c d : ℕ) (a : HasItem P Q F facts c) (b : HasItem P Q F facts d) → f (info_at F c) ≡ f (info_at F d)
+        → f (column_info Q a.item) ≡ f (column_info Q b.item)
+    alike f c d a b e = sym (ap f a.info) ∙ e ∙ ap f b.info
+
     fields : (c d : ℕ) → c < length F.columns.items → d < length F.columns.items → column_kind F c ≡ kind.Fld → column_kind F d ≡ kind.Fld
         → column_class F c ≡ column_class F d → name_of F c ≡ name_of F d → c ≡ d
     fields c d p q h k o n =
@@ -111,8 +117,8 @@ module _ (P Q : Plain) (placed : IsPlaced P Q) (formed : IsFormed P) where
         let b = item_of P Q F facts d q in
         same_column c d a b
         (two_fields a.item b.item a.stands b.stands (sym (ap (λ i. i.kind) a.info) ∙ h) (sym (ap (λ i. i.kind) b.info)
-        ∙ k) (sym (ap (λ i. i.class.0) a.info) ∙ o ∙ ap (λ i. i.class.0) b.info)
-        (sym (ap (λ i. i.name) a.info) ∙ n ∙ ap (λ i. i.name) b.info))
+        ∙ k) (alike (λ i. i.class.0) c d a b o)
+        (alike (λ i. i.name) c d a b n))
 
     no_slots : (c : ℕ) → c < length F.columns.items → column_kind F c ≡ kind.Fld → column_slot F c ≡ None
     no_slots c p h =
@@ -126,8 +132,8 @@ module _ (P Q : Plain) (placed : IsPlaced P Q) (formed : IsFormed P) where
         let b = item_of P Q F facts d q in
         same_column c d a b
         (two_bodies a.item b.item a.stands b.stands (sym (ap (λ i. i.kind) a.info) ∙ h) (sym (ap (λ i. i.kind) b.info)
-        ∙ k) (sym (ap (λ i. i.class.0) a.info) ∙ o ∙ ap (λ i. i.class.0) b.info)
-        (sym (ap (λ i. i.slot) a.info) ∙ l ∙ ap (λ i. i.slot) b.info))
+        ∙ k) (alike (λ i. i.class.0) c d a b o)
+        (alike (λ i. i.slot) c d a b l))
 
     -- the member of a column of a slot
     pub record HasMember (c x : ℕ) : Type 0 where

@@ -18,9 +18,9 @@ use Rattle.flow_rules.specs.Types.{field_object, slot_object, method_object, var
 use Rattle.flow_rules.specs.Parts.{Part, parts_of}
 use Rattle.flow_rules.specs.Numbered.{rows_of}
 use Rattle.facts_order.proofs.Pairs.{IsPlaced}
-use Rattle.facts_order.proofs.Numbers.{number_in}
-use Rattle.facts_order.proofs.Rows.{IsOwn, Types, for_field, for_this, for_result, for_variable, for_part, row_types}
-use Rattle.facts_order.proofs.Sites.{numbered_own, part_numbered, variable_numberless as variable_none}
+use Rattle.run_cover.proofs.Numbers.{number_in}
+use Rattle.facts_order.proofs.Rows.{IsOwn, Types, for_field, for_this, for_result, for_variable, for_part, row_types, all_results, all_variables}
+use Rattle.facts_order.proofs.Sites.{numbered_own, part_numbered}
 
 abbrev field_number : RowItem → Option ℕ
 field_number (row.Field f) = Some f
@@ -34,25 +34,6 @@ return_number _ = None
 abbrev result_number : RowItem → Option ℕ
 result_number (row.Result m) = Some m
 result_number _ = None
-
-result_fieldless : (s : Option ℕ) (m : ℕ) → field_number (result_in s m) ≡ None
-result_fieldless None m = refl
-result_fieldless (Some s) m = refl
-
-variable_fieldless : (s : Option ℕ) (b : Bool) (m i : ℕ) → field_number (variable_in s b m i) ≡ None
-variable_fieldless None b m i = refl
-variable_fieldless (Some s) true m i = refl
-variable_fieldless (Some s) false m i = refl
-
-variable_returnless : (s : Option ℕ) (b : Bool) (m i : ℕ) → return_number (variable_in s b m i) ≡ None
-variable_returnless None b m i = refl
-variable_returnless (Some s) true m i = refl
-variable_returnless (Some s) false m i = refl
-
-variable_resultless : (s : Option ℕ) (b : Bool) (m i : ℕ) → result_number (variable_in s b m i) ≡ None
-variable_resultless None b m i = refl
-variable_resultless (Some s) true m i = refl
-variable_resultless (Some s) false m i = refl
 
 result_return : (o : Option ℕ) (m s : ℕ) → return_number (result_in o m) ≡ Some s → o ≡ Some s
 result_return None m s e = absurd (cc)
@@ -74,15 +55,6 @@ abbrev is_variable : RowItem → Bool
 is_variable (row.Param s i) = true
 is_variable (row.Local m i) = true
 is_variable _ = false
-
-result_variableless : (s : Option ℕ) (m : ℕ) → is_variable (result_in s m) ≡ false
-result_variableless None m = refl
-result_variableless (Some s) m = refl
-
-variable_is : (s : Option ℕ) (b : Bool) (m i : ℕ) → is_variable (variable_in s b m i) ≡ true
-variable_is None b m i = refl
-variable_is (Some s) true m i = refl
-variable_is (Some s) false m i = refl
 
 -- the type of a parameter of a slot
 abbrev pub param_object : Plain → ℕ → ℕ → Option ObjectType
@@ -111,8 +83,11 @@ module _ (P Q : Plain) (placed : IsPlaced P Q) (formed : IsFormed P) (typed : Is
           let z = placed.fields g k d in
           ap (field_object P) (sym s) ∙ ap (λ o. object_if (option_map (λ k. k.ty) o)) z.stands ∙ ap object_of z.type ∙ u
       go (for_this m k d b s i u) = absurd (let g = sym (ap field_number i) ∙ ap field_number h in cc)
-      go (for_result m k d i u) = absurd (let g = sym (result_fieldless k.slot m) ∙ sym (ap field_number i) ∙ ap field_number h in cc)
-      go (for_variable m k j v d b i u) = absurd (let g = sym (variable_fieldless k.slot (nat_lt j (length k.params)) m j) ∙ sym (ap field_number i)
+      go (for_result m k d i u) = absurd (let g = sym (all_results field_number None (λ s. refl) (λ m. refl) k.slot m) ∙ sym (ap field_number i)
+          ∙ ap field_number h in cc)
+      go (for_variable m k j v d b i u) =
+          absurd (let g = sym (all_variables field_number None (λ s i. refl) (λ m i. refl) k.slot (nat_lt j (length k.params)) m j)
+          ∙ sym (ap field_number i)
           ∙ ap field_number h in cc)
       go (for_part m k p d c o) = numberless x (row.Field f) m k p d c o h refl
 
@@ -128,7 +103,9 @@ module _ (P Q : Plain) (placed : IsPlaced P Q) (formed : IsFormed P) (typed : Is
           ap (λ o. object_if (option_and_then (λ k. k.result) o)) y.stands ∙ ap object_if (sym y.result ∙ z.result) ∙ u
       go (for_field g k d i u) = absurd (let g = sym (ap return_number i) ∙ ap return_number h in cc)
       go (for_this m k d b s i u) = absurd (let g = sym (ap return_number i) ∙ ap return_number h in cc)
-      go (for_variable m k j v d b i u) = absurd (let g = sym (variable_returnless k.slot (nat_lt j (length k.params)) m j) ∙ sym (ap return_number i)
+      go (for_variable m k j v d b i u) =
+          absurd (let g = sym (all_variables return_number None (λ s i. refl) (λ m i. refl) k.slot (nat_lt j (length k.params)) m j)
+          ∙ sym (ap return_number i)
           ∙ ap return_number h in cc)
       go (for_part m k p d c o) = numberless x (row.Return s) m k p d c o h refl
 
@@ -143,7 +120,9 @@ module _ (P Q : Plain) (placed : IsPlaced P Q) (formed : IsFormed P) (typed : Is
           ap (method_object P) (sym s) ∙ ap (λ o. object_if (option_and_then (λ k. k.result) o)) z.stands ∙ ap object_if z.result ∙ u
       go (for_field g k d i u) = absurd (let g = sym (ap result_number i) ∙ ap result_number h in cc)
       go (for_this n k d b s i u) = absurd (let g = sym (ap result_number i) ∙ ap result_number h in cc)
-      go (for_variable n k j v d b i u) = absurd (let g = sym (variable_resultless k.slot (nat_lt j (length k.params)) n j) ∙ sym (ap result_number i)
+      go (for_variable n k j v d b i u) =
+          absurd (let g = sym (all_variables result_number None (λ s i. refl) (λ m i. refl) k.slot (nat_lt j (length k.params)) n j)
+          ∙ sym (ap result_number i)
           ∙ ap result_number h in cc)
       go (for_part n k p d c o) = numberless x (row.Result m) n k p d c o h refl
 
@@ -203,11 +182,15 @@ module _ (P Q : Plain) (placed : IsPlaced P Q) (formed : IsFormed P) (typed : Is
       go : Types P Q x → variable_object k i ≡ Some x.ty
       go (for_variable n l j v d w y u) =
           sym (variable_cases n m j i l k l.slot k.slot _ _ d b refl refl refl refl (sym y ∙ h)) ∙ ap (λ o. object_if (option_map (λ v. v.ty) o)) w ∙ u
-      go (for_result n l d y u) = absurd (let g = sym (result_variableless l.slot n) ∙ ap is_variable (sym y ∙ h)
-          ∙ variable_is k.slot (nat_lt i (length k.params)) m i in false≢true g)
-      go (for_field g l d y u) = absurd (let g = ap is_variable (sym y ∙ h) ∙ variable_is k.slot (nat_lt i (length k.params)) m i in false≢true g)
-      go (for_this n l d c s y u) = absurd (let g = ap is_variable (sym y ∙ h) ∙ variable_is k.slot (nat_lt i (length k.params)) m i in false≢true g)
-      go (for_part n l p d c o) = numberless x (variable_row m k i) n l p d c o h (variable_none k.slot (nat_lt i (length k.params)) m i)
+      go (for_result n l d y u) = absurd (let g = sym (all_results is_variable false (λ s. refl) (λ m. refl) l.slot n) ∙ ap is_variable (sym y ∙ h)
+          ∙ all_variables is_variable true (λ s i. refl) (λ m i. refl) k.slot (nat_lt i (length k.params)) m i in false≢true g)
+      go (for_field g l d y u) = absurd (let g = ap is_variable (sym y ∙ h) ∙ all_variables is_variable true (λ s i. refl) (λ m i. refl) k.slot
+          (nat_lt i (length k.params)) m i in false≢true g)
+      go (for_this n l d c s y u) =
+          absurd (let g = ap is_variable (sym y ∙ h) ∙ all_variables is_variable true (λ s i. refl) (λ m i. refl) k.slot (nat_lt i (length k.params))
+          m i in false≢true g)
+      go (for_part n l p d c o) = numberless x (variable_row m k i) n l p d c o h (all_variables (λ i. number_in (Some i)) [] (λ s i. refl)
+          (λ m i. refl) k.slot (nat_lt i (length k.params)) m i)
 
   -- the row of a parameter of a slot has its type
   variable_param : (o : Option ℕ) (b : Bool) (m i s j : ℕ) → variable_in o b m i ≡ row.Param s j → (o ≡ Some s) × (b ≡ true) × (i ≡ j)
@@ -222,7 +205,7 @@ module _ (P Q : Plain) (placed : IsPlaced P Q) (formed : IsFormed P) (typed : Is
       go (for_variable n l j v d w y u) =
           let z = variable_param l.slot (nat_lt j (length l.params)) n j s i (sym y ∙ h) in
           ap (param_object P s) (sym z.2) ∙ sym (slot_param n j s l d z.0 (grind (arith, z.1))) ∙ ap (λ o. object_if (option_map (λ v. v.ty) o)) w ∙ u
-      go (for_result n l d y u) = absurd (false≢true (sym (result_variableless l.slot n) ∙ ap is_variable (sym y ∙ h)))
+      go (for_result n l d y u) = absurd (false≢true (sym (all_results is_variable false (λ s. refl) (λ m. refl) l.slot n) ∙ ap is_variable (sym y ∙ h)))
       go (for_field g l d y u) = absurd (false≢true (ap is_variable (sym y ∙ h)))
       go (for_this n l d c s y u) = absurd (false≢true (ap is_variable (sym y ∙ h)))
       go (for_part n l p d c o) = numberless x (row.Param s i) n l p d c o h refl

@@ -1,5 +1,5 @@
 -- A program without places and with places: the same classes, fields, methods and slots, places aside.
-use Rattle.std.proofs.Common.{◌≡◌, ℕ, List, [], ◌∷◌, ◌++◌, Option, Some, None, refl, sym, ap, ◌∙◌}
+use Rattle.std.proofs.Common.{◌≡◌, ℕ, List, [], ◌∷◌, ◌++◌, Option, Some, None, refl, ap, subst}
 use Rattle.std.specs.Prelude.{slice_get, map}
 use Rattle.std.specs.Option.{option_map, is_some}
 use Rattle.std.specs.declared.vec.Vec.{Vec}
@@ -74,6 +74,14 @@ body_there : (b : Option (Vec RStmt Global)) → is_some (body_seen no_place b) 
 body_there None = refl
 body_there (Some v) = refl
 
+-- an item as one function and as another sees it
+both : {A B : Type 0} (f g : A → B) (xs : List A) (i : ℕ) (y : B) → slice_get (map f xs) i ≡ Some y
+    → (x : A) × (slice_get (map g xs) i ≡ Some (g x)) × (f x ≡ y)
+both f g xs i y e = let z = map_at f xs i y e in (z.0, at_map g xs i z.0 z.1, z.2)
+
+other : {A B : Type 0} (f g : A → B) (xs : List A) (i : ℕ) (y : B) → slice_get (map f xs) i ≡ Some y → (z : B) × (slice_get (map g xs) i ≡ Some z)
+other f g xs i y e = let z = both f g xs i y e in (g z.0, z.1)
+
 module _ (p : Program) where
   abbrev P : Plain
   P = program_of no_place p
@@ -82,66 +90,39 @@ module _ (p : Program) where
   Q = program_of at_place p
 
   field_pair : (f : ℕ) (k : PlainField) → slice_get Q.fields f ≡ Some k → IsFieldOf P f k
-  field_pair f k e =
-      let z = map_at (field_seen at_place) p.fields.items f k e in
-      record {
-        plain = field_seen no_place z.0;
-        stands = at_map (field_seen no_place) p.fields.items f z.0 z.1;
-        owner = ap (λ z. z.owner) z.2;
-        name = ap (λ z. z.name) z.2;
-        static = ap (λ z. z.is_static) z.2;
-        type = ap (λ z. z.ty) z.2;
-      }
+  field_pair f k e = let z = both (field_seen at_place) (field_seen no_place) p.fields.items f k e in
+      subst (λ k. IsFieldOf P f k) z.2 (record { plain = field_seen no_place z.0; stands = z.1; owner = refl; name = refl; static = refl; type = refl })
 
   method_pair : (m : ℕ) (k : PlainMethod) → slice_get Q.methods m ≡ Some k → IsMethodOf P m k
   method_pair m k e =
-      let z = map_at (method_seen at_place) p.methods.items m k e in
-      record {
+      let z = both (method_seen at_place) (method_seen no_place) p.methods.items m k e in
+      subst (λ k. IsMethodOf P m k) z.2 (record {
         plain = method_seen no_place z.0;
-        stands = at_map (method_seen no_place) p.methods.items m z.0 z.1;
-        owner = ap (λ z. z.owner) z.2;
-        name = ap (λ z. z.name) z.2;
-        static = ap (λ z. z.is_static) z.2;
-        slot = ap (λ z. z.slot) z.2;
-        result = ap (λ z. z.result) z.2;
-        params = types_seen z.0.params.items ∙ ap (λ z. types_of z.params) z.2;
-        locals = types_seen z.0.locals.items ∙ ap (λ z. types_of z.locals) z.2;
-        names = names_seen z.0.params.items z.0.locals.items ∙ ap (λ z. map (λ v. v.name) z.params ++ map (λ v. v.name) z.locals) z.2;
-        body = ap (λ z. option_map bare_sts z.body) (sym z.2) ∙ body_bare z.0.body;
-        bodied = body_there z.0.body ∙ ap (λ z. is_some z.body) z.2;
-      }
+        stands = z.1;
+        owner = refl;
+        name = refl;
+        static = refl;
+        slot = refl;
+        result = refl;
+        params = types_seen z.0.params.items;
+        locals = types_seen z.0.locals.items;
+        names = names_seen z.0.params.items z.0.locals.items;
+        body = body_bare z.0.body;
+        bodied = body_there z.0.body;
+      })
 
   class_pair : (c : ℕ) (k : PlainClass) → slice_get Q.classes c ≡ Some k → IsClassOf P c k
-  class_pair c k e =
-      let z = map_at (class_seen at_place) p.classes.items c k e in
-      record {
-        plain = class_seen no_place z.0;
-        stands = at_map (class_seen no_place) p.classes.items c z.0 z.1;
-        name = ap (λ z. z.name) z.2;
-        interface = ap (λ z. z.is_interface) z.2;
-        parent = ap (λ z. z.parent) z.2;
-        faces = ap (λ z. z.faces) z.2;
-      }
+  class_pair c k e = let z = both (class_seen at_place) (class_seen no_place) p.classes.items c k e in
+      subst (λ k. IsClassOf P c k) z.2
+      (record { plain = class_seen no_place z.0; stands = z.1; name = refl; interface = refl; parent = refl; faces = refl })
 
   pub placed : IsPlaced P Q
   placed = record {
     fields = field_pair;
     methods = method_pair;
     classes = class_pair;
-    placed_method = λ m h e. let z = map_at (method_seen no_place) p.methods.items m h e in (
-      method_seen at_place z.0,
-      at_map (method_seen at_place)
-          p.methods.items m z.0 z.1,
-    );
-    placed_field = λ f h e. let z = map_at (field_seen no_place) p.fields.items f h e in (
-      field_seen at_place z.0,
-      at_map (field_seen at_place)
-          p.fields.items f z.0 z.1,
-    );
-    placed_class = λ c h e. let z = map_at (class_seen no_place) p.classes.items c h e in (
-      class_seen at_place z.0,
-      at_map (class_seen at_place)
-          p.classes.items c z.0 z.1,
-    );
+    placed_method = other (method_seen no_place) (method_seen at_place) p.methods.items;
+    placed_field = other (field_seen no_place) (field_seen at_place) p.fields.items;
+    placed_class = other (class_seen no_place) (class_seen at_place) p.classes.items;
     slots = refl;
   }

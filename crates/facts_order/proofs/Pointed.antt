@@ -22,7 +22,7 @@ use Rattle.flow_rules.specs.Numbered.{row_number, sites_of, site_number, points_
 use Rattle.flow_rules.specs.Facts.{site_info, numbers, IsFactsOf}
 use Rattle.run_cover.proofs.Kinded.{site_type}
 use Rattle.flow_rules.proofs.Listed.{at_map, map_at, below_at, index_at}
-use Rattle.facts_order.proofs.Items.{site_at, point_at as item_at}
+use Rattle.flow_rules.proofs.NumberedItems.{numbered_sites, numbered_points}
 use Rattle.facts_order.proofs.Pairs.{IsPlaced}
 use Rattle.facts_order.proofs.Rows.{row_types}
 use Rattle.facts_order.proofs.Sites.{own_typed, own_type, site_part}
@@ -41,7 +41,7 @@ module _ (P Q : Plain) (placed : IsPlaced P Q) (formed : IsFormed P) (typed : Is
   point_type q = option_and_then (λ x. item_type P Q x.item) (slice_get (points_of P Q) q)
 
   pub number_type : (i : PointItem) (q : ℕ) → point_number P Q i ≡ Some q → point_type q ≡ item_type P Q i
-  number_type i q e = let x = item_at P Q i q e in ap (option_and_then (λ x. item_type P Q x.item)) x.1 ∙ ap (item_type P Q) x.2
+  number_type i q e = let x = (numbered_points P Q).at i q e in ap (option_and_then (λ x. item_type P Q x.item)) x.1 ∙ ap (item_type P Q) x.2
 
   -- the item of a point that an operand may be
   pub point_item_of : (i : Option PointItem) (q : ℕ) → point_in (numbers P Q) i ≡ Some q → (j : PointItem) × (i ≡ Some j) × (point_number P Q j ≡ Some q)
@@ -81,11 +81,12 @@ module _ (P Q : Plain) (placed : IsPlaced P Q) (formed : IsFormed P) (typed : Is
     pub made_type : (o : Operand) (n s : ℕ) → IsGood o → o.created ≡ Some n → site_number P Q n ≡ Some s → o.ty ≡ Some (site_type F s)
     made_type o n s g c e =
         let w = g.created n c in
-        let z = site_at P Q n s e in
+        let z = (numbered_sites P Q).at n s e in
         let p = site_part P Q placed formed typed s z.0 z.1 in
         let y = row_there P Q placed formed typed F facts (row.New z.0.number) z.0.row p.row_number_is in
-        let t = own_type P Q placed formed typed (a_creation p.place p.used p.operand) p.operand (row.New z.0.number) z.0.ty z.0.row y.here p.is_part
-        refl p.row_is p.type y.stands y.item in
+        let t = own_type P Q placed formed typed (a_creation p.of.place p.of.used p.of.operand) p.of.operand (row.New z.0.number) z.0.ty z.0.row
+        y.here p.of.is_part
+        refl p.row_is p.of.type y.stands y.item in
         let i = index_at F.sites.items s _ (site_info z.0) (subst (λ y. slice_get y s ≡ Some (site_info z.0)) (sym facts.sites)
         (at_map (site_info) (sites_of P Q) s z.0 z.1)) in
         own_typed P Q placed formed typed (a_creation w.place w.used o) o (row.New n) z.0.row y.here
@@ -141,4 +142,5 @@ module _ (P Q : Plain) (placed : IsPlaced P Q) (formed : IsFormed P) (typed : Is
 
   -- a numbered point has a type
   pub has_type : (i : PointItem) (q : ℕ) → point_number P Q i ≡ Some q → (t : ObjectType) × (point_type q ≡ Some t)
-  has_type i q e = let x = item_at P Q i q e in let t = point_typed q x.0 x.1 in (t.type, ap (option_and_then (λ x. item_type P Q x.item)) x.1 ∙ t.stated)
+  has_type i q e = let x = (numbered_points P Q).at i q e in let t = point_typed q x.0 x.1 in
+      (t.type, ap (option_and_then (λ x. item_type P Q x.item)) x.1 ∙ t.stated)

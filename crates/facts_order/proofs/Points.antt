@@ -1,5 +1,5 @@
 -- The flow points of a program's facts: what each follows, and its row.
-use Rattle.std.proofs.Common.{◌≡◌, ℕ, List, [], ◌∷◌, ◌++◌, Option, Some, None, length, refl, sym, ap, subst, arith, ⊎_elim}
+use Rattle.std.proofs.Common.{◌≡◌, ℕ, List, ◌++◌, Option, Some, None, length, refl, sym, ap, subst, arith, ⊎_elim}
 use Rattle.std.specs.Prelude.{◌<◌, true, not, Contains, slice_get}
 use Rattle.std.specs.Option.{is_some}
 use Rattle.std.specs.List.{flat_map}
@@ -16,13 +16,13 @@ use Rattle.flow_rules.specs.declared.items.PointItem.{PointItem}
 use Rattle.flow_rules.specs.declared.items.PointItem.TheVariants as point
 use Rattle.flow_rules.specs.declared.items.PointAt.{PointAt}
 use Rattle.flow_rules.specs.declared.items.Point.{Point}
-use Rattle.flow_rules.specs.Ordered.{each, when, by_place}
+use Rattle.flow_rules.specs.Ordered.{each, by_place}
 use Rattle.flow_rules.specs.Operands.{variable_row, result_in}
 use Rattle.flow_rules.specs.Parts.{Part, a_load, an_element, a_creation, a_call, a_static_call, a_super_call, a_test, parts_of}
 use Rattle.flow_rules.specs.Numbered.{Outline, own_point, point_of_form, form_points, static_points, variable_points, method_points, outline_if, point_with, listed, row_number, points_of, point_number}
 use Rattle.flow_rules.specs.Facts.{IsFactsOf}
 use Rattle.flow_rules.proofs.Listed.{at_below, at_map, index_at, each_from, each_from_zero, flat_has, flat_from, place_has, place_from, when_from, one_from}
-use Rattle.facts_order.proofs.Items.{point_at, point_raw}
+use Rattle.flow_rules.proofs.NumberedItems.{numbered_points, this_points, param_points, local_points, result_points, part_points}
 use Rattle.run_cover.proofs.HasNumbers.{in_body}
 
 -- what a part gives, where that can be a flow point
@@ -77,21 +77,6 @@ module _ (P Q : Plain) where
   static_follows f k a e c = let d = one_from _ a (when_from k.is_static _ a c).1 in a_static f k e (sym (ap (λ z. z.item) d)) (sym (ap (λ z. z.row) d))
 
   module _ (m : ℕ) (k : PlainMethod) (e : slice_get Q.methods m ≡ Some k) where
-    abbrev this_points : List PointAt
-    this_points = when (not k.is_static) (record { item = point.This m; place = k.tag.place; row = row.This m } ∷ [])
-
-    abbrev param_points : List PointAt
-    param_points = each (variable_points m k) 0 k.params
-
-    abbrev local_points : List PointAt
-    local_points = each (variable_points m k) (length k.params) k.locals
-
-    abbrev result_points : List PointAt
-    result_points = record { item = point.Result m; place = k.tag.place; row = result_in k.slot m } ∷ []
-
-    abbrev part_points : List PointAt
-    part_points = by_place (λ p. p.place.at) (flat_map form_points (parts_of P m k))
-
     -- `this`, parameters and locals, the result, and then the parts
     variable_follows : (i : ℕ) (v : PlainLocal) (a : PointAt) → Contains (variable_points m k i v) a → Follows a
     variable_follows i v a c = let d = one_from _ a c in a_variable m k i e (sym (ap (λ z. z.item) d)) (sym (ap (λ z. z.row) d))
@@ -103,17 +88,19 @@ module _ (P Q : Plain) where
         (λ c. ⊎_elim
         (λ c. ⊎_elim (λ c. let d = one_from _ a (when_from (not k.is_static) _ a c).1 in a_this m k e (sym (ap (λ z. z.item) d))
         (sym (ap (λ z. z.row) d))) (λ c. let z = each_from_zero (variable_points m k) k.params a c in variable_follows z.0 z.1 a z.3)
-        (Contains-append_cases this_points param_points a c))
+        (Contains-append_cases (this_points P Q m k) (param_points P Q m k) a c))
         (λ c. let z = each_from (variable_points m k) (length k.params) k.locals a c in variable_follows z.1 z.2 a z.5)
-        (Contains-append_cases (this_points ++ param_points) local_points a c))
+        (Contains-append_cases ((this_points P Q m k) ++ (param_points P Q m k)) (local_points P Q m k) a c))
         (λ c. let d = one_from _ a c in a_result m k e (sym (ap (λ z. z.item) d)) (sym (ap (λ z. z.row) d)))
-        (Contains-append_cases ((this_points ++ param_points) ++ local_points) result_points a c))
+        (Contains-append_cases (((this_points P Q m k) ++ (param_points P Q m k)) ++ (local_points P Q m k)) (result_points P Q m k) a c))
         (λ c. let z = flat_from form_points (parts_of P m k) a (place_from (λ p. p.place.at) (flat_map form_points (parts_of P m k)) a c) in a_form m
         k z.0 e z.1 (form_from z.0 a z.2))
-        (Contains-append_cases (((this_points ++ param_points) ++ local_points) ++ result_points) part_points a c)
+        (Contains-append_cases ((((this_points P Q m k) ++ (param_points P Q m k)) ++ (local_points P Q m k)) ++ (result_points P Q m k))
+        (part_points P Q m k) a c)
 
     part_at : (p : Part) (a : PointAt) → Contains (parts_of P m k) p → Contains (form_points p) a → Contains (method_points P Q m k) a
-    part_at p a c d = Contains-append_right (((this_points ++ param_points) ++ local_points) ++ result_points) part_points a
+    part_at p a c d = Contains-append_right ((((this_points P Q m k) ++ (param_points P Q m k)) ++ (local_points P Q m k)) ++ (result_points P Q m k))
+        (part_points P Q m k) a
         (place_has (λ p. p.place.at) (flat_map form_points (parts_of P m k)) a (flat_has form_points (parts_of P m k) p a c d))
 
   point_in : (a : PointAt) (r : Option ℕ) (x : Point) → Contains (point_with a r) x → (a.item ≡ x.item) × (r ≡ Some x.row)
@@ -149,7 +136,7 @@ module _ (P Q : Plain) where
       let y = each_from_zero (outline_if P Q) Q.methods o.0 (place_from (λ o. o.place.at) (each (outline_if P Q) 0 Q.methods) o.0 o.1) in
       let d = one_from _ o.0 (when_from (is_some y.1.body) _ o.0 y.3).1 in
       record { at = z.0; item = w.0; number = w.1; follows = method_follows y.0 y.1 y.2 z.0 (subst (λ v. Contains v.points z.0) (sym d) z.1) })
-      (Contains-append_cases (flat_map (listed (row_number P Q)) statics) (flat_map in_outline outlines) x (point_raw P Q q x e))
+      (Contains-append_cases (flat_map (listed (row_number P Q)) statics) (flat_map in_outline outlines) x ((numbered_points P Q).from q x e))
 
   pub part_point : (m : ℕ) (k : PlainMethod) → slice_get Q.methods m ≡ Some k → is_some k.body ≡ true → (p : Part) (a : PointAt)
       → Contains (parts_of P m k) p → Contains (form_points p) a → (r : ℕ) → row_number P Q a.row ≡ Some r
@@ -160,6 +147,6 @@ module _ (P Q : Plain) where
     pub item_point : (i : PointItem) (q : ℕ) → point_number P Q i ≡ Some q → (x : Point) × (slice_get (points_of P Q) q ≡ Some x) × (x.item ≡ i)
         × (point_row F q ≡ x.row) × (q < length F.points.items)
     item_point i q e =
-        let z = point_at P Q i q e in
+        let z = (numbered_points P Q).at i q e in
         let a = subst (λ y. slice_get y q ≡ Some (record { 0 = z.0.row })) (sym facts.points) (at_map (λ p. record { 0 = p.row }) (points_of P Q) q z.0 z.1) in
         (z.0, z.1, z.2, ap (λ y. y.0) (index_at F.points.items q _ _ a), at_below F.points.items q _ a)

@@ -40,7 +40,7 @@ use Rattle.flow_rules.specs.Lists.{point_at, row_at, created, moved, news_of, fl
 use Rattle.flow_rules.specs.Numbered.{rows_of, columns_of, sites_of, points_of, row_number, column_number, site_number, point_number, field_columns, method_columns, mark, array_mark, form_columns}
 use Rattle.flow_rules.specs.Facts.{numbers, row_info, column_info, site_info, site_of_row, this_of_row, owner_of, IsFactsOf}
 use Rattle.flow_rules.proofs.Listed.{at_contains, contains_at, at_below, below_at, at_map, map_at, map_from, index_at, one_from, flat_from, when_from, each_from_zero, all_of}
-use Rattle.facts_order.proofs.Items.{site_at, column_raw}
+use Rattle.flow_rules.proofs.NumberedItems.{numbered_sites, numbered_columns}
 use Rattle.facts_order.proofs.Pairs.{IsPlaced}
 use Rattle.facts_order.proofs.Columns.{Stands, for_field, for_declaration, for_body, for_mark, members, column_stands, numbered_column}
 use Rattle.facts_order.proofs.Classes.{class_at, class_there, classes_in_order}
@@ -72,7 +72,7 @@ module _ (P Q : Plain) (placed : IsPlaced P Q) (formed : IsFormed P) (typed : Is
   site_index s x e = at_below F.sites.items s _ (subst (λ y. slice_get y s ≡ Some (site_info x)) (sym facts.sites) (at_map site_info (sites_of P Q) s x e))
 
   site_bound : (n s : ℕ) → site_number P Q n ≡ Some s → s < length F.sites.items
-  site_bound n s e = let z = site_at P Q n s e in site_index s z.0 z.1
+  site_bound n s e = let z = (numbered_sites P Q).at n s e in site_index s z.0 z.1
 
   class_bound : (c : ℕ) → c < length P.classes → c < length F.classes.items
   class_bound c h = let z = below_at P.classes c h in let w = class_there P Q placed F facts c z.0 z.1 in at_below F.classes.items c w.0 w.1
@@ -218,7 +218,7 @@ module _ (P Q : Plain) (placed : IsPlaced P Q) (formed : IsFormed P) (typed : Is
   column_marks n x e =
       ⊎_elim (λ d. let z = each_from_zero field_columns Q.fields x d in field_marks z.0 z.1 x z.3)
       (λ d. let z = each_from_zero (method_columns P Q) Q.methods x d in method_marks z.0 z.1 x z.2 z.3)
-      (Contains-append_cases (each field_columns 0 Q.fields) (each (method_columns P Q) 0 Q.methods) x (column_raw P Q n x e))
+      (Contains-append_cases (each field_columns 0 Q.fields) (each (method_columns P Q) 0 Q.methods) x ((numbered_columns P Q).from n x e))
 
   item_owner : (i : ColumnItem) → Stands Q i → ((c : ClassId) → i ≡ column.Is c → c.0 < length F.classes.items) → owner_of Q i < length F.classes.items
   item_owner _ (for_field f k e s) h = subst (λ c. c < length F.classes.items) (sym (ap (λ o. option_map_or (λ k. k.owner) o 0) e)) (field_owner f k e)
@@ -238,12 +238,13 @@ module _ (P Q : Plain) (placed : IsPlaced P Q) (formed : IsFormed P) (typed : Is
       (λ x c. let z = at_contains F.sites.items x c in
       let w = map_at site_info (sites_of P Q) z.0 x (subst (λ y. slice_get y z.0 ≡ Some x) facts.sites z.1) in
       let p = site_part P Q placed formed typed z.0 w.0 w.1 in
-      let a = p.is_part in
+      let a = p.of.is_part in
       subst (λ s. IsRow F s.row × IsClass F s.class) w.2 (
         row_bound (row.New w.0.number) w.0.row p.row_number_is,
         own_known a.number a.method a.stands
-            (a_creation p.place p.used p.operand) p.operand w.0.ty (fitted_at a.number a.method a.stands (a_creation p.place p.used p.operand) a.part)
-            refl p.type,
+            (a_creation p.of.place p.of.used p.of.operand) p.of.operand w.0.ty
+            (fitted_at a.number a.method a.stands (a_creation p.of.place p.of.used p.of.operand) a.part)
+            refl p.of.type,
       ))
 
   class_known : (c : ℕ) (x : ClassInfo) → slice_get F.classes.items c ≡ Some x → IfSome x.parent (IsClass F) × All (IsClass F) x.faces.items

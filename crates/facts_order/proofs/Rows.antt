@@ -1,6 +1,6 @@
 -- The rows of a program's facts: what each types, and the type that it has.
 use Rattle.std.proofs.Common.{◌≡◌, ℕ, [], ◌++◌, Option, Some, None, length, refl, sym, ap, subst, arith, inl, inr, ⊎_elim}
-use Rattle.std.specs.Prelude.{◌⊎◌, ◌<◌, ◌&&◌, ◌||◌, nat_lt, true, false, not, Contains, slice_get}
+use Rattle.std.specs.Prelude.{◌⊎◌, ◌<◌, ◌&&◌, ◌||◌, nat_lt, Bool, true, false, not, Contains, slice_get}
 use Rattle.std.specs.Option.{option_map, is_some}
 use Rattle.std.specs.List.{flat_map}
 use Rattle.std.proofs.lemmas.Bool.{not-true, and_parts}
@@ -20,15 +20,28 @@ use Rattle.flow_rules.specs.declared.items.RowItem.{RowItem}
 use Rattle.flow_rules.specs.declared.items.RowItem.TheVariants as row
 use Rattle.flow_rules.specs.declared.items.Row.{Row}
 use Rattle.flow_rules.specs.Ordered.{each}
-use Rattle.flow_rules.specs.Operands.{object_of, object_if, class_object, variable_row, result_in, type_in}
+use Rattle.flow_rules.specs.Operands.{object_of, object_if, class_object, variable_in, variable_row, result_in, type_in}
 use Rattle.flow_rules.specs.Parts.{Part, a_creation, a_test, parts_body, parts_of}
 use Rattle.flow_rules.specs.Numbered.{row_if, own_row, form_rows, field_rows, this_rows, result_rows, variable_rows, method_rows, is_first, rows_of, row_number}
 use Rattle.flow_rules.specs.Facts.{row_info, numbers, IsFactsOf}
 use Rattle.flow_rules.proofs.Listed.{at_below, below_at, at_map, map_at, index_at, index_past, each_from, each_from_zero, flat_from, when_from, one_from, at_left}
-use Rattle.facts_order.proofs.Items.{row_at, row_raw}
+use Rattle.flow_rules.proofs.NumberedItems.{numbered_rows}
 use Rattle.facts_order.proofs.Pairs.{IsPlaced}
-use Rattle.facts_order.proofs.Numbers.{back}
+use Rattle.run_cover.proofs.Numbers.{back}
 use Rattle.facts_order.proofs.Forms.{From, sts_from}
+
+-- what is alike of the rows of returns and of static results holds of the row of a result
+pub all_results : {A : Type 0} (f : RowItem → A) (v : A) → ((s : ℕ) → f (row.Return s) ≡ v) → ((m : ℕ) → f (row.Result m) ≡ v)
+    → (s : Option ℕ) (m : ℕ) → f (result_in s m) ≡ v
+all_results f v h g None m = g m
+all_results f v h g (Some s) m = h s
+
+-- and what is alike of those of parameters and of locals, of the row of a variable
+pub all_variables : {A : Type 0} (f : RowItem → A) (v : A) → ((s i : ℕ) → f (row.Param s i) ≡ v) → ((m i : ℕ) → f (row.Local m i) ≡ v)
+    → (s : Option ℕ) (b : Bool) (m i : ℕ) → f (variable_in s b m i) ≡ v
+all_variables f v h g None b m i = g m i
+all_variables f v h g (Some s) true m i = h s i
+all_variables f v h g (Some s) false m i = g m i
 
 -- the item and the type of a row, where it has one
 row_in : (i : RowItem) (p : Place) (t : Option ObjectType) (x : Row) → Contains (row_if i p t) x → (x.item ≡ i) × (t ≡ Some x.ty)
@@ -115,7 +128,7 @@ module _ (P Q : Plain) where
   row_types r x e =
       ⊎_elim (λ d. let z = each_from_zero field_rows Q.fields x d in field_types z.0 z.1 x z.2 z.3)
       (λ d. let z = each_from_zero (method_rows P Q) Q.methods x d in method_types z.0 z.1 x z.2 z.3)
-      (Contains-append_cases (each field_rows 0 Q.fields) (each (method_rows P Q) 0 Q.methods) x (row_raw P Q r x e))
+      (Contains-append_cases (each field_rows 0 Q.fields) (each (method_rows P Q) 0 Q.methods) x ((numbered_rows P Q).from r x e))
 
   module _ (F : Facts) (facts : IsFactsOf P Q F) where
     pub record HasRow (r : ℕ) : Type 0 where
@@ -136,7 +149,7 @@ module _ (P Q : Plain) where
     pub item_row : (i : RowItem) (r : ℕ) → row_number P Q i ≡ Some r → (x : Row) × (slice_get (rows_of P Q) r ≡ Some x) × (x.item ≡ i)
         × (info_at F r ≡ row_info (numbers P Q) Q x) × (r < length F.rows.items)
     item_row i r e =
-        let z = row_at P Q i r e in
+        let z = (numbered_rows P Q).at i r e in
         (z.0, z.1, z.2, index_at F.rows.items r _ _ (info_is r z.0 z.1), at_below F.rows.items r _ (info_is r z.0 z.1))
 
     -- a row with a site or a `this` stands in the list

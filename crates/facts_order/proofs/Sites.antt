@@ -1,12 +1,11 @@
 -- Creations, casts and `instanceof`: each has its row, which has its type, and each creation its site.
-use Rattle.std.proofs.Common.{◌≡◌, ℕ, List, [], ◌∷◌, Option, Some, None, length, refl, sym, ap, ◌∙◌, subst, arith}
-use Rattle.std.specs.Prelude.{◌<◌, nat_lt, Bool, true, false, Contains, slice_get}
-use Rattle.std.specs.Option.{option_map}
+use Rattle.std.proofs.Common.{◌≡◌, ℕ, [], ◌∷◌, Option, Some, None, length, refl, sym, ap, ◌∙◌, subst, arith}
+use Rattle.std.specs.Prelude.{◌<◌, nat_lt, Bool, Contains, slice_get}
+use Rattle.std.specs.Option.{option_map, option_to_list}
 use Rattle.std.specs.List.{flat_map}
 use Rattle.std.proofs.lemmas.Option.{same_Some}
 use Rattle.kaba_base.specs.declared.Place.{Place}
 use Rattle.kaba_base.specs.declared.SiteId.{SiteId}
-use Rattle.java_core.specs.Trees.{Ex, number, character, text, truth, null, this, local, static_field, own_field, field, index, call, static_call, super_call, create, create_array, cast, instance_of, unary, binary, Target, to_local, to_static, to_own, to_field, to_element, no_target}
 use Rattle.java_core.specs.Programs.{Plain, PlainMethod}
 use Rattle.java_core.specs.Typing.{IsTyped}
 use Rattle.java_core.specs.Formed.{IsFormed}
@@ -19,102 +18,46 @@ use Rattle.flow_rules.specs.declared.items.RowItem.{RowItem}
 use Rattle.flow_rules.specs.declared.items.RowItem.TheVariants as row
 use Rattle.flow_rules.specs.declared.items.Row.{Row}
 use Rattle.flow_rules.specs.declared.items.Site.{Site}
-use Rattle.flow_rules.specs.Labels.{label}
 use Rattle.flow_rules.specs.Operands.{result_in, variable_in, type_in}
-use Rattle.flow_rules.specs.Parts.{Part, a_load, an_element, a_creation, a_call, a_static_call, a_super_call, a_test, a_pair, a_set, a_store, an_element_store, a_return, parts_of}
+use Rattle.flow_rules.specs.Parts.{Part, a_creation, a_test, parts_of}
 use Rattle.flow_rules.specs.Numbered.{Body, rows_of, row_number, number_if, site_if, form_sites, bodies_of, body_at, sites_of, site_number}
 use Rattle.flow_rules.specs.Facts.{site_info, site_of_row, numbers, IsFactsOf}
-use Rattle.flow_rules.proofs.Listed.{below_at, at_map, map_at, index_at, each_has, each_from_zero, flat_has, flat_from, one_from, first}
-use Rattle.facts_order.proofs.Items.{site_at, site_back, site_raw, site_there, row_back}
+use Rattle.flow_rules.proofs.Listed.{below_at, at_map, map_at, index_at, each_has, flat_has, first}
+use Rattle.flow_rules.proofs.NumberedItems.{numbered_sites, numbered_rows}
 use Rattle.facts_order.proofs.Pairs.{IsPlaced}
-use Rattle.facts_order.proofs.Numbers.{number_in, part_number, IsPart, number_apart}
-use Rattle.facts_order.proofs.Forms.{own, own_assign, From, from_ex, from_assign, from_declare, from_return}
-use Rattle.facts_order.proofs.Rows.{own_of, IsOwn, Types, for_field, for_this, for_result, for_variable, for_part, row_types, part_from, item_row, row_of}
-
--- the row of a creation is that of its number, and a cast and an `instanceof` have one of their own
-abbrev HasNumber : Option RowItem → Type 0
-HasNumber i = (n : ℕ) × (number_in i ≡ n ∷ [])
-
-abbrev IsNumbered : Part → Type 0
-IsNumbered (a_creation p u o) = HasNumber o.row × (o.row ≡ option_map row.New o.created)
-IsNumbered (a_test p e o) = HasNumber o.row
-IsNumbered (a_load p b f o) = Unit {0}
-IsNumbered (an_element p b o) = Unit {0}
-IsNumbered (a_call p b s d es o) = Unit {0}
-IsNumbered (a_static_call p m es o) = Unit {0}
-IsNumbered (a_super_call p m es o) = Unit {0}
-IsNumbered (a_pair o l r) = Unit {0}
-IsNumbered (a_set v o) = Unit {0}
-IsNumbered (a_store p b f o) = Unit {0}
-IsNumbered (an_element_store p b o) = Unit {0}
-IsNumbered (a_return o) = Unit {0}
-
-module _ (P : Plain) (type : Ex → Option ObjectType) (m : ℕ) (k h : PlainMethod) (ps : List Part) where
-  abbrev in_own : Bool → Ex → List Part
-  in_own u e = own P type m k h ps u e
-
-  is : (q p : Part) → Contains (q ∷ []) p → IsNumbered q → IsNumbered p
-  is q p c n = subst (λ z. IsNumbered z) (one_from q p c) n
-
-  own_numbered : (u : Bool) (e : Ex) (p : Part) → Contains (in_own u e) p → IsNumbered p
-  own_numbered u (number t n) p c = absurd (omega (arith, c.1))
-  own_numbered u (character t n) p c = absurd (omega (arith, c.1))
-  own_numbered u (text t n) p c = absurd (omega (arith, c.1))
-  own_numbered u (truth t n) p c = absurd (omega (arith, c.1))
-  own_numbered u (null t) p c = absurd (omega (arith, c.1))
-  own_numbered u (this t) p c = absurd (omega (arith, c.1))
-  own_numbered u (local t n) p c = absurd (omega (arith, c.1))
-  own_numbered u (static_field t n) p c = absurd (omega (arith, c.1))
-  own_numbered u (own_field t f) p c = is _ p c tt
-  own_numbered u (field t e x) p c = is _ p c tt
-  own_numbered u (index t e i) p c = is _ p c tt
-  own_numbered u (call t e x es) p c = is _ p c tt
-  own_numbered u (static_call t d es) p c = is _ p c tt
-  own_numbered u (super_call t x es) p c = is _ p c tt
-  own_numbered u (create t n d es) p c = is _ p c ((n, refl), refl)
-  own_numbered u (create_array t n v e) p c = is _ p c ((n, refl), refl)
-  own_numbered u (cast t n v e) p c = is _ p c (n, refl)
-  own_numbered u (instance_of t n e d) p c = is _ p c (n, refl)
-  own_numbered u (unary t o e) p c = absurd (omega (arith, c.1))
-  own_numbered u (binary t o e d) p c = is _ p c tt
-
-  assign_numbered : (w : Place) (t : Target) (e : Ex) (p : Part) → Contains (own_assign P type m k h ps w t e) p → IsNumbered p
-  assign_numbered w (to_local t i) e p c = is _ p c tt
-  assign_numbered w (to_static t f) e p c = is _ p c tt
-  assign_numbered w (to_own t f) e p c = is _ p c tt
-  assign_numbered w (to_field t b x) e p c = is _ p c tt
-  assign_numbered w (to_element t b i) e p c = is _ p c tt
-  assign_numbered w no_target e p c = is _ p c tt
-
-  from_numbered : (p : Part) → From P type m k h ps p → IsNumbered p
-  from_numbered p (from_ex z) = own_numbered z.used (label z.number z.form) p z.own_part
-  from_numbered p (from_assign z) = assign_numbered z.place _ _ p z.own_part
-  from_numbered p (from_declare z) = is _ p z.own_part tt
-  from_numbered p (from_return z) = is _ p z.own_part tt
+use Rattle.run_cover.proofs.Unique.{IsCreated, site_created}
+use Rattle.run_cover.proofs.Numbers.{number_in, part_number, IsBare, IsPart, number_apart}
+use Rattle.facts_order.proofs.OwnParts.{HasLabel, HasNumber, IsNumbered, IsMade, from_made}
+use Rattle.facts_order.proofs.Points.{given_by}
+use Rattle.facts_order.proofs.Rows.{own_of, IsOwn, Types, for_field, for_this, for_result, for_variable, for_part, row_types, part_from, item_row, row_of, all_results, all_variables}
 
 pub numbered_own : (p : Part) (o : Operand) → IsNumbered p → own_of p ≡ Some o → HasNumber o.row
 numbered_own (a_creation p u q) o a e = subst (λ z. HasNumber z.row) (same_Some q o e) a.0
 numbered_own (a_test p d q) o a e = subst (λ z. HasNumber z.row) (same_Some q o e) a
 numbered_own _ o a e = absurd (cc)
 
-pub number_own : (p : Part) (o : Operand) → own_of p ≡ Some o → part_number p ≡ number_in o.row
-number_own (a_creation p u q) o e = ap (λ z. number_in z.row) (same_Some q o e)
-number_own (a_test p d q) o e = ap (λ z. number_in z.row) (same_Some q o e)
-number_own _ o e = absurd (cc)
+created_number : (c : Option ℕ) (i : Option RowItem) → i ≡ option_map row.New c → option_to_list c ≡ number_in i
+created_number None i e = ap number_in (sym e)
+created_number (Some n) i e = ap number_in (sym e)
 
-result_numberless : (s : Option ℕ) (m : ℕ) → number_in (Some (result_in s m)) ≡ []
-result_numberless None m = refl
-result_numberless (Some s) m = refl
-
-pub variable_numberless : (s : Option ℕ) (b : Bool) (m i : ℕ) → number_in (Some (variable_in s b m i)) ≡ []
-variable_numberless None b m i = refl
-variable_numberless (Some s) true m i = refl
-variable_numberless (Some s) false m i = refl
+pub number_own : (p : Part) (o : Operand) → IsNumbered p → own_of p ≡ Some o → part_number p ≡ number_in o.row
+number_own (a_creation p u q) o a e = created_number q.created q.row a.1 ∙ ap (λ z. number_in z.row) (same_Some q o e)
+number_own (a_test p d q) o a e = ap (λ z. number_in z.row) (same_Some q o e)
+number_own _ o a e = absurd (cc)
 
 module _ (P Q : Plain) (placed : IsPlaced P Q) (formed : IsFormed P) (typed : IsTyped P) where
-  pub part_numbered : (p : Part) → IsPart P Q placed formed p → IsNumbered p
-  part_numbered p a = from_numbered P (type_in P a.number a.method) a.number a.method (placed.methods a.number a.method a.stands).plain
+  bare_method : (m : ℕ) (k : PlainMethod) → slice_get Q.methods m ≡ Some k → IsBare P m k
+  bare_method m k e = let x = placed.methods m k e in record { plain = x.plain; stands = x.stands; body = x.body }
+
+  pub part_made : (p : Part) (a : IsPart P Q p) → IsMade a.number p
+  part_made p a = from_made P (type_in P a.number a.method) a.number a.method (placed.methods a.number a.method a.stands).plain
       (parts_of P a.number a.method) p (part_from P Q placed formed typed a.number a.method a.stands p a.part)
+
+  pub part_labelled : (p : Part) (a : IsPart P Q p) → HasLabel a.number (given_by p)
+  part_labelled p a = (part_made p a).0
+
+  pub part_numbered : (p : Part) → IsPart P Q p → IsNumbered p
+  part_numbered p a = (part_made p a).1
 
   nothing_numbered : {R : Type 0} (n : ℕ) (i : RowItem) (x : Row) → number_in (Some x.item) ≡ n ∷ [] → x.item ≡ i → number_in (Some i) ≡ [] → R
   nothing_numbered n i x a e d = absurd (cons_nil (sym a ∙ ap (λ z. number_in (Some z)) e ∙ d))
@@ -124,75 +67,44 @@ module _ (P Q : Plain) (placed : IsPlaced P Q) (formed : IsFormed P) (typed : Is
 
   -- the part of a row with a number
   pub numbered_row : (n r : ℕ) (x : Row) → slice_get (rows_of P Q) r ≡ Some x → number_in (Some x.item) ≡ n ∷ [] → (q : Part)
-      × IsPart P Q placed formed q × IsOwn x q
+      × IsPart P Q q × IsOwn x q
   numbered_row n r x e h = go (row_types P Q r x e)
     where
-      go : Types P Q x → (q : Part) × IsPart P Q placed formed q × IsOwn x q
+      go : Types P Q x → (q : Part) × IsPart P Q q × IsOwn x q
       go (for_field f k a b c) = nothing_numbered n (row.Field f) x h b refl
       go (for_this m k a b c d t) = nothing_numbered n (row.This m) x h d refl
-      go (for_result m k a b c) = nothing_numbered n (result_in k.slot m) x h b (result_numberless k.slot m)
+      go (for_result m k a b c) = nothing_numbered n (result_in k.slot m) x h b (all_results (λ i. number_in (Some i)) [] (λ s. refl) (λ m. refl) k.slot m)
       go (for_variable m k i v a b c d) = nothing_numbered n (variable_in k.slot (nat_lt i (length k.params)) m i) x h c
-          (variable_numberless k.slot (nat_lt i (length k.params)) m i)
+          (all_variables (λ i. number_in (Some i)) [] (λ s i. refl) (λ m i. refl) k.slot (nat_lt i (length k.params)) m i)
       go (for_part m k p a b c) = (p, record { number = m; method = k; stands = a; part = b }, c)
 
   -- the row of what a part gives has its type
-  pub own_typed : (p : Part) (o : Operand) (i : RowItem) (r : ℕ) (x : Row) → IsPart P Q placed formed p → own_of p ≡ Some o → o.row ≡ Some i
+  pub own_typed : (p : Part) (o : Operand) (i : RowItem) (r : ℕ) (x : Row) → IsPart P Q p → own_of p ≡ Some o → o.row ≡ Some i
       → slice_get (rows_of P Q) r ≡ Some x → x.item ≡ i → o.ty ≡ Some x.ty
   own_typed p o i r x a b c e f =
       let n = numbered_own p o (part_numbered p a) b in
       let g = ap number_in (ap Some f ∙ sym c) ∙ n.1 in
       let z = numbered_row n.0 r x e g in
-      let one = subst (λ w. Contains w n.0) (sym (number_own p o b ∙ n.1)) (first n.0 []) in
-      let two = subst (λ w. Contains w n.0) (sym (number_own z.0 z.2.operand z.2.own ∙ ap number_in z.2.row_is ∙ g)) (first n.0 []) in
-      let same = number_apart P Q placed formed p z.0 n.0 a z.1 one two in
+      let one = subst (λ w. Contains w n.0) (sym (number_own p o (part_numbered p a) b ∙ n.1)) (first n.0 []) in
+      let two = subst (λ w. Contains w n.0) (sym (number_own z.0 z.2.operand (part_numbered z.0 z.1) z.2.own ∙ ap number_in z.2.row_is ∙ g)) (first n.0 []) in
+      let same = number_apart P Q bare_method formed.numbered p z.0 n.0 a z.1 one two in
       ap (λ w. w.ty) (same_Some _ _ (sym b ∙ ap own_of same ∙ z.2.own)) ∙ z.2.type
 
-  pub own_type : (p : Part) (o : Operand) (i : RowItem) (t : ObjectType) (r : ℕ) (x : Row) → IsPart P Q placed formed p → own_of p ≡ Some o
+  pub own_type : (p : Part) (o : Operand) (i : RowItem) (t : ObjectType) (r : ℕ) (x : Row) → IsPart P Q p → own_of p ≡ Some o
       → o.row ≡ Some i → o.ty ≡ Some t → slice_get (rows_of P Q) r ≡ Some x → x.item ≡ i → x.ty ≡ t
   own_type p o i t r x a b c d e f = same_Some _ _ (sym (own_typed p o i r x a b c e f) ∙ d)
 
   -- the part of a site
   pub record IsSitePart (x : Site) : Type 0 where
-    pub place : Place
-    pub used : Bool
-    pub operand : Operand
-    pub is_part : IsPart P Q placed formed (a_creation place used operand)
-    pub created : operand.created ≡ Some x.number
-    pub type : operand.ty ≡ Some x.ty
-    pub row_is : operand.row ≡ Some (row.New x.number)
+    pub of : IsCreated P Q x
+    pub row_is : of.operand.row ≡ Some (row.New x.number)
     pub row_number_is : row_number P Q (row.New x.number) ≡ Some x.row
 
-  site_parts : (p : Place) (n : Option ℕ) (t : Option ObjectType) (r : Option ℕ) (x : Site) → Contains (site_if p n t r) x → (n ≡ Some x.number)
-      × (t ≡ Some x.ty) × (r ≡ Some x.row)
-  site_parts p (Some n) (Some t) (Some r) x c = let e = one_from _ x c in (ap (λ z. Some z.number) e, ap (λ z. Some z.ty) e, ap (λ z. Some z.row) e)
-  site_parts p (Some n) (Some t) None x c = absurd (omega (arith, c.1))
-  site_parts p (Some n) None r x c = absurd (omega (arith, c.1))
-  site_parts p None t r x c = absurd (omega (arith, c.1))
-
-  form_site : (p : Part) (x : Site) → IsPart P Q placed formed p → Contains (form_sites (row_number P Q) p) x → IsSitePart x
-  form_site (a_creation p u o) x a c =
-      let z = site_parts p o.created o.ty (number_if (row_number P Q) o.row) x c in
-      let e = (part_numbered (a_creation p u o) a).1 ∙ ap (option_map row.New) z.0 in
-      record {
-        place = p;
-        used = u;
-        operand = o;
-        is_part = a;
-        created = z.0;
-        type = z.1;
-        row_is = e;
-        row_number_is = sym
-            (ap (number_if (row_number P Q)) e) ∙ z.2;
-      }
-  form_site _ x a c = absurd (omega (arith, c.1))
-
   pub site_part : (s : ℕ) (x : Site) → slice_get (sites_of P Q) s ≡ Some x → IsSitePart x
-  unfolding bodies_of
   site_part s x e =
-      let z = flat_from (λ b. flat_map (form_sites (row_number P Q)) b.parts) (bodies_of P Q) x (site_raw P Q s x e) in
-      let b = each_from_zero (body_at P Q) Q.methods z.0 z.1 in
-      let c = flat_from (form_sites (row_number P Q)) z.0.parts x z.2 in
-      form_site c.0 x (record { number = b.0; method = b.1; stands = b.2; part = subst (λ w. Contains w.parts c.0) (sym (one_from _ z.0 b.3)) c.1 }) c.2
+      let z = site_created P Q s x e in
+      let row_is = (part_numbered (a_creation z.place z.used z.operand) z.is_part).1 ∙ ap (option_map row.New) z.created in
+      record { of = z; row_is = row_is; row_number_is = sym (ap (number_if (row_number P Q)) row_is) ∙ z.numbered }
 
   module _ (F : Facts) (facts : IsFactsOf P Q F) where
     pub record HasSite (s : ℕ) : Type 0 where
@@ -213,25 +125,25 @@ module _ (P Q : Plain) (placed : IsPlaced P Q) (formed : IsFormed P) (typed : Is
         let p = site_part s z.site z.stands in
         let w = item_row P Q F facts (row.New z.site.number) z.site.row p.row_number_is in
         ap (λ i. (info_at F i.row.0).site) z.info ∙ ap (λ i. i.site) w.3 ∙ ap (site_of_row (numbers P Q)) w.2
-        ∙ ap (λ n. option_map (λ i. record { 0 = i }) n) (site_back P Q s z.site z.stands)
+        ∙ ap (λ n. option_map (λ i. record { 0 = i }) n) ((numbered_sites P Q).back s z.site z.stands)
 
     pub site_types : (s : ℕ) → s < length F.sites.items → site_class F s ≡ row_class F (site_row F s)
     site_types s h =
         let z = site_of s h in
         let p = site_part s z.site z.stands in
         let w = item_row P Q F facts (row.New z.site.number) z.site.row p.row_number_is in
-        let t = own_type (a_creation p.place p.used p.operand) p.operand (row.New z.site.number) z.site.ty z.site.row w.0 p.is_part refl p.row_is
-        p.type w.1 w.2 in
+        let t = own_type (a_creation p.of.place p.of.used p.of.operand) p.of.operand (row.New z.site.number) z.site.ty z.site.row w.0 p.of.is_part refl p.row_is
+        p.of.type w.1 w.2 in
         ap (λ i. i.class.0) z.info ∙ sym (ap (λ i. row_class F i.row.0) z.info ∙ ap (λ i. i.class.0) w.3 ∙ ap (λ y. y.class.0) t)
 
     -- the site of a creation's row has as many brackets
     pub site_dim : (n r s : ℕ) (x : Row) → slice_get (rows_of P Q) r ≡ Some x → x.item ≡ row.New n → row_number P Q (row.New n) ≡ Some r
         → site_number P Q n ≡ Some s → (site_info_at F s).dim ≡ x.ty.dim
     site_dim n r s x e h a b =
-        let z = site_at P Q n s b in
+        let z = (numbered_sites P Q).at n s b in
         let p = site_part s z.0 z.1 in
         let same : z.0.row ≡ r = same_Some _ _ (sym p.row_number_is ∙ ap (λ i. row_number P Q (row.New i)) z.2 ∙ a) in
-        let t = own_type (a_creation p.place p.used p.operand) p.operand (row.New z.0.number) z.0.ty z.0.row x p.is_part refl p.row_is p.type
+        let t = own_type (a_creation p.of.place p.of.used p.of.operand) p.of.operand (row.New z.0.number) z.0.ty z.0.row x p.of.is_part refl p.row_is p.of.type
         (subst (λ i. slice_get (rows_of P Q) i ≡ Some x) (sym same) e) (h ∙ ap row.New (sym z.2)) in
         ap (λ i. i.dim) (index_at F.sites.items s _ (site_info z.0) (subst (λ y. slice_get y s ≡ Some (site_info z.0)) (sym facts.sites)
         (at_map (site_info) (sites_of P Q) s z.0 z.1))) ∙ sym (ap (λ y. y.dim) t)
@@ -245,7 +157,7 @@ module _ (P Q : Plain) (placed : IsPlaced P Q) (formed : IsFormed P) (typed : Is
     made_site m k w u o n r t e c a b d h =
         let x : Site = record { number = n; place = w; ty = t; row = r } in
         let b0 : Body = record { number = m; slot = k.slot; parts = parts_of P m k } in
-        site_there P Q x (flat_has (λ b. flat_map (form_sites (row_number P Q)) b.parts) (bodies_of P Q) b0 x
+        (numbered_sites P Q).there x (flat_has (λ b. flat_map (form_sites (row_number P Q)) b.parts) (bodies_of P Q) b0 x
         (each_has (body_at P Q) 0 Q.methods m k b0 e m (omega arith) (first b0 []))
         (flat_has (form_sites (row_number P Q)) (parts_of P m k) (a_creation w u o) x c
         (subst (λ z. Contains (site_if w z o.ty (number_if (row_number P Q) o.row)) x) (sym a)
@@ -255,7 +167,7 @@ module _ (P Q : Plain) (placed : IsPlaced P Q) (formed : IsFormed P) (typed : Is
     -- the creation of a row with a site
     pub created_row : (n r : ℕ) (s : SiteId) → row_number P Q (row.New n) ≡ Some r → site_number P Q n ≡ Some s.0 → site_row F s.0 ≡ r
     created_row n r s a b =
-        let z = site_at P Q n s.0 b in
+        let z = (numbered_sites P Q).at n s.0 b in
         let p = site_part s.0 z.0 z.1 in
         let i = index_at F.sites.items s.0 _ (site_info z.0) (subst (λ y. slice_get y s.0 ≡ Some (site_info z.0)) (sym facts.sites)
         (at_map (site_info) (sites_of P Q) s.0 z.0 z.1)) in
@@ -273,7 +185,7 @@ module _ (P Q : Plain) (placed : IsPlaced P Q) (formed : IsFormed P) (typed : Is
     back : (r : ℕ) (s : SiteId) → r < length F.rows.items → (info_at F r).site ≡ Some s → site_row F s.0 ≡ r
     back r s h e =
         let z = row_of P Q F facts r h in
-        item_site r z.row_is.item s (row_back P Q r z.row_is z.stands) (sym (ap (λ i. i.site) z.info) ∙ e)
+        item_site r z.row_is.item s ((numbered_rows P Q).back r z.row_is z.stands) (sym (ap (λ i. i.site) z.info) ∙ e)
 
     pub sites_in_order : AreSitesInOrder F
     sites_in_order = record { own = own_row; back = back }

@@ -38,11 +38,12 @@ use Rattle.flow_rules.proofs.Listed.{first, at_below, index_at, below_at, contai
 use Rattle.facts_order.proofs.Pairs.{IsPlaced}
 use Rattle.facts_order.proofs.Columns.{numbered_column, part_column}
 use Rattle.facts_order.proofs.Labels.{label_in, part_label, label_apart}
-use Rattle.facts_order.proofs.Numbers.{IsPart}
+use Rattle.run_cover.proofs.Numbers.{IsPart}
 use Rattle.facts_order.proofs.Rows.{item_row}
 use Rattle.facts_order.proofs.Sites.{own_type, site_of, site_part}
 use Rattle.facts_order.proofs.Points.{given_by, Follows, a_static, a_this, a_variable, a_result, a_form, point_of, part_point, item_point}
-use Rattle.facts_order.proofs.Bodies.{HasLabel, part_labelled}
+use Rattle.facts_order.proofs.OwnParts.{HasLabel}
+use Rattle.facts_order.proofs.Sites.{part_labelled}
 
 pub label_given : (p : Part) (o : Operand) → given_by p ≡ Some o → part_label p ≡ label_in o.point
 label_given (a_load p b f q) o e = ap (λ z. label_in z.point) (same_Some q o e)
@@ -200,7 +201,7 @@ module _ (P Q : Plain) (placed : IsPlaced P Q) (formed : IsFormed P) (typed : Is
       (subst (λ w. Contains w x) facts.tests c)) in
       test_part z.0 z.1 z.2 x z.3 z.4 z.5
 
-  part_is : (x : TestInfo) (t : IsTestPart x) → IsPart P Q placed formed (a_test t.place t.operand t.own)
+  abbrev part_is : (x : TestInfo) (t : IsTestPart x) → IsPart P Q (a_test t.place t.operand t.own)
   part_is x t = record { number = t.number; method = t.method; stands = t.stands; part = t.part }
 
   targets : All (λ x. row_class F x.target.0 ≡ x.class.0) F.tests.items
@@ -229,7 +230,7 @@ module _ (P Q : Plain) (placed : IsPlaced P Q) (formed : IsFormed P) (typed : Is
       → Contains (parts_of P m k) p → given_by p ≡ Some o → o.point ≡ Some (point.Expr m l) → Follows P Q a → a.item ≡ point.Expr m l
       → o.row ≡ Some a.row
   part_follows m k p o l a e c g h (a_form n j q d b v) i =
-      let y = subst (λ z. HasLabel n z) v.given (part_labelled P Q placed formed typed q (record { number = n; method = j; stands = d; part = b }) n j d b) in
+      let y = subst (λ z. HasLabel n z) v.given (part_labelled P Q placed formed typed q (record { number = n; method = j; stands = d; part = b })) in
       let s : n ≡ m = same_Some n m (ap expr_body (same_Some _ _ (sym y.1 ∙ v.point_is ∙ ap Some i))) in
       let kk : j ≡ k = same_Some j k (sym d ∙ ap (slice_get Q.methods) s ∙ e) in
       let cc1 = subst (λ z. Contains (parts_of P m z) q) kk (subst (λ z. Contains (parts_of P z j) q) s b) in
@@ -243,7 +244,7 @@ module _ (P Q : Plain) (placed : IsPlaced P Q) (formed : IsFormed P) (typed : Is
   cast_of : (x : TestInfo) → IsTestPart x → HasCast F x
   cast_of x t =
       let p = a_test t.place t.operand t.own in
-      let y = part_labelled P Q placed formed typed p (part_is x t) t.number t.method t.stands t.part in
+      let y = part_labelled P Q placed formed typed p (part_is x t) in
       let a : PointAt = record { item = point.Expr t.number y.0; place = t.place; row = t.item } in
       let q = part_point P Q t.number t.method t.stands (has_body P t.number t.method p t.part) p a t.part
       (own_point_has t.place t.own.point t.own.row t.own.ty (point.Expr t.number y.0) t.item t.type y.1 t.row_is t.typed_as)
@@ -278,10 +279,10 @@ module _ (P Q : Plain) (placed : IsPlaced P Q) (formed : IsFormed P) (typed : Is
   array_marks s h d =
       let z = site_of P Q placed formed typed F facts s h in
       let p = site_part P Q placed formed typed s z.site z.stands in
-      let col : Column = record { item = column.Is z.site.ty.class; place = p.place } in
+      let col : Column = record { item = column.Is z.site.ty.class; place = p.of.place } in
       subst (λ c. HasMark F c) (sym (ap (λ i. i.class.0) z.info))
-      (marked p.is_part.number p.is_part.method (a_creation p.place p.used p.operand) col z.site.ty.class p.is_part.stands p.is_part.part
-      (array_part p.place p.used p.operand z.site.ty col p.type (subst (λ n. 0 < n) (ap (λ i. i.dim) z.info) d) refl) refl)
+      (marked p.of.is_part.number p.of.is_part.method (a_creation p.of.place p.of.used p.of.operand) col z.site.ty.class p.of.is_part.stands p.of.is_part.part
+      (array_part p.of.place p.of.used p.of.operand z.site.ty col p.of.type (subst (λ n. 0 < n) (ap (λ i. i.dim) z.info) d) refl) refl)
 
   -- the cells of a site name it
   abbrev all_fields : List FieldCell

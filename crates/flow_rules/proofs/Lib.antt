@@ -3,3 +3,4 @@ pub mod Same
 pub mod Examples
 pub mod Listed
 pub mod Keys
+pub mod NumberedItems

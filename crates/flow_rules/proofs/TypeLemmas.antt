@@ -21,9 +21,23 @@ use Rattle.flow_rules.specs.Labels.{label_sts}
 use Rattle.flow_rules.specs.Parts.{Part, parts_sts, parts_body, parts_of}
 use Rattle.flow_rules.specs.Types.{field_object, slot_object, method_object, variable_object, element_object, object_type}
 
-nothing_is : (o : Option Ty) → object_if o ≡ object_static (or_nothing o)
-nothing_is None = refl
-nothing_is (Some t) = refl
+pub object_or : (o : Option Ty) → object_static (or_nothing o) ≡ object_if o
+object_or None = refl
+object_or (Some t) = refl
+
+pub unary_none : (o : UnOp) → object_of (unary_type o) ≡ None
+unary_none un.Plus = refl
+unary_none un.Minus = refl
+unary_none un.Flip = refl
+unary_none un.Not = refl
+
+sum_none : (b : Bool) → object_of (sum_type b) ≡ None
+sum_none true = refl
+sum_none false = refl
+
+pub binary_none : (o : BinOp) (s t : Static) → object_of (binary_type o s t) ≡ None
+binary_none (bin.Int o) s t = sum_none _
+binary_none _ s t = refl
 
 class_in_is : (b : TyBase) (d : ℕ) → object_class (object_in b d) ≡ class_in b d
 class_in_is (Class c) zero = refl
@@ -62,7 +76,7 @@ element_is no_value = refl
 module _ (P : Plain) where
   field_is : (o : Option ℕ) → option_and_then (field_object P) o ≡ object_static (or_nothing (option_and_then (field_type P) o))
   field_is None = refl
-  field_is (Some f) = nothing_is (field_type P f)
+  field_is (Some f) = sym (object_or (field_type P f))
 
   pub object_field_is : (s : Static) (x : List ℕ) → object_field P (object_static s) x ≡ field_in P s x
   unfolding field_in
@@ -95,7 +109,7 @@ module _ (P : Plain) where
   slot_found : (o : Option PlainSlot) → object_if (option_and_then (λ k. k.result) o)
       ≡ object_static (result_of (option_map (λ k. record { params = k.params; result = k.result }) o))
   slot_found None = refl
-  slot_found (Some k) = nothing_is k.result
+  slot_found (Some k) = sym (object_or k.result)
 
   slot_is : (o : Option ℕ) → option_and_then (slot_object P) o ≡ object_static (result_of (option_and_then (signature_of_slot P) o))
   slot_is None = refl
@@ -104,7 +118,7 @@ module _ (P : Plain) where
   method_found : (o : Option PlainMethod) → object_if (option_and_then (λ k. k.result) o)
       ≡ object_static (result_of (option_map (λ k. record { params = types_of k.params; result = k.result }) o))
   method_found None = refl
-  method_found (Some k) = nothing_is k.result
+  method_found (Some k) = sym (object_or k.result)
 
   method_is : (m : ℕ) → method_object P m ≡ object_static (result_of (signature_of_method P m))
   method_is m = method_found (slice_get P.methods m)
@@ -143,23 +157,9 @@ module _ (P : Plain) where
   unfolding super_signature
   super_of c x = super_is (super_method P c x)
 
-  unary_is : (o : UnOp) → object_of (unary_type o) ≡ None
-  unary_is un.Plus = refl
-  unary_is un.Minus = refl
-  unary_is un.Flip = refl
-  unary_is un.Not = refl
-
-  sum_is : (b : Bool) → object_of (sum_type b) ≡ None
-  sum_is true = refl
-  sum_is false = refl
-
-  binary_is : (o : BinOp) (s t : Static) → object_of (binary_type o s t) ≡ None
-  binary_is (bin.Int o) s t = sum_is _
-  binary_is _ s t = refl
-
   module _ (m : ℕ) (k : PlainMethod) where
     local_is : (i : ℕ) → variable_object k i ≡ object_static (or_nothing (slice_get (env_of m k).locals i))
-    local_is i = ap object_if (sym (slice_get-map (λ v. v.ty) (k.params ++ k.locals) i)) ∙ nothing_is _
+    local_is i = ap object_if (sym (slice_get-map (λ v. v.ty) (k.params ++ k.locals) i)) ∙ sym (object_or _)
 
     pub type_is : (e : Ex) → object_type P k e ≡ object_static (static P (env_of m k) e)
     type_is (number t n) = refl
@@ -169,8 +169,8 @@ module _ (P : Plain) where
     type_is (null t) = refl
     type_is (this t) = refl
     type_is (local t i) = local_is i
-    type_is (static_field t f) = nothing_is (field_type P f)
-    type_is (own_field t f) = nothing_is (field_type P f)
+    type_is (static_field t f) = sym (object_or (field_type P f))
+    type_is (own_field t f) = sym (object_or (field_type P f))
     type_is (field t e x) = ap (λ u. option_and_then (field_object P) (object_field P u x)) (type_is e) ∙ access_is (static P (env_of m k) e) x
     type_is (index t e i) = ap element_object (type_is e) ∙ element_is (static P (env_of m k) e)
     type_is (call t e x es) = ap (λ u. option_and_then (slot_object P) (call_slot P u x)) (type_is e) ∙ call_is (static P (env_of m k) e) x
@@ -180,8 +180,8 @@ module _ (P : Plain) where
     type_is (create_array t n u e) = refl
     type_is (cast t n u e) = refl
     type_is (instance_of t n e c) = refl
-    type_is (unary t o e) = sym (unary_is o)
-    type_is (binary t o e d) = sym (binary_is o _ _)
+    type_is (unary t o e) = sym (unary_none o)
+    type_is (binary t o e d) = sym (binary_none o _ _)
 
     -- the same of the two functions
     pub types_are : object_type P k ≡ type_in P m k

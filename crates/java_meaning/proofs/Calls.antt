@@ -15,7 +15,8 @@ use Rattle.java_core.specs.Typing.{TypedSts}
 use Rattle.java_meaning.specs.Moment.{Value, Number, Truth, CodeUnit, Nothing, Text, Object, an_object, Cell, own_type, own_class, held, self_of, ran, State, Frame, Faulted, Body, Lang, look}
 use Rattle.java_meaning.specs.Values.{int_of, default_of, convert, arguments, and_argument, number_of, natural_of, equals_value}
 use Rattle.java_meaning.specs.Meaning.{Flow, Next, Broke, Continued, Gave, ToValue, ToFlow, Later, with_cell, given, enter, call_object, string_call, text_method, call_on, call_static, call_super}
-use Rattle.java_meaning.specs.TypedLang.{StandsSts, TypedBody, HasBody, TypedLang}
+use Rattle.java_meaning.specs.TypedLang.{TypedBody, HasBody, TypedLang, standing}
+use Rattle.java_meaning.specs.EachStatement.{InSts}
 use Rattle.java_meaning.proofs.Holds.{Heap, heap_of, Holds, holds_number, holds_truth, holds_unit, holds_text, holds_null, holds_object, holds_nothing, holds_any, Grows, grown, number_held, IsText, text_null, text_there, text_held, default_held, flows, sub_held, of_parts}
 use Rattle.java_meaning.proofs.Sound.{Sound, sound_stop, some_sound, fault_sound, Good, From, from_on, KV, step_sound, look_sound, look_all_sound, class_sound}
 use Rattle.java_meaning.proofs.Moves.{then_some, here, string_class}
@@ -24,21 +25,20 @@ pub mapped_some : {A B : Type 0} (f : A → B) (o : Option A) (y : B) → option
 mapped_some f None y e = absurd (cc)
 mapped_some f (Some x) y e = (x, refl, same_Some _ _ e)
 
+-- a character alone is another value where it is converted
+converted : {A : Type 0} (f : Value → A) (t : Ty) → ((c : ℕ) → f (convert t (CodeUnit c)) ≡ f (CodeUnit c)) → (v : Value) → f (convert t v) ≡ f v
+converted f t h (Number n) = refl
+converted f t h (Truth b) = refl
+converted f t h (CodeUnit c) = h c
+converted f t h Nothing = refl
+converted f t h (Text a) = refl
+converted f t h (Object a) = refl
+
 number_converted : (v : Value) → number_of (convert (plain_type Int) v) ≡ number_of v
-number_converted (Number n) = refl
-number_converted (Truth b) = refl
-number_converted (CodeUnit c) = refl
-number_converted Nothing = refl
-number_converted (Text a) = refl
-number_converted (Object a) = refl
+number_converted = converted number_of (plain_type Int) (λ c. refl)
 
 string_converted : (v : Value) → convert (plain_type Str) v ≡ v
-string_converted (Number n) = refl
-string_converted (Truth b) = refl
-string_converted (CodeUnit c) = refl
-string_converted Nothing = refl
-string_converted (Text a) = refl
-string_converted (Object a) = refl
+string_converted = converted (λ v. v) (plain_type Str) (λ c. refl)
 
 module _ (P : Plain) where
   -- values of types that fit the parameters, and values of the types themselves
@@ -128,7 +128,7 @@ module _ (P : Plain) where
 
     -- what runs typed statements soundly
     pub record LaterOk (later : Later) : Type 0 where
-      pub runs : (g : Env) (xs : Sts) → TypedSts P g xs → StandsSts P g xs → (f : Frame) (s : State) (k : ToFlow) → Good P L tl s → f.env ≡ g
+      pub runs : (g : Env) (xs : Sts) → TypedSts P g xs → InSts (standing P g) xs → (f : Frame) (s : State) (k : ToFlow) → Good P L tl s → f.env ≡ g
           → FrameIn (heap_of s) f → KF g (heap_of s) k → Sound (later xs f s k)
 
     abbrev V : Heap → Static → ToValue → Type 0

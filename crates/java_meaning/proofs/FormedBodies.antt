@@ -10,7 +10,8 @@ use Rattle.java_core.specs.Classes.{member_field, has_body}
 use Rattle.java_core.specs.Types.{Env, env_of, types_of, field_type, element_in}
 use Rattle.java_core.specs.Formed.{variables_of, IsOwnField, IsStaticField, IsStaticMethod, FormedEx, FormedExs, FormedTarget, FormedOption, FormedSt, FormedSts, FormedArms, IsFormed}
 use Rattle.java_core.specs.Formed.{f_number, f_character, f_text, f_truth, f_null, f_this, f_local, f_static_field, f_own_field, f_field, f_index, f_call, f_static_call, f_super_call, f_create, f_create_array, f_cast, f_instance_of, f_unary, f_binary, f_no_ex, f_ex_then, f_to_local, f_to_static, f_to_own, f_to_field, f_to_element, f_none, f_some, f_declare, f_block, f_assign, f_act, f_print, f_choose, f_loop, f_return, f_break, f_continue, f_no_st, f_st_then, f_no_other, f_otherwise, f_arm}
-use Rattle.java_meaning.specs.TypedLang.{Stands, StandAll, StandsIf, StandsTarget, StandsSt, StandsSts, StandsArms}
+use Rattle.java_meaning.specs.TypedLang.{Stands, StandAll, StandsTarget, standing}
+use Rattle.java_meaning.specs.EachStatement.{OfOption, InSt, InSts, InArms}
 
 typed_within : (ls : List PlainLocal) (i : ℕ) → i < length ls → is_some (slice_get (types_of ls) i) ≡ true
 typed_within [] i lt = absurd (omega (arith, lt))
@@ -73,7 +74,7 @@ module _ (P : Plain) (formed : IsFormed P) where
         stands_all f_no_ex = tt
         stands_all (f_ex_then h hs) = (stands_ex h, stands_all hs)
 
-      stands_if : {e : Option Ex} → FormedOption P k scope e → StandsIf P g e
+      stands_if : {e : Option Ex} → FormedOption P k scope e → OfOption (Stands P g) e
       stands_if f_none = tt
       stands_if (f_some h) = stands_ex h
 
@@ -85,7 +86,7 @@ module _ (P : Plain) (formed : IsFormed P) where
       stands_target (f_to_element h d) = (stands_ex h, stands_ex d)
 
     mutual
-      stands_st : {l : Bool} {scope : List ℕ} {x : St} → FormedSt P k l scope x → StandsSt P g x
+      stands_st : {l : Bool} {scope : List ℕ} {x : St} → FormedSt P k l scope x → InSt (standing P g) x
       stands_st (f_declare {scope = scope} {i = i} h d) = (typed_there (variables_of k) i h.variable h.declared, stands_if (i ∷ scope) d)
       stands_st (f_block h) = stands_sts h
       stands_st (f_assign {scope = scope} h d) = (stands_target scope h, stands_ex scope d)
@@ -97,11 +98,11 @@ module _ (P : Plain) (formed : IsFormed P) where
       stands_st (f_break h) = tt
       stands_st (f_continue h) = tt
 
-      pub stands_sts : {l : Bool} {scope : List ℕ} {xs : Sts} → FormedSts P k l scope xs → StandsSts P g xs
+      pub stands_sts : {l : Bool} {scope : List ℕ} {xs : Sts} → FormedSts P k l scope xs → InSts (standing P g) xs
       stands_sts f_no_st = tt
       stands_sts (f_st_then h hs) = (stands_st h, stands_sts hs)
 
-      stands_arms : {l : Bool} {scope : List ℕ} {xs : Arms} → FormedArms P k l scope xs → StandsArms P g xs
+      stands_arms : {l : Bool} {scope : List ℕ} {xs : Arms} → FormedArms P k l scope xs → InArms (standing P g) xs
       stands_arms f_no_other = tt
       stands_arms (f_otherwise h) = stands_sts h
       stands_arms (f_arm {scope = scope} e h hs) = (stands_ex scope e, stands_sts h, stands_arms hs)

@@ -2,7 +2,7 @@
 use Rattle.std.proofs.Common.{◌≡◌, ℕ, zero, suc, List, Option, Some, None, refl, sym, ap, ◌∙◌, subst, ⊎_elim, arith}
 use Rattle.std.specs.Prelude.{ℤ, pos, Bool, true, false, not, ◌==◌, ◌&&◌, ◌||◌, slice_get}
 use Rattle.std.specs.Option.{is_some}
-use Rattle.std.proofs.lemmas.Bool.{or_cases, false≢true, eqb-true, eq-eqb}
+use Rattle.std.proofs.lemmas.Bool.{or_cases, false≢true, eqb-true, eq-eqb, and_parts}
 use Rattle.java_core.specs.declared.Ty.{Ty}
 use Rattle.java_core.specs.declared.TyBase.{TyBase}
 use Rattle.java_core.specs.declared.TyBase.TheVariants.{Int, Boolean, Char, Str, Class}
@@ -20,10 +20,6 @@ pub record Heap : Type 0 where
 
 abbrev pub heap_of : State → Heap
 heap_of s = record { cells = s.cells; strings = s.strings }
-
-pub both_hold : (x y : Bool) → (x && y) ≡ true → (x ≡ true) × (y ≡ true)
-both_hold true y e = (refl, e)
-both_hold false y e = absurd (false≢true e)
 
 pub both : (x y : Bool) → x ≡ true → y ≡ true → (x && y) ≡ true
 both x y e d = rw e d
@@ -48,7 +44,7 @@ flat_type b c d e f = subst (λ z. plain_type b ≡ record { base = c; dim = z }
 
 -- a type that passes the test of a base is that base without brackets
 pub only_is : (b : TyBase) (t : Ty) → is_class t.base ≡ false → is_only b (a_value t) ≡ true → plain_type b ≡ t
-only_is b t c p = let q = both_hold (is_base t.base b) (t.dim == 0) p in flat_type b t.base t.dim (sym (same_base t.base b c q.0)) (eqb-true t.dim 0 q.1)
+only_is b t c p = let q = and_parts (is_base t.base b) (t.dim == 0) p in flat_type b t.base t.dim (sym (same_base t.base b c q.0)) (eqb-true t.dim 0 q.1)
 
 no_class : (b c : TyBase) → is_class c ≡ false → is_base b c ≡ true → is_class b ≡ false
 no_class Int c p q = refl
@@ -62,7 +58,7 @@ no_class (Class a) Char p q = absurd (false≢true q)
 no_class (Class a) Str p q = absurd (false≢true q)
 
 pub only_type : (b : TyBase) (t : Ty) → is_class b ≡ false → is_only b (a_value t) ≡ true → plain_type b ≡ t
-only_type b t c p = only_is b t (no_class t.base b c (both_hold (is_base t.base b) (t.dim == 0) p).0) p
+only_type b t c p = only_is b t (no_class t.base b c (and_parts (is_base t.base b) (t.dim == 0) p).0) p
 
 -- no number or boolean is a reference, and no number, boolean or string an object
 apart : (b : TyBase) (t : Ty) (test : Ty → Bool) → is_class b ≡ false → test (plain_type b) ≡ false → is_only b (a_value t) ≡ true → test t ≡ true → ⊥
@@ -209,9 +205,9 @@ module _ (P : Plain) where
   pub comparable_held : {h : Heap} {v w : Value} (s t : Static) → Holds h v s → Holds h w t → are_comparable P s t ≡ true → (b : Bool)
       × (same_value v w ≡ Some b)
   comparable_held {v = v} {w = w} (a_value s) (a_value t) p q e =
-      ⊎_elim (λ n. let d = both_hold (is_numeric (a_value s)) (is_numeric (a_value t)) n in numbers (number_held p d.0) (number_held q d.1))
-      (λ o. ⊎_elim (λ b. let d = both_hold (is_boolean (a_value s)) (is_boolean (a_value t)) b in truths (truth_held p d.0) (truth_held q d.1))
-      (λ r. let d = both_hold (is_object s && is_object t) (is_subtype P s t || is_subtype P t s) r in let f = both_hold (is_object s) (is_object t)
+      ⊎_elim (λ n. let d = and_parts (is_numeric (a_value s)) (is_numeric (a_value t)) n in numbers (number_held p d.0) (number_held q d.1))
+      (λ o. ⊎_elim (λ b. let d = and_parts (is_boolean (a_value s)) (is_boolean (a_value t)) b in truths (truth_held p d.0) (truth_held q d.1))
+      (λ r. let d = and_parts (is_object s && is_object t) (is_subtype P s t || is_subtype P t s) r in let f = and_parts (is_object s) (is_object t)
       d.0 in same_objects (object_held p f.0) (object_held q f.1))
       (or_cases (is_boolean (a_value s) && is_boolean (a_value t)) ((is_object s && is_object t) && (is_subtype P s t || is_subtype P t s)) o))
       (or_cases (is_numeric (a_value s) && is_numeric (a_value t)) ((is_boolean (a_value s) && is_boolean (a_value t)) ||
@@ -245,7 +241,7 @@ module _ (P : Plain) where
   sub_alike _ _ p = absurd (false≢true p)
 
   pub sub_parts : (s t : Ty) → is_subtype P s t ≡ true → (s.dim ≡ t.dim) × (is_sub_base P s.base t.base ≡ true)
-  sub_parts s t p = let q = both_hold (s.dim == t.dim) (is_sub_base P s.base t.base) p in (eqb-true s.dim t.dim q.0, q.1)
+  sub_parts s t p = let q = and_parts (s.dim == t.dim) (is_sub_base P s.base t.base) p in (eqb-true s.dim t.dim q.0, q.1)
 
   pub of_parts : (s t : Ty) → s.dim ≡ t.dim → is_sub_base P s.base t.base ≡ true → is_subtype P s t ≡ true
   of_parts s t e d = both (s.dim == t.dim) (is_sub_base P s.base t.base) (eq-eqb s.dim t.dim e) d
@@ -261,7 +257,7 @@ module _ (P : Plain) where
       (subst (λ z. (not (s.dim == 0) || is_class s.base) || z ≡ true) (sub_alike s.base t.base q.1).1 e))
 
   sub_flat : (b : TyBase) (t : Ty) → is_class b ≡ false → ((0 == t.dim) && is_base b t.base) ≡ true → plain_type b ≡ t
-  sub_flat b t c p = let q = both_hold (0 == t.dim) (is_base b t.base) p in flat_type b t.base t.dim (same_base b t.base c q.1) (sym (eqb-true 0 t.dim q.0))
+  sub_flat b t c p = let q = and_parts (0 == t.dim) (is_base b t.base) p in flat_type b t.base t.dim (same_base b t.base c q.1) (sym (eqb-true 0 t.dim q.0))
 
   same_class_base : (a b : TyBase) → is_class a ≡ false → is_sub_base P a b ≡ true → a ≡ b
   same_class_base Int b p q = same_base Int b refl q
@@ -338,11 +334,11 @@ module _ (P : Plain) where
         (or_cases (is_subtype P (plain_type Str) t) false p)
     flows t (holds_null {t = s} r) p =
         ⊎_elim (λ e. holds_null (sub_reference s t e r))
-        (λ e. absurd (apart Char s is_reference refl refl (both_hold (is_only Char (a_value s)) (is_only Int (a_value t)) e).0 r))
+        (λ e. absurd (apart Char s is_reference refl refl (and_parts (is_only Char (a_value s)) (is_only Int (a_value t)) e).0 r))
         (or_cases (is_subtype P s t) (is_only Char (a_value s) && is_only Int (a_value t)) p)
     flows t (holds_object {t = s} {c = c} there r sub) p =
         ⊎_elim (λ e. holds_object there (sub_object s t e r) (sub_all (own_type c.kind) s t sub e))
-        (λ e. absurd (apart Char s is_object refl refl (both_hold (is_only Char (a_value s)) (is_only Int (a_value t)) e).0 r))
+        (λ e. absurd (apart Char s is_object refl refl (and_parts (is_only Char (a_value s)) (is_only Int (a_value t)) e).0 r))
         (or_cases (is_subtype P s t) (is_only Char (a_value s) && is_only Int (a_value t)) p)
     flows t holds_nothing p = holds_null p
     flows t holds_any p = absurd (false≢true p)
@@ -360,7 +356,7 @@ module _ (P : Plain) where
         → is_class u.base ≡ false
     flat_fits b u c p same =
         ⊎_elim (λ e. ap (λ z. is_class z.base) (sym (sub_flat b u c (ap (λ z. (0 == u.dim) && z) (sym same) ∙ e))) ∙ c)
-        (λ e. ap (λ z. is_class z.base) (sym (only_type Int u refl (both_hold (is_only Char (a_value (plain_type b))) (is_only Int (a_value u)) e).1)))
+        (λ e. ap (λ z. is_class z.base) (sym (only_type Int u refl (and_parts (is_only Char (a_value (plain_type b))) (is_only Int (a_value u)) e).1)))
         (or_cases (is_subtype P (plain_type b) u) (is_only Char (a_value (plain_type b)) && is_only Int (a_value u)) p)
 
     -- what is no object, of a static type that fits u, is stored into elements whose type is at or below u
@@ -384,7 +380,7 @@ module _ (P : Plain) where
         subst (λ z. Holds h (convert z w) (a_value z)) (sym (sub_back e u q (flat_fits Str u refl p refl))) (flows u (holds_text x) p)
     stored e u (holds_null {t = s} r) p q n =
         ⊎_elim (λ d. holds_null (sub_reference_back e u q (sub_reference s u d r)))
-        (λ d. absurd (apart Char s is_reference refl refl (both_hold (is_only Char (a_value s)) (is_only Int (a_value u)) d).0 r))
+        (λ d. absurd (apart Char s is_reference refl refl (and_parts (is_only Char (a_value s)) (is_only Int (a_value u)) d).0 r))
         (or_cases (is_subtype P s u) (is_only Char (a_value s) && is_only Int (a_value u)) p)
     stored e u (holds_object there r sub) p q n = absurd n
     stored e u holds_nothing p q n = holds_null (sub_reference_back e u q p)

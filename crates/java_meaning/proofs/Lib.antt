@@ -1,4 +1,5 @@
 pub mod Examples
+pub mod Small
 pub mod Instance
 pub mod Alike
 pub mod Depth

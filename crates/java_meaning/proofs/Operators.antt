@@ -1,7 +1,7 @@
 -- Binary operators, casts and tests on typed states.
 use Rattle.std.proofs.Common.{◌≡◌, ℕ, zero, suc, Option, Some, None, refl, sym, ap, ◌∙◌, subst, ⊎_elim, inl, inr, arith}
 use Rattle.std.specs.Prelude.{◌⊎◌, ℤ, Bool, true, false, ◌==◌, ◌&&◌, ◌||◌, slice_get}
-use Rattle.std.proofs.lemmas.Bool.{or_cases, or_left, or_right, false≢true}
+use Rattle.std.proofs.lemmas.Bool.{or_cases, or_left, or_right, false≢true, and_parts}
 use Rattle.java_core.specs.declared.Ty.{Ty}
 use Rattle.java_core.specs.declared.TyBase.{TyBase}
 use Rattle.java_core.specs.declared.TyBase.TheVariants.{Int, Boolean, Char, Str, Class}
@@ -17,7 +17,7 @@ use Rattle.java_meaning.specs.Moment.{Value, Number, Truth, Nothing, Object, own
 use Rattle.java_meaning.specs.Values.{number_of, truth_of, text_of, arith as op_arith, cast_number, same_value, compared, join, is_text}
 use Rattle.java_meaning.specs.Meaning.{ToValue, is_number_type, cast_object, cast_to, test_class, after_left, join_values, compute, operate}
 use Rattle.java_meaning.specs.TypedLang.{TypedLang}
-use Rattle.java_meaning.proofs.Holds.{Heap, heap_of, both_hold, only_type, Holds, holds_number, holds_truth, holds_unit, holds_text, holds_null, holds_object, holds_nothing, holds_any, grown, number_held, truth_held, IsText, text_null, text_there, text_held, units_held, comparable_held}
+use Rattle.java_meaning.proofs.Holds.{Heap, heap_of, only_type, Holds, holds_number, holds_truth, holds_unit, holds_text, holds_null, holds_object, holds_nothing, holds_any, grown, number_held, truth_held, IsText, text_null, text_there, text_held, units_held, comparable_held}
 use Rattle.java_meaning.proofs.Sound.{Sound, sound_stop, some_sound, bool_sound, result_sound, Good, From, from_same, from_on, KV, KS, give_string_sound, test_sound, look_sound, class_in_type}
 use Rattle.java_meaning.proofs.Moves.{here}
 
@@ -71,10 +71,10 @@ module _ (P : Plain) (L : Lang) (tl : TypedLang P L) where
       → Holds P (heap_of s) v t → takes_two P o t u ≡ true → KS P L tl (heap_of s) r
       → V (heap_of s) (a_value (binary_type o t u)) k → Sound (after_left o v s r k)
   after_left_sound {t = t} u bin.Both v s r k ok hv p g h =
-      let b = truth_held P hv (both_hold (is_boolean t) (is_boolean u) p).0 in test_sound P L tl v b.0 s r (λ s1. k (Truth false) s1) b.1
+      let b = truth_held P hv (and_parts (is_boolean t) (is_boolean u) p).0 in test_sound P L tl v b.0 s r (λ s1. k (Truth false) s1) b.1
       (g s (from_same P L tl s ok)) (truth false s k ok h)
   after_left_sound {t = t} u bin.Either v s r k ok hv p g h =
-      let b = truth_held P hv (both_hold (is_boolean t) (is_boolean u) p).0 in test_sound P L tl v b.0 s (λ s1. k (Truth true) s1) r b.1
+      let b = truth_held P hv (and_parts (is_boolean t) (is_boolean u) p).0 in test_sound P L tl v b.0 s (λ s1. k (Truth true) s1) r b.1
       (truth true s k ok h) (g s (from_same P L tl s ok))
   after_left_sound u _ v s r k ok hv p g h = g s (from_same P L tl s ok)
 
@@ -103,7 +103,7 @@ module _ (P : Plain) (L : Lang) (tl : TypedLang P L) where
       → takes_two P (bin.Int o) t u ≡ true
       → V (heap_of s) (a_value (binary_type (bin.Int o) t u)) k → Sound (operate (bin.Int o) v w s k)
   arithmetic_sound {t = t} {u = u} o v w s k ok hv hw p h =
-      ⊎_elim numbers (λ e. let q = both_hold (is_plus o) (joins t u) e in ⊎_elim (left q.0) (right q.0) (or_cases (is_string t && is_printable u)
+      ⊎_elim numbers (λ e. let q = and_parts (is_plus o) (joins t u) e in ⊎_elim (left q.0) (right q.0) (or_cases (is_string t && is_printable u)
       (is_printable t && is_string u) q.1))
       (or_cases (is_numeric t && is_numeric u) (is_plus o && joins t u) p)
     where
@@ -112,7 +112,7 @@ module _ (P : Plain) (L : Lang) (tl : TypedLang P L) where
 
       numbers : (is_numeric t && is_numeric u) ≡ true → Sound (operate (bin.Int o) v w s k)
       numbers e =
-          let q = both_hold (is_numeric t) (is_numeric u) e in let a = number_held P hv q.0 in let b = number_held P hw q.1 in
+          let q = and_parts (is_numeric t) (is_numeric u) e in let a = number_held P hv q.0 in let b = number_held P hw q.1 in
           let none : (is_plus o && (is_string t || is_string u)) ≡ false = and_false (is_plus o) (is_string t || is_string u)
           (rw (numeric_no_string t q.0, numeric_no_string u q.1) refl) in
           compute_numbers flag (number_of v) (number_of w) a.0 b.0 v w o s k ok a.1 b.1 (subst (λ z. V (heap_of s) (a_value (sum_type z)) k) none h)
@@ -123,11 +123,11 @@ module _ (P : Plain) (L : Lang) (tl : TypedLang P L) where
           (join_sound v w s k ok hv hw x y (subst (λ z. V (heap_of s) (a_value (sum_type z)) k) (ap (λ z. z && (is_string t || is_string u)) e ∙ d) h))
 
       left : is_plus o ≡ true → (is_string t && is_printable u) ≡ true → Sound (operate (bin.Int o) v w s k)
-      left e d = let q = both_hold (is_string t) (is_printable u) d in let x = no_number (text_held P hv q.0) in
+      left e d = let q = and_parts (is_string t) (is_printable u) d in let x = no_number (text_held P hv q.0) in
           joined e (or_left (is_string t) (is_string u) q.0) (or_left (is_text v) (is_text w) x.1) (inl x.0) (string_printable t q.0) q.1
 
       right : is_plus o ≡ true → (is_printable t && is_string u) ≡ true → Sound (operate (bin.Int o) v w s k)
-      right e d = let q = both_hold (is_printable t) (is_string u) d in let x = no_number (text_held P hw q.1) in
+      right e d = let q = and_parts (is_printable t) (is_string u) d in let x = no_number (text_held P hw q.1) in
           joined e (or_right (is_string t) (is_string u) q.1) (or_right (is_text v) (is_text w) x.1) (inr x.0) q.0 (string_printable u q.1)
 
   compared_sound : {t u : Static} (o : BinOp) (v w : Value) (f : ℤ → ℤ → Bool) (s : State) (k : ToValue) → Ok s → Holds P (heap_of s) v t
@@ -135,7 +135,7 @@ module _ (P : Plain) (L : Lang) (tl : TypedLang P L) where
       → V (heap_of s) (a_value (plain_type Boolean)) k
       → Sound (with_some (number_of v) s (λ a. with_some (number_of w) s (λ b. with_some (compared o a b) s (λ t. k (Truth t) s))))
   compared_sound {t = t} {u = u} o v w f s k ok hv hw p e h =
-      let q = both_hold (is_numeric t) (is_numeric u) p in let a = number_held P hv q.0 in let b = number_held P hw q.1 in
+      let q = and_parts (is_numeric t) (is_numeric u) p in let a = number_held P hv q.0 in let b = number_held P hw q.1 in
       some_sound (number_of v) a.0 s _ a.1 (some_sound (number_of w) b.0 s _ b.1 (some_sound (compared o a.0 b.0) (f a.0 b.0) s _ (e a.0 b.0)
       (truth (f a.0 b.0) s k ok h)))
 
@@ -147,9 +147,9 @@ module _ (P : Plain) (L : Lang) (tl : TypedLang P L) where
   operate_sound {t = t} {u = u} bin.Differs v w s k ok hv hw p h =
       let b = comparable_held P t u hv hw p in some_sound (same_value v w) b.0 s _ b.1 (bool_sound b.0 s (λ s1. k (Truth false) s1)
       (λ s1. k (Truth true) s1) (truth false s k ok h) (truth true s k ok h))
-  operate_sound {t = t} {u = u} bin.Both v w s k ok hv hw p h = let b = truth_held P hw (both_hold (is_boolean t) (is_boolean u) p).1 in some_sound
+  operate_sound {t = t} {u = u} bin.Both v w s k ok hv hw p h = let b = truth_held P hw (and_parts (is_boolean t) (is_boolean u) p).1 in some_sound
       (truth_of w) b.0 s _ (ap truth_of b.1) (truth b.0 s k ok h)
-  operate_sound {t = t} {u = u} bin.Either v w s k ok hv hw p h = let b = truth_held P hw (both_hold (is_boolean t) (is_boolean u) p).1 in some_sound
+  operate_sound {t = t} {u = u} bin.Either v w s k ok hv hw p h = let b = truth_held P hw (and_parts (is_boolean t) (is_boolean u) p).1 in some_sound
       (truth_of w) b.0 s _ (ap truth_of b.1) (truth b.0 s k ok h)
   operate_sound bin.Less v w s k ok hv hw p h = compared_sound bin.Less v w _ s k ok hv hw p (λ a b. refl) h
   operate_sound bin.Greater v w s k ok hv hw p h = compared_sound bin.Greater v w _ s k ok hv hw p (λ a b. refl) h
@@ -199,7 +199,7 @@ module _ (P : Plain) (L : Lang) (tl : TypedLang P L) where
     where
       numbers : (is_numeric (a_value u) && is_numeric t) ≡ true → Sound (cast_to L b x u v s k)
       numbers e =
-          let q = both_hold (is_numeric (a_value u)) (is_numeric t) e in let a = number_held P hv q.1 in let yes : is_number_type u.base u.dim
+          let q = and_parts (is_numeric (a_value u)) (is_numeric t) e in let a = number_held P hv q.1 in let yes : is_number_type u.base u.dim
           ≡ true = number_type u.base u.dim ∙ q.0 in
           subst (λ z. Sound (on_bool z s (λ s1. with_some (number_of v) s1 (λ a. k (cast_number u.base a) s1)) (λ s1. cast_object L b x u v s1 k))) (sym yes)
           (some_sound (number_of v) a.0 s _ a.1 (here P L tl (cast_number u.base a.0) s k ok (cast_number_held (heap_of s) u.base u.dim a.0 yes) h))

@@ -15,7 +15,8 @@ use Rattle.java_core.specs.Typing.{t_number, t_character, t_text, t_truth, t_nul
 use Rattle.java_meaning.specs.Moment.{Value, Number, Truth, CodeUnit, Nothing, bound, result_of as result_spot, State, Frame, Outcome, Lang}
 use Rattle.java_meaning.specs.Values.{default_of, convert, number_of, text_of}
 use Rattle.java_meaning.specs.Meaning.{Flow, Next, Broke, Continued, Gave, ToValue, ToFlow, Later, set_local, write_local, after_one, after_turn, value, values, run_test, run_print, run_initial, run_declare, run_return, run_assign, run_one, run_all, run_arms}
-use Rattle.java_meaning.specs.TypedLang.{Stands, StandAll, StandsIf, StandsTarget, StandsSt, StandsSts, StandsArms, TypedLang}
+use Rattle.java_meaning.specs.TypedLang.{Stands, StandAll, StandsTarget, TypedLang, standing}
+use Rattle.java_meaning.specs.EachStatement.{OfOption, InSt, InSts, InArms}
 use Rattle.java_meaning.proofs.Holds.{Heap, heap_of, some_there, Holds, holds_number, holds_truth, holds_unit, holds_nothing, grown, number_held, truth_held, units_held, default_held, flows}
 use Rattle.java_meaning.proofs.Sound.{Sound, some_sound, Good, From, from_same, from_on, KV, KS, give_string_sound, test_sound, step_sound, look_sound, class_sound, read_static_sound, write_static_sound, read_field_sound, write_field_sound}
 use Rattle.java_meaning.proofs.Moves.{then_some, here, member_sound, element_sound, write_element_sound, make_object_sound, make_array_sound, unary_sound}
@@ -152,14 +153,14 @@ module _ (P : Plain) (L : Lang) (tl : TypedLang P L) (later : Later) (next : Lat
   fits_some s None p = absurd (false≢true p)
   fits_some s (Some t) p = (t, refl, p)
 
-  test_of : (g : Env) {e : Option Ex} (f : Frame) (s : State) (x y : State → Outcome) → TypedTest P g e → StandsIf P g e → Ok s → f.env ≡ g
+  test_of : (g : Env) {e : Option Ex} (f : Frame) (s : State) (x y : State → Outcome) → TypedTest P g e → OfOption (Stands P g) e → Ok s → f.env ≡ g
       → FrameIn P (heap_of s) f
       → ((s1 : State) → Goes (heap_of s) s1 → Sound (x s1)) → ((s1 : State) → Goes (heap_of s) s1 → Sound (y s1)) → Sound (run_test L later e f s x y)
   test_of g f s x y t_always p ok ef fi h d = h s (from_same P L tl s ok)
   test_of g f s x y (t_test q m) p ok ef fi h d =
       value_at q p f s _ ok ef fi (λ v s1 r hv. let b = truth_held P hv m in test_sound P L tl v b.0 s1 x y b.1 (h s1 r) (d s1 r))
 
-  print_sound : (g : Env) (newline : Bool) {e : Option Ex} (f : Frame) (s : State) (k : State → Outcome) → TypedPrint P g e → StandsIf P g e → Ok s
+  print_sound : (g : Env) (newline : Bool) {e : Option Ex} (f : Frame) (s : State) (k : State → Outcome) → TypedPrint P g e → OfOption (Stands P g) e → Ok s
       → f.env ≡ g → FrameIn P (heap_of s) f → KS P L tl (heap_of s) k → Sound (run_print L later newline e f s k)
   print_sound g newline f s k print_nothing p ok ef fi h = h _ (record { grows = (from_same P L tl s ok).grows; ok = ok })
   print_sound g newline f s k (print_value q m) p ok ef fi h =
@@ -167,7 +168,7 @@ module _ (P : Plain) (L : Lang) (tl : TypedLang P L) (later : Later) (next : Lat
       (h _ (record { grows = r.grows; ok = r.ok })))
 
   declare_sound : (g : Env) (x : ℕ) {e : Option Ex} (f : Frame) (s : State) (k : ToFlow) → TypedInitial P g x e
-      → (is_some (slice_get g.locals x) ≡ true) × StandsIf P g e → Ok s → f.env ≡ g → FrameIn P (heap_of s) f → F g (heap_of s) k
+      → (is_some (slice_get g.locals x) ≡ true) × OfOption (Stands P g) e → Ok s → f.env ≡ g → FrameIn P (heap_of s) f → F g (heap_of s) k
       → Sound (run_declare L later x e f s k)
   declare_sound g x f s k i p ok ef fi h =
       some_sound (slice_get f.env.locals x) t.0 s _ there (some_sound (slice_get f.locals x) old.0 s _ old.1 (go i p.1))
@@ -184,14 +185,14 @@ module _ (P : Plain) (L : Lang) (tl : TypedLang P L) (later : Later) (next : Lat
       fresh : FrameIn P (heap_of s) (set_local f x (default_of t.0))
       fresh = record { self = fi.self; locals = all_set P x t.0 (default_of t.0) fi.locals there (default_held P (heap_of s) t.0) }
 
-      go : {e : Option Ex} → TypedInitial P g x e → StandsIf P g e → Sound (run_initial L later x e (set_local f x (default_of t.0)) s k)
+      go : {e : Option Ex} → TypedInitial P g x e → OfOption (Stands P g) e → Sound (run_initial L later x e (set_local f x (default_of t.0)) s k)
       go starts_nothing p = h Next (set_local f x (default_of t.0)) s (from_same P L tl s ok) ef fresh tt
       go (starts_value {e = e} q m) p = let u = fits_some (static P g e) (slice_get g.locals x) m in
           value_at q p (set_local f x (default_of t.0)) s _ ok ef fresh (λ v s1 r hv.
           local_sound g x u.0 v (set_local f x (default_of t.0)) s1 k r.ok ef (frame_grown P r.grows fresh) u.1 (flows P tl.below_all u.0 hv u.2)
           (later_f g s s1 k r h))
 
-  return_sound : (g : Env) {e : Option Ex} (f : Frame) (s : State) (k : ToFlow) → TypedReturn P g e → StandsIf P g e → Ok s → f.env ≡ g
+  return_sound : (g : Env) {e : Option Ex} (f : Frame) (s : State) (k : ToFlow) → TypedReturn P g e → OfOption (Stands P g) e → Ok s → f.env ≡ g
       → FrameIn P (heap_of s) f → F g (heap_of s) k → Sound (run_return L later e f s k)
   return_sound g f s k (gives_nothing n) p ok ef fi h = h (Gave Nothing) f s (from_same P L tl s ok) ef fi (λ t e. absurd (none (sym n ∙ e)))
     where
@@ -261,7 +262,7 @@ module _ (P : Plain) (L : Lang) (tl : TypedLang P L) (later : Later) (next : Lat
 
   module _ (g : Env) where
     mutual
-      one_sound : {x : St} → TypedSt P g x → StandsSt P g x → (f : Frame) (s : State) (k : ToFlow) → Ok s → f.env ≡ g → FrameIn P (heap_of s) f
+      one_sound : {x : St} → TypedSt P g x → InSt (standing P g) x → (f : Frame) (s : State) (k : ToFlow) → Ok s → f.env ≡ g → FrameIn P (heap_of s) f
           → F g (heap_of s) k → Sound (run_one L later x f s k)
       one_sound (t_declare {i = x}) p f s k ok ef fi h = declare_sound g x f s k starts_nothing p ok ef fi h
       one_sound (t_declare_as {i = x} q m) p f s k ok ef fi h = declare_sound g x f s k (starts_value q m) p ok ef fi h
@@ -288,14 +289,14 @@ module _ (P : Plain) (L : Lang) (tl : TypedLang P L) (later : Later) (next : Lat
       one_sound t_break p f s k ok ef fi h = h Broke f s (from_same P L tl s ok) ef fi tt
       one_sound t_continue p f s k ok ef fi h = h Continued f s (from_same P L tl s ok) ef fi tt
 
-      all_sound : {xs : Sts} → TypedSts P g xs → StandsSts P g xs → (f : Frame) (s : State) (k : ToFlow) → Ok s → f.env ≡ g → FrameIn P (heap_of s) f
+      all_sound : {xs : Sts} → TypedSts P g xs → InSts (standing P g) xs → (f : Frame) (s : State) (k : ToFlow) → Ok s → f.env ≡ g → FrameIn P (heap_of s) f
           → F g (heap_of s) k → Sound (run_all L later xs f s k)
       all_sound t_no_st p f s k ok ef fi h = h Next f s (from_same P L tl s ok) ef fi tt
       all_sound (t_st_then q qs) p f s k ok ef fi h =
           one_sound q p.0 f s _ ok ef fi (λ w f1 s1 r e1 i1 wo. let h1 = later_f g s s1 k r h in next_sound g w f1 s1 k _ r.ok e1 i1 wo h1
           (all_sound qs p.1 f1 s1 k r.ok e1 i1 h1))
 
-      arms_sound : {xs : Arms} → TypedArms P g xs → StandsArms P g xs → (f : Frame) (s : State) (k : ToFlow) → Ok s → f.env ≡ g
+      arms_sound : {xs : Arms} → TypedArms P g xs → InArms (standing P g) xs → (f : Frame) (s : State) (k : ToFlow) → Ok s → f.env ≡ g
           → FrameIn P (heap_of s) f → F g (heap_of s) k → Sound (run_arms L later xs f s k)
       arms_sound t_no_other p f s k ok ef fi h = h Next f s (from_same P L tl s ok) ef fi tt
       arms_sound (t_otherwise q) p f s k ok ef fi h = all_sound q p f s k ok ef fi h
@@ -303,6 +304,6 @@ module _ (P : Plain) (L : Lang) (tl : TypedLang P L) (later : Later) (next : Lat
           value_at q p.0 f s _ ok ef fi (λ v s1 r hv. let b = truth_held P hv m in let h1 = later_f g s s1 k r h in let fi1 = frame_grown P r.grows fi in
           test_sound P L tl v b.0 s1 _ _ b.1 (all_sound qs p.1 f s1 k r.ok ef fi1 h1) (arms_sound more p.2 f s1 k r.ok ef fi1 h1))
 
-  pub statements_sound : {g : Env} {xs : Sts} → TypedSts P g xs → StandsSts P g xs → (f : Frame) (s : State) (k : ToFlow) → Ok s → f.env ≡ g
+  pub statements_sound : {g : Env} {xs : Sts} → TypedSts P g xs → InSts (standing P g) xs → (f : Frame) (s : State) (k : ToFlow) → Ok s → f.env ≡ g
       → FrameIn P (heap_of s) f → F g (heap_of s) k → Sound (run_all L later xs f s k)
   statements_sound {g = g} q p f s k ok ef fi h = all_sound g q p f s k ok ef fi h

@@ -1,9 +1,9 @@
 -- Typed states, and that each move on them goes on or ends as it may.
 use Rattle.std.proofs.Common.{◌≡◌, ◌≢◌, ℕ, zero, suc, List, [], ◌∷◌, ◌++◌, Option, Some, None, length, refl, sym, ap, ◌∙◌, subst, ⊎_elim, inl, inr, arith}
-use Rattle.std.specs.Prelude.{◌⊎◌, Bool, true, false, slice_get, slice_set}
+use Rattle.std.specs.Prelude.{◌⊎◌, ◌||◌, is_some, Bool, true, false, slice_get, slice_set}
 use Rattle.std.specs.declared.result.Result.{Result}
 use Rattle.std.specs.declared.result.Result.TheVariants.{Ok, Err}
-use Rattle.std.proofs.lemmas.Bool.{cases_eq}
+use Rattle.std.proofs.lemmas.Bool.{cases_eq, or_left, or_right}
 use Rattle.std.proofs.lemmas.Option.{same_Some}
 use Rattle.java_core.specs.declared.Ty.{Ty}
 use Rattle.java_core.specs.declared.TyBase.{TyBase}
@@ -13,7 +13,7 @@ use Rattle.java_core.specs.declared.Fault.TheVariants as fault
 use Rattle.java_core.specs.Trees.{Ex}
 use Rattle.java_core.specs.Programs.{Plain}
 use Rattle.java_core.specs.Classes.{below, is_concrete}
-use Rattle.java_core.specs.Types.{Static, a_value, plain_type, class_type, class_in, class_of, element_in, element_of, is_sub_base, is_subtype, field_type}
+use Rattle.java_core.specs.Types.{Static, a_value, plain_type, class_type, class_in, class_of, element_in, element_of, is_sub_base, is_subtype, field_type, is_object}
 use Rattle.java_meaning.specs.Moment.{Value, Truth, Text, Object, Kind, an_object, an_array, Cell, own_type, own_class, Spot, State, End, Ended, Faulted, Going, Wrong, Escaped, Outcome, stop, Lang, step, step_of, with_some, or_fault, with_result, on_bool, look, look_all}
 use Rattle.java_meaning.specs.Values.{convert}
 use Rattle.java_meaning.specs.Meaning.{ToValue, on_test, with_cell, add_cell, add_string, set_value, give_string, read_static, write_static, read_field, write_field}
@@ -78,13 +78,22 @@ pub bool_sound : (b : Bool) (s : State) (x y : State → Outcome) → Sound (x s
 bool_sound true s x y h d = h
 bool_sound false s x y h d = d
 
+-- what holds where it faults, and where it goes on
+pub fault_has : {A : Type 0} (Q : Outcome → Type 0) (x : Fault) (o : Option A) (s : State) (k : A → Outcome) → Q (stop (Faulted x) s)
+    → ((a : A) → o ≡ Some a → Q (k a)) → Q (or_fault x o s k)
+fault_has Q x None s k e h = e
+fault_has Q x (Some a) s k e h = h a refl
+
+pub result_has : {A : Type 0} (Q : Outcome → Type 0) (o : Result A Fault) (s : State) (k : A → Outcome) → ((x : Fault) → Q (stop (Faulted x) s))
+    → ((a : A) → Q (k a)) → Q (with_result o s k)
+result_has Q (Err x) s k e h = e x
+result_has Q (Ok a) s k e h = h a
+
 pub fault_sound : {A : Type 0} (x : Fault) (o : Option A) (s : State) (k : A → Outcome) → ((a : A) → o ≡ Some a → Sound (k a)) → Sound (or_fault x o s k)
-fault_sound x None s k h = sound_stop (Faulted x) s tt
-fault_sound x (Some a) s k h = h a refl
+fault_sound x o s k h = fault_has Sound x o s k (sound_stop (Faulted x) s tt) h
 
 pub result_sound : {A : Type 0} (o : Result A Fault) (s : State) (k : A → Outcome) → ((a : A) → Sound (k a)) → Sound (with_result o s k)
-result_sound (Err x) s k h = sound_stop (Faulted x) s tt
-result_sound (Ok a) s k h = h a
+result_sound o s k h = result_has Sound o s k (λ x. sound_stop (Faulted x) s tt) h
 
 pub class_in_type : (b : TyBase) (d c : ℕ) → class_in b d ≡ Some c → class_type c ≡ record { base = b; dim = d }
 class_in_type (Class a) zero c e = ap class_type (sym (same_Some _ _ e))
@@ -266,20 +275,27 @@ module _ (P : Plain) (L : Lang) (tl : TypedLang P L) where
       none : None ≡ Some o.element → ⊥
       none e = cc
 
+  -- a value of a class or an array is an object or array of it, or null
+  cell_sound : {t : Static} {v : Value} (s : State) (k : ℕ → Cell → Outcome) → Holds P (heap_of s) v t → is_some (class_of t) || is_some (element_of t) ≡ true
+      → ((u : Ty) (a : ℕ) (o : Cell) → slice_get s.cells a ≡ Some o → is_object u ≡ true → is_subtype P (own_type o.kind) u ≡ true → t ≡ a_value u
+      → Sound (k a o)) → Sound (with_cell v s k)
+  cell_sound s k holds_number e h = absurd (cc)
+  cell_sound s k holds_truth e h = absurd (cc)
+  cell_sound s k holds_unit e h = absurd (cc)
+  cell_sound s k (holds_text x) e h = absurd (cc)
+  cell_sound s k (holds_null x) e h = sound_stop (Faulted fault.Null) s tt
+  cell_sound s k (holds_object {a = a} {t = u} {c = o} there r sub) e h =
+      some_sound (slice_get s.cells a) o s (λ z. k a z) there (h u a o there r sub refl)
+  cell_sound s k holds_nothing e h = sound_stop (Faulted fault.Null) s tt
+  cell_sound s k holds_any e h = absurd (cc)
+
   pub class_sound : {t : Static} {v : Value} (s : State) (c : ℕ) (k : ℕ → Cell → Outcome) → Good s → Holds P (heap_of s) v t → class_of t ≡ Some c
       → ((a : ℕ) (o : Cell) (d : ℕ) → slice_get s.cells a ≡ Some o → o.kind ≡ an_object d → below P d c ≡ true → ObjectOk (heap_of s) d o.values
       → Holds P (heap_of s) (Object a) t → Sound (k a o)) → Sound (with_cell v s k)
-  class_sound s c k ok holds_number e h = absurd (cc)
-  class_sound s c k ok holds_truth e h = absurd (cc)
-  class_sound s c k ok holds_unit e h = absurd (cc)
-  class_sound s c k ok (holds_text x) e h = absurd (cc)
-  class_sound s c k ok (holds_null x) e h = sound_stop (Faulted fault.Null) s tt
-  class_sound s c k ok (holds_object {a = a} {t = t} {c = o} there r sub) e h =
-      let q = object_kind (heap_of s) c o.kind o.values (ok.cells a o there) (subst (λ z. is_subtype P (own_type o.kind) z ≡ true)
-      (sym (class_in_type t.base t.dim c e)) sub) in
-      some_sound (slice_get s.cells a) o s (λ z. k a z) there (h a o q.0 there q.1 q.2 q.3 (holds_object there r sub))
-  class_sound s c k ok holds_nothing e h = sound_stop (Faulted fault.Null) s tt
-  class_sound s c k ok holds_any e h = absurd (cc)
+  class_sound {t} s c k ok hv e h = cell_sound s k hv (or_left (is_some (class_of t)) (is_some (element_of t)) (ap is_some e))
+      (λ u a o there r sub is. let q = object_kind (heap_of s) c o.kind o.values (ok.cells a o there) (subst (λ z. is_subtype P (own_type o.kind) z ≡ true)
+      (sym (class_in_type u.base u.dim c (ap class_of (sym is) ∙ e))) sub) in
+      h a o q.0 there q.1 q.2 q.3 (subst (λ z. Holds P (heap_of s) (Object a) z) (sym is) (holds_object there r sub)))
 
   array_kind : (h : Heap) (b : TyBase) (d : ℕ) (u : Ty) (K : Kind) (vs : List Value) → KindOk h K vs → element_in b d ≡ Some u
       → is_subtype P (own_type K) (record { base = b; dim = d }) ≡ true
@@ -306,16 +322,9 @@ module _ (P : Plain) (L : Lang) (tl : TypedLang P L) where
   pub array_sound : {t : Static} {v : Value} (s : State) (u : Ty) (k : ℕ → Cell → Outcome) → Good s → Holds P (heap_of s) v t → element_of t ≡ Some u
       → ((a : ℕ) (c : Cell) (y : Ty) → slice_get s.cells a ≡ Some c → c.kind ≡ an_array y → (o : ArrayOk (heap_of s) y c.values)
       → is_subtype P o.element u ≡ true → Sound (k a c)) → Sound (with_cell v s k)
-  array_sound s u k ok holds_number e h = absurd (cc)
-  array_sound s u k ok holds_truth e h = absurd (cc)
-  array_sound s u k ok holds_unit e h = absurd (cc)
-  array_sound s u k ok (holds_text x) e h = absurd (cc)
-  array_sound s u k ok (holds_null x) e h = sound_stop (Faulted fault.Null) s tt
-  array_sound s u k ok (holds_object {a = a} {t = t} {c = o} there r sub) e h =
-      let q = array_kind (heap_of s) t.base t.dim u o.kind o.values (ok.cells a o there) e sub in
-      some_sound (slice_get s.cells a) o s (λ z. k a z) there (h a o q.0 there q.1 q.2.0 q.2.1)
-  array_sound s u k ok holds_nothing e h = sound_stop (Faulted fault.Null) s tt
-  array_sound s u k ok holds_any e h = absurd (cc)
+  array_sound {t} s u k ok hv e h = cell_sound s k hv (or_right (is_some (class_of t)) (is_some (element_of t)) (ap is_some e))
+      (λ w a o there r sub is. let q = array_kind (heap_of s) w.base w.dim u o.kind o.values (ok.cells a o there) (ap element_of (sym is) ∙ e) sub in
+      h a o q.0 there q.1 q.2.0 q.2.1)
 
   -- static fields
   pub read_static_sound : (x : ℕ) (t : Ty) (s : State) (k : ToValue) → Good s → field_type P x ≡ Some t → KV (heap_of s) (a_value t) k

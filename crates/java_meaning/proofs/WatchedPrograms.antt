@@ -12,7 +12,8 @@ use Rattle.java_core.specs.Classes.{slot_of, lookup, super_method}
 use Rattle.java_core.specs.Types.{Env, class_of, element_of, or_nothing, field_in, access_type, call_signature, result_of, binary_type, a_value, static}
 use Rattle.java_meaning.specs.Languages.{body_with, body_of, language_of, run}
 use Rattle.java_core.specs.Untagged.{bare, bare_sts}
-use Rattle.java_meaning.specs.Watched.{bare_body, with_code, IsBare, Eyes, coded_body, watched, IsCodeOf, EscapesOrIs, watched_run}
+use Rattle.java_meaning.specs.Moment.{Body}
+use Rattle.java_meaning.specs.Watched.{bare_body, with_code, IsBare, Eyes, coded_body, watched_with, watched, IsCodeOf, EscapesOrIs, watched_run}
 use Rattle.java_meaning.proofs.Plain.{run_r}
 use Rattle.java_core.proofs.Untagged.{bare_seen}
 
@@ -40,23 +41,23 @@ bare_static P g (unary t o e) = refl
 bare_static P g (binary t o e d) = ap (λ z. a_value (binary_type o z (static P g (bare d)))) (bare_static P g e)
     ∙ ap (λ z. a_value (binary_type o (static P g e) z)) (bare_static P g d)
 
-found_bare : (P : Plain) (code : ℕ → Option Sts) → IsCodeOf P code → (o : Option ℕ) → option_and_then (body_of P) o
-    ≡ option_map bare_body (option_and_then (coded_body P code) o)
-unfolding IsCodeOf
-found_bare P code h None = refl
-found_bare P code h (Some m) = h m
+found_bare : (P : Plain) (body : ℕ → Option Body) → ((m : ℕ) → body_of P m ≡ option_map bare_body (body m)) → (o : Option ℕ)
+    → option_and_then (body_of P) o ≡ option_map bare_body (option_and_then body o)
+found_bare P body h None = refl
+found_bare P body h (Some m) = h m
 
-watched_bare : (P : Plain) (code : ℕ → Option Sts) (eyes : Eyes) → IsCodeOf P code → IsBare (watched P code eyes) (language_of P)
-unfolding IsCodeOf
-watched_bare P code eyes h = record {
+-- bodies that are those of the program without their tags
+pub watched_bare : (P : Plain) (body : ℕ → Option Body) (eyes : Eyes) → ((m : ℕ) → body_of P m ≡ option_map bare_body (body m))
+    → IsBare (watched_with P body eyes) (language_of P)
+watched_bare P body eyes h = record {
   field = λ g e x. ap (λ z. field_in P z x) (bare_static P g e);
   slot = λ g e x. ap (λ z. option_and_then (λ c. slot_of P c x) (class_of z)) (bare_static P g e);
   typed_field = λ f. refl;
   index = λ c f. refl;
   fresh = λ c. refl;
-  body = λ c s. found_bare P code h (lookup P c s);
-  static_body = λ m. h m;
-  super_body = λ c x. found_bare P code h (super_method P c x);
+  body = λ c s. found_bare P body h (lookup P c s);
+  static_body = h;
+  super_body = λ c x. found_bare P body h (super_method P c x);
   is_sub = λ s t. refl;
   statics = refl;
   sees = λ p v hs. refl;
@@ -68,7 +69,8 @@ watched_bare P code eyes h = record {
 -- the theorem: for all words and every bound
 pub watched_is_run : (P : Plain) (code : ℕ → Option Sts) (eyes : Eyes) → IsCodeOf P code → (words : List (List ℕ)) (n : ℕ)
     → EscapesOrIs (watched_run P code eyes words n) (run P words n)
-watched_is_run P code eyes h words n = run_r (watched P code eyes) (language_of P) (watched_bare P code eyes h) P.main words n
+unfolding IsCodeOf
+watched_is_run P code eyes h words n = run_r (watched P code eyes) (language_of P) (watched_bare P (coded_body P code) eyes h) P.main words n
 
 -- code whose trees without tags are the bodies of the program
 pub is_code : (P : Plain) (code : ℕ → Option Sts) → ((m : ℕ) → option_map bare_sts (code m) ≡ option_and_then (λ k. k.body) (slice_get P.methods m))

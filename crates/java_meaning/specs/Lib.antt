@@ -2,5 +2,6 @@ pub mod Moment
 pub mod Values
 pub mod Meaning
 pub mod Languages
+pub mod EachStatement
 pub mod TypedLang
 pub mod Watched

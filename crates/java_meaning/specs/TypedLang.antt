@@ -2,13 +2,14 @@
 use Rattle.std.specs.Prelude.{◌≡◌, ℕ, true, List, ◌++◌, map, Option, Some, None, slice_get}
 use Rattle.std.specs.Option.{is_some}
 use Rattle.java_core.specs.declared.Ty.{Ty}
-use Rattle.java_core.specs.Trees.{Ex, Exs, no_ex, ex_then, number, character, text, truth, null, this, local, static_field, own_field, field, index, call, static_call, super_call, create, create_array, cast, instance_of, unary, binary, Target, to_local, to_static, to_own, to_field, to_element, no_target, St, Sts, Arms, declare, block, assign, act, print, choose, loop, return, break, continue, no_st, st_then, no_other, otherwise, arm}
+use Rattle.java_core.specs.Trees.{Ex, Exs, no_ex, ex_then, number, character, text, truth, null, this, local, static_field, own_field, field, index, call, static_call, super_call, create, create_array, cast, instance_of, unary, binary, Target, to_local, to_static, to_own, to_field, to_element, no_target}
 use Rattle.java_core.specs.Programs.{Plain}
 use Rattle.java_core.specs.Classes.{below, is_concrete, member_field, slot_of, super_method, has_body}
 use Rattle.java_core.specs.Types.{Env, class_of, element_in, field_in, field_type, is_subtype, Signature, signature_of_method, signature_of_slot, static}
 use Rattle.java_core.specs.Typing.{TypedSts}
 use Rattle.java_meaning.specs.Moment.{Body, Lang}
 use Rattle.java_meaning.specs.Values.{default_of}
+use Rattle.java_meaning.specs.EachStatement.{OfOption, Asked, InSts}
 
 -- what a body names is there: its locals, the fields and the static methods
 module _ (P : Plain) (g : Env) where
@@ -39,10 +40,6 @@ module _ (P : Plain) (g : Env) where
     StandAll no_ex = Unit {0}
     StandAll (ex_then e es) = Stands e × StandAll es
 
-  abbrev pub StandsIf : Option Ex → Type 0
-  StandsIf None = Unit {0}
-  StandsIf (Some e) = Stands e
-
   abbrev pub StandsTarget : Target → Type 0
   StandsTarget (to_local t i) = is_some (slice_get g.locals i) ≡ true
   StandsTarget (to_static t f) = is_some (field_type P f) ≡ true
@@ -51,27 +48,14 @@ module _ (P : Plain) (g : Env) where
   StandsTarget (to_element t e i) = Stands e × Stands i
   StandsTarget no_target = Unit {0}
 
-  abbrev mutual
-    pub StandsSt : St → Type 0
-    StandsSt (declare t i e) = (is_some (slice_get g.locals i) ≡ true) × StandsIf e
-    StandsSt (block t xs) = StandsSts xs
-    StandsSt (assign t b e) = StandsTarget b × Stands e
-    StandsSt (act t e) = Stands e
-    StandsSt (print t n e) = StandsIf e
-    StandsSt (choose t xs) = StandsArms xs
-    StandsSt (loop t is_while first test step body) = StandsSts first × StandsIf test × StandsSts step × StandsSts body
-    StandsSt (return t e) = StandsIf e
-    StandsSt (break t) = Unit {0}
-    StandsSt (continue t) = Unit {0}
-
-    pub StandsSts : Sts → Type 0
-    StandsSts no_st = Unit {0}
-    StandsSts (st_then x xs) = StandsSt x × StandsSts xs
-
-    pub StandsArms : Arms → Type 0
-    StandsArms no_other = Unit {0}
-    StandsArms (otherwise xs) = StandsSts xs
-    StandsArms (arm e xs more) = Stands e × StandsSts xs × StandsArms more
+  -- what is asked of the statements of a body
+  abbrev pub standing : Asked
+  standing = record {
+    Of = Stands;
+    Declared = λ i e. (is_some (slice_get g.locals i) ≡ true) × OfOption Stands e;
+    Assigned = λ b e. StandsTarget b × Stands e;
+    Returned = OfOption Stands;
+  }
 
 -- a body of a signature: its locals begin at their defaults, it falls off its end with its result's, and its code is typed
 pub record TypedBody (P : Plain) (b : Body) (sig : Signature) : Type 0 where
@@ -82,7 +66,7 @@ pub record TypedBody (P : Plain) (b : Body) (sig : Signature) : Type 0 where
   pub result : b.env.result ≡ sig.result
   pub ends : (t : Ty) → sig.result ≡ Some t → b.ends ≡ default_of t
   pub typed : TypedSts P b.env b.code
-  pub stands : StandsSts P b.env b.code
+  pub stands : InSts (standing P b.env) b.code
 
 -- a body of a signature that stands at or above the class
 pub record HasBody (P : Plain) (found : Option Body) (c : ℕ) (sig : Signature) : Type 0 where

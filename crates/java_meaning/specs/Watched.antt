@@ -3,7 +3,7 @@ use Rattle.std.specs.Prelude.{◌≡◌, ◌⊎◌, ℕ, Bool, List, Option, Som
 use Rattle.std.specs.Option.{option_map, option_and_then}
 use Rattle.java_core.specs.declared.Ty.{Ty}
 use Rattle.java_core.specs.Types.{Env}
-use Rattle.java_core.specs.Trees.{Ex, field, index, Sts}
+use Rattle.java_core.specs.Trees.{Ex, Sts}
 use Rattle.java_core.specs.Programs.{Plain}
 use Rattle.java_core.specs.Classes.{lookup, super_method}
 use Rattle.java_core.specs.Untagged.{bare, bare_sts}
@@ -49,18 +49,22 @@ with_code (Some xs) b = option_map (recoded xs) b
 abbrev pub coded_body : Plain → (ℕ → Option Sts) → ℕ → Option Body
 coded_body P code m = with_code (code m) (body_of P m)
 
--- what a run asks of a program, with this code and this watch
-abbrev pub watched : Plain → (ℕ → Option Sts) → Eyes → Lang
-watched P code eyes =
+-- what a run asks of a program, with these bodies and this watch
+abbrev pub watched_with : Plain → (ℕ → Option Body) → Eyes → Lang
+watched_with P body eyes =
     record (language_of P) {
-      body = λ c s. option_and_then (coded_body P code) (lookup P c s);
-      static_body = coded_body P code;
-      super_body = λ c x. option_and_then (coded_body P code) (super_method P c x);
+      body = λ c s. option_and_then body (lookup P c s);
+      static_body = body;
+      super_body = λ c x. option_and_then body (super_method P c x);
       sees = eyes.sees;
       sees_all = eyes.sees_all;
       note = eyes.note;
       note_all = eyes.note_all;
     }
+
+-- with this code
+abbrev pub watched : Plain → (ℕ → Option Sts) → Eyes → Lang
+watched P code eyes = watched_with P (coded_body P code) eyes
 
 -- the code is that of the program, but for what tells its forms apart
 unfoldable pub IsCodeOf : Plain → (ℕ → Option Sts) → Type 0

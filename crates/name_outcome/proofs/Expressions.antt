@@ -20,6 +20,7 @@ use Rattle.name_rules.specs.declared.Refusal.TheVariants.{Unknown, NotInProfile}
 use Rattle.name_outcome.specs.declared.parts.Heading.{Heading}
 use Rattle.name_rules.specs.declared.parts.Bound.{Bound}
 use Rattle.name_rules.specs.declared.parts.Here.{Here}
+use Rattle.name_outcome.specs.Answers.{with}
 use Rattle.name_outcome.specs.Names.{asked, type_of}
 use Rattle.name_outcome.specs.Tables.{Table, nearest_field, own_method, method_met}
 use Rattle.name_rules.specs.Meanings.{local_of}
@@ -73,14 +74,19 @@ module _ (t : Table) (O : Plain) (sees : Sees t O) where
 
   -- ---- static members of a class before a dot
 
+  in_class-tells : {A : Type 0} (c : Id) (Is : ℕ → A → Type 0) (F : Refusal → Type 0) (next : ℕ → Result A Refusal)
+      → (class_named O c.name ≡ None → F (Unknown c.name c.place))
+      → ((k : ℕ) → class_named O c.name ≡ Some k → Tells (λ a. (k : ℕ) × (class_named O c.name ≡ Some k) × Is k a) F (next k))
+      → Tells (λ a. (k : ℕ) × (class_named O c.name ≡ Some k) × Is k a) F (with (asked t.known c.name c.place) next)
+  in_class-tells c Is F next no_class there = tell (λ a. (k : ℕ) × (class_named O c.name ≡ Some k) × Is k a) F (asked t.known c.name c.place) next
+      (asked-tells t.known O sees.types c.name c.place) there (λ r h. subst F (sym h.0) (no_class h.1))
+
   pub static_field-tells : (c : Id) (n : List ℕ) (p : Place) (F : Refusal → Type 0) → (class_named O c.name ≡ None → F (Unknown c.name c.place))
       → ((k : ℕ) → class_named O c.name ≡ Some k → ((f : ℕ) → IsStaticFieldOf O k n f → ⊥) → F (Unknown n p))
       → Tells (λ f. (k : ℕ) × (class_named O c.name ≡ Some k) × IsStaticFieldOf O k n f) F (static_field_of t c n p)
   static_field-tells c n p F no_class no_field =
-      tell (λ f. (k : ℕ) × (class_named O c.name ≡ Some k) × IsStaticFieldOf O k n f) F (asked t.known c.name c.place) _
-      (asked-tells t.known O sees.types c.name c.place)
+      in_class-tells c (λ k f. IsStaticFieldOf O k n f) F (λ k. static_field_in t n p (table.own_field t k n)) no_class
       (λ k e. in_class k e (table.own_field t k n) refl)
-      (λ r h. subst F (sym h.0) (no_class h.1))
     where
       in_class : (k : ℕ) → class_named O c.name ≡ Some k → (o : Option ℕ) → table.own_field t k n ≡ o
           → Tells (λ f. (k : ℕ) × (class_named O c.name ≡ Some k) × IsStaticFieldOf O k n f) F (static_field_in t n p o)
@@ -113,10 +119,8 @@ module _ (t : Table) (O : Plain) (sees : Sees t O) where
       → ((k : ℕ) → class_named O c.name ≡ Some k → ((m : ℕ) → IsStaticMethodOf O k n m → ⊥) → F (Unknown n p))
       → Tells (λ m. (k : ℕ) × (class_named O c.name ≡ Some k) × IsStaticMethodOf O k n m) F (static_method_of t c n p)
   static_method-tells c n p F no_class no_member =
-      tell (λ m. (k : ℕ) × (class_named O c.name ≡ Some k) × IsStaticMethodOf O k n m) F (asked t.known c.name c.place) _
-      (asked-tells t.known O sees.types c.name c.place)
+      in_class-tells c (λ k m. IsStaticMethodOf O k n m) F (λ k. static_method_in t n p (own_method t k n)) no_class
       (λ k e. in_class k e (own_method t k n) refl)
-      (λ r h. subst F (sym h.0) (no_class h.1))
     where
       in_class : (k : ℕ) → class_named O c.name ≡ Some k → (o : Option ℕ) → own_method t k n ≡ o
           → Tells (λ m. (k : ℕ) × (class_named O c.name ≡ Some k) × IsStaticMethodOf O k n m) F (static_method_in t n p o)

@@ -121,14 +121,14 @@ module _ (tree : List DeclTree) (s : Steps tree) where
       let a = field-at f k e in
       let g = s.members.good_field f a.0 a.1 in
       let at = field-in 1 tree s.formed f a.0 a.1 in
-      let own : a.0.owner ≡ suc at.index = let o = at.owner in omega (arith, o) in
+      let own : a.0.owner ≡ suc at.index = let o = at.owned in omega (arith, o) in
       subst (IsFormedField (R tree s)) a.2 (record {
-        name = free-name tree s a.0.name at.name g.free;
+        name = free-name tree s a.0.name at.is.name g.free;
         type = meant-type tree s a.0.type g.type g.means;
         no_object = λ z. omega (arith, z, own);
         holder = untag_class (class_outline (types_in tree) at.decl);
         stands = ap (slice_get (R tree s).classes) own ∙ holder at.index at.decl at.stands;
-        class = at.class;
+        class = at.is.class;
       })
 
   pub formed-field_names : (f g : ℕ) (h k : PlainField) → slice_get (R tree s).fields f ≡ Some h → slice_get (R tree s).fields g ≡ Some k → h.owner ≡ k.owner
@@ -203,7 +203,7 @@ module _ (tree : List DeclTree) (s : Steps tree) (i : ℕ) (K : PlainMethod) (e 
   body = body-at s.written.bodies i x K at e
 
   own : K.owner ≡ suc stands.index
-  own = let o = stands.owner in let a = ap (λ z. z.owner) h in omega (arith, o, a)
+  own = let o = stands.owned in let a = ap (λ z. z.owner) h in omega (arith, o, a)
 
   -- parameters
   param-good : (v : PlainLocal) → Contains (map untag_local K.params) v → IsFormedLocal (R tree s) v
@@ -214,7 +214,7 @@ module _ (tree : List DeclTree) (s : Steps tree) (i : ℕ) (K : PlainMethod) (e 
       let g = good.params.means a.0 d.0 d.1 in
       subst (IsFormedLocal (R tree s)) (ap untag_local d.2 ∙ b.2) (record {
         name = free-name tree s d.0.name
-            (each-of IsFormedParam x.head.params a.0 d.0 stands.head.3 d.1).1 (good.params.free a.0 d.0 d.1);
+            (each-of IsFormedParam x.head.params a.0 d.0 stands.is.head.3 d.1).1 (good.params.free a.0 d.0 d.1);
         type = meant-type tree s d.0.ty g.0 g.1;
       })
 
@@ -234,7 +234,7 @@ module _ (tree : List DeclTree) (s : Steps tree) (i : ℕ) (K : PlainMethod) (e 
           let lt = stands-within K.locals a.0 b.0 b.1 in
           let size = length-append K.params K.locals in
           let l = counts-each (outline tree) (here_of x) K (R tree s) (untag_method K) (suits tree s i K x e h) counts
-          (good-sts (outline tree) (here_of x) K (R tree s) (untag_method K) (suits tree s i K x e h) r (subst IsFormedBody p stands.body))
+          (good-sts (outline tree) (here_of x) K (R tree s) (untag_method K) (suits tree s i K x e h) r (subst IsFormedBody p stands.is.body))
           (length K.params + a.0) (omega arith) (omega (arith, lt, size)) in
           let same : l.local ≡ b.0 = same_some (sym l.stands ∙ back-stands K.params K.locals a.0 ∙ b.1) in
           subst (IsFormedLocal (R tree s)) (ap untag_local same ∙ b.2) (record {
@@ -261,7 +261,7 @@ module _ (tree : List DeclTree) (s : Steps tree) (i : ℕ) (K : PlainMethod) (e 
   static-is = sym (ap (λ z. z.is_static) h)
 
   in-interface : is_interface_of stands.decl ≡ true → ((untag_method K).is_static ≡ false) × ((untag_method K).body ≡ None)
-  in-interface f = let g = stands.in_interface f in (sym static-is ∙ good.head g.0, no-body g.1)
+  in-interface f = let g = stands.is.in_interface f in (sym static-is ∙ good.head g.0, no-body g.1)
 
   without-body : (untag_method K).body ≡ None → ((untag_method K).is_static ≡ false)
       × (is_interface_of stands.decl || has_word is_abstract_word (mods_of stands.decl) ≡ true)
@@ -270,12 +270,12 @@ module _ (tree : List DeclTree) (s : Steps tree) (i : ℕ) (K : PlainMethod) (e 
       go : (b : Bool) → is_interface_of stands.decl ≡ b → (c : Bool) → has_word is_abstract_word x.head.mods ≡ c → (d : Bool) → x.in_abstract ≡ d
           → ((untag_method K).is_static ≡ false) × (is_interface_of stands.decl || has_word is_abstract_word (mods_of stands.decl) ≡ true)
       go true p c q d r = ((in-interface p).0, or_left (is_interface_of stands.decl) (has_word is_abstract_word (mods_of stands.decl)) p)
-      go false p false q d r = absurd (good.body (missing (stands.in_class p).0 q (bodyless f)))
+      go false p false q d r = absurd (good.body (missing (stands.is.in_class p).0 q (bodyless f)))
       go false p true q false r = absurd (good.body (in_concrete q r))
       go false p true q true r = (
         sym static-is ∙ good.no_static q,
         or_right (is_interface_of stands.decl)
-            (has_word is_abstract_word (mods_of stands.decl)) (sym (stands.in_class p).1 ∙ r),
+            (has_word is_abstract_word (mods_of stands.decl)) (sym (stands.is.in_class p).1 ∙ r),
       )
 
   code : (xs : Sts) → (untag_method K).body ≡ Some xs → FormedSts (R tree s) (untag_method K) false (numbers_below (length (untag_method K).params)) xs
@@ -287,7 +287,7 @@ module _ (tree : List DeclTree) (s : Steps tree) (i : ℕ) (K : PlainMethod) (e 
           subst (FormedSts (R tree s) (untag_method K) false (numbers_below (length (untag_method K).params)))
           (same_some (sym (ap untag_body q) ∙ f))
           (formed-sts (outline tree) (here_of x) K (R tree s) (untag_method K) (suits tree s i K x e h) r (scope-params K)
-          (subst IsFormedBody p stands.body) (counts-behind (length K.params) counts (omega arith)))
+          (subst IsFormedBody p stands.is.body) (counts-behind (length K.params) counts (omega arith)))
 
   result : IsKnownResult (R tree s) K.result
   result = subst (IsKnownResult (R tree s)) (sym (ap (λ z. z.result) h)) (go x.head.type refl)
@@ -324,7 +324,7 @@ module _ (tree : List DeclTree) (s : Steps tree) (i : ℕ) (K : PlainMethod) (e 
   pub formed-method : IsFormedMethod (R tree s) (untag_method K)
   unfolding HasNoTwice
   formed-method = record {
-    name = subst (λ z. IsName z.name) (sym h) stands.head.2;
+    name = subst (λ z. IsName z.name) (sym h) stands.is.head.2;
     variables = λ v c. ⊎_elim (λ a. param-good v a) (λ a. local-good v a) (Contains-append_cases (map untag_local K.params) (map untag_local K.locals) v c);
     params = subst HasNoTwice (sym (ap (λ z. map (λ v. v.name) (map untag_local z)) (ap (λ z. z.params) h)
         ∙ params-seen (types_in tree) x.head.params)) good.params.once;

@@ -52,29 +52,27 @@ true-both a c m n e f = ap (λ z. z && bytes_eq m n) (eq-eqb a c e) ∙ (bytes_e
 
 -- ---- the members of declarations, one more
 
+-- what each item gives, of two lists one after the other
+each_append : {X A : Type 0} (of : ℕ → X → List A) (from : ℕ → List X → List A) → ((c : ℕ) → from c [] ≡ [])
+    → ((c : ℕ) (x : X) (xs : List X) → from c (x ∷ xs) ≡ of c x ++ from (suc c) xs) → (c : ℕ) (xs ys : List X)
+    → from c (xs ++ ys) ≡ from c xs ++ from (c + length xs) ys
+each_append of from none some c [] ys = ap (λ k. from k ys) (let e : c ≡ c + 0 = omega arith in e) ∙ ap (λ z. z ++ from (c + 0) ys) (sym (none c))
+each_append of from none some c (x ∷ xs) ys =
+    some c x (xs ++ ys) ∙ ap (λ z. of c x ++ z) (each_append of from none some (suc c) xs ys ∙ ap (λ k. from (suc c) xs ++ from k ys)
+    (let e : suc c + length xs ≡ c + suc (length xs) = omega arith in e))
+    ∙ sym (append_assoc (of c x) (from (suc c) xs) (from (c + suc (length xs)) ys)) ∙ ap (λ z. z ++ from (c + suc (length xs)) ys) (sym (some c x xs))
+
 fields_of-append : (c : ℕ) (xs ys : List MemberTree) → fields_of c (xs ++ ys) ≡ fields_of c xs ++ fields_of c ys
-fields_of-append c [] ys = refl
-fields_of-append c (x ∷ xs) ys = ap (λ z. field_member c x ++ z) (fields_of-append c xs ys)
-    ∙ sym (append_assoc (field_member c x) (fields_of c xs) (fields_of c ys))
+fields_of-append c = each_append (λ k. field_member c) (λ k. fields_of c) (λ k. refl) (λ k x xs. refl) 0
 
 methods_of-append : (c : ℕ) (a : Bool) (xs ys : List MemberTree) → methods_of c a (xs ++ ys) ≡ methods_of c a xs ++ methods_of c a ys
-methods_of-append c a [] ys = refl
-methods_of-append c a (x ∷ xs) ys = ap (λ z. method_member c a x ++ z) (methods_of-append c a xs ys)
-    ∙ sym (append_assoc (method_member c a x) (methods_of c a xs) (methods_of c a ys))
+methods_of-append c a = each_append (λ k. method_member c a) (λ k. methods_of c a) (λ k. refl) (λ k x xs. refl) 0
 
 pub fields_from-append : (c : ℕ) (xs ys : List DeclTree) → fields_from c (xs ++ ys) ≡ fields_from c xs ++ fields_from (c + length xs) ys
-fields_from-append c [] ys = ap (λ k. fields_from k ys) (let e : c ≡ c + 0 = omega arith in e)
-fields_from-append c (x ∷ xs) ys =
-    ap (λ z. fields_declared c x ++ z) (fields_from-append (suc c) xs ys ∙ ap (λ k. fields_from (suc c) xs ++ fields_from k ys)
-    (let e : suc c + length xs ≡ c + suc (length xs) = omega arith in e))
-    ∙ sym (append_assoc (fields_declared c x) (fields_from (suc c) xs) (fields_from (c + suc (length xs)) ys))
+fields_from-append = each_append fields_declared fields_from (λ c. refl) (λ c d ds. refl)
 
 pub methods_from-append : (c : ℕ) (xs ys : List DeclTree) → methods_from c (xs ++ ys) ≡ methods_from c xs ++ methods_from (c + length xs) ys
-methods_from-append c [] ys = ap (λ k. methods_from k ys) (let e : c ≡ c + 0 = omega arith in e)
-methods_from-append c (x ∷ xs) ys =
-    ap (λ z. methods_declared c x ++ z) (methods_from-append (suc c) xs ys ∙ ap (λ k. methods_from (suc c) xs ++ methods_from k ys)
-    (let e : suc c + length xs ≡ c + suc (length xs) = omega arith in e))
-    ∙ sym (append_assoc (methods_declared c x) (methods_from (suc c) xs) (methods_from (c + suc (length xs)) ys))
+methods_from-append = each_append methods_declared methods_from (λ c. refl) (λ c d ds. refl)
 
 module _ (tree : List DeclTree) (known : List Known) (are : AreKnown tree known) where
   -- a method as the headings have it

@@ -10,26 +10,40 @@ use Rattle.name_outcome.proofs.Sees.{same_some}
 use Rattle.name_outcome.proofs.MethodClashes.{owner-declared}
 use Rattle.name_outcome.proofs.Runs.{append-cases, stands-within}
 
--- the field stands in this declaration, which is a class
-pub record FieldIn (c : ℕ) (ds : List DeclTree) (f : FieldAt) : Type 0 where
+-- what belongs to this declaration of a list, whose types are numbered from c on
+pub record MemberIn (owner : ℕ) (Is : DeclTree → Type 0) (c : ℕ) (ds : List DeclTree) : Type 0 where
   pub index : ℕ
   pub decl : DeclTree
   pub stands : slice_get ds index ≡ Some decl
-  pub owner : f.owner ≡ c + index
-  pub class : is_interface_of decl ≡ false
+  pub owned : owner ≡ c + index
+  pub is : Is decl
+
+at-first : {owner : ℕ} {Is : DeclTree → Type 0} (c : ℕ) (d : DeclTree) (ds : List DeclTree) → owner ≡ c → Is d → MemberIn owner Is c (d ∷ ds)
+at-first c d ds o h = record { index = 0; decl = d; stands = refl; owned = omega (arith, o); is = h }
+
+at-later : {owner : ℕ} {Is : DeclTree → Type 0} (c : ℕ) (d : DeclTree) (ds : List DeclTree) → MemberIn owner Is (suc c) ds → MemberIn owner Is c (d ∷ ds)
+at-later c d ds k = let o = k.owned in record { index = suc k.index; decl = k.decl; stands = k.stands; owned = omega (arith, o); is = k.is }
+
+-- what a field has where it stands in a declaration, a class
+pub record IsFieldOf (f : FieldAt) (d : DeclTree) : Type 0 where
+  pub class : is_interface_of d ≡ false
   pub name : IsName f.name
   pub type : IsFormedBase f.type.base
 
--- the method stands in this declaration, a class or an interface
-pub record MethodIn (c : ℕ) (ds : List DeclTree) (m : MethodAt) : Type 0 where
-  pub index : ℕ
-  pub decl : DeclTree
-  pub stands : slice_get ds index ≡ Some decl
-  pub owner : m.owner ≡ c + index
+-- the field stands in one of the declarations
+abbrev pub FieldIn : ℕ → List DeclTree → FieldAt → Type 0
+FieldIn c ds f = MemberIn f.owner (IsFieldOf f) c ds
+
+-- what a method has where it stands in one, a class or an interface
+pub record IsMethodOf (m : MethodAt) (d : DeclTree) : Type 0 where
   pub head : IsFormedHead m.head
   pub body : IsFormedBody m.body
-  pub in_interface : is_interface_of decl ≡ true → (m.kind ≡ kinds.Head) × (m.body ≡ None)
-  pub in_class : is_interface_of decl ≡ false → (m.kind ≡ kinds.Method) × (m.in_abstract ≡ has_word is_abstract_word (mods_of decl))
+  pub in_interface : is_interface_of d ≡ true → (m.kind ≡ kinds.Head) × (m.body ≡ None)
+  pub in_class : is_interface_of d ≡ false → (m.kind ≡ kinds.Method) × (m.in_abstract ≡ has_word is_abstract_word (mods_of d))
+
+-- the method stands in one of them
+abbrev pub MethodIn : ℕ → List DeclTree → MethodAt → Type 0
+MethodIn c ds m = MemberIn m.owner (IsMethodOf m) c ds
 
 class-field : (c : ℕ) (xs : List MemberTree) → Each IsFormedMember xs → (i : ℕ) (f : FieldAt) → slice_get (fields_of c xs) i ≡ Some f → (f.owner ≡ c)
     × IsName f.name × IsFormedBase f.type.base
@@ -75,66 +89,28 @@ method-declared : (c : ℕ) (d : DeclTree) → IsFormedDecl d → (ds : List Dec
     ≡ Some m → MethodIn c (d ∷ ds) m
 method-declared c (ClassTree mods n parent faces xs p) g ds i m e =
     let h = class-method c (has_word is_abstract_word mods) xs g.4 i m e in
-    record {
-      index = 0;
-      decl = ClassTree mods n parent faces xs p;
-      stands = refl;
-      owner = let o = h.0 in omega (arith, o);
-      head = h.1;
-      body = h.2;
-      in_interface = λ k. absurd (cc k);
-      in_class = λ k. (h.3, h.4);
-    }
+    at-first c (ClassTree mods n parent faces xs p) ds h.0
+    (record { head = h.1; body = h.2; in_interface = λ k. absurd (cc k); in_class = λ k. (h.3, h.4) })
 method-declared c (InterfaceTree mods n parents hs p) g ds i m e =
     let h = interface-method c hs g.3 i m e in
-    record {
-      index = 0;
-      decl = InterfaceTree mods n parents hs p;
-      stands = refl;
-      owner = let o = h.0 in omega (arith, o);
-      head = h.1;
-      body = subst
-          IsFormedBody (sym h.3) tt;
-      in_interface = λ k. (h.2, h.3);
-      in_class = λ k. absurd (cc k);
-    }
+    at-first c (InterfaceTree mods n parents hs p) ds h.0
+    (record { head = h.1; body = subst IsFormedBody (sym h.3) tt; in_interface = λ k. (h.2, h.3); in_class = λ k. absurd (cc k) })
 
 pub field-in : (c : ℕ) (ds : List DeclTree) → Each IsFormedDecl ds → (i : ℕ) (f : FieldAt) → slice_get (fields_from c ds) i ≡ Some f → FieldIn c ds f
 field-in c [] g i f e = absurd (cc e)
 field-in c (d ∷ ds) g i f e =
-    ⊎_elim
-    (λ h. let k = field-declared c d g.0 i f h in
-    record { index = 0; decl = d; stands = refl; owner = (let o = k.0 in omega (arith, o)); class = k.3; name = k.1; type = k.2 })
-    (λ h. let k = field-in (suc c) ds g.1 h.0 f h.2 in record {
-      index = suc k.index;
-      decl = k.decl;
-      stands = k.stands;
-      owner = (let o = k.owner in omega (arith, o));
-      class = k.class;
-      name = k.name;
-      type = k.type;
-    })
-    (append-cases (fields_declared c d) (fields_from (suc c) ds) i f e)
+    ⊎_elim (λ h. let k = field-declared c d g.0 i f h in at-first c d ds k.0 (record { class = k.3; name = k.1; type = k.2 }))
+    (λ h. at-later c d ds (field-in (suc c) ds g.1 h.0 f h.2)) (append-cases (fields_declared c d) (fields_from (suc c) ds) i f e)
 
 pub method-in : (c : ℕ) (ds : List DeclTree) → Each IsFormedDecl ds → (i : ℕ) (m : MethodAt) → slice_get (methods_from c ds) i ≡ Some m → MethodIn c ds m
 method-in c [] g i m e = absurd (cc e)
 method-in c (d ∷ ds) g i m e =
-    ⊎_elim (λ h. method-declared c d g.0 ds i m h)
-    (λ h. let k = method-in (suc c) ds g.1 h.0 m h.2 in record {
-      index = suc k.index;
-      decl = k.decl;
-      stands = k.stands;
-      owner = (let o = k.owner in omega (arith, o));
-      head = k.head;
-      body = k.body;
-      in_interface = k.in_interface;
-      in_class = k.in_class;
-    })
+    ⊎_elim (λ h. method-declared c d g.0 ds i m h) (λ h. at-later c d ds (method-in (suc c) ds g.1 h.0 m h.2))
     (append-cases (methods_declared c d) (methods_from (suc c) ds) i m e)
 
 -- methods stand in the order of their owners
 least-owner : (c : ℕ) (ds : List DeclTree) → Each IsFormedDecl ds → (i : ℕ) (m : MethodAt) → slice_get (methods_from c ds) i ≡ Some m → c ≤ m.owner
-least-owner c ds g i m e = let h = (method-in c ds g i m e).owner in omega (arith, h)
+least-owner c ds g i m e = let h = (method-in c ds g i m e).owned in omega (arith, h)
 
 pub owners-rise : (c : ℕ) (ds : List DeclTree) → Each IsFormedDecl ds → (i j : ℕ) (a b : MethodAt) → slice_get (methods_from c ds) i ≡ Some a
     → slice_get (methods_from c ds) j ≡ Some b → i ≤ j → a.owner ≤ b.owner

@@ -204,7 +204,7 @@ module _ (tree : List DeclTree) (formed : IsFormedTree tree) (none : HasNoCondit
       methods : P.methods ≡ Q.methods
       methods =
           methods-only (outline tree) (one-met (outline tree) (λ c i j h k p q lt same u v other. none _ (overload p q lt same u v other))) 0 p.last
-          q.last (λ n m e. (method-in 1 tree formed n m e).body) p.bodies q.bodies same
+          q.last (λ n m e. (method-in 1 tree formed n m e).is.body) p.bodies q.bodies same
           (λ n k l e f. slot-only P Q slots p.slots k l (same_some (sym (stands-map heading_of P.methods n k e) ∙ ap (λ z. slice_get z n) same
           ∙ stands-map heading_of Q.methods n l f)) (p.slots.each n k e) (q.slots.each n l f))
           p.numbers q.numbers

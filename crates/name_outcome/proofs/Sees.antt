@@ -25,20 +25,19 @@ pub record SameMethod (h : Heading) (k : PlainMethod) : Type 0 where
   pub name : k.name ≡ h.name
   pub static : k.is_static ≡ h.is_static
 
--- a field of this number stands in both
-pub record StandsField (t : Table) (O : Plain) (f : ℕ) : Type 0 where
-  pub seen : Field
-  pub member : PlainField
-  pub seen_stands : slice_get t.fields f ≡ Some seen
-  pub stands : slice_get O.fields f ≡ Some member
-  pub same : SameField seen member
+-- what has this number stands in both, and is the same
+pub record StandsInBoth {A B : Type 0} (Same : A → B → Type 0) (seen_items : List A) (members : List B) (n : ℕ) : Type 0 where
+  pub seen : A
+  pub member : B
+  pub seen_stands : slice_get seen_items n ≡ Some seen
+  pub stands : slice_get members n ≡ Some member
+  pub same : Same seen member
 
-pub record StandsMethod (t : Table) (O : Plain) (m : ℕ) : Type 0 where
-  pub seen : Heading
-  pub member : PlainMethod
-  pub seen_stands : slice_get t.headings m ≡ Some seen
-  pub stands : slice_get O.methods m ≡ Some member
-  pub same : SameMethod seen member
+abbrev pub StandsField : Table → Plain → ℕ → Type 0
+StandsField t O f = StandsInBoth SameField t.fields O.fields f
+
+abbrev pub StandsMethod : Table → Plain → ℕ → Type 0
+StandsMethod t O m = StandsInBoth SameMethod t.headings O.methods m
 
 pub record OwnMethod (t : Table) (O : Plain) (c : ℕ) (n : List ℕ) (m : ℕ) : Type 0 where
   pub at : StandsMethod t O m

@@ -10,7 +10,9 @@ use Rattle.java_tree.specs.declared.TypeName.{TypeName}
 use Rattle.java_tree.specs.Syntax.{MemberTree, FieldTree, MethodTree, DeclTree, ClassTree, InterfaceTree}
 use Rattle.java_tree.specs.Places.{nowhere, all_unplaced, may_unplaced, id_unplaced, modifier_unplaced, type_unplaced, param_unplaced, stmts_unplaced, head_unplaced, member_unplaced, decl_unplaced, unplaced}
 use Rattle.name_rules.specs.declared.parts.Kind.TheVariants as kinds
-use Rattle.name_rules.specs.Outline.{FieldAt, MethodAt, name_of, has_word, is_abstract_word, is_static_word, is_public_word, types_in, type_meant, id_meant, class_id, fields_of, methods_of, fields_declared, methods_declared, fields_from, methods_from, fields_in, methods_in, object, parent_meant, class_outline, field_outline, param_outline, method_outline, outline}
+use Rattle.name_rules.specs.Outline.{FieldAt, MethodAt, name_of, has_word, is_abstract_word, is_static_word, is_public_word, types_in, type_meant, id_meant, fields_of, methods_of, fields_declared, methods_declared, fields_from, methods_from, fields_in, methods_in, object, parent_meant, class_outline, field_outline, param_outline, method_outline, outline}
+use Rattle.kaba_base.specs.declared.ClassId.{ClassId}
+use Rattle.java_core.specs.Programs.{PlainClass}
 use Rattle.java_core.specs.Untagged.{bare_tag, untag_local, untag_class, untag_field, untag_method, untagged}
 
 pub ap2 : {A B C : Type 0} (f : A → B → C) {a b : A} {c d : B} → a ≡ b → c ≡ d → f a c ≡ f b d
@@ -52,42 +54,17 @@ parent-same : (types : List (List ℕ)) (c : Option Id) → parent_meant types (
 parent-same types None = refl
 parent-same types (Some i) = refl
 
+abbrev a_class : List ℕ → Bool → Bool → ClassId → List ClassId → PlainClass
+a_class n i a c fs = record { name = n; is_interface = i; is_abstract = a; parent = Some c; faces = fs; tag = bare_tag }
+
+-- a class outlined of the same parts
+class-parts : (n : List ℕ) (i a b : Bool) (c d : ClassId) (fs hs : List ClassId) → a ≡ b → c ≡ d → fs ≡ hs → a_class n i a c fs ≡ a_class n i b d hs
+class-parts n i a b c d fs hs p q r = cc
+
 class-same : (types : List (List ℕ)) (d : DeclTree) → class_outline types (decl_unplaced d) ≡ untag_class (class_outline types d)
-class-same types (ClassTree ms n c fs bs p) =
-    ap (λ z. record {
-      name = n;
-      is_interface = false;
-      is_abstract = z;
-      parent = Some (parent_meant types (may_unplaced id_unplaced c));
-      faces = map (id_meant types) (all_unplaced id_unplaced fs);
-      tag = bare_tag;
-    }) (word-same is_abstract_word ms)
-    ∙ ap (λ z. record {
-      name = n;
-      is_interface = false;
-      is_abstract = has_word is_abstract_word ms;
-      parent = Some z;
-      faces = map (id_meant types) (all_unplaced id_unplaced fs);
-      tag = bare_tag;
-    }) (parent-same types c)
-    ∙ ap (λ z. record {
-      name = n;
-      is_interface = false;
-      is_abstract = has_word is_abstract_word ms;
-      parent = Some (parent_meant types c);
-      faces = z;
-      tag = bare_tag;
-    }) (same-all id_unplaced (id_meant types) (λ i. refl) fs)
-class-same types (InterfaceTree ms n fs hs p) =
-    ap (λ z. record {
-      name = n;
-      is_interface = true;
-      is_abstract = z;
-      parent = Some (class_id 0);
-      faces = map (id_meant types) (all_unplaced id_unplaced fs);
-      tag = bare_tag;
-    }) (word-same is_abstract_word ms)
-    ∙ ap (λ z. record { name = n; is_interface = true; is_abstract = has_word is_abstract_word ms; parent = Some (class_id 0); faces = z; tag = bare_tag })
+class-same types (ClassTree ms n c fs bs p) = class-parts n false _ _ _ _ _ _ (word-same is_abstract_word ms) (parent-same types c)
+    (same-all id_unplaced (id_meant types) (λ i. refl) fs)
+class-same types (InterfaceTree ms n fs hs p) = class-parts n true _ _ _ _ _ _ (word-same is_abstract_word ms) refl
     (same-all id_unplaced (id_meant types) (λ i. refl) fs)
 
 -- ---- members
@@ -188,7 +165,8 @@ outline-same tree =
     }) (types-same tree)
     ∙ ap2 (λ cs fs. record { classes = object ∷ cs; fields = fs; methods = map (method_outline t) (methods_in (unplaced tree)); slots = []; main = 0 })
     (seen-all decl_unplaced (class_outline t) (class_outline t) untag_class (class-same t) tree)
-    (ap (map (field_outline t)) (fields-same tree) ∙ both-ways field_at_unplaced (field_outline t) (field_outline t) untag_field (field-seen t) (fields_in tree))
+    (ap (map (field_outline t)) (fields-same tree) ∙ both-ways field_at_unplaced (field_outline t) (field_outline t) untag_field (field-seen t)
+    (fields_in tree))
     ∙ ap (λ ms. record {
       classes = object ∷ map untag_class (map (class_outline t) tree);
       fields = map untag_field (map (field_outline t) (fields_in tree));

@@ -15,7 +15,7 @@ use Rattle.flow_rules.specs.declared.items.ColumnItem.{ColumnItem}
 use Rattle.flow_rules.specs.declared.items.ColumnItem.TheVariants as column
 use Rattle.flow_rules.specs.Facts.{numbers, kind_of, slot_in, IsFactsOf}
 use Rattle.facts_order.proofs.Pairs.{IsPlaced}
-use Rattle.facts_order.proofs.Items.{column_at}
+use Rattle.flow_rules.proofs.NumberedItems.{numbered_columns}
 use Rattle.facts_order.proofs.Columns.{Stands, for_field, for_declaration, for_body, for_mark, column_stands, declaration_column, item_of, numbered_column}
 use Rattle.rebuild_model.specs.Rebuilds.{Rebuilds}
 use Rattle.rebuild_looks.specs.Known.{AreColumns, Known}
@@ -71,11 +71,11 @@ module _ (P Q : Plain) (placed : IsPlaced P Q) (formed : IsFormed P) where
       kind = λ i c e. ap (λ (z : ColumnInfo). z.kind) (numbered_column P Q F facts i c e).1;
       slot = λ i c e. ap (λ (z : ColumnInfo). z.slot) (numbered_column P Q F facts i c e).1 ∙ slot_in_both i;
       one = λ i j c e f.
-          let x = column_at P Q i c e in
-          let y = column_at P Q j c f in
+          let x = (numbered_columns P Q).at i c e in
+          let y = (numbered_columns P Q).at j c f in
           sym x.2 ∙ ap (λ z. z.item) (same_Some _ _ (sym x.1 ∙ y.1)) ∙ y.2;
       item = λ c lt. let x = item_of P Q F facts c lt in (x.item, x.number);
-      slotted = λ i c e h. let x = column_at P Q i c e in item_slotted i (subst (λ z. Stands Q z) x.2 (column_stands P Q c x.0 x.1)) h;
+      slotted = λ i c e h. let x = (numbered_columns P Q).at i c e in item_slotted i (subst (λ z. Stands Q z) x.2 (column_stands P Q c x.0 x.1)) h;
       declared = method_declared;
     }
 

@@ -27,6 +27,20 @@ pub slot_says : (o : Option ℕ) (x : ℕ) → is_slot o x ≡ true → o ≡ So
 slot_says None x h = absurd (false≢true h)
 slot_says (Some y) x h = ap Some (eqb-true y x h)
 
+-- a method of a slot that a class itself declares
+pub record HasOwn (W : Plain) (c q g : ℕ) : Type 0 where
+  pub method : PlainMethod
+  pub stands : slice_get W.methods g ≡ Some method
+  pub owner : method.owner ≡ c
+  pub slot : method.slot ≡ Some q
+
+abbrev pub own_from : (W : Plain) (c q g : ℕ) (k : PlainMethod) → slice_get W.methods g ≡ Some k → has_slot c q k ≡ true → HasOwn W c q g
+own_from W c q g k e h = let parts = and_parts (eqb k.owner c) (is_slot k.slot q) h in
+    record { method = k; stands = e; owner = eqb-true k.owner c parts.0; slot = slot_says k.slot q parts.1 }
+
+pub has_own : (W : Plain) (c q g : ℕ) (o : HasOwn W c q g) → has_slot c q o.method ≡ true
+has_own W c q g o = and_from (eqb o.method.owner c) (is_slot o.method.slot q) (eq-eqb o.method.owner c o.owner) (ap (λ z. is_slot z q) o.slot ∙ eq-eqb q q refl)
+
 pub no_head : (a b c : Bool) → (not a || (not b && not c)) ≡ true → a ≡ true → c ≡ true → ⊥
 no_head true true c h e f = false≢true h
 no_head true false true h e f = false≢true h
@@ -44,18 +58,14 @@ module _ {P Q : Plain} {F : Facts} {H : Hierarchy} {W : Plain} (K : Known P Q F 
 
   -- the body of a slot that a class itself has
   record IsOwnBody (c q g : ℕ) : Type 0 where
-    method : PlainMethod
-    stands : slice_get W.methods g ≡ Some method
-    owner : method.owner ≡ c
-    slot : method.slot ≡ Some q
-    body : is_some method.body ≡ true
+    own : HasOwn W c q g
+    body : is_some own.method.body ≡ true
 
   own_is : (c q g : ℕ) → own_body W c q ≡ Some g → IsOwnBody c q g
   own_is c q g h =
       let k = position-passes (λ m. has_slot c q m && is_some m.body) W.methods g h in
-      let outer = and_parts (has_slot c q k.0) (is_some k.0.body) k.2 in
-      let inner = and_parts (eqb k.0.owner c) (is_slot k.0.slot q) outer.0 in
-      record { method = k.0; stands = k.1; owner = eqb-true k.0.owner c inner.0; slot = slot_says k.0.slot q inner.1; body = outer.1 }
+      let parts = and_parts (has_slot c q k.0) (is_some k.0.body) k.2 in
+      record { own = own_from W c q g k.0 k.1 parts.0; body = parts.1 }
 
   -- methods of one slot have one name
   pub slot_named : (q g h : ℕ) (k l : PlainMethod) → slice_get W.methods g ≡ Some k → slice_get W.methods h ≡ Some l
@@ -67,12 +77,11 @@ module _ {P Q : Plain} {F : Facts} {H : Hierarchy} {W : Plain} (K : Known P Q F 
 
   is_own : (c q g : ℕ) → IsOwnBody c q g → own_body W c q ≡ Some g
   is_own c q g o =
-      let passes = and_from (has_slot c q o.method) (is_some o.method.body)
-      (and_from (eqb o.method.owner c) (is_slot o.method.slot q) (eq-eqb o.method.owner c o.owner) (ap (λ z. is_slot z q) o.slot ∙ eq-eqb q q refl)) o.body in
-      let there = passes-position (λ m. has_slot c q m && is_some m.body) W.methods g o.method o.stands passes in
-      let other = own_is c q there.0 there.1 in
-      there.1 ∙ ap Some (K.new.method_names there.0 g other.method o.method other.stands o.stands (other.owner ∙ sym o.owner)
-      (slot_named q there.0 g other.method o.method other.stands o.stands other.slot o.slot))
+      let passes = and_from (has_slot c q o.own.method) (is_some o.own.method.body) (has_own W c q g o.own) o.body in
+      let there = passes-position (λ m. has_slot c q m && is_some m.body) W.methods g o.own.method o.own.stands passes in
+      let other = (own_is c q there.0 there.1).own in
+      there.1 ∙ ap Some (K.new.method_names there.0 g other.method o.own.method other.stands o.own.stands (other.owner ∙ sym o.own.owner)
+      (slot_named q there.0 g other.method o.own.method other.stands o.own.stands other.slot o.own.slot))
 
   own_named : (c g : ℕ) (x : List ℕ) → IsOwn W c x g → own_method W c x ≡ Some g
   own_named c g x o =
@@ -145,12 +154,12 @@ module _ {P Q : Plain} {F : Facts} {H : Hierarchy} {W : Plain} (K : Known P Q F 
       unfolding lookup
       finds_body q slot =
           let own = is_own (T.type_of o.node) q number
-          (record { method = body.method; stands = body.stands; owner = body.owner; slot = slot; body = is_bodied }) in
+          (record { own = record { method = body.method; stands = body.stands; owner = body.owner; slot = slot }; body = is_bodied }) in
           nearest-nearest_of W (λ k. own_body W k q) K.new.acyclic (nearest_on_way W (λ k. own_body W k q) chain own one)
         where
           one : OneOnWay W (λ k. own_body W k q) (T.type_of n) (T.type_of o.node) number
           one e y down up h =
-              let own = own_is e q y h in
+              let own = (own_is e q y h).own in
               let in_slot = ((K.new.methods y own.method own.stands).slots q).0 own.slot in
               let named = slot_named q y number own.method body.method own.stands body.stands own.slot slot ∙ body.is.name in
               on_way nearest y own.method own.stands in_slot.instance named (subst (λ z. IsSubclass W (T.type_of n) z) (sym own.owner) down)

@@ -1,11 +1,11 @@
 -- A class of which objects can be made has a body for each slot that it offers: a body or a filler, and no head stands below it.
-use Rattle.std.proofs.Common.{◌≡◌, ℕ, ◌&&◌, ◌||◌, eqb, Option, Some, None, refl, sym, ap, ◌∙◌, subst, ⊎_elim}
+use Rattle.std.proofs.Common.{◌≡◌, ℕ, ◌&&◌, ◌||◌, Option, Some, None, refl, sym, ap, ◌∙◌, subst, ⊎_elim}
 use Rattle.std.specs.Prelude.{Bool, true, false, not, slice_get}
 use Rattle.std.specs.Option.{option_map_or, is_some}
-use Rattle.std.proofs.lemmas.Bool.{false≢true, and_from, and_parts, eqb-true, eq-eqb, cases_Bool}
+use Rattle.std.proofs.lemmas.Bool.{false≢true, and_from, and_parts, cases_Bool}
 use Rattle.std.proofs.lemmas.Option.{same_Some}
 use Rattle.java_core.specs.Programs.{Plain, PlainClass, PlainMethod}
-use Rattle.java_core.specs.Classes.{IsSubclass, same_class, nearest_declaration, own_declaration, has_slot, is_slot, has_body, is_concrete}
+use Rattle.java_core.specs.Classes.{IsSubclass, same_class, nearest_declaration, own_declaration, has_slot, has_body, is_concrete}
 use Rattle.java_core.specs.Found.{at_class}
 use Rattle.java_core.specs.Typing.{Offers, HasBodies}
 use Rattle.java_core.proofs.Positions.{position-passes, passes-position}
@@ -23,7 +23,7 @@ use Rattle.rebuild_looks.proofs.Nodes.{subclass_of, le_of, no_holder, offers_own
 use Rattle.rebuild_looks.proofs.Slots.{method_of_slot, same_name, OffersSlot, slot_below, asked_slot, OffersBody, body_asked, asked_body}
 use Rattle.rebuild_looks.proofs.Methods.{Sort, a_body, a_head, a_filler, IsNewMethod, new_method}
 use Rattle.rebuild_looks.proofs.Declared.{new_body, of_slot}
-use Rattle.rebuild_looks.proofs.Bodies.{slot_says, slot_named, no_head}
+use Rattle.rebuild_looks.proofs.Bodies.{HasOwn, own_from, has_own, slot_named, no_head}
 
 no_head_made : (a b c : Bool) → (not a || (not b && not c)) ≡ true → a ≡ true → b ≡ true → ⊥
 no_head_made true true c h e f = false≢true h
@@ -37,23 +37,11 @@ no_not false h = absurd (false≢true h)
 module _ {P Q : Plain} {F : Facts} {H : Hierarchy} {W : Plain} (K : Known P Q F H W) where
   open K.rebuilt use {places as T}
 
-  -- the method of a slot that a class itself declares
-  record IsOwn (c q g : ℕ) : Type 0 where
-    method : PlainMethod
-    stands : slice_get W.methods g ≡ Some method
-    owner : method.owner ≡ c
-    slot : method.slot ≡ Some q
+  own_is : (c q g : ℕ) → own_declaration W c q ≡ Some g → HasOwn W c q g
+  own_is c q g h = let k = position-passes (λ m. has_slot c q m) W.methods g h in own_from W c q g k.0 k.1 k.2
 
-  own_is : (c q g : ℕ) → own_declaration W c q ≡ Some g → IsOwn c q g
-  own_is c q g h =
-      let k = position-passes (λ m. has_slot c q m) W.methods g h in
-      let parts = and_parts (eqb k.0.owner c) (is_slot k.0.slot q) k.2 in
-      record { method = k.0; stands = k.1; owner = eqb-true k.0.owner c parts.0; slot = slot_says k.0.slot q parts.1 }
-
-  is_own : (c q g : ℕ) → IsOwn c q g → (y : ℕ) × (own_declaration W c q ≡ Some y)
-  is_own c q g o =
-      passes-position (λ m. has_slot c q m) W.methods g o.method o.stands
-      (and_from (eqb o.method.owner c) (is_slot o.method.slot q) (eq-eqb o.method.owner c o.owner) (ap (λ z. is_slot z q) o.slot ∙ eq-eqb q q refl))
+  is_own : (c q g : ℕ) → HasOwn W c q g → (y : ℕ) × (own_declaration W c q ≡ Some y)
+  is_own c q g o = passes-position (λ m. has_slot c q m) W.methods g o.method o.stands (has_own W c q g o)
 
   is_bodied : (g : ℕ) (k : PlainMethod) → slice_get W.methods g ≡ Some k → is_some k.body ≡ true → has_body W g ≡ true
   is_bodied g k e h = ap (λ z. option_map_or (λ (k : PlainMethod). is_some k.body) z false) e ∙ h
@@ -85,7 +73,7 @@ module _ {P Q : Plain} {F : Facts} {H : Hierarchy} {W : Plain} (K : Known P Q F 
       slot : is.slot ≡ x.slot
       low : is_le H.order n is.node ≡ true
 
-    other : (y e : ℕ) → IsOwn e q y → IsSubclass W (T.type_of n) e → IsOther y
+    other : (y e : ℕ) → HasOwn W e q y → IsSubclass W (T.type_of n) e → IsOther y
     other y e own down =
         let in_slot = ((K.new.methods y own.method own.stands).slots q).0 own.slot in
         let named = slot_named K q y m own.method o.method own.stands o.stands own.slot o.slot ∙ x.name in

@@ -15,7 +15,7 @@ use Rattle.flow_rules.specs.declared.items.RowItem.TheVariants as row
 use Rattle.flow_rules.specs.declared.items.ColumnItem.{ColumnItem}
 use Rattle.flow_rules.specs.declared.items.ColumnItem.TheVariants as column
 use Rattle.rebuild_model.specs.Renaming.{retyped_if}
-use Rattle.rebuild_model.specs.Members.{is_made_at, offers_body, is_headed, slot_types, StandsAt, IsBody}
+use Rattle.rebuild_model.specs.Members.{is_made_at, offers_body, is_headed, slot_types, StandsAt, IsBody, IsOfSlot}
 use Rattle.rebuild_looks.specs.Known.{Known, Offers, sides}
 use Rattle.rebuild_looks.proofs.Nodes.{subclass_of, le_of, stands_once, stands_live, offers_own}
 use Rattle.rebuild_looks.proofs.Slots.{HasSlot, method_of_slot, IsMethodItem, a_declaration, a_body, same_name, OffersSlot, offers_item, slot_below, slots_apart, slot_item, asked_slot, OffersBody, body_asked}
@@ -70,17 +70,20 @@ module _ {P Q : Plain} {F : Facts} {H : Hierarchy} {W : Plain} (K : Known P Q F 
     of_k : slot_of_method P k ≡ Some s
     of_k = ap (option_and_then (λ (z : PlainMethod). z.slot)) old.stands ∙ old.slot
 
+    by_slot : (g : ℕ) (new : PlainMethod) → slice_get W.methods g ≡ Some new → IsOfSlot P Q F H W T at k new → IsDeclared n m
+    by_slot g new there o = record {
+      number = g;
+      method = new;
+      stands = there;
+      instance = o.instance;
+      name = o.name ∙ same_name K k m s of_k e;
+      above = up_to n at new.owner up o.owner;
+    }
+
     by_head : StandsAt P Q F H W T (column.Dcl k) at → is_headed F H at s ≡ true → IsDeclared n m
     by_head stands headed =
         let x = K.rebuilt.members.each_head k at s old.method stands old.stands old.slot headed in
-        record {
-          number = x.0;
-          method = x.1;
-          stands = x.2;
-          instance = x.4.instance;
-          name = x.4.name ∙ same_name K k m s of_k e;
-          above = up_to n at x.1.owner up x.4.owner;
-        }
+        by_slot x.0 x.1 x.2 x.4
 
     by_filler : StandsAt P Q F H W T (column.Dcl k) at → is_made_at F H at ≡ true → offers_body F H at s ≡ false → IsDeclared n m
     by_filler stands made none =
@@ -88,14 +91,7 @@ module _ {P Q : Plain} {F : Facts} {H : Hierarchy} {W : Plain} (K : Known P Q F 
         let filled = and_from (is_made_at F H at) (offers_slot F H at s && not (offers_body F H at s)) made
         (and_from (offers_slot F H at s) (not (offers_body F H at s)) offered (ap not none)) in
         let x = K.rebuilt.members.each_filler k at s old.method (stands_live K at (column.Dcl k) stands) old.stands old.slot filled in
-        record {
-          number = x.0;
-          method = x.1;
-          stands = x.2;
-          instance = x.3.instance;
-          name = x.3.name ∙ same_name K k m s of_k e;
-          above = up_to n at x.1.owner up x.3.owner;
-        }
+        by_slot x.0 x.1 x.2 x.3
 
     by_declaration : StandsAt P Q F H W T (column.Dcl k) at → IsDeclared n m
     by_declaration stands =

@@ -1,5 +1,5 @@
 -- The program over the worked hierarchy is formed.
-use Rattle.std.proofs.Common.{◌≡◌, ◌≢◌, ℕ, zero, suc, ◌<◌, ◌≤◌, ◌⊎◌, [], ◌∷◌, Some, None, Contains, refl, sym, ap, ◌∙◌, subst, inl, inr, arith}
+use Rattle.std.proofs.Common.{◌≡◌, ℕ, zero, suc, ◌<◌, ◌≤◌, ◌⊎◌, [], ◌∷◌, Some, None, Contains, refl, sym, ap, ◌∙◌, subst, inl, inr, arith}
 use Rattle.std.specs.Prelude.{true, false, codes, slice_get}
 use Rattle.std.proofs.lemmas.Bool.{false≢true}
 use Rattle.std.proofs.lemmas.Option.{same_Some}
@@ -9,9 +9,8 @@ use Rattle.java_core.specs.Programs.{PlainClass, PlainMethod, PlainSlot}
 use Rattle.java_core.specs.Classes.{supers_of}
 use Rattle.java_core.specs.Formed.{IsFormedClass, IsFormedField, IsFormedMethod, IsFormedSlot, IsMain, FormedSts, IsFormed, numbers_below, f_field, f_this, f_some, f_return, f_no_st, f_st_then}
 use Rattle.rebuild_model.proofs.Worked.{place, class, object, the_field, method, main, main_code, new}
-use Rattle.rebuild_looks.proofs.WorkedParts.{no_item, one_item, formed_class, formed_m, formed_main}
-use Rattle.rebuild_looks.proofs.Small.{each_at, once_each, variable_name, acyclic, name_a_0, name_a_1, name_f}
-use Rattle.java_meaning.proofs.Instance.{no_twice, one_once, differ, name_class as name_holder}
+use Rattle.rebuild_looks.proofs.WorkedParts.{one_item, formed_m, formed_main}
+use Rattle.java_meaning.proofs.Small.{Each, each_at, no_item, no_twice, one_once, once_each, differ, named, variable_name, formed_class, acyclic}
 
 abbrev face : PlainClass
 face = record { name = codes "A_0"; is_interface = true; is_abstract = false; parent = object; faces = []; tag = place 0 }
@@ -22,33 +21,32 @@ made = record { name = codes "A_1"; is_interface = false; is_abstract = false; p
 abbrev holder : PlainClass
 holder = class (codes "Main") object 0
 
-lower : (c : ℕ) (k : ClassId) → Contains (supers_of new c) k → k.0 < c
-lower zero k h = no_item k h
-lower (suc zero) k (zero, lt, e) = let z : 0 ≡ k.0 = ap (λ (q : ClassId). q.0) e in omega (arith, z)
-lower (suc zero) k (suc i, lt, e) = absurd (omega (arith, lt))
-lower (suc (suc zero)) k (zero, lt, e) = let z : 0 ≡ k.0 = ap (λ (q : ClassId). q.0) e in omega (arith, z)
-lower (suc (suc zero)) k (suc zero, lt, e) = let z : 1 ≡ k.0 = ap (λ (q : ClassId). q.0) e in omega (arith, z)
-lower (suc (suc zero)) k (suc (suc i), lt, e) = absurd (omega (arith, lt))
-lower (suc (suc (suc zero))) k (zero, lt, e) = let z : 0 ≡ k.0 = ap (λ (q : ClassId). q.0) e in omega (arith, z)
-lower (suc (suc (suc zero))) k (suc i, lt, e) = absurd (omega (arith, lt))
-lower (suc (suc (suc (suc c)))) k h = no_item k h
+abbrev top : PlainClass
+top = class (codes "Object") None 0
+
+lower : (c : ℕ) → Each (λ (k : ClassId). k.0 < c) (supers_of new c)
+lower zero = tt
+lower (suc zero) = (omega arith, tt)
+lower (suc (suc zero)) = (omega arith, (omega arith, tt))
+lower (suc (suc (suc zero))) = (omega arith, tt)
+lower (suc (suc (suc (suc c)))) = tt
 
 formed_face : IsFormedClass new face
-formed_face = formed_class new refl face name_a_0 refl refl refl (λ f h. no_item f h) (no_twice ClassId)
+formed_face = formed_class new top refl refl face (named (codes "A_0") refl) refl refl refl (λ f h. no_item f h) (no_twice ClassId)
 
 one_face : (f : ClassId) → Contains (record { 0 = 1 } ∷ []) f → (i : PlainClass) × (slice_get new.classes f.0 ≡ Some i) × (i.is_interface ≡ true)
 one_face f (zero, lt, e) = (face, ap (slice_get new.classes) (sym (ap (λ (q : ClassId). q.0) e)), refl)
 one_face f (suc i, lt, e) = absurd (omega (arith, lt))
 
 formed_made : IsFormedClass new made
-formed_made = formed_class new refl made name_a_1 refl refl refl one_face (one_once (record { 0 = 1 }))
+formed_made = formed_class new top refl refl made (named (codes "A_1") refl) refl refl refl one_face (one_once (record { 0 = 1 }))
 
 formed_holder : IsFormedClass new holder
-formed_holder = formed_class new refl holder name_holder refl refl refl (λ f h. no_item f h) (no_twice ClassId)
+formed_holder = formed_class new top refl refl holder (named (codes "Main") refl) refl refl refl (λ f h. no_item f h) (no_twice ClassId)
 
 formed_field : IsFormedField new (the_field 2)
 formed_field = record {
-  name = variable_name new (codes "f") name_f refl refl refl;
+  name = variable_name new (codes "f") (named (codes "f") refl) refl refl refl;
   type = tt;
   no_object = λ e. omega (arith, e);
   holder = made;
@@ -70,7 +68,7 @@ method_main = main 3 1 (main_code 2)
 
 formed_body : (xs : Sts) → Some body_m ≡ Some xs → FormedSts new method_m false (numbers_below 0) xs
 formed_body xs e = subst (λ z. FormedSts new method_m false (numbers_below 0) z) (same_Some _ _ e)
-    (f_st_then (f_return (f_some (f_field (f_this refl) name_f))) f_no_st)
+    (f_st_then (f_return (f_some (f_field (f_this refl) (named (codes "f") refl)))) f_no_st)
 
 -- method n stands in class n + 1
 owned : (m : ℕ) (k : PlainMethod) → slice_get new.methods m ≡ Some k → suc m ≡ k.owner
@@ -123,7 +121,7 @@ formed_slot (suc s) z e = absurd (cc e)
 
 pub formed : IsFormed new
 formed = record {
-  object = record { object = class (codes "Object") None 0; first = refl; name = refl; class = refl; concrete = refl; parent = refl; faces = refl };
+  object = record { object = top; first = refl; name = refl; class = refl; concrete = refl; parent = refl; faces = refl };
   classes = λ c k e. each_at (λ k. IsFormedClass new k) (face ∷ made ∷ holder ∷ []) c k (formed_face, (formed_made, (formed_holder, tt))) e;
   class_names = once_each (codes "Object" ∷ codes "A_0" ∷ codes "A_1" ∷ codes "Main" ∷ []) refl;
   acyclic = acyclic new lower;

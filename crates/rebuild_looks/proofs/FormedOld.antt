@@ -1,35 +1,36 @@
 -- The worked program is formed.
-use Rattle.std.proofs.Common.{◌≡◌, ◌≢◌, ℕ, zero, suc, ◌<◌, ◌≤◌, [], ◌∷◌, Some, None, Contains, refl, sym, ap, ◌∙◌, subst, inl, arith}
+use Rattle.std.proofs.Common.{◌≡◌, ℕ, zero, suc, ◌<◌, ◌≤◌, [], ◌∷◌, Some, None, refl, sym, ap, ◌∙◌, subst, inl, arith}
 use Rattle.std.specs.Prelude.{false, codes, slice_get}
 use Rattle.std.proofs.lemmas.Bool.{false≢true}
 use Rattle.std.proofs.lemmas.Option.{same_Some}
 use Rattle.kaba_base.specs.declared.ClassId.{ClassId}
 use Rattle.java_core.specs.Trees.{Sts, own_field, return, no_st, st_then}
-use Rattle.java_core.specs.Programs.{PlainMethod, PlainSlot}
+use Rattle.java_core.specs.Programs.{PlainClass, PlainMethod, PlainSlot}
 use Rattle.java_core.specs.Classes.{field_of, supers_of}
 use Rattle.java_core.specs.Formed.{IsFormedClass, IsFormedField, IsFormedMethod, IsFormedSlot, IsMain, FormedSts, IsFormed, numbers_below, f_own_field, f_some, f_return, f_no_st, f_st_then}
 use Rattle.rebuild_model.proofs.Worked.{place, class, object, the_field, method, main, main_code, old}
-use Rattle.rebuild_looks.proofs.WorkedParts.{no_item, one_item, formed_class, formed_m, formed_main}
-use Rattle.rebuild_looks.proofs.Small.{each_at, once_each, variable_name, acyclic, name_a, name_f}
-use Rattle.java_meaning.proofs.Instance.{no_twice, one_once, differ, name_class as name_holder}
+use Rattle.rebuild_looks.proofs.WorkedParts.{one_item, formed_m, formed_main}
+use Rattle.java_meaning.proofs.Small.{Each, each_at, no_item, no_twice, one_once, once_each, differ, named, variable_name, formed_class, acyclic}
 
-lower : (c : ℕ) (k : ClassId) → Contains (supers_of old c) k → k.0 < c
-lower zero k h = no_item k h
-lower (suc zero) k (zero, lt, e) = let z : 0 ≡ k.0 = ap (λ (q : ClassId). q.0) e in omega (arith, z)
-lower (suc zero) k (suc i, lt, e) = absurd (omega (arith, lt))
-lower (suc (suc zero)) k (zero, lt, e) = let z : 0 ≡ k.0 = ap (λ (q : ClassId). q.0) e in omega (arith, z)
-lower (suc (suc zero)) k (suc i, lt, e) = absurd (omega (arith, lt))
-lower (suc (suc (suc c))) k h = no_item k h
+abbrev top : PlainClass
+top = class (codes "Object") None 0
+
+lower : (c : ℕ) → Each (λ (k : ClassId). k.0 < c) (supers_of old c)
+lower zero = tt
+lower (suc zero) = (omega arith, tt)
+lower (suc (suc zero)) = (omega arith, tt)
+lower (suc (suc (suc c))) = tt
 
 formed_a : IsFormedClass old (class (codes "A") object 6)
-formed_a = formed_class old refl (class (codes "A") object 6) name_a refl refl refl (λ f h. no_item f h) (no_twice ClassId)
+formed_a = formed_class old top refl refl (class (codes "A") object 6) (named (codes "A") refl) refl refl refl (λ f h. no_item f h) (no_twice ClassId)
 
 formed_holder : IsFormedClass old (class (codes "Main") object 30)
-formed_holder = formed_class old refl (class (codes "Main") object 30) name_holder refl refl refl (λ f h. no_item f h) (no_twice ClassId)
+formed_holder = formed_class old top refl refl (class (codes "Main") object 30) (named (codes "Main") refl) refl refl refl (λ f h. no_item f h)
+    (no_twice ClassId)
 
 formed_field : IsFormedField old (the_field 1)
 formed_field = record {
-  name = variable_name old (codes "f") name_f refl refl refl;
+  name = variable_name old (codes "f") (named (codes "f") refl) refl refl refl;
   type = tt;
   no_object = λ e. omega (arith, e);
   holder = class (codes "A") object 6;
@@ -74,7 +75,7 @@ formed_slot (suc s) z e = absurd (cc e)
 
 pub formed : IsFormed old
 formed = record {
-  object = record { object = class (codes "Object") None 0; first = refl; name = refl; class = refl; concrete = refl; parent = refl; faces = refl };
+  object = record { object = top; first = refl; name = refl; class = refl; concrete = refl; parent = refl; faces = refl };
   classes = λ c k e. each_at (λ k. IsFormedClass old k) (class (codes "A") object 6 ∷ class (codes "Main") object 30 ∷ []) c k
       (formed_a, (formed_holder, tt)) e;
   class_names = once_each (codes "Object" ∷ codes "A" ∷ codes "Main" ∷ []) refl;

@@ -7,7 +7,6 @@ pub mod Declared
 pub mod Bodies
 pub mod Statics
 pub mod Concrete
-mod Small
 mod WorkedParts
 mod FormedOld
 mod FormedNew

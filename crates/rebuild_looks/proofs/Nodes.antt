@@ -1,6 +1,6 @@
 -- The types of nodes in a program that rebuilds another: their order, which of them are classes, and that no holder stands between them.
 use Rattle.std.proofs.Common.{◌≡◌, ℕ, ◌&&◌, ◌↔◌, eqb, [], ◌∷◌, Option, Some, None, Contains, refl, sym, ap, ◌∙◌, subst, ⊎_elim, arith}
-use Rattle.std.specs.Prelude.{true, false, not, length}
+use Rattle.std.specs.Prelude.{true, not, length}
 use Rattle.std.proofs.lemmas.Bool.{false≢true, and_from, and_parts, or_left, or_right, eqb-true}
 use Rattle.std.proofs.lemmas.Option.{same_Some}
 use Rattle.std.specs.Cmp.{both_ways}

@@ -5,47 +5,23 @@ use Rattle.std.specs.List.{list_any}
 use Rattle.std.specs.Str.{bytes_eq}
 use Rattle.std.proofs.lemmas.Bool.{false≢true}
 use Rattle.std.proofs.lemmas.Option.{same_Some}
-use Rattle.kaba_base.specs.declared.ClassId.{ClassId}
-use Rattle.java_lex.specs.Writable.{IsName}
 use Rattle.java_core.specs.Trees.{Sts}
 use Rattle.java_core.specs.Programs.{Plain, PlainClass, PlainLocal}
-use Rattle.java_core.specs.Formed.{IsFormedClass, IsFormedLocal, IsFormedMethod, IsInSlot, FormedSts, HasNoTwice, numbers_below, f_some, f_no_st, f_st_then, f_declare, f_create, f_no_ex, f_act, f_call, f_local}
-use Rattle.rebuild_model.proofs.Worked.{place, object_of, class, object, method, main, slot, main_code}
-use Rattle.rebuild_looks.proofs.Small.{each_in, variable_name, name_m, name_x}
-use Rattle.java_meaning.proofs.Instance.{no_twice, one_once, differ, name_main, name_words as name_args}
-
-pub no_item : {A B : Type 0} (x : A) → Contains [] x → B
-no_item x h = let lt : h.0 < 0 = h.1 in absurd (omega (arith, lt))
+use Rattle.java_core.specs.Formed.{IsFormedLocal, IsFormedMethod, IsInSlot, FormedSts, numbers_below, f_some, f_no_st, f_st_then, f_declare, f_create, f_no_ex, f_act, f_call, f_local}
+use Rattle.rebuild_model.proofs.Worked.{place, object_of, method, main, slot, main_code}
+use Rattle.java_meaning.proofs.Small.{each_in, no_item, no_twice, one_once, named, variable_name, other_name}
 
 -- only one field is there, and only slot 0
 pub one_item : {A : Type 0} (a : A) (i : ℕ) (x : A) → slice_get (a ∷ []) i ≡ Some x → 0 ≡ i
 one_item a zero x e = refl
 one_item a (suc i) x e = absurd (cc e)
 
-module _ (A : Plain) (there : slice_get A.classes 0 ≡ Some (class (codes "Object") None 0)) where
-  pub formed_class : (k : PlainClass) → IsName k.name → bytes_eq k.name (codes "String") ≡ false → bytes_eq k.name (codes "System") ≡ false
-      → k.parent ≡ object → ((f : ClassId) → Contains k.faces f → (i : PlainClass) × (slice_get A.classes f.0 ≡ Some i) × (i.is_interface ≡ true))
-      → HasNoTwice k.faces → IsFormedClass A k
-  formed_class k n s t p faces once = record {
-    name = n;
-    no_string = differ k.name (codes "String") s;
-    no_system = differ k.name (codes "System") t;
-    parent = record { 0 = 0 };
-    has_parent = p;
-    above = class (codes "Object") None 0;
-    parent_stands = there;
-    parent_class = refl;
-    interface_parent = λ e. refl;
-    faces = faces;
-    faces_once = once;
-  }
-
 module _ (A : Plain) (slots : (s : ℕ) → slice_get A.slots s ≡ slice_get (slot ∷ []) s) (owner : ℕ) (own : owner ≢ 0) (holder : PlainClass)
     (stands : slice_get A.classes owner ≡ Some holder) where
   pub formed_m : (b : Option Sts) → (holder.is_interface ≡ true → b ≡ None) → (b ≡ None → holder.is_interface || holder.is_abstract ≡ true)
       → ((xs : Sts) → b ≡ Some xs → FormedSts A (method owner b) false (numbers_below 0) xs) → IsFormedMethod A (method owner b)
   formed_m b face bare code = record {
-    name = name_m;
+    name = named (codes "m") refl;
     variables = λ v h. no_item v h;
     params = no_twice (List ℕ);
     result = tt;
@@ -73,14 +49,9 @@ module _ (A : Plain) (slots : (s : ℕ) → slice_get A.slots s ≡ slice_get (s
     formed_local : (v : PlainLocal) → Contains variables v → IsFormedLocal A v
     formed_local v h =
         each_in (λ v. IsFormedLocal A v) variables v (
-          record { name = variable_name A (codes "args") name_args args_apart refl refl; type = tt },
-          (record { name = variable_name A (codes "x") name_x x_apart refl refl; type = known }, tt),
+          record { name = variable_name A (codes "args") (named (codes "args") refl) args_apart refl refl; type = tt },
+          (record { name = variable_name A (codes "x") (named (codes "x") refl) x_apart refl refl; type = known }, tt),
         ) h
-
-    apart : (j : ℕ) (v : PlainLocal) → Contains (0 ∷ []) j → slice_get variables j ≡ Some v → v.name ≢ codes "x"
-    apart j v (zero, lt, e) d = let at : slice_get variables 0 ≡ Some v = ap (slice_get variables) e ∙ d in
-        subst (λ (z : PlainLocal). z.name ≢ codes "x") (same_Some _ _ at) (differ (codes "args") (codes "x") refl)
-    apart j v (suc i, lt, e) d = absurd (omega (arith, lt))
 
     formed_code : FormedSts A (main owner 1 (main_code made)) false (numbers_below 1) (main_code made)
     formed_code =
@@ -88,13 +59,13 @@ module _ (A : Plain) (slots : (s : ℕ) → slice_get A.slots s ≡ slice_get (s
           variable = record { name = codes "x"; ty = object_of 1; tag = place 50 };
           declared = refl;
           no_parameter = omega arith;
-          other = apart;
+          other = other_name variables _ (codes "x") refl refl;
         }) (f_some (f_create makes f_no_ex)))
-        (f_st_then (f_act refl (f_call (f_local (0, omega arith, refl) (omega arith)) name_m f_no_ex)) f_no_st)
+        (f_st_then (f_act refl (f_call (f_local (0, omega arith, refl) (omega arith)) (named (codes "m") refl) f_no_ex)) f_no_st)
 
     pub formed_main : IsFormedMethod A (main owner 1 (main_code made))
     formed_main = record {
-      name = name_main;
+      name = named (codes "main") refl;
       variables = formed_local;
       params = one_once (codes "args");
       result = tt;

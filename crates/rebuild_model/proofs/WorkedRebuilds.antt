@@ -323,7 +323,7 @@ module _ (others : Facts) where
   head_is (suc m) n s k at e slot headed = absurd (cc (sym (no_declaration m) ∙ at.numbered))
 
   -- no object is without its body
-  no_filler : (n s : ℕ) → is_live hierarchy.order n ≡ true → is_filled facts hierarchy n s ≡ true → ⊥
+  pub no_filler : (n s : ℕ) → is_live hierarchy.order n ≡ true → is_filled facts hierarchy n s ≡ true → ⊥
   no_filler zero s l filled = cc filled
   no_filler (suc zero) s l filled = none (is_slot (Some 0) s) filled
     where

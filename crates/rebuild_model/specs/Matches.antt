@@ -12,28 +12,24 @@ use Rattle.java_core.specs.Types.{Env, class_of, element_of, is_string, field_in
 use Rattle.flow_rules.specs.declared.items.RowItem.TheVariants as row
 use Rattle.rebuild_model.specs.Renaming.{Renaming, retyped}
 
-module _ (P W : Plain) (R : Renaming) where
-  -- the field g of the new program is the static field f: it has its name, and stands in the holder of its class
-  pub record IsStaticField (f g : ℕ) : Type 0 where
-    pub old : PlainField
-    pub new : PlainField
-    pub old_stands : slice_get P.fields f ≡ Some old
-    pub new_stands : slice_get W.fields g ≡ Some new
-    pub old_static : old.is_static ≡ true
-    pub new_static : new.is_static ≡ true
-    pub owner : new.owner ≡ R.holder_of old.owner
-    pub name : new.name ≡ old.name
+-- the member g of the new program is the static member f of the old one: it has its name, and stands in the holder of its class
+pub record IsCopied {A : Type 0} (static_of : A → Bool) (owner_of : A → ℕ) (name_of : A → List ℕ) (holder_of : ℕ → ℕ) (olds news : List A) (f g : ℕ)
+    : Type 0 where
+  pub old : A
+  pub new : A
+  pub old_stands : slice_get olds f ≡ Some old
+  pub new_stands : slice_get news g ≡ Some new
+  pub old_static : static_of old ≡ true
+  pub new_static : static_of new ≡ true
+  pub owner : owner_of new ≡ holder_of (owner_of old)
+  pub name : name_of new ≡ name_of old
 
-  -- the same of a static method
-  pub record IsStaticMethod (f g : ℕ) : Type 0 where
-    pub old : PlainMethod
-    pub new : PlainMethod
-    pub old_stands : slice_get P.methods f ≡ Some old
-    pub new_stands : slice_get W.methods g ≡ Some new
-    pub old_static : old.is_static ≡ true
-    pub new_static : new.is_static ≡ true
-    pub owner : new.owner ≡ R.holder_of old.owner
-    pub name : new.name ≡ old.name
+module _ (P W : Plain) (R : Renaming) where
+  abbrev pub IsStaticField : ℕ → ℕ → Type 0
+  IsStaticField f g = IsCopied (λ (k : PlainField). k.is_static) (λ k. k.owner) (λ k. k.name) R.holder_of P.fields W.fields f g
+
+  abbrev pub IsStaticMethod : ℕ → ℕ → Type 0
+  IsStaticMethod f g = IsCopied (λ (k : PlainMethod). k.is_static) (λ k. k.owner) (λ k. k.name) R.holder_of P.methods W.methods f g
 
   -- in a body of the old program
   module _ (g : Env) where

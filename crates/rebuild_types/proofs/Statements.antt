@@ -9,14 +9,15 @@ use Rattle.java_core.specs.Trees.{Tag, Ex, this, local, static_field, Target, to
 use Rattle.java_core.specs.Programs.{Plain}
 use Rattle.java_core.specs.Types.{Static, or_nothing, element_of, is_numeric, is_boolean, is_printable, field_type, value_type, fits, fits_in, static, target_type}
 use Rattle.java_core.specs.Typing.{Typed, TypedTarget, TypedTest, TypedSt, TypedSts, TypedArms, t_this, t_to_local, t_to_static, t_to_field, t_to_element, t_always, t_test, t_declare, t_declare_as, t_block, t_assign, t_act, t_print_line, t_print, t_choose, t_loop, t_return_nothing, t_return, t_break, t_continue, t_no_st, t_st_then, t_no_other, t_otherwise, t_arm}
-use Rattle.java_core.specs.Formed.{IsFormed, FormedTarget, FormedOption, FormedSt, FormedSts, FormedArms, numbers_below, f_to_own, f_to_field, f_to_element, f_some, f_declare, f_block, f_assign, f_act, f_print, f_choose, f_loop, f_return, f_st_then, f_otherwise, f_arm}
+use Rattle.java_core.specs.Formed.{FormedTarget, FormedOption, FormedSt, FormedSts, FormedArms, numbers_below, f_to_own, f_to_field, f_to_element, f_some, f_declare, f_block, f_assign, f_act, f_print, f_choose, f_loop, f_return, f_st_then, f_otherwise, f_arm}
 use Rattle.java_core.specs.Untagged.{bare_if, bare_target, bare_st, bare_sts, bare_arms, untag_method, untagged}
 use Rattle.flow_rules.specs.declared.items.RowItem.{RowItem}
 use Rattle.flow_rules.specs.declared.items.RowItem.TheVariants as row
 use Rattle.flow_rules.specs.Operands.{object_of, object_if, object_static, object_field, variable_row, result_in, this_operand, type_in}
 use Rattle.flow_rules.specs.Labels.{label_sts}
 use Rattle.flow_rules.specs.Parts.{a_store, an_element_store, a_set, a_return, is_accessed, parts_assign, parts_st, parts_arms, parts_body, parts_of}
-use Rattle.run_cover.proofs.Included.{get_map, object_or}
+use Rattle.std.proofs.lemmas.Option.{slice_get-map}
+use Rattle.flow_rules.proofs.TypeLemmas.{object_or}
 use Rattle.run_cover.proofs.Untagging.{unlabel_sts}
 use Rattle.run_cover.proofs.HasRows.{field_row_of, result_row_of, variable_row_of}
 use Rattle.run_cover.proofs.Types.{of_element}
@@ -54,7 +55,7 @@ module _ (A : CopiedBody) where
 
   variable_classed : (i : ℕ) → HasClass (object_static (or_nothing (slice_get g.locals i))) (R.row_type (variable_row m k i))
   variable_classed i t o =
-      let e = sym (ap object_if (get_map (λ l. l.ty) (k.params ++ k.locals) i)) ∙ sym (object_or (slice_get g.locals i)) ∙ o in
+      let e = sym (ap object_if (slice_get-map (λ l. l.ty) (k.params ++ k.locals) i)) ∙ sym (object_or (slice_get g.locals i)) ∙ o in
       let r = variable_row_of Q formed m k i t stands e in
       N.numbered (variable_row m k i) r.0 r.1
 

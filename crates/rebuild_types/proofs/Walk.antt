@@ -11,7 +11,7 @@ use Rattle.java_core.specs.Programs.{Plain, PlainMethod, PlainField, PlainSlot}
 use Rattle.java_core.specs.Classes.{slot_of, slot_of_method, super_method, declaration_of, has_body, is_concrete}
 use Rattle.java_core.specs.Types.{Static, a_value, or_nothing, Env, env_of, types_of, class_type, class_of, element_of, is_numeric, is_string, field_type, value_type, field_in, access_type, fits, string_method, string_params, signature_of_string, call_signature, result_of, unary_type, binary_type, static}
 use Rattle.java_core.specs.Typing.{Typed, TypedArgs, t_number, t_character, t_text, t_truth, t_null, t_this, t_local, t_static_field, t_field, t_index, t_call, t_static_call, t_super_call, t_create, t_create_array, t_cast, t_instance_of, t_unary, t_binary, t_no_ex, t_ex_then, are_related, takes_one, takes_two, can_cast}
-use Rattle.java_core.specs.Formed.{IsFormed, FormedExs, f_this, f_own_field, f_field, f_index, f_call, f_static_call, f_super_call, f_create_array, f_cast, f_instance_of, f_unary, f_binary, f_ex_then}
+use Rattle.java_core.specs.Formed.{FormedExs, f_this, f_own_field, f_field, f_index, f_call, f_static_call, f_super_call, f_create_array, f_cast, f_instance_of, f_unary, f_binary, f_ex_then}
 use Rattle.java_core.specs.Untagged.{bare, bare_all, untag_method, untagged}
 use Rattle.java_meaning.proofs.WatchedPrograms.{bare_static}
 use Rattle.flow_rules.specs.declared.items.ObjectType.{ObjectType}
@@ -23,7 +23,7 @@ use Rattle.flow_rules.specs.Numbered.{row_number, number_if}
 use Rattle.flow_rules.specs.Parts.{Part, a_load, a_creation, a_call, a_static_call, a_super_call, a_test, a_pair, is_accessed, parts_of}
 use Rattle.flow_rules.specs.Lists.{is_comparison}
 use Rattle.run_cover.specs.Slotted.{HaveSlots}
-use Rattle.run_cover.proofs.Included.{class_object}
+use Rattle.flow_rules.proofs.TypeLemmas.{class_is}
 use Rattle.run_cover.proofs.Untagging.{untyped_params}
 use Rattle.run_cover.proofs.HasRows.{method_of, of_method, in_slot, variable_row_of, of_lt}
 use Rattle.run_cover.proofs.Types.{class_apart, slot_called}
@@ -128,7 +128,7 @@ module _ (A : CopiedBody) where
       → call_declaration P (type e) x ≡ Some d
   unfolding type_in
   declaration_seen e x c d l f =
-      ap (λ z. option_and_then (λ c. declaration_of P c x) z) (class_object (static P g e) ∙ ap class_of (sym (bare_static P g e)) ∙ l) ∙ f
+      ap (λ z. option_and_then (λ c. declaration_of P c x) z) (class_is (static P g e) ∙ ap class_of (sym (bare_static P g e)) ∙ l) ∙ f
 
   pub field_some : (f : ℕ) (w : PlainField) → slice_get P.fields f ≡ Some w → is_some (field_type P f) ≡ true
   field_some f w e = ap (λ z. is_some (option_map (λ (k : PlainField). k.ty) z)) e

@@ -28,9 +28,9 @@ use Rattle.flow_rules.specs.Facts.{PlainBody, body_seen, body_if, column_body, p
 use Rattle.java_core.specs.Untagged.{untag_body, untag_method, untagged}
 use Rattle.run_cover.proofs.Kinded.{FindsBody}
 use Rattle.flow_rules.proofs.Listed.{one, more, each_has, map_from, when_has, position_there, contains_at as there_at}
-use Rattle.run_cover.proofs.Included.{get_map}
+use Rattle.std.proofs.lemmas.Option.{slice_get-map}
 use Rattle.flow_rules.proofs.Keys.{column_exact, column_alike}
-use Rattle.run_cover.proofs.HasNumbers.{column_there}
+use Rattle.flow_rules.proofs.NumberedItems.{numbered_columns}
 use Rattle.run_cover.proofs.HasRows.{method_of, of_method, in_slot, this_point_of}
 use Rattle.java_core.specs.declared.TyBase.TheVariants.{Int}
 use Rattle.java_core.proofs.Positions.{position-map}
@@ -151,7 +151,7 @@ module _ (Q : Plain) (F : Facts) (formed : IsFormed (untagged Q)) (facts : IsFac
   def_column : (m : ℕ) (k : PlainMethod) → slice_get Q.methods m ≡ Some k → is_some k.body ≡ true → k.is_static ≡ false → (c : ℕ) × (def_number m ≡ Some c)
   def_column m k e b s =
       let x : Column = record { item = column.Def m; place = k.tag.place } in
-      column_there P Q x (Contains-append_right (each field_columns 0 Q.fields) (each (method_columns P Q) 0 Q.methods) x
+      (numbered_columns P Q).there x (Contains-append_right (each field_columns 0 Q.fields) (each (method_columns P Q) 0 Q.methods) x
       (each_has (method_columns P Q) 0 Q.methods m k x e m (omega arith)
       (Contains-append_left (when (not k.is_static) (record { item = column.Dcl m; place = k.tag.place } ∷ when (is_some k.body)
       (record { item = column.Def m; place = k.tag.place } ∷ []))) (flat_map form_columns (parts_of P m k)) x
@@ -241,7 +241,7 @@ module _ (Q : Plain) (F : Facts) (formed : IsFormed (untagged Q)) (facts : IsFac
       let this = this_point_of Q formed m k ek b i.instance in
       let at = def_at m f.0 f.2 in
       let col = mapped_some (λ (c : Column). c.item) (slice_get (columns_of P Q) f.0) (column.Def m)
-      (sym (get_map (λ (c : Column). c.item) (columns_of P Q) f.0) ∙ at.0) in
+      (sym (slice_get-map (λ (c : Column). c.item) (columns_of P Q) f.0) ∙ at.0) in
       let x : PlainBody = record { column = f.0; this = this.0; params = param_points (numbers P Q) Q m k; result = point_number P Q (point.Result m) } in
       let listed = each_has (λ c k. column_body (numbers P Q) Q c k.item) 0 (columns_of P Q) f.0 col.0 x col.1 f.0 (omega arith)
       (subst (λ z. Contains (column_body (numbers P Q) Q f.0 z) x) (sym col.2)

@@ -28,7 +28,7 @@ use Rattle.java_core.specs.Untagged.{untagged}
 use Rattle.run_cover.specs.Covers.{is_cell, cell_number, field_cell, element_cell}
 use Rattle.run_cover.proofs.Kinded.{site_type}
 use Rattle.flow_rules.proofs.Listed.{one, flat_has, each_has, when_has, position_there}
-use Rattle.run_cover.proofs.Included.{get_map}
+use Rattle.std.proofs.lemmas.Option.{slice_get-map}
 use Rattle.flow_rules.proofs.Keys.{column_exact}
 use Rattle.run_cover.proofs.HasNumbers.{field_column}
 use Rattle.run_cover.proofs.HasRows.{of_field, field_row_of}
@@ -122,8 +122,8 @@ module _ (Q : Plain) (F : Facts) (formed : IsFormed (untagged Q)) (facts : IsFac
       let p = position-Some (nat_eq n) (map (λ (s : Site). s.number) (sites_of P Q)) s 0 e in
       let at = slice_get-get_or (map (λ (s : Site). s.number) (sites_of P Q)) s 0 p.0 in
       let x = mapped_some (λ (s : Site). s.number) (slice_get (sites_of P Q) s) (get_or (map (λ (s : Site). s.number) (sites_of P Q)) s 0)
-      (sym (get_map (λ (s : Site). s.number) (sites_of P Q) s) ∙ at) in
-      let listed : slice_get F.sites.items s ≡ Some (site_info x.0) = ap (λ z. slice_get z s) facts.sites ∙ get_map (site_info) (sites_of P Q) s
+      (sym (slice_get-map (λ (s : Site). s.number) (sites_of P Q) s) ∙ at) in
+      let listed : slice_get F.sites.items s ≡ Some (site_info x.0) = ap (λ z. slice_get z s) facts.sites ∙ slice_get-map (site_info) (sites_of P Q) s
       ∙ ap (λ z. option_map (site_info) z) x.1 in
       let same = get_or_from_slice_get F.sites.items s (site_info x.0) (record { row = record { 0 = 0 }; class = record { 0 = 0 }; dim = 0 }) listed in
       record { site = x.0; there = x.1; number = x.2 ∙ sym (eqb-true n _ p.1); type = ap (λ (z : SiteInfo). record { class = z.class; dim = z.dim }) same }
@@ -145,7 +145,7 @@ module _ (Q : Plain) (F : Facts) (formed : IsFormed (untagged Q)) (facts : IsFac
       let r = field_row_of Q formed f t ot in
       let at = position-Some (same_column (column.Fld f)) (map (λ (c : Column). c.item) (columns_of P Q)) col.0 (column.Fld f) col.1 in
       let item = mapped_some (λ (c : Column). c.item) (slice_get (columns_of P Q) col.0) (column.Fld f)
-      (sym (get_map (λ (c : Column). c.item) (columns_of P Q) col.0) ∙ slice_get-get_or (map (λ (c : Column). c.item) (columns_of P Q)) col.0
+      (sym (slice_get-map (λ (c : Column). c.item) (columns_of P Q) col.0) ∙ slice_get-get_or (map (λ (c : Column). c.item) (columns_of P Q)) col.0
       (column.Fld f) at.0 ∙ ap (λ z. Some z) (sym (column_exact (column.Fld f) _ at.1))) in
       let ty : x.site.ty ≡ record { class = record { 0 = c }; dim = 0 } = sym x.type ∙ et in
       let y : CellInfo = record { site = record { 0 = s }; column = Some (record { 0 = col.0 }); row = record { 0 = r.0 } } in

@@ -8,7 +8,8 @@ use Rattle.java_core.specs.Types.{Env}
 use Rattle.java_meaning.specs.Moment.{Value, Number, Truth, CodeUnit, Nothing, Text, Object, Kind, an_array, Cell, own_class, held, bound, self_of, result_of, set_static, ran, State, Frame, Ended, Faulted, Going, Wrong, Outcome, stop, Body, Lang, look}
 use Rattle.java_meaning.specs.Values.{default_of, convert, arguments, number_of, text_of}
 use Rattle.java_meaning.specs.Meaning.{Flow, Next, Broke, Continued, Gave, ToValue, ToFlow, Later, set_local, given, enter, call_object, text_method, call_on, call_static, call_super, value, values, run_test, run_print, run_initial, run_declare, run_return, run_assign, run_one, run_all, run_arms, meaning, texts, words_type, words_cell, start, run_in}
-use Rattle.run_cover.specs.Families.{Set, Family, Calls, StaticCalls, SuperCalls, Included, IncludedAll, IncludedIf, Sets, Assigns, IncludedSt, IncludedSts, IncludedArms, IsIncluded, AreIncluded, Begins}
+use Rattle.run_cover.specs.Families.{Set, Family, Calls, StaticCalls, SuperCalls, Included, IncludedAll, Sets, Assigns, IsIncluded, AreIncluded, Begins, included}
+use Rattle.java_meaning.specs.EachStatement.{OfOption, InSt, InSts, InArms}
 use Rattle.run_cover.specs.Watched.{Of, IsWatched}
 use Rattle.run_cover.proofs.Held.{Stays, of_sub, Keeps, of_kept, keeps_on, member_of, plain_of, of_convert, default_plain, texts_plain, own_object, ArgsIn, args_convert, args_locals, Fine, fine_stop, test_fine, some_fine, step_fine, cell_fine}
 use Rattle.run_cover.proofs.CoveredSteps as steps
@@ -40,7 +41,7 @@ module _ (L : Lang) (Made : Option ℕ → Kind → Type 0) (V : Family) (inc : 
 
   module _ (later : Later) where
     record NextIn : Type 0 where
-      runs : (xs : Sts) (f : Frame) (s : State) (k : ToFlow) → IncludedSts L Made V f.env xs → Good s.cells s.statics → FrameIn s.cells f
+      runs : (xs : Sts) (f : Frame) (s : State) (k : ToFlow) → InSts (included L Made V f.env) xs → Good s.cells s.statics → FrameIn s.cells f
           → KF f.env s.cells k → Fine (later xs f s k)
 
     module _ (next : NextIn) where
@@ -195,12 +196,12 @@ module _ (L : Lang) (Made : Option ℕ → Kind → Type 0) (V : Family) (inc : 
             (of_kept s1.cells s2.cells v (V.value f.env.body e) r2.keeps iv, ivs)))
 
       -- the parts of statements
-      run_test_fine : (o : Option Ex) (f : Frame) (s : State) (x y : State → Outcome) → IncludedIf L Made V f.env o → Good s.cells s.statics
+      run_test_fine : (o : Option Ex) (f : Frame) (s : State) (x y : State → Outcome) → OfOption (Included L Made V f.env) o → Good s.cells s.statics
           → FrameIn s.cells f → KS s.cells x → KS s.cells y → Fine (run_test L later o f s x y)
       run_test_fine None f s x y i ok fo h d = h s (steps.here L Made V inc hooks s.cells s.statics ok)
       run_test_fine (Some e) f s x y i ok fo h d = value_fine e f s _ i ok fo (λ v s1 r iv. test_fine v s1 x y (h s1 r) (d s1 r))
 
-      print_fine : (l : Bool) (o : Option Ex) (f : Frame) (s : State) (k : State → Outcome) → IncludedIf L Made V f.env o → Good s.cells s.statics
+      print_fine : (l : Bool) (o : Option Ex) (f : Frame) (s : State) (k : State → Outcome) → OfOption (Included L Made V f.env) o → Good s.cells s.statics
           → FrameIn s.cells f → KS s.cells k → Fine (run_print L later l o f s k)
       print_fine l None f s k i ok fo h = h _ (steps.here L Made V inc hooks s.cells s.statics ok)
       print_fine l (Some e) f s k i ok fo h = value_fine e f s _ i ok fo (λ v s1 r iv. some_fine (text_of s1.strings v) s1 _ (λ u eu. h _ r))
@@ -270,7 +271,7 @@ module _ (L : Lang) (Made : Option ℕ → Kind → Type 0) (V : Family) (inc : 
       assign_fine no_target d f s k i ok fo h = fine_stop Wrong s tt
 
       mutual
-        one_fine : (x : St) (f : Frame) (s : State) (k : ToFlow) → IncludedSt L Made V f.env x → Good s.cells s.statics → FrameIn s.cells f
+        one_fine : (x : St) (f : Frame) (s : State) (k : ToFlow) → InSt (included L Made V f.env) x → Good s.cells s.statics → FrameIn s.cells f
             → KF f.env s.cells k → Fine (run_one L later x f s k)
         one_fine (declare t x e) f s k i ok fo h = declare_fine x e f s k i ok fo h
         one_fine (block t xs) f s k i ok fo h = all_fine xs f s k i ok fo h
@@ -283,37 +284,37 @@ module _ (L : Lang) (Made : Option ℕ → Kind → Type 0) (V : Family) (inc : 
         one_fine (loop t is_while first test last body) f s k i ok fo h =
             all_fine first f s _ i.0 ok fo (λ w f1 s1 r e1 fo1 wo.
             let h1 = steps.kf_on L Made V inc hooks f.env f1.env s.cells s1.cells k e1 r.keeps h in
-            let again : IncludedSts L Made V f1.env (st_then (loop t is_while no_st test last body) no_st) = subst
-            (λ g. IncludedSts L Made V g (st_then (loop t is_while no_st test last body) no_st)) (sym e1) ((tt, i.1, i.2, i.3), tt) in
+            let again : InSts (included L Made V f1.env) (st_then (loop t is_while no_st test last body) no_st) = subst
+            (λ g. InSts (included L Made V g) (st_then (loop t is_while no_st test last body) no_st)) (sym e1) ((tt, i.1, i.2, i.3), tt) in
             steps.after_one_fine L Made V inc hooks f1.env w f1 s1 k _ r.good refl fo1 (subst (λ g. FlowIn g s1.cells w) (sym e1) wo) h1
             (run_test_fine test f1 s1 _ _ again.0.1 r.good fo1
             (λ s3 r3. step_fine s3 _ (λ n. let s4 = record s3 { left = n } in
             all_fine body f1 s4 _ again.0.3 r3.good (steps.frame_kept L Made V inc hooks s1.cells s3.cells f1 r3.keeps fo1) (λ w3 f3 s5 r5 e3 fo3 wo3.
             let k5 = keeps_on s1.cells s3.cells s5.cells r3.keeps r5.keeps in
             let h3 = steps.kf_on L Made V inc hooks f1.env f3.env s1.cells s5.cells k e3 k5 h1 in
-            let again3 : IncludedSts L Made V f3.env (st_then (loop t is_while no_st test last body) no_st) = subst
-            (λ g. IncludedSts L Made V g (st_then (loop t is_while no_st test last body) no_st)) (sym e3) again in
+            let again3 : InSts (included L Made V f3.env) (st_then (loop t is_while no_st test last body) no_st) = subst
+            (λ g. InSts (included L Made V g) (st_then (loop t is_while no_st test last body) no_st)) (sym e3) again in
             steps.after_turn_fine L Made V inc hooks f3.env w3 f3 s5 k _ r5.good refl fo3 (subst (λ g. FlowIn g s5.cells w3) (sym e3) wo3) h3
             (all_fine last f3 s5 _ again3.0.2 r5.good fo3 (λ w5 f5 s7 r7 e5 fo5 wo5.
             let h5 = steps.kf_on L Made V inc hooks f3.env f5.env s5.cells s7.cells k e5 r7.keeps h3 in
             steps.after_one_fine L Made V inc hooks f5.env w5 f5 s7 k _ r7.good refl fo5 (subst (λ g. FlowIn g s7.cells w5) (sym e5) wo5) h5
             (next.runs (st_then (loop t is_while no_st test last body) no_st) f5 s7 k
-            (subst (λ g. IncludedSts L Made V g (st_then (loop t is_while no_st test last body) no_st)) (sym e5) again3) r7.good fo5 h5))))))
+            (subst (λ g. InSts (included L Made V g) (st_then (loop t is_while no_st test last body) no_st)) (sym e5) again3) r7.good fo5 h5))))))
             (λ s3 r3. h1 Next f1 s3 r3 refl (steps.frame_kept L Made V inc hooks s1.cells s3.cells f1 r3.keeps fo1) tt)))
         one_fine (return t e) f s k i ok fo h = return_fine e f s k i ok fo h
         one_fine (break t) f s k i ok fo h = h Broke f s (steps.here L Made V inc hooks s.cells s.statics ok) refl fo tt
         one_fine (continue t) f s k i ok fo h = h Continued f s (steps.here L Made V inc hooks s.cells s.statics ok) refl fo tt
 
-        all_fine : (xs : Sts) (f : Frame) (s : State) (k : ToFlow) → IncludedSts L Made V f.env xs → Good s.cells s.statics → FrameIn s.cells f
+        all_fine : (xs : Sts) (f : Frame) (s : State) (k : ToFlow) → InSts (included L Made V f.env) xs → Good s.cells s.statics → FrameIn s.cells f
             → KF f.env s.cells k → Fine (run_all L later xs f s k)
         all_fine no_st f s k i ok fo h = h Next f s (steps.here L Made V inc hooks s.cells s.statics ok) refl fo tt
         all_fine (st_then x xs) f s k i ok fo h =
             one_fine x f s _ i.0 ok fo (λ w f1 s1 r e1 fo1 wo.
             let h1 = steps.kf_on L Made V inc hooks f.env f1.env s.cells s1.cells k e1 r.keeps h in
             steps.after_one_fine L Made V inc hooks f1.env w f1 s1 k _ r.good refl fo1 (subst (λ g. FlowIn g s1.cells w) (sym e1) wo) h1
-            (all_fine xs f1 s1 k (subst (λ g. IncludedSts L Made V g xs) (sym e1) i.1) r.good fo1 h1))
+            (all_fine xs f1 s1 k (subst (λ g. InSts (included L Made V g) xs) (sym e1) i.1) r.good fo1 h1))
 
-        arms_fine : (xs : Arms) (f : Frame) (s : State) (k : ToFlow) → IncludedArms L Made V f.env xs → Good s.cells s.statics → FrameIn s.cells f
+        arms_fine : (xs : Arms) (f : Frame) (s : State) (k : ToFlow) → InArms (included L Made V f.env) xs → Good s.cells s.statics → FrameIn s.cells f
             → KF f.env s.cells k → Fine (run_arms L later xs f s k)
         arms_fine no_other f s k i ok fo h = h Next f s (steps.here L Made V inc hooks s.cells s.statics ok) refl fo tt
         arms_fine (otherwise xs) f s k i ok fo h = all_fine xs f s k i ok fo h

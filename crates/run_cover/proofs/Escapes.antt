@@ -29,7 +29,8 @@ use Rattle.run_cover.proofs.Cover.{run_stays}
 use Rattle.run_cover.proofs.Kinded.{IsKinded}
 use Rattle.run_cover.proofs.Flows.{when_some, looks_in}
 use Rattle.run_cover.proofs.Calls.{local_object, result_object}
-use Rattle.run_cover.proofs.Included.{passes_map, get_map, MadeAs, typed_sites, family, ClosedBody}
+use Rattle.run_cover.proofs.Included.{passes_map, MadeAs, typed_sites, family, ClosedBody}
+use Rattle.std.proofs.lemmas.Option.{slice_get-map}
 use Rattle.run_cover.proofs.IncludedBodies.{included_code}
 use Rattle.java_meaning.proofs.Layouts.{places as same_place}
 
@@ -37,7 +38,7 @@ default_no_object : (t : Ty) (a : ℕ) → default_of t ≡ Object a → ⊥
 default_no_object t a e = default_plain t.base t.dim a e
 
 map_plain : {A : Type 0} (f : A → Value) (xs : List A) → ((x : A) (a : ℕ) → f x ≡ Object a → ⊥) → ArePlain (map f xs)
-map_plain f xs p i a e = let z = mapped_some f (slice_get xs i) (Object a) (sym (get_map f xs i) ∙ e) in p z.0 a z.2
+map_plain f xs p i a e = let z = mapped_some f (slice_get xs i) (Object a) (sym (slice_get-map f xs i) ∙ e) in p z.0 a z.2
 
 optional_default : (t : Option Ty) (a : ℕ) → option_map_or default_of t Nothing ≡ Object a → ⊥
 optional_default None a e = cc

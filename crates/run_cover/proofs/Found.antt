@@ -1,9 +1,8 @@
 -- Classes, subtypes and bodies that the facts find are those of the program.
 use Rattle.std.proofs.Common.{◌≡◌, ℕ, zero, suc, ◌+◌, List, [], ◌∷◌, ◌++◌, Option, Some, None, length, refl, sym, ap, ◌∙◌, subst, arith, ⊎_elim}
-use Rattle.std.specs.Prelude.{◌==◌, if◌then◌else◌, nat_lt, not, Bool, true, false, slice_get, Contains}
+use Rattle.std.specs.Prelude.{◌==◌, not, true, false, slice_get, Contains}
 use Rattle.std.specs.Option.{option_map_or, option_and_then, option_to_list, is_some}
-use Rattle.std.specs.List.{flat_map, list_any}
-use Rattle.indexmap.specs.IndexSet.{insert_key}
+use Rattle.std.specs.List.{flat_map}
 use Rattle.std.proofs.lemmas.Option.{same_Some, slice_get-get_or}
 use Rattle.std.proofs.lemmas.List.{length-map}
 use Rattle.std.proofs.lemmas.List.Elements.{Contains-append_cases}
@@ -22,12 +21,13 @@ use Rattle.flow_rules.specs.declared.items.ObjectType.{ObjectType}
 use Rattle.flow_rules.specs.Parts.{Part, a_creation, a_test, parts_of}
 use Rattle.flow_rules.specs.declared.items.ColumnItem.TheVariants as column
 use Rattle.flow_rules.specs.declared.items.Column.{Column}
-use Rattle.flow_rules.specs.Ordered.{put_in, by_place, once_after, each, when}
-use Rattle.flow_rules.specs.Numbered.{same_column, columns_of, field_columns, method_columns, mark, array_mark, form_columns}
+use Rattle.flow_rules.specs.Ordered.{each, when}
+use Rattle.flow_rules.specs.Numbered.{columns_of, field_columns, method_columns, mark, array_mark, form_columns}
 use Rattle.flow_rules.specs.Facts.{ClassFacts, class_seen, class_facts, is_holder, IsFactsOf}
 use Rattle.java_core.specs.Untagged.{untag_class, untagged}
-use Rattle.flow_rules.proofs.Listed.{more, when_from, place_from}
-use Rattle.run_cover.proofs.Included.{get_map}
+use Rattle.flow_rules.proofs.Listed.{at_contains, each_from, flat_from, when_from}
+use Rattle.flow_rules.proofs.NumberedItems.{numbered_columns}
+use Rattle.std.proofs.lemmas.Option.{slice_get-map}
 
 -- one item for each
 pub each_get : {A B : Type 0} (f : ℕ → A → List B) (h : ℕ → A → B) → ((n : ℕ) (x : A) → f n x ≡ h n x ∷ []) → (n : ℕ) (xs : List A) (i : ℕ) (x : A)
@@ -59,11 +59,11 @@ module _ (Q : Plain) (F : Facts) (facts : IsFactsOf (untagged Q) Q F) where
 
   class_listed : (a : ℕ) (k : PlainClass) → slice_get Q.classes a ≡ Some k → (c : ClassInfo) × (slice_get F.classes.items a ≡ Some c)
       × (class_seen c ≡ facts_at a k)
-  class_listed a k e = mapped_some class_seen (slice_get F.classes.items a) (facts_at a k) (sym (get_map class_seen F.classes.items a)
+  class_listed a k e = mapped_some class_seen (slice_get F.classes.items a) (facts_at a k) (sym (slice_get-map class_seen F.classes.items a)
       ∙ ap (λ z. slice_get z a) facts.classes ∙ each_get (class_facts Q) facts_at (λ n x. refl) 0 Q.classes a k e a (omega arith))
 
   of_class : (a : ℕ) (h : PlainClass) → slice_get P.classes a ≡ Some h → (k : PlainClass) × (slice_get Q.classes a ≡ Some k) × (untag_class k ≡ h)
-  of_class a h e = mapped_some untag_class (slice_get Q.classes a) h (sym (get_map untag_class Q.classes a) ∙ e)
+  of_class a h e = mapped_some untag_class (slice_get Q.classes a) h (sym (slice_get-map untag_class Q.classes a) ∙ e)
 
   pub same_length : length F.classes.items ≡ length P.classes
   same_length = sym (length-map F.classes.items class_seen) ∙ ap (λ z. length z) facts.classes
@@ -121,44 +121,6 @@ nearest_some P f (suc n) c d e = go (f c) refl (java.parent_of P c) (λ p h. nea
     go (Some y) ey o r h = (c, ey ∙ h)
     go None ey o r h = up o r h
 
--- what stands in a list in order, without twice, stood there before
-put_from : {A : Type 0} (at : A → ℕ) (x : A) (xs : List A) (y : A) → Contains (put_in at x xs) y → Contains (x ∷ xs) y
-put_from at x [] y c = c
-put_from at x (z ∷ zs) y c = go (nat_lt (at z) (at x)) (λ d. put_from at x zs y d) c
-  where
-    swap : Contains (x ∷ zs) y → Contains (x ∷ (z ∷ zs)) y
-    swap (zero, lt, e) = (0, omega arith, e)
-    swap (suc k, lt, e) = (suc (suc k), omega (arith, lt), e)
-
-    go : (b : Bool) → (Contains (put_in at x zs) y → Contains (x ∷ zs) y) → Contains (if b then z ∷ put_in at x zs else x ∷ (z ∷ zs)) y
-        → Contains (x ∷ (z ∷ zs)) y
-    go true r (zero, lt, e) = (1, omega arith, e)
-    go true r (suc k, lt, e) = swap (r (k, omega (arith, lt), e))
-    go false r d = d
-
-pub once_from : {A K : Type 0} (eq : K → K → Bool) (key : A → K) (seen : List K) (xs : List A) (y : A) → Contains (once_after eq key seen xs) y → Contains xs y
-once_from eq key seen [] y c = c
-once_from eq key seen (x ∷ xs) y c = go (list_any (eq (key x)) seen) c (λ d. once_from eq key (insert_key eq seen (key x)) xs y d)
-  where
-    go : (b : Bool) → Contains (if b then once_after eq key (insert_key eq seen (key x)) xs else x ∷ once_after eq key (insert_key eq seen (key x))
-        xs) y → (Contains (once_after eq key (insert_key eq seen (key x)) xs) y → Contains xs y) → Contains (x ∷ xs) y
-    go true d r = more y x xs (r d)
-    go false (zero, lt, e) r = (0, omega arith, e)
-    go false (suc k, lt, e) r = more y x xs (r (k, omega (arith, lt), e))
-
-pub each_from : {A B : Type 0} (f : ℕ → A → List B) (n : ℕ) (xs : List A) (y : B) → Contains (each f n xs) y
-    → (i : ℕ) × ((x : A) × (slice_get xs i ≡ Some x) × Contains (f (n + i) x) y)
-each_from f n [] y c = absurd (omega (arith, c.1))
-each_from f n (x ∷ xs) y c = ⊎_elim
-    (λ d. (0, (x, refl, subst (λ z. Contains (f z x) y) (let z : n ≡ n + 0 = omega arith in z) d)))
-    (λ d. let r = each_from f (n + 1) xs y d in
-    (suc r.0, (r.1.0, r.1.1, subst (λ z. Contains (f z r.1.0) y) (let z : n + 1 + r.0 ≡ n + suc r.0 = omega arith in z) r.1.2)))
-    (Contains-append_cases (f n x) (each f (n + 1) xs) y c)
-
-pub flat_from : {A B : Type 0} (f : A → List B) (xs : List A) (y : B) → Contains (flat_map f xs) y → (x : A) × Contains (f x) y
-flat_from f [] y c = absurd (omega (arith, c.1))
-flat_from f (x ∷ xs) y c = ⊎_elim (λ d. (x, d)) (λ d. flat_from f xs y d) (Contains-append_cases (f x) (flat_map f xs) y c)
-
 -- a column of a body stands only where the method has one
 mark_apart : (p : Place) (o : Option ObjectType) (y : Column) (m : ℕ) → Contains (mark p o) y → y.item ≡ column.Def m → ⊥
 mark_apart p None y m c e = omega (arith, c.1)
@@ -194,7 +156,7 @@ module _ (P Q : Plain) where
       → (f ≡ m) × (is_some k.body ≡ true)
   method_apart f k y m c e = ⊎_elim
       (λ d. own_apart f k y m (when_from (not k.is_static) _ y d).1 e)
-      (λ d. let z = flat_from form_columns (parts_of P f k) y d in absurd (form_apart z.0 y m z.1 e))
+      (λ d. let z = flat_from form_columns (parts_of P f k) y d in absurd (form_apart z.0 y m z.2 e))
       (Contains-append_cases (when (not k.is_static) (record { item = column.Dcl f; place = k.tag.place } ∷ when (is_some k.body)
       (record { item = column.Def f; place = k.tag.place } ∷ []))) (flat_map form_columns (parts_of P f k)) y c)
 
@@ -207,11 +169,9 @@ module _ (P Q : Plain) where
 
   pub body_listed : (y : Column) (m : ℕ) → Contains (columns_of P Q) y → y.item ≡ column.Def m → (k : PlainMethod) × (slice_get Q.methods m ≡ Some k)
       × (is_some k.body ≡ true)
-  unfolding columns_of
-  body_listed y m c e = ⊎_elim
-      (λ d. let r = each_from field_columns 0 Q.fields y d in absurd (field_apart (0 + r.0) r.1.0 y m r.1.2 e))
-      (λ d. let r = each_from (method_columns P Q) 0 Q.methods y d in let w = method_apart (0 + r.0) r.1.0 y m r.1.2 e in
-      (r.1.0, subst (λ z. slice_get Q.methods z ≡ Some r.1.0) (let z : r.0 ≡ m = omega (arith, w.0) in z) r.1.1, w.1))
-      (Contains-append_cases (each field_columns 0 Q.fields) (each (method_columns P Q) 0 Q.methods) y
-      (place_from (λ c. c.place.at) (each field_columns 0 Q.fields ++ each (method_columns P Q) 0 Q.methods) y
-      (once_from same_column (λ c. c.item) [] (by_place (λ c. c.place.at) (each field_columns 0 Q.fields ++ each (method_columns P Q) 0 Q.methods)) y c)))
+  body_listed y m c e =
+      let i = at_contains (columns_of P Q) y c in
+      ⊎_elim (λ d. let r = each_from field_columns 0 Q.fields y d in absurd (field_apart r.1 r.2 y m r.5 e))
+      (λ d. let r = each_from (method_columns P Q) 0 Q.methods y d in let w = method_apart r.1 r.2 y m r.5 e in
+      (r.2, subst (λ z. slice_get Q.methods z ≡ Some r.2) (let z : r.0 ≡ m = omega (arith, w.0, r.4) in z) r.3, w.1))
+      (Contains-append_cases (each field_columns 0 Q.fields) (each (method_columns P Q) 0 Q.methods) y ((numbered_columns P Q).from i.0 y i.1))

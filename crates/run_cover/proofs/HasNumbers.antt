@@ -1,9 +1,8 @@
 -- Rows, columns, sites and points that the text gives have their numbers.
-use Rattle.std.proofs.Common.{◌≡◌, ℕ, List, [], ◌∷◌, ◌++◌, Option, Some, None, length, refl, sym, subst, arith, ⊎_elim}
-use Rattle.std.specs.Prelude.{◌&&◌, ◌||◌, nat_lt, nat_eq, not, true, false, slice_get, Contains}
+use Rattle.std.proofs.Common.{◌≡◌, ℕ, List, ◌++◌, Option, Some, None, length, refl, sym, subst, arith, ⊎_elim}
+use Rattle.std.specs.Prelude.{◌&&◌, ◌||◌, nat_lt, not, true, false, slice_get, Contains}
 use Rattle.std.specs.Option.{is_some}
 use Rattle.std.specs.List.{flat_map}
-use Rattle.std.proofs.lemmas.Bool.{eqb-true, eq-eqb}
 use Rattle.std.proofs.lemmas.List.Elements.{Contains-append_left, Contains-append_right}
 use Rattle.kaba_base.specs.declared.Place.{Place}
 use Rattle.java_core.specs.Programs.{Plain, PlainField, PlainMethod, PlainLocal}
@@ -19,22 +18,16 @@ use Rattle.flow_rules.specs.declared.items.Column.{Column}
 use Rattle.flow_rules.specs.declared.items.Site.{Site}
 use Rattle.flow_rules.specs.declared.items.Point.{Point}
 use Rattle.flow_rules.specs.declared.items.PointAt.{PointAt}
-use Rattle.flow_rules.specs.Ordered.{by_place, each, when}
+use Rattle.flow_rules.specs.Ordered.{by_place, each}
 use Rattle.flow_rules.specs.Operands.{object_of, object_if, variable_row, result_in}
 use Rattle.flow_rules.specs.Parts.{Part, parts_of}
-use Rattle.flow_rules.specs.Numbered.{same_row, same_column, same_point, row_if, form_rows, is_first, field_rows, this_rows, result_rows, variable_rows, method_rows, rows_of, field_columns, method_columns, columns_of, row_number, column_number, number_if, form_sites, sites_of, site_number, bodies_of, listed, point_with, point_of_form, own_point, form_points, static_points, variable_points, method_points, Outline, outline_if, points_of, point_number}
-use Rattle.flow_rules.proofs.Keys.{row_exact, row_alike, column_exact, column_alike, point_exact, point_alike}
-use Rattle.flow_rules.proofs.Listed.{one, flat_has, each_has, two_have, place_has, number_there, when_has}
+use Rattle.flow_rules.specs.Numbered.{row_if, form_rows, is_first, field_rows, this_rows, result_rows, variable_rows, method_rows, field_columns, method_columns, row_number, column_number, number_if, form_sites, site_number, bodies_of, listed, point_with, point_of_form, own_point, form_points, static_points, variable_points, method_points, Outline, outline_if, point_number}
+use Rattle.flow_rules.proofs.Listed.{one, flat_has, each_has, two_have, place_has, when_has}
+use Rattle.flow_rules.proofs.NumberedItems.{numbered_rows, numbered_sites, numbered_points, numbered_columns, this_points, param_points, local_points, result_points, part_points}
 use Rattle.run_cover.proofs.Flows.{body_of, body_there}
 
 module _ (P Q : Plain) where
   -- rows
-  row_there : (x : Row) → Contains (each field_rows 0 Q.fields ++ each (method_rows P Q) 0 Q.methods) x → (r : ℕ) × (row_number P Q x.item ≡ Some r)
-  unfolding row_number rows_of
-  row_there x c = number_there same_row row_exact row_alike (λ r. r.item)
-      (by_place (λ r. r.place.at) (each field_rows 0 Q.fields ++ each (method_rows P Q) 0 Q.methods)) x
-      (place_has (λ r. r.place.at) (each field_rows 0 Q.fields ++ each (method_rows P Q) 0 Q.methods) x c)
-
   row_typed : (i : RowItem) (p : Place) (o : Option ObjectType) (t : ObjectType) → o ≡ Some t → Contains (row_if i p o) (record { item = i; place = p; ty = t })
   row_typed i p o t e = subst (λ z. Contains (row_if i p z) (record { item = i; place = p; ty = t })) (sym e) (one (record { item = i; place = p; ty = t }))
 
@@ -42,12 +35,13 @@ module _ (P Q : Plain) where
       → (r : ℕ) × (row_number P Q (row.Field f) ≡ Some r)
   field_row f k t e o =
       let x : Row = record { item = row.Field f; place = k.tag.place; ty = t } in
-      row_there x (Contains-append_left (each field_rows 0 Q.fields) (each (method_rows P Q) 0 Q.methods) x (each_has field_rows 0 Q.fields f k x e f
+      (numbered_rows P Q).there x (Contains-append_left (each field_rows 0 Q.fields) (each (method_rows P Q) 0 Q.methods) x
+      (each_has field_rows 0 Q.fields f k x e f
       (omega arith) (row_typed (row.Field f) k.tag.place (object_of k.ty) t o)))
 
   module _ (m : ℕ) (k : PlainMethod) (stands : slice_get Q.methods m ≡ Some k) where
     in_method : (x : Row) → Contains (method_rows P Q m k) x → (r : ℕ) × (row_number P Q x.item ≡ Some r)
-    in_method x c = row_there x (Contains-append_right (each field_rows 0 Q.fields) (each (method_rows P Q) 0 Q.methods) x
+    in_method x c = (numbered_rows P Q).there x (Contains-append_right (each field_rows 0 Q.fields) (each (method_rows P Q) 0 Q.methods) x
         (each_has (method_rows P Q) 0 Q.methods m k x stands m (omega arith) c))
 
     abbrev heads : List Row
@@ -91,13 +85,9 @@ module _ (P Q : Plain) where
     -- sites
     pub site_there : (p : Part) → Contains (parts_of P m k) p → (x : Site) → Contains (form_sites (row_number P Q) p) x
         → (s : ℕ) × (site_number P Q x.number ≡ Some s)
-    unfolding site_number sites_of
-    site_there p c x d =
-        number_there nat_eq (λ x y e. eqb-true x y e) (λ x. eq-eqb x x refl) (λ s. s.number)
-        (by_place (λ s. s.place.at) (flat_map (λ b. flat_map (form_sites (row_number P Q)) b.parts) (bodies_of P Q))) x
-        (place_has (λ s. s.place.at) (flat_map (λ b. flat_map (form_sites (row_number P Q)) b.parts) (bodies_of P Q)) x
+    site_there p c x d = (numbered_sites P Q).there x
         (flat_has (λ b. flat_map (form_sites (row_number P Q)) b.parts) (bodies_of P Q) (body_of P m k) x (body_there P Q m k stands)
-        (flat_has (form_sites (row_number P Q)) (parts_of P m k) p x c d)))
+        (flat_has (form_sites (row_number P Q)) (parts_of P m k) p x c d))
 
   -- points
   abbrev statics : List PointAt
@@ -109,12 +99,6 @@ module _ (P Q : Plain) where
   abbrev listed_at : PointAt → List Point
   listed_at p = listed (row_number P Q) p
 
-  point_there : (x : Point) → Contains (flat_map listed_at statics ++ flat_map (λ o. flat_map listed_at o.points) outlines) x
-      → (q : ℕ) × (point_number P Q x.item ≡ Some q)
-  unfolding point_number points_of
-  point_there x c = number_there same_point point_exact point_alike (λ p. p.item)
-      (flat_map listed_at statics ++ flat_map (λ o. flat_map listed_at o.points) outlines) x c
-
   with_row : (p : PointAt) (r : ℕ) → row_number P Q p.row ≡ Some r → Contains (listed_at p) (record { item = p.item; row = r })
   with_row p r e = subst (λ z. Contains (point_with p z) (record { item = p.item; row = r })) (sym e) (one (record { item = p.item; row = r }))
 
@@ -123,7 +107,8 @@ module _ (P Q : Plain) where
   static_point f k e s r h =
       let p : PointAt = record { item = point.Static f; place = k.tag.place; row = row.Field f } in
       let x : Point = record { item = point.Static f; row = r } in
-      point_there x (Contains-append_left (flat_map listed_at statics) (flat_map (λ o. flat_map listed_at o.points) outlines) x (flat_has listed_at statics p x
+      (numbered_points P Q).there x (Contains-append_left (flat_map listed_at statics) (flat_map (λ o. flat_map listed_at o.points) outlines) x
+      (flat_has listed_at statics p x
       (place_has (λ p. p.place.at) (each static_points 0 Q.fields) p (each_has static_points 0 Q.fields f k p e f (omega arith)
       (when_has k.is_static _ p s (one p)))) (with_row p r h)))
 
@@ -132,55 +117,46 @@ module _ (P Q : Plain) where
     in_body p r h c =
         let o : Outline = record { place = k.tag.place; points = method_points P Q m k } in
         let x : Point = record { item = p.item; row = r } in
-        point_there x (Contains-append_right (flat_map listed_at statics) (flat_map (λ o. flat_map listed_at o.points) outlines) x
+        (numbered_points P Q).there x (Contains-append_right (flat_map listed_at statics) (flat_map (λ o. flat_map listed_at o.points) outlines) x
         (flat_has (λ o. flat_map listed_at o.points) outlines o x
         (place_has (λ o. o.place.at) (each (outline_if P Q) 0 Q.methods) o (each_has (outline_if P Q) 0 Q.methods m k o stands m (omega arith)
         (when_has (is_some k.body) _ o body (one o))))
         (flat_has listed_at (method_points P Q m k) p x c (with_row p r h))))
 
-    abbrev first_points : List PointAt
-    first_points = when (not k.is_static) (record { item = point.This m; place = k.tag.place; row = row.This m } ∷ [])
-
-    abbrev param_points : List PointAt
-    param_points = each (variable_points m k) 0 k.params
-
-    abbrev local_points : List PointAt
-    local_points = each (variable_points m k) (length k.params) k.locals
-
-    abbrev result_points : List PointAt
-    result_points = record { item = point.Result m; place = k.tag.place; row = result_in k.slot m } ∷ []
-
-    abbrev expr_points : List PointAt
-    expr_points = by_place (λ p. p.place.at) (flat_map form_points (parts_of P m k))
-
     pub this_point : k.is_static ≡ false → (r : ℕ) → row_number P Q (row.This m) ≡ Some r → (q : ℕ) × (point_number P Q (point.This m) ≡ Some q)
     this_point s r h =
         let p : PointAt = record { item = point.This m; place = k.tag.place; row = row.This m } in
-        in_body p r h (Contains-append_left (first_points ++ param_points ++ local_points ++ result_points) expr_points p
-        (Contains-append_left (first_points ++ param_points ++ local_points) result_points p
-        (Contains-append_left (first_points ++ param_points) local_points p (Contains-append_left first_points param_points p
+        in_body p r h (Contains-append_left ((this_points P Q m k) ++ (param_points P Q m k) ++ (local_points P Q m k) ++ (result_points P Q m k))
+        (part_points P Q m k) p
+        (Contains-append_left ((this_points P Q m k) ++ (param_points P Q m k) ++ (local_points P Q m k)) (result_points P Q m k) p
+        (Contains-append_left ((this_points P Q m k) ++ (param_points P Q m k)) (local_points P Q m k) p (Contains-append_left (this_points P Q m k)
+        (param_points P Q m k) p
         (when_has (not k.is_static) _ p (rw s refl) (one p))))))
 
     pub variable_point : (i : ℕ) (v : PlainLocal) → slice_get (k.params ++ k.locals) i ≡ Some v → (r : ℕ) → row_number P Q (variable_row m k i)
         ≡ Some r → (q : ℕ) × (point_number P Q (point.Local m i) ≡ Some q)
     variable_point i v e r h =
         let p : PointAt = record { item = point.Local m i; place = v.tag.place; row = variable_row m k i } in
-        in_body p r h (Contains-append_left (first_points ++ param_points ++ local_points ++ result_points) expr_points p
-        (Contains-append_left (first_points ++ param_points ++ local_points) result_points p (⊎_elim
-        (λ d. Contains-append_left (first_points ++ param_points) local_points p (Contains-append_right first_points param_points p d))
-        (λ d. Contains-append_right (first_points ++ param_points) local_points p d)
+        in_body p r h (Contains-append_left ((this_points P Q m k) ++ (param_points P Q m k) ++ (local_points P Q m k) ++ (result_points P Q m k))
+        (part_points P Q m k) p
+        (Contains-append_left ((this_points P Q m k) ++ (param_points P Q m k) ++ (local_points P Q m k)) (result_points P Q m k) p (⊎_elim
+        (λ d. Contains-append_left ((this_points P Q m k) ++ (param_points P Q m k)) (local_points P Q m k) p
+        (Contains-append_right (this_points P Q m k) (param_points P Q m k) p d))
+        (λ d. Contains-append_right ((this_points P Q m k) ++ (param_points P Q m k)) (local_points P Q m k) p d)
         (two_have (variable_points m k) 0 (length k.params) k.params k.locals i v p e (omega arith) i (omega arith) (one p)))))
 
     pub result_point : (r : ℕ) → row_number P Q (result_in k.slot m) ≡ Some r → (q : ℕ) × (point_number P Q (point.Result m) ≡ Some q)
     result_point r h =
         let p : PointAt = record { item = point.Result m; place = k.tag.place; row = result_in k.slot m } in
-        in_body p r h (Contains-append_left (first_points ++ param_points ++ local_points ++ result_points) expr_points p
-        (Contains-append_right (first_points ++ param_points ++ local_points) result_points p (one p)))
+        in_body p r h (Contains-append_left ((this_points P Q m k) ++ (param_points P Q m k) ++ (local_points P Q m k) ++ (result_points P Q m k))
+        (part_points P Q m k) p
+        (Contains-append_right ((this_points P Q m k) ++ (param_points P Q m k) ++ (local_points P Q m k)) (result_points P Q m k) p (one p)))
 
     -- a form that is a point, where its row stands
     pub form_point : (p : Part) → Contains (parts_of P m k) p → (x : PointAt) → Contains (form_points p) x → (r : ℕ) → row_number P Q x.row ≡ Some r
         → (q : ℕ) × (point_number P Q x.item ≡ Some q)
-    form_point p c x d r h = in_body x r h (Contains-append_right (first_points ++ param_points ++ local_points ++ result_points) expr_points x
+    form_point p c x d r h = in_body x r h (Contains-append_right ((this_points P Q m k) ++ (param_points P Q m k) ++ (local_points P Q m k)
+        ++ (result_points P Q m k)) (part_points P Q m k) x
         (place_has (λ p. p.place.at) (flat_map form_points (parts_of P m k)) x (flat_has form_points (parts_of P m k) p x c d)))
 
   row_in_there : (o : Option RowItem) (r : ℕ) → number_if (row_number P Q) o ≡ Some r → (i : RowItem) × (o ≡ Some i) × (row_number P Q i ≡ Some r)
@@ -200,15 +176,8 @@ module _ (P Q : Plain) where
       )
 
   -- columns
-  pub column_there : (x : Column) → Contains (each field_columns 0 Q.fields ++ each (method_columns P Q) 0 Q.methods) x
-      → (c : ℕ) × (column_number P Q x.item ≡ Some c)
-  unfolding column_number columns_of
-  column_there x c = number_there same_column column_exact column_alike (λ c. c.item)
-      (by_place (λ c. c.place.at) (each field_columns 0 Q.fields ++ each (method_columns P Q) 0 Q.methods)) x
-      (place_has (λ c. c.place.at) (each field_columns 0 Q.fields ++ each (method_columns P Q) 0 Q.methods) x c)
-
   pub field_column : (f : ℕ) (k : PlainField) → slice_get Q.fields f ≡ Some k → k.is_static ≡ false → (c : ℕ) × (column_number P Q (column.Fld f) ≡ Some c)
   field_column f k e s =
       let x : Column = record { item = column.Fld f; place = k.tag.place } in
-      column_there x (Contains-append_left (each field_columns 0 Q.fields) (each (method_columns P Q) 0 Q.methods) x
+      (numbered_columns P Q).there x (Contains-append_left (each field_columns 0 Q.fields) (each (method_columns P Q) 0 Q.methods) x
       (each_has field_columns 0 Q.fields f k x e f (omega arith) (when_has (not k.is_static) _ x (rw s refl) (one x))))

@@ -17,7 +17,7 @@ use Rattle.flow_rules.specs.Types.{field_object, variable_object}
 use Rattle.flow_rules.specs.Numbered.{is_first_in, is_first, row_number, point_number}
 use Rattle.flow_rules.proofs.Listed.{at_left}
 use Rattle.java_core.specs.Untagged.{untag_field, untag_method, untagged}
-use Rattle.run_cover.proofs.Included.{get_map}
+use Rattle.std.proofs.lemmas.Option.{slice_get-map}
 use Rattle.run_cover.proofs.Untagging.{untyped_params}
 use Rattle.run_cover.proofs.HasNumbers.{field_row, this_row, result_row, own_variable_row, static_point, this_point, variable_point, result_point}
 
@@ -41,13 +41,13 @@ module _ (Q : Plain) (formed : IsFormed (untagged Q)) where
   P = untagged Q
 
   pub method_of : (m : ℕ) (k : PlainMethod) → slice_get Q.methods m ≡ Some k → slice_get P.methods m ≡ Some (untag_method k)
-  method_of m k e = get_map untag_method Q.methods m ∙ ap (λ z. option_map untag_method z) e
+  method_of m k e = slice_get-map untag_method Q.methods m ∙ ap (λ z. option_map untag_method z) e
 
   pub of_method : (m : ℕ) (h : PlainMethod) → slice_get P.methods m ≡ Some h → (k : PlainMethod) × (slice_get Q.methods m ≡ Some k) × (untag_method k ≡ h)
-  of_method m h e = mapped_some untag_method (slice_get Q.methods m) h (sym (get_map untag_method Q.methods m) ∙ e)
+  of_method m h e = mapped_some untag_method (slice_get Q.methods m) h (sym (slice_get-map untag_method Q.methods m) ∙ e)
 
   pub of_field : (f : ℕ) (h : PlainField) → slice_get P.fields f ≡ Some h → (k : PlainField) × (slice_get Q.fields f ≡ Some k) × (untag_field k ≡ h)
-  of_field f h e = mapped_some untag_field (slice_get Q.fields f) h (sym (get_map untag_field Q.fields f) ∙ e)
+  of_field f h e = mapped_some untag_field (slice_get Q.fields f) h (sym (slice_get-map untag_field Q.fields f) ∙ e)
 
   pub field_row_of : (f : ℕ) (t : ObjectType) → field_object P f ≡ Some t → (r : ℕ) × (row_number P Q (row.Field f) ≡ Some r)
   field_row_of f t e =
@@ -122,10 +122,10 @@ module _ (Q : Plain) (formed : IsFormed (untagged Q)) where
       go v ev ov (Some s) true h l =
           let j = in_slot m k e s h in
           let f = first_of_slot s j.slot j.stands in
-          let here : slice_get (types_of k.params) i ≡ Some v.ty = get_map (λ v. v.ty) k.params i
+          let here : slice_get (types_of k.params) i ≡ Some v.ty = slice_get-map (λ v. v.ty) k.params i
           ∙ ap (λ z. option_map (λ v. v.ty) z) (sym (get_within k.params k.locals i (lt_of i (length k.params) l)) ∙ ev) in
           let there : slice_get (types_of f.method.params) i ≡ Some v.ty = ap (λ z. slice_get z i) (f.params ∙ sym j.params ∙ untyped_params k.params) ∙ here in
-          let w = mapped_some (λ (v : PlainLocal). v.ty) (slice_get f.method.params i) v.ty (sym (get_map (λ v. v.ty) f.method.params i) ∙ there) in
+          let w = mapped_some (λ (v : PlainLocal). v.ty) (slice_get f.method.params i) v.ty (sym (slice_get-map (λ v. v.ty) f.method.params i) ∙ there) in
           let r = own_variable_row P Q j.slot.first f.method f.there i w.0 t (at_left f.method.params f.method.locals i w.0 w.1)
           (ap (λ z. object_of z) w.2 ∙ ov)
           (or_left (is_first P j.slot.first f.method) (not (nat_lt i (length f.method.params))) f.first) in

@@ -3,7 +3,6 @@ use Rattle.std.proofs.Common.{◌≡◌, ℕ, zero, suc, List, [], ◌∷◌, �
 use Rattle.std.specs.Prelude.{Bool, true, false, slice_get, slice_set, replicate}
 use Rattle.std.specs.Option.{option_and_then}
 use Rattle.std.specs.declared.result.Result.{Result}
-use Rattle.std.specs.declared.result.Result.TheVariants.{Ok, Err}
 use Rattle.std.proofs.lemmas.Option.{same_Some}
 use Rattle.java_core.specs.declared.Ty.{Ty}
 use Rattle.java_core.specs.declared.TyBase.{TyBase}
@@ -17,7 +16,7 @@ use Rattle.java_meaning.specs.Meaning.{on_test, with_cell, element_type, texts}
 use Rattle.run_cover.specs.Families.{Set, Sub, ArePlain}
 use Rattle.run_cover.specs.Watched.{IsOf, Of}
 use Rattle.run_cover.proofs.Lists.{set_stays}
-use Rattle.java_meaning.proofs.Sound.{get_add}
+use Rattle.java_meaning.proofs.Sound.{get_add, fault_has, result_has}
 
 abbrev pub Stays : End → Type 0
 Stays Escaped = ⊥
@@ -170,12 +169,10 @@ some_fine None s k h = fine_stop Wrong s tt
 some_fine (Some a) s k h = h a refl
 
 pub fault_fine : {A : Type 0} (x : Fault) (o : Option A) (s : State) (k : A → Outcome) → ((a : A) → o ≡ Some a → Fine (k a)) → Fine (or_fault x o s k)
-fault_fine x None s k h = fine_stop (Faulted x) s tt
-fault_fine x (Some a) s k h = h a refl
+fault_fine x o s k h = fault_has Fine x o s k (fine_stop (Faulted x) s tt) h
 
 pub result_fine : {A : Type 0} (o : Result A Fault) (s : State) (k : A → Outcome) → ((a : A) → Fine (k a)) → Fine (with_result o s k)
-result_fine (Err x) s k h = fine_stop (Faulted x) s tt
-result_fine (Ok a) s k h = h a
+result_fine o s k h = result_has Fine o s k (λ x. fine_stop (Faulted x) s tt) h
 
 pub step_of_fine : (n : ℕ) (s : State) (k : State → Outcome) → ((m : ℕ) → Fine (k (record s { left = m }))) → Fine (step_of n s k)
 step_of_fine zero s k h = fine_stop Going s tt

@@ -1,7 +1,7 @@
 -- The family of typed sets of a program's facts, and what reads and writes at the expressions of a body leave in them.
-use Rattle.std.proofs.Common.{◌≡◌, ℕ, zero, suc, List, [], ◌∷◌, Option, Some, None, refl, sym, ap, ◌∙◌, subst, arith}
-use Rattle.std.specs.Prelude.{if◌then◌else◌, ◌==◌, Bool, true, false, slice_get, Contains, map}
-use Rattle.std.specs.Option.{option_map, option_and_then}
+use Rattle.std.proofs.Common.{◌≡◌, ℕ, zero, suc, List, Option, Some, None, refl, sym, ap, ◌∙◌, subst, arith}
+use Rattle.std.specs.Prelude.{◌==◌, Bool, true, false, slice_get, Contains}
+use Rattle.std.specs.Option.{option_and_then}
 use Rattle.std.specs.List.{AllByRecursion}
 use Rattle.std.proofs.lemmas.Option.{same_Some}
 use Rattle.std.proofs.lemmas.Bool.{false≢true, eqb-true, and_parts}
@@ -12,7 +12,7 @@ use Rattle.java_core.specs.declared.TyBase.TheVariants.{Int, Boolean, Char, Str,
 use Rattle.java_core.specs.Trees.{Ex, Exs, no_ex, ex_then, create, create_array}
 use Rattle.java_core.specs.Programs.{Plain, PlainMethod}
 use Rattle.java_core.specs.Classes.{below, member_field, slot_of}
-use Rattle.java_core.specs.Types.{Static, a_value, null_value, no_value, or_nothing, class_in, class_of, element_in, field_in, is_subtype, is_sub_base, static}
+use Rattle.java_core.specs.Types.{element_in, field_in, is_subtype, is_sub_base, static}
 use Rattle.java_meaning.specs.Moment.{Kind, an_object, own_type, Spot, held, bound, self_of, result_of, set_static, kept, put_in, touched, tested, ran, Lang}
 use Rattle.java_meaning.specs.Languages.{slot_in}
 use Rattle.fact_model.specs.Items.{site_class}
@@ -22,11 +22,12 @@ use Rattle.fact_model.specs.declared.facts.Facts.{Facts}
 use Rattle.flow_rules.specs.declared.items.ObjectType.{ObjectType}
 use Rattle.flow_rules.specs.declared.items.Operand.{Operand}
 use Rattle.flow_rules.specs.declared.items.PointItem.TheVariants as point
-use Rattle.flow_rules.specs.Operands.{object_in, object_of, object_if, object_static, object_class, object_field, call_slot, type_in}
+use Rattle.flow_rules.specs.Operands.{object_in, object_of, object_field, call_slot, type_in}
 use Rattle.flow_rules.specs.Types.{field_object}
 use Rattle.flow_rules.specs.Parts.{a_load, an_element, a_creation, a_store, an_element_store, is_accessed, parts, parts_of}
 use Rattle.flow_rules.specs.Lists.{point_at, site_in}
 use Rattle.flow_rules.specs.Facts.{numbers, IsFactsOf}
+use Rattle.flow_rules.proofs.TypeLemmas.{class_is}
 use Rattle.run_cover.specs.Families.{Sub, Family, Gives, Reads, Writes, ReadsElement, WritesElement}
 use Rattle.run_cover.specs.Covers.{Sets, has, passes, operand_at, at_point, point_sites, watched, tested_by, called_on}
 use Rattle.run_cover.proofs.Kinded.{site_type, IsPoint, IsCreation, IsBase, IsKindedLoad, IsKindedStore, IsKindedPart, IsKinded}
@@ -47,32 +48,6 @@ sub_sites P Q X Y f q h = passes_map X Y (site_in (numbers P Q) q) f h
 pub passes_all : (X : ℕ → Bool) (z : Option ℕ) → ((s : ℕ) → z ≡ Some s → X s ≡ true) → passes X z ≡ true
 passes_all X None f = refl
 passes_all X (Some s) f = f s refl
-
-pub object_or : (t : Option Ty) → object_static (or_nothing t) ≡ object_if t
-object_or None = refl
-object_or (Some t) = refl
-
-pub get_map : {A B : Type 0} (f : A → B) (xs : List A) (i : ℕ) → slice_get (map f xs) i ≡ option_map f (slice_get xs i)
-get_map f [] i = refl
-get_map f (x ∷ xs) zero = refl
-get_map f (x ∷ xs) (suc i) = get_map f xs i
-
-if_no : (b : Bool) (c : ℕ) → b ≡ false → (if b then Some c else None) ≡ None
-if_no true c e = absurd (false≢true (sym e))
-if_no false c e = refl
-
-class_object_in : (b : TyBase) (d : ℕ) → object_class (object_in b d) ≡ class_in b d
-class_object_in (Class c) zero = refl
-class_object_in (Class c) (suc d) = if_no (suc d == 0) c.0 (grind arith)
-class_object_in Int d = refl
-class_object_in Boolean d = refl
-class_object_in Char d = refl
-class_object_in Str d = refl
-
-pub class_object : (s : Static) → object_class (object_static s) ≡ class_of s
-class_object (a_value t) = class_object_in t.base t.dim
-class_object null_value = refl
-class_object no_value = refl
 
 abbrev pub exs_at : Exs → ℕ → Option Ex
 exs_at no_ex i = None
@@ -186,11 +161,11 @@ module _ (B : ClosedBody) where
   -- an expression's static type, as one of a row
   pub field_seen : (e : Ex) (x : List ℕ) → object_field P (type_in P m k e) x ≡ field_in P (static P g e) x
   unfolding type_in field_in
-  field_seen e x = ap (λ z. option_and_then (λ c. member_field P c x) z) (class_object (static P g e))
+  field_seen e x = ap (λ z. option_and_then (λ c. member_field P c x) z) (class_is (static P g e))
 
   pub slot_seen : (e : Ex) (x : List ℕ) → call_slot P (type_in P m k e) x ≡ slot_in P g e x
   unfolding type_in
-  slot_seen e x = ap (λ z. option_and_then (λ c. slot_of P c x) z) (class_object (static P g e))
+  slot_seen e x = ap (λ z. option_and_then (λ c. slot_of P c x) z) (class_is (static P g e))
 
   pub gives : (d : Ex) (X : ℕ → Bool) → ((s : ℕ) → X s ≡ true → (looks_in P Q F S (at d).created (at d) s ≡ true)
       × (value_sites P Q F S (at d) s ≡ true)) → Gives L Made V g d (λ q. passes X (site_in (numbers P Q) q))

@@ -12,7 +12,8 @@ use Rattle.flow_rules.specs.Labels.{label_sts}
 use Rattle.flow_rules.specs.Parts.{a_set, a_store, an_element_store, a_return, is_accessed, parts_if, parts_set, parts_return, parts_assign, parts_st, parts_arms, parts_body, parts_of}
 use Rattle.flow_rules.specs.Lists.{point_at}
 use Rattle.flow_rules.specs.Facts.{numbers}
-use Rattle.run_cover.specs.Families.{Sub, Included, IncludedIf, Sets as SetsTo, Assigns, IncludedSt, IncludedSts, IncludedArms}
+use Rattle.run_cover.specs.Families.{Sub, Included, Sets as SetsTo, Assigns, included}
+use Rattle.java_meaning.specs.EachStatement.{OfOption, InSt, InSts, InArms}
 use Rattle.run_cover.specs.Covers.{at_point}
 use Rattle.run_cover.proofs.Kinded.{IsPoint, IsKindedReturn, IsKindedPart}
 use Rattle.run_cover.proofs.SeenOperands.{at_seen, part_at, plain}
@@ -87,7 +88,7 @@ module _ (B : ClosedBody) where
             (λ x d. d) q.point w))),
       )
 
-  included_if : (e : Option Ex) → Stands (parts_if P (type_in P m k) m k e) → IncludedIf L Made V g e
+  included_if : (e : Option Ex) → Stands (parts_if P (type_in P m k) m k e) → OfOption (Included L Made V g) e
   included_if None st = tt
   included_if (Some e) st = expressions.included B false e st
 
@@ -129,7 +130,7 @@ module _ (B : ClosedBody) where
   assigns p no_target d st = tt
 
   mutual
-    included_st : (x : St) → Stands (parts_st P (type_in P m k) m k x) → IncludedSt L Made V g x
+    included_st : (x : St) → Stands (parts_st P (type_in P m k) m k x) → InSt (included L Made V g) x
     included_st (declare t i e) st = sets_initial t i e st
     included_st (block t xs) st = included_sts xs st
     included_st (assign t b e) st = assigns t.place b e st
@@ -148,14 +149,14 @@ module _ (B : ClosedBody) where
     included_st (break t) st = tt
     included_st (continue t) st = tt
 
-    included_sts : (xs : Sts) → Stands (sts xs) → IncludedSts L Made V g xs
+    included_sts : (xs : Sts) → Stands (sts xs) → InSts (included L Made V g) xs
     included_sts no_st st = tt
     included_sts (st_then x xs) st = (
       included_st x (left (parts_st P (type_in P m k) m k x) (sts xs) st),
       included_sts xs (right (parts_st P (type_in P m k) m k x) (sts xs) st),
     )
 
-    included_arms : (xs : Arms) → Stands (parts_arms P (type_in P m k) m k xs) → IncludedArms L Made V g xs
+    included_arms : (xs : Arms) → Stands (parts_arms P (type_in P m k) m k xs) → InArms (included L Made V g) xs
     included_arms no_other st = tt
     included_arms (otherwise xs) st = included_sts xs st
     included_arms (arm e xs more) st =
@@ -165,6 +166,6 @@ module _ (B : ClosedBody) where
           included_arms more (right (tree false e ++ sts xs) (parts_arms P (type_in P m k) m k more) st),
         )
 
-  pub included_code : (xs : Sts) → k.body ≡ Some xs → IncludedSts L Made V g (label_sts 0 xs)
+  pub included_code : (xs : Sts) → k.body ≡ Some xs → InSts (included L Made V g) (label_sts 0 xs)
   unfolding parts_of
   included_code xs e = included_sts (label_sts 0 xs) (λ p c. subst (λ z. Contains (parts_body P (type_in P m k) m k z) p) (sym e) c)

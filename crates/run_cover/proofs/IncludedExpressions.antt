@@ -31,7 +31,9 @@ use Rattle.run_cover.proofs.SeenOperands.{at_seen, part_at, plain}
 use Rattle.run_cover.proofs.Each.{left, right, past, here}
 use Rattle.run_cover.proofs.Flows.{when_object, value_in, value_sites, looks_in, IsUsed, HasTypes, creation_looks, cast_goes}
 use Rattle.run_cover.proofs.Calls.{local_is, local_object, local_sites, result_sites, call_goes, StaticGoes, static_goes, super_goes, super_self}
-use Rattle.run_cover.proofs.Included.{ClosedBody, watch, sub_sites, passes_all, object_or, get_map, exs_at}
+use Rattle.run_cover.proofs.Included.{ClosedBody, watch, sub_sites, passes_all, exs_at}
+use Rattle.std.proofs.lemmas.Option.{slice_get-map}
+use Rattle.flow_rules.proofs.TypeLemmas.{object_or}
 use Rattle.run_cover.proofs.Included as sets
 use Rattle.run_cover.proofs.Walked.{walked}
 
@@ -203,7 +205,7 @@ module _ (B : ClosedBody) where
 
   pub local_seen : (t : Tag) (i : ℕ) → type_in P m k (local t i) ≡ local_object P Q F S m i
   unfolding type_in
-  local_seen t i = object_or (slice_get (types_of (k.params ++ k.locals)) i) ∙ ap (λ z. object_if z) (get_map (λ l. l.ty) (k.params ++ k.locals) i)
+  local_seen t i = object_or (slice_get (types_of (k.params ++ k.locals)) i) ∙ ap (λ z. object_if z) (slice_get-map (λ l. l.ty) (k.params ++ k.locals) i)
       ∙ sym (local_is P Q F S m k i stands)
 
   local_sub : (t : Tag) (i : ℕ) → Sub (V.spot (bound m i)) (V.value m (local t i))

@@ -5,8 +5,7 @@ use Rattle.std.specs.Option.{option_map, option_map_or, option_and_then}
 use Rattle.java_core.specs.declared.Program.{Program}
 use Rattle.java_core.specs.Trees.{Sts, at_place, no_place}
 use Rattle.java_core.specs.Programs.{Plain, PlainMethod, program_of}
-use Rattle.java_core.specs.Classes.{slot_of, lookup, super_method}
-use Rattle.java_core.specs.Types.{env_of, class_of, field_in, types_of}
+use Rattle.java_core.specs.Types.{env_of, types_of}
 use Rattle.java_core.specs.Typing.{IsTyped}
 use Rattle.java_core.specs.Formed.{IsFormed}
 use Rattle.java_meaning.specs.Moment.{Nothing, Outcome, unnoted, Escaped}
@@ -17,13 +16,13 @@ use Rattle.java_core.proofs.Untagged.{same_program}
 use Rattle.java_core.specs.Untagged.{bare_sts, untag_body, untag_local, untag_method, untagged}
 use Rattle.java_meaning.specs.Watched.{bare_body, IsBare, EscapesOrIs}
 use Rattle.java_meaning.proofs.Plain.{run_r}
-use Rattle.java_meaning.proofs.WatchedPrograms.{bare_static}
+use Rattle.java_meaning.proofs.WatchedPrograms.{watched_bare}
 use Rattle.fact_model.specs.declared.facts.Facts.{Facts}
 use Rattle.flow_rules.specs.Labels.{label_sts}
 use Rattle.flow_rules.specs.Facts.{IsFactsOf}
 use Rattle.run_cover.specs.Covers.{Sets, labelled_with, labelled_body, watched, CoversEachRun, CoversProgram}
 use Rattle.run_cover.specs.Slotted.{HaveSlots}
-use Rattle.run_cover.proofs.Included.{get_map}
+use Rattle.std.proofs.lemmas.Option.{slice_get-map}
 use Rattle.run_cover.proofs.Untagging.{unlabel_sts, same_env, untyped_params}
 use Rattle.run_cover.proofs.Covered.{typed_covers}
 
@@ -34,7 +33,8 @@ module _ (Q : Plain) (F : Facts) (S : Sets) where
 
   bodies_same : (m : ℕ) → body_of P m ≡ option_map bare_body (labelled_body P Q F S m)
   unfolding labelled_body
-  bodies_same m = ap (λ z. option_and_then (λ k. option_map (λ xs. body_with m k xs) k.body) z) (get_map untag_method Q.methods m) ∙ go (slice_get Q.methods m)
+  bodies_same m = ap (λ z. option_and_then (λ k. option_map (λ xs. body_with m k xs) k.body) z) (slice_get-map untag_method Q.methods m)
+      ∙ go (slice_get Q.methods m)
     where
       code : (k : PlainMethod) (b : Option Sts) → option_map (λ xs. body_with m (untag_method k) xs) (untag_body b)
           ≡ option_map bare_body (option_map (λ xs. body_with m k (label_sts 0 xs)) b)
@@ -66,27 +66,8 @@ module _ (Q : Plain) (F : Facts) (S : Sets) where
       go None = refl
       go (Some k) = code k k.body
 
-  found_same : (o : Option ℕ) → option_and_then (body_of P) o ≡ option_map bare_body (option_and_then (labelled_body P Q F S) o)
-  found_same None = refl
-  found_same (Some m) = bodies_same m
-
   is_bare : IsBare (watched P Q F S) (language_of P)
-  is_bare = record {
-    field = λ g e x. ap (λ z. field_in P z x) (bare_static P g e);
-    slot = λ g e x. ap (λ z. option_and_then (λ c. slot_of P c x) (class_of z)) (bare_static P g e);
-    typed_field = λ f. refl;
-    index = λ c f. refl;
-    fresh = λ c. refl;
-    body = λ c s. found_same (lookup P c s);
-    static_body = bodies_same;
-    super_body = λ c x. found_same (super_method P c x);
-    is_sub = λ s t. refl;
-    statics = refl;
-    sees = λ p v h. refl;
-    sees_all = λ b vs h. refl;
-    note = λ p v h m. refl;
-    note_all = λ b vs h m. refl;
-  }
+  is_bare = watched_bare P (labelled_body P Q F S) _ bodies_same
 
 escapes_or : (o p : Outcome) → EscapesOrIs o p → o.end ≢ Escaped → unnoted o ≡ p
 unfolding EscapesOrIs

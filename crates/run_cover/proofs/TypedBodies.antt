@@ -9,7 +9,7 @@ use Rattle.java_core.specs.Trees.{Tag, Ex, local, static_field, Target, to_local
 use Rattle.java_core.specs.Programs.{Plain}
 use Rattle.java_core.specs.Types.{Static, a_value, null_value, no_value, or_nothing, field_type, field_in, fits, fits_in, static, target_type}
 use Rattle.java_core.specs.Typing.{TypedTarget, TypedTest, TypedSt, TypedSts, TypedArms, t_to_field, t_to_element, t_test, t_declare_as, t_block, t_assign, t_act, t_print, t_choose, t_loop, t_return, t_st_then, t_otherwise, t_arm}
-use Rattle.java_core.specs.Formed.{IsFormed, IsStaticField, FormedTarget, FormedOption, FormedSt, FormedSts, FormedArms, numbers_below, f_to_static, f_to_field, f_to_element, f_some, f_declare, f_block, f_assign, f_act, f_print, f_choose, f_loop, f_return, f_st_then, f_otherwise, f_arm}
+use Rattle.java_core.specs.Formed.{IsStaticField, FormedTarget, FormedOption, FormedSt, FormedSts, FormedArms, numbers_below, f_to_static, f_to_field, f_to_element, f_some, f_declare, f_block, f_assign, f_act, f_print, f_choose, f_loop, f_return, f_st_then, f_otherwise, f_arm}
 use Rattle.flow_rules.specs.declared.items.ObjectType.{ObjectType}
 use Rattle.flow_rules.specs.declared.items.Operand.{Operand}
 use Rattle.flow_rules.specs.Operands.{object_if, object_static, object_field, type_in}
@@ -19,7 +19,7 @@ use Rattle.flow_rules.specs.Facts.{numbers}
 use Rattle.java_core.specs.Untagged.{untag_method, untagged, bare, bare_if, bare_target, bare_st, bare_sts, bare_arms}
 use Rattle.run_cover.proofs.Kinded.{IsBase, IsKindedPart}
 use Rattle.flow_rules.proofs.Listed.{one, more}
-use Rattle.run_cover.proofs.Included.{object_or}
+use Rattle.flow_rules.proofs.TypeLemmas.{object_or}
 use Rattle.run_cover.proofs.Untagging.{unlabel_sts}
 use Rattle.java_meaning.proofs.WatchedPrograms.{bare_static}
 use Rattle.run_cover.proofs.HasRows.{variable_point_of, result_point_of, static_point_of}

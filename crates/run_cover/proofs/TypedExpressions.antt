@@ -10,7 +10,7 @@ use Rattle.java_core.specs.Programs.{Plain, PlainMethod}
 use Rattle.java_core.specs.Classes.{super_method, slot_of}
 use Rattle.java_core.specs.Types.{a_value, types_of, class_of, element_of, Signature, signature_of_method, call_signature, super_signature, static}
 use Rattle.java_core.specs.Typing.{TypedArgs, t_field, t_index, t_call, t_static_call, t_super_call, t_create_array, t_cast, t_instance_of, t_unary, t_binary, t_ex_then}
-use Rattle.java_core.specs.Formed.{IsFormed, FormedExs, IsStaticMethod, f_field, f_index, f_call, f_static_call, f_super_call, f_create_array, f_cast, f_instance_of, f_unary, f_binary, f_ex_then}
+use Rattle.java_core.specs.Formed.{FormedExs, IsStaticMethod, f_field, f_index, f_call, f_static_call, f_super_call, f_create_array, f_cast, f_instance_of, f_unary, f_binary, f_ex_then}
 use Rattle.flow_rules.specs.declared.items.ObjectType.{ObjectType}
 use Rattle.flow_rules.specs.declared.items.Operand.{Operand}
 use Rattle.flow_rules.specs.declared.items.RowItem.{RowItem}

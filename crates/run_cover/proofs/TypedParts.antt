@@ -34,7 +34,8 @@ use Rattle.java_core.specs.Untagged.{untag_method, untagged, bare, bare_all}
 use Rattle.run_cover.specs.Slotted.{HaveSlots}
 use Rattle.run_cover.proofs.Kinded.{site_type, IsPoint, IsCreation}
 use Rattle.flow_rules.proofs.Listed.{one, when_has, at_left}
-use Rattle.run_cover.proofs.Included.{get_map, object_or, class_object}
+use Rattle.std.proofs.lemmas.Option.{slice_get-map}
+use Rattle.flow_rules.proofs.TypeLemmas.{object_or, class_is, unary_none, binary_none}
 use Rattle.run_cover.proofs.Untagging.{untyped_params}
 use Rattle.run_cover.proofs.Unique.{creation_type}
 use Rattle.java_meaning.proofs.WatchedPrograms.{bare_static}
@@ -42,7 +43,7 @@ use Rattle.java_meaning.proofs.Moves.{then_some}
 use Rattle.java_meaning.proofs.Calls.{mapped_some}
 use Rattle.run_cover.proofs.HasNumbers.{this_row, form_row, site_there, form_point, own_listed}
 use Rattle.run_cover.proofs.HasRows.{method_of, of_method, field_row_of, in_slot, return_row, result_row_of, variable_row_of}
-use Rattle.run_cover.proofs.Types.{unary_none, binary_none, fits_object, of_element, class_apart, object_called}
+use Rattle.run_cover.proofs.Types.{fits_object, of_element, class_apart, object_called}
 use Rattle.run_cover.proofs.Found.{nearest_some}
 use Rattle.run_cover.proofs.Walked.{walked}
 use Rattle.run_cover.proofs.Each.{left, here}
@@ -78,7 +79,7 @@ module _ (B : TypedBody) where
 
   pub local_type : (t : Tag) (i : ℕ) → T (local t i) ≡ variable_object k i
   unfolding type_in
-  local_type t i = object_or (slice_get (types_of (k.params ++ k.locals)) i) ∙ ap (λ z. object_if z) (get_map (λ l. l.ty) (k.params ++ k.locals) i)
+  local_type t i = object_or (slice_get (types_of (k.params ++ k.locals)) i) ∙ ap (λ z. object_if z) (slice_get-map (λ l. l.ty) (k.params ++ k.locals) i)
 
   pub static_type : (t : Tag) (f : ℕ) → T (static_field t f) ≡ field_object P f
   unfolding type_in
@@ -90,7 +91,7 @@ module _ (B : TypedBody) where
 
   pub field_found : (e : Ex) (x : List ℕ) → object_field P (T e) x ≡ field_in P (static P g e) x
   unfolding type_in field_in
-  field_found e x = ap (λ z. option_and_then (λ c. member_field P c x) z) (class_object (static P g e))
+  field_found e x = ap (λ z. option_and_then (λ c. member_field P c x) z) (class_is (static P g e))
 
   pub field_class : (s : Static) (x : List ℕ) (f : ℕ) → field_in P s x ≡ Some f → (c : ℕ) × (class_of s ≡ Some c)
   unfolding field_in
@@ -126,7 +127,7 @@ module _ (B : TypedBody) where
 
   pub slot_found : (e : Ex) (x : List ℕ) → call_slot P (T e) x ≡ option_and_then (λ c. slot_of P c x) (class_of (static P g (bare e)))
   unfolding type_in
-  slot_found e x = ap (λ z. option_and_then (λ c. slot_of P c x) z) (class_object (static P g e) ∙ ap (λ z. class_of z) (sym (bare_static P g e)))
+  slot_found e x = ap (λ z. option_and_then (λ c. slot_of P c x) z) (class_is (static P g e) ∙ ap (λ z. class_of z) (sym (bare_static P g e)))
 
   pub call_type : (t : Tag) (e : Ex) (x : List ℕ) (es : Exs) (sig : Signature) → call_signature P (static P g (bare e)) x ≡ Some sig
       → T (call t e x es) ≡ object_if sig.result
@@ -279,7 +280,7 @@ module _ (B : TypedBody) where
   pub param_typed : (h : PlainMethod) (i : ℕ) (u : Ty) (r : ObjectType) → slice_get (types_of h.params) i ≡ Some u → object_of u ≡ Some r
       → (w : ObjectType) × (variable_object h i ≡ Some w) × (i < length h.params)
   param_typed h i u r e o =
-      let v = mapped_some (λ (v : PlainLocal). v.ty) (slice_get h.params i) u (sym (get_map (λ v. v.ty) h.params i) ∙ e) in (
+      let v = mapped_some (λ (v : PlainLocal). v.ty) (slice_get h.params i) u (sym (slice_get-map (λ v. v.ty) h.params i) ∙ e) in (
         r,
         ap (λ z. object_if (option_map (λ v. v.ty) z)) (at_left h.params h.locals i v.0 v.1) ∙ ap (λ z. object_of z) v.2
             ∙ o,

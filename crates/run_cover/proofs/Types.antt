@@ -1,6 +1,6 @@
 -- Which types are those of a row, and how typing keeps them.
 use Rattle.std.proofs.Common.{◌≡◌, ℕ, zero, suc, List, Option, Some, None, refl, sym, ap, ◌∙◌, subst, arith, ⊎_elim}
-use Rattle.std.specs.Prelude.{◌⊎◌, ◌<◌, ◌==◌, ◌&&◌, if◌then◌else◌, Bool, true, false, slice_get}
+use Rattle.std.specs.Prelude.{◌<◌, ◌==◌, ◌&&◌, if◌then◌else◌, Bool, true, false, slice_get}
 use Rattle.std.specs.Option.{option_map, option_and_then, is_some}
 use Rattle.std.proofs.lemmas.Bool.{false≢true, or_cases, and_parts}
 use Rattle.std.proofs.lemmas.Option.{same_Some}
@@ -9,29 +9,11 @@ use Rattle.java_meaning.proofs.Calls.{mapped_some}
 use Rattle.java_core.specs.declared.Ty.{Ty}
 use Rattle.java_core.specs.declared.TyBase.{TyBase}
 use Rattle.java_core.specs.declared.TyBase.TheVariants.{Int, Boolean, Char, Str, Class}
-use Rattle.java_core.specs.declared.UnOp.{UnOp}
-use Rattle.java_core.specs.declared.UnOp.TheVariants as un
-use Rattle.java_core.specs.declared.BinOp.{BinOp}
-use Rattle.java_core.specs.declared.BinOp.TheVariants as bin
 use Rattle.java_core.specs.Programs.{Plain, PlainSlot}
 use Rattle.java_core.specs.Classes.{slot_of}
-use Rattle.java_core.specs.Types.{Static, a_value, null_value, no_value, or_nothing, class_in, class_of, element_in, element_of, is_base, is_only, is_string, is_sub_base, is_subtype, fits, StringMethod, LengthOf, CharAt, Equals, string_method, string_result, Signature, signature_of_slot, signature_of_string, object_signature, call_signature, unary_type, sum_type, binary_type}
+use Rattle.java_core.specs.Types.{Static, a_value, null_value, no_value, or_nothing, class_in, class_of, element_in, element_of, is_base, is_only, is_string, is_sub_base, is_subtype, fits, StringMethod, LengthOf, CharAt, Equals, string_method, string_result, Signature, signature_of_slot, signature_of_string, object_signature, call_signature}
 use Rattle.flow_rules.specs.declared.items.ObjectType.{ObjectType}
 use Rattle.flow_rules.specs.Operands.{object_in, object_of, object_if, object_static}
-
-pub unary_none : (o : UnOp) → object_of (unary_type o) ≡ None
-unary_none un.Plus = refl
-unary_none un.Minus = refl
-unary_none un.Flip = refl
-unary_none un.Not = refl
-
-sum_none : (b : Bool) → object_of (sum_type b) ≡ None
-sum_none true = refl
-sum_none false = refl
-
-pub binary_none : (o : BinOp) (s t : Static) → object_of (binary_type o s t) ≡ None
-binary_none (bin.Int o) s t = sum_none _
-binary_none _ s t = refl
 
 string_none : (m : StringMethod) → object_of (string_result m) ≡ None
 string_none LengthOf = refl

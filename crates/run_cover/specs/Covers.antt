@@ -5,10 +5,10 @@ use Rattle.std.specs.List.{AllByRecursion}
 use Rattle.kaba_base.specs.declared.ColId.{ColId}
 use Rattle.java_core.specs.Trees.{Ex, call, cast, instance_of}
 use Rattle.java_core.specs.Programs.{Plain, PlainMethod}
-use Rattle.java_core.specs.Classes.{lookup, super_method}
+use Rattle.java_meaning.specs.Watched.{watched_with}
 use Rattle.java_meaning.specs.Moment.{Value, Number, Truth, CodeUnit, Nothing, Text, Object, Cell, Spot, held, bound, self_of, result_of, set_static, kept, put_in, touched, tested, ran, unnoted, Escaped, Body, Lang}
 use Rattle.java_meaning.specs.Meaning.{run_in}
-use Rattle.java_meaning.specs.Languages.{body_with, language_of, run}
+use Rattle.java_meaning.specs.Languages.{body_with, run}
 use Rattle.fact_model.specs.Flowing.{Fact, in_point, in_cell, Inclusion}
 use Rattle.kaba_bits.specs.Sets.{bit, row}
 use Rattle.fact_model.specs.declared.sets.PointsTo.{PointsTo}
@@ -151,14 +151,12 @@ module _ (P Q : Plain) (F : Facts) (S : Sets) where
 
   -- what a run asks of the program, under the watch of the sets
   abbrev pub watched : Lang
-  watched =
-      record (language_of P) {
-        body = λ c s. option_and_then labelled_body (lookup P c s);
-        static_body = labelled_body;
-        super_body = λ c x. option_and_then labelled_body (super_method P c x);
-        sees = λ p v h. is_seen (spot_set p) v h;
-        sees_all = λ b vs h. are_seen b 0 vs h;
-      }
+  watched = watched_with P labelled_body (record {
+    sees = λ p v h. is_seen (spot_set p) v h;
+    sees_all = λ b vs h. are_seen b 0 vs h;
+    note = λ p v h m. m;
+    note_all = λ b vs h m. m;
+  })
 
 -- no run of the program under the watch of sets that the inclusions close escapes: each object and array that a local, a parameter, `this`, a field,
 -- an element or a result holds comes from a site in the set that the facts give it

@@ -1,8 +1,9 @@
 -- Families of sets: which creations what a run holds may come from, and when all that a body does stays in the sets.
 use Rattle.std.specs.Prelude.{◌≡◌, ℕ, suc, Bool, true, List, Option, Some, None, slice_get}
 use Rattle.java_core.specs.declared.Ty.{Ty}
-use Rattle.java_core.specs.Trees.{Ex, Exs, no_ex, ex_then, number, character, text, truth, null, this, local, static_field, own_field, field, index, call, static_call, super_call, create, create_array, cast, instance_of, unary, binary, Target, to_local, to_static, to_own, to_field, to_element, no_target, St, Sts, Arms, declare, block, assign, act, print, choose, loop, return, break, continue, no_st, st_then, no_other, otherwise, arm}
+use Rattle.java_core.specs.Trees.{Ex, Exs, no_ex, ex_then, number, character, text, truth, null, this, local, static_field, own_field, field, index, call, static_call, super_call, create, create_array, cast, instance_of, unary, binary, Target, to_local, to_static, to_own, to_field, to_element, no_target}
 use Rattle.java_core.specs.Types.{Env, class_type, element_in}
+use Rattle.java_meaning.specs.EachStatement.{Asked, InSts}
 use Rattle.java_meaning.specs.Moment.{Value, Object, Kind, an_object, an_array, own_type, Spot, held, bound, self_of, result_of, set_static, kept, put_in, touched, tested, ran, Body, Lang}
 use Rattle.java_meaning.specs.Meaning.{words_type}
 
@@ -132,10 +133,6 @@ module _ (L : Lang) (Made : Option ℕ → Kind → Type 0) (V : Family) where
       IncludedAll no_ex = Unit {0}
       IncludedAll (ex_then e es) = Included e × IncludedAll es
 
-    abbrev pub IncludedIf : Option Ex → Type 0
-    IncludedIf None = Unit {0}
-    IncludedIf (Some e) = Included e
-
     -- what an expression gives, where there is one, goes to a spot
     abbrev pub Sets : Option Ex → Spot → Type 0
     Sets None p = Unit {0}
@@ -150,31 +147,17 @@ module _ (L : Lang) (Made : Option ℕ → Kind → Type 0) (V : Family) where
     Assigns no_target d = Unit {0}
 
     -- all that statements do stays in the sets
-    abbrev mutual
-      pub IncludedSt : St → Type 0
-      IncludedSt (declare t x e) = Sets e (bound g.body x)
-      IncludedSt (block t xs) = IncludedSts xs
-      IncludedSt (assign t b e) = Assigns b e
-      IncludedSt (act t e) = Included e
-      IncludedSt (print t n e) = IncludedIf e
-      IncludedSt (choose t xs) = IncludedArms xs
-      IncludedSt (loop t is_while first test step body) = IncludedSts first × IncludedIf test × IncludedSts step × IncludedSts body
-      IncludedSt (return t e) = Sets e (result_of g.body)
-      IncludedSt (break t) = Unit {0}
-      IncludedSt (continue t) = Unit {0}
-
-      pub IncludedSts : Sts → Type 0
-      IncludedSts no_st = Unit {0}
-      IncludedSts (st_then x xs) = IncludedSt x × IncludedSts xs
-
-      pub IncludedArms : Arms → Type 0
-      IncludedArms no_other = Unit {0}
-      IncludedArms (otherwise xs) = IncludedSts xs
-      IncludedArms (arm e xs more) = Included e × IncludedSts xs × IncludedArms more
+    abbrev pub included : Asked
+    included = record {
+      Of = Included;
+      Declared = λ x e. Sets e (bound g.body x);
+      Assigned = Assigns;
+      Returned = λ e. Sets e (result_of g.body);
+    }
 
   -- a body whose code stays in the sets, and that begins and falls off its end with no object
   pub record IsIncluded (b : Body) : Type 0 where
-    pub code : IncludedSts b.env b.code
+    pub code : InSts (included b.env) b.code
     pub rest : ArePlain b.rest
     pub ends : (a : ℕ) → b.ends ≡ Object a → ⊥
 

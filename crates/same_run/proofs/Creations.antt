@@ -13,7 +13,6 @@ use Rattle.java_core.specs.declared.TyBase.{TyBase}
 use Rattle.java_core.specs.declared.TyBase.TheVariants.{Int, Boolean, Char, Str, Class}
 use Rattle.java_core.specs.Programs.{Plain, PlainField, PlainMethod}
 use Rattle.java_core.specs.Classes.{below, is_field_of, own_field_of, field_of, member_field}
-use Rattle.java_core.specs.Typing.{IsTyped}
 use Rattle.java_core.proofs.Positions.{passes-position, position-passes}
 use Rattle.java_core.proofs.Subclasses.{subclass-below, nearest-here}
 use Rattle.java_meaning.specs.Moment.{Kind, an_array, Body}
@@ -22,16 +21,11 @@ use Rattle.java_meaning.specs.Languages.{index_of, fresh_of, language_of}
 use Rattle.java_meaning.proofs.Holds.{some_there}
 use Rattle.java_meaning.proofs.Layouts.{members, fresh}
 use Rattle.fact_model.specs.Items.{site_row, site_class, row_class, column_class}
-use Rattle.fact_model.specs.InRange.{InRange}
-use Rattle.fact_model.specs.InOrder.{InOrder}
-use Rattle.fact_model.specs.Flowing.{AreSets}
-use Rattle.fact_model.specs.Entries.{IsTable}
 use Rattle.fact_model.specs.declared.facts.Facts.{Facts}
 use Rattle.fact_model.specs.declared.sets.PointsTo.{PointsTo}
 use Rattle.fact_model.specs.declared.sets.Table.{Table}
 use Rattle.fact_model.proofs.OrderLemmas.{column-above}
-use Rattle.hier_model.specs.Hierarchies.{Hierarchy, IsHierarchyOf, place_of_row}
-use Rattle.hier_rules.specs.First.{first_broken}
+use Rattle.hier_model.specs.Hierarchies.{Hierarchy, place_of_row}
 use Rattle.flow_rules.specs.declared.items.ObjectType.{ObjectType}
 use Rattle.flow_rules.specs.declared.items.Operand.{Operand}
 use Rattle.flow_rules.specs.declared.items.ColumnItem.{ColumnItem}
@@ -40,18 +34,17 @@ use Rattle.flow_rules.specs.declared.items.RowItem.TheVariants as row
 use Rattle.flow_rules.specs.Operands.{object_of, object_in}
 use Rattle.flow_rules.specs.Parts.{a_creation, parts_of}
 use Rattle.flow_rules.specs.Numbered.{row_number, site_number, sites_of}
-use Rattle.flow_rules.specs.Facts.{numbers, site_info, IsFactsOf}
+use Rattle.flow_rules.specs.Facts.{numbers, site_info}
 use Rattle.run_cover.specs.Covers.{solved}
 use Rattle.java_core.specs.Untagged.{untagged, untag_field}
 use Rattle.run_cover.specs.Slotted.{HaveSlots}
-use Rattle.run_cover.proofs.Included.{get_map}
+use Rattle.std.proofs.lemmas.Option.{slice_get-map}
 use Rattle.run_cover.proofs.Kinded.{site_type, IsCreation, IsKindedPart}
 use Rattle.run_cover.proofs.Covered.{method_parts}
 use Rattle.run_cover.proofs.Unique.{creation_type}
 use Rattle.facts_order.proofs.Classes.{below_subclass}
 use Rattle.facts_order.proofs.Columns.{Stands, for_field, for_declaration, for_body, for_mark, column_stands, numbered_column}
-use Rattle.facts_order.proofs.Items.{column_at, site_at as site_listed}
-use Rattle.facts_order.proofs.Pairs.{IsPlaced}
+use Rattle.flow_rules.proofs.NumberedItems.{numbered_columns, numbered_sites}
 use Rattle.facts_order.proofs.Sites.{site_types, site_part, created_row}
 use Rattle.flow_rules.proofs.Listed.{at_map, at_below}
 use Rattle.rebuild_model.specs.Renaming.{retyped}
@@ -63,7 +56,7 @@ use Rattle.twin_runs.specs.Twins.{value_at}
 use Rattle.twin_runs.proofs.Shapes.{same_default}
 use Rattle.twin_runs.proofs.States.{at_place}
 use Rattle.same_run.proofs.Ties.{type_at, type_over, CreationTied}
-use Rattle.same_run.proofs.Sited.{MadeAs, has, has_in, new_field, new_field_is, node_of, has_offered, some_test}
+use Rattle.same_run.proofs.Sited.{IsGiven, MadeAs, has, has_in, new_field, new_field_is, node_of, has_offered, some_test}
 use Rattle.same_run.proofs.Shapes.{shape_kept}
 
 type_of_class : (v : Ty) (x : ObjectType) → object_of v ≡ Some x → v ≡ type_at x
@@ -87,10 +80,9 @@ retyped_free (Some w) v e = go v.base v.dim e
     go Str d h = refl
     go (Class c) d h = absurd (cc)
 
-module _ {Q : Plain} {F : Facts} {H : Hierarchy} {W : Plain} (K : Known (untagged Q) Q F H W) (placed : IsPlaced (untagged Q) Q) (typed : IsTyped (untagged Q))
-    (facts : IsFactsOf (untagged Q) Q F) (pt : PointsTo) (t : Table)
-    (A : InRange F) (O : InOrder F) (S : AreSets F pt) (B : IsTable F t) (table : H.table ≡ t.rows.items) (none : first_broken F pt H ≡ None)
-    (hierarchy : IsHierarchyOf F H) where
+module _ {Q : Plain} {F : Facts} {H : Hierarchy} {W : Plain} (K : Known (untagged Q) Q F H W) (pt : PointsTo) (t : Table) (X : IsGiven Q F H pt t) where
+  open X use {placed, typed, facts, in_range as A, in_order as O, sets as S, is_table as B, table, none, hierarchy}
+
   abbrev P : Plain
   P = untagged Q
 
@@ -119,9 +111,9 @@ module _ {Q : Plain} {F : Facts} {H : Hierarchy} {W : Plain} (K : Known (untagge
   instance : (f : ℕ) (k : PlainField) (c : ℕ) → (numbers P Q).column (column.Fld f) ≡ Some c → slice_get P.fields f ≡ Some k → k.is_static ≡ false
   unfolding numbers
   instance f k c e at =
-      let x = column_at P Q (column.Fld f) c e in
+      let x = (numbered_columns P Q).at (column.Fld f) c e in
       let y = field_stands x.0.item (column_stands P Q c x.0 x.1) f x.2 in
-      ap (λ z. z.is_static) (same_Some k (untag_field y.0) (sym at ∙ get_map untag_field Q.fields f ∙ ap (option_map untag_field) y.1)) ∙ y.2
+      ap (λ z. z.is_static) (same_Some k (untag_field y.0) (sym at ∙ slice_get-map untag_field Q.fields f ∙ ap (option_map untag_field) y.1)) ∙ y.2
 
   -- an object has each field that the row of its site has
   field_there : (s f : ℕ) → s < length F.sites.items → has_in K t s f ≡ true → (o : Offers K (node s) (column.Fld f))
@@ -140,7 +132,7 @@ module _ {Q : Plain} {F : Facts} {H : Hierarchy} {W : Plain} (K : Known (untagge
       (own_member f k x.1.is.old_stands (instance f k c.0 c.1 x.1.is.old_stands))
     where
       owner_is : (f : ℕ) (k : PlainField) → slice_get P.fields f ≡ Some k → option_map_or (λ (z : PlainField). z.owner) (slice_get Q.fields f) 0 ≡ k.owner
-      owner_is f k e = go (slice_get Q.fields f) (sym (get_map untag_field Q.fields f) ∙ e)
+      owner_is f k e = go (slice_get Q.fields f) (sym (slice_get-map untag_field Q.fields f) ∙ e)
         where
           go : (z : Option PlainField) → option_map untag_field z ≡ Some k → option_map_or (λ (z : PlainField). z.owner) z 0 ≡ k.owner
           go None q = absurd (cc)
@@ -214,7 +206,7 @@ module _ {Q : Plain} {F : Facts} {H : Hierarchy} {W : Plain} (K : Known (untagge
 
         site_below : (n s : ℕ) → site_number P Q n ≡ Some s → s < length F.sites.items
         site_below n s es =
-            let x = site_listed P Q n s es in at_below F.sites.items s (site_info x.0)
+            let x = (numbered_sites P Q).at n s es in at_below F.sites.items s (site_info x.0)
             (subst (λ z. slice_get z s ≡ Some (site_info x.0)) (sym facts.sites) (at_map site_info (sites_of P Q) s x.0 x.1))
 
         values_of : (n : ℕ) (y : ObjectType) (c s : ℕ) → site_number P Q n ≡ Some s → y ≡ site_type F s → T.type_of (node s) ≡ c → (f : ℕ)
@@ -229,7 +221,7 @@ module _ {Q : Plain} {F : Facts} {H : Hierarchy} {W : Plain} (K : Known (untagge
         array_over : (n s : ℕ) (v : Ty) → v ≡ type_at (site_type F s) → site_number P Q n ≡ Some s
             → retyped (R.row_type (row.New n)) v ≡ type_over (T.type_of (node s)) (site_type F s)
         array_over n s v is es =
-            let x = site_listed P Q n s es in
+            let x = (numbered_sites P Q).at n s es in
             let p = site_part P Q placed K.old typed s x.0 x.1 in
             let row_n : row_number P Q (row.New n) ≡ Some x.0.row = ap (λ z. row_number P Q (row.New z)) (sym x.2) ∙ p.row_number_is in
             let at = created_row P Q placed K.old typed F facts n x.0.row (record { 0 = s }) row_n es in

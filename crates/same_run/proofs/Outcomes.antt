@@ -16,16 +16,12 @@ use Rattle.java_core.specs.declared.TyBase.TheVariants.{Int, Boolean, Char, Str,
 use Rattle.java_core.specs.Programs.{Plain, PlainMethod}
 use Rattle.java_core.specs.Classes.{below}
 use Rattle.java_core.specs.Types.{element_in, is_sub_base, is_subtype}
-use Rattle.java_core.specs.Typing.{IsTyped}
 use Rattle.java_core.proofs.Subclasses.{below-subclass, subclass-below}
 use Rattle.java_meaning.specs.Moment.{Kind, an_object, an_array, own_type}
 use Rattle.java_meaning.specs.Meaning.{element_type}
 use Rattle.fact_model.specs.Items.{site_at, site_row, site_class, row_class}
 use Rattle.fact_model.specs.Classes.{below as facts_below}
-use Rattle.fact_model.specs.InRange.{InRange, IsClass, IsPoint, IsRow}
-use Rattle.fact_model.specs.InOrder.{InOrder}
-use Rattle.fact_model.specs.Flowing.{AreSets}
-use Rattle.fact_model.specs.Entries.{IsTable}
+use Rattle.fact_model.specs.InRange.{IsClass, IsPoint, IsRow}
 use Rattle.fact_model.specs.declared.facts.Facts.{Facts}
 use Rattle.fact_model.specs.declared.facts.TestInfo.{TestInfo}
 use Rattle.fact_model.specs.declared.facts.StoreInfo.{StoreInfo}
@@ -33,10 +29,9 @@ use Rattle.fact_model.specs.declared.facts.SiteInfo.{SiteInfo}
 use Rattle.fact_model.specs.declared.sets.PointsTo.{PointsTo}
 use Rattle.fact_model.specs.declared.sets.Table.{Table}
 use Rattle.fact_model.proofs.ClassLemmas.{below-exact}
-use Rattle.hier_model.specs.Hierarchies.{Hierarchy, IsHierarchyOf, place_of_row, any_below}
+use Rattle.hier_model.specs.Hierarchies.{Hierarchy, place_of_row, any_below}
 use Rattle.hier_model.proofs.AnyLemmas.{any_below_has}
 use Rattle.hier_rules.specs.Asked.{is_test_at, is_array_at, has_array, is_store_at, is_tested, is_stored, is_element, meets, places_of, bound_of}
-use Rattle.hier_rules.specs.First.{first_broken}
 use Rattle.hier_begin.proofs.GivenLemmas.{point_site}
 use Rattle.tree_laws.proofs.ReadLemmas.{bound_above}
 use Rattle.flow_rules.specs.declared.items.ObjectType.{ObjectType}
@@ -44,13 +39,12 @@ use Rattle.flow_rules.specs.declared.items.Operand.{Operand}
 use Rattle.flow_rules.specs.Operands.{object_of, object_in}
 use Rattle.flow_rules.specs.Parts.{Part, a_test, an_element_store, parts_of}
 use Rattle.flow_rules.specs.Lists.{both, these, point_at, row_at, site_in, stores_of, tests_of}
-use Rattle.flow_rules.specs.Facts.{numbers, gathered, IsFactsOf}
+use Rattle.flow_rules.specs.Facts.{numbers, gathered}
 use Rattle.run_cover.specs.Covers.{passes, point_sites, held_sites, held_in, or_itself, solved}
 use Rattle.java_core.specs.Untagged.{untagged}
 use Rattle.run_cover.proofs.Kinded.{site_type}
 use Rattle.flow_rules.proofs.Listed.{one, place_has, below_at, index_at, contains_at}
 use Rattle.facts_order.proofs.Classes.{subclass_below, below_subclass}
-use Rattle.facts_order.proofs.Pairs.{IsPlaced}
 use Rattle.facts_order.proofs.Sites.{site_types}
 use Rattle.facts_order.proofs.Tests.{gathered_has}
 use Rattle.rebuild_model.specs.Renaming.{renaming_of}
@@ -60,13 +54,12 @@ use Rattle.rebuild_given.proofs.Rest.{half, fails}
 use Rattle.rebuild_types.proofs.Asked.{new_class}
 use Rattle.rebuild_types.proofs.Served.{row_of_class, row_in_is}
 use Rattle.same_run.proofs.Ties.{type_at, type_over}
-use Rattle.same_run.proofs.Sited.{MadeAs, node_of, free_apart, IsMet, met_at, met_passing}
+use Rattle.same_run.proofs.Sited.{IsGiven, MadeAs, node_of, free_apart, IsMet, met_at, met_passing}
 use Rattle.java_meaning.proofs.Operators.{and_false}
 
-module _ {Q : Plain} {F : Facts} {H : Hierarchy} {W : Plain} (K : Known (untagged Q) Q F H W) (placed : IsPlaced (untagged Q) Q) (typed : IsTyped (untagged Q))
-    (facts : IsFactsOf (untagged Q) Q F) (pt : PointsTo) (t : Table)
-    (A : InRange F) (O : InOrder F) (S : AreSets F pt) (B : IsTable F t) (table : H.table ≡ t.rows.items) (none : first_broken F pt H ≡ None)
-    (hierarchy : IsHierarchyOf F H) where
+module _ {Q : Plain} {F : Facts} {H : Hierarchy} {W : Plain} (K : Known (untagged Q) Q F H W) (pt : PointsTo) (t : Table) (X : IsGiven Q F H pt t) where
+  open X use {placed, typed, facts, in_range as A, in_order as O, sets as S, is_table as B, table, none, hierarchy}
+
   abbrev P : Plain
   P = untagged Q
 
@@ -296,28 +289,35 @@ module _ {Q : Plain} {F : Facts} {H : Hierarchy} {W : Plain} (K : Known (untagge
         → is_subtype P (own_type x) u ≡ is_subtype W (own_type y) v
     store_same w b o i pb po q r a c x y u v made held eu ev mq mr = go (site_in (numbers P Q) q) (site_in (numbers P Q) r) refl refl
       where
+        -- the types of the elements, where the array has a site
+        elements : (s : ℕ) → site_in (numbers P Q) q ≡ Some s
+            → ((d : ℕ) × ((site_type F s).dim ≡ suc d) × (u ≡ record { base = Class (site_type F s).class; dim = d }))
+            × ((d : ℕ) × ((site_at F s).dim ≡ suc d) × (v ≡ record { base = Class (record { 0 = T.type_of (node s) }); dim = d }))
+        elements s ez =
+            let old = array_of a u eu in
+            let new = array_of c v ev in
+            let z = made.sited s ez in (
+              element_is old.array u (site_type F s) old.element (ap own_type (sym old.is) ∙ z.0),
+              element_is new.array v (record { class = record { 0 = T.type_of (node s) }; dim = (site_at F s).dim }) new.element
+                  (ap own_type (sym new.is) ∙ z.1),
+            )
+
         go : (z s : Option ℕ) → site_in (numbers P Q) q ≡ z → site_in (numbers P Q) r ≡ s → is_subtype P (own_type x) u ≡ is_subtype W (own_type y) v
         go None None ez es = ap (λ k. is_subtype P (own_type x) k) (same_Some u v (sym eu ∙ ap element_type (sym (made.free ez).1) ∙ ev))
             ∙ both_free (own_type x) v ((held.free es).0) ∙ ap (λ k. is_subtype W (own_type k) v) (sym (held.free es).1)
         go None (Some s) ez es = free_store q a c u v made ez eu ev (own_type x) (own_type y) (site_type F s) (T.type_of (node s)) (held.sited s es).0
             (held.sited s es).1
         go (Some s) None ez es =
-            let old = array_of a u eu in
-            let z = made.sited s ez in
-            let e = element_is old.array u (site_type F s) old.element (ap own_type (sym old.is) ∙ z.0) in
-            let new = array_of c v ev in
-            let f = element_is new.array v (record { class = record { 0 = T.type_of (node s) }; dim = (site_at F s).dim }) new.element
-            (ap own_type (sym new.is) ∙ z.1) in
+            let both = elements s ez in
+            let e = both.0 in
+            let f = both.1 in
             ap (λ k. is_subtype P (own_type x) k) e.2 ∙ free_apart P (own_type x) (record { class = (site_at F s).class; dim = e.0 }) (held.free es).0
             ∙ sym (ap (λ k. is_subtype W (own_type k) v) (held.free es).1 ∙ ap (λ k. is_subtype W (own_type x) k) f.2
             ∙ free_apart W (own_type x) (record { class = record { 0 = T.type_of (node s) }; dim = f.0 }) (held.free es).0)
         go (Some s) (Some j) ez es =
-            let old = array_of a u eu in
-            let z = made.sited s ez in
-            let e = element_is old.array u (site_type F s) old.element (ap own_type (sym old.is) ∙ z.0) in
-            let new = array_of c v ev in
-            let f = element_is new.array v (record { class = record { 0 = T.type_of (node s) }; dim = (site_at F s).dim }) new.element
-            (ap own_type (sym new.is) ∙ z.1) in
+            let both = elements s ez in
+            let e = both.0 in
+            let f = both.1 in
             let dims : e.0 ≡ f.0 = same_pred e.0 f.0 (sym e.1 ∙ f.1) in
             let g = held.sited j es in
             let array = held_point b q s pb ez mq in

@@ -1,5 +1,5 @@
 -- The row of the flow point of an operand is the operand's own.
-use Rattle.std.proofs.Common.{◌≡◌, ℕ, ◌<◌, List, [], ◌∷◌, Some, None, length, refl, sym, ap, ◌∙◌}
+use Rattle.std.proofs.Common.{◌≡◌, ℕ, ◌<◌, List, [], ◌∷◌, Option, Some, None, length, refl, sym, ap, ◌∙◌}
 use Rattle.std.specs.Prelude.{Bool, true, false, slice_get, Contains}
 use Rattle.std.proofs.lemmas.Option.{same_Some}
 use Rattle.java_core.specs.Trees.{Ex, number, character, text, truth, null, this, local, static_field, own_field, field, index, call, static_call, super_call, create, create_array, cast, instance_of, unary, binary}
@@ -13,6 +13,7 @@ use Rattle.flow_rules.specs.declared.items.Operand.{Operand}
 use Rattle.flow_rules.specs.declared.items.PointAt.{PointAt}
 use Rattle.flow_rules.specs.declared.items.PointItem.{PointItem}
 use Rattle.flow_rules.specs.declared.items.PointItem.TheVariants as point
+use Rattle.flow_rules.specs.declared.items.RowItem.{RowItem}
 use Rattle.flow_rules.specs.declared.items.RowItem.TheVariants as row
 use Rattle.flow_rules.specs.Operands.{object_field, call_slot, call_declaration, operands_of, this_operand, variable_row, type_in}
 use Rattle.flow_rules.specs.Parts.{Part, a_load, an_element, a_creation, a_call, a_static_call, a_super_call, a_test, is_accessed, parts_of}
@@ -26,21 +27,26 @@ use Rattle.run_cover.proofs.Walked.{walked}
 use Rattle.run_cover.proofs.Each.{right, here}
 
 module _ (P Q : Plain) (placed : IsPlaced P Q) (formed : IsFormed P) (typed : IsTyped P) (F : Facts) (facts : IsFactsOf P Q F) where
-  -- the rows of variables, `this` and static fields
+  -- the rows of static fields and of `this`
+  abbrev plain_row : PointItem → Option RowItem
+  plain_row (point.Static f) = Some (row.Field f)
+  plain_row (point.This m) = Some (row.This m)
+  plain_row _ = None
+
+  own_row : (a : PointAt) (j : RowItem) → Follows P Q a → plain_row a.item ≡ Some j → a.row ≡ j
+  own_row a j (a_static g k e i r) h = r ∙ same_Some _ _ (ap plain_row (sym i) ∙ h)
+  own_row a j (a_this n k e i r) h = r ∙ same_Some _ _ (ap plain_row (sym i) ∙ h)
+  own_row a j (a_variable n k x e i r) h = absurd (let d = ap plain_row (sym i) ∙ h in cc)
+  own_row a j (a_result n k e i r) h = absurd (let d = ap plain_row (sym i) ∙ h in cc)
+  own_row a j (a_form n k p e c g) h = absurd (let d = ap plain_row (sym (given_labelled P Q placed formed typed n k p a e c g).1) ∙ h in cc)
+
   static_row : (f : ℕ) (a : PointAt) → Follows P Q a → a.item ≡ point.Static f → a.row ≡ row.Field f
-  static_row f a (a_static g k e i r) h = let same : g ≡ f = cc in r ∙ ap row.Field same
-  static_row f a (a_this n k e i r) h = absurd (let d = sym i ∙ h in cc)
-  static_row f a (a_variable n k j e i r) h = absurd (let d = sym i ∙ h in cc)
-  static_row f a (a_result n k e i r) h = absurd (let d = sym i ∙ h in cc)
-  static_row f a (a_form n k p e c g) h = absurd (let d = sym (given_labelled P Q placed formed typed n k p a e c g).1 ∙ h in cc)
+  static_row f a s h = own_row a (row.Field f) s (ap plain_row h)
 
   this_row : (m : ℕ) (a : PointAt) → Follows P Q a → a.item ≡ point.This m → a.row ≡ row.This m
-  this_row m a (a_this n k e i r) h = let same : n ≡ m = cc in r ∙ ap row.This same
-  this_row m a (a_static f k e i r) h = absurd (let d = sym i ∙ h in cc)
-  this_row m a (a_variable n k j e i r) h = absurd (let d = sym i ∙ h in cc)
-  this_row m a (a_result n k e i r) h = absurd (let d = sym i ∙ h in cc)
-  this_row m a (a_form n k p e c g) h = absurd (let d = sym (given_labelled P Q placed formed typed n k p a e c g).1 ∙ h in cc)
+  this_row m a s h = own_row a (row.This m) s (ap plain_row h)
 
+  -- and of variables
   local_row : (m : ℕ) (k : PlainMethod) (x : ℕ) (a : PointAt) → slice_get Q.methods m ≡ Some k → Follows P Q a → a.item ≡ point.Local m x
       → a.row ≡ variable_row m k x
   local_row m k x a e (a_variable n j y d i r) h =

@@ -8,7 +8,7 @@ use Rattle.java_core.specs.declared.Ty.{Ty}
 use Rattle.java_core.specs.Programs.{Plain, PlainField, PlainMethod, PlainLocal}
 use Rattle.java_core.specs.Classes.{is_static_field}
 use Rattle.java_core.specs.Types.{env_of, types_of, field_type}
-use Rattle.java_core.specs.Typing.{IsTyped, IsTypedMethod, TypedSts}
+use Rattle.java_core.specs.Typing.{IsTypedMethod, TypedSts}
 use Rattle.java_meaning.specs.Moment.{Value, Number, Truth, CodeUnit, Nothing, Text, Object, Kind, Cell, bound, Body, Lang}
 use Rattle.java_meaning.specs.Values.{default_of}
 use Rattle.java_meaning.specs.Meaning.{run_in}
@@ -16,22 +16,17 @@ use Rattle.java_meaning.specs.Languages.{body_with, language_of, statics_of}
 use Rattle.java_core.specs.Untagged.{bare_sts, untag_body, untag_method, untagged}
 use Rattle.java_meaning.proofs.Layouts.{places}
 use Rattle.java_meaning.proofs.Moves.{then_some}
-use Rattle.fact_model.specs.InRange.{InRange}
-use Rattle.fact_model.specs.InOrder.{InOrder}
-use Rattle.fact_model.specs.Flowing.{AreSets}
-use Rattle.fact_model.specs.Entries.{IsTable}
 use Rattle.fact_model.specs.declared.facts.Facts.{Facts}
 use Rattle.fact_model.specs.declared.sets.PointsTo.{PointsTo}
 use Rattle.fact_model.specs.declared.sets.Table.{Table}
-use Rattle.hier_model.specs.Hierarchies.{Hierarchy, IsHierarchyOf}
-use Rattle.hier_rules.specs.First.{first_broken}
+use Rattle.hier_model.specs.Hierarchies.{Hierarchy}
 use Rattle.flow_rules.specs.declared.items.ColumnItem.TheVariants as column
 use Rattle.flow_rules.specs.declared.items.RowItem.TheVariants as row
 use Rattle.flow_rules.specs.Labels.{label_sts}
 use Rattle.flow_rules.specs.Operands.{variable_row, result_in}
 use Rattle.flow_rules.specs.Parts.{Part, a_load, an_element, a_creation, a_call, a_static_call, a_super_call, a_test, a_pair, a_set, a_store, an_element_store, a_return, parts_of}
 use Rattle.flow_rules.specs.Lists.{site_in}
-use Rattle.flow_rules.specs.Facts.{numbers, IsFactsOf}
+use Rattle.flow_rules.specs.Facts.{numbers}
 use Rattle.run_cover.specs.Covers.{Sets, solved, is_seen, are_seen, spot_set, labelled_with, labelled_body, watched}
 use Rattle.run_cover.specs.Families.{Set, ArePlain}
 use Rattle.run_cover.specs.Watched.{Of}
@@ -39,7 +34,6 @@ use Rattle.run_cover.proofs.Covered.{method_parts}
 use Rattle.run_cover.proofs.HasRows.{method_of, of_method}
 use Rattle.run_cover.proofs.Held.{default_plain}
 use Rattle.run_cover.proofs.Untagging.{same_env, untyped_params}
-use Rattle.facts_order.proofs.Pairs.{IsPlaced}
 use Rattle.rebuild_model.specs.Renaming.{Renaming, retyped, retyped_if}
 use Rattle.rebuild_model.specs.Matches.{IsStaticField, IsStaticMethod, MatchesSts}
 use Rattle.rebuild_model.specs.Members.{HasTypes, HasCode, new_types}
@@ -58,7 +52,7 @@ use Rattle.twin_runs.proofs.States.{Alike}
 use Rattle.twin_runs.proofs.Shapes.{same_default, same_defaults}
 use Rattle.same_run.proofs.Ties as ties
 use Rattle.same_run.proofs.Ties.{Ties, StaticsTied}
-use Rattle.same_run.proofs.Sited.{MadeAs, has, has_in, new_field, new_field_is, node_of, has_offered, words_made, some_test}
+use Rattle.same_run.proofs.Sited.{IsGiven, MadeAs, has, has_in, new_field, new_field_is, node_of, has_offered, words_made, some_test}
 use Rattle.same_run.proofs.Tied.{IsCopyOf, body_is, field_tied, call_tied, super_tied, access_of}
 use Rattle.same_run.proofs.Outcomes.{test_same, store_same}
 use Rattle.same_run.proofs.Creations.{created}
@@ -117,10 +111,9 @@ first_plain [] i a e = absurd (cc)
 first_plain (f ∷ fs) zero a e = default_plain f.ty.base f.ty.dim a (same_Some (default_of f.ty) (Object a) e)
 first_plain (f ∷ fs) (suc i) a e = first_plain fs i a e
 
-module _ {Q : Plain} {F : Facts} {H : Hierarchy} {W : Plain} (K : Known (untagged Q) Q F H W) (placed : IsPlaced (untagged Q) Q) (typed : IsTyped (untagged Q))
-    (facts : IsFactsOf (untagged Q) Q F) (pt : PointsTo) (t : Table)
-    (A : InRange F) (O : InOrder F) (S : AreSets F pt) (B : IsTable F t) (table : H.table ≡ t.rows.items) (none : first_broken F pt H ≡ None)
-    (hierarchy : IsHierarchyOf F H) where
+module _ {Q : Plain} {F : Facts} {H : Hierarchy} {W : Plain} (K : Known (untagged Q) Q F H W) (pt : PointsTo) (t : Table) (X : IsGiven Q F H pt t) where
+  open X use {placed, typed, facts, in_range as A, in_order as O, sets as S, is_table as B, table, none, hierarchy}
+
   abbrev P : Plain
   P = untagged Q
 
@@ -213,7 +206,7 @@ module _ {Q : Plain} {F : Facts} {H : Hierarchy} {W : Plain} (K : Known (untagge
       (access_of K placed facts pt t A O S B table none new_static m k e (a_load w b (Some f) o) i)
   tied m k e c (a_load w b None o) i = tt
   tied m k e c (an_element w b o) i = tt
-  tied m k e c (a_creation w u o) i = created K placed typed facts pt t A O S B table none hierarchy new_static Pair m k e
+  tied m k e c (a_creation w u o) i = created K pt t X new_static Pair m k e
       (have_slots K placed typed facts pt t A O S B table none hierarchy) w u o i
   tied m k e c (a_call w b (Some s) (Some d) es o) i = call_tied K placed facts pt t A O S B table none new_static m k e w b s d es o i
       (has_slot K placed typed facts pt t A O S B table none hierarchy b s d
@@ -224,14 +217,14 @@ module _ {Q : Plain} {F : Facts} {H : Hierarchy} {W : Plain} (K : Known (untagge
   tied m k e c (a_super_call w (Some d) es o) i = λ x self instance ex.
       super_tied K placed facts pt t A O S B table none new_static m k e w d es o i c x self instance ex
   tied m k e c (a_super_call w None es o) i = tt
-  tied m k e c (a_test w x o) i = record { same = test_same K placed typed facts pt t A O S B table none hierarchy m k e w x o i }
+  tied m k e c (a_test w x o) i = record { same = test_same K pt t X m k e w x o i }
   tied m k e c (a_pair b l r) i = tt
   tied m k e c (a_set v o) i = tt
   tied m k e c (a_store w b (Some f) o) i = field_tied K placed facts pt t A O S B table none new_static b f
       (access_of K placed facts pt t A O S B table none new_static m k e (a_store w b (Some f) o) i)
   tied m k e c (a_store w b None o) i = tt
   tied m k e c (an_element_store w b o) i = λ pb po.
-      record { same = store_same K placed typed facts pt t A O S B table none hierarchy m k e w b o i pb po }
+      record { same = store_same K pt t X m k e w b o i pb po }
   tied m k e c (a_return o) i = tt
 
   -- a copy is the twin of its body

@@ -13,7 +13,7 @@ use Rattle.java_core.specs.Programs.{Plain}
 use Rattle.java_core.specs.Classes.{member_field, slot_of, slot_of_method, declaration_of, super_method}
 use Rattle.java_core.specs.Types.{Env, env_of, class_in, class_of, element_of, is_string, is_length, is_subtype, field_in, field_type, value_type, or_nothing, StringMethod, string_method, Signature, signature_of_slot, signature_of_string, object_signature, call_signature, static}
 use Rattle.java_core.specs.Typing.{TypedArgs, t_field, t_index, t_call, t_static_call, t_super_call, t_create_array, t_cast, t_instance_of, t_unary, t_binary, t_ex_then, can_cast}
-use Rattle.java_core.specs.Formed.{IsFormed, FormedExs, f_own_field, f_field, f_index, f_call, f_static_call, f_super_call, f_create_array, f_cast, f_instance_of, f_unary, f_binary, f_ex_then}
+use Rattle.java_core.specs.Formed.{FormedExs, f_own_field, f_field, f_index, f_call, f_static_call, f_super_call, f_create_array, f_cast, f_instance_of, f_unary, f_binary, f_ex_then}
 use Rattle.java_meaning.specs.Moment.{Kind, own_type, Body, Lang}
 use Rattle.java_meaning.specs.Languages.{language_of}
 use Rattle.java_meaning.specs.Meaning.{is_number_type, names_length, text_method}
@@ -31,7 +31,7 @@ use Rattle.flow_rules.specs.Parts.{Part, nothing, a_load, a_creation, a_call, a_
 use Rattle.flow_rules.specs.Lists.{site_in, point_at}
 use Rattle.flow_rules.specs.Facts.{numbers}
 use Rattle.run_cover.specs.Covers.{Sets, passes, operand_at, point_sites, held_sites, labelled_body, watched}
-use Rattle.run_cover.proofs.Included.{class_object}
+use Rattle.flow_rules.proofs.TypeLemmas.{class_is}
 use Rattle.run_cover.proofs.Kinded.{IsKindedPart}
 use Rattle.run_cover.proofs.Types.{class_apart}
 use Rattle.run_cover.proofs.TypedParts as typed_parts
@@ -240,7 +240,7 @@ module _ (A : TwinBody) where
   declaration_seen : (e : Ex) (x : List ℕ) (c d : ℕ) → class_of (old e) ≡ Some c → declaration_of P c x ≡ Some d → call_declaration P (type e) x ≡ Some d
   unfolding type_in
   declaration_seen e x c d l f = ap (λ z. option_and_then (λ c. declaration_of P c x) z)
-      (class_object (static P g e) ∙ ap class_of (sym (bare_static P g e)) ∙ l) ∙ f
+      (class_is (static P g e) ∙ ap class_of (sym (bare_static P g e)) ∙ l) ∙ f
 
   slot_is : (e : Ex) (x : List ℕ) (c f i : ℕ) → class_of (old e) ≡ Some c → declaration_of P c x ≡ Some f → L.slot g e x ≡ Some i → slot_of_method P f ≡ Some i
   slot_is e x c f i cls dcl q =

@@ -26,6 +26,7 @@ use Rattle.rebuild_types.specs.Laws.{IsReady}
 use Rattle.rebuild_types.proofs.Tables.{same_table}
 use Rattle.twin_runs.proofs.States.{Alike}
 use Rattle.same_run.specs.Same.{HasSameRun, RebuiltRunsTheSame}
+use Rattle.same_run.proofs.Sited.{IsGiven}
 use Rattle.same_run.proofs.Rebuilt.{watched_same}
 
 use_alike : (o p : Outcome) → Alike o p → o.end ≢ Wrong → o.end ≢ Escaped → unnoted o ≡ unnoted p
@@ -40,6 +41,20 @@ module _ (Q : Plain) (F : Facts) (s : PointsTo) (t : Table) (H : Hierarchy) (W :
 
   abbrev K : Known P Q F H W
   K = known P Q pairs ready.formed F ready.facts s H W new ready.hierarchy ready.unbroken b
+
+  given : IsGiven Q F H s t
+  given = record {
+    placed = pairs;
+    typed = ready.typed;
+    facts = ready.facts;
+    in_range = ready.in_range;
+    in_order = ready.in_order;
+    sets = ready.sets;
+    is_table = ready.table;
+    table = same_table F H t ready.hierarchy.table ready.table;
+    none = ready.unbroken;
+    hierarchy = ready.hierarchy;
+  }
 
   slots : HaveSlots P
   unfolding HaveSlots
@@ -56,8 +71,7 @@ module _ (Q : Plain) (F : Facts) (s : PointsTo) (t : Table) (H : Hierarchy) (W :
 
   runs_alike : (words : List (List ℕ)) (n : ℕ) → unnoted (watched_run words n) ≡ unnoted (run W words n)
   runs_alike words n =
-      use_alike (watched_run words n) (run W words n) (watched_same K pairs ready.typed ready.facts s t ready.in_range ready.in_order ready.sets ready.table
-      (same_table F H t ready.hierarchy.table ready.table) ready.unbroken ready.hierarchy words n)
+      use_alike (watched_run words n) (run W words n) (watched_same K s t given words n)
       (λ e. never_wrong P ready.formed ready.typed words n (sym (ap (λ o. o.end) (is_run words n)) ∙ e))
       (solved_covers F s ready.sets P Q covers.covers words n)
 

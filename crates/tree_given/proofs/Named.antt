@@ -24,7 +24,7 @@ use Rattle.flow_rules.specs.Numbered.{row_number, number_if}
 use Rattle.flow_rules.specs.Lists.{accessed, row_in, row_at, accesses_of}
 use Rattle.flow_rules.specs.Facts.{numbers}
 use Rattle.run_cover.specs.Slotted.{HaveSlots}
-use Rattle.run_cover.proofs.Included.{class_object}
+use Rattle.flow_rules.proofs.TypeLemmas.{class_is}
 use Rattle.run_cover.proofs.Untagging.{same_env}
 use Rattle.run_cover.proofs.HasNumbers.{this_row}
 use Rattle.run_cover.proofs.HasRows.{method_of}
@@ -118,7 +118,7 @@ module _ (C : Given) (B : Bodied C) where
       → call_declaration P (type e) x ≡ Some d
   unfolding type_in
   declaration_seen e x c d l f =
-      ap (λ z. option_and_then (λ c. declaration_of P c x) z) (class_object (static P g e) ∙ ap class_of (sym (bare_static P g e)) ∙ l) ∙ f
+      ap (λ z. option_and_then (λ c. declaration_of P c x) z) (class_is (static P g e) ∙ ap class_of (sym (bare_static P g e)) ∙ l) ∙ f
 
   -- the field that a part asks for; where an access finds none, as for the length of an array, the name stays
   pub field_named : (u : Bool) (sc : List ℕ) (e : Ex) (x : List ℕ) (part : Option ℕ → Part) → IsTyped e → IsFormedEx sc e

@@ -3,11 +3,6 @@ use Rattle.std.proofs.Common.{◌≡◌, ℕ, zero, suc, [], Option, Some, None,
 use Rattle.std.specs.Prelude.{slice_get, codes}
 use Rattle.std.specs.Option.{option_map, option_map_or}
 use Rattle.std.proofs.lemmas.Option.{same_Some}
-use Rattle.ucd_table.specs.Rows.{in_ranges}
-use Rattle.ucd_derived.specs.XidStartRanges.{xid_start_ranges}
-use Rattle.ucd_derived.specs.XidContinueRanges.{xid_continue_ranges}
-use Rattle.ucd_derived.specs.Binary.{is_xid_start, is_xid_continue}
-use Rattle.kaba_base.specs.Words.{key_text}
 use Rattle.java_lex.specs.Writable.{IsName}
 use Rattle.java_tree.specs.Formed.{IsFormedBase, IsCastBase}
 use Rattle.java_core.specs.declared.Ty.{Ty}
@@ -25,11 +20,7 @@ use Rattle.written_tree.specs.Names.{class_name, row_name, written_base}
 use Rattle.tree_rebuilds.proofs.Retyped.{row_live}
 use Rattle.tree_given.proofs.Given.{Given, words}
 use Rattle.tree_given.proofs.Names.{type_named}
-use Rattle.java_meaning.proofs.Instance.{name_object as object_named}
-
-text_named : IsName (codes "String")
-unfolding is_xid_start is_xid_continue in_ranges xid_start_ranges xid_continue_ranges key_text
-text_named = record { named = refl; scalars = refl }
+use Rattle.java_meaning.proofs.Small.{named}
 
 module _ (C : Given) where
   open C use {program as Q, facts as F, hierarchy as H}
@@ -39,7 +30,7 @@ module _ (C : Given) where
   pub class_named : (c : ℕ) (k : PlainClass) → slice_get P.classes c ≡ Some k → IsName k.name
   class_named zero k e =
       let o = C.ready.formed.object in
-      subst IsName (sym (ap (λ (k : PlainClass). k.name) (same_Some _ _ (sym e ∙ o.first)) ∙ o.name)) object_named
+      subst IsName (sym (ap (λ (k : PlainClass). k.name) (same_Some _ _ (sym e ∙ o.first)) ∙ o.name)) (named (codes "Object") refl)
   class_named (suc c) k e = (C.ready.formed.classes c k e).name
 
   pub known_class_named : (c : ℕ) → IsClass P c → IsName (class_name P c)
@@ -60,7 +51,7 @@ module _ (C : Given) where
   base_formed i Int h = tt
   base_formed i Boolean h = tt
   base_formed i Char h = tt
-  base_formed i Str h = text_named
+  base_formed i Str h = (named (codes "String") refl)
   base_formed i (Class c) h = row_named i c.0 h
 
   -- the type of a cast

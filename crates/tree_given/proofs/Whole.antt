@@ -39,7 +39,7 @@ use Rattle.flow_rules.specs.Facts.{numbers, kind_of, slot_in}
 use Rattle.run_cover.proofs.Untagging.{same_env}
 use Rattle.run_cover.proofs.HasRows.{method_of, of_method}
 use Rattle.flow_rules.proofs.Listed.{first, more, at_contains, contains_at, index_at, map_at, map_from, each_from_zero, when_from, one_from}
-use Rattle.facts_order.proofs.Items.{column_back}
+use Rattle.flow_rules.proofs.NumberedItems.{numbered_columns}
 use Rattle.rebuild_model.specs.Members.{is_made_at, offers_body, is_filled}
 use Rattle.written_tree.specs.Names.{modifier, written_type}
 use Rattle.written_tree.specs.Bodies.{written_sts}
@@ -167,7 +167,7 @@ module _ (C : Given) where
   unfolding numbers
   item_number c i e =
       let z = map_at (λ c. c.item) (columns_of P Q) c i e in
-      ap (λ j. (numbers P Q).column j) (sym z.2) ∙ column_back P Q c z.0 z.1
+      ap (λ j. (numbers P Q).column j) (sym z.2) ∙ (numbered_columns P Q).back c z.0 z.1
 
   filled_head : (n s : ℕ) (mods : List Modifier) (d : HeadTree) → is_filled F H n s ≡ true → Each IsFormedMod mods → IsHeadTree P R F H mods s d
       → IsFormedHead d

@@ -23,6 +23,7 @@ use Rattle.flow_rules.specs.Facts.{is_holder, IsFactsOf}
 use Rattle.facts_order.proofs.Pairs.{IsPlaced}
 use Rattle.facts_order.proofs.Classes.{class_at, class_there}
 use Rattle.hier_begin.proofs.Unbroken.{none_broken}
+use Rattle.rebuild_looks.proofs.Fields.{field_holder, method_holder}
 
 -- a test holds somewhere in a list
 pub any_at : {A : Type 0} (p : A → Bool) (xs : List A) → list_any p xs ≡ true → (i : ℕ) × (x : A) × (slice_get xs i ≡ Some x) × (p x ≡ true)
@@ -51,30 +52,25 @@ module _ (P : Plain) (formed : IsFormed P) (c : ℕ) where
       (or_cases (list_any (λ (f : PlainField). f.is_static && (f.owner == c)) P.fields)
       (list_any (λ (f : PlainMethod). f.is_static && (f.owner == c)) P.methods) h)
 
-same_test : (c : ℕ) (a b : Bool) (x y : ℕ) → a ≡ b → x ≡ y → (a && (x == c)) ≡ (b && (y == c))
-same_test c a b x y p q = ap (λ z. z && (x == c)) p ∙ ap (λ z. b && (z == c)) q
-
 pub holder_placed : (P Q : Plain) (placed : IsPlaced P Q) (c : ℕ) → is_holder P c ≡ true → is_holder Q c ≡ true
 holder_placed P Q placed c h =
     ⊎_elim
     (λ a. let z = any_at (λ (f : PlainField). f.is_static && (f.owner == c)) P.fields a in
     let k = placed.placed_field z.0 z.1 z.2 in
     let w = placed.fields z.0 k.0 k.1 in
-    let same : w.plain ≡ z.1 = same_Some _ _ (sym w.stands ∙ z.2) in
-    or_left (list_any (λ (f : PlainField). f.is_static && (f.owner == c)) Q.fields) (list_any (λ (f : PlainMethod). f.is_static && (f.owner == c)) Q.methods)
-    (any_there (λ (f : PlainField). f.is_static && (f.owner == c)) Q.fields z.0 k.0 k.1
-    (same_test c k.0.is_static z.1.is_static k.0.owner z.1.owner (sym w.static ∙ ap (λ (y : PlainField). y.is_static) same)
-    (sym w.owner ∙ ap (λ (y : PlainField). y.owner) same) ∙ z.3)))
+    of_member z.1.is_static z.1.owner k.0.is_static k.0.owner z.3 (ap (λ (y : PlainField). y.is_static) (same_Some _ _ (sym z.2 ∙ w.stands)) ∙ w.static)
+    (ap (λ (y : PlainField). y.owner) (same_Some _ _ (sym z.2 ∙ w.stands)) ∙ w.owner) (field_holder Q z.0 k.0 k.1))
     (λ a. let z = any_at (λ (f : PlainMethod). f.is_static && (f.owner == c)) P.methods a in
     let k = placed.placed_method z.0 z.1 z.2 in
     let w = placed.methods z.0 k.0 k.1 in
-    let same : w.plain ≡ z.1 = same_Some _ _ (sym w.stands ∙ z.2) in
-    or_right (list_any (λ (f : PlainField). f.is_static && (f.owner == c)) Q.fields) (list_any (λ (f : PlainMethod). f.is_static && (f.owner == c)) Q.methods)
-    (any_there (λ (f : PlainMethod). f.is_static && (f.owner == c)) Q.methods z.0 k.0 k.1
-    (same_test c k.0.is_static z.1.is_static k.0.owner z.1.owner (sym w.static ∙ ap (λ (y : PlainMethod). y.is_static) same)
-    (sym w.owner ∙ ap (λ (y : PlainMethod). y.owner) same) ∙ z.3)))
+    of_member z.1.is_static z.1.owner k.0.is_static k.0.owner z.3 (ap (λ (y : PlainMethod). y.is_static) (same_Some _ _ (sym z.2 ∙ w.stands)) ∙ w.static)
+    (ap (λ (y : PlainMethod). y.owner) (same_Some _ _ (sym z.2 ∙ w.stands)) ∙ w.owner) (method_holder Q z.0 k.0 k.1))
     (or_cases (list_any (λ (f : PlainField). f.is_static && (f.owner == c)) P.fields)
     (list_any (λ (f : PlainMethod). f.is_static && (f.owner == c)) P.methods) h)
+  where
+    of_member : (s : Bool) (o : ℕ) (t : Bool) (r : ℕ) → (s && (o == c)) ≡ true → s ≡ t → o ≡ r → (t ≡ true → is_holder Q r ≡ true) → is_holder Q c ≡ true
+    of_member s o t r h a b held = let p = and_parts s (o == c) h in
+        subst (λ z. is_holder Q z ≡ true) (sym b ∙ eqb-true o c p.1) (held (sym a ∙ p.0))
 
 module _ (F : Facts) (pt : PointsTo) (H : Hierarchy) (none : first_broken F pt H ≡ None) where
   not_taken : (n : ℕ) → is_live H.order n ≡ true → is_taken_type F H n ≡ false

@@ -1,12 +1,11 @@
 -- The fields of the written program: those that stand at nodes, and the static ones of the holders.
 use Rattle.std.proofs.Common.{◌≡◌, ℕ, suc, ◌&&◌, Bool, true, false, List, [], ◌∷◌, Option, Some, Contains, refl, sym, ap, ◌∙◌, subst, arith, inl, inr, ⊎_elim}
 use Rattle.std.specs.Prelude.{◌⊎◌, slice_get, ◌==◌}
-use Rattle.std.specs.List.{list_any}
 use Rattle.std.specs.Option.{option_map_or}
-use Rattle.std.proofs.lemmas.Bool.{false≢true, and_parts, and_from, or_left, eqb-true, eq-eqb}
+use Rattle.std.proofs.lemmas.Bool.{false≢true, and_parts, and_from, eqb-true, eq-eqb}
 use Rattle.kaba_base.specs.declared.words.Keyword.TheVariants.{Public, Static}
 use Rattle.java_tree.specs.Syntax.{MemberTree, FieldTree, DeclTree}
-use Rattle.java_core.specs.Programs.{Plain, PlainClass, PlainField, PlainMethod}
+use Rattle.java_core.specs.Programs.{Plain, PlainClass, PlainField}
 use Rattle.name_rules.specs.Outline.{FieldAt, fields_declared, field_member as declared_field, field_outline, types_in}
 use Rattle.java_core.specs.Untagged.{untag_field, untagged}
 use Rattle.fact_model.specs.declared.facts.Facts.{Facts}
@@ -15,17 +14,18 @@ use Rattle.hier_model.specs.Hierarchies.{Hierarchy, is_class_node}
 use Rattle.flow_rules.specs.declared.items.ColumnItem.{ColumnItem}
 use Rattle.flow_rules.specs.declared.items.ColumnItem.TheVariants as column
 use Rattle.flow_rules.specs.declared.items.RowItem.TheVariants as row
-use Rattle.flow_rules.specs.Facts.{numbers, is_holder, column_info}
+use Rattle.flow_rules.specs.Facts.{numbers, column_info}
 use Rattle.flow_rules.proofs.Listed.{first, one_from, when_from, when_has}
 use Rattle.facts_order.proofs.Columns.{Stands as IsOfText, for_field, for_declaration, for_body, for_mark, column_stands}
-use Rattle.facts_order.proofs.Items.{column_at}
+use Rattle.flow_rules.proofs.NumberedItems.{numbered_columns}
 use Rattle.rebuild_model.specs.Renaming.{Renaming, renaming_of}
 use Rattle.rebuild_model.specs.Members.{IsField, IsStaticFieldOf}
+use Rattle.rebuild_looks.proofs.Fields.{field_holder}
 use Rattle.written_tree.specs.Names.{nowhere, modifier, written_type}
 use Rattle.written_tree.specs.Members.{field_member, static_field_member, class_members, holder_members}
 use Rattle.written_tree.specs.Written.{type_tree, java_tree}
 use Rattle.tree_rebuilds.proofs.Outlined.{field_there, field_back, member_field_from, member_field_has}
-use Rattle.tree_rebuilds.proofs.Apart.{any_there, holder_class}
+use Rattle.tree_rebuilds.proofs.Apart.{holder_class}
 use Rattle.tree_rebuilds.proofs.Nodes.{by_node, items, tree, node_tree, old_tree, node_at, holder_at, node_number, holder_number, Declares, a_node, a_holder, declares}
 use Rattle.tree_rebuilds.proofs.Members.{IsMember, a_field, a_body, a_head, a_filler, class_from, field_has, IsStatic, a_static_field, a_static_method, holder_from, static_field_has}
 use Rattle.tree_rebuilds.proofs.Retyped.{field_row, type_is}
@@ -160,7 +160,7 @@ module _ {P Q : Plain} {F : Facts} {pt : PointsTo} {H : Hierarchy} {V : Plain} (
   old_field : (f n : ℕ) → Stands G (column.Fld f) n → (k : PlainField) × (slice_get P.fields f ≡ Some k)
   unfolding numbers
   old_field f n s =
-      let x = column_at P Q (column.Fld f) s.number s.numbered in
+      let x = (numbered_columns P Q).at (column.Fld f) s.number s.numbered in
       go (column.Fld f) (subst (IsOfText Q) x.2 (column_stands P Q s.number x.0 x.1)) refl
     where
       go : (i : ColumnItem) → IsOfText Q i → i ≡ column.Fld f → (k : PlainField) × (slice_get P.fields f ≡ Some k)
@@ -183,17 +183,10 @@ module _ {P Q : Plain} {F : Facts} {pt : PointsTo} {H : Hierarchy} {V : Plain} (
       let g = field_there (tree P Q F H) V G.resolves G.new z.0 (node_tree P Q F H n) x z.1 d in
       (g.0, untag_field (field_outline types x), g.1, node_field n z.0 f k.0 x (untag_field (field_outline types x)) z.1 s k.1 (first x []) refl)
 
-  is_holder_of : (f : ℕ) (old : PlainField) → slice_get P.fields f ≡ Some old → old.is_static ≡ true → is_holder P old.owner ≡ true
-  is_holder_of f old e h =
-      or_left (list_any (λ (k : PlainField). k.is_static && (k.owner == old.owner)) P.fields)
-      (list_any (λ (k : PlainMethod). k.is_static && (k.owner == old.owner)) P.methods)
-      (any_there (λ (k : PlainField). k.is_static && (k.owner == old.owner)) P.fields f old e
-      (and_from old.is_static (old.owner == old.owner) h (eq-eqb old.owner old.owner refl)))
-
   pub each_static_field : (f : ℕ) (old : PlainField) → slice_get P.fields f ≡ Some old → old.is_static ≡ true → (g : ℕ) × IsOldStatic f g
   each_static_field f old e h =
       let c = old.owner in
-      let holder = is_holder_of f old e h in
+      let holder = field_holder P f old e h in
       let k = holder_class P G.formed c holder in
       let z = holder_at P Q F H c k.0 k.1 holder in
       let mine = and_from old.is_static (c == c) h (eq-eqb c c refl) in

@@ -19,7 +19,7 @@ use Rattle.flow_rules.specs.Numbered.{columns_of}
 use Rattle.flow_rules.specs.Facts.{numbers, column_info, kind_of, IsFactsOf}
 use Rattle.flow_rules.proofs.Listed.{at_map, map_at, at_below}
 use Rattle.facts_order.proofs.Pairs.{IsPlaced}
-use Rattle.facts_order.proofs.Items.{column_at, column_back}
+use Rattle.flow_rules.proofs.NumberedItems.{numbered_columns}
 use Rattle.rebuild_model.specs.Renaming.{Places, Renaming, renaming_of}
 use Rattle.rebuild_model.specs.Members.{StandsAt}
 use Rattle.rebuild_looks.specs.Known.{AreColumns}
@@ -68,12 +68,12 @@ module _ {P Q : Plain} {F : Facts} {pt : PointsTo} {H : Hierarchy} {V : Plain} (
   stands_from c i n e h =
       let z = map_at (λ c. c.item) (columns_of P Q) c i e in
       let p = at_from n (place_of_column H c) h in
-      record { number = c; numbered = ap (λ j. (numbers P Q).column j) (sym z.2) ∙ column_back P Q c z.0 z.1; place = p.0; placed = p.1; at = p.2 }
+      record { number = c; numbered = ap (λ j. (numbers P Q).column j) (sym z.2) ∙ (numbered_columns P Q).back c z.0 z.1; place = p.0; placed = p.1; at = p.2 }
 
   pub column_there : (i : ColumnItem) (n : ℕ) → Stands i n → IsColumnAt i n
   unfolding numbers
   column_there i n s =
-      let x = column_at P Q i s.number s.numbered in
+      let x = (numbered_columns P Q).at i s.number s.numbered in
       record {
         number = s.number;
         item = at_map (λ c. c.item) (columns_of P Q) s.number x.0 x.1 ∙ ap Some x.2;

@@ -25,7 +25,8 @@ use Rattle.tree_rebuilds.proofs.Nodes.{tree, old_tree, nodes, holders, tree_is, 
 use Rattle.tree_rebuilds.proofs.Apart.{holder_class}
 use Rattle.tree_rebuilds.proofs.Given.{Given, T, R}
 use Rattle.tree_rebuilds.proofs.Resolved.{BodiesMatch}
-use Rattle.tree_rebuilds.proofs.Origins.{static_method, each_static_method, is_holder_of}
+use Rattle.tree_rebuilds.proofs.Origins.{static_method, each_static_method}
+use Rattle.rebuild_looks.proofs.Fields.{method_holder}
 
 get_right : {A : Type 0} (xs ys : List A) (i j : ℕ) → j ≡ length xs + i → slice_get (xs ++ ys) j ≡ slice_get ys i
 get_right [] ys i j e = ap (slice_get ys) (omega (arith, e))
@@ -192,8 +193,8 @@ module _ {P Q : Plain} {F : Facts} {pt : PointsTo} {H : Hierarchy} {V : Plain} (
       } in
       let below = G.formed.main_first z.0 s.old s.old_stands old in
       let above = N.main_first w.0 t.new t.new_stands new_main in
-      let ho = is_holder_of G match z.0 s.old s.old_stands s.old_static in
-      let hm = is_holder_of G match P.main M G.formed.main_stands G.formed.main_is.static in
+      let ho = method_holder P z.0 s.old s.old_stands s.old_static in
+      let hm = method_holder P P.main M G.formed.main_stands G.formed.main_is.static in
       let so : N.main.owner ≡ (T G).holder_of s.old.owner = ap (λ (y : PlainMethod). y.owner) (sym made) ∙ holder_is s.old.owner s.new.owner s.owner in
       let sm : t.new.owner ≡ (T G).holder_of M.owner = holder_is t.old.owner t.new.owner t.owner ∙ ap (λ (y : PlainMethod). (T G).holder_of y.owner) mine in
       let one : z.0 ≡ P.main =

@@ -26,7 +26,7 @@ use Rattle.flow_rules.specs.declared.items.ColumnItem.{ColumnItem}
 use Rattle.flow_rules.specs.declared.items.ColumnItem.TheVariants as column
 use Rattle.flow_rules.specs.Facts.{numbers, kind_of, column_info}
 use Rattle.flow_rules.proofs.Listed.{first, at_map, map_has, at_below, below_at, index_at}
-use Rattle.facts_order.proofs.Items.{column_at}
+use Rattle.flow_rules.proofs.NumberedItems.{numbered_columns}
 use Rattle.facts_order.proofs.Columns.{Stands as IsOfText, for_field, for_declaration, for_body, for_mark, column_stands}
 use Rattle.rebuild_model.specs.Renaming.{Renaming, renaming_of, column_name}
 use Rattle.rebuild_model.specs.Members.{is_made_at, offers_body, is_headed, is_filled, IsBody, IsOfSlot, IsHead, IsFiller}
@@ -55,15 +55,21 @@ as_method i a h b = record { owner = suc i; kind = kinds.Method; in_abstract = a
 abbrev pub as_head : ℕ → HeadTree → MethodAt
 as_head i h = record { owner = suc i; kind = kinds.Head; in_abstract = true; head = h; body = None }
 
+-- what the written tree was resolved to, the renaming, and which of its methods are resolved to which
+pub record Read : Type 1 where
+  pub program : Plain
+  pub renaming : Renaming
+  pub Resolved : MethodAt → ℕ → Type 0
+
+abbrev pub read : {P Q : Plain} {F : Facts} {pt : PointsTo} {H : Hierarchy} {V : Plain} → Given P Q F pt H V → Read
+read {P} {Q} {F} {pt} {H} {V} G = record {
+  program = untagged V;
+  renaming = by_node P Q F H;
+  Resolved = λ m g. IsResolved (java_tree P Q F H) V G.resolves G.new m g;
+}
+
 module _ {P Q : Plain} {F : Facts} {pt : PointsTo} {H : Hierarchy} {V : Plain} (G : Given P Q F pt H V) where
-  abbrev U : Plain
-  U = untagged V
-
-  abbrev R₀ : Renaming
-  R₀ = by_node P Q F H
-
-  abbrev Rs : MethodAt → ℕ → Type 0
-  Rs m g = IsResolved (java_tree P Q F H) V G.resolves G.new m g
+  open read G use {program as U, renaming as R₀, Resolved as Rs}
 
   abbrev pub IsOldBody : ℕ → PlainMethod → Type 0
   IsOldBody m k = IsBody P Q F H U (T G) m k
@@ -272,7 +278,7 @@ module _ {P Q : Plain} {F : Facts} {pt : PointsTo} {H : Hierarchy} {V : Plain} (
   pub old_method : (m n : ℕ) → Stands G (column.Def m) n → IsOldMethod m
   unfolding numbers
   old_method m n s =
-      let x = column_at P Q (column.Def m) s.number s.numbered in
+      let x = (numbered_columns P Q).at (column.Def m) s.number s.numbered in
       text_body m x.0.item (column_stands P Q s.number x.0 x.1) x.2
 
   pub each_body : BodiesMatch G → (m n : ℕ) → Stands G (column.Def m) n → (g : ℕ) × (new : PlainMethod) × (slice_get U.methods g ≡ Some new) × IsOldBody m new

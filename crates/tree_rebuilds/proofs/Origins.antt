@@ -2,44 +2,36 @@
 use Rattle.std.proofs.Common.{◌≡◌, ℕ, suc, ◌&&◌, Bool, true, false, [], ◌∷◌, Option, Some, None, Contains, refl, sym, ap, ◌∙◌, subst, arith, inl, inr, ⊎_elim}
 use Rattle.std.specs.Prelude.{◌⊎◌, ◌==◌, slice_get}
 use Rattle.std.specs.Option.{option_map_or}
-use Rattle.std.specs.List.{list_any}
-use Rattle.std.proofs.lemmas.Bool.{false≢true, and_parts, and_from, or_right, eqb-true, eq-eqb}
+use Rattle.std.proofs.lemmas.Bool.{false≢true, and_parts, and_from, eqb-true, eq-eqb}
 use Rattle.kaba_base.specs.declared.words.Keyword.TheVariants.{Public, Static}
 use Rattle.std.proofs.lemmas.Option.{same_Some}
 use Rattle.kaba_order.specs.Orders.{is_live}
 use Rattle.java_tree.specs.Syntax.{MemberTree, MethodTree, Statements, DeclTree}
 use Rattle.java_core.specs.Trees.{Sts}
-use Rattle.java_core.specs.Programs.{Plain, PlainClass, PlainField, PlainMethod}
+use Rattle.java_core.specs.Programs.{Plain, PlainClass, PlainMethod}
 use Rattle.name_rules.specs.Outline.{MethodAt, methods_declared, method_member}
-use Rattle.java_core.specs.Untagged.{untag_method, untagged}
+use Rattle.java_core.specs.Untagged.{untag_method}
 use Rattle.fact_model.specs.declared.facts.Facts.{Facts}
 use Rattle.fact_model.specs.declared.sets.PointsTo.{PointsTo}
 use Rattle.hier_model.specs.Hierarchies.{Hierarchy, is_class_node}
 use Rattle.flow_rules.specs.declared.items.ColumnItem.TheVariants as column
-use Rattle.flow_rules.specs.Facts.{is_holder}
 use Rattle.flow_rules.proofs.Listed.{first, one_from, map_from, when_from, when_has}
-use Rattle.rebuild_model.specs.Renaming.{Renaming, renaming_of}
+use Rattle.rebuild_model.specs.Renaming.{renaming_of}
 use Rattle.rebuild_model.specs.Members.{IsStaticMethodOf}
+use Rattle.rebuild_looks.proofs.Fields.{method_holder}
 use Rattle.written_tree.specs.Names.{nowhere, modifier}
 use Rattle.written_tree.specs.Members.{filling, head, body, static_method_member, class_members, interface_heads, holder_members}
-use Rattle.written_tree.specs.Written.{type_tree, java_tree}
-use Rattle.tree_rebuilds.proofs.Outlined.{IsResolved, method_there, method_back, member_method_from, member_method_has}
-use Rattle.tree_rebuilds.proofs.Apart.{any_there, holder_class}
-use Rattle.tree_rebuilds.proofs.Nodes.{by_node, items, tree, node_tree, old_tree, holder_at, holder_number, Declares, a_node, a_holder, declares}
+use Rattle.written_tree.specs.Written.{type_tree}
+use Rattle.tree_rebuilds.proofs.Outlined.{method_there, method_back, member_method_from, member_method_has}
+use Rattle.tree_rebuilds.proofs.Apart.{holder_class}
+use Rattle.tree_rebuilds.proofs.Nodes.{items, tree, node_tree, old_tree, holder_at, holder_number, Declares, a_node, a_holder, declares}
 use Rattle.tree_rebuilds.proofs.Members.{IsMember, a_field, a_body, a_head, a_filler, class_from, interface_from, in_class as class_mods, IsStatic, a_static_field, a_static_method, holder_from, static_method_has}
 use Rattle.tree_rebuilds.proofs.Given.{Given, T, stands_from}
 use Rattle.tree_rebuilds.proofs.Resolved.{BodiesMatch, owner_is, name_is, static_is, types_are, code_is}
-use Rattle.tree_rebuilds.proofs.Methods.{as_method, as_head, IsOldBody, IsOldHead, IsOldFiller, node_body, node_head, node_filler, is_abstract, stands_made, old_method}
+use Rattle.tree_rebuilds.proofs.Methods.{read, as_method, as_head, IsOldBody, IsOldHead, IsOldFiller, node_body, node_head, node_filler, is_abstract, stands_made, old_method}
 
 module _ {P Q : Plain} {F : Facts} {pt : PointsTo} {H : Hierarchy} {V : Plain} (G : Given P Q F pt H V) (match : BodiesMatch G) where
-  abbrev U : Plain
-  U = untagged V
-
-  abbrev R₀ : Renaming
-  R₀ = by_node P Q F H
-
-  abbrev Rs : MethodAt → ℕ → Type 0
-  Rs m g = IsResolved (java_tree P Q F H) V G.resolves G.new m g
+  open read G use {program as U, renaming as R₀, Resolved as Rs}
 
   abbrev pub IsOldStatic : ℕ → ℕ → Type 0
   IsOldStatic m g = IsStaticMethodOf P Q F H U (T G) m g
@@ -157,17 +149,10 @@ module _ {P Q : Plain} {F : Facts} {pt : PointsTo} {H : Hierarchy} {V : Plain} (
   pub static_method : (g : ℕ) (new : PlainMethod) → slice_get U.methods g ≡ Some new → new.is_static ≡ true → (m : ℕ) × IsOldStatic m g
   static_method g new e h = ⊎_elim (λ z. absurd (false≢true (sym (instance_of new z) ∙ h))) (λ z. z) (origin g new e)
 
-  pub is_holder_of : (m : ℕ) (old : PlainMethod) → slice_get P.methods m ≡ Some old → old.is_static ≡ true → is_holder P old.owner ≡ true
-  is_holder_of m old e h =
-      or_right (list_any (λ (k : PlainField). k.is_static && (k.owner == old.owner)) P.fields)
-      (list_any (λ (k : PlainMethod). k.is_static && (k.owner == old.owner)) P.methods)
-      (any_there (λ (k : PlainMethod). k.is_static && (k.owner == old.owner)) P.methods m old e
-      (and_from old.is_static (old.owner == old.owner) h (eq-eqb old.owner old.owner refl)))
-
   pub each_static_method : (m : ℕ) (old : PlainMethod) → slice_get P.methods m ≡ Some old → old.is_static ≡ true → (g : ℕ) × IsOldStatic m g
   each_static_method m old e h =
       let c = old.owner in
-      let holder = is_holder_of m old e h in
+      let holder = method_holder P m old e h in
       let k = holder_class P G.formed c holder in
       let z = holder_at P Q F H c k.0 k.1 holder in
       let mine = and_from old.is_static (c == c) h (eq-eqb c c refl) in

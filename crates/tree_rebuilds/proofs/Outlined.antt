@@ -24,23 +24,19 @@ as_each of from none some c (d ∷ ds) =
     let e : suc c ≡ c + 1 = omega arith in
     some c d ds ∙ ap (λ z. of c d ++ z) (as_each of from none some (suc c) ds ∙ ap (λ n. each of n ds) e)
 
-pub field_from : (c : ℕ) (ds : List DeclTree) (f : FieldAt) → Contains (fields_from c ds) f
-    → (i : ℕ) × (j : ℕ) × (d : DeclTree) × (slice_get ds i ≡ Some d) × (j ≡ c + i) × Contains (fields_declared j d) f
-field_from c ds f h = each_from fields_declared c ds f (subst (λ z. Contains z f) (as_each fields_declared fields_from (λ c. refl) (λ c d ds. refl) c ds) h)
+pub fields_each : (c : ℕ) (ds : List DeclTree) → fields_from c ds ≡ each fields_declared c ds
+fields_each = as_each fields_declared fields_from (λ c. refl) (λ c d ds. refl)
 
-pub field_has : (c : ℕ) (ds : List DeclTree) (f : FieldAt) (i j : ℕ) (d : DeclTree) → slice_get ds i ≡ Some d → j ≡ c + i → Contains (fields_declared j d) f
-    → Contains (fields_from c ds) f
-field_has c ds f i j d e h k = subst (λ z. Contains z f) (sym (as_each fields_declared fields_from (λ c. refl) (λ c d ds. refl) c ds))
-    (each_has fields_declared c ds i d f e j h k)
+pub methods_each : (c : ℕ) (ds : List DeclTree) → methods_from c ds ≡ each methods_declared c ds
+methods_each = as_each methods_declared methods_from (λ c. refl) (λ c d ds. refl)
 
-pub method_from : (c : ℕ) (ds : List DeclTree) (f : MethodAt) → Contains (methods_from c ds) f
-    → (i : ℕ) × (j : ℕ) × (d : DeclTree) × (slice_get ds i ≡ Some d) × (j ≡ c + i) × Contains (methods_declared j d) f
-method_from c ds f h = each_from methods_declared c ds f (subst (λ z. Contains z f) (as_each methods_declared methods_from (λ c. refl) (λ c d ds. refl) c ds) h)
+-- where what declarations have is what each has, it is had by one
+module _ {A : Type 0} (of : ℕ → DeclTree → List A) {xs : List A} (c : ℕ) (ds : List DeclTree) (same : xs ≡ each of c ds) (f : A) where
+  pub declared_from : Contains xs f → (i : ℕ) × (j : ℕ) × (d : DeclTree) × (slice_get ds i ≡ Some d) × (j ≡ c + i) × Contains (of j d) f
+  declared_from h = each_from of c ds f (subst (λ z. Contains z f) same h)
 
-pub method_has : (c : ℕ) (ds : List DeclTree) (f : MethodAt) (i j : ℕ) (d : DeclTree) → slice_get ds i ≡ Some d → j ≡ c + i → Contains (methods_declared j d) f
-    → Contains (methods_from c ds) f
-method_has c ds f i j d e h k = subst (λ z. Contains z f) (sym (as_each methods_declared methods_from (λ c. refl) (λ c d ds. refl) c ds))
-    (each_has methods_declared c ds i d f e j h k)
+  pub declared_has : (i j : ℕ) (d : DeclTree) → slice_get ds i ≡ Some d → j ≡ c + i → Contains (of j d) f → Contains xs f
+  declared_has i j d e h k = subst (λ z. Contains z f) (sym same) (each_has of c ds i d f e j h k)
 
 -- ---- what members have
 
@@ -147,7 +143,7 @@ module _ (tree : List DeclTree) (V : Plain) (resolves : Resolves tree V) (new : 
   pub field_there : (i : ℕ) (d : DeclTree) (f : FieldAt) → slice_get tree i ≡ Some d → Contains (fields_declared (suc i) d) f
       → (g : ℕ) × (slice_get U.fields g ≡ Some (untag_field (field_outline types f)))
   field_there i d f e c =
-      let z = at_contains (fields_in tree) f (field_has 1 tree f i (suc i) d e (omega arith) c) in (
+      let z = at_contains (fields_in tree) f (declared_has fields_declared 1 tree (fields_each 1 tree) f i (suc i) d e (omega arith) c) in (
         z.0,
         at_map untag_field V.fields z.0 (field_outline types f)
             (ap (λ w. slice_get w z.0) fields_are ∙ at_map (field_outline types) (fields_in tree) z.0 f z.1),
@@ -165,7 +161,7 @@ module _ (tree : List DeclTree) (V : Plain) (resolves : Resolves tree V) (new : 
   field_back g k e =
       let z = map_at untag_field V.fields g k e in
       let w = map_at (field_outline types) (fields_in tree) g z.0 (sym (ap (λ y. slice_get y g) fields_are) ∙ z.1) in
-      let x = field_from 1 tree w.0 (contains_at (fields_in tree) g w.0 w.1) in
+      let x = declared_from fields_declared 1 tree (fields_each 1 tree) w.0 (contains_at (fields_in tree) g w.0 w.1) in
       record {
         number = x.0;
         declaration = x.2;
@@ -195,7 +191,7 @@ module _ (tree : List DeclTree) (V : Plain) (resolves : Resolves tree V) (new : 
 
   pub method_there : (i : ℕ) (d : DeclTree) (m : MethodAt) → slice_get tree i ≡ Some d → Contains (methods_declared (suc i) d) m → (g : ℕ) × IsResolved m g
   method_there i d m e c =
-      let z = at_contains (methods_in tree) m (method_has 1 tree m i (suc i) d e (omega arith) c) in
+      let z = at_contains (methods_in tree) m (declared_has methods_declared 1 tree (methods_each 1 tree) m i (suc i) d e (omega arith) c) in
       (z.0, resolved_at z.0 m z.1)
 
   pub record IsDeclaredMethod (g : ℕ) (k : PlainMethod) : Type 0 where
@@ -212,7 +208,7 @@ module _ (tree : List DeclTree) (V : Plain) (resolves : Resolves tree V) (new : 
       let z = map_at untag_method V.methods g k e in
       let w = map_at (method_outline types) (methods_in tree) g (heading_of z.0)
       (sym (ap (λ y. slice_get y g) headings_are) ∙ at_map heading_of V.methods g z.0 z.1) in
-      let x = method_from 1 tree w.0 (contains_at (methods_in tree) g w.0 w.1) in
+      let x = declared_from methods_declared 1 tree (methods_each 1 tree) w.0 (contains_at (methods_in tree) g w.0 w.1) in
       let r = resolved_at g w.0 w.1 in
       record {
         number = x.0;

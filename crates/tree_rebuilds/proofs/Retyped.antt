@@ -24,7 +24,7 @@ use Rattle.flow_rules.specs.Operands.{object_in, object_of, object_if, variable_
 use Rattle.flow_rules.specs.Numbered.{row_number, rows_of}
 use Rattle.flow_rules.specs.Types.{variable_object}
 use Rattle.flow_rules.specs.Facts.{numbers, row_info, IsFactsOf}
-use Rattle.facts_order.proofs.Items.{row_at}
+use Rattle.flow_rules.proofs.NumberedItems.{numbered_rows}
 use Rattle.flow_rules.proofs.Listed.{at_below, at_map}
 use Rattle.rebuild_model.specs.Renaming.{Places, Renaming, renaming_of, reclassed, retyped}
 use Rattle.written_tree.specs.Names.{written_base, written_type}
@@ -105,7 +105,7 @@ module _ (P Q : Plain) (F : Facts) (facts : IsFactsOf P Q F) (H : Hierarchy) (hi
   -- a row stands at a live node
   pub row_live : (i : RowItem) (r : ℕ) → row_number P Q i ≡ Some r → is_live H.order (place_of_row H r) ≡ true
   row_live i r e =
-      let x = row_at P Q i r e in
+      let x = (numbered_rows P Q).at i r e in
       let at = subst (λ z. slice_get z r ≡ Some (row_info (numbers P Q) Q x.0)) (sym facts.rows) (at_map (row_info (numbers P Q) Q) (rows_of P Q) r x.0 x.1) in
       hierarchy.placed.rows r (at_below F.rows.items r (row_info (numbers P Q) Q x.0) at)
 

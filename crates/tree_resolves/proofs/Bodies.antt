@@ -21,7 +21,8 @@ use Rattle.name_rules.specs.Conditions.{FaultIn, FaultInOne, FaultInValue, this_
 use Rattle.written_tree.specs.Names.{nowhere, class_name, written_type}
 use Rattle.written_tree.specs.Bodies.{static_field_tree, static_call_tree, loop_tree, scope_after, scope_after_part, variable_name, is_in_scope, is_simple, static_field_name, static_call_name, field_name, called_name, written, written_all, written_if, written_target, declared, written_st, written_sts, written_part, written_arms, written_else}
 use Rattle.tree_resolves.specs.Stages.{IsStage, HasHolder, FindsField, FindsMethod}
-use Rattle.tree_resolves.specs.Known.{KnownEx, KnownExs, KnownIf, KnownTarget, KnownVariable, KnownSt, KnownSts, KnownArms}
+use Rattle.tree_resolves.specs.Known.{KnownEx, KnownExs, KnownTarget, KnownVariable, known}
+use Rattle.java_meaning.specs.EachStatement.{OfOption, InSt, InSts, InArms}
 use Rattle.tree_resolves.proofs.Faults.{bound_no_class, variable_fault, own_field_fault, own_field_no_class, holder_field_fault, holder_call_fault, field_fault, call_fault, own_call_fault, local_fault, if_fault, loop_fault}
 use Rattle.tree_resolves.proofs.Scopes.{IsScope, is_there, not_bound, more}
 
@@ -165,7 +166,7 @@ module _ (P : Plain) (R : Renaming) (H : Hierarchy) (m : ℕ) (k : PlainMethod) 
       exs_ok (f_ex_then a b) g r (in_first x) = ex_ok a g.0 r x
       exs_ok (f_ex_then a b) g r (in_later x) = exs_ok b g.1 r x
 
-    if_ok : {e : Option Ex} → FormedOption P k formed e → KnownIf P R H m k O e → (r : Refusal)
+    if_ok : {e : Option Ex} → FormedOption P k formed e → OfOption (KnownEx P R H m k O) e → (r : Refusal)
         → FaultInValue O here names (written_if P R H m k scope e) r → ⊥
     if_ok f_none g r x = elim x [ ]
     if_ok (f_some a) g r (in_value x) = ex_ok a g r x
@@ -230,7 +231,7 @@ module _ (P : Plain) (R : Renaming) (H : Hierarchy) (m : ℕ) (k : PlainMethod) 
 
   declare_ok : {formed scope : List ℕ} {names : List (List ℕ)} (l : Bool) (i : ℕ) (e : Option Ex) (new : IsNewLocal k formed i)
       → IsScope k formed scope names → FormedOption P k (i ∷ formed) e
-      → KnownVariable P R H m k O i → KnownIf P R H m k O e → (r : Refusal)
+      → KnownVariable P R H m k O i → OfOption (KnownEx P R H m k O) e → (r : Refusal)
       → StFault O here l names (declared P R H m k i (written_if P R H m k (scope ++ i ∷ []) e)) r → ⊥
   declare_ok {formed} {scope} {names} l i e new s a type value r =
       let v = new.variable in
@@ -246,7 +247,7 @@ module _ (P : Plain) (R : Renaming) (H : Hierarchy) (m : ℕ) (k : PlainMethod) 
 
   mutual
     pub st_ok : {l : Bool} {formed scope : List ℕ} {names : List (List ℕ)} {x : St} → IsScope k formed scope names → FormedSt P k l formed x
-        → KnownSt P R H m k O x
+        → InSt (known P R H m k O) x
         → (r : Refusal) → StFault O here l names (written_st P R H m k scope x) r → ⊥
     st_ok {l = l} s (f_declare {i = i} {e = e} new a) g r x = declare_ok l i e new s a g.0 g.1 r x
     st_ok s (f_block a) g r (in_block x) = sts_ok s a g r x
@@ -269,20 +270,20 @@ module _ (P : Plain) (R : Renaming) (H : Hierarchy) (m : ℕ) (k : PlainMethod) 
     st_ok s (f_continue a) g r continue_outside = false≢true a
 
     pub sts_ok : {l : Bool} {formed scope : List ℕ} {names : List (List ℕ)} {xs : Sts} → IsScope k formed scope names → FormedSts P k l formed xs
-        → KnownSts P R H m k O xs
+        → InSts (known P R H m k O) xs
         → (r : Refusal) → StsFault O here l names (written_sts P R H m k scope xs) r → ⊥
     sts_ok s f_no_st g r x = elim x [ ]
     sts_ok s (f_st_then a b) g r (in_statement x) = st_ok s a g.0 r x
     sts_ok s (f_st_then a b) g r (in_rest x) = sts_ok (after s a) b g.1 r x
 
     part_ok : {l : Bool} {formed scope : List ℕ} {names : List (List ℕ)} {xs : Sts} → IsScope k formed scope names → FormedSts P k l formed xs
-        → KnownSts P R H m k O xs
+        → InSts (known P R H m k O) xs
         → (r : Refusal) → PartFault O here l names (written_part P R H m k scope xs) r → ⊥
     part_ok s f_no_st g r x = elim x [ ]
     part_ok s (f_st_then a b) g r (in_part x) = st_ok s a g.0 r x
 
     arms_ok : {l : Bool} {formed scope : List ℕ} {names : List (List ℕ)} {a : Arms} → IsScope k formed scope names → FormedArms P k l formed a
-        → KnownArms P R H m k O a
+        → InArms (known P R H m k O) a
         → (r : Refusal) → ArmsFault O here l names (written_arms P R H m k scope a) r → ⊥
     arms_ok s f_no_other g r x = elim x [ ]
     arms_ok s (f_otherwise a) g r x = elim x [ ]
@@ -291,7 +292,7 @@ module _ (P : Plain) (R : Renaming) (H : Hierarchy) (m : ℕ) (k : PlainMethod) 
     arms_ok s (f_arm a b c) g r (in_more_arms x) = arms_ok s c g.2 r x
 
     else_ok : {l : Bool} {formed scope : List ℕ} {names : List (List ℕ)} {a : Arms} → IsScope k formed scope names → FormedArms P k l formed a
-        → KnownArms P R H m k O a
+        → InArms (known P R H m k O) a
         → (r : Refusal) (ss : Statements) → written_else P R H m k scope a ≡ tree.otherwise ss → StsFault O here l names ss r → ⊥
     else_ok s f_no_other g r ss e x = absurd (cc e)
     else_ok {l = l} {scope = scope} {names = names} s (f_otherwise {xs = xs} a) g r ss e x =

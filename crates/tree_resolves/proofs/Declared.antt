@@ -1,11 +1,12 @@
 -- No two fields and no two methods of one name are declared in a type, where no two of its members have one name.
-use Rattle.std.proofs.Common.{◌≡◌, ℕ, suc, true, List, [], ◌∷◌, Some, None, Contains, refl, sym, ap, ◌∙◌, arith}
+use Rattle.std.proofs.Common.{◌≡◌, ℕ, suc, ◌+◌, true, List, [], ◌∷◌, Some, None, Contains, refl, sym, ap, ◌∙◌, subst, arith}
 use Rattle.std.specs.Prelude.{slice_get}
 use Rattle.java_tree.specs.Syntax.{HeadTree, MemberTree, FieldTree, MethodTree, DeclTree, ClassTree, InterfaceTree}
-use Rattle.flow_rules.proofs.Listed.{map_from, one_from}
+use Rattle.flow_rules.proofs.Listed.{map_from, one_from, each_from}
+use Rattle.flow_rules.specs.Ordered.{each}
 use Rattle.name_rules.specs.declared.parts.Kind.TheVariants as kinds
 use Rattle.name_rules.specs.Outline.{FieldAt, MethodAt, field_member, method_member, fields_of, methods_of, fields_declared, methods_declared, fields_from, methods_from, has_word, is_abstract_word}
-use Rattle.tree_rebuilds.proofs.Outlined.{field_from, method_from, member_field_from, member_method_from}
+use Rattle.tree_rebuilds.proofs.Outlined.{fields_each, methods_each, member_field_from, member_method_from}
 use Rattle.tree_resolves.proofs.Once.{Once, append_once, map_once}
 
 -- two members, two fields and two methods of one name
@@ -94,18 +95,19 @@ method_owner c (ClassTree mods n parent faces ms p) f h =
     let z = member_method_from c (has_word is_abstract_word mods) ms f h in member_method_owner c (has_word is_abstract_word mods) z.0 f z.2
 method_owner c (InterfaceTree mods n parents hs p) f h = let z = map_from _ hs f h in ap (λ (z : MethodAt). z.owner) (sym z.2)
 
+-- what is listed of each declaration, and belongs to it, has no two alike, where none has two
+module _ {A : Type 0} (owner : A → ℕ) (Same : A → A → Type 0) (own : (x y : A) → Same x y → owner x ≡ owner y) (of : ℕ → DeclTree → List A)
+    (owned : (c : ℕ) (d : DeclTree) (f : A) → Contains (of c d) f → owner f ≡ c) where
+  each_apart : (c : ℕ) (ds : List DeclTree) → ((j i : ℕ) (d : DeclTree) → slice_get ds i ≡ Some d → Once Same (of j d)) → Once Same (each of c ds)
+  each_apart c [] h = tt
+  each_apart c (d ∷ ds) h =
+      append_once Same (of c d) (each of (c + 1) ds) (h c 0 d refl) (each_apart (c + 1) ds (λ j i x e. h j (suc i) x e))
+      (λ f g a b e. let z = each_from of (c + 1) ds g b in omega (arith, owned c d f a, owned z.1 z.2 g z.5, z.4, own f g e))
+
 pub fields_apart : (c : ℕ) (ds : List DeclTree) → ((i : ℕ) (d : DeclTree) → slice_get ds i ≡ Some d → MembersApart d) → Once SameField (fields_from c ds)
-fields_apart c [] h = tt
-fields_apart c (d ∷ ds) h =
-    append_once SameField (fields_declared c d) (fields_from (suc c) ds) (declared_fields c d (h 0 d refl))
-    (fields_apart (suc c) ds (λ i x e. h (suc i) x e))
-    (λ f g a b e. let z = field_from (suc c) ds g b in
-    let u = field_owner c d f a in let v = field_owner z.1 z.2 g z.5 in let w = z.4 in let s = e.0 in omega (arith, u, v, w, s))
+fields_apart c ds h = subst (Once SameField) (sym (fields_each c ds))
+    (each_apart (λ (f : FieldAt). f.owner) SameField (λ f g e. e.0) fields_declared field_owner c ds (λ j i d e. declared_fields j d (h i d e)))
 
 pub methods_apart : (c : ℕ) (ds : List DeclTree) → ((i : ℕ) (d : DeclTree) → slice_get ds i ≡ Some d → MembersApart d) → Once SameMethod (methods_from c ds)
-methods_apart c [] h = tt
-methods_apart c (d ∷ ds) h =
-    append_once SameMethod (methods_declared c d) (methods_from (suc c) ds) (declared_methods c d (h 0 d refl))
-    (methods_apart (suc c) ds (λ i x e. h (suc i) x e))
-    (λ f g a b e. let z = method_from (suc c) ds g b in
-    let u = method_owner c d f a in let v = method_owner z.1 z.2 g z.5 in let w = z.4 in let s = e.0 in omega (arith, u, v, w, s))
+methods_apart c ds h = subst (Once SameMethod) (sym (methods_each c ds))
+    (each_apart (λ (m : MethodAt). m.owner) SameMethod (λ f g e. e.0) methods_declared method_owner c ds (λ j i d e. declared_methods j d (h i d e)))

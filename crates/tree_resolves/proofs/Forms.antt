@@ -30,7 +30,8 @@ use Rattle.rebuild_model.specs.Renaming.{Renaming}
 use Rattle.written_tree.specs.Names.{row_name, written_type}
 use Rattle.tree_rebuilds.proofs.Nodes.{tree}
 use Rattle.tree_rebuilds.proofs.Retyped.{HasRow, variable_has_row}
-use Rattle.tree_resolves.specs.Known.{IsKnownCast, KnownEx, KnownExs, KnownIf, KnownTarget, KnownVariable, KnownSt, KnownSts, KnownArms}
+use Rattle.tree_resolves.specs.Known.{IsKnownCast, KnownEx, KnownExs, KnownTarget, KnownVariable, known}
+use Rattle.java_meaning.specs.EachStatement.{OfOption, InSt, InSts, InArms}
 use Rattle.tree_resolves.proofs.Origins.{R}
 use Rattle.tree_resolves.proofs.Modifiers.{Given}
 use Rattle.tree_resolves.proofs.Named.{row_known, type_known}
@@ -139,15 +140,16 @@ module _ {P Q : Plain} {F : Facts} {pt : PointsTo} {H : Hierarchy} (G : Given P 
   abbrev type : Ex → Option ObjectType
   type = type_in P m h
 
-  if_known : {s : List ℕ} (e : Option Ex) → FormedOption P k s (bare_if e) → Rows (parts_if P type m h e) → KnownIf P R₀ H m k O (bare_if e)
+  if_known : {s : List ℕ} (e : Option Ex) → FormedOption P k s (bare_if e) → Rows (parts_if P type m h e) → OfOption (KnownEx P R₀ H m k O) (bare_if e)
   if_known None f r = tt
   if_known (Some e) (f_some a) r = ex_known false e a r
 
-  set_known : {s : List ℕ} (v : Ex) (e : Option Ex) → FormedOption P k s (bare_if e) → Rows (parts_set P type m h v e) → KnownIf P R₀ H m k O (bare_if e)
+  set_known : {s : List ℕ} (v : Ex) (e : Option Ex) → FormedOption P k s (bare_if e) → Rows (parts_set P type m h v e)
+      → OfOption (KnownEx P R₀ H m k O) (bare_if e)
   set_known v None f r = tt
   set_known v (Some e) (f_some a) r = ex_known false e a (left (ps false e) _ r)
 
-  return_known : {s : List ℕ} (e : Option Ex) → FormedOption P k s (bare_if e) → Rows (parts_return P type m h e) → KnownIf P R₀ H m k O (bare_if e)
+  return_known : {s : List ℕ} (e : Option Ex) → FormedOption P k s (bare_if e) → Rows (parts_return P type m h e) → OfOption (KnownEx P R₀ H m k O) (bare_if e)
   return_known None f r = tt
   return_known (Some e) (f_some a) r = ex_known false e a (left (ps false e) _ r)
 
@@ -170,7 +172,7 @@ module _ {P Q : Plain} {F : Facts} {pt : PointsTo} {H : Hierarchy} (G : Given P 
   variable_known i v e = type_known G (variable_row m k i) v.ty (λ o d. variable_has_row P Q G.same G.formed m k i v at e o d)
 
   mutual
-    st_known : {l : Bool} {s : List ℕ} (x : St) → FormedSt P k l s (bare_st x) → Rows (parts_st P type m h x) → KnownSt P R₀ H m k O (bare_st x)
+    st_known : {l : Bool} {s : List ℕ} (x : St) → FormedSt P k l s (bare_st x) → Rows (parts_st P type m h x) → InSt (known P R₀ H m k O) (bare_st x)
     st_known (declare t i e) (f_declare a b) r = (variable_known i, set_known (local t i) e b r)
     st_known (block t xs) (f_block a) r = sts_known xs a r
     st_known (assign t b e) (f_assign a c) r = assign_known t.place b e a c r
@@ -192,11 +194,12 @@ module _ {P Q : Plain} {F : Facts} {pt : PointsTo} {H : Hierarchy} (G : Given P 
     st_known (continue t) f r = tt
 
     pub sts_known : {l : Bool} {s : List ℕ} (xs : Sts) → FormedSts P k l s (bare_sts xs) → Rows (parts_sts P type m h xs)
-        → KnownSts P R₀ H m k O (bare_sts xs)
+        → InSts (known P R₀ H m k O) (bare_sts xs)
     sts_known no_st f r = tt
     sts_known (st_then x xs) (f_st_then a b) r = (st_known x a (left (parts_st P type m h x) _ r), sts_known xs b (right (parts_st P type m h x) _ r))
 
-    arms_known : {l : Bool} {s : List ℕ} (a : Arms) → FormedArms P k l s (bare_arms a) → Rows (parts_arms P type m h a) → KnownArms P R₀ H m k O (bare_arms a)
+    arms_known : {l : Bool} {s : List ℕ} (a : Arms) → FormedArms P k l s (bare_arms a) → Rows (parts_arms P type m h a)
+        → InArms (known P R₀ H m k O) (bare_arms a)
     arms_known no_other f r = tt
     arms_known (otherwise xs) (f_otherwise a) r = sts_known xs a r
     arms_known (arm e xs more) (f_arm a b c) r =
@@ -207,9 +210,9 @@ module _ {P Q : Plain} {F : Facts} {pt : PointsTo} {H : Hierarchy} (G : Given P 
 
   -- each type that a body names is there
   pub body_known : (placed : slice_get Q.methods m ≡ Some h) (xs : Sts) → h.body ≡ Some xs
-      → FormedSts P k false (numbers_below (length k.params)) (bare_sts xs) → KnownSts P R₀ H m k O (bare_sts xs)
+      → FormedSts P k false (numbers_below (length k.params)) (bare_sts xs) → InSts (known P R₀ H m k O) (bare_sts xs)
   unfolding parts_of
   body_known placed xs e f =
-      subst (KnownSts P R₀ H m k O) (unlabel_sts 0 xs)
+      subst (InSts (known P R₀ H m k O)) (unlabel_sts 0 xs)
       (sts_known (label_sts 0 xs) (subst (FormedSts P k false (numbers_below (length k.params))) (sym (unlabel_sts 0 xs)) f)
       (λ p c x d. form_row P Q m h placed p (subst (λ z. Contains (parts_body P (type_in P m h) m h z) p) (sym e) c) x d))

@@ -2,12 +2,11 @@
 use Rattle.std.proofs.Common.{◌≡◌, ◌≢◌, ℕ, suc, ◌&&◌, true, false, List, [], ◌∷◌, Option, Some, None, Contains, refl, sym, ap, ◌∙◌, subst, arith, inl, inr, ⊎_elim}
 use Rattle.std.specs.Prelude.{◌⊎◌, ◌==◌, slice_get, length}
 use Rattle.std.specs.Option.{is_some, option_map_or}
-use Rattle.std.specs.List.{list_any}
 use Rattle.std.specs.Str.{bytes_eq}
-use Rattle.std.proofs.lemmas.Bool.{false≢true, and_from, and_parts, or_left, or_right, eqb-true, eq-eqb}
+use Rattle.std.proofs.lemmas.Bool.{false≢true, and_from, and_parts, or_left, eqb-true, eq-eqb}
 use Rattle.std.proofs.lemmas.Option.{same_Some}
 use Rattle.std.proofs.lemmas.Slice.Eq.{bytes_eq-Decides}
-use Rattle.java_tree.specs.Syntax.{DeclTree, MemberTree, FieldTree, MethodTree}
+use Rattle.java_tree.specs.Syntax.{MemberTree, FieldTree, MethodTree}
 use Rattle.java_core.specs.Programs.{Plain, PlainClass, PlainField, PlainMethod}
 use Rattle.java_core.specs.Classes.{field_of, own_field_of, is_field_of, supers_of, IsSubclass, same_class, through}
 use Rattle.java_core.specs.Formed.{variables_of}
@@ -24,34 +23,28 @@ use Rattle.flow_rules.specs.declared.items.RowItem.TheVariants as row
 use Rattle.flow_rules.specs.Facts.{is_holder}
 use Rattle.flow_rules.proofs.Listed.{first, at_contains, contains_at, at_map, map_at, map_has, when_has, position_there, one_from}
 use Rattle.name_rules.specs.declared.parts.Here.{Here}
-use Rattle.name_rules.specs.Outline.{FieldAt, MethodAt, name_of, fields_in, methods_in, types_in, type_named, is_known, is_type_name, is_static, outline, field_outline, method_outline, fields_declared, methods_declared}
+use Rattle.name_rules.specs.Outline.{FieldAt, MethodAt, name_of, fields_in, methods_in, type_named, is_known, is_type_name, is_static, outline, field_outline, method_outline, fields_declared, methods_declared}
 use Rattle.name_rules.specs.Meanings.{class_named, IsMet}
 use Rattle.rebuild_model.specs.Renaming.{Renaming}
 use Rattle.written_tree.specs.Names.{nowhere, class_name, written_type}
 use Rattle.written_tree.specs.Members.{head, body, holder_members, static_field_member, static_method_member}
-use Rattle.tree_rebuilds.proofs.Apart.{any_there, holder_class, no_holder}
-use Rattle.tree_rebuilds.proofs.Outlined.{field_has, method_has, member_field_has, member_method_has}
-use Rattle.tree_rebuilds.proofs.Nodes.{tree, node_tree, old_tree, tree_name}
+use Rattle.tree_rebuilds.proofs.Apart.{holder_class, no_holder}
+use Rattle.tree_rebuilds.proofs.Outlined.{fields_each, methods_each, declared_has, member_field_has, member_method_has}
+use Rattle.tree_rebuilds.proofs.Nodes.{node_tree, old_tree, tree_name}
 use Rattle.tree_rebuilds.proofs.Members.{static_field_has, static_method_has}
 use Rattle.tree_resolves.specs.Stages.{HasHolder, FindsField, FindsMethod}
-use Rattle.tree_resolves.proofs.Origins.{R, old_words, HasMethod, node_body, node_head, node_filler, interface_head, static_method, HasField, node_field, static_field, method_origin, field_origin}
+use Rattle.tree_resolves.proofs.Origins.{written, R, old_words, HasMethod, node_body, node_head, node_filler, interface_head, static_method, HasField, node_field, static_field, method_origin, field_origin}
 use Rattle.tree_resolves.proofs.Modifiers.{Given}
 use Rattle.tree_resolves.proofs.Supers.{type_number, holder_named, supers_are, above_object}
 use Rattle.tree_resolves.proofs.Variables.{field_free, local_free}
+use Rattle.rebuild_looks.proofs.Fields.{field_holder, method_holder}
 
 found_in : (P : Plain) (f : ℕ → Option ℕ) (a d : ℕ) → IsNearest P f a d → (k : ℕ) × (f k ≡ Some d)
 found_in P f a d (at_class e) = (a, e)
 found_in P f a d (above_class {p = p} e up n) = found_in P f p.0 d n
 
 module _ {P Q : Plain} {F : Facts} {pt : PointsTo} {H : Hierarchy} (G : Given P Q F pt H) where
-  abbrev T : List DeclTree
-  T = tree P Q F H
-
-  abbrev types : List (List ℕ)
-  types = types_in T
-
-  abbrev O : Plain
-  O = outline T
+  open written P Q F H use {trees as T, types, program as O}
 
   abbrev R₀ : Renaming
   R₀ = R P Q F H
@@ -155,20 +148,6 @@ module _ {P Q : Plain} {F : Facts} {pt : PointsTo} {H : Hierarchy} (G : Given P 
   method_owner _ (interface_head n i t a d) same = absurd (omega (arith, same))
   method_owner _ (static_method d i m k old a e s o) same = absurd (omega (arith, same))
 
-  field_holder : (f : ℕ) (old : PlainField) → slice_get P.fields f ≡ Some old → old.is_static ≡ true → is_holder P old.owner ≡ true
-  field_holder f old e h =
-      or_left (list_any (λ (k : PlainField). k.is_static && (k.owner == old.owner)) P.fields)
-      (list_any (λ (k : PlainMethod). k.is_static && (k.owner == old.owner)) P.methods)
-      (any_there (λ (k : PlainField). k.is_static && (k.owner == old.owner)) P.fields f old e
-      (and_from old.is_static (old.owner == old.owner) h (eq-eqb old.owner old.owner refl)))
-
-  pub method_holder : (m : ℕ) (old : PlainMethod) → slice_get P.methods m ≡ Some old → old.is_static ≡ true → is_holder P old.owner ≡ true
-  method_holder m old e h =
-      or_right (list_any (λ (k : PlainField). k.is_static && (k.owner == old.owner)) P.fields)
-      (list_any (λ (k : PlainMethod). k.is_static && (k.owner == old.owner)) P.methods)
-      (any_there (λ (k : PlainMethod). k.is_static && (k.owner == old.owner)) P.methods m old e
-      (and_from old.is_static (old.owner == old.owner) h (eq-eqb old.owner old.owner refl)))
-
   -- a static field is found in its holder
   own_field : (f : ℕ) (old : PlainField) → slice_get P.fields f ≡ Some old → old.is_static ≡ true → (h : IsHolder old.owner)
       → (g : ℕ) × (new : PlainField) × (own_field_of O (suc h.index) old.name ≡ Some g) × (slice_get O.fields g ≡ Some new) × (new.is_static ≡ true) ×
@@ -186,7 +165,8 @@ module _ {P Q : Plain} {F : Facts} {pt : PointsTo} {H : Hierarchy} (G : Given P 
       let y : Contains (static_field_member P R₀ H old.owner f old) t = when_has (old.is_static && (old.owner == old.owner)) (t ∷ []) t mine (first t []) in
       let d : Contains (fields_declared (suc h.index) (old_tree P Q F H old.owner h.class)) x =
       member_field_has (suc h.index) (holder_members P R₀ H old.owner) x t (static_field_has P R₀ H old.owner f old t e y) (first x []) in
-      let c = field_there x (field_has 1 T x h.index (suc h.index) (old_tree P Q F H old.owner h.class) h.stands (omega arith) d) in
+      let c = field_there x (declared_has fields_declared 1 T (fields_each 1 T) x h.index (suc h.index) (old_tree P Q F H old.owner h.class) h.stands
+      (omega arith) d) in
       let test = and_from (suc h.index == suc h.index) (bytes_eq old.name old.name) (eq-eqb (suc h.index) (suc h.index) refl)
       ((bytes_eq-Decides old.name old.name).1 refl) in
       let g = position_there (λ k. is_field_of (suc h.index) old.name k) O.fields (field_outline types x) c test in
@@ -211,7 +191,7 @@ module _ {P Q : Plain} {F : Facts} {pt : PointsTo} {H : Hierarchy} (G : Given P 
     pub finds_field : (f : ℕ) (old : PlainField) → slice_get P.fields f ≡ Some old → old.is_static ≡ true → FindsField P k O here old
     unfolding field_of has_holder
     finds_field f old e s =
-        let h = holder_of old.owner (field_holder f old e s) in
+        let h = holder_of old.owner (field_holder P f old e s) in
         let z = own_field f old e s h in
         record {
           holder = has_holder m k at here old.owner h;
@@ -234,7 +214,7 @@ module _ {P Q : Plain} {F : Facts} {pt : PointsTo} {H : Hierarchy} (G : Given P 
     pub finds_method : (d : ℕ) (old : PlainMethod) → slice_get P.methods d ≡ Some old → old.is_static ≡ true → FindsMethod P k O here old
     unfolding has_holder
     finds_method d old e s =
-        let h = holder_of old.owner (method_holder d old e s) in
+        let h = holder_of old.owner (method_holder P d old e s) in
         let t : MemberTree = MethodTree (head P R₀ H (old_words P Q F H) old.name d old) (body P R₀ H d old) nowhere in
         let x : MethodAt = record {
           owner = suc h.index;
@@ -248,7 +228,8 @@ module _ {P Q : Plain} {F : Facts} {pt : PointsTo} {H : Hierarchy} (G : Given P 
         (first t []) in
         let c : Contains (methods_declared (suc h.index) (old_tree P Q F H old.owner h.class)) x =
         member_method_has (suc h.index) false (holder_members P R₀ H old.owner) x t (static_method_has P R₀ H old.owner d old t e y) (first x []) in
-        let z = method_there x (method_has 1 T x h.index (suc h.index) (old_tree P Q F H old.owner h.class) h.stands (omega arith) c) in
+        let z = method_there x (declared_has methods_declared 1 T (methods_each 1 T) x h.index (suc h.index) (old_tree P Q F H old.owner h.class)
+        h.stands (omega arith) c) in
         record {
           holder = has_holder m k at here old.owner h;
           method = z.0;
@@ -268,7 +249,7 @@ module _ {P Q : Plain} {F : Facts} {pt : PointsTo} {H : Hierarchy} (G : Given P 
     pub holder_met : k.is_static ≡ true → (x : List ℕ) (g : ℕ) (new : PlainMethod) → IsMet O here.owner x g new
         → (new.is_static ≡ true) × (new.owner ≡ here.owner)
     holder_met s x g new met =
-        let h = holder_of k.owner (method_holder m k at s) in
+        let h = holder_of k.owner (method_holder P m k at s) in
         let w = method_at g new met.stands in
         let o = method_origin P Q F H w.0 w.1 in
         let i = here_is s h in

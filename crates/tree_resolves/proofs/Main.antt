@@ -20,12 +20,13 @@ use Rattle.name_rules.specs.declared.parts.Kind.TheVariants as kinds
 use Rattle.name_rules.specs.Outline.{MethodAt, types_in, type_meant, class_at, type_named, outline, method_outline, param_outline, methods_declared}
 use Rattle.written_tree.specs.Names.{nowhere, written_type}
 use Rattle.written_tree.specs.Members.{head, param, body, holder_members, static_method_member}
-use Rattle.tree_rebuilds.proofs.Outlined.{method_has, member_method_has}
+use Rattle.tree_rebuilds.proofs.Outlined.{methods_each, declared_has, member_method_has}
 use Rattle.tree_rebuilds.proofs.Nodes.{tree, old_tree}
 use Rattle.tree_rebuilds.proofs.Members.{static_method_has}
 use Rattle.tree_resolves.proofs.Origins.{R, old_words}
 use Rattle.tree_resolves.proofs.Modifiers.{Given}
-use Rattle.tree_resolves.proofs.Holders.{holder_of, method_holder, method_there}
+use Rattle.tree_resolves.proofs.Holders.{holder_of, method_there}
+use Rattle.rebuild_looks.proofs.Fields.{method_holder}
 
 module _ {P Q : Plain} {F : Facts} {pt : PointsTo} {H : Hierarchy} (G : Given P Q F pt H) where
   abbrev types : List (List ℕ)
@@ -56,7 +57,7 @@ module _ {P Q : Plain} {F : Facts} {pt : PointsTo} {H : Hierarchy} (G : Given P 
       let old = G.formed.main in
       let is = G.formed.main_is in
       let e = G.formed.main_stands in
-      let h = holder_of G old.owner (method_holder G d old e is.static) in
+      let h = holder_of G old.owner (method_holder P d old e is.static) in
       let t : MemberTree = MethodTree (head P (R P Q F H) H (old_words P Q F H) old.name d old) (body P (R P Q F H) H d old) nowhere in
       let x : MethodAt = record {
         owner = suc h.index;
@@ -71,7 +72,8 @@ module _ {P Q : Plain} {F : Facts} {pt : PointsTo} {H : Hierarchy} (G : Given P 
       let c : Contains (methods_declared (suc h.index) (old_tree P Q F H old.owner h.class)) x =
       member_method_has (suc h.index) false (holder_members P (R P Q F H) H old.owner) x t (static_method_has P (R P Q F H) H old.owner d old t e y)
       (first x []) in
-      let z = method_there G x (method_has 1 (tree P Q F H) x h.index (suc h.index) (old_tree P Q F H old.owner h.class) h.stands (omega arith) c) in (
+      let z = method_there G x (declared_has methods_declared 1 (tree P Q F H) (methods_each 1 (tree P Q F H)) x h.index (suc h.index)
+      (old_tree P Q F H old.owner h.class) h.stands (omega arith) c) in (
         z.0,
         method_outline types x,
         z.1,

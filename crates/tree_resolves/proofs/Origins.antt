@@ -4,7 +4,7 @@ use Rattle.std.specs.Prelude.{slice_get, ◌==◌}
 use Rattle.std.proofs.lemmas.Bool.{and_parts, eqb-true}
 use Rattle.kaba_base.specs.declared.words.Keyword.TheVariants.{Public, Static}
 use Rattle.java_tree.specs.declared.Modifier.{Modifier}
-use Rattle.java_tree.specs.Syntax.{HeadTree, MemberTree, Statements}
+use Rattle.java_tree.specs.Syntax.{DeclTree, HeadTree, MemberTree, Statements}
 use Rattle.java_core.specs.Programs.{Plain, PlainClass, PlainField, PlainMethod}
 use Rattle.fact_model.specs.declared.facts.Facts.{Facts}
 use Rattle.kaba_order.specs.Orders.{is_live}
@@ -13,7 +13,7 @@ use Rattle.flow_rules.specs.declared.items.ColumnItem.TheVariants as column
 use Rattle.flow_rules.specs.declared.items.RowItem.TheVariants as row
 use Rattle.flow_rules.specs.Facts.{is_holder}
 use Rattle.name_rules.specs.declared.parts.Kind.TheVariants as kinds
-use Rattle.name_rules.specs.Outline.{FieldAt, MethodAt, fields_in, methods_in, fields_declared, methods_declared, has_word, is_abstract_word}
+use Rattle.name_rules.specs.Outline.{FieldAt, MethodAt, types_in, fields_in, methods_in, fields_declared, methods_declared, has_word, is_abstract_word}
 use Rattle.name_rules.specs.Outline as outline
 use Rattle.flow_rules.proofs.Listed.{map_from, when_from, one_from}
 use Rattle.rebuild_model.specs.Renaming.{Renaming}
@@ -21,9 +21,18 @@ use Rattle.rebuild_model.specs.Members.{is_made_at, is_filled}
 use Rattle.written_tree.specs.Names.{nowhere, modifier, written_type}
 use Rattle.written_tree.specs.Members.{head, body, filling, class_members, interface_heads, holder_members}
 use Rattle.written_tree.specs.Written.{class_modifiers, type_tree}
-use Rattle.tree_rebuilds.proofs.Outlined.{field_from, method_from, member_field_from, member_method_from}
+use Rattle.tree_rebuilds.proofs.Outlined.{fields_each, methods_each, declared_from, member_field_from, member_method_from}
 use Rattle.tree_rebuilds.proofs.Nodes.{items, by_node, tree, node_tree, old_tree, Declares, a_node, a_holder, declares}
 use Rattle.tree_rebuilds.proofs.Members.{IsHeadTree, IsHeadAt, IsMember, a_field, a_body, a_head, a_filler, in_class, as_filler, class_from, interface_from, IsStatic, a_static_field, a_static_method, holder_from}
+
+-- the trees that are written, the names of the types that they declare, and their outline
+pub record Written : Type 0 where
+  pub trees : List DeclTree
+  pub types : List (List ℕ)
+  pub program : Plain
+
+abbrev pub written : Plain → Plain → Facts → Hierarchy → Written
+written P Q F H = record { trees = tree P Q F H; types = types_in (tree P Q F H); program = outline.outline (tree P Q F H) }
 
 module _ (P Q : Plain) (F : Facts) (H : Hierarchy) where
   abbrev pub R : Renaming
@@ -143,10 +152,10 @@ module _ (P Q : Plain) (F : Facts) (H : Hierarchy) where
 
   pub method_origin : (x : MethodAt) → Contains (methods_in (tree P Q F H)) x → HasMethod x
   method_origin x c =
-      let z = method_from 1 (tree P Q F H) x c in
+      let z = declared_from methods_declared 1 (tree P Q F H) (methods_each 1 (tree P Q F H)) x c in
       declared_method z.0 z.2 x z.3 (declares P Q F H z.0 z.2 z.3) (subst (λ j. Contains (methods_declared j z.2) x) (omega (arith, z.4)) z.5)
 
   pub field_origin : (x : FieldAt) → Contains (fields_in (tree P Q F H)) x → HasField x
   field_origin x c =
-      let z = field_from 1 (tree P Q F H) x c in
+      let z = declared_from fields_declared 1 (tree P Q F H) (fields_each 1 (tree P Q F H)) x c in
       declared_field z.0 z.2 x z.3 (declares P Q F H z.0 z.2 z.3) (subst (λ j. Contains (fields_declared j z.2) x) (omega (arith, z.4)) z.5)

@@ -28,14 +28,14 @@ use Rattle.flow_rules.specs.Ordered.{each}
 use Rattle.flow_rules.proofs.Listed.{at_below, map_at, contains_at, one_from, index_at}
 use Rattle.rebuild_looks.specs.Known.{AreColumns}
 use Rattle.rebuild_given.proofs.Given.{columns as columns_are}
-use Rattle.name_rules.specs.Outline.{MethodAt, methods_in, method_outline, param_outline, types_in, type_meant, class_outline, name_of, outline, is_static, is_static_word, has_word}
+use Rattle.name_rules.specs.Outline.{MethodAt, methods_in, method_outline, param_outline, type_meant, class_outline, name_of, outline, is_static, is_static_word, has_word}
 use Rattle.name_rules.specs.Conditions.{AreOneSlot}
 use Rattle.written_tree.specs.Names.{written_type}
 use Rattle.written_tree.specs.Members.{param, head}
 use Rattle.tree_rebuilds.proofs.Apart.{no_holder}
-use Rattle.tree_rebuilds.proofs.Nodes.{tree, node_tree, old_tree, tree_name, Declares, a_node, a_holder, declares}
+use Rattle.tree_rebuilds.proofs.Nodes.{node_tree, old_tree, tree_name, Declares, a_node, a_holder, declares}
 use Rattle.tree_rebuilds.proofs.Members.{IsHeadTree, IsHeadAt}
-use Rattle.tree_resolves.proofs.Origins.{R, IsNodeAt, IsHolderAt, HasMethod, node_body, node_head, node_filler, interface_head, static_method, method_origin}
+use Rattle.tree_resolves.proofs.Origins.{written, R, IsNodeAt, IsHolderAt, HasMethod, node_body, node_head, node_filler, interface_head, static_method, method_origin}
 use Rattle.tree_resolves.proofs.Modifiers.{Given}
 use Rattle.tree_resolves.proofs.Variables.{column_number}
 use Rattle.tree_resolves.proofs.Supers.{IsNumber, above_object, above_node, same_node, supers_are}
@@ -44,14 +44,7 @@ use Rattle.tree_resolves.proofs.AtNodes.{slot_first, filler_offers, declaration_
 use Rattle.tree_resolves.proofs.Separate.{methods_are_apart}
 
 module _ {P Q : Plain} {F : Facts} {pt : PointsTo} {H : Hierarchy} (G : Given P Q F pt H) where
-  abbrev T : List DeclTree
-  T = tree P Q F H
-
-  abbrev types : List (List ℕ)
-  types = types_in T
-
-  abbrev O : Plain
-  O = outline T
+  open written P Q F H use {trees as T, types, program as O}
 
   -- ---- the types of a method of a slot
 
@@ -75,6 +68,13 @@ module _ {P Q : Plain} {F : Facts} {pt : PointsTo} {H : Hierarchy} (G : Given P 
       ap (λ i. meant i v.ty ∷ written_params m k (n + 1) vs) (f 0 n v (omega arith) refl)
       ∙ ap (λ z. meant (row.Param s n) v.ty ∷ z) (params_from_slot m s k (n + 1) vs (λ i j w e d. f (suc i) j w (omega (arith, e)) d))
 
+  -- what is written of a method of a slot has the slot's types
+  pub record HasTypes (s : ℕ) (h : HeadTree) : Type 0 where
+    pub signature : PlainSlot
+    pub stands : slice_get P.slots s ≡ Some signature
+    pub params : types_of (map (param_outline types) h.params) ≡ slot_params s 0 signature.params
+    pub result : option_map (type_meant types) h.type ≡ option_map (meant (row.Return s)) signature.result
+
   -- a method of a slot, in the type of a node
   pub record IsOfSlot (x : MethodAt) : Type 0 where
     pub node : ℕ
@@ -82,17 +82,7 @@ module _ {P Q : Plain} {F : Facts} {pt : PointsTo} {H : Hierarchy} (G : Given P 
     pub at : IsNumber G x.owner node
     pub offers : OffersSlot G node slot x.head.name
     pub instance : is_static x ≡ false
-    pub signature : PlainSlot
-    pub stands : slice_get P.slots slot ≡ Some signature
-    pub params : types_of (map (param_outline types) x.head.params) ≡ slot_params slot 0 signature.params
-    pub result : option_map (type_meant types) x.head.type ≡ option_map (meant (row.Return slot)) signature.result
-
-  -- what is written of a method of a slot has the slot's types
-  record HasTypes (s : ℕ) (h : HeadTree) : Type 0 where
-    signature : PlainSlot
-    stands : slice_get P.slots s ≡ Some signature
-    params : types_of (map (param_outline types) h.params) ≡ slot_params s 0 signature.params
-    result : option_map (type_meant types) h.type ≡ option_map (meant (row.Return s)) signature.result
+    pub types : HasTypes slot x.head
 
   two_maps : (f : Ty → TypeName) (g : Ty → Ty) (o : Option Ty) → ((t : Ty) → type_meant types (f t) ≡ g t)
       → option_map (type_meant types) (option_map f o) ≡ option_map g o
@@ -149,61 +139,22 @@ module _ {P Q : Plain} {F : Facts} {pt : PointsTo} {H : Hierarchy} (G : Given P 
   abbrev IsOld : MethodAt → Type 0
   IsOld x = (c : ℕ) × (i : ℕ) × (k : PlainClass) × IsHolderAt P Q F H c i k × (x.owner ≡ suc i)
 
+  of_types : (x : MethodAt) (n s : ℕ) → IsNumber G x.owner n → OffersSlot G n s x.head.name → is_static x ≡ false → HasTypes s x.head → IsOfSlot x
+  of_types x n s at offers instance t = record { node = n; slot = s; at = at; offers = offers; instance = instance; types = t }
+
   found : (x : MethodAt) → HasMethod P Q F H x → IsOfSlot x ⊎ IsOld x
   found x (node_body n i c m k a e at o) =
       let number = column_number G c (column.Def m) e in
       let s = columns.slotted (column.Def m) c number refl in
-      let t = head_types [] ((R P Q F H).method_name m) m s.0 k o (sym (ap (option_and_then (λ (z : PlainMethod). z.slot)) o) ∙ s.1) in
-      inl (record {
-        node = n;
-        slot = s.0;
-        at = numbered true n i a;
-        offers = body_offers G n c m s.0 a.live e at s.1;
-        instance = refl;
-        signature = t.signature;
-        stands = t.stands;
-        params = t.params;
-        result = t.result;
-      })
-  found x (node_head n i h a d) =
-      let t = first_types _ d.slot h d.tree in
-      inl (record {
-        node = n;
-        slot = d.slot;
-        at = numbered true n i a;
-        offers = head_offers _ n h a.live d;
-        instance = ap (λ (y : HeadTree). has_word is_static_word y.mods) (sym d.tree.is);
-        signature = t.signature;
-        stands = t.stands;
-        params = t.params;
-        result = t.result;
-      })
-  found x (node_filler n i s h a f d) =
-      let t = first_types _ s h d in
-      inl (record {
-        node = n;
-        slot = s;
-        at = numbered true n i a;
-        offers = filler_offers G n s h.name d.signature f d.slot_stands (ap (λ (y : HeadTree). y.name) (sym d.is));
-        instance = ap (λ (y : HeadTree). has_word is_static_word y.mods) (sym d.is);
-        signature = t.signature;
-        stands = t.stands;
-        params = t.params;
-        result = t.result;
-      })
-  found x (interface_head n i h a d) =
-      let t = first_types _ d.slot h d.tree in
-      inl (record {
-        node = n;
-        slot = d.slot;
-        at = numbered false n i a;
-        offers = head_offers _ n h a.live d;
-        instance = ap (λ (y : HeadTree). has_word is_static_word y.mods) (sym d.tree.is);
-        signature = t.signature;
-        stands = t.stands;
-        params = t.params;
-        result = t.result;
-      })
+      inl (of_types _ n s.0 (numbered true n i a) (body_offers G n c m s.0 a.live e at s.1) refl
+      (head_types _ ((R P Q F H).method_name m) m s.0 k o (sym (ap (option_and_then (λ (z : PlainMethod). z.slot)) o) ∙ s.1)))
+  found x (node_head n i h a d) = inl (of_types _ n d.slot (numbered true n i a) (head_offers _ n h a.live d)
+      (ap (λ (y : HeadTree). has_word is_static_word y.mods) (sym d.tree.is)) (first_types _ d.slot h d.tree))
+  found x (node_filler n i s h a f d) = inl (of_types _ n s (numbered true n i a)
+      (filler_offers G n s h.name d.signature f d.slot_stands (ap (λ (y : HeadTree). y.name) (sym d.is)))
+      (ap (λ (y : HeadTree). has_word is_static_word y.mods) (sym d.is)) (first_types _ s h d))
+  found x (interface_head n i h a d) = inl (of_types _ n d.slot (numbered false n i a) (head_offers _ n h a.live d)
+      (ap (λ (y : HeadTree). has_word is_static_word y.mods) (sym d.tree.is)) (first_types _ d.slot h d.tree))
   found x (static_method c i m k old a e s o) = inr (c, i, k, a, refl)
 
   -- ---- at and above a type
@@ -276,13 +227,14 @@ module _ {P Q : Plain} {F : Facts} {pt : PointsTo} {H : Hierarchy} (G : Given P 
 
   same_slot : (x y : MethodAt) (a : IsOfSlot x) (b : IsOfSlot y) → a.slot ≡ b.slot → AreOneSlot (method_outline types x) (method_outline types y)
   same_slot x y a b e =
-      let one : a.signature ≡ b.signature = same_Some _ _ (sym a.stands ∙ ap (slice_get P.slots) e ∙ b.stands) in
+      let one : a.types.signature ≡ b.types.signature = same_Some _ _ (sym a.types.stands ∙ ap (slice_get P.slots) e ∙ b.types.stands) in
       record {
         first = a.instance;
         second = b.instance;
-        params = a.params ∙ ap (λ z. slot_params z 0 a.signature.params) e ∙ ap (λ (s : PlainSlot). slot_params b.slot 0 s.params) one ∙ sym b.params;
-        result = a.result ∙ ap (λ z. option_map (meant (row.Return z)) a.signature.result) e
-            ∙ ap (λ (s : PlainSlot). option_map (meant (row.Return b.slot)) s.result) one ∙ sym b.result;
+        params = a.types.params ∙ ap (λ z. slot_params z 0 a.types.signature.params) e ∙ ap (λ (s : PlainSlot). slot_params b.slot 0 s.params) one
+            ∙ sym b.types.params;
+        result = a.types.result ∙ ap (λ z. option_map (meant (row.Return z)) a.types.signature.result) e
+            ∙ ap (λ (s : PlainSlot). option_map (meant (row.Return b.slot)) s.result) one ∙ sym b.types.result;
       }
 
   in_type : (i j c r : ℕ) (x y : MethodAt) (d : DeclTree) → slice_get (methods_in T) i ≡ Some x → slice_get (methods_in T) j ≡ Some y → i < j

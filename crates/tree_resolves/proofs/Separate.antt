@@ -1,5 +1,5 @@
 -- No type of the written tree has two fields or two methods of one name.
-use Rattle.std.proofs.Common.{◌≡◌, ℕ, ◌<◌, ◌&&◌, Bool, true, false, List, Some, Contains, refl, sym, ◌∙◌, subst, arith}
+use Rattle.std.proofs.Common.{◌≡◌, ℕ, ◌<◌, ◌&&◌, Bool, true, false, List, [], ◌∷◌, Some, Contains, refl, sym, ◌∙◌, subst, arith}
 use Rattle.std.specs.Prelude.{slice_get, ◌==◌}
 use Rattle.std.proofs.lemmas.Bool.{and_parts, eqb-true}
 use Rattle.java_tree.specs.Syntax.{MemberTree, FieldTree, MethodTree, DeclTree}
@@ -8,7 +8,7 @@ use Rattle.kaba_order.specs.Orders.{is_live}
 use Rattle.fact_model.specs.declared.facts.Facts.{Facts}
 use Rattle.fact_model.specs.declared.sets.PointsTo.{PointsTo}
 use Rattle.hier_model.specs.Hierarchies.{Hierarchy, is_class_node}
-use Rattle.flow_rules.specs.Ordered.{each}
+use Rattle.flow_rules.specs.Ordered.{each, when}
 use Rattle.flow_rules.proofs.Listed.{when_from, one_from, each_from_zero}
 use Rattle.name_rules.specs.Outline.{FieldAt, MethodAt, fields_in, methods_in}
 use Rattle.flow_rules.specs.declared.items.RowItem.TheVariants as row
@@ -25,6 +25,15 @@ use Rattle.tree_resolves.proofs.AtNodes.{all_once, class_once, interface_once}
 same_from : (x y u v : MemberTree) → u ≡ x → v ≡ y → SameMember x y → SameMember u v
 same_from x y u v a b e = subst (λ z. SameMember u z) (sym b) (subst (λ z. SameMember z y) (sym a) e)
 
+-- two static members of one class that are written the same are one
+two : (c f g : ℕ) (s t : Bool) (o r : ℕ) (u v x y : MemberTree) → Contains (when (s && (o == c)) (u ∷ [])) x → Contains (when (t && (r == c)) (v ∷ [])) y
+    → SameMember x y → f < g → (o ≡ r → SameMember u v → f ≡ g) → ⊥
+two c f g s t o r u v x y a b e lt same =
+    let m = when_from (s && (o == c)) (u ∷ []) x a in
+    let n = when_from (t && (r == c)) (v ∷ []) y b in
+    let owner : o ≡ r = eqb-true o c (and_parts s (o == c) m.0).1 ∙ sym (eqb-true r c (and_parts t (r == c) n.0).1) in
+    omega (arith, lt, same owner (same_from x y u v (one_from _ x m.1) (one_from _ y n.1) e))
+
 module _ {P Q : Plain} {F : Facts} {pt : PointsTo} {H : Hierarchy} (G : Given P Q F pt H) where
   abbrev T : List DeclTree
   T = tree P Q F H
@@ -37,25 +46,13 @@ module _ {P Q : Plain} {F : Facts} {pt : PointsTo} {H : Hierarchy} (G : Given P 
 
   two_fields : (c f g : ℕ) (k l : PlainField) (x y : MemberTree) → slice_get P.fields f ≡ Some k → slice_get P.fields g ≡ Some l → f < g
       → Contains (static_field_member P (R P Q F H) H c f k) x → Contains (static_field_member P (R P Q F H) H c g l) y → SameMember x y → ⊥
-  two_fields c f g k l x y p q lt a b e =
-      let u = when_from (k.is_static && (k.owner == c)) _ x a in
-      let v = when_from (l.is_static && (l.owner == c)) _ y b in
-      let s = eqb-true k.owner c (and_parts k.is_static (k.owner == c) u.0).1 in
-      let t = eqb-true l.owner c (and_parts l.is_static (l.owner == c) v.0).1 in
-      let name : k.name ≡ l.name = same_from x y (old_field f k) (old_field g l) (one_from _ x u.1) (one_from _ y v.1) e in
-      let same = G.formed.field_names f g k l p q (s ∙ sym t) name in
-      omega (arith, lt, same)
+  two_fields c f g k l x y p q lt a b e = two c f g k.is_static l.is_static k.owner l.owner (old_field f k) (old_field g l) x y a b e lt
+      (λ owner name. G.formed.field_names f g k l p q owner name)
 
   two_methods : (c m n : ℕ) (k l : PlainMethod) (x y : MemberTree) → slice_get P.methods m ≡ Some k → slice_get P.methods n ≡ Some l → m < n
       → Contains (static_method_member P (R P Q F H) H c m k) x → Contains (static_method_member P (R P Q F H) H c n l) y → SameMember x y → ⊥
-  two_methods c m n k l x y p q lt a b e =
-      let u = when_from (k.is_static && (k.owner == c)) _ x a in
-      let v = when_from (l.is_static && (l.owner == c)) _ y b in
-      let s = eqb-true k.owner c (and_parts k.is_static (k.owner == c) u.0).1 in
-      let t = eqb-true l.owner c (and_parts l.is_static (l.owner == c) v.0).1 in
-      let name : k.name ≡ l.name = same_from x y (old_method m k) (old_method n l) (one_from _ x u.1) (one_from _ y v.1) e in
-      let same = G.formed.method_names m n k l p q (s ∙ sym t) name in
-      omega (arith, lt, same)
+  two_methods c m n k l x y p q lt a b e = two c m n k.is_static l.is_static k.owner l.owner (old_method m k) (old_method n l) x y a b e lt
+      (λ owner name. G.formed.method_names m n k l p q owner name)
 
   field_method : (c f m : ℕ) (k : PlainField) (l : PlainMethod) (x y : MemberTree) → Contains (static_field_member P (R P Q F H) H c f k) x
       → Contains (static_method_member P (R P Q F H) H c m l) y → SameMember x y → ⊥

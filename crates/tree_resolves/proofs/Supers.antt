@@ -18,7 +18,7 @@ use Rattle.fact_model.specs.declared.sets.PointsTo.{PointsTo}
 use Rattle.hier_model.specs.Hierarchies.{Hierarchy, type_name, is_class_node}
 use Rattle.flow_rules.specs.Facts.{is_holder}
 use Rattle.flow_rules.proofs.Listed.{first, more, at_contains, contains_at, at_map, map_at, map_from, one_from}
-use Rattle.name_rules.specs.Outline.{name_of, types_in, type_named, class_at, class_outline, id_meant, parent_meant, parent_named, faces_named, outline}
+use Rattle.name_rules.specs.Outline.{name_of, type_named, class_at, class_outline, id_meant, parent_meant, parent_named, faces_named, outline}
 use Rattle.name_rules.specs.Meanings.{type_names, class_named}
 use Rattle.name_rules.specs.Asked.{IsSuper, a_parent, a_face}
 use Rattle.written_tree.specs.Supers.{is_cover, nodes_that, superclass, type_id}
@@ -27,10 +27,10 @@ use Rattle.tree_rebuilds.proofs.Apart.{types_apart}
 use Rattle.tree_rebuilds.proofs.Chains.{class_down}
 use Rattle.tree_rebuilds.proofs.Order.{cover_from, superclass_from, among_from}
 use Rattle.tree_rebuilds.proofs.Outlined.{named_at}
-use Rattle.tree_rebuilds.proofs.Nodes.{items, tree, node_tree, old_tree, node_at, holder_at, tree_name, Declares, a_node, a_holder, declares}
+use Rattle.tree_rebuilds.proofs.Nodes.{items, node_tree, old_tree, node_at, holder_at, tree_name, Declares, a_node, a_holder, declares}
 use Rattle.tree_rebuilds.proofs.Named.{names_are}
 use Rattle.tree_resolves.proofs.Modifiers.{Given}
-use Rattle.tree_resolves.proofs.Origins.{R}
+use Rattle.tree_resolves.proofs.Origins.{written, R}
 use Rattle.tree_resolves.proofs.Once.{Once, once_at, map_once, filter_once, range_once}
 use Rattle.tree_resolves.proofs.Types.{type_once, type_is_new}
 
@@ -44,14 +44,7 @@ once_within agree same (x ∷ xs) h o = (
 )
 
 module _ {P Q : Plain} {F : Facts} {pt : PointsTo} {H : Hierarchy} (G : Given P Q F pt H) where
-  abbrev T : List DeclTree
-  T = tree P Q F H
-
-  abbrev types : List (List ℕ)
-  types = types_in T
-
-  abbrev O : Plain
-  O = outline T
+  open written P Q F H use {trees as T, types, program as O}
 
   abbrev class : ℕ → Bool
   class = is_class_node F H

@@ -34,7 +34,7 @@ use Rattle.flow_rules.specs.Numbered.{columns_of}
 use Rattle.flow_rules.specs.Facts.{numbers, is_holder, all_variables, variable_names}
 use Rattle.flow_rules.specs.Ordered.{each}
 use Rattle.flow_rules.proofs.Listed.{at_contains, contains_at, at_map, map_at, map_has, flat_has}
-use Rattle.facts_order.proofs.Items.{column_back}
+use Rattle.flow_rules.proofs.NumberedItems.{numbered_columns}
 use Rattle.facts_order.proofs.Classes.{class_at, class_there}
 use Rattle.name_rules.specs.Outline.{FieldAt, MethodAt, fields_in, methods_in, name_of, types_in, type_named, is_known, is_type_name}
 use Rattle.rebuild_model.specs.Renaming.{renaming_of}
@@ -136,7 +136,8 @@ module _ {P Q : Plain} {F : Facts} {pt : PointsTo} {H : Hierarchy} (G : Given P 
 
   pub column_number : (c : ℕ) (i : ColumnItem) → slice_get (items P Q F H) c ≡ Some i → (numbers P Q).column i ≡ Some c
   unfolding numbers
-  column_number c i e = let z = map_at (λ c. c.item) (columns_of P Q) c i e in ap (λ j. (numbers P Q).column j) (sym z.2) ∙ column_back P Q c z.0 z.1
+  column_number c i e = let z = map_at (λ c. c.item) (columns_of P Q) c i e in ap (λ j. (numbers P Q).column j) (sym z.2)
+      ∙ (numbered_columns P Q).back c z.0 z.1
 
   pub field_name_is : (c f : ℕ) → (numbers P Q).column (column.Fld f) ≡ Some c → (R P Q F H).field_name f ≡ member_name H c
   unfolding renaming_of

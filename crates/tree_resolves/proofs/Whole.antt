@@ -28,7 +28,8 @@ use Rattle.written_tree.specs.Bodies.{written_sts}
 use Rattle.written_tree.specs.Members.{parameters, filling, value_of_none}
 use Rattle.tree_rebuilds.proofs.Nodes.{tree, old_tree}
 use Rattle.tree_resolves.specs.Stages.{IsStage}
-use Rattle.tree_resolves.specs.Known.{KnownSts}
+use Rattle.tree_resolves.specs.Known.{known}
+use Rattle.java_meaning.specs.EachStatement.{InSts}
 use Rattle.tree_resolves.proofs.Origins.{R, HasMethod, node_body, node_head, node_filler, interface_head, static_method, method_origin}
 use Rattle.tree_resolves.proofs.Modifiers.{Given, body_there}
 use Rattle.tree_resolves.proofs.Supers.{types_are, named}
@@ -96,7 +97,7 @@ module _ {P Q : Plain} {F : Facts} {pt : PointsTo} {H : Hierarchy} (G : Given P 
   code_sound m k xs here r e b static own names scope x =
       let f = (G.formed.methods m k e).code xs b in
       let z = with_places m k xs e b in
-      let known = subst (KnownSts P (R P Q F H) H m k O) z.same
+      let known = subst (InSts (known P (R P Q F H) H m k O)) z.same
       (body_known G m z.method k e z.stands z.code z.is (subst (FormedSts P k false (numbers_below (length k.params))) (sym z.same) f)) in
       sts_ok P (R P Q F H) H m k O here (stage m k e here static own) scope f known r x
 

@@ -1,9 +1,10 @@
 -- The types that a written body names are there.
-use Rattle.std.specs.Prelude.{◌≡◌, ◌≢◌, ℕ, List, Option, Some, None, slice_get}
+use Rattle.std.specs.Prelude.{◌≡◌, ◌≢◌, ℕ, List, Some, None, slice_get}
 use Rattle.java_tree.specs.declared.TypeName.{TypeName}
 use Rattle.java_core.specs.Programs.{Plain, PlainLocal, PlainMethod}
 use Rattle.java_core.specs.Formed.{variables_of}
-use Rattle.java_core.specs.Trees.{Ex, Exs, no_ex, ex_then, number, character, text, truth, null, this, local, static_field, own_field, field, index, call, static_call, super_call, create, create_array, cast, instance_of, unary, binary, Target, to_local, to_static, to_own, to_field, to_element, no_target, St, Sts, Arms, declare, block, assign, act, print, choose, loop, return, break, continue, no_st, st_then, no_other, otherwise, arm}
+use Rattle.java_core.specs.Trees.{Ex, Exs, no_ex, ex_then, number, character, text, truth, null, this, local, static_field, own_field, field, index, call, static_call, super_call, create, create_array, cast, instance_of, unary, binary, Target, to_local, to_static, to_own, to_field, to_element, no_target}
+use Rattle.java_meaning.specs.EachStatement.{OfOption, Asked}
 use Rattle.hier_model.specs.Hierarchies.{Hierarchy}
 use Rattle.flow_rules.specs.declared.items.RowItem.TheVariants as row
 use Rattle.flow_rules.specs.Operands.{variable_row}
@@ -51,10 +52,6 @@ module _ (P : Plain) (R : Renaming) (H : Hierarchy) (m : ℕ) (k : PlainMethod) 
     KnownExs no_ex = Unit {0}
     KnownExs (ex_then e es) = KnownEx e × KnownExs es
 
-  abbrev pub KnownIf : Option Ex → Type 0
-  KnownIf None = Unit {0}
-  KnownIf (Some e) = KnownEx e
-
   abbrev pub KnownTarget : Target → Type 0
   KnownTarget (to_local t i) = Unit {0}
   KnownTarget (to_static t f) = Unit {0}
@@ -67,24 +64,11 @@ module _ (P : Plain) (R : Renaming) (H : Hierarchy) (m : ℕ) (k : PlainMethod) 
   abbrev pub KnownVariable : ℕ → Type 0
   KnownVariable i = (v : PlainLocal) → slice_get (variables_of k) i ≡ Some v → IsKnownType O (written_type P H (R.row_type (variable_row m k i)) v.ty)
 
-  abbrev mutual
-    pub KnownSt : St → Type 0
-    KnownSt (declare t i e) = KnownVariable i × KnownIf e
-    KnownSt (block t xs) = KnownSts xs
-    KnownSt (assign t b e) = KnownTarget b × KnownEx e
-    KnownSt (act t e) = KnownEx e
-    KnownSt (print t n e) = KnownIf e
-    KnownSt (choose t a) = KnownArms a
-    KnownSt (loop t is_while first test step body) = KnownSts first × KnownIf test × KnownSts step × KnownSts body
-    KnownSt (return t e) = KnownIf e
-    KnownSt (break t) = Unit {0}
-    KnownSt (continue t) = Unit {0}
-
-    pub KnownSts : Sts → Type 0
-    KnownSts no_st = Unit {0}
-    KnownSts (st_then x xs) = KnownSt x × KnownSts xs
-
-    pub KnownArms : Arms → Type 0
-    KnownArms no_other = Unit {0}
-    KnownArms (otherwise xs) = KnownSts xs
-    KnownArms (arm e xs more) = KnownEx e × KnownSts xs × KnownArms more
+  -- what is asked of the statements of a body
+  abbrev pub known : Asked
+  known = record {
+    Of = KnownEx;
+    Declared = λ i e. KnownVariable i × OfOption KnownEx e;
+    Assigned = λ b e. KnownTarget b × KnownEx e;
+    Returned = OfOption KnownEx;
+  }

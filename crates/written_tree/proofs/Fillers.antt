@@ -1,22 +1,20 @@
 -- Two unrelated classes whose variables are made of one type, and the fillers that this asks for: class A { int m() { return 1; } }, class B { int
 -- n() { return 2; } }, and a main with A x = new A(), B y = new B() that prints x.m() + y.n(). The nodes of x and of y are one.
-use Rattle.std.proofs.Common.{◌≡◌, ℕ, Bool, true, false, List, [], ◌∷◌, refl, lit≤}
-use Rattle.std.specs.Prelude.{ℤ, pos, Option, Some, None, codes}
-use Rattle.std.specs.declared.vec.Vec.{Vec}
-use Rattle.std.specs.declared.alloc.Global.{Global}
-use Rattle.kaba_base.specs.declared.words.Keyword.TheVariants.{Public, Abstract, Static}
+use Rattle.std.proofs.Common.{◌≡◌, ℕ, true, false, List, [], ◌∷◌, refl, lit≤}
+use Rattle.std.specs.Prelude.{ℤ, pos, Some, None, codes}
+use Rattle.kaba_base.specs.declared.words.Keyword.TheVariants.{Public}
 use Rattle.java_lex.specs.declared.Mark.TheVariants as marks
 use Rattle.java_tree.specs.declared.TypeBase.TheVariants as base
-use Rattle.java_tree.specs.Syntax.{IntLit, ThisRef, NameRef, FieldOf, CallOn, SuperCallOf, NewOf, BinaryOf, no_more, LocalOf, PrintOf, ReturnOf, no_statements, and_then, MemberTree, MethodTree, DeclTree, ClassTree, InterfaceTree}
+use Rattle.java_tree.specs.Syntax.{IntLit, NameRef, CallOn, NewOf, BinaryOf, no_more, LocalOf, PrintOf, ReturnOf, no_statements, and_then, MemberTree, MethodTree, DeclTree, ClassTree, InterfaceTree}
 use Rattle.java_core.specs.declared.TyBase.TheVariants as ty
 use Rattle.java_core.specs.declared.BinOp.TheVariants as bin
 use Rattle.java_core.specs.declared.Op.TheVariants as op
-use Rattle.java_core.specs.Trees.{number, this, local, field, call, super_call, create, binary, no_ex, declare, print, return, no_st, st_then, Sts}
+use Rattle.java_core.specs.Trees.{number, local, call, create, binary, no_ex, declare, print, return, no_st, st_then, Sts}
 use Rattle.java_core.specs.Programs.{Plain, PlainMethod}
 use Rattle.java_core.specs.Classes.{below, member_field, field_of, declaration_of, search_order, super_method}
 use Rattle.java_core.specs.Types.{call_signature, super_signature, field_in, access_type}
 use Rattle.fact_model.specs.declared.facts.Facts.{Facts}
-use Rattle.fact_model.specs.declared.facts.ColKind.TheVariants.{Fld, Dcl, Def}
+use Rattle.fact_model.specs.declared.facts.ColKind.TheVariants.{Dcl, Def}
 use Rattle.hier_model.specs.Hierarchies.{Hierarchy, node}
 use Rattle.flow_rules.specs.Operands.{type_in}
 use Rattle.flow_rules.specs.Parts.{parts_of}
@@ -25,24 +23,15 @@ use Rattle.flow_rules.specs.Facts.{numbers}
 use Rattle.rebuild_model.specs.Renaming.{renaming_of}
 use Rattle.written_tree.specs.Names.{nowhere, id, modifier}
 use Rattle.written_tree.specs.Written.{java_tree}
-use Rattle.written_tree.proofs.Small.{at, plain, class, under, a_field, variable, a_method, column, site, listed, hierarchy, at_node, type, an_head}
+use Rattle.written_tree.proofs.Small.{at, plain, class, under, variable, a_method, a_main, column, site, hierarchy, at_node, type, an_head, main_tree}
+use Rattle.rebuild_model.proofs.Worked.{listed}
 
 abbrev the_main : PlainMethod
 the_main =
-    record {
-      owner = 3;
-      name = codes "main";
-      is_static = true;
-      is_public = false;
-      slot = None;
-      params = variable (codes "args") (record { base = ty.Str; dim = 1 }) 92 ∷ [];
-      locals = variable (codes "x") (plain (ty.Class (record { 0 = 1 }))) 100 ∷ variable (codes "y") (plain (ty.Class (record { 0 = 2 }))) 110 ∷ [];
-      result = None;
-      body = Some (st_then (declare (at 100) 1 (Some (create (at 104) 0 1 no_ex))) (st_then (declare (at 110) 2 (Some (create (at 114) 1 2 no_ex)))
-          (st_then (print (at 120) true (Some (binary (at 126) (bin.Int op.Plus) (call (at 124) (local (at 122) 1) (codes "m") no_ex)
-          (call (at 130) (local (at 128) 2) (codes "n") no_ex)))) no_st)));
-      tag = at 90;
-    }
+    a_main 3 (variable (codes "x") (plain (ty.Class (record { 0 = 1 }))) 100 ∷ variable (codes "y") (plain (ty.Class (record { 0 = 2 }))) 110 ∷ [])
+    (st_then (declare (at 100) 1 (Some (create (at 104) 0 1 no_ex))) (st_then (declare (at 110) 2 (Some (create (at 114) 1 2 no_ex)))
+    (st_then (print (at 120) true (Some (binary (at 126) (bin.Int op.Plus) (call (at 124) (local (at 122) 1) (codes "m") no_ex)
+    (call (at 130) (local (at 128) 2) (codes "n") no_ex)))) no_st)))
 
 abbrev gives : ℤ → ℕ → Sts
 gives n p = st_then (return (at p) (Some (number (at p) n))) no_st
@@ -86,19 +75,10 @@ expected =
     (Some (type base.Int)) (codes "n") [] ∷ []) nowhere
     ∷ ClassTree [] (codes "A_3") None (id (codes "A_1") ∷ []) (giving (codes "m") (pos 1) ∷ giving (codes "n") (pos 0) ∷ []) nowhere
     ∷ ClassTree [] (codes "B_4") None (id (codes "A_1") ∷ []) (giving (codes "n") (pos 2) ∷ giving (codes "m") (pos 0) ∷ []) nowhere
-    ∷ ClassTree [] (codes "Main") None []
-    (MethodTree (an_head (modifier Public ∷ modifier Static ∷ []) None (codes "main")
-    (record {
-      is_final = false;
-      ty = record { base = base.Named (codes "String"); dim = 1; place = nowhere };
-      name = codes "args";
-      place =
-          nowhere;
-    } ∷ []))
-    (Some (and_then (LocalOf false (type (base.Named (codes "A_1"))) (codes "x") (Some (NewOf (id (codes "A_3")) no_more nowhere)) nowhere)
+    ∷ main_tree (and_then (LocalOf false (type (base.Named (codes "A_1"))) (codes "x") (Some (NewOf (id (codes "A_3")) no_more nowhere)) nowhere)
     (and_then (LocalOf false (type (base.Named (codes "A_1"))) (codes "y") (Some (NewOf (id (codes "B_4")) no_more nowhere)) nowhere)
     (and_then (PrintOf true (Some (BinaryOf marks.Plus (CallOn (NameRef (codes "x") nowhere) (codes "m") no_more nowhere)
-    (CallOn (NameRef (codes "y") nowhere) (codes "n") no_more nowhere) nowhere)) nowhere) no_statements)))) nowhere ∷ []) nowhere
+    (CallOn (NameRef (codes "y") nowhere) (codes "n") no_more nowhere) nowhere)) nowhere) no_statements)))
     ∷ []
 
 tree : (others : Facts) → java_tree program program (facts others) nodes ≡ expected

@@ -1,10 +1,8 @@
 -- An overriding method that calls super, and the program that is written of its hierarchy: class A { int f; int m() { return this.f; } }, class B
 -- extends A { int m() { return super.m() + 1; } }, and a main with A x = new B() that prints x.m().
-use Rattle.std.proofs.Common.{◌≡◌, ℕ, Bool, true, false, List, [], ◌∷◌, refl, lit≤}
-use Rattle.std.specs.Prelude.{ℤ, pos, Option, Some, None, codes}
-use Rattle.std.specs.declared.vec.Vec.{Vec}
-use Rattle.std.specs.declared.alloc.Global.{Global}
-use Rattle.kaba_base.specs.declared.words.Keyword.TheVariants.{Public, Abstract, Static}
+use Rattle.std.proofs.Common.{◌≡◌, true, false, List, [], ◌∷◌, refl, lit≤}
+use Rattle.std.specs.Prelude.{pos, Some, None, codes}
+use Rattle.kaba_base.specs.declared.words.Keyword.TheVariants.{Public, Abstract}
 use Rattle.java_lex.specs.declared.Mark.TheVariants as marks
 use Rattle.java_tree.specs.declared.TypeBase.TheVariants as base
 use Rattle.java_tree.specs.Syntax.{IntLit, ThisRef, NameRef, FieldOf, CallOn, SuperCallOf, NewOf, BinaryOf, no_more, LocalOf, PrintOf, ReturnOf, no_statements, and_then, FieldTree, MethodTree, DeclTree, ClassTree, InterfaceTree}
@@ -25,23 +23,14 @@ use Rattle.flow_rules.specs.Facts.{numbers}
 use Rattle.rebuild_model.specs.Renaming.{renaming_of}
 use Rattle.written_tree.specs.Names.{nowhere, id, modifier}
 use Rattle.written_tree.specs.Written.{java_tree}
-use Rattle.written_tree.proofs.Small.{at, plain, class, under, a_field, variable, a_method, column, site, listed, hierarchy, at_node, type, an_head}
+use Rattle.written_tree.proofs.Small.{at, plain, class, under, a_field, variable, a_method, a_main, column, site, hierarchy, at_node, type, an_head, main_tree}
+use Rattle.rebuild_model.proofs.Worked.{listed}
 
 abbrev the_main : PlainMethod
 the_main =
-    record {
-      owner = 3;
-      name = codes "main";
-      is_static = true;
-      is_public = false;
-      slot = None;
-      params = variable (codes "args") (record { base = ty.Str; dim = 1 }) 92 ∷ [];
-      locals = variable (codes "x") (plain (ty.Class (record { 0 = 1 }))) 100 ∷ [];
-      result = None;
-      body = Some (st_then (declare (at 100) 1 (Some (create (at 104) 0 2 no_ex)))
-          (st_then (print (at 110) true (Some (call (at 122) (local (at 120) 1) (codes "m") no_ex))) no_st));
-      tag = at 90;
-    }
+    a_main 3 (variable (codes "x") (plain (ty.Class (record { 0 = 1 }))) 100 ∷ [])
+    (st_then (declare (at 100) 1 (Some (create (at 104) 0 2 no_ex)))
+    (st_then (print (at 110) true (Some (call (at 122) (local (at 120) 1) (codes "m") no_ex))) no_st))
 
 abbrev program : Plain
 program =
@@ -82,17 +71,8 @@ expected =
     (MethodTree (an_head (modifier Public ∷ []) (Some (type base.Int)) (codes "m") [])
     (Some (and_then (ReturnOf (Some (BinaryOf marks.Plus (SuperCallOf (codes "m") no_more nowhere) (IntLit (pos 1) nowhere) nowhere)) nowhere)
     no_statements)) nowhere ∷ []) nowhere
-    ∷ ClassTree [] (codes "Main") None []
-    (MethodTree (an_head (modifier Public ∷ modifier Static ∷ []) None (codes "main")
-    (record {
-      is_final = false;
-      ty = record { base = base.Named (codes "String"); dim = 1; place = nowhere };
-      name = codes "args";
-      place =
-          nowhere;
-    } ∷ []))
-    (Some (and_then (LocalOf false (type (base.Named (codes "A_0"))) (codes "x") (Some (NewOf (id (codes "B_2")) no_more nowhere)) nowhere)
-    (and_then (PrintOf true (Some (CallOn (NameRef (codes "x") nowhere) (codes "m") no_more nowhere)) nowhere) no_statements))) nowhere ∷ []) nowhere
+    ∷ main_tree (and_then (LocalOf false (type (base.Named (codes "A_0"))) (codes "x") (Some (NewOf (id (codes "B_2")) no_more nowhere)) nowhere)
+    (and_then (PrintOf true (Some (CallOn (NameRef (codes "x") nowhere) (codes "m") no_more nowhere)) nowhere) no_statements))
     ∷ []
 
 tree : (others : Facts) → java_tree program program (facts others) nodes ≡ expected

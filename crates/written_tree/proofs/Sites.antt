@@ -1,31 +1,29 @@
 -- Two sites of one class, and the types that are written of them: class P { int a; int b; }, and a main with P x = new P(), P y = new P(), x.a = 1,
 -- y.b = 2, that prints x.a + y.b, or x == y.
-use Rattle.std.proofs.Common.{◌≡◌, ℕ, Bool, true, false, List, [], ◌∷◌, refl, lit≤}
-use Rattle.std.specs.Prelude.{ℤ, pos, Option, Some, None, codes}
-use Rattle.std.specs.declared.vec.Vec.{Vec}
-use Rattle.std.specs.declared.alloc.Global.{Global}
-use Rattle.kaba_base.specs.declared.words.Keyword.TheVariants.{Public, Abstract, Static}
+use Rattle.std.proofs.Common.{◌≡◌, ℕ, true, false, List, [], ◌∷◌, refl, lit≤}
+use Rattle.std.specs.Prelude.{ℤ, pos, Some, None, codes}
 use Rattle.java_lex.specs.declared.Mark.TheVariants as marks
 use Rattle.java_tree.specs.declared.TypeBase.TheVariants as base
-use Rattle.java_tree.specs.Syntax.{IntLit, ThisRef, NameRef, FieldOf, CallOn, SuperCallOf, NewOf, BinaryOf, no_more, LocalOf, PrintOf, ReturnOf, no_statements, and_then, Expression, Statement, AssignOf, MemberTree, FieldTree, MethodTree, DeclTree, ClassTree, InterfaceTree}
+use Rattle.java_tree.specs.Syntax.{IntLit, NameRef, FieldOf, NewOf, BinaryOf, no_more, LocalOf, PrintOf, no_statements, and_then, Expression, Statement, AssignOf, MemberTree, FieldTree, DeclTree, ClassTree, InterfaceTree}
 use Rattle.java_core.specs.declared.TyBase.TheVariants as ty
 use Rattle.java_core.specs.declared.BinOp.TheVariants as bin
 use Rattle.java_core.specs.declared.Op.TheVariants as op
-use Rattle.java_core.specs.Trees.{number, this, local, field, call, super_call, create, binary, no_ex, declare, print, return, no_st, st_then, Ex, St, assign, to_field}
-use Rattle.java_core.specs.Programs.{Plain, PlainMethod}
+use Rattle.java_core.specs.Trees.{number, local, field, create, binary, no_ex, declare, print, no_st, st_then, Ex, St, assign, to_field}
+use Rattle.java_core.specs.Programs.{Plain}
 use Rattle.java_core.specs.Classes.{below, member_field, field_of, declaration_of, search_order, super_method}
 use Rattle.java_core.specs.Types.{call_signature, super_signature, field_in, access_type}
 use Rattle.fact_model.specs.declared.facts.Facts.{Facts}
-use Rattle.fact_model.specs.declared.facts.ColKind.TheVariants.{Fld, Dcl, Def}
+use Rattle.fact_model.specs.declared.facts.ColKind.TheVariants.{Fld}
 use Rattle.hier_model.specs.Hierarchies.{Hierarchy, node}
 use Rattle.flow_rules.specs.Operands.{type_in}
 use Rattle.flow_rules.specs.Parts.{parts_of}
 use Rattle.flow_rules.specs.Numbered.{rows_of, columns_of, row_number, column_number}
 use Rattle.flow_rules.specs.Facts.{numbers}
 use Rattle.rebuild_model.specs.Renaming.{renaming_of}
-use Rattle.written_tree.specs.Names.{nowhere, id, modifier}
+use Rattle.written_tree.specs.Names.{nowhere, id}
 use Rattle.written_tree.specs.Written.{java_tree}
-use Rattle.written_tree.proofs.Small.{at, plain, class, under, a_field, variable, a_method, column, site, listed, hierarchy, at_node, type, an_head}
+use Rattle.written_tree.proofs.Small.{at, plain, class, under, a_field, variable, a_main, column, site, hierarchy, at_node, type, main_tree}
+use Rattle.rebuild_model.proofs.Worked.{listed}
 
 abbrev sets : ℕ → ℕ → List ℕ → ℤ → St
 sets p i f n = assign (at p) (to_field (at p) (local (at p) i) f) (number (at p) n)
@@ -36,19 +34,9 @@ program shown =
     record {
       classes = class (codes "Object") None 0 ∷ class (codes "P") (under 0) 6 ∷ class (codes "Main") (under 0) 50 ∷ [];
       fields = a_field 1 (codes "a") (plain ty.Int) 20 ∷ a_field 1 (codes "b") (plain ty.Int) 30 ∷ [];
-      methods = record {
-        owner = 2;
-        name = codes "main";
-        is_static = true;
-        is_public = false;
-        slot = None;
-        params = variable (codes "args") (record { base = ty.Str; dim = 1 }) 92 ∷ [];
-        locals = variable (codes "x") (plain (ty.Class (record { 0 = 1 }))) 100 ∷ variable (codes "y") (plain (ty.Class (record { 0 = 1 }))) 110 ∷ [];
-        result = None;
-        body = Some (st_then (declare (at 100) 1 (Some (create (at 104) 0 1 no_ex))) (st_then (declare (at 110) 2 (Some (create (at 114) 1 1 no_ex)))
-            (st_then (sets 120 1 (codes "a") (pos 1)) (st_then (sets 130 2 (codes "b") (pos 2)) (st_then (print (at 140) true (Some shown)) no_st)))));
-        tag = at 90;
-      } ∷ [];
+      methods = a_main 2 (variable (codes "x") (plain (ty.Class (record { 0 = 1 }))) 100 ∷ variable (codes "y") (plain (ty.Class (record { 0 = 1 }))) 110 ∷ [])
+          (st_then (declare (at 100) 1 (Some (create (at 104) 0 1 no_ex))) (st_then (declare (at 110) 2 (Some (create (at 114) 1 1 no_ex)))
+          (st_then (sets 120 1 (codes "a") (pos 1)) (st_then (sets 130 2 (codes "b") (pos 2)) (st_then (print (at 140) true (Some shown)) no_st))))) ∷ [];
       slots = [];
       main = 0;
     }
@@ -85,25 +73,16 @@ makes x c = LocalOf false (type (base.Named c)) x (Some (NewOf (id c) no_more no
 abbrev stores : List ℕ → List ℕ → ℤ → Statement
 stores x f n = AssignOf (FieldOf (NameRef x nowhere) f nowhere) (IntLit n nowhere) nowhere
 
-abbrev main_tree : List ℕ → List ℕ → Expression → DeclTree
-main_tree c d shown =
-    ClassTree [] (codes "Main") None []
-    (MethodTree (an_head (modifier Public ∷ modifier Static ∷ []) None (codes "main")
-    (record {
-      is_final = false;
-      ty = record { base = base.Named (codes "String"); dim = 1; place = nowhere };
-      name = codes "args";
-      place =
-          nowhere;
-    } ∷ []))
-    (Some (and_then (makes (codes "x") c) (and_then (makes (codes "y") d) (and_then (stores (codes "x") (codes "a") (pos 1))
+abbrev shown_tree : List ℕ → List ℕ → Expression → DeclTree
+shown_tree c d shown =
+    main_tree (and_then (makes (codes "x") c) (and_then (makes (codes "y") d) (and_then (stores (codes "x") (codes "a") (pos 1))
     (and_then (stores (codes "y") (codes "b") (pos 2))
-    (and_then (PrintOf true (Some shown) nowhere) no_statements)))))) nowhere ∷ []) nowhere
+    (and_then (PrintOf true (Some shown) nowhere) no_statements)))))
 
 apart : (others : Facts) → java_tree (program sum) (program sum) (facts others) three
     ≡ InterfaceTree [] (codes "Object_0") [] [] nowhere ∷ ClassTree [] (codes "P_1") None (id (codes "Object_0") ∷ []) (an_int (codes "a") ∷ [])
     nowhere ∷ ClassTree [] (codes "P_2") None (id (codes "Object_0") ∷ []) (an_int (codes "b") ∷ []) nowhere
-    ∷ main_tree (codes "P_1") (codes "P_2") (BinaryOf marks.Plus (FieldOf (NameRef (codes "x") nowhere) (codes "a") nowhere)
+    ∷ shown_tree (codes "P_1") (codes "P_2") (BinaryOf marks.Plus (FieldOf (NameRef (codes "x") nowhere) (codes "a") nowhere)
     (FieldOf (NameRef (codes "y") nowhere) (codes "b") nowhere) nowhere) ∷ []
 unfolding java_tree renaming_of numbers rows_of row_number columns_of column_number parts_of type_in call_signature super_signature field_in
     access_type below member_field field_of declaration_of search_order super_method
@@ -112,7 +91,7 @@ apart others = refl
 above : (others : Facts) → java_tree (program same) (program same) (facts others) two
     ≡ ClassTree [] (codes "P_0") None [] (an_int (codes "a") ∷ []) nowhere ∷ ClassTree [] (codes "P_1") (Some (id (codes "P_0"))) []
     (an_int (codes "b") ∷ []) nowhere
-    ∷ main_tree (codes "P_0") (codes "P_1") (BinaryOf marks.Equal (NameRef (codes "x") nowhere) (NameRef (codes "y") nowhere) nowhere) ∷ []
+    ∷ shown_tree (codes "P_0") (codes "P_1") (BinaryOf marks.Equal (NameRef (codes "x") nowhere) (NameRef (codes "y") nowhere) nowhere) ∷ []
 unfolding java_tree renaming_of numbers rows_of row_number columns_of column_number parts_of type_in call_signature super_signature field_in
     access_type below member_field field_of declaration_of search_order super_method
 above others = refl

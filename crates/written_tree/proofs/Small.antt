@@ -1,26 +1,25 @@
 -- Small programs and hierarchies from their parts.
-use Rattle.std.proofs.Common.{◌≡◌, ℕ, Bool, true, false, List, [], ◌∷◌, Option, Some, None, refl, length, ◌≤◌, lit≤, lit<}
-use Rattle.std.specs.Prelude.{map}
-use Rattle.std.specs.declared.vec.Vec.{Vec}
-use Rattle.std.specs.declared.alloc.Global.{Global}
+use Rattle.std.proofs.Common.{ℕ, Bool, true, false, List, [], ◌∷◌, Option, Some, None}
+use Rattle.std.specs.Prelude.{codes}
 use Rattle.kaba_base.specs.declared.NodeId.{NodeId}
 use Rattle.kaba_base.specs.declared.ClassId.{ClassId}
+use Rattle.kaba_base.specs.declared.words.Keyword.TheVariants.{Public, Static}
 use Rattle.java_tree.specs.declared.TypeName.{TypeName}
 use Rattle.java_tree.specs.declared.TypeBase.{TypeBase}
+use Rattle.java_tree.specs.declared.TypeBase.TheVariants as base
 use Rattle.java_tree.specs.declared.Param.{Param}
 use Rattle.java_tree.specs.declared.Modifier.{Modifier}
-use Rattle.java_tree.specs.Syntax.{HeadTree}
+use Rattle.java_tree.specs.Syntax.{HeadTree, Statements, DeclTree, ClassTree, MethodTree}
 use Rattle.java_core.specs.declared.Ty.{Ty}
 use Rattle.java_core.specs.declared.TyBase.{TyBase}
+use Rattle.java_core.specs.declared.TyBase.TheVariants as ty
 use Rattle.java_core.specs.Trees.{Tag, Sts}
 use Rattle.java_core.specs.Programs.{PlainClass, PlainField, PlainLocal, PlainMethod}
-use Rattle.fact_model.specs.declared.facts.ClassInfo.{ClassInfo}
 use Rattle.fact_model.specs.declared.facts.ColumnInfo.{ColumnInfo}
 use Rattle.fact_model.specs.declared.facts.ColKind.{ColKind}
 use Rattle.fact_model.specs.declared.facts.SiteInfo.{SiteInfo}
 use Rattle.hier_model.specs.Hierarchies.{Hierarchy, node}
-use Rattle.kaba_order.specs.Orders.{Ordered}
-use Rattle.written_tree.specs.Names.{nowhere}
+use Rattle.written_tree.specs.Names.{nowhere, modifier}
 
 abbrev pub at : ℕ → Tag
 at n = record { label = 0; place = record { at = n; line = 1 } }
@@ -58,6 +57,22 @@ a_method owner name slot result p code =
       tag = at p;
     }
 
+-- main, with its locals and its code
+abbrev pub a_main : ℕ → List PlainLocal → Sts → PlainMethod
+a_main owner locals code =
+    record {
+      owner = owner;
+      name = codes "main";
+      is_static = true;
+      is_public = false;
+      slot = None;
+      params = variable (codes "args") (record { base = ty.Str; dim = 1 }) 92 ∷ [];
+      locals = locals;
+      result = None;
+      body = Some code;
+      tag = at 90;
+    }
+
 -- ---- facts
 
 abbrev pub column : ColKind → ℕ → Option ℕ → List ℕ → ColumnInfo
@@ -65,10 +80,6 @@ column kind class slot name = record { kind = kind; class = record { 0 = class }
 
 abbrev pub site : ℕ → ℕ → SiteInfo
 site row class = record { row = record { 0 = row }; class = record { 0 = class }; dim = 0 }
-
--- a list where one of other items stands
-abbrev pub listed : {A B : Type 0} → Vec A Global → (xs : List B) → length xs ≤ 9 → Vec B Global
-listed v xs fits = record { ptr = v.ptr; len = length xs; cap = 9; alloc = v.alloc; items = xs; ok = (refl, fits); small = lit< tt }
 
 -- ---- hierarchies
 
@@ -86,3 +97,11 @@ type b = record { base = b; dim = 0; place = nowhere }
 
 abbrev pub an_head : List Modifier → Option TypeName → List ℕ → List Param → HeadTree
 an_head mods result name params = record { mods = mods; type = result; name = name; params = params; place = nowhere }
+
+-- the class of main, with its code
+abbrev pub main_tree : Statements → DeclTree
+main_tree code =
+    ClassTree [] (codes "Main") None []
+    (MethodTree (an_head (modifier Public ∷ modifier Static ∷ []) None (codes "main")
+    (record { is_final = false; ty = record { base = base.Named (codes "String"); dim = 1; place = nowhere }; name = codes "args"; place = nowhere } ∷ []))
+    (Some code) nowhere ∷ []) nowhere

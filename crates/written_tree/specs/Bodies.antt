@@ -1,16 +1,15 @@
 -- How a body is written: the forms are those of the old body; types are those of the rows' nodes, members have their new names.
 use Rattle.std.specs.Prelude.{ℕ, ◌==◌, ◌&&◌, Bool, true, false, not, List, [], ◌∷◌, ◌++◌, Option, Some, None, slice_get, option_and_then}
-use Rattle.std.specs.Option.{option_map, option_map_or}
+use Rattle.std.specs.Option.{option_map_or}
 use Rattle.std.specs.List.{list_any}
 use Rattle.std.specs.Str.{bytes_eq}
 use Rattle.java_tree.specs.Syntax as tree
 use Rattle.java_tree.specs.Syntax.{Expression, IntLit, CharLit, StrLit, BoolLit, NullLit, ThisRef, NameRef, FieldOf, IndexOf, CallOf, CallOn, SuperCallOf, NewOf, NewArrayOf, CastOf, InstanceOfClass, UnaryOf, BinaryOf, Expressions, no_more, and_more, Statement, LocalOf, BlockOf, AssignOf, DoOf, PrintOf, IfOf, WhileOf, ForOf, ReturnOf, BreakOf, ContinueOf, Statements, no_statements, and_then, Else, no_else, OptionalStatement, absent, present}
-use Rattle.java_tree.specs.declared.TypeName.{TypeName}
 use Rattle.java_core.specs.Trees.{Ex, Exs, no_ex, ex_then, number, character, text, truth, null, this, local, static_field, own_field, field, index, call, static_call, super_call, create, create_array, cast, instance_of, unary, binary, Target, to_local, to_static, to_own, to_field, to_element, no_target, St, Sts, Arms, declare, block, assign, act, print, choose, loop, return, break, continue, no_st, st_then, no_other, otherwise, arm}
-use Rattle.java_core.specs.Programs.{Plain, PlainLocal, PlainMethod}
+use Rattle.java_core.specs.Programs.{Plain, PlainMethod}
 use Rattle.java_core.specs.Formed.{variables_of}
 use Rattle.java_core.specs.Classes.{declaration_of, super_method}
-use Rattle.java_core.specs.Types.{Static, class_of, element_of, is_string, field_in, env_of, static}
+use Rattle.java_core.specs.Types.{Static, class_of, field_in, env_of, static}
 use Rattle.hier_model.specs.Hierarchies.{Hierarchy}
 use Rattle.flow_rules.specs.declared.items.RowItem.TheVariants as row
 use Rattle.flow_rules.specs.Operands.{variable_row}

@@ -1,17 +1,15 @@
 -- The members that the type of a node has, and those of a holder.
-use Rattle.std.specs.Prelude.{ℤ, pos, ℕ, zero, suc, ◌==◌, ◌&&◌, Bool, true, false, not, List, [], ◌∷◌, ◌++◌, map, Option, Some, None, slice_get}
+use Rattle.std.specs.Prelude.{pos, ℕ, zero, suc, ◌==◌, ◌&&◌, Bool, true, false, not, List, [], ◌∷◌, ◌++◌, map, Option, Some, None, slice_get}
 use Rattle.std.specs.Option.{option_map, option_map_or}
 use Rattle.kaba_base.specs.declared.words.Keyword.TheVariants.{Public, Abstract, Static}
 use Rattle.java_tree.specs.declared.Modifier.{Modifier}
-use Rattle.java_tree.specs.declared.TypeName.{TypeName}
 use Rattle.java_tree.specs.declared.TypeBase.TheVariants as base
 use Rattle.java_tree.specs.declared.Param.{Param}
-use Rattle.java_tree.specs.Syntax.{Expression, IntLit, BoolLit, NullLit, CastOf, Statement, ReturnOf, Statements, no_statements, and_then, HeadTree, MemberTree, FieldTree, MethodTree}
+use Rattle.java_tree.specs.Syntax.{Expression, IntLit, BoolLit, NullLit, CastOf, ReturnOf, Statements, no_statements, and_then, HeadTree, MemberTree, FieldTree, MethodTree}
 use Rattle.java_core.specs.declared.Ty.{Ty}
 use Rattle.java_core.specs.declared.TyBase.{TyBase}
-use Rattle.java_core.specs.declared.TyBase.TheVariants.{Int, Boolean, Char, Str, Class}
+use Rattle.java_core.specs.declared.TyBase.TheVariants.{Int, Boolean, Char}
 use Rattle.java_core.specs.Programs.{Plain, PlainField, PlainLocal, PlainMethod, PlainSlot}
-use Rattle.java_core.specs.Trees.{Sts}
 use Rattle.fact_model.specs.declared.facts.Facts.{Facts}
 use Rattle.fact_model.specs.declared.facts.ColumnInfo.{ColumnInfo}
 use Rattle.fact_model.specs.declared.facts.ColKind.{ColKind}

@@ -1,6 +1,6 @@
 -- How types, names and operators are written.
-use Rattle.std.specs.Prelude.{ℕ, zero, suc, List, [], Option, Some, None, slice_get, codes}
-use Rattle.std.specs.Option.{option_map, option_map_or}
+use Rattle.std.specs.Prelude.{ℕ, List, [], Option, Some, None, slice_get, codes}
+use Rattle.std.specs.Option.{option_map_or}
 use Rattle.kaba_base.specs.declared.Place.{Place}
 use Rattle.kaba_base.specs.declared.words.Keyword.{Keyword}
 use Rattle.java_lex.specs.declared.Mark.{Mark}

@@ -1,14 +1,14 @@
 -- The numbers of a body's creations, casts and `instanceof`: each part that is one has its own, and those of a program differ.
 use Rattle.std.proofs.Common.{◌≡◌, ℕ, zero, suc, ◌+◌, List, [], ◌∷◌, ◌++◌, Option, Some, None, length, refl, sym, ap, ◌∙◌, subst, arith}
 use Rattle.std.specs.Prelude.{Bool, true, false, Contains, slice_get}
-use Rattle.std.specs.Option.{option_map}
+use Rattle.std.specs.Option.{option_map, option_to_list}
 use Rattle.std.specs.List.{flat_map}
 use Rattle.std.proofs.lemmas.Option.{same_Some}
 use Rattle.std.proofs.lemmas.Grind.{flat_map-append}
 use Rattle.std.proofs.lemmas.List.Elements.{Contains-append_left, Contains-append_right}
 use Rattle.java_core.specs.Trees.{Tag, Ex, Exs, no_ex, ex_then, number, character, text, truth, null, this, local, static_field, own_field, field, index, call, static_call, super_call, create, create_array, cast, instance_of, unary, binary, Target, to_local, to_static, to_own, to_field, to_element, no_target, St, Sts, Arms, declare, block, assign, act, print, choose, loop, return, break, continue, no_st, st_then, no_other, otherwise, arm}
 use Rattle.java_core.specs.Programs.{Plain, PlainMethod}
-use Rattle.java_core.specs.Formed.{HasNoTwice, numbers, numbers_all, numbers_if, numbers_target, numbers_st, numbers_sts, numbers_arms, numbers_body, numbers_methods, IsFormed}
+use Rattle.java_core.specs.Formed.{HasNoTwice, numbers, numbers_all, numbers_if, numbers_target, numbers_st, numbers_sts, numbers_arms, numbers_body, numbers_methods}
 use Rattle.java_core.specs.Untagged.{bare, bare_all, bare_if, bare_target, bare_st, bare_sts, bare_arms}
 use Rattle.flow_rules.specs.declared.items.ObjectType.{ObjectType}
 use Rattle.flow_rules.specs.declared.items.RowItem.{RowItem}
@@ -17,7 +17,6 @@ use Rattle.flow_rules.specs.Labels.{size, label, label_all, size_if, label_if, s
 use Rattle.flow_rules.specs.Parts.{Part, a_load, an_element, a_creation, a_call, a_static_call, a_super_call, a_test, is_accessed, parts, parts_all, parts_if, parts_set, parts_return, parts_assign, parts_st, parts_sts, parts_arms, parts_body, parts_of}
 use Rattle.flow_rules.specs.Operands.{type_in}
 use Rattle.flow_rules.proofs.Listed.{at_contains, at_below, flat_has, at_left}
-use Rattle.facts_order.proofs.Pairs.{IsPlaced}
 
 -- the number of what has a row of its own
 abbrev pub number_in : Option RowItem → List ℕ
@@ -35,7 +34,7 @@ number_in (Some (row.Local m i)) = []
 abbrev pub part_number : Part → List ℕ
 part_number (a_load p b f o) = []
 part_number (an_element p b o) = []
-part_number (a_creation p u o) = number_in o.row
+part_number (a_creation p u o) = option_to_list o.created
 part_number (a_call p b s d es o) = []
 part_number (a_static_call p m es o) = []
 part_number (a_super_call p m es o) = []
@@ -239,26 +238,34 @@ one_method (x ∷ ks) (suc i) zero h k n t e d a b =
     (methods_has ks i h n e a))
 one_method (x ∷ ks) (suc i) (suc j) h k n t e d a b = ap suc (one_method ks i j h k n (twice_back (numbers_body x.body) (numbers_methods ks) t) e d a b)
 
+-- the body of a method of P is this one without its tags
+pub record IsBare (P : Plain) (m : ℕ) (k : PlainMethod) : Type 0 where
+  pub plain : PlainMethod
+  pub stands : slice_get P.methods m ≡ Some plain
+  pub body : option_map bare_sts k.body ≡ plain.body
+
 -- two parts of a program's bodies with one number are one
-module _ (P Q : Plain) (placed : IsPlaced P Q) (formed : IsFormed P) where
+module _ (P Q : Plain) where
   pub record IsPart (p : Part) : Type 0 where
     pub number : ℕ
     pub method : PlainMethod
     pub stands : slice_get Q.methods number ≡ Some method
     pub part : Contains (parts_of P number method) p
 
-  body_has : (p : Part) (n : ℕ) (a : IsPart p) → Contains (part_number p) n → Contains (numbers_body (placed.methods a.number a.method a.stands).plain.body) n
-  body_has p n a c =
-      subst (λ z. Contains z n) (method_numbers P a.number a.method ∙ ap numbers_body (placed.methods a.number a.method a.stands).body)
-      (flat_has part_number (parts_of P a.number a.method) p n a.part c)
+  module _ (bare_method : (m : ℕ) (k : PlainMethod) → slice_get Q.methods m ≡ Some k → IsBare P m k) (once : HasNoTwice (numbers_methods P.methods)) where
+    body_has : (p : Part) (n : ℕ) (a : IsPart p) → Contains (part_number p) n
+        → Contains (numbers_body (bare_method a.number a.method a.stands).plain.body) n
+    body_has p n a c =
+        subst (λ z. Contains z n) (method_numbers P a.number a.method ∙ ap numbers_body (bare_method a.number a.method a.stands).body)
+        (flat_has part_number (parts_of P a.number a.method) p n a.part c)
 
-  pub number_apart : (p q : Part) (n : ℕ) → IsPart p → IsPart q → Contains (part_number p) n → Contains (part_number q) n → p ≡ q
-  number_apart p q n a b c d =
-      let x = placed.methods a.number a.method a.stands in
-      let y = placed.methods b.number b.method b.stands in
-      let e = one_method P.methods a.number b.number x.plain y.plain n formed.numbered x.stands y.stands (body_has p n a c) (body_has q n b d) in
-      let g = same_Some a.method b.method (sym a.stands ∙ ap (slice_get Q.methods) e ∙ b.stands) in
-      one_part (parts_of P a.number a.method) p q n
-      (subst (λ z. HasNoTwice z) (sym (method_numbers P a.number a.method ∙ ap numbers_body x.body))
-      (method_twice P.methods a.number x.plain formed.numbered x.stands))
-      a.part (subst (λ z. Contains (parts_of P a.number z) q) (sym g) (subst (λ z. Contains (parts_of P z b.method) q) (sym e) b.part)) c d
+    pub number_apart : (p q : Part) (n : ℕ) → IsPart p → IsPart q → Contains (part_number p) n → Contains (part_number q) n → p ≡ q
+    number_apart p q n a b c d =
+        let x = bare_method a.number a.method a.stands in
+        let y = bare_method b.number b.method b.stands in
+        let e = one_method P.methods a.number b.number x.plain y.plain n once x.stands y.stands (body_has p n a c) (body_has q n b d) in
+        let g = same_Some a.method b.method (sym a.stands ∙ ap (slice_get Q.methods) e ∙ b.stands) in
+        one_part (parts_of P a.number a.method) p q n
+        (subst (λ z. HasNoTwice z) (sym (method_numbers P a.number a.method ∙ ap numbers_body x.body))
+        (method_twice P.methods a.number x.plain once x.stands))
+        a.part (subst (λ z. Contains (parts_of P a.number z) q) (sym g) (subst (λ z. Contains (parts_of P z b.method) q) (sym e) b.part)) c d
