@@ -1,6 +1,6 @@
 //! Subtyping, and the members that a class or an interface has.
 
-ghost use Rattle.std.specs.Prelude.{◌≡◌, ℕ, ◌<◌, ◌↔◌, length, IsTrue, Option, Some, IfSome, IfNone, Contains};
+ghost use Rattle.std.specs.Prelude.{◌≡◌, ℕ, ◌<◌, ◌↔◌, length, IsTrue, Option, Some, None, IfSome, IfNone, Contains};
 ghost use Rattle.std.specs.Option.{option_map};
 ghost use Rattle.java_core.specs.Trees.{no_place};
 ghost use Rattle.java_core.specs.Programs.{program_of};
@@ -59,7 +59,7 @@ pub fn field_of(p: &Program, class: ClassId, name: &Name) -> Option<MemberId>
     requires { IsFormed (program_of no_place p.now) }
     ensures value { option_map (λ d. d.0) result ≡ field_of (program_of no_place p.now) class.0 name.now }
 {
-    nearest_field(p, class, name)
+    nearest_of_name(p, class, name, Named::Field)
 }
 
 /// The field that an object of the type has under a name: the nearest upwards, where that one is an instance field.
@@ -91,7 +91,7 @@ pub fn super_method(p: &Program, class: ClassId, name: &Name) -> Option<MemberId
     ensures value { option_map (λ d. d.0) result ≡ super_method (program_of no_place p.now) class.0 name.now }
 {
     match parent_of(p, class) {
-        Some(parent) => nearest_method(p, parent, name),
+        Some(parent) => nearest_of_name(p, parent, name, Named::Method),
         None => None,
     }
 }
@@ -121,7 +121,7 @@ pub fn declaration_of(p: &Program, class: ClassId, name: &Name) -> Option<Member
     requires { IsFormed (program_of no_place p.now) }
     ensures value { option_map (λ d. d.0) result ≡ declaration_of (program_of no_place p.now) class.0 name.now }
 {
-    match nearest_method(p, class, name) {
+    match nearest_of_name(p, class, name, Named::Method) {
         Some(own) => Some(own),
         None => nearest_named(p, class, name, Named::OfFaces, class_count(p)),
     }
@@ -285,41 +285,36 @@ fn numbered(at: Option<u32>) -> Option<MemberId>
     }
 }
 
-/// The nearest field of a name upwards.
-fn nearest_field(p: &Program, class: ClassId, name: &Name) -> Option<MemberId>
+/// What is nearest upwards of a name to a class that has nothing itself, where the tables tell it.
+fn told_above(p: &Program, class: ClassId, name: &Name, kind: Named) -> Option<Option<u32>>
     requires { IsFormed (program_of no_place p.now) }
-    ensures { option_map (λ d. d.0) result ≡ nearest_of (program_of no_place p.now) (λ k. own_named (program_of no_place p.now) named.Field k name.now) class.0 }
+    ensures { IfSome result (λ r. own_named (program_of no_place p.now) kind class.0 name.now ≡ None
+        → r ≡ nearest_of (program_of no_place p.now) (λ k. own_named (program_of no_place p.now) kind k name.now) class.0) }
 {
-    let own = own_named(p, class, name, Named::Field);
-    if own.is_some() {
-        return own;
-    }
-    match p
-        .tables
-        .fields
-        .nearest_above(&p.tables.parents, &p.fields, class.0 as usize, name)
-    {
-        Some(at) => numbered(at),
-        None => nearest_named(p, class, name, Named::Field, class_count(p)),
+    let at = class.0 as usize;
+    let parents = &p.tables.parents;
+    match kind {
+        Named::Field => p.tables.fields.nearest_above(parents, &p.fields, at, name),
+        Named::Method => p
+            .tables
+            .methods
+            .nearest_above(parents, &p.methods, at, name),
+        Named::OfFaces => None,
     }
 }
 
-/// The nearest instance method of a name upwards.
-fn nearest_method(p: &Program, class: ClassId, name: &Name) -> Option<MemberId>
+/// What is nearest upwards of a name.
+fn nearest_of_name(p: &Program, class: ClassId, name: &Name, kind: Named) -> Option<MemberId>
     requires { IsFormed (program_of no_place p.now) }
-    ensures { option_map (λ d. d.0) result ≡ nearest_of (program_of no_place p.now) (λ k. own_named (program_of no_place p.now) named.Method k name.now) class.0 }
+    ensures { option_map (λ d. d.0) result ≡ nearest_of (program_of no_place p.now) (λ k. own_named (program_of no_place p.now) kind k name.now) class.0 }
 {
-    let own = own_named(p, class, name, Named::Method);
+    let own = own_named(p, class, name, kind);
     if own.is_some() {
         return own;
     }
-    match p
-        .tables
-        .methods
-        .nearest_above(&p.tables.parents, &p.methods, class.0 as usize, name)
-    {
+    match told_above(p, class, name, kind) {
         Some(at) => numbered(at),
-        None => nearest_named(p, class, name, Named::Method, class_count(p)),
+        None => nearest_named(p, class, name, kind, class_count(p)),
     }
 }
 

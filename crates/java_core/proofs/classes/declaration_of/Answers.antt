@@ -10,10 +10,10 @@ use Rattle.java_core.proofs.classes.declaration_of.Goals as goal
 pub returns-in-Some : goal.returns-in-Some
 returns-in-Some c =
     let P = program_of no_place c.args.p.now in
-    record { value = first-there _ _ (declaration_of-found P c.args.class.0 c.args.name.now) c.nearest_method.ensures c.in-Some.is }
+    record { value = first-there _ _ (declaration_of-found P c.args.class.0 c.args.name.now) c.nearest_of_name.ensures c.in-Some.is }
 
 pub returns-in-None : goal.returns-in-None
 returns-in-None c =
     let P = program_of no_place c.args.p.now in
     let far = c.nearest_named.ensures ∙ ap (λ n. nearest P (λ k. own_named P OfFaces k c.args.name.now) n c.args.class.0) c.class_count.ensures in
-    record { value = far ∙ sym (first-later _ _ (declaration_of-found P c.args.class.0 c.args.name.now) c.nearest_method.ensures c.in-None.is) }
+    record { value = far ∙ sym (first-later _ _ (declaration_of-found P c.args.class.0 c.args.name.now) c.nearest_of_name.ensures c.in-None.is) }
