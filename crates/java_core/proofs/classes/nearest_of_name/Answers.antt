@@ -1,7 +1,6 @@
-use Rattle.std.proofs.Common.{length, sym, ap, ◌∙◌}
+use Rattle.std.proofs.Common.{rules, length, sym, ◌∙◌}
 use Rattle.java_core.specs.Trees.{no_place}
 use Rattle.java_core.specs.Programs.{program_of}
-use Rattle.java_core.specs.Classes.{nearest}
 use Rattle.java_core.specs.Own.{own_named}
 use Rattle.java_core.proofs.NearestLemmas.{own-nearest, nothing-own}
 use Rattle.java_core.proofs.classes.nearest_of_name.Goals as goal
@@ -20,6 +19,4 @@ returns-in-Some c =
     (sym c.is_some.ensures ∙ c.if-is_some.false) c.own_named-own.ensures)
 
 pub returns-in-None : goal.returns-in-None
-returns-in-None c =
-    let P = program_of no_place c.args.p.now in
-    c.nearest_named.ensures ∙ ap (λ n. nearest P (λ k. own_named P c.args.kind k c.args.name.now) n c.args.class.0) c.class_count.ensures
+returns-in-None c = c.nearest_up.ensures (λ k. own_named (program_of no_place c.args.p.now) c.args.kind k c.args.name.now) (search rules)
