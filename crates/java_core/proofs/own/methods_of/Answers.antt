@@ -9,5 +9,5 @@ returns-then-own-le-FEW c = keyed_at (λ m. m.owner.0) _ c.args.p.now.methods.it
     c.args.p.now.tables_shown.methods.own (method_owner c.args.class.0 c.args.name.now)
 
 pub returns : goal.returns
-returns c = keyed_at (method_place method_key.OwnerAndName (length c.args.p.now.methods.items)) _ c.args.p.now.methods.items c.listed_under.ensures (search rules)
-    c.args.p.now.tables_shown.methods.by_name (method_there _ c.args.class.0 c.args.name.now)
+returns c = keyed_at (method_place method_key.OwnerAndName (length c.args.p.now.methods.items)) _ c.args.p.now.methods.items c.listed_under.ensures
+    (search rules) c.args.p.now.tables_shown.methods.by_name (method_there _ c.args.class.0 c.args.name.now)

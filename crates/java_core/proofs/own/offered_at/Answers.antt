@@ -12,4 +12,5 @@ returns c =
     let P = program_of no_place c.args.p.now in
     let p : Method → Bool = λ m. offers P c.args.class.0 c.args.name.now (method_seen no_place m) in
     c.first_among.ensures.value p (search rules) ∙ ap (λ l. first_among p l c.methods_named.result.now) c.deref.ensures.value
-    ∙ c.methods_named.ensures c.args.class.0 ∙ sym (position-map (method_seen no_place) (λ m. offers P c.args.class.0 c.args.name.now m) c.args.p.now.methods.items)
+    ∙ c.methods_named.ensures c.args.class.0
+    ∙ sym (position-map (method_seen no_place) (λ m. offers P c.args.class.0 c.args.name.now m) c.args.p.now.methods.items)
