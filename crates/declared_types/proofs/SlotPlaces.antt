@@ -1,5 +1,5 @@
 -- The first slot of a name, parameters and a result, in the words of the lists by key.
-use Rattle.std.proofs.Common.{◌≡◌, ℕ, ◌+◌, Bool, true, false, ◌&&◌, cond, List, [], ◌∷◌, ◌++◌, length, map, Option, arith, sym, ap, ap₂, ◌∙◌, subst}
+use Rattle.std.proofs.Common.{◌≡◌, ℕ, ◌+◌, true, ◌&&◌, cond, List, [], ◌∷◌, ◌++◌, length, map, Option, refl, arith, sym, ap, ap₂, ◌∙◌, subst}
 use Rattle.std.specs.Prelude.{◌==◌}
 use Rattle.std.specs.Str.{bytes_eq}
 use Rattle.std.specs.declared.vec.Vec.{Vec}
@@ -15,6 +15,7 @@ use Rattle.java_core.specs.Trees.{at_place}
 use Rattle.java_core.specs.Programs.{slot_seen}
 use Rattle.java_core.proofs.Positions.{position-map}
 use Rattle.java_core.proofs.Buckets.{keyed}
+use Rattle.name_tables.proofs.SpotLemmas.{listed-more}
 use Rattle.name_outcome.specs.Members.{have_types, same_result, is_signature, slot_in}
 use Rattle.name_outcome.proofs.SameTypes.{types-same, result-same}
 use Rattle.declared_types.specs.Found.{fits}
@@ -38,19 +39,7 @@ keyed-slot n ls r ss lists are =
 -- one owner more stands last
 owned-more : (k c : ℕ) (owners : List ℕ) (x : ℕ) → owned_from k c (owners ++ x ∷ [])
     ≡ cond (x == c) (owned_from k c owners ++ (k + length owners) ∷ []) (owned_from k c owners)
-owned-more k c [] x = ap (λ j. cond (x == c) (j ∷ []) []) (omega arith)
-owned-more k c (y ∷ owners) x = go (y == c) (x == c) (owned-more (k + 1) c owners x ∙ ap (λ j. cond (x == c)
-    (owned_from (k + 1) c owners ++ j ∷ []) (owned_from (k + 1) c owners)) (omega arith))
-  where
-    go : (b d : Bool) → owned_from (k + 1) c (owners ++ x ∷ [])
-        ≡ cond d (owned_from (k + 1) c owners ++ (k + length (y ∷ owners)) ∷ []) (owned_from (k + 1) c owners)
-        → cond b (k ∷ owned_from (k + 1) c (owners ++ x ∷ [])) (owned_from (k + 1) c (owners ++ x ∷ []))
-        ≡ cond d (cond b (k ∷ owned_from (k + 1) c owners) (owned_from (k + 1) c owners) ++ (k + length (y ∷ owners)) ∷ [])
-        (cond b (k ∷ owned_from (k + 1) c owners) (owned_from (k + 1) c owners))
-    go true true h = ap (λ z. k ∷ z) h
-    go true false h = ap (λ z. k ∷ z) h
-    go false true h = h
-    go false false h = h
+owned-more k c owners x = listed-more (λ y. y == c) (λ k. owned_from k c) (λ k. refl) (λ k y ys. refl) k owners x
 
 -- lists that were right are right with one item more
 pub owned_noted : {A : Type 0} (key : A → ℕ) (xs ys : List A) (x : A) (at k : ℕ) (old new : List (Vec ℕ Global)) → ys ≡ xs ++ x ∷ []

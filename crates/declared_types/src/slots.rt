@@ -23,22 +23,10 @@ pub fn is_base(a: TyBase, b: TyBase) -> bool
     ensures { result ≡ is_base a b }
 {
     match a {
-        TyBase::Int => match b {
-            TyBase::Int => true,
-            _ => false,
-        },
-        TyBase::Boolean => match b {
-            TyBase::Boolean => true,
-            _ => false,
-        },
-        TyBase::Char => match b {
-            TyBase::Char => true,
-            _ => false,
-        },
-        TyBase::Str => match b {
-            TyBase::Str => true,
-            _ => false,
-        },
+        TyBase::Int => matches!(b, TyBase::Int),
+        TyBase::Boolean => matches!(b, TyBase::Boolean),
+        TyBase::Char => matches!(b, TyBase::Char),
+        TyBase::Str => matches!(b, TyBase::Str),
         TyBase::Class(class) => match b {
             TyBase::Class(other) => class.0 == other.0,
             _ => false,

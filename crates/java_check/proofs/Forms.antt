@@ -1,5 +1,5 @@
--- Statements with lists, as their plain trees, and their sizes.
-use Rattle.std.proofs.Common.{◌≡◌, ℕ, zero, suc, ◌<◌, ◌≤◌, List, [], ◌∷◌, length, get_or, true, false, Option, Some, Result, Ok, sym, ap, ◌∙◌, subst, arith}
+-- Statements with lists, as their plain trees.
+use Rattle.std.proofs.Common.{◌≡◌, true, false, Option, Some, Result, Ok, sym, ap, ◌∙◌}
 use Rattle.std.specs.declared.vec.Vec.{Vec}
 use Rattle.std.specs.declared.boxed.Box.{Box}
 use Rattle.std.specs.declared.alloc.Global.{Global}
@@ -7,13 +7,12 @@ use Rattle.kaba_base.specs.declared.Place.{Place}
 use Rattle.java_core.specs.declared.RExpr.{RExpr}
 use Rattle.java_core.specs.declared.RStmt.{RStmt, Block, If, While, For}
 use Rattle.java_core.specs.declared.RArm.{RArm}
-use Rattle.java_core.specs.Trees.{Arms, no_st, block, choose, loop, at_place, expr_of, value_of, stmt_of, stmts, arms_seen, else_seen, step_seen}
+use Rattle.java_core.specs.Trees.{no_st, block, choose, loop, at_place, expr_of, value_of, stmt_of, stmts, arms_seen, else_seen, step_seen}
 use Rattle.java_core.specs.Programs.{Plain}
 use Rattle.java_core.specs.Types.{Env}
 use Rattle.java_core.proofs.Rows.{stmts_vec, if_as, for_as}
 use Rattle.java_check.specs.declared.CheckFault.{CheckFault}
 use Rattle.java_check.specs.StatementOutcome.{test_answer, condition_answer, st_answer, sts_answer}
-use Rattle.java_check.specs.Size.{st_size, sts_size, arms_size}
 use Rattle.java_check.proofs.Arguments.{and_then-ok}
 
 pub block_seen : {s : RStmt} (v : Vec RStmt Global) (p : Place) → s ≡ Block v p → stmt_of at_place s ≡ block (at_place p) (stmts at_place v.items)
@@ -45,26 +44,3 @@ pub for_body : (P : Plain) (g : Env) {s : RStmt} (f : Option (Box RStmt Global))
     → sts_answer P g (stmts at_place v.items) ≡ st_answer P g (stmt_of at_place s)
 for_body P g f t j v p h a x b y c z = sym (ap (st_answer P g) (for_seen f t j v p h) ∙ and_then-ok _ (sym a ∙ x) ∙ and_then-ok _ (sym b ∙ y)
     ∙ and_then-ok _ (sym c ∙ z))
-
-at_smaller : (xs : List RStmt) (i : ℕ) (d : RStmt) → i < length xs → st_size (stmt_of at_place (get_or xs i d)) < sts_size (stmts at_place xs)
-at_smaller [] i d h = absurd (omega (arith, h))
-at_smaller (x ∷ xs) zero d h = omega arith
-at_smaller (x ∷ xs) (suc i) d h = omega (arith, at_smaller xs i d (omega (arith, h)))
-
-pub stmt_smaller : (xs : List RStmt) (i : ℕ) (d : RStmt) → i < length xs → d ≡ get_or xs i d → st_size (stmt_of at_place d) < sts_size (stmts at_place xs)
-stmt_smaller xs i d h e = subst (λ x. st_size (stmt_of at_place x) < sts_size (stmts at_place xs)) (sym e) (at_smaller xs i d h)
-
-pub else_smaller : (xs : List RArm) (other : Arms) → arms_size other ≤ arms_size (arms_seen at_place xs other)
-else_smaller [] other = omega arith
-else_smaller (x ∷ xs) other = omega (arith, else_smaller xs other)
-
-body_smaller : (xs : List RArm) (other : Arms) (i : ℕ) (d : RArm) → i < length xs → sts_size (stmts at_place (get_or xs i d).body.items) ≤ arms_size
-    (arms_seen at_place xs other)
-body_smaller [] other i d h = absurd (omega (arith, h))
-body_smaller (x ∷ xs) other zero d h = omega arith
-body_smaller (x ∷ xs) other (suc i) d h = omega (arith, body_smaller xs other i d (omega (arith, h)))
-
-pub arm_smaller : (xs : List RArm) (other : Arms) (i : ℕ) (d : RArm) → i < length xs → d ≡ get_or xs i d
-    → sts_size (stmts at_place d.body.items) ≤ arms_size (arms_seen at_place xs other)
-arm_smaller xs other i d h e = subst (λ (x : RArm). sts_size (stmts at_place x.body.items) ≤ arms_size (arms_seen at_place xs other)) (sym e)
-    (body_smaller xs other i d h)

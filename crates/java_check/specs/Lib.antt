@@ -2,7 +2,6 @@ pub mod Outcome
 pub mod Callees
 pub mod Fails
 pub mod StatementOutcome
-pub mod Size
 pub mod ClassOutcome
 pub mod ProgramOutcome
 pub mod SlotOutcome

@@ -11,7 +11,7 @@ ghost use Rattle.java_check.specs.Fails.{tag_of};
 ghost use Rattle.java_check.specs.Outcome.{env_in, answer, and_then, asked};
 ghost use Rattle.java_check.specs.StatementOutcome.{field_answer, target_answer, condition_answer, test_answer, assign_answer, return_answer, st_answer, sts_answer, arms_answer};
 
-use crate::expressions::{ask, element, local_type, type_of};
+use crate::expressions::{ask, local_type, type_of};
 use crate::types::{fits, fits_in, is_boolean, is_printable};
 use crate::{CheckFault, Kind};
 use java_core::{Program, RArm, RExpr, RStmt, Static, Ty, field_in, field_type, given_of};
@@ -56,13 +56,10 @@ fn target_type(
     ensures { result ≡ target_answer (program_of no_place p.now) (env_in (program_of no_place p.now) body.0) (at_place place) (target_of at_place target.now) }
 {
     match target {
-        RExpr::Local { local, .. } => Ok(given_of(local_type(p, body, *local))),
-        RExpr::Static { field, .. } => Ok(given_of(field_type(p, *field))),
-        RExpr::Own { field, .. } => Ok(given_of(field_type(p, *field))),
-        RExpr::Field { base, name, place } => stored(p, type_of(p, body, base)?, name, *place),
-        RExpr::Index { base, at, place } => {
-            element(type_of(p, body, base)?, type_of(p, body, at)?, *place)
+        RExpr::Local { .. } | RExpr::Static { .. } | RExpr::Own { .. } | RExpr::Index { .. } => {
+            type_of(p, body, target)
         }
+        RExpr::Field { base, name, place } => stored(p, type_of(p, body, base)?, name, *place),
         _ => Err(CheckFault::IllTyped(Kind::Assign, place)),
     }
 }

@@ -27,6 +27,11 @@ pub keyed : {A : Type 0} (key : A → ℕ) (p : A → Bool) (c : ℕ) (items : L
 keyed key p c items lists owned own =
     ap (first_among p items) (owned.exact c) ∙ own-position key p c (λ x e. eq-eqb (key x) c (own x e)) items
 
+-- the same of the numbers that are under the number of the key
+pub keyed_at : {A : Type 0} (key : A → ℕ) (p : A → Bool) {c k : ℕ} (items : List A) {lists : List (Vec ℕ Global)} {numbers : List ℕ}
+    → numbers ≡ listed lists k → k ≡ c → AreOwned (map key items) lists → ((x : A) → p x ≡ true → key x ≡ c) → first_among p items numbers ≡ position p items
+keyed_at key p {c} {k} items {lists} found is owned own = ap (first_among p items) (found ∙ ap (listed lists) is) ∙ keyed key p c items lists owned own
+
 same_slot : (n c s : ℕ) (o : Option ℕ) → is_slot o s ≡ true → slot_bucket n c o ≡ slot_bucket n c (Some s)
 same_slot n c s None e = absurd (false≢true e)
 same_slot n c s (Some r) e = ap (λ i. slot_bucket n c (Some i)) (eqb-true r s e)

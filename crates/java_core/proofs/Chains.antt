@@ -1,5 +1,5 @@
 -- A way upwards along a list of superclasses that ends passes no class twice, so it is no longer than the list.
-use Rattle.std.proofs.Common.{◌≡◌, ℕ, suc, ◌+◌, ◌<◌, ◌≤◌, true, false, List, [], ◌∷◌, eqb, length, Option, Some, None, sym, ◌∙◌, ap, refl, subst, arith, ⊎_elim}
+use Rattle.std.proofs.Common.{◌≡◌, ℕ, suc, ◌+◌, ◌<◌, ◌≤◌, true, false, List, [], ◌∷◌, eqb, length, Option, Some, None, sym, ap, refl, subst, arith, ⊎_elim}
 use Rattle.std.specs.Prelude.{slice_get}
 use Rattle.std.specs.List.{IsDistinct, AllByRecursion, list_any}
 use Rattle.std.specs.Option.{option_and_then}

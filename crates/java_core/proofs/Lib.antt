@@ -17,3 +17,4 @@ pub mod Entries
 pub mod SeenClasses
 pub mod Chains
 pub mod NearestLemmas
+pub mod StatementSize

@@ -25,7 +25,7 @@ use Rattle.java_core.specs.Owned.{AreOwned, owned_from, listed, passes, first_am
 use Rattle.java_core.specs.Nearest.{superclasses, parent_at, nearest_by, IsFirst, highest, lower, AreVersions, IsVersionAbove, IsAbove, IsNearestBy, numbered_among}
 use Rattle.java_core.proofs.Chains.{Chain, ends, goes_up, short}
 use Rattle.java_core.proofs.OwnedLemmas.{owned-position, position-within}
-use Rattle.java_core.proofs.Positions.{position-passes, passes-position}
+use Rattle.java_core.proofs.Positions.{position-passes, position-map, passes-position}
 use Rattle.java_core.proofs.Subclasses.{nearest-here}
 
 -- ---- along the superclasses
@@ -99,13 +99,23 @@ module _ (tag : Place → Tag) (classes : List Class) where
       up None h = refl
       up (Some p) h = h p.0
 
-  pub nearest-told : (P : Plain) → P.classes ≡ map (class_seen tag) classes → (parents : List (Option ClassId)) → parents ≡ superclasses classes
+  nearest-told : (P : Plain) → P.classes ≡ map (class_seen tag) classes → (parents : List (Option ClassId)) → parents ≡ superclasses classes
       → (own : ℕ → Option ℕ) (c : ℕ) (r : Option ℕ) → IsNearestBy parents own c r → own c ≡ None → r ≡ nearest_of P own c
   nearest-told P is parents up own c r h here =
       sym (h here) ∙ ap (λ ps. nearest_by ps own (length ps) c) up
       ∙ ap (λ n. nearest_by (superclasses classes) own n c)
       (length-map classes (λ k. k.parent) ∙ sym (length-map classes (class_seen tag)) ∙ ap length (sym is))
       ∙ nearest-seen P is own (length P.classes) c
+
+  -- the same where it is told of whatever finds what the classes themselves have, by a test of the members as they are seen
+  pub told-nearest : (P : Plain) → P.classes ≡ map (class_seen tag) classes → (parents : List (Option ClassId)) → parents ≡ superclasses classes
+      → {A B : Type 0} (view : A → B) (test : ℕ → B → Bool) (members shown : List A) → shown ≡ members
+      → (own : ℕ → Option ℕ) → ((k : ℕ) → position (test k) (map view members) ≡ own k) → (c : ℕ) (o : Option (Option ℕ))
+      → IfSome o (λ r. (f : ℕ → Option ℕ) → ((k : ℕ) → position (λ a. test k (view a)) shown ≡ f k) → IsNearestBy parents f c r)
+      → IfSome o (λ r. own c ≡ None → r ≡ nearest_of P own c)
+  told-nearest P is parents up view test members shown all own same c None h = tt
+  told-nearest P is parents up view test members shown all own same c (Some r) h = nearest-told P is parents up own c r
+      (h own (λ k. ap (position (λ a. test k (view a))) all ∙ sym (position-map view (test k) members) ∙ same k))
 
 module _ (P : Plain) (own : ℕ → Option ℕ) where
   -- what a class itself has is nearest

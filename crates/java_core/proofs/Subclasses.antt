@@ -143,6 +143,12 @@ module _ (P : Plain) where
     nearest-up number zero a None p more here none at = absurd (more refl)
     nearest-up number (suc n) a None p more here none at = let one : suc n - 1 ≡ n = omega arith in rw (sym here, at, one) refl
 
+    pub nearest-top : {D : Type 0} (number : D → ℕ) (n a : ℕ) (o : Option D) → option_map number o ≡ own a → is_some o ≡ false → parent_of P a ≡ None
+        → None ≡ nearest P own n a
+    nearest-top number n a (Some d) here none top = absurd (cc none)
+    nearest-top number zero a None here none top = here
+    nearest-top number (suc n) a None here none top = rw (sym here, top) refl
+
     pub nearest-here : (n a d : ℕ) → own a ≡ Some d → nearest P own n a ≡ Some d
     nearest-here zero a d e = e
     nearest-here (suc n) a d e = rw e

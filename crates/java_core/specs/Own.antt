@@ -1,23 +1,16 @@
 -- What a class itself has, by what is looked for.
-use Rattle.std.specs.Prelude.{ℕ, ◌&&◌, not, Bool, List, [], ◌∷◌, length, Option, Some, None, position, if◌then◌else◌}
+use Rattle.std.specs.Prelude.{ℕ, ◌&&◌, not, Bool, List, [], ◌∷◌, Option, Some, None, position, if◌then◌else◌}
 use Rattle.std.specs.Option.{is_some}
 use Rattle.std.specs.Str.{bytes_eq}
 use Rattle.kaba_base.specs.declared.ClassId.{ClassId}
 use Rattle.java_core.specs.declared.classes.Named.{Named}
 use Rattle.java_core.specs.declared.classes.Named.TheVariants as named
-use Rattle.java_core.specs.declared.classes.OfSlot.{OfSlot}
-use Rattle.java_core.specs.declared.classes.OfSlot.TheVariants as of_slot
 use Rattle.java_core.specs.Plain.{Plain, PlainMethod}
-use Rattle.java_core.specs.Classes.{below, own_field_of, own_method, own_declaration, own_body, faces_above, first_found}
+use Rattle.java_core.specs.Classes.{below, own_field_of, own_method}
 
 abbrev pub own_named : Plain → Named → ℕ → List ℕ → Option ℕ
 own_named P named.Field c x = own_field_of P c x
 own_named P named.Method c x = own_method P c x
-own_named P named.OfFaces c x = first_found (λ k. own_method P k x) (faces_above P (length P.classes) c)
-
-abbrev pub own_of_slot : Plain → OfSlot → ℕ → ℕ → Option ℕ
-own_of_slot P of_slot.Declaration c s = own_declaration P c s
-own_of_slot P of_slot.Body c s = own_body P c s
 
 -- whether a method is an instance method of the name that stands at or above a type
 abbrev pub offers : Plain → ℕ → List ℕ → PlainMethod → Bool

@@ -1,13 +1,15 @@
 //! Subtyping, and the members that a class or an interface has.
 
-ghost use Rattle.std.specs.Prelude.{◌≡◌, ℕ, ◌<◌, ◌↔◌, length, IsTrue, Option, Some, IfSome, IfNone, Contains};
+ghost use Rattle.std.specs.Prelude.{◌≡◌, ℕ, ◌<◌, ◌↔◌, length, IsTrue, Option, Some, None, IfSome, IfNone, Contains};
 ghost use Rattle.std.specs.Option.{option_map};
+ghost use Rattle.kaba_base.specs.declared.ClassId.{ClassId};
+ghost use Rattle.kaba_base.specs.declared.MemberId.{MemberId};
 ghost use Rattle.java_core.specs.Trees.{no_place};
 ghost use Rattle.java_core.specs.Programs.{program_of};
-ghost use Rattle.java_core.specs.Classes.{IsSubclass, below, parent_of, faces_of, supers_of, field_of, member_field, is_static_field, own_method, nearest, nearest_of, faces_above, first_found, declaration_of, slot_of_method, slot_of, lookup, nearest_declaration, super_method};
+ghost use Rattle.java_core.specs.Classes.{IsSubclass, below, parent_of, faces_of, supers_of, field_of, member_field, is_static_field, own_method, own_declaration, own_body, nearest_of, faces_above, first_found, declaration_of, slot_of_method, slot_of, lookup, nearest_declaration, super_method};
 ghost use Rattle.java_core.specs.Found.{Runs, IsOffered};
 ghost use Rattle.java_core.specs.declared.classes.Named.TheVariants as named;
-ghost use Rattle.java_core.specs.Own.{own_named, own_of_slot, towards};
+ghost use Rattle.java_core.specs.Own.{own_named, towards};
 ghost use Rattle.java_core.specs.Formed.{IsFormed};
 
 use crate::Program;
@@ -59,7 +61,7 @@ pub fn field_of(p: &Program, class: ClassId, name: &Name) -> Option<MemberId>
     requires { IsFormed (program_of no_place p.now) }
     ensures value { option_map (λ d. d.0) result ≡ field_of (program_of no_place p.now) class.0 name.now }
 {
-    nearest_field(p, class, name)
+    nearest_of_name(p, class, name, Named::Field)
 }
 
 /// The field that an object of the type has under a name: the nearest upwards, where that one is an instance field.
@@ -91,7 +93,7 @@ pub fn super_method(p: &Program, class: ClassId, name: &Name) -> Option<MemberId
     ensures value { option_map (λ d. d.0) result ≡ super_method (program_of no_place p.now) class.0 name.now }
 {
     match parent_of(p, class) {
-        Some(parent) => nearest_method(p, parent, name),
+        Some(parent) => nearest_of_name(p, parent, name, Named::Method),
         None => None,
     }
 }
@@ -104,7 +106,7 @@ pub fn lookup(p: &Program, class: ClassId, slot: u32) -> Option<MemberId>
     ensures found { IfSome result (λ d. Runs (program_of no_place p.now) class.0 slot d.0) }
     ensures none { IfNone result ((d : ℕ) → Runs (program_of no_place p.now) class.0 slot d → ⊥) }
 {
-    nearest_of_slot(p, class, slot, OfSlot::Body, class_count(p))
+    nearest_up(p, class, |at| own_body(p, at, slot))
 }
 
 /// The nearest declaration of a slot in a class and its superclasses.
@@ -113,7 +115,7 @@ pub fn nearest_declaration(p: &Program, class: ClassId, slot: u32) -> Option<Mem
     requires { IsFormed (program_of no_place p.now) }
     ensures value { option_map (λ d. d.0) result ≡ nearest_declaration (program_of no_place p.now) class.0 slot }
 {
-    nearest_of_slot(p, class, slot, OfSlot::Declaration, class_count(p))
+    nearest_up(p, class, |at| own_declaration(p, at, slot))
 }
 
 /// The declaration that a call of a name on a type finds: in the type and its superclasses, then in the interfaces that these name (Java Language Specification, 15.12).
@@ -121,9 +123,9 @@ pub fn declaration_of(p: &Program, class: ClassId, name: &Name) -> Option<Member
     requires { IsFormed (program_of no_place p.now) }
     ensures value { option_map (λ d. d.0) result ≡ declaration_of (program_of no_place p.now) class.0 name.now }
 {
-    match nearest_method(p, class, name) {
+    match nearest_of_name(p, class, name, Named::Method) {
         Some(own) => Some(own),
-        None => nearest_named(p, class, name, Named::OfFaces, class_count(p)),
+        None => nearest_up(p, class, |at| in_faces(p, at, name)),
     }
 }
 
@@ -245,27 +247,24 @@ enum Named {
     Field,
     /// An instance method.
     Method,
-    /// The first instance method that an interface above declares.
-    OfFaces,
 }
 
-/// What is nearest upwards of a name, within so many steps along the superclasses.
-fn nearest_named(
+/// What is nearest upwards of what classes themselves have.
+fn nearest_up<F: Fn(ClassId) -> Option<MemberId>>(
     p: &Program,
     class: ClassId,
-    name: &Name,
-    kind: Named,
-    left: usize,
+    own: F,
 ) -> Option<MemberId>
-    requires { IsFormed (program_of no_place p.now) }
-    ensures { option_map (λ d. d.0) result ≡ nearest (program_of no_place p.now) (λ k. own_named (program_of no_place p.now) kind k name.now) left class.0 }
+    requires { F.IsAlwaysCallable own }
+    ensures { (f : ℕ → Option ℕ) → ((k : ClassId) (r : Option MemberId) → F.post own k r → option_map (λ d. d.0) r ≡ f k.0)
+        → option_map (λ d. d.0) result ≡ nearest_of (program_of no_place p.now) f class.0 }
 {
     let mut at = class;
-    let mut steps = left;
+    let mut steps = class_count(p);
     'up: loop {
-        let own = own_named(p, at, name, kind);
-        if own.is_some() || steps == 0 {
-            return own;
+        let here = own(at);
+        if here.is_some() || steps == 0 {
+            return here;
         }
         let Some(parent) = parent_of(p, at) else {
             return None;
@@ -285,41 +284,35 @@ fn numbered(at: Option<u32>) -> Option<MemberId>
     }
 }
 
-/// The nearest field of a name upwards.
-fn nearest_field(p: &Program, class: ClassId, name: &Name) -> Option<MemberId>
+/// What is nearest upwards of a name to a class that has nothing itself, where the tables tell it.
+fn told_above(p: &Program, class: ClassId, name: &Name, kind: Named) -> Option<Option<u32>>
     requires { IsFormed (program_of no_place p.now) }
-    ensures { option_map (λ d. d.0) result ≡ nearest_of (program_of no_place p.now) (λ k. own_named (program_of no_place p.now) named.Field k name.now) class.0 }
+    ensures { IfSome result (λ r. own_named (program_of no_place p.now) kind class.0 name.now ≡ None
+        → r ≡ nearest_of (program_of no_place p.now) (λ k. own_named (program_of no_place p.now) kind k name.now) class.0) }
 {
-    let own = own_named(p, class, name, Named::Field);
-    if own.is_some() {
-        return own;
-    }
-    match p
-        .tables
-        .fields
-        .nearest_above(&p.tables.parents, &p.fields, class.0 as usize, name)
-    {
-        Some(at) => numbered(at),
-        None => nearest_named(p, class, name, Named::Field, class_count(p)),
+    let at = class.0 as usize;
+    let parents = &p.tables.parents;
+    match kind {
+        Named::Field => p.tables.fields.nearest_above(parents, &p.fields, at, name),
+        Named::Method => p
+            .tables
+            .methods
+            .nearest_above(parents, &p.methods, at, name),
     }
 }
 
-/// The nearest instance method of a name upwards.
-fn nearest_method(p: &Program, class: ClassId, name: &Name) -> Option<MemberId>
+/// What is nearest upwards of a name.
+fn nearest_of_name(p: &Program, class: ClassId, name: &Name, kind: Named) -> Option<MemberId>
     requires { IsFormed (program_of no_place p.now) }
-    ensures { option_map (λ d. d.0) result ≡ nearest_of (program_of no_place p.now) (λ k. own_named (program_of no_place p.now) named.Method k name.now) class.0 }
+    ensures { option_map (λ d. d.0) result ≡ nearest_of (program_of no_place p.now) (λ k. own_named (program_of no_place p.now) kind k name.now) class.0 }
 {
-    let own = own_named(p, class, name, Named::Method);
+    let own = own_named(p, class, name, kind);
     if own.is_some() {
         return own;
     }
-    match p
-        .tables
-        .methods
-        .nearest_above(&p.tables.parents, &p.methods, class.0 as usize, name)
-    {
+    match told_above(p, class, name, kind) {
         Some(at) => numbered(at),
-        None => nearest_named(p, class, name, Named::Method, class_count(p)),
+        None => nearest_up(p, class, |at| own_named(p, at, name, kind)),
     }
 }
 
@@ -331,7 +324,6 @@ fn own_named(p: &Program, class: ClassId, name: &Name, kind: Named) -> Option<Me
     match kind {
         Named::Field => member(own_field_at(p, class, name)),
         Named::Method => own_method(p, class, name),
-        Named::OfFaces => in_faces(p, class, name),
     }
 }
 
@@ -354,48 +346,18 @@ fn member(at: Option<usize>) -> Option<MemberId>
     }
 }
 
-/// What is looked for by a slot.
-#[derive(Clone, Copy)]
-enum OfSlot {
-    /// A method, with a body or without one.
-    Declaration,
-    /// A method with a body.
-    Body,
+/// The method of a slot that a class itself declares, with a body or without one.
+fn own_declaration(p: &Program, class: ClassId, slot: u32) -> Option<MemberId>
+    requires { IsFormed (program_of no_place p.now) }
+    ensures { option_map (λ d. d.0) result ≡ own_declaration (program_of no_place p.now) class.0 slot }
+{
+    member(own_declaration_at(p, class, slot))
 }
 
-/// What is nearest upwards of a slot, within so many steps along the superclasses.
-fn nearest_of_slot(
-    p: &Program,
-    class: ClassId,
-    slot: u32,
-    kind: OfSlot,
-    left: usize,
-) -> Option<MemberId>
+/// The body of a slot that a class itself has.
+fn own_body(p: &Program, class: ClassId, slot: u32) -> Option<MemberId>
     requires { IsFormed (program_of no_place p.now) }
-    ensures { option_map (λ d. d.0) result ≡ nearest (program_of no_place p.now) (λ k. own_of_slot (program_of no_place p.now) kind k slot) left class.0 }
+    ensures { option_map (λ d. d.0) result ≡ own_body (program_of no_place p.now) class.0 slot }
 {
-    let mut at = class;
-    let mut steps = left;
-    'up: loop {
-        let own = own_of_slot(p, at, slot, kind);
-        if own.is_some() || steps == 0 {
-            return own;
-        }
-        let Some(parent) = parent_of(p, at) else {
-            return None;
-        };
-        at = parent;
-        steps -= 1;
-    }
-}
-
-/// What a class itself has of a slot.
-fn own_of_slot(p: &Program, class: ClassId, slot: u32, kind: OfSlot) -> Option<MemberId>
-    requires { IsFormed (program_of no_place p.now) }
-    ensures { option_map (λ d. d.0) result ≡ own_of_slot (program_of no_place p.now) kind class.0 slot }
-{
-    match kind {
-        OfSlot::Declaration => member(own_declaration_at(p, class, slot)),
-        OfSlot::Body => member(own_body_at(p, class, slot)),
-    }
+    member(own_body_at(p, class, slot))
 }

@@ -5,13 +5,13 @@ ghost use Rattle.std.specs.Prelude.{◌≡◌, ℕ, ◌<◌, ◌∷◌, [], leng
 ghost use Rattle.version_map.specs.Held.{holds};
 ghost use Rattle.version_map.specs.declared.VersionMap.{VersionMap};
 ghost use Rattle.java_core.specs.Classes.{first_or, is_slot};
-ghost use Rattle.java_core.specs.Owned.{passes, first_among};
+ghost use Rattle.java_core.specs.Owned.{passes};
 ghost use Rattle.java_core.specs.declared.tables.FieldKey.TheVariants as field_key;
 ghost use Rattle.java_core.specs.declared.tables.MethodKey.TheVariants as method_key;
 ghost use Rattle.java_core.specs.Tables.{AreFieldsBy, AreMethodsBy};
 ghost use Rattle.java_core.specs.Nearest.{is_named_field, is_named_method, field_number, method_number, number_of_method, field_numbers, method_numbers, numbered_among, parent_at, AreVersions, IsVersion, IsVersionAbove};
 
-use crate::owned::listed_under;
+use crate::owned::{first_among, listed_under};
 use crate::tables::name_bucket;
 use crate::{Field, Method};
 use kaba_base::{ClassId, Name};
@@ -35,57 +35,13 @@ fn is_named_method(method: &Method, name: &Name) -> bool
     !method.is_static && method.name.same(name)
 }
 
-/// Whether the field of a number has the name.
-fn is_field_named(fields: &[Field], at: usize, name: &Name) -> bool
-    ensures { result ≡ passes (λ f. is_named_field name.now f) (slice_get fields.now at) }
-{
-    match fields.get(at) {
-        Some(field) => is_named_field(field, name),
-        None => false,
-    }
-}
-
-/// Whether the method of a number is an instance method of the name.
-fn is_method_named(methods: &[Method], at: usize, name: &Name) -> bool
-    ensures { result ≡ passes (λ m. is_named_method name.now m) (slice_get methods.now at) }
-{
-    match methods.get(at) {
-        Some(method) => is_named_method(method, name),
-        None => false,
-    }
-}
-
-/// The first field of a name among these.
-fn field_among(fields: &[Field], list: &[usize], name: &Name) -> Option<usize>
-    ensures { result ≡ first_among (λ f. is_named_field name.now f) fields.now list.now }
-{
-    for at in list {
-        if is_field_named(fields, *at, name) {
-            return Some(*at);
-        }
-    }
-    None
-}
-
 /// The number of a name: that of the first field that has it. The lists are those of the names.
 pub fn field_number(fields: &[Field], lists: &Vec<Vec<usize>>, name: &Name) -> Option<usize>
     requires { AreFieldsBy field_key.Name fields.now lists.now.items }
     ensures { result ≡ field_number fields.now name.now }
 {
     let list = listed_under(lists, name_bucket(fields.len(), ClassId(0), name));
-    field_among(fields, list, name)
-}
-
-/// The first instance method of a name among these.
-fn method_among(methods: &[Method], list: &[usize], name: &Name) -> Option<usize>
-    ensures { result ≡ first_among (λ m. is_named_method name.now m) methods.now list.now }
-{
-    for at in list {
-        if is_method_named(methods, *at, name) {
-            return Some(*at);
-        }
-    }
-    None
+    first_among(fields, list, |field| is_named_field(field, name))
 }
 
 /// The number of a name: that of the first instance method that has it. The lists are those of the names.
@@ -94,7 +50,7 @@ pub fn method_number(methods: &[Method], lists: &Vec<Vec<usize>>, name: &Name) -
     ensures { result ≡ method_number methods.now name.now }
 {
     let list = listed_under(lists, name_bucket(methods.len(), ClassId(0), name));
-    method_among(methods, list, name)
+    first_among(methods, list, |method| is_named_method(method, name))
 }
 
 /// A number in 32 bits.

@@ -1,17 +1,17 @@
 //! The members that a class or an interface itself has, by name and by slot.
 #![tactic(auto)]
 
-ghost use Rattle.std.specs.Prelude.{◌≡◌, ℕ, ◌<◌, ◌&&◌, length, IfSome, slice_get, position};
+ghost use Rattle.std.specs.Prelude.{◌≡◌, ℕ, ◌<◌, ◌&&◌, length, IfSome, position};
 ghost use Rattle.std.specs.Option.{is_some};
 ghost use Rattle.java_core.specs.Trees.{no_place};
 ghost use Rattle.java_core.specs.Programs.{program_of, field_seen, method_seen};
 ghost use Rattle.java_core.specs.Classes.{is_field_of, is_method_of, has_slot};
 ghost use Rattle.java_core.specs.Own.{offers, offered};
-ghost use Rattle.java_core.specs.Owned.{passes, first_among};
+ghost use Rattle.java_core.specs.Owned.{first_among};
 ghost use Rattle.java_core.specs.Formed.{IsFormed};
 
 use crate::classes::is_subtype;
-use crate::owned::listed_under;
+use crate::owned::{first_among, listed_under};
 use crate::tables::{name_bucket, slot_bucket};
 use crate::{Field, Method, Program};
 use kaba_base::{ClassId, Name};
@@ -66,36 +66,14 @@ fn methods_in(p: &Program, class: ClassId, slot: u32) -> &[usize]
     )
 }
 
-/// The first field of a name among these in a class.
-fn field_among(p: &Program, list: &[usize], class: ClassId, name: &Name) -> Option<usize>
-    ensures { result ≡ first_among (λ f. is_field_of class.0 name.now (field_seen no_place f)) p.now.fields.items list.now }
-{
-    for at in list {
-        if is_field_at(p, *at, class, name) {
-            return Some(*at);
-        }
-    }
-    None
-}
-
 /// The number of the field of a name in a class itself.
 pub fn own_field_at(p: &Program, class: ClassId, name: &Name) -> Option<usize>
     ensures value { result ≡ position (λ f. is_field_of class.0 name.now (field_seen no_place f)) p.now.fields.items }
     ensures within { IfSome result (λ i. i < length p.now.fields.items) }
 {
-    field_among(p, fields_of(p, class, name), class, name)
-}
-
-/// The first instance method of a name among these in a class.
-fn method_among(p: &Program, list: &[usize], class: ClassId, name: &Name) -> Option<usize>
-    ensures { result ≡ first_among (λ m. is_method_of class.0 name.now (method_seen no_place m)) p.now.methods.items list.now }
-{
-    for at in list {
-        if is_method_at(p, *at, class, name) {
-            return Some(*at);
-        }
-    }
-    None
+    first_among(&p.fields, fields_of(p, class, name), |field| {
+        is_field_of(field, class, name)
+    })
 }
 
 /// The number of the instance method of a name that a class itself declares.
@@ -103,27 +81,9 @@ pub fn own_method_at(p: &Program, class: ClassId, name: &Name) -> Option<usize>
     ensures value { result ≡ position (λ m. is_method_of class.0 name.now (method_seen no_place m)) p.now.methods.items }
     ensures within { IfSome result (λ i. i < length p.now.methods.items) }
 {
-    method_among(p, methods_of(p, class, name), class, name)
-}
-
-/// Whether the field of a number stands in the class and has the name.
-fn is_field_at(p: &Program, at: usize, class: ClassId, name: &Name) -> bool
-    ensures { result ≡ passes (λ f. is_field_of class.0 name.now (field_seen no_place f)) (slice_get p.now.fields.items at) }
-{
-    match p.fields.get(at) {
-        Some(field) => is_field_of(field, class, name),
-        None => false,
-    }
-}
-
-/// Whether the method of a number is an instance method that stands in the class and has the name.
-fn is_method_at(p: &Program, at: usize, class: ClassId, name: &Name) -> bool
-    ensures { result ≡ passes (λ m. is_method_of class.0 name.now (method_seen no_place m)) (slice_get p.now.methods.items at) }
-{
-    match p.methods.get(at) {
-        Some(method) => is_method_of(method, class, name),
-        None => false,
-    }
+    first_among(&p.methods, methods_of(p, class, name), |method| {
+        is_method_of(method, class, name)
+    })
 }
 
 /// Whether a field stands in the class and has the name.
@@ -140,36 +100,14 @@ fn is_method_of(method: &Method, class: ClassId, name: &Name) -> bool
     method.owner == class && !method.is_static && method.name.same(name)
 }
 
-/// The first method of a slot among these in a class.
-fn declaration_among(p: &Program, list: &[usize], class: ClassId, slot: u32) -> Option<usize>
-    ensures { result ≡ first_among (λ m. has_slot class.0 slot (method_seen no_place m)) p.now.methods.items list.now }
-{
-    for at in list {
-        if is_declaration_at(p, *at, class, slot) {
-            return Some(*at);
-        }
-    }
-    None
-}
-
 /// The number of the method of a slot that a class itself declares.
 pub fn own_declaration_at(p: &Program, class: ClassId, slot: u32) -> Option<usize>
     ensures value { result ≡ position (λ m. has_slot class.0 slot (method_seen no_place m)) p.now.methods.items }
     ensures within { IfSome result (λ i. i < length p.now.methods.items) }
 {
-    declaration_among(p, methods_in(p, class, slot), class, slot)
-}
-
-/// The first body of a slot among these in a class.
-fn body_among(p: &Program, list: &[usize], class: ClassId, slot: u32) -> Option<usize>
-    ensures { result ≡ first_among (λ m. has_slot class.0 slot (method_seen no_place m) && is_some (method_seen no_place m).body) p.now.methods.items list.now }
-{
-    for at in list {
-        if is_body_at(p, *at, class, slot) {
-            return Some(*at);
-        }
-    }
-    None
+    first_among(&p.methods, methods_in(p, class, slot), |method| {
+        is_declaration_of(method, class, slot)
+    })
 }
 
 /// The number of the body of a slot that a class itself has.
@@ -177,28 +115,9 @@ pub fn own_body_at(p: &Program, class: ClassId, slot: u32) -> Option<usize>
     ensures value { result ≡ position (λ m. has_slot class.0 slot (method_seen no_place m) && is_some (method_seen no_place m).body) p.now.methods.items }
     ensures within { IfSome result (λ i. i < length p.now.methods.items) }
 {
-    body_among(p, methods_in(p, class, slot), class, slot)
-}
-
-/// Whether the method of a number stands in the class and is of the slot.
-fn is_declaration_at(p: &Program, at: usize, class: ClassId, slot: u32) -> bool
-    ensures { result ≡ passes (λ m. has_slot class.0 slot (method_seen no_place m)) (slice_get p.now.methods.items at) }
-{
-    match p.methods.get(at) {
-        Some(method) => is_declaration_of(method, class, slot),
-        None => false,
-    }
-}
-
-/// Whether the method of a number stands in the class, is of the slot and has a body.
-fn is_body_at(p: &Program, at: usize, class: ClassId, slot: u32) -> bool
-    ensures { result ≡ passes (λ m. has_slot class.0 slot (method_seen no_place m) && is_some (method_seen no_place m).body)
-        (slice_get p.now.methods.items at) }
-{
-    match p.methods.get(at) {
-        Some(method) => is_body_of(method, class, slot),
-        None => false,
-    }
+    first_among(&p.methods, methods_in(p, class, slot), |method| {
+        is_body_of(method, class, slot)
+    })
 }
 
 /// Whether a method stands in the class and is of the slot.
@@ -234,34 +153,12 @@ fn offers(p: &Program, method: &Method, class: ClassId, name: &Name) -> bool
     is_subtype(p, class, method.owner) && !method.is_static && method.name.same(name)
 }
 
-/// The same of the method of a number.
-fn offers_at(p: &Program, at: usize, class: ClassId, name: &Name) -> bool
-    requires { IsFormed (program_of no_place p.now) }
-    ensures { result ≡ passes (λ m. offers (program_of no_place p.now) class.0 name.now (method_seen no_place m)) (slice_get p.now.methods.items at) }
-{
-    match p.methods.get(at) {
-        Some(method) => offers(p, method, class, name),
-        None => false,
-    }
-}
-
-/// The first of these methods that is an instance method of the name and stands at or above a type.
-fn offered_among(p: &Program, list: &[usize], class: ClassId, name: &Name) -> Option<usize>
-    requires { IsFormed (program_of no_place p.now) }
-    ensures { result ≡ first_among (λ m. offers (program_of no_place p.now) class.0 name.now (method_seen no_place m)) p.now.methods.items list.now }
-{
-    for at in list {
-        if offers_at(p, *at, class, name) {
-            return Some(*at);
-        }
-    }
-    None
-}
-
 /// The number of the first instance method of a name that stands at or above a type.
 pub fn offered_at(p: &Program, class: ClassId, name: &Name) -> Option<usize>
     requires { IsFormed (program_of no_place p.now) }
     ensures { result ≡ offered (program_of no_place p.now) class.0 name.now }
 {
-    offered_among(p, methods_named(p, name), class, name)
+    first_among(&p.methods, methods_named(p, name), |method| {
+        offers(p, method, class, name)
+    })
 }

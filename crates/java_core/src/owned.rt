@@ -1,8 +1,9 @@
 //! What each class or interface declares itself.
 #![tactic(auto)]
 
-ghost use Rattle.std.specs.Prelude.{◌≡◌, ℕ, ◌<◌, ◌++◌, ◌∷◌, ◌==◌, [], cond, length, map, OnOk};
-ghost use Rattle.java_core.specs.Owned.{listed, owned_from};
+ghost use Rattle.std.specs.Prelude.{◌≡◌, ℕ, ◌<◌, ◌++◌, ◌∷◌, ◌==◌, [], Bool, true, cond, length, map, slice_get, IfSome, OnOk};
+ghost use Rattle.std.specs.Fn.{FnReturnsAt};
+ghost use Rattle.java_core.specs.Owned.{listed, owned_from, passes, first_among};
 
 use crate::Program;
 use kaba_base::ClassId;
@@ -56,4 +57,30 @@ pub fn declared_fields(p: &Program, class: ClassId) -> &[usize]
     ensures { result.now ≡ owned_from 0 class.0 (map (λ f. f.owner.0) p.now.fields.items) }
 {
     listed_under(&p.tables.fields.own, class.0 as usize)
+}
+
+/// Whether the item of a number is there and passes a test.
+fn passes<T, F: Fn(&T) -> bool>(items: &[T], at: usize, test: &F) -> bool
+    requires { F.IsAlwaysCallable test.now }
+    ensures value { (p : T → Bool) → ((x : T) (r : Bool) → FnReturnsAt F.Fn test.now x r → r ≡ p x) → result ≡ passes p (slice_get items.now at) }
+    ensures within { result ≡ true → at < length items.now }
+{
+    match items.get(at) {
+        Some(item) => test(item),
+        None => false,
+    }
+}
+
+/// The first of these numbers whose item passes a test.
+pub fn first_among<T, F: Fn(&T) -> bool>(items: &[T], list: &[usize], test: F) -> Option<usize>
+    requires { F.IsAlwaysCallable test }
+    ensures value { (p : T → Bool) → ((x : T) (r : Bool) → FnReturnsAt F.Fn test x r → r ≡ p x) → result ≡ first_among p items.now list.now }
+    ensures within { IfSome result (λ i. i < length items.now) }
+{
+    for at in list {
+        if passes(items, *at, &test) {
+            return Some(*at);
+        }
+    }
+    None
 }

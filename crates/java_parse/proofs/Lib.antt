@@ -13,6 +13,7 @@ pub mod CompleteExpressions
 pub mod CompleteStatements
 pub mod CompleteDeclarations
 pub mod Pushed
+pub mod GoesOn
 pub mod Small
 pub mod Deep
 pub mod Finals

@@ -4,10 +4,7 @@ use Rattle.kaba_base.specs.declared.Place.{Place}
 use Rattle.kaba_base.specs.declared.words.Keyword.TheVariants as keys
 use Rattle.java_lex.specs.declared.Token.{Token}
 use Rattle.java_lex.specs.declared.Mark.TheVariants as marks
-use Rattle.java_tree.specs.declared.Id.{Id}
-use Rattle.java_tree.specs.declared.Modifier.{Modifier}
-use Rattle.java_tree.specs.declared.Param.{Param}
-use Rattle.java_tree.specs.Syntax.{Expression, NameRef, NewOf, Expressions, no_more, and_more, Statement, Statements, no_statements, and_then, Arms, no_arms, and_arm, Else, OptionalStatement, HeadTree, MemberTree, DeclTree}
+use Rattle.java_tree.specs.Syntax.{Expression, NameRef, NewOf, Expressions, no_more, and_more, Statement, Statements, no_statements, and_then, Arms, no_arms, and_arm, Else, OptionalStatement, DeclTree}
 use Rattle.java_tree.specs.Tokens.{mark, key, word}
 use Rattle.java_parse.specs.declared.End.{End}
 use Rattle.java_parse.specs.declared.End.TheVariants as ends
@@ -88,30 +85,12 @@ pub record Branched (before : Arms) (ts : List Token) (a : Arms) (l : Else) (res
   pub fact : IsArms flag ts rest more l
   pub closed : flag ≡ true → after_key keys.Else rest ≡ None
 
-pub record Modded (before : List Modifier) (ts : List Token) (ms : List Modifier) (rest : List Token) : Type 0 where
-  pub more : List Modifier
-  pub is : ms ≡ before ++ more
-  pub mods : IsMods ts rest more
-
-pub record Listed (before : List Id) (ts : List Token) (names : List Id) (rest : List Token) : Type 0 where
-  pub more : List Id
-  pub is : names ≡ before ++ more
-  pub ids : IsIds ts rest more
-
-pub record MoreParams (before : List Param) (ts : List Token) (qs : List Param) (rest : List Token) : Type 0 where
-  pub more : List Param
-  pub is : qs ≡ before ++ more
-  pub params : IsMoreParams ts rest more
-
-pub record Membered (before : List MemberTree) (ts : List Token) (bs : List MemberTree) (rest : List Token) : Type 0 where
-  pub more : List MemberTree
-  pub is : bs ≡ before ++ more
-  pub members : IsMembers ts rest more
-
-pub record Heads (before : List HeadTree) (ts : List Token) (hs : List HeadTree) (rest : List Token) : Type 0 where
-  pub more : List HeadTree
-  pub is : hs ≡ before ++ more
-  pub heads : IsHeads ts rest more
+-- those before, and more of a kind that stand here
+pub record Longer {A : Type 0} (Are : List Token → List Token → List A → Type 0) (before : List A) (ts : List Token) (xs : List A) (rest : List Token)
+    : Type 0 where
+  pub more : List A
+  pub is : xs ≡ before ++ more
+  pub are : Are ts rest more
 
 pub record Declared (before : List DeclTree) (ts : List Token) (ds : List DeclTree) (rest : List Token) : Type 0 where
   pub more : List DeclTree
@@ -147,21 +126,21 @@ Post NForHead ts x rest = Headed ts x.0 x.1 x.2 rest
 Post NFirst ts o rest = IsFirst ts rest o
 Post NStep ts o rest = IsStep ts rest o
 Post (NBranches a) ts x rest = Branched a ts x.0 x.1 rest
-Post (NMods ms) ts x rest = Modded ms ts x rest
-Post (NIds is) ts x rest = Listed is ts x rest
+Post (NMods ms) ts x rest = Longer IsMods ms ts x rest
+Post (NIds is) ts x rest = Longer IsIds is ts x rest
 Post NParent ts x rest = IsParent ts rest x
 Post (NList k) ts x rest = IsList k ts rest x
 Post NParam ts x rest = IsParam ts rest x
 Post NParams ts x rest = IsParams ts rest x
-Post (NMoreParams qs) ts x rest = MoreParams qs ts x rest
+Post (NMoreParams qs) ts x rest = Longer IsMoreParams qs ts x rest
 Post NResult ts x rest = IsResult ts rest x
 Post NHead ts x rest = IsHead ts rest x
 Post NBody ts x rest = IsBody ts rest x
 Post NMember ts x rest = IsMember ts rest x
 Post (NMethod ms t n p) ts x rest = (us vs : List Token) (q : Place) → IsMods us vs ms → IsResult vs (word n p ∷ mark marks.OpenRound q ∷ ts) t
     → IsMember us rest x
-Post (NMembers bs) ts x rest = Membered bs ts x rest
-Post (NHeads hs) ts x rest = Heads hs ts x rest
+Post (NMembers bs) ts x rest = Longer IsMembers bs ts x rest
+Post (NHeads hs) ts x rest = Longer IsHeads hs ts x rest
 Post (NClass ms) ts x rest = (us : List Token) (q : Place) → IsMods us (key keys.Class q ∷ ts) ms → IsDecl us rest x
 Post (NInterface ms) ts x rest = (us : List Token) (q : Place) → IsMods us (key keys.Interface q ∷ ts) ms → IsDecl us rest x
 Post NDecl ts x rest = IsDecl ts rest x

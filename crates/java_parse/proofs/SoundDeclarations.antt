@@ -1,5 +1,5 @@
 -- Declarations that are read are in the grammar.
-use Rattle.std.proofs.Common.{refl, sym, ap, ◌∙◌, subst, append_assoc, append-nil, ◌≡◌, ℕ, List, [], ◌∷◌, Option, Some, true}
+use Rattle.std.proofs.Common.{refl, sym, ap, ◌∙◌, subst, append_assoc, append-nil, ◌++◌, ◌≡◌, ℕ, List, [], ◌∷◌, Option, Some, true}
 use Rattle.kaba_base.specs.declared.Place.{Place}
 use Rattle.kaba_base.specs.declared.words.Keyword.{Keyword}
 use Rattle.kaba_base.specs.declared.words.Keyword.TheVariants as keys
@@ -14,27 +14,27 @@ use Rattle.java_tree.specs.Tokens.{mark, word}
 use Rattle.java_parse.specs.Want.{NMods, NIds, NParent, NList, NParam, NParams, NMoreParams, NResult, NHead, NBody, NMember, NMethod, NMembers, NHeads, NClass, NInterface, NDecl, NDecls}
 use Rattle.java_parse.specs.Front.{after, after_key, word_next, modifier_next, at_end}
 use Rattle.java_tree.specs.Expressions.{IsType}
-use Rattle.java_tree.specs.Declarations.{IsMods, no_mods, next_mod, IsIds, last_id, next_id, no_parent, a_parent, no_list, a_list, IsParam, a_param, last_param, next_param, IsParams, no_params, some_params, IsResult, no_result, a_result, a_head, no_body, a_body, IsMember, a_field, a_method, IsMembers, no_members, next_member, IsHeads, no_heads, next_head, a_class, an_interface, no_decls, next_decl}
+use Rattle.java_tree.specs.Declarations.{IsMods, no_mods, next_mod, last_id, next_id, no_parent, a_parent, no_list, a_list, IsParam, a_param, IsMoreParams, last_param, next_param, IsParams, no_params, some_params, IsResult, no_result, a_result, a_head, no_body, a_body, IsMember, a_field, a_method, no_members, next_member, no_heads, next_head, a_class, an_interface, no_decls, next_decl}
 use Rattle.java_parse.proofs.Fronts.{option_cases, bool_cases, after_is, after_key_is, word_is, final_is, modifier_is}
-use Rattle.java_parse.proofs.Post.{Modded, Listed, MoreParams, Membered, Heads, Post}
+use Rattle.java_parse.proofs.Post.{Longer, Post}
 use Rattle.java_parse.proofs.Runs.{Good}
 use Rattle.java_parse.specs.ReadDeclarations.{mods_step, ids_step, parent_step, list_step, param_step, params_step, more_params_step, result_type_step, head_step, body_step, member_step, method_step, members_step, heads_step, class_step, interface_step, decl_step, decls_step}
 use Rattle.java_parse.proofs.SoundStatements.{items_all}
 
-mods_all : {ts rest : List Token} {ms : List Modifier} → Modded [] ts ms rest → IsMods ts rest ms
-mods_all {ts = ts} {rest = rest} d = subst (λ (ms : List Modifier). IsMods ts rest ms) (sym d.is) d.mods
+module _ {A : Type 0} {Are : List Token → List Token → List A → Type 0} {ts rest : List Token} where
+  -- all, where none stand before
+  all_of : {xs : List A} → Longer Are [] ts xs rest → Are ts rest xs
+  all_of d = subst (λ (xs : List A). Are ts rest xs) (sym d.is) d.are
 
-ids_all : {ts rest : List Token} {is : List Id} → Listed [] ts is rest → IsIds ts rest is
-ids_all {ts = ts} {rest = rest} d = subst (λ (is : List Id). IsIds ts rest is) (sym d.is) d.ids
+  none_more : (before : List A) → Are ts rest [] → Longer Are before ts before rest
+  none_more before none = record { more = []; is = sym (append-nil before); are = none }
 
-members_all : {ts rest : List Token} {bs : List MemberTree} → Membered [] ts bs rest → IsMembers ts rest bs
-members_all {ts = ts} {rest = rest} d = subst (λ (bs : List MemberTree). IsMembers ts rest bs) (sym d.is) d.members
+  one_more : (before : List A) (x : A) {us : List Token} {xs : List A} (d : Longer Are (before ++ x ∷ []) us xs rest) → Are ts rest (x ∷ d.more)
+      → Longer Are before ts xs rest
+  one_more before x d more = record { more = x ∷ d.more; is = d.is ∙ append_assoc before (x ∷ []) d.more; are = more }
 
-heads_all : {ts rest : List Token} {hs : List HeadTree} → Heads [] ts hs rest → IsHeads ts rest hs
-heads_all {ts = ts} {rest = rest} d = subst (λ (hs : List HeadTree). IsHeads ts rest hs) (sym d.is) d.heads
-
-params_all : {ts us rest : List Token} {q : Param} {qs : List Param} → IsParam ts us q → MoreParams (q ∷ []) us qs rest → IsParams ts rest qs
-params_all {ts = ts} {rest = rest} d m = subst (λ (qs : List Param). IsParams ts rest qs) (sym m.is) (some_params d m.params)
+params_all : {ts us rest : List Token} {q : Param} {qs : List Param} → IsParam ts us q → Longer IsMoreParams (q ∷ []) us qs rest → IsParams ts rest qs
+params_all {ts = ts} {rest = rest} d m = subst (λ (qs : List Param). IsParams ts rest qs) (sym m.is) (some_params d m.are)
 
 field_good : {ts us vs : List Token} {ms : List Modifier} {o : Option TypeName} {t : TypeName} {w : List ℕ × Place × List Token} {x : Place
     × List Token} → IsMods ts us ms → IsResult us vs o → vs ≡ word w.0 w.1 ∷ w.2 → o ≡ Some t →
@@ -50,25 +50,15 @@ at_end_is (t ∷ ts) h = cc
 
 pub mods_good : (ms : List Modifier) (ts : List Token) → Good Post (mods_step ms ts) (Post (NMods ms) ts)
 mods_good ms ts = option_cases (modifier_next ts)
-    (λ n0. rw (n0, mods_step) (record { more = []; is = sym (append-nil ms); mods = no_mods }))
-    (λ w0 y0. let e0 = modifier_is ts w0 y0 in rw (y0, mods_step) (λ v r d. record {
-      more = w0.0 ∷ d.more;
-      is = d.is
-          ∙ append_assoc ms (w0.0 ∷ []) d.more;
-      mods = rw e0.0 (next_mod e0.1 d.mods);
-    }))
+    (λ n0. rw (n0, mods_step) (none_more ms no_mods))
+    (λ w0 y0. let e0 = modifier_is ts w0 y0 in rw (y0, mods_step) (λ v r d. one_more ms w0.0 d (rw e0.0 (next_mod e0.1 d.are))))
 
 pub ids_good : (is : List Id) (ts : List Token) → Good Post (ids_step is ts) (Post (NIds is) ts)
 ids_good is ts = option_cases (word_next ts)
     (λ n0. rw (n0, ids_step) tt)
     (λ w0 y0. let e0 = word_is ts w0 y0 in rw (y0, ids_step) (option_cases (after marks.Comma w0.2)
-    (λ n1. rw n1 (record { more = record { name = w0.0; place = w0.1 } ∷ []; is = refl; ids = rw e0 last_id }))
-    (λ w1 y1. let e1 = after_is marks.Comma w0.2 w1 y1 in rw y1 (λ v r d. record {
-      more = record { name = w0.0; place = w0.1 } ∷ d.more;
-      is = d.is
-          ∙ append_assoc is (record { name = w0.0; place = w0.1 } ∷ []) d.more;
-      ids = rw (e0, e1) (next_id d.ids);
-    }))))
+    (λ n1. rw n1 (record { more = record { name = w0.0; place = w0.1 } ∷ []; is = refl; are = rw e0 last_id }))
+    (λ w1 y1. let e1 = after_is marks.Comma w0.2 w1 y1 in rw y1 (λ v r d. one_more is (record { name = w0.0; place = w0.1 }) d (rw (e0, e1) (next_id d.are))))))
 
 pub parent_good : (ts : List Token) → Good Post (parent_step ts) (Post NParent ts)
 parent_good ts = option_cases (after_key keys.Extends ts)
@@ -80,7 +70,7 @@ parent_good ts = option_cases (after_key keys.Extends ts)
 pub list_good : (k : Keyword) (ts : List Token) → Good Post (list_step k ts) (Post (NList k) ts)
 list_good k ts = option_cases (after_key k ts)
     (λ n0. rw (n0, list_step) no_list)
-    (λ w0 y0. let e0 = after_key_is k ts w0 y0 in rw (y0, list_step) (λ v r d. rw e0 (a_list (ids_all d))))
+    (λ w0 y0. let e0 = after_key_is k ts w0 y0 in rw (y0, list_step) (λ v r d. rw e0 (a_list (all_of d))))
 
 pub param_good : (ts : List Token) → Good Post (param_step ts) (Post NParam ts)
 param_good ts = λ v0 r0 d0. (option_cases (word_next r0)
@@ -97,14 +87,9 @@ more_params_good qs ts = option_cases (after marks.CloseRound ts)
     (λ n0. rw (n0, more_params_step) (option_cases (after marks.Comma ts)
     (λ n1. rw n1 tt)
     (λ w1 y1. let e1 = after_is marks.Comma ts w1 y1 in rw y1
-    (λ v2 r2 d2. (λ v r d. record {
-      more = v2 ∷ d.more;
-      is = d.is ∙ append_assoc qs (v2 ∷ []) d.more;
-      params = rw e1
-          (next_param d2 d.params);
-    })))))
+    (λ v2 r2 d2. (λ v r d. one_more qs v2 d (rw e1 (next_param d2 d.are)))))))
     (λ w0 y0. let e0 = after_is marks.CloseRound ts w0 y0 in rw (y0, more_params_step)
-    (record { more = []; is = sym (append-nil qs); params = rw e0 last_param }))
+    (none_more qs (rw e0 last_param)))
 
 pub result_type_good : (ts : List Token) → Good Post (result_type_step ts) (Post NResult ts)
 result_type_good ts = option_cases (after_key keys.Void ts)
@@ -116,7 +101,7 @@ head_good ts = λ v0 r0 d0. (λ v1 r1 d1. (option_cases (word_next r1)
     (λ n2. rw n2 tt)
     (λ w2 y2. let e2 = word_is r1 w2 y2 in rw y2 (option_cases (after marks.OpenRound w2.2)
     (λ n3. rw n3 tt)
-    (λ w3 y3. let e3 = after_is marks.OpenRound w2.2 w3 y3 in rw y3 (λ v4 r4 d4. (a_head (mods_all d0) (rw (e2, e3) at d1) d4)))))))
+    (λ w3 y3. let e3 = after_is marks.OpenRound w2.2 w3 y3 in rw y3 (λ v4 r4 d4. (a_head (all_of d0) (rw (e2, e3) at d1) d4)))))))
 
 pub body_good : (ts : List Token) → Good Post (body_step ts) (Post NBody ts)
 body_good ts = option_cases (after marks.Semi ts)
@@ -133,8 +118,8 @@ member_good ts = λ v0 r0 d0. (λ v1 r1 d1. (option_cases (word_next r1)
     (λ n4. rw n4 tt)
     (λ w4 y4. rw y4 (option_cases (after marks.Semi w2.2)
     (λ n5. rw n5 tt)
-    (λ w5 y5. let e5 = after_is marks.Semi w2.2 w5 y5 in rw y5 (field_good (mods_all d0) d1 e2 y4 e5))))))
-    (λ w3 y3. let e3 = after_is marks.OpenRound w2.2 w3 y3 in rw y3 (λ v r d. d ts r0 w3.0 (mods_all d0) (rw (e2, e3) at d1)))))))
+    (λ w5 y5. let e5 = after_is marks.Semi w2.2 w5 y5 in rw y5 (field_good (all_of d0) d1 e2 y4 e5))))))
+    (λ w3 y3. let e3 = after_is marks.OpenRound w2.2 w3 y3 in rw y3 (λ v r d. d ts r0 w3.0 (all_of d0) (rw (e2, e3) at d1)))))))
 
 pub method_good : (ms : List Modifier) (t : Option TypeName) (n : List ℕ) (p : Place) (ts : List Token)
     → Good Post (method_step ms t n p ts) (Post (NMethod ms t n p) ts)
@@ -142,46 +127,36 @@ method_good ms t n p ts = λ v0 r0 d0. (λ v1 r1 d1. (λ us vs q m t. a_method (
 
 pub members_good : (bs : List MemberTree) (ts : List Token) → Good Post (members_step bs ts) (Post (NMembers bs) ts)
 members_good bs ts = option_cases (after marks.CloseBrace ts)
-    (λ n0. rw (n0, members_step) (λ v1 r1 d1. (λ v r d. record {
-      more = v1 ∷ d.more;
-      is = d.is
-          ∙ append_assoc bs (v1 ∷ []) d.more;
-      members = next_member d1 d.members;
-    })))
-    (λ w0 y0. let e0 = after_is marks.CloseBrace ts w0 y0 in rw (y0, members_step) (record { more = []; is = sym (append-nil bs); members = rw e0 no_members }))
+    (λ n0. rw (n0, members_step) (λ v1 r1 d1. (λ v r d. one_more bs v1 d (next_member d1 d.are))))
+    (λ w0 y0. let e0 = after_is marks.CloseBrace ts w0 y0 in rw (y0, members_step) (none_more bs (rw e0 no_members)))
 
 pub heads_good : (hs : List HeadTree) (ts : List Token) → Good Post (heads_step hs ts) (Post (NHeads hs) ts)
 heads_good hs ts = option_cases (after marks.CloseBrace ts)
     (λ n0. rw (n0, heads_step) (λ v1 r1 d1. (option_cases (after marks.Semi r1)
     (λ n2. rw n2 tt)
-    (λ w2 y2. let e2 = after_is marks.Semi r1 w2 y2 in rw y2 (λ v r d. record {
-      more = v1 ∷ d.more;
-      is = d.is
-          ∙ append_assoc hs (v1 ∷ []) d.more;
-      heads = next_head (rw e2 at d1) d.heads;
-    })))))
-    (λ w0 y0. let e0 = after_is marks.CloseBrace ts w0 y0 in rw (y0, heads_step) (record { more = []; is = sym (append-nil hs); heads = rw e0 no_heads }))
+    (λ w2 y2. let e2 = after_is marks.Semi r1 w2 y2 in rw y2 (λ v r d. one_more hs v1 d (next_head (rw e2 at d1) d.are))))))
+    (λ w0 y0. let e0 = after_is marks.CloseBrace ts w0 y0 in rw (y0, heads_step) (none_more hs (rw e0 no_heads)))
 
 pub class_good : (ms : List Modifier) (ts : List Token) → Good Post (class_step ms ts) (Post (NClass ms) ts)
 class_good ms ts = option_cases (word_next ts)
     (λ n0. rw (n0, class_step) tt)
     (λ w0 y0. let e0 = word_is ts w0 y0 in rw (y0, class_step) (λ v1 r1 d1. (λ v2 r2 d2. (option_cases (after marks.OpenBrace r2)
     (λ n3. rw n3 tt)
-    (λ w3 y3. let e3 = after_is marks.OpenBrace r2 w3 y3 in rw y3 (λ v4 r4 d4. (λ us q m. a_class (rw e0 at m) d1 (rw e3 at d2) (members_all d4))))))))
+    (λ w3 y3. let e3 = after_is marks.OpenBrace r2 w3 y3 in rw y3 (λ v4 r4 d4. (λ us q m. a_class (rw e0 at m) d1 (rw e3 at d2) (all_of d4))))))))
 
 pub interface_good : (ms : List Modifier) (ts : List Token) → Good Post (interface_step ms ts) (Post (NInterface ms) ts)
 interface_good ms ts = option_cases (word_next ts)
     (λ n0. rw (n0, interface_step) tt)
     (λ w0 y0. let e0 = word_is ts w0 y0 in rw (y0, interface_step) (λ v1 r1 d1. (option_cases (after marks.OpenBrace r1)
     (λ n2. rw n2 tt)
-    (λ w2 y2. let e2 = after_is marks.OpenBrace r1 w2 y2 in rw y2 (λ v3 r3 d3. (λ us q m. an_interface (rw e0 at m) (rw e2 at d1) (heads_all d3)))))))
+    (λ w2 y2. let e2 = after_is marks.OpenBrace r1 w2 y2 in rw y2 (λ v3 r3 d3. (λ us q m. an_interface (rw e0 at m) (rw e2 at d1) (all_of d3)))))))
 
 pub decl_good : (ts : List Token) → Good Post (decl_step ts) (Post NDecl ts)
 decl_good ts = λ v0 r0 d0. (option_cases (after_key keys.Class r0)
     (λ n1. rw n1 (option_cases (after_key keys.Interface r0)
     (λ n2. rw n2 tt)
-    (λ w2 y2. let e2 = after_key_is keys.Interface r0 w2 y2 in rw y2 (λ v r d. d ts w2.0 (mods_all (rw e2 at d0))))))
-    (λ w1 y1. let e1 = after_key_is keys.Class r0 w1 y1 in rw y1 (λ v r d. d ts w1.0 (mods_all (rw e1 at d0)))))
+    (λ w2 y2. let e2 = after_key_is keys.Interface r0 w2 y2 in rw y2 (λ v r d. d ts w2.0 (all_of (rw e2 at d0))))))
+    (λ w1 y1. let e1 = after_key_is keys.Class r0 w1 y1 in rw y1 (λ v r d. d ts w1.0 (all_of (rw e1 at d0)))))
 
 pub decls_good : (ds : List DeclTree) (ts : List Token) → Good Post (decls_step ds ts) (Post (NDecls ds) ts)
 decls_good ds ts = bool_cases (at_end ts)

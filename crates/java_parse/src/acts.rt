@@ -6,7 +6,7 @@ ghost use Rattle.java_tree.specs.declared.Expr.{Expr};
 ghost use Rattle.java_lex.specs.declared.Token.{Token};
 ghost use Rattle.std.specs.Option.{option_map};
 ghost use Rattle.java_tree.specs.Syntax.{Expression, AssignOf, BinaryOf, NameRef, expr_of, stmt_of, value_of};
-ghost use Rattle.java_tree.specs.Statements.{is_called, is_out, printed_by, is_word};
+ghost use Rattle.java_tree.specs.Statements.{printed_by, is_word};
 ghost use Rattle.java_tree.specs.Nesting.{next_is};
 ghost use Rattle.java_parse.specs.Prints.{print_kind};
 ghost use Rattle.java_tree.specs.Tokens.{first_place};
@@ -15,7 +15,7 @@ ghost use Rattle.java_parse.specs.Front.{done, stepped, is_target, is_call};
 use crate::End;
 use java_lex::{Mark, Token, TokenKind};
 use java_tree::build::binary;
-use java_tree::{Expr, Stmt};
+use java_tree::{Expr, Stmt, is_output, is_text};
 use kaba_base::{Name, Place};
 use std::alloc::{AllocError, Global};
 use std::mem::drop;
@@ -89,26 +89,6 @@ pub fn steps_of(
     };
     let whole = compound_assignment(alloc, operator, found, place, one, at)?;
     Ok(whole)
-}
-
-// Whether the name is this text.
-fn is_text(name: &Name, text: &str) -> bool
-    ensures value { result ≡ is_called name.now text.now }
-{
-    name.as_str() == text
-}
-
-// Whether an expression is `System.out`.
-fn is_output(base: &Expr) -> bool
-    ensures value { result ≡ is_out (expr_of base.now) }
-{
-    match base {
-        Expr::Field { base, name, .. } => match &**base {
-            Expr::Name { name: owner, .. } => is_text(owner, "System") && is_text(name, "out"),
-            _ => false,
-        },
-        _ => false,
-    }
 }
 
 // Whether a call of this name with so many arguments ends the line that it prints.

@@ -6,14 +6,14 @@ ghost use Rattle.std.specs.Option.{option_map};
 ghost use Rattle.std.specs.Borrow.{Bor};
 ghost use Rattle.java_lex.specs.declared.Token.{Token};
 ghost use Rattle.java_lex.specs.declared.Mark.{Mark};
-ghost use Rattle.java_tree.specs.Tokens.{level, casts};
+ghost use Rattle.java_tree.specs.Tokens.{casts};
 ghost use Rattle.java_parse.specs.Front.{may_cast, after, after_key, word_next, operator, instance_next, least_next, sign_next, cast_next, base_next, literal_next, index_next, final_of, modifier_next};
 ghost use Rattle.java_parse.specs.Seen.{base_seen, seen_at, seen_two, seen_word, seen_one, seen_base, seen_cast, seen_literal};
 
 use crate::End;
 use crate::parts::{Base, Literal};
 use java_lex::{Mark, Token, TokenKind};
-use java_tree::Modifier;
+use java_tree::{Modifier, level_of};
 use kaba_base::{Keyword, Name, Place};
 
 /// The place of the mark and what follows it, if it is at the front.
@@ -57,26 +57,6 @@ pub fn word_at(tokens: &[Token]) -> Option<(&Name, Place, &[Token])>
         }
     }
     None
-}
-
-/// How tightly a binary operator binds; 0 for every other mark.
-pub fn level_of(mark: Mark) -> u32
-    ensures value { result ≡ level mark }
-    ensures small { result ≤ 10 }
-{
-    match mark {
-        Mark::Either => 1,
-        Mark::Both => 2,
-        Mark::Or => 3,
-        Mark::Xor => 4,
-        Mark::And => 5,
-        Mark::Equal | Mark::NotEqual => 6,
-        Mark::Less | Mark::Greater | Mark::AtMost | Mark::AtLeast => 7,
-        Mark::ShiftLeft | Mark::ShiftRight | Mark::ShiftRightLogical => 8,
-        Mark::Plus | Mark::Minus => 9,
-        Mark::Star | Mark::Slash | Mark::Percent => 10,
-        _ => 0,
-    }
 }
 
 /// The binary operator at the front, where it binds within these bounds.

@@ -6,9 +6,9 @@ ghost use Rattle.java_tree.specs.Tokens.{casts};
 ghost use Rattle.java_tree.specs.Nesting.{is_bracket, no_operators, to_bracket, closed, is_round, is_else, goes_on, next_is, ended, is_operator, after_mark, after_key, after_token, stack_after, IsTooDeep};
 ghost use Rattle.java_parse.specs.Stacks.{entries_of};
 
-use crate::front::{level_of, makes_cast};
+use crate::front::makes_cast;
 use java_lex::{Mark, Token, TokenKind};
-use java_tree::Entry;
+use java_tree::{Entry, level_of};
 use kaba_base::Keyword;
 use std::alloc::{AllocError, Global};
 

@@ -3,6 +3,7 @@ use Rattle.std.proofs.Common.{◌≡◌, ℕ, true, false, List, [], ◌∷◌, 
 use Rattle.std.proofs.lemmas.Str.{chars-encodes}
 use Rattle.std.specs.Str.{encode_utf8_all, chars}
 use Rattle.java_lex.specs.declared.Token.{Token}
+use Rattle.java_lex.specs.declared.TokenKind.{TokenKind}
 use Rattle.java_lex.specs.Lexing.{Outcome, tokens_of, lexed, start}
 use Rattle.java_lex.specs.Spells.{kind_of, kinds_of}
 use Rattle.java_lex.proofs.Reading.{tokens_ok}
@@ -24,6 +25,18 @@ use Rattle.java_print.proofs.Lexes.{nothing}
 use Rattle.java_print.proofs.TreeLexes as texts
 use Rattle.java_print.proofs.ExprParsed.{Of, none, one, of_tokens, Got, step, type_found}
 use Rattle.java_print.proofs.TreeParsed.{final, stmts}
+
+-- one that is read and those that are read behind it, where together they are of a kind
+then_more : {A : Type 0} {plain : A → A} {One : List Token → List Token → A → Type 0} {Are All : List Token → List Token → List A → Type 0} {x : A}
+    {xs : List A} {ks ls : List TokenKind} {ts us : List Token} (a : Got plain One x ks us) (b : Got (all_unplaced plain) Are xs ls a.rest)
+    → All ts b.rest (a.tree ∷ b.tree) → Got (all_unplaced plain) All (x ∷ xs) ls ts
+then_more {plain = plain} {x = x} a b all = record {
+  rest = b.rest;
+  tree = a.tree ∷ b.tree;
+  fact = all;
+  left = b.left;
+  same = ap (λ y. y ∷ all_unplaced plain b.tree) a.same ∙ ap (λ ys. plain x ∷ ys) b.same;
+}
 
 mods : (ms : List Modifier) → Each IsFormedMod (all_unplaced modifier_unplaced ms) → (r : List Item) (ts : List Token)
     → Of (kinds_in (mods_items ms r)) ts → Got (all_unplaced modifier_unplaced) IsMods ms (kinds_in r) ts
@@ -68,27 +81,13 @@ more_params : (qs : List Param) (r : List Item) (ts : List Token) → Of (kinds_
     → Got (all_unplaced param_unplaced) IsMoreParams qs (kinds_in r) ts
 more_params [] r _ (one {ts = ts} o) = record { rest = ts; tree = []; fact = last_param; left = o; same = refl }
 more_params (q ∷ qs) r _ (one {ts = ts} o) = let x = param q _ ts o in let y = more_params qs r x.rest x.left in
-    record {
-      rest = y.rest;
-      tree = x.tree ∷ y.tree;
-      fact = next_param x.fact y.fact;
-      left = y.left;
-      same = ap
-          (λ x. x ∷ all_unplaced param_unplaced y.tree) x.same ∙ ap (λ y. param_unplaced q ∷ y) y.same;
-    }
+    then_more x y (next_param x.fact y.fact)
 
 params : (qs : List Param) (r : List Item) (ts : List Token) → Of (kinds_in (params_items false qs r)) ts
     → Got (all_unplaced param_unplaced) IsParams qs (kinds_in r) ts
 params [] r _ (one {ts = ts} o) = record { rest = ts; tree = []; fact = no_params; left = o; same = refl }
 params (q ∷ qs) r ts o = let x = param q _ ts o in let y = more_params qs r x.rest x.left in
-    record {
-      rest = y.rest;
-      tree = x.tree ∷ y.tree;
-      fact = some_params x.fact y.fact;
-      left = y.left;
-      same = ap
-          (λ x. x ∷ all_unplaced param_unplaced y.tree) x.same ∙ ap (λ y. param_unplaced q ∷ y) y.same;
-    }
+    then_more x y (some_params x.fact y.fact)
 
 -- a head without its place
 abbrev bare_head : List Modifier → Option TypeName → List ℕ → List Param → HeadTree
@@ -143,27 +142,13 @@ members : (ms : List MemberTree) → Each IsFormedMember (all_unplaced member_un
     → Of (kinds_in (members_items ms (mark_then marks.CloseBrace r))) ts → Got (all_unplaced member_unplaced) IsMembers ms (kinds_in r) ts
 members [] w r _ (one {ts = ts} o) = record { rest = ts; tree = []; fact = no_members; left = o; same = refl }
 members (m ∷ ms) w r ts o = let x = member m w.0 _ ts o in let y = members ms w.1 r x.rest x.left in
-    record {
-      rest = y.rest;
-      tree = x.tree ∷ y.tree;
-      fact = next_member x.fact y.fact;
-      left = y.left;
-      same = ap
-          (λ x. x ∷ all_unplaced member_unplaced y.tree) x.same ∙ ap (λ y. member_unplaced m ∷ y) y.same;
-    }
+    then_more x y (next_member x.fact y.fact)
 
 heads : (hs : List HeadTree) → Each IsFormedHead (all_unplaced head_unplaced hs) → (r : List Item) (ts : List Token)
     → Of (kinds_in (heads_items hs (mark_then marks.CloseBrace r))) ts → Got (all_unplaced head_unplaced) IsHeads hs (kinds_in r) ts
 heads [] w r _ (one {ts = ts} o) = record { rest = ts; tree = []; fact = no_heads; left = o; same = refl }
 heads (h ∷ hs) w r ts o = let x = step (head h w.0 _ ts o) in let y = heads hs w.1 r x.rest x.left in
-    record {
-      rest = y.rest;
-      tree = x.tree ∷ y.tree;
-      fact = next_head x.fact.1 y.fact;
-      left = y.left;
-      same = ap
-          (λ x. x ∷ all_unplaced head_unplaced y.tree) x.same ∙ ap (λ y. head_unplaced h ∷ y) y.same;
-    }
+    then_more x y (next_head x.fact.1 y.fact)
 
 ids : (is : List Id) (i : Id) (r : List Item) (ts : List Token) → Of (kinds_in (ids_items false (i ∷ is) r)) ts
     → Got (all_unplaced id_unplaced) IsIds (i ∷ is) (kinds_in r) ts

@@ -162,17 +162,15 @@ bracketed (CallOn e n es q) p h w r _
     }
 bracketed _ p h w r ts o = absurd (true≢false (sym h))
 
+-- the call that is read is done
+done_by : {c : Expression} {p : Place} {ks : List TokenKind} {ts rest : List Token} (d : Expression) (q : Place) → IsAct ts rest (DoOf d q) → Of ks rest
+    → expr_unplaced d ≡ expr_unplaced c → Acts (DoOf c p) ks ts
+done_by {rest = rest} d q fact left same = record { rest = rest; tree = DoOf d q; fact = fact; left = left; same = ap (λ x. DoOf x nowhere) same }
+
 plain_do : (c : Expression) (p : Place) → prints c ≡ false → is_call (expr_unplaced c) ≡ true → IsFormed (expr_unplaced c)
     → (r : List Item) (ts : List Token) → Of (kinds_in (expr_items c r)) ts → Acts (DoOf c p) (kinds_in r) ts
 plain_do (CallOf n es q) p h i w r _ (one {p = p1} (one {ts = ts} o)) = let y = args es w.1 r ts o in
-    record {
-      rest = y.rest;
-      tree = DoOf (CallOf n y.tree p1) p1;
-      fact = do_call (plain_call y.fact) refl;
-      left = y.left;
-      same = ap
-          (λ x. DoOf (CallOf n x nowhere) nowhere) y.same;
-    }
+    done_by (CallOf n y.tree p1) p1 (do_call (plain_call y.fact) refl) y.left (ap (λ x. CallOf n x nowhere) y.same)
 plain_do (CallOn e n es q) p h i w r ts o =
     let x = step (step (step (operand_found 12 e (expr e w.0) _ ts o))) in
     let y = args es w.2 r x.rest x.left in
@@ -188,23 +186,9 @@ plain_do (CallOn e n es q) p h i w r ts o =
       same = ap (λ t. DoOf t nowhere) same;
     }
 plain_do (SuperCallOf n es q) p h i w r _ (one {p = p0} (one (one {p = p1} (one {ts = ts} o)))) = let y = args es w.1 r ts o in
-    record {
-      rest = y.rest;
-      tree = DoOf (SuperCallOf n y.tree p1) p0;
-      fact = do_call (call_above y.fact) refl;
-      left = y.left;
-      same = ap
-          (λ x. DoOf (SuperCallOf n x nowhere) nowhere) y.same;
-    }
+    done_by (SuperCallOf n y.tree p1) p0 (do_call (call_above y.fact) refl) y.left (ap (λ x. SuperCallOf n x nowhere) y.same)
 plain_do (NewOf c es q) p h i w r _ (one {p = p0} (one {p = p1} (one {ts = ts} o))) = let y = args es w.1 r ts o in
-    record {
-      rest = y.rest;
-      tree = DoOf (NewOf (record { name = c.name; place = p1 }) y.tree p0) p0;
-      fact = do_new y.fact;
-      left = y.left;
-      same = ap
-          (λ x. DoOf (NewOf (id_unplaced c) x nowhere) nowhere) y.same;
-    }
+    done_by (NewOf (record { name = c.name; place = p1 }) y.tree p0) p0 (do_new y.fact) y.left (ap (λ x. NewOf (id_unplaced c) x nowhere) y.same)
 plain_do _ p h i w r ts o = absurd (true≢false (sym i))
 
 do_found : (c : Expression) (p : Place) → is_call (expr_unplaced c) ≡ true → IsFormed (expr_unplaced c) → (r : List Item) (ts : List Token)

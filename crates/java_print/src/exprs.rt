@@ -3,7 +3,6 @@
 
 ghost use Rattle.std.specs.Prelude.{◌≡◌, OnOk, List, ◌∷◌, Bool, suc, true, false, IsTrue};
 ghost use Rattle.java_tree.specs.Syntax.{expr_of, exprs};
-ghost use Rattle.java_tree.specs.Tokens.{level};
 ghost use Rattle.java_print.specs.Items.{Item, Space};
 ghost use Rattle.java_print.specs.Layout.{rank, sign_of, same_sign, is_plus_or_minus, is_named, fits, fits_sign, fits_cast, mark_then, key_then, word_then, comma, bool_items, base_items, dims_items, more_dims_items, in_round, expr_items, args_items, type_items, called_items, field_items, index_items, new_array_items, cast_items, test_items, binary_items};
 ghost use Rattle.java_print.specs.Adds.{Adds, Puts, space_then};
@@ -12,28 +11,9 @@ use crate::put::{
     put_char_literal, put_int, put_key, put_margin, put_mark, put_name, put_string_literal,
 };
 use java_lex::Mark;
-use java_tree::{Expr, Id, TypeBase, TypeName};
+use java_tree::{Expr, Id, TypeBase, TypeName, level_of};
 use kaba_base::{Keyword, Name};
 use std::alloc::{AllocError, Global};
-
-/// How tightly a binary operator binds, from 1 for `||` on; 0 where the mark is none.
-fn level(mark: Mark) -> u32
-    ensures value { result ≡ level mark }
-{
-    match mark {
-        Mark::Either => 1,
-        Mark::Both => 2,
-        Mark::Or => 3,
-        Mark::Xor => 4,
-        Mark::And => 5,
-        Mark::Equal | Mark::NotEqual => 6,
-        Mark::Less | Mark::Greater | Mark::AtMost | Mark::AtLeast => 7,
-        Mark::ShiftLeft | Mark::ShiftRight | Mark::ShiftRightLogical => 8,
-        Mark::Plus | Mark::Minus => 9,
-        Mark::Star | Mark::Slash | Mark::Percent => 10,
-        _ => 0,
-    }
-}
 
 /// How tightly an expression binds: 13 needs no brackets anywhere.
 fn rank(e: &Expr) -> u32
@@ -44,7 +24,7 @@ fn rank(e: &Expr) -> u32
         Expr::NewArray { .. } => 12,
         Expr::Cast { .. } | Expr::Unary { .. } => 11,
         Expr::InstanceOf { .. } => 7,
-        Expr::Binary { mark, .. } => level(*mark),
+        Expr::Binary { mark, .. } => level_of(*mark),
         _ => 13,
     }
 }
@@ -395,9 +375,9 @@ fn put_binary(
 ) -> Result<(), AllocError>
     ensures value { OnOk result ((r : List Item) → Adds into.old.items into.new.items (binary_items mark (expr_of left.now) (expr_of right.now) r) r) }
 {
-    put_operand(alloc, into, left, fits(level(mark), left))?;
+    put_operand(alloc, into, left, fits(level_of(mark), left))?;
     put_space(into)?;
     put_mark(into, mark)?;
     put_space(into)?;
-    put_operand(alloc, into, right, fits(level(mark) + 1, right))
+    put_operand(alloc, into, right, fits(level_of(mark) + 1, right))
 }

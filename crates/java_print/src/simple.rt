@@ -3,7 +3,6 @@
 
 ghost use Rattle.std.specs.Prelude.{◌≡◌, OnOk, List};
 ghost use Rattle.java_tree.specs.Syntax.{expr_of, exprs, value_of, stmt_of};
-ghost use Rattle.java_tree.specs.Statements.{is_called, is_out};
 ghost use Rattle.java_print.specs.Items.{Item};
 ghost use Rattle.java_print.specs.Layout.{key_then, value_items, spaced_items, init_items, initial_items, print_head, final_items, prints, is_printing, bracketed_items, upon_system, call_items, local_items, assign_items, print_items, simple_items, first_items, step_items, stop_then, for_head_items, return_items};
 ghost use Rattle.java_print.specs.Adds.{Adds, Puts};
@@ -12,29 +11,9 @@ ghost use Rattle.java_tree.specs.Syntax.{boxed_step};
 use crate::exprs::{put_args, put_expr, put_space, put_type};
 use crate::put::{put_end, put_key, put_mark, put_name, put_text};
 use java_lex::Mark;
-use java_tree::{Expr, Stmt, TypeName};
+use java_tree::{Expr, Stmt, TypeName, is_output, is_text};
 use kaba_base::{Keyword, Name};
 use std::alloc::{AllocError, Global};
-
-/// Whether a name is this text.
-fn is_text(name: &Name, text: &str) -> bool
-    ensures value { result ≡ is_called name.now text.now }
-{
-    name.as_str() == text
-}
-
-/// Whether an expression is `System.out`.
-fn is_output(base: &Expr) -> bool
-    ensures value { result ≡ is_out (expr_of base.now) }
-{
-    match base {
-        Expr::Field { base, name, .. } => match &**base {
-            Expr::Name { name: owner, .. } => is_text(owner, "System") && is_text(name, "out"),
-            _ => false,
-        },
-        _ => false,
-    }
-}
 
 /// Whether a call of `System.out` with so many arguments prints.
 fn is_printing(name: &Name, count: usize) -> bool

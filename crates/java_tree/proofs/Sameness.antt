@@ -1,5 +1,5 @@
 -- Lists of trees that are equal, places aside.
-use Rattle.std.proofs.Common.{◌≡◌, ◌≢◌, ℕ, ◌+◌, ◌<◌, List, [], ◌∷◌, length, drop, get_or, add-one, drop-cons, refl, sym, ap, ◌∙◌, arith}
+use Rattle.std.proofs.Common.{◌≡◌, ◌≢◌, ℕ, ◌+◌, ◌<◌, List, [], ◌∷◌, length, drop, get_or, add-one, drop-cons, refl, sym, ap, ap₂, ◌∙◌, arith}
 use Rattle.std.specs.Prelude.{◌&&◌, Bool, true, false, Option, Some, None}
 use Rattle.std.specs.declared.vec.Vec.{Vec}
 use Rattle.std.specs.declared.boxed.Box.{Box}
@@ -34,6 +34,12 @@ arms_step xs ys i d e h k = rw (add-one, drop-cons xs i d, drop-cons ys i e)
 pub all_step : {A : Type 0} (f : A → A → Bool) (xs ys : List A) (i : ℕ) (d e : A) → i < length xs → i < length ys → all_same f (drop i xs) (drop i ys)
     ≡ (f (get_or xs i d) (get_or ys i e) && all_same f (drop (i + 1) xs) (drop (i + 1) ys))
 all_step f xs ys i d e h k = rw (add-one, drop-cons xs i d, drop-cons ys i e)
+
+-- two lists from a place on are equal where the items there are, and what is behind them
+pub all_at : {A : Type 0} (f : A → A → Bool) (xs ys : List A) (i : ℕ) (x y : A) (r : Bool) → i < length xs → length xs ≡ length ys → x ≡ get_or xs i x
+    → y ≡ get_or ys i y → r ≡ f x y → all_same f (drop i xs) (drop i ys) ≡ (r && all_same f (drop (i + 1) xs) (drop (i + 1) ys))
+all_at f xs ys i x y r l e h k g =
+    all_step f xs ys i x y l (omega (arith, l, e)) ∙ ap (λ b. b && all_same f (drop (i + 1) xs) (drop (i + 1) ys)) (sym (g ∙ ap₂ f h k))
 
 and_right : (a b : Bool) → (a && b) ≡ true → b ≡ true
 and_right true b h = h

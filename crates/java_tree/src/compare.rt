@@ -7,6 +7,7 @@ ghost use Rattle.java_tree.specs.Places.{unplaced};
 ghost use Rattle.java_tree.specs.Same.{same_id, same_type, same_stmts, all_same, may_same, same_modifier, same_param, same_head, same_member, same_decl};
 
 use crate::compare_bodies::{equal_bodies, equal_ids, equal_names, equal_types};
+use crate::pairs::{equal_lists, equal_options};
 use crate::{Decl, Head, Id, Member, Modifier, Param, Stmt, Tree, TypeName};
 
 fn equal_modifiers(a: &Modifier, b: &Modifier) -> bool
@@ -19,30 +20,14 @@ fn equal_modifiers(a: &Modifier, b: &Modifier) -> bool
 fn equal_modifier_lists(a: &[Modifier], b: &[Modifier]) -> bool
     ensures value { result ≡ all_same same_modifier a.now b.now }
 {
-    if a.len() != b.len() {
-        return false;
-    }
-    for i in 0..a.len() {
-        if !equal_modifiers(&a[i], &b[i]) {
-            return false;
-        }
-    }
-    true
+    equal_lists(a, b, |x, y| equal_modifiers(x, y))
 }
 
 #[tactic(auto, using(crate::proofs::Sameness::lists))]
 fn equal_id_lists(a: &[Id], b: &[Id]) -> bool
     ensures value { result ≡ all_same same_id a.now b.now }
 {
-    if a.len() != b.len() {
-        return false;
-    }
-    for i in 0..a.len() {
-        if !equal_ids(&a[i], &b[i]) {
-            return false;
-        }
-    }
-    true
+    equal_lists(a, b, |x, y| equal_ids(x, y))
 }
 
 fn equal_params(a: &Param, b: &Param) -> bool
@@ -55,45 +40,19 @@ fn equal_params(a: &Param, b: &Param) -> bool
 fn equal_param_lists(a: &[Param], b: &[Param]) -> bool
     ensures value { result ≡ all_same same_param a.now b.now }
 {
-    if a.len() != b.len() {
-        return false;
-    }
-    for i in 0..a.len() {
-        if !equal_params(&a[i], &b[i]) {
-            return false;
-        }
-    }
-    true
+    equal_lists(a, b, |x, y| equal_params(x, y))
 }
 
 fn equal_results(a: &Option<TypeName>, b: &Option<TypeName>) -> bool
     ensures value { result ≡ may_same same_type a.now b.now }
 {
-    match a {
-        None => match b {
-            None => true,
-            Some(_) => false,
-        },
-        Some(one) => match b {
-            None => false,
-            Some(other) => equal_types(one, other),
-        },
-    }
+    equal_options(a, b, |x, y| equal_types(x, y))
 }
 
 fn equal_parents(a: &Option<Id>, b: &Option<Id>) -> bool
     ensures value { result ≡ may_same same_id a.now b.now }
 {
-    match a {
-        None => match b {
-            None => true,
-            Some(_) => false,
-        },
-        Some(one) => match b {
-            None => false,
-            Some(other) => equal_ids(one, other),
-        },
-    }
+    equal_options(a, b, |x, y| equal_ids(x, y))
 }
 
 #[tactic(auto, using(crate::proofs::Sameness::lists))]
@@ -110,15 +69,7 @@ fn equal_heads(a: &Head, b: &Head) -> bool
 fn equal_head_lists(a: &[Head], b: &[Head]) -> bool
     ensures value { result ≡ all_same (λ x y. same_head (head_of x) (head_of y)) a.now b.now }
 {
-    if a.len() != b.len() {
-        return false;
-    }
-    for i in 0..a.len() {
-        if !equal_heads(&a[i], &b[i]) {
-            return false;
-        }
-    }
-    true
+    equal_lists(a, b, |x, y| equal_heads(x, y))
 }
 
 fn equal_method_bodies(a: &Option<Vec<Stmt>>, b: &Option<Vec<Stmt>>) -> bool
@@ -169,15 +120,7 @@ fn equal_members(a: &Member, b: &Member) -> bool
 fn equal_member_lists(a: &[Member], b: &[Member]) -> bool
     ensures value { result ≡ all_same (λ x y. same_member (member_of x) (member_of y)) a.now b.now }
 {
-    if a.len() != b.len() {
-        return false;
-    }
-    for i in 0..a.len() {
-        if !equal_members(&a[i], &b[i]) {
-            return false;
-        }
-    }
-    true
+    equal_lists(a, b, |x, y| equal_members(x, y))
 }
 
 #[tactic(auto, using(crate::proofs::Sameness::lists))]
@@ -237,15 +180,7 @@ fn equal_decls(a: &Decl, b: &Decl) -> bool
 fn equal_decl_lists(a: &[Decl], b: &[Decl]) -> bool
     ensures value { result ≡ all_same (λ x y. same_decl (decl_of x) (decl_of y)) a.now b.now }
 {
-    if a.len() != b.len() {
-        return false;
-    }
-    for i in 0..a.len() {
-        if !equal_decls(&a[i], &b[i]) {
-            return false;
-        }
-    }
-    true
+    equal_lists(a, b, |x, y| equal_decls(x, y))
 }
 
 /// Whether two trees are equal, places aside.

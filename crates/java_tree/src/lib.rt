@@ -3,12 +3,15 @@
 
 ghost use Rattle.java_tree.specs.Laws.{OneAnswer};
 
+mod asked;
 /// Trees from their parts.
 pub mod build;
 mod compare;
 mod compare_bodies;
 mod measure;
+mod pairs;
 
+pub use asked::{is_output, is_text, level_of};
 pub use compare::same;
 use java_lex::{Mark, Units};
 use kaba_base::{Keyword, Name, Place};

@@ -27,22 +27,27 @@ pub taken-put : (b : Bool) (old mid new : List ℕ) (k : ℕ) (own : List ℕ) �
 taken-put true old mid new k own e f g = g ∙ ap (λ l. l ++ k ∷ []) (e refl)
 taken-put false old mid new k own e f g = g ∙ f
 
--- one name more stands last
-spots-more : (k : ℕ) (names : List (List ℕ)) (x n : List ℕ) → spots_from k n (names ++ x ∷ [])
-    ≡ cond (bytes_eq x n) (spots_from k n names ++ (k + length names) ∷ []) (spots_from k n names)
-spots-more k [] x n = ap (λ j. cond (bytes_eq x n) (j ∷ []) []) (omega arith)
-spots-more k (y ∷ names) x n = go (bytes_eq y n) (bytes_eq x n) (spots-more (k + 1) names x n ∙ ap (λ j. cond (bytes_eq x n)
-    (spots_from (k + 1) n names ++ j ∷ []) (spots_from (k + 1) n names)) (omega arith))
+-- where the numbers of the items that pass a test are listed from k on, one item more stands last
+pub listed-more : {A : Type 0} (passes : A → Bool) (from : ℕ → List A → List ℕ) → ((k : ℕ) → from k [] ≡ [])
+    → ((k : ℕ) (y : A) (ys : List A) → from k (y ∷ ys) ≡ cond (passes y) (k ∷ from (k + 1) ys) (from (k + 1) ys))
+    → (k : ℕ) (xs : List A) (x : A) → from k (xs ++ x ∷ []) ≡ cond (passes x) (from k xs ++ (k + length xs) ∷ []) (from k xs)
+listed-more passes from none next k [] x =
+    rw (next k x [], none (k + 1), none k) (ap (λ j. cond (passes x) (j ∷ []) []) (omega arith))
+listed-more passes from none next k (y ∷ xs) x =
+    rw (next k y (xs ++ x ∷ []), next k y xs) (go (passes y) (passes x) (listed-more passes from none next (k + 1) xs x
+    ∙ ap (λ j. cond (passes x) (from (k + 1) xs ++ j ∷ []) (from (k + 1) xs)) (omega arith)))
   where
-    go : (b c : Bool) → spots_from (k + 1) n (names ++ x ∷ [])
-        ≡ cond c (spots_from (k + 1) n names ++ (k + length (y ∷ names)) ∷ []) (spots_from (k + 1) n names)
-        → cond b (k ∷ spots_from (k + 1) n (names ++ x ∷ [])) (spots_from (k + 1) n (names ++ x ∷ []))
-        ≡ cond c (cond b (k ∷ spots_from (k + 1) n names) (spots_from (k + 1) n names) ++ (k + length (y ∷ names)) ∷ [])
-        (cond b (k ∷ spots_from (k + 1) n names) (spots_from (k + 1) n names))
+    go : (b d : Bool) → from (k + 1) (xs ++ x ∷ []) ≡ cond d (from (k + 1) xs ++ (k + length (y ∷ xs)) ∷ []) (from (k + 1) xs)
+        → cond b (k ∷ from (k + 1) (xs ++ x ∷ [])) (from (k + 1) (xs ++ x ∷ []))
+        ≡ cond d (cond b (k ∷ from (k + 1) xs) (from (k + 1) xs) ++ (k + length (y ∷ xs)) ∷ []) (cond b (k ∷ from (k + 1) xs) (from (k + 1) xs))
     go true true h = ap (λ z. k ∷ z) h
     go true false h = ap (λ z. k ∷ z) h
     go false true h = h
     go false false h = h
+
+spots-more : (k : ℕ) (names : List (List ℕ)) (x n : List ℕ) → spots_from k n (names ++ x ∷ [])
+    ≡ cond (bytes_eq x n) (spots_from k n names ++ (k + length names) ∷ []) (spots_from k n names)
+spots-more k names x n = listed-more (λ y. bytes_eq y n) (λ k. spots_from k n) (λ k. refl) (λ k y ys. refl) k names x
 
 -- a table that was right is right with one member more
 pub spots_noted : {A : Type 0} (name : A → List ℕ) (xs ys : List A) (x : A) (k : ℕ) (old new : Spots) → ys ≡ xs ++ x ∷ [] → AreSpots (map name xs) old

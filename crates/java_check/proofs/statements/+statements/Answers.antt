@@ -3,8 +3,8 @@ use Rattle.java_core.specs.Trees.{at_place, no_place, stmt_of, stmts, arms_seen,
 use Rattle.java_core.specs.Programs.{program_of}
 use Rattle.java_check.specs.Outcome.{env_in}
 use Rattle.java_check.specs.StatementOutcome.{st_answer, sts_answer, arms_answer}
-use Rattle.java_check.specs.Size.{st_size, sts_size, arms_size}
-use Rattle.java_check.proofs.Forms.{block_seen, if_seen, while_seen, for_seen, while_body, for_body, stmt_smaller, arm_smaller, else_smaller}
+use Rattle.java_core.proofs.StatementSize.{st_size, sts_size, arms_size, stmt_smaller, arm_smaller, else_smaller}
+use Rattle.java_check.proofs.Forms.{block_seen, if_seen, while_seen, for_seen, while_body, for_body}
 use Rattle.java_check.proofs.statements.+statements.Goals as goal
 
 pub check_stmt-returns-in-Block : goal.check_stmt-returns-in-Block
@@ -39,7 +39,7 @@ check_stmt-returns-in_default-check_step t c =
 
 pub check_stmts-check_stmt-requires : goal.check_stmts-check_stmt-requires
 check_stmts-check_stmt-requires t c =
-    (omega (arith, c.decreases, stmt_smaller c.args.list.now c.loop-s.s-index c.s-item.result c.loop-s-test.true c.s-item.is), c.requires)
+    (omega (arith, c.decreases, stmt_smaller at_place c.args.list.now c.loop-s.s-index c.s-item.result c.loop-s-test.true c.s-item.is), c.requires)
 
 pub check_stmt-check_stmts-requires : goal.check_stmt-check_stmts-requires
 check_stmt-check_stmts-requires t c = (
@@ -106,7 +106,7 @@ check_arms-check_stmts-requires-in-Some t c = (
   omega (
     arith,
     c.decreases,
-    else_smaller c.args.arms.now (else_seen at_place c.args.other.now),
+    else_smaller at_place c.args.arms.now (else_seen at_place c.args.other.now),
     ap (λ o. arms_size (else_seen at_place o))
         c.in-Some.is,
     ap (λ xs. sts_size (stmts at_place xs)) c.deref-in-Some.ensures.value,
@@ -119,7 +119,7 @@ check_arms-check_stmts-requires t c = (
   omega (
     arith,
     c.decreases,
-    arm_smaller c.args.arms.now (else_seen at_place c.args.other.now) c.loop-arm.arm-index c.arm-item.result
+    arm_smaller at_place c.args.arms.now (else_seen at_place c.args.other.now) c.loop-arm.arm-index c.arm-item.result
         c.loop-arm-test.true c.arm-item.is,
     ap (λ xs. sts_size (stmts at_place xs)) c.deref.ensures.value,
   ),

@@ -4,7 +4,7 @@ use Rattle.java_core.specs.Trees.{at_place, no_place, stmt_of, stmts, arms_seen,
 use Rattle.java_core.specs.Programs.{program_of}
 use Rattle.java_check.specs.Outcome.{env_in}
 use Rattle.java_check.specs.StatementOutcome.{sts_answer, arms_answer}
-use Rattle.java_check.specs.Size.{st_size, sts_size, arms_size}
+use Rattle.java_core.proofs.StatementSize.{st_size, sts_size, arms_size}
 use Rattle.java_check.proofs.statements.+statements.Given as goal
 
 abbrev pub decreases-check_stmt : goal.decreases-check_stmt

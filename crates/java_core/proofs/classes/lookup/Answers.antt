@@ -1,18 +1,17 @@
-use Rattle.std.proofs.Common.{◌≡◌, ℕ, Option, Some, None, sym, ap, ◌∙◌}
+use Rattle.std.proofs.Common.{◌≡◌, ℕ, Option, Some, None, rules, sym}
 use Rattle.std.specs.Option.{option_map, IfSome, IfNone}
 use Rattle.kaba_base.specs.declared.MemberId.{MemberId}
 use Rattle.java_core.specs.Trees.{no_place}
 use Rattle.java_core.specs.Programs.{Plain, program_of}
-use Rattle.java_core.specs.Classes.{own_body, nearest, nearest_of}
+use Rattle.java_core.specs.Classes.{own_body, nearest_of}
 use Rattle.java_core.specs.Found.{Runs}
 use Rattle.java_core.proofs.Subclasses.{IsAcyclic, nearest_of-nearest, nearest-nearest_of}
 use Rattle.java_core.proofs.classes.lookup.Goals as goal
-use Rattle.java_core.proofs.classes.lookup.Goals.{After-nearest_of_slot}
+use Rattle.java_core.proofs.classes.lookup.Goals.{After-nearest_up}
 
-body : (c : After-nearest_of_slot) → option_map (λ (d : MemberId). d.0) c.nearest_of_slot.result ≡ nearest_of (program_of no_place c.args.p.now)
+body : (c : After-nearest_up) → option_map (λ (d : MemberId). d.0) c.nearest_up.result ≡ nearest_of (program_of no_place c.args.p.now)
     (λ k. own_body (program_of no_place c.args.p.now) k c.args.slot) c.args.class.0
-body c = let P = program_of no_place c.args.p.now in c.nearest_of_slot.ensures ∙ ap (λ n. nearest P (λ k. own_body P k c.args.slot) n c.args.class.0)
-    c.class_count.ensures
+body c = c.nearest_up.ensures (λ k. own_body (program_of no_place c.args.p.now) k c.args.slot) (search rules)
 
 module _ (P : Plain) (a s : ℕ) where
   found : (r : Option MemberId) → option_map (λ (d : MemberId). d.0) r ≡ nearest_of P (λ k. own_body P k s) a → IfSome r (λ d. Runs P a s d.0)
@@ -27,9 +26,9 @@ module _ (P : Plain) (a s : ℕ) where
   none (Some d) acyclic e = tt
 
 pub returns-clause-found : goal.returns-clause-found
-returns-clause-found c = found (program_of no_place c.args.p.now) c.args.class.0 c.args.slot c.nearest_of_slot.result
-    (body (goal.at.returns-clause-found c).After-nearest_of_slot)
+returns-clause-found c = found (program_of no_place c.args.p.now) c.args.class.0 c.args.slot c.nearest_up.result
+    (body (goal.at.returns-clause-found c).After-nearest_up)
 
 pub returns-clause-none : goal.returns-clause-none
-returns-clause-none c = none (program_of no_place c.args.p.now) c.args.class.0 c.args.slot c.nearest_of_slot.result c.requires.acyclic
-    (body (goal.at.returns-clause-none c).After-nearest_of_slot)
+returns-clause-none c = none (program_of no_place c.args.p.now) c.args.class.0 c.args.slot c.nearest_up.result c.requires.acyclic
+    (body (goal.at.returns-clause-none c).After-nearest_up)

@@ -1,14 +1,12 @@
-use Rattle.std.proofs.Common.{◌≤◌, length, List, []}
-use Rattle.java_tree.specs.Syntax.{MemberTree, members}
+use Rattle.std.proofs.Common.{length, []}
+use Rattle.java_tree.specs.Syntax.{members}
 use Rattle.java_parse.specs.Want.{NMembers}
-use Rattle.java_parse.specs.Reading.{Outcome, Reads}
+use Rattle.java_parse.specs.Reading.{Reads}
+use Rattle.java_parse.proofs.GoesOn.{GoesOn}
 use Rattle.java_parse.proofs.decl.all_members.Given as goal
 
 abbrev pub invariant-more : goal.invariant-more
-invariant-more l = record {
-  so_far : (o : Outcome (List MemberTree)) → Reads (NMembers (members l.all.items)) l.rest o → Reads (NMembers []) l.fn.tokens o;
-  shorter : length l.rest ≤ length l.fn.tokens;
-}
+invariant-more l = GoesOn (Reads (NMembers (members l.all.items))) (Reads (NMembers [])) l.rest l.fn.tokens
 
 abbrev pub decreases-more : goal.decreases-more
 decreases-more l = length l.rest

@@ -1,7 +1,8 @@
-use Rattle.std.proofs.Common.{◌+◌, ◌*◌, ◌≤◌, length}
-use Rattle.java_tree.specs.Syntax.{Statements, Arms, Else, stmts, arms_seen, no_statements, no_arms}
+use Rattle.std.proofs.Common.{◌+◌, ◌*◌, length}
+use Rattle.java_tree.specs.Syntax.{stmts, arms_seen, no_statements, no_arms}
 use Rattle.java_parse.specs.Want.{NItems, NBranches}
-use Rattle.java_parse.specs.Reading.{Outcome, Reads}
+use Rattle.java_parse.specs.Reading.{Reads}
+use Rattle.java_parse.proofs.GoesOn.{GoesOn}
 use Rattle.java_parse.proofs.stmt.+stmts.Given as goal
 
 abbrev pub decreases-item : goal.decreases-item
@@ -17,19 +18,13 @@ abbrev pub decreases-branches : goal.decreases-branches
 decreases-branches l = 4 * length l.tokens.now + 3
 
 abbrev pub invariant-items-more : goal.invariant-items-more
-invariant-items-more l = record {
-  so_far : (o : Outcome Statements) → Reads (NItems (stmts l.all.items)) l.rest o → Reads (NItems no_statements) l.fn.tokens o;
-  shorter : length l.rest ≤ length l.fn.tokens;
-}
+invariant-items-more l = GoesOn (Reads (NItems (stmts l.all.items))) (Reads (NItems no_statements)) l.rest l.fn.tokens
 
 abbrev pub decreases-items-more : goal.decreases-items-more
 decreases-items-more l = length l.rest
 
 abbrev pub invariant-branches-arms : goal.invariant-branches-arms
-invariant-branches-arms l = record {
-  so_far : (o : Outcome (Arms × Else)) → Reads (NBranches (arms_seen l.arms.items)) l.rest o → Reads (NBranches no_arms) l.fn.tokens o;
-  shorter : length l.rest ≤ length l.fn.tokens;
-}
+invariant-branches-arms l = GoesOn (Reads (NBranches (arms_seen l.arms.items))) (Reads (NBranches no_arms)) l.rest l.fn.tokens
 
 abbrev pub decreases-branches-arms : goal.decreases-branches-arms
 decreases-branches-arms l = length l.rest

@@ -177,8 +177,8 @@ put_instance_of-returns t c = record {
 pub put_binary-returns : goal.put_binary-returns
 put_binary-returns t c = record {
   value = on_ok c.put_operand-2.result c.put_operand-2.ensures.value (λ h r.
-      let left = c.fits.ensures.value ∙ ap (λ k. fits k (expr_of c.args.left.now)) c.level.ensures.value in
-      let right = c.fits-2.ensures.value ∙ ap (λ k. fits k (expr_of c.args.right.now)) (add-one c.level-2.result ∙ ap suc c.level-2.ensures.value) in
+      let left = c.fits.ensures.value ∙ ap (λ k. fits k (expr_of c.args.left.now)) c.level_of.ensures.value in
+      let right = c.fits-2.ensures.value ∙ ap (λ k. fits k (expr_of c.args.right.now)) (add-one c.level_of-2.result ∙ ap suc c.level_of-2.ensures.value) in
       let g = round_as _ _ _ right h r in
       adds_then (round_as _ _ _ left c.in_ok-put_operand.ensures.value _) (adds_then (c.in_ok-put_space.ensures.value _)
       (adds_then (c.in_ok-put_mark.ensures.value _) (adds_then (c.in_ok-put_space-2.ensures.value _) g))));

@@ -11,8 +11,7 @@ use Rattle.java_tree.specs.Syntax as tree
 use Rattle.written_tree.specs.Bodies.{written_arms, written_else, written_st}
 use Rattle.tree_forms.specs.Renamed.{renamed}
 use Rattle.tree_parts.specs.Written.{statements}
-use Rattle.tree_parts.proofs.Size.{st_size, sts_size, arms_size}
-use Rattle.tree_parts.proofs.Smaller.{stmt_smaller, arm_smaller, else_smaller, arms_within}
+use Rattle.java_core.proofs.StatementSize.{st_size, sts_size, arms_size, stmt_smaller, arm_smaller, else_smaller, arms_within}
 use Rattle.tree_parts.proofs.Forms.{block_form, if_form, while_form, for_form}
 use Rattle.tree_parts.proofs.Bodies.{arms_alike, else_alike, for_is}
 use Rattle.tree_parts.proofs.Steps.{sts_next, sts_end, arms_next, arms_end_at}
@@ -42,7 +41,7 @@ body-stmt-requires t c = (
   omega (
     arith,
     c.decreases,
-    stmt_smaller c.deref-one-items.result.now c.loop-one.one-index c.one-item.result c.loop-one-test.true c.one-item.is,
+    stmt_smaller no_place c.deref-one-items.result.now c.loop-one.one-index c.one-item.result c.loop-one-test.true c.one-item.is,
     ap (λ xs. sts_size (stmts no_place xs)) c.deref-one-items.ensures.value,
   ),
   (c.requires.formed, c.requires.fits),
@@ -68,7 +67,7 @@ stmt-all_arms-requires t c = (
   omega (
     arith,
     c.decreases,
-    arms_within c.in-If.arms.items (else_seen no_place c.in-If.other),
+    arms_within no_place c.in-If.arms.items (else_seen no_place c.in-If.other),
     ap st_size (if_form c.in-If.arms c.in-If.other
         c.in-If.is),
   ),
@@ -80,7 +79,7 @@ stmt-otherwise-requires t c = (
   omega (
     arith,
     c.decreases,
-    else_smaller c.in-If.arms.items (else_seen no_place c.in-If.other),
+    else_smaller no_place c.in-If.arms.items (else_seen no_place c.in-If.other),
     ap st_size (if_form c.in-If.arms c.in-If.other
         c.in-If.is),
   ),
@@ -92,7 +91,7 @@ all_arms-body-requires t c = (
   omega (
     arith,
     c.decreases,
-    arm_smaller c.deref-one-items.result.now no_other c.loop-one.one-index c.one-item.result c.loop-one-test.true
+    arm_smaller no_place c.deref-one-items.result.now no_other c.loop-one.one-index c.one-item.result c.loop-one-test.true
         c.one-item.is,
     ap (λ xs. arms_size (arms_seen no_place xs no_other)) c.deref-one-items.ensures.value,
   ),

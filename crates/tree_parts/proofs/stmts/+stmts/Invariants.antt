@@ -5,7 +5,7 @@ use Rattle.java_core.specs.Trees.{no_place, no_other, stmt_of, stmts, arms_seen,
 use Rattle.java_core.specs.Programs.{program_of, method_seen}
 use Rattle.written_tree.specs.Bodies.{written_sts, written_arms}
 use Rattle.tree_forms.specs.Renamed.{renamed}
-use Rattle.tree_parts.proofs.Size.{st_size, sts_size, arms_size}
+use Rattle.java_core.proofs.StatementSize.{st_size, sts_size, arms_size}
 use Rattle.tree_parts.proofs.Appended.{append_stmts, append_arms}
 use Rattle.tree_parts.proofs.stmts.+stmts.Given as goal
 
