@@ -17,7 +17,6 @@ use std::alloc::{AllocError, Global};
 mod above;
 mod bodies;
 mod closing;
-mod fixed;
 mod found;
 mod index;
 mod news;
@@ -35,8 +34,7 @@ mod writes;
 pub use above::{classes_above, is_below};
 pub use bodies::{Bodies, bodies_of, find_body};
 use closing::close_all;
-use fixed::fixed;
-use found::Found;
+use found::{Found, found_of};
 pub use index::{empty, note, numbers_at};
 use index::{Index, index_of};
 pub use order::order_of;
@@ -87,7 +85,7 @@ fn fill(alloc: Global, facts: &Facts, sets: &mut [BitRow]) -> Result<(), AllocEr
     ensures { OnOk result (AreSolved facts.now sets.new) }
 {
     let index = index_of(alloc, facts)?;
-    let found = fixed(alloc, facts)?;
+    let found = found_of(alloc, facts)?;
     let mut grown = queue_of_sets(alloc, facts, &found)?;
     grow(alloc, facts, &index, &found, sets, &mut grown)?;
     run_rounds(alloc, facts, &index, &found, sets, &mut grown)?;
