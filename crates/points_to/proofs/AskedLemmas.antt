@@ -1,5 +1,5 @@
 -- What the facts ask for holds, was found, and where that is closed, the sets are closed.
-use Rattle.std.proofs.Common.{◌≡◌, ℕ, ◌+◌, ◌<◌, ◌++◌, Bool, true, false, ◌||◌, List, length, map, get_or, Some, Contains, sym, ◌∙◌, subst}
+use Rattle.std.proofs.Common.{◌≡◌, ℕ, ◌<◌, Bool, true, false, ◌||◌, List, length, map, get_or, Some, Contains, sym, ◌∙◌, subst}
 use Rattle.std.specs.Bool.{OnFalse}
 use Rattle.std.specs.List.{All, filter_map, flat_map, range_with_len}
 use Rattle.std.specs.List.Sorted.{IsPermutation}

@@ -6,6 +6,7 @@ ghost use Rattle.fact_model.specs.InRange.{InRange};
 ghost use Rattle.points_to.specs.Work.{AreFound};
 ghost use Rattle.points_to.specs.Closed.{asked_told, asked_edges, asked_reads, asked_writes, asked_runs, write_of_argument, writes_of_call, read_of_result, AreAsked};
 
+use crate::index::Index;
 use crate::targets::point_at;
 use crate::work::{Edge, Member, Read, Run, Told, Write};
 use fact_model::{CallInfo, Facts, NewInfo};
@@ -19,6 +20,15 @@ pub struct Found {
     pub reads: Vec<Read>,
     pub writes: Vec<Write>,
     pub runs: Vec<Run>,
+}
+
+/// What the sets are found by: the facts with their index, and what they ask for.
+#[derive(Clone, Copy)]
+pub struct Given<'a> {
+    pub alloc: Global,
+    pub facts: &'a Facts,
+    pub index: &'a Index,
+    pub found: &'a Found,
 }
 
 /// Each creation into its point. An error comes only for want of memory.

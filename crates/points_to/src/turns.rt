@@ -4,12 +4,11 @@
 ghost use Rattle.std.specs.Prelude.{All, Contains, IfOk, IfSome, OnOk};
 ghost use Rattle.fact_model.specs.InRange.{InRange};
 ghost use Rattle.points_to.specs.Sound.{AreSound};
-ghost use Rattle.points_to.specs.Listed.{IsIndex};
-ghost use Rattle.points_to.specs.Work.{AreFound};
+ghost use Rattle.points_to.specs.Given.{IsGiven};
 
 use crate::closing::close_told;
-use crate::found::Found;
-use crate::index::{Index, numbers_at};
+use crate::found::Given;
+use crate::index::numbers_at;
 use crate::news::{Bases, load_news, load_whole, no_bases};
 use crate::queue::{Queue, take};
 use crate::reads::close_reads;
@@ -30,22 +29,25 @@ fn item_at<X: Copy>(list: &[X], k: usize) -> Option<X>
 
 /// What is in a set along each inclusion that begins there. An error comes only for want of memory.
 fn pass_all(
-    alloc: Global,
-    facts: &Facts,
-    index: &Index,
-    found: &Found,
+    given: &Given,
     sets: &mut [BitRow],
     grown: &mut Queue,
     list: &[usize],
 ) -> Result<(), AllocError>
-    requires index { IsIndex facts.now index.now }
-    requires found { AreFound facts.now found.now }
-    requires sets { AreSound facts.now sets.old }
-    ensures { OnOk result (AreSound facts.now sets.new) }
+    requires given { IsGiven given.now }
+    requires sets { AreSound given.now.facts.now sets.old }
+    ensures { OnOk result (AreSound given.now.facts.now sets.new) }
 {
     for i in list {
-        if let Some(edge) = item_at(&found.edges, *i) {
-            pass(alloc, facts, &index.below, sets, grown, edge)?;
+        if let Some(edge) = item_at(&given.found.edges, *i) {
+            pass(
+                given.alloc,
+                given.facts,
+                &given.index.below,
+                sets,
+                grown,
+                edge,
+            )?;
         }
     }
     Ok(())
@@ -53,26 +55,22 @@ fn pass_all(
 
 /// Passes on what grew, until nothing passes any more, and notes what else it concerns. An error comes only for want of memory.
 fn flow(
-    alloc: Global,
-    facts: &Facts,
-    index: &Index,
-    found: &Found,
+    given: &Given,
     uses: &Uses,
     sets: &mut [BitRow],
     grown: &mut Queue,
     due: &mut Due,
 ) -> Result<(), AllocError>
-    requires index { IsIndex facts.now index.now }
-    requires found { AreFound facts.now found.now }
-    requires sets { AreSound facts.now sets.old }
-    ensures { OnOk result (AreSound facts.now sets.new) }
+    requires given { IsGiven given.now }
+    requires sets { AreSound given.now.facts.now sets.old }
+    ensures { OnOk result (AreSound given.now.facts.now sets.new) }
 {
     for _turn in 0..u64::MAX {
         match take(grown) {
             Some(n) => {
-                wake(alloc, index, uses, due, sets, n)?;
+                wake(given.alloc, given.index, uses, due, sets, n)?;
                 let list = numbers_at(&uses.edges, n);
-                pass_all(alloc, facts, index, found, sets, grown, list)?;
+                pass_all(given, sets, grown, list)?;
             }
             None => return Ok(()),
         }
@@ -124,30 +122,49 @@ fn load_bases(
 
 /// The reads, writes and runs of bases that grew, for what is new there. An error comes only for want of memory.
 fn turn_news(
-    alloc: Global,
-    facts: &Facts,
-    index: &Index,
-    found: &Found,
+    given: &Given,
     bases: &mut Bases,
     sets: &mut [BitRow],
     grown: &mut Queue,
     due: &Due,
 ) -> Result<(), AllocError>
-    requires facts { InRange facts.now }
-    requires index { IsIndex facts.now index.now }
-    requires found { AreFound facts.now found.now }
-    requires now { AreSound facts.now bases.old.now.items }
-    requires sets { AreSound facts.now sets.old }
-    ensures now { OnOk result (AreSound facts.now bases.new.now.items) }
-    ensures sets { OnOk result (AreSound facts.now sets.new) }
+    requires given { IsGiven given.now }
+    requires now { AreSound given.now.facts.now bases.old.now.items }
+    requires sets { AreSound given.now.facts.now sets.old }
+    ensures now { OnOk result (AreSound given.now.facts.now bases.new.now.items) }
+    ensures sets { OnOk result (AreSound given.now.facts.now sets.new) }
 {
-    let reads = items_of(alloc, &found.reads, &due.reads, |_| true)?;
-    let writes = items_of(alloc, &found.writes, &due.writes, |_| true)?;
-    let runs = items_of(alloc, &found.runs, &due.runs, |_| true)?;
-    load_bases(alloc, facts, sets, bases, &due.bases)?;
-    close_reads(alloc, facts, index, &bases.now, sets, grown, &reads)?;
-    close_writes(alloc, facts, index, &bases.now, sets, grown, &writes)?;
-    close_runs(alloc, facts, index, &bases.now, sets, grown, &runs)?;
+    let reads = items_of(given.alloc, &given.found.reads, &due.reads, |_| true)?;
+    let writes = items_of(given.alloc, &given.found.writes, &due.writes, |_| true)?;
+    let runs = items_of(given.alloc, &given.found.runs, &due.runs, |_| true)?;
+    load_bases(given.alloc, given.facts, sets, bases, &due.bases)?;
+    close_reads(
+        given.alloc,
+        given.facts,
+        given.index,
+        &bases.now,
+        sets,
+        grown,
+        &reads,
+    )?;
+    close_writes(
+        given.alloc,
+        given.facts,
+        given.index,
+        &bases.now,
+        sets,
+        grown,
+        &writes,
+    )?;
+    close_runs(
+        given.alloc,
+        given.facts,
+        given.index,
+        &bases.now,
+        sets,
+        grown,
+        &runs,
+    )?;
     Ok(())
 }
 
@@ -177,112 +194,107 @@ fn load_writes(facts: &Facts, sets: &[BitRow], bases: &mut Bases, writes: &[Writ
 
 /// The reads of members that grew, and the writes of values that did. An error comes only for want of memory.
 fn turn_whole(
-    alloc: Global,
-    facts: &Facts,
-    index: &Index,
-    found: &Found,
+    given: &Given,
     bases: &mut Bases,
     sets: &mut [BitRow],
     grown: &mut Queue,
     due: &Due,
 ) -> Result<(), AllocError>
-    requires facts { InRange facts.now }
-    requires index { IsIndex facts.now index.now }
-    requires found { AreFound facts.now found.now }
-    requires now { AreSound facts.now bases.old.now.items }
-    requires sets { AreSound facts.now sets.old }
-    ensures now { OnOk result (AreSound facts.now bases.new.now.items) }
-    ensures sets { OnOk result (AreSound facts.now sets.new) }
+    requires given { IsGiven given.now }
+    requires now { AreSound given.now.facts.now bases.old.now.items }
+    requires sets { AreSound given.now.facts.now sets.old }
+    ensures now { OnOk result (AreSound given.now.facts.now bases.new.now.items) }
+    ensures sets { OnOk result (AreSound given.now.facts.now sets.new) }
 {
     let reads = items_of(
-        alloc,
-        &found.reads,
+        given.alloc,
+        &given.found.reads,
         &due.whole_reads,
         |x| concerns(due, sets, x),
     )?;
-    let writes = items_of(alloc, &found.writes, &due.whole_writes, |_| true)?;
-    load_reads(facts, sets, bases, &reads);
-    load_writes(facts, sets, bases, &writes);
-    close_reads(alloc, facts, index, &bases.now, sets, grown, &reads)?;
-    close_writes(alloc, facts, index, &bases.now, sets, grown, &writes)?;
+    let writes = items_of(
+        given.alloc,
+        &given.found.writes,
+        &due.whole_writes,
+        |_| true,
+    )?;
+    load_reads(given.facts, sets, bases, &reads);
+    load_writes(given.facts, sets, bases, &writes);
+    close_reads(
+        given.alloc,
+        given.facts,
+        given.index,
+        &bases.now,
+        sets,
+        grown,
+        &reads,
+    )?;
+    close_writes(
+        given.alloc,
+        given.facts,
+        given.index,
+        &bases.now,
+        sets,
+        grown,
+        &writes,
+    )?;
     Ok(())
 }
 
 /// What has to be gone over. An error comes only for want of memory.
 fn turn(
-    alloc: Global,
-    facts: &Facts,
-    index: &Index,
-    found: &Found,
+    given: &Given,
     bases: &mut Bases,
     sets: &mut [BitRow],
     grown: &mut Queue,
     due: &mut Due,
 ) -> Result<(), AllocError>
-    requires facts { InRange facts.now }
-    requires index { IsIndex facts.now index.now }
-    requires found { AreFound facts.now found.now }
-    requires now { AreSound facts.now bases.old.now.items }
-    requires sets { AreSound facts.now sets.old }
-    ensures now { OnOk result (AreSound facts.now bases.new.now.items) }
-    ensures sets { OnOk result (AreSound facts.now sets.new) }
+    requires given { IsGiven given.now }
+    requires now { AreSound given.now.facts.now bases.old.now.items }
+    requires sets { AreSound given.now.facts.now sets.old }
+    ensures now { OnOk result (AreSound given.now.facts.now bases.new.now.items) }
+    ensures sets { OnOk result (AreSound given.now.facts.now sets.new) }
 {
-    turn_news(alloc, facts, index, found, bases, sets, grown, due)?;
-    turn_whole(alloc, facts, index, found, bases, sets, grown, due)?;
+    turn_news(given, bases, sets, grown, due)?;
+    turn_whole(given, bases, sets, grown, due)?;
     clear(due);
     Ok(())
 }
 
 /// Turns, until nothing has to be gone over. An error comes only for want of memory.
 fn run(
-    alloc: Global,
-    facts: &Facts,
-    index: &Index,
-    found: &Found,
+    given: &Given,
     uses: &Uses,
     bases: &mut Bases,
     sets: &mut [BitRow],
     grown: &mut Queue,
     due: &mut Due,
 ) -> Result<(), AllocError>
-    requires facts { InRange facts.now }
-    requires now { AreSound facts.now bases.old.now.items }
-    requires index { IsIndex facts.now index.now }
-    requires found { AreFound facts.now found.now }
-    requires sets { AreSound facts.now sets.old }
-    ensures { OnOk result (AreSound facts.now sets.new) }
+    requires now { AreSound given.now.facts.now bases.old.now.items }
+    requires given { IsGiven given.now }
+    requires sets { AreSound given.now.facts.now sets.old }
+    ensures { OnOk result (AreSound given.now.facts.now sets.new) }
 {
     for _turn in 0..u64::MAX {
-        flow(alloc, facts, index, found, uses, sets, grown, due)?;
+        flow(given, uses, sets, grown, due)?;
         if is_nothing(due) {
             return Ok(());
         }
-        turn(alloc, facts, index, found, bases, sets, grown, due)?;
+        turn(given, bases, sets, grown, due)?;
     }
     Ok(())
 }
 
 /// The sets, as far as the worklist finds them. An error comes only for want of memory.
-pub fn grow(
-    alloc: Global,
-    facts: &Facts,
-    index: &Index,
-    found: &Found,
-    sets: &mut [BitRow],
-    grown: &mut Queue,
-) -> Result<(), AllocError>
-    requires facts { InRange facts.now }
-    requires index { IsIndex facts.now index.now }
-    requires found { AreFound facts.now found.now }
-    requires sets { AreSound facts.now sets.old }
-    ensures { OnOk result (AreSound facts.now sets.new) }
+pub fn grow(given: &Given, sets: &mut [BitRow], grown: &mut Queue) -> Result<(), AllocError>
+    requires given { IsGiven given.now }
+    requires sets { AreSound given.now.facts.now sets.old }
+    ensures { OnOk result (AreSound given.now.facts.now sets.new) }
 {
-    close_told(facts, sets, grown, &found.told);
-    let uses = uses_of(alloc, facts, found)?;
-    let mut due = nothing_due(alloc, facts, found, &uses)?;
-    let mut bases = no_bases(alloc, facts)?;
-    run(
-        alloc, facts, index, found, &uses, &mut bases, sets, grown, &mut due,
-    )?;
+    close_told(given.facts, sets, grown, &given.found.told);
+    let uses = uses_of(given.alloc, given.facts, given.found)?;
+    let mut due = nothing_due(given.alloc, given.facts, given.found, &uses)?;
+    let mut bases = no_bases(given.alloc, given.facts)?;
+    run(given, &uses, &mut bases, sets, grown, &mut due)?;
     Ok(())
 }
