@@ -86,20 +86,16 @@ module _ {F : Facts} {E : Edge → Type 0} {S : Told → Type 0} {R : Read → T
   new_fixed x c = All-contains S (asked_told F) (told_of_new x) a.told (has_mapped told_of_new F.news.items x c)
 
   pub flow_fixed : (x : FlowInfo) → Contains F.flows.items x → E (edge_of_flow x)
-  flow_fixed x c = All-contains E (asked_edges F) (edge_of_flow x) a.edges (Contains-append_left (map edge_of_flow F.flows.items)
-      (map edge_of_cast F.casts.items) (edge_of_flow x) (has_mapped edge_of_flow F.flows.items x c))
+  flow_fixed x c = All-contains E (asked_edges F) (edge_of_flow x) a.edges (Contains-append_left _ _ _ (has_mapped edge_of_flow F.flows.items x c))
 
   pub cast_fixed : (x : CastInfo) → Contains F.casts.items x → E (edge_of_cast x)
-  cast_fixed x c = All-contains E (asked_edges F) (edge_of_cast x) a.edges (Contains-append_right (map edge_of_flow F.flows.items)
-      (map edge_of_cast F.casts.items) (edge_of_cast x) (has_mapped edge_of_cast F.casts.items x c))
+  cast_fixed x c = All-contains E (asked_edges F) (edge_of_cast x) a.edges (Contains-append_right _ _ _ (has_mapped edge_of_cast F.casts.items x c))
 
   pub load_fixed : (x : LoadInfo) → Contains F.loads.items x → R (read_of_load x)
-  load_fixed x c = All-contains R (asked_reads F) (read_of_load x) a.reads (Contains-append_left (map read_of_load F.loads.items)
-      (filter_map read_of_result F.calls.items) (read_of_load x) (has_mapped read_of_load F.loads.items x c))
+  load_fixed x c = All-contains R (asked_reads F) (read_of_load x) a.reads (Contains-append_left _ _ _ (has_mapped read_of_load F.loads.items x c))
 
   pub store_fixed : (x : StoreInfo) → Contains F.stores.items x → W (write_of_store x)
-  store_fixed x c = All-contains W (asked_writes F) (write_of_store x) a.writes (Contains-append_left (map write_of_store F.stores.items)
-      (flat_map writes_of_call F.calls.items) (write_of_store x) (has_mapped write_of_store F.stores.items x c))
+  store_fixed x c = All-contains W (asked_writes F) (write_of_store x) a.writes (Contains-append_left _ _ _ (has_mapped write_of_store F.stores.items x c))
 
   module _ (x : CallInfo) (c : Contains F.calls.items x) where
     pub run_fixed : U (run_of_call x)
