@@ -46,7 +46,9 @@ module _ {X Y : Type 0} where
   has_flat f (z ∷ zs) x y (suc k, lt, is) d = Contains-append_right (f z) (flat_map f zs) y (has_flat f zs x y (k, omega (arith, lt), is) d)
 
 pub has_number : (n k : ℕ) → k < n → Contains (range_with_len 0 n) k
-has_number n k lt = (k, omega (arith, lt, length-range_with_len 0 n), let is : get_or (range_with_len 0 n) k k ≡ 0 + k = get_or-range_with_len 0 n k k lt in is ∙ omega arith)
+has_number n k lt =
+    let is : get_or (range_with_len 0 n) k k ≡ 0 + k = get_or-range_with_len 0 n k k lt in
+    (k, omega (arith, lt, length-range_with_len 0 n), is ∙ omega arith)
 
 pub of_mapped : {X Y : Type 0} (P : Y → Type 0) (f : X → Y) (o : Option X) (y : Y) → option_map f o ≡ Some y → ((x : X) → o ≡ Some x → P (f x)) → P y
 of_mapped P f None y e k = absurd (cc e)

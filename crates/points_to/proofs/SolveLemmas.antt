@@ -62,7 +62,8 @@ module _ (F : Facts) (R : InRange F) (sets : List (List Bool)) (closed : AreClos
   closed_under ps f (by_result x o body from to s runs a b) h = (
     subst (λ r. IfSome r (IsPoint F)) b (All-contains (λ x. IsPoint F x.receiver × All (λ p. IfSome p (IsPoint F)) x.args.items
         × IfSome x.result (IsPoint F)) F.calls.items x R.calls runs.called).2,
-    result_fixed closed x runs.called _ (ap (option_map (λ p. record { base = x.receiver; member = Returned x.slot; into = p })) b) o from h.0.1 (record { body = body; listed = runs.listed; found = runs.found; node = a }) s h.1.0.1,
+    result_fixed closed x runs.called _ (ap (option_map (λ p. record { base = x.receiver; member = Returned x.slot; into = p })) b) o from h.0.1
+        (record { body = body; listed = runs.listed; found = runs.found; node = a }) s h.1.0.1,
   )
   closed_under ps f (by_cast x s c b) h = (
     (All-contains (λ x. IsPoint F x.from × IsPoint F x.into × IsClass F x.class) F.casts.items x R.casts c).1,

@@ -20,7 +20,8 @@ near_rows-requires-clause-counts c =
 
 pub closure_at-requires-clause-q : goal.closure_at-requires-clause-q
 closure_at-requires-clause-q c =
-    subst (All (λ q. q < length c.args.given.now.table.now)) (sym c.deref-q-items.ensures.value) c.in_ok-near.ensures.below c.loop-q.q-index 0 c.loop-q-test.true
+    subst (All (λ q. q < length c.args.given.now.table.now)) (sym c.deref-q-items.ensures.value) c.in_ok-near.ensures.below c.loop-q.q-index 0
+    c.loop-q-test.true
 
 pub loop-q-preserved : goal.loop-q-preserved
 loop-q-preserved c =

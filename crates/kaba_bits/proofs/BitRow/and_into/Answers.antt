@@ -5,7 +5,8 @@ use Rattle.kaba_bits.proofs.BitRow.and_into.Goals as goal
 use Rattle.kaba_bits.proofs.BitRow.and_into.Goals.{After-meet_words}
 
 pub meet_words-requires : goal.meet_words-requires
-meet_words-requires c = as_many (both_seen _ _ _ _ _ _ c.self.invariant c.other.invariant c.self.view_is c.other.view_is c.requires) c.deref_mut.ensures.value c.deref.ensures.value
+meet_words-requires c = as_many (both_seen _ _ _ _ _ _ c.self.invariant c.other.invariant c.self.view_is c.other.view_is c.requires)
+    c.deref_mut.ensures.value c.deref.ensures.value
 
 -- what the call left, in the words of the two rows
 left : (c : After-meet_words) → IsWritten c.self.inside.width (take c.self.inside.words.len (c.meet_words.new.words ++ drop (length c.meet_words.new.words)

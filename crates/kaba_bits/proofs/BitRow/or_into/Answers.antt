@@ -7,7 +7,8 @@ use Rattle.kaba_bits.proofs.BitRow.or_into.Goals as goal
 use Rattle.kaba_bits.proofs.BitRow.or_into.Goals.{After-join_words}
 
 pub is_within-requires : goal.is_within-requires
-is_within-requires c = sym (as_many (both_seen _ _ _ _ _ _ c.self.invariant c.other.invariant c.self.view_is c.other.view_is c.requires) c.deref-2.ensures.value c.deref.ensures.value)
+is_within-requires c = sym (as_many (both_seen _ _ _ _ _ _ c.self.invariant c.other.invariant c.self.view_is c.other.view_is c.requires)
+    c.deref-2.ensures.value c.deref.ensures.value)
 
 pub returns-then-is_within-clause-join : goal.returns-then-is_within-clause-join
 returns-then-is_within-clause-join c =
@@ -18,7 +19,8 @@ returns-then-is_within-clause-join c =
     λ i. joined_same (bit c.args.self.now i) (bit c.args.other.now i) (λ h. p.one.bits i ∙ within_bits ys xs within i (sym (p.other.bits i) ∙ h))
 
 pub join_words-requires : goal.join_words-requires
-join_words-requires c = as_many (both_seen _ _ _ _ _ _ c.self.invariant c.other.invariant c.self.view_is c.other.view_is c.requires) c.deref_mut.ensures.value c.deref-3.ensures.value
+join_words-requires c = as_many (both_seen _ _ _ _ _ _ c.self.invariant c.other.invariant c.self.view_is c.other.view_is c.requires)
+    c.deref_mut.ensures.value c.deref-3.ensures.value
 
 -- what the call left, in the words of the two rows
 left : (c : After-join_words) → IsWritten c.self.inside.width (take c.self.inside.words.len (c.join_words.new.words ++ drop (length c.join_words.new.words)

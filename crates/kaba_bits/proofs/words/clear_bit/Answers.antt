@@ -7,4 +7,5 @@ pub returns-clause-same : goal.returns-clause-same
 returns-clause-same c = word_bit-set_same c.args.words.now c.args.i _ c.requires ∙ ap (λ n. n == 1) (bit_at_clear_same w64 _ (c.args.i % 64) (omega arith))
 
 pub returns-clause-others : goal.returns-clause-others
-returns-clause-others c = word_bit-set_others c.args.words.now c.args.i _ c.requires (λ t within ne. bit_at_clear_other w64 _ (c.args.i % 64) (omega arith) t within ne)
+returns-clause-others c = word_bit-set_others c.args.words.now c.args.i _ c.requires (λ t within ne. bit_at_clear_other w64 _ (c.args.i % 64)
+    (omega arith) t within ne)

@@ -52,7 +52,8 @@ least c =
 -- the field after the call is the list that the call left
 whole : (c : After-merge_rows) → made c ≡ ordered c.keep_one.new.live (take c.self.inside.le.len (c.merge_rows.new.le ++ drop (length c.merge_rows.new.le)
     c.self.inside.le.items))
-whole c = stored c.keep_one.new.live c.self.inside.le c.merge_rows.new.le (c.merge_rows.ensures.len ∙ (ap length c.deref_mut.ensures.value ∙ sym c.self.inside.le.ok.0))
+whole c = stored c.keep_one.new.live c.self.inside.le c.merge_rows.new.le (c.merge_rows.ensures.len
+    ∙ (ap length c.deref_mut.ensures.value ∙ sym c.self.inside.le.ok.0))
 
 pub invariant_of-self : goal.invariant_of-self
 invariant_of-self c = subst IsPartialOrder (whole (goal.at.invariant_of-self c).After-merge_rows) ((least (goal.at.invariant_of-self c).After-merge_rows).order)
