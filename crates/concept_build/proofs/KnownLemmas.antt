@@ -9,7 +9,7 @@ use Rattle.std.proofs.lemmas.List.{map-append, get_or-map, length-map, take_more
 use Rattle.std.proofs.lemmas.List.Elements.{Contains-append_right}
 use Rattle.std.proofs.lemmas.List.Quantifiers.{position-Some}
 use Rattle.indexmap.specs.IndexSet.{insert_key}
-use Rattle.kaba_bits.specs.Sets.{bit, rising_from}
+use Rattle.kaba_bits.specs.Sets.{bit, rising, rising_from}
 use Rattle.concept_build.specs.Lists.{AreDifferent, IsAddition, IsFound}
 
 pub rising_from-below : (k : ℕ) (xs : List Bool) (i d : ℕ) → i < length (rising_from k xs) → get_or (rising_from k xs) i d < k + length xs
@@ -17,6 +17,11 @@ rising_from-below k [] i d lt = absurd (omega (arith, lt))
 rising_from-below k (true ∷ xs) zero d lt = omega arith
 rising_from-below k (true ∷ xs) (suc i) d lt = omega (arith, rising_from-below (k + 1) xs i d (omega (arith, lt)))
 rising_from-below k (false ∷ xs) i d lt = omega (arith, rising_from-below (k + 1) xs i d lt)
+
+pub listed-below : (B R : List Bool) (xs : List ℕ) (i : ℕ) → xs ≡ rising B → i < length xs → length B ≡ length R → get_or xs i 0 < length R
+listed-below B R xs i e lt len =
+    let below : get_or xs i 0 < 0 + length B = rw e (rising_from-below 0 B i 0 (rw e at lt)) in
+    omega (arith, below, len)
 
 -- each number of a set is listed
 pub rising_from-has : (k : ℕ) (xs : List Bool) (i : ℕ) → bit xs i ≡ true → Contains (rising_from k xs) (k + i)

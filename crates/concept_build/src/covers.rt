@@ -1,10 +1,10 @@
 //! The upper covers of a concept: the least of the closures of its extent with one more row.
 
-ghost use Rattle.std.specs.Prelude.{◌≡◌, ℕ, ◌<◌, ◌^◌, ◌↔◌, length, All, Contains, IfOk, IsTrue};
-ghost use Rattle.kaba_bits.specs.Sets.{row, HasWidth, ListsBelow};
-ghost use Rattle.fact_model.specs.Concepts.{AreAllConcepts, IsUpperCover, IsWithin};
-ghost use Rattle.concept_build.specs.Tables.{IsCounted};
-ghost use Rattle.concept_build.specs.Lists.{extents_of, columns_of, lists_of, IsClosure, AreCandidates, IsLeast};
+ghost use Rattle.std.specs.Prelude.{◌≡◌, ℕ, ◌<◌, ◌↔◌, length, All, Contains, IfOk, IsTrue};
+ghost use Rattle.kaba_bits.specs.Sets.{row, ListsBelow};
+ghost use Rattle.fact_model.specs.Concepts.{IsUpperCover, IsWithin};
+ghost use Rattle.concept_build.specs.Given.{IsGiven};
+ghost use Rattle.concept_build.specs.Lists.{extents_of, IsClosure, AreCandidates, IsLeast};
 
 use crate::counts::Counts;
 use crate::item::{Item, common_columns, item_at};
@@ -14,53 +14,43 @@ use indexmap::IndexSet;
 use kaba_bits::{BitRow, row_at};
 use std::alloc::{AllocError, Global};
 
+/// What is given for each concept: the table with what is counted of it, all its concepts, and where each stands.
+#[derive(Clone, Copy)]
+pub struct Given<'a> {
+    pub alloc: Global,
+    pub table: &'a [BitRow],
+    pub counts: &'a Counts,
+    pub items: &'a [Item],
+    pub places: &'a IndexSet<Vec<u32>>,
+    pub width: u32,
+}
+
 /// The numbers of the upper covers of a concept, rising.
-pub fn above(
-    alloc: Global,
-    table: &[BitRow],
-    counts: &Counts,
-    items: &[Item],
-    places: &IndexSet<Vec<u32>>,
-    k: usize,
-    width: u32,
-) -> Result<Vec<u32>, AllocError>
-    requires rows { length table.now < 2 ^ 32 }
-    requires widths { HasWidth width table.now }
-    requires counts { IsCounted table.now width counts.now }
-    requires small { length items.now < 2 ^ 32 }
-    requires all { AreAllConcepts table.now width items.now }
-    requires places { lists_of places.now.keys ≡ columns_of items.now }
-    requires k { k < length items.now }
-    ensures { IfOk result (λ v. ListsBelow (IsUpperCover (extents_of items.now) k) (length items.now) v.items) }
+pub fn above(given: &Given, k: usize) -> Result<Vec<u32>, AllocError>
+    requires given { IsGiven given.now }
+    requires k { k < length given.now.items.now }
+    ensures { IfOk result (λ v. ListsBelow (IsUpperCover (extents_of given.now.items.now) k) (length given.now.items.now) v.items) }
 {
-    let numbers = candidates(alloc, table, counts, items, places, k, width)?;
-    let above = least(alloc, items, &numbers)?;
+    let numbers = candidates(given, k)?;
+    let above = least(given.alloc, given.items, &numbers)?;
     Ok(above)
 }
 
 /// The closures with rows that the extent lacks: for each such row one of them is within its closure.
-fn candidates(
-    alloc: Global,
-    table: &[BitRow],
-    counts: &Counts,
-    items: &[Item],
-    places: &IndexSet<Vec<u32>>,
-    k: usize,
-    width: u32,
-) -> Result<Vec<u32>, AllocError>
-    requires rows { length table.now < 2 ^ 32 }
-    requires widths { HasWidth width table.now }
-    requires counts { IsCounted table.now width counts.now }
-    requires small { length items.now < 2 ^ 32 }
-    requires all { AreAllConcepts table.now width items.now }
-    requires places { lists_of places.now.keys ≡ columns_of items.now }
-    requires k { k < length items.now }
-    ensures { IfOk result (λ v. AreCandidates (extents_of items.now) k (length table.now) v.items) }
+fn candidates(given: &Given, k: usize) -> Result<Vec<u32>, AllocError>
+    requires given { IsGiven given.now }
+    requires k { k < length given.now.items.now }
+    ensures { IfOk result (λ v. AreCandidates (extents_of given.now.items.now) k (length given.now.table.now) v.items) }
 {
-    let near = near_rows(alloc, table, counts, item_at(items, k))?;
-    let mut numbers = Vec::new(alloc);
+    let near = near_rows(
+        given.alloc,
+        given.table,
+        given.counts,
+        item_at(given.items, k),
+    )?;
+    let mut numbers = Vec::new(given.alloc);
     for q in &near {
-        let at = closure_at(alloc, table, items, places, k, *q as usize, width)?;
+        let at = closure_at(given, k, *q as usize)?;
         numbers.push(at as u32)?;
     }
     Ok(numbers)
@@ -68,25 +58,14 @@ fn candidates(
 
 /// The number of the least extent with the rows of the extent at `k`, and with the row `q`: that of the
 /// columns that the concept at `k` and the row have in common.
-fn closure_at(
-    alloc: Global,
-    table: &[BitRow],
-    items: &[Item],
-    places: &IndexSet<Vec<u32>>,
-    k: usize,
-    q: usize,
-    width: u32,
-) -> Result<usize, AllocError>
-    requires rows { length table.now < 2 ^ 32 }
-    requires widths { HasWidth width table.now }
-    requires all { AreAllConcepts table.now width items.now }
-    requires places { lists_of places.now.keys ≡ columns_of items.now }
-    requires k { k < length items.now }
-    requires q { q < length table.now }
-    ensures { IfOk result (λ i. IsClosure (extents_of items.now) k q i) }
+fn closure_at(given: &Given, k: usize, q: usize) -> Result<usize, AllocError>
+    requires given { IsGiven given.now }
+    requires k { k < length given.now.items.now }
+    requires q { q < length given.now.table.now }
+    ensures { IfOk result (λ i. IsClosure (extents_of given.now.items.now) k q i) }
 {
-    let columns = common_columns(alloc, item_at(items, k), row_at(table, q))?;
-    match place_of_columns(places, &columns) {
+    let columns = common_columns(given.alloc, item_at(given.items, k), row_at(given.table, q))?;
+    match place_of_columns(given.places, &columns) {
         Some(at) => Ok(at),
         None => unreachable!(),
     }

@@ -4,14 +4,12 @@
 ghost use Rattle.std.specs.Prelude.{◌≡◌, ℕ, ◌-◌, ◌<◌, ◌≤◌, ◌^◌, length, map, IfOk, IfErr, slice_index_or};
 ghost use Rattle.kaba_bits.specs.Sets.{HasWidth};
 ghost use Rattle.fact_model.specs.declared.sets.Concept.{Concept};
-ghost use Rattle.fact_model.specs.Concepts.{Pair, pair_of, AreAllConcepts, IsPlaced, IsLatticeOf};
-ghost use Rattle.concept_build.specs.Tables.{IsCounted};
-ghost use Rattle.concept_build.specs.Lists.{IsFaultOf, extents_of, columns_of, lists_of};
+ghost use Rattle.fact_model.specs.Concepts.{Pair, pair_of, IsPlaced, IsLatticeOf};
+ghost use Rattle.concept_build.specs.Given.{IsGiven};
+ghost use Rattle.concept_build.specs.Lists.{IsFaultOf, extents_of};
 ghost use Rattle.concept_build.specs.Laws.{OneLattice, NotBoth};
 
 use fact_model::{Concept, Lattice, Table};
-use indexmap::IndexSet;
-use kaba_bits::BitRow;
 use std::alloc::{AllocError, Global};
 use thiserror::Error;
 
@@ -24,10 +22,10 @@ mod near;
 mod places;
 mod stands;
 
-use counts::{Counts, counts_of};
-use covers::above;
+use counts::counts_of;
+use covers::{Given, above};
 use intents::all_items;
-use item::{Item, item_at};
+use item::item_at;
 use places::places_of;
 use stands::{columns_at, rows_at};
 
@@ -66,7 +64,14 @@ pub fn concepts(alloc: Global, table: &Table, bound: u32) -> Result<Lattice, Lat
     let counts = counts_of(alloc, &table.rows, table.width)?;
     let items = all_items(alloc, &table.rows, &counts, table.width, bound)?;
     let places = places_of(alloc, &items)?;
-    let concepts = placed_items(alloc, &table.rows, &counts, &items, &places, table.width)?;
+    let concepts = placed_items(&Given {
+        alloc,
+        table: &table.rows,
+        counts: &counts,
+        items: &items,
+        places: &places,
+        width: table.width,
+    })?;
     Ok(Lattice { concepts })
 }
 
@@ -78,56 +83,44 @@ pub fn one_lattice()
 {}
 
 /// Each concept with what is told of it.
-fn placed_items(
-    alloc: Global,
-    table: &[BitRow],
-    counts: &Counts,
-    items: &[Item],
-    places: &IndexSet<Vec<u32>>,
-    width: u32,
-) -> Result<Vec<Concept>, AllocError>
-    requires rows { length table.now < 2 ^ 32 }
-    requires widths { HasWidth width table.now }
-    requires counts { IsCounted table.now width counts.now }
-    requires small { length items.now < 2 ^ 32 }
-    requires all { AreAllConcepts table.now width items.now }
-    requires places { lists_of places.now.keys ≡ columns_of items.now }
-    ensures pairs { IfOk result (λ v. map pair_of v.items ≡ items.now) }
-    ensures placed { IfOk result (λ v. (k : ℕ) (d : Concept) → k < length items.now → IsPlaced table.now width (extents_of items.now) k (slice_index_or v.items k d)) }
+fn placed_items(given: &Given) -> Result<Vec<Concept>, AllocError>
+    requires { IsGiven given.now }
+    ensures pairs { IfOk result (λ v. map pair_of v.items ≡ given.now.items.now) }
+    ensures placed { IfOk result (λ v. (k : ℕ) (d : Concept) → k < length given.now.items.now
+        → IsPlaced given.now.table.now given.now.width (extents_of given.now.items.now) k (slice_index_or v.items k d)) }
 {
-    let mut concepts = Vec::new(alloc);
-    for k in 0..items.len() {
-        concepts.push(placed_item(alloc, table, counts, items, places, k, width)?)?;
+    let mut concepts = Vec::new(given.alloc);
+    for k in 0..given.items.len() {
+        concepts.push(placed_item(given, k)?)?;
     }
     Ok(concepts)
 }
 
 /// One concept with what is told of it.
-fn placed_item(
-    alloc: Global,
-    table: &[BitRow],
-    counts: &Counts,
-    items: &[Item],
-    places: &IndexSet<Vec<u32>>,
-    k: usize,
-    width: u32,
-) -> Result<Concept, AllocError>
-    requires rows { length table.now < 2 ^ 32 }
-    requires widths { HasWidth width table.now }
-    requires counts { IsCounted table.now width counts.now }
-    requires small { length items.now < 2 ^ 32 }
-    requires all { AreAllConcepts table.now width items.now }
-    requires places { lists_of places.now.keys ≡ columns_of items.now }
-    requires k { k < length items.now }
-    ensures pair { IfOk result (λ x. (d : Pair) → pair_of x ≡ slice_index_or items.now k d) }
-    ensures placed { IfOk result (λ x. IsPlaced table.now width (extents_of items.now) k x) }
+fn placed_item(given: &Given, k: usize) -> Result<Concept, AllocError>
+    requires given { IsGiven given.now }
+    requires k { k < length given.now.items.now }
+    ensures pair { IfOk result (λ x. (d : Pair) → pair_of x ≡ slice_index_or given.now.items.now k d) }
+    ensures placed { IfOk result (λ x. IsPlaced given.now.table.now given.now.width (extents_of given.now.items.now) k x) }
 {
-    let item = item_at(items, k);
-    let extent = item.extent().copy(alloc)?;
-    let intent = item.intent().copy(alloc)?;
-    let above = above(alloc, table, counts, items, places, k, width)?;
-    let rows = rows_at(alloc, table, &counts.rows, item, width)?;
-    let columns = columns_at(alloc, table, &counts.columns, item, width)?;
+    let item = item_at(given.items, k);
+    let extent = item.extent().copy(given.alloc)?;
+    let intent = item.intent().copy(given.alloc)?;
+    let above = above(given, k)?;
+    let rows = rows_at(
+        given.alloc,
+        given.table,
+        &given.counts.rows,
+        item,
+        given.width,
+    )?;
+    let columns = columns_at(
+        given.alloc,
+        given.table,
+        &given.counts.columns,
+        item,
+        given.width,
+    )?;
     Ok(Concept {
         extent,
         intent,

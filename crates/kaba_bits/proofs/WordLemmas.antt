@@ -7,9 +7,9 @@ use Rattle.std.proofs.lemmas.List.FromFn.{length-map-range_with_len, get_or-map-
 use Rattle.std.proofs.lemmas.List.{get_or_past, length-set, get_or-set_same, get_or-set_other}
 use Rattle.std.proofs.lemmas.Bool.{cases_lt, cases_eq, or_from, false≢true}
 use Rattle.std.proofs.lemmas.Bool.Decides.{nat_tests}
-use Rattle.std.proofs.lemmas.Simd.{get_or-put_chunk_at, get_or-put_chunk_above, get_or-zip2, get_or-chunk, length-zip2, length-chunk}
+use Rattle.std.proofs.lemmas.Simd.{length-put_chunk, get_or-put_chunk_below, get_or-put_chunk_at, get_or-put_chunk_above, get_or-zip2, get_or-chunk, length-zip2, length-chunk}
 use Rattle.kaba_bits.specs.Sets.{bit, size, IsSubset, IsEmpty}
-use Rattle.kaba_bits.specs.Words.{word_bit, row_of, HoldWidth, AreJoined, AreMet}
+use Rattle.kaba_bits.specs.Words.{word_bit, row_of, HoldWidth, AreJoined, AreMet, AreCombinedAt}
 use Rattle.kaba_bits.proofs.SetLemmas.{same_bits, bit-below, size-subset, subset-same, size-true, size-false}
 
 -- ---- lanes
@@ -29,7 +29,7 @@ module _ (f : ℕ → ℕ → ℕ) (xs ys : List ℕ) (at : ℕ) (lx : at + 8 �
       ∙ (ap (λ a. f a (get_or (chunk at 8 ys) j 0)) (get_or-chunk at 8 xs j 0 lt) ∙ ap (λ b. f (slice_index xs (at + j)) b) (get_or-chunk at 8 ys j 0 lt))
 
   -- a word of a chunk that was computed lane by lane and put back
-  pub lane_put : (k : ℕ) → at ≤ k → k < at + 8 → slice_index (put_chunk at xs (zip2 f (chunk at 8 xs) (chunk at 8 ys))) k
+  lane_put : (k : ℕ) → at ≤ k → k < at + 8 → slice_index (put_chunk at xs (zip2 f (chunk at 8 xs) (chunk at 8 ys))) k
       ≡ f (slice_index xs k) (slice_index ys k)
   lane_put k low high =
       let j = k - at in
@@ -39,8 +39,16 @@ module _ (f : ℕ → ℕ → ℕ) (xs ys : List ℕ) (at : ℕ) (lx : at + 8 �
       subst (λ n. slice_index (put_chunk at xs (zip2 f (chunk at 8 xs) (chunk at 8 ys))) n ≡ f (slice_index xs n) (slice_index ys n)) e
       (get_or-put_chunk_at at xs (zip2 f (chunk at 8 xs) (chunk at 8 ys)) j 0 (omega (arith, z, lt)) (omega (arith, z, lx)) ∙ lane_is j lt)
 
-  pub lane_above : (k : ℕ) → at + 8 ≤ k → slice_index (put_chunk at xs (zip2 f (chunk at 8 xs) (chunk at 8 ys))) k ≡ slice_index xs k
+  lane_above : (k : ℕ) → at + 8 ≤ k → slice_index (put_chunk at xs (zip2 f (chunk at 8 xs) (chunk at 8 ys))) k ≡ slice_index xs k
   lane_above k high = get_or-put_chunk_above at xs (zip2 f (chunk at 8 xs) (chunk at 8 ys)) k 0 (omega (arith, length-lanes, high))
+
+  pub combined : AreCombinedAt f at xs ys (put_chunk at xs (zip2 f (chunk at 8 xs) (chunk at 8 ys)))
+  combined = record {
+    len = length-put_chunk at xs (zip2 f (chunk at 8 xs) (chunk at 8 ys));
+    below = λ k lt. get_or-put_chunk_below at xs (zip2 f (chunk at 8 xs) (chunk at 8 ys)) k 0 lt;
+    here = lane_put;
+    above = lane_above;
+  }
 
   -- the same with the first words once more
   pub lane_twice : (g : ℕ → ℕ → ℕ) (j : ℕ) → j < 8 → get_or (zip2 g (zip2 f (chunk at 8 xs) (chunk at 8 ys)) (chunk at 8 xs)) j 0

@@ -25,6 +25,18 @@ AreJoined old other new = (k : ℕ) → slice_index new k ≡ bit_or (slice_inde
 abbrev pub AreMet : List ℕ → List ℕ → List ℕ → Type 0
 AreMet old other new = (k : ℕ) → slice_index new k ≡ bit_and (slice_index old k) (slice_index other k)
 
+-- of the words of two lists those below n are put together by f, and the others are as they were
+pub record AreCombinedTo (f : ℕ → ℕ → ℕ) (n : ℕ) (old other new : List ℕ) : Type 0 where
+  pub done : (k : ℕ) → k < n → slice_index new k ≡ f (slice_index old k) (slice_index other k)
+  pub rest : (k : ℕ) → n ≤ k → slice_index new k ≡ slice_index old k
+
+-- the same of the eight words from `at` on
+pub record AreCombinedAt (f : ℕ → ℕ → ℕ) (at : ℕ) (old other new : List ℕ) : Type 0 where
+  pub len : length new ≡ length old
+  pub below : (k : ℕ) → k < at → slice_index new k ≡ slice_index old k
+  pub here : (k : ℕ) → at ≤ k → k < at + 8 → slice_index new k ≡ f (slice_index old k) (slice_index other k)
+  pub above : (k : ℕ) → at + 8 ≤ k → slice_index new k ≡ slice_index old k
+
 -- no bit is in the words at k of both lists
 abbrev pub IsApartAt : List ℕ → List ℕ → ℕ → Type 0
 IsApartAt a b k = bit_and (slice_index a k) (slice_index b k) ≡ 0

@@ -2,7 +2,7 @@
 
 ghost use Rattle.std.specs.Prelude.{◌≡◌, ◌≢◌, ℕ, ◌+◌, ◌<◌, ◌≤◌, ◌^◌, Bool, List, length, slice_index, bit_or, bit_and};
 ghost use Rattle.std.specs.Bool.{OnTrue, OnFalse};
-ghost use Rattle.kaba_bits.specs.Words.{IsApartAt, IsWithinAt, HaveCommon, HasStray};
+ghost use Rattle.kaba_bits.specs.Words.{AreCombinedAt, IsApartAt, IsWithinAt, HaveCommon, HasStray};
 
 use std::simd::prelude::*;
 
@@ -10,10 +10,7 @@ use std::simd::prelude::*;
 pub fn join_chunk(words: &mut [u64], other: &[u64], at: usize)
     requires room { at + 8 ≤ length words.old }
     requires len { length words.old ≡ length other.now }
-    ensures len { length words.new ≡ length words.old }
-    ensures below { (k : ℕ) → k < at → slice_index words.new k ≡ slice_index words.old k }
-    ensures joined { (k : ℕ) → at ≤ k → k < at + 8 → slice_index words.new k ≡ bit_or (slice_index words.old k) (slice_index other.now k) }
-    ensures above { (k : ℕ) → at + 8 ≤ k → slice_index words.new k ≡ slice_index words.old k }
+    ensures { AreCombinedAt bit_or at words.old other.now words.new }
 {
     let a = u64x8::from_slice(&words[at..]);
     let b = u64x8::from_slice(&other[at..]);
@@ -24,10 +21,7 @@ pub fn join_chunk(words: &mut [u64], other: &[u64], at: usize)
 pub fn meet_chunk(words: &mut [u64], other: &[u64], at: usize)
     requires room { at + 8 ≤ length words.old }
     requires len { length words.old ≡ length other.now }
-    ensures len { length words.new ≡ length words.old }
-    ensures below { (k : ℕ) → k < at → slice_index words.new k ≡ slice_index words.old k }
-    ensures met { (k : ℕ) → at ≤ k → k < at + 8 → slice_index words.new k ≡ bit_and (slice_index words.old k) (slice_index other.now k) }
-    ensures above { (k : ℕ) → at + 8 ≤ k → slice_index words.new k ≡ slice_index words.old k }
+    ensures { AreCombinedAt bit_and at words.old other.now words.new }
 {
     let a = u64x8::from_slice(&words[at..]);
     let b = u64x8::from_slice(&other[at..]);

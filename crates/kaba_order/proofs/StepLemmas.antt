@@ -1,4 +1,7 @@
-use Rattle.std.proofs.Common.{◌≡◌, ◌⊎◌, inl, inr, ⊎_elim, ℕ, ◌==◌, ◌<◌, Bool, true, false, ◌&&◌, not, List, length, refl, sym, ◌∙◌, subst, arith, set}
+use Rattle.std.proofs.Common.{◌≡◌, ◌⊎◌, inl, inr, ⊎_elim, ℕ, ◌==◌, ◌<◌, Bool, true, false, ◌&&◌, not, List, length, take, drop, ◌++◌, refl, sym, ap, ◌∙◌, subst, arith, set}
+use Rattle.std.specs.declared.vec.Vec.{Vec}
+use Rattle.std.specs.declared.alloc.Global.{Global}
+use Rattle.std.proofs.lemmas.List.{with_items_is}
 use Rattle.std.proofs.lemmas.Bool.{eqb-true, eq-eqb, or_cases, or_left, or_right, and_parts, and_from}
 use Rattle.std.proofs.lemmas.Grind.{common_steps}
 use Rattle.kaba_bits.specs.Sets.{bit, row, HasWidth}
@@ -115,3 +118,12 @@ module _ (o : Ordered) (count : length o.le ≡ length o.live) (widths : HasWidt
     antisymmetric = λ a b h k. one a b h;
     transitive = λ a b c h k. subst (λ x. is_le o a x ≡ true) (one b c k) h;
   }
+
+-- an order by its nodes and its rows
+abbrev pub ordered : List Bool → List (List Bool) → Ordered
+ordered live le = record { live = live; le = le }
+
+-- rows that are written into a `Vec` of as many
+pub stored : (live : List Bool) (v : Vec (List Bool) Global) (new : List (List Bool)) → length new ≡ v.len
+    → ordered live new ≡ ordered live (take v.len (new ++ drop (length new) v.items))
+stored live v new len = ap (ordered live) (sym (with_items_is v new len))

@@ -1,69 +1,125 @@
--- What was found stays found, and where that is closed, the sets are closed.
-use Rattle.std.proofs.Common.{◌≡◌, ℕ, ◌+◌, Bool, true, false, ◌||◌, List, get_or, Some, Contains, sym, ◌∙◌, subst}
+-- What the facts ask for holds, was found, and where that is closed, the sets are closed.
+use Rattle.std.proofs.Common.{◌≡◌, ℕ, ◌<◌, Bool, true, false, ◌||◌, List, length, map, get_or, Some, Contains, sym, ◌∙◌, subst}
 use Rattle.std.specs.Bool.{OnFalse}
-use Rattle.std.specs.List.{All}
-use Rattle.std.proofs.lemmas.List.Elements.{All-contains}
+use Rattle.std.specs.List.{All, filter_map, flat_map, range_with_len}
+use Rattle.std.specs.List.Sorted.{IsPermutation}
+use Rattle.std.proofs.lemmas.List.Elements.{All-contains, All-contains_itself, All-map, All-append, Contains-append_left, Contains-append_right}
+use Rattle.std.proofs.lemmas.List.Sorted.{All-permutation, IsPermutation-sym}
 use Rattle.kaba_bits.specs.Sets.{IsStep}
 use Rattle.fact_model.specs.declared.facts.Facts.{Facts}
+use Rattle.fact_model.specs.declared.facts.NewInfo.{NewInfo}
+use Rattle.fact_model.specs.declared.facts.FlowInfo.{FlowInfo}
+use Rattle.fact_model.specs.declared.facts.CastInfo.{CastInfo}
+use Rattle.fact_model.specs.declared.facts.LoadInfo.{LoadInfo}
+use Rattle.fact_model.specs.declared.facts.StoreInfo.{StoreInfo}
 use Rattle.fact_model.specs.declared.facts.CallInfo.{CallInfo}
+use Rattle.fact_model.specs.InRange.{InRange}
+use Rattle.fact_model.specs.Flowing.{point_at}
 use Rattle.fact_model.specs.Items.{site_class}
 use Rattle.fact_model.specs.Classes.{finds}
-use Rattle.points_to.specs.Work.{IsMore, slot_of, IsBodyNode, AreTargets, IsEdgeClosed, IsShown, IsReadClosed, IsWriteClosed, IsRunClosed}
-use Rattle.points_to.specs.Listed.{numbers_at, IsAt, IsIndex, HasBody}
-use Rattle.points_to.specs.Closed.{IsCallAsked, AreAsked, AreCallsAsked, AreClosed}
+use Rattle.points_to.specs.Work.{slot_of, IsBodyNode, AreTargets, IsEdge, IsTold, IsRead, IsWrite, IsRun, IsEdgeClosed, IsShown, IsReadClosed, IsWriteClosed, IsRunClosed, AreFound}
+use Rattle.points_to.specs.Listed.{numbers_at, IsIndex, HasBody}
+use Rattle.points_to.specs.Closed.{told_of_new, edge_of_flow, edge_of_cast, read_of_load, write_of_store, run_of_call, read_of_result, write_of_argument, writes_of_call, asked_told, asked_edges, asked_reads, asked_writes, asked_runs, AreFixed, AreAsked, AreClosed}
+use Rattle.points_to.specs.declared.work.Edge.{Edge}
+use Rattle.points_to.specs.declared.work.Told.{Told}
 use Rattle.points_to.specs.declared.work.Read.{Read}
 use Rattle.points_to.specs.declared.work.Write.{Write}
 use Rattle.points_to.specs.declared.work.Run.{Run}
 use Rattle.points_to.specs.declared.work.Member.{Member}
+use Rattle.points_to.specs.declared.work.Member.TheVariants.{Parameter, Returned}
 use Rattle.points_to.specs.declared.found.Found.{Found}
 use Rattle.points_to.specs.declared.index.Index.{Index}
-use Rattle.points_to.proofs.EdgeLemmas.{body_target, target_body}
-use Rattle.points_to.proofs.IndexLemmas.{at_same, next_number}
+use Rattle.points_to.proofs.EdgeLemmas.{new_told, flow_edge, cast_edge, load_read, store_write, call_run, argument_write, result_read, body_target, target_body}
+use Rattle.points_to.proofs.MadeLemmas.{all_of, all_among, all_some, all_flat, has_mapped, has_some, has_flat, has_number, of_mapped}
 
-pub more_same : (a : Found) → IsMore a a
-more_same a = record { edges = λ x h. h; told = λ x h. h; reads = λ x h. h; writes = λ x h. h; runs = λ x h. h }
+-- what is asked for holds
+module _ (F : Facts) (R : InRange F) where
+  asked_result : (x : CallInfo) → Contains F.calls.items x → (y : Read) → read_of_result x ≡ Some y → IsRead F y
+  asked_result x is y e = of_mapped (IsRead F) (λ p. record { base = x.receiver; member = Returned x.slot; into = p }) x.result y e (result_read F R x is)
 
-pub more_then : (a b c : Found) → IsMore a b → IsMore b c → IsMore a c
-more_then a b c p q = record {
-  edges = λ x h. q.edges x (p.edges x h);
-  told = λ x h. q.told x (p.told x h);
-  reads = λ x h. q.reads x (p.reads x h);
-  writes = λ x h. q.writes x (p.writes x h);
-  runs = λ x h. q.runs x (p.runs x h);
-}
+  asked_argument : (x : CallInfo) → Contains F.calls.items x → (k : ℕ) (y : Write) → write_of_argument x k ≡ Some y → IsWrite F y
+  asked_argument x is k y e = of_mapped (IsWrite F) (λ p. record { base = x.receiver; member = Parameter x.slot k; value = p }) (point_at x.args.items k) y e
+      (argument_write F R x is k)
 
-module _ {R S : Read → Type 0} {W X : Write → Type 0} {U V : Run → Type 0} (f : (x : Read) → R x → S x) (g : (x : Write) → W x → X x)
-    (h : (x : Run) → U x → V x) where
-  pub call_map : (x : CallInfo) → IsCallAsked R W U x → IsCallAsked S X V x
-  call_map x a = record { run = h _ a.run; arguments = λ k lt p e. g _ (a.arguments k lt p e); result = λ p e. f _ (a.result p e) }
+  pub asked_holds : AreFixed F (IsEdge F) (IsTold F) (IsRead F) (IsWrite F) (IsRun F)
+  asked_holds = record {
+    told = All-map (IsTold F) told_of_new F.news.items (all_of (λ x. IsTold F (told_of_new x)) F.news.items (new_told F R));
+    edges = All-append (IsEdge F) (map edge_of_flow F.flows.items) (map edge_of_cast F.casts.items)
+        (All-map (IsEdge F) edge_of_flow F.flows.items (all_of (λ x. IsEdge F (edge_of_flow x)) F.flows.items (flow_edge F R)))
+        (All-map (IsEdge F) edge_of_cast F.casts.items (all_of (λ x. IsEdge F (edge_of_cast x)) F.casts.items (cast_edge F R)));
+    reads = All-append (IsRead F) (map read_of_load F.loads.items) (filter_map read_of_result F.calls.items)
+        (All-map (IsRead F) read_of_load F.loads.items (all_of (λ x. IsRead F (read_of_load x)) F.loads.items (load_read F R)))
+        (all_some (IsRead F) read_of_result F.calls.items (all_of (λ x. (y : Read) → read_of_result x ≡ Some y → IsRead F y) F.calls.items asked_result));
+    writes = All-append (IsWrite F) (map write_of_store F.stores.items) (flat_map writes_of_call F.calls.items)
+        (All-map (IsWrite F) write_of_store F.stores.items (all_of (λ x. IsWrite F (write_of_store x)) F.stores.items (store_write F R)))
+        (all_flat (IsWrite F) writes_of_call F.calls.items (all_of (λ x. All (IsWrite F) (writes_of_call x)) F.calls.items (λ x is.
+        all_some (IsWrite F) (write_of_argument x) (range_with_len 0 (length x.args.items)) (λ k d lt. asked_argument x is _))));
+    runs = All-map (IsRun F) run_of_call F.calls.items (all_of (λ x. IsRun F (run_of_call x)) F.calls.items (call_run F R));
+  }
 
-pub call_more : (old new : Found) (x : CallInfo) → IsMore old new
-    → IsCallAsked (Contains old.reads.items) (Contains old.writes.items) (Contains old.runs.items) x
-    → IsCallAsked (Contains new.reads.items) (Contains new.writes.items) (Contains new.runs.items) x
-call_more old new x m = call_map m.reads m.writes m.runs x
+  -- it was found, in another order
+  pub found_asked : (x : Found) → x.told.items ≡ asked_told F → x.edges.items ≡ asked_edges F → IsPermutation (asked_reads F) x.reads.items
+      → IsPermutation (asked_writes F) x.writes.items → IsPermutation (asked_runs F) x.runs.items → AreFound F x × AreAsked F x
+  found_asked x told edges reads writes runs = (
+    record {
+      told = subst (All (IsTold F)) (sym told) asked_holds.told;
+      edges = subst (All (IsEdge F)) (sym edges) asked_holds.edges;
+      reads = All-permutation (IsRead F) (asked_reads F) x.reads.items reads asked_holds.reads;
+      writes = All-permutation (IsWrite F) (asked_writes F) x.writes.items writes asked_holds.writes;
+      runs = All-permutation (IsRun F) (asked_runs F) x.runs.items runs asked_holds.runs;
+    },
+    record {
+      told = subst (λ xs. All (Contains xs) (asked_told F)) (sym told) (All-contains_itself (asked_told F));
+      edges = subst (λ xs. All (Contains xs) (asked_edges F)) (sym edges) (All-contains_itself (asked_edges F));
+      reads = kept (asked_reads F) x.reads.items reads;
+      writes = kept (asked_writes F) x.writes.items writes;
+      runs = kept (asked_runs F) x.runs.items runs;
+    },
+  )
+    where
+      kept : {X : Type 0} (xs ys : List X) → IsPermutation xs ys → All (Contains ys) xs
+      kept xs ys p = All-permutation (Contains ys) ys xs (IsPermutation-sym xs ys p) (All-contains_itself ys)
 
--- one call on
-pub calls_more : (F : Facts) (old new : Found) (i : ℕ) (y : CallInfo) → IsMore old new → IsAt F.calls.items i y
-    → IsCallAsked (Contains new.reads.items) (Contains new.writes.items) (Contains new.runs.items) y → AreCallsAsked F old i → AreCallsAsked F new (i + 1)
-calls_more F old new i y m at here before =
-    let P = λ (x : CallInfo). IsCallAsked (Contains new.reads.items) (Contains new.writes.items) (Contains new.runs.items) x in
-    next_number (λ k. (x : CallInfo) → IsAt F.calls.items k x → P x) i
-    (λ k lt x a. call_more old new x m (before k lt x a))
-    (λ x a. subst P (at_same F.calls.items i y x at a) here)
+-- what all that is asked for is, is what each fact asks for
+module _ {F : Facts} {E : Edge → Type 0} {S : Told → Type 0} {R : Read → Type 0} {W : Write → Type 0} {U : Run → Type 0} (a : AreFixed F E S R W U) where
+  pub new_fixed : (x : NewInfo) → Contains F.news.items x → S (told_of_new x)
+  new_fixed x c = All-contains S (asked_told F) (told_of_new x) a.told (has_mapped told_of_new F.news.items x c)
+
+  pub flow_fixed : (x : FlowInfo) → Contains F.flows.items x → E (edge_of_flow x)
+  flow_fixed x c = All-contains E (asked_edges F) (edge_of_flow x) a.edges (Contains-append_left _ _ _ (has_mapped edge_of_flow F.flows.items x c))
+
+  pub cast_fixed : (x : CastInfo) → Contains F.casts.items x → E (edge_of_cast x)
+  cast_fixed x c = All-contains E (asked_edges F) (edge_of_cast x) a.edges (Contains-append_right _ _ _ (has_mapped edge_of_cast F.casts.items x c))
+
+  pub load_fixed : (x : LoadInfo) → Contains F.loads.items x → R (read_of_load x)
+  load_fixed x c = All-contains R (asked_reads F) (read_of_load x) a.reads (Contains-append_left _ _ _ (has_mapped read_of_load F.loads.items x c))
+
+  pub store_fixed : (x : StoreInfo) → Contains F.stores.items x → W (write_of_store x)
+  store_fixed x c = All-contains W (asked_writes F) (write_of_store x) a.writes (Contains-append_left _ _ _ (has_mapped write_of_store F.stores.items x c))
+
+  module _ (x : CallInfo) (c : Contains F.calls.items x) where
+    pub run_fixed : U (run_of_call x)
+    run_fixed = All-contains U (asked_runs F) (run_of_call x) a.runs (has_mapped run_of_call F.calls.items x c)
+
+    pub result_fixed : (y : Read) → read_of_result x ≡ Some y → R y
+    result_fixed y e = All-contains R (asked_reads F) y a.reads (Contains-append_right (map read_of_load F.loads.items)
+        (filter_map read_of_result F.calls.items) y (has_some read_of_result F.calls.items x y c e))
+
+    pub argument_fixed : (k : ℕ) (y : Write) → k < length x.args.items → write_of_argument x k ≡ Some y → W y
+    argument_fixed k y lt e = All-contains W (asked_writes F) y a.writes (Contains-append_right (map write_of_store F.stores.items)
+        (flat_map writes_of_call F.calls.items) y (has_flat writes_of_call F.calls.items x y c
+        (has_some (write_of_argument x) (range_with_len 0 (length x.args.items)) k y (has_number (length x.args.items) k lt) e)))
 
 -- where all that was found is closed, the sets are
 pub asked_closed : (F : Facts) (x : Found) (sets : List (List Bool)) → AreAsked F x → All (IsEdgeClosed F sets) x.edges.items → All (IsShown sets) x.told.items
     → All (IsReadClosed F sets sets) x.reads.items → All (IsWriteClosed F sets sets) x.writes.items → All (IsRunClosed F sets sets) x.runs.items
     → AreClosed F sets
 asked_closed F x sets a edges told reads writes runs = record {
-  news = λ k d lt. All-contains (IsShown sets) x.told.items _ told (a.news k d lt);
-  flows = λ k d lt. All-contains (IsEdgeClosed F sets) x.edges.items _ edges (a.flows k d lt);
-  casts = λ k d lt. All-contains (IsEdgeClosed F sets) x.edges.items _ edges (a.casts k d lt);
-  loads = λ k d lt. All-contains (IsReadClosed F sets sets) x.reads.items _ reads (a.loads k d lt);
-  stores = λ k d lt. All-contains (IsWriteClosed F sets sets) x.writes.items _ writes (a.stores k d lt);
-  calls = λ i lt y at. call_map (λ z c. All-contains (IsReadClosed F sets sets) x.reads.items z reads c)
-      (λ z c. All-contains (IsWriteClosed F sets sets) x.writes.items z writes c) (λ z c. All-contains (IsRunClosed F sets sets) x.runs.items z runs
-      c) y (a.calls i lt y at);
+  told = all_among (IsShown sets) x.told.items _ told a.told;
+  edges = all_among (IsEdgeClosed F sets) x.edges.items _ edges a.edges;
+  reads = all_among (IsReadClosed F sets sets) x.reads.items _ reads a.reads;
+  writes = all_among (IsWriteClosed F sets sets) x.writes.items _ writes a.writes;
+  runs = all_among (IsRunClosed F sets sets) x.runs.items _ runs a.runs;
 }
 
 -- a turn over all that was found

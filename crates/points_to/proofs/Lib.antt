@@ -3,6 +3,7 @@ pub mod LoopLemmas
 pub mod RuleLemmas
 pub mod EdgeLemmas
 pub mod IndexLemmas
+pub mod MadeLemmas
 pub mod AskedLemmas
 pub mod RoundLemmas
 pub mod SolveLemmas

@@ -1,7 +1,7 @@
 -- Sound and closed sets are the least ones.
 use Rattle.std.proofs.Common.{◌≡◌, ℕ, ◌+◌, ◌<◌, Bool, true, List, [], length, take, drop, Contains, refl, ap, ◌∙◌, subst, arith, get_or-take, get_or-drop, length-take-le, length-drop}
 use Rattle.std.specs.List.{AllByRecursion, All}
-use Rattle.std.specs.Option.{IfSome}
+use Rattle.std.specs.Option.{IfSome, option_map}
 use Rattle.std.proofs.lemmas.List.Elements.{All-contains}
 use Rattle.derivations.proofs.Derivations.{derivable_least}
 use Rattle.kaba_bits.specs.Sets.{bit, row}
@@ -9,15 +9,15 @@ use Rattle.kaba_bits.proofs.RowLemmas.{bit-row-below}
 use Rattle.fact_model.specs.InRange.{InRange, IsPoint, IsSite, IsClass, IsCol}
 use Rattle.fact_model.specs.Flowing.{Fact, in_point, in_cell, Inclusion, by_new, by_flow, by_load, by_store, by_this, by_argument, by_result, by_cast, Holds, IsInRow, by_point, by_cell, AreSets}
 use Rattle.fact_model.specs.declared.facts.Facts.{Facts}
-use Rattle.fact_model.specs.declared.facts.CallInfo.{CallInfo}
 use Rattle.fact_model.specs.declared.facts.BodyInfo.{BodyInfo}
 use Rattle.fact_model.specs.declared.sets.PointsTo.{PointsTo}
 use Rattle.points_to.specs.Sound.{AreSound, ArePoints, AreCells, AreUnions}
-use Rattle.points_to.specs.Work.{IsEdgeClosed, IsShown, IsReadClosed, IsWriteClosed, IsRunClosed}
-use Rattle.points_to.specs.Closed.{IsNewAsked, IsFlowAsked, IsCastAsked, IsLoadAsked, IsStoreAsked, IsCallAsked, AreClosed, AreSolved, PointsJoined, CellsJoined}
+use Rattle.points_to.specs.Closed.{AreClosed, AreSolved, PointsJoined, CellsJoined}
+use Rattle.points_to.specs.declared.work.Member.TheVariants.{Parameter, Returned}
 use Rattle.points_to.proofs.NodeLemmas.{node_point, node_cell}
 use Rattle.points_to.proofs.RuleLemmas.{point_below, points_of}
 use Rattle.points_to.proofs.EdgeLemmas.{wanted_of}
+use Rattle.points_to.proofs.AskedLemmas.{new_fixed, flow_fixed, cast_fixed, load_fixed, store_fixed, run_fixed, result_fixed, argument_fixed}
 
 -- a fact in range that the sets show
 abbrev pub IsSeen : Facts → List (List Bool) → Fact → Type 0
@@ -25,10 +25,6 @@ IsSeen F sets (in_point p s) = (p < length F.points.items) × (bit (row sets p) 
 IsSeen F sets (in_cell c s) = (c < length F.cells.items) × (bit (row sets (length F.points.items + c)) s ≡ true)
 
 module _ (F : Facts) (R : InRange F) (sets : List (List Bool)) (closed : AreClosed F sets) where
-  -- the call of a body for an object of the site o
-  call : (x : CallInfo) → Contains F.calls.items x → IsCallAsked (IsReadClosed F sets sets) (IsWriteClosed F sets sets) (IsRunClosed F sets sets) x
-  call x c = closed.calls c.0 c.1 x (c.1, c.2)
-
   body_is : (body : BodyInfo) → Contains F.bodies.items body → IsCol F body.column × IsPoint F body.this
       × All (λ p. IfSome p (IsPoint F)) body.params.items × IfSome body.result (IsPoint F)
   body_is body c = All-contains (λ x. IsCol F x.column × IsPoint F x.this × All (λ p. IfSome p (IsPoint F)) x.params.items × IfSome x.result (IsPoint F))
@@ -37,39 +33,41 @@ module _ (F : Facts) (R : InRange F) (sets : List (List Bool)) (closed : AreClos
   closed_under : (ps : List Fact) (f : Fact) → Inclusion F ps f → AllByRecursion (IsSeen F sets) ps → IsSeen F sets f
   closed_under ps f (by_new x c) h = (
     (All-contains (λ x. IsPoint F x.point × IsSite F x.site) F.news.items x R.news c).0,
-    All-contains (IsNewAsked (IsShown sets)) F.news.items x closed.news c,
+    new_fixed closed x c,
   )
   closed_under ps f (by_flow x s c) h = (
     (All-contains (λ x. IsPoint F x.from × IsPoint F x.to) F.flows.items x R.flows c).1,
-    All-contains (IsFlowAsked (IsEdgeClosed F sets)) F.flows.items x closed.flows c s tt h.0.1,
+    flow_fixed closed x c s tt h.0.1,
   )
   closed_under ps f (by_load x c o s at cell) h = (
     (All-contains (λ x. IsPoint F x.base × IfSome x.column (IsCol F) × IsPoint F x.into) F.loads.items x R.loads at).2,
-    All-contains (IsLoadAsked (IsReadClosed F sets sets)) F.loads.items x closed.loads at o (length F.points.items + c) h.0.1
+    load_fixed closed x at o (length F.points.items + c) h.0.1
         (record { cell = c; is = cell; node = refl }) s h.1.0.1,
   )
   closed_under ps f (by_store x c o s at cell fits) h = (
     cell.below,
-    All-contains (IsStoreAsked (IsWriteClosed F sets sets)) F.stores.items x closed.stores at o (length F.points.items + c) s h.0.1
+    store_fixed closed x at o (length F.points.items + c) s h.0.1
         (record { cell = c; is = cell; node = refl }) (wanted_of F x.column s o fits) h.1.0.1,
   )
   closed_under ps f (by_this x o body runs) h = (
     (body_is body runs.listed).1,
-    (call x runs.called).run o body.this h.0.1 (record { body = body; listed = runs.listed; found = runs.found; node = refl }),
+    run_fixed closed x runs.called o body.this h.0.1 (record { body = body; listed = runs.listed; found = runs.found; node = refl }),
   )
   closed_under ps f (by_argument x o body k from to s runs a b) h = (
     points_of F body.params.items (body_is body runs.listed).2 k to b,
-    (call x runs.called).arguments k (point_below x.args.items k from a) from a o to s h.0.1
+    argument_fixed closed x runs.called k _ (point_below x.args.items k from a)
+        (ap (option_map (λ p. record { base = x.receiver; member = Parameter x.slot k; value = p })) a) o to s h.0.1
         (record { body = body; listed = runs.listed; found = runs.found; node = b }) tt h.1.0.1,
   )
   closed_under ps f (by_result x o body from to s runs a b) h = (
     subst (λ r. IfSome r (IsPoint F)) b (All-contains (λ x. IsPoint F x.receiver × All (λ p. IfSome p (IsPoint F)) x.args.items
         × IfSome x.result (IsPoint F)) F.calls.items x R.calls runs.called).2,
-    (call x runs.called).result to b o from h.0.1 (record { body = body; listed = runs.listed; found = runs.found; node = a }) s h.1.0.1,
+    result_fixed closed x runs.called _ (ap (option_map (λ p. record { base = x.receiver; member = Returned x.slot; into = p })) b) o from h.0.1
+        (record { body = body; listed = runs.listed; found = runs.found; node = a }) s h.1.0.1,
   )
   closed_under ps f (by_cast x s c b) h = (
     (All-contains (λ x. IsPoint F x.from × IsPoint F x.into × IsClass F x.class) F.casts.items x R.casts c).1,
-    All-contains (IsCastAsked (IsEdgeClosed F sets)) F.casts.items x closed.casts c s b h.0.1,
+    cast_fixed closed x c s b h.0.1,
   )
 
   complete : (f : Fact) → Holds F f → IsSeen F sets f

@@ -1,5 +1,7 @@
 -- What the facts ask for, and sets that have it.
-use Rattle.std.specs.Prelude.{◌≡◌, ℕ, ◌+◌, ◌<◌, Bool, true, List, length, All, Contains, Some}
+use Rattle.std.specs.Prelude.{◌≡◌, ℕ, ◌+◌, ◌<◌, ◌++◌, Bool, true, List, length, map, All, Contains, Option, Some}
+use Rattle.std.specs.List.{filter_map, flat_map, range_with_len}
+use Rattle.std.specs.Option.{option_map}
 use Rattle.kaba_bits.specs.Sets.{bit, row, IsSubset}
 use Rattle.fact_model.specs.Items.{cell_at, point_row}
 use Rattle.fact_model.specs.declared.facts.Facts.{Facts}
@@ -11,7 +13,6 @@ use Rattle.fact_model.specs.declared.facts.StoreInfo.{StoreInfo}
 use Rattle.fact_model.specs.declared.facts.CallInfo.{CallInfo}
 use Rattle.fact_model.specs.Flowing.{in_point, in_cell, Holds, point_at}
 use Rattle.points_to.specs.Sound.{AreSound}
-use Rattle.points_to.specs.Listed.{IsAt}
 use Rattle.points_to.specs.Work.{between, IsEdgeClosed, IsShown, IsReadClosed, IsWriteClosed, IsRunClosed}
 use Rattle.points_to.specs.declared.work.Edge.{Edge}
 use Rattle.points_to.specs.declared.work.Told.{Told}
@@ -21,50 +22,63 @@ use Rattle.points_to.specs.declared.work.Run.{Run}
 use Rattle.points_to.specs.declared.work.Member.TheVariants.{Field, Parameter, Returned}
 use Rattle.points_to.specs.declared.found.Found.{Found}
 
-abbrev pub IsNewAsked : (Told → Type 0) → NewInfo → Type 0
-IsNewAsked S x = S (record { node = x.point; site = x.site.0 })
+-- what each fact asks for
+abbrev pub told_of_new : NewInfo → Told
+told_of_new x = record { node = x.point; site = x.site.0 }
 
-abbrev pub IsFlowAsked : (Edge → Type 0) → FlowInfo → Type 0
-IsFlowAsked E x = E (between x.from x.to)
+abbrev pub edge_of_flow : FlowInfo → Edge
+edge_of_flow x = between x.from x.to
 
-abbrev pub IsCastAsked : (Edge → Type 0) → CastInfo → Type 0
-IsCastAsked E x = E (record { from = x.from; to = x.into; class = Some x.class })
+abbrev pub edge_of_cast : CastInfo → Edge
+edge_of_cast x = record { from = x.from; to = x.into; class = Some x.class }
 
-abbrev pub IsLoadAsked : (Read → Type 0) → LoadInfo → Type 0
-IsLoadAsked R x = R (record { base = x.base; member = Field x.column; into = x.into })
+abbrev pub read_of_load : LoadInfo → Read
+read_of_load x = record { base = x.base; member = Field x.column; into = x.into }
 
-abbrev pub IsStoreAsked : (Write → Type 0) → StoreInfo → Type 0
-IsStoreAsked W x = W (record { base = x.base; member = Field x.column; value = x.value })
+abbrev pub write_of_store : StoreInfo → Write
+write_of_store x = record { base = x.base; member = Field x.column; value = x.value }
+
+abbrev pub run_of_call : CallInfo → Run
+run_of_call x = record { base = x.receiver; slot = x.slot }
 
 -- an argument or a result, where it is a point
-abbrev pub IsArgumentAsked : (Write → Type 0) → CallInfo → ℕ → Type 0
-IsArgumentAsked W x k = (p : ℕ) → point_at x.args.items k ≡ Some p → W (record { base = x.receiver; member = Parameter x.slot k; value = p })
+abbrev pub write_of_argument : CallInfo → ℕ → Option Write
+write_of_argument x k = option_map (λ p. record { base = x.receiver; member = Parameter x.slot k; value = p }) (point_at x.args.items k)
 
-abbrev pub IsResultAsked : (Read → Type 0) → CallInfo → Type 0
-IsResultAsked R x = (p : ℕ) → x.result ≡ Some p → R (record { base = x.receiver; member = Returned x.slot; into = p })
+abbrev pub read_of_result : CallInfo → Option Read
+read_of_result x = option_map (λ p. record { base = x.receiver; member = Returned x.slot; into = p }) x.result
 
-pub record IsCallAsked (R : Read → Type 0) (W : Write → Type 0) (U : Run → Type 0) (x : CallInfo) : Type 0 where
-  pub run : U (record { base = x.receiver; slot = x.slot })
-  pub arguments : (k : ℕ) → k < length x.args.items → IsArgumentAsked W x k
-  pub result : IsResultAsked R x
+-- each argument
+abbrev pub writes_of_call : CallInfo → List Write
+writes_of_call x = filter_map (write_of_argument x) (range_with_len 0 (length x.args.items))
 
--- each of all facts
+-- what all facts ask for
+abbrev pub asked_told : Facts → List Told
+asked_told F = map told_of_new F.news.items
+
+abbrev pub asked_edges : Facts → List Edge
+asked_edges F = map edge_of_flow F.flows.items ++ map edge_of_cast F.casts.items
+
+abbrev pub asked_reads : Facts → List Read
+asked_reads F = map read_of_load F.loads.items ++ filter_map read_of_result F.calls.items
+
+abbrev pub asked_writes : Facts → List Write
+asked_writes F = map write_of_store F.stores.items ++ flat_map writes_of_call F.calls.items
+
+abbrev pub asked_runs : Facts → List Run
+asked_runs F = map run_of_call F.calls.items
+
+-- each of that is so
 pub record AreFixed (F : Facts) (E : Edge → Type 0) (S : Told → Type 0) (R : Read → Type 0) (W : Write → Type 0) (U : Run → Type 0) : Type 0 where
-  pub news : All (IsNewAsked S) F.news.items
-  pub flows : All (IsFlowAsked E) F.flows.items
-  pub casts : All (IsCastAsked E) F.casts.items
-  pub loads : All (IsLoadAsked R) F.loads.items
-  pub stores : All (IsStoreAsked W) F.stores.items
-  pub calls : (i : ℕ) → i < length F.calls.items → (x : CallInfo) → IsAt F.calls.items i x → IsCallAsked R W U x
+  pub told : All S (asked_told F)
+  pub edges : All E (asked_edges F)
+  pub reads : All R (asked_reads F)
+  pub writes : All W (asked_writes F)
+  pub runs : All U (asked_runs F)
 
 -- what the facts ask for was found
 abbrev pub AreAsked : Facts → Found → Type 0
 AreAsked F x = AreFixed F (Contains x.edges.items) (Contains x.told.items) (Contains x.reads.items) (Contains x.writes.items) (Contains x.runs.items)
-
--- the calls so far
-abbrev pub AreCallsAsked : Facts → Found → ℕ → Type 0
-AreCallsAsked F x n = (i : ℕ) → i < n → (call : CallInfo) → IsAt F.calls.items i call
-    → IsCallAsked (Contains x.reads.items) (Contains x.writes.items) (Contains x.runs.items) call
 
 -- the sets are closed under the inclusions
 abbrev pub AreClosed : Facts → List (List Bool) → Type 0

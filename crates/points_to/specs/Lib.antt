@@ -5,3 +5,4 @@ pub mod Listed
 pub mod Rounds
 pub mod Chains
 pub mod Above
+pub mod Given

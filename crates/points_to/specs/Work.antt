@@ -127,14 +127,6 @@ pub record AreFound (F : Facts) (found : Found) : Type 0 where
   pub writes : All (IsWrite F) found.writes.items
   pub runs : All (IsRun F) found.runs.items
 
--- nothing was lost
-pub record IsMore (old new : Found) : Type 0 where
-  pub edges : (x : Edge) → Contains old.edges.items x → Contains new.edges.items x
-  pub told : (x : Told) → Contains old.told.items x → Contains new.told.items x
-  pub reads : (x : Read) → Contains old.reads.items x → Contains new.reads.items x
-  pub writes : (x : Write) → Contains old.writes.items x → Contains new.writes.items x
-  pub runs : (x : Run) → Contains old.runs.items x → Contains new.runs.items x
-
 -- from one point into another
 abbrev pub between : ℕ → ℕ → Edge
 between p q = record { from = p; to = q; class = None }

@@ -3,15 +3,13 @@
 ghost use Rattle.std.specs.Prelude.{◌≡◌, ℕ, ◌<◌, length, All, IfOk, OnOk};
 ghost use Rattle.std.specs.Bool.{OnFalse};
 ghost use Rattle.kaba_bits.specs.Sets.{IsStep};
-ghost use Rattle.fact_model.specs.InRange.{InRange};
 ghost use Rattle.points_to.specs.Above.{AreSitesBelow};
 ghost use Rattle.points_to.specs.Sound.{AreSound};
-ghost use Rattle.points_to.specs.Listed.{IsIndex};
-ghost use Rattle.points_to.specs.Work.{AreFound, IsEdge, IsTold, IsEdgeClosed, IsShown};
-ghost use Rattle.points_to.specs.Closed.{AreAsked, AreClosed};
+ghost use Rattle.points_to.specs.Work.{IsEdge, IsTold, IsEdgeClosed, IsShown};
+ghost use Rattle.points_to.specs.Closed.{AreClosed};
+ghost use Rattle.points_to.specs.Given.{IsGiven};
 
-use crate::found::Found;
-use crate::index::Index;
+use crate::found::Given;
 use crate::queue::Queue;
 use crate::reads::close_reads;
 use crate::runs::close_runs;
@@ -61,28 +59,51 @@ pub fn close_told(facts: &Facts, sets: &mut [BitRow], grown: &mut Queue, told: &
 }
 
 /// Everything once, and whether anything was new. An error comes only for want of memory.
-pub fn close_all(
-    alloc: Global,
-    facts: &Facts,
-    index: &Index,
-    found: &Found,
-    sets: &mut [BitRow],
-    grown: &mut Queue,
-) -> Result<bool, AllocError>
-    requires facts { InRange facts.now }
-    requires index { IsIndex facts.now index.now }
-    requires found { AreFound facts.now found.now }
-    requires asked { AreAsked facts.now found.now }
-    requires sets { AreSound facts.now sets.old }
-    ensures sets { OnOk result (AreSound facts.now sets.new) }
+pub fn close_all(given: &Given, sets: &mut [BitRow], grown: &mut Queue) -> Result<bool, AllocError>
+    requires given { IsGiven given.now }
+    requires sets { AreSound given.now.facts.now sets.old }
+    ensures sets { OnOk result (AreSound given.now.facts.now sets.new) }
     ensures step { IfOk result (IsStep sets.old sets.new) }
-    ensures closed { IfOk result (λ grew. OnFalse grew (AreClosed facts.now sets.new)) }
+    ensures closed { IfOk result (λ grew. OnFalse grew (AreClosed given.now.facts.now sets.new)) }
 {
+    let facts = given.facts;
+    let found = given.found;
     let told = close_told(facts, sets, grown, &found.told);
-    let edges = close_edges(alloc, facts, &index.below, sets, grown, &found.edges)?;
-    let bases = copy_rows(alloc, sets)?;
-    let reads = close_reads(alloc, facts, index, &bases, sets, grown, &found.reads)?;
-    let writes = close_writes(alloc, facts, index, &bases, sets, grown, &found.writes)?;
-    let runs = close_runs(alloc, facts, index, &bases, sets, grown, &found.runs)?;
+    let edges = close_edges(
+        given.alloc,
+        facts,
+        &given.index.below,
+        sets,
+        grown,
+        &found.edges,
+    )?;
+    let bases = copy_rows(given.alloc, sets)?;
+    let reads = close_reads(
+        given.alloc,
+        facts,
+        given.index,
+        &bases,
+        sets,
+        grown,
+        &found.reads,
+    )?;
+    let writes = close_writes(
+        given.alloc,
+        facts,
+        given.index,
+        &bases,
+        sets,
+        grown,
+        &found.writes,
+    )?;
+    let runs = close_runs(
+        given.alloc,
+        facts,
+        given.index,
+        &bases,
+        sets,
+        grown,
+        &found.runs,
+    )?;
     Ok(told | edges | reads | writes | runs)
 }

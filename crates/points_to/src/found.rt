@@ -1,10 +1,15 @@
-//! What the rules ask for, in lists.
+//! What the facts ask for, in lists: creations, flows and casts, and for each site of a base loads, stores and calls.
 
-ghost use Rattle.std.specs.Prelude.{◌≡◌, Contains, OnOk, []};
-ghost use Rattle.points_to.specs.Work.{IsEdge, IsTold, IsRead, IsWrite, IsRun, AreFound, IsMore};
+ghost use Rattle.std.specs.Prelude.{◌≡◌, IfOk};
+ghost use Rattle.std.specs.List.{flat_map};
+ghost use Rattle.fact_model.specs.InRange.{InRange};
+ghost use Rattle.points_to.specs.Work.{AreFound};
+ghost use Rattle.points_to.specs.Closed.{asked_told, asked_edges, asked_reads, asked_writes, asked_runs, write_of_argument, writes_of_call, read_of_result, AreAsked};
 
+use crate::index::Index;
+use crate::targets::point_at;
 use crate::work::{Edge, Member, Read, Run, Told, Write};
-use fact_model::Facts;
+use fact_model::{CallInfo, Facts, NewInfo};
 use std::alloc::{AllocError, Global};
 
 /// Inclusions, sites that are in a set, and what is asked for each site of a base.
@@ -17,78 +22,121 @@ pub struct Found {
     pub runs: Vec<Run>,
 }
 
-/// Nothing so far.
-pub fn nothing(alloc: Global, facts: &Facts) -> Found
-    ensures { AreFound facts.now result }
+/// What the sets are found by: the facts with their index, and what they ask for.
+#[derive(Clone, Copy)]
+pub struct Given<'a> {
+    pub alloc: Global,
+    pub facts: &'a Facts,
+    pub index: &'a Index,
+    pub found: &'a Found,
+}
+
+/// Each creation into its point. An error comes only for want of memory.
+fn told(alloc: Global, facts: &Facts) -> Result<Vec<Told>, AllocError>
+    ensures { IfOk result (λ v. v.items ≡ asked_told facts.now) }
 {
-    let _ = facts;
-    Found {
-        edges: Vec::new(alloc),
-        told: Vec::new(alloc),
-        reads: Vec::new(alloc),
-        writes: Vec::new(alloc),
-        runs: Vec::new(alloc),
+    let told = |x: &NewInfo| Told {
+        node: x.point as usize,
+        site: x.site.0,
+    };
+    facts.news.iter().map(told).collect(alloc)
+}
+
+/// Each flow and each cast. An error comes only for want of memory.
+fn edges(alloc: Global, facts: &Facts) -> Result<Vec<Edge>, AllocError>
+    ensures { IfOk result (λ v. v.items ≡ asked_edges facts.now) }
+{
+    let flows = facts.flows.iter().map(|x| Edge {
+        from: x.from as usize,
+        to: x.to as usize,
+        class: None,
+    });
+    let casts = facts.casts.iter().map(|x| Edge {
+        from: x.from as usize,
+        to: x.into as usize,
+        class: Some(x.class),
+    });
+    flows.chain(casts).collect(alloc)
+}
+
+/// The result of a call, where it is a point.
+fn read_of_result(call: &CallInfo) -> Option<Read>
+    ensures { result ≡ read_of_result call.now }
+{
+    call.result.map(|into| Read {
+        base: call.receiver,
+        member: Member::Returned(call.slot),
+        into,
+    })
+}
+
+/// Each load and each result. An error comes only for want of memory.
+fn reads(alloc: Global, facts: &Facts) -> Result<Vec<Read>, AllocError>
+    ensures { IfOk result (λ v. v.items ≡ asked_reads facts.now) }
+{
+    let loads = facts.loads.iter().map(|x| Read {
+        base: x.base,
+        member: Member::Field(x.column),
+        into: x.into,
+    });
+    let results = facts.calls.iter().filter_map(|x| read_of_result(x));
+    loads.chain(results).collect(alloc)
+}
+
+/// The argument of a number of a call, where it is a point.
+fn write_of_argument(call: &CallInfo, k: usize) -> Option<Write>
+    ensures { result ≡ write_of_argument call.now k }
+{
+    point_at(&call.args, k).map(|value| Write {
+        base: call.receiver,
+        member: Member::Parameter(call.slot, k),
+        value,
+    })
+}
+
+/// Each argument of a call. An error comes only for want of memory.
+fn arguments_of(alloc: Global, call: &CallInfo) -> Result<Vec<Write>, AllocError>
+    ensures { IfOk result (λ v. v.items ≡ writes_of_call call.now) }
+{
+    (0..call.args.len())
+        .filter_map(|k| write_of_argument(call, k))
+        .collect(alloc)
+}
+
+/// Each argument of each call. An error comes only for want of memory.
+fn arguments(alloc: Global, facts: &Facts) -> Result<Vec<Write>, AllocError>
+    ensures { IfOk result (λ v. v.items ≡ flat_map writes_of_call facts.now.calls.items) }
+{
+    let mut list = Vec::new(alloc);
+    for call in &facts.calls {
+        let arguments = arguments_of(alloc, call)?;
+        list.extend_from_slice(&arguments)?;
     }
+    Ok(list)
 }
 
-/// One inclusion more. An error comes only for want of memory.
-pub fn ask(facts: &Facts, found: &mut Found, x: Edge) -> Result<(), AllocError>
-    requires found { AreFound facts.now found.old }
-    requires edge { IsEdge facts.now x }
-    ensures found { OnOk result (AreFound facts.now found.new) }
-    ensures kept { OnOk result (IsMore found.old found.new) }
-    ensures here { OnOk result (Contains found.new.edges.items x) }
+/// Each store and each argument. An error comes only for want of memory.
+fn writes(alloc: Global, facts: &Facts) -> Result<Vec<Write>, AllocError>
+    ensures { IfOk result (λ v. v.items ≡ asked_writes facts.now) }
 {
-    found.edges.push(x)?;
-    Ok(())
+    let stores = facts.stores.iter().map(|x| Write {
+        base: x.base,
+        member: Member::Field(x.column),
+        value: x.value,
+    });
+    let arguments = arguments(alloc, facts)?;
+    stores.chain(arguments.into_iter()).collect(alloc)
 }
 
-/// One site more. An error comes only for want of memory.
-pub fn tell(facts: &Facts, found: &mut Found, x: Told) -> Result<(), AllocError>
-    requires found { AreFound facts.now found.old }
-    requires told { IsTold facts.now x }
-    ensures found { OnOk result (AreFound facts.now found.new) }
-    ensures kept { OnOk result (IsMore found.old found.new) }
-    ensures here { OnOk result (Contains found.new.told.items x) }
+/// Each call. An error comes only for want of memory.
+fn runs(alloc: Global, facts: &Facts) -> Result<Vec<Run>, AllocError>
+    ensures { IfOk result (λ v. v.items ≡ asked_runs facts.now) }
 {
-    found.told.push(x)?;
-    Ok(())
-}
-
-/// One read more. An error comes only for want of memory.
-pub fn ask_read(facts: &Facts, found: &mut Found, x: Read) -> Result<(), AllocError>
-    requires found { AreFound facts.now found.old }
-    requires read { IsRead facts.now x }
-    ensures found { OnOk result (AreFound facts.now found.new) }
-    ensures kept { OnOk result (IsMore found.old found.new) }
-    ensures here { OnOk result (Contains found.new.reads.items x) }
-{
-    found.reads.push(x)?;
-    Ok(())
-}
-
-/// One write more. An error comes only for want of memory.
-pub fn ask_write(facts: &Facts, found: &mut Found, x: Write) -> Result<(), AllocError>
-    requires found { AreFound facts.now found.old }
-    requires write { IsWrite facts.now x }
-    ensures found { OnOk result (AreFound facts.now found.new) }
-    ensures kept { OnOk result (IsMore found.old found.new) }
-    ensures here { OnOk result (Contains found.new.writes.items x) }
-{
-    found.writes.push(x)?;
-    Ok(())
-}
-
-/// One run more. An error comes only for want of memory.
-pub fn ask_run(facts: &Facts, found: &mut Found, x: Run) -> Result<(), AllocError>
-    requires found { AreFound facts.now found.old }
-    requires run { IsRun facts.now x }
-    ensures found { OnOk result (AreFound facts.now found.new) }
-    ensures kept { OnOk result (IsMore found.old found.new) }
-    ensures here { OnOk result (Contains found.new.runs.items x) }
-{
-    found.runs.push(x)?;
-    Ok(())
+    let run = |x: &CallInfo| Run {
+        base: x.receiver,
+        slot: x.slot,
+    };
+    facts.calls.iter().map(run).collect(alloc)
 }
 
 /// Numbers by which members are in order: what they are of, and which parameter.
@@ -102,15 +150,26 @@ fn order_of(member: Member) -> (u8, u32, usize) {
     }
 }
 
-/// The reads, writes and runs of one member stand together, and among them those of one base. An error comes only for want of memory.
-pub fn put_in_order(facts: &Facts, found: &mut Found) -> Result<(), AllocError>
-    requires found { AreFound facts.now found.old }
-    ensures found { OnOk result (AreFound facts.now found.new) }
-    ensures kept { OnOk result (IsMore found.old found.new) }
+/// What all facts ask for. The reads, writes and runs of one member stand together, and among them those of one base. An error comes only for
+/// want of memory.
+pub fn found_of(alloc: Global, facts: &Facts) -> Result<Found, AllocError>
+    requires { InRange facts.now }
+    ensures found { IfOk result (AreFound facts.now) }
+    ensures asked { IfOk result (AreAsked facts.now) }
 {
-    let _ = facts;
-    found.reads.sort_by_key(|x| (order_of(x.member), x.base))?;
-    found.writes.sort_by_key(|x| (order_of(x.member), x.base))?;
-    found.runs.sort_by_key(|x| (x.slot, x.base))?;
-    Ok(())
+    let told = told(alloc, facts)?;
+    let edges = edges(alloc, facts)?;
+    let mut reads = reads(alloc, facts)?;
+    reads.sort_by_key(|x| (order_of(x.member), x.base))?;
+    let mut writes = writes(alloc, facts)?;
+    writes.sort_by_key(|x| (order_of(x.member), x.base))?;
+    let mut runs = runs(alloc, facts)?;
+    runs.sort_by_key(|x| (x.slot, x.base))?;
+    Ok(Found {
+        edges,
+        told,
+        reads,
+        writes,
+        runs,
+    })
 }

@@ -3,13 +3,12 @@
 ghost use Rattle.std.specs.Prelude.{◌≡◌, ℕ, ◌<◌, length, Contains, IfOk, OnOk};
 ghost use Rattle.fact_model.specs.Items.{cell_at};
 ghost use Rattle.fact_model.specs.InRange.{InRange};
-ghost use Rattle.fact_model.specs.declared.facts.CallInfo.{CallInfo};
 ghost use Rattle.fact_model.specs.declared.facts.BodyInfo.{BodyInfo};
 ghost use Rattle.points_to.specs.Listed.{numbers_at, IsAt, IsIndex, HaveCells, HaveBodies, KeepNumbers};
 
 use crate::above::sites_below;
 use crate::bodies::{Bodies, bodies_of};
-use fact_model::{BodyInfo, CallInfo, CellInfo, Facts};
+use fact_model::{BodyInfo, CellInfo, Facts};
 use kaba_bits::BitRow;
 use std::alloc::{AllocError, Global};
 
@@ -21,14 +20,6 @@ pub struct Index {
     pub bodies: Vec<Vec<usize>>,
     pub chains: Bodies,
     pub below: Vec<BitRow>,
-}
-
-/// One call.
-pub fn call_at(facts: &Facts, i: usize) -> &CallInfo
-    requires { i < length facts.now.calls.items }
-    ensures { IsAt facts.now.calls.items i result.now }
-{
-    &facts.calls[i]
 }
 
 /// One body.

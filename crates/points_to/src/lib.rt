@@ -6,9 +6,8 @@ ghost use Rattle.std.specs.Prelude.{◌≡◌, ℕ, ◌+◌, ◌<◌, length, Co
 ghost use Rattle.fact_model.specs.InRange.{InRange};
 ghost use Rattle.fact_model.specs.Flowing.{AreSets};
 ghost use Rattle.points_to.specs.Sound.{AreSound};
-ghost use Rattle.points_to.specs.Work.{AreFound};
-ghost use Rattle.points_to.specs.Listed.{IsIndex};
-ghost use Rattle.points_to.specs.Closed.{AreAsked, AreClosed, AreSolved};
+ghost use Rattle.points_to.specs.Closed.{AreClosed, AreSolved};
+ghost use Rattle.points_to.specs.Given.{IsGiven};
 
 use fact_model::{Facts, PointsTo};
 use kaba_bits::{BitRow, empty_rows};
@@ -17,7 +16,6 @@ use std::alloc::{AllocError, Global};
 mod above;
 mod bodies;
 mod closing;
-mod fixed;
 mod found;
 mod index;
 mod news;
@@ -35,10 +33,9 @@ mod writes;
 pub use above::{classes_above, is_below};
 pub use bodies::{Bodies, bodies_of, find_body};
 use closing::close_all;
-use fixed::fixed;
-use found::Found;
+use found::{Given, found_of};
+use index::index_of;
 pub use index::{empty, note, numbers_at};
-use index::{Index, index_of};
 pub use order::order_of;
 use queue::queue_of_sets;
 pub use queue::{Queue, queue_of, take, wait};
@@ -87,32 +84,28 @@ fn fill(alloc: Global, facts: &Facts, sets: &mut [BitRow]) -> Result<(), AllocEr
     ensures { OnOk result (AreSolved facts.now sets.new) }
 {
     let index = index_of(alloc, facts)?;
-    let found = fixed(alloc, facts)?;
+    let found = found_of(alloc, facts)?;
     let mut grown = queue_of_sets(alloc, facts, &found)?;
-    grow(alloc, facts, &index, &found, sets, &mut grown)?;
-    run_rounds(alloc, facts, &index, &found, sets, &mut grown)?;
+    let given = Given {
+        alloc,
+        facts,
+        index: &index,
+        found: &found,
+    };
+    grow(&given, sets, &mut grown)?;
+    run_rounds(&given, sets, &mut grown)?;
     Ok(())
 }
 
 /// Turns over everything, until nothing is new. An error comes only for want of memory.
-fn run_rounds(
-    alloc: Global,
-    facts: &Facts,
-    index: &Index,
-    found: &Found,
-    sets: &mut [BitRow],
-    grown: &mut Queue,
-) -> Result<(), AllocError>
-    requires facts { InRange facts.now }
-    requires index { IsIndex facts.now index.now }
-    requires found { AreFound facts.now found.now }
-    requires asked { AreAsked facts.now found.now }
-    requires sets { AreSound facts.now sets.old }
-    ensures sets { OnOk result (AreSound facts.now sets.new) }
-    ensures closed { OnOk result (AreClosed facts.now sets.new) }
+fn run_rounds(given: &Given, sets: &mut [BitRow], grown: &mut Queue) -> Result<(), AllocError>
+    requires given { IsGiven given.now }
+    requires sets { AreSound given.now.facts.now sets.old }
+    ensures sets { OnOk result (AreSound given.now.facts.now sets.new) }
+    ensures closed { OnOk result (AreClosed given.now.facts.now sets.new) }
 {
     loop {
-        let more = close_all(alloc, facts, index, found, sets, grown)?;
+        let more = close_all(given, sets, grown)?;
         if !more {
             return Ok(());
         }

@@ -45,36 +45,6 @@ fn clear_base(facts: &Facts, now: &mut [BitRow], p: usize)
     row.clear();
 }
 
-/// Those sites of a set that are not in another.
-fn put_news(
-    facts: &Facts,
-    now: &mut [BitRow],
-    none: &mut Queue,
-    set: &BitRow,
-    seen: &BitRow,
-    p: usize,
-)
-    requires facts { InRange facts.now }
-    requires base { p < node_count facts.now }
-    requires now { AreSound facts.now now.old }
-    requires set { length set.now ≡ length facts.now.sites.items }
-    requires seen { length seen.now ≡ length facts.now.sites.items }
-    requires holds { (s : ℕ) → bit set.now s ≡ true → InNode facts.now p s }
-    ensures { AreSound facts.now now.new }
-{
-    let width = facts.sites.len() as u32;
-    let mut at = 0;
-    'scan: while at < width {
-        match next_site(facts, set, seen, at) {
-            Some(o) => {
-                put(facts, now, none, p, o);
-                at = o + 1;
-            }
-            None => return,
-        }
-    }
-}
-
 /// Whether most of a set is not in another. Then all of it is taken: sets that differ in a few sites that were gone over are one set so, and what
 /// is asked of one set is asked once.
 fn is_new_for_most(set: &BitRow, seen: &BitRow) -> bool {
@@ -101,8 +71,18 @@ fn put_base(
     clear_base(facts, now, p);
     if is_new_for_most(set, seen) {
         include_row(facts, now, none, set, p);
-    } else {
-        put_news(facts, now, none, set, seen, p);
+        return;
+    }
+    let width = facts.sites.len() as u32;
+    let mut at = 0;
+    'scan: while at < width {
+        match next_site(facts, set, seen, at) {
+            Some(o) => {
+                put(facts, now, none, p, o);
+                at = o + 1;
+            }
+            None => return,
+        }
     }
 }
 

@@ -5,7 +5,7 @@ use Rattle.std.specs.declared.vec.Vec.{Vec}
 use Rattle.std.specs.declared.alloc.Global.{Global}
 use Rattle.std.proofs.lemmas.List.Elements.{All-contains}
 use Rattle.std.proofs.lemmas.Bool.{cases_eq, or_cases, false≢true}
-use Rattle.kaba_bits.specs.Sets.{bit, row, GainsRow, HasWidth, IsEmpty}
+use Rattle.kaba_bits.specs.Sets.{bit, row, GainsRow, HasWidth, IsEmpty, IsNoneFrom}
 use Rattle.kaba_bits.proofs.RowLemmas.{HasWidth-kept, GainsRow-keeps}
 use Rattle.fact_model.specs.declared.facts.Facts.{Facts}
 use Rattle.fact_model.specs.Entries.{IsEntry}
@@ -14,6 +14,7 @@ use Rattle.points_to.specs.Listed.{numbers_at}
 use Rattle.table_rules.specs.Marks.{Marked, Grow, AreEntries}
 use Rattle.table_rules.specs.Closed.{ColumnFlows}
 use Rattle.table_rules.specs.Asked.{ArePairs, AreAsked, IsMethod, HaveMethods, place_of, IsNoted, IsMetAt, IsRowAsked, IsPlain, is_beyond}
+use Rattle.points_to.proofs.LoopLemmas.{pass_all}
 use Rattle.table_rules.proofs.CloseLemmas.{marked-column}
 
 module _ (F : Facts) (a b : List (List Bool)) (grows : Grow a b) where
@@ -62,9 +63,13 @@ module _ (F : Facts) (old new : List (List Bool)) (d : ℕ) (extra : List Bool) 
   }
 
 -- empty sets
-pub no_pairs : (F : Facts) (P : ℕ → ℕ → Type 0) (sets : List (List Bool)) → length sets ≡ length F.columns.items
-    → HasWidth (length F.columns.items) sets → ((k : ℕ) → IsEmpty (row sets k)) → ArePairs F P sets
-no_pairs F P sets len widths empty = record { len = len; widths = widths; sound = λ d c m. absurd (false≢true (sym (empty d c) ∙ m)) }
+pub no_pairs : (F : Facts) (P : ℕ → ℕ → Type 0) (sets : List (List Bool)) (n : ℕ) → n ≡ length F.columns.items → length sets ≡ n → HasWidth n sets
+    → ((k : ℕ) → IsEmpty (row sets k)) → ArePairs F P sets
+no_pairs F P sets n is len widths empty = record {
+  len = len ∙ is;
+  widths = subst (λ w. HasWidth w sets) is widths;
+  sound = λ d c m. absurd (false≢true (sym (empty d c) ∙ m));
+}
 
 -- a column with all of its slot
 module _ (F : Facts) (asked hidden : List (List Bool)) (d : ℕ) where
@@ -98,3 +103,9 @@ module _ (F : Facts) (rows asked : List (List Bool)) (q : ℕ) where
 
   pub met-past : AreEntries F rows → (d : ℕ) → length F.columns.items ≤ d → IsMetAt F rows asked q d
   met-past are d past has c by h = absurd (omega (arith, past, marked-column (length F.columns.items) rows q d are.widths has))
+
+  -- where from one column on each is plain, and those before it met, all have
+  pub all-met : (plain : List Bool) (at : ℕ) → AreEntries F rows → IsPlain F plain → IsNoneFrom (is_beyond plain rows q) at (length F.columns.items)
+      → ((d : ℕ) → d < at → IsMetAt F rows asked q d) → (d : ℕ) → IsMetAt F rows asked q d
+  all-met plain at are is none before = pass_all (IsMetAt F rows asked q) (is_beyond plain rows q) at (met-plain plain are is) (length F.columns.items) false
+      (met-past are) none before

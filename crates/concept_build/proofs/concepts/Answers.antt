@@ -26,3 +26,15 @@ pub places_of-requires : goal.places_of-requires
 places_of-requires c =
     let all = rw c.deref-2.ensures.value at c.in_ok-items.ensures.all in
     rw c.deref-3.ensures.value (columns-differ c.args.table.now.rows.items c.args.table.now.width c.in_ok-items.items.items all.concepts)
+
+pub placed_items-requires : goal.placed_items-requires
+placed_items-requires c =
+    let all = rw c.deref-2.ensures.value at c.in_ok-items.ensures.all in
+    record {
+      rows = rw c.deref-4.ensures.value (omega (arith, c.requires.rows));
+      widths = rw c.deref-4.ensures.value c.requires.widths;
+      counts = rw c.deref-4.ensures.value (rw c.deref.ensures.value at c.in_ok-counts.ensures);
+      small = rw c.deref-5.ensures.value (omega (arith, c.in_ok-items.ensures.within));
+      all = rw (c.deref-4.ensures.value, c.deref-5.ensures.value) all;
+      places = rw c.deref-5.ensures.value (rw c.deref-3.ensures.value at c.in_ok-places.ensures);
+    }

@@ -8,13 +8,13 @@ use Rattle.concept_build.proofs.placed_items.Goals as goal
 
 pub loop-k-preserved : goal.loop-k-preserved
 loop-k-preserved c =
-    let items = c.args.items.now in
+    let items = c.args.given.now.items.now in
     let done = c.loop-k.concepts.items in
     let k = c.loop-k.k in
     let x = c.in_ok-placed_item.field-0 in
     let lt : k < length items = omega arith in
     let len : length done ≡ k = sym (length-map done pair_of) ∙ (ap length c.loop-k.invariant.pairs ∙ length-take-le k items (omega arith)) in
-    let placed = IsPlaced c.args.table.now c.args.width (extents_of items) in
+    let placed = IsPlaced c.args.given.now.table.now c.args.given.now.width (extents_of items) in
     rw c.in_ok-push.ensures.items (record {
       pairs =
           map-append pair_of done (x ∷ [])

@@ -6,6 +6,6 @@ use Rattle.concept_build.proofs.placed_items.Given as goal
 
 abbrev pub invariant-loop-k : goal.invariant-loop-k
 invariant-loop-k l = record {
-  pairs : map pair_of l.concepts.items ≡ take l.k l.items;
-  placed : (j : ℕ) (d : Concept) → j < l.k → IsPlaced l.table l.width (extents_of l.items) j (slice_index_or l.concepts.items j d);
+  pairs : map pair_of l.concepts.items ≡ take l.k l.given.items.now;
+  placed : (j : ℕ) (d : Concept) → j < l.k → IsPlaced l.given.table.now l.given.width (extents_of l.given.items.now) j (slice_index_or l.concepts.items j d);
 }

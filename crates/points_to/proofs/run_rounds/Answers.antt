@@ -4,7 +4,7 @@ use Rattle.points_to.proofs.run_rounds.Goals as goal
 
 pub loop-more-smaller : goal.loop-more-smaller
 loop-more-smaller c =
-    let sites = length c.args.facts.now.sites.items in
+    let sites = length c.args.given.now.facts.now.sites.items in
     let step = c.in_ok-more.ensures in
     let grew = rw c.if-not-more.false at step.step in
     let new = c.close_all.new.sets in

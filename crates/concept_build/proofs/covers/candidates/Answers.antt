@@ -8,23 +8,24 @@ use Rattle.concept_build.proofs.covers.candidates.Goals as goal
 
 pub near_rows-requires-clause-widths : goal.near_rows-requires-clause-widths
 near_rows-requires-clause-widths c =
-    rw (c.item_at.ensures.item nothing, (c.requires.all.concepts.each c.args.k nothing c.requires.k).intent.len) c.requires.widths
+    rw (c.item_at.ensures.item nothing, (c.requires.given.all.concepts.each c.args.k nothing c.requires.k).intent.len) c.requires.given.widths
 
 pub near_rows-requires-clause-extent : goal.near_rows-requires-clause-extent
 near_rows-requires-clause-extent c =
-    rw (c.item_at.ensures.item nothing) (c.requires.all.concepts.each c.args.k nothing c.requires.k).extent
+    rw (c.item_at.ensures.item nothing) (c.requires.given.all.concepts.each c.args.k nothing c.requires.k).extent
 
 pub near_rows-requires-clause-counts : goal.near_rows-requires-clause-counts
 near_rows-requires-clause-counts c =
-    rw (c.item_at.ensures.item nothing, (c.requires.all.concepts.each c.args.k nothing c.requires.k).intent.len) c.requires.counts
+    rw (c.item_at.ensures.item nothing, (c.requires.given.all.concepts.each c.args.k nothing c.requires.k).intent.len) c.requires.given.counts
 
 pub closure_at-requires-clause-q : goal.closure_at-requires-clause-q
 closure_at-requires-clause-q c =
-    subst (All (λ q. q < length c.args.table.now)) (sym c.deref-q-items.ensures.value) c.in_ok-near.ensures.below c.loop-q.q-index 0 c.loop-q-test.true
+    subst (All (λ q. q < length c.args.given.now.table.now)) (sym c.deref-q-items.ensures.value) c.in_ok-near.ensures.below c.loop-q.q-index 0
+    c.loop-q-test.true
 
 pub loop-q-preserved : goal.loop-q-preserved
 loop-q-preserved c =
-    let E = extents_of c.args.items.now in
+    let E = extents_of c.args.given.now.items.now in
     let near = c.deref-q-items.result.now in
     let xs = c.loop-q.numbers.items in
     let n = c.loop-q.q-index in
@@ -45,9 +46,9 @@ loop-q-preserved c =
 
 pub returns : goal.returns
 returns c =
-    let T = c.args.table.now in
-    let xs = c.args.items.now in
+    let T = c.args.given.now.table.now in
+    let xs = c.args.given.now.items.now in
     let near = c.deref-q-items.result.now in
     let o = rw (c.item_at.ensures.item nothing, ← c.deref-q-items.ensures.value) at c.in_ok-near.ensures in
-    AreCandidates-all (extents_of xs) c.args.k T c.args.width xs c.loop-q.q-index near c.loop-q.numbers.items refl c.requires.all.concepts
+    AreCandidates-all (extents_of xs) c.args.k T c.args.given.now.width xs c.loop-q.q-index near c.loop-q.numbers.items refl c.requires.given.all.concepts
     c.requires.k o (omega arith) c.loop-q.invariant.len c.loop-q.invariant.closures

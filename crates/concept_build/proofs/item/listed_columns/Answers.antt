@@ -1,18 +1,14 @@
-use Rattle.std.proofs.Common.{◌<◌, [], ◌∷◌, length, take, filter, get_or, refl, sym, ap, ◌∙◌, zero-add, arith}
+use Rattle.std.proofs.Common.{[], ◌∷◌, take, filter, get_or, refl, sym, ap, ◌∙◌, zero-add, arith}
 use Rattle.std.specs.Prelude.{◌&&◌}
 use Rattle.std.proofs.lemmas.List.{take_more, take_all, append-nil}
 use Rattle.std.proofs.lemmas.List.Elements.{filter-append}
-use Rattle.kaba_bits.specs.Sets.{bit, rising}
-use Rattle.concept_build.proofs.KnownLemmas.{rising_from-below, filter-rising_from}
+use Rattle.kaba_bits.specs.Sets.{bit}
+use Rattle.concept_build.proofs.KnownLemmas.{listed-below, filter-rising_from}
 use Rattle.concept_build.proofs.item.listed_columns.Goals as goal
 use Rattle.concept_build.proofs.item.listed_columns.Goals.{then-has+in_ok-push, else-has}
 
 pub has-requires : goal.has-requires
-has-requires c =
-    let B = c.args.item.now.1 in
-    let i = c.loop-c.c-index in
-    let lt : i < length (rising B) = omega (arith, c.loop-c-test.true, ap length c.columns-c-items.ensures) in
-    rw c.columns-c-items.ensures (omega (arith, rising_from-below 0 B i 0 lt, c.requires))
+has-requires c = listed-below c.args.item.now.1 _ _ c.loop-c.c-index c.columns-c-items.ensures c.loop-c-test.true c.requires
 
 pub loop-c-preserved : goal.loop-c-preserved
 loop-c-preserved c =

@@ -4,16 +4,12 @@ use Rattle.std.proofs.lemmas.Bool.{cases_lt, true≢false}
 use Rattle.std.proofs.lemmas.List.{get_or_default}
 use Rattle.std.proofs.lemmas.List.Elements.{All-push, Contains-push, Contains-append_left}
 use Rattle.kaba_bits.specs.Sets.{bit, rising}
-use Rattle.concept_build.proofs.KnownLemmas.{rising_from-below, rising_from-has}
+use Rattle.concept_build.proofs.KnownLemmas.{listed-below, rising_from-has}
 use Rattle.concept_build.proofs.near.missed_columns.Goals as goal
 use Rattle.concept_build.proofs.near.missed_columns.Goals.{then-not-has+in_ok-push, else-not-has}
 
 pub has-requires : goal.has-requires
-has-requires c =
-    let B = c.args.item.now.1 in
-    let i = c.loop-c.c-index in
-    let lt : i < length (rising B) = omega (arith, c.loop-c-test.true, ap length c.columns-c-items.ensures) in
-    rw c.columns-c-items.ensures (omega (arith, rising_from-below 0 B i 0 lt, c.requires))
+has-requires c = listed-below c.args.item.now.1 _ _ c.loop-c.c-index c.columns-c-items.ensures c.loop-c-test.true c.requires
 
 pub loop-c-preserved : goal.loop-c-preserved
 loop-c-preserved c =
@@ -22,9 +18,7 @@ loop-c-preserved c =
     let i = c.loop-c.c-index in
     let old = c.loop-c.missed.items in
     let x = get_or xs i 0 in
-    let B = c.args.item.now.1 in
-    let lt : i < length (rising B) = omega (arith, c.loop-c-test.true, ap length c.columns-c-items.ensures) in
-    let below : x < length R = rw c.columns-c-items.ensures (omega (arith, rising_from-below 0 B i 0 lt, c.requires)) in
+    let below : x < length R = listed-below c.args.item.now.1 _ _ i c.columns-c-items.ensures c.loop-c-test.true c.requires in
     elim c.if-not-has.branch [
       | then-not-has+in_ok-push w ↦ rw (w.missed-is, w.in_ok-push.ensures.items) (record {
         missed = λ k d klt h.

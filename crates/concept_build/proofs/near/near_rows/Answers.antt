@@ -6,7 +6,7 @@ use Rattle.kaba_bits.proofs.SetLemmas.{bit-below}
 use Rattle.concept_build.specs.Tables.{IsFull}
 use Rattle.concept_build.proofs.NearLemmas.{SoFar-empty, SoFar-skip, SoFar-push, AreNear-all}
 use Rattle.concept_build.proofs.near.near_rows.Goals as goal
-use Rattle.concept_build.proofs.near.near_rows.Goals.{then-branch+in_ok-push+in_ok-pass_over, else-branch}
+use Rattle.concept_build.proofs.near.near_rows.Goals.{After-index-q, then-branch+in_ok-push+in_ok-pass_over, else-branch}
 
 pub loop-p-init : goal.loop-p-init
 loop-p-init c =
@@ -25,39 +25,38 @@ loop-p-init c =
 pub index-q-requires : goal.index-q-requires
 index-q-requires c = omega (arith, bit-below c.loop-p.left c.in-Some.p c.in-Some.ensures.holds, c.loop-p.invariant.len)
 
-pub is_news-requires : goal.is_news-requires
-is_news-requires c =
-    let T = c.args.table.now in
-    let found = c.loop-p.invariant.found in
+-- the row that stands for a place
+example : (c : After-index-q) → (c.in-Some.p < length c.args.counts.now.examples.items)
+    × (c.index-q.result.now ≡ get_or c.args.counts.now.examples.items c.in-Some.p 0)
+example c =
     let lt : c.in-Some.p < length c.args.counts.now.examples.items = omega (
       arith,
       bit-below c.loop-p.left c.in-Some.p c.in-Some.ensures.holds,
       c.loop-p.invariant.len,
     ) in
-    let is : c.index-q.result.now ≡ get_or c.args.counts.now.examples.items c.in-Some.p 0 = get_or_read c.args.counts.now.examples.items _ _ lt
-    c.index-q.ensures 0 in
+    (lt, get_or_read c.args.counts.now.examples.items _ _ lt c.index-q.ensures 0)
+
+pub is_news-requires : goal.is_news-requires
+is_news-requires c =
+    let T = c.args.table.now in
+    let found = c.loop-p.invariant.found in
+    let e = example (goal.at.is_news-requires c).After-index-q in
     record {
       widths = c.requires.widths;
       rows = c.requires.extent.len;
       wide = rw c.deref.ensures.value (λ k d lt. All-contains (λ m. m < length T) c.loop-p.near.items (get_or c.loop-p.wide.items k d) found.below
           (found.known (get_or c.loop-p.wide.items k d) (Contains-get_or c.loop-p.wide.items k d lt)));
-      q = rw is (c.requires.counts.examples.below c.in-Some.p 0 lt);
+      q = rw e.1 (c.requires.counts.examples.below c.in-Some.p 0 e.0);
     }
 
 pub pass_over-requires : goal.pass_over-requires
 pass_over-requires c =
-    let lt : c.in-Some.p < length c.args.counts.now.examples.items = omega (
-      arith,
-      bit-below c.loop-p.left c.in-Some.p c.in-Some.ensures.holds,
-      c.loop-p.invariant.len,
-    ) in
-    let is : c.index-q.result.now ≡ get_or c.args.counts.now.examples.items c.in-Some.p 0 = get_or_read c.args.counts.now.examples.items _ _ lt
-    c.index-q.ensures 0 in
+    let e = example (goal.at.pass_over-requires c).After-index-q in
     record {
       widths = c.requires.widths;
       counts = c.requires.counts;
       left = c.loop-p.invariant.len;
-      q = rw is (c.requires.counts.examples.below c.in-Some.p 0 lt);
+      q = rw e.1 (c.requires.counts.examples.below c.in-Some.p 0 e.0);
     }
 
 pub loop-p-preserved : goal.loop-p-preserved
@@ -73,8 +72,9 @@ loop-p-preserved c =
     let left = c.loop-p.left in
     let s = c.loop-p.invariant.found in
     let none = c.in-Some.ensures.least in
-    let lt : p < length ex = omega (arith, bit-below left p c.in-Some.ensures.holds, c.loop-p.invariant.len) in
-    let is : c.index-q.result.now ≡ get_or ex p 0 = get_or_read ex _ _ lt c.index-q.ensures 0 in
+    let e = example (goal.at.loop-p-preserved c).After-index-q in
+    let lt = e.0 in
+    let is = e.1 in
     elim c.if-branch.branch [
       | then-branch+in_ok-push+in_ok-pass_over w ↦
           let o = w.in_ok-pass_over.ensures in

@@ -1,31 +1,31 @@
-use Rattle.std.proofs.Common.{◌≡◌, true, length, arith, sym, ◌∙◌, subst, List, Bool, ap, take, drop, ◌++◌}
-use Rattle.std.proofs.lemmas.List.{with_items_is}
+use Rattle.std.proofs.Common.{◌≡◌, true, length, arith, sym, ◌∙◌, subst, ap, take, drop, ◌++◌}
 use Rattle.kaba_bits.specs.Sets.{bit, row, HasWidth}
 use Rattle.kaba_bits.proofs.SetLemmas.{bit-below}
 use Rattle.kaba_order.specs.Orders.{Ordered, is_live, IsPartialOrder, IsMerged, IsLeastMerged}
 use Rattle.kaba_order.proofs.MergeLemmas.{least_merged, among-All}
+use Rattle.kaba_order.proofs.StepLemmas.{ordered, stored}
 use Rattle.kaba_order.proofs.Order.merge.Goals as goal
-use Rattle.kaba_order.proofs.Order.merge.Goals.{After-merge_rows}
+use Rattle.kaba_order.proofs.Order.merge.Goals.{After-least_of-m, After-merge_rows}
+
+-- what is known of the order and of the node that is made of others
+known : (c : After-least_of-m) → IsPartialOrder c.args.self.now × (c.self.inside.le.items ≡ c.args.self.now.le)
+    × (is_live c.args.self.now c.least_of-m.result.0 ≡ true)
+known c = (
+  subst IsPartialOrder c.self.view_is c.self.invariant,
+  ap (λ (o : Ordered). o.le) c.self.view_is,
+  among-All (λ s. is_live c.args.self.now s ≡ true) c.args.set.now c.requires.live c.least_of-m.result.0 c.least_of-m.ensures.among,
+)
 
 pub merge_rows-requires-clause-m : goal.merge_rows-requires-clause-m
 merge_rows-requires-clause-m c =
-    let old = c.args.self.now in
-    let order : IsPartialOrder old = subst IsPartialOrder c.self.view_is c.self.invariant in
-    let le : c.self.inside.le.items ≡ old.le = ap (λ (o : Ordered). o.le) c.self.view_is in
-    let m = c.least_of-m.result.0 in
-    let live = among-All (λ s. is_live old s ≡ true) c.args.set.now c.requires.live m c.least_of-m.ensures.among in
-    let lt = bit-below old.live m live in
-    let len = ap (λ l. length l) (c.deref_mut.ensures.value ∙ le) in
-    omega (arith, lt, len, order.count)
+    let k = known (goal.at.merge_rows-requires-clause-m c).After-least_of-m in
+    omega (arith, bit-below c.args.self.now.live c.least_of-m.result.0 k.2, ap (λ l. length l) (c.deref_mut.ensures.value ∙ k.1), k.0.count)
 
 pub merge_rows-requires-clause-reflexive : goal.merge_rows-requires-clause-reflexive
 merge_rows-requires-clause-reflexive c =
-    let old = c.args.self.now in
-    let order : IsPartialOrder old = subst IsPartialOrder c.self.view_is c.self.invariant in
-    let le : c.self.inside.le.items ≡ old.le = ap (λ (o : Ordered). o.le) c.self.view_is in
+    let k = known (goal.at.merge_rows-requires-clause-reflexive c).After-least_of-m in
     let m = c.least_of-m.result.0 in
-    let live = among-All (λ s. is_live old s ≡ true) c.args.set.now c.requires.live m c.least_of-m.ensures.among in
-    subst (λ l. bit (row l m) m ≡ true) (sym (c.deref_mut.ensures.value ∙ le)) (order.reflexive m live)
+    subst (λ l. bit (row l m) m ≡ true) (sym (c.deref_mut.ensures.value ∙ k.1)) (k.0.reflexive m k.2)
 
 abbrev made : After-merge_rows → Ordered
 made c = record { live = c.keep_one.new.live; le = c.merge_rows.new.le }
@@ -50,15 +50,10 @@ least c =
     (among-All (λ s. is_live old s ≡ true) set c.requires.live) c.in_default.ensures
 
 -- the field after the call is the list that the call left
-whole : (c : After-merge_rows)
-    → made c ≡ record {
-      live = c.keep_one.new.live;
-      le = take c.self.inside.le.len (c.merge_rows.new.le ++ drop (length c.merge_rows.new.le)
-          c.self.inside.le.items);
-    }
-whole c = ap (λ (l : List (List Bool)). let o : Ordered = record { live = c.keep_one.new.live; le = l } in o)
-    (sym (with_items_is c.self.inside.le c.merge_rows.new.le (c.merge_rows.ensures.len ∙ (ap (λ l. length l) c.deref_mut.ensures.value
-    ∙ sym c.self.inside.le.ok.0))))
+whole : (c : After-merge_rows) → made c ≡ ordered c.keep_one.new.live (take c.self.inside.le.len (c.merge_rows.new.le ++ drop (length c.merge_rows.new.le)
+    c.self.inside.le.items))
+whole c = stored c.keep_one.new.live c.self.inside.le c.merge_rows.new.le (c.merge_rows.ensures.len
+    ∙ (ap length c.deref_mut.ensures.value ∙ sym c.self.inside.le.ok.0))
 
 pub invariant_of-self : goal.invariant_of-self
 invariant_of-self c = subst IsPartialOrder (whole (goal.at.invariant_of-self c).After-merge_rows) ((least (goal.at.invariant_of-self c).After-merge_rows).order)

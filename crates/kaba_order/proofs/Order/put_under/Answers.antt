@@ -1,9 +1,8 @@
-use Rattle.std.proofs.Common.{◌≡◌, true, length, sym, ◌∙◌, subst, List, Bool, ap, ⊎_elim, take, drop, ◌++◌}
-use Rattle.std.proofs.lemmas.List.{with_items_is}
+use Rattle.std.proofs.Common.{◌≡◌, true, length, sym, ◌∙◌, subst, ap, ⊎_elim, take, drop, ◌++◌}
 use Rattle.std.proofs.lemmas.Bool.{cases_eq, false≢true}
 use Rattle.kaba_bits.specs.Sets.{HasWidth}
 use Rattle.kaba_order.specs.Orders.{Ordered, is_le, IsPartialOrder, IsLeastWith}
-use Rattle.kaba_order.proofs.StepLemmas.{least_under}
+use Rattle.kaba_order.proofs.StepLemmas.{least_under, ordered, stored}
 use Rattle.kaba_order.proofs.Order.put_under.Goals as goal
 use Rattle.kaba_order.proofs.Order.put_under.Goals.{After-close_under}
 
@@ -28,15 +27,10 @@ least c =
     least_under old (made c) n p order count widths live rows c.requires.n c.requires.p apart
 
 -- the field after the call is the list that the call left
-whole : (c : After-close_under)
-    → made c ≡ record {
-      live = c.self.inside.live;
-      le = take c.self.inside.le.len (c.close_under.new.le ++ drop (length c.close_under.new.le)
-          c.self.inside.le.items);
-    }
-whole c = ap (λ (l : List (List Bool)). let o : Ordered = record { live = c.self.inside.live; le = l } in o)
-    (sym (with_items_is c.self.inside.le c.close_under.new.le (c.close_under.ensures.len
-    ∙ (ap length c.deref_mut.ensures.value ∙ sym c.self.inside.le.ok.0))))
+whole : (c : After-close_under) → made c ≡ ordered c.self.inside.live (take c.self.inside.le.len (c.close_under.new.le ++ drop (length c.close_under.new.le)
+    c.self.inside.le.items))
+whole c = stored c.self.inside.live c.self.inside.le c.close_under.new.le (c.close_under.ensures.len
+    ∙ (ap length c.deref_mut.ensures.value ∙ sym c.self.inside.le.ok.0))
 
 pub invariant_of-self : goal.invariant_of-self
 invariant_of-self c = subst IsPartialOrder (whole (goal.at.invariant_of-self c).After-close_under)

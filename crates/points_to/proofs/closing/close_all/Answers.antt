@@ -9,8 +9,10 @@ returns-clause-closed c =
     let writes = c.in_ok-writes in
     let runs = c.in_ok-runs in
     let same = c.in_ok-bases.ensures in
-    turn_closed c.args.facts.now c.args.found.now told.new.sets c.close_edges.new.sets c.close_reads.new.sets c.close_writes.new.sets c.close_runs.new.sets
-    c.requires.asked told.result edges.edges reads.reads writes.writes runs.runs edges.ensures.step reads.ensures.step writes.ensures.step runs.ensures.step
+    turn_closed c.args.given.now.facts.now c.args.given.now.found.now told.new.sets c.close_edges.new.sets c.close_reads.new.sets
+    c.close_writes.new.sets c.close_runs.new.sets
+    c.requires.given.asked told.result edges.edges reads.reads writes.writes runs.runs edges.ensures.step reads.ensures.step writes.ensures.step
+    runs.ensures.step
     (rw c.deref.ensures.value at told.ensures.closed) (rw c.deref-3.ensures.value at edges.ensures.closed)
     (rw (c.deref-4.ensures.value, same, c.deref-5.ensures.value) at reads.ensures.closed)
     (rw (c.deref-6.ensures.value, same, c.deref-7.ensures.value) at writes.ensures.closed)

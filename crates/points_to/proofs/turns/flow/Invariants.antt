@@ -2,4 +2,4 @@ use Rattle.points_to.specs.Sound.{AreSound}
 use Rattle.points_to.proofs.turns.flow.Given as goal
 
 abbrev pub invariant-loop-turn : goal.invariant-loop-turn
-invariant-loop-turn l = AreSound l.facts l.sets
+invariant-loop-turn l = AreSound l.given.facts.now l.sets

@@ -2,4 +2,4 @@ use Rattle.points_to.specs.Sound.{AreSound}
 use Rattle.points_to.proofs.turns.pass_all.Given as goal
 
 abbrev pub invariant-loop-i : goal.invariant-loop-i
-invariant-loop-i l = AreSound l.facts l.sets
+invariant-loop-i l = AreSound l.given.facts.now l.sets

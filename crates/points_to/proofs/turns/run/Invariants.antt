@@ -3,6 +3,6 @@ use Rattle.points_to.proofs.turns.run.Given as goal
 
 abbrev pub invariant-loop-turn : goal.invariant-loop-turn
 invariant-loop-turn l = record {
-  now : AreSound l.facts l.bases.now.items;
-  sets : AreSound l.facts l.sets;
+  now : AreSound l.given.facts.now l.bases.now.items;
+  sets : AreSound l.given.facts.now l.sets;
 }

@@ -1,6 +1,5 @@
-use Rattle.std.proofs.Common.{◌≡◌, length, ◌∙◌, subst, arith}
+use Rattle.std.proofs.Common.{arith}
 use Rattle.std.proofs.lemmas.List.{with_items_is}
-use Rattle.kaba_bits.specs.Sets.{HasWidth}
 use Rattle.fact_model.specs.Entries.{Hides}
 use Rattle.table_rules.specs.Closed.{ColumnFlows}
 use Rattle.table_rules.proofs.AskLemmas.{no_pairs}
@@ -8,19 +7,13 @@ use Rattle.table_rules.proofs.asked.columns_of.Goals as goal
 
 pub note_columns-requires-clause-asked : goal.note_columns-requires-clause-asked
 note_columns-requires-clause-asked c =
-    let F = c.args.facts.now in
-    let sets = c.in_ok-asked.asked.items in
     let made = c.in_ok-asked.ensures in
-    let n : c.len-count.result ≡ length F.columns.items = omega arith in
-    rw c.deref_mut.ensures.value (no_pairs F (ColumnFlows F) sets (made.len ∙ n) (subst (λ w. HasWidth w sets) n made.widths) made.empty)
+    rw c.deref_mut.ensures.value (no_pairs c.args.facts.now (ColumnFlows c.args.facts.now) _ c.len-count.result (omega arith) made.len made.widths made.empty)
 
 pub note_columns-requires-clause-hidden : goal.note_columns-requires-clause-hidden
 note_columns-requires-clause-hidden c =
-    let F = c.args.facts.now in
-    let sets = c.in_ok-hidden.hidden.items in
     let made = c.in_ok-hidden.ensures in
-    let n : c.len-count.result ≡ length F.columns.items = omega arith in
-    rw c.deref_mut-2.ensures.value (no_pairs F (Hides F) sets (made.len ∙ n) (subst (λ w. HasWidth w sets) n made.widths) made.empty)
+    rw c.deref_mut-2.ensures.value (no_pairs c.args.facts.now (Hides c.args.facts.now) _ c.len-count.result (omega arith) made.len made.widths made.empty)
 
 pub returns : goal.returns
 returns c =

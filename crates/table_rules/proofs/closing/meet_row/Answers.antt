@@ -1,8 +1,8 @@
-use Rattle.std.proofs.Common.{false, length, arith}
-use Rattle.points_to.proofs.LoopLemmas.{pass_to, pass_all}
+use Rattle.std.proofs.Common.{false, arith}
+use Rattle.points_to.proofs.LoopLemmas.{pass_to}
 use borrow.Author.Count.{below_more}
 use Rattle.table_rules.specs.Asked.{IsMetAt, is_beyond}
-use Rattle.table_rules.proofs.AskLemmas.{met_more, grow_then, met-plain, met-past}
+use Rattle.table_rules.proofs.AskLemmas.{met_more, grow_then, met-plain, all-met}
 use Rattle.table_rules.proofs.closing.meet_row.Goals as goal
 
 pub scan-preserved : goal.scan-preserved
@@ -24,22 +24,9 @@ scan-preserved c =
     }
 
 pub returns-in-None-clause-met : goal.returns-in-None-clause-met
-returns-in-None-clause-met c =
-    let F = c.args.facts.now in
-    let rows = c.args.rows.now in
-    let q = c.args.q in
-    let plain = c.args.index.now.plain in
-    pass_all (IsMetAt F rows c.scan.asked q) (is_beyond plain rows q) c.scan.at
-    (met-plain F rows c.scan.asked q plain c.requires.state.entries c.requires.index.plain) (length F.columns.items) false
-    (met-past F rows c.scan.asked q c.requires.state.entries) c.in-None.ensures.least c.scan.invariant.met
+returns-in-None-clause-met c = all-met c.args.facts.now c.args.rows.now c.scan.asked c.args.q c.args.index.now.plain c.scan.at c.requires.state.entries
+    c.requires.index.plain c.in-None.ensures.least c.scan.invariant.met
 
 pub returns-clause-met : goal.returns-clause-met
-returns-clause-met c =
-    let F = c.args.facts.now in
-    let rows = c.args.rows.now in
-    let q = c.args.q in
-    let plain = c.args.index.now.plain in
-    pass_all (IsMetAt F rows c.scan.asked q) (is_beyond plain rows q) c.scan.at
-    (met-plain F rows c.scan.asked q plain c.requires.state.entries c.requires.index.plain) (length F.columns.items) false
-    (met-past F rows c.scan.asked q c.requires.state.entries) (λ k low lt. absurd (omega (arith, low, lt, c.scan-test.false, c.len-width.ensures)))
-    c.scan.invariant.met
+returns-clause-met c = all-met c.args.facts.now c.args.rows.now c.scan.asked c.args.q c.args.index.now.plain c.scan.at c.requires.state.entries
+    c.requires.index.plain (λ k low lt. absurd (omega (arith, low, lt, c.scan-test.false, c.len-width.ensures))) c.scan.invariant.met

@@ -1,0 +1,15 @@
+use Rattle.points_to.specs.Work.{IsRead, IsWrite, IsRun}
+use Rattle.points_to.proofs.MadeLemmas.{all_among}
+use Rattle.points_to.proofs.turns.turn_news.Goals as goal
+
+pub close_reads-requires-clause-reads : goal.close_reads-requires-clause-reads
+close_reads-requires-clause-reads c = rw c.deref-5.ensures.value (all_among (IsRead c.args.given.now.facts.now) _ _ c.requires.given.found.reads
+    (rw c.deref.ensures.value at c.in_ok-reads.ensures))
+
+pub close_writes-requires-clause-writes : goal.close_writes-requires-clause-writes
+close_writes-requires-clause-writes c = rw c.deref-7.ensures.value (all_among (IsWrite c.args.given.now.facts.now) _ _ c.requires.given.found.writes
+    (rw c.deref-2.ensures.value at c.in_ok-writes.ensures))
+
+pub close_runs-requires-clause-runs : goal.close_runs-requires-clause-runs
+close_runs-requires-clause-runs c = rw c.deref-9.ensures.value (all_among (IsRun c.args.given.now.facts.now) _ _ c.requires.given.found.runs
+    (rw c.deref-3.ensures.value at c.in_ok-runs.ensures))
