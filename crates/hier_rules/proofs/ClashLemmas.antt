@@ -1,5 +1,5 @@
 -- Columns of one name, and those that a node offers.
-use Rattle.std.proofs.Common.{◌≡◌, ℕ, suc, zero, ◌+◌, ◌<◌, ◌-◌, ◌≤◌, ◌⊎◌, ◌&&◌, ◌||◌, cond, Bool, true, false, List, [], ◌∷◌, ◌++◌, length, get_or, Contains, Option, Some, None, add-one, refl, sym, ap, ◌∙◌, subst, arith, ⊎_elim, inl, inr}
+use Rattle.std.proofs.Common.{◌≡◌, ℕ, suc, zero, ◌+◌, ◌<◌, ◌-◌, ◌≤◌, ◌⊎◌, ◌&&◌, cond, Bool, true, false, List, [], ◌∷◌, ◌++◌, length, get_or, Contains, Option, Some, None, add-one, refl, sym, ap, ◌∙◌, subst, arith, ⊎_elim, inl, inr}
 use Rattle.std.specs.Str.{bytes_eq, encode_utf8_all}
 use Rattle.std.specs.List.Sorted.{IsNonDecreasingBy}
 use Rattle.std.proofs.lemmas.List.Sorted.{IsNonDecreasingBy-push}
@@ -11,14 +11,13 @@ use Rattle.kaba_bits.proofs.FirstLemmas.{first_below_clear, first_below_found}
 use Rattle.fact_model.specs.declared.facts.Facts.{Facts}
 use Rattle.hier_model.specs.Hierarchies.{Hierarchy, is_offered, member_name, any_below}
 use Rattle.hier_model.proofs.AnyLemmas.{any_below_some, any_below_has}
-use Rattle.hier_rules.specs.declared.broken.Broken.{Broken}
 use Rattle.hier_rules.specs.declared.broken.Rule.TheVariants.{B8}
 use Rattle.hier_rules.specs.declared.clashes.ClashPair.{ClashPair}
 use Rattle.hier_rules.specs.Instances.{of_column}
 use Rattle.hier_rules.specs.Names.{clash, is_confused, confused}
 use Rattle.hier_rules.specs.Namesakes.{last_of, AreLinks, AreClashes, offers_both}
 use Rattle.hier_rules.proofs.NameLemmas.{same_test, encodes-same}
-use Rattle.hier_rules.proofs.TakenLemmas.{bytes_same, bytes_of, bytes_sym}
+use Rattle.hier_rules.proofs.TakenLemmas.{bytes_same, bytes_of}
 
 -- texts are the same exactly where their names are
 pub text_test : (a b : List ℕ) → bytes_eq (encode_utf8_all a) (encode_utf8_all b) ≡ bytes_eq a b

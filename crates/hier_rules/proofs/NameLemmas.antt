@@ -1,21 +1,19 @@
 -- Names by their texts, nodes that are not live, and columns that clash.
-use Rattle.std.proofs.Common.{◌≡◌, ℕ, suc, zero, ◌+◌, ◌<◌, ◌&&◌, ◌||◌, eqb, Bool, true, false, List, [], ◌∷◌, length, get_or, Contains, Option, Some, None, refl, sym, ap, ◌∙◌, subst, arith, ⊎_elim}
+use Rattle.std.proofs.Common.{◌≡◌, ℕ, suc, zero, ◌+◌, ◌<◌, ◌&&◌, ◌||◌, eqb, Bool, true, false, List, [], ◌∷◌, length, get_or, Option, Some, None, refl, sym, ap, ◌∙◌, subst, arith, ⊎_elim}
 use Rattle.std.specs.Prelude.{nat_lt}
-use Rattle.std.specs.List.{list_all, list_any}
+use Rattle.std.specs.List.{list_all}
 use Rattle.std.specs.Str.{chars, encode_utf8_all}
 use Rattle.std.proofs.lemmas.Bool.{cases_Bool, cases_order, and_parts, and_from, or_cases, or_right, eq-eqb, ne_eqb, lt-ltb, ltb-true, false≢true}
-use Rattle.std.proofs.lemmas.List.{get_or_default}
-use Rattle.std.proofs.lemmas.List.Folds.{list_any_at}
 use Rattle.std.proofs.lemmas.Str.{cons_from_encodes, chars-IsAscii}
 use Rattle.kaba_base.specs.declared.NodeId.{NodeId}
-use Rattle.kaba_bits.specs.Sets.{bit, Meet, first_below, ListsBelow}
+use Rattle.kaba_bits.specs.Sets.{bit, first_below}
 use Rattle.kaba_bits.proofs.FirstLemmas.{first_below_clear}
 use Rattle.kaba_bits.proofs.SetLemmas.{bit-below}
 use Rattle.kaba_order.specs.Orders.{is_le, is_live, IsPartialOrder}
 use Rattle.fact_model.specs.Items.{site_at, site_row, column_kind}
 use Rattle.fact_model.specs.declared.facts.Facts.{Facts}
-use Rattle.hier_model.specs.Hierarchies.{Hierarchy, place_of_column, place_of_row, is_above, is_offered, any_below, has_class_member, has_object, is_class_node, is_of_class}
-use Rattle.hier_model.proofs.AnyLemmas.{any_below_some, any_below_has}
+use Rattle.hier_model.specs.Hierarchies.{Hierarchy, place_of_column, place_of_row, is_above, is_offered, has_class_member, has_object, is_class_node, is_of_class}
+use Rattle.hier_model.proofs.AnyLemmas.{any_below_some}
 use Rattle.hier_rules.specs.Names.{clash, confused}
 
 pub same_test : (a b : Bool) → (a ≡ true → b ≡ true) → (b ≡ true → a ≡ true) → a ≡ b
@@ -43,7 +41,7 @@ not_true : (b : Bool) → (b ≡ true → ⊥) → b ≡ false
 not_true b n = ⊎_elim (λ t. absurd (n t)) (λ f. f) (cases_Bool b)
 
 -- a test of the numbers below a bound, one number on
-pub one_more : (k : ℕ → Bool) (c x : ℕ) → ((nat_lt x c && k x) || (eqb c x && k c)) ≡ (nat_lt x (c + 1) && k x)
+one_more : (k : ℕ → Bool) (c x : ℕ) → ((nat_lt x c && k x) || (eqb c x && k c)) ≡ (nat_lt x (c + 1) && k x)
 one_more k c x =
     ⊎_elim
     (λ e. same_test ((nat_lt x c && k x) || (eqb c x && k c)) (nat_lt x (c + 1) && k x)
@@ -66,6 +64,14 @@ one_more k c x =
     or_false : (b : Bool) → (b || false) ≡ b
     or_false true = refl
     or_false false = refl
+
+-- the numbers below a bound that pass a test, marked: with one number more, and at the end
+pub marked_next : (k : ℕ → Bool) (n : ℕ) (old new : List Bool) → ((x : ℕ) → bit new x ≡ (bit old x || (eqb n x && k n)))
+    → ((x : ℕ) → bit old x ≡ (nat_lt x n && k x)) → (x : ℕ) → bit new x ≡ (nat_lt x (n + 1) && k x)
+marked_next k n old new step known x = step x ∙ ap (λ b. b || (eqb n x && k n)) (known x) ∙ one_more k n x
+
+pub marked_all : (k : ℕ → Bool) (i n : ℕ) (xs : List Bool) → i ≡ n → ((x : ℕ) → bit xs x ≡ (nat_lt x i && k x)) → (x : ℕ) → bit xs x ≡ (nat_lt x n && k x)
+marked_all k i n xs e known x = known x ∙ ap (λ (j : ℕ). nat_lt x j && k x) e
 
 module _ (F : Facts) (H : Hierarchy) (P : IsPartialOrder H.order) where
   -- what a node offers, and what is at or above it, only a live one has

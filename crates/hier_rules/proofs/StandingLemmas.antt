@@ -1,14 +1,14 @@
 -- The first column of a rising list that stands at a node.
-use Rattle.std.proofs.Common.{◌≡◌, ℕ, ◌+◌, ◌<◌, ◌≤◌, ◌⊎◌, ◌&&◌, Bool, true, false, List, length, get_or, Contains, Option, Some, None, All, refl, sym, ap, ◌∙◌, subst, arith, ⊎_elim, inl, inr}
-use Rattle.std.proofs.lemmas.Bool.{cases_Bool, cases_lt, cases_order, and_parts, and_from, false≢true}
+use Rattle.std.proofs.Common.{◌≡◌, ℕ, ◌+◌, ◌<◌, ◌⊎◌, ◌&&◌, Bool, true, false, cond, List, [], ◌∷◌, ◌++◌, length, get_or, Contains, Some, None, All, refl, sym, ap, ◌∙◌, subst, arith, ⊎_elim, inl, inr}
+use Rattle.std.proofs.lemmas.Bool.{cases_Bool, cases_order, and_parts, and_from, false≢true}
 use Rattle.std.proofs.lemmas.List.{get_or_default}
 use Rattle.std.proofs.lemmas.List.Elements.{Contains-get_or, All-from_get_or}
 use Rattle.std.proofs.lemmas.List.Kept.{AllPairs-from_increasing}
 use Rattle.kaba_bits.specs.Sets.{first_below, when, ListsBelow}
+use Rattle.kaba_bits.proofs.ListLemmas.{ListsBelow-empty, ListsBelow-step}
 use Rattle.kaba_bits.proofs.FirstLemmas.{first_below_clear, first_below_found, first_below_same}
-use Rattle.fact_model.specs.Items.{column_kind}
 use Rattle.fact_model.specs.declared.facts.Facts.{Facts}
-use Rattle.hier_model.specs.Hierarchies.{Hierarchy, stands_at, member_name}
+use Rattle.hier_model.specs.Hierarchies.{Hierarchy, stands_at}
 use Rattle.hier_rules.specs.declared.broken.Rule.TheVariants.{B8}
 use Rattle.hier_rules.specs.Instances.{of_column}
 use Rattle.hier_rules.specs.Names.{unwritable, taken_field}
@@ -17,6 +17,19 @@ use Rattle.hier_rules.specs.Namesakes.{is_unwritable_member, is_taken_field, fir
 -- all numbers of such a list are below the bound
 pub listed_below : (P : ℕ → Type 0) (n : ℕ) (xs : List ℕ) → ListsBelow P n xs → All (λ c. c < n) xs
 listed_below P n xs l = All-from_get_or (λ c. c < n) xs 0 (λ k lt. ((l.each (get_or xs k 0)).0 (Contains-get_or xs k 0 lt)).0)
+
+-- the list of the numbers below a bound that pass a test: at first, with one number more, and at the end
+module _ (p : ℕ → Bool) where
+  pub listed_none : (xs : List ℕ) → xs ≡ [] → ListsBelow (λ k. p k ≡ true) 0 xs
+  listed_none xs e = subst (λ (l : List ℕ). ListsBelow (λ k. p k ≡ true) 0 l) (sym e) (ListsBelow-empty (λ k. p k ≡ true))
+
+  pub listed_next : (n : ℕ) (b : Bool) (xs new : List ℕ) → b ≡ p n → new ≡ xs ++ cond b (n ∷ []) [] → ListsBelow (λ k. p k ≡ true) n xs
+      → ListsBelow (λ k. p k ≡ true) (n + 1) new
+  listed_next n b xs new is step l = subst (λ (ys : List ℕ). ListsBelow (λ k. p k ≡ true) (n + 1) ys) (sym step)
+      (ListsBelow-step (λ k. p k ≡ true) n xs l b ((λ h. sym is ∙ h), (λ h. is ∙ h)))
+
+  pub listed_all : (i n : ℕ) (xs : List ℕ) → i ≡ n → ListsBelow (λ k. p k ≡ true) i xs → ListsBelow (λ k. p k ≡ true) n xs
+  listed_all i n xs e l = subst (λ (j : ℕ). ListsBelow (λ k. p k ≡ true) j xs) e l
 
 module _ (F : Facts) (H : Hierarchy) (n : ℕ) (p : ℕ → Bool) (xs : List ℕ) (l : ListsBelow (λ c. p c ≡ true) (length F.columns.items) xs) (i : ℕ)
     (none : (j : ℕ) → j < i → stands_at H n (get_or xs j 0) ≡ false) where

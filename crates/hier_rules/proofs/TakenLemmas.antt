@@ -1,12 +1,11 @@
 -- Names that types and fields cannot have.
-use Rattle.std.proofs.Common.{◌≡◌, ◌≢◌, ℕ, suc, ◌+◌, ◌<◌, ◌&&◌, ◌||◌, eqb, not, Bool, true, false, List, length, add-one, refl, sym, ap, ◌∙◌, subst, arith, ⊎_elim}
+use Rattle.std.proofs.Common.{◌≡◌, ◌≢◌, ℕ, ◌+◌, ◌<◌, ◌&&◌, ◌||◌, eqb, not, Bool, true, false, List, length, add-one, refl, sym, ap, ◌∙◌, arith, ⊎_elim}
 use Rattle.std.specs.Str.{bytes_eq}
-use Rattle.std.proofs.lemmas.Bool.{cases_Bool, cases_eq, cases_lt, and_parts, and_from, or_cases, eqb-true, ne_eqb, false≢true, eq-eqb}
+use Rattle.std.proofs.lemmas.Bool.{cases_eq, cases_lt, and_parts, and_from, ne_eqb, false≢true, eq-eqb}
 use Rattle.std.proofs.lemmas.Slice.Eq.{bytes_eq-Decides}
 use Rattle.kaba_order.specs.Orders.{is_live}
 use Rattle.fact_model.specs.declared.facts.Facts.{Facts}
 use Rattle.hier_model.specs.Hierarchies.{Hierarchy, type_name, any_below}
-use Rattle.hier_model.specs.Names.{is_taken}
 use Rattle.hier_model.proofs.AnyLemmas.{any_below_some, any_below_has}
 use Rattle.hier_rules.specs.Names.{is_named, is_other_type}
 use Rattle.hier_rules.specs.Namesakes.{is_twice}

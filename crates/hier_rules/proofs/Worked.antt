@@ -1,5 +1,5 @@
 -- Worked hierarchies of three class nodes, of which one stands below the two others: these unordered, and one below the other.
-use Rattle.std.proofs.Common.{◌≡◌, ℕ, Bool, true, false, List, [], ◌∷◌, Option, Some, None, refl, lit≤, lit<}
+use Rattle.std.proofs.Common.{◌≡◌, ℕ, Bool, true, false, List, [], ◌∷◌, Some, None, refl, lit≤, lit<}
 use Rattle.std.specs.declared.vec.Vec.{Vec}
 use Rattle.std.specs.declared.alloc.Global.{Global}
 use Rattle.fact_model.specs.declared.facts.Facts.{Facts}

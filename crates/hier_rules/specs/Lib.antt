@@ -6,3 +6,4 @@ pub mod Namesakes
 pub mod Takens
 pub mod Chains
 pub mod First
+pub mod Places

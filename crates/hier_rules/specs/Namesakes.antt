@@ -3,7 +3,7 @@ use Rattle.std.specs.Prelude.{◌≡◌, ℕ, suc, zero, ◌<◌, ◌≤◌, ◌
 use Rattle.std.specs.List.Sorted.{IsNonDecreasingBy}
 use Rattle.std.specs.Str.{bytes_eq}
 use Rattle.kaba_base.specs.Words.{is_name}
-use Rattle.kaba_bits.specs.Sets.{first_below, when}
+use Rattle.kaba_bits.specs.Sets.{first_below, when, ListsBelow}
 use Rattle.fact_model.specs.Items.{column_kind}
 use Rattle.fact_model.specs.declared.facts.Facts.{Facts}
 use Rattle.hier_model.specs.Hierarchies.{Hierarchy, is_offered, stands_at, member_name, any_below}
@@ -48,6 +48,10 @@ is_unwritable_member F H c = is_member (column_kind F c) && not (is_name (member
 -- whether a column is a field whose name is taken
 abbrev pub is_taken_field : Facts → Hierarchy → ℕ → Bool
 is_taken_field F H c = is_field (column_kind F c) && is_taken_name F H c
+
+-- a rising list of exactly the columns that pass a test
+abbrev pub ListsColumns : Facts → (ℕ → Bool) → List ℕ → Type 0
+ListsColumns F p list = ListsBelow (λ c. p c ≡ true) (length F.columns.items) list
 
 -- the first column at a node that passes a test
 abbrev pub first_standing : Facts → Hierarchy → ℕ → (ℕ → Bool) → Option Broken

@@ -3,25 +3,22 @@
 ghost use Rattle.std.specs.Prelude.{◌≡◌, ℕ, ◌<◌, ◌↔◌, ◌==◌, ◌++◌, ◌∷◌, [], true, cond, length, IfOk, OnOk, Contains};
 ghost use Rattle.std.specs.Option.{option_and_then};
 ghost use Rattle.std.specs.List.Sorted.{IsNonDecreasing};
-ghost use Rattle.kaba_bits.specs.Sets.{bit, row, first_below, HasWidth};
+ghost use Rattle.kaba_bits.specs.Sets.{bit, row, first_below};
 ghost use Rattle.kaba_order.specs.Orders.{is_live};
 ghost use Rattle.fact_model.specs.Items.{site_class, column_kind, column_class, column_slot, row_class};
 ghost use Rattle.fact_model.specs.Classes.{is_def, finds};
-ghost use Rattle.fact_model.specs.InRange.{InRange};
-ghost use Rattle.fact_model.specs.Flowing.{AreSets};
-ghost use Rattle.hier_model.specs.Hierarchies.{IsHierarchyOf};
 ghost use Rattle.hier_rules.specs.Asked.{is_super, is_called, slots_of, is_one_slot, is_other_body};
 ghost use Rattle.hier_rules.specs.Instances.{of_column};
 ghost use Rattle.hier_rules.specs.Obligations.{is_nearer, has_nearer, wrong_body, wrong_need, first_wrong_need, is_between, has_between, wrong_super, first_wrong_super, is_body_at, two_bodies, first_two_bodies};
+ghost use Rattle.hier_rules.specs.Places.{IsAsked};
 
 use crate::broken::{Broken, Nodes, Rule};
 use crate::pairs::super_rows;
 use crate::places::{
-    column_at, column_le, is_above, is_offered, node_count, place_of_row, site_at, stands_at,
+    Asked, column_at, column_le, is_above, is_offered, node_count, place_of_row, site_at, stands_at,
 };
 use crate::rows::of_both;
-use fact_model::{CallInfo, ColKind, Facts, PointsTo, finds};
-use hier_model::Hier;
+use fact_model::{CallInfo, ColKind, Facts, finds};
 use kaba_base::{ColId, NodeId};
 use kaba_bits::{BitRow, row_at};
 use std::alloc::{AllocError, Global};
@@ -75,27 +72,26 @@ fn is_other_body(facts: &Facts, d: u32, e: u32) -> bool
 }
 
 /// Whether `e` is another body of the slot of `d`, is offered at a node, and stands at or below `d`.
-fn is_nearer(facts: &Facts, hier: &Hier, n: NodeId, d: u32, e: u32) -> bool
-    requires hier { IsHierarchyOf facts.now hier.now }
-    requires node { is_live hier.now.order n.0 ≡ true }
-    requires body { d < length facts.now.columns.items }
-    requires other { e < length facts.now.columns.items }
-    ensures { result ≡ is_nearer facts.now hier.now n.0 d e }
+fn is_nearer(asked: &Asked, n: NodeId, d: u32, e: u32) -> bool
+    requires asked { IsAsked asked.now }
+    requires node { is_live asked.now.hier.now.order n.0 ≡ true }
+    requires body { d < length asked.now.facts.now.columns.items }
+    requires other { e < length asked.now.facts.now.columns.items }
+    ensures { result ≡ is_nearer asked.now.facts.now asked.now.hier.now n.0 d e }
 {
-    is_other_body(facts, d, e) && is_offered(facts, hier, n, e) && column_le(facts, hier, e, d)
+    is_other_body(asked.facts, d, e) && is_offered(asked, n, e) && column_le(asked, e, d)
 }
 
 /// Whether another body of the slot of `d` is offered at a node, and stands at or below `d`.
 #[tactic(auto, using(hier_model::proofs::AnyLemmas::any_below_found))]
-fn has_nearer(facts: &Facts, hier: &Hier, n: NodeId, d: u32) -> bool
-    requires facts { InRange facts.now }
-    requires hier { IsHierarchyOf facts.now hier.now }
-    requires node { is_live hier.now.order n.0 ≡ true }
-    requires body { d < length facts.now.columns.items }
-    ensures { result ≡ has_nearer facts.now hier.now n.0 d }
+fn has_nearer(asked: &Asked, n: NodeId, d: u32) -> bool
+    requires asked { IsAsked asked.now }
+    requires node { is_live asked.now.hier.now.order n.0 ≡ true }
+    requires body { d < length asked.now.facts.now.columns.items }
+    ensures { result ≡ has_nearer asked.now.facts.now asked.now.hier.now n.0 d }
 {
-    for e in 0..facts.columns.len() as u32 {
-        if is_nearer(facts, hier, n, d, e) {
+    for e in 0..asked.facts.columns.len() as u32 {
+        if is_nearer(asked, n, d, e) {
             return true;
         }
     }
@@ -103,105 +99,80 @@ fn has_nearer(facts: &Facts, hier: &Hier, n: NodeId, d: u32) -> bool
 }
 
 /// Adds the slot of a call, if its receiver has a site.
-fn add_slot(
-    facts: &Facts,
-    pt: &PointsTo,
-    s: u32,
-    call: &CallInfo,
-    slots: &mut Vec<u32>,
-) -> Result<(), AllocError>
-    requires facts { InRange facts.now }
-    requires sets { AreSets facts.now pt.now }
-    requires site { s < length facts.now.sites.items }
-    requires call { Contains facts.now.calls.items call.now }
-    ensures { OnOk result (slots.new.items ≡ slots.old.items ++ cond (bit (row pt.now.points.items call.now.receiver) s) (call.now.slot ∷ []) []) }
+fn add_slot(asked: &Asked, s: u32, call: &CallInfo, slots: &mut Vec<u32>) -> Result<(), AllocError>
+    requires asked { IsAsked asked.now }
+    requires site { s < length asked.now.facts.now.sites.items }
+    requires call { Contains asked.now.facts.now.calls.items call.now }
+    ensures { OnOk result (slots.new.items ≡ slots.old.items ++ cond (bit (row asked.now.pt.now.points.items call.now.receiver) s) (call.now.slot ∷ []) []) }
 {
-    if row_at(&pt.points, call.receiver as usize).has(s) {
+    if row_at(&asked.pt.points, call.receiver as usize).has(s) {
         slots.push(call.slot)?;
     }
     Ok(())
 }
 
 /// The slots of the calls whose receiver has a site, rising. An error comes only for want of memory.
-fn called_slots(alloc: Global, facts: &Facts, pt: &PointsTo, s: u32) -> Result<Vec<u32>, AllocError>
-    requires facts { InRange facts.now }
-    requires sets { AreSets facts.now pt.now }
-    requires site { s < length facts.now.sites.items }
+fn called_slots(alloc: Global, asked: &Asked, s: u32) -> Result<Vec<u32>, AllocError>
+    requires asked { IsAsked asked.now }
+    requires site { s < length asked.now.facts.now.sites.items }
     ensures sorted { IfOk result (λ v. IsNonDecreasing v.items) }
-    ensures slots { IfOk result (λ v. (x : ℕ) → Contains v.items x ↔ (is_called facts.now pt.now s x ≡ true)) }
+    ensures slots { IfOk result (λ v. (x : ℕ) → Contains v.items x ↔ (is_called asked.now.facts.now asked.now.pt.now s x ≡ true)) }
 {
     let mut slots = Vec::new(alloc);
-    for call in &facts.calls {
-        add_slot(facts, pt, s, call, &mut slots)?;
+    for call in &asked.facts.calls {
+        add_slot(asked, s, call, &mut slots)?;
     }
     slots.sort()?;
     Ok(slots)
 }
 
 /// The instance of a site and the body that it runs, if it is one.
-fn wrong_body(facts: &Facts, hier: &Hier, s: u32, d: ColId) -> Option<Broken>
-    requires facts { InRange facts.now }
-    requires hier { IsHierarchyOf facts.now hier.now }
-    requires site { s < length facts.now.sites.items }
-    requires body { d.0 < length facts.now.columns.items }
-    ensures { result ≡ wrong_body facts.now hier.now s d.0 }
+fn wrong_body(asked: &Asked, s: u32, d: ColId) -> Option<Broken>
+    requires asked { IsAsked asked.now }
+    requires site { s < length asked.now.facts.now.sites.items }
+    requires body { d.0 < length asked.now.facts.now.columns.items }
+    ensures { result ≡ wrong_body asked.now.facts.now asked.now.hier.now s d.0 }
 {
-    let r = site_at(facts, s).row.0;
-    let n = place_of_row(facts, hier, r);
-    if is_offered(facts, hier, n, d.0) && !has_nearer(facts, hier, n, d.0) {
+    let r = site_at(asked.facts, s).row.0;
+    let n = place_of_row(asked, r);
+    if is_offered(asked, n, d.0) && !has_nearer(asked, n, d.0) {
         return None;
     }
     Some(of_both(Rule::B4, n, r, d.0))
 }
 
 /// The instance of a site and a slot that is called on it, if it is one.
-fn wrong_call(facts: &Facts, hier: &Hier, s: u32, x: u32) -> Option<Broken>
-    requires facts { InRange facts.now }
-    requires hier { IsHierarchyOf facts.now hier.now }
-    requires site { s < length facts.now.sites.items }
-    ensures { result ≡ option_and_then (wrong_body facts.now hier.now s) (finds facts.now (site_class facts.now s) x) }
+fn wrong_call(asked: &Asked, s: u32, x: u32) -> Option<Broken>
+    requires asked { IsAsked asked.now }
+    requires site { s < length asked.now.facts.now.sites.items }
+    ensures { result ≡ option_and_then (wrong_body asked.now.facts.now asked.now.hier.now s) (finds asked.now.facts.now (site_class asked.now.facts.now s) x) }
 {
-    match finds(facts, site_at(facts, s).class, x) {
-        Some(d) => wrong_body(facts, hier, s, d),
+    match finds(asked.facts, site_at(asked.facts, s).class, x) {
+        Some(d) => wrong_body(asked, s, d),
         None => None,
     }
 }
 
 /// The first need of a site for which the wrong body is found. An error comes only for want of memory.
-fn first_wrong_need_of(
-    alloc: Global,
-    facts: &Facts,
-    pt: &PointsTo,
-    hier: &Hier,
-    s: u32,
-) -> Result<Option<Broken>, AllocError>
-    requires facts { InRange facts.now }
-    requires sets { AreSets facts.now pt.now }
-    requires hier { IsHierarchyOf facts.now hier.now }
-    requires site { s < length facts.now.sites.items }
-    ensures { IfOk result (λ b. b ≡ first_below (slots_of facts.now) (wrong_need facts.now pt.now hier.now s)) }
+fn first_wrong_need_of(alloc: Global, asked: &Asked, s: u32) -> Result<Option<Broken>, AllocError>
+    requires asked { IsAsked asked.now }
+    requires site { s < length asked.now.facts.now.sites.items }
+    ensures { IfOk result (λ b. b ≡ first_below (slots_of asked.now.facts.now) (wrong_need asked.now.facts.now asked.now.pt.now asked.now.hier.now s)) }
 {
-    let slots = called_slots(alloc, facts, pt, s)?;
-    Ok(first_wrong_call(facts, pt, hier, s, &slots))
+    let slots = called_slots(alloc, asked, s)?;
+    Ok(first_wrong_call(asked, s, &slots))
 }
 
 /// The same, by the rising list of the slots that are called on the site.
-fn first_wrong_call(
-    facts: &Facts,
-    pt: &PointsTo,
-    hier: &Hier,
-    s: u32,
-    slots: &[u32],
-) -> Option<Broken>
-    requires facts { InRange facts.now }
-    requires hier { IsHierarchyOf facts.now hier.now }
-    requires site { s < length facts.now.sites.items }
+fn first_wrong_call(asked: &Asked, s: u32, slots: &[u32]) -> Option<Broken>
+    requires asked { IsAsked asked.now }
+    requires site { s < length asked.now.facts.now.sites.items }
     requires sorted { IsNonDecreasing slots.now }
-    requires slots { (x : ℕ) → Contains slots.now x ↔ (is_called facts.now pt.now s x ≡ true) }
-    ensures { result ≡ first_below (slots_of facts.now) (wrong_need facts.now pt.now hier.now s) }
+    requires slots { (x : ℕ) → Contains slots.now x ↔ (is_called asked.now.facts.now asked.now.pt.now s x ≡ true) }
+    ensures { result ≡ first_below (slots_of asked.now.facts.now) (wrong_need asked.now.facts.now asked.now.pt.now asked.now.hier.now s) }
 {
     for x in slots {
-        if let Some(found) = wrong_call(facts, hier, s, *x) {
+        if let Some(found) = wrong_call(asked, s, *x) {
             return Some(found);
         }
     }
@@ -210,19 +181,12 @@ fn first_wrong_call(
 
 /// The first instance against B4. An error comes only for want of memory.
 #[tactic(auto, using(kaba_bits::proofs::FirstLemmas::first_below_found))]
-pub fn first_wrong_need(
-    alloc: Global,
-    facts: &Facts,
-    pt: &PointsTo,
-    hier: &Hier,
-) -> Result<Option<Broken>, AllocError>
-    requires facts { InRange facts.now }
-    requires sets { AreSets facts.now pt.now }
-    requires hier { IsHierarchyOf facts.now hier.now }
-    ensures { IfOk result (λ b. b ≡ first_wrong_need facts.now pt.now hier.now) }
+pub fn first_wrong_need(alloc: Global, asked: &Asked) -> Result<Option<Broken>, AllocError>
+    requires { IsAsked asked.now }
+    ensures { IfOk result (λ b. b ≡ first_wrong_need asked.now.facts.now asked.now.pt.now asked.now.hier.now) }
 {
-    for s in 0..facts.sites.len() as u32 {
-        if let Some(found) = first_wrong_need_of(alloc, facts, pt, hier, s)? {
+    for s in 0..asked.facts.sites.len() as u32 {
+        if let Some(found) = first_wrong_need_of(alloc, asked, s)? {
             return Ok(Some(found));
         }
     }
@@ -240,29 +204,28 @@ fn is_of_class(facts: &Facts, r: u32, c: u32) -> bool
 }
 
 /// Whether `e` is another body of the slot of `d`, stands strictly above the row `r`, and at or below `d` or in the class of `r`.
-fn is_between(facts: &Facts, hier: &Hier, r: u32, d: u32, e: u32) -> bool
-    requires hier { IsHierarchyOf facts.now hier.now }
-    requires row { r < length facts.now.rows.items }
-    requires body { d < length facts.now.columns.items }
-    requires other { e < length facts.now.columns.items }
-    ensures { result ≡ is_between facts.now hier.now r d e }
+fn is_between(asked: &Asked, r: u32, d: u32, e: u32) -> bool
+    requires asked { IsAsked asked.now }
+    requires row { r < length asked.now.facts.now.rows.items }
+    requires body { d < length asked.now.facts.now.columns.items }
+    requires other { e < length asked.now.facts.now.columns.items }
+    ensures { result ≡ is_between asked.now.facts.now asked.now.hier.now r d e }
 {
-    is_other_body(facts, d, e)
-        && is_above(facts, hier, place_of_row(facts, hier, r), e)
-        && (column_le(facts, hier, e, d) || is_of_class(facts, r, e))
+    is_other_body(asked.facts, d, e)
+        && is_above(asked, place_of_row(asked, r), e)
+        && (column_le(asked, e, d) || is_of_class(asked.facts, r, e))
 }
 
 /// Whether another body of the slot of `d` stands so.
 #[tactic(auto, using(hier_model::proofs::AnyLemmas::any_below_found))]
-fn has_between(facts: &Facts, hier: &Hier, r: u32, d: u32) -> bool
-    requires facts { InRange facts.now }
-    requires hier { IsHierarchyOf facts.now hier.now }
-    requires row { r < length facts.now.rows.items }
-    requires body { d < length facts.now.columns.items }
-    ensures { result ≡ has_between facts.now hier.now r d }
+fn has_between(asked: &Asked, r: u32, d: u32) -> bool
+    requires asked { IsAsked asked.now }
+    requires row { r < length asked.now.facts.now.rows.items }
+    requires body { d < length asked.now.facts.now.columns.items }
+    ensures { result ≡ has_between asked.now.facts.now asked.now.hier.now r d }
 {
-    for e in 0..facts.columns.len() as u32 {
-        if is_between(facts, hier, r, d, e) {
+    for e in 0..asked.facts.columns.len() as u32 {
+        if is_between(asked, r, d, e) {
             return true;
         }
     }
@@ -271,18 +234,13 @@ fn has_between(facts: &Facts, hier: &Hier, r: u32, d: u32) -> bool
 
 /// The first instance against B5. An error comes only for want of memory.
 #[tactic(auto, using(kaba_bits::proofs::FirstLemmas::first_below_found))]
-pub fn first_wrong_super(
-    alloc: Global,
-    facts: &Facts,
-    hier: &Hier,
-) -> Result<Option<Broken>, AllocError>
-    requires facts { InRange facts.now }
-    requires hier { IsHierarchyOf facts.now hier.now }
-    ensures { IfOk result (λ b. b ≡ first_wrong_super facts.now hier.now) }
+pub fn first_wrong_super(alloc: Global, asked: &Asked) -> Result<Option<Broken>, AllocError>
+    requires { IsAsked asked.now }
+    ensures { IfOk result (λ b. b ≡ first_wrong_super asked.now.facts.now asked.now.hier.now) }
 {
-    let supers = super_rows(alloc, facts)?;
-    for r in 0..facts.rows.len() as u32 {
-        if let Some(found) = first_wrong_super_of(facts, hier, row_at(&supers, r as usize), r) {
+    let supers = super_rows(alloc, asked.facts)?;
+    for r in 0..asked.facts.rows.len() as u32 {
+        if let Some(found) = first_wrong_super_of(asked, row_at(&supers, r as usize), r) {
             return Ok(Some(found));
         }
     }
@@ -291,17 +249,16 @@ pub fn first_wrong_super(
 
 /// The first body that a super call of the method of a row runs and that stands wrong.
 #[tactic(auto, using(kaba_bits::proofs::FirstLemmas::first_below_found))]
-fn first_wrong_super_of(facts: &Facts, hier: &Hier, bodies: &BitRow, r: u32) -> Option<Broken>
-    requires facts { InRange facts.now }
-    requires hier { IsHierarchyOf facts.now hier.now }
-    requires row { r < length facts.now.rows.items }
-    requires width { length bodies.now ≡ length facts.now.columns.items }
-    requires supers { (c : ℕ) → bit bodies.now c ≡ is_super facts.now r c }
-    ensures { result ≡ first_below (length facts.now.columns.items) (wrong_super facts.now hier.now r) }
+fn first_wrong_super_of(asked: &Asked, bodies: &BitRow, r: u32) -> Option<Broken>
+    requires asked { IsAsked asked.now }
+    requires row { r < length asked.now.facts.now.rows.items }
+    requires width { length bodies.now ≡ length asked.now.facts.now.columns.items }
+    requires supers { (c : ℕ) → bit bodies.now c ≡ is_super asked.now.facts.now r c }
+    ensures { result ≡ first_below (length asked.now.facts.now.columns.items) (wrong_super asked.now.facts.now asked.now.hier.now r) }
 {
-    let n = place_of_row(facts, hier, r);
-    for c in 0..facts.columns.len() as u32 {
-        if bodies.has(c) && (!is_above(facts, hier, n, c) || has_between(facts, hier, r, c)) {
+    let n = place_of_row(asked, r);
+    for c in 0..asked.facts.columns.len() as u32 {
+        if bodies.has(c) && (!is_above(asked, n, c) || has_between(asked, r, c)) {
             return Some(of_both(Rule::B5, n, r, c));
         }
     }
@@ -310,13 +267,12 @@ fn first_wrong_super_of(facts: &Facts, hier: &Hier, bodies: &BitRow, r: u32) -> 
 
 /// The first instance against B6.
 #[tactic(auto, using(kaba_bits::proofs::FirstLemmas::first_below_found))]
-pub fn first_two_bodies(facts: &Facts, hier: &Hier) -> Option<Broken>
-    requires facts { InRange facts.now }
-    requires hier { IsHierarchyOf facts.now hier.now }
-    ensures { result ≡ first_two_bodies facts.now hier.now }
+pub fn first_two_bodies(asked: &Asked) -> Option<Broken>
+    requires { IsAsked asked.now }
+    ensures { result ≡ first_two_bodies asked.now.facts.now asked.now.hier.now }
 {
-    for n in 0..node_count(hier) {
-        if let Some(found) = first_two_bodies_at(facts, hier, n) {
+    for n in 0..node_count(asked.hier) {
+        if let Some(found) = first_two_bodies_at(asked, n) {
             return Some(found);
         }
     }
@@ -325,13 +281,13 @@ pub fn first_two_bodies(facts: &Facts, hier: &Hier) -> Option<Broken>
 
 /// The first two bodies of one slot at a node.
 #[tactic(auto, using(kaba_bits::proofs::FirstLemmas::first_below_found))]
-fn first_two_bodies_at(facts: &Facts, hier: &Hier, n: u32) -> Option<Broken>
-    requires facts { InRange facts.now }
-    requires hier { IsHierarchyOf facts.now hier.now }
-    ensures { result ≡ first_below (length facts.now.columns.items) (λ c. first_below (length facts.now.columns.items) (two_bodies facts.now hier.now n c)) }
+fn first_two_bodies_at(asked: &Asked, n: u32) -> Option<Broken>
+    requires { IsAsked asked.now }
+    ensures { result ≡ first_below (length asked.now.facts.now.columns.items)
+        (λ c. first_below (length asked.now.facts.now.columns.items) (two_bodies asked.now.facts.now asked.now.hier.now n c)) }
 {
-    for c in 0..facts.columns.len() as u32 {
-        if let Some(found) = first_second_body(facts, hier, n, c) {
+    for c in 0..asked.facts.columns.len() as u32 {
+        if let Some(found) = first_second_body(asked, n, c) {
             return Some(found);
         }
     }
@@ -339,27 +295,26 @@ fn first_two_bodies_at(facts: &Facts, hier: &Hier, n: u32) -> Option<Broken>
 }
 
 /// Whether a body stands at a node.
-fn is_body_at(facts: &Facts, hier: &Hier, n: u32, c: u32) -> bool
-    requires hier { IsHierarchyOf facts.now hier.now }
-    requires column { c < length facts.now.columns.items }
-    ensures { result ≡ is_body_at facts.now hier.now n c }
+fn is_body_at(asked: &Asked, n: u32, c: u32) -> bool
+    requires asked { IsAsked asked.now }
+    requires column { c < length asked.now.facts.now.columns.items }
+    ensures { result ≡ is_body_at asked.now.facts.now asked.now.hier.now n c }
 {
-    stands_at(facts, hier, n, c) && is_body(facts, c)
+    stands_at(asked, n, c) && is_body(asked.facts, c)
 }
 
 /// The first body of the slot of `c` behind it at a node where `c` stands, if that is a body.
 #[tactic(auto, using(kaba_bits::proofs::FirstLemmas::first_below_found))]
-fn first_second_body(facts: &Facts, hier: &Hier, n: u32, c: u32) -> Option<Broken>
-    requires facts { InRange facts.now }
-    requires hier { IsHierarchyOf facts.now hier.now }
-    requires column { c < length facts.now.columns.items }
-    ensures { result ≡ first_below (length facts.now.columns.items) (two_bodies facts.now hier.now n c) }
+fn first_second_body(asked: &Asked, n: u32, c: u32) -> Option<Broken>
+    requires asked { IsAsked asked.now }
+    requires column { c < length asked.now.facts.now.columns.items }
+    ensures { result ≡ first_below (length asked.now.facts.now.columns.items) (two_bodies asked.now.facts.now asked.now.hier.now n c) }
 {
-    if !is_body_at(facts, hier, n, c) {
+    if !is_body_at(asked, n, c) {
         return None;
     }
-    for d in 0..facts.columns.len() as u32 {
-        if is_body_at(facts, hier, n, d) && c < d && are_of_one_slot(facts, c, d) {
+    for d in 0..asked.facts.columns.len() as u32 {
+        if is_body_at(asked, n, d) && c < d && are_of_one_slot(asked.facts, c, d) {
             return Some(of_column(Rule::B6, n, d));
         }
     }

@@ -5,18 +5,17 @@ ghost use Rattle.std.specs.Str.{bytes_eq, encode_utf8_all};
 ghost use Rattle.indexmap.specs.IndexMap.{get_by_text};
 ghost use Rattle.kaba_order.specs.Orders.{is_live};
 ghost use Rattle.kaba_bits.specs.Sets.{first_below};
-ghost use Rattle.fact_model.specs.InRange.{InRange};
-ghost use Rattle.hier_model.specs.Hierarchies.{IsHierarchyOf, is_offered};
+ghost use Rattle.hier_model.specs.Hierarchies.{is_offered};
 ghost use Rattle.hier_rules.specs.Asked.{are_two_slots};
 ghost use Rattle.hier_rules.specs.Names.{method_slot, clash, confused, first_confused};
 ghost use Rattle.hier_rules.specs.Namesakes.{AreLinks, AreClashes, offers_both};
+ghost use Rattle.hier_rules.specs.Places.{IsAsked};
 
 use crate::bodies::of_column;
 use crate::broken::{Broken, Rule};
 use crate::names::{is_field, is_same};
-use crate::places::{column_at, is_live, is_offered, node_count};
-use fact_model::{ColKind, ColumnInfo, Facts};
-use hier_model::Hier;
+use crate::places::{Asked, column_at, is_live, is_offered, node_count};
+use fact_model::{ColKind, ColumnInfo};
 use indexmap::IndexMap;
 use kaba_base::{ColId, Name, NodeId};
 use std::alloc::{AllocError, Global};
@@ -51,33 +50,30 @@ fn are_two_slots(a: Option<u32>, b: Option<u32>) -> bool
 }
 
 /// Whether two columns have one name, and are two fields or of two slots.
-fn clash(facts: &Facts, hier: &Hier, c: u32, d: u32) -> bool
-    requires hier { IsHierarchyOf facts.now hier.now }
-    requires one { c < length facts.now.columns.items }
-    requires other { d < length facts.now.columns.items }
-    ensures { result ≡ clash facts.now hier.now c d }
+fn clash(asked: &Asked, c: u32, d: u32) -> bool
+    requires asked { IsAsked asked.now }
+    requires one { c < length asked.now.facts.now.columns.items }
+    requires other { d < length asked.now.facts.now.columns.items }
+    ensures { result ≡ clash asked.now.facts.now asked.now.hier.now c d }
 {
-    let one = column_at(facts, c);
-    let other = column_at(facts, d);
-    is_same(hier.member_name(ColId(c)), hier.member_name(ColId(d)))
-        && ((is_field(one.kind) && is_field(other.kind))
-            || are_two_slots(method_slot(one), method_slot(other)))
+    let one = column_at(asked.facts, c);
+    let other = column_at(asked.facts, d);
+    is_same(
+        asked.hier.member_name(ColId(c)),
+        asked.hier.member_name(ColId(d)),
+    ) && ((is_field(one.kind) && is_field(other.kind))
+        || are_two_slots(method_slot(one), method_slot(other)))
 }
 
 /// Adds two columns, if they clash.
-fn add_clash(
-    facts: &Facts,
-    hier: &Hier,
-    c: u32,
-    d: u32,
-    clashes: &mut Vec<ClashPair>,
-) -> Result<(), AllocError>
-    requires hier { IsHierarchyOf facts.now hier.now }
-    requires one { c < length facts.now.columns.items }
-    requires other { d < length facts.now.columns.items }
-    ensures { OnOk result (clashes.new.items ≡ clashes.old.items ++ cond (clash facts.now hier.now c d) (record { first = c; second = d } ∷ []) []) }
+fn add_clash(asked: &Asked, c: u32, d: u32, clashes: &mut Vec<ClashPair>) -> Result<(), AllocError>
+    requires asked { IsAsked asked.now }
+    requires one { c < length asked.now.facts.now.columns.items }
+    requires other { d < length asked.now.facts.now.columns.items }
+    ensures { OnOk result (clashes.new.items ≡ clashes.old.items ++ cond (clash asked.now.facts.now asked.now.hier.now c d)
+        (record { first = c; second = d } ∷ []) []) }
 {
-    if clash(facts, hier, c, d) {
+    if clash(asked, c, d) {
         clashes.push(ClashPair {
             first: c,
             second: d,
@@ -103,15 +99,14 @@ fn put_last(
 }
 
 /// For each column the last one before it of its name. An error comes only for want of memory.
-fn links(alloc: Global, facts: &Facts, hier: &Hier) -> Result<Vec<Option<u32>>, AllocError>
-    requires facts { InRange facts.now }
-    requires hier { IsHierarchyOf facts.now hier.now }
-    ensures { IfOk result (λ v. AreLinks hier.now (length facts.now.columns.items) v.items) }
+fn links(alloc: Global, asked: &Asked) -> Result<Vec<Option<u32>>, AllocError>
+    requires { IsAsked asked.now }
+    ensures { IfOk result (λ v. AreLinks asked.now.hier.now (length asked.now.facts.now.columns.items) v.items) }
 {
     let mut links = Vec::new(alloc);
     let mut last = IndexMap::new(alloc);
-    for c in 0..facts.columns.len() as u32 {
-        let before = put_last(alloc, &mut last, hier.member_name(ColId(c)), c)?;
+    for c in 0..asked.facts.columns.len() as u32 {
+        let before = put_last(alloc, &mut last, asked.hier.member_name(ColId(c)), c)?;
         links.push(before)?;
     }
     Ok(links)
@@ -119,24 +114,23 @@ fn links(alloc: Global, facts: &Facts, hier: &Hier) -> Result<Vec<Option<u32>>, 
 
 /// Adds the clashes of a column with those before it of its name.
 fn add_clashes(
-    facts: &Facts,
-    hier: &Hier,
+    asked: &Asked,
     links: &[Option<u32>],
     d: u32,
     clashes: &mut Vec<ClashPair>,
 ) -> Result<(), AllocError>
-    requires hier { IsHierarchyOf facts.now hier.now }
-    requires links { AreLinks hier.now (length facts.now.columns.items) links.now }
-    requires column { d < length facts.now.columns.items }
-    requires before { AreClashes facts.now hier.now d d clashes.old.items }
-    ensures { OnOk result (AreClashes facts.now hier.now d 0 clashes.new.items) }
+    requires asked { IsAsked asked.now }
+    requires links { AreLinks asked.now.hier.now (length asked.now.facts.now.columns.items) links.now }
+    requires column { d < length asked.now.facts.now.columns.items }
+    requires before { AreClashes asked.now.facts.now asked.now.hier.now d d clashes.old.items }
+    ensures { OnOk result (AreClashes asked.now.facts.now asked.now.hier.now d 0 clashes.new.items) }
 {
     let mut earlier = links[d as usize];
     'namesakes: loop {
         match earlier {
             None => return Ok(()),
             Some(c) => {
-                add_clash(facts, hier, c, d, clashes)?;
+                add_clash(asked, c, d, clashes)?;
                 earlier = links[c as usize];
             }
         }
@@ -144,41 +138,42 @@ fn add_clashes(
 }
 
 /// All clashes, by the greater of their columns. An error comes only for want of memory.
-fn all_clashes(alloc: Global, facts: &Facts, hier: &Hier) -> Result<Vec<ClashPair>, AllocError>
-    requires facts { InRange facts.now }
-    requires hier { IsHierarchyOf facts.now hier.now }
-    ensures { IfOk result (λ v. AreClashes facts.now hier.now (length facts.now.columns.items) (length facts.now.columns.items) v.items) }
+fn all_clashes(alloc: Global, asked: &Asked) -> Result<Vec<ClashPair>, AllocError>
+    requires { IsAsked asked.now }
+    ensures { IfOk result (λ v. AreClashes asked.now.facts.now asked.now.hier.now (length asked.now.facts.now.columns.items)
+        (length asked.now.facts.now.columns.items) v.items) }
 {
-    let links = links(alloc, facts, hier)?;
+    let links = links(alloc, asked)?;
     let mut clashes = Vec::new(alloc);
-    for d in 0..facts.columns.len() as u32 {
-        add_clashes(facts, hier, &links, d, &mut clashes)?;
+    for d in 0..asked.facts.columns.len() as u32 {
+        add_clashes(asked, &links, d, &mut clashes)?;
     }
     Ok(clashes)
 }
 
 /// Whether a live node offers both columns of a clash.
-fn offers_both(facts: &Facts, hier: &Hier, n: u32, x: ClashPair) -> bool
-    requires hier { IsHierarchyOf facts.now hier.now }
-    requires node { is_live hier.now.order n ≡ true }
-    requires first { x.first < length facts.now.columns.items }
-    requires second { x.second < length facts.now.columns.items }
-    ensures { result ≡ offers_both hier.now n x }
+fn offers_both(asked: &Asked, n: u32, x: ClashPair) -> bool
+    requires asked { IsAsked asked.now }
+    requires node { is_live asked.now.hier.now.order n ≡ true }
+    requires first { x.first < length asked.now.facts.now.columns.items }
+    requires second { x.second < length asked.now.facts.now.columns.items }
+    ensures { result ≡ offers_both asked.now.hier.now n x }
 {
-    is_offered(facts, hier, NodeId(n), x.second) && is_offered(facts, hier, NodeId(n), x.first)
+    is_offered(asked, NodeId(n), x.second) && is_offered(asked, NodeId(n), x.first)
 }
 
 /// The first column that a node offers with one before it that clashes with it.
-fn first_confused_at(facts: &Facts, hier: &Hier, clashes: &[ClashPair], n: u32) -> Option<Broken>
-    requires hier { IsHierarchyOf facts.now hier.now }
-    requires clashes { AreClashes facts.now hier.now (length facts.now.columns.items) (length facts.now.columns.items) clashes.now }
-    ensures { result ≡ first_below (length facts.now.columns.items) (confused facts.now hier.now n) }
+fn first_confused_at(asked: &Asked, clashes: &[ClashPair], n: u32) -> Option<Broken>
+    requires asked { IsAsked asked.now }
+    requires clashes { AreClashes asked.now.facts.now asked.now.hier.now (length asked.now.facts.now.columns.items)
+        (length asked.now.facts.now.columns.items) clashes.now }
+    ensures { result ≡ first_below (length asked.now.facts.now.columns.items) (confused asked.now.facts.now asked.now.hier.now n) }
 {
-    if !is_live(hier, n) {
+    if !is_live(asked.hier, n) {
         return None;
     }
     for x in clashes {
-        if offers_both(facts, hier, n, *x) {
+        if offers_both(asked, n, *x) {
             return Some(of_column(Rule::B8, n, x.second));
         }
     }
@@ -187,18 +182,13 @@ fn first_confused_at(facts: &Facts, hier: &Hier, clashes: &[ClashPair], n: u32) 
 
 /// The first two members of one name that a type offers. An error comes only for want of memory.
 #[tactic(auto, using(kaba_bits::proofs::FirstLemmas::first_below_found))]
-pub fn first_confused(
-    alloc: Global,
-    facts: &Facts,
-    hier: &Hier,
-) -> Result<Option<Broken>, AllocError>
-    requires facts { InRange facts.now }
-    requires hier { IsHierarchyOf facts.now hier.now }
-    ensures { IfOk result (λ b. b ≡ first_confused facts.now hier.now) }
+pub fn first_confused(alloc: Global, asked: &Asked) -> Result<Option<Broken>, AllocError>
+    requires { IsAsked asked.now }
+    ensures { IfOk result (λ b. b ≡ first_confused asked.now.facts.now asked.now.hier.now) }
 {
-    let clashes = all_clashes(alloc, facts, hier)?;
-    for n in 0..node_count(hier) {
-        if let Some(found) = first_confused_at(facts, hier, &clashes, n) {
+    let clashes = all_clashes(alloc, asked)?;
+    for n in 0..node_count(asked.hier) {
+        if let Some(found) = first_confused_at(asked, &clashes, n) {
             return Ok(Some(found));
         }
     }

@@ -6,6 +6,7 @@ ghost use Rattle.std.specs.Prelude.{◌≡◌, IfOk};
 ghost use Rattle.fact_model.specs.InRange.{InRange};
 ghost use Rattle.fact_model.specs.Flowing.{AreSets};
 ghost use Rattle.hier_model.specs.Hierarchies.{IsHierarchyOf};
+ghost use Rattle.hier_rules.specs.Places.{IsAsked};
 ghost use Rattle.hier_rules.specs.First.{first_changed_run, first_of_edit, first_broken};
 
 mod bodies;
@@ -26,6 +27,7 @@ use fact_model::{Facts, PointsTo};
 use hier_model::Hier;
 use names::first_misnamed;
 use outcomes::first_wrong_outcome;
+use places::Asked;
 use rows::{first_unoffered, first_untied};
 use std::alloc::{AllocError, Global};
 
@@ -60,38 +62,32 @@ pub fn first_of_edit(
     requires hier { IsHierarchyOf facts.now hier.now }
     ensures first { IfOk result (λ b. b ≡ first_of_edit facts.now pt.now hier.now) }
 {
-    if let Some(found) = first_unoffered(facts, hier) {
+    let asked = Asked { facts, pt, hier };
+    if let Some(found) = first_unoffered(&asked) {
         return Ok(Some(found));
     }
-    if let Some(found) = first_untied(alloc, facts, pt, hier)? {
+    if let Some(found) = first_untied(alloc, &asked)? {
         return Ok(Some(found));
     }
-    match first_changed_run(alloc, hier, facts, pt)? {
+    match first_changed_run(alloc, &asked)? {
         Some(found) => Ok(Some(found)),
-        None => first_misnamed(alloc, facts, hier),
+        None => first_misnamed(alloc, &asked),
     }
 }
 
 /// The first instance against B4, B5, B6 and B7: of bodies and of outcomes.
-fn first_changed_run(
-    alloc: Global,
-    hier: &Hier,
-    facts: &Facts,
-    pt: &PointsTo,
-) -> Result<Option<Broken>, AllocError>
-    requires facts { InRange facts.now }
-    requires sets { AreSets facts.now pt.now }
-    requires hier { IsHierarchyOf facts.now hier.now }
-    ensures { IfOk result (λ b. b ≡ first_changed_run facts.now pt.now hier.now) }
+fn first_changed_run(alloc: Global, asked: &Asked) -> Result<Option<Broken>, AllocError>
+    requires { IsAsked asked.now }
+    ensures { IfOk result (λ b. b ≡ first_changed_run asked.now.facts.now asked.now.pt.now asked.now.hier.now) }
 {
-    if let Some(found) = first_wrong_need(alloc, facts, pt, hier)? {
+    if let Some(found) = first_wrong_need(alloc, asked)? {
         return Ok(Some(found));
     }
-    if let Some(found) = first_wrong_super(alloc, facts, hier)? {
+    if let Some(found) = first_wrong_super(alloc, asked)? {
         return Ok(Some(found));
     }
-    match first_two_bodies(facts, hier) {
+    match first_two_bodies(asked) {
         Some(found) => Ok(Some(found)),
-        None => first_wrong_outcome(alloc, facts, pt, hier),
+        None => first_wrong_outcome(alloc, asked),
     }
 }

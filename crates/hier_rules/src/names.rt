@@ -3,23 +3,21 @@
 ghost use Rattle.std.specs.Prelude.{◌≡◌, ℕ, ◌<◌, ◌&&◌, ◌∷◌, ◌++◌, [], Bool, true, cond, length, All, IfOk, OnOk};
 ghost use Rattle.std.specs.Str.{bytes_eq};
 ghost use Rattle.kaba_base.specs.Words.{is_name};
-ghost use Rattle.kaba_bits.specs.Sets.{or_else, first_below, ListsBelow};
+ghost use Rattle.kaba_bits.specs.Sets.{or_else, first_below};
 ghost use Rattle.kaba_order.specs.Orders.{is_live};
-ghost use Rattle.fact_model.specs.InRange.{InRange};
-ghost use Rattle.hier_model.specs.Hierarchies.{IsHierarchyOf};
 ghost use Rattle.hier_model.specs.Names.{is_field};
 ghost use Rattle.hier_rules.specs.Instances.{of_node};
 ghost use Rattle.hier_rules.specs.Names.{is_member, unwritable_type, unwritable, first_unwritable, is_taken_type, first_taken_type, is_taken_name, taken_field, first_taken_field, first_confused, first_misnamed};
-ghost use Rattle.hier_rules.specs.Namesakes.{is_unwritable_member, is_taken_field, first_standing};
+ghost use Rattle.hier_rules.specs.Namesakes.{ListsColumns, is_unwritable_member, is_taken_field, first_standing};
 ghost use Rattle.hier_rules.specs.Takens.{AreTaken};
+ghost use Rattle.hier_rules.specs.Places.{IsAsked};
 
 use crate::bodies::of_column;
 use crate::broken::{Broken, Nodes, Rule};
 use crate::clashes::first_confused;
-use crate::places::{column_at, is_live, node_count, stands_at};
+use crate::places::{Asked, column_at, is_live, node_count, stands_at};
 use crate::taken::{TakenNames, has_name, taken_names};
-use fact_model::{ColKind, Facts};
-use hier_model::Hier;
+use fact_model::ColKind;
 use kaba_base::{ColId, Name, NodeId, is_identifier};
 use std::alloc::{AllocError, Global};
 
@@ -64,13 +62,13 @@ fn is_member(kind: ColKind) -> bool
 }
 
 /// The first column of a rising list that stands at a node.
-fn first_standing(facts: &Facts, hier: &Hier, list: &[u32], n: u32) -> Option<Broken>
-    requires hier { IsHierarchyOf facts.now hier.now }
-    requires list { All (λ c. c < length facts.now.columns.items) list.now }
-    ensures { (p : ℕ → Bool) → ListsBelow (λ c. p c ≡ true) (length facts.now.columns.items) list.now → result ≡ first_standing facts.now hier.now n p }
+fn first_standing(asked: &Asked, list: &[u32], n: u32) -> Option<Broken>
+    requires asked { IsAsked asked.now }
+    requires list { All (λ c. c < length asked.now.facts.now.columns.items) list.now }
+    ensures { (p : ℕ → Bool) → ListsColumns asked.now.facts.now p list.now → result ≡ first_standing asked.now.facts.now asked.now.hier.now n p }
 {
     for c in list {
-        if stands_at(facts, hier, n, *c) {
+        if stands_at(asked, n, *c) {
             return Some(of_column(Rule::B8, n, *c));
         }
     }
@@ -78,48 +76,45 @@ fn first_standing(facts: &Facts, hier: &Hier, list: &[u32], n: u32) -> Option<Br
 }
 
 /// Whether a column is a member whose name cannot be written.
-fn is_unwritable_member(facts: &Facts, hier: &Hier, c: u32) -> bool
-    requires hier { IsHierarchyOf facts.now hier.now }
-    requires column { c < length facts.now.columns.items }
-    ensures { result ≡ is_unwritable_member facts.now hier.now c }
+fn is_unwritable_member(asked: &Asked, c: u32) -> bool
+    requires asked { IsAsked asked.now }
+    requires column { c < length asked.now.facts.now.columns.items }
+    ensures { result ≡ is_unwritable_member asked.now.facts.now asked.now.hier.now c }
 {
-    is_member(column_at(facts, c).kind) && !is_writable(hier.member_name(ColId(c)))
+    is_member(column_at(asked.facts, c).kind) && !is_writable(asked.hier.member_name(ColId(c)))
 }
 
-/// Adds a column, if it is such a member.
-fn add_unwritable(facts: &Facts, hier: &Hier, c: u32, list: &mut Vec<u32>) -> Result<(), AllocError>
-    requires hier { IsHierarchyOf facts.now hier.now }
-    requires column { c < length facts.now.columns.items }
-    ensures { OnOk result (list.new.items ≡ list.old.items ++ cond (is_unwritable_member facts.now hier.now c) (c ∷ []) []) }
+/// Adds a column that passes a test.
+fn add_if(list: &mut Vec<u32>, passes: bool, c: u32) -> Result<(), AllocError>
+    ensures { OnOk result (list.new.items ≡ list.old.items ++ cond passes (c ∷ []) []) }
 {
-    if is_unwritable_member(facts, hier, c) {
+    if passes {
         list.push(c)?;
     }
     Ok(())
 }
 
 /// The members whose names cannot be written. An error comes only for want of memory.
-fn unwritable_members(alloc: Global, facts: &Facts, hier: &Hier) -> Result<Vec<u32>, AllocError>
-    requires facts { InRange facts.now }
-    requires hier { IsHierarchyOf facts.now hier.now }
-    ensures { IfOk result (λ v. ListsBelow (λ c. is_unwritable_member facts.now hier.now c ≡ true) (length facts.now.columns.items) v.items) }
+fn unwritable_members(alloc: Global, asked: &Asked) -> Result<Vec<u32>, AllocError>
+    requires { IsAsked asked.now }
+    ensures { IfOk result (λ v. ListsColumns asked.now.facts.now (is_unwritable_member asked.now.facts.now asked.now.hier.now) v.items) }
 {
     let mut list = Vec::new(alloc);
-    for c in 0..facts.columns.len() as u32 {
-        add_unwritable(facts, hier, c, &mut list)?;
+    for c in 0..asked.facts.columns.len() as u32 {
+        add_if(&mut list, is_unwritable_member(asked, c), c)?;
     }
     Ok(list)
 }
 
 /// The first name of a type or of a member that cannot be written, by the members of which that is so.
 #[tactic(auto, using(kaba_bits::proofs::FirstLemmas::first_below_found))]
-fn first_unwritable(facts: &Facts, hier: &Hier, list: &[u32]) -> Option<Broken>
-    requires hier { IsHierarchyOf facts.now hier.now }
-    requires list { ListsBelow (λ c. is_unwritable_member facts.now hier.now c ≡ true) (length facts.now.columns.items) list.now }
-    ensures { result ≡ first_unwritable facts.now hier.now }
+fn first_unwritable(asked: &Asked, list: &[u32]) -> Option<Broken>
+    requires asked { IsAsked asked.now }
+    requires list { ListsColumns asked.now.facts.now (is_unwritable_member asked.now.facts.now asked.now.hier.now) list.now }
+    ensures { result ≡ first_unwritable asked.now.facts.now asked.now.hier.now }
 {
-    for n in 0..node_count(hier) {
-        if let Some(found) = first_unwritable_at(facts, hier, list, n) {
+    for n in 0..node_count(asked.hier) {
+        if let Some(found) = first_unwritable_at(asked, list, n) {
             return Some(found);
         }
     }
@@ -127,27 +122,28 @@ fn first_unwritable(facts: &Facts, hier: &Hier, list: &[u32]) -> Option<Broken>
 }
 
 /// The same at one node.
-fn first_unwritable_at(facts: &Facts, hier: &Hier, list: &[u32], n: u32) -> Option<Broken>
-    requires hier { IsHierarchyOf facts.now hier.now }
-    requires list { ListsBelow (λ c. is_unwritable_member facts.now hier.now c ≡ true) (length facts.now.columns.items) list.now }
-    requires node { n < length hier.now.order.live }
-    ensures { result ≡ or_else (unwritable_type facts.now hier.now n) (first_below (length facts.now.columns.items) (unwritable facts.now hier.now n)) }
+fn first_unwritable_at(asked: &Asked, list: &[u32], n: u32) -> Option<Broken>
+    requires asked { IsAsked asked.now }
+    requires list { ListsColumns asked.now.facts.now (is_unwritable_member asked.now.facts.now asked.now.hier.now) list.now }
+    requires node { n < length asked.now.hier.now.order.live }
+    ensures { result ≡ or_else (unwritable_type asked.now.facts.now asked.now.hier.now n)
+        (first_below (length asked.now.facts.now.columns.items) (unwritable asked.now.facts.now asked.now.hier.now n)) }
 {
-    if is_live(hier, n) && !is_writable(hier.type_name(NodeId(n))) {
+    if is_live(asked.hier, n) && !is_writable(asked.hier.type_name(NodeId(n))) {
         return Some(of_node(Rule::B8, n));
     }
-    first_standing(facts, hier, list, n)
+    first_standing(asked, list, n)
 }
 
 /// The first name of a type that another type, a class with static members, the language or a variable has.
 #[tactic(auto, using(kaba_bits::proofs::FirstLemmas::first_below_found))]
-fn first_taken_type(facts: &Facts, hier: &Hier, taken: &TakenNames) -> Option<Broken>
-    requires hier { IsHierarchyOf facts.now hier.now }
-    requires taken { AreTaken facts.now hier.now taken.now }
-    ensures { result ≡ first_taken_type facts.now hier.now }
+fn first_taken_type(asked: &Asked, taken: &TakenNames) -> Option<Broken>
+    requires asked { IsAsked asked.now }
+    requires taken { AreTaken asked.now.facts.now asked.now.hier.now taken.now }
+    ensures { result ≡ first_taken_type asked.now.facts.now asked.now.hier.now }
 {
-    for n in 0..node_count(hier) {
-        if is_live(hier, n) && is_taken_type(facts, hier, taken, n) {
+    for n in 0..node_count(asked.hier) {
+        if is_live(asked.hier, n) && is_taken_type(asked, taken, n) {
             return Some(of_node(Rule::B8, n));
         }
     }
@@ -155,13 +151,13 @@ fn first_taken_type(facts: &Facts, hier: &Hier, taken: &TakenNames) -> Option<Br
 }
 
 /// Whether the name of a live node's type is taken.
-fn is_taken_type(facts: &Facts, hier: &Hier, taken: &TakenNames, n: u32) -> bool
-    requires hier { IsHierarchyOf facts.now hier.now }
-    requires taken { AreTaken facts.now hier.now taken.now }
-    requires node { is_live hier.now.order n ≡ true }
-    ensures { result ≡ is_taken_type facts.now hier.now n }
+fn is_taken_type(asked: &Asked, taken: &TakenNames, n: u32) -> bool
+    requires asked { IsAsked asked.now }
+    requires taken { AreTaken asked.now.facts.now asked.now.hier.now taken.now }
+    requires node { is_live asked.now.hier.now.order n ≡ true }
+    ensures { result ≡ is_taken_type asked.now.facts.now asked.now.hier.now n }
 {
-    let name = hier.type_name(NodeId(n));
+    let name = asked.hier.type_name(NodeId(n));
     let other = has_name(&taken.twice, name);
     let reserved = has_name(&taken.reserved, name);
     let variable = has_name(&taken.variables, name);
@@ -169,63 +165,48 @@ fn is_taken_type(facts: &Facts, hier: &Hier, taken: &TakenNames, n: u32) -> bool
 }
 
 /// Whether the name of a member is one of a type, or reserved.
-fn is_taken_name(facts: &Facts, hier: &Hier, taken: &TakenNames, c: u32) -> bool
-    requires hier { IsHierarchyOf facts.now hier.now }
-    requires taken { AreTaken facts.now hier.now taken.now }
-    requires column { c < length facts.now.columns.items }
-    ensures { result ≡ is_taken_name facts.now hier.now c }
+fn is_taken_name(asked: &Asked, taken: &TakenNames, c: u32) -> bool
+    requires asked { IsAsked asked.now }
+    requires taken { AreTaken asked.now.facts.now asked.now.hier.now taken.now }
+    requires column { c < length asked.now.facts.now.columns.items }
+    ensures { result ≡ is_taken_name asked.now.facts.now asked.now.hier.now c }
 {
-    let name = hier.member_name(ColId(c));
+    let name = asked.hier.member_name(ColId(c));
     has_name(&taken.types, name) || has_name(&taken.reserved, name)
 }
 
-/// Adds a column, if it is a field whose name is taken.
-fn add_taken(
-    facts: &Facts,
-    hier: &Hier,
-    taken: &TakenNames,
-    c: u32,
-    list: &mut Vec<u32>,
-) -> Result<(), AllocError>
-    requires hier { IsHierarchyOf facts.now hier.now }
-    requires taken { AreTaken facts.now hier.now taken.now }
-    requires column { c < length facts.now.columns.items }
-    ensures { OnOk result (list.new.items ≡ list.old.items ++ cond (is_taken_field facts.now hier.now c) (c ∷ []) []) }
+/// Whether a column is a field whose name is taken.
+fn is_taken_field(asked: &Asked, taken: &TakenNames, c: u32) -> bool
+    requires asked { IsAsked asked.now }
+    requires taken { AreTaken asked.now.facts.now asked.now.hier.now taken.now }
+    requires column { c < length asked.now.facts.now.columns.items }
+    ensures { result ≡ is_taken_field asked.now.facts.now asked.now.hier.now c }
 {
-    if is_field(column_at(facts, c).kind) && is_taken_name(facts, hier, taken, c) {
-        list.push(c)?;
-    }
-    Ok(())
+    is_field(column_at(asked.facts, c).kind) && is_taken_name(asked, taken, c)
 }
 
 /// The fields whose names are taken. An error comes only for want of memory.
-fn taken_fields(
-    alloc: Global,
-    facts: &Facts,
-    hier: &Hier,
-    taken: &TakenNames,
-) -> Result<Vec<u32>, AllocError>
-    requires facts { InRange facts.now }
-    requires hier { IsHierarchyOf facts.now hier.now }
-    requires taken { AreTaken facts.now hier.now taken.now }
-    ensures { IfOk result (λ v. ListsBelow (λ c. is_taken_field facts.now hier.now c ≡ true) (length facts.now.columns.items) v.items) }
+fn taken_fields(alloc: Global, asked: &Asked, taken: &TakenNames) -> Result<Vec<u32>, AllocError>
+    requires asked { IsAsked asked.now }
+    requires taken { AreTaken asked.now.facts.now asked.now.hier.now taken.now }
+    ensures { IfOk result (λ v. ListsColumns asked.now.facts.now (is_taken_field asked.now.facts.now asked.now.hier.now) v.items) }
 {
     let mut list = Vec::new(alloc);
-    for c in 0..facts.columns.len() as u32 {
-        add_taken(facts, hier, taken, c, &mut list)?;
+    for c in 0..asked.facts.columns.len() as u32 {
+        add_if(&mut list, is_taken_field(asked, taken, c), c)?;
     }
     Ok(list)
 }
 
 /// The first field whose name is taken, by the fields of which that is so.
 #[tactic(auto, using(kaba_bits::proofs::FirstLemmas::first_below_found))]
-fn first_taken_field(facts: &Facts, hier: &Hier, list: &[u32]) -> Option<Broken>
-    requires hier { IsHierarchyOf facts.now hier.now }
-    requires list { ListsBelow (λ c. is_taken_field facts.now hier.now c ≡ true) (length facts.now.columns.items) list.now }
-    ensures { result ≡ first_taken_field facts.now hier.now }
+fn first_taken_field(asked: &Asked, list: &[u32]) -> Option<Broken>
+    requires asked { IsAsked asked.now }
+    requires list { ListsColumns asked.now.facts.now (is_taken_field asked.now.facts.now asked.now.hier.now) list.now }
+    ensures { result ≡ first_taken_field asked.now.facts.now asked.now.hier.now }
 {
-    for n in 0..node_count(hier) {
-        if let Some(found) = first_taken_field_at(facts, hier, list, n) {
+    for n in 0..node_count(asked.hier) {
+        if let Some(found) = first_taken_field_at(asked, list, n) {
             return Some(found);
         }
     }
@@ -233,89 +214,74 @@ fn first_taken_field(facts: &Facts, hier: &Hier, list: &[u32]) -> Option<Broken>
 }
 
 /// The same at one node.
-fn first_taken_field_at(facts: &Facts, hier: &Hier, list: &[u32], n: u32) -> Option<Broken>
-    requires hier { IsHierarchyOf facts.now hier.now }
-    requires list { ListsBelow (λ c. is_taken_field facts.now hier.now c ≡ true) (length facts.now.columns.items) list.now }
-    ensures { result ≡ first_below (length facts.now.columns.items) (taken_field facts.now hier.now n) }
+fn first_taken_field_at(asked: &Asked, list: &[u32], n: u32) -> Option<Broken>
+    requires asked { IsAsked asked.now }
+    requires list { ListsColumns asked.now.facts.now (is_taken_field asked.now.facts.now asked.now.hier.now) list.now }
+    ensures { result ≡ first_below (length asked.now.facts.now.columns.items) (taken_field asked.now.facts.now asked.now.hier.now n) }
 {
-    first_standing(facts, hier, list, n)
+    first_standing(asked, list, n)
 }
 
 /// The first name of a type or of a member that cannot be written. An error comes only for want of memory.
-fn first_unwritable_of(
-    alloc: Global,
-    facts: &Facts,
-    hier: &Hier,
-) -> Result<Option<Broken>, AllocError>
-    requires facts { InRange facts.now }
-    requires hier { IsHierarchyOf facts.now hier.now }
-    ensures { IfOk result (λ b. b ≡ first_unwritable facts.now hier.now) }
+fn first_unwritable_of(alloc: Global, asked: &Asked) -> Result<Option<Broken>, AllocError>
+    requires { IsAsked asked.now }
+    ensures { IfOk result (λ b. b ≡ first_unwritable asked.now.facts.now asked.now.hier.now) }
 {
-    let list = unwritable_members(alloc, facts, hier)?;
-    Ok(first_unwritable(facts, hier, &list))
+    let list = unwritable_members(alloc, asked)?;
+    Ok(first_unwritable(asked, &list))
 }
 
 /// The first field whose name is taken. An error comes only for want of memory.
 fn first_taken_field_of(
     alloc: Global,
-    facts: &Facts,
-    hier: &Hier,
+    asked: &Asked,
     taken: &TakenNames,
 ) -> Result<Option<Broken>, AllocError>
-    requires facts { InRange facts.now }
-    requires hier { IsHierarchyOf facts.now hier.now }
-    requires taken { AreTaken facts.now hier.now taken.now }
-    ensures { IfOk result (λ b. b ≡ first_taken_field facts.now hier.now) }
+    requires asked { IsAsked asked.now }
+    requires taken { AreTaken asked.now.facts.now asked.now.hier.now taken.now }
+    ensures { IfOk result (λ b. b ≡ first_taken_field asked.now.facts.now asked.now.hier.now) }
 {
-    let list = taken_fields(alloc, facts, hier, taken)?;
-    Ok(first_taken_field(facts, hier, &list))
+    let list = taken_fields(alloc, asked, taken)?;
+    Ok(first_taken_field(asked, &list))
 }
 
 /// The first instance against the parts of B8 after the first, by the names that are taken.
 fn first_taken(
     alloc: Global,
-    facts: &Facts,
-    hier: &Hier,
+    asked: &Asked,
     taken: &TakenNames,
 ) -> Result<Option<Broken>, AllocError>
-    requires facts { InRange facts.now }
-    requires hier { IsHierarchyOf facts.now hier.now }
-    requires taken { AreTaken facts.now hier.now taken.now }
-    ensures { IfOk result (λ b. b ≡ or_else (first_taken_type facts.now hier.now)
-        (or_else (first_taken_field facts.now hier.now) (first_confused facts.now hier.now))) }
+    requires asked { IsAsked asked.now }
+    requires taken { AreTaken asked.now.facts.now asked.now.hier.now taken.now }
+    ensures { IfOk result (λ b. b ≡ or_else (first_taken_type asked.now.facts.now asked.now.hier.now)
+        (or_else (first_taken_field asked.now.facts.now asked.now.hier.now) (first_confused asked.now.facts.now asked.now.hier.now))) }
 {
-    if let Some(found) = first_taken_type(facts, hier, taken) {
+    if let Some(found) = first_taken_type(asked, taken) {
         return Ok(Some(found));
     }
-    match first_taken_field_of(alloc, facts, hier, taken)? {
+    match first_taken_field_of(alloc, asked, taken)? {
         Some(found) => Ok(Some(found)),
-        None => first_confused(alloc, facts, hier),
+        None => first_confused(alloc, asked),
     }
 }
 
 /// The first instance against the parts of B8 after the first. An error comes only for want of memory.
-fn first_not_apart(alloc: Global, facts: &Facts, hier: &Hier) -> Result<Option<Broken>, AllocError>
-    requires facts { InRange facts.now }
-    requires hier { IsHierarchyOf facts.now hier.now }
-    ensures { IfOk result (λ b. b ≡ or_else (first_taken_type facts.now hier.now)
-        (or_else (first_taken_field facts.now hier.now) (first_confused facts.now hier.now))) }
+fn first_not_apart(alloc: Global, asked: &Asked) -> Result<Option<Broken>, AllocError>
+    requires { IsAsked asked.now }
+    ensures { IfOk result (λ b. b ≡ or_else (first_taken_type asked.now.facts.now asked.now.hier.now)
+        (or_else (first_taken_field asked.now.facts.now asked.now.hier.now) (first_confused asked.now.facts.now asked.now.hier.now))) }
 {
-    let taken = taken_names(alloc, facts, hier)?;
-    first_taken(alloc, facts, hier, &taken)
+    let taken = taken_names(alloc, asked)?;
+    first_taken(alloc, asked, &taken)
 }
 
 /// The first instance against B8. An error comes only for want of memory.
-pub fn first_misnamed(
-    alloc: Global,
-    facts: &Facts,
-    hier: &Hier,
-) -> Result<Option<Broken>, AllocError>
-    requires facts { InRange facts.now }
-    requires hier { IsHierarchyOf facts.now hier.now }
-    ensures { IfOk result (λ b. b ≡ first_misnamed facts.now hier.now) }
+pub fn first_misnamed(alloc: Global, asked: &Asked) -> Result<Option<Broken>, AllocError>
+    requires { IsAsked asked.now }
+    ensures { IfOk result (λ b. b ≡ first_misnamed asked.now.facts.now asked.now.hier.now) }
 {
-    match first_unwritable_of(alloc, facts, hier)? {
+    match first_unwritable_of(alloc, asked)? {
         Some(found) => Ok(Some(found)),
-        None => first_not_apart(alloc, facts, hier),
+        None => first_not_apart(alloc, asked),
     }
 }

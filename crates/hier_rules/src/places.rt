@@ -3,13 +3,22 @@
 ghost use Rattle.std.specs.Prelude.{◌≡◌, ◌<◌, true, length, IfSome};
 ghost use Rattle.kaba_order.specs.Orders.{is_le, is_live};
 ghost use Rattle.fact_model.specs.Items.{column_at, site_at};
-ghost use Rattle.hier_model.specs.Hierarchies.{place_of_column, place_of_row, is_offered, is_at, stands_at, IsHierarchyOf};
-ghost use Rattle.hier_rules.specs.Obligations.{is_strictly_above, is_below, row_le, column_le, is_above};
+ghost use Rattle.hier_model.specs.Hierarchies.{place_of_column, place_of_row, is_offered, is_at, stands_at};
+ghost use Rattle.hier_rules.specs.Obligations.{is_below, row_le, column_le, is_above};
+ghost use Rattle.hier_rules.specs.Places.{IsAsked};
 
-use fact_model::{ColumnInfo, Facts, SiteInfo};
+use fact_model::{ColumnInfo, Facts, PointsTo, SiteInfo};
 use hier_model::Hier;
 use kaba_base::{ColId, NodeId, RowId};
 use kaba_order::Order;
+
+/// What the obligations are asked of: facts, their sets, and a hierarchy.
+#[derive(Clone, Copy)]
+pub struct Asked<'a> {
+    pub facts: &'a Facts,
+    pub pt: &'a PointsTo,
+    pub hier: &'a Hier,
+}
 
 /// One column.
 pub fn column_at(facts: &Facts, c: u32) -> &ColumnInfo
@@ -51,35 +60,35 @@ pub fn is_le(hier: &Hier, a: u32, b: u32) -> bool
 }
 
 /// The node where a row stands.
-pub fn place_of_row(facts: &Facts, hier: &Hier, r: u32) -> NodeId
-    requires hier { IsHierarchyOf facts.now hier.now }
-    requires row { r < length facts.now.rows.items }
-    ensures place { result.0 ≡ place_of_row hier.now r }
-    ensures live { is_live hier.now.order result.0 ≡ true }
+pub fn place_of_row(asked: &Asked, r: u32) -> NodeId
+    requires asked { IsAsked asked.now }
+    requires row { r < length asked.now.facts.now.rows.items }
+    ensures place { result.0 ≡ place_of_row asked.now.hier.now r }
+    ensures live { is_live asked.now.hier.now.order result.0 ≡ true }
 {
-    hier.place_of_row(RowId(r))
+    asked.hier.place_of_row(RowId(r))
 }
 
 /// The node where a column stands, if it stands anywhere.
-pub fn place_of_column(facts: &Facts, hier: &Hier, c: u32) -> Option<NodeId>
-    requires hier { IsHierarchyOf facts.now hier.now }
-    requires column { c < length facts.now.columns.items }
-    ensures place { result ≡ place_of_column hier.now c }
-    ensures live { IfSome result (λ p. is_live hier.now.order p.0 ≡ true) }
+pub fn place_of_column(asked: &Asked, c: u32) -> Option<NodeId>
+    requires asked { IsAsked asked.now }
+    requires column { c < length asked.now.facts.now.columns.items }
+    ensures place { result ≡ place_of_column asked.now.hier.now c }
+    ensures live { IfSome result (λ p. is_live asked.now.hier.now.order p.0 ≡ true) }
 {
-    hier.place_of_column(ColId(c))
+    asked.hier.place_of_column(ColId(c))
 }
 
 /// Whether a row stands at or below another.
-pub fn row_le(facts: &Facts, hier: &Hier, r: u32, v: u32) -> bool
-    requires hier { IsHierarchyOf facts.now hier.now }
-    requires lower { r < length facts.now.rows.items }
-    requires upper { v < length facts.now.rows.items }
-    ensures { result ≡ row_le hier.now r v }
+pub fn row_le(asked: &Asked, r: u32, v: u32) -> bool
+    requires asked { IsAsked asked.now }
+    requires lower { r < length asked.now.facts.now.rows.items }
+    requires upper { v < length asked.now.facts.now.rows.items }
+    ensures { result ≡ row_le asked.now.hier.now r v }
 {
-    let lower = place_of_row(facts, hier, r);
-    let upper = place_of_row(facts, hier, v);
-    hier.order().le(lower, upper)
+    let lower = place_of_row(asked, r);
+    let upper = place_of_row(asked, v);
+    asked.hier.order().le(lower, upper)
 }
 
 /// Whether one place is at or below another.
@@ -95,39 +104,39 @@ fn is_below(order: &Order, place: Option<NodeId>, other: Option<NodeId>) -> bool
 }
 
 /// Whether a column stands at or below another.
-pub fn column_le(facts: &Facts, hier: &Hier, c: u32, d: u32) -> bool
-    requires hier { IsHierarchyOf facts.now hier.now }
-    requires lower { c < length facts.now.columns.items }
-    requires upper { d < length facts.now.columns.items }
-    ensures { result ≡ column_le hier.now c d }
+pub fn column_le(asked: &Asked, c: u32, d: u32) -> bool
+    requires asked { IsAsked asked.now }
+    requires lower { c < length asked.now.facts.now.columns.items }
+    requires upper { d < length asked.now.facts.now.columns.items }
+    ensures { result ≡ column_le asked.now.hier.now c d }
 {
-    let lower = place_of_column(facts, hier, c);
-    let upper = place_of_column(facts, hier, d);
-    is_below(hier.order(), lower, upper)
+    let lower = place_of_column(asked, c);
+    let upper = place_of_column(asked, d);
+    is_below(asked.hier.order(), lower, upper)
 }
 
 /// Whether a column stands at a live node or above it.
-pub fn is_offered(facts: &Facts, hier: &Hier, n: NodeId, c: u32) -> bool
-    requires hier { IsHierarchyOf facts.now hier.now }
-    requires node { is_live hier.now.order n.0 ≡ true }
-    requires column { c < length facts.now.columns.items }
-    ensures { result ≡ is_offered hier.now n.0 c }
+pub fn is_offered(asked: &Asked, n: NodeId, c: u32) -> bool
+    requires asked { IsAsked asked.now }
+    requires node { is_live asked.now.hier.now.order n.0 ≡ true }
+    requires column { c < length asked.now.facts.now.columns.items }
+    ensures { result ≡ is_offered asked.now.hier.now n.0 c }
 {
-    match place_of_column(facts, hier, c) {
-        Some(p) => hier.order().le(n, p),
+    match place_of_column(asked, c) {
+        Some(p) => asked.hier.order().le(n, p),
         None => false,
     }
 }
 
 /// Whether a column stands strictly above a live node.
-pub fn is_above(facts: &Facts, hier: &Hier, n: NodeId, c: u32) -> bool
-    requires hier { IsHierarchyOf facts.now hier.now }
-    requires node { is_live hier.now.order n.0 ≡ true }
-    requires column { c < length facts.now.columns.items }
-    ensures { result ≡ is_above hier.now n.0 c }
+pub fn is_above(asked: &Asked, n: NodeId, c: u32) -> bool
+    requires asked { IsAsked asked.now }
+    requires node { is_live asked.now.hier.now.order n.0 ≡ true }
+    requires column { c < length asked.now.facts.now.columns.items }
+    ensures { result ≡ is_above asked.now.hier.now n.0 c }
 {
-    match place_of_column(facts, hier, c) {
-        Some(p) => hier.order().le(n, p) && n.0 != p.0,
+    match place_of_column(asked, c) {
+        Some(p) => asked.hier.order().le(n, p) && n.0 != p.0,
         None => false,
     }
 }
@@ -143,10 +152,10 @@ fn is_at(n: u32, place: Option<NodeId>) -> bool
 }
 
 /// Whether a column stands at a node.
-pub fn stands_at(facts: &Facts, hier: &Hier, n: u32, c: u32) -> bool
-    requires hier { IsHierarchyOf facts.now hier.now }
-    requires column { c < length facts.now.columns.items }
-    ensures { result ≡ stands_at hier.now n c }
+pub fn stands_at(asked: &Asked, n: u32, c: u32) -> bool
+    requires asked { IsAsked asked.now }
+    requires column { c < length asked.now.facts.now.columns.items }
+    ensures { result ≡ stands_at asked.now.hier.now n c }
 {
-    is_at(n, place_of_column(facts, hier, c))
+    is_at(n, place_of_column(asked, c))
 }

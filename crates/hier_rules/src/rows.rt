@@ -2,18 +2,14 @@
 
 ghost use Rattle.std.specs.Prelude.{◌≡◌, ℕ, ◌<◌, length, IfOk};
 ghost use Rattle.kaba_bits.specs.Sets.{bit, row, first_below, HasWidth};
-ghost use Rattle.fact_model.specs.InRange.{InRange};
-ghost use Rattle.fact_model.specs.Flowing.{AreSets};
-ghost use Rattle.hier_model.specs.Hierarchies.{IsHierarchyOf};
 ghost use Rattle.hier_rules.specs.Asked.{is_tie};
 ghost use Rattle.hier_rules.specs.Instances.{of_both, of_row};
 ghost use Rattle.hier_rules.specs.Obligations.{unoffered, first_unoffered, untied, unheld, first_untied};
+ghost use Rattle.hier_rules.specs.Places.{IsAsked};
 
 use crate::broken::{Broken, Nodes, Rule};
 use crate::pairs::tie_rows;
-use crate::places::{is_offered, place_of_row, row_le, site_at};
-use fact_model::{Facts, PointsTo};
-use hier_model::Hier;
+use crate::places::{Asked, is_offered, place_of_row, row_le, site_at};
 use kaba_base::{ColId, NodeId, RowId};
 use kaba_bits::{BitRow, row_at};
 use std::alloc::{AllocError, Global};
@@ -44,13 +40,12 @@ pub fn of_row(rule: Rule, n: NodeId, m: NodeId, r: u32) -> Broken
 
 /// The first instance against B2.
 #[tactic(auto, using(kaba_bits::proofs::FirstLemmas::first_below_found))]
-pub fn first_unoffered(facts: &Facts, hier: &Hier) -> Option<Broken>
-    requires facts { InRange facts.now }
-    requires hier { IsHierarchyOf facts.now hier.now }
-    ensures { result ≡ first_unoffered facts.now hier.now }
+pub fn first_unoffered(asked: &Asked) -> Option<Broken>
+    requires { IsAsked asked.now }
+    ensures { result ≡ first_unoffered asked.now.facts.now asked.now.hier.now }
 {
-    for r in 0..facts.rows.len() as u32 {
-        if let Some(found) = first_unoffered_of(facts, hier, r) {
+    for r in 0..asked.facts.rows.len() as u32 {
+        if let Some(found) = first_unoffered_of(asked, r) {
             return Some(found);
         }
     }
@@ -59,16 +54,15 @@ pub fn first_unoffered(facts: &Facts, hier: &Hier) -> Option<Broken>
 
 /// The first column that a row has and is not offered.
 #[tactic(auto, using(kaba_bits::proofs::FirstLemmas::first_below_found))]
-fn first_unoffered_of(facts: &Facts, hier: &Hier, r: u32) -> Option<Broken>
-    requires facts { InRange facts.now }
-    requires hier { IsHierarchyOf facts.now hier.now }
-    requires row { r < length facts.now.rows.items }
-    ensures { result ≡ first_below (length facts.now.columns.items) (unoffered facts.now hier.now r) }
+fn first_unoffered_of(asked: &Asked, r: u32) -> Option<Broken>
+    requires asked { IsAsked asked.now }
+    requires row { r < length asked.now.facts.now.rows.items }
+    ensures { result ≡ first_below (length asked.now.facts.now.columns.items) (unoffered asked.now.facts.now asked.now.hier.now r) }
 {
-    let n = place_of_row(facts, hier, r);
-    let row = hier.table_row(RowId(r));
-    for c in 0..facts.columns.len() as u32 {
-        if row.has(c) && !is_offered(facts, hier, n, c) {
+    let n = place_of_row(asked, r);
+    let row = asked.hier.table_row(RowId(r));
+    for c in 0..asked.facts.columns.len() as u32 {
+        if row.has(c) && !is_offered(asked, n, c) {
             return Some(of_both(Rule::B2, n, r, c));
         }
     }
@@ -76,36 +70,29 @@ fn first_unoffered_of(facts: &Facts, hier: &Hier, r: u32) -> Option<Broken>
 }
 
 /// The first instance against B3. An error comes only for want of memory.
-pub fn first_untied(
-    alloc: Global,
-    facts: &Facts,
-    pt: &PointsTo,
-    hier: &Hier,
-) -> Result<Option<Broken>, AllocError>
-    requires facts { InRange facts.now }
-    requires sets { AreSets facts.now pt.now }
-    requires hier { IsHierarchyOf facts.now hier.now }
-    ensures { IfOk result (λ b. b ≡ first_untied facts.now pt.now hier.now) }
+pub fn first_untied(alloc: Global, asked: &Asked) -> Result<Option<Broken>, AllocError>
+    requires { IsAsked asked.now }
+    ensures { IfOk result (λ b. b ≡ first_untied asked.now.facts.now asked.now.pt.now asked.now.hier.now) }
 {
-    let ties = tie_rows(alloc, facts)?;
-    match first_tie(facts, hier, &ties) {
+    let ties = tie_rows(alloc, asked.facts)?;
+    match first_tie(asked, &ties) {
         Some(found) => Ok(Some(found)),
-        None => Ok(first_unheld(facts, pt, hier)),
+        None => Ok(first_unheld(asked)),
     }
 }
 
 /// The first tie whose lower row does not stand at or below its upper.
 #[tactic(auto, using(kaba_bits::proofs::FirstLemmas::first_below_found))]
-fn first_tie(facts: &Facts, hier: &Hier, ties: &[BitRow]) -> Option<Broken>
-    requires facts { InRange facts.now }
-    requires hier { IsHierarchyOf facts.now hier.now }
-    requires len { length ties.now ≡ length facts.now.rows.items }
-    requires widths { HasWidth (length facts.now.rows.items) ties.now }
-    requires ties { (l u : ℕ) → bit (row ties.now l) u ≡ is_tie facts.now l u }
-    ensures { result ≡ first_below (length facts.now.rows.items) (λ l. first_below (length facts.now.rows.items) (untied facts.now hier.now l)) }
+fn first_tie(asked: &Asked, ties: &[BitRow]) -> Option<Broken>
+    requires asked { IsAsked asked.now }
+    requires len { length ties.now ≡ length asked.now.facts.now.rows.items }
+    requires widths { HasWidth (length asked.now.facts.now.rows.items) ties.now }
+    requires ties { (l u : ℕ) → bit (row ties.now l) u ≡ is_tie asked.now.facts.now l u }
+    ensures { result ≡ first_below (length asked.now.facts.now.rows.items) (λ l. first_below (length asked.now.facts.now.rows.items)
+        (untied asked.now.facts.now asked.now.hier.now l)) }
 {
-    for l in 0..facts.rows.len() as u32 {
-        if let Some(found) = first_tie_of(facts, hier, row_at(ties, l as usize), l) {
+    for l in 0..asked.facts.rows.len() as u32 {
+        if let Some(found) = first_tie_of(asked, row_at(ties, l as usize), l) {
             return Some(found);
         }
     }
@@ -114,18 +101,17 @@ fn first_tie(facts: &Facts, hier: &Hier, ties: &[BitRow]) -> Option<Broken>
 
 /// The first such tie of a lower row.
 #[tactic(auto, using(kaba_bits::proofs::FirstLemmas::first_below_found))]
-fn first_tie_of(facts: &Facts, hier: &Hier, uppers: &BitRow, l: u32) -> Option<Broken>
-    requires facts { InRange facts.now }
-    requires hier { IsHierarchyOf facts.now hier.now }
-    requires row { l < length facts.now.rows.items }
-    requires width { length uppers.now ≡ length facts.now.rows.items }
-    requires ties { (u : ℕ) → bit uppers.now u ≡ is_tie facts.now l u }
-    ensures { result ≡ first_below (length facts.now.rows.items) (untied facts.now hier.now l) }
+fn first_tie_of(asked: &Asked, uppers: &BitRow, l: u32) -> Option<Broken>
+    requires asked { IsAsked asked.now }
+    requires row { l < length asked.now.facts.now.rows.items }
+    requires width { length uppers.now ≡ length asked.now.facts.now.rows.items }
+    requires ties { (u : ℕ) → bit uppers.now u ≡ is_tie asked.now.facts.now l u }
+    ensures { result ≡ first_below (length asked.now.facts.now.rows.items) (untied asked.now.facts.now asked.now.hier.now l) }
 {
-    let n = place_of_row(facts, hier, l);
-    for u in 0..facts.rows.len() as u32 {
-        if uppers.has(u) && !row_le(facts, hier, l, u) {
-            return Some(of_row(Rule::B3, n, place_of_row(facts, hier, u), l));
+    let n = place_of_row(asked, l);
+    for u in 0..asked.facts.rows.len() as u32 {
+        if uppers.has(u) && !row_le(asked, l, u) {
+            return Some(of_row(Rule::B3, n, place_of_row(asked, u), l));
         }
     }
     None
@@ -133,14 +119,13 @@ fn first_tie_of(facts: &Facts, hier: &Hier, uppers: &BitRow, l: u32) -> Option<B
 
 /// The first site that does not stand at or below a row in whose set it is.
 #[tactic(auto, using(kaba_bits::proofs::FirstLemmas::first_below_found))]
-fn first_unheld(facts: &Facts, pt: &PointsTo, hier: &Hier) -> Option<Broken>
-    requires facts { InRange facts.now }
-    requires sets { AreSets facts.now pt.now }
-    requires hier { IsHierarchyOf facts.now hier.now }
-    ensures { result ≡ first_below (length facts.now.sites.items) (λ o. first_below (length facts.now.rows.items) (unheld facts.now pt.now hier.now o)) }
+fn first_unheld(asked: &Asked) -> Option<Broken>
+    requires { IsAsked asked.now }
+    ensures { result ≡ first_below (length asked.now.facts.now.sites.items) (λ o. first_below (length asked.now.facts.now.rows.items)
+        (unheld asked.now.facts.now asked.now.pt.now asked.now.hier.now o)) }
 {
-    for o in 0..facts.sites.len() as u32 {
-        if let Some(found) = first_unheld_of(facts, pt, hier, o) {
+    for o in 0..asked.facts.sites.len() as u32 {
+        if let Some(found) = first_unheld_of(asked, o) {
             return Some(found);
         }
     }
@@ -149,18 +134,16 @@ fn first_unheld(facts: &Facts, pt: &PointsTo, hier: &Hier) -> Option<Broken>
 
 /// The first row in whose set a site is and at or below which it does not stand.
 #[tactic(auto, using(kaba_bits::proofs::FirstLemmas::first_below_found))]
-fn first_unheld_of(facts: &Facts, pt: &PointsTo, hier: &Hier, o: u32) -> Option<Broken>
-    requires facts { InRange facts.now }
-    requires sets { AreSets facts.now pt.now }
-    requires hier { IsHierarchyOf facts.now hier.now }
-    requires site { o < length facts.now.sites.items }
-    ensures { result ≡ first_below (length facts.now.rows.items) (unheld facts.now pt.now hier.now o) }
+fn first_unheld_of(asked: &Asked, o: u32) -> Option<Broken>
+    requires asked { IsAsked asked.now }
+    requires site { o < length asked.now.facts.now.sites.items }
+    ensures { result ≡ first_below (length asked.now.facts.now.rows.items) (unheld asked.now.facts.now asked.now.pt.now asked.now.hier.now o) }
 {
-    let r = site_at(facts, o).row.0;
-    let n = place_of_row(facts, hier, r);
-    for v in 0..facts.rows.len() as u32 {
-        if row_at(&pt.rows, v as usize).has(o) && !row_le(facts, hier, r, v) {
-            return Some(of_row(Rule::B3, n, place_of_row(facts, hier, v), r));
+    let r = site_at(asked.facts, o).row.0;
+    let n = place_of_row(asked, r);
+    for v in 0..asked.facts.rows.len() as u32 {
+        if row_at(&asked.pt.rows, v as usize).has(o) && !row_le(asked, r, v) {
+            return Some(of_row(Rule::B3, n, place_of_row(asked, v), r));
         }
     }
     None

@@ -4,16 +4,14 @@ ghost use Rattle.std.specs.Prelude.{◌≡◌, ℕ, ◌<◌, ◌&&◌, ◌||◌,
 ghost use Rattle.std.specs.List.{list_any};
 ghost use Rattle.std.specs.Str.{bytes_eq};
 ghost use Rattle.fact_model.specs.declared.facts.ClassInfo.{ClassInfo};
-ghost use Rattle.hier_model.specs.Hierarchies.{IsHierarchyOf};
 ghost use Rattle.hier_model.specs.Names.{is_taken};
 ghost use Rattle.hier_model.specs.Taken.{texts};
-ghost use Rattle.hier_rules.specs.Names.{known_names, is_reserved, is_variable, is_named, is_type};
-ghost use Rattle.hier_rules.specs.Namesakes.{is_twice};
+ghost use Rattle.hier_rules.specs.Names.{known_names, is_reserved, is_variable, is_named};
 ghost use Rattle.hier_rules.specs.Takens.{AreTaken};
+ghost use Rattle.hier_rules.specs.Places.{IsAsked};
 
-use crate::places::{is_live, node_count};
+use crate::places::{Asked, is_live, node_count};
 use fact_model::{ClassInfo, Facts};
-use hier_model::Hier;
 use indexmap::IndexSet;
 use kaba_base::{Name, NodeId};
 use std::alloc::{AllocError, Global};
@@ -116,23 +114,22 @@ fn variable_names(alloc: Global, facts: &Facts) -> Result<IndexSet<String>, Allo
 /// Adds the name of a node's type, if the node is live, and to the second set if it was in the first.
 fn add_type(
     alloc: Global,
-    facts: &Facts,
-    hier: &Hier,
+    asked: &Asked,
     n: u32,
     types: &mut IndexSet<String>,
     twice: &mut IndexSet<String>,
 ) -> Result<(), AllocError>
-    requires hier { IsHierarchyOf facts.now hier.now }
-    requires node { n < length hier.now.order.live }
-    ensures types { OnOk result ((x : List ℕ) → is_taken (texts types.new.keys) x ≡ (is_taken (texts types.old.keys) x || is_named hier.now x n)) }
+    requires asked { IsAsked asked.now }
+    requires node { n < length asked.now.hier.now.order.live }
+    ensures types { OnOk result ((x : List ℕ) → is_taken (texts types.new.keys) x ≡ (is_taken (texts types.old.keys) x || is_named asked.now.hier.now x n)) }
     ensures twice { OnOk result ((x : List ℕ) → is_taken (texts twice.new.keys) x
         ≡ (is_taken (texts twice.old.keys) x ||
-        (is_named hier.now x n && is_taken (texts types.old.keys) x))) }
+        (is_named asked.now.hier.now x n && is_taken (texts types.old.keys) x))) }
 {
-    if !is_live(hier, n) {
+    if !is_live(asked.hier, n) {
         return Ok(());
     }
-    let name = hier.type_name(NodeId(n));
+    let name = asked.hier.type_name(NodeId(n));
     if has_name(types, name) {
         add_name(alloc, twice, name)?;
     }
@@ -141,16 +138,16 @@ fn add_type(
 }
 
 /// The names that types and fields cannot have. An error comes only for want of memory.
-pub fn taken_names(alloc: Global, facts: &Facts, hier: &Hier) -> Result<TakenNames, AllocError>
-    requires hier { IsHierarchyOf facts.now hier.now }
-    ensures { IfOk result (AreTaken facts.now hier.now) }
+pub fn taken_names(alloc: Global, asked: &Asked) -> Result<TakenNames, AllocError>
+    requires { IsAsked asked.now }
+    ensures { IfOk result (AreTaken asked.now.facts.now asked.now.hier.now) }
 {
-    let reserved = reserved_names(alloc, facts)?;
-    let variables = variable_names(alloc, facts)?;
+    let reserved = reserved_names(alloc, asked.facts)?;
+    let variables = variable_names(alloc, asked.facts)?;
     let mut types = IndexSet::new(alloc);
     let mut twice = IndexSet::new(alloc);
-    for n in 0..node_count(hier) {
-        add_type(alloc, facts, hier, n, &mut types, &mut twice)?;
+    for n in 0..node_count(asked.hier) {
+        add_type(alloc, asked, n, &mut types, &mut twice)?;
     }
     Ok(TakenNames {
         types,

@@ -6,17 +6,25 @@ use Rattle.std.proofs.lemmas.List.{map-append}
 use Rattle.std.proofs.lemmas.List.Elements.{filter-append}
 use Rattle.std.proofs.lemmas.List.FromFn.{get_or-map-range_with_len, length-map-range_with_len}
 use Rattle.kaba_bits.proofs.SetLemmas.{bit-below}
-use Rattle.kaba_order.specs.Orders.{is_le, is_live}
+use Rattle.kaba_order.specs.Orders.{Ordered, is_le, is_live}
 use Rattle.fact_model.specs.declared.facts.Facts.{Facts}
-use Rattle.hier_model.specs.Hierarchies.{Hierarchy, IsHierarchyOf, is_class_node}
-use Rattle.source_gen.specs.Seen.{class_tests}
+use Rattle.hier_model.specs.Hierarchies.{Hierarchy, IsHierarchyOf, is_class_node, any_below, offers_slot}
+use Rattle.rebuild_model.specs.Members.{offers_body}
+use Rattle.source_gen.specs.Seen.{class_tests, is_offered_as}
 
--- what is not live is related to nothing
-pub dead_low : (F : Facts) (H : Hierarchy) → IsHierarchyOf F H → (a b : ℕ) → is_live H.order a ≡ false → is_le H.order a b ≡ false
-dead_low F H h a b dead = ⊎_elim (λ t. absurd (false≢true (sym dead ∙ h.sized.order.lower_lives a b t))) (λ f. f) (cases_Bool (is_le H.order a b))
+dead_in : (H : Hierarchy) (o : Ordered) (live : Bool) (n : ℕ) → o ≡ H.order → live ≡ is_live o n → live ≡ false → false ≡ is_live H.order n
+dead_in H o live n same is dead = sym dead ∙ is ∙ ap (λ (p : Ordered). is_live p n) same
 
-pub dead_high : (F : Facts) (H : Hierarchy) → IsHierarchyOf F H → (a b : ℕ) → is_live H.order b ≡ false → is_le H.order a b ≡ false
-dead_high F H h a b dead = ⊎_elim (λ t. absurd (false≢true (sym dead ∙ h.sized.order.upper_lives a b t))) (λ f. f) (cases_Bool (is_le H.order a b))
+-- what is not live, as an order tells that is that of the hierarchy, is related to nothing
+pub dead_low : (F : Facts) (H : Hierarchy) → IsHierarchyOf F H → (o : Ordered) (live : Bool) (a b : ℕ) → o ≡ H.order → live ≡ is_live o a → live ≡ false
+    → false ≡ is_le H.order a b
+dead_low F H h o live a b same is dead = sym (⊎_elim
+    (λ t. absurd (false≢true (dead_in H o live a same is dead ∙ h.sized.order.lower_lives a b t))) (λ f. f) (cases_Bool (is_le H.order a b)))
+
+pub dead_high : (F : Facts) (H : Hierarchy) → IsHierarchyOf F H → (o : Ordered) (live : Bool) (a b : ℕ) → o ≡ H.order → live ≡ is_live o b → live ≡ false
+    → false ≡ is_le H.order a b
+dead_high F H h o live a b same is dead = sym (⊎_elim
+    (λ t. absurd (false≢true (dead_in H o live b same is dead ∙ h.sized.order.upper_lives a b t))) (λ f. f) (cases_Bool (is_le H.order a b)))
 
 -- one number more
 range_more : (a n : ℕ) → range_with_len a (suc n) ≡ range_with_len a n ++ (a + n) ∷ []
@@ -30,13 +38,13 @@ if_one t true i = refl
 if_one t false i = refl
 
 -- what the numbers that pass a test give, with one number more
-pub filtered_more : {A : Type 0} (t : ℕ → A) (p : ℕ → Bool) (i : ℕ) (old new : List A) → new ≡ old ++ cond (p i) (t i ∷ []) []
+pub filtered_more : {A : Type 0} (t : ℕ → A) (p : ℕ → Bool) (i : ℕ) (b : Bool) (old new : List A) → b ≡ p i → new ≡ old ++ cond b (t i ∷ []) []
     → old ≡ map t (filter p (range_with_len 0 i))
     → new ≡ map t (filter p (range_with_len 0 (i + 1)))
-filtered_more t p i old new step known =
+filtered_more t p i b old new is step known =
     let below = range_with_len 0 i in
     let whole = ap (λ k. range_with_len 0 k) (add-one i) ∙ range_more 0 i ∙ ap (λ k. below ++ k ∷ []) (zero-add i) in
-    step ∙ ap (λ l. l ++ cond (p i) (t i ∷ []) []) known
+    step ∙ ap (λ (c : Bool). old ++ cond c (t i ∷ []) []) is ∙ ap (λ l. l ++ cond (p i) (t i ∷ []) []) known
     ∙ sym (ap (λ l. map t (filter p l)) whole ∙ ap (map t) (filter-append p below (i ∷ [])) ∙ map-append t (filter p below) (filter p (i ∷ []))
     ∙ ap (λ l. map t (filter p below) ++ l) (if_one t (p i) i))
 
@@ -49,3 +57,9 @@ unfolding class_tests
 class_tests-at F H n d live =
     get_or-map-range_with_len (λ k. is_live H.order k && is_class_node F H k) 0 (length H.order.live) n n d (bit-below H.order.live n live) (zero-add n)
     ∙ ap (λ b. b && is_class_node F H n) live
+
+-- a body that is offered, or a declaration or a body
+pub offers_either : (F : Facts) (H : Hierarchy) (n x : ℕ) (bodies : Bool)
+    → any_below (length F.columns.items) (λ c. is_offered_as F H n x bodies c) ≡ cond bodies (offers_body F H n x) (offers_slot F H n x)
+offers_either F H n x true = refl
+offers_either F H n x false = refl

@@ -5,23 +5,20 @@ ghost use Rattle.std.specs.Option.{option_map};
 ghost use Rattle.kaba_base.specs.declared.words.Keyword.TheVariants as keyword;
 ghost use Rattle.java_tree.specs.Syntax.{head_of};
 ghost use Rattle.java_core.specs.Trees.{no_place};
-ghost use Rattle.java_core.specs.Programs.{program_of, method_seen, local_seen, slot_seen};
+ghost use Rattle.java_core.specs.Programs.{method_seen, local_seen, slot_seen};
 ghost use Rattle.flow_rules.specs.Ordered.{each};
 ghost use Rattle.flow_rules.specs.Operands.{result_in};
 ghost use Rattle.written_tree.specs.Names as names;
 ghost use Rattle.written_tree.specs.Members as members;
-ghost use Rattle.tree_forms.specs.Renamed.{renamed, IsFitting};
 ghost use Rattle.source_gen.specs.Seen.{head_if};
+ghost use Rattle.source_gen.specs.Sources.{IsSource, old_program, renaming};
 
-use crate::parts::method_at;
-use hier_model::Hier;
-use java_core::{Local, Method, Program, Slot};
+use crate::parts::{Source, method_at};
+use java_core::{Local, Method, Slot};
 use java_tree::{Head, Modifier, Param, TypeName};
 use kaba_base::{Keyword, Name};
 use std::alloc::{AllocError, Global};
-use tree_forms::{
-    Numbering, method_name, modifier, node_of, nowhere, result_row, variable_row, written_type,
-};
+use tree_forms::{method_name, modifier, node_of, nowhere, result_row, variable_row, written_type};
 
 /// A list of one modifier.
 pub fn one_modifier(alloc: Global, word: Keyword) -> Result<Vec<Modifier>, AllocError>
@@ -44,21 +41,22 @@ pub fn public_and(alloc: Global, other: Keyword) -> Result<Vec<Modifier>, AllocE
 /// A parameter: the type of its row's node.
 fn param(
     alloc: Global,
-    program: &Program,
-    numbering: &Numbering,
-    hier: &Hier,
+    source: &Source,
     m: u64,
     method: &Method,
     number: u64,
     local: &Local,
 ) -> Result<Param, AllocError>
-    requires fits { IsFitting numbering.now hier.now }
-    ensures { IfOk result (λ p. p ≡ members.param (program_of no_place program.now) (renamed
-        numbering.now hier.now) hier.now m (method_seen no_place method.now) number (local_seen
-        no_place local.now)) }
+    requires { IsSource source.now }
+    ensures { IfOk result (λ p. p ≡ members.param (old_program source.now) (renaming source.now)
+        source.now.hier.now m (method_seen no_place method.now) number (local_seen no_place local.now)) }
 {
-    let node = node_of(numbering, hier, variable_row(m, method, number));
-    let ty = written_type(alloc, program, hier, node, local.ty)?;
+    let node = node_of(
+        source.numbering,
+        source.hier,
+        variable_row(m, method, number),
+    );
+    let ty = written_type(alloc, source.program, source.hier, node, local.ty)?;
     let name = local.name.copy(alloc)?;
     Ok(Param {
         is_final: false,
@@ -69,22 +67,14 @@ fn param(
 }
 
 /// The parameters.
-fn params(
-    alloc: Global,
-    program: &Program,
-    numbering: &Numbering,
-    hier: &Hier,
-    m: u64,
-    method: &Method,
-) -> Result<Vec<Param>, AllocError>
-    requires fits { IsFitting numbering.now hier.now }
-    ensures { IfOk result (λ v. v.items ≡ each (λ i k. members.param (program_of no_place
-        program.now) (renamed numbering.now hier.now) hier.now m (method_seen no_place method.now) i
-        k ∷ []) 0 (method_seen no_place method.now).params) }
+fn params(alloc: Global, source: &Source, m: u64, method: &Method) -> Result<Vec<Param>, AllocError>
+    requires { IsSource source.now }
+    ensures { IfOk result (λ v. v.items ≡ each (λ i k. members.param (old_program source.now) (renaming source.now) source.now.hier.now m (method_seen
+        no_place method.now) i k ∷ []) 0 (method_seen no_place method.now).params) }
 {
     let mut list = Vec::new(alloc);
     for (i, local) in method.params.iter().enumerate() {
-        let one = param(alloc, program, numbering, hier, m, method, i as u64, local)?;
+        let one = param(alloc, source, m, method, i as u64, local)?;
         list.push(one)?;
     }
     Ok(list)
@@ -93,41 +83,36 @@ fn params(
 /// What a method gives back: the type of its row's node; `None` is `void`.
 fn result_type(
     alloc: Global,
-    program: &Program,
-    numbering: &Numbering,
-    hier: &Hier,
+    source: &Source,
     m: u64,
     method: &Method,
 ) -> Result<Option<TypeName>, AllocError>
-    requires fits { IsFitting numbering.now hier.now }
-    ensures { IfOk result (λ t. t ≡ option_map (names.written_type (program_of no_place program.now)
-        hier.now ((renamed numbering.now hier.now).row_type (result_in (method_seen no_place
-        method.now).slot m))) (method_seen no_place method.now).result) }
+    requires { IsSource source.now }
+    ensures { IfOk result (λ t. t ≡ option_map (names.written_type (old_program source.now) source.now.hier.now ((renaming source.now).row_type
+        (result_in (method_seen no_place method.now).slot m))) (method_seen no_place method.now).result) }
 {
     let Some(ty) = method.result else {
         return Ok(None);
     };
-    let node = node_of(numbering, hier, result_row(m, method));
-    Ok(Some(written_type(alloc, program, hier, node, ty)?))
+    let node = node_of(source.numbering, source.hier, result_row(m, method));
+    Ok(Some(written_type(alloc, source.program, source.hier, node, ty)?))
 }
 
 /// The head of the method of the number `m`, under a name.
 pub fn head(
     alloc: Global,
-    program: &Program,
-    numbering: &Numbering,
-    hier: &Hier,
+    source: &Source,
     mods: Vec<Modifier>,
     name: Name,
     m: u64,
     method: &Method,
 ) -> Result<Head, AllocError>
-    requires fits { IsFitting numbering.now hier.now }
-    ensures { IfOk result (λ h. head_of h ≡ members.head (program_of no_place program.now) (renamed
-        numbering.now hier.now) hier.now mods.items name m (method_seen no_place method.now)) }
+    requires { IsSource source.now }
+    ensures { IfOk result (λ h. head_of h ≡ members.head (old_program source.now) (renaming source.now) source.now.hier.now mods.items name m
+        (method_seen no_place method.now)) }
 {
-    let result = result_type(alloc, program, numbering, hier, m, method)?;
-    let params = params(alloc, program, numbering, hier, m, method)?;
+    let result = result_type(alloc, source, m, method)?;
+    let params = params(alloc, source, m, method)?;
     Ok(Head {
         mods,
         result,
@@ -140,40 +125,35 @@ pub fn head(
 /// The head of a slot, with the names of the parameters of its first method.
 pub fn first_head(
     alloc: Global,
-    program: &Program,
-    numbering: &Numbering,
-    hier: &Hier,
+    source: &Source,
     mods: Vec<Modifier>,
     slot: &Slot,
 ) -> Result<Option<Head>, AllocError>
-    requires fits { IsFitting numbering.now hier.now }
-    ensures { IfOk result (λ h. head_if h ≡ members.first_head (program_of no_place program.now)
-        (renamed numbering.now hier.now) hier.now mods.items (slot_seen no_place slot.now)) }
+    requires { IsSource source.now }
+    ensures { IfOk result (λ h. head_if h ≡ members.first_head (old_program source.now) (renaming source.now) source.now.hier.now mods.items
+        (slot_seen no_place slot.now)) }
 {
     let m = slot.first.0 as u64;
-    let Some(method) = method_at(program, m) else {
+    let Some(method) = method_at(source.program, m) else {
         return Ok(None);
     };
-    let name = method_name(alloc, numbering, hier, m)?;
-    let made = head(alloc, program, numbering, hier, mods, name, m, method)?;
+    let name = method_name(alloc, source.numbering, source.hier, m)?;
+    let made = head(alloc, source, mods, name, m, method)?;
     Ok(Some(made))
 }
 
 /// The same of a slot by its number.
 pub fn slot_head(
     alloc: Global,
-    program: &Program,
-    numbering: &Numbering,
-    hier: &Hier,
+    source: &Source,
     mods: Vec<Modifier>,
     x: u32,
 ) -> Result<Option<Head>, AllocError>
-    requires fits { IsFitting numbering.now hier.now }
-    ensures { IfOk result (λ h. head_if h ≡ members.slot_head (program_of no_place program.now)
-        (renamed numbering.now hier.now) hier.now mods.items x) }
+    requires { IsSource source.now }
+    ensures { IfOk result (λ h. head_if h ≡ members.slot_head (old_program source.now) (renaming source.now) source.now.hier.now mods.items x) }
 {
-    match program.slots.get(x as usize) {
-        Some(slot) => first_head(alloc, program, numbering, hier, mods, slot),
+    match source.program.slots.get(x as usize) {
+        Some(slot) => first_head(alloc, source, mods, slot),
         None => Ok(None),
     }
 }

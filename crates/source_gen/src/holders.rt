@@ -5,20 +5,19 @@ ghost use Rattle.std.specs.List.{list_any};
 ghost use Rattle.java_tree.specs.Syntax as tree;
 ghost use Rattle.java_core.specs.Trees.{no_place};
 ghost use Rattle.java_core.specs.Programs.{program_of, class_seen, method_seen, field_seen};
-ghost use Rattle.java_core.specs.Formed.{IsFormed};
 ghost use Rattle.flow_rules.specs.Ordered.{each, when};
 ghost use Rattle.flow_rules.specs.Facts.{is_holder};
 ghost use Rattle.written_tree.specs.Members as written;
 ghost use Rattle.written_tree.specs.Written as types;
-ghost use Rattle.tree_forms.specs.Renamed.{renamed, IsFitting};
+ghost use Rattle.source_gen.specs.Sources.{IsSource, old_program, renaming};
 
 use crate::members::{push_decl, push_member, static_field, static_method};
-use hier_model::Hier;
+use crate::parts::Source;
 use java_core::{Class, Field, Method, Program};
 use java_tree::{Decl, Member};
 use kaba_base::ClassId;
 use std::alloc::{AllocError, Global};
-use tree_forms::{Numbering, nowhere};
+use tree_forms::nowhere;
 
 /// Whether a member is static and of the class with this number.
 fn is_of(is_static: bool, owner: ClassId, c: usize) -> bool
@@ -63,70 +62,54 @@ fn is_holder(program: &Program, c: usize) -> bool
 /// Adds a field, if it is a static one of a class.
 fn add_field(
     alloc: Global,
-    program: &Program,
-    numbering: &Numbering,
-    hier: &Hier,
+    source: &Source,
     c: usize,
     f: u64,
     field: &Field,
     into: &mut Vec<Member>,
 ) -> Result<(), AllocError>
-    requires fits { IsFitting numbering.now hier.now }
-    ensures { OnOk result (tree.members into.new.items ≡ tree.members into.old.items ++
-        written.static_field_member (program_of no_place program.now) (renamed numbering.now
-        hier.now) hier.now c f (field_seen no_place field.now)) }
+    requires { IsSource source.now }
+    ensures { OnOk result (tree.members into.new.items ≡ tree.members into.old.items ++ written.static_field_member (old_program source.now) (renaming
+        source.now) source.now.hier.now c f (field_seen no_place field.now)) }
 {
     if !is_of(field.is_static, field.owner, c) {
         return Ok(());
     }
-    push_member(
-        into,
-        static_field(alloc, program, numbering, hier, f, field)?,
-    )
+    push_member(into, static_field(alloc, source, f, field)?)
 }
 
 /// Adds a method, if it is a static one of a class.
 fn add_method(
     alloc: Global,
-    program: &Program,
-    numbering: &Numbering,
-    hier: &Hier,
+    source: &Source,
     c: usize,
     m: u64,
     method: &Method,
     into: &mut Vec<Member>,
 ) -> Result<(), AllocError>
-    requires formed { IsFormed (program_of no_place program.now) }
-    requires fits { IsFitting numbering.now hier.now }
-    ensures { OnOk result (tree.members into.new.items ≡ tree.members into.old.items ++
-        written.static_method_member (program_of no_place program.now) (renamed numbering.now
-        hier.now) hier.now c m (method_seen no_place method.now)) }
+    requires { IsSource source.now }
+    ensures { OnOk result (tree.members into.new.items ≡ tree.members into.old.items ++ written.static_method_member (old_program source.now)
+        (renaming source.now) source.now.hier.now c m (method_seen no_place method.now)) }
 {
     if !is_of(method.is_static, method.owner, c) {
         return Ok(());
     }
-    push_member(
-        into,
-        static_method(alloc, program, numbering, hier, m, method)?,
-    )
+    push_member(into, static_method(alloc, source, m, method)?)
 }
 
 /// Adds the static fields of a class, in the order of the program.
 fn add_fields(
     alloc: Global,
-    program: &Program,
-    numbering: &Numbering,
-    hier: &Hier,
+    source: &Source,
     c: usize,
     into: &mut Vec<Member>,
 ) -> Result<(), AllocError>
-    requires fits { IsFitting numbering.now hier.now }
-    ensures { OnOk result (tree.members into.new.items ≡ tree.members into.old.items ++ each
-        (written.static_field_member (program_of no_place program.now) (renamed numbering.now
-        hier.now) hier.now c) 0 (program_of no_place program.now).fields) }
+    requires { IsSource source.now }
+    ensures { OnOk result (tree.members into.new.items ≡ tree.members into.old.items ++ each (written.static_field_member (old_program source.now)
+        (renaming source.now) source.now.hier.now c) 0 (old_program source.now).fields) }
 {
-    for (f, field) in program.fields.iter().enumerate() {
-        add_field(alloc, program, numbering, hier, c, f as u64, field, into)?;
+    for (f, field) in source.program.fields.iter().enumerate() {
+        add_field(alloc, source, c, f as u64, field, into)?;
     }
     Ok(())
 }
@@ -134,42 +117,30 @@ fn add_fields(
 /// Adds the static methods of a class, in the order of the program.
 fn add_methods(
     alloc: Global,
-    program: &Program,
-    numbering: &Numbering,
-    hier: &Hier,
+    source: &Source,
     c: usize,
     into: &mut Vec<Member>,
 ) -> Result<(), AllocError>
-    requires formed { IsFormed (program_of no_place program.now) }
-    requires fits { IsFitting numbering.now hier.now }
-    ensures { OnOk result (tree.members into.new.items ≡ tree.members into.old.items ++ each
-        (written.static_method_member (program_of no_place program.now) (renamed numbering.now
-        hier.now) hier.now c) 0 (program_of no_place program.now).methods) }
+    requires { IsSource source.now }
+    ensures { OnOk result (tree.members into.new.items ≡ tree.members into.old.items ++ each (written.static_method_member (old_program source.now)
+        (renaming source.now) source.now.hier.now c) 0 (old_program source.now).methods) }
 {
-    for (m, method) in program.methods.iter().enumerate() {
-        add_method(alloc, program, numbering, hier, c, m as u64, method, into)?;
+    for (m, method) in source.program.methods.iter().enumerate() {
+        add_method(alloc, source, c, m as u64, method, into)?;
     }
     Ok(())
 }
 
 /// The static members of an old class, under its name.
-fn holder(
-    alloc: Global,
-    program: &Program,
-    numbering: &Numbering,
-    hier: &Hier,
-    c: usize,
-    class: &Class,
-) -> Result<Decl, AllocError>
-    requires formed { IsFormed (program_of no_place program.now) }
-    requires fits { IsFitting numbering.now hier.now }
-    ensures { IfOk result (λ d. tree.decl_of d ≡ types.holder_tree (program_of no_place program.now)
-        (renamed numbering.now hier.now) hier.now c (class_seen no_place class.now)) }
+fn holder(alloc: Global, source: &Source, c: usize, class: &Class) -> Result<Decl, AllocError>
+    requires { IsSource source.now }
+    ensures { IfOk result (λ d. tree.decl_of d ≡ types.holder_tree (old_program source.now) (renaming source.now) source.now.hier.now c (class_seen
+        no_place class.now)) }
 {
     let name = class.name.copy(alloc)?;
     let mut members = Vec::new(alloc);
-    add_fields(alloc, program, numbering, hier, c, &mut members)?;
-    add_methods(alloc, program, numbering, hier, c, &mut members)?;
+    add_fields(alloc, source, c, &mut members)?;
+    add_methods(alloc, source, c, &mut members)?;
     Ok(Decl::Class {
         mods: Vec::new(alloc),
         name,
@@ -183,41 +154,30 @@ fn holder(
 /// Adds the holder of a class, if it has static members.
 fn add_holder(
     alloc: Global,
-    program: &Program,
-    numbering: &Numbering,
-    hier: &Hier,
+    source: &Source,
     c: usize,
     class: &Class,
     into: &mut Vec<Decl>,
 ) -> Result<(), AllocError>
-    requires formed { IsFormed (program_of no_place program.now) }
-    requires fits { IsFitting numbering.now hier.now }
-    ensures { OnOk result (tree.decls into.new.items ≡ tree.decls into.old.items ++ when (is_holder
-        (program_of no_place program.now) c) (types.holder_tree (program_of no_place program.now)
-        (renamed numbering.now hier.now) hier.now c (class_seen no_place class.now) ∷ [])) }
+    requires { IsSource source.now }
+    ensures { OnOk result (tree.decls into.new.items ≡ tree.decls into.old.items ++ when (is_holder (old_program source.now) c)
+        (types.holder_tree (old_program source.now) (renaming source.now) source.now.hier.now c
+        (class_seen no_place class.now) ∷ [])) }
 {
-    if !is_holder(program, c) {
+    if !is_holder(source.program, c) {
         return Ok(());
     }
-    push_decl(into, holder(alloc, program, numbering, hier, c, class)?)
+    push_decl(into, holder(alloc, source, c, class)?)
 }
 
 /// Adds the holders, in the order of the program.
-pub fn add_holders(
-    alloc: Global,
-    program: &Program,
-    numbering: &Numbering,
-    hier: &Hier,
-    into: &mut Vec<Decl>,
-) -> Result<(), AllocError>
-    requires formed { IsFormed (program_of no_place program.now) }
-    requires fits { IsFitting numbering.now hier.now }
-    ensures { OnOk result (tree.decls into.new.items ≡ tree.decls into.old.items ++
-        types.holder_trees (program_of no_place program.now) (renamed numbering.now hier.now)
-        hier.now) }
+pub fn add_holders(alloc: Global, source: &Source, into: &mut Vec<Decl>) -> Result<(), AllocError>
+    requires { IsSource source.now }
+    ensures { OnOk result (tree.decls into.new.items ≡ tree.decls into.old.items ++ types.holder_trees (old_program source.now)
+        (renaming source.now) source.now.hier.now) }
 {
-    for (c, class) in program.classes.iter().enumerate() {
-        add_holder(alloc, program, numbering, hier, c, class, into)?;
+    for (c, class) in source.program.classes.iter().enumerate() {
+        add_holder(alloc, source, c, class, into)?;
     }
     Ok(())
 }

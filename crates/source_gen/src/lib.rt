@@ -27,6 +27,7 @@ use hier_model::Hier;
 use holders::add_holders;
 use java_core::Program;
 use java_tree::Tree;
+use parts::Source;
 use std::alloc::{AllocError, Global};
 use supers::class_nodes;
 use tree_forms::Numbering;
@@ -51,8 +52,15 @@ pub fn generate(
         (renamed numbering.now hier.now) facts.now hier.now numbering.now.columns.keys) }
 {
     let classes = class_nodes(alloc, facts, hier)?;
+    let source = Source {
+        program,
+        numbering,
+        classes: &classes,
+        facts,
+        hier,
+    };
     let mut decls = Vec::new(alloc);
-    add_types(alloc, program, numbering, &classes, facts, hier, &mut decls)?;
-    add_holders(alloc, program, numbering, hier, &mut decls)?;
+    add_types(alloc, &source, &mut decls)?;
+    add_holders(alloc, &source, &mut decls)?;
     Ok(Tree { decls })
 }

@@ -4,22 +4,21 @@ ghost use Rattle.std.specs.Prelude.{◌≡◌, ◌++◌, ◌∷◌, [], IfOk, On
 ghost use Rattle.kaba_base.specs.declared.words.Keyword.TheVariants as keyword;
 ghost use Rattle.java_tree.specs.Syntax as tree;
 ghost use Rattle.java_core.specs.Trees.{no_place};
-ghost use Rattle.java_core.specs.Programs.{program_of, method_seen, field_seen};
-ghost use Rattle.java_core.specs.Formed.{IsFormed};
+ghost use Rattle.java_core.specs.Programs.{method_seen, field_seen};
 ghost use Rattle.flow_rules.specs.declared.items.RowItem.TheVariants as row;
 ghost use Rattle.written_tree.specs.Names as names;
 ghost use Rattle.written_tree.specs.Members as written;
-ghost use Rattle.tree_forms.specs.Renamed.{renamed, IsFitting};
 ghost use Rattle.source_gen.specs.Seen.{head_if};
+ghost use Rattle.source_gen.specs.Sources.{IsSource, old_program, renaming};
 
 use crate::heads::{head, one_modifier, public_and};
+use crate::parts::Source;
 use flow_rules::RowItem;
-use hier_model::Hier;
-use java_core::{Field, Method, Program};
+use java_core::{Field, Method};
 use java_tree::{Decl, Head, Member, Modifier, Stmt};
 use kaba_base::{Keyword, Name};
 use std::alloc::{AllocError, Global};
-use tree_forms::{Numbering, field_name, method_name, node_of, nowhere, written_type};
+use tree_forms::{field_name, method_name, node_of, nowhere, written_type};
 use tree_parts::body;
 
 /// Adds a head.
@@ -89,43 +88,46 @@ fn parameters(alloc: Global, method: &Method) -> Result<Vec<u32>, AllocError>
 /// The statements of a method, as they are written.
 fn code(
     alloc: Global,
-    program: &Program,
-    numbering: &Numbering,
-    hier: &Hier,
+    source: &Source,
     m: u64,
     method: &Method,
 ) -> Result<Option<Vec<Stmt>>, AllocError>
-    requires formed { IsFormed (program_of no_place program.now) }
-    requires fits { IsFitting numbering.now hier.now }
-    ensures { IfOk result (λ b. tree.body_seen b ≡ written.body (program_of no_place program.now)
-        (renamed numbering.now hier.now) hier.now m (method_seen no_place method.now)) }
+    requires { IsSource source.now }
+    ensures { IfOk result (λ b. tree.body_seen b ≡ written.body (old_program source.now) (renaming source.now) source.now.hier.now m (method_seen
+        no_place method.now)) }
 {
     let Some(list) = &method.body else {
         return Ok(None);
     };
     let scope = parameters(alloc, method)?;
-    let made = body(alloc, program, numbering, hier, m, method, &scope, list)?;
+    let made = body(
+        alloc,
+        source.program,
+        source.numbering,
+        source.hier,
+        m,
+        method,
+        &scope,
+        list,
+    )?;
     Ok(Some(made))
 }
 
 /// A field under a name, with these modifiers.
 fn field(
     alloc: Global,
-    program: &Program,
-    numbering: &Numbering,
-    hier: &Hier,
+    source: &Source,
     mods: Vec<Modifier>,
     name: Name,
     f: u64,
     old: &Field,
 ) -> Result<Member, AllocError>
-    requires fits { IsFitting numbering.now hier.now }
-    ensures { IfOk result (λ d. tree.member_of d ≡ tree.FieldTree mods.items (names.written_type
-        (program_of no_place program.now) hier.now ((renamed numbering.now hier.now).row_type
-        (row.Field f)) old.now.ty) name names.nowhere) }
+    requires { IsSource source.now }
+    ensures { IfOk result (λ d. tree.member_of d ≡ tree.FieldTree mods.items (names.written_type (old_program source.now)
+        source.now.hier.now ((renaming source.now).row_type (row.Field f)) old.now.ty) name names.nowhere) }
 {
-    let node = node_of(numbering, hier, RowItem::Field(f));
-    let ty = written_type(alloc, program, hier, node, old.ty)?;
+    let node = node_of(source.numbering, source.hier, RowItem::Field(f));
+    let ty = written_type(alloc, source.program, source.hier, node, old.ty)?;
     Ok(Member::Field {
         mods,
         ty,
@@ -137,23 +139,19 @@ fn field(
 /// A method under a name, with these modifiers.
 fn method(
     alloc: Global,
-    program: &Program,
-    numbering: &Numbering,
-    hier: &Hier,
+    source: &Source,
     mods: Vec<Modifier>,
     name: Name,
     m: u64,
     old: &Method,
 ) -> Result<Member, AllocError>
-    requires formed { IsFormed (program_of no_place program.now) }
-    requires fits { IsFitting numbering.now hier.now }
-    ensures { IfOk result (λ d. tree.member_of d ≡ tree.MethodTree (written.head (program_of
-        no_place program.now) (renamed numbering.now hier.now) hier.now mods.items name m
-        (method_seen no_place old.now)) (written.body (program_of no_place program.now) (renamed
-        numbering.now hier.now) hier.now m (method_seen no_place old.now)) names.nowhere) }
+    requires { IsSource source.now }
+    ensures { IfOk result (λ d. tree.member_of d ≡ tree.MethodTree (written.head (old_program source.now) (renaming source.now) source.now.hier.now
+        mods.items name m (method_seen no_place old.now)) (written.body (old_program source.now) (renaming source.now) source.now.hier.now m
+        (method_seen no_place old.now)) names.nowhere) }
 {
-    let head = head(alloc, program, numbering, hier, mods, name, m, old)?;
-    let body = code(alloc, program, numbering, hier, m, old)?;
+    let head = head(alloc, source, mods, name, m, old)?;
+    let body = code(alloc, source, m, old)?;
     Ok(Member::Method {
         head,
         body,
@@ -164,78 +162,65 @@ fn method(
 /// An instance field: under the name of its column, without modifiers.
 pub fn field_member(
     alloc: Global,
-    program: &Program,
-    numbering: &Numbering,
-    hier: &Hier,
+    source: &Source,
     f: u64,
     old: &Field,
 ) -> Result<Member, AllocError>
-    requires fits { IsFitting numbering.now hier.now }
-    ensures { IfOk result (λ d. tree.member_of d ≡ written.field_member (program_of no_place
-        program.now) (renamed numbering.now hier.now) hier.now f (field_seen no_place old.now)) }
+    requires { IsSource source.now }
+    ensures { IfOk result (λ d. tree.member_of d ≡ written.field_member (old_program source.now) (renaming source.now) source.now.hier.now f
+        (field_seen no_place old.now)) }
 {
-    let name = field_name(alloc, numbering, hier, f)?;
+    let name = field_name(alloc, source.numbering, source.hier, f)?;
     let mods = Vec::new(alloc);
-    field(alloc, program, numbering, hier, mods, name, f, old)
+    field(alloc, source, mods, name, f, old)
 }
 
 /// The body of an instance method: public, under the name of its declaration's column.
 pub fn body_member(
     alloc: Global,
-    program: &Program,
-    numbering: &Numbering,
-    hier: &Hier,
+    source: &Source,
     m: u64,
     old: &Method,
 ) -> Result<Member, AllocError>
-    requires formed { IsFormed (program_of no_place program.now) }
-    requires fits { IsFitting numbering.now hier.now }
-    ensures { IfOk result (λ d. tree.member_of d ≡ written.body_member (program_of no_place
-        program.now) (renamed numbering.now hier.now) hier.now m (method_seen no_place old.now)) }
+    requires { IsSource source.now }
+    ensures { IfOk result (λ d. tree.member_of d ≡ written.body_member (old_program source.now) (renaming source.now) source.now.hier.now m
+        (method_seen no_place old.now)) }
 {
-    let name = method_name(alloc, numbering, hier, m)?;
+    let name = method_name(alloc, source.numbering, source.hier, m)?;
     let mods = one_modifier(alloc, Keyword::Public)?;
-    method(alloc, program, numbering, hier, mods, name, m, old)
+    method(alloc, source, mods, name, m, old)
 }
 
 /// A static field of a holder: it keeps its name.
 pub fn static_field(
     alloc: Global,
-    program: &Program,
-    numbering: &Numbering,
-    hier: &Hier,
+    source: &Source,
     f: u64,
     old: &Field,
 ) -> Result<Member, AllocError>
-    requires fits { IsFitting numbering.now hier.now }
-    ensures { IfOk result (λ d. tree.member_of d ≡ tree.FieldTree (names.modifier keyword.Public ∷
-        names.modifier keyword.Static ∷ []) (names.written_type (program_of no_place program.now)
-        hier.now ((renamed numbering.now hier.now).row_type (row.Field f)) old.now.ty) old.now.name
+    requires { IsSource source.now }
+    ensures { IfOk result (λ d. tree.member_of d ≡ tree.FieldTree (names.modifier keyword.Public ∷ names.modifier keyword.Static ∷ [])
+        (names.written_type (old_program source.now) source.now.hier.now ((renaming source.now).row_type (row.Field f)) old.now.ty) old.now.name
         names.nowhere) }
 {
     let name = old.name.copy(alloc)?;
     let mods = public_and(alloc, Keyword::Static)?;
-    field(alloc, program, numbering, hier, mods, name, f, old)
+    field(alloc, source, mods, name, f, old)
 }
 
 /// A static method of a holder: it keeps its name.
 pub fn static_method(
     alloc: Global,
-    program: &Program,
-    numbering: &Numbering,
-    hier: &Hier,
+    source: &Source,
     m: u64,
     old: &Method,
 ) -> Result<Member, AllocError>
-    requires formed { IsFormed (program_of no_place program.now) }
-    requires fits { IsFitting numbering.now hier.now }
-    ensures { IfOk result (λ d. tree.member_of d ≡ tree.MethodTree (written.head (program_of
-        no_place program.now) (renamed numbering.now hier.now) hier.now (names.modifier
-        keyword.Public ∷ names.modifier keyword.Static ∷ []) old.now.name m (method_seen no_place
-        old.now)) (written.body (program_of no_place program.now) (renamed numbering.now hier.now)
-        hier.now m (method_seen no_place old.now)) names.nowhere) }
+    requires { IsSource source.now }
+    ensures { IfOk result (λ d. tree.member_of d ≡ tree.MethodTree (written.head (old_program source.now) (renaming source.now) source.now.hier.now
+        (names.modifier keyword.Public ∷ names.modifier keyword.Static ∷ []) old.now.name m (method_seen no_place old.now)) (written.body (old_program
+        source.now) (renaming source.now) source.now.hier.now m (method_seen no_place old.now)) names.nowhere) }
 {
     let name = old.name.copy(alloc)?;
     let mods = public_and(alloc, Keyword::Static)?;
-    method(alloc, program, numbering, hier, mods, name, m, old)
+    method(alloc, source, mods, name, m, old)
 }

@@ -10,9 +10,9 @@ use Rattle.hier_rules.proofs.bodies.called_slots.Goals as goal
 
 pub loop-call-preserved : goal.loop-call-preserved
 loop-call-preserved c =
-    let pt = c.args.pt.now in
+    let pt = c.args.asked.now.pt.now in
     let s = c.args.s in
-    let calls = c.args.facts.now.calls.items in
+    let calls = c.args.asked.now.facts.now.calls.items in
     let is = rw c.deref-call-items.ensures.value at c.call-item.is in
     let f = λ (k : CallInfo). k.slot in
     let p = λ (k : CallInfo). bit (row pt.points.items k.receiver) s in
@@ -25,9 +25,9 @@ returns-clause-sorted c = IsNonDecreasingBy-from_sort (λ x. x) c.sort.new.self.
 
 pub returns-clause-slots : goal.returns-clause-slots
 returns-clause-slots c =
-    let e = take_all c.loop-call.call-index c.args.facts.now.calls.items (omega arith) in
-    sorted_same {P = λ x. is_called c.args.facts.now c.args.pt.now c.args.s x ≡ true} c.loop-call.slots.items c.sort.new.self.items
+    let e = take_all c.loop-call.call-index c.args.asked.now.facts.now.calls.items (omega arith) in
+    sorted_same {P = λ x. is_called c.args.asked.now.facts.now c.args.asked.now.pt.now c.args.s x ≡ true} c.loop-call.slots.items c.sort.new.self.items
     c.in_ok-sort.ensures.permutation
     (λ x. subst (λ cs. Contains c.loop-call.slots.items x ↔
-    (list_any (λ (k : CallInfo). bit (row c.args.pt.now.points.items k.receiver) c.args.s && eqb k.slot x) cs ≡ true)) e
+    (list_any (λ (k : CallInfo). bit (row c.args.asked.now.pt.now.points.items k.receiver) c.args.s && eqb k.slot x) cs ≡ true)) e
     (c.loop-call.invariant x))

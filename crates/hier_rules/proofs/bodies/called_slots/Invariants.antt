@@ -5,5 +5,5 @@ use Rattle.hier_rules.proofs.KeyLemmas.{Collects}
 use Rattle.hier_rules.proofs.bodies.called_slots.Given as goal
 
 abbrev pub invariant-loop-call : goal.invariant-loop-call
-invariant-loop-call l = Collects (λ (k : CallInfo). k.slot) (λ k. bit (row l.pt.points.items k.receiver) l.s) (λ x. false) l.slots.items
-    l.facts.calls.items l.call-index
+invariant-loop-call l = Collects (λ (k : CallInfo). k.slot) (λ k. bit (row l.asked.pt.now.points.items k.receiver) l.s) (λ x. false) l.slots.items
+    l.asked.facts.now.calls.items l.call-index

@@ -4,5 +4,5 @@ use Rattle.hier_rules.specs.Obligations.{two_bodies}
 use Rattle.hier_rules.proofs.bodies.first_two_bodies.Given as goal
 
 abbrev pub invariant-loop-n : goal.invariant-loop-n
-invariant-loop-n l = first_below l.n (λ n. first_below (length l.facts.columns.items) (λ c. first_below (length l.facts.columns.items)
-    (two_bodies l.facts l.hier n c))) ≡ None
+invariant-loop-n l = first_below l.n (λ n. first_below (length l.asked.facts.now.columns.items) (λ c. first_below (length l.asked.facts.now.columns.items)
+    (two_bodies l.asked.facts.now l.asked.hier.now n c))) ≡ None

@@ -4,4 +4,4 @@ use Rattle.hier_rules.specs.Obligations.{two_bodies}
 use Rattle.hier_rules.proofs.bodies.first_two_bodies_at.Given as goal
 
 abbrev pub invariant-loop-c : goal.invariant-loop-c
-invariant-loop-c l = first_below l.c (λ c. first_below (length l.facts.columns.items) (two_bodies l.facts l.hier l.n c)) ≡ None
+invariant-loop-c l = first_below l.c (λ c. first_below (length l.asked.facts.now.columns.items) (two_bodies l.asked.facts.now l.asked.hier.now l.n c)) ≡ None

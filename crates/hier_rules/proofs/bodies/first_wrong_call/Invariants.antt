@@ -6,5 +6,5 @@ use Rattle.hier_rules.specs.Obligations.{wrong_body}
 use Rattle.hier_rules.proofs.bodies.first_wrong_call.Given as goal
 
 abbrev pub invariant-loop-x : goal.invariant-loop-x
-invariant-loop-x l = (j : ℕ) → j < l.x-index → option_and_then (wrong_body l.facts l.hier l.s)
-    (finds l.facts (site_class l.facts l.s) (get_or l.slots j 0)) ≡ None
+invariant-loop-x l = (j : ℕ) → j < l.x-index → option_and_then (wrong_body l.asked.facts.now l.asked.hier.now l.s)
+    (finds l.asked.facts.now (site_class l.asked.facts.now l.s) (get_or l.slots j 0)) ≡ None

@@ -5,4 +5,4 @@ use Rattle.hier_rules.specs.Asked.{slots_of}
 use Rattle.hier_rules.proofs.bodies.first_wrong_need.Given as goal
 
 abbrev pub invariant-loop-s : goal.invariant-loop-s
-invariant-loop-s l = first_below l.s (λ s. first_below (slots_of l.facts) (wrong_need l.facts l.pt l.hier s)) ≡ None
+invariant-loop-s l = first_below l.s (λ s. first_below (slots_of l.asked.facts.now) (wrong_need l.asked.facts.now l.asked.pt.now l.asked.hier.now s)) ≡ None

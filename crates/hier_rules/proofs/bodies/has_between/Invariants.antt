@@ -4,4 +4,4 @@ use Rattle.hier_rules.specs.Obligations.{is_between}
 use Rattle.hier_rules.proofs.bodies.has_between.Given as goal
 
 abbrev pub invariant-loop-e : goal.invariant-loop-e
-invariant-loop-e l = any_below l.e (is_between l.facts l.hier l.r l.d) ≡ false
+invariant-loop-e l = any_below l.e (is_between l.asked.facts.now l.asked.hier.now l.r l.d) ≡ false

@@ -1,25 +1,16 @@
-use Rattle.std.proofs.Common.{◌≡◌, ◌∙◌, ap, ◌||◌, ◌&&◌, eqb, length, arith, rules}
-use Rattle.std.specs.Prelude.{nat_lt}
+use Rattle.std.proofs.Common.{arith, rules}
 use Rattle.hier_rules.specs.Chains.{is_loose}
-use Rattle.hier_rules.proofs.NameLemmas.{one_more}
+use Rattle.hier_rules.proofs.NameLemmas.{marked_next, marked_all}
 use Rattle.hier_rules.proofs.chains.loose_nodes.Goals as goal
 
 pub loop-n-preserved : goal.loop-n-preserved
-loop-n-preserved c =
-    let F = c.args.facts.now in
-    let H = c.args.hier.now in
-    record {
-      width = search rules;
-      exact = λ x. c.add_loose.ensures.added x ∙ ap (λ b. b || (eqb c.loop-n.n x && is_loose F H c.loop-n.n)) (c.loop-n.invariant.exact x)
-          ∙ one_more (is_loose F H) c.loop-n.n x;
-    }
+loop-n-preserved c = record {
+  width = search rules;
+  exact = marked_next (is_loose c.args.facts.now c.args.hier.now) c.loop-n.n _ _ c.add_loose.ensures.added c.loop-n.invariant.exact;
+}
 
 pub returns : goal.returns
-returns c =
-    let F = c.args.facts.now in
-    let H = c.args.hier.now in
-    let e : c.loop-n.n ≡ length H.order.live = omega arith in
-    record {
-      width = c.loop-n.invariant.width;
-      exact = λ x. c.loop-n.invariant.exact x ∙ ap (λ k. nat_lt x k && is_loose F H x) e;
-    }
+returns c = record {
+  width = c.loop-n.invariant.width;
+  exact = marked_all (is_loose c.args.facts.now c.args.hier.now) c.loop-n.n _ _ (omega arith) c.loop-n.invariant.exact;
+}

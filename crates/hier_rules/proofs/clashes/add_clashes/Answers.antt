@@ -1,4 +1,4 @@
-use Rattle.std.proofs.Common.{◌≡◌, ℕ, ◌+◌, ◌<◌, ◌∙◌, ap, sym, subst, None, Some, List, Option, get_or, length, arith}
+use Rattle.std.proofs.Common.{◌≡◌, ℕ, ◌+◌, ◌<◌, ◌∙◌, ap, sym, subst, None, Some, List, Option, get_or, arith}
 use Rattle.hier_model.specs.Hierarchies.{member_name}
 use Rattle.hier_rules.specs.declared.clashes.ClashPair.{ClashPair}
 use Rattle.hier_rules.specs.Namesakes.{last_of, AreClashes}
@@ -8,8 +8,8 @@ use Rattle.hier_rules.proofs.clashes.add_clashes.Goals as goal
 
 pub namesakes-init : goal.namesakes-init
 namesakes-init c =
-    let F = c.args.facts.now in
-    let H = c.args.hier.now in
+    let F = c.args.asked.now.facts.now in
+    let H = c.args.asked.now.hier.now in
     let d = c.args.d in
     let xs : List ClashPair = c.args.clashes.now.items in
     let name = member_name H d in
@@ -24,8 +24,8 @@ namesakes-init c =
 
 pub namesakes-preserved : goal.namesakes-preserved
 namesakes-preserved c =
-    let F = c.args.facts.now in
-    let H = c.args.hier.now in
+    let F = c.args.asked.now.facts.now in
+    let H = c.args.asked.now.hier.now in
     let d = c.args.d in
     let name = member_name H d in
     let k : ℕ = c.in-Some.c in
@@ -47,7 +47,7 @@ namesakes-preserved c =
 
 pub namesakes-smaller : goal.namesakes-smaller
 namesakes-smaller c =
-    let H = c.args.hier.now in
+    let H = c.args.asked.now.hier.now in
     let d = c.args.d in
     let name = member_name H d in
     let k : ℕ = c.in-Some.c in

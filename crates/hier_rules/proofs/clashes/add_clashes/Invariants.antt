@@ -8,8 +8,8 @@ use Rattle.hier_rules.proofs.clashes.add_clashes.Given as goal
 abbrev pub invariant-namesakes : goal.invariant-namesakes
 invariant-namesakes l = record {
   below : (c : ℕ) → l.earlier ≡ Some c → c < l.d;
-  named : (c : ℕ) → l.earlier ≡ Some c → bytes_eq (member_name l.hier c) (member_name l.hier l.d) ≡ true;
-  found : AreClashes l.facts l.hier l.d (limit l.earlier) l.clashes.items;
+  named : (c : ℕ) → l.earlier ≡ Some c → bytes_eq (member_name l.asked.hier.now c) (member_name l.asked.hier.now l.d) ≡ true;
+  found : AreClashes l.asked.facts.now l.asked.hier.now l.d (limit l.earlier) l.clashes.items;
 }
 
 abbrev pub decreases-namesakes : goal.decreases-namesakes

@@ -10,18 +10,21 @@ use Rattle.hier_rules.proofs.clashes.first_confused_at.Goals as goal
 
 pub returns-then-not-is_live : goal.returns-then-not-is_live
 returns-then-not-is_live c =
-    sym (dead_confused c.args.facts.now c.args.hier.now c.requires.hier.sized.order c.args.n (sym c.is_live.ensures ∙ c.if-not-is_live.true))
+    sym (dead_confused c.args.asked.now.facts.now c.args.asked.now.hier.now c.requires.asked.hier.sized.order c.args.n (sym c.is_live.ensures
+    ∙ c.if-not-is_live.true))
 
 pub offers_both-requires-clause-first : goal.offers_both-requires-clause-first
 offers_both-requires-clause-first c =
     let xs = c.args.clashes.now in
-    first_below_all c.args.facts.now c.args.hier.now (length c.args.facts.now.columns.items) xs c.requires.clashes (get_or xs c.loop-x.x-index (pair 0 0))
+    first_below_all c.args.asked.now.facts.now c.args.asked.now.hier.now (length c.args.asked.now.facts.now.columns.items) xs c.requires.clashes
+    (get_or xs c.loop-x.x-index (pair 0 0))
     (Contains-get_or xs c.loop-x.x-index (pair 0 0) (omega arith))
 
 pub offers_both-requires-clause-second : goal.offers_both-requires-clause-second
 offers_both-requires-clause-second c =
     let xs = c.args.clashes.now in
-    second_below c.args.facts.now c.args.hier.now (length c.args.facts.now.columns.items) xs c.requires.clashes (get_or xs c.loop-x.x-index (pair 0 0))
+    second_below c.args.asked.now.facts.now c.args.asked.now.hier.now (length c.args.asked.now.facts.now.columns.items) xs c.requires.clashes
+    (get_or xs c.loop-x.x-index (pair 0 0))
     (Contains-get_or xs c.loop-x.x-index (pair 0 0) (omega arith))
 
 pub returns-then-offers_both : goal.returns-then-offers_both
@@ -30,7 +33,7 @@ returns-then-offers_both c =
     let i : ℕ = c.loop-x.x-index in
     let x : ClashPair = get_or xs i (pair 0 0) in
     let lt : i < length xs = omega arith in
-    sym (one_confused c.args.facts.now c.args.hier.now (length c.args.facts.now.columns.items) xs c.requires.clashes c.args.n i
+    sym (one_confused c.args.asked.now.facts.now c.args.asked.now.hier.now (length c.args.asked.now.facts.now.columns.items) xs c.requires.clashes c.args.n i
     (λ j y jlt ln. c.loop-x.invariant j y jlt ln) x lt (get_or_default xs i (pair 0 0) x lt) (sym c.offers_both.ensures ∙ c.if-offers_both.true)
     ∙ ap Some (sym c.of_column.ensures))
 
@@ -38,7 +41,7 @@ pub loop-x-preserved : goal.loop-x-preserved
 loop-x-preserved c = λ j y lt ln.
     let xs = c.args.clashes.now in
     let i : ℕ = c.loop-x.x-index in
-    let H = c.args.hier.now in
+    let H = c.args.asked.now.hier.now in
     ⊎_elim
     (λ before. c.loop-x.invariant j y before ln)
     (λ late.
@@ -51,5 +54,6 @@ loop-x-preserved c = λ j y lt ln.
 pub returns : goal.returns
 returns c =
     let xs = c.args.clashes.now in
-    sym (none_confused c.args.facts.now c.args.hier.now (length c.args.facts.now.columns.items) xs c.requires.clashes c.args.n (length xs)
+    sym (none_confused c.args.asked.now.facts.now c.args.asked.now.hier.now (length c.args.asked.now.facts.now.columns.items) xs c.requires.clashes
+    c.args.n (length xs)
     (λ j y jlt ln. c.loop-x.invariant j y (omega (arith, jlt)) ln) refl)

@@ -4,4 +4,4 @@ use Rattle.hier_rules.specs.Namesakes.{offers_both}
 use Rattle.hier_rules.proofs.clashes.first_confused_at.Given as goal
 
 abbrev pub invariant-loop-x : goal.invariant-loop-x
-invariant-loop-x l = (j : ℕ) (x : ClashPair) → j < l.x-index → j < length l.clashes → offers_both l.hier l.n (get_or l.clashes j x) ≡ false
+invariant-loop-x l = (j : ℕ) (x : ClashPair) → j < l.x-index → j < length l.clashes → offers_both l.asked.hier.now l.n (get_or l.clashes j x) ≡ false

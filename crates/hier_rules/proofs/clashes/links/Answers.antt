@@ -1,4 +1,4 @@
-use Rattle.std.proofs.Common.{◌≡◌, ◌∙◌, ap, sym, Some, cond}
+use Rattle.std.proofs.Common.{◌∙◌, ap, sym, Some, cond}
 use Rattle.std.specs.Str.{bytes_eq, encode_utf8_all}
 use Rattle.indexmap.specs.IndexMap.{get_by_text}
 use Rattle.hier_model.specs.Hierarchies.{member_name}
@@ -8,7 +8,7 @@ use Rattle.hier_rules.proofs.clashes.links.Goals as goal
 
 pub loop-c-preserved : goal.loop-c-preserved
 loop-c-preserved c =
-    let H = c.args.hier.now in
+    let H = c.args.asked.now.hier.now in
     let k = c.loop-c.c in
     record {
       links =

@@ -6,6 +6,6 @@ use Rattle.hier_rules.proofs.clashes.links.Given as goal
 
 abbrev pub invariant-loop-c : goal.invariant-loop-c
 invariant-loop-c l = record {
-  links : AreLinks l.hier l.c l.links.items;
-  last : (x : List ℕ) → get_by_text l.last (encode_utf8_all x) ≡ last_of l.hier x l.c;
+  links : AreLinks l.asked.hier.now l.c l.links.items;
+  last : (x : List ℕ) → get_by_text l.last (encode_utf8_all x) ≡ last_of l.asked.hier.now x l.c;
 }

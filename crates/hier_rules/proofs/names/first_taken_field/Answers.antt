@@ -6,7 +6,7 @@ use Rattle.hier_rules.proofs.names.first_taken_field.Goals as goal
 
 pub returns-in-Some : goal.returns-in-Some
 returns-in-Some c =
-    let F = c.args.facts.now in
-    let H = c.args.hier.now in
+    let F = c.args.asked.now.facts.now in
+    let H = c.args.asked.now.hier.now in
     sym (first_below_found (λ n. first_below (length F.columns.items) (taken_field F H n)) c.loop-n.n (length H.order.live) c.in-Some.found
     (omega arith) c.loop-n.invariant (sym c.in-Some.ensures))

@@ -5,8 +5,9 @@ use Rattle.hier_rules.proofs.names.first_taken_field_at.Goals as goal
 
 pub first_standing-requires-clause-list : goal.first_standing-requires-clause-list
 first_standing-requires-clause-list c =
-    listed_below (λ k. is_taken_field c.args.facts.now c.args.hier.now k ≡ true) (length c.args.facts.now.columns.items) c.args.list.now c.requires.list
+    listed_below (λ k. is_taken_field c.args.asked.now.facts.now c.args.asked.now.hier.now k ≡ true) (length c.args.asked.now.facts.now.columns.items)
+    c.args.list.now c.requires.list
 
 pub returns : goal.returns
-returns c = c.first_standing.ensures (is_taken_field c.args.facts.now c.args.hier.now) c.requires.list
-    ∙ standing_taken c.args.facts.now c.args.hier.now c.args.n
+returns c = c.first_standing.ensures (is_taken_field c.args.asked.now.facts.now c.args.asked.now.hier.now) c.requires.list
+    ∙ standing_taken c.args.asked.now.facts.now c.args.asked.now.hier.now c.args.n

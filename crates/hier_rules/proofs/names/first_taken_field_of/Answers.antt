@@ -5,6 +5,6 @@ use Rattle.hier_rules.proofs.names.first_taken_field_of.Goals as goal
 
 pub first_taken_field-requires-clause-list : goal.first_taken_field-requires-clause-list
 first_taken_field-requires-clause-list c =
-    let F = c.args.facts.now in
-    let H = c.args.hier.now in
+    let F = c.args.asked.now.facts.now in
+    let H = c.args.asked.now.hier.now in
     subst (λ l. ListsBelow (λ k. is_taken_field F H k ≡ true) (length F.columns.items) l) (sym c.deref.ensures.value) c.in_ok-list.ensures

@@ -6,15 +6,15 @@ use Rattle.hier_rules.proofs.names.first_unwritable.Goals as goal
 
 pub returns-in-Some : goal.returns-in-Some
 returns-in-Some c =
-    let F = c.args.facts.now in
-    let H = c.args.hier.now in
+    let F = c.args.asked.now.facts.now in
+    let H = c.args.asked.now.hier.now in
     sym (first_below_found (λ n. or_else (unwritable_type F H n) (first_below (length F.columns.items) (unwritable F H n))) c.loop-n.n
     (length H.order.live) c.in-Some.found (omega arith) c.loop-n.invariant (sym c.in-Some.ensures))
 
 pub loop-n-preserved : goal.loop-n-preserved
 loop-n-preserved c =
-    let F = c.args.facts.now in
-    let H = c.args.hier.now in
+    let F = c.args.asked.now.facts.now in
+    let H = c.args.asked.now.hier.now in
     let none : c.first_unwritable_at.result ≡ None = search rules in
     first_below_more (λ n. or_else (unwritable_type F H n) (first_below (length F.columns.items) (unwritable F H n))) c.loop-n.n c.loop-n.invariant
     (sym c.first_unwritable_at.ensures ∙ none)

@@ -5,5 +5,5 @@ use Rattle.kaba_bits.specs.Sets.{or_else}
 use Rattle.hier_rules.proofs.names.first_unwritable.Given as goal
 
 abbrev pub invariant-loop-n : goal.invariant-loop-n
-invariant-loop-n l = first_below l.n (λ n. or_else (unwritable_type l.facts l.hier n) (first_below (length l.facts.columns.items)
-    (unwritable l.facts l.hier n))) ≡ None
+invariant-loop-n l = first_below l.n (λ n. or_else (unwritable_type l.asked.facts.now l.asked.hier.now n) (first_below (length l.asked.facts.now.columns.items)
+    (unwritable l.asked.facts.now l.asked.hier.now n))) ≡ None

@@ -8,8 +8,8 @@ use Rattle.hier_rules.proofs.names.is_taken_type.Goals as goal
 
 pub returns : goal.returns
 returns c =
-    let F = c.args.facts.now in
-    let H = c.args.hier.now in
+    let F = c.args.asked.now.facts.now in
+    let H = c.args.asked.now.hier.now in
     let n = c.args.n in
     let name = type_name H n in
     let e = c.type_name-name.ensures in

@@ -1,26 +1,15 @@
-use Rattle.std.proofs.Common.{◌≡◌, ℕ, ◌+◌, length, true, sym, subst, arith}
-use Rattle.kaba_bits.specs.Sets.{ListsBelow}
-use Rattle.kaba_bits.proofs.ListLemmas.{ListsBelow-empty, ListsBelow-step}
+use Rattle.std.proofs.Common.{arith}
 use Rattle.hier_rules.specs.Namesakes.{is_taken_field}
+use Rattle.hier_rules.proofs.StandingLemmas.{listed_none, listed_next, listed_all}
 use Rattle.hier_rules.proofs.names.taken_fields.Goals as goal
 
 pub loop-c-init : goal.loop-c-init
-loop-c-init c =
-    let F = c.args.facts.now in
-    let H = c.args.hier.now in
-    subst (λ l. ListsBelow (λ k. is_taken_field F H k ≡ true) 0 l) (sym c.new-list.ensures.items) (ListsBelow-empty (λ k. is_taken_field F H k ≡ true))
+loop-c-init c = listed_none (is_taken_field c.args.asked.now.facts.now c.args.asked.now.hier.now) _ c.new-list.ensures.items
 
 pub loop-c-preserved : goal.loop-c-preserved
-loop-c-preserved c =
-    let F = c.args.facts.now in
-    let H = c.args.hier.now in
-    let n = c.loop-c.c in
-    subst (λ l. ListsBelow (λ k. is_taken_field F H k ≡ true) (n + 1) l) (sym c.in_ok-add_taken.ensures)
-    (ListsBelow-step (λ k. is_taken_field F H k ≡ true) n c.loop-c.list.items c.loop-c.invariant (is_taken_field F H n) ((λ h. h), (λ h. h)))
+loop-c-preserved c = listed_next (is_taken_field c.args.asked.now.facts.now c.args.asked.now.hier.now) c.loop-c.c c.is_taken_field.result _ _
+    c.is_taken_field.ensures
+    c.in_ok-add_if.ensures c.loop-c.invariant
 
 pub returns : goal.returns
-returns c =
-    let F = c.args.facts.now in
-    let H = c.args.hier.now in
-    let e : c.loop-c.c ≡ length F.columns.items = omega arith in
-    subst (λ (k : ℕ). ListsBelow (λ k. is_taken_field F H k ≡ true) k c.loop-c.list.items) e c.loop-c.invariant
+returns c = listed_all (is_taken_field c.args.asked.now.facts.now c.args.asked.now.hier.now) c.loop-c.c _ _ (omega arith) c.loop-c.invariant

@@ -4,4 +4,4 @@ use Rattle.hier_rules.specs.Namesakes.{is_taken_field}
 use Rattle.hier_rules.proofs.names.taken_fields.Given as goal
 
 abbrev pub invariant-loop-c : goal.invariant-loop-c
-invariant-loop-c l = ListsBelow (λ c. is_taken_field l.facts l.hier c ≡ true) l.c l.list.items
+invariant-loop-c l = ListsBelow (λ c. is_taken_field l.asked.facts.now l.asked.hier.now c ≡ true) l.c l.list.items

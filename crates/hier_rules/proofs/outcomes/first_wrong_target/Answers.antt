@@ -6,7 +6,7 @@ use Rattle.hier_rules.proofs.outcomes.first_wrong_target.Goals as goal
 
 pub returns-in-Some : goal.returns-in-Some
 returns-in-Some c =
-    let F = c.args.facts.now in
-    let H = c.args.hier.now in
-    sym (first_below_found (λ t. first_below (length F.sites.items) (wrong_outcome F c.args.pt.now H c.args.p t)) c.loop-t.t (length F.rows.items)
+    let F = c.args.asked.now.facts.now in
+    let H = c.args.asked.now.hier.now in
+    sym (first_below_found (λ t. first_below (length F.sites.items) (wrong_outcome F c.args.asked.now.pt.now H c.args.p t)) c.loop-t.t (length F.rows.items)
     c.in-Some.found (omega arith) c.loop-t.invariant (sym c.in_ok-found.ensures ∙ c.in-Some.is))

@@ -6,8 +6,9 @@ use Rattle.hier_rules.proofs.outcomes.sites_at.Given as goal
 
 abbrev pub invariant-loop-x : goal.invariant-loop-x
 invariant-loop-x l = record {
-  width : length l.sites ≡ length l.facts.sites.items;
+  width : length l.sites ≡ length l.asked.facts.now.sites.items;
   added : (s : ℕ) → bit l.sites s
-      ≡ (is_tested l.facts l.pt l.p l.t s || list_any (λ x. is_store_at l.facts l.pt l.p l.t x && bit (row l.pt.points.items x.value) s)
-      (take l.x-index l.facts.stores.items));
+      ≡ (is_tested l.asked.facts.now l.asked.pt.now l.p l.t s || list_any (λ x. is_store_at l.asked.facts.now l.asked.pt.now l.p l.t x && bit
+      (row l.asked.pt.now.points.items x.value) s)
+      (take l.x-index l.asked.facts.now.stores.items));
 }

@@ -6,7 +6,8 @@ use Rattle.hier_rules.proofs.outcomes.targets_at.Given as goal
 
 abbrev pub invariant-loop-x : goal.invariant-loop-x
 invariant-loop-x l = record {
-  width : length l.targets ≡ length l.facts.rows.items;
-  added : (t : ℕ) → bit l.targets t ≡ (list_any (is_test_at l.p t) l.facts.tests.items || list_any (is_store_at l.facts l.pt l.p t)
-      (take l.x-index l.facts.stores.items));
+  width : length l.targets ≡ length l.asked.facts.now.rows.items;
+  added : (t : ℕ) → bit l.targets t ≡ (list_any (is_test_at l.p t) l.asked.facts.now.tests.items || list_any
+      (is_store_at l.asked.facts.now l.asked.pt.now l.p t)
+      (take l.x-index l.asked.facts.now.stores.items));
 }

@@ -6,6 +6,7 @@ use Rattle.hier_rules.proofs.outcomes.tested_sites.Given as goal
 
 abbrev pub invariant-loop-x : goal.invariant-loop-x
 invariant-loop-x l = record {
-  width : length l.sites ≡ length l.facts.sites.items;
-  added : (s : ℕ) → bit l.sites s ≡ (list_any (λ x. is_test_at l.p l.t x && bit (row l.pt.points.items x.from) s) (take l.x-index l.facts.tests.items));
+  width : length l.sites ≡ length l.asked.facts.now.sites.items;
+  added : (s : ℕ) → bit l.sites s ≡ (list_any (λ x. is_test_at l.p l.t x && bit (row l.asked.pt.now.points.items x.from) s)
+      (take l.x-index l.asked.facts.now.tests.items));
 }

@@ -4,4 +4,5 @@ use Rattle.hier_rules.specs.Obligations.{unheld}
 use Rattle.hier_rules.proofs.rows.first_unheld.Given as goal
 
 abbrev pub invariant-loop-o : goal.invariant-loop-o
-invariant-loop-o l = first_below l.o (λ o. first_below (length l.facts.rows.items) (unheld l.facts l.pt l.hier o)) ≡ None
+invariant-loop-o l = first_below l.o (λ o. first_below (length l.asked.facts.now.rows.items)
+    (unheld l.asked.facts.now l.asked.pt.now l.asked.hier.now o)) ≡ None

@@ -4,4 +4,4 @@ use Rattle.hier_rules.specs.Obligations.{unheld}
 use Rattle.hier_rules.proofs.rows.first_unheld_of.Given as goal
 
 abbrev pub invariant-loop-v : goal.invariant-loop-v
-invariant-loop-v l = first_below l.v (unheld l.facts l.pt l.hier l.o) ≡ None
+invariant-loop-v l = first_below l.v (unheld l.asked.facts.now l.asked.pt.now l.asked.hier.now l.o) ≡ None

@@ -4,4 +4,4 @@ use Rattle.hier_rules.specs.Obligations.{unoffered}
 use Rattle.hier_rules.proofs.rows.first_unoffered.Given as goal
 
 abbrev pub invariant-loop-r : goal.invariant-loop-r
-invariant-loop-r l = first_below l.r (λ r. first_below (length l.facts.columns.items) (unoffered l.facts l.hier r)) ≡ None
+invariant-loop-r l = first_below l.r (λ r. first_below (length l.asked.facts.now.columns.items) (unoffered l.asked.facts.now l.asked.hier.now r)) ≡ None

@@ -4,4 +4,4 @@ use Rattle.hier_rules.specs.Obligations.{unoffered}
 use Rattle.hier_rules.proofs.rows.first_unoffered_of.Given as goal
 
 abbrev pub invariant-loop-c : goal.invariant-loop-c
-invariant-loop-c l = first_below l.c (unoffered l.facts l.hier l.r) ≡ None
+invariant-loop-c l = first_below l.c (unoffered l.asked.facts.now l.asked.hier.now l.r) ≡ None

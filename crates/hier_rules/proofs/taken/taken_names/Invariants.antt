@@ -8,6 +8,6 @@ use Rattle.hier_rules.proofs.taken.taken_names.Given as goal
 
 abbrev pub invariant-loop-n : goal.invariant-loop-n
 invariant-loop-n l = record {
-  types : (x : List ℕ) → is_taken (texts l.types.keys) x ≡ any_below l.n (is_named l.hier x);
-  twice : (x : List ℕ) → is_taken (texts l.twice.keys) x ≡ is_twice l.hier x l.n;
+  types : (x : List ℕ) → is_taken (texts l.types.keys) x ≡ any_below l.n (is_named l.asked.hier.now x);
+  twice : (x : List ℕ) → is_taken (texts l.twice.keys) x ≡ is_twice l.asked.hier.now x l.n;
 }

@@ -2,16 +2,14 @@ use Rattle.fact_model.specs.declared.facts.ColumnInfo.{ColumnInfo}
 use Rattle.std.proofs.Common.{ℕ}
 use Rattle.std.proofs.Common.{◌≡◌, [], ◌++◌, drop}
 use Rattle.java_tree.specs.Syntax.{heads}
-use Rattle.java_core.specs.Trees.{no_place}
-use Rattle.java_core.specs.Programs.{program_of}
 use Rattle.flow_rules.specs.Ordered.{each, when}
 use Rattle.hier_model.specs.Hierarchies.{stands_at}
-use Rattle.tree_forms.specs.Renamed.{renamed}
 use Rattle.written_tree.specs.Members.{column_heads}
+use Rattle.source_gen.specs.Sources.{old_program, renaming}
 use Rattle.source_gen.proofs.columns.interface_heads.Given as goal
 
 abbrev pub invariant-loop-c : goal.invariant-loop-c
 invariant-loop-c l =
-    let f = λ (c : ℕ) (k : ColumnInfo). when (stands_at l.hier l.n.0 c)
-    (column_heads (program_of no_place l.program) (renamed l.numbering l.hier) l.facts l.hier [] l.n.0 c k) in
-    heads l.list.items ++ each f l.c (drop l.c l.facts.columns.items) ≡ each f 0 l.facts.columns.items
+    let f = λ (c : ℕ) (k : ColumnInfo). when (stands_at l.source.hier.now l.n.0 c)
+    (column_heads (old_program l.source) (renaming l.source) l.source.facts.now l.source.hier.now [] l.n.0 c k) in
+    heads l.list.items ++ each f l.c (drop l.c l.source.facts.now.columns.items) ≡ each f 0 l.source.facts.now.columns.items

@@ -2,16 +2,16 @@ use Rattle.std.proofs.Common.{List, ℕ, [], ◌∷◌, Option, ap, ◌∙◌}
 use Rattle.std.specs.Option.{option_map_or}
 use Rattle.java_tree.specs.Syntax.{HeadTree}
 use Rattle.java_core.specs.Trees.{no_place}
-use Rattle.java_core.specs.Programs.{program_of, method_seen, PlainMethod}
-use Rattle.tree_forms.specs.Renamed.{renamed}
+use Rattle.java_core.specs.Programs.{method_seen, PlainMethod}
 use Rattle.written_tree.specs.Members.{head}
+use Rattle.source_gen.specs.Sources.{old_program, renaming}
 use Rattle.source_gen.proofs.heads.first_head.Goals as goal
 
 pub returns : goal.returns
 returns c =
-    let P = program_of no_place c.args.program.now in
-    let H = c.args.hier.now in
-    let R = renamed c.args.numbering.now H in
+    let P = old_program c.args.source.now in
+    let H = c.args.source.now.hier.now in
+    let R = renaming c.args.source.now in
     let mods = c.args.mods.items in
     let m = c.args.slot.now.first.0 in
     let named = c.in_ok-made.ensures ∙ ap (λ (x : List ℕ). head P R H mods x m (method_seen no_place c.in-Some.method.now)) c.in_ok-name.ensures in

@@ -2,14 +2,14 @@ use Rattle.java_core.specs.Programs.{PlainLocal}
 use Rattle.std.proofs.Common.{ℕ}
 use Rattle.std.proofs.Common.{◌≡◌, ◌∷◌, [], ◌++◌, drop, map}
 use Rattle.java_core.specs.Trees.{no_place}
-use Rattle.java_core.specs.Programs.{program_of, method_seen, local_seen}
+use Rattle.java_core.specs.Programs.{method_seen, local_seen}
 use Rattle.flow_rules.specs.Ordered.{each}
-use Rattle.tree_forms.specs.Renamed.{renamed}
 use Rattle.written_tree.specs.Members.{param}
+use Rattle.source_gen.specs.Sources.{old_program, renaming}
 use Rattle.source_gen.proofs.heads.params.Given as goal
 
 abbrev pub invariant-loop-i : goal.invariant-loop-i
 invariant-loop-i l =
     let f = λ (i : ℕ) (k : PlainLocal).
-    param (program_of no_place l.program) (renamed l.numbering l.hier) l.hier l.m (method_seen no_place l.method) i k ∷ [] in
+    param (old_program l.source) (renaming l.source) l.source.hier.now l.m (method_seen no_place l.method) i k ∷ [] in
     l.list.items ++ each f l.i (map (local_seen no_place) (drop l.i l.method.params.items)) ≡ each f 0 (map (local_seen no_place) l.method.params.items)

@@ -1,16 +1,8 @@
-use Rattle.std.proofs.Common.{[], ◌∷◌, Option, ap, ◌∙◌}
-use Rattle.std.specs.Option.{option_map_or}
-use Rattle.java_tree.specs.Syntax.{MemberTree}
-use Rattle.java_core.specs.Trees.{no_place}
-use Rattle.java_core.specs.Programs.{program_of, PlainMethod}
-use Rattle.tree_forms.specs.Renamed.{renamed}
 use Rattle.written_tree.specs.Members.{body_member}
+use Rattle.source_gen.specs.Sources.{old_program, renaming}
+use Rattle.source_gen.proofs.Pushed.{listed_one}
 use Rattle.source_gen.proofs.own.own_body.Goals as goal
 
 pub returns : goal.returns
-returns c =
-    let P = program_of no_place c.args.program.now in
-    let H = c.args.hier.now in
-    let R = renamed c.args.numbering.now H in
-    ap (λ (d : MemberTree). d ∷ []) c.in_ok-made.ensures
-    ∙ ap (λ (o : Option PlainMethod). option_map_or (λ (k : PlainMethod). body_member P R H c.args.m k ∷ []) o []) c.in-Some.ensures
+returns c = listed_one (body_member (old_program c.args.source.now) (renaming c.args.source.now) c.args.source.now.hier.now c.args.m) _ _ _
+    c.in_ok-made.ensures c.in-Some.ensures

@@ -4,4 +4,5 @@ use Rattle.fact_model.specs.Items.{site_at, site_row}
 use Rattle.source_gen.proofs.places.is_made_at.Given as goal
 
 abbrev pub invariant-loop-s : goal.invariant-loop-s
-invariant-loop-s l = any_below l.s (λ s. ((site_at l.facts s).dim == 0) && (place_of_row l.hier (site_row l.facts s) == l.n.0)) ≡ false
+invariant-loop-s l = any_below l.s (λ s. ((site_at l.source.facts.now s).dim == 0) && (place_of_row l.source.hier.now (site_row l.source.facts.now s)
+    == l.n.0)) ≡ false

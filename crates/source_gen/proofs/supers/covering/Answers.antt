@@ -1,13 +1,9 @@
-use Rattle.std.proofs.Common.{Bool, cond, [], ◌∷◌, ◌++◌, ap, ◌∙◌}
 use Rattle.written_tree.specs.Supers.{is_cover, type_id}
 use Rattle.source_gen.proofs.Nodes.{filtered_more}
 use Rattle.source_gen.proofs.supers.covering.Goals as goal
 
 pub loop-a-preserved : goal.loop-a-preserved
 loop-a-preserved c =
-    let F = c.args.facts.now in
-    let H = c.args.hier.now in
-    let a = c.loop-a.a in
-    let old = c.loop-a.list.items in
-    filtered_more (type_id F H) (is_cover H.order c.args.n.0) a old c.add_name.new.into.items
-    (c.in_ok-add_name.ensures ∙ ap (λ (b : Bool). old ++ cond b (type_id F H a ∷ []) []) c.is_cover-passes.ensures) c.loop-a.invariant
+    let H = c.args.source.now.hier.now in
+    filtered_more (type_id c.args.source.now.facts.now H) (is_cover H.order c.args.n.0) c.loop-a.a c.is_cover-passes.result c.loop-a.list.items
+    c.add_name.new.into.items c.is_cover-passes.ensures c.in_ok-add_name.ensures c.loop-a.invariant
