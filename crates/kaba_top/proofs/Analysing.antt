@@ -1,5 +1,5 @@
 -- From the facts of a program and their table to the reply.
-use Rattle.std.proofs.Common.{◌≡◌, ◌∙◌, inl, inr, ℕ, Bool, List, [], ◌++◌, Result, Ok, Err, IfOk, ap, subst, sym, append_assoc}
+use Rattle.std.proofs.Common.{◌≡◌, ◌∙◌, inl, inr, ℕ, ◌≤◌, Bool, List, [], ◌++◌, length, Result, Ok, Err, IfOk, ap, subst, sym, append_assoc}
 use Rattle.std.specs.declared.alloc.AllocError.{AllocError}
 use Rattle.java_core.specs.declared.Program.{Program}
 use Rattle.fact_model.specs.InRange.{InRange}
@@ -7,7 +7,10 @@ use Rattle.fact_model.specs.InOrder.{InOrder}
 use Rattle.fact_model.specs.declared.facts.Facts.{Facts}
 use Rattle.fact_model.specs.declared.sets.Table.{Table}
 use Rattle.fact_model.specs.Entries.{IsTable}
-use Rattle.fact_model.specs.Concepts.{AreMoreThan}
+use Rattle.fact_model.specs.Concepts.{AreMoreThan, IsLatticeOf}
+use Rattle.fact_model.specs.Flowing.{AreSets}
+use Rattle.fact_model.specs.declared.sets.PointsTo.{PointsTo}
+use Rattle.fact_model.specs.declared.sets.Lattice.{Lattice}
 use Rattle.hier_view.specs.Text.{hierarchy_text}
 use Rattle.edit_script.specs.declared.lines.Line.{Line}
 use Rattle.tree_laws.specs.Kept.{HasNoInterface}
@@ -25,6 +28,19 @@ use Rattle.kaba_top.specs.RegenAnswers.{IsTreeOf, EndsAtConflict, IsWithoutTree,
 use Rattle.kaba_top.specs.Proposals.{IsProposal, IsStuck, IsWritten}
 use Rattle.kaba_top.proofs.Reaching.{reached}
 
+-- what an analysis has come to before its script is run
+abbrev pub lattice_by : {bound : ℕ} {facts : Facts} (sets : PointsTo) (table : Table) (lattice : Lattice) → AreSets facts sets → IsTable facts table
+    → IsLatticeOf table lattice → length lattice.concepts.items ≤ bound → HasLattice bound facts
+lattice_by sets table lattice are_sets is_table is_lattice within = record {
+  sets = sets;
+  are_sets = are_sets;
+  table = table;
+  is_table = is_table;
+  lattice = lattice;
+  is_lattice = is_lattice;
+  within = within;
+}
+
 pub too_many : (json : Bool) (bound : ℕ) (facts : Facts) (table : Table) (r : Result Reply AllocError) → IsTable facts table
     → AreMoreThan table.rows.items table.width bound
     → IfOk r (λ reply. Says 68 (too_many_concepts bound) reply.status reply.out.items reply.err.items)
@@ -40,15 +56,7 @@ analysed J program facts (Ok reply) has h = inr (record { facts = facts; has = h
 
 -- what the hierarchy after a script was found by
 abbrev pub has_lattice : (bound : ℕ) (script : List ℕ) (facts : Facts) (p : Proposal) → IsProposal bound script facts p → HasLattice bound facts
-has_lattice bound script facts p is = record {
-  sets = p.sets;
-  are_sets = is.are_sets;
-  table = p.table;
-  is_table = is.is_table;
-  lattice = p.lattice;
-  is_lattice = is.is_lattice;
-  within = is.within;
-}
+has_lattice bound script facts p is = lattice_by p.sets p.table p.lattice is.are_sets is.is_table is.is_lattice is.within
 
 -- a script was run, and a reply follows
 pub ran : (bound : ℕ) (script : List ℕ) (facts : Facts) (A : HasLattice bound facts → List Line → ℕ → List ℕ → List ℕ → Type 0) (p : Proposal)

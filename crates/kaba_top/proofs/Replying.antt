@@ -3,9 +3,13 @@ use Rattle.std.proofs.Common.{◌≡◌, ◌⊎◌, inl, inr, ℕ, ◌<◌, ◌�
 use Rattle.std.specs.declared.alloc.AllocError.{AllocError}
 use Rattle.kaba_base.specs.Outside.{Files, IsAbsent, IsFile, Rose}
 use Rattle.kaba_top.specs.declared.reply.Reply.{Reply}
-use Rattle.kaba_words.specs.Commands.{Cmd, Fits, FitsNone}
+use Rattle.kaba_words.specs.declared.words.Command.{Command}
+use Rattle.kaba_words.specs.Commands.{Cmd, command_of, Fits, FitsNone}
 use Rattle.kaba_top.specs.Lines.{Says, usage, cannot_read, most_bytes, file_too_large}
 use Rattle.kaba_top.specs.Answers.{Agrees, IsMissing, IsTooLarge, FileAnswers, IsAnswered, IsFault, Names, CommandAnswers, CommandReplies, Replies}
+use Rattle.kaba_top.specs.declared.answer.Shows.{Shows}
+use Rattle.kaba_top.specs.declared.answer.Shows.TheVariants as shows
+use Rattle.kaba_top.specs.Shown.{ShownAnswers, command_showing}
 use Rattle.kaba_top.specs.Fetching.{IsThere, IsRefused, FileReplies}
 
 found : (f : Files) (name bytes : List ℕ) (o : Option (List ℕ)) → f name ≡ o → ((b : List ℕ) → f name ≡ Some b → bytes ≡ b) → (f name ≡ None → ⊥)
@@ -61,28 +65,35 @@ usage_replies told before now words (Ok reply) none h =
     let files = any_files told in
     inl (record { first = files.0; second = files.0; first_agrees = files.1; second_agrees = files.1; answers = inl (record { fits_none = none; says = h }) })
 
--- a reply to a command is one to the words that say it
-pub of_command : (told : Option Files) (before now : ℕ) (words : List (List ℕ)) (command : Cmd) (r : Result Reply AllocError) → Fits words command
-    → IfOk r (λ reply. CommandReplies told before now command reply.status reply.out.items reply.err.items)
+-- words that fit a command fit what it is
+fits_as : (words : List (List ℕ)) (read known : Command) → read ≡ known → Fits words (command_of read) → Fits words (command_of known)
+fits_as words read known e fits = subst (λ command. Fits words (command_of command)) e fits
+
+-- a reply to a command is one to the words that were read as it
+pub of_command : (told : Option Files) (before now : ℕ) (words : List (List ℕ)) (read known : Command) (r : Result Reply AllocError) → read ≡ known
+    → Fits words (command_of read)
+    → IfOk r (λ reply. CommandReplies told before now (command_of known) reply.status reply.out.items reply.err.items)
     → IfOk r (λ reply. Replies told before now words reply.status reply.out.items reply.err.items)
-of_command told before now words command (Err e) fits h = tt
-of_command told before now words command (Ok reply) fits (inl a) =
+of_command told before now words read known (Err e) is fits h = tt
+of_command told before now words read known (Ok reply) is fits (inl a) =
     inl (record {
       first = a.first;
       second = a.second;
       first_agrees = a.first_agrees;
       second_agrees = a.second_agrees;
       answers = inr
-          (record { command = command; fits = fits; answers = a.answers });
+          (record { command = command_of known; fits = fits_as words read known is fits; answers = a.answers });
     })
-of_command told before now words command (Ok reply) fits (inr u) = inr (record { command = command; fits = fits; unread = u })
+of_command told before now words read known (Ok reply) is fits (inr u) =
+    inr (record { command = command_of known; fits = fits_as words read known is fits; unread = u })
 
 -- an answer of a command that reads no file is one for any files
-pub without_files : (told : Option Files) (before now : ℕ) (words : List (List ℕ)) (command : Cmd) (r : Result Reply AllocError) → Fits words command
-    → ((first second : Files) → IfOk r (λ reply. CommandAnswers command first second reply.status reply.out.items reply.err.items))
+pub without_files : (told : Option Files) (before now : ℕ) (words : List (List ℕ)) (read known : Command) (r : Result Reply AllocError) → read ≡ known
+    → Fits words (command_of read)
+    → ((first second : Files) → IfOk r (λ reply. CommandAnswers (command_of known) first second reply.status reply.out.items reply.err.items))
     → IfOk r (λ reply. Replies told before now words reply.status reply.out.items reply.err.items)
-without_files told before now words command (Err e) fits a = tt
-without_files told before now words command (Ok reply) fits a =
+without_files told before now words read known (Err e) is fits a = tt
+without_files told before now words read known (Ok reply) is fits a =
     let files = any_files told in
     inl (record {
       first = files.0;
@@ -90,7 +101,7 @@ without_files told before now words command (Ok reply) fits a =
       first_agrees = files.1;
       second_agrees = files.1;
       answers = inr
-          (record { command = command; fits = fits; answers = a files.0 files.0 });
+          (record { command = command_of known; fits = fits_as words read known is fits; answers = a files.0 files.0 });
     })
 
 -- the one file of a command was read, and K are the answers for its bytes
@@ -163,3 +174,12 @@ no_first_file command file script K reads names told before now status out err (
   answers = reads r.files r.files status out err (refused_answers (λ bytes. FileAnswers (K bytes) r.files script) r.files file status out err r.refused);
 })
 no_first_file command file script K reads names told before now status out err (inr f) = inr (record { file = file; names = names file (inl refl); fault = f })
+
+-- both commands with a script read two files
+pub reads_shown : (s : Shows) (bound : ℕ) (file script : List ℕ) → ReadsTwo (command_showing s bound file script) file script (ShownAnswers s bound)
+reads_shown shows.Hierarchy bound file script = λ first second status out err h. h
+reads_shown shows.Program bound file script = λ first second status out err h. h
+
+pub names_shown : (s : Shows) (bound : ℕ) (file script : List ℕ) → NamesTwo (command_showing s bound file script) file script
+names_shown shows.Hierarchy bound file script = λ name h. h
+names_shown shows.Program bound file script = λ name h. h

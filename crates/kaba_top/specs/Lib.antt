@@ -14,3 +14,6 @@ pub mod Readings
 pub mod Analyses
 pub mod Proposals
 pub mod Promise
+pub mod Tasks
+pub mod Shown
+pub mod Words

@@ -2,8 +2,8 @@
 #![tactic(auto)]
 
 ghost use Rattle.std.specs.Prelude.{[], IfOk};
+ghost use Rattle.kaba_top.specs.Words.{Gives};
 ghost use Rattle.kaba_top.specs.About.{help_text, version_text};
-ghost use Rattle.kaba_top.specs.Lines.{Gives};
 
 use crate::reply::Reply;
 use std::alloc::{AllocError, Global};

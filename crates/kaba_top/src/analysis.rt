@@ -2,11 +2,8 @@
 #![tactic(auto)]
 
 ghost use Rattle.std.specs.Prelude.{◌≡◌, ◌≤◌, IfOk, length};
-ghost use Rattle.fact_model.specs.InRange.{InRange};
-ghost use Rattle.fact_model.specs.Entries.{IsTable};
-ghost use Rattle.kaba_top.specs.Lines.{Says, most_bytes};
-ghost use Rattle.kaba_top.specs.Reading.{TextAnswers};
-ghost use Rattle.kaba_top.specs.FactsAnswers.{AnalysisAnswers, TableOf, LatticeOf, limit_text, shown, too_many_concepts};
+ghost use Rattle.kaba_top.specs.Words.{InRange, IsTable, Says, most_bytes, TextAnswers, AnalysisAnswers};
+ghost use Rattle.kaba_top.specs.FactsAnswers.{TableOf, LatticeOf, limit_text, shown, too_many_concepts};
 ghost use Rattle.kaba_top.specs.Analyses.{IsAnalysis};
 
 use crate::reading::{Reading, read_program};

@@ -2,11 +2,12 @@
 #![tactic(auto)]
 
 ghost use Rattle.std.specs.Prelude.{◌≡◌, ◌≤◌, IfOk, length, string_bytes};
+ghost use Rattle.kaba_top.specs.Words.{texts, most_bytes, IsTask};
 ghost use Rattle.kaba_base.specs.Outside.{Files};
-ghost use Rattle.kaba_words.specs.Commands.{run, table, lattice, edit, regen, texts, most_concepts};
-ghost use Rattle.kaba_top.specs.Answers.{CommandReplies, EditAnswers, RegenAnswers, Replies};
+ghost use Rattle.kaba_words.specs.Commands.{run, table, lattice, most_concepts};
+ghost use Rattle.kaba_top.specs.Answers.{CommandReplies, Replies};
 ghost use Rattle.kaba_top.specs.Fetching.{FileReplies, IsFetched};
-ghost use Rattle.kaba_top.specs.Lines.{most_bytes};
+ghost use Rattle.kaba_top.specs.Shown.{ShownAnswers, command_showing};
 
 use crate::about::{help_reply, version_reply};
 use crate::analysis::{lattice_text, table_text};
@@ -15,6 +16,7 @@ use crate::make::make_reply;
 use crate::regen::regen_text;
 use crate::reply::Reply;
 use crate::run::run_text;
+use crate::script::Task;
 use kaba_base::{ReadFault, Shelf, read_file};
 use kaba_words::{Command, WordsFault, read_words};
 use std::alloc::{AllocError, Global};
@@ -92,10 +94,36 @@ fn lattice_command<F: Shelf>(
     }
 }
 
-/// The reply of `edit` once the bytes of its first file are there.
-fn edit_script<F: Shelf>(
+/// What a command with a script shows: the hierarchy after it, or the program that is written of that.
+#[derive(Clone, Copy)]
+enum Shows {
+    Hierarchy,
+    Program,
+}
+
+/// The reply of `edit` or `regen` for the bytes of its file and of its script.
+fn shown_text(
+    alloc: Global,
+    shows: Shows,
+    bytes: &Vec<u8>,
+    task: &Task,
+) -> Result<Reply, AllocError>
+    requires small { length bytes.now.items ≤ most_bytes }
+    requires task { IsTask task.now }
+    ensures answers { IfOk result (λ reply. ShownAnswers shows task.now.bound bytes.now.items task.now.script.now.items reply.status
+        reply.out.items reply.err.items) }
+{
+    match shows {
+        Shows::Hierarchy => edit_text(alloc, bytes, task),
+        Shows::Program => regen_text(alloc, bytes, task),
+    }
+}
+
+/// The reply of `edit` or `regen` once the bytes of its first file are there.
+fn script_reply<F: Shelf>(
     alloc: Global,
     shelf: &mut F,
+    shows: Shows,
     bytes: &Vec<u8>,
     script: &String,
     bound: u32,
@@ -103,69 +131,37 @@ fn edit_script<F: Shelf>(
     requires small { length bytes.now.items ≤ most_bytes }
     requires bound { bound ≤ most_concepts }
     ensures replies { IfOk result (λ reply. FileReplies (F.files shelf.old) (F.faults shelf.old)
-        (F.faults shelf.new) (EditAnswers bound bytes.now.items) (string_bytes script.now) reply.status
+        (F.faults shelf.new) (ShownAnswers shows bound bytes.now.items) (string_bytes script.now) reply.status
         reply.out.items reply.err.items) }
 {
     match fetch_file(alloc, shelf, script)? {
-        Fetched::Bytes(lines) => edit_text(alloc, bytes, &lines, bound),
+        Fetched::Bytes(lines) => {
+            let task = Task {
+                script: &lines,
+                bound,
+            };
+            shown_text(alloc, shows, bytes, &task)
+        }
         Fetched::Refused(reply) => Ok(reply),
     }
 }
 
-/// The reply of `edit`.
-fn edit_command<F: Shelf>(
+/// The reply of `edit` or `regen`.
+fn script_command<F: Shelf>(
     alloc: Global,
     shelf: &mut F,
+    shows: Shows,
     file: &String,
     script: &String,
     bound: u32,
 ) -> Result<Reply, AllocError>
     requires bound { bound ≤ most_concepts }
     ensures replies { IfOk result (λ reply. CommandReplies (F.files shelf.old) (F.faults shelf.old)
-        (F.faults shelf.new) (edit bound (string_bytes file.now) (string_bytes script.now)) reply.status
+        (F.faults shelf.new) (command_showing shows bound (string_bytes file.now) (string_bytes script.now)) reply.status
         reply.out.items reply.err.items) }
 {
     match fetch_file(alloc, shelf, file)? {
-        Fetched::Bytes(bytes) => edit_script(alloc, shelf, &bytes, script, bound),
-        Fetched::Refused(reply) => Ok(reply),
-    }
-}
-
-/// The reply of `regen` once the bytes of its first file are there.
-fn regen_script<F: Shelf>(
-    alloc: Global,
-    shelf: &mut F,
-    bytes: &Vec<u8>,
-    script: &String,
-    bound: u32,
-) -> Result<Reply, AllocError>
-    requires small { length bytes.now.items ≤ most_bytes }
-    requires bound { bound ≤ most_concepts }
-    ensures replies { IfOk result (λ reply. FileReplies (F.files shelf.old) (F.faults shelf.old)
-        (F.faults shelf.new) (RegenAnswers bound bytes.now.items) (string_bytes script.now) reply.status
-        reply.out.items reply.err.items) }
-{
-    match fetch_file(alloc, shelf, script)? {
-        Fetched::Bytes(lines) => regen_text(alloc, bytes, &lines, bound),
-        Fetched::Refused(reply) => Ok(reply),
-    }
-}
-
-/// The reply of `regen`.
-fn regen_command<F: Shelf>(
-    alloc: Global,
-    shelf: &mut F,
-    file: &String,
-    script: &String,
-    bound: u32,
-) -> Result<Reply, AllocError>
-    requires bound { bound ≤ most_concepts }
-    ensures replies { IfOk result (λ reply. CommandReplies (F.files shelf.old) (F.faults shelf.old)
-        (F.faults shelf.new) (regen bound (string_bytes file.now) (string_bytes script.now)) reply.status
-        reply.out.items reply.err.items) }
-{
-    match fetch_file(alloc, shelf, file)? {
-        Fetched::Bytes(bytes) => regen_script(alloc, shelf, &bytes, script, bound),
+        Fetched::Bytes(bytes) => script_reply(alloc, shelf, shows, &bytes, script, bound),
         Fetched::Refused(reply) => Ok(reply),
     }
 }
@@ -185,9 +181,11 @@ pub fn answer<F: Shelf>(
         Ok(Command::Lattice(json, bound, file)) => {
             lattice_command(alloc, shelf, &file, json, bound)
         }
-        Ok(Command::Edit(bound, file, script)) => edit_command(alloc, shelf, &file, &script, bound),
+        Ok(Command::Edit(bound, file, script)) => {
+            script_command(alloc, shelf, Shows::Hierarchy, &file, &script, bound)
+        }
         Ok(Command::Regen(bound, file, script)) => {
-            regen_command(alloc, shelf, &file, &script, bound)
+            script_command(alloc, shelf, Shows::Program, &file, &script, bound)
         }
         Ok(Command::Make(prints, number)) => make_reply(alloc, prints, number),
         Ok(Command::Help) => help_reply(alloc),

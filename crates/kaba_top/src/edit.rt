@@ -1,21 +1,15 @@
 //! The command `edit`.
 #![tactic(auto)]
 
-ghost use Rattle.std.specs.Prelude.{◌≡◌, ◌≤◌, IfOk, length};
-ghost use Rattle.fact_model.specs.InRange.{InRange};
-ghost use Rattle.fact_model.specs.InOrder.{InOrder};
-ghost use Rattle.hier_model.specs.Hierarchies.{IsHierarchyOf};
+ghost use Rattle.std.specs.Prelude.{◌≤◌, IfOk, length};
+ghost use Rattle.kaba_top.specs.Words.{InRange, InOrder, IsHierarchyOf, Gives, most_bytes, TextAnswers, AnalysisAnswers, edit_status, IsTask};
 ghost use Rattle.hier_view.specs.Text.{hierarchy_text};
-ghost use Rattle.kaba_words.specs.Commands.{most_concepts};
-ghost use Rattle.kaba_top.specs.Lines.{Gives, most_bytes};
-ghost use Rattle.kaba_top.specs.Reading.{TextAnswers};
-ghost use Rattle.kaba_top.specs.FactsAnswers.{AnalysisAnswers};
-ghost use Rattle.kaba_top.specs.EditAnswers.{EditOf, edit_status};
+ghost use Rattle.kaba_top.specs.EditAnswers.{EditOf};
 
 use crate::analysis::{Analysed, analyse};
 use crate::reading::{Reading, read_program};
 use crate::reply::Reply;
-use crate::script::{Proposed, edit_status, propose};
+use crate::script::{Proposed, Task, edit_status, propose};
 use fact_model::Facts;
 use hier_script::Edited;
 use hier_view::show_hierarchy;
@@ -40,56 +34,39 @@ fn show(alloc: Global, facts: &Facts, edited: Edited) -> Result<Reply, AllocErro
 }
 
 /// The reply with the hierarchy after the script, or the reply that it was not run.
-fn edit_reply(
-    alloc: Global,
-    facts: &Facts,
-    script: &Vec<u8>,
-    bound: u32,
-) -> Result<Reply, AllocError>
+fn edit_reply(alloc: Global, facts: &Facts, task: &Task) -> Result<Reply, AllocError>
     requires range { InRange facts.now }
     requires order { InOrder facts.now }
-    requires small { length script.now.items ≤ most_bytes }
-    requires bound { bound ≤ most_concepts }
-    ensures { IfOk result (λ reply. EditOf bound script.now.items facts.now reply.status reply.out.items reply.err.items) }
+    requires task { IsTask task.now }
+    ensures { IfOk result (λ reply. EditOf task.now.bound task.now.script.now.items facts.now reply.status reply.out.items reply.err.items) }
 {
-    match propose(alloc, facts, script, bound)? {
+    match propose(alloc, facts, task)? {
         Proposed::Edited(proposal) => show(alloc, facts, proposal.edited),
         Proposed::Refused(reply) => Ok(reply),
     }
 }
 
 /// The reply of `edit` for a program.
-fn edit_program(
-    alloc: Global,
-    program: &Checked,
-    script: &Vec<u8>,
-    bound: u32,
-) -> Result<Reply, AllocError>
-    requires small { length script.now.items ≤ most_bytes }
-    requires bound { bound ≤ most_concepts }
-    ensures { IfOk result (λ reply. AnalysisAnswers (EditOf bound script.now.items) program.now reply.status reply.out.items reply.err.items) }
+fn edit_program(alloc: Global, program: &Checked, task: &Task) -> Result<Reply, AllocError>
+    requires { IsTask task.now }
+    ensures { IfOk result (λ reply. AnalysisAnswers (EditOf task.now.bound task.now.script.now.items) program.now reply.status reply.out.items
+        reply.err.items) }
 {
     match analyse(alloc, program)? {
-        Analysed::Found(facts) => edit_reply(alloc, &facts, script, bound),
+        Analysed::Found(facts) => edit_reply(alloc, &facts, task),
         Analysed::Refused(reply) => Ok(reply),
     }
 }
 
 /// The reply of `edit` for the bytes of its file and of its script.
-pub fn edit_text(
-    alloc: Global,
-    bytes: &Vec<u8>,
-    script: &Vec<u8>,
-    bound: u32,
-) -> Result<Reply, AllocError>
+pub fn edit_text(alloc: Global, bytes: &Vec<u8>, task: &Task) -> Result<Reply, AllocError>
     requires small { length bytes.now.items ≤ most_bytes }
-    requires script_small { length script.now.items ≤ most_bytes }
-    requires bound { bound ≤ most_concepts }
-    ensures answers { IfOk result (λ reply. TextAnswers (AnalysisAnswers (EditOf bound script.now.items))
-        bytes.now.items reply.status reply.out.items reply.err.items) }
+    requires task { IsTask task.now }
+    ensures answers { IfOk result (λ reply. TextAnswers (AnalysisAnswers (EditOf task.now.bound task.now.script.now.items)) bytes.now.items
+        reply.status reply.out.items reply.err.items) }
 {
     match read_program(alloc, bytes)? {
-        Reading::Typed(program) => edit_program(alloc, &program, script, bound),
+        Reading::Typed(program) => edit_program(alloc, &program, task),
         Reading::Refused(reply) => Ok(reply),
     }
 }

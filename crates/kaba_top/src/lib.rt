@@ -2,8 +2,7 @@
 #![tactic(auto)]
 
 ghost use Rattle.std.specs.Prelude.{◌≡◌, ◌≢◌, ◌⊎◌};
-ghost use Rattle.kaba_base.specs.Outside.{Rose};
-ghost use Rattle.kaba_words.specs.Commands.{texts};
+ghost use Rattle.kaba_top.specs.Words.{Rose, texts};
 ghost use Rattle.kaba_top.specs.Answers.{Gave, WasCut};
 ghost use Rattle.kaba_top.specs.Promise.{Kept};
 

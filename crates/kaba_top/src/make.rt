@@ -2,13 +2,8 @@
 #![tactic(auto)]
 
 ghost use Rattle.std.specs.Prelude.{◌≡◌, ◌++◌, ℕ, ◌<◌, ◌≤◌, IfOk, OnOk, string_bytes};
-ghost use Rattle.java_core.specs.Trees.{at_place, no_place};
-ghost use Rattle.java_core.specs.Programs.{program_of};
-ghost use Rattle.java_run.specs.Outcomes.{end_of};
-ghost use Rattle.java_write.specs.Written.{HasText};
-ghost use Rattle.program_facts.specs.Known.{AreProgramFacts};
+ghost use Rattle.kaba_top.specs.Words.{at_place, no_place, program_of, end_of, HasText, AreProgramFacts, AnalysisAnswers};
 ghost use Rattle.kaba_words.specs.Commands.{most_samples};
-ghost use Rattle.kaba_top.specs.FactsAnswers.{AnalysisAnswers};
 ghost use Rattle.kaba_top.specs.MakeAnswers.{MakeAnswers, MadeOf, MadeTextAnswers, RunGives, SampleAnswers, WrittenGives, count_line, counts_of, sample_text, summary};
 ghost use Rattle.kaba_top.specs.Readings.{IsMadeReading};
 
@@ -17,7 +12,7 @@ use crate::reading::{Reading, read_program};
 use crate::regen::{Regenerated, Written, regenerate};
 use crate::reply::Reply;
 use crate::run::ran;
-use crate::script::{Proposed, propose};
+use crate::script::{Proposed, Task, propose};
 use fact_model::{Facts, Lattice};
 use hier_view::live_nodes;
 use java_core::Checked;
@@ -150,7 +145,11 @@ fn made_facts(alloc: Global, program: &Checked, facts: &Facts) -> Result<Reply, 
     ensures { IfOk result (λ reply. MadeOf program.now facts.now reply.status reply.out.items reply.err.items) }
 {
     let script = Vec::new(alloc);
-    let proposal = match propose(alloc, facts, &script, 4096)? {
+    let task = Task {
+        script: &script,
+        bound: 4096,
+    };
+    let proposal = match propose(alloc, facts, &task)? {
         Proposed::Edited(proposal) => proposal,
         Proposed::Refused(reply) => return Ok(reply),
     };

@@ -2,12 +2,10 @@
 #![tactic(auto)]
 
 ghost use Rattle.std.specs.Prelude.{◌≡◌, ◌≤◌, IfOk, length};
+ghost use Rattle.kaba_top.specs.Words.{no_place, program_of, Says, most_bytes};
 ghost use Rattle.java_tree.specs.Syntax.{tree_of};
 ghost use Rattle.java_print.specs.Formed.{IsFormedTree};
-ghost use Rattle.java_core.specs.Trees.{no_place};
-ghost use Rattle.java_core.specs.Programs.{program_of};
 ghost use Rattle.java_core.specs.Formed.{IsFormed};
-ghost use Rattle.kaba_top.specs.Lines.{Says, most_bytes};
 ghost use Rattle.kaba_top.specs.Reading.{refused, at_byte, at_token, on_name, on_what, lex_text, naming_text, typing_text, form_word, kind_word, last_line, line_of, IsOfText, IsOfTree};
 ghost use Rattle.kaba_top.specs.Readings.{IsReading, IsReadingOfProgram, IsReadingOfTree};
 

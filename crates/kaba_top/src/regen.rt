@@ -1,22 +1,11 @@
 //! The command `regen`.
 #![tactic(auto)]
 
-ghost use Rattle.std.specs.Prelude.{◌≡◌, ◌≤◌, ◌++◌, [], IfOk, OnOk, length};
-ghost use Rattle.java_core.specs.Trees.{at_place, no_place};
-ghost use Rattle.java_core.specs.Programs.{program_of};
+ghost use Rattle.std.specs.Prelude.{◌≡◌, ◌≤◌, ◌++◌, [], IfOk, length};
+ghost use Rattle.kaba_top.specs.Words.{at_place, no_place, program_of, IsTable, AreSets, IsHierarchyOf, AreProgramFacts, HasText, Gives, line, most_bytes, AnalysisAnswers, edit_status, IsTask};
 ghost use Rattle.fact_model.specs.declared.sets.Table.{Table};
-ghost use Rattle.fact_model.specs.Entries.{IsTable};
-ghost use Rattle.fact_model.specs.Flowing.{AreSets};
-ghost use Rattle.hier_model.specs.Hierarchies.{IsHierarchyOf};
 ghost use Rattle.hier_rules.specs.First.{MeetsEdit};
-ghost use Rattle.program_facts.specs.Known.{AreProgramFacts};
 ghost use Rattle.tree_view.specs.Lines.{log_text, no_tree_text};
-ghost use Rattle.java_write.specs.Written.{HasText};
-ghost use Rattle.kaba_words.specs.Commands.{most_concepts};
-ghost use Rattle.kaba_top.specs.Lines.{Gives, line, most_bytes};
-ghost use Rattle.kaba_top.specs.Reading.{TextAnswers};
-ghost use Rattle.kaba_top.specs.FactsAnswers.{AnalysisAnswers};
-ghost use Rattle.kaba_top.specs.EditAnswers.{edit_status};
 ghost use Rattle.kaba_top.specs.RegenAnswers.{RegenOf};
 ghost use Rattle.kaba_top.specs.Answers.{RegenAnswers};
 ghost use Rattle.kaba_top.specs.Proposals.{IsWrittenOver};
@@ -24,7 +13,7 @@ ghost use Rattle.kaba_top.specs.Proposals.{IsWrittenOver};
 use crate::analysis::{Analysed, analyse};
 use crate::reading::{Reading, read_program};
 use crate::reply::Reply;
-use crate::script::{Proposed, edit_status, propose};
+use crate::script::{Proposed, Task, edit_status, propose};
 use fact_model::{Facts, PointsTo};
 use hier_model::Hier;
 use java_core::Checked;
@@ -129,16 +118,14 @@ fn regen_reply(
     alloc: Global,
     program: &Checked,
     facts: &Facts,
-    script: &Vec<u8>,
-    bound: u32,
+    task: &Task,
 ) -> Result<Reply, AllocError>
     requires text { HasText program.now }
     requires facts { AreProgramFacts (program_of no_place program.now) (program_of at_place program.now) facts.now }
-    requires small { length script.now.items ≤ most_bytes }
-    requires bound { bound ≤ most_concepts }
-    ensures { IfOk result (λ reply. RegenOf bound script.now.items program.now facts.now reply.status reply.out.items reply.err.items) }
+    requires task { IsTask task.now }
+    ensures { IfOk result (λ reply. RegenOf task.now.bound task.now.script.now.items program.now facts.now reply.status reply.out.items reply.err.items) }
 {
-    let proposal = match propose(alloc, facts, script, bound)? {
+    let proposal = match propose(alloc, facts, task)? {
         Proposed::Edited(proposal) => proposal,
         Proposed::Refused(reply) => return Ok(reply),
     };
@@ -150,37 +137,27 @@ fn regen_reply(
 }
 
 /// The reply of `regen` for a program of a text.
-fn regen_program(
-    alloc: Global,
-    program: &Checked,
-    script: &Vec<u8>,
-    bound: u32,
-) -> Result<Reply, AllocError>
+fn regen_program(alloc: Global, program: &Checked, task: &Task) -> Result<Reply, AllocError>
     requires text { HasText program.now }
-    requires small { length script.now.items ≤ most_bytes }
-    requires bound { bound ≤ most_concepts }
-    ensures { IfOk result (λ reply. AnalysisAnswers (RegenOf bound script.now.items program.now) program.now reply.status reply.out.items reply.err.items) }
+    requires task { IsTask task.now }
+    ensures { IfOk result (λ reply. AnalysisAnswers (RegenOf task.now.bound task.now.script.now.items program.now) program.now reply.status
+        reply.out.items reply.err.items) }
 {
     match analyse(alloc, program)? {
-        Analysed::Found(facts) => regen_reply(alloc, program, &facts, script, bound),
+        Analysed::Found(facts) => regen_reply(alloc, program, &facts, task),
         Analysed::Refused(reply) => Ok(reply),
     }
 }
 
 /// The reply of `regen` for the bytes of its file and of its script.
-pub fn regen_text(
-    alloc: Global,
-    bytes: &Vec<u8>,
-    script: &Vec<u8>,
-    bound: u32,
-) -> Result<Reply, AllocError>
+pub fn regen_text(alloc: Global, bytes: &Vec<u8>, task: &Task) -> Result<Reply, AllocError>
     requires small { length bytes.now.items ≤ most_bytes }
-    requires script_small { length script.now.items ≤ most_bytes }
-    requires bound { bound ≤ most_concepts }
-    ensures answers { IfOk result (λ reply. RegenAnswers bound bytes.now.items script.now.items reply.status reply.out.items reply.err.items) }
+    requires task { IsTask task.now }
+    ensures answers { IfOk result (λ reply. RegenAnswers task.now.bound bytes.now.items task.now.script.now.items reply.status reply.out.items
+        reply.err.items) }
 {
     match read_program(alloc, bytes)? {
-        Reading::Typed(program) => regen_program(alloc, &program, script, bound),
+        Reading::Typed(program) => regen_program(alloc, &program, task),
         Reading::Refused(reply) => Ok(reply),
     }
 }

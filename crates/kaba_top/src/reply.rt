@@ -2,8 +2,8 @@
 #![tactic(auto)]
 
 ghost use Rattle.std.specs.Prelude.{◌≡◌, ◌⊎◌, ℕ, List, IfOk, OnErr, OnOk};
-ghost use Rattle.kaba_base.specs.Outside.{Rose, taken_more};
-ghost use Rattle.kaba_top.specs.Lines.{Says, Gives, line};
+ghost use Rattle.kaba_top.specs.Words.{Rose, Says, Gives, line};
+ghost use Rattle.kaba_base.specs.Outside.{taken_more};
 ghost use Rattle.kaba_top.specs.Answers.{Cut};
 
 use kaba_base::{Failed, Sink, write_all};

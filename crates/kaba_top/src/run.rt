@@ -2,12 +2,7 @@
 #![tactic(auto)]
 
 ghost use Rattle.std.specs.Prelude.{◌≡◌, ◌≤◌, IfOk, length};
-ghost use Rattle.java_core.specs.Trees.{no_place};
-ghost use Rattle.java_core.specs.Programs.{program_of};
-ghost use Rattle.java_run.specs.Outcomes.{end_of};
-ghost use Rattle.kaba_words.specs.Commands.{texts};
-ghost use Rattle.kaba_top.specs.Lines.{most_bytes};
-ghost use Rattle.kaba_top.specs.Reading.{TextAnswers};
+ghost use Rattle.kaba_top.specs.Words.{no_place, program_of, end_of, texts, most_bytes, TextAnswers};
 ghost use Rattle.kaba_top.specs.RunAnswers.{EndGives, RunAnswers, fault_word};
 
 use crate::reading::{Reading, read_program};

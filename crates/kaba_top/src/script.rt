@@ -2,14 +2,8 @@
 #![tactic(auto)]
 
 ghost use Rattle.std.specs.Prelude.{◌≡◌, ◌≤◌, IfOk, length};
-ghost use Rattle.fact_model.specs.InRange.{InRange};
-ghost use Rattle.fact_model.specs.InOrder.{InOrder};
-ghost use Rattle.fact_model.specs.Entries.{IsTable};
+ghost use Rattle.kaba_top.specs.Words.{InRange, InOrder, IsTable, AreSets, Says, edit_status, IsTask};
 ghost use Rattle.fact_model.specs.Concepts.{IsLatticeOf};
-ghost use Rattle.fact_model.specs.Flowing.{AreSets};
-ghost use Rattle.kaba_words.specs.Commands.{most_concepts};
-ghost use Rattle.kaba_top.specs.Lines.{Says, most_bytes};
-ghost use Rattle.kaba_top.specs.EditAnswers.{edit_status};
 ghost use Rattle.kaba_top.specs.ScriptAnswers.{bad_script, too_many_edits};
 ghost use Rattle.kaba_top.specs.Proposals.{IsProposed};
 
@@ -21,6 +15,13 @@ use hier_script::{Edited, Scripted, run_script};
 use points_to::solve;
 use std::alloc::{AllocError, Global};
 use table_rules::{close, raw};
+
+/// What is asked for of a program: a script, and how many concepts there may be.
+#[derive(Clone, Copy)]
+pub struct Task<'a> {
+    pub script: &'a Vec<u8>,
+    pub bound: u32,
+}
 
 /// The hierarchy after a script, and what it was found by.
 #[derive(Drop)]
@@ -71,20 +72,18 @@ fn run_over(
     sets: PointsTo,
     table: Table,
     lattice: Lattice,
-    script: &Vec<u8>,
-    bound: u32,
+    task: &Task,
 ) -> Result<Proposed, AllocError>
     requires range { InRange facts.now }
     requires order { InOrder facts.now }
     requires sets { AreSets facts.now sets }
     requires table { IsTable facts.now table }
     requires lattice { IsLatticeOf table lattice }
-    requires within { length lattice.concepts.items ≤ bound }
-    requires small { length script.now.items ≤ most_bytes }
-    requires bound { bound ≤ most_concepts }
-    ensures proposed { IfOk result (IsProposed bound script.now.items facts.now) }
+    requires within { length lattice.concepts.items ≤ task.now.bound }
+    requires task { IsTask task.now }
+    ensures proposed { IfOk result (IsProposed task.now.bound task.now.script.now.items facts.now) }
 {
-    match run_script(alloc, facts, &sets, &table, &lattice, script)? {
+    match run_script(alloc, facts, &sets, &table, &lattice, task.script)? {
         Scripted::Edited(edited) => Ok(Proposed::Edited(Proposal {
             sets,
             table,
@@ -98,25 +97,19 @@ fn run_over(
 
 /// The hierarchy after the script, or the reply with how many concepts or edits are allowed, or with the line
 /// that is no edit.
-pub fn propose(
-    alloc: Global,
-    facts: &Facts,
-    script: &Vec<u8>,
-    bound: u32,
-) -> Result<Proposed, AllocError>
+pub fn propose(alloc: Global, facts: &Facts, task: &Task) -> Result<Proposed, AllocError>
     requires range { InRange facts.now }
     requires order { InOrder facts.now }
-    requires small { length script.now.items ≤ most_bytes }
-    requires bound { bound ≤ most_concepts }
-    ensures proposed { IfOk result (IsProposed bound script.now.items facts.now) }
+    requires task { IsTask task.now }
+    ensures proposed { IfOk result (IsProposed task.now.bound task.now.script.now.items facts.now) }
 {
     let sets = solve(alloc, facts)?;
     let raw = raw(alloc, facts, &sets)?;
     let table = close(alloc, facts, &sets, raw)?;
-    match concepts(alloc, &table, bound) {
-        Ok(lattice) => run_over(alloc, facts, sets, table, lattice, script, bound),
+    match concepts(alloc, &table, task.bound) {
+        Ok(lattice) => run_over(alloc, facts, sets, table, lattice, task),
         Err(LatticeFault::TooManyConcepts(_)) => {
-            Ok(Proposed::Refused(too_many_concepts(alloc, bound)?))
+            Ok(Proposed::Refused(too_many_concepts(alloc, task.bound)?))
         }
         Err(LatticeFault::Memory) => Err(AllocError),
     }

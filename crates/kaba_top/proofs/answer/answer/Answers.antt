@@ -1,5 +1,5 @@
-use Rattle.std.proofs.Common.{Err, ap, subst, string_bytes}
-use Rattle.kaba_words.specs.Commands.{edit, regen, make, help, version, texts, command_of, Fits}
+use Rattle.std.proofs.Common.{Err, ap, subst}
+use Rattle.kaba_words.specs.Commands.{texts, command_of, Fits}
 use Rattle.kaba_top.proofs.Replying.{of_command, usage_replies, without_files}
 use Rattle.kaba_top.proofs.Making.{make_number}
 use Rattle.kaba_top.proofs.answer.answer.Goals as goal
@@ -12,36 +12,26 @@ returns-in-Err-Usage g c = record {
 
 pub returns-in-Ok-Help : goal.returns-in-Ok-Help
 returns-in-Ok-Help g c = record {
-  replies = without_files (g.F.Shelf.files c.args.shelf.now) (g.F.Shelf.faults c.args.shelf.now) (g.F.Shelf.faults c.args.shelf.now)
-      (texts c.args.words.now.items) help c.help_reply.result
-      (subst (λ command. Fits (texts c.args.words.now.items) (command_of command)) c.in-Ok-Help.field-0-is c.in-Ok-Help.ensures.command)
+  replies = without_files _ _ _ (texts c.args.words.now.items) _ _ c.help_reply.result c.in-Ok-Help.field-0-is c.in-Ok-Help.ensures.command
       (λ first second. c.help_reply.ensures.gives);
 }
 
 pub returns-in-Ok-Version : goal.returns-in-Ok-Version
 returns-in-Ok-Version g c = record {
-  replies = without_files (g.F.Shelf.files c.args.shelf.now) (g.F.Shelf.faults c.args.shelf.now) (g.F.Shelf.faults c.args.shelf.now)
-      (texts c.args.words.now.items) version c.version_reply.result
-      (subst (λ command. Fits (texts c.args.words.now.items) (command_of command)) c.in-Ok-Version.field-0-is c.in-Ok-Version.ensures.command)
+  replies = without_files _ _ _ (texts c.args.words.now.items) _ _ c.version_reply.result c.in-Ok-Version.field-0-is c.in-Ok-Version.ensures.command
       (λ first second. c.version_reply.ensures.gives);
 }
 
 pub returns-in-Ok-Edit : goal.returns-in-Ok-Edit
 returns-in-Ok-Edit g c = record {
-  replies = of_command (g.F.Shelf.files c.args.shelf.now) (g.F.Shelf.faults c.args.shelf.now) (g.F.Shelf.faults c.edit_command.new.shelf)
-      (texts c.args.words.now.items)
-      (edit c.in-Ok-Edit.bound (string_bytes c.in-Ok-Edit.file) (string_bytes c.in-Ok-Edit.script)) c.edit_command.result
-      (subst (λ command. Fits (texts c.args.words.now.items) (command_of command)) c.in-Ok-Edit.field-0-is c.in-Ok-Edit.ensures.command)
-      c.edit_command.ensures.replies;
+  replies = of_command _ _ _ (texts c.args.words.now.items) _ _ c.script_command.result c.in-Ok-Edit.field-0-is c.in-Ok-Edit.ensures.command
+      c.script_command.ensures.replies;
 }
 
 pub returns-in-Ok-Regen : goal.returns-in-Ok-Regen
 returns-in-Ok-Regen g c = record {
-  replies = of_command (g.F.Shelf.files c.args.shelf.now) (g.F.Shelf.faults c.args.shelf.now) (g.F.Shelf.faults c.regen_command.new.shelf)
-      (texts c.args.words.now.items)
-      (regen c.in-Ok-Regen.bound (string_bytes c.in-Ok-Regen.file) (string_bytes c.in-Ok-Regen.script)) c.regen_command.result
-      (subst (λ command. Fits (texts c.args.words.now.items) (command_of command)) c.in-Ok-Regen.field-0-is c.in-Ok-Regen.ensures.command)
-      c.regen_command.ensures.replies;
+  replies = of_command _ _ _ (texts c.args.words.now.items) _ _ c.script_command-in-Ok-Regen.result c.in-Ok-Regen.field-0-is c.in-Ok-Regen.ensures.command
+      c.script_command-in-Ok-Regen.ensures.replies;
 }
 
 pub make_reply-requires : goal.make_reply-requires
@@ -52,9 +42,6 @@ make_reply-requires g c =
 
 pub returns-in-Ok-Make : goal.returns-in-Ok-Make
 returns-in-Ok-Make g c = record {
-  replies = without_files (g.F.Shelf.files c.args.shelf.now) (g.F.Shelf.faults c.args.shelf.now) (g.F.Shelf.faults c.args.shelf.now)
-      (texts c.args.words.now.items)
-      (make c.in-Ok-Make.prints c.in-Ok-Make.number) c.make_reply.result
-      (subst (λ command. Fits (texts c.args.words.now.items) (command_of command)) c.in-Ok-Make.field-0-is c.in-Ok-Make.ensures.command)
+  replies = without_files _ _ _ (texts c.args.words.now.items) _ _ c.make_reply.result c.in-Ok-Make.field-0-is c.in-Ok-Make.ensures.command
       (λ first second. c.make_reply.ensures.answers);
 }

@@ -6,5 +6,5 @@ use Rattle.kaba_top.proofs.edit.edit_program.Goals as goal
 
 pub returns-in-Found : goal.returns-in-Found
 returns-in-Found c =
-    analysed (EditOf c.args.bound c.args.script.now.items) c.args.program.now c.in-Found.facts c.edit_reply.result
+    analysed (EditOf c.args.task.now.bound c.args.task.now.script.now.items) c.args.program.now c.in-Found.facts c.edit_reply.result
     (subst (IsAnalysis c.args.program.now) c.in-Found.is c.in_ok-facts.ensures) c.edit_reply.ensures

@@ -5,5 +5,5 @@ use Rattle.kaba_top.proofs.edit.edit_reply.Goals as goal
 
 pub returns-in-Edited : goal.returns-in-Edited
 returns-in-Edited c =
-    shows c.args.bound c.args.script.now.items c.args.facts.now c.in-Edited.proposal c.show.result
-    (subst (IsProposed c.args.bound c.args.script.now.items c.args.facts.now) c.in-Edited.is c.in_ok-proposal.ensures.proposed) c.show.ensures
+    shows c.args.task.now.bound c.args.task.now.script.now.items c.args.facts.now c.in-Edited.proposal c.show.result
+    (subst (IsProposed c.args.task.now.bound c.args.task.now.script.now.items c.args.facts.now) c.in-Edited.is c.in_ok-proposal.ensures.proposed) c.show.ensures

@@ -8,15 +8,15 @@ use Rattle.kaba_top.proofs.regen.regen_reply.Goals as goal
 
 pub regenerate-requires-clause-table : goal.regenerate-requires-clause-table
 regenerate-requires-clause-table c =
-    let is = subst (IsProposed c.args.bound c.args.script.now.items c.args.facts.now) c.in-Edited.is c.in_ok-proposal.ensures.proposed in
+    let is = subst (IsProposed c.args.task.now.bound c.args.task.now.script.now.items c.args.facts.now) c.in-Edited.is c.in_ok-proposal.ensures.proposed in
     (c.in-Edited.proposal.table, is.is_table)
 
 pub returns-in-Written : goal.returns-in-Written
 returns-in-Written c =
     let F = c.args.facts.now in
     let p = c.in-Edited.proposal in
-    regenerated c.args.bound c.args.script.now.items c.args.program.now F p c.in-Written.written c.written_reply.result
-    (subst (IsProposed c.args.bound c.args.script.now.items F) c.in-Edited.is c.in_ok-proposal.ensures.proposed)
+    regenerated c.args.task.now.bound c.args.task.now.script.now.items c.args.program.now F p c.in-Written.written c.written_reply.result
+    (subst (IsProposed c.args.task.now.bound c.args.task.now.script.now.items F) c.in-Edited.is c.in_ok-proposal.ensures.proposed)
     (subst (IsWrittenOver c.args.program.now F p.sets p.edited.hier) c.in-Written.is c.in_ok-written.ensures.regenerated)
     c.written_reply.ensures
 
@@ -24,8 +24,8 @@ pub returns : goal.returns
 returns c =
     let F = c.args.facts.now in
     let p = c.in-Edited.proposal in
-    stuck_answers c.args.bound c.args.script.now.items c.args.program.now F p c.in-Stuck.fault c.stuck.result
-    (subst (IsProposed c.args.bound c.args.script.now.items F) c.in-Edited.is c.in_ok-proposal.ensures.proposed)
+    stuck_answers c.args.task.now.bound c.args.task.now.script.now.items c.args.program.now F p c.in-Stuck.fault c.stuck.result
+    (subst (IsProposed c.args.task.now.bound c.args.task.now.script.now.items F) c.in-Edited.is c.in_ok-proposal.ensures.proposed)
     c.requires.facts.in_range c.requires.facts.in_order
     (no_interface (program_of no_place c.args.program.now) (program_of at_place c.args.program.now) F c.requires.facts)
     (subst (IsWrittenOver c.args.program.now F p.sets p.edited.hier) c.in-Stuck.is c.in_ok-written.ensures.regenerated)

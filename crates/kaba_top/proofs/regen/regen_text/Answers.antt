@@ -7,7 +7,7 @@ use Rattle.kaba_top.proofs.regen.regen_text.Goals as goal
 
 pub returns-in-Typed : goal.returns-in-Typed
 returns-in-Typed c = record {
-  answers = answers (λ program. AnalysisAnswers (RegenOf c.args.bound c.args.script.now.items program) program) c.args.bytes.now.items
+  answers = answers (λ program. AnalysisAnswers (RegenOf c.args.task.now.bound c.args.task.now.script.now.items program) program) c.args.bytes.now.items
       c.in-Typed.program c.regen_program.result
       (subst (IsReading c.args.bytes.now.items) c.in-Typed.is c.in_ok-program.ensures.reading)
       c.regen_program.ensures;
