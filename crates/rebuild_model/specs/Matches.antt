@@ -25,9 +25,11 @@ pub record IsCopied {A : Type 0} (static_of : A → Bool) (owner_of : A → ℕ)
   pub name : name_of new ≡ name_of old
 
 module _ (P W : Plain) (R : Renaming) where
+  -- the field g of the new program is the static field f
   abbrev pub IsStaticField : ℕ → ℕ → Type 0
   IsStaticField f g = IsCopied (λ (k : PlainField). k.is_static) (λ k. k.owner) (λ k. k.name) R.holder_of P.fields W.fields f g
 
+  -- the method g of the new program is the static method f
   abbrev pub IsStaticMethod : ℕ → ℕ → Type 0
   IsStaticMethod f g = IsCopied (λ (k : PlainMethod). k.is_static) (λ k. k.owner) (λ k. k.name) R.holder_of P.methods W.methods f g
 
