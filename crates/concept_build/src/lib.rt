@@ -30,7 +30,7 @@ use places::places_of;
 use stands::{columns_at, rows_at};
 
 /// Why there is no lattice.
-#[derive(Clone, Copy, Debug, PartialEq, Eq, Error)]
+#[derive(Clone, Copy, Debug, Error)]
 pub enum LatticeFault {
     /// There are more concepts than this bound.
     #[error("there are more than {0} concepts")]

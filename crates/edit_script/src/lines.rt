@@ -21,7 +21,7 @@ pub struct Line {
 }
 
 /// Why a script has no edits.
-#[derive(Clone, Copy, Debug, PartialEq, Eq)]
+#[derive(Clone, Copy)]
 pub enum ScriptFault {
     /// The line of this number is no edit, and the first such.
     BadLine(u32),

@@ -180,7 +180,7 @@ pub struct MakeInfo {
 }
 
 /// What stands at a spot of the text.
-#[derive(Clone, Copy, PartialEq, Eq)]
+#[derive(Clone, Copy)]
 pub enum SpotKind {
     Cast,
     Call,

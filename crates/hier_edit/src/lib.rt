@@ -17,7 +17,7 @@ use kaba_base::{ColId, NodeId};
 use std::alloc::Global;
 
 /// Why an edit is refused.
-#[derive(Clone, Copy, Debug, PartialEq, Eq)]
+#[derive(Clone, Copy)]
 pub enum ApplyFault {
     /// No live node has this number; it is the first such of the edit.
     UnknownNode(NodeId),

@@ -21,7 +21,7 @@ pub enum Edit {
 }
 
 /// Why an edit makes no hierarchy.
-#[derive(Clone, Copy, Debug, PartialEq, Eq)]
+#[derive(Clone, Copy)]
 pub enum ChangeFault {
     /// No live node has this number.
     UnknownNode(NodeId),

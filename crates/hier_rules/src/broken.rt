@@ -3,7 +3,7 @@
 use kaba_base::{ColId, NodeId, RowId};
 
 /// The obligations of a hierarchy.
-#[derive(Clone, Copy, Debug, PartialEq, Eq)]
+#[derive(Clone, Copy)]
 pub enum Rule {
     /// The order is a partial order.
     B1,
@@ -26,7 +26,7 @@ pub enum Rule {
 }
 
 /// The nodes of an instance, in the order in which it names them.
-#[derive(Clone, Copy, Debug, PartialEq, Eq)]
+#[derive(Clone, Copy)]
 pub enum Nodes {
     One(NodeId),
     Two(NodeId, NodeId),
@@ -34,7 +34,7 @@ pub enum Nodes {
 }
 
 /// An instance against an obligation: the nodes, and the row and the column where there is one.
-#[derive(Clone, Copy, Debug, PartialEq, Eq)]
+#[derive(Clone, Copy)]
 pub struct Broken {
     pub rule: Rule,
     pub nodes: Nodes,

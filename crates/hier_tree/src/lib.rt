@@ -7,7 +7,7 @@ use kaba_base::NodeId;
 
 /// A conflict: a class node, and two class nodes at or above it that are not ordered. A class of
 /// Java extends one class, so that the class nodes at or above each one have to form a chain.
-#[derive(Clone, Copy, Debug, PartialEq, Eq)]
+#[derive(Clone, Copy)]
 pub struct Conflict {
     /// The class node below both.
     pub lower: NodeId,

@@ -17,7 +17,7 @@ pub use programs::check;
 use thiserror::Error;
 
 /// A rule of types.
-#[derive(Clone, Copy, Debug, PartialEq, Eq)]
+#[derive(Clone, Copy, Debug)]
 pub enum Kind {
     /// What an operator, an index, a size or a print takes.
     Operand,
@@ -42,7 +42,7 @@ pub enum Kind {
 }
 
 /// Why a program is not typed.
-#[derive(Clone, Copy, Debug, PartialEq, Eq, Error)]
+#[derive(Clone, Copy, Debug, Error)]
 pub enum CheckFault {
     /// A rule fails at a place.
     #[error("ill typed on line {}", .1.line)]

@@ -38,7 +38,7 @@ use tables::Tables;
 pub use tables::{FieldTables, mixed, mixed_all};
 
 /// What an array's elements are, or a type that is no array.
-#[derive(Clone, Copy, Debug, PartialEq, Eq)]
+#[derive(Clone, Copy, PartialEq, Eq)]
 pub enum TyBase {
     /// `int`
     Int,
@@ -53,14 +53,14 @@ pub enum TyBase {
 }
 
 /// A type: a base with `dim` pairs of square brackets behind it.
-#[derive(Clone, Copy, Debug, PartialEq, Eq)]
+#[derive(Clone, Copy, PartialEq, Eq)]
 pub struct Ty {
     pub base: TyBase,
     pub dim: u32,
 }
 
 /// A binary operator that gives an `int`; `+` joins strings too.
-#[derive(Clone, Copy, Debug, PartialEq, Eq)]
+#[derive(Clone, Copy, PartialEq, Eq)]
 pub enum Op {
     /// `+`
     Plus,
@@ -87,7 +87,7 @@ pub enum Op {
 }
 
 /// A binary operator.
-#[derive(Clone, Copy, Debug, PartialEq, Eq)]
+#[derive(Clone, Copy, PartialEq, Eq)]
 pub enum BinOp {
     /// One that gives an `int`, or `+` on strings.
     Int(Op),
@@ -110,7 +110,7 @@ pub enum BinOp {
 }
 
 /// A prefix operator.
-#[derive(Clone, Copy, Debug, PartialEq, Eq)]
+#[derive(Clone, Copy, PartialEq, Eq)]
 pub enum UnOp {
     /// `+`
     Plus,
@@ -123,7 +123,7 @@ pub enum UnOp {
 }
 
 /// What can go wrong in a run of a typed program.
-#[derive(Clone, Copy, Debug, PartialEq, Eq)]
+#[derive(Clone, Copy)]
 pub enum Fault {
     /// A receiver, the base of a field, an array or a string is null.
     Null,

@@ -18,7 +18,7 @@ use crate::{
 use kaba_base::{ClassId, MemberId, Name};
 
 /// What an expression gives.
-#[derive(Clone, Copy, Debug, PartialEq, Eq)]
+#[derive(Clone, Copy)]
 pub enum Static {
     /// A value of the type.
     Value(Ty),
@@ -29,7 +29,7 @@ pub enum Static {
 }
 
 /// A method of `String`.
-#[derive(Clone, Copy, Debug, PartialEq, Eq)]
+#[derive(Clone, Copy)]
 pub enum StringMethod {
     /// `length()`
     Length,

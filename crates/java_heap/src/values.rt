@@ -9,7 +9,7 @@ use java_core::{Ty, TyBase};
 
 /// A value of a run: a string is named by its place among the strings of the heap, an object or an
 /// array by its place among the cells.
-#[derive(Clone, Copy, Debug, PartialEq, Eq)]
+#[derive(Clone, Copy)]
 pub enum Value {
     /// An `int`.
     Int(i32),

@@ -16,7 +16,7 @@ pub use kaba_base::{Keyword, Name, Place};
 pub use read::lex;
 
 /// A separator or an operator (Java Language Specification, sections 3.11 and 3.12).
-#[derive(Clone, Copy, Debug, PartialEq, Eq)]
+#[derive(Clone, Copy, PartialEq, Eq)]
 pub enum Mark {
     /// `(`
     OpenRound,
@@ -261,7 +261,7 @@ pub struct Token {
 }
 
 /// Why a text has no tokens.
-#[derive(Clone, Copy, Debug, PartialEq, Eq, Error)]
+#[derive(Clone, Copy, Debug, Error)]
 pub enum LexFault {
     /// Bytes that are not UTF-8, or a character that no token and no space begins with.
     #[error("no token at byte {} on line {}", .0.at, .0.line)]

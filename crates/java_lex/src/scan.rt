@@ -16,7 +16,7 @@ use kaba_base::{continues_identifier, keyword_of, starts_identifier};
 use std::alloc::{AllocError, Global};
 
 /// Why a piece is no token.
-#[derive(Clone, Copy, Debug, PartialEq, Eq)]
+#[derive(Clone, Copy)]
 pub enum FaultKind {
     /// No token and no space begins so.
     BadByte,

@@ -66,7 +66,7 @@ impl<'a, T: Drop> From<AllocFailed<T>> for Stop<'a> {
 }
 
 /// Why a list of tokens has no tree.
-#[derive(Clone, Copy, Debug, PartialEq, Eq, Error)]
+#[derive(Clone, Copy, Debug, Error)]
 pub enum ParseFault {
     /// The tokens are no program of the grammar. The number is one from 0 to their count.
     #[error("not a program")]

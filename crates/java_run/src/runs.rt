@@ -21,7 +21,7 @@ use linear_state::{Ending, start};
 use std::alloc::{AllocError, Global};
 
 /// How a run of a program ends.
-#[derive(Clone, Copy, Debug, PartialEq, Eq)]
+#[derive(Clone, Copy)]
 pub enum End {
     /// By itself.
     Ended,

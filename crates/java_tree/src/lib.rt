@@ -296,7 +296,7 @@ pub struct Tree {
 }
 
 /// An entry of the nesting stack, which is kept over the tokens of a text.
-#[derive(Clone, Copy, Debug, PartialEq, Eq)]
+#[derive(Clone, Copy)]
 pub enum Entry {
     /// `(`
     Round,

@@ -18,27 +18,27 @@ pub use words::{
 };
 
 /// The number of a row of the table: a variable, a creation site or a tested type.
-#[derive(Clone, Copy, Debug, PartialEq, Eq, PartialOrd, Ord, Hash)]
+#[derive(Clone, Copy, PartialEq, Eq)]
 pub struct RowId(pub u32);
 
 /// The number of a column of the table: a member, or the mark of a tested type.
-#[derive(Clone, Copy, Debug, PartialEq, Eq, PartialOrd, Ord, Hash)]
+#[derive(Clone, Copy, PartialEq, Eq)]
 pub struct ColId(pub u32);
 
 /// The number of a creation site.
-#[derive(Clone, Copy, Debug, PartialEq, Eq, PartialOrd, Ord, Hash)]
+#[derive(Clone, Copy, PartialEq, Eq)]
 pub struct SiteId(pub u32);
 
 /// The number of a node of the hierarchy.
-#[derive(Clone, Copy, Debug, PartialEq, Eq, PartialOrd, Ord, Hash)]
+#[derive(Clone, Copy, PartialEq, Eq)]
 pub struct NodeId(pub u32);
 
 /// The number of a field or of a method of a program.
-#[derive(Clone, Copy, Debug, PartialEq, Eq, PartialOrd, Ord, Hash)]
+#[derive(Clone, Copy, PartialEq, Eq)]
 pub struct MemberId(pub u32);
 
 /// The number of a class or of an interface of a program; 0 is `Object`.
-#[derive(Clone, Copy, Debug, PartialEq, Eq, PartialOrd, Ord, Hash)]
+#[derive(Clone, Copy, PartialEq, Eq, Hash)]
 pub struct ClassId(pub u32);
 
 /// A place in a text.

@@ -8,7 +8,7 @@ ghost use Rattle.kaba_base.specs.declared.outside.Fetch.TheVariants as Fetch;
 use std::alloc::Global;
 
 /// Why a file was not fetched.
-#[derive(Clone, Copy, Debug, PartialEq, Eq)]
+#[derive(Clone, Copy, PartialEq, Eq)]
 pub enum Fetch {
     /// There is no such file, or a fault was met, which raised the shelf's count.
     Failed,
@@ -17,7 +17,7 @@ pub enum Fetch {
 }
 
 /// A write failed, which raised the sink's count.
-#[derive(Clone, Copy, Debug, PartialEq, Eq)]
+#[derive(Clone, Copy)]
 pub struct Failed;
 
 /// Where files come from. It has two meanings: the map from names to bytes, where the shelf

@@ -10,7 +10,7 @@ use std::alloc::Global;
 use thiserror::Error;
 
 /// Why a file was not read.
-#[derive(Clone, Copy, Debug, PartialEq, Eq, Error)]
+#[derive(Clone, Copy, Debug, Error)]
 pub enum ReadFault {
     /// There is no such file, or the shelf met a fault.
     #[error("the file cannot be read")]

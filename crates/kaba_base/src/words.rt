@@ -8,7 +8,7 @@ ghost use Rattle.kaba_base.specs.Words.{is_start, is_part, is_word, next_is, is_
 
 /// The keywords of the language: the reserved words of the Java Language Specification,
 /// section 3.9, the literals `true`, `false` and `null`, and `_` alone.
-#[derive(Clone, Copy, Debug, PartialEq, Eq)]
+#[derive(Clone, Copy, PartialEq, Eq)]
 pub enum Keyword {
     Abstract,
     Assert,

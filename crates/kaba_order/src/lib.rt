@@ -16,7 +16,7 @@ mod rows;
 use merge::{has_some, is_among, keep_one, least_of, merge_rows, some_has};
 
 /// Why an order was not changed.
-#[derive(Clone, Copy, Debug, PartialEq, Eq)]
+#[derive(Clone, Copy)]
 pub enum OrderFault {
     /// No partial order holds the old one and what was asked, since this node lies strictly between two
     /// of the union, or is the one that would stand below a node that is strictly below it.

@@ -30,7 +30,7 @@ pub enum Command {
 }
 
 /// Why the words say no command.
-#[derive(Clone, Copy, Debug, PartialEq, Eq)]
+#[derive(Clone, Copy)]
 pub enum WordsFault {
     /// They fit no pattern.
     Usage,

@@ -11,7 +11,7 @@ pub use parts::{Bound, Here, Kind};
 use std::alloc::{AllocError, AllocFailed};
 
 /// What the language leaves out.
-#[derive(Clone, Copy, Debug, PartialEq, Eq)]
+#[derive(Clone, Copy)]
 pub enum Form {
     /// A modifier that stands twice or does not fit.
     Modifier,
