@@ -23,20 +23,8 @@ pub fn field(alloc: Global, base: Expr, name: Name, place: Place) -> Result<Expr
 pub fn index(alloc: Global, base: Expr, at: Expr, place: Place) -> Result<Expr, AllocError>
     ensures value { IfOk result (λ e. expr_of e ≡ IndexOf (expr_of base) (expr_of at) place) }
 {
-    let base = match Box::new(alloc, base) {
-        Ok(base) => base,
-        Err(short) => {
-            drop(at);
-            return Err(short.into());
-        }
-    };
-    let at = match Box::new(alloc, at) {
-        Ok(at) => at,
-        Err(short) => {
-            drop(base);
-            return Err(short.into());
-        }
-    };
+    let base = made!(Box::new(alloc, base) => AllocError; at);
+    let at = made!(Box::new(alloc, at) => AllocError; base);
     Ok(Expr::Index { base, at, place })
 }
 
@@ -135,20 +123,8 @@ pub fn binary(
 ) -> Result<Expr, AllocError>
     ensures value { IfOk result (λ e. expr_of e ≡ BinaryOf mark (expr_of left) (expr_of right) place) }
 {
-    let left = match Box::new(alloc, left) {
-        Ok(left) => left,
-        Err(short) => {
-            drop(right);
-            return Err(short.into());
-        }
-    };
-    let right = match Box::new(alloc, right) {
-        Ok(right) => right,
-        Err(short) => {
-            drop(left);
-            return Err(short.into());
-        }
-    };
+    let left = made!(Box::new(alloc, left) => AllocError; right);
+    let right = made!(Box::new(alloc, right) => AllocError; left);
     Ok(Expr::Binary {
         mark,
         left,
@@ -195,27 +171,11 @@ pub fn for_loop(
 {
     let first = match first {
         None => None,
-        Some(stmt) => match Box::new(alloc, stmt) {
-            Ok(made) => Some(made),
-            Err(short) => {
-                drop(test);
-                drop(step);
-                drop(body);
-                return Err(short.into());
-            }
-        },
+        Some(stmt) => Some(made!(Box::new(alloc, stmt) => AllocError; test, step, body)),
     };
     let step = match step {
         None => None,
-        Some(stmt) => match Box::new(alloc, stmt) {
-            Ok(made) => Some(made),
-            Err(short) => {
-                drop(first);
-                drop(test);
-                drop(body);
-                return Err(short.into());
-            }
-        },
+        Some(stmt) => Some(made!(Box::new(alloc, stmt) => AllocError; first, test, body)),
     };
     Ok(Stmt::For {
         first,

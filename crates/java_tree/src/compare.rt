@@ -75,16 +75,7 @@ fn equal_head_lists(a: &[Head], b: &[Head]) -> bool
 fn equal_method_bodies(a: &Option<Vec<Stmt>>, b: &Option<Vec<Stmt>>) -> bool
     ensures value { result ≡ may_same same_stmts (body_seen a.now) (body_seen b.now) }
 {
-    match a {
-        None => match b {
-            None => true,
-            Some(_) => false,
-        },
-        Some(one) => match b {
-            None => false,
-            Some(other) => equal_bodies(one, other),
-        },
-    }
+    may_equal!(a, b, equal_bodies)
 }
 
 #[tactic(auto, using(crate::proofs::Sameness::lists))]
@@ -92,27 +83,12 @@ fn equal_members(a: &Member, b: &Member) -> bool
     ensures value { result ≡ same_member (member_of a.now) (member_of b.now) }
 {
     match a {
-        Member::Field { mods, ty, name, .. } => match b {
-            Member::Field {
-                mods: words,
-                ty: kind,
-                name: other,
-                ..
-            } => {
-                equal_modifier_lists(mods, words)
-                    && equal_types(ty, kind)
-                    && equal_names(name, other)
-            }
-            _ => false,
-        },
-        Member::Method { head, body, .. } => match b {
-            Member::Method {
-                head: front,
-                body: other,
-                ..
-            } => equal_heads(head, front) && equal_method_bodies(body, other),
-            _ => false,
-        },
+        Member::Field { mods, ty, name, .. } =>
+            same_form!(b, Member::Field { mods: words, ty: kind, name: other, .. } =>
+                equal_modifier_lists(mods, words) && equal_types(ty, kind) && equal_names(name, other)),
+        Member::Method { head, body, .. } =>
+            same_form!(b, Member::Method { head: front, body: other, .. } =>
+                equal_heads(head, front) && equal_method_bodies(body, other)),
     }
 }
 
@@ -135,44 +111,19 @@ fn equal_decls(a: &Decl, b: &Decl) -> bool
             faces,
             members,
             ..
-        } => match b {
-            Decl::Class {
-                mods: words,
-                name: other,
-                parent: above,
-                faces: others,
-                members: rest,
-                ..
-            } => {
-                equal_modifier_lists(mods, words)
-                    && equal_names(name, other)
-                    && equal_parents(parent, above)
-                    && equal_id_lists(faces, others)
-                    && equal_member_lists(members, rest)
-            }
-            _ => false,
-        },
+        } =>
+            same_form!(b, Decl::Class { mods: words, name: other, parent: above, faces: others, members: rest, .. } =>
+                equal_modifier_lists(mods, words) && equal_names(name, other) && equal_parents(parent, above)
+                    && equal_id_lists(faces, others) && equal_member_lists(members, rest)),
         Decl::Interface {
             mods,
             name,
             parents,
             heads,
             ..
-        } => match b {
-            Decl::Interface {
-                mods: words,
-                name: other,
-                parents: others,
-                heads: rest,
-                ..
-            } => {
-                equal_modifier_lists(mods, words)
-                    && equal_names(name, other)
-                    && equal_id_lists(parents, others)
-                    && equal_head_lists(heads, rest)
-            }
-            _ => false,
-        },
+        } =>
+            same_form!(b, Decl::Interface { mods: words, name: other, parents: others, heads: rest, .. } =>
+                equal_modifier_lists(mods, words) && equal_names(name, other) && equal_id_lists(parents, others) && equal_head_lists(heads, rest)),
     }
 }
 

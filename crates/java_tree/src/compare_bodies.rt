@@ -37,10 +37,7 @@ fn equal_bases(a: &TypeBase, b: &TypeBase) -> bool
         TypeBase::Int => matches!(b, TypeBase::Int),
         TypeBase::Boolean => matches!(b, TypeBase::Boolean),
         TypeBase::Char => matches!(b, TypeBase::Char),
-        TypeBase::Named(name) => match b {
-            TypeBase::Named(other) => equal_names(name, other),
-            _ => false,
-        },
+        TypeBase::Named(name) => same_form!(b, TypeBase::Named(other) => equal_names(name, other)),
     }
 }
 
@@ -56,133 +53,54 @@ fn equal_exprs(a: &Expr, b: &Expr) -> bool
     ensures value { result ≡ same_expr (expr_of a.now) (expr_of b.now) }
 {
     match a {
-        Expr::Int { value, .. } => match b {
-            Expr::Int { value: other, .. } => *value == *other,
-            _ => false,
-        },
-        Expr::Char { value, .. } => match b {
-            Expr::Char { value: other, .. } => *value == *other,
-            _ => false,
-        },
-        Expr::Str { units, .. } => match b {
-            Expr::Str { units: others, .. } => equal_units(units, others),
-            _ => false,
-        },
-        Expr::Bool { value, .. } => match b {
-            Expr::Bool { value: other, .. } => *value == *other,
-            _ => false,
-        },
+        Expr::Int { value, .. } =>
+            same_form!(b, Expr::Int { value: other, .. } => *value == *other),
+        Expr::Char { value, .. } =>
+            same_form!(b, Expr::Char { value: other, .. } => *value == *other),
+        Expr::Str { units, .. } =>
+            same_form!(b, Expr::Str { units: others, .. } => equal_units(units, others)),
+        Expr::Bool { value, .. } =>
+            same_form!(b, Expr::Bool { value: other, .. } => *value == *other),
         Expr::Null { .. } => matches!(b, Expr::Null { .. }),
         Expr::This { .. } => matches!(b, Expr::This { .. }),
-        Expr::Name { name, .. } => match b {
-            Expr::Name { name: other, .. } => equal_names(name, other),
-            _ => false,
-        },
-        Expr::Field { base, name, .. } => match b {
-            Expr::Field {
-                base: root,
-                name: other,
-                ..
-            } => equal_names(name, other) && equal_exprs(base, root),
-            _ => false,
-        },
-        Expr::Index { base, at, .. } => match b {
-            Expr::Index {
-                base: root,
-                at: place,
-                ..
-            } => equal_exprs(base, root) && equal_exprs(at, place),
-            _ => false,
-        },
+        Expr::Name { name, .. } =>
+            same_form!(b, Expr::Name { name: other, .. } => equal_names(name, other)),
+        Expr::Field { base, name, .. } =>
+            same_form!(b, Expr::Field { base: root, name: other, .. } => equal_names(name, other) && equal_exprs(base, root)),
+        Expr::Index { base, at, .. } =>
+            same_form!(b, Expr::Index { base: root, at: place, .. } => equal_exprs(base, root) && equal_exprs(at, place)),
         Expr::Call {
             base,
             name,
             args,
             ..
-        } => match b {
-            Expr::Call {
-                base: root,
-                name: other,
-                args: others,
-                ..
-            } => match base {
-                None => match root {
-                    None => equal_names(name, other) && equal_lists(args, others),
-                    Some(_) => false,
-                },
-                Some(base) => match root {
-                    None => false,
-                    Some(root) => {
-                        equal_names(name, other)
-                            && equal_exprs(base, root)
-                            && equal_lists(args, others)
-                    }
-                },
-            },
-            _ => false,
-        },
-        Expr::SuperCall { name, args, .. } => match b {
-            Expr::SuperCall {
-                name: other,
-                args: others,
-                ..
-            } => equal_names(name, other) && equal_lists(args, others),
-            _ => false,
-        },
-        Expr::New { class, args, .. } => match b {
-            Expr::New {
-                class: other,
-                args: others,
-                ..
-            } => equal_ids(class, other) && equal_lists(args, others),
-            _ => false,
-        },
-        Expr::NewArray { ty, size, .. } => match b {
-            Expr::NewArray {
-                ty: other,
-                size: count,
-                ..
-            } => equal_types(ty, other) && equal_exprs(size, count),
-            _ => false,
-        },
-        Expr::Cast { ty, value, .. } => match b {
-            Expr::Cast {
-                ty: other,
-                value: content,
-                ..
-            } => equal_types(ty, other) && equal_exprs(value, content),
-            _ => false,
-        },
-        Expr::InstanceOf { value, class, .. } => match b {
-            Expr::InstanceOf {
-                value: content,
-                class: other,
-                ..
-            } => equal_ids(class, other) && equal_exprs(value, content),
-            _ => false,
-        },
-        Expr::Unary { mark, value, .. } => match b {
-            Expr::Unary {
-                mark: other,
-                value: content,
-                ..
-            } => *mark == *other && equal_exprs(value, content),
-            _ => false,
-        },
+        } => same_form!(b, Expr::Call { base: root, name: other, args: others, .. } => match base {
+            None => same_form!(root, None => equal_names(name, other) && equal_lists(args, others)),
+            Some(base) => same_form!(root, Some(root) => equal_names(name, other)
+                && equal_exprs(base, root)
+                && equal_lists(args, others)),
+        }),
+        Expr::SuperCall { name, args, .. } =>
+            same_form!(b, Expr::SuperCall { name: other, args: others, .. } =>
+                equal_names(name, other) && equal_lists(args, others)),
+        Expr::New { class, args, .. } =>
+            same_form!(b, Expr::New { class: other, args: others, .. } => equal_ids(class, other) && equal_lists(args, others)),
+        Expr::NewArray { ty, size, .. } =>
+            same_form!(b, Expr::NewArray { ty: other, size: count, .. } => equal_types(ty, other) && equal_exprs(size, count)),
+        Expr::Cast { ty, value, .. } =>
+            same_form!(b, Expr::Cast { ty: other, value: content, .. } => equal_types(ty, other) && equal_exprs(value, content)),
+        Expr::InstanceOf { value, class, .. } =>
+            same_form!(b, Expr::InstanceOf { value: content, class: other, .. } =>
+                equal_ids(class, other) && equal_exprs(value, content)),
+        Expr::Unary { mark, value, .. } =>
+            same_form!(b, Expr::Unary { mark: other, value: content, .. } => *mark == *other && equal_exprs(value, content)),
         Expr::Binary {
             mark,
             left,
             right,
             ..
-        } => match b {
-            Expr::Binary {
-                mark: other,
-                left: first,
-                right: second,
-                ..
-            } => *mark == *other && equal_exprs(left, first) && equal_exprs(right, second),
-            _ => false,
-        },
+        } => same_form!(b, Expr::Binary { mark: other, left: first, right: second, .. } =>
+                *mark == *other && equal_exprs(left, first) && equal_exprs(right, second)),
     }
 }
 
@@ -190,30 +108,13 @@ fn equal_exprs(a: &Expr, b: &Expr) -> bool
 fn equal_lists(a: &[Expr], b: &[Expr]) -> bool
     ensures value { result ≡ same_exprs (exprs a.now) (exprs b.now) }
 {
-    if a.len() != b.len() {
-        return false;
-    }
-    for i in 0..a.len() {
-        if !equal_exprs(&a[i], &b[i]) {
-            return false;
-        }
-    }
-    true
+    all_equal!(a, b, equal_exprs)
 }
 
 fn equal_values(a: &Option<Expr>, b: &Option<Expr>) -> bool
     ensures value { result ≡ same_value (value_of a.now) (value_of b.now) }
 {
-    match a {
-        None => match b {
-            None => true,
-            Some(_) => false,
-        },
-        Some(one) => match b {
-            None => false,
-            Some(other) => equal_exprs(one, other),
-        },
-    }
+    may_equal!(a, b, equal_exprs)
 }
 
 #[cycle(stmts)]
@@ -227,95 +128,37 @@ fn equal_stmts(a: &Stmt, b: &Stmt) -> bool
             name,
             value,
             ..
-        } => match b {
-            Stmt::Local {
-                is_final: fixed,
-                ty: kind,
-                name: other,
-                value: content,
-                ..
-            } => {
-                *is_final == *fixed
-                    && equal_types(ty, kind)
-                    && equal_names(name, other)
-                    && equal_values(value, content)
-            }
-            _ => false,
-        },
-        Stmt::Block { items, .. } => match b {
-            Stmt::Block { items: others, .. } => equal_bodies(items, others),
-            _ => false,
-        },
-        Stmt::Assign { target, value, .. } => match b {
-            Stmt::Assign {
-                target: other,
-                value: content,
-                ..
-            } => equal_exprs(target, other) && equal_exprs(value, content),
-            _ => false,
-        },
-        Stmt::Do { call, .. } => match b {
-            Stmt::Do { call: other, .. } => equal_exprs(call, other),
-            _ => false,
-        },
-        Stmt::Print { newline, value, .. } => match b {
-            Stmt::Print {
-                newline: other,
-                value: content,
-                ..
-            } => *newline == *other && equal_values(value, content),
-            _ => false,
-        },
-        Stmt::If { arms, other, .. } => match b {
-            Stmt::If {
-                arms: others,
-                other: last,
-                ..
-            } => match other {
-                None => match last {
-                    None => equal_arms(arms, others),
-                    Some(_) => false,
-                },
-                Some(body) => match last {
-                    None => false,
-                    Some(rest) => equal_arms(arms, others) && equal_bodies(body, rest),
-                },
-            },
-            _ => false,
-        },
-        Stmt::While { test, body, .. } => match b {
-            Stmt::While {
-                test: other,
-                body: others,
-                ..
-            } => equal_exprs(test, other) && equal_bodies(body, others),
-            _ => false,
-        },
+        } =>
+            same_form!(b, Stmt::Local { is_final: fixed, ty: kind, name: other, value: content, .. } =>
+                *is_final == *fixed && equal_types(ty, kind) && equal_names(name, other) && equal_values(value, content)),
+        Stmt::Block { items, .. } =>
+            same_form!(b, Stmt::Block { items: others, .. } => equal_bodies(items, others)),
+        Stmt::Assign { target, value, .. } =>
+            same_form!(b, Stmt::Assign { target: other, value: content, .. } =>
+                equal_exprs(target, other) && equal_exprs(value, content)),
+        Stmt::Do { call, .. } =>
+            same_form!(b, Stmt::Do { call: other, .. } => equal_exprs(call, other)),
+        Stmt::Print { newline, value, .. } =>
+            same_form!(b, Stmt::Print { newline: other, value: content, .. } =>
+                *newline == *other && equal_values(value, content)),
+        Stmt::If { arms, other, .. } =>
+            same_form!(b, Stmt::If { arms: others, other: last, .. } => match other {
+            None => same_form!(last, None => equal_arms(arms, others)),
+            Some(body) => same_form!(last, Some(rest) => equal_arms(arms, others) && equal_bodies(body, rest)),
+        }),
+        Stmt::While { test, body, .. } =>
+            same_form!(b, Stmt::While { test: other, body: others, .. } =>
+                equal_exprs(test, other) && equal_bodies(body, others)),
         Stmt::For {
             first,
             test,
             step,
             body,
             ..
-        } => match b {
-            Stmt::For {
-                first: start,
-                test: other,
-                step: next,
-                body: others,
-                ..
-            } => {
-                equal_steps(first, start)
-                    && equal_values(test, other)
-                    && equal_steps(step, next)
-                    && equal_bodies(body, others)
-            }
-            _ => false,
-        },
-        Stmt::Return { value, .. } => match b {
-            Stmt::Return { value: content, .. } => equal_values(value, content),
-            _ => false,
-        },
+        } => same_form!(b, Stmt::For { first: start, test: other, step: next, body: others, .. } =>
+                equal_steps(first, start) && equal_values(test, other) && equal_steps(step, next) && equal_bodies(body, others)),
+        Stmt::Return { value, .. } =>
+            same_form!(b, Stmt::Return { value: content, .. } => equal_values(value, content)),
         Stmt::Break { .. } => matches!(b, Stmt::Break { .. }),
         Stmt::Continue { .. } => matches!(b, Stmt::Continue { .. }),
     }
@@ -325,16 +168,7 @@ fn equal_stmts(a: &Stmt, b: &Stmt) -> bool
 fn equal_steps(a: &Option<Box<Stmt>>, b: &Option<Box<Stmt>>) -> bool
     ensures value { result ≡ same_step (boxed_step a.now) (boxed_step b.now) }
 {
-    match a {
-        None => match b {
-            None => true,
-            Some(_) => false,
-        },
-        Some(stmt) => match b {
-            None => false,
-            Some(other) => equal_stmts(stmt, other),
-        },
-    }
+    may_equal!(a, b, equal_stmts)
 }
 
 /// Whether two lists of statements are equal, places aside.
@@ -342,30 +176,14 @@ fn equal_steps(a: &Option<Box<Stmt>>, b: &Option<Box<Stmt>>) -> bool
 pub fn equal_bodies(a: &[Stmt], b: &[Stmt]) -> bool
     ensures value { result ≡ same_stmts (stmts a.now) (stmts b.now) }
 {
-    if a.len() != b.len() {
-        return false;
-    }
-    for i in 0..a.len() {
-        if !equal_stmts(&a[i], &b[i]) {
-            return false;
-        }
-    }
-    true
+    all_equal!(a, b, equal_stmts)
 }
 
 #[cycle(stmts)]
 fn equal_arms(a: &[Arm], b: &[Arm]) -> bool
     ensures value { result ≡ same_arms (arms_seen a.now) (arms_seen b.now) }
 {
-    if a.len() != b.len() {
-        return false;
-    }
-    for i in 0..a.len() {
-        if !equal_branches(&a[i], &b[i]) {
-            return false;
-        }
-    }
-    true
+    all_equal!(a, b, equal_branches)
 }
 
 #[cycle(stmts)]

@@ -1,6 +1,82 @@
 //! Syntax trees and the grammar that derives them.
 #![tactic(auto)]
 
+/// What a call made; where it made nothing, what is held is let go, and the function ends with the call's error,
+/// or with the error of the named type that comes from it.
+#[macro_export]
+macro_rules! made {
+    ($call:expr => $fault:ident; $($held:ident),*) => {
+        match $call {
+            Ok(made) => made,
+            Err(fault) => {
+                $(drop($held);)*
+                return Err($fault::from(fault));
+            }
+        }
+    };
+    ($call:expr; $($held:ident),*) => {
+        match $call {
+            Ok(made) => made,
+            Err(fault) => {
+                $(drop($held);)*
+                return Err(fault);
+            }
+        }
+    };
+}
+
+/// The sum of what is counted in each of a list.
+macro_rules! sum {
+    ($list:expr, $count:ident) => {{
+        let mut all = 0;
+        for one in $list {
+            all += $count(one);
+        }
+        all
+    }};
+}
+
+/// Whether two lists are equally long, and equal at each place.
+macro_rules! all_equal {
+    ($a:ident, $b:ident, $equal:ident) => {{
+        if $a.len() != $b.len() {
+            return false;
+        }
+        for i in 0..$a.len() {
+            if !$equal(&$a[i], &$b[i]) {
+                return false;
+            }
+        }
+        true
+    }};
+}
+
+/// Whether both are left out, or both are there and equal.
+macro_rules! may_equal {
+    ($a:ident, $b:ident, $equal:ident) => {
+        match $a {
+            None => match $b {
+                None => true,
+                Some(_) => false,
+            },
+            Some(one) => match $b {
+                None => false,
+                Some(other) => $equal(one, other),
+            },
+        }
+    };
+}
+
+/// Whether the other tree has this form too, with equal parts.
+macro_rules! same_form {
+    ($other:ident, $form:pat => $equal:expr) => {
+        match $other {
+            $form => $equal,
+            _ => false,
+        }
+    };
+}
+
 ghost use Rattle.java_tree.specs.Laws.{OneAnswer};
 
 mod asked;

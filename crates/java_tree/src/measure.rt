@@ -42,11 +42,7 @@ fn exprs_count(list: &[Expr]) -> u64
     requires room { exprs_size (exprs list.now) < 2 ^ 64 }
     ensures value { result ≡ exprs_size (exprs list.now) }
 {
-    let mut all = 0;
-    for one in list {
-        all += expr_count(one);
-    }
-    all
+    sum!(list, expr_count)
 }
 
 fn value_count(value: &Option<Expr>) -> u64
@@ -103,11 +99,7 @@ fn stmts_count(list: &[Stmt]) -> u64
     requires room { stmts_size (stmts list.now) < 2 ^ 64 }
     ensures value { result ≡ stmts_size (stmts list.now) }
 {
-    let mut all = 0;
-    for one in list {
-        all += stmt_count(one);
-    }
-    all
+    sum!(list, stmt_count)
 }
 
 #[cycle(stmts)]
@@ -115,11 +107,7 @@ fn arms_count(list: &[Arm]) -> u64
     requires room { arms_size (arms_seen list.now) < 2 ^ 64 }
     ensures value { result ≡ arms_size (arms_seen list.now) }
 {
-    let mut all = 0;
-    for one in list {
-        all += arm_count(one);
-    }
-    all
+    sum!(list, arm_count)
 }
 
 #[cycle(stmts)]
@@ -147,11 +135,7 @@ fn members_count(list: &[Member]) -> u64
     requires room { members_size (members list.now) < 2 ^ 64 }
     ensures value { result ≡ members_size (members list.now) }
 {
-    let mut all = 0;
-    for one in list {
-        all += member_count(one);
-    }
-    all
+    sum!(list, member_count)
 }
 
 fn decl_count(decl: &Decl) -> u64
@@ -170,9 +154,5 @@ pub fn size(tree: &Tree) -> u64
     requires room { tree_size (tree_of tree.now) < 2 ^ 64 }
     ensures value { result ≡ tree_size (tree_of tree.now) }
 {
-    let mut all = 0;
-    for one in &tree.decls {
-        all += decl_count(one);
-    }
-    all
+    sum!(&tree.decls, decl_count)
 }

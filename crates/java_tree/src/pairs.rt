@@ -11,15 +11,7 @@ pub fn equal_lists<T, F: Fn(&T, &T) -> bool>(a: &[T], b: &[T], equal: F) -> bool
     requires { F.IsAlwaysCallable equal }
     ensures value { (same : T → T → Bool) → ((x y : T) (r : Bool) → FnReturnsAtPair F.Fn equal x y r → r ≡ same x y) → result ≡ all_same same a.now b.now }
 {
-    if a.len() != b.len() {
-        return false;
-    }
-    for i in 0..a.len() {
-        if !equal(&a[i], &b[i]) {
-            return false;
-        }
-    }
-    true
+    all_equal!(a, b, equal)
 }
 
 /// Whether both are left out, or both are there and equal.
@@ -27,14 +19,5 @@ pub fn equal_options<T, F: Fn(&T, &T) -> bool>(a: &Option<T>, b: &Option<T>, equ
     requires { F.IsAlwaysCallable equal }
     ensures value { (same : T → T → Bool) → ((x y : T) (r : Bool) → FnReturnsAtPair F.Fn equal x y r → r ≡ same x y) → result ≡ may_same same a.now b.now }
 {
-    match a {
-        None => match b {
-            None => true,
-            Some(_) => false,
-        },
-        Some(one) => match b {
-            None => false,
-            Some(other) => equal(one, other),
-        },
-    }
+    may_equal!(a, b, equal)
 }

@@ -1,14 +1,16 @@
 //! The classes of a sample.
 
-ghost use Rattle.std.specs.Prelude.{◌≡◌, ◌≤◌, ◌<◌, IfOk};
-ghost use Rattle.java_tree.specs.Syntax.{expr_of, stmt_of, stmts, head_of, member_of, members, decl_of, tree_of};
+ghost use Rattle.std.specs.Prelude.{◌≡◌, ◌≤◌, ◌<◌, ◌∷◌, [], Some, IfOk};
+ghost use Rattle.java_tree.specs.Syntax.{expr_of, stmt_of, stmts, head_of, member_of, members, decl_of, tree_of, and_then, no_statements, ReturnOf, MethodTree};
 ghost use Rattle.java_tree.specs.Formed.{IsFormedTree, IsGiven};
 ghost use Rattle.kaba_work.specs.Sample as sample;
 
-use crate::names::{class_name, extra_name, field_name, id, int_type, method_name, nowhere, word};
+use crate::names::{
+    class_name, extra_name, field_name, id, int_type, listed, method_name, nowhere, word,
+};
 use crate::steps::{add_steps, sum_of};
 use java_tree::{
-    Decl, Expr, Head, Id, Member, Modifier, Param, Stmt, Tree, TypeBase, TypeName, build,
+    Decl, Expr, Head, Id, Member, Modifier, Param, Stmt, Tree, TypeBase, TypeName, build, made,
 };
 use kaba_base::{Keyword, Name};
 use std::alloc::{AllocError, Global};
@@ -37,9 +39,9 @@ fn class(alloc: Global, number: u32) -> Result<Decl, AllocError>
     requires { number < 100 }
     ensures { IfOk result (λ d. decl_of d ≡ sample.class_tree number) }
 {
-    let name = class_name(alloc, number)?;
-    let parent = parent(alloc, number)?;
-    let members = class_members(alloc, number)?;
+    let name = made!(class_name(alloc, number););
+    let parent = made!(parent(alloc, number); name);
+    let members = made!(class_members(alloc, number); name, parent);
     Ok(Decl::Class {
         mods: Vec::new(alloc),
         name,
@@ -57,7 +59,8 @@ fn parent(alloc: Global, number: u32) -> Result<Option<Id>, AllocError>
     if number == 0 {
         return Ok(None);
     }
-    Ok(Some(id(class_name(alloc, number - 1)?)))
+    let name = made!(class_name(alloc, number - 1););
+    Ok(Some(id(name)))
 }
 
 /// Its two fields and its method.
@@ -65,11 +68,17 @@ fn class_members(alloc: Global, number: u32) -> Result<Vec<Member>, AllocError>
     requires { number < 100 }
     ensures { IfOk result (λ v. members v.items ≡ sample.class_members number) }
 {
-    let mut all = Vec::new(alloc);
-    all.push(number_field(alloc, field_name(alloc, number)?))?;
-    all.push(number_field(alloc, extra_name(alloc, number)?))?;
-    all.push(method(alloc, number)?)?;
-    Ok(all)
+    let name = made!(field_name(alloc, number););
+    let extra = made!(extra_name(alloc, number); name);
+    let method = made!(method(alloc, number); name, extra);
+    listed(
+        alloc,
+        [
+            number_field(alloc, name),
+            number_field(alloc, extra),
+            method,
+        ],
+    )
 }
 
 /// A field of numbers.
@@ -89,13 +98,8 @@ fn method(alloc: Global, number: u32) -> Result<Member, AllocError>
     requires { number < 100 }
     ensures { IfOk result (λ m. member_of m ≡ sample.method_tree number) }
 {
-    let name = method_name(alloc)?;
-    let mut body = Vec::new(alloc);
-    body.push(addition(alloc, number)?)?;
-    body.push(Stmt::Return {
-        value: Some(total(alloc, number)?),
-        place: nowhere(),
-    })?;
+    let name = made!(method_name(alloc););
+    let body = made!(method_body(alloc, number); name);
     Ok(Member::Method {
         head: Head {
             mods: Vec::new(alloc),
@@ -109,10 +113,25 @@ fn method(alloc: Global, number: u32) -> Result<Member, AllocError>
     })
 }
 
-/// A field of `this`.
-fn own_field(alloc: Global, name: Name) -> Result<Expr, AllocError>
-    ensures { IfOk result (λ e. expr_of e ≡ sample.own_field name) }
+/// What its method does.
+fn method_body(alloc: Global, number: u32) -> Result<Vec<Stmt>, AllocError>
+    requires { number < 100 }
+    ensures { IfOk result (λ v. stmts v.items ≡ and_then (sample.addition number) (and_then (ReturnOf (Some (sample.total number)) sample.nowhere) no_statements)) }
 {
+    let addition = made!(addition(alloc, number););
+    let total = made!(total(alloc, number); addition);
+    let last = Stmt::Return {
+        value: Some(total),
+        place: nowhere(),
+    };
+    listed(alloc, [addition, last])
+}
+
+/// The field of `this` that its class has.
+fn class_field(alloc: Global, number: u32) -> Result<Expr, AllocError>
+    ensures { IfOk result (λ e. expr_of e ≡ sample.own_field (sample.field_name number)) }
+{
+    let name = made!(field_name(alloc, number););
     build::field(alloc, Expr::This { place: nowhere() }, name, nowhere())
 }
 
@@ -121,15 +140,16 @@ fn addition(alloc: Global, number: u32) -> Result<Stmt, AllocError>
     requires { number < 100 }
     ensures { IfOk result (λ s. stmt_of s ≡ sample.addition number) }
 {
-    let target = own_field(alloc, field_name(alloc, number)?)?;
-    let before = own_field(alloc, field_name(alloc, number)?)?;
+    let target = made!(class_field(alloc, number););
+    let before = made!(class_field(alloc, number); target);
     let more = Expr::Int {
         value: (number + 1) as i32,
         place: nowhere(),
     };
+    let value = made!(sum_of(alloc, before, more); target);
     Ok(Stmt::Assign {
         target,
-        value: sum_of(alloc, before, more)?,
+        value,
         place: nowhere(),
     })
 }
@@ -138,12 +158,16 @@ fn addition(alloc: Global, number: u32) -> Result<Stmt, AllocError>
 fn total(alloc: Global, number: u32) -> Result<Expr, AllocError>
     ensures { IfOk result (λ e. expr_of e ≡ sample.total number) }
 {
-    let own = own_field(alloc, field_name(alloc, number)?)?;
     if number == 0 {
-        return Ok(own);
+        return class_field(alloc, number);
     }
-    let above = build::super_call(method_name(alloc)?, Vec::new(alloc), nowhere());
-    sum_of(alloc, above, own)
+    let name = made!(method_name(alloc););
+    let own = made!(class_field(alloc, number); name);
+    sum_of(
+        alloc,
+        build::super_call(name, Vec::new(alloc), nowhere()),
+        own,
+    )
 }
 
 /// The main class of a sample of this number of classes.
@@ -151,13 +175,8 @@ fn main_class(alloc: Global, number: u32) -> Result<Decl, AllocError>
     requires { number ≤ 100 }
     ensures { IfOk result (λ d. decl_of d ≡ sample.main_tree number) }
 {
-    let name = word(alloc, "Main")?;
-    let mut members = Vec::new(alloc);
-    members.push(Member::Method {
-        head: main_head(alloc)?,
-        body: Some(main_body(alloc, number)?),
-        place: nowhere(),
-    })?;
+    let name = made!(word(alloc, "Main"););
+    let members = made!(main_members(alloc, number); name);
     Ok(Decl::Class {
         mods: Vec::new(alloc),
         name,
@@ -166,6 +185,21 @@ fn main_class(alloc: Global, number: u32) -> Result<Decl, AllocError>
         members,
         place: nowhere(),
     })
+}
+
+/// Its one method.
+fn main_members(alloc: Global, number: u32) -> Result<Vec<Member>, AllocError>
+    requires { number ≤ 100 }
+    ensures { IfOk result (λ v. members v.items ≡ MethodTree sample.main_head (Some (sample.main_body number)) sample.nowhere ∷ []) }
+{
+    let head = made!(main_head(alloc););
+    let body = made!(main_body(alloc, number); head);
+    let main = Member::Method {
+        head,
+        body: Some(body),
+        place: nowhere(),
+    };
+    listed(alloc, [main])
 }
 
 /// What main does.
@@ -184,28 +218,44 @@ fn main_body(alloc: Global, number: u32) -> Result<Vec<Stmt>, AllocError>
 fn main_head(alloc: Global) -> Result<Head, AllocError>
     ensures { IfOk result (λ h. head_of h ≡ sample.main_head) }
 {
-    let mut mods = Vec::new(alloc);
-    mods.push(Modifier {
+    let name = made!(word(alloc, "main"););
+    let mods = made!(main_modifiers(alloc); name);
+    let params = made!(main_parameters(alloc); name, mods);
+    Ok(Head {
+        mods,
+        result: None,
+        name,
+        params,
+        place: nowhere(),
+    })
+}
+
+/// `static`
+fn main_modifiers(alloc: Global) -> Result<Vec<Modifier>, AllocError>
+    ensures { IfOk result (λ v. v.items ≡ sample.main_head.mods) }
+{
+    let word = Modifier {
         word: Keyword::Static,
         place: nowhere(),
-    })?;
-    let text = word(alloc, "String")?;
-    let mut params = Vec::new(alloc);
-    params.push(Param {
+    };
+    listed(alloc, [word])
+}
+
+/// `(String[] args)`
+fn main_parameters(alloc: Global) -> Result<Vec<Param>, AllocError>
+    ensures { IfOk result (λ v. v.items ≡ sample.main_head.params) }
+{
+    let text = made!(word(alloc, "String"););
+    let name = made!(word(alloc, "args"); text);
+    let param = Param {
         is_final: false,
         ty: TypeName {
             base: TypeBase::Named(text),
             dim: 1,
             place: nowhere(),
         },
-        name: word(alloc, "args")?,
+        name,
         place: nowhere(),
-    })?;
-    Ok(Head {
-        mods,
-        result: None,
-        name: word(alloc, "main")?,
-        params,
-        place: nowhere(),
-    })
+    };
+    listed(alloc, [param])
 }

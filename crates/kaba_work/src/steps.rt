@@ -4,9 +4,11 @@ ghost use Rattle.std.specs.Prelude.{◌≡◌, ◌<◌, ◌++◌, map, IfOk, OnO
 ghost use Rattle.java_tree.specs.Syntax.{expr_of, stmt_of};
 ghost use Rattle.kaba_work.specs.Sample as sample;
 
-use crate::names::{class_name, class_type, extra_name, id, method_name, nowhere, variable_name};
+use crate::names::{
+    class_name, class_type, extra_name, id, method_name, nowhere, put, variable_name,
+};
 use java_lex::Mark;
-use java_tree::{Expr, Stmt, build};
+use java_tree::{Expr, Stmt, build, made};
 use std::alloc::{AllocError, Global};
 
 /// `a + b`
@@ -20,8 +22,9 @@ pub fn sum_of(alloc: Global, left: Expr, right: Expr) -> Result<Expr, AllocError
 fn variable(alloc: Global, number: u32) -> Result<Expr, AllocError>
     ensures { IfOk result (λ e. expr_of e ≡ sample.variable number) }
 {
+    let name = made!(variable_name(alloc, number););
     Ok(Expr::Name {
-        name: variable_name(alloc, number)?,
+        name,
         place: nowhere(),
     })
 }
@@ -30,8 +33,8 @@ fn variable(alloc: Global, number: u32) -> Result<Expr, AllocError>
 fn extra(alloc: Global, number: u32) -> Result<Expr, AllocError>
     ensures { IfOk result (λ e. expr_of e ≡ sample.extra number) }
 {
-    let object = variable(alloc, number)?;
-    let name = extra_name(alloc, number)?;
+    let object = made!(variable(alloc, number););
+    let name = made!(extra_name(alloc, number); object);
     build::field(alloc, object, name, nowhere())
 }
 
@@ -39,10 +42,10 @@ fn extra(alloc: Global, number: u32) -> Result<Expr, AllocError>
 fn creation(alloc: Global, number: u32) -> Result<Stmt, AllocError>
     ensures { IfOk result (λ s. stmt_of s ≡ sample.creation number) }
 {
-    let ty = class_type(alloc, number)?;
-    let name = variable_name(alloc, number)?;
-    let class = id(class_name(alloc, number)?);
-    let object = build::new_object(class, Vec::new(alloc), nowhere());
+    let ty = made!(class_type(alloc, number););
+    let name = made!(variable_name(alloc, number); ty);
+    let class = made!(class_name(alloc, number); ty, name);
+    let object = build::new_object(id(class), Vec::new(alloc), nowhere());
     Ok(Stmt::Local {
         is_final: false,
         ty,
@@ -57,7 +60,7 @@ fn setting(alloc: Global, number: u32) -> Result<Stmt, AllocError>
     requires { number < 100 }
     ensures { IfOk result (λ s. stmt_of s ≡ sample.setting number) }
 {
-    let target = extra(alloc, number)?;
+    let target = made!(extra(alloc, number););
     let value = Expr::Int {
         value: number as i32,
         place: nowhere(),
@@ -73,10 +76,11 @@ fn setting(alloc: Global, number: u32) -> Result<Stmt, AllocError>
 fn printing(alloc: Global, number: u32) -> Result<Stmt, AllocError>
     ensures { IfOk result (λ s. stmt_of s ≡ sample.printing number) }
 {
-    let object = variable(alloc, number)?;
-    let name = method_name(alloc)?;
-    let call = build::call_on(alloc, object, name, Vec::new(alloc), nowhere())?;
-    let value = sum_of(alloc, call, extra(alloc, number)?)?;
+    let object = made!(variable(alloc, number););
+    let name = made!(method_name(alloc); object);
+    let call = made!(build::call_on(alloc, object, name, Vec::new(alloc), nowhere()););
+    let field = made!(extra(alloc, number); call);
+    let value = made!(sum_of(alloc, call, field););
     Ok(Stmt::Print {
         newline: true,
         value: Some(value),
@@ -89,8 +93,7 @@ pub fn add_steps(alloc: Global, number: u32, body: &mut Vec<Stmt>) -> Result<(),
     requires { number < 100 }
     ensures { OnOk result (map stmt_of body.new.items ≡ map stmt_of body.old.items ++ sample.steps number) }
 {
-    body.push(creation(alloc, number)?)?;
-    body.push(setting(alloc, number)?)?;
-    body.push(printing(alloc, number)?)?;
-    Ok(())
+    made!(put(body, made!(creation(alloc, number);)););
+    made!(put(body, made!(setting(alloc, number);)););
+    put(body, made!(printing(alloc, number);))
 }

@@ -16,13 +16,13 @@ pub equal_exprs-returns-then-equal_exprs-2 : goal.equal_exprs-returns-then-equal
 equal_exprs-returns-then-equal_exprs-2 t c =
     record {
       value = expr_by _ _ (on_seen c.in-Call.args c.in-Call.is c.in-Some.is c.deref-then-equal_exprs-2-2.ensures.value)
-          (on_seen c.in-Call-b.others c.in-Call-b.is c.in-Some-root-2.is c.deref-then-equal_exprs-2-3.ensures.value)
+          (on_seen c.in-Call-b.others c.in-Call-b.is c.in-Some-root.is c.deref-then-equal_exprs-2-3.ensures.value)
           (then_and c.if-equal_names-3.value
           (elim c.if-equal_names-3.branch [
-            | equal_exprs-then-equal_names-3 w ↦ then_and c.equal_names-in-Some-root-2.result
-                c.equal_names-in-Some-root-2.ensures.value w.if-equal_names-3.true (w.value-is
+            | equal_exprs-then-equal_names-3 w ↦ then_and c.equal_names-in-Some-root.result
+                c.equal_names-in-Some-root.ensures.value w.if-equal_names-3.true (w.value-is
                 ∙ expr_at w.deref-then-equal_names-3.ensures w.deref-then-equal_names-3-2.ensures w.equal_exprs-then-equal_names-3.ensures.value)
-            | equal_exprs-else-equal_names-3 w ↦ else_and c.equal_names-in-Some-root-2.result _ c.equal_names-in-Some-root-2.ensures.value
+            | equal_exprs-else-equal_names-3 w ↦ else_and c.equal_names-in-Some-root.result _ c.equal_names-in-Some-root.ensures.value
                 w.if-equal_names-3.false w.value-is
           ]) c.if-equal_exprs-2.true c.equal_lists-then-equal_exprs-2.ensures.value);
     }

@@ -50,15 +50,15 @@ equal_stmts-returns-in-None-last t c = record {
 
 pub equal_stmts-returns-then-equal_arms : goal.equal_stmts-returns-then-equal_arms
 equal_stmts-returns-then-equal_arms t c = record {
-  value = stmt_by _ _ (if_else_seen c.in-If.arms c.in-Some.body c.in-If.is c.in-Some.is c.deref-in-Some-last-2.ensures.value
-      c.deref-then-equal_arms.ensures.value) (if_else_seen c.in-If-b.others c.in-Some-last-2.rest c.in-If-b.is c.in-Some-last-2.is
-      c.deref-in-Some-last-2-2.ensures.value c.deref-then-equal_arms-2.ensures.value)
-      (then_and c.equal_arms-in-Some-last-2.result c.equal_arms-in-Some-last-2.ensures.value c.if-equal_arms.true c.equal_bodies-then-equal_arms.ensures.value);
+  value = stmt_by _ _ (if_else_seen c.in-If.arms c.in-Some.body c.in-If.is c.in-Some.is c.deref-in-Some-last.ensures.value
+      c.deref-then-equal_arms.ensures.value) (if_else_seen c.in-If-b.others c.in-Some-last.rest c.in-If-b.is c.in-Some-last.is
+      c.deref-in-Some-last-2.ensures.value c.deref-then-equal_arms-2.ensures.value)
+      (then_and c.equal_arms-in-Some-last.result c.equal_arms-in-Some-last.ensures.value c.if-equal_arms.true c.equal_bodies-then-equal_arms.ensures.value);
 }
 
 pub equal_stmts-returns-else-equal_arms : goal.equal_stmts-returns-else-equal_arms
 equal_stmts-returns-else-equal_arms t c = record {
-  value = stmt_by _ _ (if_else_seen c.in-If.arms c.in-Some.body c.in-If.is c.in-Some.is c.deref-in-Some-last-2.ensures.value refl)
-      (if_else_seen c.in-If-b.others c.in-Some-last-2.rest c.in-If-b.is c.in-Some-last-2.is c.deref-in-Some-last-2-2.ensures.value refl)
-      (else_and c.equal_arms-in-Some-last-2.result _ c.equal_arms-in-Some-last-2.ensures.value c.if-equal_arms.false refl);
+  value = stmt_by _ _ (if_else_seen c.in-If.arms c.in-Some.body c.in-If.is c.in-Some.is c.deref-in-Some-last.ensures.value refl)
+      (if_else_seen c.in-If-b.others c.in-Some-last.rest c.in-If-b.is c.in-Some-last.is c.deref-in-Some-last-2.ensures.value refl)
+      (else_and c.equal_arms-in-Some-last.result _ c.equal_arms-in-Some-last.ensures.value c.if-equal_arms.false refl);
 }
