@@ -1,7 +1,8 @@
-//! What every part of Kaba stands on: ids, places, names, and the world outside.
+//! What every part of Kaba stands on: ids, places, names, lists, and the world outside.
 #![tactic(auto)]
 
 mod files;
+mod lists;
 mod memory;
 mod names;
 mod outside;
@@ -9,6 +10,7 @@ mod reading;
 mod words;
 
 pub use files::{FileShelf, StdSink};
+pub use lists::{listed, put};
 pub use memory::{MemShelf, MemSink};
 pub use names::Name;
 pub use outside::{Failed, Fetch, Shelf, Sink};

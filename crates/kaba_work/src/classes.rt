@@ -6,13 +6,13 @@ ghost use Rattle.java_tree.specs.Formed.{IsFormedTree, IsGiven};
 ghost use Rattle.kaba_work.specs.Sample as sample;
 
 use crate::names::{
-    class_name, extra_name, field_name, id, int_type, listed, method_name, nowhere, word,
+    class_name, extra_name, field_name, id, int_type, method_name, nowhere, word,
 };
 use crate::steps::{add_steps, sum_of};
 use java_tree::{
     Decl, Expr, Head, Id, Member, Modifier, Param, Stmt, Tree, TypeBase, TypeName, build, made,
 };
-use kaba_base::{Keyword, Name};
+use kaba_base::{Keyword, Name, listed};
 use std::alloc::{AllocError, Global};
 
 /// The sample of this number of classes. The class `Ki` extends the one before and has `int fi`, `int ei` and

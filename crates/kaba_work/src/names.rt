@@ -1,6 +1,6 @@
 //! Names, types and places of a sample.
 
-ghost use Rattle.std.specs.Prelude.{◌≡◌, ◌++◌, ◌∷◌, [], true, IfOk, OnOk, string_bytes};
+ghost use Rattle.std.specs.Prelude.{◌≡◌, ◌++◌, true, IfOk, string_bytes};
 ghost use Rattle.std.specs.List.{list_all};
 ghost use Rattle.std.specs.Char.{is_ascii};
 ghost use Rattle.std.specs.Fmt.{decimal};
@@ -9,26 +9,6 @@ ghost use Rattle.kaba_work.specs.Sample as sample;
 use java_tree::{Id, TypeBase, TypeName, made};
 use kaba_base::{Name, Place};
 use std::alloc::{AllocError, Global};
-
-/// Adds an item at the end of a list; `AllocError` where memory is short.
-pub fn put<T: Drop>(list: &mut Vec<T>, item: T) -> Result<(), AllocError>
-    ensures { OnOk result (list.new.items ≡ list.old.items ++ item ∷ []) }
-{
-    match list.push(item) {
-        Ok(()) => Ok(()),
-        Err(short) => Err(AllocError::from(short)),
-    }
-}
-
-/// The list of these items; `AllocError` where memory is short.
-pub fn listed<T: Drop, const N: usize>(alloc: Global, items: [T; N]) -> Result<Vec<T>, AllocError>
-    ensures { IfOk result (λ v. v.items ≡ items) }
-{
-    match Vec::from_array(alloc, items) {
-        Ok(list) => Ok(list),
-        Err(short) => Err(AllocError::from(short)),
-    }
-}
 
 /// A sample comes from no text.
 pub fn nowhere() -> Place

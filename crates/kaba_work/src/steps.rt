@@ -5,10 +5,11 @@ ghost use Rattle.java_tree.specs.Syntax.{expr_of, stmt_of};
 ghost use Rattle.kaba_work.specs.Sample as sample;
 
 use crate::names::{
-    class_name, class_type, extra_name, id, method_name, nowhere, put, variable_name,
+    class_name, class_type, extra_name, id, method_name, nowhere, variable_name,
 };
 use java_lex::Mark;
 use java_tree::{Expr, Stmt, build, made};
+use kaba_base::put;
 use std::alloc::{AllocError, Global};
 
 /// `a + b`
