@@ -14,8 +14,8 @@ mod words;
 
 pub use rows::{copy_rows, empty_rows, join, join_with, row_at, set_at};
 use words::{
-    clear_bit, clear_words, count_words, is_apart, is_within, join_words, meet_words, next_news,
-    set_bit, test_bit,
+    clear_words, count_words, is_apart, is_within, join_words, meet_words, next_news, put_bit,
+    test_bit,
 };
 
 /// A set of numbers below a width, which is at most the greatest `u32`.
@@ -103,7 +103,7 @@ impl BitRow {
         if test_bit(&self.words, i) {
             return false;
         }
-        set_bit(&mut self.words, i);
+        put_bit(&mut self.words, i, true);
         true
     }
 
@@ -112,7 +112,7 @@ impl BitRow {
         requires { i < length self.old }
         ensures { self.new ≡ slice_set self.old i false }
     {
-        clear_bit(&mut self.words, i);
+        put_bit(&mut self.words, i, false);
     }
 
     /// Takes out what is not in another set of the same width.

@@ -8,6 +8,39 @@ ghost use Rattle.kaba_bits.specs.Words.{word_bit, row_of, AreJoined, AreMet, IsA
 
 use crate::lanes::{is_apart_chunk, is_within_chunk, join_chunk, meet_chunk};
 
+/// Changes the words by those of another list: eight by a call, and each that is left by an assignment.
+macro_rules! combine {
+    ($words:ident, $other:ident, $chunk:ident, $assign:tt) => {{
+        let mut at = 0;
+        'chunks: while $words.len() - at >= 8 {
+            $chunk($words, $other, at);
+            at += 8;
+        }
+        for k in at..$words.len() {
+            $words[k] $assign $other[k];
+        }
+    }};
+}
+
+/// Whether no bit is found: in eight words by a call, and in each that is left by what is found there.
+macro_rules! is_none {
+    ($words:ident, $other:ident, $chunk:ident, $k:ident => $found:expr) => {{
+        let mut at = 0;
+        'chunks: while $words.len() - at >= 8 {
+            if !$chunk($words, $other, at) {
+                return false;
+            }
+            at += 8;
+        }
+        for $k in at..$words.len() {
+            if $found != 0 {
+                return false;
+            }
+        }
+        true
+    }};
+}
+
 /// Whether the bit `i` is set.
 pub fn test_bit(words: &[u64], i: u32) -> bool
     requires { i / 64 < length words.now }
@@ -16,25 +49,18 @@ pub fn test_bit(words: &[u64], i: u32) -> bool
     (words[(i / 64) as usize] >> (i % 64)) & 1 == 1
 }
 
-/// Sets the bit `i`.
-pub fn set_bit(words: &mut [u64], i: u32)
+/// Sets the bit `i`, or clears it.
+pub fn put_bit(words: &mut [u64], i: u32, value: bool)
     requires { i / 64 < length words.old }
     ensures len { length words.new ≡ length words.old }
-    ensures same { word_bit words.new i ≡ true }
+    ensures same { word_bit words.new i ≡ value }
     ensures others { (j : ℕ) → j ≢ i → word_bit words.new j ≡ word_bit words.old j }
 {
     let k = (i / 64) as usize;
-    words[k] = words[k] | (1 << (i % 64));
-}
-
-/// Clears the bit `i`.
-pub fn clear_bit(words: &mut [u64], i: u32)
-    requires { i / 64 < length words.old }
-    ensures len { length words.new ≡ length words.old }
-    ensures same { word_bit words.new i ≡ false }
-    ensures others { (j : ℕ) → j ≢ i → word_bit words.new j ≡ word_bit words.old j }
-{
-    let k = (i / 64) as usize;
+    if value {
+        words[k] = words[k] | (1 << (i % 64));
+        return;
+    }
     words[k] = words[k] & !(1 << (i % 64));
 }
 
@@ -43,14 +69,7 @@ pub fn join_words(words: &mut [u64], other: &[u64])
     requires { length words.old ≡ length other.now }
     ensures { AreJoined words.old other.now words.new }
 {
-    let mut at = 0;
-    'chunks: while words.len() - at >= 8 {
-        join_chunk(words, other, at);
-        at += 8;
-    }
-    for k in at..words.len() {
-        words[k] |= other[k];
-    }
+    combine!(words, other, join_chunk, |=)
 }
 
 /// Keeps the bits that are in another list of as many words.
@@ -58,14 +77,7 @@ pub fn meet_words(words: &mut [u64], other: &[u64])
     requires { length words.old ≡ length other.now }
     ensures { AreMet words.old other.now words.new }
 {
-    let mut at = 0;
-    'chunks: while words.len() - at >= 8 {
-        meet_chunk(words, other, at);
-        at += 8;
-    }
-    for k in at..words.len() {
-        words[k] &= other[k];
-    }
+    combine!(words, other, meet_chunk, &=)
 }
 
 /// Whether no bit is in both lists, which have as many words.
@@ -74,19 +86,7 @@ pub fn is_apart(words: &[u64], other: &[u64]) -> bool
     ensures apart { OnTrue result ((k : ℕ) → IsApartAt words.now other.now k) }
     ensures met { OnFalse result (HaveCommon words.now other.now) }
 {
-    let mut at = 0;
-    'chunks: while words.len() - at >= 8 {
-        if !is_apart_chunk(words, other, at) {
-            return false;
-        }
-        at += 8;
-    }
-    for k in at..words.len() {
-        if words[k] & other[k] != 0 {
-            return false;
-        }
-    }
-    true
+    is_none!(words, other, is_apart_chunk, k => words[k] & other[k])
 }
 
 /// Whether each bit is in the other list too, which has as many words.
@@ -95,19 +95,7 @@ pub fn is_within(words: &[u64], other: &[u64]) -> bool
     ensures within { OnTrue result ((k : ℕ) → IsWithinAt words.now other.now k) }
     ensures strays { OnFalse result (HasStray words.now other.now) }
 {
-    let mut at = 0;
-    'chunks: while words.len() - at >= 8 {
-        if !is_within_chunk(words, other, at) {
-            return false;
-        }
-        at += 8;
-    }
-    for k in at..words.len() {
-        if (words[k] & other[k]) ^ words[k] != 0 {
-            return false;
-        }
-    }
-    true
+    is_none!(words, other, is_within_chunk, k => (words[k] & other[k]) ^ words[k])
 }
 
 /// How many bits are set.

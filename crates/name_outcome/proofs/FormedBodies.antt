@@ -199,14 +199,7 @@ module _ (O : Plain) (here : Here) (K : PlainMethod) (Q : Plain) (k : PlainMetho
   act-formed (r_assign h i) e = refl
   act-formed (r_act h) e = refl
   act-formed (r_print h) e = refl
-  act-formed (r_declare l v) e = absurd (false≢true e)
-  act-formed (r_block h) e = absurd (false≢true e)
-  act-formed (r_choose h) e = absurd (false≢true e)
-  act-formed (r_while h i) e = absurd (false≢true e)
-  act-formed (r_for a b c d) e = absurd (false≢true e)
-  act-formed (r_return h) e = absurd (false≢true e)
-  act-formed r_break e = absurd (false≢true e)
-  act-formed r_continue e = absurd (false≢true e)
+  act-formed _ e = absurd (false≢true e)
 
   first-formed : {in_loop : Bool} {scope : List Bound} {x : Statement} {y : St} → StResolves O here K in_loop scope x y → is_simple x ≡ true
       → is_first (bare_st y) ≡ true
@@ -214,13 +207,7 @@ module _ (O : Plain) (here : Here) (K : PlainMethod) (Q : Plain) (k : PlainMetho
   first-formed (r_assign h i) e = refl
   first-formed (r_act h) e = refl
   first-formed (r_print h) e = refl
-  first-formed (r_block h) e = absurd (false≢true e)
-  first-formed (r_choose h) e = absurd (false≢true e)
-  first-formed (r_while h i) e = absurd (false≢true e)
-  first-formed (r_for a b c d) e = absurd (false≢true e)
-  first-formed (r_return h) e = absurd (false≢true e)
-  first-formed r_break e = absurd (false≢true e)
-  first-formed r_continue e = absurd (false≢true e)
+  first-formed _ e = absurd (false≢true e)
 
   -- locals are numbered behind the parameters
   abbrev pub Behind : List ℕ → Type 0

@@ -5,13 +5,13 @@ use Rattle.kaba_bits.specs.Words.{word_bit}
 use Rattle.kaba_bits.proofs.WordLemmas.{seen, size-set}
 use Rattle.kaba_bits.proofs.PairLemmas.{bit_in, IsWritten, written_bit}
 use Rattle.kaba_bits.proofs.BitRow.set.Goals as goal
-use Rattle.kaba_bits.proofs.BitRow.set.Goals.{After-test_bit, After-set_bit}
+use Rattle.kaba_bits.proofs.BitRow.set.Goals.{After-test_bit, After-put_bit}
 
 pub test_bit-requires : goal.test_bit-requires
 test_bit-requires c = rw c.deref.ensures.value (bit_in _ _ _ c.args.i c.self.invariant c.self.view_is c.requires)
 
-pub set_bit-requires : goal.set_bit-requires
-set_bit-requires c = rw c.deref_mut.ensures.value (bit_in _ _ _ c.args.i c.self.invariant c.self.view_is c.requires)
+pub put_bit-requires : goal.put_bit-requires
+put_bit-requires c = rw c.deref_mut.ensures.value (bit_in _ _ _ c.args.i c.self.invariant c.self.view_is c.requires)
 
 -- what the test tells of the row
 tested : (c : After-test_bit) → bit c.args.self.now c.args.i ≡ c.test_bit.result
@@ -28,21 +28,21 @@ pub returns-then-test_bit-clause-news : goal.returns-then-test_bit-clause-news
 returns-then-test_bit-clause-news c = sym (ap not (tested (goal.at.returns-then-test_bit-clause-news c).After-test_bit ∙ c.if-test_bit.true))
 
 -- what the call left, in the words of the row
-left : (c : After-set_bit) → IsWritten c.self.inside.width (take c.self.inside.words.len (c.set_bit.new.words ++ drop (length c.set_bit.new.words)
+left : (c : After-put_bit) → IsWritten c.self.inside.width (take c.self.inside.words.len (c.put_bit.new.words ++ drop (length c.put_bit.new.words)
     c.self.inside.words.items)) (λ row. row ≡ set c.args.self.now c.args.i true)
-left c = written_bit _ c.self.inside.words c.set_bit.new.words c.self.inside.words.ok.0 (c.set_bit.ensures.len ∙ ap length c.deref_mut.ensures.value)
-    _ c.args.i true c.self.invariant c.self.view_is c.requires c.set_bit.ensures.same (rw c.deref_mut.ensures.value at c.set_bit.ensures.others)
+left c = written_bit _ c.self.inside.words c.put_bit.new.words c.self.inside.words.ok.0 (c.put_bit.ensures.len ∙ ap length c.deref_mut.ensures.value)
+    _ c.args.i true c.self.invariant c.self.view_is c.requires c.put_bit.ensures.same (rw c.deref_mut.ensures.value at c.put_bit.ensures.others)
 
 pub invariant_of-self : goal.invariant_of-self
-invariant_of-self c = (left (goal.at.invariant_of-self c).After-set_bit).held
+invariant_of-self c = (left (goal.at.invariant_of-self c).After-put_bit).held
 
 pub returns-clause-after : goal.returns-clause-after
-returns-clause-after c = (left (goal.at.returns-clause-after c).After-set_bit).row
+returns-clause-after c = (left (goal.at.returns-clause-after c).After-put_bit).row
 
 pub returns-clause-news : goal.returns-clause-news
 returns-clause-news c = sym (ap not (tested (goal.at.returns-clause-news c).After-test_bit ∙ c.if-test_bit.false))
 
 pub returns-clause-grew : goal.returns-clause-grew
 returns-clause-grew c =
-    let l = left (goal.at.returns-clause-grew c).After-set_bit in
+    let l = left (goal.at.returns-clause-grew c).After-put_bit in
     ap size l.row ∙ size-set c.args.self.now c.args.i c.requires (tested (goal.at.returns-clause-grew c).After-test_bit ∙ c.if-test_bit.false)
