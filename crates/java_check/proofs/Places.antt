@@ -19,22 +19,7 @@ module _ (P : Plain) (g : Env) (a b : Place → Tag) where
     same_static (ex.Index' c e d i p) = ap (λ s. or_nothing (element_of s)) (same_static e)
     same_static (ex.Call' c n s args p) = same_call c n (exprs_of b args) (exprs_of a args) p
     same_static (ex.Binary' o c l d r p) = rw (same_static l, same_static r) refl
-    same_static (ex.Int v p) = refl
-    same_static (ex.Char v p) = refl
-    same_static (ex.Str u p) = refl
-    same_static (ex.Bool v p) = refl
-    same_static (ex.Null p) = refl
-    same_static (ex.This p) = refl
-    same_static (ex.Local n p) = refl
-    same_static (ex.Static f p) = refl
-    same_static (ex.Own f p) = refl
-    same_static (ex.StaticCall' m s args p) = refl
-    same_static (ex.SuperCall' n s args p) = refl
-    same_static (ex.New' k c s args p) = refl
-    same_static (ex.NewArray' k t c e p) = refl
-    same_static (ex.Cast' k t c e p) = refl
-    same_static (ex.InstanceOf' k c e d p) = refl
-    same_static (ex.Unary' o c e p) = refl
+    same_static e = refl
 
     same_call : (c : ex.Held-RExpr-Call-0) (n : List ℕ) (es fs : Exs) (p : Place) → static P g (call_of b c n es p) ≡ static P g (call_of a c n fs p)
     same_call ex.None' n es fs p = refl

@@ -1,5 +1,5 @@
 -- Lists of tags and of as many words: their values after one is put, added or left out.
-use Rattle.std.proofs.Common.{◌≡◌, ℕ, zero, suc, ◌-◌, ◌<◌, ◌≤◌, ◌++◌, List, [], ◌∷◌, Some, refl, length, get_or, take, ap, sym, ◌∙◌, arith}
+use Rattle.std.proofs.Common.{◌≡◌, ℕ, zero, suc, ◌-◌, ◌<◌, ◌≤◌, ◌++◌, List, [], ◌∷◌, Some, refl, length, get_or, take, ap, sym, subst, ◌∙◌, arith}
 use Rattle.std.proofs.lemmas.List.{take_all}
 use Rattle.std.proofs.Math.ListN.{set}
 use Rattle.std.specs.Prelude.{Bool, true, false, if◌then◌else◌, replicate, slice_get}
@@ -48,6 +48,13 @@ unpacked_get_tag (a ∷ ts) (b ∷ ws) (suc at) t v h lt p is =
     let d : length ts ≡ length ws = omega arith in
     let less : at < length ts = omega arith in
     unpacked_get_tag ts ws at t v d less p is
+
+-- the value at a place whose tag says all
+pub got_tag : (ts : List Tag) (ws : List ℕ) (vs : List Value) → unpacked ts ws ≡ vs → length ts ≡ length ws → (at : ℕ) (x t : Tag) (v : Value)
+    → at < length vs → x ≡ t → x ≡ get_or ts at x → ((w : ℕ) → value_at t w ≡ v) → Some v ≡ slice_get vs at
+got_tag ts ws vs e h at x t v lt q p is =
+    let within : at < length ts = omega (arith, sized ts ws vs e h) in
+    unpacked_get_tag ts ws at t v h within (subst (λ (k : Tag). k ≡ get_or ts at k) q p) is ∙ ap (λ l. slice_get l at) e
 
 pub unpacked_set_tag : (ts : List Tag) (ws : List ℕ) (at : ℕ) (t : Tag) (v : Value) → length ts ≡ length ws → ((w : ℕ) → value_at t w ≡ v)
     → unpacked (set ts at t) ws ≡ set (unpacked ts ws) at v

@@ -42,10 +42,7 @@ module _ (R : Outcome → Outcome → Type 0) (ends : (e : End) (s : State) → 
   with_cell_like : (v : Value) (s : State) (g h : ℕ → Cell → Outcome) → ((a : ℕ) (c : Cell) → R (g a c) (h a c)) → R (with_cell v s g) (with_cell v s h)
   with_cell_like Nothing s g h e = ends (Faulted fault.Null) s tt
   with_cell_like (Object a) s g h e = with_some_like (slice_get s.cells a) s _ _ (λ c. e a c)
-  with_cell_like (Number n) s g h e = ends Wrong s tt
-  with_cell_like (Truth b) s g h e = ends Wrong s tt
-  with_cell_like (CodeUnit c) s g h e = ends Wrong s tt
-  with_cell_like (Text a) s g h e = ends Wrong s tt
+  with_cell_like v s g h e = ends Wrong s tt
 
   module _ (m : ℕ) where
     -- two ways to go on are alike where few steps are left
@@ -70,11 +67,8 @@ module _ (R : Outcome → Outcome → Type 0) (ends : (e : End) (s : State) → 
 
     on_test_like : (v : Value) (s : State) (g h g' h' : State → Outcome) → s.left ≤ m → AlikeS g g' → AlikeS h h' → R (on_test v s g h) (on_test v s g' h')
     on_test_like (Truth b) s g h g' h' le e d = on_bool_like b s g h g' h' le e d
-    on_test_like (Number n) s g h g' h' le e d = ends Wrong s tt
-    on_test_like (CodeUnit c) s g h g' h' le e d = ends Wrong s tt
     on_test_like Nothing s g h g' h' le e d = ends Wrong s tt
-    on_test_like (Text a) s g h g' h' le e d = ends Wrong s tt
-    on_test_like (Object a) s g h g' h' le e d = ends Wrong s tt
+    on_test_like v s g h g' h' le e d = ends Wrong s tt
 
     look_like : (L : Lang) (p : Spot) (v : Value) (s : State) (g g' : State → Outcome) → s.left ≤ m → AlikeS g g' → R (look L p v s g) (look L p v s g')
     look_like L p v s g g' le e = on_bool_like (L.sees p v s.cells) _ g (stop Escaped) g' (stop Escaped) le e (stop_like Escaped tt)
@@ -132,11 +126,7 @@ module _ (R : Outcome → Outcome → Type 0) (ends : (e : End) (s : State) → 
     on_fitting_like L (Object b) t s k k' le h =
         with_some_like (slice_get s.cells b) s _ _ (λ d. on_bool_like (L.is_sub (own_type d.kind) t) s k _ k' _ le h
         (stop_like (Faulted fault.ArrayStore) tt))
-    on_fitting_like L (Number n) t s k k' le h = h s le
-    on_fitting_like L (Truth n) t s k k' le h = h s le
-    on_fitting_like L (CodeUnit n) t s k k' le h = h s le
-    on_fitting_like L Nothing t s k k' le h = h s le
-    on_fitting_like L (Text n) t s k k' le h = h s le
+    on_fitting_like L v t s k k' le h = h s le
 
     write_element_like : (L : Lang) (v : Value) (i : ℤ) (u : Value) (s : State) (k k' : State → Outcome) → s.left ≤ m → AlikeS k k'
         → R (write_element L v i u s k) (write_element L v i u s k')
@@ -179,10 +169,7 @@ module _ (R : Outcome → Outcome → Type 0) (ends : (e : End) (s : State) → 
         with_some_like (slice_get s.cells a) s _ _ (λ c. look_like L _ _ s _ _ le (λ s1 l1.
         on_bool_like (L.is_sub (own_type c.kind) t) s1 _ _ _ _ l1 (λ s2 l2. look_like L _ _ s2 _ _ l2 (λ s3 l3. h _ s3 l3))
         (stop_like (Faulted fault.ClassCast) tt)))
-    cast_object_like L b d t (Number n) s k k' le h = ends Wrong s tt
-    cast_object_like L b d t (Truth n) s k k' le h = ends Wrong s tt
-    cast_object_like L b d t (CodeUnit n) s k k' le h = ends Wrong s tt
-    cast_object_like L b d t (Text n) s k k' le h = ends Wrong s tt
+    cast_object_like L b d t v s k k' le h = ends Wrong s tt
 
     cast_like : (L : Lang) (b : ℕ) (d : Ex) (t : Ty) (v : Value) (s : State) (k k' : ToValue) → s.left ≤ m → AlikeV k k'
         → R (cast_to L b d t v s k) (cast_to L b d t v s k')
@@ -194,10 +181,7 @@ module _ (R : Outcome → Outcome → Type 0) (ends : (e : End) (s : State) → 
         → R (test_class L b d t v s k) (test_class L b d t v s k')
     test_class_like L b d t Nothing s k k' le h = h _ s le
     test_class_like L b d t (Object a) s k k' le h = with_some_like (slice_get s.cells a) s _ _ (λ c. look_like L _ _ s _ _ le (λ s1 l1. h _ s1 l1))
-    test_class_like L b d t (Number n) s k k' le h = ends Wrong s tt
-    test_class_like L b d t (Truth n) s k k' le h = ends Wrong s tt
-    test_class_like L b d t (CodeUnit n) s k k' le h = ends Wrong s tt
-    test_class_like L b d t (Text n) s k k' le h = ends Wrong s tt
+    test_class_like L b d t v s k k' le h = ends Wrong s tt
 
     after_left_like : (o : BinOp) (v : Value) (s : State) (r r' : State → Outcome) (k k' : ToValue) → s.left ≤ m → AlikeS r r' → AlikeV k k'
         → R (after_left o v s r k) (after_left o v s r' k')

@@ -27,12 +27,9 @@ mapped_some f (Some x) y e = (x, refl, same_Some _ _ e)
 
 -- a character alone is another value where it is converted
 converted : {A : Type 0} (f : Value → A) (t : Ty) → ((c : ℕ) → f (convert t (CodeUnit c)) ≡ f (CodeUnit c)) → (v : Value) → f (convert t v) ≡ f v
-converted f t h (Number n) = refl
-converted f t h (Truth b) = refl
 converted f t h (CodeUnit c) = h c
 converted f t h Nothing = refl
-converted f t h (Text a) = refl
-converted f t h (Object a) = refl
+converted f t h v = refl
 
 number_converted : (v : Value) → number_of (convert (plain_type Int) v) ≡ number_of v
 number_converted = converted number_of (plain_type Int) (λ c. refl)

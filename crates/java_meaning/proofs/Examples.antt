@@ -52,19 +52,7 @@ method c x ps ls t s xs = record {
 }
 
 abbrev pub main_of : ℕ → List PlainLocal → Sts → PlainMethod
-main_of c ls xs =
-    record {
-      owner = c;
-      name = codes "main";
-      is_static = true;
-      is_public = true;
-      slot = None;
-      params = variable (codes "args") (record { base = Str; dim = 1 }) ∷ [];
-      locals = ls;
-      result = None;
-      body = Some xs;
-      tag = tag;
-    }
+main_of c ls xs = record (method c (codes "main") (variable (codes "args") (record { base = Str; dim = 1 }) ∷ []) ls None None xs) { is_static = true }
 
 abbrev pub two : St → St → Sts
 two a b = st_then a (st_then b no_st)

@@ -9,7 +9,7 @@ use Rattle.java_core.specs.Programs.{Plain, PlainMethod, PlainLocal}
 use Rattle.java_core.specs.Classes.{member_field, has_body}
 use Rattle.java_core.specs.Types.{Env, env_of, types_of, field_type, element_in}
 use Rattle.java_core.specs.Formed.{variables_of, IsOwnField, IsStaticField, IsStaticMethod, FormedEx, FormedExs, FormedTarget, FormedOption, FormedSt, FormedSts, FormedArms, IsFormed}
-use Rattle.java_core.specs.Formed.{f_number, f_character, f_text, f_truth, f_null, f_this, f_local, f_static_field, f_own_field, f_field, f_index, f_call, f_static_call, f_super_call, f_create, f_create_array, f_cast, f_instance_of, f_unary, f_binary, f_no_ex, f_ex_then, f_to_local, f_to_static, f_to_own, f_to_field, f_to_element, f_none, f_some, f_declare, f_block, f_assign, f_act, f_print, f_choose, f_loop, f_return, f_break, f_continue, f_no_st, f_st_then, f_no_other, f_otherwise, f_arm}
+use Rattle.java_core.specs.Formed.{f_local, f_static_field, f_own_field, f_field, f_index, f_call, f_static_call, f_super_call, f_create, f_create_array, f_cast, f_instance_of, f_unary, f_binary, f_no_ex, f_ex_then, f_to_local, f_to_static, f_to_own, f_to_field, f_to_element, f_none, f_some, f_declare, f_block, f_assign, f_act, f_print, f_choose, f_loop, f_return, f_break, f_continue, f_no_st, f_st_then, f_no_other, f_otherwise, f_arm}
 use Rattle.java_meaning.specs.TypedLang.{Stands, StandAll, StandsTarget, standing}
 use Rattle.java_meaning.specs.EachStatement.{OfOption, InSt, InSts, InArms}
 
@@ -49,12 +49,6 @@ module _ (P : Plain) (formed : IsFormed P) where
     module _ (scope : List ℕ) where
       mutual
         stands_ex : {e : Ex} → FormedEx P k scope e → Stands P g e
-        stands_ex (f_number h) = tt
-        stands_ex (f_character h) = tt
-        stands_ex (f_text h) = tt
-        stands_ex f_truth = tt
-        stands_ex f_null = tt
-        stands_ex (f_this h) = tt
         stands_ex (f_local {i = i} h lt) = typed_within (variables_of k) i lt
         stands_ex (f_static_field {f = f} h) = field_there f h
         stands_ex (f_own_field {f = f} n h) = own_member k.owner f h
@@ -69,6 +63,7 @@ module _ (P : Plain) (formed : IsFormed P) where
         stands_ex (f_instance_of h d) = stands_ex h
         stands_ex (f_unary h) = stands_ex h
         stands_ex (f_binary h d) = (stands_ex h, stands_ex d)
+        stands_ex h = tt
 
         stands_all : {es : Exs} → FormedExs P k scope es → StandAll P g es
         stands_all f_no_ex = tt

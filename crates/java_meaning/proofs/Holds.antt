@@ -362,11 +362,7 @@ module _ (P : Plain) where
     -- what is no object, of a static type that fits u, is stored into elements whose type is at or below u
     abbrev pub NoObject : Value → Type 0
     NoObject (Object a) = ⊥
-    NoObject (Number n) = Unit {0}
-    NoObject (Truth b) = Unit {0}
-    NoObject (CodeUnit c) = Unit {0}
-    NoObject (Text a) = Unit {0}
-    NoObject Nothing = Unit {0}
+    NoObject v = Unit {0}
 
     pub stored : {h : Heap} {w : Value} {s : Static} (e u : Ty) → Holds h w s → fits P s u ≡ true → is_subtype P e u ≡ true → NoObject w
         → Holds h (convert e w) (a_value e)

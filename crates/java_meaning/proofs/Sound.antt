@@ -14,7 +14,7 @@ use Rattle.java_core.specs.Trees.{Ex}
 use Rattle.java_core.specs.Programs.{Plain}
 use Rattle.java_core.specs.Classes.{below, is_concrete}
 use Rattle.java_core.specs.Types.{Static, a_value, plain_type, class_type, class_in, class_of, element_in, element_of, is_sub_base, is_subtype, field_type, is_object}
-use Rattle.java_meaning.specs.Moment.{Value, Truth, Text, Object, Kind, an_object, an_array, Cell, own_type, own_class, Spot, State, End, Ended, Faulted, Going, Wrong, Escaped, Outcome, stop, Lang, step, step_of, with_some, or_fault, with_result, on_bool, look, look_all}
+use Rattle.java_meaning.specs.Moment.{Value, Truth, Text, Object, Kind, an_object, an_array, Cell, own_type, own_class, Spot, State, End, Faulted, Going, Wrong, Escaped, Outcome, stop, Lang, step, step_of, with_some, or_fault, with_result, on_bool, look, look_all}
 use Rattle.java_meaning.specs.Values.{convert}
 use Rattle.java_meaning.specs.Meaning.{ToValue, on_test, with_cell, add_cell, add_string, set_value, give_string, read_static, write_static, read_field, write_field}
 use Rattle.java_meaning.specs.TypedLang.{TypedLang}
@@ -55,10 +55,7 @@ get_set_same (y ∷ xs) (suc i) u x e = get_set_same xs i u x e
 
 abbrev pub NotWrong : End → Type 0
 NotWrong Wrong = ⊥
-NotWrong Ended = Unit {0}
-NotWrong (Faulted x) = Unit {0}
-NotWrong Going = Unit {0}
-NotWrong Escaped = Unit {0}
+NotWrong e = Unit {0}
 
 pub Sound : Outcome → Type 0
 Sound o = NotWrong o.end

@@ -67,10 +67,7 @@ pub cell_r : (v : Value) (s : State) (m : List Met) (k j : ℕ → Cell → Outc
     → OrIs m (with_cell v s k) (with_cell v (re s m) j)
 cell_r Nothing s m k j e = is_stop (Faulted fault.Null) s m
 cell_r (Object a) s m k j e = some_r (slice_get s.cells a) s m _ _ (λ c. e a c)
-cell_r (Number n) s m k j e = is_stop Wrong s m
-cell_r (Truth b) s m k j e = is_stop Wrong s m
-cell_r (CodeUnit c) s m k j e = is_stop Wrong s m
-cell_r (Text a) s m k j e = is_stop Wrong s m
+cell_r v s m k j e = is_stop Wrong s m
 
 pub bool_r : (b : Bool) (s : State) (m : List Met) (k j k2 j2 : State → Outcome) → KS k j → KS k2 j2 → OrIs m (on_bool b s k k2) (on_bool b (re s m) j j2)
 bool_r true s m k j k2 j2 e d = e s m
@@ -78,11 +75,8 @@ bool_r false s m k j k2 j2 e d = d s m
 
 pub test_r : (v : Value) (s : State) (m : List Met) (k j k2 j2 : State → Outcome) → KS k j → KS k2 j2 → OrIs m (on_test v s k k2) (on_test v (re s m) j j2)
 test_r (Truth b) s m k j k2 j2 e d = bool_r b s m k j k2 j2 e d
-test_r (Number n) s m k j k2 j2 e d = is_stop Wrong s m
-test_r (CodeUnit c) s m k j k2 j2 e d = is_stop Wrong s m
 test_r Nothing s m k j k2 j2 e d = is_stop Wrong s m
-test_r (Text a) s m k j k2 j2 e d = is_stop Wrong s m
-test_r (Object a) s m k j k2 j2 e d = is_stop Wrong s m
+test_r v s m k j k2 j2 e d = is_stop Wrong s m
 
 pub step_r : (s : State) (m : List Met) (k j : State → Outcome) → KS k j → OrIs m (step s k) (step (re s m) j)
 step_r s m k j e = go s.left

@@ -1,7 +1,7 @@
 -- A run of a program with labels, a watch and a record is the run of the program, unless it escapes.
 use Rattle.std.proofs.Common.{sym, ◌≡◌, ℕ, List, Option, Some, None, refl, ap, ◌∙◌}
 use Rattle.std.specs.Option.{option_map, option_and_then}
-use Rattle.java_core.specs.Trees.{Ex, number, character, text, truth, null, this, local, static_field, own_field, field, index, call, static_call, super_call, create, create_array, cast, instance_of, unary, binary, Tag, Sts, no_place}
+use Rattle.java_core.specs.Trees.{Ex, field, index, call, binary, Tag, Sts, no_place}
 use Rattle.std.specs.Prelude.{slice_get}
 use Rattle.std.proofs.lemmas.Option.{same_Some, slice_get-map}
 use Rattle.kaba_base.specs.declared.Place.{Place}
@@ -19,27 +19,12 @@ use Rattle.java_core.proofs.Untagged.{bare_seen}
 
 -- the static type of an expression does not depend on its tags
 pub bare_static : (P : Plain) (g : Env) (e : Ex) → static P g (bare e) ≡ static P g e
-bare_static P g (number t n) = refl
-bare_static P g (character t c) = refl
-bare_static P g (text t u) = refl
-bare_static P g (truth t b) = refl
-bare_static P g (null t) = refl
-bare_static P g (this t) = refl
-bare_static P g (local t i) = refl
-bare_static P g (static_field t f) = refl
-bare_static P g (own_field t f) = refl
 bare_static P g (field t e x) = ap (λ z. or_nothing (access_type P z x)) (bare_static P g e)
 bare_static P g (index t e i) = ap (λ z. or_nothing (element_of z)) (bare_static P g e)
 bare_static P g (call t e x es) = ap (λ z. result_of (call_signature P z x)) (bare_static P g e)
-bare_static P g (static_call t m es) = refl
-bare_static P g (super_call t x es) = refl
-bare_static P g (create t n c es) = refl
-bare_static P g (create_array t n u e) = refl
-bare_static P g (cast t n u e) = refl
-bare_static P g (instance_of t n e c) = refl
-bare_static P g (unary t o e) = refl
 bare_static P g (binary t o e d) = ap (λ z. a_value (binary_type o z (static P g (bare d)))) (bare_static P g e)
     ∙ ap (λ z. a_value (binary_type o (static P g e) z)) (bare_static P g d)
+bare_static P g e = refl
 
 found_bare : (P : Plain) (body : ℕ → Option Body) → ((m : ℕ) → body_of P m ≡ option_map bare_body (body m)) → (o : Option ℕ)
     → option_and_then (body_of P) o ≡ option_map bare_body (option_and_then body o)

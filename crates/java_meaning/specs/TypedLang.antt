@@ -2,7 +2,7 @@
 use Rattle.std.specs.Prelude.{◌≡◌, ℕ, true, List, ◌++◌, map, Option, Some, None, slice_get}
 use Rattle.std.specs.Option.{is_some}
 use Rattle.java_core.specs.declared.Ty.{Ty}
-use Rattle.java_core.specs.Trees.{Ex, Exs, no_ex, ex_then, number, character, text, truth, null, this, local, static_field, own_field, field, index, call, static_call, super_call, create, create_array, cast, instance_of, unary, binary, Target, to_local, to_static, to_own, to_field, to_element, no_target}
+use Rattle.java_core.specs.Trees.{Ex, Exs, no_ex, ex_then, local, static_field, own_field, field, index, call, static_call, super_call, create, create_array, cast, instance_of, unary, binary, Target, to_local, to_static, to_own, to_field, to_element, no_target}
 use Rattle.java_core.specs.Programs.{Plain}
 use Rattle.java_core.specs.Classes.{below, is_concrete, member_field, slot_of, super_method, has_body}
 use Rattle.java_core.specs.Types.{Env, class_of, element_in, field_in, field_type, is_subtype, Signature, signature_of_method, signature_of_slot, static}
@@ -15,12 +15,6 @@ use Rattle.java_meaning.specs.EachStatement.{OfOption, Asked, InSts}
 module _ (P : Plain) (g : Env) where
   abbrev mutual
     pub Stands : Ex → Type 0
-    Stands (number t n) = Unit {0}
-    Stands (character t c) = Unit {0}
-    Stands (text t u) = Unit {0}
-    Stands (truth t b) = Unit {0}
-    Stands (null t) = Unit {0}
-    Stands (this t) = Unit {0}
     Stands (local t i) = is_some (slice_get g.locals i) ≡ true
     Stands (static_field t f) = is_some (field_type P f) ≡ true
     Stands (own_field t f) = (x : List ℕ) × (member_field P g.self x ≡ Some f)
@@ -35,6 +29,7 @@ module _ (P : Plain) (g : Env) where
     Stands (instance_of t n e c) = Stands e
     Stands (unary t o e) = Stands e
     Stands (binary t o e d) = Stands e × Stands d
+    Stands e = Unit {0}
 
     pub StandAll : Exs → Type 0
     StandAll no_ex = Unit {0}

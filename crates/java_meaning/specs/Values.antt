@@ -68,11 +68,7 @@ number_of (Object a) = None
 
 abbrev pub truth_of : Value → Option Bool
 truth_of (Truth b) = Some b
-truth_of (Number n) = None
-truth_of (CodeUnit c) = None
-truth_of Nothing = None
-truth_of (Text a) = None
-truth_of (Object a) = None
+truth_of v = None
 
 -- a number as a count of elements, or a place among them
 abbrev pub natural_of : ℤ → Option ℕ
@@ -186,10 +182,7 @@ join a b = if nat_le (length a + length b) limit then Ok (a ++ b) else Err fault
 abbrev pub is_text : Value → Bool
 is_text (Text a) = true
 is_text Nothing = true
-is_text (Number n) = false
-is_text (CodeUnit c) = false
-is_text (Truth b) = false
-is_text (Object a) = false
+is_text v = false
 
 -- the elements of a new array
 abbrev pub defaults : Ty → ℕ → List Value

@@ -7,11 +7,5 @@ use Rattle.java_heap.proofs.heap.Heap.find.Goals as goal
 
 pub returns : goal.returns
 returns c =
-    let ls = c.self.inside.labels.items in
-    let ss = c.self.inside.spans.items in
-    let vs = c.self.inside.values in
-    record {
-      value =
-          kind_found _ c.args.self.now ls ss vs c.self.view_is c.self.invariant c.args.at c.kind_at.result
-          (c.kind_at.ensures ∙ ap (λ (l : List Label). option_map (λ (k : Label). k.kind) (slice_get l c.args.at)) c.deref.ensures.value);
-    }
+    let there = c.kind_at.ensures ∙ ap (λ (l : List Label). option_map (λ (k : Label). k.kind) (slice_get l c.args.at)) c.deref.ensures.value in
+    record { value = kind_found _ _ _ _ _ c.self.view_is c.self.invariant c.args.at c.kind_at.result there }

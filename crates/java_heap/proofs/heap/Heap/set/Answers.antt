@@ -1,4 +1,4 @@
-use Rattle.std.proofs.Common.{◌≡◌, ◌<◌, ◌+◌, List, length, subst, sym, arith}
+use Rattle.std.proofs.Common.{◌≡◌, List, subst, sym, arith}
 use Rattle.std.specs.Prelude.{map, slice_get}
 use Rattle.std.specs.Option.{IfSome}
 use Rattle.java_heap.specs.declared.values.Value.{Value}
@@ -6,37 +6,26 @@ use Rattle.java_heap.proofs.Stored.{span_within, place_within, heap_of, with_wri
 use Rattle.java_heap.proofs.heap.Heap.set.Goals as goal
 
 pub index-requires : goal.index-requires
-index-requires c =
-    let ls = c.self.inside.labels.items in
-    let ss = c.self.inside.spans.items in
-    let vs = c.self.inside.values in
-    let h = c.args.self.now in
-    let is = c.self.invariant in
-    let within : c.args.at < length ss = span_within _ h ls ss vs c.self.view_is is c.args.at c.requires.cell in
-    omega (arith, c.self.inside.spans.ok.0)
+index-requires c = omega (arith, c.self.inside.spans.ok.0, span_within _ _ _ _ _ c.self.view_is c.self.invariant _ c.requires.cell)
 
 pub set-requires : goal.set-requires
 set-requires c =
-    let ls = c.self.inside.labels.items in
-    let ss = c.self.inside.spans.items in
-    let vs = c.self.inside.values in
-    let h = c.args.self.now in
-    let is = c.self.invariant in
-    let within : c.index.result.now.start + c.args.place < length vs =
-    place_within _ h ls ss vs c.self.view_is is c.args.at c.args.place c.index.result.now c.requires.cell c.requires.place c.index.ensures in
-    omega arith
+    let within =
+    place_within _ _ _ _ _ c.self.view_is c.self.invariant c.args.at c.args.place c.index.result.now c.requires.cell c.requires.place c.index.ensures in
+    omega (arith, within)
 
 pub returns : goal.returns
 returns c =
-    let ls = c.self.inside.labels.items in
-    let ss = c.self.inside.spans.items in
-    let vs = c.self.inside.values in
+    let x = c.self.inside in
     let h = c.args.self.now in
-    let is = c.self.invariant in
-    let strings = map (λ u. u.items) c.self.inside.texts.items in
+    let strings = map (λ u. u.items) x.texts.items in
+    let put =
+    stored strings h _ _ _ c.self.view_is c.self.invariant c.args.at c.args.place c.args.value c.index.result.now c.requires.cell c.requires.place
+    c.index.ensures in
     record {
       value =
-          subst (λ (l : List Value). IfSome (slice_get h.cells c.args.at) (λ d. heap_of strings ls ss l ≡ with_written h c.args.at d c.args.place c.args.value))
+          subst (λ (l : List Value). IfSome (slice_get h.cells c.args.at)
+          (λ d. heap_of strings x.labels.items x.spans.items l ≡ with_written h c.args.at d c.args.place c.args.value))
           (sym c.set.ensures)
-          (stored strings h ls ss vs c.self.view_is is c.args.at c.args.place c.args.value c.index.result.now c.requires.cell c.requires.place c.index.ensures);
+          put;
     }

@@ -6,19 +6,13 @@ use Rattle.java_heap.proofs.Unpacked.{sized, truth_at, unpacked_set, unpacked_se
 use Rattle.java_heap.proofs.packed.Packed.set.Goals as goal
 
 pub index_mut-requires : goal.index_mut-requires
-index_mut-requires c =
-    let size = sized c.self.inside.tags.items c.self.inside.words.items c.args.self.now c.self.view_is c.self.invariant in
-    omega (arith, c.self.inside.tags.ok.0, size, c.requires)
+index_mut-requires c = omega (arith, c.self.inside.tags.ok.0, sized _ _ _ c.self.view_is c.self.invariant, c.requires)
 
 pub index_mut-requires-in_default : goal.index_mut-requires-in_default
-index_mut-requires-in_default c =
-    let size = sized c.self.inside.tags.items c.self.inside.words.items c.args.self.now c.self.view_is c.self.invariant in
-    omega (arith, c.self.inside.tags.ok.0, size, c.requires)
+index_mut-requires-in_default c = omega (arith, c.self.inside.tags.ok.0, sized _ _ _ c.self.view_is c.self.invariant, c.requires)
 
 pub index_mut-requires-in_default-2 : goal.index_mut-requires-in_default-2
-index_mut-requires-in_default-2 c =
-    let size = sized c.self.inside.tags.items c.self.inside.words.items c.args.self.now c.self.view_is c.self.invariant in
-    omega (arith, c.self.inside.words.ok.0, c.self.invariant, size, c.requires)
+index_mut-requires-in_default-2 c = omega (arith, c.self.inside.words.ok.0, c.self.invariant, sized _ _ _ c.self.view_is c.self.invariant, c.requires)
 
 pub returns-in-Bool : goal.returns-in-Bool
 returns-in-Bool c =
