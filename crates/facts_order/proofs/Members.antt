@@ -11,6 +11,7 @@ use Rattle.fact_model.specs.Classes.{IsBelow}
 use Rattle.fact_model.specs.InOrder.{IsDef, name_of, AreMembersInOrder}
 use Rattle.fact_model.specs.declared.facts.ColumnInfo.{ColumnInfo}
 use Rattle.fact_model.specs.declared.facts.Facts.{Facts}
+use Rattle.fact_model.specs.declared.facts.ColKind.{ColKind}
 use Rattle.fact_model.specs.declared.facts.ColKind.TheVariants as kind
 use Rattle.flow_rules.specs.declared.items.ColumnItem.{ColumnItem}
 use Rattle.flow_rules.specs.declared.items.ColumnItem.TheVariants as column
@@ -110,30 +111,22 @@ module _ (P Q : Plain) (placed : IsPlaced P Q) (formed : IsFormed P) where
         → f (column_info Q a.item) ≡ f (column_info Q b.item)
     alike f c d a b e = sym (ap f a.info) ∙ e ∙ ap f b.info
 
-    fields : (c d : ℕ) → c < length F.columns.items → d < length F.columns.items → column_kind F c ≡ kind.Fld → column_kind F d ≡ kind.Fld
-        → column_class F c ≡ column_class F d → name_of F c ≡ name_of F d → c ≡ d
-    fields c d p q h k o n =
+    -- two columns of one kind are one, where their items are one that have the class and one thing more alike
+    same_of : {A : Type 0} (f : ColumnInfo → A) (K : ColKind) → ((i j : ColumnItem) → Stands Q i → Stands Q j → kind_of i ≡ K → kind_of j ≡ K
+        → owner_of Q i ≡ owner_of Q j → f (column_info Q i) ≡ f (column_info Q j) → i ≡ j)
+        → (c d : ℕ) → c < length F.columns.items → d < length F.columns.items → column_kind F c ≡ K → column_kind F d ≡ K
+        → column_class F c ≡ column_class F d → f (info_at F c) ≡ f (info_at F d) → c ≡ d
+    same_of f K one c d p q h k o n =
         let a = item_of P Q F facts c p in
         let b = item_of P Q F facts d q in
         same_column c d a b
-        (two_fields a.item b.item a.stands b.stands (sym (ap (λ i. i.kind) a.info) ∙ h) (sym (ap (λ i. i.kind) b.info)
-        ∙ k) (alike (λ i. i.class.0) c d a b o)
-        (alike (λ i. i.name) c d a b n))
+        (one a.item b.item a.stands b.stands (sym (ap (λ i. i.kind) a.info) ∙ h) (sym (ap (λ i. i.kind) b.info) ∙ k)
+        (alike (λ i. i.class.0) c d a b o) (alike f c d a b n))
 
     no_slots : (c : ℕ) → c < length F.columns.items → column_kind F c ≡ kind.Fld → column_slot F c ≡ None
     no_slots c p h =
         let a = item_of P Q F facts c p in
         ap (λ i. i.slot) a.info ∙ field_slot a.item a.stands (sym (ap (λ i. i.kind) a.info) ∙ h)
-
-    bodies : (c d : ℕ) → c < length F.columns.items → d < length F.columns.items → IsDef F c → IsDef F d → column_class F c ≡ column_class F d
-        → column_slot F c ≡ column_slot F d → c ≡ d
-    bodies c d p q h k o l =
-        let a = item_of P Q F facts c p in
-        let b = item_of P Q F facts d q in
-        same_column c d a b
-        (two_bodies a.item b.item a.stands b.stands (sym (ap (λ i. i.kind) a.info) ∙ h) (sym (ap (λ i. i.kind) b.info)
-        ∙ k) (alike (λ i. i.class.0) c d a b o)
-        (alike (λ i. i.slot) c d a b l))
 
     -- the member of a column of a slot
     pub record HasMember (c x : ℕ) : Type 0 where
@@ -172,4 +165,10 @@ module _ (P Q : Plain) (placed : IsPlaced P Q) (formed : IsFormed P) where
         (sym p.name ∙ n ∙ q.name))
 
     pub members_in_order : AreMembersInOrder F
-    members_in_order = record { slots = slots; fields = fields; bodies = bodies; no_slots = no_slots; names = names }
+    members_in_order = record {
+      slots = slots;
+      fields = same_of (λ i. i.name) kind.Fld two_fields;
+      bodies = same_of (λ i. i.slot) kind.Def two_bodies;
+      no_slots = no_slots;
+      names = names;
+    }

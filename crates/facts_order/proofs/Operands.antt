@@ -91,40 +91,34 @@ module _ (P Q : Plain) (placed : IsPlaced P Q) (formed : IsFormed P) (typed : Is
           ∙ ap field_number h in cc)
       go (for_part m k p d c o) = numberless x (row.Field f) m k p d c o h refl
 
+  -- a row with a number that only rows of results have is the row of a result
+  from_result : {R : Type 0} (f : RowItem → Option ℕ) → ((g : ℕ) → f (row.Field g) ≡ None) → ((m : ℕ) → f (row.This m) ≡ None)
+      → ((s i : ℕ) → f (row.Param s i) ≡ None) → ((m i : ℕ) → f (row.Local m i) ≡ None)
+      → (x : Row) (i : RowItem) (n : ℕ) → x.item ≡ i → f i ≡ Some n → number_in (Some i) ≡ []
+      → ((m : ℕ) (k : PlainMethod) → slice_get Q.methods m ≡ Some k → f (result_in k.slot m) ≡ Some n → object_if k.result ≡ Some x.ty → R)
+      → Types P Q x → R
+  from_result f field self param local x i n h e none from (for_result m k d j u) = from m k d (sym (ap f j) ∙ ap f h ∙ e) u
+  from_result f field self param local x i n h e none from (for_field g k d j u) = absurd (let z = sym (field g) ∙ sym (ap f j) ∙ ap f h ∙ e in cc)
+  from_result f field self param local x i n h e none from (for_this m k d b s j u) = absurd (let z = sym (self m) ∙ sym (ap f j) ∙ ap f h ∙ e in cc)
+  from_result f field self param local x i n h e none from (for_variable m k j v d b q u) =
+      absurd (let z = sym (all_variables f None param local k.slot (nat_lt j (length k.params)) m j) ∙ sym (ap f q) ∙ ap f h ∙ e in cc)
+  from_result f field self param local x i n h e none from (for_part m k p d c o) = numberless x i m k p d c o h none
+
   -- the row of a slot's return has the slot's result
   pub return_type : (s r : ℕ) (x : Row) → slice_get (rows_of P Q) r ≡ Some x → x.item ≡ row.Return s → slot_object P s ≡ Some x.ty
-  return_type s r x e h = go (row_types P Q r x e)
-    where
-      go : Types P Q x → slot_object P s ≡ Some x.ty
-      go (for_result m k d i u) =
-          let z = placed.methods m k d in
-          let o = result_return k.slot m s (sym (ap return_number i) ∙ ap return_number h) in
-          let y = ((formed.methods m z.plain z.stands).slots s).0 (z.slot ∙ o) in
-          ap (λ o. object_if (option_and_then (λ k. k.result) o)) y.stands ∙ ap object_if (sym y.result ∙ z.result) ∙ u
-      go (for_field g k d i u) = absurd (let g = sym (ap return_number i) ∙ ap return_number h in cc)
-      go (for_this m k d b s i u) = absurd (let g = sym (ap return_number i) ∙ ap return_number h in cc)
-      go (for_variable m k j v d b i u) =
-          absurd (let g = sym (all_variables return_number None (λ s i. refl) (λ m i. refl) k.slot (nat_lt j (length k.params)) m j)
-          ∙ sym (ap return_number i)
-          ∙ ap return_number h in cc)
-      go (for_part m k p d c o) = numberless x (row.Return s) m k p d c o h refl
+  return_type s r x e h =
+      from_result return_number (λ g. refl) (λ m. refl) (λ s i. refl) (λ m i. refl) x (row.Return s) s h refl refl (λ m k d n u.
+      let z = placed.methods m k d in
+      let y = ((formed.methods m z.plain z.stands).slots s).0 (z.slot ∙ result_return k.slot m s n) in
+      ap (λ o. object_if (option_and_then (λ k. k.result) o)) y.stands ∙ ap object_if (sym y.result ∙ z.result) ∙ u) (row_types P Q r x e)
 
   -- the row of a static method's result has its type
   pub result_type : (m r : ℕ) (x : Row) → slice_get (rows_of P Q) r ≡ Some x → x.item ≡ row.Result m → method_object P m ≡ Some x.ty
-  result_type m r x e h = go (row_types P Q r x e)
-    where
-      go : Types P Q x → method_object P m ≡ Some x.ty
-      go (for_result n k d i u) =
-          let z = placed.methods n k d in
-          let s = result_result k.slot n m (sym (ap result_number i) ∙ ap result_number h) in
-          ap (method_object P) (sym s) ∙ ap (λ o. object_if (option_and_then (λ k. k.result) o)) z.stands ∙ ap object_if z.result ∙ u
-      go (for_field g k d i u) = absurd (let g = sym (ap result_number i) ∙ ap result_number h in cc)
-      go (for_this n k d b s i u) = absurd (let g = sym (ap result_number i) ∙ ap result_number h in cc)
-      go (for_variable n k j v d b i u) =
-          absurd (let g = sym (all_variables result_number None (λ s i. refl) (λ m i. refl) k.slot (nat_lt j (length k.params)) n j)
-          ∙ sym (ap result_number i)
-          ∙ ap result_number h in cc)
-      go (for_part n k p d c o) = numberless x (row.Result m) n k p d c o h refl
+  result_type m r x e h =
+      from_result result_number (λ g. refl) (λ m. refl) (λ s i. refl) (λ m i. refl) x (row.Result m) m h refl refl (λ n k d i u.
+      let z = placed.methods n k d in
+      ap (method_object P) (sym (result_result k.slot n m i)) ∙ ap (λ o. object_if (option_and_then (λ k. k.result) o)) z.stands
+      ∙ ap object_if z.result ∙ u) (row_types P Q r x e)
 
   -- a super call's result is that of its slot
   pub super_type : (d s : ℕ) → slot_of_method P d ≡ Some s → method_object P d ≡ slot_object P s

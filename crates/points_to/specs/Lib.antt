@@ -6,3 +6,4 @@ pub mod Rounds
 pub mod Chains
 pub mod Above
 pub mod Given
+pub mod Words

@@ -1,13 +1,9 @@
 //! One turn over everything that the facts ask for, until nothing is new: this shows that nothing was left out.
 
 ghost use Rattle.std.specs.Prelude.{◌≡◌, ℕ, ◌<◌, length, All, IfOk, OnOk};
-ghost use Rattle.std.specs.Bool.{OnFalse};
-ghost use Rattle.kaba_bits.specs.Sets.{IsStep};
-ghost use Rattle.points_to.specs.Above.{AreSitesBelow};
-ghost use Rattle.points_to.specs.Sound.{AreSound};
 ghost use Rattle.points_to.specs.Work.{IsEdge, IsTold, IsEdgeClosed, IsShown};
 ghost use Rattle.points_to.specs.Closed.{AreClosed};
-ghost use Rattle.points_to.specs.Given.{IsGiven};
+ghost use Rattle.points_to.specs.Words.{OnFalse, IsStep, AreSitesBelow, AreSound, IsGiven};
 
 use crate::found::Given;
 use crate::queue::Queue;
@@ -78,32 +74,8 @@ pub fn close_all(given: &Given, sets: &mut [BitRow], grown: &mut Queue) -> Resul
         &found.edges,
     )?;
     let bases = copy_rows(given.alloc, sets)?;
-    let reads = close_reads(
-        given.alloc,
-        facts,
-        given.index,
-        &bases,
-        sets,
-        grown,
-        &found.reads,
-    )?;
-    let writes = close_writes(
-        given.alloc,
-        facts,
-        given.index,
-        &bases,
-        sets,
-        grown,
-        &found.writes,
-    )?;
-    let runs = close_runs(
-        given.alloc,
-        facts,
-        given.index,
-        &bases,
-        sets,
-        grown,
-        &found.runs,
-    )?;
+    let reads = close_reads(given, &bases, sets, grown, &found.reads)?;
+    let writes = close_writes(given, &bases, sets, grown, &found.writes)?;
+    let runs = close_runs(given, &bases, sets, grown, &found.runs)?;
     Ok(told | edges | reads | writes | runs)
 }

@@ -1,9 +1,8 @@
 //! The sites of a base that are to be gone over: those that are new there, or all.
 
 ghost use Rattle.std.specs.Prelude.{◌≡◌, ℕ, ◌<◌, true, length, IfOk};
-ghost use Rattle.kaba_bits.specs.Sets.{bit, IsEmpty};
-ghost use Rattle.fact_model.specs.InRange.{InRange};
-ghost use Rattle.points_to.specs.Sound.{node_count, AreSound, InNode};
+ghost use Rattle.kaba_bits.specs.Sets.{IsEmpty};
+ghost use Rattle.points_to.specs.Words.{bit, InRange, node_count, AreSound, InNode};
 
 use crate::queue::{Queue, queue_of};
 use crate::reads::next_site;

@@ -2,15 +2,11 @@
 //! the same member whose base has all of these sites.
 
 ghost use Rattle.std.specs.Prelude.{◌≡◌, ℕ, ◌<◌, ◌⊎◌, ◌↔◌, Bool, true, List, length, slice_set, All, IsTrue, IfOk, OnOk};
-ghost use Rattle.std.specs.Bool.{OnFalse};
-ghost use Rattle.kaba_bits.specs.Sets.{bit, row, IsSubset, IsStep};
-ghost use Rattle.fact_model.specs.InRange.{InRange};
-ghost use Rattle.points_to.specs.Sound.{node_count, AreSound};
-ghost use Rattle.points_to.specs.Listed.{IsIndex};
 ghost use Rattle.points_to.specs.Work.{IsRead, IsReadClosed};
 ghost use Rattle.points_to.specs.Rounds.{IsIn, IsNextBeyond, IsGathered, IsWhole};
+ghost use Rattle.points_to.specs.Words.{OnFalse, bit, row, IsSubset, IsStep, InRange, node_count, AreSound, IsGiven};
 
-use crate::index::Index;
+use crate::found::Given;
 use crate::queue::Queue;
 use crate::targets::list_targets;
 use crate::work::{Member, Read, include_row};
@@ -82,26 +78,24 @@ fn hold_all(facts: &Facts, sets: &[BitRow], held: &mut BitRow, list: &[usize])
 
 /// One site more. An error comes only for want of memory.
 fn gather_site(
-    facts: &Facts,
-    index: &Index,
+    given: &Given,
     sets: &[BitRow],
     union: &mut Union,
     list: &mut Vec<usize>,
     o: u32,
 ) -> Result<(), AllocError>
-    requires facts { InRange facts.now }
-    requires index { IsIndex facts.now index.now }
-    requires sets { AreSound facts.now sets.now }
-    requires gathered { IsGathered facts.now union.old }
-    requires site { o < length facts.now.sites.items }
-    ensures gathered { OnOk result (IsGathered facts.now union.new) }
+    requires given { IsGiven given.now }
+    requires sets { AreSound given.now.facts.now sets.now }
+    requires gathered { IsGathered given.now.facts.now union.old }
+    requires site { o < length given.now.facts.now.sites.items }
+    ensures gathered { OnOk result (IsGathered given.now.facts.now union.new) }
     ensures member { OnOk result (union.new.member ≡ union.old.member) }
     ensures sites { OnOk result (union.new.sites ≡ slice_set union.old.sites o true) }
-    ensures whole { OnOk result (IsWhole facts.now sets.now union.old → IsWhole facts.now sets.now union.new) }
+    ensures whole { OnOk result (IsWhole given.now.facts.now sets.now union.old → IsWhole given.now.facts.now sets.now union.new) }
 {
-    list_targets(facts, index, list, union.member, o)?;
+    list_targets(given.facts, given.index, list, union.member, o)?;
     union.sites.set(o);
-    hold_all(facts, sets, &mut union.held, list);
+    hold_all(given.facts, sets, &mut union.held, list);
     Ok(())
 }
 
@@ -117,31 +111,29 @@ pub fn next_site(facts: &Facts, set: &BitRow, sites: &BitRow, at: u32) -> Option
 
 /// The sites of a set too. An error comes only for want of memory.
 fn gather(
-    facts: &Facts,
-    index: &Index,
+    given: &Given,
     sets: &[BitRow],
     union: &mut Union,
     list: &mut Vec<usize>,
     set: &BitRow,
 ) -> Result<(), AllocError>
-    requires facts { InRange facts.now }
-    requires index { IsIndex facts.now index.now }
-    requires sets { AreSound facts.now sets.now }
-    requires gathered { IsGathered facts.now union.old }
-    requires width { length set.now ≡ length facts.now.sites.items }
+    requires given { IsGiven given.now }
+    requires sets { AreSound given.now.facts.now sets.now }
+    requires gathered { IsGathered given.now.facts.now union.old }
+    requires width { length set.now ≡ length given.now.facts.now.sites.items }
     requires within { IsSubset union.old.sites set.now }
-    ensures gathered { OnOk result (IsGathered facts.now union.new) }
+    ensures gathered { OnOk result (IsGathered given.now.facts.now union.new) }
     ensures member { OnOk result (union.new.member ≡ union.old.member) }
     ensures within { OnOk result (IsSubset union.new.sites set.now) }
     ensures all { OnOk result (IsSubset set.now union.new.sites) }
-    ensures whole { OnOk result (IsWhole facts.now sets.now union.old → IsWhole facts.now sets.now union.new) }
+    ensures whole { OnOk result (IsWhole given.now.facts.now sets.now union.old → IsWhole given.now.facts.now sets.now union.new) }
 {
-    let width = facts.sites.len() as u32;
+    let width = given.facts.sites.len() as u32;
     let mut at = 0;
     'scan: while at < width {
-        match next_site(facts, set, &union.sites, at) {
+        match next_site(given.facts, set, &union.sites, at) {
             Some(o) => {
-                gather_site(facts, index, sets, union, list, o)?;
+                gather_site(given, sets, union, list, o)?;
                 at = o + 1;
             }
             None => return Ok(()),
@@ -152,8 +144,7 @@ fn gather(
 
 /// One read, and whether anything was new. An error comes only for want of memory.
 fn close_read(
-    facts: &Facts,
-    index: &Index,
+    given: &Given,
     bases: &[BitRow],
     sets: &mut [BitRow],
     grown: &mut Queue,
@@ -161,47 +152,43 @@ fn close_read(
     list: &mut Vec<usize>,
     x: Read,
 ) -> Result<bool, AllocError>
-    requires facts { InRange facts.now }
-    requires index { IsIndex facts.now index.now }
-    requires bases { AreSound facts.now bases.now }
-    requires sets { AreSound facts.now sets.old }
-    requires gathered { IsGathered facts.now union.old }
-    requires read { IsRead facts.now x }
-    ensures sets { OnOk result (AreSound facts.now sets.new) }
-    ensures gathered { OnOk result (IsGathered facts.now union.new) }
+    requires given { IsGiven given.now }
+    requires bases { AreSound given.now.facts.now bases.now }
+    requires sets { AreSound given.now.facts.now sets.old }
+    requires gathered { IsGathered given.now.facts.now union.old }
+    requires read { IsRead given.now.facts.now x }
+    ensures sets { OnOk result (AreSound given.now.facts.now sets.new) }
+    ensures gathered { OnOk result (IsGathered given.now.facts.now union.new) }
     ensures step { IfOk result (IsStep sets.old sets.new) }
-    ensures closed { IfOk result (λ grew. OnFalse grew (IsWhole facts.now sets.old union.old → IsWhole facts.now sets.new union.new × IsReadClosed facts.now bases.now sets.new x)) }
+    ensures closed { IfOk result (λ grew. OnFalse grew (IsWhole given.now.facts.now sets.old union.old → IsWhole given.now.facts.now sets.new union.new × IsReadClosed given.now.facts.now bases.now sets.new x)) }
 {
     let set = row_at(bases, x.base as usize);
-    turn_to(facts, union, x.member, set);
-    gather(facts, index, sets, union, list, set)?;
-    Ok(include_row(facts, sets, grown, &union.held, x.into as usize))
+    turn_to(given.facts, union, x.member, set);
+    gather(given, sets, union, list, set)?;
+    Ok(include_row(given.facts, sets, grown, &union.held, x.into as usize))
 }
 
 /// Each read, and whether anything was new. An error comes only for want of memory.
 pub fn close_reads(
-    alloc: Global,
-    facts: &Facts,
-    index: &Index,
+    given: &Given,
     bases: &[BitRow],
     sets: &mut [BitRow],
     grown: &mut Queue,
     reads: &[Read],
 ) -> Result<bool, AllocError>
-    requires facts { InRange facts.now }
-    requires index { IsIndex facts.now index.now }
-    requires bases { AreSound facts.now bases.now }
-    requires sets { AreSound facts.now sets.old }
-    requires reads { All (IsRead facts.now) reads.now }
-    ensures sets { OnOk result (AreSound facts.now sets.new) }
+    requires given { IsGiven given.now }
+    requires bases { AreSound given.now.facts.now bases.now }
+    requires sets { AreSound given.now.facts.now sets.old }
+    requires reads { All (IsRead given.now.facts.now) reads.now }
+    ensures sets { OnOk result (AreSound given.now.facts.now sets.new) }
     ensures step { IfOk result (IsStep sets.old sets.new) }
-    ensures closed { IfOk result (λ grew. OnFalse grew (All (IsReadClosed facts.now bases.now sets.new) reads.now)) }
+    ensures closed { IfOk result (λ grew. OnFalse grew (All (IsReadClosed given.now.facts.now bases.now sets.new) reads.now)) }
 {
-    let mut union = no_union(alloc, facts)?;
-    let mut list = Vec::new(alloc);
+    let mut union = no_union(given.alloc, given.facts)?;
+    let mut list = Vec::new(given.alloc);
     let mut grew = false;
     for x in reads {
-        let more = close_read(facts, index, bases, sets, grown, &mut union, &mut list, *x)?;
+        let more = close_read(given, bases, sets, grown, &mut union, &mut list, *x)?;
         grew |= more;
     }
     Ok(grew)

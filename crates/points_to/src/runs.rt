@@ -1,15 +1,11 @@
 //! Runs: each site in a base is in the `this` of its body. A site is gone over once for the bases of one slot.
 
 ghost use Rattle.std.specs.Prelude.{◌≡◌, ℕ, ◌<◌, Bool, true, List, length, All, IfOk, OnOk};
-ghost use Rattle.std.specs.Bool.{OnFalse};
-ghost use Rattle.kaba_bits.specs.Sets.{bit, row, IsStep};
-ghost use Rattle.fact_model.specs.InRange.{InRange};
-ghost use Rattle.points_to.specs.Sound.{node_count, AreSound, InNode};
-ghost use Rattle.points_to.specs.Listed.{IsIndex};
 ghost use Rattle.points_to.specs.Work.{IsRun, IsRunClosed};
 ghost use Rattle.points_to.specs.Rounds.{HasSite, IsRunAt, AreBegun};
+ghost use Rattle.points_to.specs.Words.{OnFalse, bit, row, IsStep, InRange, node_count, AreSound, InNode, IsGiven};
 
-use crate::index::Index;
+use crate::found::Given;
 use crate::queue::Queue;
 use crate::reads::next_site;
 use crate::targets::list_targets;
@@ -44,26 +40,24 @@ fn put_all(facts: &Facts, sets: &mut [BitRow], grown: &mut Queue, list: &[usize]
 
 /// One site of a base, and whether anything was new. An error comes only for want of memory.
 fn run_site(
-    facts: &Facts,
-    index: &Index,
+    given: &Given,
     sets: &mut [BitRow],
     grown: &mut Queue,
     list: &mut Vec<usize>,
     x: Run,
     o: u32,
 ) -> Result<bool, AllocError>
-    requires facts { InRange facts.now }
-    requires index { IsIndex facts.now index.now }
-    requires sets { AreSound facts.now sets.old }
-    requires run { IsRun facts.now x }
-    requires site { o < length facts.now.sites.items }
-    requires holds { InNode facts.now x.base o }
-    ensures sets { OnOk result (AreSound facts.now sets.new) }
+    requires given { IsGiven given.now }
+    requires sets { AreSound given.now.facts.now sets.old }
+    requires run { IsRun given.now.facts.now x }
+    requires site { o < length given.now.facts.now.sites.items }
+    requires holds { InNode given.now.facts.now x.base o }
+    ensures sets { OnOk result (AreSound given.now.facts.now sets.new) }
     ensures step { IfOk result (IsStep sets.old sets.new) }
-    ensures closed { IfOk result (λ grew. OnFalse grew (IsRunAt facts.now sets.new x.slot o)) }
+    ensures closed { IfOk result (λ grew. OnFalse grew (IsRunAt given.now.facts.now sets.new x.slot o)) }
 {
-    list_targets(facts, index, list, Member::This(x.slot), o)?;
-    Ok(put_all(facts, sets, grown, list, o))
+    list_targets(given.facts, given.index, list, Member::This(x.slot), o)?;
+    Ok(put_all(given.facts, sets, grown, list, o))
 }
 
 /// Begins anew for another slot.
@@ -82,8 +76,7 @@ fn turn_to(facts: &Facts, begun: &mut Begun, slot: u32)
 
 /// Each site of a base that was not gone over, and whether anything was new. An error comes only for want of memory.
 fn close_run(
-    facts: &Facts,
-    index: &Index,
+    given: &Given,
     bases: &[BitRow],
     sets: &mut [BitRow],
     grown: &mut Queue,
@@ -91,26 +84,25 @@ fn close_run(
     list: &mut Vec<usize>,
     x: Run,
 ) -> Result<bool, AllocError>
-    requires facts { InRange facts.now }
-    requires index { IsIndex facts.now index.now }
-    requires bases { AreSound facts.now bases.now }
-    requires sets { AreSound facts.now sets.old }
-    requires width { length begun.old.sites ≡ length facts.now.sites.items }
-    requires run { IsRun facts.now x }
-    ensures sets { OnOk result (AreSound facts.now sets.new) }
-    ensures width { OnOk result (length begun.new.sites ≡ length facts.now.sites.items) }
+    requires given { IsGiven given.now }
+    requires bases { AreSound given.now.facts.now bases.now }
+    requires sets { AreSound given.now.facts.now sets.old }
+    requires width { length begun.old.sites ≡ length given.now.facts.now.sites.items }
+    requires run { IsRun given.now.facts.now x }
+    ensures sets { OnOk result (AreSound given.now.facts.now sets.new) }
+    ensures width { OnOk result (length begun.new.sites ≡ length given.now.facts.now.sites.items) }
     ensures step { IfOk result (IsStep sets.old sets.new) }
-    ensures closed { IfOk result (λ grew. OnFalse grew (AreBegun facts.now sets.old begun.old → AreBegun facts.now sets.new begun.new × IsRunClosed facts.now bases.now sets.new x)) }
+    ensures closed { IfOk result (λ grew. OnFalse grew (AreBegun given.now.facts.now sets.old begun.old → AreBegun given.now.facts.now sets.new begun.new × IsRunClosed given.now.facts.now bases.now sets.new x)) }
 {
-    turn_to(facts, begun, x.slot);
+    turn_to(given.facts, begun, x.slot);
     let set = row_at(bases, x.base as usize);
-    let width = facts.sites.len() as u32;
+    let width = given.facts.sites.len() as u32;
     let mut grew = false;
     let mut at = 0;
     'scan: while at < width {
-        match next_site(facts, set, &begun.sites, at) {
+        match next_site(given.facts, set, &begun.sites, at) {
             Some(o) => {
-                let more = run_site(facts, index, sets, grown, list, x, o)?;
+                let more = run_site(given, sets, grown, list, x, o)?;
                 begun.sites.set(o);
                 grew |= more;
                 at = o + 1;
@@ -123,31 +115,28 @@ fn close_run(
 
 /// Each run, and whether anything was new. An error comes only for want of memory.
 pub fn close_runs(
-    alloc: Global,
-    facts: &Facts,
-    index: &Index,
+    given: &Given,
     bases: &[BitRow],
     sets: &mut [BitRow],
     grown: &mut Queue,
     runs: &[Run],
 ) -> Result<bool, AllocError>
-    requires facts { InRange facts.now }
-    requires index { IsIndex facts.now index.now }
-    requires bases { AreSound facts.now bases.now }
-    requires sets { AreSound facts.now sets.old }
-    requires runs { All (IsRun facts.now) runs.now }
-    ensures sets { OnOk result (AreSound facts.now sets.new) }
+    requires given { IsGiven given.now }
+    requires bases { AreSound given.now.facts.now bases.now }
+    requires sets { AreSound given.now.facts.now sets.old }
+    requires runs { All (IsRun given.now.facts.now) runs.now }
+    ensures sets { OnOk result (AreSound given.now.facts.now sets.new) }
     ensures step { IfOk result (IsStep sets.old sets.new) }
-    ensures closed { IfOk result (λ grew. OnFalse grew (All (IsRunClosed facts.now bases.now sets.new) runs.now)) }
+    ensures closed { IfOk result (λ grew. OnFalse grew (All (IsRunClosed given.now.facts.now bases.now sets.new) runs.now)) }
 {
     let mut begun = Begun {
         slot: 0,
-        sites: BitRow::new(alloc, facts.sites.len() as u32)?,
+        sites: BitRow::new(given.alloc, given.facts.sites.len() as u32)?,
     };
-    let mut list = Vec::new(alloc);
+    let mut list = Vec::new(given.alloc);
     let mut grew = false;
     for x in runs {
-        let more = close_run(facts, index, bases, sets, grown, &mut begun, &mut list, *x)?;
+        let more = close_run(given, bases, sets, grown, &mut begun, &mut list, *x)?;
         grew |= more;
     }
     Ok(grew)

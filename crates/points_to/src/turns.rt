@@ -2,9 +2,7 @@
 //! it concerns are gone over once.
 
 ghost use Rattle.std.specs.Prelude.{All, Contains, IfOk, IfSome, OnOk};
-ghost use Rattle.fact_model.specs.InRange.{InRange};
-ghost use Rattle.points_to.specs.Sound.{AreSound};
-ghost use Rattle.points_to.specs.Given.{IsGiven};
+ghost use Rattle.points_to.specs.Words.{InRange, AreSound, IsGiven};
 
 use crate::closing::close_told;
 use crate::found::Given;
@@ -78,23 +76,33 @@ fn flow(
     Ok(())
 }
 
-/// The items of these numbers that pass a test. An error comes only for want of memory.
-fn items_of<X: Copy, F: Fn(X) -> bool>(
-    alloc: Global,
-    from: &[X],
-    due: &BitRow,
-    test: F,
-) -> Result<Vec<X>, AllocError>
-    requires { F.IsAlwaysCallable test }
+/// The items of these numbers. An error comes only for want of memory.
+fn items_of<X: Copy>(alloc: Global, from: &[X], due: &BitRow) -> Result<Vec<X>, AllocError>
     ensures { IfOk result (λ v. All (Contains from.now) v.items) }
 {
     let numbers = due.rising(alloc)?;
     let mut list = Vec::new(alloc);
     for k in &numbers {
         if let Some(x) = item_at(from, *k as usize) {
-            if test(x) {
-                list.push(x)?;
-            }
+            list.push(x)?;
+        }
+    }
+    Ok(list)
+}
+
+/// Those reads whose base has a site with a member that grew. An error comes only for want of memory.
+fn concerned(
+    alloc: Global,
+    sets: &[BitRow],
+    due: &Due,
+    reads: &[Read],
+) -> Result<Vec<Read>, AllocError>
+    ensures { IfOk result (λ v. All (Contains reads.now) v.items) }
+{
+    let mut list = Vec::new(alloc);
+    for x in reads {
+        if concerns(due, sets, *x) {
+            list.push(*x)?;
         }
     }
     Ok(list)
@@ -120,128 +128,38 @@ fn load_bases(
     Ok(())
 }
 
-/// The reads, writes and runs of bases that grew, for what is new there. An error comes only for want of memory.
-fn turn_news(
-    given: &Given,
-    bases: &mut Bases,
-    sets: &mut [BitRow],
-    grown: &mut Queue,
-    due: &Due,
-) -> Result<(), AllocError>
-    requires given { IsGiven given.now }
-    requires now { AreSound given.now.facts.now bases.old.now.items }
-    requires sets { AreSound given.now.facts.now sets.old }
-    ensures now { OnOk result (AreSound given.now.facts.now bases.new.now.items) }
-    ensures sets { OnOk result (AreSound given.now.facts.now sets.new) }
-{
-    let reads = items_of(given.alloc, &given.found.reads, &due.reads, |_| true)?;
-    let writes = items_of(given.alloc, &given.found.writes, &due.writes, |_| true)?;
-    let runs = items_of(given.alloc, &given.found.runs, &due.runs, |_| true)?;
-    load_bases(given.alloc, given.facts, sets, bases, &due.bases)?;
-    close_reads(
-        given.alloc,
-        given.facts,
-        given.index,
-        &bases.now,
-        sets,
-        grown,
-        &reads,
-    )?;
-    close_writes(
-        given.alloc,
-        given.facts,
-        given.index,
-        &bases.now,
-        sets,
-        grown,
-        &writes,
-    )?;
-    close_runs(
-        given.alloc,
-        given.facts,
-        given.index,
-        &bases.now,
-        sets,
-        grown,
-        &runs,
-    )?;
-    Ok(())
+/// What is asked for the sites of a base.
+trait HasBase: Copy {
+    /// The number of the base.
+    fn base(self) -> u32;
 }
 
-/// All that is in the base of each read.
-fn load_reads(facts: &Facts, sets: &[BitRow], bases: &mut Bases, reads: &[Read])
+impl HasBase for Read {
+    fn base(self) -> u32 {
+        self.base
+    }
+}
+
+impl HasBase for Write {
+    fn base(self) -> u32 {
+        self.base
+    }
+}
+
+/// All that is in the base of each item.
+fn load_all<X: HasBase>(facts: &Facts, sets: &[BitRow], bases: &mut Bases, items: &[X])
     requires facts { InRange facts.now }
     requires sets { AreSound facts.now sets.now }
     requires now { AreSound facts.now bases.old.now.items }
     ensures { AreSound facts.now bases.new.now.items }
 {
-    for x in reads {
-        load_whole(facts, sets, bases, x.base as usize);
+    for x in items {
+        load_whole(facts, sets, bases, x.base() as usize);
     }
 }
 
-/// All that is in the base of each write.
-fn load_writes(facts: &Facts, sets: &[BitRow], bases: &mut Bases, writes: &[Write])
-    requires facts { InRange facts.now }
-    requires sets { AreSound facts.now sets.now }
-    requires now { AreSound facts.now bases.old.now.items }
-    ensures { AreSound facts.now bases.new.now.items }
-{
-    for x in writes {
-        load_whole(facts, sets, bases, x.base as usize);
-    }
-}
-
-/// The reads of members that grew, and the writes of values that did. An error comes only for want of memory.
-fn turn_whole(
-    given: &Given,
-    bases: &mut Bases,
-    sets: &mut [BitRow],
-    grown: &mut Queue,
-    due: &Due,
-) -> Result<(), AllocError>
-    requires given { IsGiven given.now }
-    requires now { AreSound given.now.facts.now bases.old.now.items }
-    requires sets { AreSound given.now.facts.now sets.old }
-    ensures now { OnOk result (AreSound given.now.facts.now bases.new.now.items) }
-    ensures sets { OnOk result (AreSound given.now.facts.now sets.new) }
-{
-    let reads = items_of(
-        given.alloc,
-        &given.found.reads,
-        &due.whole_reads,
-        |x| concerns(due, sets, x),
-    )?;
-    let writes = items_of(
-        given.alloc,
-        &given.found.writes,
-        &due.whole_writes,
-        |_| true,
-    )?;
-    load_reads(given.facts, sets, bases, &reads);
-    load_writes(given.facts, sets, bases, &writes);
-    close_reads(
-        given.alloc,
-        given.facts,
-        given.index,
-        &bases.now,
-        sets,
-        grown,
-        &reads,
-    )?;
-    close_writes(
-        given.alloc,
-        given.facts,
-        given.index,
-        &bases.now,
-        sets,
-        grown,
-        &writes,
-    )?;
-    Ok(())
-}
-
-/// What has to be gone over. An error comes only for want of memory.
+/// What has to be gone over: the reads, writes and runs of bases that grew, for what is new there, and then the reads of members that grew, and
+/// the writes of values that did, for all of their bases. An error comes only for want of memory.
 fn turn(
     given: &Given,
     bases: &mut Bases,
@@ -255,8 +173,21 @@ fn turn(
     ensures now { OnOk result (AreSound given.now.facts.now bases.new.now.items) }
     ensures sets { OnOk result (AreSound given.now.facts.now sets.new) }
 {
-    turn_news(given, bases, sets, grown, due)?;
-    turn_whole(given, bases, sets, grown, due)?;
+    let (alloc, facts, found) = (given.alloc, given.facts, given.found);
+    load_bases(alloc, facts, sets, bases, &due.bases)?;
+    let reads = items_of(alloc, &found.reads, &due.reads)?;
+    let writes = items_of(alloc, &found.writes, &due.writes)?;
+    let runs = items_of(alloc, &found.runs, &due.runs)?;
+    close_reads(given, &bases.now, sets, grown, &reads)?;
+    close_writes(given, &bases.now, sets, grown, &writes)?;
+    close_runs(given, &bases.now, sets, grown, &runs)?;
+    let listed = items_of(alloc, &found.reads, &due.whole_reads)?;
+    let grown_reads = concerned(alloc, sets, due, &listed)?;
+    let grown_writes = items_of(alloc, &found.writes, &due.whole_writes)?;
+    load_all(facts, sets, bases, &grown_reads);
+    load_all(facts, sets, bases, &grown_writes);
+    close_reads(given, &bases.now, sets, grown, &grown_reads)?;
+    close_writes(given, &bases.now, sets, grown, &grown_writes)?;
     clear(due);
     Ok(())
 }

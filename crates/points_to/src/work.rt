@@ -1,14 +1,11 @@
 //! What the rules ask for, and what it adds to the sets.
 
 ghost use Rattle.std.specs.Prelude.{◌≡◌, ℕ, ◌<◌, ◌↔◌, true, length, IfOk, OnOk};
-ghost use Rattle.std.specs.Bool.{OnFalse};
-ghost use Rattle.kaba_bits.specs.Sets.{bit, row, IsSubset, IsStep};
 ghost use Rattle.fact_model.specs.Items.{site_at, site_class};
 ghost use Rattle.fact_model.specs.Classes.{IsBelow};
 ghost use Rattle.fact_model.specs.InRange.{IsClass};
-ghost use Rattle.points_to.specs.Above.{AreSitesBelow};
-ghost use Rattle.points_to.specs.Sound.{node_count, AreSound, InNode};
 ghost use Rattle.points_to.specs.Work.{IsEdge, IsEdgeClosed, IsTold, IsShown};
+ghost use Rattle.points_to.specs.Words.{OnFalse, bit, row, IsSubset, IsStep, AreSitesBelow, node_count, AreSound, InNode};
 
 use crate::queue::{Queue, wait};
 use fact_model::{Facts, SiteInfo};
@@ -151,28 +148,6 @@ pub fn fit(
     Ok(row)
 }
 
-/// What fits of a set along an inclusion that asks for a class, and whether it is new there. An error comes only for want of memory.
-fn pass_fitting(
-    alloc: Global,
-    facts: &Facts,
-    below: &[BitRow],
-    sets: &mut [BitRow],
-    grown: &mut Queue,
-    edge: Edge,
-    class: ClassId,
-) -> Result<bool, AllocError>
-    requires below { AreSitesBelow facts.now (length facts.now.sites.items) below.now }
-    requires sets { AreSound facts.now sets.old }
-    requires edge { IsEdge facts.now edge }
-    requires class { edge.class ≡ Some class }
-    ensures sets { OnOk result (AreSound facts.now sets.new) }
-    ensures step { IfOk result (IsStep sets.old sets.new) }
-    ensures closed { IfOk result (λ grew. OnFalse grew (IsEdgeClosed facts.now sets.new edge)) }
-{
-    let row = fit(alloc, facts, below, row_at(sets, edge.from), class)?;
-    Ok(include_row(facts, sets, grown, &row, edge.to))
-}
-
 /// What is in the set so far along an inclusion, and whether it is new there. An error comes only for want of memory.
 pub fn pass(
     alloc: Global,
@@ -190,7 +165,10 @@ pub fn pass(
     ensures closed { IfOk result (λ grew. OnFalse grew (IsEdgeClosed facts.now sets.new edge)) }
 {
     match edge.class {
-        Some(class) => pass_fitting(alloc, facts, below, sets, grown, edge, class),
+        Some(class) => {
+            let row = fit(alloc, facts, below, row_at(sets, edge.from), class)?;
+            Ok(include_row(facts, sets, grown, &row, edge.to))
+        }
         None => Ok(include(facts, sets, grown, edge.from, edge.to)),
     }
 }

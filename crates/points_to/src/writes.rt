@@ -1,16 +1,13 @@
 //! Writes: into a member of the sites of a base. Values that are written into the same member of the same sites are put together first.
 
 ghost use Rattle.std.specs.Prelude.{◌≡◌, ℕ, ◌<◌, true, length, All, Some, IfOk, OnOk};
-ghost use Rattle.std.specs.Bool.{OnTrue, OnFalse};
-ghost use Rattle.kaba_bits.specs.Sets.{bit, row, IsStep};
-ghost use Rattle.fact_model.specs.InRange.{InRange};
-ghost use Rattle.points_to.specs.Sound.{node_count, AreSound, InNode};
-ghost use Rattle.points_to.specs.Listed.{IsIndex};
+ghost use Rattle.std.specs.Bool.{OnTrue};
 ghost use Rattle.points_to.specs.Work.{IsWrite, IsWriteClosed, AreTargets, wanted};
 ghost use Rattle.points_to.specs.declared.work.Write.{Write};
 ghost use Rattle.points_to.specs.Rounds.{IsPending, IsFlushedAt, IsFlushed, IsPended, IsDone, HasRow};
+ghost use Rattle.points_to.specs.Words.{OnFalse, bit, row, IsStep, InRange, node_count, AreSound, InNode, IsGiven};
 
-use crate::index::Index;
+use crate::found::Given;
 use crate::queue::Queue;
 use crate::reads::{is_same_member, next_site};
 use crate::targets::list_targets;
@@ -78,9 +75,7 @@ fn include_all(
 /// Those values whose class is at or below one into the sets of a member of a site, and whether one grew. An error comes only for want of
 /// memory.
 fn write_fitting(
-    alloc: Global,
-    facts: &Facts,
-    index: &Index,
+    given: &Given,
     sets: &mut [BitRow],
     grown: &mut Queue,
     pending: &Pending,
@@ -88,97 +83,93 @@ fn write_fitting(
     o: u32,
     class: ClassId,
 ) -> Result<bool, AllocError>
-    requires facts { InRange facts.now }
-    requires index { IsIndex facts.now index.now }
-    requires sets { AreSound facts.now sets.old }
-    requires pending { IsPending facts.now pending.now }
+    requires given { IsGiven given.now }
+    requires sets { AreSound given.now.facts.now sets.old }
+    requires pending { IsPending given.now.facts.now pending.now }
     requires site { bit pending.now.sites o ≡ true }
-    requires list { AreTargets facts.now pending.now.member o list.now }
-    requires class { wanted facts.now pending.now.member o ≡ Some class }
-    ensures sets { OnOk result (AreSound facts.now sets.new) }
+    requires list { AreTargets given.now.facts.now pending.now.member o list.now }
+    requires class { wanted given.now.facts.now pending.now.member o ≡ Some class }
+    ensures sets { OnOk result (AreSound given.now.facts.now sets.new) }
     ensures step { IfOk result (IsStep sets.old sets.new) }
-    ensures closed { IfOk result (λ grew. OnFalse grew (IsFlushedAt facts.now sets.new pending.now o)) }
+    ensures closed { IfOk result (λ grew. OnFalse grew (IsFlushedAt given.now.facts.now sets.new pending.now o)) }
 {
-    let row = fit(alloc, facts, &index.below, &pending.values, class)?;
-    Ok(include_all(facts, sets, grown, &row, list))
+    let row = fit(
+        given.alloc,
+        given.facts,
+        &given.index.below,
+        &pending.values,
+        class,
+    )?;
+    Ok(include_all(given.facts, sets, grown, &row, list))
 }
 
 /// What fits of the values into the sets of a member of a site, and whether one grew. An error comes only for want of memory.
 fn write_into(
-    alloc: Global,
-    facts: &Facts,
-    index: &Index,
+    given: &Given,
     sets: &mut [BitRow],
     grown: &mut Queue,
     pending: &Pending,
     list: &[usize],
     o: u32,
 ) -> Result<bool, AllocError>
-    requires facts { InRange facts.now }
-    requires index { IsIndex facts.now index.now }
-    requires sets { AreSound facts.now sets.old }
-    requires pending { IsPending facts.now pending.now }
+    requires given { IsGiven given.now }
+    requires sets { AreSound given.now.facts.now sets.old }
+    requires pending { IsPending given.now.facts.now pending.now }
     requires site { bit pending.now.sites o ≡ true }
-    requires list { AreTargets facts.now pending.now.member o list.now }
-    ensures sets { OnOk result (AreSound facts.now sets.new) }
+    requires list { AreTargets given.now.facts.now pending.now.member o list.now }
+    ensures sets { OnOk result (AreSound given.now.facts.now sets.new) }
     ensures step { IfOk result (IsStep sets.old sets.new) }
-    ensures closed { IfOk result (λ grew. OnFalse grew (IsFlushedAt facts.now sets.new pending.now o)) }
+    ensures closed { IfOk result (λ grew. OnFalse grew (IsFlushedAt given.now.facts.now sets.new pending.now o)) }
 {
-    match wanted(facts, pending.member, o) {
-        Some(class) => { write_fitting(alloc, facts, index, sets, grown, pending, list, o, class) }
-        None => Ok(include_all(facts, sets, grown, &pending.values, list)),
+    match wanted(given.facts, pending.member, o) {
+        Some(class) => { write_fitting(given, sets, grown, pending, list, o, class) }
+        None => Ok(include_all(given.facts, sets, grown, &pending.values, list)),
     }
 }
 
 /// The values into a member of one site, and whether anything was new. An error comes only for want of memory.
 fn flush_site(
-    alloc: Global,
-    facts: &Facts,
-    index: &Index,
+    given: &Given,
     sets: &mut [BitRow],
     grown: &mut Queue,
     pending: &Pending,
     list: &mut Vec<usize>,
     o: u32,
 ) -> Result<bool, AllocError>
-    requires facts { InRange facts.now }
-    requires index { IsIndex facts.now index.now }
-    requires sets { AreSound facts.now sets.old }
-    requires pending { IsPending facts.now pending.now }
+    requires given { IsGiven given.now }
+    requires sets { AreSound given.now.facts.now sets.old }
+    requires pending { IsPending given.now.facts.now pending.now }
     requires site { bit pending.now.sites o ≡ true }
-    ensures sets { OnOk result (AreSound facts.now sets.new) }
+    ensures sets { OnOk result (AreSound given.now.facts.now sets.new) }
     ensures step { IfOk result (IsStep sets.old sets.new) }
-    ensures closed { IfOk result (λ grew. OnFalse grew (IsFlushedAt facts.now sets.new pending.now o)) }
+    ensures closed { IfOk result (λ grew. OnFalse grew (IsFlushedAt given.now.facts.now sets.new pending.now o)) }
 {
-    list_targets(facts, index, list, pending.member, o)?;
-    write_into(alloc, facts, index, sets, grown, pending, list, o)
+    list_targets(given.facts, given.index, list, pending.member, o)?;
+    write_into(given, sets, grown, pending, list, o)
 }
 
 /// The values into the member of each site, and whether anything was new. An error comes only for want of memory.
 fn flush(
-    alloc: Global,
-    facts: &Facts,
-    index: &Index,
+    given: &Given,
     sets: &mut [BitRow],
     grown: &mut Queue,
     pending: &Pending,
     list: &mut Vec<usize>,
 ) -> Result<bool, AllocError>
-    requires facts { InRange facts.now }
-    requires index { IsIndex facts.now index.now }
-    requires sets { AreSound facts.now sets.old }
-    requires pending { IsPending facts.now pending.now }
-    ensures sets { OnOk result (AreSound facts.now sets.new) }
+    requires given { IsGiven given.now }
+    requires sets { AreSound given.now.facts.now sets.old }
+    requires pending { IsPending given.now.facts.now pending.now }
+    ensures sets { OnOk result (AreSound given.now.facts.now sets.new) }
     ensures step { IfOk result (IsStep sets.old sets.new) }
-    ensures closed { IfOk result (λ grew. OnFalse grew (IsFlushed facts.now sets.new pending.now)) }
+    ensures closed { IfOk result (λ grew. OnFalse grew (IsFlushed given.now.facts.now sets.new pending.now)) }
 {
-    let width = facts.sites.len() as u32;
+    let width = given.facts.sites.len() as u32;
     let mut grew = false;
     let mut at = 0;
     'scan: while at < width {
         match pending.sites.next(at) {
             Some(o) => {
-                let more = flush_site(alloc, facts, index, sets, grown, pending, list, o)?;
+                let more = flush_site(given, sets, grown, pending, list, o)?;
                 grew |= more;
                 at = o + 1;
             }
@@ -258,9 +249,7 @@ fn put_beside(facts: &Facts, bases: &[BitRow], sets: &[BitRow], pending: &mut Pe
 
 /// A write is pending too, or else what was pending is written first; and whether anything was new. An error comes only for want of memory.
 fn take_write(
-    alloc: Global,
-    facts: &Facts,
-    index: &Index,
+    given: &Given,
     bases: &[BitRow],
     sets: &mut [BitRow],
     grown: &mut Queue,
@@ -268,65 +257,51 @@ fn take_write(
     list: &mut Vec<usize>,
     x: Write,
 ) -> Result<bool, AllocError>
-    requires facts { InRange facts.now }
-    requires index { IsIndex facts.now index.now }
-    requires bases { AreSound facts.now bases.now }
-    requires sets { AreSound facts.now sets.old }
-    requires pending { IsPending facts.now pending.old }
-    requires write { IsWrite facts.now x }
-    ensures sets { OnOk result (AreSound facts.now sets.new) }
-    ensures pending { OnOk result (IsPending facts.now pending.new) }
+    requires given { IsGiven given.now }
+    requires bases { AreSound given.now.facts.now bases.now }
+    requires sets { AreSound given.now.facts.now sets.old }
+    requires pending { IsPending given.now.facts.now pending.old }
+    requires write { IsWrite given.now.facts.now x }
+    ensures sets { OnOk result (AreSound given.now.facts.now sets.new) }
+    ensures pending { OnOk result (IsPending given.now.facts.now pending.new) }
     ensures step { IfOk result (IsStep sets.old sets.new) }
-    ensures kept { IfOk result (λ grew. OnFalse grew ((y : Write) → IsDone facts.now bases.now sets.old pending.old y → IsDone facts.now bases.now sets.new pending.new y)) }
-    ensures here { IfOk result (λ grew. OnFalse grew (IsDone facts.now bases.now sets.new pending.new x)) }
+    ensures kept { IfOk result (λ grew. OnFalse grew ((y : Write) → IsDone given.now.facts.now bases.now sets.old pending.old y → IsDone given.now.facts.now bases.now sets.new pending.new y)) }
+    ensures here { IfOk result (λ grew. OnFalse grew (IsDone given.now.facts.now bases.now sets.new pending.new x)) }
 {
-    let alike = is_alike(facts, bases, pending, x);
+    let alike = is_alike(given.facts, bases, pending, x);
     if alike {
-        put_beside(facts, bases, sets, pending, x);
+        put_beside(given.facts, bases, sets, pending, x);
         return Ok(false);
     }
-    let grew = flush(alloc, facts, index, sets, grown, pending, list)?;
-    let next = begin_write(alloc, facts, bases, sets, x)?;
+    let grew = flush(given, sets, grown, pending, list)?;
+    let next = begin_write(given.alloc, given.facts, bases, sets, x)?;
     *pending = next;
     Ok(grew)
 }
 
 /// Each write, and whether anything was new. An error comes only for want of memory.
 pub fn close_writes(
-    alloc: Global,
-    facts: &Facts,
-    index: &Index,
+    given: &Given,
     bases: &[BitRow],
     sets: &mut [BitRow],
     grown: &mut Queue,
     writes: &[Write],
 ) -> Result<bool, AllocError>
-    requires facts { InRange facts.now }
-    requires index { IsIndex facts.now index.now }
-    requires bases { AreSound facts.now bases.now }
-    requires sets { AreSound facts.now sets.old }
-    requires writes { All (IsWrite facts.now) writes.now }
-    ensures sets { OnOk result (AreSound facts.now sets.new) }
+    requires given { IsGiven given.now }
+    requires bases { AreSound given.now.facts.now bases.now }
+    requires sets { AreSound given.now.facts.now sets.old }
+    requires writes { All (IsWrite given.now.facts.now) writes.now }
+    ensures sets { OnOk result (AreSound given.now.facts.now sets.new) }
     ensures step { IfOk result (IsStep sets.old sets.new) }
-    ensures closed { IfOk result (λ grew. OnFalse grew (All (IsWriteClosed facts.now bases.now sets.new) writes.now)) }
+    ensures closed { IfOk result (λ grew. OnFalse grew (All (IsWriteClosed given.now.facts.now bases.now sets.new) writes.now)) }
 {
-    let mut pending = nothing_pending(alloc, facts)?;
-    let mut list = Vec::new(alloc);
+    let mut pending = nothing_pending(given.alloc, given.facts)?;
+    let mut list = Vec::new(given.alloc);
     let mut grew = false;
     for x in writes {
-        let more = take_write(
-            alloc,
-            facts,
-            index,
-            bases,
-            sets,
-            grown,
-            &mut pending,
-            &mut list,
-            *x,
-        )?;
+        let more = take_write(given, bases, sets, grown, &mut pending, &mut list, *x)?;
         grew |= more;
     }
-    let last = flush(alloc, facts, index, sets, grown, &pending, &mut list)?;
+    let last = flush(given, sets, grown, &pending, &mut list)?;
     Ok(grew | last)
 }

@@ -8,12 +8,12 @@ include_row-requires-clause-holds c =
     let x = c.args.x in
     let u = c.gather.new.union in
     let g = c.in_ok-gather.ensures in
-    read_holds c.args.facts.now c.args.bases.now u x c.requires.bases g.gathered c.requires.read (g.member ∙ c.turn_to.ensures.member)
+    read_holds c.args.given.now.facts.now c.args.bases.now u x c.requires.bases g.gathered c.requires.read (g.member ∙ c.turn_to.ensures.member)
     (rw c.row_at-set.ensures at g.within)
 
 pub returns-clause-closed : goal.returns-clause-closed
 returns-clause-closed c =
-    let F = c.args.facts.now in
+    let F = c.args.given.now.facts.now in
     let old = c.args.sets.now in
     let u = c.gather.new.union in
     let g = c.in_ok-gather.ensures in

@@ -5,11 +5,11 @@ use Rattle.points_to.proofs.reads.gather.Given as goal
 
 abbrev pub invariant-scan : goal.invariant-scan
 invariant-scan l = record {
-  gathered : IsGathered l.facts l.union;
+  gathered : IsGathered l.given.facts.now l.union;
   member : l.union.member ≡ l.fn.union.member;
   within : IsSubset l.union.sites l.set;
   all : (o : ℕ) → o < l.at → bit l.set o ≡ true → bit l.union.sites o ≡ true;
-  whole : IsWhole l.facts l.sets l.fn.union → IsWhole l.facts l.sets l.union;
+  whole : IsWhole l.given.facts.now l.sets l.fn.union → IsWhole l.given.facts.now l.sets l.union;
 }
 
 abbrev pub decreases-scan : goal.decreases-scan

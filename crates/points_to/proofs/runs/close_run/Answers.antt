@@ -14,7 +14,7 @@ run_site-requires-clause-holds c =
 
 pub scan-preserved : goal.scan-preserved
 scan-preserved c =
-    let F = c.args.facts.now in
+    let F = c.args.given.now.facts.now in
     let old = c.scan.sets in
     let new = c.run_site.new.sets in
     let b = c.scan.begun in
@@ -40,7 +40,7 @@ returns-in-None-clause-closed c =
     let x = c.args.x in
     let before = c.scan.invariant in
     let all : IsSubset c.row_at-set.result.now b.sites = λ k h. ⊎_elim (λ lt. before.all k lt h) (λ ge. c.in-None.ensures k ge h) (cases_lt k c.scan.at) in
-    run_closed c.args.facts.now c.args.bases.now c.args.sets.now c.scan.sets c.args.begun.now b x c.scan.grew before.slot before.begun
+    run_closed c.args.given.now.facts.now c.args.bases.now c.args.sets.now c.scan.sets c.args.begun.now b x c.scan.grew before.slot before.begun
     (rw c.row_at-set.ensures at all)
 
 pub returns-clause-closed : goal.returns-clause-closed
@@ -49,5 +49,5 @@ returns-clause-closed c =
     let x = c.args.x in
     let before = c.scan.invariant in
     let all = rw c.row_at-set.ensures at before.all in
-    run_closed c.args.facts.now c.args.bases.now c.args.sets.now c.scan.sets c.args.begun.now b x c.scan.grew before.slot before.begun
-    (λ k h. let below = site_below c.args.facts.now c.args.bases.now x.base k c.requires.bases h in all k (omega (arith, below, c.len-width.ensures)) h)
+    run_closed c.args.given.now.facts.now c.args.bases.now c.args.sets.now c.scan.sets c.args.begun.now b x c.scan.grew before.slot before.begun
+    (λ k h. let below = site_below c.args.given.now.facts.now c.args.bases.now x.base k c.requires.bases h in all k (omega (arith, below, c.len-width.ensures)) h)

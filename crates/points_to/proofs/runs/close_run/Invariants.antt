@@ -7,11 +7,11 @@ use Rattle.points_to.proofs.runs.close_run.Given as goal
 
 abbrev pub invariant-scan : goal.invariant-scan
 invariant-scan l = record {
-  sets : AreSound l.facts l.sets;
-  width_is : length l.begun.sites ≡ length l.facts.sites.items;
+  sets : AreSound l.given.facts.now l.sets;
+  width_is : length l.begun.sites ≡ length l.given.facts.now.sites.items;
   slot : l.begun.slot ≡ l.x.slot;
   step : IsStep l.fn.sets l.sets l.grew;
-  begun : OnFalse l.grew (AreBegun l.facts l.fn.sets l.fn.begun → AreBegun l.facts l.sets l.begun);
+  begun : OnFalse l.grew (AreBegun l.given.facts.now l.fn.sets l.fn.begun → AreBegun l.given.facts.now l.sets l.begun);
   all : (o : ℕ) → o < l.at → bit l.set o ≡ true → bit l.begun.sites o ≡ true;
 }
 

@@ -9,7 +9,7 @@ use Rattle.points_to.proofs.runs.close_runs.Goals as goal
 
 pub loop-x-preserved : goal.loop-x-preserved
 loop-x-preserved c =
-    let F = c.args.facts.now in
+    let F = c.args.given.now.facts.now in
     let B = c.args.bases.now in
     let xs = c.args.runs.now in
     let k = c.loop-x.x-index in
@@ -31,5 +31,5 @@ loop-x-preserved c =
     }
 
 pub returns-clause-closed : goal.returns-clause-closed
-returns-clause-closed c = all_end (IsRunClosed c.args.facts.now c.args.bases.now c.loop-x.sets) c.args.runs.now c.loop-x.x-index c.loop-x.grew
+returns-clause-closed c = all_end (IsRunClosed c.args.given.now.facts.now c.args.bases.now c.loop-x.sets) c.args.runs.now c.loop-x.x-index c.loop-x.grew
     (omega arith) c.loop-x.invariant.closed

@@ -9,9 +9,9 @@ use Rattle.points_to.proofs.runs.close_runs.Given as goal
 
 abbrev pub invariant-loop-x : goal.invariant-loop-x
 invariant-loop-x l = record {
-  sets : AreSound l.facts l.sets;
-  width : length l.begun.sites ≡ length l.facts.sites.items;
+  sets : AreSound l.given.facts.now l.sets;
+  width : length l.begun.sites ≡ length l.given.facts.now.sites.items;
   step : IsStep l.fn.sets l.sets l.grew;
-  begun : OnFalse l.grew (AreBegun l.facts l.sets l.begun);
-  closed : OnFalse l.grew (AllWithin (IsRunClosed l.facts l.bases l.sets) l.runs 0 l.x-index);
+  begun : OnFalse l.grew (AreBegun l.given.facts.now l.sets l.begun);
+  closed : OnFalse l.grew (AllWithin (IsRunClosed l.given.facts.now l.bases l.sets) l.runs 0 l.x-index);
 }

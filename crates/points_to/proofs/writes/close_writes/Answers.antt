@@ -8,7 +8,7 @@ use Rattle.points_to.proofs.writes.close_writes.Goals as goal
 
 pub loop-x-preserved : goal.loop-x-preserved
 loop-x-preserved c =
-    let F = c.args.facts.now in
+    let F = c.args.given.now.facts.now in
     let B = c.args.bases.now in
     let xs = c.args.writes.now in
     let k = c.loop-x.x-index in
@@ -28,7 +28,7 @@ loop-x-preserved c =
 
 pub returns-clause-closed : goal.returns-clause-closed
 returns-clause-closed c =
-    let F = c.args.facts.now in
+    let F = c.args.given.now.facts.now in
     let B = c.args.bases.now in
     let old = c.loop-x.sets in
     let new = c.flush.new.sets in

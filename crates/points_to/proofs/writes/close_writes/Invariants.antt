@@ -7,8 +7,8 @@ use Rattle.points_to.proofs.writes.close_writes.Given as goal
 
 abbrev pub invariant-loop-x : goal.invariant-loop-x
 invariant-loop-x l = record {
-  sets : AreSound l.facts l.sets;
-  pending : IsPending l.facts l.pending;
+  sets : AreSound l.given.facts.now l.sets;
+  pending : IsPending l.given.facts.now l.pending;
   step : IsStep l.fn.sets l.sets l.grew;
-  done : OnFalse l.grew (AllWithin (IsDone l.facts l.bases l.sets l.pending) l.writes 0 l.x-index);
+  done : OnFalse l.grew (AllWithin (IsDone l.given.facts.now l.bases l.sets l.pending) l.writes 0 l.x-index);
 }

@@ -11,11 +11,11 @@ use Rattle.points_to.proofs.writes.flush.Goals as goal
 pub overflow_add-at : goal.overflow_add-at
 overflow_add-at c =
     let lt = bit-below c.args.pending.now.sites c.in-Some.o c.in-Some.ensures.holds in
-    omega (arith, lt, c.requires.pending.sites, c.requires.facts.counts.sites)
+    omega (arith, lt, c.requires.pending.sites, c.requires.given.facts.counts.sites)
 
 pub scan-preserved : goal.scan-preserved
 scan-preserved c =
-    let F = c.args.facts.now in
+    let F = c.args.given.now.facts.now in
     let p = c.args.pending.now in
     let old = c.scan.sets in
     let new = c.flush_site.new.sets in
@@ -35,11 +35,11 @@ scan-preserved c =
 pub returns-in-None-clause-closed : goal.returns-in-None-clause-closed
 returns-in-None-clause-closed c =
     let p = c.args.pending.now in
-    skip_all (λ k. bit p.sites k ≡ true → IsFlushedAt c.args.facts.now c.scan.sets p k) p.sites c.scan.at (λ k none b. absurd (false≢true (sym none ∙ b)))
+    skip_all (λ k. bit p.sites k ≡ true → IsFlushedAt c.args.given.now.facts.now c.scan.sets p k) p.sites c.scan.at (λ k none b. absurd (false≢true (sym none ∙ b)))
     (length p.sites) c.scan.grew refl c.in-None.ensures c.scan.invariant.closed
 
 pub returns-clause-closed : goal.returns-clause-closed
 returns-clause-closed c =
     let p = c.args.pending.now in
-    skip_all (λ k. bit p.sites k ≡ true → IsFlushedAt c.args.facts.now c.scan.sets p k) p.sites c.scan.at (λ k none b. absurd (false≢true (sym none ∙ b)))
+    skip_all (λ k. bit p.sites k ≡ true → IsFlushedAt c.args.given.now.facts.now c.scan.sets p k) p.sites c.scan.at (λ k none b. absurd (false≢true (sym none ∙ b)))
     (length p.sites) c.scan.grew refl (λ k high lt. absurd (omega (arith, high, lt, c.requires.pending.sites, c.len-width.ensures))) c.scan.invariant.closed

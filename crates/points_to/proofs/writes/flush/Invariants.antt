@@ -7,9 +7,9 @@ use Rattle.points_to.proofs.writes.flush.Given as goal
 
 abbrev pub invariant-scan : goal.invariant-scan
 invariant-scan l = record {
-  sets : AreSound l.facts l.sets;
+  sets : AreSound l.given.facts.now l.sets;
   step : IsStep l.fn.sets l.sets l.grew;
-  closed : OnFalse l.grew ((o : ℕ) → o < l.at → bit l.pending.sites o ≡ true → IsFlushedAt l.facts l.sets l.pending o);
+  closed : OnFalse l.grew ((o : ℕ) → o < l.at → bit l.pending.sites o ≡ true → IsFlushedAt l.given.facts.now l.sets l.pending o);
 }
 
 abbrev pub decreases-scan : goal.decreases-scan

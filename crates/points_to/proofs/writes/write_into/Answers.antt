@@ -8,11 +8,11 @@ pub wanted-requires : goal.wanted-requires
 wanted-requires c = let lt = bit-below c.args.pending.now.sites c.args.o c.requires.site in omega (arith, lt, c.requires.pending.sites)
 
 pub include_all-requires-clause-list : goal.include_all-requires-clause-list
-include_all-requires-clause-list c = targets_below c.args.facts.now c.requires.facts c.args.pending.now.member c.args.o c.args.list.now c.requires.list
+include_all-requires-clause-list c = targets_below c.args.given.now.facts.now c.requires.given.facts c.args.pending.now.member c.args.o c.args.list.now c.requires.list
 
 pub include_all-requires-clause-holds : goal.include_all-requires-clause-holds
 include_all-requires-clause-holds c =
-    let F = c.args.facts.now in
+    let F = c.args.given.now.facts.now in
     let p = c.args.pending.now in
     into_holds F p c.args.o c.args.list.now p.values c.requires.list c.requires.pending c.requires.site
     (λ s h. (h, subst (λ k. Passes F k s) (sym (sym c.wanted.ensures ∙ c.in-None.is)) tt))
@@ -20,5 +20,5 @@ include_all-requires-clause-holds c =
 pub returns-in-None-clause-closed : goal.returns-in-None-clause-closed
 returns-in-None-clause-closed c =
     let p = c.args.pending.now in
-    into_flushed c.args.facts.now p c.args.o c.args.list.now p.values c.requires.list c.include_all.new.sets c.include_all.result (λ s b pass. b)
+    into_flushed c.args.given.now.facts.now p c.args.o c.args.list.now p.values c.requires.list c.include_all.new.sets c.include_all.result (λ s b pass. b)
     c.include_all.ensures.closed
